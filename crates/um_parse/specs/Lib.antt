@@ -1,0 +1,3 @@
+pub mod ProductText
+pub mod ProductProgram
+pub mod ProductFunction

@@ -1,0 +1,8 @@
+//! Reading a program's text.
+//!
+//! So far it reads the texts that spell base measures and products of parameters, one declaration a line.
+#![tactic(auto)]
+
+mod products;
+
+pub use products::read_products;

@@ -1,0 +1,17 @@
+//! All that the program does, over any source and any sink.
+#![tactic(auto)]
+
+mod answer;
+mod order;
+mod quiet;
+mod schemes;
+mod status;
+mod text;
+mod top;
+mod words;
+
+pub use order::{Order, order_of};
+pub use quiet::status_of;
+pub use status::Status;
+pub use top::serve;
+pub use words::Words;

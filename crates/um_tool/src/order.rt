@@ -1,0 +1,39 @@
+// What the words ask for.
+ghost use Rattle.std.specs.Prelude.{◌≡◌, ◌↔◌, IsTrue};
+ghost use Rattle.um_tool.specs.Orders.{order_of as order_named, is_unbuilt as unbuilt, NamesUnbuilt};
+
+use crate::Words;
+
+/// What a run is asked to do.
+#[derive(Clone, Copy, PartialEq, Eq, Debug)]
+pub enum Order {
+    /// Print the scheme of each function.
+    Types,
+}
+
+/// The order that the words name, or nothing where they have none of the forms.
+pub fn order_of(words: &Words) -> Option<Order>
+    ensures { result ≡ order_named words.now }
+{
+    if words.len() == 1 && words.word(0) == "types" {
+        Some(Order::Types)
+    } else {
+        None
+    }
+}
+
+/// Whether the first word is a command that isn't built yet.
+pub fn names_unbuilt(words: &Words) -> bool
+    ensures { IsTrue result ↔ NamesUnbuilt words.now }
+{
+    words.len() > 0 && is_unbuilt(words.word(0))
+}
+
+fn is_unbuilt(word: &str) -> bool
+    ensures { result ≡ unbuilt word.now }
+{
+    matches!(
+        word,
+        "code" | "fmt" | "run" | "steps" | "eval" | "rescale" | "twin" | "big"
+    )
+}
