@@ -14,6 +14,8 @@ mod read;
 mod sink;
 mod source;
 mod standard;
+#[cfg(test)]
+mod tests;
 mod write;
 
 pub use memory::{MemSink, MemSource};

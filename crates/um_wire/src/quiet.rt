@@ -43,7 +43,6 @@ impl Source for QuietSource {
         ensures bytes { ReadConsumes (Some self.old) (Some self.new) result into.new }
         ensures ok { IsOk result }
         ensures count { IfOk result (λ n. n ≡ min (length into.old) (length self.old)) }
-        ensures never_falls { 0 ≤ 0 }
     {
         let count = copy_next(&self.bytes, self.at, into.len(), into);
         self.at += count;
