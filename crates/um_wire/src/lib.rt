@@ -1,0 +1,30 @@
+//! Bytes in and out: where a text is read from, where an answer is written to, and an exact count of what went wrong.
+//!
+//! A [`Source`] gives bytes and a [`Sink`] takes them, a piece at a time. Each counts its faults, and a call of either
+//! fails only where that count rose. [`read_text`] reads a whole text, and [`write_all`] writes one.
+//!
+//! [`StdSource`] and [`StdSink`] stand over std's readers and writers, [`QuietSource`] and [`QuietSink`] never fail, and
+//! [`MemSource`] and [`MemSink`] move a few bytes at a time and fail at the calls that a test names.
+#![tactic(auto)]
+
+mod copy;
+mod memory;
+mod quiet;
+mod read;
+mod sink;
+mod source;
+mod standard;
+#[cfg(test)]
+mod tests;
+mod write;
+
+pub use memory::{MemSink, MemSource};
+pub use quiet::{QuietSink, QuietSource};
+pub use read::{ReadStop, read_text};
+pub use sink::Sink;
+pub use source::{Failed, Source};
+pub use standard::{StdSink, StdSource};
+pub use write::write_all;
+
+/// Want of memory.
+pub type NoMemory = std::alloc::AllocError;

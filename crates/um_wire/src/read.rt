@@ -1,0 +1,74 @@
+// Reading a whole text.
+ghost use Rattle.std.specs.Prelude.{◌≡◌, ◌≤◌, length, IfOk, OnOk, IsErrOf};
+ghost use Rattle.std.specs.Io.KnownBytes.{IsAtEnd};
+ghost use Rattle.um_wire.specs.Faults.{Rose};
+ghost use Rattle.um_wire.specs.Bytes.{Tells, TellsMoreThan, ReadsPast};
+ghost use Rattle.um_wire.specs.declared.read.ReadStop.TheVariants.{Failed as ReadFailed, NoMemory as OutOfMemory};
+
+use crate::{Failed, Source};
+use std::alloc::{AllocError, Global};
+use thiserror::Error;
+
+/// Why a text was not read.
+#[derive(Clone, Copy, Debug, PartialEq, Eq, Error)]
+pub enum ReadStop {
+    /// A read failed, and its fault is counted at the source.
+    #[error("a read failed")]
+    Failed,
+    /// The text has more bytes than the limit.
+    #[error("the text is too long")]
+    TooLong,
+    /// There was no memory for the text.
+    #[error("out of memory")]
+    NoMemory,
+}
+
+impl From<Failed> for ReadStop {
+    ghost from_gives = { λ _ stop. stop ≡ ReadFailed };
+
+    fn from(_: Failed) -> Self {
+        ReadStop::Failed
+    }
+}
+
+impl From<AllocError> for ReadStop {
+    ghost from_gives = { λ _ stop. stop ≡ OutOfMemory };
+
+    fn from(_: AllocError) -> Self {
+        ReadStop::NoMemory
+    }
+}
+
+// How many bytes a read asks for.
+const PIECE: usize = 4096;
+
+/// Reads all bytes that are left in `source`, where they number at most `limit`.
+///
+/// It answers `TooLong` exactly where byte `limit + 1` was read, and `Failed` only where the source counted a fault.
+/// Each turn takes a byte or is the last, so it returns.
+pub fn read_text<S: Source>(
+    alloc: Global,
+    source: &mut S,
+    limit: usize,
+) -> Result<Vec<u8>, ReadStop>
+    ensures text { IfOk result (λ text. Tells (S.left source.old) text.items) }
+    ensures fits { IfOk result (λ text. length text.items ≤ limit) }
+    ensures end { OnOk result (IsAtEnd (S.left source.new)) }
+    ensures too_long { IsErrOf result ReadStop.TooLong → TellsMoreThan limit (S.left source.old) }
+    ensures past_limit { ReadsPast limit (IsErrOf result ReadStop.TooLong) (S.left source.old) (S.left source.new) }
+    ensures never_falls { S.faults source.old ≤ S.faults source.new }
+    ensures failed { IsErrOf result ReadStop.Failed → Rose (S.faults source.old) (S.faults source.new) }
+{
+    let mut text = Vec::new(alloc);
+    let mut piece = [0u8; PIECE];
+    loop {
+        let count = source.read(&mut piece)?;
+        if count == 0 {
+            return Ok(text);
+        }
+        if limit - text.len() < count {
+            return Err(ReadStop::TooLong);
+        }
+        text.extend_from_slice(&piece[..count])?;
+    }
+}

@@ -1,0 +1,28 @@
+// Where bytes come from.
+ghost use Rattle.std.specs.Prelude.{ℕ, List, ◌≤◌, OnErr};
+ghost use Rattle.std.specs.declared.option.Option.{Option};
+ghost use Rattle.std.specs.Io.{ReadsAtMost};
+ghost use Rattle.std.specs.Io.KnownBytes.{ReadConsumes};
+ghost use Rattle.um_wire.specs.Faults.{Rose};
+
+/// A read or a write failed. The fault is counted at the source or the sink.
+#[derive(Clone, Copy, Debug, PartialEq, Eq)]
+pub struct Failed;
+
+/// Gives bytes, a piece at a time. Contracts see two things of it: the bytes left, where it tells them, and its count
+/// of faults.
+pub trait Source {
+    /// The bytes that are left to read, where the source tells them.
+    ghost left: { Self → Option (List ℕ) };
+
+    /// How many faults the source has met.
+    ghost faults: { Self → ℕ };
+
+    /// Reads the next bytes left into the front of `into`, and answers how many. It answers 0 only where no byte is
+    /// left or `into` is empty. After `Failed` the same bytes are left.
+    fn read(&mut self, into: &mut [u8]) -> Result<usize, Failed>
+        ensures bound { ReadsAtMost result into.new }
+        ensures bytes { ReadConsumes (left self.old) (left self.new) result into.new }
+        ensures never_falls { faults self.old ≤ faults self.new }
+        ensures failed { OnErr result (Rose (faults self.old) (faults self.new)) };
+}
