@@ -1,7 +1,7 @@
 -- Expressions as pure trees. The first part of each is its place in the text.
 -- Source: this project's own expressions, after the F# specification.
 use Rattle.std.specs.Prelude.{ℕ, Bool, List, [], ◌∷◌}
-use Rattle.um_frac.specs.declared.Frac.{Frac}
+use Rattle.um_frac.specs.declared.number.Frac.{Frac}
 use Rattle.um_tree.specs.TypeTree.{NoteTree, note_tree}
 use Rattle.um_tree.specs.declared.note.UnitNote.{UnitNote}
 use Rattle.um_tree.specs.declared.expression.Arith.{Arith}

@@ -4,7 +4,8 @@
 -- There are no equations, slots, substitutions or schemes here, and no order in which anything is found.
 use Rattle.std.specs.Prelude.{◌≡◌, ℕ, zero, suc, ◌<◌, ◌⊎◌, IsTrue, IsSome, cond, nat_eq, List, [], ◌∷◌, ◌++◌, map, length, get_or, slice_get, pos, Option, Some, None}
 use Rattle.um_units.specs.PowerMap.{PowerMap, one, mul, inv, replace}
-use Rattle.um_frac.specs.declared.Frac.{Frac}
+use Rattle.um_frac.specs.declared.number.Frac.{Frac}
+use Rattle.um_frac.specs.Fraction.{numerator}
 use Rattle.um_tree.specs.TypeTree.{TypeTree, bool_type, num_type, list_type, record_type, NoteTree, bool_note, num_note, list_note, record_note}
 use Rattle.um_tree.specs.ExprTree.{ExprTree, ExprTrees, truth, number, local, call, negate, negation, arith, compare, both, either, if, bind, split, nil, list_text, cons, record_text, field, none, more}
 use Rattle.um_tree.specs.ProgramTree.{FieldTree, RecordTree, FunctionTree, ProgramTree, Signature}
@@ -63,7 +64,7 @@ ArithUnit Div u v w = w ≡ mul u (inv v)
 
 -- a literal has the unit that is written, which is closed in a formed program; only 0 has every unit
 abbrev pub LiteralUnit : (ℕ → PowerMap) → Frac → UnitNote → PowerMap → Type 0
-LiteralUnit choice c Hole u = c.num ≡ pos 0
+LiteralUnit choice c Hole u = numerator c ≡ pos 0
 LiteralUnit choice c (Written w) u = u ≡ replace choice w
 
 abbrev pub EachIs : TypeTree → List TypeTree → Type 0

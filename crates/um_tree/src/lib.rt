@@ -5,7 +5,9 @@ mod expression;
 mod name;
 mod note;
 mod program;
+mod raw;
 mod types;
+mod value;
 
 pub use expression::{Arith, Expr, Exprs, Node, Sign};
 pub use name::{Name, Names};
@@ -14,3 +16,9 @@ pub use program::{
     FieldDecl, FieldDecls, Function, Functions, Program, Record, Records, Scheme, Schemes,
 };
 pub use types::{Shape, Ty, Types};
+pub use raw::{
+    Binder, RawDecl, RawExpr, RawExprs, RawField, RawFieldDecl, RawFieldDecls, RawFields,
+    RawFunction, RawNode, RawNote, RawNotes, RawParam, RawParams, RawProgram, RawType, RawUnit,
+    RawUnits, RawVar, RawVars,
+};
+pub use value::{Input, Inputs, Outcome, Value, Values, copy_value, value_of};

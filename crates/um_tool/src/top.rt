@@ -1,0 +1,72 @@
+// The top call.
+ghost use Rattle.std.specs.Prelude.{◌≡◌, ◌≢◌, ◌⊎◌, ℕ, List, Some, IfOk, None};
+ghost use Rattle.um_wire.specs.Faults.{Rose};
+ghost use Rattle.um_tool.specs.Served.{IsComplete, IsPlanned, Reads, Serves};
+
+use crate::answer::{Reply, answer_program, not_built, reply_line};
+use crate::order::names_unbuilt;
+use crate::{Status, Words, order_of};
+use std::alloc::{AllocError, Global};
+use um_wire::{Failed, ReadStop, Sink, Source, read_text, write_all};
+
+/// The longest text that is read, in bytes.
+const TEXT_LIMIT: usize = 1_048_576;
+
+/// All that the program does: it reads what the words ask for, and writes the answer and nothing else.
+///
+/// The whole answer is built before the first write.
+pub fn serve<S: Source, K: Sink>(
+    alloc: Global,
+    words: &Words,
+    source: &mut S,
+    sink: &mut K,
+) -> Status
+    // The bytes that were added to the sink and the status are one of four pairs: an answer, the line on a failed
+    // read, a prefix of one of these where a write failed, nothing where memory was wanting.
+    ensures served { Serves (IsPlanned words.now (S.left source.old) (S.faults source.old) (S.faults source.new))
+        (K.taken sink.old) (K.taken sink.new) (K.faults sink.old) (K.faults sink.new) result }
+
+    // A fault of reading or writing is told only where the count of the source or the sink rose.
+    ensures read_fault { result ≡ Status.ReadFault → Rose (S.faults source.old) (S.faults source.new) }
+    ensures write_fault { result ≡ Status.WriteFault → Rose (K.faults sink.old) (K.faults sink.new) }
+
+    // Where every step goes through and nothing fails, the order is done, or memory was wanting.
+    ensures complete { (bytes : List ℕ) → S.left source.old ≡ Some bytes → IsComplete words.now bytes
+        → ¬ (Rose (S.faults source.old) (S.faults source.new)) → ¬ (Rose (K.faults sink.old) (K.faults sink.new))
+        → (result ≡ Status.Done) ⊎ (result ≡ Status.NoMemory) }
+
+    // Words that ask for no read leave the source as it was.
+    ensures unread { (Reads words.now → ⊥) → source.new ≡ source.old }
+{
+    match reply_to(alloc, words, source) {
+        Err(_) => Status::NoMemory,
+        Ok(reply) => match write_all(sink, &reply.text) {
+            Ok(()) => reply.status,
+            Err(Failed) => Status::WriteFault,
+        },
+    }
+}
+
+/// What the run is about to write.
+fn reply_to<S: Source>(alloc: Global, words: &Words, source: &mut S) -> Result<Reply, AllocError>
+    ensures planned { IfOk result (λ reply. IsPlanned words.now (S.left source.old)
+        (S.faults source.old) (S.faults source.new) reply.text.items reply.status) }
+    ensures read_fault { IfOk result (λ reply. reply.status ≡ Status.ReadFault → Rose (S.faults source.old) (S.faults source.new)) }
+    ensures not_write_fault { IfOk result (λ reply. reply.status ≢ Status.WriteFault) }
+    ensures complete { (bytes : List ℕ) → S.left source.old ≡ Some bytes → IsComplete words.now bytes
+        → ¬ (Rose (S.faults source.old) (S.faults source.new)) → IfOk result (λ reply. reply.status ≡ Status.Done) }
+    ensures unread { (Reads words.now → ⊥) → source.new ≡ source.old }
+{
+    if names_unbuilt(words) {
+        return not_built(alloc);
+    }
+    match order_of(words) {
+        None => reply_line(alloc, "error 1: usage", Status::Usage),
+        Some(order) => match read_text(alloc, source, TEXT_LIMIT) {
+            Ok(bytes) => answer_program(alloc, order, &bytes),
+            Err(ReadStop::TooLong) => reply_line(alloc, "error 2: text too long", Status::TooLong),
+            Err(ReadStop::Failed) => reply_line(alloc, "error 15: read", Status::ReadFault),
+            Err(ReadStop::NoMemory) => Err(AllocError),
+        },
+    }
+}

@@ -1,0 +1,210 @@
+// The raw tree: what the grammar reads, before its names are looked up.
+//
+// Places are byte offsets in the text. Brackets leave a node here, so that a text can be laid out as it was written.
+use crate::{Arith, Name, Sign};
+use um_frac::Frac;
+
+/// A unit text.
+#[cycle(raw_unit)]
+#[derive(Drop)]
+pub enum RawUnit {
+    /// `1`, at its place
+    One(u32),
+    /// A measure, at its place
+    Name(u32, Name),
+    /// A variable without its quote, at the quote's place
+    Var(u32, Name),
+    /// `U^k`
+    Power(Box<RawUnit>, i32),
+    /// A juxtaposition of two or more
+    Side(RawUnits),
+    /// `U * V`
+    Times(Box<RawUnit>, Box<RawUnit>),
+    /// `U / V`
+    Over(Box<RawUnit>, Box<RawUnit>),
+    /// A leading `/`, at its place, with the first juxtaposition
+    Inverse(u32, Box<RawUnit>),
+    /// Brackets, at the opening one
+    Bracket(u32, Box<RawUnit>),
+}
+
+/// Some unit texts, in order.
+#[cycle(raw_unit)]
+#[derive(Drop)]
+pub struct RawUnits {
+    pub items: Vec<RawUnit>,
+}
+
+/// What stands between `<` and `>`.
+#[derive(Drop)]
+pub enum RawNote {
+    /// `_`, at its place
+    Hole(u32),
+    /// A unit text, at the place of its first token
+    Unit(u32, RawUnit),
+}
+
+/// Some of these, in order.
+#[derive(Drop)]
+pub struct RawNotes {
+    pub items: Vec<RawNote>,
+}
+
+/// A type text.
+#[derive(Drop)]
+pub enum RawType {
+    Bool,
+    /// `num`, with what stands in its angle brackets, if any
+    Num(Option<RawNote>),
+    /// A record, at its name, with its units
+    Name(u32, Name, RawNotes),
+    /// `T list`
+    List(Box<RawType>),
+    Bracket(Box<RawType>),
+}
+
+/// A name that is bound, or `_`.
+#[derive(Drop)]
+pub struct Binder {
+    pub at: u32,
+    /// The name; nothing for `_`
+    pub name: Option<Name>,
+}
+
+/// An expression, at its place in the text.
+#[cycle(raw_expression)]
+#[derive(Drop)]
+pub struct RawExpr {
+    pub at: u32,
+    pub node: RawNode,
+}
+
+/// What an expression is.
+#[cycle(raw_expression)]
+#[derive(Drop)]
+pub enum RawNode {
+    Bool(bool),
+    /// A number, with what stands in its angle brackets, if any
+    Num(Frac, Option<RawNote>),
+    /// A name without arguments
+    Name(Name),
+    /// A name with arguments, at least one
+    Call(Name, RawExprs),
+    Neg(Box<RawExpr>),
+    Not(Box<RawExpr>),
+    Arith(Arith, Box<RawExpr>, Box<RawExpr>),
+    Compare(Sign, Box<RawExpr>, Box<RawExpr>),
+    And(Box<RawExpr>, Box<RawExpr>),
+    Or(Box<RawExpr>, Box<RawExpr>),
+    If(Box<RawExpr>, Box<RawExpr>, Box<RawExpr>),
+    Let(Binder, Box<RawExpr>, Box<RawExpr>),
+    /// The list, the empty arm, head and tail, the full arm
+    Match(
+        Box<RawExpr>,
+        Box<RawExpr>,
+        Binder,
+        Binder,
+        Box<RawExpr>,
+    ),
+    /// `([] : T)`
+    Nil(RawType),
+    /// At least one item
+    List(RawExprs),
+    Cons(Box<RawExpr>, Box<RawExpr>),
+    /// At least one field
+    Rec(RawFields),
+    /// A part, the place of the field's name, and the field's name
+    Field(u32, Name, Box<RawExpr>),
+    Bracket(Box<RawExpr>),
+}
+
+/// Some expressions, in order.
+#[cycle(raw_expression)]
+#[derive(Drop)]
+pub struct RawExprs {
+    pub items: Vec<RawExpr>,
+}
+
+/// A field of a record text, at its name.
+#[cycle(raw_expression)]
+#[derive(Drop)]
+pub struct RawField {
+    pub at: u32,
+    pub name: Name,
+    pub value: RawExpr,
+}
+
+/// Some fields, in order.
+#[cycle(raw_expression)]
+#[derive(Drop)]
+pub struct RawFields {
+    pub items: Vec<RawField>,
+}
+
+/// A declared unit parameter, at its quote.
+#[derive(Drop)]
+pub struct RawVar {
+    pub at: u32,
+    pub name: Name,
+}
+
+/// Some unit parameters, in order.
+#[derive(Drop)]
+pub struct RawVars {
+    pub items: Vec<RawVar>,
+}
+
+/// A declared field, at its name.
+#[derive(Drop)]
+pub struct RawFieldDecl {
+    pub at: u32,
+    pub name: Name,
+    pub ty: RawType,
+}
+
+/// Some declared fields, in order.
+#[derive(Drop)]
+pub struct RawFieldDecls {
+    pub items: Vec<RawFieldDecl>,
+}
+
+/// A declared parameter.
+#[derive(Drop)]
+pub struct RawParam {
+    pub binder: Binder,
+    pub ty: RawType,
+}
+
+/// Some parameters, in order.
+#[derive(Drop)]
+pub struct RawParams {
+    pub items: Vec<RawParam>,
+}
+
+/// A declared function, at its name.
+#[derive(Drop)]
+pub struct RawFunction {
+    pub at: u32,
+    pub name: Name,
+    pub recursive: bool,
+    pub params: RawParams,
+    pub result: Option<RawType>,
+    pub body: RawExpr,
+}
+
+/// A declaration, at its name.
+#[derive(Drop)]
+pub enum RawDecl {
+    /// A base measure
+    Base(u32, Name),
+    /// An abbreviation
+    Short(u32, Name, RawUnit),
+    Record(u32, Name, RawVars, RawFieldDecls),
+    Function(RawFunction),
+}
+
+/// A program as it is written: its declarations, in order.
+#[derive(Drop)]
+pub struct RawProgram {
+    pub items: Vec<RawDecl>,
+}

@@ -1,0 +1,111 @@
+// Values, inputs and outcomes.
+ghost use Rattle.std.specs.Prelude.{◌≡◌, IfOk, map};
+ghost use Rattle.um_tree.specs.ValueTree.{value_tree, value_trees, input_tree, without_units, without_units_each};
+
+use crate::UnitNote;
+use std::alloc::{AllocError, Global};
+use um_frac::{Frac, Trap};
+
+/// A value. It carries no unit.
+#[cycle(value)]
+#[derive(Drop)]
+pub enum Value {
+    Bool(bool),
+    Num(Frac),
+    List(Values),
+    /// A value of the record of this number, field by field
+    Rec(u32, Values),
+}
+
+/// Some values, in order.
+#[cycle(value)]
+#[derive(Drop)]
+pub struct Values {
+    pub items: Vec<Value>,
+}
+
+/// An argument as it is written: a value whose numbers carry their units.
+#[cycle(input)]
+#[derive(Drop)]
+pub enum Input {
+    Bool(bool),
+    Num(Frac, UnitNote),
+    List(Inputs),
+    Rec(u32, Inputs),
+}
+
+/// Some inputs, in order.
+#[cycle(input)]
+#[derive(Drop)]
+pub struct Inputs {
+    pub items: Vec<Input>,
+}
+
+/// How a call ends.
+#[derive(Drop)]
+pub enum Outcome {
+    Value(Value),
+    Trap(Trap),
+    /// The budget of calls was used up.
+    BudgetEnd,
+}
+
+/// The input without its units.
+#[cycle(value_of)]
+pub fn value_of(alloc: Global, input: &Input) -> Result<Value, AllocError>
+    ensures { IfOk result (λ value. value_tree value ≡ without_units (input_tree input.now)) }
+{
+    match input {
+        Input::Bool(b) => Ok(Value::Bool(*b)),
+        Input::Num(c, _) => Ok(Value::Num(*c)),
+        Input::List(inputs) => {
+            let items = values_of(alloc, &inputs.items)?;
+            Ok(Value::List(Values { items }))
+        }
+        Input::Rec(r, inputs) => {
+            let items = values_of(alloc, &inputs.items)?;
+            Ok(Value::Rec(*r, Values { items }))
+        }
+    }
+}
+
+#[cycle(value_of)]
+fn values_of(alloc: Global, inputs: &[Input]) -> Result<Vec<Value>, AllocError>
+    ensures { IfOk result (λ values. map value_tree values.items ≡ map (λ i. without_units (input_tree i)) inputs.now) }
+{
+    let mut values = Vec::new(alloc);
+    for i in 0..inputs.len() {
+        values.push(value_of(alloc, &inputs[i])?)?;
+    }
+    Ok(values)
+}
+
+/// An equal value.
+#[cycle(copy_value)]
+pub fn copy_value(alloc: Global, value: &Value) -> Result<Value, AllocError>
+    ensures { IfOk result (λ copy. value_tree copy ≡ value_tree value.now) }
+{
+    match value {
+        Value::Bool(b) => Ok(Value::Bool(*b)),
+        Value::Num(c) => Ok(Value::Num(*c)),
+        Value::List(values) => {
+            let items = copy_values(alloc, &values.items)?;
+            Ok(Value::List(Values { items }))
+        }
+        Value::Rec(r, values) => {
+            let items = copy_values(alloc, &values.items)?;
+            Ok(Value::Rec(*r, Values { items }))
+        }
+    }
+}
+
+#[cycle(copy_value)]
+fn copy_values(alloc: Global, values: &[Value]) -> Result<Vec<Value>, AllocError>
+    ensures { IfOk result (λ copies. map value_tree copies.items ≡ map value_tree values.now) }
+{
+    let mut copies = Vec::new(alloc);
+    for i in 0..values.len() {
+        copies.push(copy_value(alloc, &values[i])?)?;
+    }
+    Ok(copies)
+}
