@@ -1,0 +1,5 @@
+pub mod Weights
+pub mod Equality
+pub mod InRange
+pub mod MergeLemmas
+pub mod AtomOrder

@@ -1,0 +1,15 @@
+-- Terms with wide powers, which the code sums up.
+use Rattle.std.specs.Prelude.{ℕ, max, List, [], ◌∷◌, map, nat_abs}
+use Rattle.um_units.specs.declared.Term.{Term}
+use Rattle.um_units.specs.declared.merge.WideTerm.{WideTerm}
+
+abbrev pub as_term : WideTerm → Term
+as_term w = record { atom = w.atom; power = w.power }
+
+abbrev pub as_terms : List WideTerm → List Term
+as_terms = map as_term
+
+-- the greatest absolute power
+abbrev pub greatest : List WideTerm → ℕ
+greatest [] = 0
+greatest (w ∷ ws) = max (nat_abs w.power) (greatest ws)
