@@ -6,7 +6,6 @@ mod order;
 mod quiet;
 mod schemes;
 mod status;
-mod text;
 mod top;
 mod words;
 

@@ -1,6 +1,6 @@
 // Values, inputs and outcomes.
 ghost use Rattle.std.specs.Prelude.{◌≡◌, IfOk, map};
-ghost use Rattle.um_tree.specs.ValueTree.{value_tree, value_trees, input_tree, without_units, without_units_each};
+ghost use Rattle.um_tree.specs.ValueTree.{value_tree, value_trees, input_tree, input_trees, without_units, without_units_each};
 
 use crate::UnitNote;
 use std::alloc::{AllocError, Global};
@@ -58,19 +58,21 @@ pub fn value_of(alloc: Global, input: &Input) -> Result<Value, AllocError>
     match input {
         Input::Bool(b) => Ok(Value::Bool(*b)),
         Input::Num(c, _) => Ok(Value::Num(*c)),
-        Input::List(inputs) => {
-            let items = values_of(alloc, &inputs.items)?;
-            Ok(Value::List(Values { items }))
-        }
-        Input::Rec(r, inputs) => {
-            let items = values_of(alloc, &inputs.items)?;
-            Ok(Value::Rec(*r, Values { items }))
-        }
+        Input::List(inputs) => Ok(Value::List(values_of(alloc, inputs)?)),
+        Input::Rec(r, inputs) => Ok(Value::Rec(*r, values_of(alloc, inputs)?)),
     }
 }
 
 #[cycle(value_of)]
-fn values_of(alloc: Global, inputs: &[Input]) -> Result<Vec<Value>, AllocError>
+fn values_of(alloc: Global, inputs: &Inputs) -> Result<Values, AllocError>
+    ensures { IfOk result (λ values. value_trees values ≡ without_units_each (input_trees inputs.now)) }
+{
+    let items = each_value_of(alloc, &inputs.items)?;
+    Ok(Values { items })
+}
+
+#[cycle(value_of)]
+fn each_value_of(alloc: Global, inputs: &[Input]) -> Result<Vec<Value>, AllocError>
     ensures { IfOk result (λ values. map value_tree values.items ≡ map (λ i. without_units (input_tree i)) inputs.now) }
 {
     let mut values = Vec::new(alloc);
@@ -88,19 +90,21 @@ pub fn copy_value(alloc: Global, value: &Value) -> Result<Value, AllocError>
     match value {
         Value::Bool(b) => Ok(Value::Bool(*b)),
         Value::Num(c) => Ok(Value::Num(*c)),
-        Value::List(values) => {
-            let items = copy_values(alloc, &values.items)?;
-            Ok(Value::List(Values { items }))
-        }
-        Value::Rec(r, values) => {
-            let items = copy_values(alloc, &values.items)?;
-            Ok(Value::Rec(*r, Values { items }))
-        }
+        Value::List(values) => Ok(Value::List(copy_values(alloc, values)?)),
+        Value::Rec(r, values) => Ok(Value::Rec(*r, copy_values(alloc, values)?)),
     }
 }
 
 #[cycle(copy_value)]
-fn copy_values(alloc: Global, values: &[Value]) -> Result<Vec<Value>, AllocError>
+fn copy_values(alloc: Global, values: &Values) -> Result<Values, AllocError>
+    ensures { IfOk result (λ copies. value_trees copies ≡ value_trees values.now) }
+{
+    let items = copy_each(alloc, &values.items)?;
+    Ok(Values { items })
+}
+
+#[cycle(copy_value)]
+fn copy_each(alloc: Global, values: &[Value]) -> Result<Vec<Value>, AllocError>
     ensures { IfOk result (λ copies. map value_tree copies.items ≡ map value_tree values.now) }
 {
     let mut copies = Vec::new(alloc);
