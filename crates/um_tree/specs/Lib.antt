@@ -5,3 +5,6 @@ pub mod RawTree
 pub mod ProgramTree
 pub mod Typing
 pub mod Scheme
+pub mod Meaning
+pub mod Shapes
+pub mod InputType
