@@ -1,14 +1,13 @@
 -- Units whose powers are in range.
-use Rattle.std.proofs.Common.{◌≡◌, Bool, true, false, cond, List, [], ◌∷◌, refl, sym, ap, ◌∙◌, subst}
+use Rattle.std.proofs.Common.{◌≡◌, List, sym, ap, ◌∙◌, subst}
 use Rattle.std.specs.Prelude.{IsTrue}
-use Rattle.std.specs.List.{list_all}
 use Rattle.um_units.specs.declared.Term.{Term}
 use Rattle.um_units.specs.PowerMap.{PowerMap, product}
-use Rattle.um_units.specs.Range.{in_range, fits, IsKept}
+use Rattle.um_units.specs.Range.{all_in_range, fits, IsKept}
 use Rattle.um_units.proofs.Equality.{product-normal}
 
 pub fits-product : (ts : List Term) → IsKept ts → IsTrue (fits (product ts))
-fits-product ts kept = subst (λ us. IsTrue (list_all (λ t. in_range t.power) us)) (sym (product-normal ts kept.normal)) kept.fit
+fits-product ts kept = subst (λ us. IsTrue (all_in_range us)) (sym (product-normal ts kept.normal)) kept.fit
 
 -- what the code keeps of a unit shows that it fits
 pub fits-kept : (ts : List Term) (u : PowerMap) → IsKept ts → product ts ≡ u → IsTrue (fits u)
