@@ -11,9 +11,9 @@ use std::alloc::{AllocError, AllocFailed, Global};
 use std::marker::Model;
 use thiserror::Error;
 
-mod merge;
+mod wide;
 
-use merge::WideTerm;
+use wide::WideTerm;
 
 /// Want of memory, where nothing else can go wrong.
 pub type NoMemory = AllocError;
@@ -159,9 +159,9 @@ impl Unit {
         ensures exact { IfOk result (λ unit. unit ≡ mul self.now (pow other.now k)) }
         ensures range { RangeUnless result (fits (mul self.now (pow other.now k))) }
     {
-        let left = merge::scaled(alloc, &self.terms, 1)?;
-        let right = merge::scaled(alloc, &other.terms, k)?;
-        let sum = merge::merged(alloc, &left, &right)?;
+        let left = wide::scaled(alloc, &self.terms, 1)?;
+        let right = wide::scaled(alloc, &other.terms, k)?;
+        let sum = wide::merged(alloc, &left, &right)?;
         Unit::of_sum(alloc, &sum)
     }
 
@@ -170,7 +170,7 @@ impl Unit {
         ensures exact { IfOk result (λ unit. unit ≡ product (as_terms sum.now)) }
         ensures range { RangeUnless result (fits (product (as_terms sum.now))) }
     {
-        let terms = merge::narrowed(alloc, sum)?;
+        let terms = wide::narrowed(alloc, sum)?;
         Ok(Unit { terms })
     }
 }
