@@ -1,5 +1,5 @@
 -- Two units are equal exactly where all their powers are.
-use Rattle.std.proofs.Common.{◌≡◌, ℕ, zero, suc, ◌+◌, ◌<◌, drop, get_or, length, ◌⊎◌, Bool, true, false, cond, not, ◌&&◌, List, [], ◌∷◌, ℤ, pos, ◌+ℤ◌, ◌*ℤ◌, refl, sym, ap, ◌∙◌, subst, inl, inr, arith}
+use Rattle.std.proofs.Common.{◌≡◌, ℕ, zero, suc, ◌+◌, ◌<◌, drop, get_or, length, true, false, List, [], ◌∷◌, ℤ, pos, ◌+ℤ◌, ◌*ℤ◌, refl, sym, ap, ◌∙◌, subst, inl, inr, arith}
 use Rattle.std.specs.Prelude.{IsTrue}
 use Rattle.std.proofs.lemmas.Int.{ints}
 use Rattle.std.proofs.lemmas.List.{drop_more}
@@ -8,8 +8,8 @@ use Rattle.um_units.specs.declared.Atom.{Atom}
 use Rattle.um_units.specs.declared.Atom.TheVariants.{Base, Var}
 use Rattle.um_units.specs.declared.Term.{Term}
 use Rattle.um_units.specs.Atoms.{is_before, same_atom}
-use Rattle.um_units.specs.Terms.{weigh, indicator, power_in, is_zero, is_below, is_normal, unless_zero, times_term, normal_form}
-use Rattle.um_units.specs.NormalForm.{before_trans, atom_cases, same_atom-eq, same_atom_refl, below_trans, head_nonzero, head_below, tail_normal}
+use Rattle.um_units.specs.Terms.{indicator, power_in, is_zero, is_below, is_normal, times_term, normal_form}
+use Rattle.um_units.specs.NormalForm.{atom_cases, same_atom-eq, same_atom_refl, below_trans, head_nonzero, head_below, tail_normal}
 use Rattle.um_units.specs.PowerMap.{PowerMap, product, power_of, same_record}
 use Rattle.um_units.proofs.Weights.{weigh-product}
 

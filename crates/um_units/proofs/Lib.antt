@@ -1,5 +1,12 @@
+pub mod Integers
 pub mod Weights
 pub mod Equality
+pub mod Group
+pub mod Replacement
+pub mod Variables
 pub mod InRange
-pub mod MergeLemmas
-pub mod AtomOrder
+pub mod Solutions
+mod AtomOrder
+mod Nonzero
+mod MergeLemmas
+mod Results

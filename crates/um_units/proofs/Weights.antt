@@ -1,11 +1,11 @@
 -- The value of a linear functional at a normal form, a product, and a list of terms.
-use Rattle.std.proofs.Common.{◌≡◌, Bool, true, false, cond, List, [], ◌∷◌, ◌++◌, map, ℤ, pos, negsuc, ◌+ℤ◌, ◌*ℤ◌, refl, sym, ap, ◌∙◌, arith}
+use Rattle.std.proofs.Common.{◌≡◌, true, List, [], ◌∷◌, ◌++◌, ℤ, pos, negsuc, ◌+ℤ◌, ◌*ℤ◌, refl, sym, ap, ◌∙◌, arith}
 use Rattle.std.proofs.lemmas.Int.{ints}
 use Rattle.std.proofs.lemmas.Bool.{cond_both, eqb-true}
-use Rattle.std.proofs.Math.IntN.{zero-*ℤ, *ℤ-zero, +ℤ_idl}
+use Rattle.std.proofs.Math.IntN.{zero-*ℤ, +ℤ_idl}
 use Rattle.um_units.specs.declared.Atom.{Atom}
 use Rattle.um_units.specs.declared.Term.{Term}
-use Rattle.um_units.specs.Integers.{+ℤ-*ℤ, *ℤ-+ℤ, *ℤ_assoc}
+use Rattle.um_units.proofs.Integers.{+ℤ-*ℤ}
 use Rattle.um_units.specs.Atoms.{is_before, same_atom}
 use Rattle.um_units.specs.Terms.{weigh, is_zero, unless_zero, times_term, normal_form}
 use Rattle.um_units.specs.NormalForm.{same_atom-eq}

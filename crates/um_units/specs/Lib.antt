@@ -1,7 +1,8 @@
 pub mod Atoms
-pub mod Integers
 pub mod Terms
 pub mod NormalForm
 pub mod PowerMap
 pub mod Range
 pub mod Wide
+pub mod Variables
+pub mod Solutions

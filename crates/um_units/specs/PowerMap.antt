@@ -41,6 +41,30 @@ atom x = product (record { atom = x; power = pos 1 } ∷ [])
 abbrev pub mul : PowerMap → PowerMap → PowerMap
 mul u v = product (u.terms ++ v.terms)
 
+-- the term to the k-th power
+abbrev pub scale : ℤ → Term → Term
+scale k t = record { atom = t.atom; power = k *ℤ t.power }
+
+-- the k-th power
+abbrev pub pow : PowerMap → ℤ → PowerMap
+pow u k = product (map (scale k) u.terms)
+
+abbrev pub inv : PowerMap → PowerMap
+inv u = pow u (negsuc 0)
+
+-- what is put for an atom: s k for variable k, and each base unit for itself
+abbrev pub image : (ℕ → PowerMap) → Atom → PowerMap
+image s (Base n) = atom (Base n)
+image s (Var n) = s n
+
+-- the unit in which s k is put for each variable k
+abbrev pub replace : (ℕ → PowerMap) → PowerMap → PowerMap
+replace s u = product (flat_map (λ t. map (scale t.power) (image s t.atom).terms) u.terms)
+
+-- the replacement by a list: its k-th unit for variable k, and each other variable for itself
+abbrev pub nth : List PowerMap → ℕ → PowerMap
+nth us k = get_or us k (atom (Var k))
+
 -- ---- the code by which a proof tells power maps apart
 pub IsTrue_prop : (b : Bool) → IsProp (IsTrue b)
 IsTrue_prop b = hlevel Bool-set

@@ -1,25 +1,32 @@
-use Rattle.std.specs.Prelude.{◌≡◌, ℕ, nat_le, nat_abs, Bool, false, IsTrue, IsFalse, List, ℤ, Result, Err, MatchResult}
+use Rattle.std.specs.Prelude.{nat_le, nat_abs, Bool, IsTrue, IsFalse, List, ℤ, Result, MatchResult}
 use Rattle.std.specs.List.{list_all}
 use Rattle.um_units.specs.declared.Term.{Term}
 use Rattle.um_units.specs.Terms.{is_normal}
 use Rattle.um_units.specs.PowerMap.{PowerMap}
-
 use Rattle.um_units.specs.declared.UnitStop.{UnitStop}
-use Rattle.um_units.specs.declared.UnitStop.TheVariants as stops
+use Rattle.um_units.specs.declared.UnitStop.TheVariants.{Range, NoMemory}
 
 -- the power lies in -2147483647..2147483647
 abbrev pub in_range : ℤ → Bool
 in_range z = nat_le (nat_abs z) 2147483647
 
+abbrev pub all_in_range : List Term → Bool
+all_in_range = list_all (λ t. in_range t.power)
+
 -- each power of the unit lies in -2147483647..2147483647
 abbrev pub fits : PowerMap → Bool
-fits u = list_all (λ t. in_range t.power) u.terms
+fits u = all_in_range u.terms
 
 -- what the code keeps of a unit: its terms in normal form, with powers in range
 pub record IsKept (ts : List Term) : Type 0 where
   pub normal : IsTrue (is_normal ts)
-  pub fit : IsTrue (list_all (λ t. in_range t.power) ts)
+  pub fit : IsTrue (all_in_range ts)
 
--- Range exactly where a power of the unit is out of range, unless memory ran out
-abbrev pub RangeExactly : {X : Type 0} → Result X UnitStop → PowerMap → Type 0
-RangeExactly r u = MatchResult r (λ _. IsTrue (fits u)) (λ stop. stop ≡ stops.Range → IsFalse (fits u))
+-- why a call stopped: Range only where the test fails
+abbrev pub IsStopUnless : Bool → UnitStop → Type 0
+IsStopUnless b Range = IsFalse b
+IsStopUnless b NoMemory = Unit {0}
+
+-- Range exactly where the test fails, unless memory ran out
+abbrev pub RangeUnless : {X : Type 0} → Result X UnitStop → Bool → Type 0
+RangeUnless r b = MatchResult r (λ _. IsTrue b) (IsStopUnless b)

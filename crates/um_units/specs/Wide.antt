@@ -1,7 +1,7 @@
 -- Terms with wide powers, which the code sums up.
 use Rattle.std.specs.Prelude.{ℕ, max, List, [], ◌∷◌, map, nat_abs}
 use Rattle.um_units.specs.declared.Term.{Term}
-use Rattle.um_units.specs.declared.merge.WideTerm.{WideTerm}
+use Rattle.um_units.specs.declared.wide.WideTerm.{WideTerm}
 
 abbrev pub as_term : WideTerm → Term
 as_term w = record { atom = w.atom; power = w.power }

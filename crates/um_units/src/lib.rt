@@ -2,14 +2,18 @@
 #![tactic(auto)]
 
 ghost use Rattle.std.specs.Prelude.{◌≡◌, ◌↔◌, IfOk, IsTrue};
-ghost use Rattle.um_units.specs.PowerMap.{one, atom, mul, power_of};
-ghost use Rattle.um_units.specs.Range.{fits, RangeExactly};
+ghost use Rattle.um_units.specs.PowerMap.{one, atom, mul, pow, power_of, product};
+ghost use Rattle.um_units.specs.Range.{fits, RangeUnless};
+ghost use Rattle.um_units.specs.Terms.{is_normal};
+ghost use Rattle.um_units.specs.Wide.{as_terms};
 
-use std::alloc::{AllocError, Global};
+use std::alloc::{AllocError, AllocFailed, Global};
 use std::marker::Model;
 use thiserror::Error;
 
-mod merge;
+mod wide;
+
+use wide::WideTerm;
 
 /// Want of memory, where nothing else can go wrong.
 pub type NoMemory = AllocError;
@@ -37,6 +41,17 @@ pub enum UnitStop {
     /// No memory was left.
     #[error("out of memory")]
     NoMemory,
+}
+
+impl<T: Drop> From<AllocFailed<T>> for UnitStop {
+    ghost use Rattle.std.specs.Prelude.{◌≡◌};
+    ghost use Rattle.um_units.specs.declared.UnitStop.TheVariants.{NoMemory};
+
+    ghost from_gives = { λ _ stop. stop ≡ NoMemory };
+
+    fn from(_failed: AllocFailed<T>) -> UnitStop {
+        UnitStop::NoMemory
+    }
 }
 
 impl From<AllocError> for UnitStop {
@@ -124,5 +139,38 @@ impl Unit {
         ensures same { IsTrue result ↔ (self.now ≡ other.now) }
     {
         self.terms == other.terms
+    }
+
+    /// The product.
+    ///
+    /// Range comes exactly where a power of the product is out of range.
+    pub fn mul(&self, alloc: Global, other: &Unit) -> Result<Unit, UnitStop>
+        ensures exact { IfOk result (λ unit. unit ≡ mul self.now other.now) }
+        ensures range { RangeUnless result (fits (mul self.now other.now)) }
+    {
+        self.mul_pow(alloc, other, 1)
+    }
+
+    /// The unit times the k-th power of the other.
+    ///
+    /// Range comes exactly where a power of the result is out of range, also where one of the other's k-th power is
+    /// and the result's isn't.
+    pub fn mul_pow(&self, alloc: Global, other: &Unit, k: i32) -> Result<Unit, UnitStop>
+        ensures exact { IfOk result (λ unit. unit ≡ mul self.now (pow other.now k)) }
+        ensures range { RangeUnless result (fits (mul self.now (pow other.now k))) }
+    {
+        let left = wide::scaled(alloc, &self.terms, 1)?;
+        let right = wide::scaled(alloc, &other.terms, k)?;
+        let sum = wide::merged(alloc, &left, &right)?;
+        Unit::of_sum(alloc, &sum)
+    }
+
+    fn of_sum(alloc: Global, sum: &[WideTerm]) -> Result<Unit, UnitStop>
+        requires { IsTrue (is_normal (as_terms sum.now)) }
+        ensures exact { IfOk result (λ unit. unit ≡ product (as_terms sum.now)) }
+        ensures range { RangeUnless result (fits (product (as_terms sum.now))) }
+    {
+        let terms = wide::narrowed(alloc, sum)?;
+        Ok(Unit { terms })
     }
 }

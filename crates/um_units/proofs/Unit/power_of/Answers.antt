@@ -1,4 +1,4 @@
-use Rattle.std.proofs.Common.{◌≡◌, ◌∙◌, sym, ap, rules, arith, refl, pos, get_or, to_z, of_z, w32, FitsSigned, drop}
+use Rattle.std.proofs.Common.{◌∙◌, sym, ap, rules, pos, get_or, w32, FitsSigned}
 use Rattle.std.specs.Prelude.{IsTrue}
 use Rattle.std.proofs.lemmas.Int.{to_z-of_z}
 use Rattle.std.proofs.lemmas.List.{drop_all}

@@ -1,0 +1,71 @@
+-- The variables of the results.
+use Rattle.std.proofs.Common.{◌≡◌, ◌≢◌, ◌⊎◌, inl, inr, ℕ, ◌<◌, ◌≤◌, ◌+◌, Bool, true, false, List, [], ◌∷◌, ℤ, pos, ◌+ℤ◌, ◌*ℤ◌, refl, sym, ap, ◌∙◌, arith}
+use Rattle.std.proofs.lemmas.Int.{ints}
+use Rattle.std.proofs.lemmas.Bool.{cases_eq, cases_lt, ne_eqb}
+use Rattle.std.proofs.Math.IntN.{*ℤ-zero}
+use Rattle.um_units.specs.declared.Atom.{Atom}
+use Rattle.um_units.specs.declared.Atom.TheVariants.{Base, Var}
+use Rattle.um_units.specs.Atoms.{same_atom}
+use Rattle.um_units.specs.declared.Term.{Term}
+use Rattle.um_units.specs.Terms.{weigh, indicator}
+use Rattle.um_units.proofs.Integers.{zero_cases}
+use Rattle.um_units.proofs.Equality.{tail_only}
+use Rattle.um_units.specs.PowerMap.{PowerMap, power_of, weight, one, atom, mul, pow, inv, image, replace, nth}
+use Rattle.um_units.specs.Variables.{IsClosed, VariablesBelow}
+use Rattle.um_units.proofs.Group.{weight-one, weight-mul, weight-pow, power_of-other_atom}
+use Rattle.um_units.proofs.Replacement.{weight-replace, weight_held, replace-closed}
+
+-- ---- closed units
+pub closed-one : IsClosed one
+closed-one k = weight-one (indicator (Var k))
+
+pub closed-base : (n : ℕ) → IsClosed (atom (Base n))
+closed-base n k = power_of-other_atom (Var k) (Base n) refl
+
+pub closed-mul : (u v : PowerMap) → IsClosed u → IsClosed v → IsClosed (mul u v)
+closed-mul u v h j k = weight-mul (indicator (Var k)) u v ∙ ap (λ n. n +ℤ power_of v (Var k)) (h k) ∙ ap (λ n. pos 0 +ℤ n) (j k)
+
+pub closed-pow : (u : PowerMap) (n : ℤ) → IsClosed u → IsClosed (pow u n)
+closed-pow u n h k = weight-pow (indicator (Var k)) u n ∙ ap (λ z. n *ℤ z) (h k) ∙ *ℤ-zero n
+
+-- ---- variables below a number
+pub closed-below : (n : ℕ) (u : PowerMap) → IsClosed u → VariablesBelow n u
+closed-below n u closed k h = absurd (h (closed k))
+
+pub below-zero : (u : PowerMap) → VariablesBelow 0 u → IsClosed u
+below-zero u h k = elim (zero_cases (power_of u (Var k))) [ inl e ↦ e | inr ne ↦ absurd (let i = h k ne in omega (arith, i)) ]
+
+pub below_more : (m n : ℕ) (u : PowerMap) → m ≤ n → VariablesBelow m u → VariablesBelow n u
+below_more m n u l below k h = let i = below k h in omega (arith, i, l)
+
+pub below-variable : (k : ℕ) → VariablesBelow (k + 1) (atom (Var k))
+below-variable k j h =
+    elim (cases_eq j k) [ inl e ↦ omega (arith, e) | inr ne ↦ absurd (h (power_of-other_atom (Var j) (Var k) (ne_eqb j k ne))) ]
+
+pub below-mul : (n : ℕ) (u v : PowerMap) → VariablesBelow n u → VariablesBelow n v → VariablesBelow n (mul u v)
+below-mul n u v h j k ne =
+    elim (zero_cases (power_of u (Var k))) [
+      | inl e ↦ j k (λ f. ne (weight-mul (indicator (Var k)) u v ∙ ap (λ z. z +ℤ power_of v (Var k)) e ∙ ap (λ z. pos 0 +ℤ z) f))
+      | inr held ↦ h k held
+    ]
+
+pub below-pow : (n : ℕ) (u : PowerMap) (i : ℤ) → VariablesBelow n u → VariablesBelow n (pow u i)
+below-pow n u i h k ne = h k (λ e. ne (weight-pow (indicator (Var k)) u i ∙ ap (λ z. i *ℤ z) e ∙ *ℤ-zero i))
+
+-- each variable that is put in is below n
+pub below-replace : (n : ℕ) (s : ℕ → PowerMap) (u : PowerMap) → ((j : ℕ) → power_of u (Var j) ≢ pos 0 → VariablesBelow n (s j)) → VariablesBelow n (replace s u)
+below-replace n s u below k ne =
+    elim (cases_lt k n) [
+      | inl h ↦ h
+      | inr l ↦ absurd (ne (weight-replace (indicator (Var k)) s u ∙ weight_held _ (λ _. pos 0) u (at k l) ∙ weigh-zero u.terms))
+    ]
+  where
+    weigh-zero : (ts : List Term) → weigh (λ _. pos 0) ts ≡ pos 0
+    weigh-zero [] = refl
+    weigh-zero (t ∷ ts) = ap (λ z. t.power *ℤ pos 0 +ℤ z) (weigh-zero ts) ∙ tail_only t.power (pos 0)
+    at : (k : ℕ) → n ≤ k → (x : Atom) → power_of u x ≢ pos 0 → power_of (image s x) (Var k) ≡ pos 0
+    at k l (Base m) held = closed-base m k
+    at k l (Var j) held = elim (zero_cases (power_of (s j) (Var k))) [ inl e ↦ e | inr h ↦ absurd (let i = below j held k h in omega (arith, i, l)) ]
+
+pub closed-replace : (s : ℕ → PowerMap) (u : PowerMap) → ((j : ℕ) → power_of u (Var j) ≢ pos 0 → IsClosed (s j)) → IsClosed (replace s u)
+closed-replace s u closed = below-zero (replace s u) (below-replace 0 s u (λ j h. closed-below 0 (s j) (closed j h)))
