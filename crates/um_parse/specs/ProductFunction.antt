@@ -3,7 +3,7 @@
 use Rattle.std.specs.Prelude.{◌≡◌, ◌<◌, ℕ, false, IsTrue, List, map, length, slice_get, None, Some}
 use Rattle.um_units.specs.PowerMap.{PowerMap}
 use Rattle.um_units.specs.Range.{fits}
-use Rattle.um_units.specs.Closed.{IsClosed}
+use Rattle.um_units.specs.Variables.{IsClosed}
 use Rattle.um_tree.specs.declared.note.UnitNote.TheVariants.{Written}
 use Rattle.um_tree.specs.declared.expression.Arith.TheVariants.{Mul}
 use Rattle.um_tree.specs.TypeTree.{num_note}

@@ -8,3 +8,6 @@ pub mod Scheme
 pub mod Meaning
 pub mod Shapes
 pub mod InputType
+pub mod Heights
+pub mod TreeHeights
+pub mod Formed
