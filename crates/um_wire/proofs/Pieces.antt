@@ -4,7 +4,7 @@ use Rattle.std.proofs.lemmas.List.{take-append-le, drop-drop}
 use Rattle.std.specs.declared.option.Option.{Option}
 use Rattle.std.specs.Io.KnownBytes.{Consumes}
 use Rattle.std.proofs.KnownBytes.{Consumes-trans}
-use Rattle.um_wire.specs.Bytes.{Tells, TellsMoreThan, ReadsPast}
+use Rattle.um_wire.specs.Bytes.{Tells, TellsMoreThan, TellsPrefix, ReadsPast}
 
 -- known bytes that lose some were at least as many
 pub TellsMoreThan-of_read : (limit : ℕ) (old new : Option (List ℕ)) (bytes : List ℕ) → Consumes old new bytes → limit < length bytes → TellsMoreThan limit old
@@ -12,6 +12,12 @@ TellsMoreThan-of_read limit None new bytes read more = record { bytes = bytes; t
 TellsMoreThan-of_read limit (Some known) None bytes read more = absurd read
 TellsMoreThan-of_read limit (Some known) (Some rest) bytes read more =
     record { bytes = known; told = refl; more = rw read (omega (arith, length-append bytes rest, more)) }
+
+-- known bytes that lose some began with them
+pub TellsPrefix-of_read : (old new : Option (List ℕ)) (bytes : List ℕ) → Consumes old new bytes → TellsPrefix old bytes
+TellsPrefix-of_read None new bytes read = record { rest = bytes; told = tt }
+TellsPrefix-of_read (Some known) None bytes read = absurd read
+TellsPrefix-of_read (Some known) (Some rest) bytes read = record { rest = rest; told = read }
 
 -- what was read before and the next piece are the bytes read
 pub ReadsPast-of_reads : (limit : ℕ) (IsPast : Type 0) (old mid new : Option (List ℕ)) (text piece : List ℕ) → Consumes old mid text → Consumes mid new piece

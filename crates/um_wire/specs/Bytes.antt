@@ -15,6 +15,11 @@ pub record TellsMoreThan (limit : ℕ) (known : Option (List ℕ)) : Type 0 wher
   pub told : Tells known bytes
   pub more : limit < length bytes
 
+-- known bytes begin with these
+pub record TellsPrefix (known : Option (List ℕ)) (front : List ℕ) : Type 0 where
+  pub rest : List ℕ
+  pub told : Tells known (front ++ rest)
+
 -- the bytes that a call read number more than `limit` exactly where `IsPast` holds
 pub record ReadsPast (limit : ℕ) (IsPast : Type 0) (old new : Option (List ℕ)) : Type 0 where
   pub bytes : List ℕ

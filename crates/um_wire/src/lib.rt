@@ -8,22 +8,28 @@
 #![tactic(auto)]
 
 mod copy;
-mod memory;
+mod mem_sink;
+mod mem_source;
 mod quiet;
 mod read;
 mod sink;
 mod source;
-mod standard;
+mod std_sink;
+mod std_source;
+mod taker;
 #[cfg(test)]
 mod tests;
 mod write;
 
-pub use memory::{MemSink, MemSource};
+pub use mem_sink::MemSink;
+pub use mem_source::MemSource;
 pub use quiet::{QuietSink, QuietSource};
-pub use read::{ReadStop, read_text};
+pub use read::{ReadStop, read_into, read_text};
 pub use sink::Sink;
 pub use source::{Failed, Source};
-pub use standard::{StdSink, StdSource};
+pub use std_sink::StdSink;
+pub use std_source::StdSource;
+pub use taker::Taker;
 pub use write::write_all;
 
 /// Want of memory.

@@ -1,11 +1,11 @@
 // Reading a whole text.
-ghost use Rattle.std.specs.Prelude.{◌≡◌, ◌≤◌, length, IfOk, OnOk, IsErrOf};
+ghost use Rattle.std.specs.Prelude.{◌≡◌, ◌≤◌, [], length, IfOk, OnOk, IsErrOf};
 ghost use Rattle.std.specs.Io.KnownBytes.{IsAtEnd};
 ghost use Rattle.um_wire.specs.Faults.{Rose};
-ghost use Rattle.um_wire.specs.Bytes.{Tells, TellsMoreThan, ReadsPast};
+ghost use Rattle.um_wire.specs.Bytes.{Tells, TellsMoreThan, TellsPrefix, ReadsPast};
 ghost use Rattle.um_wire.specs.declared.read.ReadStop.TheVariants.{Failed as ReadFailed, NoMemory as OutOfMemory};
 
-use crate::{Failed, Source};
+use crate::{Failed, Source, Taker};
 use std::alloc::{AllocError, Global};
 use thiserror::Error;
 
@@ -45,7 +45,6 @@ const PIECE: usize = 4096;
 /// Reads all bytes that are left in `source`, where they number at most `limit`.
 ///
 /// It answers `TooLong` exactly where byte `limit + 1` was read, and `Failed` only where the source counted a fault.
-/// Each turn takes a byte or is the last, so it returns.
 pub fn read_text<S: Source>(
     alloc: Global,
     source: &mut S,
@@ -60,15 +59,43 @@ pub fn read_text<S: Source>(
     ensures failed { IsErrOf result ReadStop.Failed → Rose (S.faults source.old) (S.faults source.new) }
 {
     let mut text = Vec::new(alloc);
+    read_into(source, limit, &mut text)?;
+    Ok(text)
+}
+
+/// Hands all bytes that are left in `source` on to `taker`, piece by piece, where they number at most `limit`.
+///
+/// It answers `TooLong` exactly where byte `limit + 1` was read, and `Failed` only where the source counted a fault.
+/// Unless memory wanted, the taker has then taken a prefix of the bytes that were left, of at most `limit` bytes.
+/// Each turn takes a byte or is the last, so it returns.
+pub fn read_into<S: Source, T: Taker>(
+    source: &mut S,
+    limit: usize,
+    taker: &mut T,
+) -> Result<(), ReadStop>
+    requires empty { T.taken taker.old ≡ [] }
+    requires room { limit ≤ T.most taker.old }
+    ensures text { OnOk result (Tells (S.left source.old) (T.taken taker.new)) }
+    ensures end { OnOk result (IsAtEnd (S.left source.new)) }
+    ensures too_long { IsErrOf result ReadStop.TooLong → TellsMoreThan limit (S.left source.old) }
+    ensures past_limit { ReadsPast limit (IsErrOf result ReadStop.TooLong) (S.left source.old) (S.left source.new) }
+    ensures prefix { ¬ IsErrOf result ReadStop.NoMemory → TellsPrefix (S.left source.old) (T.taken taker.new) }
+    ensures fits { ¬ IsErrOf result ReadStop.NoMemory → length (T.taken taker.new) ≤ limit }
+    ensures most { T.most taker.new ≡ T.most taker.old }
+    ensures never_falls { S.faults source.old ≤ S.faults source.new }
+    ensures failed { IsErrOf result ReadStop.Failed → Rose (S.faults source.old) (S.faults source.new) }
+{
+    let mut room = limit;
     let mut piece = [0u8; PIECE];
     loop {
         let count = source.read(&mut piece)?;
         if count == 0 {
-            return Ok(text);
+            return Ok(());
         }
-        if limit - text.len() < count {
+        if room < count {
             return Err(ReadStop::TooLong);
         }
-        text.extend_from_slice(&piece[..count])?;
+        taker.take(&piece[..count])?;
+        room -= count;
     }
 }

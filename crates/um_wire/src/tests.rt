@@ -1,6 +1,7 @@
 // Each source and each sink once, in pieces of several sizes, and what a fault leaves.
 use crate::{
-    MemSink, MemSource, QuietSink, QuietSource, ReadStop, StdSink, StdSource, read_text, write_all,
+    MemSink, MemSource, QuietSink, QuietSource, ReadStop, StdSink, StdSource, read_into, read_text,
+    write_all,
 };
 use std::io;
 use std::io::{ErrorKind, Read, Write};
@@ -44,6 +45,33 @@ fn a_failed_read_takes_no_byte(rt: HostRuntime) -> Result<(), Fail> {
         assert!(rt; matches!(&first, Err(ReadStop::Failed)), "read {call}");
         let second = read_text(alloc, &mut source, 5)?;
         assert!(rt; second.as_slice() == rest.as_bytes(), "after read {call}");
+    }
+    Ok(())
+}
+
+#[test]
+fn a_taker_has_a_prefix_after_a_stop(rt: HostRuntime) -> Result<(), Fail> {
+    let alloc = rt.alloc();
+    for (limit, fail, taken) in [
+        (5, NEVER, "abcde"),
+        (4, NEVER, "abcd"),
+        (3, NEVER, "ab"),
+        (0, NEVER, ""),
+        (5, 1, "ab"),
+        (5, 3, "abcde"),
+    ] {
+        let bytes = b"abcde".to_vec(alloc)?;
+        let mut source = MemSource::new(bytes, 2, vec![in alloc; fail]?);
+        let mut taker = Vec::new(alloc);
+        let got = read_into(&mut source, limit, &mut taker);
+        assert!(rt;
+            got.is_ok() == (limit == 5 && fail == NEVER),
+            "limit {limit}, fail {fail}"
+        );
+        assert!(rt;
+            taker.as_slice() == taken.as_bytes(),
+            "limit {limit}, fail {fail}"
+        );
     }
     Ok(())
 }
