@@ -1,8 +1,8 @@
 -- The greatest number that divides two numbers is divided by each number that divides both. Euclid's step, and Gauss's lemma.
 use Rattle.std.proofs.Common.{◌≡◌, ℕ, zero, suc, ◌+◌, ◌*◌, ◌/◌, ◌%◌, ◌<◌, ◌≤◌, ◌==◌, ◌&&◌, Bool, true, false, cond, refl, sym, ap, subst, ◌∙◌, arith, eq-eqb, inl, inr}
 use Rattle.std.specs.Int.{IsGcd, ◌∣◌}
-use Rattle.std.proofs.lemmas.Nat.Gcd.{IsGcd-from_zero, IsGcd-from_mod, IsGcd-swap, same_from_IsGcd, le_from_IsGcd, dvd_refl, dvd-zero, dvd_trans, dvd_antisymm, le_of_dvd, dvd_of_mod-eq-zero, mod-eq-zero_of_dvd}
-use Rattle.std.proofs.Math.Nat.{mod-lt, dvd-mul_left, dvd-mul_right, dvd_of_mul-dvd-mul_left, dvd_of_mul-dvd-mul_right, mul-dvd-mul_left, mul-dvd-mul_right, pos_of_dvd_of_pos, mul_comm, eq-or-lt_of_le, mul-div_cancel', eq_of_mul-eq-mul_left, eq_of_mul-eq-mul_right, zero-dvd, eq-zero_of_zero-dvd}
+use Rattle.std.proofs.lemmas.Nat.Gcd.{IsGcd-from_zero, IsGcd-from_mod, IsGcd-swap, same_from_IsGcd, dvd-zero, dvd_trans, dvd_antisymm, le_of_dvd, dvd_of_mod-eq-zero, mod-eq-zero_of_dvd}
+use Rattle.std.proofs.Math.Nat.{mod-lt, dvd-mul_left, dvd-mul_right, dvd_of_mul-dvd-mul_left, mul-dvd-mul_left, pos_of_dvd_of_pos, mul_comm, eq-or-lt_of_le, mul-div_cancel', div-mul_cancel, eq_of_mul-eq-mul_left, eq_of_mul-eq-mul_right, eq-zero_of_zero-dvd, eq-one_of_dvd-one}
 use borrow.Author.Tests.{eqb-true}
 use Rattle.um_frac.specs.Gcd.{gcd, greatest_divisor, divides_both}
 
@@ -101,6 +101,11 @@ gcd-div a b up =
     eq_of_mul-eq-mul_left (gcd a b) up (gcd (a / gcd a b) (b / gcd a b)) 1
     (sym (gcd-mul (gcd a b) (a / gcd a b) (b / gcd a b) up) ∙ (λ i. gcd (first i) (second i)) ∙ omega arith)
 
+-- the greatest common divisor of two numbers that are not both 0 isn't 0
+pub gcd_above : (a b g : ℕ) → g ≡ gcd a b → 0 < a + b → 0 < g
+gcd_above a b zero e h = absurd (let is = gcd-is a b in let first : a ≡ 0 = eq-zero_of_zero-dvd (subst (λ g. g ∣ a) (sym e) is.0) in let second : b ≡ 0 = eq-zero_of_zero-dvd (subst (λ g. g ∣ b) (sym e) is.1) in omega arith)
+gcd_above a b (suc g) e h = omega arith
+
 pub gcd_up : (a b : ℕ) → 0 < b → 0 < gcd a b
 gcd_up a b h = pos_of_dvd_of_pos (gcd-is a b).1 h
 
@@ -112,10 +117,34 @@ same_terms p q r s e f up cross =
     let same : q ≡ s = dvd_antisymm into back in
     (eq_of_mul-eq-mul_right q up p r (ap (λ n. p * n) same ∙ cross), same)
 
-factor_up : (g e d : ℕ) → g * e ≡ d → 0 < d → 0 < e
+-- a divisor's quotient divides
+pub part_divides : (g n : ℕ) → g ∣ n → (n / g) ∣ n
+part_divides g n h = subst (λ k. (n / g) ∣ k) (div-mul_cancel g h) (dvd-mul_right (n / g) g)
+
+pub factor_up : (g e d : ℕ) → g * e ≡ d → 0 < d → 0 < e
 factor_up g zero d e h = absurd (omega arith)
 factor_up g (suc e) d f h = omega arith
 
 -- the greatest common divisor is in a number above 0 at least once
 pub quotient_up : (a b : ℕ) → 0 < b → 0 < b / gcd a b
 quotient_up a b h = factor_up (gcd a b) (b / gcd a b) b (mul-div_cancel' (gcd a b) (gcd-is a b).1) h
+
+-- ---- numbers with no common divisor
+pub coprime_left : (a b c : ℕ) → gcd a b ≡ 1 → c ∣ a → gcd c b ≡ 1
+coprime_left a b c e h =
+    let is = gcd-is c b in
+    eq-one_of_dvd-one (subst (λ n. gcd c b ∣ n) e ((gcd-is a b).2 (gcd c b) (dvd_trans (gcd c b) is.0 h) is.1))
+
+pub coprime_right : (a b c : ℕ) → gcd a b ≡ 1 → c ∣ b → gcd a c ≡ 1
+coprime_right a b c e h = gcd_comm a c ∙ coprime_left b a c (gcd_comm b a ∙ e) h
+
+pub coprime_times : (a b c : ℕ) → gcd a b ≡ 1 → gcd a c ≡ 1 → gcd a (b * c) ≡ 1
+coprime_times a b c e f =
+    let is = gcd-is a (b * c) in
+    let apart : gcd (gcd a (b * c)) b ≡ 1 = coprime_left a b (gcd a (b * c)) e is.0 in
+    let into : gcd a (b * c) ∣ c = gauss (gcd a (b * c)) b c apart is.1 in
+    eq-one_of_dvd-one (subst (λ n. gcd a (b * c) ∣ n) f ((gcd-is a c).2 (gcd a (b * c)) is.0 into))
+
+pub coprime_products : (a b c d : ℕ) → gcd a c ≡ 1 → gcd a d ≡ 1 → gcd b c ≡ 1 → gcd b d ≡ 1 → gcd (a * b) (c * d) ≡ 1
+coprime_products a b c d e f g h =
+    gcd_comm (a * b) (c * d) ∙ coprime_times (c * d) a b (gcd_comm (c * d) a ∙ coprime_times a c d e f) (gcd_comm (c * d) b ∙ coprime_times b c d g h)

@@ -1,3 +1,6 @@
 pub mod Gcd
 pub mod Integers
 pub mod LowestTerms
+pub mod SumTerms
+pub mod ProductTerms
+pub mod Outcomes

@@ -1,12 +1,12 @@
 -- What `reduced` gives: exactly the fraction that is the quotient, where there is one.
-use Rattle.std.proofs.Common.{◌≡◌, ◌≢◌, ℕ, zero, suc, ◌+◌, ◌*◌, ◌/◌, ◌<◌, ◌≤◌, ◌==◌, Bool, true, false, T, ℤ, pos, negsuc, ◌+ℤ◌, ◌*ℤ◌, neg_ℤ, ◌≤ℤ◌, unsigned_abs, Option, None, Some, refl, sym, ap, subst, ◌∙◌, arith}
+use Rattle.std.proofs.Common.{◌≡◌, ◌≢◌, ℕ, zero, suc, ◌*◌, ◌/◌, ◌<◌, ◌≤◌, ◌==◌, Bool, true, false, T, ℤ, pos, negsuc, ◌*ℤ◌, neg_ℤ, ◌≤ℤ◌, unsigned_abs, FitsSigned, w64, to_z, of_z, Option, None, Some, refl, sym, ap, subst, ◌∙◌, arith}
 use Rattle.std.specs.Int.{◌∣◌}
 use Rattle.std.specs.Prelude.{int_le, int_lt, int_div, int_rem, not, nat_lt, IfSome, IsNone, ◌↔◌}
 use Rattle.std.proofs.lemmas.Bool.Decides.{nat_tests}
 use mathlib.Core.Bool.{beq}
-use Rattle.std.proofs.lemmas.Int.{ints, quot-rem, unsigned_abs-mul}
+use Rattle.std.proofs.lemmas.Int.{ints, quot-rem, unsigned_abs-mul, fits_signed_from_abs, to_z-of_z}
 use Rattle.std.proofs.lemmas.Nat.Gcd.{mod-eq-zero_of_dvd}
-use Rattle.std.proofs.Math.Nat.{mul-div_cancel', mul-pos, eq_of_mul-eq-mul_right, pos_of_dvd_of_pos, zero-div}
+use Rattle.std.proofs.Math.Nat.{mul-div_cancel', zero-div, mul_comm}
 use mathlib.Core.HLevel.{Σ_prop_path}
 use lib.Dec.{T_prop, eqb_refl}
 use lib.IntN.{*ℤ_comm, *ℤ-negsuc, neg_ℤ-neg_ℤ}
@@ -60,7 +60,7 @@ fraction-is r =
     holds_case (int_le (pos 1) r.den) _ r.positive.le ∙ holds_case (int_le r.den (pos 9223372036854775807)) _ r.den_fits.le ∙ holds_case (int_le (negsuc 9223372036854775806) r.num) _ r.above.le ∙ holds_case (int_le r.num (pos 9223372036854775807)) _ r.num_fits.le ∙ holds_case (gcd (unsigned_abs r.num) (unsigned_abs r.den) == 1) _ (subst (λ g. T (gcd (unsigned_abs r.num) (unsigned_abs r.den) == g)) r.lowest (eqb_refl (gcd (unsigned_abs r.num) (unsigned_abs r.den)))) ∙ ap Some (same_parts _ r refl refl)
 
 -- ---- `reduced`
-neg_abs : (z : ℤ) → unsigned_abs (neg_ℤ z) ≡ unsigned_abs z
+pub neg_abs : (z : ℤ) → unsigned_abs (neg_ℤ z) ≡ unsigned_abs z
 neg_abs (pos zero) = refl
 neg_abs (pos (suc n)) = refl
 neg_abs (negsuc n) = refl
@@ -107,7 +107,7 @@ reduced_terms n (negsuc d) other =
     (p, q, record { above = terms.above; lowest = terms.lowest; equal = *ℤ-negsuc p d ∙ ap neg_ℤ (terms.equal ∙ neg_times n (pos q)) ∙ neg_ℤ-neg_ℤ (n *ℤ pos q) }, refl)
 
 -- an integer above 0 is a number above 0
-above_zero : (z : ℤ) → pos 1 ≤ℤ z → (n : ℕ) × (z ≡ pos n) × (0 < n)
+pub above_zero : (z : ℤ) → pos 1 ≤ℤ z → (n : ℕ) × (z ≡ pos n) × (0 < n)
 above_zero (pos n) h = (n, refl, omega (arith, ints))
 above_zero (negsuc n) h = absurd (omega (arith, ints))
 
@@ -175,6 +175,18 @@ not_fits n d p q other terms none fit =
     let same = same_fraction n d p (numerator fit.0) q own.0 other terms own.2 in
     none fit.0 (sym same.0) (own.1 ∙ ap pos (sym same.1))
 
+-- terms of the quotient give what `reduced` gives
+pub reduced_is : (n d p : ℤ) (q : ℕ) → d ≢ pos 0 → AreTerms n d p q → reduced n d ≡ fraction p (pos q)
+reduced_is n d p q other terms =
+    let given = reduced_terms n d other in
+    let same = same_fraction n d given.0 p given.1 q other given.2 terms in given.3 ∙ (λ i. fraction (same.0 i) (pos (same.1 i)))
+
+-- quotients with equal cross products are one number
+pub reduced_same : (n d m e : ℤ) → d ≢ pos 0 → e ≢ pos 0 → n *ℤ e ≡ m *ℤ d → reduced n d ≡ reduced m e
+reduced_same n d m e other more same =
+    let given = reduced_terms m e more in
+    reduced_is n d given.0 given.1 other (record { above = given.2.above; lowest = given.2.lowest; equal = cross m e given.0 (pos given.1) n d more given.2.equal same }) ∙ sym given.3
+
 -- parts that no fraction of the range has make no fraction
 pub fraction_none : (p q : ℤ) → ((r : Frac) → numerator r ≡ p → denominator r ≡ q → ⊥) → fraction p q ≡ None
 fraction_none p q none = by_cases (fraction p q) refl
@@ -207,7 +219,7 @@ reduced-signed b n zero h = absurd (omega arith)
 reduced-signed b n (suc d) h =
     ap (λ m. fraction (int_div (signed b n) (pos (gcd m (suc d)))) (pos (suc d / gcd m (suc d)))) (signed_abs b n) ∙ ap (λ p. fraction p (pos (suc d / gcd n (suc d)))) (signed_div b n (gcd n (suc d)))
 
-below_none : (n : ℕ) → nat_lt n 0 ≡ false
+pub below_none : (n : ℕ) → nat_lt n 0 ≡ false
 below_none n = grind (arith, nat_tests)
 
 -- the sign of a quotient is a minus exactly where the signs of its terms differ
@@ -244,3 +256,43 @@ none_fits n d (Some r) e = ((λ h. cc), (λ h. absurd (let none = reduced_none n
 pub signed_from : (b : Bool) (n : ℕ) (z : ℤ) → (b ≡ true → z ≡ neg_ℤ (pos n)) → (b ≡ false → z ≡ pos n) → z ≡ signed b n
 signed_from false n z f g = g refl
 signed_from true n z f g = f refl
+
+pub signed_size : (z : ℤ) → signed (int_lt z (pos 0)) (unsigned_abs z) ≡ z
+signed_size (pos n) = ap (λ b. signed b n) (below_none n)
+signed_size (negsuc n) = refl
+
+pub signed_times : (b : Bool) (m n : ℕ) → signed b m *ℤ pos n ≡ signed b (m * n)
+signed_times false m n = refl
+signed_times true zero n = omega (arith, ints)
+signed_times true (suc m) n = omega (arith, ints)
+
+pub signed_mul : (b c : Bool) (m n : ℕ) → signed b m *ℤ signed c n ≡ signed (not (beq b c)) (m * n)
+signed_mul false false m n = refl
+signed_mul true false m n = signed_times true m n
+signed_mul false true m n = *ℤ_comm (pos m) (neg_ℤ (pos n)) ∙ signed_times true n m ∙ ap (λ k. neg_ℤ (pos k)) (mul_comm n m)
+signed_mul true true zero n = omega (arith, ints)
+signed_mul true true (suc m) zero = omega (arith, ints)
+signed_mul true true (suc m) (suc n) = refl
+
+-- ---- the parts of a fraction as machine numbers
+small_size : (z : ℤ) → negsuc 9223372036854775806 ≤ℤ z → z ≤ℤ pos 9223372036854775807 → unsigned_abs z ≤ 9223372036854775807
+small_size (pos n) low high = omega (arith, ints)
+small_size (negsuc n) low high = omega (arith, ints)
+
+pub num_size : (r : Frac) → unsigned_abs (numerator r) ≤ 9223372036854775807
+num_size r = small_size r.num r.above r.num_fits
+
+pub den_size : (r : Frac) → unsigned_abs (denominator r) ≤ 9223372036854775807
+den_size r = small_size r.den (let up = r.positive in omega (arith, ints)) r.den_fits
+
+pub num_wide : (r : Frac) → FitsSigned w64 (numerator r)
+num_wide r = let low = num_size r in fits_signed_from_abs w64 r.num (omega arith)
+
+pub den_wide : (r : Frac) → FitsSigned w64 (denominator r)
+den_wide r = let low = den_size r in fits_signed_from_abs w64 r.den (omega arith)
+
+pub num_read : (r : Frac) → to_z w64 (of_z w64 (numerator r)) ≡ numerator r
+num_read r = to_z-of_z w64 (numerator r) (num_wide r)
+
+pub den_read : (r : Frac) → to_z w64 (of_z w64 (denominator r)) ≡ denominator r
+den_read r = to_z-of_z w64 (denominator r) (den_wide r)

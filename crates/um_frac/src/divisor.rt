@@ -1,10 +1,11 @@
 //! Greatest common divisors, by Euclid's algorithm (Knuth, Seminumerical Algorithms, 4.5.2, Algorithm A).
-ghost use Rattle.std.specs.Prelude.{◌≡◌};
+ghost use Rattle.std.specs.Prelude.{◌≡◌, ◌+◌, ◌<◌};
 ghost use Rattle.um_frac.specs.Gcd.{gcd};
 
 // The greatest common divisor of two numbers of 64 bits.
 pub fn common_divisor(a: u64, b: u64) -> u64
-    ensures { result ≡ gcd a b }
+    ensures value { result ≡ gcd a b }
+    ensures positive { 0 < a + b → 0 < result }
 {
     let mut x = a;
     let mut y = b;
@@ -18,7 +19,8 @@ pub fn common_divisor(a: u64, b: u64) -> u64
 
 // The greatest common divisor of two numbers of 128 bits. It divides 128-bit numbers only while they need it.
 pub fn wide_common_divisor(a: u128, b: u128) -> u128
-    ensures { result ≡ gcd a b }
+    ensures value { result ≡ gcd a b }
+    ensures positive { 0 < a + b → 0 < result }
 {
     let mut x = a;
     let mut y = b;

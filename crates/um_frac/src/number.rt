@@ -1,7 +1,7 @@
-ghost use Rattle.std.specs.Prelude.{◌≡◌, ◌↔◌, ◌<◌, ℤ, pos, negsuc, ◌≤ℤ◌, unsigned_abs, IsTrue, IsNone, IfSome};
+ghost use Rattle.std.specs.Prelude.{◌≡◌, ◌≢◌, ◌↔◌, ◌<◌, ◌≤◌, ℤ, pos, negsuc, ◌≤ℤ◌, ◌<ℤ◌, ◌+ℤ◌, ◌*ℤ◌, unsigned_abs, IsTrue, IsNone, IfSome, IfOk};
 ghost use Rattle.um_frac.specs.Gcd.{gcd};
 
-use crate::divisor::wide_common_divisor;
+use crate::divisor::{common_divisor, wide_common_divisor};
 
 // The greatest numerator and the greatest denominator.
 const GREATEST: u128 = i64::MAX as u128;
@@ -31,7 +31,8 @@ pub struct Frac {
 }
 
 impl Frac {
-    ghost use Rattle.um_frac.specs.Fraction.{numerator, denominator, signed, fraction, reduced, IsQuotient, Fits};
+    ghost use Rattle.um_frac.specs.Fraction.{numerator, denominator, reduced, IsQuotient, Fits};
+    ghost use Rattle.um_frac.specs.Arithmetic.{sum_of, difference_of, product_of, quotient_of, is_less, is_same, IsSum, IsDifference, IsProduct, IsRatio, IsNegative};
 
     /// The number 0.
     pub fn zero() -> Frac
@@ -76,12 +77,91 @@ impl Frac {
         self.den
     }
 
+    /// The sum, or `Overflow` exactly where it is out of range.
+    pub fn add(self, other: Frac) -> Result<Frac, Trap>
+        ensures value { result ≡ sum_of self other }
+        ensures exact { IfOk result (λ r. IsSum r self other) }
+        ensures overflow { (result ≡ Err Trap.Overflow) ↔ ((r : Frac) → ¬ IsSum r self other) }
+        ensures defined { result ≢ Err Trap.DivZero }
+    {
+        if self.den == 1 && other.den == 1 {
+            return Frac::whole(self.num as i128 + other.num as i128);
+        }
+        Frac::sum_of_parts(self.num, self.den as u64, other.num, other.den as u64).ok_or(
+            Trap::Overflow,
+        )
+    }
+
+    /// The difference `self - other`, or `Overflow` exactly where it is out of range.
+    pub fn sub(self, other: Frac) -> Result<Frac, Trap>
+        ensures value { result ≡ difference_of self other }
+        ensures exact { IfOk result (λ r. IsDifference r self other) }
+        ensures overflow { (result ≡ Err Trap.Overflow) ↔ ((r : Frac) → ¬ IsDifference r self other) }
+        ensures defined { result ≢ Err Trap.DivZero }
+    {
+        self.add(other.neg())
+    }
+
+    /// The product, or `Overflow` exactly where it is out of range.
+    pub fn mul(self, other: Frac) -> Result<Frac, Trap>
+        ensures value { result ≡ product_of self other }
+        ensures exact { IfOk result (λ r. IsProduct r self other) }
+        ensures overflow { (result ≡ Err Trap.Overflow) ↔ ((r : Frac) → ¬ IsProduct r self other) }
+        ensures defined { result ≢ Err Trap.DivZero }
+    {
+        if self.den == 1 && other.den == 1 {
+            return Frac::whole(self.num as i128 * other.num as i128);
+        }
+        Frac::product_of_parts(self.num, self.den as u64, other.num, other.den as u64).ok_or(
+            Trap::Overflow,
+        )
+    }
+
+    /// The quotient `self / other`: `DivZero` exactly where `other` is 0, and else `Overflow` exactly where the quotient
+    /// is out of range.
+    pub fn div(self, other: Frac) -> Result<Frac, Trap>
+        ensures value { result ≡ quotient_of self other }
+        ensures exact { IfOk result (λ r. IsRatio r self other) }
+        ensures zero { (result ≡ Err Trap.DivZero) ↔ (numerator other ≡ pos 0) }
+        ensures overflow { (result ≡ Err Trap.Overflow) ↔ ((numerator other ≢ pos 0) × ((r : Frac) → ¬ IsRatio r self other)) }
+    {
+        if other.num == 0 {
+            return Err(Trap::DivZero);
+        }
+        self.mul(other.reciprocal())
+    }
+
+    /// The number with the other sign, which is always in range.
+    pub fn neg(self) -> Frac
+        ensures { IsNegative result self }
+    {
+        Frac {
+            num: -self.num,
+            den: self.den,
+        }
+    }
+
+    /// Whether the number is less than the other.
+    pub fn less(self, other: Frac) -> bool
+        ensures value { result ≡ is_less self other }
+        ensures order { IsTrue result ↔ ((numerator self *ℤ denominator other) <ℤ (numerator other *ℤ denominator self)) }
+    {
+        (self.num as i128) * (other.den as i128) < (other.num as i128) * (self.den as i128)
+    }
+
     /// Whether the two are the same rational number.
     pub fn same(self, other: Frac) -> bool
-        ensures { IsTrue result ↔ (self ≡ other) }
+        ensures value { result ≡ is_same self other }
+        ensures equal { IsTrue result ↔ (self ≡ other) }
     {
         self.num == other.num && self.den == other.den
     }
+}
+
+// How the operations come to lowest terms.
+impl Frac {
+    ghost use Rattle.um_frac.specs.Fraction.{numerator, denominator, signed, fraction, reduced, IsQuotient};
+    ghost use Rattle.um_frac.specs.Arithmetic.{exactly};
 
     // The quotient `above / below`, with a minus sign where `negative` is set, or `None` where it is out of range.
     fn quotient_of_sizes(negative: bool, above: u128, below: u128) -> Option<Frac>
@@ -109,4 +189,80 @@ impl Frac {
             den: den as i64,
         })
     }
+
+    // The whole number n.
+    fn whole(n: i128) -> Result<Frac, Trap>
+        ensures { result ≡ exactly n (pos 1) }
+    {
+        if n < -(i64::MAX as i128) || n > i64::MAX as i128 {
+            return Err(Trap::Overflow);
+        }
+        Ok(Frac {
+            num: n as i64,
+            den: 1,
+        })
+    }
+
+    // The sum of a / m and b / n, which are in lowest terms, or `None` where it is out of range. It comes to lowest terms by
+    // the greatest common divisor of the denominators, and the one that the sum may still have with it (Knuth,
+    // Seminumerical Algorithms, 4.5.1).
+    fn sum_of_parts(a: i64, m: u64, b: i64, n: u64) -> Option<Frac>
+        requires first_den { 0 < m }
+        requires second_den { 0 < n }
+        requires first_fits { m ≤ 9223372036854775807 }
+        requires second_fits { n ≤ 9223372036854775807 }
+        requires first { gcd (unsigned_abs a) m ≡ 1 }
+        requires second { gcd (unsigned_abs b) n ≡ 1 }
+        ensures { result ≡ reduced (a *ℤ pos n +ℤ b *ℤ pos m) (pos m *ℤ pos n) }
+    {
+        let common = common_divisor(m, n);
+        let own = m / common;
+        let above = cross_sum(a, n / common, b, own);
+        let size = above.unsigned_abs();
+        let rest = common_divisor(common, (size % common as u128) as u64);
+        Frac::in_range(
+            above < 0,
+            size / rest as u128,
+            own as u128 * (n / rest) as u128,
+        )
+    }
+
+    // The product of a / m and b / n, which are in lowest terms, or `None` where it is out of range. It is in lowest terms
+    // once the greatest common divisors are taken out crosswise (Knuth, Seminumerical Algorithms, 4.5.1).
+    fn product_of_parts(a: i64, m: u64, b: i64, n: u64) -> Option<Frac>
+        requires first_den { 0 < m }
+        requires second_den { 0 < n }
+        requires first { gcd (unsigned_abs a) m ≡ 1 }
+        requires second { gcd (unsigned_abs b) n ≡ 1 }
+        ensures { result ≡ reduced (a *ℤ b) (pos m *ℤ pos n) }
+    {
+        let own = a.unsigned_abs();
+        let others = b.unsigned_abs();
+        let left = common_divisor(own, n);
+        let right = common_divisor(others, m);
+        let size = (own / left) as u128 * (others / right) as u128;
+        let below = (m / right) as u128 * (n / left) as u128;
+        Frac::in_range((a < 0) != (b < 0), size, below)
+    }
+
+    // 1 / self, which is always in range.
+    fn reciprocal(self) -> Frac
+        requires { numerator self ≢ pos 0 }
+        ensures { IsQuotient result (denominator self) (numerator self) }
+    {
+        let num = if self.num < 0 { -self.den } else { self.den };
+        Frac {
+            num,
+            den: self.num.abs(),
+        }
+    }
+}
+
+// a * m + b * n, for two sizes of denominators.
+fn cross_sum(a: i64, m: u64, b: i64, n: u64) -> i128
+    requires first { m ≤ 9223372036854775807 }
+    requires second { n ≤ 9223372036854775807 }
+    ensures { result ≡ a *ℤ pos m +ℤ b *ℤ pos n }
+{
+    a as i128 * m as i128 + b as i128 * n as i128
 }
