@@ -8,7 +8,7 @@ use Rattle.um_units.specs.declared.Term.{Term}
 use Rattle.um_units.proofs.Integers.{*ℤ-+ℤ, +ℤ-*ℤ, *ℤ_assoc, *ℤ-eq-zero}
 use Rattle.um_units.specs.Atoms.{same_atom}
 use Rattle.um_units.specs.Terms.{weigh, indicator}
-use Rattle.um_units.specs.PowerMap.{PowerMap, product, weight, power_of, one, atom, mul, scale, pow, inv}
+use Rattle.um_units.specs.PowerMap.{PowerMap, weight, power_of, one, atom, mul, scale, pow, inv}
 use Rattle.um_units.proofs.Weights.{weigh-product, weigh-++}
 use Rattle.um_units.proofs.Equality.{same_unit, indicator-same, indicator-other}
 

@@ -1,15 +1,14 @@
 -- Units whose powers are in range.
-use Rattle.std.proofs.Common.{◌≡◌, ◌≢◌, ◌⊎◌, inl, inr, ℕ, ◌<◌, ◌≤◌, ◌&&◌, Bool, true, false, List, [], ◌∷◌, ℤ, pos, neg_ℤ, nat_abs, refl, sym, ap, ◌∙◌, subst, arith}
+use Rattle.std.proofs.Common.{◌≡◌, inl, inr, ◌<◌, ◌≤◌, true, false, List, [], ◌∷◌, ℤ, pos, neg_ℤ, nat_abs, refl, sym, ap, ◌∙◌, subst, arith}
 use Rattle.std.specs.Prelude.{IsTrue, IsFalse}
-use Rattle.std.specs.List.{list_all}
-use Rattle.std.proofs.lemmas.Bool.{and_parts, and_from, and_cases, cases_Bool, le-leb, leb-true, leb-false, true_from_ne_false, false_from_ne_true}
+use Rattle.std.proofs.lemmas.Bool.{and_parts, and_cases, leb-true, leb-false, true_from_ne_false, false_from_ne_true}
 use Rattle.std.proofs.lemmas.Int.{ints}
 use Rattle.um_units.specs.declared.Atom.{Atom}
 use Rattle.um_units.specs.declared.Term.{Term}
 use Rattle.um_units.specs.Atoms.{same_atom}
 use Rattle.um_units.specs.Terms.{indicator, power_in, is_normal}
 use Rattle.um_units.specs.NormalForm.{head_below, tail_normal, same_atom-eq}
-use Rattle.um_units.specs.PowerMap.{PowerMap, product, power_of, one, atom, inv}
+use Rattle.um_units.specs.PowerMap.{PowerMap, product, power_of, one, inv}
 use Rattle.um_units.specs.Range.{in_range, all_in_range, fits, IsKept}
 use Rattle.um_units.proofs.Equality.{product-normal, power_in-below, power_in-head, power_in-tail}
 use Rattle.um_units.proofs.Group.{weight-one, weight-inv}

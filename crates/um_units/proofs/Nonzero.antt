@@ -25,7 +25,7 @@ below-nonzero : (x : Atom) (ts : List Term) → IsTrue (is_below x ts) → IsTru
 below-nonzero x [] h = refl
 below-nonzero x (t ∷ ts) h = let p = and_parts (is_before x t.atom) (is_below x ts) h in below-unless_zero x t (nonzero ts) p.0 (below-nonzero x ts p.1)
 
-below-scale : (k : ℤ) (x : Atom) (ts : List Term) → IsTrue (is_below x ts) → IsTrue (is_below x (map (scale k) ts))
+pub below-scale : (k : ℤ) (x : Atom) (ts : List Term) → IsTrue (is_below x ts) → IsTrue (is_below x (map (scale k) ts))
 below-scale k x [] h = refl
 below-scale k x (t ∷ ts) h = let p = and_parts (is_before x t.atom) (is_below x ts) h in and_from _ _ p.0 (below-scale k x ts p.1)
 

@@ -1,33 +1,31 @@
 -- The laws of replacements: a replacement is a homomorphism, and replacements compose.
 -- Source: Kennedy (1996), chapter 3: substitutions of units for unit variables.
-use Rattle.std.proofs.Common.{◌≡◌, ◌≢◌, ℕ, ◌<◌, Bool, true, false, List, [], ◌∷◌, ◌++◌, map, get_or, length, ℤ, pos, negsuc, ◌+ℤ◌, ◌*ℤ◌, refl, sym, ap, ◌∙◌, subst, arith}
+use Rattle.std.proofs.Common.{◌≡◌, ◌≢◌, ℕ, ◌<◌, true, false, List, [], ◌∷◌, map, length, ℤ, pos, negsuc, ◌+ℤ◌, ◌*ℤ◌, refl, sym, ap, ◌∙◌, arith}
 use Rattle.std.specs.Prelude.{IsTrue}
-use Rattle.std.specs.List.{flat_map}
 use Rattle.std.proofs.lemmas.Int.{ints}
 use Rattle.std.proofs.lemmas.List.{get_or-map}
 use Rattle.um_units.specs.declared.Atom.{Atom}
 use Rattle.um_units.specs.declared.Atom.TheVariants.{Base, Var}
 use Rattle.um_units.specs.declared.Term.{Term}
 use Rattle.um_units.specs.Atoms.{same_atom}
-use Rattle.um_units.specs.Terms.{weigh, indicator, power_in, is_zero, is_normal, is_below}
+use Rattle.um_units.specs.Terms.{weigh, indicator, power_in, is_zero, is_normal}
 use Rattle.um_units.specs.NormalForm.{head_nonzero, head_below, tail_normal, same_atom-eq}
-use Rattle.um_units.specs.PowerMap.{PowerMap, product, weight, power_of, one, atom, mul, scale, pow, inv, image, replace, nth}
+use Rattle.um_units.specs.PowerMap.{PowerMap, weight, power_of, one, atom, mul, scale, pow, inv, image, images, replace, nth}
 use Rattle.um_units.specs.Variables.{IsClosed, VariablesBelow}
 use Rattle.um_units.proofs.Weights.{weigh-product, weigh-++, weigh_alike}
 use Rattle.um_units.proofs.Equality.{same_unit, power_in-below, power_in-head, power_in-tail}
-use Rattle.um_units.proofs.Group.{weigh-scale, weight-one, weight-atom, weight-mul, weight-pow, weight-inv}
+use Rattle.um_units.proofs.Group.{weigh-scale, weight-one, weight-atom, weight-mul, weight-pow}
 
 -- ---- a linear functional at a replaced unit
-weigh-images : (f : Atom → ℤ) (s : ℕ → PowerMap) (ts : List Term) → weigh f (flat_map (λ t. map (scale t.power) (image s t.atom).terms) ts) ≡ weigh (λ x. weight f (image s x)) ts
+pub weigh-images : (f : Atom → ℤ) (s : ℕ → PowerMap) (ts : List Term) → weigh f (images s ts) ≡ weigh (λ x. weight f (image s x)) ts
 weigh-images f s [] = refl
 weigh-images f s (t ∷ ts) =
-    let images = flat_map (λ (t : Term). map (scale t.power) (image s t.atom).terms) ts in
-    weigh-++ f (map (scale t.power) (image s t.atom).terms) images
-    ∙ ap (λ n. n +ℤ weigh f images) (weigh-scale f t.power (image s t.atom).terms)
+    weigh-++ f (map (scale t.power) (image s t.atom).terms) (images s ts)
+    ∙ ap (λ n. n +ℤ weigh f (images s ts)) (weigh-scale f t.power (image s t.atom).terms)
     ∙ ap (λ n. t.power *ℤ weight f (image s t.atom) +ℤ n) (weigh-images f s ts)
 
 pub weight-replace : (f : Atom → ℤ) (s : ℕ → PowerMap) (u : PowerMap) → weight f (replace s u) ≡ weight (λ x. weight f (image s x)) u
-weight-replace f s u = weigh-product f (flat_map (λ t. map (scale t.power) (image s t.atom).terms) u.terms) ∙ weigh-images f s u.terms
+weight-replace f s u = weigh-product f (images s u.terms) ∙ weigh-images f s u.terms
 
 -- ---- a homomorphism
 pub replace-one : (s : ℕ → PowerMap) → replace s one ≡ one
@@ -92,6 +90,7 @@ weigh_held f g (t ∷ ts) n same =
   where
     head_held : power_in (t ∷ ts) t.atom ≡ pos 0 → ⊥
     head_held e = let z : is_zero t.power ≡ true = ap is_zero (sym (power_in-head t ts (head_below t ts n)) ∙ e) in let f = head_nonzero t ts n in cc
+
     tail_held : (x : Atom) → (power_in ts x ≡ pos 0 → ⊥) → power_in (t ∷ ts) x ≡ pos 0 → ⊥
     tail_held x h e =
         elim (same_atom x t.atom) as (λ b. same_atom x t.atom ≡ b → ⊥) [

@@ -1,19 +1,20 @@
 -- The variables of the results.
-use Rattle.std.proofs.Common.{◌≡◌, ◌≢◌, ◌⊎◌, inl, inr, ℕ, ◌<◌, ◌≤◌, ◌+◌, Bool, true, false, List, [], ◌∷◌, ℤ, pos, ◌+ℤ◌, ◌*ℤ◌, refl, sym, ap, ◌∙◌, arith}
-use Rattle.std.proofs.lemmas.Int.{ints}
-use Rattle.std.proofs.lemmas.Bool.{cases_eq, cases_lt, ne_eqb}
+use Rattle.std.proofs.Common.{◌≡◌, ◌≢◌, inl, inr, ℕ, ◌<◌, ◌≤◌, ◌+◌, true, false, List, [], ◌∷◌, ℤ, pos, ◌+ℤ◌, ◌*ℤ◌, refl, sym, ap, ◌∙◌, arith}
+use Rattle.std.specs.Prelude.{IsTrue}
+use Rattle.std.proofs.lemmas.Bool.{cases_eq, cases_lt, ne_eqb, lt-ltb, and_from}
 use Rattle.std.proofs.Math.IntN.{*ℤ-zero}
 use Rattle.um_units.specs.declared.Atom.{Atom}
 use Rattle.um_units.specs.declared.Atom.TheVariants.{Base, Var}
 use Rattle.um_units.specs.Atoms.{same_atom}
 use Rattle.um_units.specs.declared.Term.{Term}
-use Rattle.um_units.specs.Terms.{weigh, indicator}
+use Rattle.um_units.specs.Terms.{weigh, indicator, power_in, is_zero, is_normal, atom_below, variables_below}
+use Rattle.um_units.specs.NormalForm.{same_atom-eq, head_nonzero, head_below, tail_normal}
 use Rattle.um_units.proofs.Integers.{zero_cases}
-use Rattle.um_units.proofs.Equality.{tail_only}
-use Rattle.um_units.specs.PowerMap.{PowerMap, power_of, weight, one, atom, mul, pow, inv, image, replace, nth}
+use Rattle.um_units.proofs.Equality.{tail_only, power_in-below, power_in-head, power_in-tail}
+use Rattle.um_units.specs.PowerMap.{PowerMap, power_of, one, atom, mul, pow, image, replace}
 use Rattle.um_units.specs.Variables.{IsClosed, VariablesBelow}
 use Rattle.um_units.proofs.Group.{weight-one, weight-mul, weight-pow, power_of-other_atom}
-use Rattle.um_units.proofs.Replacement.{weight-replace, weight_held, replace-closed}
+use Rattle.um_units.proofs.Replacement.{weight-replace, weight_held}
 
 -- ---- closed units
 pub closed-one : IsClosed one
@@ -63,9 +64,32 @@ below-replace n s u below k ne =
     weigh-zero : (ts : List Term) → weigh (λ _. pos 0) ts ≡ pos 0
     weigh-zero [] = refl
     weigh-zero (t ∷ ts) = ap (λ z. t.power *ℤ pos 0 +ℤ z) (weigh-zero ts) ∙ tail_only t.power (pos 0)
+
     at : (k : ℕ) → n ≤ k → (x : Atom) → power_of u x ≢ pos 0 → power_of (image s x) (Var k) ≡ pos 0
     at k l (Base m) held = closed-base m k
     at k l (Var j) held = elim (zero_cases (power_of (s j) (Var k))) [ inl e ↦ e | inr h ↦ absurd (let i = below j held k h in omega (arith, i, l)) ]
 
 pub closed-replace : (s : ℕ → PowerMap) (u : PowerMap) → ((j : ℕ) → power_of u (Var j) ≢ pos 0 → IsClosed (s j)) → IsClosed (replace s u)
 closed-replace s u closed = below-zero (replace s u) (below-replace 0 s u (λ j h. closed-below 0 (s j) (closed j h)))
+
+-- ---- the variables of the terms
+terms_below : (n : ℕ) (ts : List Term) → IsTrue (is_normal ts) → ((k : ℕ) → power_in ts (Var k) ≢ pos 0 → k < n) → IsTrue (variables_below n ts)
+terms_below n [] h below = refl
+terms_below n (t ∷ ts) h below = and_from _ _ (at t.atom refl) (terms_below n ts (tail_normal t ts h) (λ k ne. below k (λ e. ne (tail_zero k e))))
+  where
+    held : (x : Atom) → t.atom ≡ x → power_in (t ∷ ts) x ≡ pos 0 → ⊥
+    held x q e = let z : is_zero t.power ≡ true = ap is_zero (sym (power_in-head t ts (head_below t ts h)) ∙ ap (power_in (t ∷ ts)) q ∙ e) in let f = head_nonzero t ts h in cc
+
+    at : (x : Atom) → t.atom ≡ x → IsTrue (atom_below n x)
+    at (Base m) q = refl
+    at (Var k) q = lt-ltb k n (below k (held (Var k) q))
+
+    tail_zero : (k : ℕ) → power_in (t ∷ ts) (Var k) ≡ pos 0 → power_in ts (Var k) ≡ pos 0
+    tail_zero k e =
+        elim (same_atom (Var k) t.atom) as (λ b. same_atom (Var k) t.atom ≡ b → power_in ts (Var k) ≡ pos 0) [
+          | true ↦ λ s. ap (power_in ts) (same_atom-eq (Var k) t.atom s) ∙ power_in-below t.atom ts (head_below t ts h)
+          | false ↦ λ s. sym (power_in-tail t ts (Var k) s) ∙ e
+        ] refl
+
+pub variables_below-terms : (n : ℕ) (u : PowerMap) → VariablesBelow n u → IsTrue (variables_below n u.terms)
+variables_below-terms n u below = terms_below n u.terms u.normal below

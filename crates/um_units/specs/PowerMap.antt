@@ -57,9 +57,13 @@ abbrev pub image : (ℕ → PowerMap) → Atom → PowerMap
 image s (Base n) = atom (Base n)
 image s (Var n) = s n
 
+-- what is put for each term, to its power, one after another
+abbrev pub images : (ℕ → PowerMap) → List Term → List Term
+images s = flat_map (λ t. map (scale t.power) (image s t.atom).terms)
+
 -- the unit in which s k is put for each variable k
 abbrev pub replace : (ℕ → PowerMap) → PowerMap → PowerMap
-replace s u = product (flat_map (λ t. map (scale t.power) (image s t.atom).terms) u.terms)
+replace s u = product (images s u.terms)
 
 -- the replacement by a list: its k-th unit for variable k, and each other variable for itself
 abbrev pub nth : List PowerMap → ℕ → PowerMap

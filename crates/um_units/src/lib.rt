@@ -1,16 +1,18 @@
 //! Units of measure as products of powers of base units and unit variables.
 #![tactic(auto)]
 
-ghost use Rattle.std.specs.Prelude.{◌≡◌, ◌↔◌, IfOk, IsTrue};
-ghost use Rattle.um_units.specs.PowerMap.{one, atom, mul, pow, power_of, product};
-ghost use Rattle.um_units.specs.Range.{fits, RangeUnless};
+ghost use Rattle.std.specs.Prelude.{◌≡◌, ◌↔◌, IfOk, IsTrue, length, map, negsuc};
+ghost use Rattle.um_units.specs.PowerMap.{one, atom, mul, inv, pow, power_of, product, replace, nth, scale};
+ghost use Rattle.um_units.specs.Range.{all_in_range, fits, RangeUnless};
 ghost use Rattle.um_units.specs.Terms.{is_normal};
+ghost use Rattle.um_units.specs.Variables.{VariablesBelow};
 ghost use Rattle.um_units.specs.Wide.{as_terms};
 
 use std::alloc::{AllocError, AllocFailed, Global};
 use std::marker::Model;
 use thiserror::Error;
 
+mod images;
 mod wide;
 
 use wide::WideTerm;
@@ -165,6 +167,39 @@ impl Unit {
         Unit::of_sum(alloc, &sum)
     }
 
+    /// The inverse.
+    pub fn inv(&self, alloc: Global) -> Result<Unit, NoMemory>
+        ensures exact { IfOk result (λ unit. unit ≡ inv self.now) }
+        ensures fits { IsTrue (fits (inv self.now)) }
+    {
+        let terms = inverted(alloc, &self.terms)?;
+        Ok(Unit { terms })
+    }
+
+    /// The k-th power.
+    ///
+    /// Range comes exactly where a power of the result is out of range.
+    pub fn pow(&self, alloc: Global, k: i32) -> Result<Unit, UnitStop>
+        ensures exact { IfOk result (λ unit. unit ≡ pow self.now k) }
+        ensures range { RangeUnless result (fits (pow self.now k)) }
+    {
+        let sum = wide::scaled(alloc, &self.terms, k)?;
+        Unit::of_sum(alloc, &sum)
+    }
+
+    /// The unit with `by[k]` put for each variable k. Base units stay.
+    ///
+    /// Range comes exactly where a power of the result is out of range, however large powers are on the way. With
+    /// m terms in the unit and n terms in all the units that are put in, it takes about n log m steps.
+    pub fn replace(&self, alloc: Global, by: &[Unit]) -> Result<Unit, UnitStop>
+        requires { VariablesBelow (length by.now) self.now }
+        ensures exact { IfOk result (λ unit. unit ≡ replace (nth by.now) self.now) }
+        ensures range { RangeUnless result (fits (replace (nth by.now) self.now)) }
+    {
+        let sum = images::images(alloc, &self.terms, by)?;
+        Unit::of_sum(alloc, &sum)
+    }
+
     fn of_sum(alloc: Global, sum: &[WideTerm]) -> Result<Unit, UnitStop>
         requires { IsTrue (is_normal (as_terms sum.now)) }
         ensures exact { IfOk result (λ unit. unit ≡ product (as_terms sum.now)) }
@@ -172,5 +207,73 @@ impl Unit {
     {
         let terms = wide::narrowed(alloc, sum)?;
         Ok(Unit { terms })
+    }
+}
+
+/// The terms with each power negated.
+fn inverted(alloc: Global, terms: &[Term]) -> Result<Vec<Term>, AllocError>
+    requires { IsTrue (all_in_range terms.now) }
+    ensures { IfOk result (λ v. v.items ≡ map (scale (negsuc 0)) terms.now) }
+{
+    let mut out = Vec::new(alloc);
+    for term in terms {
+        out.push(Term {
+            atom: term.atom,
+            power: -term.power,
+        })?;
+    }
+    Ok(out)
+}
+
+/// A list of units.
+#[derive(Drop)]
+pub struct Units {
+    items: Vec<Unit>,
+}
+
+impl Model for Units {
+    ghost use Rattle.std.specs.Prelude.{List};
+    ghost use Rattle.std.specs.Coded.{coded_list};
+    ghost use Rattle.um_units.specs.PowerMap.{PowerMap, power_map_code};
+
+    ghost Value = { List PowerMap };
+
+    ghost coded = { coded_list power_map_code };
+
+    ghost view = { λ units. units.items.items };
+}
+
+impl Units {
+    /// The list of the units. Takes no memory.
+    pub fn from_vec(items: Vec<Unit>) -> Units
+        ensures { result ≡ items.items }
+    {
+        Units { items }
+    }
+
+    /// The units, in order. Takes no memory.
+    pub fn into_vec(self) -> Vec<Unit>
+        ensures { result.items ≡ self }
+    {
+        let Units { items } = self;
+        items
+    }
+
+    /// The units, in order.
+    pub fn as_slice(&self) -> &[Unit]
+        ensures { result.now ≡ self.now }
+    {
+        &self.items
+    }
+
+    /// An equal list.
+    pub fn copy(&self, alloc: Global) -> Result<Units, NoMemory>
+        ensures { IfOk result (λ units. units ≡ self.now) }
+    {
+        let mut items = Vec::new(alloc);
+        for unit in &self.items {
+            items.push(unit.copy(alloc)?)?;
+        }
+        Ok(Units { items })
     }
 }
