@@ -1,0 +1,4 @@
+pub mod Statuses
+pub mod Serving
+pub mod Complete
+pub mod Products

@@ -19,9 +19,9 @@ IsNotBuilt text status = IsReply text status (line (codes "error 18: not built")
 
 -- the schemes of the functions, where no power passes its range
 unfoldable pub SchemesAnswer : ProgramTree → List ℕ → Status → Type 0
-SchemesAnswer program text status = Cases (ProgramFits program → ⊥)
-    (IsNotBuilt text status)
+SchemesAnswer program text status = Cases (ProgramFits program)
     (IsSchemesText program text × (status ≡ Done))
+    (IsNotBuilt text status)
 
 -- the program that the text spells
 unfoldable pub ProgramAnswer : Order → List ℕ → List ℕ → Status → Type 0

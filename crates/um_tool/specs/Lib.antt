@@ -3,6 +3,7 @@ pub mod Orders
 pub mod Steps
 pub mod UnitText
 pub mod Range
+pub mod Product
 pub mod SchemeText
 pub mod Answer
 pub mod Served

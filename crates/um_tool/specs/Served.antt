@@ -59,3 +59,10 @@ pub record IsComplete (words : List (List ℕ)) (bytes : List ℕ) : Type 0 wher
   pub program : ProgramTree
   pub spelled : IsProductProgram bytes program
   pub fits : (p : ProgramTree) → IsProductProgram bytes p → ProgramFits p
+
+-- the source's bytes go through, and it met no fault
+pub record IsUndisturbed (words : List (List ℕ)) (left : Option (List ℕ)) (before now : ℕ) : Type 0 where
+  pub bytes : List ℕ
+  pub told : left ≡ Some bytes
+  pub complete : IsComplete words bytes
+  pub calm : Rose before now → ⊥

@@ -16,7 +16,7 @@ pub(crate) fn schemes_text(
     requires { HasProductFunctions (program_tree program.now) }
     ensures { IfOk result (λ found. MatchOption found
         (ProgramFits (program_tree program.now) → ⊥)
-        (λ text. IsSchemesText (program_tree program.now) text.items)) }
+        (λ text. ProgramFits (program_tree program.now) × IsSchemesText (program_tree program.now) text.items)) }
 {
     Err(AllocError)
 }

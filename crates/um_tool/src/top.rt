@@ -1,7 +1,7 @@
 // The top call.
-ghost use Rattle.std.specs.Prelude.{◌≡◌, ◌≢◌, ◌⊎◌, ℕ, List, Some, IfOk, None};
+ghost use Rattle.std.specs.Prelude.{◌≡◌, ◌≢◌, IfOk};
 ghost use Rattle.um_wire.specs.Faults.{Rose};
-ghost use Rattle.um_tool.specs.Served.{IsComplete, IsPlanned, Reads, Serves};
+ghost use Rattle.um_tool.specs.Served.{IsPlanned, IsUndisturbed, Reads, Serves};
 
 use crate::answer::{Reply, answer_program, not_built, reply_line};
 use crate::order::names_unbuilt;
@@ -31,9 +31,8 @@ pub fn serve<S: Source, K: Sink>(
     ensures write_fault { result ≡ Status.WriteFault → Rose (K.faults sink.old) (K.faults sink.new) }
 
     // Where every step goes through and nothing fails, the order is done, or memory was wanting.
-    ensures complete { (bytes : List ℕ) → S.left source.old ≡ Some bytes → IsComplete words.now bytes
-        → ¬ (Rose (S.faults source.old) (S.faults source.new)) → ¬ (Rose (K.faults sink.old) (K.faults sink.new))
-        → (result ≡ Status.Done) ⊎ (result ≡ Status.NoMemory) }
+    ensures complete { IsUndisturbed words.now (S.left source.old) (S.faults source.old) (S.faults source.new)
+        → ¬ (Rose (K.faults sink.old) (K.faults sink.new)) → result ≢ Status.NoMemory → result ≡ Status.Done }
 
     // Words that ask for no read leave the source as it was.
     ensures unread { (Reads words.now → ⊥) → source.new ≡ source.old }
@@ -53,8 +52,8 @@ fn reply_to<S: Source>(alloc: Global, words: &Words, source: &mut S) -> Result<R
         (S.faults source.old) (S.faults source.new) reply.text.items reply.status) }
     ensures read_fault { IfOk result (λ reply. reply.status ≡ Status.ReadFault → Rose (S.faults source.old) (S.faults source.new)) }
     ensures not_write_fault { IfOk result (λ reply. reply.status ≢ Status.WriteFault) }
-    ensures complete { (bytes : List ℕ) → S.left source.old ≡ Some bytes → IsComplete words.now bytes
-        → ¬ (Rose (S.faults source.old) (S.faults source.new)) → IfOk result (λ reply. reply.status ≡ Status.Done) }
+    ensures complete { IfOk result (λ reply. IsUndisturbed words.now (S.left source.old) (S.faults source.old) (S.faults source.new)
+        → reply.status ≡ Status.Done) }
     ensures unread { (Reads words.now → ⊥) → source.new ≡ source.old }
 {
     if names_unbuilt(words) {

@@ -1,5 +1,5 @@
 -- Counts of faults. This project's own.
-use Rattle.std.specs.Prelude.{◌≡◌, ℕ, ◌+◌, ◌-◌, ◌^◌, ◌<◌, min, ◌⊎◌}
+use Rattle.std.specs.Prelude.{◌≡◌, ℕ, ◌+◌, ◌-◌, ◌^◌, ◌<◌, min, ◌≤◌}
 
 -- a count, one higher; at the greatest number of 64 bits it stands still
 abbrev pub next_count : ℕ → ℕ
@@ -7,4 +7,4 @@ next_count count = min (count + 1) (2 ^ 64 - 1)
 
 -- a count rose between two moments: it is greater now than before, or it stands at the greatest number of 64 bits
 abbrev pub Rose : ℕ → ℕ → Type 0
-Rose before now = (before < now) ⊎ (now ≡ 2 ^ 64 - 1)
+Rose before now = next_count before ≤ now
