@@ -1,8 +1,8 @@
 -- Two units are equal exactly where all their powers are.
-use Rattle.std.proofs.Common.{◌≡◌, ℕ, zero, suc, ◌+◌, ◌<◌, drop, get_or, length, true, false, List, [], ◌∷◌, ℤ, pos, ◌+ℤ◌, ◌*ℤ◌, refl, sym, ap, ◌∙◌, subst, inl, inr, arith}
+use Rattle.std.proofs.Common.{◌≡◌, true, false, cond, Some, None, List, [], ◌∷◌, ℤ, pos, ◌+ℤ◌, ◌*ℤ◌, refl, sym, ap, ◌∙◌, subst, inl, inr, arith}
 use Rattle.std.specs.Prelude.{IsTrue}
+use Rattle.std.specs.List.{find}
 use Rattle.std.proofs.lemmas.Int.{ints}
-use Rattle.std.proofs.lemmas.List.{drop_more}
 use Rattle.std.proofs.lemmas.Bool.{and_parts, and_from, cond-true, cond-false, ltb-true, false_from_ne_true}
 use Rattle.um_units.specs.declared.Atom.{Atom}
 use Rattle.um_units.specs.declared.Atom.TheVariants.{Base, Var}
@@ -51,21 +51,22 @@ power_in-head t ts h = ap (λ n. t.power *ℤ n +ℤ power_in ts t.atom) (indica
 pub power_in-tail : (t : Term) (ts : List Term) (x : Atom) → same_atom x t.atom ≡ false → power_in (t ∷ ts) x ≡ power_in ts x
 power_in-tail t ts x e = ap (λ n. t.power *ℤ n +ℤ power_in ts x) (indicator-other x t.atom e) ∙ tail_only t.power (power_in ts x)
 
-normal-drop : (i : ℕ) (ts : List Term) → IsTrue (is_normal ts) → IsTrue (is_normal (drop i ts))
-normal-drop zero ts h = h
-normal-drop (suc i) [] h = h
-normal-drop (suc i) (t ∷ ts) h = normal-drop i ts (tail_normal t ts h)
+-- the power of an atom is that of its term
+pub power_in-found : (x : Atom) (ts : List Term) → IsTrue (is_normal ts) → (t : Term) → find (λ s. same_atom x s.atom) ts ≡ Some t → power_in ts x ≡ t.power
+power_in-found x [] n t e = cc
+power_in-found x (s ∷ ts) n t e =
+    elim (same_atom x s.atom) as (λ b. same_atom x s.atom ≡ b → cond b (Some s) (find (λ s. same_atom x s.atom) ts) ≡ Some t → power_in (s ∷ ts) x ≡ t.power) [
+      | true ↦ λ h f. ap (power_in (s ∷ ts)) (same_atom-eq x s.atom h) ∙ power_in-head s ts (head_below s ts n) ∙ (let g : s ≡ t = cc f in ap (λ (r : Term). r.power) g)
+      | false ↦ λ h f. power_in-tail s ts x h ∙ power_in-found x ts (tail_normal s ts n) t f
+    ] refl e
 
--- the power at the place of an atom
-pub power_in-found : (ts : List Term) (i : ℕ) (d : Term) (x : Atom) → IsTrue (is_normal ts) → i < length ts → (get_or ts i d).atom ≡ x → power_in (drop i ts) x ≡ (get_or ts i d).power
-power_in-found ts i d x n h e =
-    let split = drop_more ts i d h in
-    let t = get_or ts i d in
-    ap (λ us. power_in us x) split ∙ ap (power_in (t ∷ drop (i + 1) ts)) (sym e) ∙ power_in-head t (drop (i + 1) ts) (head_below t (drop (i + 1) ts) (ap is_normal (sym split) ∙ normal-drop i ts n))
-
--- a place of another atom
-pub power_in-passed : (ts : List Term) (i : ℕ) (d : Term) (x : Atom) → i < length ts → same_atom x (get_or ts i d).atom ≡ false → power_in (drop (i + 1) ts) x ≡ power_in (drop i ts) x
-power_in-passed ts i d x h e = sym (ap (λ us. power_in us x) (drop_more ts i d h) ∙ power_in-tail (get_or ts i d) (drop (i + 1) ts) x e)
+pub power_in-none : (x : Atom) (ts : List Term) → find (λ s. same_atom x s.atom) ts ≡ None → power_in ts x ≡ pos 0
+power_in-none x [] e = refl
+power_in-none x (s ∷ ts) e =
+    elim (same_atom x s.atom) as (λ b. same_atom x s.atom ≡ b → cond b (Some s) (find (λ s. same_atom x s.atom) ts) ≡ None → power_in (s ∷ ts) x ≡ pos 0) [
+      | true ↦ λ h f. cc
+      | false ↦ λ h f. power_in-tail s ts x h ∙ power_in-none x ts f
+    ] refl e
 
 -- ---- equal powers, equal lists
 apart : (t : Term) (ts us : List Term) → IsTrue (is_normal (t ∷ ts)) → IsTrue (is_below t.atom us) → ((x : Atom) → power_in (t ∷ ts) x ≡ power_in us x) → ⊥

@@ -6,11 +6,10 @@ use Rattle.std.proofs.lemmas.Int.{ints}
 use Rattle.std.proofs.lemmas.List.Concat.{flat_map-append}
 use Rattle.std.proofs.lemmas.List.{take-append-drop}
 use Rattle.um_units.specs.declared.Atom.{Atom}
-use Rattle.um_units.specs.declared.Atom.TheVariants.{Base}
 use Rattle.um_units.specs.declared.Term.{Term}
 use Rattle.um_units.specs.Terms.{indicator, power_in, is_zero, is_normal}
 use Rattle.um_units.specs.NormalForm.{head_nonzero, head_below, tail_normal, cons_normal}
-use Rattle.um_units.specs.PowerMap.{PowerMap, product, mul, scale, pow, image, images}
+use Rattle.um_units.specs.PowerMap.{PowerMap, product, atom, mul, scale, pow, image, images}
 use Rattle.um_units.specs.Range.{in_range, all_in_range, IsKept}
 use Rattle.um_units.proofs.Weights.{zero_is, weigh-product, weigh-++}
 use Rattle.um_units.proofs.Equality.{product-of_terms, product-terms, product-normal, same_product}
@@ -63,5 +62,5 @@ pub images-none : (s : ℕ → PowerMap) (ts : List Term) → length ts < 1 → 
 images-none s [] h = sym (product-terms [])
 images-none s (t ∷ ts) h = absurd (omega arith)
 
-pub image-base : (s : ℕ → PowerMap) (x : Atom) (n : ℕ) → x ≡ Base n → (image s x).terms ≡ record { atom = x; power = pos 1 } ∷ []
-image-base s x n e = ap (λ y. (image s y).terms) e ∙ product-normal (record { atom = Base n; power = pos 1 } ∷ []) refl ∙ ap (λ y. record { atom = y; power = pos 1 } ∷ []) (sym e)
+pub terms-atom : (x : Atom) → (atom x).terms ≡ record { atom = x; power = pos 1 } ∷ []
+terms-atom x = product-normal (record { atom = x; power = pos 1 } ∷ []) refl

@@ -7,12 +7,12 @@ use Rattle.um_units.specs.declared.Atom.{Atom}
 use Rattle.um_units.specs.declared.Atom.TheVariants.{Base, Var}
 use Rattle.um_units.specs.Atoms.{same_atom}
 use Rattle.um_units.specs.declared.Term.{Term}
-use Rattle.um_units.specs.Terms.{weigh, indicator, power_in, is_zero, is_normal, atom_below, variables_below}
+use Rattle.um_units.specs.Terms.{weigh, indicator, power_in, is_zero, is_normal}
 use Rattle.um_units.specs.NormalForm.{same_atom-eq, head_nonzero, head_below, tail_normal}
 use Rattle.um_units.proofs.Integers.{zero_cases}
 use Rattle.um_units.proofs.Equality.{tail_only, power_in-below, power_in-head, power_in-tail}
 use Rattle.um_units.specs.PowerMap.{PowerMap, power_of, one, atom, mul, pow, image, replace}
-use Rattle.um_units.specs.Variables.{IsClosed, VariablesBelow}
+use Rattle.um_units.specs.Variables.{IsClosed, VariablesBelow, atom_below, variables_below}
 use Rattle.um_units.proofs.Group.{weight-one, weight-mul, weight-pow, power_of-other_atom}
 use Rattle.um_units.proofs.Replacement.{weight-replace, weight_held}
 
