@@ -27,6 +27,10 @@ weigh-images f s (t ∷ ts) =
 pub weight-replace : (f : Atom → ℤ) (s : ℕ → PowerMap) (u : PowerMap) → weight f (replace s u) ≡ weight (λ x. weight f (image s x)) u
 weight-replace f s u = weigh-product f (images s u.terms) ∙ weigh-images f s u.terms
 
+-- the power of an atom in a replaced unit
+pub power_of-replace : (s : ℕ → PowerMap) (u : PowerMap) (x : Atom) → power_of (replace s u) x ≡ weight (λ y. power_of (image s y) x) u
+power_of-replace s u x = weight-replace (indicator x) s u
+
 -- ---- a homomorphism
 pub replace-one : (s : ℕ → PowerMap) → replace s one ≡ one
 replace-one s = same_unit _ _ (λ x. weight-replace (indicator x) s one ∙ weight-one (λ y. power_of (image s y) x) ∙ sym (weight-one (indicator x)))

@@ -61,6 +61,3 @@ product-halves s ts front back ls rs n e f g h =
 pub images-none : (s : ℕ → PowerMap) (ts : List Term) → length ts < 1 → [] ≡ (product (images s ts)).terms
 images-none s [] h = sym (product-terms [])
 images-none s (t ∷ ts) h = absurd (omega arith)
-
-pub terms-atom : (x : Atom) → (atom x).terms ≡ record { atom = x; power = pos 1 } ∷ []
-terms-atom x = product-normal (record { atom = x; power = pos 1 } ∷ []) refl
