@@ -25,13 +25,13 @@ is_zero (pos n) = n == 0
 is_zero (negsuc n) = false
 
 -- each atom of the list comes after x
-abbrev pub is_below : Atom → List Term → Bool
-is_below x = list_all (λ t. is_before x t.atom)
+abbrev pub is_before_all : Atom → List Term → Bool
+is_before_all x = list_all (λ t. is_before x t.atom)
 
 -- the atoms rise, and no power is 0
 abbrev pub is_normal : List Term → Bool
 is_normal [] = true
-is_normal (t ∷ ts) = not (is_zero t.power) && (is_below t.atom ts && is_normal ts)
+is_normal (t ∷ ts) = not (is_zero t.power) && (is_before_all t.atom ts && is_normal ts)
 
 -- the term and the terms after it, where its power isn't 0
 abbrev pub unless_zero : Term → List Term → List Term

@@ -1,4 +1,4 @@
-//! What a replacement puts for the terms of a unit.
+//! Products of many terms, and of what a replacement puts for them.
 
 ghost use Rattle.std.specs.Prelude.{◌≡◌, ◌+◌, ◌*◌, ◌^◌, ◌≤◌, IfOk, length, map};
 ghost use Rattle.um_units.specs.PowerMap.{atom, product, scale, image, images, nth};
@@ -14,16 +14,16 @@ fn image(alloc: Global, term: Term, by: &[Unit]) -> Result<Vec<WideTerm>, AllocE
     ensures room { IfOk result (λ v. greatest v.items ≤ 2 ^ 62) }
 {
     match term.atom {
-        Atom::Base(_) => itself(alloc, term),
+        Atom::Base(_) => single_term(alloc, term),
         Atom::Var(k) => match by.get(k as usize) {
             Some(unit) => wide::scaled(alloc, unit.terms(), term.power),
-            None => itself(alloc, term),
+            None => single_term(alloc, term),
         },
     }
 }
 
 /// The term as a product of its own.
-fn itself(alloc: Global, term: Term) -> Result<Vec<WideTerm>, AllocError>
+fn single_term(alloc: Global, term: Term) -> Result<Vec<WideTerm>, AllocError>
     ensures power { IfOk result (λ v. as_terms v.items ≡ (product (map (scale term.power) (atom term.atom).terms)).terms) }
     ensures room { IfOk result (λ v. greatest v.items ≤ 2 ^ 62) }
 {
@@ -36,7 +36,7 @@ fn itself(alloc: Global, term: Term) -> Result<Vec<WideTerm>, AllocError>
 
 /// The product of what is put for the terms, by halves: a term of an image is merged once at each level, of which
 /// there are as many as the logarithm of the number of terms.
-pub fn images(alloc: Global, terms: &[Term], by: &[Unit]) -> Result<Vec<WideTerm>, AllocError>
+pub fn product(alloc: Global, terms: &[Term], by: &[Unit]) -> Result<Vec<WideTerm>, AllocError>
     ensures product { IfOk result (λ v. as_terms v.items ≡ (product (images (nth by.now) terms.now)).terms) }
     ensures room { IfOk result (λ v. greatest v.items ≤ length terms.now * 2 ^ 62) }
 {
@@ -45,8 +45,8 @@ pub fn images(alloc: Global, terms: &[Term], by: &[Unit]) -> Result<Vec<WideTerm
         [term] => image(alloc, *term, by),
         _ => {
             let (front, back) = terms.split_at(terms.len() / 2);
-            let left = images(alloc, front, by)?;
-            let right = images(alloc, back, by)?;
+            let left = product(alloc, front, by)?;
+            let right = product(alloc, back, by)?;
             wide::merged(alloc, &left, &right)
         }
     }

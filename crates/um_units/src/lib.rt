@@ -110,6 +110,18 @@ impl Unit {
         Ok(Unit { terms })
     }
 
+    /// The product of the terms, in which an atom may stand more than once, in any order.
+    ///
+    /// Range comes exactly where a power of the product is out of range, however large powers are on the way. It takes
+    /// about n log n steps for n terms.
+    pub fn from_terms(alloc: Global, terms: &[Term]) -> Result<Unit, UnitStop>
+        ensures exact { IfOk result (λ unit. unit ≡ product terms.now) }
+        ensures range { RangeUnless result (fits (product terms.now)) }
+    {
+        let sum = images::product(alloc, terms, &[])?;
+        Unit::of_sum(alloc, &sum)
+    }
+
     /// An equal unit.
     pub fn copy(&self, alloc: Global) -> Result<Unit, NoMemory>
         ensures same { IfOk result (λ unit. unit ≡ self.now) }
@@ -191,13 +203,13 @@ impl Unit {
 
     /// The unit with `by[k]` put for each variable k. Base units stay, and so does a variable that has no unit in `by`.
     ///
-    /// Range comes exactly where a power of the result is out of range, however large powers are on the way. With
-    /// m terms in the unit and n terms in all the units that are put in, it takes about n log m steps.
+    /// Range comes exactly where a power of the result is out of range, however large powers are on the way. It takes
+    /// about n log m steps for a unit of m terms for which n terms are put in.
     pub fn replace(&self, alloc: Global, by: &[Unit]) -> Result<Unit, UnitStop>
         ensures exact { IfOk result (λ unit. unit ≡ replace (nth by.now) self.now) }
         ensures range { RangeUnless result (fits (replace (nth by.now) self.now)) }
     {
-        let sum = images::images(alloc, &self.terms, by)?;
+        let sum = images::product(alloc, &self.terms, by)?;
         Unit::of_sum(alloc, &sum)
     }
 

@@ -1,7 +1,6 @@
 //! Worked examples: products of measures, both ends of the range, and each public call with ample memory.
 
 use crate::{Atom, Term, Unit, UnitStop, Units};
-use std::alloc::Global;
 use std::test::Fail;
 
 const M: Atom = Atom::Base(0);
@@ -18,15 +17,6 @@ const MAX: i32 = 2147483647;
 
 fn power(atom: Atom, power: i32) -> Term {
     Term { atom, power }
-}
-
-/// The product of the terms, in any order.
-fn unit(alloc: Global, terms: &[Term]) -> Result<Unit, UnitStop> {
-    let mut unit = Unit::one(alloc);
-    for term in terms {
-        unit = unit.mul_pow(alloc, &Unit::atom(alloc, term.atom)?, term.power)?;
-    }
-    Ok(unit)
 }
 
 /// Whether the answer has the terms, or Range where there are none to have.
@@ -94,8 +84,8 @@ fn products(rt: HostRuntime) -> Result<(), Fail> {
         (&[power(U, -MAX)], &[power(U, 1)], -1, None),
     ];
     for (left, right, k, want) in cases {
-        let left = unit(alloc, left)?;
-        let right = unit(alloc, right)?;
+        let left = Unit::from_terms(alloc, left)?;
+        let right = Unit::from_terms(alloc, right)?;
         let answer = left.mul_pow(alloc, &right, k);
         assert!(rt;
             answers(&answer, &want),
@@ -124,7 +114,7 @@ fn powers(rt: HostRuntime) -> Result<(), Fail> {
         (&[power(M, 1), power(U, 32768)], -65536, None),
     ];
     for (terms, k, want) in cases {
-        let base = unit(alloc, terms)?;
+        let base = Unit::from_terms(alloc, terms)?;
         let answer = base.pow(alloc, k);
         assert!(rt; answers(&answer, &want), "{base:?} {k}: {answer:?}");
     }
@@ -171,8 +161,11 @@ fn replacements(rt: HostRuntime) -> Result<(), Fail> {
         ),
     ];
     for (terms, first, second, want) in cases {
-        let before = unit(alloc, terms)?;
-        let by = [unit(alloc, first)?, unit(alloc, second)?];
+        let before = Unit::from_terms(alloc, terms)?;
+        let by = [
+            Unit::from_terms(alloc, first)?,
+            Unit::from_terms(alloc, second)?,
+        ];
         let answer = before.replace(alloc, &by);
         assert!(rt; answers(&answer, &want), "{before:?} {by:?}: {answer:?}");
     }
@@ -185,7 +178,7 @@ fn other_calls(rt: HostRuntime) -> Result<(), Fail> {
     let one = Unit::one(alloc);
     let metre = Unit::atom(alloc, M)?;
     let speed = metre.mul(alloc, &Unit::atom(alloc, S)?.inv(alloc)?)?;
-    let both_ends = unit(alloc, &[power(M, MAX), power(U, -MAX)])?;
+    let both_ends = Unit::from_terms(alloc, &[power(M, MAX), power(U, -MAX)])?;
     assert_eq!(rt; one.terms().len(), 0);
     assert_eq!(rt; metre.terms(), [power(M, 1)].as_slice());
     assert_eq!(rt; speed.terms(), [power(M, 1), power(S, -1)].as_slice());

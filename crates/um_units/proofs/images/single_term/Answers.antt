@@ -4,7 +4,7 @@ use Rattle.std.proofs.lemmas.Int.{to_z-of_z}
 use Rattle.um_units.specs.PowerMap.{product, scale}
 use Rattle.um_units.specs.Wide.{as_terms}
 use Rattle.um_units.proofs.Group.{terms-atom}
-use Rattle.um_units.proofs.images.itself.Goals as goal
+use Rattle.um_units.proofs.images.single_term.Goals as goal
 
 pub returns-clause-power : goal.returns-clause-power
 returns-clause-power c =
