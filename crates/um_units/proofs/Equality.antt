@@ -1,15 +1,15 @@
 -- Two units are equal exactly where all their powers are.
-use Rattle.std.proofs.Common.{◌≡◌, ℕ, zero, suc, ◌+◌, ◌<◌, drop, get_or, length, true, false, List, [], ◌∷◌, ℤ, pos, ◌+ℤ◌, ◌*ℤ◌, refl, sym, ap, ◌∙◌, subst, inl, inr, arith}
+use Rattle.std.proofs.Common.{◌≡◌, true, false, cond, Some, None, List, [], ◌∷◌, ℤ, pos, ◌+ℤ◌, ◌*ℤ◌, refl, sym, ap, ◌∙◌, subst, inl, inr, arith}
 use Rattle.std.specs.Prelude.{IsTrue}
+use Rattle.std.specs.List.{find}
 use Rattle.std.proofs.lemmas.Int.{ints}
-use Rattle.std.proofs.lemmas.List.{drop_more}
 use Rattle.std.proofs.lemmas.Bool.{and_parts, and_from, cond-true, cond-false, ltb-true, false_from_ne_true}
 use Rattle.um_units.specs.declared.Atom.{Atom}
 use Rattle.um_units.specs.declared.Atom.TheVariants.{Base, Var}
 use Rattle.um_units.specs.declared.Term.{Term}
 use Rattle.um_units.specs.Atoms.{is_before, same_atom}
-use Rattle.um_units.specs.Terms.{indicator, power_in, is_zero, is_below, is_normal, times_term, normal_form}
-use Rattle.um_units.specs.NormalForm.{atom_cases, same_atom-eq, same_atom_refl, below_trans, head_nonzero, head_below, tail_normal}
+use Rattle.um_units.specs.Terms.{indicator, power_in, is_zero, is_before_all, is_normal, times_term, normal_form}
+use Rattle.um_units.specs.NormalForm.{atom_cases, same_atom-eq, same_atom_refl, before_all_trans, head_nonzero, head_before_all, tail_normal}
 use Rattle.um_units.specs.PowerMap.{PowerMap, product, power_of, same_record}
 use Rattle.um_units.proofs.Weights.{weigh-product}
 
@@ -39,38 +39,39 @@ pub tail_only : (a b : ℤ) → a *ℤ pos 0 +ℤ b ≡ b
 tail_only a b = omega (arith, ints)
 
 -- no power below the list
-pub power_in-below : (x : Atom) (ts : List Term) → IsTrue (is_below x ts) → power_in ts x ≡ pos 0
-power_in-below x [] h = refl
-power_in-below x (t ∷ ts) h =
-    let parts = and_parts (is_before x t.atom) (is_below x ts) h in
-    ap (λ n. t.power *ℤ n +ℤ power_in ts x) (indicator-other x t.atom (before-not_same x t.atom parts.0)) ∙ tail_only t.power (power_in ts x) ∙ power_in-below x ts parts.1
+pub power_in-before_all : (x : Atom) (ts : List Term) → IsTrue (is_before_all x ts) → power_in ts x ≡ pos 0
+power_in-before_all x [] h = refl
+power_in-before_all x (t ∷ ts) h =
+    let parts = and_parts (is_before x t.atom) (is_before_all x ts) h in
+    ap (λ n. t.power *ℤ n +ℤ power_in ts x) (indicator-other x t.atom (before-not_same x t.atom parts.0)) ∙ tail_only t.power (power_in ts x) ∙ power_in-before_all x ts parts.1
 
-pub power_in-head : (t : Term) (ts : List Term) → IsTrue (is_below t.atom ts) → power_in (t ∷ ts) t.atom ≡ t.power
-power_in-head t ts h = ap (λ n. t.power *ℤ n +ℤ power_in ts t.atom) (indicator-same t.atom) ∙ head_only t.power (power_in ts t.atom) (power_in-below t.atom ts h)
+pub power_in-head : (t : Term) (ts : List Term) → IsTrue (is_before_all t.atom ts) → power_in (t ∷ ts) t.atom ≡ t.power
+power_in-head t ts h = ap (λ n. t.power *ℤ n +ℤ power_in ts t.atom) (indicator-same t.atom) ∙ head_only t.power (power_in ts t.atom) (power_in-before_all t.atom ts h)
 
 pub power_in-tail : (t : Term) (ts : List Term) (x : Atom) → same_atom x t.atom ≡ false → power_in (t ∷ ts) x ≡ power_in ts x
 power_in-tail t ts x e = ap (λ n. t.power *ℤ n +ℤ power_in ts x) (indicator-other x t.atom e) ∙ tail_only t.power (power_in ts x)
 
-normal-drop : (i : ℕ) (ts : List Term) → IsTrue (is_normal ts) → IsTrue (is_normal (drop i ts))
-normal-drop zero ts h = h
-normal-drop (suc i) [] h = h
-normal-drop (suc i) (t ∷ ts) h = normal-drop i ts (tail_normal t ts h)
+-- the power of an atom is that of its term
+pub power_in-found : (x : Atom) (ts : List Term) → IsTrue (is_normal ts) → (t : Term) → find (λ s. same_atom x s.atom) ts ≡ Some t → power_in ts x ≡ t.power
+power_in-found x [] n t e = cc
+power_in-found x (s ∷ ts) n t e =
+    elim (same_atom x s.atom) as (λ b. same_atom x s.atom ≡ b → cond b (Some s) (find (λ s. same_atom x s.atom) ts) ≡ Some t → power_in (s ∷ ts) x ≡ t.power) [
+      | true ↦ λ h f. ap (power_in (s ∷ ts)) (same_atom-eq x s.atom h) ∙ power_in-head s ts (head_before_all s ts n) ∙ (let g : s ≡ t = cc f in ap (λ (r : Term). r.power) g)
+      | false ↦ λ h f. power_in-tail s ts x h ∙ power_in-found x ts (tail_normal s ts n) t f
+    ] refl e
 
--- the power at the place of an atom
-pub power_in-found : (ts : List Term) (i : ℕ) (d : Term) (x : Atom) → IsTrue (is_normal ts) → i < length ts → (get_or ts i d).atom ≡ x → power_in (drop i ts) x ≡ (get_or ts i d).power
-power_in-found ts i d x n h e =
-    let split = drop_more ts i d h in
-    let t = get_or ts i d in
-    ap (λ us. power_in us x) split ∙ ap (power_in (t ∷ drop (i + 1) ts)) (sym e) ∙ power_in-head t (drop (i + 1) ts) (head_below t (drop (i + 1) ts) (ap is_normal (sym split) ∙ normal-drop i ts n))
-
--- a place of another atom
-pub power_in-passed : (ts : List Term) (i : ℕ) (d : Term) (x : Atom) → i < length ts → same_atom x (get_or ts i d).atom ≡ false → power_in (drop (i + 1) ts) x ≡ power_in (drop i ts) x
-power_in-passed ts i d x h e = sym (ap (λ us. power_in us x) (drop_more ts i d h) ∙ power_in-tail (get_or ts i d) (drop (i + 1) ts) x e)
+pub power_in-none : (x : Atom) (ts : List Term) → find (λ s. same_atom x s.atom) ts ≡ None → power_in ts x ≡ pos 0
+power_in-none x [] e = refl
+power_in-none x (s ∷ ts) e =
+    elim (same_atom x s.atom) as (λ b. same_atom x s.atom ≡ b → cond b (Some s) (find (λ s. same_atom x s.atom) ts) ≡ None → power_in (s ∷ ts) x ≡ pos 0) [
+      | true ↦ λ h f. cc
+      | false ↦ λ h f. power_in-tail s ts x h ∙ power_in-none x ts f
+    ] refl e
 
 -- ---- equal powers, equal lists
-apart : (t : Term) (ts us : List Term) → IsTrue (is_normal (t ∷ ts)) → IsTrue (is_below t.atom us) → ((x : Atom) → power_in (t ∷ ts) x ≡ power_in us x) → ⊥
+apart : (t : Term) (ts us : List Term) → IsTrue (is_normal (t ∷ ts)) → IsTrue (is_before_all t.atom us) → ((x : Atom) → power_in (t ∷ ts) x ≡ power_in us x) → ⊥
 apart t ts us h k same =
-    let z : t.power ≡ pos 0 = sym (power_in-head t ts (head_below t ts h)) ∙ same t.atom ∙ power_in-below t.atom us k in
+    let z : t.power ≡ pos 0 = sym (power_in-head t ts (head_before_all t ts h)) ∙ same t.atom ∙ power_in-before_all t.atom us k in
     let e : is_zero t.power ≡ true = ap is_zero z in
     let f : is_zero t.power ≡ false = head_nonzero t ts h in cc
 
@@ -80,14 +81,14 @@ same_terms [] (u ∷ us) h k same = absurd (apart u us [] k refl (λ x. sym (sam
 same_terms (t ∷ ts) [] h k same = absurd (apart t ts [] h refl same)
 same_terms (t ∷ ts) (u ∷ us) h k same =
     elim (atom_cases t.atom u.atom) [
-      | inl b ↦ absurd (apart t ts (u ∷ us) h (and_from _ _ b (below_trans t.atom u.atom us b (head_below u us k))) same)
+      | inl b ↦ absurd (apart t ts (u ∷ us) h (and_from _ _ b (before_all_trans t.atom u.atom us b (head_before_all u us k))) same)
       | inr (inl e) ↦
-          let p : t.power ≡ u.power = sym (power_in-head t ts (head_below t ts h)) ∙ same t.atom ∙ ap (power_in (u ∷ us)) e ∙ power_in-head u us (head_below u us k) in
+          let p : t.power ≡ u.power = sym (power_in-head t ts (head_before_all t ts h)) ∙ same t.atom ∙ ap (power_in (u ∷ us)) e ∙ power_in-head u us (head_before_all u us k) in
           let whole : t ≡ u = λ i. record { atom = e i; power = p i } in
           let tails : ts ≡ us = same_terms ts us (tail_normal t ts h) (tail_normal u us k)
           (λ x. let s = same x in let w : t.power *ℤ indicator x t.atom ≡ u.power *ℤ indicator x u.atom = ap (λ (v : Term). v.power *ℤ indicator x v.atom) whole in omega (arith, ints, s, w)) in
           (λ i. whole i ∷ tails i)
-      | inr (inr b) ↦ absurd (apart u us (t ∷ ts) k (and_from _ _ b (below_trans u.atom t.atom ts b (head_below t ts h))) (λ x. sym (same x)))
+      | inr (inr b) ↦ absurd (apart u us (t ∷ ts) k (and_from _ _ b (before_all_trans u.atom t.atom ts b (head_before_all t ts h))) (λ x. sym (same x)))
     ]
 
 -- two units with equal powers are equal
@@ -95,14 +96,14 @@ pub same_unit : (u v : PowerMap) → ((x : Atom) → power_of u x ≡ power_of v
 same_unit u v same = same_record u v (same_terms u.terms v.terms u.normal v.normal same)
 
 -- ---- a list in normal form is its own normal form
-times_below : (t : Term) (ts : List Term) → is_zero t.power ≡ false → IsTrue (is_below t.atom ts) → times_term t ts ≡ t ∷ ts
-times_below t [] n h = cond-false (is_zero t.power) [] (t ∷ []) n
-times_below t (s ∷ ts) n h =
-    cond-true (is_before t.atom s.atom) _ _ (and_parts (is_before t.atom s.atom) (is_below t.atom ts) h).0 ∙ cond-false (is_zero t.power) (s ∷ ts) (t ∷ s ∷ ts) n
+times_term-first : (t : Term) (ts : List Term) → is_zero t.power ≡ false → IsTrue (is_before_all t.atom ts) → times_term t ts ≡ t ∷ ts
+times_term-first t [] n h = cond-false (is_zero t.power) [] (t ∷ []) n
+times_term-first t (s ∷ ts) n h =
+    cond-true (is_before t.atom s.atom) _ _ (and_parts (is_before t.atom s.atom) (is_before_all t.atom ts) h).0 ∙ cond-false (is_zero t.power) (s ∷ ts) (t ∷ s ∷ ts) n
 
 pub normal_form-normal : (ts : List Term) → IsTrue (is_normal ts) → normal_form ts ≡ ts
 normal_form-normal [] h = refl
-normal_form-normal (t ∷ ts) h = ap (times_term t) (normal_form-normal ts (tail_normal t ts h)) ∙ times_below t ts (head_nonzero t ts h) (head_below t ts h)
+normal_form-normal (t ∷ ts) h = ap (times_term t) (normal_form-normal ts (tail_normal t ts h)) ∙ times_term-first t ts (head_nonzero t ts h) (head_before_all t ts h)
 
 pub product-terms : (ts : List Term) → (product ts).terms ≡ normal_form ts
 unfolding product

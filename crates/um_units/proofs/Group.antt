@@ -1,6 +1,6 @@
 -- The laws of the free abelian group on the atoms.
 -- Source: Kennedy (1996), chapter 2.
-use Rattle.std.proofs.Common.{◌≡◌, ◌≢◌, inl, inr, false, List, [], ◌∷◌, ◌++◌, map, ℤ, pos, negsuc, neg_ℤ, ◌+ℤ◌, ◌*ℤ◌, sym, ap, ◌∙◌, arith}
+use Rattle.std.proofs.Common.{◌≡◌, ◌≢◌, inl, inr, false, List, [], ◌∷◌, ◌++◌, map, ℤ, pos, negsuc, neg_ℤ, ◌+ℤ◌, ◌*ℤ◌, refl, sym, ap, ◌∙◌, arith}
 use Rattle.std.proofs.lemmas.Int.{ints}
 use Rattle.std.proofs.Math.IntN.{*ℤ-zero, +ℤ_comm}
 use Rattle.um_units.specs.declared.Atom.{Atom}
@@ -10,7 +10,7 @@ use Rattle.um_units.specs.Atoms.{same_atom}
 use Rattle.um_units.specs.Terms.{weigh, indicator}
 use Rattle.um_units.specs.PowerMap.{PowerMap, weight, power_of, one, atom, mul, scale, pow, inv}
 use Rattle.um_units.proofs.Weights.{weigh-product, weigh-++}
-use Rattle.um_units.proofs.Equality.{same_unit, indicator-same, indicator-other}
+use Rattle.um_units.proofs.Equality.{same_unit, product-terms, product-normal, indicator-same, indicator-other}
 
 -- ---- a linear functional at each operation
 pub weigh-scale : (f : Atom → ℤ) (k : ℤ) (ts : List Term) → weigh f (map (scale k) ts) ≡ k *ℤ weigh f ts
@@ -118,9 +118,28 @@ pow-torsion_free u k h e =
       | inr z ↦ z ∙ sym (weight-one (indicator x))
     ])
 
--- ---- the powers of an atom
+-- ---- the power of each atom: what makes these operations those of finite maps
+pub power_of-one : (x : Atom) → power_of one x ≡ pos 0
+power_of-one x = weight-one (indicator x)
+
 pub power_of-atom : (x : Atom) → power_of (atom x) x ≡ pos 1
 power_of-atom x = weight-atom (indicator x) x ∙ indicator-same x
 
 pub power_of-other_atom : (x y : Atom) → same_atom x y ≡ false → power_of (atom y) x ≡ pos 0
 power_of-other_atom x y e = weight-atom (indicator x) y ∙ indicator-other x y e
+
+pub power_of-mul : (u v : PowerMap) (x : Atom) → power_of (mul u v) x ≡ power_of u x +ℤ power_of v x
+power_of-mul u v x = weight-mul (indicator x) u v
+
+pub power_of-inv : (u : PowerMap) (x : Atom) → power_of (inv u) x ≡ neg_ℤ (power_of u x)
+power_of-inv u x = weight-inv (indicator x) u
+
+pub power_of-pow : (u : PowerMap) (k : ℤ) (x : Atom) → power_of (pow u k) x ≡ k *ℤ power_of u x
+power_of-pow u k x = weight-pow (indicator x) u k
+
+-- ---- terms
+pub terms-one : one.terms ≡ []
+terms-one = product-terms []
+
+pub terms-atom : (x : Atom) → (atom x).terms ≡ record { atom = x; power = pos 1 } ∷ []
+terms-atom x = product-normal (record { atom = x; power = pos 1 } ∷ []) refl

@@ -7,10 +7,10 @@ use Rattle.um_units.specs.declared.Atom.{Atom}
 use Rattle.um_units.specs.declared.Term.{Term}
 use Rattle.um_units.specs.Atoms.{same_atom}
 use Rattle.um_units.specs.Terms.{indicator, power_in, is_normal}
-use Rattle.um_units.specs.NormalForm.{head_below, tail_normal, same_atom-eq}
+use Rattle.um_units.specs.NormalForm.{head_before_all, tail_normal, same_atom-eq}
 use Rattle.um_units.specs.PowerMap.{PowerMap, product, power_of, one, inv}
 use Rattle.um_units.specs.Range.{in_range, all_in_range, fits, IsKept}
-use Rattle.um_units.proofs.Equality.{product-normal, power_in-below, power_in-head, power_in-tail}
+use Rattle.um_units.proofs.Equality.{product-normal, power_in-before_all, power_in-head, power_in-tail}
 use Rattle.um_units.proofs.Group.{weight-one, weight-inv}
 
 -- ---- a unit fits exactly where each of its powers is in range
@@ -19,21 +19,21 @@ in_range-power_in [] n h x = refl
 in_range-power_in (t ∷ ts) n h x =
     let parts = and_parts (in_range t.power) (all_in_range ts) h in
     elim (same_atom x t.atom) as (λ b. same_atom x t.atom ≡ b → IsTrue (in_range (power_in (t ∷ ts) x))) [
-      | true ↦ λ e. ap in_range (ap (power_in (t ∷ ts)) (same_atom-eq x t.atom e) ∙ power_in-head t ts (head_below t ts n)) ∙ parts.0
+      | true ↦ λ e. ap in_range (ap (power_in (t ∷ ts)) (same_atom-eq x t.atom e) ∙ power_in-head t ts (head_before_all t ts n)) ∙ parts.0
       | false ↦ λ e. ap in_range (power_in-tail t ts x e) ∙ in_range-power_in ts (tail_normal t ts n) parts.1 x
     ] refl
 
 out_of_range : (ts : List Term) → IsTrue (is_normal ts) → all_in_range ts ≡ false → (x : Atom) × (in_range (power_in ts x) ≡ false)
 out_of_range [] n h = absurd (let e : true ≡ false = h in cc)
 out_of_range (t ∷ ts) n h = elim (and_cases (in_range t.power) (all_in_range ts) h) [
-  | inl e ↦ (t.atom, ap in_range (power_in-head t ts (head_below t ts n)) ∙ e)
+  | inl e ↦ (t.atom, ap in_range (power_in-head t ts (head_before_all t ts n)) ∙ e)
   | inr e ↦ further (out_of_range ts (tail_normal t ts n) e)
 ]
   where
     further : ((x : Atom) × (in_range (power_in ts x) ≡ false)) → (x : Atom) × (in_range (power_in (t ∷ ts) x) ≡ false)
     further (x, e) =
         elim (same_atom x t.atom) as (λ b. same_atom x t.atom ≡ b → (x : Atom) × (in_range (power_in (t ∷ ts) x) ≡ false)) [
-          | true ↦ λ s. absurd (let z : power_in ts x ≡ pos 0 = ap (power_in ts) (same_atom-eq x t.atom s) ∙ power_in-below t.atom ts (head_below t ts n) in let f : true ≡ false = sym (ap in_range z) ∙ e in cc)
+          | true ↦ λ s. absurd (let z : power_in ts x ≡ pos 0 = ap (power_in ts) (same_atom-eq x t.atom s) ∙ power_in-before_all t.atom ts (head_before_all t ts n) in let f : true ≡ false = sym (ap in_range z) ∙ e in cc)
           | false ↦ λ s. (x, ap in_range (power_in-tail t ts x s) ∙ e)
         ] refl
 

@@ -9,11 +9,11 @@ use Rattle.um_units.specs.declared.Atom.TheVariants.{Base, Var}
 use Rattle.um_units.specs.declared.Term.{Term}
 use Rattle.um_units.specs.Atoms.{same_atom}
 use Rattle.um_units.specs.Terms.{weigh, indicator, power_in, is_zero, is_normal}
-use Rattle.um_units.specs.NormalForm.{head_nonzero, head_below, tail_normal, same_atom-eq}
-use Rattle.um_units.specs.PowerMap.{PowerMap, weight, power_of, one, atom, mul, scale, pow, inv, image, images, replace, nth}
+use Rattle.um_units.specs.NormalForm.{head_nonzero, head_before_all, tail_normal, same_atom-eq}
+use Rattle.um_units.specs.PowerMap.{PowerMap, product, weight, power_of, one, atom, mul, scale, pow, inv, image, images, replace, nth}
 use Rattle.um_units.specs.Variables.{IsClosed, VariablesBelow}
 use Rattle.um_units.proofs.Weights.{weigh-product, weigh-++, weigh_alike}
-use Rattle.um_units.proofs.Equality.{same_unit, power_in-below, power_in-head, power_in-tail}
+use Rattle.um_units.proofs.Equality.{same_unit, same_product, power_in-before_all, power_in-head, power_in-tail}
 use Rattle.um_units.proofs.Group.{weigh-scale, weight-one, weight-atom, weight-mul, weight-pow}
 
 -- ---- a linear functional at a replaced unit
@@ -26,6 +26,10 @@ weigh-images f s (t ∷ ts) =
 
 pub weight-replace : (f : Atom → ℤ) (s : ℕ → PowerMap) (u : PowerMap) → weight f (replace s u) ≡ weight (λ x. weight f (image s x)) u
 weight-replace f s u = weigh-product f (images s u.terms) ∙ weigh-images f s u.terms
+
+-- the power of an atom in a replaced unit
+pub power_of-replace : (s : ℕ → PowerMap) (u : PowerMap) (x : Atom) → power_of (replace s u) x ≡ weight (λ y. power_of (image s y) x) u
+power_of-replace s u x = weight-replace (indicator x) s u
 
 -- ---- a homomorphism
 pub replace-one : (s : ℕ → PowerMap) → replace s one ≡ one
@@ -62,6 +66,17 @@ replace-variable s k = replace-atom s (Var k)
 pub replace-base : (s : ℕ → PowerMap) (n : ℕ) → replace s (atom (Base n)) ≡ atom (Base n)
 replace-base s n = replace-atom s (Base n)
 
+-- ---- each atom for itself
+image-same : (x y : Atom) → power_of (image (λ k. atom (Var k)) y) x ≡ indicator x y
+image-same x (Base n) = weight-atom (indicator x) (Base n)
+image-same x (Var k) = weight-atom (indicator x) (Var k)
+
+pub images-same : (ts : List Term) → product (images (λ k. atom (Var k)) ts) ≡ product ts
+images-same ts = same_product _ _ (λ x. weigh-images (indicator x) (λ k. atom (Var k)) ts ∙ weigh_alike _ _ (image-same x) ts)
+
+pub replace-same : (u : PowerMap) → replace (λ k. atom (Var k)) u ≡ u
+replace-same u = same_unit _ _ (λ x. weight-replace (indicator x) (λ k. atom (Var k)) u ∙ weigh_alike _ _ (image-same x) u.terms)
+
 -- ---- one replacement after another
 pub image-replace : (s t : ℕ → PowerMap) (x : Atom) → replace t (image s x) ≡ image (λ k. replace t (s k)) x
 image-replace s t (Base n) = replace-base t n
@@ -74,14 +89,6 @@ replace-replace s t u =
     ∙ weigh_alike _ _ (λ y. sym (weight-replace (indicator x) t (image s y)) ∙ ap (λ v. power_of v x) (image-replace s t y)) u.terms
     ∙ sym (weight-replace (indicator x) (λ k. replace t (s k)) u))
 
--- each variable for itself
-pub replace-same : (u : PowerMap) → replace (λ k. atom (Var k)) u ≡ u
-replace-same u = same_unit _ _ (λ x. weight-replace (indicator x) (λ k. atom (Var k)) u ∙ weigh_alike _ _ (at x) u.terms)
-  where
-    at : (x y : Atom) → power_of (image (λ k. atom (Var k)) y) x ≡ indicator x y
-    at x (Base n) = weight-atom (indicator x) (Base n)
-    at x (Var k) = weight-atom (indicator x) (Var k)
-
 -- ---- only the atoms that a unit holds count
 weigh_held : (f g : Atom → ℤ) (ts : List Term) → IsTrue (is_normal ts) → ((x : Atom) → power_in ts x ≢ pos 0 → f x ≡ g x) → weigh f ts ≡ weigh g ts
 weigh_held f g [] n same = refl
@@ -89,12 +96,12 @@ weigh_held f g (t ∷ ts) n same =
     ap (λ z. t.power *ℤ z +ℤ weigh f ts) (same t.atom head_held) ∙ ap (λ z. t.power *ℤ g t.atom +ℤ z) (weigh_held f g ts (tail_normal t ts n) (λ x h. same x (tail_held x h)))
   where
     head_held : power_in (t ∷ ts) t.atom ≡ pos 0 → ⊥
-    head_held e = let z : is_zero t.power ≡ true = ap is_zero (sym (power_in-head t ts (head_below t ts n)) ∙ e) in let f = head_nonzero t ts n in cc
+    head_held e = let z : is_zero t.power ≡ true = ap is_zero (sym (power_in-head t ts (head_before_all t ts n)) ∙ e) in let f = head_nonzero t ts n in cc
 
     tail_held : (x : Atom) → (power_in ts x ≡ pos 0 → ⊥) → power_in (t ∷ ts) x ≡ pos 0 → ⊥
     tail_held x h e =
         elim (same_atom x t.atom) as (λ b. same_atom x t.atom ≡ b → ⊥) [
-          | true ↦ λ s. h (ap (power_in ts) (same_atom-eq x t.atom s) ∙ power_in-below t.atom ts (head_below t ts n))
+          | true ↦ λ s. h (ap (power_in ts) (same_atom-eq x t.atom s) ∙ power_in-before_all t.atom ts (head_before_all t ts n))
           | false ↦ λ s. h (sym (power_in-tail t ts x s) ∙ e)
         ] refl
 

@@ -6,16 +6,15 @@ use Rattle.std.proofs.lemmas.Int.{ints}
 use Rattle.std.proofs.lemmas.List.Concat.{flat_map-append}
 use Rattle.std.proofs.lemmas.List.{take-append-drop}
 use Rattle.um_units.specs.declared.Atom.{Atom}
-use Rattle.um_units.specs.declared.Atom.TheVariants.{Base}
 use Rattle.um_units.specs.declared.Term.{Term}
 use Rattle.um_units.specs.Terms.{indicator, power_in, is_zero, is_normal}
-use Rattle.um_units.specs.NormalForm.{head_nonzero, head_below, tail_normal, cons_normal}
-use Rattle.um_units.specs.PowerMap.{PowerMap, product, mul, scale, pow, image, images}
+use Rattle.um_units.specs.NormalForm.{head_nonzero, head_before_all, tail_normal, cons_normal}
+use Rattle.um_units.specs.PowerMap.{PowerMap, product, atom, mul, scale, pow, image, images}
 use Rattle.um_units.specs.Range.{in_range, all_in_range, IsKept}
 use Rattle.um_units.proofs.Weights.{zero_is, weigh-product, weigh-++}
 use Rattle.um_units.proofs.Equality.{product-of_terms, product-terms, product-normal, same_product}
 use Rattle.um_units.proofs.Group.{pow-one}
-use Rattle.um_units.proofs.Nonzero.{below-scale}
+use Rattle.um_units.proofs.Nonzero.{before_all-scale}
 
 -- the terms of a unit and of another's power, multiplied
 pub product-mul_pow : (u v : PowerMap) (k : ℤ) (ts us vs : List Term) → ts ≡ (pow u (pos 1)).terms → us ≡ (pow v k).terms → vs ≡ (product (ts ++ us)).terms → product vs ≡ mul u (pow v k)
@@ -29,7 +28,7 @@ negated_zero z n = false_from_ne_true (is_zero (negsuc 0 *ℤ z)) (λ e. let f =
 normal-inverted : (ts : List Term) → IsTrue (is_normal ts) → IsTrue (is_normal (map (scale (negsuc 0)) ts))
 normal-inverted [] h = refl
 normal-inverted (t ∷ ts) h =
-    cons_normal (scale (negsuc 0) t) (map (scale (negsuc 0)) ts) (negated_zero t.power (head_nonzero t ts h)) (below-scale (negsuc 0) t.atom ts (head_below t ts h)) (normal-inverted ts (tail_normal t ts h))
+    cons_normal (scale (negsuc 0) t) (map (scale (negsuc 0)) ts) (negated_zero t.power (head_nonzero t ts h)) (before_all-scale (negsuc 0) t.atom ts (head_before_all t ts h)) (normal-inverted ts (tail_normal t ts h))
 
 in_range-inverted : (ts : List Term) → IsTrue (all_in_range ts) → IsTrue (all_in_range (map (scale (negsuc 0)) ts))
 in_range-inverted [] h = refl
@@ -62,6 +61,3 @@ product-halves s ts front back ls rs n e f g h =
 pub images-none : (s : ℕ → PowerMap) (ts : List Term) → length ts < 1 → [] ≡ (product (images s ts)).terms
 images-none s [] h = sym (product-terms [])
 images-none s (t ∷ ts) h = absurd (omega arith)
-
-pub image-base : (s : ℕ → PowerMap) (x : Atom) (n : ℕ) → x ≡ Base n → (image s x).terms ≡ record { atom = x; power = pos 1 } ∷ []
-image-base s x n e = ap (λ y. (image s y).terms) e ∙ product-normal (record { atom = Base n; power = pos 1 } ∷ []) refl ∙ ap (λ y. record { atom = y; power = pos 1 } ∷ []) (sym e)

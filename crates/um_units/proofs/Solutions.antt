@@ -14,52 +14,52 @@ use Rattle.um_units.proofs.Replacement.{replace-one, replace-replace, replace-sa
 IsSolved : (ℕ → PowerMap) → PowerMap → Type 0
 IsSolved s row = replace s row ≡ one
 
-pub solves-none : (s : ℕ → PowerMap) → Solves s []
-solves-none s = All-nil (λ row. replace s row ≡ one)
+pub Solves-nil : (s : ℕ → PowerMap) → Solves s []
+Solves-nil s = All-nil (λ row. replace s row ≡ one)
 
-pub solves-append : (s : ℕ → PowerMap) (rows more : List PowerMap) → Solves s rows → Solves s more → Solves s (rows ++ more)
-solves-append s rows more h k = All-append (λ row. replace s row ≡ one) rows more h k
+pub Solves-append : (s : ℕ → PowerMap) (rows more : List PowerMap) → Solves s rows → Solves s more → Solves s (rows ++ more)
+Solves-append s rows more h k = All-append (λ row. replace s row ≡ one) rows more h k
 
-pub solves-front : (s : ℕ → PowerMap) (rows more : List PowerMap) → Solves s (rows ++ more) → Solves s rows
-solves-front s [] more h = solves-none s
-solves-front s (row ∷ rows) more h =
-    All-cons (λ row. replace s row ≡ one) row rows (All-head (λ row. replace s row ≡ one) row (rows ++ more) h) (solves-front s rows more (All-tail (λ row. replace s row ≡ one) row (rows ++ more) h))
+pub Solves-front : (s : ℕ → PowerMap) (rows more : List PowerMap) → Solves s (rows ++ more) → Solves s rows
+Solves-front s [] more h = Solves-nil s
+Solves-front s (row ∷ rows) more h =
+    All-cons (λ row. replace s row ≡ one) row rows (All-head (λ row. replace s row ≡ one) row (rows ++ more) h) (Solves-front s rows more (All-tail (λ row. replace s row ≡ one) row (rows ++ more) h))
 
-pub solves-back : (s : ℕ → PowerMap) (rows more : List PowerMap) → Solves s (rows ++ more) → Solves s more
-solves-back s [] more h = h
-solves-back s (row ∷ rows) more h = solves-back s rows more (All-tail (λ row. replace s row ≡ one) row (rows ++ more) h)
+pub Solves-back : (s : ℕ → PowerMap) (rows more : List PowerMap) → Solves s (rows ++ more) → Solves s more
+Solves-back s [] more h = h
+Solves-back s (row ∷ rows) more h = Solves-back s rows more (All-tail (λ row. replace s row ≡ one) row (rows ++ more) h)
 
 -- a substitution after one that solves the rows
-pub solves_then : (s t : ℕ → PowerMap) (rows : List PowerMap) → Solves s rows → Solves (λ k. replace t (s k)) rows
-solves_then s t [] h = solves-none (λ k. replace t (s k))
-solves_then s t (row ∷ rows) h =
+pub Solves-then : (s t : ℕ → PowerMap) (rows : List PowerMap) → Solves s rows → Solves (λ k. replace t (s k)) rows
+Solves-then s t [] h = Solves-nil (λ k. replace t (s k))
+Solves-then s t (row ∷ rows) h =
     All-cons (λ row. replace (λ k. replace t (s k)) row ≡ one) row rows
     (sym (replace-replace s t row) ∙ ap (replace t) (All-head (λ row. replace s row ≡ one) row rows h) ∙ replace-one t)
-    (solves_then s t rows (All-tail (λ row. replace s row ≡ one) row rows h))
+    (Solves-then s t rows (All-tail (λ row. replace s row ≡ one) row rows h))
 
 -- ---- joint solutions
-pub joint-none : (units : List PowerMap) → IsJointSolution (length units) [] units
-joint-none units = record { per_slot = refl; solves = solves-none (nth units) }
+pub IsJointSolution-nil : (units : List PowerMap) → IsJointSolution (length units) [] units
+IsJointSolution-nil units = record { per_slot = refl; solves = Solves-nil (nth units) }
 
-pub joint-append : (slots : ℕ) (rows more units : List PowerMap) → IsJointSolution slots rows units → Solves (nth units) more → IsJointSolution slots (rows ++ more) units
-joint-append slots rows more units joint h = record { per_slot = joint.per_slot; solves = solves-append (nth units) rows more joint.solves h }
+pub IsJointSolution-append : (slots : ℕ) (rows more units : List PowerMap) → IsJointSolution slots rows units → Solves (nth units) more → IsJointSolution slots (rows ++ more) units
+IsJointSolution-append slots rows more units joint h = record { per_slot = joint.per_slot; solves = Solves-append (nth units) rows more joint.solves h }
 
 -- the front of the rows has at least the solutions of the whole
-pub joint-front : (slots : ℕ) (rows more units : List PowerMap) → IsJointSolution slots (rows ++ more) units → IsJointSolution slots rows units
-joint-front slots rows more units joint = record { per_slot = joint.per_slot; solves = solves-front (nth units) rows more joint.solves }
+pub IsJointSolution-front : (slots : ℕ) (rows more units : List PowerMap) → IsJointSolution slots (rows ++ more) units → IsJointSolution slots rows units
+IsJointSolution-front slots rows more units joint = record { per_slot = joint.per_slot; solves = Solves-front (nth units) rows more joint.solves }
 
-pub solvable-front : (slots : ℕ) (rows more : List PowerMap) → IsSolvable slots (rows ++ more) → IsSolvable slots rows
-solvable-front slots rows more solvable = (solvable.0, joint-front slots rows more solvable.0 solvable.1)
+pub IsSolvable-front : (slots : ℕ) (rows more : List PowerMap) → IsSolvable slots (rows ++ more) → IsSolvable slots rows
+IsSolvable-front slots rows more solvable = (solvable.0, IsJointSolution-front slots rows more solvable.0 solvable.1)
 
 -- a replacement of a joint solution is one
-pub joint-replace : (slots : ℕ) (rows units : List PowerMap) (t : ℕ → PowerMap) → All (VariablesBelow slots) rows → IsJointSolution slots rows units → IsJointSolution slots rows (map (replace t) units)
-joint-replace slots rows units t below joint = record {
+pub IsJointSolution-replace : (slots : ℕ) (rows units : List PowerMap) (t : ℕ → PowerMap) → All (VariablesBelow slots) rows → IsJointSolution slots rows units → IsJointSolution slots rows (map (replace t) units)
+IsJointSolution-replace slots rows units t below joint = record {
   per_slot = length-map units (replace t) ∙ joint.per_slot;
   solves = each rows (subst (λ n. All (VariablesBelow n) rows) (sym joint.per_slot) below) joint.solves;
 }
   where
     each : (rows : List PowerMap) → All (VariablesBelow (length units)) rows → Solves (nth units) rows → Solves (nth (map (replace t) units)) rows
-    each [] below h = solves-none (nth (map (replace t) units))
+    each [] below h = Solves-nil (nth (map (replace t) units))
     each (row ∷ rows) below h =
         All-cons (λ row. replace (nth (map (replace t) units)) row ≡ one) row rows
         (replace-nth_map t units row (All-head (VariablesBelow (length units)) row rows below)
@@ -67,16 +67,16 @@ joint-replace slots rows units t below joint = record {
         (each rows (All-tail (VariablesBelow (length units)) row rows below) (All-tail (λ row. replace (nth units) row ≡ one) row rows h))
 
 -- ---- instances
-pub instance_self : (units : List PowerMap) → IsInstance units units
-instance_self units = ((λ k. atom (Var k)), each units)
+pub IsInstance_refl : (units : List PowerMap) → IsInstance units units
+IsInstance_refl units = ((λ k. atom (Var k)), each units)
   where
     each : (us : List PowerMap) → map (replace (λ k. atom (Var k))) us ≡ us
     each [] = refl
     each (u ∷ us) = λ i. replace-same u i ∷ each us i
 
 -- an instance of an instance is an instance
-pub instance_trans : (us vs ws : List PowerMap) → IsInstance us vs → IsInstance vs ws → IsInstance us ws
-instance_trans us vs ws p q = ((λ k. replace q.0 (p.0 k)), each us ∙ ap (map (replace q.0)) p.1 ∙ q.1)
+pub IsInstance_trans : (us vs ws : List PowerMap) → IsInstance us vs → IsInstance vs ws → IsInstance us ws
+IsInstance_trans us vs ws p q = ((λ k. replace q.0 (p.0 k)), each us ∙ ap (map (replace q.0)) p.1 ∙ q.1)
   where
     each : (us : List PowerMap) → map (replace (λ k. replace q.0 (p.0 k))) us ≡ map (replace q.0) (map (replace p.0) us)
     each [] = refl
@@ -86,5 +86,5 @@ pub length-instance : (us vs : List PowerMap) → IsInstance us vs → length vs
 length-instance us vs p = ap length (sym p.1) ∙ length-map us (replace p.0)
 
 -- an instance of a joint solution is one
-pub joint_instance : (slots : ℕ) (rows us vs : List PowerMap) → All (VariablesBelow slots) rows → IsJointSolution slots rows us → IsInstance us vs → IsJointSolution slots rows vs
-joint_instance slots rows us vs below joint p = subst (IsJointSolution slots rows) p.1 (joint-replace slots rows us p.0 below joint)
+pub IsJointSolution-instance : (slots : ℕ) (rows us vs : List PowerMap) → All (VariablesBelow slots) rows → IsJointSolution slots rows us → IsInstance us vs → IsJointSolution slots rows vs
+IsJointSolution-instance slots rows us vs below joint p = subst (IsJointSolution slots rows) p.1 (IsJointSolution-replace slots rows us p.0 below joint)

@@ -6,7 +6,7 @@ use Rattle.um_units.specs.declared.Atom.{Atom}
 use Rattle.um_units.specs.declared.Atom.TheVariants.{Base, Var}
 use Rattle.um_units.specs.declared.Term.{Term}
 use Rattle.um_units.specs.Atoms.{is_before, same_atom}
-use Rattle.um_units.specs.Terms.{is_zero, is_below, is_normal, unless_zero, times_term, normal_form}
+use Rattle.um_units.specs.Terms.{is_zero, is_before_all, is_normal, unless_zero, times_term, normal_form}
 
 -- ---- the order of atoms
 pub before_trans : (x y z : Atom) → IsTrue (is_before x y) → IsTrue (is_before y z) → IsTrue (is_before x z)
@@ -43,51 +43,51 @@ after_else x y e f = elim (atom_cases x y) [
 ]
 
 -- ---- lists
-pub below_trans : (x y : Atom) (ts : List Term) → IsTrue (is_before x y) → IsTrue (is_below y ts) → IsTrue (is_below x ts)
-below_trans x y [] h k = refl
-below_trans x y (t ∷ ts) h k =
-    let parts = and_parts (is_before y t.atom) (is_below y ts) k in
-    and_from _ _ (before_trans x y t.atom h parts.0) (below_trans x y ts h parts.1)
+pub before_all_trans : (x y : Atom) (ts : List Term) → IsTrue (is_before x y) → IsTrue (is_before_all y ts) → IsTrue (is_before_all x ts)
+before_all_trans x y [] h k = refl
+before_all_trans x y (t ∷ ts) h k =
+    let parts = and_parts (is_before y t.atom) (is_before_all y ts) k in
+    and_from _ _ (before_trans x y t.atom h parts.0) (before_all_trans x y ts h parts.1)
 
-pub below-unless_zero : (x : Atom) (t : Term) (ts : List Term) → IsTrue (is_before x t.atom) → IsTrue (is_below x ts) → IsTrue (is_below x (unless_zero t ts))
-below-unless_zero x t ts h k = cond_both (is_zero t.power) ts (t ∷ ts) (λ us. IsTrue (is_below x us)) (λ e. k) (λ e. and_from _ _ h k)
+pub before_all-unless_zero : (x : Atom) (t : Term) (ts : List Term) → IsTrue (is_before x t.atom) → IsTrue (is_before_all x ts) → IsTrue (is_before_all x (unless_zero t ts))
+before_all-unless_zero x t ts h k = cond_both (is_zero t.power) ts (t ∷ ts) (λ us. IsTrue (is_before_all x us)) (λ e. k) (λ e. and_from _ _ h k)
 
-below-times_term : (x : Atom) (t : Term) (ts : List Term) → IsTrue (is_before x t.atom) → IsTrue (is_below x ts) → IsTrue (is_below x (times_term t ts))
-below-times_term x t [] h k = below-unless_zero x t [] h k
-below-times_term x t (s ∷ ts) h k =
-    let parts = and_parts (is_before x s.atom) (is_below x ts) k in
-    cond_both (is_before t.atom s.atom) _ _ (λ us. IsTrue (is_below x us))
-    (λ e. below-unless_zero x t (s ∷ ts) h k)
-    (λ e. cond_both (same_atom t.atom s.atom) _ _ (λ us. IsTrue (is_below x us))
-    (λ g. below-unless_zero x (record { atom = s.atom; power = t.power +ℤ s.power }) ts parts.0 parts.1)
-    (λ g. and_from _ _ parts.0 (below-times_term x t ts h parts.1)))
+before_all-times_term : (x : Atom) (t : Term) (ts : List Term) → IsTrue (is_before x t.atom) → IsTrue (is_before_all x ts) → IsTrue (is_before_all x (times_term t ts))
+before_all-times_term x t [] h k = before_all-unless_zero x t [] h k
+before_all-times_term x t (s ∷ ts) h k =
+    let parts = and_parts (is_before x s.atom) (is_before_all x ts) k in
+    cond_both (is_before t.atom s.atom) _ _ (λ us. IsTrue (is_before_all x us))
+    (λ e. before_all-unless_zero x t (s ∷ ts) h k)
+    (λ e. cond_both (same_atom t.atom s.atom) _ _ (λ us. IsTrue (is_before_all x us))
+    (λ g. before_all-unless_zero x (record { atom = s.atom; power = t.power +ℤ s.power }) ts parts.0 parts.1)
+    (λ g. and_from _ _ parts.0 (before_all-times_term x t ts h parts.1)))
 
 -- the parts of a list in normal form
 pub head_nonzero : (t : Term) (ts : List Term) → IsTrue (is_normal (t ∷ ts)) → is_zero t.power ≡ false
-head_nonzero t ts h = let p = (and_parts (not (is_zero t.power)) (is_below t.atom ts && is_normal ts) h).0 in false_from_ne_true (is_zero t.power) (λ e. let q : not (is_zero t.power) ≡ false = ap not e in cc)
+head_nonzero t ts h = let p = (and_parts (not (is_zero t.power)) (is_before_all t.atom ts && is_normal ts) h).0 in false_from_ne_true (is_zero t.power) (λ e. let q : not (is_zero t.power) ≡ false = ap not e in cc)
 
-pub head_below : (t : Term) (ts : List Term) → IsTrue (is_normal (t ∷ ts)) → IsTrue (is_below t.atom ts)
-head_below t ts h = (and_parts (is_below t.atom ts) (is_normal ts) (and_parts (not (is_zero t.power)) (is_below t.atom ts && is_normal ts) h).1).0
+pub head_before_all : (t : Term) (ts : List Term) → IsTrue (is_normal (t ∷ ts)) → IsTrue (is_before_all t.atom ts)
+head_before_all t ts h = (and_parts (is_before_all t.atom ts) (is_normal ts) (and_parts (not (is_zero t.power)) (is_before_all t.atom ts && is_normal ts) h).1).0
 
 pub tail_normal : (t : Term) (ts : List Term) → IsTrue (is_normal (t ∷ ts)) → IsTrue (is_normal ts)
-tail_normal t ts h = (and_parts (is_below t.atom ts) (is_normal ts) (and_parts (not (is_zero t.power)) (is_below t.atom ts && is_normal ts) h).1).1
+tail_normal t ts h = (and_parts (is_before_all t.atom ts) (is_normal ts) (and_parts (not (is_zero t.power)) (is_before_all t.atom ts && is_normal ts) h).1).1
 
-pub cons_normal : (t : Term) (ts : List Term) → is_zero t.power ≡ false → IsTrue (is_below t.atom ts) → IsTrue (is_normal ts) → IsTrue (is_normal (t ∷ ts))
+pub cons_normal : (t : Term) (ts : List Term) → is_zero t.power ≡ false → IsTrue (is_before_all t.atom ts) → IsTrue (is_normal ts) → IsTrue (is_normal (t ∷ ts))
 cons_normal t ts z b n = and_from _ _ (not_from_false _ z) (and_from _ _ b n)
 
-pub normal-unless_zero : (t : Term) (ts : List Term) → IsTrue (is_below t.atom ts) → IsTrue (is_normal ts) → IsTrue (is_normal (unless_zero t ts))
+pub normal-unless_zero : (t : Term) (ts : List Term) → IsTrue (is_before_all t.atom ts) → IsTrue (is_normal ts) → IsTrue (is_normal (unless_zero t ts))
 normal-unless_zero t ts h k = cond_both (is_zero t.power) ts (t ∷ ts) (λ us. IsTrue (is_normal us)) (λ e. k) (λ e. cons_normal t ts e h k)
 
 pub normal-times_term : (t : Term) (ts : List Term) → IsTrue (is_normal ts) → IsTrue (is_normal (times_term t ts))
 normal-times_term t [] k = normal-unless_zero t [] refl refl
 normal-times_term t (s ∷ ts) k =
-    let below = head_below s ts k in
+    let below = head_before_all s ts k in
     let rest = tail_normal s ts k in
     cond_both (is_before t.atom s.atom) _ _ (λ us. IsTrue (is_normal us))
-    (λ e. normal-unless_zero t (s ∷ ts) (and_from _ _ e (below_trans t.atom s.atom ts e below)) k)
+    (λ e. normal-unless_zero t (s ∷ ts) (and_from _ _ e (before_all_trans t.atom s.atom ts e below)) k)
     (λ e. cond_both (same_atom t.atom s.atom) _ _ (λ us. IsTrue (is_normal us))
     (λ g. normal-unless_zero (record { atom = s.atom; power = t.power +ℤ s.power }) ts below rest)
-    (λ g. cons_normal s (times_term t ts) (head_nonzero s ts k) (below-times_term s.atom t ts (after_else t.atom s.atom e g) below) (normal-times_term t ts rest)))
+    (λ g. cons_normal s (times_term t ts) (head_nonzero s ts k) (before_all-times_term s.atom t ts (after_else t.atom s.atom e g) below) (normal-times_term t ts rest)))
 
 pub normal-normal_form : (ts : List Term) → IsTrue (is_normal (normal_form ts))
 normal-normal_form [] = refl

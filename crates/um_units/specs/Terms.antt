@@ -1,10 +1,9 @@
 -- Lists of terms, whose powers are integers without bound.
 -- Source: Kennedy (1996), chapter 2: a unit is a product of powers of base units and unit variables. The normal
 -- form, in which atoms rise and no power is 0, is this project's own.
-use Rattle.std.specs.Prelude.{ℕ, nat_lt, Bool, true, false, not, ◌&&◌, if◌then◌else◌, ◌==◌, List, [], ◌∷◌, ℤ, pos, negsuc, ◌+ℤ◌, ◌*ℤ◌}
+use Rattle.std.specs.Prelude.{Bool, true, false, not, ◌&&◌, if◌then◌else◌, ◌==◌, List, [], ◌∷◌, ℤ, pos, negsuc, ◌+ℤ◌, ◌*ℤ◌}
 use Rattle.std.specs.List.{list_all}
 use Rattle.um_units.specs.declared.Atom.{Atom}
-use Rattle.um_units.specs.declared.Atom.TheVariants.{Base, Var}
 use Rattle.um_units.specs.declared.Term.{Term}
 use Rattle.um_units.specs.Atoms.{is_before, same_atom}
 
@@ -26,22 +25,13 @@ is_zero (pos n) = n == 0
 is_zero (negsuc n) = false
 
 -- each atom of the list comes after x
-abbrev pub is_below : Atom → List Term → Bool
-is_below x = list_all (λ t. is_before x t.atom)
+abbrev pub is_before_all : Atom → List Term → Bool
+is_before_all x = list_all (λ t. is_before x t.atom)
 
 -- the atoms rise, and no power is 0
 abbrev pub is_normal : List Term → Bool
 is_normal [] = true
-is_normal (t ∷ ts) = not (is_zero t.power) && (is_below t.atom ts && is_normal ts)
-
--- a variable is below n, and a base unit always is
-abbrev pub atom_below : ℕ → Atom → Bool
-atom_below n (Base m) = true
-atom_below n (Var k) = nat_lt k n
-
--- each variable of the list is below n
-abbrev pub variables_below : ℕ → List Term → Bool
-variables_below n = list_all (λ t. atom_below n t.atom)
+is_normal (t ∷ ts) = not (is_zero t.power) && (is_before_all t.atom ts && is_normal ts)
 
 -- the term and the terms after it, where its power isn't 0
 abbrev pub unless_zero : Term → List Term → List Term

@@ -1,11 +1,13 @@
 //! Units of measure as products of powers of base units and unit variables.
 #![tactic(auto)]
 
-ghost use Rattle.std.specs.Prelude.{◌≡◌, ◌↔◌, IfOk, IsTrue, length, map, negsuc};
+ghost use Rattle.std.specs.Prelude.{◌≡◌, ◌↔◌, IfOk, IsTrue, map, negsuc};
+ghost use Rattle.std.specs.List.{find};
+ghost use Rattle.std.specs.Option.{option_copied};
+ghost use Rattle.um_units.specs.Atoms.{same_atom};
 ghost use Rattle.um_units.specs.PowerMap.{one, atom, mul, inv, pow, power_of, product, replace, nth, scale};
 ghost use Rattle.um_units.specs.Range.{all_in_range, fits, RangeUnless};
 ghost use Rattle.um_units.specs.Terms.{is_normal};
-ghost use Rattle.um_units.specs.Variables.{VariablesBelow};
 ghost use Rattle.um_units.specs.Wide.{as_terms};
 
 use std::alloc::{AllocError, AllocFailed, Global};
@@ -13,6 +15,8 @@ use std::marker::Model;
 use thiserror::Error;
 
 mod images;
+#[cfg(test)]
+mod tests;
 mod wide;
 
 use wide::WideTerm;
@@ -28,7 +32,7 @@ pub enum Atom {
 }
 
 /// An atom and its power.
-#[derive(Clone, Copy, Debug, PartialEq, Eq)]
+#[derive(Clone, Copy, Debug, PartialEq, Eq, Hash)]
 pub struct Term {
     pub atom: Atom,
     pub power: i32,
@@ -68,7 +72,7 @@ impl From<AllocError> for UnitStop {
 }
 
 /// A unit: a finite map from atoms to powers other than 0.
-#[derive(Drop)]
+#[derive(Debug, Drop)]
 pub struct Unit {
     terms: Vec<Term>,
 }
@@ -106,6 +110,18 @@ impl Unit {
         Ok(Unit { terms })
     }
 
+    /// The product of the terms, in which an atom may stand more than once, in any order.
+    ///
+    /// Range comes exactly where a power of the product is out of range, however large powers are on the way. It takes
+    /// about n log n steps for n terms.
+    pub fn from_terms(alloc: Global, terms: &[Term]) -> Result<Unit, UnitStop>
+        ensures exact { IfOk result (λ unit. unit ≡ product terms.now) }
+        ensures range { RangeUnless result (fits (product terms.now)) }
+    {
+        let sum = images::product(alloc, terms, &[])?;
+        Unit::of_sum(alloc, &sum)
+    }
+
     /// An equal unit.
     pub fn copy(&self, alloc: Global) -> Result<Unit, NoMemory>
         ensures same { IfOk result (λ unit. unit ≡ self.now) }
@@ -128,12 +144,10 @@ impl Unit {
         ensures power { result ≡ power_of self.now a }
         ensures fits { IsTrue (fits self.now) }
     {
-        for term in &self.terms {
-            if term.atom == a {
-                return term.power;
-            }
+        match term_of(&self.terms, a) {
+            Some(term) => term.power,
+            None => 0,
         }
-        0
     }
 
     /// Whether both are one unit.
@@ -187,16 +201,15 @@ impl Unit {
         Unit::of_sum(alloc, &sum)
     }
 
-    /// The unit with `by[k]` put for each variable k. Base units stay.
+    /// The unit with `by[k]` put for each variable k. Base units stay, and so does a variable that has no unit in `by`.
     ///
-    /// Range comes exactly where a power of the result is out of range, however large powers are on the way. With
-    /// m terms in the unit and n terms in all the units that are put in, it takes about n log m steps.
+    /// Range comes exactly where a power of the result is out of range, however large powers are on the way. It takes
+    /// about n log m steps for a unit of m terms for which n terms are put in.
     pub fn replace(&self, alloc: Global, by: &[Unit]) -> Result<Unit, UnitStop>
-        requires { VariablesBelow (length by.now) self.now }
         ensures exact { IfOk result (λ unit. unit ≡ replace (nth by.now) self.now) }
         ensures range { RangeUnless result (fits (replace (nth by.now) self.now)) }
     {
-        let sum = images::images(alloc, &self.terms, by)?;
+        let sum = images::product(alloc, &self.terms, by)?;
         Unit::of_sum(alloc, &sum)
     }
 
@@ -208,6 +221,13 @@ impl Unit {
         let terms = wide::narrowed(alloc, sum)?;
         Ok(Unit { terms })
     }
+}
+
+/// The first term of the atom.
+fn term_of(terms: &[Term], a: Atom) -> Option<&Term>
+    ensures { option_copied result ≡ find (λ term. same_atom a term.atom) terms.now }
+{
+    terms.iter().find(|term| term.atom == a)
 }
 
 /// The terms with each power negated.
@@ -226,7 +246,7 @@ fn inverted(alloc: Global, terms: &[Term]) -> Result<Vec<Term>, AllocError>
 }
 
 /// A list of units.
-#[derive(Drop)]
+#[derive(Debug, Drop)]
 pub struct Units {
     items: Vec<Unit>,
 }

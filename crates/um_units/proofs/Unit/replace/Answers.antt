@@ -1,18 +1,11 @@
-use Rattle.std.proofs.Common.{◌≡◌, ◌∙◌, ap, subst, length}
+use Rattle.std.proofs.Common.{◌≡◌, ◌∙◌, ap, subst}
 use Rattle.std.specs.Prelude.{IfOk}
 use Rattle.um_units.specs.PowerMap.{product, images, replace, nth}
 use Rattle.um_units.specs.Range.{fits, RangeUnless}
-use Rattle.um_units.specs.Terms.{variables_below}
 use Rattle.um_units.specs.Wide.{as_terms}
 use Rattle.um_units.proofs.Equality.{product-of_terms}
 use Rattle.um_units.proofs.InRange.{terms-kept}
-use Rattle.um_units.proofs.Variables.{variables_below-terms}
 use Rattle.um_units.proofs.Unit.replace.Goals as goal
-
-pub images-requires : goal.images-requires
-images-requires c =
-    let u = terms-kept c.self.inside.terms.items c.args.self.now c.self.invariant c.self.view_is in
-    ap (variables_below (length c.args.by.now)) (c.deref.ensures.value ∙ u) ∙ variables_below-terms (length c.args.by.now) c.args.self.now c.requires
 
 exact : (c : goal.After-drop-sum) → product (as_terms c.deref-2.result.now) ≡ replace (nth c.args.by.now) c.args.self.now
 exact c =

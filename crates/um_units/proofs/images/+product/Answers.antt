@@ -3,7 +3,7 @@ use Rattle.std.specs.Prelude.{IfOk}
 use Rattle.um_units.specs.PowerMap.{PowerMap, nth}
 use Rattle.um_units.specs.Wide.{as_terms}
 use Rattle.um_units.proofs.Results.{images-none, product-halves}
-use Rattle.um_units.proofs.images.+images.Goals as goal
+use Rattle.um_units.proofs.images.+product.Goals as goal
 
 pub returns-in-empty-clause-product : goal.returns-in-empty-clause-product
 returns-in-empty-clause-product t c = ap as_terms c.new.ensures.items ∙ images-none (nth c.args.by.now) c.args.terms.now c.in-empty.len_below
