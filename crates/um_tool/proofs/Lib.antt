@@ -2,3 +2,5 @@ pub mod Statuses
 pub mod Serving
 pub mod Complete
 pub mod Products
+pub mod Texts
+pub mod SchemeLines

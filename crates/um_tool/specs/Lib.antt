@@ -3,7 +3,8 @@ pub mod Orders
 pub mod Steps
 pub mod UnitText
 pub mod Range
-pub mod Product
 pub mod SchemeText
+pub mod Product
+pub mod Lines
 pub mod Answer
 pub mod Served

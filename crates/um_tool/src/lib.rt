@@ -6,6 +6,7 @@ mod order;
 mod quiet;
 mod schemes;
 mod status;
+mod text;
 mod top;
 mod words;
 

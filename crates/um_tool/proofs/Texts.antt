@@ -1,0 +1,70 @@
+-- Lists of printed texts.
+use Rattle.std.proofs.Common.{◌≡◌, refl, sym, ap, ◌∙◌, subst, ℕ, ◌<◌, List, [], ◌∷◌, ◌++◌, map, codes, append_assoc}
+use Rattle.std.proofs.lemmas.List.{append-nil}
+use Rattle.std.proofs.lemmas.Grind.{flat_map-append}
+use Rattle.std.specs.List.{flat_map, join_by}
+use Rattle.um_units.specs.PowerMap.{PowerMap}
+use Rattle.um_tree.specs.TypeTree.{TypeTree, num_type, NoteTree, note_tree}
+use Rattle.um_tree.specs.declared.note.Note.{Note}
+use Rattle.um_tree.specs.ProgramTree.{FunctionTree, ProgramTree}
+use Rattle.um_tool.specs.SchemeText.{AreTexts, IsNumText, IsTypeText, IsSignatureText}
+use Rattle.um_tool.specs.Product.{note_unit, param_units, product_unit, IsProductLine}
+use Rattle.um_tool.specs.Lines.{AddsTexts, AddsNum, AddsLine, AddsUnitsLine}
+
+AreTexts-more : {A : Type 0} (P : A → List ℕ → Type 0) (xs : List A) (ts : List (List ℕ)) (x : A) (t : List ℕ) → AreTexts P xs ts → P x t → AreTexts P (xs ++ x ∷ []) (ts ++ t ∷ [])
+AreTexts-more P [] ts x t h is = (t, [], is, refl, ap (λ us. us ++ t ∷ []) h)
+AreTexts-more P (y ∷ xs) ts x t h is = (h.0, h.1 ++ t ∷ [], h.2, AreTexts-more P xs h.1 x t h.3 is, ap (λ us. us ++ t ∷ []) h.4)
+
+-- one more text
+pub adds_text : {A : Type 0} (P : A → List ℕ → Type 0) (xs : List A) (x : A) (after old mid new t : List ℕ) → AddsTexts P xs after old mid → P x t → new ≡ mid ++ t ++ after → AddsTexts P (xs ++ x ∷ []) after old new
+adds_text P xs x after old mid new t before is grew = record {
+  texts = before.texts ++ t ∷ [];
+  printed = AreTexts-more P xs before.texts x t before.printed is;
+  is =
+      let more : flat_map (λ s. s ++ after) (before.texts ++ t ∷ []) ≡ flat_map (λ s. s ++ after) before.texts ++ (t ++ after) =
+          flat_map-append (λ s. s ++ after) before.texts (t ∷ []) ∙ ap (λ s. flat_map (λ r. r ++ after) before.texts ++ s) (append-nil (t ++ after)) in
+      grew ∙ append_assoc mid t after ∙ ap (λ s. s ++ (t ++ after)) before.is ∙ append_assoc old (flat_map (λ s. s ++ after) before.texts) (t ++ after) ∙ ap (λ s. old ++ s) (sym more)
+}
+
+-- an arrow before each text, or behind each but the last
+shifted : (after : List ℕ) (ts : List (List ℕ)) (t : List ℕ) → after ++ flat_map (λ s. s ++ after) ts ++ t ≡ flat_map (λ s. after ++ s) (ts ++ t ∷ [])
+shifted after [] t = ap (λ s. s ++ t) (append-nil after) ∙ sym (append-nil (after ++ t))
+shifted after (s ∷ ts) t =
+    let more : after ++ (s ++ after ++ flat_map (λ r. r ++ after) ts) ++ t ≡ after ++ s ++ (after ++ flat_map (λ r. r ++ after) ts ++ t) = simp (append_assoc) refl in
+    more ∙ ap (λ r. after ++ s ++ r) (shifted after ts t)
+
+arrows : (after : List ℕ) (ts : List (List ℕ)) (t : List ℕ) → flat_map (λ s. s ++ after) ts ++ t ≡ join_by (λ s. s) after (ts ++ t ∷ [])
+arrows after [] t = sym (append-nil t)
+arrows after (s ∷ ts) t =
+    let more : s ++ after ++ flat_map (λ r. r ++ after) ts ++ t ≡ s ++ (after ++ flat_map (λ r. r ++ after) ts ++ t) = simp (append_assoc) refl in
+    more ∙ ap (λ r. s ++ r) (shifted after ts t)
+
+-- the texts of numbers are the texts of their types
+num_texts : (p : ProgramTree) (us : List PowerMap) (ts : List (List ℕ)) → AreTexts (IsNumText p.bases) us ts → AreTexts (IsTypeText p) (map num_type us) ts
+num_texts p [] ts h = h
+num_texts p (u ∷ us) ts h = (h.0, h.1, h.2, num_texts p us h.1 h.3, h.4)
+
+pub note_units-map : (ns : List Note) → map (λ n. note_unit (note_tree n)) ns ≡ map note_unit (map note_tree ns)
+note_units-map [] = refl
+note_units-map (n ∷ ns) = λ i. note_unit (note_tree n) ∷ note_units-map ns i
+
+-- the line of units is the line of the function
+pub product_line : (p : ProgramTree) (f : FunctionTree) (old new : List ℕ) → AddsUnitsLine p.bases f.name (param_units f) (product_unit (param_units f) f.body) old new → AddsLine p f old new
+product_line p f old new h =
+    let types = join_by (λ s. s) (codes " -> ") (h.params ++ h.result ∷ []) in
+    record {
+      added = f.name ++ codes " : " ++ types ++ codes "\n";
+      printed = record {
+        types = types;
+        printed = (h.params ++ h.result ∷ [], AreTexts-more (IsTypeText p) (map num_type (param_units f)) h.params (num_type (product_unit (param_units f) f.body)) h.result (num_texts p (param_units f) h.params h.params_printed) h.result_printed, refl);
+        is = refl
+      };
+      is =
+          let whole : old ++ f.name ++ codes " : " ++ flat_map (λ s. s ++ codes " -> ") h.params ++ h.result ++ codes "\n" ≡ old ++ (f.name ++ codes " : " ++ (flat_map (λ s. s ++ codes " -> ") h.params ++ h.result) ++ codes "\n") = simp (append_assoc) refl in
+          h.is ∙ whole ∙ ap (λ s. old ++ (f.name ++ codes " : " ++ s ++ codes "\n")) (arrows (codes " -> ") h.params h.result)
+    }
+
+pub line_from_units : (p : ProgramTree) (f : FunctionTree) (old new : List ℕ) (us : List PowerMap) (v : PowerMap) → us ≡ param_units f → v ≡ product_unit us f.body → AddsUnitsLine p.bases f.name us v old new → AddsLine p f old new
+line_from_units p f old new us v units unit h =
+    let unit_of_units : v ≡ product_unit (param_units f) f.body = unit ∙ ap (λ ws. product_unit ws f.body) units in
+    product_line p f old new (subst (λ w. AddsUnitsLine p.bases f.name (param_units f) w old new) unit_of_units (subst (λ ws. AddsUnitsLine p.bases f.name ws v old new) units h))
