@@ -4,3 +4,4 @@ pub mod Complete
 pub mod Products
 pub mod Texts
 pub mod SchemeLines
+pub mod UnitTexts

@@ -1,6 +1,7 @@
 -- What the printing functions promise one another.
 -- Source: this project's own.
 use Rattle.std.specs.Prelude.{◌≡◌, ℕ, List, ◌++◌, codes, Result, Ok, Err}
+use Rattle.um_tool.specs.UnitText.{IsUnitText}
 use Rattle.std.specs.List.{flat_map}
 use Rattle.um_units.specs.declared.UnitStop.{UnitStop}
 use Rattle.um_units.specs.declared.UnitStop.TheVariants.{Range, NoMemory}
@@ -39,4 +40,10 @@ pub record AddsUnitsLine (bases : List (List ℕ)) (name : List ℕ) (units : Li
 pub record AddsNum (bases : List (List ℕ)) (u : PowerMap) (old new : List ℕ) : Type 0 where
   pub added : List ℕ
   pub printed : IsNumText bases u added
+  pub is : new ≡ old ++ added
+
+-- the text grew by the text of a unit
+pub record AddsUnit (bases : List (List ℕ)) (u : PowerMap) (old new : List ℕ) : Type 0 where
+  pub added : List ℕ
+  pub printed : IsUnitText bases u added
   pub is : new ≡ old ++ added

@@ -1,10 +1,11 @@
 -- How a unit is printed.
 -- Source: this project's own texts, in the notation of the F# specification, Units Of Measure.
-use Rattle.std.specs.Prelude.{◌≡◌, ◌<◌, ℕ, suc, ◌+◌, ◌/◌, ◌%◌, Bool, true, false, not, List, [], ◌∷◌, ◌++◌, codes, nat_lt, nat_eq, if◌then◌else◌, filter, get_or, ℤ, pos, negsuc, nat_abs}
+use Rattle.std.specs.Prelude.{◌≡◌, ℕ, suc, ◌+◌, ◌/◌, ◌%◌, Bool, List, [], ◌∷◌, ◌++◌, codes, nat_lt, nat_eq, if◌then◌else◌, filter, get_or, pos, nat_abs, int_lt}
 use Rattle.std.specs.List.{join_by}
 use Rattle.std.specs.List.Sorted.{IsPermutation, IsSortedBy}
 use Rattle.std.specs.Cmp.Lexicographic.{slice_cmp}
 use Rattle.std.specs.Ordering.{nat_cmp, is_lt}
+use Rattle.std.specs.declared.cmp.Ordering.{Ordering}
 use Rattle.std.specs.Fmt.{decimal}
 use Rattle.um_units.specs.declared.Atom.{Atom}
 use Rattle.um_units.specs.declared.Atom.TheVariants.{Base, Var}
@@ -23,15 +24,16 @@ abbrev pub atom_text : List (List ℕ) → Atom → List ℕ
 atom_text bases (Base k) = base_name bases k
 atom_text bases (Var k) = variable_text k
 
--- base units in the byte order of their names, then variables by number
-abbrev pub atom_stands_before : List (List ℕ) → Atom → Atom → Bool
-atom_stands_before bases (Base j) (Base k) = is_lt (slice_cmp nat_cmp (base_name bases j) (base_name bases k))
-atom_stands_before bases (Base j) (Var k) = true
-atom_stands_before bases (Var j) (Base k) = false
-atom_stands_before bases (Var j) (Var k) = nat_lt j k
+-- base units stand in the byte order of their names, and then variables by their numbers
+abbrev pub order_key : List (List ℕ) → Atom → List ℕ
+order_key bases (Base k) = 0 ∷ base_name bases k
+order_key bases (Var k) = 1 ∷ k ∷ []
+
+abbrev pub atom_order : List (List ℕ) → Atom → Atom → Ordering
+atom_order bases x y = slice_cmp nat_cmp (order_key bases x) (order_key bases y)
 
 abbrev pub stands_before : List (List ℕ) → Term → Term → Bool
-stands_before bases s t = atom_stands_before bases s.atom t.atom
+stands_before bases s t = is_lt (atom_order bases s.atom t.atom)
 
 -- the power, where it isn't 1
 abbrev pub exponent_text : ℕ → List ℕ
@@ -41,21 +43,24 @@ exponent_text n = if nat_eq n 1 then [] else codes "^" ++ decimal n
 abbrev pub factor_text : List (List ℕ) → Term → List ℕ
 factor_text bases t = atom_text bases t.atom ++ exponent_text (nat_abs t.power)
 
-abbrev pub is_above_zero : Term → Bool
-is_above_zero t = elim t.power [ | pos n ↦ true | negsuc n ↦ false ]
+-- a factor has a power above 0, and a divisor one below it
+abbrev pub is_factor : Term → Bool
+is_factor t = int_lt (pos 0) t.power
+
+abbrev pub is_divisor : Term → Bool
+is_divisor t = int_lt t.power (pos 0)
 
 abbrev pub factors_text : List (List ℕ) → List Term → List ℕ
 factors_text bases ts = join_by (factor_text bases) (codes " ") ts
 
--- those with negative powers stand behind one `/`
+-- the divisors stand behind one `/`
 abbrev pub divisors_text : List (List ℕ) → List Term → List ℕ
 divisors_text bases [] = []
 divisors_text bases (t ∷ ts) = codes "/" ++ factors_text bases (t ∷ ts)
 
 abbrev pub ordered_text : List (List ℕ) → List Term → List ℕ
 ordered_text bases [] = codes "1"
-ordered_text bases (t ∷ ts) =
-    factors_text bases (filter is_above_zero (t ∷ ts)) ++ divisors_text bases (filter (λ s. not (is_above_zero s)) (t ∷ ts))
+ordered_text bases (t ∷ ts) = factors_text bases (filter is_factor (t ∷ ts)) ++ divisors_text bases (filter is_divisor (t ∷ ts))
 
 -- the text of a unit: its terms in the order of printing
 pub record IsUnitText (bases : List (List ℕ)) (u : PowerMap) (text : List ℕ) : Type 0 where

@@ -50,7 +50,7 @@ fn push_line(
         Err(stop) => Err(stop),
         Ok(unit) => {
             let bases = program.bases.as_slice();
-            push_types(text, &function.name, bases, &units, &unit)?;
+            push_types(alloc, text, &function.name, bases, &units, &unit)?;
             Ok(())
         }
     }
@@ -58,6 +58,7 @@ fn push_line(
 
 /// Adds the line of a function of this name, whose parameters and result have these units.
 fn push_types(
+    alloc: Global,
     text: &mut Vec<u8>,
     name: &Name,
     bases: &[Name],
@@ -68,17 +69,22 @@ fn push_types(
 {
     text.extend_from_slice(name.as_slice())?;
     text.extend_from_slice(b" : ")?;
-    push_params(text, bases, params)?;
-    push_num_type(text, result_unit, bases)?;
+    push_params(alloc, text, bases, params)?;
+    push_num_type(alloc, text, bases, result_unit)?;
     text.push(b'\n')?;
     Ok(())
 }
 
-fn push_params(text: &mut Vec<u8>, bases: &[Name], params: &[Unit]) -> Result<(), AllocError>
+fn push_params(
+    alloc: Global,
+    text: &mut Vec<u8>,
+    bases: &[Name],
+    params: &[Unit],
+) -> Result<(), AllocError>
     ensures { OnOk result (AddsTexts (IsNumText bases.now) params.now (codes " -> ") text.old.items text.new.items) }
 {
     for unit in params {
-        push_num_type(text, unit, bases)?;
+        push_num_type(alloc, text, bases, unit)?;
         text.extend_from_slice(b" -> ")?;
     }
     Ok(())
