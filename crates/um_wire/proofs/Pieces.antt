@@ -4,23 +4,30 @@ use Rattle.std.proofs.lemmas.List.{take-append-le, drop-drop}
 use Rattle.std.specs.declared.option.Option.{Option}
 use Rattle.std.specs.Io.KnownBytes.{Consumes}
 use Rattle.std.proofs.KnownBytes.{Consumes-trans}
-use Rattle.um_wire.specs.Bytes.{Tells, TellsMoreThan, TellsPrefix, ReadsPast}
+use Rattle.um_wire.specs.Bytes.{TellsMoreThan, TellsPrefix, ReadsPast}
 
 -- known bytes that lose some were at least as many
-pub TellsMoreThan-of_read : (limit : ℕ) (old new : Option (List ℕ)) (bytes : List ℕ) → Consumes old new bytes → limit < length bytes → TellsMoreThan limit old
-TellsMoreThan-of_read limit None new bytes read more = record { bytes = bytes; told = tt; more = more }
+pub TellsMoreThan-of_read : (limit : ℕ) (old new : Option (List ℕ)) (bytes : List ℕ)
+    → Consumes old new bytes → limit < length bytes → TellsMoreThan limit old
+TellsMoreThan-of_read limit None new bytes read more =
+    record { bytes = bytes; told = tt; more = more }
 TellsMoreThan-of_read limit (Some known) None bytes read more = absurd read
-TellsMoreThan-of_read limit (Some known) (Some rest) bytes read more =
-    record { bytes = known; told = refl; more = rw read (omega (arith, length-append bytes rest, more)) }
+TellsMoreThan-of_read limit (Some known) (Some rest) bytes read more = record {
+  bytes = known;
+  told = refl;
+  more = rw read (omega (arith, length-append bytes rest, more));
+}
 
 -- known bytes that lose some began with them
-pub TellsPrefix-of_read : (old new : Option (List ℕ)) (bytes : List ℕ) → Consumes old new bytes → TellsPrefix old bytes
+pub TellsPrefix-of_read : (old new : Option (List ℕ)) (bytes : List ℕ)
+    → Consumes old new bytes → TellsPrefix old bytes
 TellsPrefix-of_read None new bytes read = record { rest = bytes; told = tt }
 TellsPrefix-of_read (Some known) None bytes read = absurd read
 TellsPrefix-of_read (Some known) (Some rest) bytes read = record { rest = rest; told = read }
 
--- what was read before and the next piece are the bytes read
-pub ReadsPast-of_reads : (limit : ℕ) (IsPast : Type 0) (old mid new : Option (List ℕ)) (text piece : List ℕ) → Consumes old mid text → Consumes mid new piece
+-- what was read before, and the next piece, are the bytes read
+pub ReadsPast-of_reads : (limit : ℕ) (IsPast : Type 0) (old mid new : Option (List ℕ))
+    (text piece : List ℕ) → Consumes old mid text → Consumes mid new piece
     → IsPast ↔ (limit < length text + length piece) → ReadsPast limit IsPast old new
 ReadsPast-of_reads limit IsPast old mid new text piece before now past = record {
   bytes = text ++ piece;
@@ -29,16 +36,23 @@ ReadsPast-of_reads limit IsPast old mid new text piece before now past = record 
 }
 
 -- the front of the rest goes over to what was taken
-pub append-moved : (all front rest : List ℕ) (n m : ℕ) → all ≡ front ++ rest → m ≡ length rest → all ≡ front ++ take n rest ++ take (m - n) (drop n rest)
+pub append-moved : (all front rest : List ℕ) (n m : ℕ) → all ≡ front ++ rest → m ≡ length rest
+    → all ≡ front ++ take n rest ++ take (m - n) (drop n rest)
 append-moved all front rest n m parts is =
     let whole : length (drop n rest) ≤ m - n = rw (is, length-drop n rest) (omega arith) in
-    parts ∙ ap (λ (l : List ℕ). front ++ l) (sym (take-append-drop n rest)) ∙ sym (append_assoc front (take n rest) (drop n rest))
-    ∙ ap (λ (l : List ℕ). front ++ take n rest ++ l) (sym (take_all _ _ whole))
+    let split = ap (λ (l : List ℕ). front ++ l) (sym (take-append-drop n rest)) in
+    let regrouped = sym (append_assoc front (take n rest) (drop n rest)) in
+    let kept = ap (λ (l : List ℕ). front ++ take n rest ++ l) (sym (take_all _ _ whole)) in
+    parts ∙ split ∙ regrouped ∙ kept
 
 -- the next n bytes stand at the front of the piece
-pub drop-copied : (bytes copy piece : List ℕ) (at n : ℕ) → copy ≡ take n (drop at bytes) → length copy ≡ n → drop at bytes ≡ take n (copy ++ drop n piece) ++ drop (at + n) bytes
+pub drop-copied : (bytes copy piece : List ℕ) (at n : ℕ) → copy ≡ take n (drop at bytes)
+    → length copy ≡ n → drop at bytes ≡ take n (copy ++ drop n piece) ++ drop (at + n) bytes
 drop-copied bytes copy piece at n is len =
     let fits : n ≤ length copy = omega (arith, len) in
     let whole : length copy ≤ n = omega (arith, len) in
-    sym (take-append-drop n (drop at bytes)) ∙ ap (λ (l : List ℕ). l ++ drop n (drop at bytes)) (sym (take-append-le n copy (drop n piece) fits ∙ take_all n copy whole ∙ is))
-    ∙ ap (λ (l : List ℕ). take n (copy ++ drop n piece) ++ l) (drop-drop n at bytes)
+    let front = sym (take-append-le n copy (drop n piece) fits ∙ take_all n copy whole ∙ is) in
+    let split = sym (take-append-drop n (drop at bytes)) in
+    let copied = ap (λ (l : List ℕ). l ++ drop n (drop at bytes)) front in
+    let moved = ap (λ (l : List ℕ). take n (copy ++ drop n piece) ++ l) (drop-drop n at bytes) in
+    split ∙ copied ∙ moved

@@ -1,5 +1,6 @@
--- What reads and writes do to bytes that are known, in the manner of std's `Io.KnownBytes`: `Some` of the bytes where a
--- source or a sink tells them, and `None`, of which nothing is claimed, where it doesn't. This project's own.
+-- What reads and writes do to the bytes that a source has left and a sink took, in the manner of
+-- std's `Io.KnownBytes`: these are known, `Some` of the bytes, where the source or the sink tells
+-- them, and else they are `None`, of which nothing is claimed. This project's own.
 use Rattle.std.specs.Prelude.{◌≡◌, ℕ, ◌<◌, ◌≤◌, List, ◌++◌, length, ⊤, None, Some, Result, IfOk, ◌↔◌}
 use Rattle.std.specs.declared.option.Option.{Option}
 use Rattle.std.specs.Io.KnownBytes.{Appends, Consumes}
@@ -9,16 +10,16 @@ abbrev pub Tells : Option (List ℕ) → List ℕ → Type 0
 Tells None bytes = ⊤
 Tells (Some known) bytes = known ≡ bytes
 
--- known bytes are more than `limit`
-pub record TellsMoreThan (limit : ℕ) (known : Option (List ℕ)) : Type 0 where
-  pub bytes : List ℕ
-  pub told : Tells known bytes
-  pub more : limit < length bytes
-
 -- known bytes begin with these
 pub record TellsPrefix (known : Option (List ℕ)) (front : List ℕ) : Type 0 where
   pub rest : List ℕ
   pub told : Tells known (front ++ rest)
+
+-- known bytes number more than `limit`
+pub record TellsMoreThan (limit : ℕ) (known : Option (List ℕ)) : Type 0 where
+  pub bytes : List ℕ
+  pub told : Tells known bytes
+  pub more : limit < length bytes
 
 -- the bytes that a call read number more than `limit` exactly where `IsPast` holds
 pub record ReadsPast (limit : ℕ) (IsPast : Type 0) (old new : Option (List ℕ)) : Type 0 where

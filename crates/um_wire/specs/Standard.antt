@@ -6,7 +6,7 @@ pub record StdSourceState (R : Type 0) : Type 0 where
   pub reader : R
   pub faults : ℕ
 
--- a writer of std, and how many of its writes and flushes failed or took nothing
+-- a writer of std, and how many of its writes failed, took nothing or weren't flushed
 pub record StdSinkState (W : Type 0) : Type 0 where
   pub writer : W
   pub faults : ℕ

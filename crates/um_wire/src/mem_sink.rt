@@ -1,16 +1,17 @@
-// A sink in memory, for tests: it takes a few bytes at a time, and fails at the calls that it is told.
-ghost use Rattle.std.specs.Prelude.{◌≡◌, ◌-◌, ◌≤◌, ◌↔◌, ◌⊎◌, [], Some, IsErr, IfOk, OnErr, is_err, if◌then◌else◌, Contains, length, min, vec_len, vec_capacity};
+// A sink in memory, for tests: it takes a few bytes at a time, and fails at the calls that it is
+// told.
+ghost use Rattle.std.specs.Prelude.{◌≡◌, ◌≤◌, ◌↔◌, ◌⊎◌, [], Some, IsErr, IfOk, OnErr, Contains, length, vec_len, vec_capacity};
 ghost use Rattle.std.specs.Io.KnownBytes.{WriteAppends};
-ghost use Rattle.um_wire.specs.Faults.{Rose, next_count};
+ghost use Rattle.um_wire.specs.Faults.{Rose, next_count, fault_count};
 ghost use Rattle.um_wire.specs.Bytes.{TakesSome};
-ghost use Rattle.um_wire.specs.Memory.{MemSinkState};
+ghost use Rattle.um_wire.specs.Memory.{MemSinkState, write_count};
 
 use crate::{Failed, NoMemory, Sink};
 use std::alloc::Global;
 use std::marker::Model;
 
-/// Takes bytes into a room of a fixed size, at most `piece` at a time. The calls that `fails` names fail, and so does
-/// each write into a full room.
+/// Takes bytes into a room of a fixed size, at most `piece` at a time. The calls that `fails` names
+/// fail, and so does each write into a full room.
 #[derive(Debug, Drop)]
 pub struct MemSink {
     bytes: Vec<u8>,
@@ -24,14 +25,22 @@ pub struct MemSink {
 impl Model for MemSink {
     ghost Value = { MemSinkState };
 
-    ghost view = { λ s. record { taken = s.bytes.items; room = s.room; piece = s.piece; fails = s.fails.items; calls = s.calls; faults = s.faults } };
+    ghost view = { λ s. record {
+      taken = s.bytes.items;
+      room = s.room;
+      piece = s.piece;
+      fails = s.fails.items;
+      calls = s.calls;
+      faults = s.faults;
+    } };
 
-    ghost invariant = { λ s. (s.room ≤ vec_capacity s.bytes) × (vec_len s.bytes ≤ s.room) × (1 ≤ s.piece) };
+    ghost invariant = { λ s.
+        (s.room ≤ vec_capacity s.bytes) × (vec_len s.bytes ≤ s.room) × (1 ≤ s.piece) };
 }
 
 impl MemSink {
-    /// A sink with all its room, `room` bytes, which it takes from `alloc` here and now. A write takes at most `piece`
-    /// bytes, and the calls numbered in `fails`, from 0, fail.
+    /// A sink with room for `room` bytes, all of whose memory is taken here. A write takes at most
+    /// `piece` bytes, and the calls numbered in `fails`, from 0, fail.
     pub fn new(
         alloc: Global,
         room: usize,
@@ -39,7 +48,14 @@ impl MemSink {
         fails: Vec<u64>,
     ) -> Result<MemSink, NoMemory>
         requires { 1 ≤ piece }
-        ensures { IfOk result (λ sink. sink ≡ record { taken = []; room = room; piece = piece; fails = fails.items; calls = 0; faults = 0 }) }
+        ensures { IfOk result (λ sink. sink ≡ record {
+          taken = [];
+          room = room;
+          piece = piece;
+          fails = fails.items;
+          calls = 0;
+          faults = 0;
+        }) }
     {
         Ok(MemSink {
             bytes: Vec::with_capacity(alloc, room)?,
@@ -64,19 +80,22 @@ impl Sink for MemSink {
 
     ghost faults = { λ s. s.faults };
 
-    /// Fails where the call's number is named or the room is full, and else takes as much as the piece, `from` and the
-    /// room allow.
+    /// Fails where the call's number is named or the room is full, and else takes as much as the
+    /// piece, `from` and the room allow.
     fn write(&mut self, from: &[u8]) -> Result<usize, Failed>
         ensures bound { TakesSome result from.now }
         ensures bytes { WriteAppends (Some self.old.taken) (Some self.new.taken) result from.now }
         ensures never_falls { self.old.faults ≤ self.new.faults }
         ensures failed { OnErr result (Rose self.old.faults self.new.faults) }
 
-        ensures fails { IsErr result ↔ (Contains self.old.fails self.old.calls ⊎ (self.old.room ≤ length self.old.taken)) }
-        ensures count { IfOk result (λ n. n ≡ min self.old.piece (min (length from.now) (self.old.room - length self.old.taken))) }
+        ensures fails { IsErr result ↔
+            (Contains self.old.fails self.old.calls ⊎ (self.old.room ≤ length self.old.taken)) }
+        ensures count { IfOk result (λ n. n ≡ write_count self.old (length from.now)) }
         ensures calls { self.new.calls ≡ next_count self.old.calls }
-        ensures faults { self.new.faults ≡ (if is_err result then next_count self.old.faults else self.old.faults) }
-        ensures script { (self.new.piece ≡ self.old.piece) × (self.new.fails ≡ self.old.fails) × (self.new.room ≡ self.old.room) }
+        ensures faults { self.new.faults ≡ fault_count result self.old.faults }
+        ensures room { self.new.room ≡ self.old.room }
+        ensures piece { self.new.piece ≡ self.old.piece }
+        ensures script { self.new.fails ≡ self.old.fails }
     {
         let call = self.calls;
         self.calls = call.saturating_add(1);

@@ -1,9 +1,10 @@
-// A source in memory, for tests: it gives a few bytes at a time, and fails at the calls that it is told.
-ghost use Rattle.std.specs.Prelude.{◌≡◌, ◌≤◌, ◌↔◌, Some, IsErr, IfOk, OnErr, is_err, if◌then◌else◌, Contains, length, drop, min, vec_len};
+// A source in memory, for tests: it gives a few bytes at a time, and fails at the calls that it is
+// told.
+ghost use Rattle.std.specs.Prelude.{◌≡◌, ◌≤◌, ◌↔◌, Some, IsErr, IfOk, OnErr, Contains, length, drop, vec_len};
 ghost use Rattle.std.specs.Io.{ReadsAtMost};
 ghost use Rattle.std.specs.Io.KnownBytes.{ReadConsumes};
-ghost use Rattle.um_wire.specs.Faults.{Rose, next_count};
-ghost use Rattle.um_wire.specs.Memory.{MemSourceState};
+ghost use Rattle.um_wire.specs.Faults.{Rose, next_count, fault_count};
+ghost use Rattle.um_wire.specs.Memory.{MemSourceState, read_count};
 
 use crate::copy::copy_next;
 use crate::{Failed, Source};
@@ -23,16 +24,29 @@ pub struct MemSource {
 impl Model for MemSource {
     ghost Value = { MemSourceState };
 
-    ghost view = { λ s. record { left = drop s.at s.bytes.items; piece = s.piece; fails = s.fails.items; calls = s.calls; faults = s.faults } };
+    ghost view = { λ s. record {
+      left = drop s.at s.bytes.items;
+      piece = s.piece;
+      fails = s.fails.items;
+      calls = s.calls;
+      faults = s.faults;
+    } };
 
     ghost invariant = { λ s. (s.at ≤ vec_len s.bytes) × (1 ≤ s.piece) };
 }
 
 impl MemSource {
-    /// All of `bytes` is left. A read gives at most `piece` bytes, and the calls numbered in `fails`, from 0, fail.
+    /// All of `bytes` is left. A read gives at most `piece` bytes, and the calls numbered in
+    /// `fails`, from 0, fail.
     pub fn new(bytes: Vec<u8>, piece: usize, fails: Vec<u64>) -> MemSource
         requires { 1 ≤ piece }
-        ensures { result ≡ record { left = bytes.items; piece = piece; fails = fails.items; calls = 0; faults = 0 } }
+        ensures { result ≡ record {
+          left = bytes.items;
+          piece = piece;
+          fails = fails.items;
+          calls = 0;
+          faults = 0;
+        } }
     {
         MemSource {
             bytes,
@@ -50,7 +64,8 @@ impl Source for MemSource {
 
     ghost faults = { λ s. s.faults };
 
-    /// Fails where the call's number is named, and else gives as much as the piece, `into` and the bytes left allow.
+    /// Fails where the call's number is named, and else gives as much as the piece, `into` and the
+    /// bytes left allow.
     fn read(&mut self, into: &mut [u8]) -> Result<usize, Failed>
         ensures bound { ReadsAtMost result into.new }
         ensures bytes { ReadConsumes (Some self.old.left) (Some self.new.left) result into.new }
@@ -58,10 +73,11 @@ impl Source for MemSource {
         ensures failed { OnErr result (Rose self.old.faults self.new.faults) }
 
         ensures fails { IsErr result ↔ Contains self.old.fails self.old.calls }
-        ensures count { IfOk result (λ n. n ≡ min self.old.piece (min (length into.old) (length self.old.left))) }
+        ensures count { IfOk result (λ n. n ≡ read_count self.old (length into.old)) }
         ensures calls { self.new.calls ≡ next_count self.old.calls }
-        ensures faults { self.new.faults ≡ (if is_err result then next_count self.old.faults else self.old.faults) }
-        ensures script { (self.new.piece ≡ self.old.piece) × (self.new.fails ≡ self.old.fails) }
+        ensures faults { self.new.faults ≡ fault_count result self.old.faults }
+        ensures piece { self.new.piece ≡ self.old.piece }
+        ensures script { self.new.fails ≡ self.old.fails }
     {
         let call = self.calls;
         self.calls = call.saturating_add(1);

@@ -1,6 +1,5 @@
 // A source and a sink that never fail.
-ghost use Rattle.std.specs.Prelude.{◌≡◌, ◌+◌, ◌-◌, ◌^◌, ◌≤◌, ℕ, List, Some, None, IsOk, IfOk, OnErr, drop, length, min, vec_len};
-ghost use Rattle.std.specs.declared.option.Option.{Option};
+ghost use Rattle.std.specs.Prelude.{◌≡◌, ◌+◌, ◌-◌, ◌^◌, ◌≤◌, ℕ, List, Some, None, IsOk, IfOk, drop, length, min, vec_len};
 ghost use Rattle.std.specs.Io.{ReadsAtMost};
 ghost use Rattle.std.specs.Io.KnownBytes.{ReadConsumes};
 
@@ -50,8 +49,8 @@ impl Source for QuietSource {
     }
 }
 
-/// Takes all bytes and keeps only how many, up to the greatest number of 64 bits. It never fails. Contracts see it as
-/// this number.
+/// Takes all bytes and keeps only how many, up to the greatest number of 64 bits. It never fails.
+/// Contracts see it as this number.
 #[derive(Debug, Drop)]
 pub struct QuietSink {
     count: u64,

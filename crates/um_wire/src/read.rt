@@ -18,7 +18,7 @@ pub enum ReadStop {
     /// The text has more bytes than the limit.
     #[error("the text is too long")]
     TooLong,
-    /// There was no memory for the text.
+    /// Memory ran out.
     #[error("out of memory")]
     NoMemory,
 }
@@ -44,7 +44,8 @@ const PIECE: usize = 4096;
 
 /// Reads all bytes that are left in `source`, where they number at most `limit`.
 ///
-/// It answers `TooLong` exactly where byte `limit + 1` was read, and `Failed` only where the source counted a fault.
+/// It answers `TooLong` exactly where byte `limit + 1` was read, and `Failed` only where the source
+/// counted a fault.
 pub fn read_text<S: Source>(
     alloc: Global,
     source: &mut S,
@@ -54,20 +55,23 @@ pub fn read_text<S: Source>(
     ensures fits { IfOk result (λ text. length text.items ≤ limit) }
     ensures end { OnOk result (IsAtEnd (S.left source.new)) }
     ensures too_long { IsErrOf result ReadStop.TooLong → TellsMoreThan limit (S.left source.old) }
-    ensures past_limit { ReadsPast limit (IsErrOf result ReadStop.TooLong) (S.left source.old) (S.left source.new) }
+    ensures past_limit { ReadsPast limit (IsErrOf result ReadStop.TooLong)
+        (S.left source.old) (S.left source.new) }
     ensures never_falls { S.faults source.old ≤ S.faults source.new }
-    ensures failed { IsErrOf result ReadStop.Failed → Rose (S.faults source.old) (S.faults source.new) }
+    ensures failed { IsErrOf result ReadStop.Failed →
+        Rose (S.faults source.old) (S.faults source.new) }
 {
     let mut text = Vec::new(alloc);
     read_into(source, limit, &mut text)?;
     Ok(text)
 }
 
-/// Hands all bytes that are left in `source` on to `taker`, piece by piece, where they number at most `limit`.
+/// Hands all bytes that are left in `source` on to `taker`, piece by piece, where they number at
+/// most `limit`.
 ///
-/// It answers `TooLong` exactly where byte `limit + 1` was read, and `Failed` only where the source counted a fault.
-/// Unless memory wanted, the taker has then taken a prefix of the bytes that were left, of at most `limit` bytes.
-/// Each turn takes a byte or is the last, so it returns.
+/// It answers `TooLong` exactly where byte `limit + 1` was read, and `Failed` only where the source
+/// counted a fault. After either, the taker has taken a prefix of the bytes that were left. It is
+/// given at most `limit` bytes. Each turn takes a byte or is the last, so the call returns.
 pub fn read_into<S: Source, T: Taker>(
     source: &mut S,
     limit: usize,
@@ -78,12 +82,15 @@ pub fn read_into<S: Source, T: Taker>(
     ensures text { OnOk result (Tells (S.left source.old) (T.taken taker.new)) }
     ensures end { OnOk result (IsAtEnd (S.left source.new)) }
     ensures too_long { IsErrOf result ReadStop.TooLong → TellsMoreThan limit (S.left source.old) }
-    ensures past_limit { ReadsPast limit (IsErrOf result ReadStop.TooLong) (S.left source.old) (S.left source.new) }
-    ensures prefix { ¬ IsErrOf result ReadStop.NoMemory → TellsPrefix (S.left source.old) (T.taken taker.new) }
+    ensures past_limit { ReadsPast limit (IsErrOf result ReadStop.TooLong)
+        (S.left source.old) (S.left source.new) }
+    ensures prefix { ¬ IsErrOf result ReadStop.NoMemory →
+        TellsPrefix (S.left source.old) (T.taken taker.new) }
     ensures fits { ¬ IsErrOf result ReadStop.NoMemory → length (T.taken taker.new) ≤ limit }
     ensures most { T.most taker.new ≡ T.most taker.old }
     ensures never_falls { S.faults source.old ≤ S.faults source.new }
-    ensures failed { IsErrOf result ReadStop.Failed → Rose (S.faults source.old) (S.faults source.new) }
+    ensures failed { IsErrOf result ReadStop.Failed →
+        Rose (S.faults source.old) (S.faults source.new) }
 {
     let mut room = limit;
     let mut piece = [0u8; PIECE];

@@ -1,7 +1,7 @@
 // Any writer of std as a sink.
-ghost use Rattle.std.specs.Prelude.{◌≡◌, ◌≤◌, None, IfOk, OnErr, is_err, take, if◌then◌else◌};
+ghost use Rattle.std.specs.Prelude.{◌≡◌, ◌≤◌, None, IfOk, OnErr, take};
 ghost use Rattle.std.specs.Io.KnownBytes.{Appends};
-ghost use Rattle.um_wire.specs.Faults.{Rose, next_count};
+ghost use Rattle.um_wire.specs.Faults.{Rose, fault_count};
 ghost use Rattle.um_wire.specs.Bytes.{TakesSome};
 ghost use Rattle.um_wire.specs.Standard.{StdSinkState};
 
@@ -9,8 +9,9 @@ use crate::{Failed, Sink};
 use std::io::Write;
 use std::marker::Model;
 
-/// A writer of std, flushed after each write. It counts a write or a flush that fails, and a write that takes no byte
-/// of a piece that isn't empty. It doesn't tell what was taken, since a failed flush may follow a write that was.
+/// A writer of std, flushed after each write. It counts a write or a flush that fails, and a write
+/// that takes no byte of a piece that isn't empty. It doesn't tell what was taken, since a failed
+/// flush may follow a write that was.
 #[derive(Debug, Drop)]
 pub struct StdSink<W: Write> {
     writer: W,
@@ -43,8 +44,9 @@ impl<W: Write> Sink for StdSink<W> {
         ensures never_falls { self.old.faults ≤ self.new.faults }
         ensures failed { OnErr result (Rose self.old.faults self.new.faults) }
 
-        ensures faults { self.new.faults ≡ (if is_err result then next_count self.old.faults else self.old.faults) }
-        ensures written { IfOk result (λ n. Appends (W.contents self.old.writer) (W.contents self.new.writer) (take n from.now)) }
+        ensures faults { self.new.faults ≡ fault_count result self.old.faults }
+        ensures written { IfOk result (λ n.
+            Appends (W.contents self.old.writer) (W.contents self.new.writer) (take n from.now)) }
     {
         if let Ok(count) = self.writer.write(from)
             && (count != 0 || from.is_empty())

@@ -1,8 +1,8 @@
 // Any reader of std as a source.
-ghost use Rattle.std.specs.Prelude.{◌≡◌, ◌≤◌, OnErr, is_err, if◌then◌else◌};
+ghost use Rattle.std.specs.Prelude.{◌≡◌, ◌≤◌, OnErr};
 ghost use Rattle.std.specs.Io.{ReadsAtMost};
 ghost use Rattle.std.specs.Io.KnownBytes.{ReadConsumes};
-ghost use Rattle.um_wire.specs.Faults.{Rose, next_count};
+ghost use Rattle.um_wire.specs.Faults.{Rose, fault_count};
 ghost use Rattle.um_wire.specs.Standard.{StdSourceState};
 
 use crate::{Failed, Source};
@@ -39,11 +39,12 @@ impl<R: Read> Source for StdSource<R> {
     /// Reads from the reader once. An error of it, whatever its kind, is a fault.
     fn read(&mut self, into: &mut [u8]) -> Result<usize, Failed>
         ensures bound { ReadsAtMost result into.new }
-        ensures bytes { ReadConsumes (R.remaining self.old.reader) (R.remaining self.new.reader) result into.new }
+        ensures bytes { ReadConsumes (R.remaining self.old.reader) (R.remaining self.new.reader)
+            result into.new }
         ensures never_falls { self.old.faults ≤ self.new.faults }
         ensures failed { OnErr result (Rose self.old.faults self.new.faults) }
 
-        ensures faults { self.new.faults ≡ (if is_err result then next_count self.old.faults else self.old.faults) }
+        ensures faults { self.new.faults ≡ fault_count result self.old.faults }
     {
         match self.reader.read(into) {
             Ok(count) => Ok(count),
