@@ -38,7 +38,7 @@ holds_case : {A : Type 0} (test : Bool) (f : T test → Option A) (h : T test) �
 holds_case true f h = refl
 holds_case false f h = absurd h
 
-some_is : (a b : Frac) → Some a ≡ Some b → a ≡ b
+pub some_is : (a b : Frac) → Some a ≡ Some b → a ≡ b
 some_is a b e = cc
 
 -- ---- `fraction`

@@ -8,7 +8,7 @@ use Rattle.std.specs.Prelude.{int_lt, Bool, T, FitsSigned}
 use Rattle.std.proofs.Common.{to_z, of_z, w64}
 use Rattle.std.specs.Bool.{one_answer}
 use lib.Signed.{lt_z_yes}
-use lib.IntN.{*ℤ-zero}
+use lib.IntN.{*ℤ-zero, ℤ_discrete}
 use Rattle.um_frac.specs.declared.number.Frac.{Frac}
 use Rattle.um_frac.specs.declared.number.Trap.{Trap}
 use Rattle.um_frac.specs.declared.number.Trap.TheVariants.{Overflow, DivZero}
@@ -99,12 +99,12 @@ pub record IsReciprocal (r : Frac) (num den : ℤ) : Type 0 where
   pub num_fits : num ≤ℤ pos 9223372036854775807
   pub lowest : gcd (unsigned_abs num) (unsigned_abs den) ≡ 1
 
-size_up : (z : ℤ) → z ≢ pos 0 → 0 < unsigned_abs z
+pub size_up : (z : ℤ) → z ≢ pos 0 → 0 < unsigned_abs z
 size_up (pos zero) other = absurd (other refl)
 size_up (pos (suc n)) other = omega arith
 size_up (negsuc n) other = omega arith
 
-within : (z : ℤ) → unsigned_abs z ≤ 9223372036854775807 → (negsuc 9223372036854775806 ≤ℤ z) × (z ≤ℤ pos 9223372036854775807)
+pub within : (z : ℤ) → unsigned_abs z ≤ 9223372036854775807 → (negsuc 9223372036854775806 ≤ℤ z) × (z ≤ℤ pos 9223372036854775807)
 within (pos n) h = (omega (arith, ints), omega (arith, ints))
 within (negsuc n) h = (omega (arith, ints), omega (arith, ints))
 
@@ -227,3 +227,11 @@ quotient_from a b c other is =
     let crossed = times_four (numerator a) (numerator c) (denominator a) (numerator b) ∙ ap (λ z. numerator a *ℤ denominator a *ℤ z) is.1 ∙ times_four (numerator a) (denominator a) (denominator b) (denominator c) in
     let apart = not_zero (denominator a) (numerator b) (den_apart a) other in
     ap (λ x. ok_or x Overflow) (reduced_same (numerator a *ℤ numerator c) (denominator a *ℤ denominator c) (numerator a *ℤ denominator b) (denominator a *ℤ numerator b) (dens_apart a c) apart crossed) ∙ sym (quotient_exactly a b other)
+
+-- whichever b is
+pub quotient_any : (a b : Frac) → QuotientClauses a b (quotient_of a b)
+quotient_any a b = by_test (ℤ_discrete (numerator b) (pos 0))
+  where
+    by_test : Dec (numerator b ≡ pos 0) → QuotientClauses a b (quotient_of a b)
+    by_test (yes e) = subst (QuotientClauses a b) (sym (quotient_zero a b e)) (quotient_zero_clauses a b e)
+    by_test (no other) = quotient_clauses a b (quotient_of a b) other refl

@@ -1,3 +1,4 @@
-pub mod Arithmetic
 pub mod Gcd
 pub mod Fraction
+pub mod Arithmetic
+pub mod Laws

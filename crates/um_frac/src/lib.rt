@@ -5,6 +5,7 @@
 #![tactic(auto)]
 
 mod divisor;
+pub mod laws;
 mod number;
 
 pub use number::{Frac, Trap};

@@ -32,7 +32,7 @@ pub struct Frac {
 
 impl Frac {
     ghost use Rattle.um_frac.specs.Fraction.{numerator, denominator, reduced, IsQuotient, Fits};
-    ghost use Rattle.um_frac.specs.Arithmetic.{sum_of, difference_of, product_of, quotient_of, is_less, is_same, IsSum, IsDifference, IsProduct, IsRatio, IsNegative};
+    ghost use Rattle.um_frac.specs.Arithmetic.{sum_of, difference_of, product_of, quotient_of, negation_of, is_less, is_same, IsSum, IsDifference, IsProduct, IsRatio, IsNegative};
 
     /// The number 0.
     pub fn zero() -> Frac
@@ -78,6 +78,7 @@ impl Frac {
     }
 
     /// The sum, or `Overflow` exactly where it is out of range.
+    #[inline]
     pub fn add(self, other: Frac) -> Result<Frac, Trap>
         ensures value { result ≡ sum_of self other }
         ensures exact { IfOk result (λ r. IsSum r self other) }
@@ -93,6 +94,7 @@ impl Frac {
     }
 
     /// The difference `self - other`, or `Overflow` exactly where it is out of range.
+    #[inline]
     pub fn sub(self, other: Frac) -> Result<Frac, Trap>
         ensures value { result ≡ difference_of self other }
         ensures exact { IfOk result (λ r. IsDifference r self other) }
@@ -103,6 +105,7 @@ impl Frac {
     }
 
     /// The product, or `Overflow` exactly where it is out of range.
+    #[inline]
     pub fn mul(self, other: Frac) -> Result<Frac, Trap>
         ensures value { result ≡ product_of self other }
         ensures exact { IfOk result (λ r. IsProduct r self other) }
@@ -119,6 +122,7 @@ impl Frac {
 
     /// The quotient `self / other`: `DivZero` exactly where `other` is 0, and else `Overflow` exactly where the quotient
     /// is out of range.
+    #[inline]
     pub fn div(self, other: Frac) -> Result<Frac, Trap>
         ensures value { result ≡ quotient_of self other }
         ensures exact { IfOk result (λ r. IsRatio r self other) }
@@ -133,7 +137,8 @@ impl Frac {
 
     /// The number with the other sign, which is always in range.
     pub fn neg(self) -> Frac
-        ensures { IsNegative result self }
+        ensures value { result ≡ negation_of self }
+        ensures parts { IsNegative result self }
     {
         Frac {
             num: -self.num,
@@ -206,6 +211,7 @@ impl Frac {
     // The sum of a / m and b / n, which are in lowest terms, or `None` where it is out of range. It comes to lowest terms by
     // the greatest common divisor of the denominators, and the one that the sum may still have with it (Knuth,
     // Seminumerical Algorithms, 4.5.1).
+    #[inline(never)]
     fn sum_of_parts(a: i64, m: u64, b: i64, n: u64) -> Option<Frac>
         requires first_den { 0 < m }
         requires second_den { 0 < n }
@@ -219,6 +225,9 @@ impl Frac {
         let own = m / common;
         let above = cross_sum(a, n / common, b, own);
         let size = above.unsigned_abs();
+        if common == 1 {
+            return Frac::in_range(above < 0, size, m as u128 * n as u128);
+        }
         let rest = common_divisor(common, (size % common as u128) as u64);
         Frac::in_range(
             above < 0,
@@ -229,6 +238,7 @@ impl Frac {
 
     // The product of a / m and b / n, which are in lowest terms, or `None` where it is out of range. It is in lowest terms
     // once the greatest common divisors are taken out crosswise (Knuth, Seminumerical Algorithms, 4.5.1).
+    #[inline(never)]
     fn product_of_parts(a: i64, m: u64, b: i64, n: u64) -> Option<Frac>
         requires first_den { 0 < m }
         requires second_den { 0 < n }

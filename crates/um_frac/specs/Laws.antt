@@ -1,0 +1,78 @@
+-- The laws of fractions: what the definitions of this crate come to, in the words of the rational numbers.
+use Rattle.std.specs.Prelude.{◌≡◌, ◌≢◌, ◌↔◌, ℕ, ◌≤◌, ℤ, pos, ◌*ℤ◌, unsigned_abs, IsTrue, Some, Ok, Err}
+use Rattle.std.specs.Int.{IsGcd}
+use Rattle.um_frac.specs.declared.number.Frac.{Frac}
+use Rattle.um_frac.specs.declared.number.Trap.TheVariants.{Overflow, DivZero}
+use Rattle.um_frac.specs.Gcd.{gcd}
+use Rattle.um_frac.specs.Fraction.{numerator, denominator, reduced, IsQuotient}
+use Rattle.um_frac.specs.Arithmetic.{sum_of, difference_of, product_of, quotient_of, negation_of, is_same, IsSum, IsDifference, IsProduct, IsRatio, IsNegative}
+
+-- ---- lowest terms
+-- the greatest number that divides two numbers is divided by each number that divides both
+abbrev pub GreatestIsCommon : Type 0
+GreatestIsCommon = (a b : ℕ) → IsGcd a b (gcd a b)
+
+-- numbers with equal parts are equal
+abbrev pub EqualParts : Type 0
+EqualParts = (a b : Frac) → numerator a ≡ numerator b → denominator a ≡ denominator b → a ≡ b
+
+-- numbers are equal exactly where their cross products are
+abbrev pub EqualCrossProducts : Type 0
+EqualCrossProducts = (a b : Frac) → (a ≡ b) ↔ (numerator a *ℤ denominator b ≡ numerator b *ℤ denominator a)
+
+-- each quotient of two integers within the range is exactly one number
+abbrev pub OneForm : Type 0
+OneForm =
+    (n d : ℤ) → d ≢ pos 0 → unsigned_abs n ≤ 9223372036854775807 → unsigned_abs d ≤ 9223372036854775807 →
+    (r : Frac) × (IsQuotient r n d) × ((s : Frac) → IsQuotient s n d → s ≡ r)
+
+-- `reduced` gives exactly the number that is the quotient
+abbrev pub ReducedIsQuotient : Type 0
+ReducedIsQuotient = (n d : ℤ) (r : Frac) → (reduced n d ≡ Some r) ↔ IsQuotient r n d
+
+-- ---- sums
+abbrev pub SumIsExact : Type 0
+SumIsExact = (a b r : Frac) → (sum_of a b ≡ Ok r) ↔ IsSum r a b
+
+abbrev pub SumOverflows : Type 0
+SumOverflows = (a b : Frac) → (sum_of a b ≡ Err Overflow) ↔ ((r : Frac) → ¬ IsSum r a b)
+
+abbrev pub SumIsDefined : Type 0
+SumIsDefined = (a b : Frac) → sum_of a b ≢ Err DivZero
+
+-- ---- differences
+abbrev pub DifferenceIsExact : Type 0
+DifferenceIsExact = (a b r : Frac) → (difference_of a b ≡ Ok r) ↔ IsDifference r a b
+
+abbrev pub DifferenceOverflows : Type 0
+DifferenceOverflows = (a b : Frac) → (difference_of a b ≡ Err Overflow) ↔ ((r : Frac) → ¬ IsDifference r a b)
+
+abbrev pub DifferenceIsDefined : Type 0
+DifferenceIsDefined = (a b : Frac) → difference_of a b ≢ Err DivZero
+
+-- ---- products
+abbrev pub ProductIsExact : Type 0
+ProductIsExact = (a b r : Frac) → (product_of a b ≡ Ok r) ↔ IsProduct r a b
+
+abbrev pub ProductOverflows : Type 0
+ProductOverflows = (a b : Frac) → (product_of a b ≡ Err Overflow) ↔ ((r : Frac) → ¬ IsProduct r a b)
+
+abbrev pub ProductIsDefined : Type 0
+ProductIsDefined = (a b : Frac) → product_of a b ≢ Err DivZero
+
+-- ---- quotients
+abbrev pub QuotientIsExact : Type 0
+QuotientIsExact = (a b r : Frac) → (quotient_of a b ≡ Ok r) ↔ IsRatio r a b
+
+abbrev pub QuotientByZero : Type 0
+QuotientByZero = (a b : Frac) → (quotient_of a b ≡ Err DivZero) ↔ (numerator b ≡ pos 0)
+
+abbrev pub QuotientOverflows : Type 0
+QuotientOverflows = (a b : Frac) → (quotient_of a b ≡ Err Overflow) ↔ ((numerator b ≢ pos 0) × ((r : Frac) → ¬ IsRatio r a b))
+
+-- ---- the sign and equality
+abbrev pub NegationIsExact : Type 0
+NegationIsExact = (a r : Frac) → (r ≡ negation_of a) ↔ IsNegative r a
+
+abbrev pub SameIsEqual : Type 0
+SameIsEqual = (a b : Frac) → IsTrue (is_same a b) ↔ (a ≡ b)
