@@ -1,19 +1,19 @@
 -- The laws of fractions, proved.
-use Rattle.std.proofs.Common.{subst, ◌≡◌, ◌≢◌, ◌↔◌, ℕ, ◌*◌, ◌<◌, ◌≤◌, ℤ, pos, ◌*ℤ◌, neg_ℤ, unsigned_abs, Ok, IfOk, refl, sym, ap, ◌∙◌, arith}
+use Rattle.std.proofs.Common.{inl, inr, ◌<ℤ◌, IsTrue, subst, ◌≡◌, ◌≢◌, ◌↔◌, ℕ, ◌*◌, ◌<◌, ◌≤◌, ℤ, pos, ◌*ℤ◌, neg_ℤ, unsigned_abs, Ok, IfOk, refl, sym, ap, ◌∙◌, arith}
 use Rattle.std.specs.Option.{ok_or, unwrap_or}
 use Rattle.std.specs.Int.{◌∣◌}
-use Rattle.std.proofs.lemmas.Int.{ints, unsigned_abs-mul}
+use Rattle.std.proofs.lemmas.Int.{ints, unsigned_abs-mul, by_lt_z}
 use Rattle.std.proofs.Math.Nat.{le_of_dvd, dvd-mul_left, mul-le-mul_left, le_of_mul-le-mul_right}
 use Rattle.um_frac.specs.declared.number.Frac.{Frac}
 use Rattle.um_frac.specs.declared.number.Trap.TheVariants.{Overflow}
 use Rattle.um_frac.specs.Gcd.{gcd}
 use Rattle.um_frac.specs.Fraction.{numerator, denominator}
 use Rattle.um_frac.specs.Arithmetic.{exactly, sum_of, difference_of, product_of, negation_of, IsRatio, IsNegative}
-use Rattle.um_frac.specs.Laws.{GreatestIsCommon, EqualParts, EqualCrossProducts, OneForm, ReducedIsQuotient, SumIsExact, SumOverflows, SumIsDefined, DifferenceIsExact, DifferenceOverflows, DifferenceIsDefined, ProductIsExact, ProductOverflows, ProductIsDefined, QuotientIsExact, QuotientByZero, QuotientOverflows, NegationIsExact, SameIsEqual}
+use Rattle.um_frac.specs.Laws.{GreatestIsCommon, EqualParts, EqualCrossProducts, OneForm, ReducedIsQuotient, SumIsExact, SumOverflows, SumNeverDivZero, DifferenceIsExact, DifferenceOverflows, DifferenceNeverDivZero, ProductIsExact, ProductOverflows, ProductNeverDivZero, QuotientIsExact, QuotientByZero, QuotientOverflows, NegationIsExact, SameIsEqual, OrderIsIrreflexive, OrderIsTransitive, OrderIsTotal}
 use Rattle.um_frac.proofs.Gcd.{gcd-is, gcd_comm, gauss}
-use Rattle.um_frac.proofs.Integers.{not_zero}
-use Rattle.um_frac.proofs.LowestTerms.{AreTerms, reduced_terms, reduced_from, reduced_exact, fraction_from, same_parts, some_is, neg_abs, num_size}
-use Rattle.um_frac.proofs.Outcomes.{exact_ok, cross_equal, same_iff, sum_clauses, difference_clauses, product_clauses, quotient_any, quotient_exactly, dens_apart, den_apart, size_up, within}
+use Rattle.um_frac.proofs.Integers.{not_zero, times_swap, less_times, less_cancel, less_trans}
+use Rattle.um_frac.proofs.LowestTerms.{AreTerms, above_zero, reduced_terms, reduced_from, reduced_exact, fraction_from, same_parts, some_is, neg_abs, num_size}
+use Rattle.um_frac.proofs.Outcomes.{less_iff, exact_ok, cross_equal, same_iff, sum_clauses, difference_clauses, product_clauses, quotient_any, quotient_exactly, dens_apart, den_apart, size_up, within}
 
 pub greatest_is_common : GreatestIsCommon
 greatest_is_common = gcd-is
@@ -65,8 +65,8 @@ sum_is_exact a b r = exactly_ok _ _ r (dens_apart a b)
 pub sum_overflows : SumOverflows
 sum_overflows a b = (sum_clauses a b (sum_of a b) refl).overflow
 
-pub sum_is_defined : SumIsDefined
-sum_is_defined a b = (sum_clauses a b (sum_of a b) refl).defined
+pub sum_never_div_zero : SumNeverDivZero
+sum_never_div_zero a b = (sum_clauses a b (sum_of a b) refl).never_div_zero
 
 pub difference_is_exact : DifferenceIsExact
 unfolding difference_of
@@ -75,8 +75,8 @@ difference_is_exact a b r = exactly_ok _ _ r (dens_apart a b)
 pub difference_overflows : DifferenceOverflows
 difference_overflows a b = (difference_clauses a b (difference_of a b) refl).overflow
 
-pub difference_is_defined : DifferenceIsDefined
-difference_is_defined a b = (difference_clauses a b (difference_of a b) refl).defined
+pub difference_never_div_zero : DifferenceNeverDivZero
+difference_never_div_zero a b = (difference_clauses a b (difference_of a b) refl).never_div_zero
 
 pub product_is_exact : ProductIsExact
 unfolding product_of
@@ -85,8 +85,8 @@ product_is_exact a b r = exactly_ok _ _ r (dens_apart a b)
 pub product_overflows : ProductOverflows
 product_overflows a b = (product_clauses a b (product_of a b) refl).overflow
 
-pub product_is_defined : ProductIsDefined
-product_is_defined a b = (product_clauses a b (product_of a b) refl).defined
+pub product_never_div_zero : ProductNeverDivZero
+product_never_div_zero a b = (product_clauses a b (product_of a b) refl).never_div_zero
 
 pub negation_from : (a r : Frac) → IsNegative r a → r ≡ negation_of a
 unfolding negation_of
@@ -115,3 +115,33 @@ quotient_by_zero a b = (quotient_any a b).zero
 pub quotient_is_exact : QuotientIsExact
 quotient_is_exact a b r =
     ((λ e. subst (λ o. IfOk o (λ s. IsRatio s a b)) e (quotient_any a b).exact), (λ is. quotient_exactly a b is.0 ∙ (exactly_ok (numerator a *ℤ denominator b) (denominator a *ℤ numerator b) r (not_zero (denominator a) (numerator b) (den_apart a) is.0)).1 is.1))
+
+-- ---- the order
+pub order_is_irreflexive : OrderIsIrreflexive
+order_is_irreflexive a e = let h = (less_iff (numerator a *ℤ denominator a) (numerator a *ℤ denominator a)).0 e in omega (arith, ints)
+
+-- a product with a denominator keeps the order, and gives it back
+times_den : (x y : ℤ) (c : Frac) → x <ℤ y → (x *ℤ denominator c) <ℤ (y *ℤ denominator c)
+times_den x y c h = let n = above_zero c.den c.positive in subst (λ d. (x *ℤ d) <ℤ (y *ℤ d)) (sym n.1) (less_times x y n.0 n.2 h)
+
+cancel_den : (x y : ℤ) (c : Frac) → (x *ℤ denominator c) <ℤ (y *ℤ denominator c) → x <ℤ y
+cancel_den x y c h = let n = above_zero c.den c.positive in less_cancel x y n.0 n.2 (subst (λ d. (x *ℤ d) <ℤ (y *ℤ d)) n.1 h)
+
+pub order_is_transitive : OrderIsTransitive
+order_is_transitive a b c e f =
+    let an = numerator a in
+    let ad = denominator a in
+    let bn = numerator b in
+    let bd = denominator b in
+    let cn = numerator c in
+    let cd = denominator c in
+    let first : (an *ℤ cd *ℤ bd) <ℤ (bn *ℤ cd *ℤ ad) = rw (times_swap an cd bd, times_swap bn cd ad) (times_den (an *ℤ bd) (bn *ℤ ad) c ((less_iff (an *ℤ bd) (bn *ℤ ad)).0 e)) in
+    let second : (bn *ℤ cd *ℤ ad) <ℤ (cn *ℤ ad *ℤ bd) = rw (times_swap cn ad bd) (times_den (bn *ℤ cd) (cn *ℤ bd) a ((less_iff (bn *ℤ cd) (cn *ℤ bd)).0 f)) in
+    (less_iff (an *ℤ cd) (cn *ℤ ad)).1 (cancel_den (an *ℤ cd) (cn *ℤ ad) b (less_trans (an *ℤ cd *ℤ bd) (bn *ℤ cd *ℤ ad) (cn *ℤ ad *ℤ bd) first second))
+
+pub order_is_total : OrderIsTotal
+order_is_total a b =
+    let x = numerator a *ℤ denominator b in
+    let y = numerator b *ℤ denominator a in
+    by_lt_z x y (λ less. inl ((less_iff x y).1 less)) (λ most.
+    by_lt_z y x (λ more. inr (inr ((less_iff y x).1 more))) (λ least. inr (inl ((cross_equal a b).1 (omega (arith, ints))))))

@@ -1,9 +1,9 @@
 -- Laws of products of integers.
-use Rattle.std.proofs.Common.{◌≡◌, ◌≢◌, ℕ, zero, suc, ◌+◌, ◌*◌, ◌<◌, ℤ, pos, negsuc, ◌+ℤ◌, ◌*ℤ◌, neg_ℤ, refl, sym, ap, ◌∙◌, arith}
+use Rattle.std.proofs.Common.{◌≡◌, ◌≢◌, ℕ, zero, suc, ◌+◌, ◌*◌, ◌<◌, ℤ, pos, negsuc, ◌+ℤ◌, ◌*ℤ◌, neg_ℤ, refl, sym, ap, ◌∙◌, arith, ◌<ℤ◌}
 use Rattle.std.proofs.lemmas.Int.{ints}
-use Rattle.std.proofs.Math.Nat.{eq_of_mul-eq-mul_right, mul-pos}
+use Rattle.std.proofs.Math.Nat.{eq_of_mul-eq-mul_right, mul-pos, mul-lt-mul_of_pos_right}
 use borrow.Author.Differences.{up, down, sum_is_lem, product_is, neg_is}
-use Rattle.std.proofs.lemmas.Int.{fits_signed_from_abs, unsigned_abs-mul, to_z-of_z, to_z_pos}
+use Rattle.std.proofs.lemmas.Int.{fits_signed_from_abs, unsigned_abs-mul, to_z-of_z, to_z_pos, by_lt_z}
 use Rattle.std.proofs.lemmas.Nat.{mul-le}
 use Rattle.std.proofs.Common.{FitsSigned, unsigned_abs, ◌≤◌, ◌-◌, ◌⊎◌, inl, inr, true, false, to_z, of_z, w64}
 use Rattle.std.specs.Prelude.{nat_lt, cond}
@@ -139,3 +139,18 @@ read_product a b fa fb =
     (λ i. to_z w128 (of_z w128 (to_z w128 (of_z w128 (to_z-of_z w64 a fa i)) *ℤ to_z w128 (of_z w128 (to_z-of_z w64 b fb i)))))
     ∙ (λ i. to_z w128 (of_z w128 (to_z-of_z w128 a (wide_fits a fa) i *ℤ to_z-of_z w128 b (wide_fits b fb) i)))
     ∙ to_z-of_z w128 (a *ℤ b) (fits_signed_from_abs w128 (a *ℤ b) (omega arith))
+
+-- ---- order and products
+pub less_times : (x y : ℤ) (n : ℕ) → 0 < n → x <ℤ y → (x *ℤ pos n) <ℤ (y *ℤ pos n)
+less_times (pos a) (pos b) n some h = let low : a < b = omega (arith, ints) in let more : a * n < b * n = mul-lt-mul_of_pos_right low some in omega (arith, ints)
+less_times (pos a) (negsuc b) n some h = absurd (omega (arith, ints))
+less_times (negsuc a) (pos b) n some h = let more : 0 < suc a * n = mul-pos (omega arith) some in omega (arith, ints)
+less_times (negsuc a) (negsuc b) n some h = let low : suc b < suc a = omega (arith, ints) in let more : suc b * n < suc a * n = mul-lt-mul_of_pos_right low some in omega (arith, ints)
+
+pub less_cancel : (x y : ℤ) (n : ℕ) → 0 < n → (x *ℤ pos n) <ℤ (y *ℤ pos n) → x <ℤ y
+less_cancel x y n some h =
+    by_lt_z x y (λ less. less) (λ most.
+    absurd (by_lt_z y x (λ more. let scaled = less_times y x n some more in omega (arith, ints)) (λ least. let same : x ≡ y = omega (arith, ints) in let scaled = ap (λ z. z *ℤ pos n) same in omega (arith, ints))))
+
+pub less_trans : (x y z : ℤ) → x <ℤ y → y <ℤ z → x <ℤ z
+less_trans x y z h k = omega (arith, ints)

@@ -31,8 +31,8 @@ exact_ok n d (Err t) e = tt
 pub exact_overflow : (n d : ℤ) (o : Result Frac Trap) → d ≢ pos 0 → o ≡ exactly n d → (o ≡ Err Overflow) ↔ ((r : Frac) → ¬ (numerator r *ℤ d ≡ n *ℤ denominator r))
 exact_overflow n d o other e = ((λ f r is. let g = e ∙ ap (λ x. ok_or x Overflow) (reduced_from r n d (other, is)) in cc), (λ none. e ∙ ap (λ x. ok_or x Overflow) (reduced_none n d (λ fit. none fit.0 fit.1.1))))
 
-pub exact_defined : (n d : ℤ) (o : Result Frac Trap) → o ≡ exactly n d → o ≢ Err DivZero
-exact_defined n d o e f = never (reduced n d) (sym e ∙ f)
+pub exact_never_div_zero : (n d : ℤ) (o : Result Frac Trap) → o ≡ exactly n d → o ≢ Err DivZero
+exact_never_div_zero n d o e f = never (reduced n d) (sym e ∙ f)
   where
     never : (o : Option Frac) → ok_or o Overflow ≡ Err DivZero → ⊥
     never None e = cc
@@ -63,7 +63,7 @@ test_true : (t : Bool) → T t → t ≡ true
 test_true true h = refl
 test_true false h = absurd h
 
-less_iff : (x y : ℤ) → IsTrue (int_lt x y) ↔ (x <ℤ y)
+pub less_iff : (x y : ℤ) → IsTrue (int_lt x y) ↔ (x <ℤ y)
 less_iff x y = ((λ e. lt_z_yes (subst T (sym e) tt)), (λ h. test_true (int_lt x y) h.lt))
 
 -- at values that are known to be x' and y'
@@ -142,37 +142,37 @@ pub record SumClauses (a b : Frac) (o : Result Frac Trap) : Type 0 where
   pub value : o ≡ sum_of a b
   pub exact : IfOk o (λ r. IsSum r a b)
   pub overflow : (o ≡ Err Overflow) ↔ ((r : Frac) → ¬ IsSum r a b)
-  pub defined : o ≢ Err DivZero
+  pub never_div_zero : o ≢ Err DivZero
 
 pub sum_clauses : (a b : Frac) (o : Result Frac Trap) → o ≡ sum_of a b → SumClauses a b o
 unfolding sum_of
 sum_clauses a b o e =
     let n = numerator a *ℤ denominator b +ℤ numerator b *ℤ denominator a in
-    let d = denominator a *ℤ denominator b in record { value = e; exact = exact_ok n d o e; overflow = exact_overflow n d o (dens_apart a b) e; defined = exact_defined n d o e }
+    let d = denominator a *ℤ denominator b in record { value = e; exact = exact_ok n d o e; overflow = exact_overflow n d o (dens_apart a b) e; never_div_zero = exact_never_div_zero n d o e }
 
 pub record DifferenceClauses (a b : Frac) (o : Result Frac Trap) : Type 0 where
   pub value : o ≡ difference_of a b
   pub exact : IfOk o (λ r. IsDifference r a b)
   pub overflow : (o ≡ Err Overflow) ↔ ((r : Frac) → ¬ IsDifference r a b)
-  pub defined : o ≢ Err DivZero
+  pub never_div_zero : o ≢ Err DivZero
 
 pub difference_clauses : (a b : Frac) (o : Result Frac Trap) → o ≡ difference_of a b → DifferenceClauses a b o
 unfolding difference_of
 difference_clauses a b o e =
     let n = numerator a *ℤ denominator b -ℤ numerator b *ℤ denominator a in
-    let d = denominator a *ℤ denominator b in record { value = e; exact = exact_ok n d o e; overflow = exact_overflow n d o (dens_apart a b) e; defined = exact_defined n d o e }
+    let d = denominator a *ℤ denominator b in record { value = e; exact = exact_ok n d o e; overflow = exact_overflow n d o (dens_apart a b) e; never_div_zero = exact_never_div_zero n d o e }
 
 pub record ProductClauses (a b : Frac) (o : Result Frac Trap) : Type 0 where
   pub value : o ≡ product_of a b
   pub exact : IfOk o (λ r. IsProduct r a b)
   pub overflow : (o ≡ Err Overflow) ↔ ((r : Frac) → ¬ IsProduct r a b)
-  pub defined : o ≢ Err DivZero
+  pub never_div_zero : o ≢ Err DivZero
 
 pub product_clauses : (a b : Frac) (o : Result Frac Trap) → o ≡ product_of a b → ProductClauses a b o
 unfolding product_of
 product_clauses a b o e =
     let n = numerator a *ℤ numerator b in
-    let d = denominator a *ℤ denominator b in record { value = e; exact = exact_ok n d o e; overflow = exact_overflow n d o (dens_apart a b) e; defined = exact_defined n d o e }
+    let d = denominator a *ℤ denominator b in record { value = e; exact = exact_ok n d o e; overflow = exact_overflow n d o (dens_apart a b) e; never_div_zero = exact_never_div_zero n d o e }
 
 pub record QuotientClauses (a b : Frac) (o : Result Frac Trap) : Type 0 where
   pub value : o ≡ quotient_of a b
@@ -204,7 +204,7 @@ quotient_clauses a b o other e =
     record {
       value = e;
       exact = with_divisor o (exact_ok n d o e');
-      zero = ((λ f. absurd (exact_defined n d o e' f)), (λ f. absurd (other f)));
+      zero = ((λ f. absurd (exact_never_div_zero n d o e' f)), (λ f. absurd (other f)));
       overflow = ((λ f. (other, (λ r is. over.0 f r is.1))), (λ none. over.1 (λ r is. none.1 r (other, is))));
     }
   where

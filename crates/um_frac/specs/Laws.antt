@@ -1,11 +1,11 @@
 -- The laws of fractions: what the definitions of this crate come to, in the words of the rational numbers.
-use Rattle.std.specs.Prelude.{◌≡◌, ◌≢◌, ◌↔◌, ℕ, ◌≤◌, ℤ, pos, ◌*ℤ◌, unsigned_abs, IsTrue, Some, Ok, Err}
+use Rattle.std.specs.Prelude.{◌≡◌, ◌≢◌, ◌↔◌, ◌⊎◌, ℕ, ◌≤◌, ℤ, pos, ◌*ℤ◌, unsigned_abs, IsTrue, Some, Ok, Err}
 use Rattle.std.specs.Int.{IsGcd}
 use Rattle.um_frac.specs.declared.number.Frac.{Frac}
 use Rattle.um_frac.specs.declared.number.Trap.TheVariants.{Overflow, DivZero}
 use Rattle.um_frac.specs.Gcd.{gcd}
 use Rattle.um_frac.specs.Fraction.{numerator, denominator, reduced, IsQuotient}
-use Rattle.um_frac.specs.Arithmetic.{sum_of, difference_of, product_of, quotient_of, negation_of, is_same, IsSum, IsDifference, IsProduct, IsRatio, IsNegative}
+use Rattle.um_frac.specs.Arithmetic.{sum_of, difference_of, product_of, quotient_of, negation_of, is_less, is_same, IsSum, IsDifference, IsProduct, IsRatio, IsNegative}
 
 -- ---- lowest terms
 -- the greatest number that divides two numbers is divided by each number that divides both
@@ -37,8 +37,8 @@ SumIsExact = (a b r : Frac) → (sum_of a b ≡ Ok r) ↔ IsSum r a b
 abbrev pub SumOverflows : Type 0
 SumOverflows = (a b : Frac) → (sum_of a b ≡ Err Overflow) ↔ ((r : Frac) → ¬ IsSum r a b)
 
-abbrev pub SumIsDefined : Type 0
-SumIsDefined = (a b : Frac) → sum_of a b ≢ Err DivZero
+abbrev pub SumNeverDivZero : Type 0
+SumNeverDivZero = (a b : Frac) → sum_of a b ≢ Err DivZero
 
 -- ---- differences
 abbrev pub DifferenceIsExact : Type 0
@@ -47,8 +47,8 @@ DifferenceIsExact = (a b r : Frac) → (difference_of a b ≡ Ok r) ↔ IsDiffer
 abbrev pub DifferenceOverflows : Type 0
 DifferenceOverflows = (a b : Frac) → (difference_of a b ≡ Err Overflow) ↔ ((r : Frac) → ¬ IsDifference r a b)
 
-abbrev pub DifferenceIsDefined : Type 0
-DifferenceIsDefined = (a b : Frac) → difference_of a b ≢ Err DivZero
+abbrev pub DifferenceNeverDivZero : Type 0
+DifferenceNeverDivZero = (a b : Frac) → difference_of a b ≢ Err DivZero
 
 -- ---- products
 abbrev pub ProductIsExact : Type 0
@@ -57,8 +57,8 @@ ProductIsExact = (a b r : Frac) → (product_of a b ≡ Ok r) ↔ IsProduct r a 
 abbrev pub ProductOverflows : Type 0
 ProductOverflows = (a b : Frac) → (product_of a b ≡ Err Overflow) ↔ ((r : Frac) → ¬ IsProduct r a b)
 
-abbrev pub ProductIsDefined : Type 0
-ProductIsDefined = (a b : Frac) → product_of a b ≢ Err DivZero
+abbrev pub ProductNeverDivZero : Type 0
+ProductNeverDivZero = (a b : Frac) → product_of a b ≢ Err DivZero
 
 -- ---- quotients
 abbrev pub QuotientIsExact : Type 0
@@ -76,3 +76,13 @@ NegationIsExact = (a r : Frac) → (r ≡ negation_of a) ↔ IsNegative r a
 
 abbrev pub SameIsEqual : Type 0
 SameIsEqual = (a b : Frac) → IsTrue (is_same a b) ↔ (a ≡ b)
+
+-- ---- the order
+abbrev pub OrderIsIrreflexive : Type 0
+OrderIsIrreflexive = (a : Frac) → ¬ IsTrue (is_less a a)
+
+abbrev pub OrderIsTransitive : Type 0
+OrderIsTransitive = (a b c : Frac) → IsTrue (is_less a b) → IsTrue (is_less b c) → IsTrue (is_less a c)
+
+abbrev pub OrderIsTotal : Type 0
+OrderIsTotal = (a b : Frac) → IsTrue (is_less a b) ⊎ ((a ≡ b) ⊎ IsTrue (is_less b a))

@@ -7,18 +7,21 @@ ghost use Rattle.um_frac.specs.Laws.{
   ReducedIsQuotient,
   SumIsExact,
   SumOverflows,
-  SumIsDefined,
+  SumNeverDivZero,
   DifferenceIsExact,
   DifferenceOverflows,
-  DifferenceIsDefined,
+  DifferenceNeverDivZero,
   ProductIsExact,
   ProductOverflows,
-  ProductIsDefined,
+  ProductNeverDivZero,
   QuotientIsExact,
   QuotientByZero,
   QuotientOverflows,
   NegationIsExact,
   SameIsEqual,
+  OrderIsIrreflexive,
+  OrderIsTransitive,
+  OrderIsTotal,
 };
 
 /// Each common divisor divides the greatest one.
@@ -43,21 +46,21 @@ pub fn one_form_each()
 pub fn sums()
     ensures exact { SumIsExact }
     ensures overflow { SumOverflows }
-    ensures defined { SumIsDefined }
+    ensures never_div_zero { SumNeverDivZero }
 {}
 
 /// A difference is the number that the cross products say, and overflows exactly where none is in range.
 pub fn differences()
     ensures exact { DifferenceIsExact }
     ensures overflow { DifferenceOverflows }
-    ensures defined { DifferenceIsDefined }
+    ensures never_div_zero { DifferenceNeverDivZero }
 {}
 
 /// A product is the number that the products of the parts say, and overflows exactly where none is in range.
 pub fn products()
     ensures exact { ProductIsExact }
     ensures overflow { ProductOverflows }
-    ensures defined { ProductIsDefined }
+    ensures never_div_zero { ProductNeverDivZero }
 {}
 
 /// A quotient is the number that the cross products say; a quotient by 0 is a trap of its own.
@@ -70,4 +73,11 @@ pub fn quotients()
 /// The negative has the numerator with the other sign and the same denominator.
 pub fn negatives()
     ensures { NegationIsExact }
+{}
+
+/// The order of numbers is strict and total.
+pub fn order()
+    ensures irreflexive { OrderIsIrreflexive }
+    ensures transitive { OrderIsTransitive }
+    ensures total { OrderIsTotal }
 {}

@@ -83,7 +83,7 @@ impl Frac {
         ensures value { result ≡ sum_of self other }
         ensures exact { IfOk result (λ r. IsSum r self other) }
         ensures overflow { (result ≡ Err Trap.Overflow) ↔ ((r : Frac) → ¬ IsSum r self other) }
-        ensures defined { result ≢ Err Trap.DivZero }
+        ensures never_div_zero { result ≢ Err Trap.DivZero }
     {
         if self.den == 1 && other.den == 1 {
             return Frac::whole(self.num as i128 + other.num as i128);
@@ -99,7 +99,7 @@ impl Frac {
         ensures value { result ≡ difference_of self other }
         ensures exact { IfOk result (λ r. IsDifference r self other) }
         ensures overflow { (result ≡ Err Trap.Overflow) ↔ ((r : Frac) → ¬ IsDifference r self other) }
-        ensures defined { result ≢ Err Trap.DivZero }
+        ensures never_div_zero { result ≢ Err Trap.DivZero }
     {
         self.add(other.neg())
     }
@@ -110,7 +110,7 @@ impl Frac {
         ensures value { result ≡ product_of self other }
         ensures exact { IfOk result (λ r. IsProduct r self other) }
         ensures overflow { (result ≡ Err Trap.Overflow) ↔ ((r : Frac) → ¬ IsProduct r self other) }
-        ensures defined { result ≢ Err Trap.DivZero }
+        ensures never_div_zero { result ≢ Err Trap.DivZero }
     {
         if self.den == 1 && other.den == 1 {
             return Frac::whole(self.num as i128 * other.num as i128);

@@ -8,4 +8,4 @@ returns c =
     let b = c.args.other in
     let value = c.add.ensures.value ∙ difference_from a b c.neg.result c.neg.ensures.parts in
     let all = difference_clauses a b c.add.result value in
-    record { value = all.value; exact = all.exact; overflow = all.overflow; defined = all.defined }
+    record { value = all.value; exact = all.exact; overflow = all.overflow; never_div_zero = all.never_div_zero }
