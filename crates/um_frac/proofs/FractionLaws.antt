@@ -1,9 +1,10 @@
 -- The laws of fractions, proved.
-use Rattle.std.proofs.Common.{inl, inr, ◌<ℤ◌, IsTrue, subst, ◌≡◌, ◌≢◌, ◌↔◌, ℕ, ◌*◌, ◌<◌, ◌≤◌, ℤ, pos, ◌*ℤ◌, neg_ℤ, unsigned_abs, Ok, IfOk, refl, sym, ap, ◌∙◌, arith}
+use Rattle.std.proofs.Common.{inl, inr, ◌<ℤ◌, subst, ◌≡◌, ◌≢◌, ◌↔◌, ℕ, ◌*◌, ◌<◌, ◌≤◌, ℤ, pos, ◌*ℤ◌, neg_ℤ, unsigned_abs, Ok, IfOk, refl, sym, ap, ◌∙◌, arith}
 use Rattle.std.specs.Option.{ok_or, unwrap_or}
 use Rattle.std.specs.Int.{◌∣◌}
 use Rattle.std.proofs.lemmas.Int.{ints, unsigned_abs-mul, by_lt_z}
 use Rattle.std.proofs.Math.Nat.{le_of_dvd, dvd-mul_left, mul-le-mul_left, le_of_mul-le-mul_right}
+use Rattle.um_frac.specs.Range.{greatest}
 use Rattle.um_frac.specs.declared.number.Frac.{Frac}
 use Rattle.um_frac.specs.declared.number.Trap.TheVariants.{Overflow}
 use Rattle.um_frac.specs.Gcd.{gcd}
@@ -47,9 +48,9 @@ one_form n d other above below =
     let q = given.1 in
     let terms = given.2 in
     let fit = terms_fit n d p q other terms in
-    let size : unsigned_abs p ≤ 9223372036854775807 = omega (arith, fit.1) in
+    let size : unsigned_abs p ≤ greatest = omega (arith, fit.1) in
     let up = terms.above in
-    let low : q ≤ 9223372036854775807 = omega (arith, fit.0) in
+    let low : q ≤ greatest = omega (arith, fit.0) in
     let r : Frac = record { num = p; den = pos q; positive = omega (arith, ints, up); den_fits = omega (arith, ints, low); above = (within p size).0; num_fits = (within p size).1; lowest = terms.lowest } in
     (r, (other, terms.equal), (λ s is. some_is s r (sym (reduced_from s n d is) ∙ reduced_from r n d (other, terms.equal))))
 
@@ -95,7 +96,7 @@ negation_from a r is = ap (λ o. unwrap_or o a) (fraction_from (neg_ℤ (numerat
 -- the negative, which is always within the range
 pub negative : (a : Frac) → (n : Frac) × IsNegative n a
 negative a =
-    let size : unsigned_abs (neg_ℤ (numerator a)) ≤ 9223372036854775807 = rw (neg_abs (numerator a)) (num_size a) in
+    let size : unsigned_abs (neg_ℤ (numerator a)) ≤ greatest = rw (neg_abs (numerator a)) (num_size a) in
     let n : Frac = record { num = neg_ℤ a.num; den = a.den; positive = a.positive; den_fits = a.den_fits; above = (within (neg_ℤ (numerator a)) size).0; num_fits = (within (neg_ℤ (numerator a)) size).1; lowest = ap (λ m. gcd m (unsigned_abs a.den)) (neg_abs (numerator a)) ∙ a.lowest } in
     (n, (refl, refl))
 

@@ -10,6 +10,7 @@ use Rattle.std.specs.Prelude.{nat_lt, cond}
 use borrow.Author.Tests.{ltb-true, ltb-false}
 use Rattle.std.proofs.lemmas.Bool.{cases_lt}
 use Rattle.std.specs.Int.{w128}
+use Rattle.um_frac.specs.Range.{greatest}
 use lib.IntN.{sub_ℕ, *ℤ_comm, *ℤ-negsuc, neg_ℤ-neg_ℤ, zero-*ℤ}
 
 pub times_sum : (a b c : ℤ) → a *ℤ (b +ℤ c) ≡ a *ℤ b +ℤ a *ℤ c
@@ -110,25 +111,25 @@ small_abs (negsuc n) fits = let low = fits.sfits in omega arith
 wide_fits : (a : ℤ) → FitsSigned w64 a → FitsSigned w128 a
 wide_fits a fits = let small = small_abs a fits in fits_signed_from_abs w128 a (omega arith)
 
-wide_product : (a : ℤ) (m : ℕ) → FitsSigned w64 a → m ≤ 9223372036854775807 → unsigned_abs (a *ℤ pos m) ≤ 9223372036854775808 * 9223372036854775807
+wide_product : (a : ℤ) (m : ℕ) → FitsSigned w64 a → m ≤ greatest → unsigned_abs (a *ℤ pos m) ≤ 9223372036854775808 * 9223372036854775807
 wide_product a m fits small = rw (unsigned_abs-mul a (pos m)) (mul-le (unsigned_abs a) m 9223372036854775808 9223372036854775807 (small_abs a fits) small)
 
 -- a product of an i64 and a u64 that was an i64, as the code has it
-product_read : (a : ℤ) (m : ℕ) → FitsSigned w64 a → m ≤ 9223372036854775807 → to_z w128 (of_z w128 (to_z w128 (of_z w128 (to_z w64 (of_z w64 a))) *ℤ to_z w128 m)) ≡ a *ℤ pos m
+product_read : (a : ℤ) (m : ℕ) → FitsSigned w64 a → m ≤ greatest → to_z w128 (of_z w128 (to_z w128 (of_z w128 (to_z w64 (of_z w64 a))) *ℤ to_z w128 m)) ≡ a *ℤ pos m
 product_read a m fits small =
     let wide : unsigned_abs (a *ℤ pos m) ≤ 9223372036854775808 * 9223372036854775807 = wide_product a m fits small in
     let m_is : to_z w128 m ≡ pos m = to_z_pos w128 m (omega arith) in
     ap (λ x. to_z w128 (of_z w128 (to_z w128 (of_z w128 x) *ℤ to_z w128 m))) (to_z-of_z w64 a fits) ∙ (λ i. to_z w128 (of_z w128 (to_z-of_z w128 a (wide_fits a fits) i *ℤ m_is i))) ∙ to_z-of_z w128 (a *ℤ pos m) (fits_signed_from_abs w128 (a *ℤ pos m) (omega arith))
 
 -- the sum of two such products fits
-pub sum_fits : (a b : ℤ) (m n : ℕ) → FitsSigned w64 a → FitsSigned w64 b → m ≤ 9223372036854775807 → n ≤ 9223372036854775807 → FitsSigned w128 (a *ℤ pos m +ℤ b *ℤ pos n)
+pub sum_fits : (a b : ℤ) (m n : ℕ) → FitsSigned w64 a → FitsSigned w64 b → m ≤ greatest → n ≤ greatest → FitsSigned w128 (a *ℤ pos m +ℤ b *ℤ pos n)
 sum_fits a b m n fa fb fm fn =
     let first = wide_product a m fa fm in
     let second = wide_product b n fb fn in
     let both = abs_sum (a *ℤ pos m) (b *ℤ pos n) in
     fits_signed_from_abs w128 (a *ℤ pos m +ℤ b *ℤ pos n) (omega arith)
 
-pub sum_read : (a b : ℤ) (m n : ℕ) → FitsSigned w64 a → FitsSigned w64 b → m ≤ 9223372036854775807 → n ≤ 9223372036854775807 →
+pub sum_read : (a b : ℤ) (m n : ℕ) → FitsSigned w64 a → FitsSigned w64 b → m ≤ greatest → n ≤ greatest →
     to_z w128 (of_z w128 (to_z w128 (of_z w128 (to_z w64 (of_z w64 a))) *ℤ to_z w128 m)) +ℤ to_z w128 (of_z w128 (to_z w128 (of_z w128 (to_z w64 (of_z w64 b))) *ℤ to_z w128 n)) ≡ a *ℤ pos m +ℤ b *ℤ pos n
 sum_read a b m n fa fb fm fn = λ i. product_read a m fa fm i +ℤ product_read b n fb fn i
 

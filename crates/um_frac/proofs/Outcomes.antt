@@ -1,14 +1,15 @@
 -- What the operations' definitions say, by cross products.
-use Rattle.std.proofs.Common.{◌≡◌, ◌≢◌, ◌↔◌, zero, suc, ◌*◌, ◌<◌, ◌≤◌, true, false, ℤ, pos, negsuc, ◌+ℤ◌, ◌-ℤ◌, ◌*ℤ◌, ◌≤ℤ◌, ◌<ℤ◌, unsigned_abs, Option, None, Some, Result, Ok, Err, IfOk, IsTrue, refl, sym, ap, subst, ◌∙◌, arith}
+use Rattle.std.proofs.Common.{neg_ℤ, ◌≡◌, ◌≢◌, ◌↔◌, zero, suc, ◌*◌, ◌<◌, ◌≤◌, true, false, ℤ, pos, negsuc, ◌+ℤ◌, ◌-ℤ◌, ◌*ℤ◌, ◌≤ℤ◌, ◌<ℤ◌, unsigned_abs, Option, None, Some, Result, Ok, Err, IfOk, IsTrue, refl, sym, ap, subst, ◌∙◌, arith}
 use Rattle.std.specs.Option.{ok_or}
 use Rattle.std.proofs.lemmas.Int.{ints}
 use Rattle.std.proofs.lemmas.Int.{to_z-of_z}
 use Rattle.std.proofs.lemmas.Bool.Decides.{Decides-int_eq}
 use Rattle.std.specs.Prelude.{int_lt, Bool, T, FitsSigned}
-use Rattle.std.proofs.Common.{to_z, of_z, w64}
+use Rattle.std.proofs.Common.{neg_ℤ, to_z, of_z, w64}
 use Rattle.std.specs.Bool.{one_answer}
 use lib.Signed.{lt_z_yes}
 use lib.IntN.{*ℤ-zero, ℤ_discrete}
+use Rattle.um_frac.specs.Range.{greatest}
 use Rattle.um_frac.specs.declared.number.Frac.{Frac}
 use Rattle.um_frac.specs.declared.number.Trap.{Trap}
 use Rattle.um_frac.specs.declared.number.Trap.TheVariants.{Overflow, DivZero}
@@ -94,9 +95,9 @@ same_bits x y f g e = sym (to_z-of_z w64 x f) ∙ ap (to_z w64) e ∙ to_z-of_z 
 -- ---- 1 / r
 pub record IsReciprocal (r : Frac) (num den : ℤ) : Type 0 where
   pub positive : pos 1 ≤ℤ den
-  pub den_fits : den ≤ℤ pos 9223372036854775807
-  pub above : negsuc 9223372036854775806 ≤ℤ num
-  pub num_fits : num ≤ℤ pos 9223372036854775807
+  pub den_fits : den ≤ℤ pos greatest
+  pub above : neg_ℤ (pos greatest) ≤ℤ num
+  pub num_fits : num ≤ℤ pos greatest
   pub lowest : gcd (unsigned_abs num) (unsigned_abs den) ≡ 1
 
 pub size_up : (z : ℤ) → z ≢ pos 0 → 0 < unsigned_abs z
@@ -104,7 +105,7 @@ size_up (pos zero) other = absurd (other refl)
 size_up (pos (suc n)) other = omega arith
 size_up (negsuc n) other = omega arith
 
-pub within : (z : ℤ) → unsigned_abs z ≤ 9223372036854775807 → (negsuc 9223372036854775806 ≤ℤ z) × (z ≤ℤ pos 9223372036854775807)
+pub within : (z : ℤ) → unsigned_abs z ≤ greatest → (neg_ℤ (pos greatest) ≤ℤ z) × (z ≤ℤ pos greatest)
 within (pos n) h = (omega (arith, ints), omega (arith, ints))
 within (negsuc n) h = (omega (arith, ints), omega (arith, ints))
 
@@ -112,7 +113,7 @@ pub reciprocal_at : (r : Frac) (num den : ℤ) → numerator r ≢ pos 0 → uns
 reciprocal_at r num den other e f =
     let low = size_up (numerator r) other in
     let size = num_size r in
-    let above : unsigned_abs num ≤ 9223372036854775807 = omega (arith, e, den_size r) in
+    let above : unsigned_abs num ≤ greatest = omega (arith, e, den_size r) in
     record {
       positive = omega (arith, ints, f);
       den_fits = omega (arith, ints, f);

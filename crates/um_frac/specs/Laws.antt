@@ -1,6 +1,7 @@
 -- The laws of fractions: what the definitions of this crate come to, in the words of the rational numbers.
 use Rattle.std.specs.Prelude.{◌≡◌, ◌≢◌, ◌↔◌, ◌⊎◌, ℕ, ◌≤◌, ℤ, pos, ◌*ℤ◌, unsigned_abs, IsTrue, Some, Ok, Err}
 use Rattle.std.specs.Int.{IsGcd}
+use Rattle.um_frac.specs.Range.{greatest}
 use Rattle.um_frac.specs.declared.number.Frac.{Frac}
 use Rattle.um_frac.specs.declared.number.Trap.TheVariants.{Overflow, DivZero}
 use Rattle.um_frac.specs.Gcd.{gcd}
@@ -23,7 +24,7 @@ EqualCrossProducts = (a b : Frac) → (a ≡ b) ↔ (numerator a *ℤ denominato
 -- each quotient of two integers within the range is exactly one number
 abbrev pub OneForm : Type 0
 OneForm =
-    (n d : ℤ) → d ≢ pos 0 → unsigned_abs n ≤ 9223372036854775807 → unsigned_abs d ≤ 9223372036854775807 →
+    (n d : ℤ) → d ≢ pos 0 → unsigned_abs n ≤ greatest → unsigned_abs d ≤ greatest →
     (r : Frac) × (IsQuotient r n d) × ((s : Frac) → IsQuotient s n d → s ≡ r)
 
 -- `reduced` gives exactly the number that is the quotient

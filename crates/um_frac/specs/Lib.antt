@@ -1,3 +1,4 @@
+pub mod Range
 pub mod Gcd
 pub mod Fraction
 pub mod Arithmetic

@@ -1,4 +1,5 @@
-ghost use Rattle.std.specs.Prelude.{◌≡◌, ◌≢◌, ◌↔◌, ◌<◌, ◌≤◌, ℤ, pos, negsuc, ◌≤ℤ◌, ◌<ℤ◌, ◌+ℤ◌, ◌*ℤ◌, unsigned_abs, IsTrue, IsNone, IfSome, IfOk};
+ghost use Rattle.std.specs.Prelude.{◌≡◌, ◌≢◌, ◌↔◌, ◌<◌, ◌≤◌, ℤ, pos, neg_ℤ, ◌≤ℤ◌, ◌<ℤ◌, ◌+ℤ◌, ◌*ℤ◌, unsigned_abs, IsTrue, IsNone, IfSome, IfOk};
+ghost use Rattle.um_frac.specs.Range.{greatest};
 ghost use Rattle.um_frac.specs.Gcd.{gcd};
 
 use crate::divisor::{common_divisor, wide_common_divisor};
@@ -19,14 +20,17 @@ pub enum Trap {
 ///
 /// The numerator lies in -9223372036854775807 ..= 9223372036854775807 and the denominator in
 /// 1 ..= 9223372036854775807. Two values are equal exactly where they are the same rational number.
+///
+/// An operation gives the exact result in lowest terms, by cross products as in Knuth, Seminumerical Algorithms, 4.5.1,
+/// or it says by a [`Trap`] why there is none. It takes no memory.
 #[derive(Clone, Copy, Debug)]
 pub struct Frac {
     num: i64,
     den: i64,
     ghost positive: { pos 1 ≤ℤ den },
-    ghost den_fits: { den ≤ℤ pos 9223372036854775807 },
-    ghost above: { negsuc 9223372036854775806 ≤ℤ num },
-    ghost num_fits: { num ≤ℤ pos 9223372036854775807 },
+    ghost den_fits: { den ≤ℤ pos greatest },
+    ghost above: { neg_ℤ (pos greatest) ≤ℤ num },
+    ghost num_fits: { num ≤ℤ pos greatest },
     ghost lowest: { gcd (unsigned_abs num) (unsigned_abs den) ≡ 1 },
 }
 
@@ -50,7 +54,9 @@ impl Frac {
         Frac { num: 1, den: 1 }
     }
 
-    /// The quotient `n / d` in lowest terms, or `None` exactly where `d` is 0 or the reduced quotient is out of range.
+    /// The quotient `n / d` in lowest terms, at any two integers of 128 bits.
+    ///
+    /// `None` exactly where `d` is 0 or the reduced quotient is out of range.
     pub fn of_parts(n: i128, d: i128) -> Option<Frac>
         ensures value { result ≡ reduced n d }
         ensures exact { IfSome result (λ r. IsQuotient r n d) }
@@ -77,7 +83,9 @@ impl Frac {
         self.den
     }
 
-    /// The sum, or `Overflow` exactly where it is out of range.
+    /// The sum of the two numbers.
+    ///
+    /// `Overflow` exactly where the exact sum is out of range; a cross product on the way may be wider than the range.
     #[inline]
     pub fn add(self, other: Frac) -> Result<Frac, Trap>
         ensures value { result ≡ sum_of self other }
@@ -93,7 +101,9 @@ impl Frac {
         )
     }
 
-    /// The difference `self - other`, or `Overflow` exactly where it is out of range.
+    /// The difference `self - other`.
+    ///
+    /// `Overflow` exactly where the exact difference is out of range.
     #[inline]
     pub fn sub(self, other: Frac) -> Result<Frac, Trap>
         ensures value { result ≡ difference_of self other }
@@ -104,7 +114,9 @@ impl Frac {
         self.add(other.neg())
     }
 
-    /// The product, or `Overflow` exactly where it is out of range.
+    /// The product of the two numbers.
+    ///
+    /// `Overflow` exactly where the exact product is out of range.
     #[inline]
     pub fn mul(self, other: Frac) -> Result<Frac, Trap>
         ensures value { result ≡ product_of self other }
@@ -120,8 +132,9 @@ impl Frac {
         )
     }
 
-    /// The quotient `self / other`: `DivZero` exactly where `other` is 0, and else `Overflow` exactly where the quotient
-    /// is out of range.
+    /// The quotient `self / other`.
+    ///
+    /// `DivZero` exactly where `other` is 0, and else `Overflow` exactly where the exact quotient is out of range.
     #[inline]
     pub fn div(self, other: Frac) -> Result<Frac, Trap>
         ensures value { result ≡ quotient_of self other }
@@ -163,7 +176,8 @@ impl Frac {
     }
 }
 
-// How the operations come to lowest terms.
+// How the operations come to lowest terms. The two general paths stay out of `add` and `mul`, whose path for whole numbers is
+// a few instructions that a caller takes in.
 impl Frac {
     ghost use Rattle.um_frac.specs.Fraction.{numerator, denominator, signed, fraction, reduced, IsQuotient};
     ghost use Rattle.um_frac.specs.Arithmetic.{exactly};
@@ -215,8 +229,8 @@ impl Frac {
     fn sum_of_parts(a: i64, m: u64, b: i64, n: u64) -> Option<Frac>
         requires first_den { 0 < m }
         requires second_den { 0 < n }
-        requires first_fits { m ≤ 9223372036854775807 }
-        requires second_fits { n ≤ 9223372036854775807 }
+        requires first_fits { m ≤ greatest }
+        requires second_fits { n ≤ greatest }
         requires first { gcd (unsigned_abs a) m ≡ 1 }
         requires second { gcd (unsigned_abs b) n ≡ 1 }
         ensures { result ≡ reduced (a *ℤ pos n +ℤ b *ℤ pos m) (pos m *ℤ pos n) }
@@ -270,8 +284,8 @@ impl Frac {
 
 // a * m + b * n, for two sizes of denominators.
 fn cross_sum(a: i64, m: u64, b: i64, n: u64) -> i128
-    requires first { m ≤ 9223372036854775807 }
-    requires second { n ≤ 9223372036854775807 }
+    requires first { m ≤ greatest }
+    requires second { n ≤ greatest }
     ensures { result ≡ a *ℤ pos m +ℤ b *ℤ pos n }
 {
     a as i128 * m as i128 + b as i128 * n as i128
