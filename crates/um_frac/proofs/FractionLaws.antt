@@ -3,14 +3,14 @@ use Rattle.std.proofs.Common.{inl, inr, ◌<ℤ◌, subst, ◌≡◌, ◌≢◌,
 use Rattle.std.specs.Option.{ok_or, unwrap_or}
 use Rattle.std.specs.Int.{◌∣◌}
 use Rattle.std.proofs.lemmas.Int.{ints, unsigned_abs-mul, by_lt_z}
-use Rattle.std.proofs.Math.Nat.{le_of_dvd, dvd-mul_left, mul-le-mul_left, le_of_mul-le-mul_right}
+use Rattle.std.proofs.Math.Nat.{eq-one_of_dvd-one, le_of_dvd, dvd-mul_left, mul-le-mul_left, le_of_mul-le-mul_right}
 use Rattle.um_frac.specs.Range.{greatest}
 use Rattle.um_frac.specs.declared.number.Frac.{Frac}
 use Rattle.um_frac.specs.declared.number.Trap.TheVariants.{Overflow}
 use Rattle.um_frac.specs.Gcd.{gcd}
 use Rattle.um_frac.specs.Fraction.{numerator, denominator}
 use Rattle.um_frac.specs.Arithmetic.{exactly, sum_of, difference_of, product_of, negation_of, IsRatio, IsNegative}
-use Rattle.um_frac.specs.Laws.{GreatestIsCommon, EqualParts, EqualCrossProducts, OneForm, ReducedIsQuotient, SumIsExact, SumOverflows, SumNeverDivZero, DifferenceIsExact, DifferenceOverflows, DifferenceNeverDivZero, ProductIsExact, ProductOverflows, ProductNeverDivZero, QuotientIsExact, QuotientByZero, QuotientOverflows, NegationIsExact, SameIsEqual, OrderIsIrreflexive, OrderIsTransitive, OrderIsTotal}
+use Rattle.um_frac.specs.Laws.{GreatestIsCommon, PartsInRange, PartsInLowestTerms, EqualParts, EqualCrossProducts, OneForm, ReducedIsQuotient, SumIsExact, SumOverflows, SumNeverDivZero, DifferenceIsExact, DifferenceOverflows, DifferenceNeverDivZero, ProductIsExact, ProductOverflows, ProductNeverDivZero, QuotientIsExact, QuotientByZero, QuotientOverflows, NegationIsExact, SameIsEqual, OrderIsIrreflexive, OrderIsTransitive, OrderIsTotal}
 use Rattle.um_frac.proofs.Gcd.{gcd-is, gcd_comm, gauss}
 use Rattle.um_frac.proofs.Integers.{not_zero, times_swap, less_times, less_cancel, less_trans}
 use Rattle.um_frac.proofs.LowestTerms.{AreTerms, above_zero, reduced_terms, reduced_from, reduced_exact, fraction_from, same_parts, some_is, neg_abs, num_size}
@@ -18,6 +18,12 @@ use Rattle.um_frac.proofs.Outcomes.{less_iff, exact_ok, cross_equal, same_iff, s
 
 pub greatest_is_common : GreatestIsCommon
 greatest_is_common = gcd-is
+
+pub parts_in_range : PartsInRange
+parts_in_range a = ((a.above, a.num_fits), (a.positive, a.den_fits))
+
+pub parts_in_lowest_terms : PartsInLowestTerms
+parts_in_lowest_terms a d h k = eq-one_of_dvd-one (subst (λ g. d ∣ g) a.lowest ((gcd-is (unsigned_abs (numerator a)) (unsigned_abs (denominator a))).2 d h k))
 
 pub equal_parts : EqualParts
 equal_parts = same_parts

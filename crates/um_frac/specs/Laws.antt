@@ -1,6 +1,7 @@
--- The laws of fractions: what the definitions of this crate come to, in the words of the rational numbers.
-use Rattle.std.specs.Prelude.{◌≡◌, ◌≢◌, ◌↔◌, ◌⊎◌, ℕ, ◌≤◌, ℤ, pos, ◌*ℤ◌, unsigned_abs, IsTrue, Some, Ok, Err}
-use Rattle.std.specs.Int.{IsGcd}
+-- The laws of fractions: what the definitions of this crate come to, in the words of the rational numbers, which are pairs of
+-- integers with equal cross products. That lowest terms are unique: Knuth, Seminumerical Algorithms, 4.5.1.
+use Rattle.std.specs.Prelude.{◌≡◌, ◌≢◌, ◌↔◌, ◌⊎◌, ℕ, ◌≤◌, ℤ, pos, neg_ℤ, ◌*ℤ◌, ◌≤ℤ◌, unsigned_abs, IsTrue, Some, Ok, Err}
+use Rattle.std.specs.Int.{IsGcd, ◌∣◌}
 use Rattle.um_frac.specs.Range.{greatest}
 use Rattle.um_frac.specs.declared.number.Frac.{Frac}
 use Rattle.um_frac.specs.declared.number.Trap.TheVariants.{Overflow, DivZero}
@@ -12,6 +13,16 @@ use Rattle.um_frac.specs.Arithmetic.{sum_of, difference_of, product_of, quotient
 -- the greatest number that divides two numbers is divided by each number that divides both
 abbrev pub GreatestIsCommon : Type 0
 GreatestIsCommon = (a b : ℕ) → IsGcd a b (gcd a b)
+
+-- the parts of a number lie in the range
+abbrev pub PartsInRange : Type 0
+PartsInRange =
+    (a : Frac) →
+    ((neg_ℤ (pos greatest) ≤ℤ numerator a) × (numerator a ≤ℤ pos greatest)) × ((pos 1 ≤ℤ denominator a) × (denominator a ≤ℤ pos greatest))
+
+-- and no number but 1 divides both
+abbrev pub PartsInLowestTerms : Type 0
+PartsInLowestTerms = (a : Frac) (d : ℕ) → d ∣ unsigned_abs (numerator a) → d ∣ unsigned_abs (denominator a) → d ≡ 1
 
 -- numbers with equal parts are equal
 abbrev pub EqualParts : Type 0

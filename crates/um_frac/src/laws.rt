@@ -1,6 +1,8 @@
 //! The laws of fractions, as contracts of functions that do nothing. A crate above cites the law that it needs.
 ghost use Rattle.um_frac.specs.Laws.{
   GreatestIsCommon,
+  PartsInRange,
+  PartsInLowestTerms,
   EqualParts,
   EqualCrossProducts,
   OneForm,
@@ -27,6 +29,12 @@ ghost use Rattle.um_frac.specs.Laws.{
 /// Each common divisor divides the greatest one.
 pub fn greatest_is_common()
     ensures { GreatestIsCommon }
+{}
+
+/// The parts of a number lie in the range, and no number but 1 divides both.
+pub fn parts()
+    ensures range { PartsInRange }
+    ensures lowest { PartsInLowestTerms }
 {}
 
 /// Two numbers are equal exactly where their parts are, and exactly where their cross products are.

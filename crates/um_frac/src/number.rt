@@ -68,9 +68,10 @@ impl Frac {
         Frac::quotient_of_sizes((n < 0) != (d < 0), n.unsigned_abs(), d.unsigned_abs())
     }
 
-    /// The numerator, in lowest terms.
+    /// The numerator, in lowest terms: above `i64::MIN`.
     pub fn num(self) -> i64
-        ensures { result ≡ numerator self }
+        ensures value { result ≡ numerator self }
+        ensures above { neg_ℤ (pos greatest) ≤ℤ result }
     {
         self.num
     }
