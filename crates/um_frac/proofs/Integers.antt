@@ -1,15 +1,16 @@
 -- Laws of products of integers.
-use Rattle.std.proofs.Common.{◌≡◌, ◌≢◌, ℕ, zero, suc, ◌+◌, ◌*◌, ◌<◌, ℤ, pos, negsuc, ◌+ℤ◌, ◌*ℤ◌, neg_ℤ, refl, sym, ap, ◌∙◌, arith}
+use Rattle.std.proofs.Common.{◌≡◌, ◌≢◌, ℕ, zero, suc, ◌+◌, ◌*◌, ◌<◌, ℤ, pos, negsuc, ◌+ℤ◌, ◌*ℤ◌, neg_ℤ, refl, sym, ap, ◌∙◌, arith, ◌<ℤ◌}
 use Rattle.std.proofs.lemmas.Int.{ints}
-use Rattle.std.proofs.Math.Nat.{eq_of_mul-eq-mul_right, mul-pos}
+use Rattle.std.proofs.Math.Nat.{eq_of_mul-eq-mul_right, mul-pos, mul-lt-mul_of_pos_right}
 use borrow.Author.Differences.{up, down, sum_is_lem, product_is, neg_is}
-use Rattle.std.proofs.lemmas.Int.{fits_signed_from_abs, unsigned_abs-mul, to_z-of_z, to_z_pos}
+use Rattle.std.proofs.lemmas.Int.{fits_signed_from_abs, unsigned_abs-mul, to_z-of_z, to_z_pos, by_lt_z}
 use Rattle.std.proofs.lemmas.Nat.{mul-le}
 use Rattle.std.proofs.Common.{FitsSigned, unsigned_abs, ◌≤◌, ◌-◌, ◌⊎◌, inl, inr, true, false, to_z, of_z, w64}
 use Rattle.std.specs.Prelude.{nat_lt, cond}
 use borrow.Author.Tests.{ltb-true, ltb-false}
 use Rattle.std.proofs.lemmas.Bool.{cases_lt}
 use Rattle.std.specs.Int.{w128}
+use Rattle.um_frac.specs.Range.{greatest}
 use lib.IntN.{sub_ℕ, *ℤ_comm, *ℤ-negsuc, neg_ℤ-neg_ℤ, zero-*ℤ}
 
 pub times_sum : (a b c : ℤ) → a *ℤ (b +ℤ c) ≡ a *ℤ b +ℤ a *ℤ c
@@ -110,25 +111,25 @@ small_abs (negsuc n) fits = let low = fits.sfits in omega arith
 wide_fits : (a : ℤ) → FitsSigned w64 a → FitsSigned w128 a
 wide_fits a fits = let small = small_abs a fits in fits_signed_from_abs w128 a (omega arith)
 
-wide_product : (a : ℤ) (m : ℕ) → FitsSigned w64 a → m ≤ 9223372036854775807 → unsigned_abs (a *ℤ pos m) ≤ 9223372036854775808 * 9223372036854775807
+wide_product : (a : ℤ) (m : ℕ) → FitsSigned w64 a → m ≤ greatest → unsigned_abs (a *ℤ pos m) ≤ 9223372036854775808 * 9223372036854775807
 wide_product a m fits small = rw (unsigned_abs-mul a (pos m)) (mul-le (unsigned_abs a) m 9223372036854775808 9223372036854775807 (small_abs a fits) small)
 
 -- a product of an i64 and a u64 that was an i64, as the code has it
-product_read : (a : ℤ) (m : ℕ) → FitsSigned w64 a → m ≤ 9223372036854775807 → to_z w128 (of_z w128 (to_z w128 (of_z w128 (to_z w64 (of_z w64 a))) *ℤ to_z w128 m)) ≡ a *ℤ pos m
+product_read : (a : ℤ) (m : ℕ) → FitsSigned w64 a → m ≤ greatest → to_z w128 (of_z w128 (to_z w128 (of_z w128 (to_z w64 (of_z w64 a))) *ℤ to_z w128 m)) ≡ a *ℤ pos m
 product_read a m fits small =
     let wide : unsigned_abs (a *ℤ pos m) ≤ 9223372036854775808 * 9223372036854775807 = wide_product a m fits small in
     let m_is : to_z w128 m ≡ pos m = to_z_pos w128 m (omega arith) in
     ap (λ x. to_z w128 (of_z w128 (to_z w128 (of_z w128 x) *ℤ to_z w128 m))) (to_z-of_z w64 a fits) ∙ (λ i. to_z w128 (of_z w128 (to_z-of_z w128 a (wide_fits a fits) i *ℤ m_is i))) ∙ to_z-of_z w128 (a *ℤ pos m) (fits_signed_from_abs w128 (a *ℤ pos m) (omega arith))
 
 -- the sum of two such products fits
-pub sum_fits : (a b : ℤ) (m n : ℕ) → FitsSigned w64 a → FitsSigned w64 b → m ≤ 9223372036854775807 → n ≤ 9223372036854775807 → FitsSigned w128 (a *ℤ pos m +ℤ b *ℤ pos n)
+pub sum_fits : (a b : ℤ) (m n : ℕ) → FitsSigned w64 a → FitsSigned w64 b → m ≤ greatest → n ≤ greatest → FitsSigned w128 (a *ℤ pos m +ℤ b *ℤ pos n)
 sum_fits a b m n fa fb fm fn =
     let first = wide_product a m fa fm in
     let second = wide_product b n fb fn in
     let both = abs_sum (a *ℤ pos m) (b *ℤ pos n) in
     fits_signed_from_abs w128 (a *ℤ pos m +ℤ b *ℤ pos n) (omega arith)
 
-pub sum_read : (a b : ℤ) (m n : ℕ) → FitsSigned w64 a → FitsSigned w64 b → m ≤ 9223372036854775807 → n ≤ 9223372036854775807 →
+pub sum_read : (a b : ℤ) (m n : ℕ) → FitsSigned w64 a → FitsSigned w64 b → m ≤ greatest → n ≤ greatest →
     to_z w128 (of_z w128 (to_z w128 (of_z w128 (to_z w64 (of_z w64 a))) *ℤ to_z w128 m)) +ℤ to_z w128 (of_z w128 (to_z w128 (of_z w128 (to_z w64 (of_z w64 b))) *ℤ to_z w128 n)) ≡ a *ℤ pos m +ℤ b *ℤ pos n
 sum_read a b m n fa fb fm fn = λ i. product_read a m fa fm i +ℤ product_read b n fb fn i
 
@@ -139,3 +140,18 @@ read_product a b fa fb =
     (λ i. to_z w128 (of_z w128 (to_z w128 (of_z w128 (to_z-of_z w64 a fa i)) *ℤ to_z w128 (of_z w128 (to_z-of_z w64 b fb i)))))
     ∙ (λ i. to_z w128 (of_z w128 (to_z-of_z w128 a (wide_fits a fa) i *ℤ to_z-of_z w128 b (wide_fits b fb) i)))
     ∙ to_z-of_z w128 (a *ℤ b) (fits_signed_from_abs w128 (a *ℤ b) (omega arith))
+
+-- ---- order and products
+pub less_times : (x y : ℤ) (n : ℕ) → 0 < n → x <ℤ y → (x *ℤ pos n) <ℤ (y *ℤ pos n)
+less_times (pos a) (pos b) n some h = let low : a < b = omega (arith, ints) in let more : a * n < b * n = mul-lt-mul_of_pos_right low some in omega (arith, ints)
+less_times (pos a) (negsuc b) n some h = absurd (omega (arith, ints))
+less_times (negsuc a) (pos b) n some h = let more : 0 < suc a * n = mul-pos (omega arith) some in omega (arith, ints)
+less_times (negsuc a) (negsuc b) n some h = let low : suc b < suc a = omega (arith, ints) in let more : suc b * n < suc a * n = mul-lt-mul_of_pos_right low some in omega (arith, ints)
+
+pub less_cancel : (x y : ℤ) (n : ℕ) → 0 < n → (x *ℤ pos n) <ℤ (y *ℤ pos n) → x <ℤ y
+less_cancel x y n some h =
+    by_lt_z x y (λ less. less) (λ most.
+    absurd (by_lt_z y x (λ more. let scaled = less_times y x n some more in omega (arith, ints)) (λ least. let same : x ≡ y = omega (arith, ints) in let scaled = ap (λ z. z *ℤ pos n) same in omega (arith, ints))))
+
+pub less_trans : (x y z : ℤ) → x <ℤ y → y <ℤ z → x <ℤ z
+less_trans x y z h k = omega (arith, ints)

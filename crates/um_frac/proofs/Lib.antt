@@ -4,3 +4,4 @@ pub mod LowestTerms
 pub mod SumTerms
 pub mod ProductTerms
 pub mod Outcomes
+pub mod FractionLaws

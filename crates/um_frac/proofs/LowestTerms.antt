@@ -11,6 +11,7 @@ use mathlib.Core.HLevel.{Σ_prop_path}
 use lib.Dec.{T_prop, eqb_refl}
 use lib.IntN.{*ℤ_comm, *ℤ-negsuc, neg_ℤ-neg_ℤ}
 use Rattle.std.specs.Coded.{Coded-set, coded_ℕ}
+use Rattle.um_frac.specs.Range.{greatest}
 use Rattle.um_frac.specs.declared.number.Frac.{Frac}
 use Rattle.um_frac.specs.Gcd.{gcd}
 use Rattle.um_frac.specs.Fraction.{numerator, denominator, IsQuotient, Fits, where_true, signed, fraction, divided, reduced}
@@ -18,7 +19,7 @@ use Rattle.um_frac.proofs.Gcd.{gcd-is, gcd-div, gcd_up, quotient_up, same_terms}
 use Rattle.um_frac.proofs.Integers.{times_assoc, neg_times, cancel, cross}
 
 abbrev Facts : ℤ × ℤ → Type 0
-Facts p = (pos 1 ≤ℤ p.1) × (p.1 ≤ℤ pos 9223372036854775807) × (negsuc 9223372036854775806 ≤ℤ p.0) × (p.0 ≤ℤ pos 9223372036854775807) × (gcd (unsigned_abs p.0) (unsigned_abs p.1) ≡ 1)
+Facts p = (pos 1 ≤ℤ p.1) × (p.1 ≤ℤ pos greatest) × (neg_ℤ (pos greatest) ≤ℤ p.0) × (p.0 ≤ℤ pos greatest) × (gcd (unsigned_abs p.0) (unsigned_abs p.1) ≡ 1)
 
 facts_prop : (p : ℤ × ℤ) → IsProp (Facts p)
 facts_prop p = hlevel (T_prop, Coded-set coded_ℕ)
@@ -38,7 +39,7 @@ holds_case : {A : Type 0} (test : Bool) (f : T test → Option A) (h : T test) �
 holds_case true f h = refl
 holds_case false f h = absurd h
 
-some_is : (a b : Frac) → Some a ≡ Some b → a ≡ b
+pub some_is : (a b : Frac) → Some a ≡ Some b → a ≡ b
 some_is a b e = cc
 
 -- ---- `fraction`
@@ -47,9 +48,9 @@ pub fraction-parts : (p q : ℤ) (r : Frac) → fraction p q ≡ Some r → (num
 unfolding fraction
 fraction-parts p q r e =
     let e1 = true_case (int_le (pos 1) q) _ r e in
-    let e2 = true_case (int_le q (pos 9223372036854775807)) _ r e1.1 in
-    let e3 = true_case (int_le (negsuc 9223372036854775806) p) _ r e2.1 in
-    let e4 = true_case (int_le p (pos 9223372036854775807)) _ r e3.1 in
+    let e2 = true_case (int_le q (pos greatest)) _ r e1.1 in
+    let e3 = true_case (int_le (neg_ℤ (pos greatest)) p) _ r e2.1 in
+    let e4 = true_case (int_le p (pos greatest)) _ r e3.1 in
     let e5 = true_case (gcd (unsigned_abs p) (unsigned_abs q) == 1) _ r e4.1 in
     let same = some_is _ r e5.1 in (sym (ap numerator same), sym (ap denominator same))
 
@@ -57,7 +58,7 @@ fraction-parts p q r e =
 pub fraction-is : (r : Frac) → fraction (numerator r) (denominator r) ≡ Some r
 unfolding fraction
 fraction-is r =
-    holds_case (int_le (pos 1) r.den) _ r.positive.le ∙ holds_case (int_le r.den (pos 9223372036854775807)) _ r.den_fits.le ∙ holds_case (int_le (negsuc 9223372036854775806) r.num) _ r.above.le ∙ holds_case (int_le r.num (pos 9223372036854775807)) _ r.num_fits.le ∙ holds_case (gcd (unsigned_abs r.num) (unsigned_abs r.den) == 1) _ (subst (λ g. T (gcd (unsigned_abs r.num) (unsigned_abs r.den) == g)) r.lowest (eqb_refl (gcd (unsigned_abs r.num) (unsigned_abs r.den)))) ∙ ap Some (same_parts _ r refl refl)
+    holds_case (int_le (pos 1) r.den) _ r.positive.le ∙ holds_case (int_le r.den (pos greatest)) _ r.den_fits.le ∙ holds_case (int_le (neg_ℤ (pos greatest)) r.num) _ r.above.le ∙ holds_case (int_le r.num (pos greatest)) _ r.num_fits.le ∙ holds_case (gcd (unsigned_abs r.num) (unsigned_abs r.den) == 1) _ (subst (λ g. T (gcd (unsigned_abs r.num) (unsigned_abs r.den) == g)) r.lowest (eqb_refl (gcd (unsigned_abs r.num) (unsigned_abs r.den)))) ∙ ap Some (same_parts _ r refl refl)
 
 -- ---- `reduced`
 pub neg_abs : (z : ℤ) → unsigned_abs (neg_ℤ z) ≡ unsigned_abs z
@@ -231,12 +232,12 @@ reduced_signs (negsuc n) (pos d) = λ i. reduced (signed (not (beq true (below_n
 reduced_signs (negsuc n) (negsuc d) = refl
 
 -- a numerator past the range is none
-pub wide_numerator : (b : Bool) (n : ℕ) (r : Frac) → 9223372036854775807 < n → numerator r ≡ signed b n → ⊥
+pub wide_numerator : (b : Bool) (n : ℕ) (r : Frac) → greatest < n → numerator r ≡ signed b n → ⊥
 wide_numerator false n r wide e = let high = r.num_fits in omega (arith, ints, e)
 wide_numerator true n r wide e = let low = r.above in omega (arith, ints, e)
 
 -- and neither is a denominator
-pub wide_denominator : (n : ℕ) (r : Frac) → 9223372036854775807 < n → denominator r ≡ pos n → ⊥
+pub wide_denominator : (n : ℕ) (r : Frac) → greatest < n → denominator r ≡ pos n → ⊥
 wide_denominator n r wide e = let high = r.den_fits in omega (arith, ints, e)
 
 -- `reduced` of the signs and sizes that the code has
@@ -275,14 +276,14 @@ signed_mul true true (suc m) zero = omega (arith, ints)
 signed_mul true true (suc m) (suc n) = refl
 
 -- ---- the parts of a fraction as machine numbers
-small_size : (z : ℤ) → negsuc 9223372036854775806 ≤ℤ z → z ≤ℤ pos 9223372036854775807 → unsigned_abs z ≤ 9223372036854775807
+small_size : (z : ℤ) → neg_ℤ (pos greatest) ≤ℤ z → z ≤ℤ pos greatest → unsigned_abs z ≤ greatest
 small_size (pos n) low high = omega (arith, ints)
 small_size (negsuc n) low high = omega (arith, ints)
 
-pub num_size : (r : Frac) → unsigned_abs (numerator r) ≤ 9223372036854775807
+pub num_size : (r : Frac) → unsigned_abs (numerator r) ≤ greatest
 num_size r = small_size r.num r.above r.num_fits
 
-pub den_size : (r : Frac) → unsigned_abs (denominator r) ≤ 9223372036854775807
+pub den_size : (r : Frac) → unsigned_abs (denominator r) ≤ greatest
 den_size r = small_size r.den (let up = r.positive in omega (arith, ints)) r.den_fits
 
 pub num_wide : (r : Frac) → FitsSigned w64 (numerator r)

@@ -1,14 +1,15 @@
 -- What the operations' definitions say, by cross products.
-use Rattle.std.proofs.Common.{◌≡◌, ◌≢◌, ◌↔◌, zero, suc, ◌*◌, ◌<◌, ◌≤◌, true, false, ℤ, pos, negsuc, ◌+ℤ◌, ◌-ℤ◌, ◌*ℤ◌, ◌≤ℤ◌, ◌<ℤ◌, unsigned_abs, Option, None, Some, Result, Ok, Err, IfOk, IsTrue, refl, sym, ap, subst, ◌∙◌, arith}
+use Rattle.std.proofs.Common.{neg_ℤ, ◌≡◌, ◌≢◌, ◌↔◌, zero, suc, ◌*◌, ◌<◌, ◌≤◌, true, false, ℤ, pos, negsuc, ◌+ℤ◌, ◌-ℤ◌, ◌*ℤ◌, ◌≤ℤ◌, ◌<ℤ◌, unsigned_abs, Option, None, Some, Result, Ok, Err, IfOk, IsTrue, refl, sym, ap, subst, ◌∙◌, arith}
 use Rattle.std.specs.Option.{ok_or}
 use Rattle.std.proofs.lemmas.Int.{ints}
 use Rattle.std.proofs.lemmas.Int.{to_z-of_z}
 use Rattle.std.proofs.lemmas.Bool.Decides.{Decides-int_eq}
 use Rattle.std.specs.Prelude.{int_lt, Bool, T, FitsSigned}
-use Rattle.std.proofs.Common.{to_z, of_z, w64}
+use Rattle.std.proofs.Common.{neg_ℤ, to_z, of_z, w64}
 use Rattle.std.specs.Bool.{one_answer}
 use lib.Signed.{lt_z_yes}
-use lib.IntN.{*ℤ-zero}
+use lib.IntN.{*ℤ-zero, ℤ_discrete}
+use Rattle.um_frac.specs.Range.{greatest}
 use Rattle.um_frac.specs.declared.number.Frac.{Frac}
 use Rattle.um_frac.specs.declared.number.Trap.{Trap}
 use Rattle.um_frac.specs.declared.number.Trap.TheVariants.{Overflow, DivZero}
@@ -31,8 +32,8 @@ exact_ok n d (Err t) e = tt
 pub exact_overflow : (n d : ℤ) (o : Result Frac Trap) → d ≢ pos 0 → o ≡ exactly n d → (o ≡ Err Overflow) ↔ ((r : Frac) → ¬ (numerator r *ℤ d ≡ n *ℤ denominator r))
 exact_overflow n d o other e = ((λ f r is. let g = e ∙ ap (λ x. ok_or x Overflow) (reduced_from r n d (other, is)) in cc), (λ none. e ∙ ap (λ x. ok_or x Overflow) (reduced_none n d (λ fit. none fit.0 fit.1.1))))
 
-pub exact_defined : (n d : ℤ) (o : Result Frac Trap) → o ≡ exactly n d → o ≢ Err DivZero
-exact_defined n d o e f = never (reduced n d) (sym e ∙ f)
+pub exact_never_div_zero : (n d : ℤ) (o : Result Frac Trap) → o ≡ exactly n d → o ≢ Err DivZero
+exact_never_div_zero n d o e f = never (reduced n d) (sym e ∙ f)
   where
     never : (o : Option Frac) → ok_or o Overflow ≡ Err DivZero → ⊥
     never None e = cc
@@ -63,7 +64,7 @@ test_true : (t : Bool) → T t → t ≡ true
 test_true true h = refl
 test_true false h = absurd h
 
-less_iff : (x y : ℤ) → IsTrue (int_lt x y) ↔ (x <ℤ y)
+pub less_iff : (x y : ℤ) → IsTrue (int_lt x y) ↔ (x <ℤ y)
 less_iff x y = ((λ e. lt_z_yes (subst T (sym e) tt)), (λ h. test_true (int_lt x y) h.lt))
 
 -- at values that are known to be x' and y'
@@ -94,17 +95,17 @@ same_bits x y f g e = sym (to_z-of_z w64 x f) ∙ ap (to_z w64) e ∙ to_z-of_z 
 -- ---- 1 / r
 pub record IsReciprocal (r : Frac) (num den : ℤ) : Type 0 where
   pub positive : pos 1 ≤ℤ den
-  pub den_fits : den ≤ℤ pos 9223372036854775807
-  pub above : negsuc 9223372036854775806 ≤ℤ num
-  pub num_fits : num ≤ℤ pos 9223372036854775807
+  pub den_fits : den ≤ℤ pos greatest
+  pub above : neg_ℤ (pos greatest) ≤ℤ num
+  pub num_fits : num ≤ℤ pos greatest
   pub lowest : gcd (unsigned_abs num) (unsigned_abs den) ≡ 1
 
-size_up : (z : ℤ) → z ≢ pos 0 → 0 < unsigned_abs z
+pub size_up : (z : ℤ) → z ≢ pos 0 → 0 < unsigned_abs z
 size_up (pos zero) other = absurd (other refl)
 size_up (pos (suc n)) other = omega arith
 size_up (negsuc n) other = omega arith
 
-within : (z : ℤ) → unsigned_abs z ≤ 9223372036854775807 → (negsuc 9223372036854775806 ≤ℤ z) × (z ≤ℤ pos 9223372036854775807)
+pub within : (z : ℤ) → unsigned_abs z ≤ greatest → (neg_ℤ (pos greatest) ≤ℤ z) × (z ≤ℤ pos greatest)
 within (pos n) h = (omega (arith, ints), omega (arith, ints))
 within (negsuc n) h = (omega (arith, ints), omega (arith, ints))
 
@@ -112,7 +113,7 @@ pub reciprocal_at : (r : Frac) (num den : ℤ) → numerator r ≢ pos 0 → uns
 reciprocal_at r num den other e f =
     let low = size_up (numerator r) other in
     let size = num_size r in
-    let above : unsigned_abs num ≤ 9223372036854775807 = omega (arith, e, den_size r) in
+    let above : unsigned_abs num ≤ greatest = omega (arith, e, den_size r) in
     record {
       positive = omega (arith, ints, f);
       den_fits = omega (arith, ints, f);
@@ -142,37 +143,37 @@ pub record SumClauses (a b : Frac) (o : Result Frac Trap) : Type 0 where
   pub value : o ≡ sum_of a b
   pub exact : IfOk o (λ r. IsSum r a b)
   pub overflow : (o ≡ Err Overflow) ↔ ((r : Frac) → ¬ IsSum r a b)
-  pub defined : o ≢ Err DivZero
+  pub never_div_zero : o ≢ Err DivZero
 
 pub sum_clauses : (a b : Frac) (o : Result Frac Trap) → o ≡ sum_of a b → SumClauses a b o
 unfolding sum_of
 sum_clauses a b o e =
     let n = numerator a *ℤ denominator b +ℤ numerator b *ℤ denominator a in
-    let d = denominator a *ℤ denominator b in record { value = e; exact = exact_ok n d o e; overflow = exact_overflow n d o (dens_apart a b) e; defined = exact_defined n d o e }
+    let d = denominator a *ℤ denominator b in record { value = e; exact = exact_ok n d o e; overflow = exact_overflow n d o (dens_apart a b) e; never_div_zero = exact_never_div_zero n d o e }
 
 pub record DifferenceClauses (a b : Frac) (o : Result Frac Trap) : Type 0 where
   pub value : o ≡ difference_of a b
   pub exact : IfOk o (λ r. IsDifference r a b)
   pub overflow : (o ≡ Err Overflow) ↔ ((r : Frac) → ¬ IsDifference r a b)
-  pub defined : o ≢ Err DivZero
+  pub never_div_zero : o ≢ Err DivZero
 
 pub difference_clauses : (a b : Frac) (o : Result Frac Trap) → o ≡ difference_of a b → DifferenceClauses a b o
 unfolding difference_of
 difference_clauses a b o e =
     let n = numerator a *ℤ denominator b -ℤ numerator b *ℤ denominator a in
-    let d = denominator a *ℤ denominator b in record { value = e; exact = exact_ok n d o e; overflow = exact_overflow n d o (dens_apart a b) e; defined = exact_defined n d o e }
+    let d = denominator a *ℤ denominator b in record { value = e; exact = exact_ok n d o e; overflow = exact_overflow n d o (dens_apart a b) e; never_div_zero = exact_never_div_zero n d o e }
 
 pub record ProductClauses (a b : Frac) (o : Result Frac Trap) : Type 0 where
   pub value : o ≡ product_of a b
   pub exact : IfOk o (λ r. IsProduct r a b)
   pub overflow : (o ≡ Err Overflow) ↔ ((r : Frac) → ¬ IsProduct r a b)
-  pub defined : o ≢ Err DivZero
+  pub never_div_zero : o ≢ Err DivZero
 
 pub product_clauses : (a b : Frac) (o : Result Frac Trap) → o ≡ product_of a b → ProductClauses a b o
 unfolding product_of
 product_clauses a b o e =
     let n = numerator a *ℤ numerator b in
-    let d = denominator a *ℤ denominator b in record { value = e; exact = exact_ok n d o e; overflow = exact_overflow n d o (dens_apart a b) e; defined = exact_defined n d o e }
+    let d = denominator a *ℤ denominator b in record { value = e; exact = exact_ok n d o e; overflow = exact_overflow n d o (dens_apart a b) e; never_div_zero = exact_never_div_zero n d o e }
 
 pub record QuotientClauses (a b : Frac) (o : Result Frac Trap) : Type 0 where
   pub value : o ≡ quotient_of a b
@@ -204,7 +205,7 @@ quotient_clauses a b o other e =
     record {
       value = e;
       exact = with_divisor o (exact_ok n d o e');
-      zero = ((λ f. absurd (exact_defined n d o e' f)), (λ f. absurd (other f)));
+      zero = ((λ f. absurd (exact_never_div_zero n d o e' f)), (λ f. absurd (other f)));
       overflow = ((λ f. (other, (λ r is. over.0 f r is.1))), (λ none. over.1 (λ r is. none.1 r (other, is))));
     }
   where
@@ -227,3 +228,11 @@ quotient_from a b c other is =
     let crossed = times_four (numerator a) (numerator c) (denominator a) (numerator b) ∙ ap (λ z. numerator a *ℤ denominator a *ℤ z) is.1 ∙ times_four (numerator a) (denominator a) (denominator b) (denominator c) in
     let apart = not_zero (denominator a) (numerator b) (den_apart a) other in
     ap (λ x. ok_or x Overflow) (reduced_same (numerator a *ℤ numerator c) (denominator a *ℤ denominator c) (numerator a *ℤ denominator b) (denominator a *ℤ numerator b) (dens_apart a c) apart crossed) ∙ sym (quotient_exactly a b other)
+
+-- whichever b is
+pub quotient_any : (a b : Frac) → QuotientClauses a b (quotient_of a b)
+quotient_any a b = by_test (ℤ_discrete (numerator b) (pos 0))
+  where
+    by_test : Dec (numerator b ≡ pos 0) → QuotientClauses a b (quotient_of a b)
+    by_test (yes e) = subst (QuotientClauses a b) (sym (quotient_zero a b e)) (quotient_zero_clauses a b e)
+    by_test (no other) = quotient_clauses a b (quotient_of a b) other refl

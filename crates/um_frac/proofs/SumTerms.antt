@@ -5,11 +5,11 @@ use Rattle.std.specs.Int.{◌∣◌}
 use Rattle.std.specs.Prelude.{int_lt}
 use Rattle.std.proofs.lemmas.Int.{ints, unsigned_abs-mul}
 use Rattle.std.proofs.lemmas.Nat.Gcd.{dvd_trans}
-use Rattle.std.proofs.Math.Nat.{mul-div_cancel', div-mul_cancel, mul-div_assoc, mul-pos, dvd-add, dvd-sub, dvd-mul_left, dvd-mul_right, eq-one_of_dvd-one}
+use Rattle.std.proofs.Math.Nat.{mul-div_cancel', div-mul_cancel, mul-div_assoc, mul-pos, div-one, dvd-add, dvd-sub, dvd-mul_left, dvd-mul_right, eq-one_of_dvd-one}
 use lib.IntN.{+ℤ_comm}
 use Rattle.um_frac.specs.Gcd.{gcd}
 use Rattle.um_frac.specs.Fraction.{signed, fraction, reduced}
-use Rattle.um_frac.proofs.Gcd.{gcd-is, gcd-mod, gcd-div, gcd_up, gcd_comm, coprime_left, coprime_right, coprime_times, factor_up}
+use Rattle.um_frac.proofs.Gcd.{gcd-is, gcd-mod, gcd-one, gcd-div, gcd_up, gcd_comm, coprime_left, coprime_right, coprime_times, factor_up}
 use Rattle.um_frac.proofs.Integers.{times_assoc, sum_times, sizes}
 use Rattle.um_frac.proofs.LowestTerms.{AreTerms, signed_abs, reduced_is, signed_size, signed_times}
 
@@ -94,9 +94,9 @@ pub record IsSumAt (a b : ℤ) (m n g rest size : ℕ) (above : ℤ) : Type 0 wh
   pub lowest : gcd (size / rest) (m / g * (n / rest)) ≡ 1
   pub value : fraction (signed (int_lt above (pos 0)) (size / rest)) (pos (m / g * (n / rest))) ≡ reduced (a *ℤ pos n +ℤ b *ℤ pos m) (pos (m * n))
 
-pub sum_at : (a b : ℤ) (m n g r size : ℕ) (z z' : ℤ) → 0 < m → 0 < n → gcd (unsigned_abs a) m ≡ 1 → gcd (unsigned_abs b) n ≡ 1 → g ≡ gcd m n → z ≡ a *ℤ pos (n / g) +ℤ b *ℤ pos (m / g) → z' ≡ z → size ≡ unsigned_abs z' → r ≡ gcd g (size % g) → IsSumAt a b m n g r size z'
-sum_at a b m n g r size z z' up more first second g_is z_is same size_is r_is =
-    let zs : above a b m n ≡ z' = (λ i. a *ℤ pos (n / sym g_is i) +ℤ b *ℤ pos (m / sym g_is i)) ∙ sym z_is ∙ sym same in
+pub sum_at : (a b a' b' : ℤ) (m n g r size : ℕ) (z z' : ℤ) → 0 < m → 0 < n → gcd (unsigned_abs a) m ≡ 1 → gcd (unsigned_abs b) n ≡ 1 → a' ≡ a → b' ≡ b → g ≡ gcd m n → z ≡ a' *ℤ pos (n / g) +ℤ b' *ℤ pos (m / g) → z' ≡ z → size ≡ unsigned_abs z' → r ≡ gcd g (size % g) → IsSumAt a b m n g r size z'
+sum_at a b a' b' m n g r size z z' up more first second a_is b_is g_is z_is same size_is r_is =
+    let zs : above a b m n ≡ z' = (λ i. sym a_is i *ℤ pos (n / sym g_is i) +ℤ sym b_is i *ℤ pos (m / sym g_is i)) ∙ sym z_is ∙ sym same in
     let sizes_are : unsigned_abs (above a b m n) ≡ size = ap unsigned_abs zs ∙ sym size_is in
     let rs : rest a b m n ≡ r = (λ i. gcd (sizes_are i) (sym g_is i)) ∙ sym (gcd-mod size g) ∙ sym r_is in
     let terms = sum_terms a b m n up more first second in
@@ -106,3 +106,19 @@ sum_at a b m n g r size z z' up more first second g_is z_is same size_is r_is =
       value = sym (reduced_is (a *ℤ pos n +ℤ b *ℤ pos m) (pos (m * n)) _ _ (λ e. let big : 0 < m * n = mul-pos up more in omega (arith, ints)) terms);
     } in
     subst (λ (t : ℕ × ℕ × ℕ × ℤ). IsSumAt a b m n t.0 t.1 t.2 t.3) (λ i. (sym g_is i, rs i, sizes_are i, zs i)) base
+
+-- where the denominators have no common divisor, the sum is in lowest terms as it stands
+pub record IsPlainSum (a b : ℤ) (m n size : ℕ) (above : ℤ) : Type 0 where
+  pub positive : 0 < m * n
+  pub lowest : gcd size (m * n) ≡ 1
+  pub value : fraction (signed (int_lt above (pos 0)) size) (pos (m * n)) ≡ reduced (a *ℤ pos n +ℤ b *ℤ pos m) (pos (m * n))
+
+pub plain_sum_at : (a b a' b' : ℤ) (m n g size : ℕ) (z z' : ℤ) → 0 < m → 0 < n → gcd (unsigned_abs a) m ≡ 1 → gcd (unsigned_abs b) n ≡ 1 → a' ≡ a → b' ≡ b → g ≡ gcd m n → z ≡ a' *ℤ pos (n / g) +ℤ b' *ℤ pos (m / g) → z' ≡ z → size ≡ unsigned_abs z' → g ≡ 1 → IsPlainSum a b m n size z'
+plain_sum_at a b a' b' m n g size z z' up more first second a_is b_is g_is z_is same size_is plain =
+    let all = sum_at a b a' b' m n g 1 size z z' up more first second a_is b_is g_is z_is same size_is (sym (gcd_comm g (size % g) ∙ ap (gcd (size % g)) plain ∙ gcd-one (size % g))) in
+    let below : m / g * (n / 1) ≡ m * n = (λ i. m / plain i * (n / 1)) ∙ (λ i. div-one m i * div-one n i) in
+    record {
+      positive = subst (λ d. 0 < d) below all.positive;
+      lowest = (λ i. gcd (sym (div-one size) i) (sym below i)) ∙ all.lowest;
+      value = (λ i. fraction (signed (int_lt z' (pos 0)) (sym (div-one size) i)) (pos (sym below i))) ∙ all.value;
+    }

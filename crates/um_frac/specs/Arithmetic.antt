@@ -1,14 +1,13 @@
 -- The four operations, the sign and the order of fractions: the rational numbers' own, over integers without bound.
 -- A result is the exact one in lowest terms, or Overflow where that is out of the range, or DivZero for a quotient by 0.
 -- Sum, product and quotient by cross products: Knuth, Seminumerical Algorithms, 4.5.1. The two traps are this project's own.
-use Rattle.std.specs.Prelude.{◌≡◌, ◌≢◌, Bool, zero, suc, ℤ, pos, negsuc, neg_ℤ, ◌+ℤ◌, ◌-ℤ◌, ◌*ℤ◌, int_lt}
-use Rattle.std.specs.Option.{ok_or}
+use Rattle.std.specs.Prelude.{◌≡◌, ◌≢◌, Bool, zero, suc, ℤ, pos, negsuc, neg_ℤ, ◌+ℤ◌, ◌-ℤ◌, ◌*ℤ◌, int_lt, Result, Err}
+use Rattle.std.specs.Option.{ok_or, unwrap_or}
 use Rattle.std.specs.Ordering.{int_eq}
-use Rattle.std.specs.Prelude.{Result, Err}
 use Rattle.um_frac.specs.declared.number.Frac.{Frac}
 use Rattle.um_frac.specs.declared.number.Trap.{Trap}
 use Rattle.um_frac.specs.declared.number.Trap.TheVariants.{Overflow, DivZero}
-use Rattle.um_frac.specs.Fraction.{numerator, denominator, reduced}
+use Rattle.um_frac.specs.Fraction.{numerator, denominator, fraction, reduced}
 
 -- ---- what an operation answers
 
@@ -33,6 +32,10 @@ divided_by n (negsuc d) = exactly n (negsuc d)
 
 unfoldable pub quotient_of : Frac → Frac → Result Frac Trap
 quotient_of a b = divided_by (numerator a *ℤ denominator b) (denominator a *ℤ numerator b)
+
+-- the number with the other sign; it is always in the range, so there is such a fraction
+unfoldable pub negation_of : Frac → Frac
+negation_of a = unwrap_or (fraction (neg_ℤ (numerator a)) (denominator a)) a
 
 -- ---- the order, and equality, by cross products
 abbrev pub is_less : Frac → Frac → Bool

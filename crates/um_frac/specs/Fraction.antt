@@ -5,6 +5,7 @@
 use Rattle.std.specs.Prelude.{◌≡◌, ◌≢◌, ℕ, zero, suc, ◌/◌, ◌==◌, Bool, true, false, T, ℤ, pos, negsuc, neg_ℤ, ◌*ℤ◌, unsigned_abs, int_le, int_div, Option, None, Some}
 use lib.Dec.{eqb→eq}
 use lib.Signed.{le_z_yes}
+use Rattle.um_frac.specs.Range.{greatest}
 use Rattle.um_frac.specs.declared.number.Frac.{Frac}
 use Rattle.um_frac.specs.Gcd.{gcd}
 
@@ -38,9 +39,9 @@ where_true false f = None
 unfoldable pub fraction : ℤ → ℤ → Option Frac
 fraction p q =
     where_true (int_le (pos 1) q) (λ positive.
-    where_true (int_le q (pos 9223372036854775807)) (λ den_fits.
-    where_true (int_le (negsuc 9223372036854775806) p) (λ above.
-    where_true (int_le p (pos 9223372036854775807)) (λ num_fits.
+    where_true (int_le q (pos greatest)) (λ den_fits.
+    where_true (int_le (neg_ℤ (pos greatest)) p) (λ above.
+    where_true (int_le p (pos greatest)) (λ num_fits.
     where_true (gcd (unsigned_abs p) (unsigned_abs q) == 1) (λ lowest.
     Some (record {
       num = p;

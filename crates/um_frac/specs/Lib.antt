@@ -1,3 +1,5 @@
-pub mod Arithmetic
+pub mod Range
 pub mod Gcd
 pub mod Fraction
+pub mod Arithmetic
+pub mod Laws

@@ -5,6 +5,9 @@
 #![tactic(auto)]
 
 mod divisor;
+pub mod laws;
 mod number;
+#[cfg(test)]
+mod tests;
 
 pub use number::{Frac, Trap};

@@ -1,4 +1,5 @@
-ghost use Rattle.std.specs.Prelude.{◌≡◌, ◌≢◌, ◌↔◌, ◌<◌, ◌≤◌, ℤ, pos, negsuc, ◌≤ℤ◌, ◌<ℤ◌, ◌+ℤ◌, ◌*ℤ◌, unsigned_abs, IsTrue, IsNone, IfSome, IfOk};
+ghost use Rattle.std.specs.Prelude.{◌≡◌, ◌≢◌, ◌↔◌, ◌<◌, ◌≤◌, ℤ, pos, neg_ℤ, ◌≤ℤ◌, ◌<ℤ◌, ◌+ℤ◌, ◌*ℤ◌, unsigned_abs, IsTrue, IsNone, IfSome, IfOk};
+ghost use Rattle.um_frac.specs.Range.{greatest};
 ghost use Rattle.um_frac.specs.Gcd.{gcd};
 
 use crate::divisor::{common_divisor, wide_common_divisor};
@@ -19,20 +20,23 @@ pub enum Trap {
 ///
 /// The numerator lies in -9223372036854775807 ..= 9223372036854775807 and the denominator in
 /// 1 ..= 9223372036854775807. Two values are equal exactly where they are the same rational number.
+///
+/// An operation gives the exact result in lowest terms, by cross products as in Knuth, Seminumerical Algorithms, 4.5.1,
+/// or it says by a [`Trap`] why there is none. It takes no memory.
 #[derive(Clone, Copy, Debug)]
 pub struct Frac {
     num: i64,
     den: i64,
     ghost positive: { pos 1 ≤ℤ den },
-    ghost den_fits: { den ≤ℤ pos 9223372036854775807 },
-    ghost above: { negsuc 9223372036854775806 ≤ℤ num },
-    ghost num_fits: { num ≤ℤ pos 9223372036854775807 },
+    ghost den_fits: { den ≤ℤ pos greatest },
+    ghost above: { neg_ℤ (pos greatest) ≤ℤ num },
+    ghost num_fits: { num ≤ℤ pos greatest },
     ghost lowest: { gcd (unsigned_abs num) (unsigned_abs den) ≡ 1 },
 }
 
 impl Frac {
     ghost use Rattle.um_frac.specs.Fraction.{numerator, denominator, reduced, IsQuotient, Fits};
-    ghost use Rattle.um_frac.specs.Arithmetic.{sum_of, difference_of, product_of, quotient_of, is_less, is_same, IsSum, IsDifference, IsProduct, IsRatio, IsNegative};
+    ghost use Rattle.um_frac.specs.Arithmetic.{sum_of, difference_of, product_of, quotient_of, negation_of, is_less, is_same, IsSum, IsDifference, IsProduct, IsRatio, IsNegative};
 
     /// The number 0.
     pub fn zero() -> Frac
@@ -50,7 +54,9 @@ impl Frac {
         Frac { num: 1, den: 1 }
     }
 
-    /// The quotient `n / d` in lowest terms, or `None` exactly where `d` is 0 or the reduced quotient is out of range.
+    /// The quotient `n / d` in lowest terms, at any two integers of 128 bits.
+    ///
+    /// `None` exactly where `d` is 0 or the reduced quotient is out of range.
     pub fn of_parts(n: i128, d: i128) -> Option<Frac>
         ensures value { result ≡ reduced n d }
         ensures exact { IfSome result (λ r. IsQuotient r n d) }
@@ -62,9 +68,10 @@ impl Frac {
         Frac::quotient_of_sizes((n < 0) != (d < 0), n.unsigned_abs(), d.unsigned_abs())
     }
 
-    /// The numerator, in lowest terms.
+    /// The numerator, in lowest terms: above `i64::MIN`.
     pub fn num(self) -> i64
-        ensures { result ≡ numerator self }
+        ensures value { result ≡ numerator self }
+        ensures above { neg_ℤ (pos greatest) ≤ℤ result }
     {
         self.num
     }
@@ -77,12 +84,15 @@ impl Frac {
         self.den
     }
 
-    /// The sum, or `Overflow` exactly where it is out of range.
+    /// The sum of the two numbers.
+    ///
+    /// `Overflow` exactly where the exact sum is out of range; a cross product on the way may be wider than the range.
+    #[inline]
     pub fn add(self, other: Frac) -> Result<Frac, Trap>
         ensures value { result ≡ sum_of self other }
         ensures exact { IfOk result (λ r. IsSum r self other) }
         ensures overflow { (result ≡ Err Trap.Overflow) ↔ ((r : Frac) → ¬ IsSum r self other) }
-        ensures defined { result ≢ Err Trap.DivZero }
+        ensures never_div_zero { result ≢ Err Trap.DivZero }
     {
         if self.den == 1 && other.den == 1 {
             return Frac::whole(self.num as i128 + other.num as i128);
@@ -92,22 +102,28 @@ impl Frac {
         )
     }
 
-    /// The difference `self - other`, or `Overflow` exactly where it is out of range.
+    /// The difference `self - other`.
+    ///
+    /// `Overflow` exactly where the exact difference is out of range.
+    #[inline]
     pub fn sub(self, other: Frac) -> Result<Frac, Trap>
         ensures value { result ≡ difference_of self other }
         ensures exact { IfOk result (λ r. IsDifference r self other) }
         ensures overflow { (result ≡ Err Trap.Overflow) ↔ ((r : Frac) → ¬ IsDifference r self other) }
-        ensures defined { result ≢ Err Trap.DivZero }
+        ensures never_div_zero { result ≢ Err Trap.DivZero }
     {
         self.add(other.neg())
     }
 
-    /// The product, or `Overflow` exactly where it is out of range.
+    /// The product of the two numbers.
+    ///
+    /// `Overflow` exactly where the exact product is out of range.
+    #[inline]
     pub fn mul(self, other: Frac) -> Result<Frac, Trap>
         ensures value { result ≡ product_of self other }
         ensures exact { IfOk result (λ r. IsProduct r self other) }
         ensures overflow { (result ≡ Err Trap.Overflow) ↔ ((r : Frac) → ¬ IsProduct r self other) }
-        ensures defined { result ≢ Err Trap.DivZero }
+        ensures never_div_zero { result ≢ Err Trap.DivZero }
     {
         if self.den == 1 && other.den == 1 {
             return Frac::whole(self.num as i128 * other.num as i128);
@@ -117,8 +133,10 @@ impl Frac {
         )
     }
 
-    /// The quotient `self / other`: `DivZero` exactly where `other` is 0, and else `Overflow` exactly where the quotient
-    /// is out of range.
+    /// The quotient `self / other`.
+    ///
+    /// `DivZero` exactly where `other` is 0, and else `Overflow` exactly where the exact quotient is out of range.
+    #[inline]
     pub fn div(self, other: Frac) -> Result<Frac, Trap>
         ensures value { result ≡ quotient_of self other }
         ensures exact { IfOk result (λ r. IsRatio r self other) }
@@ -133,7 +151,8 @@ impl Frac {
 
     /// The number with the other sign, which is always in range.
     pub fn neg(self) -> Frac
-        ensures { IsNegative result self }
+        ensures value { result ≡ negation_of self }
+        ensures parts { IsNegative result self }
     {
         Frac {
             num: -self.num,
@@ -158,7 +177,8 @@ impl Frac {
     }
 }
 
-// How the operations come to lowest terms.
+// How the operations come to lowest terms. The two general paths stay out of `add` and `mul`, whose path for whole numbers is
+// a few instructions that a caller takes in.
 impl Frac {
     ghost use Rattle.um_frac.specs.Fraction.{numerator, denominator, signed, fraction, reduced, IsQuotient};
     ghost use Rattle.um_frac.specs.Arithmetic.{exactly};
@@ -206,11 +226,12 @@ impl Frac {
     // The sum of a / m and b / n, which are in lowest terms, or `None` where it is out of range. It comes to lowest terms by
     // the greatest common divisor of the denominators, and the one that the sum may still have with it (Knuth,
     // Seminumerical Algorithms, 4.5.1).
+    #[inline(never)]
     fn sum_of_parts(a: i64, m: u64, b: i64, n: u64) -> Option<Frac>
         requires first_den { 0 < m }
         requires second_den { 0 < n }
-        requires first_fits { m ≤ 9223372036854775807 }
-        requires second_fits { n ≤ 9223372036854775807 }
+        requires first_fits { m ≤ greatest }
+        requires second_fits { n ≤ greatest }
         requires first { gcd (unsigned_abs a) m ≡ 1 }
         requires second { gcd (unsigned_abs b) n ≡ 1 }
         ensures { result ≡ reduced (a *ℤ pos n +ℤ b *ℤ pos m) (pos m *ℤ pos n) }
@@ -219,6 +240,9 @@ impl Frac {
         let own = m / common;
         let above = cross_sum(a, n / common, b, own);
         let size = above.unsigned_abs();
+        if common == 1 {
+            return Frac::in_range(above < 0, size, m as u128 * n as u128);
+        }
         let rest = common_divisor(common, (size % common as u128) as u64);
         Frac::in_range(
             above < 0,
@@ -229,6 +253,7 @@ impl Frac {
 
     // The product of a / m and b / n, which are in lowest terms, or `None` where it is out of range. It is in lowest terms
     // once the greatest common divisors are taken out crosswise (Knuth, Seminumerical Algorithms, 4.5.1).
+    #[inline(never)]
     fn product_of_parts(a: i64, m: u64, b: i64, n: u64) -> Option<Frac>
         requires first_den { 0 < m }
         requires second_den { 0 < n }
@@ -260,8 +285,8 @@ impl Frac {
 
 // a * m + b * n, for two sizes of denominators.
 fn cross_sum(a: i64, m: u64, b: i64, n: u64) -> i128
-    requires first { m ≤ 9223372036854775807 }
-    requires second { n ≤ 9223372036854775807 }
+    requires first { m ≤ greatest }
+    requires second { n ≤ greatest }
     ensures { result ≡ a *ℤ pos m +ℤ b *ℤ pos n }
 {
     a as i128 * m as i128 + b as i128 * n as i128

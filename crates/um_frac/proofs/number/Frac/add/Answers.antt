@@ -15,7 +15,7 @@ returns-then-other-eq1 c =
     let f : denominator b ≡ pos 1 = omega (arith, ints) in
     let read : to_z w128 (of_z w128 (to_z w128 (of_z w128 (to_z w64 (of_z w64 (numerator a)))) +ℤ to_z w128 (of_z w128 (to_z w64 (of_z w64 (numerator b)))))) ≡ numerator a +ℤ numerator b = omega (arith, ints) in
     let all = sum_clauses a b c.whole.result (c.whole.ensures ∙ ap (λ n. exactly n (pos 1)) read ∙ sym (whole_sum a b e f)) in
-    record { value = all.value; exact = all.exact; overflow = all.overflow; defined = all.defined }
+    record { value = all.value; exact = all.exact; overflow = all.overflow; never_div_zero = all.never_div_zero }
 
 pub returns : goal.returns
 returns c =
@@ -23,4 +23,4 @@ returns c =
     let b = c.args.other in
     let value = c.ok_or.ensures.value ∙ sum_from a b _ _ _ _ c.sum_of_parts.result (num_read a) (num_read b) (den_read a) (den_read b) c.sum_of_parts.ensures in
     let all = sum_clauses a b c.ok_or.result value in
-    record { value = all.value; exact = all.exact; overflow = all.overflow; defined = all.defined }
+    record { value = all.value; exact = all.exact; overflow = all.overflow; never_div_zero = all.never_div_zero }

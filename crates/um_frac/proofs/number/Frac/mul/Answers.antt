@@ -15,7 +15,7 @@ returns-then-other-eq1 c =
     let f : denominator b ≡ pos 1 = omega (arith, ints) in
     let read = read_product (numerator a) (numerator b) (num_wide a) (num_wide b) in
     let all = product_clauses a b c.whole.result (c.whole.ensures ∙ ap (λ n. exactly n (pos 1)) read ∙ sym (whole_product a b e f)) in
-    record { value = all.value; exact = all.exact; overflow = all.overflow; defined = all.defined }
+    record { value = all.value; exact = all.exact; overflow = all.overflow; never_div_zero = all.never_div_zero }
 
 pub returns : goal.returns
 returns c =
@@ -23,4 +23,4 @@ returns c =
     let b = c.args.other in
     let value = c.ok_or.ensures.value ∙ product_from a b _ _ _ _ c.product_of_parts.result (num_read a) (num_read b) (den_read a) (den_read b) c.product_of_parts.ensures in
     let all = product_clauses a b c.ok_or.result value in
-    record { value = all.value; exact = all.exact; overflow = all.overflow; defined = all.defined }
+    record { value = all.value; exact = all.exact; overflow = all.overflow; never_div_zero = all.never_div_zero }
