@@ -1,8 +1,10 @@
--- Terms with wide powers, which the code sums up.
+-- Terms whose powers have room for sums of products of powers, which the code adds up before it looks at the range.
+-- Source: this project's own.
 use Rattle.std.specs.Prelude.{ℕ, max, List, [], ◌∷◌, map, nat_abs}
 use Rattle.um_units.specs.declared.Term.{Term}
 use Rattle.um_units.specs.declared.wide.WideTerm.{WideTerm}
 
+-- the term that a wide one stands for
 abbrev pub as_term : WideTerm → Term
 as_term w = record { atom = w.atom; power = w.power }
 

@@ -78,7 +78,8 @@ pub struct Unit {
 }
 
 impl Model for Unit {
-    ghost use Rattle.um_units.specs.PowerMap.{PowerMap, product, power_map_code};
+    ghost use Rattle.um_units.specs.PowerMap.{PowerMap, product};
+    ghost use Rattle.um_units.specs.PowerMapCode.{power_map_code};
 
     ghost Value = { PowerMap };
 
@@ -254,7 +255,8 @@ pub struct Units {
 impl Model for Units {
     ghost use Rattle.std.specs.Prelude.{List};
     ghost use Rattle.std.specs.Coded.{coded_list};
-    ghost use Rattle.um_units.specs.PowerMap.{PowerMap, power_map_code};
+    ghost use Rattle.um_units.specs.PowerMap.{PowerMap};
+    ghost use Rattle.um_units.specs.PowerMapCode.{power_map_code};
 
     ghost Value = { List PowerMap };
 
