@@ -10,7 +10,8 @@ use Rattle.um_units.specs.declared.Term.{Term}
 use Rattle.um_units.specs.Atoms.{is_before, same_atom}
 use Rattle.um_units.specs.Terms.{indicator, power_in, is_zero, is_before_all, is_normal, times_term, normal_form}
 use Rattle.um_units.specs.NormalForm.{atom_cases, same_atom-eq, same_atom_refl, before_all_trans, head_nonzero, head_before_all, tail_normal}
-use Rattle.um_units.specs.PowerMap.{PowerMap, product, power_of, same_record}
+use Rattle.um_units.specs.PowerMap.{PowerMap, product, power_of}
+use Rattle.um_units.specs.PowerMapCode.{same_from_terms}
 use Rattle.um_units.proofs.Weights.{weigh-product}
 
 -- ---- atoms
@@ -93,7 +94,7 @@ same_terms (t ∷ ts) (u ∷ us) h k same =
 
 -- two units with equal powers are equal
 pub same_unit : (u v : PowerMap) → ((x : Atom) → power_of u x ≡ power_of v x) → u ≡ v
-same_unit u v same = same_record u v (same_terms u.terms v.terms u.normal v.normal same)
+same_unit u v same = same_from_terms u v (same_terms u.terms v.terms u.normal v.normal same)
 
 -- ---- a list in normal form is its own normal form
 times_term-first : (t : Term) (ts : List Term) → is_zero t.power ≡ false → IsTrue (is_before_all t.atom ts) → times_term t ts ≡ t ∷ ts
@@ -114,7 +115,7 @@ product-normal ts h = product-terms ts ∙ normal_form-normal ts h
 
 -- the terms of a unit make it
 pub product-of_terms : (u : PowerMap) → product u.terms ≡ u
-product-of_terms u = same_record (product u.terms) u (product-normal u.terms u.normal)
+product-of_terms u = same_from_terms (product u.terms) u (product-normal u.terms u.normal)
 
 -- two lists with equal powers have one product
 pub same_product : (ts us : List Term) → ((x : Atom) → power_in ts x ≡ power_in us x) → product ts ≡ product us

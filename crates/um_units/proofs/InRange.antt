@@ -8,10 +8,10 @@ use Rattle.um_units.specs.declared.Term.{Term}
 use Rattle.um_units.specs.Atoms.{same_atom}
 use Rattle.um_units.specs.Terms.{indicator, power_in, is_normal}
 use Rattle.um_units.specs.NormalForm.{head_before_all, tail_normal, same_atom-eq}
-use Rattle.um_units.specs.PowerMap.{PowerMap, product, power_of, one, inv}
+use Rattle.um_units.specs.PowerMap.{PowerMap, product, power_of, one, atom, inv}
 use Rattle.um_units.specs.Range.{in_range, all_in_range, fits, IsKept}
 use Rattle.um_units.proofs.Equality.{product-normal, power_in-before_all, power_in-head, power_in-tail}
-use Rattle.um_units.proofs.Group.{weight-one, weight-inv}
+use Rattle.um_units.proofs.Group.{weight-one, weight-inv, terms-atom}
 
 -- ---- a unit fits exactly where each of its powers is in range
 in_range-power_in : (ts : List Term) → IsTrue (is_normal ts) → IsTrue (all_in_range ts) → (x : Atom) → IsTrue (in_range (power_in ts x))
@@ -52,6 +52,9 @@ not_fits_from_power u x high = false_from_ne_true (fits u) (λ e. let l = fits-p
 -- ---- results
 pub fits-one : IsTrue (fits one)
 fits-one = fits_from_powers one (λ x. let e = ap nat_abs (weight-one (indicator x)) in omega (arith, e))
+
+pub fits-atom : (x : Atom) → IsTrue (fits (atom x))
+fits-atom x = ap all_in_range (terms-atom x)
 
 pub fits-inv : (u : PowerMap) → IsTrue (fits u) → IsTrue (fits (inv u))
 fits-inv u h = fits_from_powers (inv u) (λ x. let e = ap nat_abs (weight-inv (indicator x) u) ∙ same_abs (power_of u x) in let l = fits-power_of u h x in omega (arith, e, l))

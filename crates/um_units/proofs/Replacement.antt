@@ -1,5 +1,5 @@
 -- The laws of replacements: a replacement is a homomorphism, and replacements compose.
--- Source: Kennedy (1996), chapter 3: substitutions of units for unit variables.
+-- Source: Kennedy (1996): substitutions of units for unit variables.
 use Rattle.std.proofs.Common.{◌≡◌, ◌≢◌, ℕ, ◌<◌, true, false, List, [], ◌∷◌, map, length, ℤ, pos, negsuc, ◌+ℤ◌, ◌*ℤ◌, refl, sym, ap, ◌∙◌, arith}
 use Rattle.std.specs.Prelude.{IsTrue}
 use Rattle.std.proofs.lemmas.Int.{ints}

@@ -5,14 +5,13 @@ use Rattle.std.proofs.lemmas.Bool.{and_parts, and_from, false_from_ne_true}
 use Rattle.std.proofs.lemmas.Int.{ints}
 use Rattle.std.proofs.lemmas.List.Concat.{flat_map-append}
 use Rattle.std.proofs.lemmas.List.{take-append-drop}
-use Rattle.um_units.specs.declared.Atom.{Atom}
 use Rattle.um_units.specs.declared.Term.{Term}
 use Rattle.um_units.specs.Terms.{indicator, power_in, is_zero, is_normal}
 use Rattle.um_units.specs.NormalForm.{head_nonzero, head_before_all, tail_normal, cons_normal}
-use Rattle.um_units.specs.PowerMap.{PowerMap, product, atom, mul, scale, pow, image, images}
+use Rattle.um_units.specs.PowerMap.{PowerMap, product, mul, scale, pow, image, images}
 use Rattle.um_units.specs.Range.{in_range, all_in_range, IsKept}
 use Rattle.um_units.proofs.Weights.{zero_is, weigh-product, weigh-++}
-use Rattle.um_units.proofs.Equality.{product-of_terms, product-terms, product-normal, same_product}
+use Rattle.um_units.proofs.Equality.{product-of_terms, product-terms, same_product}
 use Rattle.um_units.proofs.Group.{pow-one}
 use Rattle.um_units.proofs.Nonzero.{before_all-scale}
 

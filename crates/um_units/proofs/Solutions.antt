@@ -1,5 +1,5 @@
 -- The first laws of joint solutions and instances.
--- Source: Kennedy (1996), chapter 3.
+-- Source: Kennedy (1996), on unification.
 use Rattle.std.proofs.Common.{◌≡◌, ℕ, List, [], ◌∷◌, ◌++◌, map, length, refl, sym, ap, ◌∙◌, subst}
 use Rattle.std.specs.Prelude.{All}
 use Rattle.std.proofs.lemmas.List.{length-map}

@@ -1,5 +1,5 @@
 -- The order of atoms: base units come before variables, each kind by its number.
--- Source: this project's own. Kennedy (1996) leaves the order of a unit's factors open.
+-- Source: this project's own; the order of a unit's factors means nothing in Kennedy (1996).
 use Rattle.std.specs.Prelude.{Bool, true, false, nat_lt, ◌==◌}
 use Rattle.um_units.specs.declared.Atom.{Atom}
 use Rattle.um_units.specs.declared.Atom.TheVariants.{Base, Var}

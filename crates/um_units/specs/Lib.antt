@@ -2,7 +2,8 @@ pub mod Atoms
 pub mod Terms
 pub mod NormalForm
 pub mod PowerMap
+pub mod PowerMapCode
 pub mod Range
-pub mod Wide
 pub mod Variables
 pub mod Solutions
+pub mod Wide

@@ -1,4 +1,5 @@
--- A normal form is normal.
+-- A normal form is normal, so that each list of terms has a product. The lemmas on the way are on the order of atoms and
+-- on the parts of a list in normal form.
 use Rattle.std.proofs.Common.{◌≡◌, ◌⊎◌, true, false, not, ◌&&◌, List, [], ◌∷◌, ◌+ℤ◌, refl, ap, subst, inl, inr, arith}
 use Rattle.std.specs.Prelude.{IsTrue}
 use Rattle.std.proofs.lemmas.Bool.{cases_order, lt-ltb, ltb-true, eqb-true, eq-eqb, and_parts, and_from, cond_both, not_from_false, false_from_ne_true}

@@ -1,3 +1,5 @@
+-- The range of powers, which is an invariant of the code alone, and the refusal of what lies outside.
+-- Source: this project's own; the powers of Kennedy (1996) have no bound.
 use Rattle.std.specs.Prelude.{nat_le, nat_abs, Bool, IsTrue, IsFalse, List, ℤ, Result, MatchResult}
 use Rattle.std.specs.List.{list_all}
 use Rattle.um_units.specs.declared.Term.{Term}
@@ -10,6 +12,7 @@ use Rattle.um_units.specs.declared.UnitStop.TheVariants.{Range, NoMemory}
 abbrev pub in_range : ℤ → Bool
 in_range z = nat_le (nat_abs z) 2147483647
 
+-- each power of the list does
 abbrev pub all_in_range : List Term → Bool
 all_in_range = list_all (λ t. in_range t.power)
 
@@ -17,7 +20,7 @@ all_in_range = list_all (λ t. in_range t.power)
 abbrev pub fits : PowerMap → Bool
 fits u = all_in_range u.terms
 
--- what the code keeps of a unit: its terms in normal form, with powers in range
+-- what the code keeps of a unit as its terms: they are in normal form, and their powers in range
 pub record IsKept (ts : List Term) : Type 0 where
   pub normal : IsTrue (is_normal ts)
   pub fit : IsTrue (all_in_range ts)

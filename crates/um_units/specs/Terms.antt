@@ -1,13 +1,14 @@
 -- Lists of terms, whose powers are integers without bound.
--- Source: Kennedy (1996), chapter 2: a unit is a product of powers of base units and unit variables. The normal
--- form, in which atoms rise and no power is 0, is this project's own.
+-- Source: Kennedy (1996): a unit is a product of powers of base units and unit variables. The normal form, in which
+-- atoms rise and no power is 0, is this project's own.
 use Rattle.std.specs.Prelude.{Bool, true, false, not, ◌&&◌, if◌then◌else◌, ◌==◌, List, [], ◌∷◌, ℤ, pos, negsuc, ◌+ℤ◌, ◌*ℤ◌}
 use Rattle.std.specs.List.{list_all}
 use Rattle.um_units.specs.declared.Atom.{Atom}
 use Rattle.um_units.specs.declared.Term.{Term}
 use Rattle.um_units.specs.Atoms.{is_before, same_atom}
 
--- the value of the linear functional f at the product of the terms: each power times what f gives at its atom
+-- the value at the product of the terms of the linear functional that is f at the atoms: each power times what f gives
+-- at its atom, all added up
 abbrev pub weigh : (Atom → ℤ) → List Term → ℤ
 weigh f [] = pos 0
 weigh f (t ∷ ts) = t.power *ℤ f t.atom +ℤ weigh f ts

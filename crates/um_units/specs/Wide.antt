@@ -1,13 +1,20 @@
--- Terms with wide powers, which the code sums up.
-use Rattle.std.specs.Prelude.{ℕ, max, List, [], ◌∷◌, map, nat_abs}
+-- Terms whose powers have room for sums of products of powers, which the code adds up before it looks at the range.
+-- Source: this project's own.
+use Rattle.std.specs.Prelude.{◌≡◌, ℕ, max, List, [], ◌∷◌, map, nat_abs}
 use Rattle.um_units.specs.declared.Term.{Term}
+use Rattle.um_units.specs.PowerMap.{PowerMap}
 use Rattle.um_units.specs.declared.wide.WideTerm.{WideTerm}
 
+-- the term that a wide one stands for
 abbrev pub as_term : WideTerm → Term
 as_term w = record { atom = w.atom; power = w.power }
 
 abbrev pub as_terms : List WideTerm → List Term
 as_terms = map as_term
+
+-- the wide terms are those of the unit
+abbrev pub AreTermsOf : List WideTerm → PowerMap → Type 0
+AreTermsOf ws u = as_terms ws ≡ u.terms
 
 -- the greatest absolute power
 abbrev pub greatest : List WideTerm → ℕ

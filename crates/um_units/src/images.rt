@@ -1,8 +1,8 @@
 //! Products of many terms, and of what a replacement puts for them.
 
-ghost use Rattle.std.specs.Prelude.{◌≡◌, ◌+◌, ◌*◌, ◌^◌, ◌≤◌, IfOk, length, map};
-ghost use Rattle.um_units.specs.PowerMap.{atom, product, scale, image, images, nth};
-ghost use Rattle.um_units.specs.Wide.{as_terms, greatest};
+ghost use Rattle.std.specs.Prelude.{◌*◌, ◌^◌, ◌≤◌, IfOk, length};
+ghost use Rattle.um_units.specs.PowerMap.{atom, product, pow, image, images, nth};
+ghost use Rattle.um_units.specs.Wide.{AreTermsOf, greatest};
 
 use crate::wide::{self, WideTerm};
 use crate::{Atom, Term, Unit};
@@ -10,7 +10,7 @@ use std::alloc::{AllocError, Global};
 
 /// What is put for the term's atom, to the term's power.
 fn image(alloc: Global, term: Term, by: &[Unit]) -> Result<Vec<WideTerm>, AllocError>
-    ensures power { IfOk result (λ v. as_terms v.items ≡ (product (map (scale term.power) (image (nth by.now) term.atom).terms)).terms) }
+    ensures power { IfOk result (λ v. AreTermsOf v.items (pow (image (nth by.now) term.atom) term.power)) }
     ensures room { IfOk result (λ v. greatest v.items ≤ 2 ^ 62) }
 {
     match term.atom {
@@ -24,7 +24,7 @@ fn image(alloc: Global, term: Term, by: &[Unit]) -> Result<Vec<WideTerm>, AllocE
 
 /// The term as a product of its own.
 fn single_term(alloc: Global, term: Term) -> Result<Vec<WideTerm>, AllocError>
-    ensures power { IfOk result (λ v. as_terms v.items ≡ (product (map (scale term.power) (atom term.atom).terms)).terms) }
+    ensures power { IfOk result (λ v. AreTermsOf v.items (pow (atom term.atom) term.power)) }
     ensures room { IfOk result (λ v. greatest v.items ≤ 2 ^ 62) }
 {
     let atom = [Term {
@@ -34,10 +34,12 @@ fn single_term(alloc: Global, term: Term) -> Result<Vec<WideTerm>, AllocError>
     wide::scaled(alloc, &atom, term.power)
 }
 
-/// The product of what is put for the terms, by halves: a term of an image is merged once at each level, of which
-/// there are as many as the logarithm of the number of terms.
+/// The product of what `by` puts for the terms' atoms, to their powers.
+///
+/// It is made by halves, so that each term that is put in is merged once a level, and the levels are as many as the
+/// logarithm of the number of terms.
 pub fn product(alloc: Global, terms: &[Term], by: &[Unit]) -> Result<Vec<WideTerm>, AllocError>
-    ensures product { IfOk result (λ v. as_terms v.items ≡ (product (images (nth by.now) terms.now)).terms) }
+    ensures product { IfOk result (λ v. AreTermsOf v.items (product (images (nth by.now) terms.now))) }
     ensures room { IfOk result (λ v. greatest v.items ≤ length terms.now * 2 ^ 62) }
 {
     match terms {

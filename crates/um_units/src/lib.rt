@@ -1,4 +1,9 @@
 //! Units of measure as products of powers of base units and unit variables.
+//!
+//! Units form the free abelian group on these atoms (Kennedy, Programming Languages and Dimensions, 1996), and two
+//! measures are equal by its laws (F# specification, Units Of Measure). In contracts a unit is its exact value, a
+//! `PowerMap`, whose powers have no bound. The powers of a `Unit` lie in -2147483647..2147483647, which is this
+//! project's own, and an operation answers Range exactly where its exact result has a power outside.
 #![tactic(auto)]
 
 ghost use Rattle.std.specs.Prelude.{◌≡◌, ◌↔◌, IfOk, IsTrue, map, negsuc};
@@ -24,7 +29,7 @@ use wide::WideTerm;
 /// Want of memory, where nothing else can go wrong.
 pub type NoMemory = AllocError;
 
-/// A base unit or a unit variable, by its number.
+/// A base unit or a unit variable, by its number. Base units come before variables, each kind by its number.
 #[derive(Clone, Copy, Debug, PartialEq, Eq, PartialOrd, Ord, Hash)]
 pub enum Atom {
     Base(u32),
@@ -78,7 +83,8 @@ pub struct Unit {
 }
 
 impl Model for Unit {
-    ghost use Rattle.um_units.specs.PowerMap.{PowerMap, product, power_map_code};
+    ghost use Rattle.um_units.specs.PowerMap.{PowerMap, product};
+    ghost use Rattle.um_units.specs.PowerMapCode.{power_map_code};
 
     ghost Value = { PowerMap };
 
@@ -92,9 +98,9 @@ impl Model for Unit {
 }
 
 impl Unit {
-    /// The dimensionless unit.
+    /// The dimensionless unit. Takes no memory.
     pub fn one(alloc: Global) -> Unit
-        ensures { result ≡ one }
+        ensures exact { result ≡ one }
     {
         Unit {
             terms: Vec::new(alloc),
@@ -103,7 +109,7 @@ impl Unit {
 
     /// The unit that is the atom itself.
     pub fn atom(alloc: Global, a: Atom) -> Result<Unit, NoMemory>
-        ensures { IfOk result (λ unit. unit ≡ atom a) }
+        ensures exact { IfOk result (λ unit. unit ≡ atom a) }
     {
         let mut terms = Vec::new(alloc);
         terms.push(Term { atom: a, power: 1 })?;
@@ -131,7 +137,7 @@ impl Unit {
         Ok(Unit { terms })
     }
 
-    /// The terms: base units before variables, each kind by its number, and no power 0.
+    /// The pairs of the map: base units before variables, each kind by its number, and no power 0. Takes no memory.
     pub fn terms(&self) -> &[Term]
         ensures terms { result.now ≡ self.now.terms }
         ensures fits { IsTrue (fits self.now) }
@@ -139,7 +145,7 @@ impl Unit {
         &self.terms
     }
 
-    /// The power of an atom, which is 0 where the unit doesn't hold it.
+    /// The power of an atom, which is 0 where the unit doesn't hold it. Takes no memory.
     pub fn power_of(&self, a: Atom) -> i32
         ensures power { result ≡ power_of self.now a }
         ensures fits { IsTrue (fits self.now) }
@@ -150,14 +156,14 @@ impl Unit {
         }
     }
 
-    /// Whether both are one unit.
+    /// Whether both are the same unit. Takes no memory.
     pub fn same(&self, other: &Unit) -> bool
         ensures same { IsTrue result ↔ (self.now ≡ other.now) }
     {
         self.terms == other.terms
     }
 
-    /// The product.
+    /// The product: the powers of each atom are added, and an atom whose powers cancel is dropped.
     ///
     /// Range comes exactly where a power of the product is out of range.
     pub fn mul(&self, alloc: Global, other: &Unit) -> Result<Unit, UnitStop>
@@ -181,7 +187,7 @@ impl Unit {
         Unit::of_sum(alloc, &sum)
     }
 
-    /// The inverse.
+    /// The inverse: each power is negated. The range is symmetric, so that no power leaves it.
     pub fn inv(&self, alloc: Global) -> Result<Unit, NoMemory>
         ensures exact { IfOk result (λ unit. unit ≡ inv self.now) }
         ensures fits { IsTrue (fits (inv self.now)) }
@@ -190,7 +196,7 @@ impl Unit {
         Ok(Unit { terms })
     }
 
-    /// The k-th power.
+    /// The k-th power: each power is multiplied by k.
     ///
     /// Range comes exactly where a power of the result is out of range.
     pub fn pow(&self, alloc: Global, k: i32) -> Result<Unit, UnitStop>
@@ -213,6 +219,7 @@ impl Unit {
         Unit::of_sum(alloc, &sum)
     }
 
+    /// The unit of the terms, which are in normal form.
     fn of_sum(alloc: Global, sum: &[WideTerm]) -> Result<Unit, UnitStop>
         requires { IsTrue (is_normal (as_terms sum.now)) }
         ensures exact { IfOk result (λ unit. unit ≡ product (as_terms sum.now)) }
@@ -223,7 +230,7 @@ impl Unit {
     }
 }
 
-/// The first term of the atom.
+/// The term of the atom, of which a unit has at most one.
 fn term_of(terms: &[Term], a: Atom) -> Option<&Term>
     ensures { option_copied result ≡ find (λ term. same_atom a term.atom) terms.now }
 {
@@ -254,7 +261,8 @@ pub struct Units {
 impl Model for Units {
     ghost use Rattle.std.specs.Prelude.{List};
     ghost use Rattle.std.specs.Coded.{coded_list};
-    ghost use Rattle.um_units.specs.PowerMap.{PowerMap, power_map_code};
+    ghost use Rattle.um_units.specs.PowerMap.{PowerMap};
+    ghost use Rattle.um_units.specs.PowerMapCode.{power_map_code};
 
     ghost Value = { List PowerMap };
 
@@ -266,29 +274,29 @@ impl Model for Units {
 impl Units {
     /// The list of the units. Takes no memory.
     pub fn from_vec(items: Vec<Unit>) -> Units
-        ensures { result ≡ items.items }
+        ensures items { result ≡ items.items }
     {
         Units { items }
     }
 
     /// The units, in order. Takes no memory.
     pub fn into_vec(self) -> Vec<Unit>
-        ensures { result.items ≡ self }
+        ensures items { result.items ≡ self }
     {
         let Units { items } = self;
         items
     }
 
-    /// The units, in order.
+    /// The units, in order. Takes no memory.
     pub fn as_slice(&self) -> &[Unit]
-        ensures { result.now ≡ self.now }
+        ensures items { result.now ≡ self.now }
     {
         &self.items
     }
 
     /// An equal list.
     pub fn copy(&self, alloc: Global) -> Result<Units, NoMemory>
-        ensures { IfOk result (λ units. units ≡ self.now) }
+        ensures same { IfOk result (λ units. units ≡ self.now) }
     {
         let mut items = Vec::new(alloc);
         for unit in &self.items {

@@ -3,7 +3,8 @@ use Rattle.std.proofs.Common.{◌∙◌, sym, ap, ℤ, ◌≡◌}
 use Rattle.std.proofs.lemmas.Slice.Eq.{slice_eq-Decides}
 use Rattle.std.proofs.lemmas.Bool.Decides.{Decides-and, Decides-like, Decides-eqb, Decides-int_eq}
 use Rattle.std.specs.Bool.{Decides}
-use Rattle.um_units.specs.PowerMap.{PowerMap, same_record}
+use Rattle.um_units.specs.PowerMap.{PowerMap}
+use Rattle.um_units.specs.PowerMapCode.{same_from_terms}
 use Rattle.um_units.specs.declared.Term.{Term}
 use Rattle.um_units.specs.declared.Atom.{Atom}
 use Rattle.um_units.specs.declared.Atom.TheVariants.{Base, Var}
@@ -28,4 +29,4 @@ returns c =
     let d = slice_eq-Decides each c.self.inside.terms.items c.other.inside.terms.items c.eq.result c.eq.ensures in
     let e = terms-kept c.self.inside.terms.items c.args.self.now c.self.invariant c.self.view_is in
     let f = terms-kept c.other.inside.terms.items c.args.other.now c.other.invariant c.other.view_is in
-    record { same = (λ h. same_record _ _ (sym e ∙ d.0 h ∙ f), λ g. d.1 (e ∙ ap (λ (u : PowerMap). u.terms) g ∙ sym f)) }
+    record { same = (λ h. same_from_terms _ _ (sym e ∙ d.0 h ∙ f), λ g. d.1 (e ∙ ap (λ (u : PowerMap). u.terms) g ∙ sym f)) }
