@@ -1,5 +1,5 @@
 -- Counts of faults. This project's own.
-use Rattle.std.specs.Prelude.{◌≡◌, ℕ, ◌+◌, ◌-◌, ◌^◌, ◌<◌, min, ◌⊎◌, Result, is_err, if◌then◌else◌}
+use Rattle.std.specs.Prelude.{ℕ, ◌+◌, ◌-◌, ◌^◌, ◌≤◌, min, Result, is_err, if◌then◌else◌}
 
 -- a count, one higher; at the greatest number of 64 bits it stands still
 abbrev pub next_count : ℕ → ℕ
