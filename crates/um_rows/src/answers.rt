@@ -52,7 +52,7 @@ fn pieces(rt: HostRuntime) -> Result<(), Fail> {
         };
         let (status, bytes) = run(alloc, "types", AREA.as_bytes(), wire)?;
         assert!(rt; status == Status::Done, "status in pieces of {piece}");
-        assert!(rt; bytes.as_slice() == b"area : num<m> -> num<m> -> num<m^2>\n", "text in pieces of {piece}");
+        assert!(rt; bytes.as_slice() == b"area : num<m> -> num<m> -> num<m^2>\n".as_slice(), "text in pieces of {piece}");
     }
     Ok(())
 }

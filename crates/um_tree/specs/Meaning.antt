@@ -1,11 +1,10 @@
 -- What an expression means: values, traps, and a budget of calls.
 -- Source: a big-step meaning of a call-by-value language, from left to right; the budget is this project's own.
 -- There is no code, stack, frame or address here, and no order of work but that of the parts.
-use Rattle.std.specs.Prelude.{ℕ, zero, suc, ◌+◌, Bool, true, false, cond, not, nat_eq, length, List, [], ◌∷◌, ◌++◌, Option, Some, None, Result, Ok, Err, slice_get, neg_ℤ}
+use Rattle.std.specs.Prelude.{ℕ, zero, suc, ◌+◌, Bool, true, false, cond, not, nat_eq, length, List, [], ◌∷◌, ◌++◌, Option, Some, None, Result, Ok, Err, slice_get}
 use Rattle.um_frac.specs.declared.number.Frac.{Frac}
 use Rattle.um_frac.specs.declared.number.Trap.{Trap}
-use Rattle.um_frac.specs.Arithmetic.{sum_of, difference_of, product_of, quotient_of, exactly, is_less, is_same}
-use Rattle.um_frac.specs.Fraction.{numerator, denominator}
+use Rattle.um_frac.specs.Arithmetic.{sum_of, difference_of, product_of, quotient_of, negation_of, is_less, is_same}
 use Rattle.um_tree.specs.ValueTree.{ValueTree, ValueTrees, truth_value, number_value, list_value, record_value, no_values, more_values, values_in_order, OutcomeTree, value_outcome, trap_outcome, budget_outcome}
 use Rattle.um_tree.specs.ExprTree.{ExprTree, ExprTrees, truth, number, local, call, negate, negation, arith, compare, both, either, if, bind, split, nil, list_text, cons, record_text, field, none, more}
 use Rattle.um_tree.specs.ProgramTree.{FunctionTree, ProgramTree}
@@ -62,7 +61,7 @@ compared sign (number_value a) (number_value b) = Ok (truth_value (comparison si
 compared sign v w = Err wrong
 
 abbrev pub negated : ValueTree → Result ValueTree Stop
-negated (number_value a) = number_result (exactly (neg_ℤ (numerator a)) (denominator a))
+negated (number_value a) = Ok (number_value (negation_of a))
 negated v = Err wrong
 
 abbrev pub opposite : ValueTree → Result ValueTree Stop
