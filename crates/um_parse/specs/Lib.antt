@@ -1,3 +1,5 @@
 pub mod ProductText
 pub mod ProductProgram
 pub mod ProductFunction
+pub mod Declarations
+pub mod Layout

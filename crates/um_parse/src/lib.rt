@@ -3,6 +3,8 @@
 //! So far it reads the texts that spell base measures and products of parameters, one declaration a line.
 #![tactic(auto)]
 
+mod declaration;
+mod layout;
 mod products;
 
 pub use products::read_products;
