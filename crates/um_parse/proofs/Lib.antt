@@ -1,0 +1,2 @@
+mod LayoutSound
+mod LayoutComplete

@@ -3,3 +3,4 @@ pub mod ProductProgram
 pub mod ProductFunction
 pub mod Declarations
 pub mod Layout
+pub mod LayoutNames
