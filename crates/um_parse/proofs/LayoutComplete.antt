@@ -1,12 +1,13 @@
 -- What declarations spell is read as them.
-use Rattle.std.proofs.Common.{◌≡◌, ◌⊎◌, inl, inr, ℕ, Bool, true, false, cond, List, [], ◌∷◌, ◌++◌, Option, Some, None, refl, sym, ap, ◌∙◌, append_assoc, append-nil}
+use Rattle.std.proofs.Common.{◌≡◌, inl, inr, ℕ, Bool, true, false, cond, List, [], ◌∷◌, ◌++◌, Option, Some, None, refl, sym, ap, ◌∙◌, append_assoc, append-nil, ◌<◌, ◌+◌, length, take, drop, get_or}
 use Rattle.std.specs.Prelude.{codes, nat_eq, IsTrue, ◌&&◌}
 use Rattle.std.specs.List.{flat_map, join_by, list_all}
 use Rattle.std.proofs.lemmas.Bool.{and_parts}
+use Rattle.std.proofs.lemmas.List.{take-append-drop, take_more}
 use Rattle.um_parse.specs.ProductText.{Parameter, Declaration, measure, function, unit_text, parameter_text, declaration_text, lines, Spells}
 use Rattle.um_parse.specs.declared.layout.Place.{Place}
 use Rattle.um_parse.specs.declared.layout.Place.TheVariants.{Line, Measure, Function, Choice, Parameter as InParameter, Note, Unit as InUnit, Factor}
-use Rattle.um_parse.specs.Layout.{Draft, State, refused, reading, fresh, is_name_byte, takes_name, with_factor, with_measure, with_parameter, with_function, after, in_place, step, run, start, finished}
+use Rattle.um_parse.specs.Layout.{Draft, State, refused, reading, fresh, is_name_byte, takes_name, with_factor, with_measure, with_parameter, with_function, after, in_place, step, run, start, or_else, finished, ended}
 use Rattle.um_parse.specs.LayoutNames.{HasNameBytes, AllNameBytes, ParametersNamed, FactorsNamed, AreNamed}
 
 pub run_append : (st : State) (xs ys : List ℕ) → run st (xs ++ ys) ≡ run (run st xs) ys
@@ -123,10 +124,29 @@ not_finished (reading (x ∷ xs) place d) ds e = refl
 not_finished (reading [] Line d) ds e = cc
 not_finished (reading [] place d) ds e = refl
 
--- declarations that spell the text are found: at its end, or else behind one more line feed
-pub found : (text : List ℕ) (ds : List Declaration) → AreNamed ds → Spells ds text
-    → (finished (run start text) ≡ Some ds) ⊎ ((finished (run start text) ≡ None) × (finished (step (run start text) 10) ≡ Some ds))
-found text ds h (inl e) = inl (ap (λ t. finished (run start t)) e ∙ ap finished (read_declarations [] ds h))
+-- declarations that spell the text are found
+pub found : (text : List ℕ) (ds : List Declaration) → AreNamed ds → Spells ds text → ended (run start text) ≡ Some ds
+found text ds h (inl e) = ap (λ t. ended (run start t)) e ∙ ap ended (read_declarations [] ds h)
 found text ds h (inr e) =
     let last : step (run start text) 10 ≡ reading [] Line (fresh ds) = sym (run_append start text (codes "\n")) ∙ ap (run start) e ∙ read_declarations [] ds h in
-    inr (not_finished (run start text) ds last, ap finished last)
+    ap (λ o. or_else o (finished (step (run start text) 10))) (not_finished (run start text) ds last) ∙ ap finished last
+
+run_refused : (cs : List ℕ) → run refused cs ≡ refused
+run_refused [] = refl
+run_refused (c ∷ cs) = run_refused cs
+
+abbrev nothing : Option (List Declaration)
+nothing = None
+
+-- where nothing is found at the end, no declarations spell the text
+pub none_found : (text : List ℕ) → ended (run start text) ≡ None → (ds : List Declaration) → AreNamed ds → Spells ds text → ⊥
+none_found text e ds h s = let bad : nothing ≡ Some ds = sym e ∙ found text ds h s in cc
+
+-- where a byte is refused, no declarations spell the text
+pub none_behind : (text : List ℕ) (i : ℕ) → i < length text → run start (take (i + 1) text) ≡ refused → (ds : List Declaration) → AreNamed ds → Spells ds text → ⊥
+none_behind text i lt e =
+    none_found text (ap ended (ap (run start) (sym (take-append-drop (i + 1) text)) ∙ run_append start (take (i + 1) text) (drop (i + 1) text) ∙ ap (λ st. run st (drop (i + 1) text)) e ∙ run_refused (drop (i + 1) text)))
+
+-- one more byte
+pub run_more : (text : List ℕ) (i : ℕ) → i < length text → run start (take (i + 1) text) ≡ step (run start (take i text)) (get_or text i 0)
+run_more text i lt = ap (run start) (take_more text i 0 lt) ∙ run_append start (take i text) (get_or text i 0 ∷ [])

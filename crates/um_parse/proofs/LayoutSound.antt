@@ -1,13 +1,13 @@
 -- A state of the reader that isn't refused spells the bytes that were read.
-use Rattle.std.proofs.Common.{◌≡◌, ℕ, Bool, true, false, cond, eqb, List, [], ◌∷◌, ◌++◌, Option, Some, None, refl, sym, ap, ◌∙◌, subst, append_assoc, append-nil}
+use Rattle.std.proofs.Common.{◌≡◌, inl, inr, ℕ, Bool, true, false, cond, eqb, List, [], ◌∷◌, ◌++◌, Option, Some, None, refl, sym, ap, ◌∙◌, subst, append_assoc, append-nil}
 use Rattle.std.specs.Prelude.{codes, nat_eq}
 use Rattle.std.specs.List.{flat_map, join_by}
 use Rattle.std.proofs.lemmas.Bool.{eqb-true}
 use Rattle.std.proofs.lemmas.List.Concat.{flat_map-append}
-use Rattle.um_parse.specs.ProductText.{Parameter, Declaration, measure, function, unit_text, parameter_text, declaration_text, lines}
+use Rattle.um_parse.specs.ProductText.{Parameter, Declaration, measure, function, unit_text, parameter_text, declaration_text, lines, Spells}
 use Rattle.um_parse.specs.declared.layout.Place.{Place}
 use Rattle.um_parse.specs.declared.layout.Place.TheVariants.{Line, Measure, Function, Choice, Parameter as InParameter, Note, Unit as InUnit, Factor}
-use Rattle.um_parse.specs.Layout.{Draft, State, refused, reading, fresh, is_name_byte, takes_name, with_factor, with_measure, with_parameter, with_function, after, in_place, step, run, start, finished}
+use Rattle.um_parse.specs.Layout.{Draft, State, refused, reading, fresh, is_name_byte, takes_name, with_factor, with_measure, with_parameter, with_function, after, in_place, step, run, start, or_else, finished, ended}
 
 -- ---- a list with its separators behind its items, and between them
 
@@ -162,5 +162,12 @@ finished_sound (reading [] Line d) text ds s e = let same : d.done ≡ ds = cc i
 finished_sound st text ds s e = cc
 
 -- the declarations that are read spell the text
-pub read_sound : (text : List ℕ) (ds : List Declaration) → finished (run start text) ≡ Some ds → text ≡ lines ds
-read_sound text ds e = finished_sound (run start text) text ds (run_sound start [] text (refl, refl)) e
+pub read_sound : (text : List ℕ) (ds : List Declaration) → ended (run start text) ≡ Some ds → Spells ds text
+read_sound text ds e = by (finished (run start text)) refl where
+  by : (o : Option (List Declaration)) → finished (run start text) ≡ o → Spells ds text
+  by (Some es) same =
+      let whole : es ≡ ds = cc (same, e) in
+      inl (finished_sound (run start text) text ds (run_sound start [] text (refl, refl)) (same ∙ ap Some whole))
+  by None same =
+      let last : finished (step (run start text) 10) ≡ Some ds = ap (λ o. or_else o (finished (step (run start text) 10))) (sym same) ∙ e in
+      inr (finished_sound (step (run start text) 10) (text ++ codes "\n") ds (step_sound (run start text) text 10 (run_sound start [] text (refl, refl))) last)

@@ -1,2 +1,2 @@
-mod LayoutSound
 mod LayoutComplete
+mod LayoutSound

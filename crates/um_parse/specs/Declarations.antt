@@ -1,5 +1,6 @@
 -- The declarations that the reader collects, without their places.
 use Rattle.std.specs.Prelude.{ℕ, List, map}
+use Rattle.std.specs.Global.{Vec}
 use Rattle.um_parse.specs.ProductText.{Parameter, Declaration, measure, function}
 use Rattle.um_parse.specs.declared.declaration.Word.{Word}
 use Rattle.um_parse.specs.declared.declaration.ParameterText.{ParameterText}
@@ -16,3 +17,6 @@ parameter_of p = record { name = p.name; unit = p.unit.items }
 abbrev pub declaration_of : DeclarationText → Declaration
 declaration_of (Measure x) = measure x
 declaration_of (Function f) = function f.word.name (map parameter_of f.params.items) (names_of f.factors.items)
+
+abbrev pub declarations_of : Vec DeclarationText → List Declaration
+declarations_of ds = map declaration_of ds.items

@@ -89,6 +89,14 @@ abbrev pub finished : State → Option (List Declaration)
 finished (reading [] Line d) = Some d.done
 finished st = None
 
+abbrev pub or_else : Option (List Declaration) → Option (List Declaration) → Option (List Declaration)
+or_else (Some ds) other = Some ds
+or_else None other = other
+
+-- the declarations at the end of the text, whose last line may lack its line feed
+abbrev pub ended : State → Option (List Declaration)
+ended st = or_else (finished st) (finished (step st 10))
+
 -- the state of the code
 abbrev pub draft : Reader → Draft
 draft r = record {

@@ -4,3 +4,4 @@ pub mod ProductFunction
 pub mod Declarations
 pub mod Layout
 pub mod LayoutNames
+pub mod Resolved

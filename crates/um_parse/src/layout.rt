@@ -1,8 +1,9 @@
 // The reader of the layout: it takes one byte at a time, and keeps what comes next.
-ghost use Rattle.std.specs.Prelude.{◌≡◌, ◌++◌, ◌∷◌, [], IfOk, OnOk, IsTrue, MatchOption, Some, None, map, List, codes};
+ghost use Rattle.std.specs.Prelude.{◌≡◌, ◌++◌, ◌∷◌, [], IfOk, OnOk, IsTrue, MatchOption, Some, None, is_some, option_map, List, ◌^◌, ◌<◌};
 ghost use Rattle.um_parse.specs.ProductText.{Declaration, measure, function, Spells};
-ghost use Rattle.um_parse.specs.Declarations.{declaration_of};
-ghost use Rattle.um_parse.specs.Layout.{state, draft, reading, refused, start, step, after, is_name_byte, takes_name, with_factor, with_measure, with_parameter, with_function, finished, Goes};
+ghost use Rattle.um_parse.specs.LayoutNames.{AreNamed};
+ghost use Rattle.um_parse.specs.Declarations.{declarations_of};
+ghost use Rattle.um_parse.specs.Layout.{state, draft, reading, refused, start, step, after, is_name_byte, takes_name, with_factor, with_measure, with_parameter, with_function, finished, ended, Goes};
 
 ghost use Rattle.um_parse.specs.declared.layout.Place.TheVariants.{Line, Measure, Function, Choice, Parameter, Note, Unit, Factor};
 
@@ -254,13 +255,59 @@ impl Reader {
         self.after(byte)
     }
 
+    fn is_between_lines(&self) -> bool
+        ensures { result ≡ is_some (finished (state self.now)) }
+    {
+        match self.place {
+            Place::Line => self.fixed.is_empty(),
+            _ => false,
+        }
+    }
+
     /// The declarations, where the reader stands at the beginning of a line.
-    pub fn finish(self) -> Option<Vec<DeclarationText>>
-        ensures { MatchOption result (finished (state self) ≡ None) (λ ds. finished (state self) ≡ Some (map declaration_of ds.items)) }
+    fn finish(self) -> Option<Vec<DeclarationText>>
+        ensures { option_map declarations_of result ≡ finished (state self) }
     {
         match self.place {
             Place::Line if self.fixed.is_empty() => Some(self.declarations),
             _ => None,
         }
     }
+
+    /// The declarations at the end of the text. A last line without its line feed is read as if it had one.
+    fn end(mut self, at: u32) -> Result<Option<Vec<DeclarationText>>, AllocError>
+        ensures { IfOk result (λ found. option_map declarations_of found ≡ ended (state self)) }
+    {
+        if self.is_between_lines() {
+            return Ok(self.finish());
+        }
+        if !self.take(at, b'\n')? {
+            return Ok(None);
+        }
+        Ok(self.finish())
+    }
+}
+
+/// The place of a byte; places past the range are told as its end.
+fn place_of(index: usize) -> u32
+    ensures { index < 2 ^ 32 → result ≡ index }
+{
+    u32::try_from(index).unwrap_or(u32::MAX)
+}
+
+/// The declarations that a text spells, with the places of their names.
+///
+/// A last line without its line feed is read as if it had one.
+pub fn read_layout(alloc: Global, text: &[u8]) -> Result<Option<Vec<DeclarationText>>, AllocError>
+    ensures { IfOk result (λ found. MatchOption found
+        ((ds : List Declaration) → AreNamed ds → Spells ds text.now → ⊥)
+        (λ ds. Spells (declarations_of ds) text.now)) }
+{
+    let mut reader = Reader::new(alloc);
+    for i in 0..text.len() {
+        if !reader.take(place_of(i), text[i])? {
+            return Ok(None);
+        }
+    }
+    reader.end(place_of(text.len()))
 }

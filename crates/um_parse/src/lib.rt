@@ -5,6 +5,7 @@
 
 mod declaration;
 mod layout;
+mod names;
 mod products;
 
 pub use products::read_products;
