@@ -1,2 +1,3 @@
 mod LayoutComplete
 mod LayoutSound
+mod NameLists

@@ -5,3 +5,4 @@ pub mod Declarations
 pub mod Layout
 pub mod LayoutNames
 pub mod Resolved
+pub mod UnitRange

@@ -68,7 +68,8 @@ fn no_parameter(alloc: Global) -> ParameterText
     ParameterText { name: Name::from_vec(Vec::new(alloc)), unit: Vec::new(alloc) }
 }
 
-fn is_name_byte(byte: u8) -> bool
+/// Whether a name may go on with the byte.
+pub fn is_name_byte(byte: u8) -> bool
     ensures { result ≡ is_name_byte byte }
 {
     byte.is_ascii_alphanumeric() || byte == b'_'

@@ -7,5 +7,6 @@ mod declaration;
 mod layout;
 mod names;
 mod products;
+mod resolve;
 
 pub use products::read_products;

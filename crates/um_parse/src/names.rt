@@ -1,9 +1,12 @@
 // Names, and the numbers that they have in the order of their declaration.
-ghost use Rattle.std.specs.Prelude.{◌≡◌, ◌&&◌, ◌∷◌, ◌++◌, [], not, IfOk, IsTrue, MatchBool, MatchOption, Contains, slice_get};
+ghost use Rattle.std.specs.Prelude.{◌≡◌, ◌&&◌, ◌∷◌, ◌++◌, [], ◌||◌, nat_eq, not, IfOk, IsTrue, MatchBool, MatchOption, Contains, slice_get};
 ghost use Rattle.std.specs.List.{list_all};
 ghost use Rattle.std.specs.Str.{bytes_eq};
+ghost use Rattle.std.specs.Char.{is_ascii_alphabetic};
+ghost use Rattle.um_parse.specs.Layout.{is_name_byte};
 ghost use Rattle.um_parse.specs.ProductProgram.{IsNew, is_identifier, reserved};
 
+use crate::layout::is_name_byte;
 use indexmap::IndexSet;
 use std::alloc::{AllocError, Global};
 use std::marker::Model;
@@ -14,16 +17,25 @@ const RESERVED: [&[u8]; 18] = [
     b"not", b"num", b"bool", b"list", b"Measure", b"pown", b"_",
 ];
 
+fn starts_name(byte: u8) -> bool
+    ensures { result ≡ (is_ascii_alphabetic byte || nat_eq byte 95) }
+{
+    byte.is_ascii_alphabetic() || byte == b'_'
+}
+
 fn is_identifier(name: &[u8]) -> bool
     ensures { result ≡ is_identifier name.now }
 {
     match name {
         [] => false,
-        [first, rest @ ..] => {
-            (first.is_ascii_alphabetic() || *first == b'_')
-                && rest.iter().all(|byte| byte.is_ascii_alphanumeric() || *byte == b'_')
-        }
+        [first, rest @ ..] => starts_name(*first) && are_name_bytes(rest),
     }
+}
+
+fn are_name_bytes(bytes: &[u8]) -> bool
+    ensures { result ≡ list_all is_name_byte bytes.now }
+{
+    bytes.iter().all(|byte| is_name_byte(*byte))
 }
 
 fn is_name(name: &[u8]) -> bool
