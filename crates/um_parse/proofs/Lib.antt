@@ -1,3 +1,6 @@
 mod LayoutComplete
 mod LayoutSound
 mod NameLists
+mod UnitNames
+mod ParameterLoop
+mod Factors

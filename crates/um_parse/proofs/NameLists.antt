@@ -9,7 +9,7 @@ use Rattle.std.proofs.lemmas.Bool.Decides.{same_from_decides, Decides-like}
 use Rattle.std.proofs.lemmas.Slice.Eq.{bytes_eq-Decides}
 use Rattle.std.proofs.lemmas.List.Folds.{list_any_at, Any-from_list_any}
 use Rattle.std.proofs.lemmas.List.Quantifiers.{position-Some}
-use Rattle.std.proofs.lemmas.Option.{slice_get_cases, slice_get-map}
+use Rattle.std.proofs.lemmas.Option.{slice_get_cases, slice_get-map, slice_get_within, get_or_from_slice_get}
 use Rattle.std.proofs.lemmas.List.{map-append}
 use Rattle.um_parse.specs.ProductProgram.{IsName, IsNew}
 
@@ -64,3 +64,7 @@ added_name added ks new x name e keys = by added (list_any (λ k. bytes_eq x.ite
   by true false e k h = ((name, λ c. let bad : true ≡ false = sym (any_from_Contains ks x.items c) ∙ h in cc), ap texts k ∙ map-append (λ v. v.items) ks (x ∷ []))
   by false true e k h = λ fresh. fresh.1 (Contains-from_any ks x.items h)
   by false false e k h = cc
+
+-- a name that has a number is one of them
+pub Contains-numbered : (names : List (List ℕ)) (k : ℕ) (x : List ℕ) → slice_get names k ≡ Some x → Contains names x
+Contains-numbered names k x e = (k, slice_get_within names k x e, get_or_from_slice_get names k x x e)

@@ -14,9 +14,12 @@ names_of words = map (λ w. w.name) words
 abbrev pub parameter_of : ParameterText → Parameter
 parameter_of p = record { name = p.name; unit = p.unit.items }
 
+abbrev pub function_of : FunctionText → Declaration
+function_of f = function f.word.name (map parameter_of f.params.items) (names_of f.factors.items)
+
 abbrev pub declaration_of : DeclarationText → Declaration
 declaration_of (Measure x) = measure x
-declaration_of (Function f) = function f.word.name (map parameter_of f.params.items) (names_of f.factors.items)
+declaration_of (Function f) = function_of f
 
 abbrev pub declarations_of : Vec DeclarationText → List Declaration
 declarations_of ds = map declaration_of ds.items

@@ -6,3 +6,4 @@ pub mod Layout
 pub mod LayoutNames
 pub mod Resolved
 pub mod UnitRange
+pub mod Scope

@@ -1,9 +1,33 @@
 -- One declaration after another, from the base units and the functions that are known.
 -- Source: this project's own rules of names.
-use Rattle.std.specs.Prelude.{◌≡◌, ℕ, List, [], ◌∷◌, ◌++◌, map, Bool, true, false}
+use Rattle.std.specs.Prelude.{◌≡◌, ℕ, List, [], ◌∷◌, ◌++◌, map, Bool, true, false, IsTrue, slice_get, Some}
 use Rattle.um_tree.specs.ProgramTree.{FunctionTree, ProgramTree}
-use Rattle.um_parse.specs.ProductText.{Declaration, measure, function}
-use Rattle.um_parse.specs.ProductProgram.{IsNew, IsFunction}
+use Rattle.um_tree.specs.ExprTree.{ExprTree, local}
+use Rattle.um_tree.specs.TypeTree.{NoteTree, num_note}
+use Rattle.um_tree.specs.declared.note.UnitNote.TheVariants.{Written}
+use Rattle.um_units.specs.PowerMap.{PowerMap}
+use Rattle.um_units.specs.Range.{fits}
+use Rattle.um_parse.specs.ProductText.{Parameter, Declaration, measure, function}
+use Rattle.um_parse.specs.ProductProgram.{IsNew, IsUnitOf, IsFunction}
+
+-- the parameter is new among the known names, which are `new` with it, and its note is a number of its unit
+pub record IsParameter (bases known : List (List ℕ)) (p : Parameter) (new : List (List ℕ)) (note : NoteTree) : Type 0 where
+  pub unit : PowerMap
+  pub name : IsNew known p.name
+  pub is_unit : IsUnitOf bases p.unit unit
+  pub fit : IsTrue (fits unit)
+  pub added : new ≡ known ++ p.name ∷ []
+  pub noted : note ≡ num_note (Written unit)
+
+abbrev pub NoParameter : List (List ℕ) → List (List ℕ) → Parameter → Type 0
+NoParameter bases known p = (u : PowerMap) → IsNew known p.name → IsUnitOf bases p.unit u → IsTrue (fits u) → ⊥
+
+-- the variable of this name
+pub record IsVariable (names : List (List ℕ)) (x : List ℕ) (e : ExprTree) : Type 0 where
+  pub at : ℕ
+  pub number : ℕ
+  pub is : e ≡ local at number
+  pub named : slice_get names number ≡ Some x
 
 -- what is known: the base units and the functions
 pub record Known : Type 0 where

@@ -10,6 +10,7 @@ use crate::layout::is_name_byte;
 use indexmap::IndexSet;
 use std::alloc::{AllocError, Global};
 use std::marker::Model;
+use um_tree::{Name, Names};
 
 /// The words that are no names.
 const RESERVED: [&[u8]; 18] = [
@@ -93,5 +94,15 @@ impl KnownNames {
             return Err(AllocError);
         }
         Ok(self.set.insert(name)?)
+    }
+    /// The names, in order.
+    pub fn into_names(self, alloc: Global) -> Result<Names, AllocError>
+        ensures { IfOk result (λ names. names ≡ self) }
+    {
+        let mut names = Vec::new(alloc);
+        for name in self.set {
+            names.push(Name::from_vec(name))?;
+        }
+        Ok(Names::from_vec(names))
     }
 }
