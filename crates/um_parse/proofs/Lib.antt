@@ -4,3 +4,4 @@ mod NameLists
 mod UnitNames
 mod ParameterLoop
 mod Factors
+mod ScopeLoop

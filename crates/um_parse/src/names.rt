@@ -96,12 +96,12 @@ impl KnownNames {
         Ok(self.set.insert(name)?)
     }
     /// The names, in order.
-    pub fn into_names(self, alloc: Global) -> Result<Names, AllocError>
-        ensures { IfOk result (λ names. names ≡ self) }
+    pub fn to_names(&self, alloc: Global) -> Result<Names, AllocError>
+        ensures { IfOk result (λ names. names ≡ self.now) }
     {
         let mut names = Vec::new(alloc);
-        for name in self.set {
-            names.push(Name::from_vec(name))?;
+        for name in self.set.as_slice() {
+            names.push(Name::from_vec(Vec::from_slice(alloc, name)?))?;
         }
         Ok(Names::from_vec(names))
     }

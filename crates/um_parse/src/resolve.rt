@@ -265,7 +265,7 @@ pub fn resolve(alloc: Global, declarations: &[DeclarationText]) -> Result<Option
         return Ok(None);
     }
     Ok(Some(Program {
-        bases: scope.bases.into_names(alloc)?,
+        bases: scope.bases.to_names(alloc)?,
         records: Records {
             items: Vec::new(alloc),
         },
