@@ -1,13 +1,15 @@
 -- Declarations, taken one after another.
 use Rattle.std.proofs.Common.{◌≡◌, ℕ, ◌+◌, ◌<◌, ◌≤◌, Bool, true, false, List, [], ◌∷◌, ◌++◌, map, take, drop, length, get_or, refl, sym, ap, ◌∙◌, subst, inl, inr, arith, add-one}
-use Rattle.std.specs.Prelude.{slice_get, Some, Contains, ◌⊎◌}
-use Rattle.std.proofs.lemmas.List.{drop_all, map-append, length-map}
+use Rattle.std.specs.Prelude.{slice_get, Some, Contains, ◌⊎◌, MatchBool, IsTrue}
+use Rattle.std.proofs.lemmas.List.{drop_all, map-append, length-map, length-append, get_or_push, get_or_append_left}
+use Rattle.std.proofs.lemmas.Bool.{cases_lt}
+use Rattle.std.proofs.lemmas.Option.{slice_get_within, slice_get-get_or, get_or_from_slice_get}
 use Rattle.std.proofs.Math.Seq.{drop-cons}
 use Rattle.um_tree.specs.Formed.{AreDistinct}
 use Rattle.um_tree.specs.ProgramTree.{FunctionTree, ProgramTree}
 use Rattle.um_parse.specs.ProductText.{Declaration, measure, function}
 use Rattle.um_parse.specs.ProductProgram.{IsNew, IsFunction, Makes}
-use Rattle.um_parse.specs.Resolved.{Known, function_names, Declares, CannotStand}
+use Rattle.um_parse.specs.Resolved.{Known, function_names, Declares, CannotStand, Answers}
 use Rattle.um_parse.proofs.NameLists.{Contains-numbered}
 
 -- what is known before declaration i: it makes what the others make of it, and whatever all make, the others make
@@ -86,5 +88,36 @@ made_functions ds i known s past p all =
 pub distinct-none : AreDistinct []
 distinct-none i j x h k = cc
 
+-- an element of a list with one more
+pushed : (xs : List (List ℕ)) (x : List ℕ) (i : ℕ) (y : List ℕ) → slice_get (xs ++ x ∷ []) i ≡ Some y
+    → ((i < length xs) × (slice_get xs i ≡ Some y)) ⊎ ((i ≡ length xs) × (x ≡ y))
+pushed xs x i y h = by (cases_lt i (length xs)) where
+  lt : i < length (xs ++ x ∷ [])
+  lt = slice_get_within (xs ++ x ∷ []) i y h
+  at : get_or (xs ++ x ∷ []) i y ≡ y
+  at = get_or_from_slice_get (xs ++ x ∷ []) i y y h
+  by : (i < length xs) ⊎ (length xs ≤ i) → ((i < length xs) × (slice_get xs i ≡ Some y)) ⊎ ((i ≡ length xs) × (x ≡ y))
+  by (inl l) = inl (l, slice_get-get_or xs i y l ∙ ap Some (sym (get_or_append_left xs (x ∷ []) y i l) ∙ at))
+  by (inr g) =
+      let here : i ≡ length xs = omega (arith, lt, length-append xs (x ∷ [])) in
+      inr (here, sym (get_or_push xs x y i (sym here)) ∙ at)
+
 pub distinct-push : (xs : List (List ℕ)) (x : List ℕ) → AreDistinct xs → (Contains xs x → ⊥) → AreDistinct (xs ++ x ∷ [])
-distinct-push xs x d fresh i j y h k = ?
+distinct-push xs x d fresh i j y h k = by (pushed xs x i y h) (pushed xs x j y k) where
+  by : ((i < length xs) × (slice_get xs i ≡ Some y)) ⊎ ((i ≡ length xs) × (x ≡ y)) → ((j < length xs) × (slice_get xs j ≡ Some y)) ⊎ ((j ≡ length xs) × (x ≡ y)) → i ≡ j
+  by (inl a) (inl b) = d i j y a.1 b.1
+  by (inl a) (inr b) = absurd (fresh (subst (Contains xs) (sym b.1) (Contains-numbered xs i y a.1)))
+  by (inr a) (inl b) = absurd (fresh (subst (Contains xs) (sym a.1) (Contains-numbered xs j y b.1)))
+  by (inr a) (inr b) = a.0 ∙ sym b.0
+
+-- ---- a measure, as the code adds it
+pub measure_known : (added : Bool) (known : Known) (new : List (List ℕ)) (bytes x : List ℕ) → bytes ≡ x
+    → MatchBool added (IsNew known.bases bytes × (new ≡ known.bases ++ bytes ∷ [])) (IsNew known.bases bytes → ⊥) → Answers known (measure x) added (record known { bases = new })
+measure_known true known new bytes x e h =
+    (subst (IsNew known.bases) e h.0, ap (λ (t : List (List ℕ)). record known { bases = t }) (h.1 ∙ ap (λ b. known.bases ++ b ∷ []) e))
+measure_known false known new bytes x e h = λ fresh. h (subst (IsNew known.bases) (sym e) fresh)
+
+pub measure_distinct : (added : Bool) (bases new : List (List ℕ)) (bytes : List ℕ) → AreDistinct bases
+    → MatchBool added (IsNew bases bytes × (new ≡ bases ++ bytes ∷ [])) (IsNew bases bytes → ⊥) → IsTrue added → AreDistinct new
+measure_distinct true bases new bytes d h t = subst AreDistinct (sym h.1) (distinct-push bases bytes d h.0.1)
+measure_distinct false bases new bytes d h t = let bad : false ≡ true = t in cc
