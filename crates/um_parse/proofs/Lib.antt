@@ -5,3 +5,5 @@ mod UnitNames
 mod ParameterLoop
 mod Factors
 mod ScopeLoop
+mod MadeNames
+mod MadeFunctions

@@ -1,7 +1,7 @@
 -- Names that the reader of the layout can tell from what stands between them.
-use Rattle.std.specs.Prelude.{IsTrue, List, [], ◌∷◌, ℕ, All}
+use Rattle.std.specs.Prelude.{◌≡◌, IsTrue, List, [], ◌∷◌, ℕ}
 use Rattle.std.specs.List.{list_all}
-use Rattle.um_parse.specs.ProductText.{Parameter, Declaration, measure, function}
+use Rattle.um_parse.specs.ProductText.{Parameter, Declaration, measure, function, Spells}
 use Rattle.um_parse.specs.Layout.{is_name_byte}
 
 abbrev pub HasNameBytes : List ℕ → Type 0
@@ -24,3 +24,8 @@ abbrev pub AreNamed : List Declaration → Type 0
 AreNamed [] = Unit {0}
 AreNamed (measure x ∷ ds) = HasNameBytes x × AreNamed ds
 AreNamed (function f ps xs ∷ ds) = HasNameBytes f × ParametersNamed ps × FactorsNamed xs × AreNamed ds
+
+-- the declarations spell the text, and no others of such names do
+pub record ReadsAs (text : List ℕ) (ds : List Declaration) : Type 0 where
+  pub spelled : Spells ds text
+  pub only : (es : List Declaration) → AreNamed es → Spells es text → es ≡ ds

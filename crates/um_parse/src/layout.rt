@@ -1,7 +1,7 @@
 // The reader of the layout: it takes one byte at a time, and keeps what comes next.
 ghost use Rattle.std.specs.Prelude.{◌≡◌, ◌++◌, ◌∷◌, [], IfOk, OnOk, IsTrue, MatchOption, Some, None, is_some, option_map, List, ◌^◌, ◌<◌};
 ghost use Rattle.um_parse.specs.ProductText.{Declaration, measure, function, Spells};
-ghost use Rattle.um_parse.specs.LayoutNames.{AreNamed};
+ghost use Rattle.um_parse.specs.LayoutNames.{AreNamed, ReadsAs};
 ghost use Rattle.um_parse.specs.Declarations.{declarations_of};
 ghost use Rattle.um_parse.specs.Layout.{state, draft, reading, refused, start, step, after, is_name_byte, takes_name, with_factor, with_measure, with_parameter, with_function, finished, ended, Goes};
 
@@ -302,7 +302,7 @@ fn place_of(index: usize) -> u32
 pub fn read_layout(alloc: Global, text: &[u8]) -> Result<Option<Vec<DeclarationText>>, AllocError>
     ensures { IfOk result (λ found. MatchOption found
         ((ds : List Declaration) → AreNamed ds → Spells ds text.now → ⊥)
-        (λ ds. Spells (declarations_of ds) text.now)) }
+        (λ ds. ReadsAs text.now (declarations_of ds))) }
 {
     let mut reader = Reader::new(alloc);
     for i in 0..text.len() {

@@ -3,19 +3,23 @@ use Rattle.std.specs.Prelude.{MatchOption, option_map}
 use Rattle.std.specs.Global.{Vec}
 use Rattle.std.proofs.lemmas.List.{take_all}
 use Rattle.std.proofs.lemmas.Result.{IfOk-weaker}
+use Rattle.std.proofs.lemmas.Option.{same_Some}
 use Rattle.um_parse.specs.declared.declaration.DeclarationText.{DeclarationText}
 use Rattle.um_parse.specs.ProductText.{Declaration, Spells}
-use Rattle.um_parse.specs.LayoutNames.{AreNamed}
+use Rattle.um_parse.specs.LayoutNames.{AreNamed, ReadsAs}
 use Rattle.um_parse.specs.Layout.{state, step, run, start, ended}
 use Rattle.um_parse.specs.Declarations.{declarations_of}
-use Rattle.um_parse.proofs.LayoutComplete.{run_more, none_found, none_behind}
+use Rattle.um_parse.proofs.LayoutComplete.{found, run_more, none_found, none_behind}
 use Rattle.um_parse.proofs.LayoutSound.{read_sound}
 use Rattle.um_parse.proofs.layout.read_layout.Goals as goal
 
 -- what stands at the end of the text is the answer
 answer : (text : List ℕ) (found : Option (Vec DeclarationText)) → option_map declarations_of found ≡ ended (run start text)
-    → MatchOption found ((ds : List Declaration) → AreNamed ds → Spells ds text → ⊥) (λ ds. Spells (declarations_of ds) text)
-answer text (Some ds) e = read_sound text (declarations_of ds) (sym e)
+    → MatchOption found ((ds : List Declaration) → AreNamed ds → Spells ds text → ⊥) (λ ds. ReadsAs text (declarations_of ds))
+answer text (Some ds) e = record {
+  spelled = read_sound text (declarations_of ds) (sym e);
+  only = λ es h s. same_Some es (declarations_of ds) (sym (found text es h s) ∙ sym e);
+}
 answer text None e = none_found text (sym e)
 
 pub returns-then-not-branch : goal.returns-then-not-branch
@@ -33,4 +37,4 @@ loop-i-preserved c =
 pub returns : goal.returns
 returns c =
     let text = c.args.text.now in
-    IfOk-weaker c.end.result _ _ (λ found e. answer text found (e ∙ ap ended (c.loop-i.invariant ∙ ap (run start) (take_all c.loop-i.i text c.loop-i-test.false)))) c.end.ensures
+    IfOk-weaker c.end.result _ _ (λ ds e. answer text ds (e ∙ ap ended (c.loop-i.invariant ∙ ap (run start) (take_all c.loop-i.i text c.loop-i-test.false)))) c.end.ensures
