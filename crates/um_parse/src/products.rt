@@ -4,6 +4,8 @@ ghost use Rattle.um_tree.specs.ProgramTree.{ProgramTree, program_tree};
 ghost use Rattle.um_parse.specs.ProductProgram.{IsProductProgram};
 ghost use Rattle.um_parse.specs.ProductFunction.{HasProductFunctions};
 
+use crate::layout::read_layout;
+use crate::resolve::resolve;
 use std::alloc::{AllocError, Global};
 use um_tree::Program;
 
@@ -14,5 +16,8 @@ pub fn read_products(alloc: Global, text: &[u8]) -> Result<Option<Program>, Allo
         (λ program. IsProductProgram text.now (program_tree program))) }
     ensures products { IfOk result (λ found. IfSome found (λ program. HasProductFunctions (program_tree program))) }
 {
-    Err(AllocError)
+    match read_layout(alloc, text)? {
+        Some(declarations) => resolve(alloc, &declarations),
+        None => Ok(None),
+    }
 }
