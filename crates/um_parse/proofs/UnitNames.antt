@@ -11,7 +11,7 @@ use Rattle.um_units.specs.Range.{fits}
 use Rattle.um_units.specs.Variables.{IsClosed}
 use Rattle.um_units.proofs.Group.{weight-one, weight-atom, weight-mul, mul_assoc, mul-one, one-mul, mul_comm}
 use Rattle.um_units.proofs.InRange.{fits-power_of, fits_from_powers, fits-one}
-use Rattle.um_units.proofs.Variables.{closed-one, closed-base, closed-mul}
+use Rattle.um_units.proofs.Variables.{IsClosed-one, IsClosed-base, IsClosed-mul}
 use Rattle.um_parse.specs.ProductProgram.{IsUnitOf}
 use Rattle.um_parse.specs.UnitRange.{IsInRange, UnitAnswer}
 use Rattle.um_tree.specs.Formed.{AreDistinct}
@@ -91,8 +91,8 @@ fits-base k =
 
 -- ---- no variable
 pub closed-unit : (bases xs : List (List ℕ)) (u : PowerMap) → IsUnitOf bases xs u → IsClosed u
-closed-unit bases [] u h = subst IsClosed (sym h) closed-one
-closed-unit bases (x ∷ xs) u h = subst IsClosed (sym h.4) (closed-mul (atom (Base h.0)) h.1 (closed-base h.0) (closed-unit bases xs h.1 h.3))
+closed-unit bases [] u h = subst IsClosed (sym h) IsClosed-one
+closed-unit bases (x ∷ xs) u h = subst IsClosed (sym h.4) (IsClosed-mul (atom (Base h.0)) h.1 (IsClosed-base h.0) (closed-unit bases xs h.1 h.3))
 
 -- a unit of one name
 pub unit-single : (bases : List (List ℕ)) (x : List ℕ) (k : ℕ) → slice_get bases k ≡ Some x → IsUnitOf bases (x ∷ []) (atom (Base k))

@@ -5,7 +5,7 @@ use Rattle.um_parse.proofs.UnitNames.{none_front, none_back, both_parts, unit_of
 use Rattle.um_parse.proofs.resolve.+unit.Goals as goal
 
 pub returns-in-empty : goal.returns-in-empty
-returns-in-empty t c = unit_of_none c.args.bases.now c.args.names.now c.one.result c.in-empty.len_below c.one.ensures
+returns-in-empty t c = unit_of_none c.args.bases.now c.args.names.now c.one.result c.in-empty.len_below c.one.ensures.exact
 
 pub returns-in-len1 : goal.returns-in-len1
 returns-in-len1 t c =

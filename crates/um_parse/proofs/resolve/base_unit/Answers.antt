@@ -11,7 +11,7 @@ returns-in_ok-atom-in-Some c =
     let bases = c.args.bases.now in
     let name = c.args.name.now in
     let number : slice_get bases c.in-Some.k ≡ Some name = c.in-Some.ensures ∙ ap Some c.as_slice.ensures in
-    let is = sym c.in_ok-atom-in-Some.ensures in
+    let is = sym c.in_ok-atom-in-Some.ensures.exact in
     (subst (IsUnitOf bases (name ∷ [])) is (unit-single bases name c.in-Some.k number), subst (λ u. IsTrue (fits u)) is (fits-base c.in-Some.k))
 
 pub returns-in-None : goal.returns-in-None
