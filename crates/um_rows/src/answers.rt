@@ -11,7 +11,12 @@ fn answers(rt: HostRuntime) -> Result<(), Fail> {
     let built = "error 18: not built\n";
     let usage = "error 1: usage\n";
     let cases: [(&str, &str, &str, Status); 16] = [
-        ("types", AREA, "area : num<m> -> num<m> -> num<m^2>\n", Status::Done),
+        (
+            "types",
+            AREA,
+            "area : num<m> -> num<m> -> num<m^2>\n",
+            Status::Done,
+        ),
         ("types", "", "", Status::Done),
         (
             "types",
@@ -19,11 +24,36 @@ fn answers(rt: HostRuntime) -> Result<(), Fail> {
             "f : num<m s^2> -> num -> num<m s^2>\ng : num<s> -> num<s>\n",
             Status::Done,
         ),
-        ("types", "let f (x: num) = x\n", "f : num -> num\n", Status::Done),
-        ("types", "let area (x: num<_>) (y: num<_>) = x * y\n", built, Status::NotBuilt),
-        ("types", "[<Measure>] type m\n[<Measure>] type s\nlet f (x: num<m>) (y: num<s>) = x + y\n", built, Status::NotBuilt),
-        ("types", "let f (x: num<m>) = x\n[<Measure>] type m\n", built, Status::NotBuilt),
-        ("types", "let f (x: num) (x: num) = x\n", built, Status::NotBuilt),
+        (
+            "types",
+            "let f (x: num) = x\n",
+            "f : num -> num\n",
+            Status::Done,
+        ),
+        (
+            "types",
+            "let area (x: num<_>) (y: num<_>) = x * y\n",
+            built,
+            Status::NotBuilt,
+        ),
+        (
+            "types",
+            "[<Measure>] type m\n[<Measure>] type s\nlet f (x: num<m>) (y: num<s>) = x + y\n",
+            built,
+            Status::NotBuilt,
+        ),
+        (
+            "types",
+            "let f (x: num<m>) = x\n[<Measure>] type m\n",
+            built,
+            Status::NotBuilt,
+        ),
+        (
+            "types",
+            "let f (x: num) (x: num) = x\n",
+            built,
+            Status::NotBuilt,
+        ),
         ("types", "\n", built, Status::NotBuilt),
         ("code", AREA, built, Status::NotBuilt),
         ("code a b", AREA, built, Status::NotBuilt),
@@ -36,7 +66,10 @@ fn answers(rt: HostRuntime) -> Result<(), Fail> {
     for (line, text, want, status) in cases {
         let (got, bytes) = run(alloc, line, text.as_bytes(), CALM)?;
         assert!(rt; got == status, "status of {line} on {text}");
-        assert!(rt; bytes.as_slice() == want.as_bytes(), "text of {line} on {text}");
+        assert!(rt;
+            bytes.as_slice() == want.as_bytes(),
+            "text of {line} on {text}"
+        );
     }
     Ok(())
 }
@@ -52,7 +85,10 @@ fn pieces(rt: HostRuntime) -> Result<(), Fail> {
         };
         let (status, bytes) = run(alloc, "types", AREA.as_bytes(), wire)?;
         assert!(rt; status == Status::Done, "status in pieces of {piece}");
-        assert!(rt; bytes.as_slice() == b"area : num<m> -> num<m> -> num<m^2>\n".as_slice(), "text in pieces of {piece}");
+        assert!(rt;
+            bytes.as_slice() == b"area : num<m> -> num<m> -> num<m^2>\n".as_slice(),
+            "text in pieces of {piece}"
+        );
     }
     Ok(())
 }
@@ -68,7 +104,10 @@ fn long_texts(rt: HostRuntime) -> Result<(), Fail> {
         let blanks = vec![in alloc; b' '; size]?;
         let (got, bytes) = run(alloc, "types", &blanks, CALM)?;
         assert!(rt; got == status, "status of {size} blanks");
-        assert!(rt; bytes.as_slice() == want.as_bytes(), "text of {size} blanks");
+        assert!(rt;
+            bytes.as_slice() == want.as_bytes(),
+            "text of {size} blanks"
+        );
     }
     Ok(())
 }

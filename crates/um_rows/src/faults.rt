@@ -5,6 +5,7 @@ use um_tool::{Status, serve};
 use um_wire::{MemSink, MemSource};
 
 const AREA: &[u8] = b"[<Measure>] type m\nlet area (x: num<m>) (y: num<m>) = x * y\n";
+
 const ANSWER: &[u8] = b"area : num<m> -> num<m> -> num<m^2>\n";
 
 #[test]
@@ -21,7 +22,11 @@ fn failed_reads(rt: HostRuntime) -> Result<(), Fail> {
         let fails = call < 10;
         assert!(rt; (status == Status::ReadFault) == fails, "read {call}");
         assert!(rt; (status == Status::Done) == !fails, "read {call}");
-        let want = if fails { b"error 15: read\n".as_slice() } else { ANSWER };
+        let want = if fails {
+            b"error 15: read\n".as_slice()
+        } else {
+            ANSWER
+        };
         assert!(rt; bytes.as_slice() == want, "text at read {call}");
     }
     Ok(())
@@ -41,7 +46,10 @@ fn failed_writes(rt: HostRuntime) -> Result<(), Fail> {
         let fails = call < 9;
         assert!(rt; (status == Status::WriteFault) == fails, "write {call}");
         let taken = if fails { 4 * call as usize } else { 36 };
-        assert!(rt; Some(bytes.as_slice()) == ANSWER.get(..taken), "text at write {call}");
+        assert!(rt;
+            Some(bytes.as_slice()) == ANSWER.get(..taken),
+            "text at write {call}"
+        );
     }
     let wire = Wire { room: 35, ..CALM };
     let (status, bytes) = run(alloc, "types", AREA, wire)?;
@@ -59,7 +67,10 @@ fn nothing_is_read(rt: HostRuntime) -> Result<(), Fail> {
         let mut source = MemSource::new(AREA.to_vec(alloc)?, 7, vec![in alloc; 0u64]?);
         let mut sink = MemSink::new(alloc, 4096, 4096, Vec::new(alloc))?;
         let status = serve(alloc, &words, &mut source, &mut sink);
-        assert!(rt; status == Status::Usage || status == Status::NotBuilt, "status of {line}");
+        assert!(rt;
+            status == Status::Usage || status == Status::NotBuilt,
+            "status of {line}"
+        );
     }
     Ok(())
 }

@@ -49,12 +49,7 @@ fn failing(alloc: Global, call: Option<u64>) -> Result<Vec<u64>, Fail> {
 }
 
 /// The status of a run, and the bytes that it wrote.
-pub fn run(
-    alloc: Global,
-    line: &str,
-    text: &[u8],
-    wire: Wire,
-) -> Result<(Status, Vec<u8>), Fail> {
+pub fn run(alloc: Global, line: &str, text: &[u8], wire: Wire) -> Result<(Status, Vec<u8>), Fail> {
     let words = words_of(alloc, line)?;
     let fails = failing(alloc, wire.failed_read)?;
     let mut source = MemSource::new(text.to_vec(alloc)?, wire.read_piece.max(1), fails);

@@ -1,9 +1,6 @@
 -- Where every step goes through, the answer is done.
-use Rattle.std.proofs.Common.{◌≡◌, ℕ, ◌<◌, List, length, Some, inl, inr, arith}
+use Rattle.std.proofs.Common.{◌≡◌, ℕ, ◌<◌, List, length, inl, inr, arith}
 use Rattle.std.specs.declared.option.Option.{Option}
-use Rattle.um_wire.specs.Faults.{Rose}
-use Rattle.um_tree.specs.ProgramTree.{ProgramTree}
-use Rattle.um_parse.specs.ProductProgram.{IsProductProgram}
 use Rattle.um_tool.specs.declared.status.Status.{Status}
 use Rattle.um_tool.specs.declared.status.Status.TheVariants.{Done}
 use Rattle.um_tool.specs.declared.order.Order.TheVariants.{Types}

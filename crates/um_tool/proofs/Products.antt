@@ -1,24 +1,23 @@
 -- A product of parameters has one type, and its function one typing.
-use Rattle.std.proofs.Common.{◌≡◌, ◌↔◌, refl, sym, ap, ◌∙◌, subst, ℕ, zero, suc, ◌<◌, ◌≤◌, false, IsTrue, List, [], ◌∷◌, map, length, slice_get, option_map, Option, Some, None}
+use Rattle.std.proofs.Common.{◌≡◌, refl, sym, ap, ◌∙◌, subst, ℕ, zero, suc, ◌<◌, ◌≤◌, false, IsTrue, List, [], ◌∷◌, map, length, slice_get, option_map, Option, Some, None}
 use Rattle.std.proofs.lemmas.Option.{slice_get-get_or, slice_get-map}
 use Rattle.std.proofs.lemmas.List.{get_or_past}
 use Rattle.um_units.proofs.InRange.{fits-one}
-use Rattle.um_units.specs.PowerMap.{PowerMap, one, mul, replace}
+use Rattle.um_units.specs.PowerMap.{PowerMap, one, mul}
 use Rattle.um_units.specs.Range.{fits}
 use Rattle.um_units.specs.Variables.{IsClosed}
 use Rattle.um_units.proofs.Replacement.{replace-closed}
 use Rattle.um_units.proofs.Variables.{IsClosed-one, IsClosed-mul}
 use Rattle.um_tree.specs.TypeTree.{TypeTree, num_type, NoteTree, num_note}
 use Rattle.um_tree.specs.ExprTree.{ExprTree, local, arith}
-use Rattle.um_tree.specs.ProgramTree.{RecordTree, FunctionTree, ProgramTree, Signature, SchemeTree}
-use Rattle.um_tree.specs.Typing.{Typed, TypesMatch, ResultMatches, unit_at, put, put_signature, Typing, TypingAt, typings_below, IsTypingOf, Calls}
-use Rattle.um_tree.specs.Scheme.{IsPrincipal, IsInstance}
-use Rattle.um_tree.specs.declared.note.UnitNote.{UnitNote}
+use Rattle.um_tree.specs.ProgramTree.{RecordTree, FunctionTree, ProgramTree, Signature}
+use Rattle.um_tree.specs.Typing.{Typed, TypesMatch, ResultMatches, unit_at, put, put_signature, TypingAt, typings_below, IsTypingOf, Calls}
+use Rattle.um_tree.specs.Scheme.{IsPrincipal}
 use Rattle.um_tree.specs.declared.note.UnitNote.TheVariants.{Written}
 use Rattle.um_tree.specs.declared.expression.Arith.TheVariants.{Mul}
 use Rattle.um_parse.specs.ProductFunction.{IsProductOf, IsProductFunction}
 use Rattle.um_tool.specs.Product.{product_unit, PartsFit, product_signature, product_scheme, note_unit, param_units}
-use Rattle.um_tool.specs.Range.{NodeFits, NodesFit, TypeFits}
+use Rattle.um_tool.specs.Range.{NodesFit, TypeFits}
 
 -- ---- types of products
 
@@ -44,21 +43,22 @@ module _ (records : List RecordTree) (calls : ℕ → Signature → Type 0) (cho
 
 -- ---- the range of its parts
 
-
 pub parts-nodes : (us : List PowerMap) (e : ExprTree) → IsProductOf (length us) e → PartsFit us e → NodesFit (map num_type us) e
 parts-nodes us (local at k) h parts = λ t typed. subst TypeFits (sym (product_type [] (λ j g. ⊥) (λ i. one) us (local at k) t h typed)) parts
-parts-nodes us (arith at Mul a b) h parts =
-    ( parts-nodes us a h.0 parts.0
-    , parts-nodes us b h.1 parts.1
-    , λ t typed. subst TypeFits (sym (product_type [] (λ j g. ⊥) (λ i. one) us (arith at Mul a b) t h typed)) parts.2)
+parts-nodes us (arith at Mul a b) h parts = (
+  parts-nodes us a h.0 parts.0,
+  parts-nodes us b h.1 parts.1,
+  λ t typed. subst TypeFits (sym (product_type [] (λ j g. ⊥) (λ i. one) us (arith at Mul a b) t h typed)) parts.2,
+)
 parts-nodes us e h parts = absurd h
 
 pub nodes-parts : (us : List PowerMap) (e : ExprTree) → IsProductOf (length us) e → NodesFit (map num_type us) e → PartsFit us e
 nodes-parts us (local at k) h nodes = nodes (num_type (unit_at us k)) (product_typed [] (λ j g. ⊥) (λ i. one) us (local at k) h)
-nodes-parts us (arith at Mul a b) h nodes =
-    ( nodes-parts us a h.0 nodes.0
-    , nodes-parts us b h.1 nodes.1
-    , nodes.2 (num_type (product_unit us (arith at Mul a b))) (product_typed [] (λ j g. ⊥) (λ i. one) us (arith at Mul a b) h))
+nodes-parts us (arith at Mul a b) h nodes = (
+  nodes-parts us a h.0 nodes.0,
+  nodes-parts us b h.1 nodes.1,
+  nodes.2 (num_type (product_unit us (arith at Mul a b))) (product_typed [] (λ j g. ⊥) (λ i. one) us (arith at Mul a b) h),
+)
 nodes-parts us e h nodes = absurd h
 
 -- ---- closed units
@@ -115,26 +115,27 @@ module _ (p : ProgramTree) (i : ℕ) (f : FunctionTree) (us : List PowerMap) (pl
     choice = λ k. one;
     params = subst (λ ns. TypesMatch (λ k. one) ns (map num_type us)) (sym params) (params_match (λ k. one) us closed);
     result = subst (λ r. ResultMatches (λ k. one) r (num_type (product_unit us f.body))) (sym open_result) tt;
-    body = product_typed p.records (Calls (typings_below p i) i f (product_signature us f.body)) (λ k. one) us f.body body
+    body = product_typed p.records (Calls (typings_below p i) i f (product_signature us f.body)) (λ k. one) us f.body body;
   }
 
   put-signature : (s : ℕ → PowerMap) → put_signature s (product_signature us f.body) ≡ product_signature us f.body
   put-signature s = λ k. record {
     params = put-closed s us closed k;
-    result = num_type (replace-closed s (product_unit us f.body) (closed_product us f.body closed) k)
+    result = num_type (replace-closed s (product_unit us f.body) (closed_product us f.body closed) k);
   }
 
 -- the scheme's only instance is the function's only typing
 pub product_principal : (p : ProgramTree) (i : ℕ) (f : FunctionTree) (h : IsProductFunction f) → slice_get p.functions i ≡ Some f → IsPrincipal p i (product_scheme h.units f.body)
 product_principal p i f h declared g =
     let closed = all_closed h.units h.closed in
-    let at : Option FunctionTree → Type 0 = λ o. TypingAt p.records (typings_below p i) i o g in
-    ( (λ typing.
-        let same = one_typing p i f h.units h.plain h.open_result h.params closed h.body g (subst at declared typing) in
-        (λ k. one, same ∙ sym (put-signature p i f h.units h.plain h.open_result h.params closed h.body (λ k. one))))
-    , (λ instance.
-        let same : product_signature h.units f.body ≡ g = sym (instance.1 ∙ put-signature p i f h.units h.plain h.open_result h.params closed h.body instance.0) in
-        subst at (sym declared) (subst (IsTypingOf p.records (typings_below p i) i f) same (is_typing p i f h.units h.plain h.open_result h.params closed h.body))))
+    let at : Option FunctionTree → Type 0 = λ o. TypingAt p.records (typings_below p i) i o g in (
+      (λ typing.
+          let same = one_typing p i f h.units h.plain h.open_result h.params closed h.body g (subst at declared typing) in
+          (λ k. one, same ∙ sym (put-signature p i f h.units h.plain h.open_result h.params closed h.body (λ k. one)))),
+      (λ instance.
+          let same : product_signature h.units f.body ≡ g = sym (instance.1 ∙ put-signature p i f h.units h.plain h.open_result h.params closed h.body instance.0) in
+          subst at (sym declared) (subst (IsTypingOf p.records (typings_below p i) i f) same (is_typing p i f h.units h.plain h.open_result h.params closed h.body))),
+    )
 
 -- the units that the notes write
 note_units : (us : List PowerMap) → map note_unit (written us) ≡ us

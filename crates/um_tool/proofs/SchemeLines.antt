@@ -1,12 +1,12 @@
 -- The lines of the functions of a product program, function by function.
-use Rattle.std.proofs.Common.{◌≡◌, refl, sym, ap, ◌∙◌, subst, ℕ, zero, suc, ◌+◌, ◌<◌, ◌≤◌, ◌⊎◌, inl, inr, List, [], ◌∷◌, ◌++◌, map, length, slice_get, get_or, option_map, Some, codes, arith, length-append}
+use Rattle.std.proofs.Common.{◌≡◌, refl, sym, ap, ◌∙◌, subst, ℕ, zero, suc, ◌+◌, ◌<◌, ◌≤◌, ◌⊎◌, inl, inr, List, [], ◌∷◌, ◌++◌, map, length, slice_get, get_or, option_map, Some, arith, length-append}
 use Rattle.std.specs.List.{concat}
 use Rattle.std.proofs.lemmas.List.{append-nil}
 use Rattle.std.proofs.lemmas.List.Folds.{concat-append}
 use Rattle.std.proofs.lemmas.Option.{slice_get_within, slice_get-map, slice_get-get_or}
 use Rattle.um_tree.specs.declared.program.Function.{Function}
 use Rattle.std.proofs.lemmas.Bool.{cases_lt}
-use Rattle.um_units.specs.PowerMap.{PowerMap, one}
+use Rattle.um_units.specs.PowerMap.{one}
 use Rattle.um_tree.specs.TypeTree.{TypeTree, num_type}
 use Rattle.um_tree.specs.ProgramTree.{FunctionTree, ProgramTree, function_tree}
 use Rattle.um_tree.specs.Typing.{TypesMatch}
@@ -16,7 +16,7 @@ use Rattle.um_tool.specs.Range.{NodesFit, ProgramFits}
 use Rattle.um_tool.specs.SchemeText.{IsSchemeLine, IsSchemesText}
 use Rattle.um_tool.specs.Product.{param_units, PartsFit, IsProductLine, product_scheme}
 use Rattle.um_tool.specs.Lines.{AddsLine}
-use Rattle.um_tool.proofs.Products.{product_principal, param_units-product, parts-nodes, nodes-parts, params_are, params_match, all_closed, written}
+use Rattle.um_tool.proofs.Products.{product_principal, param_units-product, parts-nodes, nodes-parts, params_are, params_match, all_closed}
 
 -- the lines of the functions below n stand in the text, and their parts fit
 pub record PrintedUpTo (p : ProgramTree) (n : ℕ) (text : List ℕ) : Type 0 where
@@ -32,7 +32,7 @@ none_printed p = record {
   count = refl;
   each = λ i l e. absurd (cc e);
   is = refl;
-  fits = λ i f h e. absurd (omega (arith, h))
+  fits = λ i f h e. absurd (omega (arith, h));
 }
 
 -- the last of a longer list, or one before it
@@ -54,7 +54,7 @@ scheme_line p n f text product declared h = record {
   principal = subst (λ us. IsPrincipal p n (product_scheme us f.body)) (sym (param_units-product f product)) (product_principal p n f product declared);
   types = h.types;
   printed = h.printed;
-  is = h.is
+  is = h.is;
 }
 
 pub one_more : (p : ProgramTree) (n : ℕ) (f : FunctionTree) (old new : List ℕ) → HasProductFunctions p → slice_get p.functions n ≡ Some f → PrintedUpTo p n old → AddsLine p f old new → PartsFit (param_units f) f.body → PrintedUpTo p (n + 1) new
@@ -63,7 +63,7 @@ one_more p n f old new products declared before added parts = record {
   count = let more = length-append before.lines (added.added ∷ []) in omega (arith, more, before.count);
   each = λ i l e. by_line i l (last_or_before before.lines added.added i l e);
   is = added.is ∙ ap (λ s. s ++ added.added) before.is ∙ ap (λ s. concat before.lines ++ s) (sym (append-nil added.added)) ∙ sym (concat-append before.lines (added.added ∷ []));
-  fits = λ i g h e. by_function i g h e
+  fits = λ i g h e. by_function i g h e;
 }
   where
     by_line : (i : ℕ) (l : List ℕ) → (slice_get before.lines i ≡ Some l) ⊎ ((i ≡ length before.lines) × (l ≡ added.added)) → IsSchemeLine p i l

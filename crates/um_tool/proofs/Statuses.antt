@@ -1,5 +1,5 @@
 -- Which statuses an answer may have: none of the faults'.
-use Rattle.std.proofs.Common.{◌≡◌, ℕ, ◌<◌, List, Bool, true, false, IsTrue, None, Some, MatchOption, codes, refl, inl, inr}
+use Rattle.std.proofs.Common.{ℕ, List, Bool, true, false, IsTrue, None, Some, MatchOption, codes, refl, inl, inr}
 use Rattle.std.specs.declared.option.Option.{Option}
 use Rattle.um_tree.specs.ProgramTree.{ProgramTree}
 use Rattle.um_tool.specs.declared.status.Status.{Status}

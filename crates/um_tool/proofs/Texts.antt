@@ -1,15 +1,15 @@
 -- Lists of printed texts.
-use Rattle.std.proofs.Common.{◌≡◌, refl, sym, ap, ◌∙◌, subst, ℕ, ◌<◌, List, [], ◌∷◌, ◌++◌, map, codes, append_assoc}
+use Rattle.std.proofs.Common.{◌≡◌, refl, sym, ap, ◌∙◌, subst, ℕ, List, [], ◌∷◌, ◌++◌, map, codes, append_assoc}
 use Rattle.std.proofs.lemmas.List.{append-nil}
 use Rattle.std.proofs.lemmas.Grind.{flat_map-append}
 use Rattle.std.specs.List.{flat_map, join_by}
 use Rattle.um_units.specs.PowerMap.{PowerMap}
-use Rattle.um_tree.specs.TypeTree.{TypeTree, num_type, NoteTree, note_tree}
+use Rattle.um_tree.specs.TypeTree.{num_type, note_tree}
 use Rattle.um_tree.specs.declared.note.Note.{Note}
 use Rattle.um_tree.specs.ProgramTree.{FunctionTree, ProgramTree}
-use Rattle.um_tool.specs.SchemeText.{AreTexts, IsNumText, IsTypeText, IsSignatureText}
-use Rattle.um_tool.specs.Product.{note_unit, param_units, product_unit, IsProductLine}
-use Rattle.um_tool.specs.Lines.{AddsTexts, AddsNum, AddsLine, AddsUnitsLine}
+use Rattle.um_tool.specs.SchemeText.{AreTexts, IsNumText, IsTypeText}
+use Rattle.um_tool.specs.Product.{note_unit, param_units, product_unit}
+use Rattle.um_tool.specs.Lines.{AddsTexts, AddsLine, AddsUnitsLine}
 
 AreTexts-more : {A : Type 0} (P : A → List ℕ → Type 0) (xs : List A) (ts : List (List ℕ)) (x : A) (t : List ℕ) → AreTexts P xs ts → P x t → AreTexts P (xs ++ x ∷ []) (ts ++ t ∷ [])
 AreTexts-more P [] ts x t h is = (t, [], is, refl, ap (λ us. us ++ t ∷ []) h)
@@ -22,8 +22,8 @@ adds_text P xs x after old mid new t before is grew = record {
   printed = AreTexts-more P xs before.texts x t before.printed is;
   is =
       let more : flat_map (λ s. s ++ after) (before.texts ++ t ∷ []) ≡ flat_map (λ s. s ++ after) before.texts ++ (t ++ after) =
-          flat_map-append (λ s. s ++ after) before.texts (t ∷ []) ∙ ap (λ s. flat_map (λ r. r ++ after) before.texts ++ s) (append-nil (t ++ after)) in
-      grew ∙ append_assoc mid t after ∙ ap (λ s. s ++ (t ++ after)) before.is ∙ append_assoc old (flat_map (λ s. s ++ after) before.texts) (t ++ after) ∙ ap (λ s. old ++ s) (sym more)
+      flat_map-append (λ s. s ++ after) before.texts (t ∷ []) ∙ ap (λ s. flat_map (λ r. r ++ after) before.texts ++ s) (append-nil (t ++ after)) in
+      grew ∙ append_assoc mid t after ∙ ap (λ s. s ++ (t ++ after)) before.is ∙ append_assoc old (flat_map (λ s. s ++ after) before.texts) (t ++ after) ∙ ap (λ s. old ++ s) (sym more);
 }
 
 -- an arrow before each text, or behind each but the last
@@ -57,11 +57,11 @@ product_line p f old new h =
       printed = record {
         types = types;
         printed = (h.params ++ h.result ∷ [], AreTexts-more (IsTypeText p) (map num_type (param_units f)) h.params (num_type (product_unit (param_units f) f.body)) h.result (num_texts p (param_units f) h.params h.params_printed) h.result_printed, refl);
-        is = refl
+        is = refl;
       };
       is =
           let whole : old ++ f.name ++ codes " : " ++ flat_map (λ s. s ++ codes " -> ") h.params ++ h.result ++ codes "\n" ≡ old ++ (f.name ++ codes " : " ++ (flat_map (λ s. s ++ codes " -> ") h.params ++ h.result) ++ codes "\n") = simp (append_assoc) refl in
-          h.is ∙ whole ∙ ap (λ s. old ++ (f.name ++ codes " : " ++ s ++ codes "\n")) (arrows (codes " -> ") h.params h.result)
+          h.is ∙ whole ∙ ap (λ s. old ++ (f.name ++ codes " : " ++ s ++ codes "\n")) (arrows (codes " -> ") h.params h.result);
     }
 
 pub line_from_units : (p : ProgramTree) (f : FunctionTree) (old new : List ℕ) (us : List PowerMap) (v : PowerMap) → us ≡ param_units f → v ≡ product_unit us f.body → AddsUnitsLine p.bases f.name us v old new → AddsLine p f old new

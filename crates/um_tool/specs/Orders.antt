@@ -1,6 +1,6 @@
 -- What the words of the command line ask for.
 -- Source: this project's own commands.
-use Rattle.std.specs.Prelude.{ℕ, Bool, false, ◌||◌, IsTrue, List, [], ◌∷◌, Option, Some, None, codes, if◌then◌else◌}
+use Rattle.std.specs.Prelude.{ℕ, Bool, ◌||◌, IsTrue, List, [], ◌∷◌, Option, Some, None, codes, if◌then◌else◌}
 use Rattle.std.specs.Str.{bytes_eq}
 use Rattle.um_tool.specs.declared.order.Order.{Order}
 use Rattle.um_tool.specs.declared.order.Order.TheVariants.{Types}

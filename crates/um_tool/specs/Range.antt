@@ -1,11 +1,11 @@
 -- When no power that a product program forms passes its range.
 -- Source: this project's own limit on powers.
 use Rattle.std.specs.Prelude.{◌≡◌, ℕ, List, Some, slice_get, IsTrue, []}
-use Rattle.um_units.specs.PowerMap.{PowerMap, one}
+use Rattle.um_units.specs.PowerMap.{one}
 use Rattle.um_units.specs.Range.{fits}
 use Rattle.um_tree.specs.TypeTree.{TypeTree, num_type}
-use Rattle.um_tree.specs.ExprTree.{ExprTree, local, arith}
-use Rattle.um_tree.specs.ProgramTree.{RecordTree, FunctionTree, ProgramTree, Signature}
+use Rattle.um_tree.specs.ExprTree.{ExprTree, arith}
+use Rattle.um_tree.specs.ProgramTree.{FunctionTree, ProgramTree}
 use Rattle.um_tree.specs.Typing.{Typed, TypesMatch}
 
 -- the powers of a number's unit are in range

@@ -1,6 +1,6 @@
 -- How types and schemes are printed, and the lines that `types` prints.
 -- Source: this project's own texts.
-use Rattle.std.specs.Prelude.{◌≡◌, ◌≢◌, ◌⊎◌, ◌<◌, ◌+◌, ℕ, List, [], ◌∷◌, ◌++◌, codes, length, slice_get, Some}
+use Rattle.std.specs.Prelude.{◌≡◌, ◌≢◌, ◌⊎◌, ℕ, List, [], ◌∷◌, ◌++◌, codes, length, slice_get, Some}
 use Rattle.std.specs.List.{concat, join_by}
 use Rattle.um_units.specs.PowerMap.{PowerMap, one}
 use Rattle.um_tree.specs.TypeTree.{TypeTree, bool_type, num_type, list_type, record_type}

@@ -1,5 +1,5 @@
 -- How the steps of an answer follow each other: the first case that applies decides.
-use Rattle.std.specs.Prelude.{◌≡◌, ◌⊎◌, ℕ, List, [], ◌∷◌, ◌++◌, codes}
+use Rattle.std.specs.Prelude.{◌≡◌, ◌⊎◌, ℕ, List, ◌++◌, codes}
 use Rattle.um_tool.specs.declared.status.Status.{Status}
 
 -- these bytes and a line feed

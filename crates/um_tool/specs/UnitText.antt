@@ -1,6 +1,6 @@
 -- How a unit is printed.
 -- Source: this project's own texts, in the notation of the F# specification, Units Of Measure.
-use Rattle.std.specs.Prelude.{◌≡◌, ℕ, suc, ◌+◌, ◌/◌, ◌%◌, Bool, List, [], ◌∷◌, ◌++◌, codes, nat_lt, nat_eq, if◌then◌else◌, filter, get_or, pos, nat_abs, int_lt}
+use Rattle.std.specs.Prelude.{◌≡◌, ℕ, ◌+◌, ◌/◌, ◌%◌, Bool, List, [], ◌∷◌, ◌++◌, codes, nat_lt, nat_eq, if◌then◌else◌, filter, get_or, pos, nat_abs, int_lt}
 use Rattle.std.specs.List.{join_by}
 use Rattle.std.specs.List.Sorted.{IsPermutation, IsSortedBy}
 use Rattle.std.specs.Cmp.Lexicographic.{slice_cmp}

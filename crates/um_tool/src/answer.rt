@@ -38,11 +38,7 @@ pub(crate) fn not_built(alloc: Global) -> Result<Reply, AllocError>
 
 /// The answer to a text that is not too long.
 #[tactic(auto, unfolding(crate::specs::Answer::ProgramAnswer))]
-pub(crate) fn answer_program(
-    alloc: Global,
-    order: Order,
-    bytes: &[u8],
-) -> Result<Reply, AllocError>
+pub(crate) fn answer_program(alloc: Global, order: Order, bytes: &[u8]) -> Result<Reply, AllocError>
     ensures { IfOk result (λ reply. ProgramAnswer order bytes.now reply.text.items reply.status) }
 {
     match order {

@@ -15,10 +15,7 @@ use um_tree::{Arith, Expr, Function, Name, Node, Note, Program, UnitNote};
 use um_units::{Unit, UnitStop};
 
 /// The line of each function's scheme, in order, or nothing where a power passes its range.
-pub(crate) fn schemes_text(
-    alloc: Global,
-    program: &Program,
-) -> Result<Option<Vec<u8>>, AllocError>
+pub(crate) fn schemes_text(alloc: Global, program: &Program) -> Result<Option<Vec<u8>>, AllocError>
     requires { HasProductFunctions (program_tree program.now) }
     ensures { IfOk result (λ found. MatchOption found
         (ProgramFits (program_tree program.now) → ⊥)

@@ -1,4 +1,4 @@
-use Rattle.std.proofs.Common.{◌≡◌, ap, ◌∙◌, sym, subst, take, length, codes, ◌++◌, [], ◌∷◌}
+use Rattle.std.proofs.Common.{ap, ◌∙◌, sym, subst, take, codes, ◌++◌, [], ◌∷◌}
 use Rattle.std.proofs.lemmas.List.{take_more}
 use Rattle.um_tool.specs.Lines.{AddsTexts}
 use Rattle.um_tool.specs.SchemeText.{IsNumText}

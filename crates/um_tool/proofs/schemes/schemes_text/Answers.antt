@@ -1,4 +1,4 @@
-use Rattle.std.proofs.Common.{◌≡◌, ◌<◌, ◌≤◌, ap, ◌∙◌, sym, subst, map, length, arith}
+use Rattle.std.proofs.Common.{◌≤◌, sym, subst, length, arith}
 use Rattle.std.proofs.lemmas.List.{length-map}
 use Rattle.um_tree.specs.ProgramTree.{program_tree, function_tree}
 use Rattle.um_tool.proofs.SchemeLines.{PrintedUpTo, none_printed, one_more, all_printed, past_range, declared_at}

@@ -1,6 +1,5 @@
-use Rattle.std.proofs.Common.{◌≡◌, Bool, true, false, Err, ap, sym, ◌∙◌, IfOk}
+use Rattle.std.proofs.Common.{Err, ap, sym, ◌∙◌}
 use Rattle.um_tool.specs.Orders.{NamesUnbuilt}
-use Rattle.um_tool.specs.Served.{IsPlanned}
 use Rattle.um_tool.proofs.Serving.{if_ok, unbuilt_planned, usage_planned, text_planned, long_planned, planned_read_fault, planned_write_fault}
 use Rattle.um_tool.proofs.Complete.{planned_complete}
 use Rattle.um_tool.proofs.top.reply_to.Goals as goal
