@@ -7,6 +7,7 @@ use std::alloc::Global;
 use um_wire::{QuietSink, QuietSource};
 
 /// The status of a run on these bytes whose answer nobody reads: that of the answer, unless memory was wanting.
+#[tactic(auto, unfolding(um_wire::specs::Faults::Rose))]
 pub fn status_of(alloc: Global, words: &Words, bytes: Vec<u8>) -> Status
     ensures { (result ≡ Status.NoMemory) ⊎ ((text : List ℕ) × Answer words.now bytes.items text result) }
 {

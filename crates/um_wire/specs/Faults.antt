@@ -1,5 +1,5 @@
 -- Counts of faults. This project's own.
-use Rattle.std.specs.Prelude.{ℕ, ◌+◌, ◌-◌, ◌^◌, ◌≤◌, min, Result, is_err, if◌then◌else◌}
+use Rattle.std.specs.Prelude.{◌≡◌, ℕ, ◌+◌, ◌-◌, ◌^◌, ◌<◌, min, ◌⊎◌, Result, is_err, if◌then◌else◌}
 
 -- a count, one higher; at the greatest number of 64 bits it stands still
 abbrev pub next_count : ℕ → ℕ
@@ -11,5 +11,5 @@ fault_count result before = if is_err result then next_count before else before
 
 -- a count rose between two moments: it is greater now than before, or it stands at the greatest
 -- number of 64 bits
-abbrev pub Rose : ℕ → ℕ → Type 0
-Rose before now = next_count before ≤ now
+unfoldable pub Rose : ℕ → ℕ → Type 0
+Rose before now = (before < now) ⊎ (now ≡ 2 ^ 64 - 1)

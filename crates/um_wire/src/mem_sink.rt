@@ -82,6 +82,7 @@ impl Sink for MemSink {
 
     /// Fails where the call's number is named or the room is full, and else takes as much as the
     /// piece, `from` and the room allow.
+    #[tactic(auto, unfolding(crate::specs::Faults::Rose))]
     fn write(&mut self, from: &[u8]) -> Result<usize, Failed>
         ensures bound { TakesSome result from.now }
         ensures bytes { WriteAppends (Some self.old.taken) (Some self.new.taken) result from.now }

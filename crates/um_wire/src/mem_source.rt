@@ -66,6 +66,7 @@ impl Source for MemSource {
 
     /// Fails where the call's number is named, and else gives as much as the piece, `into` and the
     /// bytes left allow.
+    #[tactic(auto, unfolding(crate::specs::Faults::Rose))]
     fn read(&mut self, into: &mut [u8]) -> Result<usize, Failed>
         ensures bound { ReadsAtMost result into.new }
         ensures bytes { ReadConsumes (Some self.old.left) (Some self.new.left) result into.new }

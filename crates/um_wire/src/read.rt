@@ -72,6 +72,7 @@ pub fn read_text<S: Source>(
 /// It answers `TooLong` exactly where byte `limit + 1` was read, and `Failed` only where the source
 /// counted a fault. After either, the taker has taken a prefix of the bytes that were left. It is
 /// given at most `limit` bytes. Each turn takes a byte or is the last, so the call returns.
+#[tactic(auto, using(crate::proofs::Counts::rose_later))]
 pub fn read_into<S: Source, T: Taker>(
     source: &mut S,
     limit: usize,

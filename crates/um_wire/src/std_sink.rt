@@ -39,6 +39,7 @@ impl<W: Write> Sink for StdSink<W> {
     ghost faults = { λ s. s.faults };
 
     /// Writes to the writer once, and flushes it.
+    #[tactic(auto, unfolding(crate::specs::Faults::Rose))]
     fn write(&mut self, from: &[u8]) -> Result<usize, Failed>
         ensures bound { TakesSome result from.now }
         ensures never_falls { self.old.faults ≤ self.new.faults }

@@ -37,6 +37,7 @@ impl<R: Read> Source for StdSource<R> {
     ghost faults = { λ s. s.faults };
 
     /// Reads from the reader once. An error of it, whatever its kind, is a fault.
+    #[tactic(auto, unfolding(crate::specs::Faults::Rose))]
     fn read(&mut self, into: &mut [u8]) -> Result<usize, Failed>
         ensures bound { ReadsAtMost result into.new }
         ensures bytes { ReadConsumes (R.remaining self.old.reader) (R.remaining self.new.reader)

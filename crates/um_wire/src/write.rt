@@ -8,6 +8,7 @@ use crate::{Failed, Sink};
 
 /// Writes all of `bytes`, in order. Where a write fails, it stops there, and the sink has taken a
 /// prefix of `bytes`. No bytes make no write. It takes no memory.
+#[tactic(auto, using(crate::proofs::Counts::rose_later))]
 pub fn write_all<K: Sink>(sink: &mut K, bytes: &[u8]) -> Result<(), Failed>
     ensures all { OnOk result (Appends (K.taken sink.old) (K.taken sink.new) bytes.now) }
     ensures prefix { OnErr result (AppendsPrefix (K.taken sink.old) (K.taken sink.new) bytes.now) }
