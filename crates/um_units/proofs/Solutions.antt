@@ -11,9 +11,6 @@ use Rattle.um_units.specs.Solutions.{Solves, IsJointSolution, IsSolvable, IsInst
 use Rattle.um_units.proofs.Replacement.{replace-one, replace-replace, replace-same, replace-nth_map}
 
 -- ---- the rows that a substitution solves
-IsSolved : (ℕ → PowerMap) → PowerMap → Type 0
-IsSolved s row = replace s row ≡ one
-
 pub Solves-nil : (s : ℕ → PowerMap) → Solves s []
 Solves-nil s = All-nil (λ row. replace s row ≡ one)
 

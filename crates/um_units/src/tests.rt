@@ -15,12 +15,12 @@ const V: Atom = Atom::Var(1);
 
 const MAX: i32 = 2147483647;
 
-fn power(atom: Atom, power: i32) -> Term {
-    Term { atom, power }
+macro_rules! terms {
+    ($($atom:ident ^ $power:expr),*) => { &[$(Term { atom: $atom, power: $power }),*] };
 }
 
-/// Whether the answer has the terms, or Range where there are none to have.
-fn answers(answer: &Result<Unit, UnitStop>, want: &Option<&[Term]>) -> bool {
+/// Whether the answer has the terms, or is Range where there are none to have.
+fn is_answer(answer: &Result<Unit, UnitStop>, want: &Option<&[Term]>) -> bool {
     match answer {
         Ok(unit) => *want == Some(unit.terms()),
         Err(UnitStop::Range) => want.is_none(),
@@ -28,174 +28,284 @@ fn answers(answer: &Result<Unit, UnitStop>, want: &Option<&[Term]>) -> bool {
     }
 }
 
+/// A unit times the k-th power of another, and the terms of the result, or none where it is out of range.
+struct Product {
+    left: &'static [Term],
+    right: &'static [Term],
+    k: i32,
+    want: Option<&'static [Term]>,
+}
+
+static PRODUCTS: [Product; 10] = [
+    // N = kg m/s^2, and J = N m
+    Product {
+        left: terms![KG ^ 1, M ^ 1],
+        right: terms![S ^ 1],
+        k: -2,
+        want: Some(terms![M ^ 1, S ^ -2, KG ^ 1]),
+    },
+    Product {
+        left: terms![KG ^ 1, M ^ 1, S ^ -2],
+        right: terms![M ^ 1],
+        k: 1,
+        want: Some(terms![M ^ 2, S ^ -2, KG ^ 1]),
+    },
+    Product {
+        left: terms![M ^ 1, S ^ -1],
+        right: terms![M ^ 1, S ^ -1],
+        k: -1,
+        want: Some(terms![]),
+    },
+    // base units come before variables
+    Product {
+        left: terms![U ^ 1],
+        right: terms![KG ^ 3, V ^ -1],
+        k: 2,
+        want: Some(terms![KG ^ 6, U ^ 1, V ^ -2]),
+    },
+    // only the result's powers count
+    Product {
+        left: terms![M ^ -MAX],
+        right: terms![M ^ 2],
+        k: MAX,
+        want: Some(terms![M ^ MAX]),
+    },
+    Product {
+        left: terms![M ^ -MAX],
+        right: terms![M ^ 2],
+        k: -1,
+        want: None,
+    },
+    // both ends of the range
+    Product {
+        left: terms![M ^ (MAX - 1)],
+        right: terms![M ^ 1],
+        k: 1,
+        want: Some(terms![M ^ MAX]),
+    },
+    Product {
+        left: terms![M ^ MAX],
+        right: terms![M ^ 1],
+        k: 1,
+        want: None,
+    },
+    Product {
+        left: terms![M ^ (1 - MAX)],
+        right: terms![M ^ 1],
+        k: -1,
+        want: Some(terms![M ^ -MAX]),
+    },
+    Product {
+        left: terms![U ^ -MAX],
+        right: terms![U ^ 1],
+        k: -1,
+        want: None,
+    },
+];
+
 #[test]
 fn products(rt: HostRuntime) -> Result<(), Fail> {
     let alloc = rt.alloc();
-    // The first factor, the second, its power, and the terms of the result, or none where it is out of range.
-    let cases: [(&[Term], &[Term], i32, Option<&[Term]>); 10] = [
-        // N = kg m/s^2, and J = N m
-        (
-            &[power(KG, 1), power(M, 1)],
-            &[power(S, 1)],
-            -2,
-            Some(&[power(M, 1), power(S, -2), power(KG, 1)]),
-        ),
-        (
-            &[power(KG, 1), power(M, 1), power(S, -2)],
-            &[power(M, 1)],
-            1,
-            Some(&[power(M, 2), power(S, -2), power(KG, 1)]),
-        ),
-        (
-            &[power(M, 1), power(S, -1)],
-            &[power(M, 1), power(S, -1)],
-            -1,
-            Some(&[]),
-        ),
-        // base units come before variables
-        (
-            &[power(U, 1)],
-            &[power(KG, 3), power(V, -1)],
-            2,
-            Some(&[power(KG, 6), power(U, 1), power(V, -2)]),
-        ),
-        // only the result's powers count
-        (
-            &[power(M, -MAX)],
-            &[power(M, 2)],
-            MAX,
-            Some(&[power(M, MAX)]),
-        ),
-        (&[power(M, -MAX)], &[power(M, 2)], -1, None),
-        // both ends of the range
-        (
-            &[power(M, MAX - 1)],
-            &[power(M, 1)],
-            1,
-            Some(&[power(M, MAX)]),
-        ),
-        (&[power(M, MAX)], &[power(M, 1)], 1, None),
-        (
-            &[power(M, 1 - MAX)],
-            &[power(M, 1)],
-            -1,
-            Some(&[power(M, -MAX)]),
-        ),
-        (&[power(U, -MAX)], &[power(U, 1)], -1, None),
-    ];
-    for (left, right, k, want) in cases {
-        let left = Unit::from_terms(alloc, left)?;
-        let right = Unit::from_terms(alloc, right)?;
-        let answer = left.mul_pow(alloc, &right, k);
+    for case in &PRODUCTS {
+        let left = Unit::from_terms(alloc, case.left)?;
+        let right = Unit::from_terms(alloc, case.right)?;
+        let answer = left.mul_pow(alloc, &right, case.k);
         assert!(rt;
-            answers(&answer, &want),
-            "{left:?} {right:?} {k}: {answer:?}"
+            is_answer(&answer, &case.want),
+            "{left:?} {right:?}: {answer:?}"
         );
     }
     Ok(())
 }
 
+/// A power of a unit, and its terms, or none where it is out of range.
+struct Power {
+    base: &'static [Term],
+    k: i32,
+    want: Option<&'static [Term]>,
+}
+
+static POWERS: [Power; 8] = [
+    Power {
+        base: terms![M ^ 1, S ^ -1],
+        k: 3,
+        want: Some(terms![M ^ 3, S ^ -3]),
+    },
+    Power {
+        base: terms![M ^ 1, S ^ -1],
+        k: 0,
+        want: Some(terms![]),
+    },
+    Power {
+        base: terms![],
+        k: i32::MIN,
+        want: Some(terms![]),
+    },
+    Power {
+        base: terms![M ^ -1],
+        k: MAX,
+        want: Some(terms![M ^ -MAX]),
+    },
+    Power {
+        base: terms![M ^ 1],
+        k: i32::MIN,
+        want: None,
+    },
+    Power {
+        base: terms![M ^ 32768],
+        k: 65535,
+        want: Some(terms![M ^ 2147450880]),
+    },
+    Power {
+        base: terms![M ^ 32768],
+        k: 65536,
+        want: None,
+    },
+    Power {
+        base: terms![M ^ 1, U ^ 32768],
+        k: -65536,
+        want: None,
+    },
+];
+
 #[test]
 fn powers(rt: HostRuntime) -> Result<(), Fail> {
     let alloc = rt.alloc();
-    // The unit, the power, and the terms of the result, or none where it is out of range.
-    let cases: [(&[Term], i32, Option<&[Term]>); 8] = [
-        (
-            &[power(M, 1), power(S, -1)],
-            3,
-            Some(&[power(M, 3), power(S, -3)]),
-        ),
-        (&[power(M, 1), power(S, -1)], 0, Some(&[])),
-        (&[], i32::MIN, Some(&[])),
-        (&[power(M, -1)], MAX, Some(&[power(M, -MAX)])),
-        (&[power(M, 1)], i32::MIN, None),
-        (&[power(M, 32768)], 65535, Some(&[power(M, 2147450880)])),
-        (&[power(M, 32768)], 65536, None),
-        (&[power(M, 1), power(U, 32768)], -65536, None),
-    ];
-    for (terms, k, want) in cases {
-        let base = Unit::from_terms(alloc, terms)?;
-        let answer = base.pow(alloc, k);
-        assert!(rt; answers(&answer, &want), "{base:?} {k}: {answer:?}");
+    for case in &POWERS {
+        let base = Unit::from_terms(alloc, case.base)?;
+        let answer = base.pow(alloc, case.k);
+        assert!(rt; is_answer(&answer, &case.want), "{base:?}: {answer:?}");
     }
     Ok(())
 }
+
+/// A unit with others put for its two variables, and its terms, or none where it is out of range.
+struct Replacement {
+    unit: &'static [Term],
+    first: &'static [Term],
+    second: &'static [Term],
+    want: Option<&'static [Term]>,
+}
+
+static REPLACEMENTS: [Replacement; 6] = [
+    Replacement {
+        unit: terms![M ^ 1, U ^ 2, V ^ -3],
+        first: terms![V ^ 3],
+        second: terms![V ^ 2],
+        want: Some(terms![M ^ 1]),
+    },
+    Replacement {
+        unit: terms![U ^ 1, V ^ 1],
+        first: terms![V ^ 1, KG ^ 1],
+        second: terms![U ^ 1],
+        want: Some(terms![KG ^ 1, U ^ 1, V ^ 1]),
+    },
+    // u v^2147483647 = 1 is solved by u = v^-2147483647, and then u^2 is out of range
+    Replacement {
+        unit: terms![U ^ 1, V ^ MAX],
+        first: terms![V ^ -MAX],
+        second: terms![V ^ 1],
+        want: Some(terms![]),
+    },
+    Replacement {
+        unit: terms![U ^ 1],
+        first: terms![V ^ -MAX],
+        second: terms![V ^ 1],
+        want: Some(terms![V ^ -MAX]),
+    },
+    Replacement {
+        unit: terms![U ^ 2],
+        first: terms![V ^ -MAX],
+        second: terms![V ^ 1],
+        want: None,
+    },
+    // only the result's powers count
+    Replacement {
+        unit: terms![U ^ 2, V ^ -1],
+        first: terms![M ^ MAX],
+        second: terms![M ^ MAX],
+        want: Some(terms![M ^ MAX]),
+    },
+];
 
 #[test]
 fn replacements(rt: HostRuntime) -> Result<(), Fail> {
     let alloc = rt.alloc();
-    // The unit, what is put for its two variables, and the terms of the result, or none where it is out of range.
-    let cases: [(&[Term], &[Term], &[Term], Option<&[Term]>); 6] = [
-        (
-            &[power(M, 1), power(U, 2), power(V, -3)],
-            &[power(V, 3)],
-            &[power(V, 2)],
-            Some(&[power(M, 1)]),
-        ),
-        (
-            &[power(U, 1), power(V, 1)],
-            &[power(V, 1), power(KG, 1)],
-            &[power(U, 1)],
-            Some(&[power(KG, 1), power(U, 1), power(V, 1)]),
-        ),
-        // x y^2147483647 = 1 is solved by x = y^-2147483647, and then x^2 is out of range
-        (
-            &[power(U, 1), power(V, MAX)],
-            &[power(V, -MAX)],
-            &[power(V, 1)],
-            Some(&[]),
-        ),
-        (
-            &[power(U, 1)],
-            &[power(V, -MAX)],
-            &[power(V, 1)],
-            Some(&[power(V, -MAX)]),
-        ),
-        (&[power(U, 2)], &[power(V, -MAX)], &[power(V, 1)], None),
-        // only the result's powers count
-        (
-            &[power(U, 2), power(V, -1)],
-            &[power(M, MAX)],
-            &[power(M, MAX)],
-            Some(&[power(M, MAX)]),
-        ),
-    ];
-    for (terms, first, second, want) in cases {
-        let before = Unit::from_terms(alloc, terms)?;
+    for case in &REPLACEMENTS {
+        let unit = Unit::from_terms(alloc, case.unit)?;
         let by = [
-            Unit::from_terms(alloc, first)?,
-            Unit::from_terms(alloc, second)?,
+            Unit::from_terms(alloc, case.first)?,
+            Unit::from_terms(alloc, case.second)?,
         ];
-        let answer = before.replace(alloc, &by);
-        assert!(rt; answers(&answer, &want), "{before:?} {by:?}: {answer:?}");
+        let answer = unit.replace(alloc, &by);
+        assert!(rt;
+            is_answer(&answer, &case.want),
+            "{unit:?} {by:?}: {answer:?}"
+        );
+    }
+    Ok(())
+}
+
+/// A unit, its inverse, and its power at the second.
+struct Single {
+    unit: &'static [Term],
+    inverse: &'static [Term],
+    at_s: i32,
+}
+
+static SINGLES: [Single; 4] = [
+    Single {
+        unit: terms![],
+        inverse: terms![],
+        at_s: 0,
+    },
+    Single {
+        unit: terms![M ^ 1, S ^ -2],
+        inverse: terms![M ^ -1, S ^ 2],
+        at_s: -2,
+    },
+    Single {
+        unit: terms![KG ^ 5, U ^ 1],
+        inverse: terms![KG ^ -5, U ^ -1],
+        at_s: 0,
+    },
+    Single {
+        unit: terms![S ^ MAX, V ^ -MAX],
+        inverse: terms![S ^ -MAX, V ^ MAX],
+        at_s: MAX,
+    },
+];
+
+#[test]
+fn single_units(rt: HostRuntime) -> Result<(), Fail> {
+    let alloc = rt.alloc();
+    for case in &SINGLES {
+        let unit = Unit::from_terms(alloc, case.unit)?;
+        assert_eq!(rt; unit.inv(alloc)?.terms(), case.inverse);
+        assert_eq!(rt; unit.power_of(S), case.at_s);
+        let copy = unit.copy(alloc)?;
+        assert!(rt; copy.same(&unit));
     }
     Ok(())
 }
 
 #[test]
-fn other_calls(rt: HostRuntime) -> Result<(), Fail> {
+fn atoms(rt: HostRuntime) -> Result<(), Fail> {
     let alloc = rt.alloc();
-    let one = Unit::one(alloc);
     let metre = Unit::atom(alloc, M)?;
-    let speed = metre.mul(alloc, &Unit::atom(alloc, S)?.inv(alloc)?)?;
-    let both_ends = Unit::from_terms(alloc, &[power(M, MAX), power(U, -MAX)])?;
-    assert_eq!(rt; one.terms().len(), 0);
-    assert_eq!(rt; metre.terms(), [power(M, 1)].as_slice());
-    assert_eq!(rt; speed.terms(), [power(M, 1), power(S, -1)].as_slice());
-    assert_eq!(rt;
-        both_ends.inv(alloc)?.terms(),
-        [power(M, -MAX), power(U, MAX)].as_slice()
-    );
-    for (atom, want) in [(M, 1), (S, -1), (KG, 0), (U, 0)] {
-        assert_eq!(rt; speed.power_of(atom), want);
-    }
-    assert!(rt; speed.same(&speed.copy(alloc)?));
-    assert!(rt; !speed.same(&metre) && !metre.same(&speed) && !one.same(&metre));
-    let units = Units::from_vec(vec![in alloc; one, speed]?);
-    let copy = units.copy(alloc)?.into_vec();
-    assert_eq!(rt; copy.len(), 2);
-    for (unit, equal) in copy.iter().zip(units.as_slice()) {
-        assert!(rt; unit.same(equal));
-    }
+    assert!(rt; !metre.same(&Unit::one(alloc)));
+    let area = metre.mul(alloc, &metre)?;
+    assert_eq!(rt; area.terms(), terms![M ^ 2].as_slice());
+    Ok(())
+}
+
+#[test]
+fn lists(rt: HostRuntime) -> Result<(), Fail> {
+    let alloc = rt.alloc();
+    let mut items = Vec::new(alloc);
+    items.push(Unit::one(alloc))?;
+    let copy = Units::from_vec(items).copy(alloc)?;
+    assert_eq!(rt; copy.as_slice().len(), 1);
+    assert_eq!(rt; copy.into_vec().len(), 1);
     Ok(())
 }
