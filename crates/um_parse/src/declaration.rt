@@ -1,8 +1,5 @@
 // Declarations as they are written, before their names are looked up.
-
 use um_tree::Name;
-
-ghost use Rattle.std.specs.Prelude.{◌≡◌, []};
 
 /// A name at its place in the text.
 #[derive(Drop)]
