@@ -1,10 +1,10 @@
 -- A state of the reader that isn't refused spells the bytes that were read.
-use Rattle.std.proofs.Common.{◌≡◌, inl, inr, ℕ, Bool, true, false, cond, eqb, List, [], ◌∷◌, ◌++◌, Option, Some, None, refl, sym, ap, ◌∙◌, subst, append_assoc, append-nil}
+use Rattle.std.proofs.Common.{◌≡◌, inl, inr, ℕ, Bool, true, false, cond, List, [], ◌∷◌, ◌++◌, Option, Some, None, refl, sym, ap, ◌∙◌, subst, append_assoc, append-nil}
 use Rattle.std.specs.Prelude.{codes, nat_eq}
 use Rattle.std.specs.List.{flat_map, join_by}
 use Rattle.std.proofs.lemmas.Bool.{eqb-true}
 use Rattle.std.proofs.lemmas.List.Concat.{flat_map-append}
-use Rattle.um_parse.specs.ProductText.{Parameter, Declaration, measure, function, unit_text, parameter_text, declaration_text, lines, Spells}
+use Rattle.um_parse.specs.ProductText.{Declaration, measure, function, unit_text, parameter_text, declaration_text, lines, Spells}
 use Rattle.um_parse.specs.declared.layout.Place.{Place}
 use Rattle.um_parse.specs.declared.layout.Place.TheVariants.{Line, Measure, Function, Choice, Parameter as InParameter, Note, Unit as InUnit, Factor}
 use Rattle.um_parse.specs.Layout.{Draft, State, refused, reading, fresh, is_name_byte, takes_name, with_factor, with_measure, with_parameter, with_function, after, in_place, step, run, start, or_else, finished, ended}
@@ -60,9 +60,10 @@ Stands (reading fixed place d) text = (d ≡ shape place d) × (text ++ fixed �
 moves : (change : Draft → Draft) (from to : Place) (d : Draft) (text fixed : List ℕ) (c : ℕ) → Stands (reading [] from d) text
     → change (shape from d) ≡ shape to (change (shape from d)) → written from d ++ c ∷ fixed ≡ written to (change (shape from d))
     → Stands (reading fixed to (change d)) (text ++ c ∷ [])
-moves change from to d text fixed c s same e =
-    (ap change s.0 ∙ same ∙ sym (ap (λ x. shape to (change x)) s.0)
-    , append_assoc text (c ∷ []) fixed ∙ ap (λ t. t ++ c ∷ fixed) (sym (append-nil text) ∙ s.1) ∙ e ∙ sym (ap (λ x. written to (change x)) s.0))
+moves change from to d text fixed c s same e = (
+  ap change s.0 ∙ same ∙ sym (ap (λ x. shape to (change x)) s.0),
+  append_assoc text (c ∷ []) fixed ∙ ap (λ t. t ++ c ∷ fixed) (sym (append-nil text) ∙ s.1) ∙ e ∙ sym (ap (λ x. written to (change x)) s.0),
+)
 
 -- a byte that is looked for
 chosen : (c k : ℕ) (st other : State) (text : List ℕ) → Stands st (text ++ k ∷ []) → Stands other (text ++ c ∷ []) → Stands (cond (nat_eq c k) st other) (text ++ c ∷ [])
@@ -85,7 +86,7 @@ unit_end d =
     let parameter : List ℕ → List ℕ = λ t. (((codes " (" ++ d.param) ++ codes ": num") ++ t) ++ codes ")" in
     let last : parameter (unit_text (d.unit ++ d.name ∷ [])) ≡ parameter (codes "<" ++ ((names ++ d.name) ++ codes ">")) = ap parameter (unit_text-push d.unit d.name) in
     let params : flat_map parameter_text (d.params ++ (record { name = d.param; unit = d.unit ++ d.name ∷ [] }) ∷ [])
-        ≡ flat_map parameter_text d.params ++ parameter (unit_text (d.unit ++ d.name ∷ [])) = flat_map-append parameter_text d.params _ ∙ ap (λ t. flat_map parameter_text d.params ++ t) (append-nil _) in
+    ≡ flat_map parameter_text d.params ++ parameter (unit_text (d.unit ++ d.name ∷ [])) = flat_map-append parameter_text d.params _ ∙ ap (λ t. flat_map parameter_text d.params ++ t) (append-nil _) in
     six (head d) (codes " (") d.param (codes ": num<") names d.name (codes ">) ")
     ∙ ap (λ t. head d ++ t) (sym (nine (codes " (") d.param (codes ": num") (codes "<") names d.name (codes ">") (codes ")") (codes " ")))
     ∙ ap (λ t. head d ++ (t ++ codes " ")) (sym last)

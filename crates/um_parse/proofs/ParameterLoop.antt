@@ -1,9 +1,8 @@
 -- The parameters of a function, read one after another.
-use Rattle.std.proofs.Common.{◌≡◌, ℕ, ◌+◌, ◌<◌, ◌≤◌, List, [], ◌∷◌, ◌++◌, map, take, drop, length, get_or, refl, sym, ap, ◌∙◌, subst, arith, append_assoc, append-nil, add-one}
+use Rattle.std.proofs.Common.{◌≡◌, ℕ, ◌+◌, ◌<◌, ◌≤◌, List, [], ◌∷◌, ◌++◌, map, take, drop, length, get_or, refl, sym, ap, ◌∙◌, subst, append_assoc, append-nil, add-one}
 use Rattle.std.proofs.lemmas.List.{take_more, take_all, drop_all, map-append}
 use Rattle.std.proofs.Math.Seq.{drop-cons}
-use Rattle.um_tree.specs.TypeTree.{NoteTree, num_note}
-use Rattle.um_tree.specs.declared.note.UnitNote.TheVariants.{Written}
+use Rattle.um_tree.specs.TypeTree.{NoteTree}
 use Rattle.um_parse.specs.ProductText.{Parameter}
 use Rattle.um_parse.specs.ProductProgram.{AreParameters}
 use Rattle.um_parse.specs.Resolved.{NoParameter, IsParameter}
@@ -29,7 +28,7 @@ reads_more bases ps i names new notes p note r lt same is =
           ∙ sym (map-append (λ (q : Parameter). q.name) (take i ps) (p ∷ [])) ∙ ap parameter_names (ap (λ q. take i ps ++ q ∷ []) same ∙ sym (take_more ps i p lt));
       enough = λ rest h.
           let here : AreParameters bases names (p ∷ drop (i + 1) ps) (note ∷ rest) =
-              (is.unit, rest, is.name, is.is_unit, is.fit, subst (λ (t : List (List ℕ)). AreParameters bases t (drop (i + 1) ps) rest) is.added h, ap (λ n. n ∷ rest) is.noted) in
+          (is.unit, rest, is.name, is.is_unit, is.fit, subst (λ (t : List (List ℕ)). AreParameters bases t (drop (i + 1) ps) rest) is.added h, ap (λ n. n ∷ rest) is.noted) in
           subst (AreParameters bases [] ps) (sym (append_assoc notes (note ∷ []) rest)) (r.enough (note ∷ rest) (subst (λ (t : List Parameter). AreParameters bases names t (note ∷ rest)) (sym next) here));
       needed = λ all h.
           let before = r.needed all h in
@@ -47,6 +46,7 @@ reads_stop bases ps i names notes p r lt same none all h =
 
 pub reads_all : (bases : List (List ℕ)) (ps : List Parameter) (i : ℕ) (names : List (List ℕ)) (notes : List NoteTree) → Reads bases ps i names notes → length ps ≤ i
     → (names ≡ parameter_names ps) × AreParameters bases [] ps notes
-reads_all bases ps i names notes r past =
-    (r.named ∙ ap parameter_names (take_all i ps past)
-    , subst (AreParameters bases [] ps) (append-nil notes) (r.enough [] (subst (λ (t : List Parameter). AreParameters bases names t []) (sym (drop_all i ps past)) refl)))
+reads_all bases ps i names notes r past = (
+  r.named ∙ ap parameter_names (take_all i ps past),
+  subst (AreParameters bases [] ps) (append-nil notes) (r.enough [] (subst (λ (t : List Parameter). AreParameters bases names t []) (sym (drop_all i ps past)) refl)),
+)

@@ -1,5 +1,5 @@
 -- Declarations, taken one after another.
-use Rattle.std.proofs.Common.{◌≡◌, ℕ, ◌+◌, ◌<◌, ◌≤◌, Bool, true, false, List, [], ◌∷◌, ◌++◌, map, take, drop, length, get_or, refl, sym, ap, ◌∙◌, subst, inl, inr, arith, add-one}
+use Rattle.std.proofs.Common.{◌≡◌, ℕ, ◌+◌, ◌<◌, ◌≤◌, Bool, true, false, List, [], ◌∷◌, ◌++◌, drop, length, get_or, refl, sym, ap, ◌∙◌, subst, inl, inr, arith, add-one}
 use Rattle.std.specs.Prelude.{slice_get, Some, Contains, ◌⊎◌, MatchBool, IsTrue}
 use Rattle.std.proofs.lemmas.List.{drop_all, map-append, length-map, length-append, get_or_push, get_or_append_left}
 use Rattle.std.proofs.lemmas.Bool.{cases_lt}
@@ -8,7 +8,7 @@ use Rattle.std.proofs.Math.Seq.{drop-cons}
 use Rattle.um_tree.specs.Formed.{AreDistinct}
 use Rattle.um_tree.specs.ProgramTree.{FunctionTree, ProgramTree}
 use Rattle.um_parse.specs.ProductText.{Declaration, measure, function}
-use Rattle.um_parse.specs.ProductProgram.{IsNew, IsFunction, Makes}
+use Rattle.um_parse.specs.ProductProgram.{IsNew, Makes}
 use Rattle.um_parse.specs.Resolved.{Known, function_names, Declares, CannotStand, Answers}
 use Rattle.um_parse.proofs.NameLists.{Contains-numbered}
 
@@ -42,8 +42,8 @@ made_more known new (measure x) ds p fs same h m =
     (fs, same ∙ ap (λ (k : Known). function_names k.functions) (sym h.1), subst (λ (k : Known). Makes k.bases fs ds p) (sym h.1) m.1)
 made_more known new (function x ps xs) ds p fs same h m =
     let names : function_names (fs ++ m.0 ∷ []) ≡ function_names (known.functions ++ h.0 ∷ []) =
-        map-append (λ (g : FunctionTree). g.name) fs (m.0 ∷ []) ∙ ap (λ t. t ++ m.0.name ∷ []) same
-        ∙ ap (λ n. function_names known.functions ++ n ∷ []) (m.2.called ∙ sym h.2.called) ∙ sym (map-append (λ (g : FunctionTree). g.name) known.functions (h.0 ∷ [])) in
+    map-append (λ (g : FunctionTree). g.name) fs (m.0 ∷ []) ∙ ap (λ t. t ++ m.0.name ∷ []) same
+    ∙ ap (λ n. function_names known.functions ++ n ∷ []) (m.2.called ∙ sym h.2.called) ∙ sym (map-append (λ (g : FunctionTree). g.name) known.functions (h.0 ∷ [])) in
     (fs ++ m.0 ∷ [], names ∙ ap (λ (k : Known). function_names k.functions) (sym h.3), subst (λ (k : Known). Makes k.bases (fs ++ m.0 ∷ []) ds p) (sym h.3) m.3)
 
 makes_none : (known : Known) (d : Declaration) (ds : List Declaration) (p : ProgramTree) (fs : List FunctionTree)
@@ -94,8 +94,10 @@ pushed : (xs : List (List ℕ)) (x : List ℕ) (i : ℕ) (y : List ℕ) → slic
 pushed xs x i y h = by (cases_lt i (length xs)) where
   lt : i < length (xs ++ x ∷ [])
   lt = slice_get_within (xs ++ x ∷ []) i y h
+
   at : get_or (xs ++ x ∷ []) i y ≡ y
   at = get_or_from_slice_get (xs ++ x ∷ []) i y y h
+
   by : (i < length xs) ⊎ (length xs ≤ i) → ((i < length xs) × (slice_get xs i ≡ Some y)) ⊎ ((i ≡ length xs) × (x ≡ y))
   by (inl l) = inl (l, slice_get-get_or xs i y l ∙ ap Some (sym (get_or_append_left xs (x ∷ []) y i l) ∙ at))
   by (inr g) =

@@ -1,7 +1,6 @@
 -- The unit of some names, which is that of their front times that of their back.
 use Rattle.std.proofs.Common.{◌≡◌, ℕ, ◌+◌, ◌≤◌, ◌<◌, length, get_or, Bool, true, false, List, [], ◌∷◌, ◌++◌, ℤ, pos, nat_abs, ◌+ℤ◌, refl, sym, ap, ◌∙◌, subst, arith}
 use Rattle.std.specs.Prelude.{IsTrue, if◌then◌else◌, slice_get, Option, Some, None, Result, Ok, Err, IfOk}
-use Rattle.std.proofs.lemmas.Int.{ints}
 use Rattle.um_units.specs.declared.Atom.{Atom}
 use Rattle.um_units.specs.declared.Atom.TheVariants.{Base}
 use Rattle.um_units.specs.Atoms.{same_atom}
@@ -42,7 +41,7 @@ unit-parts bases (x ∷ xs) ys u h =
       back = rest.back;
       is_front = (h.0, rest.front, h.2, rest.is_front, refl);
       is_back = rest.is_back;
-      whole = h.4 ∙ ap (mul (atom (Base h.0))) rest.whole ∙ sym (mul_assoc (atom (Base h.0)) rest.front rest.back)
+      whole = h.4 ∙ ap (mul (atom (Base h.0))) rest.whole ∙ sym (mul_assoc (atom (Base h.0)) rest.front rest.back);
     }
 
 -- ---- no power is negative
@@ -59,19 +58,20 @@ natural : (bases xs : List (List ℕ)) (u : PowerMap) → IsUnitOf bases xs u �
 natural bases [] u h x = (0, ap (λ v. power_of v x) h ∙ weight-one (indicator x))
 natural bases (y ∷ ys) u h x =
     let rest = natural bases ys h.1 h.3 x in
-    let first = natural-indicator x (Base h.0) in
-    (first.0 + rest.0
-    , ap (λ v. power_of v x) h.4 ∙ weight-mul (indicator x) (atom (Base h.0)) h.1 ∙ ap (λ z. z +ℤ power_of h.1 x) (weight-atom (indicator x) (Base h.0) ∙ first.1) ∙ ap (λ z. pos first.0 +ℤ z) rest.1)
+    let first = natural-indicator x (Base h.0) in (
+      first.0 + rest.0,
+      ap (λ v. power_of v x) h.4 ∙ weight-mul (indicator x) (atom (Base h.0)) h.1 ∙ ap (λ z. z +ℤ power_of h.1 x) (weight-atom (indicator x) (Base h.0) ∙ first.1) ∙ ap (λ z. pos first.0 +ℤ z) rest.1,
+    )
 
 -- where a product is in range, its factor is
 fits-factor : (v w : PowerMap) → ((x : Atom) → Natural (power_of v x)) → ((x : Atom) → Natural (power_of w x)) → IsTrue (fits (mul v w)) → IsTrue (fits v)
 fits-factor v w nv nw h =
     fits_from_powers v (λ x.
-        let a = nv x in
-        let b = nw x in
-        let all : power_of (mul v w) x ≡ pos (a.0 + b.0) = weight-mul (indicator x) v w ∙ ap (λ z. z +ℤ power_of w x) a.1 ∙ ap (λ z. pos a.0 +ℤ z) b.1 in
-        let whole : a.0 + b.0 ≤ 2147483647 = subst (λ (z : ℤ). nat_abs z ≤ 2147483647) all (fits-power_of (mul v w) h x) in
-        subst (λ (z : ℤ). nat_abs z ≤ 2147483647) (sym a.1) (omega (arith, whole)))
+    let a = nv x in
+    let b = nw x in
+    let all : power_of (mul v w) x ≡ pos (a.0 + b.0) = weight-mul (indicator x) v w ∙ ap (λ z. z +ℤ power_of w x) a.1 ∙ ap (λ z. pos a.0 +ℤ z) b.1 in
+    let whole : a.0 + b.0 ≤ 2147483647 = subst (λ (z : ℤ). nat_abs z ≤ 2147483647) all (fits-power_of (mul v w) h x) in
+    subst (λ (z : ℤ). nat_abs z ≤ 2147483647) (sym a.1) (omega (arith, whole)))
 
 pub fits-front : (bases xs ys : List (List ℕ)) (v w : PowerMap) → IsUnitOf bases xs v → IsUnitOf bases ys w → IsTrue (fits (mul v w)) → IsTrue (fits v)
 fits-front bases xs ys v w hv hw = fits-factor v w (natural bases xs v hv) (natural bases ys w hw)
@@ -82,8 +82,8 @@ fits-back bases xs ys v w hv hw h = fits-factor w v (natural bases ys w hw) (nat
 pub fits-base : (k : ℕ) → IsTrue (fits (atom (Base k)))
 fits-base k =
     fits_from_powers (atom (Base k)) (λ x.
-        let power : power_of (atom (Base k)) x ≡ indicator x (Base k) = weight-atom (indicator x) (Base k) in
-        subst (λ (z : ℤ). nat_abs z ≤ 2147483647) (sym power) (low (same_atom x (Base k))))
+    let power : power_of (atom (Base k)) x ≡ indicator x (Base k) = weight-atom (indicator x) (Base k) in
+    subst (λ (z : ℤ). nat_abs z ≤ 2147483647) (sym power) (low (same_atom x (Base k))))
   where
     low : (b : Bool) → nat_abs (if b then pos 1 else pos 0) ≤ 2147483647
     low true = omega arith
@@ -126,8 +126,8 @@ both_parts bases names front back v w d e hv hw (Err Range) result exact range i
     let whole : IsUnitOf bases names (mul v w) = subst (λ (xs : List (List ℕ)). IsUnitOf bases xs (mul v w)) e (unit-join bases front back v w hv hw) in
     subst (λ (r : Result (Option PowerMap) AllocError). IfOk r (UnitAnswer bases names)) (sym is)
     (λ u h f.
-        let bad : true ≡ false = sym (subst (λ x. IsTrue (fits x)) (unit-unique bases names u (mul v w) d h whole) f) ∙ range in
-        cc)
+    let bad : true ≡ false = sym (subst (λ x. IsTrue (fits x)) (unit-unique bases names u (mul v w) d h whole) f) ∙ range in
+    cc)
 both_parts bases names front back v w d e hv hw (Err NoMemory) result exact range is =
     subst (λ (r : Result (Option PowerMap) AllocError). IfOk r (UnitAnswer bases names)) (sym is) tt
 

@@ -106,7 +106,7 @@ draft r = record {
   factors = names_of r.function.factors.items;
   param = r.parameter.name;
   unit = r.parameter.unit.items;
-  name = r.name.items
+  name = r.name.items;
 }
 
 abbrev pub state : Reader → State

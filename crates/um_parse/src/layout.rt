@@ -4,7 +4,6 @@ ghost use Rattle.um_parse.specs.ProductText.{Declaration, measure, function, Spe
 ghost use Rattle.um_parse.specs.LayoutNames.{AreNamed, ReadsAs};
 ghost use Rattle.um_parse.specs.Declarations.{declarations_of};
 ghost use Rattle.um_parse.specs.Layout.{state, draft, reading, refused, start, step, after, is_name_byte, takes_name, with_factor, with_measure, with_parameter, with_function, finished, ended, Goes};
-
 ghost use Rattle.um_parse.specs.declared.layout.Place.TheVariants.{Line, Measure, Function, Choice, Parameter, Note, Unit, Factor};
 
 use crate::declaration::{DeclarationText, FunctionText, ParameterText, Word};
@@ -55,7 +54,10 @@ fn no_function(alloc: Global) -> FunctionText
     ensures factors { result.factors.items ≡ [] }
 {
     FunctionText {
-        word: Word { at: 0, name: Name::from_vec(Vec::new(alloc)) },
+        word: Word {
+            at: 0,
+            name: Name::from_vec(Vec::new(alloc)),
+        },
         params: Vec::new(alloc),
         factors: Vec::new(alloc),
     }
@@ -65,7 +67,10 @@ fn no_parameter(alloc: Global) -> ParameterText
     ensures name { result.name ≡ [] }
     ensures unit { result.unit.items ≡ [] }
 {
-    ParameterText { name: Name::from_vec(Vec::new(alloc)), unit: Vec::new(alloc) }
+    ParameterText {
+        name: Name::from_vec(Vec::new(alloc)),
+        unit: Vec::new(alloc),
+    }
 }
 
 /// Whether a name may go on with the byte.
@@ -106,7 +111,10 @@ impl Reader {
         ensures left { state self.new ≡ reading self.old.fixed.now self.old.place (record (draft self.old) { name = [] }) }
     {
         let name = mem::replace(&mut self.name, Vec::new(self.alloc));
-        Word { at: self.at, name: Name::from_vec(name) }
+        Word {
+            at: self.at,
+            name: Name::from_vec(name),
+        }
     }
 
     fn go(&mut self, fixed: &'static [u8], place: Place)

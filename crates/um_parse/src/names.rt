@@ -68,7 +68,9 @@ impl KnownNames {
     pub fn new(alloc: Global) -> KnownNames
         ensures { result ≡ [] }
     {
-        KnownNames { set: IndexSet::new(alloc) }
+        KnownNames {
+            set: IndexSet::new(alloc),
+        }
     }
 
     /// The number of a name.

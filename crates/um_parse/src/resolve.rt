@@ -138,11 +138,7 @@ fn variable(names: &KnownNames, factor: &Word) -> Option<Expr>
 }
 
 /// The product of the factors from the left. A sign stands two bytes before its right factor.
-fn body(
-    alloc: Global,
-    names: &KnownNames,
-    factors: &[Word],
-) -> Result<Option<Expr>, AllocError>
+fn body(alloc: Global, names: &KnownNames, factors: &[Word]) -> Result<Option<Expr>, AllocError>
     ensures { IfOk result (λ found. MatchOption found
         ((e : ExprTree) → IsProduct names.now (names_of factors.now) e → ⊥)
         (λ e. IsProduct names.now (names_of factors.now) (expr_tree e))) }
@@ -211,11 +207,7 @@ struct Scope {
 }
 
 impl Scope {
-    fn declare_function(
-        &mut self,
-        alloc: Global,
-        text: &FunctionText,
-    ) -> Result<bool, AllocError>
+    fn declare_function(&mut self, alloc: Global, text: &FunctionText) -> Result<bool, AllocError>
         requires { HasNames self.old }
         ensures names { IfOk result (λ added. IsTrue added → HasNames self.new) }
         ensures known { IfOk result (λ added. Answers (known_of self.old) (function_of text.now) added (known_of self.new)) }
@@ -246,7 +238,10 @@ impl Scope {
 }
 
 /// The program that the declarations make.
-pub fn resolve(alloc: Global, declarations: &[DeclarationText]) -> Result<Option<Program>, AllocError>
+pub fn resolve(
+    alloc: Global,
+    declarations: &[DeclarationText],
+) -> Result<Option<Program>, AllocError>
     ensures { IfOk result (λ found. MatchOption found
         ((p : ProgramTree) → Makes [] [] (map declaration_of declarations.now) p → length p.functions ≤ 2000 → ⊥)
         (λ program. Makes [] [] (map declaration_of declarations.now) (program_tree program) × (length (program_tree program).functions ≤ 2000))) }

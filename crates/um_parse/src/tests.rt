@@ -19,13 +19,25 @@ fn counts(alloc: Global, text: &[u8]) -> Result<Option<(usize, usize)>, Fail> {
 fn texts_are_read_or_not(rt: HostRuntime) -> Result<(), Fail> {
     let alloc = rt.alloc();
     let texts: [(&[u8], Option<(usize, usize)>); 34] = [
-        (b"[<Measure>] type m\nlet area (x: num<m>) (y: num<m>) = x * y\n", Some((1, 1))),
-        (b"[<Measure>] type m\nlet area (x: num<m>) (y: num<m>) = x * y", Some((1, 1))),
+        (
+            b"[<Measure>] type m\nlet area (x: num<m>) (y: num<m>) = x * y\n",
+            Some((1, 1)),
+        ),
+        (
+            b"[<Measure>] type m\nlet area (x: num<m>) (y: num<m>) = x * y",
+            Some((1, 1)),
+        ),
         (b"", Some((0, 0))),
         (b"[<Measure>] type m", Some((1, 0))),
-        (b"[<Measure>] type m\n[<Measure>] type s\nlet f (x: num<m s m>) (y: num) = y * x * x\n", Some((2, 1))),
+        (
+            b"[<Measure>] type m\n[<Measure>] type s\nlet f (x: num<m s m>) (y: num) = y * x * x\n",
+            Some((2, 1)),
+        ),
         (b"let f (x: num) = x\nlet g (x: num) = x\n", Some((0, 2))),
-        (b"[<Measure>] type _m1\nlet m (_1: num<_m1>) = _1", Some((1, 1))),
+        (
+            b"[<Measure>] type _m1\nlet m (_1: num<_m1>) = _1",
+            Some((1, 1)),
+        ),
         // an empty line, or nothing but one
         (b"\n", None),
         (b"[<Measure>] type m\n\n", None),
@@ -106,14 +118,20 @@ fn limits_are_exact(rt: HostRuntime) -> Result<(), Fail> {
     let alloc = rt.alloc();
     for (params, factors, read) in [(16, 400, true), (17, 400, false), (16, 401, false)] {
         let found = counts(alloc, &function(alloc, params, factors)?)?;
-        assert!(rt; found.is_some() == read, "{params} parameters, {factors} factors");
+        assert!(rt;
+            found.is_some() == read,
+            "{params} parameters, {factors} factors"
+        );
     }
     for (functions, read) in [(2000, true), (2001, false)] {
         let mut text = Vec::new(alloc);
         for k in 0..functions {
             text.extend_from_slice(format!(in alloc; "let f{k} (x: num) = x\n")?.as_bytes())?;
         }
-        assert!(rt; counts(alloc, &text)?.is_some() == read, "{functions} functions");
+        assert!(rt;
+            counts(alloc, &text)?.is_some() == read,
+            "{functions} functions"
+        );
     }
     Ok(())
 }

@@ -1,4 +1,4 @@
-use Rattle.std.proofs.Common.{◌≡◌, ℕ, ◌≤◌, List, [], map, length, Option, Some, None, sym, ap, ◌∙◌, subst}
+use Rattle.std.proofs.Common.{ℕ, ◌≤◌, List, [], map, length, Option, Some, None, subst}
 use Rattle.std.specs.Prelude.{MatchOption, IfSome, IfOk}
 use Rattle.std.proofs.lemmas.Result.{IfOk-weaker}
 use Rattle.um_tree.specs.declared.program.Program.{Program}
@@ -23,8 +23,8 @@ text_makes : (text : List ℕ) (ds : List Declaration) (found : Option Program) 
 text_makes text ds (Some program) r h = record { declarations = ds; spelled = r.spelled; made = h.0; few_functions = h.1 }
 text_makes text ds None r h =
     λ p is.
-        let same = r.only is.declarations (program_named is.declarations p is.made) is.spelled in
-        h p (subst (λ (es : List Declaration). Makes [] [] es p) same is.made) is.few_functions
+    let same = r.only is.declarations (program_named is.declarations p is.made) is.spelled in
+    h p (subst (λ (es : List Declaration). Makes [] [] es p) same is.made) is.few_functions
 
 made_products : (ds : List Declaration) (found : Option Program) → Made ds found → IfSome found (λ program. HasProductFunctions (program_tree program))
 made_products ds (Some program) h = program_products ds (program_tree program) h.0

@@ -1,4 +1,4 @@
-use Rattle.std.proofs.Common.{◌≡◌, ℕ, ◌<◌, ◌+◌, List, length, sym, ap, ◌∙◌, subst, arith}
+use Rattle.std.proofs.Common.{ℕ, ◌<◌, List, length, sym, subst, arith}
 use Rattle.std.proofs.lemmas.List.{length-map}
 use Rattle.um_tree.specs.ExprTree.{expr_tree}
 use Rattle.um_parse.specs.Declarations.{names_of}
@@ -9,16 +9,16 @@ use Rattle.um_parse.proofs.resolve.body.Goals as goal
 pub returns-in_default : goal.returns-in_default
 returns-in_default c =
     λ e.
-        let factors = c.args.factors.now in
-        let few : length (names_of factors) < 1 = omega (arith, length-map factors (λ w. w.name), c.in_default.len_below) in
-        some_factor c.args.names.now (names_of factors) e few
+    let factors = c.args.factors.now in
+    let few : length (names_of factors) < 1 = omega (arith, length-map factors (λ w. w.name), c.in_default.len_below) in
+    some_factor c.args.names.now (names_of factors) e few
 
 pub returns-in_default-variable : goal.returns-in_default-variable
 returns-in_default-variable c =
     λ e h.
-        let factors = c.args.factors.now in
-        let first = c.first-item.result in
-        c.in_default-variable.ensures (factors_known c.args.names.now (names_of factors) e h first.name (Contains-word factors 0 first (omega (arith, c.in-len1-up.len_at_least)) c.first-item.is))
+    let factors = c.args.factors.now in
+    let first = c.first-item.result in
+    c.in_default-variable.ensures (factors_known c.args.names.now (names_of factors) e h first.name (Contains-word factors 0 first (omega (arith, c.in-len1-up.len_at_least)) c.first-item.is))
 
 pub loop-factor-init : goal.loop-factor-init
 loop-factor-init c =
@@ -30,10 +30,10 @@ loop-factor-init c =
 pub returns-in_default-variable-2 : goal.returns-in_default-variable-2
 returns-in_default-variable-2 c =
     λ e h.
-        let factors = c.args.factors.now in
-        let factor = c.factor-item.result in
-        c.in_default-variable-2.ensures
-        (factors_known c.args.names.now (names_of factors) e h factor.name (Contains-behind factors c.loop-factor.factor-index factor c.in-len1-up.len_at_least c.loop-factor-test.true c.factor-item.is))
+    let factors = c.args.factors.now in
+    let factor = c.factor-item.result in
+    c.in_default-variable-2.ensures
+    (factors_known c.args.names.now (names_of factors) e h factor.name (Contains-behind factors c.loop-factor.factor-index factor c.in-len1-up.len_at_least c.loop-factor-test.true c.factor-item.is))
 
 pub loop-factor-preserved : goal.loop-factor-preserved
 loop-factor-preserved c =

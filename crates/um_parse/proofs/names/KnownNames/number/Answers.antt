@@ -12,6 +12,6 @@ returns-in-Some c =
 pub returns-in-None : goal.returns-in-None
 returns-in-None c =
     λ h.
-        let found = any_from_Contains c.self.inside.set.keys c.args.name.now (subst (λ (names : List (List ℕ)). Contains names c.args.name.now) (sym c.self.view_is) h) in
-        let bad : true ≡ false = sym found ∙ sym c.in-None.ensures.found in
-        cc
+    let found = any_from_Contains c.self.inside.set.keys c.args.name.now (subst (λ (names : List (List ℕ)). Contains names c.args.name.now) (sym c.self.view_is) h) in
+    let bad : true ≡ false = sym found ∙ sym c.in-None.ensures.found in
+    cc
