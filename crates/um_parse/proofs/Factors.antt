@@ -1,11 +1,11 @@
 -- Products of variables.
 use Rattle.std.proofs.Common.{◌≡◌, ℕ, ◌+◌, ◌-◌, ◌<◌, ◌≤◌, take, drop, get_or, append_assoc, append-nil, List, [], ◌∷◌, ◌++◌, length, refl, sym, ap, ◌∙◌, subst, inl, inr, arith}
-use Rattle.std.specs.Prelude.{Contains, slice_get, Some, ◌⊎◌}
+use Rattle.std.specs.Prelude.{Contains, ◌⊎◌}
 use Rattle.std.proofs.lemmas.List.{length-append, length-map, get_or-map, take_more, take_all}
 use Rattle.std.proofs.lemmas.Option.{slice_get_within}
 use Rattle.std.proofs.lemmas.List.Elements.{Contains-push_cases, Contains-append_right}
 use Rattle.um_tree.specs.ExprTree.{ExprTree, local, arith as operation}
-use Rattle.um_tree.specs.declared.expression.Arith.TheVariants.{Add, Sub, Mul, Div}
+use Rattle.um_tree.specs.declared.expression.Arith.TheVariants.{Mul}
 use Rattle.um_parse.specs.ProductProgram.{IsProduct}
 use Rattle.um_parse.specs.Resolved.{IsVariable}
 use Rattle.um_parse.specs.ProductFunction.{IsProductOf}

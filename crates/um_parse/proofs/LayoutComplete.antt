@@ -1,14 +1,14 @@
 -- What declarations spell is read as them.
-use Rattle.std.proofs.Common.{◌≡◌, inl, inr, ℕ, Bool, true, false, cond, List, [], ◌∷◌, ◌++◌, Option, Some, None, refl, sym, ap, ◌∙◌, append_assoc, append-nil, ◌<◌, ◌+◌, length, take, drop, get_or}
-use Rattle.std.specs.Prelude.{codes, nat_eq, IsTrue, ◌&&◌}
-use Rattle.std.specs.List.{flat_map, join_by, list_all}
+use Rattle.std.proofs.Common.{◌≡◌, inl, inr, ℕ, true, List, [], ◌∷◌, ◌++◌, Option, Some, None, refl, sym, ap, ◌∙◌, append_assoc, append-nil, ◌<◌, ◌+◌, length, take, drop, get_or}
+use Rattle.std.specs.Prelude.{codes}
+use Rattle.std.specs.List.{flat_map, list_all}
 use Rattle.std.proofs.lemmas.Bool.{and_parts}
 use Rattle.std.proofs.lemmas.List.{take-append-drop, take_more}
 use Rattle.um_parse.specs.ProductText.{Parameter, Declaration, measure, function, unit_text, parameter_text, declaration_text, lines, Spells}
 use Rattle.um_parse.specs.declared.layout.Place.{Place}
-use Rattle.um_parse.specs.declared.layout.Place.TheVariants.{Line, Measure, Function, Choice, Parameter as InParameter, Note, Unit as InUnit, Factor}
-use Rattle.um_parse.specs.Layout.{Draft, State, refused, reading, fresh, is_name_byte, takes_name, with_factor, with_measure, with_parameter, with_function, after, in_place, step, run, start, or_else, finished, ended}
-use Rattle.um_parse.specs.LayoutNames.{HasNameBytes, AllNameBytes, ParametersNamed, FactorsNamed, AreNamed}
+use Rattle.um_parse.specs.declared.layout.Place.TheVariants.{Line, Measure, Function, Choice, Parameter as InParameter, Unit as InUnit, Factor}
+use Rattle.um_parse.specs.Layout.{Draft, State, refused, reading, fresh, is_name_byte, takes_name, step, run, start, or_else, finished, ended}
+use Rattle.um_parse.specs.LayoutNames.{HasNameBytes, AllNameBytes, ParametersNamed, AreNamed}
 
 pub run_append : (st : State) (xs ys : List ℕ) → run st (xs ++ ys) ≡ run (run st xs) ys
 run_append st [] ys = refl

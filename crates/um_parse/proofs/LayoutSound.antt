@@ -1,10 +1,10 @@
 -- A state of the reader that isn't refused spells the bytes that were read.
-use Rattle.std.proofs.Common.{◌≡◌, inl, inr, ℕ, Bool, true, false, cond, eqb, List, [], ◌∷◌, ◌++◌, Option, Some, None, refl, sym, ap, ◌∙◌, subst, append_assoc, append-nil}
+use Rattle.std.proofs.Common.{◌≡◌, inl, inr, ℕ, Bool, true, false, cond, List, [], ◌∷◌, ◌++◌, Option, Some, None, refl, sym, ap, ◌∙◌, subst, append_assoc, append-nil}
 use Rattle.std.specs.Prelude.{codes, nat_eq}
 use Rattle.std.specs.List.{flat_map, join_by}
 use Rattle.std.proofs.lemmas.Bool.{eqb-true}
 use Rattle.std.proofs.lemmas.List.Concat.{flat_map-append}
-use Rattle.um_parse.specs.ProductText.{Parameter, Declaration, measure, function, unit_text, parameter_text, declaration_text, lines, Spells}
+use Rattle.um_parse.specs.ProductText.{Declaration, measure, function, unit_text, parameter_text, declaration_text, lines, Spells}
 use Rattle.um_parse.specs.declared.layout.Place.{Place}
 use Rattle.um_parse.specs.declared.layout.Place.TheVariants.{Line, Measure, Function, Choice, Parameter as InParameter, Note, Unit as InUnit, Factor}
 use Rattle.um_parse.specs.Layout.{Draft, State, refused, reading, fresh, is_name_byte, takes_name, with_factor, with_measure, with_parameter, with_function, after, in_place, step, run, start, or_else, finished, ended}

@@ -1,8 +1,8 @@
 -- The declarations of a program are named, so that their text can be read in one way alone.
-use Rattle.std.proofs.Common.{◌≡◌, ℕ, zero, suc, ◌<◌, Bool, true, false, ◌&&◌, ◌||◌, List, [], ◌∷◌, ◌++◌, map, length, refl, sym, ap, ◌∙◌, subst, inl, inr, arith}
-use Rattle.std.specs.Prelude.{slice_get, Some, Contains, ◌⊎◌, IsTrue, nat_eq}
+use Rattle.std.proofs.Common.{◌≡◌, ℕ, zero, suc, true, false, ◌||◌, List, [], ◌∷◌, ◌++◌, map, refl, ap, ◌∙◌, subst, inl, inr, arith}
+use Rattle.std.specs.Prelude.{slice_get, Some, Contains, ◌⊎◌, nat_eq}
 use Rattle.std.specs.List.{list_all}
-use Rattle.std.specs.Char.{is_ascii_alphabetic, is_ascii_alphanumeric}
+use Rattle.std.specs.Char.{is_ascii_alphabetic}
 use Rattle.std.proofs.lemmas.Bool.{and_parts, and_from}
 use Rattle.std.proofs.lemmas.List.Elements.{Contains-push_cases, Contains-append_right}
 use Rattle.std.proofs.lemmas.Option.{slice_get-get_or, same_Some}
@@ -11,7 +11,7 @@ use Rattle.um_tree.specs.ExprTree.{ExprTree}
 use Rattle.um_tree.specs.ProgramTree.{FunctionTree, ProgramTree}
 use Rattle.um_units.specs.PowerMap.{PowerMap}
 use Rattle.um_parse.specs.ProductText.{Parameter, Declaration, measure, function}
-use Rattle.um_parse.specs.ProductProgram.{is_identifier, IsName, IsNew, IsUnitOf, AreParameters, IsProduct, Makes}
+use Rattle.um_parse.specs.ProductProgram.{is_identifier, IsName, IsUnitOf, AreParameters, IsProduct, Makes}
 use Rattle.um_parse.specs.Layout.{is_name_byte}
 use Rattle.um_parse.specs.LayoutNames.{HasNameBytes, AllNameBytes, ParametersNamed, FactorsNamed, AreNamed}
 use Rattle.um_parse.proofs.NameLists.{Contains-numbered}

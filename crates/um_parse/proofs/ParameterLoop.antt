@@ -1,9 +1,8 @@
 -- The parameters of a function, read one after another.
-use Rattle.std.proofs.Common.{◌≡◌, ℕ, ◌+◌, ◌<◌, ◌≤◌, List, [], ◌∷◌, ◌++◌, map, take, drop, length, get_or, refl, sym, ap, ◌∙◌, subst, arith, append_assoc, append-nil, add-one}
+use Rattle.std.proofs.Common.{◌≡◌, ℕ, ◌+◌, ◌<◌, ◌≤◌, List, [], ◌∷◌, ◌++◌, map, take, drop, length, get_or, refl, sym, ap, ◌∙◌, subst, append_assoc, append-nil, add-one}
 use Rattle.std.proofs.lemmas.List.{take_more, take_all, drop_all, map-append}
 use Rattle.std.proofs.Math.Seq.{drop-cons}
-use Rattle.um_tree.specs.TypeTree.{NoteTree, num_note}
-use Rattle.um_tree.specs.declared.note.UnitNote.TheVariants.{Written}
+use Rattle.um_tree.specs.TypeTree.{NoteTree}
 use Rattle.um_parse.specs.ProductText.{Parameter}
 use Rattle.um_parse.specs.ProductProgram.{AreParameters}
 use Rattle.um_parse.specs.Resolved.{NoParameter, IsParameter}

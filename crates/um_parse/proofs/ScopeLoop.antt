@@ -1,5 +1,5 @@
 -- Declarations, taken one after another.
-use Rattle.std.proofs.Common.{◌≡◌, ℕ, ◌+◌, ◌<◌, ◌≤◌, Bool, true, false, List, [], ◌∷◌, ◌++◌, map, take, drop, length, get_or, refl, sym, ap, ◌∙◌, subst, inl, inr, arith, add-one}
+use Rattle.std.proofs.Common.{◌≡◌, ℕ, ◌+◌, ◌<◌, ◌≤◌, Bool, true, false, List, [], ◌∷◌, ◌++◌, drop, length, get_or, refl, sym, ap, ◌∙◌, subst, inl, inr, arith, add-one}
 use Rattle.std.specs.Prelude.{slice_get, Some, Contains, ◌⊎◌, MatchBool, IsTrue}
 use Rattle.std.proofs.lemmas.List.{drop_all, map-append, length-map, length-append, get_or_push, get_or_append_left}
 use Rattle.std.proofs.lemmas.Bool.{cases_lt}
@@ -8,7 +8,7 @@ use Rattle.std.proofs.Math.Seq.{drop-cons}
 use Rattle.um_tree.specs.Formed.{AreDistinct}
 use Rattle.um_tree.specs.ProgramTree.{FunctionTree, ProgramTree}
 use Rattle.um_parse.specs.ProductText.{Declaration, measure, function}
-use Rattle.um_parse.specs.ProductProgram.{IsNew, IsFunction, Makes}
+use Rattle.um_parse.specs.ProductProgram.{IsNew, Makes}
 use Rattle.um_parse.specs.Resolved.{Known, function_names, Declares, CannotStand, Answers}
 use Rattle.um_parse.proofs.NameLists.{Contains-numbered}
 

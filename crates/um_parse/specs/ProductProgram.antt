@@ -1,13 +1,12 @@
 -- The program that such declarations make: each name is declared once, and is known where it stands.
 -- Source: this project's own rules of names; the product of units is Kennedy's (1996).
-use Rattle.std.specs.Prelude.{◌≡◌, ◌≤◌, ℕ, Bool, false, not, ◌&&◌, ◌||◌, IsTrue, nat_eq, List, [], ◌∷◌, ◌++◌, map, length, codes, slice_get, Option, Some, None, Contains}
+use Rattle.std.specs.Prelude.{◌≡◌, ◌≤◌, ℕ, Bool, false, not, ◌&&◌, ◌||◌, IsTrue, nat_eq, List, [], ◌∷◌, ◌++◌, map, length, codes, slice_get, Some, None, Contains}
 use Rattle.std.specs.List.{list_all}
 use Rattle.std.specs.Char.{is_ascii_alphabetic, is_ascii_alphanumeric}
 use Rattle.std.specs.Str.{bytes_eq}
 use Rattle.um_units.specs.declared.Atom.TheVariants.{Base}
 use Rattle.um_units.specs.PowerMap.{PowerMap, one, atom, mul}
 use Rattle.um_units.specs.Range.{fits}
-use Rattle.um_tree.specs.declared.note.UnitNote.{UnitNote}
 use Rattle.um_tree.specs.declared.note.UnitNote.TheVariants.{Written}
 use Rattle.um_tree.specs.declared.expression.Arith.TheVariants.{Mul}
 use Rattle.um_tree.specs.TypeTree.{NoteTree, num_note}

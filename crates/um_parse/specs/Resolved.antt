@@ -1,7 +1,7 @@
 -- One declaration after another, from the base units and the functions that are known.
 -- Source: this project's own rules of names.
 use Rattle.std.specs.Prelude.{◌≡◌, ℕ, List, [], ◌∷◌, ◌++◌, map, Bool, true, false, IsTrue, slice_get, Some}
-use Rattle.um_tree.specs.ProgramTree.{FunctionTree, ProgramTree}
+use Rattle.um_tree.specs.ProgramTree.{FunctionTree}
 use Rattle.um_tree.specs.ExprTree.{ExprTree, local}
 use Rattle.um_tree.specs.TypeTree.{NoteTree, num_note}
 use Rattle.um_tree.specs.declared.note.UnitNote.TheVariants.{Written}

@@ -8,5 +8,7 @@ mod layout;
 mod names;
 mod products;
 mod resolve;
+#[cfg(test)]
+mod tests;
 
 pub use products::read_products;

@@ -1,4 +1,4 @@
-use Rattle.std.proofs.Common.{◌≡◌, ℕ, List, length, take, get_or, Option, Some, None, sym, ap, ◌∙◌, arith}
+use Rattle.std.proofs.Common.{◌≡◌, ℕ, List, get_or, Option, Some, None, sym, ap, ◌∙◌}
 use Rattle.std.specs.Prelude.{MatchOption, option_map}
 use Rattle.std.specs.Global.{Vec}
 use Rattle.std.proofs.lemmas.List.{take_all}
@@ -7,7 +7,7 @@ use Rattle.std.proofs.lemmas.Option.{same_Some}
 use Rattle.um_parse.specs.declared.declaration.DeclarationText.{DeclarationText}
 use Rattle.um_parse.specs.ProductText.{Declaration, Spells}
 use Rattle.um_parse.specs.LayoutNames.{AreNamed, ReadsAs}
-use Rattle.um_parse.specs.Layout.{state, step, run, start, ended}
+use Rattle.um_parse.specs.Layout.{step, run, start, ended}
 use Rattle.um_parse.specs.Declarations.{declarations_of}
 use Rattle.um_parse.proofs.LayoutComplete.{found, run_more, none_found, none_behind}
 use Rattle.um_parse.proofs.LayoutSound.{read_sound}

@@ -1,4 +1,4 @@
-use Rattle.std.proofs.Common.{◌≡◌, ℕ, List, sym, subst}
+use Rattle.std.proofs.Common.{ℕ, List, sym, subst}
 use Rattle.std.specs.Prelude.{IfOk}
 use Rattle.um_parse.specs.UnitRange.{UnitAnswer}
 use Rattle.um_parse.proofs.UnitNames.{none_front, none_back, both_parts, unit_of_none, one_name}

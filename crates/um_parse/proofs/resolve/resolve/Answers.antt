@@ -1,9 +1,9 @@
-use Rattle.std.proofs.Common.{◌≡◌, ◌<◌, ◌≤◌, map, length, get_or, sym, ap, ◌∙◌, arith}
+use Rattle.std.proofs.Common.{◌<◌, ◌≤◌, map, length, sym, ap, ◌∙◌, arith}
 use Rattle.std.proofs.lemmas.List.{length-map, get_or-map}
 use Rattle.um_tree.specs.ProgramTree.{function_tree}
 use Rattle.um_parse.specs.Declarations.{declaration_of}
 use Rattle.um_parse.specs.Scope.{known_of}
-use Rattle.um_parse.proofs.ScopeLoop.{stands_first, stands_more, stands_stop, made_program, made_functions, distinct-none}
+use Rattle.um_parse.proofs.ScopeLoop.{stands_more, stands_stop, made_functions}
 use Rattle.um_parse.proofs.resolve.resolve.Goals as goal
 
 pub returns-then-not-branch : goal.returns-then-not-branch

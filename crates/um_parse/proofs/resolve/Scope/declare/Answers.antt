@@ -1,4 +1,3 @@
-use Rattle.std.proofs.Common.{◌≡◌, sym}
 use Rattle.std.proofs.lemmas.Result.{IfOk-weaker}
 use Rattle.um_parse.specs.Scope.{known_of}
 use Rattle.um_parse.proofs.ScopeLoop.{measure_known, measure_distinct}
