@@ -1,1 +1,5 @@
 pub mod InputTrees
+pub mod RawSizes
+pub mod Budget
+pub mod Equations
+pub mod Growth

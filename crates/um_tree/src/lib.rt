@@ -6,6 +6,7 @@ mod name;
 mod note;
 mod program;
 mod raw;
+mod size;
 mod types;
 mod value;
 
@@ -15,6 +16,7 @@ pub use note::{Note, Notes, UnitNote, UnitNotes};
 pub use program::{
     FieldDecl, FieldDecls, Function, Functions, Program, Record, Records, Scheme, Schemes,
 };
+pub use size::{height, nodes};
 pub use types::{Shape, Ty, Types};
 pub use raw::{
     Binder, RawDecl, RawExpr, RawExprs, RawField, RawFieldDecl, RawFieldDecls, RawFields,
