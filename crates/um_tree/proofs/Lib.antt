@@ -3,3 +3,8 @@ pub mod RawSizes
 pub mod Budget
 pub mod Equations
 pub mod Growth
+pub mod Homomorphisms
+pub mod Moved
+pub mod TypingLaws
+pub mod ShapeLaws
+pub mod BudgetLaws

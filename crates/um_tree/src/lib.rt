@@ -2,6 +2,7 @@
 #![tactic(auto)]
 
 mod expression;
+mod laws;
 mod name;
 mod note;
 mod program;
@@ -11,6 +12,10 @@ mod types;
 mod value;
 
 pub use expression::{Arith, Expr, Exprs, Node, Sign};
+pub use laws::{
+    budgets_of_calls, budgets_of_expressions, changes_of_units, equal_units, shapes_of_types,
+    units_of_literals,
+};
 pub use name::{Name, Names};
 pub use note::{Note, Notes, UnitNote, UnitNotes};
 pub use program::{
