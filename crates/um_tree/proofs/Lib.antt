@@ -4,6 +4,7 @@ pub mod Budget
 pub mod Equations
 pub mod Growth
 pub mod Homomorphisms
+pub mod Below
 pub mod Moved
 pub mod TypingLaws
 pub mod ShapeLaws

@@ -7,7 +7,7 @@ use Rattle.um_tree.specs.ExprTree.{ExprTree, ExprTrees, truth, number, local, ca
 use Rattle.um_tree.specs.ProgramTree.{RecordTree, FunctionTree, ProgramTree, Signature}
 use Rattle.um_tree.specs.Typing.{put, unit_at, Matches, TypesMatch, ResultMatches, EachIs, field_types, IsRecordAt, Typed, AllTyped, Earlier, Calls, IsTypingOf, TypingAt, typings_below, Typing}
 use Rattle.um_tree.specs.Shapes.{type_shape, note_shape, ShapeSignature, EachShapeIs, HasShape, AllHaveShapes, EarlierShapes, CallShapes, ResultShape, IsShapeOf, ShapeAt, shapes_below, FunctionShape}
-use Rattle.um_tree.specs.Laws.{signature_shape, TypedHasShape}
+use Rattle.um_tree.specs.Laws.{signature_shape, TypedHasShape, TypedExpressionHasShape}
 use Rattle.um_tree.proofs.Moved.{slice_get_moved}
 
 -- units put for variables leave the shape
@@ -96,3 +96,7 @@ below_shape p (suc n) j g m =
 
 pub typed_has_shape : TypedHasShape
 typed_has_shape p i g m = shape_at p.records (typings_below p i) (shapes_below p i) (below_shape p i) i (slice_get p.functions i) g m
+
+pub typed_expression_has_shape : TypedExpressionHasShape
+typed_expression_has_shape p i f self choice vars e t m =
+    has_shape p.records (Calls (typings_below p i) i f self) (CallShapes (shapes_below p i) i f (signature_shape self)) (call_shapes p.records (typings_below p i) (shapes_below p i) (below_shape p i) i f self) choice vars e t m

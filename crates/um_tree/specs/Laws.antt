@@ -1,7 +1,7 @@
--- What the definitions come to: how typings, literals, budgets and shapes behave.
+-- What the definitions come to: how typings, literals, budgets and shapes behave. The definitions do not rest on this.
 -- Source: Kennedy 1996: typings are closed under replacements of units for variables; Kennedy 1997: a homomorphism of
 -- units moves them, and only 0 has every unit. The laws of budgets and shapes are this project's own.
-use Rattle.std.specs.Prelude.{◌≡◌, ◌≢◌, ◌↔◌, ◌≤◌, ◌+◌, ◌⊎◌, ℕ, All, List, [], ◌∷◌, map, pos, Option, Some, None}
+use Rattle.std.specs.Prelude.{◌≡◌, ◌≢◌, ◌↔◌, ◌<◌, ◌≤◌, ◌+◌, ℕ, All, List, [], ◌∷◌, map, pos, Option, Some, None}
 use Rattle.um_units.specs.declared.Atom.TheVariants.{Base}
 use Rattle.um_units.specs.PowerMap.{PowerMap, mul, atom, power_of}
 use Rattle.um_units.specs.Variables.{IsClosed}
@@ -19,7 +19,7 @@ use Rattle.um_tree.specs.ValueTree.{ValueTree}
 use Rattle.um_tree.specs.ProgramTree.{RecordTree, FunctionTree, ProgramTree, Signature}
 use Rattle.um_tree.specs.Typing.{put_signature, field_types, Typed, Calls, typings_below, Typing}
 use Rattle.um_tree.specs.Meaning.{gives, stops, trap, Means, Outcome}
-use Rattle.um_tree.specs.Shapes.{type_shape, ShapeSignature, FunctionShape}
+use Rattle.um_tree.specs.Shapes.{type_shape, ShapeSignature, HasShape, CallShapes, shapes_below, FunctionShape}
 
 -- ---- the units that a program writes
 
@@ -80,6 +80,16 @@ module _ (Has : PowerMap → Type 0) where
   pub record ProgramHas (p : ProgramTree) : Type 0 where
     pub records : All (λ d. All TypeHas (field_types d)) p.records
     pub functions : All FunctionHas p.functions
+
+-- ---- earlier functions
+
+-- what a function may use of an earlier one are its typings
+abbrev pub EarlierTypings : Type 0
+EarlierTypings = (p : ProgramTree) (n j : ℕ) (g : Signature) → j < n → typings_below p n j g ↔ Typing p j g
+
+-- and its shapes
+abbrev pub EarlierShapesAre : Type 0
+EarlierShapesAre = (p : ProgramTree) (n j : ℕ) (g : ShapeSignature) → j < n → shapes_below p n j g ↔ FunctionShape p j g
 
 -- ---- typings under a change of units
 
@@ -179,6 +189,13 @@ CallTrapStays =
 -- the shapes of a signature
 abbrev pub signature_shape : Signature → ShapeSignature
 signature_shape g = record { params = map type_shape g.params; result = type_shape g.result }
+
+-- a typed expression has the shape of its type
+abbrev pub TypedExpressionHasShape : Type 0
+TypedExpressionHasShape =
+    (p : ProgramTree) (i : ℕ) (f : FunctionTree) (self : Signature) (choice : ℕ → PowerMap) (vars : List TypeTree) (e : ExprTree) (t : TypeTree) →
+    TypedIn p i f self choice vars e t →
+    HasShape p.records (CallShapes (shapes_below p i) i f (signature_shape self)) (map type_shape vars) e (type_shape t)
 
 -- a typed function has the shapes of its types
 abbrev pub TypedHasShape : Type 0

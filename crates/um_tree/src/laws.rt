@@ -1,5 +1,7 @@
 //! The laws of typing and of meaning, as contracts of functions that do nothing. A crate above cites the law that it needs.
 ghost use Rattle.um_tree.specs.Laws.{
+  EarlierTypings,
+  EarlierShapesAre,
   ReplacementsKeepTypings,
   HomomorphismsKeepTypings,
   SumHasOneUnit,
@@ -13,8 +15,15 @@ ghost use Rattle.um_tree.specs.Laws.{
   CallRestIsWithin,
   CallLargerBudgetSuffices,
   CallTrapStays,
+  TypedExpressionHasShape,
   TypedHasShape,
 };
+
+/// What a function may use of an earlier one are the earlier one's typings, and its shapes.
+pub fn earlier_functions()
+    ensures typings { EarlierTypings }
+    ensures shapes { EarlierShapesAre }
+{}
 
 /// A typing stays a typing with any units in place of its variables, and under each homomorphism of units that leaves the base
 /// units that the program writes.
@@ -51,7 +60,8 @@ pub fn budgets_of_calls()
     ensures trap { CallTrapStays }
 {}
 
-/// A function with a typing has the shapes of its types, and each expression in it the shape of its type.
+/// A typed expression has the shape of its type, and a typed function the shapes of its types.
 pub fn shapes_of_types()
-    ensures { TypedHasShape }
+    ensures expressions { TypedExpressionHasShape }
+    ensures functions { TypedHasShape }
 {}
