@@ -9,3 +9,5 @@ pub mod Moved
 pub mod TypingLaws
 pub mod ShapeLaws
 pub mod BudgetLaws
+pub mod ExamplePrograms
+pub mod ExampleRuns
