@@ -11,3 +11,4 @@ pub mod ShapeLaws
 pub mod BudgetLaws
 pub mod ExamplePrograms
 pub mod ExampleRuns
+pub mod ExampleTypings
