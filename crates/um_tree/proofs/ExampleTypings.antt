@@ -1,5 +1,5 @@
 -- Typings of small programs: each has the scheme that is expected, and an instance of another is refused.
-use Rattle.std.proofs.Common.{◌≡◌, ◌↔◌, refl, sym, ap, subst, ◌∙◌, inl, inr, ℕ, zero, suc, true, false, List, [], ◌∷◌, ℤ, pos, negsuc, Option, Some, None, slice_get, get_or, arith}
+use Rattle.std.proofs.Common.{◌≡◌, ◌↔◌, refl, sym, ap, subst, ◌∙◌, inl, inr, ℕ, zero, suc, true, false, List, [], ◌∷◌, ℤ, pos, negsuc, Option, Some, None, slice_get, length, arith}
 use Rattle.std.proofs.lemmas.Int.{ints}
 use Rattle.um_units.specs.declared.Atom.{Atom}
 use Rattle.um_units.specs.declared.Atom.TheVariants.{Base, Var}
@@ -9,7 +9,7 @@ use Rattle.um_units.proofs.Replacement.{replace-one, replace-mul, replace-inv, r
 use Rattle.um_tree.specs.declared.note.UnitNote.TheVariants.{Hole, Written}
 use Rattle.um_tree.specs.TypeTree.{TypeTree, bool_type, num_type, list_type, record_type, NoteTree, num_note}
 use Rattle.um_tree.specs.ProgramTree.{Signature, SchemeTree, FunctionTree, ProgramTree}
-use Rattle.um_tree.specs.Typing.{put_signature, TypesMatch, MayRecur, IsRecordAt, Typing}
+use Rattle.um_tree.specs.Typing.{put_signature, UnitsMatch, TypesMatch, MayRecur, IsRecordAt, Typing}
 use Rattle.um_tree.specs.Scheme.{IsPrincipal}
 use Rattle.um_tree.proofs.ExamplePrograms.{metre, second, kilogram, newton, marked, area_of_metres, area, identity, zeros, squares, sum, weights, make, pick}
 
@@ -174,3 +174,121 @@ sum_refused m =
     let head : m.body.0 ≡ num_type m.body.3.0 = same_some _ _ m.body.3.3 in
     let total : second ≡ m.body.3.2 = same_number _ _ m.body.3.6 in
     metre_apart (same_number _ _ (item ∙ head) ∙ sym (total ∙ m.body.3.5.1))
+
+-- num -> num<m> -> num<m> is none of f: its own call squares the unit
+second_of : (ts rest more : List TypeTree) (s t u v : TypeTree) → ts ≡ s ∷ rest → rest ≡ t ∷ more → ts ≡ u ∷ v ∷ [] → t ≡ v
+second_of ts rest more s t u v e f g = same_some _ _ (ap (λ xs. slice_get xs 1) (sym (e ∙ ap (λ r. s ∷ r) f) ∙ g))
+
+squares_refused : Typing squares 0 (signature (num_type one ∷ num_type metre ∷ []) (num_type metre)) → ⊥
+unfolding product
+squares_refused m = elim m.body.2.2 as (λ x. ⊥) [ inl a ↦ absurd (omega (arith, a.0)) | inr a ↦ at_own a.2 ]
+  where
+    at_own : signature m.body.2.0 (num_type metre) ≡ signature (num_type one ∷ num_type metre ∷ []) (num_type metre) → ⊥
+    at_own e =
+        let args = m.body.2.1 in
+        let product_typed = args.3.2 in
+        let item : args.3.0 ≡ num_type metre = second_of m.body.2.0 args.1 args.3.1 args.0 args.3.0 (num_type one) (num_type metre) args.4 args.3.4 (ap (λ g. g.params) e) in
+        let unit : product_typed.2 ≡ metre = same_number _ _ (sym product_typed.6 ∙ item) in
+        let left : metre ≡ product_typed.0 = same_number _ _ (same_some _ _ product_typed.3) in
+        let right : metre ≡ product_typed.1 = same_number _ _ (same_some _ _ product_typed.4) in
+        let whole : mul metre metre ≡ metre = ap (λ x. mul x metre) left ∙ ap (mul product_typed.0) right ∙ sym product_typed.5 ∙ unit in
+        apart (mul metre metre) metre (Base 0) 2 1 refl refl (λ n. absurd (omega (arith, n))) whole
+
+-- ---- let weight (k: num<kg>) = k * 9<m/s^2>, let push (f: num<kg m/s^2>) = f, let lift (k: num<kg>) = push (weight k)
+closed_per_second : (s : ℕ → PowerMap) → replace s (inv (mul second second)) ≡ inv (mul second second)
+closed_per_second s =
+    replace-inv s (mul second second) ∙ ap inv (replace-mul s second second ∙ ap (λ u. mul u (replace s second)) (replace-base s 1) ∙ ap (mul second) (replace-base s 1))
+
+closed_newton : (s : ℕ → PowerMap) → replace s newton ≡ newton
+closed_newton s =
+    replace-mul s (mul kilogram metre) (inv (mul second second))
+    ∙ ap (mul (replace s (mul kilogram metre))) (closed_per_second s)
+    ∙ ap (λ u. mul u (inv (mul second second))) (replace-mul s kilogram metre ∙ ap (λ u. mul u (replace s metre)) (replace-base s 2) ∙ ap (mul kilogram) (replace-base s 0))
+
+abbrev gravity : PowerMap
+gravity = mul metre (inv (mul second second))
+
+closed_gravity : (s : ℕ → PowerMap) → replace s gravity ≡ gravity
+closed_gravity s = replace-mul s metre (inv (mul second second)) ∙ ap (mul (replace s metre)) (closed_per_second s) ∙ ap (λ u. mul u (inv (mul second second))) (replace-base s 0)
+
+weight_typed : Typing weights 0 (signature (num_type kilogram ∷ []) (num_type newton))
+weight_typed = record {
+  choice = λ k. one;
+  params = (num_type kilogram, [], (kilogram, sym (replace-base _ 2), refl), refl, refl);
+  result = tt;
+  body = (kilogram, gravity, newton, refl, (gravity, sym (closed_gravity _), refl), mul_assoc kilogram metre (inv (mul second second)), refl)
+}
+
+push_typed : Typing weights 1 (signature (num_type newton ∷ []) (num_type newton))
+push_typed = record { choice = λ k. one; params = (num_type newton, [], (newton, sym (closed_newton _), refl), refl, refl); result = tt; body = refl }
+
+lift_typed : Typing weights 2 (signature (num_type kilogram ∷ []) (num_type newton))
+lift_typed = record {
+  choice = λ k. one;
+  params = (num_type kilogram, [], (kilogram, sym (replace-base _ 2), refl), refl, refl);
+  result = tt;
+  body = (
+    num_type newton ∷ [],
+    (num_type newton, [], (num_type kilogram ∷ [], (num_type kilogram, [], refl, refl, refl), inl (omega arith, weight_typed)), refl, refl),
+    inl (omega arith, push_typed),
+  )
+}
+
+one_param : (u v : PowerMap) (s : TypeTree) (rest : List TypeTree) → num_type u ∷ [] ≡ s ∷ rest → s ≡ num_type v → u ≡ v
+one_param u v s rest e f = let item : num_type u ≡ s = cc e in same_number u v (item ∙ f)
+
+kilogram_apart : metre ≡ kilogram → ⊥
+unfolding product
+kilogram_apart = apart metre kilogram (Base 0) 1 0 refl refl (λ e. absurd (omega (arith, e)))
+
+lift_refused : (t : TypeTree) → Typing weights 2 (signature (num_type metre ∷ []) t) → ⊥
+lift_refused t m = kilogram_apart (one_param metre m.params.2.0 m.params.0 m.params.1 m.params.4 m.params.2.2 ∙ m.params.2.1 ∙ replace-base m.choice 2)
+
+-- ---- type V<[<Measure>] 'u> = { x: num } and let mk = { x = 1 }: each V<'a>
+make_typed : (u : PowerMap) → Typing make 0 (signature [] (record_type 0 (u ∷ [])))
+make_typed u = record {
+  choice = λ k. one;
+  params = refl;
+  result = tt;
+  body = (u ∷ [], marked, record { declared = refl; units = refl }, (num_type one, [], (one, sym (replace-one _), refl), refl, ap (λ v. num_type v ∷ []) (replace-one _)), refl)
+}
+
+-- a record has as many units as are declared
+make_refused : Typing make 0 (signature [] (record_type 0 [])) → ⊥
+make_refused m =
+    let units : [] ≡ m.body.0 = cc m.body.4 in
+    let declared : marked ≡ m.body.1 = cc m.body.2.declared in
+    absurd (omega (arith, ap (λ d. d.units) declared, m.body.2.units, ap length units))
+
+-- ---- let pick (b: bool) (p: V<m>) (q: V<s>) = if b then p else q has no type: the arms have two units
+pick_refused : (g : Signature) → Typing pick 0 g → ⊥
+pick_refused g m =
+    let after = m.params.3 in
+    let last = after.3 in
+    let params : g.params ≡ m.params.0 ∷ after.0 ∷ last.0 ∷ last.1 = m.params.4 ∙ ap (λ r. m.params.0 ∷ r) (after.4 ∙ ap (λ r. after.0 ∷ r) last.4) in
+    let left : after.0 ≡ g.result = same_some _ _ (ap (λ ts. slice_get ts 1) (sym params) ∙ m.body.1) in
+    let right : last.0 ≡ g.result = same_some _ _ (ap (λ ts. slice_get ts 2) (sym params) ∙ m.body.2) in
+    let units : after.2.0 ≡ last.2.0 = same_units _ _ (sym after.2.2 ∙ left ∙ sym right ∙ last.2.2) in
+    let p = unit_of m.choice metre after.2.0 (replace-base m.choice 0) after.2.1 in
+    let q = unit_of m.choice second last.2.0 (replace-base m.choice 1) last.2.1 in
+    let all : metre ∷ [] ≡ second ∷ [] = sym p ∙ units ∙ q in
+    metre_apart (cc all)
+  where
+    same_units : (us vs : List PowerMap) → record_type 0 us ≡ record_type 0 vs → us ≡ vs
+    same_units us vs e = cc e
+
+    unit_of : (choice : ℕ → PowerMap) (u : PowerMap) (us : List PowerMap) → replace choice u ≡ u → UnitsMatch choice (Written u ∷ []) us → us ≡ u ∷ []
+    unit_of choice u us closed h = h.4 ∙ ap (λ v. v ∷ h.1) (h.2 ∙ closed) ∙ ap (λ vs. u ∷ vs) h.3
+
+-- ---- the units as they are printed
+metres_printed : (mul metre metre).terms ≡ record { atom = Base 0; power = pos 2 } ∷ []
+unfolding product
+metres_printed = refl
+
+area_printed : (mul (variable 0) (variable 1)).terms ≡ record { atom = Var 0; power = pos 1 } ∷ record { atom = Var 1; power = pos 1 } ∷ []
+unfolding product
+area_printed = refl
+
+newton_printed : newton.terms ≡ record { atom = Base 0; power = pos 1 } ∷ record { atom = Base 1; power = negsuc 1 } ∷ record { atom = Base 2; power = pos 1 } ∷ []
+unfolding product
+newton_printed = refl
