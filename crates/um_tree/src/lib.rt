@@ -8,6 +8,8 @@ mod note;
 mod program;
 mod raw;
 mod size;
+#[cfg(test)]
+mod tests;
 mod types;
 mod value;
 

@@ -19,9 +19,8 @@ pub fn height(e: &RawExpr) -> u32
         RawNode::Nil(_) => 3,
         RawNode::Call(_, items) | RawNode::List(items) => tallest(&items.items) + 1,
         RawNode::Rec(fields) => tallest_part(&fields.items) + 1,
-        RawNode::Neg(a) | RawNode::Not(a) | RawNode::Field(_, _, a) | RawNode::Bracket(a) => {
-            height(a) + 1
-        }
+        RawNode::Bracket(a) => height(a) + 1,
+        RawNode::Neg(a) | RawNode::Not(a) | RawNode::Field(_, _, a) => height(a) + 1,
         RawNode::Arith(_, a, b)
         | RawNode::Compare(_, a, b)
         | RawNode::And(a, b)
