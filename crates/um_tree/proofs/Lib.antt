@@ -1,1 +1,14 @@
 pub mod InputTrees
+pub mod RawSizes
+pub mod Budget
+pub mod Equations
+pub mod Growth
+pub mod Homomorphisms
+pub mod Below
+pub mod Moved
+pub mod TypingLaws
+pub mod ShapeLaws
+pub mod BudgetLaws
+pub mod ExamplePrograms
+pub mod ExampleRuns
+pub mod ExampleTypings

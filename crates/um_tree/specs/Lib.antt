@@ -11,3 +11,4 @@ pub mod InputType
 pub mod Heights
 pub mod TreeHeights
 pub mod Formed
+pub mod Laws

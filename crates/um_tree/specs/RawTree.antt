@@ -13,6 +13,7 @@ use Rattle.um_tree.specs.declared.raw.RawNotes.{RawNotes}
 use Rattle.um_tree.specs.declared.raw.RawType.{RawType, Bool as Bool-type, Num as Num-type, Name as Name-type, List' as List-type, Bracket' as Bracket-type}
 use Rattle.um_tree.specs.declared.raw.Binder.{Binder}
 use Rattle.um_tree.specs.declared.raw.RawExpr.{RawExpr, fold-RawExpr}
+use Rattle.um_tree.specs.declared.raw.RawField.{RawField, fold-RawField}
 use Rattle.um_tree.specs.declared.raw.RawNode.TheOpen.{RawNode-F, RawExpr-F, RawExprs-F, RawField-F, RawFields-F}
 use Rattle.um_tree.specs.declared.raw.RawVar.{RawVar}
 use Rattle.um_tree.specs.declared.raw.RawFieldDecl.{RawFieldDecl}
@@ -187,6 +188,10 @@ listed_fields fs = fields_in_order fs.items.items
 -- the tree that an expression stands for
 abbrev pub expr_text : RawExpr → ExprText
 expr_text = fold-RawExpr (ℕ → ExprText) ExprText ExprTexts FieldPart FieldTexts listed_node listed_expr listed_exprs listed_field listed_fields
+
+-- the part that a field of a record text stands for
+abbrev pub field_part : RawField → FieldPart
+field_part = fold-RawField (ℕ → ExprText) ExprText ExprTexts FieldPart FieldTexts listed_node listed_expr listed_exprs listed_field listed_fields
 
 -- a unit parameter at its quote
 pub record VarText : Type 0 where

@@ -3,8 +3,9 @@ ghost use Rattle.std.specs.Prelude.{◌≡◌, IfOk, map};
 ghost use Rattle.um_tree.specs.ValueTree.{value_tree, value_trees, input_tree, input_trees, without_units, without_units_each};
 
 use crate::UnitNote;
-use std::alloc::{AllocError, Global};
+use std::alloc::Global;
 use um_frac::{Frac, Trap};
+use um_units::NoMemory;
 
 /// A value. It carries no unit.
 #[cycle(value)]
@@ -50,9 +51,9 @@ pub enum Outcome {
     BudgetEnd,
 }
 
-/// The input without its units.
+/// The input without its units. It takes memory for the copied lists and records, and `NoMemory` is its one error.
 #[cycle(value_of)]
-pub fn value_of(alloc: Global, input: &Input) -> Result<Value, AllocError>
+pub fn value_of(alloc: Global, input: &Input) -> Result<Value, NoMemory>
     ensures { IfOk result (λ value. value_tree value ≡ without_units (input_tree input.now)) }
 {
     match input {
@@ -64,7 +65,7 @@ pub fn value_of(alloc: Global, input: &Input) -> Result<Value, AllocError>
 }
 
 #[cycle(value_of)]
-fn values_of(alloc: Global, inputs: &Inputs) -> Result<Values, AllocError>
+fn values_of(alloc: Global, inputs: &Inputs) -> Result<Values, NoMemory>
     ensures { IfOk result (λ values. value_trees values ≡ without_units_each (input_trees inputs.now)) }
 {
     let items = each_value_of(alloc, &inputs.items)?;
@@ -72,7 +73,7 @@ fn values_of(alloc: Global, inputs: &Inputs) -> Result<Values, AllocError>
 }
 
 #[cycle(value_of)]
-fn each_value_of(alloc: Global, inputs: &[Input]) -> Result<Vec<Value>, AllocError>
+fn each_value_of(alloc: Global, inputs: &[Input]) -> Result<Vec<Value>, NoMemory>
     ensures { IfOk result (λ values. map value_tree values.items ≡ map (λ i. without_units (input_tree i)) inputs.now) }
 {
     let mut values = Vec::new(alloc);
@@ -82,9 +83,9 @@ fn each_value_of(alloc: Global, inputs: &[Input]) -> Result<Vec<Value>, AllocErr
     Ok(values)
 }
 
-/// An equal value.
+/// An equal value, in memory of its own. `NoMemory` is its one error.
 #[cycle(copy_value)]
-pub fn copy_value(alloc: Global, value: &Value) -> Result<Value, AllocError>
+pub fn copy_value(alloc: Global, value: &Value) -> Result<Value, NoMemory>
     ensures { IfOk result (λ copy. value_tree copy ≡ value_tree value.now) }
 {
     match value {
@@ -96,7 +97,7 @@ pub fn copy_value(alloc: Global, value: &Value) -> Result<Value, AllocError>
 }
 
 #[cycle(copy_value)]
-fn copy_values(alloc: Global, values: &Values) -> Result<Values, AllocError>
+fn copy_values(alloc: Global, values: &Values) -> Result<Values, NoMemory>
     ensures { IfOk result (λ copies. value_trees copies ≡ value_trees values.now) }
 {
     let items = copy_each(alloc, &values.items)?;
@@ -104,7 +105,7 @@ fn copy_values(alloc: Global, values: &Values) -> Result<Values, AllocError>
 }
 
 #[cycle(copy_value)]
-fn copy_each(alloc: Global, values: &[Value]) -> Result<Vec<Value>, AllocError>
+fn copy_each(alloc: Global, values: &[Value]) -> Result<Vec<Value>, NoMemory>
     ensures { IfOk result (λ copies. map value_tree copies.items ≡ map value_tree values.now) }
 {
     let mut copies = Vec::new(alloc);

@@ -1,0 +1,67 @@
+-- How calls of small programs end, by computation.
+use Rattle.std.proofs.Common.{◌≡◌, refl, ℕ, ◌≤◌, List, [], ◌∷◌, ℤ, pos, negsuc, arith}
+use Rattle.std.proofs.lemmas.Int.{ints}
+use Rattle.um_frac.specs.declared.number.Frac.{Frac}
+use Rattle.um_frac.specs.Gcd.{gcd}
+use Rattle.um_frac.specs.Fraction.{numerator, denominator, fraction, divided, reduced}
+use Rattle.um_frac.specs.Arithmetic.{sum_of, difference_of, product_of}
+use Rattle.um_tree.specs.ValueTree.{ValueTree, number_value, list_value, no_values, more_values}
+use Rattle.um_tree.specs.ProgramTree.{ProgramTree}
+use Rattle.um_tree.specs.Meaning.{Out, gives, stops, budget_end, Outcome}
+use Rattle.um_tree.proofs.ExamplePrograms.{whole, zero_number, one_number, area, zeros, squares, sum}
+
+-- a number, its parts read, with the rest of the budget; the end of the budget; or something else
+data Shown : Type 0 where
+  number_shown : ℤ → ℤ → ℕ → Shown
+  end_shown : Shown
+  other_shown : Shown
+
+abbrev shown : Out ValueTree → Shown
+shown (gives (number_value c) b) = number_shown (numerator c) (denominator c) b
+shown (stops budget_end) = end_shown
+shown o = other_shown
+
+abbrev number_of : (n : ℕ) → n ≤ 1000000 → ValueTree
+number_of n low = number_value (whole n low)
+
+area_runs : shown (Outcome area.functions 0 (number_of 2 (omega arith) ∷ number_of 3 (omega arith) ∷ []) 1) ≡ number_shown (pos 6) (pos 1) 0
+unfolding Outcome product_of reduced divided fraction gcd
+area_runs = refl
+
+zero_runs : shown (Outcome zeros.functions 0 [] 1) ≡ number_shown (pos 0) (pos 1) 0
+unfolding Outcome
+zero_runs = refl
+
+zero_ends : shown (Outcome zeros.functions 0 [] 0) ≡ end_shown
+unfolding Outcome
+zero_ends = refl
+
+-- f 2 3 is 81 with three calls, and ends with two
+squares_run : shown (Outcome squares.functions 0 (number_of 2 (omega arith) ∷ number_of 3 (omega arith) ∷ []) 3) ≡ number_shown (pos 81) (pos 1) 0
+unfolding Outcome product_of difference_of reduced divided fraction gcd
+squares_run = refl
+
+squares_end : shown (Outcome squares.functions 0 (number_of 2 (omega arith) ∷ number_of 3 (omega arith) ∷ []) 2) ≡ end_shown
+unfolding Outcome product_of difference_of reduced divided fraction gcd
+squares_end = refl
+
+abbrev three_ones : ValueTree
+three_ones = list_value (more_values (number_value one_number) (more_values (number_value one_number) (more_values (number_value one_number) no_values)))
+
+-- the sum of three numbers takes four calls
+sum_runs : shown (Outcome sum.functions 0 (three_ones ∷ []) 4) ≡ number_shown (pos 3) (pos 1) 0
+unfolding Outcome sum_of reduced divided fraction gcd
+sum_runs = refl
+
+sum_ends : shown (Outcome sum.functions 0 (three_ones ∷ []) 3) ≡ end_shown
+unfolding Outcome sum_of reduced divided fraction gcd
+sum_ends = refl
+
+abbrev five_halves : Frac
+unfolding gcd
+five_halves = record { num = pos 5; den = pos 2; positive = omega (arith, ints); den_fits = omega (arith, ints); above = omega (arith, ints); num_fits = omega (arith, ints); lowest = refl }
+
+-- 1 + 5/2 with the budget 10
+sum_of_fractions : shown (Outcome sum.functions 0 (list_value (more_values (number_value one_number) (more_values (number_value five_halves) no_values)) ∷ []) 10) ≡ number_shown (pos 7) (pos 2) 7
+unfolding Outcome sum_of reduced divided fraction gcd
+sum_of_fractions = refl

@@ -1,0 +1,67 @@
+//! The laws of typing and of meaning, as contracts of functions that do nothing. A crate above cites the law that it needs.
+ghost use Rattle.um_tree.specs.Laws.{
+  EarlierTypings,
+  EarlierShapesAre,
+  ReplacementsKeepTypings,
+  HomomorphismsKeepTypings,
+  SumHasOneUnit,
+  DifferenceHasOneUnit,
+  ComparisonHasOneUnit,
+  ZeroHasEveryUnit,
+  NumberHasItsUnit,
+  RestIsWithin,
+  LargerBudgetSuffices,
+  TrapStays,
+  CallRestIsWithin,
+  CallLargerBudgetSuffices,
+  CallTrapStays,
+  TypedExpressionHasShape,
+  TypedHasShape,
+};
+
+/// What a function may use of an earlier one are the earlier one's typings, and its shapes.
+pub fn earlier_functions()
+    ensures typings { EarlierTypings }
+    ensures shapes { EarlierShapesAre }
+{}
+
+/// A typing stays a typing with any units in place of its variables, and under each homomorphism of units that leaves the base
+/// units that the program writes.
+pub fn changes_of_units()
+    ensures replacements { ReplacementsKeepTypings }
+    ensures homomorphisms { HomomorphismsKeepTypings }
+{}
+
+/// A sum, a difference and a comparison are typed exactly where both sides have one unit.
+pub fn equal_units()
+    ensures sums { SumHasOneUnit }
+    ensures differences { DifferenceHasOneUnit }
+    ensures comparisons { ComparisonHasOneUnit }
+{}
+
+/// A zero with a hole has every unit, and no other number has a hole; a number with a written unit has this one alone.
+pub fn units_of_literals()
+    ensures zero { ZeroHasEveryUnit }
+    ensures written { NumberHasItsUnit }
+{}
+
+/// What an expression leaves of its budget is at most the budget. A budget that sufficed suffices with the same value when it
+/// grows, and the rest grows by as much; a trap stays too.
+pub fn budgets_of_expressions()
+    ensures rest { RestIsWithin }
+    ensures larger { LargerBudgetSuffices }
+    ensures trap { TrapStays }
+{}
+
+/// The same of calls.
+pub fn budgets_of_calls()
+    ensures rest { CallRestIsWithin }
+    ensures larger { CallLargerBudgetSuffices }
+    ensures trap { CallTrapStays }
+{}
+
+/// A typed expression has the shape of its type, and a typed function the shapes of its types.
+pub fn shapes_of_types()
+    ensures expressions { TypedExpressionHasShape }
+    ensures functions { TypedHasShape }
+{}
