@@ -1,0 +1,11 @@
+//! The tokens of a program text.
+//!
+//! [`lex`] reads a whole text at once. Both read the same tokens, and both refuse at the leftmost fault.
+#![tactic(auto)]
+
+mod pending;
+mod place;
+mod token;
+
+pub use place::line_column;
+pub use token::{Kind, Letters, LexStop, Token, Tokens};
