@@ -5,3 +5,4 @@ pub mod Numeral
 pub mod Lexeme
 pub mod Lexing
 pub mod LineColumn
+pub mod Machine

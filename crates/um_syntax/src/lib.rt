@@ -3,9 +3,12 @@
 //! [`lex`] reads a whole text at once. Both read the same tokens, and both refuse at the leftmost fault.
 #![tactic(auto)]
 
+mod number;
 mod pending;
 mod place;
+mod table;
 mod token;
 
 pub use place::line_column;
+pub use table::{SIGNS, WORDS};
 pub use token::{Kind, Letters, LexStop, Token, Tokens};

@@ -1,28 +1,11 @@
 //! What has been read of a token that may go on.
+ghost use Rattle.std.specs.Prelude.{◌≡◌};
+ghost use Rattle.um_syntax.specs.Machine.{takes, ends_in_digit};
 
-/// How much of a number's text has been read.
-#[derive(Clone, Copy, Debug, PartialEq, Eq)]
-pub enum Part {
-    /// Digits.
-    Whole,
-    /// Digits and a point.
-    Point,
-    /// Digits, a point and digits.
-    Decimal,
-    /// Digits and an `r`.
-    Over,
-    /// Digits, an `r` and digits.
-    Ratio,
-}
+use unicode_ident::is_xid_continue;
 
-/// The digits of a number's text so far, as a fraction that isn't reduced: `above` over `below`, and how many they
-/// are. Each of the three stands still at a limit that no number in range passes.
-#[derive(Clone, Copy, Debug, PartialEq, Eq)]
-pub struct Figures {
-    pub above: u128,
-    pub below: u128,
-    pub count: u32,
-}
+use crate::number::{Figures, Part};
+use crate::table::{double_sign, starts_name};
 
 /// What has been read of the token that may go on, with the place where it starts.
 #[derive(Clone, Copy, Debug, PartialEq, Eq)]
@@ -43,4 +26,31 @@ pub enum Pending {
     Number { start: u32, end: u32, part: Part, figures: Figures },
     /// The first character of a sign or of a comment.
     Symbol { start: u32, first: char },
+}
+
+impl Pending {
+    // Whether the character belongs to what has begun.
+    pub fn takes(self, c: char) -> bool
+        ensures { result ≡ takes self c }
+    {
+        match self {
+            Pending::Start => c == '\u{feff}',
+            Pending::Free => false,
+            Pending::Comment => true,
+            Pending::Identifier { .. } | Pending::Variable { .. } => is_xid_continue(c),
+            Pending::Quote { .. } => starts_name(c),
+            Pending::Number { part, .. } => part.takes(c),
+            Pending::Symbol { first, .. } => double_sign(first, c).is_some() || (first == '/' && c == '/'),
+        }
+    }
+
+    // Whether what has begun is a number that has its last digit.
+    pub fn ends_in_digit(self) -> bool
+        ensures { result ≡ ends_in_digit self }
+    {
+        match self {
+            Pending::Number { part: Part::Whole | Part::Decimal | Part::Ratio, .. } => true,
+            _ => false,
+        }
+    }
 }
