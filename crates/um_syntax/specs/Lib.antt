@@ -6,3 +6,4 @@ pub mod Lexeme
 pub mod Lexing
 pub mod LineColumn
 pub mod Machine
+pub mod Scanning

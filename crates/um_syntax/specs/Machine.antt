@@ -1,6 +1,6 @@
 -- The machine that reads a text character by character. The definitions of tokens and refusals don't rest on it; that it
 -- gives them is proved.
-use Rattle.std.specs.Prelude.{◌≡◌, ℕ, ◌+◌, ◌-◌, ◌*◌, ◌^◌, Bool, true, false, cond, ◌==◌, ◌||◌, ◌&&◌, nat_lt, nat_le, List, [], ◌∷◌, ◌++◌, length, take, drop, pos, Option, None, Some, is_some, option_map, Result, Ok, Err, codes}
+use Rattle.std.specs.Prelude.{◌≡◌, ℕ, ◌+◌, ◌≤◌, ◌-◌, ◌*◌, ◌^◌, Bool, true, false, cond, ◌==◌, ◌||◌, ◌&&◌, nat_lt, nat_le, List, [], ◌∷◌, ◌++◌, length, take, drop, pos, Option, None, Some, is_some, option_map, Result, Ok, Err, codes}
 use Rattle.std.specs.Char.{is_ascii_digit, len_utf8, encode_utf8}
 use Rattle.std.specs.Str.{bytes_eq}
 use Rattle.std.specs.List.{position_from}
@@ -66,6 +66,14 @@ with_digit n d = cond (nat_lt n (10 ^ 37)) (10 * n + d) (10 ^ 38)
 abbrev pub one_more : ℕ → ℕ
 one_more n = cond (nat_lt n 39) (n + 1) 39
 
+-- the parts of the digits so far are within their limits
+abbrev pub FiguresFit : Figures → Type 0
+FiguresFit f = (f.above ≤ 10 ^ 38) × (f.below ≤ 10 ^ 38)
+
+abbrev pub PendingFits : Pending → Type 0
+PendingFits (pending.Number start end p f) = FiguresFit f
+PendingFits _ = Unit {0}
+
 abbrev pub first_figures : ℕ → Figures
 first_figures d = record { above = d; below = 1; count = 1 }
 
@@ -121,6 +129,9 @@ word_kind letters None = cond (bytes_eq letters (95 ∷ [])) kind.Hole (kind.Nam
 abbrev pub letters_kind : List ℕ → Kind
 letters_kind letters = word_kind letters (word_number letters)
 
+abbrev pub identifier_pushed : Scan → ℕ → Scan
+identifier_pushed s start = pushed s (letters_kind s.letters) start s.at
+
 -- a variable's token; where the letters are a word, the last of them is a name by itself
 abbrev pub variable_pushed : Scan → ℕ → ℕ → Scan
 variable_pushed s start last =
@@ -150,7 +161,7 @@ abbrev pub close : Scan → Pending → Result Scan LexStop
 close s pending.Start = Ok (freed s)
 close s pending.Free = Ok (freed s)
 close s pending.Comment = Ok (freed s)
-close s (pending.Identifier start) = Ok (pushed s (letters_kind s.letters) start s.at)
+close s (pending.Identifier start) = Ok (identifier_pushed s start)
 close s (pending.Quote start) = Err (BadChar start)
 close s (pending.Variable start last) = cond (bytes_eq s.letters (95 ∷ [])) (Err (BadChar start)) (Ok (variable_pushed s start last))
 close s (pending.Number start end p f) =

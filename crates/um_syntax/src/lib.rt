@@ -6,6 +6,7 @@
 mod number;
 mod pending;
 mod place;
+mod scanner;
 mod table;
 mod token;
 

@@ -1,6 +1,6 @@
 //! The digits of a number's text, read one by one.
-ghost use Rattle.std.specs.Prelude.{◌≡◌, ◌<◌, ◌≤◌, ◌-◌};
-ghost use Rattle.um_syntax.specs.Machine.{with_digit, one_more, first_figures, more_figures, part_after_digit, is_whole_part, is_allowed, is_one_figure, figures_kind, part_takes};
+ghost use Rattle.std.specs.Prelude.{◌≡◌, ◌<◌, ◌≤◌, ◌-◌, ◌^◌};
+ghost use Rattle.um_syntax.specs.Machine.{with_digit, one_more, first_figures, more_figures, part_after_digit, is_whole_part, is_allowed, is_one_figure, figures_kind, part_takes, FiguresFit};
 
 use um_frac::Frac;
 
@@ -73,7 +73,8 @@ pub struct Figures {
 // The number with one more digit behind it.
 fn append(number: u128, digit: u32) -> u128
     requires { digit ≤ 9 }
-    ensures { result ≡ with_digit number digit }
+    ensures value { result ≡ with_digit number digit }
+    ensures fits { result ≤ 10 ^ 38 }
 {
     if number < TENTH {
         10 * number + u128::from(digit)
@@ -92,7 +93,9 @@ fn count_up(count: u32) -> u32
 impl Figures {
     // The figures of the first digit.
     pub fn new(digit: u32) -> Figures
-        ensures { result ≡ first_figures digit }
+        requires { digit ≤ 9 }
+        ensures value { result ≡ first_figures digit }
+        ensures fits { FiguresFit result }
     {
         Figures { above: u128::from(digit), below: 1, count: 1 }
     }
@@ -100,7 +103,8 @@ impl Figures {
     // The figures with one more digit, where `part` is what has been read before it.
     pub fn with(self, part: Part, digit: u32) -> Figures
         requires { digit ≤ 9 }
-        ensures { result ≡ more_figures part self digit }
+        ensures value { result ≡ more_figures part self digit }
+        ensures fits { FiguresFit self → FiguresFit result }
     {
         let count = count_up(self.count);
         match part {
@@ -120,8 +124,7 @@ impl Figures {
 
     // The kind of the number's token, or `None` where it breaks its rule.
     pub fn kind(self, power: bool, part: Part) -> Option<Kind>
-        requires above_limit { self.above ≤ 100000000000000000000000000000000000000 }
-        requires below_limit { self.below ≤ 100000000000000000000000000000000000000 }
+        requires { FiguresFit self }
         ensures { result ≡ figures_kind power part self }
     {
         if !self.is_allowed(power, part) {

@@ -1,6 +1,8 @@
 //! Tokens, and why a text has none.
-ghost use Rattle.std.specs.Prelude.{◌≡◌, ℕ, List, length};
+ghost use Rattle.std.specs.Prelude.{◌≡◌, ℕ, List, IfOk};
+ghost use Rattle.um_syntax.specs.declared.token.LexStop.TheVariants.{NoMemory};
 
+use std::alloc::{AllocError, AllocFailed, Global};
 use std::marker::Model;
 use thiserror::Error;
 use um_frac::Frac;
@@ -18,6 +20,13 @@ impl Model for Letters {
 }
 
 impl Letters {
+    /// The letters that the slice holds, copied.
+    pub fn from_slice(alloc: Global, bytes: &[u8]) -> Result<Letters, AllocError>
+        ensures { IfOk result (λ l. l ≡ bytes.now) }
+    {
+        Ok(Letters { bytes: Vec::from_slice(alloc, bytes)? })
+    }
+
     /// The letters that the vector holds. Takes no memory.
     pub fn from_vec(bytes: Vec<u8>) -> Letters
         ensures { result ≡ bytes.items }
@@ -122,4 +131,12 @@ pub enum LexStop {
     /// There is no memory left.
     #[error("out of memory")]
     NoMemory,
+}
+
+impl From<AllocError> for LexStop {
+    ghost from_gives = { λ _ e. e ≡ NoMemory };
+
+    fn from(_e: AllocError) -> LexStop {
+        LexStop::NoMemory
+    }
 }

@@ -1,0 +1,148 @@
+//! The machine that reads a text character by character.
+ghost use Rattle.std.specs.Prelude.{◌≡◌, ◌+◌, ◌<◌, ◌≤◌, ◌^◌, length, OnOk, IfOk};
+ghost use Rattle.std.specs.Char.{len_utf8};
+ghost use Rattle.std.specs.Option.{option_copied};
+ghost use Rattle.um_syntax.specs.Lexing.{is_glued, is_power_place, is_sign};
+ghost use Rattle.um_syntax.specs.Machine.{scan_start, step, taken, close, begun, pushed, identifier_pushed, variable_pushed, letters_kind, FiguresFit, PendingFits};
+ghost use Rattle.um_syntax.specs.declared.pending.Pending.TheVariants as pending;
+ghost use Rattle.um_syntax.specs.Scanning.{scan_of, Follows};
+
+use std::alloc::{AllocError, Global};
+
+use unicode_ident::is_xid_continue;
+
+use crate::number::{Figures, Part};
+use crate::pending::Pending;
+use crate::table::{CARET, DOT, MINUS, double_sign, single_sign, starts_name, word_number};
+use crate::token::{Kind, Letters, LexStop, Token};
+
+/// The state between two characters.
+#[derive(Drop)]
+pub struct Scanner {
+    alloc: Global,
+    // The place of the next character.
+    at: u32,
+    tokens: Vec<Token>,
+    // The letters of a name that has begun.
+    letters: String,
+    pending: Pending,
+}
+
+// Whether the token is that sign.
+fn is_sign(token: Option<&Token>, sign: u8) -> bool
+    ensures { result ≡ is_sign sign (option_copied token.entry) }
+{
+    match token {
+        Some(Token { kind: Kind::Sign(k), .. }) => *k == sign,
+        _ => false,
+    }
+}
+
+// Whether a number behind the tokens is a power.
+fn is_power_place(tokens: &[Token]) -> bool
+    ensures { result ≡ is_power_place tokens.now }
+{
+    is_sign(tokens.last(), CARET)
+        || (is_sign(tokens.last(), MINUS) && is_sign(tokens.get(tokens.len().saturating_sub(2)), CARET))
+}
+
+// Whether a token that starts there directly follows the last.
+fn is_glued(tokens: &[Token], start: u32) -> bool
+    ensures { result ≡ is_glued tokens.now start }
+{
+    match tokens.last() {
+        Some(token) => token.end == start,
+        None => false,
+    }
+}
+
+impl Scanner {
+    // Puts a token behind the others. Nothing has begun then.
+    fn push(&mut self, kind: Kind, start: u32, end: u32) -> Result<(), AllocError>
+        ensures { OnOk result (scan_of self.new ≡ pushed (scan_of self.old) kind start end) }
+    {
+        let glued = is_glued(&self.tokens, start);
+        self.tokens.push(Token { kind, start, end, glued })?;
+        self.letters.clear();
+        self.pending = Pending::Free;
+        Ok(())
+    }
+
+    // Ends the identifier whose letters are at hand.
+    fn close_identifier(&mut self, start: u32) -> Result<(), AllocError>
+        ensures { OnOk result (scan_of self.new ≡ identifier_pushed (scan_of self.old) start) }
+    {
+        let kind = letters_kind(self.alloc, &self.letters)?;
+        self.push(kind, start, self.at)
+    }
+
+    // Ends the variable whose letters are at hand. Where they are a word, the last of them is a name by itself.
+    fn close_variable(&mut self, start: u32, last: u32) -> Result<(), AllocError>
+        ensures { OnOk result (scan_of self.new ≡ variable_pushed (scan_of self.old) start last) }
+    {
+        let letters = self.letters.as_bytes();
+        if word_number(&self.letters).is_none() {
+            let kind = Kind::Var(Letters::from_slice(self.alloc, letters)?);
+            return self.push(kind, start, self.at);
+        }
+        let (front, letter) = letters.split_at(letters.len().saturating_sub(1));
+        let variable = Kind::Var(Letters::from_slice(self.alloc, front)?);
+        let name = Kind::Name(Letters::from_slice(self.alloc, letter)?);
+        self.push(variable, start, last)?;
+        self.push(name, last, self.at)
+    }
+
+    // Ends the number that these digits are, and what has been read behind it.
+    fn close_number(&mut self, start: u32, end: u32, part: Part, figures: Figures) -> Result<(), LexStop>
+        requires { FiguresFit figures }
+        ensures { Follows result (scan_of self.new) (close (scan_of self.old) (pending.Number start end part figures)) }
+    {
+        let power = is_power_place(&self.tokens);
+        let Some(kind) = figures.kind(power, part) else {
+            return Err(if power { LexStop::PowerText { at: start } } else { LexStop::NumberRange { at: start } });
+        };
+        self.push(kind, start, end)?;
+        match part {
+            Part::Whole | Part::Decimal | Part::Ratio => Ok(()),
+            Part::Point => Ok(self.push(Kind::Sign(DOT), end, self.at)?),
+            Part::Over => Err(LexStop::BadChar { at: end }),
+        }
+    }
+
+    // Ends what has begun.
+    fn close(&mut self) -> Result<(), LexStop>
+        requires { PendingFits self.old.pending }
+        ensures { Follows result (scan_of self.new) (close (scan_of self.old) self.old.pending) }
+    {
+        match self.pending {
+            Pending::Start | Pending::Free | Pending::Comment => self.pending = Pending::Free,
+            Pending::Identifier { start } => self.close_identifier(start)?,
+            Pending::Quote { start } => return Err(LexStop::BadChar { at: start }),
+            Pending::Variable { start, last } => {
+                if self.letters.as_str() == "_" {
+                    return Err(LexStop::BadChar { at: start });
+                }
+                self.close_variable(start, last)?;
+            }
+            Pending::Number { start, end, part, figures } => return self.close_number(start, end, part, figures),
+            Pending::Symbol { start, first } => {
+                let Some(sign) = single_sign(first) else {
+                    return Err(LexStop::BadChar { at: start });
+                };
+                self.push(Kind::Sign(sign), start, self.at)?;
+            }
+        }
+        Ok(())
+    }
+}
+
+// The kind of an identifier.
+fn letters_kind(alloc: Global, letters: &str) -> Result<Kind, AllocError>
+    ensures { IfOk result (λ k. k ≡ letters_kind letters.now) }
+{
+    match word_number(letters) {
+        Some(k) => Ok(Kind::Word(k)),
+        None if letters == "_" => Ok(Kind::Hole),
+        None => Ok(Kind::Name(Letters::from_slice(alloc, letters.as_bytes())?)),
+    }
+}
