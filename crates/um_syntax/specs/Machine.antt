@@ -186,6 +186,11 @@ takes (pending.Symbol start first) c = is_some (double_sign first c) || (first =
 abbrev pub at_state : Scan → ℕ → List ℕ → Pending → Scan
 at_state s at letters p = record { at = at; tokens = s.tokens; letters = letters; pending = p }
 
+abbrev pub number_taken : ℕ → ℕ → Part → Figures → ℕ → ℕ → Pending
+number_taken start end p f c next =
+    cond (is_ascii_digit c) (pending.Number start next (part_after_digit p) (more_figures p f (c - 48)))
+    (pending.Number start end (cond (c == 46) part.Point part.Over) f)
+
 abbrev pub symbol_taken : Scan → ℕ → ℕ → Option ℕ → Scan
 symbol_taken s start next (Some k) = pushed (at_state s next s.letters pending.Free) (kind.Sign k) start next
 symbol_taken s start next None = at_state s next s.letters pending.Comment
@@ -198,9 +203,7 @@ taken s pending.Comment c next = at_state s next s.letters (cond (c == 10) pendi
 taken s (pending.Identifier start) c next = at_state s next (s.letters ++ encode_utf8 c) (pending.Identifier start)
 taken s (pending.Quote start) c next = at_state s next (s.letters ++ encode_utf8 c) (pending.Variable start s.at)
 taken s (pending.Variable start last) c next = at_state s next (s.letters ++ encode_utf8 c) (pending.Variable start s.at)
-taken s (pending.Number start end p f) c next =
-    at_state s next s.letters (cond (is_ascii_digit c) (pending.Number start next (part_after_digit p) (more_figures p f (c - 48)))
-      (pending.Number start end (cond (c == 46) part.Point part.Over) f))
+taken s (pending.Number start end p f) c next = at_state s next s.letters (number_taken start end p f c next)
 taken s (pending.Symbol start first) c next = symbol_taken s start next (double_sign first c)
 
 -- the state after the first character of something, where nothing has begun

@@ -2,8 +2,9 @@
 ghost use Rattle.std.specs.Prelude.{◌≡◌, ◌+◌, ◌<◌, ◌≤◌, ◌^◌, length, OnOk, IfOk};
 ghost use Rattle.std.specs.Char.{len_utf8};
 ghost use Rattle.std.specs.Option.{option_copied};
+ghost use Rattle.um_syntax.specs.Gap.{is_space};
 ghost use Rattle.um_syntax.specs.Lexing.{is_glued, is_power_place, is_sign};
-ghost use Rattle.um_syntax.specs.Machine.{scan_start, step, taken, close, begun, pushed, identifier_pushed, variable_pushed, letters_kind, FiguresFit, PendingFits};
+ghost use Rattle.um_syntax.specs.Machine.{scan_start, step, taken, close, begun, pushed, identifier_pushed, variable_pushed, letters_kind, number_taken, FiguresFit, PendingFits};
 ghost use Rattle.um_syntax.specs.declared.pending.Pending.TheVariants as pending;
 ghost use Rattle.um_syntax.specs.Scanning.{scan_of, Follows};
 
@@ -59,7 +60,9 @@ fn is_glued(tokens: &[Token], start: u32) -> bool
 impl Scanner {
     // Puts a token behind the others. Nothing has begun then.
     fn push(&mut self, kind: Kind, start: u32, end: u32) -> Result<(), AllocError>
-        ensures { OnOk result (scan_of self.new ≡ pushed (scan_of self.old) kind start end) }
+        ensures goes { OnOk result (scan_of self.new ≡ pushed (scan_of self.old) kind start end) }
+        ensures free { OnOk result (self.new.pending ≡ pending.Free) }
+        ensures place { self.new.at ≡ self.old.at }
     {
         let glued = is_glued(&self.tokens, start);
         self.tokens.push(Token { kind, start, end, glued })?;
@@ -70,7 +73,9 @@ impl Scanner {
 
     // Ends the identifier whose letters are at hand.
     fn close_identifier(&mut self, start: u32) -> Result<(), AllocError>
-        ensures { OnOk result (scan_of self.new ≡ identifier_pushed (scan_of self.old) start) }
+        ensures goes { OnOk result (scan_of self.new ≡ identifier_pushed (scan_of self.old) start) }
+        ensures free { OnOk result (self.new.pending ≡ pending.Free) }
+        ensures place { self.new.at ≡ self.old.at }
     {
         let kind = letters_kind(self.alloc, &self.letters)?;
         self.push(kind, start, self.at)
@@ -78,7 +83,9 @@ impl Scanner {
 
     // Ends the variable whose letters are at hand. Where they are a word, the last of them is a name by itself.
     fn close_variable(&mut self, start: u32, last: u32) -> Result<(), AllocError>
-        ensures { OnOk result (scan_of self.new ≡ variable_pushed (scan_of self.old) start last) }
+        ensures goes { OnOk result (scan_of self.new ≡ variable_pushed (scan_of self.old) start last) }
+        ensures free { OnOk result (self.new.pending ≡ pending.Free) }
+        ensures place { self.new.at ≡ self.old.at }
     {
         let letters = self.letters.as_bytes();
         if word_number(&self.letters).is_none() {
@@ -95,7 +102,9 @@ impl Scanner {
     // Ends the number that these digits are, and what has been read behind it.
     fn close_number(&mut self, start: u32, end: u32, part: Part, figures: Figures) -> Result<(), LexStop>
         requires { FiguresFit figures }
-        ensures { Follows result (scan_of self.new) (close (scan_of self.old) (pending.Number start end part figures)) }
+        ensures goes { Follows result (scan_of self.new) (close (scan_of self.old) (pending.Number start end part figures)) }
+        ensures free { OnOk result (self.new.pending ≡ pending.Free) }
+        ensures place { self.new.at ≡ self.old.at }
     {
         let power = is_power_place(&self.tokens);
         let Some(kind) = figures.kind(power, part) else {
@@ -112,7 +121,9 @@ impl Scanner {
     // Ends what has begun.
     fn close(&mut self) -> Result<(), LexStop>
         requires { PendingFits self.old.pending }
-        ensures { Follows result (scan_of self.new) (close (scan_of self.old) self.old.pending) }
+        ensures goes { Follows result (scan_of self.new) (close (scan_of self.old) self.old.pending) }
+        ensures free { OnOk result (self.new.pending ≡ pending.Free) }
+        ensures place { self.new.at ≡ self.old.at }
     {
         match self.pending {
             Pending::Start | Pending::Free | Pending::Comment => self.pending = Pending::Free,
@@ -134,6 +145,106 @@ impl Scanner {
         }
         Ok(())
     }
+
+    // Takes a character that belongs to what has begun. `next` is the place behind it.
+    fn take(&mut self, c: char, next: u32) -> Result<(), AllocError>
+        requires { PendingFits self.old.pending }
+        ensures goes { OnOk result (scan_of self.new ≡ taken (scan_of self.old) self.old.pending c next) }
+        ensures fits { OnOk result (PendingFits self.new.pending) }
+        ensures place { OnOk result (self.new.at ≡ next) }
+    {
+        let at = self.at;
+        self.at = next;
+        match self.pending {
+            Pending::Start | Pending::Free => self.pending = Pending::Free,
+            Pending::Comment => {
+                if c == '\n' {
+                    self.pending = Pending::Free;
+                }
+            }
+            Pending::Identifier { .. } => self.letters.push(c)?,
+            Pending::Quote { start } | Pending::Variable { start, .. } => {
+                self.letters.push(c)?;
+                self.pending = Pending::Variable { start, last: at };
+            }
+            Pending::Number { start, end, part, figures } => {
+                self.pending = number_with(start, end, part, figures, c, next);
+            }
+            Pending::Symbol { start, first } => match double_sign(first, c) {
+                Some(sign) => self.push(Kind::Sign(sign), start, next)?,
+                None => self.pending = Pending::Comment,
+            },
+        }
+        Ok(())
+    }
+
+    // Takes the first character of something, where nothing has begun. `next` is the place behind it.
+    fn begin(&mut self, c: char, next: u32) -> Result<(), LexStop>
+        requires { self.old.pending ≡ pending.Free }
+        ensures goes { Follows result (scan_of self.new) (begun (scan_of self.old) c next) }
+        ensures fits { OnOk result (PendingFits self.new.pending) }
+        ensures place { OnOk result (self.new.at ≡ next) }
+    {
+        let start = self.at;
+        if is_space(c) {
+            self.pending = Pending::Free;
+        } else if starts_name(c) {
+            self.letters.push(c)?;
+            self.pending = Pending::Identifier { start };
+        } else if c.is_ascii_digit() {
+            let figures = Figures::new(c as u32 - '0' as u32);
+            self.pending = Pending::Number { start, end: next, part: Part::Whole, figures };
+        } else if c == '\'' {
+            self.pending = Pending::Quote { start };
+        } else if single_sign(c).is_some() || c == '&' {
+            self.pending = Pending::Symbol { start, first: c };
+        } else {
+            return Err(LexStop::BadChar { at: start });
+        }
+        self.at = next;
+        Ok(())
+    }
+
+    /// Takes one character.
+    pub fn scan(&mut self, c: char) -> Result<(), LexStop>
+        requires fits { PendingFits self.old.pending }
+        requires room { self.old.at + 4 < 2 ^ 32 }
+        ensures goes { Follows result (scan_of self.new) (step (scan_of self.old) c) }
+        ensures fits { OnOk result (PendingFits self.new.pending) }
+        ensures place { OnOk result (self.new.at ≡ self.old.at + len_utf8 c) }
+    {
+        let next = self.at + c.len_utf8() as u32;
+        let pending = self.pending;
+        if pending.takes(c) {
+            return Ok(self.take(c, next)?);
+        }
+        self.close()?;
+        if pending.ends_in_digit() && is_xid_continue(c) {
+            return Err(LexStop::BadChar { at: self.at });
+        }
+        self.begin(c, next)
+    }
+}
+
+// Whether the character is white space.
+fn is_space(c: char) -> bool
+    ensures { result ≡ is_space c }
+{
+    c == ' ' || c == '\t' || c == '\r' || c == '\n'
+}
+
+// A number that has begun, with a character that belongs to it.
+fn number_with(start: u32, end: u32, part: Part, figures: Figures, c: char, next: u32) -> Pending
+    requires { FiguresFit figures }
+    ensures goes { result ≡ number_taken start end part figures c next }
+    ensures fits { PendingFits result }
+{
+    if c.is_ascii_digit() {
+        let figures = figures.with(part, c as u32 - '0' as u32);
+        return Pending::Number { start, end: next, part: part.after_digit(), figures };
+    }
+    let part = if c == '.' { Part::Point } else { Part::Over };
+    Pending::Number { start, end, part, figures }
 }
 
 // The kind of an identifier.
