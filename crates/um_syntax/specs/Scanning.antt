@@ -22,3 +22,8 @@ Stops NoMemory r = Unit {0}
 abbrev pub Follows : {T : Type 0} → Result T LexStop → Scan → Result Scan LexStop → Type 0
 Follows (Ok done) new r = r ≡ Ok new
 Follows (Err stop) new r = Stops stop r
+
+-- The answer is the machine's, or want of memory.
+abbrev pub Answers : Result (List Token) LexStop → Result (List Token) LexStop → Type 0
+Answers (Ok tokens) r = r ≡ Ok tokens
+Answers (Err stop) r = Stops stop r

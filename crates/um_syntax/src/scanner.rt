@@ -4,9 +4,9 @@ ghost use Rattle.std.specs.Char.{len_utf8};
 ghost use Rattle.std.specs.Option.{option_copied};
 ghost use Rattle.um_syntax.specs.Gap.{is_space};
 ghost use Rattle.um_syntax.specs.Lexing.{is_glued, is_power_place, is_sign};
-ghost use Rattle.um_syntax.specs.Machine.{scan_start, step, taken, close, begun, pushed, identifier_pushed, variable_pushed, letters_kind, number_taken, FiguresFit, PendingFits};
+ghost use Rattle.um_syntax.specs.Machine.{scan_start, step, ended, taken, close, begun, pushed, identifier_pushed, variable_pushed, letters_kind, number_taken, FiguresFit, PendingFits};
 ghost use Rattle.um_syntax.specs.declared.pending.Pending.TheVariants as pending;
-ghost use Rattle.um_syntax.specs.Scanning.{scan_of, Follows};
+ghost use Rattle.um_syntax.specs.Scanning.{scan_of, Follows, Answers};
 
 use std::alloc::{AllocError, Global};
 
@@ -15,7 +15,7 @@ use unicode_ident::is_xid_continue;
 use crate::number::{Figures, Part};
 use crate::pending::Pending;
 use crate::table::{CARET, DOT, MINUS, double_sign, single_sign, starts_name, word_number};
-use crate::token::{Kind, Letters, LexStop, Token};
+use crate::token::{Kind, Letters, LexStop, Token, Tokens};
 
 /// The state between two characters.
 #[derive(Drop)]
@@ -58,6 +58,13 @@ fn is_glued(tokens: &[Token], start: u32) -> bool
 }
 
 impl Scanner {
+    /// The state before the first character. Takes no memory.
+    pub fn new(alloc: Global) -> Scanner
+        ensures { scan_of result ≡ scan_start }
+    {
+        Scanner { alloc, at: 0, tokens: Vec::new(alloc), letters: String::new(alloc), pending: Pending::Start }
+    }
+
     // Puts a token behind the others. Nothing has begun then.
     fn push(&mut self, kind: Kind, start: u32, end: u32) -> Result<(), AllocError>
         ensures goes { OnOk result (scan_of self.new ≡ pushed (scan_of self.old) kind start end) }
@@ -223,6 +230,15 @@ impl Scanner {
             return Err(LexStop::BadChar { at: self.at });
         }
         self.begin(c, next)
+    }
+
+    /// The tokens of the characters taken, once the text has ended.
+    pub fn finish(mut self) -> Result<Tokens, LexStop>
+        requires { PendingFits self.pending }
+        ensures { Answers result (ended (Ok (scan_of self))) }
+    {
+        self.close()?;
+        Ok(Tokens::from_vec(self.tokens))
     }
 }
 
