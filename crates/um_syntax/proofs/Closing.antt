@@ -1,6 +1,6 @@
 -- What has begun stands for its text, and the tokens that it ends in are those of the text.
 use Rattle.std.proofs.Common.{◌≡◌, ◌≢◌, ℕ, ◌+◌, ◌-◌, ◌<◌, Bool, true, false, cond, ◌&&◌, ◌||◌, eqb, List, [], ◌∷◌, ◌++◌, length, take, drop, Option, None, Some, is_some, Result, Ok, Err, refl, sym, ap, subst, ◌∙◌, arith, append_assoc, ◌⊎◌, inl, inr, ⊎_elim, lit<}
-use Rattle.std.proofs.lemmas.Bool.{false≢true}
+use Rattle.std.proofs.lemmas.Bool.{false≢true, eqb-true}
 use Rattle.std.proofs.lemmas.Str.{encodes_same, encode_ascii}
 use Rattle.std.specs.Str.{bytes_eq}
 use Rattle.std.specs.Char.{is_ascii_digit, len_utf8}
@@ -223,3 +223,181 @@ close_variable before start at last front more c is last_place place stops = by_
         → VariableMeans before start at last (front ++ c ∷ []) more (close (variable_state before start at last (encodes (front ++ c ∷ []))) (pending.Variable start last))
     by_hole true e = rw e (variable_hole before start (front ++ c ∷ []) more stops e)
     by_hole false e = rw e (by_number e (word_number (encodes (front ++ c ∷ []))) refl)
+
+append_nil : (xs : List ℕ) → xs ++ [] ≡ xs
+append_nil [] = refl
+append_nil (x ∷ xs) = ap (λ l. x ∷ l) (append_nil xs)
+
+or_false : (a b : Bool) → (a || b) ≡ false → (a ≡ false) × (b ≡ false)
+or_false true b e = absurd (false≢true (sym e))
+or_false false b e = (refl, e)
+
+and_false_left : (a b : Bool) → a ≡ false → (a && b) ≡ false
+and_false_left true b e = absurd (false≢true (sym e))
+and_false_left false b e = refl
+
+pub whole_part : (p : Part) (n : Numeral) → FitsPart p n → is_whole_part p ≡ is_whole n
+whole_part part.Whole (Whole ds) fits = refl
+whole_part part.Whole (Decimal w q) fits = absurd fits
+whole_part part.Whole (Ratio a b) fits = absurd fits
+whole_part part.Point (Whole ds) fits = refl
+whole_part part.Point (Decimal w q) fits = absurd fits
+whole_part part.Point (Ratio a b) fits = absurd fits
+whole_part part.Over (Whole ds) fits = refl
+whole_part part.Over (Decimal w q) fits = absurd fits
+whole_part part.Over (Ratio a b) fits = absurd fits
+whole_part part.Decimal (Whole ds) fits = absurd fits
+whole_part part.Decimal (Decimal w q) fits = refl
+whole_part part.Decimal (Ratio a b) fits = absurd fits
+whole_part part.Ratio (Whole ds) fits = absurd fits
+whole_part part.Ratio (Decimal w q) fits = absurd fits
+whole_part part.Ratio (Ratio a b) fits = refl
+
+whole_ends : (ds more : List ℕ) → begins (part_takes part.Whole) more ≡ false → NumeralEnds (Whole ds) more
+whole_ends ds [] e = (refl, refl)
+whole_ends ds (c ∷ cs) e =
+    let digit = or_false (is_ascii_digit c) (eqb c 46 || eqb c 114) e in
+    (digit.0, and_false_left (eqb c 46 || eqb c 114) (begins is_ascii_digit cs) digit.1)
+
+-- a number that takes no more has ended
+numeral_ends : (p : Part) (n : Numeral) (more : List ℕ) → FitsPart p n → begins (part_takes p) more ≡ false → NumeralEnds n (tail_of p ++ more)
+numeral_ends part.Whole (Whole ds) more fits e = whole_ends ds more e
+numeral_ends part.Point (Whole ds) more fits e = (refl, e)
+numeral_ends part.Over (Whole ds) more fits e = (refl, e)
+numeral_ends part.Decimal (Decimal w q) more fits e = e
+numeral_ends part.Ratio (Ratio a b) more fits e = e
+numeral_ends part.Whole (Decimal w q) more fits e = absurd fits
+numeral_ends part.Whole (Ratio a b) more fits e = absurd fits
+numeral_ends part.Point (Decimal w q) more fits e = absurd fits
+numeral_ends part.Point (Ratio a b) more fits e = absurd fits
+numeral_ends part.Over (Decimal w q) more fits e = absurd fits
+numeral_ends part.Over (Ratio a b) more fits e = absurd fits
+numeral_ends part.Decimal (Whole ds) more fits e = absurd fits
+numeral_ends part.Decimal (Ratio a b) more fits e = absurd fits
+numeral_ends part.Ratio (Whole ds) more fits e = absurd fits
+numeral_ends part.Ratio (Decimal w q) more fits e = absurd fits
+
+abbrev number_state : List Token → ℕ → ℕ → ℕ → Part → Numeral → Scan
+number_state before start at e p n = scan_at at before [] (pending.Number start e p (figures_of n))
+
+abbrev NumberMeans : List Token → ℕ → ℕ → ℕ → Part → Numeral → List ℕ → Result Scan LexStop → Type 0
+NumberMeans before start at e p n more r = CloseMeans before start (numeral_text n ++ tail_of p) at more (pending.Number start e p (figures_of n)) r
+
+-- what is known of a number that takes no more
+record IsNumberRead (start at e : ℕ) (p : Part) (n : Numeral) (more : List ℕ) : Type 0 where
+  pub fits : IsNumeral n
+  pub ends : NumeralEnds n (tail_of p ++ more)
+  pub end : e ≡ start + size_of (numeral_text n)
+  pub place : at ≡ start + size_of (numeral_text n ++ tail_of p)
+
+-- a number that has its last digit
+digit_ended : (before : List Token) (start at e : ℕ) (p : Part) (n : Numeral) (more : List ℕ) (kind : Kind) → tail_of p ≡ [] → ends_in_digit (pending.Number start e p (figures_of n)) ≡ true → IsNumberRead start at e p n more
+    → kind_of (is_power_place before) (Number n) ≡ Some kind → NumberMeans before start at e p n more (Ok (pushed (number_state before start at e p n) kind start e))
+digit_ended before start at e p n more kind no_tail digit r is_kind =
+    let text : numeral_text n ++ tail_of p ≡ numeral_text n = ap (λ x. numeral_text n ++ x) no_tail ∙ append_nil (numeral_text n) in
+    let same : at ≡ e = r.place ∙ ap (λ x. start + size_of x) text ∙ sym r.end in
+    (refl, λ answer alone m.
+      next_token before start _ _ more answer
+      (token_here before start (Number n) more _ kind e (ap (λ x. x ++ more) text) r.fits (subst (λ x. NumeralEnds n (x ++ more)) no_tail r.ends) (alone digit) is_kind r.end)
+      (subst (λ x. Means (before ++ record { kind = kind; start = start; end = e; glued = is_glued before start } ∷ []) x more answer) same m))
+
+dot_ends : (more : List ℕ) → SignEnds (46 ∷ []) more
+dot_ends [] = tt
+dot_ends (c ∷ cs) = (λ k h e. double_none (sign_text-double 46 c k h e), λ e. dot_slash e)
+  where
+    double_none : {k : ℕ} → ◌≡◌ {A = Option ℕ} None (Some k) → ⊥
+    double_none e = cc
+    dot_slash : ◌≡◌ {A = List ℕ} (46 ∷ c ∷ []) (47 ∷ 47 ∷ []) → ⊥
+    dot_slash e = let same : ◌≡◌ {A = ℕ} 46 47 = cc in omega (arith, same)
+
+point_ended : (before : List Token) (start at e : ℕ) (n : Numeral) (more : List ℕ) (which : Kind) → IsNumberRead start at e part.Point n more
+    → kind_of (is_power_place before) (Number n) ≡ Some which → NumberMeans before start at e part.Point n more (Ok (pushed (pushed (number_state before start at e part.Point n) which start e) (kind.Sign dot) e at))
+point_ended before start at e n more which r is_kind =
+    (refl, λ answer alone m.
+      next_token before start _ _ (46 ∷ more) answer
+      (token_here before start (Number n) (46 ∷ more) _ which e (append_assoc (numeral_text n) (46 ∷ []) more) r.fits r.ends (is_xid_continue-ascii 46 (lit< tt)) is_kind r.end)
+      (next_token (before ++ _ ∷ []) e (46 ∷ more) _ more answer
+        (token_here (before ++ _ ∷ []) e (Sign dot) more (46 ∷ more) (kind.Sign dot) at refl (lit< tt) (dot_ends more) tt refl (omega (arith, r.place, r.end, size_of-append (numeral_text n) (46 ∷ []))))
+        m))
+
+is_number_at : (start at e : ℕ) (p : Part) (n : Numeral) (more : List ℕ) → IsNumberRead start at e p n more → IsNumberAt ((numeral_text n ++ tail_of p) ++ more) n (tail_of p ++ more)
+is_number_at start at e p n more r = record { cut = append_assoc (numeral_text n) (tail_of p) more; fits = r.fits; longest = r.ends }
+
+over_ended : (before : List Token) (start at e : ℕ) (n : Numeral) (more : List ℕ) (kind : Kind) → IsNumberRead start at e part.Over n more
+    → kind_of (is_power_place before) (Number n) ≡ Some kind → NumberMeans before start at e part.Over n more (Err (BadChar e))
+over_ended before start at e n more kind r is_kind =
+    faulty_here before start _ (BadChar e) (inr (n, 114 ∷ more, is_number_at start at e part.Over n more r, λ none. none_some (sym none ∙ is_kind), is_xid_continue-ascii 114 (lit< tt), r.end))
+  where
+    none_some : ◌≡◌ {A = Option Kind} None (Some kind) → ⊥
+    none_some e = cc
+
+number_kept : (before : List Token) (start at e : ℕ) (p : Part) (n : Numeral) (more : List ℕ) (kind : Kind) → IsNumberRead start at e p n more
+    → kind_of (is_power_place before) (Number n) ≡ Some kind → NumberMeans before start at e p n more (part_pushed p (pushed (number_state before start at e p n) kind start e) e)
+number_kept before start at e part.Whole n more kind r is_kind = digit_ended before start at e part.Whole n more kind refl refl r is_kind
+number_kept before start at e part.Decimal n more kind r is_kind = digit_ended before start at e part.Decimal n more kind refl refl r is_kind
+number_kept before start at e part.Ratio n more kind r is_kind = digit_ended before start at e part.Ratio n more kind refl refl r is_kind
+number_kept before start at e part.Point n more kind r is_kind = point_ended before start at e n more kind r is_kind
+number_kept before start at e part.Over n more kind r is_kind = over_ended before start at e n more kind r is_kind
+
+number_refused : (before : List Token) (start at e : ℕ) (p : Part) (n : Numeral) (more : List ℕ) → IsNumberRead start at e p n more → (power : Bool) → is_power_place before ≡ power
+    → kind_of power (Number n) ≡ None → NumberMeans before start at e p n more (number_pushed (number_state before start at e p n) start e p power None)
+number_refused before start at e p n more r true power none = faulty_here before start _ (PowerText start) (refl, power, (n, _, is_number_at start at e p n more r, none))
+number_refused before start at e p n more r false power none = faulty_here before start _ (NumberRange start) (refl, power, (n, _, is_number_at start at e p n more r, none))
+
+pub close_number : (before : List Token) (start at e : ℕ) (p : Part) (n : Numeral) (more : List ℕ) → IsNumeral n → FitsPart p n → e ≡ start + size_of (numeral_text n) → at ≡ start + size_of (numeral_text n ++ tail_of p)
+    → begins (part_takes p) more ≡ false → NumberMeans before start at e p n more (close (number_state before start at e p n) (pending.Number start e p (figures_of n)))
+close_number before start at e p n more fits has end place untaken =
+    rw (figures_kind-of (is_power_place before) p n fits (whole_part p n has)) (by_kind (kind_of (is_power_place before) (Number n)) refl)
+  where
+    r : IsNumberRead start at e p n more
+    r = record { fits = fits; ends = numeral_ends p n more has untaken; end = end; place = place }
+    by_kind : (o : Option Kind) → kind_of (is_power_place before) (Number n) ≡ o → NumberMeans before start at e p n more (number_pushed (number_state before start at e p n) start e p (is_power_place before) o)
+    by_kind (Some kind) is = number_kept before start at e p n more kind r is
+    by_kind None is = number_refused before start at e p n more r (is_power_place before) refl is
+
+-- signs
+single_ends : (k c : ℕ) (more : List ℕ) → sign_text k ≡ c ∷ [] → begins (takes (pending.Symbol 0 c)) more ≡ false → SignEnds (sign_text k) more
+single_ends k c more e untaken = subst (λ x. SignEnds x more) (sym e) (ends more untaken)
+  where
+    ends : (more : List ℕ) → begins (takes (pending.Symbol 0 c)) more ≡ false → SignEnds (c ∷ []) more
+    ends [] u = tt
+    ends (d ∷ ds) u =
+        let parts = or_false (is_some (double_sign c d)) (eqb c 47 && eqb d 47) u in
+        (λ j h t. false≢true (sym parts.0 ∙ ap is_some (sign_text-double c d j h t)),
+          λ t. let first : c ≡ 47 = cc in let second : d ≡ 47 = cc in false≢true (sym parts.1 ∙ ap (λ x. eqb x 47 && eqb d 47) first ∙ ap (λ y. eqb y 47) second))
+
+ampersand_head : (more : List ℕ) → begins (takes (pending.Symbol 0 38)) more ≡ false → NoHead 38 more
+ampersand_head more untaken = record {
+  name = ampersand_no_name;
+  digit = refl;
+  single = refl;
+  double = λ b rest e. let u = sym (ap (begins (takes (pending.Symbol 0 38))) e) ∙ untaken in (or_false (is_some (double_sign 38 b)) (eqb 38 47 && eqb b 47) u).0;
+  variable = λ e. absurd (not_quote e);
+}
+  where
+    not_quote : ◌≡◌ {A = ℕ} 38 39 → ⊥
+    not_quote e = omega (arith, e)
+
+abbrev SymbolMeans : List Token → ℕ → ℕ → ℕ → List ℕ → Result Scan LexStop → Type 0
+SymbolMeans before start at first more r = CloseMeans before start (first ∷ []) at more (pending.Symbol start first) r
+
+close_symbol : (before : List Token) (start at first : ℕ) (more : List ℕ) → at ≡ start + size_of (first ∷ []) → (is_some (single_sign first) || eqb first 38) ≡ true
+    → begins (takes (pending.Symbol 0 first)) more ≡ false → SymbolMeans before start at first more (close (scan_at at before [] (pending.Symbol start first)) (pending.Symbol start first))
+close_symbol before start at first more place begun untaken = by_sign (single_sign first) refl
+  where
+    sign : (k : ℕ) → single_sign first ≡ Some k → SymbolMeans before start at first more (sign_pushed (scan_at at before [] (pending.Symbol start first)) start (Some k))
+    sign k e =
+        let t = single_sign-text first k e in
+        (refl, λ answer alone m.
+          next_token before start _ _ more answer
+          (token_here before start (Sign k) more _ (kind.Sign k) at (ap (λ x. x ++ more) (sym t.1)) t.0 (single_ends k first more t.1 untaken) tt refl (place ∙ ap (λ x. start + size_of x) (sym t.1)))
+          m)
+    ampersand : single_sign first ≡ None → Means before start (first ∷ more) (Err (BadChar start))
+    ampersand e =
+        let is : eqb first 38 ≡ true = sym (ap (λ o. is_some o || eqb first 38) e) ∙ begun in
+        let same = eqb-true first 38 is in
+        subst (λ x. Means before start (x ∷ more) (Err (BadChar start))) (sym same)
+        (faulty_here before start (38 ∷ more) (BadChar start) (inl (refl, nothing_at 38 more refl (ampersand_head more (subst (λ x. begins (takes (pending.Symbol 0 x)) more ≡ false) same untaken)))))
+    by_sign : (o : Option ℕ) → single_sign first ≡ o → SymbolMeans before start at first more (close (scan_at at before [] (pending.Symbol start first)) (pending.Symbol start first))
+    by_sign (Some k) e = rw e (sign k e)
+    by_sign None e = rw e (ampersand e)
