@@ -71,7 +71,7 @@ CloseMeans before start text at more p (Err stop) = Means before start (text ++ 
 abbrev pub scan_at : ℕ → List Token → List ℕ → Pending → Scan
 scan_at at before letters p = record { at = at; tokens = before; letters = letters; pending = p }
 
-close_identifier : (before : List Token) (start at : ℕ) (letters text more : List ℕ) → at ≡ start + size_of text → letters ≡ encodes text → IsIdentifier text → begins is_xid_continue more ≡ false
+pub close_identifier : (before : List Token) (start at : ℕ) (letters text more : List ℕ) → at ≡ start + size_of text → letters ≡ encodes text → IsIdentifier text → begins is_xid_continue more ≡ false
     → CloseMeans before start text at more (pending.Identifier start) (Ok (identifier_pushed (scan_at at before letters (pending.Identifier start)) start))
 close_identifier before start at letters text more place same is stops =
     let r = identifier_read text is in
@@ -100,7 +100,7 @@ quote_head more no_variable = record {
   variable = λ e. no_variable;
 }
 
-close_quote : (before : List Token) (start : ℕ) (more : List ℕ) → begins starts_name more ≡ false → Means before start (39 ∷ more) (Err (BadChar start))
+pub close_quote : (before : List Token) (start : ℕ) (more : List ℕ) → begins starts_name more ≡ false → Means before start (39 ∷ more) (Err (BadChar start))
 close_quote before start more stops = faulty_here before start (39 ∷ more) (BadChar start) (inl (refl, nothing_at 39 more refl (quote_head more no_variable)))
   where
     no_variable : (name rest : List ℕ) → IsName name → more ≢ name ++ rest
@@ -210,7 +210,7 @@ variable_word before start at last front more c k last_place place stops e =
 variable_hole : (before : List Token) (start : ℕ) (name more : List ℕ) → begins is_xid_continue more ≡ false → bytes_eq (encodes name) (95 ∷ []) ≡ true → Means before start ((39 ∷ name) ++ more) (Err (BadChar start))
 variable_hole before start name more stops e = subst (λ x. Means before start ((39 ∷ x) ++ more) (Err (BadChar start))) (sym (hole_from name e)) (hole_variable before start more stops)
 
-close_variable : (before : List Token) (start at last : ℕ) (front more : List ℕ) (c : ℕ) → IsIdentifier (front ++ c ∷ []) → last ≡ start + size_of (39 ∷ front) → at ≡ start + size_of (39 ∷ (front ++ c ∷ []))
+pub close_variable : (before : List Token) (start at last : ℕ) (front more : List ℕ) (c : ℕ) → IsIdentifier (front ++ c ∷ []) → last ≡ start + size_of (39 ∷ front) → at ≡ start + size_of (39 ∷ (front ++ c ∷ []))
     → begins is_xid_continue more ≡ false
     → VariableMeans before start at last (front ++ c ∷ []) more (close (variable_state before start at last (encodes (front ++ c ∷ []))) (pending.Variable start last))
 close_variable before start at last front more c is last_place place stops = by_hole (bytes_eq (encodes (front ++ c ∷ [])) (95 ∷ [])) refl
@@ -224,7 +224,7 @@ close_variable before start at last front more c is last_place place stops = by_
     by_hole true e = rw e (variable_hole before start (front ++ c ∷ []) more stops e)
     by_hole false e = rw e (by_number e (word_number (encodes (front ++ c ∷ []))) refl)
 
-append_nil : (xs : List ℕ) → xs ++ [] ≡ xs
+pub append_nil : (xs : List ℕ) → xs ++ [] ≡ xs
 append_nil [] = refl
 append_nil (x ∷ xs) = ap (λ l. x ∷ l) (append_nil xs)
 
@@ -381,7 +381,7 @@ ampersand_head more untaken = record {
 abbrev SymbolMeans : List Token → ℕ → ℕ → ℕ → List ℕ → Result Scan LexStop → Type 0
 SymbolMeans before start at first more r = CloseMeans before start (first ∷ []) at more (pending.Symbol start first) r
 
-close_symbol : (before : List Token) (start at first : ℕ) (more : List ℕ) → at ≡ start + size_of (first ∷ []) → (is_some (single_sign first) || eqb first 38) ≡ true
+pub close_symbol : (before : List Token) (start at first : ℕ) (more : List ℕ) → at ≡ start + size_of (first ∷ []) → (is_some (single_sign first) || eqb first 38) ≡ true
     → begins (takes (pending.Symbol 0 first)) more ≡ false → SymbolMeans before start at first more (close (scan_at at before [] (pending.Symbol start first)) (pending.Symbol start first))
 close_symbol before start at first more place begun untaken = by_sign (single_sign first) refl
   where
@@ -401,3 +401,22 @@ close_symbol before start at first more place begun untaken = by_sign (single_si
     by_sign : (o : Option ℕ) → single_sign first ≡ o → SymbolMeans before start at first more (close (scan_at at before [] (pending.Symbol start first)) (pending.Symbol start first))
     by_sign (Some k) e = rw e (sign k e)
     by_sign None e = rw e (ampersand e)
+
+-- a letter directly behind a number that keeps its rule
+none_refused : (s : Scan) (start e : ℕ) (p : Part) (power : Bool) (new : Scan) → number_pushed s start e p power None ≡ Ok new → ⊥
+none_refused s start e p true new same = cc
+none_refused s start e p false new same = cc
+
+pub number_tail : (before : List Token) (start at e : ℕ) (p : Part) (n : Numeral) (more : List ℕ) (new : Scan) → IsNumeral n → FitsPart p n → e ≡ start + size_of (numeral_text n) → at ≡ start + size_of (numeral_text n ++ tail_of p)
+    → begins (part_takes p) more ≡ false → tail_of p ≡ [] → begins is_xid_continue more ≡ true → close (number_state before start at e p n) (pending.Number start e p (figures_of n)) ≡ Ok new
+    → Means before start ((numeral_text n ++ tail_of p) ++ more) (Err (BadChar at))
+number_tail before start at e p n more new fits has end place untaken no_tail letter ok =
+    faulty_here before start ((numeral_text n ++ tail_of p) ++ more) (BadChar at) (inr (n, tail_of p ++ more, is_number_at start at e p n more r, kept, subst (λ x. begins is_xid_continue (x ++ more) ≡ true) (sym no_tail) letter, place ∙ ap (λ x. start + size_of x) text))
+  where
+    r : IsNumberRead start at e p n more
+    r = record { fits = fits; ends = numeral_ends p n more has untaken; end = end; place = place }
+    text : numeral_text n ++ tail_of p ≡ numeral_text n
+    text = ap (λ x. numeral_text n ++ x) no_tail ∙ append_nil (numeral_text n)
+    kept : kind_of (is_power_place before) (Number n) ≡ None → ⊥
+    kept none = none_refused (number_state before start at e p n) start e p (is_power_place before) new
+        (ap (λ o. number_pushed (number_state before start at e p n) start e p (is_power_place before) o) (sym none ∙ sym (figures_kind-of (is_power_place before) p n fits (whole_part p n has))) ∙ ok)

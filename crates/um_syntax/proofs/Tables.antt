@@ -295,3 +295,7 @@ word_parts (suc (suc (suc (suc (suc (suc (suc (suc (suc (suc (suc (suc (suc (suc
 
 pub last_encoded : (c : ℕ) → is_ascii_alphabetic c ≡ true → encodes (c ∷ []) ≡ c ∷ []
 last_encoded c e = ap (λ x. x ++ []) (encode_ascii c (alphabetic_small c e))
+
+-- a sign of two characters begins with a sign, or with an ampersand
+pub double_sign-first : (a b k : ℕ) → double_sign a b ≡ Some k → (is_some (single_sign a) || eqb a 38) ≡ true
+double_sign-first a b k e = found_each_pair (λ a b k. (is_some (single_sign a) || eqb a 38) ≡ true) a b k double_signs (refl, (refl, (refl, (refl, (refl, (refl, (refl, tt))))))) e
