@@ -4,7 +4,8 @@ use Rattle.std.proofs.lemmas.Slice.Eq.{bytes_eq-Decides}
 use Rattle.std.proofs.lemmas.Bool.{false≢true, eqb-true, eq-eqb}
 use Rattle.std.specs.Str.{bytes_eq}
 use Rattle.std.specs.List.{position_from}
-use Rattle.std.specs.Char.{is_ascii_alphabetic}
+use Rattle.std.specs.Char.{is_ascii_alphabetic, is_ascii_digit}
+use Rattle.um_syntax.specs.Gap.{is_space}
 use Rattle.std.proofs.lemmas.Str.{encode_ascii}
 use Rattle.std.proofs.lemmas.Bool.Decides.{nat_tests}
 use lib.Utf8.{encode, encodes}
@@ -299,3 +300,13 @@ last_encoded c e = ap (λ x. x ++ []) (encode_ascii c (alphabetic_small c e))
 -- a sign of two characters begins with a sign, or with an ampersand
 pub double_sign-first : (a b k : ℕ) → double_sign a b ≡ Some k → (is_some (single_sign a) || eqb a 38) ≡ true
 double_sign-first a b k e = found_each_pair (λ a b k. (is_some (single_sign a) || eqb a 38) ≡ true) a b k double_signs (refl, (refl, (refl, (refl, (refl, (refl, (refl, tt))))))) e
+
+-- the character that a sign begins with is no white space, letter, digit or quote
+abbrev pub IsMark : ℕ → Type 0
+IsMark c = (is_space c ≡ false) × (c < 128) × ((eqb c 95 || is_ascii_alphabetic c) ≡ false) × (is_ascii_digit c ≡ false) × (eqb c 39 ≡ false)
+
+pub single_sign-mark : (c k : ℕ) → single_sign c ≡ Some k → IsMark c
+single_sign-mark c k e = found_each (λ c k. IsMark c) c k single_signs ((refl, lit< tt, refl, refl, refl), ((refl, lit< tt, refl, refl, refl), ((refl, lit< tt, refl, refl, refl), ((refl, lit< tt, refl, refl, refl), ((refl, lit< tt, refl, refl, refl), ((refl, lit< tt, refl, refl, refl), ((refl, lit< tt, refl, refl, refl), ((refl, lit< tt, refl, refl, refl), ((refl, lit< tt, refl, refl, refl), ((refl, lit< tt, refl, refl, refl), ((refl, lit< tt, refl, refl, refl), ((refl, lit< tt, refl, refl, refl), ((refl, lit< tt, refl, refl, refl), ((refl, lit< tt, refl, refl, refl), ((refl, lit< tt, refl, refl, refl), ((refl, lit< tt, refl, refl, refl), ((refl, lit< tt, refl, refl, refl), ((refl, lit< tt, refl, refl, refl), ((refl, lit< tt, refl, refl, refl), tt))))))))))))))))))) e
+
+pub double_sign-mark : (a b k : ℕ) → double_sign a b ≡ Some k → IsMark a
+double_sign-mark a b k e = found_each_pair (λ a b k. IsMark a) a b k double_signs ((refl, lit< tt, refl, refl, refl), ((refl, lit< tt, refl, refl, refl), ((refl, lit< tt, refl, refl, refl), ((refl, lit< tt, refl, refl, refl), ((refl, lit< tt, refl, refl, refl), ((refl, lit< tt, refl, refl, refl), ((refl, lit< tt, refl, refl, refl), tt))))))) e
