@@ -277,7 +277,7 @@ numeral_ends part.Decimal (Ratio a b) more fits e = absurd fits
 numeral_ends part.Ratio (Whole ds) more fits e = absurd fits
 numeral_ends part.Ratio (Decimal w q) more fits e = absurd fits
 
-abbrev number_state : List Token → ℕ → ℕ → ℕ → Part → Numeral → Scan
+abbrev pub number_state : List Token → ℕ → ℕ → ℕ → Part → Numeral → Scan
 number_state before start at e p n = scan_at at before [] (pending.Number start e p (figures_of n))
 
 abbrev NumberMeans : List Token → ℕ → ℕ → ℕ → Part → Numeral → List ℕ → Result Scan LexStop → Type 0

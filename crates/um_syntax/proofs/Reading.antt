@@ -25,7 +25,7 @@ use Rattle.um_syntax.proofs.Places.{size_of-append}
 use Rattle.um_syntax.proofs.Runs.{steps-stopped}
 use Rattle.um_syntax.proofs.Digits.{figures_of, figures-first, figures-whole, figures-point, figures-decimal, figures-over, figures-ratio}
 use Rattle.um_syntax.proofs.Tables.{IsMark}
-use Rattle.um_syntax.proofs.Closing.{scan_at, append_nil}
+use Rattle.um_syntax.proofs.Closing.{scan_at, append_nil, number_state}
 
 -- the answer from a state on
 abbrev pub run : Scan → List ℕ → Result (List Token) LexStop
@@ -151,3 +151,106 @@ variable_at before start at last letters = scan_at at before letters (pending.Va
 pub variable_step : (before : List Token) (start at last c : ℕ) (letters : List ℕ) (more : List ℕ) → is_xid_continue c ≡ true
     → run (variable_at before start at last letters) (c ∷ more) ≡ run (variable_at before start (at + len_utf8 c) at (letters ++ encode c)) more
 variable_step before start at last c letters more e = run_on (variable_at before start at last letters) (variable_at before start (at + len_utf8 c) at (letters ++ encode c)) c more (rw e refl)
+
+variable_letters_run : (before : List Token) (start at last c : ℕ) (letters cs more : List ℕ) → AllContinue (cs ++ c ∷ [])
+    → run (variable_at before start at last letters) ((cs ++ c ∷ []) ++ more) ≡ run (variable_at before start (at + size_of (cs ++ c ∷ [])) (at + size_of cs) (letters ++ encodes (cs ++ c ∷ []))) more
+variable_letters_run before start at last c letters [] more all =
+    variable_step before start at last c letters more all.0
+    ∙ ap (λ p. run (variable_at before start p at (letters ++ encode c)) more) (let e : at + len_utf8 c ≡ at + (len_utf8 c + 0) = omega arith in e)
+    ∙ ap (λ p. run (variable_at before start (at + (len_utf8 c + 0)) p (letters ++ encode c)) more) (let e : at ≡ at + 0 = omega arith in e)
+    ∙ ap (λ l. run (variable_at before start (at + (len_utf8 c + 0)) (at + 0) (letters ++ l)) more) (sym (append_nil (encode c)))
+variable_letters_run before start at last c letters (d ∷ ds) more all =
+    variable_step before start at last d letters ((ds ++ c ∷ []) ++ more) all.0
+    ∙ variable_letters_run before start (at + len_utf8 d) at c (letters ++ encode d) ds more all.1
+    ∙ ap (λ p. run (variable_at before start p (at + len_utf8 d + size_of ds) ((letters ++ encode d) ++ encodes (ds ++ c ∷ []))) more) (add_assoc at (len_utf8 d) (size_of (ds ++ c ∷ [])))
+    ∙ ap (λ p. run (variable_at before start (at + size_of (d ∷ (ds ++ c ∷ []))) p ((letters ++ encode d) ++ encodes (ds ++ c ∷ []))) more) (add_assoc at (len_utf8 d) (size_of ds))
+    ∙ ap (λ l. run (variable_at before start (at + size_of (d ∷ (ds ++ c ∷ []))) (at + size_of (d ∷ ds)) l) more) (append_assoc letters (encode d) (encodes (ds ++ c ∷ [])))
+
+first_letter : (before : List Token) (at c : ℕ) (more : List ℕ) → starts_name c ≡ true → run (free before at) (39 ∷ c ∷ more) ≡ run (variable_at before at (at + 1 + len_utf8 c) (at + 1) (encode c)) more
+first_letter before at c more e =
+    run_on (free before at) (scan_at (at + 1) before [] (pending.Quote at)) 39 (c ∷ more) (begin_quote before at)
+    ∙ run_on (scan_at (at + 1) before [] (pending.Quote at)) (variable_at before at (at + 1 + len_utf8 c) (at + 1) (encode c)) c more (rw e refl)
+
+pub variable_run : (before : List Token) (at c : ℕ) (front more : List ℕ) → IsIdentifier (front ++ c ∷ [])
+    → run (free before at) (39 ∷ ((front ++ c ∷ []) ++ more)) ≡ run (variable_at before at (at + size_of (39 ∷ (front ++ c ∷ []))) (at + size_of (39 ∷ front)) (encodes (front ++ c ∷ []))) more
+variable_run before at c [] more is =
+    first_letter before at c more is.0
+    ∙ ap (λ p. run (variable_at before at p (at + 1) (encode c)) more) (let e : at + 1 + len_utf8 c ≡ at + (1 + (len_utf8 c + 0)) = omega arith in e)
+    ∙ ap (λ l. run (variable_at before at (at + (1 + (len_utf8 c + 0))) (at + 1) l) more) (sym (append_nil (encode c)))
+variable_run before at c (d ∷ ds) more is =
+    first_letter before at d ((ds ++ c ∷ []) ++ more) is.0
+    ∙ variable_letters_run before at (at + 1 + len_utf8 d) (at + 1) c (encode d) ds more is.1
+    ∙ ap (λ p. run (variable_at before at p (at + 1 + len_utf8 d + size_of ds) (encode d ++ encodes (ds ++ c ∷ []))) more) (let e : at + 1 + len_utf8 d + size_of (ds ++ c ∷ []) ≡ at + (1 + (len_utf8 d + size_of (ds ++ c ∷ []))) = omega arith in e)
+    ∙ ap (λ p. run (variable_at before at (at + size_of (39 ∷ d ∷ (ds ++ c ∷ []))) p (encode d ++ encodes (ds ++ c ∷ []))) more) (let e : at + 1 + len_utf8 d + size_of ds ≡ at + (1 + (len_utf8 d + size_of ds)) = omega arith in e)
+
+-- the digits of a number; its state has read its last digit
+abbrev pub digits_at : List Token → ℕ → ℕ → Part → Numeral → Scan
+digits_at before start at p n = number_state before start at at p n
+
+digit_step : (before : List Token) (start at e d : ℕ) (p : Part) (n m : Numeral) (more : List ℕ) → is_ascii_digit d ≡ true → more_figures p (figures_of n) (d - 48) ≡ figures_of m
+    → run (number_state before start at e p n) (d ∷ more) ≡ run (digits_at before start (at + len_utf8 d) (part_after_digit p) m) more
+digit_step before start at e d p n m more digit same =
+    run_on (number_state before start at e p n) (scan_at (at + len_utf8 d) before [] (pending.Number start (at + len_utf8 d) (part_after_digit p) (more_figures p (figures_of n) (d - 48)))) d more (takes_digit p)
+    ∙ ap (λ f. run (scan_at (at + len_utf8 d) before [] (pending.Number start (at + len_utf8 d) (part_after_digit p) f)) more) same
+  where
+    takes_digit : (p : Part) → step (number_state before start at e p n) d ≡ Ok (scan_at (at + len_utf8 d) before [] (pending.Number start (at + len_utf8 d) (part_after_digit p) (more_figures p (figures_of n) (d - 48))))
+    takes_digit part.Whole = rw digit refl
+    takes_digit part.Point = rw digit refl
+    takes_digit part.Decimal = rw digit refl
+    takes_digit part.Over = rw digit refl
+    takes_digit part.Ratio = rw digit refl
+
+digits_run : (grow : List ℕ → Numeral) (p : Part) → part_after_digit p ≡ p
+    → ((ds : List ℕ) (d : ℕ) → is_ascii_digit d ≡ true → more_figures p (figures_of (grow ds)) (d - 48) ≡ figures_of (grow (ds ++ d ∷ [])))
+    → (before : List Token) (start at : ℕ) (ds cs more : List ℕ) → AreDigits cs → run (digits_at before start at p (grow ds)) (cs ++ more) ≡ run (digits_at before start (at + size_of cs) p (grow (ds ++ cs))) more
+digits_run grow p stays grows before start at ds [] more all =
+    ap (λ q. run (digits_at before start q p (grow ds)) more) (let e : at ≡ at + 0 = omega arith in e)
+    ∙ ap (λ x. run (digits_at before start (at + 0) p (grow x)) more) (sym (append_nil ds))
+digits_run grow p stays grows before start at ds (c ∷ cs) more all =
+    digit_step before start at at c p (grow ds) (grow (ds ++ c ∷ [])) (cs ++ more) all.0 (grows ds c all.0)
+    ∙ ap (λ q. run (digits_at before start (at + len_utf8 c) q (grow (ds ++ c ∷ []))) (cs ++ more)) stays
+    ∙ digits_run grow p stays grows before start (at + len_utf8 c) (ds ++ c ∷ []) cs more all.1
+    ∙ ap (λ q. run (digits_at before start q p (grow ((ds ++ c ∷ []) ++ cs))) more) (add_assoc at (len_utf8 c) (size_of cs))
+    ∙ ap (λ x. run (digits_at before start (at + size_of (c ∷ cs)) p (grow x)) more) (append_assoc ds (c ∷ []) cs)
+
+whole_run : (before : List Token) (at : ℕ) (ds more : List ℕ) → IsDigits ds → run (free before at) (ds ++ more) ≡ run (digits_at before at (at + size_of ds) part.Whole (Whole ds)) more
+whole_run before at [] more is = absurd is
+whole_run before at (d ∷ ds) more is =
+    run_on (free before at) (scan_at (at + len_utf8 d) before [] (pending.Number at (at + len_utf8 d) part.Whole (first_figures (d - 48)))) d (ds ++ more) (begin_digit before at d is.0)
+    ∙ ap (λ f. run (scan_at (at + len_utf8 d) before [] (pending.Number at (at + len_utf8 d) part.Whole f)) (ds ++ more)) (figures-first d is.0)
+    ∙ digits_run (λ x. Whole x) part.Whole refl figures-whole before at (at + len_utf8 d) (d ∷ []) ds more is.1
+    ∙ ap (λ q. run (digits_at before at q part.Whole (Whole (d ∷ ds))) more) (add_assoc at (len_utf8 d) (size_of ds))
+
+abbrev pub part_of : Numeral → Part
+part_of (Whole ds) = part.Whole
+part_of (Decimal w q) = part.Decimal
+part_of (Ratio a b) = part.Ratio
+
+decimal_run : (before : List Token) (start at : ℕ) (w q more : List ℕ) → IsDigits q → run (digits_at before start at part.Whole (Whole w)) (46 ∷ (q ++ more)) ≡ run (digits_at before start (at + size_of (46 ∷ q)) part.Decimal (Decimal w q)) more
+decimal_run before start at w [] more is = absurd is
+decimal_run before start at w (d ∷ ds) more is =
+    run_on (digits_at before start at part.Whole (Whole w)) (number_state before start (at + 1) at part.Point (Whole w)) 46 (d ∷ (ds ++ more)) refl
+    ∙ digit_step before start (at + 1) at d part.Point (Whole w) (Decimal w (d ∷ [])) (ds ++ more) is.0 (figures-point w d is.0)
+    ∙ digits_run (λ x. Decimal w x) part.Decimal refl (figures-decimal w) before start (at + 1 + len_utf8 d) (d ∷ []) ds more is.1
+    ∙ ap (λ q. run (digits_at before start q part.Decimal (Decimal w (d ∷ ds))) more) (let e : at + 1 + len_utf8 d + size_of ds ≡ at + (1 + (len_utf8 d + size_of ds)) = omega arith in e)
+
+ratio_run : (before : List Token) (start at : ℕ) (a b more : List ℕ) → IsDigits b → run (digits_at before start at part.Whole (Whole a)) (114 ∷ (b ++ more)) ≡ run (digits_at before start (at + size_of (114 ∷ b)) part.Ratio (Ratio a b)) more
+ratio_run before start at a [] more is = absurd is
+ratio_run before start at a (d ∷ ds) more is =
+    run_on (digits_at before start at part.Whole (Whole a)) (number_state before start (at + 1) at part.Over (Whole a)) 114 (d ∷ (ds ++ more)) refl
+    ∙ digit_step before start (at + 1) at d part.Over (Whole a) (Ratio a (d ∷ [])) (ds ++ more) is.0 (figures-over a d is.0)
+    ∙ digits_run (λ x. Ratio a x) part.Ratio refl (figures-ratio a) before start (at + 1 + len_utf8 d) (d ∷ []) ds more is.1
+    ∙ ap (λ q. run (digits_at before start q part.Ratio (Ratio a (d ∷ ds))) more) (let e : at + 1 + len_utf8 d + size_of ds ≡ at + (1 + (len_utf8 d + size_of ds)) = omega arith in e)
+
+pub number_run : (before : List Token) (at : ℕ) (n : Numeral) (more : List ℕ) → IsNumeral n → run (free before at) (numeral_text n ++ more) ≡ run (digits_at before at (at + size_of (numeral_text n)) (part_of n) n) more
+number_run before at (Whole ds) more is = whole_run before at ds more is
+number_run before at (Decimal w q) more is =
+    ap (λ x. run (free before at) x) (append_assoc w (46 ∷ q) more)
+    ∙ whole_run before at w (46 ∷ (q ++ more)) is.0
+    ∙ decimal_run before at (at + size_of w) w q more is.1
+    ∙ ap (λ p. run (digits_at before at p part.Decimal (Decimal w q)) more) (let e = size_of-append w (46 ∷ q) in let there : at + size_of w + size_of (46 ∷ q) ≡ at + size_of (w ++ 46 ∷ q) = omega (arith, e) in there)
+number_run before at (Ratio a b) more is =
+    ap (λ x. run (free before at) x) (append_assoc a (114 ∷ b) more)
+    ∙ whole_run before at a (114 ∷ (b ++ more)) is.0
+    ∙ ratio_run before at (at + size_of a) a b more is.1
+    ∙ ap (λ p. run (digits_at before at p part.Ratio (Ratio a b)) more) (let e = size_of-append a (114 ∷ b) in let there : at + size_of a + size_of (114 ∷ b) ≡ at + size_of (a ++ 114 ∷ b) = omega (arith, e) in there)
