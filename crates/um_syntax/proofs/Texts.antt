@@ -87,7 +87,7 @@ nothing_at c rest space none = record {
     cons_some : c ∷ rest ≡ [] → ⊥
     cons_some e = cc
 
-hole_encoded : encodes (95 ∷ []) ≡ 95 ∷ []
+pub hole_encoded : encodes (95 ∷ []) ≡ 95 ∷ []
 hole_encoded = ap (λ x. x ++ []) (encode_ascii 95 (lit< tt))
 
 pub hole_from : (text : List ℕ) → bytes_eq (encodes text) (95 ∷ []) ≡ true → text ≡ 95 ∷ []
