@@ -228,7 +228,7 @@ pub append_nil : (xs : List ℕ) → xs ++ [] ≡ xs
 append_nil [] = refl
 append_nil (x ∷ xs) = ap (λ l. x ∷ l) (append_nil xs)
 
-or_false : (a b : Bool) → (a || b) ≡ false → (a ≡ false) × (b ≡ false)
+pub or_false : (a b : Bool) → (a || b) ≡ false → (a ≡ false) × (b ≡ false)
 or_false true b e = absurd (false≢true (sym e))
 or_false false b e = (refl, e)
 
@@ -301,7 +301,7 @@ digit_ended before start at e p n more kind no_tail digit r is_kind =
       (token_here before start (Number n) more _ kind e (ap (λ x. x ++ more) text) r.fits (subst (λ x. NumeralEnds n (x ++ more)) no_tail r.ends) (alone digit) is_kind r.end)
       (subst (λ x. Means (before ++ record { kind = kind; start = start; end = e; glued = is_glued before start } ∷ []) x more answer) same m))
 
-dot_ends : (more : List ℕ) → SignEnds (46 ∷ []) more
+pub dot_ends : (more : List ℕ) → SignEnds (46 ∷ []) more
 dot_ends [] = tt
 dot_ends (c ∷ cs) = (λ k h e. double_none (sign_text-double 46 c k h e), λ e. dot_slash e)
   where

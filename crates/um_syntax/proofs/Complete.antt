@@ -25,10 +25,10 @@ use Rattle.um_syntax.specs.Lexing.{size_of, is_glued, is_power_place, IsNext, Le
 use Rattle.um_syntax.specs.Machine.{Scan, word_number, single_sign, double_sign, takes, part_takes, is_whole_part, figures_kind, pushed, letters_kind, word_kind, identifier_pushed, variable_pushed, part_pushed, number_pushed, sign_pushed, close, ends_in_digit, step, steps, ended, tokens_of}
 use Rattle.um_syntax.proofs.Places.{size_of-append}
 use Rattle.um_syntax.proofs.Digits.{figures_of, figures_kind-of}
-use Rattle.um_syntax.proofs.Tables.{word_parts, word_encoded, word_number-word, word_identifier, letters_encoded, last_encoded, letter_starts_name, sign_form, single_sign-mark, double_sign-mark, sign_text-double, IsMark}
+use Rattle.um_syntax.proofs.Tables.{word_parts, word_encoded, word_number-word, word_identifier, letters_encoded, last_encoded, letter_starts_name, sign_form, single_sign-mark, double_sign-mark, double_sign-first, double_sign-text, IsMark}
 use Rattle.um_syntax.proofs.Texts.{hole_from, word_from, no_word_from, no_hole_from, hole_encoded}
-use Rattle.um_syntax.proofs.Closing.{scan_at, append_nil, tail_of, number_state, not_hole, snoc_same, size_of-snoc}
-use Rattle.um_syntax.proofs.Reading.{run, run_on, run_stop, free, gap_run, begin_symbol, identifier_run, variable_at, variable_run, digits_at, part_of, number_run}
+use Rattle.um_syntax.proofs.Closing.{scan_at, append_nil, tail_of, number_state, not_hole, snoc_same, size_of-snoc, dot_ends, or_false}
+use Rattle.um_syntax.proofs.Reading.{run, run_on, run_stop, free, gap_run, identifier_run, begin_symbol, variable_at, variable_run, digits_at, part_of, number_run}
 
 and_false : (a b : Bool) → (a ≡ true → b ≡ false) → (a && b) ≡ false
 and_false true b h = h refl
@@ -181,3 +181,179 @@ letter_variable before at c name more is leaves =
     ∙ ap (λ n. behind_letter before at name more (kind.Var (encodes name)) n (at + size_of (39 ∷ (name ++ c ∷ [])))) (sym letter_is)
     ∙ ap (λ e. behind_letter before at name more (kind.Var (encodes name)) (letters_kind (encodes (c ∷ []))) e) there
     ∙ sym letter
+
+-- a sign
+or_both : (a b : Bool) → a ≡ false → b ≡ false → (a || b) ≡ false
+or_both true b e f = e
+or_both false b e f = f
+
+sign_untaken : (k c : ℕ) (more : List ℕ) → SignEnds (c ∷ []) more → begins (takes (pending.Symbol k c)) more ≡ false
+sign_untaken k c [] ends = refl
+sign_untaken k c (d ∷ ds) ends = or_both (is_some (double_sign c d)) (eqb c 47 && eqb d 47) (by_sign (double_sign c d) refl) (and_false (eqb c 47) (eqb d 47) (λ one. by_slash one (eqb d 47) refl))
+  where
+    by_sign : (o : Option ℕ) → double_sign c d ≡ o → is_some (double_sign c d) ≡ false
+    by_sign (Some j) e = let t = double_sign-text c d j e in absurd (ends.0 j t.0 t.1)
+    by_sign None e = ap is_some e
+    by_slash : eqb c 47 ≡ true → (b : Bool) → eqb d 47 ≡ b → eqb d 47 ≡ false
+    by_slash one true two = absurd (ends.1 (ap (λ x. x ∷ d ∷ []) (eqb-true c 47 one) ∙ ap (λ x. 47 ∷ x ∷ []) (eqb-true d 47 two)))
+    by_slash one false two = two
+
+single_token : (before : List Token) (at k c : ℕ) (more : List ℕ) → single_sign c ≡ Some k → SignEnds (c ∷ []) more → AfterToken before at (c ∷ []) (kind.Sign k) more
+single_token before at k c more e ends =
+    let there : at + len_utf8 c ≡ at + size_of (c ∷ []) = omega arith in
+    run_on (free before at) (scan_at (at + len_utf8 c) before [] (pending.Symbol at c)) c more (begin_symbol before at c (single_sign-mark c k e) (ap (λ o. is_some o || eqb c 38) e))
+    ∙ ap (λ x. run (scan_at x before [] (pending.Symbol at c)) more) there
+    ∙ closed_run before (before ++ token_from before (kind.Sign k) at (at + size_of (c ∷ [])) ∷ []) [] (at + size_of (c ∷ [])) (pending.Symbol at c) more (rw e refl) (sign_untaken at c more ends) (λ d. absurd (false≢true d))
+
+double_token : (before : List Token) (at k a b : ℕ) (more : List ℕ) → double_sign a b ≡ Some k → AfterToken before at (a ∷ b ∷ []) (kind.Sign k) more
+double_token before at k a b more e =
+    let there : at + len_utf8 a + len_utf8 b ≡ at + size_of (a ∷ b ∷ []) = omega arith in
+    run_on (free before at) (scan_at (at + len_utf8 a) before [] (pending.Symbol at a)) a (b ∷ more) (begin_symbol before at a (double_sign-mark a b k e) (double_sign-first a b k e))
+    ∙ run_on (scan_at (at + len_utf8 a) before [] (pending.Symbol at a)) (free (before ++ token_from before (kind.Sign k) at (at + len_utf8 a + len_utf8 b) ∷ []) (at + len_utf8 a + len_utf8 b)) b more (rw e refl)
+    ∙ ap (λ x. run (free (before ++ token_from before (kind.Sign k) at x ∷ []) x) more) there
+
+pub sign_token : (before : List Token) (at k : ℕ) (more : List ℕ) → k < length signs → SignEnds (sign_text k) more → AfterToken before at (sign_text k) (kind.Sign k) more
+sign_token before at k more h ends =
+    ⊎_elim (λ f. subst (λ x. AfterToken before at x (kind.Sign k) more) (sym f.1) (single_token before at k f.0 more f.2 (subst (λ x. SignEnds x more) f.1 ends)))
+    (λ f. subst (λ x. AfterToken before at x (kind.Sign k) more) (sym f.2) (double_token before at k f.0 f.1 more f.3))
+    (sign_form k h)
+
+-- a number
+whole_of : (n : Numeral) → is_whole_part (part_of n) ≡ is_whole n
+whole_of (Whole ds) = refl
+whole_of (Decimal w q) = refl
+whole_of (Ratio a b) = refl
+
+number_close : (before : List Token) (start at e : ℕ) (p : Part) (n : Numeral) (o : Option Kind) → IsNumeral n → is_whole_part p ≡ is_whole n → kind_of (is_power_place before) (Number n) ≡ o
+    → close (number_state before start at e p n) (pending.Number start e p (figures_of n)) ≡ number_pushed (number_state before start at e p n) start e p (is_power_place before) o
+number_close before start at e p n o is whole kind_is =
+    ap (λ k. number_pushed (number_state before start at e p n) start e p (is_power_place before) k) (figures_kind-of (is_power_place before) p n is whole ∙ kind_is)
+
+-- A number's text has ended: at a character that isn't taken, or at a point or an r that belongs to no number.
+abbrev pub number_end : Numeral → List ℕ → Type 0
+number_end n more =
+    (begins (part_takes (part_of n)) more ≡ false)
+    ⊎ ((ds cs : List ℕ) × (n ≡ Whole ds) × (more ≡ 46 ∷ cs) × (begins is_ascii_digit cs ≡ false))
+    ⊎ ((ds cs : List ℕ) × (n ≡ Whole ds) × (more ≡ 114 ∷ cs) × (begins is_ascii_digit cs ≡ false))
+
+ends_whole : (ds more : List ℕ) → NumeralEnds (Whole ds) more → number_end (Whole ds) more
+ends_whole ds [] ends = inl refl
+ends_whole ds (c ∷ cs) ends = by_point (eqb c 46) refl
+  where
+    by_letter : eqb c 46 ≡ false → (b : Bool) → eqb c 114 ≡ b → number_end (Whole ds) (c ∷ cs)
+    by_letter p true e = let same = eqb-true c 114 e in inr (inr (ds, cs, refl, ap (λ x. x ∷ cs) same, sym (ap (λ x. (eqb x 46 || eqb x 114) && begins is_ascii_digit cs) same) ∙ ends.1))
+    by_letter p false e = inl (or_both (is_ascii_digit c) (eqb c 46 || eqb c 114) ends.0 (or_both (eqb c 46) (eqb c 114) p e))
+    by_point : (b : Bool) → eqb c 46 ≡ b → number_end (Whole ds) (c ∷ cs)
+    by_point true e = let same = eqb-true c 46 e in inr (inl (ds, cs, refl, ap (λ x. x ∷ cs) same, sym (ap (λ x. (eqb x 46 || eqb x 114) && begins is_ascii_digit cs) same) ∙ ends.1))
+    by_point false e = by_letter e (eqb c 114) refl
+
+pub number_ends : (n : Numeral) (more : List ℕ) → NumeralEnds n more → number_end n more
+number_ends (Whole ds) more ends = ends_whole ds more ends
+number_ends (Decimal w q) more ends = inl ends
+number_ends (Ratio a b) more ends = inl ends
+
+digit_part : (start at e : ℕ) (n : Numeral) → ends_in_digit (pending.Number start e (part_of n) (figures_of n)) ≡ true
+digit_part start at e (Whole ds) = refl
+digit_part start at e (Decimal w q) = refl
+digit_part start at e (Ratio a b) = refl
+
+part_done : (n : Numeral) (s : Scan) (e : ℕ) → part_pushed (part_of n) s e ≡ Ok s
+part_done (Whole ds) s e = refl
+part_done (Decimal w q) s e = refl
+part_done (Ratio a b) s e = refl
+
+-- the answer from a number's text on
+abbrev number_answer : List Token → ℕ → Numeral → List ℕ → Result (List Token) LexStop
+number_answer before at n more = run (digits_at before at (at + size_of (numeral_text n)) (part_of n) n) more
+
+abbrev number_behind : List Token → ℕ → Numeral → Kind → List ℕ → Result (List Token) LexStop
+number_behind before at n which more = run (free (before ++ token_from before which at (at + size_of (numeral_text n)) ∷ []) (at + size_of (numeral_text n))) more
+
+-- a point or an r behind digits is taken at first
+mark_taken : (before : List Token) (at c : ℕ) (ds cs : List ℕ) (p : Part) → step (digits_at before at (at + size_of ds) part.Whole (Whole ds)) c ≡ Ok (number_state before at (at + size_of ds + 1) (at + size_of ds) p (Whole ds))
+    → number_answer before at (Whole ds) (c ∷ cs) ≡ run (number_state before at (at + size_of ds + 1) (at + size_of ds) p (Whole ds)) cs
+mark_taken before at c ds cs p e = run_on (digits_at before at (at + size_of ds) part.Whole (Whole ds)) (number_state before at (at + size_of ds + 1) (at + size_of ds) p (Whole ds)) c cs e
+
+point_token : (before : List Token) (at : ℕ) (ds cs : List ℕ) (which : Kind) → IsNumeral (Whole ds) → begins is_ascii_digit cs ≡ false → kind_of (is_power_place before) (Number (Whole ds)) ≡ Some which
+    → number_answer before at (Whole ds) (46 ∷ cs) ≡ number_behind before at (Whole ds) which (46 ∷ cs)
+point_token before at ds cs which is no_digit kind_is =
+    let e : ℕ = at + size_of ds in
+    let tokens : List Token = before ++ token_from before which at (at + size_of ds) ∷ [] in
+    mark_taken before at 46 ds cs part.Point refl
+    ∙ closed_run before (tokens ++ token_from tokens (kind.Sign dot) e (e + 1) ∷ []) [] (e + 1) (pending.Number at e part.Point (figures_of (Whole ds))) cs (number_close before at (e + 1) e part.Point (Whole ds) (Some which) is refl kind_is) no_digit (λ d. absurd (false≢true d))
+    ∙ sym (sign_token tokens e dot cs (lit< tt) (dot_ends cs))
+
+number_token : (before : List Token) (at : ℕ) (n : Numeral) (more : List ℕ) (which : Kind) → IsNumeral n → NumeralEnds n more → begins is_xid_continue more ≡ false → kind_of (is_power_place before) (Number n) ≡ Some which
+    → AfterToken before at (numeral_text n) which more
+number_token before at n more which is ends alone kind_is = number_run before at n more is ∙ by_end (number_ends n more ends)
+  where
+    closed_here : begins (part_takes (part_of n)) more ≡ false → number_answer before at n more ≡ number_behind before at n which more
+    closed_here u =
+        closed_run before (before ++ token_from before which at (at + size_of (numeral_text n)) ∷ []) [] (at + size_of (numeral_text n)) (pending.Number at (at + size_of (numeral_text n)) (part_of n) (figures_of n)) more
+        (number_close before at (at + size_of (numeral_text n)) (at + size_of (numeral_text n)) (part_of n) n (Some which) is (whole_of n) kind_is ∙ part_done n _ (at + size_of (numeral_text n))) u (λ d. alone)
+    point : (ds cs : List ℕ) → n ≡ Whole ds → more ≡ 46 ∷ cs → begins is_ascii_digit cs ≡ false → number_answer before at n more ≡ number_behind before at n which more
+    point ds cs same rest no_digit =
+        subst (λ m. number_answer before at n m ≡ number_behind before at n which m) (sym rest)
+        (subst (λ m. IsNumeral m → kind_of (is_power_place before) (Number m) ≡ Some which → number_answer before at m (46 ∷ cs) ≡ number_behind before at m which (46 ∷ cs)) (sym same) (λ is kind_is. point_token before at ds cs which is no_digit kind_is) is kind_is)
+    letter : (cs : List ℕ) → more ≡ 114 ∷ cs → ⊥
+    letter cs rest = false≢true (sym alone ∙ ap (begins is_xid_continue) rest ∙ is_xid_continue-ascii 114 (lit< tt))
+    by_end : number_end n more → number_answer before at n more ≡ number_behind before at n which more
+    by_end u = ⊎_elim closed_here (λ m. ⊎_elim (λ w. point w.0 w.1 w.2 w.3 w.4) (λ w. absurd (letter w.1 w.3)) m) u
+
+-- a letter directly behind a number that keeps its rule
+over_letter : (before : List Token) (at : ℕ) (ds cs : List ℕ) (which : Kind) → IsNumeral (Whole ds) → begins is_ascii_digit cs ≡ false → kind_of (is_power_place before) (Number (Whole ds)) ≡ Some which
+    → number_answer before at (Whole ds) (114 ∷ cs) ≡ Err (BadChar (at + size_of ds))
+over_letter before at ds cs which is no_digit kind_is =
+    mark_taken before at 114 ds cs part.Over refl
+    ∙ stopped_run before [] (at + size_of ds + 1) (pending.Number at (at + size_of ds) part.Over (figures_of (Whole ds))) cs (BadChar (at + size_of ds)) (number_close before at (at + size_of ds + 1) (at + size_of ds) part.Over (Whole ds) (Some which) is refl kind_is) no_digit
+
+number_letter : (before : List Token) (at : ℕ) (n : Numeral) (more : List ℕ) (which : Kind) → IsNumeral n → NumeralEnds n more → begins is_xid_continue more ≡ true → kind_of (is_power_place before) (Number n) ≡ Some which
+    → run (free before at) (numeral_text n ++ more) ≡ Err (BadChar (at + size_of (numeral_text n)))
+number_letter before at n more which is ends letter kind_is = number_run before at n more is ∙ by_end (number_ends n more ends)
+  where
+    tail_here : begins (part_takes (part_of n)) more ≡ false → number_answer before at n more ≡ Err (BadChar (at + size_of (numeral_text n)))
+    tail_here u =
+        tail_run before (before ++ token_from before which at (at + size_of (numeral_text n)) ∷ []) [] (at + size_of (numeral_text n)) (pending.Number at (at + size_of (numeral_text n)) (part_of n) (figures_of n)) more
+        (number_close before at (at + size_of (numeral_text n)) (at + size_of (numeral_text n)) (part_of n) n (Some which) is (whole_of n) kind_is ∙ part_done n _ (at + size_of (numeral_text n))) u (digit_part at at (at + size_of (numeral_text n)) n) letter
+    point : (cs : List ℕ) → more ≡ 46 ∷ cs → ⊥
+    point cs rest = false≢true (sym (is_xid_continue-ascii 46 (lit< tt)) ∙ ap (begins is_xid_continue) (sym rest) ∙ letter)
+    over : (ds cs : List ℕ) → n ≡ Whole ds → more ≡ 114 ∷ cs → begins is_ascii_digit cs ≡ false → number_answer before at n more ≡ Err (BadChar (at + size_of (numeral_text n)))
+    over ds cs same rest no_digit =
+        subst (λ m. number_answer before at n m ≡ Err (BadChar (at + size_of (numeral_text n)))) (sym rest)
+        (subst (λ m. IsNumeral m → kind_of (is_power_place before) (Number m) ≡ Some which → number_answer before at m (114 ∷ cs) ≡ Err (BadChar (at + size_of (numeral_text m)))) (sym same) (λ is kind_is. over_letter before at ds cs which is no_digit kind_is) is kind_is)
+    by_end : number_end n more → number_answer before at n more ≡ Err (BadChar (at + size_of (numeral_text n)))
+    by_end u = ⊎_elim tail_here (λ m. ⊎_elim (λ w. absurd (point w.1 w.3)) (λ w. over w.0 w.1 w.2 w.3 w.4) m) u
+
+-- a number that breaks its rule
+abbrev range_stop : Bool → ℕ → LexStop
+range_stop true at = PowerText at
+range_stop false at = NumberRange at
+
+none_pushed : (s : Scan) (start e : ℕ) (p : Part) (power : Bool) → number_pushed s start e p power None ≡ Err (range_stop power start)
+none_pushed s start e p true = refl
+none_pushed s start e p false = refl
+
+mark_refused : (before : List Token) (at c : ℕ) (ds cs : List ℕ) (p : Part) → step (digits_at before at (at + size_of ds) part.Whole (Whole ds)) c ≡ Ok (number_state before at (at + size_of ds + 1) (at + size_of ds) p (Whole ds))
+    → is_whole_part p ≡ true → begins (part_takes p) cs ≡ false → IsNumeral (Whole ds) → kind_of (is_power_place before) (Number (Whole ds)) ≡ None → number_answer before at (Whole ds) (c ∷ cs) ≡ Err (range_stop (is_power_place before) at)
+mark_refused before at c ds cs p taken whole untaken is none =
+    mark_taken before at c ds cs p taken
+    ∙ stopped_run before [] (at + size_of ds + 1) (pending.Number at (at + size_of ds) p (figures_of (Whole ds))) cs (range_stop (is_power_place before) at)
+      (number_close before at (at + size_of ds + 1) (at + size_of ds) p (Whole ds) None is whole none ∙ none_pushed (number_state before at (at + size_of ds + 1) (at + size_of ds) p (Whole ds)) at (at + size_of ds) p (is_power_place before)) untaken
+
+number_refused : (before : List Token) (at : ℕ) (n : Numeral) (more : List ℕ) → IsNumeral n → NumeralEnds n more → kind_of (is_power_place before) (Number n) ≡ None
+    → run (free before at) (numeral_text n ++ more) ≡ Err (range_stop (is_power_place before) at)
+number_refused before at n more is ends none = number_run before at n more is ∙ by_end (number_ends n more ends)
+  where
+    here : begins (part_takes (part_of n)) more ≡ false → number_answer before at n more ≡ Err (range_stop (is_power_place before) at)
+    here u =
+        stopped_run before [] (at + size_of (numeral_text n)) (pending.Number at (at + size_of (numeral_text n)) (part_of n) (figures_of n)) more (range_stop (is_power_place before) at)
+        (number_close before at (at + size_of (numeral_text n)) (at + size_of (numeral_text n)) (part_of n) n None is (whole_of n) none ∙ none_pushed (number_state before at (at + size_of (numeral_text n)) (at + size_of (numeral_text n)) (part_of n) n) at (at + size_of (numeral_text n)) (part_of n) (is_power_place before)) u
+    marked : (c : ℕ) (p : Part) (ds cs : List ℕ) → n ≡ Whole ds → more ≡ c ∷ cs → number_answer before at (Whole ds) (c ∷ cs) ≡ Err (range_stop (is_power_place before) at) → number_answer before at n more ≡ Err (range_stop (is_power_place before) at)
+    marked c p ds cs same rest m = ap (λ x. number_answer before at x more) same ∙ ap (λ x. number_answer before at (Whole ds) x) rest ∙ m
+    by_end : number_end n more → number_answer before at n more ≡ Err (range_stop (is_power_place before) at)
+    by_end u = ⊎_elim here
+        (λ m. ⊎_elim
+          (λ w. marked 46 part.Point w.0 w.1 w.2 w.3 (mark_refused before at 46 w.0 w.1 part.Point refl refl w.4 (subst IsNumeral w.2 is) (subst (λ x. kind_of (is_power_place before) (Number x) ≡ None) w.2 none)))
+          (λ w. marked 114 part.Over w.0 w.1 w.2 w.3 (mark_refused before at 114 w.0 w.1 part.Over refl refl w.4 (subst IsNumeral w.2 is) (subst (λ x. kind_of (is_power_place before) (Number x) ≡ None) w.2 none)))
+          m)
+        u
