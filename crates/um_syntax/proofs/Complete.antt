@@ -357,3 +357,74 @@ number_refused before at n more is ends none = number_run before at n more is �
           (λ w. marked 114 part.Over w.0 w.1 w.2 w.3 (mark_refused before at 114 w.0 w.1 part.Over refl refl w.4 (subst IsNumeral w.2 is) (subst (λ x. kind_of (is_power_place before) (Number x) ≡ None) w.2 none)))
           m)
         u
+
+-- the next token
+lexeme_run : (before : List Token) (at : ℕ) (lexeme : Lexeme) (more : List ℕ) (which : Kind) → IsLexeme lexeme → Ends lexeme more → IsAlone lexeme more → kind_of (is_power_place before) lexeme ≡ Some which → AfterToken before at (text_of lexeme) which more
+lexeme_run before at (Name text) more which is ends alone e =
+    let same : kind.Name (encodes text) ≡ which = cc in
+    of_kind before at text (letters_kind (encodes text)) which more (name_kind text is ∙ same) (identifier_token before at text more is.0 ends)
+lexeme_run before at (Word k) more which is ends alone e =
+    let same : kind.Word k ≡ which = cc in
+    of_kind before at (word_text k) (letters_kind (encodes (word_text k))) which more (word_kind-word k is ∙ same) (identifier_token before at (word_text k) more (word_identifier k is) ends)
+lexeme_run before at Hole more which is ends alone e =
+    let same : kind.Hole ≡ which = cc in
+    of_kind before at (95 ∷ []) (letters_kind (encodes (95 ∷ []))) which more (hole_kind ∙ same) (identifier_token before at (95 ∷ []) more (refl, tt) ends)
+lexeme_run before at (Var name) more which is ends alone e =
+    let same : kind.Var (encodes name) ≡ which = cc in
+    of_kind before at (39 ∷ name) (kind.Var (encodes name)) which more same (by_end more ends)
+  where
+    whole : (more : List ℕ) → begins is_xid_continue more ≡ false → AfterToken before at (39 ∷ name) (kind.Var (encodes name)) more
+    whole more stops =
+        let r = snoc_of name is.0 in
+        subst (λ x. AfterToken before at (39 ∷ x) (kind.Var (encodes x)) more) (sym r.2) (name_variable before at r.0 more r.1 (subst IsName r.2 is) stops)
+    letter : (more : List ℕ) → LeavesLetter name more → AfterToken before at (39 ∷ name) (kind.Var (encodes name)) more
+    letter [] leaves = absurd leaves
+    letter (c ∷ cs) leaves = letter_variable before at c name cs is leaves
+    by_end : (more : List ℕ) → (begins is_xid_continue more ≡ false) ⊎ LeavesLetter name more → AfterToken before at (39 ∷ name) (kind.Var (encodes name)) more
+    by_end more ends = ⊎_elim (whole more) (letter more) ends
+lexeme_run before at (Number n) more which is ends alone e = number_token before at n more which is ends alone e
+lexeme_run before at (Sign k) more which is ends alone e =
+    let same : kind.Sign k ≡ which = cc in
+    of_kind before at (sign_text k) (kind.Sign k) which more same (sign_token before at k more is ends)
+
+same_token : (before : List Token) (token : Token) (start end : ℕ) → token.start ≡ start → token.end ≡ end → token.glued ≡ is_glued before start → token ≡ token_from before token.kind start end
+same_token before token start end p q r = λ i. record { kind = token.kind; start = p i; end = q i; glued = r i }
+
+next_run : (before : List Token) (at : ℕ) (chars : List ℕ) (token : Token) (more : List ℕ) → IsNext before at chars token more → run (free before at) chars ≡ run (free (before ++ token ∷ []) token.end) more
+next_run before at chars token more n =
+    let start : ℕ = at + size_of n.gap in
+    let end = n.end ∙ ap (λ x. x + size_of (text_of n.lexeme)) n.start in
+    let same = same_token before token start (start + size_of (text_of n.lexeme)) n.start end (n.glued ∙ ap (is_glued before) n.start) in
+    ap (run (free before at)) n.cut
+    ∙ gap_run n.skipped before at (text_of n.lexeme ++ more)
+    ∙ lexeme_run before start n.lexeme more token.kind n.fits n.longest n.alone n.kind
+    ∙ ap (λ t. run (free (before ++ t ∷ []) (start + size_of (text_of n.lexeme))) more) (sym same)
+    ∙ ap (λ x. run (free (before ++ token ∷ []) x) more) (sym end)
+
+-- the end of a text
+append_no_token : (xs : List Token) → xs ++ [] ≡ xs
+append_no_token [] = refl
+append_no_token (x ∷ xs) = ap (λ l. x ∷ l) (append_no_token xs)
+
+line_run : (before : List Token) (at : ℕ) (line : List ℕ) → IsLine line → run (scan_at at before [] pending.Comment) line ≡ Ok before
+line_run before at [] l = refl
+line_run before at (c ∷ cs) l =
+    run_on (scan_at at before [] pending.Comment) (scan_at (at + len_utf8 c) before [] pending.Comment) c cs (rw l.0 refl)
+    ∙ line_run before (at + len_utf8 c) cs l.1
+
+slash_mark : IsMark 47
+slash_mark = (refl, lit< tt, refl, refl, refl)
+
+last_run : {chars : List ℕ} → IsLastGap chars → (before : List Token) (at : ℕ) → run (free before at) chars ≡ Ok (before ++ [])
+last_run {chars} (closed g) before at =
+    ap (run (free before at)) (sym (append_nil chars)) ∙ gap_run g before at [] ∙ ap (λ x. Ok x) (sym (append_no_token before))
+last_run (unclosed line {gap} g l) before at =
+    gap_run g before at (47 ∷ 47 ∷ line)
+    ∙ run_on (free before (at + size_of gap)) (scan_at (at + size_of gap + 1) before [] (pending.Symbol (at + size_of gap) 47)) 47 (47 ∷ line) (begin_symbol before (at + size_of gap) 47 slash_mark refl)
+    ∙ run_on (scan_at (at + size_of gap + 1) before [] (pending.Symbol (at + size_of gap) 47)) (scan_at (at + size_of gap + 1 + 1) before [] pending.Comment) 47 line refl
+    ∙ line_run before (at + size_of gap + 1 + 1) line l
+    ∙ ap (λ x. Ok x) (sym (append_no_token before))
+
+pub complete : (tokens before : List Token) (at : ℕ) (chars : List ℕ) → Lexes before at chars tokens → run (free before at) chars ≡ Ok (before ++ tokens)
+complete [] before at chars l = last_run l before at
+complete (t ∷ ts) before at chars l = next_run before at chars t l.0 l.1 ∙ complete ts (before ++ t ∷ []) t.end l.0 l.2 ∙ ap (λ x. Ok x) (append_assoc before (t ∷ []) ts)
