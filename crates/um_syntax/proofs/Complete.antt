@@ -307,7 +307,7 @@ over_letter before at ds cs which is no_digit kind_is =
     mark_taken before at 114 ds cs part.Over refl
     ∙ stopped_run before [] (at + size_of ds + 1) (pending.Number at (at + size_of ds) part.Over (figures_of (Whole ds))) cs (BadChar (at + size_of ds)) (number_close before at (at + size_of ds + 1) (at + size_of ds) part.Over (Whole ds) (Some which) is refl kind_is) no_digit
 
-number_letter : (before : List Token) (at : ℕ) (n : Numeral) (more : List ℕ) (which : Kind) → IsNumeral n → NumeralEnds n more → begins is_xid_continue more ≡ true → kind_of (is_power_place before) (Number n) ≡ Some which
+pub number_letter : (before : List Token) (at : ℕ) (n : Numeral) (more : List ℕ) (which : Kind) → IsNumeral n → NumeralEnds n more → begins is_xid_continue more ≡ true → kind_of (is_power_place before) (Number n) ≡ Some which
     → run (free before at) (numeral_text n ++ more) ≡ Err (BadChar (at + size_of (numeral_text n)))
 number_letter before at n more which is ends letter kind_is = number_run before at n more is ∙ by_end (number_ends n more ends)
   where
@@ -325,7 +325,7 @@ number_letter before at n more which is ends letter kind_is = number_run before 
     by_end u = ⊎_elim tail_here (λ m. ⊎_elim (λ w. absurd (point w.1 w.3)) (λ w. over w.0 w.1 w.2 w.3 w.4) m) u
 
 -- a number that breaks its rule
-abbrev range_stop : Bool → ℕ → LexStop
+abbrev pub range_stop : Bool → ℕ → LexStop
 range_stop true at = PowerText at
 range_stop false at = NumberRange at
 
@@ -340,7 +340,7 @@ mark_refused before at c ds cs p taken whole untaken is none =
     ∙ stopped_run before [] (at + size_of ds + 1) (pending.Number at (at + size_of ds) p (figures_of (Whole ds))) cs (range_stop (is_power_place before) at)
       (number_close before at (at + size_of ds + 1) (at + size_of ds) p (Whole ds) None is whole none ∙ none_pushed (number_state before at (at + size_of ds + 1) (at + size_of ds) p (Whole ds)) at (at + size_of ds) p (is_power_place before)) untaken
 
-number_refused : (before : List Token) (at : ℕ) (n : Numeral) (more : List ℕ) → IsNumeral n → NumeralEnds n more → kind_of (is_power_place before) (Number n) ≡ None
+pub number_refused : (before : List Token) (at : ℕ) (n : Numeral) (more : List ℕ) → IsNumeral n → NumeralEnds n more → kind_of (is_power_place before) (Number n) ≡ None
     → run (free before at) (numeral_text n ++ more) ≡ Err (range_stop (is_power_place before) at)
 number_refused before at n more is ends none = number_run before at n more is ∙ by_end (number_ends n more ends)
   where
@@ -390,7 +390,7 @@ lexeme_run before at (Sign k) more which is ends alone e =
 same_token : (before : List Token) (token : Token) (start end : ℕ) → token.start ≡ start → token.end ≡ end → token.glued ≡ is_glued before start → token ≡ token_from before token.kind start end
 same_token before token start end p q r = λ i. record { kind = token.kind; start = p i; end = q i; glued = r i }
 
-next_run : (before : List Token) (at : ℕ) (chars : List ℕ) (token : Token) (more : List ℕ) → IsNext before at chars token more → run (free before at) chars ≡ run (free (before ++ token ∷ []) token.end) more
+pub next_run : (before : List Token) (at : ℕ) (chars : List ℕ) (token : Token) (more : List ℕ) → IsNext before at chars token more → run (free before at) chars ≡ run (free (before ++ token ∷ []) token.end) more
 next_run before at chars token more n =
     let start : ℕ = at + size_of n.gap in
     let end = n.end ∙ ap (λ x. x + size_of (text_of n.lexeme)) n.start in

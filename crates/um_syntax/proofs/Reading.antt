@@ -166,7 +166,7 @@ variable_letters_run before start at last c letters (d ∷ ds) more all =
     ∙ ap (λ p. run (variable_at before start (at + size_of (d ∷ (ds ++ c ∷ []))) p ((letters ++ encode d) ++ encodes (ds ++ c ∷ []))) more) (add_assoc at (len_utf8 d) (size_of ds))
     ∙ ap (λ l. run (variable_at before start (at + size_of (d ∷ (ds ++ c ∷ []))) (at + size_of (d ∷ ds)) l) more) (append_assoc letters (encode d) (encodes (ds ++ c ∷ [])))
 
-first_letter : (before : List Token) (at c : ℕ) (more : List ℕ) → starts_name c ≡ true → run (free before at) (39 ∷ c ∷ more) ≡ run (variable_at before at (at + 1 + len_utf8 c) (at + 1) (encode c)) more
+pub first_letter : (before : List Token) (at c : ℕ) (more : List ℕ) → starts_name c ≡ true → run (free before at) (39 ∷ c ∷ more) ≡ run (variable_at before at (at + 1 + len_utf8 c) (at + 1) (encode c)) more
 first_letter before at c more e =
     run_on (free before at) (scan_at (at + 1) before [] (pending.Quote at)) 39 (c ∷ more) (begin_quote before at)
     ∙ run_on (scan_at (at + 1) before [] (pending.Quote at)) (variable_at before at (at + 1 + len_utf8 c) (at + 1) (encode c)) c more (rw e refl)

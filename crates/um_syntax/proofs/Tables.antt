@@ -209,7 +209,7 @@ letters_encoded (c ∷ cs) e =
     let p = both_true (is_ascii_alphabetic c) (are_letters cs) e in
     ap (λ x. x ++ encodes cs) (encode_ascii c (alphabetic_small c p.0)) ∙ ap (λ x. c ∷ x) (letters_encoded cs p.1)
 
-word_letters : (k : ℕ) → k < length words → are_letters (word_text k) ≡ true
+pub word_letters : (k : ℕ) → k < length words → are_letters (word_text k) ≡ true
 word_letters zero h = refl
 word_letters (suc zero) h = refl
 word_letters (suc (suc zero)) h = refl

@@ -4,6 +4,7 @@ pub mod Gap
 pub mod Numeral
 pub mod Lexeme
 pub mod Lexing
+pub mod Laws
 pub mod LineColumn
 pub mod Machine
 pub mod Scanning
