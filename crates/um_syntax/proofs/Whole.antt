@@ -1,15 +1,16 @@
 -- The machine's answer to a whole text is the text's.
-use Rattle.std.proofs.Common.{◌≡◌, ◌≢◌, ℕ, ◌+◌, Bool, true, false, cond, eqb, List, [], ◌∷◌, ◌++◌, Option, None, Some, Result, Ok, Err, refl, sym, ap, subst, ◌∙◌, arith, append_assoc, ◌⊎◌, inl, inr, ⊎_elim}
+use Rattle.std.proofs.Common.{◌≡◌, ◌≢◌, ℕ, ◌+◌, Bool, true, false, cond, eqb, List, [], ◌∷◌, ◌++◌, Option, None, Some, Result, Ok, Err, IfOk, IfErr, MatchResult, refl, sym, ap, subst, ◌∙◌, arith, append_assoc, ◌⊎◌, inl, inr, ⊎_elim}
 use Rattle.std.proofs.lemmas.Bool.{eqb-true}
 use Rattle.um_syntax.specs.declared.token.Token.{Token}
 use Rattle.um_syntax.specs.declared.token.LexStop.{LexStop}
 use Rattle.um_syntax.specs.declared.token.LexStop.TheVariants.{BadChar, NumberRange, PowerText, NoMemory}
 use Rattle.um_syntax.specs.declared.pending.Pending.TheVariants as pending
-use Rattle.um_syntax.specs.Lexing.{size_of, IsNext, Lexes, Refuses, body, body_place, HasTokens, HasFault}
+use Rattle.um_syntax.specs.Lexing.{size_of, IsNext, Lexes, Refuses, body, body_place, HasTokens, HasFault, IsRefusal}
 use Rattle.um_syntax.specs.Gap.{IsGap, IsLastGap}
 use Rattle.um_syntax.specs.Lexeme.{text_of}
 use Rattle.um_syntax.specs.Machine.{scan_start, step, steps, ended, scanned}
 use Rattle.um_syntax.specs.Laws.{EachTextIsAnswered, TokensAreUnique, FaultIsUnique, TokensExcludeFault, laid_out, LieAt, TokensMakeUpText}
+use Rattle.um_syntax.specs.Scanning.{Answers}
 use Rattle.um_syntax.proofs.Meaning.{Means}
 use Rattle.um_syntax.proofs.Sound.{sound}
 use Rattle.um_syntax.proofs.Reading.{run, run_on, free}
@@ -70,3 +71,41 @@ make_up (t ∷ ts) before at chars l =
 
 pub tokens_make_up : TokensMakeUpText
 tokens_make_up chars tokens l = make_up tokens [] (body_place chars) (body chars) l
+
+-- the clauses of a call whose answer is the machine's
+pub answered_tokens : (chars : List ℕ) (tokens : List Token) → Answers (Ok tokens) (scanned chars) → HasTokens chars tokens
+answered_tokens chars tokens e = tokens_from chars tokens e
+
+pub answered_refusal : (chars : List ℕ) (stop : LexStop) → Answers (Err stop) (scanned chars) → IsRefusal chars stop
+answered_refusal chars (BadChar at) e = fault_from chars (BadChar at) e
+answered_refusal chars (NumberRange at) e = fault_from chars (NumberRange at) e
+answered_refusal chars (PowerText at) e = fault_from chars (PowerText at) e
+answered_refusal chars NoMemory e = tt
+
+pub IfOk-answer : (chars : List ℕ) (r : Result (List Token) LexStop) → Answers r (scanned chars) → IfOk r (λ tokens. HasTokens chars tokens)
+IfOk-answer chars (Ok tokens) e = answered_tokens chars tokens e
+IfOk-answer chars (Err stop) e = tt
+
+pub IfErr-answer : (chars : List ℕ) (r : Result (List Token) LexStop) → Answers r (scanned chars) → IfErr r (λ stop. IsRefusal chars stop)
+IfErr-answer chars (Ok tokens) e = tt
+IfErr-answer chars (Err stop) e = answered_refusal chars stop e
+
+abbrev Other : (chars : List ℕ) (tokens : List Token) → LexStop → Type 0
+Other chars tokens stop = HasTokens chars tokens → IsRefusal chars stop → stop ≡ NoMemory
+
+other_stop : (chars : List ℕ) (tokens : List Token) (stop : LexStop) → Other chars tokens stop
+other_stop chars tokens (BadChar at) l f = absurd (tokens_or_fault chars tokens (BadChar at) l f)
+other_stop chars tokens (NumberRange at) l f = absurd (tokens_or_fault chars tokens (NumberRange at) l f)
+other_stop chars tokens (PowerText at) l f = absurd (tokens_or_fault chars tokens (PowerText at) l f)
+other_stop chars tokens NoMemory l f = refl
+
+pub MatchResult-answer : (chars : List ℕ) (r : Result (List Token) LexStop) → Answers r (scanned chars) → (tokens : List Token) → HasTokens chars tokens → MatchResult r (λ answer. answer ≡ tokens) (λ stop. stop ≡ NoMemory)
+MatchResult-answer chars (Ok answer) e tokens l = unique_tokens chars answer tokens (answered_tokens chars answer e) l
+MatchResult-answer chars (Err stop) e tokens l = other_stop chars tokens stop l (answered_refusal chars stop e)
+
+pub fault-answer : (chars : List ℕ) (r : Result (List Token) LexStop) → Answers r (scanned chars) → (stop : LexStop) → HasFault chars stop → (r ≡ Err stop) ⊎ (r ≡ Err NoMemory)
+fault-answer chars (Ok answer) e stop f = absurd (tokens_or_fault chars answer stop (answered_tokens chars answer e) f)
+fault-answer chars (Err (BadChar at)) e stop f = inl (ap (λ x. Err x) (unique_fault chars (BadChar at) stop (fault_from chars (BadChar at) e) f))
+fault-answer chars (Err (NumberRange at)) e stop f = inl (ap (λ x. Err x) (unique_fault chars (NumberRange at) stop (fault_from chars (NumberRange at) e) f))
+fault-answer chars (Err (PowerText at)) e stop f = inl (ap (λ x. Err x) (unique_fault chars (PowerText at) stop (fault_from chars (PowerText at) e) f))
+fault-answer chars (Err NoMemory) e stop f = inr refl

@@ -113,3 +113,10 @@ HasTokens chars tokens = Lexes [] (body_place chars) (body chars) tokens
 -- the leftmost refusal of a text
 abbrev pub HasFault : List ℕ → LexStop → Type 0
 HasFault chars stop = (tokens : List Token) × Refuses [] (body_place chars) (body chars) tokens stop
+
+-- A refusal of a text: its leftmost fault, or want of memory, which may come with any text.
+abbrev pub IsRefusal : List ℕ → LexStop → Type 0
+IsRefusal chars (BadChar at) = HasFault chars (BadChar at)
+IsRefusal chars (NumberRange at) = HasFault chars (NumberRange at)
+IsRefusal chars (PowerText at) = HasFault chars (PowerText at)
+IsRefusal chars NoMemory = Unit {0}

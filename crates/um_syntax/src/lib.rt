@@ -11,6 +11,7 @@ mod scanner;
 mod table;
 mod token;
 
+pub use lexer::lex;
 pub use place::line_column;
 pub use table::{SIGNS, WORDS};
 pub use token::{Kind, Letters, LexStop, Token, Tokens};
