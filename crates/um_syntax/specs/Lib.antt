@@ -8,3 +8,4 @@ pub mod Laws
 pub mod LineColumn
 pub mod Machine
 pub mod Scanning
+pub mod Decoding

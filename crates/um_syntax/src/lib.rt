@@ -3,6 +3,7 @@
 //! [`lex`] reads a whole text at once. Both read the same tokens, and both refuse at the leftmost fault.
 #![tactic(auto)]
 
+mod decode;
 mod lexer;
 mod number;
 mod pending;
