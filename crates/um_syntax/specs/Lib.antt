@@ -9,3 +9,4 @@ pub mod LineColumn
 pub mod Machine
 pub mod Scanning
 pub mod Decoding
+pub mod Feeding

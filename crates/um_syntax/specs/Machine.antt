@@ -1,6 +1,7 @@
 -- The machine that reads a text character by character. The definitions of tokens and refusals don't rest on it; that it
 -- gives them is proved.
 use Rattle.std.specs.Prelude.{◌≡◌, ℕ, ◌+◌, ◌≤◌, ◌-◌, ◌*◌, ◌^◌, Bool, true, false, cond, ◌==◌, ◌||◌, ◌&&◌, nat_lt, nat_le, List, [], ◌∷◌, ◌++◌, length, take, drop, pos, Option, None, Some, is_some, option_map, Result, Ok, Err, codes}
+use Rattle.std.specs.Coded.{×_prop, Unit-prop, le_prop}
 use Rattle.std.specs.Char.{is_ascii_digit, len_utf8, encode_utf8}
 use Rattle.std.specs.Str.{bytes_eq}
 use Rattle.std.specs.List.{position_from}
@@ -73,6 +74,10 @@ FiguresFit f = (f.above ≤ 10 ^ 38) × (f.below ≤ 10 ^ 38)
 abbrev pub PendingFits : Pending → Type 0
 PendingFits (pending.Number start end p f) = FiguresFit f
 PendingFits _ = Unit {0}
+
+pub PendingFits-prop : (p : Pending) → IsProp (PendingFits p)
+PendingFits-prop (pending.Number start end p f) = ×_prop le_prop le_prop
+PendingFits-prop _ = Unit-prop
 
 abbrev pub first_figures : ℕ → Figures
 first_figures d = record { above = d; below = 1; count = 1 }

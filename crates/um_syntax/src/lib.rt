@@ -4,6 +4,7 @@
 #![tactic(auto)]
 
 mod decode;
+mod feed;
 mod lexer;
 mod number;
 mod pending;

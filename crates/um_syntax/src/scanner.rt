@@ -1,5 +1,5 @@
 //! The machine that reads a text character by character.
-ghost use Rattle.std.specs.Prelude.{◌≡◌, ◌+◌, ◌<◌, ◌≤◌, ◌^◌, length, OnOk, IfOk};
+ghost use Rattle.std.specs.Prelude.{◌≡◌, ◌+◌, ◌<◌, ◌≤◌, ◌^◌, length, max, OnOk, IfOk};
 ghost use Rattle.std.specs.Char.{len_utf8};
 ghost use Rattle.std.specs.Option.{option_copied};
 ghost use Rattle.um_syntax.specs.Gap.{is_space};
@@ -69,6 +69,7 @@ impl Scanner {
     fn push(&mut self, kind: Kind, start: u32, end: u32) -> Result<(), AllocError>
         ensures goes { OnOk result (scan_of self.new ≡ pushed (scan_of self.old) kind start end) }
         ensures free { OnOk result (self.new.pending ≡ pending.Free) }
+        ensures fits { PendingFits self.old.pending → PendingFits self.new.pending }
         ensures place { self.new.at ≡ self.old.at }
     {
         let glued = is_glued(&self.tokens, start);
@@ -82,6 +83,7 @@ impl Scanner {
     fn close_identifier(&mut self, start: u32) -> Result<(), AllocError>
         ensures goes { OnOk result (scan_of self.new ≡ identifier_pushed (scan_of self.old) start) }
         ensures free { OnOk result (self.new.pending ≡ pending.Free) }
+        ensures fits { PendingFits self.old.pending → PendingFits self.new.pending }
         ensures place { self.new.at ≡ self.old.at }
     {
         let kind = letters_kind(self.alloc, &self.letters)?;
@@ -92,6 +94,7 @@ impl Scanner {
     fn close_variable(&mut self, start: u32, last: u32) -> Result<(), AllocError>
         ensures goes { OnOk result (scan_of self.new ≡ variable_pushed (scan_of self.old) start last) }
         ensures free { OnOk result (self.new.pending ≡ pending.Free) }
+        ensures fits { PendingFits self.old.pending → PendingFits self.new.pending }
         ensures place { self.new.at ≡ self.old.at }
     {
         let letters = self.letters.as_bytes();
@@ -111,6 +114,7 @@ impl Scanner {
         requires { FiguresFit figures }
         ensures goes { Follows result (scan_of self.new) (close (scan_of self.old) (pending.Number start end part figures)) }
         ensures free { OnOk result (self.new.pending ≡ pending.Free) }
+        ensures fits { PendingFits self.old.pending → PendingFits self.new.pending }
         ensures place { self.new.at ≡ self.old.at }
     {
         let power = is_power_place(&self.tokens);
@@ -130,6 +134,7 @@ impl Scanner {
         requires { PendingFits self.old.pending }
         ensures goes { Follows result (scan_of self.new) (close (scan_of self.old) self.old.pending) }
         ensures free { OnOk result (self.new.pending ≡ pending.Free) }
+        ensures fits { PendingFits self.new.pending }
         ensures place { self.new.at ≡ self.old.at }
     {
         match self.pending {
@@ -157,8 +162,9 @@ impl Scanner {
     fn take(&mut self, c: char, next: u32) -> Result<(), AllocError>
         requires { PendingFits self.old.pending }
         ensures goes { OnOk result (scan_of self.new ≡ taken (scan_of self.old) self.old.pending c next) }
-        ensures fits { OnOk result (PendingFits self.new.pending) }
+        ensures fits { PendingFits self.new.pending }
         ensures place { OnOk result (self.new.at ≡ next) }
+        ensures within { self.new.at ≤ max self.old.at next }
     {
         let at = self.at;
         self.at = next;
@@ -189,8 +195,9 @@ impl Scanner {
     fn begin(&mut self, c: char, next: u32) -> Result<(), LexStop>
         requires { self.old.pending ≡ pending.Free }
         ensures goes { Follows result (scan_of self.new) (begun (scan_of self.old) c next) }
-        ensures fits { OnOk result (PendingFits self.new.pending) }
+        ensures fits { PendingFits self.new.pending }
         ensures place { OnOk result (self.new.at ≡ next) }
+        ensures within { self.new.at ≤ max self.old.at next }
     {
         let start = self.at;
         if is_space(c) {
@@ -212,13 +219,21 @@ impl Scanner {
         Ok(())
     }
 
+    /// How many tokens have been read.
+    pub fn count(&self) -> usize
+        ensures { result ≡ length (scan_of self.now).tokens }
+    {
+        self.tokens.len()
+    }
+
     /// Takes one character.
     pub fn scan(&mut self, c: char) -> Result<(), LexStop>
         requires fits { PendingFits self.old.pending }
         requires room { self.old.at + 4 < 2 ^ 32 }
         ensures goes { Follows result (scan_of self.new) (step (scan_of self.old) c) }
-        ensures fits { OnOk result (PendingFits self.new.pending) }
+        ensures fits { PendingFits self.new.pending }
         ensures place { OnOk result (self.new.at ≡ self.old.at + len_utf8 c) }
+        ensures within { self.new.at ≤ self.old.at + len_utf8 c }
     {
         let next = self.at + c.len_utf8() as u32;
         let pending = self.pending;

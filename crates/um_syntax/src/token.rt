@@ -140,3 +140,23 @@ impl From<AllocError> for LexStop {
         LexStop::NoMemory
     }
 }
+
+/// Why bytes that were fed have no tokens. The place is that of the leftmost fault; bytes that aren't UTF-8 come first.
+#[derive(Clone, Copy, Debug, PartialEq, Eq, Error)]
+pub enum TextStop {
+    /// The bytes aren't UTF-8. The place is the length of the longest front that is.
+    #[error("not UTF-8 at {at}")]
+    Utf8 { at: u32 },
+    /// As [`LexStop::BadChar`].
+    #[error("character at {at}")]
+    BadChar { at: u32 },
+    /// As [`LexStop::NumberRange`].
+    #[error("number at {at}")]
+    NumberRange { at: u32 },
+    /// As [`LexStop::PowerText`].
+    #[error("power at {at}")]
+    PowerText { at: u32 },
+    /// There is no memory left.
+    #[error("out of memory")]
+    NoMemory,
+}

@@ -1,0 +1,92 @@
+//! A lexer that is fed the bytes of a text in pieces.
+ghost use Rattle.std.specs.Prelude.{◌≡◌, ◌≢◌, ◌+◌, ◌<◌, ◌≤◌, List, ℕ, ◌++◌, ◌∷◌, [], length, slice_index, vec_len, OnOk, OnErr, IfOk, IsErr};
+ghost use Rattle.std.specs.Char.{len_utf8};
+ghost use Rattle.um_syntax.specs.Decoding.{char_len};
+ghost use Rattle.um_syntax.specs.Machine.{PendingFits, PendingFits-prop};
+
+use std::alloc::{AllocError, Global};
+
+use crate::decode::{Front, front_of};
+use crate::scanner::Scanner;
+use crate::token::{LexStop, TextStop, Tokens};
+
+/// A lexer that is fed the bytes of a text in pieces, cut anywhere.
+///
+/// It keeps the tokens read so far and no text. After want of memory it answers `NoMemory` to every call.
+#[derive(Drop)]
+pub struct Lexer {
+    scanner: Scanner,
+    // The bytes of a character that isn't whole yet.
+    partial: Vec<u8>,
+    // Where the whole characters end.
+    valid: u32,
+    // The fault that was met. Behind a bad character the bytes are still read, since they may not be UTF-8.
+    fault: Option<TextStop>,
+    // The number of tokens up to the last line feed.
+    counted: usize,
+    // The number of bytes fed.
+    fed: u32,
+    ghost begun: { vec_len partial < char_len (slice_index partial.items 0) },
+    ghost fits: { PendingFits scanner.pending } by { PendingFits-prop scanner.pending },
+    ghost place: { scanner.at ≤ valid },
+    ghost within: { valid + vec_len partial ≤ fed },
+    ghost limit: { fed ≤ 1048576 },
+}
+
+impl Lexer {
+    ghost use Rattle.um_syntax.specs.Feeding.{Stands, CountsTokens, IsTextAnswer, IsSpent, IsReadable, HasRead, fed_of, text_stop};
+    ghost use Rattle.um_syntax.specs.declared.token.LexStop.TheVariants as lex_stop;
+
+    /// A lexer that was fed nothing. Takes no memory.
+    pub fn new(alloc: Global) -> Lexer
+        ensures stands { Stands result [] }
+        ensures fed { fed_of result ≡ 0 }
+    {
+        Lexer {
+            scanner: Scanner::new(alloc),
+            partial: Vec::new(alloc),
+            valid: 0,
+            fault: None,
+            counted: 0,
+            fed: 0,
+        }
+    }
+
+    // Takes a character behind those that were read.
+    fn take_char(&mut self, c: char) -> Result<(), AllocError>
+        requires readable { IsReadable self.old.fault }
+        requires room { self.old.valid + len_utf8 c ≤ self.old.fed }
+        requires whole { self.old.partial.items ≡ [] }
+        ensures read { OnOk result ((cs : List ℕ) → HasRead self.old cs → HasRead self.new (cs ++ c ∷ [])) }
+        ensures readable { OnOk result (IsReadable self.new.fault) }
+        ensures whole { self.new.partial.items ≡ [] }
+        ensures fed { self.new.fed ≡ self.old.fed }
+    {
+        self.valid += c.len_utf8() as u32;
+        if self.fault.is_some() {
+            return Ok(());
+        }
+        match self.scanner.scan(c) {
+            Ok(()) => {
+                if c == '\n' {
+                    self.counted = self.scanner.count();
+                }
+            }
+            Err(stop) => self.fault = Some(Lexer::text_stop(stop)?),
+        }
+        Ok(())
+    }
+
+    // The fault of a text that is a refusal of its characters.
+    fn text_stop(stop: LexStop) -> Result<TextStop, AllocError>
+        ensures ok { IfOk result (λ s. s ≡ text_stop stop) }
+        ensures memory { OnOk result (stop ≢ lex_stop.NoMemory) }
+    {
+        match stop {
+            LexStop::BadChar { at } => Ok(TextStop::BadChar { at }),
+            LexStop::NumberRange { at } => Ok(TextStop::NumberRange { at }),
+            LexStop::PowerText { at } => Ok(TextStop::PowerText { at }),
+            LexStop::NoMemory => Err(AllocError),
+        }
+    }
+}
