@@ -17,11 +17,173 @@ use Rattle.um_syntax.specs.declared.pending.Pending.{Pending}
 use Rattle.um_syntax.specs.declared.pending.Pending.TheVariants as pending
 use Rattle.um_syntax.specs.Gap.{IsLine, nothing, closed}
 use Rattle.um_syntax.specs.Lexing.{size_of, HasTokens, HasFault}
-use Rattle.um_syntax.specs.Machine.{Scan, scan_start, takes, double_sign, close, step, steps, ended, tokens_of, scanned}
-use Rattle.um_syntax.specs.Feeding.{EndsLine, CountsTokens, CountsLines, HasScanned}
+use Rattle.um_syntax.specs.Machine.{Scan, scan_start, takes, double_sign, close, ends_in_digit, followed, at_state, taken, step, steps, ended, tokens_of, scanned}
+use Rattle.um_syntax.specs.Scanning.{Stops}
+use Rattle.um_syntax.specs.Feeding.{EndsLine, CountsTokens, CountsLines, IsReadable, text_stop, HasScanned}
 use Rattle.um_syntax.proofs.Runs.{steps-append, steps-stopped}
+use Rattle.unicode_ident.specs.Ident.{is_xid_continue}
+use Rattle.um_syntax.proofs.Tables.{double_sign-feed}
+use Rattle.um_syntax.proofs.Reading.{ascii_no_name}
 use Rattle.um_syntax.proofs.Whole.{scanned_complete, unique_tokens}
 
 -- no characters, no tokens
 pub none_counted : (tokens : List Token) → HasTokens [] tokens → 0 ≡ length tokens
 none_counted tokens h = ap length (unique_tokens [] [] tokens (closed nothing) h)
+
+and_true : (a b : Bool) → a ≡ true → b ≡ true → (a && b) ≡ true
+and_true true b e f = f
+and_true false b e f = absurd (false≢true e)
+
+and_parts : (a b : Bool) → (a && b) ≡ true → (a ≡ true) × (b ≡ true)
+and_parts true b e = (refl, e)
+and_parts false b e = absurd (false≢true e)
+
+pub scalars-snoc : (cs : List ℕ) (c : ℕ) → scalars cs ≡ true → scalar c ≡ true → scalars (cs ++ c ∷ []) ≡ true
+scalars-snoc [] c e f = and_true (scalar c) true f refl
+scalars-snoc (d ∷ ds) c e f = let p = and_parts (scalar d) (scalars ds) e in and_true (scalar d) (scalars (ds ++ c ∷ [])) p.0 (scalars-snoc ds c p.1 f)
+
+-- the machine after one more character
+steps-snoc : (cs : List ℕ) (c : ℕ) (s : Scan) → steps (Ok scan_start) cs ≡ Ok s → steps (Ok scan_start) (cs ++ c ∷ []) ≡ step s c
+steps-snoc cs c s e = steps-append (Ok scan_start) cs (c ∷ []) ∙ ap (λ r. steps r (c ∷ [])) e
+
+steps-snoc_stopped : (cs : List ℕ) (c : ℕ) (stop : LexStop) → steps (Ok scan_start) cs ≡ Err stop → steps (Ok scan_start) (cs ++ c ∷ []) ≡ Err stop
+steps-snoc_stopped cs c stop e = steps-append (Ok scan_start) cs (c ∷ []) ∙ ap (λ r. steps r (c ∷ [])) e
+
+pub scanned_stays : (f : Option TextStop) (scan : Scan) (cs : List ℕ) (c : ℕ) → is_some f ≡ true → IsReadable f → HasScanned f scan cs → HasScanned f scan (cs ++ c ∷ [])
+scanned_stays None scan cs c some r h = absurd (false≢true some)
+scanned_stays (Some (text.Utf8 at)) scan cs c some r h = absurd r
+scanned_stays (Some (text.BadChar at)) scan cs c some r h = steps-snoc_stopped cs c (lex.BadChar at) h
+scanned_stays (Some (text.NumberRange at)) scan cs c some r h = steps-snoc_stopped cs c (lex.NumberRange at) h
+scanned_stays (Some (text.PowerText at)) scan cs c some r h = steps-snoc_stopped cs c (lex.PowerText at) h
+scanned_stays (Some text.NoMemory) scan cs c some r h = absurd r
+
+pub scanned_goes : (f : Option TextStop) (scan new : Scan) (cs : List ℕ) (c : ℕ) → is_some f ≡ false → HasScanned f scan cs → step scan c ≡ Ok new → HasScanned f new (cs ++ c ∷ [])
+scanned_goes None scan new cs c none h e = steps-snoc cs c scan h ∙ e
+scanned_goes (Some t) scan new cs c none h e = absurd (false≢true (sym none))
+
+scanned_none : (f : Option TextStop) (scan : Scan) (cs : List ℕ) → is_some f ≡ false → HasScanned f scan cs → steps (Ok scan_start) cs ≡ Ok scan
+scanned_none None scan cs none h = h
+scanned_none (Some t) scan cs none h = absurd (false≢true (sym none))
+
+pub scanned_stops : (f : Option TextStop) (stop : LexStop) (scan new : Scan) (cs : List ℕ) (c : ℕ) → is_some f ≡ false → HasScanned f scan cs → stop ≢ lex.NoMemory → Stops stop (step scan c) → HasScanned (Some (text_stop stop)) new (cs ++ c ∷ [])
+scanned_stops f (lex.BadChar at) scan new cs c none h no_memory e = steps-snoc cs c scan (scanned_none f scan cs none h) ∙ e
+scanned_stops f (lex.NumberRange at) scan new cs c none h no_memory e = steps-snoc cs c scan (scanned_none f scan cs none h) ∙ e
+scanned_stops f (lex.PowerText at) scan new cs c none h no_memory e = steps-snoc cs c scan (scanned_none f scan cs none h) ∙ e
+scanned_stops f lex.NoMemory scan new cs c none h no_memory e = tt
+
+-- the count of tokens up to the last line feed
+IsLine-snoc : (line : List ℕ) (c : ℕ) → IsLine line → eqb c 10 ≡ false → IsLine (line ++ c ∷ [])
+IsLine-snoc [] c l e = (e, tt)
+IsLine-snoc (d ∷ ds) c l e = (l.0, IsLine-snoc ds c l.1 e)
+
+counts_on : (n : ℕ) (cs : List ℕ) (c : ℕ) → eqb c 10 ≡ false → CountsLines n cs → CountsLines n (cs ++ c ∷ [])
+counts_on n cs c e k = (k.0, k.1 ++ c ∷ [], ap (λ x. x ++ c ∷ []) k.2 ∙ append_assoc k.0 k.1 (c ∷ []), k.3, IsLine-snoc k.1 c k.4 e, k.5)
+
+append_nil : (xs : List ℕ) → xs ++ [] ≡ xs
+append_nil [] = refl
+append_nil (x ∷ xs) = ap (λ l. x ∷ l) (append_nil xs)
+
+-- a line feed ends a line, whose tokens are these
+counts_line : (n : ℕ) (cs : List ℕ) (c : ℕ) → eqb c 10 ≡ true → ((tokens : List Token) → HasTokens (cs ++ c ∷ []) tokens → n ≡ length tokens) → CountsLines n (cs ++ c ∷ [])
+counts_line n cs c e k = (cs ++ c ∷ [], [], sym (append_nil (cs ++ c ∷ [])), inr (cs, ap (λ x. cs ++ x ∷ []) (eqb-true c 10 e)), tt, k)
+
+refused_counts : (n : ℕ) (cs : List ℕ) (stop : LexStop) → steps (Ok scan_start) cs ≡ Err stop → (tokens : List Token) → HasTokens cs tokens → n ≡ length tokens
+refused_counts n cs stop e tokens h = absurd (err_ok (sym (ap ended e) ∙ scanned_complete cs tokens h))
+  where
+    err_ok : ◌≡◌ {A = Result (List Token) LexStop} (Err stop) (Ok tokens) → ⊥
+    err_ok e = cc
+
+counts_refused : (n : ℕ) (cs : List ℕ) (c : ℕ) (stop : LexStop) → steps (Ok scan_start) (cs ++ c ∷ []) ≡ Err stop → CountsLines n cs → CountsLines n (cs ++ c ∷ [])
+counts_refused n cs c stop e k = by_feed (eqb c 10) refl
+  where
+    by_feed : (b : Bool) → eqb c 10 ≡ b → CountsLines n (cs ++ c ∷ [])
+    by_feed true f = counts_line n cs c f (refused_counts n (cs ++ c ∷ []) stop e)
+    by_feed false f = counts_on n cs c f k
+
+pub counts_stays : (f : Option TextStop) (scan : Scan) (n : ℕ) (cs : List ℕ) (c : ℕ) → is_some f ≡ true → IsReadable f → HasScanned f scan cs → CountsLines n cs → CountsLines n (cs ++ c ∷ [])
+counts_stays None scan n cs c some r h k = absurd (false≢true some)
+counts_stays (Some (text.Utf8 at)) scan n cs c some r h k = absurd r
+counts_stays (Some (text.BadChar at)) scan n cs c some r h k = counts_refused n cs c (lex.BadChar at) (steps-snoc_stopped cs c (lex.BadChar at) h) k
+counts_stays (Some (text.NumberRange at)) scan n cs c some r h k = counts_refused n cs c (lex.NumberRange at) (steps-snoc_stopped cs c (lex.NumberRange at) h) k
+counts_stays (Some (text.PowerText at)) scan n cs c some r h k = counts_refused n cs c (lex.PowerText at) (steps-snoc_stopped cs c (lex.PowerText at) h) k
+counts_stays (Some text.NoMemory) scan n cs c some r h k = absurd r
+
+pub counts_stops : (f : Option TextStop) (stop : LexStop) (scan : Scan) (n : ℕ) (cs : List ℕ) (c : ℕ) → is_some f ≡ false → HasScanned f scan cs → stop ≢ lex.NoMemory → Stops stop (step scan c) → CountsLines n cs → CountsLines n (cs ++ c ∷ [])
+counts_stops f (lex.BadChar at) scan n cs c none h no_memory e k = counts_refused n cs c (lex.BadChar at) (steps-snoc cs c scan (scanned_none f scan cs none h) ∙ e) k
+counts_stops f (lex.NumberRange at) scan n cs c none h no_memory e k = counts_refused n cs c (lex.NumberRange at) (steps-snoc cs c scan (scanned_none f scan cs none h) ∙ e) k
+counts_stops f (lex.PowerText at) scan n cs c none h no_memory e k = counts_refused n cs c (lex.PowerText at) (steps-snoc cs c scan (scanned_none f scan cs none h) ∙ e) k
+counts_stops f lex.NoMemory scan n cs c none h no_memory e k = absurd (no_memory refl)
+
+pub counts_goes : (n : ℕ) (cs : List ℕ) (c : ℕ) → ¬ (c ≡ 10) → CountsLines n cs → CountsLines n (cs ++ c ∷ [])
+counts_goes n cs c other k = counts_on n cs c (is_false (eqb c 10) refl) k
+  where
+    is_false : (b : Bool) → eqb c 10 ≡ b → eqb c 10 ≡ false
+    is_false true e = absurd (other (eqb-true c 10 e))
+    is_false false e = e
+
+-- a line feed ends what has begun
+no_pair : (first : ℕ) → is_some (double_sign first 10) ≡ false
+no_pair first = by_sign (double_sign first 10) refl
+  where
+    by_sign : (o : Option ℕ) → double_sign first 10 ≡ o → is_some (double_sign first 10) ≡ false
+    by_sign (Some k) e = absurd (double_sign-feed first k e)
+    by_sign None e = ap is_some e
+
+line_feed_begun : (p : Pending) (r : Result Scan LexStop) (new : Scan) (next : ℕ) → followed r p 10 next ≡ Ok new → new.pending ≡ pending.Free
+line_feed_begun p (Err stop) new next e = absurd (err_ok e)
+  where
+    err_ok : ◌≡◌ {A = Result Scan LexStop} (Err stop) (Ok new) → ⊥
+    err_ok e = cc
+line_feed_begun p (Ok s) new next e = by_tail (ends_in_digit p && is_xid_continue 10) refl
+  where
+    by_tail : (b : Bool) → (ends_in_digit p && is_xid_continue 10) ≡ b → new.pending ≡ pending.Free
+    by_tail true t = let w = and_parts (ends_in_digit p) (is_xid_continue 10) t in absurd (false≢true (sym (is_xid_continue-ascii 10 (lit< tt)) ∙ w.1))
+    by_tail false t = let q = sym (ap (λ b. cond b (Err (lex.BadChar s.at)) (Ok (at_state s next s.letters pending.Free))) t) ∙ e in let same : at_state s next s.letters pending.Free ≡ new = cc in ap (λ x. x.pending) (sym same)
+
+line_feed_step : (s new : Scan) (p : Pending) → s.pending ≡ p → takes p 10 ≡ false → step s 10 ≡ Ok new → new.pending ≡ pending.Free
+line_feed_step s new p is untaken e =
+    line_feed_begun s.pending (close s s.pending) new (s.at + 1) (sym (ap (λ b. cond b (Ok (taken s s.pending 10 (s.at + 1))) (followed (close s s.pending) s.pending 10 (s.at + 1))) (ap (λ x. takes x 10) is ∙ untaken)) ∙ e)
+
+no_slash : (first : ℕ) → (eqb first 47 && eqb 10 47) ≡ false
+no_slash first = by_test (eqb first 47)
+  where
+    by_test : (b : Bool) → (b && false) ≡ false
+    by_test true = refl
+    by_test false = refl
+
+or_both : (a b : Bool) → a ≡ false → b ≡ false → (a || b) ≡ false
+or_both true b e f = e
+or_both false b e f = f
+
+pub line_feed_free : (s new : Scan) → step s 10 ≡ Ok new → new.pending ≡ pending.Free
+line_feed_free s new e = by_pending s.pending refl
+  where
+    by_pending : (p : Pending) → s.pending ≡ p → new.pending ≡ pending.Free
+    by_pending pending.Comment is =
+        let q = sym (ap (λ x. cond (takes x 10) (Ok (taken s x 10 (s.at + 1))) (followed (close s x) x 10 (s.at + 1))) is) ∙ e in
+        let same : at_state s (s.at + 1) s.letters pending.Free ≡ new = cc in
+        ap (λ x. x.pending) (sym same)
+    by_pending pending.Start is = line_feed_step s new pending.Start is refl e
+    by_pending pending.Free is = line_feed_step s new pending.Free is refl e
+    by_pending (pending.Identifier b) is = line_feed_step s new (pending.Identifier b) is (is_xid_continue-ascii 10 (lit< tt)) e
+    by_pending (pending.Quote b) is = line_feed_step s new (pending.Quote b) is (ascii_no_name 10 (lit< tt) refl) e
+    by_pending (pending.Variable b last) is = line_feed_step s new (pending.Variable b last) is (is_xid_continue-ascii 10 (lit< tt)) e
+    by_pending (pending.Number b n part.Whole f) is = line_feed_step s new (pending.Number b n part.Whole f) is refl e
+    by_pending (pending.Number b n part.Point f) is = line_feed_step s new (pending.Number b n part.Point f) is refl e
+    by_pending (pending.Number b n part.Decimal f) is = line_feed_step s new (pending.Number b n part.Decimal f) is refl e
+    by_pending (pending.Number b n part.Over f) is = line_feed_step s new (pending.Number b n part.Over f) is refl e
+    by_pending (pending.Number b n part.Ratio f) is = line_feed_step s new (pending.Number b n part.Ratio f) is refl e
+    by_pending (pending.Symbol b first) is = line_feed_step s new (pending.Symbol b first) is (or_both (is_some (double_sign first 10)) (eqb first 47 && eqb 10 47) (no_pair first) (no_slash first)) e
+
+-- the tokens behind a line feed
+free_answer : (s : Scan) → s.pending ≡ pending.Free → ended (Ok s) ≡ Ok s.tokens
+free_answer s is = ap (λ p. tokens_of (close s p)) is
+
+pub counts_feed : (f : Option TextStop) (scan new : Scan) (n : ℕ) (cs : List ℕ) (c : ℕ) → is_some f ≡ false → HasScanned f scan cs → step scan c ≡ Ok new → c ≡ 10 → n ≡ length new.tokens → CountsLines n (cs ++ c ∷ [])
+counts_feed f scan new n cs c none h e feed count =
+    let stepped = steps-snoc cs c scan (scanned_none f scan cs none h) ∙ e in
+    let free = line_feed_free scan new (subst (λ x. step scan x ≡ Ok new) feed e) in
+    counts_line n cs c (ap (λ x. eqb x 10) feed) (λ tokens t.
+      let answer = sym (scanned_complete (cs ++ c ∷ []) tokens t) ∙ ap ended stepped ∙ free_answer new free in
+      let same : tokens ≡ new.tokens = cc in
+      count ∙ ap length (sym same))

@@ -310,3 +310,7 @@ single_sign-mark c k e = found_each (λ c k. IsMark c) c k single_signs ((refl, 
 
 pub double_sign-mark : (a b k : ℕ) → double_sign a b ≡ Some k → IsMark a
 double_sign-mark a b k e = found_each_pair (λ a b k. IsMark a) a b k double_signs ((refl, lit< tt, refl, refl, refl), ((refl, lit< tt, refl, refl, refl), ((refl, lit< tt, refl, refl, refl), ((refl, lit< tt, refl, refl, refl), ((refl, lit< tt, refl, refl, refl), ((refl, lit< tt, refl, refl, refl), ((refl, lit< tt, refl, refl, refl), tt))))))) e
+
+-- no sign of two characters ends with a line feed
+pub double_sign-feed : (a k : ℕ) → double_sign a 10 ≡ Some k → ⊥
+double_sign-feed a k e = false≢true (sym (found_each_pair (λ a b k. eqb b 10 ≡ false) a 10 k double_signs (refl, (refl, (refl, (refl, (refl, (refl, (refl, tt))))))) e))

@@ -1,5 +1,5 @@
 -- What a lexer that is fed in pieces stands for, and what it answers.
-use Rattle.std.specs.Prelude.{◌≡◌, ℕ, ◌+◌, ◌⊎◌, Bool, true, false, List, [], ◌∷◌, ◌++◌, length, Option, None, Some, Result, Ok, Err}
+use Rattle.std.specs.Prelude.{◌≡◌, ℕ, ◌+◌, ◌⊎◌, Bool, true, false, List, [], ◌∷◌, ◌++◌, length, take, Option, None, Some, Result, Ok, Err}
 use Rattle.std.specs.Str.{chars, IsUtf8, IsValidUpTo, encode_utf8_all, all_scalars}
 use Rattle.um_syntax.specs.declared.token.Token.{Token}
 use Rattle.um_syntax.specs.declared.token.LexStop.{LexStop}
@@ -91,4 +91,4 @@ pub record Stands (lexer : Lexer) (bytes : List ℕ) : Type 0 where
   pub tail : List ℕ
   pub read : HasRead lexer cs
   pub whole : bytes ≡ encode_utf8_all cs ++ tail
-  pub behind : HasBehind lexer.fault lexer.valid lexer.partial.items tail
+  pub behind : HasBehind lexer.fault lexer.valid (take lexer.held lexer.partial) tail

@@ -1,5 +1,5 @@
 //! A lexer that is fed the bytes of a text in pieces.
-ghost use Rattle.std.specs.Prelude.{◌≡◌, ◌≢◌, ◌+◌, ◌<◌, ◌≤◌, List, ℕ, ◌++◌, ◌∷◌, [], length, slice_index, vec_len, OnOk, OnErr, IfOk, IsErr};
+ghost use Rattle.std.specs.Prelude.{◌≡◌, ◌≢◌, ◌+◌, ◌<◌, ◌≤◌, List, ℕ, ◌++◌, ◌∷◌, [], length, take, slice_index, OnOk, OnErr, IfOk, IsErr};
 ghost use Rattle.std.specs.Char.{len_utf8};
 ghost use Rattle.um_syntax.specs.Decoding.{char_len};
 ghost use Rattle.um_syntax.specs.Machine.{PendingFits, PendingFits-prop};
@@ -16,8 +16,9 @@ use crate::token::{LexStop, TextStop, Tokens};
 #[derive(Drop)]
 pub struct Lexer {
     scanner: Scanner,
-    // The bytes of a character that isn't whole yet.
-    partial: Vec<u8>,
+    // The bytes of a character that isn't whole yet: the first `held` of these.
+    partial: [u8; 4],
+    held: usize,
     // Where the whole characters end.
     valid: u32,
     // The fault that was met. Behind a bad character the bytes are still read, since they may not be UTF-8.
@@ -26,10 +27,11 @@ pub struct Lexer {
     counted: usize,
     // The number of bytes fed.
     fed: u32,
-    ghost begun: { vec_len partial < char_len (slice_index partial.items 0) },
+    ghost begun: { held < char_len (slice_index (take held partial) 0) },
+    ghost small: { held ≤ 3 },
     ghost fits: { PendingFits scanner.pending } by { PendingFits-prop scanner.pending },
     ghost place: { scanner.at ≤ valid },
-    ghost within: { valid + vec_len partial ≤ fed },
+    ghost within: { valid + held ≤ fed },
     ghost limit: { fed ≤ 1048576 },
 }
 
@@ -44,7 +46,8 @@ impl Lexer {
     {
         Lexer {
             scanner: Scanner::new(alloc),
-            partial: Vec::new(alloc),
+            partial: [0; 4],
+            held: 0,
             valid: 0,
             fault: None,
             counted: 0,
@@ -56,10 +59,10 @@ impl Lexer {
     fn take_char(&mut self, c: char) -> Result<(), AllocError>
         requires readable { IsReadable self.old.fault }
         requires room { self.old.valid + len_utf8 c ≤ self.old.fed }
-        requires whole { self.old.partial.items ≡ [] }
+        requires whole { self.old.held ≡ 0 }
         ensures read { OnOk result ((cs : List ℕ) → HasRead self.old cs → HasRead self.new (cs ++ c ∷ [])) }
         ensures readable { OnOk result (IsReadable self.new.fault) }
-        ensures whole { self.new.partial.items ≡ [] }
+        ensures whole { self.new.held ≡ 0 }
         ensures fed { self.new.fed ≡ self.old.fed }
     {
         self.valid += c.len_utf8() as u32;
@@ -75,6 +78,34 @@ impl Lexer {
             Err(stop) => self.fault = Some(Lexer::text_stop(stop)?),
         }
         Ok(())
+    }
+
+    // Takes a byte behind those that were fed.
+    fn take_byte(&mut self, byte: u8) -> Result<(), AllocError>
+        requires { self.old.fed < 1048576 }
+        ensures stands { OnOk result ((bytes : List ℕ) → Stands self.old bytes → Stands self.new (bytes ++ byte ∷ [])) }
+        ensures fed { self.new.fed ≡ self.old.fed + 1 }
+    {
+        self.fed += 1;
+        if matches!(self.fault, Some(TextStop::Utf8 { .. } | TextStop::NoMemory)) {
+            return Ok(());
+        }
+        let held = self.held;
+        let mut partial = self.partial;
+        partial[held] = byte;
+        self.held = 0;
+        match front_of(&partial[..held + 1]) {
+            Front::Whole(c) => self.take_char(c),
+            Front::Partial => {
+                self.partial = partial;
+                self.held = held + 1;
+                Ok(())
+            }
+            Front::Broken => {
+                self.fault = Some(TextStop::Utf8 { at: self.valid });
+                Ok(())
+            }
+        }
     }
 
     // The fault of a text that is a refusal of its characters.

@@ -8,5 +8,5 @@ returns-clause-stands c = record {
   tail = [];
   read = record { scalars = refl; place = refl; scanned = ap (λ s. Ok s) (sym c.new.ensures); counted = ([], [], refl, inl refl, tt, none_counted) };
   whole = refl;
-  behind = sym c.new-2.ensures.items;
+  behind = refl;
 }

@@ -1,0 +1,51 @@
+use Rattle.std.proofs.Common.{◌≡◌, ◌+◌, ◌∷◌, ◌++◌, [], Ok, Some, arith, sym, ap, subst, ◌∙◌}
+use Rattle.um_syntax.specs.Lexing.{size_of}
+use Rattle.um_syntax.specs.Scanning.{scan_of}
+use Rattle.um_syntax.specs.Feeding.{HasScanned}
+use Rattle.um_syntax.proofs.Places.{size_of-append}
+use Rattle.um_syntax.proofs.Feeds.{scalars-snoc, scanned_stays, scanned_goes, scanned_stops, counts_stays, counts_stops, counts_goes, counts_feed}
+use Rattle.um_syntax.proofs.feed.Lexer.take_char.Goals as goal
+
+pub returns-then-is_some-clause-read : goal.returns-then-is_some-clause-read
+returns-then-is_some-clause-read c = λ cs h.
+    let some = sym c.is_some.ensures ∙ c.if-is_some.true in
+    let there = size_of-append cs (c.args.c ∷ []) in
+    record {
+      scalars = scalars-snoc cs c.args.c h.scalars c.ranges.c.0;
+      place = omega (arith, h.place, there, c.len_utf8.ensures.value);
+      scanned = scanned_stays c.args.self.now.fault (scan_of c.args.self.now.scanner) cs c.args.c some c.requires.readable h.scanned;
+      counted = counts_stays c.args.self.now.fault (scan_of c.args.self.now.scanner) c.args.self.now.counted cs c.args.c some c.requires.readable h.scanned h.counted;
+    }
+
+pub returns-then-c-eq10-clause-read : goal.returns-then-c-eq10-clause-read
+returns-then-c-eq10-clause-read c = λ cs h.
+    let none = sym c.is_some.ensures ∙ c.if-is_some.false in
+    let there = size_of-append cs (c.args.c ∷ []) in
+    record {
+      scalars = scalars-snoc cs c.args.c h.scalars c.ranges.c.0;
+      place = omega (arith, h.place, there, c.len_utf8.ensures.value);
+      scanned = scanned_goes c.args.self.now.fault (scan_of c.args.self.now.scanner) (scan_of c.scan.new.self) cs c.args.c none h.scanned c.in-Ok.ensures.goes;
+      counted = counts_feed c.args.self.now.fault (scan_of c.args.self.now.scanner) (scan_of c.scan.new.self) c.count-self.result cs c.args.c none h.scanned c.in-Ok.ensures.goes c.if-c-eq10.true c.count-self.ensures;
+    }
+
+pub returns-else-c-eq10-clause-read : goal.returns-else-c-eq10-clause-read
+returns-else-c-eq10-clause-read c = λ cs h.
+    let none = sym c.is_some.ensures ∙ c.if-is_some.false in
+    let there = size_of-append cs (c.args.c ∷ []) in
+    record {
+      scalars = scalars-snoc cs c.args.c h.scalars c.ranges.c.0;
+      place = omega (arith, h.place, there, c.len_utf8.ensures.value);
+      scanned = scanned_goes c.args.self.now.fault (scan_of c.args.self.now.scanner) (scan_of c.scan.new.self) cs c.args.c none h.scanned c.in-Ok.ensures.goes;
+      counted = counts_goes c.args.self.now.counted cs c.args.c c.if-c-eq10.false h.counted;
+    }
+
+pub returns-in_ok-text_stop-in-Err-clause-read : goal.returns-in_ok-text_stop-in-Err-clause-read
+returns-in_ok-text_stop-in-Err-clause-read c = λ cs h.
+    let none = sym c.is_some.ensures ∙ c.if-is_some.false in
+    let there = size_of-append cs (c.args.c ∷ []) in
+    record {
+      scalars = scalars-snoc cs c.args.c h.scalars c.ranges.c.0;
+      place = omega (arith, h.place, there, c.len_utf8.ensures.value);
+      scanned = subst (λ t. HasScanned (Some t) (scan_of c.scan.new.self) (cs ++ c.args.c ∷ [])) (sym c.in_ok-text_stop-in-Err.ensures.ok) (scanned_stops c.args.self.now.fault c.in-Err.stop (scan_of c.args.self.now.scanner) (scan_of c.scan.new.self) cs c.args.c none h.scanned c.in_ok-text_stop-in-Err.ensures.memory c.in-Err.ensures.goes);
+      counted = counts_stops c.args.self.now.fault c.in-Err.stop (scan_of c.args.self.now.scanner) c.args.self.now.counted cs c.args.c none h.scanned c.in_ok-text_stop-in-Err.ensures.memory c.in-Err.ensures.goes h.counted;
+    }
