@@ -1,5 +1,5 @@
 -- A lexer that is fed goes on standing for what it was fed.
-use Rattle.std.proofs.Common.{◌≡◌, ◌≢◌, ℕ, ◌+◌, ◌-◌, ◌<◌, ◌≤◌, Bool, true, false, cond, ◌&&◌, ◌||◌, eqb, List, [], ◌∷◌, ◌++◌, length, take, drop, Option, None, Some, is_some, Result, Ok, Err, refl, sym, ap, subst, ◌∙◌, arith, append_assoc, ◌⊎◌, inl, inr, ⊎_elim, lit<, length-append}
+use Rattle.std.proofs.Common.{◌≡◌, ◌≢◌, ℕ, ◌+◌, ◌-◌, ◌<◌, ◌≤◌, Bool, true, false, cond, ◌&&◌, ◌||◌, eqb, List, [], ◌∷◌, ◌++◌, length, take, drop, Option, None, Some, is_some, Result, Ok, Err, OnOk, refl, sym, ap, subst, ◌∙◌, arith, append_assoc, ◌⊎◌, inl, inr, ⊎_elim, lit<, length-append}
 use Rattle.std.proofs.lemmas.Bool.{false≢true, eqb-true}
 use Rattle.std.proofs.lemmas.Str.{encodes-append}
 use Rattle.std.specs.Char.{len_utf8, IsScalar}
@@ -19,7 +19,10 @@ use Rattle.um_syntax.specs.Gap.{IsLine, nothing, closed}
 use Rattle.um_syntax.specs.Lexing.{size_of, HasTokens, HasFault}
 use Rattle.um_syntax.specs.Machine.{Scan, scan_start, takes, double_sign, close, ends_in_digit, followed, at_state, taken, step, steps, ended, tokens_of, scanned}
 use Rattle.um_syntax.specs.Scanning.{Stops}
-use Rattle.um_syntax.specs.Feeding.{EndsLine, CountsTokens, CountsLines, IsReadable, text_stop, HasScanned}
+use Rattle.um_syntax.specs.Feeding.{EndsLine, CountsTokens, CountsLines, is_readable, IsReadable, text_stop, HasScanned, HasBehind}
+use Rattle.um_syntax.specs.Decoding.{NoWhole, NoChar}
+use Rattle.std.proofs.Math.ListN.{set, length-set}
+use Rattle.std.proofs.lemmas.List.{take_more_set, length-take-le}
 use Rattle.um_syntax.proofs.Runs.{steps-append, steps-stopped}
 use Rattle.unicode_ident.specs.Ident.{is_xid_continue}
 use Rattle.um_syntax.proofs.Tables.{double_sign-feed}
@@ -51,11 +54,11 @@ steps-snoc_stopped cs c stop e = steps-append (Ok scan_start) cs (c ∷ []) ∙ 
 
 pub scanned_stays : (f : Option TextStop) (scan : Scan) (cs : List ℕ) (c : ℕ) → is_some f ≡ true → IsReadable f → HasScanned f scan cs → HasScanned f scan (cs ++ c ∷ [])
 scanned_stays None scan cs c some r h = absurd (false≢true some)
-scanned_stays (Some (text.Utf8 at)) scan cs c some r h = absurd r
+scanned_stays (Some (text.Utf8 at)) scan cs c some r h = absurd (false≢true r)
 scanned_stays (Some (text.BadChar at)) scan cs c some r h = steps-snoc_stopped cs c (lex.BadChar at) h
 scanned_stays (Some (text.NumberRange at)) scan cs c some r h = steps-snoc_stopped cs c (lex.NumberRange at) h
 scanned_stays (Some (text.PowerText at)) scan cs c some r h = steps-snoc_stopped cs c (lex.PowerText at) h
-scanned_stays (Some text.NoMemory) scan cs c some r h = absurd r
+scanned_stays (Some text.NoMemory) scan cs c some r h = absurd (false≢true r)
 
 pub scanned_goes : (f : Option TextStop) (scan new : Scan) (cs : List ℕ) (c : ℕ) → is_some f ≡ false → HasScanned f scan cs → step scan c ≡ Ok new → HasScanned f new (cs ++ c ∷ [])
 scanned_goes None scan new cs c none h e = steps-snoc cs c scan h ∙ e
@@ -102,11 +105,11 @@ counts_refused n cs c stop e k = by_feed (eqb c 10) refl
 
 pub counts_stays : (f : Option TextStop) (scan : Scan) (n : ℕ) (cs : List ℕ) (c : ℕ) → is_some f ≡ true → IsReadable f → HasScanned f scan cs → CountsLines n cs → CountsLines n (cs ++ c ∷ [])
 counts_stays None scan n cs c some r h k = absurd (false≢true some)
-counts_stays (Some (text.Utf8 at)) scan n cs c some r h k = absurd r
+counts_stays (Some (text.Utf8 at)) scan n cs c some r h k = absurd (false≢true r)
 counts_stays (Some (text.BadChar at)) scan n cs c some r h k = counts_refused n cs c (lex.BadChar at) (steps-snoc_stopped cs c (lex.BadChar at) h) k
 counts_stays (Some (text.NumberRange at)) scan n cs c some r h k = counts_refused n cs c (lex.NumberRange at) (steps-snoc_stopped cs c (lex.NumberRange at) h) k
 counts_stays (Some (text.PowerText at)) scan n cs c some r h k = counts_refused n cs c (lex.PowerText at) (steps-snoc_stopped cs c (lex.PowerText at) h) k
-counts_stays (Some text.NoMemory) scan n cs c some r h k = absurd r
+counts_stays (Some text.NoMemory) scan n cs c some r h k = absurd (false≢true r)
 
 pub counts_stops : (f : Option TextStop) (stop : LexStop) (scan : Scan) (n : ℕ) (cs : List ℕ) (c : ℕ) → is_some f ≡ false → HasScanned f scan cs → stop ≢ lex.NoMemory → Stops stop (step scan c) → CountsLines n cs → CountsLines n (cs ++ c ∷ [])
 counts_stops f (lex.BadChar at) scan n cs c none h no_memory e k = counts_refused n cs c (lex.BadChar at) (steps-snoc cs c scan (scanned_none f scan cs none h) ∙ e) k
@@ -187,3 +190,54 @@ counts_feed f scan new n cs c none h e feed count =
       let answer = sym (scanned_complete (cs ++ c ∷ []) tokens t) ∙ ap ended stepped ∙ free_answer new free in
       let same : tokens ≡ new.tokens = cc in
       count ∙ ap length (sym same))
+
+-- what stands behind the characters
+NoChar-more : (tail : List ℕ) (b : ℕ) → NoChar tail → NoChar (tail ++ b ∷ [])
+NoChar-more tail b h after = subst NoWhole (sym (append_assoc tail (b ∷ []) after)) (h (b ∷ after))
+
+pub behind_closed : (f : Option TextStop) (valid b : ℕ) (partial tail : List ℕ) → is_readable f ≡ false → HasBehind f valid partial tail → HasBehind f valid partial (tail ++ b ∷ [])
+behind_closed None valid b partial tail e h = absurd (false≢true (sym e))
+behind_closed (Some (text.Utf8 at)) valid b partial tail e h = (h.0, NoChar-more tail b h.1)
+behind_closed (Some (text.BadChar at)) valid b partial tail e h = absurd (false≢true (sym e))
+behind_closed (Some (text.NumberRange at)) valid b partial tail e h = absurd (false≢true (sym e))
+behind_closed (Some (text.PowerText at)) valid b partial tail e h = absurd (false≢true (sym e))
+behind_closed (Some text.NoMemory) valid b partial tail e h = tt
+
+pub behind_is : (f : Option TextStop) (valid : ℕ) (partial tail : List ℕ) → IsReadable f → HasBehind f valid partial tail → tail ≡ partial
+behind_is None valid partial tail r h = h
+behind_is (Some (text.Utf8 at)) valid partial tail r h = absurd (false≢true r)
+behind_is (Some (text.BadChar at)) valid partial tail r h = h
+behind_is (Some (text.NumberRange at)) valid partial tail r h = h
+behind_is (Some (text.PowerText at)) valid partial tail r h = h
+behind_is (Some text.NoMemory) valid partial tail r h = absurd (false≢true r)
+
+pub behind_from : (f : Option TextStop) (valid : ℕ) (partial tail : List ℕ) → IsReadable f → tail ≡ partial → HasBehind f valid partial tail
+behind_from None valid partial tail r h = h
+behind_from (Some (text.Utf8 at)) valid partial tail r h = absurd (false≢true r)
+behind_from (Some (text.BadChar at)) valid partial tail r h = h
+behind_from (Some (text.NumberRange at)) valid partial tail r h = h
+behind_from (Some (text.PowerText at)) valid partial tail r h = h
+behind_from (Some text.NoMemory) valid partial tail r h = tt
+
+-- the bytes with one more
+pub bytes-more : (bytes cs tail : List ℕ) (b : ℕ) → bytes ≡ encodes cs ++ tail → bytes ++ b ∷ [] ≡ encodes cs ++ (tail ++ b ∷ [])
+bytes-more bytes cs tail b e = ap (λ x. x ++ b ∷ []) e ∙ append_assoc (encodes cs) tail (b ∷ [])
+
+-- the held bytes with one more
+pub held-more : (partial : List ℕ) (held b : ℕ) → held < length partial → take (held + 1) (set partial held b) ≡ take held partial ++ b ∷ []
+held-more partial held b h = take_more_set partial held b h
+
+pub held-length : (partial : List ℕ) (held b : ℕ) → held < length partial → length (take (held + 1) (set partial held b)) ≡ held + 1
+held-length partial held b h = let n = length-set partial held b in length-take-le (held + 1) (set partial held b) (omega (arith, n, h))
+
+-- a whole character is read
+pub whole-read : (bytes cs tail held_bytes : List ℕ) (b c : ℕ) → bytes ≡ encodes cs ++ tail → held_bytes ≡ tail ++ b ∷ [] → held_bytes ≡ encode c → bytes ++ b ∷ [] ≡ encodes (cs ++ c ∷ []) ++ []
+whole-read bytes cs tail held_bytes b c e held whole =
+    bytes-more bytes cs tail b e
+    ∙ ap (λ x. encodes cs ++ x) (sym held ∙ whole ∙ sym (append_nil (encode c)))
+    ∙ sym (encodes-append cs (c ∷ []))
+    ∙ sym (append_nil (encodes (cs ++ c ∷ [])))
+
+pub both_ok : {T E P Q R : Type 0} (r : Result T E) → OnOk r P → OnOk r Q → (P → Q → R) → OnOk r R
+both_ok (Ok x) p q f = f p q
+both_ok (Err e) p q f = tt

@@ -40,13 +40,16 @@ abbrev pub IsSpent : Lexer → Type 0
 IsSpent lexer = lexer.fault ≡ Some text.NoMemory
 
 -- bytes can still be read
+abbrev pub is_readable : Option TextStop → Bool
+is_readable None = true
+is_readable (Some (text.Utf8 at)) = false
+is_readable (Some (text.BadChar at)) = true
+is_readable (Some (text.NumberRange at)) = true
+is_readable (Some (text.PowerText at)) = true
+is_readable (Some text.NoMemory) = false
+
 abbrev pub IsReadable : Option TextStop → Type 0
-IsReadable None = Unit {0}
-IsReadable (Some (text.Utf8 at)) = ⊥
-IsReadable (Some (text.BadChar at)) = Unit {0}
-IsReadable (Some (text.NumberRange at)) = Unit {0}
-IsReadable (Some (text.PowerText at)) = Unit {0}
-IsReadable (Some text.NoMemory) = ⊥
+IsReadable fault = is_readable fault ≡ true
 
 -- the fault of a text that is a refusal of its characters
 abbrev pub text_stop : LexStop → TextStop

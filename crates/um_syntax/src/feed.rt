@@ -36,7 +36,7 @@ pub struct Lexer {
 }
 
 impl Lexer {
-    ghost use Rattle.um_syntax.specs.Feeding.{Stands, CountsTokens, IsTextAnswer, IsSpent, IsReadable, HasRead, fed_of, text_stop};
+    ghost use Rattle.um_syntax.specs.Feeding.{Stands, CountsTokens, IsTextAnswer, IsSpent, is_readable, IsReadable, HasRead, fed_of, text_stop};
     ghost use Rattle.um_syntax.specs.declared.token.LexStop.TheVariants as lex_stop;
 
     /// A lexer that was fed nothing. Takes no memory.
@@ -53,6 +53,30 @@ impl Lexer {
             counted: 0,
             fed: 0,
         }
+    }
+
+    /// Takes a piece of the text behind what was fed, and answers how many tokens were read up to the last line feed.
+    ///
+    /// These are the tokens of the text fed so far up to there, if it is UTF-8 and has no fault that far; else nothing
+    /// is said of the number.
+    pub fn feed(&mut self, piece: &[u8]) -> Result<usize, AllocError>
+        requires { fed_of self.old + length piece.now ≤ 1048576 }
+        ensures stands { OnOk result ((bytes : List ℕ) → Stands self.old bytes → Stands self.new (bytes ++ piece.now)) }
+        ensures tokens { IfOk result (λ n. (bytes : List ℕ) → Stands self.old bytes → CountsTokens (bytes ++ piece.now) n) }
+        ensures fed { OnOk result (fed_of self.new ≡ fed_of self.old + length piece.now) }
+        ensures spent { OnErr result (IsSpent self.new) }
+        ensures stays_spent { IsSpent self.old → IsErr result }
+    {
+        if matches!(self.fault, Some(TextStop::NoMemory)) {
+            return Err(AllocError);
+        }
+        for byte in piece {
+            if self.take_byte(*byte).is_err() {
+                self.fault = Some(TextStop::NoMemory);
+                return Err(AllocError);
+            }
+        }
+        Ok(self.counted)
     }
 
     // Takes a character behind those that were read.
@@ -87,7 +111,7 @@ impl Lexer {
         ensures fed { self.new.fed ≡ self.old.fed + 1 }
     {
         self.fed += 1;
-        if matches!(self.fault, Some(TextStop::Utf8 { .. } | TextStop::NoMemory)) {
+        if !Lexer::is_readable(self.fault) {
             return Ok(());
         }
         let held = self.held;
@@ -105,6 +129,16 @@ impl Lexer {
                 self.fault = Some(TextStop::Utf8 { at: self.valid });
                 Ok(())
             }
+        }
+    }
+
+    // Whether bytes can still be read behind the fault.
+    fn is_readable(fault: Option<TextStop>) -> bool
+        ensures { result ≡ is_readable fault }
+    {
+        match fault {
+            Some(TextStop::Utf8 { .. } | TextStop::NoMemory) => false,
+            _ => true,
         }
     }
 
