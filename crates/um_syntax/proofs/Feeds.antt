@@ -1,10 +1,10 @@
 -- A lexer that is fed goes on standing for what it was fed.
-use Rattle.std.proofs.Common.{◌≡◌, ◌≢◌, ℕ, ◌+◌, ◌-◌, ◌<◌, ◌≤◌, Bool, true, false, cond, ◌&&◌, ◌||◌, eqb, List, [], ◌∷◌, ◌++◌, length, take, drop, Option, None, Some, is_some, Result, Ok, Err, OnOk, refl, sym, ap, subst, ◌∙◌, arith, append_assoc, ◌⊎◌, inl, inr, ⊎_elim, lit<, length-append}
-use Rattle.std.proofs.lemmas.Bool.{false≢true, eqb-true}
-use Rattle.std.proofs.lemmas.Str.{encodes-append}
+use Rattle.std.proofs.Common.{◌≡◌, ◌≢◌, ℕ, ◌+◌, ◌-◌, ◌/◌, ◌%◌, ◌<◌, ◌≤◌, Bool, true, false, cond, ◌&&◌, ◌||◌, eqb, List, [], ◌∷◌, ◌++◌, length, take, drop, Option, None, Some, is_some, Result, Ok, Err, OnOk, is_err, get_or, refl, sym, ap, subst, ◌∙◌, arith, append_assoc, ◌⊎◌, inl, inr, ⊎_elim, lit<, length-append}
+use Rattle.std.proofs.lemmas.Bool.{false≢true, eqb-true, cases_lt, lt-ltb, le-ltb}
+use Rattle.std.proofs.lemmas.Str.{encodes-append, encode_same, encode_ascii, chars-encodes, encodes_same}
 use Rattle.std.specs.Char.{len_utf8, IsScalar}
 use Rattle.std.specs.Str.{chars, IsUtf8}
-use lib.Utf8.{encode, encodes, scalar, scalars}
+use lib.Utf8.{encode, encodes, scalar, scalars, next}
 use Rattle.unicode_ident.proofs.IdentLemmas.{is_xid_continue-ascii}
 use Rattle.um_syntax.specs.declared.token.Token.{Token}
 use Rattle.um_syntax.specs.declared.token.LexStop.{LexStop}
@@ -20,9 +20,11 @@ use Rattle.um_syntax.specs.Lexing.{size_of, HasTokens, HasFault}
 use Rattle.um_syntax.specs.Machine.{Scan, scan_start, takes, double_sign, close, ends_in_digit, followed, at_state, taken, step, steps, ended, tokens_of, scanned}
 use Rattle.um_syntax.specs.Scanning.{Stops}
 use Rattle.um_syntax.specs.Feeding.{EndsLine, CountsTokens, CountsLines, is_readable, IsReadable, text_stop, HasScanned, HasBehind}
-use Rattle.um_syntax.specs.Decoding.{NoWhole, NoChar}
+use Rattle.um_syntax.specs.Decoding.{char_len, NoWhole, NoChar}
+use Rattle.um_syntax.proofs.Closing.{snoc_same}
+use Rattle.um_syntax.proofs.Utf8Front.{no_whole}
 use Rattle.std.proofs.Math.ListN.{set, length-set}
-use Rattle.std.proofs.lemmas.List.{take_more_set, length-take-le}
+use Rattle.std.proofs.lemmas.List.{take_more_set, length-take-le, length-take}
 use Rattle.um_syntax.proofs.Runs.{steps-append, steps-stopped}
 use Rattle.unicode_ident.specs.Ident.{is_xid_continue}
 use Rattle.um_syntax.proofs.Tables.{double_sign-feed}
@@ -201,7 +203,7 @@ behind_closed (Some (text.Utf8 at)) valid b partial tail e h = (h.0, NoChar-more
 behind_closed (Some (text.BadChar at)) valid b partial tail e h = absurd (false≢true (sym e))
 behind_closed (Some (text.NumberRange at)) valid b partial tail e h = absurd (false≢true (sym e))
 behind_closed (Some (text.PowerText at)) valid b partial tail e h = absurd (false≢true (sym e))
-behind_closed (Some text.NoMemory) valid b partial tail e h = tt
+behind_closed (Some text.NoMemory) valid b partial tail e h = absurd h
 
 pub behind_is : (f : Option TextStop) (valid : ℕ) (partial tail : List ℕ) → IsReadable f → HasBehind f valid partial tail → tail ≡ partial
 behind_is None valid partial tail r h = h
@@ -217,7 +219,7 @@ behind_from (Some (text.Utf8 at)) valid partial tail r h = absurd (false≢true 
 behind_from (Some (text.BadChar at)) valid partial tail r h = h
 behind_from (Some (text.NumberRange at)) valid partial tail r h = h
 behind_from (Some (text.PowerText at)) valid partial tail r h = h
-behind_from (Some text.NoMemory) valid partial tail r h = tt
+behind_from (Some text.NoMemory) valid partial tail r h = absurd (false≢true r)
 
 -- the bytes with one more
 pub bytes-more : (bytes cs tail : List ℕ) (b : ℕ) → bytes ≡ encodes cs ++ tail → bytes ++ b ∷ [] ≡ encodes cs ++ (tail ++ b ∷ [])
@@ -241,3 +243,133 @@ whole-read bytes cs tail held_bytes b c e held whole =
 pub both_ok : {T E P Q R : Type 0} (r : Result T E) → OnOk r P → OnOk r Q → (P → Q → R) → OnOk r R
 both_ok (Ok x) p q f = f p q
 both_ok (Err e) p q f = tt
+
+-- Bytes that begin with a text begin with its characters, where no whole character stands behind those that were read.
+pub text_front : (ps cs rest tail : List ℕ) → scalars ps ≡ true → NoWhole tail → encodes ps ++ rest ≡ encodes cs ++ tail → (qs : List ℕ) × (cs ≡ ps ++ qs) × (rest ≡ encodes qs ++ tail)
+text_front [] cs rest tail s none e = (cs, refl, e)
+text_front (p ∷ ps) [] rest tail s none e = absurd (none p (encodes ps ++ rest) (and_parts (scalar p) (scalars ps) s).0 (sym e ∙ append_assoc (encode p) (encodes ps) rest))
+text_front (p ∷ ps) (c ∷ cs) rest tail s none e =
+    let same = encode_same p c (encodes ps ++ rest) (encodes cs ++ tail) (sym (append_assoc (encode p) (encodes ps) rest) ∙ e ∙ append_assoc (encode c) (encodes cs) tail) in
+    let r = text_front ps cs rest tail (and_parts (scalar p) (scalars ps) s).1 none same.1 in
+    (r.0, ap (λ x. x ∷ cs) (sym same.0) ∙ ap (λ x. p ∷ x) r.1, r.2)
+
+no_feed : (zs before more : List ℕ) → IsLine zs → zs ≡ before ++ 10 ∷ more → ⊥
+no_feed [] [] more l e = nil_cons e
+  where
+    nil_cons : ◌≡◌ {A = List ℕ} [] (10 ∷ more) → ⊥
+    nil_cons e = cc
+no_feed [] (b ∷ before) more l e = nil_cons e
+  where
+    nil_cons : ◌≡◌ {A = List ℕ} [] (b ∷ (before ++ 10 ∷ more)) → ⊥
+    nil_cons e = cc
+no_feed (z ∷ zs) [] more l e = let same : z ≡ 10 = cc in false≢true (sym l.0 ∙ ap (λ x. eqb x 10) same)
+no_feed (z ∷ zs) (b ∷ before) more l e = let rest : zs ≡ before ++ 10 ∷ more = cc in no_feed zs before more l.1 rest
+
+EndsLine-tail : (x : ℕ) (xs : List ℕ) → EndsLine (x ∷ xs) → EndsLine xs
+EndsLine-tail x xs ends = ⊎_elim (λ e. absurd (cons_nil e)) (λ w. go w.0 w.1) ends
+  where
+    cons_nil : x ∷ xs ≡ [] → ⊥
+    cons_nil e = cc
+    go : (before : List ℕ) → x ∷ xs ≡ before ++ 10 ∷ [] → EndsLine xs
+    go [] e = let none : xs ≡ [] = cc in inl none
+    go (b ∷ before) e = let rest : xs ≡ before ++ 10 ∷ [] = cc in inr (before, rest)
+
+-- the lines before the last are told apart from it
+line_split : (xs us ys vs : List ℕ) → EndsLine xs → IsLine us → EndsLine ys → IsLine vs → xs ++ us ≡ ys ++ vs → xs ≡ ys
+line_split [] us [] vs ex lu ey lv e = refl
+line_split [] us (y ∷ ys) vs ex lu ey lv e =
+    ⊎_elim (λ n. sym n) (λ w. absurd (no_feed us w.0 vs lu (e ∙ ap (λ x. x ++ vs) w.1 ∙ append_assoc w.0 (10 ∷ []) vs))) ey
+line_split (x ∷ xs) us [] vs ex lu ey lv e =
+    ⊎_elim (λ n. n) (λ w. absurd (no_feed vs w.0 us lv (sym e ∙ ap (λ x. x ++ us) w.1 ∙ append_assoc w.0 (10 ∷ []) us))) ex
+line_split (x ∷ xs) us (y ∷ ys) vs ex lu ey lv e =
+    let head : x ≡ y = cc in
+    let rest : xs ++ us ≡ ys ++ vs = cc in
+    ap (λ z. z ∷ xs) head ∙ ap (λ l. y ∷ l) (line_split xs us ys vs (EndsLine-tail x xs ex) lu (EndsLine-tail y ys ey) lv rest)
+
+IsLine-right : (xs ys : List ℕ) → IsLine (xs ++ ys) → IsLine ys
+IsLine-right [] ys l = l
+IsLine-right (x ∷ xs) ys l = IsLine-right xs ys l.1
+
+IsLine-left : (xs ys : List ℕ) → IsLine (xs ++ ys) → IsLine xs
+IsLine-left [] ys l = tt
+IsLine-left (x ∷ xs) ys l = (l.0, IsLine-left xs ys l.1)
+
+-- characters without a line feed, by their bytes
+IsLine-chars : (qs : List ℕ) → IsLine (encodes qs) → IsLine qs
+IsLine-chars [] l = tt
+IsLine-chars (c ∷ cs) l = (by_feed (eqb c 10) refl, IsLine-chars cs (IsLine-right (encode c) (encodes cs) l))
+  where
+    feed : c ≡ 10 → ⊥
+    feed same = no_feed (encode c ++ encodes cs) [] (encodes cs) l (ap (λ x. encode x ++ encodes cs) same ∙ ap (λ x. x ++ encodes cs) (encode_ascii 10 (lit< tt)))
+    by_feed : (b : Bool) → eqb c 10 ≡ b → eqb c 10 ≡ false
+    by_feed true e = absurd (feed (eqb-true c 10 e))
+    by_feed false e = e
+
+-- the last byte of a character tells whether it is a line feed
+last_byte : (c : ℕ) → (before : List ℕ) × (b : ℕ) × (encode c ≡ before ++ b ∷ []) × (b ≡ 10 → c ≡ 10)
+unfolding encode
+last_byte c = ⊎_elim one (λ l. ⊎_elim (two l) (λ m. ⊎_elim (three m) four (cases_lt c 65536)) (cases_lt c 2048)) (cases_lt c 128)
+  where
+    high : (x : ℕ) → 128 + x ≡ 10 → c ≡ 10
+    high x e = absurd (omega arith)
+    one : c < 128 → (before : List ℕ) × (b : ℕ) × (encode c ≡ before ++ b ∷ []) × (b ≡ 10 → c ≡ 10)
+    one h = ([], c, rw lt-ltb refl, λ e. e)
+    two : 128 ≤ c → c < 2048 → (before : List ℕ) × (b : ℕ) × (encode c ≡ before ++ b ∷ []) × (b ≡ 10 → c ≡ 10)
+    two l h = ((192 + c / 64) ∷ [], 128 + c % 64, rw (le-ltb c 128 l, lt-ltb c 2048 h) refl, high (c % 64))
+    three : 2048 ≤ c → c < 65536 → (before : List ℕ) × (b : ℕ) × (encode c ≡ before ++ b ∷ []) × (b ≡ 10 → c ≡ 10)
+    three m h = let l : 128 ≤ c = omega arith in ((224 + c / 4096) ∷ next (c / 64) ∷ [], 128 + c % 64, rw (le-ltb c 128 l, le-ltb c 2048 m, lt-ltb c 65536 h) refl, high (c % 64))
+    four : 65536 ≤ c → (before : List ℕ) × (b : ℕ) × (encode c ≡ before ++ b ∷ []) × (b ≡ 10 → c ≡ 10)
+    four n = let l : 128 ≤ c = omega arith in let m : 2048 ≤ c = omega arith in
+        ((240 + c / 262144) ∷ next (c / 4096) ∷ next (c / 64) ∷ [], 128 + c % 64, rw (le-ltb c 128 l, le-ltb c 2048 m, le-ltb c 65536 n) refl, high (c % 64))
+
+snoc_view : (xs : List ℕ) → (xs ≡ []) ⊎ ((front : List ℕ) × (c : ℕ) × (xs ≡ front ++ c ∷ []))
+snoc_view [] = inl refl
+snoc_view (x ∷ xs) = inr (go x xs)
+  where
+    go : (x : ℕ) (xs : List ℕ) → (front : List ℕ) × (c : ℕ) × (x ∷ xs ≡ front ++ c ∷ [])
+    go x [] = ([], x, refl)
+    go x (y ∷ ys) = let r = go y ys in (x ∷ r.0, r.1, ap (λ l. x ∷ l) r.2)
+
+no_snoc : (before : List ℕ) (b : ℕ) → [] ≡ before ++ b ∷ [] → ⊥
+no_snoc before b e = let n = ap length e ∙ length-append before (b ∷ []) in omega (arith, n)
+
+-- bytes that end with a line feed are of characters that do
+EndsLine-chars : (ps : List ℕ) → EndsLine (encodes ps) → EndsLine ps
+EndsLine-chars ps ends = ⊎_elim (λ none. inl (none_chars ps none)) (λ w. ⊎_elim (λ n. inl n) (λ v. by_last w.0 w.1 v.0 v.1 v.2) (snoc_view ps)) ends
+  where
+    none_chars : (ps : List ℕ) → encodes ps ≡ [] → ps ≡ []
+    none_chars ps none = encodes_same ps [] none
+    by_last : (before : List ℕ) → encodes ps ≡ before ++ 10 ∷ [] → (front : List ℕ) (c : ℕ) → ps ≡ front ++ c ∷ [] → EndsLine ps
+    by_last before e front c same =
+        let l = last_byte c in
+        let bytes : (encodes front ++ l.0) ++ l.1 ∷ [] ≡ before ++ 10 ∷ [] =
+            append_assoc (encodes front) l.0 (l.1 ∷ []) ∙ ap (λ x. encodes front ++ x) (sym l.2 ∙ sym (append_nil (encode c))) ∙ sym (encodes-append front (c ∷ [])) ∙ ap encodes (sym same) ∙ e in
+        let feed = l.3 (snoc_same (encodes front ++ l.0) before l.1 10 bytes).1 in
+        inr (front, same ∙ ap (λ x. front ++ x ∷ []) feed)
+
+pub behind_no_whole : (f : Option TextStop) (valid held : ℕ) (partial tail : List ℕ) → held < char_len (get_or (take held partial) 0 0) → HasBehind f valid (take held partial) tail → NoWhole tail
+behind_no_whole f valid held partial tail begun h = by_fault f h
+  where
+    plain : tail ≡ take held partial → NoWhole tail
+    plain e = subst NoWhole (sym e) (no_whole (take held partial) (let n = length-take held partial in omega (arith, n, begun)))
+    by_fault : (f : Option TextStop) → HasBehind f valid (take held partial) tail → NoWhole tail
+    by_fault None h = plain h
+    by_fault (Some (text.Utf8 at)) h = subst NoWhole (append_nil tail) (h.1 [])
+    by_fault (Some (text.BadChar at)) h = plain h
+    by_fault (Some (text.NumberRange at)) h = plain h
+    by_fault (Some (text.PowerText at)) h = plain h
+    by_fault (Some text.NoMemory) h = absurd h
+
+pub counts_tokens : (bytes cs tail : List ℕ) (count : ℕ) → bytes ≡ encodes cs ++ tail → NoWhole tail → CountsLines count cs → CountsTokens bytes count
+counts_tokens bytes cs tail count whole none k = λ front rest tokens e ends line text has.
+    let ps = text.0 in
+    let cut : encodes ps ++ rest ≡ encodes cs ++ tail = ap (λ x. x ++ rest) text.1.1 ∙ sym e ∙ whole in
+    let r = text_front ps cs rest tail text.1.0 none cut in
+    let last : IsLine (encodes r.0 ++ tail) = subst IsLine r.2 line in
+    let same = line_split k.0 k.1 ps r.0 k.3 k.4 (EndsLine-chars ps (subst EndsLine (sym text.1.1) ends)) (IsLine-chars r.0 (IsLine-left (encodes r.0) tail last)) (sym k.2 ∙ r.1) in
+    let characters : chars front ≡ ps = ap chars (sym text.1.1) ∙ chars-encodes ps text.1.0 in
+    k.5 tokens (subst (λ x. HasTokens x tokens) (characters ∙ sym same) has)
+
+pub ok_from : {T E P : Type 0} (r : Result T E) → OnOk r P → is_err r ≡ false → P
+ok_from (Ok x) p e = p
+ok_from (Err d) p e = absurd (false≢true (sym e))

@@ -79,14 +79,14 @@ pub record HasRead (lexer : Lexer) (cs : List ℕ) : Type 0 where
   pub scanned : HasScanned lexer.fault (scan_of lexer.scanner) cs
   pub counted : CountsLines lexer.counted cs
 
--- what stands behind the characters
+-- What stands behind the characters. A spent lexer stands for nothing.
 abbrev pub HasBehind : Option TextStop → ℕ → List ℕ → List ℕ → Type 0
 HasBehind (Some (text.Utf8 at)) valid partial tail = (at ≡ valid) × NoChar tail
 HasBehind None valid partial tail = tail ≡ partial
 HasBehind (Some (text.BadChar at)) valid partial tail = tail ≡ partial
 HasBehind (Some (text.NumberRange at)) valid partial tail = tail ≡ partial
 HasBehind (Some (text.PowerText at)) valid partial tail = tail ≡ partial
-HasBehind (Some text.NoMemory) valid partial tail = Unit {0}
+HasBehind (Some text.NoMemory) valid partial tail = ⊥
 
 -- the lexer stands for these bytes
 pub record Stands (lexer : Lexer) (bytes : List ℕ) : Type 0 where
