@@ -373,3 +373,9 @@ counts_tokens bytes cs tail count whole none k = λ front rest tokens e ends lin
 pub ok_from : {T E P : Type 0} (r : Result T E) → OnOk r P → is_err r ≡ false → P
 ok_from (Ok x) p e = p
 ok_from (Err d) p e = absurd (false≢true (sym e))
+
+pub readable_stop : (stop : LexStop) → stop ≢ lex.NoMemory → IsReadable (Some (text_stop stop))
+readable_stop (lex.BadChar at) h = refl
+readable_stop (lex.NumberRange at) h = refl
+readable_stop (lex.PowerText at) h = refl
+readable_stop lex.NoMemory h = absurd (h refl)

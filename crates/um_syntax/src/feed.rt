@@ -1,5 +1,5 @@
 //! A lexer that is fed the bytes of a text in pieces.
-ghost use Rattle.std.specs.Prelude.{◌≡◌, ◌≢◌, ◌+◌, ◌<◌, ◌≤◌, List, ℕ, ◌++◌, ◌∷◌, [], length, take, slice_index, OnOk, OnErr, IfOk, IsErr};
+ghost use Rattle.std.specs.Prelude.{◌≡◌, ◌+◌, ◌&&◌, nat_lt, ◌<◌, ◌≤◌, List, ℕ, ◌++◌, ◌∷◌, [], length, take, slice_index, OnOk, OnErr, IfOk, IsErr};
 ghost use Rattle.std.specs.Char.{len_utf8};
 ghost use Rattle.um_syntax.specs.Decoding.{char_len};
 ghost use Rattle.um_syntax.specs.Machine.{PendingFits, PendingFits-prop};
@@ -8,7 +8,7 @@ use std::alloc::{AllocError, Global};
 
 use crate::decode::{Front, front_of};
 use crate::scanner::Scanner;
-use crate::token::{LexStop, TextStop, Tokens};
+use crate::token::{LexStop, NoMemory, TextStop, Tokens};
 
 /// A lexer that is fed the bytes of a text in pieces, cut anywhere.
 ///
@@ -37,7 +37,7 @@ pub struct Lexer {
 
 impl Lexer {
     ghost use Rattle.um_syntax.specs.Feeding.{Stands, CountsTokens, IsTextAnswer, IsSpent, is_readable, IsReadable, HasRead, fed_of, text_stop};
-    ghost use Rattle.um_syntax.specs.declared.token.LexStop.TheVariants as lex_stop;
+    ghost use Rattle.um_syntax.specs.declared.token.TextStop.TheVariants as text_stop_of;
 
     /// A lexer that was fed nothing. Takes no memory.
     pub fn new(alloc: Global) -> Lexer
@@ -59,7 +59,7 @@ impl Lexer {
     ///
     /// These are the tokens of the text fed so far up to there, if it is UTF-8 and has no fault that far; else nothing
     /// is said of the number.
-    pub fn feed(&mut self, piece: &[u8]) -> Result<usize, AllocError>
+    pub fn feed(&mut self, piece: &[u8]) -> Result<usize, NoMemory>
         requires { fed_of self.old + length piece.now ≤ 1048576 }
         ensures stands { OnOk result ((bytes : List ℕ) → Stands self.old bytes → Stands self.new (bytes ++ piece.now)) }
         ensures tokens { IfOk result (λ n. (bytes : List ℕ) → Stands self.old bytes → CountsTokens (bytes ++ piece.now) n) }
@@ -77,6 +77,34 @@ impl Lexer {
             }
         }
         Ok(self.counted)
+    }
+
+    /// The tokens of the text that was fed.
+    ///
+    /// # Errors
+    ///
+    /// `Utf8` where the bytes aren't UTF-8, at the length of their longest front that is; else the refusal of `lex`.
+    pub fn finish(self) -> Result<Tokens, TextStop>
+        ensures answer { (bytes : List ℕ) → Stands self bytes → IsTextAnswer bytes result }
+        ensures spent { IsSpent self → result ≡ Err text_stop_of.NoMemory }
+    {
+        if self.ends_within_char() {
+            return Err(TextStop::Utf8 { at: self.valid });
+        }
+        match self.fault {
+            Some(stop) => Err(stop),
+            None => match self.scanner.finish() {
+                Ok(tokens) => Ok(tokens),
+                Err(stop) => Err(Lexer::text_stop(stop)),
+            },
+        }
+    }
+
+    // Whether the bytes that were fed end within a character, and could be read so far.
+    fn ends_within_char(&self) -> bool
+        ensures { result ≡ (is_readable self.now.fault && nat_lt 0 self.now.held) }
+    {
+        Lexer::is_readable(self.fault) && self.held > 0
     }
 
     // Takes a character behind those that were read.
@@ -99,7 +127,10 @@ impl Lexer {
                     self.counted = self.scanner.count();
                 }
             }
-            Err(stop) => self.fault = Some(Lexer::text_stop(stop)?),
+            Err(stop) => match Lexer::text_stop(stop) {
+                TextStop::NoMemory => return Err(AllocError),
+                fault => self.fault = Some(fault),
+            },
         }
         Ok(())
     }
@@ -143,15 +174,14 @@ impl Lexer {
     }
 
     // The fault of a text that is a refusal of its characters.
-    fn text_stop(stop: LexStop) -> Result<TextStop, AllocError>
-        ensures ok { IfOk result (λ s. s ≡ text_stop stop) }
-        ensures memory { OnOk result (stop ≢ lex_stop.NoMemory) }
+    fn text_stop(stop: LexStop) -> TextStop
+        ensures { result ≡ text_stop stop }
     {
         match stop {
-            LexStop::BadChar { at } => Ok(TextStop::BadChar { at }),
-            LexStop::NumberRange { at } => Ok(TextStop::NumberRange { at }),
-            LexStop::PowerText { at } => Ok(TextStop::PowerText { at }),
-            LexStop::NoMemory => Err(AllocError),
+            LexStop::BadChar { at } => TextStop::BadChar { at },
+            LexStop::NumberRange { at } => TextStop::NumberRange { at },
+            LexStop::PowerText { at } => TextStop::PowerText { at },
+            LexStop::NoMemory => TextStop::NoMemory,
         }
     }
 }

@@ -2,10 +2,13 @@
 ghost use Rattle.std.specs.Prelude.{◌≡◌, ℕ, List, IfOk};
 ghost use Rattle.um_syntax.specs.declared.token.LexStop.TheVariants.{NoMemory};
 
-use std::alloc::{AllocError, AllocFailed, Global};
+use std::alloc::{AllocError, Global};
 use std::marker::Model;
 use thiserror::Error;
 use um_frac::Frac;
+
+/// Want of memory, where it is the one error of a call.
+pub type NoMemory = AllocError;
 
 /// A list of bytes: the letters of a name, in UTF-8.
 #[derive(Debug, Drop)]
