@@ -15,6 +15,8 @@ mod pending;
 mod place;
 mod scanner;
 mod table;
+#[cfg(test)]
+mod tests;
 mod token;
 
 pub use feed::Lexer;
