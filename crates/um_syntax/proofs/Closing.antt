@@ -74,12 +74,14 @@ scan_at at before letters p = record { at = at; tokens = before; letters = lette
 pub close_identifier : (before : List Token) (start at : ℕ) (letters text more : List ℕ) → at ≡ start + size_of text → letters ≡ encodes text → IsIdentifier text → begins is_xid_continue more ≡ false
     → CloseMeans before start text at more (pending.Identifier start) (Ok (identifier_pushed (scan_at at before letters (pending.Identifier start)) start))
 close_identifier before start at letters text more place same is stops =
-    let r = identifier_read text is in
-    (refl, λ answer alone m.
-      next_token before start (text ++ more) _ more answer
-      (token_here before start r.lexeme more (text ++ more) (letters_kind letters) at (ap (λ x. x ++ more) (sym r.text_is)) r.fits (r.ends more stops) (r.alone more)
-        (r.kind (is_power_place before) ∙ ap (λ x. Some (letters_kind x)) (sym same)) (place ∙ ap (λ x. start + size_of x) (sym r.text_is)))
-      m)
+    let r = identifier_read text is in (
+      refl,
+      λ answer alone m.
+          next_token before start (text ++ more) _ more answer
+          (token_here before start r.lexeme more (text ++ more) (letters_kind letters) at (ap (λ x. x ++ more) (sym r.text_is)) r.fits (r.ends more stops) (r.alone more)
+          (r.kind (is_power_place before) ∙ ap (λ x. Some (letters_kind x)) (sym same)) (place ∙ ap (λ x. start + size_of x) (sym r.text_is)))
+          m,
+    )
 
 -- no name starts with a quote or an ampersand, and no letter is one
 no_name : (c : ℕ) → c < 128 → is_xid_start c ≡ false → eqb c 95 ≡ false → starts_name c ≡ false
@@ -162,14 +164,14 @@ word_variable k h before start last at more last_place place stops answer m =
     let end : at ≡ last + size_of (p.last ∷ []) = omega (arith, last_place, place, size_of-snoc p.front p.last) in
     next_token before start _ _ (p.last ∷ more) answer
     (token_here before start (Var p.front) (p.last ∷ more) _ (kind.Var (take (length (word_text k) - 1) (word_text k))) last cut
-      (p.front_identifier, not_hole p.front p.front_no_hole, word_number-none p.front p.front_no_word)
-      (inr (continues, (k, h, sym p.text), stops)) tt
-      (ap (λ x. Some (kind.Var x)) (letters_encoded p.front p.front_letters ∙ sym p.front_taken)) last_place)
+    (p.front_identifier, not_hole p.front p.front_no_hole, word_number-none p.front p.front_no_word)
+    (inr (continues, (k, h, sym p.text), stops)) tt
+    (ap (λ x. Some (kind.Var x)) (letters_encoded p.front p.front_letters ∙ sym p.front_taken)) last_place)
     (next_token (before ++ _ ∷ []) last (p.last ∷ more) _ more answer
-      (token_here (before ++ _ ∷ []) last (Name (p.last ∷ [])) more (p.last ∷ more) (kind.Name (drop (length (word_text k) - 1) (word_text k))) at refl
-        ((letter_starts_name p.last p.last_letter, tt), not_hole (p.last ∷ []) p.last_no_hole, word_number-none (p.last ∷ []) p.last_no_word)
-        stops tt (ap (λ x. Some (kind.Name x)) (last_encoded p.last p.last_letter ∙ sym p.last_dropped)) end)
-      m)
+    (token_here (before ++ _ ∷ []) last (Name (p.last ∷ [])) more (p.last ∷ more) (kind.Name (drop (length (word_text k) - 1) (word_text k))) at refl
+    ((letter_starts_name p.last p.last_letter, tt), not_hole (p.last ∷ []) p.last_no_hole, word_number-none (p.last ∷ []) p.last_no_word)
+    stops tt (ap (λ x. Some (kind.Name x)) (last_encoded p.last p.last_letter ∙ sym p.last_dropped)) end)
+    m)
 
 abbrev variable_state : List Token → ℕ → ℕ → ℕ → List ℕ → Scan
 variable_state before start at last letters = scan_at at before letters (pending.Variable start last)
@@ -181,10 +183,13 @@ VariableMeans before start at last name more r = CloseMeans before start (39 ∷
 variable_plain : (before : List Token) (start at last : ℕ) (name more : List ℕ) → IsIdentifier name → at ≡ start + size_of (39 ∷ name) → begins is_xid_continue more ≡ false
     → bytes_eq (encodes name) (95 ∷ []) ≡ false → word_number (encodes name) ≡ None
     → VariableMeans before start at last name more (Ok (variable_pushed (variable_state before start at last (encodes name)) start last))
-variable_plain before start at last name more is place stops no_hole e = rw e (refl, λ answer alone m.
-    next_token before start (39 ∷ (name ++ more)) _ more answer
-    (token_here before start (Var name) more _ (kind.Var (encodes name)) at refl (is, no_hole_from name no_hole, no_word_from name e) (inl stops) tt refl place)
-    m)
+variable_plain before start at last name more is place stops no_hole e = rw e (
+  refl,
+  λ answer alone m.
+      next_token before start (39 ∷ (name ++ more)) _ more answer
+      (token_here before start (Var name) more _ (kind.Var (encodes name)) at refl (is, no_hole_from name no_hole, no_word_from name e) (inl stops) tt refl place)
+      m,
+)
 
 abbrev word_pushed : List Token → ℕ → ℕ → ℕ → List ℕ → Scan
 word_pushed before start at last letters =
@@ -203,9 +208,9 @@ variable_word before start at last front more c k last_place place stops e =
     let last_there : last ≡ start + size_of (39 ∷ p.front) = last_place ∙ ap (λ x. start + size_of (39 ∷ x)) same.0 in
     let there : at ≡ start + size_of (39 ∷ (p.front ++ p.last ∷ [])) = place ∙ ap (λ x. start + size_of (39 ∷ x)) parts in
     let m : VariableMeans before start at last (p.front ++ p.last ∷ []) more (Ok (word_pushed before start at last (word_text k))) =
-        (refl, λ answer alone m. word_variable k w.0 before start last at more last_there there stops answer m) in
+    (refl, λ answer alone m. word_variable k w.0 before start last at more last_there there stops answer m) in
     rw e (subst (λ x. VariableMeans before start at last x more (Ok (word_pushed before start at last (encodes (front ++ c ∷ []))))) (sym parts)
-      (subst (λ l. VariableMeans before start at last (p.front ++ p.last ∷ []) more (Ok (word_pushed before start at last l))) (sym letters) m))
+    (subst (λ l. VariableMeans before start at last (p.front ++ p.last ∷ []) more (Ok (word_pushed before start at last l))) (sym letters) m))
 
 variable_hole : (before : List Token) (start : ℕ) (name more : List ℕ) → begins is_xid_continue more ≡ false → bytes_eq (encodes name) (95 ∷ []) ≡ true → Means before start ((39 ∷ name) ++ more) (Err (BadChar start))
 variable_hole before start name more stops e = subst (λ x. Means before start ((39 ∷ x) ++ more) (Err (BadChar start))) (sym (hole_from name e)) (hole_variable before start more stops)
@@ -219,6 +224,7 @@ close_variable before start at last front more c is last_place place stops = by_
         → VariableMeans before start at last (front ++ c ∷ []) more (Ok (variable_pushed (variable_state before start at last (encodes (front ++ c ∷ []))) start last))
     by_number no_hole (Some k) e = variable_word before start at last front more c k last_place place stops e
     by_number no_hole None e = variable_plain before start at last (front ++ c ∷ []) more is place stops no_hole e
+
     by_hole : (b : Bool) → bytes_eq (encodes (front ++ c ∷ [])) (95 ∷ []) ≡ b
         → VariableMeans before start at last (front ++ c ∷ []) more (close (variable_state before start at last (encodes (front ++ c ∷ []))) (pending.Variable start last))
     by_hole true e = rw e (variable_hole before start (front ++ c ∷ []) more stops e)
@@ -295,11 +301,13 @@ digit_ended : (before : List Token) (start at e : ℕ) (p : Part) (n : Numeral) 
     → kind_of (is_power_place before) (Number n) ≡ Some kind → NumberMeans before start at e p n more (Ok (pushed (number_state before start at e p n) kind start e))
 digit_ended before start at e p n more kind no_tail digit r is_kind =
     let text : numeral_text n ++ tail_of p ≡ numeral_text n = ap (λ x. numeral_text n ++ x) no_tail ∙ append_nil (numeral_text n) in
-    let same : at ≡ e = r.place ∙ ap (λ x. start + size_of x) text ∙ sym r.end in
-    (refl, λ answer alone m.
-      next_token before start _ _ more answer
-      (token_here before start (Number n) more _ kind e (ap (λ x. x ++ more) text) r.fits (subst (λ x. NumeralEnds n (x ++ more)) no_tail r.ends) (alone digit) is_kind r.end)
-      (subst (λ x. Means (before ++ record { kind = kind; start = start; end = e; glued = is_glued before start } ∷ []) x more answer) same m))
+    let same : at ≡ e = r.place ∙ ap (λ x. start + size_of x) text ∙ sym r.end in (
+      refl,
+      λ answer alone m.
+          next_token before start _ _ more answer
+          (token_here before start (Number n) more _ kind e (ap (λ x. x ++ more) text) r.fits (subst (λ x. NumeralEnds n (x ++ more)) no_tail r.ends) (alone digit) is_kind r.end)
+          (subst (λ x. Means (before ++ record { kind = kind; start = start; end = e; glued = is_glued before start } ∷ []) x more answer) same m),
+    )
 
 pub dot_ends : (more : List ℕ) → SignEnds (46 ∷ []) more
 dot_ends [] = tt
@@ -307,18 +315,21 @@ dot_ends (c ∷ cs) = (λ k h e. double_none (sign_text-double 46 c k h e), λ e
   where
     double_none : {k : ℕ} → ◌≡◌ {A = Option ℕ} None (Some k) → ⊥
     double_none e = cc
+
     dot_slash : ◌≡◌ {A = List ℕ} (46 ∷ c ∷ []) (47 ∷ 47 ∷ []) → ⊥
     dot_slash e = let same : ◌≡◌ {A = ℕ} 46 47 = cc in omega (arith, same)
 
 point_ended : (before : List Token) (start at e : ℕ) (n : Numeral) (more : List ℕ) (which : Kind) → IsNumberRead start at e part.Point n more
     → kind_of (is_power_place before) (Number n) ≡ Some which → NumberMeans before start at e part.Point n more (Ok (pushed (pushed (number_state before start at e part.Point n) which start e) (kind.Sign dot) e at))
-point_ended before start at e n more which r is_kind =
-    (refl, λ answer alone m.
+point_ended before start at e n more which r is_kind = (
+  refl,
+  λ answer alone m.
       next_token before start _ _ (46 ∷ more) answer
       (token_here before start (Number n) (46 ∷ more) _ which e (append_assoc (numeral_text n) (46 ∷ []) more) r.fits r.ends (is_xid_continue-ascii 46 (lit< tt)) is_kind r.end)
       (next_token (before ++ _ ∷ []) e (46 ∷ more) _ more answer
-        (token_here (before ++ _ ∷ []) e (Sign dot) more (46 ∷ more) (kind.Sign dot) at refl (lit< tt) (dot_ends more) tt refl (omega (arith, r.place, r.end, size_of-append (numeral_text n) (46 ∷ []))))
-        m))
+      (token_here (before ++ _ ∷ []) e (Sign dot) more (46 ∷ more) (kind.Sign dot) at refl (lit< tt) (dot_ends more) tt refl (omega (arith, r.place, r.end, size_of-append (numeral_text n) (46 ∷ []))))
+      m),
+)
 
 is_number_at : (start at e : ℕ) (p : Part) (n : Numeral) (more : List ℕ) → IsNumberRead start at e p n more → IsNumberAt ((numeral_text n ++ tail_of p) ++ more) n (tail_of p ++ more)
 is_number_at start at e p n more r = record { cut = append_assoc (numeral_text n) (tail_of p) more; fits = r.fits; longest = r.ends }
@@ -351,6 +362,7 @@ close_number before start at e p n more fits has end place untaken =
   where
     r : IsNumberRead start at e p n more
     r = record { fits = fits; ends = numeral_ends p n more has untaken; end = end; place = place }
+
     by_kind : (o : Option Kind) → kind_of (is_power_place before) (Number n) ≡ o → NumberMeans before start at e p n more (number_pushed (number_state before start at e p n) start e p (is_power_place before) o)
     by_kind (Some kind) is = number_kept before start at e p n more kind r is
     by_kind None is = number_refused before start at e p n more r (is_power_place before) refl is
@@ -362,9 +374,10 @@ single_ends k c more e untaken = subst (λ x. SignEnds x more) (sym e) (ends mor
     ends : (more : List ℕ) → begins (takes (pending.Symbol 0 c)) more ≡ false → SignEnds (c ∷ []) more
     ends [] u = tt
     ends (d ∷ ds) u =
-        let parts = or_false (is_some (double_sign c d)) (eqb c 47 && eqb d 47) u in
-        (λ j h t. false≢true (sym parts.0 ∙ ap is_some (sign_text-double c d j h t)),
-          λ t. let first : c ≡ 47 = cc in let second : d ≡ 47 = cc in false≢true (sym parts.1 ∙ ap (λ x. eqb x 47 && eqb d 47) first ∙ ap (λ y. eqb y 47) second))
+        let parts = or_false (is_some (double_sign c d)) (eqb c 47 && eqb d 47) u in (
+          λ j h t. false≢true (sym parts.0 ∙ ap is_some (sign_text-double c d j h t)),
+          λ t. let first : c ≡ 47 = cc in let second : d ≡ 47 = cc in false≢true (sym parts.1 ∙ ap (λ x. eqb x 47 && eqb d 47) first ∙ ap (λ y. eqb y 47) second),
+        )
 
 ampersand_head : (more : List ℕ) → begins (takes (pending.Symbol 0 38)) more ≡ false → NoHead 38 more
 ampersand_head more untaken = record {
@@ -387,17 +400,21 @@ close_symbol before start at first more place begun untaken = by_sign (single_si
   where
     sign : (k : ℕ) → single_sign first ≡ Some k → SymbolMeans before start at first more (sign_pushed (scan_at at before [] (pending.Symbol start first)) start (Some k))
     sign k e =
-        let t = single_sign-text first k e in
-        (refl, λ answer alone m.
-          next_token before start _ _ more answer
-          (token_here before start (Sign k) more _ (kind.Sign k) at (ap (λ x. x ++ more) (sym t.1)) t.0 (single_ends k first more t.1 untaken) tt refl (place ∙ ap (λ x. start + size_of x) (sym t.1)))
-          m)
+        let t = single_sign-text first k e in (
+          refl,
+          λ answer alone m.
+              next_token before start _ _ more answer
+              (token_here before start (Sign k) more _ (kind.Sign k) at (ap (λ x. x ++ more) (sym t.1)) t.0 (single_ends k first more t.1 untaken) tt refl (place ∙ ap (λ x. start + size_of x) (sym t.1)))
+              m,
+        )
+
     ampersand : single_sign first ≡ None → Means before start (first ∷ more) (Err (BadChar start))
     ampersand e =
         let is : eqb first 38 ≡ true = sym (ap (λ o. is_some o || eqb first 38) e) ∙ begun in
         let same = eqb-true first 38 is in
         subst (λ x. Means before start (x ∷ more) (Err (BadChar start))) (sym same)
         (faulty_here before start (38 ∷ more) (BadChar start) (inl (refl, nothing_at 38 more refl (ampersand_head more (subst (λ x. begins (takes (pending.Symbol 0 x)) more ≡ false) same untaken)))))
+
     by_sign : (o : Option ℕ) → single_sign first ≡ o → SymbolMeans before start at first more (close (scan_at at before [] (pending.Symbol start first)) (pending.Symbol start first))
     by_sign (Some k) e = rw e (sign k e)
     by_sign None e = rw e (ampersand e)
@@ -415,8 +432,10 @@ number_tail before start at e p n more new fits has end place untaken no_tail le
   where
     r : IsNumberRead start at e p n more
     r = record { fits = fits; ends = numeral_ends p n more has untaken; end = end; place = place }
+
     text : numeral_text n ++ tail_of p ≡ numeral_text n
     text = ap (λ x. numeral_text n ++ x) no_tail ∙ append_nil (numeral_text n)
+
     kept : kind_of (is_power_place before) (Number n) ≡ None → ⊥
     kept none = none_refused (number_state before start at e p n) start e p (is_power_place before) new
         (ap (λ o. number_pushed (number_state before start at e p n) start e p (is_power_place before) o) (sym none ∙ sym (figures_kind-of (is_power_place before) p n fits (whole_part p n has))) ∙ ok)

@@ -64,6 +64,7 @@ name_kind text is = by_number (word_number (encodes text)) refl
     by_hole : (b : Bool) → bytes_eq (encodes text) (95 ∷ []) ≡ b → word_kind (encodes text) None ≡ kind.Name (encodes text)
     by_hole true e = absurd (is.1 (hole_from text e))
     by_hole false e = rw e refl
+
     by_number : (o : Option ℕ) → word_number (encodes text) ≡ o → letters_kind (encodes text) ≡ kind.Name (encodes text)
     by_number (Some k) e = let w = word_from text k e in absurd (is.2 (k, w.0, w.1))
     by_number None e = rw e (by_hole (bytes_eq (encodes text) (95 ∷ [])) refl)
@@ -115,7 +116,7 @@ name_variable : (before : List Token) (at : ℕ) (front more : List ℕ) (c : �
 name_variable before at front more c is stops =
     variable_run before at c front more is.0
     ∙ closed_run before (before ++ token_from before (kind.Var (encodes (front ++ c ∷ []))) at (at + size_of (39 ∷ (front ++ c ∷ []))) ∷ []) (encodes (front ++ c ∷ [])) (at + size_of (39 ∷ (front ++ c ∷ [])))
-      (pending.Variable at (at + size_of (39 ∷ front))) more (rw (no_hole (front ++ c ∷ []) is.1, no_word (front ++ c ∷ []) is.2) refl) stops (λ d. absurd (false≢true d))
+    (pending.Variable at (at + size_of (39 ∷ front))) more (rw (no_hole (front ++ c ∷ []) is.1, no_word (front ++ c ∷ []) is.2) refl) stops (λ d. absurd (false≢true d))
 
 AllContinue-snoc : (text : List ℕ) (c : ℕ) → AllContinue text → is_xid_continue c ≡ true → AllContinue (text ++ c ∷ [])
 AllContinue-snoc [] c a e = (e, tt)
@@ -130,8 +131,10 @@ word_no_hole k h = by_hole (bytes_eq (word_text k) (95 ∷ [])) refl
   where
     hole_number : word_number (95 ∷ []) ≡ None
     hole_number = refl
+
     none_some : ◌≡◌ {A = Option ℕ} None (Some k) → ⊥
     none_some e = cc
+
     by_hole : (b : Bool) → bytes_eq (word_text k) (95 ∷ []) ≡ b → bytes_eq (word_text k) (95 ∷ []) ≡ false
     by_hole true e = absurd (none_some (sym hole_number ∙ ap word_number (sym ((bytes_eq-Decides (word_text k) (95 ∷ [])).0 e)) ∙ word_number-word k h))
     by_hole false e = e
@@ -148,7 +151,7 @@ word_tokens before at k c name more h is same stops =
     variable_run before at c name more is
     ∙ ap (λ l. run (variable_at before at (at + size_of (39 ∷ (name ++ c ∷ []))) (at + size_of (39 ∷ name)) l) more) (ap encodes same ∙ word_encoded k h)
     ∙ closed_run before (both_tokens before at name c (word_text k)) (word_text k) (at + size_of (39 ∷ (name ++ c ∷ []))) (pending.Variable at (at + size_of (39 ∷ name))) more
-      (rw (word_no_hole k h, word_number-word k h) refl) stops (λ d. absurd (false≢true d))
+    (rw (word_no_hole k h, word_number-word k h) refl) stops (λ d. absurd (false≢true d))
 
 letter_kind : (k c : ℕ) (h : k < length words) → c ≡ (word_parts k h).last → letters_kind (encodes (c ∷ [])) ≡ kind.Name (drop (length (word_text k) - 1) (word_text k))
 letter_kind k c h same =
@@ -169,7 +172,7 @@ letter_variable before at c name more is leaves =
     let p = word_parts k h in
     let parts = snoc_same name p.front c p.last (same ∙ p.text) in
     let kind_is : kind.Var (take (length (word_text k) - 1) (word_text k)) ≡ kind.Var (encodes name) =
-        ap (λ x. kind.Var x) (p.front_taken ∙ sym (letters_encoded p.front p.front_letters) ∙ ap encodes (sym parts.0)) in
+    ap (λ x. kind.Var x) (p.front_taken ∙ sym (letters_encoded p.front p.front_letters) ∙ ap encodes (sym parts.0)) in
     let letter_is = letter_kind k c h parts.1 in
     let starts : starts_name c ≡ true = rw parts.1 (letter_starts_name p.last p.last_letter) in
     let whole = word_tokens before at k c name more h (IsIdentifier-snoc name c is.0 leaves.0) same leaves.2 in
@@ -194,6 +197,7 @@ sign_untaken k c (d ∷ ds) ends = or_both (is_some (double_sign c d)) (eqb c 47
     by_sign : (o : Option ℕ) → double_sign c d ≡ o → is_some (double_sign c d) ≡ false
     by_sign (Some j) e = let t = double_sign-text c d j e in absurd (ends.0 j t.0 t.1)
     by_sign None e = ap is_some e
+
     by_slash : eqb c 47 ≡ true → (b : Bool) → eqb d 47 ≡ b → eqb d 47 ≡ false
     by_slash one true two = absurd (ends.1 (ap (λ x. x ∷ d ∷ []) (eqb-true c 47 one) ∙ ap (λ x. 47 ∷ x ∷ []) (eqb-true d 47 two)))
     by_slash one false two = two
@@ -243,6 +247,7 @@ ends_whole ds (c ∷ cs) ends = by_point (eqb c 46) refl
     by_letter : eqb c 46 ≡ false → (b : Bool) → eqb c 114 ≡ b → number_end (Whole ds) (c ∷ cs)
     by_letter p true e = let same = eqb-true c 114 e in inr (inr (ds, cs, refl, ap (λ x. x ∷ cs) same, sym (ap (λ x. (eqb x 46 || eqb x 114) && begins is_ascii_digit cs) same) ∙ ends.1))
     by_letter p false e = inl (or_both (is_ascii_digit c) (eqb c 46 || eqb c 114) ends.0 (or_both (eqb c 46) (eqb c 114) p e))
+
     by_point : (b : Bool) → eqb c 46 ≡ b → number_end (Whole ds) (c ∷ cs)
     by_point true e = let same = eqb-true c 46 e in inr (inl (ds, cs, refl, ap (λ x. x ∷ cs) same, sym (ap (λ x. (eqb x 46 || eqb x 114) && begins is_ascii_digit cs) same) ∙ ends.1))
     by_point false e = by_letter e (eqb c 114) refl
@@ -291,12 +296,15 @@ number_token before at n more which is ends alone kind_is = number_run before at
     closed_here u =
         closed_run before (before ++ token_from before which at (at + size_of (numeral_text n)) ∷ []) [] (at + size_of (numeral_text n)) (pending.Number at (at + size_of (numeral_text n)) (part_of n) (figures_of n)) more
         (number_close before at (at + size_of (numeral_text n)) (at + size_of (numeral_text n)) (part_of n) n (Some which) is (whole_of n) kind_is ∙ part_done n _ (at + size_of (numeral_text n))) u (λ d. alone)
+
     point : (ds cs : List ℕ) → n ≡ Whole ds → more ≡ 46 ∷ cs → begins is_ascii_digit cs ≡ false → number_answer before at n more ≡ number_behind before at n which more
     point ds cs same rest no_digit =
         subst (λ m. number_answer before at n m ≡ number_behind before at n which m) (sym rest)
         (subst (λ m. IsNumeral m → kind_of (is_power_place before) (Number m) ≡ Some which → number_answer before at m (46 ∷ cs) ≡ number_behind before at m which (46 ∷ cs)) (sym same) (λ is kind_is. point_token before at ds cs which is no_digit kind_is) is kind_is)
+
     letter : (cs : List ℕ) → more ≡ 114 ∷ cs → ⊥
     letter cs rest = false≢true (sym alone ∙ ap (begins is_xid_continue) rest ∙ is_xid_continue-ascii 114 (lit< tt))
+
     by_end : number_end n more → number_answer before at n more ≡ number_behind before at n which more
     by_end u = ⊎_elim closed_here (λ m. ⊎_elim (λ w. point w.0 w.1 w.2 w.3 w.4) (λ w. absurd (letter w.1 w.3)) m) u
 
@@ -315,12 +323,15 @@ number_letter before at n more which is ends letter kind_is = number_run before 
     tail_here u =
         tail_run before (before ++ token_from before which at (at + size_of (numeral_text n)) ∷ []) [] (at + size_of (numeral_text n)) (pending.Number at (at + size_of (numeral_text n)) (part_of n) (figures_of n)) more
         (number_close before at (at + size_of (numeral_text n)) (at + size_of (numeral_text n)) (part_of n) n (Some which) is (whole_of n) kind_is ∙ part_done n _ (at + size_of (numeral_text n))) u (digit_part at at (at + size_of (numeral_text n)) n) letter
+
     point : (cs : List ℕ) → more ≡ 46 ∷ cs → ⊥
     point cs rest = false≢true (sym (is_xid_continue-ascii 46 (lit< tt)) ∙ ap (begins is_xid_continue) (sym rest) ∙ letter)
+
     over : (ds cs : List ℕ) → n ≡ Whole ds → more ≡ 114 ∷ cs → begins is_ascii_digit cs ≡ false → number_answer before at n more ≡ Err (BadChar (at + size_of (numeral_text n)))
     over ds cs same rest no_digit =
         subst (λ m. number_answer before at n m ≡ Err (BadChar (at + size_of (numeral_text n)))) (sym rest)
         (subst (λ m. IsNumeral m → kind_of (is_power_place before) (Number m) ≡ Some which → number_answer before at m (114 ∷ cs) ≡ Err (BadChar (at + size_of (numeral_text m)))) (sym same) (λ is kind_is. over_letter before at ds cs which is no_digit kind_is) is kind_is)
+
     by_end : number_end n more → number_answer before at n more ≡ Err (BadChar (at + size_of (numeral_text n)))
     by_end u = ⊎_elim tail_here (λ m. ⊎_elim (λ w. absurd (point w.1 w.3)) (λ w. over w.0 w.1 w.2 w.3 w.4) m) u
 
@@ -338,7 +349,7 @@ mark_refused : (before : List Token) (at c : ℕ) (ds cs : List ℕ) (p : Part) 
 mark_refused before at c ds cs p taken whole untaken is none =
     mark_taken before at c ds cs p taken
     ∙ stopped_run before [] (at + size_of ds + 1) (pending.Number at (at + size_of ds) p (figures_of (Whole ds))) cs (range_stop (is_power_place before) at)
-      (number_close before at (at + size_of ds + 1) (at + size_of ds) p (Whole ds) None is whole none ∙ none_pushed (number_state before at (at + size_of ds + 1) (at + size_of ds) p (Whole ds)) at (at + size_of ds) p (is_power_place before)) untaken
+    (number_close before at (at + size_of ds + 1) (at + size_of ds) p (Whole ds) None is whole none ∙ none_pushed (number_state before at (at + size_of ds + 1) (at + size_of ds) p (Whole ds)) at (at + size_of ds) p (is_power_place before)) untaken
 
 pub number_refused : (before : List Token) (at : ℕ) (n : Numeral) (more : List ℕ) → IsNumeral n → NumeralEnds n more → kind_of (is_power_place before) (Number n) ≡ None
     → run (free before at) (numeral_text n ++ more) ≡ Err (range_stop (is_power_place before) at)
@@ -348,14 +359,16 @@ number_refused before at n more is ends none = number_run before at n more is �
     here u =
         stopped_run before [] (at + size_of (numeral_text n)) (pending.Number at (at + size_of (numeral_text n)) (part_of n) (figures_of n)) more (range_stop (is_power_place before) at)
         (number_close before at (at + size_of (numeral_text n)) (at + size_of (numeral_text n)) (part_of n) n None is (whole_of n) none ∙ none_pushed (number_state before at (at + size_of (numeral_text n)) (at + size_of (numeral_text n)) (part_of n) n) at (at + size_of (numeral_text n)) (part_of n) (is_power_place before)) u
+
     marked : (c : ℕ) (p : Part) (ds cs : List ℕ) → n ≡ Whole ds → more ≡ c ∷ cs → number_answer before at (Whole ds) (c ∷ cs) ≡ Err (range_stop (is_power_place before) at) → number_answer before at n more ≡ Err (range_stop (is_power_place before) at)
     marked c p ds cs same rest m = ap (λ x. number_answer before at x more) same ∙ ap (λ x. number_answer before at (Whole ds) x) rest ∙ m
+
     by_end : number_end n more → number_answer before at n more ≡ Err (range_stop (is_power_place before) at)
     by_end u = ⊎_elim here
         (λ m. ⊎_elim
-          (λ w. marked 46 part.Point w.0 w.1 w.2 w.3 (mark_refused before at 46 w.0 w.1 part.Point refl refl w.4 (subst IsNumeral w.2 is) (subst (λ x. kind_of (is_power_place before) (Number x) ≡ None) w.2 none)))
-          (λ w. marked 114 part.Over w.0 w.1 w.2 w.3 (mark_refused before at 114 w.0 w.1 part.Over refl refl w.4 (subst IsNumeral w.2 is) (subst (λ x. kind_of (is_power_place before) (Number x) ≡ None) w.2 none)))
-          m)
+        (λ w. marked 46 part.Point w.0 w.1 w.2 w.3 (mark_refused before at 46 w.0 w.1 part.Point refl refl w.4 (subst IsNumeral w.2 is) (subst (λ x. kind_of (is_power_place before) (Number x) ≡ None) w.2 none)))
+        (λ w. marked 114 part.Over w.0 w.1 w.2 w.3 (mark_refused before at 114 w.0 w.1 part.Over refl refl w.4 (subst IsNumeral w.2 is) (subst (λ x. kind_of (is_power_place before) (Number x) ≡ None) w.2 none)))
+        m)
         u
 
 -- the next token
@@ -377,9 +390,11 @@ lexeme_run before at (Var name) more which is ends alone e =
     whole more stops =
         let r = snoc_of name is.0 in
         subst (λ x. AfterToken before at (39 ∷ x) (kind.Var (encodes x)) more) (sym r.2) (name_variable before at r.0 more r.1 (subst IsName r.2 is) stops)
+
     letter : (more : List ℕ) → LeavesLetter name more → AfterToken before at (39 ∷ name) (kind.Var (encodes name)) more
     letter [] leaves = absurd leaves
     letter (c ∷ cs) leaves = letter_variable before at c name cs is leaves
+
     by_end : (more : List ℕ) → (begins is_xid_continue more ≡ false) ⊎ LeavesLetter name more → AfterToken before at (39 ∷ name) (kind.Var (encodes name)) more
     by_end more ends = ⊎_elim (whole more) (letter more) ends
 lexeme_run before at (Number n) more which is ends alone e = number_token before at n more which is ends alone e

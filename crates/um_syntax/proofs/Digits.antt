@@ -35,14 +35,17 @@ with_digit-capped n d small = ⊎_elim below above (cases_lt n (10 ^ 37))
         let low : n < 10 ^ 38 = omega arith in
         let next : 10 * n + d < 10 ^ 38 = omega arith in
         rw (lt-ltb n (10 ^ 38) low, lt-ltb n (10 ^ 37) h, lt-ltb (10 * n + d) (10 ^ 38) next) refl
+
     middle : 10 ^ 37 ≤ n → n < 10 ^ 38 → with_digit (capped n) d ≡ capped (10 * n + d)
     middle h low =
         let next : 10 ^ 38 ≤ 10 * n + d = omega arith in
         rw (lt-ltb n (10 ^ 38) low, le-ltb n (10 ^ 37) h, le-ltb (10 * n + d) (10 ^ 38) next) refl
+
     high : 10 ^ 38 ≤ n → with_digit (capped n) d ≡ capped (10 * n + d)
     high h =
         let next : 10 ^ 38 ≤ 10 * n + d = omega arith in
         rw (le-ltb n (10 ^ 38) h, le-ltb (10 * n + d) (10 ^ 38) next) refl
+
     above : 10 ^ 37 ≤ n → with_digit (capped n) d ≡ capped (10 * n + d)
     above h = ⊎_elim (middle h) high (cases_lt n (10 ^ 38))
 
@@ -51,6 +54,7 @@ one_more-capped n = ⊎_elim below (λ h. let next : 39 ≤ n + 1 = omega arith 
   where
     last : 39 ≤ n + 1 → n < 39 → one_more (capped_count n) ≡ capped_count (n + 1)
     last next h = let same : n + 1 ≡ 39 = omega arith in rw (lt-ltb n 39 h, lt-ltb n 39 h, le-ltb (n + 1) 39 next) same
+
     below : n < 39 → one_more (capped_count n) ≡ capped_count (n + 1)
     below h = ⊎_elim (λ next. rw (lt-ltb n 39 h, lt-ltb n 39 h, lt-ltb (n + 1) 39 next) refl) (λ next. last next h) (cases_lt (n + 1) 39)
 
@@ -136,6 +140,7 @@ power_same v = ⊎_elim high low (cases_lt 2147483647 v)
   where
     low : v ≤ 2147483647 → cond (leb (capped v) 2147483647) (reduced (pos (capped v)) (pos 1)) None ≡ cond (leb v 2147483647) (reduced (pos v) (pos 1)) None
     low h = ap (λ x. cond (leb x 2147483647) (reduced (pos x) (pos 1)) None) (capped-small v (omega arith))
+
     high : 2147483647 < v → cond (leb (capped v) 2147483647) (reduced (pos (capped v)) (pos 1)) None ≡ cond (leb v 2147483647) (reduced (pos v) (pos 1)) None
     high h =
         let above : 2147483647 < capped v = ⊎_elim (λ (small : v < 10 ^ 38). rw lt-ltb h) (λ (big : 10 ^ 38 ≤ v). rw le-ltb (omega arith)) (cases_lt v (10 ^ 38)) in
@@ -172,6 +177,7 @@ ordinary_same count n d a b above below = ⊎_elim many few (cases_lt 38 count)
         let p = above h in
         let q = below h in
         rw (lt-ltb count 39 low, le-leb count 38 h, p, q) refl
+
     many : 38 < count → cond (leb (capped_count count) 38) (reduced (pos a) (pos b)) None ≡ cond (leb count 38) (reduced (pos n) (pos d)) None
     many h =
         let high : 39 ≤ count = omega arith in

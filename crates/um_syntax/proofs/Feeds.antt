@@ -189,9 +189,9 @@ counts_feed f scan new n cs c none h e feed count =
     let stepped = steps-snoc cs c scan (scanned_none f scan cs none h) ∙ e in
     let free = line_feed_free scan new (subst (λ x. step scan x ≡ Ok new) feed e) in
     counts_line n cs c (ap (λ x. eqb x 10) feed) (λ tokens t.
-      let answer = sym (scanned_complete (cs ++ c ∷ []) tokens t) ∙ ap ended stepped ∙ free_answer new free in
-      let same : tokens ≡ new.tokens = cc in
-      count ∙ ap length (sym same))
+    let answer = sym (scanned_complete (cs ++ c ∷ []) tokens t) ∙ ap ended stepped ∙ free_answer new free in
+    let same : tokens ≡ new.tokens = cc in
+    count ∙ ap length (sym same))
 
 -- what stands behind the characters
 NoChar-more : (tail : List ℕ) (b : ℕ) → NoChar tail → NoChar (tail ++ b ∷ [])
@@ -270,6 +270,7 @@ EndsLine-tail x xs ends = ⊎_elim (λ e. absurd (cons_nil e)) (λ w. go w.0 w.1
   where
     cons_nil : x ∷ xs ≡ [] → ⊥
     cons_nil e = cc
+
     go : (before : List ℕ) → x ∷ xs ≡ before ++ 10 ∷ [] → EndsLine xs
     go [] e = let none : xs ≡ [] = cc in inl none
     go (b ∷ before) e = let rest : xs ≡ before ++ 10 ∷ [] = cc in inr (before, rest)
@@ -301,6 +302,7 @@ IsLine-chars (c ∷ cs) l = (by_feed (eqb c 10) refl, IsLine-chars cs (IsLine-ri
   where
     feed : c ≡ 10 → ⊥
     feed same = no_feed (encode c ++ encodes cs) [] (encodes cs) l (ap (λ x. encode x ++ encodes cs) same ∙ ap (λ x. x ++ encodes cs) (encode_ascii 10 (lit< tt)))
+
     by_feed : (b : Bool) → eqb c 10 ≡ b → eqb c 10 ≡ false
     by_feed true e = absurd (feed (eqb-true c 10 e))
     by_feed false e = e
@@ -312,12 +314,16 @@ last_byte c = ⊎_elim one (λ l. ⊎_elim (two l) (λ m. ⊎_elim (three m) fou
   where
     high : (x : ℕ) → 128 + x ≡ 10 → c ≡ 10
     high x e = absurd (omega arith)
+
     one : c < 128 → (before : List ℕ) × (b : ℕ) × (encode c ≡ before ++ b ∷ []) × (b ≡ 10 → c ≡ 10)
-    one h = ([], c, rw lt-ltb refl, λ e. e)
+    one h = ([], c, rw (lt-ltb c 128 h) refl, λ e. e)
+
     two : 128 ≤ c → c < 2048 → (before : List ℕ) × (b : ℕ) × (encode c ≡ before ++ b ∷ []) × (b ≡ 10 → c ≡ 10)
     two l h = ((192 + c / 64) ∷ [], 128 + c % 64, rw (le-ltb c 128 l, lt-ltb c 2048 h) refl, high (c % 64))
+
     three : 2048 ≤ c → c < 65536 → (before : List ℕ) × (b : ℕ) × (encode c ≡ before ++ b ∷ []) × (b ≡ 10 → c ≡ 10)
     three m h = let l : 128 ≤ c = omega arith in ((224 + c / 4096) ∷ next (c / 64) ∷ [], 128 + c % 64, rw (le-ltb c 128 l, le-ltb c 2048 m, lt-ltb c 65536 h) refl, high (c % 64))
+
     four : 65536 ≤ c → (before : List ℕ) × (b : ℕ) × (encode c ≡ before ++ b ∷ []) × (b ≡ 10 → c ≡ 10)
     four n = let l : 128 ≤ c = omega arith in let m : 2048 ≤ c = omega arith in
         ((240 + c / 262144) ∷ next (c / 4096) ∷ next (c / 64) ∷ [], 128 + c % 64, rw (le-ltb c 128 l, le-ltb c 2048 m, le-ltb c 65536 n) refl, high (c % 64))
@@ -339,11 +345,12 @@ EndsLine-chars ps ends = ⊎_elim (λ none. inl (none_chars ps none)) (λ w. ⊎
   where
     none_chars : (ps : List ℕ) → encodes ps ≡ [] → ps ≡ []
     none_chars ps none = encodes_same ps [] none
+
     by_last : (before : List ℕ) → encodes ps ≡ before ++ 10 ∷ [] → (front : List ℕ) (c : ℕ) → ps ≡ front ++ c ∷ [] → EndsLine ps
     by_last before e front c same =
         let l = last_byte c in
         let bytes : (encodes front ++ l.0) ++ l.1 ∷ [] ≡ before ++ 10 ∷ [] =
-            append_assoc (encodes front) l.0 (l.1 ∷ []) ∙ ap (λ x. encodes front ++ x) (sym l.2 ∙ sym (append_nil (encode c))) ∙ sym (encodes-append front (c ∷ [])) ∙ ap encodes (sym same) ∙ e in
+        append_assoc (encodes front) l.0 (l.1 ∷ []) ∙ ap (λ x. encodes front ++ x) (sym l.2 ∙ sym (append_nil (encode c))) ∙ sym (encodes-append front (c ∷ [])) ∙ ap encodes (sym same) ∙ e in
         let feed = l.3 (snoc_same (encodes front ++ l.0) before l.1 10 bytes).1 in
         inr (front, same ∙ ap (λ x. front ++ x ∷ []) feed)
 
@@ -352,6 +359,7 @@ behind_no_whole f valid held partial tail begun h = by_fault f h
   where
     plain : tail ≡ take held partial → NoWhole tail
     plain e = subst NoWhole (sym e) (no_whole (take held partial) (let n = length-take held partial in omega (arith, n, begun)))
+
     by_fault : (f : Option TextStop) → HasBehind f valid (take held partial) tail → NoWhole tail
     by_fault None h = plain h
     by_fault (Some (text.Utf8 at)) h = subst NoWhole (append_nil tail) (h.1 [])

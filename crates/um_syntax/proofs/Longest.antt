@@ -55,22 +55,27 @@ variable_longest name (Var longer) c extra rest is fits ends e = ⊎_elim plain 
   where
     whole : longer ≡ name ++ c ∷ extra
     whole = cc
+
     all : IsIdentifier (name ++ c ∷ extra)
     all = subst IsIdentifier whole fits.0
+
     some : 0 < length name
     some = some_letters name is.0
       where
         some_letters : (text : List ℕ) → IsIdentifier text → 0 < length text
         some_letters [] i = absurd i
         some_letters (x ∷ xs) i = omega arith
+
     plain : begins is_xid_continue (c ∷ extra ++ rest) ≡ false → ⊥
     plain stops = false≢true (sym stops ∙ identifier_letter name extra c some all)
+
     second : (extra : List ℕ) → longer ≡ name ++ c ∷ extra → LeavesLetter name (c ∷ extra ++ rest) → ⊥
     second [] same l = fits.2 (l.1.0, l.1.1, same ∙ l.1.2)
     second (d ∷ ds) same l =
         let here : (name ++ c ∷ []) ++ d ∷ ds ≡ longer = append_assoc name (c ∷ []) (d ∷ ds) ∙ sym same in
         let more = subst IsIdentifier (sym here) fits.0 in
         false≢true (sym l.2 ∙ identifier_letter (name ++ c ∷ []) ds d (let n = length-append name (c ∷ []) in omega (arith, n)) more)
+
     leaves : LeavesLetter name (c ∷ extra ++ rest) → ⊥
     leaves l = second extra whole l
 variable_longest name (Name text) c extra rest is fits ends e = let h = head_of (Name text) fits in let same : h.0 ≡ 39 = cc (h.2, e) in false≢true (sym (ascii_no_name 39 (lit< tt) refl) ∙ ap starts_name (sym same) ∙ h.3)
@@ -126,10 +131,13 @@ digit_longest n other c extra rest is fits ends e = by_other other fits e
   where
     h : (d : ℕ) × (ds : List ℕ) × (numeral_text n ≡ d ∷ ds) × (is_ascii_digit d ≡ true)
     h = head_of (Number n) is
+
     front : (other : Lexeme) → text_of other ≡ numeral_text n ++ c ∷ extra → text_of other ≡ h.0 ∷ (h.1 ++ c ∷ extra)
     front other e = e ∙ ap (λ x. x ++ c ∷ extra) h.2
+
     letter : (other : Lexeme) → IsLexeme other → (g : (d : ℕ) × (ds : List ℕ) × (text_of other ≡ d ∷ ds) × (starts_name d ≡ true)) → text_of other ≡ numeral_text n ++ c ∷ extra → ⊥
     letter other fits g e = let same : g.0 ≡ h.0 = cc (g.2, front other e) in false≢true (sym (digit_no_name h.0 h.3) ∙ ap starts_name (sym same) ∙ g.3)
+
     by_other : (other : Lexeme) → IsLexeme other → text_of other ≡ numeral_text n ++ c ∷ extra → ⊥
     by_other (Number m) fits e = number_longest n m c extra rest is fits ends e
     by_other (Name text) fits e = letter (Name text) fits (head_of (Name text) fits) e
@@ -144,12 +152,16 @@ sign_longest k other c extra rest is fits ends e = by_other other fits e
   where
     h : (d : ℕ) × (ds : List ℕ) × (sign_text k ≡ d ∷ ds)
     h = ⊎_elim (λ f. (f.0, [], f.1)) (λ f. (f.0, f.1 ∷ [], f.2)) (sign_form k is)
+
     mark : IsMark h.0
     mark = sign_mark k is h.0 h.1 h.2
+
     front : (other : Lexeme) → text_of other ≡ sign_text k ++ c ∷ extra → text_of other ≡ h.0 ∷ (h.1 ++ c ∷ extra)
     front other e = e ∙ ap (λ x. x ++ c ∷ extra) h.2
+
     letter : (other : Lexeme) → IsLexeme other → (g : (d : ℕ) × (ds : List ℕ) × (text_of other ≡ d ∷ ds) × (starts_name d ≡ true)) → text_of other ≡ sign_text k ++ c ∷ extra → ⊥
     letter other fits g e = let same : g.0 ≡ h.0 = cc (g.2, front other e) in false≢true (sym (mark_no_name h.0 mark) ∙ ap starts_name (sym same) ∙ g.3)
+
     longer : (j : ℕ) → j < length signs → (extra : List ℕ) → sign_text j ≡ sign_text k ++ c ∷ extra → ⊥
     longer j fits [] e = ends.0 j fits e
     longer j fits (d ∷ ds) e = three (h.1) (e ∙ ap (λ x. x ++ c ∷ d ∷ ds) h.2)
@@ -158,6 +170,7 @@ sign_longest k other c extra rest is fits ends e = by_other other fits e
         three [] e = sign_text-three h.0 c d ds j fits e
         three (x ∷ []) e = sign_text-three h.0 x c (d ∷ ds) j fits e
         three (x ∷ y ∷ ys) e = sign_text-three h.0 x y (ys ++ c ∷ d ∷ ds) j fits e
+
     by_other : (other : Lexeme) → IsLexeme other → text_of other ≡ sign_text k ++ c ∷ extra → ⊥
     by_other (Sign j) fits e = longer j fits extra e
     by_other (Name text) fits e = letter (Name text) fits (head_of (Name text) fits) e

@@ -46,16 +46,19 @@ starts_no_space c e = by_space (is_space c) refl
   where
     no_name : (x : ℕ) → x < 128 → (eqb x 95 || is_ascii_alphabetic x) ≡ false → c ≡ x → ⊥
     no_name x small letters same = false≢true (sym letters ∙ ap (λ b. eqb x 95 || b) (sym (is_xid_start-ascii x small)) ∙ ap starts_name (sym same) ∙ e)
+
     or_cases : (a b : Bool) → (a || b) ≡ true → (a ≡ true) ⊎ (b ≡ true)
     or_cases true b e = inl refl
     or_cases false b e = inr e
+
     white : is_space c ≡ true → ⊥
     white s =
         ⊎_elim (λ h. no_name 32 (lit< tt) refl (eqb-true c 32 h))
         (λ h. ⊎_elim (λ h. no_name 9 (lit< tt) refl (eqb-true c 9 h))
-          (λ h. ⊎_elim (λ h. no_name 13 (lit< tt) refl (eqb-true c 13 h)) (λ h. no_name 10 (lit< tt) refl (eqb-true c 10 h)) (or_cases (eqb c 13) (eqb c 10) h))
-          (or_cases (eqb c 9) (eqb c 13 || eqb c 10) h))
+        (λ h. ⊎_elim (λ h. no_name 13 (lit< tt) refl (eqb-true c 13 h)) (λ h. no_name 10 (lit< tt) refl (eqb-true c 10 h)) (or_cases (eqb c 13) (eqb c 10) h))
+        (or_cases (eqb c 9) (eqb c 13 || eqb c 10) h))
         (or_cases (eqb c 32) (eqb c 9 || (eqb c 13 || eqb c 10)) s)
+
     by_space : (b : Bool) → is_space c ≡ b → is_space c ≡ false
     by_space true s = absurd (white s)
     by_space false s = s

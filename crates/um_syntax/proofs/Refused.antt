@@ -58,14 +58,17 @@ quote_run before at (d ∷ ds) none = by_start (starts_name d) refl
       where
         longer : 95 ∷ e ∷ [] ≡ 95 ∷ [] → ⊥
         longer same = cc
+
         by_letter : (b : Bool) → is_xid_continue e ≡ b → run (free before at) (39 ∷ 95 ∷ e ∷ es) ≡ Err (BadChar at)
         by_letter true t = absurd (none (Var (95 ∷ e ∷ [])) es ((refl, (t, tt)), longer, line_no_word (e ∷ [])) refl)
         by_letter false t = line_end before at (e ∷ es) t
+
     by_line : starts_name d ≡ true → (b : Bool) → eqb d 95 ≡ b → run (free before at) (39 ∷ d ∷ ds) ≡ Err (BadChar at)
     by_line starts true is =
         let same = eqb-true d 95 is in
         subst (λ x. run (free before at) (39 ∷ x ∷ ds) ≡ Err (BadChar at)) (sym same) (line ds (subst (λ x. NoToken (39 ∷ x ∷ ds)) same none))
     by_line starts false is = absurd (none (Var (d ∷ [])) ds ((starts, tt), (λ e. let same : d ≡ 95 = cc in false≢true (sym is ∙ ap (λ x. eqb x 95) same)), one_letter_no_word d) refl)
+
     by_start : (b : Bool) → starts_name d ≡ b → run (free before at) (39 ∷ d ∷ ds) ≡ Err (BadChar at)
     by_start true e = by_line e (eqb d 95) refl
     by_start false e = quote_end before at (d ∷ ds) e
@@ -90,22 +93,27 @@ nothing_run before at (c ∷ cs) n = by_start (starts_name c) refl
   where
     neither : starts_name c ≡ false → is_ascii_digit c ≡ false → eqb c 39 ≡ false → (is_some (single_sign c) || eqb c 38) ≡ false → run (free before at) (c ∷ cs) ≡ Err (BadChar at)
     neither s d q m = run_stop (free before at) c cs (BadChar at) (rw (n.no_space, s, d, q, m) refl)
+
     by_ampersand : starts_name c ≡ false → is_ascii_digit c ≡ false → eqb c 39 ≡ false → single_sign c ≡ None → (b : Bool) → eqb c 38 ≡ b → run (free before at) (c ∷ cs) ≡ Err (BadChar at)
     by_ampersand s d q m true is =
         let same = eqb-true c 38 is in
         subst (λ x. run (free before at) (x ∷ cs) ≡ Err (BadChar at)) (sym same) (ampersand_run before at cs (subst (λ x. NoToken (x ∷ cs)) same n.no_token))
     by_ampersand s d q m false is = neither s d q (ap (λ o. is_some o || eqb c 38) m ∙ is)
+
     by_sign : starts_name c ≡ false → is_ascii_digit c ≡ false → eqb c 39 ≡ false → (o : Option ℕ) → single_sign c ≡ o → run (free before at) (c ∷ cs) ≡ Err (BadChar at)
     by_sign s d q (Some k) e = let t = single_sign-text c k e in absurd (n.no_token (Sign k) cs t.0 (ap (λ x. x ++ cs) (sym t.1)))
     by_sign s d q None e = by_ampersand s d q e (eqb c 38) refl
+
     by_quote : starts_name c ≡ false → is_ascii_digit c ≡ false → (b : Bool) → eqb c 39 ≡ b → run (free before at) (c ∷ cs) ≡ Err (BadChar at)
     by_quote s d true is =
         let same = eqb-true c 39 is in
         subst (λ x. run (free before at) (x ∷ cs) ≡ Err (BadChar at)) (sym same) (quote_run before at cs (subst (λ x. NoToken (x ∷ cs)) same n.no_token))
     by_quote s d false is = by_sign s d is (single_sign c) refl
+
     by_digit : starts_name c ≡ false → (b : Bool) → is_ascii_digit c ≡ b → run (free before at) (c ∷ cs) ≡ Err (BadChar at)
     by_digit s true e = absurd (n.no_token (Number (Whole (c ∷ []))) cs (e, tt) refl)
     by_digit s false e = by_quote s e (eqb c 39) refl
+
     by_start : (b : Bool) → starts_name c ≡ b → run (free before at) (c ∷ cs) ≡ Err (BadChar at)
     by_start true e = let r = identifier_read (c ∷ []) (e, tt) in absurd (n.no_token r.lexeme cs r.fits (ap (λ x. x ++ cs) (sym r.text_is)))
     by_start false e = by_digit e (is_ascii_digit c) refl

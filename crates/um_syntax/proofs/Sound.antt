@@ -34,9 +34,11 @@ CloseSound before letters at start text more p = CloseMeans before start text at
 close_sound : (before : List Token) (letters : List ℕ) (at start : ℕ) (text more : List ℕ) (p : Pending) → Pends p letters at start text → is_comment p ≡ false → begins (takes p) more ≡ false → CloseSound before letters at start text more p
 close_sound before letters at start text more pending.Start h n u = absurd h
 close_sound before letters at start text more pending.Comment h n u = absurd (false≢true (sym n))
-close_sound before letters at start text more pending.Free h n u =
-    (ap (λ l. scan_at at before l pending.Free) h.0, λ answer alone m.
-      subst (λ x. Means before start (x ++ more) answer) (sym h.1) (subst (λ x. Means before x more answer) h.2 m))
+close_sound before letters at start text more pending.Free h n u = (
+  ap (λ l. scan_at at before l pending.Free) h.0,
+  λ answer alone m.
+      subst (λ x. Means before start (x ++ more) answer) (sym h.1) (subst (λ x. Means before x more answer) h.2 m),
+)
 close_sound before letters at start text more (pending.Identifier b) h n u =
     subst (λ x. CloseSound before letters at start text more (pending.Identifier x)) (sym h.0) (close_identifier before start at letters text more h.1 h.2 h.3 u)
 close_sound before letters at start text more (pending.Quote b) h n u =
@@ -46,19 +48,19 @@ close_sound before letters at start text more (pending.Variable b last) h n u =
     let m = close_variable before start at last w.0 more w.1 w.3 w.5 (h.1 ∙ ap (λ x. start + size_of x) w.2) u in
     subst (λ x. CloseSound before letters at start x more (pending.Variable b last)) (sym w.2)
     (subst (λ l. CloseSound before l at start (39 ∷ (w.0 ++ w.1 ∷ [])) more (pending.Variable b last)) (sym w.4)
-      (subst (λ s. CloseSound before (encodes (w.0 ++ w.1 ∷ [])) at start (39 ∷ (w.0 ++ w.1 ∷ [])) more (pending.Variable s last)) (sym h.0) m))
+    (subst (λ s. CloseSound before (encodes (w.0 ++ w.1 ∷ [])) at start (39 ∷ (w.0 ++ w.1 ∷ [])) more (pending.Variable s last)) (sym h.0) m))
 close_sound before letters at start text more (pending.Number b e p f) h n u =
     let w = h.3 in
     let m = close_number before start at e p w.0 more w.1 w.5 w.4 (h.1 ∙ ap (λ x. start + size_of x) w.3) u in
     subst (λ x. CloseSound before letters at start x more (pending.Number b e p f)) (sym w.3)
     (subst (λ l. CloseSound before l at start (numeral_text w.0 ++ tail_of p) more (pending.Number b e p f)) (sym h.2)
-      (subst (λ g. CloseSound before [] at start (numeral_text w.0 ++ tail_of p) more (pending.Number b e p g)) (sym w.2)
-        (subst (λ s. CloseSound before [] at start (numeral_text w.0 ++ tail_of p) more (pending.Number s e p (figures_of w.0))) (sym h.0) m)))
+    (subst (λ g. CloseSound before [] at start (numeral_text w.0 ++ tail_of p) more (pending.Number b e p g)) (sym w.2)
+    (subst (λ s. CloseSound before [] at start (numeral_text w.0 ++ tail_of p) more (pending.Number s e p (figures_of w.0))) (sym h.0) m)))
 close_sound before letters at start text more (pending.Symbol b first) h n u =
     let m = close_symbol before start at first more (h.1 ∙ ap (λ x. start + size_of x) h.3) h.4 u in
     subst (λ x. CloseSound before letters at start x more (pending.Symbol b first)) (sym h.3)
     (subst (λ l. CloseSound before l at start (first ∷ []) more (pending.Symbol b first)) (sym h.2)
-      (subst (λ s. CloseSound before [] at start (first ∷ []) more (pending.Symbol s first)) (sym h.0) m))
+    (subst (λ s. CloseSound before [] at start (first ∷ []) more (pending.Symbol s first)) (sym h.0) m))
 
 append_none : (xs : List ℕ) → xs ++ [] ≡ xs
 append_none [] = refl
@@ -115,11 +117,11 @@ digit_tail : (before : List Token) (letters : List ℕ) (at start : ℕ) (text m
 digit_tail before letters at start text more new b e p f no_tail h =
     let w = h.3 in
     let m : TailSound before [] at start (numeral_text w.0 ++ tail_of p) more new (pending.Number start e p (figures_of w.0)) =
-        λ u letter ok. number_tail before start at e p w.0 more new w.1 w.5 w.4 (h.1 ∙ ap (λ x. start + size_of x) w.3) u no_tail letter ok in
+    λ u letter ok. number_tail before start at e p w.0 more new w.1 w.5 w.4 (h.1 ∙ ap (λ x. start + size_of x) w.3) u no_tail letter ok in
     subst (λ x. TailSound before letters at start x more new (pending.Number b e p f)) (sym w.3)
     (subst (λ l. TailSound before l at start (numeral_text w.0 ++ tail_of p) more new (pending.Number b e p f)) (sym h.2)
-      (subst (λ g. TailSound before [] at start (numeral_text w.0 ++ tail_of p) more new (pending.Number b e p g)) (sym w.2)
-        (subst (λ s. TailSound before [] at start (numeral_text w.0 ++ tail_of p) more new (pending.Number s e p (figures_of w.0))) (sym h.0) m)))
+    (subst (λ g. TailSound before [] at start (numeral_text w.0 ++ tail_of p) more new (pending.Number b e p g)) (sym w.2)
+    (subst (λ s. TailSound before [] at start (numeral_text w.0 ++ tail_of p) more new (pending.Number s e p (figures_of w.0))) (sym h.0) m)))
 
 tail_sound : (before : List Token) (letters : List ℕ) (at start : ℕ) (text more : List ℕ) (new : Scan) (p : Pending) → ends_in_digit p ≡ true → Pends p letters at start text → TailSound before letters at start text more new p
 tail_sound before letters at start text more new (pending.Number b e part.Whole f) d h = digit_tail before letters at start text more new b e part.Whole f refl h
@@ -157,8 +159,10 @@ followed_sound before letters at start next text p c more h after u (Ok s) ok m 
   where
     closed_means : CloseMeans before start text at (c ∷ more) p (Ok (scan_at at s.tokens [] pending.Free))
     closed_means = (refl, m.1)
+
     letter : (ends_in_digit p && is_xid_continue c) ≡ true → Means before start (text ++ c ∷ more) (Err (BadChar at))
     letter e = let t = both (ends_in_digit p) (is_xid_continue c) e in tail_sound before letters at start text (c ∷ more) s p t.0 h u t.1 ok
+
     by_tail : (b : Bool) → (ends_in_digit p && is_xid_continue c) ≡ b → StepMeans before start text c more (cond (ends_in_digit p && is_xid_continue c) (Err (BadChar at)) (begun (scan_at at s.tokens [] pending.Free) c next))
     by_tail true e = rw e (letter e)
     by_tail false e = rw e (begin_behind before start at next text c more p s.tokens (begun (scan_at at s.tokens [] pending.Free) c next) (λ d. second_false (ends_in_digit p) (is_xid_continue c) e d) closed_means (begin_sound s.tokens at next c more after))

@@ -121,9 +121,9 @@ sign_text-three a b c more k h e = ⊎_elim (λ f. one_three f.0 (sym f.1 ∙ e)
   where
     one_three : (x : ℕ) → ◌≡◌ {A = List ℕ} (x ∷ []) (a ∷ b ∷ c ∷ more) → ⊥
     one_three x e = cc
+
     two_three : (x y : ℕ) → ◌≡◌ {A = List ℕ} (x ∷ y ∷ []) (a ∷ b ∷ c ∷ more) → ⊥
     two_three x y e = cc
-
 
 -- Words. The first entry that passes a test is at a place, and none passes where there is none.
 position_from-some : (t : List ℕ → Bool) (i k : ℕ) (xs : List (List ℕ)) → position_from t i xs ≡ Some k

@@ -63,11 +63,16 @@ take_comment before start at next line c more l place after = by_end (eqb c 10) 
     ends : eqb c 10 ≡ true → TakeMeans before start (47 ∷ 47 ∷ line) c more (scan_at next before [] pending.Free)
     ends e =
         let feed = eqb-true c 10 e in
-        let there : next ≡ start + size_of (47 ∷ 47 ∷ line ++ 10 ∷ []) = place_on start at next (47 ∷ 47 ∷ line) c place after ∙ ap (λ x. start + size_of (47 ∷ 47 ∷ line ++ x ∷ [])) feed in
-        (next, [], (refl, refl, refl), λ answer m.
-          subst (λ x. Means before start (47 ∷ 47 ∷ (line ++ x ∷ more)) answer) (sym feed)
-          (subst (λ x. Means before start (47 ∷ 47 ∷ x) answer) (append_assoc line (10 ∷ []) more)
-            (skip (47 ∷ 47 ∷ line ++ 10 ∷ []) (comment line l nothing) before start more answer (subst (λ x. Means before x more answer) there m))))
+        let there : next ≡ start + size_of (47 ∷ 47 ∷ line ++ 10 ∷ []) = place_on start at next (47 ∷ 47 ∷ line) c place after ∙ ap (λ x. start + size_of (47 ∷ 47 ∷ line ++ x ∷ [])) feed in (
+          next,
+          [],
+          (refl, refl, refl),
+          λ answer m.
+              subst (λ x. Means before start (47 ∷ 47 ∷ (line ++ x ∷ more)) answer) (sym feed)
+              (subst (λ x. Means before start (47 ∷ 47 ∷ x) answer) (append_assoc line (10 ∷ []) more)
+              (skip (47 ∷ 47 ∷ line ++ 10 ∷ []) (comment line l nothing) before start more answer (subst (λ x. Means before x more answer) there m))),
+        )
+
     by_end : (b : Bool) → eqb c 10 ≡ b → TakeMeans before start (47 ∷ 47 ∷ line) c more (scan_at next before [] (cond (eqb c 10) pending.Free pending.Comment))
     by_end true e = rw e (ends e)
     by_end false e = rw e (goes_on before start next (47 ∷ 47 ∷ line) c more [] pending.Comment
@@ -93,6 +98,7 @@ digit_taken start at next p n c fits has place after digit = go p n fits has pla
         let there = place_on start at next (numeral_text n ++ tail_of p) c place after in
         let whole : (numeral_text n ++ tail_of p) ++ c ∷ [] ≡ numeral_text m ++ tail_of q = text ∙ sym (append_nil (numeral_text m)) ∙ ap (λ x. numeral_text m ++ x) (sym no_tail) in
         (refl, there, refl, (m, is, same, whole, there ∙ ap (λ x. start + size_of x) text, fit))
+
     go : (p : Part) (n : Numeral) → IsNumeral n → FitsPart p n → at ≡ start + size_of (numeral_text n ++ tail_of p)
         → NumberPends (pending.Number start next (part_after_digit p) (more_figures p (figures_of n) (c - 48))) next start ((numeral_text n ++ tail_of p) ++ c ∷ [])
     go part.Whole (Whole ds) i f place = build part.Whole part.Whole (Whole ds) (Whole (ds ++ c ∷ [])) (IsDigits-snoc ds c i digit) tt (figures-whole ds c digit) (ap (λ x. x ++ c ∷ []) (append_nil ds)) refl place
@@ -124,8 +130,10 @@ mark_taken start at next e n ds c same digits place end after mark = by_mark (eq
   where
     there : next ≡ start + size_of ((ds ++ []) ++ c ∷ [])
     there = place_on start at next (ds ++ []) c place after
+
     text : (x : ℕ) → c ≡ x → (ds ++ []) ++ c ∷ [] ≡ ds ++ x ∷ []
     text x is = ap (λ y. y ++ c ∷ []) (append_nil ds) ∙ ap (λ y. ds ++ y ∷ []) is
+
     by_mark : (b : Bool) → eqb c 46 ≡ b → NumberPends (pending.Number start e (cond (eqb c 46) part.Point part.Over) (figures_of (Whole ds))) next start ((ds ++ []) ++ c ∷ [])
     by_mark true e = rw e (refl, there, refl, (Whole ds, digits, refl, text 46 (eqb-true c 46 e), end, tt))
     by_mark false e = let is = eqb-true c 114 (or_left_false (eqb c 46) (eqb c 114) mark e) in rw e (refl, there, refl, (Whole ds, digits, refl, text 114 is, end, tt))
@@ -144,6 +152,7 @@ take_number before start at next e p n c more fits has end place after taking = 
     marked part.Decimal n i f end place t d = absurd (false≢true (sym d ∙ t))
     marked part.Over n i f end place t d = absurd (false≢true (sym d ∙ t))
     marked part.Ratio n i f end place t d = absurd (false≢true (sym d ∙ t))
+
     by_digit : (b : Bool) → is_ascii_digit c ≡ b → TakeMeans before start (numeral_text n ++ tail_of p) c more (scan_at next before [] (number_taken start e p (figures_of n) c next))
     by_digit true d = rw d (goes_on before start next (numeral_text n ++ tail_of p) c more [] (pending.Number start next (part_after_digit p) (more_figures p (figures_of n) (c - 48))) (digit_taken start at next p n c fits has place after d))
     by_digit false d = rw d (goes_on before start next (numeral_text n ++ tail_of p) c more [] (pending.Number start e (cond (eqb c 46) part.Point part.Over) (figures_of n)) (marked p n fits has end place taking d))
@@ -166,21 +175,29 @@ take_symbol before start at next first c more place after taking = by_sign (doub
     both : (a b : Bool) → (a && b) ≡ true → (a ≡ true) × (b ≡ true)
     both true b e = (refl, e)
     both false b e = absurd (false≢true e)
+
     there : next ≡ start + size_of (first ∷ c ∷ [])
     there = place_on start at next (first ∷ []) c place after
+
     sign : (k : ℕ) → double_sign first c ≡ Some k → TakeMeans before start (first ∷ []) c more (symbol_taken (scan_at at before [] (pending.Symbol start first)) start next (Some k))
     sign k e =
-        let t = double_sign-text first c k e in
-        (next, [], (refl, refl, refl), λ answer m.
-          next_token before start _ _ more answer
-          (token_here before start (Sign k) more _ (kind.Sign k) next (ap (λ x. x ++ more) (sym t.1)) t.0 (double_ends first c k more t.1) tt refl (there ∙ ap (λ x. start + size_of x) (sym t.1)))
-          m)
+        let t = double_sign-text first c k e in (
+          next,
+          [],
+          (refl, refl, refl),
+          λ answer m.
+              next_token before start _ _ more answer
+              (token_here before start (Sign k) more _ (kind.Sign k) next (ap (λ x. x ++ more) (sym t.1)) t.0 (double_ends first c k more t.1) tt refl (there ∙ ap (λ x. start + size_of x) (sym t.1)))
+              m,
+        )
+
     slashes : double_sign first c ≡ None → TakeMeans before start (first ∷ []) c more (symbol_taken (scan_at at before [] (pending.Symbol start first)) start next None)
     slashes e =
         let is = both (eqb first 47) (eqb c 47) (sym (ap (λ o. is_some o || (eqb first 47 && eqb c 47)) e) ∙ taking) in
         let one = eqb-true first 47 is.0 in
         let two = eqb-true c 47 is.1 in
         goes_on before start next (first ∷ []) c more [] pending.Comment (refl, there, ([], ap (λ x. x ∷ c ∷ []) one ∙ ap (λ x. 47 ∷ x ∷ []) two, tt))
+
     by_sign : (o : Option ℕ) → double_sign first c ≡ o → TakeMeans before start (first ∷ []) c more (symbol_taken (scan_at at before [] (pending.Symbol start first)) start next (double_sign first c))
     by_sign (Some k) e = rw e (sign k e)
     by_sign None e = rw e (slashes e)
@@ -202,21 +219,23 @@ take_sound before start at next letters text (pending.Quote b) c more h after t 
     (h.0, place_on start at next text c h.1 after, ([], c, ap (λ x. x ++ c ∷ []) h.3, (t, tt), encodes-snoc [] letters c h.2, h.1 ∙ ap (λ x. start + size_of x) h.3))
 take_sound before start at next letters text (pending.Variable b last) c more h after t =
     let w = h.2 in
-    goes_on before start next text c more (letters ++ encode c) (pending.Variable b at)
-    (h.0, place_on start at next text c h.1 after,
-      (w.0 ++ w.1 ∷ [], c, ap (λ x. x ++ c ∷ []) w.2, IsIdentifier-snoc (w.0 ++ w.1 ∷ []) c w.3 t, encodes-snoc (w.0 ++ w.1 ∷ []) letters c w.4, h.1 ∙ ap (λ x. start + size_of x) w.2))
+    goes_on before start next text c more (letters ++ encode c) (pending.Variable b at) (
+      h.0,
+      place_on start at next text c h.1 after,
+      (w.0 ++ w.1 ∷ [], c, ap (λ x. x ++ c ∷ []) w.2, IsIdentifier-snoc (w.0 ++ w.1 ∷ []) c w.3 t, encodes-snoc (w.0 ++ w.1 ∷ []) letters c w.4, h.1 ∙ ap (λ x. start + size_of x) w.2),
+    )
 take_sound before start at next letters text (pending.Number b e p f) c more h after t =
     let w = h.3 in
     let m = take_number before start at next e p w.0 c more w.1 w.5 w.4 (h.1 ∙ ap (λ x. start + size_of x) w.3) after t in
     subst (λ x. TakeMeans before start x c more (scan_at next before letters (number_taken b e p f c next))) (sym w.3)
     (subst (λ l. TakeMeans before start (numeral_text w.0 ++ tail_of p) c more (scan_at next before l (number_taken b e p f c next))) (sym h.2)
-      (subst (λ g. TakeMeans before start (numeral_text w.0 ++ tail_of p) c more (scan_at next before [] (number_taken b e p g c next))) (sym w.2)
-        (subst (λ s. TakeMeans before start (numeral_text w.0 ++ tail_of p) c more (scan_at next before [] (number_taken s e p (figures_of w.0) c next))) (sym h.0) m)))
+    (subst (λ g. TakeMeans before start (numeral_text w.0 ++ tail_of p) c more (scan_at next before [] (number_taken b e p g c next))) (sym w.2)
+    (subst (λ s. TakeMeans before start (numeral_text w.0 ++ tail_of p) c more (scan_at next before [] (number_taken s e p (figures_of w.0) c next))) (sym h.0) m)))
 take_sound before start at next letters text (pending.Symbol b first) c more h after t =
     let m = take_symbol before start at next first c more (h.1 ∙ ap (λ x. start + size_of x) h.3) after t in
     subst (λ x. TakeMeans before start x c more (symbol_taken (scan_at at before letters (pending.Symbol b first)) b next (double_sign first c))) (sym h.3)
     (subst (λ l. TakeMeans before start (first ∷ []) c more (symbol_taken (scan_at at before l (pending.Symbol b first)) b next (double_sign first c))) (sym h.2)
-      (subst (λ s. TakeMeans before start (first ∷ []) c more (symbol_taken (scan_at at before [] (pending.Symbol s first)) s next (double_sign first c))) (sym h.0) m))
+    (subst (λ s. TakeMeans before start (first ∷ []) c more (symbol_taken (scan_at at before [] (pending.Symbol s first)) s next (double_sign first c))) (sym h.0) m))
 
 -- the state after a character that begins something
 abbrev pub BeginMeans : List Token → ℕ → ℕ → List ℕ → Result Scan LexStop → Type 0
@@ -267,20 +286,25 @@ double_begins a b e = by_sign (double_sign a b) refl e
 
 begin_none : (before : List Token) (at c : ℕ) (more : List ℕ) → is_space c ≡ false → starts_name c ≡ false → is_ascii_digit c ≡ false → eqb c 39 ≡ false → (is_some (single_sign c) || eqb c 38) ≡ false
     → Means before at (c ∷ more) (Err (BadChar at))
-begin_none before at c more no_space no_name no_digit no_quote no_sign = faulty_here before at (c ∷ more) (BadChar at) (inl (refl, nothing_at c more no_space (record {
-  name = no_name;
-  digit = no_digit;
-  single = or_false-left (is_some (single_sign c)) (eqb c 38) no_sign;
-  double = λ b rest e. is_false (is_some (double_sign c b)) (λ d. false≢true (sym no_sign ∙ double_begins c b d));
-  variable = λ e. absurd (quote e);
-})))
+begin_none before at c more no_space no_name no_digit no_quote no_sign = faulty_here before at (c ∷ more) (BadChar at) (inl (
+  refl,
+  nothing_at c more no_space (record {
+    name = no_name;
+    digit = no_digit;
+    single = or_false-left (is_some (single_sign c)) (eqb c 38) no_sign;
+    double = λ b rest e. is_false (is_some (double_sign c b)) (λ d. false≢true (sym no_sign ∙ double_begins c b d));
+    variable = λ e. absurd (quote e);
+  }),
+))
   where
     or_false-left : (a b : Bool) → (a || b) ≡ false → a ≡ false
     or_false-left true b e = absurd (false≢true (sym e))
     or_false-left false b e = refl
+
     is_false : (b : Bool) → (b ≡ true → ⊥) → b ≡ false
     is_false true h = absurd (h refl)
     is_false false h = refl
+
     quote : c ≡ 39 → ⊥
     quote e = false≢true (sym no_quote ∙ ap (λ x. eqb x 39) e)
 
@@ -291,18 +315,22 @@ begin_sound before at next c more after = by_space (is_space c) refl
         → BeginMeans before at c more (cond b (Ok (scan_at next before [] (pending.Symbol at c))) (Err (BadChar at)))
     by_sign s n d q true e = begin_symbol before at next c more after e
     by_sign s n d q false e = begin_none before at c more s n d q e
+
     by_quote : is_space c ≡ false → starts_name c ≡ false → is_ascii_digit c ≡ false → (b : Bool) → eqb c 39 ≡ b
         → BeginMeans before at c more (cond b (Ok (scan_at next before [] (pending.Quote at))) (cond (is_some (single_sign c) || eqb c 38) (Ok (scan_at next before [] (pending.Symbol at c))) (Err (BadChar at))))
     by_quote s n d true e = begin_quote before at next c more after e
     by_quote s n d false e = by_sign s n d e (is_some (single_sign c) || eqb c 38) refl
+
     by_digit : is_space c ≡ false → starts_name c ≡ false → (b : Bool) → is_ascii_digit c ≡ b
         → BeginMeans before at c more (cond b (Ok (scan_at next before [] (pending.Number at next part.Whole (first_figures (c - 48))))) (cond (eqb c 39) (Ok (scan_at next before [] (pending.Quote at))) (cond (is_some (single_sign c) || eqb c 38) (Ok (scan_at next before [] (pending.Symbol at c))) (Err (BadChar at)))))
     by_digit s n true e = begin_digit before at next c more after e
     by_digit s n false e = by_quote s n e (eqb c 39) refl
+
     by_name : is_space c ≡ false → (b : Bool) → starts_name c ≡ b
         → BeginMeans before at c more (cond b (Ok (scan_at next before ([] ++ encode c) (pending.Identifier at))) (cond (is_ascii_digit c) (Ok (scan_at next before [] (pending.Number at next part.Whole (first_figures (c - 48))))) (cond (eqb c 39) (Ok (scan_at next before [] (pending.Quote at))) (cond (is_some (single_sign c) || eqb c 38) (Ok (scan_at next before [] (pending.Symbol at c))) (Err (BadChar at))))))
     by_name s true e = begin_name before at next c more after e
     by_name s false e = by_digit s e (is_ascii_digit c) refl
+
     by_space : (b : Bool) → is_space c ≡ b → BeginMeans before at c more (begun (scan_at at before [] pending.Free) c next)
     by_space true e = rw e (begin_space before at next c more after e)
     by_space false e = rw e (by_name e (starts_name c) refl)

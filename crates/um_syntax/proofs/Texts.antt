@@ -151,6 +151,7 @@ identifier_read text is = by_number (word_number (encodes text)) refl
     by_hole : word_number (encodes text) ≡ None → (b : Bool) → bytes_eq (encodes text) (95 ∷ []) ≡ b → IsRead text
     by_hole e true hole = identifier_hole text e hole
     by_hole e false hole = identifier_name text is e hole
+
     by_number : (o : Option ℕ) → word_number (encodes text) ≡ o → IsRead text
     by_number (Some k) e = identifier_word text k e
     by_number None e = by_hole e (bytes_eq (encodes text) (95 ∷ [])) refl

@@ -43,10 +43,13 @@ lead_len c more s = ⊎_elim one (λ h. ⊎_elim (two h) (λ h2. ⊎_elim (three
   where
     one : c < 128 → char_len (get_or (encode c ++ more) 0 0) ≡ length (encode c)
     one h = rw (lt-ltb c 128 h, lt-ltb c 128 h) refl
+
     two : 128 ≤ c → c < 2048 → char_len (get_or (encode c ++ more) 0 0) ≡ length (encode c)
     two l h = rw (le-ltb c 128 l, lt-ltb c 2048 h) (lead_two (c / 64) (omega arith) (omega arith))
+
     three : 2048 ≤ c → c < 65536 → char_len (get_or (encode c ++ more) 0 0) ≡ length (encode c)
     three l h = let m : 128 ≤ c = omega arith in rw (le-ltb c 128 m, le-ltb c 2048 l, lt-ltb c 65536 h) (lead_three (c / 4096) (omega arith))
+
     four : 65536 ≤ c → char_len (get_or (encode c ++ more) 0 0) ≡ length (encode c)
     four l =
         let m : 128 ≤ c = omega arith in

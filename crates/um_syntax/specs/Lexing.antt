@@ -81,7 +81,7 @@ abbrev pub Faulty : List Token → ℕ → List ℕ → LexStop → Type 0
 Faulty before at chars (BadChar place) =
     ((place ≡ at) × NothingStands chars)
     ⊎ ((numeral : Numeral) × (more : List ℕ) × IsNumberAt chars numeral more × (kind_of (is_power_place before) (Number numeral) ≢ None)
-      × (begins is_xid_continue more ≡ true) × (place ≡ at + size_of (numeral_text numeral)))
+    × (begins is_xid_continue more ≡ true) × (place ≡ at + size_of (numeral_text numeral)))
 Faulty before at chars (NumberRange place) =
     (place ≡ at) × (is_power_place before ≡ false)
     × ((numeral : Numeral) × (more : List ℕ) × IsNumberAt chars numeral more × (kind_of false (Number numeral) ≡ None))

@@ -4,11 +4,10 @@ ghost use Rattle.std.specs.Char.{len_utf8};
 ghost use Rattle.um_syntax.specs.Decoding.{char_len};
 ghost use Rattle.um_syntax.specs.Machine.{PendingFits, PendingFits-prop};
 
-use std::alloc::{AllocError, Global};
-
 use crate::decode::{Front, front_of};
 use crate::scanner::Scanner;
 use crate::token::{LexStop, NoMemory, TextStop, Tokens};
+use std::alloc::{AllocError, Global};
 
 /// A lexer that is fed the bytes of a text in pieces, cut anywhere.
 ///

@@ -8,10 +8,9 @@ ghost use Rattle.um_syntax.specs.Lexing.{HasTokens, HasFault, IsRefusal};
 ghost use Rattle.um_syntax.specs.Machine.{scanned};
 ghost use Rattle.um_syntax.specs.Scanning.{Answers};
 
-use std::alloc::Global;
-
 use crate::scanner::Scanner;
 use crate::token::{LexStop, Tokens};
+use std::alloc::Global;
 
 /// The tokens of a text.
 ///

@@ -2,14 +2,16 @@
 ghost use Rattle.std.specs.Prelude.{◌≡◌, ◌<◌, ◌≤◌, ◌-◌, ◌^◌};
 ghost use Rattle.um_syntax.specs.Machine.{with_digit, one_more, first_figures, more_figures, part_after_digit, is_whole_part, is_allowed, is_one_figure, figures_kind, part_takes, FiguresFit};
 
-use um_frac::Frac;
-
 use crate::token::Kind;
+use um_frac::Frac;
 
 // No number in range has a part of more than 38 digits.
 const GREATEST: u128 = 100_000_000_000_000_000_000_000_000_000_000_000_000;
+
 const TENTH: u128 = 10_000_000_000_000_000_000_000_000_000_000_000_000;
+
 const MOST_DIGITS: u32 = 38;
+
 const GREATEST_POWER: u128 = 2147483647;
 
 /// How much of a number's text has been read.
@@ -87,7 +89,11 @@ fn append(number: u128, digit: u32) -> u128
 fn count_up(count: u32) -> u32
     ensures { result ≡ one_more count }
 {
-    if count <= MOST_DIGITS { count + 1 } else { MOST_DIGITS + 1 }
+    if count <= MOST_DIGITS {
+        count + 1
+    } else {
+        MOST_DIGITS + 1
+    }
 }
 
 impl Figures {
@@ -97,7 +103,11 @@ impl Figures {
         ensures value { result ≡ first_figures digit }
         ensures fits { FiguresFit result }
     {
-        Figures { above: u128::from(digit), below: 1, count: 1 }
+        Figures {
+            above: u128::from(digit),
+            below: 1,
+            count: 1,
+        }
     }
 
     // The figures with one more digit, where `part` is what has been read before it.
@@ -108,10 +118,26 @@ impl Figures {
     {
         let count = count_up(self.count);
         match part {
-            Part::Whole => Figures { above: append(self.above, digit), below: self.below, count },
-            Part::Point | Part::Decimal => Figures { above: append(self.above, digit), below: append(self.below, 0), count },
-            Part::Over => Figures { above: self.above, below: u128::from(digit), count },
-            Part::Ratio => Figures { above: self.above, below: append(self.below, digit), count },
+            Part::Whole => Figures {
+                above: append(self.above, digit),
+                below: self.below,
+                count,
+            },
+            Part::Point | Part::Decimal => Figures {
+                above: append(self.above, digit),
+                below: append(self.below, 0),
+                count,
+            },
+            Part::Over => Figures {
+                above: self.above,
+                below: u128::from(digit),
+                count,
+            },
+            Part::Ratio => Figures {
+                above: self.above,
+                below: append(self.below, digit),
+                count,
+            },
         }
     }
 
@@ -119,7 +145,11 @@ impl Figures {
     fn is_allowed(self, power: bool, part: Part) -> bool
         ensures { result ≡ is_allowed power part self }
     {
-        if power { part.is_whole() && self.above <= GREATEST_POWER } else { self.count <= MOST_DIGITS }
+        if power {
+            part.is_whole() && self.above <= GREATEST_POWER
+        } else {
+            self.count <= MOST_DIGITS
+        }
     }
 
     // The kind of the number's token, or `None` where it breaks its rule.

@@ -2,10 +2,9 @@
 ghost use Rattle.std.specs.Prelude.{◌≡◌};
 ghost use Rattle.um_syntax.specs.Machine.{takes, ends_in_digit};
 
-use unicode_ident::is_xid_continue;
-
 use crate::number::{Figures, Part};
 use crate::table::{double_sign, starts_name};
+use unicode_ident::is_xid_continue;
 
 /// What has been read of the token that may go on, with the place where it starts.
 #[derive(Clone, Copy, Debug, PartialEq, Eq)]
@@ -17,15 +16,30 @@ pub enum Pending {
     /// A comment.
     Comment,
     /// Letters that begin a name, a word or a hole.
-    Identifier { start: u32 },
+    Identifier {
+        start: u32,
+    },
     /// A quote.
-    Quote { start: u32 },
+    Quote {
+        start: u32,
+    },
     /// A quote and letters, the last of them at `last`.
-    Variable { start: u32, last: u32 },
+    Variable {
+        start: u32,
+        last: u32,
+    },
     /// A number's text, whose digits end at `end`.
-    Number { start: u32, end: u32, part: Part, figures: Figures },
+    Number {
+        start: u32,
+        end: u32,
+        part: Part,
+        figures: Figures,
+    },
     /// The first character of a sign or of a comment.
-    Symbol { start: u32, first: char },
+    Symbol {
+        start: u32,
+        first: char,
+    },
 }
 
 impl Pending {
@@ -40,7 +54,8 @@ impl Pending {
             Pending::Identifier { .. } | Pending::Variable { .. } => is_xid_continue(c),
             Pending::Quote { .. } => starts_name(c),
             Pending::Number { part, .. } => part.takes(c),
-            Pending::Symbol { first, .. } => double_sign(first, c).is_some() || (first == '/' && c == '/'),
+            Pending::Symbol { first, .. } => double_sign(first, c).is_some()
+                || (first == '/' && c == '/'),
         }
     }
 
@@ -49,7 +64,10 @@ impl Pending {
         ensures { result ≡ ends_in_digit self }
     {
         match self {
-            Pending::Number { part: Part::Whole | Part::Decimal | Part::Ratio, .. } => true,
+            Pending::Number {
+                part: Part::Whole | Part::Decimal | Part::Ratio,
+                ..
+            } => true,
             _ => false,
         }
     }

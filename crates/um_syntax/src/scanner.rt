@@ -8,14 +8,12 @@ ghost use Rattle.um_syntax.specs.Machine.{scan_start, step, ended, taken, close,
 ghost use Rattle.um_syntax.specs.declared.pending.Pending.TheVariants as pending;
 ghost use Rattle.um_syntax.specs.Scanning.{scan_of, Follows, Answers};
 
-use std::alloc::{AllocError, Global};
-
-use unicode_ident::is_xid_continue;
-
 use crate::number::{Figures, Part};
 use crate::pending::Pending;
 use crate::table::{CARET, DOT, MINUS, double_sign, single_sign, starts_name, word_number};
 use crate::token::{Kind, Letters, LexStop, Token, Tokens};
+use std::alloc::{AllocError, Global};
+use unicode_ident::is_xid_continue;
 
 /// The state between two characters.
 #[derive(Drop)]
@@ -34,7 +32,12 @@ fn is_sign(token: Option<&Token>, sign: u8) -> bool
     ensures { result ≡ is_sign sign (option_copied token.entry) }
 {
     match token {
-        Some(Token { kind: Kind::Sign(k), .. }) => *k == sign,
+        Some(
+            Token {
+                kind: Kind::Sign(k),
+                ..
+            },
+        ) => *k == sign,
         _ => false,
     }
 }
@@ -44,7 +47,8 @@ fn is_power_place(tokens: &[Token]) -> bool
     ensures { result ≡ is_power_place tokens.now }
 {
     is_sign(tokens.last(), CARET)
-        || (is_sign(tokens.last(), MINUS) && is_sign(tokens.get(tokens.len().saturating_sub(2)), CARET))
+        || (is_sign(tokens.last(), MINUS)
+            && is_sign(tokens.get(tokens.len().saturating_sub(2)), CARET))
 }
 
 // Whether a token that starts there directly follows the last.
@@ -62,7 +66,13 @@ impl Scanner {
     pub fn new(alloc: Global) -> Scanner
         ensures { scan_of result ≡ scan_start }
     {
-        Scanner { alloc, at: 0, tokens: Vec::new(alloc), letters: String::new(alloc), pending: Pending::Start }
+        Scanner {
+            alloc,
+            at: 0,
+            tokens: Vec::new(alloc),
+            letters: String::new(alloc),
+            pending: Pending::Start,
+        }
     }
 
     // Puts a token behind the others. Nothing has begun then.
@@ -73,7 +83,12 @@ impl Scanner {
         ensures place { self.new.at ≡ self.old.at }
     {
         let glued = is_glued(&self.tokens, start);
-        self.tokens.push(Token { kind, start, end, glued })?;
+        self.tokens.push(Token {
+            kind,
+            start,
+            end,
+            glued,
+        })?;
         self.letters.clear();
         self.pending = Pending::Free;
         Ok(())
@@ -110,7 +125,13 @@ impl Scanner {
     }
 
     // Ends the number that these digits are, and what has been read behind it.
-    fn close_number(&mut self, start: u32, end: u32, part: Part, figures: Figures) -> Result<(), LexStop>
+    fn close_number(
+        &mut self,
+        start: u32,
+        end: u32,
+        part: Part,
+        figures: Figures,
+    ) -> Result<(), LexStop>
         requires { FiguresFit figures }
         ensures goes { Follows result (scan_of self.new) (close (scan_of self.old) (pending.Number start end part figures)) }
         ensures free { OnOk result (self.new.pending ≡ pending.Free) }
@@ -119,7 +140,11 @@ impl Scanner {
     {
         let power = is_power_place(&self.tokens);
         let Some(kind) = figures.kind(power, part) else {
-            return Err(if power { LexStop::PowerText { at: start } } else { LexStop::NumberRange { at: start } });
+            return Err(if power {
+                LexStop::PowerText { at: start }
+            } else {
+                LexStop::NumberRange { at: start }
+            });
         };
         self.push(kind, start, end)?;
         match part {
@@ -147,7 +172,12 @@ impl Scanner {
                 }
                 self.close_variable(start, last)?;
             }
-            Pending::Number { start, end, part, figures } => return self.close_number(start, end, part, figures),
+            Pending::Number {
+                start,
+                end,
+                part,
+                figures,
+            } => return self.close_number(start, end, part, figures),
             Pending::Symbol { start, first } => {
                 let Some(sign) = single_sign(first) else {
                     return Err(LexStop::BadChar { at: start });
@@ -180,7 +210,12 @@ impl Scanner {
                 self.letters.push(c)?;
                 self.pending = Pending::Variable { start, last: at };
             }
-            Pending::Number { start, end, part, figures } => {
+            Pending::Number {
+                start,
+                end,
+                part,
+                figures,
+            } => {
                 self.pending = number_with(start, end, part, figures, c, next);
             }
             Pending::Symbol { start, first } => match double_sign(first, c) {
@@ -207,7 +242,12 @@ impl Scanner {
             self.pending = Pending::Identifier { start };
         } else if c.is_ascii_digit() {
             let figures = Figures::new(c as u32 - '0' as u32);
-            self.pending = Pending::Number { start, end: next, part: Part::Whole, figures };
+            self.pending = Pending::Number {
+                start,
+                end: next,
+                part: Part::Whole,
+                figures,
+            };
         } else if c == '\'' {
             self.pending = Pending::Quote { start };
         } else if single_sign(c).is_some() || c == '&' {
@@ -272,10 +312,20 @@ fn number_with(start: u32, end: u32, part: Part, figures: Figures, c: char, next
 {
     if c.is_ascii_digit() {
         let figures = figures.with(part, c as u32 - '0' as u32);
-        return Pending::Number { start, end: next, part: part.after_digit(), figures };
+        return Pending::Number {
+            start,
+            end: next,
+            part: part.after_digit(),
+            figures,
+        };
     }
     let part = if c == '.' { Part::Point } else { Part::Over };
-    Pending::Number { start, end, part, figures }
+    Pending::Number {
+        start,
+        end,
+        part,
+        figures,
+    }
 }
 
 // The kind of an identifier.

@@ -7,19 +7,21 @@ use unicode_ident::is_xid_start;
 
 /// The reserved words, in the order of their numbers.
 pub const WORDS: [&str; 17] = [
-    "let", "rec", "in", "if", "then", "else", "match", "with", "type", "true", "false", "not", "num", "bool", "list",
-    "Measure", "pown",
+    "let", "rec", "in", "if", "then", "else", "match", "with", "type", "true", "false", "not",
+    "num", "bool", "list", "Measure", "pown",
 ];
 
 /// The signs, in the order of their numbers.
 pub const SIGNS: [&str; 26] = [
-    "(", ")", "[", "]", "{", "}", "[<", "<", ">", "=", "<=", "<>", "+", "-", "*", "/", "^", ";", ":", "::", ",", ".",
-    "|", "||", "&&", "->",
+    "(", ")", "[", "]", "{", "}", "[<", "<", ">", "=", "<=", "<>", "+", "-", "*", "/", "^", ";",
+    ":", "::", ",", ".", "|", "||", "&&", "->",
 ];
 
 // The numbers of the signs that the rules name.
 pub const MINUS: u8 = 13;
+
 pub const CARET: u8 = 16;
+
 pub const DOT: u8 = 21;
 
 // Whether a name may start with the character.

@@ -1,10 +1,9 @@
 //! Tokens of texts, with the answers of another program that was written from the same rules.
+use crate::{Kind, LexStop, Lexer, SIGNS, TextStop, Token, Tokens, WORDS, lex, line_column};
 use std::alloc::{AllocError, Global};
 use std::fmt::Write;
 use std::str;
 use std::test::Fail;
-
-use crate::{Kind, LexStop, Lexer, SIGNS, TextStop, Token, Tokens, WORDS, lex, line_column};
 
 // In each line a text, and behind the bar its tokens as `shown` prints them, or its refusal. In a text some characters
 // stand for others, as in `spelled`.
@@ -98,13 +97,25 @@ const TEXTS: &str = "\
 ";
 
 // A program of 20 lines, and how many tokens it has up to the end of each.
-const PROGRAM: &str = "// a small vehicle model\n[<Measure>] type m\n[<Measure>] type s\n[<Measure>] type kg\n[<Measure>] type N = kg m / s^2\n[<Measure>] type J = N m\n[<Measure>] type ft\ntype Body<[<Measure>] 'u> = { pos: num<'u>; vel: num<'u/s> }\nlet rec total (l: num<_> list) : num<_> =\n  match l with\n  | [] -> 0<_>\n  | x :: r -> x + total r\nlet rec count (l: num<_> list) : num =\n  match l with\n  | [] -> 0\n  | _ :: r -> 1 + count r\nlet mean (l: num<_> list) = total l / count l\nlet kinetic (k: num<kg>) (v: num<m/s>) : num<J> = k * v * v / 2\nlet metres (d: num<ft>) = d * 0.3048<m/ft>\nlet move (b: Body<_>) (t: num<s>) = { pos = b.pos + b.vel * t; vel = b.vel }\n";
-const COUNTS: [usize; 20] = [0, 6, 12, 18, 31, 40, 46, 73, 91, 94, 102, 111, 126, 129, 134, 143, 160, 193, 212, 250];
+const PROGRAM: &str =
+    "// a small vehicle model\n[<Measure>] type m\n[<Measure>] type s\n[<Measure>] type kg\n[<Measure>] type N = kg m / s^2\n[<Measure>] type J = N m\n[<Measure>] type ft\ntype Body<[<Measure>] 'u> = { pos: num<'u>; vel: num<'u/s> }\nlet rec total (l: num<_> list) : num<_> =\n  match l with\n  | [] -> 0<_>\n  | x :: r -> x + total r\nlet rec count (l: num<_> list) : num =\n  match l with\n  | [] -> 0\n  | _ :: r -> 1 + count r\nlet mean (l: num<_> list) = total l / count l\nlet kinetic (k: num<kg>) (v: num<m/s>) : num<J> = k * v * v / 2\nlet metres (d: num<ft>) = d * 0.3048<m/ft>\nlet move (b: Body<_>) (t: num<s>) = { pos = b.pos + b.vel * t; vel = b.vel }\n";
+
+const COUNTS: [usize; 20] = [
+    0, 6, 12, 18, 31, 40, 46, 73, 91, 94, 102, 111, 126, 129, 134, 143, 160, 193, 212, 250,
+];
 
 fn show_kind(out: &mut String, kind: &Kind) -> Result<(), AllocError> {
     match kind {
-        Kind::Name(letters) => write!(out, "name {}", str::from_utf8(letters.as_slice()).unwrap_or("?")),
-        Kind::Var(letters) => write!(out, "var {}", str::from_utf8(letters.as_slice()).unwrap_or("?")),
+        Kind::Name(letters) => write!(
+            out,
+            "name {}",
+            str::from_utf8(letters.as_slice()).unwrap_or("?")
+        ),
+        Kind::Var(letters) => write!(
+            out,
+            "var {}",
+            str::from_utf8(letters.as_slice()).unwrap_or("?")
+        ),
         Kind::Number { value, digits, one } => {
             let num = value.num();
             let den = value.den();
@@ -201,7 +212,11 @@ fn texts_have_these_tokens(rt: HostRuntime) -> Result<(), Fail> {
         let (row, want) = line.split_once('¦').unwrap_or(("", "no bar"));
         let text = spelled(rt.alloc(), row)?;
         assert_eq!(rt; lexed(rt.alloc(), &text)?.as_str(), want, "tokens of {row}");
-        assert_eq!(rt; fed(rt.alloc(), text.as_bytes(), 1)?.0.as_str(), want, "tokens of {row}");
+        assert_eq!(rt;
+            fed(rt.alloc(), text.as_bytes(), 1)?.0.as_str(),
+            want,
+            "tokens of {row}"
+        );
     }
     Ok(())
 }
@@ -210,11 +225,17 @@ fn texts_have_these_tokens(rt: HostRuntime) -> Result<(), Fail> {
 fn words_and_signs_are_numbered(rt: HostRuntime) -> Result<(), Fail> {
     for (number, word) in WORDS.iter().enumerate() {
         let end = word.len();
-        assert_eq!(rt; lexed(rt.alloc(), word)?, format!(in rt.alloc(); "word {number} 0..{end}")?);
+        assert_eq!(rt;
+            lexed(rt.alloc(), word)?,
+            format!(in rt.alloc(); "word {number} 0..{end}")?
+        );
     }
     for (number, sign) in SIGNS.iter().enumerate() {
         let end = sign.len();
-        assert_eq!(rt; lexed(rt.alloc(), sign)?, format!(in rt.alloc(); "sign {number} 0..{end}")?);
+        assert_eq!(rt;
+            lexed(rt.alloc(), sign)?,
+            format!(in rt.alloc(); "sign {number} 0..{end}")?
+        );
     }
     Ok(())
 }
@@ -225,7 +246,10 @@ fn pieces_have_the_same_tokens(rt: HostRuntime) -> Result<(), Fail> {
     for piece in [1, 2, 3, 1000] {
         let (tokens, counts) = fed(rt.alloc(), PROGRAM.as_bytes(), piece)?;
         assert_eq!(rt; tokens, whole, "in pieces of {piece}");
-        assert!(rt; piece != 1 || counts.as_slice() == COUNTS.as_slice(), "tokens of the lines");
+        assert!(rt;
+            piece != 1 || counts.as_slice() == COUNTS.as_slice(),
+            "tokens of the lines"
+        );
     }
     Ok(())
 }
@@ -245,10 +269,23 @@ fn bytes_that_are_no_text_are_refused(rt: HostRuntime) -> Result<(), Fail> {
     ];
     for (bytes, want) in rows {
         for piece in [1, 2, 100] {
-            assert_eq!(rt; fed(rt.alloc(), bytes, piece)?.0.as_str(), want, "in pieces of {piece}");
+            assert_eq!(rt;
+                fed(rt.alloc(), bytes, piece)?.0.as_str(),
+                want,
+                "in pieces of {piece}"
+            );
         }
     }
     Ok(())
+}
+
+// The line and the column behind a short text.
+fn behind(before: &str) -> Option<(u32, u32)> {
+    if before.len() > 10_000 {
+        return None;
+    }
+    let bytes = before.as_bytes();
+    Some(line_column(bytes, bytes.len() as u32))
 }
 
 #[test]
@@ -267,8 +304,6 @@ fn places_have_lines_and_columns(rt: HostRuntime) {
         ("\n\n", (3, 1)),
     ];
     for (before, want) in rows {
-        if before.len() < 1000 {
-            assert_eq!(rt; line_column(before.as_bytes(), before.len() as u32), want, "behind {before:?}");
-        }
+        assert_eq!(rt; behind(before), Some(want), "behind {before:?}");
     }
 }

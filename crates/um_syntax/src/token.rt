@@ -27,7 +27,9 @@ impl Letters {
     pub fn from_slice(alloc: Global, bytes: &[u8]) -> Result<Letters, AllocError>
         ensures { IfOk result (λ l. l ≡ bytes.now) }
     {
-        Ok(Letters { bytes: Vec::from_slice(alloc, bytes)? })
+        Ok(Letters {
+            bytes: Vec::from_slice(alloc, bytes)?,
+        })
     }
 
     /// The letters that the vector holds. Takes no memory.
@@ -60,7 +62,11 @@ pub enum Kind {
     /// A variable, with its letters after the quote.
     Var(Letters),
     /// A number with its value. `digits` says that its text is digits alone, and `one` that it is the one digit 1.
-    Number { value: Frac, digits: bool, one: bool },
+    Number {
+        value: Frac,
+        digits: bool,
+        one: bool,
+    },
     /// A reserved word, by its number in [`crate::WORDS`].
     Word(u8),
     /// `_` alone.

@@ -7,11 +7,11 @@ use Rattle.um_syntax.proofs.feed.Lexer.feed.Goals as goal
 pub loop-byte-preserved : goal.loop-byte-preserved
 loop-byte-preserved c = record {
   stands = λ bytes h.
-    let piece = c.args.piece.now in
-    let goes = ok_from c.take_byte.result c.take_byte.ensures.stands (sym c.is_err.ensures.value ∙ c.if-is_err.false) in
-    let stands = goes (bytes ++ take c.loop-byte.byte-index piece) (c.loop-byte.invariant.stands bytes h) in
-    let more = take_more piece c.loop-byte.byte-index 0 c.loop-byte-test.true in
-    subst (Stands c.take_byte.new.self) (append_assoc bytes (take c.loop-byte.byte-index piece) (get_or piece c.loop-byte.byte-index 0 ∷ []) ∙ ap (λ x. bytes ++ x) (sym more)) stands;
+      let piece = c.args.piece.now in
+      let goes = ok_from c.take_byte.result c.take_byte.ensures.stands (sym c.is_err.ensures.value ∙ c.if-is_err.false) in
+      let stands = goes (bytes ++ take c.loop-byte.byte-index piece) (c.loop-byte.invariant.stands bytes h) in
+      let more = take_more piece c.loop-byte.byte-index 0 c.loop-byte-test.true in
+      subst (Stands c.take_byte.new.self) (append_assoc bytes (take c.loop-byte.byte-index piece) (get_or piece c.loop-byte.byte-index 0 ∷ []) ∙ ap (λ x. bytes ++ x) (sym more)) stands;
   fed = omega arith;
 }
 

@@ -36,7 +36,7 @@ returns-in-Err-clause-answer c = λ bytes h.
     let empty = nothing_held l.fault l.held l.partial (sym c.ends_within_char.ensures ∙ c.if-ends_within_char.false) in
     subst (λ s. IsTextAnswer bytes (Err s)) (sym c.text_stop.ensures)
     (refusal_answer bytes h.cs h.tail (take l.held l.partial) l.valid (scan_of l.scanner) c.in-Err.stop h.whole h.read.scalars
-      (empty (ap is_readable c.in-None.is))
-      (subst (λ f. HasScanned f (scan_of l.scanner) h.cs) c.in-None.is h.read.scanned)
-      (subst (λ f. HasBehind f l.valid (take l.held l.partial) h.tail) c.in-None.is h.behind)
-      c.in-Err.ensures)
+    (empty (ap is_readable c.in-None.is))
+    (subst (λ f. HasScanned f (scan_of l.scanner) h.cs) c.in-None.is h.read.scanned)
+    (subst (λ f. HasBehind f l.valid (take l.held l.partial) h.tail) c.in-None.is h.behind)
+    c.in-Err.ensures)
