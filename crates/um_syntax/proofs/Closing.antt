@@ -1,32 +1,31 @@
 -- What has begun stands for its text, and the tokens that it ends in are those of the text.
-use Rattle.std.proofs.Common.{◌≡◌, ◌≢◌, ℕ, ◌+◌, ◌-◌, ◌<◌, Bool, true, false, cond, ◌&&◌, ◌||◌, eqb, List, [], ◌∷◌, ◌++◌, length, take, drop, Option, None, Some, is_some, Result, Ok, Err, refl, sym, ap, subst, ◌∙◌, arith, append_assoc, ◌⊎◌, inl, inr, ⊎_elim, lit<}
+use Rattle.std.proofs.Common.{◌≡◌, ◌≢◌, ℕ, ◌+◌, ◌-◌, ◌<◌, Bool, true, false, ◌&&◌, ◌||◌, eqb, List, [], ◌∷◌, ◌++◌, length, take, drop, Option, None, Some, is_some, Result, Ok, Err, refl, sym, ap, subst, ◌∙◌, arith, append_assoc, inl, inr, lit<}
 use Rattle.std.proofs.lemmas.Bool.{false≢true, eqb-true}
-use Rattle.std.proofs.lemmas.Str.{encodes_same, encode_ascii}
 use Rattle.std.specs.Str.{bytes_eq}
 use Rattle.std.specs.Char.{is_ascii_digit, len_utf8}
-use lib.Utf8.{encode, encodes}
+use lib.Utf8.{encodes}
 use Rattle.unicode_ident.specs.Ident.{is_xid_start, is_xid_continue}
 use Rattle.unicode_ident.proofs.IdentLemmas.{is_xid_start-ascii, is_xid_continue-ascii, is_xid_start-is_xid_continue}
 use Rattle.um_syntax.specs.declared.token.Kind.{Kind}
 use Rattle.um_syntax.specs.declared.token.Kind.TheVariants as kind
 use Rattle.um_syntax.specs.declared.token.Token.{Token}
 use Rattle.um_syntax.specs.declared.token.LexStop.{LexStop}
-use Rattle.um_syntax.specs.declared.token.LexStop.TheVariants.{BadChar, NumberRange, PowerText, NoMemory}
+use Rattle.um_syntax.specs.declared.token.LexStop.TheVariants.{BadChar, NumberRange, PowerText}
 use Rattle.um_syntax.specs.declared.number.Part.{Part}
 use Rattle.um_syntax.specs.declared.number.Part.TheVariants as part
 use Rattle.um_syntax.specs.declared.pending.Pending.{Pending}
 use Rattle.um_syntax.specs.declared.pending.Pending.TheVariants as pending
-use Rattle.um_syntax.specs.Vocabulary.{words, signs, word_text, sign_text, dot}
-use Rattle.um_syntax.specs.Gap.{is_space, IsLine, IsGap, IsLastGap}
+use Rattle.um_syntax.specs.Vocabulary.{words, word_text, sign_text, dot}
+use Rattle.um_syntax.specs.Gap.{IsLine}
 use Rattle.um_syntax.specs.Numeral.{Numeral, Whole, Decimal, Ratio, numeral_text, IsNumeral}
-use Rattle.um_syntax.specs.Lexeme.{starts_name, AllContinue, IsIdentifier, IsWord, IsName, Lexeme, Name, Var, Number, Word, Hole, Sign, text_of, IsLexeme, begins, begins_part, NumeralEnds, LeavesLetter, SignEnds, Ends, IsAlone, is_whole, kind_of}
-use Rattle.um_syntax.specs.Lexing.{size_of, is_glued, is_power_place, IsNext, Lexes, NothingStands, IsNumberAt, Faulty, Refuses}
-use Rattle.um_syntax.specs.Machine.{Scan, word_number, single_sign, double_sign, part_takes, takes, is_whole_part, figures_kind, pushed, freed, letters_kind, identifier_pushed, variable_pushed, part_pushed, number_pushed, sign_pushed, close, ends_in_digit}
+use Rattle.um_syntax.specs.Lexeme.{starts_name, IsIdentifier, IsName, Name, Var, Number, Sign, begins, NumeralEnds, SignEnds, is_whole, kind_of}
+use Rattle.um_syntax.specs.Lexing.{size_of, is_glued, is_power_place, IsNumberAt}
+use Rattle.um_syntax.specs.Machine.{Scan, word_number, single_sign, double_sign, part_takes, takes, is_whole_part, pushed, letters_kind, identifier_pushed, variable_pushed, part_pushed, number_pushed, sign_pushed, close, ends_in_digit}
 use Rattle.um_syntax.proofs.Places.{size_of-append}
 use Rattle.um_syntax.proofs.Digits.{figures_of, figures_kind-of}
 use Rattle.std.proofs.lemmas.Slice.Eq.{bytes_eq-Decides}
-use Rattle.um_syntax.proofs.Tables.{word_number-none, word_encoded, word_parts, WordParts, letters_encoded, last_encoded, letter_starts_name, letter_starts, single_sign-text, double_sign-text, sign_text-double, sign_text-three}
-use Rattle.um_syntax.proofs.Texts.{NoHead, nothing_at, identifier_head, hole_from, no_hole_from, word_from, no_word_from, IsRead, identifier_read}
+use Rattle.um_syntax.proofs.Tables.{word_number-none, word_encoded, word_parts, letters_encoded, last_encoded, letter_starts_name, letter_starts, single_sign-text, sign_text-double}
+use Rattle.um_syntax.proofs.Texts.{NoHead, nothing_at, identifier_head, hole_from, no_hole_from, word_from, no_word_from, identifier_read}
 use Rattle.um_syntax.proofs.Meaning.{Means, next_token, faulty_here, token_here}
 
 -- what has been read behind a number's last digit

@@ -1,33 +1,31 @@
 -- What a text means is what the machine answers.
-use Rattle.std.proofs.Common.{◌≡◌, ◌≢◌, ℕ, ◌+◌, ◌-◌, ◌<◌, Bool, true, false, cond, ◌&&◌, ◌||◌, eqb, List, [], ◌∷◌, ◌++◌, length, take, drop, Option, None, Some, is_some, Result, Ok, Err, refl, sym, ap, subst, ◌∙◌, arith, append_assoc, add_assoc, ◌⊎◌, inl, inr, ⊎_elim, lit<}
+use Rattle.std.proofs.Common.{◌≡◌, ◌≢◌, ℕ, ◌+◌, ◌-◌, ◌<◌, Bool, true, false, ◌&&◌, ◌||◌, eqb, List, [], ◌∷◌, ◌++◌, length, take, drop, Option, None, Some, is_some, Result, Ok, Err, refl, sym, ap, subst, ◌∙◌, arith, append_assoc, ◌⊎◌, inl, inr, ⊎_elim, lit<}
 use Rattle.std.proofs.lemmas.Bool.{false≢true, eqb-true}
-use Rattle.std.proofs.lemmas.Str.{encodes-append}
 use Rattle.std.specs.Str.{bytes_eq}
 use Rattle.std.proofs.lemmas.Slice.Eq.{bytes_eq-Decides}
-use Rattle.std.specs.Char.{is_ascii_digit, is_ascii_alphabetic, len_utf8}
-use lib.Utf8.{encode, encodes}
-use Rattle.unicode_ident.specs.Ident.{is_xid_start, is_xid_continue}
+use Rattle.std.specs.Char.{is_ascii_digit, len_utf8}
+use lib.Utf8.{encodes}
+use Rattle.unicode_ident.specs.Ident.{is_xid_continue}
 use Rattle.unicode_ident.proofs.IdentLemmas.{is_xid_continue-ascii}
 use Rattle.um_syntax.specs.declared.token.Kind.{Kind}
 use Rattle.um_syntax.specs.declared.token.Kind.TheVariants as kind
 use Rattle.um_syntax.specs.declared.token.Token.{Token}
 use Rattle.um_syntax.specs.declared.token.LexStop.{LexStop}
-use Rattle.um_syntax.specs.declared.token.LexStop.TheVariants.{BadChar, NumberRange, PowerText, NoMemory}
+use Rattle.um_syntax.specs.declared.token.LexStop.TheVariants.{BadChar, NumberRange, PowerText}
 use Rattle.um_syntax.specs.declared.number.Part.{Part}
 use Rattle.um_syntax.specs.declared.number.Part.TheVariants as part
 use Rattle.um_syntax.specs.declared.pending.Pending.{Pending}
 use Rattle.um_syntax.specs.declared.pending.Pending.TheVariants as pending
 use Rattle.um_syntax.specs.Vocabulary.{words, signs, word_text, sign_text, dot}
-use Rattle.um_syntax.specs.Gap.{is_space, IsGap, IsLastGap, closed, unclosed, IsLine}
+use Rattle.um_syntax.specs.Gap.{IsLastGap, closed, unclosed, IsLine}
 use Rattle.um_syntax.specs.Numeral.{Numeral, Whole, Decimal, Ratio, numeral_text, IsNumeral}
-use Rattle.um_syntax.specs.Lexeme.{starts_name, AllContinue, IsIdentifier, IsWord, IsName, Lexeme, Name, Var, Number, Word, Hole, Sign, text_of, IsLexeme, begins, begins_part, NumeralEnds, LeavesLetter, SignEnds, Ends, IsAlone, is_whole, kind_of}
-use Rattle.um_syntax.specs.Lexing.{size_of, is_glued, is_power_place, IsNext, Lexes, NothingStands, IsNumberAt, Faulty, Refuses}
-use Rattle.um_syntax.specs.Machine.{Scan, word_number, single_sign, double_sign, takes, part_takes, is_whole_part, figures_kind, pushed, letters_kind, word_kind, identifier_pushed, variable_pushed, part_pushed, number_pushed, sign_pushed, close, ends_in_digit, step, steps, ended, tokens_of}
-use Rattle.um_syntax.proofs.Places.{size_of-append}
+use Rattle.um_syntax.specs.Lexeme.{starts_name, AllContinue, IsIdentifier, IsWord, IsName, Lexeme, Name, Var, Number, Word, Hole, Sign, text_of, IsLexeme, begins, NumeralEnds, LeavesLetter, SignEnds, Ends, IsAlone, is_whole, kind_of}
+use Rattle.um_syntax.specs.Lexing.{size_of, is_glued, is_power_place, IsNext, Lexes}
+use Rattle.um_syntax.specs.Machine.{Scan, word_number, single_sign, double_sign, takes, part_takes, is_whole_part, letters_kind, word_kind, part_pushed, number_pushed, close, ends_in_digit, step, steps, ended, tokens_of}
 use Rattle.um_syntax.proofs.Digits.{figures_of, figures_kind-of}
 use Rattle.um_syntax.proofs.Tables.{word_parts, word_encoded, word_number-word, word_identifier, letters_encoded, last_encoded, letter_starts_name, sign_form, single_sign-mark, double_sign-mark, double_sign-first, double_sign-text, IsMark}
-use Rattle.um_syntax.proofs.Texts.{hole_from, word_from, no_word_from, no_hole_from, hole_encoded}
-use Rattle.um_syntax.proofs.Closing.{scan_at, append_nil, tail_of, number_state, not_hole, snoc_same, size_of-snoc, dot_ends, or_false}
+use Rattle.um_syntax.proofs.Texts.{hole_from, word_from, hole_encoded}
+use Rattle.um_syntax.proofs.Closing.{scan_at, append_nil, number_state, snoc_same, size_of-snoc, dot_ends}
 use Rattle.um_syntax.proofs.Reading.{run, run_on, run_stop, free, gap_run, identifier_run, begin_symbol, variable_at, variable_run, digits_at, part_of, number_run}
 
 and_false : (a b : Bool) → (a ≡ true → b ≡ false) → (a && b) ≡ false

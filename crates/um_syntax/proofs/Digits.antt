@@ -1,17 +1,16 @@
 -- The digits that the machine has read are those of the number, as far as a number in range needs them.
-use Rattle.std.proofs.Common.{◌≡◌, ℕ, zero, suc, ◌+◌, ◌-◌, ◌*◌, ◌^◌, ◌<◌, ◌≤◌, min, Bool, true, false, cond, ◌&&◌, eqb, ltb, leb, List, [], ◌∷◌, ◌++◌, length, Option, None, Some, option_map, refl, sym, ap, subst, ◌∙◌, arith, inl, inr, ⊎_elim, pos, length-append, append_assoc}
-use Rattle.std.proofs.lemmas.Bool.{lt-ltb, le-ltb, le-leb, cases_lt, leb-true, lt-leb}
+use Rattle.std.proofs.Common.{◌≡◌, ℕ, suc, ◌+◌, ◌-◌, ◌*◌, ◌^◌, ◌<◌, ◌≤◌, Bool, true, false, cond, ◌&&◌, eqb, ltb, leb, List, [], ◌∷◌, ◌++◌, length, None, option_map, refl, sym, ap, ◌∙◌, arith, ⊎_elim, pos, length-append, append_assoc}
+use Rattle.std.proofs.lemmas.Bool.{lt-ltb, le-ltb, le-leb, cases_lt, lt-leb}
 use Rattle.std.proofs.lemmas.Bool.Decides.{nat_tests}
 use Rattle.std.proofs.Math.Nat.{pow-suc, pow-le-pow_right, mul-le-mul_left, mul_comm}
 use Rattle.std.specs.Char.{is_ascii_digit}
 use Rattle.std.specs.Str.{bytes_eq}
 use Rattle.um_frac.specs.Fraction.{reduced}
-use Rattle.um_syntax.specs.declared.token.Kind.{Kind}
 use Rattle.um_syntax.specs.declared.token.Kind.TheVariants as kind
 use Rattle.um_syntax.specs.declared.number.Part.{Part}
 use Rattle.um_syntax.specs.declared.number.Part.TheVariants as part
 use Rattle.um_syntax.specs.declared.number.Figures.{Figures}
-use Rattle.um_syntax.specs.Numeral.{AreDigits, IsDigits, value_after, value_of, Numeral, Whole, Decimal, Ratio, numeral_text, IsNumeral, digit_count, ordinary_value, power_value, number_value, numerator_of, denominator_of}
+use Rattle.um_syntax.specs.Numeral.{AreDigits, IsDigits, value_after, value_of, Numeral, Whole, Decimal, Ratio, numeral_text, IsNumeral, number_value}
 use Rattle.um_syntax.specs.Lexeme.{Number, kind_of, is_whole}
 use Rattle.um_syntax.specs.Machine.{with_digit, one_more, first_figures, more_figures, is_whole_part, is_allowed, is_one_figure, figures_kind}
 

@@ -1,9 +1,8 @@
 -- A lexer that is fed goes on standing for what it was fed.
-use Rattle.std.proofs.Common.{◌≡◌, ◌≢◌, ℕ, ◌+◌, ◌-◌, ◌/◌, ◌%◌, ◌<◌, ◌≤◌, Bool, true, false, cond, ◌&&◌, ◌||◌, eqb, List, [], ◌∷◌, ◌++◌, length, take, drop, Option, None, Some, is_some, Result, Ok, Err, OnOk, is_err, get_or, refl, sym, ap, subst, ◌∙◌, arith, append_assoc, ◌⊎◌, inl, inr, ⊎_elim, lit<, length-append}
+use Rattle.std.proofs.Common.{◌≡◌, ◌≢◌, ℕ, ◌+◌, ◌/◌, ◌%◌, ◌<◌, ◌≤◌, Bool, true, false, cond, ◌&&◌, ◌||◌, eqb, List, [], ◌∷◌, ◌++◌, length, take, Option, None, Some, is_some, Result, Ok, Err, OnOk, is_err, get_or, refl, sym, ap, subst, ◌∙◌, arith, append_assoc, ◌⊎◌, inl, inr, ⊎_elim, lit<, length-append}
 use Rattle.std.proofs.lemmas.Bool.{false≢true, eqb-true, cases_lt, lt-ltb, le-ltb}
 use Rattle.std.proofs.lemmas.Str.{encodes-append, encode_same, encode_ascii, chars-encodes, encodes_same}
-use Rattle.std.specs.Char.{len_utf8, IsScalar}
-use Rattle.std.specs.Str.{chars, IsUtf8}
+use Rattle.std.specs.Str.{chars}
 use lib.Utf8.{encode, encodes, scalar, scalars, next}
 use Rattle.unicode_ident.proofs.IdentLemmas.{is_xid_continue-ascii}
 use Rattle.um_syntax.specs.declared.token.Token.{Token}
@@ -11,13 +10,12 @@ use Rattle.um_syntax.specs.declared.token.LexStop.{LexStop}
 use Rattle.um_syntax.specs.declared.token.LexStop.TheVariants as lex
 use Rattle.um_syntax.specs.declared.token.TextStop.{TextStop}
 use Rattle.um_syntax.specs.declared.token.TextStop.TheVariants as text
-use Rattle.um_syntax.specs.declared.number.Part.{Part}
 use Rattle.um_syntax.specs.declared.number.Part.TheVariants as part
 use Rattle.um_syntax.specs.declared.pending.Pending.{Pending}
 use Rattle.um_syntax.specs.declared.pending.Pending.TheVariants as pending
 use Rattle.um_syntax.specs.Gap.{IsLine, nothing, closed}
-use Rattle.um_syntax.specs.Lexing.{size_of, HasTokens, HasFault}
-use Rattle.um_syntax.specs.Machine.{Scan, scan_start, takes, double_sign, close, ends_in_digit, followed, at_state, taken, step, steps, ended, tokens_of, scanned}
+use Rattle.um_syntax.specs.Lexing.{HasTokens}
+use Rattle.um_syntax.specs.Machine.{Scan, scan_start, takes, double_sign, close, ends_in_digit, followed, at_state, taken, step, steps, ended, tokens_of}
 use Rattle.um_syntax.specs.Scanning.{Stops}
 use Rattle.um_syntax.specs.Feeding.{EndsLine, CountsTokens, CountsLines, is_readable, IsReadable, text_stop, HasScanned, HasBehind}
 use Rattle.um_syntax.specs.Decoding.{char_len, NoWhole, NoChar}
@@ -25,7 +23,7 @@ use Rattle.um_syntax.proofs.Closing.{snoc_same}
 use Rattle.um_syntax.proofs.Utf8Front.{no_whole}
 use Rattle.std.proofs.Math.ListN.{set, length-set}
 use Rattle.std.proofs.lemmas.List.{take_more_set, length-take-le, length-take}
-use Rattle.um_syntax.proofs.Runs.{steps-append, steps-stopped}
+use Rattle.um_syntax.proofs.Runs.{steps-append}
 use Rattle.unicode_ident.specs.Ident.{is_xid_continue}
 use Rattle.um_syntax.proofs.Tables.{double_sign-feed}
 use Rattle.um_syntax.proofs.Reading.{ascii_no_name}

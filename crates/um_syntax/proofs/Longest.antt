@@ -1,14 +1,14 @@
 -- No longer token stands at a token's place.
-use Rattle.std.proofs.Common.{◌≡◌, ◌≢◌, ℕ, ◌+◌, ◌<◌, Bool, true, false, ◌&&◌, ◌||◌, eqb, List, [], ◌∷◌, ◌++◌, length, Option, None, Some, is_some, refl, sym, ap, subst, ◌∙◌, arith, append_assoc, ◌⊎◌, inl, inr, ⊎_elim, lit<, length-append}
-use Rattle.std.proofs.lemmas.Bool.{false≢true, eqb-true}
+use Rattle.std.proofs.Common.{◌≡◌, ◌≢◌, ℕ, ◌<◌, true, false, ◌&&◌, ◌||◌, eqb, List, [], ◌∷◌, ◌++◌, length, refl, sym, ap, subst, ◌∙◌, arith, append_assoc, ⊎_elim, lit<, length-append}
+use Rattle.std.proofs.lemmas.Bool.{false≢true}
 use Rattle.std.specs.Char.{is_ascii_digit}
 use Rattle.unicode_ident.specs.Ident.{is_xid_continue}
-use Rattle.um_syntax.specs.Vocabulary.{words, signs, word_text, sign_text}
+use Rattle.um_syntax.specs.Vocabulary.{signs, word_text, sign_text}
 use Rattle.um_syntax.specs.Numeral.{Numeral, Whole, Decimal, Ratio, numeral_text, IsNumeral, AreDigits, IsDigits}
-use Rattle.um_syntax.specs.Lexeme.{starts_name, AllContinue, IsIdentifier, IsWord, IsName, Lexeme, Name, Var, Number, Word, Hole, Sign, text_of, IsLexeme, begins, begins_part, NumeralEnds, LeavesLetter, SignEnds, Ends}
+use Rattle.um_syntax.specs.Lexeme.{starts_name, AllContinue, IsIdentifier, IsName, Lexeme, Name, Var, Number, Word, Hole, Sign, text_of, IsLexeme, begins, NumeralEnds, LeavesLetter, SignEnds, Ends}
 use Rattle.um_syntax.specs.Laws.{NoTokenIsLonger}
 use Rattle.um_syntax.proofs.Tables.{word_identifier, sign_form, sign_text-three, single_sign-mark, double_sign-mark, IsMark}
-use Rattle.um_syntax.proofs.Texts.{HasHead, head_of}
+use Rattle.um_syntax.proofs.Texts.{head_of}
 use Rattle.um_syntax.proofs.Reading.{digit_no_name, ascii_no_name}
 
 -- the classes of first characters exclude each other

@@ -1,10 +1,9 @@
 -- What an answer means for the characters from a place on, and how the meaning carries over a gap and over a token.
-use Rattle.std.proofs.Common.{◌≡◌, ℕ, ◌+◌, Bool, true, false, List, [], ◌∷◌, ◌++◌, Option, Some, Result, Ok, Err, refl, sym, ap, subst, ◌∙◌, arith, append_assoc, ◌⊎◌, inl, inr, ⊎_elim}
+use Rattle.std.proofs.Common.{◌≡◌, ℕ, ◌+◌, List, [], ◌∷◌, ◌++◌, Some, Result, Ok, Err, refl, sym, ap, subst, ◌∙◌, arith, append_assoc}
 use Rattle.um_syntax.specs.declared.token.Kind.{Kind}
 use Rattle.um_syntax.specs.declared.token.Token.{Token}
 use Rattle.um_syntax.specs.declared.token.LexStop.{LexStop}
-use Rattle.um_syntax.specs.declared.token.LexStop.TheVariants.{BadChar, NumberRange, PowerText, NoMemory}
-use Rattle.um_syntax.specs.Gap.{is_space, IsLine, IsGap, nothing, space, comment, IsLastGap, closed, unclosed}
+use Rattle.um_syntax.specs.Gap.{IsGap, nothing, space, comment, IsLastGap, closed, unclosed}
 use Rattle.um_syntax.specs.Lexeme.{Lexeme, text_of, IsLexeme, Ends, IsAlone, kind_of}
 use Rattle.um_syntax.specs.Lexing.{size_of, is_glued, is_power_place, IsNext, Lexes, Faulty, Refuses}
 use Rattle.um_syntax.proofs.Places.{size_of-append}

@@ -1,26 +1,21 @@
 -- How the machine reads a gap and the text of a token.
-use Rattle.std.proofs.Common.{◌≡◌, ◌≢◌, ℕ, ◌+◌, ◌-◌, ◌<◌, Bool, true, false, cond, ◌&&◌, ◌||◌, eqb, List, [], ◌∷◌, ◌++◌, length, Option, None, Some, is_some, Result, Ok, Err, refl, sym, ap, subst, ◌∙◌, arith, append_assoc, add_assoc, ◌⊎◌, inl, inr, ⊎_elim, lit<}
+use Rattle.std.proofs.Common.{◌≡◌, ℕ, ◌+◌, ◌-◌, ◌<◌, Bool, true, false, ◌||◌, eqb, List, [], ◌∷◌, ◌++◌, is_some, Result, Ok, Err, refl, sym, ap, ◌∙◌, arith, append_assoc, add_assoc, ◌⊎◌, inl, inr, ⊎_elim, lit<}
 use Rattle.std.proofs.lemmas.Bool.{false≢true, eqb-true}
 use Rattle.std.proofs.lemmas.Bool.Decides.{nat_tests}
 use Rattle.std.specs.Char.{is_ascii_digit, is_ascii_alphabetic, len_utf8}
 use lib.Utf8.{encode, encodes}
-use Rattle.unicode_ident.specs.Ident.{is_xid_start, is_xid_continue}
-use Rattle.unicode_ident.proofs.IdentLemmas.{is_xid_start-ascii, is_xid_continue-ascii}
-use Rattle.um_syntax.specs.declared.token.Kind.{Kind}
-use Rattle.um_syntax.specs.declared.token.Kind.TheVariants as kind
+use Rattle.unicode_ident.specs.Ident.{is_xid_continue}
+use Rattle.unicode_ident.proofs.IdentLemmas.{is_xid_start-ascii}
 use Rattle.um_syntax.specs.declared.token.Token.{Token}
 use Rattle.um_syntax.specs.declared.token.LexStop.{LexStop}
-use Rattle.um_syntax.specs.declared.token.LexStop.TheVariants.{BadChar, NumberRange, PowerText, NoMemory}
 use Rattle.um_syntax.specs.declared.number.Part.{Part}
 use Rattle.um_syntax.specs.declared.number.Part.TheVariants as part
-use Rattle.um_syntax.specs.declared.number.Figures.{Figures}
-use Rattle.um_syntax.specs.declared.pending.Pending.{Pending}
 use Rattle.um_syntax.specs.declared.pending.Pending.TheVariants as pending
 use Rattle.um_syntax.specs.Gap.{is_space, IsLine, IsGap, nothing, space, comment}
 use Rattle.um_syntax.specs.Numeral.{Numeral, Whole, Decimal, Ratio, numeral_text, IsNumeral, AreDigits, IsDigits}
-use Rattle.um_syntax.specs.Lexeme.{starts_name, AllContinue, IsIdentifier, begins}
+use Rattle.um_syntax.specs.Lexeme.{starts_name, AllContinue, IsIdentifier}
 use Rattle.um_syntax.specs.Lexing.{size_of}
-use Rattle.um_syntax.specs.Machine.{Scan, single_sign, double_sign, part_takes, takes, first_figures, more_figures, part_after_digit, number_taken, at_state, taken, close, ends_in_digit, followed, begun, step, steps, tokens_of, ended}
+use Rattle.um_syntax.specs.Machine.{Scan, single_sign, first_figures, more_figures, part_after_digit, step, steps, ended}
 use Rattle.um_syntax.proofs.Places.{size_of-append}
 use Rattle.um_syntax.proofs.Runs.{steps-stopped}
 use Rattle.um_syntax.proofs.Digits.{figures_of, figures-first, figures-whole, figures-point, figures-decimal, figures-over, figures-ratio}

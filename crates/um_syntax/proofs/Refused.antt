@@ -1,26 +1,22 @@
 -- The leftmost fault of a text is what the machine answers.
-use Rattle.std.proofs.Common.{◌≡◌, ◌≢◌, ℕ, ◌+◌, ◌<◌, Bool, true, false, cond, ◌&&◌, ◌||◌, eqb, List, [], ◌∷◌, ◌++◌, length, Option, None, Some, is_some, Result, Ok, Err, refl, sym, ap, subst, ◌∙◌, arith, append_assoc, ◌⊎◌, inl, inr, ⊎_elim, lit<}
+use Rattle.std.proofs.Common.{◌≡◌, ◌≢◌, ℕ, ◌+◌, Bool, true, false, ◌||◌, eqb, List, [], ◌∷◌, ◌++◌, Option, None, Some, is_some, Err, refl, sym, ap, subst, ◌∙◌, ⊎_elim, lit<}
 use Rattle.std.proofs.lemmas.Bool.{false≢true, eqb-true}
 use Rattle.std.proofs.lemmas.Str.{encode_ascii}
-use Rattle.std.specs.Str.{bytes_eq}
-use Rattle.std.specs.Char.{is_ascii_digit, len_utf8}
-use lib.Utf8.{encode, encodes}
+use Rattle.std.specs.Char.{is_ascii_digit}
 use Rattle.unicode_ident.specs.Ident.{is_xid_continue}
 use Rattle.um_syntax.specs.declared.token.Kind.{Kind}
 use Rattle.um_syntax.specs.declared.token.Token.{Token}
 use Rattle.um_syntax.specs.declared.token.LexStop.{LexStop}
 use Rattle.um_syntax.specs.declared.token.LexStop.TheVariants.{BadChar, NumberRange, PowerText, NoMemory}
 use Rattle.um_syntax.specs.declared.pending.Pending.TheVariants as pending
-use Rattle.um_syntax.specs.Vocabulary.{words, signs, word_text, sign_text}
-use Rattle.um_syntax.specs.Gap.{is_space, IsGap}
-use Rattle.um_syntax.specs.Numeral.{Numeral, Whole, numeral_text, IsNumeral}
-use Rattle.um_syntax.specs.Lexeme.{starts_name, IsIdentifier, IsWord, IsName, Lexeme, Var, Number, Sign, text_of, IsLexeme, begins, kind_of}
-use Rattle.um_syntax.specs.Lexing.{size_of, is_power_place, IsNext, NothingStands, IsNumberAt, Faulty, Refuses}
-use Rattle.um_syntax.specs.Machine.{single_sign, double_sign, takes, close}
-use Rattle.um_syntax.proofs.Tables.{word_letters, are_letters, word_parts, single_sign-text, double_sign-text, IsMark}
+use Rattle.um_syntax.specs.Numeral.{Numeral, Whole, numeral_text}
+use Rattle.um_syntax.specs.Lexeme.{starts_name, IsIdentifier, IsWord, Lexeme, Var, Number, Sign, text_of, IsLexeme, begins, kind_of}
+use Rattle.um_syntax.specs.Lexing.{size_of, is_power_place, NothingStands, IsNumberAt, Faulty, Refuses}
+use Rattle.um_syntax.specs.Machine.{single_sign, double_sign, takes}
+use Rattle.um_syntax.proofs.Tables.{word_letters, are_letters, word_parts, single_sign-text, double_sign-text}
 use Rattle.um_syntax.proofs.Texts.{identifier_read}
 use Rattle.um_syntax.proofs.Closing.{scan_at, snoc_same}
-use Rattle.um_syntax.proofs.Reading.{run, run_on, run_stop, free, gap_run, begin_quote, begin_symbol, ascii_no_name, variable_at, first_letter}
+use Rattle.um_syntax.proofs.Reading.{run, run_on, run_stop, free, gap_run, begin_quote, begin_symbol, variable_at, first_letter}
 use Rattle.um_syntax.proofs.Complete.{stopped_run, number_letter, number_refused, range_stop, next_run}
 
 -- no word is of one letter, and none begins with `_`

@@ -1,10 +1,9 @@
 -- Runs of the machine.
 use Rattle.std.proofs.Common.{◌≡◌, ℕ, List, [], ◌∷◌, ◌++◌, Result, Ok, Err, refl, sym, ap, ◌∙◌}
-use Rattle.um_syntax.specs.declared.token.Token.{Token}
 use Rattle.um_syntax.specs.declared.token.LexStop.{LexStop}
 use Rattle.um_syntax.specs.declared.token.LexStop.TheVariants.{BadChar, NumberRange, PowerText, NoMemory}
 use Rattle.um_syntax.specs.Machine.{Scan, step, steps, ended}
-use Rattle.um_syntax.specs.Scanning.{Stops, Follows, Answers}
+use Rattle.um_syntax.specs.Scanning.{Stops, Answers}
 
 pub steps-stopped : (stop : LexStop) (cs : List ℕ) → steps (Err stop) cs ≡ Err stop
 steps-stopped stop [] = refl

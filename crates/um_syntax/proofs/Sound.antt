@@ -1,26 +1,26 @@
 -- What the machine answers is what the text means.
-use Rattle.std.proofs.Common.{◌≡◌, ◌≢◌, ℕ, ◌+◌, Bool, true, false, cond, ◌&&◌, List, [], ◌∷◌, ◌++◌, Option, None, Some, Result, Ok, Err, refl, sym, ap, subst, ◌∙◌, arith, append_assoc}
+use Rattle.std.proofs.Common.{◌≡◌, ℕ, ◌+◌, Bool, true, false, cond, ◌&&◌, List, [], ◌∷◌, ◌++◌, Result, Ok, Err, refl, sym, ap, subst, ◌∙◌}
 use Rattle.std.proofs.lemmas.Bool.{false≢true}
 use Rattle.std.specs.Char.{len_utf8}
 use lib.Utf8.{encodes}
 use Rattle.unicode_ident.specs.Ident.{is_xid_continue}
 use Rattle.um_syntax.specs.declared.token.Token.{Token}
 use Rattle.um_syntax.specs.declared.token.LexStop.{LexStop}
-use Rattle.um_syntax.specs.declared.token.LexStop.TheVariants.{BadChar, NumberRange, PowerText, NoMemory}
+use Rattle.um_syntax.specs.declared.token.LexStop.TheVariants.{BadChar}
 use Rattle.um_syntax.specs.declared.number.Part.{Part}
 use Rattle.um_syntax.specs.declared.number.Part.TheVariants as part
 use Rattle.um_syntax.specs.declared.number.Figures.{Figures}
 use Rattle.um_syntax.specs.declared.pending.Pending.{Pending}
 use Rattle.um_syntax.specs.declared.pending.Pending.TheVariants as pending
-use Rattle.um_syntax.specs.Gap.{IsGap, nothing, IsLastGap, closed, unclosed}
+use Rattle.um_syntax.specs.Gap.{nothing, IsLastGap, closed, unclosed}
 use Rattle.um_syntax.specs.Numeral.{numeral_text}
 use Rattle.um_syntax.specs.Lexeme.{begins}
-use Rattle.um_syntax.specs.Lexing.{size_of, Lexes, Refuses}
-use Rattle.um_syntax.specs.Machine.{Scan, takes, close, ends_in_digit, followed, begun, step, steps, tokens_of, ended, taken}
+use Rattle.um_syntax.specs.Lexing.{size_of}
+use Rattle.um_syntax.specs.Machine.{Scan, takes, close, ends_in_digit, followed, begun, step, steps, tokens_of, ended}
 use Rattle.um_syntax.proofs.Runs.{steps-stopped}
 use Rattle.um_syntax.proofs.Digits.{figures_of}
 use Rattle.um_syntax.proofs.Meaning.{Means}
-use Rattle.um_syntax.proofs.Closing.{tail_of, FitsPart, Pends, CloseMeans, scan_at, close_identifier, close_quote, close_variable, close_number, close_symbol, number_tail}
+use Rattle.um_syntax.proofs.Closing.{tail_of, Pends, CloseMeans, scan_at, close_identifier, close_quote, close_variable, close_number, close_symbol, number_tail}
 use Rattle.um_syntax.proofs.Taking.{TakeMeans, take_sound, BeginMeans, begin_sound}
 
 abbrev pub is_comment : Pending → Bool

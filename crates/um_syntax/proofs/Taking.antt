@@ -1,30 +1,27 @@
 -- A character that belongs to what has begun, and one that begins something.
-use Rattle.std.proofs.Common.{◌≡◌, ◌≢◌, ℕ, ◌+◌, ◌-◌, ◌<◌, Bool, true, false, cond, ◌&&◌, ◌||◌, eqb, List, [], ◌∷◌, ◌++◌, length, Option, None, Some, is_some, Result, Ok, Err, refl, sym, ap, subst, ◌∙◌, arith, append_assoc, ◌⊎◌, inl, inr, ⊎_elim, lit<}
+use Rattle.std.proofs.Common.{◌≡◌, ℕ, ◌+◌, ◌-◌, Bool, true, false, cond, ◌&&◌, ◌||◌, eqb, List, [], ◌∷◌, ◌++◌, Option, None, Some, is_some, Result, Ok, Err, refl, sym, ap, subst, ◌∙◌, arith, append_assoc, inl}
 use Rattle.std.proofs.lemmas.Bool.{false≢true, eqb-true}
 use Rattle.std.proofs.lemmas.Str.{encodes-append}
 use Rattle.std.specs.Char.{is_ascii_digit, len_utf8}
 use lib.Utf8.{encode, encodes}
-use Rattle.unicode_ident.specs.Ident.{is_xid_start, is_xid_continue}
-use Rattle.um_syntax.specs.declared.token.Kind.{Kind}
+use Rattle.unicode_ident.specs.Ident.{is_xid_continue}
 use Rattle.um_syntax.specs.declared.token.Kind.TheVariants as kind
 use Rattle.um_syntax.specs.declared.token.Token.{Token}
 use Rattle.um_syntax.specs.declared.token.LexStop.{LexStop}
-use Rattle.um_syntax.specs.declared.token.LexStop.TheVariants.{BadChar, NumberRange, PowerText, NoMemory}
+use Rattle.um_syntax.specs.declared.token.LexStop.TheVariants.{BadChar}
 use Rattle.um_syntax.specs.declared.number.Part.{Part}
 use Rattle.um_syntax.specs.declared.number.Part.TheVariants as part
-use Rattle.um_syntax.specs.declared.number.Figures.{Figures}
 use Rattle.um_syntax.specs.declared.pending.Pending.{Pending}
 use Rattle.um_syntax.specs.declared.pending.Pending.TheVariants as pending
-use Rattle.um_syntax.specs.Vocabulary.{signs, sign_text}
-use Rattle.um_syntax.specs.Gap.{is_space, IsLine, IsGap, nothing, space, comment, IsLastGap}
-use Rattle.um_syntax.specs.Numeral.{Numeral, Whole, Decimal, Ratio, numeral_text, IsNumeral, AreDigits, IsDigits}
-use Rattle.um_syntax.specs.Lexeme.{starts_name, AllContinue, IsIdentifier, IsName, Lexeme, Sign, text_of, IsLexeme, begins, SignEnds, Ends, IsAlone, kind_of}
-use Rattle.um_syntax.specs.Lexing.{size_of, is_glued, is_power_place, IsNext, Lexes, NothingStands, Faulty, Refuses}
-use Rattle.um_syntax.specs.Machine.{Scan, single_sign, double_sign, part_takes, takes, first_figures, more_figures, part_after_digit, number_taken, pushed, at_state, symbol_taken, taken, begun}
-use Rattle.um_syntax.proofs.Places.{size_of-append}
+use Rattle.um_syntax.specs.Vocabulary.{sign_text}
+use Rattle.um_syntax.specs.Gap.{is_space, IsLine, nothing, space, comment}
+use Rattle.um_syntax.specs.Numeral.{Numeral, Whole, Decimal, Ratio, numeral_text, IsNumeral, IsDigits}
+use Rattle.um_syntax.specs.Lexeme.{starts_name, AllContinue, IsIdentifier, Sign, SignEnds}
+use Rattle.um_syntax.specs.Lexing.{size_of}
+use Rattle.um_syntax.specs.Machine.{Scan, single_sign, double_sign, part_takes, takes, first_figures, more_figures, part_after_digit, number_taken, symbol_taken, taken, begun}
 use Rattle.um_syntax.proofs.Digits.{figures_of, figures-first, figures-whole, figures-point, figures-decimal, figures-over, figures-ratio, AreDigits-append}
-use Rattle.um_syntax.proofs.Tables.{double_sign-first, double_sign-text, sign_text-three, sign_text-double}
-use Rattle.um_syntax.proofs.Texts.{NoHead, nothing_at}
+use Rattle.um_syntax.proofs.Tables.{double_sign-first, double_sign-text, sign_text-three}
+use Rattle.um_syntax.proofs.Texts.{nothing_at}
 use Rattle.um_syntax.proofs.Meaning.{Means, skip, next_token, faulty_here, token_here}
 use Rattle.um_syntax.proofs.Closing.{tail_of, FitsPart, Pends, scan_at, size_of-snoc, append_nil}
 

@@ -1,22 +1,20 @@
 -- How the texts of tokens begin, and which token an identifier is.
-use Rattle.std.proofs.Common.{◌≡◌, ◌≢◌, ℕ, ◌+◌, ◌<◌, Bool, true, false, cond, ◌&&◌, ◌||◌, eqb, List, [], ◌∷◌, ◌++◌, length, Option, None, Some, is_some, refl, sym, ap, subst, ◌∙◌, arith, ◌⊎◌, inl, inr, ⊎_elim, lit<}
+use Rattle.std.proofs.Common.{◌≡◌, ◌≢◌, ℕ, ◌<◌, Bool, true, false, cond, List, [], ◌∷◌, ◌++◌, length, Option, None, Some, is_some, refl, sym, ap, subst, ◌∙◌, ◌⊎◌, inl, inr, ⊎_elim, lit<}
 use Rattle.std.proofs.lemmas.Slice.Eq.{bytes_eq-Decides}
 use Rattle.std.proofs.lemmas.Bool.{false≢true}
 use Rattle.std.proofs.lemmas.Str.{encodes_same, encode_ascii}
 use Rattle.std.specs.Str.{bytes_eq}
 use Rattle.std.specs.Char.{is_ascii_digit}
-use lib.Utf8.{encode, encodes}
-use Rattle.unicode_ident.specs.Ident.{is_xid_start, is_xid_continue}
-use Rattle.unicode_ident.proofs.IdentLemmas.{is_xid_start-ascii, is_xid_continue-ascii}
-use Rattle.um_syntax.specs.declared.token.Kind.{Kind}
+use lib.Utf8.{encodes}
+use Rattle.unicode_ident.specs.Ident.{is_xid_continue}
 use Rattle.um_syntax.specs.declared.token.Kind.TheVariants as kind
-use Rattle.um_syntax.specs.Vocabulary.{words, signs, word_text, sign_text}
+use Rattle.um_syntax.specs.Vocabulary.{words, word_text}
 use Rattle.um_syntax.specs.Gap.{is_space}
-use Rattle.um_syntax.specs.Numeral.{Numeral, Whole, Decimal, Ratio, numeral_text, IsNumeral, AreDigits, IsDigits}
-use Rattle.um_syntax.specs.Lexeme.{starts_name, AllContinue, IsIdentifier, IsWord, IsName, Lexeme, Name, Var, Number, Word, Hole, Sign, text_of, IsLexeme, begins, Ends, IsAlone, kind_of}
+use Rattle.um_syntax.specs.Numeral.{Whole, Decimal, Ratio, IsDigits}
+use Rattle.um_syntax.specs.Lexeme.{starts_name, IsIdentifier, IsWord, IsName, Lexeme, Name, Var, Number, Word, Hole, Sign, text_of, IsLexeme, begins, Ends, IsAlone, kind_of}
 use Rattle.um_syntax.specs.Lexing.{NothingStands}
 use Rattle.um_syntax.specs.Machine.{word_number, single_sign, double_sign, letters_kind, word_kind}
-use Rattle.um_syntax.proofs.Tables.{word_number-text, word_number-none, word_number-word, word_encoded, word_identifier, sign_form}
+use Rattle.um_syntax.proofs.Tables.{word_number-text, word_number-none, word_encoded, word_identifier, sign_form}
 
 -- the first character of a token's text, and what it tells
 abbrev pub HasHead : Lexeme → ℕ → List ℕ → Type 0

@@ -1,12 +1,11 @@
 -- The characters at the front of bytes.
-use Rattle.std.proofs.Common.{◌≡◌, ◌≢◌, ℕ, zero, suc, ◌+◌, ◌-◌, ◌*◌, ◌/◌, ◌<◌, ◌≤◌, Bool, true, false, cond, ◌&&◌, ltb, List, [], ◌∷◌, ◌++◌, length, get_or, take, drop, refl, sym, ap, subst, ◌∙◌, arith, ◌⊎◌, inl, inr, ⊎_elim, append_assoc, length-append}
-use Rattle.std.proofs.lemmas.Bool.{false≢true, cases_lt, lt-ltb, le-ltb}
-use Rattle.std.proofs.lemmas.Str.{encodes-append, encodes_same, cons_from_encodes, length-encode, len_utf8_bounds, IsUtf8-encode}
-use Rattle.std.proofs.lemmas.List.{take-append-drop, take-append-le}
+use Rattle.std.proofs.Common.{◌≡◌, ℕ, ◌+◌, ◌/◌, ◌<◌, ◌≤◌, Bool, true, false, ◌&&◌, List, [], ◌∷◌, ◌++◌, length, get_or, take, refl, sym, ap, subst, ◌∙◌, arith, ⊎_elim, length-append}
+use Rattle.std.proofs.lemmas.Bool.{cases_lt, lt-ltb, le-ltb}
+use Rattle.std.proofs.lemmas.Str.{cons_from_encodes, length-encode, len_utf8_bounds, IsUtf8-encode}
 use Rattle.std.proofs.Math.Seq.{take-append_seam}
-use Rattle.std.specs.Char.{IsScalar, len_utf8}
-use Rattle.std.specs.Str.{IsUtf8, IsValidUpTo}
-use lib.Utf8.{encode, encodes, scalar, scalars, scalar_cases}
+use Rattle.std.specs.Char.{IsScalar}
+use Rattle.std.specs.Str.{IsUtf8}
+use lib.Utf8.{encode, scalar, scalars, scalar_cases}
 use Rattle.um_syntax.specs.Decoding.{char_len, NoWhole, NoChar}
 
 -- A character's first byte tells how many it has.

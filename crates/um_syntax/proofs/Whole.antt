@@ -1,19 +1,19 @@
 -- The machine's answer to a whole text is the text's.
-use Rattle.std.proofs.Common.{◌≡◌, ◌≢◌, ℕ, ◌+◌, Bool, true, false, cond, eqb, List, [], ◌∷◌, ◌++◌, Option, None, Some, Result, Ok, Err, IfOk, IfErr, MatchResult, refl, sym, ap, subst, ◌∙◌, arith, append_assoc, ◌⊎◌, inl, inr, ⊎_elim}
+use Rattle.std.proofs.Common.{◌≡◌, ℕ, Bool, true, false, eqb, List, [], ◌∷◌, ◌++◌, Result, Ok, Err, IfOk, IfErr, MatchResult, refl, sym, ap, subst, ◌∙◌, ◌⊎◌, inl, inr}
 use Rattle.std.proofs.lemmas.Bool.{eqb-true}
 use Rattle.um_syntax.specs.declared.token.Token.{Token}
 use Rattle.um_syntax.specs.declared.token.LexStop.{LexStop}
 use Rattle.um_syntax.specs.declared.token.LexStop.TheVariants.{BadChar, NumberRange, PowerText, NoMemory}
 use Rattle.um_syntax.specs.declared.pending.Pending.TheVariants as pending
-use Rattle.um_syntax.specs.Lexing.{size_of, IsNext, Lexes, Refuses, body, body_place, HasTokens, HasFault, IsRefusal}
-use Rattle.um_syntax.specs.Gap.{IsGap, IsLastGap}
+use Rattle.um_syntax.specs.Lexing.{Lexes, body, body_place, HasTokens, HasFault, IsRefusal}
+use Rattle.um_syntax.specs.Gap.{IsLastGap}
 use Rattle.um_syntax.specs.Lexeme.{text_of}
-use Rattle.um_syntax.specs.Machine.{scan_start, step, steps, ended, scanned}
+use Rattle.um_syntax.specs.Machine.{scanned}
 use Rattle.um_syntax.specs.Laws.{EachTextIsAnswered, TokensAreUnique, FaultIsUnique, TokensExcludeFault, laid_out, LieAt, TokensMakeUpText}
 use Rattle.um_syntax.specs.Scanning.{Answers}
 use Rattle.um_syntax.proofs.Meaning.{Means}
 use Rattle.um_syntax.proofs.Sound.{sound}
-use Rattle.um_syntax.proofs.Reading.{run, run_on, free}
+use Rattle.um_syntax.proofs.Reading.{run, free}
 use Rattle.um_syntax.proofs.Complete.{complete}
 use Rattle.um_syntax.proofs.Refused.{refused}
 

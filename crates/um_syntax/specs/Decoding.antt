@@ -1,5 +1,5 @@
 -- UTF-8 character by character (Unicode, section 3.9).
-use Rattle.std.specs.Prelude.{◌≡◌, ◌≢◌, ℕ, ◌<◌, ◌≤◌, cond, nat_lt, Bool, true, List, [], ◌∷◌, ◌++◌, length, slice_index}
+use Rattle.std.specs.Prelude.{◌≡◌, ◌≢◌, ℕ, ◌<◌, cond, nat_lt, List, ◌++◌, length, slice_index}
 use Rattle.std.specs.Char.{encode_utf8, IsScalar}
 use Rattle.um_syntax.specs.declared.decode.Front.{Front}
 use Rattle.um_syntax.specs.declared.decode.Front.TheVariants as front

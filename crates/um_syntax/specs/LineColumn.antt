@@ -1,5 +1,5 @@
 -- Lines and columns of a place, counted from 1 (this project's own).
-use Rattle.std.specs.Prelude.{ℕ, ◌+◌, ◌==◌, Bool, not, List, count_by, take}
+use Rattle.std.specs.Prelude.{ℕ, ◌+◌, ◌==◌, Bool, not, List, count_by}
 use Rattle.std.specs.List.{suffix_len}
 use Rattle.std.specs.Str.{chars}
 

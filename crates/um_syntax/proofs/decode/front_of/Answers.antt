@@ -1,5 +1,4 @@
-use Rattle.std.proofs.Common.{◌≡◌, length, get_or, arith, sym, ◌∙◌, ap, subst, ◌≤◌}
-use Rattle.um_syntax.specs.Decoding.{char_len}
+use Rattle.std.proofs.Common.{length, arith, sym, ◌∙◌}
 use Rattle.um_syntax.proofs.Utf8Front.{no_lead, no_text, text_front, whole_len}
 use Rattle.um_syntax.proofs.decode.front_of.Goals as goal
 

@@ -1,4 +1,3 @@
-use Rattle.std.proofs.Common.{List}
 use Rattle.std.specs.Str.{chars}
 use Rattle.um_syntax.proofs.Whole.{IfOk-answer, IfErr-answer, MatchResult-answer, fault-answer}
 use Rattle.um_syntax.proofs.lexer.lex.Goals as goal

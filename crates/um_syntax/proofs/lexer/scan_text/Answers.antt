@@ -1,13 +1,12 @@
-use Rattle.std.proofs.Common.{◌≡◌, ◌+◌, ◌∷◌, ◌++◌, [], List, length, get_or, drop, refl, sym, ap, ◌∙◌, arith, Ok, rules}
+use Rattle.std.proofs.Common.{length, sym, ap, ◌∙◌, arith, Ok}
 use Rattle.std.proofs.lemmas.Iterator.{YieldsList-from_chars}
 use Rattle.std.proofs.lemmas.Iterator.Consumers.{YieldsList-turn, YieldsList-end}
 use Rattle.std.proofs.lemmas.List.{length_push, drop_all}
 use Rattle.std.proofs.lemmas.Result.{err_from_is_err_and}
 use Rattle.std.specs.Str.{chars}
-use Rattle.std.specs.Char.{len_utf8}
 use Rattle.um_syntax.specs.Lexing.{size_of}
-use Rattle.um_syntax.specs.Machine.{Scan, PendingFits, steps, scan_start, scanned, ended}
-use Rattle.um_syntax.specs.Scanning.{scan_of, Answers}
+use Rattle.um_syntax.specs.Machine.{Scan, steps}
+use Rattle.um_syntax.specs.Scanning.{scan_of}
 use Rattle.um_syntax.proofs.Places.{size_of-chars, drop_next}
 use Rattle.um_syntax.proofs.Runs.{steps_on, refuses}
 use Rattle.um_syntax.proofs.lexer.scan_text.Goals as goal

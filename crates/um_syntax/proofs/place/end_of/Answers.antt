@@ -1,10 +1,9 @@
-use Rattle.std.proofs.Common.{◌≡◌, ◌<◌, length, not, arith, sym, ap, ◌∙◌, count_by}
+use Rattle.std.proofs.Common.{length, not, arith, sym, ap, ◌∙◌}
 use Rattle.std.proofs.lemmas.Iterator.{YieldsList-from_chars}
 use Rattle.std.proofs.lemmas.Iterator.Consumers.{YieldsList-turn, YieldsList-end}
 use Rattle.std.proofs.lemmas.List.{map-id}
 use Rattle.std.proofs.lemmas.List.Sums.{suffix_len-le-length}
 use Rattle.std.proofs.lemmas.Str.{encodes-chars, length-le-encodes}
-use Rattle.std.specs.List.{suffix_len}
 use Rattle.std.specs.Str.{chars}
 use Rattle.um_syntax.specs.LineColumn.{is_line_feed}
 use Rattle.um_syntax.proofs.place.end_of.Goals as goal

@@ -1,4 +1,4 @@
-use Rattle.std.proofs.Common.{◌≡◌, ◌+◌, ◌≤◌, length, not, count_by}
+use Rattle.std.proofs.Common.{◌≡◌, ◌+◌, not, count_by}
 use Rattle.std.specs.List.{suffix_len}
 use Rattle.um_syntax.specs.LineColumn.{is_line_feed}
 use Rattle.um_syntax.proofs.place.end_of.Given as goal

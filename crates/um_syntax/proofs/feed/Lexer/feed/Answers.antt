@@ -1,4 +1,4 @@
-use Rattle.std.proofs.Common.{◌≡◌, ◌+◌, ◌≤◌, ◌∷◌, ◌++◌, [], List, ℕ, length, take, get_or, append_assoc, arith, refl, sym, ap, subst, ◌∙◌}
+use Rattle.std.proofs.Common.{◌∷◌, ◌++◌, [], take, get_or, append_assoc, arith, sym, ap, subst, ◌∙◌}
 use Rattle.std.proofs.lemmas.List.{take_more, take_all}
 use Rattle.um_syntax.specs.Feeding.{Stands}
 use Rattle.um_syntax.proofs.Feeds.{behind_no_whole, counts_tokens, ok_from}

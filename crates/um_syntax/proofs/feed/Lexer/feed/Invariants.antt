@@ -1,5 +1,5 @@
 use Rattle.std.proofs.Common.{◌≡◌, ◌+◌, ◌++◌, List, ℕ, take}
-use Rattle.um_syntax.specs.Feeding.{Stands, IsSpent}
+use Rattle.um_syntax.specs.Feeding.{Stands}
 use Rattle.um_syntax.proofs.feed.Lexer.feed.Given as goal
 
 abbrev pub invariant-loop-byte : goal.invariant-loop-byte

@@ -1,4 +1,4 @@
-use Rattle.std.proofs.Common.{◌≡◌, ◌≤◌, List, ℕ, Err, arith, sym, subst, ◌∙◌, length, take, refl, ap}
+use Rattle.std.proofs.Common.{◌≤◌, Err, arith, sym, subst, ◌∙◌, length, take, ap}
 use Rattle.um_syntax.specs.Scanning.{scan_of}
 use Rattle.um_syntax.specs.Feeding.{HasScanned, HasBehind, IsTextAnswer, is_readable}
 use Rattle.um_syntax.proofs.Finishes.{partial_answer, fault_answer, tokens_answer, refusal_answer, something_held, nothing_held}

@@ -1,8 +1,6 @@
-use Rattle.std.proofs.Common.{◌≡◌, ◌+◌, ◌<◌, ◌∷◌, ◌++◌, [], Result, List, ℕ, length, take, drop, Ok, Err, OnOk, Some, arith, refl, sym, ap, subst, ◌∙◌}
+use Rattle.std.proofs.Common.{◌<◌, ◌∷◌, ◌++◌, [], length, take, arith, refl, sym, ap, subst, ◌∙◌}
 use Rattle.std.proofs.lemmas.Str.{length-encode}
-use Rattle.um_syntax.specs.Lexing.{size_of}
 use Rattle.um_syntax.specs.Decoding.{NoChar}
-use Rattle.um_syntax.specs.Feeding.{Stands, HasRead, IsReadable}
 use Rattle.um_syntax.proofs.Feeds.{behind_closed, behind_is, behind_from, bytes-more, held-more, held-length, whole-read, both_ok}
 use Rattle.um_syntax.proofs.feed.Lexer.take_byte.Goals as goal
 

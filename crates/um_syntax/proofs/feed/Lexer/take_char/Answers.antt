@@ -1,5 +1,4 @@
-use Rattle.std.proofs.Common.{◌≡◌, ◌≢◌, ◌+◌, ◌∷◌, ◌++◌, [], Ok, Some, arith, sym, ap, subst, ◌∙◌}
-use Rattle.um_syntax.specs.Lexing.{size_of}
+use Rattle.std.proofs.Common.{◌≢◌, ◌∷◌, ◌++◌, [], Some, arith, sym, ap, subst, ◌∙◌}
 use Rattle.um_syntax.specs.Scanning.{scan_of}
 use Rattle.um_syntax.specs.Feeding.{IsReadable, text_stop, HasScanned}
 use Rattle.um_syntax.specs.declared.token.LexStop.TheVariants as lex
