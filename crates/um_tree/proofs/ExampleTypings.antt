@@ -13,19 +13,19 @@ use Rattle.um_tree.specs.Typing.{put_signature, UnitsMatch, TypesMatch, MayRecur
 use Rattle.um_tree.specs.Scheme.{IsPrincipal}
 use Rattle.um_tree.proofs.ExamplePrograms.{metre, second, kilogram, newton, marked, area_of_metres, area, identity, zeros, squares, sum, weights, make, pick}
 
-abbrev signature : List TypeTree → TypeTree → Signature
+abbrev pub signature : List TypeTree → TypeTree → Signature
 signature ts t = record { params = ts; result = t }
 
-abbrev variable : ℕ → PowerMap
+abbrev pub variable : ℕ → PowerMap
 variable k = atom (Var k)
 
-signature_is : (g : Signature) (ts : List TypeTree) (t : TypeTree) → g.params ≡ ts → g.result ≡ t → g ≡ signature ts t
+pub signature_is : (g : Signature) (ts : List TypeTree) (t : TypeTree) → g.params ≡ ts → g.result ≡ t → g ≡ signature ts t
 signature_is g ts t e f = ap (λ xs. signature xs g.result) e ∙ ap (signature ts) f
 
-same_number : (u v : PowerMap) → num_type u ≡ num_type v → u ≡ v
+pub same_number : (u v : PowerMap) → num_type u ≡ num_type v → u ≡ v
 same_number u v e = cc e
 
-same_some : (s t : TypeTree) → Some s ≡ Some t → s ≡ t
+pub same_some : (s t : TypeTree) → Some s ≡ Some t → s ≡ t
 same_some s t e = cc e
 
 -- units with other powers
@@ -112,14 +112,14 @@ area_refused m =
     apart (variable 0) (mul (variable 0) (variable 1)) (Var 1) 0 1 refl refl (λ e. absurd (omega (arith, e))) unit
 
 -- ---- let id (x: num<_>) = x
-identity_typed : (u : PowerMap) → Typing identity 0 (signature (num_type u ∷ []) (num_type u))
+pub identity_typed : (u : PowerMap) → Typing identity 0 (signature (num_type u ∷ []) (num_type u))
 identity_typed u = record { choice = λ k. one; params = (num_type u, [], (u, tt, refl), refl, refl); result = tt; body = refl }
 
 identity_refused : Typing identity 0 (signature (num_type metre ∷ []) (num_type second)) → ⊥
 identity_refused m = metre_apart (same_number _ _ (same_some _ _ m.body))
 
 -- ---- let z = 0<_> has each num<'a>, and let w = 0<_> * 0<_> each num<'a 'b>
-zero_typed : (u : PowerMap) → Typing zeros 0 (signature [] (num_type u))
+pub zero_typed : (u : PowerMap) → Typing zeros 0 (signature [] (num_type u))
 zero_typed u = record { choice = λ k. one; params = refl; result = tt; body = (u, refl, refl) }
 
 zeros_typed : (u v : PowerMap) → Typing zeros 1 (signature [] (num_type (mul u v)))
@@ -129,7 +129,7 @@ zero_refused : Typing zeros 0 (signature [] bool_type) → ⊥
 zero_refused m = absurd (cc m.body.2)
 
 -- ---- let rec f (n: num) (x: num<_>) : num<_> = if n < 1 then x else f (n - 1) (x * x) has num -> num -> num alone
-squares_typed : Typing squares 0 (signature (num_type one ∷ num_type one ∷ []) (num_type one))
+pub squares_typed : Typing squares 0 (signature (num_type one ∷ num_type one ∷ []) (num_type one))
 squares_typed = record {
   choice = λ k. one;
   params = (num_type one, num_type one ∷ [], (one, sym (replace-one _), refl), (num_type one, [], (one, tt, refl), refl, refl), refl);
@@ -152,7 +152,7 @@ squares_typed = record {
 }
 
 -- ---- let rec sum (l: num<_> list) : num<_> = match l with [] -> 0<_> | x :: r -> x + sum r
-sum_typed : (u : PowerMap) → Typing sum 0 (signature (list_type (num_type u) ∷ []) (num_type u))
+pub sum_typed : (u : PowerMap) → Typing sum 0 (signature (list_type (num_type u) ∷ []) (num_type u))
 sum_typed u = record {
   choice = λ k. one;
   params = (list_type (num_type u), [], (num_type u, (u, tt, refl), refl), refl, refl);
@@ -165,7 +165,7 @@ sum_typed u = record {
   )
 }
 
-same_item : (s t : TypeTree) → list_type s ≡ list_type t → s ≡ t
+pub same_item : (s t : TypeTree) → list_type s ≡ list_type t → s ≡ t
 same_item s t e = cc e
 
 sum_refused : Typing sum 0 (signature (list_type (num_type metre) ∷ []) (num_type second)) → ⊥
@@ -176,7 +176,7 @@ sum_refused m =
     metre_apart (same_number _ _ (item ∙ head) ∙ sym (total ∙ m.body.3.5.1))
 
 -- num -> num<m> -> num<m> is none of f: its own call squares the unit
-second_of : (ts rest more : List TypeTree) (s t u v : TypeTree) → ts ≡ s ∷ rest → rest ≡ t ∷ more → ts ≡ u ∷ v ∷ [] → t ≡ v
+pub second_of : (ts rest more : List TypeTree) (s t u v : TypeTree) → ts ≡ s ∷ rest → rest ≡ t ∷ more → ts ≡ u ∷ v ∷ [] → t ≡ v
 second_of ts rest more s t u v e f g = same_some _ _ (ap (λ xs. slice_get xs 1) (sym (e ∙ ap (λ r. s ∷ r) f) ∙ g))
 
 squares_refused : Typing squares 0 (signature (num_type one ∷ num_type metre ∷ []) (num_type metre)) → ⊥

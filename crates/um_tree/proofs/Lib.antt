@@ -12,3 +12,4 @@ pub mod BudgetLaws
 pub mod ExamplePrograms
 pub mod ExampleRuns
 pub mod ExampleTypings
+pub mod ExampleSchemes
