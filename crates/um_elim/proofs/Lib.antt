@@ -1,0 +1,6 @@
+pub mod Cases
+pub mod Shear
+pub mod PivotLaws
+pub mod TurnLaws
+pub mod EndLaws
+pub mod MostGeneral

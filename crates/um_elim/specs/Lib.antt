@@ -1,0 +1,4 @@
+pub mod Pivot
+pub mod Turn
+pub mod Elimination
+pub mod Instances
