@@ -4,3 +4,5 @@ pub mod PivotLaws
 pub mod TurnLaws
 pub mod EndLaws
 pub mod MostGeneral
+pub mod Rows
+mod Examples

@@ -33,7 +33,7 @@ IsSound old r NoSolution = (s : ℕ → PowerMap) → replace s r ≡ one → �
 IsSound old r Range = Unit {0}
 
 -- s after t
-pub after : (ℕ → PowerMap) → (ℕ → PowerMap) → ℕ → PowerMap
+abbrev pub after : (ℕ → PowerMap) → (ℕ → PowerMap) → ℕ → PowerMap
 after s t k = replace s (t k)
 
 map-after : (s t : ℕ → PowerMap) (us : List PowerMap) → map (replace s) (map (replace t) us) ≡ map (replace (after s t)) us

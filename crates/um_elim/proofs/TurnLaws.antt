@@ -26,7 +26,7 @@ use Rattle.um_elim.proofs.PivotLaws.{IsPivot, no_pivot, is_pivot, some_other}
 
 -- ---- the powers of the quotients
 -- each power changed by g, which keeps 0
-change : (Atom → ℤ → ℤ) → Term → Term
+abbrev change : (Atom → ℤ → ℤ) → Term → Term
 change g t = record { atom = t.atom; power = g t.atom t.power }
 
 power_in-change : (g : Atom → ℤ → ℤ) → ((x : Atom) → g x (pos 0) ≡ pos 0) → (ts : List Term) → IsTrue (is_normal ts) → (x : Atom) → power_in (map (change g) ts) x ≡ g x (power_in ts x)
@@ -46,7 +46,7 @@ power_in-change g z (t ∷ ts) h x =
     tail_only : (a b : ℤ) → a *ℤ pos 0 +ℤ b ≡ b
     tail_only a b = omega (arith, ints)
 
-less : ℕ → ℕ → Atom → ℤ → ℤ
+abbrev less : ℕ → ℕ → Atom → ℤ → ℤ
 less m p y a = cond (same_atom (Var m) y) (pos 0) (neg_ℤ (int_div_euclid a (pos p)))
 
 less-zero : (m p : ℕ) (y : Atom) → less m p y (pos 0) ≡ pos 0
@@ -68,7 +68,7 @@ pub power_of-turn_pivot : (m p : ℕ) (r : PowerMap) → power_of (replace (turn
 power_of-turn_pivot m p r = power_of-multiply_same m (quotients m p r) r (power_of-quotients_pivot m p r)
 
 -- each other power is what its division by the pivot's leaves
-pub IsRemainder : ℕ → ℤ → Type 0
+abbrev pub IsRemainder : ℕ → ℤ → Type 0
 IsRemainder p a = (c : ℕ) × (a ≡ pos c) × (c < p)
 
 pub power_of-turn_other : (m p : ℕ) (r : PowerMap) → 0 < p → power_of r (Var m) ≡ pos p → (y : Atom) → same_atom (Var m) y ≡ false → IsRemainder p (power_of (replace (turn m p r) r) y)
@@ -98,7 +98,7 @@ least_power-falls m p r small o =
         omega (arith, a, b, l)
 
 -- ---- the inverse of a turn
-pub turn_back : ℕ → ℕ → PowerMap → ℕ → PowerMap
+abbrev pub turn_back : ℕ → ℕ → PowerMap → ℕ → PowerMap
 turn_back m p r = multiply m (inv (quotients m p r))
 
 pub turned_back : (m p : ℕ) (r u : PowerMap) → replace (turn_back m p r) (replace (turn m p r) u) ≡ u
