@@ -1,19 +1,17 @@
 -- The end of a row, where no variable but the pivot is left in it: no solution where a base unit is left, since its
 -- power lies between 0 and the pivot's, and else the pivot is 1.
-use Rattle.std.proofs.Common.{◌≡◌, ◌≢◌, ℕ, zero, suc, ◌<◌, true, false, Bool, List, map, ℤ, pos, ◌+ℤ◌, ◌*ℤ◌, refl, sym, ap, ◌∙◌, arith}
-use Rattle.std.specs.Prelude.{IsTrue, ◌==◌}
+use Rattle.std.proofs.Common.{◌≡◌, ◌≢◌, ℕ, ◌<◌, true, false, ℤ, pos, ◌+ℤ◌, ◌*ℤ◌, refl, sym, ap, ◌∙◌, arith}
+use Rattle.std.specs.Prelude.{◌==◌}
 use Rattle.std.proofs.lemmas.Int.{ints}
-use Rattle.std.proofs.lemmas.Bool.{eqb-true, eq-eqb, cases_Bool, ne_eqb, eqb-false}
+use Rattle.std.proofs.lemmas.Bool.{eqb-true, eq-eqb, ne_eqb, eqb-false}
 use Rattle.std.proofs.Math.IntN.{*ℤ-zero, +ℤ_comm}
 use Rattle.um_units.specs.declared.Atom.{Atom}
 use Rattle.um_units.specs.declared.Atom.TheVariants.{Base, Var}
-use Rattle.um_units.specs.Atoms.{same_atom}
-use Rattle.um_units.specs.Terms.{indicator, weigh}
-use Rattle.um_units.specs.NormalForm.{same_atom-eq, same_atom_refl}
-use Rattle.um_units.specs.PowerMap.{PowerMap, power_of, one, atom, mul, pow, image, replace}
+use Rattle.um_units.specs.Terms.{indicator}
+use Rattle.um_units.specs.PowerMap.{PowerMap, power_of, one, atom, pow, image, replace}
 use Rattle.um_units.proofs.Integers.{no_multiple, pos-*ℤ-zero}
 use Rattle.um_units.proofs.Equality.{same_unit}
-use Rattle.um_units.proofs.Group.{weight-one, weight-atom, weight-pow, power_of-atom, power_of-other_atom, one-pow}
+use Rattle.um_units.proofs.Group.{weight-one, weight-atom, weight-pow, one-pow}
 use Rattle.um_units.proofs.Replacement.{weight-replace, weight_held, replace-one, replace-pow, replace-variable}
 use Rattle.um_elim.specs.Pivot.{has_other, has_base}
 use Rattle.um_elim.specs.Turn.{substitute}

@@ -6,3 +6,8 @@ pub mod EndLaws
 pub mod MostGeneral
 pub mod Rows
 mod Examples
+pub mod InRange
+mod Changes
+mod TurnSteps
+pub mod Slots
+mod Added

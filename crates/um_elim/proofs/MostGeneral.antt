@@ -1,7 +1,6 @@
 -- The turns give the most general solution of a unit: what is right after a turn is right before it.
 -- Source: Kennedy (1996), on unification in the free abelian group.
-use Rattle.std.proofs.Common.{◌≡◌, ◌≢◌, ℕ, zero, suc, ◌<◌, ◌≤◌, true, false, cond, ◌&&◌, Option, Some, None, List, [], ◌∷◌, map, ℤ, pos, nat_abs, refl, sym, ap, ◌∙◌, subst, arith}
-use Rattle.std.specs.Prelude.{IsTrue, ◌==◌}
+use Rattle.std.proofs.Common.{◌≡◌, ℕ, zero, suc, ◌<◌, ◌≤◌, true, false, ◌&&◌, Option, Some, None, List, [], ◌∷◌, map, ℤ, pos, nat_abs, refl, sym, ap, ◌∙◌, arith}
 use Rattle.std.specs.List.{list_all}
 use Rattle.um_units.specs.declared.Atom.{Atom}
 use Rattle.um_units.specs.declared.Atom.TheVariants.{Base, Var}
@@ -18,7 +17,7 @@ use Rattle.um_elim.specs.Pivot.{pivot, size, least_power, has_other, has_base}
 use Rattle.um_elim.specs.Turn.{substitute, turn, upright}
 use Rattle.um_elim.specs.Elimination.{Outcome, Solved, NoSolution, Range, is_empty, ended, after_turn, turn_at, turns}
 use Rattle.um_elim.proofs.Cases.{on_test}
-use Rattle.um_elim.proofs.PivotLaws.{IsPivot, is_pivot, no_pivot}
+use Rattle.um_elim.proofs.PivotLaws.{is_pivot, no_pivot}
 use Rattle.um_elim.proofs.TurnLaws.{IsRemainder, power_of-turn_pivot, power_of-turn_other, least_power-falls, turn_back, turned_back, upright_pivot, upright_solved, upright_solves, positive_size}
 use Rattle.um_elim.proofs.EndLaws.{unsolvable_end, pivot_is_one, one_solves, after_one, one_for_pivot}
 

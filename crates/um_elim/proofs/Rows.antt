@@ -1,22 +1,20 @@
 -- Rows: the elimination of a row keeps exactly those instances that satisfy it, and row after row the instances are
 -- exactly the joint solutions.
 -- Source: Kennedy (1996), on unification in the free abelian group.
-use Rattle.std.proofs.Common.{◌≡◌, ◌≢◌, ◌↔◌, ℕ, zero, suc, ◌<◌, ◌≤◌, true, false, ◌&&◌, Option, Some, None, List, [], ◌∷◌, ◌++◌, map, length, ℤ, pos, nat_abs, refl, sym, ap, ◌∙◌, subst, arith}
-use Rattle.std.specs.Prelude.{IsTrue, ◌==◌, All}
+use Rattle.std.proofs.Common.{◌≡◌, ℕ, zero, suc, ◌<◌, true, ◌&&◌, Option, Some, None, List, [], ◌∷◌, ◌++◌, map, length, pos, nat_abs, refl, sym, ◌∙◌, subst, arith}
 use Rattle.std.specs.List.{list_all}
-use Rattle.std.proofs.lemmas.List.{length-map}
-use Rattle.std.proofs.lemmas.List.Elements.{All-nil, All-cons, All-head, All-tail}
+use Rattle.std.proofs.lemmas.List.Elements.{All-nil, All-cons, All-head}
 use Rattle.um_units.specs.declared.Atom.TheVariants.{Var}
-use Rattle.um_units.specs.PowerMap.{PowerMap, power_of, one, atom, replace, nth}
+use Rattle.um_units.specs.PowerMap.{PowerMap, power_of, one, replace, nth}
 use Rattle.um_units.specs.Range.{fits}
 use Rattle.um_units.specs.Variables.{VariablesBelow}
-use Rattle.um_units.specs.Solutions.{Solves, IsInstance, IsJointSolution, IsSolvable}
+use Rattle.um_units.specs.Solutions.{Solves, IsSolvable}
 use Rattle.um_units.proofs.Replacement.{replace-nth_map}
 use Rattle.um_units.proofs.Solutions.{IsJointSolution-append, IsJointSolution-front, Solves-back, length-instance, IsInstance_refl}
 use Rattle.um_elim.specs.declared.pivot.Pivot.{Pivot}
 use Rattle.um_elim.specs.Pivot.{pivot, size, least_power, has_other}
 use Rattle.um_elim.specs.Turn.{turn, upright}
-use Rattle.um_elim.specs.Elimination.{Outcome, Solved, NoSolution, Range, ended, after_turn, turn_at, turns, eliminate}
+use Rattle.um_elim.specs.Elimination.{Outcome, Solved, NoSolution, Range, after_turn, turn_at, turns, eliminate}
 use Rattle.um_elim.specs.Instances.{Satisfies, IsMostGeneral, IsUnsatisfiable, IsRight, SolvesExactly}
 use Rattle.um_elim.proofs.Cases.{on_test}
 use Rattle.um_elim.proofs.PivotLaws.{is_pivot}

@@ -1,20 +1,18 @@
 -- The substitution of x times w for x: each power becomes itself plus x's power times w's, and where x does not stand
 -- in w the substitution of x times the inverse of w undoes it.
-use Rattle.std.proofs.Common.{◌≡◌, ℕ, true, false, List, [], ◌∷◌, map, ℤ, pos, negsuc, ◌+ℤ◌, ◌*ℤ◌, neg_ℤ, refl, sym, ap, ◌∙◌, arith, nat_eq}
-use Rattle.std.specs.Prelude.{IsTrue, ◌==◌}
+use Rattle.std.proofs.Common.{◌≡◌, ℕ, List, [], ◌∷◌, ℤ, pos, ◌+ℤ◌, ◌*ℤ◌, sym, ap, ◌∙◌, arith}
+use Rattle.std.specs.Prelude.{◌==◌}
 use Rattle.std.proofs.lemmas.Int.{ints}
 use Rattle.std.proofs.lemmas.Bool.{eqb-true}
 use Rattle.std.proofs.Math.IntN.{*ℤ-zero, +ℤ_idr}
 use Rattle.um_units.specs.declared.Atom.{Atom}
 use Rattle.um_units.specs.declared.Atom.TheVariants.{Base, Var}
 use Rattle.um_units.specs.declared.Term.{Term}
-use Rattle.um_units.specs.Atoms.{same_atom}
-use Rattle.um_units.specs.Terms.{indicator, weigh, power_in, is_normal}
-use Rattle.um_units.specs.NormalForm.{same_atom-eq, head_before_all, tail_normal}
+use Rattle.um_units.specs.Terms.{indicator, weigh}
 use Rattle.um_units.specs.PowerMap.{PowerMap, power_of, one, atom, mul, inv, pow, image, replace}
 use Rattle.um_units.proofs.Integers.{*ℤ-+ℤ, +ℤ-*ℤ, *ℤ_assoc, *ℤ-neg_ℤ}
 use Rattle.um_units.proofs.Weights.{weigh_alike}
-use Rattle.um_units.proofs.Equality.{same_unit, power_in-head, power_in-tail, power_in-before_all}
+use Rattle.um_units.proofs.Equality.{same_unit}
 use Rattle.um_units.proofs.Group.{weight-atom, weight-mul, weight-inv, weight-pow, mul-inv}
 use Rattle.um_units.proofs.Replacement.{weight-replace}
 use Rattle.um_elim.specs.Turn.{substitute, multiply}

@@ -1,28 +1,27 @@
 -- One turn: the pivot keeps its power, each other power becomes a remainder below it, so that the least power falls, and
 -- the turn is an invertible change of variables.
-use Rattle.std.proofs.Common.{◌≡◌, ◌≢◌, ℕ, zero, suc, ◌<◌, ◌≤◌, true, false, cond, Option, Some, None, List, [], ◌∷◌, map, ℤ, pos, negsuc, ◌+ℤ◌, ◌*ℤ◌, neg_ℤ, nat_abs, refl, sym, ap, ◌∙◌, subst, arith}
-use Rattle.std.specs.Prelude.{IsTrue, ◌==◌}
-use Rattle.std.specs.Int.{int_div_euclid, int_rem_euclid}
+use Rattle.std.proofs.Common.{◌≡◌, ◌≢◌, ℕ, zero, suc, ◌<◌, true, false, cond, Option, Some, None, List, [], ◌∷◌, map, ℤ, pos, negsuc, ◌+ℤ◌, ◌*ℤ◌, neg_ℤ, nat_abs, refl, sym, ap, ◌∙◌, arith}
+use Rattle.std.specs.Prelude.{IsTrue}
+use Rattle.std.specs.Int.{int_div_euclid}
 use Rattle.std.proofs.lemmas.Int.{ints}
-use Rattle.std.proofs.lemmas.Bool.{eq-eqb}
 use Rattle.um_units.specs.declared.Atom.{Atom}
-use Rattle.um_units.specs.declared.Atom.TheVariants.{Base, Var}
+use Rattle.um_units.specs.declared.Atom.TheVariants.{Var}
 use Rattle.um_units.specs.declared.Term.{Term}
 use Rattle.um_units.specs.Atoms.{same_atom}
 use Rattle.um_units.specs.Terms.{indicator, power_in, is_normal}
 use Rattle.um_units.specs.NormalForm.{same_atom-eq, same_atom_refl, head_before_all, tail_normal}
-use Rattle.um_units.specs.PowerMap.{PowerMap, power_of, one, mul, inv, pow, replace}
+use Rattle.um_units.specs.PowerMap.{PowerMap, power_of, one, inv, replace}
 use Rattle.um_units.proofs.Integers.{div_euclid-zero, less_floor_is, rem_euclid-below}
 use Rattle.um_units.proofs.Weights.{weigh-product}
-use Rattle.um_units.proofs.Equality.{power_in-head, power_in-tail, power_in-before_all}
+use Rattle.um_units.proofs.Equality.{power_in-before_all}
 use Rattle.um_units.proofs.Group.{weight-inv, inv-one, inv-inv}
-use Rattle.um_units.proofs.Replacement.{replace-inv, replace-replace}
+use Rattle.um_units.proofs.Replacement.{replace-inv}
 use Rattle.um_elim.specs.declared.pivot.Pivot.{Pivot}
 use Rattle.um_elim.specs.Pivot.{pivot, size, least_power, has_other}
-use Rattle.um_elim.specs.Turn.{less_quotient, quotients, multiply, turn, upright}
+use Rattle.um_elim.specs.Turn.{quotients, multiply, turn, upright}
 use Rattle.um_elim.proofs.Cases.{on_test}
 use Rattle.um_elim.proofs.Shear.{power_of-multiply, power_of-multiply_same, multiply_back}
-use Rattle.um_elim.proofs.PivotLaws.{IsPivot, no_pivot, is_pivot, some_other}
+use Rattle.um_elim.proofs.PivotLaws.{no_pivot, is_pivot, some_other}
 
 -- ---- the powers of the quotients
 -- each power changed by g, which keeps 0

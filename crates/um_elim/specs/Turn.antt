@@ -4,8 +4,7 @@
 use Rattle.std.specs.Prelude.{ℕ, ◌==◌, if◌then◌else◌, map, ℤ, pos, negsuc}
 use Rattle.std.proofs.Common.{neg_ℤ}
 use Rattle.std.specs.Int.{int_div_euclid}
-use Rattle.um_units.specs.declared.Atom.{Atom}
-use Rattle.um_units.specs.declared.Atom.TheVariants.{Base, Var}
+use Rattle.um_units.specs.declared.Atom.TheVariants.{Var}
 use Rattle.um_units.specs.declared.Term.{Term}
 use Rattle.um_units.specs.Atoms.{same_atom}
 use Rattle.um_units.specs.PowerMap.{PowerMap, product, atom, mul, inv}
