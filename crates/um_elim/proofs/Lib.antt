@@ -1,0 +1,13 @@
+pub mod Cases
+pub mod Shear
+pub mod PivotLaws
+pub mod TurnLaws
+pub mod EndLaws
+pub mod MostGeneral
+pub mod Rows
+mod Examples
+pub mod InRange
+mod Changes
+mod TurnSteps
+pub mod Slots
+mod Added

@@ -1,0 +1,13 @@
+use Rattle.std.proofs.Common.{◌≡◌, suc, length}
+use Rattle.um_elim.specs.Pivot.{least_power}
+use Rattle.um_elim.specs.Elimination.{turns, eliminate}
+use Rattle.um_elim.proofs.solver.eliminate_row.Given as goal
+
+abbrev pub invariant-loop-r : goal.invariant-loop-r
+invariant-loop-r l = record {
+  same : turns (suc (least_power l.r)) l.units.items l.r ≡ eliminate l.initial.units.items l.row;
+  slots : length l.units.items ≡ length l.initial.units.items;
+}
+
+abbrev pub decreases-loop-r : goal.decreases-loop-r
+decreases-loop-r l = least_power l.r

@@ -1,0 +1,9 @@
+pub mod Pivot
+pub mod Turn
+pub mod Elimination
+pub mod Instances
+pub mod Stops
+pub mod Steps
+pub mod Solution
+pub mod Adding
+pub mod Application

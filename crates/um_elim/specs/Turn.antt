@@ -1,0 +1,35 @@
+-- One turn of the elimination: the substitution that brings each other power of a unit below the pivot's.
+-- Source: Kennedy (1996), on unification in the free abelian group: x is replaced by x times the product over the
+-- other atoms y of y to the power of the negated quotient, rounded down, of y's power and x's.
+use Rattle.std.specs.Prelude.{ℕ, ◌==◌, if◌then◌else◌, map, ℤ, pos, negsuc}
+use Rattle.std.proofs.Common.{neg_ℤ}
+use Rattle.std.specs.Int.{int_div_euclid}
+use Rattle.um_units.specs.declared.Atom.TheVariants.{Var}
+use Rattle.um_units.specs.declared.Term.{Term}
+use Rattle.um_units.specs.Atoms.{same_atom}
+use Rattle.um_units.specs.PowerMap.{PowerMap, product, atom, mul, inv}
+
+-- w for variable m, and each other variable for itself
+abbrev pub substitute : ℕ → PowerMap → ℕ → PowerMap
+substitute m w k = if m == k then w else atom (Var k)
+
+-- variable m times w for variable m
+abbrev pub multiply : ℕ → PowerMap → ℕ → PowerMap
+multiply m w = substitute m (mul (atom (Var m)) w)
+
+-- y^(-floor(a/p)) for the term y^a, and power 0 for variable m itself
+abbrev pub less_quotient : ℕ → ℕ → Term → Term
+less_quotient m p t = record { atom = t.atom; power = if same_atom (Var m) t.atom then pos 0 else neg_ℤ (int_div_euclid t.power (pos p)) }
+
+-- the product over the atoms y of r other than variable m of y^(-floor(a/p)), where a is the power of y in r
+abbrev pub quotients : ℕ → ℕ → PowerMap → PowerMap
+quotients m p r = product (map (less_quotient m p) r.terms)
+
+-- the turn at variable m, whose power in r is p
+abbrev pub turn : ℕ → ℕ → PowerMap → ℕ → PowerMap
+turn m p r = multiply m (quotients m p r)
+
+-- inverted where the power is negative
+abbrev pub upright : ℤ → PowerMap → PowerMap
+upright (pos n) r = r
+upright (negsuc n) r = inv r
