@@ -21,7 +21,7 @@ whole n low = record {
   den_fits = omega (arith, ints);
   above = omega (arith, ints);
   num_fits = omega (arith, ints, low);
-  lowest = gcd-one n
+  lowest = gcd-one n;
 }
 
 abbrev pub zero_number : Frac
@@ -69,8 +69,8 @@ zeros = with_functions (plain [] (number 0 zero_number Hole) ∷ plain [] (arith
 -- let rec f (n: num) (x: num<_>) : num<_> = if n < 1 then x else f (n - 1) (x * x)
 abbrev pub squares : ProgramTree
 squares = with_functions (rec_function (num_note (Written one) ∷ num_note Hole ∷ []) (num_note Hole) (if 0 (compare 0 Lt (local 0 0) (number 0 one_number (Written one)))
-  (local 0 1)
-  (call 0 0 (more (arith_tree 0 Sub (local 0 0) (number 0 one_number (Written one))) (more (arith_tree 0 Mul (local 0 1) (local 0 1)) none)))) ∷ [])
+    (local 0 1)
+    (call 0 0 (more (arith_tree 0 Sub (local 0 0) (number 0 one_number (Written one))) (more (arith_tree 0 Mul (local 0 1) (local 0 1)) none)))) ∷ [])
 
 -- let rec sum (l: num<_> list) : num<_> = match l with [] -> 0<_> | x :: r -> x + sum r
 abbrev pub sum : ProgramTree
@@ -83,9 +83,9 @@ newton = mul (mul kilogram metre) (inv (mul second second))
 -- let weight (k: num<kg>) = k * 9<m/s^2>, let push (f: num<N>) = f, let lift (k: num<kg>) = push (weight k)
 abbrev pub weights : ProgramTree
 weights = with_functions (plain (num_note (Written kilogram) ∷ []) (arith_tree 0 Mul (local 0 0) (number 0 (whole 9 (omega arith)) (Written (mul metre (inv (mul second second))))))
-  ∷ plain (num_note (Written newton) ∷ []) (local 0 0)
-  ∷ plain (num_note (Written kilogram) ∷ []) (call 0 1 (more (call 0 0 (more (local 0 0) none)) none))
-  ∷ [])
+    ∷ plain (num_note (Written newton) ∷ []) (local 0 0)
+    ∷ plain (num_note (Written kilogram) ∷ []) (call 0 1 (more (call 0 0 (more (local 0 0) none)) none))
+    ∷ [])
 
 -- type V<[<Measure>] 'u> = { x: num }
 abbrev pub marked : RecordTree

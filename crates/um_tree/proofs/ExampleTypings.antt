@@ -42,7 +42,7 @@ metres_typed = record {
   choice = λ k. one;
   params = (num_type metre, num_type metre ∷ [], (metre, sym (replace-base _ 0), refl), (num_type metre, [], (metre, sym (replace-base _ 0), refl), refl, refl), refl);
   result = tt;
-  body = (metre, metre, mul metre metre, refl, refl, refl, refl)
+  body = (metre, metre, mul metre metre, refl, refl, refl, refl);
 }
 
 seconds_refused : (t : TypeTree) → Typing area_of_metres 0 (signature (num_type metre ∷ num_type second ∷ []) t) → ⊥
@@ -58,7 +58,7 @@ area_typed u v = record {
   choice = λ k. one;
   params = (num_type u, num_type v ∷ [], (u, tt, refl), (num_type v, [], (v, tt, refl), refl, refl), refl);
   result = tt;
-  body = (u, v, mul u v, refl, refl, refl, refl)
+  body = (u, v, mul u v, refl, refl, refl, refl);
 }
 
 two_holes : (choice : ℕ → PowerMap) (ts : List TypeTree) → TypesMatch choice (num_note Hole ∷ num_note Hole ∷ []) ts → (u : PowerMap) × ((v : PowerMap) × (ts ≡ num_type u ∷ num_type v ∷ []))
@@ -148,7 +148,7 @@ squares_typed = record {
       ),
       inr (refl, record { recursive = refl; noted = refl }, refl),
     ),
-  )
+  );
 }
 
 -- ---- let rec sum (l: num<_> list) : num<_> = match l with [] -> 0<_> | x :: r -> x + sum r
@@ -162,7 +162,7 @@ sum_typed u = record {
     refl,
     (u, refl, refl),
     (u, u, u, refl, (list_type (num_type u) ∷ [], (list_type (num_type u), [], refl, refl, refl), inr (refl, record { recursive = refl; noted = refl }, refl)), (refl, refl), refl),
-  )
+  );
 }
 
 pub same_item : (s t : TypeTree) → list_type s ≡ list_type t → s ≡ t
@@ -216,7 +216,7 @@ weight_typed = record {
   choice = λ k. one;
   params = (num_type kilogram, [], (kilogram, sym (replace-base _ 2), refl), refl, refl);
   result = tt;
-  body = (kilogram, gravity, newton, refl, (gravity, sym (closed_gravity _), refl), mul_assoc kilogram metre (inv (mul second second)), refl)
+  body = (kilogram, gravity, newton, refl, (gravity, sym (closed_gravity _), refl), mul_assoc kilogram metre (inv (mul second second)), refl);
 }
 
 push_typed : Typing weights 1 (signature (num_type newton ∷ []) (num_type newton))
@@ -231,7 +231,7 @@ lift_typed = record {
     num_type newton ∷ [],
     (num_type newton, [], (num_type kilogram ∷ [], (num_type kilogram, [], refl, refl, refl), inl (omega arith, weight_typed)), refl, refl),
     inl (omega arith, push_typed),
-  )
+  );
 }
 
 one_param : (u v : PowerMap) (s : TypeTree) (rest : List TypeTree) → num_type u ∷ [] ≡ s ∷ rest → s ≡ num_type v → u ≡ v
@@ -250,7 +250,7 @@ make_typed u = record {
   choice = λ k. one;
   params = refl;
   result = tt;
-  body = (u ∷ [], marked, record { declared = refl; units = refl }, (num_type one, [], (one, sym (replace-one _), refl), refl, ap (λ v. num_type v ∷ []) (replace-one _)), refl)
+  body = (u ∷ [], marked, record { declared = refl; units = refl }, (num_type one, [], (one, sym (replace-one _), refl), refl, ap (λ v. num_type v ∷ []) (replace-one _)), refl);
 }
 
 -- a record has as many units as are declared

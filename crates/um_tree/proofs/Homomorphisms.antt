@@ -27,8 +27,8 @@ product-◌∷◌ : (t : Term) (ts : List Term) → product (t ∷ ts) ≡ mul (
 product-◌∷◌ t ts =
     same_unit _ _ (λ x. weigh-product (indicator x) (t ∷ ts)
     ∙ sym (weight-mul (indicator x) (pow (atom t.atom) t.power) (product ts)
-      ∙ ap (λ n. n +ℤ weight (indicator x) (product ts)) (weight-pow (indicator x) (atom t.atom) t.power ∙ ap (λ n. t.power *ℤ n) (weight-atom (indicator x) t.atom))
-      ∙ ap (λ n. t.power *ℤ indicator x t.atom +ℤ n) (weigh-product (indicator x) ts)))
+    ∙ ap (λ n. n +ℤ weight (indicator x) (product ts)) (weight-pow (indicator x) (atom t.atom) t.power ∙ ap (λ n. t.power *ℤ n) (weight-atom (indicator x) t.atom))
+    ∙ ap (λ n. t.power *ℤ indicator x t.atom +ℤ n) (weigh-product (indicator x) ts)))
 
 module _ (h : PowerMap → PowerMap) (h-mul : IsHomomorphism h) where
   pub h-one : h one ≡ one

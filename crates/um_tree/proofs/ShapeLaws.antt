@@ -79,7 +79,7 @@ module _ (records : List RecordTree) (earlier : Earlier) (shapes : EarlierShapes
   shape_of f g m = record {
     params = shapes-match m.choice f.params g.params m.params;
     result = result-shape m.choice f.result g.result m.result;
-    body = has_shape records (Calls earlier i f g) (CallShapes shapes i f (signature_shape g)) (call_shapes f g) m.choice g.params f.body g.result m.body
+    body = has_shape records (Calls earlier i f g) (CallShapes shapes i f (signature_shape g)) (call_shapes f g) m.choice g.params f.body g.result m.body;
   }
 
   shape_at : (o : Option FunctionTree) (g : Signature) → TypingAt records earlier i o g → ShapeAt records shapes i o (signature_shape g)
