@@ -1,14 +1,14 @@
 -- Small programs, on which the definitions are tried.
-use Rattle.std.proofs.Common.{◌≡◌, refl, ℕ, ◌≤◌, true, false, List, [], ◌∷◌, ℤ, pos, negsuc, Option, Some, None, arith}
+use Rattle.std.proofs.Common.{ℕ, ◌≤◌, true, false, List, [], ◌∷◌, pos, Some, None, arith}
 use Rattle.std.proofs.lemmas.Int.{ints}
-use Rattle.um_units.specs.declared.Atom.TheVariants.{Base, Var}
+use Rattle.um_units.specs.declared.Atom.TheVariants.{Base}
 use Rattle.um_units.specs.PowerMap.{PowerMap, one, atom, mul, inv}
 use Rattle.um_frac.specs.declared.number.Frac.{Frac}
 use Rattle.um_frac.proofs.Gcd.{gcd-one}
 use Rattle.um_tree.specs.declared.note.UnitNote.TheVariants.{Hole, Written}
-use Rattle.um_tree.specs.declared.expression.Arith.TheVariants.{Add, Sub, Mul, Div}
+use Rattle.um_tree.specs.declared.expression.Arith.TheVariants.{Add, Sub, Mul}
 use Rattle.um_tree.specs.declared.expression.Sign.TheVariants.{Lt}
-use Rattle.um_tree.specs.TypeTree.{TypeTree, bool_type, num_type, list_type, record_type, NoteTree, bool_note, num_note, list_note, record_note}
+use Rattle.um_tree.specs.TypeTree.{num_type, NoteTree, bool_note, num_note, list_note, record_note}
 use Rattle.um_tree.specs.ExprTree.{ExprTree, number, local, call, arith as arith_tree, compare, if, split, record_text, none, more}
 use Rattle.um_tree.specs.ProgramTree.{RecordTree, FunctionTree, ProgramTree}
 
@@ -21,7 +21,7 @@ whole n low = record {
   den_fits = omega (arith, ints);
   above = omega (arith, ints);
   num_fits = omega (arith, ints, low);
-  lowest = gcd-one n
+  lowest = gcd-one n;
 }
 
 abbrev pub zero_number : Frac
@@ -69,8 +69,8 @@ zeros = with_functions (plain [] (number 0 zero_number Hole) ∷ plain [] (arith
 -- let rec f (n: num) (x: num<_>) : num<_> = if n < 1 then x else f (n - 1) (x * x)
 abbrev pub squares : ProgramTree
 squares = with_functions (rec_function (num_note (Written one) ∷ num_note Hole ∷ []) (num_note Hole) (if 0 (compare 0 Lt (local 0 0) (number 0 one_number (Written one)))
-  (local 0 1)
-  (call 0 0 (more (arith_tree 0 Sub (local 0 0) (number 0 one_number (Written one))) (more (arith_tree 0 Mul (local 0 1) (local 0 1)) none)))) ∷ [])
+    (local 0 1)
+    (call 0 0 (more (arith_tree 0 Sub (local 0 0) (number 0 one_number (Written one))) (more (arith_tree 0 Mul (local 0 1) (local 0 1)) none)))) ∷ [])
 
 -- let rec sum (l: num<_> list) : num<_> = match l with [] -> 0<_> | x :: r -> x + sum r
 abbrev pub sum : ProgramTree
@@ -83,9 +83,9 @@ newton = mul (mul kilogram metre) (inv (mul second second))
 -- let weight (k: num<kg>) = k * 9<m/s^2>, let push (f: num<N>) = f, let lift (k: num<kg>) = push (weight k)
 abbrev pub weights : ProgramTree
 weights = with_functions (plain (num_note (Written kilogram) ∷ []) (arith_tree 0 Mul (local 0 0) (number 0 (whole 9 (omega arith)) (Written (mul metre (inv (mul second second))))))
-  ∷ plain (num_note (Written newton) ∷ []) (local 0 0)
-  ∷ plain (num_note (Written kilogram) ∷ []) (call 0 1 (more (call 0 0 (more (local 0 0) none)) none))
-  ∷ [])
+    ∷ plain (num_note (Written newton) ∷ []) (local 0 0)
+    ∷ plain (num_note (Written kilogram) ∷ []) (call 0 1 (more (call 0 0 (more (local 0 0) none)) none))
+    ∷ [])
 
 -- type V<[<Measure>] 'u> = { x: num }
 abbrev pub marked : RecordTree

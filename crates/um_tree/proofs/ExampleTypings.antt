@@ -1,15 +1,14 @@
 -- Typings of small programs: each has the scheme that is expected, and an instance of another is refused.
-use Rattle.std.proofs.Common.{◌≡◌, ◌↔◌, refl, sym, ap, subst, ◌∙◌, inl, inr, ℕ, zero, suc, true, false, List, [], ◌∷◌, ℤ, pos, negsuc, Option, Some, None, slice_get, length, arith}
-use Rattle.std.proofs.lemmas.Int.{ints}
+use Rattle.std.proofs.Common.{◌≡◌, refl, sym, ap, subst, ◌∙◌, inl, inr, ℕ, zero, suc, List, [], ◌∷◌, pos, negsuc, Some, slice_get, length, arith}
 use Rattle.um_units.specs.declared.Atom.{Atom}
 use Rattle.um_units.specs.declared.Atom.TheVariants.{Base, Var}
 use Rattle.um_units.specs.PowerMap.{PowerMap, product, power_of, one, atom, mul, inv, replace}
 use Rattle.um_units.proofs.Group.{mul-one, mul_assoc}
 use Rattle.um_units.proofs.Replacement.{replace-one, replace-mul, replace-inv, replace-base, replace-variable}
 use Rattle.um_tree.specs.declared.note.UnitNote.TheVariants.{Hole, Written}
-use Rattle.um_tree.specs.TypeTree.{TypeTree, bool_type, num_type, list_type, record_type, NoteTree, num_note}
-use Rattle.um_tree.specs.ProgramTree.{Signature, SchemeTree, FunctionTree, ProgramTree}
-use Rattle.um_tree.specs.Typing.{put_signature, UnitsMatch, TypesMatch, MayRecur, IsRecordAt, Typing}
+use Rattle.um_tree.specs.TypeTree.{TypeTree, bool_type, num_type, list_type, record_type, num_note}
+use Rattle.um_tree.specs.ProgramTree.{Signature, SchemeTree}
+use Rattle.um_tree.specs.Typing.{put_signature, UnitsMatch, TypesMatch, Typing}
 use Rattle.um_tree.specs.Scheme.{IsPrincipal}
 use Rattle.um_tree.proofs.ExamplePrograms.{metre, second, kilogram, newton, marked, area_of_metres, area, identity, zeros, squares, sum, weights, make, pick}
 
@@ -42,7 +41,7 @@ metres_typed = record {
   choice = λ k. one;
   params = (num_type metre, num_type metre ∷ [], (metre, sym (replace-base _ 0), refl), (num_type metre, [], (metre, sym (replace-base _ 0), refl), refl, refl), refl);
   result = tt;
-  body = (metre, metre, mul metre metre, refl, refl, refl, refl)
+  body = (metre, metre, mul metre metre, refl, refl, refl, refl);
 }
 
 seconds_refused : (t : TypeTree) → Typing area_of_metres 0 (signature (num_type metre ∷ num_type second ∷ []) t) → ⊥
@@ -58,7 +57,7 @@ area_typed u v = record {
   choice = λ k. one;
   params = (num_type u, num_type v ∷ [], (u, tt, refl), (num_type v, [], (v, tt, refl), refl, refl), refl);
   result = tt;
-  body = (u, v, mul u v, refl, refl, refl, refl)
+  body = (u, v, mul u v, refl, refl, refl, refl);
 }
 
 two_holes : (choice : ℕ → PowerMap) (ts : List TypeTree) → TypesMatch choice (num_note Hole ∷ num_note Hole ∷ []) ts → (u : PowerMap) × ((v : PowerMap) × (ts ≡ num_type u ∷ num_type v ∷ []))
@@ -148,7 +147,7 @@ squares_typed = record {
       ),
       inr (refl, record { recursive = refl; noted = refl }, refl),
     ),
-  )
+  );
 }
 
 -- ---- let rec sum (l: num<_> list) : num<_> = match l with [] -> 0<_> | x :: r -> x + sum r
@@ -162,7 +161,7 @@ sum_typed u = record {
     refl,
     (u, refl, refl),
     (u, u, u, refl, (list_type (num_type u) ∷ [], (list_type (num_type u), [], refl, refl, refl), inr (refl, record { recursive = refl; noted = refl }, refl)), (refl, refl), refl),
-  )
+  );
 }
 
 pub same_item : (s t : TypeTree) → list_type s ≡ list_type t → s ≡ t
@@ -216,7 +215,7 @@ weight_typed = record {
   choice = λ k. one;
   params = (num_type kilogram, [], (kilogram, sym (replace-base _ 2), refl), refl, refl);
   result = tt;
-  body = (kilogram, gravity, newton, refl, (gravity, sym (closed_gravity _), refl), mul_assoc kilogram metre (inv (mul second second)), refl)
+  body = (kilogram, gravity, newton, refl, (gravity, sym (closed_gravity _), refl), mul_assoc kilogram metre (inv (mul second second)), refl);
 }
 
 push_typed : Typing weights 1 (signature (num_type newton ∷ []) (num_type newton))
@@ -231,7 +230,7 @@ lift_typed = record {
     num_type newton ∷ [],
     (num_type newton, [], (num_type kilogram ∷ [], (num_type kilogram, [], refl, refl, refl), inl (omega arith, weight_typed)), refl, refl),
     inl (omega arith, push_typed),
-  )
+  );
 }
 
 one_param : (u v : PowerMap) (s : TypeTree) (rest : List TypeTree) → num_type u ∷ [] ≡ s ∷ rest → s ≡ num_type v → u ≡ v
@@ -250,7 +249,7 @@ make_typed u = record {
   choice = λ k. one;
   params = refl;
   result = tt;
-  body = (u ∷ [], marked, record { declared = refl; units = refl }, (num_type one, [], (one, sym (replace-one _), refl), refl, ap (λ v. num_type v ∷ []) (replace-one _)), refl)
+  body = (u ∷ [], marked, record { declared = refl; units = refl }, (num_type one, [], (one, sym (replace-one _), refl), refl, ap (λ v. num_type v ∷ []) (replace-one _)), refl);
 }
 
 -- a record has as many units as are declared

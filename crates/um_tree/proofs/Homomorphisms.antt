@@ -1,6 +1,6 @@
 -- Homomorphisms of units: each is settled by what it gives for the atoms.
 -- Source: Kennedy (1997): units form the free abelian group on their atoms.
-use Rattle.std.proofs.Common.{◌≡◌, ◌≢◌, ℕ, zero, suc, List, [], ◌∷◌, ◌++◌, ℤ, pos, negsuc, ◌+ℤ◌, ◌*ℤ◌, refl, sym, ap, ◌∙◌, arith}
+use Rattle.std.proofs.Common.{◌≡◌, ◌≢◌, ℕ, zero, suc, List, [], ◌∷◌, ℤ, pos, negsuc, ◌+ℤ◌, ◌*ℤ◌, refl, sym, ap, ◌∙◌, arith}
 use Rattle.std.proofs.lemmas.Int.{ints}
 use Rattle.um_units.specs.declared.Atom.{Atom}
 use Rattle.um_units.specs.declared.Atom.TheVariants.{Base, Var}
@@ -9,7 +9,7 @@ use Rattle.um_units.specs.Terms.{weigh, indicator}
 use Rattle.um_units.specs.PowerMap.{PowerMap, product, weight, power_of, one, atom, mul, pow, inv, image, replace}
 use Rattle.um_units.proofs.Weights.{weigh-product, weigh_alike}
 use Rattle.um_units.proofs.Equality.{same_unit, product-of_terms}
-use Rattle.um_units.proofs.Group.{weight-one, weight-atom, weight-mul, weight-pow, mul-one, mul-inv, mul_cancel, pow-zero, pow-one, pow-+ℤ, pow-pow, power_of-one, power_of-mul, power_of-pow}
+use Rattle.um_units.proofs.Group.{weight-atom, weight-mul, weight-pow, mul-one, mul-inv, mul_cancel, pow-zero, pow-one, pow-+ℤ, pow-pow, power_of-one, power_of-mul, power_of-pow}
 use Rattle.um_units.proofs.Replacement.{weight-replace, power_of-replace, weight_held}
 use Rattle.um_tree.specs.Laws.{IsHomomorphism, Leaves}
 
@@ -27,8 +27,8 @@ product-◌∷◌ : (t : Term) (ts : List Term) → product (t ∷ ts) ≡ mul (
 product-◌∷◌ t ts =
     same_unit _ _ (λ x. weigh-product (indicator x) (t ∷ ts)
     ∙ sym (weight-mul (indicator x) (pow (atom t.atom) t.power) (product ts)
-      ∙ ap (λ n. n +ℤ weight (indicator x) (product ts)) (weight-pow (indicator x) (atom t.atom) t.power ∙ ap (λ n. t.power *ℤ n) (weight-atom (indicator x) t.atom))
-      ∙ ap (λ n. t.power *ℤ indicator x t.atom +ℤ n) (weigh-product (indicator x) ts)))
+    ∙ ap (λ n. n +ℤ weight (indicator x) (product ts)) (weight-pow (indicator x) (atom t.atom) t.power ∙ ap (λ n. t.power *ℤ n) (weight-atom (indicator x) t.atom))
+    ∙ ap (λ n. t.power *ℤ indicator x t.atom +ℤ n) (weigh-product (indicator x) ts)))
 
 module _ (h : PowerMap → PowerMap) (h-mul : IsHomomorphism h) where
   pub h-one : h one ≡ one

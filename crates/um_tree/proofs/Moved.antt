@@ -1,5 +1,5 @@
 -- A typing stays one where each unit is changed by a homomorphism that leaves what is written.
-use Rattle.std.proofs.Common.{◌≡◌, refl, sym, ap, subst, ◌∙◌, ℕ, zero, suc, ◌<◌, List, [], ◌∷◌, ◌++◌, map, length, get_or, Option, Some, None, slice_get, inl, inr, cond, nat_eq, true, false, arith}
+use Rattle.std.proofs.Common.{◌≡◌, refl, ap, subst, ◌∙◌, ℕ, zero, suc, List, [], ◌∷◌, ◌++◌, map, get_or, Option, Some, None, slice_get, inl, inr, cond, nat_eq, true, false, arith}
 use Rattle.std.specs.Prelude.{All}
 use Rattle.std.proofs.lemmas.List.{map-append, length-map}
 use Rattle.um_units.specs.PowerMap.{PowerMap, one, mul, inv, replace}
@@ -149,7 +149,7 @@ module _ (h : PowerMap → PowerMap) (h-mul : IsHomomorphism h) where
         choice = λ k. h (m.choice k);
         params = types_match m.choice f.params g.params w.params m.params;
         result = result_matches m.choice f.result g.result w.result m.result;
-        body = typed (Calls earlier i f g) (Calls earlier i f (moved_signature h g)) (calls_stay f g) m.choice g.params f.body g.result w.body m.body
+        body = typed (Calls earlier i f g) (Calls earlier i f (moved_signature h g)) (calls_stay f g) m.choice g.params f.body g.result w.body m.body;
       }
 
       pub typing_at : (o : Option FunctionTree) → ((f : FunctionTree) → o ≡ Some f → FunctionHas (Leaves h) f) → (g : Signature) → TypingAt records earlier i o g → TypingAt records earlier i o (moved_signature h g)

@@ -2,11 +2,11 @@
 use Rattle.std.proofs.Common.{◌≡◌, refl, sym, ap, subst, ◌∙◌, ℕ, zero, suc, List, [], ◌∷◌, ◌++◌, map, Option, Some, None, slice_get, inl, inr, cond, nat_eq, true, false}
 use Rattle.std.proofs.lemmas.List.{map-append}
 use Rattle.um_units.specs.PowerMap.{PowerMap}
-use Rattle.um_tree.specs.TypeTree.{TypeTree, bool_type, num_type, list_type, record_type, NoteTree, bool_note, num_note, list_note, record_note, ShapeTree, bool_shape, num_shape, list_shape, record_shape}
+use Rattle.um_tree.specs.TypeTree.{TypeTree, bool_type, num_type, list_type, record_type, NoteTree, bool_note, num_note, list_note, record_note, ShapeTree, list_shape}
 use Rattle.um_tree.specs.ExprTree.{ExprTree, ExprTrees, truth, number, local, call, negate, negation, arith as arith_tree, compare, both, either, if, bind, split, nil, list_text, cons, record_text, field, none, more}
 use Rattle.um_tree.specs.ProgramTree.{RecordTree, FunctionTree, ProgramTree, Signature}
-use Rattle.um_tree.specs.Typing.{put, unit_at, Matches, TypesMatch, ResultMatches, EachIs, field_types, IsRecordAt, Typed, AllTyped, Earlier, Calls, IsTypingOf, TypingAt, typings_below, Typing}
-use Rattle.um_tree.specs.Shapes.{type_shape, note_shape, ShapeSignature, EachShapeIs, HasShape, AllHaveShapes, EarlierShapes, CallShapes, ResultShape, IsShapeOf, ShapeAt, shapes_below, FunctionShape}
+use Rattle.um_tree.specs.Typing.{put, unit_at, Matches, TypesMatch, ResultMatches, EachIs, field_types, Typed, AllTyped, Earlier, Calls, IsTypingOf, TypingAt, typings_below}
+use Rattle.um_tree.specs.Shapes.{type_shape, note_shape, ShapeSignature, EachShapeIs, HasShape, AllHaveShapes, EarlierShapes, CallShapes, ResultShape, IsShapeOf, ShapeAt, shapes_below}
 use Rattle.um_tree.specs.Laws.{signature_shape, TypedHasShape, TypedExpressionHasShape}
 use Rattle.um_tree.proofs.Moved.{slice_get_moved}
 
@@ -79,7 +79,7 @@ module _ (records : List RecordTree) (earlier : Earlier) (shapes : EarlierShapes
   shape_of f g m = record {
     params = shapes-match m.choice f.params g.params m.params;
     result = result-shape m.choice f.result g.result m.result;
-    body = has_shape records (Calls earlier i f g) (CallShapes shapes i f (signature_shape g)) (call_shapes f g) m.choice g.params f.body g.result m.body
+    body = has_shape records (Calls earlier i f g) (CallShapes shapes i f (signature_shape g)) (call_shapes f g) m.choice g.params f.body g.result m.body;
   }
 
   shape_at : (o : Option FunctionTree) (g : Signature) → TypingAt records earlier i o g → ShapeAt records shapes i o (signature_shape g)

@@ -1,11 +1,10 @@
 -- Formed programs and formed inputs: what the reader of a text promises, and what each call above asks for.
 -- Source: this project's own rules and limits; names by Unicode Standard Annex 31.
-use Rattle.std.specs.Prelude.{◌≡◌, ◌≢◌, ◌<◌, ◌≤◌, ◌+◌, ◌==◌, ◌||◌, ◌⊎◌, ℕ, Bool, true, false, All, IsTrue, IsSome, pos, List, [], ◌∷◌, ◌++◌, length, map, codes, slice_get, Option, Some, None}
+use Rattle.std.specs.Prelude.{◌≡◌, ◌≢◌, ◌<◌, ◌≤◌, ◌+◌, ◌==◌, ◌||◌, ◌⊎◌, ℕ, Bool, true, All, IsTrue, IsSome, pos, List, [], ◌∷◌, ◌++◌, length, map, codes, slice_get, Option, Some, None}
 use Rattle.std.specs.Str.{encode_utf8_all}
 use Rattle.std.specs.List.{flat_map}
 use Rattle.unicode_ident.specs.Ident.{is_xid_start, is_xid_continue}
-use Rattle.um_units.specs.declared.Atom.{Atom}
-use Rattle.um_units.specs.declared.Atom.TheVariants.{Base, Var}
+use Rattle.um_units.specs.declared.Atom.TheVariants.{Base}
 use Rattle.um_units.specs.PowerMap.{PowerMap, power_of}
 use Rattle.um_units.specs.Variables.{IsClosed, VariablesBelow}
 use Rattle.um_frac.specs.declared.number.Frac.{Frac}
@@ -15,7 +14,7 @@ use Rattle.um_tree.specs.declared.note.UnitNote.TheVariants.{Hole, Written}
 use Rattle.um_tree.specs.TypeTree.{TypeTree, bool_type, num_type, list_type, record_type, NoteTree, bool_note, num_note, list_note, record_note}
 use Rattle.um_tree.specs.ExprTree.{ExprTree, ExprTrees, truth, number, local, call, negate, negation, arith, compare, both, either, if, bind, split, nil, list_text, cons, record_text, field, none, more}
 use Rattle.um_tree.specs.ValueTree.{InputTree, InputTrees, truth_input, number_input, list_input, record_input, no_inputs, more_inputs}
-use Rattle.um_tree.specs.ProgramTree.{FieldTree, RecordTree, FunctionTree, ProgramTree}
+use Rattle.um_tree.specs.ProgramTree.{RecordTree, FunctionTree, ProgramTree}
 use Rattle.um_tree.specs.TreeHeights.{type_tree_height, note_tree_height, tree_height, tree_nodes}
 
 -- ---- names

@@ -1,6 +1,6 @@
 -- Heights and numbers of nodes.
 -- Source: this project's own limits.
-use Rattle.std.specs.Prelude.{ℕ, ◌+◌, max, Option, Some, None}
+use Rattle.std.specs.Prelude.{ℕ, ◌+◌, max}
 use Rattle.um_tree.specs.RawTree.{UnitText, UnitTexts, one_text, measure_text, variable_text, power_text, side_text, times_text, over_text, inverse_text, bracket_text, no_units, more_units, TypeText, bool_text, num_text, record_text, list_type_text, bracket_type_text, ExprText, ExprTexts, FieldTexts, truth_text, number_text, name_text, call_text, negate_text, not_text, arith_text, compare_text, and_text, or_text, if_text, let_text, match_text, nil_text, list_text, cons_text, fields_text, field_text, bracket_expr_text, no_exprs, more_exprs, no_fields, more_fields}
 
 -- the height of a unit text

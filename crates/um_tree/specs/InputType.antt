@@ -8,7 +8,7 @@ use Rattle.um_tree.specs.declared.note.UnitNote.{UnitNote}
 use Rattle.um_tree.specs.declared.note.UnitNote.TheVariants.{Hole, Written}
 use Rattle.um_tree.specs.TypeTree.{TypeTree, bool_type, num_type, list_type, record_type, ShapeTree, bool_shape, num_shape, list_shape, record_shape}
 use Rattle.um_tree.specs.ValueTree.{ValueTree, ValueTrees, truth_value, number_value, list_value, record_value, no_values, more_values, InputTree, InputTrees, truth_input, number_input, list_input, record_input, no_inputs, more_inputs}
-use Rattle.um_tree.specs.ProgramTree.{RecordTree, ProgramTree, Signature, SchemeTree}
+use Rattle.um_tree.specs.ProgramTree.{RecordTree, ProgramTree}
 use Rattle.um_tree.specs.Typing.{put, unit_at, field_types, IsRecordAt, Typing}
 use Rattle.um_tree.specs.Shapes.{type_shape}
 use Rattle.um_tree.specs.Scheme.{IsNumbered}

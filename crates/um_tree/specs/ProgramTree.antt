@@ -64,18 +64,18 @@ function_tree f = record {
   params = note_trees f.params;
   named = f.named;
   result = result_tree f.result;
-  body = expr_tree f.body
+  body = expr_tree f.body;
 }
 
 abbrev pub program_tree : Program → ProgramTree
 program_tree p = record {
   bases = p.bases;
   records = map record_tree p.records.items.items;
-  functions = map function_tree p.functions.items.items
+  functions = map function_tree p.functions.items.items;
 }
 
 abbrev pub scheme_tree : Scheme → SchemeTree
 scheme_tree s = record {
   signature = record { params = type_trees s.params; result = type_tree s.result };
-  vars = s.vars
+  vars = s.vars;
 }

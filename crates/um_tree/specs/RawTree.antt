@@ -242,7 +242,7 @@ whole_function_text f = record {
   recursive = f.recursive;
   params = map param_text f.params.items.items;
   result = written_type f.result;
-  body = expr_text f.body
+  body = expr_text f.body;
 }
 
 abbrev pub decl_text : RawDecl → DeclText

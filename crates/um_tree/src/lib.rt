@@ -23,11 +23,11 @@ pub use note::{Note, Notes, UnitNote, UnitNotes};
 pub use program::{
     FieldDecl, FieldDecls, Function, Functions, Program, Record, Records, Scheme, Schemes,
 };
-pub use size::{height, nodes};
-pub use types::{Shape, Ty, Types};
 pub use raw::{
     Binder, RawDecl, RawExpr, RawExprs, RawField, RawFieldDecl, RawFieldDecls, RawFields,
     RawFunction, RawNode, RawNote, RawNotes, RawParam, RawParams, RawProgram, RawType, RawUnit,
     RawUnits, RawVar, RawVars,
 };
+pub use size::{height, nodes};
+pub use types::{Shape, Ty, Types};
 pub use value::{Input, Inputs, Outcome, Value, Values, copy_value, value_of};

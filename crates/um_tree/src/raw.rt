@@ -99,13 +99,7 @@ pub enum RawNode {
     If(Box<RawExpr>, Box<RawExpr>, Box<RawExpr>),
     Let(Binder, Box<RawExpr>, Box<RawExpr>),
     /// The list, the empty arm, head and tail, the full arm
-    Match(
-        Box<RawExpr>,
-        Box<RawExpr>,
-        Binder,
-        Binder,
-        Box<RawExpr>,
-    ),
+    Match(Box<RawExpr>, Box<RawExpr>, Binder, Binder, Box<RawExpr>),
     /// `([] : T)`
     Nil(RawType),
     /// At least one item
