@@ -1,10 +1,10 @@
 -- How a meaning uses its budget: it never gives back more than it got, a larger budget changes nothing but the rest,
 -- and how many calls may stand inside one another is no matter above the budget.
-use Rattle.std.proofs.Common.{◌≡◌, refl, ap, ◌∙◌, length, subst, ℕ, zero, suc, ◌+◌, ◌<◌, ◌≤◌, Bool, true, false, cond, nat_eq, List, [], ◌∷◌, ◌++◌, Option, Some, None, Result, Ok, Err, slice_get, arith}
-use Rattle.um_tree.specs.ValueTree.{ValueTree, ValueTrees, truth_value, number_value, list_value, record_value, no_values, more_values}
+use Rattle.std.proofs.Common.{◌≡◌, refl, ap, length, subst, ℕ, zero, suc, ◌<◌, ◌≤◌, true, false, cond, nat_eq, List, [], ◌∷◌, ◌++◌, Option, Some, None, Result, Ok, Err, slice_get, arith}
+use Rattle.um_tree.specs.ValueTree.{ValueTree, truth_value, number_value, list_value, record_value, no_values, more_values}
 use Rattle.um_tree.specs.ExprTree.{ExprTree, ExprTrees, truth, number, local, call, negate, negation, arith as arith_tree, compare, both, either, if, bind, split, nil, list_text, cons, record_text, field, none, more}
 use Rattle.um_tree.specs.ProgramTree.{FunctionTree}
-use Rattle.um_tree.specs.Meaning.{Out, gives, stops, Stop, trap, budget_end, wrong, then, Calling, spend, found, with_budget, calculated, compared, negated, opposite, longer, part_of, choose, on_list, means, all_mean, body_means, running, Means, AllMean, Outcome}
+use Rattle.um_tree.specs.Meaning.{Out, gives, stops, Stop, wrong, then, Calling, spend, found, with_budget, calculated, compared, negated, opposite, longer, part_of, choose, on_list, means, all_mean, body_means, running, Means, AllMean, Outcome}
 
 -- the rest, where there is one, is at most the budget
 abbrev pub Within : {A : Type 0} → ℕ → Out A → Type 0

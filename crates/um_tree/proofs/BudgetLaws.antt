@@ -1,6 +1,6 @@
 -- The laws of budgets, of expressions and of calls.
-use Rattle.std.proofs.Common.{◌≡◌, subst, ℕ, ◌+◌}
-use Rattle.um_tree.specs.Meaning.{gives, stops, trap, Means, Outcome}
+use Rattle.std.proofs.Common.{subst, ◌+◌}
+use Rattle.um_tree.specs.Meaning.{Means, Outcome}
 use Rattle.um_tree.specs.Laws.{RestIsWithin, LargerBudgetSuffices, TrapStays, CallRestIsWithin, CallLargerBudgetSuffices, CallTrapStays}
 use Rattle.um_tree.proofs.Budget.{Within, Means-within, Outcome-within}
 use Rattle.um_tree.proofs.Growth.{Grown, Means-grown, Outcome-grown}

@@ -1,11 +1,11 @@
 -- The equations of the meaning, one a node. Proofs about it use these and never unfold it.
-use Rattle.std.proofs.Common.{◌≡◌, refl, ap, ◌∙◌, length, ℕ, zero, suc, ◌+◌, IsTrue, Bool, true, false, cond, nat_eq, List, [], ◌∷◌, ◌++◌, Option, Some, None, slice_get, arith}
+use Rattle.std.proofs.Common.{◌≡◌, refl, ap, ◌∙◌, length, ℕ, zero, suc, IsTrue, Bool, true, false, cond, nat_eq, List, [], ◌∷◌, ◌++◌, Some, None, slice_get, arith}
 use Rattle.um_frac.specs.declared.number.Frac.{Frac}
 use Rattle.um_tree.specs.TypeTree.{NoteTree}
-use Rattle.um_tree.specs.ValueTree.{ValueTree, ValueTrees, truth_value, number_value, list_value, record_value, no_values, more_values, values_in_order}
+use Rattle.um_tree.specs.ValueTree.{ValueTree, truth_value, number_value, list_value, record_value, no_values, values_in_order}
 use Rattle.um_tree.specs.ExprTree.{ExprTree, ExprTrees, truth, number, local, call, negate, negation, arith as arith_tree, compare, both, either, if, bind, split, nil, list_text, cons, record_text, field, none, more}
 use Rattle.um_tree.specs.ProgramTree.{FunctionTree}
-use Rattle.um_tree.specs.Meaning.{Out, gives, stops, budget_end, wrong, then, spend, found, with_budget, calculated, compared, negated, opposite, longer, part_of, choose, on_list, means, all_mean, body_means, running, Means, AllMean, Outcome}
+use Rattle.um_tree.specs.Meaning.{gives, stops, budget_end, wrong, then, spend, found, with_budget, calculated, compared, negated, opposite, longer, part_of, choose, on_list, means, all_mean, body_means, running, Means, AllMean, Outcome}
 use Rattle.um_tree.specs.declared.note.UnitNote.{UnitNote}
 use Rattle.um_tree.specs.declared.expression.Arith.{Arith}
 use Rattle.um_tree.specs.declared.expression.Sign.{Sign}

@@ -1,14 +1,14 @@
 -- Small programs, on which the definitions are tried.
-use Rattle.std.proofs.Common.{◌≡◌, refl, ℕ, ◌≤◌, true, false, List, [], ◌∷◌, ℤ, pos, negsuc, Option, Some, None, arith}
+use Rattle.std.proofs.Common.{ℕ, ◌≤◌, true, false, List, [], ◌∷◌, pos, Some, None, arith}
 use Rattle.std.proofs.lemmas.Int.{ints}
-use Rattle.um_units.specs.declared.Atom.TheVariants.{Base, Var}
+use Rattle.um_units.specs.declared.Atom.TheVariants.{Base}
 use Rattle.um_units.specs.PowerMap.{PowerMap, one, atom, mul, inv}
 use Rattle.um_frac.specs.declared.number.Frac.{Frac}
 use Rattle.um_frac.proofs.Gcd.{gcd-one}
 use Rattle.um_tree.specs.declared.note.UnitNote.TheVariants.{Hole, Written}
-use Rattle.um_tree.specs.declared.expression.Arith.TheVariants.{Add, Sub, Mul, Div}
+use Rattle.um_tree.specs.declared.expression.Arith.TheVariants.{Add, Sub, Mul}
 use Rattle.um_tree.specs.declared.expression.Sign.TheVariants.{Lt}
-use Rattle.um_tree.specs.TypeTree.{TypeTree, bool_type, num_type, list_type, record_type, NoteTree, bool_note, num_note, list_note, record_note}
+use Rattle.um_tree.specs.TypeTree.{num_type, NoteTree, bool_note, num_note, list_note, record_note}
 use Rattle.um_tree.specs.ExprTree.{ExprTree, number, local, call, arith as arith_tree, compare, if, split, record_text, none, more}
 use Rattle.um_tree.specs.ProgramTree.{RecordTree, FunctionTree, ProgramTree}
 

@@ -1,11 +1,10 @@
 -- Schemes of small programs: the typings are exactly the instances.
 -- Source: Kennedy 1996: principal schemes.
-use Rattle.std.proofs.Common.{◌≡◌, refl, sym, ap, subst, ◌∙◌, inl, inr, ℕ, List, [], ◌∷◌, ◌++◌, Some, slice_get, arith}
-use Rattle.um_units.specs.declared.Atom.TheVariants.{Var}
-use Rattle.um_units.specs.PowerMap.{PowerMap, one, atom, mul, replace}
+use Rattle.std.proofs.Common.{◌≡◌, sym, ap, subst, ◌∙◌, inl, inr, ℕ, [], ◌∷◌, ◌++◌, slice_get, arith}
+use Rattle.um_units.specs.PowerMap.{PowerMap, one, mul, replace}
 use Rattle.um_units.proofs.Group.{mul-one, mul_cancel}
 use Rattle.um_units.proofs.Replacement.{replace-one, replace-variable}
-use Rattle.um_tree.specs.TypeTree.{TypeTree, num_type, list_type}
+use Rattle.um_tree.specs.TypeTree.{num_type, list_type}
 use Rattle.um_tree.specs.ProgramTree.{Signature, SchemeTree}
 use Rattle.um_tree.specs.Typing.{put_signature, Typing}
 use Rattle.um_tree.specs.Scheme.{IsPrincipal, IsInstance}

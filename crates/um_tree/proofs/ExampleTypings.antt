@@ -1,15 +1,14 @@
 -- Typings of small programs: each has the scheme that is expected, and an instance of another is refused.
-use Rattle.std.proofs.Common.{◌≡◌, ◌↔◌, refl, sym, ap, subst, ◌∙◌, inl, inr, ℕ, zero, suc, true, false, List, [], ◌∷◌, ℤ, pos, negsuc, Option, Some, None, slice_get, length, arith}
-use Rattle.std.proofs.lemmas.Int.{ints}
+use Rattle.std.proofs.Common.{◌≡◌, refl, sym, ap, subst, ◌∙◌, inl, inr, ℕ, zero, suc, List, [], ◌∷◌, pos, negsuc, Some, slice_get, length, arith}
 use Rattle.um_units.specs.declared.Atom.{Atom}
 use Rattle.um_units.specs.declared.Atom.TheVariants.{Base, Var}
 use Rattle.um_units.specs.PowerMap.{PowerMap, product, power_of, one, atom, mul, inv, replace}
 use Rattle.um_units.proofs.Group.{mul-one, mul_assoc}
 use Rattle.um_units.proofs.Replacement.{replace-one, replace-mul, replace-inv, replace-base, replace-variable}
 use Rattle.um_tree.specs.declared.note.UnitNote.TheVariants.{Hole, Written}
-use Rattle.um_tree.specs.TypeTree.{TypeTree, bool_type, num_type, list_type, record_type, NoteTree, num_note}
-use Rattle.um_tree.specs.ProgramTree.{Signature, SchemeTree, FunctionTree, ProgramTree}
-use Rattle.um_tree.specs.Typing.{put_signature, UnitsMatch, TypesMatch, MayRecur, IsRecordAt, Typing}
+use Rattle.um_tree.specs.TypeTree.{TypeTree, bool_type, num_type, list_type, record_type, num_note}
+use Rattle.um_tree.specs.ProgramTree.{Signature, SchemeTree}
+use Rattle.um_tree.specs.Typing.{put_signature, UnitsMatch, TypesMatch, Typing}
 use Rattle.um_tree.specs.Scheme.{IsPrincipal}
 use Rattle.um_tree.proofs.ExamplePrograms.{metre, second, kilogram, newton, marked, area_of_metres, area, identity, zeros, squares, sum, weights, make, pick}
 

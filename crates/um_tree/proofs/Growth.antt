@@ -1,10 +1,9 @@
 -- A budget that sufficed suffices when it grows: the value stays, and the rest grows by as much.
-use Rattle.std.proofs.Common.{◌≡◌, refl, ap, sym, length, subst, ℕ, zero, suc, ◌+◌, ◌<◌, Bool, true, false, cond, nat_eq, List, [], ◌∷◌, ◌++◌, Option, Some, None, Result, Ok, Err, slice_get, arith}
-use Rattle.um_frac.specs.declared.number.Trap.{Trap}
-use Rattle.um_tree.specs.ValueTree.{ValueTree, ValueTrees, truth_value, number_value, list_value, record_value, no_values, more_values}
+use Rattle.std.proofs.Common.{◌≡◌, refl, ap, sym, length, subst, ℕ, zero, suc, ◌+◌, true, false, cond, nat_eq, List, [], ◌∷◌, ◌++◌, Option, Some, None, Result, Ok, Err, slice_get, arith}
+use Rattle.um_tree.specs.ValueTree.{ValueTree, truth_value, number_value, list_value, record_value, no_values, more_values}
 use Rattle.um_tree.specs.ExprTree.{ExprTree, ExprTrees, truth, number, local, call, negate, negation, arith as arith_tree, compare, both, either, if, bind, split, nil, list_text, cons, record_text, field, none, more}
 use Rattle.um_tree.specs.ProgramTree.{FunctionTree}
-use Rattle.um_tree.specs.Meaning.{Out, gives, stops, Stop, trap, budget_end, wrong, then, Calling, spend, found, with_budget, calculated, compared, negated, opposite, longer, part_of, choose, on_list, means, all_mean, body_means, running, Means, AllMean, Outcome}
+use Rattle.um_tree.specs.Meaning.{Out, gives, stops, Stop, trap, budget_end, wrong, then, Calling, spend, found, with_budget, calculated, compared, negated, opposite, longer, part_of, choose, on_list, means, all_mean, body_means, running, Means, Outcome}
 use Rattle.um_tree.proofs.Budget.{means_at, running_agree}
 
 -- the second is what the first becomes where the budget grows by d: only the end of the budget may become anything

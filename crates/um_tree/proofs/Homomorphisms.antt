@@ -1,6 +1,6 @@
 -- Homomorphisms of units: each is settled by what it gives for the atoms.
 -- Source: Kennedy (1997): units form the free abelian group on their atoms.
-use Rattle.std.proofs.Common.{◌≡◌, ◌≢◌, ℕ, zero, suc, List, [], ◌∷◌, ◌++◌, ℤ, pos, negsuc, ◌+ℤ◌, ◌*ℤ◌, refl, sym, ap, ◌∙◌, arith}
+use Rattle.std.proofs.Common.{◌≡◌, ◌≢◌, ℕ, zero, suc, List, [], ◌∷◌, ℤ, pos, negsuc, ◌+ℤ◌, ◌*ℤ◌, refl, sym, ap, ◌∙◌, arith}
 use Rattle.std.proofs.lemmas.Int.{ints}
 use Rattle.um_units.specs.declared.Atom.{Atom}
 use Rattle.um_units.specs.declared.Atom.TheVariants.{Base, Var}
@@ -9,7 +9,7 @@ use Rattle.um_units.specs.Terms.{weigh, indicator}
 use Rattle.um_units.specs.PowerMap.{PowerMap, product, weight, power_of, one, atom, mul, pow, inv, image, replace}
 use Rattle.um_units.proofs.Weights.{weigh-product, weigh_alike}
 use Rattle.um_units.proofs.Equality.{same_unit, product-of_terms}
-use Rattle.um_units.proofs.Group.{weight-one, weight-atom, weight-mul, weight-pow, mul-one, mul-inv, mul_cancel, pow-zero, pow-one, pow-+ℤ, pow-pow, power_of-one, power_of-mul, power_of-pow}
+use Rattle.um_units.proofs.Group.{weight-atom, weight-mul, weight-pow, mul-one, mul-inv, mul_cancel, pow-zero, pow-one, pow-+ℤ, pow-pow, power_of-one, power_of-mul, power_of-pow}
 use Rattle.um_units.proofs.Replacement.{weight-replace, power_of-replace, weight_held}
 use Rattle.um_tree.specs.Laws.{IsHomomorphism, Leaves}
 

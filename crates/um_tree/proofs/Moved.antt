@@ -1,5 +1,5 @@
 -- A typing stays one where each unit is changed by a homomorphism that leaves what is written.
-use Rattle.std.proofs.Common.{◌≡◌, refl, sym, ap, subst, ◌∙◌, ℕ, zero, suc, ◌<◌, List, [], ◌∷◌, ◌++◌, map, length, get_or, Option, Some, None, slice_get, inl, inr, cond, nat_eq, true, false, arith}
+use Rattle.std.proofs.Common.{◌≡◌, refl, ap, subst, ◌∙◌, ℕ, zero, suc, List, [], ◌∷◌, ◌++◌, map, get_or, Option, Some, None, slice_get, inl, inr, cond, nat_eq, true, false, arith}
 use Rattle.std.specs.Prelude.{All}
 use Rattle.std.proofs.lemmas.List.{map-append, length-map}
 use Rattle.um_units.specs.PowerMap.{PowerMap, one, mul, inv, replace}

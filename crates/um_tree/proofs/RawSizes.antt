@@ -1,6 +1,6 @@
 -- Heights and numbers of nodes of the last of some expressions, or of some fields.
 use Rattle.std.proofs.Common.{ℕ, zero, suc, ◌+◌, ◌≤◌, ◌<◌, ◌≡◌, List, [], ◌∷◌, map, length, get_or, drop, arith, sym, ap, subst}
-use Rattle.um_tree.specs.RawTree.{ExprText, FieldPart, expr_text, exprs_in_order, field_part, fields_in_order}
+use Rattle.um_tree.specs.RawTree.{ExprText, FieldPart, exprs_in_order, fields_in_order}
 use Rattle.um_tree.specs.Heights.{expr_height, tallest_expr, tallest_field, expr_nodes, all_expr_nodes, all_field_nodes}
 
 abbrev pub expr_tail : {A : Type 0} → (A → ExprText) → List A → ℕ → ℕ

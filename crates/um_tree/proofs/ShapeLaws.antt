@@ -2,11 +2,11 @@
 use Rattle.std.proofs.Common.{◌≡◌, refl, sym, ap, subst, ◌∙◌, ℕ, zero, suc, List, [], ◌∷◌, ◌++◌, map, Option, Some, None, slice_get, inl, inr, cond, nat_eq, true, false}
 use Rattle.std.proofs.lemmas.List.{map-append}
 use Rattle.um_units.specs.PowerMap.{PowerMap}
-use Rattle.um_tree.specs.TypeTree.{TypeTree, bool_type, num_type, list_type, record_type, NoteTree, bool_note, num_note, list_note, record_note, ShapeTree, bool_shape, num_shape, list_shape, record_shape}
+use Rattle.um_tree.specs.TypeTree.{TypeTree, bool_type, num_type, list_type, record_type, NoteTree, bool_note, num_note, list_note, record_note, ShapeTree, list_shape}
 use Rattle.um_tree.specs.ExprTree.{ExprTree, ExprTrees, truth, number, local, call, negate, negation, arith as arith_tree, compare, both, either, if, bind, split, nil, list_text, cons, record_text, field, none, more}
 use Rattle.um_tree.specs.ProgramTree.{RecordTree, FunctionTree, ProgramTree, Signature}
-use Rattle.um_tree.specs.Typing.{put, unit_at, Matches, TypesMatch, ResultMatches, EachIs, field_types, IsRecordAt, Typed, AllTyped, Earlier, Calls, IsTypingOf, TypingAt, typings_below, Typing}
-use Rattle.um_tree.specs.Shapes.{type_shape, note_shape, ShapeSignature, EachShapeIs, HasShape, AllHaveShapes, EarlierShapes, CallShapes, ResultShape, IsShapeOf, ShapeAt, shapes_below, FunctionShape}
+use Rattle.um_tree.specs.Typing.{put, unit_at, Matches, TypesMatch, ResultMatches, EachIs, field_types, Typed, AllTyped, Earlier, Calls, IsTypingOf, TypingAt, typings_below}
+use Rattle.um_tree.specs.Shapes.{type_shape, note_shape, ShapeSignature, EachShapeIs, HasShape, AllHaveShapes, EarlierShapes, CallShapes, ResultShape, IsShapeOf, ShapeAt, shapes_below}
 use Rattle.um_tree.specs.Laws.{signature_shape, TypedHasShape, TypedExpressionHasShape}
 use Rattle.um_tree.proofs.Moved.{slice_get_moved}
 

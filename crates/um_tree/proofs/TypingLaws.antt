@@ -1,6 +1,5 @@
 -- What is typed and at which units.
-use Rattle.std.proofs.Common.{◌≡◌, ◌↔◌, refl, sym, ap, subst, ◌∙◌, ℕ, suc, List, [], ◌∷◌, map, get_or, Option, Some, None}
-use Rattle.um_units.specs.declared.Atom.TheVariants.{Base}
+use Rattle.std.proofs.Common.{◌≡◌, refl, sym, ap, subst, ◌∙◌, ℕ, List, [], ◌∷◌, map, get_or, Option, Some, None}
 use Rattle.um_units.specs.PowerMap.{PowerMap, replace}
 use Rattle.um_units.proofs.Replacement.{replace-mul, replace-base, replace-closed}
 use Rattle.um_tree.specs.declared.note.UnitNote.{UnitNote}

@@ -1,7 +1,7 @@
 -- What the definitions come to: how typings, literals, budgets and shapes behave. The definitions do not rest on this.
 -- Source: Kennedy 1996: typings are closed under replacements of units for variables; Kennedy 1997: a homomorphism of
 -- units moves them, and only 0 has every unit. The laws of budgets and shapes are this project's own.
-use Rattle.std.specs.Prelude.{◌≡◌, ◌≢◌, ◌↔◌, ◌<◌, ◌≤◌, ◌+◌, ℕ, All, List, [], ◌∷◌, map, pos, Option, Some, None}
+use Rattle.std.specs.Prelude.{◌≡◌, ◌≢◌, ◌↔◌, ◌<◌, ◌≤◌, ◌+◌, ℕ, All, List, map, pos, Option, Some, None}
 use Rattle.um_units.specs.declared.Atom.TheVariants.{Base}
 use Rattle.um_units.specs.PowerMap.{PowerMap, mul, atom, power_of}
 use Rattle.um_units.specs.Variables.{IsClosed}
@@ -16,7 +16,7 @@ use Rattle.um_tree.specs.declared.expression.Sign.{Sign}
 use Rattle.um_tree.specs.TypeTree.{TypeTree, bool_type, num_type, list_type, record_type, NoteTree, bool_note, num_note, list_note, record_note}
 use Rattle.um_tree.specs.ExprTree.{ExprTree, ExprTrees, truth, number, local, call, negate, negation, arith, compare, both, either, if, bind, split, nil, list_text, cons, record_text, field, none, more}
 use Rattle.um_tree.specs.ValueTree.{ValueTree}
-use Rattle.um_tree.specs.ProgramTree.{RecordTree, FunctionTree, ProgramTree, Signature}
+use Rattle.um_tree.specs.ProgramTree.{FunctionTree, ProgramTree, Signature}
 use Rattle.um_tree.specs.Typing.{put_signature, field_types, Typed, Calls, typings_below, Typing}
 use Rattle.um_tree.specs.Meaning.{gives, stops, trap, Means, Outcome}
 use Rattle.um_tree.specs.Shapes.{type_shape, ShapeSignature, HasShape, CallShapes, shapes_below, FunctionShape}

@@ -28,5 +28,6 @@ pub use raw::{
     RawFunction, RawNode, RawNote, RawNotes, RawParam, RawParams, RawProgram, RawType, RawUnit,
     RawUnits, RawVar, RawVars,
 };
+pub use size::{height, nodes};
 pub use types::{Shape, Ty, Types};
 pub use value::{Input, Inputs, Outcome, Value, Values, copy_value, value_of};
