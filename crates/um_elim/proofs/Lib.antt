@@ -11,3 +11,4 @@ mod Changes
 mod TurnSteps
 pub mod Slots
 mod Added
+pub mod JointRows

@@ -2,12 +2,12 @@
 use Rattle.std.proofs.Common.{◌≡◌, ◌≢◌, ℕ, ◌≤◌, inl, inr, true, false, Option, Some, None, List, [], ◌∷◌, ℤ, pos, nat_abs, refl, sym, ap, ◌∙◌, subst, arith}
 use Rattle.std.specs.Prelude.{IsTrue, ◌==◌, nat_lt}
 use Rattle.std.specs.List.{list_any}
-use Rattle.std.proofs.lemmas.Bool.{ltb-true, ltb-false, eqb-true, or_cases, or_parts, not-true, not-false}
+use Rattle.std.proofs.lemmas.Bool.{ltb-true, ltb-false, eqb-true, or_cases, or_parts, not-true, not-false, and_parts}
 use Rattle.um_units.specs.declared.Atom.{Atom}
 use Rattle.um_units.specs.declared.Atom.TheVariants.{Base, Var}
 use Rattle.um_units.specs.declared.Term.{Term}
-use Rattle.um_units.specs.Atoms.{same_atom}
-use Rattle.um_units.specs.Terms.{power_in, is_normal, is_zero}
+use Rattle.um_units.specs.Atoms.{is_before, same_atom}
+use Rattle.um_units.specs.Terms.{power_in, is_normal, is_zero, is_before_all}
 use Rattle.um_units.specs.NormalForm.{same_atom-eq, head_nonzero, head_before_all, tail_normal}
 use Rattle.um_units.specs.PowerMap.{PowerMap, power_of}
 use Rattle.um_units.proofs.Equality.{power_in-head, power_in-tail, power_in-before_all}
@@ -33,12 +33,36 @@ differs t ts x h n = on_test (same_atom x t.atom)
 tail_held : (t : Term) (ts : List Term) (x : Atom) → IsTrue (is_normal (t ∷ ts)) → power_in ts x ≢ pos 0 → power_in (t ∷ ts) x ≢ pos 0
 tail_held t ts x h n z = n (sym (power_in-tail t ts x (differs t ts x h n)) ∙ z)
 
+-- what the tail holds comes after the head
+held_after : (x : Atom) (ts : List Term) (y : Atom) → IsTrue (is_before_all x ts) → power_in ts y ≢ pos 0 → IsTrue (is_before x y)
+held_after x [] y b n = absurd (n refl)
+held_after x (t ∷ ts) y b n =
+    let q = and_parts (is_before x t.atom) (is_before_all x ts) b in
+    on_test (same_atom y t.atom)
+    (λ e. subst (λ z. IsTrue (is_before x z)) (sym (same_atom-eq y t.atom e)) q.0)
+    (λ e. held_after x ts y q.1 (λ z. n (power_in-tail t ts y e ∙ z)))
+
+-- a variable that the list holds is the head's, or the tail holds it with the same power
+by_head : {P : Type 0} (s : Term) (ts : List Term) (k : ℕ) → power_in (s ∷ ts) (Var k) ≢ pos 0 → (s.atom ≡ Var k → P) → (power_in ts (Var k) ≢ pos 0 → power_in (s ∷ ts) (Var k) ≡ power_in ts (Var k) → P) → P
+by_head s ts k n head tail = on_test (same_atom (Var k) s.atom)
+    (λ e. head (sym (same_atom-eq (Var k) s.atom e)))
+    (λ e. let w = power_in-tail s ts (Var k) e in tail (λ z. n (w ∙ z)) w)
+
+number : Atom → ℕ
+number (Base n) = n
+number (Var k) = k
+
+same_number : (m k : ℕ) → Var m ≡ Var k → m ≡ k
+unfolding number
+same_number m k e = ap number e
+
 -- ---- the pivot
--- a variable that stands in the list, with the least absolute power
+-- a variable that stands in the list, with the least absolute power, and of those with this power the greatest number
 pub record IsPivot (ts : List Term) (p : Pivot) : Type 0 where
   pub is : power_in ts (Var p.variable) ≡ p.power
   pub nonzero : p.power ≢ pos 0
   pub least : (k : ℕ) → power_in ts (Var k) ≢ pos 0 → nat_abs p.power ≤ nat_abs (power_in ts (Var k))
+  pub greatest : (k : ℕ) → power_in ts (Var k) ≢ pos 0 → nat_abs (power_in ts (Var k)) ≡ nat_abs p.power → k ≤ p.variable
 
 abbrev Answer : List Term → Option Pivot → Type 0
 Answer ts None = (k : ℕ) → power_in ts (Var k) ≡ pos 0
@@ -51,6 +75,8 @@ behind_base s ts n e (Some p) a = record {
   nonzero = a.nonzero;
   least = λ k h. let q : power_in (s ∷ ts) (Var k) ≡ power_in ts (Var k) = power_in-tail s ts (Var k) (ap (same_atom (Var k)) e) in
       subst (λ z. nat_abs p.power ≤ nat_abs z) (sym q) (a.least k (λ z. h (q ∙ z)));
+  greatest = λ k h f. let q : power_in (s ∷ ts) (Var k) ≡ power_in ts (Var k) = power_in-tail s ts (Var k) (ap (same_atom (Var k)) e) in
+      a.greatest k (λ z. h (q ∙ z)) (ap nat_abs (sym q) ∙ f);
 }
 
 -- what holds of the head's power and of each variable's in the tail holds of each variable's in the list
@@ -64,6 +90,7 @@ with_head s ts n h e None a = record {
   is = ap (power_in (s ∷ ts)) (sym e) ∙ head_power s ts h;
   nonzero = nonzero s ts h;
   least = λ k. at_each s ts k (λ z. nat_abs s.power ≤ nat_abs z) h (omega arith) (λ w. absurd (w (a k)));
+  greatest = λ k m f. by_head s ts k m (λ q. let i = same_number n k (sym e ∙ q) in omega (arith, i)) (λ w q. absurd (w (a k)));
 }
 with_head s ts n h e (Some p) a =
     let there : power_in ts (Var p.variable) ≢ pos 0 = λ z. a.nonzero (sym a.is ∙ z) in
@@ -72,11 +99,18 @@ with_head s ts n h e (Some p) a =
       is = ap (power_in (s ∷ ts)) (sym e) ∙ head_power s ts h;
       nonzero = nonzero s ts h;
       least = λ k. at_each s ts k (λ z. nat_abs s.power ≤ nat_abs z) h (omega arith) (λ w. let i = a.least k w in let j = ltb-true (nat_abs s.power) (nat_abs p.power) b in omega (arith, i, j));
+      greatest = λ k m f. by_head s ts k m (λ q. let i = same_number n k (sym e ∙ q) in omega (arith, i))
+          (λ w q. let i = a.least k w in let j = ltb-true (nat_abs s.power) (nat_abs p.power) b in let l = ap nat_abs q in absurd (omega (arith, i, j, l, f)));
     }))
     (λ b. rw b (record {
       is = power_in-tail s ts (Var p.variable) (differs s ts (Var p.variable) h there) ∙ a.is;
       nonzero = a.nonzero;
       least = λ k. at_each s ts k (λ z. nat_abs p.power ≤ nat_abs z) h (ltb-false (nat_abs s.power) (nat_abs p.power) b) (a.least k);
+      greatest = λ k m f. by_head s ts k m
+          (λ q. let i = same_number n k (sym e ∙ q) in
+          let j : IsTrue (is_before (Var n) (Var p.variable)) = subst (λ x. IsTrue (is_before x (Var p.variable))) e (held_after s.atom ts (Var p.variable) (head_before_all s ts h) there) in
+          let l = ltb-true n p.variable j in omega (arith, i, l))
+          (λ w q. a.greatest k w (ap nat_abs (sym q) ∙ f));
     }))
 
 with_atom : (s : Term) (ts : List Term) → IsTrue (is_normal (s ∷ ts)) → (x : Atom) → s.atom ≡ x → (o : Option Pivot) → Answer ts o → Answer (s ∷ ts) (lesser_with x s.power o)

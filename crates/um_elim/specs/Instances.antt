@@ -2,7 +2,7 @@
 -- Source: Kennedy (1996): a unifier is most general where its instances are exactly the unifiers.
 use Rattle.std.specs.Prelude.{◌≡◌, ◌↔◌, ℕ, List}
 use Rattle.um_units.specs.PowerMap.{PowerMap, one, replace, nth}
-use Rattle.um_units.specs.Solutions.{IsInstance, IsJointSolution}
+use Rattle.um_units.specs.Solutions.{IsInstance, IsJointSolution, IsSolvable}
 use Rattle.um_elim.specs.Elimination.{Outcome, Solved, NoSolution, Range}
 
 -- the units v, put for the slots, make the row equal to 1
@@ -25,3 +25,9 @@ IsRight old row Range = Unit {0}
 -- the instances of the units are exactly the joint solutions of the rows
 abbrev pub SolvesExactly : ℕ → List PowerMap → List PowerMap → Type 0
 SolvesExactly slots rows units = (v : List PowerMap) → IsInstance units v ↔ IsJointSolution slots rows v
+
+-- what an outcome says of the joint solutions of all rows
+abbrev pub IsJointlyRight : ℕ → List PowerMap → Outcome → Type 0
+IsJointlyRight slots rows (Solved units) = SolvesExactly slots rows units
+IsJointlyRight slots rows NoSolution = IsSolvable slots rows → ⊥
+IsJointlyRight slots rows Range = Unit {0}

@@ -1,12 +1,17 @@
 //! Equations of units, solved by elimination in the free abelian group.
 //!
-//! The source is Kennedy (Programming Languages and Dimensions, 1996), on unification in the free abelian group.
+//! A row is a unit that is to be equal to 1, and its variables are slots. A solver keeps for each slot a unit over
+//! variables, so that the instances of these units are exactly the joint solutions of the rows. The source is Kennedy
+//! (Programming Languages and Dimensions, 1996), on unification in the free abelian group; which of the most general
+//! solutions is kept, and the range of powers, are this project's own.
 #![tactic(auto)]
 
 mod application;
 mod pivot;
 mod solver;
 mod stop;
+#[cfg(test)]
+mod tests;
 mod turn;
 
 pub use solver::Solver;
