@@ -1,0 +1,122 @@
+-- The tokens of a text, or its leftmost refusal (this project's own).
+-- A text is its list of characters. Places are byte offsets in UTF-8.
+use Rattle.std.specs.Prelude.{◌≡◌, ◌≢◌, ℕ, ◌+◌, ◌-◌, Bool, true, false, cond, ◌==◌, ◌||◌, ◌&&◌, ◌⊎◌, List, [], ◌∷◌, ◌++◌, length, slice_get, Option, None, Some}
+use Rattle.std.specs.Char.{len_utf8}
+use Rattle.unicode_ident.specs.Ident.{is_xid_continue}
+use Rattle.um_syntax.specs.declared.token.Kind.{Kind}
+use Rattle.um_syntax.specs.declared.token.Kind.TheVariants as kind
+use Rattle.um_syntax.specs.declared.token.Token.{Token}
+use Rattle.um_syntax.specs.declared.token.LexStop.{LexStop}
+use Rattle.um_syntax.specs.declared.token.LexStop.TheVariants.{BadChar, NumberRange, PowerText, NoMemory}
+use Rattle.um_syntax.specs.Vocabulary.{minus, caret}
+use Rattle.um_syntax.specs.Gap.{is_space, IsGap, IsLastGap}
+use Rattle.um_syntax.specs.Numeral.{Numeral, numeral_text, IsNumeral}
+use Rattle.um_syntax.specs.Lexeme.{Lexeme, Number, text_of, IsLexeme, begins, NumeralEnds, Ends, IsAlone, kind_of}
+
+-- how many bytes the characters take
+abbrev pub size_of : List ℕ → ℕ
+size_of [] = 0
+size_of (c ∷ cs) = len_utf8 c + size_of cs
+
+-- a token follows the one before it with nothing between; the first token doesn't
+abbrev pub ends_at : ℕ → Option Token → Bool
+ends_at start None = false
+ends_at start (Some token) = token.end == start
+
+abbrev pub is_glued : List Token → ℕ → Bool
+is_glued before start = ends_at start (slice_get before (length before - 1))
+
+abbrev pub is_kind_sign : ℕ → Kind → Bool
+is_kind_sign k (kind.Sign n) = n == k
+is_kind_sign k (kind.Name letters) = false
+is_kind_sign k (kind.Var letters) = false
+is_kind_sign k (kind.Number value digits one) = false
+is_kind_sign k (kind.Word n) = false
+is_kind_sign k kind.Hole = false
+
+abbrev pub is_sign : ℕ → Option Token → Bool
+is_sign k None = false
+is_sign k (Some token) = is_kind_sign k token.kind
+
+-- A number behind these tokens is a power: the last is `^`, or the last two are `^` and `-`.
+abbrev pub is_power_place : List Token → Bool
+is_power_place before =
+    is_sign caret (slice_get before (length before - 1))
+    || (is_sign minus (slice_get before (length before - 1)) && is_sign caret (slice_get before (length before - 2)))
+
+-- Behind the tokens before, which end at `at`, the next token of the characters is this one, and `more` follows it.
+pub record IsNext (before : List Token) (at : ℕ) (chars : List ℕ) (token : Token) (more : List ℕ) : Type 0 where
+  pub gap : List ℕ
+  pub lexeme : Lexeme
+  pub cut : chars ≡ gap ++ (text_of lexeme ++ more)
+  pub skipped : IsGap gap
+  pub fits : IsLexeme lexeme
+  pub longest : Ends lexeme more
+  pub alone : IsAlone lexeme more
+  pub kind : kind_of (is_power_place before) lexeme ≡ Some token.kind
+  pub start : token.start ≡ at + size_of gap
+  pub end : token.end ≡ token.start + size_of (text_of lexeme)
+  pub glued : token.glued ≡ is_glued before token.start
+
+-- Behind the tokens before, which end at `at`, the tokens of the characters are these.
+abbrev pub Lexes : List Token → ℕ → List ℕ → List Token → Type 0
+Lexes before at chars [] = IsLastGap chars
+Lexes before at chars (token ∷ tokens) =
+    (more : List ℕ) × IsNext before at chars token more × Lexes (before ++ token ∷ []) token.end more tokens
+
+-- neither white space nor a token stands first (a comment begins with a sign)
+pub record NothingStands (chars : List ℕ) : Type 0 where
+  pub some : chars ≢ []
+  pub no_space : begins is_space chars ≡ false
+  pub no_token : (lexeme : Lexeme) (more : List ℕ) → IsLexeme lexeme → chars ≢ text_of lexeme ++ more
+
+-- the longest number text at the front of the characters, and what follows it
+pub record IsNumberAt (chars : List ℕ) (numeral : Numeral) (more : List ℕ) : Type 0 where
+  pub cut : chars ≡ numeral_text numeral ++ more
+  pub fits : IsNumeral numeral
+  pub longest : NumeralEnds numeral more
+
+-- The fault of the characters at a place: no token stands there, or a number breaks its rule, or a letter follows a number that keeps it.
+abbrev pub Faulty : List Token → ℕ → List ℕ → LexStop → Type 0
+Faulty before at chars (BadChar place) =
+    ((place ≡ at) × NothingStands chars)
+    ⊎ ((numeral : Numeral) × (more : List ℕ) × IsNumberAt chars numeral more × (kind_of (is_power_place before) (Number numeral) ≢ None)
+      × (begins is_xid_continue more ≡ true) × (place ≡ at + size_of (numeral_text numeral)))
+Faulty before at chars (NumberRange place) =
+    (place ≡ at) × (is_power_place before ≡ false)
+    × ((numeral : Numeral) × (more : List ℕ) × IsNumberAt chars numeral more × (kind_of false (Number numeral) ≡ None))
+Faulty before at chars (PowerText place) =
+    (place ≡ at) × (is_power_place before ≡ true)
+    × ((numeral : Numeral) × (more : List ℕ) × IsNumberAt chars numeral more × (kind_of true (Number numeral) ≡ None))
+Faulty before at chars NoMemory = ⊥
+
+-- Behind the tokens before, these tokens stand, and then the characters have a fault.
+abbrev pub Refuses : List Token → ℕ → List ℕ → List Token → LexStop → Type 0
+Refuses before at chars [] stop =
+    (gap rest : List ℕ) × (chars ≡ gap ++ rest) × IsGap gap × Faulty before (at + size_of gap) rest stop
+Refuses before at chars (token ∷ tokens) stop =
+    (more : List ℕ) × IsNext before at chars token more × Refuses (before ++ token ∷ []) token.end more tokens stop
+
+-- The characters behind a byte order mark, U+FEFF, that a text may begin with, and the place where they begin.
+abbrev pub body : List ℕ → List ℕ
+body [] = []
+body (c ∷ cs) = cond (c == 65279) cs (c ∷ cs)
+
+abbrev pub body_place : List ℕ → ℕ
+body_place [] = 0
+body_place (c ∷ cs) = cond (c == 65279) 3 0
+
+-- the tokens of a text
+abbrev pub HasTokens : List ℕ → List Token → Type 0
+HasTokens chars tokens = Lexes [] (body_place chars) (body chars) tokens
+
+-- the leftmost refusal of a text
+abbrev pub HasFault : List ℕ → LexStop → Type 0
+HasFault chars stop = (tokens : List Token) × Refuses [] (body_place chars) (body chars) tokens stop
+
+-- A refusal of a text: its leftmost fault, or want of memory, which may come with any text.
+abbrev pub IsRefusal : List ℕ → LexStop → Type 0
+IsRefusal chars (BadChar at) = HasFault chars (BadChar at)
+IsRefusal chars (NumberRange at) = HasFault chars (NumberRange at)
+IsRefusal chars (PowerText at) = HasFault chars (PowerText at)
+IsRefusal chars NoMemory = Unit {0}

@@ -1,0 +1,187 @@
+//! A lexer that is fed the bytes of a text in pieces.
+ghost use Rattle.std.specs.Prelude.{◌≡◌, ◌+◌, ◌&&◌, nat_lt, ◌<◌, ◌≤◌, List, ℕ, ◌++◌, ◌∷◌, [], length, take, slice_index, OnOk, OnErr, IfOk, IsErr};
+ghost use Rattle.std.specs.Char.{len_utf8};
+ghost use Rattle.um_syntax.specs.Decoding.{char_len};
+ghost use Rattle.um_syntax.specs.Machine.{PendingFits, PendingFits-prop};
+
+use std::alloc::{AllocError, Global};
+
+use crate::decode::{Front, front_of};
+use crate::scanner::Scanner;
+use crate::token::{LexStop, NoMemory, TextStop, Tokens};
+
+/// A lexer that is fed the bytes of a text in pieces, cut anywhere.
+///
+/// It keeps the tokens read so far and no text. After want of memory it answers `NoMemory` to every call.
+#[derive(Drop)]
+pub struct Lexer {
+    scanner: Scanner,
+    // The bytes of a character that isn't whole yet: the first `held` of these.
+    partial: [u8; 4],
+    held: usize,
+    // Where the whole characters end.
+    valid: u32,
+    // The fault that was met. Behind a bad character the bytes are still read, since they may not be UTF-8.
+    fault: Option<TextStop>,
+    // The number of tokens up to the last line feed.
+    counted: usize,
+    // The number of bytes fed.
+    fed: u32,
+    ghost begun: { held < char_len (slice_index (take held partial) 0) },
+    ghost small: { held ≤ 3 },
+    ghost fits: { PendingFits scanner.pending } by { PendingFits-prop scanner.pending },
+    ghost place: { scanner.at ≤ valid },
+    ghost within: { valid + held ≤ fed },
+    ghost limit: { fed ≤ 1048576 },
+}
+
+impl Lexer {
+    ghost use Rattle.um_syntax.specs.Feeding.{Stands, CountsTokens, IsTextAnswer, IsSpent, is_readable, IsReadable, HasRead, fed_of, text_stop};
+    ghost use Rattle.um_syntax.specs.declared.token.TextStop.TheVariants as text_stop_of;
+
+    /// A lexer that was fed nothing. Takes no memory.
+    pub fn new(alloc: Global) -> Lexer
+        ensures stands { Stands result [] }
+        ensures fed { fed_of result ≡ 0 }
+    {
+        Lexer {
+            scanner: Scanner::new(alloc),
+            partial: [0; 4],
+            held: 0,
+            valid: 0,
+            fault: None,
+            counted: 0,
+            fed: 0,
+        }
+    }
+
+    /// Takes a piece of the text behind what was fed, and answers how many tokens were read up to the last line feed.
+    ///
+    /// These are the tokens of the text fed so far up to there, if it is UTF-8 and has no fault that far; else nothing
+    /// is said of the number.
+    pub fn feed(&mut self, piece: &[u8]) -> Result<usize, NoMemory>
+        requires { fed_of self.old + length piece.now ≤ 1048576 }
+        ensures stands { OnOk result ((bytes : List ℕ) → Stands self.old bytes → Stands self.new (bytes ++ piece.now)) }
+        ensures tokens { IfOk result (λ n. (bytes : List ℕ) → Stands self.old bytes → CountsTokens (bytes ++ piece.now) n) }
+        ensures fed { OnOk result (fed_of self.new ≡ fed_of self.old + length piece.now) }
+        ensures spent { OnErr result (IsSpent self.new) }
+        ensures stays_spent { IsSpent self.old → IsErr result }
+    {
+        if matches!(self.fault, Some(TextStop::NoMemory)) {
+            return Err(AllocError);
+        }
+        for byte in piece {
+            if self.take_byte(*byte).is_err() {
+                self.fault = Some(TextStop::NoMemory);
+                return Err(AllocError);
+            }
+        }
+        Ok(self.counted)
+    }
+
+    /// The tokens of the text that was fed.
+    ///
+    /// # Errors
+    ///
+    /// `Utf8` where the bytes aren't UTF-8, at the length of their longest front that is; else the refusal of `lex`.
+    pub fn finish(self) -> Result<Tokens, TextStop>
+        ensures answer { (bytes : List ℕ) → Stands self bytes → IsTextAnswer bytes result }
+        ensures spent { IsSpent self → result ≡ Err text_stop_of.NoMemory }
+    {
+        if self.ends_within_char() {
+            return Err(TextStop::Utf8 { at: self.valid });
+        }
+        match self.fault {
+            Some(stop) => Err(stop),
+            None => match self.scanner.finish() {
+                Ok(tokens) => Ok(tokens),
+                Err(stop) => Err(Lexer::text_stop(stop)),
+            },
+        }
+    }
+
+    // Whether the bytes that were fed end within a character, and could be read so far.
+    fn ends_within_char(&self) -> bool
+        ensures { result ≡ (is_readable self.now.fault && nat_lt 0 self.now.held) }
+    {
+        Lexer::is_readable(self.fault) && self.held > 0
+    }
+
+    // Takes a character behind those that were read.
+    fn take_char(&mut self, c: char) -> Result<(), AllocError>
+        requires readable { IsReadable self.old.fault }
+        requires room { self.old.valid + len_utf8 c ≤ self.old.fed }
+        requires whole { self.old.held ≡ 0 }
+        ensures read { OnOk result ((cs : List ℕ) → HasRead self.old cs → HasRead self.new (cs ++ c ∷ [])) }
+        ensures readable { OnOk result (IsReadable self.new.fault) }
+        ensures whole { self.new.held ≡ 0 }
+        ensures fed { self.new.fed ≡ self.old.fed }
+    {
+        self.valid += c.len_utf8() as u32;
+        if self.fault.is_some() {
+            return Ok(());
+        }
+        match self.scanner.scan(c) {
+            Ok(()) => {
+                if c == '\n' {
+                    self.counted = self.scanner.count();
+                }
+            }
+            Err(stop) => match Lexer::text_stop(stop) {
+                TextStop::NoMemory => return Err(AllocError),
+                fault => self.fault = Some(fault),
+            },
+        }
+        Ok(())
+    }
+
+    // Takes a byte behind those that were fed.
+    fn take_byte(&mut self, byte: u8) -> Result<(), AllocError>
+        requires { self.old.fed < 1048576 }
+        ensures stands { OnOk result ((bytes : List ℕ) → Stands self.old bytes → Stands self.new (bytes ++ byte ∷ [])) }
+        ensures fed { self.new.fed ≡ self.old.fed + 1 }
+    {
+        self.fed += 1;
+        if !Lexer::is_readable(self.fault) {
+            return Ok(());
+        }
+        let held = self.held;
+        let mut partial = self.partial;
+        partial[held] = byte;
+        self.held = 0;
+        match front_of(&partial[..held + 1]) {
+            Front::Whole(c) => self.take_char(c),
+            Front::Partial => {
+                self.partial = partial;
+                self.held = held + 1;
+                Ok(())
+            }
+            Front::Broken => {
+                self.fault = Some(TextStop::Utf8 { at: self.valid });
+                Ok(())
+            }
+        }
+    }
+
+    // Whether bytes can still be read behind the fault.
+    fn is_readable(fault: Option<TextStop>) -> bool
+        ensures { result ≡ is_readable fault }
+    {
+        match fault {
+            Some(TextStop::Utf8 { .. } | TextStop::NoMemory) => false,
+            _ => true,
+        }
+    }
+
+    // The fault of a text that is a refusal of its characters.
+    fn text_stop(stop: LexStop) -> TextStop
+        ensures { result ≡ text_stop stop }
+    {
+        match stop {
+            LexStop::BadChar { at } => TextStop::BadChar { at },
+            LexStop::NumberRange { at } => TextStop::NumberRange { at },
+            LexStop::PowerText { at } => TextStop::PowerText { at },
+            LexStop::NoMemory => TextStop::NoMemory,
+        }
+    }
+}

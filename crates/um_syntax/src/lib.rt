@@ -1,0 +1,24 @@
+//! The tokens of a program text.
+//!
+//! [`lex`] reads a whole text at once, and a [`Lexer`] is fed its bytes in pieces. Both run the same machine over
+//! characters, give the same tokens, and refuse at the leftmost fault. [`line_column`] turns a place into a line and a
+//! column. The definitions of tokens stand in `specs/`, apart from the machine, and the module [`laws`] has what holds
+//! of them.
+#![tactic(auto)]
+
+mod decode;
+mod feed;
+pub mod laws;
+mod lexer;
+mod number;
+mod pending;
+mod place;
+mod scanner;
+mod table;
+mod token;
+
+pub use feed::Lexer;
+pub use lexer::lex;
+pub use place::line_column;
+pub use table::{SIGNS, WORDS};
+pub use token::{Kind, Letters, LexStop, NoMemory, TextStop, Token, Tokens};

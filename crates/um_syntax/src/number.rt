@@ -1,0 +1,138 @@
+//! The digits of a number's text, read one by one.
+ghost use Rattle.std.specs.Prelude.{◌≡◌, ◌<◌, ◌≤◌, ◌-◌, ◌^◌};
+ghost use Rattle.um_syntax.specs.Machine.{with_digit, one_more, first_figures, more_figures, part_after_digit, is_whole_part, is_allowed, is_one_figure, figures_kind, part_takes, FiguresFit};
+
+use um_frac::Frac;
+
+use crate::token::Kind;
+
+// No number in range has a part of more than 38 digits.
+const GREATEST: u128 = 100_000_000_000_000_000_000_000_000_000_000_000_000;
+const TENTH: u128 = 10_000_000_000_000_000_000_000_000_000_000_000_000;
+const MOST_DIGITS: u32 = 38;
+const GREATEST_POWER: u128 = 2147483647;
+
+/// How much of a number's text has been read.
+#[derive(Clone, Copy, Debug, PartialEq, Eq)]
+pub enum Part {
+    /// Digits.
+    Whole,
+    /// Digits and a point.
+    Point,
+    /// Digits, a point and digits.
+    Decimal,
+    /// Digits and an `r`.
+    Over,
+    /// Digits, an `r` and digits.
+    Ratio,
+}
+
+impl Part {
+    // The part once a digit has been read.
+    pub fn after_digit(self) -> Part
+        ensures { result ≡ part_after_digit self }
+    {
+        match self {
+            Part::Whole => Part::Whole,
+            Part::Point | Part::Decimal => Part::Decimal,
+            Part::Over | Part::Ratio => Part::Ratio,
+        }
+    }
+
+    // Whether the text up to the last digit is digits alone.
+    pub fn is_whole(self) -> bool
+        ensures { result ≡ is_whole_part self }
+    {
+        match self {
+            Part::Whole | Part::Point | Part::Over => true,
+            Part::Decimal | Part::Ratio => false,
+        }
+    }
+
+    // Whether the character belongs to the number's text.
+    pub fn takes(self, c: char) -> bool
+        ensures { result ≡ part_takes self c }
+    {
+        match self {
+            Part::Whole => c.is_ascii_digit() || (c == '.' || c == 'r'),
+            Part::Point | Part::Decimal | Part::Over | Part::Ratio => c.is_ascii_digit(),
+        }
+    }
+}
+
+/// The digits of a number's text so far, as a fraction that isn't reduced: `above` over `below`, and how many they are.
+///
+/// The two stand still at `GREATEST`, and the count stands still behind `MOST_DIGITS`.
+#[derive(Clone, Copy, Debug, PartialEq, Eq)]
+pub struct Figures {
+    pub above: u128,
+    pub below: u128,
+    pub count: u32,
+}
+
+// The number with one more digit behind it.
+fn append(number: u128, digit: u32) -> u128
+    requires { digit ≤ 9 }
+    ensures value { result ≡ with_digit number digit }
+    ensures fits { result ≤ 10 ^ 38 }
+{
+    if number < TENTH {
+        10 * number + u128::from(digit)
+    } else {
+        GREATEST
+    }
+}
+
+// One digit more.
+fn count_up(count: u32) -> u32
+    ensures { result ≡ one_more count }
+{
+    if count <= MOST_DIGITS { count + 1 } else { MOST_DIGITS + 1 }
+}
+
+impl Figures {
+    // The figures of the first digit.
+    pub fn new(digit: u32) -> Figures
+        requires { digit ≤ 9 }
+        ensures value { result ≡ first_figures digit }
+        ensures fits { FiguresFit result }
+    {
+        Figures { above: u128::from(digit), below: 1, count: 1 }
+    }
+
+    // The figures with one more digit, where `part` is what has been read before it.
+    pub fn with(self, part: Part, digit: u32) -> Figures
+        requires { digit ≤ 9 }
+        ensures value { result ≡ more_figures part self digit }
+        ensures fits { FiguresFit self → FiguresFit result }
+    {
+        let count = count_up(self.count);
+        match part {
+            Part::Whole => Figures { above: append(self.above, digit), below: self.below, count },
+            Part::Point | Part::Decimal => Figures { above: append(self.above, digit), below: append(self.below, 0), count },
+            Part::Over => Figures { above: self.above, below: u128::from(digit), count },
+            Part::Ratio => Figures { above: self.above, below: append(self.below, digit), count },
+        }
+    }
+
+    // Whether the number keeps its rule of digits, as a power or not.
+    fn is_allowed(self, power: bool, part: Part) -> bool
+        ensures { result ≡ is_allowed power part self }
+    {
+        if power { part.is_whole() && self.above <= GREATEST_POWER } else { self.count <= MOST_DIGITS }
+    }
+
+    // The kind of the number's token, or `None` where it breaks its rule.
+    pub fn kind(self, power: bool, part: Part) -> Option<Kind>
+        requires { FiguresFit self }
+        ensures { result ≡ figures_kind power part self }
+    {
+        if !self.is_allowed(power, part) {
+            return None;
+        }
+        let value = Frac::of_parts(self.above as i128, self.below as i128)?;
+        let digits = part.is_whole();
+        let one = digits && (self.count == 1 && self.above == 1);
+        Some(Kind::Number { value, digits, one })
+    }
+}

@@ -1,0 +1,56 @@
+//! What has been read of a token that may go on.
+ghost use Rattle.std.specs.Prelude.{◌≡◌};
+ghost use Rattle.um_syntax.specs.Machine.{takes, ends_in_digit};
+
+use unicode_ident::is_xid_continue;
+
+use crate::number::{Figures, Part};
+use crate::table::{double_sign, starts_name};
+
+/// What has been read of the token that may go on, with the place where it starts.
+#[derive(Clone, Copy, Debug, PartialEq, Eq)]
+pub enum Pending {
+    /// Nothing of the text has been read.
+    Start,
+    /// No token has begun.
+    Free,
+    /// A comment.
+    Comment,
+    /// Letters that begin a name, a word or a hole.
+    Identifier { start: u32 },
+    /// A quote.
+    Quote { start: u32 },
+    /// A quote and letters, the last of them at `last`.
+    Variable { start: u32, last: u32 },
+    /// A number's text, whose digits end at `end`.
+    Number { start: u32, end: u32, part: Part, figures: Figures },
+    /// The first character of a sign or of a comment.
+    Symbol { start: u32, first: char },
+}
+
+impl Pending {
+    // Whether the character belongs to what has begun.
+    pub fn takes(self, c: char) -> bool
+        ensures { result ≡ takes self c }
+    {
+        match self {
+            Pending::Start => c == '\u{feff}',
+            Pending::Free => false,
+            Pending::Comment => true,
+            Pending::Identifier { .. } | Pending::Variable { .. } => is_xid_continue(c),
+            Pending::Quote { .. } => starts_name(c),
+            Pending::Number { part, .. } => part.takes(c),
+            Pending::Symbol { first, .. } => double_sign(first, c).is_some() || (first == '/' && c == '/'),
+        }
+    }
+
+    // Whether what has begun is a number that has its last digit.
+    pub fn ends_in_digit(self) -> bool
+        ensures { result ≡ ends_in_digit self }
+    {
+        match self {
+            Pending::Number { part: Part::Whole | Part::Decimal | Part::Ratio, .. } => true,
+            _ => false,
+        }
+    }
+}

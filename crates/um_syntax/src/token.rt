@@ -1,0 +1,165 @@
+//! Tokens, and why a text has none.
+ghost use Rattle.std.specs.Prelude.{◌≡◌, ℕ, List, IfOk};
+ghost use Rattle.um_syntax.specs.declared.token.LexStop.TheVariants.{NoMemory};
+
+use std::alloc::{AllocError, Global};
+use std::marker::Model;
+use thiserror::Error;
+use um_frac::Frac;
+
+/// Want of memory, where it is the one error of a call.
+pub type NoMemory = AllocError;
+
+/// A list of bytes: the letters of a name, in UTF-8.
+#[derive(Debug, Drop)]
+pub struct Letters {
+    bytes: Vec<u8>,
+}
+
+impl Model for Letters {
+    ghost Value = { List ℕ };
+
+    ghost view = { λ l. l.bytes.items };
+}
+
+impl Letters {
+    /// The letters that the slice holds, copied.
+    pub fn from_slice(alloc: Global, bytes: &[u8]) -> Result<Letters, AllocError>
+        ensures { IfOk result (λ l. l ≡ bytes.now) }
+    {
+        Ok(Letters { bytes: Vec::from_slice(alloc, bytes)? })
+    }
+
+    /// The letters that the vector holds. Takes no memory.
+    pub fn from_vec(bytes: Vec<u8>) -> Letters
+        ensures { result ≡ bytes.items }
+    {
+        Letters { bytes }
+    }
+
+    /// The vector that holds the letters. Takes no memory.
+    pub fn into_vec(self) -> Vec<u8>
+        ensures { result.items ≡ self }
+    {
+        self.bytes
+    }
+
+    /// The letters.
+    pub fn as_slice(&self) -> &[u8]
+        ensures { result.now ≡ self.now }
+    {
+        &self.bytes
+    }
+}
+
+/// What a token is.
+#[derive(Debug, Drop)]
+pub enum Kind {
+    /// A name, with its letters.
+    Name(Letters),
+    /// A variable, with its letters after the quote.
+    Var(Letters),
+    /// A number with its value. `digits` says that its text is digits alone, and `one` that it is the one digit 1.
+    Number { value: Frac, digits: bool, one: bool },
+    /// A reserved word, by its number in [`crate::WORDS`].
+    Word(u8),
+    /// `_` alone.
+    Hole,
+    /// A sign, by its number in [`crate::SIGNS`].
+    Sign(u8),
+}
+
+/// A token of a text.
+#[derive(Debug, Drop)]
+pub struct Token {
+    pub kind: Kind,
+    /// The place of its first byte, counted from 0.
+    pub start: u32,
+    /// The place behind its last byte.
+    pub end: u32,
+    /// Whether nothing was skipped between it and the token before. The first token isn't glued.
+    pub glued: bool,
+}
+
+/// A list of tokens.
+#[derive(Debug, Drop)]
+pub struct Tokens {
+    items: Vec<Token>,
+}
+
+impl Model for Tokens {
+    ghost use Rattle.std.specs.Prelude.{List};
+    ghost use Rattle.um_syntax.specs.declared.token.Token.{Token};
+
+    ghost Value = { List Token };
+
+    ghost view = { λ t. t.items.items };
+}
+
+impl Tokens {
+    /// The tokens that the vector holds. Takes no memory.
+    pub fn from_vec(items: Vec<Token>) -> Tokens
+        ensures { result ≡ items.items }
+    {
+        Tokens { items }
+    }
+
+    /// The vector that holds the tokens. Takes no memory.
+    pub fn into_vec(self) -> Vec<Token>
+        ensures { result.items ≡ self }
+    {
+        self.items
+    }
+
+    /// The tokens, in the order of the text.
+    pub fn as_slice(&self) -> &[Token]
+        ensures { result.now ≡ self.now }
+    {
+        &self.items
+    }
+}
+
+/// Why a text has no tokens. The place is that of the leftmost fault.
+#[derive(Debug, Drop, Error)]
+pub enum LexStop {
+    /// At the place no token, white space or comment stands, or a letter directly follows a number.
+    #[error("character at {at}")]
+    BadChar { at: u32 },
+    /// The number at the place is too long, or has a zero denominator, or doesn't fit.
+    #[error("number at {at}")]
+    NumberRange { at: u32 },
+    /// The power at the place isn't digits alone, or is above 2147483647.
+    #[error("power at {at}")]
+    PowerText { at: u32 },
+    /// There is no memory left.
+    #[error("out of memory")]
+    NoMemory,
+}
+
+impl From<AllocError> for LexStop {
+    ghost from_gives = { λ _ e. e ≡ NoMemory };
+
+    fn from(_e: AllocError) -> LexStop {
+        LexStop::NoMemory
+    }
+}
+
+/// Why bytes that were fed have no tokens. The place is that of the leftmost fault; bytes that aren't UTF-8 come first.
+#[derive(Clone, Copy, Debug, PartialEq, Eq, Error)]
+pub enum TextStop {
+    /// The bytes aren't UTF-8. The place is the length of the longest front that is.
+    #[error("not UTF-8 at {at}")]
+    Utf8 { at: u32 },
+    /// As [`LexStop::BadChar`].
+    #[error("character at {at}")]
+    BadChar { at: u32 },
+    /// As [`LexStop::NumberRange`].
+    #[error("number at {at}")]
+    NumberRange { at: u32 },
+    /// As [`LexStop::PowerText`].
+    #[error("power at {at}")]
+    PowerText { at: u32 },
+    /// There is no memory left.
+    #[error("out of memory")]
+    NoMemory,
+}
