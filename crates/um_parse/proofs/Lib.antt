@@ -7,3 +7,5 @@ mod Factors
 mod ScopeLoop
 mod MadeNames
 mod MadeFunctions
+mod UnitComplete
+mod UnitSound

@@ -7,3 +7,6 @@ pub mod LayoutNames
 pub mod Resolved
 pub mod UnitRange
 pub mod Scope
+pub mod UnitTokens
+pub mod UnitGrammar
+pub mod UnitMachine

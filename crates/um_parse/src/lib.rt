@@ -8,5 +8,6 @@ mod layout;
 mod names;
 mod products;
 mod resolve;
+mod unit_mark;
 
 pub use products::read_products;
