@@ -9,3 +9,5 @@ mod MadeNames
 mod MadeFunctions
 mod UnitComplete
 mod UnitSound
+mod UnitLaws
+mod UnitHeights

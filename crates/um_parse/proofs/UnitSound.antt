@@ -57,7 +57,7 @@ limit_low (InSide front ∷ frames) = (omega arith, omega arith)
 
 -- ---- juxtapositions
 
-spells_last : (front : List UnitText) (t : UnitText) (tokens mid rest : List Token) → AllSpell (units_in_order front) tokens mid → Spells t mid rest → AllSpell (units_in_order (front ++ t ∷ [])) tokens rest
+pub spells_last : (front : List UnitText) (t : UnitText) (tokens mid rest : List Token) → AllSpell (units_in_order front) tokens mid → Spells t mid rest → AllSpell (units_in_order (front ++ t ∷ [])) tokens rest
 spells_last [] t tokens mid rest e s = (rest, subst (λ w. Spells t w rest) (sym e) s, refl)
 spells_last (u ∷ us) t tokens mid rest h s = (h.0, h.1, spells_last us t h.0 mid rest h.2 s)
 

@@ -10,3 +10,5 @@ pub mod Scope
 pub mod UnitTokens
 pub mod UnitGrammar
 pub mod UnitMachine
+pub mod UnitStops
+pub mod UnitLeast
