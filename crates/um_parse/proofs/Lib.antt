@@ -11,3 +11,5 @@ mod UnitComplete
 mod UnitSound
 mod UnitLaws
 mod UnitHeights
+mod UnitFronts
+mod UnitEnds

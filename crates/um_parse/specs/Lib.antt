@@ -12,3 +12,5 @@ pub mod UnitGrammar
 pub mod UnitMachine
 pub mod UnitStops
 pub mod UnitLeast
+pub mod UnitCount
+pub mod UnitView

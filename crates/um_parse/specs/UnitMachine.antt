@@ -4,6 +4,7 @@ use Rattle.std.specs.Prelude.{ℕ, ℤ, pos, neg_ℤ, Bool, true, false, cond, L
 use Rattle.um_syntax.specs.declared.token.Token.{Token}
 use Rattle.um_tree.specs.RawTree.{UnitText, one_text, measure_text, variable_text, power_text, side_text, times_text, over_text, inverse_text, bracket_text, units_in_order}
 use Rattle.um_parse.specs.UnitTokens.{UnitToken, sign, measure, variable, number, unit_token}
+use Rattle.um_parse.specs.declared.unit_mark.Mark.{Mark}
 use Rattle.um_parse.specs.declared.unit_mark.Mark.TheVariants as mark
 
 -- what is open around the next atom
@@ -95,13 +96,21 @@ abbrev pub close_after : State → State
 close_after (Have (InBracket at ∷ frames) t) = Have frames (bracket_text at t)
 close_after _ = Refused
 
+-- an atom: a name, a variable, 1, brackets
+abbrev pub is_atom : UnitText → Bool
+is_atom (one_text at) = true
+is_atom (measure_text at x) = true
+is_atom (variable_text at x) = true
+is_atom (bracket_text at u) = true
+is_atom (power_text u k) = false
+is_atom (side_text us) = false
+is_atom (times_text u v) = false
+is_atom (over_text u v) = false
+is_atom (inverse_text at u) = false
+
 -- only an atom has a power
 abbrev pub raise : List Frame → UnitText → State
-raise frames (one_text at) = Raised frames (one_text at)
-raise frames (measure_text at x) = Raised frames (measure_text at x)
-raise frames (variable_text at x) = Raised frames (variable_text at x)
-raise frames (bracket_text at u) = Raised frames (bracket_text at u)
-raise frames _ = Refused
+raise frames t = cond (is_atom t) (Raised frames t) Refused
 
 abbrev pub after : List Frame → UnitText → UnitToken → ℕ → State
 after frames t (measure x) at = begin (juxtapose frames t) (measure x) at
@@ -144,3 +153,30 @@ whole _ = None
 abbrev pub finish : State → Option UnitText
 finish (Have frames t) = whole (reduce frames t)
 finish _ = None
+
+-- the atom that a token is, if it is one, brackets aside
+abbrev pub atom_of : UnitToken → ℕ → Option UnitText
+atom_of (measure x) at = Some (measure_text at x)
+atom_of (variable x) at = Some (variable_text at x)
+atom_of (number true power) at = Some (one_text at)
+atom_of (number false power) at = None
+atom_of (sign m) at = None
+
+-- the sign that a token is, and the power that it writes
+abbrev pub mark_in : UnitToken → Mark
+mark_in (sign m) = m
+mark_in (measure x) = mark.Other
+mark_in (variable x) = mark.Other
+mark_in (number one power) = mark.Other
+
+abbrev pub power_in : UnitToken → Option ℕ
+power_in (number one power) = power
+power_in (sign m) = None
+power_in (measure x) = None
+power_in (variable x) = None
+
+
+-- `/` or `*` behind what is at hand
+abbrev pub sign_after : Bool → State → State
+sign_after true st = over_after st
+sign_after false st = times_after st

@@ -8,6 +8,9 @@ mod layout;
 mod names;
 mod products;
 mod resolve;
+mod unit_frame;
 mod unit_mark;
+mod unit_part;
+mod unit_reader;
 
 pub use products::read_products;
