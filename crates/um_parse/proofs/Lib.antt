@@ -13,3 +13,5 @@ mod UnitLaws
 mod UnitHeights
 mod UnitFronts
 mod UnitEnds
+mod UnitWhole
+mod UnitCounts

@@ -14,3 +14,4 @@ pub mod UnitStops
 pub mod UnitLeast
 pub mod UnitCount
 pub mod UnitView
+pub mod UnitStates

@@ -1,7 +1,8 @@
 -- What is open and at hand, without where it lies in memory.
-use Rattle.std.specs.Prelude.{◌≡◌, ℕ, ◌⊎◌, Bool, true, false, List, [], ◌∷◌, map, reverse, Option, Some, None}
+use Rattle.std.specs.Prelude.{◌≡◌, ℕ, ◌+◌, ◌⊎◌, Bool, true, false, List, [], ◌∷◌, map, reverse, Option, Some, None}
 use Rattle.um_tree.specs.declared.raw.RawUnit.{RawUnit}
 use Rattle.um_tree.specs.RawTree.{UnitText, unit_text}
+use Rattle.um_tree.specs.Heights.{unit_height}
 use Rattle.um_parse.specs.declared.unit_part.Part.{Part}
 use Rattle.um_parse.specs.declared.unit_part.Front.{Front}
 use Rattle.um_parse.specs.declared.unit_frame.Frame.{Frame as Open}
@@ -63,3 +64,10 @@ Ended old (Some frame) new = (old ≡ view_frame frame ∷ new) × (ends_itself 
 abbrev pub Unbracketed : List Frame → Option ℕ → List Frame → Type 0
 Unbracketed old (Some at) new = old ≡ InBracket at ∷ new
 Unbracketed old None new = ((old ≡ []) × (new ≡ [])) ⊎ (ends_itself old ≡ true)
+
+-- the height of what is at hand; an atom is wanted at least
+abbrev pub hand_height : Hand → ℕ
+hand_height hand.Empty = 1
+hand_height (hand.Full t) = unit_height (part_text t)
+hand_height (hand.Raised t) = unit_height (part_text t) + 1
+hand_height (hand.Lowered t) = unit_height (part_text t) + 1

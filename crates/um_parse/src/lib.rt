@@ -9,6 +9,7 @@ mod names;
 mod products;
 mod resolve;
 mod unit_frame;
+mod unit_least;
 mod unit_mark;
 mod unit_part;
 mod unit_reader;
