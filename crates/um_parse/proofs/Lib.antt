@@ -15,3 +15,4 @@ mod UnitFronts
 mod UnitEnds
 mod UnitWhole
 mod UnitCounts
+mod UnitSteps

@@ -15,3 +15,4 @@ pub mod UnitLeast
 pub mod UnitCount
 pub mod UnitView
 pub mod UnitStates
+pub mod UnitReads

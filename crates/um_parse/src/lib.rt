@@ -10,6 +10,7 @@ mod products;
 mod resolve;
 mod unit_frame;
 mod unit_least;
+mod unit_loop;
 mod unit_mark;
 mod unit_part;
 mod unit_reader;
