@@ -16,3 +16,4 @@ pub mod UnitCount
 pub mod UnitView
 pub mod UnitStates
 pub mod UnitReads
+pub mod UnitAnswer

@@ -8,6 +8,7 @@ mod layout;
 mod names;
 mod products;
 mod resolve;
+mod unit;
 mod unit_frame;
 mod unit_least;
 mod unit_loop;
