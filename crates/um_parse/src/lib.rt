@@ -6,6 +6,7 @@
 mod declaration;
 mod layout;
 mod names;
+mod parse;
 mod products;
 mod resolve;
 mod unit;
