@@ -17,3 +17,4 @@ pub mod UnitView
 pub mod UnitStates
 pub mod UnitReads
 pub mod UnitAnswer
+pub mod UnitParsed
