@@ -17,4 +17,5 @@ mod unit_mark;
 mod unit_part;
 mod unit_reader;
 
+pub use parse::{LimitKind, ParseStop, parse_unit};
 pub use products::read_products;
