@@ -7,3 +7,12 @@ mod Factors
 mod ScopeLoop
 mod MadeNames
 mod MadeFunctions
+mod UnitComplete
+mod UnitSound
+mod UnitLaws
+mod UnitHeights
+mod UnitFronts
+mod UnitEnds
+mod UnitWhole
+mod UnitCounts
+mod UnitSteps

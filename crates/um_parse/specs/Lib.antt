@@ -7,3 +7,14 @@ pub mod LayoutNames
 pub mod Resolved
 pub mod UnitRange
 pub mod Scope
+pub mod UnitTokens
+pub mod UnitGrammar
+pub mod UnitMachine
+pub mod UnitStops
+pub mod UnitLeast
+pub mod UnitCount
+pub mod UnitView
+pub mod UnitStates
+pub mod UnitReads
+pub mod UnitAnswer
+pub mod UnitParsed

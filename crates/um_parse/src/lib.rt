@@ -6,9 +6,16 @@
 mod declaration;
 mod layout;
 mod names;
+mod parse;
 mod products;
 mod resolve;
-#[cfg(test)]
-mod tests;
+mod unit;
+mod unit_frame;
+mod unit_least;
+mod unit_loop;
+mod unit_mark;
+mod unit_part;
+mod unit_reader;
 
+pub use parse::{LimitKind, ParseStop, parse_unit};
 pub use products::read_products;

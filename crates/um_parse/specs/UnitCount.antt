@@ -1,0 +1,5 @@
+-- Heights as they are counted beside trees: up to one above the greatest that is allowed (this project's own).
+use Rattle.std.specs.Prelude.{ℕ, min}
+
+abbrev pub counted : ℕ → ℕ
+counted height = min height 401
