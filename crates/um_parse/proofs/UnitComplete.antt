@@ -260,7 +260,7 @@ mutual
       then_at (Need frames) (Need (InBracket at ∷ frames)) (sign mark.Open) at tokens s.0 s.2 refl
       ∙ complete u (InBracket at ∷ frames) s.0 s.1 s.3 fits (rank_low u)
       ∙ then_first (into (InBracket at ∷ frames) u) (Have frames (bracket_text at u)) (sign mark.Close) s.1 rest s.4
-          (λ m. on_close (into (InBracket at ∷ frames) u) m ∙ ap close_after (red_into u (InBracket at ∷ frames) fits))
+      (λ m. on_close (into (InBracket at ∷ frames) u) m ∙ ap close_after (red_into u (InBracket at ∷ frames) fits))
 
   complete_side : (us : UnitTexts) (frames : List Frame) (front : List UnitText) (u : UnitText) (tokens rest : List Token) → AllSpell us tokens rest → ArePowers us → 2 ≤ top_limit frames
       → run (Have (inside front frames) u) tokens ≡ run (behind frames front u us) rest

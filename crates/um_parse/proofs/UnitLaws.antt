@@ -84,7 +84,7 @@ can_end (Raised frames t) tokens h ok =
     ends frames (power_text t (pos 0)) tokens h.0 h.2 (h.1, number_token ∷ endings frames, h.3, h.4, (0, inl (refl, (false, (number_token, refl, refl))))) h.5 (h.7, h.6) (omega (arith, limit_low frames))
 can_end (Lowered frames t) tokens h ok =
     ends frames (power_text t (neg_ℤ (pos 0))) tokens h.0 h.3 (h.1, h.2, h.4, h.5, (0, inr (number_token ∷ endings frames, refl, h.6, (false, (number_token, refl, refl))))) h.7 (h.9, h.8)
-      (omega (arith, limit_low frames))
+    (omega (arith, limit_low frames))
 can_end Refused tokens h ok = absurd (ok refl)
 
 pub can_go_on : (read : List Token) → run (Need []) read ≢ Refused → IsUnit (read ++ ending_of (run (Need []) read)) (completed (run (Need []) read))
@@ -115,7 +115,7 @@ reads_as t tokens p = complete t [] tokens [] p.spelled p.fits (rank_low t)
 pub none_begins : (tokens : List Token) → run (Need []) tokens ≡ Refused → Begins tokens → ⊥
 none_begins tokens e b =
     hand_goes_on (into [] b.1) (into_hand b.1 [] b.2.fits)
-      (sym (reads_as b.1 (tokens ++ b.0) b.2) ∙ run_append tokens b.0 (Need []) ∙ ap (λ s. run s b.0) e ∙ run_refused b.0)
+    (sym (reads_as b.1 (tokens ++ b.0) b.2) ∙ run_append tokens b.0 (Need []) ∙ ap (λ s. run s b.0) e ∙ run_refused b.0)
 
 finish_red : (st : State) → finish st ≡ whole (red st)
 finish_red (Need frames) = refl

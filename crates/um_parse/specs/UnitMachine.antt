@@ -175,7 +175,6 @@ power_in (sign m) = None
 power_in (measure x) = None
 power_in (variable x) = None
 
-
 -- `/` or `*` behind what is at hand
 abbrev pub sign_after : Bool → State → State
 sign_after true st = over_after st

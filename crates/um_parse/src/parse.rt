@@ -42,7 +42,12 @@ fn place(tokens: &[Token], k: usize, end: u32) -> u32
 /// The unit text that begins at the token of number `from`, and the number of its stop, counted from 0.
 ///
 /// The stop is the first token such that the tokens through it begin no unit text, or the end. `end` is the length of the text.
-pub fn parse_unit(alloc: Global, tokens: &[Token], from: u32, end: u32) -> Result<(RawUnit, u32), ParseStop>
+pub fn parse_unit(
+    alloc: Global,
+    tokens: &[Token],
+    from: u32,
+    end: u32,
+) -> Result<(RawUnit, u32), ParseStop>
     requires from { from ≤ length tokens.now }
     requires text { length tokens.now ≤ end }
     ensures { Parsed tokens.now from end result }
@@ -50,7 +55,9 @@ pub fn parse_unit(alloc: Global, tokens: &[Token], from: u32, end: u32) -> Resul
     let rest = &tokens[from as usize..];
     match read_unit(alloc, rest) {
         Ok((unit, k)) => Ok((unit, (from as usize + k) as u32)),
-        Err(UnitStop::Syntax(k)) => Err(ParseStop::Syntax { at: place(rest, k, end) }),
+        Err(UnitStop::Syntax(k)) => Err(ParseStop::Syntax {
+            at: place(rest, k, end),
+        }),
         Err(UnitStop::High(k)) => Err(ParseStop::Limit {
             kind: LimitKind::Height,
             at: place(rest, k, end),

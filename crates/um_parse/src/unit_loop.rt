@@ -25,7 +25,11 @@ impl From<AllocError> for ReadStop {
 }
 
 /// Reads up to the stop.
-pub fn read(alloc: Global, frames: &mut Vec<Frame>, tokens: &[Token]) -> Result<(Hand, usize), ReadStop>
+pub fn read(
+    alloc: Global,
+    frames: &mut Vec<Frame>,
+    tokens: &[Token],
+) -> Result<(Hand, usize), ReadStop>
     requires { frames.now.items ≡ [] }
     ensures { ReadsTo tokens.now frames.new.items result }
 {

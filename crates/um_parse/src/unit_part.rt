@@ -31,7 +31,11 @@ pub struct Front {
 pub fn one_higher(height: u32) -> u32
     ensures { result ≡ counted (height + 1) }
 {
-    if height < TOO_HIGH { height + 1 } else { TOO_HIGH }
+    if height < TOO_HIGH {
+        height + 1
+    } else {
+        TOO_HIGH
+    }
 }
 
 /// The greater of the two.
@@ -54,7 +58,10 @@ impl Part {
     pub fn one(at: u32) -> Part
         ensures { part_text result ≡ one_text at }
     {
-        Part { unit: RawUnit::One(at), height: 1 }
+        Part {
+            unit: RawUnit::One(at),
+            height: 1,
+        }
     }
 
     /// A measure
@@ -62,7 +69,10 @@ impl Part {
         ensures { IfOk result (λ p. part_text p ≡ measure_text at letters.now) }
     {
         let name = name_of(alloc, letters)?;
-        Ok(Part { unit: RawUnit::Name(at, name), height: 1 })
+        Ok(Part {
+            unit: RawUnit::Name(at, name),
+            height: 1,
+        })
     }
 
     /// A variable
@@ -70,7 +80,10 @@ impl Part {
         ensures { IfOk result (λ p. part_text p ≡ variable_text at letters.now) }
     {
         let name = name_of(alloc, letters)?;
-        Ok(Part { unit: RawUnit::Var(at, name), height: 1 })
+        Ok(Part {
+            unit: RawUnit::Var(at, name),
+            height: 1,
+        })
     }
 
     /// Raised to a power
@@ -79,7 +92,10 @@ impl Part {
     {
         let Part { unit, height } = self;
         let unit = RawUnit::Power(Box::new(alloc, unit)?, power);
-        Ok(Part { unit, height: one_higher(height) })
+        Ok(Part {
+            unit,
+            height: one_higher(height),
+        })
     }
 
     /// In brackets
@@ -88,7 +104,10 @@ impl Part {
     {
         let Part { unit, height } = self;
         let unit = RawUnit::Bracket(at, Box::new(alloc, unit)?);
-        Ok(Part { unit, height: one_higher(height) })
+        Ok(Part {
+            unit,
+            height: one_higher(height),
+        })
     }
 
     /// Behind a leading `/`
@@ -97,7 +116,10 @@ impl Part {
     {
         let Part { unit, height } = self;
         let unit = RawUnit::Inverse(at, Box::new(alloc, unit)?);
-        Ok(Part { unit, height: one_higher(height) })
+        Ok(Part {
+            unit,
+            height: one_higher(height),
+        })
     }
 
     /// A product
@@ -106,7 +128,10 @@ impl Part {
     {
         let Part { unit, height } = self;
         let unit = RawUnit::Times(Box::new(alloc, unit)?, Box::new(alloc, right.unit)?);
-        Ok(Part { unit, height: one_higher(higher(height, right.height)) })
+        Ok(Part {
+            unit,
+            height: one_higher(higher(height, right.height)),
+        })
     }
 
     /// A quotient
@@ -115,7 +140,10 @@ impl Part {
     {
         let Part { unit, height } = self;
         let unit = RawUnit::Over(Box::new(alloc, unit)?, Box::new(alloc, right.unit)?);
-        Ok(Part { unit, height: one_higher(higher(height, right.height)) })
+        Ok(Part {
+            unit,
+            height: one_higher(higher(height, right.height)),
+        })
     }
 }
 
@@ -126,7 +154,10 @@ impl Front {
     pub fn empty(alloc: Global) -> Front
         ensures { front_texts result ≡ [] }
     {
-        Front { units: Vec::new(alloc), height: 0 }
+        Front {
+            units: Vec::new(alloc),
+            height: 0,
+        }
     }
 
     /// With one unit text more
@@ -134,9 +165,15 @@ impl Front {
         ensures { IfOk result (λ f. front_texts f ≡ front_texts self ++ part_text last ∷ []) }
     {
         let Front { mut units, height } = self;
-        let Part { unit, height: last_height } = last;
+        let Part {
+            unit,
+            height: last_height,
+        } = last;
         units.push(unit)?;
-        Ok(Front { units, height: higher(height, last_height) })
+        Ok(Front {
+            units,
+            height: higher(height, last_height),
+        })
     }
 
     /// The juxtaposition
@@ -144,6 +181,9 @@ impl Front {
         ensures { part_text result ≡ side_text (units_in_order (front_texts self)) }
     {
         let Front { units, height } = self;
-        Part { unit: RawUnit::Side(RawUnits { items: units }), height: one_higher(height) }
+        Part {
+            unit: RawUnit::Side(RawUnits { items: units }),
+            height: one_higher(height),
+        }
     }
 }

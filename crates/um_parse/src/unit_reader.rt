@@ -31,7 +31,11 @@ fn pop_ended(frames: &mut Vec<Frame>) -> Option<Frame>
     ensures state { Ended (stack frames.old.items) result (stack frames.new.items) }
     ensures shorter { IfSome result (λ _. vec_len frames.new < vec_len frames.old) }
 {
-    if ends_itself(frames) { pop_frame(frames) } else { None }
+    if ends_itself(frames) {
+        pop_frame(frames)
+    } else {
+        None
+    }
 }
 
 // Ends all frames up to the innermost brackets.
@@ -76,7 +80,11 @@ fn power_of(value: Frac, digits: bool) -> Option<i32>
     ensures { option_map pos (power_of value digits) ≡ result }
 {
     let power = value.num();
-    if digits && 0 <= power && power <= GREATEST_POWER { Some(power as i32) } else { None }
+    if digits && 0 <= power && power <= GREATEST_POWER {
+        Some(power as i32)
+    } else {
+        None
+    }
 }
 
 // The atom that a token is, if it is one; not an opening bracket.
@@ -136,7 +144,12 @@ fn step_empty(alloc: Global, frames: &mut Vec<Frame>, token: &Token) -> Result<S
 }
 
 // One token behind `^`.
-fn step_raised(alloc: Global, frames: &Vec<Frame>, base: Part, token: &Token) -> Result<Step, AllocError>
+fn step_raised(
+    alloc: Global,
+    frames: &Vec<Frame>,
+    base: Part,
+    token: &Token,
+) -> Result<Step, AllocError>
     ensures { IfOk result (λ s. Gives (Raised (stack frames.now.items) (part_text base)) frames.now.items s (raised (stack frames.now.items) (part_text base) (unit_token token.now.kind))) }
 {
     if let Some(power) = power(&token.kind) {
@@ -149,7 +162,12 @@ fn step_raised(alloc: Global, frames: &Vec<Frame>, base: Part, token: &Token) ->
 }
 
 // One token behind `^` and `-`.
-fn step_lowered(alloc: Global, frames: &Vec<Frame>, base: Part, token: &Token) -> Result<Step, AllocError>
+fn step_lowered(
+    alloc: Global,
+    frames: &Vec<Frame>,
+    base: Part,
+    token: &Token,
+) -> Result<Step, AllocError>
     ensures { IfOk result (λ s. Gives (Lowered (stack frames.now.items) (part_text base)) frames.now.items s (lowered (stack frames.now.items) (part_text base) (unit_token token.now.kind))) }
 {
     match power(&token.kind) {
@@ -191,16 +209,33 @@ fn is_atom(at_hand: &Part) -> bool
 }
 
 // `*` or `/` behind the unit at hand.
-fn after_sign(alloc: Global, frames: &mut Vec<Frame>, at_hand: Part, over: bool) -> Result<Step, AllocError>
+fn after_sign(
+    alloc: Global,
+    frames: &mut Vec<Frame>,
+    at_hand: Part,
+    over: bool,
+) -> Result<Step, AllocError>
     ensures { IfOk result (λ s. Gives (Have (stack frames.old.items) (part_text at_hand)) frames.new.items s (sign_after over (reduce (stack frames.old.items) (part_text at_hand)))) }
 {
     let left = ended(alloc, frames, at_hand)?;
-    push_frame(frames, if over { Frame::InOver(left) } else { Frame::InTimes(left) })?;
+    push_frame(
+        frames,
+        if over {
+            Frame::InOver(left)
+        } else {
+            Frame::InTimes(left)
+        },
+    )?;
     Ok(Step::Goes(Hand::Empty))
 }
 
 // One token behind an atom or a power.
-fn step_full(alloc: Global, frames: &mut Vec<Frame>, at_hand: Part, token: &Token) -> Result<Step, AllocError>
+fn step_full(
+    alloc: Global,
+    frames: &mut Vec<Frame>,
+    at_hand: Part,
+    token: &Token,
+) -> Result<Step, AllocError>
     ensures { IfOk result (λ s. Gives (Have (stack frames.old.items) (part_text at_hand)) frames.new.items s (after (stack frames.old.items) (part_text at_hand) (unit_token token.now.kind) token.now.start)) }
 {
     if let Some(atom) = atom(alloc, &token.kind, token.start)? {
@@ -226,7 +261,12 @@ fn step_full(alloc: Global, frames: &mut Vec<Frame>, at_hand: Part, token: &Toke
 }
 
 /// One token more.
-pub fn step(alloc: Global, frames: &mut Vec<Frame>, hand: Hand, token: &Token) -> Result<Step, AllocError>
+pub fn step(
+    alloc: Global,
+    frames: &mut Vec<Frame>,
+    hand: Hand,
+    token: &Token,
+) -> Result<Step, AllocError>
     ensures { IfOk result (λ s. Gives (state_of frames.old.items hand) frames.new.items s (act (state_of frames.old.items hand) (unit_token token.now.kind) token.now.start)) }
 {
     match hand {
@@ -253,7 +293,11 @@ fn no_whole(open: Option<Frame>, at_hand: Part) -> Option<Part>
 }
 
 /// The unit text where all is read.
-pub fn finish(alloc: Global, frames: &mut Vec<Frame>, hand: Hand) -> Result<Option<Part>, AllocError>
+pub fn finish(
+    alloc: Global,
+    frames: &mut Vec<Frame>,
+    hand: Hand,
+) -> Result<Option<Part>, AllocError>
     ensures { IfOk result (λ o. option_map part_text o ≡ finish (state_of frames.old.items hand)) }
 {
     match hand {

@@ -9,10 +9,12 @@ use Rattle.um_parse.proofs.unit_least.least_height.Goals as goal
 
 pub loop-i-init : goal.loop-i-init
 loop-i-init c =
-    let items = c.args.frames.now.items in
-    (omega (arith, c.len-i.ensures), omega (arith, c.count-least.ensures),
+    let items = c.args.frames.now.items in (
+      omega (arith, c.len-i.ensures),
+      omega (arith, c.count-least.ensures),
       ap (λ xs. counted (least_over (stack xs) c.count-least.result)) (take_all c.len-i.result items (omega (arith, c.len-i.ensures)))
-      ∙ least_counted (stack items) c.count-least.result c.args.height (omega (arith, c.count-least.ensures)))
+          ∙ least_counted (stack items) c.count-least.result c.args.height (omega (arith, c.count-least.ensures)),
+    )
 
 pub loop-i-preserved : goal.loop-i-preserved
 loop-i-preserved c =
@@ -21,7 +23,9 @@ loop-i-preserved c =
     let test = c.loop-i-test.true in
     let within = c.loop-i.invariant.0 in
     let back : i + 1 ≡ c.loop-i.i = omega (arith, test) in
-    let same : get_or items i c.index.result.now ≡ c.index.result.now = search (rules, c.index.ensures) in
-    (omega arith, omega (arith, c.one_higher-least.ensures),
+    let same : get_or items i c.index.result.now ≡ c.index.result.now = search (rules, c.index.ensures) in (
+      omega arith,
+      omega (arith, c.one_higher-least.ensures),
       one_out items i c.index.result.now c.loop-i.least c.one_higher-least.result (omega arith) (rw same (omega (arith, c.one_higher-least.ensures, c.higher.ensures, c.side.ensures)))
-      ∙ ap (λ k. counted (least_over (stack (take k items)) c.loop-i.least)) back ∙ c.loop-i.invariant.2)
+          ∙ ap (λ k. counted (least_over (stack (take k items)) c.loop-i.least)) back ∙ c.loop-i.invariant.2,
+    )

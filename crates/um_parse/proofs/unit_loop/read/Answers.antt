@@ -16,9 +16,11 @@ returns-in-Stops c =
     let token = c.index-tokens-i.result in
     let old = state_of c.loop-i.frames.items c.loop-i.hand in
     let same : get_or tokens i token ≡ token = search (rules, c.index-tokens-i.is) in
-    let g = subst (λ (s : Step). Gives old c.step.new.frames.items s (act old (unit_token token.kind) token.start)) c.in-Stops.is c.in_ok-last.ensures in
-    (is_read tokens i c.loop-i.frames.items c.loop-i.hand (omega (arith, c.loop-i-test.true)) c.loop-i.invariant.0 c.loop-i.invariant.1,
-      (λ lt. sym (one_more tokens i token old lt same c.loop-i.invariant.0) ∙ g.0), g.1 ∙ ap finish c.loop-i.invariant.0)
+    let g = subst (λ (s : Step). Gives old c.step.new.frames.items s (act old (unit_token token.kind) token.start)) c.in-Stops.is c.in_ok-last.ensures in (
+      is_read tokens i c.loop-i.frames.items c.loop-i.hand (omega (arith, c.loop-i-test.true)) c.loop-i.invariant.0 c.loop-i.invariant.1,
+      (λ lt. sym (one_more tokens i token old lt same c.loop-i.invariant.0) ∙ g.0),
+      g.1 ∙ ap finish c.loop-i.invariant.0,
+    )
 
 pub returns-then-not-is_low : goal.returns-then-not-is_low
 returns-then-not-is_low c =
@@ -30,9 +32,12 @@ returns-then-not-is_low c =
     let same : get_or tokens i token ≡ token = search (rules, c.index-tokens-i.is) in
     let g = subst (λ (s : Step). Gives old c.step.new.frames.items s (act old (unit_token token.kind) token.start)) c.in-Goes.is c.in_ok-last.ensures in
     let e : new ≡ state_at tokens (i + 1) = sym g ∙ one_more tokens i token old c.loop-i-test.true same c.loop-i.invariant.0 in
-    let no : nat_lt (least new) 401 ≡ false = search (rules, c.is_low.ensures, c.if-not-is_low.true) in
-    (is_read tokens i c.loop-i.frames.items c.loop-i.hand (omega (arith, c.loop-i-test.true)) c.loop-i.invariant.0 c.loop-i.invariant.1,
-      c.loop-i-test.true, (λ h. goes_on c.step.new.frames.items c.in-Goes.next (e ∙ h)), omega (arith, high_is (least new) no, ap least e))
+    let no : nat_lt (least new) 401 ≡ false = search (rules, c.is_low.ensures, c.if-not-is_low.true) in (
+      is_read tokens i c.loop-i.frames.items c.loop-i.hand (omega (arith, c.loop-i-test.true)) c.loop-i.invariant.0 c.loop-i.invariant.1,
+      c.loop-i-test.true,
+      (λ h. goes_on c.step.new.frames.items c.in-Goes.next (e ∙ h)),
+      omega (arith, high_is (least new) no, ap least e),
+    )
 
 pub loop-i-preserved : goal.loop-i-preserved
 loop-i-preserved c =

@@ -8,6 +8,12 @@ use Rattle.um_parse.proofs.unit_part.Front.with.Goals as goal
 pub invariant_of-result : goal.invariant_of-result
 invariant_of-result c = record {
   counted_height =
-    omega (arith, c.higher.ensures, c.args.self.counted_height, c.args.last.counted_height, tallest_more c.args.self.units.items c.args.last.unit,
-      ap (λ w. tallest_unit (units_in_order (map unit_text w))) c.in_ok-push.ensures.items);
+      omega (
+        arith,
+        c.higher.ensures,
+        c.args.self.counted_height,
+        c.args.last.counted_height,
+        tallest_more c.args.self.units.items c.args.last.unit,
+        ap (λ w. tallest_unit (units_in_order (map unit_text w))) c.in_ok-push.ensures.items,
+      );
 }
