@@ -19,3 +19,6 @@ mod unit_reader;
 
 pub use parse::{LimitKind, ParseStop, parse_unit};
 pub use products::read_products;
+
+#[cfg(test)]
+mod tests;

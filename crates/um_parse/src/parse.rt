@@ -50,7 +50,7 @@ pub fn parse_unit(
 ) -> Result<(RawUnit, u32), ParseStop>
     requires from { from ≤ length tokens.now }
     requires text { length tokens.now ≤ end }
-    ensures { Parsed tokens.now from end result }
+    ensures parsed { Parsed tokens.now from end result }
 {
     let rest = &tokens[from as usize..];
     match read_unit(alloc, rest) {
