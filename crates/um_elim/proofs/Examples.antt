@@ -17,12 +17,12 @@ units_of Range = []
 abbrev terms_of : Outcome → List (List Term)
 terms_of o = map (λ (u : PowerMap). u.terms) (units_of o)
 
--- a^2 b^-3 over two slots leaves a^-3 and a^-2
+-- a^2 b^-3 over two slots: b^-3 and b^-2 over a new variable, which is the first slot's
 two_slots : terms_of (eliminate (atom (Var 0) ∷ atom (Var 1) ∷ []) (product (term (Var 0) (pos 2) ∷ term (Var 1) (negsuc 2) ∷ []))) ≡ (term (Var 0) (negsuc 2) ∷ []) ∷ (term (Var 0) (negsuc 1) ∷ []) ∷ []
 unfolding product
 two_slots = refl
 
--- a^2 m^-3 has no solution, since 3 is odd
+-- a^2 m^-3 has no solution
 half_powers : eliminate (atom (Var 0) ∷ []) (product (term (Var 0) (pos 2) ∷ term (Base 0) (negsuc 2) ∷ [])) ≡ NoSolution
 unfolding product
 half_powers = refl
