@@ -15,7 +15,7 @@ use Rattle.um_tree.specs.Typing.{Typed, TypesMatch, ResultMatches, unit_at, put,
 use Rattle.um_tree.specs.Scheme.{IsPrincipal}
 use Rattle.um_tree.specs.declared.note.UnitNote.TheVariants.{Written}
 use Rattle.um_tree.specs.declared.expression.Arith.TheVariants.{Mul}
-use Rattle.um_parse.specs.ProductFunction.{IsProductOf, IsProductFunction}
+use Rattle.um_products.specs.ProductFunction.{IsProductOf, IsProductFunction}
 use Rattle.um_tool.specs.Product.{product_unit, PartsFit, product_signature, product_scheme, note_unit, param_units}
 use Rattle.um_tool.specs.Range.{NodesFit, TypeFits}
 

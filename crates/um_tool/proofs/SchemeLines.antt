@@ -11,7 +11,7 @@ use Rattle.um_tree.specs.TypeTree.{TypeTree, num_type}
 use Rattle.um_tree.specs.ProgramTree.{FunctionTree, ProgramTree, function_tree}
 use Rattle.um_tree.specs.Typing.{TypesMatch}
 use Rattle.um_tree.specs.Scheme.{IsPrincipal}
-use Rattle.um_parse.specs.ProductFunction.{IsProductFunction, HasProductFunctions}
+use Rattle.um_products.specs.ProductFunction.{IsProductFunction, HasProductFunctions}
 use Rattle.um_tool.specs.Range.{NodesFit, ProgramFits}
 use Rattle.um_tool.specs.SchemeText.{IsSchemeLine, IsSchemesText}
 use Rattle.um_tool.specs.Product.{param_units, PartsFit, IsProductLine, product_scheme}

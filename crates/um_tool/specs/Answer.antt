@@ -7,7 +7,7 @@ use Rattle.um_tool.specs.declared.order.Order.TheVariants.{Types}
 use Rattle.um_tool.specs.declared.status.Status.{Status}
 use Rattle.um_tool.specs.declared.status.Status.TheVariants.{Done, Usage, TooLong, NotBuilt}
 use Rattle.um_tree.specs.ProgramTree.{ProgramTree}
-use Rattle.um_parse.specs.ProductProgram.{IsProductProgram}
+use Rattle.um_products.specs.ProductProgram.{IsProductProgram}
 use Rattle.um_tool.specs.Orders.{order_of, NamesUnbuilt}
 use Rattle.um_tool.specs.Range.{ProgramFits}
 use Rattle.um_tool.specs.SchemeText.{IsSchemesText}

@@ -4,7 +4,7 @@ use Rattle.std.specs.Prelude.{◌≡◌, ◌≤◌, ◌⊎◌, ℕ, List, length
 use Rattle.std.specs.Io.KnownBytes.{Appends, Keeps}
 use Rattle.um_wire.specs.Faults.{Rose}
 use Rattle.um_wire.specs.Bytes.{Tells, AppendsPrefix}
-use Rattle.um_parse.specs.ProductProgram.{IsProductProgram}
+use Rattle.um_products.specs.ProductProgram.{IsProductProgram}
 use Rattle.um_tree.specs.ProgramTree.{ProgramTree}
 use Rattle.um_tool.specs.declared.order.Order.TheVariants.{Types}
 use Rattle.um_tool.specs.declared.status.Status.{Status}

@@ -3,12 +3,12 @@ ghost use Rattle.std.specs.Prelude.{ℕ, List, ◌≤◌, ◌≡◌, length, IfO
 ghost use Rattle.um_tool.specs.Answer.{ProgramAnswer, SchemesAnswer, IsNotBuilt};
 ghost use Rattle.um_tool.specs.Steps.{IsReply, line};
 ghost use Rattle.um_tree.specs.ProgramTree.{program_tree};
-ghost use Rattle.um_parse.specs.ProductFunction.{HasProductFunctions};
+ghost use Rattle.um_products.specs.ProductFunction.{HasProductFunctions};
 
 use crate::schemes::schemes_text;
 use crate::{Order, Status};
 use std::alloc::{AllocError, Global};
-use um_parse::read_products;
+use um_products::read_products;
 use um_tree::Program;
 
 /// What a run is about to write, and the status that it then ends with.

@@ -3,7 +3,7 @@ ghost use Rattle.std.specs.Prelude.{◌≡◌, ◌++◌, ℕ, List, IfOk, OnOk, 
 ghost use Rattle.um_tree.specs.TypeTree.{note_tree};
 ghost use Rattle.um_tree.specs.ExprTree.{expr_tree};
 ghost use Rattle.um_tree.specs.ProgramTree.{program_tree, function_tree};
-ghost use Rattle.um_parse.specs.ProductFunction.{HasProductFunctions};
+ghost use Rattle.um_products.specs.ProductFunction.{HasProductFunctions};
 ghost use Rattle.um_tool.specs.Range.{ProgramFits};
 ghost use Rattle.um_tool.specs.SchemeText.{IsSchemesText, IsNumText};
 ghost use Rattle.um_tool.specs.Product.{note_unit, param_units, product_unit, PartsFit};

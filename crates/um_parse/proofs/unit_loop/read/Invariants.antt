@@ -1,8 +1,0 @@
-use Rattle.std.proofs.Common.{◌≡◌, ◌≤◌, [], take}
-use Rattle.um_parse.specs.UnitView.{state_of}
-use Rattle.um_parse.specs.UnitStates.{state_at}
-use Rattle.um_parse.specs.UnitLeast.{least}
-use Rattle.um_parse.proofs.unit_loop.read.Given as goal
-
-abbrev pub invariant-loop-i : goal.invariant-loop-i
-invariant-loop-i l = (state_of l.frames.items l.hand ≡ state_at l.tokens l.i) × (least (state_at l.tokens l.i) ≤ 400)

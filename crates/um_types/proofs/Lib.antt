@@ -1,0 +1,9 @@
+mod UnitComplete
+mod UnitSound
+mod UnitLaws
+mod UnitHeights
+mod UnitFronts
+mod UnitEnds
+mod UnitWhole
+mod UnitCounts
+mod UnitSteps

@@ -1,0 +1,234 @@
+-- The least height of a unit text that the tokens begin: it is reached, and none is lower.
+use Rattle.std.proofs.Common.{◌≡◌, ◌≢◌, ℕ, ◌+◌, ◌≤◌, ◌<◌, max, List, [], ◌∷◌, ◌++◌, cond, Bool, true, false, Option, Some, None, refl, sym, ap, subst, ◌∙◌, arith}
+use Rattle.um_syntax.specs.declared.token.Token.{Token}
+use Rattle.um_tree.specs.RawTree.{UnitText, one_text, measure_text, variable_text, power_text, side_text, times_text, over_text, inverse_text, bracket_text, units_in_order}
+use Rattle.um_tree.specs.Heights.{unit_height, tallest_unit}
+use Rattle.um_types.specs.UnitTokens.{UnitToken, sign, measure, variable, number, unit_token}
+use Rattle.um_types.specs.declared.unit_mark.Mark.TheVariants as mark
+use Rattle.um_types.specs.UnitGrammar.{IsUnit, Begins, BeginsWithin}
+use Rattle.um_types.specs.UnitMachine.{Frame, InBracket, InInverse, InTimes, InOver, InSide, State, Need, Have, Raised, Lowered, Refused, opens, plug, reduce, juxtapose, begin, times_after, over_after, close_after, raise, after, raised, lowered, act, run, whole, finish}
+use Rattle.um_types.specs.UnitLeast.{side, least_over, least}
+use Rattle.um_types.proofs.UnitComplete.{into, red, red_into, AtHand, into_hand}
+use Rattle.um_types.proofs.UnitLaws.{filled, all_filled, ending_of, completed, can_go_on, run_append, run_refused, reads_as}
+
+tallest_last : (front : List UnitText) (t : UnitText) → tallest_unit (units_in_order (front ++ t ∷ [])) ≡ max (tallest_unit (units_in_order front)) (unit_height t)
+tallest_last [] t = omega arith
+tallest_last (u ∷ us) t = let e = tallest_last us t in omega (arith, e)
+
+pub height_filled : (frame : Frame) (t : UnitText) → unit_height (filled frame t) ≡ max (side frame) (unit_height t) + 1
+height_filled (InBracket at) t = omega arith
+height_filled (InInverse at) t = omega arith
+height_filled (InTimes left) t = refl
+height_filled (InOver left) t = refl
+height_filled (InSide front) t = ap (λ n. n + 1) (tallest_last front t)
+
+height_all_filled : (frames : List Frame) (t : UnitText) → unit_height (all_filled frames t) ≡ least_over frames (unit_height t)
+height_all_filled [] t = refl
+height_all_filled (frame ∷ frames) t = height_all_filled frames (filled frame t) ∙ ap (least_over frames) (height_filled frame t)
+
+completed_height : (st : State) → st ≢ Refused → unit_height (completed st) ≡ least st
+completed_height (Need frames) ok = height_all_filled frames (measure_text 0 [])
+completed_height (Have frames t) ok = height_all_filled frames t
+completed_height (Raised frames t) ok = height_all_filled frames (power_text t _)
+completed_height (Lowered frames t) ok = height_all_filled frames (power_text t _)
+completed_height Refused ok = absurd (ok refl)
+
+-- a unit text of the least height begins so
+pub begins_within : (read : List Token) (limit : ℕ) → run (Need []) read ≢ Refused → least (run (Need []) read) ≤ limit → BeginsWithin limit read
+begins_within read limit ok le =
+    (ending_of (run (Need []) read), completed (run (Need []) read), can_go_on read ok, omega (arith, le, completed_height (run (Need []) read) ok))
+
+-- ---- a token never lowers it
+
+least_up : (frames : List Frame) (h k : ℕ) → h ≤ k → least_over frames h ≤ least_over frames k
+least_up [] h k le = le
+least_up (frame ∷ frames) h k le = least_up frames (max (side frame) h + 1) (max (side frame) k + 1) (omega arith)
+
+pub reduce_least : (frames : List Frame) (t : UnitText) → least (reduce frames t) ≡ least_over frames (unit_height t)
+reduce_least [] t = refl
+reduce_least (InBracket at ∷ frames) t = refl
+reduce_least (InInverse at ∷ frames) t = reduce_least frames (inverse_text at t) ∙ ap (least_over frames) (height_filled (InInverse at) t)
+reduce_least (InTimes left ∷ frames) t = reduce_least frames (times_text left t)
+reduce_least (InOver left ∷ frames) t = reduce_least frames (over_text left t)
+reduce_least (InSide front ∷ frames) t =
+    reduce_least frames (side_text (units_in_order (front ++ t ∷ []))) ∙ ap (least_over frames) (height_filled (InSide front) t)
+
+abbrev Above : ℕ → State → Type 0
+Above n Refused = Unit {0}
+Above n (Need frames) = n ≤ least (Need frames)
+Above n (Have frames t) = n ≤ least (Have frames t)
+Above n (Raised frames t) = n ≤ least (Raised frames t)
+Above n (Lowered frames t) = n ≤ least (Lowered frames t)
+
+above_more : (n m : ℕ) (st : State) → n ≤ m → Above m st → Above n st
+above_more n m (Need frames) le h = omega arith
+above_more n m (Have frames t) le h = omega arith
+above_more n m (Raised frames t) le h = omega arith
+above_more n m (Lowered frames t) le h = omega arith
+above_more n m Refused le h = tt
+
+inverse_up : (frames : List Frame) (b : Bool) (at : ℕ) → Above (least_over frames 1) (cond b (Need (InInverse at ∷ frames)) Refused)
+inverse_up frames true at = least_up frames 1 2 (omega arith)
+inverse_up frames false at = tt
+
+begin_up : (frames : List Frame) (what : UnitToken) (at : ℕ) → Above (least_over frames 1) (begin frames what at)
+begin_up frames (measure x) at = omega arith
+begin_up frames (variable x) at = omega arith
+begin_up frames (number true power) at = omega arith
+begin_up frames (number false power) at = tt
+begin_up frames (sign mark.Open) at = least_up frames 1 2 (omega arith)
+begin_up frames (sign mark.Over) at = inverse_up frames (opens frames) at
+begin_up frames (sign mark.Close) at = tt
+begin_up frames (sign mark.Times) at = tt
+begin_up frames (sign mark.Caret) at = tt
+begin_up frames (sign mark.Minus) at = tt
+begin_up frames (sign mark.Other) at = tt
+
+first_up : (frames : List Frame) (t : UnitText) → least_over frames (unit_height t) ≤ least_over (InSide (t ∷ []) ∷ frames) 1
+first_up frames t = least_up frames (unit_height t) (max (tallest_unit (units_in_order (t ∷ []))) 1 + 1) (omega arith)
+
+juxtapose_up : (frames : List Frame) (t : UnitText) → least_over frames (unit_height t) ≤ least_over (juxtapose frames t) 1
+juxtapose_up [] t = first_up [] t
+juxtapose_up (InBracket at ∷ frames) t = first_up (InBracket at ∷ frames) t
+juxtapose_up (InInverse at ∷ frames) t = first_up (InInverse at ∷ frames) t
+juxtapose_up (InTimes left ∷ frames) t = first_up (InTimes left ∷ frames) t
+juxtapose_up (InOver left ∷ frames) t = first_up (InOver left ∷ frames) t
+juxtapose_up (InSide front ∷ frames) t =
+    let e = tallest_last front t in
+    least_up frames (max (tallest_unit (units_in_order front)) (unit_height t) + 1) (max (tallest_unit (units_in_order (front ++ t ∷ []))) 1 + 1) (omega (arith, e))
+
+next_up : (frames : List Frame) (t : UnitText) (what : UnitToken) (at : ℕ) → Above (least_over frames (unit_height t)) (begin (juxtapose frames t) what at)
+next_up frames t what at =
+    above_more (least_over frames (unit_height t)) (least_over (juxtapose frames t) 1) (begin (juxtapose frames t) what at) (juxtapose_up frames t) (begin_up (juxtapose frames t) what at)
+
+times_up : (st : State) → Above (least st) (times_after st)
+times_up (Have frames t) = least_up frames (unit_height t) (max (unit_height t) 1 + 1) (omega arith)
+times_up (Need frames) = tt
+times_up (Raised frames t) = tt
+times_up (Lowered frames t) = tt
+times_up Refused = tt
+
+over_up : (st : State) → Above (least st) (over_after st)
+over_up (Have frames t) = least_up frames (unit_height t) (max (unit_height t) 1 + 1) (omega arith)
+over_up (Need frames) = tt
+over_up (Raised frames t) = tt
+over_up (Lowered frames t) = tt
+over_up Refused = tt
+
+close_up : (st : State) → Above (least st) (close_after st)
+close_up (Have (InBracket at ∷ frames) t) = least_up frames (max 0 (unit_height t) + 1) (unit_height t + 1) (omega arith)
+close_up (Have [] t) = tt
+close_up (Have (InInverse at ∷ frames) t) = tt
+close_up (Have (InTimes left ∷ frames) t) = tt
+close_up (Have (InOver left ∷ frames) t) = tt
+close_up (Have (InSide front ∷ frames) t) = tt
+close_up (Need frames) = tt
+close_up (Raised frames t) = tt
+close_up (Lowered frames t) = tt
+close_up Refused = tt
+
+raise_up : (frames : List Frame) (t : UnitText) → Above (least_over frames (unit_height t)) (raise frames t)
+raise_up frames (one_text at) = least_up frames 1 2 (omega arith)
+raise_up frames (measure_text at x) = least_up frames 1 2 (omega arith)
+raise_up frames (variable_text at x) = least_up frames 1 2 (omega arith)
+raise_up frames (bracket_text at u) = least_up frames (unit_height u + 1) (unit_height u + 1 + 1) (omega arith)
+raise_up frames (power_text u k) = tt
+raise_up frames (side_text us) = tt
+raise_up frames (times_text u v) = tt
+raise_up frames (over_text u v) = tt
+raise_up frames (inverse_text at u) = tt
+
+ended_up : (frames : List Frame) (t : UnitText) (st : State) → Above (least (reduce frames t)) st → Above (least_over frames (unit_height t)) st
+ended_up frames t st h = subst (λ n. Above n st) (reduce_least frames t) h
+
+after_up : (frames : List Frame) (t : UnitText) (what : UnitToken) (at : ℕ) → Above (least_over frames (unit_height t)) (after frames t what at)
+after_up frames t (measure x) at = next_up frames t (measure x) at
+after_up frames t (variable x) at = next_up frames t (variable x) at
+after_up frames t (number one power) at = next_up frames t (number one power) at
+after_up frames t (sign mark.Open) at = next_up frames t (sign mark.Open) at
+after_up frames t (sign mark.Close) at = ended_up frames t (close_after (reduce frames t)) (close_up (reduce frames t))
+after_up frames t (sign mark.Times) at = ended_up frames t (times_after (reduce frames t)) (times_up (reduce frames t))
+after_up frames t (sign mark.Over) at = ended_up frames t (over_after (reduce frames t)) (over_up (reduce frames t))
+after_up frames t (sign mark.Caret) at = raise_up frames t
+after_up frames t (sign mark.Minus) at = tt
+after_up frames t (sign mark.Other) at = tt
+
+raised_up : (frames : List Frame) (t : UnitText) (what : UnitToken) → Above (least_over frames (unit_height t + 1)) (raised frames t what)
+raised_up frames t (number one (Some n)) = omega arith
+raised_up frames t (number one None) = tt
+raised_up frames t (sign mark.Minus) = omega arith
+raised_up frames t (measure x) = tt
+raised_up frames t (variable x) = tt
+raised_up frames t (sign mark.Open) = tt
+raised_up frames t (sign mark.Close) = tt
+raised_up frames t (sign mark.Times) = tt
+raised_up frames t (sign mark.Over) = tt
+raised_up frames t (sign mark.Caret) = tt
+raised_up frames t (sign mark.Other) = tt
+
+lowered_up : (frames : List Frame) (t : UnitText) (what : UnitToken) → Above (least_over frames (unit_height t + 1)) (lowered frames t what)
+lowered_up frames t (number one (Some n)) = omega arith
+lowered_up frames t (number one None) = tt
+lowered_up frames t (sign m) = tt
+lowered_up frames t (measure x) = tt
+lowered_up frames t (variable x) = tt
+
+act_up : (st : State) (what : UnitToken) (at : ℕ) → Above (least st) (act st what at)
+act_up (Need frames) what at = begin_up frames what at
+act_up (Have frames t) what at = after_up frames t what at
+act_up (Raised frames t) what at = raised_up frames t what
+act_up (Lowered frames t) what at = lowered_up frames t what
+act_up Refused what at = tt
+
+above_least : (n : ℕ) (st : State) → st ≢ Refused → Above n st → n ≤ least st
+above_least n (Need frames) ok h = h
+above_least n (Have frames t) ok h = h
+above_least n (Raised frames t) ok h = h
+above_least n (Lowered frames t) ok h = h
+above_least n Refused ok h = absurd (ok refl)
+
+pub run_up : (tokens : List Token) (st : State) → run st tokens ≢ Refused → least st ≤ least (run st tokens)
+run_up [] st ok = omega arith
+run_up (token ∷ tokens) st ok =
+    let next : State = act st (unit_token token.kind) token.start in
+    let goes : next ≢ Refused = λ e. ok (ap (λ s. run s tokens) e ∙ run_refused tokens) in
+    omega (arith, above_least (least st) next goes (act_up st (unit_token token.kind) token.start), run_up tokens next ok)
+
+hand_least : (st : State) → AtHand st → least (red st) ≡ least st
+hand_least (Have frames t) h = reduce_least frames t
+hand_least (Need frames) h = absurd h
+hand_least (Raised frames t) h = absurd h
+hand_least (Lowered frames t) h = absurd h
+hand_least Refused h = absurd h
+
+hand_reads : (st : State) → AtHand st → st ≢ Refused
+hand_reads (Have frames t) h e = cc
+hand_reads (Need frames) h e = absurd h
+hand_reads (Raised frames t) h e = absurd h
+hand_reads (Lowered frames t) h e = absurd h
+hand_reads Refused h e = absurd h
+
+-- no unit text that the tokens begin is lower
+pub none_lower : (tokens more : List Token) (t : UnitText) → IsUnit (tokens ++ more) t → least (run (Need []) tokens) ≤ unit_height t
+none_lower tokens more t p =
+    let hand = into_hand t [] p.fits in
+    let e : run (run (Need []) tokens) more ≡ into [] t = sym (run_append tokens more (Need [])) ∙ reads_as t (tokens ++ more) p in
+    let up : least (run (Need []) tokens) ≤ least (run (run (Need []) tokens) more) = run_up more (run (Need []) tokens) (λ h. hand_reads (into [] t) hand (sym e ∙ h)) in
+    let same : least (into [] t) ≡ unit_height t = sym (hand_least (into [] t) hand) ∙ ap least (red_into t [] p.fits) in
+    omega (arith, up, ap least e, same)
+
+-- what is found has the least height
+pub found_height : (st : State) (t : UnitText) → finish st ≡ Some t → unit_height t ≡ least st
+found_height (Have frames u) t e = sym (whole_height (reduce frames u) t e) ∙ reduce_least frames u
+  where
+    whole_height : (st : State) (t : UnitText) → whole st ≡ Some t → least st ≡ unit_height t
+    whole_height (Have [] u) t e = let same : u ≡ t = cc in ap unit_height same
+    whole_height (Have (frame ∷ frames) u) t e = absurd cc
+    whole_height (Need frames) t e = absurd cc
+    whole_height (Raised frames u) t e = absurd cc
+    whole_height (Lowered frames u) t e = absurd cc
+    whole_height Refused t e = absurd cc
+found_height (Need frames) t e = absurd cc
+found_height (Raised frames u) t e = absurd cc
+found_height (Lowered frames u) t e = absurd cc
+found_height Refused t e = absurd cc

@@ -1,0 +1,11 @@
+pub mod UnitTokens
+pub mod UnitGrammar
+pub mod UnitMachine
+pub mod UnitStops
+pub mod UnitLeast
+pub mod UnitCount
+pub mod UnitView
+pub mod UnitStates
+pub mod UnitReads
+pub mod UnitAnswer
+pub mod UnitParsed

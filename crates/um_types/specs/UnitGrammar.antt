@@ -1,0 +1,95 @@
+-- The grammar of unit texts: a relation between tokens and raw units, by cases on the unit.
+--   unit  = [ "/" ] side { ( "*" | "/" ) side }       products and quotients associate to the left;
+--   side  = power { power }                           a leading "/" takes the first side
+--   power = atom [ "^" [ "-" ] Number ]
+--   atom  = Name | Var | "1" | "(" unit ")"
+-- Source: the F# specification, chapter Units Of Measure, without `_` and rational powers.
+use Rattle.std.specs.Prelude.{◌≡◌, ℕ, ◌≤◌, ℤ, pos, neg_ℤ, Bool, true, ◌⊎◌, List, [], ◌∷◌, ◌++◌, Option, Some}
+use Rattle.um_syntax.specs.declared.token.Token.{Token}
+use Rattle.um_tree.specs.RawTree.{UnitText, UnitTexts, one_text, measure_text, variable_text, power_text, side_text, times_text, over_text, inverse_text, bracket_text, no_units, more_units}
+use Rattle.um_tree.specs.Heights.{unit_height}
+use Rattle.um_types.specs.UnitTokens.{UnitToken, sign, measure, variable, number, unit_token}
+use Rattle.um_types.specs.declared.unit_mark.Mark.TheVariants as mark
+
+-- the first token is this, and the others are the rest
+abbrev pub First : UnitToken → List Token → List Token → Type 0
+First what tokens rest = (token : Token) × (unit_token token.kind ≡ what) × (tokens ≡ token ∷ rest)
+
+-- the same, with its place
+abbrev pub FirstAt : UnitToken → ℕ → List Token → List Token → Type 0
+FirstAt what at tokens rest = (token : Token) × (unit_token token.kind ≡ what) × (token.start ≡ at) × (tokens ≡ token ∷ rest)
+
+-- the number of a power
+abbrev pub Digits : ℕ → List Token → List Token → Type 0
+Digits n tokens rest = (one : Bool) × First (number one (Some n)) tokens rest
+
+-- what stands behind `^`: a number, or `-` and a number
+abbrev pub PowerSpells : ℤ → List Token → List Token → Type 0
+PowerSpells k tokens rest =
+    (n : ℕ) × (((k ≡ pos n) × Digits n tokens rest) ⊎ ((next : List Token) × (k ≡ neg_ℤ (pos n)) × First (sign mark.Minus) tokens next × Digits n next rest))
+
+-- the tokens are those of the unit text, and then the rest
+abbrev mutual
+  pub Spells : UnitText → List Token → List Token → Type 0
+  Spells (one_text at) tokens rest = (power : Option ℕ) × FirstAt (number true power) at tokens rest
+  Spells (measure_text at x) tokens rest = FirstAt (measure x) at tokens rest
+  Spells (variable_text at x) tokens rest = FirstAt (variable x) at tokens rest
+  Spells (power_text u k) tokens rest = (mid next : List Token) × Spells u tokens mid × First (sign mark.Caret) mid next × PowerSpells k next rest
+  Spells (side_text us) tokens rest = AllSpell us tokens rest
+  Spells (times_text u v) tokens rest = (mid next : List Token) × Spells u tokens mid × First (sign mark.Times) mid next × Spells v next rest
+  Spells (over_text u v) tokens rest = (mid next : List Token) × Spells u tokens mid × First (sign mark.Over) mid next × Spells v next rest
+  Spells (inverse_text at u) tokens rest = (next : List Token) × FirstAt (sign mark.Over) at tokens next × Spells u next rest
+  Spells (bracket_text at u) tokens rest = (next last : List Token) × FirstAt (sign mark.Open) at tokens next × Spells u next last × First (sign mark.Close) last rest
+
+  pub AllSpell : UnitTexts → List Token → List Token → Type 0
+  AllSpell no_units tokens rest = tokens ≡ rest
+  AllSpell (more_units u us) tokens rest = (mid : List Token) × Spells u tokens mid × AllSpell us mid rest
+
+-- an atom has rank 0, a power 1, a juxtaposition 2, a leading `/` 3, a product or quotient 4
+abbrev pub rank : UnitText → ℕ
+rank (one_text at) = 0
+rank (measure_text at x) = 0
+rank (variable_text at x) = 0
+rank (bracket_text at u) = 0
+rank (power_text u k) = 1
+rank (side_text us) = 2
+rank (inverse_text at u) = 3
+rank (times_text u v) = 4
+rank (over_text u v) = 4
+
+-- two or more
+abbrev pub Several : UnitTexts → Type 0
+Several no_units = ⊥
+Several (more_units u no_units) = ⊥
+Several (more_units u (more_units v us)) = Unit {0}
+
+-- each part stands where the grammar lets it stand
+abbrev mutual
+  pub Fits : UnitText → Type 0
+  Fits (one_text at) = Unit {0}
+  Fits (measure_text at x) = Unit {0}
+  Fits (variable_text at x) = Unit {0}
+  Fits (power_text u k) = (rank u ≡ 0) × Fits u
+  Fits (side_text us) = Several us × ArePowers us
+  Fits (times_text u v) = (rank v ≤ 2) × Fits u × Fits v
+  Fits (over_text u v) = (rank v ≤ 2) × Fits u × Fits v
+  Fits (inverse_text at u) = (rank u ≤ 2) × Fits u
+  Fits (bracket_text at u) = Fits u
+
+  -- powers and atoms
+  pub ArePowers : UnitTexts → Type 0
+  ArePowers no_units = Unit {0}
+  ArePowers (more_units u us) = (rank u ≤ 1) × Fits u × ArePowers us
+
+-- the tokens are this unit text
+pub record IsUnit (tokens : List Token) (u : UnitText) : Type 0 where
+  pub spelled : Spells u tokens []
+  pub fits : Fits u
+
+-- the tokens begin a unit text
+abbrev pub Begins : List Token → Type 0
+Begins tokens = (more : List Token) × (u : UnitText) × IsUnit (tokens ++ more) u
+
+-- the tokens begin a unit text of at most this height
+abbrev pub BeginsWithin : ℕ → List Token → Type 0
+BeginsWithin height tokens = (more : List Token) × (u : UnitText) × IsUnit (tokens ++ more) u × (unit_height u ≤ height)

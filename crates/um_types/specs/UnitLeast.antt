@@ -1,0 +1,26 @@
+-- The least height of a unit text that begins with what was read.
+-- Source: this project's own.
+use Rattle.std.specs.Prelude.{ℕ, ◌+◌, max, List, [], ◌∷◌}
+use Rattle.um_tree.specs.RawTree.{UnitText, units_in_order}
+use Rattle.um_tree.specs.Heights.{unit_height, tallest_unit}
+use Rattle.um_types.specs.UnitMachine.{Frame, InBracket, InInverse, InTimes, InOver, InSide, State, Need, Have, Raised, Lowered, Refused}
+
+-- the height of a frame's own parts
+abbrev pub side : Frame → ℕ
+side (InBracket at) = 0
+side (InInverse at) = 0
+side (InTimes left) = unit_height left
+side (InOver left) = unit_height left
+side (InSide front) = tallest_unit (units_in_order front)
+
+-- the height of the frames once the innermost holds something of this height
+abbrev pub least_over : List Frame → ℕ → ℕ
+least_over [] h = h
+least_over (frame ∷ frames) h = least_over frames (max (side frame) h + 1)
+
+abbrev pub least : State → ℕ
+least (Need frames) = least_over frames 1
+least (Have frames t) = least_over frames (unit_height t)
+least (Raised frames t) = least_over frames (unit_height t + 1)
+least (Lowered frames t) = least_over frames (unit_height t + 1)
+least Refused = 0

@@ -1,0 +1,13 @@
+//! The grammar of unit texts: from tokens to raw trees, with the exact place of each refusal.
+#![tactic(auto)]
+
+mod parse;
+mod unit;
+mod unit_frame;
+mod unit_least;
+mod unit_loop;
+mod unit_mark;
+mod unit_part;
+mod unit_reader;
+
+pub use parse::{LimitKind, ParseStop, parse_unit};

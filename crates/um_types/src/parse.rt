@@ -1,0 +1,67 @@
+// What the grammar reads, with its places in the text.
+ghost use Rattle.std.specs.Prelude.{◌≡◌, ◌≤◌, length};
+ghost use Rattle.um_types.specs.UnitParsed.{Parsed};
+ghost use Rattle.um_types.specs.UnitStops.{place_of};
+
+use crate::unit::{UnitStop, read_unit};
+use std::alloc::Global;
+use um_syntax::Token;
+use um_tree::RawUnit;
+
+/// A limit of the language.
+#[derive(Clone, Copy, Debug, PartialEq, Eq)]
+pub enum LimitKind {
+    Height,
+    Functions,
+    Parameters,
+    Fields,
+    UnitParameters,
+    Nodes,
+    Depth,
+    Slots,
+}
+
+/// Why tokens are not read, with the place.
+#[derive(Clone, Copy, Debug, PartialEq, Eq)]
+pub enum ParseStop {
+    Syntax { at: u32 },
+    Limit { kind: LimitKind, at: u32 },
+    NoMemory,
+}
+
+// The place of a token by its number, or the end.
+fn place(tokens: &[Token], k: usize, end: u32) -> u32
+    ensures { result ≡ place_of tokens.now k end }
+{
+    match tokens.get(k) {
+        Some(token) => token.start,
+        None => end,
+    }
+}
+
+/// The unit text that begins at the token of number `from`, and the number of its stop, counted from 0.
+///
+/// The stop is the first token such that the tokens through it begin no unit text, or the end. `end` is the length of the text.
+pub fn parse_unit(
+    alloc: Global,
+    tokens: &[Token],
+    from: u32,
+    end: u32,
+) -> Result<(RawUnit, u32), ParseStop>
+    requires from { from ≤ length tokens.now }
+    requires text { length tokens.now ≤ end }
+    ensures parsed { Parsed tokens.now from end result }
+{
+    let rest = &tokens[from as usize..];
+    match read_unit(alloc, rest) {
+        Ok((unit, k)) => Ok((unit, (from as usize + k) as u32)),
+        Err(UnitStop::Syntax(k)) => Err(ParseStop::Syntax {
+            at: place(rest, k, end),
+        }),
+        Err(UnitStop::High(k)) => Err(ParseStop::Limit {
+            kind: LimitKind::Height,
+            at: place(rest, k, end),
+        }),
+        Err(UnitStop::NoMemory) => Err(ParseStop::NoMemory),
+    }
+}

@@ -1,0 +1,77 @@
+// What is open around the next part of a unit text, and what is at hand.
+ghost use Rattle.std.specs.Prelude.{◌≡◌, ◌<◌, ◌∷◌, IfOk, IfSome, OnOk, vec_len};
+ghost use Rattle.um_types.specs.UnitMachine.{plug};
+ghost use Rattle.um_types.specs.UnitLeast.{side};
+ghost use Rattle.um_types.specs.UnitCount.{counted};
+ghost use Rattle.um_types.specs.UnitView.{part_text, view_frame, stack, Taken};
+
+use crate::unit_part::{Front, Part};
+use std::alloc::{AllocError, Global};
+
+/// A unit text that has begun, up to the part that is read next.
+#[derive(Drop)]
+pub enum Frame {
+    InBracket(u32),
+    InInverse(u32),
+    InTimes(Part),
+    InOver(Part),
+    InSide(Front),
+}
+
+/// What is at hand beside the frames: nothing, an atom or a power, or an atom with `^`, or with `^` and `-`.
+#[derive(Drop)]
+pub enum Hand {
+    Empty,
+    Full(Part),
+    Raised(Part),
+    Lowered(Part),
+}
+
+/// A token goes on, or the text stops before it.
+#[derive(Drop)]
+pub enum Step {
+    Goes(Hand),
+    Stops(Hand),
+}
+
+impl Frame {
+    /// The height of its own parts, counted.
+    pub fn side(&self) -> u32
+        ensures { result ≡ counted (side (view_frame self.now)) }
+    {
+        match self {
+            Frame::InBracket(_) => 0,
+            Frame::InInverse(_) => 0,
+            Frame::InTimes(left) => left.height,
+            Frame::InOver(left) => left.height,
+            Frame::InSide(front) => front.height,
+        }
+    }
+
+    /// What it is with its last part, where no token ends it.
+    pub fn plug(self, alloc: Global, last: Part) -> Result<Part, AllocError>
+        ensures { IfOk result (λ p. part_text p ≡ plug (view_frame self) (part_text last)) }
+    {
+        match self {
+            Frame::InBracket(_) => Ok(last),
+            Frame::InInverse(at) => last.inverse(alloc, at),
+            Frame::InTimes(left) => left.times(alloc, last),
+            Frame::InOver(left) => left.over(alloc, last),
+            Frame::InSide(front) => Ok(front.with(last)?.whole()),
+        }
+    }
+}
+
+pub fn push_frame(frames: &mut Vec<Frame>, frame: Frame) -> Result<(), AllocError>
+    ensures { OnOk result (stack frames.new.items ≡ view_frame frame ∷ stack frames.old.items) }
+{
+    frames.push(frame)?;
+    Ok(())
+}
+
+pub fn pop_frame(frames: &mut Vec<Frame>) -> Option<Frame>
+    ensures state { Taken (stack frames.old.items) result (stack frames.new.items) }
+    ensures shorter { IfSome result (λ _. vec_len frames.new < vec_len frames.old) }
+{
+    frames.pop()
+}
