@@ -28,10 +28,10 @@ pub same_some : (s t : TypeTree) → Some s ≡ Some t → s ≡ t
 same_some s t e = cc e
 
 -- units with other powers
-apart : (u v : PowerMap) (x : Atom) (m n : ℕ) → power_of u x ≡ pos m → power_of v x ≡ pos n → (m ≡ n → ⊥) → u ≡ v → ⊥
+pub apart : (u v : PowerMap) (x : Atom) (m n : ℕ) → power_of u x ≡ pos m → power_of v x ≡ pos n → (m ≡ n → ⊥) → u ≡ v → ⊥
 apart u v x m n e f other same = let all : pos m ≡ pos n = sym e ∙ ap (λ w. power_of w x) same ∙ f in other (cc all)
 
-metre_apart : metre ≡ second → ⊥
+pub metre_apart : metre ≡ second → ⊥
 unfolding product
 metre_apart = apart metre second (Base 0) 1 0 refl refl (λ e. absurd (omega (arith, e)))
 

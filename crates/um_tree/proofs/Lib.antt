@@ -11,5 +11,6 @@ pub mod ShapeLaws
 pub mod BudgetLaws
 pub mod ExamplePrograms
 pub mod ExampleRuns
+mod ExampleVehicle
 pub mod ExampleTypings
 pub mod ExampleSchemes
