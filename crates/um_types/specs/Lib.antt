@@ -9,3 +9,12 @@ pub mod UnitStates
 pub mod UnitReads
 pub mod UnitAnswer
 pub mod UnitParsed
+pub mod TypeTokens
+pub mod TypeGrammar
+pub mod TypeHeights
+pub mod SignatureGrammar
+pub mod SignatureParsed
+pub mod Machines
+pub mod NoteMachine
+pub mod TypeMachine
+pub mod SignatureMachine

@@ -2,6 +2,7 @@
 #![tactic(auto)]
 
 mod parse;
+mod type_symbol;
 mod unit;
 mod unit_frame;
 mod unit_least;
