@@ -7,3 +7,8 @@ mod UnitEnds
 mod UnitWhole
 mod UnitCounts
 mod UnitSteps
+mod Reaching
+mod UnitCut
+mod TokenLinks
+mod NoteComplete
+mod NoteLaws

@@ -26,7 +26,7 @@ height_all_filled : (frames : List Frame) (t : UnitText) → unit_height (all_fi
 height_all_filled [] t = refl
 height_all_filled (frame ∷ frames) t = height_all_filled frames (filled frame t) ∙ ap (least_over frames) (height_filled frame t)
 
-completed_height : (st : State) → st ≢ Refused → unit_height (completed st) ≡ least st
+pub completed_height : (st : State) → st ≢ Refused → unit_height (completed st) ≡ least st
 completed_height (Need frames) ok = height_all_filled frames (measure_text 0 [])
 completed_height (Have frames t) ok = height_all_filled frames t
 completed_height (Raised frames t) ok = height_all_filled frames (power_text t _)

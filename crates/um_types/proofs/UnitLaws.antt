@@ -117,7 +117,7 @@ none_begins tokens e b =
     hand_goes_on (into [] b.1) (into_hand b.1 [] b.2.fits)
     (sym (reads_as b.1 (tokens ++ b.0) b.2) ∙ run_append tokens b.0 (Need []) ∙ ap (λ s. run s b.0) e ∙ run_refused b.0)
 
-finish_red : (st : State) → finish st ≡ whole (red st)
+pub finish_red : (st : State) → finish st ≡ whole (red st)
 finish_red (Need frames) = refl
 finish_red (Have frames t) = refl
 finish_red (Raised frames t) = refl
