@@ -12,3 +12,4 @@ mod UnitCut
 mod TokenLinks
 mod NoteComplete
 mod NoteLaws
+mod TypeComplete
