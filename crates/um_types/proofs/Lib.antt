@@ -13,3 +13,4 @@ mod TokenLinks
 mod NoteComplete
 mod NoteLaws
 mod TypeComplete
+mod TypeSound
