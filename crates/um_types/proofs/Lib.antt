@@ -14,3 +14,4 @@ mod NoteComplete
 mod NoteLaws
 mod TypeComplete
 mod TypeSound
+mod TypeLaws

@@ -3,6 +3,7 @@ use Rattle.std.proofs.Common.{◌≡◌, ◌≢◌, ℕ, zero, suc, List, [], �
 use Rattle.um_syntax.specs.declared.token.Token.{Token}
 use Rattle.um_syntax.specs.declared.token.Kind.{Kind}
 use Rattle.um_tree.specs.RawTree.{NoteText, TypeText, bool_text, num_text, record_text, list_type_text, bracket_type_text}
+use Rattle.um_types.specs.UnitMachine.{State}
 use Rattle.um_types.specs.TypeTokens.{TypeToken, symbol, name, type_token}
 use Rattle.um_types.specs.TypeGrammar.{FirstSymbol, FirstName, NoteSpells, NotesSpell, AngledSpell, TypeSpells, NoteFits, NotesFit, TypeFits}
 use Rattle.um_types.specs.NoteMachine.{NoteState, NeedNote, HaveHole, InUnit, NoNote, note_act, note_step, note_finish}
@@ -33,7 +34,7 @@ OwnerFits (OfName at x front) = NotesFit front
 abbrev pub TypeStands : TypeState → List Token → List Token → Type 0
 TypeStands (NeedType depth) tokens rest = OpenBrackets depth tokens rest
 TypeStands (HaveType depth t) tokens rest = (mid : List Token) × OpenBrackets depth tokens mid × TypeSpells t mid rest × TypeFits t
-TypeStands (InNote depth owner n) tokens rest = (mid next : List Token) × OpenBrackets depth tokens mid × OwnerSpells owner mid next × OwnerFits owner × NoteStands n next rest
+TypeStands (InNote depth owner n) tokens rest = (mid next : List Token) × OpenBrackets depth tokens mid × OwnerSpells owner mid next × OwnerFits owner × NoteStands n next rest × (n ≢ NoNote)
 TypeStands NoType tokens rest = Unit {0}
 
 -- ---- notes
@@ -67,6 +68,15 @@ pub owned_fits : (owner : Owner) (n : NoteText) → OwnerFits owner → NoteFits
 owned_fits OfNum n o fits = (fits, tt)
 owned_fits (OfName at x front) n o fits = fits_last front n o fits
 
+need_is : NeedNote ≢ NoNote
+need_is e = cc
+
+hole_is : (at : ℕ) → HaveHole at ≢ NoNote
+hole_is at e = cc
+
+unit_is : (at : ℕ) (u : State) → InUnit at u ≢ NoNote
+unit_is at u e = cc
+
 -- ---- one token
 
 -- the token, by what it is to a type text
@@ -88,9 +98,9 @@ begin_sound depth (symbol symbol_of.Other) at tokens mid rest o f = tt
 
 angle_sound : (depth : ℕ) (t : TypeText) (tokens mid next rest : List Token) → OpenBrackets depth tokens mid → TypeSpells t mid next → FirstSymbol symbol_of.Less next rest
     → TypeStands (open_angle depth t) tokens rest
-angle_sound depth (num_text None) tokens mid next rest o s f = (mid, rest, o, (s.0, s.1, subst (λ w. FirstSymbol symbol_of.Less w rest) (sym s.2) f), tt, refl)
+angle_sound depth (num_text None) tokens mid next rest o s f = (mid, rest, o, (s.0, s.1, subst (λ w. FirstSymbol symbol_of.Less w rest) (sym s.2) f), tt, refl, need_is)
 angle_sound depth (num_text (Some n)) tokens mid next rest o s f = tt
-angle_sound depth (record_text at x []) tokens mid next rest o s f = (mid, rest, o, (s.0, rest, s.1, subst (λ w. FirstSymbol symbol_of.Less w rest) (sym s.2) f, refl), tt, refl)
+angle_sound depth (record_text at x []) tokens mid next rest o s f = (mid, rest, o, (s.0, rest, s.1, subst (λ w. FirstSymbol symbol_of.Less w rest) (sym s.2) f, refl), tt, refl, need_is)
 angle_sound depth (record_text at x (n ∷ ns)) tokens mid next rest o s f = tt
 angle_sound depth bool_text tokens mid next rest o s f = tt
 angle_sound depth (list_type_text t) tokens mid next rest o s f = tt
@@ -119,7 +129,7 @@ comma_sound : (depth : ℕ) (owner : Owner) (n : NoteText) (tokens mid next last
     → NoteSpells n next last → NoteFits n → FirstSymbol symbol_of.Comma last rest → TypeStands (next_note depth owner n) tokens rest
 comma_sound depth OfNum n tokens mid next last rest o w wf s fits f = tt
 comma_sound depth (OfName at x front) n tokens mid next last rest o w wf s fits f =
-    (mid, rest, o, (w.0, w.1, w.2, w.3, front_last front n w.1 next last rest w.4 s f), fits_last front n wf fits, refl)
+    (mid, rest, o, (w.0, w.1, w.2, w.3, front_last front n w.1 next last rest w.4 s f), fits_last front n wf fits, refl, need_is)
 
 end_sound : (depth : ℕ) (owner : Owner) (n : NoteText) (what : TypeToken) (at : ℕ) (tokens mid next last rest : List Token) → OpenBrackets depth tokens mid → OwnerSpells owner mid next
     → OwnerFits owner → NoteSpells n next last → NoteFits n → Next what at last rest → TypeStands (note_end depth owner n what) tokens rest
@@ -146,9 +156,9 @@ ends_sound depth owner n (Some m) x tokens rest h e =
 -- the note goes on, or ends
 goes_sound : (depth : ℕ) (owner : Owner) (n : NoteState) (ended : TypeState) (tokens mid next rest : List Token) → OpenBrackets depth tokens mid → OwnerSpells owner mid next → OwnerFits owner
     → NoteStands n next rest → TypeStands ended tokens rest → TypeStands (note_goes depth owner n ended) tokens rest
-goes_sound depth owner NeedNote ended tokens mid next rest o w wf s h = (mid, next, o, w, wf, s)
-goes_sound depth owner (HaveHole at) ended tokens mid next rest o w wf s h = (mid, next, o, w, wf, s)
-goes_sound depth owner (InUnit at u) ended tokens mid next rest o w wf s h = (mid, next, o, w, wf, s)
+goes_sound depth owner NeedNote ended tokens mid next rest o w wf s h = (mid, next, o, w, wf, s, need_is)
+goes_sound depth owner (HaveHole at) ended tokens mid next rest o w wf s h = (mid, next, o, w, wf, s, hole_is at)
+goes_sound depth owner (InUnit at u) ended tokens mid next rest o w wf s h = (mid, next, o, w, wf, s, unit_is at u)
 goes_sound depth owner NoNote ended tokens mid next rest o w wf s h = h
 
 -- the token that is read goes over to the state
