@@ -1,17 +1,18 @@
-mod UnitComplete
-mod UnitSound
-mod UnitLaws
-mod UnitHeights
+pub mod UnitComplete
+pub mod UnitSound
+pub mod UnitLaws
+pub mod UnitHeights
 mod UnitFronts
 mod UnitEnds
 mod UnitWhole
 mod UnitCounts
 mod UnitSteps
-mod Reaching
-mod UnitCut
-mod TokenLinks
-mod NoteComplete
-mod NoteLaws
-mod TypeComplete
-mod TypeSound
-mod TypeLaws
+pub mod Reaching
+pub mod UnitCut
+pub mod TokenLinks
+pub mod NoteComplete
+pub mod NoteLaws
+pub mod TypeComplete
+pub mod TypeSound
+pub mod TypeLaws
+pub mod SignatureLaws

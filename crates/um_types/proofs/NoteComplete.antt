@@ -6,7 +6,7 @@ use Rattle.um_syntax.specs.declared.token.Kind.TheVariants as kind
 use Rattle.um_tree.specs.RawTree.{UnitText, NoteText, hole_text, unit_note_text}
 use Rattle.um_types.specs.UnitTokens.{sign, unit_token}
 use Rattle.um_types.specs.declared.unit_mark.Mark.TheVariants as mark
-use Rattle.um_types.specs.UnitGrammar.{Spells, Fits, IsUnit}
+use Rattle.um_types.specs.UnitGrammar.{Fits, IsUnit}
 use Rattle.um_types.specs.UnitMachine.{State, Need, Have, Raised, Lowered, Refused, act, run, whole, finish}
 use Rattle.um_types.specs.TypeGrammar.{BeginsAt, NoteSpells, NoteFits}
 use Rattle.um_types.specs.Machines.{runs, Reaches}
@@ -68,8 +68,7 @@ unit_reaches at u (x ∷ xs) tokens rest b e p =
     let mid : State = unit_step (Need []) x in
     let all : run mid xs ≡ into [] u = reads_as u (x ∷ xs) p in
     let ok : into [] u ≢ Refused = into_goes_on u p.fits in
-    let goes : mid ≢ Refused = λ h. ok (sym all ∙ ap (λ s. run s xs) h ∙ run_refused xs) in
-    (
+    let goes : mid ≢ Refused = λ h. ok (sym all ∙ ap (λ s. run s xs) h ∙ run_refused xs) in (
       x ∷ xs,
       e,
       ap (λ s. runs note_step s xs) (note_begin_unit x.kind x.start mid refl goes)

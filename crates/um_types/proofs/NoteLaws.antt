@@ -10,7 +10,7 @@ use Rattle.um_types.specs.UnitMachine.{Frame, State, Need, Have, Raised, Lowered
 use Rattle.um_types.specs.UnitLeast.{least}
 use Rattle.um_types.specs.TypeGrammar.{FirstHole, BeginsAt, NoteSpells, NoteFits}
 use Rattle.um_types.specs.TypeHeights.{note_height}
-use Rattle.um_types.specs.NoteMachine.{NoteState, NeedNote, HaveHole, InUnit, NoNote, unit_goes, note_begin, note_act, note_step, noted, note_finish, note_least}
+use Rattle.um_types.specs.NoteMachine.{NoteState, NeedNote, HaveHole, InUnit, NoNote, unit_goes, note_begin, note_step, noted, note_finish, note_least}
 use Rattle.um_types.proofs.UnitLaws.{ending_of, completed, can_go_on, run_append, found}
 use Rattle.um_types.proofs.UnitHeights.{completed_height, run_up, found_height}
 use Rattle.um_types.proofs.UnitCut.{unit_before}

@@ -17,13 +17,12 @@ pub reaches_one : {S : Type 0} → (act : S → Token → S) → (refused old ne
 reaches_one act refused old new token tokens rest parts step ok = (token ∷ [], parts, step, ok)
 
 pub reaches_then : {S : Type 0} → (act : S → Token → S) → (refused a b c : S) → (s t r : List Token) → Reaches act refused a s b t → Reaches act refused b t c r → Reaches act refused a s c r
-reaches_then act refused a b c s t r p q =
-    (
-      p.0 ++ q.0,
-      p.1 ∙ ap (λ w. p.0 ++ w) q.1 ∙ sym (append_assoc p.0 q.0 r),
-      runs_append act p.0 q.0 a ∙ ap (λ o. runs act o q.0) p.2 ∙ q.2,
-      q.3,
-    )
+reaches_then act refused a b c s t r p q = (
+  p.0 ++ q.0,
+  p.1 ∙ ap (λ w. p.0 ++ w) q.1 ∙ sym (append_assoc p.0 q.0 r),
+  runs_append act p.0 q.0 a ∙ ap (λ o. runs act o q.0) p.2 ∙ q.2,
+  q.3,
+)
 
 -- what is read up to the end
 pub reaches_all : {S : Type 0} → (act : S → Token → S) → (refused old new : S) → (tokens : List Token) → Reaches act refused old tokens new [] → runs act old tokens ≡ new

@@ -1,15 +1,15 @@
 -- What a type text spells is read as it, inside any brackets, whatever follows.
-use Rattle.std.proofs.Common.{◌≡◌, ◌≢◌, ℕ, suc, List, [], ◌∷◌, ◌++◌, Option, Some, None, refl, sym, ap, subst, ◌∙◌, append_assoc}
+use Rattle.std.proofs.Common.{◌≡◌, ◌≢◌, ℕ, suc, List, [], ◌∷◌, ◌++◌, Option, Some, None, refl, ap, subst, ◌∙◌, append_assoc}
 use Rattle.um_syntax.specs.declared.token.Token.{Token}
 use Rattle.um_syntax.specs.declared.token.Kind.{Kind}
 use Rattle.um_tree.specs.RawTree.{NoteText, TypeText, bool_text, num_text, record_text, list_type_text, bracket_type_text}
 use Rattle.um_types.specs.UnitTokens.{sign, unit_token}
 use Rattle.um_types.specs.declared.unit_mark.Mark.TheVariants as mark
-use Rattle.um_types.specs.TypeTokens.{TypeToken, symbol, name, type_token}
-use Rattle.um_types.specs.TypeGrammar.{FirstSymbol, FirstName, NoteSpells, NotesSpell, AngledSpell, TypeSpells, NoteFits, NotesFit, TypeFits, at_most_one}
+use Rattle.um_types.specs.TypeTokens.{symbol, type_token}
+use Rattle.um_types.specs.TypeGrammar.{FirstSymbol, NoteSpells, NotesSpell, AngledSpell, TypeSpells, NoteFits, NotesFit, TypeFits, at_most_one}
 use Rattle.um_types.specs.Machines.{Reaches}
-use Rattle.um_types.specs.NoteMachine.{NoteState, NeedNote, HaveHole, InUnit, NoNote, note_act, note_step, note_finish}
-use Rattle.um_types.specs.TypeMachine.{Owner, OfNum, OfName, TypeState, NeedType, HaveType, InNote, NoType, type_begin, type_after, note_end, note_ends, note_goes, type_act, type_step}
+use Rattle.um_types.specs.NoteMachine.{NoteState, NeedNote, HaveHole, InUnit, NoNote, note_step, note_finish}
+use Rattle.um_types.specs.TypeMachine.{Owner, OfNum, OfName, TypeState, NeedType, HaveType, InNote, NoType, type_begin, type_after, note_end, note_ends, note_goes, type_step}
 use Rattle.um_types.specs.declared.type_symbol.Symbol.{Symbol}
 use Rattle.um_types.specs.declared.type_symbol.Symbol.TheVariants as symbol_of
 use Rattle.um_types.proofs.Reaching.{reaches_one, reaches_then, reaches_inside}
@@ -50,10 +50,10 @@ ends_with depth owner n what new tokens rest fits f other step ok =
     let ended : TypeState = note_ends depth owner (note_finish (note_into n)) (type_token f.0.kind) in
     reaches_one type_step NoType (InNote depth owner (note_into n)) new f.0 tokens rest f.2
     (
-      ap (λ s. note_goes depth owner s ended) (note_stops n f.0.kind f.0.start (other f.0.kind f.1))
-      ∙ ap (λ o. note_ends depth owner o (type_token f.0.kind)) (note_finds n fits)
-      ∙ ap (note_end depth owner n) f.1
-      ∙ step
+    ap (λ s. note_goes depth owner s ended) (note_stops n f.0.kind f.0.start (other f.0.kind f.1))
+    ∙ ap (λ o. note_ends depth owner o (type_token f.0.kind)) (note_finds n fits)
+    ∙ ap (note_end depth owner n) f.1
+    ∙ step
     )
     ok
 
@@ -91,9 +91,9 @@ reads_notes (m ∷ ns) n depth at x front tokens mid rest s fits f =
     let parts : (front ++ n ∷ []) ++ m ∷ ns ≡ front ++ n ∷ m ∷ ns = append_assoc front (n ∷ []) (m ∷ ns) in
     type_then (InNote depth owner NeedNote) (InNote depth owner (note_into n)) done tokens s.0 rest (reads_note depth owner n tokens s.0 s.2 fits.0)
     (
-      type_then (InNote depth owner (note_into n)) (InNote depth more NeedNote) done s.0 s.1 rest
-      (ends_with depth owner n symbol_of.Comma (InNote depth more NeedNote) s.0 s.1 fits.0 s.3 comma_other refl (note_is depth more NeedNote))
-      (subst (λ w. TypeReaches (InNote depth more NeedNote) s.1 (HaveType depth (record_text at x w)) rest) parts (reads_notes ns m depth at x (front ++ n ∷ []) s.1 mid rest s.4 fits.1 f))
+    type_then (InNote depth owner (note_into n)) (InNote depth more NeedNote) done s.0 s.1 rest
+    (ends_with depth owner n symbol_of.Comma (InNote depth more NeedNote) s.0 s.1 fits.0 s.3 comma_other refl (note_is depth more NeedNote))
+    (subst (λ w. TypeReaches (InNote depth more NeedNote) s.1 (HaveType depth (record_text at x w)) rest) parts (reads_notes ns m depth at x (front ++ n ∷ []) s.1 mid rest s.4 fits.1 f))
     )
 
 -- angle brackets behind a name, if there are notes
@@ -117,8 +117,8 @@ reads_note_of_num (Some n) depth tokens rest s fits =
     type_then (HaveType depth (num_text None)) start done tokens s.0 rest
     (goes_with depth (num_text None) symbol_of.Less start tokens s.0 s.2 refl (note_is depth OfNum NeedNote))
     (
-      type_then start behind done s.0 s.1 rest (reads_note depth OfNum n s.0 s.1 s.3 fits.0)
-      (ends_with depth OfNum n symbol_of.Greater done s.1 rest fits.0 s.4 greater_other refl (have_is depth (num_text (Some n))))
+    type_then start behind done s.0 s.1 rest (reads_note depth OfNum n s.0 s.1 s.3 fits.0)
+    (ends_with depth OfNum n symbol_of.Greater done s.1 rest fits.0 s.4 greater_other refl (have_is depth (num_text (Some n))))
     )
 
 -- ---- types
@@ -134,8 +134,8 @@ type_reaches (record_text at x ns) depth tokens rest s fits =
     let named : TypeState = HaveType depth (record_text at x []) in
     type_then (NeedType depth) named (HaveType depth (record_text at x ns)) tokens s.0 rest
     (
-      reaches_one type_step NoType (NeedType depth) named f.0 tokens s.0 f.3
-      (ap (λ w. type_begin depth w f.0.start) f.1 ∙ ap (λ a. HaveType depth (record_text a x [])) f.2) (have_is depth (record_text at x []))
+    reaches_one type_step NoType (NeedType depth) named f.0 tokens s.0 f.3
+    (ap (λ w. type_begin depth w f.0.start) f.1 ∙ ap (λ a. HaveType depth (record_text a x [])) f.2) (have_is depth (record_text at x []))
     )
     (reads_angled ns depth at x s.0 rest s.2 fits)
 type_reaches (list_type_text t) depth tokens rest s fits =
@@ -147,6 +147,6 @@ type_reaches (bracket_type_text t) depth tokens rest s fits =
     type_then (NeedType depth) (NeedType (suc depth)) done tokens s.0 rest
     (begins_with depth symbol_of.Open (NeedType (suc depth)) tokens s.0 s.2 (λ at. refl) (need_is (suc depth)))
     (
-      type_then (NeedType (suc depth)) inner done s.0 s.1 rest (type_reaches t (suc depth) s.0 s.1 s.3 fits)
-      (goes_with (suc depth) t symbol_of.Close done s.1 rest s.4 refl (have_is depth (bracket_type_text t)))
+    type_then (NeedType (suc depth)) inner done s.0 s.1 rest (type_reaches t (suc depth) s.0 s.1 s.3 fits)
+    (goes_with (suc depth) t symbol_of.Close done s.1 rest s.4 refl (have_is depth (bracket_type_text t)))
     )

@@ -5,7 +5,7 @@ use Rattle.um_syntax.specs.declared.token.Kind.TheVariants as kind
 use Rattle.um_tree.specs.RawTree.{NoteText, TypeText, bool_text, num_text, record_text, list_type_text, bracket_type_text}
 use Rattle.um_tree.specs.Heights.{type_height}
 use Rattle.um_types.specs.TypeTokens.{TypeToken, symbol, name, type_token}
-use Rattle.um_types.specs.TypeGrammar.{FirstSymbol, NoteSpells, TypeSpells, NoteFits, TypeFits}
+use Rattle.um_types.specs.TypeGrammar.{TypeSpells, TypeFits}
 use Rattle.um_types.specs.TypeHeights.{note_height, notes_height, units_height, whole_height}
 use Rattle.um_types.specs.NoteMachine.{NoteState, NeedNote, HaveHole, InUnit, NoNote, note_step, note_finish, note_least}
 use Rattle.um_types.specs.TypeMachine.{Owner, OfNum, OfName, TypeState, NeedType, HaveType, InNote, NoType, type_begin, open_angle, close_bracket, type_after, owned, next_note, note_end, note_ends, note_goes, type_step, type_finish, owner_height, type_least}
@@ -61,8 +61,7 @@ type_can_end (InNote depth owner n) tokens rest h ok =
     let behind : List Token = closes depth ++ rest in
     let parts : (note_ending n ++ greater_token ∷ closes depth) ++ rest ≡ note_ending n ++ (greater_token ∷ behind) = append_assoc (note_ending n) (greater_token ∷ closes depth) rest in
     let p = note_can_end n h.1 (greater_token ∷ behind) (subst (λ w. NoteStands n h.1 w) parts h.5) h.6 in
-    let t : TypeText = owned owner (note_completed n) in
-    (
+    let t : TypeText = owned owner (note_completed n) in (
       closes_spell depth t tokens h.0 rest h.2 (owned_spells owner (note_completed n) h.0 h.1 (greater_token ∷ behind) behind h.3 p.0 (greater_token, refl, refl)),
       wrapped_fits depth t (owned_fits owner (note_completed n) h.4 p.1),
     )

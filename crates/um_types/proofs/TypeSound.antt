@@ -1,13 +1,12 @@
 -- The tokens of a type text that were read are those of the state, and what stands in it fits.
-use Rattle.std.proofs.Common.{◌≡◌, ◌≢◌, ℕ, zero, suc, List, [], ◌∷◌, ◌++◌, Option, Some, None, refl, sym, ap, subst, ◌∙◌}
+use Rattle.std.proofs.Common.{◌≡◌, ◌≢◌, ℕ, zero, suc, List, [], ◌∷◌, ◌++◌, Option, Some, None, refl, sym, subst}
 use Rattle.um_syntax.specs.declared.token.Token.{Token}
-use Rattle.um_syntax.specs.declared.token.Kind.{Kind}
 use Rattle.um_tree.specs.RawTree.{NoteText, TypeText, bool_text, num_text, record_text, list_type_text, bracket_type_text}
 use Rattle.um_types.specs.UnitMachine.{State}
 use Rattle.um_types.specs.TypeTokens.{TypeToken, symbol, name, type_token}
 use Rattle.um_types.specs.TypeGrammar.{FirstSymbol, FirstName, NoteSpells, NotesSpell, AngledSpell, TypeSpells, NoteFits, NotesFit, TypeFits}
-use Rattle.um_types.specs.NoteMachine.{NoteState, NeedNote, HaveHole, InUnit, NoNote, note_act, note_step, note_finish}
-use Rattle.um_types.specs.TypeMachine.{Owner, OfNum, OfName, TypeState, NeedType, HaveType, InNote, NoType, type_begin, open_angle, close_bracket, type_after, owned, next_note, note_end, note_ends, note_goes, type_act, type_step, type_finish}
+use Rattle.um_types.specs.NoteMachine.{NoteState, NeedNote, HaveHole, InUnit, NoNote, note_step, note_finish}
+use Rattle.um_types.specs.TypeMachine.{Owner, OfNum, OfName, TypeState, NeedType, HaveType, InNote, NoType, type_begin, open_angle, close_bracket, type_after, owned, next_note, note_end, note_ends, note_goes, type_step, type_finish}
 use Rattle.um_types.specs.declared.type_symbol.Symbol.TheVariants as symbol_of
 use Rattle.um_types.proofs.NoteLaws.{NoteStands, note_sound, note_found}
 
