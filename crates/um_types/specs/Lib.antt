@@ -18,3 +18,4 @@ pub mod Machines
 pub mod NoteMachine
 pub mod TypeMachine
 pub mod SignatureMachine
+pub mod UnitTakes

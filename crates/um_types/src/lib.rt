@@ -10,5 +10,6 @@ mod unit_loop;
 mod unit_mark;
 mod unit_part;
 mod unit_reader;
+mod unit_take;
 
 pub use parse::{LimitKind, ParseStop, parse_unit};
