@@ -19,3 +19,4 @@ pub mod NoteMachine
 pub mod TypeMachine
 pub mod SignatureMachine
 pub mod UnitTakes
+pub mod NoteTakes

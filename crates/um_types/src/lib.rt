@@ -1,6 +1,7 @@
 //! The grammar of unit texts: from tokens to raw trees, with the exact place of each refusal.
 #![tactic(auto)]
 
+mod note_take;
 mod parse;
 mod type_symbol;
 mod unit;
