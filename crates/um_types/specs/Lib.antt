@@ -20,3 +20,4 @@ pub mod TypeMachine
 pub mod SignatureMachine
 pub mod UnitTakes
 pub mod NoteTakes
+pub mod TypeView

@@ -36,15 +36,22 @@ type_begin depth (symbol symbol_of.Arrow) at = NoType
 type_begin depth (symbol symbol_of.List) at = NoType
 type_begin depth (symbol symbol_of.Other) at = NoType
 
--- angle brackets open behind `num` and a name
+-- what angle brackets may open behind: `num`, and a name
+abbrev pub angle_owner : TypeText → Option Owner
+angle_owner (num_text None) = Some OfNum
+angle_owner (num_text (Some n)) = None
+angle_owner (record_text at x []) = Some (OfName at x [])
+angle_owner (record_text at x (n ∷ ns)) = None
+angle_owner bool_text = None
+angle_owner (list_type_text t) = None
+angle_owner (bracket_type_text t) = None
+
+abbrev pub begin_notes : ℕ → Option Owner → TypeState
+begin_notes depth None = NoType
+begin_notes depth (Some owner) = InNote depth owner NeedNote
+
 abbrev pub open_angle : ℕ → TypeText → TypeState
-open_angle depth (num_text None) = InNote depth OfNum NeedNote
-open_angle depth (num_text (Some n)) = NoType
-open_angle depth (record_text at x []) = InNote depth (OfName at x []) NeedNote
-open_angle depth (record_text at x (n ∷ ns)) = NoType
-open_angle depth bool_text = NoType
-open_angle depth (list_type_text t) = NoType
-open_angle depth (bracket_type_text t) = NoType
+open_angle depth t = begin_notes depth (angle_owner t)
 
 abbrev pub close_bracket : ℕ → TypeText → TypeState
 close_bracket zero t = NoType

@@ -3,6 +3,7 @@
 
 mod note_take;
 mod parse;
+mod type_part;
 mod type_symbol;
 mod unit;
 mod unit_frame;
