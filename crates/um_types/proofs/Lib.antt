@@ -16,3 +16,4 @@ pub mod TypeComplete
 pub mod TypeSound
 pub mod TypeLaws
 pub mod SignatureLaws
+mod TypeNotes

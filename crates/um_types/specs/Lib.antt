@@ -21,3 +21,4 @@ pub mod SignatureMachine
 pub mod UnitTakes
 pub mod NoteTakes
 pub mod TypeView
+pub mod TypeTakes

@@ -4,7 +4,9 @@
 mod note_take;
 mod parse;
 mod type_part;
+mod type_reader;
 mod type_symbol;
+mod type_take;
 mod unit;
 mod unit_frame;
 mod unit_least;

@@ -1,7 +1,8 @@
 // Type texts with their heights beside them, and what is at hand while one is read.
-ghost use Rattle.std.specs.Prelude.{◌≡◌, ◌<◌, IfOk, None, option_map};
+ghost use Rattle.std.specs.Prelude.{◌≡◌, ◌≤◌, IfOk, None, option_map};
 ghost use Rattle.um_tree.specs.RawTree.{bool_text, num_text, list_type_text, bracket_type_text, note_text, type_text};
 ghost use Rattle.um_tree.specs.Heights.{type_height};
+ghost use Rattle.um_types.specs.UnitStops.{greatest_height};
 
 use crate::note_take::NoteReader;
 use std::alloc::{AllocError, Global};
@@ -78,7 +79,7 @@ impl TypePart {
 
     /// A list of it
     pub fn list(self, alloc: Global) -> Result<TypePart, AllocError>
-        requires { type_height (part_type self) < 1000 }
+        requires { type_height (part_type self) ≤ greatest_height }
         ensures { IfOk result (λ p. part_type p ≡ list_type_text (part_type self)) }
     {
         let TypePart { ty, height } = self;
@@ -91,7 +92,7 @@ impl TypePart {
 
     /// In brackets
     pub fn bracket(self, alloc: Global) -> Result<TypePart, AllocError>
-        requires { type_height (part_type self) < 1000 }
+        requires { type_height (part_type self) ≤ greatest_height }
         ensures { IfOk result (λ p. part_type p ≡ bracket_type_text (part_type self)) }
     {
         let TypePart { ty, height } = self;
