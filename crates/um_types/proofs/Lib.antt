@@ -17,3 +17,5 @@ pub mod TypeSound
 pub mod TypeLaws
 pub mod SignatureLaws
 mod TypeNotes
+mod SignatureWhole
+mod SignatureSteps

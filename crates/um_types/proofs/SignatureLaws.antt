@@ -10,19 +10,12 @@ use Rattle.um_types.specs.SignatureGrammar.{TypesSpell, TypesFit, IsSignature, B
 use Rattle.um_types.specs.Machines.{runs, Reaches}
 use Rattle.um_types.specs.NoteMachine.{NoteState}
 use Rattle.um_types.specs.TypeMachine.{Owner, TypeState, NeedType, HaveType, InNote, NoType, type_after, type_step, type_finish}
-use Rattle.um_types.specs.SignatureMachine.{SignatureState, InType, NoSignature, type_end, type_ends, type_goes, signature_step, typed, signature_finish, signature_least}
+use Rattle.um_types.specs.SignatureMachine.{SignatureState, InType, NoSignature, type_end, type_ends, type_goes, signature_step, typed, signature_finish, signature_least, start, read_all}
 use Rattle.um_types.specs.declared.type_symbol.Symbol.TheVariants as symbol_of
 use Rattle.um_types.proofs.Reaching.{runs_append, runs_refused, reaches_one, reaches_then, reaches_inside, reaches_all}
 use Rattle.um_types.proofs.TypeComplete.{type_reaches}
 use Rattle.um_types.proofs.TypeSound.{TypeStands, type_sound, type_found}
 use Rattle.um_types.proofs.TypeLaws.{type_ending, type_completed, type_can_end, type_completed_height, type_up, type_found_height}
-
-abbrev pub start : SignatureState
-start = InType [] (NeedType 0)
-
--- the state after these tokens
-abbrev pub read_all : List Token → SignatureState
-read_all tokens = runs signature_step start tokens
 
 -- ---- what is spelled is read
 

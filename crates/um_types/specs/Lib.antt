@@ -22,3 +22,4 @@ pub mod UnitTakes
 pub mod NoteTakes
 pub mod TypeView
 pub mod TypeTakes
+pub mod SignatureReads

@@ -6,6 +6,7 @@ use Rattle.um_syntax.specs.declared.token.Kind.{Kind}
 use Rattle.um_tree.specs.RawTree.{TypeText}
 use Rattle.um_types.specs.TypeTokens.{TypeToken, symbol, name, type_token}
 use Rattle.um_types.specs.TypeHeights.{all_height}
+use Rattle.um_types.specs.Machines.{runs}
 use Rattle.um_types.specs.TypeMachine.{TypeState, NeedType, HaveType, InNote, NoType, type_act, type_finish, type_least}
 use Rattle.um_types.specs.declared.type_symbol.Symbol.TheVariants as symbol_of
 
@@ -60,3 +61,11 @@ signature_finish NoSignature = None
 abbrev pub signature_least : SignatureState → ℕ
 signature_least (InType front s) = max (all_height front) (type_least s)
 signature_least NoSignature = 0
+
+-- nothing was read yet
+abbrev pub start : SignatureState
+start = InType [] (NeedType 0)
+
+-- the state after these tokens
+abbrev pub read_all : List Token → SignatureState
+read_all tokens = runs signature_step start tokens

@@ -1,6 +1,6 @@
 -- What was read of a type text, without where it lies in memory.
 -- Source: this project's own.
-use Rattle.std.specs.Prelude.{◌≡◌, ℕ, List, [], Option, Some, None, Result, Ok, Err}
+use Rattle.std.specs.Prelude.{◌≡◌, ℕ, [], Option, Some, None, Result, Ok, Err}
 use Rattle.um_tree.specs.declared.raw.RawType.{RawType}
 use Rattle.um_tree.specs.RawTree.{TypeText, record_text, note_texts, type_text}
 use Rattle.um_types.specs.TypeTokens.{TypeToken, symbol, name}

@@ -1,6 +1,6 @@
 -- What one token more gives while a unit text is read.
 -- Source: this project's own.
-use Rattle.std.specs.Prelude.{◌≡◌, ◌≢◌, ◌≤◌, ◌<◌, Option, option_map}
+use Rattle.std.specs.Prelude.{◌≡◌, ◌≢◌, ◌≤◌, ◌<◌, option_map}
 use Rattle.um_tree.specs.RawTree.{unit_text}
 use Rattle.um_types.specs.UnitStops.{greatest_height}
 use Rattle.um_types.specs.UnitMachine.{State, Refused, finish}

@@ -1,8 +1,9 @@
-//! The grammar of unit texts: from tokens to raw trees, with the exact place of each refusal.
+//! The grammar of unit texts, notes, types and signature texts: from tokens to raw trees, with the exact place of each refusal.
 #![tactic(auto)]
 
 mod note_take;
 mod parse;
+mod signature;
 mod type_part;
 mod type_reader;
 mod type_symbol;
@@ -16,4 +17,7 @@ mod unit_part;
 mod unit_reader;
 mod unit_take;
 
-pub use parse::{LimitKind, ParseStop, parse_unit};
+pub use note_take::{NoteReader, NoteStep};
+pub use parse::{LimitKind, ParseStop, parse_types, parse_unit};
+pub use type_take::{TypeReader, TypeStep};
+pub use unit_take::{UnitReader, UnitStep};

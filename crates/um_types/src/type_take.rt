@@ -10,8 +10,8 @@ use um_tree::RawType;
 /// A type text that has begun: the number of open brackets, and what is at hand. A type text within the heights begins so.
 #[derive(Drop)]
 pub struct TypeReader {
-    pub depth: u32,
-    pub hand: TypeHand,
+    pub(crate) depth: u32,
+    pub(crate) hand: TypeHand,
     ghost low: { type_least (type_hand_state depth hand) ≤ greatest_height },
 }
 

@@ -1,6 +1,6 @@
-use Rattle.std.proofs.Common.{◌≡◌, ◌+◌, ◌≤◌, max, List, map, ap, arith}
+use Rattle.std.proofs.Common.{map, ap, arith}
 use Rattle.um_tree.specs.RawTree.{note_text}
-use Rattle.um_types.specs.TypeHeights.{note_height, notes_height}
+use Rattle.um_types.specs.TypeHeights.{notes_height}
 use Rattle.um_types.specs.NoteMachine.{note_least}
 use Rattle.um_types.specs.TypeMachine.{owner_height}
 use Rattle.um_types.specs.TypeView.{view_owner}

@@ -1,4 +1,4 @@
-use Rattle.std.proofs.Common.{◌≡◌, ◌+◌, ◌≤◌, max, ap, arith}
+use Rattle.std.proofs.Common.{ap, arith}
 use Rattle.um_tree.specs.RawTree.{note_text}
 use Rattle.um_tree.specs.Heights.{type_height}
 use Rattle.um_types.specs.TypeHeights.{units_height}

@@ -1,4 +1,4 @@
-use Rattle.std.proofs.Common.{◌≡◌, ◌+◌, ◌≤◌, max, ap, sym, subst, ◌∙◌, arith, option_map}
+use Rattle.std.proofs.Common.{ap, sym, subst, ◌∙◌, arith, option_map}
 use Rattle.um_tree.specs.RawTree.{note_text}
 use Rattle.um_types.specs.NoteMachine.{note_act}
 use Rattle.um_types.specs.NoteTakes.{note_state, NoteTakes}
