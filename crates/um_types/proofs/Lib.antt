@@ -9,6 +9,7 @@ mod UnitCounts
 mod UnitSteps
 pub mod Reaching
 pub mod UnitCut
+pub mod UnitNested
 pub mod TokenLinks
 pub mod NoteComplete
 pub mod NoteLaws

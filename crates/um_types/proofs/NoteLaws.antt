@@ -11,16 +11,15 @@ use Rattle.um_types.specs.UnitLeast.{least}
 use Rattle.um_types.specs.TypeGrammar.{FirstHole, BeginsAt, NoteSpells, NoteFits}
 use Rattle.um_types.specs.TypeHeights.{note_height}
 use Rattle.um_types.specs.NoteMachine.{NoteState, NeedNote, HaveHole, InUnit, NoNote, unit_goes, note_begin, note_step, noted, note_finish, note_least}
-use Rattle.um_types.proofs.UnitLaws.{ending_of, completed, can_go_on, run_append, found}
-use Rattle.um_types.proofs.UnitHeights.{completed_height, run_up, found_height}
-use Rattle.um_types.proofs.UnitCut.{unit_before}
-use Rattle.um_types.proofs.NoteComplete.{unit_step}
+use Rattle.um_types.proofs.UnitLaws.{ending_of, completed}
+use Rattle.um_types.proofs.UnitHeights.{completed_height, found_height}
+use Rattle.um_types.proofs.UnitNested.{unit_step, UnitStands, unit_begins, unit_sound, unit_found, unit_can_end, unit_up}
 
 -- the tokens up to the rest are those of the state
 abbrev pub NoteStands : NoteState → List Token → List Token → Type 0
 NoteStands NeedNote tokens rest = tokens ≡ rest
 NoteStands (HaveHole at) tokens rest = FirstHole at tokens rest
-NoteStands (InUnit at u) tokens rest = (read : List Token) × (tokens ≡ read ++ rest) × BeginsAt at tokens × (run (Need []) read ≡ u) × (u ≢ Refused)
+NoteStands (InUnit at u) tokens rest = BeginsAt at tokens × UnitStands u tokens rest
 NoteStands NoNote tokens rest = Unit {0}
 
 need_is : (frames : List Frame) → Need frames ≢ Refused
@@ -35,35 +34,32 @@ raised_is frames t e = cc
 lowered_is : (frames : List Frame) (t : UnitText) → Lowered frames t ≢ Refused
 lowered_is frames t e = cc
 
-goes_sound : (at : ℕ) (u : State) (read tokens rest : List Token) → tokens ≡ read ++ rest → BeginsAt at tokens → run (Need []) read ≡ u → NoteStands (unit_goes at u) tokens rest
-goes_sound at (Need frames) read tokens rest e b r = (read, e, b, r, need_is frames)
-goes_sound at (Have frames t) read tokens rest e b r = (read, e, b, r, have_is frames t)
-goes_sound at (Raised frames t) read tokens rest e b r = (read, e, b, r, raised_is frames t)
-goes_sound at (Lowered frames t) read tokens rest e b r = (read, e, b, r, lowered_is frames t)
-goes_sound at Refused read tokens rest e b r = tt
+goes_sound : (at : ℕ) (u : State) (tokens rest : List Token) → BeginsAt at tokens → (u ≢ Refused → UnitStands u tokens rest) → NoteStands (unit_goes at u) tokens rest
+goes_sound at (Need frames) tokens rest b h = (b, h (need_is frames))
+goes_sound at (Have frames t) tokens rest b h = (b, h (have_is frames t))
+goes_sound at (Raised frames t) tokens rest b h = (b, h (raised_is frames t))
+goes_sound at (Lowered frames t) tokens rest b h = (b, h (lowered_is frames t))
+goes_sound at Refused tokens rest b h = tt
 
-first_run : (x : Token) (k : Kind) (at : ℕ) → x.kind ≡ k → x.start ≡ at → run (Need []) (x ∷ []) ≡ act (Need []) (unit_token k) at
-first_run x k at ek ea = ap (λ j. act (Need []) (unit_token j) x.start) ek ∙ ap (λ a. act (Need []) (unit_token k) a) ea
+first_sound : (k : Kind) (at : ℕ) (x : Token) (tokens rest : List Token) → x.kind ≡ k → x.start ≡ at → tokens ≡ x ∷ rest → NoteStands (unit_goes at (act (Need []) (unit_token k) at)) tokens rest
+first_sound k at x tokens rest ek ea e =
+    let same : unit_step (Need []) x ≡ act (Need []) (unit_token k) at = ap (λ j. act (Need []) (unit_token j) x.start) ek ∙ ap (λ a. act (Need []) (unit_token k) a) ea in
+    goes_sound at (act (Need []) (unit_token k) at) tokens rest (x, rest, ea, e)
+    (λ ok. subst (λ s. UnitStands s tokens rest) same (unit_sound (Need []) x tokens rest (subst (λ w. UnitStands (Need []) tokens w) e (unit_begins tokens)) (λ h. ok (sym same ∙ h))))
 
 begin_sound : (k : Kind) (at : ℕ) (x : Token) (tokens rest : List Token) → x.kind ≡ k → x.start ≡ at → tokens ≡ x ∷ rest → NoteStands (note_begin k at) tokens rest
 begin_sound kind.Hole at x tokens rest ek ea e = (x, ek, ea, e)
-begin_sound (kind.Name y) at x tokens rest ek ea e =
-    goes_sound at (act (Need []) (unit_token (kind.Name y)) at) (x ∷ []) tokens rest e (x, rest, ea, e) (first_run x (kind.Name y) at ek ea)
-begin_sound (kind.Var y) at x tokens rest ek ea e =
-    goes_sound at (act (Need []) (unit_token (kind.Var y)) at) (x ∷ []) tokens rest e (x, rest, ea, e) (first_run x (kind.Var y) at ek ea)
-begin_sound (kind.Number value digits one) at x tokens rest ek ea e =
-    goes_sound at (act (Need []) (unit_token (kind.Number value digits one)) at) (x ∷ []) tokens rest e (x, rest, ea, e) (first_run x (kind.Number value digits one) at ek ea)
-begin_sound (kind.Word k) at x tokens rest ek ea e =
-    goes_sound at (act (Need []) (unit_token (kind.Word k)) at) (x ∷ []) tokens rest e (x, rest, ea, e) (first_run x (kind.Word k) at ek ea)
-begin_sound (kind.Sign k) at x tokens rest ek ea e =
-    goes_sound at (act (Need []) (unit_token (kind.Sign k)) at) (x ∷ []) tokens rest e (x, rest, ea, e) (first_run x (kind.Sign k) at ek ea)
+begin_sound (kind.Name y) at x tokens rest ek ea e = first_sound (kind.Name y) at x tokens rest ek ea e
+begin_sound (kind.Var y) at x tokens rest ek ea e = first_sound (kind.Var y) at x tokens rest ek ea e
+begin_sound (kind.Number value digits one) at x tokens rest ek ea e = first_sound (kind.Number value digits one) at x tokens rest ek ea e
+begin_sound (kind.Word k) at x tokens rest ek ea e = first_sound (kind.Word k) at x tokens rest ek ea e
+begin_sound (kind.Sign k) at x tokens rest ek ea e = first_sound (kind.Sign k) at x tokens rest ek ea e
 
 -- the token that is read goes over to the state
 pub note_sound : (st : NoteState) (x : Token) (tokens rest : List Token) → NoteStands st tokens (x ∷ rest) → NoteStands (note_step st x) tokens rest
 note_sound NeedNote x tokens rest h = begin_sound x.kind x.start x tokens rest refl refl h
 note_sound (HaveHole at) x tokens rest h = tt
-note_sound (InUnit at u) x tokens rest h =
-    goes_sound at (unit_step u x) (h.0 ++ x ∷ []) tokens rest (h.1 ∙ sym (append_assoc h.0 (x ∷ []) rest)) h.2 (run_append h.0 (x ∷ []) (Need []) ∙ ap (λ s. unit_step s x) h.3)
+note_sound (InUnit at u) x tokens rest h = goes_sound at (unit_step u x) tokens rest h.0 (λ ok. unit_sound u x tokens rest h.1 ok)
 note_sound NoNote x tokens rest h = tt
 
 noted_is : (at : ℕ) (o : Option UnitText) (n : NoteText) → noted at o ≡ Some n → (u : UnitText) × (o ≡ Some u) × (unit_note_text at u ≡ n)
@@ -74,8 +70,8 @@ noted_is at None n e = absurd cc
 pub note_found : (st : NoteState) (n : NoteText) (tokens rest : List Token) → NoteStands st tokens rest → note_finish st ≡ Some n → NoteSpells n tokens rest × NoteFits n
 note_found (InUnit at u) n tokens rest h e =
     let w = noted_is at (finish u) n e in
-    let p : IsUnit h.0 w.0 = found h.0 w.0 (ap finish h.3 ∙ w.1) in
-    subst (λ m. NoteSpells m tokens rest × NoteFits m) w.2 ((h.2, subst (λ s. Spells w.0 s rest) (sym h.1) (unit_before w.0 h.0 rest p)), p.fits)
+    let p = unit_found u w.0 tokens rest h.1 w.1 in
+    subst (λ m. NoteSpells m tokens rest × NoteFits m) w.2 ((h.0, p.0), p.1)
 note_found (HaveHole at) n tokens rest h e = let same : hole_text at ≡ n = cc in subst (λ m. NoteSpells m tokens rest × NoteFits m) same (h, tt)
 note_found NeedNote n tokens rest h e = absurd cc
 note_found NoNote n tokens rest h e = absurd cc
@@ -101,11 +97,7 @@ note_completed NoNote = hole_text 0
 pub note_can_end : (st : NoteState) (tokens rest : List Token) → NoteStands st tokens (note_ending st ++ rest) → st ≢ NoNote → NoteSpells (note_completed st) tokens rest × NoteFits (note_completed st)
 note_can_end NeedNote tokens rest h ok = ((hole_token, refl, refl, h), tt)
 note_can_end (HaveHole at) tokens rest h ok = (h, tt)
-note_can_end (InUnit at u) tokens rest h ok =
-    let run_ok : run (Need []) h.0 ≢ Refused = λ e. h.4 (sym h.3 ∙ e) in
-    let p : IsUnit (h.0 ++ ending_of u) (completed u) = subst (λ s. IsUnit (h.0 ++ ending_of s) (completed s)) h.3 (can_go_on h.0 run_ok) in
-    let parts : tokens ≡ (h.0 ++ ending_of u) ++ rest = h.1 ∙ sym (append_assoc h.0 (ending_of u) rest) in
-    ((h.2, subst (λ s. Spells (completed u) s rest) (sym parts) (unit_before (completed u) (h.0 ++ ending_of u) rest p)), p.fits)
+note_can_end (InUnit at u) tokens rest h ok = let p = unit_can_end u tokens rest h.1 in ((h.0, p.0), p.1)
 note_can_end NoNote tokens rest h ok = absurd (ok refl)
 
 -- ---- the least height
@@ -114,7 +106,7 @@ note_can_end NoNote tokens rest h ok = absurd (ok refl)
 pub note_completed_height : (st : NoteState) (tokens rest : List Token) → NoteStands st tokens rest → note_height (note_completed st) ≡ note_least st
 note_completed_height NeedNote tokens rest h = refl
 note_completed_height (HaveHole at) tokens rest h = refl
-note_completed_height (InUnit at u) tokens rest h = completed_height u h.4
+note_completed_height (InUnit at u) tokens rest h = completed_height u h.1.3
 note_completed_height NoNote tokens rest h = refl
 
 goes_up : (at n : ℕ) (u : State) → unit_goes at u ≢ NoNote → (u ≢ Refused → n ≤ least u) → n ≤ note_least (unit_goes at u)
@@ -128,7 +120,7 @@ goes_up at n Refused ok le = absurd (ok refl)
 pub note_up : (st : NoteState) (x : Token) → note_step st x ≢ NoNote → note_least st ≤ note_least (note_step st x)
 note_up NeedNote x ok = omega arith
 note_up (HaveHole at) x ok = absurd (ok refl)
-note_up (InUnit at u) x ok = goes_up at (least u) (unit_step u x) ok (λ goes. run_up (x ∷ []) u goes)
+note_up (InUnit at u) x ok = goes_up at (least u) (unit_step u x) ok (λ goes. unit_up u x goes)
 note_up NoNote x ok = absurd (ok refl)
 
 -- what is found has it
