@@ -6,8 +6,8 @@ use Rattle.um_syntax.specs.declared.token.Kind.TheVariants as kind
 use Rattle.um_tree.specs.RawTree.{UnitText, NoteText, hole_text, unit_note_text}
 use Rattle.um_types.specs.UnitTokens.{sign, unit_token}
 use Rattle.um_types.specs.declared.unit_mark.Mark.TheVariants as mark
-use Rattle.um_types.specs.UnitGrammar.{Fits, IsUnit}
-use Rattle.um_types.specs.UnitMachine.{State, Need, Have, Raised, Lowered, Refused, act, run, whole, finish}
+use Rattle.um_types.specs.UnitGrammar.{Fits}
+use Rattle.um_types.specs.UnitMachine.{State, Need, Have, Raised, Lowered, Refused, act, finish}
 use Rattle.um_types.specs.TypeGrammar.{BeginsAt, NoteSpells, NoteFits}
 use Rattle.um_types.specs.Machines.{runs, Reaches}
 use Rattle.um_types.specs.NoteMachine.{NoteState, NeedNote, HaveHole, InUnit, NoNote, unit_goes, note_begin, note_act, note_step, noted, note_finish}
@@ -54,8 +54,7 @@ reads_unit at u tokens rest b fits ([], e, reached, ok) = absurd (let bad : no_u
 reads_unit at u tokens rest b fits (x ∷ xs, e, reached, ok) =
     let first : x.start ≡ at = ap (λ (t : Token). t.start) (same_first x b.0 (xs ++ rest) b.1 (sym e ∙ b.3)) ∙ b.2 in
     let mid : State = unit_step (Need []) x in
-    let goes : mid ≢ Refused = λ h. ok (sym reached ∙ ap (λ s. runs unit_step s xs) h ∙ runs_refused unit_step Refused (λ t. refl) xs) in
-    (
+    let goes : mid ≢ Refused = λ h. ok (sym reached ∙ ap (λ s. runs unit_step s xs) h ∙ runs_refused unit_step Refused (λ t. refl) xs) in (
       x ∷ xs,
       e,
       ap (λ s. runs note_step s xs) (note_begin_unit x.kind x.start mid refl goes)

@@ -1,12 +1,11 @@
 -- The tokens of a note that were read are those of the state; what isn't refused can be completed; the least height.
-use Rattle.std.proofs.Common.{◌≡◌, ◌≢◌, ℕ, ◌≤◌, List, [], ◌∷◌, ◌++◌, Option, Some, None, false, refl, sym, ap, subst, ◌∙◌, append_assoc, arith}
+use Rattle.std.proofs.Common.{◌≡◌, ◌≢◌, ℕ, ◌≤◌, List, [], ◌∷◌, ◌++◌, Option, Some, None, false, refl, sym, ap, subst, ◌∙◌, arith}
 use Rattle.um_syntax.specs.declared.token.Token.{Token}
 use Rattle.um_syntax.specs.declared.token.Kind.{Kind}
 use Rattle.um_syntax.specs.declared.token.Kind.TheVariants as kind
 use Rattle.um_tree.specs.RawTree.{UnitText, NoteText, hole_text, unit_note_text}
 use Rattle.um_types.specs.UnitTokens.{unit_token}
-use Rattle.um_types.specs.UnitGrammar.{Spells, IsUnit}
-use Rattle.um_types.specs.UnitMachine.{Frame, State, Need, Have, Raised, Lowered, Refused, act, run, finish}
+use Rattle.um_types.specs.UnitMachine.{Frame, State, Need, Have, Raised, Lowered, Refused, act, finish}
 use Rattle.um_types.specs.UnitLeast.{least}
 use Rattle.um_types.specs.TypeGrammar.{FirstHole, BeginsAt, NoteSpells, NoteFits}
 use Rattle.um_types.specs.TypeHeights.{note_height}

@@ -9,7 +9,7 @@ use Rattle.um_types.specs.UnitMachine.{State, Need, Have, Raised, Lowered, Refus
 use Rattle.um_types.specs.UnitLeast.{least}
 use Rattle.um_types.specs.Machines.{runs, Reaches}
 use Rattle.um_types.proofs.UnitComplete.{into, red_into}
-use Rattle.um_types.proofs.UnitLaws.{ending_of, completed, can_go_on, run_append, run_refused, reads_as, found, finish_red}
+use Rattle.um_types.proofs.UnitLaws.{ending_of, completed, can_go_on, run_append, reads_as, found, finish_red}
 use Rattle.um_types.proofs.UnitHeights.{run_up}
 use Rattle.um_types.proofs.UnitCut.{cut_unit, unit_before}
 

@@ -4,6 +4,8 @@
 mod note_take;
 mod parse;
 mod signature;
+#[cfg(test)]
+mod tests;
 mod type_part;
 mod type_reader;
 mod type_symbol;
