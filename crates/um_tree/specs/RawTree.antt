@@ -11,6 +11,7 @@ use Rattle.um_tree.specs.declared.raw.RawNote.{RawNote}
 use Rattle.um_tree.specs.declared.raw.RawNote.TheVariants.{Hole as Hole-note, Unit as Unit-note}
 use Rattle.um_tree.specs.declared.raw.RawNotes.{RawNotes}
 use Rattle.um_tree.specs.declared.raw.RawType.{RawType, Bool as Bool-type, Num as Num-type, Name as Name-type, List' as List-type, Bracket' as Bracket-type}
+use Rattle.um_tree.specs.declared.raw.RawTypes.{RawTypes}
 use Rattle.um_tree.specs.declared.raw.Binder.{Binder}
 use Rattle.um_tree.specs.declared.raw.RawExpr.{RawExpr, fold-RawExpr}
 use Rattle.um_tree.specs.declared.raw.RawField.{RawField, fold-RawField}
@@ -94,6 +95,9 @@ type_text (Num-type n) = num_text (written_note n)
 type_text (Name-type at x ns) = record_text at x (note_texts ns)
 type_text (List-type p t) = list_type_text (type_text t)
 type_text (Bracket-type p t) = bracket_type_text (type_text t)
+
+abbrev pub type_texts : RawTypes → List TypeText
+type_texts ts = map type_text ts.items.items
 
 -- a name that is bound, or nothing for `_`
 pub record BinderText : Type 0 where

@@ -25,8 +25,8 @@ pub use program::{
 };
 pub use raw::{
     Binder, RawDecl, RawExpr, RawExprs, RawField, RawFieldDecl, RawFieldDecls, RawFields,
-    RawFunction, RawNode, RawNote, RawNotes, RawParam, RawParams, RawProgram, RawType, RawUnit,
-    RawUnits, RawVar, RawVars,
+    RawFunction, RawNode, RawNote, RawNotes, RawParam, RawParams, RawProgram, RawType, RawTypes,
+    RawUnit, RawUnits, RawVar, RawVars,
 };
 pub use size::{height, nodes};
 pub use types::{Shape, Ty, Types};

@@ -63,6 +63,12 @@ pub enum RawType {
     Bracket(Box<RawType>),
 }
 
+/// Some type texts, in order.
+#[derive(Drop)]
+pub struct RawTypes {
+    pub items: Vec<RawType>,
+}
+
 /// A name that is bound, or `_`.
 #[derive(Drop)]
 pub struct Binder {

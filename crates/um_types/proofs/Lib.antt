@@ -1,9 +1,22 @@
-mod UnitComplete
-mod UnitSound
-mod UnitLaws
-mod UnitHeights
+pub mod UnitComplete
+pub mod UnitSound
+pub mod UnitLaws
+pub mod UnitHeights
 mod UnitFronts
 mod UnitEnds
 mod UnitWhole
 mod UnitCounts
 mod UnitSteps
+pub mod Reaching
+pub mod UnitCut
+pub mod UnitNested
+pub mod TokenLinks
+pub mod NoteComplete
+pub mod NoteLaws
+pub mod TypeComplete
+pub mod TypeSound
+pub mod TypeLaws
+pub mod SignatureLaws
+mod TypeNotes
+mod SignatureWhole
+mod SignatureSteps

@@ -1,11 +1,11 @@
 -- What a unit text spells is read as it, inside any frames, whatever follows.
-use Rattle.std.proofs.Common.{◌≡◌, ◌≢◌, ℕ, ◌+◌, ◌≤◌, ◌<◌, ℤ, List, [], ◌∷◌, ◌++◌, cond, Bool, true, false, Option, Some, None, refl, sym, ap, subst, ◌∙◌, append_assoc, arith, inl, inr, ◌⊎◌}
+use Rattle.std.proofs.Common.{◌≡◌, ℕ, ◌≤◌, ℤ, List, [], ◌∷◌, ◌++◌, cond, true, Some, refl, sym, ap, ◌∙◌, arith, inl, inr}
 use Rattle.um_syntax.specs.declared.token.Token.{Token}
 use Rattle.um_tree.specs.RawTree.{UnitText, UnitTexts, one_text, measure_text, variable_text, power_text, side_text, times_text, over_text, inverse_text, bracket_text, no_units, more_units, units_in_order}
-use Rattle.um_types.specs.UnitTokens.{UnitToken, sign, measure, variable, number, unit_token}
+use Rattle.um_types.specs.UnitTokens.{UnitToken, sign, measure, variable, number}
 use Rattle.um_types.specs.declared.unit_mark.Mark.TheVariants as mark
-use Rattle.um_types.specs.UnitGrammar.{First, FirstAt, Digits, PowerSpells, Spells, AllSpell, rank, Several, Fits, ArePowers}
-use Rattle.um_types.specs.UnitMachine.{Frame, InBracket, InInverse, InTimes, InOver, InSide, State, Need, Have, Raised, Lowered, Refused, top_limit, opens, reduce, juxtapose, begin, times_after, over_after, close_after, raise, after, raised, lowered, act, run}
+use Rattle.um_types.specs.UnitGrammar.{First, FirstAt, PowerSpells, Spells, AllSpell, rank, Fits, ArePowers}
+use Rattle.um_types.specs.UnitMachine.{Frame, InBracket, InInverse, InTimes, InOver, InSide, State, Need, Have, Raised, Lowered, Refused, top_limit, opens, reduce, juxtapose, begin, times_after, over_after, close_after, raise, after, act, run}
 
 -- behind a front of a juxtaposition, if there is one
 abbrev pub inside : List UnitText → List Frame → List Frame

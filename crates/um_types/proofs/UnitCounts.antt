@@ -1,12 +1,11 @@
 -- The walk over the open frames, from the innermost out.
-use Rattle.std.proofs.Common.{◌≡◌, ℕ, ◌+◌, ◌<◌, ◌≤◌, min, max, List, [], ◌∷◌, ◌++◌, length, take, get_or, map, Bool, true, false, refl, sym, ap, ◌∙◌, arith, inl, inr}
+use Rattle.std.proofs.Common.{◌≡◌, ℕ, ◌+◌, ◌<◌, ◌≤◌, min, max, List, [], ◌∷◌, ◌++◌, length, take, get_or, map, false, refl, sym, ap, ◌∙◌, arith, inl, inr}
 use Rattle.std.specs.Prelude.{nat_lt}
 use Rattle.std.proofs.lemmas.Bool.{cases_lt, le-ltb}
 use Rattle.std.proofs.lemmas.List.{reverse-append, take_more}
 use Rattle.um_types.specs.declared.unit_frame.Frame.{Frame as Open}
 use Rattle.um_types.specs.declared.unit_frame.Hand.{Hand}
 use Rattle.um_types.specs.declared.unit_frame.Hand.TheVariants as hand
-use Rattle.um_types.specs.UnitMachine.{Frame}
 use Rattle.um_types.specs.UnitLeast.{side, least_over, least}
 use Rattle.um_types.specs.UnitCount.{counted}
 use Rattle.um_types.specs.UnitView.{view_frame, stack, state_of, hand_height}

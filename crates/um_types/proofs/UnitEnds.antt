@@ -1,7 +1,7 @@
 -- What is left where all ends up to the innermost brackets, and how heights are counted over frames.
-use Rattle.std.proofs.Common.{◌≡◌, ℕ, ◌+◌, min, max, List, [], ◌∷◌, ◌++◌, Bool, true, false, refl, sym, ap, ◌∙◌, arith, inl, inr, ◌⊎◌}
+use Rattle.std.proofs.Common.{◌≡◌, ℕ, ◌+◌, max, List, [], ◌∷◌, ◌++◌, true, refl, sym, ap, ◌∙◌, arith, inl, inr, ◌⊎◌}
 use Rattle.um_tree.specs.RawTree.{UnitText, side_text, times_text, over_text, inverse_text, units_in_order}
-use Rattle.um_types.specs.UnitMachine.{Frame, InBracket, InInverse, InTimes, InOver, InSide, State, Need, Have, Raised, Lowered, Refused, reduce, opens, close_after, whole, finish}
+use Rattle.um_types.specs.UnitMachine.{Frame, InBracket, InInverse, InTimes, InOver, InSide, Have, Refused, reduce, opens, close_after, whole}
 use Rattle.um_types.specs.UnitLeast.{side, least_over}
 use Rattle.um_types.specs.UnitCount.{counted}
 use Rattle.um_types.specs.UnitView.{ends_itself}

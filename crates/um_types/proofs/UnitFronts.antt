@@ -1,5 +1,5 @@
 -- Juxtapositions with one unit text more.
-use Rattle.std.proofs.Common.{◌≡◌, ◌+◌, max, List, [], ◌∷◌, ◌++◌, map, arith}
+use Rattle.std.proofs.Common.{◌≡◌, max, List, [], ◌∷◌, ◌++◌, map, arith}
 use Rattle.um_tree.specs.declared.raw.RawUnit.{RawUnit}
 use Rattle.um_tree.specs.RawTree.{unit_text, units_in_order}
 use Rattle.um_tree.specs.Heights.{unit_height, tallest_unit}

@@ -1,12 +1,12 @@
 -- The least height of a unit text that the tokens begin: it is reached, and none is lower.
-use Rattle.std.proofs.Common.{◌≡◌, ◌≢◌, ℕ, ◌+◌, ◌≤◌, ◌<◌, max, List, [], ◌∷◌, ◌++◌, cond, Bool, true, false, Option, Some, None, refl, sym, ap, subst, ◌∙◌, arith}
+use Rattle.std.proofs.Common.{◌≡◌, ◌≢◌, ℕ, ◌+◌, ◌≤◌, max, List, [], ◌∷◌, ◌++◌, cond, Bool, true, false, Some, None, refl, sym, ap, subst, ◌∙◌, arith}
 use Rattle.um_syntax.specs.declared.token.Token.{Token}
 use Rattle.um_tree.specs.RawTree.{UnitText, one_text, measure_text, variable_text, power_text, side_text, times_text, over_text, inverse_text, bracket_text, units_in_order}
 use Rattle.um_tree.specs.Heights.{unit_height, tallest_unit}
 use Rattle.um_types.specs.UnitTokens.{UnitToken, sign, measure, variable, number, unit_token}
 use Rattle.um_types.specs.declared.unit_mark.Mark.TheVariants as mark
-use Rattle.um_types.specs.UnitGrammar.{IsUnit, Begins, BeginsWithin}
-use Rattle.um_types.specs.UnitMachine.{Frame, InBracket, InInverse, InTimes, InOver, InSide, State, Need, Have, Raised, Lowered, Refused, opens, plug, reduce, juxtapose, begin, times_after, over_after, close_after, raise, after, raised, lowered, act, run, whole, finish}
+use Rattle.um_types.specs.UnitGrammar.{IsUnit, BeginsWithin}
+use Rattle.um_types.specs.UnitMachine.{Frame, InBracket, InInverse, InTimes, InOver, InSide, State, Need, Have, Raised, Lowered, Refused, opens, reduce, juxtapose, begin, times_after, over_after, close_after, raise, after, raised, lowered, act, run, whole, finish}
 use Rattle.um_types.specs.UnitLeast.{side, least_over, least}
 use Rattle.um_types.proofs.UnitComplete.{into, red, red_into, AtHand, into_hand}
 use Rattle.um_types.proofs.UnitLaws.{filled, all_filled, ending_of, completed, can_go_on, run_append, run_refused, reads_as}
@@ -26,7 +26,7 @@ height_all_filled : (frames : List Frame) (t : UnitText) → unit_height (all_fi
 height_all_filled [] t = refl
 height_all_filled (frame ∷ frames) t = height_all_filled frames (filled frame t) ∙ ap (least_over frames) (height_filled frame t)
 
-completed_height : (st : State) → st ≢ Refused → unit_height (completed st) ≡ least st
+pub completed_height : (st : State) → st ≢ Refused → unit_height (completed st) ≡ least st
 completed_height (Need frames) ok = height_all_filled frames (measure_text 0 [])
 completed_height (Have frames t) ok = height_all_filled frames t
 completed_height (Raised frames t) ok = height_all_filled frames (power_text t _)

@@ -1,5 +1,5 @@
 -- What isn't refused can be completed, what is refused begins no unit text, and there is one unit text per list of tokens.
-use Rattle.std.proofs.Common.{◌≡◌, ◌≢◌, ℕ, ◌+◌, ◌≤◌, ◌<◌, ℤ, pos, List, [], ◌∷◌, ◌++◌, Bool, true, false, Option, Some, None, refl, sym, ap, subst, ◌∙◌, append_assoc, arith, inl, inr}
+use Rattle.std.proofs.Common.{◌≡◌, ◌≢◌, ◌≤◌, pos, List, [], ◌∷◌, ◌++◌, true, false, Some, refl, sym, ap, subst, ◌∙◌, arith, inl, inr}
 use Rattle.std.specs.Prelude.{neg_ℤ}
 use Rattle.std.proofs.lemmas.List.{append-nil}
 use lib.Signed.{le_z_yes}
@@ -8,9 +8,9 @@ use Rattle.um_frac.specs.Gcd.{gcd}
 use Rattle.um_syntax.specs.declared.token.Token.{Token}
 use Rattle.um_syntax.specs.declared.token.Kind.TheVariants as kind
 use Rattle.um_tree.specs.RawTree.{UnitText, measure_text, power_text, side_text, times_text, over_text, inverse_text, bracket_text, units_in_order}
-use Rattle.um_types.specs.UnitTokens.{sign, measure, number, unit_token}
+use Rattle.um_types.specs.UnitTokens.{unit_token}
 use Rattle.um_types.specs.UnitGrammar.{Spells, rank, Fits, IsUnit, Begins}
-use Rattle.um_types.specs.UnitMachine.{Frame, InBracket, InInverse, InTimes, InOver, InSide, State, Need, Have, Raised, Lowered, Refused, top_limit, plug, reduce, act, run, whole, finish}
+use Rattle.um_types.specs.UnitMachine.{Frame, InBracket, InInverse, InTimes, InOver, InSide, State, Need, Have, Raised, Lowered, Refused, top_limit, act, run, whole, finish}
 use Rattle.um_types.proofs.UnitComplete.{into, red, red_into, rank_low, complete, AtHand, into_hand}
 use Rattle.um_types.proofs.UnitSound.{Opened, FramesFit, Stands, limit_low, side_fits, spells_last, stands, is_unit}
 
@@ -117,7 +117,7 @@ none_begins tokens e b =
     hand_goes_on (into [] b.1) (into_hand b.1 [] b.2.fits)
     (sym (reads_as b.1 (tokens ++ b.0) b.2) ∙ run_append tokens b.0 (Need []) ∙ ap (λ s. run s b.0) e ∙ run_refused b.0)
 
-finish_red : (st : State) → finish st ≡ whole (red st)
+pub finish_red : (st : State) → finish st ≡ whole (red st)
 finish_red (Need frames) = refl
 finish_red (Have frames t) = refl
 finish_red (Raised frames t) = refl

@@ -1,5 +1,5 @@
 -- One token more, told by the states after the first tokens.
-use Rattle.std.proofs.Common.{◌≡◌, ◌≢◌, ℕ, ◌+◌, ◌≤◌, ◌<◌, Bool, true, false, List, [], ◌∷◌, ◌++◌, length, take, get_or, refl, sym, ap, subst, ◌∙◌, arith, inl, inr}
+use Rattle.std.proofs.Common.{◌≡◌, ◌≢◌, ℕ, ◌+◌, ◌≤◌, ◌<◌, true, false, List, [], ◌∷◌, ◌++◌, length, take, get_or, refl, sym, ap, ◌∙◌, arith, inl, inr}
 use Rattle.std.specs.Prelude.{nat_lt}
 use Rattle.std.proofs.lemmas.Bool.{cases_lt, lt-ltb, le-ltb}
 use Rattle.std.proofs.lemmas.List.{take_more}
@@ -7,12 +7,10 @@ use Rattle.um_syntax.specs.declared.token.Token.{Token}
 use Rattle.um_types.specs.declared.unit_frame.Frame.{Frame as Open}
 use Rattle.um_types.specs.declared.unit_frame.Hand.{Hand}
 use Rattle.um_types.specs.declared.unit_frame.Hand.TheVariants as hand
-use Rattle.um_types.specs.declared.unit_frame.Step.{Step}
-use Rattle.um_types.specs.declared.unit_frame.Step.TheVariants as step
 use Rattle.um_types.specs.UnitTokens.{unit_token}
-use Rattle.um_types.specs.UnitMachine.{State, Need, Refused, act, run, finish}
+use Rattle.um_types.specs.UnitMachine.{State, Need, Refused, act, run}
 use Rattle.um_types.specs.UnitLeast.{least}
-use Rattle.um_types.specs.UnitView.{state_of, Gives}
+use Rattle.um_types.specs.UnitView.{state_of}
 use Rattle.um_types.specs.UnitStates.{state_at, IsRead}
 use Rattle.um_types.proofs.UnitLaws.{run_append}
 

@@ -1,8 +1,8 @@
 -- What the states of the machine say of the tokens: the stop, the unit text up to it, and the first token that makes it too high.
-use Rattle.std.proofs.Common.{◌≡◌, ◌≢◌, ℕ, ◌+◌, ◌≤◌, ◌<◌, List, [], ◌∷◌, ◌++◌, length, take, Option, Some, None, refl, sym, ap, ◌∙◌, arith}
+use Rattle.std.proofs.Common.{◌≡◌, ◌≢◌, ℕ, ◌+◌, ◌<◌, List, length, take, Option, Some, None, sym, ◌∙◌, arith}
 use Rattle.um_syntax.specs.declared.token.Token.{Token}
 use Rattle.um_tree.specs.RawTree.{UnitText}
-use Rattle.um_types.specs.UnitMachine.{State, Need, Refused, run, finish}
+use Rattle.um_types.specs.UnitMachine.{Refused, finish}
 use Rattle.um_types.specs.UnitLeast.{least}
 use Rattle.um_types.specs.UnitStops.{StopsAt, Reads, Misread, HighAt}
 use Rattle.um_types.specs.UnitStates.{state_at, IsRead}

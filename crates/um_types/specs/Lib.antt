@@ -9,3 +9,17 @@ pub mod UnitStates
 pub mod UnitReads
 pub mod UnitAnswer
 pub mod UnitParsed
+pub mod TypeTokens
+pub mod TypeGrammar
+pub mod TypeHeights
+pub mod SignatureGrammar
+pub mod SignatureParsed
+pub mod Machines
+pub mod NoteMachine
+pub mod TypeMachine
+pub mod SignatureMachine
+pub mod UnitTakes
+pub mod NoteTakes
+pub mod TypeView
+pub mod TypeTakes
+pub mod SignatureReads

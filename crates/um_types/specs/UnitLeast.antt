@@ -1,7 +1,7 @@
 -- The least height of a unit text that begins with what was read.
 -- Source: this project's own.
 use Rattle.std.specs.Prelude.{ℕ, ◌+◌, max, List, [], ◌∷◌}
-use Rattle.um_tree.specs.RawTree.{UnitText, units_in_order}
+use Rattle.um_tree.specs.RawTree.{units_in_order}
 use Rattle.um_tree.specs.Heights.{unit_height, tallest_unit}
 use Rattle.um_types.specs.UnitMachine.{Frame, InBracket, InInverse, InTimes, InOver, InSide, State, Need, Have, Raised, Lowered, Refused}
 

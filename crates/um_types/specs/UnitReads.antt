@@ -1,5 +1,5 @@
 -- What the reading of tokens gives, told by the states of the machine.
-use Rattle.std.specs.Prelude.{◌≡◌, ◌≢◌, ℕ, ◌+◌, ◌≤◌, ◌<◌, List, [], ◌∷◌, length, take, Result, Ok, Err}
+use Rattle.std.specs.Prelude.{◌≡◌, ◌≢◌, ℕ, ◌+◌, ◌<◌, List, length, Result, Ok, Err}
 use Rattle.um_syntax.specs.declared.token.Token.{Token}
 use Rattle.um_types.specs.declared.unit_frame.Frame.{Frame as Open}
 use Rattle.um_types.specs.declared.unit_frame.Hand.{Hand}

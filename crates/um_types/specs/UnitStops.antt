@@ -1,6 +1,6 @@
 -- Where the reading of a unit text ends.
 -- Source: this project's own; the stop is the end of the longest viable prefix, as in Knuth, On the Translation of Languages from Left to Right.
-use Rattle.std.specs.Prelude.{◌≡◌, ℕ, ◌+◌, ◌≤◌, ◌<◌, List, [], ◌∷◌, length, take, drop, map, slice_index_or, Result, Ok, Err}
+use Rattle.std.specs.Prelude.{ℕ, ◌+◌, ◌≤◌, ◌<◌, List, length, take, map, slice_index_or}
 use Rattle.um_syntax.specs.declared.token.Token.{Token}
 use Rattle.um_tree.specs.RawTree.{UnitText}
 use Rattle.um_tree.specs.Heights.{unit_height}

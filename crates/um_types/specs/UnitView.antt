@@ -1,6 +1,5 @@
 -- What is open and at hand, without where it lies in memory.
 use Rattle.std.specs.Prelude.{◌≡◌, ℕ, ◌+◌, ◌⊎◌, Bool, true, false, List, [], ◌∷◌, map, reverse, Option, Some, None}
-use Rattle.um_tree.specs.declared.raw.RawUnit.{RawUnit}
 use Rattle.um_tree.specs.RawTree.{UnitText, unit_text}
 use Rattle.um_tree.specs.Heights.{unit_height}
 use Rattle.um_types.specs.declared.unit_part.Part.{Part}

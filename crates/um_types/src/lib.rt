@@ -1,7 +1,15 @@
-//! The grammar of unit texts: from tokens to raw trees, with the exact place of each refusal.
+//! The grammar of unit texts, notes, types and signature texts: from tokens to raw trees, with the exact place of each refusal.
 #![tactic(auto)]
 
+mod note_take;
 mod parse;
+mod signature;
+#[cfg(test)]
+mod tests;
+mod type_part;
+mod type_reader;
+mod type_symbol;
+mod type_take;
 mod unit;
 mod unit_frame;
 mod unit_least;
@@ -9,5 +17,9 @@ mod unit_loop;
 mod unit_mark;
 mod unit_part;
 mod unit_reader;
+mod unit_take;
 
-pub use parse::{LimitKind, ParseStop, parse_unit};
+pub use note_take::{NoteReader, NoteStep};
+pub use parse::{LimitKind, ParseStop, parse_types, parse_unit};
+pub use type_take::{TypeReader, TypeStep};
+pub use unit_take::{UnitReader, UnitStep};

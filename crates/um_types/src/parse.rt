@@ -2,11 +2,13 @@
 ghost use Rattle.std.specs.Prelude.{◌≡◌, ◌≤◌, length};
 ghost use Rattle.um_types.specs.UnitParsed.{Parsed};
 ghost use Rattle.um_types.specs.UnitStops.{place_of};
+ghost use Rattle.um_types.specs.SignatureParsed.{SignatureParsed};
 
+use crate::signature::{SignatureStop, read_signature};
 use crate::unit::{UnitStop, read_unit};
 use std::alloc::Global;
 use um_syntax::Token;
-use um_tree::RawUnit;
+use um_tree::{RawTypes, RawUnit};
 
 /// A limit of the language.
 #[derive(Clone, Copy, Debug, PartialEq, Eq)]
@@ -63,5 +65,24 @@ pub fn parse_unit(
             at: place(rest, k, end),
         }),
         Err(UnitStop::NoMemory) => Err(ParseStop::NoMemory),
+    }
+}
+
+/// The types of a signature text, which has at least one, and `->` between two.
+///
+/// `end` is the length of the text. Each type text and each unit text is at most 400 high.
+pub fn parse_types(alloc: Global, tokens: &[Token], end: u32) -> Result<RawTypes, ParseStop>
+    ensures parsed { SignatureParsed tokens.now end result }
+{
+    match read_signature(alloc, tokens) {
+        Ok(types) => Ok(types),
+        Err(SignatureStop::Syntax(k)) => Err(ParseStop::Syntax {
+            at: place(tokens, k, end),
+        }),
+        Err(SignatureStop::High(k)) => Err(ParseStop::Limit {
+            kind: LimitKind::Height,
+            at: place(tokens, k, end),
+        }),
+        Err(SignatureStop::NoMemory) => Err(ParseStop::NoMemory),
     }
 }

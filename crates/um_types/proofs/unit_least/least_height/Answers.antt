@@ -1,4 +1,4 @@
-use Rattle.std.proofs.Common.{rules, ◌≡◌, ◌+◌, ◌-◌, ◌∙◌, ap, sym, subst, arith, get_or, take, length}
+use Rattle.std.proofs.Common.{rules, ◌≡◌, ◌+◌, ◌-◌, ◌∙◌, ap, arith, get_or, take}
 use Rattle.std.proofs.lemmas.List.{take_all}
 use Rattle.um_types.specs.UnitLeast.{least_over}
 use Rattle.um_types.specs.UnitCount.{counted}

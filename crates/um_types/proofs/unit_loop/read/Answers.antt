@@ -1,4 +1,4 @@
-use Rattle.std.proofs.Common.{rules, ◌≡◌, ◌+◌, ◌∙◌, Bool, true, false, ap, sym, subst, arith, get_or, take, length}
+use Rattle.std.proofs.Common.{rules, ◌≡◌, ◌+◌, ◌∙◌, true, false, ap, sym, subst, arith, get_or}
 use Rattle.std.specs.Prelude.{nat_lt}
 use Rattle.um_types.specs.declared.unit_frame.Step.{Step}
 use Rattle.um_types.specs.UnitTokens.{unit_token}

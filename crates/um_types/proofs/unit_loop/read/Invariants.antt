@@ -1,4 +1,4 @@
-use Rattle.std.proofs.Common.{◌≡◌, ◌≤◌, [], take}
+use Rattle.std.proofs.Common.{◌≡◌, ◌≤◌}
 use Rattle.um_types.specs.UnitView.{state_of}
 use Rattle.um_types.specs.UnitStates.{state_at}
 use Rattle.um_types.specs.UnitLeast.{least}

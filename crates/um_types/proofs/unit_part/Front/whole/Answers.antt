@@ -1,10 +1,9 @@
-use Rattle.std.proofs.Common.{rules, ◌≡◌, ◌+◌, min, map, sym, ap, ◌∙◌, arith}
+use Rattle.std.proofs.Common.{rules, ◌≡◌, ◌+◌, map, ap, arith}
 use Rattle.um_tree.specs.declared.raw.RawUnit.{RawUnit, the_lemmas}
 use Rattle.um_tree.specs.declared.raw.RawUnit.TheVariants as raw
-use Rattle.um_tree.specs.declared.raw.RawUnits.{RawUnits, roll-RawUnits}
+use Rattle.um_tree.specs.declared.raw.RawUnits.{roll-RawUnits}
 use Rattle.um_tree.specs.RawTree.{unit_text, units_in_order, side_text}
 use Rattle.um_tree.specs.Heights.{unit_height, tallest_unit}
-use Rattle.um_types.specs.UnitCount.{counted}
 use Rattle.um_types.proofs.unit_part.Front.whole.Goals as goal
 
 pub invariant_of-result : goal.invariant_of-result

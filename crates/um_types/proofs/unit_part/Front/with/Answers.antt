@@ -1,7 +1,6 @@
-use Rattle.std.proofs.Common.{◌≡◌, max, min, map, sym, ap, ◌∙◌, arith}
+use Rattle.std.proofs.Common.{map, ap, arith}
 use Rattle.um_tree.specs.RawTree.{unit_text, units_in_order}
 use Rattle.um_tree.specs.Heights.{tallest_unit}
-use Rattle.um_types.specs.UnitCount.{counted}
 use Rattle.um_types.proofs.UnitFronts.{tallest_more}
 use Rattle.um_types.proofs.unit_part.Front.with.Goals as goal
 

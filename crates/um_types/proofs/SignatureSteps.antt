@@ -1,0 +1,60 @@
+-- One token more of a signature text, told by the types that were read.
+use Rattle.std.proofs.Common.{◌≡◌, ◌≢◌, ℕ, ◌+◌, ◌≤◌, ◌<◌, List, [], ◌∷◌, ◌++◌, length, take, get_or, map, Option, Some, option_map, refl, sym, ap, ◌∙◌, arith}
+use Rattle.std.proofs.lemmas.List.{take_more}
+use Rattle.um_syntax.specs.declared.token.Token.{Token}
+use Rattle.um_tree.specs.declared.raw.RawType.{RawType}
+use Rattle.um_tree.specs.RawTree.{TypeText, type_text}
+use Rattle.um_types.specs.TypeTokens.{TypeToken, symbol, name, symbol_in}
+use Rattle.um_types.specs.TypeHeights.{whole_height, all_height}
+use Rattle.um_types.specs.TypeTakes.{type_state}
+use Rattle.um_types.specs.TypeMachine.{NeedType}
+use Rattle.um_types.specs.SignatureMachine.{SignatureState, InType, NoSignature, type_ends, signature_step, signature_least, start, read_all}
+use Rattle.um_types.specs.SignatureReads.{signature_state, SignatureTakes, SignatureIsRead}
+use Rattle.um_types.specs.declared.type_symbol.Symbol.TheVariants as symbol_of
+use Rattle.um_types.specs.declared.type_take.TypeReader.{TypeReader}
+use Rattle.um_types.specs.declared.signature.SignatureStep.TheVariants as step
+use Rattle.um_types.proofs.Reaching.{runs_append}
+
+arrow_is : (what : TypeToken) → symbol_in what ≡ symbol_of.Arrow → what ≡ symbol symbol_of.Arrow
+arrow_is (symbol s) e = ap symbol e
+arrow_is (name x) e = absurd cc
+
+pub texts_last : (front : List RawType) (t : RawType) → map type_text (front ++ t ∷ []) ≡ map type_text front ++ type_text t ∷ []
+texts_last [] t = refl
+texts_last (u ∷ us) t = ap (λ ts. type_text u ∷ ts) (texts_last us t)
+
+heights_last : (front : List TypeText) (t : TypeText) → all_height front ≤ 400 → whole_height t ≤ 400 → all_height (front ++ t ∷ []) ≤ 400
+heights_last [] t low high = omega arith
+heights_last (u ∷ us) t low high = let rest = heights_last us t (omega (arith, low)) high in omega (arith, low, rest)
+
+-- `->` behind a type
+pub arrow_behind : (front new : List RawType) (t : RawType) (found : Option RawType) (what : TypeToken) (reader : TypeReader) → found ≡ Some t → symbol_in what ≡ symbol_of.Arrow → new ≡ front ++ t ∷ []
+    → type_state reader ≡ NeedType 0 → all_height (map type_text front) ≤ 400 → whole_height (type_text t) ≤ 400
+    → SignatureTakes (type_ends (map type_text front) (option_map type_text found) what) new (step.Goes reader)
+arrow_behind front new t found what reader is arrow pushed begun low high =
+    let state : SignatureState = type_ends (map type_text front) (option_map type_text found) what in
+    let texts : List TypeText = map type_text front ++ type_text t ∷ [] in
+    let e : state ≡ InType texts (NeedType 0) =
+    ap (λ o. type_ends (map type_text front) (option_map type_text o) what) is ∙ ap (type_ends (map type_text front) (Some (type_text t))) (arrow_is what arrow)
+    in
+    let same : texts ≡ map type_text new = sym (ap (map type_text) pushed ∙ texts_last front t) in (
+      e ∙ ap (λ ts. InType ts (NeedType 0)) same ∙ ap (λ s. InType (map type_text new) s) (sym begun),
+      omega (arith, ap signature_least e, heights_last (map type_text front) (type_text t) low high),
+    )
+
+pub one_more : (tokens : List Token) (i : ℕ) (token : Token) (st : SignatureState) → i < length tokens → get_or tokens i token ≡ token → st ≡ read_all (take i tokens)
+    → signature_step st token ≡ read_all (take (i + 1) tokens)
+one_more tokens i token st lt same e =
+    ap (λ s. signature_step s token) e
+    ∙ sym (ap read_all (take_more tokens i token lt ∙ ap (λ t. take i tokens ++ t ∷ []) same) ∙ runs_append signature_step (take i tokens) (token ∷ []) start)
+
+goes_on : (front : List RawType) (reader : TypeReader) → signature_state front reader ≢ NoSignature
+goes_on front reader e = cc
+
+pub is_read : (tokens : List Token) (i : ℕ) (front : List RawType) (reader : TypeReader) → i ≤ length tokens → signature_state front reader ≡ read_all (take i tokens)
+    → signature_least (read_all (take i tokens)) ≤ 400 → SignatureIsRead tokens i
+is_read tokens i front reader le e low = (le, (λ h. goes_on front reader (e ∙ h)), low)
+
+-- all were read
+pub not_refused : (tokens : List Token) (front : List RawType) (reader : TypeReader) → signature_state front reader ≡ read_all tokens → read_all tokens ≢ NoSignature
+not_refused tokens front reader e h = goes_on front reader (e ∙ h)

@@ -1,0 +1,136 @@
+-- Reading a type text token by token, with the machine of notes inside. Of what is open only brackets have to be counted.
+-- Where the note inside refuses a token, it ends, and the token is looked at again.
+-- Source: this project's own.
+use Rattle.std.specs.Prelude.{ℕ, zero, suc, ◌+◌, max, List, [], ◌∷◌, ◌++◌, Option, Some, None}
+use Rattle.um_syntax.specs.declared.token.Token.{Token}
+use Rattle.um_syntax.specs.declared.token.Kind.{Kind}
+use Rattle.um_tree.specs.RawTree.{NoteText, TypeText, bool_text, num_text, record_text, list_type_text, bracket_type_text}
+use Rattle.um_tree.specs.Heights.{type_height}
+use Rattle.um_types.specs.TypeTokens.{TypeToken, symbol, name, type_token}
+use Rattle.um_types.specs.TypeHeights.{notes_height, units_height}
+use Rattle.um_types.specs.NoteMachine.{NoteState, NeedNote, HaveHole, InUnit, NoNote, note_act, note_finish, note_least}
+use Rattle.um_types.specs.declared.type_symbol.Symbol.TheVariants as symbol_of
+
+-- what the angle brackets belong to: `num`, or a name with the notes before the comma
+pub data Owner : Type 0 where
+  OfNum : Owner
+  OfName : (at : ℕ) (name : List ℕ) (front : List NoteText) → Owner
+
+-- each with the number of brackets that are open
+pub data TypeState : Type 0 where
+  NeedType : (depth : ℕ) → TypeState
+  HaveType : (depth : ℕ) (at_hand : TypeText) → TypeState
+  InNote : (depth : ℕ) (owner : Owner) (note : NoteState) → TypeState
+  NoType : TypeState
+
+abbrev pub type_begin : ℕ → TypeToken → ℕ → TypeState
+type_begin depth (name x) at = HaveType depth (record_text at x [])
+type_begin depth (symbol symbol_of.Num) at = HaveType depth (num_text None)
+type_begin depth (symbol symbol_of.Bool) at = HaveType depth bool_text
+type_begin depth (symbol symbol_of.Open) at = NeedType (suc depth)
+type_begin depth (symbol symbol_of.Close) at = NoType
+type_begin depth (symbol symbol_of.Less) at = NoType
+type_begin depth (symbol symbol_of.Greater) at = NoType
+type_begin depth (symbol symbol_of.Comma) at = NoType
+type_begin depth (symbol symbol_of.Arrow) at = NoType
+type_begin depth (symbol symbol_of.List) at = NoType
+type_begin depth (symbol symbol_of.Other) at = NoType
+
+-- what angle brackets may open behind: `num`, and a name
+abbrev pub angle_owner : TypeText → Option Owner
+angle_owner (num_text None) = Some OfNum
+angle_owner (num_text (Some n)) = None
+angle_owner (record_text at x []) = Some (OfName at x [])
+angle_owner (record_text at x (n ∷ ns)) = None
+angle_owner bool_text = None
+angle_owner (list_type_text t) = None
+angle_owner (bracket_type_text t) = None
+
+abbrev pub begin_notes : ℕ → Option Owner → TypeState
+begin_notes depth None = NoType
+begin_notes depth (Some owner) = InNote depth owner NeedNote
+
+abbrev pub open_angle : ℕ → TypeText → TypeState
+open_angle depth t = begin_notes depth (angle_owner t)
+
+abbrev pub close_bracket : ℕ → TypeText → TypeState
+close_bracket zero t = NoType
+close_bracket (suc depth) t = HaveType depth (bracket_type_text t)
+
+abbrev pub type_after : ℕ → TypeText → TypeToken → TypeState
+type_after depth t (symbol symbol_of.List) = HaveType depth (list_type_text t)
+type_after depth t (symbol symbol_of.Close) = close_bracket depth t
+type_after depth t (symbol symbol_of.Less) = open_angle depth t
+type_after depth t (symbol symbol_of.Num) = NoType
+type_after depth t (symbol symbol_of.Bool) = NoType
+type_after depth t (symbol symbol_of.Open) = NoType
+type_after depth t (symbol symbol_of.Greater) = NoType
+type_after depth t (symbol symbol_of.Comma) = NoType
+type_after depth t (symbol symbol_of.Arrow) = NoType
+type_after depth t (symbol symbol_of.Other) = NoType
+type_after depth t (name x) = NoType
+
+-- the type with its last note
+abbrev pub owned : Owner → NoteText → TypeText
+owned OfNum n = num_text (Some n)
+owned (OfName at x front) n = record_text at x (front ++ n ∷ [])
+
+-- a comma behind a note
+abbrev pub next_note : ℕ → Owner → NoteText → TypeState
+next_note depth OfNum n = NoType
+next_note depth (OfName at x front) n = InNote depth (OfName at x (front ++ n ∷ [])) NeedNote
+
+-- the token behind a note
+abbrev pub note_end : ℕ → Owner → NoteText → TypeToken → TypeState
+note_end depth owner n (symbol symbol_of.Greater) = HaveType depth (owned owner n)
+note_end depth owner n (symbol symbol_of.Comma) = next_note depth owner n
+note_end depth owner n (symbol symbol_of.Num) = NoType
+note_end depth owner n (symbol symbol_of.Bool) = NoType
+note_end depth owner n (symbol symbol_of.List) = NoType
+note_end depth owner n (symbol symbol_of.Open) = NoType
+note_end depth owner n (symbol symbol_of.Close) = NoType
+note_end depth owner n (symbol symbol_of.Less) = NoType
+note_end depth owner n (symbol symbol_of.Arrow) = NoType
+note_end depth owner n (symbol symbol_of.Other) = NoType
+note_end depth owner n (name x) = NoType
+
+-- the token that the note refused
+abbrev pub note_ends : ℕ → Owner → Option NoteText → TypeToken → TypeState
+note_ends depth owner None token = NoType
+note_ends depth owner (Some n) token = note_end depth owner n token
+
+-- the note goes on, or ends
+abbrev pub note_goes : ℕ → Owner → NoteState → TypeState → TypeState
+note_goes depth owner NeedNote ended = InNote depth owner NeedNote
+note_goes depth owner (HaveHole at) ended = InNote depth owner (HaveHole at)
+note_goes depth owner (InUnit at u) ended = InNote depth owner (InUnit at u)
+note_goes depth owner NoNote ended = ended
+
+-- one token more
+abbrev pub type_act : TypeState → Kind → ℕ → TypeState
+type_act (NeedType depth) k at = type_begin depth (type_token k) at
+type_act (HaveType depth t) k at = type_after depth t (type_token k)
+type_act (InNote depth owner n) k at = note_goes depth owner (note_act n k at) (note_ends depth owner (note_finish n) (type_token k))
+type_act NoType k at = NoType
+
+abbrev pub type_step : TypeState → Token → TypeState
+type_step state token = type_act state token.kind token.start
+
+-- the type text where all is read
+abbrev pub type_finish : TypeState → Option TypeText
+type_finish (HaveType zero t) = Some t
+type_finish (HaveType (suc depth) t) = None
+type_finish (NeedType depth) = None
+type_finish (InNote depth owner n) = None
+type_finish NoType = None
+
+abbrev pub owner_height : Owner → ℕ
+owner_height OfNum = 0
+owner_height (OfName at x front) = notes_height front
+
+-- the least that the greatest of the heights in a type text is that begins with what was read
+abbrev pub type_least : TypeState → ℕ
+type_least (NeedType depth) = depth + 1
+type_least (HaveType depth t) = max (type_height t + depth) (units_height t)
+type_least (InNote depth owner n) = max (depth + 1) (max (owner_height owner) (note_least n))
+type_least NoType = 0

@@ -1,0 +1,149 @@
+// Type texts with their heights beside them, and what is at hand while one is read.
+ghost use Rattle.std.specs.Prelude.{◌≡◌, ◌≤◌, IfOk, None, option_map};
+ghost use Rattle.um_tree.specs.RawTree.{bool_text, num_text, list_type_text, bracket_type_text, note_text, type_text};
+ghost use Rattle.um_tree.specs.Heights.{type_height};
+ghost use Rattle.um_types.specs.UnitStops.{greatest_height};
+
+use crate::note_take::NoteReader;
+use std::alloc::{AllocError, Global};
+use um_syntax::Kind;
+use um_tree::{Name, RawNote, RawNotes, RawType};
+
+/// A type text and its height.
+#[derive(Drop)]
+pub struct TypePart {
+    pub ty: RawType,
+    pub height: u32,
+    ghost exact: { height ≡ type_height (type_text ty) },
+}
+
+/// What angle brackets belong to: `num`, or a name with the notes before the comma.
+#[derive(Drop)]
+pub enum Owner {
+    Num,
+    Name(u32, Name, RawNotes),
+}
+
+/// What is at hand beside the open brackets: nothing, a type, or a note that has begun.
+#[derive(Drop)]
+pub enum TypeHand {
+    Empty,
+    Full(TypePart),
+    Note(Owner, NoteReader),
+}
+
+impl TypePart {
+    ghost use Rattle.um_types.specs.TypeTokens.{type_token};
+    ghost use Rattle.um_types.specs.TypeView.{part_type, named_type};
+
+    /// `num`
+    pub fn num() -> TypePart
+        ensures { part_type result ≡ num_text None }
+    {
+        TypePart {
+            ty: RawType::Num(None),
+            height: 1,
+        }
+    }
+
+    /// `bool`
+    pub fn bool() -> TypePart
+        ensures { part_type result ≡ bool_text }
+    {
+        TypePart {
+            ty: RawType::Bool,
+            height: 1,
+        }
+    }
+
+    /// The type that a name is, if the token is one.
+    pub fn named(alloc: Global, kind: &Kind, at: u32) -> Result<Option<TypePart>, AllocError>
+        ensures { IfOk result (λ o. option_map part_type o ≡ named_type (type_token kind.now) at) }
+    {
+        match kind {
+            Kind::Name(letters) => {
+                let name = Name::from_vec(Vec::from_slice(alloc, letters.as_slice())?);
+                let notes = RawNotes {
+                    items: Vec::new(alloc),
+                };
+                Ok(Some(TypePart {
+                    ty: RawType::Name(at, name, notes),
+                    height: 1,
+                }))
+            }
+            Kind::Var(_) | Kind::Number { .. } | Kind::Word(_) | Kind::Hole | Kind::Sign(_) => {
+                Ok(None)
+            }
+        }
+    }
+
+    /// A list of it
+    pub fn list(self, alloc: Global) -> Result<TypePart, AllocError>
+        requires { type_height (part_type self) ≤ greatest_height }
+        ensures { IfOk result (λ p. part_type p ≡ list_type_text (part_type self)) }
+    {
+        let TypePart { ty, height } = self;
+        let ty = RawType::List(Box::new(alloc, ty)?);
+        Ok(TypePart {
+            ty,
+            height: height + 1,
+        })
+    }
+
+    /// In brackets
+    pub fn bracket(self, alloc: Global) -> Result<TypePart, AllocError>
+        requires { type_height (part_type self) ≤ greatest_height }
+        ensures { IfOk result (λ p. part_type p ≡ bracket_type_text (part_type self)) }
+    {
+        let TypePart { ty, height } = self;
+        let ty = RawType::Bracket(Box::new(alloc, ty)?);
+        Ok(TypePart {
+            ty,
+            height: height + 1,
+        })
+    }
+}
+
+impl Owner {
+    ghost use Rattle.um_types.specs.TypeMachine.{owned};
+    ghost use Rattle.um_types.specs.TypeView.{part_type, view_owner, Opens};
+
+    /// What angle brackets behind a type belong to; where none may stand there, the type again.
+    pub fn of_type(ty: RawType) -> Result<Owner, RawType>
+        ensures { Opens (type_text ty) result }
+    {
+        match ty {
+            RawType::Num(None) => Ok(Owner::Num),
+            RawType::Num(Some(note)) => Err(RawType::Num(Some(note))),
+            RawType::Name(at, name, notes) => {
+                if notes.items.is_empty() {
+                    Ok(Owner::Name(at, name, notes))
+                } else {
+                    Err(RawType::Name(at, name, notes))
+                }
+            }
+            RawType::Bool => Err(RawType::Bool),
+            RawType::List(item) => Err(RawType::List(item)),
+            RawType::Bracket(inner) => Err(RawType::Bracket(inner)),
+        }
+    }
+
+    /// The type with its last note
+    pub fn owned(self, last: RawNote) -> Result<TypePart, AllocError>
+        ensures { IfOk result (λ p. part_type p ≡ owned (view_owner self) (note_text last)) }
+    {
+        match self {
+            Owner::Num => Ok(TypePart {
+                ty: RawType::Num(Some(last)),
+                height: 1,
+            }),
+            Owner::Name(at, name, mut front) => {
+                front.items.push(last)?;
+                Ok(TypePart {
+                    ty: RawType::Name(at, name, front),
+                    height: 1,
+                })
+            }
+        }
+    }
+}
