@@ -12,3 +12,7 @@ mod TurnSteps
 pub mod Slots
 mod Added
 pub mod JointRows
+pub mod FirstOccurrences
+pub mod RenamedUnits
+pub mod NumberedTypes
+pub mod GrowingOrder
