@@ -2,7 +2,7 @@
 use Rattle.std.proofs.Common.{◌≡◌, ℕ, zero, suc, ◌+◌, ◌<◌, ◌≤◌, ◌||◌, Bool, true, false, eqb, List, [], ◌∷◌, ◌++◌, length, get_or, take, map, refl, sym, ap, ◌∙◌, subst, arith}
 use Rattle.std.specs.Prelude.{IsTrue, All}
 use Rattle.std.specs.List.{flat_map, IsDistinct}
-use Rattle.std.proofs.lemmas.Bool.{eqb-true, eq-eqb, cond_both}
+use Rattle.std.proofs.lemmas.Bool.{eqb-true, eq-eqb, cond_both, and_parts, ltb-true}
 use Rattle.std.proofs.lemmas.List.Elements.{All-nil, All-cons, All-head, All-tail, All-append}
 use Rattle.std.proofs.lemmas.Map.Steps.{length-le_from_distinct_below}
 use Rattle.std.proofs.lemmas.List.{take_more, map-append}
@@ -12,13 +12,14 @@ use Rattle.um_units.specs.declared.Atom.{Atom}
 use Rattle.um_units.specs.declared.Atom.TheVariants.{Base, Var}
 use Rattle.um_units.specs.declared.Term.{Term}
 use Rattle.um_units.specs.PowerMap.{PowerMap, atom, replace}
+use Rattle.um_units.specs.Variables.{atom_below, variables_below}
 use Rattle.um_tree.specs.TypeTree.{TypeTree}
 use Rattle.um_tree.specs.Typing.{put}
 use Rattle.um_tree.specs.Scheme.{atom_variables, unit_variables, type_variables}
 use Rattle.um_elim.specs.Numbering.{by_place}
 use Rattle.um_elim.specs.Order.{placed_atom, placed_term, with_variable, with_variables}
 use Rattle.um_elim.proofs.FirstOccurrences.{member, member-front, member-back, member-with, with_more, place-with}
-use Rattle.um_elim.proofs.RenamedUnits.{unit_alike, put_alike}
+use Rattle.um_elim.proofs.RenamedUnits.{term_variables, unit_alike, put_alike}
 
 -- the order holds what was added
 or_second : (a b : Bool) → IsTrue b → (a || b) ≡ true
@@ -103,3 +104,11 @@ All-member P (j ∷ ks) k all h =
 -- no more numbers than there are below n, where each stands once
 pub at_most : (ks : List ℕ) (n : ℕ) → IsDistinct eqb ks → All (λ k. k < n) ks → length ks ≤ n
 at_most ks n distinct all = length-le_from_distinct_below ks n distinct (λ q h. All-member (λ k. k < n) ks q all h)
+
+pub All-from_below : (n : ℕ) (ts : List Term) → IsTrue (variables_below n ts) → All (λ k. k < n) (term_variables ts)
+All-from_below n [] h = All-nil (λ k. k < n)
+All-from_below n (t ∷ ts) h = let parts = and_parts (atom_below n t.atom) (variables_below n ts) h in All-append (λ k. k < n) (atom_variables t.atom) (term_variables ts) (at t.atom parts.0) (All-from_below n ts parts.1)
+  where
+    at : (x : Atom) → IsTrue (atom_below n x) → All (λ k. k < n) (atom_variables x)
+    at (Base b) h = All-nil (λ k. k < n)
+    at (Var k) h = All-one (λ k. k < n) k (ltb-true k n h)

@@ -77,11 +77,10 @@ impl Solver {
     pub fn apply(&self, alloc: Global, ty: &Ty) -> Result<Ty, ElimStop>
         ensures applied { IsApplied self.now (type_tree ty.now) result }
     {
-        if self.spent {
-            return Err(ElimStop::Spent);
+        if !self.spent {
+            return Ok(put_in_type(alloc, &self.units, ty)?);
         }
-        let applied = put_in_type(alloc, &self.units, ty)?;
-        Ok(applied)
+        Err(ElimStop::Spent)
     }
 }
 
