@@ -275,3 +275,19 @@ fn numbers(rt: HostRuntime) -> Result<(), Fail> {
     }
     Ok(())
 }
+
+// Each slot of the first 1001 is equal to the next, from the last to the first: the slots behind follow each time.
+#[test]
+fn thousand_rows(rt: HostRuntime) -> Result<(), Fail> {
+    let alloc = rt.alloc();
+    let mut solver = Solver::new(alloc, 2000)?;
+    for k in (0..1000).rev() {
+        let row = [power(Atom::Var(k), 1), power(Atom::Var(k + 1), -1)];
+        add_row(alloc, &mut solver, 2000, &row)?;
+    }
+    let last = solver.apply(alloc, &Ty::Num(Unit::atom(alloc, Atom::Var(1000))?));
+    assert!(rt; is_number(&last, &Some(&[power(A, 1)])));
+    let free = solver.apply(alloc, &Ty::Num(Unit::atom(alloc, Atom::Var(1001))?));
+    assert!(rt; is_number(&free, &Some(&[power(Atom::Var(1001), 1)])));
+    Ok(())
+}
