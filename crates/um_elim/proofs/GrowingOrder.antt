@@ -93,7 +93,7 @@ All-one P k h = All-cons P k [] h (All-nil P)
 pub All-with_variable : (P : ℕ → Type 0) (ks : List ℕ) (k : ℕ) → All P ks → P k → All P (with_variable ks k)
 All-with_variable P ks k all h = cond_both (member k ks) ks (ks ++ k ∷ []) (All P) (λ e. all) (λ e. All-append P ks (k ∷ []) all (All-one P k h))
 
-All-member : (P : ℕ → Type 0) (ks : List ℕ) (k : ℕ) → All P ks → IsTrue (member k ks) → P k
+pub All-member : (P : ℕ → Type 0) (ks : List ℕ) (k : ℕ) → All P ks → IsTrue (member k ks) → P k
 All-member P [] k all h = cc
 All-member P (j ∷ ks) k all h =
     elim (eqb k j) as (λ b. eqb k j ≡ b → IsTrue (b || member k ks) → P k) [

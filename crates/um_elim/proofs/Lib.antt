@@ -16,3 +16,4 @@ pub mod FirstOccurrences
 pub mod RenamedUnits
 pub mod NumberedTypes
 pub mod GrowingOrder
+pub mod VariablesKept
