@@ -12,3 +12,8 @@ mod TurnSteps
 pub mod Slots
 mod Added
 pub mod JointRows
+pub mod FirstOccurrences
+pub mod RenamedUnits
+pub mod NumberedTypes
+pub mod GrowingOrder
+pub mod VariablesKept

@@ -13,7 +13,7 @@ use Rattle.um_units.specs.PowerMap.{PowerMap, power_of, one, atom, mul, inv, pow
 use Rattle.um_units.proofs.Integers.{*ℤ-+ℤ, +ℤ-*ℤ, *ℤ_assoc, *ℤ-neg_ℤ}
 use Rattle.um_units.proofs.Weights.{weigh_alike}
 use Rattle.um_units.proofs.Equality.{same_unit}
-use Rattle.um_units.proofs.Group.{weight-atom, weight-mul, weight-inv, weight-pow, mul-inv}
+use Rattle.um_units.proofs.Group.{weight-atom, weight-mul, weight-inv, weight-pow, mul-inv, mul-one, pow-zero}
 use Rattle.um_units.proofs.Replacement.{weight-replace}
 use Rattle.um_elim.specs.Turn.{substitute, multiply}
 use Rattle.um_elim.proofs.Cases.{on_test}
@@ -48,6 +48,10 @@ pub replace-multiply : (m : ℕ) (w u : PowerMap) → replace (multiply m w) u �
 replace-multiply m w u =
     same_unit _ _ (λ x. power_of-multiply m w u x
     ∙ sym (weight-mul (indicator x) u (pow w (power_of u (Var m))) ∙ ap (λ n. power_of u x +ℤ n) (weight-pow (indicator x) w (power_of u (Var m)))))
+
+-- a unit without x is left
+pub multiply_nothing : (m : ℕ) (w u : PowerMap) → power_of u (Var m) ≡ pos 0 → replace (multiply m w) u ≡ u
+multiply_nothing m w u h = replace-multiply m w u ∙ ap (λ k. mul u (pow w k)) h ∙ ap (mul u) (pow-zero w) ∙ mul-one u
 
 -- x keeps its power where it does not stand in w
 pub power_of-multiply_same : (m : ℕ) (w u : PowerMap) → power_of w (Var m) ≡ pos 0 → power_of (replace (multiply m w) u) (Var m) ≡ power_of u (Var m)

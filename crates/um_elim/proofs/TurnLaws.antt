@@ -45,13 +45,13 @@ power_in-change g z (t ∷ ts) h x =
     tail_only : (a b : ℤ) → a *ℤ pos 0 +ℤ b ≡ b
     tail_only a b = omega (arith, ints)
 
-abbrev less : ℕ → ℕ → Atom → ℤ → ℤ
+abbrev pub less : ℕ → ℕ → Atom → ℤ → ℤ
 less m p y a = cond (same_atom (Var m) y) (pos 0) (neg_ℤ (int_div_euclid a (pos p)))
 
-less-zero : (m p : ℕ) (y : Atom) → less m p y (pos 0) ≡ pos 0
+pub less-zero : (m p : ℕ) (y : Atom) → less m p y (pos 0) ≡ pos 0
 less-zero m p y = on_test (same_atom (Var m) y) (λ e. rw e) (λ e. rw e (ap neg_ℤ (div_euclid-zero p)))
 
-power_of-quotients : (m p : ℕ) (r : PowerMap) (y : Atom) → power_of (quotients m p r) y ≡ less m p y (power_of r y)
+pub power_of-quotients : (m p : ℕ) (r : PowerMap) (y : Atom) → power_of (quotients m p r) y ≡ less m p y (power_of r y)
 power_of-quotients m p r y = weigh-product (indicator y) _ ∙ power_in-change (less m p) (less-zero m p) r.terms r.normal y
 
 -- the pivot doesn't stand in the quotients

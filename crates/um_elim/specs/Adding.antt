@@ -1,8 +1,9 @@
 -- What it is to add a row to a solution.
 -- Source: Kennedy (1996), on unification in the free abelian group. That a solver which refused a row is spent is this
 -- project's own.
-use Rattle.std.specs.Prelude.{◌≡◌, ◌++◌, true, false, List, [], ◌∷◌, length, Result, Ok, Err}
+use Rattle.std.specs.Prelude.{◌≡◌, ℕ, ◌++◌, true, false, List, [], ◌∷◌, length, All, Result, Ok, Err}
 use Rattle.um_units.specs.PowerMap.{PowerMap}
+use Rattle.um_units.specs.Variables.{VariablesBelow}
 use Rattle.um_units.specs.Solutions.{IsSolvable}
 use Rattle.um_elim.specs.declared.stop.ElimStop.{ElimStop}
 use Rattle.um_elim.specs.declared.stop.ElimStop.TheVariants as stop
@@ -33,3 +34,7 @@ SolvesRows old row new (Err stop.Spent) = Unit {0}
 SolvesRows old row new (Err stop.NoSolution) = (rows : List PowerMap) → SolvesExactly (length old.units) rows old.units → IsSolvable (length old.units) (rows ++ row ∷ []) → ⊥
 SolvesRows old row new (Err stop.Range) = Unit {0}
 SolvesRows old row new (Err stop.NoMemory) = Unit {0}
+
+-- the units' variables stay below each number that they were below
+abbrev pub VariablesStayBelow : List PowerMap → List PowerMap → Type 0
+VariablesStayBelow old new = (n : ℕ) → All (VariablesBelow n) old → All (VariablesBelow n) new

@@ -7,3 +7,5 @@ pub mod Steps
 pub mod Solution
 pub mod Adding
 pub mod Application
+pub mod Numbering
+pub mod Order

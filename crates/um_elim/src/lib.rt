@@ -7,6 +7,7 @@
 #![tactic(auto)]
 
 mod application;
+mod numbering;
 mod pivot;
 mod solver;
 mod stop;
@@ -14,5 +15,6 @@ mod stop;
 mod tests;
 mod turn;
 
+pub use numbering::{Numbered, renumber};
 pub use solver::Solver;
 pub use stop::ElimStop;

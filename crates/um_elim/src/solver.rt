@@ -1,10 +1,10 @@
 //! The solver: it takes rows one by one and keeps their most general solution.
 
-ghost use Rattle.std.specs.Prelude.{◌≡◌, ◌≤◌, [], length, IfOk, MatchResult};
+ghost use Rattle.std.specs.Prelude.{◌≡◌, ◌≤◌, [], length, All, IfOk, OnOk, MatchResult};
 ghost use Rattle.um_units.specs.Variables.{VariablesBelow};
 ghost use Rattle.um_tree.specs.TypeTree.{type_tree};
-ghost use Rattle.um_elim.specs.Application.{IsApplied};
-ghost use Rattle.um_elim.specs.Adding.{IsAdded, HasInstances, SolvesRows};
+ghost use Rattle.um_elim.specs.Application.{IsApplied, VariablesAreBelow};
+ghost use Rattle.um_elim.specs.Adding.{IsAdded, HasInstances, SolvesRows, VariablesStayBelow};
 ghost use Rattle.um_elim.specs.Elimination.{Solved, eliminate};
 ghost use Rattle.um_elim.specs.Instances.{SolvesExactly};
 ghost use Rattle.um_elim.specs.Solution.{fresh, own_variables};
@@ -41,6 +41,7 @@ impl Solver {
         requires { slots ≤ 2000 }
         ensures fresh { IfOk result (λ solver. solver ≡ fresh slots) }
         ensures rows { IfOk result (λ solver. SolvesExactly slots [] solver.units) }
+        ensures variables { IfOk result (λ solver. All (VariablesBelow slots) solver.units) }
     {
         let units = own_units(alloc, slots)?;
         Ok(Solver {
@@ -61,6 +62,7 @@ impl Solver {
         ensures instances { HasInstances self.old row.now self.new result }
         ensures rows { SolvesRows self.old row.now self.new result }
         ensures slots { length self.new.units ≡ length self.old.units }
+        ensures variables { OnOk result (VariablesStayBelow self.old.units self.new.units) }
     {
         if self.spent {
             return Err(ElimStop::Spent);
@@ -76,12 +78,12 @@ impl Solver {
     /// Range comes exactly where the result has a power out of range, and Spent exactly where a row was refused before.
     pub fn apply(&self, alloc: Global, ty: &Ty) -> Result<Ty, ElimStop>
         ensures applied { IsApplied self.now (type_tree ty.now) result }
+        ensures variables { IfOk result (λ t. VariablesAreBelow self.now (type_tree ty.now) (type_tree t)) }
     {
-        if self.spent {
-            return Err(ElimStop::Spent);
+        if !self.spent {
+            return Ok(put_in_type(alloc, &self.units, ty)?);
         }
-        let applied = put_in_type(alloc, &self.units, ty)?;
-        Ok(applied)
+        Err(ElimStop::Spent)
     }
 }
 

@@ -126,9 +126,19 @@ fn multiply_each(alloc: Global, units: &mut Vec<Unit>, m: u32, w: &Unit) -> Resu
 {
     let mut i = 0;
     while i < units.len() {
-        let unit = multiplied(alloc, &units[i], m, w)?;
-        units[i] = unit;
+        multiply_unit(alloc, &mut units[i], m, w)?;
         i += 1;
+    }
+    Ok(())
+}
+
+/// Variable m times w is put for variable m. A unit without the variable is left as it is, and takes no memory.
+fn multiply_unit(alloc: Global, unit: &mut Unit, m: u32, w: &Unit) -> Result<(), UnitStop>
+    ensures exact { OnOk result (unit.new ≡ replace (multiply m w.now) unit.old) }
+    ensures range { RangeUnless result (fits (replace (multiply m w.now) unit.old)) }
+{
+    if unit.power_of(Atom::Var(m)) != 0 {
+        *unit = multiplied(alloc, unit, m, w)?;
     }
     Ok(())
 }

@@ -5,5 +5,6 @@ use Rattle.um_elim.proofs.tests.add_row.Goals as goal
 
 pub add-requires : goal.add-requires
 add-requires c =
-    subst (λ n. VariablesBelow n c.in_ok-row.row) (sym c.requires)
-    (VariablesBelow-from_terms 2 c.in_ok-row.row (ap (variables_below 2) (sym c.terms.ensures.terms) ∙ sym c.are_slots.ensures ∙ c.if-not-are_slots.false))
+    let n = c.args.slots in
+    subst (λ m. VariablesBelow m c.in_ok-row.row) (sym c.requires)
+    (VariablesBelow-from_terms n c.in_ok-row.row (ap (variables_below n) (sym c.terms.ensures.terms) ∙ sym c.are_below.ensures ∙ c.if-not-are_below.false))

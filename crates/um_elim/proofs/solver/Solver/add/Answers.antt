@@ -5,6 +5,7 @@ use Rattle.um_elim.specs.Solution.{Solution}
 use Rattle.um_elim.specs.Steps.{StopsAs}
 use Rattle.um_elim.proofs.Added.{stop-added, stop-instances, stop-rows}
 use Rattle.um_elim.proofs.Rows.{solved_is_most_general, exactly-more}
+use Rattle.um_elim.proofs.VariablesKept.{solved_below}
 use Rattle.um_elim.proofs.solver.Solver.add.Goals as goal
 
 pub returns-in_err-eliminate_row-clause-outcome : goal.returns-in_err-eliminate_row-clause-outcome
@@ -38,3 +39,8 @@ returns-clause-rows c =
     let us : c.self.inside.units.items ≡ c.args.self.now.units = ap (λ (s : Solution). s.units) c.self.view_is in
     λ rows exact. exactly-more (length c.args.self.now.units) rows c.args.row.now c.args.self.now.units _ exact
     (solved_is_most_general c.args.self.now.units c.args.row.now _ c.requires (ap (λ vs. eliminate vs c.args.row.now) (sym us) ∙ c.in_ok-eliminate_row.ensures.outcome))
+
+pub returns-clause-variables : goal.returns-clause-variables
+returns-clause-variables c =
+    let us : c.self.inside.units.items ≡ c.args.self.now.units = ap (λ (s : Solution). s.units) c.self.view_is in
+    solved_below c.args.self.now.units c.args.row.now _ c.requires (ap (λ vs. eliminate vs c.args.row.now) (sym us) ∙ c.in_ok-eliminate_row.ensures.outcome)
