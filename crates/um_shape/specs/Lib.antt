@@ -1,0 +1,2 @@
+pub mod RecordShapes
+pub mod FirstFault

@@ -1,0 +1,5 @@
+//! Shapes: types without their units.
+#![tactic(auto)]
+
+/// Nothing yet.
+pub fn nothing() {}
