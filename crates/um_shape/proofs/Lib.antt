@@ -1,1 +1,3 @@
+pub mod SameShape
+pub mod AllFound
 pub mod Examples

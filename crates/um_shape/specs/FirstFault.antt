@@ -92,35 +92,35 @@ abbrev pub item_of : ℕ → ShapeTree → Result ShapeTree ShapeFault
 item_of at (list_shape s) = Ok s
 item_of at s = Err (wrong_shape at)
 
+-- at one node the rule is looked at first, and then the height
+abbrev pub at_node : List RecordShape → ℕ → Option ShapeTree → Result ShapeTree ShapeFault
+at_node records at None = Err (wrong_shape at)
+at_node records at (Some s) = cond (nat_le (shape_height records s) 400) (Ok s) (Err (too_deep at))
+
 -- the records, and the functions that may be called
 module _ (records : List RecordShape) (callees : List ShapeSignature) where
-  -- at one node the rule is looked at first, and then the height
-  abbrev pub at_node : ℕ → Option ShapeTree → Result ShapeTree ShapeFault
-  at_node at None = Err (wrong_shape at)
-  at_node at (Some s) = cond (nat_le (shape_height records s) 400) (Ok s) (Err (too_deep at))
-
   abbrev mutual
     -- the shape of the expression, or its first fault, where the variables of the scope have these shapes
     pub found : List ShapeTree → ExprTree → Result ShapeTree ShapeFault
-    found vars (truth at b) = at_node at (Some bool_shape)
-    found vars (number at c n) = at_node at (Some num_shape)
-    found vars (local at k) = at_node at (slice_get vars k)
-    found vars (call at j es) = then (all_found vars es) (λ ss. at_node at (of_call (slice_get callees j) ss))
-    found vars (negate at a) = then (found vars a) (λ s. at_node at (where_true (same_shape s num_shape) num_shape))
-    found vars (negation at a) = then (found vars a) (λ s. at_node at (where_true (same_shape s bool_shape) bool_shape))
-    found vars (arith at op a b) = then (found vars a) (λ s. then (found vars b) (λ t. at_node at (of_numbers s t num_shape)))
-    found vars (compare at sign a b) = then (found vars a) (λ s. then (found vars b) (λ t. at_node at (of_numbers s t bool_shape)))
-    found vars (both at a b) = then (found vars a) (λ s. then (found vars b) (λ t. at_node at (of_truths s t)))
-    found vars (either at a b) = then (found vars a) (λ s. then (found vars b) (λ t. at_node at (of_truths s t)))
-    found vars (if at c a b) = then (found vars c) (λ r. then (found vars a) (λ s. then (found vars b) (λ t. at_node at (of_condition r s t))))
-    found vars (bind at a b) = then (found vars a) (λ s. then (found (vars ++ s ∷ []) b) (λ t. at_node at (Some t)))
+    found vars (truth at b) = at_node records at (Some bool_shape)
+    found vars (number at c n) = at_node records at (Some num_shape)
+    found vars (local at k) = at_node records at (slice_get vars k)
+    found vars (call at j es) = then (all_found vars es) (λ ss. at_node records at (of_call (slice_get callees j) ss))
+    found vars (negate at a) = then (found vars a) (λ s. at_node records at (where_true (same_shape s num_shape) num_shape))
+    found vars (negation at a) = then (found vars a) (λ s. at_node records at (where_true (same_shape s bool_shape) bool_shape))
+    found vars (arith at op a b) = then (found vars a) (λ s. then (found vars b) (λ t. at_node records at (of_numbers s t num_shape)))
+    found vars (compare at sign a b) = then (found vars a) (λ s. then (found vars b) (λ t. at_node records at (of_numbers s t bool_shape)))
+    found vars (both at a b) = then (found vars a) (λ s. then (found vars b) (λ t. at_node records at (of_truths s t)))
+    found vars (either at a b) = then (found vars a) (λ s. then (found vars b) (λ t. at_node records at (of_truths s t)))
+    found vars (if at c a b) = then (found vars c) (λ r. then (found vars a) (λ s. then (found vars b) (λ t. at_node records at (of_condition r s t))))
+    found vars (bind at a b) = then (found vars a) (λ s. then (found (vars ++ s ∷ []) b) (λ t. at_node records at (Some t)))
     -- a part that is no list is a fault before the arms are looked at
-    found vars (split at l a b) = then (found vars l) (λ r. then (item_of at r) (λ item. then (found vars a) (λ s. then (found (vars ++ item ∷ list_shape item ∷ []) b) (λ t. at_node at (of_arms s t)))))
-    found vars (nil at n) = at_node at (of_list (note_shape n))
-    found vars (list_text at es) = then (all_found vars es) (λ ss. at_node at (of_items ss))
-    found vars (cons at a b) = then (found vars a) (λ s. then (found vars b) (λ t. at_node at (of_head s t)))
-    found vars (record_text at r es) = then (all_found vars es) (λ ss. at_node at (of_record (slice_get records r) r ss))
-    found vars (field at r k a) = then (found vars a) (λ s. at_node at (of_field (slice_get records r) r k s))
+    found vars (split at l a b) = then (found vars l) (λ r. then (item_of at r) (λ item. then (found vars a) (λ s. then (found (vars ++ item ∷ list_shape item ∷ []) b) (λ t. at_node records at (of_arms s t)))))
+    found vars (nil at n) = at_node records at (of_list (note_shape n))
+    found vars (list_text at es) = then (all_found vars es) (λ ss. at_node records at (of_items ss))
+    found vars (cons at a b) = then (found vars a) (λ s. then (found vars b) (λ t. at_node records at (of_head s t)))
+    found vars (record_text at r es) = then (all_found vars es) (λ ss. at_node records at (of_record (slice_get records r) r ss))
+    found vars (field at r k a) = then (found vars a) (λ s. at_node records at (of_field (slice_get records r) r k s))
 
     -- expression by expression
     pub all_found : List ShapeTree → ExprTrees → Result (List ShapeTree) ShapeFault

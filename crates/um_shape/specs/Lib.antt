@@ -1,2 +1,5 @@
 pub mod RecordShapes
 pub mod FirstFault
+pub mod FlatShapes
+pub mod Stops
+pub mod LowNotes

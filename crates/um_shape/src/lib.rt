@@ -1,5 +1,13 @@
-//! Shapes: types without their units.
+//! Shapes: types without their units. Each node of a shaped program has its shape.
+//!
+//! The rules are this project's own; the notation of types is that of the F# specification, Units Of Measure.
 #![tactic(auto)]
 
-/// Nothing yet.
-pub fn nothing() {}
+mod body;
+mod flat;
+mod known;
+mod lookup;
+mod rules;
+mod stop;
+
+pub use stop::ShapeStop;
