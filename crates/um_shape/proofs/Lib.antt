@@ -1,3 +1,5 @@
 pub mod SameShape
 pub mod AllFound
+pub mod InOrder
+pub mod Declarations
 pub mod Examples

@@ -6,7 +6,7 @@ use Rattle.um_tree.specs.TypeTree.{ShapeTree, bool_shape, num_shape, list_shape,
 use Rattle.um_tree.specs.ExprTree.{ExprTree, ExprTrees, truth, number, local, call, negate, negation, arith, compare, both, either, if, bind, split, nil, list_text, cons, record_text, field, none, more}
 use Rattle.um_tree.specs.ProgramTree.{RecordTree, FunctionTree, ProgramTree}
 use Rattle.um_tree.specs.Shapes.{note_shape, ShapeSignature}
-use Rattle.um_shape.specs.RecordShapes.{RecordShape, shape_height, tallest, record_shapes}
+use Rattle.um_shape.specs.RecordShapes.{RecordShape, shape_height, tallest, declared_shape}
 
 -- a fault at its place: no rule gives a shape, or the shape is taller than 400
 pub data ShapeFault : Type 0 where
@@ -150,23 +150,25 @@ function_found records known f =
     (then (found records (known ++ own_shapes f) (map note_shape f.params) f.body) (λ s. cond (fits_result f.result s) (Ok (record { params = map note_shape f.params; result = s })) (Err (wrong_shape f.at))))
     (Err (too_deep f.at))
 
-abbrev pub fault_or : Result ShapeSignature ShapeFault → (ShapeSignature → Option ShapeFault) → Option ShapeFault
-fault_or (Ok g) go = go g
-fault_or (Err e) go = Some e
+abbrev pub functions_found : List RecordShape → List ShapeSignature → List FunctionTree → Result (List ShapeSignature) ShapeFault
+functions_found records known [] = Ok known
+functions_found records known (f ∷ fs) = then (function_found records known f) (λ g. functions_found records (known ++ g ∷ []) fs)
 
-abbrev pub functions_fault : List RecordShape → List ShapeSignature → List FunctionTree → Option ShapeFault
-functions_fault records known [] = None
-functions_fault records known (f ∷ fs) = fault_or (function_found records known f) (λ g. functions_fault records (known ++ g ∷ []) fs)
+-- a record is no taller than 400
+abbrev pub record_found : List RecordShape → RecordTree → Result RecordShape ShapeFault
+record_found earlier d = cond (nat_le (declared_shape earlier d).height 400) (Ok (declared_shape earlier d)) (Err (too_deep d.at))
 
--- the first record that is taller than 400
-abbrev pub deep_record : List RecordShape → List RecordTree → Option ShapeFault
-deep_record [] ds = None
-deep_record (s ∷ ss) [] = None
-deep_record (s ∷ ss) (d ∷ ds) = cond (nat_le s.height 400) (deep_record ss ds) (Some (too_deep d.at))
+abbrev pub records_found : List RecordShape → List RecordTree → Result (List RecordShape) ShapeFault
+records_found earlier [] = Ok earlier
+records_found earlier (d ∷ ds) = then (record_found earlier d) (λ s. records_found (earlier ++ s ∷ []) ds)
 
-abbrev pub or_else : Option ShapeFault → Option ShapeFault → Option ShapeFault
-or_else None o = o
-or_else (Some e) o = Some e
+-- the shapes of the program's functions, or its first fault: the records come first
+abbrev pub program_found : ProgramTree → Result (List ShapeSignature) ShapeFault
+program_found p = then (records_found [] p.records) (λ records. functions_found records [] p.functions)
+
+abbrev pub fault_of : {A : Type 0} → Result A ShapeFault → Option ShapeFault
+fault_of (Ok x) = None
+fault_of (Err e) = Some e
 
 abbrev pub first_fault : ProgramTree → Option ShapeFault
-first_fault p = or_else (deep_record (record_shapes p.records) p.records) (functions_fault (record_shapes p.records) [] p.functions)
+first_fault p = fault_of (program_found p)

@@ -1,7 +1,9 @@
--- Each note in the expression is at most 400 high, as in each formed program.
+-- Each type and each note is at most 400 high, as in each formed program.
 -- Source: this project's own limits.
-use Rattle.std.specs.Prelude.{◌≤◌}
-use Rattle.um_tree.specs.TreeHeights.{note_tree_height}
+use Rattle.std.specs.Prelude.{◌≤◌, All, Option, Some, None}
+use Rattle.um_tree.specs.TypeTree.{NoteTree}
+use Rattle.um_tree.specs.ProgramTree.{RecordTree, FunctionTree}
+use Rattle.um_tree.specs.TreeHeights.{type_tree_height, note_tree_height}
 use Rattle.um_tree.specs.ExprTree.{ExprTree, ExprTrees, truth, number, local, call, negate, negation, arith, compare, both, either, if, bind, split, nil, list_text, cons, record_text, field, none, more}
 
 abbrev mutual
@@ -28,3 +30,15 @@ abbrev mutual
   pub HaveLowNotes : ExprTrees → Type 0
   HaveLowNotes none = Unit {0}
   HaveLowNotes (more e es) = HasLowNotes e × HaveLowNotes es
+
+abbrev pub HasLowFields : RecordTree → Type 0
+HasLowFields d = All (λ f. type_tree_height f.type ≤ 400) d.fields
+
+abbrev pub HasLowResult : Option NoteTree → Type 0
+HasLowResult None = Unit {0}
+HasLowResult (Some n) = note_tree_height n ≤ 400
+
+pub record IsLow (f : FunctionTree) : Type 0 where
+  pub params : All (λ n. note_tree_height n ≤ 400) f.params
+  pub result : HasLowResult f.result
+  pub body : HasLowNotes f.body

@@ -1,7 +1,7 @@
 -- The shapes of a record's fields, and heights of shapes through the fields of records.
 -- Source: this project's own; records with measure parameters are those of the F# specification.
 -- A record's height is that of its tallest field and one more; nothing is kept here and no limit is looked at.
-use Rattle.std.specs.Prelude.{ℕ, ◌+◌, max, List, [], ◌∷◌, ◌++◌, map, slice_get, Option, Some, None}
+use Rattle.std.specs.Prelude.{ℕ, ◌+◌, max, List, [], ◌∷◌, map, slice_get, Option, Some, None}
 use Rattle.um_tree.specs.TypeTree.{ShapeTree, bool_shape, num_shape, list_shape, record_shape}
 use Rattle.um_tree.specs.ProgramTree.{RecordTree}
 use Rattle.um_tree.specs.Typing.{field_types}
@@ -30,12 +30,3 @@ tallest records (s ∷ ss) = max (shape_height records s) (tallest records ss)
 -- a record whose fields name these earlier ones
 abbrev pub declared_shape : List RecordShape → RecordTree → RecordShape
 declared_shape earlier d = record { fields = map type_shape (field_types d); height = tallest earlier (map type_shape (field_types d)) + 1 }
-
--- the records that are declared after these
-abbrev pub shapes_after : List RecordShape → List RecordTree → List RecordShape
-shapes_after earlier [] = []
-shapes_after earlier (d ∷ ds) = declared_shape earlier d ∷ shapes_after (earlier ++ declared_shape earlier d ∷ []) ds
-
--- the records of a program, in order of declaration
-abbrev pub record_shapes : List RecordTree → List RecordShape
-record_shapes ds = shapes_after [] ds

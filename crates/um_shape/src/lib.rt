@@ -5,8 +5,10 @@
 
 mod body;
 mod flat;
+mod functions;
 mod known;
 mod lookup;
+mod records;
 mod rules;
 mod stop;
 

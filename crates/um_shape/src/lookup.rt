@@ -11,7 +11,7 @@ use crate::flat::{FlatShape, Item};
 use crate::known::{Known, KnownRecord};
 
 /// The greatest height of a shape.
-const TALLEST: u32 = 400;
+pub(crate) const TALLEST: u32 = 400;
 
 /// The height of an item over these records.
 fn item_height(records: &[KnownRecord], item: Item) -> u32
