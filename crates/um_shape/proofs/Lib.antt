@@ -2,4 +2,5 @@ pub mod SameShape
 pub mod AllFound
 pub mod InOrder
 pub mod Declarations
+pub mod Formed
 pub mod Examples

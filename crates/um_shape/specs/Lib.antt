@@ -3,3 +3,5 @@ pub mod FirstFault
 pub mod FlatShapes
 pub mod Stops
 pub mod LowNotes
+pub mod Signatures
+pub mod ShapedProgram

@@ -10,6 +10,11 @@ mod known;
 mod lookup;
 mod records;
 mod rules;
+mod shaped;
+mod signature;
 mod stop;
+mod whole;
 
+pub use shaped::Shaped;
 pub use stop::ShapeStop;
+pub use whole::shape;
