@@ -5,4 +5,5 @@ pub mod Declarations
 pub mod Formed
 pub mod Sound
 pub mod SoundProgram
+pub mod NeverWrong
 pub mod Examples

@@ -5,3 +5,4 @@ pub mod Stops
 pub mod LowNotes
 pub mod Signatures
 pub mod ShapedProgram
+pub mod Laws
