@@ -6,4 +6,6 @@ pub mod Formed
 pub mod Sound
 pub mod SoundProgram
 pub mod NeverWrong
+pub mod Unique
+pub mod Complete
 pub mod Examples

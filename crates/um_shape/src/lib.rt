@@ -7,6 +7,7 @@ mod body;
 mod flat;
 mod functions;
 mod known;
+mod laws;
 mod lookup;
 mod records;
 mod rules;
@@ -15,6 +16,7 @@ mod signature;
 mod stop;
 mod whole;
 
+pub use laws::{calls_of_shaped_functions, shapes_of_programs};
 pub use shaped::Shaped;
 pub use stop::ShapeStop;
 pub use whole::shape;

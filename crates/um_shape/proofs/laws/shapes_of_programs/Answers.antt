@@ -1,0 +1,9 @@
+use Rattle.um_shape.proofs.Complete.{faultless_is_shaped}
+use Rattle.um_shape.proofs.Unique.{shapes_are_unique}
+use Rattle.um_shape.proofs.laws.shapes_of_programs.Goals as goal
+
+pub returns-clause-faultless : goal.returns-clause-faultless
+returns-clause-faultless c = faultless_is_shaped
+
+pub returns-clause-unique : goal.returns-clause-unique
+returns-clause-unique c = shapes_are_unique
