@@ -1,5 +1,5 @@
 -- Each type and each note of a formed program is at most 400 high.
-use Rattle.std.proofs.Common.{◌≡◌, ℕ, ◌+◌, ◌<◌, length, All, List, Option, Some, None, get_or, slice_get}
+use Rattle.std.proofs.Common.{ℕ, ◌+◌, length, All, Option, Some, None, get_or}
 use Rattle.std.proofs.lemmas.Option.{slice_get-get_or}
 use Rattle.um_tree.specs.TypeTree.{NoteTree}
 use Rattle.um_tree.specs.ExprTree.{ExprTree, ExprTrees, truth, number, local, call, negate, negation, arith, compare, both, either, if, bind, split, nil, list_text, cons, record_text, field, none, more}

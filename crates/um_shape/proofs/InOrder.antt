@@ -1,5 +1,5 @@
 -- A walk over a list that adds what is found of each element: what is left when the first ones were looked at.
-use Rattle.std.proofs.Common.{◌≡◌, refl, sym, ap, subst, ◌∙◌, ℕ, zero, suc, ◌+◌, ◌<◌, ◌≤◌, List, [], ◌∷◌, ◌++◌, map, drop, length, get_or, All, Result, Ok, Err, arith}
+use Rattle.std.proofs.Common.{◌≡◌, refl, sym, ap, subst, ◌∙◌, ℕ, zero, suc, ◌+◌, ◌<◌, ◌≤◌, List, [], ◌∷◌, ◌++◌, map, drop, length, get_or, Result, Ok, arith}
 use Rattle.std.proofs.lemmas.List.{map-append, drop_more}
 use Rattle.um_shape.specs.FirstFault.{ShapeFault, then}
 use Rattle.um_shape.specs.declared.stop.ShapeStop.{ShapeStop}

@@ -1,5 +1,5 @@
 -- A call at values of its parameters' shapes is never wrong, and its value has the result's shape.
-use Rattle.std.proofs.Common.{◌≡◌, refl, sym, subst, ap, ◌∙◌, ℕ, zero, suc, ◌+◌, ◌<◌, ◌≤◌, ◌⊎◌, inl, inr, IsSome, Bool, true, false, cond, not, nat_eq, List, [], ◌∷◌, ◌++◌, map, length, Option, Some, None, Result, Ok, Err, slice_get, arith, rules}
+use Rattle.std.proofs.Common.{◌≡◌, refl, sym, subst, ap, ◌∙◌, ℕ, zero, suc, ◌<◌, ◌≤◌, inl, inr, IsSome, true, false, cond, nat_eq, List, [], ◌∷◌, ◌++◌, map, length, Option, Some, None, Result, Ok, Err, slice_get, arith, rules}
 use Rattle.std.proofs.lemmas.List.{length-map}
 use Rattle.std.proofs.lemmas.Bool.Decides.{nat_tests}
 use Rattle.um_frac.specs.declared.number.Frac.{Frac}
@@ -9,9 +9,9 @@ use Rattle.um_tree.specs.ValueTree.{ValueTree, ValueTrees, truth_value, number_v
 use Rattle.um_tree.specs.ExprTree.{ExprTree, ExprTrees, truth, number, local, call, negate, negation, arith as arith_tree, compare, both, either, if, bind, split, nil, list_text, cons, record_text, field, none, more}
 use Rattle.um_tree.specs.ProgramTree.{RecordTree, FunctionTree, ProgramTree}
 use Rattle.um_tree.specs.Typing.{field_types}
-use Rattle.um_tree.specs.Shapes.{type_shape, note_shape, ShapeSignature, EachShapeIs, HasShape, AllHaveShapes, CallShapes, IsShapeOf, ShapeAt, shapes_below, FunctionShape}
+use Rattle.um_tree.specs.Shapes.{type_shape, note_shape, ShapeSignature, EachShapeIs, HasShape, AllHaveShapes, CallShapes, ShapeAt, shapes_below, FunctionShape}
 use Rattle.um_tree.specs.InputType.{ValueHas, EachValueHas, ValuesHave}
-use Rattle.um_tree.specs.Meaning.{Stop, trap, budget_end, wrong, Out, gives, stops, then, Calling, spend, found, with_budget, number_result, arithmetic, calculated, compared, negated, opposite, longer, value_at, part_of, choose, on_list, means, all_mean, body_means, running, Outcome, end_of}
+use Rattle.um_tree.specs.Meaning.{trap, budget_end, wrong, Out, gives, stops, then, Calling, spend, found, with_budget, number_result, arithmetic, calculated, compared, negated, opposite, longer, value_at, part_of, choose, on_list, means, all_mean, body_means, running, Outcome, end_of}
 use Rattle.um_tree.specs.declared.expression.Arith.{Arith}
 use Rattle.um_tree.specs.declared.expression.Sign.{Sign}
 use Rattle.um_tree.proofs.Below.{earlier_shapes_are}
@@ -172,10 +172,11 @@ module _ (records : List RecordTree) where
       let test : nat_eq q r ≡ true = grind (arith, nat_tests) in
       let declared : h.0 ≡ d = some_same h.0 d (subst (λ x. slice_get records x ≡ Some h.0) (sym same) h.1) there in
       subst (λ t. Fine (Has s) b (with_budget (cond t (value_at vs k) (Err wrong)) b)) (sym test) (at_fine vs (map type_shape (field_types h.0)) k s b h.2 (subst (λ x. slice_get (map type_shape (field_types x)) k ≡ Some s) (sym declared) here)) where
-    number_of : (r q : ℕ) → record_shape r ≡ record_shape q → r ≡ q
-    number_of r q e = cc
-    some_same : (x y : RecordTree) → slice_get records r ≡ Some x → slice_get records r ≡ Some y → x ≡ y
-    some_same x y e f = let g : Some x ≡ Some y = sym e ∙ f in cc
+        number_of : (r q : ℕ) → record_shape r ≡ record_shape q → r ≡ q
+        number_of r q e = cc
+
+        some_same : (x y : RecordTree) → slice_get records r ≡ Some x → slice_get records r ≡ Some y → x ≡ y
+        some_same x y e f = let g : Some x ≡ Some y = sym e ∙ f in cc
   part_fine r k d s (truth_value x) b there here h = absurd cc
   part_fine r k d s (number_value c) b there here h = absurd cc
   part_fine r k d s (list_value vs) b there here h = let e : record_shape r ≡ list_shape h.0 = h.2 in absurd cc

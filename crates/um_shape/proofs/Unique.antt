@@ -1,11 +1,10 @@
 -- An expression has at most one shape, and a function its shapes in one way alone.
-use Rattle.std.proofs.Common.{◌≡◌, refl, sym, subst, ap, ◌∙◌, ℕ, zero, suc, ◌<◌, ◌⊎◌, inl, inr, Bool, true, false, cond, nat_eq, List, [], ◌∷◌, ◌++◌, map, Option, Some, None, slice_get, IsSome, arith}
-use Rattle.std.proofs.lemmas.Bool.Decides.{nat_tests}
-use Rattle.um_tree.specs.TypeTree.{TypeTree, NoteTree, ShapeTree, list_shape}
+use Rattle.std.proofs.Common.{◌≡◌, sym, subst, ap, ◌∙◌, ℕ, zero, suc, inl, inr, true, false, cond, nat_eq, List, [], ◌∷◌, ◌++◌, Option, Some, None, slice_get, IsSome, arith}
+use Rattle.um_tree.specs.TypeTree.{NoteTree, ShapeTree, list_shape}
 use Rattle.um_tree.specs.ExprTree.{ExprTree, ExprTrees, truth, number, local, call, negate, negation, arith as arith_tree, compare, both, either, if, bind, split, nil, list_text, cons, record_text, field, none, more}
 use Rattle.um_tree.specs.ProgramTree.{RecordTree, FunctionTree, ProgramTree}
-use Rattle.um_tree.specs.Typing.{field_types, MayRecur}
-use Rattle.um_tree.specs.Shapes.{type_shape, note_shape, ShapeSignature, HasShape, AllHaveShapes, EarlierShapes, CallShapes, ResultShape, IsShapeOf, ShapeAt, shapes_below, FunctionShape}
+use Rattle.um_tree.specs.Typing.{field_types}
+use Rattle.um_tree.specs.Shapes.{type_shape, ShapeSignature, HasShape, AllHaveShapes, EarlierShapes, CallShapes, ResultShape, IsShapeOf, ShapeAt, shapes_below}
 use Rattle.um_shape.specs.Laws.{ShapesAreUnique}
 
 some_same : {A : Type 0} (o : Option A) (x y : A) → o ≡ Some x → o ≡ Some y → x ≡ y
@@ -61,11 +60,11 @@ module _ (records : List RecordTree) (earlier : EarlierShapes) (before : (j : �
   shape_of_unique f g h m k =
       let params : g.params ≡ h.params = m.params ∙ sym k.params in
       signature_same g h params (unique records (CallShapes earlier i f g) (CallShapes earlier i f h) agree g.params f.body g.result h.result m.body (subst (λ ps. HasShape records (CallShapes earlier i f h) ps f.body h.result) (sym params) k.body)) where
-    agree : (j : ℕ) (c d : ShapeSignature) → CallShapes earlier i f g j c → CallShapes earlier i f h j d → c.params ≡ d.params → c.result ≡ d.result
-    agree j c d (inl x) (inl y) e = ap (λ s. s.result) (before j c d x.1 y.1)
-    agree j c d (inl x) (inr y) e = absurd (omega (arith, x.0, y.0))
-    agree j c d (inr x) (inl y) e = absurd (omega (arith, x.0, y.0))
-    agree j c d (inr x) (inr y) e = ap (λ s. s.result) x.2 ∙ noted_same f.result g.result h.result x.1.noted m.result k.result ∙ ap (λ s. s.result) (sym y.2)
+        agree : (j : ℕ) (c d : ShapeSignature) → CallShapes earlier i f g j c → CallShapes earlier i f h j d → c.params ≡ d.params → c.result ≡ d.result
+        agree j c d (inl x) (inl y) e = ap (λ s. s.result) (before j c d x.1 y.1)
+        agree j c d (inl x) (inr y) e = absurd (omega (arith, x.0, y.0))
+        agree j c d (inr x) (inl y) e = absurd (omega (arith, x.0, y.0))
+        agree j c d (inr x) (inr y) e = ap (λ s. s.result) x.2 ∙ noted_same f.result g.result h.result x.1.noted m.result k.result ∙ ap (λ s. s.result) (sym y.2)
 
   shape_at_unique : (o : Option FunctionTree) (g h : ShapeSignature) → ShapeAt records earlier i o g → ShapeAt records earlier i o h → g ≡ h
   shape_at_unique None g h m k = absurd m

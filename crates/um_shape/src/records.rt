@@ -19,7 +19,10 @@ use um_tree::{FieldDecl, Record};
 use um_units::NoMemory;
 
 /// The records in order, or Depth at the first that is too tall.
-pub(crate) fn known_records(alloc: Global, records: &[Record]) -> Result<Vec<KnownRecord>, ShapeStop>
+pub(crate) fn known_records(
+    alloc: Global,
+    records: &[Record],
+) -> Result<Vec<KnownRecord>, ShapeStop>
     requires low { All (λ r. HasLowFields (record_tree r)) records.now }
     ensures { MatchResult result (λ known. records_found [] (map record_tree records.now) ≡ Ok (known_records known.items)) (StopsAs (records_found [] (map record_tree records.now))) }
 {

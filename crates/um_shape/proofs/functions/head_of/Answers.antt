@@ -1,4 +1,4 @@
-use Rattle.std.proofs.Common.{◌≡◌, ◌≤◌, sym, ap, ◌∙◌, map, true, false, Ok, arith, rules}
+use Rattle.std.proofs.Common.{◌≡◌, ◌≤◌, ap, ◌∙◌, map, true, false, Ok, arith, rules}
 use Rattle.um_tree.specs.TypeTree.{note_tree}
 use Rattle.um_tree.specs.TreeHeights.{note_tree_height}
 use Rattle.um_tree.specs.ProgramTree.{function_tree}
