@@ -1,0 +1,11 @@
+pub mod SameShape
+pub mod AllFound
+pub mod InOrder
+pub mod Declarations
+pub mod Formed
+pub mod Sound
+pub mod SoundProgram
+pub mod NeverWrong
+pub mod Unique
+pub mod Complete
+pub mod Examples

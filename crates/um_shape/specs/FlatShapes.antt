@@ -1,0 +1,39 @@
+-- The shapes that the code keeps: so many lists round an item.
+-- Source: this project's own.
+use Rattle.std.specs.Prelude.{ℕ, zero, suc, List, map}
+use Rattle.um_tree.specs.TypeTree.{ShapeTree, bool_shape, num_shape, list_shape, record_shape}
+use Rattle.um_tree.specs.Shapes.{ShapeSignature}
+use Rattle.um_shape.specs.declared.flat.Item.{Item}
+use Rattle.um_shape.specs.declared.flat.Item.TheVariants as item
+use Rattle.um_shape.specs.declared.flat.FlatShape.{FlatShape}
+use Rattle.um_shape.specs.declared.known.KnownRecord.{KnownRecord}
+use Rattle.um_shape.specs.declared.known.Head.{Head}
+use Rattle.um_shape.specs.RecordShapes.{RecordShape}
+
+abbrev pub item_shape : Item → ShapeTree
+item_shape item.Bool = bool_shape
+item_shape item.Num = num_shape
+item_shape (item.Rec r) = record_shape r
+
+abbrev pub in_lists : ℕ → ShapeTree → ShapeTree
+in_lists zero s = s
+in_lists (suc n) s = list_shape (in_lists n s)
+
+-- the shape that it stands for
+abbrev pub flat_shape : FlatShape → ShapeTree
+flat_shape f = in_lists f.lists (item_shape f.item)
+
+abbrev pub flat_shapes : List FlatShape → List ShapeTree
+flat_shapes fs = map flat_shape fs
+
+abbrev pub known_record : KnownRecord → RecordShape
+known_record r = record { fields = flat_shapes r.fields.items; height = r.height }
+
+abbrev pub known_records : List KnownRecord → List RecordShape
+known_records rs = map known_record rs
+
+abbrev pub head_shapes : Head → ShapeSignature
+head_shapes h = record { params = flat_shapes h.params.items; result = flat_shape h.result }
+
+abbrev pub heads_shapes : List Head → List ShapeSignature
+heads_shapes hs = map head_shapes hs

@@ -1,0 +1,27 @@
+-- What a shaped program promises: the program that it holds has no fault, and the shapes that it gives are its functions'.
+-- Source: this project's own.
+use Rattle.std.specs.Prelude.{◌≡◌, ◌<◌, ℕ, length, map, slice_get, Option, Some}
+use Rattle.um_tree.specs.TypeTree.{ShapeTree}
+use Rattle.um_tree.specs.ProgramTree.{FunctionTree, ProgramTree}
+use Rattle.um_tree.specs.Shapes.{note_shape, FunctionShape}
+use Rattle.um_shape.specs.declared.stop.ShapeStop.{ShapeStop}
+use Rattle.um_shape.specs.declared.stop.ShapeStop.TheVariants as stop
+use Rattle.um_shape.specs.FirstFault.{ShapeFault, wrong_shape, too_deep}
+
+-- the refusal is the fault, with its place
+abbrev pub IsRefusal : Option ShapeFault → ShapeStop → Type 0
+IsRefusal o (stop.Shape at) = o ≡ Some (wrong_shape at)
+IsRefusal o (stop.Depth at) = o ≡ Some (too_deep at)
+IsRefusal o stop.NoMemory = Unit {0}
+
+-- function i has a parameter of this number
+abbrev pub HasParam : ProgramTree → ℕ → ℕ → Type 0
+HasParam p i k = (f : FunctionTree) × (slice_get p.functions i ≡ Some f) × (k < length f.params)
+
+-- the shape of this parameter of function i
+abbrev pub IsParamShape : ProgramTree → ℕ → ℕ → ShapeTree → Type 0
+IsParamShape p i k s = (f : FunctionTree) → slice_get p.functions i ≡ Some f → slice_get (map note_shape f.params) k ≡ Some s
+
+-- function i has its parameters' shapes and this shape of its result
+abbrev pub IsResultShape : ProgramTree → ℕ → ShapeTree → Type 0
+IsResultShape p i s = (f : FunctionTree) → slice_get p.functions i ≡ Some f → FunctionShape p i (record { params = map note_shape f.params; result = s })
