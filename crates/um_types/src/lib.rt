@@ -18,6 +18,8 @@ mod unit_mark;
 mod unit_part;
 mod unit_reader;
 mod unit_take;
+#[cfg(test)]
+mod unit_tests;
 
 pub use note_take::{NoteReader, NoteStep};
 pub use parse::{LimitKind, ParseStop, parse_types, parse_unit};
