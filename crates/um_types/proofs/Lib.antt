@@ -20,3 +20,4 @@ pub mod SignatureLaws
 mod TypeNotes
 mod SignatureWhole
 mod SignatureSteps
+mod SignatureExact

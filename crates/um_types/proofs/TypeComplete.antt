@@ -9,7 +9,7 @@ use Rattle.um_types.specs.TypeTokens.{symbol, type_token}
 use Rattle.um_types.specs.TypeGrammar.{FirstSymbol, NoteSpells, NotesSpell, AngledSpell, TypeSpells, NoteFits, NotesFit, TypeFits, at_most_one}
 use Rattle.um_types.specs.Machines.{Reaches}
 use Rattle.um_types.specs.NoteMachine.{NoteState, NeedNote, HaveHole, InUnit, NoNote, note_step, note_finish}
-use Rattle.um_types.specs.TypeMachine.{Owner, OfNum, OfName, TypeState, NeedType, HaveType, InNote, NoType, type_begin, type_after, note_end, note_ends, note_goes, type_step}
+use Rattle.um_types.specs.TypeMachine.{Owner, OfNum, OfName, TypeState, NeedType, HaveType, InNote, NoType, type_begin, type_after, note_end, note_ends, note_goes, type_act, type_step}
 use Rattle.um_types.specs.declared.type_symbol.Symbol.{Symbol}
 use Rattle.um_types.specs.declared.type_symbol.Symbol.TheVariants as symbol_of
 use Rattle.um_types.proofs.Reaching.{reaches_one, reaches_then, reaches_inside}
@@ -150,3 +150,34 @@ type_reaches (bracket_type_text t) depth tokens rest s fits =
     type_then (NeedType (suc depth)) inner done s.0 s.1 rest (type_reaches t (suc depth) s.0 s.1 s.3 fits)
     (goes_with (suc depth) t symbol_of.Close done s.1 rest s.4 refl (have_is depth (bracket_type_text t)))
     )
+
+-- ---- what may follow
+
+-- what doesn't go on a type text that is whole
+abbrev pub Follows : Symbol → Type 0
+Follows symbol_of.Close = Unit {0}
+Follows symbol_of.Greater = Unit {0}
+Follows symbol_of.Comma = Unit {0}
+Follows symbol_of.Arrow = Unit {0}
+Follows symbol_of.Num = Unit {0}
+Follows symbol_of.Bool = Unit {0}
+Follows symbol_of.Open = Unit {0}
+Follows symbol_of.Other = Unit {0}
+Follows symbol_of.Less = ⊥
+Follows symbol_of.List = ⊥
+
+stops_at : (t : TypeText) (what : Symbol) → Follows what → type_after 0 t (symbol what) ≡ NoType
+stops_at t symbol_of.Close f = refl
+stops_at t symbol_of.Greater f = refl
+stops_at t symbol_of.Comma f = refl
+stops_at t symbol_of.Arrow f = refl
+stops_at t symbol_of.Num f = refl
+stops_at t symbol_of.Bool f = refl
+stops_at t symbol_of.Open f = refl
+stops_at t symbol_of.Other f = refl
+stops_at t symbol_of.Less f = absurd f
+stops_at t symbol_of.List f = absurd f
+
+-- such a token is refused behind a type text that was read from the start
+pub type_stops : (t : TypeText) (k : Kind) (at : ℕ) (what : Symbol) → type_token k ≡ symbol what → Follows what → type_act (HaveType 0 t) k at ≡ NoType
+type_stops t k at what e f = ap (type_after 0 t) e ∙ stops_at t what f

@@ -68,9 +68,19 @@ pub fn parse_unit(
     }
 }
 
-/// The types of a signature text, which has at least one, and `->` between two.
+/// The types of a signature text: type texts with `->` between two of them, at least one.
 ///
-/// `end` is the length of the text. Each type text and each unit text is at most 400 high.
+/// `end` is the length of the text in bytes. The heights of a signature text are those of its types and of the unit texts in
+/// them, each by itself.
+///
+/// # Errors
+///
+/// Of these two the one whose place is further left; `NoMemory` may come with any tokens.
+///
+/// - `Syntax` at the first token such that the tokens before it begin a signature text and those through it begin none; at
+///   `end` where all tokens begin one and are none.
+/// - `Limit` with `Height` at the first token through which the tokens begin a signature text and none in which no height is
+///   above 400.
 pub fn parse_types(alloc: Global, tokens: &[Token], end: u32) -> Result<RawTypes, ParseStop>
     ensures parsed { SignatureParsed tokens.now end result }
 {
