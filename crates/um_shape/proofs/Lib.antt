@@ -5,6 +5,7 @@ pub mod Declarations
 pub mod Formed
 pub mod Sound
 pub mod SoundProgram
+pub mod LowShapes
 pub mod NeverWrong
 pub mod Unique
 pub mod Complete

@@ -37,7 +37,7 @@ impl Shaped {
     ghost use Rattle.um_tree.specs.Shapes.{IsShaped};
     ghost use Rattle.um_shape.specs.Signatures.{signatures_shapes};
     ghost use Rattle.um_shape.specs.FirstFault.{program_found, first_fault};
-    ghost use Rattle.um_shape.specs.ShapedProgram.{HasParam, IsParamShape, IsResultShape};
+    ghost use Rattle.um_shape.specs.ShapedProgram.{HasParam, IsParamShape, IsResultShape, IsLowShape};
 
     /// The program with the shapes that were found of its functions.
     pub(crate) fn new(program: Program, signatures: Vec<Signature>) -> Shaped
@@ -65,6 +65,7 @@ impl Shaped {
     pub fn param_shape(&self, f: u32, k: u32) -> &Shape
         requires param { HasParam (program_tree self.now) f k }
         ensures shape { IsParamShape (program_tree self.now) f k (shape_tree result.now) }
+        ensures low { IsLowShape (program_tree self.now) (shape_tree result.now) }
     {
         &self.signatures[f as usize].params[k as usize]
     }
@@ -73,6 +74,7 @@ impl Shaped {
     pub fn result_shape(&self, f: u32) -> &Shape
         requires function { f < length (program_tree self.now).functions }
         ensures shape { IsResultShape (program_tree self.now) f (shape_tree result.now) }
+        ensures low { IsLowShape (program_tree self.now) (shape_tree result.now) }
     {
         &self.signatures[f as usize].result
     }
