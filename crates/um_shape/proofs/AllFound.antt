@@ -1,7 +1,7 @@
 -- What is found of expressions one after another: what is left when the first ones were looked at.
 use Rattle.std.proofs.Common.{◌≡◌, refl, sym, ap, subst, ◌∙◌, ℕ, zero, suc, ◌+◌, ◌<◌, ◌≤◌, List, [], ◌∷◌, ◌++◌, map, drop, length, get_or, Some, Result, Ok, Err, arith}
 use Rattle.std.proofs.lemmas.List.{append_assoc, append-nil, map-append, drop_more}
-use Rattle.um_tree.specs.TypeTree.{ShapeTree, bool_shape, num_shape, list_shape, record_shape}
+use Rattle.um_tree.specs.TypeTree.{ShapeTree, list_shape}
 use Rattle.um_tree.specs.ExprTree.{ExprTree, ExprTrees, none, more, expr_tree, in_order, bind, split}
 use Rattle.um_tree.specs.Shapes.{ShapeSignature}
 use Rattle.um_tree.specs.declared.expression.Expr.{Expr}
@@ -13,6 +13,8 @@ use Rattle.um_shape.specs.declared.flat.FlatShape.{FlatShape}
 use Rattle.um_shape.specs.declared.stop.ShapeStop.{ShapeStop}
 use Rattle.um_shape.specs.declared.stop.ShapeStop.TheVariants as stop
 use Rattle.um_shape.specs.Stops.{StopsAs, IsFound}
+use Rattle.um_shape.proofs.Stopping.{stops_first}
+use Rattle.um_shape.proofs.Sound.{item_is}
 
 -- the shapes found, with these before them
 abbrev pub after_these : List ShapeTree → Result (List ShapeTree) ShapeFault → Result (List ShapeTree) ShapeFault
@@ -32,11 +34,6 @@ from_end [] (suc i) h = refl
 from_end (x ∷ es) zero h = absurd (omega (arith, h))
 from_end (x ∷ es) (suc i) h = from_end es i (omega (arith, h))
 
-stops_then : {A B : Type 0} (m : Result A ShapeFault) (go : A → Result B ShapeFault) (s : ShapeStop) → StopsAs m s → StopsAs (then m go) s
-stops_then m go (stop.Shape at) h = ap (λ m. then m go) h
-stops_then m go (stop.Depth at) h = ap (λ m. then m go) h
-stops_then m go stop.NoMemory h = tt
-
 stops_after : (ss : List ShapeTree) (m : Result (List ShapeTree) ShapeFault) (s : ShapeStop) → StopsAs m s → StopsAs (after_these ss m) s
 stops_after ss m (stop.Shape at) h = ap (after_these ss) h
 stops_after ss m (stop.Depth at) h = ap (after_these ss) h
@@ -51,12 +48,6 @@ pub record IsLeft (records : List RecordShape) (callees : List ShapeSignature) (
   pub whole : all_found records callees (flat_shapes vars) (from es 0) ≡ after_these (flat_shapes shapes) (all_found records callees (flat_shapes vars) (from es i))
   pub low : HaveLowNotes (from es i)
   pub same_scope : scope ≡ vars
-
-list_of : (at : ℕ) (s t : ShapeTree) → item_of at s ≡ Ok t → s ≡ list_shape t
-list_of at (list_shape s) t e = ap list_shape cc
-list_of at bool_shape t e = absurd cc
-list_of at num_shape t e = absurd cc
-list_of at (record_shape r) t e = absurd cc
 
 module _ (records : List RecordShape) (callees : List ShapeSignature) (vars : List FlatShape) where
   abbrev seen : ExprTrees → Result (List ShapeTree) ShapeFault
@@ -74,7 +65,7 @@ module _ (records : List RecordShape) (callees : List ShapeSignature) (vars : Li
   -- what is found of the next one stops the whole, or is one more shape
   pub left_stops : (es : List Expr) (i : ℕ) (e : Expr) (shapes scope : List FlatShape) (s : ShapeStop) → i < length es → e ≡ get_or es i e → IsLeft records callees vars es i shapes scope → StopsAs (found records callees (flat_shapes scope) (expr_tree e)) s → StopsAs (seen (from es 0)) s
   left_stops es i e shapes scope s h g l f =
-      subst (λ m. StopsAs m s) (sym (l.whole ∙ ap (λ r. after_these (flat_shapes shapes) (seen r)) (from_more es i e h g))) (stops_after (flat_shapes shapes) _ s (stops_then _ _ s (subst (λ vs. StopsAs (found records callees (flat_shapes vs) (expr_tree e)) s) l.same_scope f)))
+      subst (λ m. StopsAs m s) (sym (l.whole ∙ ap (λ r. after_these (flat_shapes shapes) (seen r)) (from_more es i e h g))) (stops_after (flat_shapes shapes) _ s (stops_first _ _ s (subst (λ vs. StopsAs (found records callees (flat_shapes vs) (expr_tree e)) s) l.same_scope f)))
 
   pub left_next : (es : List Expr) (i : ℕ) (e : Expr) (shapes scope other : List FlatShape) (f : FlatShape) → i < length es → e ≡ get_or es i e → IsLeft records callees vars es i shapes scope → found records callees (flat_shapes scope) (expr_tree e) ≡ Ok (flat_shape f) → other ≡ scope → IsLeft records callees vars es (i + 1) (shapes ++ f ∷ []) other
   left_next es i e shapes scope other f h g l found_is same = record {
@@ -101,7 +92,7 @@ module _ (records : List RecordShape) (callees : List ShapeSignature) (vars : Li
   pub split_found : (at : ℕ) (l a b : ExprTree) (list item s t : FlatShape) (r : Result FlatShape ShapeStop) → found records callees (flat_shapes vars) l ≡ Ok (flat_shape list) → item_of at (flat_shape list) ≡ Ok (flat_shape item) → found records callees (flat_shapes vars) a ≡ Ok (flat_shape s) → found records callees (flat_shapes (vars ++ item ∷ list ∷ [])) b ≡ Ok (flat_shape t) → IsFound r (at_node records at (of_arms (flat_shape s) (flat_shape t))) → IsFound r (found records callees (flat_shapes vars) (split at l a b))
   split_found at l a b list item s t r e f g h w =
       let wider : flat_shapes (vars ++ item ∷ list ∷ []) ≡ flat_shapes vars ++ flat_shape item ∷ flat_shape list ∷ [] = map-append flat_shape vars (item ∷ list ∷ []) in
-      let is_list : flat_shape list ≡ list_shape (flat_shape item) = list_of at (flat_shape list) (flat_shape item) f in
+      let is_list : flat_shape list ≡ list_shape (flat_shape item) = item_is at (flat_shape list) (flat_shape item) f in
       let last : found records callees (flat_shapes vars ++ flat_shape item ∷ list_shape (flat_shape item) ∷ []) b ≡ Ok (flat_shape t) =
       ap (λ x. found records callees (flat_shapes vars ++ flat_shape item ∷ x ∷ []) b) (sym is_list) ∙ ap (λ vs. found records callees vs b) (sym wider) ∙ h in
       subst

@@ -10,7 +10,7 @@ use Rattle.um_shape.specs.RecordShapes.{RecordShape, tallest}
 use Rattle.um_shape.specs.FirstFault.{ShapeFault, wrong_shape, too_deep, then, found, own_shapes, fits_result, function_found, record_found}
 use Rattle.um_shape.specs.declared.stop.ShapeStop.{ShapeStop}
 use Rattle.um_shape.specs.Stops.{StopsAs}
-use Rattle.um_shape.proofs.InOrder.{stops_first}
+use Rattle.um_shape.proofs.Stopping.{stops_first}
 
 -- what holds of all that some elements stand for
 pub All-unmapped : {X Y : Type 0} (P : X → Type 0) (f : Y → X) (ys : List Y) → All P (map f ys) → All (λ y. P (f y)) ys

@@ -1,6 +1,6 @@
 pub mod SameShape
 pub mod AllFound
-pub mod InOrder
+pub mod Stopping
 pub mod Declarations
 pub mod Formed
 pub mod Sound

@@ -1,12 +1,12 @@
 -- The shapes that are found are no taller than 400.
-use Rattle.std.proofs.Common.{◌≡◌, refl, sym, ap, subst, ◌∙◌, ℕ, zero, suc, ◌+◌, ◌<◌, ◌≤◌, ◌⊎◌, inl, inr, Bool, true, false, cond, nat_le, max, List, [], ◌∷◌, ◌++◌, map, length, slice_get, Option, Some, None, Result, Ok, Err, arith}
+use Rattle.std.proofs.Common.{◌≡◌, refl, sym, subst, ℕ, zero, suc, ◌+◌, ◌<◌, ◌≤◌, ◌⊎◌, inl, inr, Bool, true, false, cond, nat_le, List, [], ◌∷◌, ◌++◌, map, length, slice_get, Option, Some, None, Ok, Err, arith}
 use Rattle.std.proofs.lemmas.Bool.Decides.{nat_tests}
 use Rattle.um_tree.specs.TypeTree.{ShapeTree, bool_shape, num_shape, list_shape}
 use Rattle.um_tree.specs.ExprTree.{ExprTree, truth, number, local, call, negate, negation, arith as arith_tree, compare, both, either, if, bind, split, nil, list_text, cons, record_text, field}
 use Rattle.um_tree.specs.ProgramTree.{FunctionTree, ProgramTree}
 use Rattle.um_tree.specs.Shapes.{note_shape, ShapeSignature}
 use Rattle.um_shape.specs.RecordShapes.{RecordShape, shape_height, tallest}
-use Rattle.um_shape.specs.FirstFault.{ShapeFault, wrong_shape, too_deep, then, same_shape, where_true, of_numbers, of_truths, of_arms, of_condition, of_list, of_items, of_head, of_call, of_record, of_field, at_node, item_of, found, all_found, own_shapes, fits_result, function_found, functions_found, records_found, program_found}
+use Rattle.um_shape.specs.FirstFault.{wrong_shape, too_deep, then, same_shape, where_true, of_numbers, of_truths, of_arms, of_condition, of_list, of_items, of_head, of_call, of_record, of_field, at_node, item_of, found, all_found, own_shapes, fits_result, function_found, functions_found, records_found, program_found}
 use Rattle.um_shape.specs.ShapedProgram.{IsLowShape}
 use Rattle.um_shape.proofs.Sound.{then_ok}
 use Rattle.um_shape.proofs.SoundProgram.{in_either, only_one, nothing_at, function_ok}

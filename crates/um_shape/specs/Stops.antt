@@ -8,12 +8,6 @@ use Rattle.um_shape.specs.declared.flat.FlatShape.{FlatShape}
 use Rattle.um_shape.specs.FirstFault.{ShapeFault, wrong_shape, too_deep}
 use Rattle.um_shape.specs.FlatShapes.{flat_shape}
 
--- the stop is the fault
-abbrev pub IsFault : ShapeFault → ShapeStop → Type 0
-IsFault e (stop.Shape at) = e ≡ wrong_shape at
-IsFault e (stop.Depth at) = e ≡ too_deep at
-IsFault e stop.NoMemory = Unit {0}
-
 -- the stop is the fault that was found
 abbrev pub StopsAs : {A : Type 0} → Result A ShapeFault → ShapeStop → Type 0
 StopsAs m (stop.Shape at) = m ≡ Err (wrong_shape at)

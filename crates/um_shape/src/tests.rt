@@ -14,9 +14,7 @@ use crate::{ShapeStop, shape};
 use std::alloc::{AllocError, Global};
 use std::test::Fail;
 use um_frac::Frac;
-use um_tree::{
-    Arith, Expr, Exprs, Functions, Names, Node, Note, Program, Records, Sign, UnitNote,
-};
+use um_tree::{Arith, Expr, Exprs, Functions, Names, Node, Note, Program, Records, Sign, UnitNote};
 
 const NUMBER: FlatShape = FlatShape {
     lists: 0,
@@ -142,7 +140,11 @@ fn choice(alloc: Global, at: u32, c: Expr, a: Expr, b: Expr) -> Result<Expr, All
     requires second { HasLowNotes (expr_tree b) }
     ensures { IfOk result (λ e. HasLowNotes (expr_tree e)) }
 {
-    let node = Node::If(Box::new(alloc, c)?, Box::new(alloc, a)?, Box::new(alloc, b)?);
+    let node = Node::If(
+        Box::new(alloc, c)?,
+        Box::new(alloc, a)?,
+        Box::new(alloc, b)?,
+    );
     Ok(Expr { at, node })
 }
 
@@ -152,7 +154,11 @@ fn split(alloc: Global, at: u32, l: Expr, a: Expr, b: Expr) -> Result<Expr, Allo
     requires full { HasLowNotes (expr_tree b) }
     ensures { IfOk result (λ e. HasLowNotes (expr_tree e)) }
 {
-    let node = Node::Match(Box::new(alloc, l)?, Box::new(alloc, a)?, Box::new(alloc, b)?);
+    let node = Node::Match(
+        Box::new(alloc, l)?,
+        Box::new(alloc, a)?,
+        Box::new(alloc, b)?,
+    );
     Ok(Expr { at, node })
 }
 
@@ -214,7 +220,12 @@ fn finds(alloc: Global, height: u32, e: Expr) -> Result<FlatShape, ShapeStop>
     let params = vec![in alloc; NUMBER, TRUTH]?;
     let known = Known {
         records: vec![in alloc; KnownRecord { fields, height }]?,
-        heads: vec![in alloc; Head { params, result: NUMBERS }]?,
+        heads: vec![in alloc;
+            Head {
+                params,
+                result: NUMBERS
+            },
+        ]?,
     };
     let mut scope = vec![in alloc; NUMBER, RECORD]?;
     shape_of(alloc, &known, &mut scope, &e)
@@ -248,9 +259,19 @@ fn leaves(rt: HostRuntime) -> Result<(), Fail> {
 fn single_parts(rt: HostRuntime) -> Result<(), Fail> {
     let alloc = rt.alloc();
     assert!(rt; is_shape(&finds(alloc, 2, negative(alloc, 1, number(2))?), NUMBER));
-    assert!(rt; is_stop(&finds(alloc, 2, negative(alloc, 1, truth(2))?), ShapeStop::Shape { at: 1 }));
+    assert!(rt;
+        is_stop(
+            &finds(alloc, 2, negative(alloc, 1, truth(2))?),
+            ShapeStop::Shape { at: 1 }
+        )
+    );
     assert!(rt; is_shape(&finds(alloc, 2, negation(alloc, 1, truth(2))?), TRUTH));
-    assert!(rt; is_stop(&finds(alloc, 2, negation(alloc, 1, number(2))?), ShapeStop::Shape { at: 1 }));
+    assert!(rt;
+        is_stop(
+            &finds(alloc, 2, negation(alloc, 1, number(2))?),
+            ShapeStop::Shape { at: 1 }
+        )
+    );
     Ok(())
 }
 
@@ -258,13 +279,33 @@ fn single_parts(rt: HostRuntime) -> Result<(), Fail> {
 fn two_parts(rt: HostRuntime) -> Result<(), Fail> {
     let alloc = rt.alloc();
     let wrong = ShapeStop::Shape { at: 1 };
-    assert!(rt; is_shape(&finds(alloc, 2, sum(alloc, 1, number(0), number(2))?), NUMBER));
+    assert!(rt;
+        is_shape(
+            &finds(alloc, 2, sum(alloc, 1, number(0), number(2))?),
+            NUMBER
+        )
+    );
     assert!(rt; is_stop(&finds(alloc, 2, sum(alloc, 1, number(0), truth(2))?), wrong));
     assert!(rt; is_stop(&finds(alloc, 2, sum(alloc, 1, truth(0), number(2))?), wrong));
-    assert!(rt; is_shape(&finds(alloc, 2, less(alloc, 1, number(0), number(2))?), TRUTH));
-    assert!(rt; is_stop(&finds(alloc, 2, less(alloc, 1, number(0), truth(2))?), wrong));
+    assert!(rt;
+        is_shape(
+            &finds(alloc, 2, less(alloc, 1, number(0), number(2))?),
+            TRUTH
+        )
+    );
+    assert!(rt;
+        is_stop(
+            &finds(alloc, 2, less(alloc, 1, number(0), truth(2))?),
+            wrong
+        )
+    );
     assert!(rt; is_shape(&finds(alloc, 2, both(alloc, 1, truth(0), truth(2))?), TRUTH));
-    assert!(rt; is_stop(&finds(alloc, 2, both(alloc, 1, truth(0), number(2))?), wrong));
+    assert!(rt;
+        is_stop(
+            &finds(alloc, 2, both(alloc, 1, truth(0), number(2))?),
+            wrong
+        )
+    );
     Ok(())
 }
 
@@ -287,11 +328,31 @@ fn arms(rt: HostRuntime) -> Result<(), Fail> {
 fn lists(rt: HostRuntime) -> Result<(), Fail> {
     let alloc = rt.alloc();
     let wrong = ShapeStop::Shape { at: 1 };
-    assert!(rt; is_shape(&finds(alloc, 2, list(alloc, 1, number(2), number(3))?), NUMBERS));
-    assert!(rt; is_stop(&finds(alloc, 2, list(alloc, 1, number(2), truth(3))?), wrong));
+    assert!(rt;
+        is_shape(
+            &finds(alloc, 2, list(alloc, 1, number(2), number(3))?),
+            NUMBERS
+        )
+    );
+    assert!(rt;
+        is_stop(
+            &finds(alloc, 2, list(alloc, 1, number(2), truth(3))?),
+            wrong
+        )
+    );
     let numbers = list(alloc, 3, number(4), number(5))?;
-    assert!(rt; is_shape(&finds(alloc, 2, cons(alloc, 1, number(2), numbers)?), NUMBERS));
-    assert!(rt; is_stop(&finds(alloc, 2, cons(alloc, 1, number(2), number(3))?), wrong));
+    assert!(rt;
+        is_shape(
+            &finds(alloc, 2, cons(alloc, 1, number(2), numbers)?),
+            NUMBERS
+        )
+    );
+    assert!(rt;
+        is_stop(
+            &finds(alloc, 2, cons(alloc, 1, number(2), number(3))?),
+            wrong
+        )
+    );
     let numbers = list(alloc, 3, number(4), number(5))?;
     assert!(rt; is_stop(&finds(alloc, 2, cons(alloc, 1, truth(2), numbers)?), wrong));
     assert!(rt; is_stop(&finds(alloc, 2, nil(1, Note::Bool)), wrong));
@@ -307,7 +368,13 @@ fn matches(rt: HostRuntime) -> Result<(), Fail> {
     let numbers = list(alloc, 2, number(3), number(4))?;
     let tail = split(alloc, 1, numbers, number(5), variable(6, 3))?;
     assert!(rt; is_stop(&finds(alloc, 2, tail), ShapeStop::Shape { at: 1 }));
-    let no_list = split(alloc, 1, number(2), negation(alloc, 5, number(6))?, number(7))?;
+    let no_list = split(
+        alloc,
+        1,
+        number(2),
+        negation(alloc, 5, number(6))?,
+        number(7),
+    )?;
     assert!(rt; is_stop(&finds(alloc, 2, no_list), ShapeStop::Shape { at: 1 }));
     Ok(())
 }
@@ -316,10 +383,30 @@ fn matches(rt: HostRuntime) -> Result<(), Fail> {
 fn calls_and_records(rt: HostRuntime) -> Result<(), Fail> {
     let alloc = rt.alloc();
     let wrong = ShapeStop::Shape { at: 1 };
-    assert!(rt; is_shape(&finds(alloc, 2, call(alloc, 1, number(2), truth(3))?), NUMBERS));
-    assert!(rt; is_stop(&finds(alloc, 2, call(alloc, 1, number(2), number(3))?), wrong));
-    assert!(rt; is_shape(&finds(alloc, 2, record(alloc, 1, number(2), truth(3))?), RECORD));
-    assert!(rt; is_stop(&finds(alloc, 2, record(alloc, 1, truth(2), number(3))?), wrong));
+    assert!(rt;
+        is_shape(
+            &finds(alloc, 2, call(alloc, 1, number(2), truth(3))?),
+            NUMBERS
+        )
+    );
+    assert!(rt;
+        is_stop(
+            &finds(alloc, 2, call(alloc, 1, number(2), number(3))?),
+            wrong
+        )
+    );
+    assert!(rt;
+        is_shape(
+            &finds(alloc, 2, record(alloc, 1, number(2), truth(3))?),
+            RECORD
+        )
+    );
+    assert!(rt;
+        is_stop(
+            &finds(alloc, 2, record(alloc, 1, truth(2), number(3))?),
+            wrong
+        )
+    );
     assert!(rt; is_shape(&finds(alloc, 2, field(alloc, 1, 1, variable(2, 1))?), TRUTH));
     assert!(rt; is_stop(&finds(alloc, 2, field(alloc, 1, 1, variable(2, 0))?), wrong));
     Ok(())
@@ -328,7 +415,12 @@ fn calls_and_records(rt: HostRuntime) -> Result<(), Fail> {
 #[test]
 fn first_of_several(rt: HostRuntime) -> Result<(), Fail> {
     let alloc = rt.alloc();
-    let left = sum(alloc, 5, negation(alloc, 1, number(2))?, negative(alloc, 6, truth(7))?)?;
+    let left = sum(
+        alloc,
+        5,
+        negation(alloc, 1, number(2))?,
+        negative(alloc, 6, truth(7))?,
+    )?;
     assert!(rt; is_stop(&finds(alloc, 2, left), ShapeStop::Shape { at: 1 }));
     let right = sum(alloc, 5, number(1), negative(alloc, 6, truth(7))?)?;
     assert!(rt; is_stop(&finds(alloc, 2, right), ShapeStop::Shape { at: 6 }));
