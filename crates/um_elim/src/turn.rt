@@ -110,7 +110,7 @@ fn negated_quotient(term: Term, m: u32, p: i32) -> Term
 }
 
 /// The unit with variable m times w put for variable m.
-fn multiplied(alloc: Global, unit: &Unit, m: u32, w: &Unit) -> Result<Unit, UnitStop>
+pub fn multiplied(alloc: Global, unit: &Unit, m: u32, w: &Unit) -> Result<Unit, UnitStop>
     ensures exact { IfOk result (λ u. u ≡ replace (multiply m w.now) unit.now) }
     ensures range { RangeUnless result (fits (replace (multiply m w.now) unit.now)) }
 {
