@@ -1,12 +1,12 @@
 -- What putting m times w for variable m does to the slots of an index.
-use Rattle.std.proofs.Common.{◌≡◌, inl, inr, ℕ, ◌<◌, true, false, not, List, [], ◌∷◌, get_or, set, length, ℤ, pos, ◌+ℤ◌, ◌*ℤ◌, refl, sym, ap, ◌∙◌, arith}
+use Rattle.std.proofs.Common.{◌≡◌, inl, inr, ℕ, ◌<◌, true, false, not, List, get_or, set, length, ℤ, pos, ◌+ℤ◌, ◌*ℤ◌, ap, ◌∙◌, arith}
 use Rattle.std.specs.Prelude.{IsTrue, ◌==◌}
 use Rattle.std.proofs.lemmas.Bool.{eqb-true}
 use Rattle.std.proofs.lemmas.Int.{ints}
 use Rattle.std.proofs.lemmas.List.Elements.{All-get_or}
 use Rattle.um_units.specs.declared.Atom.TheVariants.{Var}
 use Rattle.um_units.specs.Terms.{is_zero}
-use Rattle.um_units.specs.PowerMap.{PowerMap, power_of, one, atom, mul, replace}
+use Rattle.um_units.specs.PowerMap.{PowerMap, power_of, one, atom, replace}
 use Rattle.um_units.specs.Range.{fits}
 use Rattle.um_units.specs.Variables.{VariablesBelow}
 use Rattle.um_units.proofs.Integers.{zero_cases}
@@ -18,7 +18,7 @@ use Rattle.um_elim.specs.Index.{holds, followed_terms, IsIndex}
 use Rattle.um_elim.proofs.Cases.{on_test}
 use Rattle.um_elim.proofs.Shear.{power_of-multiply, multiply_nothing}
 use Rattle.um_elim.proofs.FirstOccurrences.{member}
-use Rattle.um_elim.proofs.RenamedUnits.{term_variables, held-member}
+use Rattle.um_elim.proofs.RenamedUnits.{held-member}
 use Rattle.um_elim.proofs.VariablesKept.{Stays, own_below, replaced_below}
 use Rattle.um_elim.proofs.IndexLaws.{index_follows}
 
@@ -40,7 +40,7 @@ held_alike m w u k h =
     nothing : (a b : ℤ) → a +ℤ b *ℤ pos 0 ≡ a
     nothing a b = omega (arith, ints)
 
-multiply_stays : (n m : ℕ) (w : PowerMap) → VariablesBelow n w → Stays n (multiply m w)
+pub multiply_stays : (n m : ℕ) (w : PowerMap) → VariablesBelow n w → Stays n (multiply m w)
 multiply_stays n m w below k h =
     on_test (m == k)
     (λ e. let q = eqb-true m k e in rw e (VariablesBelow-mul n (atom (Var m)) w (own_below n m (omega (arith, q, h))) below))

@@ -21,3 +21,5 @@ pub mod Holders
 pub mod IndexLaws
 pub mod HeldSlots
 pub mod IndexTurn
+pub mod TurnKept
+pub mod OwnIndex

@@ -31,10 +31,10 @@ own_below n k h = VariablesBelow-more (k + 1) n (atom (Var k)) (omega (arith, h)
 one_below : (n : ℕ) → VariablesBelow n one
 one_below n = VariablesBelow-closed n one IsClosed-one
 
-quotients_below : (n m p : ℕ) (r : PowerMap) → VariablesBelow n r → VariablesBelow n (quotients m p r)
+pub quotients_below : (n m p : ℕ) (r : PowerMap) → VariablesBelow n r → VariablesBelow n (quotients m p r)
 quotients_below n m p r below k held = below k (λ z. held (power_of-quotients m p r (Var k) ∙ ap (less m p (Var k)) z ∙ less-zero m p (Var k)))
 
-upright_below : (n : ℕ) (a : ℤ) (r : PowerMap) → VariablesBelow n r → VariablesBelow n (upright a r)
+pub upright_below : (n : ℕ) (a : ℤ) (r : PowerMap) → VariablesBelow n r → VariablesBelow n (upright a r)
 upright_below n (pos a) r below = below
 upright_below n (negsuc a) r below = VariablesBelow-inv n r below
 
