@@ -1,6 +1,7 @@
 -- For each variable the slots whose units hold it: a turn of the elimination changes the units of these slots alone.
 -- Source: this project's own.
-use Rattle.std.specs.Prelude.{◌≡◌, ℕ, suc, ◌<◌, IsTrue, Bool, not, ◌==◌, nat_le, if◌then◌else◌, List, [], ◌∷◌, set, length, All, slice_index_or}
+use Rattle.std.specs.Prelude.{◌≡◌, ℕ, suc, ◌<◌, IsTrue, Bool, not, ◌==◌, nat_lt, if◌then◌else◌, List, [], ◌∷◌, set, length, All, slice_index_or}
+use Rattle.std.specs.List.{list_any}
 use Rattle.um_units.specs.declared.Atom.{Atom}
 use Rattle.um_units.specs.declared.Atom.TheVariants.{Base, Var}
 use Rattle.um_units.specs.declared.Term.{Term}
@@ -30,10 +31,10 @@ pub record IsIndex (us : List PowerMap) (index : List (List ℕ)) : Type 0 where
   pub fit : All (λ u. IsTrue (fits u)) us
 
 -- ---- lists of slots, in order
--- the slots with one more, before the first that isn't less
+-- the slots with one more, behind the last that is less
 abbrev pub with_slot : List ℕ → ℕ → List ℕ
 with_slot [] s = s ∷ []
-with_slot (x ∷ xs) s = if nat_le s x then s ∷ x ∷ xs else x ∷ with_slot xs s
+with_slot (x ∷ xs) s = if list_any (λ y. nat_lt y s) (x ∷ xs) then x ∷ with_slot xs s else s ∷ x ∷ xs
 
 -- the slots without the first that is this one
 abbrev pub without_slot : List ℕ → ℕ → List ℕ
