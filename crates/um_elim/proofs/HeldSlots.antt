@@ -7,7 +7,7 @@ use Rattle.std.proofs.lemmas.List.{append_assoc, get_or-set_other, length-set}
 use Rattle.um_units.specs.PowerMap.{PowerMap, one}
 use Rattle.um_elim.specs.Index.{holds, holders, holders_from}
 use Rattle.um_elim.proofs.Cases.{on_test}
-use Rattle.um_elim.proofs.Slots.{default}
+use Rattle.std.proofs.lemmas.List.{get_or_default}
 use Rattle.um_elim.proofs.FirstOccurrences.{member, distinct, member-at}
 
 -- the units with f at each of the slots
@@ -103,4 +103,4 @@ next_within k us j h = let w = holders-within k 0 us (get_or (holders us k) j 0)
 
 -- an item within a list doesn't depend on the default
 pub own_default : (us : List PowerMap) (i : ℕ) → i < length us → get_or us i one ≡ get_or us i (get_or us i one)
-own_default us i h = default us i one (get_or us i one) h
+own_default us i h = get_or_default us i one (get_or us i one) h

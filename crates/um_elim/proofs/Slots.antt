@@ -17,7 +17,7 @@ replaced : (s : ℕ → PowerMap) (ks : List ℕ) → map (replace s) (map (λ k
 replaced s [] = refl
 replaced s (k ∷ ks) = λ i. replace-variable s k i ∷ replaced s ks i
 
-pub default : (v : List PowerMap) (i : ℕ) (d e : PowerMap) → i < length v → get_or v i d ≡ get_or v i e
+default : (v : List PowerMap) (i : ℕ) (d e : PowerMap) → i < length v → get_or v i d ≡ get_or v i e
 default [] i d e h = absurd (omega (arith, h))
 default (u ∷ v) zero d e h = refl
 default (u ∷ v) (suc i) d e h = default v i d e (omega (arith, h))
