@@ -17,3 +17,9 @@ pub mod RenamedUnits
 pub mod NumberedTypes
 pub mod GrowingOrder
 pub mod VariablesKept
+pub mod Holders
+pub mod IndexLaws
+pub mod HeldSlots
+pub mod IndexTurn
+pub mod TurnKept
+pub mod OwnIndex

@@ -27,7 +27,7 @@ use Rattle.um_elim.proofs.FirstOccurrences.{member, member-front, member-back, a
 abbrev pub term_variables : List Term → List ℕ
 term_variables ts = flat_map (λ t. atom_variables t.atom) ts
 
-member-atom : (x : Atom) (k : ℕ) (ks : List ℕ) → member k (atom_variables x ++ ks) ≡ (same_atom (Var k) x || member k ks)
+pub member-atom : (x : Atom) (k : ℕ) (ks : List ℕ) → member k (atom_variables x ++ ks) ≡ (same_atom (Var k) x || member k ks)
 member-atom (Base n) k ks = refl
 member-atom (Var m) k ks = refl
 

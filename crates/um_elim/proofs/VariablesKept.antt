@@ -25,21 +25,21 @@ use Rattle.um_elim.proofs.RenamedUnits.{held-member}
 use Rattle.um_elim.proofs.GrowingOrder.{All-front, All-back, All-member, All-from_below}
 
 -- ---- substitutions that stay below
-own_below : (n k : ℕ) → k < n → VariablesBelow n (atom (Var k))
+pub own_below : (n k : ℕ) → k < n → VariablesBelow n (atom (Var k))
 own_below n k h = VariablesBelow-more (k + 1) n (atom (Var k)) (omega (arith, h)) (VariablesBelow-variable k)
 
 one_below : (n : ℕ) → VariablesBelow n one
 one_below n = VariablesBelow-closed n one IsClosed-one
 
-quotients_below : (n m p : ℕ) (r : PowerMap) → VariablesBelow n r → VariablesBelow n (quotients m p r)
+pub quotients_below : (n m p : ℕ) (r : PowerMap) → VariablesBelow n r → VariablesBelow n (quotients m p r)
 quotients_below n m p r below k held = below k (λ z. held (power_of-quotients m p r (Var k) ∙ ap (less m p (Var k)) z ∙ less-zero m p (Var k)))
 
-upright_below : (n : ℕ) (a : ℤ) (r : PowerMap) → VariablesBelow n r → VariablesBelow n (upright a r)
+pub upright_below : (n : ℕ) (a : ℤ) (r : PowerMap) → VariablesBelow n r → VariablesBelow n (upright a r)
 upright_below n (pos a) r below = below
 upright_below n (negsuc a) r below = VariablesBelow-inv n r below
 
 -- each variable below n becomes a unit whose variables are below n
-abbrev Stays : ℕ → (ℕ → PowerMap) → Type 0
+abbrev pub Stays : ℕ → (ℕ → PowerMap) → Type 0
 Stays n s = (k : ℕ) → k < n → VariablesBelow n (s k)
 
 substitute_stays : (n m : ℕ) (w : PowerMap) → VariablesBelow n w → Stays n (substitute m w)
@@ -49,7 +49,7 @@ turn_stays : (n m p : ℕ) (r : PowerMap) → m < n → VariablesBelow n r → S
 turn_stays n m p r h below =
     substitute_stays n m (mul (atom (Var m)) (quotients m p r)) (VariablesBelow-mul n (atom (Var m)) (quotients m p r) (own_below n m h) (quotients_below n m p r below))
 
-replaced_below : (n : ℕ) (s : ℕ → PowerMap) → Stays n s → (u : PowerMap) → VariablesBelow n u → VariablesBelow n (replace s u)
+pub replaced_below : (n : ℕ) (s : ℕ → PowerMap) → Stays n s → (u : PowerMap) → VariablesBelow n u → VariablesBelow n (replace s u)
 replaced_below n s stays u below = VariablesBelow-replace n s u (λ j held. stays j (below j held))
 
 all_replaced_below : (n : ℕ) (s : ℕ → PowerMap) → Stays n s → (us : List PowerMap) → All (VariablesBelow n) us → All (VariablesBelow n) (map (replace s) us)

@@ -9,3 +9,4 @@ pub mod Adding
 pub mod Application
 pub mod Numbering
 pub mod Order
+pub mod Index

@@ -1,7 +1,8 @@
 -- What one turn of the code leaves, against the elimination.
 -- Source: this project's own.
-use Rattle.std.specs.Prelude.{◌≡◌, ◌<◌, List}
+use Rattle.std.specs.Prelude.{◌≡◌, ℕ, ◌<◌, List}
 use Rattle.um_units.specs.PowerMap.{PowerMap}
+use Rattle.um_units.specs.Variables.{VariablesBelow}
 use Rattle.um_elim.specs.declared.turn.Step.{Step}
 use Rattle.um_elim.specs.declared.turn.Step.TheVariants.{Again, Ended}
 use Rattle.um_elim.specs.declared.stop.ElimStop.{ElimStop}
@@ -30,3 +31,8 @@ StopsAs outcome stop.NoSolution = outcome ≡ NoSolution
 StopsAs outcome stop.Range = outcome ≡ Range
 StopsAs outcome stop.Spent = ⊥
 StopsAs outcome stop.NoMemory = Unit {0}
+
+-- the variables of the unit that is left are below n
+abbrev pub LeavesBelow : ℕ → Step → Type 0
+LeavesBelow n (Again left) = VariablesBelow n left
+LeavesBelow n Ended = Unit {0}

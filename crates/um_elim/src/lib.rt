@@ -7,6 +7,7 @@
 #![tactic(auto)]
 
 mod application;
+mod index;
 mod numbering;
 mod pivot;
 mod solver;

@@ -1,6 +1,8 @@
 //! The solver: it takes rows one by one and keeps their most general solution.
 
-ghost use Rattle.std.specs.Prelude.{◌≡◌, ◌≤◌, [], length, All, IfOk, OnOk, MatchResult};
+ghost use Rattle.std.specs.Prelude.{◌≡◌, ◌≤◌, [], ◌∷◌, length, map, All, IfOk, OnOk, MatchResult};
+ghost use Rattle.std.specs.List.{range_with_len};
+ghost use Rattle.um_elim.specs.Index.{IsIndex};
 ghost use Rattle.um_units.specs.Variables.{VariablesBelow};
 ghost use Rattle.um_tree.specs.TypeTree.{type_tree};
 ghost use Rattle.um_elim.specs.Application.{IsApplied, VariablesAreBelow};
@@ -12,6 +14,7 @@ ghost use Rattle.um_elim.specs.Steps.{StopsAs};
 
 use crate::ElimStop;
 use crate::application::put_in_type;
+use crate::index::SlotList;
 use crate::turn::{Step, take_turn};
 use std::alloc::Global;
 use std::marker::Model;
@@ -22,6 +25,7 @@ use um_units::{Atom, NoMemory, Unit};
 #[derive(Drop)]
 pub struct Solver {
     units: Vec<Unit>,
+    index: Vec<SlotList>,
     spent: bool,
 }
 
@@ -32,7 +36,12 @@ impl Model for Solver {
 
     ghost coded = { solution_code };
 
+    ghost use Rattle.std.specs.Prelude.{◌≡◌, false};
+    ghost use Rattle.um_elim.specs.Index.{IsIndex};
+
     ghost view = { λ solver. record { units = solver.units.items; spent = solver.spent } };
+
+    ghost invariant = { λ solver. solver.spent ≡ false → IsIndex solver.units.items solver.index.items };
 }
 
 impl Solver {
@@ -44,8 +53,10 @@ impl Solver {
         ensures variables { IfOk result (λ solver. All (VariablesBelow slots) solver.units) }
     {
         let units = own_units(alloc, slots)?;
+        let index = own_index(alloc, slots)?;
         Ok(Solver {
             units,
+            index,
             spent: false,
         })
     }
@@ -68,7 +79,7 @@ impl Solver {
             return Err(ElimStop::Spent);
         }
         self.spent = true;
-        eliminate_row(alloc, &mut self.units, row)?;
+        eliminate_row(alloc, &mut self.units, &mut self.index, row)?;
         self.spent = false;
         Ok(())
     }
@@ -98,14 +109,33 @@ fn own_units(alloc: Global, slots: u32) -> Result<Vec<Unit>, NoMemory>
     Ok(units)
 }
 
+/// Each variable stands in the unit of its own slot.
+fn own_index(alloc: Global, slots: u32) -> Result<Vec<SlotList>, NoMemory>
+    ensures { IfOk result (λ index. index.items ≡ map (λ k. k ∷ []) (range_with_len 0 slots)) }
+{
+    let mut index = Vec::new(alloc);
+    for slot in 0..slots {
+        index.push(SlotList::single(alloc, slot)?)?;
+    }
+    Ok(index)
+}
+
 /// The elimination of a row, which changes the units of the slots.
-fn eliminate_row(alloc: Global, units: &mut Vec<Unit>, row: &Unit) -> Result<(), ElimStop>
+fn eliminate_row(
+    alloc: Global,
+    units: &mut Vec<Unit>,
+    index: &mut Vec<SlotList>,
+    row: &Unit,
+) -> Result<(), ElimStop>
+    requires indexed { IsIndex units.old.items index.old.items }
+    requires variables { VariablesBelow (length units.old.items) row.now }
     ensures outcome { MatchResult result (λ _. eliminate units.old.items row.now ≡ Solved units.new.items) (StopsAs (eliminate units.old.items row.now)) }
     ensures slots { length units.new.items ≡ length units.old.items }
+    ensures indexed { OnOk result (IsIndex units.new.items index.new.items) }
 {
     let mut r = row.replace(alloc, units)?;
     loop {
-        match take_turn(alloc, units, &r)? {
+        match take_turn(alloc, units, index, &r)? {
             Step::Again(left) => r = left,
             Step::Ended => return Ok(()),
         }

@@ -10,9 +10,12 @@ ghost use Rattle.um_units.specs.Range.{all_in_range, fits, in_range, RangeUnless
 ghost use Rattle.um_units.specs.declared.UnitStop.TheVariants.{NoMemory};
 ghost use Rattle.um_elim.specs.Pivot.{is_base, is_other};
 ghost use Rattle.um_elim.specs.Turn.{less_quotient, multiply, quotients, substitute, upright};
-ghost use Rattle.um_elim.specs.Steps.{IsTurn, StopsTurn};
+ghost use Rattle.um_elim.specs.Steps.{IsTurn, LeavesBelow, StopsTurn};
+ghost use Rattle.um_elim.specs.Index.{IsIndex};
+ghost use Rattle.um_units.specs.Variables.{VariablesBelow};
 
 use crate::ElimStop;
+use crate::index::{SlotList, multiply_holders};
 use crate::pivot::pivot_of;
 use std::alloc::{AllocError, Global};
 use um_units::{Atom, Term, Unit, UnitStop};
@@ -25,10 +28,19 @@ pub enum Step {
     Ended,
 }
 
-/// A turn at the pivot of r, which changes the units of the slots.
-pub fn take_turn(alloc: Global, units: &mut Vec<Unit>, r: &Unit) -> Result<Step, ElimStop>
+/// A turn at the pivot of r, which changes the units of the slots that hold it.
+pub fn take_turn(
+    alloc: Global,
+    units: &mut Vec<Unit>,
+    index: &mut Vec<SlotList>,
+    r: &Unit,
+) -> Result<Step, ElimStop>
+    requires indexed { IsIndex units.old.items index.old.items }
+    requires variables { VariablesBelow (length units.old.items) r.now }
     ensures outcome { MatchResult result (IsTurn units.old.items r.now units.new.items) (StopsTurn units.old.items r.now) }
     ensures slots { length units.new.items ≡ length units.old.items }
+    ensures indexed { OnOk result (IsIndex units.new.items index.new.items) }
+    ensures variables { IfOk result (LeavesBelow (length units.old.items)) }
 {
     let Some(pivot) = pivot_of(r.terms()) else {
         if r.terms().is_empty() {
@@ -39,7 +51,7 @@ pub fn take_turn(alloc: Global, units: &mut Vec<Unit>, r: &Unit) -> Result<Step,
     let upright = made_upright(alloc, r, pivot.power)?;
     let factor = quotients_of(alloc, &upright, pivot.variable, absolute(pivot.power))?;
     let left = multiplied(alloc, &upright, pivot.variable, &factor)?;
-    multiply_each(alloc, units, pivot.variable, &factor)?;
+    multiply_holders(alloc, units, index, pivot.variable, &factor)?;
     if has_other_variable(left.terms(), pivot.variable) {
         return Ok(Step::Again(left));
     }
@@ -47,7 +59,7 @@ pub fn take_turn(alloc: Global, units: &mut Vec<Unit>, r: &Unit) -> Result<Step,
         return Err(ElimStop::NoSolution);
     }
     let inverse = Unit::atom(alloc, Atom::Var(pivot.variable))?.inv(alloc)?;
-    multiply_each(alloc, units, pivot.variable, &inverse)?;
+    multiply_holders(alloc, units, index, pivot.variable, &inverse)?;
     Ok(Step::Ended)
 }
 
@@ -110,37 +122,12 @@ fn negated_quotient(term: Term, m: u32, p: i32) -> Term
 }
 
 /// The unit with variable m times w put for variable m.
-fn multiplied(alloc: Global, unit: &Unit, m: u32, w: &Unit) -> Result<Unit, UnitStop>
+pub fn multiplied(alloc: Global, unit: &Unit, m: u32, w: &Unit) -> Result<Unit, UnitStop>
     ensures exact { IfOk result (λ u. u ≡ replace (multiply m w.now) unit.now) }
     ensures range { RangeUnless result (fits (replace (multiply m w.now) unit.now)) }
 {
     let power = unit.power_of(Atom::Var(m));
     unit.mul_pow(alloc, w, power)
-}
-
-/// Variable m times w is put for variable m in each unit.
-fn multiply_each(alloc: Global, units: &mut Vec<Unit>, m: u32, w: &Unit) -> Result<(), UnitStop>
-    ensures exact { OnOk result (units.new.items ≡ map (replace (multiply m w.now)) units.old.items) }
-    ensures range { RangeUnless result (list_all fits (map (replace (multiply m w.now)) units.old.items)) }
-    ensures slots { length units.new.items ≡ length units.old.items }
-{
-    let mut i = 0;
-    while i < units.len() {
-        multiply_unit(alloc, &mut units[i], m, w)?;
-        i += 1;
-    }
-    Ok(())
-}
-
-/// Variable m times w is put for variable m. A unit without the variable is left as it is, and takes no memory.
-fn multiply_unit(alloc: Global, unit: &mut Unit, m: u32, w: &Unit) -> Result<(), UnitStop>
-    ensures exact { OnOk result (unit.new ≡ replace (multiply m w.now) unit.old) }
-    ensures range { RangeUnless result (fits (replace (multiply m w.now) unit.old)) }
-{
-    if unit.power_of(Atom::Var(m)) != 0 {
-        *unit = multiplied(alloc, unit, m, w)?;
-    }
-    Ok(())
 }
 
 /// Whether a variable other than m stands in the terms.

@@ -1,9 +1,12 @@
-use Rattle.std.proofs.Common.{◌∙◌, subst}
+use Rattle.std.proofs.Common.{◌≡◌, ◌∙◌, true, cond, suc, refl, ap, subst, sym, length}
+use Rattle.um_units.specs.Variables.{VariablesBelow}
+use Rattle.um_units.proofs.Variables.{VariablesBelow-replace_nth}
 use Rattle.std.proofs.lemmas.Result.{err_from_is_err_and}
 use Rattle.um_units.specs.PowerMap.{replace, nth}
 use Rattle.um_units.specs.Range.{fits, IsStopUnless}
-use Rattle.um_elim.specs.Elimination.{eliminate}
-use Rattle.um_elim.specs.Steps.{IsTurn}
+use Rattle.um_elim.specs.Pivot.{least_power}
+use Rattle.um_elim.specs.Elimination.{Range, turns, eliminate}
+use Rattle.um_elim.specs.Steps.{IsTurn, LeavesBelow}
 use Rattle.um_elim.proofs.TurnSteps.{first_stops, turn_goes_on}
 use Rattle.um_elim.proofs.solver.eliminate_row.Goals as goal
 
@@ -19,4 +22,20 @@ loop-r-preserved c =
     record {
       same = turn_goes_on c.loop-r.units.items c.take_turn.new.units.items c.loop-r.r c.in-Again.left (eliminate c.args.units.now.items c.args.row.now) c.loop-r.invariant.same w.0 w.1;
       slots = c.take_turn.ensures.slots ∙ c.loop-r.invariant.slots;
+      indexed = c.in_ok-left.ensures.indexed;
+      variables = subst (λ n. VariablesBelow n c.in-Again.left) (sym c.take_turn.ensures.slots) (subst (LeavesBelow (length c.loop-r.units.items)) c.in-Again.is c.in_ok-left.ensures.variables);
+    }
+
+pub loop-r-init : goal.loop-r-init
+loop-r-init c =
+    let us = c.args.units.now.items in
+    let row = c.args.row.now in
+    let r = replace (nth us) row in
+    let exact : c.in_ok-r.r ≡ r = c.in_ok-r.ensures.exact ∙ ap (λ vs. replace (nth vs) row) c.deref.ensures.value in
+    let fit : fits r ≡ true = ap (λ vs. fits (replace (nth vs) row)) (sym c.deref.ensures.value) ∙ c.in_ok-r.ensures.range in
+    record {
+      same = ap (λ u. turns (suc (least_power u)) us u) exact ∙ sym (ap (λ b. cond b (turns (suc (least_power r)) us r) Range) fit);
+      slots = refl;
+      indexed = c.requires.indexed;
+      variables = subst (VariablesBelow (length us)) (sym exact) (VariablesBelow-replace_nth (length us) us row c.requires.indexed.variables c.requires.variables);
     }
