@@ -1,0 +1,48 @@
+use Rattle.std.proofs.Common.{map, ap, ◌∙◌, subst, Ok}
+use Rattle.std.proofs.lemmas.Result.{err_from_is_err_and}
+use Rattle.um_tree.specs.ExprTree.{expr_tree, in_order}
+use Rattle.um_tree.specs.RawTree.{FieldPart, expr_text, field_part}
+use Rattle.um_names.specs.Faults.{and_then}
+use Rattle.um_names.specs.Stops.{IsFirst}
+use Rattle.um_names.specs.Tables.{known_of}
+use Rattle.um_names.specs.ExprNames.{Scope}
+use Rattle.um_names.specs.Bodies.{resolved_in, callables_of}
+use Rattle.um_names.proofs.Stages.{stage_stops, stage_ends}
+use Rattle.um_names.proofs.BodyLists.{exprs_each, parts_each, exprs_first, parts_first}
+use Rattle.um_names.proofs.expr.+expr.Goals as goal
+
+pub exprs-returns-clause-exact : goal.exprs-returns-clause-exact
+exprs-returns-clause-exact t c =
+    let a = c.args in
+    exprs_each (known_of a.tables.now) a.body.now.variables (callables_of a.tables.now a.body.now) a.scope.now (map expr_text a.items.now)
+    ∙ ap (λ r. and_then r (λ bs. Ok (in_order bs)))
+    (stage_ends (resolved_in a.tables.now a.body.now a.scope.now) expr_text a.items.now (map expr_tree c.loop-i.es.items) c.loop-i.i c.loop-i.invariant.done c.loop-i-test.false)
+
+pub exprs-returns-in_err-expr-clause-faults : goal.exprs-returns-in_err-expr-clause-faults
+exprs-returns-in_err-expr-clause-faults t c =
+    let a = c.args in
+    let p = err_from_is_err_and c.from_residual.result c.from_residual.ensures.1 in
+    let stop = c.in_err-expr.field-0.0 in
+    let x = c.index-items-i.result in
+    let here = subst (λ (s : Scope). IsFirst (resolved_in a.tables.now a.body.now s (expr_text x)) stop) c.loop-i.invariant.scope c.in_err-expr.ensures.faults in
+    rw (p.1, p.2)
+    (exprs_first (known_of a.tables.now) a.body.now.variables (callables_of a.tables.now a.body.now) a.scope.now (map expr_text a.items.now) stop
+    (stage_stops (resolved_in a.tables.now a.body.now a.scope.now) expr_text a.items.now (map expr_tree c.loop-i.es.items) c.loop-i.i x stop c.loop-i.invariant.done c.loop-i-test.true c.index-items-i.is here))
+
+pub parts-returns-clause-exact : goal.parts-returns-clause-exact
+parts-returns-clause-exact t c =
+    let a = c.args in
+    parts_each (known_of a.tables.now) a.body.now.variables (callables_of a.tables.now a.body.now) a.scope.now (map field_part a.fields.now)
+    ∙ ap (λ r. and_then r (λ bs. Ok (in_order bs)))
+    (stage_ends (λ (p : FieldPart). resolved_in a.tables.now a.body.now a.scope.now p.part) field_part a.fields.now (map expr_tree c.loop-i.es.items) c.loop-i.i c.loop-i.invariant.done c.loop-i-test.false)
+
+pub parts-returns-in_err-field_value-clause-faults : goal.parts-returns-in_err-field_value-clause-faults
+parts-returns-in_err-field_value-clause-faults t c =
+    let a = c.args in
+    let p = err_from_is_err_and c.from_residual.result c.from_residual.ensures.1 in
+    let stop = c.in_err-field_value.field-0.0 in
+    let x = c.index-fields-i.result in
+    let here = subst (λ (s : Scope). IsFirst (resolved_in a.tables.now a.body.now s (field_part x).part) stop) c.loop-i.invariant.scope c.in_err-field_value.ensures.faults in
+    rw (p.1, p.2)
+    (parts_first (known_of a.tables.now) a.body.now.variables (callables_of a.tables.now a.body.now) a.scope.now (map field_part a.fields.now) stop
+    (stage_stops (λ (p : FieldPart). resolved_in a.tables.now a.body.now a.scope.now p.part) field_part a.fields.now (map expr_tree c.loop-i.es.items) c.loop-i.i x stop c.loop-i.invariant.done c.loop-i-test.true c.index-fields-i.is here))

@@ -1,0 +1,23 @@
+-- Expressions in the body of a function, by what the code knows there.
+-- Source: this project's own.
+use Rattle.std.specs.Prelude.{List}
+use Rattle.um_tree.specs.ExprTree.{ExprTree, ExprTrees}
+use Rattle.um_tree.specs.RawTree.{ExprText, ExprTexts, FieldTexts}
+use Rattle.um_names.specs.declared.known.Tables.{Tables}
+use Rattle.um_names.specs.declared.callable.Callable.{Callable}
+use Rattle.um_names.specs.declared.expr.Body.{Body}
+use Rattle.um_names.specs.Faults.{Found}
+use Rattle.um_names.specs.ExprNames.{Scope, resolved_expr, resolved_exprs, resolved_parts}
+use Rattle.um_names.specs.Tables.{known_of, callables_in}
+
+abbrev pub callables_of : Tables → Body → List Callable
+callables_of t b = callables_in (known_of t) b.own
+
+abbrev pub resolved_in : Tables → Body → Scope → ExprText → Found ExprTree
+resolved_in t b scope e = resolved_expr (known_of t) b.variables (callables_of t b) scope e
+
+abbrev pub resolved_all_in : Tables → Body → Scope → ExprTexts → Found ExprTrees
+resolved_all_in t b scope es = resolved_exprs (known_of t) b.variables (callables_of t b) scope es
+
+abbrev pub resolved_parts_in : Tables → Body → Scope → FieldTexts → Found ExprTrees
+resolved_parts_in t b scope fs = resolved_parts (known_of t) b.variables (callables_of t b) scope fs

@@ -1,0 +1,393 @@
+//! The expressions of expression texts.
+
+ghost use Rattle.std.specs.Prelude.{◌≡◌, ◌∷◌, ◌++◌, [], Ok, IfOk, IfErr, OnOk, map, length};
+ghost use Rattle.um_tree.specs.ExprTree.{expr_tree, in_order};
+ghost use Rattle.um_tree.specs.RawTree.{written_note, expr_text, exprs_in_order, field_part, fields_in_order};
+ghost use Rattle.um_names.specs.ExprNames.{resolved_literal, resolved_fields, known_fields, same_binding, found_field, field_of, length_of, named, called, local_of};
+ghost use Rattle.um_names.specs.Faults.{unless_taken};
+ghost use Rattle.um_names.specs.Bodies.{resolved_in, resolved_all_in, resolved_parts_in, callables_of};
+ghost use Rattle.um_names.specs.Stops.{IsFirst};
+ghost use Rattle.um_names.specs.Tables.{AreTables, known_of};
+
+use crate::callable::{Callable, FieldNumber};
+use crate::known::Tables;
+use crate::scope::{Scope, same};
+use crate::stop::NameStop;
+use crate::table::NameTable;
+use crate::types::note;
+use std::alloc::Global;
+use std::boxed::Box;
+use um_frac::Frac;
+use um_tree::{Binder, Expr, Exprs, Name, Node, RawExpr, RawField, RawNode, RawNote, UnitNote};
+use um_units::Unit;
+
+/// A number with its unit: a hole stands on 0 alone, and a written unit is closed.
+fn literal(
+    alloc: Global,
+    tables: &Tables,
+    at: u32,
+    number: Frac,
+    note: &Option<RawNote>,
+) -> Result<Expr, NameStop>
+    requires { AreTables tables.now }
+    ensures exact { IfOk result (λ e. resolved_literal (known_of tables.now) at number (written_note note.now) ≡ Ok (expr_tree e)) }
+    ensures faults { IfErr result (IsFirst (resolved_literal (known_of tables.now) at number (written_note note.now))) }
+{
+    let unit = match note {
+        None => UnitNote::Written(Unit::one(alloc)),
+        Some(RawNote::Hole(_)) if number.num() == 0 => UnitNote::Hole,
+        Some(RawNote::Hole(_)) => return Err(NameStop::Hole { at }),
+        Some(RawNote::Unit(_, unit)) => {
+            UnitNote::Written(tables.unit(alloc, &NameTable::new(alloc), unit)?)
+        }
+    };
+    Ok(Expr {
+        at,
+        node: Node::Num(number, unit),
+    })
+}
+
+/// What is known in the body of a function beside the declarations before it: the unit variables of its notes, and
+/// the function itself where it is `rec`.
+#[derive(Drop)]
+pub struct Body {
+    pub variables: NameTable,
+    pub own: Option<Callable>,
+}
+
+/// A name without arguments: a variable, or a function without parameters.
+fn name_alone(
+    alloc: Global,
+    tables: &Tables,
+    body: &Body,
+    scope: &Scope,
+    at: u32,
+    name: &Name,
+) -> Result<Expr, NameStop>
+    requires { AreTables tables.now }
+    ensures exact { IfOk result (λ e. named (callables_of tables.now body.now) (local_of scope.now name.now) name.now at ≡ Ok (expr_tree e)) }
+    ensures faults { IfErr result (IsFirst (named (callables_of tables.now body.now) (local_of scope.now name.now) name.now at)) }
+{
+    let node = match scope.local(name.as_slice()) {
+        Some(k) => Node::Local(k),
+        None => {
+            let function = tables.callable(&body.own, name.as_slice(), 0, at)?;
+            let items = Vec::new(alloc);
+            Node::Call(function, Exprs { items })
+        }
+    };
+    Ok(Expr { at, node })
+}
+
+/// The number of a function that is called; a variable takes no arguments.
+fn called(
+    tables: &Tables,
+    body: &Body,
+    scope: &Scope,
+    at: u32,
+    name: &Name,
+    arguments: usize,
+) -> Result<u32, NameStop>
+    requires { AreTables tables.now }
+    ensures exact { IfOk result (λ j. called (callables_of tables.now body.now) (local_of scope.now name.now) name.now arguments at ≡ Ok j) }
+    ensures faults { IfErr result (IsFirst (called (callables_of tables.now body.now) (local_of scope.now name.now) name.now arguments at)) }
+{
+    match scope.local(name.as_slice()) {
+        Some(_) => Err(NameStop::WrongCount { at }),
+        None => tables.callable(&body.own, name.as_slice(), arguments, at),
+    }
+}
+
+/// The field that is accessed.
+fn accessed(tables: &Tables, name: &Name, place: u32) -> Result<FieldNumber, NameStop>
+    requires { AreTables tables.now }
+    ensures exact { IfOk result (λ f. found_field (field_of (known_of tables.now).program.records name.now) place ≡ Ok f) }
+    ensures faults { IfErr result (IsFirst (found_field (field_of (known_of tables.now).program.records name.now) place)) }
+{
+    match tables.field(name.as_slice()) {
+        Some(field) => Ok(field),
+        None => Err(NameStop::Unknown { at: place }),
+    }
+}
+
+/// Head and tail have two names.
+fn distinct(head: &Binder, tail: &Binder) -> Result<(), NameStop>
+    ensures exact { IfOk result (λ done. unless_taken (same_binding head.now.name tail.now.name) tail.now.at ≡ Ok done) }
+    ensures faults { IfErr result (IsFirst (unless_taken (same_binding head.now.name tail.now.name) tail.now.at)) }
+{
+    if same(head, tail) {
+        return Err(NameStop::Twice { at: tail.at });
+    }
+    Ok(())
+}
+
+/// The record of which these are, in order, all the fields.
+fn record_of(tables: &Tables, fields: &[RawField], at: u32) -> Result<u32, NameStop>
+    requires { AreTables tables.now }
+    ensures exact { IfOk result (λ r. resolved_fields (known_of tables.now).program.records (fields_in_order (map field_part fields.now)) at ≡ Ok r) }
+    ensures faults { IfErr result (IsFirst (resolved_fields (known_of tables.now).program.records (fields_in_order (map field_part fields.now)) at)) }
+{
+    known_fields(tables, fields)?;
+    let [first, ..] = fields else {
+        return Err(NameStop::WrongCount { at });
+    };
+    let Some(field) = tables.field(first.name.as_slice()) else {
+        return Err(NameStop::WrongCount { at });
+    };
+    if !tables.has_fields(field.record_number, fields) {
+        return Err(NameStop::WrongCount { at });
+    }
+    Ok(field.record_number)
+}
+
+/// How many arguments there are.
+fn arity(items: &[RawExpr]) -> usize
+    ensures { result ≡ length_of (exprs_in_order (map expr_text items.now)) }
+{
+    items.len()
+}
+
+/// Each of these fields is one of some record.
+fn known_fields(tables: &Tables, fields: &[RawField]) -> Result<(), NameStop>
+    requires { AreTables tables.now }
+    ensures exact { IfOk result (λ done. known_fields (known_of tables.now).program.records (fields_in_order (map field_part fields.now)) ≡ Ok done) }
+    ensures faults { IfErr result (IsFirst (known_fields (known_of tables.now).program.records (fields_in_order (map field_part fields.now)))) }
+{
+    for field in fields {
+        if tables.field(field.name.as_slice()).is_none() {
+            return Err(NameStop::Unknown { at: field.at });
+        }
+    }
+    Ok(())
+}
+
+/// The expression of a text, in a scope.
+#[cycle(expr)]
+pub fn expr(
+    alloc: Global,
+    tables: &Tables,
+    body: &Body,
+    scope: &mut Scope,
+    e: &RawExpr,
+) -> Result<Expr, NameStop>
+    requires { AreTables tables.now }
+    ensures exact { IfOk result (λ r. resolved_in tables.now body.now scope.old (expr_text e.now) ≡ Ok (expr_tree r)) }
+    ensures faults { IfErr result (IsFirst (resolved_in tables.now body.now scope.old (expr_text e.now))) }
+    ensures scope { OnOk result (scope.new ≡ scope.old) }
+{
+    let at = e.at;
+    match &e.node {
+        RawNode::Bool(b) => Ok(Expr {
+            at,
+            node: Node::Bool(*b),
+        }),
+        RawNode::Num(number, note) => literal(alloc, tables, at, *number, note),
+        RawNode::Name(name) => name_alone(alloc, tables, body, scope, at, name),
+        RawNode::Call(name, items) => {
+            let function = called(tables, body, scope, at, name, arity(&items.items))?;
+            let items = exprs(alloc, tables, body, scope, &items.items)?;
+            let node = Node::Call(function, Exprs { items });
+            Ok(Expr { at, node })
+        }
+        RawNode::Neg(a) => {
+            let node = Node::Neg(part(alloc, tables, body, scope, a)?);
+            Ok(Expr { at, node })
+        }
+        RawNode::Not(a) => {
+            let node = Node::Not(part(alloc, tables, body, scope, a)?);
+            Ok(Expr { at, node })
+        }
+        RawNode::Arith(op, a, b) => {
+            let left = part(alloc, tables, body, scope, a)?;
+            let right = part(alloc, tables, body, scope, b)?;
+            let node = Node::Arith(*op, left, right);
+            Ok(Expr { at, node })
+        }
+        RawNode::Compare(sign, a, b) => {
+            let left = part(alloc, tables, body, scope, a)?;
+            let right = part(alloc, tables, body, scope, b)?;
+            let node = Node::Compare(*sign, left, right);
+            Ok(Expr { at, node })
+        }
+        RawNode::And(a, b) => {
+            let left = part(alloc, tables, body, scope, a)?;
+            let right = part(alloc, tables, body, scope, b)?;
+            let node = Node::And(left, right);
+            Ok(Expr { at, node })
+        }
+        RawNode::Or(a, b) => {
+            let left = part(alloc, tables, body, scope, a)?;
+            let right = part(alloc, tables, body, scope, b)?;
+            let node = Node::Or(left, right);
+            Ok(Expr { at, node })
+        }
+        RawNode::If(c, a, b) => {
+            let condition = part(alloc, tables, body, scope, c)?;
+            let yes = part(alloc, tables, body, scope, a)?;
+            let no = part(alloc, tables, body, scope, b)?;
+            let node = Node::If(condition, yes, no);
+            Ok(Expr { at, node })
+        }
+        RawNode::Let(x, a, b) => {
+            let value = part(alloc, tables, body, scope, a)?;
+            let rest = under(alloc, tables, body, scope, x, b)?;
+            let node = Node::Let(value, rest);
+            Ok(Expr { at, node })
+        }
+        RawNode::Match(l, a, x, y, b) => {
+            let list = part(alloc, tables, body, scope, l)?;
+            let empty = part(alloc, tables, body, scope, a)?;
+            distinct(x, y)?;
+            let full = under_both(alloc, tables, body, scope, x, y, b)?;
+            let node = Node::Match(list, empty, full);
+            Ok(Expr { at, node })
+        }
+        RawNode::Nil(ty) => {
+            let node = Node::Nil(note(alloc, tables, &body.variables, true, ty)?);
+            Ok(Expr { at, node })
+        }
+        RawNode::List(items) => {
+            let items = exprs(alloc, tables, body, scope, &items.items)?;
+            let node = Node::List(Exprs { items });
+            Ok(Expr { at, node })
+        }
+        RawNode::Cons(a, b) => {
+            let head = part(alloc, tables, body, scope, a)?;
+            let tail = part(alloc, tables, body, scope, b)?;
+            let node = Node::Cons(head, tail);
+            Ok(Expr { at, node })
+        }
+        RawNode::Rec(fields) => {
+            let record = record_of(tables, &fields.items, at)?;
+            let items = parts(alloc, tables, body, scope, &fields.items)?;
+            let node = Node::Rec(record, Exprs { items });
+            Ok(Expr { at, node })
+        }
+        RawNode::Field(place, name, a) => {
+            let value = part(alloc, tables, body, scope, a)?;
+            let field = accessed(tables, name, *place)?;
+            let node = Node::Field(field.record_number, field.field_number, value);
+            Ok(Expr { at, node })
+        }
+        RawNode::Bracket(a) => expr(alloc, tables, body, scope, a),
+    }
+}
+
+#[cycle(expr)]
+fn part(
+    alloc: Global,
+    tables: &Tables,
+    body: &Body,
+    scope: &mut Scope,
+    e: &RawExpr,
+) -> Result<Box<Expr>, NameStop>
+    requires { AreTables tables.now }
+    ensures exact { IfOk result (λ r. resolved_in tables.now body.now scope.old (expr_text e.now) ≡ Ok (expr_tree r.value)) }
+    ensures faults { IfErr result (IsFirst (resolved_in tables.now body.now scope.old (expr_text e.now))) }
+    ensures scope { OnOk result (scope.new ≡ scope.old) }
+{
+    let e = expr(alloc, tables, body, scope, e)?;
+    Ok(Box::new(alloc, e)?)
+}
+
+/// With one more variable.
+#[cycle(expr)]
+fn under(
+    alloc: Global,
+    tables: &Tables,
+    body: &Body,
+    scope: &mut Scope,
+    x: &Binder,
+    e: &RawExpr,
+) -> Result<Box<Expr>, NameStop>
+    requires { AreTables tables.now }
+    ensures exact { IfOk result (λ r. resolved_in tables.now body.now (scope.old ++ x.now.name ∷ []) (expr_text e.now) ≡ Ok (expr_tree r.value)) }
+    ensures faults { IfErr result (IsFirst (resolved_in tables.now body.now (scope.old ++ x.now.name ∷ []) (expr_text e.now))) }
+    ensures scope { OnOk result (scope.new ≡ scope.old) }
+{
+    let count = scope.count();
+    scope.push(alloc, x)?;
+    let e = part(alloc, tables, body, scope, e)?;
+    scope.cut(count);
+    Ok(e)
+}
+
+/// With two more variables.
+#[cycle(expr)]
+fn under_both(
+    alloc: Global,
+    tables: &Tables,
+    body: &Body,
+    scope: &mut Scope,
+    x: &Binder,
+    y: &Binder,
+    e: &RawExpr,
+) -> Result<Box<Expr>, NameStop>
+    requires { AreTables tables.now }
+    ensures exact { IfOk result (λ r. resolved_in tables.now body.now (scope.old ++ x.now.name ∷ y.now.name ∷ []) (expr_text e.now) ≡ Ok (expr_tree r.value)) }
+    ensures faults { IfErr result (IsFirst (resolved_in tables.now body.now (scope.old ++ x.now.name ∷ y.now.name ∷ []) (expr_text e.now))) }
+    ensures scope { OnOk result (scope.new ≡ scope.old) }
+{
+    let count = scope.count();
+    scope.push(alloc, x)?;
+    scope.push(alloc, y)?;
+    let e = part(alloc, tables, body, scope, e)?;
+    scope.cut(count);
+    Ok(e)
+}
+
+#[cycle(expr)]
+fn exprs(
+    alloc: Global,
+    tables: &Tables,
+    body: &Body,
+    scope: &mut Scope,
+    items: &[RawExpr],
+) -> Result<Vec<Expr>, NameStop>
+    requires { AreTables tables.now }
+    ensures exact { IfOk result (λ es. resolved_all_in tables.now body.now scope.old (exprs_in_order (map expr_text items.now)) ≡ Ok (in_order (map expr_tree es.items))) }
+    ensures faults { IfErr result (IsFirst (resolved_all_in tables.now body.now scope.old (exprs_in_order (map expr_text items.now)))) }
+    ensures scope { OnOk result (scope.new ≡ scope.old) }
+{
+    let mut es = Vec::new(alloc);
+    for i in 0..items.len() {
+        es.push(expr(alloc, tables, body, scope, &items[i])?)?;
+    }
+    Ok(es)
+}
+
+#[cycle(expr)]
+fn parts(
+    alloc: Global,
+    tables: &Tables,
+    body: &Body,
+    scope: &mut Scope,
+    fields: &[RawField],
+) -> Result<Vec<Expr>, NameStop>
+    requires { AreTables tables.now }
+    ensures exact { IfOk result (λ es. resolved_parts_in tables.now body.now scope.old (fields_in_order (map field_part fields.now)) ≡ Ok (in_order (map expr_tree es.items))) }
+    ensures faults { IfErr result (IsFirst (resolved_parts_in tables.now body.now scope.old (fields_in_order (map field_part fields.now)))) }
+    ensures scope { OnOk result (scope.new ≡ scope.old) }
+{
+    let mut es = Vec::new(alloc);
+    for i in 0..fields.len() {
+        es.push(field_value(alloc, tables, body, scope, &fields[i])?)?;
+    }
+    Ok(es)
+}
+
+#[cycle(expr)]
+fn field_value(
+    alloc: Global,
+    tables: &Tables,
+    body: &Body,
+    scope: &mut Scope,
+    field: &RawField,
+) -> Result<Expr, NameStop>
+    requires { AreTables tables.now }
+    ensures exact { IfOk result (λ r. resolved_in tables.now body.now scope.old (field_part field.now).part ≡ Ok (expr_tree r)) }
+    ensures faults { IfErr result (IsFirst (resolved_in tables.now body.now scope.old (field_part field.now).part)) }
+    ensures scope { OnOk result (scope.new ≡ scope.old) }
+{
+    expr(alloc, tables, body, scope, &field.value)
+}

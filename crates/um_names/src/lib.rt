@@ -1,0 +1,24 @@
+//! Names: the program of a raw tree, with each name that it uses found where it is declared.
+#![tactic(auto)]
+
+mod abbreviation;
+mod adding;
+mod callable;
+mod closed;
+mod declare;
+mod expr;
+mod known;
+mod measures;
+mod parts;
+mod records;
+mod scope;
+mod signature;
+mod stop;
+mod table;
+mod types;
+mod unit;
+mod variables;
+
+pub use abbreviation::{Abbreviation, Abbreviations};
+pub use closed::closed_unit;
+pub use stop::NameStop;

@@ -1,0 +1,71 @@
+//! The parts of declarations.
+
+ghost use Rattle.std.specs.Prelude.{◌≡◌, ◌∷◌, ◌++◌, [], true, Ok, IfOk, IfErr, OnOk, map};
+ghost use Rattle.um_tree.specs.TypeTree.{note_tree};
+ghost use Rattle.um_tree.specs.ProgramTree.{result_tree};
+ghost use Rattle.um_tree.specs.RawTree.{var_text, binder_text, param_text, type_text, written_type};
+ghost use Rattle.um_names.specs.Faults.{and_then};
+ghost use Rattle.um_names.specs.TypeNames.{resolved_type};
+ghost use Rattle.um_names.specs.Resolution.{resolved_parameters, unless_repeated, resolved_result};
+ghost use Rattle.um_names.specs.Stops.{IsFirst};
+ghost use Rattle.um_names.specs.Tables.{AreTables, known_of};
+
+use crate::known::Tables;
+use crate::scope::Scope;
+use crate::stop::NameStop;
+use crate::table::NameTable;
+use crate::types::note;
+use std::alloc::Global;
+use um_tree::{Note, RawParam, RawType, RawVar};
+
+/// The unit parameters of a record, each once, in the order of their numbers.
+pub fn unit_parameters(alloc: Global, raw: &[RawVar]) -> Result<NameTable, NameStop>
+    ensures exact { IfOk result (λ names. resolved_parameters [] (map var_text raw.now) ≡ Ok names) }
+    ensures faults { IfErr result (IsFirst (resolved_parameters [] (map var_text raw.now))) }
+{
+    let mut names = NameTable::new(alloc);
+    for var in raw {
+        if names.has(var.name.as_slice()) {
+            return Err(NameStop::Twice { at: var.at });
+        }
+        names.add(alloc, var.name.as_slice())?;
+    }
+    Ok(names)
+}
+
+/// The note of a parameter, whose name is looked at before its type; it is known from here on.
+pub fn param(
+    alloc: Global,
+    tables: &Tables,
+    variables: &NameTable,
+    scope: &mut Scope,
+    raw: &RawParam,
+) -> Result<Note, NameStop>
+    requires { AreTables tables.now }
+    ensures exact { IfOk result (λ n. and_then (unless_repeated scope.old (binder_text raw.now.binder)) (λ _. resolved_type (known_of tables.now) variables.now true (type_text raw.now.ty)) ≡ Ok (note_tree n)) }
+    ensures faults { IfErr result (IsFirst (and_then (unless_repeated scope.old (binder_text raw.now.binder)) (λ _. resolved_type (known_of tables.now) variables.now true (type_text raw.now.ty)))) }
+    ensures scope { OnOk result (scope.new ≡ scope.old ++ raw.now.binder.name ∷ []) }
+{
+    if scope.repeats(&raw.binder) {
+        return Err(NameStop::Twice { at: raw.binder.at });
+    }
+    scope.push(alloc, &raw.binder)?;
+    note(alloc, tables, variables, true, &raw.ty)
+}
+
+/// The note of a result, where one is written.
+pub fn result_note(
+    alloc: Global,
+    tables: &Tables,
+    variables: &NameTable,
+    raw: &Option<RawType>,
+) -> Result<Option<Note>, NameStop>
+    requires { AreTables tables.now }
+    ensures exact { IfOk result (λ n. resolved_result (known_of tables.now) variables.now (written_type raw.now) ≡ Ok (result_tree n)) }
+    ensures faults { IfErr result (IsFirst (resolved_result (known_of tables.now) variables.now (written_type raw.now))) }
+{
+    match raw {
+        None => Ok(None),
+        Some(ty) => Ok(Some(note(alloc, tables, variables, true, ty)?)),
+    }
+}

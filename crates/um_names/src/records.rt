@@ -1,0 +1,67 @@
+//! What a record adds to the tables.
+
+ghost use Rattle.std.specs.Prelude.{◌≡◌, ℕ, List, IfOk, map, length};
+ghost use Rattle.um_tree.specs.ProgramTree.{field_tree};
+ghost use Rattle.um_names.specs.Known.{number_of};
+ghost use Rattle.um_names.specs.Parts.{field_else, field_if, field_at};
+ghost use Rattle.um_names.specs.Tables.{numbered_field};
+
+use crate::callable::FieldNumber;
+use crate::table::NameTable;
+use std::alloc::{AllocError, Global};
+use um_tree::FieldDecl;
+
+/// The fields of all records, by name.
+#[derive(Drop)]
+pub struct FieldTable {
+    pub names: NameTable,
+    pub numbers: Vec<FieldNumber>,
+}
+
+/// With one more field, which is hidden where its name is known.
+fn with_field(
+    alloc: Global,
+    table: FieldTable,
+    name: &[u8],
+    number: FieldNumber,
+) -> Result<FieldTable, AllocError>
+    requires counts { length table.names ≡ length table.numbers.items }
+    ensures counts { IfOk result (λ t. length t.names ≡ length t.numbers.items) }
+    ensures fields { IfOk result (λ t. (x : List ℕ) → numbered_field t.numbers.items (number_of t.names x) ≡ field_else (numbered_field table.numbers.items (number_of table.names x)) (field_if x name.now number)) }
+{
+    if table.names.has(name) {
+        return Ok(table);
+    }
+    let FieldTable {
+        mut names,
+        mut numbers,
+    } = table;
+    names.add(alloc, name)?;
+    numbers.push(number)?;
+    Ok(FieldTable { names, numbers })
+}
+
+/// With the fields of one more record.
+pub fn with_fields(
+    alloc: Global,
+    table: FieldTable,
+    record_number: u32,
+    fields: &[FieldDecl],
+) -> Result<FieldTable, AllocError>
+    requires counts { length table.names ≡ length table.numbers.items }
+    ensures counts { IfOk result (λ t. length t.names ≡ length t.numbers.items) }
+    ensures fields { IfOk result (λ t. (x : List ℕ) → numbered_field t.numbers.items (number_of t.names x) ≡ field_else (numbered_field table.numbers.items (number_of table.names x)) (field_at record_number (number_of (map (λ f. f.name) (map field_tree fields.now)) x))) }
+{
+    if fields.len() >= u32::MAX as usize {
+        return Err(AllocError);
+    }
+    let mut all = table;
+    for i in 0..fields.len() {
+        let number = FieldNumber {
+            record_number,
+            field_number: i as u32,
+        };
+        all = with_field(alloc, all, fields[i].name.as_slice(), number)?;
+    }
+    Ok(all)
+}

@@ -1,0 +1,256 @@
+-- The least height of a declaration that the tokens begin: it is that of the completion, no token lowers it, and what is found has it.
+use Rattle.std.proofs.Common.{◌≡◌, ◌≢◌, ℕ, ◌+◌, ◌≤◌, max, List, [], ◌∷◌, ◌++◌, Bool, true, false, Option, Some, None, refl, sym, ap, subst, ◌∙◌, arith}
+use Rattle.um_syntax.specs.declared.token.Token.{Token}
+use Rattle.um_tree.specs.declared.expression.Sign.TheVariants as compare
+use Rattle.um_tree.specs.RawTree.{UnitText, TypeText, bool_text, BinderText, ExprText, VarText, FieldDeclText, ParamText, DeclText, base_text, short_text, record_decl_text, function_text}
+use Rattle.um_tree.specs.Heights.{unit_height}
+use Rattle.um_types.specs.UnitMachine.{State as UnitState, Need as NeedUnit, Have as HaveUnit, Raised, Lowered, Refused as NoUnit, finish as unit_finish}
+use Rattle.um_types.specs.UnitLeast.{least}
+use Rattle.um_types.specs.TypeHeights.{whole_height}
+use Rattle.um_types.specs.TypeMachine.{TypeState, NeedType, HaveType, NoType, type_step, type_finish, type_least}
+use Rattle.um_types.specs.TypeMachine.{InNote as InTypeNote}
+use Rattle.um_types.proofs.UnitHeights.{completed_height, run_up, found_height}
+use Rattle.um_types.proofs.UnitNested.{unit_step}
+use Rattle.um_types.proofs.TypeLaws.{type_completed, type_completed_height, type_up, type_found_height}
+use Rattle.um_parse.specs.declared.mark.Mark.TheVariants as mark
+use Rattle.um_parse.specs.declared.mark.Infix.TheVariants as between
+use Rattle.um_parse.specs.ExprTokens.{ExprToken, name, variable, number, truth, hole, operator, plain, expr_token}
+use Rattle.um_parse.specs.ExprMachine.{State, Need, Have, Greater, Inside, InNote, InType, Refused, step, finish}
+use Rattle.um_parse.specs.ExprLeast.{whole_least}
+use Rattle.um_parse.specs.ProgramHeights.{whole_expr_height, fields_height, params_height, result_height, decl_height}
+use Rattle.um_parse.specs.ProgramLeast.{decl_place_least, decl_least}
+use Rattle.um_parse.specs.DeclMachine.{DeclPlace, DeclBegin, AttributeWord, AttributeGreater, AttributeClose, MeasureType, MeasureName, RecordName, RecordVars, VarBegin, VarWord, VarGreater, VarClose, VarName, VarEnd, RecordEqual, RecordBrace, FieldName, FieldColon, LetName, RecName, Params, ParamBinder, ParamColon, DeclState, AtPlace, HaveBase, InShort, HaveRecord, InField, InParam, InResult, InBody, NoDecl, body_begins, at_place, base_after, field_ends, param_ends, result_ends, short_goes, field_goes, param_goes, result_goes, body_goes, decl_step, short_found, body_found, decl_finish}
+use Rattle.um_parse.proofs.ExprHeights.{expr_completed_height, expr_up, expr_found_height}
+use Rattle.um_parse.proofs.DeclStands.{DeclStands}
+use Rattle.um_parse.proofs.DeclEndings.{place_completed, decl_completed}
+
+fields_last : (fs : List FieldDeclText) (f : FieldDeclText) → fields_height (fs ++ f ∷ []) ≡ max (fields_height fs) (whole_height f.type)
+fields_last [] f = omega arith
+fields_last (g ∷ gs) f = let e = fields_last gs f in omega (arith, e)
+
+params_last : (ps : List ParamText) (p : ParamText) → params_height (ps ++ p ∷ []) ≡ max (params_height ps) (whole_height p.type)
+params_last [] p = omega arith
+params_last (q ∷ qs) p = let e = params_last qs p in omega (arith, e)
+
+-- ---- the completion
+
+place_height : (place : DeclPlace) → decl_height (place_completed place) ≡ decl_place_least place
+place_height DeclBegin = refl
+place_height AttributeWord = refl
+place_height AttributeGreater = refl
+place_height AttributeClose = refl
+place_height MeasureType = refl
+place_height MeasureName = refl
+place_height RecordName = omega arith
+place_height (RecordVars at x) = omega arith
+place_height (VarBegin at x vs) = omega arith
+place_height (VarWord at x vs) = omega arith
+place_height (VarGreater at x vs) = omega arith
+place_height (VarClose at x vs) = omega arith
+place_height (VarName at x vs) = omega arith
+place_height (VarEnd at x vs) = omega arith
+place_height (RecordEqual at x vs) = omega arith
+place_height (RecordBrace at x vs) = omega arith
+place_height (FieldName at x vs fs) = let e = fields_last fs (record { at = 0; name = []; type = bool_text }) in omega (arith, e)
+place_height (FieldColon at x vs fs place y) = let e = fields_last fs (record { at = place; name = y; type = bool_text }) in omega (arith, e)
+place_height LetName = omega arith
+place_height RecName = omega arith
+place_height (Params recursive at x ps) = omega arith
+place_height (ParamBinder recursive at x ps) = let e = params_last ps (record { binder = record { at = 0; name = None }; type = bool_text }) in omega (arith, e)
+place_height (ParamColon recursive at x ps b) = let e = params_last ps (record { binder = b; type = bool_text }) in omega (arith, e)
+
+pub decl_completed_height : (st : DeclState) (tokens rest : List Token) → DeclStands st tokens rest → st ≢ NoDecl → decl_height (decl_completed st) ≡ decl_least st
+decl_completed_height (AtPlace place) tokens rest h ok = place_height place
+decl_completed_height (HaveBase at x) tokens rest h ok = refl
+decl_completed_height (InShort at x u) tokens rest h ok = completed_height u h.7
+decl_completed_height (HaveRecord at x vs fs) tokens rest h ok = refl
+decl_completed_height (InField at x vs fs place y s) tokens rest h ok =
+    let e = fields_last fs (record { at = place; name = y; type = type_completed s }) in
+    let t : whole_height (type_completed s) ≡ type_least s = type_completed_height s h.3 rest h.8 h.10 in
+    omega (arith, e, t)
+decl_completed_height (InParam recursive at x ps b s) tokens rest h ok =
+    let e = params_last ps (record { binder = b; type = type_completed s }) in
+    let t : whole_height (type_completed s) ≡ type_least s = type_completed_height s h.3 rest h.8 h.10 in
+    omega (arith, e, t)
+decl_completed_height (InResult recursive at x ps s) tokens rest h ok =
+    let t : whole_height (type_completed s) ≡ type_least s = type_completed_height s h.1 rest h.4 h.6 in
+    omega (arith, t)
+decl_completed_height (InBody recursive at x ps r e) tokens rest h ok =
+    let t = expr_completed_height e h.2 rest h.6 h.9 in
+    omega (arith, t)
+decl_completed_height NoDecl tokens rest h ok = absurd (ok refl)
+
+-- ---- a token never lowers it
+
+abbrev Above : ℕ → DeclState → Type 0
+Above n NoDecl = Unit {0}
+Above n (AtPlace place) = n ≤ decl_least (AtPlace place)
+Above n (HaveBase at x) = n ≤ decl_least (HaveBase at x)
+Above n (InShort at x u) = n ≤ decl_least (InShort at x u)
+Above n (HaveRecord at x vs fs) = n ≤ decl_least (HaveRecord at x vs fs)
+Above n (InField at x vs fs place y s) = n ≤ decl_least (InField at x vs fs place y s)
+Above n (InParam recursive at x ps b s) = n ≤ decl_least (InParam recursive at x ps b s)
+Above n (InResult recursive at x ps s) = n ≤ decl_least (InResult recursive at x ps s)
+Above n (InBody recursive at x ps r e) = n ≤ decl_least (InBody recursive at x ps r e)
+
+body_up : (recursive : Bool) (at : ℕ) (x : List ℕ) (ps : List ParamText) → Above (max (params_height ps) 1) (body_begins recursive at x ps)
+body_up true at x ps = tt
+body_up false at x ps = omega arith
+
+place_up : (place : DeclPlace) (what : ExprToken) (at : ℕ) → Above (decl_place_least place) (at_place place what at)
+place_up DeclBegin (plain mark.AttributeOpen) at = omega arith
+place_up DeclBegin (plain mark.Type) at = omega arith
+place_up DeclBegin (plain mark.Let) at = omega arith
+place_up AttributeWord (plain mark.Measure) at = omega arith
+place_up AttributeGreater (operator (between.Compare compare.Gt)) at = omega arith
+place_up AttributeClose (plain mark.ListClose) at = omega arith
+place_up MeasureType (plain mark.Type) at = omega arith
+place_up MeasureName (name x) at = omega arith
+place_up RecordName (name x) at = omega arith
+place_up (RecordVars p x) (operator (between.Compare compare.Lt)) at = omega arith
+place_up (RecordVars p x) (operator (between.Compare compare.Eq)) at = omega arith
+place_up (VarBegin p x vs) (plain mark.AttributeOpen) at = omega arith
+place_up (VarWord p x vs) (plain mark.Measure) at = omega arith
+place_up (VarGreater p x vs) (operator (between.Compare compare.Gt)) at = omega arith
+place_up (VarClose p x vs) (plain mark.ListClose) at = omega arith
+place_up (VarName p x vs) (variable v) at = omega arith
+place_up (VarEnd p x vs) (plain mark.Comma) at = omega arith
+place_up (VarEnd p x vs) (operator (between.Compare compare.Gt)) at = omega arith
+place_up (RecordEqual p x vs) (operator (between.Compare compare.Eq)) at = omega arith
+place_up (RecordBrace p x vs) (plain mark.RecordOpen) at = omega arith
+place_up (FieldName p x vs fs) (name y) at = omega arith
+place_up (FieldColon p x vs fs place y) (plain mark.Colon) at = omega arith
+place_up LetName (plain mark.Rec) at = omega arith
+place_up LetName (name x) at = omega arith
+place_up RecName (name x) at = omega arith
+place_up (Params recursive p x ps) (plain mark.Open) at = omega arith
+place_up (Params recursive p x ps) (plain mark.Colon) at = omega arith
+place_up (Params recursive p x ps) (operator (between.Compare compare.Eq)) at = body_up recursive p x ps
+place_up (ParamBinder recursive p x ps) (name y) at = omega arith
+place_up (ParamBinder recursive p x ps) hole at = omega arith
+place_up (ParamColon recursive p x ps b) (plain mark.Colon) at = omega arith
+place_up _ _ at = tt
+
+base_up : (at : ℕ) (x : List ℕ) (what : ExprToken) → Above 0 (base_after at x what)
+base_up at x (operator (between.Compare compare.Eq)) = omega arith
+base_up at x _ = tt
+
+short_up : (at n : ℕ) (x : List ℕ) (u : UnitState) → (u ≢ NoUnit → n ≤ least u) → Above n (short_goes at x u)
+short_up at n x (NeedUnit frames) up = up (λ e. cc)
+short_up at n x (HaveUnit frames t) up = up (λ e. cc)
+short_up at n x (Raised frames t) up = up (λ e. cc)
+short_up at n x (Lowered frames t) up = up (λ e. cc)
+short_up at n x NoUnit up = tt
+
+field_end_up : (at : ℕ) (x : List ℕ) (vs : List VarText) (fs : List FieldDeclText) (place : ℕ) (y : List ℕ) (s : TypeState) (found : Option TypeText) (what : ExprToken) → type_finish s ≡ found
+    → Above (max (fields_height fs) (type_least s)) (field_ends at x vs fs place y found what)
+field_end_up at x vs fs place y s (Some t) (plain mark.Semi) e =
+    let same = type_found_height s t e in
+    let last = fields_last fs (record { at = place; name = y; type = t }) in
+    omega (arith, same, last)
+field_end_up at x vs fs place y s (Some t) (plain mark.RecordClose) e =
+    let same = type_found_height s t e in
+    let last = fields_last fs (record { at = place; name = y; type = t }) in
+    omega (arith, same, last)
+field_end_up at x vs fs place y s _ _ e = tt
+
+param_end_up : (recursive : Bool) (at : ℕ) (x : List ℕ) (ps : List ParamText) (b : BinderText) (s : TypeState) (found : Option TypeText) (what : ExprToken) → type_finish s ≡ found
+    → Above (max (params_height ps) (max (type_least s) 1)) (param_ends recursive at x ps b found what)
+param_end_up recursive at x ps b s (Some t) (plain mark.Close) e =
+    let same = type_found_height s t e in
+    let last = params_last ps (record { binder = b; type = t }) in
+    omega (arith, same, last)
+param_end_up recursive at x ps b s _ _ e = tt
+
+result_end_up : (recursive : Bool) (at : ℕ) (x : List ℕ) (ps : List ParamText) (s : TypeState) (found : Option TypeText) (what : ExprToken) → type_finish s ≡ found
+    → Above (max (params_height ps) (max (type_least s) 1)) (result_ends recursive at x ps found what)
+result_end_up recursive at x ps s (Some t) (operator (between.Compare compare.Eq)) e =
+    let same = type_found_height s t e in
+    omega (arith, same)
+result_end_up recursive at x ps s _ _ e = tt
+
+field_up : (at : ℕ) (x : List ℕ) (vs : List VarText) (fs : List FieldDeclText) (place : ℕ) (y : List ℕ) (low : ℕ) (s : TypeState) (over : DeclState) → (s ≢ NoType → low ≤ type_least s)
+    → Above (max (fields_height fs) low) over → Above (max (fields_height fs) low) (field_goes at x vs fs place y s over)
+field_up at x vs fs place y low (NeedType depth) over up h = let le = up (λ e. cc) in omega (arith, le)
+field_up at x vs fs place y low (HaveType depth t) over up h = let le = up (λ e. cc) in omega (arith, le)
+field_up at x vs fs place y low (InTypeNote depth owner n) over up h = let le = up (λ e. cc) in omega (arith, le)
+field_up at x vs fs place y low NoType over up h = h
+
+param_up : (recursive : Bool) (at : ℕ) (x : List ℕ) (ps : List ParamText) (b : BinderText) (low : ℕ) (s : TypeState) (over : DeclState) → (s ≢ NoType → low ≤ type_least s)
+    → Above (max (params_height ps) (max low 1)) over → Above (max (params_height ps) (max low 1)) (param_goes recursive at x ps b s over)
+param_up recursive at x ps b low (NeedType depth) over up h = let le = up (λ e. cc) in omega (arith, le)
+param_up recursive at x ps b low (HaveType depth t) over up h = let le = up (λ e. cc) in omega (arith, le)
+param_up recursive at x ps b low (InTypeNote depth owner n) over up h = let le = up (λ e. cc) in omega (arith, le)
+param_up recursive at x ps b low NoType over up h = h
+
+result_up : (recursive : Bool) (at : ℕ) (x : List ℕ) (ps : List ParamText) (low : ℕ) (s : TypeState) (over : DeclState) → (s ≢ NoType → low ≤ type_least s)
+    → Above (max (params_height ps) (max low 1)) over → Above (max (params_height ps) (max low 1)) (result_goes recursive at x ps s over)
+result_up recursive at x ps low (NeedType depth) over up h = let le = up (λ e. cc) in omega (arith, le)
+result_up recursive at x ps low (HaveType depth t) over up h = let le = up (λ e. cc) in omega (arith, le)
+result_up recursive at x ps low (InTypeNote depth owner n) over up h = let le = up (λ e. cc) in omega (arith, le)
+result_up recursive at x ps low NoType over up h = h
+
+in_body_up : (recursive : Bool) (at : ℕ) (x : List ℕ) (ps : List ParamText) (r : Option TypeText) (low : ℕ) (e : State) → (e ≢ Refused → low ≤ whole_least e)
+    → Above (max (params_height ps) (max (result_height r) low)) (body_goes recursive at x ps r e)
+in_body_up recursive at x ps r low (Need frames) up = let le = up (λ h. cc) in omega (arith, le)
+in_body_up recursive at x ps r low (Have frames t) up = let le = up (λ h. cc) in omega (arith, le)
+in_body_up recursive at x ps r low (Greater frames p l) up = let le = up (λ h. cc) in omega (arith, le)
+in_body_up recursive at x ps r low (Inside frames p) up = let le = up (λ h. cc) in omega (arith, le)
+in_body_up recursive at x ps r low (InNote frames p c n) up = let le = up (λ h. cc) in omega (arith, le)
+in_body_up recursive at x ps r low (InType frames p n) up = let le = up (λ h. cc) in omega (arith, le)
+in_body_up recursive at x ps r low Refused up = tt
+
+decl_above : (st : DeclState) (x : Token) → Above (decl_least st) (decl_step st x)
+decl_above (AtPlace place) x = place_up place (expr_token x.kind) x.start
+decl_above (HaveBase at y) x = base_up at y (expr_token x.kind)
+decl_above (InShort at y u) x = short_up at (least u) y (unit_step u x) (λ goes. run_up (x ∷ []) u goes)
+decl_above (HaveRecord at y vs fs) x = tt
+decl_above (InField at y vs fs place z s) x =
+    field_up at y vs fs place z (type_least s) (type_step s x) (field_ends at y vs fs place z (type_finish s) (expr_token x.kind)) (λ goes. type_up s x goes)
+    (field_end_up at y vs fs place z s (type_finish s) (expr_token x.kind) refl)
+decl_above (InParam recursive at y ps b s) x =
+    param_up recursive at y ps b (type_least s) (type_step s x) (param_ends recursive at y ps b (type_finish s) (expr_token x.kind)) (λ goes. type_up s x goes)
+    (param_end_up recursive at y ps b s (type_finish s) (expr_token x.kind) refl)
+decl_above (InResult recursive at y ps s) x =
+    result_up recursive at y ps (type_least s) (type_step s x) (result_ends recursive at y ps (type_finish s) (expr_token x.kind)) (λ goes. type_up s x goes)
+    (result_end_up recursive at y ps s (type_finish s) (expr_token x.kind) refl)
+decl_above (InBody recursive at y ps r e) x = in_body_up recursive at y ps r (whole_least e) (step e x) (λ goes. expr_up e x goes)
+decl_above NoDecl x = tt
+
+above_least : (n : ℕ) (st : DeclState) → st ≢ NoDecl → Above n st → n ≤ decl_least st
+above_least n (AtPlace place) ok h = h
+above_least n (HaveBase at x) ok h = h
+above_least n (InShort at x u) ok h = h
+above_least n (HaveRecord at x vs fs) ok h = h
+above_least n (InField at x vs fs place y s) ok h = h
+above_least n (InParam recursive at x ps b s) ok h = h
+above_least n (InResult recursive at x ps s) ok h = h
+above_least n (InBody recursive at x ps r e) ok h = h
+above_least n NoDecl ok h = absurd (ok refl)
+
+pub decl_up : (st : DeclState) (x : Token) → decl_step st x ≢ NoDecl → decl_least st ≤ decl_least (decl_step st x)
+decl_up st x ok = above_least (decl_least st) (decl_step st x) ok (decl_above st x)
+
+-- ---- what is found has it
+
+short_height : (at : ℕ) (x : List ℕ) (u : UnitState) (o : Option UnitText) (d : DeclText) → unit_finish u ≡ o → short_found at x o ≡ Some d → decl_height d ≡ least u
+short_height at x u (Some t) d f e = let same : short_text at x t ≡ d = cc in ap decl_height (sym same) ∙ found_height u t f
+short_height at x u None d f e = absurd cc
+
+body_height : (recursive : Bool) (at : ℕ) (x : List ℕ) (ps : List ParamText) (r : Option TypeText) (e : State) (o : Option ExprText) (d : DeclText) → finish e ≡ o → body_found recursive at x ps r o ≡ Some d
+    → decl_height d ≡ max (params_height ps) (max (result_height r) (whole_least e))
+body_height recursive at x ps r e (Some t) d f h =
+    let same : function_text (record { at = at; name = x; recursive = recursive; params = ps; result = r; body = t }) ≡ d = cc in
+    ap decl_height (sym same) ∙ ap (λ n. max (params_height ps) (max (result_height r) n)) (expr_found_height e t f)
+body_height recursive at x ps r e None d f h = absurd cc
+
+pub decl_found_height : (st : DeclState) (d : DeclText) → decl_finish st ≡ Some d → decl_height d ≡ decl_least st
+decl_found_height (HaveBase at x) d e = let same : base_text at x ≡ d = cc in ap decl_height (sym same)
+decl_found_height (InShort at x u) d e = short_height at x u (unit_finish u) d refl e
+decl_found_height (HaveRecord at x vs fs) d e = let same : record_decl_text at x vs fs ≡ d = cc in ap decl_height (sym same)
+decl_found_height (InBody recursive at x ps r b) d e = body_height recursive at x ps r b (finish b) d refl e
+decl_found_height (AtPlace place) d e = absurd cc
+decl_found_height (InField at x vs fs place y s) d e = absurd cc
+decl_found_height (InParam recursive at x ps b s) d e = absurd cc
+decl_found_height (InResult recursive at x ps s) d e = absurd cc
+decl_found_height NoDecl d e = absurd cc

@@ -1,0 +1,106 @@
+-- The least height of a program that the tokens begin: it is reached, and none is lower.
+use Rattle.std.proofs.Common.{◌≡◌, ◌≢◌, ℕ, ◌+◌, ◌≤◌, ◌<◌, max, List, [], ◌∷◌, ◌++◌, Option, Some, None, refl, sym, ap, subst, ◌∙◌, arith}
+use Rattle.um_syntax.specs.declared.token.Token.{Token}
+use Rattle.um_tree.specs.RawTree.{DeclText}
+use Rattle.um_types.specs.Machines.{runs}
+use Rattle.um_types.proofs.Reaching.{runs_append, runs_refused}
+use Rattle.um_parse.specs.DeclGrammar.{DeclsFit, IsProgram}
+use Rattle.um_parse.specs.DeclMachine.{DeclPlace, DeclBegin, AttributeWord, AttributeGreater, AttributeClose, MeasureType, MeasureName, RecordName, RecordVars, VarBegin, VarWord, VarGreater, VarClose, VarName, VarEnd, RecordEqual, RecordBrace, FieldName, FieldColon, LetName, RecName, Params, ParamBinder, ParamColon, DeclState, AtPlace, HaveBase, InShort, HaveRecord, InField, InParam, InResult, InBody, NoDecl, decl_step, decl_finish, ProgramState, InProgram, NoProgram, program_goes, next_decl, program_step, program_found, program_finish}
+use Rattle.um_parse.specs.ProgramHeights.{decl_height, program_height}
+use Rattle.um_parse.specs.ProgramLeast.{decl_least, program_least}
+use Rattle.um_parse.specs.ProgramStates.{start}
+use Rattle.um_parse.specs.ProgramStops.{BeginsWithin}
+use Rattle.um_parse.proofs.DeclEndings.{decl_completed}
+use Rattle.um_parse.proofs.DeclHeights.{decl_completed_height, decl_up, decl_found_height}
+use Rattle.um_parse.proofs.ProgramComplete.{program_into, program_finds, reads_as}
+use Rattle.um_parse.proofs.ProgramSound.{ProgramStands, stands, program_ending, program_completed, can_go_on}
+
+height_last : (front : List DeclText) (d : DeclText) → program_height (front ++ d ∷ []) ≡ max (program_height front) (decl_height d)
+height_last [] d = omega arith
+height_last (c ∷ front) d = let e = height_last front d in omega (arith, e)
+
+completed_height : (st : ProgramState) (tokens rest : List Token) → ProgramStands st tokens rest → st ≢ NoProgram → program_height (program_completed st) ≡ program_least st
+completed_height (InProgram front d) tokens rest h ok =
+    let last = height_last front (decl_completed d) in
+    let same = decl_completed_height d h.0 rest h.3 h.4 in
+    omega (arith, last, same)
+completed_height NoProgram tokens rest h ok = absurd (ok refl)
+
+-- a program of the least height begins so
+pub begins_within : (read : List Token) (limit : ℕ) → runs program_step start read ≢ NoProgram → program_least (runs program_step start read) ≤ limit → BeginsWithin limit read
+begins_within read limit ok le =
+    let st : ProgramState = runs program_step start read in
+    (program_ending st, program_completed st, can_go_on read ok, omega (arith, le, completed_height st (read ++ program_ending st) (program_ending st) (stands read (program_ending st)) ok))
+
+-- ---- a token never lowers it
+
+goes_up : (front : List DeclText) (low : ℕ) (new : DeclState) (over : ProgramState) → program_goes front new over ≢ NoProgram → (new ≢ NoDecl → low ≤ max (program_height front) (decl_least new))
+    → (over ≢ NoProgram → low ≤ program_least over) → low ≤ program_least (program_goes front new over)
+goes_up front low (AtPlace place) over ok up next = up (λ e. cc)
+goes_up front low (HaveBase at x) over ok up next = up (λ e. cc)
+goes_up front low (InShort at x u) over ok up next = up (λ e. cc)
+goes_up front low (HaveRecord at x vs fs) over ok up next = up (λ e. cc)
+goes_up front low (InField at x vs fs place y s) over ok up next = up (λ e. cc)
+goes_up front low (InParam recursive at x ps b s) over ok up next = up (λ e. cc)
+goes_up front low (InResult recursive at x ps s) over ok up next = up (λ e. cc)
+goes_up front low (InBody recursive at x ps r e) over ok up next = up (λ e. cc)
+goes_up front low NoDecl over ok up next = next ok
+
+next_up : (front : List DeclText) (d : DeclState) (found : Option DeclText) (begun : DeclState) → decl_finish d ≡ found → next_decl front found begun ≢ NoProgram
+    → program_least (InProgram front d) ≤ program_least (next_decl front found begun)
+next_up front d None begun e ok = absurd (ok refl)
+next_up front d (Some c) begun e ok =
+    let last = height_last front c in
+    let same = decl_found_height d c e in
+    goes_up (front ++ c ∷ []) (program_least (InProgram front d)) begun NoProgram ok (λ goes. omega (arith, last, same)) (λ h. absurd (h refl))
+
+step_up : (st : ProgramState) (x : Token) → program_step st x ≢ NoProgram → program_least st ≤ program_least (program_step st x)
+step_up (InProgram front d) x ok =
+    let begun : DeclState = decl_step (AtPlace DeclBegin) x in
+    goes_up front (program_least (InProgram front d)) (decl_step d x) (next_decl front (decl_finish d) begun) ok (λ goes. further goes) (λ h. next_up front d (decl_finish d) begun refl h)
+  where
+    further : decl_step d x ≢ NoDecl → max (program_height front) (decl_least d) ≤ max (program_height front) (decl_least (decl_step d x))
+    further goes = let up = decl_up d x goes in omega (arith, up)
+step_up NoProgram x ok = absurd (ok refl)
+
+run_up : (tokens : List Token) (st : ProgramState) → runs program_step st tokens ≢ NoProgram → program_least st ≤ program_least (runs program_step st tokens)
+run_up [] st ok = omega arith
+run_up (x ∷ tokens) st ok =
+    let next : ProgramState = program_step st x in
+    let goes : next ≢ NoProgram = λ e. ok (ap (λ s. runs program_step s tokens) e ∙ runs_refused program_step NoProgram (λ t. refl) tokens) in
+    omega (arith, step_up st x goes, run_up tokens next ok)
+
+-- ---- what is found has it
+
+found_last : (front : List DeclText) (d : DeclState) (o : Option DeclText) (ds : List DeclText) → decl_finish d ≡ o → program_found front o ≡ Some ds → program_height ds ≡ max (program_height front) (decl_least d)
+found_last front d (Some c) ds e f =
+    let same : front ++ c ∷ [] ≡ ds = cc in
+    let last = height_last front c in
+    let low = decl_found_height d c e in
+    ap program_height (sym same) ∙ omega (arith, last, low)
+found_last front d None ds e f = absurd cc
+
+pub found_height : (st : ProgramState) (ds : List DeclText) → program_finish st ≡ Some ds → program_height ds ≡ program_least st
+found_height (InProgram front (AtPlace DeclBegin)) ds e = let same : front ≡ ds = cc in ap program_height (sym same) ∙ omega arith
+found_height (InProgram front (HaveBase at x)) ds e = found_last front (HaveBase at x) (decl_finish (HaveBase at x)) ds refl e
+found_height (InProgram front (InShort at x u)) ds e = found_last front (InShort at x u) (decl_finish (InShort at x u)) ds refl e
+found_height (InProgram front (HaveRecord at x vs fs)) ds e = found_last front (HaveRecord at x vs fs) (decl_finish (HaveRecord at x vs fs)) ds refl e
+found_height (InProgram front (InBody recursive at x ps r b)) ds e = found_last front (InBody recursive at x ps r b) (decl_finish (InBody recursive at x ps r b)) ds refl e
+found_height (InProgram front (InField at x vs fs place y s)) ds e = absurd cc
+found_height (InProgram front (InParam recursive at x ps b s)) ds e = absurd cc
+found_height (InProgram front (InResult recursive at x ps s)) ds e = absurd cc
+found_height (InProgram front NoDecl) ds e = absurd cc
+found_height (InProgram front (AtPlace _)) ds e = absurd cc
+found_height NoProgram ds e = absurd cc
+
+abbrev nothing : Option (List DeclText)
+nothing = None
+
+-- no program that the tokens begin is lower
+pub none_lower : (tokens more : List Token) (ds : List DeclText) → IsProgram (tokens ++ more) ds → program_least (runs program_step start tokens) ≤ program_height ds
+none_lower tokens more ds p =
+    let e : runs program_step (runs program_step start tokens) more ≡ program_into [] ds = sym (runs_append program_step tokens more start) ∙ reads_as ds (tokens ++ more) p in
+    let finds : program_finish (program_into [] ds) ≡ Some ds = program_finds ds p.fits in
+    let ok : runs program_step (runs program_step start tokens) more ≢ NoProgram = λ h. absurd (let bad : nothing ≡ Some ds = ap program_finish (sym h ∙ e) ∙ finds in cc) in
+    let up : program_least (runs program_step start tokens) ≤ program_least (runs program_step (runs program_step start tokens) more) = run_up more (runs program_step start tokens) ok in
+    omega (arith, up, ap program_least e, found_height (program_into [] ds) ds finds)

@@ -1,0 +1,38 @@
+-- The least height of a program that begins with what was read; a part that is missing counts 1.
+-- Source: this project's own.
+use Rattle.std.specs.Prelude.{ℕ, max, List, [], ◌∷◌}
+use Rattle.um_types.specs.UnitLeast.{least}
+use Rattle.um_types.specs.TypeMachine.{type_least}
+use Rattle.um_parse.specs.ExprLeast.{whole_least}
+use Rattle.um_parse.specs.ProgramHeights.{fields_height, params_height, result_height, program_height}
+use Rattle.um_parse.specs.DeclMachine.{DeclPlace, DeclBegin, AttributeWord, AttributeGreater, AttributeClose, MeasureType, MeasureName, RecordName, RecordVars, VarBegin, VarWord, VarGreater, VarClose, VarName, VarEnd, RecordEqual, RecordBrace, FieldName, FieldColon, LetName, RecName, Params, ParamBinder, ParamColon, DeclState, AtPlace, HaveBase, InShort, HaveRecord, InField, InParam, InResult, InBody, NoDecl, ProgramState, InProgram, NoProgram}
+
+-- a measure has no height; a record has a field, and a function a body
+abbrev pub decl_place_least : DeclPlace → ℕ
+decl_place_least DeclBegin = 0
+decl_place_least AttributeWord = 0
+decl_place_least AttributeGreater = 0
+decl_place_least AttributeClose = 0
+decl_place_least MeasureType = 0
+decl_place_least MeasureName = 0
+decl_place_least (FieldName at x vs fs) = max (fields_height fs) 1
+decl_place_least (FieldColon at x vs fs place y) = max (fields_height fs) 1
+decl_place_least (Params recursive at x ps) = max (params_height ps) 1
+decl_place_least (ParamBinder recursive at x ps) = max (params_height ps) 1
+decl_place_least (ParamColon recursive at x ps b) = max (params_height ps) 1
+decl_place_least _ = 1
+
+abbrev pub decl_least : DeclState → ℕ
+decl_least (AtPlace place) = decl_place_least place
+decl_least (HaveBase at x) = 0
+decl_least (InShort at x u) = least u
+decl_least (HaveRecord at x vs fs) = fields_height fs
+decl_least (InField at x vs fs place y s) = max (fields_height fs) (type_least s)
+decl_least (InParam recursive at x ps b s) = max (params_height ps) (max (type_least s) 1)
+decl_least (InResult recursive at x ps s) = max (params_height ps) (max (type_least s) 1)
+decl_least (InBody recursive at x ps r e) = max (params_height ps) (max (result_height r) (whole_least e))
+decl_least NoDecl = 0
+
+abbrev pub program_least : ProgramState → ℕ
+program_least (InProgram front d) = max (program_height front) (decl_least d)
+program_least NoProgram = 0

@@ -1,0 +1,21 @@
+//! The grammar of expressions, declarations and programs: from tokens to raw trees.
+#![tactic(auto)]
+
+mod decl_function;
+mod decl_measure;
+mod decl_place;
+mod decl_record;
+mod expr_after;
+mod expr_begin;
+mod expr_ending;
+mod expr_frame;
+mod expr_hand;
+mod expr_inside;
+mod expr_least;
+mod expr_list;
+mod expr_part;
+mod expr_stack;
+mod expr_word;
+mod height;
+mod limits;
+mod mark;
