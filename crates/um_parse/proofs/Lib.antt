@@ -13,6 +13,7 @@ mod ExprLaws
 mod ExprLists
 mod ExprStackLaws
 mod ExprLow
+mod ExprGoes
 mod DeclLeads
 mod DeclComplete
 mod ProgramComplete

@@ -21,3 +21,4 @@ pub mod ExprFrames
 pub mod ExprStack
 pub mod ExprMarks
 pub mod ExprStates
+pub mod ExprTakes
