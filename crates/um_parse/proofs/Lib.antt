@@ -26,4 +26,6 @@ mod ProgramLow
 mod ProgramWhole
 mod ProgramNodes
 mod LimitLaws
+mod DeclTaken
+mod ProgramSteps
 mod ExprExamples

@@ -22,3 +22,5 @@ pub mod ExprStack
 pub mod ExprMarks
 pub mod ExprStates
 pub mod ExprTakes
+pub mod DeclTakes
+pub mod ProgramReads

@@ -1,13 +1,13 @@
 // The tokens that begin a declaration, and those of a measure.
 ghost use Rattle.std.specs.Prelude.{◌≡◌, None};
-ghost use Rattle.um_parse.specs.DeclMachine.{DeclBegin, at_place, base_after};
+ghost use Rattle.um_parse.specs.DeclMachine.{DeclBegin, at_place};
 ghost use Rattle.um_parse.specs.DeclViews.{view_measure, reached};
 ghost use Rattle.um_parse.specs.ExprWords.{view_word};
 
 use crate::decl_place::{DeclPlace, MeasurePlace, Next};
 use crate::expr_word::Word;
 use crate::mark::{Infix, Mark};
-use um_tree::{Name, Sign};
+use um_tree::Sign;
 
 /// A word that can't stand here.
 pub fn refuse(word: Word) -> Option<Next>
@@ -57,15 +57,5 @@ pub fn take_measure(place: MeasurePlace, word: Word, p: u32) -> Option<Next>
             | MeasurePlace::Name,
             other,
         ) => refuse(other),
-    }
-}
-
-/// One token behind the name of a measure, at its place.
-pub fn take_base(at: u32, name: Name, word: Word) -> Option<Next>
-    ensures { reached result ≡ base_after at name (view_word word) }
-{
-    match word {
-        Word::Operator(Infix::Compare(Sign::Eq)) => Some(Next::Short(at, name)),
-        other => refuse(other),
     }
 }

@@ -5,6 +5,8 @@ mod decl_function;
 mod decl_measure;
 mod decl_place;
 mod decl_record;
+mod decl_step;
+mod decl_take;
 mod expr_after;
 mod expr_argument;
 mod expr_begin;
@@ -24,5 +26,8 @@ mod expr_word;
 mod height;
 mod limits;
 mod mark;
+mod program_loop;
+mod program_parse;
 
-pub use expr_take::{ExprReader, ExprStep};
+pub use program_parse::parse;
+pub use um_types::{LimitKind, ParseStop, parse_types, parse_unit};

@@ -1,0 +1,112 @@
+-- One token more of a program, told by the declarations that were read.
+use Rattle.std.proofs.Common.{◌≡◌, ◌≢◌, ℕ, ◌+◌, ◌≤◌, ◌<◌, max, Bool, true, false, List, [], ◌∷◌, ◌++◌, length, take, get_or, map, Option, Some, None, option_map, refl, sym, ap, ◌∙◌, arith}
+use Rattle.std.proofs.lemmas.List.{take_more}
+use Rattle.um_syntax.specs.declared.token.Token.{Token}
+use Rattle.um_tree.specs.declared.raw.RawDecl.{RawDecl}
+use Rattle.um_tree.specs.RawTree.{DeclText, decl_text}
+use Rattle.um_types.specs.Machines.{runs}
+use Rattle.um_types.proofs.Reaching.{runs_append}
+use Rattle.um_parse.specs.DeclMachine.{DeclPlace, DeclBegin, AttributeWord, AttributeGreater, AttributeClose, MeasureType, MeasureName, RecordName, RecordVars, VarBegin, VarWord, VarGreater, VarClose, VarName, VarEnd, RecordEqual, RecordBrace, FieldName, FieldColon, LetName, RecName, Params, ParamBinder, ParamColon, DeclState, AtPlace, HaveBase, InShort, HaveRecord, InField, InParam, InResult, InBody, NoDecl, decl_finish, ProgramState, InProgram, NoProgram, program_goes, program_step, program_found, program_finish}
+use Rattle.um_parse.specs.ProgramHeights.{decl_height, program_height}
+use Rattle.um_parse.specs.ProgramLeast.{decl_least, program_least}
+use Rattle.um_parse.specs.ProgramStates.{start, state_at, IsReadTo}
+use Rattle.um_parse.specs.DeclTakes.{reader_state}
+use Rattle.um_parse.specs.ProgramReads.{program_state, ProgramTakes, at_start}
+use Rattle.um_parse.specs.declared.decl_take.DeclReader.{DeclReader}
+use Rattle.um_parse.specs.declared.program_loop.ProgramStep.TheVariants as step
+use Rattle.um_parse.proofs.DeclTaken.{reader_low, reader_goes}
+
+program_on : (front : List DeclText) (d : DeclState) (ended : ProgramState) → d ≢ NoDecl → program_goes front d ended ≡ InProgram front d
+program_on front (AtPlace place) ended ok = refl
+program_on front (HaveBase at x) ended ok = refl
+program_on front (InShort at x u) ended ok = refl
+program_on front (HaveRecord at x vs fs) ended ok = refl
+program_on front (InField at x vs fs place y s) ended ok = refl
+program_on front (InParam recursive at x ps b s) ended ok = refl
+program_on front (InResult recursive at x ps s) ended ok = refl
+program_on front (InBody recursive at x ps r e) ended ok = refl
+program_on front NoDecl ended ok = absurd (ok refl)
+
+-- the declaration goes on
+pub goes_in : (front : List RawDecl) (d : DeclState) (ended : ProgramState) (r : DeclReader) → d ≡ reader_state r → program_height (map decl_text front) ≤ 400
+    → ProgramTakes (program_goes (map decl_text front) d ended) front (step.Goes r)
+goes_in front d ended r e low =
+    let same : program_goes (map decl_text front) d ended ≡ program_state front r =
+    ap (λ s. program_goes (map decl_text front) s ended) e ∙ program_on (map decl_text front) (reader_state r) ended (reader_goes r)
+    in
+    let least = ap program_least same in
+    (same, omega (arith, least, low, reader_low r))
+
+-- it is too high
+pub high_in : (front : List RawDecl) (d : DeclState) (ended : ProgramState) → d ≢ NoDecl → 400 < decl_least d → ProgramTakes (program_goes (map decl_text front) d ended) front step.High
+high_in front d ended ok high =
+    let same : program_goes (map decl_text front) d ended ≡ InProgram (map decl_text front) d = program_on (map decl_text front) d ended ok in
+    let least = ap program_least same in
+    ((λ h. let bad : InProgram (map decl_text front) d ≡ NoProgram = sym same ∙ h in cc), omega (arith, least, high))
+
+-- the heights with a declaration more
+pub decls_last : (front : List RawDecl) (d : RawDecl) → program_height (map decl_text (front ++ d ∷ [])) ≡ max (program_height (map decl_text front)) (decl_height (decl_text d))
+decls_last [] d = omega arith
+decls_last (c ∷ front) d = let e = decls_last front d in omega (arith, e)
+
+pub decl_texts_last : (front : List RawDecl) (d : RawDecl) → map decl_text (front ++ d ∷ []) ≡ map decl_text front ++ decl_text d ∷ []
+decl_texts_last [] d = refl
+decl_texts_last (c ∷ front) d = ap (λ ds. decl_text c ∷ ds) (decl_texts_last front d)
+
+-- ---- the loop
+
+pub one_more : (tokens : List Token) (i : ℕ) (token : Token) (st : ProgramState) → i < length tokens → get_or tokens i token ≡ token → st ≡ state_at tokens i → program_step st token ≡ state_at tokens (i + 1)
+one_more tokens i token st lt same e =
+    ap (λ s. program_step s token) e
+    ∙ sym (ap (λ ts. runs program_step start ts) (take_more tokens i token lt ∙ ap (λ t. take i tokens ++ t ∷ []) same) ∙ runs_append program_step (take i tokens) (token ∷ []) start)
+
+pub program_on_reader : (front : List RawDecl) (reader : DeclReader) → program_state front reader ≢ NoProgram
+program_on_reader front reader e = cc
+
+pub is_read_to : (tokens : List Token) (i : ℕ) (front : List RawDecl) (reader : DeclReader) → i ≤ length tokens → program_state front reader ≡ state_at tokens i → program_least (state_at tokens i) ≤ 400 → IsReadTo tokens i
+is_read_to tokens i front reader le e low = (le, (λ h. program_on_reader front reader (e ∙ h)), low)
+
+-- ---- the end
+
+found_with : (front : List DeclText) (d : DeclState) → at_start d ≡ false → program_finish (InProgram front d) ≡ program_found front (decl_finish d)
+found_with front (AtPlace DeclBegin) later = absurd cc
+found_with front (AtPlace AttributeWord) later = refl
+found_with front (AtPlace AttributeGreater) later = refl
+found_with front (AtPlace AttributeClose) later = refl
+found_with front (AtPlace MeasureType) later = refl
+found_with front (AtPlace MeasureName) later = refl
+found_with front (AtPlace RecordName) later = refl
+found_with front (AtPlace (RecordVars at x)) later = refl
+found_with front (AtPlace (VarBegin at x vs)) later = refl
+found_with front (AtPlace (VarWord at x vs)) later = refl
+found_with front (AtPlace (VarGreater at x vs)) later = refl
+found_with front (AtPlace (VarClose at x vs)) later = refl
+found_with front (AtPlace (VarName at x vs)) later = refl
+found_with front (AtPlace (VarEnd at x vs)) later = refl
+found_with front (AtPlace (RecordEqual at x vs)) later = refl
+found_with front (AtPlace (RecordBrace at x vs)) later = refl
+found_with front (AtPlace (FieldName at x vs fs)) later = refl
+found_with front (AtPlace (FieldColon at x vs fs p y)) later = refl
+found_with front (AtPlace LetName) later = refl
+found_with front (AtPlace RecName) later = refl
+found_with front (AtPlace (Params recursive at x ps)) later = refl
+found_with front (AtPlace (ParamBinder recursive at x ps)) later = refl
+found_with front (AtPlace (ParamColon recursive at x ps b)) later = refl
+found_with front (HaveBase at x) later = refl
+found_with front (InShort at x u) later = refl
+found_with front (HaveRecord at x vs fs) later = refl
+found_with front (InField at x vs fs p y s) later = refl
+found_with front (InParam recursive at x ps b s) later = refl
+found_with front (InResult recursive at x ps s) later = refl
+found_with front (InBody recursive at x ps r e) later = refl
+found_with front NoDecl later = refl
+
+pub reader_found : (front : List RawDecl) (reader : DeclReader) → at_start (reader_state reader) ≡ false → program_finish (program_state front reader) ≡ program_found (map decl_text front) (decl_finish (reader_state reader))
+reader_found front reader later = found_with (map decl_text front) (reader_state reader) later
+
+start_finish : (front : List DeclText) (d : DeclState) → at_start d ≡ true → program_finish (InProgram front d) ≡ Some front
+start_finish front (AtPlace DeclBegin) here = refl
+start_finish front _ here = absurd cc
+
+pub start_found : (front : List RawDecl) (reader : DeclReader) → at_start (reader_state reader) ≡ true → program_finish (program_state front reader) ≡ Some (map decl_text front)
+start_found front reader here = start_finish (map decl_text front) (reader_state reader) here

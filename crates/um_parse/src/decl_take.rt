@@ -1,0 +1,65 @@
+// A declaration that is read one token at a time.
+ghost use Rattle.std.specs.Prelude.{◌≡◌, ◌≤◌};
+ghost use Rattle.um_types.specs.UnitLeast.{least};
+ghost use Rattle.um_types.specs.UnitStops.{greatest_height};
+ghost use Rattle.um_types.specs.UnitTakes.{unit_state};
+ghost use Rattle.um_parse.specs.DeclViews.{next_state};
+ghost use Rattle.um_parse.specs.DeclTakes.{reader_state};
+
+use crate::decl_place::{DeclPlace, FunctionFront, FunctionHead, Next, RecordFront};
+use crate::expr_take::ExprReader;
+use std::alloc::Global;
+use um_tree::{Binder, Name, RawDecl};
+use um_types::{TypeReader, UnitReader};
+
+/// A measure, at its name, and its unit text that has begun, within the height.
+#[derive(Drop)]
+pub struct ShortFront {
+    pub at: u32,
+    pub name: Name,
+    pub unit: UnitReader,
+    ghost low: { least (unit_state unit) ≤ greatest_height },
+}
+
+/// A declaration that has begun, within the heights.
+#[derive(Drop)]
+pub enum DeclReader {
+    At(DeclPlace),
+    /// A measure, at its name, that may be whole
+    Base(u32, Name),
+    Short(ShortFront),
+    /// A whole record
+    Record(RecordFront),
+    /// In the type of a field, at its name; of a parameter; of a result; in a body
+    Field(RecordFront, u32, Name, TypeReader),
+    Param(FunctionFront, Binder, TypeReader),
+    Result(FunctionFront, TypeReader),
+    Body(FunctionHead, ExprReader),
+}
+
+/// What a token gives: the reader goes on; the tokens through it begin a declaration and none in which no height is above 400; or they begin none, and this is the declaration before it, if one stands there.
+#[derive(Drop)]
+pub enum DeclStep {
+    Goes(DeclReader),
+    High,
+    Stops(Option<RawDecl>),
+}
+
+/// The reader of what follows.
+pub fn reader_of(alloc: Global, next: Next) -> DeclReader
+    ensures { reader_state result ≡ next_state next }
+{
+    match next {
+        Next::At(place) => DeclReader::At(place),
+        Next::Base(at, name) => DeclReader::Base(at, name),
+        Next::Short(at, name) => {
+            let unit = UnitReader::new(alloc);
+            DeclReader::Short(ShortFront { at, name, unit })
+        }
+        Next::Record(front) => DeclReader::Record(front),
+        Next::Field(front, at, name) => DeclReader::Field(front, at, name, TypeReader::new()),
+        Next::Param(front, binder) => DeclReader::Param(front, binder, TypeReader::new()),
+        Next::Result(front) => DeclReader::Result(front, TypeReader::new()),
+        Next::Body(head) => DeclReader::Body(head, ExprReader::new(alloc)),
+    }
+}

@@ -1,0 +1,65 @@
+// Parsing a program, with the places of its refusals in the text.
+ghost use Rattle.std.specs.Prelude.{◌≡◌, ◌≤◌, length};
+ghost use Rattle.um_types.specs.UnitStops.{place_of};
+ghost use Rattle.um_parse.specs.ProgramReads.{ProgramAnswers};
+ghost use Rattle.um_parse.specs.Parsed.{Parsed};
+
+use crate::limits::first_passed;
+use crate::program_loop::{ProgramStop, read_program};
+use std::alloc::Global;
+use um_syntax::Token;
+use um_tree::RawProgram;
+use um_types::{LimitKind, ParseStop};
+
+// The place of a token by its number, or the end.
+fn place(tokens: &[Token], k: usize, end: u32) -> u32
+    ensures { result ≡ place_of tokens.now k end }
+{
+    match tokens.get(k) {
+        Some(token) => token.start,
+        None => end,
+    }
+}
+
+/// The program that the tokens are, as it is written. `end` is the length of the text in bytes.
+///
+/// The height of a program is the greatest of the heights of its expressions, type texts and unit texts, each by itself. The
+/// other limits are 2,000 functions, 16 parameters of a function, 32 fields and 4 unit parameters of a record, and 20,000 nodes
+/// of a body. The grammar is that of F# for the forms that this language has.
+///
+/// # Errors
+///
+/// Of the first two the one whose place is further left; `NoMemory` may come with any tokens.
+///
+/// - `Syntax` at the first token such that the tokens before it begin a program and those through it begin none; at `end` where
+///   all tokens begin one and are none.
+/// - `Limit` with `Height` at the first token through which the tokens begin a program and none of height at most 400.
+/// - `Limit` with `Functions`, `Parameters`, `Fields`, `UnitParameters` or `Nodes` where the tokens are a program of height at
+///   most 400, at the name of the first declaration that passes one of these, which are looked at in this order.
+pub fn parse(alloc: Global, tokens: &[Token], end: u32) -> Result<RawProgram, ParseStop>
+    requires text { length tokens.now ≤ end }
+    ensures parsed { Parsed tokens.now end result }
+{
+    let program = match read_program(alloc, tokens) {
+        Ok(program) => program,
+        Err(ProgramStop::Syntax(k)) => {
+            return Err(ParseStop::Syntax {
+                at: place(tokens, k, end),
+            });
+        }
+        Err(ProgramStop::High(k)) => {
+            return Err(ParseStop::Limit {
+                kind: LimitKind::Height,
+                at: place(tokens, k, end),
+            });
+        }
+        Err(ProgramStop::NoMemory) => return Err(ParseStop::NoMemory),
+    };
+    match first_passed(&program.items) {
+        Some(passed) => Err(ParseStop::Limit {
+            kind: passed.kind,
+            at: passed.at,
+        }),
+        None => Ok(program),
+    }
+}
