@@ -2,7 +2,7 @@
 ghost use Rattle.std.specs.Prelude.{◌≡◌, IfOk, None, Some, option_map};
 ghost use Rattle.um_tree.specs.RawTree.{base_text, unit_text, expr_text, decl_text, record_decl_text, written_type};
 ghost use Rattle.um_parse.specs.DeclMachine.{NoDecl, at_place, base_after, short_found, body_found, decl_step, decl_finish};
-ghost use Rattle.um_parse.specs.DeclViews.{head_vars, read_fields, read_params, view_decl_place, reached};
+ghost use Rattle.um_parse.specs.DeclViews.{head_vars, read_fields, read_params, view_decl_place, next_state, reached};
 ghost use Rattle.um_parse.specs.DeclTakes.{reader_state, DeclTakes};
 ghost use Rattle.um_parse.specs.ExprWords.{view_word};
 ghost use Rattle.um_parse.specs.ExprTokens.{expr_token};
@@ -17,14 +17,33 @@ use crate::decl_record::{
     field_colon, field_ends, field_name, record_brace, record_equal, record_name, record_vars,
     take_var,
 };
-use crate::decl_take::{DeclReader, DeclStep, ShortFront, reader_of};
+use crate::decl_take::{DeclReader, DeclStep, ShortFront};
 use crate::expr_take::{ExprReader, ExprStep};
 use crate::expr_word::Word;
 use crate::mark::Infix;
 use std::alloc::{AllocError, Global};
 use um_syntax::Token;
 use um_tree::{Binder, Name, RawDecl, RawExpr, RawFunction, RawUnit, Sign};
-use um_types::{TypeReader, TypeStep, UnitStep};
+use um_types::{TypeReader, TypeStep, UnitReader, UnitStep};
+
+// The reader of what follows.
+fn reader_of(alloc: Global, next: Next) -> DeclReader
+    ensures { reader_state result ≡ next_state next }
+{
+    match next {
+        Next::At(place) => DeclReader::At(place),
+        Next::Base(at, name) => DeclReader::Base(at, name),
+        Next::Short(at, name) => {
+            let unit = UnitReader::new(alloc);
+            DeclReader::Short(ShortFront { at, name, unit })
+        }
+        Next::Record(front) => DeclReader::Record(front),
+        Next::Field(front, at, name) => DeclReader::Field(front, at, name, TypeReader::new()),
+        Next::Param(front, binder) => DeclReader::Param(front, binder, TypeReader::new()),
+        Next::Result(front) => DeclReader::Result(front, TypeReader::new()),
+        Next::Body(head) => DeclReader::Body(head, ExprReader::new(alloc)),
+    }
+}
 
 // What follows is read, or the token is refused.
 fn step_of(alloc: Global, next: Option<Next>) -> DeclStep

@@ -1,14 +1,11 @@
 // A declaration that is read one token at a time.
-ghost use Rattle.std.specs.Prelude.{◌≡◌, ◌≤◌};
+ghost use Rattle.std.specs.Prelude.{◌≤◌};
 ghost use Rattle.um_types.specs.UnitLeast.{least};
 ghost use Rattle.um_types.specs.UnitStops.{greatest_height};
 ghost use Rattle.um_types.specs.UnitTakes.{unit_state};
-ghost use Rattle.um_parse.specs.DeclViews.{next_state};
-ghost use Rattle.um_parse.specs.DeclTakes.{reader_state};
 
-use crate::decl_place::{DeclPlace, FunctionFront, FunctionHead, Next, RecordFront};
+use crate::decl_place::{DeclPlace, FunctionFront, FunctionHead, RecordFront};
 use crate::expr_take::ExprReader;
-use std::alloc::Global;
 use um_tree::{Binder, Name, RawDecl};
 use um_types::{TypeReader, UnitReader};
 
@@ -43,23 +40,4 @@ pub enum DeclStep {
     Goes(DeclReader),
     High,
     Stops(Option<RawDecl>),
-}
-
-/// The reader of what follows.
-pub fn reader_of(alloc: Global, next: Next) -> DeclReader
-    ensures { reader_state result ≡ next_state next }
-{
-    match next {
-        Next::At(place) => DeclReader::At(place),
-        Next::Base(at, name) => DeclReader::Base(at, name),
-        Next::Short(at, name) => {
-            let unit = UnitReader::new(alloc);
-            DeclReader::Short(ShortFront { at, name, unit })
-        }
-        Next::Record(front) => DeclReader::Record(front),
-        Next::Field(front, at, name) => DeclReader::Field(front, at, name, TypeReader::new()),
-        Next::Param(front, binder) => DeclReader::Param(front, binder, TypeReader::new()),
-        Next::Result(front) => DeclReader::Result(front, TypeReader::new()),
-        Next::Body(head) => DeclReader::Body(head, ExprReader::new(alloc)),
-    }
 }
