@@ -1,6 +1,6 @@
 -- What the machine does where a test of the code fails.
 use Rattle.std.proofs.Common.{◌≡◌, ◌≢◌, ℕ, ◌+◌, ◌<◌, ◌≤◌, max, List, [], ◌∷◌, Bool, true, false, Option, Some, None, option_map, Result, Ok, Err, IfOk, refl, sym, ap, subst, ◌∙◌, arith, inl, inr}
-use Rattle.std.specs.Prelude.{nat_lt}
+use Rattle.std.specs.Prelude.{cond, nat_lt}
 use Rattle.std.proofs.lemmas.Bool.{cases_lt, lt-ltb, le-ltb, ltb-true, ltb-false}
 use Rattle.um_frac.specs.declared.number.Frac.{Frac}
 use Rattle.um_tree.specs.RawTree.{ExprText, NoteText, TypeText, name_text, number_text}
@@ -94,11 +94,15 @@ note_too_high frames at c n high = omega (arith, high, notes_above frames (note_
 pub type_too_high : (frames : List Frame) (at : ℕ) (s : TypeState) → 400 < type_least s → 400 < whole_least (InType frames at s)
 type_too_high frames at s high = omega (arith, high, notes_above frames (type_least s))
 
+name_argument : (frames : List Frame) (at : ℕ) (x : List ℕ) → in_call frames ≡ false
+    → argument frames (name_text at x) ≡ cond (nat_lt 1 (top_bound frames)) (Some (InArgument at x [] ∷ frames)) None
+name_argument (InArgument at f front ∷ frames) n x a = absurd cc
+name_argument frames n x a = refl
+
 -- a name that takes no argument here
 pub no_room : (frames : List Frame) (t : ExprText) → in_call frames ≡ false → top_bound frames ≤ 1 → argument frames t ≡ None
-no_room (InArgument at f front ∷ frames) t a le = absurd cc
-no_room frames (name_text at x) a le = rw le-ltb refl
-no_room frames t a le = refl
+no_room frames (name_text at x) a le = name_argument frames at x a ∙ (rw le-ltb refl)
+no_room frames t a le = no_argument frames t a refl
 
 pub limit_low : (sign : Infix) → left_limit sign ≤ 9
 limit_low between.Or = omega arith

@@ -58,10 +58,6 @@ fn more_arguments(frames: &mut Frames, part: Part) -> Result<(), AllocError>
     }
 }
 
-fn no_name(node: RawNode) {
-    drop(node);
-}
-
 // A name becomes a call.
 fn first_argument(alloc: Global, frames: &mut Frames, part: Part) -> Result<(), AllocError>
     requires name { is_name (part_expr part) ≡ true }
@@ -73,7 +69,24 @@ fn first_argument(alloc: Global, frames: &mut Frames, part: Part) -> Result<(), 
     let RawExpr { at, node } = tree;
     match node {
         RawNode::Name(name) => frames.push(Frame::InArgument(at, name, Front::empty(alloc))),
-        other => Ok(no_name(other)),
+        RawNode::Bool(_)
+        | RawNode::Num(_, _)
+        | RawNode::Call(_, _)
+        | RawNode::Neg(_)
+        | RawNode::Not(_)
+        | RawNode::Arith(_, _, _)
+        | RawNode::Compare(_, _, _)
+        | RawNode::And(_, _)
+        | RawNode::Or(_, _)
+        | RawNode::If(_, _, _)
+        | RawNode::Let(_, _, _)
+        | RawNode::Match(_, _, _, _, _)
+        | RawNode::Nil(_)
+        | RawNode::List(_)
+        | RawNode::Cons(_, _)
+        | RawNode::Rec(_)
+        | RawNode::Field(_, _, _)
+        | RawNode::Bracket(_) => Ok(()),
     }
 }
 

@@ -55,13 +55,6 @@ fn greater_after(
     }
 }
 
-fn no_number(node: RawNode) -> Step
-    ensures { result ≡ Stops None }
-{
-    drop(node);
-    Step::Stops(None)
-}
-
 // `<` right behind a number
 fn note_opens(frames: &Frames, part: Part, sign_at: u32) -> Step
     requires { is_plain_number (part_expr part) ≡ true }
@@ -75,7 +68,25 @@ fn note_opens(frames: &Frames, part: Part, sign_at: u32) -> Step
             value,
             note: NoteReader::new(),
         })),
-        other => no_number(other),
+        RawNode::Num(_, Some(_))
+        | RawNode::Bool(_)
+        | RawNode::Name(_)
+        | RawNode::Call(_, _)
+        | RawNode::Neg(_)
+        | RawNode::Not(_)
+        | RawNode::Arith(_, _, _)
+        | RawNode::Compare(_, _, _)
+        | RawNode::And(_, _)
+        | RawNode::Or(_, _)
+        | RawNode::If(_, _, _)
+        | RawNode::Let(_, _, _)
+        | RawNode::Match(_, _, _, _, _)
+        | RawNode::Nil(_)
+        | RawNode::List(_)
+        | RawNode::Cons(_, _)
+        | RawNode::Rec(_)
+        | RawNode::Field(_, _, _)
+        | RawNode::Bracket(_) => Step::Stops(None),
     }
 }
 
