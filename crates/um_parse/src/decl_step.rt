@@ -254,6 +254,14 @@ fn record_found(front: RecordFront) -> RawDecl
     RawDecl::Record(head.at, head.name, head.vars, fields)
 }
 
+// No declaration ends here.
+fn unfinished(reader: DeclReader) -> Option<RawDecl>
+    ensures { result ≡ None }
+{
+    drop(reader);
+    None
+}
+
 impl DeclReader {
     /// One token more.
     pub fn take(self, alloc: Global, token: &Token) -> Result<DeclStep, AllocError>
@@ -285,10 +293,14 @@ impl DeclReader {
             }
             DeclReader::Record(front) => Ok(Some(record_found(front))),
             DeclReader::Body(head, body) => Ok(body_found(head, body.finish(alloc)?)),
-            DeclReader::At(_)
-            | DeclReader::Field(_, _, _, _)
-            | DeclReader::Param(_, _, _)
-            | DeclReader::Result(_, _) => Ok(None),
+            DeclReader::At(place) => Ok(unfinished(DeclReader::At(place))),
+            DeclReader::Field(front, at, name, ty) => {
+                Ok(unfinished(DeclReader::Field(front, at, name, ty)))
+            }
+            DeclReader::Param(front, binder, ty) => {
+                Ok(unfinished(DeclReader::Param(front, binder, ty)))
+            }
+            DeclReader::Result(front, ty) => Ok(unfinished(DeclReader::Result(front, ty))),
         }
     }
 }

@@ -96,7 +96,8 @@ fn take(
     requires { program_least (program_state front.old.items reader) ≤ greatest_height }
     ensures { IfOk result (λ s. ProgramTakes (program_step (program_state front.old.items reader) token.now) front.new.items s) }
 {
-    match reader.take(alloc, token)? {
+    let step = reader.take(alloc, token)?;
+    match step {
         DeclStep::Goes(reader) => Ok(ProgramStep::Goes(reader)),
         DeclStep::High => Ok(ProgramStep::High),
         DeclStep::Stops(found) => next_decl(alloc, front, found, token),
@@ -176,7 +177,8 @@ pub fn read_program(alloc: Global, tokens: &[Token]) -> Result<RawProgram, Progr
         Err(ProgramStop::High(at)) => return Err(ProgramStop::High(at)),
         Err(ProgramStop::NoMemory) => return Err(ProgramStop::NoMemory),
     };
-    match finish(alloc, decls, reader)? {
+    let found = finish(alloc, decls, reader)?;
+    match found {
         Some(program) => Ok(program),
         None => Err(ProgramStop::Syntax(tokens.len())),
     }
