@@ -8,6 +8,7 @@ use Rattle.um_tree.specs.RawTree.{ExprText, ExprTexts, FieldTexts, FieldPart, tr
 use Rattle.um_parse.specs.declared.mark.Infix.{Infix}
 use Rattle.um_parse.specs.declared.mark.Infix.TheVariants as between
 use Rattle.um_parse.specs.Ranks.{arith_rank, infix_rank, left_limit, right_bound, infix_text}
+use Rattle.um_parse.specs.ExprKinds.{is_plain_number}
 use Rattle.um_parse.specs.ExprGrammar.{rank, ends_in_number, last_ends_in_number, IsAny, Fits, AreAtoms}
 use Rattle.um_parse.specs.ExprMachine.{Frame, InBracket, InItem, InField, InValue, InBody, InTest, InThen, InElse, InMatched, InEmptyArm, InFullArm, InNegate, InNot, InRight, InArgument, own_rank, top_bound, top_rank, plug, with_field, State, Need, Have, Refused, reduce, less_after, infix_after}
 
@@ -253,10 +254,6 @@ atom_last (match_text at l a x y b) low = absurd (omega arith)
 atom_last (cons_text at a b) low = absurd (omega arith)
 
 -- ---- numbers at hand
-
-abbrev pub is_plain_number : ExprText → Bool
-is_plain_number (number_text at c None) = true
-is_plain_number _ = false
 
 pub atom_number : (t : ExprText) → rank t ≡ 0 → is_plain_number t ≡ ends_in_number t
 atom_number (number_text at c None) low = refl

@@ -91,11 +91,7 @@ fn first_argument(alloc: Global, frames: &mut Frames, part: Part) -> Result<(), 
 }
 
 // The part at hand becomes the function or an argument of a call, or is handed back.
-fn argument(
-    alloc: Global,
-    frames: &mut Frames,
-    part: Part,
-) -> Result<Option<Part>, AllocError>
+fn argument(alloc: Global, frames: &mut Frames, part: Part) -> Result<Option<Part>, AllocError>
     ensures { IfOk result (λ o. Argued (frames_of frames.old) (part_expr part) o (frames_of frames.new)) }
 {
     if in_call(frames) {

@@ -112,9 +112,8 @@ impl Frame {
     {
         match self {
             Frame::InNegate(_) => 3,
-            Frame::InNot(_) => 1,
             Frame::InRight(_, sign, _) => sign.right_bound(),
-            Frame::InArgument(_, _, _) => 1,
+            Frame::InNot(_) | Frame::InArgument(_, _, _) => 1,
             _ => 10,
         }
     }

@@ -117,12 +117,7 @@ fn type_ends(frames: &Frames, at: u32, ty: RawType, word: Word) -> Step
 }
 
 // One token in the note of a number.
-fn in_note(
-    alloc: Global,
-    frames: &Frames,
-    noted: Noted,
-    token: &Token,
-) -> Result<Step, AllocError>
+fn in_note(alloc: Global, frames: &Frames, noted: Noted, token: &Token) -> Result<Step, AllocError>
     ensures { IfOk result (λ s. Gives None (frames_of frames.now) s (note_goes (frames_of frames.now) noted.at noted.value (note_act (note_state noted.note) token.now.kind token.now.start) (note_ends (frames_of frames.now) noted.at noted.value (note_finish (note_state noted.note)) (expr_token token.now.kind)))) }
 {
     let Noted { at, value, note } = noted;

@@ -22,6 +22,8 @@ mod expr_sign;
 mod expr_stack;
 mod expr_step;
 mod expr_take;
+#[cfg(test)]
+mod expr_tests;
 mod expr_word;
 mod height;
 mod limits;

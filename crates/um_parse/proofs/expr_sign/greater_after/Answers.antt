@@ -1,5 +1,4 @@
-use Rattle.std.proofs.Common.{arith, ◌≡◌, ◌≤◌}
-use Rattle.um_parse.specs.ExprMachine.{top_bound}
+use Rattle.std.proofs.Common.{arith}
 use Rattle.um_parse.specs.ExprParts.{part_expr}
 use Rattle.um_parse.specs.ExprStack.{frames_of}
 use Rattle.um_parse.proofs.ExprGoes.{greater_refused}

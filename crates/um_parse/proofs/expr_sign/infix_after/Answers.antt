@@ -1,6 +1,6 @@
-use Rattle.std.proofs.Common.{arith, ap, ◌∙◌, ◌≡◌, ◌≤◌}
-use Rattle.um_parse.specs.Ranks.{left_limit, infix_rank}
-use Rattle.um_parse.specs.ExprMachine.{reduce, top_bound}
+use Rattle.std.proofs.Common.{arith, ap, ◌∙◌}
+use Rattle.um_parse.specs.Ranks.{left_limit}
+use Rattle.um_parse.specs.ExprMachine.{reduce}
 use Rattle.um_parse.specs.ExprParts.{part_expr}
 use Rattle.um_parse.specs.ExprStack.{frames_of}
 use Rattle.um_parse.proofs.ExprGoes.{limit_low, sign_refused}

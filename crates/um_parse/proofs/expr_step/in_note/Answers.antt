@@ -1,15 +1,13 @@
-use Rattle.std.proofs.Common.{ap, sym, subst, ◌∙◌, ◌≡◌, arith, None, refl, option_map}
+use Rattle.std.proofs.Common.{ap, sym, subst, ◌∙◌, arith, option_map}
 use Rattle.um_tree.specs.RawTree.{note_text}
-use Rattle.um_types.specs.NoteMachine.{note_act, note_finish, note_least}
+use Rattle.um_types.specs.NoteMachine.{note_act, note_finish}
 use Rattle.um_types.specs.NoteTakes.{note_state, NoteTakes}
 use Rattle.um_types.specs.declared.note_take.NoteStep.{NoteStep}
 use Rattle.um_types.proofs.NoteLaws.{note_found_height}
-use Rattle.um_parse.specs.declared.expr_hand.Step.TheVariants as step
 use Rattle.um_parse.specs.ExprTokens.{expr_token}
-use Rattle.um_parse.specs.ExprMachine.{InNote, note_ends}
-use Rattle.um_parse.specs.ExprWords.{view_word}
+use Rattle.um_parse.specs.ExprMachine.{note_ends}
 use Rattle.um_parse.specs.ExprStack.{frames_of}
-use Rattle.um_parse.proofs.ExprGoes.{note_goes_on, note_high}
+use Rattle.um_parse.proofs.ExprGoes.{note_high}
 use Rattle.um_parse.proofs.expr_step.in_note.Goals as goal
 
 pub returns-in-High : goal.returns-in-High

@@ -1,15 +1,11 @@
-use Rattle.std.proofs.Common.{ap, sym, subst, ◌∙◌, ◌≡◌, arith, None, refl, option_map}
-use Rattle.um_tree.specs.RawTree.{type_text}
-use Rattle.um_types.specs.TypeMachine.{type_act, type_finish, type_least}
+use Rattle.std.proofs.Common.{subst}
+use Rattle.um_types.specs.TypeMachine.{type_act, type_finish}
 use Rattle.um_types.specs.TypeTakes.{type_state, TypeTakes}
 use Rattle.um_types.specs.declared.type_take.TypeStep.{TypeStep}
-use Rattle.um_types.proofs.TypeLaws.{type_found_height}
-use Rattle.um_parse.specs.declared.expr_hand.Step.TheVariants as step
 use Rattle.um_parse.specs.ExprTokens.{expr_token}
-use Rattle.um_parse.specs.ExprMachine.{InType, type_ends}
-use Rattle.um_parse.specs.ExprWords.{view_word}
+use Rattle.um_parse.specs.ExprMachine.{type_ends}
 use Rattle.um_parse.specs.ExprStack.{frames_of}
-use Rattle.um_parse.proofs.ExprGoes.{type_goes_on, type_high}
+use Rattle.um_parse.proofs.ExprGoes.{type_high}
 use Rattle.um_parse.proofs.expr_step.in_type.Goals as goal
 
 pub returns-in-High : goal.returns-in-High
