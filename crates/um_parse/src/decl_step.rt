@@ -56,12 +56,7 @@ fn step_of(alloc: Global, next: Option<Next>) -> DeclStep
 }
 
 // What follows a place.
-fn next_at(
-    alloc: Global,
-    place: DeclPlace,
-    word: Word,
-    p: u32,
-) -> Result<Option<Next>, AllocError>
+fn next_at(alloc: Global, place: DeclPlace, word: Word, p: u32) -> Result<Option<Next>, AllocError>
     ensures { IfOk result (λ o. reached o ≡ at_place (view_decl_place place) (view_word word) p) }
 {
     match place {
@@ -100,12 +95,7 @@ fn base_found(at: u32, name: Name, word: Word) -> DeclStep
 }
 
 // One token behind the name of a measure, at its place.
-fn take_base(
-    alloc: Global,
-    at: u32,
-    name: Name,
-    token: &Token,
-) -> Result<DeclStep, AllocError>
+fn take_base(alloc: Global, at: u32, name: Name, token: &Token) -> Result<DeclStep, AllocError>
     ensures { IfOk result (λ s. DeclTakes (Some (base_text at name)) (base_after at name (expr_token token.now.kind)) s) }
 {
     match Word::of_kind(alloc, &token.kind)? {

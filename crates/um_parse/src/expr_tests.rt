@@ -1,5 +1,5 @@
 //! Expressions, with the answers of another program that was written from the same rules.
-use crate::{ExprReader, ExprStep};
+use crate::expr_take::{ExprReader, ExprStep};
 use std::alloc::{AllocError, Global};
 use std::fmt::Write;
 use std::test::Fail;

@@ -30,6 +30,10 @@ mod limits;
 mod mark;
 mod program_loop;
 mod program_parse;
+#[cfg(test)]
+mod program_shown;
+#[cfg(test)]
+mod program_tests;
 
 pub use program_parse::parse;
 pub use um_types::{LimitKind, ParseStop, parse_types, parse_unit};

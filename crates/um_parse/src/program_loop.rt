@@ -51,11 +51,7 @@ fn refuse(found: Option<RawDecl>) -> ProgramStep
 }
 
 // The first token of a declaration behind these.
-fn begin(
-    alloc: Global,
-    front: &Vec<RawDecl>,
-    token: &Token,
-) -> Result<ProgramStep, AllocError>
+fn begin(alloc: Global, front: &Vec<RawDecl>, token: &Token) -> Result<ProgramStep, AllocError>
     requires { program_height (map decl_text front.now.items) ≤ greatest_height }
     ensures { IfOk result (λ s. ProgramTakes (program_goes (map decl_text front.now.items) (decl_step (AtPlace DeclBegin) token.now) NoProgram) front.now.items s) }
 {
@@ -135,10 +131,7 @@ fn is_at_start(reader: &DeclReader) -> bool
 }
 
 // The program, with the last declaration, if one was found.
-fn with_last(
-    front: Vec<RawDecl>,
-    last: Option<RawDecl>,
-) -> Result<Option<RawProgram>, AllocError>
+fn with_last(front: Vec<RawDecl>, last: Option<RawDecl>) -> Result<Option<RawProgram>, AllocError>
     ensures { IfOk result (λ o. option_map program_text o ≡ program_found (map decl_text front.items) (option_map decl_text last)) }
 {
     let mut items = front;
