@@ -14,5 +14,8 @@ pub mod Declarations
 pub mod Added
 pub mod Params
 pub mod ParamLoops
+pub mod FieldDecls
 pub mod FieldNumbers
 pub mod Taken
+pub mod Wholes
+pub mod DeclLoops

@@ -7,10 +7,12 @@ mod callable;
 mod closed;
 mod declare;
 mod expr;
+mod fields;
 mod known;
 mod measures;
 mod parts;
 mod records;
+mod resolving;
 mod scope;
 mod signature;
 mod stop;
@@ -21,4 +23,5 @@ mod variables;
 
 pub use abbreviation::{Abbreviation, Abbreviations};
 pub use closed::closed_unit;
+pub use resolving::{abbreviations, resolve};
 pub use stop::NameStop;
