@@ -19,3 +19,11 @@ pub mod FieldNumbers
 pub mod Taken
 pub mod Wholes
 pub mod DeclLoops
+pub mod FormedUnits
+pub mod FormedTypes
+pub mod FormedExprs
+pub mod FormedNames
+pub mod FormedMore
+pub mod FormedDecls
+pub mod FormedFunctions
+pub mod FormedPrograms

@@ -11,3 +11,4 @@ pub mod Tables
 pub mod Bodies
 pub mod ClosedUnits
 pub mod Parts
+pub mod Readable

@@ -5,6 +5,8 @@ ghost use Rattle.um_tree.specs.ProgramTree.{program_tree};
 ghost use Rattle.um_tree.specs.RawTree.{decl_text, program_text};
 ghost use Rattle.um_names.specs.Parts.{resolved_program, resolved_abbreviations};
 ghost use Rattle.um_names.specs.Resolution.{resolution};
+ghost use Rattle.um_tree.specs.Formed.{IsFormed};
+ghost use Rattle.um_names.specs.Readable.{IsReadable};
 ghost use Rattle.um_names.specs.Stops.{IsFirst};
 ghost use Rattle.um_names.specs.Tables.{AreTables, known_of};
 
@@ -37,6 +39,7 @@ fn declarations(alloc: Global, raw: &[RawDecl]) -> Result<Tables, NameStop>
 /// specification's, Units Of Measure.
 pub fn resolve(alloc: Global, raw: &RawProgram) -> Result<Program, NameStop>
     ensures exact { IfOk result (λ program. resolved_program (program_text raw.now) ≡ Ok (program_tree program)) }
+    ensures formed { IfOk result (λ program. IsReadable (program_text raw.now) → IsFormed (program_tree program)) }
     ensures faults { IfErr result (IsFirst (resolved_program (program_text raw.now))) }
 {
     let tables = declarations(alloc, &raw.items)?;
