@@ -27,3 +27,6 @@ pub mod FormedMore
 pub mod FormedDecls
 pub mod FormedFunctions
 pub mod FormedPrograms
+pub mod HeadNames
+pub mod NameChecks
+pub mod SignatureHeads

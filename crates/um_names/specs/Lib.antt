@@ -12,3 +12,5 @@ pub mod Bodies
 pub mod ClosedUnits
 pub mod Parts
 pub mod Readable
+pub mod Heads
+pub mod SignatureNames
