@@ -1,5 +1,5 @@
 -- Loops over the parts of declarations.
-use Rattle.std.proofs.Common.{◌≡◌, ℕ, Bool, true, false, List, [], ◌∷◌, ◌++◌, cond, refl, ap, sym, ◌∙◌, Ok, Err}
+use Rattle.std.proofs.Common.{◌≡◌, ℕ, true, false, List, [], ◌∷◌, ◌++◌, cond, ap, sym, ◌∙◌, Err}
 use Rattle.um_tree.specs.RawTree.{VarText}
 use Rattle.um_names.specs.Faults.{Found, and_then, twice, unless_taken}
 use Rattle.um_names.specs.Known.{is_among}

@@ -1,5 +1,5 @@
 -- Fields of all records by name, where one more is there.
-use Rattle.std.proofs.Common.{◌≡◌, ℕ, zero, suc, ◌<◌, ◌+◌, Bool, true, false, cond, List, [], ◌∷◌, ◌++◌, map, take, get_or, length, refl, ap, sym, ◌∙◌, arith, length-take-le, ◌≤◌}
+use Rattle.std.proofs.Common.{◌≡◌, ℕ, zero, suc, ◌<◌, ◌+◌, Bool, true, false, cond, List, [], ◌∷◌, ◌++◌, map, take, get_or, length, refl, ap, sym, ◌∙◌, arith, length-take-le}
 use Rattle.std.specs.Prelude.{Option, Some, None, is_some, slice_get}
 use Rattle.std.specs.Str.{bytes_eq}
 use Rattle.std.proofs.lemmas.List.{map-append, take_more, length-map}
@@ -8,7 +8,7 @@ use Rattle.um_tree.specs.declared.program.FieldDecl.{FieldDecl}
 use Rattle.um_tree.specs.ProgramTree.{FieldTree, RecordTree, field_tree}
 use Rattle.um_names.specs.declared.callable.FieldNumber.{FieldNumber}
 use Rattle.um_names.specs.Known.{number_of, is_among, names_of_fields}
-use Rattle.um_names.specs.ExprNames.{field_or, field_of, later_record}
+use Rattle.um_names.specs.ExprNames.{field_or, field_of}
 use Rattle.um_names.specs.Parts.{field_else, field_if, field_at}
 use Rattle.um_names.specs.Tables.{numbered_field}
 use Rattle.um_names.proofs.NameLists.{or_else, if_named, is_among-number, number_of-append, number_of-below}

@@ -1,5 +1,5 @@
 -- Loops over the parameters of a function.
-use Rattle.std.proofs.Common.{◌≡◌, ℕ, List, [], ◌∷◌, ◌++◌, refl, ap, sym, ◌∙◌, subst, Ok, Err, append_assoc, append-nil, true}
+use Rattle.std.proofs.Common.{◌≡◌, ℕ, List, [], ◌∷◌, ◌++◌, refl, ap, sym, ◌∙◌, Ok, Err, append_assoc, append-nil, true}
 use Rattle.um_tree.specs.TypeTree.{NoteTree}
 use Rattle.um_tree.specs.RawTree.{ParamText}
 use Rattle.um_names.specs.declared.stop.NameStop.{NameStop}

@@ -1,5 +1,5 @@
 -- The names of the space that measures, abbreviations and records share.
-use Rattle.std.proofs.Common.{◌≡◌, ℕ, Bool, true, false, ◌||◌, List, refl, ap, sym, ◌∙◌}
+use Rattle.std.proofs.Common.{◌≡◌, ℕ, Bool, true, false, ◌||◌, List, refl, ap, ◌∙◌}
 use Rattle.std.specs.Prelude.{Option, Some, None, is_some}
 use Rattle.um_units.specs.PowerMap.{PowerMap}
 use Rattle.um_names.specs.declared.abbreviation.Abbreviation.{Abbreviation}

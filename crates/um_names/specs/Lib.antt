@@ -11,3 +11,6 @@ pub mod Tables
 pub mod Bodies
 pub mod ClosedUnits
 pub mod Parts
+pub mod Readable
+pub mod Heads
+pub mod SignatureNames

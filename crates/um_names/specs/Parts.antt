@@ -1,8 +1,8 @@
 -- Parts of declarations, one at a time, and the program of a text.
 -- Source: this project's own.
-use Rattle.std.specs.Prelude.{ℕ, false, ◌||◌, cond, List, [], ◌∷◌, ◌++◌, length, Option, Some, None, Ok}
+use Rattle.std.specs.Prelude.{ℕ, false, ◌||◌, cond, List, [], ◌∷◌, length, Option, Some, None, Ok}
 use Rattle.std.specs.Str.{bytes_eq}
-use Rattle.um_tree.specs.ProgramTree.{FieldTree, RecordTree, ProgramTree}
+use Rattle.um_tree.specs.ProgramTree.{FieldTree, ProgramTree}
 use Rattle.um_tree.specs.RawTree.{FieldDeclText, FunctionText, DeclText}
 use Rattle.um_names.specs.declared.abbreviation.Abbreviation.{Abbreviation}
 use Rattle.um_names.specs.declared.callable.Callable.{Callable}

@@ -12,7 +12,7 @@ use std::alloc::{AllocError, Global};
 use um_tree::{Function, Name};
 use um_units::{Atom, Unit};
 
-fn copied(alloc: Global, name: &Name) -> Result<Name, AllocError>
+pub fn copied(alloc: Global, name: &Name) -> Result<Name, AllocError>
     ensures { IfOk result (λ copy. copy ≡ name.now) }
 {
     Ok(Name::from_vec(Vec::from_slice(alloc, name.as_slice())?))

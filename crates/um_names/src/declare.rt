@@ -1,28 +1,106 @@
 //! Declarations, one at a time.
 
-ghost use Rattle.std.specs.Prelude.{◌≡◌, Ok, IfOk, IfErr};
-ghost use Rattle.um_tree.specs.RawTree.{base_text};
+ghost use Rattle.std.specs.Prelude.{◌≡◌, Ok, IfOk, IfErr, map};
+ghost use Rattle.um_tree.specs.ProgramTree.{record_tree, function_tree};
+ghost use Rattle.um_tree.specs.RawTree.{var_text, field_decl_text, whole_function_text, decl_text, base_text, short_text, unit_text};
 ghost use Rattle.um_names.specs.Known.{is_taken};
-ghost use Rattle.um_names.specs.Resolution.{resolved_decl};
+ghost use Rattle.um_names.specs.Parts.{itself};
+ghost use Rattle.um_names.specs.Resolution.{resolved_record_decl, resolved_function, resolved_decl};
 ghost use Rattle.um_names.specs.Stops.{IsFirst};
-ghost use Rattle.um_names.specs.Tables.{AreTables, known_of};
+ghost use Rattle.um_names.specs.Tables.{AreTables, known_of, own_callable};
 
-use crate::adding::with_base;
+use crate::adding::{copied, with_base, with_function, with_short};
+use crate::callable::Callable;
+use crate::expr::{Body, expr};
+use crate::fields::field_decls;
 use crate::known::Tables;
+use crate::parts::{result_note, unit_parameters};
+use crate::records::with_record;
+use crate::signature::{Parameters, params};
 use crate::stop::NameStop;
-use std::alloc::Global;
-use um_tree::Name;
+use crate::table::NameTable;
+use crate::variables::named_variables;
+use std::alloc::{AllocError, Global};
+use um_tree::{
+    FieldDecls, Function, Name, Notes, RawDecl, RawFieldDecl, RawFunction, RawUnit, RawVar, Record,
+};
 
 /// Whether a measure or a record has this name.
-pub fn is_taken(tables: &Tables, name: &[u8]) -> bool
+fn is_taken(tables: &Tables, name: &[u8]) -> bool
     requires { AreTables tables.now }
     ensures { result ≡ is_taken (known_of tables.now) name.now }
 {
     tables.measures.has(name) || tables.record_names.has(name)
 }
 
+/// A record, which isn't known in its own fields.
+fn record_decl(
+    alloc: Global,
+    tables: &Tables,
+    at: u32,
+    name: &Name,
+    vars: &[RawVar],
+    fields: &[RawFieldDecl],
+) -> Result<Record, NameStop>
+    requires { AreTables tables.now }
+    ensures exact { IfOk result (λ d. resolved_record_decl (known_of tables.now) at name.now (map var_text vars.now) (map field_decl_text fields.now) ≡ Ok (record_tree d)) }
+    ensures faults { IfErr result (IsFirst (resolved_record_decl (known_of tables.now) at name.now (map var_text vars.now) (map field_decl_text fields.now))) }
+{
+    if is_taken(tables, name.as_slice()) {
+        return Err(NameStop::Twice { at });
+    }
+    let variables = unit_parameters(alloc, vars)?;
+    let items = field_decls(alloc, tables, &variables, fields)?;
+    Ok(Record {
+        name: copied(alloc, name)?,
+        at,
+        units: variables.count(),
+        fields: FieldDecls { items },
+    })
+}
+
+/// The function itself, where it may be called in its body.
+fn itself(alloc: Global, raw: &RawFunction) -> Result<Option<Callable>, AllocError>
+    ensures { IfOk result (λ own. own_callable own ≡ itself (whole_function_text raw.now)) }
+{
+    if !raw.recursive {
+        return Ok(None);
+    }
+    Ok(Some(Callable {
+        name: copied(alloc, &raw.name)?,
+        params: raw.params.items.len(),
+    }))
+}
+
+/// A function: its name, its parameters, its result, its body.
+fn function(alloc: Global, tables: &Tables, raw: &RawFunction) -> Result<Function, NameStop>
+    requires { AreTables tables.now }
+    ensures exact { IfOk result (λ f. resolved_function (known_of tables.now) (whole_function_text raw.now) ≡ Ok (function_tree f)) }
+    ensures faults { IfErr result (IsFirst (resolved_function (known_of tables.now) (whole_function_text raw.now))) }
+{
+    if tables.function_names.has(raw.name.as_slice()) {
+        return Err(NameStop::Twice { at: raw.at });
+    }
+    let variables = named_variables(alloc, raw)?;
+    let Parameters { notes, mut scope } = params(alloc, tables, &variables, &raw.params.items)?;
+    let result = result_note(alloc, tables, &variables, &raw.result)?;
+    let named = variables.count();
+    let own = itself(alloc, raw)?;
+    let known = Body { variables, own };
+    let body = expr(alloc, tables, &known, &mut scope, &raw.body)?;
+    Ok(Function {
+        name: copied(alloc, &raw.name)?,
+        at: raw.at,
+        recursive: raw.recursive,
+        params: Notes { items: notes },
+        named,
+        result,
+        body,
+    })
+}
+
 /// The tables behind a base unit.
-pub fn declare_base(alloc: Global, tables: Tables, at: u32, name: &Name) -> Result<Tables, NameStop>
+fn declare_base(alloc: Global, tables: Tables, at: u32, name: &Name) -> Result<Tables, NameStop>
     requires { AreTables tables }
     ensures tables { IfOk result AreTables }
     ensures exact { IfOk result (λ t. resolved_decl (known_of tables) (base_text at name.now) ≡ Ok (known_of t)) }
@@ -32,4 +110,46 @@ pub fn declare_base(alloc: Global, tables: Tables, at: u32, name: &Name) -> Resu
         return Err(NameStop::Twice { at });
     }
     Ok(with_base(alloc, tables, name)?)
+}
+
+/// The tables behind an abbreviation, which isn't known in its own unit text.
+fn declare_short(
+    alloc: Global,
+    tables: Tables,
+    at: u32,
+    name: &Name,
+    unit: &RawUnit,
+) -> Result<Tables, NameStop>
+    requires { AreTables tables }
+    ensures tables { IfOk result AreTables }
+    ensures exact { IfOk result (λ t. resolved_decl (known_of tables) (short_text at name.now (unit_text unit.now)) ≡ Ok (known_of t)) }
+    ensures faults { IfErr result (IsFirst (resolved_decl (known_of tables) (short_text at name.now (unit_text unit.now)))) }
+{
+    if is_taken(&tables, name.as_slice()) {
+        return Err(NameStop::Twice { at });
+    }
+    let unit = tables.unit(alloc, &NameTable::new(alloc), unit)?;
+    Ok(with_short(alloc, tables, name, unit)?)
+}
+
+/// The tables behind a declaration.
+#[tactic(auto, using(crate::proofs::Taken::not_record))]
+pub fn declare(alloc: Global, tables: Tables, decl: &RawDecl) -> Result<Tables, NameStop>
+    requires { AreTables tables }
+    ensures tables { IfOk result AreTables }
+    ensures exact { IfOk result (λ t. resolved_decl (known_of tables) (decl_text decl.now) ≡ Ok (known_of t)) }
+    ensures faults { IfErr result (IsFirst (resolved_decl (known_of tables) (decl_text decl.now))) }
+{
+    match decl {
+        RawDecl::Base(at, name) => declare_base(alloc, tables, *at, name),
+        RawDecl::Short(at, name, unit) => declare_short(alloc, tables, *at, name, unit),
+        RawDecl::Record(at, name, vars, fields) => {
+            let record = record_decl(alloc, &tables, *at, name, &vars.items, &fields.items)?;
+            Ok(with_record(alloc, tables, record)?)
+        }
+        RawDecl::Function(raw) => {
+            let function = function(alloc, &tables, raw)?;
+            Ok(with_function(alloc, tables, function)?)
+        }
+    }
 }

@@ -9,7 +9,7 @@ ghost use Rattle.um_tree.specs.ProgramTree.{field_tree, record_tree, function_tr
 ghost use Rattle.um_names.specs.Known.{nothing, is_taken, is_among, measure_unit, function_names, field_names};
 ghost use Rattle.um_names.specs.Stops.{IsFirst};
 ghost use Rattle.um_names.specs.Tables.{AreTables, known_of};
-ghost use Rattle.um_names.specs.UnitNames.{resolved_unit};
+ghost use Rattle.um_names.specs.UnitNames.{unknown_in, resolved_unit};
 ghost use Rattle.um_names.specs.TypeNames.{resolved_record};
 ghost use Rattle.um_names.specs.Tables.{callables_in, own_found};
 ghost use Rattle.um_names.specs.ExprNames.{field_of, callable_of, same_names, if_same_names};
@@ -19,7 +19,7 @@ use crate::callable::{Callable, FieldNumber, counted};
 use crate::measures::Measures;
 use crate::stop::NameStop;
 use crate::table::NameTable;
-use crate::unit::unit;
+use crate::unit::{unit, unknown};
 use std::alloc::{AllocError, Global};
 use um_tree::{FieldDecl, Function, Name, RawField, RawUnit, Record};
 use um_units::Unit;
@@ -69,6 +69,14 @@ impl Tables {
         ensures faults { IfErr result (IsFirst (resolved_unit (measure_unit (known_of self.now)) variables.now (unit_text raw.now))) }
     {
         unit(alloc, &self.measures, variables, raw)
+    }
+
+    /// The place of the first name or variable of a unit text that isn't known.
+    pub fn unknown(&self, variables: &NameTable, raw: &RawUnit) -> Option<u32>
+        requires { AreTables self.now }
+        ensures { result ≡ unknown_in (measure_unit (known_of self.now)) variables.now (unit_text raw.now) }
+    {
+        unknown(&self.measures, variables, raw)
     }
 
     /// The number of the record of this name, which takes so many units.

@@ -7,18 +7,26 @@ mod callable;
 mod closed;
 mod declare;
 mod expr;
+mod fields;
+mod heads;
 mod known;
 mod measures;
 mod parts;
 mod records;
+mod resolving;
 mod scope;
 mod signature;
+mod signatures;
 mod stop;
 mod table;
+#[cfg(test)]
+mod tests;
 mod types;
 mod unit;
 mod variables;
 
 pub use abbreviation::{Abbreviation, Abbreviations};
 pub use closed::closed_unit;
+pub use resolving::{abbreviations, resolve};
+pub use signatures::types_of;
 pub use stop::NameStop;

@@ -46,7 +46,7 @@ fn first_of(units: &[RawUnit]) -> u32
 
 /// The place of the first measure or variable that isn't known.
 #[cycle(unknown)]
-fn unknown(measures: &Measures, variables: &NameTable, raw: &RawUnit) -> Option<u32>
+pub fn unknown(measures: &Measures, variables: &NameTable, raw: &RawUnit) -> Option<u32>
     ensures { result ≡ unknown_in (short_unit measures.now) variables.now (unit_text raw.now) }
 {
     match raw {

@@ -1,4 +1,4 @@
-use Rattle.std.proofs.Common.{◌≡◌, ℕ, List, [], ◌∷◌, ◌++◌, length, sym, ap, ◌∙◌, subst}
+use Rattle.std.proofs.Common.{◌≡◌, ℕ, List, [], ◌∷◌, ◌++◌, sym, ap, ◌∙◌, subst}
 use Rattle.um_units.specs.PowerMap.{PowerMap}
 use Rattle.um_names.specs.declared.abbreviation.Abbreviation.{Abbreviation}
 use Rattle.um_names.specs.Known.{number_of, short_unit, base_or}

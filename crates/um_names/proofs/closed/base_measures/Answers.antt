@@ -1,4 +1,4 @@
-use Rattle.std.proofs.Common.{ℕ, List, ap, ◌∙◌}
+use Rattle.std.proofs.Common.{List, ap}
 use Rattle.um_names.specs.declared.abbreviation.Abbreviation.{Abbreviation}
 use Rattle.um_names.specs.Known.{short_unit}
 use Rattle.um_names.proofs.MeasureLists.{bases_more}

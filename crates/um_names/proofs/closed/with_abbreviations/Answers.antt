@@ -1,4 +1,3 @@
-use Rattle.std.proofs.Common.{ℕ, List, ap, ◌∙◌}
 use Rattle.um_names.specs.Known.{short_unit}
 use Rattle.um_names.proofs.MeasureLists.{shorts_more, both_none}
 use Rattle.um_names.proofs.closed.with_abbreviations.Goals as goal

@@ -1,0 +1,87 @@
+//! What a type text beside a program may name.
+
+ghost use Rattle.std.specs.Prelude.{◌≡◌, [], IfOk, map};
+ghost use Rattle.um_tree.specs.Formed.{AreDistinct, IsFormed};
+ghost use Rattle.um_tree.specs.ProgramTree.{record_tree, program_tree};
+ghost use Rattle.um_names.specs.Heads.{head_of, only_bases, with_shorts, with_heads, heads};
+ghost use Rattle.um_names.specs.Known.{record_names};
+ghost use Rattle.um_names.specs.Tables.{AreTables, known_of};
+
+use crate::abbreviation::{Abbreviation, Abbreviations};
+use crate::adding::{copied, with_base, with_short};
+use crate::known::Tables;
+use crate::records::with_record;
+use std::alloc::{AllocError, Global};
+use um_tree::{FieldDecls, Name, Program, Record};
+
+/// The tables of base units.
+fn base_tables(alloc: Global, names: &[Name]) -> Result<Tables, AllocError>
+    requires once { AreDistinct names.now }
+    ensures tables { IfOk result AreTables }
+    ensures known { IfOk result (λ t. known_of t ≡ only_bases names.now) }
+{
+    let mut tables = Tables::new(alloc);
+    for i in 0..names.len() {
+        tables = with_base(alloc, tables, &names[i])?;
+    }
+    Ok(tables)
+}
+
+/// With these abbreviations.
+fn with_shorts(alloc: Global, tables: Tables, shorts: &[Abbreviation]) -> Result<Tables, AllocError>
+    requires tables { AreTables tables }
+    ensures tables { IfOk result AreTables }
+    ensures known { IfOk result (λ t. known_of t ≡ with_shorts (known_of tables) shorts.now) }
+{
+    let mut all = tables;
+    for i in 0..shorts.len() {
+        let unit = shorts[i].unit.copy(alloc)?;
+        all = with_short(alloc, all, &shorts[i].name, unit)?;
+    }
+    Ok(all)
+}
+
+/// A record without its fields.
+fn head(alloc: Global, whole: &Record) -> Result<Record, AllocError>
+    ensures { IfOk result (λ d. record_tree d ≡ head_of (record_tree whole.now)) }
+{
+    Ok(Record {
+        name: copied(alloc, &whole.name)?,
+        at: whole.at,
+        units: whole.units,
+        fields: FieldDecls {
+            items: Vec::new(alloc),
+        },
+    })
+}
+
+/// With the heads of these records.
+fn with_heads(alloc: Global, tables: Tables, records: &[Record]) -> Result<Tables, AllocError>
+    requires tables { AreTables tables }
+    requires none { (known_of tables).program.records ≡ [] }
+    requires once { AreDistinct (record_names (map record_tree records.now)) }
+    ensures tables { IfOk result AreTables }
+    ensures known { IfOk result (λ t. known_of t ≡ with_heads (known_of tables) (map record_tree records.now)) }
+{
+    let mut all = tables;
+    for i in 0..records.len() {
+        let record = head(alloc, &records[i])?;
+        all = with_record(alloc, all, record)?;
+    }
+    Ok(all)
+}
+
+/// The measures of a program, these abbreviations, and the heads of its records.
+pub fn heads(
+    alloc: Global,
+    program: &Program,
+    abbreviations: &Abbreviations,
+) -> Result<Tables, AllocError>
+    requires formed { IsFormed (program_tree program.now) }
+    ensures tables { IfOk result AreTables }
+    ensures known { IfOk result (λ t. known_of t ≡ heads (program_tree program.now) abbreviations.now) }
+{
+    let bases = base_tables(alloc, program.bases.as_slice())?;
+    let measures = with_shorts(alloc, bases, abbreviations.as_slice())?;
+    with_heads(alloc, measures, &program.records.items)
+}

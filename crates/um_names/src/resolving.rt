@@ -1,0 +1,73 @@
+//! The program of a raw tree.
+
+ghost use Rattle.std.specs.Prelude.{◌≡◌, Ok, IfOk, IfErr, map};
+ghost use Rattle.um_tree.specs.ProgramTree.{program_tree};
+ghost use Rattle.um_tree.specs.RawTree.{decl_text, program_text};
+ghost use Rattle.um_names.specs.Parts.{resolved_program, resolved_abbreviations};
+ghost use Rattle.um_names.specs.Resolution.{resolution};
+ghost use Rattle.um_tree.specs.Formed.{IsFormed};
+ghost use Rattle.um_names.specs.Readable.{IsReadable};
+ghost use Rattle.um_names.specs.Stops.{IsFirst};
+ghost use Rattle.um_names.specs.Tables.{AreTables, known_of};
+
+use crate::abbreviation::Abbreviations;
+use crate::declare::declare;
+use crate::known::Tables;
+use crate::stop::NameStop;
+use std::alloc::{AllocError, Global};
+use um_tree::{Functions, Names, Program, RawDecl, RawProgram, Records};
+
+/// The tables behind these declarations.
+fn declarations(alloc: Global, raw: &[RawDecl]) -> Result<Tables, NameStop>
+    ensures exact { IfOk result (λ t. resolution (map decl_text raw.now) ≡ Ok (known_of t)) }
+    ensures faults { IfErr result (IsFirst (resolution (map decl_text raw.now))) }
+{
+    let mut tables = Tables::new(alloc);
+    for decl in raw {
+        tables = declare(alloc, tables, decl)?;
+    }
+    Ok(tables)
+}
+
+/// The program of a raw tree, each of whose names is known where it stands.
+///
+/// A name is known from the end of its declaration on, and a `rec` function in its own body too. Measures,
+/// abbreviations and records share one space of names. A refusal is the first in the order of the text, with its
+/// place: Unknown at a name that isn't known, Twice at one that is declared again, WrongCount at a name with another
+/// number of parts than declared, Hole at `_` where none may stand, Range at the first token of a unit text with a
+/// part out of range. It takes time linear in the text. Measures and their spaces of names are the F#
+/// specification's, Units Of Measure.
+pub fn resolve(alloc: Global, raw: &RawProgram) -> Result<Program, NameStop>
+    ensures exact { IfOk result (λ program. resolved_program (program_text raw.now) ≡ Ok (program_tree program)) }
+    ensures formed { IfOk result (λ program. IsReadable (program_text raw.now) → IsFormed (program_tree program)) }
+    ensures faults { IfErr result (IsFirst (resolved_program (program_text raw.now))) }
+{
+    let tables = declarations(alloc, &raw.items)?;
+    Ok(Program {
+        bases: Names::from_vec(tables.bases),
+        records: Records {
+            items: tables.records,
+        },
+        functions: Functions {
+            items: tables.functions,
+        },
+    })
+}
+
+/// The abbreviations of a raw tree with their closed units, in order of declaration.
+///
+/// The program is the one that `resolve` gives for the tree. It takes time linear in the text.
+pub fn abbreviations(
+    alloc: Global,
+    raw: &RawProgram,
+    program: &Program,
+) -> Result<Abbreviations, AllocError>
+    requires given { resolved_program (program_text raw.now) ≡ Ok (program_tree program.now) }
+    ensures exact { IfOk result (λ shorts. resolved_abbreviations (program_text raw.now) ≡ Ok shorts) }
+{
+    match declarations(alloc, &raw.items) {
+        Ok(tables) => Ok(Abbreviations::from_vec(tables.shorts)),
+        // the tree has a program, so that memory alone can be wanting
+        Err(_) => Err(AllocError),
+    }
+}
