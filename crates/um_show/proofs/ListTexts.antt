@@ -1,5 +1,5 @@
 -- The texts of lists of units, expressions and fields, by the texts of their items.
-use Rattle.std.proofs.Common.{◌≡◌, refl, ap, ◌∙◌, ℕ, List, [], ◌∷◌, ◌++◌, map, codes}
+use Rattle.std.proofs.Common.{◌≡◌, refl, ap, ◌∙◌, List, [], ◌∷◌, ◌++◌, map, codes}
 use Rattle.std.specs.List.{flat_map, join_by}
 use Rattle.um_tree.specs.RawTree.{UnitText, units_in_order, ExprText, exprs_in_order, FieldPart, fields_in_order}
 use Rattle.um_show.specs.Pieces.{text_of}

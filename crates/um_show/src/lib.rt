@@ -4,6 +4,8 @@
 mod decl;
 mod expr;
 mod number;
+#[cfg(test)]
+mod tests;
 mod text;
 mod types;
 mod unit;

@@ -1,4 +1,4 @@
-use Rattle.std.proofs.Common.{◌≡◌, ◌++◌, [], ◌∷◌, ◌∙◌, sym, ap, map}
+use Rattle.std.proofs.Common.{◌++◌, [], ◌∷◌, ◌∙◌, sym, ap, map}
 use Rattle.um_tree.specs.RawTree.{field_decl_text}
 use Rattle.um_show.specs.Pieces.{semi, space}
 use Rattle.um_show.specs.Layout.{field_decl_pieces}

@@ -1,4 +1,4 @@
-use Rattle.std.proofs.Common.{◌++◌, [], ◌∷◌, refl}
+use Rattle.std.proofs.Common.{[], ◌∷◌, refl}
 use Rattle.um_tree.specs.RawTree.{decl_text}
 use Rattle.um_show.specs.Pieces.{line_end}
 use Rattle.um_show.specs.Layout.{decl_pieces}

@@ -1,11 +1,11 @@
-use Rattle.std.proofs.Common.{rules, ◌≡◌, ◌++◌, refl, ap, sym, ◌∙◌, [], ◌∷◌, append_assoc, codes, OnOk, arith, to_z, of_z, w32}
+use Rattle.std.proofs.Common.{rules, ◌≡◌, ◌++◌, ap, sym, ◌∙◌, [], ◌∷◌, append_assoc, codes, arith, to_z, of_z, w32}
 use Rattle.std.specs.List.{join_by}
 use Rattle.std.proofs.lemmas.Fmt.{decimal_digit}
 use Rattle.std.proofs.lemmas.List.{take_all, append-nil}
 use Rattle.um_tree.specs.declared.raw.RawUnit.{the_lemmas}
-use Rattle.um_tree.specs.RawTree.{unit_text, units_in_order, one_text, power_text, times_text, over_text, inverse_text, bracket_text}
+use Rattle.um_tree.specs.RawTree.{unit_text, one_text, power_text, times_text, over_text, inverse_text, bracket_text}
 use Rattle.um_show.specs.Pieces.{text_of, digits, caret, times, over, bracket_open, bracket_close}
-use Rattle.um_show.specs.Layout.{unit_pieces, side_pieces, power_pieces}
+use Rattle.um_show.specs.Layout.{unit_pieces, power_pieces}
 use Rattle.um_show.proofs.Joined.{joined_next, grown, grows, closes}
 use Rattle.um_show.proofs.ListTexts.{sides}
 use Rattle.um_show.proofs.unit.+push_unit.Goals as goal

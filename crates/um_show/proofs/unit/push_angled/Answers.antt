@@ -1,4 +1,4 @@
-use Rattle.std.proofs.Common.{◌≡◌, ◌++◌, [], ◌∷◌, ap, map}
+use Rattle.std.proofs.Common.{[], ◌∷◌, ap, map}
 use Rattle.std.specs.List.{join_by}
 use Rattle.um_tree.specs.RawTree.{note_text}
 use Rattle.um_show.specs.Pieces.{less, greater, comma, space}
