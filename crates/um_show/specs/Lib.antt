@@ -1,0 +1,4 @@
+pub mod NumberText
+pub mod Pieces
+pub mod Layout
+pub mod Lists

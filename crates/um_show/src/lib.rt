@@ -1,0 +1,14 @@
+//! Printed texts: of numbers, and of programs in their layout.
+#![tactic(auto)]
+
+mod decl;
+mod expr;
+mod number;
+#[cfg(test)]
+mod tests;
+mod text;
+mod types;
+mod unit;
+
+pub use decl::program_text;
+pub use number::number_text;
