@@ -10,7 +10,7 @@ fn answers(rt: HostRuntime) -> Result<(), Fail> {
     let alloc = rt.alloc();
     let built = "error 18: not built\n";
     let usage = "error 1: usage\n";
-    let cases: [(&str, &str, &str, Status); 16] = [
+    let cases: [(&str, &str, &str, Status); 15] = [
         (
             "types",
             AREA,
@@ -39,22 +39,11 @@ fn answers(rt: HostRuntime) -> Result<(), Fail> {
         (
             "types",
             "[<Measure>] type m\n[<Measure>] type s\nlet f (x: num<m>) (y: num<s>) = x + y\n",
-            built,
-            Status::NotBuilt,
+            "error 9: units of f at 3:35\n",
+            Status::Units,
         ),
-        (
-            "types",
-            "let f (x: num<m>) = x\n[<Measure>] type m\n",
-            built,
-            Status::NotBuilt,
-        ),
-        (
-            "types",
-            "let f (x: num) (x: num) = x\n",
-            built,
-            Status::NotBuilt,
-        ),
-        ("types", "\n", built, Status::NotBuilt),
+        ("types", "\n", "", Status::Done),
+        ("fmt", AREA, AREA, Status::Done),
         ("code", AREA, built, Status::NotBuilt),
         ("code a b", AREA, built, Status::NotBuilt),
         ("run 1 area", AREA, built, Status::NotBuilt),
@@ -97,7 +86,7 @@ fn pieces(rt: HostRuntime) -> Result<(), Fail> {
 fn long_texts(rt: HostRuntime) -> Result<(), Fail> {
     let alloc = rt.alloc();
     let cases = [
-        (1_048_576, Status::NotBuilt, "error 18: not built\n"),
+        (1_048_576, Status::Done, ""),
         (1_048_577, Status::TooLong, "error 2: text too long\n"),
     ];
     for (size, status, want) in cases {

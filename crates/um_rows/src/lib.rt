@@ -6,4 +6,16 @@ mod answers;
 #[cfg(test)]
 mod faults;
 #[cfg(test)]
+mod layouts;
+#[cfg(test)]
+mod limits;
+#[cfg(test)]
+mod names;
+#[cfg(test)]
+mod refusals;
+#[cfg(test)]
 mod runs;
+#[cfg(test)]
+mod shapes;
+#[cfg(test)]
+mod units;

@@ -48,6 +48,20 @@ fn failing(alloc: Global, call: Option<u64>) -> Result<Vec<u64>, Fail> {
     Ok(calls)
 }
 
+/// A text, what is written, and the status.
+pub type Case = (&'static [u8], &'static str, Status);
+
+/// Whether each text has its answer to the words of the line.
+pub fn are_answered(rt: &HostRuntime, line: &str, cases: &[Case]) -> Result<(), Fail> {
+    let alloc = rt.alloc();
+    for (text, want, status) in cases {
+        let (got, bytes) = run(alloc, line, text, CALM)?;
+        assert!(rt; got == *status, "status of {line}: {want}");
+        assert!(rt; bytes.as_slice() == want.as_bytes(), "text of {line}: {want}");
+    }
+    Ok(())
+}
+
 /// The status of a run, and the bytes that it wrote.
 pub fn run(alloc: Global, line: &str, text: &[u8], wire: Wire) -> Result<(Status, Vec<u8>), Fail> {
     let words = words_of(alloc, line)?;

@@ -1,39 +1,31 @@
--- The lines of the functions of a product program, function by function.
-use Rattle.std.proofs.Common.{◌≡◌, refl, sym, ap, ◌∙◌, subst, ℕ, zero, suc, ◌+◌, ◌<◌, ◌≤◌, ◌⊎◌, inl, inr, List, [], ◌∷◌, ◌++◌, map, length, slice_get, get_or, option_map, Some, arith, length-append}
+-- The lines of the functions' schemes, function by function.
+use Rattle.std.proofs.Common.{◌≡◌, refl, sym, ap, ◌∙◌, subst, ℕ, zero, suc, ◌+◌, ◌<◌, ◌⊎◌, inl, inr, List, [], ◌∷◌, ◌++◌, map, length, slice_get, get_or, option_map, Option, Some, arith, length-append}
 use Rattle.std.specs.List.{concat}
-use Rattle.std.proofs.lemmas.List.{append-nil}
+use Rattle.std.proofs.lemmas.List.{append-nil, length-map}
 use Rattle.std.proofs.lemmas.List.Folds.{concat-append}
-use Rattle.std.proofs.lemmas.Option.{slice_get_within, slice_get-map, slice_get-get_or}
+use Rattle.std.proofs.lemmas.Option.{slice_get-map, slice_get-get_or, slice_get_within}
+use Rattle.um_units.specs.PowerMap.{PowerMap}
 use Rattle.um_tree.specs.declared.program.Function.{Function}
-use Rattle.std.proofs.lemmas.Bool.{cases_lt}
-use Rattle.um_units.specs.PowerMap.{one}
-use Rattle.um_tree.specs.TypeTree.{TypeTree, num_type}
 use Rattle.um_tree.specs.ProgramTree.{FunctionTree, ProgramTree, function_tree}
-use Rattle.um_tree.specs.Typing.{TypesMatch}
-use Rattle.um_tree.specs.Scheme.{IsPrincipal}
-use Rattle.um_products.specs.ProductFunction.{IsProductFunction, HasProductFunctions}
-use Rattle.um_tool.specs.Range.{NodesFit, ProgramFits}
+use Rattle.um_closed.specs.declared.function.NumberSignature.{NumberSignature}
+use Rattle.um_closed.specs.ClosedSchemes.{HasSchemes, IsFirstUntyped, signature_scheme}
+use Rattle.um_closed.specs.ClosedProgram.{IsClosedProgram}
 use Rattle.um_tool.specs.SchemeText.{IsSchemeLine, IsSchemesText}
-use Rattle.um_tool.specs.Product.{param_units, PartsFit, IsProductLine, product_scheme}
-use Rattle.um_tool.specs.Lines.{AddsLine}
-use Rattle.um_tool.proofs.Products.{product_principal, param_units-product, parts-nodes, nodes-parts, params_are, params_match, all_closed}
+use Rattle.um_tool.specs.Lines.{AddsUnitsLine}
+use Rattle.um_tool.specs.Refusals.{IsUnitsReply}
+use Rattle.um_tool.specs.Answer.{TypesAnswer, SchemesAnswer}
+use Rattle.um_tool.specs.declared.status.Status.{Status}
+use Rattle.um_tool.proofs.Texts.{scheme_line}
 
--- the lines of the functions below n stand in the text, and their parts fit
+-- the lines of the functions below n stand in the text
 pub record PrintedUpTo (p : ProgramTree) (n : ℕ) (text : List ℕ) : Type 0 where
   pub lines : List (List ℕ)
   pub count : length lines ≡ n
   pub each : (i : ℕ) (one : List ℕ) → slice_get lines i ≡ Some one → IsSchemeLine p i one
   pub is : text ≡ concat lines
-  pub fits : (i : ℕ) (f : FunctionTree) → i < n → slice_get p.functions i ≡ Some f → PartsFit (param_units f) f.body
 
 pub none_printed : (p : ProgramTree) → PrintedUpTo p 0 []
-none_printed p = record {
-  lines = [];
-  count = refl;
-  each = λ i l e. absurd (cc e);
-  is = refl;
-  fits = λ i f h e. absurd (omega (arith, h));
-}
+none_printed p = record { lines = []; count = refl; each = λ i l e. absurd (cc e); is = refl }
 
 -- the last of a longer list, or one before it
 last_or_before : {A : Type 0} (xs : List A) (x : A) (i : ℕ) (y : A) → slice_get (xs ++ x ∷ []) i ≡ Some y → (slice_get xs i ≡ Some y) ⊎ ((i ≡ length xs) × (y ≡ x))
@@ -46,64 +38,54 @@ last_or_before (z ∷ xs) x (suc i) y e = later (last_or_before xs x i y e)
     later (inl before) = inl before
     later (inr (last, same)) = inr (omega (arith, last), same)
 
-scheme_line : (p : ProgramTree) (n : ℕ) (f : FunctionTree) (text : List ℕ) → IsProductFunction f → slice_get p.functions n ≡ Some f → IsProductLine p f text → IsSchemeLine p n text
-scheme_line p n f text product declared h = record {
-  function = f;
-  declared = declared;
-  scheme = product_scheme (param_units f) f.body;
-  principal = subst (λ us. IsPrincipal p n (product_scheme us f.body)) (sym (param_units-product f product)) (product_principal p n f product declared);
-  types = h.types;
-  printed = h.printed;
-  is = h.is;
-}
-
-pub one_more : (p : ProgramTree) (n : ℕ) (f : FunctionTree) (old new : List ℕ) → HasProductFunctions p → slice_get p.functions n ≡ Some f → PrintedUpTo p n old → AddsLine p f old new → PartsFit (param_units f) f.body → PrintedUpTo p (n + 1) new
-one_more p n f old new products declared before added parts = record {
-  lines = before.lines ++ added.added ∷ [];
-  count = let more = length-append before.lines (added.added ∷ []) in omega (arith, more, before.count);
-  each = λ i l e. by_line i l (last_or_before before.lines added.added i l e);
-  is = added.is ∙ ap (λ s. s ++ added.added) before.is ∙ ap (λ s. concat before.lines ++ s) (sym (append-nil added.added)) ∙ sym (concat-append before.lines (added.added ∷ []));
-  fits = λ i g h e. by_function i g h e;
+one_line : (p : ProgramTree) (n : ℕ) (old new : List ℕ) → PrintedUpTo p n old → (added : List ℕ) × IsSchemeLine p n added × (new ≡ old ++ added) → PrintedUpTo p (n + 1) new
+one_line p n old new before added = record {
+  lines = before.lines ++ added.0 ∷ [];
+  count = let more = length-append before.lines (added.0 ∷ []) in omega (arith, more, before.count);
+  each = λ i l e. by_line i l (last_or_before before.lines added.0 i l e);
+  is = added.2 ∙ ap (λ s. s ++ added.0) before.is ∙ ap (λ s. concat before.lines ++ s) (sym (append-nil added.0)) ∙ sym (concat-append before.lines (added.0 ∷ []));
 }
   where
-    by_line : (i : ℕ) (l : List ℕ) → (slice_get before.lines i ≡ Some l) ⊎ ((i ≡ length before.lines) × (l ≡ added.added)) → IsSchemeLine p i l
+    by_line : (i : ℕ) (l : List ℕ) → (slice_get before.lines i ≡ Some l) ⊎ ((i ≡ length before.lines) × (l ≡ added.0)) → IsSchemeLine p i l
     by_line i l (inl e) = before.each i l e
     by_line i l (inr (last, same)) =
         let here : i ≡ n = last ∙ before.count in
-        subst (λ j. IsSchemeLine p j l) (sym here) (subst (IsSchemeLine p n) (sym same) (scheme_line p n f added.added (products n f declared) declared added.printed))
-
-    by_function : (i : ℕ) (g : FunctionTree) → i < n + 1 → slice_get p.functions i ≡ Some g → PartsFit (param_units g) g.body
-    by_function i g h e = by_place i g h e (cases_lt i n)
-      where
-        by_place : (i : ℕ) (g : FunctionTree) → i < n + 1 → slice_get p.functions i ≡ Some g → (i < n) ⊎ (n ≤ i) → PartsFit (param_units g) g.body
-        by_place i g h e (inl below) = before.fits i g below e
-        by_place i g h e (inr above) =
-            let here : i ≡ n = omega (arith, h, above) in
-            let found : Some g ≡ Some f = sym e ∙ ap (slice_get p.functions) here ∙ declared in
-            let same : g ≡ f = cc found in
-            subst (λ k. PartsFit (param_units k) k.body) (sym same) parts
-
--- one type for each parameter
-param_types : (f : FunctionTree) (h : IsProductFunction f) (ts : List TypeTree) → TypesMatch (λ k. one) f.params ts → ts ≡ map num_type h.units
-param_types f h ts matched = params_are (λ k. one) h.units ts (all_closed h.units h.closed) (subst (λ ns. TypesMatch (λ k. one) ns ts) h.params matched)
-
-pub all_printed : (p : ProgramTree) (n : ℕ) (text : List ℕ) → HasProductFunctions p → length p.functions ≤ n → PrintedUpTo p n text → n ≤ length p.functions → ProgramFits p × IsSchemesText p text
-all_printed p n text products covers printed within = (fits, record { lines = printed.lines; count = omega (arith, printed.count, covers, within); each = printed.each; is = printed.is })
-  where
-    fits : ProgramFits p
-    fits i f ts declared matched =
-        let h = products i f declared in
-        let below : i < n = omega (arith, covers, slice_get_within p.functions i f declared) in
-        let parts : PartsFit h.units f.body = subst (λ us. PartsFit us f.body) (param_units-product f h) (printed.fits i f below declared) in
-        subst (λ us. NodesFit us f.body) (sym (param_types f h ts matched)) (parts-nodes h.units f.body h.body parts)
-
-pub past_range : (p : ProgramTree) (n : ℕ) (f : FunctionTree) → HasProductFunctions p → slice_get p.functions n ≡ Some f → (PartsFit (param_units f) f.body → ⊥) → ProgramFits p → ⊥
-past_range p n f products declared past fits =
-    let h = products n f declared in
-    let closed = all_closed h.units h.closed in
-    let matched : TypesMatch (λ k. one) f.params (map num_type h.units) = subst (λ ns. TypesMatch (λ k. one) ns (map num_type h.units)) (sym h.params) (params_match (λ k. one) h.units closed) in
-    past (subst (λ us. PartsFit us f.body) (sym (param_units-product f h)) (nodes-parts h.units f.body h.body (fits n f (map num_type h.units) declared matched)))
+        subst (λ j. IsSchemeLine p j l) (sym here) (subst (IsSchemeLine p n) (sym same) added.1)
 
 -- the i-th function of the code is the i-th of the program
 pub declared_at : (fs : List Function) (i : ℕ) (f : Function) → i < length fs → f ≡ get_or fs i f → slice_get (map function_tree fs) i ≡ Some (function_tree f)
 declared_at fs i f below is = slice_get-map function_tree fs i ∙ ap (option_map function_tree) (slice_get-get_or fs i f below ∙ ap Some (sym is))
+
+scheme_at : (gs : List NumberSignature) (i : ℕ) (g : NumberSignature) → i < length gs → g ≡ get_or gs i g → slice_get (map signature_scheme gs) i ≡ Some (signature_scheme g)
+scheme_at gs i g below is = slice_get-map signature_scheme gs i ∙ ap (option_map signature_scheme) (slice_get-get_or gs i g below ∙ ap Some (sym is))
+
+-- the line of one more function
+pub one_more : (p : ProgramTree) (fs : List Function) (gs : List NumberSignature) (n : ℕ) (f : Function) (g : NumberSignature) (bases : List (List ℕ)) (name : List ℕ) (us : List PowerMap) (u : PowerMap) (old new : List ℕ)
+    → p.functions ≡ map function_tree fs → HasSchemes p (map signature_scheme gs) → n < length fs → f ≡ get_or fs n f → n < length gs → g ≡ get_or gs n g
+    → bases ≡ p.bases → name ≡ f.name → us ≡ g.params.items → u ≡ g.result
+    → PrintedUpTo p n old → AddsUnitsLine bases name us u old new → PrintedUpTo p (n + 1) new
+one_more p fs gs n f g bases name us u old new functions schemes below_functions f_is below_signatures g_is same_bases same_name same_params same_result before added =
+    let declared : slice_get p.functions n ≡ Some (function_tree f) = ap (λ hs. slice_get hs n) functions ∙ declared_at fs n f below_functions f_is in
+    let principal = schemes.principal n (signature_scheme g) (scheme_at gs n g below_signatures g_is) in
+    let line : AddsUnitsLine p.bases f.name g.params.items g.result old new = (rw (same_bases, same_name, same_params, same_result) at added) in
+    one_line p n old new before (scheme_line p n (function_tree f) g.params.items g.result old new declared principal line)
+
+pub all_printed : (p : ProgramTree) (n : ℕ) (text : List ℕ) → n ≡ length p.functions → PrintedUpTo p n text → IsSchemesText p text
+all_printed p n text whole printed = record { lines = printed.lines; count = printed.count ∙ whole; each = printed.each; is = printed.is }
+
+-- the answer names the function that has no typing
+pub units_answer : (bytes : List ℕ) (p : ProgramTree) (fs : List Function) (i at : ℕ) (f : Function) (name text : List ℕ) (status : Status)
+    → p.functions ≡ map function_tree fs → i < length fs → f ≡ get_or fs i f → name ≡ f.name → IsClosedProgram p → IsFirstUntyped p i at → IsUnitsReply bytes name at text status → TypesAnswer bytes p text status
+unfolding TypesAnswer SchemesAnswer
+units_answer bytes p fs i at f name text status functions below is same closed untyped reply =
+    let declared : slice_get p.functions i ≡ Some (function_tree f) = ap (λ hs. slice_get hs i) functions ∙ declared_at fs i f below is in
+    let found : Some untyped.function ≡ Some (function_tree f) = sym untyped.declared ∙ declared in
+    let one : untyped.function ≡ function_tree f = cc found in
+    let names : name ≡ untyped.function.name = same ∙ sym (ap (λ g. g.name) one) in
+    inl (closed, inr (i, at, untyped, subst (λ x. IsUnitsReply bytes x at text status) names reply))
+
+pub function_within : (p : ProgramTree) (fs : List Function) (i at : ℕ) → p.functions ≡ map function_tree fs → IsFirstUntyped p i at → i < length fs
+function_within p fs i at functions untyped =
+    let below = slice_get_within p.functions i untyped.function untyped.declared in
+    let count = ap length functions ∙ length-map fs function_tree in
+    omega (arith, below, count)

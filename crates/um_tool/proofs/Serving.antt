@@ -6,7 +6,7 @@ use Rattle.um_wire.specs.Bytes.{Tells, AppendsPrefix}
 use Rattle.um_tool.specs.declared.order.Order.{Order}
 use Rattle.um_tool.specs.declared.status.Status.{Status}
 use Rattle.um_tool.specs.declared.status.Status.TheVariants.{Usage, TooLong, ReadFault, WriteFault}
-use Rattle.um_tool.specs.Answer.{Answer, OrderAnswer, LengthAnswer, ProgramAnswer, IsNotBuilt}
+use Rattle.um_tool.specs.Answer.{Answer, OrderAnswer, LengthAnswer, TokensAnswer, IsNotBuilt}
 use Rattle.um_tool.specs.Steps.{IsReply, line}
 use Rattle.um_tool.specs.Orders.{order_of, NamesUnbuilt}
 use Rattle.um_tool.specs.Served.{IsPlanned, Serves}
@@ -34,7 +34,7 @@ usage_planned words left before now text status built none reply =
     let told = some_told left in
     inl (told.0, told.1, inr (built, rw (← none) reply))
 
-pub text_planned : (words : List (List ℕ)) (left : Option (List ℕ)) (before now : ℕ) (order : Order) (bytes text : List ℕ) (status : Status) → (NamesUnbuilt words → ⊥) → Some order ≡ order_of words → Tells left bytes → length bytes ≤ 1048576 → ProgramAnswer order bytes text status → IsPlanned words left before now text status
+pub text_planned : (words : List (List ℕ)) (left : Option (List ℕ)) (before now : ℕ) (order : Order) (bytes text : List ℕ) (status : Status) → (NamesUnbuilt words → ⊥) → Some order ≡ order_of words → Tells left bytes → length bytes ≤ 1048576 → TokensAnswer order bytes text status → IsPlanned words left before now text status
 unfolding Answer OrderAnswer LengthAnswer
 text_planned words left before now order bytes text status built is told short answer =
     let past : 1048576 < length bytes → ⊥ = λ h. omega arith in
@@ -43,6 +43,9 @@ text_planned words left before now order bytes text status built is told short a
 pub long_planned : (words : List (List ℕ)) (left : Option (List ℕ)) (before now : ℕ) (order : Order) (bytes text : List ℕ) (status : Status) → (NamesUnbuilt words → ⊥) → Some order ≡ order_of words → Tells left bytes → 1048576 < length bytes → IsReply text status (line (codes "error 2: text too long")) TooLong → IsPlanned words left before now text status
 unfolding Answer OrderAnswer LengthAnswer
 long_planned words left before now order bytes text status built is told past reply = inl (bytes, told, inr (built, rw (← is) (inl (past, reply))))
+
+pub failed_planned : (words : List (List ℕ)) (left : Option (List ℕ)) (before now : ℕ) (order : Order) (text : List ℕ) (status : Status) → (NamesUnbuilt words → ⊥) → Some order ≡ order_of words → Rose before now → IsReply text status (line (codes "error 15: read")) ReadFault → IsPlanned words left before now text status
+failed_planned words left before now order text status built is rose reply = inr (reply, record { built = built; ordered = rw (← is) refl }, rose)
 
 -- what is planned with the status of a failed read has its cause
 pub planned_read_fault : (words : List (List ℕ)) (left : Option (List ℕ)) (before now : ℕ) (text : List ℕ) (status : Status) → IsPlanned words left before now text status → status ≡ ReadFault → Rose before now

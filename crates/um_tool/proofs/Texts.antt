@@ -1,15 +1,15 @@
 -- Lists of printed texts.
-use Rattle.std.proofs.Common.{◌≡◌, refl, sym, ap, ◌∙◌, subst, ℕ, List, [], ◌∷◌, ◌++◌, map, codes, append_assoc}
+use Rattle.std.proofs.Common.{◌≡◌, refl, sym, ap, ◌∙◌, subst, ℕ, List, [], ◌∷◌, ◌++◌, map, slice_get, Some, codes, append_assoc}
 use Rattle.std.proofs.lemmas.List.{append-nil}
 use Rattle.std.proofs.lemmas.Grind.{flat_map-append}
 use Rattle.std.specs.List.{flat_map, join_by}
 use Rattle.um_units.specs.PowerMap.{PowerMap}
-use Rattle.um_tree.specs.TypeTree.{num_type, note_tree}
-use Rattle.um_tree.specs.declared.note.Note.{Note}
+use Rattle.um_tree.specs.TypeTree.{num_type}
 use Rattle.um_tree.specs.ProgramTree.{FunctionTree, ProgramTree}
-use Rattle.um_tool.specs.SchemeText.{AreTexts, IsNumText, IsTypeText}
-use Rattle.um_tool.specs.Product.{note_unit, param_units, product_unit}
-use Rattle.um_tool.specs.Lines.{AddsTexts, AddsLine, AddsUnitsLine}
+use Rattle.um_tree.specs.Scheme.{IsPrincipal}
+use Rattle.um_closed.specs.ClosedSchemes.{number_scheme}
+use Rattle.um_tool.specs.SchemeText.{AreTexts, IsNumText, IsTypeText, IsSchemeLine}
+use Rattle.um_tool.specs.Lines.{AddsTexts, AddsUnitsLine}
 
 AreTexts-more : {A : Type 0} (P : A → List ℕ → Type 0) (xs : List A) (ts : List (List ℕ)) (x : A) (t : List ℕ) → AreTexts P xs ts → P x t → AreTexts P (xs ++ x ∷ []) (ts ++ t ∷ [])
 AreTexts-more P [] ts x t h is = (t, [], is, refl, ap (λ us. us ++ t ∷ []) h)
@@ -44,27 +44,21 @@ num_texts : (p : ProgramTree) (us : List PowerMap) (ts : List (List ℕ)) → Ar
 num_texts p [] ts h = h
 num_texts p (u ∷ us) ts h = (h.0, h.1, h.2, num_texts p us h.1 h.3, h.4)
 
-pub note_units-map : (ns : List Note) → map (λ n. note_unit (note_tree n)) ns ≡ map note_unit (map note_tree ns)
-note_units-map [] = refl
-note_units-map (n ∷ ns) = λ i. note_unit (note_tree n) ∷ note_units-map ns i
-
--- the line of units is the line of the function
-pub product_line : (p : ProgramTree) (f : FunctionTree) (old new : List ℕ) → AddsUnitsLine p.bases f.name (param_units f) (product_unit (param_units f) f.body) old new → AddsLine p f old new
-product_line p f old new h =
-    let types = join_by (λ s. s) (codes " -> ") (h.params ++ h.result ∷ []) in
-    record {
-      added = f.name ++ codes " : " ++ types ++ codes "\n";
-      printed = record {
+-- the line of a function's units is the line of its scheme
+pub scheme_line : (p : ProgramTree) (i : ℕ) (f : FunctionTree) (us : List PowerMap) (u : PowerMap) (old new : List ℕ) → slice_get p.functions i ≡ Some f → IsPrincipal p i (number_scheme us u)
+    → AddsUnitsLine p.bases f.name us u old new → (added : List ℕ) × IsSchemeLine p i added × (new ≡ old ++ added)
+scheme_line p i f us u old new declared principal h =
+    let types = join_by (λ s. s) (codes " -> ") (h.params ++ h.result ∷ []) in (
+      f.name ++ codes " : " ++ types ++ codes "\n",
+      record {
+        function = f;
+        declared = declared;
+        scheme = number_scheme us u;
+        principal = principal;
         types = types;
-        printed = (h.params ++ h.result ∷ [], AreTexts-more (IsTypeText p) (map num_type (param_units f)) h.params (num_type (product_unit (param_units f) f.body)) h.result (num_texts p (param_units f) h.params h.params_printed) h.result_printed, refl);
+        printed = (h.params ++ h.result ∷ [], AreTexts-more (IsTypeText p) (map num_type us) h.params (num_type u) h.result (num_texts p us h.params h.params_printed) h.result_printed, refl);
         is = refl;
-      };
-      is =
-          let whole : old ++ f.name ++ codes " : " ++ flat_map (λ s. s ++ codes " -> ") h.params ++ h.result ++ codes "\n" ≡ old ++ (f.name ++ codes " : " ++ (flat_map (λ s. s ++ codes " -> ") h.params ++ h.result) ++ codes "\n") = simp (append_assoc) refl in
-          h.is ∙ whole ∙ ap (λ s. old ++ (f.name ++ codes " : " ++ s ++ codes "\n")) (arrows (codes " -> ") h.params h.result);
-    }
-
-pub line_from_units : (p : ProgramTree) (f : FunctionTree) (old new : List ℕ) (us : List PowerMap) (v : PowerMap) → us ≡ param_units f → v ≡ product_unit us f.body → AddsUnitsLine p.bases f.name us v old new → AddsLine p f old new
-line_from_units p f old new us v units unit h =
-    let unit_of_units : v ≡ product_unit (param_units f) f.body = unit ∙ ap (λ ws. product_unit ws f.body) units in
-    product_line p f old new (subst (λ w. AddsUnitsLine p.bases f.name (param_units f) w old new) unit_of_units (subst (λ ws. AddsUnitsLine p.bases f.name ws v old new) units h))
+      },
+      let whole : old ++ f.name ++ codes " : " ++ flat_map (λ s. s ++ codes " -> ") h.params ++ h.result ++ codes "\n" ≡ old ++ (f.name ++ codes " : " ++ (flat_map (λ s. s ++ codes " -> ") h.params ++ h.result) ++ codes "\n") = simp (append_assoc) refl in
+          h.is ∙ whole ∙ ap (λ s. old ++ (f.name ++ codes " : " ++ s ++ codes "\n")) (arrows (codes " -> ") h.params h.result),
+    )

@@ -1,10 +1,11 @@
 pub mod Numbers
 pub mod Orders
 pub mod Steps
+pub mod Places
+pub mod Refusals
+pub mod Reading
 pub mod UnitText
-pub mod Range
 pub mod SchemeText
-pub mod Product
 pub mod Lines
 pub mod Answer
 pub mod Served

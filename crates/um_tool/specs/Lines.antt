@@ -1,26 +1,10 @@
 -- What the printing functions promise one another.
 -- Source: this project's own.
-use Rattle.std.specs.Prelude.{◌≡◌, ℕ, List, ◌++◌, codes, Result, Ok, Err}
+use Rattle.std.specs.Prelude.{◌≡◌, ℕ, List, ◌++◌, codes}
 use Rattle.um_tool.specs.UnitText.{IsUnitText}
 use Rattle.std.specs.List.{flat_map}
-use Rattle.um_units.specs.declared.UnitStop.{UnitStop}
-use Rattle.um_units.specs.declared.UnitStop.TheVariants.{Range, NoMemory}
 use Rattle.um_units.specs.PowerMap.{PowerMap}
-use Rattle.um_tree.specs.ProgramTree.{FunctionTree, ProgramTree}
 use Rattle.um_tool.specs.SchemeText.{AreTexts, IsNumText}
-use Rattle.um_tool.specs.Product.{IsProductLine}
-
--- Range exactly where it doesn't fit
-abbrev pub StopsUnless : {A : Type 0} → Result A UnitStop → Type 0 → Type 0
-StopsUnless (Ok x) Fits = Fits
-StopsUnless (Err Range) Fits = Fits → ⊥
-StopsUnless (Err NoMemory) Fits = Unit {0}
-
--- the text grew by the line of a product function
-pub record AddsLine (p : ProgramTree) (f : FunctionTree) (old new : List ℕ) : Type 0 where
-  pub added : List ℕ
-  pub printed : IsProductLine p f added
-  pub is : new ≡ old ++ added
 
 -- the text grew by the texts of some things, each followed by another
 pub record AddsTexts {A : Type 0} (IsText : A → List ℕ → Type 0) (xs : List A) (after old new : List ℕ) : Type 0 where

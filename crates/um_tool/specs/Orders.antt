@@ -3,12 +3,12 @@
 use Rattle.std.specs.Prelude.{ℕ, Bool, ◌||◌, IsTrue, List, [], ◌∷◌, Option, Some, None, codes, if◌then◌else◌}
 use Rattle.std.specs.Str.{bytes_eq}
 use Rattle.um_tool.specs.declared.order.Order.{Order}
-use Rattle.um_tool.specs.declared.order.Order.TheVariants.{Types}
+use Rattle.um_tool.specs.declared.order.Order.TheVariants.{Types, Fmt}
 
 -- a command that isn't built yet
 abbrev pub is_unbuilt : List ℕ → Bool
 is_unbuilt word =
-    bytes_eq word (codes "code") || bytes_eq word (codes "fmt") || bytes_eq word (codes "run") || bytes_eq word (codes "steps")
+    bytes_eq word (codes "code") || bytes_eq word (codes "run") || bytes_eq word (codes "steps")
     || bytes_eq word (codes "eval") || bytes_eq word (codes "rescale") || bytes_eq word (codes "twin") || bytes_eq word (codes "big")
 
 -- the first word is such a command; whatever follows it isn't looked at
@@ -18,5 +18,5 @@ NamesUnbuilt (word ∷ words) = IsTrue (is_unbuilt word)
 
 -- the order that the words name, where they have one of the forms
 abbrev pub order_of : List (List ℕ) → Option Order
-order_of (word ∷ []) = if bytes_eq word (codes "types") then Some Types else None
+order_of (word ∷ []) = if bytes_eq word (codes "types") then Some Types else if bytes_eq word (codes "fmt") then Some Fmt else None
 order_of words = None

@@ -1,17 +1,24 @@
 -- What a run of the program writes, and with which status it ends.
 -- Source: this project's own.
-use Rattle.std.specs.Prelude.{◌≡◌, ◌≤◌, ◌⊎◌, ℕ, List, length, codes, IsSome, Some, Option}
+use Rattle.std.specs.Prelude.{◌≡◌, ◌≤◌, ◌⊎◌, ℕ, List, length, codes, IsSome, Some, None, slice_get, Option, Ok}
 use Rattle.std.specs.Io.KnownBytes.{Appends, Keeps}
 use Rattle.um_wire.specs.Faults.{Rose}
 use Rattle.um_wire.specs.Bytes.{Tells, AppendsPrefix}
-use Rattle.um_products.specs.ProductProgram.{IsProductProgram}
-use Rattle.um_tree.specs.ProgramTree.{ProgramTree}
-use Rattle.um_tool.specs.declared.order.Order.TheVariants.{Types}
+use Rattle.um_tree.specs.ProgramTree.{FunctionTree, ProgramTree, Signature}
+use Rattle.um_tree.specs.Typing.{Typing}
+use Rattle.um_syntax.specs.declared.token.Token.{Token}
+use Rattle.um_syntax.specs.Feeding.{IsTextAnswer}
+use Rattle.um_tree.specs.RawTree.{DeclText}
+use Rattle.um_parse.specs.Parsed.{IsRead}
+use Rattle.um_names.specs.Parts.{resolved_program}
+use Rattle.um_shape.specs.FirstFault.{first_fault}
+use Rattle.um_closed.specs.ClosedProgram.{IsClosedProgram}
+use Rattle.um_tool.specs.declared.order.Order.{Order}
+use Rattle.um_tool.specs.declared.order.Order.TheVariants.{Types, Fmt}
 use Rattle.um_tool.specs.declared.status.Status.{Status}
 use Rattle.um_tool.specs.declared.status.Status.TheVariants.{ReadFault, WriteFault, NoMemory}
 use Rattle.um_tool.specs.Answer.{Answer}
 use Rattle.um_tool.specs.Orders.{order_of, NamesUnbuilt}
-use Rattle.um_tool.specs.Range.{ProgramFits}
 use Rattle.um_tool.specs.Steps.{IsReply, line}
 
 -- the words are read, and then the source
@@ -51,14 +58,33 @@ abbrev pub Serves : (List ℕ → Status → Type 0) → Option (List ℕ) → O
 Serves Planned old new before now status =
     WroteAll Planned old new status ⊎ WrotePart Planned old new before now status ⊎ WroteNothing old new status
 
--- the word is `types`, and every step of its answer goes through
+abbrev pub EachIsTyped : ProgramTree → Type 0
+EachIsTyped p = (i : ℕ) (f : FunctionTree) → slice_get p.functions i ≡ Some f → (g : Signature) × Typing p i g
+
+-- the names are known, the shapes are right, every unit is written, and each function has a typing
+pub record IsTyped (raw : List DeclText) : Type 0 where
+  pub program : ProgramTree
+  pub resolved : resolved_program raw ≡ Ok program
+  pub faultless : first_fault program ≡ None
+  pub closed : IsClosedProgram program
+  pub typed : EachIsTyped program
+
+-- each step behind the grammar goes through
+abbrev pub GoesThrough : Order → List DeclText → Type 0
+GoesThrough Types raw = IsTyped raw
+GoesThrough Fmt raw = Unit {0}
+
+-- the text is a program within the limits, and every step of the answer goes through
 pub record IsComplete (words : List (List ℕ)) (bytes : List ℕ) : Type 0 where
   pub built : NamesUnbuilt words → ⊥
-  pub types : order_of words ≡ Some Types
+  pub order : Order
+  pub ordered : order_of words ≡ Some order
   pub short : length bytes ≤ 1048576
-  pub program : ProgramTree
-  pub spelled : IsProductProgram bytes program
-  pub fits : (p : ProgramTree) → IsProductProgram bytes p → ProgramFits p
+  pub tokens : List Token
+  pub lexed : IsTextAnswer bytes (Ok tokens)
+  pub raw : List DeclText
+  pub read : IsRead tokens raw
+  pub goes_through : GoesThrough order raw
 
 -- the source's bytes go through, and it met no fault
 pub record IsUndisturbed (words : List (List ℕ)) (left : Option (List ℕ)) (before now : ℕ) : Type 0 where

@@ -13,7 +13,3 @@ IsReply text status wanted_text wanted_status = (text ≡ wanted_text) × (statu
 -- where the case applies, what it says, and else what comes after it
 abbrev pub Cases : Type 0 → Type 0 → Type 0 → Type 0
 Cases case here after = (case × here) ⊎ ((case → ⊥) × after)
-
--- where the step gives a value, what comes after it says of one, and else the refusal
-abbrev pub Gives : {A : Type 0} → (A → Type 0) → Type 0 → (A → Type 0) → Type 0
-Gives {A} IsGiven refusal after = ((a : A) × IsGiven a × after a) ⊎ (((a : A) → IsGiven a → ⊥) × refusal)

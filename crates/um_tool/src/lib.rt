@@ -3,7 +3,10 @@
 
 mod answer;
 mod order;
+mod place;
 mod quiet;
+mod reading;
+mod refusal;
 mod schemes;
 mod status;
 mod text;

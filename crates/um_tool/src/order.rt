@@ -9,16 +9,21 @@ use crate::Words;
 pub enum Order {
     /// Print the scheme of each function.
     Types,
+    /// Print the program in its layout.
+    Fmt,
 }
 
 /// The order that the words name, or nothing where they have none of the forms.
 pub fn order_of(words: &Words) -> Option<Order>
     ensures { result ≡ order_named words.now }
 {
-    if words.len() == 1 && words.word(0) == "types" {
-        Some(Order::Types)
-    } else {
-        None
+    if words.len() != 1 {
+        return None;
+    }
+    match words.word(0) {
+        "types" => Some(Order::Types),
+        "fmt" => Some(Order::Fmt),
+        _ => None,
     }
 }
 
@@ -34,6 +39,6 @@ fn is_unbuilt(word: &str) -> bool
 {
     matches!(
         word,
-        "code" | "fmt" | "run" | "steps" | "eval" | "rescale" | "twin" | "big"
+        "code" | "run" | "steps" | "eval" | "rescale" | "twin" | "big"
     )
 }

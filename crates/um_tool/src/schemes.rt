@@ -1,56 +1,41 @@
-// The schemes of a product program, and their lines.
-ghost use Rattle.std.specs.Prelude.{◌≡◌, ◌++◌, ℕ, List, IfOk, OnOk, codes, map, MatchOption};
-ghost use Rattle.um_tree.specs.TypeTree.{note_tree};
-ghost use Rattle.um_tree.specs.ExprTree.{expr_tree};
-ghost use Rattle.um_tree.specs.ProgramTree.{program_tree, function_tree};
-ghost use Rattle.um_products.specs.ProductFunction.{HasProductFunctions};
-ghost use Rattle.um_tool.specs.Range.{ProgramFits};
+// The lines of schemes.
+ghost use Rattle.std.specs.Prelude.{◌≡◌, IfOk, OnOk, codes, map};
+ghost use Rattle.um_tree.specs.ProgramTree.{program_tree};
+ghost use Rattle.um_closed.specs.ClosedSchemes.{HasSchemes, signature_scheme};
 ghost use Rattle.um_tool.specs.SchemeText.{IsSchemesText, IsNumText};
-ghost use Rattle.um_tool.specs.Product.{note_unit, param_units, product_unit, PartsFit};
-ghost use Rattle.um_tool.specs.Lines.{StopsUnless, AddsLine, AddsTexts, AddsUnitsLine};
+ghost use Rattle.um_tool.specs.Lines.{AddsTexts, AddsUnitsLine};
 
 use crate::text::push_num_type;
 use std::alloc::{AllocError, Global};
-use um_tree::{Arith, Expr, Function, Name, Node, Note, Program, UnitNote};
-use um_units::{Unit, UnitStop};
+use um_closed::NumberSignature;
+use um_tree::{Function, Name, Program};
+use um_units::Unit;
 
-/// The line of each function's scheme, in order, or nothing where a power passes its range.
-pub(crate) fn schemes_text(alloc: Global, program: &Program) -> Result<Option<Vec<u8>>, AllocError>
-    requires { HasProductFunctions (program_tree program.now) }
-    ensures { IfOk result (λ found. MatchOption found
-        (ProgramFits (program_tree program.now) → ⊥)
-        (λ text. ProgramFits (program_tree program.now) × IsSchemesText (program_tree program.now) text.items)) }
+/// The line of each function's scheme, in order.
+pub(crate) fn schemes_text(
+    alloc: Global,
+    program: &Program,
+    signatures: &[NumberSignature],
+) -> Result<Vec<u8>, AllocError>
+    requires schemes { HasSchemes (program_tree program.now) (map signature_scheme signatures.now) }
+    ensures { IfOk result (λ text. IsSchemesText (program_tree program.now) text.items) }
 {
     let mut text = Vec::new(alloc);
-    for function in &program.functions.items {
-        match push_line(alloc, &mut text, program, function) {
-            Ok(()) => {}
-            Err(UnitStop::Range) => return Ok(None),
-            Err(UnitStop::NoMemory) => return Err(AllocError),
-        }
+    let bases = program.bases.as_slice();
+    let functions: &[Function] = &program.functions.items;
+    for i in 0..functions.len() {
+        let signature = &signatures[i];
+        let name = &functions[i].name;
+        push_types(
+            alloc,
+            &mut text,
+            name,
+            bases,
+            &signature.params,
+            &signature.result,
+        )?;
     }
-    Ok(Some(text))
-}
-
-/// Adds the line of a function.
-fn push_line(
-    alloc: Global,
-    text: &mut Vec<u8>,
-    program: &Program,
-    function: &Function,
-) -> Result<(), UnitStop>
-    ensures line { OnOk result (AddsLine (program_tree program.now) (function_tree function.now) text.old.items text.new.items) }
-    ensures range { StopsUnless result (PartsFit (param_units (function_tree function.now)) (expr_tree function.now.body)) }
-{
-    let units = units_of(alloc, &function.params.items)?;
-    match product(alloc, &units, &function.body) {
-        Err(stop) => Err(stop),
-        Ok(unit) => {
-            let bases = program.bases.as_slice();
-            push_types(alloc, text, &function.name, bases, &units, &unit)?;
-            Ok(())
-        }
-    }
+    Ok(text)
 }
 
 /// Adds the line of a function of this name, whose parameters and result have these units.
@@ -85,58 +70,4 @@ fn push_params(
         text.extend_from_slice(b" -> ")?;
     }
     Ok(())
-}
-
-/// The units that the notes write.
-fn units_of(alloc: Global, notes: &[Note]) -> Result<Vec<Unit>, AllocError>
-    ensures { IfOk result (λ units. units.items ≡ map (λ n. note_unit (note_tree n)) notes.now) }
-{
-    let mut units = Vec::new(alloc);
-    for note in notes {
-        units.push(unit_of(alloc, note)?)?;
-    }
-    Ok(units)
-}
-
-fn unit_of(alloc: Global, note: &Note) -> Result<Unit, AllocError>
-    ensures { IfOk result (λ unit. unit ≡ note_unit (note_tree note.now)) }
-{
-    match note {
-        Note::Num(UnitNote::Written(unit)) => unit.copy(alloc),
-        _ => Ok(Unit::one(alloc)),
-    }
-}
-
-/// The unit of a product, where the parameters have these units.
-fn product(alloc: Global, units: &[Unit], body: &Expr) -> Result<Unit, UnitStop>
-    ensures exact { IfOk result (λ unit. unit ≡ product_unit units.now (expr_tree body.now)) }
-    ensures range { StopsUnless result (PartsFit units.now (expr_tree body.now)) }
-{
-    match &body.node {
-        Node::Local(k) => match units.get(*k as usize) {
-            Some(unit) => Ok(unit.copy(alloc)?),
-            None => Ok(Unit::one(alloc)),
-        },
-        Node::Arith(_, left, right) => {
-            let left = product(alloc, units, left)?;
-            let right = product(alloc, units, right)?;
-            left.mul(alloc, &right)
-        }
-        Node::Bool(_)
-        | Node::Num(_, _)
-        | Node::Call(_, _)
-        | Node::Neg(_)
-        | Node::Not(_)
-        | Node::Compare(_, _, _)
-        | Node::And(_, _)
-        | Node::Or(_, _)
-        | Node::If(_, _, _)
-        | Node::Let(_, _)
-        | Node::Match(_, _, _)
-        | Node::Nil(_)
-        | Node::List(_)
-        | Node::Cons(_, _)
-        | Node::Rec(_, _)
-        | Node::Field(_, _, _) => Ok(Unit::one(alloc)),
-    }
 }

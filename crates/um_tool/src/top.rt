@@ -3,11 +3,13 @@ ghost use Rattle.std.specs.Prelude.{◌≡◌, ◌≢◌, IfOk};
 ghost use Rattle.um_wire.specs.Faults.{Rose};
 ghost use Rattle.um_tool.specs.Served.{IsPlanned, IsUndisturbed, Reads, Serves};
 
-use crate::answer::{Reply, answer_program, not_built, reply_line};
+use crate::answer::{Reply, answer_text, not_built};
 use crate::order::names_unbuilt;
+use crate::reading::Reading;
+use crate::refusal::reply_line;
 use crate::{Status, Words, order_of};
 use std::alloc::{AllocError, Global};
-use um_wire::{Failed, ReadStop, Sink, Source, read_text, write_all};
+use um_wire::{Failed, ReadStop, Sink, Source, read_into, write_all};
 
 /// The longest text that is read, in bytes.
 const TEXT_LIMIT: usize = 1_048_576;
@@ -61,11 +63,16 @@ fn reply_to<S: Source>(alloc: Global, words: &Words, source: &mut S) -> Result<R
     }
     match order_of(words) {
         None => reply_line(alloc, "error 1: usage", Status::Usage),
-        Some(order) => match read_text(alloc, source, TEXT_LIMIT) {
-            Ok(bytes) => answer_program(alloc, order, &bytes),
-            Err(ReadStop::TooLong) => reply_line(alloc, "error 2: text too long", Status::TooLong),
-            Err(ReadStop::Failed) => reply_line(alloc, "error 15: read", Status::ReadFault),
-            Err(ReadStop::NoMemory) => Err(AllocError),
-        },
+        Some(order) => {
+            let mut reading = Reading::new(alloc);
+            match read_into(source, TEXT_LIMIT, &mut reading) {
+                Ok(()) => answer_text(alloc, order, reading.into_text()?),
+                Err(ReadStop::TooLong) => {
+                    reply_line(alloc, "error 2: text too long", Status::TooLong)
+                }
+                Err(ReadStop::Failed) => reply_line(alloc, "error 15: read", Status::ReadFault),
+                Err(ReadStop::NoMemory) => Err(AllocError),
+            }
+        }
     }
 }

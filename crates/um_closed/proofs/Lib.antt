@@ -1,0 +1,6 @@
+mod Closedness
+mod Typings
+mod Measures
+mod Prefixes
+mod Functions
+mod Programs

@@ -1,9 +1,0 @@
-mod LayoutComplete
-mod LayoutSound
-mod NameLists
-mod UnitNames
-mod ParameterLoop
-mod Factors
-mod ScopeLoop
-mod MadeNames
-mod MadeFunctions

@@ -1,0 +1,112 @@
+-- Each declared name stands among the tokens.
+use Rattle.std.proofs.Common.{◌≡◌, ℕ, zero, suc, Bool, true, false, ◌||◌, List, [], ◌∷◌, ◌++◌, slice_index_or, refl, sym, ap, subst, ◌∙◌}
+use Rattle.um_syntax.specs.declared.token.Token.{Token}
+use Rattle.um_syntax.specs.declared.token.Kind.{Kind}
+use Rattle.um_syntax.specs.declared.token.Kind.TheVariants as kind
+use Rattle.um_tree.specs.Formed.{IsNameText}
+use Rattle.um_tree.specs.RawTree.{FieldDeclText, DeclText, base_text, short_text, record_decl_text, function_text}
+use Rattle.um_parse.specs.declared.mark.Mark.TheVariants as mark
+use Rattle.um_parse.specs.ExprTokens.{ExprToken, name, variable, number, truth, hole, operator, plain, expr_token, word_tokens, sign_tokens}
+use Rattle.um_parse.specs.ExprGrammar.{FirstAt}
+use Rattle.um_parse.specs.DeclGrammar.{MoreFieldDecls, FieldDeclsSpell, DeclSpells, DeclsSpell, FieldDeclsFit, DeclFits, DeclsFit}
+use Rattle.um_readable.proofs.NameTokens.{IsNamed, AllNamed}
+use Rattle.um_readable.proofs.Reading.{Leaves, thence, first_leaves, at_leaves}
+use Rattle.um_readable.proofs.DeclReading.{attribute_leaves, vars_leave, field_leaves, rec_leaves, decl_leaves}
+
+-- ---- a name is no word and no sign
+
+abbrev is_name : ExprToken → Bool
+is_name (name x) = true
+is_name (variable x) = false
+is_name (number c) = false
+is_name (truth b) = false
+is_name hole = false
+is_name (operator sign) = false
+is_name (plain m) = false
+
+abbrev any_name : List ExprToken → Bool
+any_name [] = false
+any_name (t ∷ ts) = is_name t || any_name ts
+
+neither : (a b : Bool) → (a || b) ≡ false → (a ≡ false) × (b ≡ false)
+neither true b e = absurd cc
+neither false b e = (refl, e)
+
+no_name_at : (ts : List ExprToken) (k : ℕ) → any_name ts ≡ false → is_name (slice_index_or ts k (plain mark.Other)) ≡ false
+no_name_at [] k e = refl
+no_name_at (t ∷ ts) zero e = (neither (is_name t) (any_name ts) e).0
+no_name_at (t ∷ ts) (suc k) e = no_name_at ts k (neither (is_name t) (any_name ts) e).1
+
+none_in : (ts : List ExprToken) (k : ℕ) (x : List ℕ) → any_name ts ≡ false → slice_index_or ts k (plain mark.Other) ≡ name x → ⊥
+none_in ts k x none e = let bad : true ≡ false = sym (ap is_name e) ∙ no_name_at ts k none in cc
+
+same_name : (x y : List ℕ) → name x ≡ name y → x ≡ y
+same_name x y e = cc
+
+name_of : (k : Kind) (x : List ℕ) → expr_token k ≡ name x → IsNamed k → IsNameText x
+name_of (kind.Name y) x e h = subst (λ w. IsNameText w) (same_name y x e) h
+name_of (kind.Var y) x e h = absurd cc
+name_of (kind.Number value digits one) x e h = absurd cc
+name_of (kind.Word k) x e h = absurd (none_in word_tokens k x refl e)
+name_of kind.Hole x e h = absurd cc
+name_of (kind.Sign k) x e h = absurd (none_in sign_tokens k x refl e)
+
+-- ---- the names of what is left
+
+all_behind : (read rest : List Token) → AllNamed (read ++ rest) → AllNamed rest
+all_behind [] rest h = h
+all_behind (t ∷ ts) rest h = all_behind ts rest h.1
+
+pub named_rest : (tokens rest : List Token) → Leaves tokens rest → AllNamed tokens → AllNamed rest
+named_rest tokens rest l h = all_behind l.0 rest (subst (λ w. AllNamed w) l.1 h)
+
+name_at : (x : List ℕ) (at : ℕ) (tokens rest : List Token) → FirstAt (name x) at tokens rest → AllNamed tokens → IsNameText x
+name_at x at tokens rest f h = name_of f.0.kind x f.1 (subst (λ w. AllNamed w) f.3 h).0
+
+-- ---- fields and declarations
+
+abbrev pub FieldsNamed : List FieldDeclText → Type 0
+FieldsNamed [] = Unit {0}
+FieldsNamed (f ∷ fs) = IsNameText f.name × FieldsNamed fs
+
+-- the names that a declaration declares
+abbrev pub DeclNamed : DeclText → Type 0
+DeclNamed (base_text at x) = IsNameText x
+DeclNamed (short_text at x u) = IsNameText x
+DeclNamed (record_decl_text at x vs fs) = IsNameText x × FieldsNamed fs
+DeclNamed (function_text f) = IsNameText f.name
+
+abbrev pub DeclsNamed : List DeclText → Type 0
+DeclsNamed [] = Unit {0}
+DeclsNamed (d ∷ ds) = DeclNamed d × DeclsNamed ds
+
+more_fields_named : (fs : List FieldDeclText) (tokens rest : List Token) → MoreFieldDecls fs tokens rest → FieldDeclsFit fs → AllNamed tokens → FieldsNamed fs
+more_fields_named [] tokens rest s fits h = tt
+more_fields_named (f ∷ fs) tokens rest s fits h =
+    let here = named_rest tokens s.0 (first_leaves _ tokens s.0 s.2) h in
+    let behind = named_rest s.0 s.1 (field_leaves f s.0 s.1 s.3 fits.0) here in
+    (name_at f.name f.at s.0 s.3.0 s.3.2 here, more_fields_named fs s.1 rest s.4 fits.1 behind)
+
+fields_named : (fs : List FieldDeclText) (tokens rest : List Token) → FieldDeclsSpell fs tokens rest → FieldDeclsFit fs → AllNamed tokens → FieldsNamed fs
+fields_named [] tokens rest s fits h = tt
+fields_named (f ∷ fs) tokens rest s fits h =
+    let behind = named_rest tokens s.0 (field_leaves f tokens s.0 s.1 fits.0) h in
+    (name_at f.name f.at tokens s.1.0 s.1.2 h, more_fields_named fs s.0 rest s.2 fits.1 behind)
+
+decl_named : (d : DeclText) (tokens rest : List Token) → DeclSpells d tokens rest → DeclFits d → AllNamed tokens → DeclNamed d
+decl_named (base_text at x) tokens rest s fits h =
+    name_at x at s.1 rest s.4 (named_rest tokens s.1 (thence (attribute_leaves tokens s.0 s.2) (first_leaves _ s.0 s.1 s.3)) h)
+decl_named (short_text at x u) tokens rest s fits h =
+    name_at x at s.1 s.2 s.6 (named_rest tokens s.1 (thence (attribute_leaves tokens s.0 s.4) (first_leaves _ s.0 s.1 s.5)) h)
+decl_named (record_decl_text at x vs fs) tokens rest s fits h =
+    let named = named_rest tokens s.0 (first_leaves _ tokens s.0 s.6) h in
+    let behind_vars = named_rest s.0 s.2 (thence (at_leaves _ at s.0 s.1 s.7) (vars_leave vs s.1 s.2 s.8)) named in
+    let in_braces = named_rest s.2 s.4 (thence (first_leaves _ s.2 s.3 s.9) (first_leaves _ s.3 s.4 s.10)) behind_vars in
+    (name_at x at s.0 s.1 s.7 named, fields_named fs s.4 s.5 s.11 fits in_braces)
+decl_named (function_text f) tokens rest s fits h =
+    name_at f.name f.at s.1 s.2 s.8 (named_rest tokens s.1 (thence (first_leaves _ tokens s.0 s.6) (rec_leaves f.recursive s.0 s.1 s.7)) h)
+
+pub decls_named : (ds : List DeclText) (tokens rest : List Token) → DeclsSpell ds tokens rest → DeclsFit ds → AllNamed tokens → DeclsNamed ds
+decls_named [] tokens rest s fits h = tt
+decls_named (d ∷ ds) tokens rest s fits h =
+    (decl_named d tokens s.0 s.1 fits.0 h, decls_named ds s.0 rest s.2 fits.1 (named_rest tokens s.0 (decl_leaves d tokens s.0 s.1 fits.0).0 h))

@@ -1,0 +1,5 @@
+use Rattle.um_readable.proofs.TokenCounts.{tokens_within}
+use Rattle.um_readable.proofs.laws.tokens_are_within.Goals as goal
+
+pub returns : goal.returns
+returns c = tokens_within

@@ -1,0 +1,15 @@
+use Rattle.std.proofs.Common.{◌≤◌, sym, subst, length}
+use Rattle.um_tree.specs.RawTree.{program_text as raw_tree}
+use Rattle.um_parse.specs.Parsed.{IsRead}
+use Rattle.um_tool.proofs.Tokens.{tokens_within_bytes, readable_program}
+use Rattle.um_tool.proofs.answer.answer_tokens.Goals as goal
+
+pub parse-requires : goal.parse-requires
+parse-requires c =
+    let few = tokens_within_bytes c.args.bytes.now c.args.tokens.now c.requires.tokens.0 c.requires.tokens.1 in
+    record { text = subst (λ tokens. length tokens ≤ length c.args.bytes.now) (sym c.as_slice.ensures) few }
+
+pub answer_program-requires : goal.answer_program-requires
+answer_program-requires c =
+    let read = subst (λ tokens. IsRead tokens (raw_tree c.in-Ok.program)) c.as_slice.ensures c.in-Ok.ensures.parsed in
+    record { readable = readable_program c.args.bytes.now c.args.tokens.now (raw_tree c.in-Ok.program) c.requires.tokens.0 c.requires.short c.requires.tokens.1 read }

@@ -1,0 +1,60 @@
+// Lines and columns.
+ghost use Rattle.std.specs.Prelude.{◌≡◌, ◌++◌, OnOk, take, length};
+ghost use Rattle.um_tool.specs.Places.{line_of as line_behind, column_of as column_behind, place_text, begins_character as begins};
+
+use std::alloc::AllocError;
+
+/// Adds the line and the column of a byte offset into the text.
+pub(crate) fn push_place(text: &mut Vec<u8>, bytes: &[u8], at: u32) -> Result<(), AllocError>
+    ensures { OnOk result (text.new.items ≡ text.old.items ++ place_text bytes.now at) }
+{
+    let before = before(bytes, at);
+    text.extend_from_slice(itoa::Buffer::new().format(line_of(before)).as_bytes())?;
+    text.push(b':')?;
+    text.extend_from_slice(itoa::Buffer::new().format(column_of(before)).as_bytes())
+}
+
+/// The bytes before a place.
+fn before(bytes: &[u8], at: u32) -> &[u8]
+    ensures { result.now ≡ take at bytes.now }
+{
+    if (at as usize) < bytes.len() {
+        &bytes[..at as usize]
+    } else {
+        bytes
+    }
+}
+
+/// The line of the place behind these bytes.
+fn line_of(before: &[u8]) -> u64
+    ensures { result ≡ line_behind before.now }
+{
+    let mut line = 1;
+    for byte in before {
+        if *byte == b'\n' {
+            line += 1;
+        }
+    }
+    line
+}
+
+/// The column of the place behind these bytes.
+fn column_of(before: &[u8]) -> u64
+    ensures { result ≡ column_behind before.now }
+{
+    let mut column = 1;
+    for byte in before {
+        if *byte == b'\n' {
+            column = 1;
+        } else if begins_character(*byte) {
+            column += 1;
+        }
+    }
+    column
+}
+
+fn begins_character(byte: u8) -> bool
+    ensures { result ≡ begins byte }
+{
+    byte < 128 || byte >= 192
+}
