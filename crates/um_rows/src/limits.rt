@@ -52,7 +52,11 @@ fn limits(rt: HostRuntime) -> Result<(), Fail> {
             "error 6: limit height at 1:408\n",
             Status::Limit,
         ),
-        (nested(alloc, 399)?, "error 18: not built\n", Status::NotBuilt),
+        (
+            nested(alloc, 399)?,
+            "error 18: not built\n",
+            Status::NotBuilt,
+        ),
         (
             nested(alloc, 400)?,
             "error 6: limit depth at 400:12\n",

@@ -57,7 +57,10 @@ pub fn are_answered(rt: &HostRuntime, line: &str, cases: &[Case]) -> Result<(), 
     for (text, want, status) in cases {
         let (got, bytes) = run(alloc, line, text, CALM)?;
         assert!(rt; got == *status, "status of {line}: {want}");
-        assert!(rt; bytes.as_slice() == want.as_bytes(), "text of {line}: {want}");
+        assert!(rt;
+            bytes.as_slice() == want.as_bytes(),
+            "text of {line}: {want}"
+        );
     }
     Ok(())
 }
