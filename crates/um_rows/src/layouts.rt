@@ -47,7 +47,7 @@ fn layouts(rt: HostRuntime) -> Result<(), Fail> {
         (b"", "", Status::Done),
         (b"let k = (", "error 5: syntax at 1:10\n", Status::Syntax),
     ];
-    are_answered(&rt, "fmt", &cases)
+    are_answered(&rt, rt.alloc(), "fmt", &cases)
 }
 
 #[test]

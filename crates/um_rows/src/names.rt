@@ -114,7 +114,7 @@ fn measures_and_records(rt: HostRuntime) -> Result<(), Fail> {
             Status::Names,
         ),
     ];
-    are_answered(&rt, "types", &cases)
+    are_answered(&rt, rt.alloc(), "types", &cases)
 }
 
 #[test]
@@ -187,5 +187,5 @@ fn variables_and_functions(rt: HostRuntime) -> Result<(), Fail> {
             Status::Names,
         ),
     ];
-    are_answered(&rt, "types", &cases)
+    are_answered(&rt, rt.alloc(), "types", &cases)
 }

@@ -49,7 +49,7 @@ fn characters(rt: HostRuntime) -> Result<(), Fail> {
             Status::Lexical,
         ),
     ];
-    are_answered(&rt, "types", &cases)
+    are_answered(&rt, rt.alloc(), "types", &cases)
 }
 
 #[test]
@@ -95,7 +95,7 @@ fn declarations(rt: HostRuntime) -> Result<(), Fail> {
         (b"let f x = x", "error 5: syntax at 1:7\n", Status::Syntax),
         (b"k", "error 5: syntax at 1:1\n", Status::Syntax),
     ];
-    are_answered(&rt, "types", &cases)
+    are_answered(&rt, rt.alloc(), "types", &cases)
 }
 
 #[test]
@@ -157,5 +157,5 @@ fn expressions(rt: HostRuntime) -> Result<(), Fail> {
         (b"let k = 1<m", "error 5: syntax at 1:12\n", Status::Syntax),
         (b"let k = []", "error 5: syntax at 1:10\n", Status::Syntax),
     ];
-    are_answered(&rt, "types", &cases)
+    are_answered(&rt, rt.alloc(), "types", &cases)
 }

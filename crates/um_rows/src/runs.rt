@@ -1,5 +1,6 @@
 // One run of the program over memory.
 use std::alloc::Global;
+use std::process::Abort;
 use std::test::Fail;
 use um_tool::{Status, Words, serve};
 use um_wire::{MemSink, MemSource};
@@ -52,8 +53,12 @@ fn failing(alloc: Global, call: Option<u64>) -> Result<Vec<u64>, Fail> {
 pub type Case = (&'static [u8], &'static str, Status);
 
 /// Whether each text has its answer to the words of the line.
-pub fn are_answered(rt: &HostRuntime, line: &str, cases: &[Case]) -> Result<(), Fail> {
-    let alloc = rt.alloc();
+pub fn are_answered(
+    rt: &impl Abort,
+    alloc: Global,
+    line: &str,
+    cases: &[Case],
+) -> Result<(), Fail> {
     for (text, want, status) in cases {
         let (got, bytes) = run(alloc, line, text, CALM)?;
         assert!(rt; got == *status, "status of {line}: {want}");

@@ -59,7 +59,7 @@ fn nodes(rt: HostRuntime) -> Result<(), Fail> {
             Status::Shape,
         ),
     ];
-    are_answered(&rt, "types", &cases)
+    are_answered(&rt, rt.alloc(), "types", &cases)
 }
 
 #[test]
@@ -122,5 +122,5 @@ fn parts(rt: HostRuntime) -> Result<(), Fail> {
             Status::Shape,
         ),
     ];
-    are_answered(&rt, "types", &cases)
+    are_answered(&rt, rt.alloc(), "types", &cases)
 }

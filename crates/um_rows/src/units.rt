@@ -90,5 +90,5 @@ fn schemes_and_sums(rt: HostRuntime) -> Result<(), Fail> {
             Status::Units,
         ),
     ];
-    are_answered(&rt, "types", &cases)
+    are_answered(&rt, rt.alloc(), "types", &cases)
 }
