@@ -37,7 +37,7 @@ new_among xs i x once l e = by (is_among (take i xs) x) refl where
 pub distinct-front : (xs ys : List (List ℕ)) → AreDistinct (xs ++ ys) → AreDistinct xs
 distinct-front xs ys h i j x e f = h i j x (slice_get-front xs ys i x e) (slice_get-front xs ys j x f)
 
-behind : (xs ys : List (List ℕ)) (k : ℕ) → slice_get (xs ++ ys) (length xs + k) ≡ slice_get ys k
+pub behind : (xs ys : List (List ℕ)) (k : ℕ) → slice_get (xs ++ ys) (length xs + k) ≡ slice_get ys k
 behind [] ys k = ap (slice_get ys) (omega arith)
 behind (x ∷ xs) ys k = ap (slice_get (x ∷ (xs ++ ys))) (let e : suc (length xs) + k ≡ suc (length xs + k) = omega arith in e) ∙ behind xs ys k
 

@@ -30,3 +30,4 @@ pub mod FormedPrograms
 pub mod HeadNames
 pub mod NameChecks
 pub mod SignatureHeads
+pub mod RecordsFound

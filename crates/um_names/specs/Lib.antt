@@ -14,3 +14,4 @@ pub mod Parts
 pub mod Readable
 pub mod Heads
 pub mod SignatureNames
+pub mod RecordLaws

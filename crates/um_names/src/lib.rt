@@ -10,6 +10,7 @@ mod expr;
 mod fields;
 mod heads;
 mod known;
+mod laws;
 mod measures;
 mod parts;
 mod records;
@@ -27,6 +28,7 @@ mod variables;
 
 pub use abbreviation::{Abbreviation, Abbreviations};
 pub use closed::closed_unit;
+pub use laws::records_by_their_fields;
 pub use resolving::{abbreviations, resolve};
 pub use signatures::types_of;
 pub use stop::NameStop;

@@ -32,11 +32,11 @@ fn bracketed(alloc: Global, depth: usize) -> Result<Vec<u8>, Fail> {
 /// So many functions, each of which puts the one before in a list.
 fn nested(alloc: Global, count: u32) -> Result<Vec<u8>, Fail> {
     let mut text = b"let l1 = [1]\n".to_vec(alloc)?;
-    for k in 2..count + 1 {
+    for k in 1..count {
         text.extend_from_slice(b"let l")?;
-        text.extend_from_slice(itoa::Buffer::new().format(k).as_bytes())?;
+        text.extend_from_slice(itoa::Buffer::new().format(k + 1).as_bytes())?;
         text.extend_from_slice(b" = [l")?;
-        text.extend_from_slice(itoa::Buffer::new().format(k - 1).as_bytes())?;
+        text.extend_from_slice(itoa::Buffer::new().format(k).as_bytes())?;
         text.extend_from_slice(b"]\n")?;
     }
     Ok(text)
