@@ -249,7 +249,7 @@ fn names_taken_twice(rt: HostRuntime) -> Result<(), Fail> {
 }
 
 #[test]
-fn parts_taken_twice(rt: HostRuntime) -> Result<(), Fail> {
+fn parts_of_records_taken_twice(rt: HostRuntime) -> Result<(), Fail> {
     let alloc = rt.alloc();
     let vars = vec![in alloc; variable(alloc, 3, "u")?, variable(alloc, 5, "u")?]?;
     let fields = vec![in alloc; field(alloc, 7, "c", RawType::Bool)?]?;
@@ -267,6 +267,12 @@ fn parts_taken_twice(rt: HostRuntime) -> Result<(), Fail> {
         record(alloc, 30, "r", Vec::new(alloc), fields)?,
     ]?;
     assert_eq!(rt; stop(alloc, others), Some(NameStop::Twice { at: 32 }));
+    Ok(())
+}
+
+#[test]
+fn variables_taken_twice(rt: HostRuntime) -> Result<(), Fail> {
+    let alloc = rt.alloc();
     let params = vec![in alloc; param(alloc, 3, "x")?, param(alloc, 5, "x")?]?;
     let twice = vec![in alloc; function(alloc, 1, "f", params, truth(7))?]?;
     assert_eq!(rt; stop(alloc, twice), Some(NameStop::Twice { at: 5 }));

@@ -211,6 +211,9 @@ fn ended(alloc: Global, found: Option<RawExpr>) -> Result<String, AllocError> {
 
 // What the reader makes of a text.
 fn answer(alloc: Global, text: &str) -> Result<String, AllocError> {
+    if text.len() > 1_048_576 {
+        return String::from_str(alloc, "too long");
+    }
     let Ok(tokens) = lex(alloc, text) else {
         return String::from_str(alloc, "no tokens");
     };

@@ -3,6 +3,7 @@ use crate::program_shown::show_program;
 use crate::{LimitKind, ParseStop, parse};
 use std::alloc::{AllocError, Global};
 use std::fmt::Write;
+use std::process::Abort;
 use std::test::Fail;
 use um_syntax::lex;
 
@@ -299,10 +300,29 @@ fn repeated(
     Ok(text)
 }
 
-// In each row what stands first, a part with the number of times, what stands last, and the answer.
+// What stands first, a part with the number of times, what stands last, and the answer.
+type Row = (
+    &'static str,
+    &'static str,
+    usize,
+    &'static str,
+    &'static str,
+);
+
+fn are_answered(rt: &impl Abort, alloc: Global, rows: &[Row]) -> Result<(), Fail> {
+    for (first, part, count, last, want) in rows {
+        let text = repeated(alloc, first, part, *count, last)?;
+        assert!(rt;
+            answer(alloc, &text)?.as_str() == *want,
+            "{count} times {part}"
+        );
+    }
+    Ok(())
+}
+
 #[test]
-fn limits_from_both_sides(rt: HostRuntime) -> Result<(), Fail> {
-    let rows = [
+fn numbers_of_parts(rt: HostRuntime) -> Result<(), Fail> {
+    let rows: [Row; 17] = [
         (
             "let f",
             " (_: num)",
@@ -356,6 +376,13 @@ fn limits_from_both_sides(rt: HostRuntime) -> Result<(), Fail> {
         ("let k = [1", ";1", 19999, "] let f = (", "syntax at 40019"),
         ("let k = [(1)", ";(1)", 9998, "; 1]", "1 declarations"),
         ("let k = [(1)", ";(1)", 9998, "; 1; 1]", "nodes at 4"),
+    ];
+    are_answered(&rt, rt.alloc(), &rows)
+}
+
+#[test]
+fn heights_of_signs_and_brackets(rt: HostRuntime) -> Result<(), Fail> {
+    let rows: [Row; 17] = [
         ("let k = ", "(", 399, "", "syntax at 407"),
         ("let k = ", "(", 400, "1", "height at 407"),
         ("let k = ", "- ", 399, "x", "1 declarations"),
@@ -379,6 +406,13 @@ fn limits_from_both_sides(rt: HostRuntime) -> Result<(), Fail> {
             "x",
             "1 declarations",
         ),
+    ];
+    are_answered(&rt, rt.alloc(), &rows)
+}
+
+#[test]
+fn heights_of_parts(rt: HostRuntime) -> Result<(), Fail> {
+    let rows: [Row; 17] = [
         (
             "let k = ",
             "match l with [] -> 1 | _ :: _ -> ",
@@ -402,6 +436,13 @@ fn limits_from_both_sides(rt: HostRuntime) -> Result<(), Fail> {
         ("let f : num", " list", 400, " = 1", "height at 2007"),
         ("type R = { a: num", " list", 400, " }", "height at 2013"),
         ("type R = { a: num", " list", 399, " }", "1 declarations"),
+    ];
+    are_answered(&rt, rt.alloc(), &rows)
+}
+
+#[test]
+fn heights_of_types_and_long_lists(rt: HostRuntime) -> Result<(), Fail> {
+    let rows: [Row; 16] = [
         ("let k = 1<", "(", 399, "m s", "height at 411"),
         ("let k = 1<", "(", 400, "m s", "height at 409"),
         ("let k = ([] : num", " list", 400, ")", "height at 2013"),
@@ -419,15 +460,7 @@ fn limits_from_both_sides(rt: HostRuntime) -> Result<(), Fail> {
         ("", "let f=1 ", 20000, "", "functions at 16004"),
         ("", "[<Measure>] type m ", 20000, "", "20000 declarations"),
     ];
-    for (first, part, count, last, want) in rows {
-        let text = repeated(rt.alloc(), first, part, count, last)?;
-        assert_eq!(rt;
-            answer(rt.alloc(), &text)?.as_str(),
-            want,
-            "{count} times {part}"
-        );
-    }
-    Ok(())
+    are_answered(&rt, rt.alloc(), &rows)
 }
 
 // The stack of a thread holds what reading and dropping them takes.
