@@ -11,15 +11,15 @@ use Rattle.um_types.specs.declared.type_symbol.Symbol.TheVariants as symbol_of
 use Rattle.um_types.specs.TypeMachine.{NeedType, HaveType, NoType, type_after}
 use Rattle.um_types.proofs.UnitComplete.{into as unit_into}
 use Rattle.um_types.proofs.UnitNested.{unit_finds}
-use Rattle.um_parse.specs.declared.mark.Mark.TheVariants as mark
-use Rattle.um_parse.specs.ExprTokens.{ExprToken, name, variable, plain, expr_token, equal, less, greater}
-use Rattle.um_parse.specs.ExprGrammar.{First, FirstAt}
-use Rattle.um_parse.specs.ExprMachine.{State, Need}
+use Rattle.um_expr.specs.declared.mark.Mark.TheVariants as mark
+use Rattle.um_expr.specs.ExprTokens.{ExprToken, name, variable, plain, expr_token, equal, less, greater}
+use Rattle.um_expr.specs.ExprGrammar.{First, FirstAt}
+use Rattle.um_expr.specs.ExprMachine.{State, Need}
 use Rattle.um_parse.specs.DeclGrammar.{Attribute, VarSpells, MoreVars, VarsSpell, FieldDeclSpells, MoreFieldDecls, FieldDeclsSpell, ParamSpells, ParamsSpell, ResultSpells, RecSpells, FunctionSpells, DeclSpells, FieldDeclsFit, ParamsFit, ResultFits, DeclFits}
 use Rattle.um_parse.specs.DeclMachine.{DeclPlace, DeclBegin, AttributeWord, AttributeGreater, AttributeClose, MeasureType, MeasureName, RecordName, RecordVars, VarBegin, VarWord, VarGreater, VarClose, VarName, VarEnd, RecordEqual, RecordBrace, FieldName, FieldColon, LetName, RecName, Params, ParamBinder, ParamColon, DeclState, AtPlace, HaveBase, InShort, HaveRecord, InField, InParam, InResult, InBody, NoDecl, with_field_decl, with_param, field_ends, param_ends, result_ends, field_goes, param_goes, result_goes, decl_step, short_found, body_found, decl_finish}
-use Rattle.um_parse.proofs.TokenKinds.{semi_is, record_close_is, equal_is, close_is}
-use Rattle.um_parse.proofs.ExprComplete.{into}
-use Rattle.um_parse.proofs.ExprLaws.{expr_finds}
+use Rattle.um_expr.proofs.TokenKinds.{semi_is, record_close_is, equal_is, close_is}
+use Rattle.um_expr.proofs.ExprComplete.{into}
+use Rattle.um_expr.proofs.ExprLaws.{expr_finds}
 use Rattle.um_parse.proofs.DeclLeads.{Leads, thence, leads_here, leads_as, leads_first, leads_at, leads_binder, leads_attribute, leads_type, leads_unit, leads_body, field_inside, param_inside, result_inside}
 
 -- the state once a declaration was read

@@ -11,12 +11,12 @@ use Rattle.um_types.proofs.UnitLaws.{ending_of, completed, can_go_on}
 use Rattle.um_types.proofs.UnitCut.{unit_before}
 use Rattle.um_types.proofs.TypeSound.{TypeStands}
 use Rattle.um_types.proofs.TypeLaws.{type_ending, type_completed, type_can_end}
-use Rattle.um_parse.specs.ExprGrammar.{First}
-use Rattle.um_parse.specs.ExprTokens.{less, greater}
+use Rattle.um_expr.specs.ExprGrammar.{First}
+use Rattle.um_expr.specs.ExprTokens.{less, greater}
 use Rattle.um_parse.specs.DeclGrammar.{Attribute, VarSpells, VarsSpell, FieldDeclsSpell, FunctionSpells, DeclSpells, FieldDeclsFit, ParamsFit, DeclFits}
 use Rattle.um_parse.specs.DeclMachine.{DeclPlace, DeclBegin, AttributeWord, AttributeGreater, AttributeClose, MeasureType, MeasureName, RecordName, RecordVars, VarBegin, VarWord, VarGreater, VarClose, VarName, VarEnd, RecordEqual, RecordBrace, FieldName, FieldColon, LetName, RecName, Params, ParamBinder, ParamColon, DeclState, AtPlace, HaveBase, InShort, HaveRecord, InField, InParam, InResult, InBody, NoDecl}
-use Rattle.um_parse.proofs.ExprStands.{Stands}
-use Rattle.um_parse.proofs.ExprEndings.{operand_token, operand, expr_ending, expr_completed, expr_can_end}
+use Rattle.um_expr.proofs.ExprStands.{Stands}
+use Rattle.um_expr.proofs.ExprEndings.{operand_token, operand, expr_ending, expr_completed, expr_can_end}
 use Rattle.um_parse.proofs.DeclStands.{VarsRead, FieldsRead, RecordHead, VarsOpen, RecordOpens, FunctionHead, PlaceReads, PlaceFits, DeclStands, vars_last, vars_close, fields_last, fields_fit, params_fit, head_last}
 
 abbrev token_of : Kind → Token

@@ -12,15 +12,16 @@ use Rattle.um_types.specs.TypeMachine.{InNote as InTypeNote}
 use Rattle.um_types.proofs.UnitHeights.{completed_height, run_up, found_height}
 use Rattle.um_types.proofs.UnitNested.{unit_step}
 use Rattle.um_types.proofs.TypeLaws.{type_completed, type_completed_height, type_up, type_found_height}
-use Rattle.um_parse.specs.declared.mark.Mark.TheVariants as mark
-use Rattle.um_parse.specs.declared.mark.Infix.TheVariants as between
-use Rattle.um_parse.specs.ExprTokens.{ExprToken, name, variable, number, truth, hole, operator, plain, expr_token}
-use Rattle.um_parse.specs.ExprMachine.{State, Need, Have, Greater, Inside, InNote, InType, Refused, step, finish}
-use Rattle.um_parse.specs.ExprLeast.{whole_least}
-use Rattle.um_parse.specs.ProgramHeights.{whole_expr_height, fields_height, params_height, result_height, decl_height}
+use Rattle.um_expr.specs.declared.mark.Mark.TheVariants as mark
+use Rattle.um_expr.specs.declared.mark.Infix.TheVariants as between
+use Rattle.um_expr.specs.ExprTokens.{ExprToken, name, variable, number, truth, hole, operator, plain, expr_token}
+use Rattle.um_expr.specs.ExprMachine.{State, Need, Have, Greater, Inside, InNote, InType, Refused, step, finish}
+use Rattle.um_expr.specs.ExprLeast.{whole_least}
+use Rattle.um_parse.specs.ProgramHeights.{fields_height, params_height, result_height, decl_height}
+use Rattle.um_expr.specs.ExprHeights.{whole_expr_height}
 use Rattle.um_parse.specs.ProgramLeast.{decl_place_least, decl_least}
 use Rattle.um_parse.specs.DeclMachine.{DeclPlace, DeclBegin, AttributeWord, AttributeGreater, AttributeClose, MeasureType, MeasureName, RecordName, RecordVars, VarBegin, VarWord, VarGreater, VarClose, VarName, VarEnd, RecordEqual, RecordBrace, FieldName, FieldColon, LetName, RecName, Params, ParamBinder, ParamColon, DeclState, AtPlace, HaveBase, InShort, HaveRecord, InField, InParam, InResult, InBody, NoDecl, body_begins, at_place, base_after, field_ends, param_ends, result_ends, short_goes, field_goes, param_goes, result_goes, body_goes, decl_step, short_found, body_found, decl_finish}
-use Rattle.um_parse.proofs.ExprHeights.{expr_completed_height, expr_up, expr_found_height}
+use Rattle.um_expr.proofs.ExprHeights.{expr_completed_height, expr_up, expr_found_height}
 use Rattle.um_parse.proofs.DeclStands.{DeclStands}
 use Rattle.um_parse.proofs.DeclEndings.{place_completed, decl_completed}
 

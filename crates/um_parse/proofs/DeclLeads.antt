@@ -14,14 +14,14 @@ use Rattle.um_types.proofs.Reaching.{runs_append, lift}
 use Rattle.um_types.proofs.UnitComplete.{into as unit_into}
 use Rattle.um_types.proofs.UnitNested.{unit_step, unit_reaches}
 use Rattle.um_types.proofs.TypeComplete.{type_reaches}
-use Rattle.um_parse.specs.declared.mark.Mark.TheVariants as mark
-use Rattle.um_parse.specs.ExprTokens.{ExprToken, name, hole, plain, expr_token, greater}
-use Rattle.um_parse.specs.ExprGrammar.{First, FirstAt, bound, BinderSpells, Spells, Fits}
-use Rattle.um_parse.specs.ExprMachine.{State, Need, Have, Greater, Inside, InNote, InType, Refused, step}
+use Rattle.um_expr.specs.declared.mark.Mark.TheVariants as mark
+use Rattle.um_expr.specs.ExprTokens.{ExprToken, name, hole, plain, expr_token, greater}
+use Rattle.um_expr.specs.ExprGrammar.{First, FirstAt, bound, BinderSpells, Spells, Fits}
+use Rattle.um_expr.specs.ExprMachine.{State, Need, Have, Greater, Inside, InNote, InType, Refused, step}
 use Rattle.um_parse.specs.DeclGrammar.{Attribute}
 use Rattle.um_parse.specs.DeclMachine.{DeclState, InShort, InField, InParam, InResult, InBody, short_goes, field_goes, param_goes, result_goes, body_goes, field_ends, param_ends, result_ends, decl_act, decl_step}
-use Rattle.um_parse.proofs.ExprComplete.{into}
-use Rattle.um_parse.proofs.ExprLaws.{expr_reaches}
+use Rattle.um_expr.proofs.ExprComplete.{into}
+use Rattle.um_expr.proofs.ExprLaws.{expr_reaches}
 
 abbrev pub Leads : DeclState → List Token → DeclState → List Token → Type 0
 Leads old tokens new rest = (read : List Token) × (tokens ≡ read ++ rest) × (runs decl_step old read ≡ new)

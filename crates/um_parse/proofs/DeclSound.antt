@@ -14,15 +14,15 @@ use Rattle.um_types.proofs.UnitLaws.{run_append, found}
 use Rattle.um_types.proofs.UnitCut.{unit_before}
 use Rattle.um_types.proofs.UnitNested.{unit_step}
 use Rattle.um_types.proofs.TypeSound.{TypeStands, type_sound, type_found}
-use Rattle.um_parse.specs.declared.mark.Mark.TheVariants as mark
-use Rattle.um_parse.specs.declared.mark.Infix.TheVariants as between
-use Rattle.um_parse.specs.ExprTokens.{ExprToken, name, variable, number, truth, hole, operator, plain, expr_token, equal, less, greater}
-use Rattle.um_parse.specs.ExprGrammar.{First, FirstAt, BinderSpells}
-use Rattle.um_parse.specs.ExprMachine.{State, Need, Have, Greater, Inside, InNote, InType, Refused, step, finish}
+use Rattle.um_expr.specs.declared.mark.Mark.TheVariants as mark
+use Rattle.um_expr.specs.declared.mark.Infix.TheVariants as between
+use Rattle.um_expr.specs.ExprTokens.{ExprToken, name, variable, number, truth, hole, operator, plain, expr_token, equal, less, greater}
+use Rattle.um_expr.specs.ExprGrammar.{First, FirstAt, BinderSpells}
+use Rattle.um_expr.specs.ExprMachine.{State, Need, Have, Greater, Inside, InNote, InType, Refused, step, finish}
 use Rattle.um_parse.specs.DeclGrammar.{RecSpells, DeclSpells, ResultSpells, ParamsFit, ResultFits, FieldDeclsFit, DeclFits}
 use Rattle.um_parse.specs.DeclMachine.{DeclPlace, DeclBegin, AttributeWord, AttributeGreater, AttributeClose, MeasureType, MeasureName, RecordName, RecordVars, VarBegin, VarWord, VarGreater, VarClose, VarName, VarEnd, RecordEqual, RecordBrace, FieldName, FieldColon, LetName, RecName, Params, ParamBinder, ParamColon, DeclState, AtPlace, HaveBase, InShort, HaveRecord, InField, InParam, InResult, InBody, NoDecl, body_begins, at_place, base_after, field_ends, param_ends, result_ends, short_goes, field_goes, param_goes, result_goes, body_goes, decl_step, short_found, body_found, decl_finish}
-use Rattle.um_parse.proofs.ExprStands.{Stands}
-use Rattle.um_parse.proofs.ExprSound.{step_sound, expr_found}
+use Rattle.um_expr.proofs.ExprStands.{Stands}
+use Rattle.um_expr.proofs.ExprSound.{step_sound, expr_found}
 use Rattle.um_parse.proofs.DeclStands.{VarsRead, FieldsRead, RecordOpens, MeasureReads, FunctionHead, DeclStands, vars_comma, vars_last, vars_close, fields_semi, fields_last, fields_fit, params_fit, head_last}
 
 need_type : NeedType 0 ≢ NoType

@@ -6,13 +6,13 @@ use Rattle.um_types.specs.UnitMachine.{State as UnitState, Need as NeedUnit, Ref
 use Rattle.um_types.specs.TypeGrammar.{TypeSpells, TypeFits}
 use Rattle.um_types.specs.TypeMachine.{NoType}
 use Rattle.um_types.proofs.TypeSound.{TypeStands}
-use Rattle.um_parse.specs.declared.mark.Mark.TheVariants as mark
-use Rattle.um_parse.specs.ExprTokens.{name, variable, plain, equal, less, greater}
-use Rattle.um_parse.specs.ExprGrammar.{First, FirstAt, BinderSpells}
-use Rattle.um_parse.specs.ExprMachine.{State, Refused}
+use Rattle.um_expr.specs.declared.mark.Mark.TheVariants as mark
+use Rattle.um_expr.specs.ExprTokens.{name, variable, plain, equal, less, greater}
+use Rattle.um_expr.specs.ExprGrammar.{First, FirstAt, BinderSpells}
+use Rattle.um_expr.specs.ExprMachine.{State, Refused}
 use Rattle.um_parse.specs.DeclGrammar.{Attribute, VarSpells, MoreVars, VarsSpell, FieldDeclSpells, MoreFieldDecls, FieldDeclsSpell, ParamSpells, ParamsSpell, ResultSpells, RecSpells, DeclSpells, FieldDeclsFit, ParamsFit, ResultFits, DeclFits}
 use Rattle.um_parse.specs.DeclMachine.{DeclPlace, DeclBegin, AttributeWord, AttributeGreater, AttributeClose, MeasureType, MeasureName, RecordName, RecordVars, VarBegin, VarWord, VarGreater, VarClose, VarName, VarEnd, RecordEqual, RecordBrace, FieldName, FieldColon, LetName, RecName, Params, ParamBinder, ParamColon, DeclState, AtPlace, HaveBase, InShort, HaveRecord, InField, InParam, InResult, InBody, NoDecl, with_field_decl, with_param}
-use Rattle.um_parse.proofs.ExprStands.{Stands}
+use Rattle.um_expr.proofs.ExprStands.{Stands}
 
 -- each unit parameter with the comma behind it; at least one, with commas between them
 abbrev pub VarsRead : List VarText → List Token → List Token → Type 0

@@ -1,19 +1,4 @@
 mod DeclLists
-mod ExprEnds
-mod TokenKinds
-mod ExprLeads
-mod ExprFirsts
-mod ExprComplete
-mod ExprReads
-mod ExprStands
-mod ExprSound
-mod ExprEndings
-mod ExprHeights
-mod ExprLaws
-mod ExprLists
-mod ExprStackLaws
-mod ExprLow
-mod ExprGoes
 mod DeclLeads
 mod DeclComplete
 mod ProgramComplete
@@ -28,4 +13,3 @@ mod ProgramNodes
 mod LimitLaws
 mod DeclTaken
 mod ProgramSteps
-mod ExprExamples

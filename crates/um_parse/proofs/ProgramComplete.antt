@@ -11,15 +11,15 @@ use Rattle.um_types.specs.UnitMachine.{act as unit_act}
 use Rattle.um_types.proofs.Reaching.{runs_append, runs_refused, lift}
 use Rattle.um_types.proofs.UnitComplete.{into as unit_into}
 use Rattle.um_types.proofs.UnitNested.{other_refused}
-use Rattle.um_parse.specs.declared.mark.Mark.TheVariants as mark
-use Rattle.um_parse.specs.ExprTokens.{ExprToken, plain, expr_token}
-use Rattle.um_parse.specs.ExprMachine.{Frame, State, Have, Refused, act}
+use Rattle.um_expr.specs.declared.mark.Mark.TheVariants as mark
+use Rattle.um_expr.specs.ExprTokens.{ExprToken, plain, expr_token}
+use Rattle.um_expr.specs.ExprMachine.{Frame, State, Have, Refused, act}
 use Rattle.um_parse.specs.DeclGrammar.{DeclSpells, DeclsSpell, DeclFits, DeclsFit, IsProgram}
 use Rattle.um_parse.specs.DeclMachine.{DeclPlace, DeclBegin, DeclState, AtPlace, HaveBase, InShort, HaveRecord, InField, InParam, InResult, InBody, NoDecl, base_after, short_goes, body_goes, decl_step, decl_finish, ProgramState, InProgram, NoProgram, program_goes, next_decl, program_step, program_found, program_finish}
 use Rattle.um_parse.specs.ProgramStops.{Begins}
 use Rattle.um_parse.specs.ProgramStates.{start}
-use Rattle.um_parse.proofs.TokenKinds.{begins_decl, decl_no_unit}
-use Rattle.um_parse.proofs.ExprEnds.{opened, last_atom}
+use Rattle.um_expr.proofs.TokenKinds.{begins_decl, decl_no_unit}
+use Rattle.um_expr.proofs.ExprEnds.{opened, last_atom}
 use Rattle.um_parse.proofs.DeclComplete.{decl_into, decl_finds, decl_leads}
 
 -- ---- what begins a declaration ends the one before it

@@ -9,11 +9,11 @@ use Rattle.um_tree.specs.Heights.{expr_nodes, all_expr_nodes, all_field_nodes}
 use Rattle.um_types.specs.TypeGrammar.{NoteSpells, NoteFits, TypeSpells, TypeFits}
 use Rattle.um_types.proofs.NoteComplete.{note_reaches}
 use Rattle.um_types.proofs.TypeComplete.{type_reaches}
-use Rattle.um_parse.specs.declared.mark.Mark.TheVariants as mark
-use Rattle.um_parse.specs.declared.mark.Infix.{Infix}
-use Rattle.um_parse.specs.declared.mark.Infix.TheVariants as between
-use Rattle.um_parse.specs.ExprTokens.{ExprToken, plain}
-use Rattle.um_parse.specs.ExprGrammar.{First, FirstAt, FirstGlued, ends_in_number, InfixAt, WrittenNote, EmptyArm, FullArm, Spells, AllSpell, ItemsSpell, MoreItems, FieldsSpell, MoreFields, NoteFitsIn, Fits, AreAtoms, AllFit, FieldsFit}
+use Rattle.um_expr.specs.declared.mark.Mark.TheVariants as mark
+use Rattle.um_expr.specs.declared.mark.Infix.{Infix}
+use Rattle.um_expr.specs.declared.mark.Infix.TheVariants as between
+use Rattle.um_expr.specs.ExprTokens.{ExprToken, plain}
+use Rattle.um_expr.specs.ExprGrammar.{First, FirstAt, FirstGlued, ends_in_number, InfixAt, WrittenNote, EmptyArm, FullArm, Spells, AllSpell, ItemsSpell, MoreItems, FieldsSpell, MoreFields, NoteFitsIn, Fits, AreAtoms, AllFit, FieldsFit}
 use Rattle.um_parse.specs.DeclGrammar.{ParamsSpell, ResultSpells, RecSpells, DeclSpells, DeclsSpell, ParamsFit, ResultFits, DeclFits, DeclsFit, IsProgram}
 use Rattle.um_parse.specs.ProgramNodes.{decl_nodes, program_nodes}
 use Rattle.um_parse.proofs.DeclComplete.{decl_leads}

@@ -13,9 +13,9 @@ use Rattle.um_syntax.specs.declared.token.Token.{Token}
 use Rattle.um_tree.specs.RawTree.{TypeText, UnitText, ExprText, VarText, FieldDeclText, ParamText, FunctionText, DeclText, base_text, short_text, record_decl_text, function_text}
 use Rattle.um_types.specs.UnitGrammar.{Spells as UnitSpells, Fits as UnitFits}
 use Rattle.um_types.specs.TypeGrammar.{TypeSpells, TypeFits}
-use Rattle.um_parse.specs.declared.mark.Mark.TheVariants as mark
-use Rattle.um_parse.specs.ExprTokens.{name, variable, plain, equal, less, greater}
-use Rattle.um_parse.specs.ExprGrammar.{First, FirstAt, BinderSpells, Spells, Fits}
+use Rattle.um_expr.specs.declared.mark.Mark.TheVariants as mark
+use Rattle.um_expr.specs.ExprTokens.{name, variable, plain, equal, less, greater}
+use Rattle.um_expr.specs.ExprGrammar.{First, FirstAt, BinderSpells, Spells, Fits}
 
 -- `[<Measure>]`
 abbrev pub Attribute : List Token → List Token → Type 0

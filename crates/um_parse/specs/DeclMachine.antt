@@ -9,10 +9,10 @@ use Rattle.um_tree.specs.RawTree.{UnitText, TypeText, BinderText, ExprText, VarT
 use Rattle.um_types.specs.UnitTokens.{unit_token}
 use Rattle.um_types.specs.UnitMachine.{State as UnitState, Need as NeedUnit, Refused as NoUnit, act as unit_act, finish as unit_finish}
 use Rattle.um_types.specs.TypeMachine.{TypeState, NeedType, NoType, type_act, type_finish}
-use Rattle.um_parse.specs.declared.mark.Mark.TheVariants as mark
-use Rattle.um_parse.specs.declared.mark.Infix.TheVariants as between
-use Rattle.um_parse.specs.ExprTokens.{ExprToken, name, variable, number, truth, hole, operator, plain, expr_token}
-use Rattle.um_parse.specs.ExprMachine.{State, Need, Refused, act, finish}
+use Rattle.um_expr.specs.declared.mark.Mark.TheVariants as mark
+use Rattle.um_expr.specs.declared.mark.Infix.TheVariants as between
+use Rattle.um_expr.specs.ExprTokens.{ExprToken, name, variable, number, truth, hole, operator, plain, expr_token}
+use Rattle.um_expr.specs.ExprMachine.{State, Need, Refused, act, finish}
 
 -- a place inside a run of tokens that is fixed
 pub data DeclPlace : Type 0 where

@@ -7,7 +7,7 @@ use Rattle.um_types.specs.UnitTakes.{unit_state}
 use Rattle.um_types.specs.TypeTakes.{type_state}
 use Rattle.um_parse.specs.DeclMachine.{DeclState, AtPlace, HaveBase, InShort, HaveRecord, InField, InParam, InResult, InBody, NoDecl}
 use Rattle.um_parse.specs.ProgramLeast.{decl_least}
-use Rattle.um_parse.specs.ExprTakes.{expr_state}
+use Rattle.um_expr.specs.ExprTakes.{expr_state}
 use Rattle.um_parse.specs.DeclViews.{head_vars, read_fields, read_params, view_decl_place}
 use Rattle.um_parse.specs.declared.decl_take.DeclReader.{DeclReader}
 use Rattle.um_parse.specs.declared.decl_take.DeclReader.TheVariants as reader

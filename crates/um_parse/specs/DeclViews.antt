@@ -4,7 +4,7 @@ use Rattle.std.specs.Prelude.{List, [], map, Option, Some, None}
 use Rattle.um_tree.specs.RawTree.{VarText, FieldDeclText, ParamText, var_text, field_decl_text, param_text, binder_text, written_type}
 use Rattle.um_types.specs.UnitMachine.{Need as NeedUnit}
 use Rattle.um_types.specs.TypeMachine.{NeedType}
-use Rattle.um_parse.specs.ExprMachine.{Need}
+use Rattle.um_expr.specs.ExprMachine.{Need}
 use Rattle.um_parse.specs.DeclMachine.{DeclPlace, DeclBegin, AttributeWord, AttributeGreater, AttributeClose, MeasureType, MeasureName, RecordName, RecordVars, VarBegin, VarWord, VarGreater, VarClose, VarName, VarEnd, RecordEqual, RecordBrace, FieldName, FieldColon, LetName, RecName, Params, ParamBinder, ParamColon, DeclState, AtPlace, HaveBase, InShort, HaveRecord, InField, InParam, InResult, InBody, NoDecl}
 use Rattle.um_parse.specs.declared.decl_place.RecordHead.{RecordHead}
 use Rattle.um_parse.specs.declared.decl_place.RecordFront.{RecordFront}

@@ -1,12 +1,7 @@
-pub mod ExprTokens
-pub mod Ranks
-pub mod ExprGrammar
-pub mod ExprMachine
 pub mod DeclGrammar
 pub mod DeclMachine
 pub mod DeclViews
 pub mod ProgramHeights
-pub mod ExprLeast
 pub mod ProgramLeast
 pub mod ProgramStates
 pub mod ProgramLimits
@@ -14,13 +9,5 @@ pub mod LimitsPassed
 pub mod ProgramNodes
 pub mod ProgramStops
 pub mod Parsed
-pub mod ExprKinds
-pub mod ExprParts
-pub mod ExprWords
-pub mod ExprFrames
-pub mod ExprStack
-pub mod ExprMarks
-pub mod ExprStates
-pub mod ExprTakes
 pub mod DeclTakes
 pub mod ProgramReads

@@ -3,7 +3,7 @@
 use Rattle.std.specs.Prelude.{ℕ, max, List, [], ◌∷◌}
 use Rattle.um_types.specs.UnitLeast.{least}
 use Rattle.um_types.specs.TypeMachine.{type_least}
-use Rattle.um_parse.specs.ExprLeast.{whole_least}
+use Rattle.um_expr.specs.ExprLeast.{whole_least}
 use Rattle.um_parse.specs.ProgramHeights.{fields_height, params_height, result_height, program_height}
 use Rattle.um_parse.specs.DeclMachine.{DeclPlace, DeclBegin, AttributeWord, AttributeGreater, AttributeClose, MeasureType, MeasureName, RecordName, RecordVars, VarBegin, VarWord, VarGreater, VarClose, VarName, VarEnd, RecordEqual, RecordBrace, FieldName, FieldColon, LetName, RecName, Params, ParamBinder, ParamColon, DeclState, AtPlace, HaveBase, InShort, HaveRecord, InField, InParam, InResult, InBody, NoDecl, ProgramState, InProgram, NoProgram}
 

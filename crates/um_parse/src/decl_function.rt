@@ -5,12 +5,12 @@ ghost use Rattle.um_types.specs.TypeHeights.{whole_height};
 ghost use Rattle.um_types.specs.UnitStops.{greatest_height};
 ghost use Rattle.um_parse.specs.DeclMachine.{LetName, RecName, Params, ParamBinder, ParamColon, AtPlace, at_place, body_begins, param_ends, result_ends, with_param};
 ghost use Rattle.um_parse.specs.DeclViews.{read_params, next_state, reached};
-ghost use Rattle.um_parse.specs.ExprWords.{view_word};
+ghost use Rattle.um_expr.specs.ExprWords.{view_word};
 
 use crate::decl_measure::refuse;
 use crate::decl_place::{DeclPlace, FunctionFront, FunctionHead, Next};
-use crate::expr_word::Word;
-use crate::mark::{Infix, Mark};
+use um_expr::Word;
+use um_expr::{Infix, Mark};
 use std::alloc::{AllocError, Global};
 use um_tree::{Binder, Name, RawParam, RawParams, RawType, Sign};
 

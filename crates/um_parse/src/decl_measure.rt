@@ -2,11 +2,11 @@
 ghost use Rattle.std.specs.Prelude.{◌≡◌, None};
 ghost use Rattle.um_parse.specs.DeclMachine.{DeclBegin, at_place};
 ghost use Rattle.um_parse.specs.DeclViews.{view_measure, reached};
-ghost use Rattle.um_parse.specs.ExprWords.{view_word};
+ghost use Rattle.um_expr.specs.ExprWords.{view_word};
 
 use crate::decl_place::{DeclPlace, MeasurePlace, Next};
-use crate::expr_word::Word;
-use crate::mark::{Infix, Mark};
+use um_expr::Word;
+use um_expr::{Infix, Mark};
 use um_tree::Sign;
 
 /// A word that can't stand here.

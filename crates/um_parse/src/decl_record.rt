@@ -6,12 +6,12 @@ ghost use Rattle.um_types.specs.UnitStops.{greatest_height};
 ghost use Rattle.um_parse.specs.DeclMachine.{RecordName, RecordVars, RecordEqual, RecordBrace, FieldName, FieldColon, at_place, field_ends, with_field_decl};
 ghost use Rattle.um_parse.specs.DeclViews.{head_vars, read_fields, view_var, reached};
 ghost use Rattle.um_parse.specs.declared.decl_place.VarPlace.TheVariants as var;
-ghost use Rattle.um_parse.specs.ExprWords.{view_word};
+ghost use Rattle.um_expr.specs.ExprWords.{view_word};
 
 use crate::decl_measure::refuse;
 use crate::decl_place::{DeclPlace, Next, RecordFront, RecordHead, VarPlace};
-use crate::expr_word::Word;
-use crate::mark::{Infix, Mark};
+use um_expr::Word;
+use um_expr::{Infix, Mark};
 use std::alloc::{AllocError, Global};
 use um_tree::{Name, RawFieldDecl, RawFieldDecls, RawType, RawVar, RawVars, Sign};
 

@@ -4,8 +4,8 @@ ghost use Rattle.um_tree.specs.RawTree.{base_text, unit_text, expr_text, decl_te
 ghost use Rattle.um_parse.specs.DeclMachine.{NoDecl, at_place, base_after, short_found, body_found, decl_step, decl_finish};
 ghost use Rattle.um_parse.specs.DeclViews.{head_vars, read_fields, read_params, view_decl_place, next_state, reached};
 ghost use Rattle.um_parse.specs.DeclTakes.{reader_state, DeclTakes};
-ghost use Rattle.um_parse.specs.ExprWords.{view_word};
-ghost use Rattle.um_parse.specs.ExprTokens.{expr_token};
+ghost use Rattle.um_expr.specs.ExprWords.{view_word};
+ghost use Rattle.um_expr.specs.ExprTokens.{expr_token};
 ghost use Rattle.um_parse.specs.declared.decl_take.DeclReader.TheVariants as reader;
 
 use crate::decl_function::{
@@ -18,9 +18,9 @@ use crate::decl_record::{
     take_var,
 };
 use crate::decl_take::{DeclReader, DeclStep, ShortFront};
-use crate::expr_take::{ExprReader, ExprStep};
-use crate::expr_word::Word;
-use crate::mark::Infix;
+use um_expr::{ExprReader, ExprStep};
+use um_expr::Word;
+use um_expr::Infix;
 use std::alloc::{AllocError, Global};
 use um_syntax::Token;
 use um_tree::{Binder, Name, RawDecl, RawExpr, RawFunction, RawUnit, Sign};

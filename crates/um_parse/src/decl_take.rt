@@ -5,7 +5,7 @@ ghost use Rattle.um_types.specs.UnitStops.{greatest_height};
 ghost use Rattle.um_types.specs.UnitTakes.{unit_state};
 
 use crate::decl_place::{DeclPlace, FunctionFront, FunctionHead, RecordFront};
-use crate::expr_take::ExprReader;
+use um_expr::ExprReader;
 use um_tree::{Binder, Name, RawDecl};
 use um_types::{TypeReader, UnitReader};
 

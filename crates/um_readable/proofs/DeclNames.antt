@@ -5,9 +5,9 @@ use Rattle.um_syntax.specs.declared.token.Kind.{Kind}
 use Rattle.um_syntax.specs.declared.token.Kind.TheVariants as kind
 use Rattle.um_tree.specs.Formed.{IsNameText}
 use Rattle.um_tree.specs.RawTree.{FieldDeclText, DeclText, base_text, short_text, record_decl_text, function_text}
-use Rattle.um_parse.specs.declared.mark.Mark.TheVariants as mark
-use Rattle.um_parse.specs.ExprTokens.{ExprToken, name, variable, number, truth, hole, operator, plain, expr_token, word_tokens, sign_tokens}
-use Rattle.um_parse.specs.ExprGrammar.{FirstAt}
+use Rattle.um_expr.specs.declared.mark.Mark.TheVariants as mark
+use Rattle.um_expr.specs.ExprTokens.{ExprToken, name, variable, number, truth, hole, operator, plain, expr_token, word_tokens, sign_tokens}
+use Rattle.um_expr.specs.ExprGrammar.{FirstAt}
 use Rattle.um_parse.specs.DeclGrammar.{MoreFieldDecls, FieldDeclsSpell, DeclSpells, DeclsSpell, FieldDeclsFit, DeclFits, DeclsFit}
 use Rattle.um_readable.proofs.NameTokens.{IsNamed, AllNamed}
 use Rattle.um_readable.proofs.Reading.{Leaves, thence, first_leaves, at_leaves}

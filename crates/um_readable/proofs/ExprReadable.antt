@@ -4,8 +4,8 @@ use Rattle.um_syntax.specs.declared.token.Token.{Token}
 use Rattle.um_tree.specs.RawTree.{TypeText, ExprText, ExprTexts, FieldTexts, truth_text, number_text, name_text, call_text, negate_text, not_text, arith_text, compare_text, and_text, or_text, if_text, let_text, match_text, nil_text, list_text, cons_text, fields_text, field_text, bracket_expr_text, no_exprs, more_exprs, no_fields, more_fields}
 use Rattle.um_tree.specs.Heights.{type_height}
 use Rattle.um_types.specs.TypeHeights.{units_height, whole_height}
-use Rattle.um_parse.specs.ExprGrammar.{Spells, AllSpell, ItemsSpell, MoreItems, FieldsSpell, MoreFields}
-use Rattle.um_parse.specs.ProgramHeights.{notes_in, notes_in_all, notes_in_fields}
+use Rattle.um_expr.specs.ExprGrammar.{Spells, AllSpell, ItemsSpell, MoreItems, FieldsSpell, MoreFields}
+use Rattle.um_expr.specs.ExprHeights.{notes_in, notes_in_all, notes_in_fields}
 use Rattle.um_names.specs.ExprNames.{length_of}
 use Rattle.um_names.specs.Readable.{IsReadExpr, AreReadExprs, AreReadFields}
 

@@ -5,11 +5,11 @@ use Rattle.um_syntax.specs.declared.token.Token.{Token}
 use Rattle.um_tree.specs.declared.expression.Sign.{Sign}
 use Rattle.um_tree.specs.declared.expression.Sign.TheVariants as compare
 use Rattle.um_tree.specs.RawTree.{NoteText, BinderText, ExprText, ExprTexts, FieldTexts, truth_text, number_text, name_text, call_text, negate_text, not_text, arith_text, compare_text, and_text, or_text, if_text, let_text, match_text, nil_text, list_text, cons_text, fields_text, field_text, bracket_expr_text, no_exprs, more_exprs, no_fields, more_fields}
-use Rattle.um_parse.specs.declared.mark.Mark.TheVariants as mark
-use Rattle.um_parse.specs.declared.mark.Infix.{Infix}
-use Rattle.um_parse.specs.declared.mark.Infix.TheVariants as between
-use Rattle.um_parse.specs.ExprTokens.{plain}
-use Rattle.um_parse.specs.ExprGrammar.{First, ends_in_number, InfixAt, WrittenNote, EmptyArm, FullArm, Spells, AllSpell, ItemsSpell, MoreItems, FieldsSpell, MoreFields, NoteFitsIn, Fits, AreAtoms, AllFit, FieldsFit}
+use Rattle.um_expr.specs.declared.mark.Mark.TheVariants as mark
+use Rattle.um_expr.specs.declared.mark.Infix.{Infix}
+use Rattle.um_expr.specs.declared.mark.Infix.TheVariants as between
+use Rattle.um_expr.specs.ExprTokens.{plain}
+use Rattle.um_expr.specs.ExprGrammar.{First, ends_in_number, InfixAt, WrittenNote, EmptyArm, FullArm, Spells, AllSpell, ItemsSpell, MoreItems, FieldsSpell, MoreFields, NoteFitsIn, Fits, AreAtoms, AllFit, FieldsFit}
 use Rattle.um_readable.proofs.Reading.{Leaves, leaves_all, leaves_one, thence, first_leaves, at_leaves, glued_leaves, note_leaves, type_leaves}
 
 written_leaves : (n : Option NoteText) (tokens rest : List Token) → WrittenNote n tokens rest → NoteFitsIn n → Leaves tokens rest

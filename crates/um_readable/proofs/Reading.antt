@@ -5,8 +5,8 @@ use Rattle.um_tree.specs.RawTree.{NoteText, TypeText}
 use Rattle.um_types.specs.TypeGrammar.{NoteSpells, NoteFits, TypeSpells, TypeFits}
 use Rattle.um_types.proofs.NoteComplete.{note_reaches}
 use Rattle.um_types.proofs.TypeComplete.{type_reaches}
-use Rattle.um_parse.specs.ExprTokens.{ExprToken}
-use Rattle.um_parse.specs.ExprGrammar.{First, FirstAt, FirstGlued}
+use Rattle.um_expr.specs.ExprTokens.{ExprToken}
+use Rattle.um_expr.specs.ExprGrammar.{First, FirstAt, FirstGlued}
 
 -- the tokens end with the rest
 abbrev pub Leaves : List Token → List Token → Type 0

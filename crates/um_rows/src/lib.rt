@@ -1,8 +1,10 @@
-//! Tests that cross the crates, as tables. Nothing stands on this crate.
+//! Tests of the layers and of those that cross them, as tables. Nothing stands on this crate.
 #![tactic(auto)]
 
 #[cfg(test)]
 mod answers;
+#[cfg(test)]
+mod expression_trees;
 #[cfg(test)]
 mod faults;
 #[cfg(test)]
@@ -12,10 +14,18 @@ mod limits;
 #[cfg(test)]
 mod names;
 #[cfg(test)]
+mod program_trees;
+#[cfg(test)]
 mod refusals;
 #[cfg(test)]
 mod runs;
 #[cfg(test)]
 mod shapes;
+#[cfg(test)]
+mod shown;
+#[cfg(test)]
+mod signature_texts;
+#[cfg(test)]
+mod unit_texts;
 #[cfg(test)]
 mod units;

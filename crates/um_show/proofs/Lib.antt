@@ -1,3 +1,22 @@
 mod Joined
 mod ListTexts
 mod Examples
+pub mod Standing
+pub mod UnitsAgain
+pub mod TypesAgain
+pub mod ExprsAgain
+pub mod DeclsAgain
+pub mod Numbers
+pub mod NextToken
+pub mod Apart
+pub mod Chain
+pub mod SignRoles
+pub mod Fronts
+pub mod Opens
+pub mod ChainTexts
+pub mod GoodTokens
+pub mod UnitLinks
+pub mod TypeLinks
+pub mod ExprLinks
+pub mod DeclLinks
+pub mod ReadBack

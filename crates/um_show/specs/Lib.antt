@@ -2,3 +2,5 @@ pub mod NumberText
 pub mod Pieces
 pub mod Layout
 pub mod Lists
+pub mod Unplaced
+pub mod Laws

@@ -3,6 +3,7 @@
 
 mod decl;
 mod expr;
+pub mod laws;
 mod number;
 #[cfg(test)]
 mod tests;

@@ -4,8 +4,6 @@
 mod note_take;
 mod parse;
 mod signature;
-#[cfg(test)]
-mod tests;
 mod type_part;
 mod type_reader;
 mod type_symbol;
@@ -18,8 +16,6 @@ mod unit_mark;
 mod unit_part;
 mod unit_reader;
 mod unit_take;
-#[cfg(test)]
-mod unit_tests;
 
 pub use note_take::{NoteReader, NoteStep};
 pub use parse::{LimitKind, ParseStop, parse_types, parse_unit};

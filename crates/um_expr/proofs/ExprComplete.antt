@@ -1,0 +1,124 @@
+-- What an expression spells is read as it, inside any frames, whatever follows.
+use Rattle.std.proofs.Common.{◌≡◌, ◌≢◌, ℕ, ◌+◌, ◌≤◌, ◌<◌, List, [], ◌∷◌, ◌++◌, Bool, true, false, cond, Option, Some, None, refl, sym, ap, subst, ◌∙◌, arith, inl, inr, ◌⊎◌}
+use Rattle.std.proofs.lemmas.Bool.{lt-ltb, le-ltb}
+use Rattle.um_frac.specs.declared.number.Frac.{Frac}
+use Rattle.um_syntax.specs.declared.token.Token.{Token}
+use Rattle.um_syntax.specs.declared.token.Kind.{Kind}
+use Rattle.um_tree.specs.declared.expression.Sign.{Sign}
+use Rattle.um_tree.specs.declared.expression.Sign.TheVariants as compare
+use Rattle.um_tree.specs.declared.expression.Arith.TheVariants as arith_of
+use Rattle.um_tree.specs.RawTree.{NoteText, TypeText, BinderText, ExprText, ExprTexts, FieldTexts, FieldPart, truth_text, number_text, name_text, call_text, negate_text, not_text, arith_text, compare_text, and_text, or_text, if_text, let_text, match_text, nil_text, list_text, cons_text, fields_text, field_text, bracket_expr_text, no_exprs, more_exprs, no_fields, more_fields, exprs_in_order, fields_in_order}
+use Rattle.um_types.specs.NoteMachine.{NeedNote}
+use Rattle.um_types.specs.TypeMachine.{NeedType, HaveType}
+use Rattle.um_types.specs.TypeGrammar.{TypeFits}
+use Rattle.um_types.proofs.NoteComplete.{note_into}
+use Rattle.um_expr.specs.declared.mark.Mark.TheVariants as mark
+use Rattle.um_expr.specs.declared.mark.Infix.{Infix}
+use Rattle.um_expr.specs.declared.mark.Infix.TheVariants as between
+use Rattle.um_expr.specs.ExprTokens.{ExprToken, name, number, truth, hole, operator, plain, expr_token, equal, less, greater, minus, double_colon}
+use Rattle.um_expr.specs.Ranks.{arith_rank, infix_rank, left_limit, right_bound, infix_text}
+use Rattle.um_expr.specs.ExprGrammar.{First, FirstAt, FirstGlued, bound, BinderSpells, ends_in_number, InfixAt, WrittenNote, EmptyArm, FullArm, NilSpells, Spells, AllSpell, ItemsSpell, MoreItems, FieldsSpell, MoreFields, rank, NoteFitsIn, IsAny, Fits, AreAtoms, AllFit, FieldsFit}
+use Rattle.um_expr.specs.ExprMachine.{Frame, InBracket, InItem, InField, InValue, InBody, InTest, InThen, InElse, InMatched, InEmptyArm, InFullArm, InNegate, InNot, InRight, InArgument, top_bound, top_rank, with_field, Place, LetBinder, LetEqual, FieldName, FieldEqual, DotName, ArmBegin, ArmOpen, ArmClose, ArmArrow, HeadBinder, HeadCons, TailBinder, TailArrow, NilColon, State, Need, Have, Greater, Inside, InNote, InType, Refused, reduce, if_may, argument, infix_after, greater_after, less_after, close_after, list_after, record_after, semi_after, in_after, then_after, else_after, with_after, bar_after, act, inside}
+use Rattle.um_expr.proofs.ExprEnds.{opened_call, last_argument, opened, last_atom, rank_low, infix_low, stays, put, put_last, order_last, put_fields, put_field_last, field_order_last, ends_as, ends_whole, infix_opens, atom_opened, atom_last, last_number, less_free}
+use Rattle.um_expr.proofs.ExprLeads.{Leads, leads_here, leads_then, leads_as, leads_first, leads_at, leads_glued, leads_alike, leads_note, leads_note_end, leads_type, leads_type_end}
+use Rattle.um_expr.proofs.ExprFirsts.{begins_atom, first_atom, is_no_equal, first_no_equal, atom_alike, greater_alike}
+
+-- the state once an expression was read inside frames
+abbrev pub into : List Frame → ExprText → State
+into frames t = Have (opened frames t) (last_atom t)
+
+pub atom_into : (frames : List Frame) (t : ExprText) → rank t ≡ 0 → into frames t ≡ Have frames t
+atom_into frames t low = ap (λ fs. Have fs (last_atom t)) (atom_opened t frames low) ∙ ap (Have frames) (atom_last t low)
+
+pub may : (frames : List Frame) (rank : ℕ) (st : State) → rank < top_bound frames → if_may frames rank st ≡ st
+may frames rank st lt = rw lt-ltb refl
+
+-- ---- signs between two operands
+
+-- behind the left operand all ends that binds as tightly as it may
+left_ends : (sign : Infix) (frames : List Frame) (a : ExprText) → Fits a → rank a ≤ left_limit sign → infix_rank sign < top_bound frames → reduce (left_limit sign) (opened frames a) (last_atom a) ≡ Have frames a
+left_ends sign frames a fits le lt = ends_as a (left_limit sign) frames fits le ∙ stays (left_limit sign) frames a (infix_opens sign frames lt)
+
+pub after_left : (sign : Infix) (at : ℕ) (frames : List Frame) (a : ExprText) → Fits a → rank a ≤ left_limit sign → infix_rank sign < top_bound frames
+    → infix_after sign at (reduce (left_limit sign) (opened frames a) (last_atom a)) ≡ Need (InRight at sign a ∷ frames)
+after_left sign at frames a fits le lt = ap (infix_after sign at) (left_ends sign frames a fits le lt) ∙ may frames (infix_rank sign) (Need (InRight at sign a ∷ frames)) lt
+
+leads_less : (at : ℕ) (frames : List Frame) (a : ExprText) (tokens rest : List Token) → Fits a → rank a ≤ 5 → 6 < top_bound frames → InfixAt (between.Compare compare.Lt) (ends_in_number a) at tokens rest
+    → Leads (into frames a) tokens (Need (InRight at (between.Compare compare.Lt) a ∷ frames)) rest
+leads_less at frames a tokens rest fits le lt s =
+    let token : Token = s.0 in
+    let free = less_free (opened frames a) (last_atom a) token.glued token.start (λ h. s.3 (sym (last_number a fits) ∙ h)) in (
+      token ∷ [],
+      s.4,
+      ap (λ w. act (into frames a) w token.start token.glued token.kind) s.1
+          ∙ free
+          ∙ ap (λ p. infix_after (between.Compare compare.Lt) p (reduce 5 (opened frames a) (last_atom a))) s.2
+          ∙ after_left (between.Compare compare.Lt) at frames a fits le lt,
+    )
+
+after_left_greater : (at : ℕ) (frames : List Frame) (a : ExprText) → Fits a → rank a ≤ 5 → 6 < top_bound frames → greater_after at (reduce 5 (opened frames a) (last_atom a)) ≡ Greater frames at a
+after_left_greater at frames a fits le lt = ap (greater_after at) (left_ends (between.Compare compare.Gt) frames a fits le lt) ∙ may frames 6 (Greater frames at a) lt
+
+-- `>` and the right operand, where it is read behind other signs
+leads_greater : (at : ℕ) (frames : List Frame) (a b : ExprText) (tokens next rest : List Token) → Fits a → rank a ≤ 5 → 6 < top_bound frames → FirstAt greater at tokens next → Spells b next rest
+    → Leads (Need (InRight at (between.Compare compare.Gt) a ∷ frames)) next (into (InRight at (between.Compare compare.Gt) a ∷ frames) b) rest
+    → Leads (into frames a) tokens (into (InRight at (between.Compare compare.Gt) a ∷ frames) b) rest
+leads_greater at frames a b tokens next rest fits le lt s r p =
+    let behind : List Frame = InRight at (between.Compare compare.Gt) a ∷ frames in
+    leads_then (into frames a) (Greater frames at a) (into behind b) tokens next rest
+    (leads_at (into frames a) (Greater frames at a) greater at tokens next s (λ g k. after_left_greater at frames a fits le lt))
+    (leads_alike is_no_equal (Greater frames at a) (Need behind) (into behind b) next rest (first_no_equal b next rest r) (λ w q g k h. greater_alike frames at a w q g k h) (λ e. cc) p)
+
+leads_at_least : (at : ℕ) (frames : List Frame) (a : ExprText) (tokens rest : List Token) → Fits a → rank a ≤ 5 → 6 < top_bound frames → InfixAt (between.Compare compare.Ge) (ends_in_number a) at tokens rest
+    → Leads (into frames a) tokens (Need (InRight at (between.Compare compare.Ge) a ∷ frames)) rest
+leads_at_least at frames a tokens rest fits le lt s =
+    leads_then (into frames a) (Greater frames at a) (Need (InRight at (between.Compare compare.Ge) a ∷ frames)) tokens s.0 rest
+    (leads_at (into frames a) (Greater frames at a) greater at tokens s.0 s.1 (λ g k. after_left_greater at frames a fits le lt))
+    (leads_glued (Greater frames at a) (Need (InRight at (between.Compare compare.Ge) a ∷ frames)) equal s.0 rest s.2 (λ p k. refl))
+
+-- a comparison
+pub leads_compare : (sign : Sign) (at : ℕ) (frames : List Frame) (a b : ExprText) (tokens next rest : List Token) → Fits a → rank a ≤ 5 → 6 < top_bound frames
+    → InfixAt (between.Compare sign) (ends_in_number a) at tokens next → Spells b next rest
+    → Leads (Need (InRight at (between.Compare sign) a ∷ frames)) next (into (InRight at (between.Compare sign) a ∷ frames) b) rest
+    → Leads (into frames a) tokens (into (InRight at (between.Compare sign) a ∷ frames) b) rest
+leads_compare compare.Gt at frames a b tokens next rest fits le lt s r p = leads_greater at frames a b tokens next rest fits le lt s r p
+leads_compare compare.Lt at frames a b tokens next rest fits le lt s r p =
+    leads_then (into frames a) (Need (InRight at (between.Compare compare.Lt) a ∷ frames)) (into (InRight at (between.Compare compare.Lt) a ∷ frames) b) tokens next rest
+    (leads_less at frames a tokens next fits le lt s) p
+leads_compare compare.Ge at frames a b tokens next rest fits le lt s r p =
+    leads_then (into frames a) (Need (InRight at (between.Compare compare.Ge) a ∷ frames)) (into (InRight at (between.Compare compare.Ge) a ∷ frames) b) tokens next rest
+    (leads_at_least at frames a tokens next fits le lt s) p
+leads_compare compare.Le at frames a b tokens next rest fits le lt s r p =
+    let sign : Infix = between.Compare compare.Le in
+    leads_then (into frames a) (Need (InRight at sign a ∷ frames)) (into (InRight at sign a ∷ frames) b) tokens next rest
+    (leads_at (into frames a) (Need (InRight at sign a ∷ frames)) (operator sign) at tokens next s (λ g k. after_left sign at frames a fits le lt)) p
+leads_compare compare.Eq at frames a b tokens next rest fits le lt s r p =
+    let sign : Infix = between.Compare compare.Eq in
+    leads_then (into frames a) (Need (InRight at sign a ∷ frames)) (into (InRight at sign a ∷ frames) b) tokens next rest
+    (leads_at (into frames a) (Need (InRight at sign a ∷ frames)) (operator sign) at tokens next s (λ g k. after_left sign at frames a fits le lt)) p
+leads_compare compare.Ne at frames a b tokens next rest fits le lt s r p =
+    let sign : Infix = between.Compare compare.Ne in
+    leads_then (into frames a) (Need (InRight at sign a ∷ frames)) (into (InRight at sign a ∷ frames) b) tokens next rest
+    (leads_at (into frames a) (Need (InRight at sign a ∷ frames)) (operator sign) at tokens next s (λ g k. after_left sign at frames a fits le lt)) p
+
+-- ---- runs of tokens that are fixed
+
+pub leads_binder : (old : State) (new : BinderText → State) (x : BinderText) (tokens rest : List Token) → BinderSpells x tokens rest
+    → ((y : List ℕ) (p : ℕ) (g : Bool) (k : Kind) → act old (name y) p g k ≡ new (record { at = p; name = Some y }))
+    → ((p : ℕ) (g : Bool) (k : Kind) → act old hole p g k ≡ new (record { at = p; name = None })) → Leads old tokens (new x) rest
+leads_binder old new x tokens rest s named free = by_name x.name s
+  where
+    by_name : (o : Option (List ℕ)) → FirstAt (bound o) x.at tokens rest → Leads old tokens (new (record { at = x.at; name = o })) rest
+    by_name (Some y) f = leads_at old (new (record { at = x.at; name = Some y })) (name y) x.at tokens rest f (λ g k. named y x.at g k)
+    by_name None f = leads_at old (new (record { at = x.at; name = None })) hole x.at tokens rest f (λ g k. free x.at g k)
+
+pub leads_written : (frames : List Frame) (at : ℕ) (c : Frac) (n : Option NoteText) (tokens rest : List Token) → WrittenNote n tokens rest → NoteFitsIn n
+    → Leads (Have frames (number_text at c None)) tokens (Have frames (number_text at c n)) rest
+leads_written frames at c None tokens rest s fits = leads_here (Have frames (number_text at c None)) (Have frames (number_text at c None)) tokens rest refl s
+leads_written frames at c (Some n) tokens rest s fits =
+    leads_then (Have frames (number_text at c None)) (InNote frames at c NeedNote) (Have frames (number_text at c (Some n))) tokens s.0 rest
+    (leads_glued (Have frames (number_text at c None)) (InNote frames at c NeedNote) less tokens s.0 s.2 (λ p k. refl))
+    (
+    leads_then (InNote frames at c NeedNote) (InNote frames at c (note_into n)) (Have frames (number_text at c (Some n))) s.0 s.1 rest
+    (leads_note frames at c n s.0 s.1 s.3 fits) (leads_note_end frames at c n s.1 rest fits s.4)
+    )

@@ -1,0 +1,91 @@
+-- The first token of an expression.
+use Rattle.std.proofs.Common.{◌≡◌, ℕ, ◌≤◌, List, [], ◌∷◌, ◌++◌, Bool, true, false, cond, Option, Some, None, refl, sym, ap, ◌∙◌, arith}
+use Rattle.um_syntax.specs.declared.token.Token.{Token}
+use Rattle.um_syntax.specs.declared.token.Kind.{Kind}
+use Rattle.um_tree.specs.declared.expression.Sign.TheVariants as compare
+use Rattle.um_tree.specs.RawTree.{ExprText, truth_text, number_text, name_text, call_text, negate_text, not_text, arith_text, compare_text, and_text, or_text, if_text, let_text, match_text, nil_text, list_text, cons_text, fields_text, field_text, bracket_expr_text}
+use Rattle.um_expr.specs.declared.mark.Mark.TheVariants as mark
+use Rattle.um_expr.specs.declared.mark.Infix.TheVariants as between
+use Rattle.um_expr.specs.ExprTokens.{ExprToken, name, variable, number, truth, hole, operator, plain, expr_token, minus}
+use Rattle.um_expr.specs.ExprGrammar.{First, FirstAt, Spells, Fits, rank}
+use Rattle.um_expr.specs.ExprMachine.{Frame, InRight, State, Need, Have, Greater, begin, argument, begin_in, after_greater, act}
+use Rattle.um_expr.proofs.ExprEnds.{arith_low}
+use Rattle.um_expr.proofs.ExprLeads.{FirstPasses}
+
+-- the tokens that begin an atom
+abbrev pub begins_atom : ExprToken → Bool
+begins_atom (name x) = true
+begins_atom (number c) = true
+begins_atom (truth b) = true
+begins_atom (plain mark.Open) = true
+begins_atom (plain mark.ListOpen) = true
+begins_atom (plain mark.RecordOpen) = true
+begins_atom _ = false
+
+abbrev pub is_no_equal : ExprToken → Bool
+is_no_equal (operator (between.Compare compare.Eq)) = false
+is_no_equal _ = true
+
+passes : (test : ExprToken → Bool) (what : ExprToken) (at : ℕ) (tokens rest : List Token) → FirstAt what at tokens rest → test what ≡ true → FirstPasses test tokens
+passes test what at tokens rest f e = (f.0, rest, f.3, ap test f.1 ∙ e)
+
+-- an atom begins with one of these; the part of a field is an atom too
+pub first_atom : (t : ExprText) (tokens rest : List Token) → Spells t tokens rest → Fits t → rank t ≡ 0 → FirstPasses begins_atom tokens
+first_atom (truth_text at b) tokens rest s fits low = passes begins_atom (truth b) at tokens rest s refl
+first_atom (number_text at c n) tokens rest s fits low = passes begins_atom (number c) at tokens s.0 s.1 refl
+first_atom (name_text at x) tokens rest s fits low = passes begins_atom (name x) at tokens rest s refl
+first_atom (nil_text at t) tokens rest s fits low = passes begins_atom (plain mark.Open) at tokens s.0 s.5 refl
+first_atom (list_text at es) tokens rest s fits low = passes begins_atom (plain mark.ListOpen) at tokens s.0 s.2 refl
+first_atom (fields_text at fs) tokens rest s fits low = passes begins_atom (plain mark.RecordOpen) at tokens s.0 s.2 refl
+first_atom (field_text at place x e) tokens rest s fits low = first_atom e tokens s.0 s.2 fits.1 fits.0
+first_atom (bracket_expr_text at e) tokens rest s fits low = passes begins_atom (plain mark.Open) at tokens s.0 s.2 refl
+first_atom (call_text at f args) tokens rest s fits low = absurd (omega arith)
+first_atom (negate_text at e) tokens rest s fits low = absurd (omega arith)
+first_atom (not_text at e) tokens rest s fits low = absurd (omega arith)
+first_atom (arith_text at op a b) tokens rest s fits low = absurd (omega (arith, arith_low op))
+first_atom (compare_text at sign a b) tokens rest s fits low = absurd (omega arith)
+first_atom (and_text at a b) tokens rest s fits low = absurd (omega arith)
+first_atom (or_text at a b) tokens rest s fits low = absurd (omega arith)
+first_atom (if_text at c a b) tokens rest s fits low = absurd (omega arith)
+first_atom (let_text at x a b) tokens rest s fits low = absurd (omega arith)
+first_atom (match_text at l a x y b) tokens rest s fits low = absurd (omega arith)
+first_atom (cons_text at a b) tokens rest s fits low = absurd (omega arith)
+
+-- no expression begins with `=`
+pub first_no_equal : (t : ExprText) (tokens rest : List Token) → Spells t tokens rest → FirstPasses is_no_equal tokens
+first_no_equal (truth_text at b) tokens rest s = passes is_no_equal (truth b) at tokens rest s refl
+first_no_equal (number_text at c n) tokens rest s = passes is_no_equal (number c) at tokens s.0 s.1 refl
+first_no_equal (name_text at x) tokens rest s = passes is_no_equal (name x) at tokens rest s refl
+first_no_equal (call_text at f args) tokens rest s = passes is_no_equal (name f) at tokens s.0 s.1 refl
+first_no_equal (negate_text at e) tokens rest s = passes is_no_equal minus at tokens s.0 s.1 refl
+first_no_equal (not_text at e) tokens rest s = passes is_no_equal (plain mark.Not) at tokens s.0 s.1 refl
+first_no_equal (arith_text at op a b) tokens rest s = first_no_equal a tokens s.0 s.2
+first_no_equal (compare_text at sign a b) tokens rest s = first_no_equal a tokens s.0 s.2
+first_no_equal (and_text at a b) tokens rest s = first_no_equal a tokens s.0 s.2
+first_no_equal (or_text at a b) tokens rest s = first_no_equal a tokens s.0 s.2
+first_no_equal (if_text at c a b) tokens rest s = passes is_no_equal (plain mark.If) at tokens s.0 s.5 refl
+first_no_equal (let_text at x a b) tokens rest s = passes is_no_equal (plain mark.Let) at tokens s.0 s.5 refl
+first_no_equal (match_text at l a x y b) tokens rest s = passes is_no_equal (plain mark.Match) at tokens s.0 s.5 refl
+first_no_equal (nil_text at t) tokens rest s = passes is_no_equal (plain mark.Open) at tokens s.0 s.5 refl
+first_no_equal (list_text at es) tokens rest s = passes is_no_equal (plain mark.ListOpen) at tokens s.0 s.2 refl
+first_no_equal (cons_text at a b) tokens rest s = first_no_equal a tokens s.0 s.2
+first_no_equal (fields_text at fs) tokens rest s = passes is_no_equal (plain mark.RecordOpen) at tokens s.0 s.2 refl
+first_no_equal (field_text at place x e) tokens rest s = first_no_equal e tokens s.0 s.2
+first_no_equal (bracket_expr_text at e) tokens rest s = passes is_no_equal (plain mark.Open) at tokens s.0 s.2 refl
+
+-- an atom behind an atom begins an argument
+pub atom_alike : (frames new : List Frame) (t : ExprText) → argument frames t ≡ Some new
+    → (w : ExprToken) (at : ℕ) (glued : Bool) (k : Kind) → begins_atom w ≡ true → act (Have frames t) w at glued k ≡ act (Need new) w at glued k
+atom_alike frames new t e (name x) at glued k h = ap (λ o. begin_in o (name x) at) e
+atom_alike frames new t e (number c) at glued k h = ap (λ o. begin_in o (number c) at) e
+atom_alike frames new t e (truth b) at glued k h = ap (λ o. begin_in o (truth b) at) e
+atom_alike frames new t e (plain mark.Open) at glued k h = ap (λ o. begin_in o (plain mark.Open) at) e
+atom_alike frames new t e (plain mark.ListOpen) at glued k h = ap (λ o. begin_in o (plain mark.ListOpen) at) e
+atom_alike frames new t e (plain mark.RecordOpen) at glued k h = ap (λ o. begin_in o (plain mark.RecordOpen) at) e
+atom_alike frames new t e _ at glued k h = absurd cc
+
+-- behind `>`
+pub greater_alike : (frames : List Frame) (place : ℕ) (left : ExprText) (w : ExprToken) (at : ℕ) (glued : Bool) (k : Kind) → is_no_equal w ≡ true
+    → act (Greater frames place left) w at glued k ≡ act (Need (InRight place (between.Compare compare.Gt) left ∷ frames)) w at glued k
+greater_alike frames place left (operator (between.Compare compare.Eq)) at glued k h = absurd cc
+greater_alike frames place left _ at glued k h = refl

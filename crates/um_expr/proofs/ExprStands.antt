@@ -1,0 +1,292 @@
+-- The tokens of what is open and at hand: what a state says of the tokens that were read.
+use Rattle.std.proofs.Common.{◌≡◌, ◌≢◌, ℕ, ◌+◌, ◌≤◌, ◌<◌, List, [], ◌∷◌, ◌++◌, Bool, true, false, cond, Option, Some, None, refl, sym, ap, subst, ◌∙◌, arith, inl, inr, ◌⊎◌}
+use Rattle.std.proofs.lemmas.Bool.{cases_lt, lt-ltb, le-ltb}
+use Rattle.um_syntax.specs.declared.token.Token.{Token}
+use Rattle.um_tree.specs.RawTree.{TypeText, BinderText, ExprText, ExprTexts, FieldTexts, FieldPart, truth_text, number_text, name_text, call_text, negate_text, not_text, arith_text, compare_text, and_text, or_text, if_text, let_text, match_text, nil_text, list_text, cons_text, fields_text, field_text, bracket_expr_text, no_exprs, more_exprs, no_fields, more_fields, exprs_in_order, fields_in_order}
+use Rattle.um_types.specs.NoteMachine.{NoNote}
+use Rattle.um_types.specs.TypeMachine.{NoType}
+use Rattle.um_types.proofs.NoteLaws.{NoteStands}
+use Rattle.um_types.proofs.TypeSound.{TypeStands}
+use Rattle.um_expr.specs.declared.mark.Mark.TheVariants as mark
+use Rattle.um_expr.specs.declared.mark.Infix.{Infix}
+use Rattle.um_expr.specs.declared.mark.Infix.TheVariants as between
+use Rattle.um_expr.specs.ExprTokens.{ExprToken, name, number, operator, plain, equal, less, greater, minus, double_colon}
+use Rattle.um_expr.specs.Ranks.{arith_rank, infix_rank, left_limit, right_bound, infix_text}
+use Rattle.um_expr.specs.ExprGrammar.{First, FirstAt, FirstGlued, BinderSpells, ends_in_number, last_ends_in_number, InfixAt, EmptyArm, FullArm, Spells, AllSpell, ItemsSpell, MoreItems, FieldsSpell, MoreFields, rank, IsAny, Fits, AreAtoms, AllFit, FieldsFit}
+use Rattle.um_expr.specs.ExprMachine.{Frame, InBracket, InItem, InField, InValue, InBody, InTest, InThen, InElse, InMatched, InEmptyArm, InFullArm, InNegate, InNot, InRight, InArgument, bound_of, own_rank, top_bound, top_rank, plug, with_field, Place, LetBinder, LetEqual, FieldName, FieldEqual, DotName, ArmBegin, ArmOpen, ArmClose, ArmArrow, HeadBinder, HeadCons, TailBinder, TailArrow, NilColon, State, Need, Have, Greater, Inside, InNote, InType, Refused, reduce}
+use Rattle.um_expr.proofs.ExprEnds.{infix_low, arith_low}
+
+-- each item with the `;` behind it
+abbrev pub ItemsRead : List ExprText → List Token → List Token → Type 0
+ItemsRead [] tokens rest = tokens ≡ rest
+ItemsRead (e ∷ es) tokens rest = (mid next : List Token) × Spells e tokens mid × First (plain mark.Semi) mid next × ItemsRead es next rest
+
+-- each field with the `;` behind it
+abbrev pub FieldsRead : List FieldPart → List Token → List Token → Type 0
+FieldsRead [] tokens rest = tokens ≡ rest
+FieldsRead (f ∷ fs) tokens rest =
+    (sign value mid next : List Token) × FirstAt (name f.name) f.at tokens sign × First equal sign value × Spells f.part value mid × First (plain mark.Semi) mid next × FieldsRead fs next rest
+
+-- from `match` up to the `->` of the empty arm
+abbrev pub MatchReads : ℕ → ExprText → List Token → List Token → Type 0
+MatchReads at l tokens rest = (m m' : List Token) × FirstAt (plain mark.Match) at tokens m × Spells l m m' × EmptyArm m' rest
+
+-- from `if` up to `then`
+abbrev pub TestReads : ℕ → ExprText → List Token → List Token → Type 0
+TestReads at c tokens rest = (t t' : List Token) × FirstAt (plain mark.If) at tokens t × Spells c t t' × First (plain mark.Then) t' rest
+
+-- from `let` up to `=`
+abbrev pub LetReads : ℕ → BinderText → List Token → List Token → Type 0
+LetReads at x tokens rest = (n e : List Token) × FirstAt (plain mark.Let) at tokens n × BinderSpells x n e × First equal e rest
+
+-- `{`, fields, a name and `=`
+abbrev pub FieldReads : ℕ → List FieldPart → ℕ → List ℕ → List Token → List Token → Type 0
+FieldReads at front place x tokens rest =
+    (a b c : List Token) × FirstAt (plain mark.RecordOpen) at tokens a × FieldsRead front a b × FirstAt (name x) place b c × First equal c rest
+
+-- the tokens of a frame before its open place, and then the rest
+abbrev pub FrameReads : Frame → List Token → List Token → Type 0
+FrameReads (InBracket at) tokens rest = FirstAt (plain mark.Open) at tokens rest
+FrameReads (InItem at front) tokens rest = (a : List Token) × FirstAt (plain mark.ListOpen) at tokens a × ItemsRead front a rest
+FrameReads (InField at front place x) tokens rest = FieldReads at front place x tokens rest
+FrameReads (InValue at x) tokens rest = LetReads at x tokens rest
+FrameReads (InBody at x v) tokens rest = (a b : List Token) × LetReads at x tokens a × Spells v a b × First (plain mark.In) b rest
+FrameReads (InTest at) tokens rest = FirstAt (plain mark.If) at tokens rest
+FrameReads (InThen at c) tokens rest = TestReads at c tokens rest
+FrameReads (InElse at c a) tokens rest = (e e' : List Token) × TestReads at c tokens e × Spells a e e' × First (plain mark.Else) e' rest
+FrameReads (InMatched at) tokens rest = FirstAt (plain mark.Match) at tokens rest
+FrameReads (InEmptyArm at l) tokens rest = MatchReads at l tokens rest
+FrameReads (InFullArm at l a x y) tokens rest = (e e' : List Token) × MatchReads at l tokens e × Spells a e e' × FullArm x y e' rest
+FrameReads (InNegate at) tokens rest = FirstAt minus at tokens rest
+FrameReads (InNot at) tokens rest = FirstAt (plain mark.Not) at tokens rest
+FrameReads (InRight at sign left) tokens rest = (mid : List Token) × Spells left tokens mid × InfixAt sign (ends_in_number left) at mid rest
+FrameReads (InArgument at f front) tokens rest = (a : List Token) × FirstAt (name f) at tokens a × AllSpell (exprs_in_order front) a rest
+
+abbrev pub FramesRead : List Frame → List Token → List Token → Type 0
+FramesRead [] tokens rest = tokens ≡ rest
+FramesRead (frame ∷ frames) tokens rest = (mid : List Token) × FramesRead frames tokens mid × FrameReads frame mid rest
+
+-- a frame over the frames around it
+abbrev pub FrameFits : Frame → List Frame → Type 0
+FrameFits (InBracket at) frames = Unit {0}
+FrameFits (InItem at front) frames = AllFit (exprs_in_order front)
+FrameFits (InField at front place x) frames = FieldsFit (fields_in_order front)
+FrameFits (InValue at x) frames = 9 < top_bound frames
+FrameFits (InBody at x v) frames = (9 < top_bound frames) × Fits v
+FrameFits (InTest at) frames = 9 < top_bound frames
+FrameFits (InThen at c) frames = (9 < top_bound frames) × Fits c
+FrameFits (InElse at c a) frames = (9 < top_bound frames) × Fits c × Fits a
+FrameFits (InMatched at) frames = 9 < top_bound frames
+FrameFits (InEmptyArm at l) frames = (9 < top_bound frames) × Fits l
+FrameFits (InFullArm at l a x y) frames = (9 < top_bound frames) × Fits l × Fits a
+FrameFits (InNegate at) frames = 2 < top_bound frames
+FrameFits (InNot at) frames = 1 < top_bound frames
+FrameFits (InRight at sign left) frames = (infix_rank sign < top_bound frames) × (rank left ≤ left_limit sign) × Fits left
+FrameFits (InArgument at f front) frames = (1 < top_bound frames) × AreAtoms (exprs_in_order front)
+
+abbrev pub FramesFit : List Frame → Type 0
+FramesFit [] = Unit {0}
+FramesFit (frame ∷ frames) = FrameFits frame frames × FramesFit frames
+
+-- from `with` up to `[`
+abbrev pub ArmReads : List Token → List Token → Type 0
+ArmReads tokens rest = (arm empty : List Token) × First (plain mark.With) tokens arm × ((arm ≡ empty) ⊎ First (plain mark.Bar) arm empty) × First (plain mark.ListOpen) empty rest
+
+-- the tokens of a run up to a place inside it
+abbrev pub PlaceReads : Place → List Token → List Token → Type 0
+PlaceReads (LetBinder at) tokens rest = FirstAt (plain mark.Let) at tokens rest
+PlaceReads (LetEqual at x) tokens rest = (n : List Token) × FirstAt (plain mark.Let) at tokens n × BinderSpells x n rest
+PlaceReads (FieldName at front) tokens rest = (a : List Token) × FirstAt (plain mark.RecordOpen) at tokens a × FieldsRead front a rest
+PlaceReads (FieldEqual at front place x) tokens rest = (a b : List Token) × FirstAt (plain mark.RecordOpen) at tokens a × FieldsRead front a b × FirstAt (name x) place b rest
+PlaceReads (DotName at e) tokens rest = (mid : List Token) × Spells e tokens mid × FirstAt (plain mark.Dot) at mid rest
+PlaceReads (ArmBegin at l) tokens rest = (m m' : List Token) × FirstAt (plain mark.Match) at tokens m × Spells l m m' × First (plain mark.With) m' rest
+PlaceReads (ArmOpen at l) tokens rest = (m m' arm : List Token) × FirstAt (plain mark.Match) at tokens m × Spells l m m' × First (plain mark.With) m' arm × First (plain mark.Bar) arm rest
+PlaceReads (ArmClose at l) tokens rest = (m m' : List Token) × FirstAt (plain mark.Match) at tokens m × Spells l m m' × ArmReads m' rest
+PlaceReads (ArmArrow at l) tokens rest = (m m' close : List Token) × FirstAt (plain mark.Match) at tokens m × Spells l m m' × ArmReads m' close × First (plain mark.ListClose) close rest
+PlaceReads (HeadBinder at l a) tokens rest = (e e' : List Token) × MatchReads at l tokens e × Spells a e e' × First (plain mark.Bar) e' rest
+PlaceReads (HeadCons at l a x) tokens rest = (e e' head : List Token) × MatchReads at l tokens e × Spells a e e' × First (plain mark.Bar) e' head × BinderSpells x head rest
+PlaceReads (TailBinder at l a x) tokens rest =
+    (e e' head cons : List Token) × MatchReads at l tokens e × Spells a e e' × First (plain mark.Bar) e' head × BinderSpells x head cons × First double_colon cons rest
+PlaceReads (TailArrow at l a x y) tokens rest =
+    (e e' head cons tail : List Token) × MatchReads at l tokens e × Spells a e e' × First (plain mark.Bar) e' head × BinderSpells x head cons × First double_colon cons tail × BinderSpells y tail rest
+PlaceReads (NilColon at) tokens rest = (a b : List Token) × FirstAt (plain mark.Open) at tokens a × First (plain mark.ListOpen) a b × First (plain mark.ListClose) b rest
+
+abbrev pub PlaceFits : Place → List Frame → Type 0
+PlaceFits (LetBinder at) frames = 9 < top_bound frames
+PlaceFits (LetEqual at x) frames = 9 < top_bound frames
+PlaceFits (FieldName at front) frames = FieldsFit (fields_in_order front)
+PlaceFits (FieldEqual at front place x) frames = FieldsFit (fields_in_order front)
+PlaceFits (DotName at e) frames = (rank e ≡ 0) × Fits e
+PlaceFits (ArmBegin at l) frames = (9 < top_bound frames) × Fits l
+PlaceFits (ArmOpen at l) frames = (9 < top_bound frames) × Fits l
+PlaceFits (ArmClose at l) frames = (9 < top_bound frames) × Fits l
+PlaceFits (ArmArrow at l) frames = (9 < top_bound frames) × Fits l
+PlaceFits (HeadBinder at l a) frames = (9 < top_bound frames) × Fits l × Fits a
+PlaceFits (HeadCons at l a x) frames = (9 < top_bound frames) × Fits l × Fits a
+PlaceFits (TailBinder at l a x) frames = (9 < top_bound frames) × Fits l × Fits a
+PlaceFits (TailArrow at l a x y) frames = (9 < top_bound frames) × Fits l × Fits a
+PlaceFits (NilColon at) frames = Unit {0}
+
+-- the tokens up to the rest are those of the state, and what stands in it fits
+abbrev pub Stands : State → List Token → List Token → Type 0
+Stands (Need frames) tokens rest = FramesRead frames tokens rest × FramesFit frames
+Stands (Have frames t) tokens rest = (mid : List Token) × FramesRead frames tokens mid × Spells t mid rest × FramesFit frames × Fits t × (rank t ≡ 0)
+Stands (Greater frames at left) tokens rest =
+    (mid next : List Token) × FramesRead frames tokens mid × Spells left mid next × FirstAt greater at next rest × FramesFit frames × (6 < top_bound frames) × (rank left ≤ 5) × Fits left
+Stands (Inside frames place) tokens rest = (mid : List Token) × FramesRead frames tokens mid × PlaceReads place mid rest × FramesFit frames × PlaceFits place frames
+Stands (InNote frames at c n) tokens rest =
+    (mid sign next : List Token) × FramesRead frames tokens mid × FirstAt (number c) at mid sign × FirstGlued less sign next × NoteStands n next rest × FramesFit frames × (n ≢ NoNote)
+Stands (InType frames at s) tokens rest =
+    (mid colon next : List Token) × FramesRead frames tokens mid × PlaceReads (NilColon at) mid colon × First (plain mark.Colon) colon next × TypeStands s next rest × FramesFit frames × (s ≢ NoType)
+Stands Refused tokens rest = Unit {0}
+
+-- the same once all up to a limit has ended; the last token is still that of `last`
+abbrev pub StandsUpTo : ℕ → ExprText → State → List Token → List Token → Type 0
+StandsUpTo limit last (Have frames t) tokens rest =
+    (mid : List Token) × FramesRead frames tokens mid × Spells t mid rest × FramesFit frames × Fits t × (rank t < top_bound frames) × (rank t ≤ limit) × (ends_in_number t ≡ ends_in_number last)
+StandsUpTo limit last _ tokens rest = ⊥
+
+-- ---- one part more
+
+pub items_next : (front : List ExprText) (t : ExprText) (tokens mid next rest : List Token) → ItemsRead front tokens mid → Spells t mid next → First (plain mark.Semi) next rest → ItemsRead (front ++ t ∷ []) tokens rest
+items_next [] t tokens mid next rest f s c = (next, rest, subst (λ w. Spells t w next) (sym f) s, c, refl)
+items_next (e ∷ es) t tokens mid next rest f s c = (f.0, f.1, f.2, f.3, items_next es t f.1 mid next rest f.4 s c)
+
+more_items : (front : List ExprText) (t : ExprText) (tokens next mid rest : List Token) → First (plain mark.Semi) tokens next → ItemsRead front next mid → Spells t mid rest
+    → MoreItems (exprs_in_order (front ++ t ∷ [])) tokens rest
+more_items [] t tokens next mid rest c f s = (next, rest, c, subst (λ w. Spells t w rest) (sym f) s, refl)
+more_items (e ∷ es) t tokens next mid rest c f s = (next, f.0, c, f.2, more_items es t f.0 f.1 mid rest f.3 f.4 s)
+
+pub items_last : (front : List ExprText) (t : ExprText) (tokens mid rest : List Token) → ItemsRead front tokens mid → Spells t mid rest → ItemsSpell (exprs_in_order (front ++ t ∷ [])) tokens rest
+items_last [] t tokens mid rest f s = (rest, subst (λ w. Spells t w rest) (sym f) s, refl)
+items_last (e ∷ es) t tokens mid rest f s = (f.0, f.2, more_items es t f.0 f.1 mid rest f.3 f.4 s)
+
+pub items_fit : (front : List ExprText) (t : ExprText) → AllFit (exprs_in_order front) → Fits t → AllFit (exprs_in_order (front ++ t ∷ []))
+items_fit [] t h fits = (fits, tt)
+items_fit (e ∷ es) t h fits = (h.0, items_fit es t h.1 fits)
+
+pub fields_next : (front : List FieldPart) (place : ℕ) (x : List ℕ) (t : ExprText) (tokens mid sign value last rest : List Token) → FieldsRead front tokens mid → FirstAt (name x) place mid sign → First equal sign value
+    → Spells t value last → First (plain mark.Semi) last rest → FieldsRead (with_field front place x t) tokens rest
+fields_next [] place x t tokens mid sign value last rest f n e s c = (sign, value, last, rest, subst (λ w. FirstAt (name x) place w sign) (sym f) n, e, s, c, refl)
+fields_next (g ∷ gs) place x t tokens mid sign value last rest f n e s c =
+    (f.0, f.1, f.2, f.3, f.4, f.5, f.6, f.7, fields_next gs place x t f.3 mid sign value last rest f.8 n e s c)
+
+more_fields_read : (front : List FieldPart) (place : ℕ) (x : List ℕ) (t : ExprText) (tokens next mid sign value rest : List Token) → First (plain mark.Semi) tokens next → FieldsRead front next mid
+    → FirstAt (name x) place mid sign → First equal sign value → Spells t value rest → MoreFields (fields_in_order (with_field front place x t)) tokens rest
+more_fields_read [] place x t tokens next mid sign value rest c f n e s = (next, sign, value, rest, c, subst (λ w. FirstAt (name x) place w sign) (sym f) n, e, s, refl)
+more_fields_read (g ∷ gs) place x t tokens next mid sign value rest c f n e s =
+    (next, f.0, f.1, f.2, c, f.4, f.5, f.6, more_fields_read gs place x t f.2 f.3 mid sign value rest f.7 f.8 n e s)
+
+pub fields_last : (front : List FieldPart) (place : ℕ) (x : List ℕ) (t : ExprText) (tokens mid sign value rest : List Token) → FieldsRead front tokens mid → FirstAt (name x) place mid sign → First equal sign value
+    → Spells t value rest → FieldsSpell (fields_in_order (with_field front place x t)) tokens rest
+fields_last [] place x t tokens mid sign value rest f n e s = (sign, value, rest, subst (λ w. FirstAt (name x) place w sign) (sym f) n, e, s, refl)
+fields_last (g ∷ gs) place x t tokens mid sign value rest f n e s = (f.0, f.1, f.2, f.4, f.5, f.6, more_fields_read gs place x t f.2 f.3 mid sign value rest f.7 f.8 n e s)
+
+pub fields_fit : (front : List FieldPart) (place : ℕ) (x : List ℕ) (t : ExprText) → FieldsFit (fields_in_order front) → Fits t → FieldsFit (fields_in_order (with_field front place x t))
+fields_fit [] place x t h fits = (fits, tt)
+fields_fit (f ∷ fs) place x t h fits = (h.0, fields_fit fs place x t h.1 fits)
+
+pub arguments_last : (front : List ExprText) (t : ExprText) (tokens mid rest : List Token) → AllSpell (exprs_in_order front) tokens mid → Spells t mid rest → AllSpell (exprs_in_order (front ++ t ∷ [])) tokens rest
+arguments_last [] t tokens mid rest e s = (rest, subst (λ w. Spells t w rest) (sym e) s, refl)
+arguments_last (u ∷ us) t tokens mid rest h s = (h.0, h.1, arguments_last us t h.0 mid rest h.2 s)
+
+pub atoms_last : (front : List ExprText) (t : ExprText) → AreAtoms (exprs_in_order front) → Fits t → rank t ≡ 0 → AreAtoms (exprs_in_order (front ++ t ∷ []))
+atoms_last [] t h fits low = (low, fits, tt)
+atoms_last (u ∷ us) t h fits low = (h.0, h.1, atoms_last us t h.2 fits low)
+
+pub any_last : (front : List ExprText) (t : ExprText) → IsAny (exprs_in_order (front ++ t ∷ []))
+any_last [] t = tt
+any_last (u ∷ us) t = tt
+
+arguments_number : (front : List ExprText) (t : ExprText) → last_ends_in_number (exprs_in_order (front ++ t ∷ [])) ≡ ends_in_number t
+arguments_number [] t = refl
+arguments_number (u ∷ []) t = refl
+arguments_number (u ∷ v ∷ us) t = arguments_number (v ∷ us) t
+
+-- ---- ending what ends
+
+pub infix_spells : (sign : Infix) (at : ℕ) (a b : ExprText) (tokens mid next rest : List Token) → Spells a tokens mid → InfixAt sign (ends_in_number a) at mid next → Spells b next rest → Spells (infix_text at sign a b) tokens rest
+infix_spells between.Or at a b tokens mid next rest s f r = (mid, next, s, f, r)
+infix_spells between.And at a b tokens mid next rest s f r = (mid, next, s, f, r)
+infix_spells (between.Compare sign) at a b tokens mid next rest s f r = (mid, next, s, f, r)
+infix_spells between.Cons at a b tokens mid next rest s f r = (mid, next, s, f, r)
+infix_spells (between.Arith op) at a b tokens mid next rest s f r = (mid, next, s, f, r)
+
+pub infix_fits : (sign : Infix) (at : ℕ) (a b : ExprText) → rank a ≤ left_limit sign → rank b < right_bound sign → Fits a → Fits b
+    → Fits (infix_text at sign a b) × (rank (infix_text at sign a b) ≡ infix_rank sign) × (ends_in_number (infix_text at sign a b) ≡ ends_in_number b)
+infix_fits between.Or at a b le lt f g = ((le, lt, f, g), refl, refl)
+infix_fits between.And at a b le lt f g = ((le, lt, f, g), refl, refl)
+infix_fits (between.Compare sign) at a b le lt f g = ((le, lt, f, g), refl, refl)
+infix_fits between.Cons at a b le lt f g = ((le, lt, f, g), refl, refl)
+infix_fits (between.Arith op) at a b le lt f g = ((le, lt, f, g), refl, refl)
+
+pub plug_reads : (frame : Frame) (t : ExprText) (tokens mid rest : List Token) → own_rank frame < 10 → FrameReads frame tokens mid → Spells t mid rest → Spells (plug frame t) tokens rest
+plug_reads (InBody at x v) t tokens mid rest h f s = (f.2.0, f.2.1, f.0, f.1, mid, f.2.2, f.2.3, f.2.4, f.3, f.4, s)
+plug_reads (InElse at c a) t tokens mid rest h f s = (f.2.0, f.2.1, f.0, f.1, mid, f.2.2, f.2.3, f.2.4, f.3, f.4, s)
+plug_reads (InFullArm at l a x y) t tokens mid rest h f s = (f.2.0, f.2.1, f.0, f.1, mid, f.2.2, f.2.3, f.2.4, f.3, f.4, s)
+plug_reads (InNegate at) t tokens mid rest h f s = (mid, f, s)
+plug_reads (InNot at) t tokens mid rest h f s = (mid, f, s)
+plug_reads (InRight at sign left) t tokens mid rest h f s = infix_spells sign at left t tokens f.0 mid rest f.1 f.2 s
+plug_reads (InArgument at g front) t tokens mid rest h f s = (f.0, f.1, arguments_last front t f.0 mid rest f.2 s)
+plug_reads (InBracket at) t tokens mid rest h f s = absurd (omega arith)
+plug_reads (InItem at front) t tokens mid rest h f s = absurd (omega arith)
+plug_reads (InField at front place x) t tokens mid rest h f s = absurd (omega arith)
+plug_reads (InValue at x) t tokens mid rest h f s = absurd (omega arith)
+plug_reads (InTest at) t tokens mid rest h f s = absurd (omega arith)
+plug_reads (InThen at c) t tokens mid rest h f s = absurd (omega arith)
+plug_reads (InMatched at) t tokens mid rest h f s = absurd (omega arith)
+plug_reads (InEmptyArm at l) t tokens mid rest h f s = absurd (omega arith)
+
+pub plug_fits : (frame : Frame) (frames : List Frame) (t : ExprText) → own_rank frame < 10 → FrameFits frame frames → Fits t → rank t < bound_of frame
+    → Fits (plug frame t) × (rank (plug frame t) < top_bound frames) × (rank (plug frame t) ≡ own_rank frame) × (ends_in_number (plug frame t) ≡ ends_in_number t)
+plug_fits (InBody at x v) frames t h f fits lt = ((f.1, fits), f.0, refl, refl)
+plug_fits (InElse at c a) frames t h f fits lt = ((f.1, f.2, fits), f.0, refl, refl)
+plug_fits (InFullArm at l a x y) frames t h f fits lt = ((f.1, f.2, fits), f.0, refl, refl)
+plug_fits (InNegate at) frames t h f fits lt = ((omega arith, fits), f, refl, refl)
+plug_fits (InNot at) frames t h f fits lt = ((omega arith, fits), f, refl, refl)
+plug_fits (InRight at sign left) frames t h f fits lt =
+    let p = infix_fits sign at left t f.1 lt f.2 fits in (p.0, omega (arith, p.1, f.0), p.1, p.2)
+plug_fits (InArgument at g front) frames t h f fits lt = ((any_last front t, atoms_last front t f.1 fits (omega arith)), f.0, refl, arguments_number front t)
+plug_fits (InBracket at) frames t h f fits lt = absurd (omega arith)
+plug_fits (InItem at front) frames t h f fits lt = absurd (omega arith)
+plug_fits (InField at front place x) frames t h f fits lt = absurd (omega arith)
+plug_fits (InValue at x) frames t h f fits lt = absurd (omega arith)
+plug_fits (InTest at) frames t h f fits lt = absurd (omega arith)
+plug_fits (InThen at c) frames t h f fits lt = absurd (omega arith)
+plug_fits (InMatched at) frames t h f fits lt = absurd (omega arith)
+plug_fits (InEmptyArm at l) frames t h f fits lt = absurd (omega arith)
+
+reduce_sound : (frames : List Frame) (limit : ℕ) (last t : ExprText) (tokens mid rest : List Token) → limit < 10 → FramesRead frames tokens mid → Spells t mid rest → FramesFit frames → Fits t
+    → rank t < top_bound frames → rank t ≤ limit → ends_in_number t ≡ ends_in_number last → StandsUpTo limit last (reduce limit frames t) tokens rest
+reduce_sound [] limit last t tokens mid rest small r s f fits lt le e = (mid, r, s, f, fits, lt, le, e)
+reduce_sound (frame ∷ frames) limit last t tokens mid rest small r s f fits lt le e =
+    elim (cases_lt limit (own_rank frame)) [
+      | inl keeps ↦ rw lt-ltb (mid, r, s, f, fits, lt, le, e)
+      | inr ends ↦
+          let low : own_rank frame < 10 = omega arith in
+          let p = plug_fits frame frames t low f.0 fits lt in
+          rw le-ltb (reduce_sound frames limit last (plug frame t) tokens r.0 rest small r.1 (plug_reads frame t r.0 mid rest low r.2 s) f.1 p.0 p.1 (omega (arith, p.2)) (p.3 ∙ e))
+    ]
+
+pub bound_positive : (frames : List Frame) → 0 < top_bound frames
+bound_positive [] = omega arith
+bound_positive (InRight at sign left ∷ frames) = omega (arith, infix_low sign)
+bound_positive (InNegate at ∷ frames) = omega arith
+bound_positive (InNot at ∷ frames) = omega arith
+bound_positive (InArgument at f front ∷ frames) = omega arith
+bound_positive (InBracket at ∷ frames) = omega arith
+bound_positive (InItem at front ∷ frames) = omega arith
+bound_positive (InField at front place x ∷ frames) = omega arith
+bound_positive (InValue at x ∷ frames) = omega arith
+bound_positive (InBody at x value ∷ frames) = omega arith
+bound_positive (InTest at ∷ frames) = omega arith
+bound_positive (InThen at test ∷ frames) = omega arith
+bound_positive (InElse at test one ∷ frames) = omega arith
+bound_positive (InMatched at ∷ frames) = omega arith
+bound_positive (InEmptyArm at l ∷ frames) = omega arith
+bound_positive (InFullArm at l a x y ∷ frames) = omega arith
+
+-- an atom at hand, once all up to a limit has ended
+pub ended : (limit : ℕ) (frames : List Frame) (t : ExprText) (tokens rest : List Token) → limit < 10 → Stands (Have frames t) tokens rest → StandsUpTo limit t (reduce limit frames t) tokens rest
+ended limit frames t tokens rest small h =
+    reduce_sound frames limit t t tokens h.0 rest small h.1 h.2 h.3 h.4 (omega (arith, bound_positive frames, h.5)) (omega (arith, h.5)) refl

@@ -1,0 +1,16 @@
+pub mod ExprEnds
+pub mod TokenKinds
+mod ExprLeads
+mod ExprFirsts
+pub mod ExprComplete
+mod ExprReads
+pub mod ExprStands
+pub mod ExprSound
+pub mod ExprEndings
+pub mod ExprHeights
+pub mod ExprLaws
+mod ExprLists
+mod ExprStackLaws
+mod ExprLow
+mod ExprGoes
+mod ExprExamples

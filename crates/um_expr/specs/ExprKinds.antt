@@ -1,0 +1,23 @@
+-- What a following token may make more of: a name, a number without a note; and which tokens begin an argument.
+-- Source: this project's own.
+use Rattle.std.specs.Prelude.{Bool, true, false, None}
+use Rattle.um_tree.specs.RawTree.{ExprText, name_text, number_text}
+use Rattle.um_expr.specs.declared.mark.Mark.TheVariants as mark
+use Rattle.um_expr.specs.ExprTokens.{ExprToken, name, number, truth, plain}
+
+abbrev pub is_name : ExprText → Bool
+is_name (name_text at x) = true
+is_name _ = false
+
+abbrev pub is_plain_number : ExprText → Bool
+is_plain_number (number_text at c None) = true
+is_plain_number _ = false
+
+abbrev pub begins_argument : ExprToken → Bool
+begins_argument (name x) = true
+begins_argument (number c) = true
+begins_argument (truth b) = true
+begins_argument (plain mark.Open) = true
+begins_argument (plain mark.ListOpen) = true
+begins_argument (plain mark.RecordOpen) = true
+begins_argument _ = false

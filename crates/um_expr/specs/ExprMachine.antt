@@ -1,0 +1,306 @@
+-- Reading an expression token by token: what is open, and the atom at hand. The machines of notes and types run inside;
+-- a token that they refuse ends them and is looked at again.
+-- Source: operator precedence with a stack, as in Knuth, Fundamental Algorithms, 2.2.1; this project's own states.
+use Rattle.std.specs.Prelude.{ℕ, Bool, true, false, cond, nat_lt, List, [], ◌∷◌, ◌++◌, Option, Some, None}
+use Rattle.um_frac.specs.declared.number.Frac.{Frac}
+use Rattle.um_syntax.specs.declared.token.Token.{Token}
+use Rattle.um_syntax.specs.declared.token.Kind.{Kind}
+use Rattle.um_tree.specs.declared.expression.Sign.TheVariants as compare
+use Rattle.um_tree.specs.declared.expression.Arith.TheVariants as arith
+use Rattle.um_tree.specs.RawTree.{NoteText, TypeText, BinderText, ExprText, ExprTexts, FieldTexts, FieldPart, truth_text, number_text, name_text, call_text, negate_text, not_text, arith_text, compare_text, and_text, or_text, if_text, let_text, match_text, nil_text, list_text, cons_text, fields_text, field_text, bracket_expr_text, exprs_in_order, fields_in_order}
+use Rattle.um_types.specs.NoteMachine.{NoteState, NeedNote, HaveHole, InUnit, NoNote, note_act, note_finish}
+use Rattle.um_types.specs.TypeMachine.{TypeState, NeedType, HaveType, NoType, type_act, type_finish}
+use Rattle.um_types.specs.TypeMachine.{InNote as InTypeNote}
+use Rattle.um_expr.specs.declared.mark.Mark.TheVariants as mark
+use Rattle.um_expr.specs.declared.mark.Infix.{Infix}
+use Rattle.um_expr.specs.declared.mark.Infix.TheVariants as between
+use Rattle.um_expr.specs.ExprTokens.{ExprToken, name, variable, number, truth, hole, operator, plain, expr_token, equal, less, greater, minus, double_colon}
+use Rattle.um_expr.specs.Ranks.{infix_rank, left_limit, right_bound, infix_text}
+
+-- what is open around the next operand
+pub data Frame : Type 0 where
+  InBracket : (at : ℕ) → Frame
+  -- `[` and these items
+  InItem : (at : ℕ) (front : List ExprText) → Frame
+  -- `{`, these fields, and a field's name with its `=`
+  InField : (at : ℕ) (front : List FieldPart) (place : ℕ) (name : List ℕ) → Frame
+  -- behind `=`; behind `in`
+  InValue : (at : ℕ) (x : BinderText) → Frame
+  InBody : (at : ℕ) (x : BinderText) (value : ExprText) → Frame
+  -- behind `if`; `then`; `else`
+  InTest : (at : ℕ) → Frame
+  InThen : (at : ℕ) (test : ExprText) → Frame
+  InElse : (at : ℕ) (test one : ExprText) → Frame
+  -- behind `match`; the first `->`; the second
+  InMatched : (at : ℕ) → Frame
+  InEmptyArm : (at : ℕ) (list : ExprText) → Frame
+  InFullArm : (at : ℕ) (list empty : ExprText) (head tail : BinderText) → Frame
+  InNegate : (at : ℕ) → Frame
+  InNot : (at : ℕ) → Frame
+  InRight : (at : ℕ) (sign : Infix) (left : ExprText) → Frame
+  -- behind a name and these arguments
+  InArgument : (at : ℕ) (function : List ℕ) (front : List ExprText) → Frame
+
+-- the rank of what stands in the frame lies below this
+abbrev pub bound_of : Frame → ℕ
+bound_of (InNegate at) = 3
+bound_of (InNot at) = 1
+bound_of (InRight at sign left) = right_bound sign
+bound_of (InArgument at f front) = 1
+bound_of _ = 10
+
+-- the rank of what a frame that needs no token to end becomes; the others have 10
+abbrev pub own_rank : Frame → ℕ
+own_rank (InBody at x value) = 9
+own_rank (InElse at test one) = 9
+own_rank (InFullArm at list empty head tail) = 9
+own_rank (InNegate at) = 2
+own_rank (InNot at) = 1
+own_rank (InRight at sign left) = infix_rank sign
+own_rank (InArgument at f front) = 1
+own_rank _ = 10
+
+abbrev pub top_bound : List Frame → ℕ
+top_bound [] = 10
+top_bound (frame ∷ frames) = bound_of frame
+
+abbrev pub top_rank : List Frame → ℕ
+top_rank [] = 10
+top_rank (frame ∷ frames) = own_rank frame
+
+-- a frame that needs no token to end, with its last part
+abbrev pub plug : Frame → ExprText → ExprText
+plug (InBody at x value) last = let_text at x value last
+plug (InElse at test one) last = if_text at test one last
+plug (InFullArm at list empty head tail) last = match_text at list empty head tail last
+plug (InNegate at) last = negate_text at last
+plug (InNot at) last = not_text at last
+plug (InRight at sign left) last = infix_text at sign left last
+plug (InArgument at f front) last = call_text at f (exprs_in_order (front ++ last ∷ []))
+plug _ last = last
+
+-- a place inside a run of tokens that is fixed
+pub data Place : Type 0 where
+  -- behind `let`; behind its binder
+  LetBinder : (at : ℕ) → Place
+  LetEqual : (at : ℕ) (x : BinderText) → Place
+  -- behind `{` or `;` and these fields; behind the name
+  FieldName : (at : ℕ) (front : List FieldPart) → Place
+  FieldEqual : (at : ℕ) (front : List FieldPart) (place : ℕ) (name : List ℕ) → Place
+  -- behind `.`
+  DotName : (at : ℕ) (part : ExprText) → Place
+  -- behind `with`; its bar; `[`; `]`
+  ArmBegin : (at : ℕ) (list : ExprText) → Place
+  ArmOpen : (at : ℕ) (list : ExprText) → Place
+  ArmClose : (at : ℕ) (list : ExprText) → Place
+  ArmArrow : (at : ℕ) (list : ExprText) → Place
+  -- behind the bar of the full arm; the head; `::`; the tail
+  HeadBinder : (at : ℕ) (list empty : ExprText) → Place
+  HeadCons : (at : ℕ) (list empty : ExprText) (head : BinderText) → Place
+  TailBinder : (at : ℕ) (list empty : ExprText) (head : BinderText) → Place
+  TailArrow : (at : ℕ) (list empty : ExprText) (head tail : BinderText) → Place
+  -- behind `(` `[` `]`
+  NilColon : (at : ℕ) → Place
+
+pub data State : Type 0 where
+  -- an operand is wanted
+  Need : (frames : List Frame) → State
+  -- an atom is at hand
+  Have : (frames : List Frame) (at_hand : ExprText) → State
+  -- behind `>`: a `=` directly behind it belongs to the sign
+  Greater : (frames : List Frame) (at : ℕ) (left : ExprText) → State
+  Inside : (frames : List Frame) (place : Place) → State
+  -- in the note of a number; in the type of an empty list
+  InNote : (frames : List Frame) (at : ℕ) (value : Frac) (note : NoteState) → State
+  InType : (frames : List Frame) (at : ℕ) (type_state : TypeState) → State
+  Refused : State
+
+-- what is left open where all frames up to this rank end
+abbrev pub reduce : ℕ → List Frame → ExprText → State
+reduce limit [] t = Have [] t
+reduce limit (frame ∷ frames) t = cond (nat_lt limit (own_rank frame)) (Have (frame ∷ frames) t) (reduce limit frames (plug frame t))
+
+-- a form of this rank begins, where it may
+abbrev pub if_may : List Frame → ℕ → State → State
+if_may frames rank state = cond (nat_lt rank (top_bound frames)) state Refused
+
+-- `]` where an operand is wanted: behind `(` `[` alone
+abbrev pub empty_list : List Frame → State
+empty_list (InItem m [] ∷ InBracket at ∷ frames) = Inside frames (NilColon at)
+empty_list _ = Refused
+
+-- an operand begins
+abbrev pub begin : List Frame → ExprToken → ℕ → State
+begin frames (name x) at = Have frames (name_text at x)
+begin frames (number c) at = Have frames (number_text at c None)
+begin frames (truth b) at = Have frames (truth_text at b)
+begin frames (plain mark.Open) at = Need (InBracket at ∷ frames)
+begin frames (plain mark.ListOpen) at = Need (InItem at [] ∷ frames)
+begin frames (plain mark.ListClose) at = empty_list frames
+begin frames (plain mark.RecordOpen) at = Inside frames (FieldName at [])
+begin frames (plain mark.Let) at = if_may frames 9 (Inside frames (LetBinder at))
+begin frames (plain mark.If) at = if_may frames 9 (Need (InTest at ∷ frames))
+begin frames (plain mark.Match) at = if_may frames 9 (Need (InMatched at ∷ frames))
+begin frames (plain mark.Not) at = if_may frames 1 (Need (InNot at ∷ frames))
+begin frames (operator (between.Arith arith.Sub)) at = if_may frames 2 (Need (InNegate at ∷ frames))
+begin frames _ at = Refused
+
+-- behind `>`
+abbrev pub after_greater : List Frame → ℕ → ExprText → ExprToken → ℕ → Bool → State
+after_greater frames place left (operator (between.Compare compare.Eq)) at glued = cond glued (Need (InRight place (between.Compare compare.Ge) left ∷ frames)) Refused
+after_greater frames place left token at glued = begin (InRight place (between.Compare compare.Gt) left ∷ frames) token at
+
+-- an atom follows an atom: it is an argument
+abbrev pub argument : List Frame → ExprText → Option (List Frame)
+argument (InArgument at f front ∷ frames) t = Some (InArgument at f (front ++ t ∷ []) ∷ frames)
+argument frames (name_text at f) = cond (nat_lt 1 (top_bound frames)) (Some (InArgument at f [] ∷ frames)) None
+argument frames t = None
+
+abbrev pub begin_in : Option (List Frame) → ExprToken → ℕ → State
+begin_in (Some frames) token at = begin frames token at
+begin_in None token at = Refused
+
+-- a sign between two operands
+abbrev pub infix_after : Infix → ℕ → State → State
+infix_after sign at (Have frames t) = if_may frames (infix_rank sign) (Need (InRight at sign t ∷ frames))
+infix_after sign at _ = Refused
+
+abbrev pub greater_after : ℕ → State → State
+greater_after at (Have frames t) = if_may frames 6 (Greater frames at t)
+greater_after at _ = Refused
+
+-- `<` right behind a number opens its note
+abbrev pub less_after : List Frame → ExprText → Bool → ℕ → State
+less_after frames t false at = infix_after (between.Compare compare.Lt) at (reduce 5 frames t)
+less_after frames (number_text n c None) true at = InNote frames n c NeedNote
+less_after frames t true at = infix_after (between.Compare compare.Lt) at (reduce 5 frames t)
+
+abbrev pub close_after : State → State
+close_after (Have (InBracket at ∷ frames) t) = Have frames (bracket_expr_text at t)
+close_after _ = Refused
+
+abbrev pub list_after : State → State
+list_after (Have (InItem at front ∷ frames) t) = Have frames (list_text at (exprs_in_order (front ++ t ∷ [])))
+list_after _ = Refused
+
+abbrev pub named_part : ℕ → List ℕ → ExprText → FieldPart
+named_part place x t = record { at = place; name = x; part = t }
+
+-- the fields with one more
+abbrev pub with_field : List FieldPart → ℕ → List ℕ → ExprText → List FieldPart
+with_field front place x t = front ++ named_part place x t ∷ []
+
+abbrev pub record_after : State → State
+record_after (Have (InField at front place x ∷ frames) t) = Have frames (fields_text at (fields_in_order (with_field front place x t)))
+record_after _ = Refused
+
+abbrev pub semi_after : State → State
+semi_after (Have (InItem at front ∷ frames) t) = Need (InItem at (front ++ t ∷ []) ∷ frames)
+semi_after (Have (InField at front place x ∷ frames) t) = Inside frames (FieldName at (with_field front place x t))
+semi_after _ = Refused
+
+abbrev pub in_after : State → State
+in_after (Have (InValue at x ∷ frames) t) = Need (InBody at x t ∷ frames)
+in_after _ = Refused
+
+abbrev pub then_after : State → State
+then_after (Have (InTest at ∷ frames) t) = Need (InThen at t ∷ frames)
+then_after _ = Refused
+
+abbrev pub else_after : State → State
+else_after (Have (InThen at test ∷ frames) t) = Need (InElse at test t ∷ frames)
+else_after _ = Refused
+
+abbrev pub with_after : State → State
+with_after (Have (InMatched at ∷ frames) t) = Inside frames (ArmBegin at t)
+with_after _ = Refused
+
+abbrev pub bar_after : State → State
+bar_after (Have (InEmptyArm at list ∷ frames) t) = Inside frames (HeadBinder at list t)
+bar_after _ = Refused
+
+-- behind an atom
+abbrev pub after : List Frame → ExprText → ExprToken → ℕ → Bool → State
+after frames t (name x) at glued = begin_in (argument frames t) (name x) at
+after frames t (number c) at glued = begin_in (argument frames t) (number c) at
+after frames t (truth b) at glued = begin_in (argument frames t) (truth b) at
+after frames t (plain mark.Open) at glued = begin_in (argument frames t) (plain mark.Open) at
+after frames t (plain mark.ListOpen) at glued = begin_in (argument frames t) (plain mark.ListOpen) at
+after frames t (plain mark.RecordOpen) at glued = begin_in (argument frames t) (plain mark.RecordOpen) at
+after frames t (plain mark.Dot) at glued = Inside frames (DotName at t)
+after frames t (plain mark.Close) at glued = close_after (reduce 9 frames t)
+after frames t (plain mark.ListClose) at glued = list_after (reduce 9 frames t)
+after frames t (plain mark.RecordClose) at glued = record_after (reduce 9 frames t)
+after frames t (plain mark.Semi) at glued = semi_after (reduce 9 frames t)
+after frames t (plain mark.In) at glued = in_after (reduce 9 frames t)
+after frames t (plain mark.Then) at glued = then_after (reduce 9 frames t)
+after frames t (plain mark.Else) at glued = else_after (reduce 9 frames t)
+after frames t (plain mark.With) at glued = with_after (reduce 9 frames t)
+after frames t (plain mark.Bar) at glued = bar_after (reduce 9 frames t)
+after frames t (operator (between.Compare compare.Lt)) at glued = less_after frames t glued at
+after frames t (operator (between.Compare compare.Gt)) at glued = greater_after at (reduce 5 frames t)
+after frames t (operator (between.Compare compare.Ge)) at glued = Refused
+after frames t (operator sign) at glued = infix_after sign at (reduce (left_limit sign) frames t)
+after frames t _ at glued = Refused
+
+-- inside a run of tokens that is fixed
+abbrev pub inside : List Frame → Place → ExprToken → ℕ → State
+inside frames (LetBinder at) (name x) p = Inside frames (LetEqual at (record { at = p; name = Some x }))
+inside frames (LetBinder at) hole p = Inside frames (LetEqual at (record { at = p; name = None }))
+inside frames (LetEqual at x) (operator (between.Compare compare.Eq)) p = Need (InValue at x ∷ frames)
+inside frames (FieldName at front) (name x) p = Inside frames (FieldEqual at front p x)
+inside frames (FieldEqual at front place x) (operator (between.Compare compare.Eq)) p = Need (InField at front place x ∷ frames)
+inside frames (DotName at part) (name x) p = Have frames (field_text at p x part)
+inside frames (ArmBegin at list) (plain mark.Bar) p = Inside frames (ArmOpen at list)
+inside frames (ArmBegin at list) (plain mark.ListOpen) p = Inside frames (ArmClose at list)
+inside frames (ArmOpen at list) (plain mark.ListOpen) p = Inside frames (ArmClose at list)
+inside frames (ArmClose at list) (plain mark.ListClose) p = Inside frames (ArmArrow at list)
+inside frames (ArmArrow at list) (plain mark.Arrow) p = Need (InEmptyArm at list ∷ frames)
+inside frames (HeadBinder at list empty) (name x) p = Inside frames (HeadCons at list empty (record { at = p; name = Some x }))
+inside frames (HeadBinder at list empty) hole p = Inside frames (HeadCons at list empty (record { at = p; name = None }))
+inside frames (HeadCons at list empty head) (operator between.Cons) p = Inside frames (TailBinder at list empty head)
+inside frames (TailBinder at list empty head) (name x) p = Inside frames (TailArrow at list empty head (record { at = p; name = Some x }))
+inside frames (TailBinder at list empty head) hole p = Inside frames (TailArrow at list empty head (record { at = p; name = None }))
+inside frames (TailArrow at list empty head tail) (plain mark.Arrow) p = Need (InFullArm at list empty head tail ∷ frames)
+inside frames (NilColon at) (plain mark.Colon) p = InType frames at (NeedType 0)
+inside frames _ _ p = Refused
+
+-- a token that the note of a number refuses; that the type of an empty list refuses
+abbrev pub note_ends : List Frame → ℕ → Frac → Option NoteText → ExprToken → State
+note_ends frames at c (Some n) (operator (between.Compare compare.Gt)) = Have frames (number_text at c (Some n))
+note_ends frames at c _ token = Refused
+
+abbrev pub type_ends : List Frame → ℕ → Option TypeText → ExprToken → State
+type_ends frames at (Some t) (plain mark.Close) = Have frames (nil_text at t)
+type_ends frames at _ token = Refused
+
+-- the note goes on, or ends; the type
+abbrev pub note_goes : List Frame → ℕ → Frac → NoteState → State → State
+note_goes frames at c NoNote ended = ended
+note_goes frames at c n ended = InNote frames at c n
+
+abbrev pub type_goes : List Frame → ℕ → TypeState → State → State
+type_goes frames at NoType ended = ended
+type_goes frames at s ended = InType frames at s
+
+-- one token more
+abbrev pub act : State → ExprToken → ℕ → Bool → Kind → State
+act (Need frames) token at glued k = begin frames token at
+act (Have frames t) token at glued k = after frames t token at glued
+act (Greater frames place left) token at glued k = after_greater frames place left token at glued
+act (Inside frames place) token at glued k = inside frames place token at
+act (InNote frames place c n) token at glued k = note_goes frames place c (note_act n k at) (note_ends frames place c (note_finish n) token)
+act (InType frames place s) token at glued k = type_goes frames place (type_act s k at) (type_ends frames place (type_finish s) token)
+act Refused token at glued k = Refused
+
+abbrev pub step : State → Token → State
+step state token = act state (expr_token token.kind) token.start token.glued token.kind
+
+-- the expression where all is read
+abbrev pub whole : State → Option ExprText
+whole (Have [] t) = Some t
+whole _ = None
+
+abbrev pub finish : State → Option ExprText
+finish (Have frames t) = whole (reduce 9 frames t)
+finish _ = None

@@ -1,0 +1,14 @@
+pub mod ExprTokens
+pub mod Ranks
+pub mod ExprGrammar
+pub mod ExprMachine
+pub mod ExprHeights
+pub mod ExprLeast
+pub mod ExprKinds
+pub mod ExprParts
+pub mod ExprWords
+pub mod ExprFrames
+pub mod ExprStack
+pub mod ExprMarks
+pub mod ExprStates
+pub mod ExprTakes

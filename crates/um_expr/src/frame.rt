@@ -1,0 +1,187 @@
+// What is open around the next operand, with the heights of its parts beside them.
+ghost use Rattle.std.specs.Prelude.{◌≡◌, IfOk};
+ghost use Rattle.um_expr.specs.Ranks.{infix_rank, left_limit, right_bound};
+ghost use Rattle.um_expr.specs.ExprMachine.{bound_of, own_rank, plug};
+ghost use Rattle.um_expr.specs.ExprLeast.{side};
+ghost use Rattle.um_types.specs.UnitCount.{counted};
+ghost use Rattle.um_expr.specs.ExprParts.{part_expr};
+ghost use Rattle.um_expr.specs.ExprFrames.{view_frame, is_call};
+
+use crate::height::higher;
+use crate::list::{FieldFront, Front};
+use crate::mark::Infix;
+use crate::part::Part;
+use std::alloc::{AllocError, Global};
+use um_tree::{Arith, Binder, Name};
+
+/// A form that has begun, up to the operand that is read next. The first number of each is its place.
+#[derive(Drop)]
+pub enum Frame {
+    InBracket(u32),
+    /// `[` and these items
+    InItem(u32, Front),
+    /// `{`, these fields, and a field's name, at its place, with its `=`
+    InField(u32, FieldFront, u32, Name),
+    /// Behind `=`; behind `in`
+    InValue(u32, Binder),
+    InBody(u32, Binder, Part),
+    /// Behind `if`; `then`; `else`
+    InTest(u32),
+    InThen(u32, Part),
+    InElse(u32, Part, Part),
+    /// Behind `match`; the first `->`; the second
+    InMatched(u32),
+    InEmptyArm(u32, Part),
+    InFullArm(u32, Part, Part, Binder, Binder),
+    InNegate(u32),
+    InNot(u32),
+    InRight(u32, Infix, Part),
+    /// Behind a name and these arguments
+    InArgument(u32, Name, Front),
+}
+
+/// An open frame, and the least height that the parts in it and in the frames around it ask for, counted up to 401.
+#[derive(Drop)]
+pub struct Entry {
+    pub frame: Frame,
+    pub least: u32,
+}
+
+impl Infix {
+    /// How tightly the sign binds, from `*` and `/` (3) to `||` (8).
+    pub fn rank(self) -> u8
+        ensures { result ≡ infix_rank self }
+    {
+        match self {
+            Infix::Or => 8,
+            Infix::And => 7,
+            Infix::Compare(_) => 6,
+            Infix::Cons => 5,
+            Infix::Arith(Arith::Add) => 4,
+            Infix::Arith(Arith::Sub) => 4,
+            Infix::Arith(Arith::Mul) => 3,
+            Infix::Arith(Arith::Div) => 3,
+        }
+    }
+
+    /// The greatest rank of its left operand.
+    pub fn left_limit(self) -> u8
+        ensures { result ≡ left_limit self }
+    {
+        match self {
+            Infix::Or => 8,
+            Infix::And => 7,
+            Infix::Compare(_) => 5,
+            Infix::Cons => 4,
+            Infix::Arith(Arith::Add) => 4,
+            Infix::Arith(Arith::Sub) => 4,
+            Infix::Arith(Arith::Mul) => 3,
+            Infix::Arith(Arith::Div) => 3,
+        }
+    }
+
+    /// The rank of its right operand lies below this.
+    pub fn right_bound(self) -> u8
+        ensures { result ≡ right_bound self }
+    {
+        match self {
+            Infix::Or => 8,
+            Infix::And => 7,
+            Infix::Compare(_) => 6,
+            Infix::Cons => 6,
+            Infix::Arith(Arith::Add) => 4,
+            Infix::Arith(Arith::Sub) => 4,
+            Infix::Arith(Arith::Mul) => 3,
+            Infix::Arith(Arith::Div) => 3,
+        }
+    }
+}
+
+// What is whole without the frame.
+fn unframed(frame: Frame, last: Part) -> Part
+    ensures { result ≡ last }
+{
+    drop(frame);
+    last
+}
+
+impl Frame {
+    /// The rank of what stands in it lies below this.
+    pub fn bound(&self) -> u8
+        ensures { result ≡ bound_of (view_frame self.now) }
+    {
+        match self {
+            Frame::InNegate(_) => 3,
+            Frame::InRight(_, sign, _) => sign.right_bound(),
+            Frame::InNot(_) | Frame::InArgument(_, _, _) => 1,
+            _ => 10,
+        }
+    }
+
+    /// The rank of what it becomes if no token ends it; else 10.
+    pub fn own_rank(&self) -> u8
+        ensures { result ≡ own_rank (view_frame self.now) }
+    {
+        match self {
+            Frame::InBody(_, _, _) => 9,
+            Frame::InElse(_, _, _) => 9,
+            Frame::InFullArm(_, _, _, _, _) => 9,
+            Frame::InNegate(_) => 2,
+            Frame::InNot(_) => 1,
+            Frame::InRight(_, sign, _) => sign.rank(),
+            Frame::InArgument(_, _, _) => 1,
+            _ => 10,
+        }
+    }
+
+    /// Whether it is a call.
+    pub fn is_call(&self) -> bool
+        ensures { result ≡ is_call (view_frame self.now) }
+    {
+        match self {
+            Frame::InArgument(_, _, _) => true,
+            _ => false,
+        }
+    }
+
+    /// The greatest height of its own parts, counted.
+    pub fn side(&self) -> u32
+        ensures { result ≡ counted (side (view_frame self.now)) }
+    {
+        match self {
+            Frame::InBracket(_) => 0,
+            Frame::InItem(_, front) => front.height,
+            Frame::InField(_, front, _, _) => front.height,
+            Frame::InValue(_, _) => 1,
+            Frame::InBody(_, _, value) => value.height,
+            Frame::InTest(_) => 1,
+            Frame::InThen(_, test) => higher(test.height, 1),
+            Frame::InElse(_, test, one) => higher(test.height, one.height),
+            Frame::InMatched(_) => 1,
+            Frame::InEmptyArm(_, list) => higher(list.height, 1),
+            Frame::InFullArm(_, list, empty, _, _) => higher(list.height, empty.height),
+            Frame::InNegate(_) => 0,
+            Frame::InNot(_) => 0,
+            Frame::InRight(_, _, left) => left.height,
+            Frame::InArgument(_, _, front) => front.height,
+        }
+    }
+
+    /// What it is with its last part, where no token ends it.
+    pub fn plug(self, alloc: Global, last: Part) -> Result<Part, AllocError>
+        ensures { IfOk result (λ p. part_expr p ≡ plug (view_frame self) (part_expr last)) }
+    {
+        match self {
+            Frame::InBody(at, x, value) => value.bound(alloc, at, x, last),
+            Frame::InElse(at, test, one) => test.choice(alloc, at, one, last),
+            Frame::InFullArm(at, list, empty, head, tail) => {
+                list.matched(alloc, at, empty, head, tail, last)
+            }
+            Frame::InNegate(at) => last.negate(alloc, at),
+            Frame::InNot(at) => last.not(alloc, at),
+            Frame::InRight(at, sign, left) => left.infix(alloc, at, sign, last),
+            Frame::InArgument(at, name, front) => Ok(front.with(last)?.call(at, name)),
+            other => Ok(unframed(other, last)),
+        }
+    }
+}

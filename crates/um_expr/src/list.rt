@@ -1,0 +1,137 @@
+// The items, arguments and fields that were read, with the greatest of their heights.
+ghost use Rattle.std.specs.Prelude.{◌≡◌, ◌≤◌, ◌++◌, ◌∷◌, [], IfOk, map};
+ghost use Rattle.um_tree.specs.RawTree.{expr_text, exprs_in_order, field_part, fields_in_order, call_text, list_text, fields_text};
+ghost use Rattle.um_tree.specs.Heights.{tallest_expr, tallest_field};
+ghost use Rattle.um_types.specs.UnitCount.{counted};
+ghost use Rattle.um_types.specs.UnitStops.{greatest_height};
+ghost use Rattle.um_expr.specs.ExprHeights.{notes_in_all, notes_in_fields};
+ghost use Rattle.um_expr.specs.ExprMachine.{with_field};
+
+use crate::height::{higher, one_higher};
+use crate::part::Part;
+use std::alloc::{AllocError, Global};
+use um_tree::{Name, RawExpr, RawExprs, RawField, RawFields, RawNode};
+
+/// Some expressions and the height of the highest, counted up to 401. No unit text or type text in them is higher than 400.
+#[derive(Drop)]
+pub struct Front {
+    pub items: Vec<RawExpr>,
+    pub height: u32,
+    ghost exact: { height ≡ counted (tallest_expr (exprs_in_order (map expr_text items.items))) },
+    ghost low: { notes_in_all (exprs_in_order (map expr_text items.items)) ≤ greatest_height },
+}
+
+/// Some fields of a record text and the height of the highest, counted up to 401. No unit text or type text in them is higher than 400.
+#[derive(Drop)]
+pub struct FieldFront {
+    pub items: Vec<RawField>,
+    pub height: u32,
+    ghost exact: { height ≡ counted (tallest_field (fields_in_order (map field_part items.items))) },
+    ghost low: { notes_in_fields (fields_in_order (map field_part items.items)) ≤ greatest_height },
+}
+
+impl Front {
+    ghost use Rattle.um_expr.specs.ExprParts.{part_expr, front_exprs};
+
+    /// No items
+    pub fn empty(alloc: Global) -> Front
+        ensures { front_exprs result ≡ [] }
+    {
+        Front {
+            items: Vec::new(alloc),
+            height: 0,
+        }
+    }
+
+    /// With one item more
+    pub fn with(self, last: Part) -> Result<Front, AllocError>
+        ensures { IfOk result (λ f. front_exprs f ≡ front_exprs self ++ part_expr last ∷ []) }
+    {
+        let Front { mut items, height } = self;
+        let Part {
+            tree,
+            height: last_height,
+        } = last;
+        items.push(tree)?;
+        Ok(Front {
+            items,
+            height: higher(height, last_height),
+        })
+    }
+
+    /// The call of a name with these arguments
+    pub fn call(self, at: u32, name: Name) -> Part
+        ensures { part_expr result ≡ call_text at name (exprs_in_order (front_exprs self)) }
+    {
+        let Front { items, height } = self;
+        Part {
+            tree: RawExpr {
+                at,
+                node: RawNode::Call(name, RawExprs { items }),
+            },
+            height: one_higher(height),
+        }
+    }
+
+    /// The list of these items
+    pub fn list(self, at: u32) -> Part
+        ensures { part_expr result ≡ list_text at (exprs_in_order (front_exprs self)) }
+    {
+        let Front { items, height } = self;
+        Part {
+            tree: RawExpr {
+                at,
+                node: RawNode::List(RawExprs { items }),
+            },
+            height: one_higher(height),
+        }
+    }
+}
+
+impl FieldFront {
+    ghost use Rattle.um_expr.specs.ExprParts.{part_expr, front_fields};
+
+    /// No fields
+    pub fn empty(alloc: Global) -> FieldFront
+        ensures { front_fields result ≡ [] }
+    {
+        FieldFront {
+            items: Vec::new(alloc),
+            height: 0,
+        }
+    }
+
+    /// With one field more, its name at its place
+    pub fn with(self, at: u32, name: Name, last: Part) -> Result<FieldFront, AllocError>
+        ensures { IfOk result (λ f. front_fields f ≡ with_field (front_fields self) at name (part_expr last)) }
+    {
+        let FieldFront { mut items, height } = self;
+        let Part {
+            tree,
+            height: last_height,
+        } = last;
+        items.push(RawField {
+            at,
+            name,
+            value: tree,
+        })?;
+        Ok(FieldFront {
+            items,
+            height: higher(height, last_height),
+        })
+    }
+
+    /// The record text with these fields
+    pub fn whole(self, at: u32) -> Part
+        ensures { part_expr result ≡ fields_text at (fields_in_order (front_fields self)) }
+    {
+        let FieldFront { items, height } = self;
+        Part {
+            tree: RawExpr {
+                at,
+                node: RawNode::Rec(RawFields { items }),
+            },
+            height: one_higher(height),
+        }
+    }
+}

@@ -1,0 +1,261 @@
+// Expressions with their heights beside them, so that no height is counted again.
+ghost use Rattle.std.specs.Prelude.{◌≡◌, ◌≤◌, IfOk, None};
+ghost use Rattle.um_tree.specs.RawTree.{expr_text, binder_text, type_text, written_note, truth_text, number_text, name_text, negate_text, not_text, if_text, let_text, match_text, nil_text, field_text, bracket_expr_text};
+ghost use Rattle.um_tree.specs.Heights.{expr_height};
+ghost use Rattle.um_types.specs.TypeHeights.{whole_height};
+ghost use Rattle.um_types.specs.UnitCount.{counted};
+ghost use Rattle.um_types.specs.UnitStops.{greatest_height};
+ghost use Rattle.um_expr.specs.ExprHeights.{notes_in, written_height};
+ghost use Rattle.um_expr.specs.Ranks.{infix_text};
+
+use crate::height::{higher, one_higher};
+use crate::mark::Infix;
+use std::alloc::{AllocError, Global};
+use um_frac::Frac;
+use um_tree::{Binder, Name, RawExpr, RawNode, RawNote, RawType};
+
+/// An expression and its height, counted up to 401. No unit text or type text in it is higher than 400.
+#[derive(Drop)]
+pub struct Part {
+    pub tree: RawExpr,
+    pub height: u32,
+    ghost exact: { height ≡ counted (expr_height (expr_text tree)) },
+    ghost low: { notes_in (expr_text tree) ≤ greatest_height },
+}
+
+impl Part {
+    ghost use Rattle.um_expr.specs.ExprKinds.{is_name, is_plain_number};
+    ghost use Rattle.um_expr.specs.ExprParts.{part_expr};
+
+    /// `true` or `false`
+    pub fn truth(at: u32, value: bool) -> Part
+        ensures { part_expr result ≡ truth_text at value }
+    {
+        Part {
+            tree: RawExpr {
+                at,
+                node: RawNode::Bool(value),
+            },
+            height: 1,
+        }
+    }
+
+    /// A number, with its note if it has one
+    pub fn number(at: u32, value: Frac, note: Option<RawNote>) -> Part
+        requires { written_height (written_note note) ≤ greatest_height }
+        ensures { part_expr result ≡ number_text at value (written_note note) }
+    {
+        Part {
+            tree: RawExpr {
+                at,
+                node: RawNode::Num(value, note),
+            },
+            height: 1,
+        }
+    }
+
+    /// A name
+    pub fn name(at: u32, name: Name) -> Part
+        ensures { part_expr result ≡ name_text at name }
+    {
+        Part {
+            tree: RawExpr {
+                at,
+                node: RawNode::Name(name),
+            },
+            height: 1,
+        }
+    }
+
+    /// `-e`
+    pub fn negate(self, alloc: Global, at: u32) -> Result<Part, AllocError>
+        ensures { IfOk result (λ p. part_expr p ≡ negate_text at (part_expr self)) }
+    {
+        let Part { tree, height } = self;
+        let node = RawNode::Neg(Box::new(alloc, tree)?);
+        Ok(Part {
+            tree: RawExpr { at, node },
+            height: one_higher(height),
+        })
+    }
+
+    /// `not e`
+    pub fn not(self, alloc: Global, at: u32) -> Result<Part, AllocError>
+        ensures { IfOk result (λ p. part_expr p ≡ not_text at (part_expr self)) }
+    {
+        let Part { tree, height } = self;
+        let node = RawNode::Not(Box::new(alloc, tree)?);
+        Ok(Part {
+            tree: RawExpr { at, node },
+            height: one_higher(height),
+        })
+    }
+
+    /// `(e)`
+    pub fn bracket(self, alloc: Global, at: u32) -> Result<Part, AllocError>
+        ensures { IfOk result (λ p. part_expr p ≡ bracket_expr_text at (part_expr self)) }
+    {
+        let Part { tree, height } = self;
+        let node = RawNode::Bracket(Box::new(alloc, tree)?);
+        Ok(Part {
+            tree: RawExpr { at, node },
+            height: one_higher(height),
+        })
+    }
+
+    /// `e.x`, with the place of the field's name
+    pub fn field(self, alloc: Global, at: u32, place: u32, name: Name) -> Result<Part, AllocError>
+        ensures { IfOk result (λ p. part_expr p ≡ field_text at place name (part_expr self)) }
+    {
+        let Part { tree, height } = self;
+        let node = RawNode::Field(place, name, Box::new(alloc, tree)?);
+        Ok(Part {
+            tree: RawExpr { at, node },
+            height: one_higher(height),
+        })
+    }
+
+    /// A sign with both operands
+    pub fn infix(self, alloc: Global, at: u32, sign: Infix, right: Part) -> Result<Part, AllocError>
+        ensures { IfOk result (λ p. part_expr p ≡ infix_text at sign (part_expr self) (part_expr right)) }
+    {
+        let Part { tree, height } = self;
+        let left = Box::new(alloc, tree)?;
+        let height = one_higher(higher(height, right.height));
+        let right = Box::new(alloc, right.tree)?;
+        let node = match sign {
+            Infix::Or => RawNode::Or(left, right),
+            Infix::And => RawNode::And(left, right),
+            Infix::Compare(sign) => RawNode::Compare(sign, left, right),
+            Infix::Cons => RawNode::Cons(left, right),
+            Infix::Arith(op) => RawNode::Arith(op, left, right),
+        };
+        Ok(Part {
+            tree: RawExpr { at, node },
+            height,
+        })
+    }
+
+    /// `let x = self in body`
+    pub fn bound(self, alloc: Global, at: u32, x: Binder, body: Part) -> Result<Part, AllocError>
+        ensures { IfOk result (λ p. part_expr p ≡ let_text at (binder_text x) (part_expr self) (part_expr body)) }
+    {
+        let Part { tree, height } = self;
+        let node = RawNode::Let(x, Box::new(alloc, tree)?, Box::new(alloc, body.tree)?);
+        Ok(Part {
+            tree: RawExpr { at, node },
+            height: one_higher(higher(height, body.height)),
+        })
+    }
+
+    /// `if self then one else other`
+    pub fn choice(self, alloc: Global, at: u32, one: Part, other: Part) -> Result<Part, AllocError>
+        ensures { IfOk result (λ p. part_expr p ≡ if_text at (part_expr self) (part_expr one) (part_expr other)) }
+    {
+        let Part { tree, height } = self;
+        let node = RawNode::If(
+            Box::new(alloc, tree)?,
+            Box::new(alloc, one.tree)?,
+            Box::new(alloc, other.tree)?,
+        );
+        Ok(Part {
+            tree: RawExpr { at, node },
+            height: one_higher(higher(height, higher(one.height, other.height))),
+        })
+    }
+
+    /// `match self with [] -> empty | head :: tail -> full`
+    pub fn matched(
+        self,
+        alloc: Global,
+        at: u32,
+        empty: Part,
+        head: Binder,
+        tail: Binder,
+        full: Part,
+    ) -> Result<Part, AllocError>
+        ensures { IfOk result (λ p. part_expr p ≡ match_text at (part_expr self) (part_expr empty) (binder_text head) (binder_text tail) (part_expr full)) }
+    {
+        let Part { tree, height } = self;
+        let node = RawNode::Match(
+            Box::new(alloc, tree)?,
+            Box::new(alloc, empty.tree)?,
+            head,
+            tail,
+            Box::new(alloc, full.tree)?,
+        );
+        Ok(Part {
+            tree: RawExpr { at, node },
+            height: one_higher(higher(height, higher(empty.height, full.height))),
+        })
+    }
+
+    /// `([] : T)`
+    pub fn nil(at: u32, ty: RawType) -> Part
+        requires { whole_height (type_text ty) ≤ greatest_height }
+        ensures { part_expr result ≡ nil_text at (type_text ty) }
+    {
+        Part {
+            tree: RawExpr {
+                at,
+                node: RawNode::Nil(ty),
+            },
+            height: 3,
+        }
+    }
+
+    /// Whether it is a name without arguments.
+    pub fn is_name(&self) -> bool
+        ensures { result ≡ is_name (part_expr self.now) }
+    {
+        match &self.tree.node {
+            RawNode::Name(_) => true,
+            RawNode::Bool(_)
+            | RawNode::Num(_, _)
+            | RawNode::Call(_, _)
+            | RawNode::Neg(_)
+            | RawNode::Not(_)
+            | RawNode::Arith(_, _, _)
+            | RawNode::Compare(_, _, _)
+            | RawNode::And(_, _)
+            | RawNode::Or(_, _)
+            | RawNode::If(_, _, _)
+            | RawNode::Let(_, _, _)
+            | RawNode::Match(_, _, _, _, _)
+            | RawNode::Nil(_)
+            | RawNode::List(_)
+            | RawNode::Cons(_, _)
+            | RawNode::Rec(_)
+            | RawNode::Field(_, _, _)
+            | RawNode::Bracket(_) => false,
+        }
+    }
+
+    /// Whether it is a number without a note.
+    pub fn is_plain_number(&self) -> bool
+        ensures { result ≡ is_plain_number (part_expr self.now) }
+    {
+        match &self.tree.node {
+            RawNode::Num(_, None) => true,
+            RawNode::Num(_, Some(_))
+            | RawNode::Bool(_)
+            | RawNode::Name(_)
+            | RawNode::Call(_, _)
+            | RawNode::Neg(_)
+            | RawNode::Not(_)
+            | RawNode::Arith(_, _, _)
+            | RawNode::Compare(_, _, _)
+            | RawNode::And(_, _)
+            | RawNode::Or(_, _)
+            | RawNode::If(_, _, _)
+            | RawNode::Let(_, _, _)
+            | RawNode::Match(_, _, _, _, _)
+            | RawNode::Nil(_)
+            | RawNode::List(_)
+            | RawNode::Cons(_, _)
+            | RawNode::Rec(_)
+            | RawNode::Field(_, _, _)
+            | RawNode::Bracket(_) => false,
+        }
+    }
+}

@@ -1,0 +1,59 @@
+-- The tokens of the layout of a program are the same program, places aside.
+use Rattle.std.proofs.Common.{◌≡◌, ℕ, ◌<◌, Bool, true, false, cond, ◌==◌, eqb, List, [], ◌∷◌, ◌++◌, get_or, Ok, refl, sym, ap, ◌∙◌, subst, arith, lit<}
+use Rattle.std.proofs.lemmas.Bool.{eqb-true}
+use Rattle.std.proofs.lemmas.Str.{chars_from_encodes, scalars-chars}
+use Rattle.std.specs.Str.{chars, IsUtf8}
+use lib.Utf8.{encodes, encode}
+use Rattle.um_syntax.specs.declared.token.Token.{Token}
+use Rattle.um_syntax.specs.Feeding.{IsTextAnswer}
+use Rattle.um_syntax.specs.Lexeme.{begins}
+use Rattle.um_syntax.specs.Lexing.{Lexes, HasTokens}
+use Rattle.um_tree.specs.RawTree.{DeclText, base_text, short_text, record_decl_text, function_text}
+use Rattle.um_parse.specs.DeclGrammar.{IsProgram}
+use Rattle.um_show.specs.Layout.{program_pieces, layout}
+use Rattle.um_show.specs.Unplaced.{bare_program}
+use Rattle.um_show.specs.Laws.{LayoutIsReadBack}
+use Rattle.um_show.proofs.Chain.{fresh}
+use Rattle.um_show.proofs.ChainTexts.{chain_lexes}
+use Rattle.um_show.proofs.GoodTokens.{tokens_good}
+use Rattle.um_show.proofs.DeclLinks.{program_links}
+use Rattle.um_show.proofs.DeclsAgain.{program_again}
+
+-- a byte order mark
+abbrev is_order : ℕ → Bool
+is_order c = c == 65279
+
+-- a layout begins with a word or sign
+layout_front : (ds : List DeclText) → get_or (layout ds) 0 0 < 128
+layout_front [] = lit< tt
+layout_front (base_text at x ∷ ds) = lit< tt
+layout_front (short_text at x u ∷ ds) = lit< tt
+layout_front (record_decl_text at x vs fs ∷ ds) = lit< tt
+layout_front (function_text f ∷ ds) = lit< tt
+
+high_byte : (more : List ℕ) → get_or (encodes (65279 ∷ more)) 0 0 < 128 → ⊥
+unfolding lib.Utf8.encode
+high_byte more h = let byte : get_or (encodes (65279 ∷ more)) 0 0 ≡ 239 = refl in omega (arith, h, byte)
+
+no_order : (cs bytes : List ℕ) → encodes cs ≡ bytes → get_or bytes 0 0 < 128 → begins is_order cs ≡ false
+no_order [] bytes e low = refl
+no_order (c ∷ cs) bytes e low = go (is_order c) refl
+  where
+    go : (b : Bool) → is_order c ≡ b → is_order c ≡ false
+    go false is = is
+    go true is = absurd (high_byte cs (subst (λ x. get_or (encodes (x ∷ cs)) 0 0 < 128) (eqb-true c 65279 is) (subst (λ x. get_or x 0 0 < 128) (sym e) low)))
+
+from_start : (cs : List ℕ) (tokens : List Token) → begins is_order cs ≡ false → Lexes [] 0 cs tokens → HasTokens cs tokens
+from_start [] tokens none l = l
+from_start (c ∷ cs) tokens none l = subst (λ b. Lexes [] (cond b 3 0) (cond b cs (c ∷ cs)) tokens) (sym none) l
+
+pub layout_is_read_back : LayoutIsReadBack
+layout_is_read_back text tokens ds answer program =
+    let good = tokens_good (chars text) tokens (scalars-chars text answer.0) answer.1 in
+    let chain = program_links ds tokens [] program.spelled program.fits good in
+    let b = chain_lexes (program_pieces ds) (fresh false false) chain in
+    let utf8 : IsUtf8 (layout ds) = (b.cs, (b.scalars, b.encoded)) in
+    let same : b.cs ≡ chars (layout ds) = chars_from_encodes b.cs (layout ds) utf8 b.encoded in
+    let read = from_start b.cs b.tokens (no_order b.cs (layout ds) b.encoded (layout_front ds)) b.lexes in
+    let again = program_again ds tokens b.tokens b.flag program b.stands in
+    (b.tokens, again.0, (utf8, subst (λ cs. HasTokens cs b.tokens) same read), again.1, again.2)
