@@ -8,8 +8,7 @@ use Rattle.um_types.proofs.UnitNested.{unit_reaches}
 use Rattle.um_expr.specs.ExprTokens.{ExprToken}
 use Rattle.um_expr.specs.ExprGrammar.{First}
 use Rattle.um_parse.specs.DeclGrammar.{Attribute, VarSpells, MoreVars, VarsSpell, FieldDeclSpells, MoreFieldDecls, FieldDeclsSpell, ParamsSpell, ResultSpells, RecSpells, DeclSpells, DeclsSpell, FieldDeclsFit, ParamsFit, ResultFits, DeclFits, DeclsFit}
-use Rattle.um_readable.proofs.Reading.{Leaves, leaves_all, leaves_few, thence, first_leaves, at_leaves, type_leaves}
-use Rattle.um_readable.proofs.ExprReading.{expr_leaves}
+use Rattle.um_readable.proofs.Reading.{Leaves, leaves_all, leaves_few, thence, first_leaves, at_leaves, type_leaves, expr_leaves}
 
 unit_leaves : (u : UnitText) (tokens rest : List Token) → UnitSpells u tokens rest → UnitFits u → Leaves tokens rest
 unit_leaves u tokens rest s fits = let r = unit_reaches u tokens rest s fits in (r.0, r.1)

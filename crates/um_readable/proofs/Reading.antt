@@ -1,12 +1,13 @@
 -- What the grammar reads of a list of tokens stands at its front: the rest is the end of the list.
 use Rattle.std.proofs.Common.{◌≡◌, ℕ, ◌+◌, ◌≤◌, List, [], ◌∷◌, ◌++◌, length, length-append, sym, ap, ◌∙◌, append_assoc, arith}
 use Rattle.um_syntax.specs.declared.token.Token.{Token}
-use Rattle.um_tree.specs.RawTree.{NoteText, TypeText}
+use Rattle.um_tree.specs.RawTree.{NoteText, TypeText, ExprText}
 use Rattle.um_types.specs.TypeGrammar.{NoteSpells, NoteFits, TypeSpells, TypeFits}
 use Rattle.um_types.proofs.NoteComplete.{note_reaches}
 use Rattle.um_types.proofs.TypeComplete.{type_reaches}
 use Rattle.um_expr.specs.ExprTokens.{ExprToken}
-use Rattle.um_expr.specs.ExprGrammar.{First, FirstAt, FirstGlued}
+use Rattle.um_expr.specs.ExprGrammar.{First, FirstAt, FirstGlued, Spells, Fits}
+use Rattle.um_expr.proofs.ExprLaws.{expr_reaches}
 
 -- the tokens end with the rest
 abbrev pub Leaves : List Token → List Token → Type 0
@@ -27,7 +28,7 @@ thence {tokens = tokens} {mid = mid} {rest = rest} p q = leaves_then tokens mid 
 pub leaves_few : (tokens rest : List Token) → Leaves tokens rest → length rest ≤ length tokens
 leaves_few tokens rest p = let same : length tokens ≡ length p.0 + length rest = ap length p.1 ∙ length-append p.0 rest in omega (arith, same)
 
--- ---- tokens and types
+-- ---- tokens, types and expressions
 
 pub first_leaves : (what : ExprToken) (tokens rest : List Token) → First what tokens rest → Leaves tokens rest
 first_leaves what tokens rest f = leaves_one f.0 tokens rest f.2
@@ -43,3 +44,6 @@ note_leaves n tokens rest s fits = let r = note_reaches n tokens rest s fits in 
 
 pub type_leaves : (t : TypeText) (tokens rest : List Token) → TypeSpells t tokens rest → TypeFits t → Leaves tokens rest
 type_leaves t tokens rest s fits = let r = type_reaches t 0 tokens rest s fits in (r.0, r.1)
+
+pub expr_leaves : (t : ExprText) (tokens rest : List Token) → Spells t tokens rest → Fits t → Leaves tokens rest
+expr_leaves t tokens rest s fits = let r = expr_reaches t tokens rest s fits in (r.0, r.1)

@@ -189,3 +189,144 @@ fn variables_and_functions(rt: HostRuntime) -> Result<(), Fail> {
     ];
     are_answered(&rt, rt.alloc(), "types", &cases)
 }
+
+#[test]
+fn measures_in_units(rt: HostRuntime) -> Result<(), Fail> {
+    let cases: [Case; 10] = [
+        (
+            b"[<Measure>] type m\n[<Measure>] type m = 1",
+            "error 7: declared twice at 2:18\n",
+            Status::Names,
+        ),
+        (
+            b"[<Measure>] type pair\ntype pair = { a: num }",
+            "error 7: declared twice at 2:6\n",
+            Status::Names,
+        ),
+        (
+            b"[<Measure>] type f\nlet f = 1",
+            "f : num\n",
+            Status::Done,
+        ),
+        (
+            b"[<Measure>] type h = h",
+            "error 7: unknown name at 1:22\n",
+            Status::Names,
+        ),
+        (
+            b"[<Measure>] type h = m\n[<Measure>] type m",
+            "error 7: unknown name at 1:22\n",
+            Status::Names,
+        ),
+        (
+            b"type pair = { a: num }\n[<Measure>] type h = pair",
+            "error 7: unknown name at 2:22\n",
+            Status::Names,
+        ),
+        (
+            b"[<Measure>] type h = 'u",
+            "error 7: unknown name at 1:22\n",
+            Status::Names,
+        ),
+        (
+            b"[<Measure>] type m\n[<Measure>] type h = m^2147483647 m q",
+            "error 7: unknown name at 2:37\n",
+            Status::Names,
+        ),
+        (
+            b"[<Measure>] type m\n[<Measure>] type h = m^2147483647 m m^-1",
+            "error 10: power range at 2:22\n",
+            Status::PowerRange,
+        ),
+        (
+            b"[<Measure>] type m\n[<Measure>] type h = m^2147483647 m^-1 m\nlet f (x: num<h>) = x",
+            "f : num<m^2147483647> -> num<m^2147483647>\n",
+            Status::Done,
+        ),
+    ];
+    are_answered(&rt, rt.alloc(), "types", &cases)
+}
+
+#[test]
+fn types_and_variables(rt: HostRuntime) -> Result<(), Fail> {
+    let cases: [Case; 7] = [
+        (
+            b"type r = { c: r }",
+            "error 7: unknown name at 1:15\n",
+            Status::Names,
+        ),
+        (
+            b"type r = { c: num }\nlet f (x: r<q>) = x",
+            "error 7: wrong count at 2:11\n",
+            Status::Names,
+        ),
+        (
+            b"let f (l: num list) = match l with [] -> true | x :: x -> q",
+            "error 7: declared twice at 1:54\n",
+            Status::Names,
+        ),
+        (
+            b"let f (x: num) = x\nlet g = let f = 1 in f",
+            "error 18: not built\n",
+            Status::NotBuilt,
+        ),
+        (
+            b"let g = let x = 1 in x 2",
+            "error 7: wrong count at 1:22\n",
+            Status::Names,
+        ),
+        (
+            b"let k = 0<_>",
+            "error 18: not built\n",
+            Status::NotBuilt,
+        ),
+        (
+            b"let f (x: num<'u>) = x",
+            "error 18: not built\n",
+            Status::NotBuilt,
+        ),
+    ];
+    are_answered(&rt, rt.alloc(), "types", &cases)
+}
+
+#[test]
+fn records_and_first_faults(rt: HostRuntime) -> Result<(), Fail> {
+    let cases: [Case; 7] = [
+        (
+            b"type r = { a: num; b: num }\nlet k = { b = q; a = 1 }",
+            "error 7: wrong count at 2:9\n",
+            Status::Names,
+        ),
+        (
+            b"type r = { a: num; b: num }\nlet k = { b = 1; q = 1 }",
+            "error 7: unknown name at 2:18\n",
+            Status::Names,
+        ),
+        (
+            b"type r = { a: num; b: num }\nlet k = { a = 1; b = 2 }",
+            "error 18: not built\n",
+            Status::NotBuilt,
+        ),
+        (
+            b"let k = r.q",
+            "error 7: unknown name at 1:9\n",
+            Status::Names,
+        ),
+        (
+            b"let k = true.q",
+            "error 7: unknown name at 1:14\n",
+            Status::Names,
+        ),
+        (
+            b"[<Measure>] type m\n[<Measure>] type m\nlet f = q",
+            "error 7: declared twice at 2:18\n",
+            Status::Names,
+        ),
+        (
+            b"[<Measure>] type m\nlet f = q\n[<Measure>] type m",
+            "error 7: unknown name at 2:9\n",
+            Status::Names,
+        ),
+    ];
+    are_answered(&rt, rt.alloc(), "types", &cases)
+}

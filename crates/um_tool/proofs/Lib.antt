@@ -1,7 +1,6 @@
 pub mod Statuses
 pub mod Serving
 pub mod Complete
-pub mod Tokens
 pub mod Texts
 pub mod SchemeLines
 pub mod UnitTexts

@@ -2,7 +2,7 @@ use Rattle.std.proofs.Common.{◌≡◌, vec_len}
 use Rattle.um_expr.specs.ExprMachine.{reduce}
 use Rattle.um_expr.specs.ExprParts.{part_expr}
 use Rattle.um_expr.specs.ExprStack.{frames_of}
-use Rattle.um_expr.proofs.expr_ending.ended.Given as goal
+use Rattle.um_expr.proofs.ending.ended.Given as goal
 
 abbrev pub invariant-loop-frame : goal.invariant-loop-frame
 invariant-loop-frame l = reduce l.limit (frames_of l.frames) (part_expr l.at_hand) ≡ reduce l.limit (frames_of l.fn.frames) (part_expr l.fn.at_hand)

@@ -2,7 +2,7 @@ use Rattle.std.proofs.Common.{arith}
 use Rattle.um_expr.specs.ExprParts.{part_expr}
 use Rattle.um_expr.specs.ExprStack.{frames_of}
 use Rattle.um_expr.proofs.ExprGoes.{greater_refused}
-use Rattle.um_expr.proofs.expr_sign.greater_after.Goals as goal
+use Rattle.um_expr.proofs.sign.greater_after.Goals as goal
 
 pub returns-in_ok-whole : goal.returns-in_ok-whole
 returns-in_ok-whole c =

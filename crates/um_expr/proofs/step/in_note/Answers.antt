@@ -8,7 +8,7 @@ use Rattle.um_expr.specs.ExprTokens.{expr_token}
 use Rattle.um_expr.specs.ExprMachine.{note_ends}
 use Rattle.um_expr.specs.ExprStack.{frames_of}
 use Rattle.um_expr.proofs.ExprGoes.{note_high}
-use Rattle.um_expr.proofs.expr_step.in_note.Goals as goal
+use Rattle.um_expr.proofs.step.in_note.Goals as goal
 
 pub returns-in-High : goal.returns-in-High
 returns-in-High c =

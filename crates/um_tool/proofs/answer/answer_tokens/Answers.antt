@@ -1,7 +1,7 @@
 use Rattle.std.proofs.Common.{◌≤◌, sym, subst, length}
 use Rattle.um_tree.specs.RawTree.{program_text as raw_tree}
 use Rattle.um_parse.specs.Parsed.{IsRead}
-use Rattle.um_tool.proofs.Tokens.{tokens_within_bytes, readable_program}
+use Rattle.um_readable.proofs.TextBytes.{tokens_within_bytes, readable_program}
 use Rattle.um_tool.proofs.answer.answer_tokens.Goals as goal
 
 pub parse-requires : goal.parse-requires

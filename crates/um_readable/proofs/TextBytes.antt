@@ -1,4 +1,4 @@
--- What the tokens of a text of bytes are to the steps behind them.
+-- Texts as bytes: a text has no more tokens than bytes, and what is read from one can be resolved.
 use Rattle.std.proofs.Common.{◌≡◌, ap, ℕ, ◌≤◌, List, length, arith}
 use Rattle.std.specs.Str.{chars, IsUtf8}
 use Rattle.std.proofs.lemmas.Str.{encodes-chars, length-le-encodes}
