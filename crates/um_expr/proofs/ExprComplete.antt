@@ -1,27 +1,23 @@
 -- What an expression spells is read as it, inside any frames, whatever follows.
-use Rattle.std.proofs.Common.{◌≡◌, ◌≢◌, ℕ, ◌+◌, ◌≤◌, ◌<◌, List, [], ◌∷◌, ◌++◌, Bool, true, false, cond, Option, Some, None, refl, sym, ap, subst, ◌∙◌, arith, inl, inr, ◌⊎◌}
-use Rattle.std.proofs.lemmas.Bool.{lt-ltb, le-ltb}
+use Rattle.std.proofs.Common.{◌≡◌, ℕ, ◌≤◌, ◌<◌, List, [], ◌∷◌, Bool, Option, Some, None, refl, sym, ap, ◌∙◌}
+use Rattle.std.proofs.lemmas.Bool.{lt-ltb}
 use Rattle.um_frac.specs.declared.number.Frac.{Frac}
 use Rattle.um_syntax.specs.declared.token.Token.{Token}
 use Rattle.um_syntax.specs.declared.token.Kind.{Kind}
 use Rattle.um_tree.specs.declared.expression.Sign.{Sign}
 use Rattle.um_tree.specs.declared.expression.Sign.TheVariants as compare
-use Rattle.um_tree.specs.declared.expression.Arith.TheVariants as arith_of
-use Rattle.um_tree.specs.RawTree.{NoteText, TypeText, BinderText, ExprText, ExprTexts, FieldTexts, FieldPart, truth_text, number_text, name_text, call_text, negate_text, not_text, arith_text, compare_text, and_text, or_text, if_text, let_text, match_text, nil_text, list_text, cons_text, fields_text, field_text, bracket_expr_text, no_exprs, more_exprs, no_fields, more_fields, exprs_in_order, fields_in_order}
+use Rattle.um_tree.specs.RawTree.{NoteText, BinderText, ExprText, number_text}
 use Rattle.um_types.specs.NoteMachine.{NeedNote}
-use Rattle.um_types.specs.TypeMachine.{NeedType, HaveType}
-use Rattle.um_types.specs.TypeGrammar.{TypeFits}
 use Rattle.um_types.proofs.NoteComplete.{note_into}
-use Rattle.um_expr.specs.declared.mark.Mark.TheVariants as mark
 use Rattle.um_expr.specs.declared.mark.Infix.{Infix}
 use Rattle.um_expr.specs.declared.mark.Infix.TheVariants as between
-use Rattle.um_expr.specs.ExprTokens.{ExprToken, name, number, truth, hole, operator, plain, expr_token, equal, less, greater, minus, double_colon}
-use Rattle.um_expr.specs.Ranks.{arith_rank, infix_rank, left_limit, right_bound, infix_text}
-use Rattle.um_expr.specs.ExprGrammar.{First, FirstAt, FirstGlued, bound, BinderSpells, ends_in_number, InfixAt, WrittenNote, EmptyArm, FullArm, NilSpells, Spells, AllSpell, ItemsSpell, MoreItems, FieldsSpell, MoreFields, rank, NoteFitsIn, IsAny, Fits, AreAtoms, AllFit, FieldsFit}
-use Rattle.um_expr.specs.ExprMachine.{Frame, InBracket, InItem, InField, InValue, InBody, InTest, InThen, InElse, InMatched, InEmptyArm, InFullArm, InNegate, InNot, InRight, InArgument, top_bound, top_rank, with_field, Place, LetBinder, LetEqual, FieldName, FieldEqual, DotName, ArmBegin, ArmOpen, ArmClose, ArmArrow, HeadBinder, HeadCons, TailBinder, TailArrow, NilColon, State, Need, Have, Greater, Inside, InNote, InType, Refused, reduce, if_may, argument, infix_after, greater_after, less_after, close_after, list_after, record_after, semi_after, in_after, then_after, else_after, with_after, bar_after, act, inside}
-use Rattle.um_expr.proofs.ExprEnds.{opened_call, last_argument, opened, last_atom, rank_low, infix_low, stays, put, put_last, order_last, put_fields, put_field_last, field_order_last, ends_as, ends_whole, infix_opens, atom_opened, atom_last, last_number, less_free}
-use Rattle.um_expr.proofs.ExprLeads.{Leads, leads_here, leads_then, leads_as, leads_first, leads_at, leads_glued, leads_alike, leads_note, leads_note_end, leads_type, leads_type_end}
-use Rattle.um_expr.proofs.ExprFirsts.{begins_atom, first_atom, is_no_equal, first_no_equal, atom_alike, greater_alike}
+use Rattle.um_expr.specs.ExprTokens.{name, hole, operator, equal, less, greater}
+use Rattle.um_expr.specs.Ranks.{infix_rank, left_limit}
+use Rattle.um_expr.specs.ExprGrammar.{FirstAt, bound, BinderSpells, ends_in_number, InfixAt, WrittenNote, Spells, rank, NoteFitsIn, Fits}
+use Rattle.um_expr.specs.ExprMachine.{Frame, InRight, top_bound, State, Need, Have, Greater, InNote, reduce, if_may, infix_after, greater_after, act}
+use Rattle.um_expr.proofs.ExprEnds.{opened, last_atom, stays, ends_as, infix_opens, atom_opened, atom_last, last_number, less_free}
+use Rattle.um_expr.proofs.ExprLeads.{Leads, leads_here, leads_then, leads_at, leads_glued, leads_alike, leads_note, leads_note_end}
+use Rattle.um_expr.proofs.ExprFirsts.{is_no_equal, first_no_equal, greater_alike}
 
 -- the state once an expression was read inside frames
 abbrev pub into : List Frame → ExprText → State

@@ -1,22 +1,19 @@
 -- What an expression that was begun can be completed to: the least tokens that end what is open.
-use Rattle.std.proofs.Common.{◌≡◌, ◌≢◌, ℕ, ◌+◌, ◌≤◌, ◌<◌, List, [], ◌∷◌, ◌++◌, Bool, true, false, cond, Option, Some, None, refl, sym, ap, subst, ◌∙◌, append_assoc, arith, inl, inr, ◌⊎◌}
+use Rattle.std.proofs.Common.{◌≢◌, ℕ, ◌<◌, List, [], ◌∷◌, ◌++◌, true, false, Some, None, refl, sym, subst, append_assoc, arith, inl, inr}
 use Rattle.um_syntax.specs.declared.token.Token.{Token}
 use Rattle.um_syntax.specs.declared.token.Kind.{Kind}
 use Rattle.um_syntax.specs.declared.token.Kind.TheVariants as kind
 use Rattle.um_tree.specs.declared.expression.Sign.TheVariants as compare
-use Rattle.um_tree.specs.RawTree.{TypeText, bool_text, BinderText, ExprText, FieldPart, truth_text, number_text, let_text, if_text, match_text, nil_text, list_text, fields_text, field_text, bracket_expr_text, exprs_in_order, fields_in_order}
-use Rattle.um_types.specs.TypeGrammar.{TypeSpells}
-use Rattle.um_types.specs.NoteMachine.{NoNote}
-use Rattle.um_types.specs.TypeMachine.{NoType}
+use Rattle.um_tree.specs.RawTree.{bool_text, BinderText, ExprText, truth_text, number_text, let_text, if_text, match_text, nil_text, list_text, fields_text, field_text, bracket_expr_text, exprs_in_order, fields_in_order}
 use Rattle.um_types.proofs.NoteLaws.{NoteStands, note_ending, note_completed, note_can_end}
 use Rattle.um_types.proofs.TypeSound.{TypeStands}
 use Rattle.um_types.proofs.TypeLaws.{type_ending, type_completed, type_can_end}
 use Rattle.um_expr.specs.declared.mark.Infix.TheVariants as between
-use Rattle.um_expr.specs.Ranks.{infix_rank, infix_text}
-use Rattle.um_expr.specs.ExprGrammar.{ends_in_number, InfixAt, Spells, rank, Fits, FieldsFit}
-use Rattle.um_expr.specs.ExprMachine.{Frame, InBracket, InItem, InField, InValue, InBody, InTest, InThen, InElse, InMatched, InEmptyArm, InFullArm, InNegate, InNot, InRight, InArgument, bound_of, own_rank, top_bound, plug, with_field, Place, LetBinder, LetEqual, FieldName, FieldEqual, DotName, ArmBegin, ArmOpen, ArmClose, ArmArrow, HeadBinder, HeadCons, TailBinder, TailArrow, NilColon, State, Need, Have, Greater, Inside, InNote, InType, Refused}
-use Rattle.um_expr.proofs.ExprEnds.{rank_low, infix_low}
-use Rattle.um_expr.proofs.ExprStands.{FrameReads, FramesRead, FrameFits, FramesFit, PlaceReads, PlaceFits, Stands, items_last, items_fit, fields_last, fields_fit, bound_positive, plug_reads, plug_fits, infix_spells, infix_fits}
+use Rattle.um_expr.specs.Ranks.{infix_text}
+use Rattle.um_expr.specs.ExprGrammar.{Spells, rank, Fits}
+use Rattle.um_expr.specs.ExprMachine.{Frame, InBracket, InItem, InField, InValue, InBody, InTest, InThen, InElse, InMatched, InEmptyArm, InFullArm, InNegate, InNot, InRight, InArgument, bound_of, top_bound, plug, with_field, Place, LetBinder, LetEqual, FieldName, FieldEqual, DotName, ArmBegin, ArmOpen, ArmClose, ArmArrow, HeadBinder, HeadCons, TailBinder, TailArrow, NilColon, State, Need, Have, Greater, Inside, InNote, InType, Refused}
+use Rattle.um_expr.proofs.ExprEnds.{infix_low}
+use Rattle.um_expr.proofs.ExprStands.{FrameReads, FramesRead, FrameFits, FramesFit, PlaceReads, PlaceFits, Stands, items_last, items_fit, fields_last, fields_fit, bound_positive, plug_reads, plug_fits}
 
 abbrev token_of : Kind → Token
 token_of k = record { kind = k; start = 0; end = 0; glued = false }

@@ -1,5 +1,5 @@
 -- What is open and at hand once an expression was read, and what is left of it where frames end.
-use Rattle.std.proofs.Common.{◌≡◌, ◌≢◌, ℕ, ◌+◌, ◌≤◌, ◌<◌, List, [], ◌∷◌, ◌++◌, Bool, true, false, cond, Option, Some, None, refl, sym, ap, ◌∙◌, arith, inl, inr, ◌⊎◌}
+use Rattle.std.proofs.Common.{◌≡◌, ℕ, ◌+◌, ◌≤◌, ◌<◌, List, [], ◌∷◌, ◌++◌, Bool, true, false, Some, None, refl, ap, ◌∙◌, arith}
 use Rattle.std.proofs.lemmas.Bool.{lt-ltb, le-ltb}
 use Rattle.um_tree.specs.declared.expression.Arith.{Arith}
 use Rattle.um_tree.specs.declared.expression.Arith.TheVariants as arith_of
@@ -7,10 +7,10 @@ use Rattle.um_tree.specs.declared.expression.Sign.TheVariants as compare
 use Rattle.um_tree.specs.RawTree.{ExprText, ExprTexts, FieldTexts, FieldPart, truth_text, number_text, name_text, call_text, negate_text, not_text, arith_text, compare_text, and_text, or_text, if_text, let_text, match_text, nil_text, list_text, cons_text, fields_text, field_text, bracket_expr_text, no_exprs, more_exprs, no_fields, more_fields, exprs_in_order, fields_in_order}
 use Rattle.um_expr.specs.declared.mark.Infix.{Infix}
 use Rattle.um_expr.specs.declared.mark.Infix.TheVariants as between
-use Rattle.um_expr.specs.Ranks.{arith_rank, infix_rank, left_limit, right_bound, infix_text}
+use Rattle.um_expr.specs.Ranks.{arith_rank, infix_rank, left_limit, right_bound}
 use Rattle.um_expr.specs.ExprKinds.{is_plain_number}
-use Rattle.um_expr.specs.ExprGrammar.{rank, ends_in_number, last_ends_in_number, IsAny, Fits, AreAtoms}
-use Rattle.um_expr.specs.ExprMachine.{Frame, InBracket, InItem, InField, InValue, InBody, InTest, InThen, InElse, InMatched, InEmptyArm, InFullArm, InNegate, InNot, InRight, InArgument, own_rank, top_bound, top_rank, plug, with_field, State, Need, Have, Refused, reduce, less_after, infix_after}
+use Rattle.um_expr.specs.ExprGrammar.{rank, ends_in_number, last_ends_in_number, Fits, AreAtoms}
+use Rattle.um_expr.specs.ExprMachine.{Frame, InBracket, InItem, InField, InValue, InBody, InTest, InThen, InElse, InMatched, InEmptyArm, InFullArm, InNegate, InNot, InRight, InArgument, own_rank, top_bound, top_rank, plug, with_field, Have, reduce, less_after, infix_after}
 
 -- what is open once the arguments behind a front were read, and the last one
 abbrev pub opened_call : List Frame → ℕ → List ℕ → List ExprText → ExprTexts → List Frame

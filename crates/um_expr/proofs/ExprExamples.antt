@@ -1,11 +1,11 @@
 -- A few texts as the machine reads them.
-use Rattle.std.proofs.Common.{◌≡◌, ℕ, List, [], ◌∷◌, Bool, true, false, Option, Some, None, refl}
+use Rattle.std.proofs.Common.{◌≡◌, ℕ, List, [], ◌∷◌, Bool, true, false, Some, None, refl}
 use Rattle.um_syntax.specs.declared.token.Token.{Token}
 use Rattle.um_syntax.specs.declared.token.Kind.{Kind}
 use Rattle.um_syntax.specs.declared.token.Kind.TheVariants as kind
 use Rattle.um_tree.specs.declared.expression.Arith.TheVariants as arith_of
 use Rattle.um_tree.specs.declared.expression.Sign.TheVariants as compare
-use Rattle.um_tree.specs.RawTree.{ExprText, BinderText, num_text, name_text, call_text, negate_text, not_text, arith_text, compare_text, let_text, match_text, nil_text, cons_text, field_text, no_exprs, more_exprs}
+use Rattle.um_tree.specs.RawTree.{num_text, name_text, call_text, negate_text, not_text, arith_text, compare_text, let_text, match_text, nil_text, cons_text, field_text, no_exprs, more_exprs}
 use Rattle.um_types.specs.Machines.{runs}
 use Rattle.um_expr.specs.ExprMachine.{State, Need, Refused, step, finish}
 

@@ -1,14 +1,14 @@
 -- The first token of an expression.
-use Rattle.std.proofs.Common.{◌≡◌, ℕ, ◌≤◌, List, [], ◌∷◌, ◌++◌, Bool, true, false, cond, Option, Some, None, refl, sym, ap, ◌∙◌, arith}
+use Rattle.std.proofs.Common.{◌≡◌, ℕ, List, ◌∷◌, Bool, true, false, Some, refl, ap, ◌∙◌, arith}
 use Rattle.um_syntax.specs.declared.token.Token.{Token}
 use Rattle.um_syntax.specs.declared.token.Kind.{Kind}
 use Rattle.um_tree.specs.declared.expression.Sign.TheVariants as compare
 use Rattle.um_tree.specs.RawTree.{ExprText, truth_text, number_text, name_text, call_text, negate_text, not_text, arith_text, compare_text, and_text, or_text, if_text, let_text, match_text, nil_text, list_text, cons_text, fields_text, field_text, bracket_expr_text}
 use Rattle.um_expr.specs.declared.mark.Mark.TheVariants as mark
 use Rattle.um_expr.specs.declared.mark.Infix.TheVariants as between
-use Rattle.um_expr.specs.ExprTokens.{ExprToken, name, variable, number, truth, hole, operator, plain, expr_token, minus}
-use Rattle.um_expr.specs.ExprGrammar.{First, FirstAt, Spells, Fits, rank}
-use Rattle.um_expr.specs.ExprMachine.{Frame, InRight, State, Need, Have, Greater, begin, argument, begin_in, after_greater, act}
+use Rattle.um_expr.specs.ExprTokens.{ExprToken, name, number, truth, operator, plain, minus}
+use Rattle.um_expr.specs.ExprGrammar.{FirstAt, Spells, Fits, rank}
+use Rattle.um_expr.specs.ExprMachine.{Frame, InRight, Need, Have, Greater, argument, begin_in, act}
 use Rattle.um_expr.proofs.ExprEnds.{arith_low}
 use Rattle.um_expr.proofs.ExprLeads.{FirstPasses}
 

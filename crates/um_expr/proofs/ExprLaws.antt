@@ -1,13 +1,13 @@
 -- What an expression spells is found, whatever follows; what is refused begins none; one expression per list of tokens.
-use Rattle.std.proofs.Common.{◌≡◌, ◌≢◌, ℕ, ◌+◌, ◌≤◌, ◌<◌, List, [], ◌∷◌, ◌++◌, Bool, Option, Some, None, refl, sym, ap, subst, ◌∙◌, arith}
+use Rattle.std.proofs.Common.{◌≡◌, ◌≢◌, List, [], ◌++◌, Some, refl, sym, ap, subst, ◌∙◌, arith}
 use Rattle.std.proofs.lemmas.List.{append-nil}
 use Rattle.um_syntax.specs.declared.token.Token.{Token}
 use Rattle.um_tree.specs.RawTree.{ExprText}
 use Rattle.um_types.specs.Machines.{runs, Reaches}
 use Rattle.um_types.proofs.Reaching.{runs_append, runs_refused}
-use Rattle.um_expr.specs.ExprGrammar.{Spells, Fits, rank, IsExpr}
-use Rattle.um_expr.specs.ExprMachine.{Frame, State, Need, Have, Refused, reduce, step, whole, finish}
-use Rattle.um_expr.proofs.ExprEnds.{opened, last_atom, rank_low, ends_whole}
+use Rattle.um_expr.specs.ExprGrammar.{Spells, Fits, IsExpr}
+use Rattle.um_expr.specs.ExprMachine.{Frame, State, Need, Refused, step, whole, finish}
+use Rattle.um_expr.proofs.ExprEnds.{rank_low, ends_whole}
 use Rattle.um_expr.proofs.ExprComplete.{into}
 use Rattle.um_expr.proofs.ExprReads.{complete}
 use Rattle.um_expr.proofs.ExprSound.{stands}

@@ -1,13 +1,13 @@
 -- Reading in parts: from one state the tokens up to the rest lead to another.
-use Rattle.std.proofs.Common.{◌≡◌, ◌≢◌, ℕ, List, [], ◌∷◌, ◌++◌, Bool, true, false, Option, Some, None, refl, sym, ap, subst, ◌∙◌, append_assoc}
+use Rattle.std.proofs.Common.{◌≡◌, ◌≢◌, ℕ, List, [], ◌∷◌, ◌++◌, Bool, true, Some, refl, sym, ap, ◌∙◌, append_assoc}
 use Rattle.um_frac.specs.declared.number.Frac.{Frac}
 use Rattle.um_syntax.specs.declared.token.Token.{Token}
 use Rattle.um_syntax.specs.declared.token.Kind.{Kind}
-use Rattle.um_tree.specs.RawTree.{NoteText, TypeText, ExprText, number_text, nil_text}
-use Rattle.um_types.specs.Machines.{runs, Reaches}
+use Rattle.um_tree.specs.RawTree.{NoteText, TypeText, number_text, nil_text}
+use Rattle.um_types.specs.Machines.{runs}
 use Rattle.um_types.specs.TypeGrammar.{NoteSpells, NoteFits, TypeSpells, TypeFits}
-use Rattle.um_types.specs.NoteMachine.{NoteState, NeedNote, HaveHole, InUnit, NoNote, note_act, note_step, note_finish}
-use Rattle.um_types.specs.TypeMachine.{TypeState, NeedType, HaveType, NoType, type_after, type_act, type_step, type_finish}
+use Rattle.um_types.specs.NoteMachine.{NoteState, NeedNote, HaveHole, InUnit, NoNote, note_step, note_finish}
+use Rattle.um_types.specs.TypeMachine.{TypeState, NeedType, HaveType, NoType, type_after, type_step, type_finish}
 use Rattle.um_types.specs.TypeMachine.{InNote as InTypeNote}
 use Rattle.um_types.proofs.Reaching.{runs_append, lift}
 use Rattle.um_types.proofs.NoteComplete.{note_into, note_reaches, note_finds, note_stops}
@@ -15,7 +15,7 @@ use Rattle.um_types.proofs.TypeComplete.{type_reaches}
 use Rattle.um_expr.specs.declared.mark.Mark.TheVariants as mark
 use Rattle.um_expr.specs.ExprTokens.{ExprToken, plain, expr_token, greater}
 use Rattle.um_expr.specs.ExprGrammar.{First, FirstAt, FirstGlued}
-use Rattle.um_expr.specs.ExprMachine.{Frame, State, Need, Have, InNote, InType, Refused, note_ends, type_ends, note_goes, type_goes, act, step}
+use Rattle.um_expr.specs.ExprMachine.{Frame, State, Have, InNote, InType, note_ends, type_ends, note_goes, type_goes, act, step}
 use Rattle.um_expr.proofs.TokenKinds.{greater_is, close_is}
 
 abbrev pub Leads : State → List Token → State → List Token → Type 0

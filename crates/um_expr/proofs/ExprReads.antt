@@ -1,20 +1,19 @@
 -- What an expression spells is read as it: the whole grammar.
-use Rattle.std.proofs.Common.{◌≡◌, ◌≢◌, ℕ, ◌+◌, ◌≤◌, ◌<◌, List, [], ◌∷◌, ◌++◌, Bool, true, false, cond, Option, Some, None, refl, sym, ap, subst, ◌∙◌, arith, inl, inr, ◌⊎◌}
+use Rattle.std.proofs.Common.{◌≡◌, ◌≢◌, ℕ, ◌≤◌, ◌<◌, List, [], ◌∷◌, ◌++◌, Bool, Some, None, refl, sym, ap, subst, ◌∙◌, arith, inl, inr, ◌⊎◌}
 use Rattle.std.proofs.lemmas.Bool.{lt-ltb}
 use Rattle.um_syntax.specs.declared.token.Token.{Token}
 use Rattle.um_syntax.specs.declared.token.Kind.{Kind}
-use Rattle.um_tree.specs.declared.expression.Arith.TheVariants as arith_of
 use Rattle.um_tree.specs.RawTree.{TypeText, BinderText, ExprText, ExprTexts, FieldTexts, FieldPart, truth_text, number_text, name_text, call_text, negate_text, not_text, arith_text, compare_text, and_text, or_text, if_text, let_text, match_text, nil_text, list_text, cons_text, fields_text, field_text, bracket_expr_text, no_exprs, more_exprs, no_fields, more_fields}
-use Rattle.um_types.specs.TypeMachine.{NeedType, HaveType}
+use Rattle.um_types.specs.TypeMachine.{NeedType}
 use Rattle.um_types.specs.TypeGrammar.{TypeFits}
 use Rattle.um_expr.specs.declared.mark.Mark.TheVariants as mark
 use Rattle.um_expr.specs.declared.mark.Infix.{Infix}
 use Rattle.um_expr.specs.declared.mark.Infix.TheVariants as between
-use Rattle.um_expr.specs.ExprTokens.{ExprToken, name, number, truth, operator, plain, equal, minus, double_colon}
-use Rattle.um_expr.specs.Ranks.{arith_rank, infix_rank, left_limit}
-use Rattle.um_expr.specs.ExprGrammar.{First, FirstAt, BinderSpells, EmptyArm, FullArm, NilSpells, Spells, AllSpell, MoreItems, MoreFields, rank, IsAny, Fits, AreAtoms, AllFit, FieldsFit}
+use Rattle.um_expr.specs.ExprTokens.{name, number, truth, operator, plain, equal, minus, double_colon}
+use Rattle.um_expr.specs.Ranks.{infix_rank, left_limit}
+use Rattle.um_expr.specs.ExprGrammar.{First, FirstAt, EmptyArm, FullArm, NilSpells, Spells, AllSpell, MoreItems, MoreFields, rank, Fits, AreAtoms, AllFit, FieldsFit}
 use Rattle.um_expr.specs.ExprMachine.{Frame, InBracket, InItem, InField, InValue, InBody, InTest, InThen, InElse, InMatched, InEmptyArm, InFullArm, InNegate, InNot, InRight, InArgument, top_bound, with_field, LetBinder, LetEqual, FieldName, FieldEqual, DotName, ArmBegin, ArmOpen, ArmClose, ArmArrow, HeadBinder, HeadCons, TailBinder, TailArrow, NilColon, State, Need, Have, Inside, InType, reduce, act, argument, infix_after, with_after, bar_after, close_after, list_after, record_after, semi_after, in_after, then_after, else_after}
-use Rattle.um_expr.proofs.ExprEnds.{opened_call, last_argument, opened, last_atom, rank_low, arith_low, infix_low, put, put_last, order_last, put_fields, put_field_last, field_order_last, ends_whole}
+use Rattle.um_expr.proofs.ExprEnds.{opened_call, last_argument, opened, last_atom, rank_low, arith_low, put, put_last, order_last, put_fields, put_field_last, field_order_last, ends_whole}
 use Rattle.um_expr.proofs.ExprLeads.{Leads, thence, leads_here, leads_as, leads_first, leads_at, leads_alike, leads_type, leads_type_end}
 use Rattle.um_expr.proofs.ExprFirsts.{begins_atom, first_atom, atom_alike}
 use Rattle.um_expr.proofs.ExprComplete.{into, atom_into, may, after_left, leads_compare, leads_binder, leads_written}

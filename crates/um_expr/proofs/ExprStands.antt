@@ -1,8 +1,8 @@
 -- The tokens of what is open and at hand: what a state says of the tokens that were read.
-use Rattle.std.proofs.Common.{◌≡◌, ◌≢◌, ℕ, ◌+◌, ◌≤◌, ◌<◌, List, [], ◌∷◌, ◌++◌, Bool, true, false, cond, Option, Some, None, refl, sym, ap, subst, ◌∙◌, arith, inl, inr, ◌⊎◌}
+use Rattle.std.proofs.Common.{◌≡◌, ◌≢◌, ℕ, ◌≤◌, ◌<◌, List, [], ◌∷◌, ◌++◌, refl, sym, subst, ◌∙◌, arith, inl, inr, ◌⊎◌}
 use Rattle.std.proofs.lemmas.Bool.{cases_lt, lt-ltb, le-ltb}
 use Rattle.um_syntax.specs.declared.token.Token.{Token}
-use Rattle.um_tree.specs.RawTree.{TypeText, BinderText, ExprText, ExprTexts, FieldTexts, FieldPart, truth_text, number_text, name_text, call_text, negate_text, not_text, arith_text, compare_text, and_text, or_text, if_text, let_text, match_text, nil_text, list_text, cons_text, fields_text, field_text, bracket_expr_text, no_exprs, more_exprs, no_fields, more_fields, exprs_in_order, fields_in_order}
+use Rattle.um_tree.specs.RawTree.{BinderText, ExprText, FieldPart, exprs_in_order, fields_in_order}
 use Rattle.um_types.specs.NoteMachine.{NoNote}
 use Rattle.um_types.specs.TypeMachine.{NoType}
 use Rattle.um_types.proofs.NoteLaws.{NoteStands}
@@ -10,11 +10,11 @@ use Rattle.um_types.proofs.TypeSound.{TypeStands}
 use Rattle.um_expr.specs.declared.mark.Mark.TheVariants as mark
 use Rattle.um_expr.specs.declared.mark.Infix.{Infix}
 use Rattle.um_expr.specs.declared.mark.Infix.TheVariants as between
-use Rattle.um_expr.specs.ExprTokens.{ExprToken, name, number, operator, plain, equal, less, greater, minus, double_colon}
-use Rattle.um_expr.specs.Ranks.{arith_rank, infix_rank, left_limit, right_bound, infix_text}
+use Rattle.um_expr.specs.ExprTokens.{name, number, plain, equal, less, greater, minus, double_colon}
+use Rattle.um_expr.specs.Ranks.{infix_rank, left_limit, right_bound, infix_text}
 use Rattle.um_expr.specs.ExprGrammar.{First, FirstAt, FirstGlued, BinderSpells, ends_in_number, last_ends_in_number, InfixAt, EmptyArm, FullArm, Spells, AllSpell, ItemsSpell, MoreItems, FieldsSpell, MoreFields, rank, IsAny, Fits, AreAtoms, AllFit, FieldsFit}
-use Rattle.um_expr.specs.ExprMachine.{Frame, InBracket, InItem, InField, InValue, InBody, InTest, InThen, InElse, InMatched, InEmptyArm, InFullArm, InNegate, InNot, InRight, InArgument, bound_of, own_rank, top_bound, top_rank, plug, with_field, Place, LetBinder, LetEqual, FieldName, FieldEqual, DotName, ArmBegin, ArmOpen, ArmClose, ArmArrow, HeadBinder, HeadCons, TailBinder, TailArrow, NilColon, State, Need, Have, Greater, Inside, InNote, InType, Refused, reduce}
-use Rattle.um_expr.proofs.ExprEnds.{infix_low, arith_low}
+use Rattle.um_expr.specs.ExprMachine.{Frame, InBracket, InItem, InField, InValue, InBody, InTest, InThen, InElse, InMatched, InEmptyArm, InFullArm, InNegate, InNot, InRight, InArgument, bound_of, own_rank, top_bound, plug, with_field, Place, LetBinder, LetEqual, FieldName, FieldEqual, DotName, ArmBegin, ArmOpen, ArmClose, ArmArrow, HeadBinder, HeadCons, TailBinder, TailArrow, NilColon, State, Need, Have, Greater, Inside, InNote, InType, Refused, reduce}
+use Rattle.um_expr.proofs.ExprEnds.{infix_low}
 
 -- each item with the `;` behind it
 abbrev pub ItemsRead : List ExprText → List Token → List Token → Type 0

@@ -8,10 +8,9 @@ use Rattle.um_types.specs.UnitTokens.{sign, unit_token}
 use Rattle.um_types.specs.TypeTokens.{symbol, type_token}
 use Rattle.um_types.specs.declared.unit_mark.Mark.TheVariants as unit_mark
 use Rattle.um_types.specs.declared.type_symbol.Symbol.TheVariants as symbol_of
-use Rattle.um_expr.specs.declared.mark.Mark.{Mark}
 use Rattle.um_expr.specs.declared.mark.Mark.TheVariants as mark
 use Rattle.um_expr.specs.declared.mark.Infix.TheVariants as between
-use Rattle.um_expr.specs.ExprTokens.{ExprToken, name, variable, number, truth, hole, operator, plain, expr_token, word_tokens, sign_tokens, equal, greater}
+use Rattle.um_expr.specs.ExprTokens.{ExprToken, operator, plain, expr_token, word_tokens, sign_tokens, equal, greater}
 
 -- where in a table the tokens stand that pass a test
 abbrev positions : (ExprToken → Bool) → ℕ → List ExprToken → List ℕ

@@ -11,7 +11,7 @@
 --         | "[" expr { ";" expr } "]" | "{" Name "=" expr { ";" Name "=" expr } "}"
 -- Each level is a rank, so the relation has one case for each form of expression.
 -- Source: the F# specification, chapter Expressions, for the forms that this language has.
-use Rattle.std.specs.Prelude.{◌≡◌, ℕ, ◌≤◌, ◌<◌, Bool, true, false, ◌⊎◌, List, [], ◌∷◌, ◌++◌, Option, Some, None}
+use Rattle.std.specs.Prelude.{◌≡◌, ℕ, ◌≤◌, ◌<◌, Bool, true, false, ◌⊎◌, List, [], ◌∷◌, Option, Some, None}
 use Rattle.um_syntax.specs.declared.token.Token.{Token}
 use Rattle.um_tree.specs.declared.expression.Sign.TheVariants as compare
 use Rattle.um_tree.specs.RawTree.{NoteText, TypeText, BinderText, ExprText, ExprTexts, FieldTexts, truth_text, number_text, name_text, call_text, negate_text, not_text, arith_text, compare_text, and_text, or_text, if_text, let_text, match_text, nil_text, list_text, cons_text, fields_text, field_text, bracket_expr_text, no_exprs, more_exprs, no_fields, more_fields}
@@ -19,7 +19,7 @@ use Rattle.um_expr.specs.declared.mark.Mark.TheVariants as mark
 use Rattle.um_expr.specs.declared.mark.Infix.{Infix}
 use Rattle.um_expr.specs.declared.mark.Infix.TheVariants as between
 use Rattle.um_expr.specs.ExprTokens.{ExprToken, name, number, truth, hole, operator, plain, expr_token, equal, less, greater, minus, double_colon}
-use Rattle.um_expr.specs.Ranks.{arith_rank, infix_rank, left_limit, right_bound}
+use Rattle.um_expr.specs.Ranks.{arith_rank}
 use Rattle.um_types.specs.TypeGrammar.{NoteSpells, NoteFits, TypeSpells, TypeFits}
 
 -- the first token is this, and the others are the rest

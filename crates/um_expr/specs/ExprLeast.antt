@@ -2,7 +2,7 @@
 -- A part that is missing counts 1.
 -- Source: this project's own.
 use Rattle.std.specs.Prelude.{ℕ, ◌+◌, max, List, [], ◌∷◌}
-use Rattle.um_tree.specs.RawTree.{ExprText, exprs_in_order, fields_in_order}
+use Rattle.um_tree.specs.RawTree.{exprs_in_order, fields_in_order}
 use Rattle.um_tree.specs.Heights.{expr_height, tallest_expr, tallest_field}
 use Rattle.um_types.specs.NoteMachine.{note_least}
 use Rattle.um_types.specs.TypeMachine.{type_least}

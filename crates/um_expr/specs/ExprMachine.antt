@@ -7,14 +7,13 @@ use Rattle.um_syntax.specs.declared.token.Token.{Token}
 use Rattle.um_syntax.specs.declared.token.Kind.{Kind}
 use Rattle.um_tree.specs.declared.expression.Sign.TheVariants as compare
 use Rattle.um_tree.specs.declared.expression.Arith.TheVariants as arith
-use Rattle.um_tree.specs.RawTree.{NoteText, TypeText, BinderText, ExprText, ExprTexts, FieldTexts, FieldPart, truth_text, number_text, name_text, call_text, negate_text, not_text, arith_text, compare_text, and_text, or_text, if_text, let_text, match_text, nil_text, list_text, cons_text, fields_text, field_text, bracket_expr_text, exprs_in_order, fields_in_order}
-use Rattle.um_types.specs.NoteMachine.{NoteState, NeedNote, HaveHole, InUnit, NoNote, note_act, note_finish}
-use Rattle.um_types.specs.TypeMachine.{TypeState, NeedType, HaveType, NoType, type_act, type_finish}
-use Rattle.um_types.specs.TypeMachine.{InNote as InTypeNote}
+use Rattle.um_tree.specs.RawTree.{NoteText, TypeText, BinderText, ExprText, FieldPart, truth_text, number_text, name_text, call_text, negate_text, not_text, if_text, let_text, match_text, nil_text, list_text, fields_text, field_text, bracket_expr_text, exprs_in_order, fields_in_order}
+use Rattle.um_types.specs.NoteMachine.{NoteState, NeedNote, NoNote, note_act, note_finish}
+use Rattle.um_types.specs.TypeMachine.{TypeState, NeedType, NoType, type_act, type_finish}
 use Rattle.um_expr.specs.declared.mark.Mark.TheVariants as mark
 use Rattle.um_expr.specs.declared.mark.Infix.{Infix}
 use Rattle.um_expr.specs.declared.mark.Infix.TheVariants as between
-use Rattle.um_expr.specs.ExprTokens.{ExprToken, name, variable, number, truth, hole, operator, plain, expr_token, equal, less, greater, minus, double_colon}
+use Rattle.um_expr.specs.ExprTokens.{ExprToken, name, number, truth, hole, operator, plain, expr_token}
 use Rattle.um_expr.specs.Ranks.{infix_rank, left_limit, right_bound, infix_text}
 
 -- what is open around the next operand

@@ -1,22 +1,21 @@
 -- What a declaration spells is read as it, whatever follows.
-use Rattle.std.proofs.Common.{◌≡◌, ◌≢◌, ℕ, List, [], ◌∷◌, ◌++◌, Bool, true, false, Option, Some, None, refl, sym, ap, subst, ◌∙◌, append_assoc}
+use Rattle.std.proofs.Common.{◌≡◌, ℕ, List, [], ◌∷◌, ◌++◌, Bool, true, false, Option, Some, None, refl, sym, ap, subst, ◌∙◌, append_assoc}
 use Rattle.std.proofs.lemmas.List.{append-nil}
 use Rattle.um_syntax.specs.declared.token.Token.{Token}
 use Rattle.um_syntax.specs.declared.token.Kind.{Kind}
-use Rattle.um_tree.specs.RawTree.{UnitText, TypeText, BinderText, ExprText, VarText, FieldDeclText, ParamText, FunctionText, DeclText, base_text, short_text, record_decl_text, function_text}
+use Rattle.um_tree.specs.RawTree.{TypeText, VarText, FieldDeclText, ParamText, FunctionText, DeclText, base_text, short_text, record_decl_text, function_text}
 use Rattle.um_types.specs.UnitMachine.{Need as NeedUnit}
-use Rattle.um_types.specs.TypeGrammar.{TypeSpells, TypeFits}
-use Rattle.um_types.specs.TypeTokens.{symbol, type_token}
-use Rattle.um_types.specs.declared.type_symbol.Symbol.TheVariants as symbol_of
+use Rattle.um_types.specs.TypeGrammar.{TypeFits}
+use Rattle.um_types.specs.TypeTokens.{type_token}
 use Rattle.um_types.specs.TypeMachine.{NeedType, HaveType, NoType, type_after}
 use Rattle.um_types.proofs.UnitComplete.{into as unit_into}
 use Rattle.um_types.proofs.UnitNested.{unit_finds}
 use Rattle.um_expr.specs.declared.mark.Mark.TheVariants as mark
 use Rattle.um_expr.specs.ExprTokens.{ExprToken, name, variable, plain, expr_token, equal, less, greater}
 use Rattle.um_expr.specs.ExprGrammar.{First, FirstAt}
-use Rattle.um_expr.specs.ExprMachine.{State, Need}
-use Rattle.um_parse.specs.DeclGrammar.{Attribute, VarSpells, MoreVars, VarsSpell, FieldDeclSpells, MoreFieldDecls, FieldDeclsSpell, ParamSpells, ParamsSpell, ResultSpells, RecSpells, FunctionSpells, DeclSpells, FieldDeclsFit, ParamsFit, ResultFits, DeclFits}
-use Rattle.um_parse.specs.DeclMachine.{DeclPlace, DeclBegin, AttributeWord, AttributeGreater, AttributeClose, MeasureType, MeasureName, RecordName, RecordVars, VarBegin, VarWord, VarGreater, VarClose, VarName, VarEnd, RecordEqual, RecordBrace, FieldName, FieldColon, LetName, RecName, Params, ParamBinder, ParamColon, DeclState, AtPlace, HaveBase, InShort, HaveRecord, InField, InParam, InResult, InBody, NoDecl, with_field_decl, with_param, field_ends, param_ends, result_ends, field_goes, param_goes, result_goes, decl_step, short_found, body_found, decl_finish}
+use Rattle.um_expr.specs.ExprMachine.{Need}
+use Rattle.um_parse.specs.DeclGrammar.{Attribute, VarSpells, MoreVars, VarsSpell, FieldDeclSpells, MoreFieldDecls, ParamSpells, ParamsSpell, ResultSpells, RecSpells, FunctionSpells, DeclSpells, FieldDeclsFit, ParamsFit, ResultFits, DeclFits}
+use Rattle.um_parse.specs.DeclMachine.{DeclBegin, AttributeWord, AttributeGreater, AttributeClose, MeasureType, MeasureName, RecordName, RecordVars, VarBegin, VarWord, VarGreater, VarClose, VarName, VarEnd, RecordEqual, RecordBrace, FieldName, FieldColon, LetName, RecName, Params, ParamBinder, ParamColon, DeclState, AtPlace, HaveBase, InShort, HaveRecord, InField, InParam, InResult, InBody, field_ends, param_ends, result_ends, field_goes, param_goes, result_goes, short_found, body_found, decl_finish}
 use Rattle.um_expr.proofs.TokenKinds.{semi_is, record_close_is, equal_is, close_is}
 use Rattle.um_expr.proofs.ExprComplete.{into}
 use Rattle.um_expr.proofs.ExprLaws.{expr_finds}

@@ -1,23 +1,19 @@
 -- What a declaration that was begun can be completed to.
-use Rattle.std.proofs.Common.{◌≡◌, ◌≢◌, ℕ, List, [], ◌∷◌, ◌++◌, Bool, true, false, Option, Some, None, refl, sym, ap, subst, ◌∙◌, append_assoc}
+use Rattle.std.proofs.Common.{◌≡◌, ◌≢◌, ℕ, List, [], ◌∷◌, ◌++◌, Bool, true, false, Some, None, refl, sym, subst, ◌∙◌, append_assoc}
 use Rattle.um_syntax.specs.declared.token.Token.{Token}
 use Rattle.um_syntax.specs.declared.token.Kind.{Kind}
 use Rattle.um_syntax.specs.declared.token.Kind.TheVariants as kind
-use Rattle.um_tree.specs.RawTree.{TypeText, bool_text, BinderText, ExprText, VarText, FieldDeclText, ParamText, FunctionText, DeclText, base_text, short_text, record_decl_text, function_text}
+use Rattle.um_tree.specs.RawTree.{bool_text, BinderText, VarText, FieldDeclText, ParamText, DeclText, base_text, short_text, record_decl_text, function_text}
 use Rattle.um_types.specs.UnitGrammar.{Spells as UnitSpells, IsUnit}
-use Rattle.um_types.specs.UnitMachine.{State as UnitState, Need as NeedUnit, Refused as NoUnit, run as unit_run}
-use Rattle.um_types.specs.TypeMachine.{NoType}
+use Rattle.um_types.specs.UnitMachine.{Need as NeedUnit, Refused as NoUnit, run as unit_run}
 use Rattle.um_types.proofs.UnitLaws.{ending_of, completed, can_go_on}
 use Rattle.um_types.proofs.UnitCut.{unit_before}
 use Rattle.um_types.proofs.TypeSound.{TypeStands}
 use Rattle.um_types.proofs.TypeLaws.{type_ending, type_completed, type_can_end}
-use Rattle.um_expr.specs.ExprGrammar.{First}
-use Rattle.um_expr.specs.ExprTokens.{less, greater}
-use Rattle.um_parse.specs.DeclGrammar.{Attribute, VarSpells, VarsSpell, FieldDeclsSpell, FunctionSpells, DeclSpells, FieldDeclsFit, ParamsFit, DeclFits}
+use Rattle.um_parse.specs.DeclGrammar.{Attribute, VarsSpell, FieldDeclsSpell, DeclSpells, DeclFits}
 use Rattle.um_parse.specs.DeclMachine.{DeclPlace, DeclBegin, AttributeWord, AttributeGreater, AttributeClose, MeasureType, MeasureName, RecordName, RecordVars, VarBegin, VarWord, VarGreater, VarClose, VarName, VarEnd, RecordEqual, RecordBrace, FieldName, FieldColon, LetName, RecName, Params, ParamBinder, ParamColon, DeclState, AtPlace, HaveBase, InShort, HaveRecord, InField, InParam, InResult, InBody, NoDecl}
-use Rattle.um_expr.proofs.ExprStands.{Stands}
 use Rattle.um_expr.proofs.ExprEndings.{operand_token, operand, expr_ending, expr_completed, expr_can_end}
-use Rattle.um_parse.proofs.DeclStands.{VarsRead, FieldsRead, RecordHead, VarsOpen, RecordOpens, FunctionHead, PlaceReads, PlaceFits, DeclStands, vars_last, vars_close, fields_last, fields_fit, params_fit, head_last}
+use Rattle.um_parse.proofs.DeclStands.{RecordHead, VarsOpen, RecordOpens, FunctionHead, PlaceReads, PlaceFits, DeclStands, vars_last, vars_close, fields_last, fields_fit, params_fit, head_last}
 
 abbrev token_of : Kind → Token
 token_of k = record { kind = k; start = 0; end = 0; glued = false }

@@ -1,9 +1,8 @@
 -- The least height of a declaration that the tokens begin: it is that of the completion, no token lowers it, and what is found has it.
-use Rattle.std.proofs.Common.{◌≡◌, ◌≢◌, ℕ, ◌+◌, ◌≤◌, max, List, [], ◌∷◌, ◌++◌, Bool, true, false, Option, Some, None, refl, sym, ap, subst, ◌∙◌, arith}
+use Rattle.std.proofs.Common.{◌≡◌, ◌≢◌, ℕ, ◌≤◌, max, List, [], ◌∷◌, ◌++◌, Bool, true, false, Option, Some, None, refl, sym, ap, ◌∙◌, arith}
 use Rattle.um_syntax.specs.declared.token.Token.{Token}
 use Rattle.um_tree.specs.declared.expression.Sign.TheVariants as compare
 use Rattle.um_tree.specs.RawTree.{UnitText, TypeText, bool_text, BinderText, ExprText, VarText, FieldDeclText, ParamText, DeclText, base_text, short_text, record_decl_text, function_text}
-use Rattle.um_tree.specs.Heights.{unit_height}
 use Rattle.um_types.specs.UnitMachine.{State as UnitState, Need as NeedUnit, Have as HaveUnit, Raised, Lowered, Refused as NoUnit, finish as unit_finish}
 use Rattle.um_types.specs.UnitLeast.{least}
 use Rattle.um_types.specs.TypeHeights.{whole_height}
@@ -14,11 +13,10 @@ use Rattle.um_types.proofs.UnitNested.{unit_step}
 use Rattle.um_types.proofs.TypeLaws.{type_completed, type_completed_height, type_up, type_found_height}
 use Rattle.um_expr.specs.declared.mark.Mark.TheVariants as mark
 use Rattle.um_expr.specs.declared.mark.Infix.TheVariants as between
-use Rattle.um_expr.specs.ExprTokens.{ExprToken, name, variable, number, truth, hole, operator, plain, expr_token}
+use Rattle.um_expr.specs.ExprTokens.{ExprToken, name, variable, hole, operator, plain, expr_token}
 use Rattle.um_expr.specs.ExprMachine.{State, Need, Have, Greater, Inside, InNote, InType, Refused, step, finish}
 use Rattle.um_expr.specs.ExprLeast.{whole_least}
 use Rattle.um_parse.specs.ProgramHeights.{fields_height, params_height, result_height, decl_height}
-use Rattle.um_expr.specs.ExprHeights.{whole_expr_height}
 use Rattle.um_parse.specs.ProgramLeast.{decl_place_least, decl_least}
 use Rattle.um_parse.specs.DeclMachine.{DeclPlace, DeclBegin, AttributeWord, AttributeGreater, AttributeClose, MeasureType, MeasureName, RecordName, RecordVars, VarBegin, VarWord, VarGreater, VarClose, VarName, VarEnd, RecordEqual, RecordBrace, FieldName, FieldColon, LetName, RecName, Params, ParamBinder, ParamColon, DeclState, AtPlace, HaveBase, InShort, HaveRecord, InField, InParam, InResult, InBody, NoDecl, body_begins, at_place, base_after, field_ends, param_ends, result_ends, short_goes, field_goes, param_goes, result_goes, body_goes, decl_step, short_found, body_found, decl_finish}
 use Rattle.um_expr.proofs.ExprHeights.{expr_completed_height, expr_up, expr_found_height}

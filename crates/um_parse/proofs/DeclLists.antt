@@ -1,5 +1,5 @@
 -- The heights of fields and parameters with one more at the end.
-use Rattle.std.proofs.Common.{◌≡◌, ℕ, max, List, [], ◌∷◌, ◌++◌, map, arith}
+use Rattle.std.proofs.Common.{◌≡◌, max, List, [], ◌∷◌, ◌++◌, map, arith}
 use Rattle.um_tree.specs.declared.raw.RawFieldDecl.{RawFieldDecl}
 use Rattle.um_tree.specs.declared.raw.RawParam.{RawParam}
 use Rattle.um_tree.specs.RawTree.{type_text, field_decl_text, param_text}

@@ -1,13 +1,10 @@
 -- The tokens of a declaration that were read are those of the state, and what stands in it fits.
 use Rattle.std.proofs.Common.{◌≡◌, ◌≢◌, ℕ, List, [], ◌∷◌, ◌++◌, Bool, true, false, Option, Some, None, refl, sym, ap, subst, ◌∙◌, append_assoc}
 use Rattle.um_syntax.specs.declared.token.Token.{Token}
-use Rattle.um_syntax.specs.declared.token.Kind.{Kind}
 use Rattle.um_tree.specs.declared.expression.Sign.TheVariants as compare
 use Rattle.um_tree.specs.RawTree.{UnitText, TypeText, BinderText, ExprText, VarText, FieldDeclText, ParamText, DeclText, base_text, short_text, record_decl_text, function_text}
-use Rattle.um_types.specs.UnitTokens.{unit_token}
 use Rattle.um_types.specs.UnitGrammar.{Spells as UnitSpells, IsUnit}
-use Rattle.um_types.specs.UnitMachine.{State as UnitState, Need as NeedUnit, Have as HaveUnit, Raised, Lowered, Refused as NoUnit, act as unit_act, run as unit_run, finish as unit_finish}
-use Rattle.um_types.specs.TypeGrammar.{TypeSpells, TypeFits}
+use Rattle.um_types.specs.UnitMachine.{State as UnitState, Need as NeedUnit, Have as HaveUnit, Raised, Lowered, Refused as NoUnit, run as unit_run, finish as unit_finish}
 use Rattle.um_types.specs.TypeMachine.{TypeState, NeedType, HaveType, NoType, type_step, type_finish}
 use Rattle.um_types.specs.TypeMachine.{InNote as InTypeNote}
 use Rattle.um_types.proofs.UnitLaws.{run_append, found}
@@ -16,14 +13,14 @@ use Rattle.um_types.proofs.UnitNested.{unit_step}
 use Rattle.um_types.proofs.TypeSound.{TypeStands, type_sound, type_found}
 use Rattle.um_expr.specs.declared.mark.Mark.TheVariants as mark
 use Rattle.um_expr.specs.declared.mark.Infix.TheVariants as between
-use Rattle.um_expr.specs.ExprTokens.{ExprToken, name, variable, number, truth, hole, operator, plain, expr_token, equal, less, greater}
+use Rattle.um_expr.specs.ExprTokens.{ExprToken, name, variable, hole, operator, plain, expr_token, equal}
 use Rattle.um_expr.specs.ExprGrammar.{First, FirstAt, BinderSpells}
 use Rattle.um_expr.specs.ExprMachine.{State, Need, Have, Greater, Inside, InNote, InType, Refused, step, finish}
-use Rattle.um_parse.specs.DeclGrammar.{RecSpells, DeclSpells, ResultSpells, ParamsFit, ResultFits, FieldDeclsFit, DeclFits}
+use Rattle.um_parse.specs.DeclGrammar.{DeclSpells, ResultSpells, ParamsFit, ResultFits, FieldDeclsFit, DeclFits}
 use Rattle.um_parse.specs.DeclMachine.{DeclPlace, DeclBegin, AttributeWord, AttributeGreater, AttributeClose, MeasureType, MeasureName, RecordName, RecordVars, VarBegin, VarWord, VarGreater, VarClose, VarName, VarEnd, RecordEqual, RecordBrace, FieldName, FieldColon, LetName, RecName, Params, ParamBinder, ParamColon, DeclState, AtPlace, HaveBase, InShort, HaveRecord, InField, InParam, InResult, InBody, NoDecl, body_begins, at_place, base_after, field_ends, param_ends, result_ends, short_goes, field_goes, param_goes, result_goes, body_goes, decl_step, short_found, body_found, decl_finish}
 use Rattle.um_expr.proofs.ExprStands.{Stands}
 use Rattle.um_expr.proofs.ExprSound.{step_sound, expr_found}
-use Rattle.um_parse.proofs.DeclStands.{VarsRead, FieldsRead, RecordOpens, MeasureReads, FunctionHead, DeclStands, vars_comma, vars_last, vars_close, fields_semi, fields_last, fields_fit, params_fit, head_last}
+use Rattle.um_parse.proofs.DeclStands.{FieldsRead, RecordOpens, MeasureReads, FunctionHead, DeclStands, vars_comma, vars_last, vars_close, fields_semi, fields_last, fields_fit, params_fit, head_last}
 
 need_type : NeedType 0 ≢ NoType
 need_type e = cc

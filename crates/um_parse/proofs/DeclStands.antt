@@ -1,17 +1,17 @@
 -- What a state of the machine of declarations says of the tokens that were read.
-use Rattle.std.proofs.Common.{◌≡◌, ◌≢◌, ℕ, List, [], ◌∷◌, ◌++◌, Bool, true, false, Option, Some, None, refl, sym, ap, subst, ◌∙◌, append_assoc}
+use Rattle.std.proofs.Common.{◌≡◌, ◌≢◌, ℕ, List, [], ◌∷◌, ◌++◌, Bool, refl, sym, subst}
 use Rattle.um_syntax.specs.declared.token.Token.{Token}
-use Rattle.um_tree.specs.RawTree.{TypeText, BinderText, VarText, FieldDeclText, ParamText, DeclText, record_decl_text}
-use Rattle.um_types.specs.UnitMachine.{State as UnitState, Need as NeedUnit, Refused as NoUnit, run as unit_run}
-use Rattle.um_types.specs.TypeGrammar.{TypeSpells, TypeFits}
+use Rattle.um_tree.specs.RawTree.{VarText, FieldDeclText, ParamText, record_decl_text}
+use Rattle.um_types.specs.UnitMachine.{Need as NeedUnit, Refused as NoUnit, run as unit_run}
+use Rattle.um_types.specs.TypeGrammar.{TypeFits}
 use Rattle.um_types.specs.TypeMachine.{NoType}
 use Rattle.um_types.proofs.TypeSound.{TypeStands}
 use Rattle.um_expr.specs.declared.mark.Mark.TheVariants as mark
-use Rattle.um_expr.specs.ExprTokens.{name, variable, plain, equal, less, greater}
+use Rattle.um_expr.specs.ExprTokens.{name, plain, equal, less, greater}
 use Rattle.um_expr.specs.ExprGrammar.{First, FirstAt, BinderSpells}
-use Rattle.um_expr.specs.ExprMachine.{State, Refused}
-use Rattle.um_parse.specs.DeclGrammar.{Attribute, VarSpells, MoreVars, VarsSpell, FieldDeclSpells, MoreFieldDecls, FieldDeclsSpell, ParamSpells, ParamsSpell, ResultSpells, RecSpells, DeclSpells, FieldDeclsFit, ParamsFit, ResultFits, DeclFits}
-use Rattle.um_parse.specs.DeclMachine.{DeclPlace, DeclBegin, AttributeWord, AttributeGreater, AttributeClose, MeasureType, MeasureName, RecordName, RecordVars, VarBegin, VarWord, VarGreater, VarClose, VarName, VarEnd, RecordEqual, RecordBrace, FieldName, FieldColon, LetName, RecName, Params, ParamBinder, ParamColon, DeclState, AtPlace, HaveBase, InShort, HaveRecord, InField, InParam, InResult, InBody, NoDecl, with_field_decl, with_param}
+use Rattle.um_expr.specs.ExprMachine.{Refused}
+use Rattle.um_parse.specs.DeclGrammar.{Attribute, VarSpells, MoreVars, VarsSpell, FieldDeclSpells, MoreFieldDecls, FieldDeclsSpell, ParamSpells, ParamsSpell, ResultSpells, RecSpells, DeclSpells, FieldDeclsFit, ParamsFit, ResultFits}
+use Rattle.um_parse.specs.DeclMachine.{DeclPlace, DeclBegin, AttributeWord, AttributeGreater, AttributeClose, MeasureType, MeasureName, RecordName, RecordVars, VarBegin, VarWord, VarGreater, VarClose, VarName, VarEnd, RecordEqual, RecordBrace, FieldName, FieldColon, LetName, RecName, Params, ParamBinder, ParamColon, DeclState, AtPlace, HaveBase, InShort, HaveRecord, InField, InParam, InResult, InBody, NoDecl}
 use Rattle.um_expr.proofs.ExprStands.{Stands}
 
 -- each unit parameter with the comma behind it; at least one, with commas between them

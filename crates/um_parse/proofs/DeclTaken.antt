@@ -1,5 +1,5 @@
 -- A reader of a declaration stands within the heights, and what it finds too.
-use Rattle.std.proofs.Common.{◌≡◌, ◌≢◌, ◌≤◌, Option, None, Some, IfSome, IfOk, option_map, sym, ap, subst, arith}
+use Rattle.std.proofs.Common.{◌≡◌, ◌≢◌, ◌≤◌, Option, None, Some, IfSome, IfOk, option_map, sym, subst, arith}
 use Rattle.std.specs.Prelude.{Result}
 use Rattle.std.specs.declared.alloc.AllocError.{AllocError}
 use Rattle.um_syntax.specs.declared.token.Token.{Token}

@@ -1,21 +1,19 @@
 -- What a program spells is read as it; what is refused begins none; one program per list of tokens.
-use Rattle.std.proofs.Common.{◌≡◌, ◌≢◌, ℕ, List, [], ◌∷◌, ◌++◌, Bool, true, false, Option, Some, None, refl, sym, ap, subst, ◌∙◌, append_assoc}
+use Rattle.std.proofs.Common.{◌≡◌, ◌≢◌, ℕ, List, [], ◌∷◌, ◌++◌, Bool, true, Option, Some, None, refl, sym, ap, ◌∙◌, append_assoc}
 use Rattle.std.proofs.lemmas.List.{append-nil}
 use Rattle.um_syntax.specs.declared.token.Token.{Token}
 use Rattle.um_syntax.specs.declared.token.Kind.{Kind}
 use Rattle.um_tree.specs.RawTree.{ExprText, DeclText, base_text, short_text, record_decl_text, function_text}
 use Rattle.um_types.specs.Machines.{runs}
-use Rattle.um_types.specs.UnitTokens.{sign, unit_token}
-use Rattle.um_types.specs.declared.unit_mark.Mark.TheVariants as unit_mark
 use Rattle.um_types.specs.UnitMachine.{act as unit_act}
 use Rattle.um_types.proofs.Reaching.{runs_append, runs_refused, lift}
 use Rattle.um_types.proofs.UnitComplete.{into as unit_into}
 use Rattle.um_types.proofs.UnitNested.{other_refused}
 use Rattle.um_expr.specs.declared.mark.Mark.TheVariants as mark
 use Rattle.um_expr.specs.ExprTokens.{ExprToken, plain, expr_token}
-use Rattle.um_expr.specs.ExprMachine.{Frame, State, Have, Refused, act}
+use Rattle.um_expr.specs.ExprMachine.{Frame, Have, Refused, act}
 use Rattle.um_parse.specs.DeclGrammar.{DeclSpells, DeclsSpell, DeclFits, DeclsFit, IsProgram}
-use Rattle.um_parse.specs.DeclMachine.{DeclPlace, DeclBegin, DeclState, AtPlace, HaveBase, InShort, HaveRecord, InField, InParam, InResult, InBody, NoDecl, base_after, short_goes, body_goes, decl_step, decl_finish, ProgramState, InProgram, NoProgram, program_goes, next_decl, program_step, program_found, program_finish}
+use Rattle.um_parse.specs.DeclMachine.{DeclBegin, DeclState, AtPlace, HaveBase, InShort, HaveRecord, InField, InParam, InResult, InBody, NoDecl, base_after, short_goes, body_goes, decl_step, decl_finish, ProgramState, InProgram, NoProgram, program_goes, next_decl, program_step, program_found, program_finish}
 use Rattle.um_parse.specs.ProgramStops.{Begins}
 use Rattle.um_parse.specs.ProgramStates.{start}
 use Rattle.um_expr.proofs.TokenKinds.{begins_decl, decl_no_unit}

@@ -1,12 +1,12 @@
 -- What the states of the machine say of the tokens: the stop, the program, and the first token that makes it too high.
-use Rattle.std.proofs.Common.{◌≡◌, ◌≢◌, ℕ, ◌+◌, ◌≤◌, ◌<◌, List, [], ◌∷◌, ◌++◌, length, take, Option, Some, None, refl, sym, ap, subst, ◌∙◌, arith}
+use Rattle.std.proofs.Common.{◌≡◌, ◌≢◌, ℕ, ◌+◌, ◌≤◌, ◌<◌, List, length, take, Option, Some, None, sym, subst, ◌∙◌, arith}
 use Rattle.std.proofs.lemmas.List.{take_all}
 use Rattle.um_syntax.specs.declared.token.Token.{Token}
 use Rattle.um_tree.specs.RawTree.{DeclText}
 use Rattle.um_types.specs.UnitStops.{greatest_height}
 use Rattle.um_types.specs.declared.parse.LimitKind.{LimitKind}
 use Rattle.um_parse.specs.DeclGrammar.{IsProgram}
-use Rattle.um_parse.specs.DeclMachine.{ProgramState, NoProgram, program_finish}
+use Rattle.um_parse.specs.DeclMachine.{NoProgram, program_finish}
 use Rattle.um_parse.specs.ProgramHeights.{program_height}
 use Rattle.um_parse.specs.ProgramLeast.{program_least}
 use Rattle.um_parse.specs.ProgramLimits.{WithinLimits, PassesAt}

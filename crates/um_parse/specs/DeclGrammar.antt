@@ -8,9 +8,9 @@
 --   field     = Name ":" type
 -- A function with "rec" has a result type.
 -- Source: the F# specification, Type Definitions, Function Definitions and Units Of Measure, for the forms that this language has.
-use Rattle.std.specs.Prelude.{◌≡◌, ℕ, Bool, true, false, List, [], ◌∷◌, ◌++◌, Option, Some, None}
+use Rattle.std.specs.Prelude.{◌≡◌, Bool, true, false, List, [], ◌∷◌, Option, Some, None}
 use Rattle.um_syntax.specs.declared.token.Token.{Token}
-use Rattle.um_tree.specs.RawTree.{TypeText, UnitText, ExprText, VarText, FieldDeclText, ParamText, FunctionText, DeclText, base_text, short_text, record_decl_text, function_text}
+use Rattle.um_tree.specs.RawTree.{TypeText, VarText, FieldDeclText, ParamText, FunctionText, DeclText, base_text, short_text, record_decl_text, function_text}
 use Rattle.um_types.specs.UnitGrammar.{Spells as UnitSpells, Fits as UnitFits}
 use Rattle.um_types.specs.TypeGrammar.{TypeSpells, TypeFits}
 use Rattle.um_expr.specs.declared.mark.Mark.TheVariants as mark

@@ -1,11 +1,11 @@
 -- The least height of a program that begins with what was read; a part that is missing counts 1.
 -- Source: this project's own.
-use Rattle.std.specs.Prelude.{ℕ, max, List, [], ◌∷◌}
+use Rattle.std.specs.Prelude.{ℕ, max}
 use Rattle.um_types.specs.UnitLeast.{least}
 use Rattle.um_types.specs.TypeMachine.{type_least}
 use Rattle.um_expr.specs.ExprLeast.{whole_least}
 use Rattle.um_parse.specs.ProgramHeights.{fields_height, params_height, result_height, program_height}
-use Rattle.um_parse.specs.DeclMachine.{DeclPlace, DeclBegin, AttributeWord, AttributeGreater, AttributeClose, MeasureType, MeasureName, RecordName, RecordVars, VarBegin, VarWord, VarGreater, VarClose, VarName, VarEnd, RecordEqual, RecordBrace, FieldName, FieldColon, LetName, RecName, Params, ParamBinder, ParamColon, DeclState, AtPlace, HaveBase, InShort, HaveRecord, InField, InParam, InResult, InBody, NoDecl, ProgramState, InProgram, NoProgram}
+use Rattle.um_parse.specs.DeclMachine.{DeclPlace, DeclBegin, AttributeWord, AttributeGreater, AttributeClose, MeasureType, MeasureName, FieldName, FieldColon, Params, ParamBinder, ParamColon, DeclState, AtPlace, HaveBase, InShort, HaveRecord, InField, InParam, InResult, InBody, NoDecl, ProgramState, InProgram, NoProgram}
 
 -- a measure has no height; a record has a field, and a function a body
 abbrev pub decl_place_least : DeclPlace → ℕ

@@ -1,6 +1,6 @@
 -- The limits of a program besides its height.
 -- Source: this project's own limits.
-use Rattle.std.specs.Prelude.{◌≡◌, ℕ, ◌+◌, ◌<◌, nat_lt, cond, List, [], ◌∷◌, length, Option, Some, None}
+use Rattle.std.specs.Prelude.{◌≡◌, ℕ, ◌+◌, nat_lt, cond, List, [], ◌∷◌, length, Option, Some, None}
 use Rattle.um_tree.specs.RawTree.{DeclText, base_text, short_text, record_decl_text, function_text}
 use Rattle.um_tree.specs.Heights.{expr_nodes}
 use Rattle.um_types.specs.declared.parse.LimitKind.{LimitKind}

@@ -1,6 +1,6 @@
 -- What the reading of a program gives, told by the states of the machine.
 -- Source: this project's own.
-use Rattle.std.specs.Prelude.{◌≡◌, ◌≢◌, ℕ, ◌+◌, ◌≤◌, ◌<◌, Bool, true, false, List, length, map, Result, Ok, Err, Some}
+use Rattle.std.specs.Prelude.{◌≡◌, ◌≢◌, ◌+◌, ◌≤◌, ◌<◌, Bool, true, false, List, length, map, Result, Ok, Err, Some}
 use Rattle.um_syntax.specs.declared.token.Token.{Token}
 use Rattle.um_tree.specs.declared.raw.RawDecl.{RawDecl}
 use Rattle.um_tree.specs.declared.raw.RawProgram.{RawProgram}

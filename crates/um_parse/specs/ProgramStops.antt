@@ -1,6 +1,6 @@
 -- Where the reading of a program ends.
 -- Source: this project's own; the stop is the end of the longest viable prefix, as in Knuth, On the Translation of Languages from Left to Right.
-use Rattle.std.specs.Prelude.{◌≡◌, ℕ, ◌+◌, ◌≤◌, ◌<◌, List, [], ◌∷◌, ◌++◌, length, take, Result, Ok, Err}
+use Rattle.std.specs.Prelude.{◌≡◌, ℕ, ◌+◌, ◌≤◌, ◌<◌, List, ◌++◌, length, take}
 use Rattle.um_syntax.specs.declared.token.Token.{Token}
 use Rattle.um_tree.specs.RawTree.{DeclText}
 use Rattle.um_types.specs.UnitStops.{greatest_height}

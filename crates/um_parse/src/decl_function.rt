@@ -9,9 +9,8 @@ ghost use Rattle.um_expr.specs.ExprWords.{view_word};
 
 use crate::decl_measure::refuse;
 use crate::decl_place::{DeclPlace, FunctionFront, FunctionHead, Next};
-use um_expr::Word;
-use um_expr::{Infix, Mark};
 use std::alloc::{AllocError, Global};
+use um_expr::{Infix, Mark, Word};
 use um_tree::{Binder, Name, RawParam, RawParams, RawType, Sign};
 
 // Behind the name of a function, at its place.

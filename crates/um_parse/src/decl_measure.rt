@@ -5,8 +5,7 @@ ghost use Rattle.um_parse.specs.DeclViews.{view_measure, reached};
 ghost use Rattle.um_expr.specs.ExprWords.{view_word};
 
 use crate::decl_place::{DeclPlace, MeasurePlace, Next};
-use um_expr::Word;
-use um_expr::{Infix, Mark};
+use um_expr::{Infix, Mark, Word};
 use um_tree::Sign;
 
 /// A word that can't stand here.

@@ -10,9 +10,8 @@ ghost use Rattle.um_expr.specs.ExprWords.{view_word};
 
 use crate::decl_measure::refuse;
 use crate::decl_place::{DeclPlace, Next, RecordFront, RecordHead, VarPlace};
-use um_expr::Word;
-use um_expr::{Infix, Mark};
 use std::alloc::{AllocError, Global};
+use um_expr::{Infix, Mark, Word};
 use um_tree::{Name, RawFieldDecl, RawFieldDecls, RawType, RawVar, RawVars, Sign};
 
 // A record without unit parameters.

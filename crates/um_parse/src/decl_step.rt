@@ -18,10 +18,8 @@ use crate::decl_record::{
     take_var,
 };
 use crate::decl_take::{DeclReader, DeclStep, ShortFront};
-use um_expr::{ExprReader, ExprStep};
-use um_expr::Word;
-use um_expr::Infix;
 use std::alloc::{AllocError, Global};
+use um_expr::{ExprReader, ExprStep, Infix, Word};
 use um_syntax::Token;
 use um_tree::{Binder, Name, RawDecl, RawExpr, RawFunction, RawUnit, Sign};
 use um_types::{TypeReader, TypeStep, UnitReader, UnitStep};

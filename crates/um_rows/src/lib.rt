@@ -8,6 +8,8 @@ mod expression_trees;
 #[cfg(test)]
 mod faults;
 #[cfg(test)]
+mod functions;
+#[cfg(test)]
 mod layouts;
 #[cfg(test)]
 mod limits;
@@ -15,6 +17,8 @@ mod limits;
 mod names;
 #[cfg(test)]
 mod program_trees;
+#[cfg(test)]
+mod programs;
 #[cfg(test)]
 mod refusals;
 #[cfg(test)]
@@ -25,6 +29,10 @@ mod shapes;
 mod shown;
 #[cfg(test)]
 mod signature_texts;
+#[cfg(test)]
+mod signatures;
+#[cfg(test)]
+mod texts;
 #[cfg(test)]
 mod unit_texts;
 #[cfg(test)]

@@ -1,5 +1,6 @@
 //! Programs, with the answers of another program that was written from the same rules.
 use crate::shown::show_program;
+use crate::texts::repeated;
 use um_parse::{LimitKind, ParseStop, parse};
 use std::alloc::{AllocError, Global};
 use std::fmt::Write;
@@ -282,22 +283,6 @@ fn programs_are_refused_at_these_places(rt: HostRuntime) -> Result<(), Fail> {
         assert_eq!(rt; answer(rt.alloc(), text)?.as_str(), want, "program {text}");
     }
     Ok(())
-}
-
-// The text of a part that is repeated between two others.
-fn repeated(
-    alloc: Global,
-    first: &str,
-    part: &str,
-    count: usize,
-    last: &str,
-) -> Result<String, AllocError> {
-    let mut text = String::from_str(alloc, first)?;
-    for _ in 0..count {
-        text.push_str(part)?;
-    }
-    text.push_str(last)?;
-    Ok(text)
 }
 
 // What stands first, a part with the number of times, what stands last, and the answer.

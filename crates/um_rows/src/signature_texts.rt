@@ -1,4 +1,5 @@
 //! Signature texts, with the answers of another program that was written from the same rules.
+use crate::texts::repeated;
 use um_types::{
     LimitKind, NoteReader, NoteStep, ParseStop, TypeReader, TypeStep, UnitReader, UnitStep,
     parse_types,
@@ -203,22 +204,6 @@ fn signatures_have_these_types(rt: HostRuntime) -> Result<(), Fail> {
         assert_eq!(rt; answer(rt.alloc(), text)?.as_str(), want, "types of {text}");
     }
     Ok(())
-}
-
-// The text of a part that is repeated between two others.
-fn repeated(
-    alloc: Global,
-    first: &str,
-    part: &str,
-    count: usize,
-    last: &str,
-) -> Result<String, AllocError> {
-    let mut text = String::from_str(alloc, first)?;
-    for _ in 0..count {
-        text.push_str(part)?;
-    }
-    text.push_str(last)?;
-    Ok(text)
 }
 
 #[test]
