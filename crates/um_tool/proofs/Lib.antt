@@ -4,3 +4,4 @@ pub mod Complete
 pub mod Texts
 pub mod SchemeLines
 pub mod UnitTexts
+pub mod PlaceLaws

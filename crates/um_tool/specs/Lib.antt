@@ -2,6 +2,7 @@ pub mod Numbers
 pub mod Orders
 pub mod Steps
 pub mod Places
+pub mod Laws
 pub mod Refusals
 pub mod Reading
 pub mod UnitText
