@@ -1,5 +1,6 @@
 pub mod NameLists
 pub mod UnitLoops
+pub mod RunningProducts
 pub mod Firsts
 pub mod Stages
 pub mod RecordNames

@@ -3,6 +3,7 @@ pub mod Stops
 pub mod AbbreviationCode
 pub mod Known
 pub mod UnitNames
+pub mod RunningPowers
 pub mod TypeNames
 pub mod Variables
 pub mod ExprNames

@@ -15,6 +15,7 @@ mod measures;
 mod parts;
 mod records;
 mod resolving;
+mod running;
 mod scope;
 mod signature;
 mod signatures;

@@ -6,7 +6,7 @@ use um_frac::Frac;
 use um_tree::{
     Binder, Name, Node, Program, RawDecl, RawExpr, RawExprs, RawField, RawFieldDecl, RawFieldDecls,
     RawFields, RawFunction, RawNode, RawNote, RawNotes, RawParam, RawParams, RawProgram, RawType,
-    RawUnit, RawVar, RawVars, UnitNote,
+    RawUnit, RawUnits, RawVar, RawVars, UnitNote,
 };
 use um_units::Atom;
 
@@ -312,6 +312,32 @@ fn units(rt: HostRuntime) -> Result<(), Fail> {
     let name_behind = times(alloc, high, measure(alloc, 9, "q")?)?;
     let both = vec![in alloc; base(alloc, 1, "m")?, short(alloc, 3, "h", name_behind)?]?;
     assert_eq!(rt; stop(alloc, both), Some(NameStop::Unknown { at: 9 }));
+    Ok(())
+}
+
+/// `m^k m m^-1`, where m stands at 5.
+fn beside(alloc: Global, k: i32) -> Result<RawUnit, AllocError> {
+    let items = vec![in alloc;
+        power(alloc, measure(alloc, 5, "m")?, k)?,
+        measure(alloc, 7, "m")?,
+        power(alloc, measure(alloc, 9, "m")?, -1)?,
+    ]?;
+    Ok(RawUnit::Side(RawUnits { items }))
+}
+
+#[test]
+fn ranges_of_fronts(rt: HostRuntime) -> Result<(), Fail> {
+    let alloc = rt.alloc();
+    let past = vec![in alloc;
+        base(alloc, 1, "m")?,
+        short(alloc, 3, "h", beside(alloc, 2147483647)?)?,
+    ]?;
+    assert_eq!(rt; stop(alloc, past), Some(NameStop::Range { at: 5 }));
+    let within = vec![in alloc;
+        base(alloc, 1, "m")?,
+        short(alloc, 3, "h", beside(alloc, 2147483646)?)?,
+    ]?;
+    assert_eq!(rt; stop(alloc, within), None);
     Ok(())
 }
 

@@ -11,6 +11,7 @@ ghost use Rattle.um_units.specs.PowerMap.{one};
 ghost use Rattle.um_names.specs.UnitNames.{unless, or_one, variable_unit};
 
 use crate::measures::Measures;
+use crate::running::RunningProduct;
 use crate::stop::NameStop;
 use crate::table::NameTable;
 use std::alloc::{AllocError, Global};
@@ -145,12 +146,12 @@ fn product(
     ensures exact { IfOk result (λ unit. unit ≡ product_of (short_unit measures.now) variables.now one (units_in_order (map unit_text units.now))) }
     ensures range { RangeUnless result (products_fit (short_unit measures.now) variables.now one (units_in_order (map unit_text units.now))) }
 {
-    let mut front = Unit::one(alloc);
+    let mut front = RunningProduct::new(alloc);
     for i in 0..units.len() {
         let unit = evaluated(alloc, measures, variables, &units[i])?;
-        front = front.mul(alloc, &unit)?;
+        front = front.times(&unit)?;
     }
-    Ok(front)
+    Ok(front.to_unit(alloc)?)
 }
 
 /// The unit of a text: its names are looked at first, and then the range of its powers.
