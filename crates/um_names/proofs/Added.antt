@@ -5,9 +5,9 @@ use Rattle.std.specs.Str.{bytes_eq}
 use Rattle.std.proofs.lemmas.Slice.Eq.{bytes_eq-Decides}
 use Rattle.um_units.specs.declared.Atom.TheVariants.{Base}
 use Rattle.um_units.specs.PowerMap.{PowerMap, atom}
-use Rattle.um_names.specs.declared.abbreviation.Abbreviation.{Abbreviation}
-use Rattle.um_names.specs.Known.{Known, number_of, is_among, short_unit, short_names, record_names, base_or, measure_unit, is_taken}
-use Rattle.um_names.proofs.NameLists.{or_else, if_named, short_unit-append, number_of-append, is_some-short_unit}
+use Rattle.um_measures.specs.declared.abbreviation.Abbreviation.{Abbreviation}
+use Rattle.um_measures.specs.Known.{Known, number_of, is_among, short_unit, short_names, record_names, base_or, measure_unit, is_taken}
+use Rattle.um_measures.proofs.NameLists.{or_else, if_named, short_unit-append, number_of-append, is_some-short_unit}
 
 or_false : (a b c : Bool) → (a || (b || c)) ≡ false → b ≡ false
 or_false true b c e = cc

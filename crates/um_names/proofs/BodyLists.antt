@@ -2,13 +2,14 @@
 use Rattle.std.proofs.Common.{◌≡◌, ℕ, List, [], ◌∷◌, refl, ap, sym, subst, Ok, Err}
 use Rattle.um_tree.specs.ExprTree.{ExprTree, ExprTrees, in_order, more}
 use Rattle.um_tree.specs.RawTree.{ExprText, FieldPart, exprs_in_order, fields_in_order}
-use Rattle.um_names.specs.declared.stop.NameStop.{NameStop}
+use Rattle.um_measures.specs.declared.stop.NameStop.{NameStop}
 use Rattle.um_names.specs.declared.callable.Callable.{Callable}
-use Rattle.um_names.specs.Faults.{Found, and_then, each}
-use Rattle.um_names.specs.Stops.{IsFirst}
-use Rattle.um_names.specs.Known.{Known}
-use Rattle.um_names.specs.ExprNames.{Scope, resolved_expr, resolved_exprs, resolved_parts}
-use Rattle.um_names.proofs.Firsts.{first_and_then}
+use Rattle.um_measures.specs.Faults.{Found, and_then, each}
+use Rattle.um_measures.specs.Stops.{IsFirst}
+use Rattle.um_measures.specs.Known.{Known}
+use Rattle.um_measures.specs.Scopes.{Scope}
+use Rattle.um_names.specs.ExprNames.{resolved_expr, resolved_exprs, resolved_parts}
+use Rattle.um_measures.proofs.Firsts.{first_and_then}
 
 step : (r : Found ExprTree) (rest : Found ExprTrees) (all : Found (List ExprTree)) → rest ≡ and_then all (λ bs. Ok (in_order bs))
     → and_then r (λ a. and_then rest (λ bs. Ok (more a bs))) ≡ and_then (and_then r (λ y. and_then all (λ ys. Ok (y ∷ ys)))) (λ bs. Ok (in_order bs))

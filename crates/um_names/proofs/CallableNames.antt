@@ -4,13 +4,13 @@ use Rattle.std.specs.Prelude.{Option, Some, None, Ok, Err, slice_get, ◌==◌}
 use Rattle.std.specs.Str.{bytes_eq}
 use Rattle.std.proofs.lemmas.List.{map-append}
 use Rattle.um_tree.specs.ProgramTree.{FunctionTree}
-use Rattle.um_names.specs.Faults.{unknown, wrong_count}
-use Rattle.um_names.specs.Known.{number_of, one_later, function_names}
+use Rattle.um_measures.specs.Faults.{unknown, wrong_count}
+use Rattle.um_measures.specs.Known.{number_of, one_later, function_names}
 use Rattle.um_names.specs.ExprNames.{callable_of, numbered_function, with_arguments}
 use Rattle.um_names.specs.Resolution.{callable}
 use Rattle.um_names.specs.Tables.{own_callable, own_found}
 use Rattle.um_names.specs.declared.callable.Callable.{Callable}
-use Rattle.um_names.proofs.NameLists.{or_else, if_named, number_of-append}
+use Rattle.um_measures.proofs.NameLists.{or_else, if_named, number_of-append}
 
 pub number_of-front : (xs ys : List (List ℕ)) (x : List ℕ) (j : ℕ) → number_of xs x ≡ Some j → number_of (xs ++ ys) x ≡ Some j
 number_of-front [] ys x j e = absurd cc

@@ -1,12 +1,12 @@
 -- Declarations, one after another.
 use Rattle.std.proofs.Common.{◌≡◌, List, ◌∷◌, ap, ◌∙◌, Ok}
 use Rattle.um_tree.specs.RawTree.{DeclText}
-use Rattle.um_names.specs.declared.stop.NameStop.{NameStop}
-use Rattle.um_names.specs.Faults.{Found, and_then}
-use Rattle.um_names.specs.Stops.{IsFirst}
-use Rattle.um_names.specs.Known.{Known}
+use Rattle.um_measures.specs.declared.stop.NameStop.{NameStop}
+use Rattle.um_measures.specs.Faults.{Found, and_then}
+use Rattle.um_measures.specs.Stops.{IsFirst}
+use Rattle.um_measures.specs.Known.{Known}
 use Rattle.um_names.specs.Resolution.{resolved_decl, resolved_decls}
-use Rattle.um_names.proofs.Firsts.{first_from}
+use Rattle.um_measures.proofs.Firsts.{first_from}
 
 pub decl_next : (whole : Found Known) (known after : Known) (d : DeclText) (rest ds : List DeclText) → whole ≡ resolved_decls known rest → rest ≡ d ∷ ds → resolved_decl known d ≡ Ok after → whole ≡ resolved_decls after ds
 decl_next whole known after d rest ds h e r = h ∙ ap (resolved_decls known) e ∙ ap (λ q. and_then q (λ k. resolved_decls k ds)) r

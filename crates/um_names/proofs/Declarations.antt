@@ -1,8 +1,8 @@
 -- Loops over the parts of declarations.
 use Rattle.std.proofs.Common.{◌≡◌, ℕ, true, false, List, [], ◌∷◌, ◌++◌, cond, ap, sym, ◌∙◌, Err}
 use Rattle.um_tree.specs.RawTree.{VarText}
-use Rattle.um_names.specs.Faults.{Found, and_then, twice, unless_taken}
-use Rattle.um_names.specs.Known.{is_among}
+use Rattle.um_measures.specs.Faults.{Found, and_then, twice, unless_taken}
+use Rattle.um_measures.specs.Known.{is_among}
 use Rattle.um_names.specs.Resolution.{resolved_parameters}
 
 pub parameters_next : (whole : Found (List (List ℕ))) (names more : List (List ℕ)) (v : VarText) (rest vs : List VarText) → whole ≡ resolved_parameters names rest → rest ≡ v ∷ vs → is_among names v.name ≡ false

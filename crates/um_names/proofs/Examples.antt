@@ -10,8 +10,8 @@ use Rattle.um_tree.specs.TypeTree.{num_note}
 use Rattle.um_tree.specs.ExprTree.{ExprTree, truth, local}
 use Rattle.um_tree.specs.RawTree.{UnitText, measure_text, variable_text, power_text, side_text, over_text, no_units, more_units, TypeText, num_text, bool_text, record_text, hole_text, unit_note_text, ExprText, truth_text, number_text, name_text, call_text, match_text, fields_text, field_text, no_exprs, more_exprs, no_fields, more_fields, ParamText, DeclText, base_text, short_text, record_decl_text, function_text}
 use Rattle.um_tree.specs.ProgramTree.{FunctionTree}
-use Rattle.um_names.specs.Faults.{Fault, unknown, twice, wrong_count, hole, range, Found}
-use Rattle.um_names.specs.Known.{Known}
+use Rattle.um_measures.specs.Faults.{Fault, unknown, twice, wrong_count, hole, range, Found}
+use Rattle.um_measures.specs.Known.{Known}
 use Rattle.um_names.specs.Resolution.{resolution}
 
 -- the fault, if there is one

@@ -8,16 +8,16 @@ use Rattle.um_tree.specs.TypeTree.{NoteTree}
 use Rattle.um_tree.specs.ProgramTree.{FieldTree, RecordTree}
 use Rattle.um_tree.specs.RawTree.{FieldDeclText}
 use Rattle.um_names.specs.declared.callable.FieldNumber.{FieldNumber}
-use Rattle.um_names.specs.declared.stop.NameStop.{NameStop}
-use Rattle.um_names.specs.Faults.{Fault, Found, and_then, unless_taken}
-use Rattle.um_names.specs.Stops.{IsFirst}
-use Rattle.um_names.specs.Known.{Known, number_of, is_among, names_of_fields, field_names}
+use Rattle.um_measures.specs.declared.stop.NameStop.{NameStop}
+use Rattle.um_measures.specs.Faults.{Fault, Found, and_then, unless_taken}
+use Rattle.um_measures.specs.Stops.{IsFirst}
+use Rattle.um_measures.specs.Known.{Known, number_of, is_among, names_of_fields, field_names}
 use Rattle.um_names.specs.TypeNames.{resolved_type, written_type}
 use Rattle.um_names.specs.ExprNames.{field_or, field_of}
 use Rattle.um_names.specs.Resolution.{resolved_field_decls}
 use Rattle.um_names.specs.Parts.{resolved_field_decl}
-use Rattle.um_names.proofs.Firsts.{first_from}
-use Rattle.um_names.proofs.NameLists.{is_among-number}
+use Rattle.um_measures.proofs.Firsts.{first_from}
+use Rattle.um_measures.proofs.NameLists.{is_among-number}
 
 abbrev pub names_in : List FieldTree → List (List ℕ)
 names_in fs = map (λ g. g.name) fs

@@ -5,7 +5,7 @@ use Rattle.std.specs.Str.{bytes_eq}
 use Rattle.um_tree.specs.ProgramTree.{RecordTree}
 use Rattle.um_tree.specs.RawTree.{FieldPart, ExprText, fields_in_order, exprs_in_order}
 use Rattle.std.specs.Prelude.{Ok}
-use Rattle.um_names.specs.Faults.{and_then}
+use Rattle.um_measures.specs.Faults.{and_then}
 use Rattle.um_names.specs.declared.callable.FieldNumber.{FieldNumber}
 use Rattle.um_names.specs.ExprNames.{same_names, if_same_names, field_text_names, length_of, field_of, record_of, with_all_fields, known_fields, resolved_fields, found_record}
 

@@ -7,11 +7,11 @@ use Rattle.std.proofs.lemmas.Slice.Eq.{bytes_eq-Decides}
 use Rattle.um_tree.specs.declared.program.FieldDecl.{FieldDecl}
 use Rattle.um_tree.specs.ProgramTree.{FieldTree, RecordTree, field_tree}
 use Rattle.um_names.specs.declared.callable.FieldNumber.{FieldNumber}
-use Rattle.um_names.specs.Known.{number_of, is_among, names_of_fields}
+use Rattle.um_measures.specs.Known.{number_of, is_among, names_of_fields}
 use Rattle.um_names.specs.ExprNames.{field_or, field_of}
 use Rattle.um_names.specs.Parts.{field_else, field_if, field_at}
 use Rattle.um_names.specs.Tables.{numbered_field}
-use Rattle.um_names.proofs.NameLists.{or_else, if_named, is_among-number, number_of-append, number_of-below}
+use Rattle.um_measures.proofs.NameLists.{or_else, if_named, is_among-number, number_of-append, number_of-below}
 use Rattle.um_names.proofs.CallableNames.{slice_get-front, slice_get-last}
 
 is_there : {A : Type 0} (xs : List A) (k : ℕ) → k < length xs → is_some (slice_get xs k) ≡ true

@@ -8,8 +8,8 @@ use Rattle.um_tree.specs.TreeHeights.{type_tree_height}
 use Rattle.um_tree.specs.ProgramTree.{FieldTree, RecordTree, FunctionTree}
 use Rattle.um_tree.specs.Formed.{IsNameText, AreNames, IsUnitIn, IsTypeIn, NamesEarlier, IsFormedRecord, IsFormedFunction}
 use Rattle.um_tree.specs.RawTree.{VarText, FieldDeclText}
-use Rattle.um_names.specs.Faults.{and_then, unless_taken}
-use Rattle.um_names.specs.Known.{Known, nothing, is_among, is_taken, short_names, record_names, function_names, names_of_fields, field_names}
+use Rattle.um_measures.specs.Faults.{and_then, unless_taken}
+use Rattle.um_measures.specs.Known.{Known, nothing, is_among, is_taken, short_names, record_names, function_names, names_of_fields, field_names}
 use Rattle.um_names.specs.TypeNames.{resolved_type, written_type}
 use Rattle.um_names.specs.Resolution.{resolved_parameters, resolved_field_decls, resolved_record_decl, with_base, with_short, with_record}
 use Rattle.um_names.specs.Readable.{AreReadFieldDecls, IsReadRecord}

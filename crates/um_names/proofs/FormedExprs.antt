@@ -17,14 +17,15 @@ use Rattle.um_tree.specs.Formed.{IsNoteTreeIn, count, MayCall, HasFields, IsForm
 use Rattle.um_tree.specs.RawTree.{NoteText, hole_text, unit_note_text, ExprText, ExprTexts, FieldTexts, truth_text, number_text, name_text, call_text, negate_text, not_text, arith_text, compare_text, and_text, or_text, if_text, let_text, match_text, nil_text, list_text as items_text, cons_text, fields_text, field_text, bracket_expr_text, no_exprs, more_exprs, no_fields, more_fields}
 use Rattle.um_names.specs.declared.callable.Callable.{Callable}
 use Rattle.um_names.specs.declared.callable.FieldNumber.{FieldNumber}
-use Rattle.um_names.specs.Faults.{Found, and_then, hole, unless_taken}
-use Rattle.um_names.specs.Known.{Known, number_of, names_of_fields, measure_unit}
-use Rattle.um_names.specs.UnitNames.{resolved_unit}
+use Rattle.um_measures.specs.Faults.{Found, and_then, hole, unless_taken}
+use Rattle.um_measures.specs.Known.{Known, number_of, names_of_fields, measure_unit}
+use Rattle.um_measures.specs.UnitNames.{resolved_unit}
 use Rattle.um_names.specs.TypeNames.{resolved_type}
-use Rattle.um_names.specs.ExprNames.{Scope, local_of, callable_of, named, called, same_names, field_or, field_of, if_same_names, with_all_fields, record_of, length_of, field_text_names, known_fields, found_record, resolved_fields, found_field, same_binding, is_zero, resolved_literal, resolved_expr, resolved_exprs, resolved_parts}
+use Rattle.um_measures.specs.Scopes.{Scope, local_of, same_binding}
+use Rattle.um_names.specs.ExprNames.{callable_of, named, called, same_names, field_or, field_of, if_same_names, with_all_fields, record_of, length_of, field_text_names, known_fields, found_record, resolved_fields, found_field, is_zero, resolved_literal, resolved_expr, resolved_exprs, resolved_parts}
 use Rattle.um_names.specs.Readable.{IsReadExpr, AreReadExprs, AreReadFields}
-use Rattle.um_names.proofs.NameLists.{number_of-below}
-use Rattle.um_names.proofs.Scopes.{local_below}
+use Rattle.um_measures.proofs.NameLists.{number_of-below}
+use Rattle.um_measures.proofs.Scopes.{local_below}
 use Rattle.um_names.proofs.FormedUnits.{AreClosedIn, measure_in, resolved_unit_in, in_one}
 use Rattle.um_names.proofs.FormedTypes.{then_found, type_in}
 

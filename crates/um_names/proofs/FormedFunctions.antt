@@ -11,11 +11,12 @@ use Rattle.um_tree.specs.ProgramTree.{FunctionTree}
 use Rattle.um_tree.specs.Formed.{AreNames, IsNoteTreeIn, MayCall, ResultFormed, IsFormedIn, IsFormedFunction}
 use Rattle.um_tree.specs.RawTree.{TypeText, ParamText, FunctionText}
 use Rattle.um_names.specs.declared.callable.Callable.{Callable}
-use Rattle.um_names.specs.Faults.{and_then, unless_taken, wrong_count}
-use Rattle.um_names.specs.Known.{Known, number_of, is_among, function_names}
+use Rattle.um_measures.specs.Faults.{and_then, unless_taken, wrong_count}
+use Rattle.um_measures.specs.Known.{Known, number_of, is_among, function_names}
 use Rattle.um_names.specs.TypeNames.{resolved_type}
-use Rattle.um_names.specs.Variables.{named_variables}
-use Rattle.um_names.specs.ExprNames.{Scope, callable_of, numbered_function, with_arguments, resolved_expr}
+use Rattle.um_measures.specs.Variables.{named_variables}
+use Rattle.um_measures.specs.Scopes.{Scope}
+use Rattle.um_names.specs.ExprNames.{callable_of, numbered_function, with_arguments, resolved_expr}
 use Rattle.um_names.specs.Resolution.{unless_repeated, resolved_params, resolved_result, callable, callables, scope_of, resolved_function, with_function}
 use Rattle.um_names.specs.Readable.{AreReadParams, IsReadResult, IsReadFunction}
 use Rattle.um_names.proofs.CallableNames.{slice_get-front, slice_get-last}

@@ -5,7 +5,7 @@ use Rattle.std.specs.Str.{bytes_eq}
 use Rattle.std.proofs.lemmas.Slice.Eq.{bytes_eq-Decides}
 use Rattle.std.proofs.lemmas.List.Folds.{list_any-append}
 use Rattle.um_tree.specs.Formed.{IsNameText, AreNames, AreDistinct}
-use Rattle.um_names.specs.Known.{is_among}
+use Rattle.um_measures.specs.Known.{is_among}
 
 -- no name is one of those behind it
 abbrev pub AreFresh : List (List ℕ) → Type 0

@@ -11,9 +11,9 @@ use Rattle.um_tree.specs.Heights.{type_height}
 use Rattle.um_tree.specs.ProgramTree.{RecordTree}
 use Rattle.um_tree.specs.Formed.{IsUnitIn, IsNoteIn, TakesUnits, IsTypeIn, IsNoteTreeIn, NamesEarlier}
 use Rattle.um_tree.specs.RawTree.{NoteText, hole_text, unit_note_text, TypeText, bool_text, num_text, record_text, list_type_text, bracket_type_text}
-use Rattle.um_names.specs.Faults.{Found, and_then, wrong_count, hole}
-use Rattle.um_names.specs.Known.{Known, number_of, record_names, measure_unit}
-use Rattle.um_names.specs.UnitNames.{resolved_unit}
+use Rattle.um_measures.specs.Faults.{Found, and_then, wrong_count, hole}
+use Rattle.um_measures.specs.Known.{Known, number_of, record_names, measure_unit}
+use Rattle.um_measures.specs.UnitNames.{resolved_unit}
 use Rattle.um_names.specs.TypeNames.{counted, declared_record, resolved_record, resolved_note, resolved_notes, resolved_number, resolved_type, written_unit, written_units, written_type}
 use Rattle.um_names.proofs.FormedUnits.{AreClosedIn, measure_in, resolved_unit_in, in_one}
 

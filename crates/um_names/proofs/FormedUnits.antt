@@ -12,11 +12,11 @@ use Rattle.um_units.proofs.Group.{weight-one, weight-mul, weight-pow, power_of-o
 use Rattle.um_units.proofs.Variables.{IsClosed-one, IsClosed-base, VariablesBelow-closed, VariablesBelow-more, VariablesBelow-variable, VariablesBelow-mul, VariablesBelow-pow}
 use Rattle.um_tree.specs.Formed.{BasesBelow, IsUnitIn}
 use Rattle.um_tree.specs.RawTree.{UnitText, UnitTexts, one_text, measure_text, variable_text, power_text, side_text, times_text, over_text, inverse_text, bracket_text, no_units, more_units}
-use Rattle.um_names.specs.declared.abbreviation.Abbreviation.{Abbreviation}
-use Rattle.um_names.specs.Faults.{range}
-use Rattle.um_names.specs.Known.{Known, number_of, short_unit, base_or, measure_unit}
-use Rattle.um_names.specs.UnitNames.{first_place, or_one, numbered_variable, variable_unit, unknown_in, unit_of, product_of, parts_fit, ranged, resolved_unit}
-use Rattle.um_names.proofs.NameLists.{number_of-below}
+use Rattle.um_measures.specs.declared.abbreviation.Abbreviation.{Abbreviation}
+use Rattle.um_measures.specs.Faults.{range}
+use Rattle.um_measures.specs.Known.{Known, number_of, short_unit, base_or, measure_unit}
+use Rattle.um_measures.specs.UnitNames.{first_place, or_one, numbered_variable, variable_unit, unknown_in, unit_of, product_of, parts_fit, ranged, resolved_unit}
+use Rattle.um_measures.proofs.NameLists.{number_of-below}
 
 -- ---- base units below a number
 

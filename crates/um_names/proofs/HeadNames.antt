@@ -8,7 +8,7 @@ use Rattle.std.proofs.lemmas.List.{map-append, length-map}
 use Rattle.um_tree.specs.declared.program.Record.{Record}
 use Rattle.um_tree.specs.Formed.{AreDistinct}
 use Rattle.um_tree.specs.ProgramTree.{RecordTree, record_tree}
-use Rattle.um_names.specs.Known.{Known, is_among, is_taken, record_names}
+use Rattle.um_measures.specs.Known.{Known, is_among, is_taken, record_names}
 use Rattle.um_names.specs.Heads.{head_of, only_bases, with_heads}
 use Rattle.um_names.specs.Resolution.{with_record}
 use Rattle.um_names.proofs.CallableNames.{slice_get-front}

@@ -1,15 +1,8 @@
-pub mod NameLists
-pub mod UnitLoops
-pub mod Firsts
-pub mod Stages
 pub mod RecordNames
-pub mod Occurrences
 mod Examples
-pub mod Scopes
 pub mod CallableNames
 pub mod FieldNames
 pub mod BodyLists
-pub mod MeasureLists
 pub mod Declarations
 pub mod Added
 pub mod Params

@@ -1,9 +1,9 @@
 -- Texts whose names are looked at one after another.
 use Rattle.std.proofs.Common.{◌≡◌, List, ◌∷◌, ap, ◌∙◌, Ok}
-use Rattle.um_names.specs.declared.stop.NameStop.{NameStop}
-use Rattle.um_names.specs.Faults.{Found, and_then}
-use Rattle.um_names.specs.Stops.{IsFirst}
-use Rattle.um_names.proofs.Firsts.{first_from}
+use Rattle.um_measures.specs.declared.stop.NameStop.{NameStop}
+use Rattle.um_measures.specs.Faults.{Found, and_then}
+use Rattle.um_measures.specs.Stops.{IsFirst}
+use Rattle.um_measures.proofs.Firsts.{first_from}
 
 module _ {A : Type 0} (f : A → Found (Unit {0})) (all : List A → Found (Unit {0})) (step : (x : A) (xs : List A) → all (x ∷ xs) ≡ and_then (f x) (λ _. all xs)) where
   pub check_next : (whole : Found (Unit {0})) (x : A) (rest xs : List A) (u : Unit {0}) → whole ≡ all rest → rest ≡ x ∷ xs → f x ≡ Ok u → whole ≡ all xs

@@ -5,10 +5,10 @@ use Rattle.um_tree.specs.declared.note.Note.{Note}
 use Rattle.um_tree.specs.declared.raw.RawParam.{RawParam}
 use Rattle.um_tree.specs.TypeTree.{NoteTree, note_tree}
 use Rattle.um_tree.specs.RawTree.{ParamText, param_text}
-use Rattle.um_names.specs.Known.{Known}
-use Rattle.um_names.specs.ExprNames.{Scope}
+use Rattle.um_measures.specs.Known.{Known}
+use Rattle.um_measures.specs.Scopes.{Scope}
 use Rattle.um_names.proofs.Params.{ParamStage, one_param, param_next}
-use Rattle.um_names.proofs.Stages.{map_from_more}
+use Rattle.um_measures.proofs.Stages.{map_from_more}
 
 -- the variables of these parameters
 abbrev pub bound : List RawParam → Scope

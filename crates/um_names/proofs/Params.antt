@@ -2,14 +2,14 @@
 use Rattle.std.proofs.Common.{◌≡◌, ℕ, List, [], ◌∷◌, ◌++◌, refl, ap, sym, ◌∙◌, Ok, Err, append_assoc, append-nil, true}
 use Rattle.um_tree.specs.TypeTree.{NoteTree}
 use Rattle.um_tree.specs.RawTree.{ParamText}
-use Rattle.um_names.specs.declared.stop.NameStop.{NameStop}
-use Rattle.um_names.specs.Faults.{Fault, Found, and_then}
-use Rattle.um_names.specs.Stops.{IsFirst}
-use Rattle.um_names.specs.Known.{Known}
+use Rattle.um_measures.specs.declared.stop.NameStop.{NameStop}
+use Rattle.um_measures.specs.Faults.{Fault, Found, and_then}
+use Rattle.um_measures.specs.Stops.{IsFirst}
+use Rattle.um_measures.specs.Known.{Known}
 use Rattle.um_names.specs.TypeNames.{resolved_type}
-use Rattle.um_names.specs.ExprNames.{Scope}
+use Rattle.um_measures.specs.Scopes.{Scope}
 use Rattle.um_names.specs.Resolution.{resolved_params, unless_repeated}
-use Rattle.um_names.proofs.Firsts.{first_from}
+use Rattle.um_measures.proofs.Firsts.{first_from}
 
 -- a parameter: its name, and then its type
 abbrev pub one_param : Known → List (List ℕ) → Scope → ParamText → Found NoteTree

@@ -2,8 +2,8 @@
 use Rattle.std.proofs.Common.{◌≡◌, ℕ, List, cond, ap, ◌∙◌, Ok, Err}
 use Rattle.std.specs.Prelude.{Some, slice_get, ◌==◌}
 use Rattle.um_tree.specs.ProgramTree.{RecordTree}
-use Rattle.um_names.specs.Faults.{wrong_count}
-use Rattle.um_names.specs.Known.{Known, number_of, record_names}
+use Rattle.um_measures.specs.Faults.{wrong_count}
+use Rattle.um_measures.specs.Known.{Known, number_of, record_names}
 use Rattle.um_names.specs.TypeNames.{resolved_record, declared_record, counted}
 
 pub record_numbered : (known : Known) (x : List ℕ) (n at r : ℕ) (d : RecordTree) → number_of (record_names known.program.records) x ≡ Some r → slice_get known.program.records r ≡ Some d

@@ -1,17 +1,17 @@
 -- The record of a record text.
-use Rattle.std.proofs.Common.{◌≡◌, ℕ, zero, suc, ◌<◌, ◌+◌, Bool, true, false, ◌&&◌, cond, List, [], ◌∷◌, ◌++◌, length, refl, sym, ap, subst, ◌∙◌, arith}
+use Rattle.std.proofs.Common.{◌≡◌, ℕ, zero, suc, ◌+◌, Bool, true, false, ◌&&◌, cond, List, [], ◌∷◌, ◌++◌, length, refl, sym, ap, subst, ◌∙◌, arith}
 use Rattle.std.specs.Prelude.{Option, Some, None, slice_get}
 use Rattle.std.specs.Str.{bytes_eq}
 use Rattle.std.proofs.lemmas.Slice.Eq.{bytes_eq-Decides}
 use Rattle.um_tree.specs.Formed.{AreDistinct}
 use Rattle.um_tree.specs.ProgramTree.{RecordTree}
 use Rattle.um_names.specs.declared.callable.FieldNumber.{FieldNumber}
-use Rattle.um_names.specs.ExprNames.{same_names, if_same_names, with_all_fields, field_or, field_of, later_record, record_of}
-use Rattle.um_names.specs.Known.{number_of, one_later, names_of_fields, field_names}
+use Rattle.um_names.specs.ExprNames.{same_names, if_same_names, with_all_fields, field_or, field_of, later_record}
+use Rattle.um_measures.specs.Known.{number_of, one_later, names_of_fields, field_names}
 use Rattle.um_names.specs.RecordLaws.{RecordHasTheseFields, RecordIsFound}
 use Rattle.um_names.proofs.CallableNames.{slice_get-front}
 use Rattle.um_names.proofs.HeadNames.{behind, distinct-back}
-use Rattle.um_names.proofs.NameLists.{number_of-below}
+use Rattle.um_measures.proofs.NameLists.{number_of-below}
 
 itself : (x : List ℕ) → bytes_eq x x ≡ true
 itself x = (bytes_eq-Decides x x).1 refl

@@ -4,17 +4,17 @@ use Rattle.std.specs.Prelude.{Option, Some, None, slice_get}
 use Rattle.um_tree.specs.TypeTree.{TypeTree}
 use Rattle.um_tree.specs.ProgramTree.{RecordTree, ProgramTree}
 use Rattle.um_tree.specs.RawTree.{TypeText, bool_text, num_text, record_text, list_type_text, bracket_type_text}
-use Rattle.um_names.specs.declared.abbreviation.Abbreviation.{Abbreviation}
-use Rattle.um_names.specs.declared.stop.NameStop.{NameStop}
-use Rattle.um_names.specs.ClosedUnits.{given}
-use Rattle.um_names.specs.Faults.{Found, and_then}
+use Rattle.um_measures.specs.declared.abbreviation.Abbreviation.{Abbreviation}
+use Rattle.um_measures.specs.declared.stop.NameStop.{NameStop}
+use Rattle.um_measures.specs.ClosedUnits.{given}
+use Rattle.um_measures.specs.Faults.{Found, and_then}
 use Rattle.um_names.specs.Heads.{head_of, heads}
-use Rattle.um_names.specs.Known.{Known, number_of, record_names}
+use Rattle.um_measures.specs.Known.{Known, number_of, record_names}
 use Rattle.um_names.specs.SignatureNames.{SignatureTypes, all_note_names, type_names, all_type_names, one_type, resolved_types, signature_variables, resolved_signature}
-use Rattle.um_names.specs.Stops.{IsFirst}
+use Rattle.um_measures.specs.Stops.{IsFirst}
 use Rattle.um_names.specs.TypeNames.{counted, declared_record, resolved_record, resolved_notes, resolved_type, written_type}
 use Rattle.um_tree.specs.TypeTree.{list_note, record_note}
-use Rattle.um_names.proofs.Firsts.{first_and_then, first_next}
+use Rattle.um_measures.proofs.Firsts.{first_and_then, first_next}
 use Rattle.um_names.proofs.HeadNames.{names_of_heads}
 
 counted_head : (ds : List RecordTree) (q r n at : ℕ) → counted (slice_get (map head_of ds) q) r n at ≡ counted (slice_get ds q) r n at

@@ -2,9 +2,9 @@
 use Rattle.std.proofs.Common.{◌≡◌, ℕ, Bool, true, false, ◌||◌, List, refl, ap, ◌∙◌}
 use Rattle.std.specs.Prelude.{Option, Some, None, is_some}
 use Rattle.um_units.specs.PowerMap.{PowerMap}
-use Rattle.um_names.specs.declared.abbreviation.Abbreviation.{Abbreviation}
-use Rattle.um_names.specs.Known.{Known, number_of, is_among, short_unit, short_names, record_names, base_or, measure_unit, is_taken}
-use Rattle.um_names.proofs.NameLists.{is_among-number, is_some-short_unit}
+use Rattle.um_measures.specs.declared.abbreviation.Abbreviation.{Abbreviation}
+use Rattle.um_measures.specs.Known.{Known, number_of, is_among, short_unit, short_names, record_names, base_or, measure_unit, is_taken}
+use Rattle.um_measures.proofs.NameLists.{is_among-number, is_some-short_unit}
 
 either_is : (o : Option ℕ) (p : Option PowerMap) (a b c : Bool) → a ≡ is_some o → b ≡ is_some p → (is_some (base_or o p) || c) ≡ (a || (b || c))
 either_is None None a b c e f = rw (e, f) refl

@@ -5,16 +5,17 @@ use Rattle.um_tree.specs.TypeTree.{NoteTree}
 use Rattle.um_tree.specs.ExprTree.{ExprTree}
 use Rattle.um_tree.specs.ProgramTree.{FieldTree, RecordTree, FunctionTree}
 use Rattle.um_tree.specs.RawTree.{VarText, FieldDeclText, FunctionText}
-use Rattle.um_names.specs.declared.stop.NameStop.{NameStop}
+use Rattle.um_measures.specs.declared.stop.NameStop.{NameStop}
 use Rattle.um_names.specs.declared.callable.Callable.{Callable}
-use Rattle.um_names.specs.Faults.{Found, and_then, unless_taken, twice}
-use Rattle.um_names.specs.Stops.{IsFirst}
-use Rattle.um_names.specs.Known.{Known, is_among, is_taken, function_names}
-use Rattle.um_names.specs.ExprNames.{Scope, resolved_expr}
-use Rattle.um_names.specs.Variables.{named_variables}
+use Rattle.um_measures.specs.Faults.{Found, and_then, unless_taken, twice}
+use Rattle.um_measures.specs.Stops.{IsFirst}
+use Rattle.um_measures.specs.Known.{Known, is_among, is_taken, function_names}
+use Rattle.um_measures.specs.Scopes.{Scope}
+use Rattle.um_names.specs.ExprNames.{resolved_expr}
+use Rattle.um_measures.specs.Variables.{named_variables}
 use Rattle.um_names.specs.Parts.{itself}
 use Rattle.um_names.specs.Resolution.{resolved_parameters, resolved_field_decls, resolved_record_decl, callable, scope_of, resolved_params, resolved_result, callables, resolved_function}
-use Rattle.um_names.proofs.Firsts.{first_and_then, first_next}
+use Rattle.um_measures.proofs.Firsts.{first_and_then, first_next}
 
 next : {A B : Type 0} (r : Found A) (a : A) (k : A → Found B) → r ≡ Ok a → and_then r k ≡ k a
 next r a k e = ap (λ q. and_then q k) e

@@ -6,8 +6,9 @@ use Rattle.um_tree.specs.RawTree.{ExprText, ExprTexts, FieldTexts}
 use Rattle.um_names.specs.declared.known.Tables.{Tables}
 use Rattle.um_names.specs.declared.callable.Callable.{Callable}
 use Rattle.um_names.specs.declared.expr.Body.{Body}
-use Rattle.um_names.specs.Faults.{Found}
-use Rattle.um_names.specs.ExprNames.{Scope, resolved_expr, resolved_exprs, resolved_parts}
+use Rattle.um_measures.specs.Faults.{Found}
+use Rattle.um_measures.specs.Scopes.{Scope}
+use Rattle.um_names.specs.ExprNames.{resolved_expr, resolved_exprs, resolved_parts}
 use Rattle.um_names.specs.Tables.{known_of, callables_in}
 
 abbrev pub callables_of : Tables → Body → List Callable

@@ -1,7 +1,7 @@
 -- The expression of an expression text, or its first fault.
 -- Source: static scope as in ML; the order of the checks is this project's own.
 -- A variable is found from the end of the scope, so that a later one hides an earlier one and a function.
-use Rattle.std.specs.Prelude.{ℕ, suc, Bool, true, false, cond, slice_get, map, ◌==◌, ◌&&◌, List, [], ◌∷◌, ◌++◌, ℤ, pos, negsuc, is_some, Option, Some, None, Ok, Err}
+use Rattle.std.specs.Prelude.{ℕ, suc, Bool, true, false, cond, slice_get, map, ◌==◌, ◌&&◌, List, [], ◌∷◌, ◌++◌, ℤ, pos, negsuc, Option, Some, None, Ok, Err}
 use Rattle.std.specs.Str.{bytes_eq}
 use Rattle.um_frac.specs.declared.number.Frac.{Frac}
 use Rattle.um_frac.specs.Fraction.{numerator}
@@ -10,36 +10,13 @@ use Rattle.um_tree.specs.declared.note.UnitNote.TheVariants as note
 use Rattle.um_tree.specs.ExprTree.{ExprTree, ExprTrees, truth, number, local, call, negate, negation, arith, compare, both, either, if, bind, split, nil, list_text, cons, record_text, field, none, more}
 use Rattle.um_tree.specs.ProgramTree.{RecordTree}
 use Rattle.um_tree.specs.RawTree.{NoteText, hole_text, unit_note_text, ExprText, ExprTexts, FieldTexts, truth_text, number_text, name_text, call_text, negate_text, not_text, arith_text, compare_text, and_text, or_text, if_text, let_text, match_text, nil_text, list_text as items_text, cons_text, fields_text, field_text, bracket_expr_text, no_exprs, more_exprs, no_fields, more_fields}
-use Rattle.um_names.specs.Faults.{unknown, wrong_count, hole, Found, and_then, unless_taken}
-use Rattle.um_names.specs.Known.{Known, number_of, names_of_fields, measure_unit}
-use Rattle.um_names.specs.UnitNames.{resolved_unit}
+use Rattle.um_measures.specs.Faults.{unknown, wrong_count, hole, Found, and_then, unless_taken}
+use Rattle.um_measures.specs.Scopes.{Scope, local_of, same_binding}
+use Rattle.um_measures.specs.Known.{Known, number_of, names_of_fields, measure_unit}
+use Rattle.um_measures.specs.UnitNames.{resolved_unit}
 use Rattle.um_names.specs.TypeNames.{resolved_type}
 use Rattle.um_names.specs.declared.callable.Callable.{Callable}
 use Rattle.um_names.specs.declared.callable.FieldNumber.{FieldNumber}
-
--- the names of the variables of a scope, in the order in which they came into it; nothing for `_`
-abbrev pub Scope : Type 0
-Scope = List (Option (List ℕ))
-
-abbrev pub is_bound : Option (List ℕ) → List ℕ → Bool
-is_bound None x = false
-is_bound (Some y) x = bytes_eq x y
-
--- a later variable, or this one
-abbrev pub last_of : Option ℕ → Bool → Option ℕ
-last_of (Some k) here = Some (suc k)
-last_of None true = Some 0
-last_of None false = None
-
--- the number of the last variable of this name
-abbrev pub local_of : Scope → List ℕ → Option ℕ
-local_of [] x = None
-local_of (y ∷ ys) x = last_of (local_of ys x) (is_bound y x)
-
--- a variable of this name is there; `_` is no name
-abbrev pub is_repeated : Scope → Option (List ℕ) → Bool
-is_repeated scope None = false
-is_repeated scope (Some x) = is_some (local_of scope x)
 
 abbrev pub with_arguments : Option Callable → ℕ → ℕ → ℕ → Found ℕ
 with_arguments None j n at = Err (unknown at)
@@ -126,11 +103,6 @@ resolved_fields records fs at = and_then (known_fields records fs) (λ _. found_
 abbrev pub found_field : Option FieldNumber → ℕ → Found FieldNumber
 found_field None place = Err (unknown place)
 found_field (Some f) place = Ok f
-
--- the same variable twice; `_` binds none
-abbrev pub same_binding : Option (List ℕ) → Option (List ℕ) → Bool
-same_binding None y = false
-same_binding (Some x) y = is_bound y x
 
 abbrev pub is_zero : ℤ → Bool
 is_zero (pos n) = n == 0

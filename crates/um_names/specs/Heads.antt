@@ -2,8 +2,8 @@
 -- Source: this project's own.
 use Rattle.std.specs.Prelude.{ℕ, List, [], ◌++◌, map}
 use Rattle.um_tree.specs.ProgramTree.{RecordTree, ProgramTree}
-use Rattle.um_names.specs.declared.abbreviation.Abbreviation.{Abbreviation}
-use Rattle.um_names.specs.Known.{Known}
+use Rattle.um_measures.specs.declared.abbreviation.Abbreviation.{Abbreviation}
+use Rattle.um_measures.specs.Known.{Known}
 
 -- a record without its fields
 abbrev pub head_of : RecordTree → RecordTree

@@ -1,15 +1,8 @@
-pub mod Faults
-pub mod Stops
-pub mod AbbreviationCode
-pub mod Known
-pub mod UnitNames
 pub mod TypeNames
-pub mod Variables
 pub mod ExprNames
 pub mod Resolution
 pub mod Tables
 pub mod Bodies
-pub mod ClosedUnits
 pub mod Parts
 pub mod Readable
 pub mod Heads

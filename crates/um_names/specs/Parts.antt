@@ -4,11 +4,11 @@ use Rattle.std.specs.Prelude.{ℕ, false, ◌||◌, cond, List, [], ◌∷◌, l
 use Rattle.std.specs.Str.{bytes_eq}
 use Rattle.um_tree.specs.ProgramTree.{FieldTree, ProgramTree}
 use Rattle.um_tree.specs.RawTree.{FieldDeclText, FunctionText, DeclText}
-use Rattle.um_names.specs.declared.abbreviation.Abbreviation.{Abbreviation}
+use Rattle.um_measures.specs.declared.abbreviation.Abbreviation.{Abbreviation}
 use Rattle.um_names.specs.declared.callable.Callable.{Callable}
 use Rattle.um_names.specs.declared.callable.FieldNumber.{FieldNumber}
-use Rattle.um_names.specs.Faults.{unless_taken, Found, and_then}
-use Rattle.um_names.specs.Known.{Known, is_among, field_names}
+use Rattle.um_measures.specs.Faults.{unless_taken, Found, and_then}
+use Rattle.um_measures.specs.Known.{Known, is_among, field_names}
 use Rattle.um_names.specs.TypeNames.{resolved_type, written_type}
 use Rattle.um_names.specs.Resolution.{resolution}
 

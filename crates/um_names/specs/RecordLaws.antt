@@ -4,7 +4,7 @@ use Rattle.std.specs.Prelude.{◌≡◌, ℕ, List, ◌∷◌, slice_get, Some}
 use Rattle.um_tree.specs.Formed.{AreDistinct}
 use Rattle.um_tree.specs.ProgramTree.{RecordTree}
 use Rattle.um_names.specs.ExprNames.{record_of}
-use Rattle.um_names.specs.Known.{names_of_fields, field_names}
+use Rattle.um_measures.specs.Known.{names_of_fields, field_names}
 
 -- the names are, in order, those of all its fields
 abbrev pub RecordHasTheseFields : Type 0

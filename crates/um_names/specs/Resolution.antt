@@ -5,12 +5,13 @@ use Rattle.um_units.specs.PowerMap.{PowerMap}
 use Rattle.um_tree.specs.TypeTree.{NoteTree}
 use Rattle.um_tree.specs.ProgramTree.{FieldTree, RecordTree, FunctionTree}
 use Rattle.um_tree.specs.RawTree.{TypeText, BinderText, VarText, FieldDeclText, ParamText, FunctionText, DeclText, base_text, short_text, record_decl_text, function_text}
-use Rattle.um_names.specs.Faults.{unless_taken, Found, and_then}
-use Rattle.um_names.specs.Known.{Known, nothing, is_among, is_taken, function_names, field_names, measure_unit}
-use Rattle.um_names.specs.UnitNames.{resolved_unit}
+use Rattle.um_measures.specs.Faults.{unless_taken, Found, and_then}
+use Rattle.um_measures.specs.Known.{Known, nothing, is_among, is_taken, function_names, field_names, measure_unit}
+use Rattle.um_measures.specs.UnitNames.{resolved_unit}
 use Rattle.um_names.specs.TypeNames.{resolved_type, written_type}
-use Rattle.um_names.specs.Variables.{named_variables}
-use Rattle.um_names.specs.ExprNames.{Scope, is_repeated, resolved_expr}
+use Rattle.um_measures.specs.Variables.{named_variables}
+use Rattle.um_measures.specs.Scopes.{Scope, is_repeated}
+use Rattle.um_names.specs.ExprNames.{resolved_expr}
 use Rattle.um_names.specs.declared.callable.Callable.{Callable}
 
 -- ---- a record

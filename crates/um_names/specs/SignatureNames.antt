@@ -4,11 +4,11 @@ use Rattle.std.specs.Prelude.{ℕ, false, List, [], ◌∷◌, length, Option, S
 use Rattle.std.specs.List.{flat_map}
 use Rattle.um_tree.specs.TypeTree.{TypeTree}
 use Rattle.um_tree.specs.RawTree.{NoteText, hole_text, unit_note_text, TypeText, bool_text, num_text, record_text, list_type_text, bracket_type_text}
-use Rattle.um_names.specs.Faults.{unknown, hole, Found, and_then, each}
-use Rattle.um_names.specs.Known.{Known, measure_unit}
-use Rattle.um_names.specs.UnitNames.{unknown_in}
+use Rattle.um_measures.specs.Faults.{unknown, hole, Found, and_then, each}
+use Rattle.um_measures.specs.Known.{Known, measure_unit}
+use Rattle.um_measures.specs.UnitNames.{unknown_in}
 use Rattle.um_names.specs.TypeNames.{resolved_record, resolved_type, written_type}
-use Rattle.um_names.specs.Variables.{type_variables, first_occurrences}
+use Rattle.um_measures.specs.Variables.{type_variables, first_occurrences}
 
 -- types, and the number of their unit variables
 pub record SignatureTypes : Type 0 where

@@ -6,10 +6,10 @@ use Rattle.um_names.specs.declared.known.Tables.{Tables}
 use Rattle.um_names.specs.declared.callable.Callable.{Callable}
 use Rattle.um_names.specs.declared.callable.FieldNumber.{FieldNumber}
 use Rattle.std.specs.Str.{bytes_eq}
-use Rattle.um_names.specs.Faults.{Found, unknown, wrong_count}
+use Rattle.um_measures.specs.Faults.{Found, unknown, wrong_count}
 use Rattle.um_names.specs.ExprNames.{field_of}
 use Rattle.um_names.specs.Resolution.{callable}
-use Rattle.um_names.specs.Known.{Known, number_of, short_unit, measure_unit, record_names, function_names}
+use Rattle.um_measures.specs.Known.{Known, number_of, short_unit, measure_unit, record_names, function_names}
 
 -- the declarations that stand in the tables
 abbrev pub known_of : Tables → Known

@@ -7,9 +7,9 @@ use Rattle.um_tree.specs.declared.note.UnitNote.TheVariants as note
 use Rattle.um_tree.specs.TypeTree.{TypeTree, bool_type, num_type, list_type, record_type, NoteTree, bool_note, num_note, list_note, record_note}
 use Rattle.um_tree.specs.ProgramTree.{RecordTree}
 use Rattle.um_tree.specs.RawTree.{NoteText, hole_text, unit_note_text, TypeText, bool_text, num_text, record_text, list_type_text, bracket_type_text}
-use Rattle.um_names.specs.Faults.{unknown, wrong_count, hole, Found, and_then, each}
-use Rattle.um_names.specs.Known.{Known, number_of, record_names, measure_unit}
-use Rattle.um_names.specs.UnitNames.{resolved_unit}
+use Rattle.um_measures.specs.Faults.{unknown, wrong_count, hole, Found, and_then, each}
+use Rattle.um_measures.specs.Known.{Known, number_of, record_names, measure_unit}
+use Rattle.um_measures.specs.UnitNames.{resolved_unit}
 
 -- a record has as many units as are declared
 abbrev pub counted : Option RecordTree → ℕ → ℕ → ℕ → Found ℕ

@@ -2,13 +2,13 @@
 
 ghost use Rattle.std.specs.Prelude.{◌≡◌, false, IfOk};
 ghost use Rattle.um_tree.specs.ProgramTree.{function_tree};
-ghost use Rattle.um_names.specs.Known.{is_taken, is_among, function_names};
+ghost use Rattle.um_measures.specs.Known.{is_taken, is_among, function_names};
 ghost use Rattle.um_names.specs.Resolution.{with_base, with_short, with_function};
 ghost use Rattle.um_names.specs.Tables.{AreTables, known_of};
 
-use crate::abbreviation::Abbreviation;
 use crate::known::Tables;
 use std::alloc::{AllocError, Global};
+use um_measures::Abbreviation;
 use um_tree::{Function, Name};
 use um_units::{Atom, Unit};
 

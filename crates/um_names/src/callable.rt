@@ -1,10 +1,10 @@
 //! What may be called, and fields by number.
 
 ghost use Rattle.std.specs.Prelude.{◌≡◌, ◌==◌, cond, Ok, Err, IfOk, IfErr};
-ghost use Rattle.um_names.specs.Faults.{wrong_count};
-ghost use Rattle.um_names.specs.Stops.{IsFirst};
+ghost use Rattle.um_measures.specs.Faults.{wrong_count};
+ghost use Rattle.um_measures.specs.Stops.{IsFirst};
 
-use crate::stop::NameStop;
+use um_measures::NameStop;
 use um_tree::Name;
 
 /// A function that may be called: its name and the number of its parameters.

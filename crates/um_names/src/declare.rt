@@ -3,10 +3,10 @@
 ghost use Rattle.std.specs.Prelude.{◌≡◌, Ok, IfOk, IfErr, map};
 ghost use Rattle.um_tree.specs.ProgramTree.{record_tree, function_tree};
 ghost use Rattle.um_tree.specs.RawTree.{var_text, field_decl_text, whole_function_text, decl_text, base_text, short_text, unit_text};
-ghost use Rattle.um_names.specs.Known.{is_taken};
+ghost use Rattle.um_measures.specs.Known.{is_taken};
 ghost use Rattle.um_names.specs.Parts.{itself};
 ghost use Rattle.um_names.specs.Resolution.{resolved_record_decl, resolved_function, resolved_decl};
-ghost use Rattle.um_names.specs.Stops.{IsFirst};
+ghost use Rattle.um_measures.specs.Stops.{IsFirst};
 ghost use Rattle.um_names.specs.Tables.{AreTables, known_of, own_callable};
 
 use crate::adding::{copied, with_base, with_function, with_short};
@@ -17,10 +17,8 @@ use crate::known::Tables;
 use crate::parts::{result_note, unit_parameters};
 use crate::records::with_record;
 use crate::signature::{Parameters, params};
-use crate::stop::NameStop;
-use crate::table::NameTable;
-use crate::variables::named_variables;
 use std::alloc::{AllocError, Global};
+use um_measures::{NameStop, NameTable, named_variables};
 use um_tree::{
     FieldDecls, Function, Name, Notes, RawDecl, RawFieldDecl, RawFunction, RawUnit, RawVar, Record,
 };

@@ -3,21 +3,20 @@
 ghost use Rattle.std.specs.Prelude.{◌≡◌, ◌∷◌, ◌++◌, [], Ok, IfOk, IfErr, OnOk, map, length};
 ghost use Rattle.um_tree.specs.ExprTree.{expr_tree, in_order};
 ghost use Rattle.um_tree.specs.RawTree.{written_note, expr_text, exprs_in_order, field_part, fields_in_order};
-ghost use Rattle.um_names.specs.ExprNames.{resolved_literal, resolved_fields, known_fields, same_binding, found_field, field_of, length_of, named, called, local_of};
-ghost use Rattle.um_names.specs.Faults.{unless_taken};
+ghost use Rattle.um_measures.specs.Scopes.{same_binding, local_of};
+ghost use Rattle.um_names.specs.ExprNames.{resolved_literal, resolved_fields, known_fields, found_field, field_of, length_of, named, called};
+ghost use Rattle.um_measures.specs.Faults.{unless_taken};
 ghost use Rattle.um_names.specs.Bodies.{resolved_in, resolved_all_in, resolved_parts_in, callables_of};
-ghost use Rattle.um_names.specs.Stops.{IsFirst};
+ghost use Rattle.um_measures.specs.Stops.{IsFirst};
 ghost use Rattle.um_names.specs.Tables.{AreTables, known_of};
 
 use crate::callable::{Callable, FieldNumber};
 use crate::known::Tables;
-use crate::scope::{Scope, same};
-use crate::stop::NameStop;
-use crate::table::NameTable;
 use crate::types::note;
 use std::alloc::Global;
 use std::boxed::Box;
 use um_frac::Frac;
+use um_measures::{NameStop, NameTable, Scope, same_binding};
 use um_tree::{Binder, Expr, Exprs, Name, Node, RawExpr, RawField, RawNode, RawNote, UnitNote};
 use um_units::Unit;
 
@@ -115,7 +114,7 @@ fn distinct(head: &Binder, tail: &Binder) -> Result<(), NameStop>
     ensures exact { IfOk result (λ done. unless_taken (same_binding head.now.name tail.now.name) tail.now.at ≡ Ok done) }
     ensures faults { IfErr result (IsFirst (unless_taken (same_binding head.now.name tail.now.name) tail.now.at)) }
 {
-    if same(head, tail) {
+    if same_binding(head, tail) {
         return Err(NameStop::Twice { at: tail.at });
     }
     Ok(())

@@ -5,15 +5,14 @@ ghost use Rattle.um_tree.specs.ProgramTree.{field_tree};
 ghost use Rattle.um_tree.specs.RawTree.{field_decl_text};
 ghost use Rattle.um_names.specs.Resolution.{resolved_field_decls};
 ghost use Rattle.um_names.specs.Parts.{resolved_field_decl};
-ghost use Rattle.um_names.specs.Stops.{IsFirst};
+ghost use Rattle.um_measures.specs.Stops.{IsFirst};
 ghost use Rattle.um_names.specs.Tables.{AreTables, known_of};
 
 use crate::adding::copied;
 use crate::known::Tables;
-use crate::stop::NameStop;
-use crate::table::NameTable;
 use crate::types::{note, written};
 use std::alloc::Global;
+use um_measures::{NameStop, NameTable};
 use um_tree::{FieldDecl, RawFieldDecl};
 
 /// A field, whose name is new among all fields and among those of its own record.

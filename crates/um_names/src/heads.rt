@@ -4,14 +4,14 @@ ghost use Rattle.std.specs.Prelude.{◌≡◌, [], IfOk, map};
 ghost use Rattle.um_tree.specs.Formed.{AreDistinct, IsFormed};
 ghost use Rattle.um_tree.specs.ProgramTree.{record_tree, program_tree};
 ghost use Rattle.um_names.specs.Heads.{head_of, only_bases, with_shorts, with_heads, heads};
-ghost use Rattle.um_names.specs.Known.{record_names};
+ghost use Rattle.um_measures.specs.Known.{record_names};
 ghost use Rattle.um_names.specs.Tables.{AreTables, known_of};
 
-use crate::abbreviation::{Abbreviation, Abbreviations};
 use crate::adding::{copied, with_base, with_short};
 use crate::known::Tables;
 use crate::records::with_record;
 use std::alloc::{AllocError, Global};
+use um_measures::{Abbreviation, Abbreviations};
 use um_tree::{FieldDecls, Name, Program, Record};
 
 /// The tables of base units.

@@ -6,21 +6,17 @@ ghost use Rattle.std.specs.Prelude.{is_some, slice_get};
 ghost use Rattle.std.specs.Str.{bytes_eq};
 ghost use Rattle.um_tree.specs.RawTree.{unit_text, field_part};
 ghost use Rattle.um_tree.specs.ProgramTree.{field_tree, record_tree, function_tree};
-ghost use Rattle.um_names.specs.Known.{nothing, is_taken, is_among, measure_unit, function_names, field_names};
-ghost use Rattle.um_names.specs.Stops.{IsFirst};
+ghost use Rattle.um_measures.specs.Known.{nothing, is_taken, is_among, measure_unit, function_names, field_names};
+ghost use Rattle.um_measures.specs.Stops.{IsFirst};
 ghost use Rattle.um_names.specs.Tables.{AreTables, known_of};
-ghost use Rattle.um_names.specs.UnitNames.{unknown_in, resolved_unit};
+ghost use Rattle.um_measures.specs.UnitNames.{unknown_in, resolved_unit};
 ghost use Rattle.um_names.specs.TypeNames.{resolved_record};
 ghost use Rattle.um_names.specs.Tables.{callables_in, own_found};
 ghost use Rattle.um_names.specs.ExprNames.{field_of, callable_of, same_names, if_same_names};
 
-use crate::abbreviation::Abbreviation;
 use crate::callable::{Callable, FieldNumber, counted};
-use crate::measures::Measures;
-use crate::stop::NameStop;
-use crate::table::NameTable;
-use crate::unit::{unit, unknown};
 use std::alloc::{AllocError, Global};
+use um_measures::{Abbreviation, Measures, NameStop, NameTable, first_unknown, resolved_unit};
 use um_tree::{FieldDecl, Function, Name, RawField, RawUnit, Record};
 use um_units::Unit;
 
@@ -68,7 +64,7 @@ impl Tables {
         ensures exact { IfOk result (λ unit. resolved_unit (measure_unit (known_of self.now)) variables.now (unit_text raw.now) ≡ Ok unit) }
         ensures faults { IfErr result (IsFirst (resolved_unit (measure_unit (known_of self.now)) variables.now (unit_text raw.now))) }
     {
-        unit(alloc, &self.measures, variables, raw)
+        resolved_unit(alloc, &self.measures, variables, raw)
     }
 
     /// The place of the first name or variable of a unit text that isn't known.
@@ -76,7 +72,7 @@ impl Tables {
         requires { AreTables self.now }
         ensures { result ≡ unknown_in (measure_unit (known_of self.now)) variables.now (unit_text raw.now) }
     {
-        unknown(&self.measures, variables, raw)
+        first_unknown(&self.measures, variables, raw)
     }
 
     /// The number of the record of this name, which takes so many units.

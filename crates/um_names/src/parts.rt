@@ -4,18 +4,16 @@ ghost use Rattle.std.specs.Prelude.{◌≡◌, ◌∷◌, ◌++◌, [], true, Ok
 ghost use Rattle.um_tree.specs.TypeTree.{note_tree};
 ghost use Rattle.um_tree.specs.ProgramTree.{result_tree};
 ghost use Rattle.um_tree.specs.RawTree.{var_text, binder_text, param_text, type_text, written_type};
-ghost use Rattle.um_names.specs.Faults.{and_then};
+ghost use Rattle.um_measures.specs.Faults.{and_then};
 ghost use Rattle.um_names.specs.TypeNames.{resolved_type};
 ghost use Rattle.um_names.specs.Resolution.{resolved_parameters, unless_repeated, resolved_result};
-ghost use Rattle.um_names.specs.Stops.{IsFirst};
+ghost use Rattle.um_measures.specs.Stops.{IsFirst};
 ghost use Rattle.um_names.specs.Tables.{AreTables, known_of};
 
 use crate::known::Tables;
-use crate::scope::Scope;
-use crate::stop::NameStop;
-use crate::table::NameTable;
 use crate::types::note;
 use std::alloc::Global;
+use um_measures::{NameStop, NameTable, Scope};
 use um_tree::{Note, RawParam, RawType, RawVar};
 
 /// The unit parameters of a record, each once, in the order of their numbers.

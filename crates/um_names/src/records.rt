@@ -2,15 +2,15 @@
 
 ghost use Rattle.std.specs.Prelude.{◌≡◌, ℕ, List, false, IfOk, OnOk, map, length};
 ghost use Rattle.um_tree.specs.ProgramTree.{field_tree, record_tree};
-ghost use Rattle.um_names.specs.Known.{number_of, is_among, record_names};
+ghost use Rattle.um_measures.specs.Known.{number_of, is_among, record_names};
 ghost use Rattle.um_names.specs.Parts.{field_else, field_if, field_at};
 ghost use Rattle.um_names.specs.Resolution.{with_record};
 ghost use Rattle.um_names.specs.Tables.{AreTables, known_of, numbered_field};
 
 use crate::callable::FieldNumber;
 use crate::known::Tables;
-use crate::table::NameTable;
 use std::alloc::{AllocError, Global};
+use um_measures::NameTable;
 use um_tree::{FieldDecl, Record};
 
 /// The fields of all records, by name.

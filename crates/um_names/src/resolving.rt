@@ -7,14 +7,13 @@ ghost use Rattle.um_names.specs.Parts.{resolved_program, resolved_abbreviations}
 ghost use Rattle.um_names.specs.Resolution.{resolution};
 ghost use Rattle.um_tree.specs.Formed.{IsFormed};
 ghost use Rattle.um_names.specs.Readable.{IsReadable};
-ghost use Rattle.um_names.specs.Stops.{IsFirst};
+ghost use Rattle.um_measures.specs.Stops.{IsFirst};
 ghost use Rattle.um_names.specs.Tables.{AreTables, known_of};
 
-use crate::abbreviation::Abbreviations;
 use crate::declare::declare;
 use crate::known::Tables;
-use crate::stop::NameStop;
 use std::alloc::{AllocError, Global};
+use um_measures::{Abbreviations, NameStop};
 use um_tree::{Functions, Names, Program, RawDecl, RawProgram, Records};
 
 /// The tables behind these declarations.

@@ -4,15 +4,13 @@ ghost use Rattle.std.specs.Prelude.{◌≡◌, [], Ok, IfOk, IfErr, map};
 ghost use Rattle.um_tree.specs.TypeTree.{note_tree};
 ghost use Rattle.um_tree.specs.RawTree.{param_text};
 ghost use Rattle.um_names.specs.Resolution.{resolved_params};
-ghost use Rattle.um_names.specs.Stops.{IsFirst};
+ghost use Rattle.um_measures.specs.Stops.{IsFirst};
 ghost use Rattle.um_names.specs.Tables.{AreTables, known_of};
 
 use crate::known::Tables;
 use crate::parts::param;
-use crate::scope::Scope;
-use crate::stop::NameStop;
-use crate::table::NameTable;
 use std::alloc::Global;
+use um_measures::{NameStop, NameTable, Scope};
 use um_tree::{Note, RawParam};
 
 /// The notes of parameters, and the scope of their names.

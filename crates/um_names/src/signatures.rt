@@ -6,19 +6,16 @@ ghost use Rattle.um_tree.specs.Formed.{IsFormed};
 ghost use Rattle.um_tree.specs.ProgramTree.{program_tree};
 ghost use Rattle.um_tree.specs.RawTree.{note_text, written_note, type_text, type_texts};
 ghost use Rattle.um_tree.specs.TypeTree.{type_tree, type_trees};
-ghost use Rattle.um_names.specs.ClosedUnits.{given};
+ghost use Rattle.um_measures.specs.ClosedUnits.{given};
 ghost use Rattle.um_names.specs.SignatureNames.{SignatureTypes, note_names, all_note_names, number_names, type_names, all_type_names, one_type, resolved_types, signature_variables, resolved_signature};
-ghost use Rattle.um_names.specs.Stops.{IsFirst};
+ghost use Rattle.um_measures.specs.Stops.{IsFirst};
 ghost use Rattle.um_names.specs.Tables.{AreTables, known_of};
 
-use crate::abbreviation::Abbreviations;
 use crate::heads::heads;
 use crate::known::Tables;
-use crate::stop::NameStop;
-use crate::table::NameTable;
 use crate::types::{note, written};
-use crate::variables::in_type;
 use std::alloc::{AllocError, Global};
+use um_measures::{Abbreviations, NameStop, NameTable, add_type_variables};
 use um_tree::{Program, RawNote, RawType, RawTypes, Ty, Types};
 
 /// The first fault of what stands between `<` and `>` besides a range.
@@ -78,13 +75,13 @@ fn all_type_names(tables: &Tables, variables: &NameTable, raw: &[RawType]) -> Re
 }
 
 /// The unit variables of type texts, in the order of their numbers.
-#[tactic(auto, using(crate::proofs::Occurrences::both_occur, crate::proofs::Occurrences::occurrences_append))]
+#[tactic(auto, using(um_measures::proofs::Occurrences::both_occur, um_measures::proofs::Occurrences::occurrences_append))]
 fn signature_variables(alloc: Global, raw: &[RawType]) -> Result<NameTable, AllocError>
     ensures { IfOk result (λ names. names ≡ signature_variables (map type_text raw.now)) }
 {
     let mut names = NameTable::new(alloc);
     for ty in raw {
-        in_type(&mut names, alloc, ty)?;
+        add_type_variables(&mut names, alloc, ty)?;
     }
     Ok(names)
 }

@@ -3,15 +3,14 @@
 ghost use Rattle.std.specs.Prelude.{◌≡◌, ℕ, Ok, IfOk, IfErr, map, length};
 ghost use Rattle.um_tree.specs.TypeTree.{note_tree, type_tree};
 ghost use Rattle.um_tree.specs.RawTree.{note_text, written_note, type_text};
-ghost use Rattle.um_names.specs.Stops.{IsFirst};
+ghost use Rattle.um_measures.specs.Stops.{IsFirst};
 ghost use Rattle.um_names.specs.Tables.{AreTables, known_of};
 ghost use Rattle.um_names.specs.TypeNames.{hole_note, resolved_note, resolved_notes, resolved_number, resolved_type, written_unit, written_units, written_type};
 
 use crate::known::Tables;
-use crate::stop::NameStop;
-use crate::table::NameTable;
 use std::alloc::{AllocError, Global};
 use std::boxed::Box;
+use um_measures::{NameStop, NameTable};
 use um_tree::{Note, RawNote, RawType, Ty, UnitNote, UnitNotes};
 use um_units::{Unit, Units};
 

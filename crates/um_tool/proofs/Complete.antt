@@ -15,9 +15,9 @@ use Rattle.um_types.specs.declared.parse.LimitKind.TheVariants as limit
 use Rattle.um_types.specs.declared.parse.ParseStop.{ParseStop}
 use Rattle.um_types.specs.declared.parse.ParseStop.TheVariants as parse_stop
 use Rattle.um_types.specs.UnitStops.{greatest_height}
-use Rattle.um_names.specs.declared.stop.NameStop.{NameStop}
-use Rattle.um_names.specs.declared.stop.NameStop.TheVariants as name_stop
-use Rattle.um_names.specs.Stops.{IsFirst}
+use Rattle.um_measures.specs.declared.stop.NameStop.{NameStop}
+use Rattle.um_measures.specs.declared.stop.NameStop.TheVariants as name_stop
+use Rattle.um_measures.specs.Stops.{IsFirst}
 use Rattle.um_names.specs.Parts.{resolved_program}
 use Rattle.um_shape.specs.declared.stop.ShapeStop.{ShapeStop}
 use Rattle.um_shape.specs.declared.stop.ShapeStop.TheVariants as shape_stop

@@ -13,8 +13,8 @@ use Rattle.um_types.specs.declared.parse.ParseStop.{ParseStop}
 use Rattle.um_tree.specs.RawTree.{DeclText}
 use Rattle.um_tree.specs.ProgramTree.{ProgramTree}
 use Rattle.um_parse.specs.Parsed.{IsRead, Parsed}
-use Rattle.um_names.specs.declared.stop.NameStop.{NameStop}
-use Rattle.um_names.specs.Stops.{IsFirst}
+use Rattle.um_measures.specs.declared.stop.NameStop.{NameStop}
+use Rattle.um_measures.specs.Stops.{IsFirst}
 use Rattle.um_names.specs.Parts.{resolved_program}
 use Rattle.um_shape.specs.declared.stop.ShapeStop.{ShapeStop}
 use Rattle.um_shape.specs.FirstFault.{first_fault}

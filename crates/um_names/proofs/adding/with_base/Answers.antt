@@ -1,8 +1,8 @@
 use Rattle.std.proofs.Common.{◌≡◌, ℕ, List, [], ◌∷◌, ◌++◌, length, sym, ap, ◌∙◌, subst}
 use Rattle.um_units.specs.declared.Atom.TheVariants.{Base}
 use Rattle.um_units.specs.PowerMap.{PowerMap, atom}
-use Rattle.um_names.specs.declared.abbreviation.Abbreviation.{Abbreviation}
-use Rattle.um_names.specs.Known.{number_of, short_unit, base_or}
+use Rattle.um_measures.specs.declared.abbreviation.Abbreviation.{Abbreviation}
+use Rattle.um_measures.specs.Known.{number_of, short_unit, base_or}
 use Rattle.um_names.specs.Tables.{known_of}
 use Rattle.um_names.proofs.Added.{base_added}
 use Rattle.um_names.proofs.adding.with_base.Goals as goal

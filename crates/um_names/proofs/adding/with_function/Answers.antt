@@ -2,7 +2,7 @@ use Rattle.std.proofs.Common.{◌≡◌, ℕ, false, List, [], ◌∷◌, ◌++�
 use Rattle.std.proofs.lemmas.List.{map-append}
 use Rattle.um_tree.specs.declared.program.Function.{Function}
 use Rattle.um_tree.specs.ProgramTree.{FunctionTree, function_tree}
-use Rattle.um_names.specs.Known.{is_among, function_names}
+use Rattle.um_measures.specs.Known.{is_among, function_names}
 use Rattle.um_names.specs.Tables.{known_of}
 use Rattle.um_names.proofs.adding.with_function.Goals as goal
 

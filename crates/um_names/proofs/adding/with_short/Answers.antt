@@ -1,7 +1,7 @@
 use Rattle.std.proofs.Common.{◌≡◌, ℕ, List, [], ◌∷◌, ◌++◌, sym, ap, ◌∙◌, subst}
 use Rattle.um_units.specs.PowerMap.{PowerMap}
-use Rattle.um_names.specs.declared.abbreviation.Abbreviation.{Abbreviation}
-use Rattle.um_names.specs.Known.{number_of, short_unit, base_or}
+use Rattle.um_measures.specs.declared.abbreviation.Abbreviation.{Abbreviation}
+use Rattle.um_measures.specs.Known.{number_of, short_unit, base_or}
 use Rattle.um_names.specs.Tables.{known_of}
 use Rattle.um_names.proofs.Added.{short_added}
 use Rattle.um_names.proofs.adding.with_short.Goals as goal

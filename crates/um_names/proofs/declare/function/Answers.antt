@@ -4,7 +4,7 @@ use Rattle.um_tree.specs.TypeTree.{note_tree}
 use Rattle.um_tree.specs.ExprTree.{expr_tree}
 use Rattle.um_tree.specs.ProgramTree.{result_tree}
 use Rattle.um_tree.specs.RawTree.{param_text, whole_function_text}
-use Rattle.um_names.specs.Known.{is_among, function_names}
+use Rattle.um_measures.specs.Known.{is_among, function_names}
 use Rattle.um_names.specs.Resolution.{resolved_params, scope_of}
 use Rattle.um_names.specs.Tables.{known_of, own_callable}
 use Rattle.um_names.proofs.Wholes.{function_is}

@@ -1,6 +1,6 @@
 use Rattle.std.proofs.Common.{◌≡◌, ℕ, List, true, false, ◌||◌, sym, ap, ◌∙◌}
 use Rattle.std.specs.Prelude.{is_some}
-use Rattle.um_names.specs.Known.{is_among, short_unit, record_names}
+use Rattle.um_measures.specs.Known.{is_among, short_unit, record_names}
 use Rattle.um_names.specs.Tables.{known_of}
 use Rattle.um_names.proofs.Taken.{taken_is}
 use Rattle.um_names.proofs.declare.is_taken.Goals as goal

@@ -1,7 +1,7 @@
 use Rattle.std.proofs.Common.{◌≡◌, false, map, sym, ap, ◌∙◌}
 use Rattle.um_tree.specs.ProgramTree.{field_tree}
 use Rattle.um_tree.specs.RawTree.{var_text, field_decl_text}
-use Rattle.um_names.specs.Known.{is_taken}
+use Rattle.um_measures.specs.Known.{is_taken}
 use Rattle.um_names.specs.Tables.{known_of}
 use Rattle.um_names.proofs.Wholes.{record_is}
 use Rattle.um_names.proofs.declare.record_decl.Goals as goal

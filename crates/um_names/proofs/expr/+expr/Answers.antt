@@ -2,12 +2,12 @@ use Rattle.std.proofs.Common.{map, ap, ◌∙◌, subst, Ok}
 use Rattle.std.proofs.lemmas.Result.{err_from_is_err_and}
 use Rattle.um_tree.specs.ExprTree.{expr_tree, in_order}
 use Rattle.um_tree.specs.RawTree.{FieldPart, expr_text, field_part}
-use Rattle.um_names.specs.Faults.{and_then}
-use Rattle.um_names.specs.Stops.{IsFirst}
+use Rattle.um_measures.specs.Faults.{and_then}
+use Rattle.um_measures.specs.Stops.{IsFirst}
 use Rattle.um_names.specs.Tables.{known_of}
-use Rattle.um_names.specs.ExprNames.{Scope}
+use Rattle.um_measures.specs.Scopes.{Scope}
 use Rattle.um_names.specs.Bodies.{resolved_in, callables_of}
-use Rattle.um_names.proofs.Stages.{stage_stops, stage_ends}
+use Rattle.um_measures.proofs.Stages.{stage_stops, stage_ends}
 use Rattle.um_names.proofs.BodyLists.{exprs_each, parts_each, exprs_first, parts_first}
 use Rattle.um_names.proofs.expr.+expr.Goals as goal
 

@@ -2,7 +2,7 @@ use Rattle.std.proofs.Common.{◌≡◌, map}
 use Rattle.um_tree.specs.ExprTree.{expr_tree}
 use Rattle.um_tree.specs.RawTree.{expr_text, field_part}
 use Rattle.um_names.specs.Bodies.{resolved_in}
-use Rattle.um_names.proofs.Stages.{Stage}
+use Rattle.um_measures.proofs.Stages.{Stage}
 use Rattle.um_names.proofs.expr.+expr.Given as goal
 
 abbrev pub invariant-exprs-loop-i : goal.invariant-exprs-loop-i

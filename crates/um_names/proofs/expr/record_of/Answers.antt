@@ -4,7 +4,7 @@ use Rattle.um_tree.specs.declared.raw.RawNode.{the_lemmas}
 use Rattle.um_tree.specs.RawTree.{field_part}
 use Rattle.um_names.specs.Tables.{known_of}
 use Rattle.um_names.specs.ExprNames.{field_of, found_record}
-use Rattle.um_names.proofs.Stages.{map_from_more}
+use Rattle.um_measures.proofs.Stages.{map_from_more}
 use Rattle.um_names.proofs.FieldNames.{record_text_is, found_number, no_number}
 use Rattle.um_names.proofs.expr.record_of.Goals as goal
 

@@ -4,12 +4,12 @@ use Rattle.std.proofs.lemmas.Result.{err_from_is_err_and}
 use Rattle.um_tree.specs.declared.program.FieldDecl.{FieldDecl}
 use Rattle.um_tree.specs.ProgramTree.{FieldTree, field_tree}
 use Rattle.um_tree.specs.RawTree.{field_decl_text}
-use Rattle.um_names.specs.Stops.{IsFirst}
-use Rattle.um_names.specs.Known.{is_among}
+use Rattle.um_measures.specs.Stops.{IsFirst}
+use Rattle.um_measures.specs.Known.{is_among}
 use Rattle.um_names.specs.Parts.{resolved_field_decl}
 use Rattle.um_names.specs.Resolution.{resolved_field_decls}
 use Rattle.um_names.specs.Tables.{known_of}
-use Rattle.um_names.proofs.Stages.{map_from_more}
+use Rattle.um_measures.proofs.Stages.{map_from_more}
 use Rattle.um_names.proofs.FieldDecls.{names_in, field_next, field_stops, names_next}
 use Rattle.um_names.proofs.fields.field_decls.Goals as goal
 

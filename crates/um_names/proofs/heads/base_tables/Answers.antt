@@ -1,9 +1,9 @@
 use Rattle.std.proofs.Common.{ap, sym, take, ◌∙◌}
-use Rattle.um_names.specs.Known.{Known, is_taken}
+use Rattle.um_measures.specs.Known.{Known, is_taken}
 use Rattle.um_names.specs.Resolution.{with_base}
 use Rattle.um_names.specs.Heads.{only_bases}
 use Rattle.um_names.proofs.HeadNames.{new_among, taken_only}
-use Rattle.um_names.proofs.MeasureLists.{take_next}
+use Rattle.um_measures.proofs.MeasureLists.{take_next}
 use Rattle.um_names.proofs.heads.base_tables.Goals as goal
 
 pub with_base-requires-clause-new : goal.with_base-requires-clause-new

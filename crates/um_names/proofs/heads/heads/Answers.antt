@@ -2,7 +2,7 @@ use Rattle.std.proofs.Common.{List, map, sym, subst}
 use Rattle.um_tree.specs.declared.program.Record.{Record}
 use Rattle.um_tree.specs.Formed.{AreDistinct}
 use Rattle.um_tree.specs.ProgramTree.{record_tree, program_tree}
-use Rattle.um_names.specs.Known.{record_names}
+use Rattle.um_measures.specs.Known.{record_names}
 use Rattle.um_names.proofs.HeadNames.{distinct-back}
 use Rattle.um_names.proofs.heads.heads.Goals as goal
 

@@ -2,12 +2,12 @@ use Rattle.std.proofs.Common.{◌≡◌, ℕ, List, [], ◌∷◌, ◌++◌, map
 use Rattle.std.proofs.lemmas.List.{map-append}
 use Rattle.um_tree.specs.declared.program.Record.{Record}
 use Rattle.um_tree.specs.ProgramTree.{RecordTree, record_tree}
-use Rattle.um_names.specs.Known.{Known, is_among, record_names}
+use Rattle.um_measures.specs.Known.{Known, is_among, record_names}
 use Rattle.um_names.specs.Resolution.{with_record}
 use Rattle.um_names.specs.Heads.{head_of, with_heads}
 use Rattle.um_names.specs.Tables.{known_of}
 use Rattle.um_names.proofs.HeadNames.{head_new, names_of_heads, heads_more}
-use Rattle.um_names.proofs.MeasureLists.{take_next}
+use Rattle.um_measures.proofs.MeasureLists.{take_next}
 use Rattle.um_names.proofs.heads.with_heads.Goals as goal
 
 pub with_record-requires-clause-new : goal.with_record-requires-clause-new

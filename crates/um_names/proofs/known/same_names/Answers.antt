@@ -3,7 +3,7 @@ use Rattle.std.proofs.lemmas.List.{length-map}
 use Rattle.um_tree.specs.ProgramTree.{FieldTree, field_tree}
 use Rattle.um_tree.specs.RawTree.{FieldPart, field_part}
 use Rattle.um_names.specs.ExprNames.{same_names}
-use Rattle.um_names.proofs.Stages.{map_from_more}
+use Rattle.um_measures.proofs.Stages.{map_from_more}
 use Rattle.um_names.proofs.FieldNames.{other_length, same_next, same_stops}
 use Rattle.um_names.proofs.known.same_names.Goals as goal
 

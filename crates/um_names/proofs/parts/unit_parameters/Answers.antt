@@ -1,8 +1,8 @@
 use Rattle.std.proofs.Common.{◌≡◌, ◌+◌, ℕ, List, false, true, [], ◌∷◌, ◌++◌, cond, map, drop, sym, ap, ◌∙◌, subst}
 use Rattle.um_tree.specs.RawTree.{var_text}
-use Rattle.um_names.specs.Known.{is_among}
+use Rattle.um_measures.specs.Known.{is_among}
 use Rattle.um_names.specs.Resolution.{resolved_parameters}
-use Rattle.um_names.proofs.Stages.{map_from_more}
+use Rattle.um_measures.proofs.Stages.{map_from_more}
 use Rattle.um_names.proofs.Declarations.{parameters_next, parameters_stop}
 use Rattle.um_names.proofs.parts.unit_parameters.Goals as goal
 

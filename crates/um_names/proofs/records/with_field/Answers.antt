@@ -1,6 +1,6 @@
 use Rattle.std.proofs.Common.{◌≡◌, ℕ, List, [], ◌∷◌, ◌++◌, true, false, cond, sym, ap, ◌∙◌}
 use Rattle.um_names.specs.declared.callable.FieldNumber.{FieldNumber}
-use Rattle.um_names.specs.Known.{number_of, is_among}
+use Rattle.um_measures.specs.Known.{number_of, is_among}
 use Rattle.um_names.specs.Tables.{numbered_field}
 use Rattle.um_names.proofs.FieldNumbers.{field_added, field_hidden}
 use Rattle.um_names.proofs.records.with_field.Goals as goal

@@ -1,6 +1,6 @@
 use Rattle.std.proofs.Common.{◌≡◌, ◌∙◌, ℕ, List, ap, sym, subst}
 use Rattle.um_tree.specs.declared.program.FieldDecl.{FieldDecl}
-use Rattle.um_names.specs.Known.{number_of}
+use Rattle.um_measures.specs.Known.{number_of}
 use Rattle.um_names.specs.Parts.{field_else, field_if}
 use Rattle.um_names.specs.Tables.{numbered_field}
 use Rattle.um_names.proofs.FieldNumbers.{fields_more, else_none}

@@ -1,5 +1,5 @@
 use Rattle.std.proofs.Common.{◌≡◌, ℕ, List, take, length}
-use Rattle.um_names.specs.Known.{number_of}
+use Rattle.um_measures.specs.Known.{number_of}
 use Rattle.um_names.specs.Parts.{field_else, field_at}
 use Rattle.um_names.specs.Tables.{numbered_field}
 use Rattle.um_names.proofs.FieldNumbers.{decl_names}

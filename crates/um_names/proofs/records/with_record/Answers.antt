@@ -3,7 +3,7 @@ use Rattle.std.proofs.lemmas.List.{map-append, length-map}
 use Rattle.um_tree.specs.declared.program.FieldDecl.{FieldDecl}
 use Rattle.um_tree.specs.declared.program.Record.{Record}
 use Rattle.um_tree.specs.ProgramTree.{RecordTree, field_tree, record_tree}
-use Rattle.um_names.specs.Known.{number_of, is_among, record_names, names_of_fields}
+use Rattle.um_measures.specs.Known.{number_of, is_among, record_names, names_of_fields}
 use Rattle.um_names.specs.ExprNames.{field_of}
 use Rattle.um_names.specs.Parts.{field_else, field_at}
 use Rattle.um_names.specs.Tables.{known_of, numbered_field}

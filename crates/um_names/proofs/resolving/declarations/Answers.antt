@@ -1,10 +1,10 @@
 use Rattle.std.proofs.Common.{◌+◌, map, drop, sym, ap, ◌∙◌}
 use Rattle.std.proofs.lemmas.Result.{err_from_is_err_and}
 use Rattle.um_tree.specs.RawTree.{decl_text}
-use Rattle.um_names.specs.Known.{Known}
+use Rattle.um_measures.specs.Known.{Known}
 use Rattle.um_names.specs.Tables.{known_of}
 use Rattle.um_names.specs.Resolution.{resolution, resolved_decls}
-use Rattle.um_names.proofs.Stages.{map_from_more, map_from-end}
+use Rattle.um_measures.proofs.Stages.{map_from_more, map_from-end}
 use Rattle.um_names.proofs.DeclLoops.{decl_next, decl_stops}
 use Rattle.um_names.proofs.resolving.declarations.Goals as goal
 

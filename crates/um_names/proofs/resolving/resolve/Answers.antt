@@ -2,8 +2,8 @@ use Rattle.std.proofs.Common.{◌≡◌, ℕ, List, map, sym, ap, ◌∙◌, sub
 use Rattle.um_tree.specs.declared.raw.RawDecl.{RawDecl}
 use Rattle.um_tree.specs.ProgramTree.{ProgramTree}
 use Rattle.um_tree.specs.RawTree.{decl_text, program_text}
-use Rattle.um_names.specs.Faults.{Found, and_then}
-use Rattle.um_names.specs.Known.{Known}
+use Rattle.um_measures.specs.Faults.{Found, and_then}
+use Rattle.um_measures.specs.Known.{Known}
 use Rattle.um_names.specs.Parts.{resolved_program}
 use Rattle.um_names.specs.Resolution.{resolution}
 use Rattle.um_names.specs.Tables.{known_of}

@@ -4,7 +4,7 @@ use Rattle.um_tree.specs.RawTree.{type_text}
 use Rattle.um_names.specs.SignatureNames.{type_names, all_type_names}
 use Rattle.um_names.specs.Tables.{known_of}
 use Rattle.um_names.proofs.NameChecks.{check_next, check_stops}
-use Rattle.um_names.proofs.Stages.{map_from_more, map_from-end}
+use Rattle.um_measures.proofs.Stages.{map_from_more, map_from-end}
 use Rattle.um_names.proofs.signatures.all_type_names.Goals as goal
 
 pub loop-text-preserved : goal.loop-text-preserved

@@ -1,7 +1,7 @@
 use Rattle.std.proofs.Common.{◌≡◌, map, drop}
 use Rattle.std.specs.List.{flat_map}
 use Rattle.um_tree.specs.RawTree.{type_text}
-use Rattle.um_names.specs.Variables.{first_occurrences, type_variables}
+use Rattle.um_measures.specs.Variables.{first_occurrences, type_variables}
 use Rattle.um_names.specs.SignatureNames.{signature_variables}
 use Rattle.um_names.proofs.signatures.signature_variables.Given as goal
 

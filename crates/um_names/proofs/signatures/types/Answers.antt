@@ -6,7 +6,7 @@ use Rattle.um_tree.specs.RawTree.{type_text}
 use Rattle.um_tree.specs.TypeTree.{type_tree}
 use Rattle.um_names.specs.SignatureNames.{one_type}
 use Rattle.um_names.specs.Tables.{known_of}
-use Rattle.um_names.proofs.Stages.{stage_first, stage_pushed, stage_stops, stage_ends}
+use Rattle.um_measures.proofs.Stages.{stage_first, stage_pushed, stage_stops, stage_ends}
 use Rattle.um_names.proofs.signatures.types.Goals as goal
 
 pub loop-text-init : goal.loop-text-init

@@ -3,7 +3,7 @@ use Rattle.um_tree.specs.RawTree.{type_text}
 use Rattle.um_tree.specs.TypeTree.{type_tree}
 use Rattle.um_names.specs.SignatureNames.{one_type}
 use Rattle.um_names.specs.Tables.{known_of}
-use Rattle.um_names.proofs.Stages.{Stage}
+use Rattle.um_measures.proofs.Stages.{Stage}
 use Rattle.um_names.proofs.signatures.types.Given as goal
 
 abbrev pub invariant-loop-text : goal.invariant-loop-text

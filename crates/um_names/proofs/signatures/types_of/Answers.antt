@@ -4,11 +4,11 @@ use Rattle.um_tree.specs.declared.raw.RawType.{RawType}
 use Rattle.um_tree.specs.ProgramTree.{program_tree}
 use Rattle.um_tree.specs.RawTree.{type_text, type_texts}
 use Rattle.um_tree.specs.TypeTree.{type_trees}
-use Rattle.um_names.specs.ClosedUnits.{given}
-use Rattle.um_names.specs.Faults.{Found}
-use Rattle.um_names.specs.Known.{Known}
+use Rattle.um_measures.specs.ClosedUnits.{given}
+use Rattle.um_measures.specs.Faults.{Found}
+use Rattle.um_measures.specs.Known.{Known}
 use Rattle.um_names.specs.SignatureNames.{SignatureTypes, resolved_signature}
-use Rattle.um_names.specs.Stops.{IsFirst}
+use Rattle.um_measures.specs.Stops.{IsFirst}
 use Rattle.um_names.specs.Tables.{known_of}
 use Rattle.um_names.proofs.SignatureHeads.{signature_alike}
 use Rattle.um_names.proofs.signatures.types_of.Goals as goal

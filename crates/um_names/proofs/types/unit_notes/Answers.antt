@@ -2,7 +2,7 @@ use Rattle.std.proofs.lemmas.Result.{err_from_is_err_and}
 use Rattle.um_tree.specs.RawTree.{note_text}
 use Rattle.um_names.specs.Tables.{known_of}
 use Rattle.um_names.specs.TypeNames.{resolved_note}
-use Rattle.um_names.proofs.Stages.{stage_first, stage_pushed, stage_stops, stage_ends}
+use Rattle.um_measures.proofs.Stages.{stage_first, stage_pushed, stage_stops, stage_ends}
 use Rattle.um_names.proofs.types.unit_notes.Goals as goal
 
 pub loop-text-init : goal.loop-text-init

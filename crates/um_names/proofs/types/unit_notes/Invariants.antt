@@ -1,7 +1,7 @@
 use Rattle.um_tree.specs.RawTree.{note_text}
 use Rattle.um_names.specs.Tables.{known_of}
 use Rattle.um_names.specs.TypeNames.{resolved_note}
-use Rattle.um_names.proofs.Stages.{Stage}
+use Rattle.um_measures.proofs.Stages.{Stage}
 use Rattle.um_names.proofs.types.unit_notes.Given as goal
 
 abbrev pub invariant-loop-text : goal.invariant-loop-text

@@ -4,11 +4,11 @@ use Rattle.std.proofs.lemmas.Option.{slice_get-map, slice_get_read}
 use Rattle.std.proofs.lemmas.List.{length-map}
 use Rattle.um_tree.specs.TypeTree.{note_tree}
 use Rattle.um_tree.specs.ProgramTree.{function_tree}
-use Rattle.um_names.specs.Faults.{Found, wrong_count}
-use Rattle.um_names.specs.Stops.{IsFirst}
-use Rattle.um_names.specs.Known.{number_of, function_names}
+use Rattle.um_measures.specs.Faults.{Found, wrong_count}
+use Rattle.um_measures.specs.Stops.{IsFirst}
+use Rattle.um_measures.specs.Known.{number_of, function_names}
 use Rattle.um_names.specs.Tables.{known_of, own_found}
-use Rattle.um_names.proofs.NameLists.{number_of-below}
+use Rattle.um_measures.proofs.NameLists.{number_of-below}
 use Rattle.um_names.proofs.CallableNames.{callable_declared, callable_else}
 use Rattle.um_names.proofs.known.Tables.callable.Goals as goal
 

@@ -2,7 +2,7 @@ use Rattle.std.proofs.Common.{◌≡◌, ◌<◌, length, refl, sym, ap, ◌∙�
 use Rattle.std.specs.Prelude.{Some, slice_get}
 use Rattle.std.proofs.lemmas.Option.{slice_get_read}
 use Rattle.um_names.specs.Tables.{numbered_field}
-use Rattle.um_names.proofs.NameLists.{number_of-below}
+use Rattle.um_measures.proofs.NameLists.{number_of-below}
 use Rattle.um_names.proofs.known.Tables.field.Goals as goal
 
 pub index-requires : goal.index-requires

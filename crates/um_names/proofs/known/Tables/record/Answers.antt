@@ -3,11 +3,11 @@ use Rattle.std.specs.Prelude.{Some, slice_get, option_map}
 use Rattle.std.proofs.lemmas.Option.{slice_get-map, slice_get_read}
 use Rattle.std.proofs.lemmas.List.{length-map}
 use Rattle.um_tree.specs.ProgramTree.{record_tree}
-use Rattle.um_names.specs.Known.{number_of, record_names}
+use Rattle.um_measures.specs.Known.{number_of, record_names}
 use Rattle.std.proofs.lemmas.Bool.{eq-eqb, ne_eqb}
-use Rattle.um_names.specs.Faults.{wrong_count}
+use Rattle.um_measures.specs.Faults.{wrong_count}
 use Rattle.um_names.specs.Tables.{known_of}
-use Rattle.um_names.proofs.NameLists.{number_of-below}
+use Rattle.um_measures.proofs.NameLists.{number_of-below}
 use Rattle.um_names.proofs.RecordNames.{record_numbered}
 use Rattle.um_names.proofs.known.Tables.record.Goals as goal
 

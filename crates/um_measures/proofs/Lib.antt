@@ -1,0 +1,8 @@
+pub mod NameLists
+pub mod Firsts
+pub mod Stages
+pub mod Occurrences
+pub mod MeasureLists
+pub mod Scopes
+mod UnitLoops
+mod RunningProducts

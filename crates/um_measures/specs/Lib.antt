@@ -1,0 +1,9 @@
+pub mod Faults
+pub mod Stops
+pub mod AbbreviationCode
+pub mod Known
+pub mod UnitNames
+pub mod RunningPowers
+pub mod Variables
+pub mod ClosedUnits
+pub mod Scopes

@@ -1,0 +1,21 @@
+//! Tables of names: measures, unit variables and the variables of a scope, with the units that unit texts stand for.
+#![tactic(auto)]
+
+mod abbreviation;
+mod closed;
+mod measures;
+mod running;
+mod scope;
+mod stop;
+mod table;
+mod unit;
+mod variables;
+
+pub use abbreviation::{Abbreviation, Abbreviations};
+pub use closed::closed_unit;
+pub use measures::Measures;
+pub use scope::{Scope, same_binding};
+pub use stop::NameStop;
+pub use table::NameTable;
+pub use unit::{first_unknown, resolved_unit};
+pub use variables::{add_type_variables, named_variables};

@@ -1,0 +1,82 @@
+//! What measures stand for.
+
+ghost use Rattle.std.specs.Prelude.{◌≡◌, ◌∷◌, ◌++◌, [], false, is_some, ℕ, List, IfOk, OnOk};
+ghost use Rattle.std.specs.Prelude.{None};
+ghost use Rattle.std.specs.Option.{option_copied};
+ghost use Rattle.um_measures.specs.Known.{short_unit};
+
+use crate::abbreviation::Abbreviation;
+use crate::table::NameTable;
+use std::alloc::{AllocError, Global};
+use std::marker::Model;
+use um_tree::Name;
+use um_units::Unit;
+
+/// The units that measures stand for, in the order of their declaration.
+#[derive(Drop)]
+pub struct Measures {
+    names: NameTable,
+    units: Vec<Abbreviation>,
+}
+
+impl Model for Measures {
+    ghost use Rattle.std.specs.Prelude.{◌≡◌, List};
+    ghost use Rattle.std.specs.Coded.{coded_list};
+    ghost use Rattle.um_measures.specs.declared.abbreviation.Abbreviation.{Abbreviation};
+    ghost use Rattle.um_measures.specs.AbbreviationCode.{abbreviation_code};
+    ghost use Rattle.um_measures.specs.Known.{short_names};
+
+    ghost Value = { List Abbreviation };
+
+    ghost coded = { coded_list abbreviation_code };
+
+    ghost view = { λ measures. measures.units.items };
+
+    ghost invariant = { λ measures. measures.names ≡ short_names measures.units.items };
+}
+
+impl Measures {
+    /// No measures. Takes no memory.
+    pub fn new(alloc: Global) -> Measures
+        ensures { result ≡ [] }
+    {
+        Measures {
+            names: NameTable::new(alloc),
+            units: Vec::new(alloc),
+        }
+    }
+
+    /// Whether a measure has this name, which is looked up in constant time.
+    pub fn has(&self, name: &[u8]) -> bool
+        ensures { result ≡ is_some (short_unit self.now name.now) }
+    {
+        self.names.has(name)
+    }
+
+    /// The unit of the first measure of this name, which is looked up in constant time.
+    pub fn unit(&self, name: &[u8]) -> Option<&Unit>
+        ensures { option_copied result ≡ short_unit self.now name.now }
+    {
+        match self.names.number(name) {
+            Some(k) => Some(&self.units[k as usize].unit),
+            None => None,
+        }
+    }
+
+    /// These measures and behind them one more, which is hidden where its name is known. Fails for want of memory alone.
+    pub fn with(self, alloc: Global, name: &[u8], unit: Unit) -> Result<Measures, AllocError>
+        ensures { IfOk result (λ measures. (x : List ℕ) → short_unit measures x ≡ short_unit (self ++ record { name = name.now; unit = unit } ∷ []) x) }
+    {
+        if self.names.has(name) {
+            return Ok(self);
+        }
+        let Measures {
+            mut names,
+            mut units,
+        } = self;
+        names.add(alloc, name)?;
+        let name = Name::from_vec(Vec::from_slice(alloc, name)?);
+        units.push(Abbreviation { name, unit })?;
+        Ok(Measures { names, units })
+    }
+}

@@ -1,0 +1,73 @@
+//! Names, each once, with the numbers that they have in the order in which they came.
+
+ghost use Rattle.std.specs.Prelude.{◌≡◌, ◌∷◌, ◌++◌, [], cond, IfOk, OnOk, length};
+ghost use Rattle.um_measures.specs.Known.{is_among, number_of};
+
+use indexmap::IndexSet;
+use std::alloc::{AllocError, Global};
+use std::marker::Model;
+
+/// Names, each once, in the order in which they came. A name is found in constant time.
+#[derive(Drop)]
+pub struct NameTable {
+    set: IndexSet<Vec<u8>>,
+}
+
+impl Model for NameTable {
+    ghost use Rattle.std.specs.Prelude.{ℕ, List, ◌≤◌, map, length};
+    ghost use Rattle.std.specs.Coded.{coded_list, coded_ℕ};
+
+    ghost Value = { List (List ℕ) };
+
+    ghost coded = { coded_list (coded_list coded_ℕ) };
+
+    ghost view = { λ names. map (λ name. name.items) names.set.keys };
+
+    ghost invariant = { λ names. length names.set.keys ≤ 4294967295 };
+}
+
+impl NameTable {
+    /// No names. Takes no memory.
+    pub fn new(alloc: Global) -> NameTable
+        ensures { result ≡ [] }
+    {
+        NameTable {
+            set: IndexSet::new(alloc),
+        }
+    }
+
+    /// The number of a name, from 0 on in the order in which they came.
+    pub fn number(&self, name: &[u8]) -> Option<u32>
+        ensures { result ≡ number_of self.now name.now }
+    {
+        match self.set.get_index_of(name) {
+            Some(k) => Some(k as u32),
+            None => None,
+        }
+    }
+
+    /// Whether a name is there.
+    pub fn has(&self, name: &[u8]) -> bool
+        ensures { result ≡ is_among self.now name.now }
+    {
+        self.set.contains(name)
+    }
+
+    /// How many names there are.
+    pub fn count(&self) -> u32
+        ensures { result ≡ length self.now }
+    {
+        self.set.len() as u32
+    }
+
+    /// Adds a name, unless it is there. Fails for want of memory alone, or where there are 2^32 - 1 names.
+    pub fn add(&mut self, alloc: Global, name: &[u8]) -> Result<(), AllocError>
+        ensures { OnOk result (self.new ≡ cond (is_among self.old name.now) self.old (self.old ++ name.now ∷ [])) }
+    {
+        if self.set.len() >= u32::MAX as usize {
+            return Err(AllocError);
+        }
+        self.set.insert(Vec::from_slice(alloc, name)?)?;
+        Ok(())
+    }
+}

@@ -1,0 +1,182 @@
+//! The units of unit texts.
+
+ghost use Rattle.std.specs.Prelude.{◌≡◌, IfOk, IfErr, map};
+ghost use Rattle.um_units.specs.Range.{RangeUnless};
+ghost use Rattle.um_tree.specs.RawTree.{unit_text, units_in_order};
+ghost use Rattle.um_measures.specs.Known.{short_unit};
+ghost use Rattle.um_measures.specs.UnitNames.{first_place, first_of, unknown_in, unknown_among, unit_of, product_of, parts_fit, products_fit, resolved_unit};
+ghost use Rattle.um_measures.specs.Stops.{IsFirst};
+ghost use Rattle.std.specs.Prelude.{Ok};
+ghost use Rattle.um_units.specs.PowerMap.{one};
+ghost use Rattle.um_measures.specs.UnitNames.{unless, or_one, variable_unit};
+
+use crate::measures::Measures;
+use crate::running::RunningProduct;
+use crate::stop::NameStop;
+use crate::table::NameTable;
+use std::alloc::{AllocError, Global};
+use um_tree::{Name, RawUnit};
+use um_units::{Atom, Unit, UnitStop};
+
+/// The place of the first token of a unit text.
+#[cycle(first_place)]
+fn first_place(raw: &RawUnit) -> u32
+    ensures { result ≡ first_place (unit_text raw.now) }
+{
+    match raw {
+        RawUnit::One(at)
+        | RawUnit::Name(at, _)
+        | RawUnit::Var(at, _)
+        | RawUnit::Inverse(at, _)
+        | RawUnit::Bracket(at, _) => *at,
+        RawUnit::Power(u, _) | RawUnit::Times(u, _) | RawUnit::Over(u, _) => first_place(u),
+        RawUnit::Side(units) => first_of(&units.items),
+    }
+}
+
+#[cycle(first_place)]
+fn first_of(units: &[RawUnit]) -> u32
+    ensures { result ≡ first_of (units_in_order (map unit_text units.now)) }
+{
+    if units.is_empty() {
+        0
+    } else {
+        first_place(&units[0])
+    }
+}
+
+/// The place of the first name or variable in the order of a unit text that isn't known: of a measure among these
+/// measures, of a unit variable among these names.
+#[cycle(unknown)]
+pub fn first_unknown(measures: &Measures, variables: &NameTable, raw: &RawUnit) -> Option<u32>
+    ensures { result ≡ unknown_in (short_unit measures.now) variables.now (unit_text raw.now) }
+{
+    match raw {
+        RawUnit::One(_) => None,
+        RawUnit::Name(at, name) => unless(measures.has(name.as_slice()), *at),
+        RawUnit::Var(at, name) => unless(variables.has(name.as_slice()), *at),
+        RawUnit::Power(u, _) | RawUnit::Inverse(_, u) | RawUnit::Bracket(_, u) => {
+            first_unknown(measures, variables, u)
+        }
+        RawUnit::Times(u, v) | RawUnit::Over(u, v) => match first_unknown(measures, variables, u) {
+            Some(at) => Some(at),
+            None => first_unknown(measures, variables, v),
+        },
+        RawUnit::Side(units) => unknown_among(measures, variables, &units.items),
+    }
+}
+
+#[cycle(unknown)]
+fn unknown_among(measures: &Measures, variables: &NameTable, units: &[RawUnit]) -> Option<u32>
+    ensures { result ≡ unknown_among (short_unit measures.now) variables.now (units_in_order (map unit_text units.now)) }
+{
+    for i in 0..units.len() {
+        if let Some(at) = first_unknown(measures, variables, &units[i]) {
+            return Some(at);
+        }
+    }
+    None
+}
+
+fn unless(known: bool, at: u32) -> Option<u32>
+    ensures { result ≡ unless known at }
+{
+    if known { None } else { Some(at) }
+}
+
+/// The unit of a measure; 1 where it isn't known.
+fn measure(alloc: Global, measures: &Measures, name: &Name) -> Result<Unit, AllocError>
+    ensures { IfOk result (λ unit. unit ≡ or_one (short_unit measures.now name.now)) }
+{
+    match measures.unit(name.as_slice()) {
+        Some(unit) => unit.copy(alloc),
+        None => Ok(Unit::one(alloc)),
+    }
+}
+
+/// The unit of a variable; 1 where it isn't known.
+fn variable(alloc: Global, variables: &NameTable, name: &Name) -> Result<Unit, AllocError>
+    ensures { IfOk result (λ unit. unit ≡ or_one (variable_unit variables.now name.now)) }
+{
+    match variables.number(name.as_slice()) {
+        Some(k) => Unit::atom(alloc, Atom::Var(k)),
+        None => Ok(Unit::one(alloc)),
+    }
+}
+
+/// The unit of a text, with a name that isn't known as 1. Range comes exactly where a part is out of range.
+#[cycle(evaluated)]
+fn evaluated(
+    alloc: Global,
+    measures: &Measures,
+    variables: &NameTable,
+    raw: &RawUnit,
+) -> Result<Unit, UnitStop>
+    ensures exact { IfOk result (λ unit. unit ≡ unit_of (short_unit measures.now) variables.now (unit_text raw.now)) }
+    ensures range { RangeUnless result (parts_fit (short_unit measures.now) variables.now (unit_text raw.now)) }
+{
+    match raw {
+        RawUnit::One(_) => Ok(Unit::one(alloc)),
+        RawUnit::Name(_, name) => Ok(measure(alloc, measures, name)?),
+        RawUnit::Var(_, name) => Ok(variable(alloc, variables, name)?),
+        RawUnit::Power(u, k) => evaluated(alloc, measures, variables, u)?.pow(alloc, *k),
+        RawUnit::Side(units) => product(alloc, measures, variables, &units.items),
+        RawUnit::Times(u, v) => {
+            let left = evaluated(alloc, measures, variables, u)?;
+            let right = evaluated(alloc, measures, variables, v)?;
+            left.mul(alloc, &right)
+        }
+        RawUnit::Over(u, v) => {
+            let left = evaluated(alloc, measures, variables, u)?;
+            let right = evaluated(alloc, measures, variables, v)?;
+            left.mul_pow(alloc, &right, -1)
+        }
+        RawUnit::Inverse(_, u) => Ok(evaluated(alloc, measures, variables, u)?.inv(alloc)?),
+        RawUnit::Bracket(_, u) => evaluated(alloc, measures, variables, u),
+    }
+}
+
+/// The product of these, from left to right.
+#[cycle(evaluated)]
+fn product(
+    alloc: Global,
+    measures: &Measures,
+    variables: &NameTable,
+    units: &[RawUnit],
+) -> Result<Unit, UnitStop>
+    ensures exact { IfOk result (λ unit. unit ≡ product_of (short_unit measures.now) variables.now one (units_in_order (map unit_text units.now))) }
+    ensures range { RangeUnless result (products_fit (short_unit measures.now) variables.now one (units_in_order (map unit_text units.now))) }
+{
+    let mut front = RunningProduct::new(alloc);
+    for i in 0..units.len() {
+        let unit = evaluated(alloc, measures, variables, &units[i])?;
+        front = front.times(&unit)?;
+    }
+    Ok(front.to_unit(alloc)?)
+}
+
+/// The unit of a text where these measures and unit variables are known.
+///
+/// A measure stands for its unit, and a unit variable for its number. Unknown comes at the first name or variable that
+/// isn't known. Else Range comes at the text's first token where a part, or a front of a juxtaposition, has a power out
+/// of range. The rule of measures is the F# specification's, Units Of Measure; the range is this project's own.
+pub fn resolved_unit(
+    alloc: Global,
+    measures: &Measures,
+    variables: &NameTable,
+    raw: &RawUnit,
+) -> Result<Unit, NameStop>
+    ensures exact { IfOk result (λ unit. resolved_unit (short_unit measures.now) variables.now (unit_text raw.now) ≡ Ok unit) }
+    ensures faults { IfErr result (IsFirst (resolved_unit (short_unit measures.now) variables.now (unit_text raw.now))) }
+{
+    if let Some(at) = first_unknown(measures, variables, raw) {
+        return Err(NameStop::Unknown { at });
+    }
+    match evaluated(alloc, measures, variables, raw) {
+        Ok(unit) => Ok(unit),
+        Err(UnitStop::Range) => Err(NameStop::Range {
+            at: first_place(raw),
+        }),
+        Err(UnitStop::NoMemory) => Err(NameStop::NoMemory),
+    }
+}
