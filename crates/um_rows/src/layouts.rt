@@ -11,7 +11,7 @@ const VEHICLE_LAYOUT: &[u8] =
 
 #[test]
 fn layouts(rt: HostRuntime) -> Result<(), Fail> {
-    let cases: [Case; 10] = [
+    let cases: [Case; 11] = [
         (b"let  k=2.50<m>//c", "let k = 5r2<m>\n", Status::Done),
         (
             b"let k = (1<m>=2<m>)&&true",
@@ -42,6 +42,11 @@ fn layouts(rt: HostRuntime) -> Result<(), Fail> {
         (
             b"let k=1-2- -3*4/(5+6)",
             "let k = 1 - 2 - -3 * 4 / (5 + 6)\n",
+            Status::Done,
+        ),
+        (
+            b"[<Measure>] type m\n[<Measure>] type A = 1/m^-2 'u\ntype R<[<Measure>] 'u> = { g: num<_>; h: bool list }\nlet rec f (x: num<m>) (_: num<_>) : num<m> = if not (x >= 5r2<m>) && x < 0<_> then -x else f x (3 * x)\nlet f = match ([] : num<m> list) with [] -> { g = 1 } | x :: _ -> let y = x :: [x; (y).g] in y\n",
+            "[<Measure>] type m\n[<Measure>] type A = 1/m^-2 'u\ntype R<[<Measure>] 'u> = { g: num<_>; h: bool list }\nlet rec f (x: num<m>) (_: num<_>) : num<m> = if not (x >= 5r2<m>) && x < 0<_> then -x else f x (3 * x)\nlet f = match ([] : num<m> list) with [] -> { g = 1 } | x :: _ -> let y = x :: [x; (y).g] in y\n",
             Status::Done,
         ),
         (b"", "", Status::Done),

@@ -16,6 +16,8 @@ mod limits;
 #[cfg(test)]
 mod names;
 #[cfg(test)]
+mod numbers;
+#[cfg(test)]
 mod program_trees;
 #[cfg(test)]
 mod programs;

@@ -1,10 +1,9 @@
 -- Pieces that may stand one behind the other, so that each is a token of its own, or white space.
-use Rattle.std.proofs.Common.{◌≡◌, ℕ, ◌<◌, ◌≤◌, Bool, true, false, ◌==◌, ◌||◌, ◌&&◌, not, List, [], ◌∷◌, ◌++◌, length, append_assoc, refl, sym, subst}
+use Rattle.std.proofs.Common.{◌≡◌, ℕ, ◌<◌, ◌≤◌, Bool, true, false, ◌==◌, ◌||◌, ◌&&◌, not, List, [], ◌∷◌, ◌++◌, length, append_assoc, sym, subst}
 use Rattle.std.specs.Prelude.{slice_index_or, pos}
 use Rattle.std.specs.Char.{is_ascii_digit}
 use Rattle.std.specs.Str.{encode_utf8_all, all_scalars}
 use Rattle.unicode_ident.specs.Ident.{is_xid_continue}
-use Rattle.um_frac.specs.declared.number.Frac.{Frac}
 use Rattle.um_frac.specs.Fraction.{numerator}
 use Rattle.um_syntax.specs.Vocabulary.{words, signs, sign_text}
 use Rattle.um_syntax.specs.Lexeme.{IsName, begins, begins_part}

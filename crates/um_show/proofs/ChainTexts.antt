@@ -1,24 +1,22 @@
 -- The text of a chain of pieces has tokens, and they are those of the pieces.
-use Rattle.std.proofs.Common.{◌≡◌, ℕ, zero, suc, ◌+◌, ◌-◌, ◌<◌, Bool, true, false, ◌==◌, ◌||◌, ◌&&◌, eqb, List, [], ◌∷◌, ◌++◌, length, Option, Some, None, refl, sym, ap, ◌∙◌, subst, arith, lit<, length-append}
+use Rattle.std.proofs.Common.{◌≡◌, ℕ, zero, suc, ◌+◌, ◌-◌, ◌<◌, Bool, true, false, ◌==◌, ◌||◌, ◌&&◌, eqb, List, [], ◌∷◌, ◌++◌, length, Option, Some, None, refl, sym, ap, ◌∙◌, arith, lit<, length-append}
 use Rattle.std.proofs.lemmas.Bool.{false≢true, eqb-true}
 use Rattle.std.proofs.lemmas.Bool.Decides.{nat_tests}
 use Rattle.std.proofs.lemmas.Str.{encodes-append, encode_ascii}
 use Rattle.std.specs.List.{slice_get}
-use Rattle.std.specs.Char.{len_utf8}
 use Rattle.std.specs.Str.{all_scalars}
 use lib.Utf8.{encodes}
-use Rattle.unicode_ident.specs.Ident.{is_xid_continue}
 use Rattle.unicode_ident.proofs.IdentLemmas.{is_xid_continue-ascii}
 use Rattle.um_syntax.specs.declared.token.Token.{Token}
 use Rattle.um_syntax.specs.declared.token.Kind.{Kind}
 use Rattle.um_syntax.specs.declared.token.Kind.TheVariants as kind_is
-use Rattle.um_syntax.specs.Gap.{is_space, nothing, closed}
+use Rattle.um_syntax.specs.Gap.{nothing, closed}
 use Rattle.um_syntax.specs.Lexeme.{text_of as lexeme_text, kind_of}
 use Rattle.um_syntax.specs.Lexing.{ends_at, is_glued, is_kind_sign, is_sign, is_power_place, Lexes}
-use Rattle.um_show.specs.Pieces.{Piece, name, variable, number, digits, word, sign, hole, space, line_end, piece_text, text_of}
+use Rattle.um_show.specs.Pieces.{Piece, name, variable, number, digits, word, sign, hole, space, line_end, text_of}
 use Rattle.um_show.proofs.Standing.{IsToken, PieceStands, Stands}
 use Rattle.um_show.proofs.NextToken.{Entry, token_of, next_token, next_blank}
-use Rattle.um_show.proofs.Chain.{Place, fresh, full, raised, lowered, pointed, after, is_second, is_slash, takes_blank, may, Good, Chain, Clear, is_behind, is_raised, is_power}
+use Rattle.um_show.proofs.Chain.{Place, fresh, full, raised, lowered, pointed, after, takes_blank, may, Good, Chain, Clear, is_behind, is_raised, is_power}
 use Rattle.um_show.proofs.SignRoles.{and_no}
 use Rattle.um_show.proofs.Fronts.{scalars_append, blank_front, blank_behind}
 use Rattle.um_show.proofs.Opens.{Opens, is_token, opens}
@@ -82,7 +80,7 @@ last_two (t ∷ ts) token up e =
     let count = length-append (t ∷ ts) (token ∷ []) in
     let index : length ((t ∷ ts) ++ token ∷ []) - 2 ≡ length ts = omega (arith, count) in let last : length (t ∷ ts) - 1 ≡ length ts = omega arith in
     let there : slice_get ((t ∷ ts) ++ token ∷ []) (length ((t ∷ ts) ++ token ∷ []) - 2) ≡ slice_get (t ∷ ts) (length (t ∷ ts) - 1) =
-        ap (slice_get ((t ∷ ts) ++ token ∷ [])) index ∙ within (t ∷ ts) (token ∷ []) (length ts) (omega arith) ∙ ap (slice_get (t ∷ ts)) (sym last) in
+    ap (slice_get ((t ∷ ts) ++ token ∷ [])) index ∙ within (t ∷ ts) (token ∷ []) (length ts) (omega arith) ∙ ap (slice_get (t ∷ ts)) (sym last) in
     ap (λ o. is_kind_sign 13 token.kind && is_sign 16 o) there ∙ ap (λ b. is_kind_sign 13 token.kind && b) e
 
 next_matches : (p : Piece) (s : Place) (before : List Token) (at : ℕ) (token : Token) → Matches s before at

@@ -1,5 +1,5 @@
 -- The layout of a program whose tokens are those of some text is a chain of pieces.
-use Rattle.std.proofs.Common.{◌≡◌, ℕ, Bool, true, false, List, [], ◌∷◌, ◌++◌, Option, Some, None, refl, sym, ap, subst, lit<}
+use Rattle.std.proofs.Common.{Bool, true, false, List, [], ◌∷◌, ◌++◌, Option, Some, None, refl, subst, lit<}
 use Rattle.std.specs.List.{flat_map, join_by}
 use Rattle.um_syntax.specs.declared.token.Token.{Token}
 use Rattle.um_tree.specs.RawTree.{VarText, FieldDeclText, ParamText, FunctionText, TypeText, DeclText, base_text, short_text, record_decl_text, function_text}

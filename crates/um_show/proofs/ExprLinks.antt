@@ -1,5 +1,5 @@
 -- The layout of an expression whose tokens are those of some text is a chain of pieces.
-use Rattle.std.proofs.Common.{◌≡◌, ℕ, ◌<◌, Bool, true, false, List, [], ◌∷◌, ◌++◌, length, Option, Some, None, refl, sym, ap, subst, lit<, ⊎_elim}
+use Rattle.std.proofs.Common.{◌≡◌, ℕ, ◌<◌, Bool, true, false, List, [], ◌∷◌, ◌++◌, length, Option, Some, None, refl, subst, lit<, ⊎_elim}
 use Rattle.um_syntax.specs.declared.token.Token.{Token}
 use Rattle.um_syntax.specs.declared.token.Kind.{Kind}
 use Rattle.um_syntax.specs.Vocabulary.{words}
@@ -11,10 +11,10 @@ use Rattle.um_tree.specs.RawTree.{NoteText, TypeText, BinderText, ExprText, Expr
 use Rattle.um_expr.specs.declared.mark.Infix.{Infix}
 use Rattle.um_expr.specs.declared.mark.Infix.TheVariants as infix_of
 use Rattle.um_expr.specs.ExprTokens.{expr_token}
-use Rattle.um_expr.specs.ExprGrammar.{ends_in_number, bound, BinderSpells, InfixAt, WrittenNote, EmptyArm, FullArm, NilSpells, Spells, AllSpell, ItemsSpell, MoreItems, FieldsSpell, MoreFields, NoteFitsIn, Fits, AreAtoms, AllFit, FieldsFit}
-use Rattle.um_show.specs.Pieces.{Piece, name, word, hole, space, semi, equal, dot, bar, double_bar, double_and, double_colon, arrow, let_word, in_word, if_word, match_word, then_word, else_word, with_word, list_open, list_close, bracket_close, record_close, colon}
-use Rattle.um_show.specs.Layout.{written_pieces, type_pieces, bound_piece, binder_piece, truth_piece, arith_piece, compare_pieces, between, expr_pieces, argument_pieces, item_pieces, more_item_pieces, field_pieces, more_field_pieces}
-use Rattle.um_show.proofs.Chain.{Place, fresh, full, takes_letter, Good, Chain, regroup}
+use Rattle.um_expr.specs.ExprGrammar.{ends_in_number, bound, BinderSpells, InfixAt, WrittenNote, EmptyArm, NilSpells, Spells, AllSpell, ItemsSpell, MoreItems, FieldsSpell, MoreFields, NoteFitsIn, Fits, AreAtoms, AllFit, FieldsFit}
+use Rattle.um_show.specs.Pieces.{Piece, name, word, space, equal, dot, bar, double_bar, double_and, double_colon, arrow, in_word, if_word, match_word, then_word, else_word, with_word, list_open, list_close, bracket_close, record_close}
+use Rattle.um_show.specs.Layout.{written_pieces, type_pieces, bound_piece, binder_piece, truth_piece, arith_piece, compare_pieces, expr_pieces, argument_pieces, item_pieces, more_item_pieces, field_pieces, more_field_pieces}
+use Rattle.um_show.proofs.Chain.{Place, fresh, full, Good, Chain, regroup}
 use Rattle.um_show.proofs.GoodTokens.{AllGood, GoodKind, first_good, name_good, number_good}
 use Rattle.um_show.proofs.UnitLinks.{Linked, linked_all, link}
 use Rattle.um_show.proofs.TypeLinks.{angle_links, type_links}

@@ -1,16 +1,15 @@
 -- What the text of a token begins with, and that a place lets it stand there.
-use Rattle.std.proofs.Common.{◌≡◌, ◌≢◌, ℕ, ◌<◌, ◌≤◌, nat_lt, Bool, true, false, ◌==◌, ◌||◌, ◌&&◌, not, eqb, List, [], ◌∷◌, ◌++◌, length, refl, sym, ap, ◌∙◌, subst, arith, lit<}
+use Rattle.std.proofs.Common.{◌≡◌, ℕ, ◌<◌, nat_lt, Bool, true, false, ◌==◌, ◌||◌, ◌&&◌, not, eqb, List, [], ◌∷◌, ◌++◌, length, refl, sym, ap, ◌∙◌, subst, arith, lit<}
 use Rattle.std.proofs.lemmas.Bool.{false≢true, eqb-true, and_parts, and_from, or_from}
 use Rattle.std.proofs.lemmas.Bool.Decides.{nat_tests}
 use Rattle.std.proofs.lemmas.Str.{encode_ascii}
 use Rattle.std.specs.Char.{is_ascii_digit, is_ascii_alphabetic, is_ascii_alphanumeric}
-use Rattle.std.specs.Str.{encode_utf8_all, all_scalars}
 use lib.Utf8.{scalar, scalars, encodes, low_scalar}
 use Rattle.unicode_ident.specs.Ident.{is_xid_continue}
 use Rattle.unicode_ident.proofs.IdentLemmas.{is_xid_continue-ascii}
 use Rattle.um_syntax.specs.Vocabulary.{words, signs, word_text, sign_text}
 use Rattle.um_syntax.specs.Numeral.{AreDigits, IsDigits, Numeral, Whole, Decimal, Ratio, numeral_text, IsNumeral}
-use Rattle.um_syntax.specs.Lexeme.{starts_name, IsIdentifier, Lexeme, Sign, Number, text_of, IsLexeme, begins, begins_part, NumeralEnds}
+use Rattle.um_syntax.specs.Lexeme.{starts_name, IsIdentifier, Lexeme, Sign, Number, text_of, IsLexeme, begins, NumeralEnds}
 use Rattle.um_syntax.proofs.Reading.{ascii_no_name, digit_no_name}
 use Rattle.um_syntax.proofs.Tables.{are_letters, word_letters}
 use Rattle.um_syntax.proofs.Texts.{head_of}
@@ -164,9 +163,10 @@ kept_apart false false e = refl
 pub sign_front : (s : Place) (k : ℕ) → k < length signs → takes_sign s (sign_text k) ≡ true → (more : List ℕ) → Clear (after_role (role k) s) more → Clear s (sign_text k ++ more)
 sign_front (fresh g d) k h m more clear =
     let some = some_text (Sign k) h in
-    let p = and_parts (not (begins is_second (sign_text k)) || not g) (not (begins is_slash (sign_text k)) || not d) m in
-    (ap (λ b. g && b) (begins_front is_second (sign_text k) more some) ∙ kept_apart (begins is_second (sign_text k)) g p.0,
-     ap (λ b. d && b) (begins_front is_slash (sign_text k) more some) ∙ kept_apart (begins is_slash (sign_text k)) d p.1)
+    let p = and_parts (not (begins is_second (sign_text k)) || not g) (not (begins is_slash (sign_text k)) || not d) m in (
+      ap (λ b. g && b) (begins_front is_second (sign_text k) more some) ∙ kept_apart (begins is_second (sign_text k)) g p.0,
+      ap (λ b. d && b) (begins_front is_slash (sign_text k) more some) ∙ kept_apart (begins is_slash (sign_text k)) d p.1,
+    )
 sign_front full k h m more clear = (sign_begins k h more, part_front (role k) (sign_text k) more full (role_is k h).front clear (some_text (Sign k) h))
 sign_front raised k h m more clear = tt
 sign_front lowered k h m more clear = absurd (false≢true m)

@@ -1,5 +1,5 @@
 -- What the tokens of a text say of their names and numbers.
-use Rattle.std.proofs.Common.{◌≡◌, ◌≢◌, ℕ, zero, suc, ◌≤◌, ◌/◌, ℤ, pos, negsuc, Bool, true, false, cond, nat_le, ◌==◌, ◌||◌, ◌&&◌, List, [], ◌∷◌, ◌++◌, length, Option, Some, None, option_map, bytes_eq, encode_utf8_all, slice_index_or, refl, sym, ap, subst, ◌∙◌, arith}
+use Rattle.std.proofs.Common.{◌≡◌, ℕ, zero, suc, ◌≤◌, ◌/◌, ℤ, pos, negsuc, Bool, true, false, cond, nat_le, ◌==◌, ◌||◌, List, [], ◌∷◌, ◌++◌, Option, Some, None, option_map, bytes_eq, encode_utf8_all, slice_index_or, refl, sym, ap, subst, ◌∙◌, arith}
 use Rattle.std.proofs.lemmas.Bool.{false≢true, and_parts, and_from}
 use Rattle.std.proofs.lemmas.Bool.Decides.{nat_tests}
 use Rattle.std.proofs.lemmas.Option.{cond_some}
@@ -12,7 +12,7 @@ use Rattle.um_frac.proofs.LowestTerms.{fraction-parts, reduced-zero, reduced-sig
 use Rattle.um_syntax.specs.declared.token.Token.{Token}
 use Rattle.um_syntax.specs.declared.token.Kind.{Kind}
 use Rattle.um_syntax.specs.declared.token.Kind.TheVariants as kind
-use Rattle.um_syntax.specs.Numeral.{Numeral, Whole, Decimal, Ratio, numeral_text, numerator_of, denominator_of, digit_count, value_of, number_value}
+use Rattle.um_syntax.specs.Numeral.{Numeral, Whole, Decimal, Ratio, numeral_text, numerator_of, denominator_of, value_of, number_value}
 use Rattle.um_syntax.specs.Lexeme.{Lexeme, Name, Var, Number, Word, Hole, Sign, text_of, IsLexeme, is_whole, kind_of}
 use Rattle.um_syntax.specs.Lexing.{Lexes, HasTokens, is_power_place, body, body_place}
 use Rattle.um_types.specs.UnitTokens.{UnitToken, unit_token, power_from, greatest_power}

@@ -1,5 +1,5 @@
 -- A piece that may stand at a place is the text of a token there.
-use Rattle.std.proofs.Common.{◌≡◌, ℕ, ◌^◌, ◌<◌, ◌≤◌, ℤ, pos, neg_ℤ, ◌≤ℤ◌, Bool, true, false, ◌==◌, ◌||◌, ◌&&◌, nat_le, eqb, List, [], ◌∷◌, ◌++◌, length, Option, Some, None, option_map, refl, sym, ap, ◌∙◌, subst, arith, lit<, bytes_eq, encode_utf8_all, inl}
+use Rattle.std.proofs.Common.{◌≡◌, ℕ, ◌<◌, ◌≤◌, pos, Bool, true, false, ◌||◌, ◌&&◌, nat_le, List, [], ◌∷◌, ◌++◌, length, Some, option_map, refl, sym, ap, ◌∙◌, arith, lit<, bytes_eq, encode_utf8_all, inl}
 use Rattle.std.proofs.lemmas.Bool.{false≢true}
 use Rattle.std.proofs.lemmas.Bool.Decides.{nat_tests}
 use Rattle.std.proofs.lemmas.Int.{ints}
@@ -9,26 +9,25 @@ use Rattle.std.specs.Fmt.{decimal}
 use Rattle.std.specs.Str.{all_scalars}
 use lib.Utf8.{encodes}
 use Rattle.um_frac.specs.declared.number.Frac.{Frac}
-use Rattle.um_frac.specs.Range.{greatest}
-use Rattle.um_frac.specs.Fraction.{numerator, denominator, reduced, fraction}
+use Rattle.um_frac.specs.Fraction.{numerator, reduced}
 use Rattle.um_frac.proofs.Gcd.{gcd-one}
 use Rattle.um_frac.proofs.LowestTerms.{fraction_from}
 use Rattle.um_frac.proofs.Outcomes.{reduced-whole}
 use Rattle.um_syntax.specs.declared.token.Kind.{Kind}
 use Rattle.um_syntax.specs.declared.token.Kind.TheVariants as kind_is
 use Rattle.um_syntax.specs.Vocabulary.{words, signs, word_text, sign_text}
-use Rattle.um_syntax.specs.Numeral.{Numeral, Whole, numeral_text, IsNumeral, ordinary_value, power_value, number_value}
-use Rattle.um_syntax.specs.Lexeme.{IsIdentifier, Lexeme, Name, Var, Number, Word, Hole, Sign, text_of, IsLexeme, begins, Ends, IsAlone, is_whole, kind_of}
+use Rattle.um_syntax.specs.Numeral.{Whole, numeral_text, number_value}
+use Rattle.um_syntax.specs.Lexeme.{Lexeme, Name, Var, Number, Word, Hole, Sign, text_of, IsLexeme, Ends, IsAlone, is_whole, kind_of}
 use Rattle.um_syntax.specs.Lexing.{is_kind_sign}
 use Rattle.um_syntax.proofs.Tables.{word_identifier}
 use Rattle.um_syntax.proofs.Texts.{hole_encoded}
 use Rattle.um_types.specs.UnitTokens.{greatest_power}
 use Rattle.um_show.specs.Pieces.{Piece, name, variable, number, digits, word, sign, hole, space, line_end, piece_text}
-use Rattle.um_show.proofs.Standing.{IsPower, IsKind}
-use Rattle.um_show.proofs.Numbers.{NumeralOf, numeral_of, power_is, decimal_digits}
-use Rattle.um_show.proofs.Chain.{Place, fresh, full, raised, lowered, pointed, role, after_role, after, takes_letter, is_fresh, takes_digit, takes_sign, may, IsGoodName, Good, Clear, is_behind, is_raised, is_power}
-use Rattle.um_show.proofs.SignRoles.{is_raising, is_lowering, role_is, sign_stops, raised_after, power_after, behind_after}
-use Rattle.um_show.proofs.Fronts.{AllLow, low_encoded, low_scalars, numeral_low, word_low, sign_low, letter_front, quote_front, numeral_front, fresh_takes_digit, fresh_no_power, sign_front, numeral_ends}
+use Rattle.um_show.proofs.Standing.{IsKind}
+use Rattle.um_show.proofs.Numbers.{numeral_of, power_is, decimal_digits}
+use Rattle.um_show.proofs.Chain.{Place, full, role, after_role, after, takes_letter, is_fresh, takes_digit, takes_sign, may, IsGoodName, Good, Clear, is_behind, is_raised, is_power}
+use Rattle.um_show.proofs.SignRoles.{role_is, sign_stops, raised_after, power_after, behind_after}
+use Rattle.um_show.proofs.Fronts.{low_encoded, low_scalars, numeral_low, word_low, sign_low, letter_front, quote_front, numeral_front, fresh_takes_digit, fresh_no_power, sign_front, numeral_ends}
 
 -- the token that a piece is, at a place and in front of these characters
 pub record Opens (p : Piece) (s : Place) (more : List ℕ) : Type 0 where

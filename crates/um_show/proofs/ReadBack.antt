@@ -1,17 +1,14 @@
 -- The tokens of the layout of a program are the same program, places aside.
-use Rattle.std.proofs.Common.{◌≡◌, ℕ, ◌<◌, Bool, true, false, cond, ◌==◌, eqb, List, [], ◌∷◌, ◌++◌, get_or, Ok, refl, sym, ap, ◌∙◌, subst, arith, lit<}
+use Rattle.std.proofs.Common.{◌≡◌, ℕ, ◌<◌, Bool, true, false, cond, ◌==◌, List, [], ◌∷◌, get_or, refl, sym, subst, arith, lit<}
 use Rattle.std.proofs.lemmas.Bool.{eqb-true}
 use Rattle.std.proofs.lemmas.Str.{chars_from_encodes, scalars-chars}
 use Rattle.std.specs.Str.{chars, IsUtf8}
 use lib.Utf8.{encodes, encode}
 use Rattle.um_syntax.specs.declared.token.Token.{Token}
-use Rattle.um_syntax.specs.Feeding.{IsTextAnswer}
 use Rattle.um_syntax.specs.Lexeme.{begins}
 use Rattle.um_syntax.specs.Lexing.{Lexes, HasTokens}
 use Rattle.um_tree.specs.RawTree.{DeclText, base_text, short_text, record_decl_text, function_text}
-use Rattle.um_parse.specs.DeclGrammar.{IsProgram}
 use Rattle.um_show.specs.Layout.{program_pieces, layout}
-use Rattle.um_show.specs.Unplaced.{bare_program}
 use Rattle.um_show.specs.Laws.{LayoutIsReadBack}
 use Rattle.um_show.proofs.Chain.{fresh}
 use Rattle.um_show.proofs.ChainTexts.{chain_lexes}

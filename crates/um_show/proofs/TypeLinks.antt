@@ -1,12 +1,12 @@
 -- The layout of a note or of a type text whose tokens are those of some text is a chain of pieces.
-use Rattle.std.proofs.Common.{◌≡◌, ℕ, Bool, true, false, List, [], ◌∷◌, ◌++◌, Option, Some, None, refl, sym, ap, subst, lit<}
+use Rattle.std.proofs.Common.{◌≡◌, Bool, true, false, List, [], ◌∷◌, ◌++◌, Option, Some, None, refl, lit<}
 use Rattle.std.specs.List.{flat_map}
 use Rattle.um_syntax.specs.declared.token.Token.{Token}
 use Rattle.um_tree.specs.RawTree.{NoteText, hole_text, unit_note_text, TypeText, bool_text, num_text, record_text, list_type_text, bracket_type_text}
 use Rattle.um_types.specs.TypeGrammar.{NoteSpells, NotesSpell, AngledSpell, at_most_one, TypeSpells, NoteFits, NotesFit, TypeFits}
 use Rattle.um_show.specs.Pieces.{Piece, space, comma, less, greater, list_word, bracket_close}
 use Rattle.um_show.specs.Layout.{note_pieces, written_pieces, angled_pieces, type_pieces}
-use Rattle.um_show.proofs.Chain.{Place, fresh, full, Chain, joined}
+use Rattle.um_show.proofs.Chain.{fresh, full}
 use Rattle.um_show.proofs.GoodTokens.{AllGood, first_good, type_name_good}
 use Rattle.um_show.proofs.UnitLinks.{Linked, linked_all, link, never, unit_links}
 

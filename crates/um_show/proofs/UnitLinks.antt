@@ -1,13 +1,13 @@
 -- The layout of a unit text whose tokens are those of some text is a chain of pieces.
-use Rattle.std.proofs.Common.{◌≡◌, ℕ, zero, suc, ◌≤◌, ℤ, pos, negsuc, Bool, true, false, not, List, [], ◌∷◌, ◌++◌, Option, Some, refl, sym, ap, ◌∙◌, subst, arith, lit<, ⊎_elim}
+use Rattle.std.proofs.Common.{◌≡◌, ℕ, zero, suc, ◌≤◌, ℤ, pos, Bool, true, false, not, List, [], ◌∷◌, ◌++◌, refl, sym, subst, arith, lit<, ⊎_elim}
 use Rattle.std.specs.Prelude.{neg_ℤ}
 use Rattle.std.proofs.lemmas.Bool.{false≢true}
 use Rattle.um_syntax.specs.declared.token.Token.{Token}
 use Rattle.um_tree.specs.RawTree.{UnitText, UnitTexts, one_text, measure_text, variable_text, power_text, side_text, times_text, over_text, inverse_text, bracket_text, no_units, more_units}
 use Rattle.um_types.specs.UnitGrammar.{Digits, PowerSpells, Spells, AllSpell, Fits, ArePowers, rank}
-use Rattle.um_show.specs.Pieces.{Piece, digits, name, variable, caret, times, over, minus, space, bracket_close}
-use Rattle.um_show.specs.Layout.{power_pieces, unit_pieces, side_pieces, more_side_pieces}
-use Rattle.um_show.proofs.Chain.{Place, fresh, full, raised, lowered, Chain, joined}
+use Rattle.um_show.specs.Pieces.{Piece, caret, times, over, bracket_close}
+use Rattle.um_show.specs.Layout.{power_pieces, unit_pieces, more_side_pieces}
+use Rattle.um_show.proofs.Chain.{Place, fresh, full, raised, Chain, joined}
 use Rattle.um_show.proofs.GoodTokens.{AllGood, first_good, measure_good, unit_variable_good, power_good}
 
 -- the pieces are a chain, and the tokens behind them have good names and numbers

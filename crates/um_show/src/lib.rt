@@ -5,8 +5,6 @@ mod decl;
 mod expr;
 pub mod laws;
 mod number;
-#[cfg(test)]
-mod tests;
 mod text;
 mod types;
 mod unit;
