@@ -1,8 +1,8 @@
 //! Expressions, with the answers of another program that was written from the same rules.
-use um_expr::{ExprReader, ExprStep};
 use std::alloc::{AllocError, Global};
 use std::fmt::Write;
 use std::test::Fail;
+use um_expr::{ExprReader, ExprStep};
 use um_syntax::lex;
 use um_tree::{Arith, RawExpr, RawNode, Sign};
 

@@ -203,11 +203,7 @@ fn measures_in_units(rt: HostRuntime) -> Result<(), Fail> {
             "error 7: declared twice at 2:6\n",
             Status::Names,
         ),
-        (
-            b"[<Measure>] type f\nlet f = 1",
-            "f : num\n",
-            Status::Done,
-        ),
+        (b"[<Measure>] type f\nlet f = 1", "f : num\n", Status::Done),
         (
             b"[<Measure>] type h = h",
             "error 7: unknown name at 1:22\n",
@@ -275,11 +271,7 @@ fn types_and_variables(rt: HostRuntime) -> Result<(), Fail> {
             "error 7: wrong count at 1:22\n",
             Status::Names,
         ),
-        (
-            b"let k = 0<_>",
-            "error 18: not built\n",
-            Status::NotBuilt,
-        ),
+        (b"let k = 0<_>", "error 18: not built\n", Status::NotBuilt),
         (
             b"let f (x: num<'u>) = x",
             "error 18: not built\n",

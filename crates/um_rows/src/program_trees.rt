@@ -1,11 +1,11 @@
 //! Programs, with the answers of another program that was written from the same rules.
 use crate::shown::show_program;
 use crate::texts::repeated;
-use um_parse::{LimitKind, ParseStop, parse};
 use std::alloc::{AllocError, Global};
 use std::fmt::Write;
 use std::process::Abort;
 use std::test::Fail;
+use um_parse::{LimitKind, ParseStop, parse};
 use um_syntax::lex;
 
 // In each line a program, and behind the bar its declarations with their places, or where it is refused.

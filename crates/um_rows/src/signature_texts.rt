@@ -1,15 +1,15 @@
 //! Signature texts, with the answers of another program that was written from the same rules.
 use crate::texts::repeated;
-use um_types::{
-    LimitKind, NoteReader, NoteStep, ParseStop, TypeReader, TypeStep, UnitReader, UnitStep,
-    parse_types,
-};
 use std::alloc::{AllocError, Global};
 use std::fmt::Write;
 use std::str;
 use std::test::Fail;
 use um_syntax::{Token, lex};
 use um_tree::{RawNote, RawType, RawTypes, RawUnit};
+use um_types::{
+    LimitKind, NoteReader, NoteStep, ParseStop, TypeReader, TypeStep, UnitReader, UnitStep,
+    parse_types,
+};
 
 // In each line a text, and behind the bar its types, or where they are refused.
 const SIGNATURES: &str = "\

@@ -170,11 +170,19 @@ fn are_answered(
 {
     for line in SIGNATURES.lines() {
         let (text, want) = line.split_once('¦').unwrap_or(("", "no bar"));
-        assert_eq!(rt; signature(alloc, program, shorts, text)?.as_str(), want, "types of {text}");
+        assert_eq!(rt;
+            signature(alloc, program, shorts, text)?.as_str(),
+            want,
+            "types of {text}"
+        );
     }
     for line in UNITS.lines() {
         let (text, want) = line.split_once('¦').unwrap_or(("", "no bar"));
-        assert_eq!(rt; unit(alloc, program, shorts, text)?.as_str(), want, "unit {text}");
+        assert_eq!(rt;
+            unit(alloc, program, shorts, text)?.as_str(),
+            want,
+            "unit {text}"
+        );
     }
     Ok(())
 }

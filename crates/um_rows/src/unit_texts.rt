@@ -1,11 +1,11 @@
 //! Unit texts, with the trees that they are and the places where they are refused.
-use um_types::{LimitKind, ParseStop, parse_unit};
 use std::alloc::{AllocError, Global};
 use std::fmt::Write;
 use std::str;
 use std::test::Fail;
 use um_syntax::{Token, lex};
 use um_tree::{Name, RawUnit, RawUnits};
+use um_types::{LimitKind, ParseStop, parse_unit};
 
 // In each line a text, and behind the bar its tree as `show` prints it with the number of its stop, or its refusal.
 const UNITS: &str = "\
