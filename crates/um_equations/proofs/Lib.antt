@@ -2,6 +2,10 @@ mod Examples
 pub mod HeldSteps
 pub mod TypesAgainst
 pub mod PutTypes
+pub mod Variables
 mod SoundRules
 pub mod Callees
 pub mod Sound
+mod CompleteRules
+mod Used
+pub mod Complete
