@@ -9,3 +9,5 @@ pub mod Sound
 mod CompleteRules
 mod Used
 pub mod Complete
+mod BelowRules
+pub mod Below

@@ -8,16 +8,14 @@ use Rattle.um_units.proofs.Replacement.{replace_alike}
 use Rattle.um_tree.specs.TypeTree.{TypeTree, bool_type, num_type, list_type, record_type}
 use Rattle.um_tree.specs.ProgramTree.{Signature}
 use Rattle.um_tree.specs.Typing.{put, put_signature}
+use Rattle.um_tree.specs.Laws.{TypeHas}
 use Rattle.um_equations.specs.Steps.{Step, row_at, type_at}
 use Rattle.um_equations.specs.Holes.{Callee, known_by, itself, nobody}
 use Rattle.um_equations.proofs.HeldSteps.{Holds}
 
 -- each variable of the type is below n
 abbrev pub TypeBelow : ℕ → TypeTree → Type 0
-TypeBelow n bool_type = Unit {0}
-TypeBelow n (num_type u) = VariablesBelow n u
-TypeBelow n (list_type t) = TypeBelow n t
-TypeBelow n (record_type r us) = All (VariablesBelow n) us
+TypeBelow n t = TypeHas (VariablesBelow n) t
 
 abbrev pub TypesBelow : ℕ → List TypeTree → Type 0
 TypesBelow n [] = Unit {0}
