@@ -1,6 +1,5 @@
 -- A typing comes from the units that it uses: they make each row 1, and the derived type is the type.
-use Rattle.std.proofs.Common.{◌≡◌, ℕ, ◌+◌, ◌<◌, List, [], ◌∷◌, ◌++◌, map, slice_get, refl, sym, ap, ◌∙◌}
-use Rattle.std.specs.Prelude.{All}
+use Rattle.std.proofs.Common.{◌≡◌, ℕ, ◌+◌, ◌<◌, List, [], ◌∷◌, ◌++◌, map, slice_get, sym, ap, ◌∙◌}
 use Rattle.std.proofs.lemmas.List.{map-append}
 use Rattle.um_frac.specs.declared.number.Frac.{Frac}
 use Rattle.um_units.specs.PowerMap.{PowerMap, replace}
@@ -11,10 +10,9 @@ use Rattle.um_tree.specs.TypeTree.{TypeTree, bool_type, num_type, list_type, rec
 use Rattle.um_tree.specs.ExprTree.{ExprTree, ExprTrees, truth, number, local, call, negate, negation, arith as arith_tree, compare, both, either, if, bind, split, nil, list_text, cons, record_text, field, none, more}
 use Rattle.um_tree.specs.ProgramTree.{RecordTree, Signature}
 use Rattle.um_tree.specs.Typing.{put, put_signature, unit_at, field_types, UnitMatches, UnitsMatch, Matches, LiteralUnit, Typed, AllTyped}
-use Rattle.um_equations.specs.Steps.{Step}
 use Rattle.um_equations.specs.Against.{types_against}
 use Rattle.um_equations.specs.Holes.{unit_holes, units_holes, note_holes, Callee, known_by, itself, nobody, callee_holes, record_holes, expr_holes, exprs_holes}
-use Rattle.um_equations.specs.Rules.{Derived, after, item, asks_zero, number_rule, local_rule, call_rule, negate_rule, negation_rule, truths_rule, arith_rule, compare_rule, if_rule, split_rule, nil_rule, list_rule, cons_rule, record_rule, field_rule}
+use Rattle.um_equations.specs.Rules.{Derived, item, asks_zero, number_rule, call_rule, negate_rule, negation_rule, truths_rule, arith_rule, compare_rule, if_rule, split_rule, list_rule, cons_rule, record_rule, field_rule}
 use Rattle.um_equations.specs.Derivation.{first_units, noted_unit, noted_units, noted_type, offered, derive, derive_all}
 use Rattle.um_equations.proofs.HeldSteps.{Holds, Holds-append}
 use Rattle.um_equations.proofs.TypesAgainst.{rows-types_same}

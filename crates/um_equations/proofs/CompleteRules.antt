@@ -1,5 +1,5 @@
 -- Types that a typing rule relates make the node's rows 1.
-use Rattle.std.proofs.Common.{◌≡◌, ℕ, zero, suc, Bool, true, false, cond, List, [], ◌∷◌, ◌++◌, map, length, pos, Option, Some, None, slice_get, refl, sym, ap, ◌∙◌, subst}
+use Rattle.std.proofs.Common.{◌≡◌, ℕ, zero, suc, Bool, true, cond, List, [], ◌∷◌, ◌++◌, map, length, pos, Option, Some, slice_get, refl, sym, ap, ◌∙◌, subst}
 use Rattle.std.specs.Prelude.{◌==◌}
 use Rattle.std.proofs.lemmas.Bool.{eq-eqb}
 use Rattle.std.proofs.lemmas.List.{length-map}
@@ -15,7 +15,7 @@ use Rattle.um_tree.specs.TypeTree.{TypeTree, bool_type, num_type, list_type, rec
 use Rattle.um_tree.specs.ProgramTree.{RecordTree}
 use Rattle.um_tree.specs.Typing.{put, unit_at, ArithUnit, EachIs, field_types, IsRecordAt}
 use Rattle.um_equations.specs.Steps.{Step}
-use Rattle.um_equations.specs.Against.{never, unit_against, against, types_against, against_each}
+use Rattle.um_equations.specs.Against.{never, against, types_against, against_each}
 use Rattle.um_equations.specs.Rules.{Derived, after, formed, asks_bool, asks_list, item, asks_zero, local_rule, negate_rule, negation_rule, truths_rule, units_rule, arith_rule, compare_rule, if_rule, split_rule, nil_rule, list_rule, cons_rule, record_rule, declared_rule, found_rule, field_rule}
 use Rattle.um_equations.proofs.HeldSteps.{Holds, Holds-append, formed-holds, row-same}
 use Rattle.um_equations.proofs.TypesAgainst.{rows-same, rows-types_same, rows-each_same}

@@ -1,5 +1,5 @@
 -- When units make each row of some steps equal to 1.
-use Rattle.std.proofs.Common.{◌≡◌, ℕ, List, [], ◌∷◌, ◌++◌, pos, refl, sym, ap, ◌∙◌}
+use Rattle.std.proofs.Common.{◌≡◌, ℕ, List, [], ◌∷◌, ◌++◌, pos, sym, ap, ◌∙◌}
 use Rattle.std.proofs.lemmas.List.Elements.{All-cons, All-head, All-tail}
 use Rattle.um_units.specs.declared.Atom.TheVariants.{Base}
 use Rattle.um_units.specs.PowerMap.{PowerMap, one, atom, mul, inv, power_of, replace}
@@ -9,8 +9,7 @@ use Rattle.um_units.proofs.Replacement.{replace-mul, replace-inv, replace-base}
 use Rattle.um_units.proofs.Solutions.{Solves-nil}
 use Rattle.um_tree.specs.TypeTree.{TypeTree}
 use Rattle.um_equations.specs.Steps.{Step, row_at, type_at, row_units}
-use Rattle.um_equations.specs.Against.{unit_against}
-use Rattle.um_equations.specs.Rules.{Derived, after, formed, mismatch}
+use Rattle.um_equations.specs.Rules.{formed, mismatch}
 
 -- the units v make each row equal to 1
 abbrev pub Holds : (ℕ → PowerMap) → List Step → Type 0

@@ -11,3 +11,7 @@ mod Used
 pub mod Complete
 mod BelowRules
 pub mod Below
+pub mod SlotLaws
+pub mod FunctionLaws
+mod VariableLists
+pub mod Solved

@@ -6,13 +6,13 @@ use Rattle.um_units.specs.PowerMap.{PowerMap, replace}
 use Rattle.um_units.proofs.Replacement.{replace-replace}
 use Rattle.um_tree.specs.declared.note.UnitNote.{UnitNote}
 use Rattle.um_tree.specs.declared.note.UnitNote.TheVariants.{Hole, Written}
-use Rattle.um_tree.specs.TypeTree.{TypeTree, bool_type, num_type, list_type, record_type, NoteTree, bool_note, num_note, list_note, record_note}
+use Rattle.um_tree.specs.TypeTree.{TypeTree, bool_type, NoteTree, bool_note, num_note, list_note, record_note}
 use Rattle.um_tree.specs.ExprTree.{ExprTree, ExprTrees, truth, number, local, call, negate, negation, arith as arith_tree, compare, both, either, if, bind, split, nil, list_text, cons, record_text, field, none, more}
 use Rattle.um_tree.specs.ProgramTree.{RecordTree, Signature}
-use Rattle.um_tree.specs.Typing.{put, put_signature, unit_at, field_types, UnitMatches, UnitsMatch, Matches, LiteralUnit, Typed, AllTyped}
+use Rattle.um_tree.specs.Typing.{put, put_signature, UnitMatches, UnitsMatch, Matches, LiteralUnit, Typed, AllTyped}
 use Rattle.um_equations.specs.Against.{types_against}
 use Rattle.um_equations.specs.Holes.{unit_holes, Callee, known_by, itself, nobody, callee_holes, record_holes, expr_holes}
-use Rattle.um_equations.specs.Rules.{Derived, after, item, number_rule, local_rule, call_rule, negate_rule, negation_rule, truths_rule, arith_rule, compare_rule, if_rule, split_rule, nil_rule, list_rule, cons_rule, record_rule, field_rule}
+use Rattle.um_equations.specs.Rules.{Derived, after, item, number_rule, call_rule, negate_rule, negation_rule, truths_rule, arith_rule, compare_rule, if_rule, split_rule, list_rule, cons_rule, record_rule, field_rule}
 use Rattle.um_equations.specs.Derivation.{first_units, noted_unit, noted_units, noted_type, offered, derive, derive_all}
 use Rattle.um_equations.proofs.HeldSteps.{Holds, Holds-front, Holds-back, Holds-formed, mismatch_fails}
 use Rattle.um_equations.proofs.TypesAgainst.{types_same_from_rows}
@@ -125,10 +125,11 @@ module _ (v holes names : ℕ → PowerMap) where
             let d = if_rule at z.type x.type y.type in
             let parts = Holds-front v (z.steps ++ (x.steps ++ y.steps)) d.steps h in
             let arms = Holds-back v z.steps (x.steps ++ y.steps) parts in
-            let s = if_sound v at z.type x.type y.type (Holds-back v (z.steps ++ (x.steps ++ y.steps)) d.steps h) in
-            (subst (Is (map (put v) vars) c) s.0 (sound n vars c (Holds-front v z.steps (x.steps ++ y.steps) parts)),
+            let s = if_sound v at z.type x.type y.type (Holds-back v (z.steps ++ (x.steps ++ y.steps)) d.steps h) in (
+              subst (Is (map (put v) vars) c) s.0 (sound n vars c (Holds-front v z.steps (x.steps ++ y.steps) parts)),
               sound m vars a (Holds-front v x.steps y.steps arms),
-              subst (Is (map (put v) vars) b) (sym s.1) (sound l vars b (Holds-back v x.steps y.steps arms)))
+              subst (Is (map (put v) vars) b) (sym s.1) (sound l vars b (Holds-back v x.steps y.steps arms)),
+            )
         sound n vars (bind at a b) h =
             let m = n + expr_holes records callee a in
             let x = derive holes names records self callee n vars a in
@@ -146,10 +147,12 @@ module _ (v holes names : ℕ → PowerMap) where
             let arms = Holds-back v z.steps (x.steps ++ y.steps) parts in
             let s = split_sound v at z.type x.type y.type (Holds-back v (z.steps ++ (x.steps ++ y.steps)) d.steps h) in
             let t = put v (item z.type) in
-            let full = wider vars (item z.type ∷ z.type ∷ []) b _ (sound k (vars ++ item z.type ∷ z.type ∷ []) b (Holds-back v x.steps y.steps arms)) in
-            (t, subst (Is (map (put v) vars) l) s.0 (sound n vars l (Holds-front v z.steps (x.steps ++ y.steps) parts)),
+            let full = wider vars (item z.type ∷ z.type ∷ []) b _ (sound k (vars ++ item z.type ∷ z.type ∷ []) b (Holds-back v x.steps y.steps arms)) in (
+              t,
+              subst (Is (map (put v) vars) l) s.0 (sound n vars l (Holds-front v z.steps (x.steps ++ y.steps) parts)),
               sound m vars a (Holds-front v x.steps y.steps arms),
-              subst (λ u. Is (map (put v) vars ++ t ∷ u ∷ []) b (put v x.type)) s.0 (subst (Is (map (put v) vars ++ t ∷ put v z.type ∷ []) b) (sym s.1) full))
+              subst (λ u. Is (map (put v) vars ++ t ∷ u ∷ []) b (put v x.type)) s.0 (subst (Is (map (put v) vars ++ t ∷ put v z.type ∷ []) b) (sym s.1) full),
+            )
         sound n vars (nil at m) h =
             let t = noted_type holes names n m in
             let is = nil_sound v at t h in
@@ -172,9 +175,13 @@ module _ (v holes names : ℕ → PowerMap) where
             let us = first_units m (λ k. holes (n + k)) in
             let ds = derive_all holes names records self callee (n + m) vars es in
             let d = record_rule at r us (slice_get records r) ds.types in
-            let s = record_sound v at records r us (slice_get records r) ds.types refl (Holds-back v ds.steps d.steps h) in
-            (map (replace v) us, s.0, record { declared = s.1; units = length-first_units v m (λ k. holes (n + k)) ∙ ap record_holes s.1 },
-              subst (AllAre (map (put v) vars) es) s.2 (all_sound (n + m) vars es (Holds-front v ds.steps d.steps h)), s.3)
+            let s = record_sound v at records r us (slice_get records r) ds.types refl (Holds-back v ds.steps d.steps h) in (
+              map (replace v) us,
+              s.0,
+              record { declared = s.1; units = length-first_units v m (λ k. holes (n + k)) ∙ ap record_holes s.1 },
+              subst (AllAre (map (put v) vars) es) s.2 (all_sound (n + m) vars es (Holds-front v ds.steps d.steps h)),
+              s.3,
+            )
         sound n vars (field at r k a) h =
             let x = derive holes names records self callee n vars a in
             let d = field_rule at r k (slice_get records r) x.type in

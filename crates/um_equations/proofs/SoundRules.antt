@@ -1,5 +1,5 @@
 -- Units that make a node's rows 1 give its types the rule that the typing asks for.
-use Rattle.std.proofs.Common.{◌≡◌, ℕ, zero, suc, Bool, true, false, cond, List, [], ◌∷◌, ◌++◌, map, length, pos, Option, Some, None, slice_get, refl, sym, ap, ◌∙◌, subst}
+use Rattle.std.proofs.Common.{◌≡◌, ℕ, zero, suc, Bool, true, cond, List, [], ◌∷◌, ◌++◌, map, length, pos, Option, Some, None, slice_get, refl, sym, ap, ◌∙◌, subst}
 use Rattle.std.specs.Prelude.{◌==◌}
 use Rattle.std.proofs.lemmas.Bool.{eqb-true}
 use Rattle.std.proofs.lemmas.List.{length-map}
@@ -9,17 +9,15 @@ use Rattle.um_units.specs.Terms.{is_zero}
 use Rattle.um_units.specs.PowerMap.{PowerMap, mul, inv, replace}
 use Rattle.um_units.proofs.Weights.{zero_is}
 use Rattle.um_units.proofs.Replacement.{replace-mul, replace-inv}
-use Rattle.um_tree.specs.declared.note.UnitNote.{UnitNote}
-use Rattle.um_tree.specs.declared.note.UnitNote.TheVariants.{Hole, Written}
+use Rattle.um_tree.specs.declared.note.UnitNote.TheVariants.{Hole}
 use Rattle.um_tree.specs.declared.expression.Arith.{Arith}
 use Rattle.um_tree.specs.declared.expression.Arith.TheVariants.{Add, Sub, Mul, Div}
 use Rattle.um_tree.specs.TypeTree.{TypeTree, bool_type, num_type, list_type, record_type}
 use Rattle.um_tree.specs.ProgramTree.{RecordTree}
 use Rattle.um_tree.specs.Typing.{put, unit_at, ArithUnit, EachIs, field_types, IsRecordAt}
 use Rattle.um_elim.proofs.Cases.{on_test}
-use Rattle.um_equations.specs.Steps.{Step}
-use Rattle.um_equations.specs.Against.{never, unit_against, against, types_against, against_each}
-use Rattle.um_equations.specs.Rules.{formed, asks_bool, asks_list, item, asks_zero, number_rule, local_rule, negate_rule, negation_rule, truths_rule, units_rule, arith_rule, compare_rule, if_rule, split_rule, nil_rule, list_rule, cons_rule, record_rule, declared_rule, found_rule, field_rule}
+use Rattle.um_equations.specs.Against.{never, against, types_against, against_each}
+use Rattle.um_equations.specs.Rules.{asks_bool, asks_list, item, asks_zero, number_rule, local_rule, negate_rule, negation_rule, truths_rule, units_rule, arith_rule, compare_rule, if_rule, split_rule, nil_rule, list_rule, cons_rule, record_rule, declared_rule, found_rule, field_rule}
 use Rattle.um_equations.proofs.HeldSteps.{Holds, Holds-front, Holds-back, Holds-formed, never_solved, mismatch_fails, same_from_row}
 use Rattle.um_equations.proofs.TypesAgainst.{same_from_rows, types_same_from_rows, each_same_from_rows}
 use Rattle.um_equations.proofs.PutTypes.{put-field, put-fields}

@@ -1,5 +1,5 @@
 -- The rows of two types hold exactly where the units make the types equal.
-use Rattle.std.proofs.Common.{◌≡◌, ℕ, true, false, cond, List, [], ◌∷◌, ◌++◌, map, refl, sym, ap, subst}
+use Rattle.std.proofs.Common.{◌≡◌, ℕ, cond, List, [], ◌∷◌, map, refl, sym, ap, subst}
 use Rattle.std.specs.Prelude.{◌==◌}
 use Rattle.std.proofs.lemmas.Bool.{eqb-true, eq-eqb}
 use Rattle.um_units.specs.PowerMap.{PowerMap, replace}
@@ -32,9 +32,9 @@ module _ (v : ℕ → PowerMap) (at : ℕ) where
   same_from_rows (record_type r us) (record_type q ws) h =
       on_test (r == q)
       (λ e.
-        let same : r ≡ q = eqb-true r q e in
-        let units = same_units us ws (subst (λ b. Holds v (cond b (units_against at us ws) (never at))) e h) in
-        λ i. record_type (same i) (units i))
+      let same : r ≡ q = eqb-true r q e in
+      let units = same_units us ws (subst (λ b. Holds v (cond b (units_against at us ws) (never at))) e h) in
+      λ i. record_type (same i) (units i))
       (λ e. let none : Holds v (never at) = subst (λ b. Holds v (cond b (units_against at us ws) (never at))) e h in never_solved v none.0)
   same_from_rows s t h = never_solved v h.0
 

@@ -6,3 +6,5 @@ pub mod Derivation
 pub mod Equations
 pub mod Keys
 pub mod Slots
+pub mod Solutions
+pub mod Laws

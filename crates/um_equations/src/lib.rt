@@ -4,3 +4,5 @@
 //! leaves open is a slot (Kennedy, Programming Languages and Dimensions, 1996, on the inference of units). The order of the
 //! rows and of the slots, and the range of powers, are this project's own.
 #![tactic(auto)]
+
+pub mod laws;

@@ -1,0 +1,14 @@
+//! The laws of equations, as contracts of functions that do nothing. A crate above cites the law that it needs.
+ghost use Rattle.um_equations.specs.Laws.{TypingsAreSolutions, RowsHoldSlots, TypesHoldSlots};
+
+/// The typings of a function are exactly what the joint solutions of its rows give, where the functions before it have their
+/// schemes.
+pub fn typings_are_solutions()
+    ensures { TypingsAreSolutions }
+{}
+
+/// The rows of a function hold its slots alone, and so do its types.
+pub fn slots_of_equations()
+    ensures rows { RowsHoldSlots }
+    ensures types { TypesHoldSlots }
+{}
