@@ -16,7 +16,8 @@ use Rattle.um_equations.specs.Rules.{Derived, item, asks_zero, number_rule, call
 use Rattle.um_equations.specs.Derivation.{first_units, noted_unit, noted_units, noted_type, offered, derive, derive_all}
 use Rattle.um_equations.proofs.HeldSteps.{Holds, Holds-append}
 use Rattle.um_equations.proofs.TypesAgainst.{rows-types_same}
-use Rattle.um_equations.proofs.PutTypes.{put-put, types_put-put, first_units-are}
+use Rattle.um_elim.proofs.RenamedUnits.{put-put, puts-put}
+use Rattle.um_equations.proofs.PutTypes.{first_units-are}
 use Rattle.um_equations.proofs.Variables.{CalleeBelow, put_alike_below, types_put_alike_below}
 use Rattle.um_equations.proofs.CompleteRules.{Gives, after_gives, formed_gives, item_complete, zero_complete, local_complete, negate_complete, negation_complete, truths_complete, arith_complete, compare_complete, if_complete, split_complete, nil_complete, list_complete, cons_complete, record_complete, field_complete}
 use Rattle.um_equations.proofs.Callees.{Offers}
@@ -66,7 +67,7 @@ module _ (v holes names choice : ℕ → PowerMap) (same : (k : ℕ) → replace
         HolesAre n (callee_holes c) (offer_used choice records own callee calls opens c (record { params = ts; result = t }) h) → Gives v (call_rule at (offered holes names records self callee n c) types) t
     call_complete at n (known_by s) types ts t low e h a =
         let agree = λ (k : ℕ) (l : k < s.vars). a k l in
-        let ps = types_put-put (λ k. holes (n + k)) v s.signature.params ∙ types_put_alike_below s.vars (λ k. replace v (holes (n + k))) h.0 agree s.signature.params low.0 in
+        let ps = puts-put (λ k. holes (n + k)) v s.signature.params ∙ types_put_alike_below s.vars (λ k. replace v (holes (n + k))) h.0 agree s.signature.params low.0 in
         let r = put-put (λ k. holes (n + k)) v s.signature.result ∙ put_alike_below s.vars (λ k. replace v (holes (n + k))) h.0 agree s.signature.result low.1 in
         let params : ts ≡ map (put h.0) s.signature.params = ap (λ (g : Signature). g.params) h.1 in
         let result : t ≡ put h.0 s.signature.result = ap (λ (g : Signature). g.result) h.1 in

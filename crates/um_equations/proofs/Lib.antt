@@ -15,3 +15,6 @@ pub mod SlotLaws
 pub mod FunctionLaws
 mod VariableLists
 pub mod Solved
+pub mod SolvingLaws
+pub mod NumberedSchemes
+pub mod JudgementLaws

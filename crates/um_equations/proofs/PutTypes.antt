@@ -1,35 +1,16 @@
 -- Units put into types: one replacement after another, and into the fields of a record.
-use Rattle.std.proofs.Common.{◌≡◌, ℕ, zero, suc, ◌<◌, List, [], ◌∷◌, map, length, Some, slice_get, refl, ap, ◌∙◌, arith}
+use Rattle.std.proofs.Common.{◌≡◌, ℕ, zero, suc, ◌<◌, List, [], ◌∷◌, map, length, refl, ap, ◌∙◌, arith}
 use Rattle.um_units.specs.PowerMap.{PowerMap, replace}
-use Rattle.um_units.proofs.Replacement.{replace-one, replace-replace}
-use Rattle.um_tree.specs.TypeTree.{TypeTree, bool_type, num_type, list_type, record_type}
+use Rattle.um_units.proofs.Replacement.{replace-one}
+use Rattle.um_tree.specs.TypeTree.{TypeTree}
 use Rattle.um_tree.specs.ProgramTree.{Signature}
 use Rattle.um_tree.specs.Typing.{put, put_signature, unit_at}
+use Rattle.um_elim.proofs.RenamedUnits.{put-put, puts-put}
 use Rattle.um_equations.specs.Derivation.{first_units}
 
 -- ---- one replacement after another
-pub units_put-put : (s t : ℕ → PowerMap) (us : List PowerMap) → map (replace t) (map (replace s) us) ≡ map (replace (λ k. replace t (s k))) us
-units_put-put s t [] = refl
-units_put-put s t (u ∷ us) = λ i. replace-replace s t u i ∷ units_put-put s t us i
-
-pub put-put : (s t : ℕ → PowerMap) (type : TypeTree) → put t (put s type) ≡ put (λ k. replace t (s k)) type
-put-put s t bool_type = refl
-put-put s t (num_type u) = ap num_type (replace-replace s t u)
-put-put s t (list_type type) = ap list_type (put-put s t type)
-put-put s t (record_type r us) = ap (record_type r) (units_put-put s t us)
-
-pub types_put-put : (s t : ℕ → PowerMap) (types : List TypeTree) → map (put t) (map (put s) types) ≡ map (put (λ k. replace t (s k))) types
-types_put-put s t [] = refl
-types_put-put s t (type ∷ types) = λ i. put-put s t type i ∷ types_put-put s t types i
-
 pub signature_put-put : (s t : ℕ → PowerMap) (g : Signature) → put_signature t (put_signature s g) ≡ put_signature (λ k. replace t (s k)) g
-signature_put-put s t g = λ i. record { params = types_put-put s t g.params i; result = put-put s t g.result i }
-
--- ---- what stands in a mapped list comes from the list
-pub found_before : {A B : Type 0} (f : A → B) (xs : List A) (k : ℕ) (y : B) → slice_get (map f xs) k ≡ Some y → (x : A) × (slice_get xs k ≡ Some x) × (f x ≡ y)
-found_before f [] k y e = absurd (cc e)
-found_before f (x ∷ xs) zero y e = let same : f x ≡ y = cc e in (x, refl, same)
-found_before f (x ∷ xs) (suc k) y e = found_before f xs k y e
+signature_put-put s t g = λ i. record { params = puts-put s t g.params i; result = put-put s t g.result i }
 
 -- ---- the units of a record in the types of its fields
 unit_at-map : (v : ℕ → PowerMap) (us : List PowerMap) (k : ℕ) → replace v (unit_at us k) ≡ unit_at (map (replace v) us) k
@@ -41,7 +22,7 @@ pub put-field : (v : ℕ → PowerMap) (us : List PowerMap) (t : TypeTree) → p
 put-field v us t = put-put (unit_at us) v t ∙ ap (λ s. put s t) (λ i k. unit_at-map v us k i)
 
 pub put-fields : (v : ℕ → PowerMap) (us : List PowerMap) (ts : List TypeTree) → map (put v) (map (put (unit_at us)) ts) ≡ map (put (unit_at (map (replace v) us))) ts
-put-fields v us ts = types_put-put (unit_at us) v ts ∙ ap (λ s. map (put s) ts) (λ i k. unit_at-map v us k i)
+put-fields v us ts = puts-put (unit_at us) v ts ∙ ap (λ s. map (put s) ts) (λ i k. unit_at-map v us k i)
 
 -- ---- the first m units
 pub length-first_units : (v : ℕ → PowerMap) (m : ℕ) (f : ℕ → PowerMap) → length (map (replace v) (first_units m f)) ≡ m

@@ -16,7 +16,8 @@ use Rattle.um_equations.specs.Rules.{Derived, after, item, number_rule, call_rul
 use Rattle.um_equations.specs.Derivation.{first_units, noted_unit, noted_units, noted_type, offered, derive, derive_all}
 use Rattle.um_equations.proofs.HeldSteps.{Holds, Holds-front, Holds-back, Holds-formed, mismatch_fails}
 use Rattle.um_equations.proofs.TypesAgainst.{types_same_from_rows}
-use Rattle.um_equations.proofs.PutTypes.{put-put, types_put-put, length-first_units}
+use Rattle.um_elim.proofs.RenamedUnits.{put-put, puts-put}
+use Rattle.um_equations.proofs.PutTypes.{length-first_units}
 use Rattle.um_equations.proofs.SoundRules.{zero_sound, local_sound, negate_sound, negation_sound, truths_sound, arith_sound, compare_sound, if_sound, split_sound, nil_sound, list_sound, cons_sound, record_sound, field_sound}
 use Rattle.um_equations.proofs.Callees.{Offers}
 
@@ -48,7 +49,7 @@ module _ (v holes names : ℕ → PowerMap) where
     call_sound at n (known_by s) ts h =
         let params = map (put (λ k. holes (n + k))) s.signature.params in
         let result = put (λ k. holes (n + k)) s.signature.result in
-        let ps = sym (types_same_from_rows v at params ts (Holds-formed v at (types_against at params ts) result h)) ∙ types_put-put (λ k. holes (n + k)) v s.signature.params in
+        let ps = sym (types_same_from_rows v at params ts (Holds-formed v at (types_against at params ts) result h)) ∙ puts-put (λ k. holes (n + k)) v s.signature.params in
         let r = put-put (λ k. holes (n + k)) v s.signature.result in
         ((λ k. replace v (holes (n + k))), λ i. record { params = ps i; result = r i })
     call_sound at n itself ts h =

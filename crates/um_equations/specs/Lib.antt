@@ -7,4 +7,6 @@ pub mod Equations
 pub mod Keys
 pub mod Slots
 pub mod Solutions
+pub mod FirstUnsolvable
+pub mod Judgement
 pub mod Laws

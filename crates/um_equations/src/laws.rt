@@ -1,5 +1,11 @@
 //! The laws of equations, as contracts of functions that do nothing. A crate above cites the law that it needs.
-ghost use Rattle.um_equations.specs.Laws.{TypingsAreSolutions, RowsHoldSlots, TypesHoldSlots};
+ghost use Rattle.um_equations.specs.Laws.{
+  TypingsAreSolutions,
+  RowsHoldSlots,
+  TypesHoldSlots,
+  JudgedSchemesArePrincipal,
+  JudgedUntypedHaveNone,
+};
 
 /// The typings of a function are exactly what the joint solutions of its rows give, where the functions before it have their
 /// schemes.
@@ -11,4 +17,11 @@ pub fn typings_are_solutions()
 pub fn slots_of_equations()
     ensures rows { RowsHoldSlots }
     ensures types { TypesHoldSlots }
+{}
+
+/// The scheme that a function is judged to have is numbered, and its instances are exactly the function's typings. A function
+/// that is judged to have no typing has none, and the place is that of its first unsolvable row.
+pub fn judgements()
+    ensures schemes { JudgedSchemesArePrincipal }
+    ensures refusals { JudgedUntypedHaveNone }
 {}
