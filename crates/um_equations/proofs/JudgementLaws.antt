@@ -119,7 +119,7 @@ numbered_range : (o : Option ℕ) (at : ℕ) (g : Signature) (r : Solving) (s : 
 numbered_range None at g r s h = numbered_solving at g r s h
 numbered_range (Some k) at g r s h = absurd (cc h)
 
-judged_numbered : (records : List RecordTree) (schemes : List SchemeTree) (i : ℕ) (f : FunctionTree) (s : SchemeTree) → judge records schemes i f ≡ has_scheme s → IsNumberedScheme s
+pub judged_numbered : (records : List RecordTree) (schemes : List SchemeTree) (i : ℕ) (f : FunctionTree) (s : SchemeTree) → judge records schemes i f ≡ has_scheme s → IsNumberedScheme s
 judged_numbered records schemes i f s =
     let n = slot_count records schemes i f in
     let steps = (slot_equations records schemes i f).steps in

@@ -18,3 +18,5 @@ pub mod Solved
 pub mod SolvingLaws
 pub mod NumberedSchemes
 pub mod JudgementLaws
+mod InputTexts
+pub mod CallLaws

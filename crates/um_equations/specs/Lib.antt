@@ -9,4 +9,5 @@ pub mod Slots
 pub mod Solutions
 pub mod FirstUnsolvable
 pub mod Judgement
+pub mod CallEquations
 pub mod Laws

@@ -5,6 +5,9 @@ ghost use Rattle.um_equations.specs.Laws.{
   TypesHoldSlots,
   JudgedSchemesArePrincipal,
   JudgedUntypedHaveNone,
+  CallResultsAreSolutions,
+  JudgedCallsHaveTheirType,
+  JudgedUntypedCallsHaveNone,
 };
 
 /// The typings of a function are exactly what the joint solutions of its rows give, where the functions before it have their
@@ -24,4 +27,12 @@ pub fn slots_of_equations()
 pub fn judgements()
     ensures schemes { JudgedSchemesArePrincipal }
     ensures refusals { JudgedUntypedHaveNone }
+{}
+
+/// The results of a call are exactly what the joint solutions of its rows give. The type that a call is judged to have is a
+/// type of the call, and a call that is judged to have none has no result.
+pub fn calls()
+    ensures results { CallResultsAreSolutions }
+    ensures types { JudgedCallsHaveTheirType }
+    ensures refusals { JudgedUntypedCallsHaveNone }
 {}
