@@ -13,6 +13,9 @@ use Rattle.um_tree.specs.ProgramTree.{RecordTree, FunctionTree, SchemeTree}
 use Rattle.um_tree.proofs.ExamplePrograms.{zero_number, one_number, plain, rec_function, marked}
 use Rattle.um_equations.specs.Steps.{Step, row_at, type_at, first_past}
 use Rattle.um_equations.specs.Slots.{slot_count, slot_equations}
+use Rattle.um_equations.specs.Judgement.{Judgement, has_scheme, too_many_slots, passes_range, has_no_typing, judge}
+use Rattle.um_equations.specs.CallEquations.{call_function}
+use Rattle.um_tree.specs.ValueTree.{InputTree, InputTrees, number_input, list_input, no_inputs, more_inputs}
 
 abbrev term : Atom → ℤ → Term
 term x k = record { atom = x; power = k }
@@ -151,3 +154,60 @@ first_equations = refl
 empty_equations : summary [] [] 0 (plain [] (nil 1 (list_note (num_note Hole)))) ≡ record { slots = 1; rows = []; params = []; result = list (num (own 0)) }
 unfolding product
 empty_equations = refl
+
+-- ---- judgements
+data ShownJudgement : Type 0 where
+  scheme : List Shown → Shown → ℕ → ShownJudgement
+  slots : ShownJudgement
+  range : ℕ → ShownJudgement
+  units : ℕ → ShownJudgement
+
+abbrev shown_judgement : Judgement → ShownJudgement
+shown_judgement (has_scheme s) = scheme (map shown s.signature.params) (shown s.signature.result) s.vars
+shown_judgement too_many_slots = slots
+shown_judgement (passes_range at) = range at
+shown_judgement (has_no_typing at) = units at
+
+-- num</'a^3> -> num</'a^2> -> bool
+squares_under_cubes_judged : shown_judgement (judge [] [] 0 squares_under_cubes) ≡ scheme (num (term (Var 0) (negsuc 2) ∷ []) ∷ num (term (Var 0) (negsuc 1) ∷ []) ∷ []) bool 1
+unfolding product
+squares_under_cubes_judged = refl
+
+-- num<'a> list -> num<'a>
+sum_judged : shown_judgement (judge [] [] 0 sum) ≡ scheme (list (num (own 0)) ∷ []) (num (own 0)) 1
+unfolding product
+sum_judged = refl
+
+-- let h (x: num<_>) = x * x < 1<m^3>: no half powers
+half_powers_judged : shown_judgement (judge [] [] 0 (plain (num_note Hole ∷ []) (compare 4 Lt (arith_tree 2 Mul (local 1 0) (local 3 0)) (number 5 one_number (Written (product (term (Base 0) (pos 3) ∷ []))))))) ≡ units 4
+unfolding product
+half_powers_judged = refl
+
+past_the_range_judged : shown_judgement (judge [] [] 0 past_the_range) ≡ range 2
+unfolding product
+past_the_range_judged = refl
+
+-- ---- calls of sum, whose scheme is num<'a> list -> num<'a>
+abbrev sum_scheme : SchemeTree
+sum_scheme = record { signature = record { params = list_type (num_type (atom (Var 0))) ∷ []; result = num_type (atom (Var 0)) }; vars = 1 }
+
+abbrev call_of_sum : InputTrees → ShownJudgement
+call_of_sum is = shown_judgement (judge [] (sum_scheme ∷ []) 1 (call_function [] 0 sum (more_inputs (list_input is) no_inputs)))
+
+abbrev one_of : ℕ → InputTree
+one_of k = number_input one_number (Written (atom (Base k)))
+
+-- sum [1<m>; 1<m>]
+metres_summed : call_of_sum (more_inputs (one_of 0) (more_inputs (one_of 0) no_inputs)) ≡ scheme [] (num (term (Base 0) (pos 1) ∷ [])) 0
+unfolding product
+metres_summed = refl
+
+-- sum [1<m>; 1<s>]
+metres_and_seconds : call_of_sum (more_inputs (one_of 0) (more_inputs (one_of 1) no_inputs)) ≡ units 0
+unfolding product
+metres_and_seconds = refl
+
+-- sum []: the unit stays open
+nothing_summed : call_of_sum no_inputs ≡ scheme [] (num (own 0)) 1
+unfolding product
+nothing_summed = refl
