@@ -1,0 +1,22 @@
+mod Examples
+pub mod HeldSteps
+pub mod TypesAgainst
+pub mod PutTypes
+pub mod Variables
+mod SoundRules
+pub mod Callees
+pub mod Sound
+mod CompleteRules
+mod Used
+pub mod Complete
+mod BelowRules
+pub mod Below
+pub mod SlotLaws
+pub mod FunctionLaws
+mod VariableLists
+pub mod Solved
+pub mod SolvingLaws
+pub mod NumberedSchemes
+pub mod JudgementLaws
+mod InputTexts
+pub mod CallLaws

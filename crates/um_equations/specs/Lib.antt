@@ -1,0 +1,13 @@
+pub mod Steps
+pub mod Against
+pub mod Holes
+pub mod Rules
+pub mod Derivation
+pub mod Equations
+pub mod Keys
+pub mod Slots
+pub mod Solutions
+pub mod FirstUnsolvable
+pub mod Judgement
+pub mod CallEquations
+pub mod Laws
