@@ -145,7 +145,11 @@ fn unit(
     let Ok(tokens) = lex(alloc, text) else {
         return String::from_str(alloc, "no tokens");
     };
-    let Ok((raw, _)) = parse_unit(alloc, tokens.as_slice(), 0, text.len() as u32) else {
+    let tokens = tokens.as_slice();
+    if tokens.len() > text.len() {
+        return String::from_str(alloc, "too many tokens");
+    }
+    let Ok((raw, _)) = parse_unit(alloc, tokens, 0, text.len() as u32) else {
         return String::from_str(alloc, "no unit");
     };
     match closed_unit(alloc, program, shorts, &raw) {
