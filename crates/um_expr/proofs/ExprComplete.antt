@@ -6,7 +6,7 @@ use Rattle.um_syntax.specs.declared.token.Token.{Token}
 use Rattle.um_syntax.specs.declared.token.Kind.{Kind}
 use Rattle.um_tree.specs.declared.expression.Sign.{Sign}
 use Rattle.um_tree.specs.declared.expression.Sign.TheVariants as compare
-use Rattle.um_tree.specs.RawTree.{NoteText, BinderText, ExprText, number_text}
+use Rattle.um_tree.specs.RawTree.{NoteSyntax, BinderSyntax, ExprSyntax, number_syntax}
 use Rattle.um_types.specs.NoteMachine.{NeedNote}
 use Rattle.um_types.proofs.NoteComplete.{note_into}
 use Rattle.um_expr.specs.declared.mark.Infix.{Infix}
@@ -20,10 +20,10 @@ use Rattle.um_expr.proofs.ExprLeads.{Leads, leads_here, leads_then, leads_at, le
 use Rattle.um_expr.proofs.ExprFirsts.{is_no_equal, first_no_equal, greater_alike}
 
 -- the state once an expression was read inside frames
-abbrev pub into : List Frame → ExprText → State
+abbrev pub into : List Frame → ExprSyntax → State
 into frames t = Have (opened frames t) (last_atom t)
 
-pub atom_into : (frames : List Frame) (t : ExprText) → rank t ≡ 0 → into frames t ≡ Have frames t
+pub atom_into : (frames : List Frame) (t : ExprSyntax) → rank t ≡ 0 → into frames t ≡ Have frames t
 atom_into frames t low = ap (λ fs. Have fs (last_atom t)) (atom_opened t frames low) ∙ ap (Have frames) (atom_last t low)
 
 pub may : (frames : List Frame) (rank : ℕ) (st : State) → rank < top_bound frames → if_may frames rank st ≡ st
@@ -32,14 +32,14 @@ may frames rank st lt = rw lt-ltb refl
 -- ---- signs between two operands
 
 -- behind the left operand all ends that binds as tightly as it may
-left_ends : (sign : Infix) (frames : List Frame) (a : ExprText) → Fits a → rank a ≤ left_limit sign → infix_rank sign < top_bound frames → reduce (left_limit sign) (opened frames a) (last_atom a) ≡ Have frames a
+left_ends : (sign : Infix) (frames : List Frame) (a : ExprSyntax) → Fits a → rank a ≤ left_limit sign → infix_rank sign < top_bound frames → reduce (left_limit sign) (opened frames a) (last_atom a) ≡ Have frames a
 left_ends sign frames a fits le lt = ends_as a (left_limit sign) frames fits le ∙ stays (left_limit sign) frames a (infix_opens sign frames lt)
 
-pub after_left : (sign : Infix) (at : ℕ) (frames : List Frame) (a : ExprText) → Fits a → rank a ≤ left_limit sign → infix_rank sign < top_bound frames
+pub after_left : (sign : Infix) (at : ℕ) (frames : List Frame) (a : ExprSyntax) → Fits a → rank a ≤ left_limit sign → infix_rank sign < top_bound frames
     → infix_after sign at (reduce (left_limit sign) (opened frames a) (last_atom a)) ≡ Need (InRight at sign a ∷ frames)
 after_left sign at frames a fits le lt = ap (infix_after sign at) (left_ends sign frames a fits le lt) ∙ may frames (infix_rank sign) (Need (InRight at sign a ∷ frames)) lt
 
-leads_less : (at : ℕ) (frames : List Frame) (a : ExprText) (tokens rest : List Token) → Fits a → rank a ≤ 5 → 6 < top_bound frames → InfixAt (between.Compare compare.Lt) (ends_in_number a) at tokens rest
+leads_less : (at : ℕ) (frames : List Frame) (a : ExprSyntax) (tokens rest : List Token) → Fits a → rank a ≤ 5 → 6 < top_bound frames → InfixAt (between.Compare compare.Lt) (ends_in_number a) at tokens rest
     → Leads (into frames a) tokens (Need (InRight at (between.Compare compare.Lt) a ∷ frames)) rest
 leads_less at frames a tokens rest fits le lt s =
     let token : Token = s.0 in
@@ -52,11 +52,11 @@ leads_less at frames a tokens rest fits le lt s =
           ∙ after_left (between.Compare compare.Lt) at frames a fits le lt,
     )
 
-after_left_greater : (at : ℕ) (frames : List Frame) (a : ExprText) → Fits a → rank a ≤ 5 → 6 < top_bound frames → greater_after at (reduce 5 (opened frames a) (last_atom a)) ≡ Greater frames at a
+after_left_greater : (at : ℕ) (frames : List Frame) (a : ExprSyntax) → Fits a → rank a ≤ 5 → 6 < top_bound frames → greater_after at (reduce 5 (opened frames a) (last_atom a)) ≡ Greater frames at a
 after_left_greater at frames a fits le lt = ap (greater_after at) (left_ends (between.Compare compare.Gt) frames a fits le lt) ∙ may frames 6 (Greater frames at a) lt
 
 -- `>` and the right operand, where it is read behind other signs
-leads_greater : (at : ℕ) (frames : List Frame) (a b : ExprText) (tokens next rest : List Token) → Fits a → rank a ≤ 5 → 6 < top_bound frames → FirstAt greater at tokens next → Spells b next rest
+leads_greater : (at : ℕ) (frames : List Frame) (a b : ExprSyntax) (tokens next rest : List Token) → Fits a → rank a ≤ 5 → 6 < top_bound frames → FirstAt greater at tokens next → Spells b next rest
     → Leads (Need (InRight at (between.Compare compare.Gt) a ∷ frames)) next (into (InRight at (between.Compare compare.Gt) a ∷ frames) b) rest
     → Leads (into frames a) tokens (into (InRight at (between.Compare compare.Gt) a ∷ frames) b) rest
 leads_greater at frames a b tokens next rest fits le lt s r p =
@@ -65,7 +65,7 @@ leads_greater at frames a b tokens next rest fits le lt s r p =
     (leads_at (into frames a) (Greater frames at a) greater at tokens next s (λ g k. after_left_greater at frames a fits le lt))
     (leads_alike is_no_equal (Greater frames at a) (Need behind) (into behind b) next rest (first_no_equal b next rest r) (λ w q g k h. greater_alike frames at a w q g k h) (λ e. cc) p)
 
-leads_at_least : (at : ℕ) (frames : List Frame) (a : ExprText) (tokens rest : List Token) → Fits a → rank a ≤ 5 → 6 < top_bound frames → InfixAt (between.Compare compare.Ge) (ends_in_number a) at tokens rest
+leads_at_least : (at : ℕ) (frames : List Frame) (a : ExprSyntax) (tokens rest : List Token) → Fits a → rank a ≤ 5 → 6 < top_bound frames → InfixAt (between.Compare compare.Ge) (ends_in_number a) at tokens rest
     → Leads (into frames a) tokens (Need (InRight at (between.Compare compare.Ge) a ∷ frames)) rest
 leads_at_least at frames a tokens rest fits le lt s =
     leads_then (into frames a) (Greater frames at a) (Need (InRight at (between.Compare compare.Ge) a ∷ frames)) tokens s.0 rest
@@ -73,7 +73,7 @@ leads_at_least at frames a tokens rest fits le lt s =
     (leads_glued (Greater frames at a) (Need (InRight at (between.Compare compare.Ge) a ∷ frames)) equal s.0 rest s.2 (λ p k. refl))
 
 -- a comparison
-pub leads_compare : (sign : Sign) (at : ℕ) (frames : List Frame) (a b : ExprText) (tokens next rest : List Token) → Fits a → rank a ≤ 5 → 6 < top_bound frames
+pub leads_compare : (sign : Sign) (at : ℕ) (frames : List Frame) (a b : ExprSyntax) (tokens next rest : List Token) → Fits a → rank a ≤ 5 → 6 < top_bound frames
     → InfixAt (between.Compare sign) (ends_in_number a) at tokens next → Spells b next rest
     → Leads (Need (InRight at (between.Compare sign) a ∷ frames)) next (into (InRight at (between.Compare sign) a ∷ frames) b) rest
     → Leads (into frames a) tokens (into (InRight at (between.Compare sign) a ∷ frames) b) rest
@@ -99,7 +99,7 @@ leads_compare compare.Ne at frames a b tokens next rest fits le lt s r p =
 
 -- ---- runs of tokens that are fixed
 
-pub leads_binder : (old : State) (new : BinderText → State) (x : BinderText) (tokens rest : List Token) → BinderSpells x tokens rest
+pub leads_binder : (old : State) (new : BinderSyntax → State) (x : BinderSyntax) (tokens rest : List Token) → BinderSpells x tokens rest
     → ((y : List ℕ) (p : ℕ) (g : Bool) (k : Kind) → act old (name y) p g k ≡ new (record { at = p; name = Some y }))
     → ((p : ℕ) (g : Bool) (k : Kind) → act old hole p g k ≡ new (record { at = p; name = None })) → Leads old tokens (new x) rest
 leads_binder old new x tokens rest s named free = by_name x.name s
@@ -108,13 +108,13 @@ leads_binder old new x tokens rest s named free = by_name x.name s
     by_name (Some y) f = leads_at old (new (record { at = x.at; name = Some y })) (name y) x.at tokens rest f (λ g k. named y x.at g k)
     by_name None f = leads_at old (new (record { at = x.at; name = None })) hole x.at tokens rest f (λ g k. free x.at g k)
 
-pub leads_written : (frames : List Frame) (at : ℕ) (c : Frac) (n : Option NoteText) (tokens rest : List Token) → WrittenNote n tokens rest → NoteFitsIn n
-    → Leads (Have frames (number_text at c None)) tokens (Have frames (number_text at c n)) rest
-leads_written frames at c None tokens rest s fits = leads_here (Have frames (number_text at c None)) (Have frames (number_text at c None)) tokens rest refl s
+pub leads_written : (frames : List Frame) (at : ℕ) (c : Frac) (n : Option NoteSyntax) (tokens rest : List Token) → WrittenNote n tokens rest → NoteFitsIn n
+    → Leads (Have frames (number_syntax at c None)) tokens (Have frames (number_syntax at c n)) rest
+leads_written frames at c None tokens rest s fits = leads_here (Have frames (number_syntax at c None)) (Have frames (number_syntax at c None)) tokens rest refl s
 leads_written frames at c (Some n) tokens rest s fits =
-    leads_then (Have frames (number_text at c None)) (InNote frames at c NeedNote) (Have frames (number_text at c (Some n))) tokens s.0 rest
-    (leads_glued (Have frames (number_text at c None)) (InNote frames at c NeedNote) less tokens s.0 s.2 (λ p k. refl))
+    leads_then (Have frames (number_syntax at c None)) (InNote frames at c NeedNote) (Have frames (number_syntax at c (Some n))) tokens s.0 rest
+    (leads_glued (Have frames (number_syntax at c None)) (InNote frames at c NeedNote) less tokens s.0 s.2 (λ p k. refl))
     (
-    leads_then (InNote frames at c NeedNote) (InNote frames at c (note_into n)) (Have frames (number_text at c (Some n))) s.0 s.1 rest
+    leads_then (InNote frames at c NeedNote) (InNote frames at c (note_into n)) (Have frames (number_syntax at c (Some n))) s.0 s.1 rest
     (leads_note frames at c n s.0 s.1 s.3 fits) (leads_note_end frames at c n s.1 rest fits s.4)
     )

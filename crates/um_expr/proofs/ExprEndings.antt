@@ -4,7 +4,7 @@ use Rattle.um_syntax.specs.declared.token.Token.{Token}
 use Rattle.um_syntax.specs.declared.token.Kind.{Kind}
 use Rattle.um_syntax.specs.declared.token.Kind.TheVariants as kind
 use Rattle.um_tree.specs.declared.expression.Sign.TheVariants as compare
-use Rattle.um_tree.specs.RawTree.{bool_text, BinderText, ExprText, truth_text, number_text, let_text, if_text, match_text, nil_text, list_text, fields_text, field_text, bracket_expr_text, exprs_in_order, fields_in_order}
+use Rattle.um_tree.specs.RawTree.{bool_syntax, BinderSyntax, ExprSyntax, truth_syntax, number_syntax, let_syntax, if_syntax, match_syntax, nil_syntax, list_syntax, fields_syntax, field_syntax, bracket_expr_syntax, exprs_in_order, fields_in_order}
 use Rattle.um_types.proofs.NoteLaws.{NoteStands, note_ending, note_completed, note_can_end}
 use Rattle.um_types.proofs.TypeSound.{TypeStands}
 use Rattle.um_types.proofs.TypeLaws.{type_ending, type_completed, type_can_end}
@@ -34,10 +34,10 @@ hole_token = token_of kind.Hole
 abbrev name_token : Token
 name_token = token_of (kind.Name [])
 
-abbrev pub operand : ExprText
-operand = truth_text 0 true
+abbrev pub operand : ExprSyntax
+operand = truth_syntax 0 true
 
-abbrev unnamed : BinderText
+abbrev unnamed : BinderSyntax
 unnamed = record { at = 0; name = None }
 
 -- from the head of the full arm on
@@ -69,15 +69,15 @@ ending (InNot at) = []
 ending (InRight at s left) = []
 ending (InArgument at f front) = []
 
-abbrev pub filled : Frame → ExprText → ExprText
-filled (InBracket at) t = bracket_expr_text at t
-filled (InItem at front) t = list_text at (exprs_in_order (front ++ t ∷ []))
-filled (InField at front place x) t = fields_text at (fields_in_order (with_field front place x t))
-filled (InValue at x) t = let_text at x t operand
-filled (InTest at) t = if_text at t operand operand
-filled (InThen at c) t = if_text at c t operand
-filled (InMatched at) t = match_text at t operand unnamed unnamed operand
-filled (InEmptyArm at l) t = match_text at l t unnamed unnamed operand
+abbrev pub filled : Frame → ExprSyntax → ExprSyntax
+filled (InBracket at) t = bracket_expr_syntax at t
+filled (InItem at front) t = list_syntax at (exprs_in_order (front ++ t ∷ []))
+filled (InField at front place x) t = fields_syntax at (fields_in_order (with_field front place x t))
+filled (InValue at x) t = let_syntax at x t operand
+filled (InTest at) t = if_syntax at t operand operand
+filled (InThen at c) t = if_syntax at c t operand
+filled (InMatched at) t = match_syntax at t operand unnamed unnamed operand
+filled (InEmptyArm at l) t = match_syntax at l t unnamed unnamed operand
 filled (InBody at x v) t = plug (InBody at x v) t
 filled (InElse at c a) t = plug (InElse at c a) t
 filled (InFullArm at l a x y) t = plug (InFullArm at l a x y) t
@@ -90,7 +90,7 @@ abbrev pub endings : List Frame → List Token
 endings [] = []
 endings (frame ∷ frames) = ending frame ++ endings frames
 
-abbrev pub all_filled : List Frame → ExprText → ExprText
+abbrev pub all_filled : List Frame → ExprSyntax → ExprSyntax
 all_filled [] t = t
 all_filled (frame ∷ frames) t = all_filled frames (filled frame t)
 
@@ -111,21 +111,21 @@ place_ending (TailBinder at l a x) = hole_token ∷ sign 25 ∷ operand_token �
 place_ending (TailArrow at l a x y) = sign 25 ∷ operand_token ∷ []
 place_ending (NilColon at) = sign 18 ∷ word 13 ∷ sign 1 ∷ []
 
-abbrev pub place_filled : Place → ExprText
-place_filled (LetBinder at) = let_text at unnamed operand operand
-place_filled (LetEqual at x) = let_text at x operand operand
-place_filled (FieldName at front) = fields_text at (fields_in_order (with_field front 0 [] operand))
-place_filled (FieldEqual at front place x) = fields_text at (fields_in_order (with_field front place x operand))
-place_filled (DotName at e) = field_text at 0 [] e
-place_filled (ArmBegin at l) = match_text at l operand unnamed unnamed operand
-place_filled (ArmOpen at l) = match_text at l operand unnamed unnamed operand
-place_filled (ArmClose at l) = match_text at l operand unnamed unnamed operand
-place_filled (ArmArrow at l) = match_text at l operand unnamed unnamed operand
-place_filled (HeadBinder at l a) = match_text at l a unnamed unnamed operand
-place_filled (HeadCons at l a x) = match_text at l a x unnamed operand
-place_filled (TailBinder at l a x) = match_text at l a x unnamed operand
-place_filled (TailArrow at l a x y) = match_text at l a x y operand
-place_filled (NilColon at) = nil_text at bool_text
+abbrev pub place_filled : Place → ExprSyntax
+place_filled (LetBinder at) = let_syntax at unnamed operand operand
+place_filled (LetEqual at x) = let_syntax at x operand operand
+place_filled (FieldName at front) = fields_syntax at (fields_in_order (with_field front 0 [] operand))
+place_filled (FieldEqual at front place x) = fields_syntax at (fields_in_order (with_field front place x operand))
+place_filled (DotName at e) = field_syntax at 0 [] e
+place_filled (ArmBegin at l) = match_syntax at l operand unnamed unnamed operand
+place_filled (ArmOpen at l) = match_syntax at l operand unnamed unnamed operand
+place_filled (ArmClose at l) = match_syntax at l operand unnamed unnamed operand
+place_filled (ArmArrow at l) = match_syntax at l operand unnamed unnamed operand
+place_filled (HeadBinder at l a) = match_syntax at l a unnamed unnamed operand
+place_filled (HeadCons at l a x) = match_syntax at l a x unnamed operand
+place_filled (TailBinder at l a x) = match_syntax at l a x unnamed operand
+place_filled (TailArrow at l a x y) = match_syntax at l a x y operand
+place_filled (NilColon at) = nil_syntax at bool_syntax
 
 abbrev pub expr_ending : State → List Token
 expr_ending (Need frames) = operand_token ∷ endings frames
@@ -136,18 +136,18 @@ expr_ending (InNote frames at c n) = note_ending n ++ sign 8 ∷ endings frames
 expr_ending (InType frames at s) = type_ending s ++ sign 1 ∷ endings frames
 expr_ending Refused = []
 
-abbrev pub expr_completed : State → ExprText
+abbrev pub expr_completed : State → ExprSyntax
 expr_completed (Need frames) = all_filled frames operand
 expr_completed (Have frames t) = all_filled frames t
 expr_completed (Greater frames at left) = all_filled frames (infix_text at (between.Compare compare.Gt) left operand)
 expr_completed (Inside frames place) = all_filled frames (place_filled place)
-expr_completed (InNote frames at c n) = all_filled frames (number_text at c (Some (note_completed n)))
-expr_completed (InType frames at s) = all_filled frames (nil_text at (type_completed s))
+expr_completed (InNote frames at c n) = all_filled frames (number_syntax at c (Some (note_completed n)))
+expr_completed (InType frames at s) = all_filled frames (nil_syntax at (type_completed s))
 expr_completed Refused = operand
 
 -- ---- the tokens
 
-filled_reads : (frame : Frame) (t : ExprText) (tokens mid rest : List Token) → FrameReads frame tokens mid → Spells t mid (ending frame ++ rest) → Spells (filled frame t) tokens rest
+filled_reads : (frame : Frame) (t : ExprSyntax) (tokens mid rest : List Token) → FrameReads frame tokens mid → Spells t mid (ending frame ++ rest) → Spells (filled frame t) tokens rest
 filled_reads (InBracket at) t tokens mid rest f s = (mid, sign 1 ∷ rest, f, s, (sign 1, refl, refl))
 filled_reads (InItem at front) t tokens mid rest f s = (f.0, sign 3 ∷ rest, f.1, items_last front t f.0 mid (sign 3 ∷ rest) f.2 s, (sign 3, refl, refl))
 filled_reads (InField at front place x) t tokens mid rest f s =
@@ -236,7 +236,7 @@ filled_reads (InArgument at g front) t tokens mid rest f s = plug_reads (InArgum
 first_two : (A B C D : Type 0) → A × B × C × D → A × B
 first_two A B C D p = (p.0, p.1)
 
-filled_fits : (frame : Frame) (frames : List Frame) (t : ExprText) → FrameFits frame frames → Fits t → rank t < bound_of frame → Fits (filled frame t) × (rank (filled frame t) < top_bound frames)
+filled_fits : (frame : Frame) (frames : List Frame) (t : ExprSyntax) → FrameFits frame frames → Fits t → rank t < bound_of frame → Fits (filled frame t) × (rank (filled frame t) < top_bound frames)
 filled_fits (InBracket at) frames t f fits lt = (fits, bound_positive frames)
 filled_fits (InItem at front) frames t f fits lt = (items_fit front t f fits, bound_positive frames)
 filled_fits (InField at front place x) frames t f fits lt = (fields_fit front place x t f fits, bound_positive frames)
@@ -253,7 +253,7 @@ filled_fits (InNot at) frames t f fits lt = let p = plug_fits (InNot at) frames 
 filled_fits (InRight at s left) frames t f fits lt = let p = plug_fits (InRight at s left) frames t (omega (arith, infix_low s)) f fits lt in (p.0, p.1)
 filled_fits (InArgument at g front) frames t f fits lt = let p = plug_fits (InArgument at g front) frames t (omega arith) f fits lt in (p.0, p.1)
 
-ends : (frames : List Frame) (t : ExprText) (tokens mid rest : List Token) → FramesRead frames tokens mid → Spells t mid (endings frames ++ rest) → FramesFit frames → Fits t → rank t < top_bound frames
+ends : (frames : List Frame) (t : ExprSyntax) (tokens mid rest : List Token) → FramesRead frames tokens mid → Spells t mid (endings frames ++ rest) → FramesFit frames → Fits t → rank t < top_bound frames
     → Spells (all_filled frames t) tokens rest × Fits (all_filled frames t)
 ends [] t tokens mid rest r s f fits lt = (subst (λ w. Spells t w rest) (sym r) s, fits)
 ends (frame ∷ frames) t tokens mid rest r s f fits lt =
@@ -391,10 +391,10 @@ expr_can_end (Inside frames place) tokens rest h ok =
 expr_can_end (InNote frames at c n) tokens rest h ok =
     let behind : List Token = endings frames ++ rest in
     let p = note_can_end n h.2 (sign 8 ∷ behind) (subst (λ w. NoteStands n h.2 w) (append_assoc (note_ending n) (sign 8 ∷ endings frames) rest) h.6) h.8 in
-    ends frames (number_text at c (Some (note_completed n))) tokens h.0 rest h.3 (h.1, h.4, (h.2, sign 8 ∷ behind, h.5, p.0, (sign 8, refl, refl))) h.7 p.1 (bound_positive frames)
+    ends frames (number_syntax at c (Some (note_completed n))) tokens h.0 rest h.3 (h.1, h.4, (h.2, sign 8 ∷ behind, h.5, p.0, (sign 8, refl, refl))) h.7 p.1 (bound_positive frames)
 expr_can_end (InType frames at s) tokens rest h ok =
     let behind : List Token = endings frames ++ rest in
     let p = type_can_end s h.2 (sign 1 ∷ behind) (subst (λ w. TypeStands s h.2 w) (append_assoc (type_ending s) (sign 1 ∷ endings frames) rest) h.6) h.8 in
     let b = h.4 in
-    ends frames (nil_text at (type_completed s)) tokens h.0 rest h.3 (b.0, b.1, h.1, h.2, sign 1 ∷ behind, b.2, b.3, b.4, h.5, p.0, (sign 1, refl, refl)) h.7 p.1 (bound_positive frames)
+    ends frames (nil_syntax at (type_completed s)) tokens h.0 rest h.3 (b.0, b.1, h.1, h.2, sign 1 ∷ behind, b.2, b.3, b.4, h.5, p.0, (sign 1, refl, refl)) h.7 p.1 (bound_positive frames)
 expr_can_end Refused tokens rest h ok = absurd (ok refl)

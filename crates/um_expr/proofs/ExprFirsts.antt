@@ -3,7 +3,7 @@ use Rattle.std.proofs.Common.{◌≡◌, ℕ, List, ◌∷◌, Bool, true, false
 use Rattle.um_syntax.specs.declared.token.Token.{Token}
 use Rattle.um_syntax.specs.declared.token.Kind.{Kind}
 use Rattle.um_tree.specs.declared.expression.Sign.TheVariants as compare
-use Rattle.um_tree.specs.RawTree.{ExprText, truth_text, number_text, name_text, call_text, negate_text, not_text, arith_text, compare_text, and_text, or_text, if_text, let_text, match_text, nil_text, list_text, cons_text, fields_text, field_text, bracket_expr_text}
+use Rattle.um_tree.specs.RawTree.{ExprSyntax, truth_syntax, number_syntax, name_syntax, call_syntax, negate_syntax, not_syntax, arith_syntax, compare_syntax, and_syntax, or_syntax, if_syntax, let_syntax, match_syntax, nil_syntax, list_syntax, cons_syntax, fields_syntax, field_syntax, bracket_expr_syntax}
 use Rattle.um_expr.specs.declared.mark.Mark.TheVariants as mark
 use Rattle.um_expr.specs.declared.mark.Infix.TheVariants as between
 use Rattle.um_expr.specs.ExprTokens.{ExprToken, name, number, truth, operator, plain, minus}
@@ -30,51 +30,51 @@ passes : (test : ExprToken → Bool) (what : ExprToken) (at : ℕ) (tokens rest 
 passes test what at tokens rest f e = (f.0, rest, f.3, ap test f.1 ∙ e)
 
 -- an atom begins with one of these; the part of a field is an atom too
-pub first_atom : (t : ExprText) (tokens rest : List Token) → Spells t tokens rest → Fits t → rank t ≡ 0 → FirstPasses begins_atom tokens
-first_atom (truth_text at b) tokens rest s fits low = passes begins_atom (truth b) at tokens rest s refl
-first_atom (number_text at c n) tokens rest s fits low = passes begins_atom (number c) at tokens s.0 s.1 refl
-first_atom (name_text at x) tokens rest s fits low = passes begins_atom (name x) at tokens rest s refl
-first_atom (nil_text at t) tokens rest s fits low = passes begins_atom (plain mark.Open) at tokens s.0 s.5 refl
-first_atom (list_text at es) tokens rest s fits low = passes begins_atom (plain mark.ListOpen) at tokens s.0 s.2 refl
-first_atom (fields_text at fs) tokens rest s fits low = passes begins_atom (plain mark.RecordOpen) at tokens s.0 s.2 refl
-first_atom (field_text at place x e) tokens rest s fits low = first_atom e tokens s.0 s.2 fits.1 fits.0
-first_atom (bracket_expr_text at e) tokens rest s fits low = passes begins_atom (plain mark.Open) at tokens s.0 s.2 refl
-first_atom (call_text at f args) tokens rest s fits low = absurd (omega arith)
-first_atom (negate_text at e) tokens rest s fits low = absurd (omega arith)
-first_atom (not_text at e) tokens rest s fits low = absurd (omega arith)
-first_atom (arith_text at op a b) tokens rest s fits low = absurd (omega (arith, arith_low op))
-first_atom (compare_text at sign a b) tokens rest s fits low = absurd (omega arith)
-first_atom (and_text at a b) tokens rest s fits low = absurd (omega arith)
-first_atom (or_text at a b) tokens rest s fits low = absurd (omega arith)
-first_atom (if_text at c a b) tokens rest s fits low = absurd (omega arith)
-first_atom (let_text at x a b) tokens rest s fits low = absurd (omega arith)
-first_atom (match_text at l a x y b) tokens rest s fits low = absurd (omega arith)
-first_atom (cons_text at a b) tokens rest s fits low = absurd (omega arith)
+pub first_atom : (t : ExprSyntax) (tokens rest : List Token) → Spells t tokens rest → Fits t → rank t ≡ 0 → FirstPasses begins_atom tokens
+first_atom (truth_syntax at b) tokens rest s fits low = passes begins_atom (truth b) at tokens rest s refl
+first_atom (number_syntax at c n) tokens rest s fits low = passes begins_atom (number c) at tokens s.0 s.1 refl
+first_atom (name_syntax at x) tokens rest s fits low = passes begins_atom (name x) at tokens rest s refl
+first_atom (nil_syntax at t) tokens rest s fits low = passes begins_atom (plain mark.Open) at tokens s.0 s.5 refl
+first_atom (list_syntax at es) tokens rest s fits low = passes begins_atom (plain mark.ListOpen) at tokens s.0 s.2 refl
+first_atom (fields_syntax at fs) tokens rest s fits low = passes begins_atom (plain mark.RecordOpen) at tokens s.0 s.2 refl
+first_atom (field_syntax at place x e) tokens rest s fits low = first_atom e tokens s.0 s.2 fits.1 fits.0
+first_atom (bracket_expr_syntax at e) tokens rest s fits low = passes begins_atom (plain mark.Open) at tokens s.0 s.2 refl
+first_atom (call_syntax at f args) tokens rest s fits low = absurd (omega arith)
+first_atom (negate_syntax at e) tokens rest s fits low = absurd (omega arith)
+first_atom (not_syntax at e) tokens rest s fits low = absurd (omega arith)
+first_atom (arith_syntax at op a b) tokens rest s fits low = absurd (omega (arith, arith_low op))
+first_atom (compare_syntax at sign a b) tokens rest s fits low = absurd (omega arith)
+first_atom (and_syntax at a b) tokens rest s fits low = absurd (omega arith)
+first_atom (or_syntax at a b) tokens rest s fits low = absurd (omega arith)
+first_atom (if_syntax at c a b) tokens rest s fits low = absurd (omega arith)
+first_atom (let_syntax at x a b) tokens rest s fits low = absurd (omega arith)
+first_atom (match_syntax at l a x y b) tokens rest s fits low = absurd (omega arith)
+first_atom (cons_syntax at a b) tokens rest s fits low = absurd (omega arith)
 
 -- no expression begins with `=`
-pub first_no_equal : (t : ExprText) (tokens rest : List Token) → Spells t tokens rest → FirstPasses is_no_equal tokens
-first_no_equal (truth_text at b) tokens rest s = passes is_no_equal (truth b) at tokens rest s refl
-first_no_equal (number_text at c n) tokens rest s = passes is_no_equal (number c) at tokens s.0 s.1 refl
-first_no_equal (name_text at x) tokens rest s = passes is_no_equal (name x) at tokens rest s refl
-first_no_equal (call_text at f args) tokens rest s = passes is_no_equal (name f) at tokens s.0 s.1 refl
-first_no_equal (negate_text at e) tokens rest s = passes is_no_equal minus at tokens s.0 s.1 refl
-first_no_equal (not_text at e) tokens rest s = passes is_no_equal (plain mark.Not) at tokens s.0 s.1 refl
-first_no_equal (arith_text at op a b) tokens rest s = first_no_equal a tokens s.0 s.2
-first_no_equal (compare_text at sign a b) tokens rest s = first_no_equal a tokens s.0 s.2
-first_no_equal (and_text at a b) tokens rest s = first_no_equal a tokens s.0 s.2
-first_no_equal (or_text at a b) tokens rest s = first_no_equal a tokens s.0 s.2
-first_no_equal (if_text at c a b) tokens rest s = passes is_no_equal (plain mark.If) at tokens s.0 s.5 refl
-first_no_equal (let_text at x a b) tokens rest s = passes is_no_equal (plain mark.Let) at tokens s.0 s.5 refl
-first_no_equal (match_text at l a x y b) tokens rest s = passes is_no_equal (plain mark.Match) at tokens s.0 s.5 refl
-first_no_equal (nil_text at t) tokens rest s = passes is_no_equal (plain mark.Open) at tokens s.0 s.5 refl
-first_no_equal (list_text at es) tokens rest s = passes is_no_equal (plain mark.ListOpen) at tokens s.0 s.2 refl
-first_no_equal (cons_text at a b) tokens rest s = first_no_equal a tokens s.0 s.2
-first_no_equal (fields_text at fs) tokens rest s = passes is_no_equal (plain mark.RecordOpen) at tokens s.0 s.2 refl
-first_no_equal (field_text at place x e) tokens rest s = first_no_equal e tokens s.0 s.2
-first_no_equal (bracket_expr_text at e) tokens rest s = passes is_no_equal (plain mark.Open) at tokens s.0 s.2 refl
+pub first_no_equal : (t : ExprSyntax) (tokens rest : List Token) → Spells t tokens rest → FirstPasses is_no_equal tokens
+first_no_equal (truth_syntax at b) tokens rest s = passes is_no_equal (truth b) at tokens rest s refl
+first_no_equal (number_syntax at c n) tokens rest s = passes is_no_equal (number c) at tokens s.0 s.1 refl
+first_no_equal (name_syntax at x) tokens rest s = passes is_no_equal (name x) at tokens rest s refl
+first_no_equal (call_syntax at f args) tokens rest s = passes is_no_equal (name f) at tokens s.0 s.1 refl
+first_no_equal (negate_syntax at e) tokens rest s = passes is_no_equal minus at tokens s.0 s.1 refl
+first_no_equal (not_syntax at e) tokens rest s = passes is_no_equal (plain mark.Not) at tokens s.0 s.1 refl
+first_no_equal (arith_syntax at op a b) tokens rest s = first_no_equal a tokens s.0 s.2
+first_no_equal (compare_syntax at sign a b) tokens rest s = first_no_equal a tokens s.0 s.2
+first_no_equal (and_syntax at a b) tokens rest s = first_no_equal a tokens s.0 s.2
+first_no_equal (or_syntax at a b) tokens rest s = first_no_equal a tokens s.0 s.2
+first_no_equal (if_syntax at c a b) tokens rest s = passes is_no_equal (plain mark.If) at tokens s.0 s.5 refl
+first_no_equal (let_syntax at x a b) tokens rest s = passes is_no_equal (plain mark.Let) at tokens s.0 s.5 refl
+first_no_equal (match_syntax at l a x y b) tokens rest s = passes is_no_equal (plain mark.Match) at tokens s.0 s.5 refl
+first_no_equal (nil_syntax at t) tokens rest s = passes is_no_equal (plain mark.Open) at tokens s.0 s.5 refl
+first_no_equal (list_syntax at es) tokens rest s = passes is_no_equal (plain mark.ListOpen) at tokens s.0 s.2 refl
+first_no_equal (cons_syntax at a b) tokens rest s = first_no_equal a tokens s.0 s.2
+first_no_equal (fields_syntax at fs) tokens rest s = passes is_no_equal (plain mark.RecordOpen) at tokens s.0 s.2 refl
+first_no_equal (field_syntax at place x e) tokens rest s = first_no_equal e tokens s.0 s.2
+first_no_equal (bracket_expr_syntax at e) tokens rest s = passes is_no_equal (plain mark.Open) at tokens s.0 s.2 refl
 
 -- an atom behind an atom begins an argument
-pub atom_alike : (frames new : List Frame) (t : ExprText) → argument frames t ≡ Some new
+pub atom_alike : (frames new : List Frame) (t : ExprSyntax) → argument frames t ≡ Some new
     → (w : ExprToken) (at : ℕ) (glued : Bool) (k : Kind) → begins_atom w ≡ true → act (Have frames t) w at glued k ≡ act (Need new) w at glued k
 atom_alike frames new t e (name x) at glued k h = ap (λ o. begin_in o (name x) at) e
 atom_alike frames new t e (number c) at glued k h = ap (λ o. begin_in o (number c) at) e
@@ -85,7 +85,7 @@ atom_alike frames new t e (plain mark.RecordOpen) at glued k h = ap (λ o. begin
 atom_alike frames new t e _ at glued k h = absurd cc
 
 -- behind `>`
-pub greater_alike : (frames : List Frame) (place : ℕ) (left : ExprText) (w : ExprToken) (at : ℕ) (glued : Bool) (k : Kind) → is_no_equal w ≡ true
+pub greater_alike : (frames : List Frame) (place : ℕ) (left : ExprSyntax) (w : ExprToken) (at : ℕ) (glued : Bool) (k : Kind) → is_no_equal w ≡ true
     → act (Greater frames place left) w at glued k ≡ act (Need (InRight place (between.Compare compare.Gt) left ∷ frames)) w at glued k
 greater_alike frames place left (operator (between.Compare compare.Eq)) at glued k h = absurd cc
 greater_alike frames place left _ at glued k h = refl

@@ -2,7 +2,7 @@
 use Rattle.std.proofs.Common.{◌≡◌, ◌≢◌, ℕ, ◌<◌, ◌≤◌, max, List, [], ◌∷◌, Option, None, option_map, refl, sym, ap, ◌∙◌, arith, inl, inr}
 use Rattle.std.proofs.lemmas.Bool.{cases_lt, lt-ltb, le-ltb}
 use Rattle.um_frac.specs.declared.number.Frac.{Frac}
-use Rattle.um_tree.specs.RawTree.{ExprText}
+use Rattle.um_tree.specs.RawTree.{ExprSyntax}
 use Rattle.um_tree.specs.declared.expression.Arith.TheVariants as arith_sign
 use Rattle.um_types.specs.NoteMachine.{NoteState, NeedNote, HaveHole, InUnit, NoNote, note_least}
 use Rattle.um_types.specs.TypeMachine.{TypeState, NeedType, HaveType, NoType, type_least}
@@ -18,7 +18,7 @@ use Rattle.um_expr.specs.ExprLeast.{notes_side, notes_over, whole_least}
 use Rattle.um_expr.specs.ExprStates.{Gives}
 
 -- frames that are ended up to a lower rank first are ended alike
-reduce_twice : (limit : ℕ) (frames now : List Frame) (t u : ExprText) → limit ≤ 9 → Have now u ≡ reduce limit frames t → reduce 9 now u ≡ reduce 9 frames t
+reduce_twice : (limit : ℕ) (frames now : List Frame) (t u : ExprSyntax) → limit ≤ 9 → Have now u ≡ reduce limit frames t → reduce 9 now u ≡ reduce 9 frames t
 reduce_twice limit [] now t u le e =
     let a : now ≡ [] = cc in let b : u ≡ t = cc in ap (λ fs. reduce 9 fs u) a ∙ ap (reduce 9 []) b
 reduce_twice limit (frame ∷ frames) now t u le e =
@@ -33,10 +33,10 @@ reduce_twice limit (frame ∷ frames) now t u le e =
           reduce_twice limit frames now (plug frame t) u le f ∙ sym (popped frame frames t (omega (arith, ends, le)))
     ]
   where
-    popped : (frame : Frame) (frames : List Frame) (t : ExprText) → own_rank frame ≤ 9 → reduce 9 (frame ∷ frames) t ≡ reduce 9 frames (plug frame t)
+    popped : (frame : Frame) (frames : List Frame) (t : ExprSyntax) → own_rank frame ≤ 9 → reduce 9 (frame ∷ frames) t ≡ reduce 9 frames (plug frame t)
     popped frame frames t low = rw le-ltb refl
 
-found_alike : (limit : ℕ) (frames now : List Frame) (t u : ExprText) → limit ≤ 9 → Have now u ≡ reduce limit frames t → finish (Have now u) ≡ finish (Have frames t)
+found_alike : (limit : ℕ) (frames now : List Frame) (t u : ExprSyntax) → limit ≤ 9 → Have now u ≡ reduce limit frames t → finish (Have now u) ≡ finish (Have frames t)
 found_alike limit frames now t u le e = ap whole (reduce_twice limit frames now t u le e)
 
 -- a note goes on; a type
@@ -73,13 +73,13 @@ limit_low (between.Arith arith_sign.Mul) = omega arith
 limit_low (between.Arith arith_sign.Div) = omega arith
 
 -- a sign that may not stand here
-pub sign_refused : (sign : Infix) (at limit : ℕ) (frames now new : List Frame) (t u : ExprText) (o : Option Part) → limit ≤ 9 → Have now u ≡ reduce limit frames t
+pub sign_refused : (sign : Infix) (at limit : ℕ) (frames now new : List Frame) (t u : ExprSyntax) (o : Option Part) → limit ≤ 9 → Have now u ≡ reduce limit frames t
     → top_bound now ≤ infix_rank sign → option_map part_expr o ≡ finish (Have now u) → Gives (finish (Have frames t)) new (step.Stops o) (infix_after sign at (reduce limit frames t))
 sign_refused sign at limit frames now new t u o le e high found =
     let no : infix_after sign at (Have now u) ≡ Refused = rw le-ltb refl in
     (ap (infix_after sign at) (sym e) ∙ no, found ∙ found_alike limit frames now t u le e)
 
-pub greater_refused : (at : ℕ) (frames now new : List Frame) (t u : ExprText) (o : Option Part) → Have now u ≡ reduce 5 frames t
+pub greater_refused : (at : ℕ) (frames now new : List Frame) (t u : ExprSyntax) (o : Option Part) → Have now u ≡ reduce 5 frames t
     → top_bound now ≤ 6 → option_map part_expr o ≡ finish (Have now u) → Gives (finish (Have frames t)) new (step.Stops o) (greater_after at (reduce 5 frames t))
 greater_refused at frames now new t u o e high found =
     let no : greater_after at (Have now u) ≡ Refused = rw le-ltb refl in

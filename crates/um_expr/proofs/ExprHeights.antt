@@ -5,7 +5,7 @@ use Rattle.um_frac.specs.declared.number.Frac.{Frac}
 use Rattle.um_syntax.specs.declared.token.Token.{Token}
 use Rattle.um_tree.specs.declared.expression.Sign.TheVariants as compare
 use Rattle.um_tree.specs.declared.expression.Arith.TheVariants as arith_of
-use Rattle.um_tree.specs.RawTree.{NoteText, TypeText, ExprText, FieldPart, number_text, name_text, nil_text, exprs_in_order, fields_in_order}
+use Rattle.um_tree.specs.RawTree.{NoteSyntax, TypeSyntax, ExprSyntax, FieldPart, number_syntax, name_syntax, nil_syntax, exprs_in_order, fields_in_order}
 use Rattle.um_tree.specs.Heights.{expr_height, tallest_expr, tallest_field}
 use Rattle.um_types.specs.TypeHeights.{note_height, whole_height}
 use Rattle.um_types.specs.NoteMachine.{NoteState, NeedNote, HaveHole, InUnit, NoNote, note_step, note_finish, note_least}
@@ -27,24 +27,24 @@ use Rattle.um_expr.proofs.ExprEndings.{operand, filled, all_filled, place_filled
 
 -- ---- one part more
 
-tallest_last : (front : List ExprText) (t : ExprText) → (tallest_expr (exprs_in_order (front ++ t ∷ [])) ≡ max (tallest_expr (exprs_in_order front)) (expr_height t))
+tallest_last : (front : List ExprSyntax) (t : ExprSyntax) → (tallest_expr (exprs_in_order (front ++ t ∷ [])) ≡ max (tallest_expr (exprs_in_order front)) (expr_height t))
     × (notes_in_all (exprs_in_order (front ++ t ∷ [])) ≡ max (notes_in_all (exprs_in_order front)) (notes_in t))
 tallest_last [] t = (omega arith, omega arith)
 tallest_last (u ∷ us) t = let e = tallest_last us t in (omega (arith, e.0), omega (arith, e.1))
 
-field_last : (front : List FieldPart) (place : ℕ) (x : List ℕ) (t : ExprText) → (tallest_field (fields_in_order (with_field front place x t)) ≡ max (tallest_field (fields_in_order front)) (expr_height t))
+field_last : (front : List FieldPart) (place : ℕ) (x : List ℕ) (t : ExprSyntax) → (tallest_field (fields_in_order (with_field front place x t)) ≡ max (tallest_field (fields_in_order front)) (expr_height t))
     × (notes_in_fields (fields_in_order (with_field front place x t)) ≡ max (notes_in_fields (fields_in_order front)) (notes_in t))
 field_last [] place x t = (omega arith, omega arith)
 field_last (u ∷ us) place x t = let e = field_last us place x t in (omega (arith, e.0), omega (arith, e.1))
 
-infix_height : (sign : Infix) (at : ℕ) (a b : ExprText) → (expr_height (infix_text at sign a b) ≡ max (expr_height a) (expr_height b) + 1) × (notes_in (infix_text at sign a b) ≡ max (notes_in a) (notes_in b))
+infix_height : (sign : Infix) (at : ℕ) (a b : ExprSyntax) → (expr_height (infix_text at sign a b) ≡ max (expr_height a) (expr_height b) + 1) × (notes_in (infix_text at sign a b) ≡ max (notes_in a) (notes_in b))
 infix_height between.Or at a b = (refl, refl)
 infix_height between.And at a b = (refl, refl)
 infix_height (between.Compare sign) at a b = (refl, refl)
 infix_height between.Cons at a b = (refl, refl)
 infix_height (between.Arith op) at a b = (refl, refl)
 
-pub height_filled : (frame : Frame) (t : ExprText) → (expr_height (filled frame t) ≡ max (side frame) (expr_height t) + 1) × (notes_in (filled frame t) ≡ max (notes_side frame) (notes_in t))
+pub height_filled : (frame : Frame) (t : ExprSyntax) → (expr_height (filled frame t) ≡ max (side frame) (expr_height t) + 1) × (notes_in (filled frame t) ≡ max (notes_side frame) (notes_in t))
 height_filled (InBracket at) t = (omega arith, omega arith)
 height_filled (InItem at front) t = let e = tallest_last front t in (omega (arith, e.0), e.1)
 height_filled (InField at front place x) t = let e = field_last front place x t in (omega (arith, e.0), e.1)
@@ -61,7 +61,7 @@ height_filled (InNot at) t = (omega arith, omega arith)
 height_filled (InRight at sign left) t = infix_height sign at left t
 height_filled (InArgument at f front) t = let e = tallest_last front t in (omega (arith, e.0), e.1)
 
-height_all_filled : (frames : List Frame) (t : ExprText) → (expr_height (all_filled frames t) ≡ least_over frames (expr_height t)) × (notes_in (all_filled frames t) ≡ notes_over frames (notes_in t))
+height_all_filled : (frames : List Frame) (t : ExprSyntax) → (expr_height (all_filled frames t) ≡ least_over frames (expr_height t)) × (notes_in (all_filled frames t) ≡ notes_over frames (notes_in t))
 height_all_filled [] t = (refl, refl)
 height_all_filled (frame ∷ frames) t =
     let a = height_all_filled frames (filled frame t) in
@@ -89,16 +89,16 @@ completed_heights : (st : State) (tokens rest : List Token) → Stands st tokens
 completed_heights (Need frames) tokens rest h ok = height_all_filled frames operand
 completed_heights (Have frames t) tokens rest h ok = height_all_filled frames t
 completed_heights (Greater frames at left) tokens rest h ok =
-    let t : ExprText = infix_text at (between.Compare compare.Gt) left operand in
+    let t : ExprSyntax = infix_text at (between.Compare compare.Gt) left operand in
     let a = height_all_filled frames t in (a.0, a.1 ∙ ap (notes_over frames) (omega arith))
 completed_heights (Inside frames place) tokens rest h ok =
     let a = height_all_filled frames (place_filled place) in
     let e = place_height place in
     (a.0 ∙ ap (least_over frames) e.0, a.1 ∙ ap (notes_over frames) e.1)
 completed_heights (InNote frames at c n) tokens rest h ok =
-    let a = height_all_filled frames (number_text at c (Some (note_completed n))) in (a.0, a.1 ∙ ap (notes_over frames) (note_completed_height n h.2 rest h.6))
+    let a = height_all_filled frames (number_syntax at c (Some (note_completed n))) in (a.0, a.1 ∙ ap (notes_over frames) (note_completed_height n h.2 rest h.6))
 completed_heights (InType frames at s) tokens rest h ok =
-    let a = height_all_filled frames (nil_text at (type_completed s)) in (a.0, a.1 ∙ ap (notes_over frames) (type_completed_height s h.2 rest h.6 h.8))
+    let a = height_all_filled frames (nil_syntax at (type_completed s)) in (a.0, a.1 ∙ ap (notes_over frames) (type_completed_height s h.2 rest h.6 h.8))
 completed_heights Refused tokens rest h ok = absurd (ok refl)
 
 pub expr_completed_height : (st : State) (tokens rest : List Token) → Stands st tokens rest → st ≢ Refused → whole_expr_height (expr_completed st) ≡ whole_least st
@@ -115,7 +115,7 @@ notes_up [] m k le = le
 notes_up (frame ∷ frames) m k le = notes_up frames (max (notes_side frame) m) (max (notes_side frame) k) (omega arith)
 
 -- what ends by itself is filled by its last part
-plug_filled : (frame : Frame) (t : ExprText) → own_rank frame < 10 → plug frame t ≡ filled frame t
+plug_filled : (frame : Frame) (t : ExprSyntax) → own_rank frame < 10 → plug frame t ≡ filled frame t
 plug_filled (InBody at x v) t lt = refl
 plug_filled (InElse at c a) t lt = refl
 plug_filled (InFullArm at l a x y) t lt = refl
@@ -132,7 +132,7 @@ plug_filled (InThen at c) t lt = absurd (omega arith)
 plug_filled (InMatched at) t lt = absurd (omega arith)
 plug_filled (InEmptyArm at l) t lt = absurd (omega arith)
 
-reduce_least : (frames : List Frame) (limit : ℕ) (t : ExprText) → limit < 10
+reduce_least : (frames : List Frame) (limit : ℕ) (t : ExprSyntax) → limit < 10
     → (expr_least (reduce limit frames t) ≡ least_over frames (expr_height t)) × (notes_least (reduce limit frames t) ≡ notes_over frames (notes_in t))
 reduce_least [] limit t small = (refl, refl)
 reduce_least (frame ∷ frames) limit t small =
@@ -196,12 +196,12 @@ begin_up frames (operator (between.Arith arith_of.Sub)) at =
     may_up frames 2 (least_over frames 1) (notes_over frames 0) (Need (InNegate at ∷ frames)) (both_up frames 1 (max 0 1 + 1) 0 (max 0 0) (omega arith) (omega arith))
 begin_up frames _ at = tt
 
-at_least_up : (frames : List Frame) (place : ℕ) (left : ExprText) (glued : Bool)
+at_least_up : (frames : List Frame) (place : ℕ) (left : ExprSyntax) (glued : Bool)
     → Above (expr_least (Greater frames place left)) (notes_least (Greater frames place left)) (cond glued (Need (InRight place (between.Compare compare.Ge) left ∷ frames)) Refused)
 at_least_up frames place left true = both_up frames (max (expr_height left) 1 + 1) (max (expr_height left) 1 + 1) (notes_in left) (max (notes_in left) 0) (omega arith) (omega arith)
 at_least_up frames place left false = tt
 
-greater_then_up : (frames : List Frame) (place : ℕ) (left : ExprText) (what : ExprToken) (at : ℕ) (glued : Bool)
+greater_then_up : (frames : List Frame) (place : ℕ) (left : ExprSyntax) (what : ExprToken) (at : ℕ) (glued : Bool)
     → Above (expr_least (Greater frames place left)) (notes_least (Greater frames place left)) (after_greater frames place left what at glued)
 greater_then_up frames place left (operator (between.Compare compare.Eq)) at glued = at_least_up frames place left glued
 greater_then_up frames place left what at glued =
@@ -220,21 +220,21 @@ first_up at f frames =
       | inr not ↦ rw le-ltb tt
     ]
 
-argument_up : (frames : List Frame) (t : ExprText) → AboveIn (least_over frames (expr_height t)) (notes_over frames (notes_in t)) (argument frames t)
+argument_up : (frames : List Frame) (t : ExprSyntax) → AboveIn (least_over frames (expr_height t)) (notes_over frames (notes_in t)) (argument frames t)
 argument_up (InArgument at f front ∷ frames) t =
     let e = tallest_last front t in
-    let old : List ExprText = front ++ t ∷ [] in
+    let old : List ExprSyntax = front ++ t ∷ [] in
     both_up frames (max (tallest_expr (exprs_in_order front)) (expr_height t) + 1) (max (tallest_expr (exprs_in_order old)) 1 + 1) (max (notes_in_all (exprs_in_order front)) (notes_in t))
     (max (notes_in_all (exprs_in_order old)) 0) (omega (arith, e.0)) (omega (arith, e.1))
-argument_up [] (name_text at f) = first_up at f []
-argument_up (frame ∷ frames) (name_text at f) = first_up at f (frame ∷ frames)
+argument_up [] (name_syntax at f) = first_up at f []
+argument_up (frame ∷ frames) (name_syntax at f) = first_up at f (frame ∷ frames)
 argument_up _ _ = tt
 
 begin_in_up : (o : Option (List Frame)) (what : ExprToken) (at n m : ℕ) → AboveIn n m o → Above n m (begin_in o what at)
 begin_in_up (Some frames) what at n m h = above_more n m (least_over frames 1) (notes_over frames 0) (begin frames what at) h.0 h.1 (begin_up frames what at)
 begin_in_up None what at n m h = tt
 
-argues_up : (frames : List Frame) (t : ExprText) (what : ExprToken) (at : ℕ) → Above (least_over frames (expr_height t)) (notes_over frames (notes_in t)) (begin_in (argument frames t) what at)
+argues_up : (frames : List Frame) (t : ExprSyntax) (what : ExprToken) (at : ℕ) → Above (least_over frames (expr_height t)) (notes_over frames (notes_in t)) (begin_in (argument frames t) what at)
 argues_up frames t what at = begin_in_up (argument frames t) what at (least_over frames (expr_height t)) (notes_over frames (notes_in t)) (argument_up frames t)
 
 -- ---- behind what has ended
@@ -315,7 +315,7 @@ bar_up (Have (InEmptyArm at l ∷ frames) t) =
     both_up frames (max (max (expr_height l) 1) (expr_height t) + 1) (max (expr_height l) (max (expr_height t) 1) + 1) (max (notes_in l) (notes_in t)) (max (notes_in l) (notes_in t)) (omega arith) (omega arith)
 bar_up _ = tt
 
-ended_up : (limit : ℕ) (frames : List Frame) (t : ExprText) (st : State) → limit < 10 → Above (expr_least (reduce limit frames t)) (notes_least (reduce limit frames t)) st
+ended_up : (limit : ℕ) (frames : List Frame) (t : ExprSyntax) (st : State) → limit < 10 → Above (expr_least (reduce limit frames t)) (notes_least (reduce limit frames t)) st
     → Above (least_over frames (expr_height t)) (notes_over frames (notes_in t)) st
 ended_up limit frames t st small h =
     let r = reduce_least frames limit t small in
@@ -324,16 +324,16 @@ ended_up limit frames t st small h =
 left_small : (sign : Infix) → left_limit sign < 10
 left_small sign = omega (arith, infix_low sign)
 
-signed_up : (sign : Infix) (frames : List Frame) (t : ExprText) (at : ℕ) → Above (least_over frames (expr_height t)) (notes_over frames (notes_in t)) (infix_after sign at (reduce (left_limit sign) frames t))
+signed_up : (sign : Infix) (frames : List Frame) (t : ExprSyntax) (at : ℕ) → Above (least_over frames (expr_height t)) (notes_over frames (notes_in t)) (infix_after sign at (reduce (left_limit sign) frames t))
 signed_up sign frames t at =
     ended_up (left_limit sign) frames t (infix_after sign at (reduce (left_limit sign) frames t)) (left_small sign) (infix_up sign at (reduce (left_limit sign) frames t))
 
-less_up : (frames : List Frame) (t : ExprText) (glued : Bool) (at : ℕ) → Above (least_over frames (expr_height t)) (notes_over frames (notes_in t)) (less_after frames t glued at)
+less_up : (frames : List Frame) (t : ExprSyntax) (glued : Bool) (at : ℕ) → Above (least_over frames (expr_height t)) (notes_over frames (notes_in t)) (less_after frames t glued at)
 less_up frames t false at = signed_up (between.Compare compare.Lt) frames t at
-less_up frames (number_text p c None) true at = (omega arith, omega arith)
+less_up frames (number_syntax p c None) true at = (omega arith, omega arith)
 less_up frames t true at = signed_up (between.Compare compare.Lt) frames t at
 
-after_up : (frames : List Frame) (t : ExprText) (what : ExprToken) (at : ℕ) (glued : Bool) → Above (least_over frames (expr_height t)) (notes_over frames (notes_in t)) (after frames t what at glued)
+after_up : (frames : List Frame) (t : ExprSyntax) (what : ExprToken) (at : ℕ) (glued : Bool) → Above (least_over frames (expr_height t)) (notes_over frames (notes_in t)) (after frames t what at glued)
 after_up frames t (name x) at glued = argues_up frames t (name x) at
 after_up frames t (number c) at glued = argues_up frames t (number c) at
 after_up frames t (truth b) at glued = argues_up frames t (truth b) at
@@ -392,13 +392,13 @@ inside_up frames _ _ at = tt
 
 -- ---- notes and types
 
-note_end_up : (frames : List Frame) (at : ℕ) (c : Frac) (n : NoteState) (found : Option NoteText) (what : ExprToken) → note_finish n ≡ found
+note_end_up : (frames : List Frame) (at : ℕ) (c : Frac) (n : NoteState) (found : Option NoteSyntax) (what : ExprToken) → note_finish n ≡ found
     → Above (least_over frames 1) (notes_over frames (note_least n)) (note_ends frames at c found what)
 note_end_up frames at c n (Some m) (operator (between.Compare compare.Gt)) e =
     let same = note_found_height n m e in both_up frames 1 1 (note_least n) (note_height m) (omega arith) (omega (arith, same))
 note_end_up frames at c n _ _ e = tt
 
-type_end_up : (frames : List Frame) (at : ℕ) (n : TypeState) (found : Option TypeText) (what : ExprToken) → type_finish n ≡ found
+type_end_up : (frames : List Frame) (at : ℕ) (n : TypeState) (found : Option TypeSyntax) (what : ExprToken) → type_finish n ≡ found
     → Above (least_over frames 3) (notes_over frames (type_least n)) (type_ends frames at found what)
 type_end_up frames at n (Some t) (plain mark.Close) e =
     let same = type_found_height n t e in both_up frames 3 3 (type_least n) (whole_height t) (omega arith) (omega (arith, same))
@@ -446,7 +446,7 @@ expr_up st x ok = above_whole (expr_least st) (notes_least st) (step st x) ok (s
 
 -- ---- what is found has it
 
-whole_found_height : (st : State) (t : ExprText) → whole st ≡ Some t → (expr_height t ≡ expr_least st) × (notes_in t ≡ notes_least st)
+whole_found_height : (st : State) (t : ExprSyntax) → whole st ≡ Some t → (expr_height t ≡ expr_least st) × (notes_in t ≡ notes_least st)
 whole_found_height (Have [] u) t e = let same : u ≡ t = cc in (ap expr_height (sym same), ap notes_in (sym same))
 whole_found_height (Have (frame ∷ frames) u) t e = absurd cc
 whole_found_height (Need frames) t e = absurd cc
@@ -456,7 +456,7 @@ whole_found_height (InNote frames p c n) t e = absurd cc
 whole_found_height (InType frames p n) t e = absurd cc
 whole_found_height Refused t e = absurd cc
 
-pub expr_found_height : (st : State) (t : ExprText) → finish st ≡ Some t → whole_expr_height t ≡ whole_least st
+pub expr_found_height : (st : State) (t : ExprSyntax) → finish st ≡ Some t → whole_expr_height t ≡ whole_least st
 expr_found_height (Have frames u) t e =
     let w = whole_found_height (reduce 9 frames u) t e in
     let r = reduce_least frames 9 u (omega arith) in

@@ -2,7 +2,7 @@
 use Rattle.std.proofs.Common.{◌≡◌, ◌≢◌, List, [], ◌++◌, Some, refl, sym, ap, subst, ◌∙◌, arith}
 use Rattle.std.proofs.lemmas.List.{append-nil}
 use Rattle.um_syntax.specs.declared.token.Token.{Token}
-use Rattle.um_tree.specs.RawTree.{ExprText}
+use Rattle.um_tree.specs.RawTree.{ExprSyntax}
 use Rattle.um_types.specs.Machines.{runs, Reaches}
 use Rattle.um_types.proofs.Reaching.{runs_append, runs_refused}
 use Rattle.um_expr.specs.ExprGrammar.{Spells, Fits, IsExpr}
@@ -14,23 +14,23 @@ use Rattle.um_expr.proofs.ExprSound.{stands}
 use Rattle.um_expr.proofs.ExprStands.{Stands}
 use Rattle.um_expr.proofs.ExprEndings.{expr_ending, expr_completed, expr_can_end}
 
-pub into_on : (frames : List Frame) (t : ExprText) → into frames t ≢ Refused
+pub into_on : (frames : List Frame) (t : ExprSyntax) → into frames t ≢ Refused
 into_on frames t e = cc
 
 -- what an expression spells is read
-pub expr_reaches : (t : ExprText) (tokens rest : List Token) → Spells t tokens rest → Fits t → Reaches step Refused (Need []) tokens (into [] t) rest
+pub expr_reaches : (t : ExprSyntax) (tokens rest : List Token) → Spells t tokens rest → Fits t → Reaches step Refused (Need []) tokens (into [] t) rest
 expr_reaches t tokens rest s fits =
     let r = complete t [] tokens rest s fits (omega (arith, rank_low t)) in (r.0, r.1, r.2, into_on [] t)
 
 -- and found
-pub expr_finds : (t : ExprText) → Fits t → finish (into [] t) ≡ Some t
+pub expr_finds : (t : ExprSyntax) → Fits t → finish (into [] t) ≡ Some t
 expr_finds t fits = ap whole (ends_whole t [] fits (omega arith))
 
 -- the tokens begin an expression
 abbrev pub BeginsExpr : List Token → Type 0
-BeginsExpr tokens = (more : List Token) × (t : ExprText) × IsExpr (tokens ++ more) t
+BeginsExpr tokens = (more : List Token) × (t : ExprSyntax) × IsExpr (tokens ++ more) t
 
-reads_as : (t : ExprText) (tokens : List Token) → IsExpr tokens t → runs step (Need []) tokens ≡ into [] t
+reads_as : (t : ExprSyntax) (tokens : List Token) → IsExpr tokens t → runs step (Need []) tokens ≡ into [] t
 reads_as t tokens p =
     let r = expr_reaches t tokens [] p.spelled p.fits in ap (runs step (Need [])) (r.1 ∙ append-nil r.0) ∙ r.2
 
@@ -49,9 +49,9 @@ none_begins tokens e b =
     sym (reads_as b.1 (tokens ++ b.0) b.2) ∙ runs_append step tokens b.0 (Need []) ∙ ap (λ s. runs step s b.0) e ∙ runs_refused step Refused (λ t. refl) b.0
     )
 
-pub expr_is_found : (tokens : List Token) (t : ExprText) → IsExpr tokens t → finish (runs step (Need []) tokens) ≡ Some t
+pub expr_is_found : (tokens : List Token) (t : ExprSyntax) → IsExpr tokens t → finish (runs step (Need []) tokens) ≡ Some t
 expr_is_found tokens t p = ap finish (reads_as t tokens p) ∙ expr_finds t p.fits
 
 -- one expression per list of tokens
-pub one_expr : (tokens : List Token) (t u : ExprText) → IsExpr tokens t → IsExpr tokens u → t ≡ u
+pub one_expr : (tokens : List Token) (t u : ExprSyntax) → IsExpr tokens t → IsExpr tokens u → t ≡ u
 one_expr tokens t u p q = let e : Some t ≡ Some u = sym (expr_is_found tokens t p) ∙ expr_is_found tokens u q in cc

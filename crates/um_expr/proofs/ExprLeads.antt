@@ -3,7 +3,7 @@ use Rattle.std.proofs.Common.{◌≡◌, ◌≢◌, ℕ, List, [], ◌∷◌, �
 use Rattle.um_frac.specs.declared.number.Frac.{Frac}
 use Rattle.um_syntax.specs.declared.token.Token.{Token}
 use Rattle.um_syntax.specs.declared.token.Kind.{Kind}
-use Rattle.um_tree.specs.RawTree.{NoteText, TypeText, number_text, nil_text}
+use Rattle.um_tree.specs.RawTree.{NoteSyntax, TypeSyntax, number_syntax, nil_syntax}
 use Rattle.um_types.specs.Machines.{runs}
 use Rattle.um_types.specs.TypeGrammar.{NoteSpells, NoteFits, TypeSpells, TypeFits}
 use Rattle.um_types.specs.NoteMachine.{NoteState, NeedNote, HaveHole, InUnit, NoNote, note_step, note_finish}
@@ -85,14 +85,14 @@ note_inside frames at c n new token e ok =
     let ended : State = note_ends frames at c (note_finish n) (expr_token token.kind) in
     ap (λ s. note_goes frames at c s ended) e ∙ note_on frames at c new ended ok
 
-pub leads_note : (frames : List Frame) (at : ℕ) (c : Frac) (n : NoteText) (tokens rest : List Token) → NoteSpells n tokens rest → NoteFits n
+pub leads_note : (frames : List Frame) (at : ℕ) (c : Frac) (n : NoteSyntax) (tokens rest : List Token) → NoteSpells n tokens rest → NoteFits n
     → Leads (InNote frames at c NeedNote) tokens (InNote frames at c (note_into n)) rest
 leads_note frames at c n tokens rest s fits =
     let r = note_reaches n tokens rest s fits in
     (r.0, r.1, lift note_step NoNote (λ t. refl) step (λ w. InNote frames at c w) (note_inside frames at c) r.0 NeedNote (note_into n) r.2 r.3)
 
-pub leads_note_end : (frames : List Frame) (at : ℕ) (c : Frac) (n : NoteText) (tokens rest : List Token) → NoteFits n → First greater tokens rest
-    → Leads (InNote frames at c (note_into n)) tokens (Have frames (number_text at c (Some n))) rest
+pub leads_note_end : (frames : List Frame) (at : ℕ) (c : Frac) (n : NoteSyntax) (tokens rest : List Token) → NoteFits n → First greater tokens rest
+    → Leads (InNote frames at c (note_into n)) tokens (Have frames (number_syntax at c (Some n))) rest
 leads_note_end frames at c n tokens rest fits f =
     let ended : State = note_ends frames at c (note_finish (note_into n)) (expr_token f.0.kind) in (
       f.0 ∷ [],
@@ -115,14 +115,14 @@ type_inside frames at s new token e ok =
     let ended : State = type_ends frames at (type_finish s) (expr_token token.kind) in
     ap (λ w. type_goes frames at w ended) e ∙ type_on frames at new ended ok
 
-pub leads_type : (frames : List Frame) (at : ℕ) (t : TypeText) (tokens rest : List Token) → TypeSpells t tokens rest → TypeFits t
+pub leads_type : (frames : List Frame) (at : ℕ) (t : TypeSyntax) (tokens rest : List Token) → TypeSpells t tokens rest → TypeFits t
     → Leads (InType frames at (NeedType 0)) tokens (InType frames at (HaveType 0 t)) rest
 leads_type frames at t tokens rest s fits =
     let r = type_reaches t 0 tokens rest s fits in
     (r.0, r.1, lift type_step NoType (λ x. refl) step (λ w. InType frames at w) (type_inside frames at) r.0 (NeedType 0) (HaveType 0 t) r.2 r.3)
 
-pub leads_type_end : (frames : List Frame) (at : ℕ) (t : TypeText) (tokens rest : List Token) → First (plain mark.Close) tokens rest
-    → Leads (InType frames at (HaveType 0 t)) tokens (Have frames (nil_text at t)) rest
+pub leads_type_end : (frames : List Frame) (at : ℕ) (t : TypeSyntax) (tokens rest : List Token) → First (plain mark.Close) tokens rest
+    → Leads (InType frames at (HaveType 0 t)) tokens (Have frames (nil_syntax at t)) rest
 leads_type_end frames at t tokens rest f =
     let ended : State = type_ends frames at (Some t) (expr_token f.0.kind) in (
       f.0 ∷ [],

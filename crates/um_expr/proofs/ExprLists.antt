@@ -2,13 +2,13 @@
 use Rattle.std.proofs.Common.{◌≡◌, max, List, [], ◌∷◌, ◌++◌, map, ap, arith}
 use Rattle.um_tree.specs.declared.raw.RawExpr.{RawExpr}
 use Rattle.um_tree.specs.declared.raw.RawField.{RawField}
-use Rattle.um_tree.specs.RawTree.{FieldPart, expr_text, exprs_in_order, field_part, fields_in_order}
+use Rattle.um_tree.specs.RawTree.{FieldPart, expr_syntax, exprs_in_order, field_part, fields_in_order}
 use Rattle.um_tree.specs.Heights.{expr_height, tallest_expr, tallest_field}
 use Rattle.um_expr.specs.ExprHeights.{notes_in, notes_in_all, notes_in_fields}
 
 pub items_more : (xs : List RawExpr) (x : RawExpr)
-    → (tallest_expr (exprs_in_order (map expr_text (xs ++ x ∷ []))) ≡ max (tallest_expr (exprs_in_order (map expr_text xs))) (expr_height (expr_text x)))
-    × (notes_in_all (exprs_in_order (map expr_text (xs ++ x ∷ []))) ≡ max (notes_in_all (exprs_in_order (map expr_text xs))) (notes_in (expr_text x)))
+    → (tallest_expr (exprs_in_order (map expr_syntax (xs ++ x ∷ []))) ≡ max (tallest_expr (exprs_in_order (map expr_syntax xs))) (expr_height (expr_syntax x)))
+    × (notes_in_all (exprs_in_order (map expr_syntax (xs ++ x ∷ []))) ≡ max (notes_in_all (exprs_in_order (map expr_syntax xs))) (notes_in (expr_syntax x)))
 items_more [] x = (omega arith, omega arith)
 items_more (y ∷ xs) x = let e = items_more xs x in (omega (arith, e.0), omega (arith, e.1))
 

@@ -3,7 +3,7 @@ use Rattle.std.proofs.Common.{◌≡◌, ◌≢◌, ℕ, ◌≤◌, ◌<◌, Lis
 use Rattle.std.proofs.lemmas.Bool.{lt-ltb}
 use Rattle.um_syntax.specs.declared.token.Token.{Token}
 use Rattle.um_syntax.specs.declared.token.Kind.{Kind}
-use Rattle.um_tree.specs.RawTree.{TypeText, BinderText, ExprText, ExprTexts, FieldTexts, FieldPart, truth_text, number_text, name_text, call_text, negate_text, not_text, arith_text, compare_text, and_text, or_text, if_text, let_text, match_text, nil_text, list_text, cons_text, fields_text, field_text, bracket_expr_text, no_exprs, more_exprs, no_fields, more_fields}
+use Rattle.um_tree.specs.RawTree.{TypeSyntax, BinderSyntax, ExprSyntax, ExprSyntaxes, FieldSyntaxes, FieldPart, truth_syntax, number_syntax, name_syntax, call_syntax, negate_syntax, not_syntax, arith_syntax, compare_syntax, and_syntax, or_syntax, if_syntax, let_syntax, match_syntax, nil_syntax, list_syntax, cons_syntax, fields_syntax, field_syntax, bracket_expr_syntax, no_exprs, more_exprs, no_fields, more_fields}
 use Rattle.um_types.specs.TypeMachine.{NeedType}
 use Rattle.um_types.specs.TypeGrammar.{TypeFits}
 use Rattle.um_expr.specs.declared.mark.Mark.TheVariants as mark
@@ -20,7 +20,7 @@ use Rattle.um_expr.proofs.ExprComplete.{into, atom_into, may, after_left, leads_
 
 -- ---- the arms of a match, and the empty list
 
-leads_bar : (frames : List Frame) (at : ℕ) (l : ExprText) (tokens mid rest : List Token) → (tokens ≡ mid) ⊎ First (plain mark.Bar) tokens mid → First (plain mark.ListOpen) mid rest
+leads_bar : (frames : List Frame) (at : ℕ) (l : ExprSyntax) (tokens mid rest : List Token) → (tokens ≡ mid) ⊎ First (plain mark.Bar) tokens mid → First (plain mark.ListOpen) mid rest
     → Leads (Inside frames (ArmBegin at l)) tokens (Inside frames (ArmClose at l)) rest
 leads_bar frames at l tokens mid rest (inl e) f =
     leads_first (Inside frames (ArmBegin at l)) (Inside frames (ArmClose at l)) (plain mark.ListOpen) tokens rest (subst (λ w. First (plain mark.ListOpen) w rest) (sym e) f) (λ p g k. refl)
@@ -28,7 +28,7 @@ leads_bar frames at l tokens mid rest (inr b) f =
     thence (leads_first (Inside frames (ArmBegin at l)) (Inside frames (ArmOpen at l)) (plain mark.Bar) tokens mid b (λ p g k. refl))
     (leads_first (Inside frames (ArmOpen at l)) (Inside frames (ArmClose at l)) (plain mark.ListOpen) mid rest f (λ p g k. refl))
 
-leads_empty_arm : (frames : List Frame) (at : ℕ) (l : ExprText) (tokens rest : List Token) → Fits l → EmptyArm tokens rest → Leads (into (InMatched at ∷ frames) l) tokens (Need (InEmptyArm at l ∷ frames)) rest
+leads_empty_arm : (frames : List Frame) (at : ℕ) (l : ExprSyntax) (tokens rest : List Token) → Fits l → EmptyArm tokens rest → Leads (into (InMatched at ∷ frames) l) tokens (Need (InEmptyArm at l ∷ frames)) rest
 leads_empty_arm frames at l tokens rest fits s =
     thence
     (
@@ -43,7 +43,7 @@ leads_empty_arm frames at l tokens rest fits s =
     )
     )
 
-leads_full_arm : (frames : List Frame) (at : ℕ) (l a : ExprText) (x y : BinderText) (tokens rest : List Token) → Fits a → FullArm x y tokens rest
+leads_full_arm : (frames : List Frame) (at : ℕ) (l a : ExprSyntax) (x y : BinderSyntax) (tokens rest : List Token) → Fits a → FullArm x y tokens rest
     → Leads (into (InEmptyArm at l ∷ frames) a) tokens (Need (InFullArm at l a x y ∷ frames)) rest
 leads_full_arm frames at l a x y tokens rest fits s =
     thence
@@ -62,7 +62,7 @@ leads_full_arm frames at l a x y tokens rest fits s =
     )
     )
 
-leads_nil : (frames : List Frame) (at : ℕ) (t : TypeText) (tokens rest : List Token) → NilSpells at t tokens rest → TypeFits t → Leads (Need frames) tokens (Have frames (nil_text at t)) rest
+leads_nil : (frames : List Frame) (at : ℕ) (t : TypeSyntax) (tokens rest : List Token) → NilSpells at t tokens rest → TypeFits t → Leads (Need frames) tokens (Have frames (nil_syntax at t)) rest
 leads_nil frames at t tokens rest s fits =
     let list_at : ℕ = s.6.0.start in
     thence (leads_at (Need frames) (Need (InBracket at ∷ frames)) (plain mark.Open) at tokens s.0 s.5 (λ g k. refl))
@@ -83,25 +83,25 @@ leads_nil frames at t tokens rest s fits =
 
 -- ---- closing
 
-closes_item : (frames : List Frame) (at : ℕ) (front : List ExprText) (e : ExprText) (tokens rest : List Token) → Fits e → First (plain mark.ListClose) tokens rest
-    → Leads (into (InItem at front ∷ frames) e) tokens (Have frames (list_text at (put front (more_exprs e no_exprs)))) rest
+closes_item : (frames : List Frame) (at : ℕ) (front : List ExprSyntax) (e : ExprSyntax) (tokens rest : List Token) → Fits e → First (plain mark.ListClose) tokens rest
+    → Leads (into (InItem at front ∷ frames) e) tokens (Have frames (list_syntax at (put front (more_exprs e no_exprs)))) rest
 closes_item frames at front e tokens rest fits f =
-    leads_first (into (InItem at front ∷ frames) e) (Have frames (list_text at (put front (more_exprs e no_exprs)))) (plain mark.ListClose) tokens rest f
-    (λ p g k. ap list_after (ends_whole e (InItem at front ∷ frames) fits (omega arith)) ∙ ap (λ w. Have frames (list_text at w)) (order_last front e))
+    leads_first (into (InItem at front ∷ frames) e) (Have frames (list_syntax at (put front (more_exprs e no_exprs)))) (plain mark.ListClose) tokens rest f
+    (λ p g k. ap list_after (ends_whole e (InItem at front ∷ frames) fits (omega arith)) ∙ ap (λ w. Have frames (list_syntax at w)) (order_last front e))
 
-next_item : (frames : List Frame) (at : ℕ) (front : List ExprText) (e : ExprText) (tokens rest : List Token) → Fits e → First (plain mark.Semi) tokens rest
+next_item : (frames : List Frame) (at : ℕ) (front : List ExprSyntax) (e : ExprSyntax) (tokens rest : List Token) → Fits e → First (plain mark.Semi) tokens rest
     → Leads (into (InItem at front ∷ frames) e) tokens (Need (InItem at (front ++ e ∷ []) ∷ frames)) rest
 next_item frames at front e tokens rest fits f =
     leads_first (into (InItem at front ∷ frames) e) (Need (InItem at (front ++ e ∷ []) ∷ frames)) (plain mark.Semi) tokens rest f
     (λ p g k. ap semi_after (ends_whole e (InItem at front ∷ frames) fits (omega arith)))
 
-closes_field : (frames : List Frame) (at : ℕ) (front : List FieldPart) (place : ℕ) (x : List ℕ) (e : ExprText) (tokens rest : List Token) → Fits e → First (plain mark.RecordClose) tokens rest
-    → Leads (into (InField at front place x ∷ frames) e) tokens (Have frames (fields_text at (put_fields front (more_fields place x e no_fields)))) rest
+closes_field : (frames : List Frame) (at : ℕ) (front : List FieldPart) (place : ℕ) (x : List ℕ) (e : ExprSyntax) (tokens rest : List Token) → Fits e → First (plain mark.RecordClose) tokens rest
+    → Leads (into (InField at front place x ∷ frames) e) tokens (Have frames (fields_syntax at (put_fields front (more_fields place x e no_fields)))) rest
 closes_field frames at front place x e tokens rest fits f =
-    leads_first (into (InField at front place x ∷ frames) e) (Have frames (fields_text at (put_fields front (more_fields place x e no_fields)))) (plain mark.RecordClose) tokens rest f
-    (λ p g k. ap record_after (ends_whole e (InField at front place x ∷ frames) fits (omega arith)) ∙ ap (λ w. Have frames (fields_text at w)) (field_order_last front place x e))
+    leads_first (into (InField at front place x ∷ frames) e) (Have frames (fields_syntax at (put_fields front (more_fields place x e no_fields)))) (plain mark.RecordClose) tokens rest f
+    (λ p g k. ap record_after (ends_whole e (InField at front place x ∷ frames) fits (omega arith)) ∙ ap (λ w. Have frames (fields_syntax at w)) (field_order_last front place x e))
 
-next_field : (frames : List Frame) (at : ℕ) (front : List FieldPart) (place : ℕ) (x : List ℕ) (e : ExprText) (tokens rest : List Token) → Fits e → First (plain mark.Semi) tokens rest
+next_field : (frames : List Frame) (at : ℕ) (front : List FieldPart) (place : ℕ) (x : List ℕ) (e : ExprSyntax) (tokens rest : List Token) → Fits e → First (plain mark.Semi) tokens rest
     → Leads (into (InField at front place x ∷ frames) e) tokens (Inside frames (FieldName at (with_field front place x e))) rest
 next_field frames at front place x e tokens rest fits f =
     leads_first (into (InField at front place x ∷ frames) e) (Inside frames (FieldName at (with_field front place x e))) (plain mark.Semi) tokens rest f
@@ -116,7 +116,7 @@ names_field frames at front place x tokens mid rest f e =
 
 -- ---- arguments
 
-first_argument : (at : ℕ) (f : List ℕ) (frames : List Frame) → 1 < top_bound frames → argument frames (name_text at f) ≡ Some (InArgument at f [] ∷ frames)
+first_argument : (at : ℕ) (f : List ℕ) (frames : List Frame) → 1 < top_bound frames → argument frames (name_syntax at f) ≡ Some (InArgument at f [] ∷ frames)
 first_argument at f [] lt = refl
 first_argument at f (InBracket m ∷ frames) lt = refl
 first_argument at f (InItem m front ∷ frames) lt = refl
@@ -134,70 +134,70 @@ first_argument at f (InNot m ∷ frames) lt = absurd (omega arith)
 first_argument at f (InRight m sign left ∷ frames) lt = rw lt-ltb refl
 first_argument at f (InArgument m g front ∷ frames) lt = absurd (omega arith)
 
-begins_argument : (frames new : List Frame) (t atom : ExprText) (to : State) (tokens mid rest : List Token) → argument frames t ≡ Some new → Spells atom tokens mid → Fits atom → rank atom ≡ 0
+begins_argument : (frames new : List Frame) (t atom : ExprSyntax) (to : State) (tokens mid rest : List Token) → argument frames t ≡ Some new → Spells atom tokens mid → Fits atom → rank atom ≡ 0
     → Need new ≢ to → Leads (Need new) tokens to rest → Leads (Have frames t) tokens to rest
 begins_argument frames new t atom to tokens mid rest e s fits low apart p =
     leads_alike begins_atom (Have frames t) (Need new) to tokens rest (first_atom atom tokens mid s fits low) (atom_alike frames new t e) apart p
 
 -- a sign that is no comparison
-leads_sign : (sign : Infix) (at : ℕ) (frames : List Frame) (a : ExprText) (tokens rest : List Token) → Fits a → rank a ≤ left_limit sign → infix_rank sign < top_bound frames → FirstAt (operator sign) at tokens rest
+leads_sign : (sign : Infix) (at : ℕ) (frames : List Frame) (a : ExprSyntax) (tokens rest : List Token) → Fits a → rank a ≤ left_limit sign → infix_rank sign < top_bound frames → FirstAt (operator sign) at tokens rest
     → ((p : ℕ) (g : Bool) (k : Kind) → act (into frames a) (operator sign) p g k ≡ infix_after sign p (reduce (left_limit sign) (opened frames a) (last_atom a)))
     → Leads (into frames a) tokens (Need (InRight at sign a ∷ frames)) rest
 leads_sign sign at frames a tokens rest fits le lt f e =
     leads_at (into frames a) (Need (InRight at sign a ∷ frames)) (operator sign) at tokens rest f (λ g k. e at g k ∙ after_left sign at frames a fits le lt)
 
 mutual
-  pub complete : (t : ExprText) (frames : List Frame) (tokens rest : List Token) → Spells t tokens rest → Fits t → rank t < top_bound frames → Leads (Need frames) tokens (into frames t) rest
-  complete (truth_text at b) frames tokens rest s fits lt = leads_at (Need frames) (Have frames (truth_text at b)) (truth b) at tokens rest s (λ g k. refl)
-  complete (number_text at c n) frames tokens rest s fits lt =
-      thence (leads_at (Need frames) (Have frames (number_text at c None)) (number c) at tokens s.0 s.1 (λ g k. refl)) (leads_written frames at c n s.0 rest s.2 fits)
-  complete (name_text at x) frames tokens rest s fits lt = leads_at (Need frames) (Have frames (name_text at x)) (name x) at tokens rest s (λ g k. refl)
-  complete (call_text at f no_exprs) frames tokens rest s fits lt = absurd fits.0
-  complete (call_text at f (more_exprs e es)) frames tokens rest s fits lt =
+  pub complete : (t : ExprSyntax) (frames : List Frame) (tokens rest : List Token) → Spells t tokens rest → Fits t → rank t < top_bound frames → Leads (Need frames) tokens (into frames t) rest
+  complete (truth_syntax at b) frames tokens rest s fits lt = leads_at (Need frames) (Have frames (truth_syntax at b)) (truth b) at tokens rest s (λ g k. refl)
+  complete (number_syntax at c n) frames tokens rest s fits lt =
+      thence (leads_at (Need frames) (Have frames (number_syntax at c None)) (number c) at tokens s.0 s.1 (λ g k. refl)) (leads_written frames at c n s.0 rest s.2 fits)
+  complete (name_syntax at x) frames tokens rest s fits lt = leads_at (Need frames) (Have frames (name_syntax at x)) (name x) at tokens rest s (λ g k. refl)
+  complete (call_syntax at f no_exprs) frames tokens rest s fits lt = absurd fits.0
+  complete (call_syntax at f (more_exprs e es)) frames tokens rest s fits lt =
       let first : List Frame = InArgument at f [] ∷ frames in
-      thence (leads_at (Need frames) (Have frames (name_text at f)) (name f) at tokens s.0 s.1 (λ g k. refl))
+      thence (leads_at (Need frames) (Have frames (name_syntax at f)) (name f) at tokens s.0 s.1 (λ g k. refl))
       (
-      begins_argument frames first (name_text at f) e (into frames (call_text at f (more_exprs e es))) s.0 s.2.0 rest (first_argument at f frames lt) s.2.1 fits.1.1 fits.1.0 (λ h. cc)
+      begins_argument frames first (name_syntax at f) e (into frames (call_syntax at f (more_exprs e es))) s.0 s.2.0 rest (first_argument at f frames lt) s.2.1 fits.1.1 fits.1.0 (λ h. cc)
       (
       thence (leads_as (Need first) (into first e) (Have first e) s.0 s.2.0 (complete e first s.0 s.2.0 s.2.1 fits.1.1 (omega (arith, fits.1.0))) (atom_into first e fits.1.0))
-      (complete_arguments es e (call_text at f (more_exprs e es)) at f [] frames s.2.0 rest s.2.2 fits.1.2)
+      (complete_arguments es e (call_syntax at f (more_exprs e es)) at f [] frames s.2.0 rest s.2.2 fits.1.2)
       )
       )
-  complete (negate_text at e) frames tokens rest s fits lt =
+  complete (negate_syntax at e) frames tokens rest s fits lt =
       thence (leads_at (Need frames) (Need (InNegate at ∷ frames)) minus at tokens s.0 s.1 (λ g k. may frames 2 (Need (InNegate at ∷ frames)) lt))
       (complete e (InNegate at ∷ frames) s.0 rest s.2 fits.1 (omega (arith, fits.0)))
-  complete (not_text at e) frames tokens rest s fits lt =
+  complete (not_syntax at e) frames tokens rest s fits lt =
       thence (leads_at (Need frames) (Need (InNot at ∷ frames)) (plain mark.Not) at tokens s.0 s.1 (λ g k. may frames 1 (Need (InNot at ∷ frames)) lt))
       (complete e (InNot at ∷ frames) s.0 rest s.2 fits.1 (omega (arith, fits.0)))
-  complete (arith_text at op a b) frames tokens rest s fits lt =
+  complete (arith_syntax at op a b) frames tokens rest s fits lt =
       let low = arith_low op in
       thence (complete a frames tokens s.0 s.2 fits.2 (omega (arith, fits.0)))
       (
       thence (leads_sign (between.Arith op) at frames a s.0 s.1 fits.2 fits.0 lt s.3 (λ p g k. refl))
       (complete b (InRight at (between.Arith op) a ∷ frames) s.1 rest s.4 fits.3 fits.1)
       )
-  complete (compare_text at sign a b) frames tokens rest s fits lt =
+  complete (compare_syntax at sign a b) frames tokens rest s fits lt =
       thence (complete a frames tokens s.0 s.2 fits.2 (omega (arith, fits.0)))
       (leads_compare sign at frames a b s.0 s.1 rest fits.2 fits.0 lt s.3 s.4 (complete b (InRight at (between.Compare sign) a ∷ frames) s.1 rest s.4 fits.3 fits.1))
-  complete (and_text at a b) frames tokens rest s fits lt =
+  complete (and_syntax at a b) frames tokens rest s fits lt =
       thence (complete a frames tokens s.0 s.2 fits.2 (omega (arith, fits.0)))
       (
       thence (leads_sign between.And at frames a s.0 s.1 fits.2 fits.0 lt s.3 (λ p g k. refl))
       (complete b (InRight at between.And a ∷ frames) s.1 rest s.4 fits.3 fits.1)
       )
-  complete (or_text at a b) frames tokens rest s fits lt =
+  complete (or_syntax at a b) frames tokens rest s fits lt =
       thence (complete a frames tokens s.0 s.2 fits.2 (omega (arith, fits.0)))
       (
       thence (leads_sign between.Or at frames a s.0 s.1 fits.2 fits.0 lt s.3 (λ p g k. refl))
       (complete b (InRight at between.Or a ∷ frames) s.1 rest s.4 fits.3 fits.1)
       )
-  complete (cons_text at a b) frames tokens rest s fits lt =
+  complete (cons_syntax at a b) frames tokens rest s fits lt =
       thence (complete a frames tokens s.0 s.2 fits.2 (omega (arith, fits.0)))
       (
       thence (leads_sign between.Cons at frames a s.0 s.1 fits.2 fits.0 lt s.3 (λ p g k. refl))
       (complete b (InRight at between.Cons a ∷ frames) s.1 rest s.4 fits.3 fits.1)
       )
-  complete (if_text at c a b) frames tokens rest s fits lt =
+  complete (if_syntax at c a b) frames tokens rest s fits lt =
       thence (leads_at (Need frames) (Need (InTest at ∷ frames)) (plain mark.If) at tokens s.0 s.5 (λ g k. may frames 9 (Need (InTest at ∷ frames)) lt))
       (
       thence (complete c (InTest at ∷ frames) s.0 s.1 s.6 fits.0 (omega (arith, rank_low c)))
@@ -220,7 +220,7 @@ mutual
       )
       )
       )
-  complete (let_text at x a b) frames tokens rest s fits lt =
+  complete (let_syntax at x a b) frames tokens rest s fits lt =
       thence (leads_at (Need frames) (Inside frames (LetBinder at)) (plain mark.Let) at tokens s.0 s.5 (λ g k. may frames 9 (Inside frames (LetBinder at)) lt))
       (
       thence (leads_binder (Inside frames (LetBinder at)) (λ z. Inside frames (LetEqual at z)) x s.0 s.1 s.6 (λ z p g k. refl) (λ p g k. refl))
@@ -239,7 +239,7 @@ mutual
       )
       )
       )
-  complete (match_text at l a x y b) frames tokens rest s fits lt =
+  complete (match_syntax at l a x y b) frames tokens rest s fits lt =
       thence (leads_at (Need frames) (Need (InMatched at ∷ frames)) (plain mark.Match) at tokens s.0 s.5 (λ g k. may frames 9 (Need (InMatched at ∷ frames)) lt))
       (
       thence (complete l (InMatched at ∷ frames) s.0 s.1 s.6 fits.0 (omega (arith, rank_low l)))
@@ -251,16 +251,16 @@ mutual
       )
       )
       )
-  complete (nil_text at t) frames tokens rest s fits lt = leads_nil frames at t tokens rest s fits
-  complete (list_text at no_exprs) frames tokens rest s fits lt = absurd s.3
-  complete (list_text at (more_exprs e es)) frames tokens rest s fits lt =
+  complete (nil_syntax at t) frames tokens rest s fits lt = leads_nil frames at t tokens rest s fits
+  complete (list_syntax at no_exprs) frames tokens rest s fits lt = absurd s.3
+  complete (list_syntax at (more_exprs e es)) frames tokens rest s fits lt =
       thence (leads_at (Need frames) (Need (InItem at [] ∷ frames)) (plain mark.ListOpen) at tokens s.0 s.2 (λ g k. refl))
       (
       thence (complete e (InItem at [] ∷ frames) s.0 s.3.0 s.3.1 fits.0 (omega (arith, rank_low e)))
       (complete_items es e at [] frames s.3.0 s.1 rest s.3.2 fits.0 fits.1 s.4)
       )
-  complete (fields_text at no_fields) frames tokens rest s fits lt = absurd s.3
-  complete (fields_text at (more_fields place x e fs)) frames tokens rest s fits lt =
+  complete (fields_syntax at no_fields) frames tokens rest s fits lt = absurd s.3
+  complete (fields_syntax at (more_fields place x e fs)) frames tokens rest s fits lt =
       thence (leads_at (Need frames) (Inside frames (FieldName at [])) (plain mark.RecordOpen) at tokens s.0 s.2 (λ g k. refl))
       (
       thence (names_field frames at [] place x s.0 s.3.0 s.3.1 s.3.3 s.3.4)
@@ -269,24 +269,24 @@ mutual
       (complete_fields fs place x e at [] frames s.3.2 s.1 rest s.3.6 fits.0 fits.1 s.4)
       )
       )
-  complete (field_text at place x e) frames tokens rest s fits lt =
+  complete (field_syntax at place x e) frames tokens rest s fits lt =
       thence (leads_as (Need frames) (into frames e) (Have frames e) tokens s.0 (complete e frames tokens s.0 s.2 fits.1 (omega (arith, fits.0))) (atom_into frames e fits.0))
       (
       thence (leads_at (Have frames e) (Inside frames (DotName at e)) (plain mark.Dot) at s.0 s.1 s.3 (λ g k. refl))
-      (leads_at (Inside frames (DotName at e)) (Have frames (field_text at place x e)) (name x) place s.1 rest s.4 (λ g k. refl))
+      (leads_at (Inside frames (DotName at e)) (Have frames (field_syntax at place x e)) (name x) place s.1 rest s.4 (λ g k. refl))
       )
-  complete (bracket_expr_text at e) frames tokens rest s fits lt =
+  complete (bracket_expr_syntax at e) frames tokens rest s fits lt =
       thence (leads_at (Need frames) (Need (InBracket at ∷ frames)) (plain mark.Open) at tokens s.0 s.2 (λ g k. refl))
       (
       thence (complete e (InBracket at ∷ frames) s.0 s.1 s.3 fits (omega (arith, rank_low e)))
       (
-      leads_first (into (InBracket at ∷ frames) e) (Have frames (bracket_expr_text at e)) (plain mark.Close) s.1 rest s.4
+      leads_first (into (InBracket at ∷ frames) e) (Have frames (bracket_expr_syntax at e)) (plain mark.Close) s.1 rest s.4
       (λ p g k. ap close_after (ends_whole e (InBracket at ∷ frames) fits (omega arith)))
       )
       )
 
   -- the arguments behind the first
-  complete_arguments : (es : ExprTexts) (e t : ExprText) (at : ℕ) (f : List ℕ) (front : List ExprText) (frames : List Frame) (tokens rest : List Token) → AllSpell es tokens rest → AreAtoms es
+  complete_arguments : (es : ExprSyntaxes) (e t : ExprSyntax) (at : ℕ) (f : List ℕ) (front : List ExprSyntax) (frames : List Frame) (tokens rest : List Token) → AllSpell es tokens rest → AreAtoms es
       → Leads (Have (InArgument at f front ∷ frames) e) tokens (Have (opened_call frames at f front (more_exprs e es)) (last_argument t (more_exprs e es))) rest
   complete_arguments no_exprs e t at f front frames tokens rest s fits =
       leads_here (Have (InArgument at f front ∷ frames) e) (Have (InArgument at f front ∷ frames) e) tokens rest refl s
@@ -300,24 +300,24 @@ mutual
       )
 
   -- the items behind the first, and `]`
-  complete_items : (es : ExprTexts) (e : ExprText) (at : ℕ) (front : List ExprText) (frames : List Frame) (tokens mid rest : List Token) → MoreItems es tokens mid → Fits e → AllFit es
-      → First (plain mark.ListClose) mid rest → Leads (into (InItem at front ∷ frames) e) tokens (Have frames (list_text at (put front (more_exprs e es)))) rest
+  complete_items : (es : ExprSyntaxes) (e : ExprSyntax) (at : ℕ) (front : List ExprSyntax) (frames : List Frame) (tokens mid rest : List Token) → MoreItems es tokens mid → Fits e → AllFit es
+      → First (plain mark.ListClose) mid rest → Leads (into (InItem at front ∷ frames) e) tokens (Have frames (list_syntax at (put front (more_exprs e es)))) rest
   complete_items no_exprs e at front frames tokens mid rest s fit fits f =
       closes_item frames at front e tokens rest fit (subst (λ w. First (plain mark.ListClose) w rest) (sym s) f)
   complete_items (more_exprs d es) e at front frames tokens mid rest s fit fits f =
-      let more : List ExprText = front ++ e ∷ [] in
+      let more : List ExprSyntax = front ++ e ∷ [] in
       thence (next_item frames at front e tokens s.0 fit s.2)
       (
       thence (complete d (InItem at more ∷ frames) s.0 s.1 s.3 fits.0 (omega (arith, rank_low d)))
       (
-      leads_as (into (InItem at more ∷ frames) d) (Have frames (list_text at (put more (more_exprs d es)))) (Have frames (list_text at (put front (more_exprs e (more_exprs d es))))) s.1 rest
-      (complete_items es d at more frames s.1 mid rest s.4 fits.0 fits.1 f) (ap (λ w. Have frames (list_text at w)) (put_last front e (more_exprs d es)))
+      leads_as (into (InItem at more ∷ frames) d) (Have frames (list_syntax at (put more (more_exprs d es)))) (Have frames (list_syntax at (put front (more_exprs e (more_exprs d es))))) s.1 rest
+      (complete_items es d at more frames s.1 mid rest s.4 fits.0 fits.1 f) (ap (λ w. Have frames (list_syntax at w)) (put_last front e (more_exprs d es)))
       )
       )
 
   -- the fields behind the first, and `}`
-  complete_fields : (fs : FieldTexts) (place : ℕ) (x : List ℕ) (e : ExprText) (at : ℕ) (front : List FieldPart) (frames : List Frame) (tokens mid rest : List Token) → MoreFields fs tokens mid → Fits e
-      → FieldsFit fs → First (plain mark.RecordClose) mid rest → Leads (into (InField at front place x ∷ frames) e) tokens (Have frames (fields_text at (put_fields front (more_fields place x e fs)))) rest
+  complete_fields : (fs : FieldSyntaxes) (place : ℕ) (x : List ℕ) (e : ExprSyntax) (at : ℕ) (front : List FieldPart) (frames : List Frame) (tokens mid rest : List Token) → MoreFields fs tokens mid → Fits e
+      → FieldsFit fs → First (plain mark.RecordClose) mid rest → Leads (into (InField at front place x ∷ frames) e) tokens (Have frames (fields_syntax at (put_fields front (more_fields place x e fs)))) rest
   complete_fields no_fields place x e at front frames tokens mid rest s fit fits f =
       closes_field frames at front place x e tokens rest fit (subst (λ w. First (plain mark.RecordClose) w rest) (sym s) f)
   complete_fields (more_fields q y d fs) place x e at front frames tokens mid rest s fit fits f =
@@ -328,9 +328,9 @@ mutual
       (
       thence (complete d (InField at more q y ∷ frames) s.2 s.3 s.7 fits.0 (omega (arith, rank_low d)))
       (
-      leads_as (into (InField at more q y ∷ frames) d) (Have frames (fields_text at (put_fields more (more_fields q y d fs))))
-      (Have frames (fields_text at (put_fields front (more_fields place x e (more_fields q y d fs))))) s.3 rest (complete_fields fs q y d at more frames s.3 mid rest s.8 fits.0 fits.1 f)
-      (ap (λ w. Have frames (fields_text at w)) (put_field_last front place x e (more_fields q y d fs)))
+      leads_as (into (InField at more q y ∷ frames) d) (Have frames (fields_syntax at (put_fields more (more_fields q y d fs))))
+      (Have frames (fields_syntax at (put_fields front (more_fields place x e (more_fields q y d fs))))) s.3 rest (complete_fields fs q y d at more frames s.3 mid rest s.8 fits.0 fits.1 f)
+      (ap (λ w. Have frames (fields_syntax at w)) (put_field_last front place x e (more_fields q y d fs)))
       )
       )
       )

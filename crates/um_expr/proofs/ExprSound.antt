@@ -5,7 +5,7 @@ use Rattle.um_frac.specs.declared.number.Frac.{Frac}
 use Rattle.um_syntax.specs.declared.token.Token.{Token}
 use Rattle.um_tree.specs.declared.expression.Sign.TheVariants as compare
 use Rattle.um_tree.specs.declared.expression.Arith.TheVariants as arith_of
-use Rattle.um_tree.specs.RawTree.{NoteText, TypeText, ExprText, truth_text, number_text, name_text, call_text, negate_text, not_text, arith_text, compare_text, and_text, or_text, if_text, let_text, match_text, nil_text, list_text, cons_text, fields_text, field_text, bracket_expr_text}
+use Rattle.um_tree.specs.RawTree.{NoteSyntax, TypeSyntax, ExprSyntax, truth_syntax, number_syntax, name_syntax, call_syntax, negate_syntax, not_syntax, arith_syntax, compare_syntax, and_syntax, or_syntax, if_syntax, let_syntax, match_syntax, nil_syntax, list_syntax, cons_syntax, fields_syntax, field_syntax, bracket_expr_syntax}
 use Rattle.um_types.specs.Machines.{runs}
 use Rattle.um_types.specs.UnitMachine.{State as UnitState}
 use Rattle.um_types.specs.NoteMachine.{NoteState, NeedNote, HaveHole, InUnit, NoNote, note_step, note_finish}
@@ -65,16 +65,16 @@ begin_sound frames (operator (between.Arith arith_of.Sub)) at tokens mid rest r 
 begin_sound frames _ at tokens mid rest r f s = tt
 
 -- behind `>`
-greater_frame : (frames : List Frame) (place : ℕ) (left : ExprText) (tokens rest : List Token) → Stands (Greater frames place left) tokens rest
+greater_frame : (frames : List Frame) (place : ℕ) (left : ExprSyntax) (tokens rest : List Token) → Stands (Greater frames place left) tokens rest
     → FramesRead (InRight place (between.Compare compare.Gt) left ∷ frames) tokens rest × FramesFit (InRight place (between.Compare compare.Gt) left ∷ frames)
 greater_frame frames place left tokens rest h = ((h.0, h.2, (h.1, h.3, h.4)), ((h.6, h.7, h.8), h.5))
 
-at_least_sound : (frames : List Frame) (place : ℕ) (left : ExprText) (at : ℕ) (glued : Bool) (tokens mid rest : List Token) → Stands (Greater frames place left) tokens mid → Next equal at glued mid rest
+at_least_sound : (frames : List Frame) (place : ℕ) (left : ExprSyntax) (at : ℕ) (glued : Bool) (tokens mid rest : List Token) → Stands (Greater frames place left) tokens mid → Next equal at glued mid rest
     → Stands (cond glued (Need (InRight place (between.Compare compare.Ge) left ∷ frames)) Refused) tokens rest
 at_least_sound frames place left at true tokens mid rest h s = ((h.0, h.2, (h.1, h.3, (mid, h.4, (s.0, s.1, s.3, s.4)))), ((h.6, h.7, h.8), h.5))
 at_least_sound frames place left at false tokens mid rest h s = tt
 
-after_greater_sound : (frames : List Frame) (place : ℕ) (left : ExprText) (what : ExprToken) (at : ℕ) (glued : Bool) (tokens mid rest : List Token) → Stands (Greater frames place left) tokens mid
+after_greater_sound : (frames : List Frame) (place : ℕ) (left : ExprSyntax) (what : ExprToken) (at : ℕ) (glued : Bool) (tokens mid rest : List Token) → Stands (Greater frames place left) tokens mid
     → Next what at glued mid rest → Stands (after_greater frames place left what at glued) tokens rest
 after_greater_sound frames place left (operator (between.Compare compare.Eq)) at glued tokens mid rest h s = at_least_sound frames place left at glued tokens mid rest h s
 after_greater_sound frames place left what at glued tokens mid rest h s =
@@ -95,24 +95,24 @@ first_argument_sound at f frames tokens mid rest r s fit =
       | inr not ↦ rw le-ltb tt
     ]
 
-argument_sound : (frames : List Frame) (t : ExprText) (tokens rest : List Token) → Stands (Have frames t) tokens rest → OpenedTo (argument frames t) tokens rest
+argument_sound : (frames : List Frame) (t : ExprSyntax) (tokens rest : List Token) → Stands (Have frames t) tokens rest → OpenedTo (argument frames t) tokens rest
 argument_sound (InArgument at f front ∷ frames) t tokens rest h =
     let r = h.1 in
     ((r.0, r.1, (r.2.0, r.2.1, arguments_last front t r.2.0 h.0 rest r.2.2 h.2)), ((h.3.0.0, atoms_last front t h.3.0.1 h.4 h.5), h.3.1))
-argument_sound [] (name_text at f) tokens rest h = first_argument_sound at f [] tokens h.0 rest h.1 h.2 h.3
-argument_sound (frame ∷ frames) (name_text at f) tokens rest h = first_argument_sound at f (frame ∷ frames) tokens h.0 rest h.1 h.2 h.3
+argument_sound [] (name_syntax at f) tokens rest h = first_argument_sound at f [] tokens h.0 rest h.1 h.2 h.3
+argument_sound (frame ∷ frames) (name_syntax at f) tokens rest h = first_argument_sound at f (frame ∷ frames) tokens h.0 rest h.1 h.2 h.3
 argument_sound _ _ tokens rest h = tt
 
 begin_in_sound : (o : Option (List Frame)) (what : ExprToken) (at : ℕ) (tokens mid rest : List Token) → OpenedTo o tokens mid → FirstAt what at mid rest → Stands (begin_in o what at) tokens rest
 begin_in_sound (Some frames) what at tokens mid rest h s = begin_sound frames what at tokens mid rest h.0 h.1 s
 begin_in_sound None what at tokens mid rest h s = tt
 
-argues : (frames : List Frame) (t : ExprText) (what : ExprToken) (at : ℕ) (tokens mid rest : List Token) → Stands (Have frames t) tokens mid → FirstAt what at mid rest → Stands (begin_in (argument frames t) what at) tokens rest
+argues : (frames : List Frame) (t : ExprSyntax) (what : ExprToken) (at : ℕ) (tokens mid rest : List Token) → Stands (Have frames t) tokens mid → FirstAt what at mid rest → Stands (begin_in (argument frames t) what at) tokens rest
 argues frames t what at tokens mid rest h s = begin_in_sound (argument frames t) what at tokens mid rest (argument_sound frames t tokens mid h) s
 
 -- ---- signs between two operands
 
-infix_sound : (sign : Infix) (last : ExprText) (st : State) (at : ℕ) (tokens mid rest : List Token) → ((t : ExprText) → ends_in_number t ≡ ends_in_number last → InfixAt sign (ends_in_number t) at mid rest)
+infix_sound : (sign : Infix) (last : ExprSyntax) (st : State) (at : ℕ) (tokens mid rest : List Token) → ((t : ExprSyntax) → ends_in_number t ≡ ends_in_number last → InfixAt sign (ends_in_number t) at mid rest)
     → StandsUpTo (left_limit sign) last st tokens mid → Stands (infix_after sign at st) tokens rest
 infix_sound sign last (Have frames t) at tokens mid rest s h =
     may_sound frames (infix_rank sign) (Need (InRight at sign t ∷ frames)) tokens rest (λ lt. ((h.0, h.1, (mid, h.2, s t h.7)), ((lt, h.6, h.4), h.3)))
@@ -126,11 +126,11 @@ infix_sound sign last Refused at tokens mid rest s h = absurd h
 left_small : (sign : Infix) → left_limit sign < 10
 left_small sign = omega (arith, infix_low sign)
 
-infix_then : (frames : List Frame) (t : ExprText) (sign : Infix) (at : ℕ) (tokens mid rest : List Token) → Stands (Have frames t) tokens mid
-    → ((u : ExprText) → ends_in_number u ≡ ends_in_number t → InfixAt sign (ends_in_number u) at mid rest) → Stands (infix_after sign at (reduce (left_limit sign) frames t)) tokens rest
+infix_then : (frames : List Frame) (t : ExprSyntax) (sign : Infix) (at : ℕ) (tokens mid rest : List Token) → Stands (Have frames t) tokens mid
+    → ((u : ExprSyntax) → ends_in_number u ≡ ends_in_number t → InfixAt sign (ends_in_number u) at mid rest) → Stands (infix_after sign at (reduce (left_limit sign) frames t)) tokens rest
 infix_then frames t sign at tokens mid rest h s = infix_sound sign t (reduce (left_limit sign) frames t) at tokens mid rest s (ended (left_limit sign) frames t tokens mid (left_small sign) h)
 
-greater_sound : (last : ExprText) (st : State) (at : ℕ) (tokens mid rest : List Token) → FirstAt greater at mid rest → StandsUpTo 5 last st tokens mid → Stands (greater_after at st) tokens rest
+greater_sound : (last : ExprSyntax) (st : State) (at : ℕ) (tokens mid rest : List Token) → FirstAt greater at mid rest → StandsUpTo 5 last st tokens mid → Stands (greater_after at st) tokens rest
 greater_sound last (Have frames t) at tokens mid rest s h = may_sound frames 6 (Greater frames at t) tokens rest (λ lt. (h.0, mid, h.1, h.2, s, h.3, lt, h.6, h.4))
 greater_sound last (Need frames) at tokens mid rest s h = absurd h
 greater_sound last (Greater frames p l) at tokens mid rest s h = absurd h
@@ -142,54 +142,54 @@ greater_sound last Refused at tokens mid rest s h = absurd h
 need_note : NeedNote ≢ NoNote
 need_note e = cc
 
-less_then : (frames : List Frame) (t : ExprText) (at : ℕ) (glued : Bool) (tokens mid rest : List Token) → Stands (Have frames t) tokens mid → Next less at glued mid rest
+less_then : (frames : List Frame) (t : ExprSyntax) (at : ℕ) (glued : Bool) (tokens mid rest : List Token) → Stands (Have frames t) tokens mid → Next less at glued mid rest
     → (ends_in_number t ≡ true → glued ≡ false) → Stands (infix_after (between.Compare compare.Lt) at (reduce 5 frames t)) tokens rest
 less_then frames t at glued tokens mid rest h s free =
     infix_then frames t (between.Compare compare.Lt) at tokens mid rest h (λ u e. (s.0, s.1, s.2, (λ n. s.3 ∙ free (sym e ∙ n)), s.4))
 
-less_sound : (frames : List Frame) (t : ExprText) (glued : Bool) (at : ℕ) (tokens mid rest : List Token) → Stands (Have frames t) tokens mid → Next less at glued mid rest → Stands (less_after frames t glued at) tokens rest
+less_sound : (frames : List Frame) (t : ExprSyntax) (glued : Bool) (at : ℕ) (tokens mid rest : List Token) → Stands (Have frames t) tokens mid → Next less at glued mid rest → Stands (less_after frames t glued at) tokens rest
 less_sound frames t false at tokens mid rest h s = less_then frames t at false tokens mid rest h s (λ n. refl)
-less_sound frames (number_text p c None) true at tokens mid rest h s =
+less_sound frames (number_syntax p c None) true at tokens mid rest h s =
     (h.0, mid, rest, h.1, (h.2.1.0, h.2.1.1, h.2.1.2, h.2.1.3 ∙ ap (λ w. h.2.1.0 ∷ w) h.2.2), (s.0, s.1, s.3, s.4), refl, h.3, need_note)
-less_sound frames (number_text p c (Some n)) true at tokens mid rest h s = less_then frames (number_text p c (Some n)) at true tokens mid rest h s (λ n. absurd cc)
-less_sound frames (truth_text p b) true at tokens mid rest h s = less_then frames (truth_text p b) at true tokens mid rest h s (λ n. absurd cc)
-less_sound frames (name_text p x) true at tokens mid rest h s = less_then frames (name_text p x) at true tokens mid rest h s (λ n. absurd cc)
-less_sound frames (nil_text p t) true at tokens mid rest h s = less_then frames (nil_text p t) at true tokens mid rest h s (λ n. absurd cc)
-less_sound frames (list_text p es) true at tokens mid rest h s = less_then frames (list_text p es) at true tokens mid rest h s (λ n. absurd cc)
-less_sound frames (fields_text p fs) true at tokens mid rest h s = less_then frames (fields_text p fs) at true tokens mid rest h s (λ n. absurd cc)
-less_sound frames (field_text p q x e) true at tokens mid rest h s = less_then frames (field_text p q x e) at true tokens mid rest h s (λ n. absurd cc)
-less_sound frames (bracket_expr_text p e) true at tokens mid rest h s = less_then frames (bracket_expr_text p e) at true tokens mid rest h s (λ n. absurd cc)
-less_sound frames (call_text p f args) true at tokens mid rest h s = absurd (omega (arith, h.5))
-less_sound frames (negate_text p e) true at tokens mid rest h s = absurd (omega (arith, h.5))
-less_sound frames (not_text p e) true at tokens mid rest h s = absurd (omega (arith, h.5))
-less_sound frames (arith_text p op a b) true at tokens mid rest h s = absurd (omega (arith, arith_low op, h.5))
-less_sound frames (compare_text p sign a b) true at tokens mid rest h s = absurd (omega (arith, h.5))
-less_sound frames (and_text p a b) true at tokens mid rest h s = absurd (omega (arith, h.5))
-less_sound frames (or_text p a b) true at tokens mid rest h s = absurd (omega (arith, h.5))
-less_sound frames (cons_text p a b) true at tokens mid rest h s = absurd (omega (arith, h.5))
-less_sound frames (if_text p c a b) true at tokens mid rest h s = absurd (omega (arith, h.5))
-less_sound frames (let_text p x a b) true at tokens mid rest h s = absurd (omega (arith, h.5))
-less_sound frames (match_text p l a x y b) true at tokens mid rest h s = absurd (omega (arith, h.5))
+less_sound frames (number_syntax p c (Some n)) true at tokens mid rest h s = less_then frames (number_syntax p c (Some n)) at true tokens mid rest h s (λ n. absurd cc)
+less_sound frames (truth_syntax p b) true at tokens mid rest h s = less_then frames (truth_syntax p b) at true tokens mid rest h s (λ n. absurd cc)
+less_sound frames (name_syntax p x) true at tokens mid rest h s = less_then frames (name_syntax p x) at true tokens mid rest h s (λ n. absurd cc)
+less_sound frames (nil_syntax p t) true at tokens mid rest h s = less_then frames (nil_syntax p t) at true tokens mid rest h s (λ n. absurd cc)
+less_sound frames (list_syntax p es) true at tokens mid rest h s = less_then frames (list_syntax p es) at true tokens mid rest h s (λ n. absurd cc)
+less_sound frames (fields_syntax p fs) true at tokens mid rest h s = less_then frames (fields_syntax p fs) at true tokens mid rest h s (λ n. absurd cc)
+less_sound frames (field_syntax p q x e) true at tokens mid rest h s = less_then frames (field_syntax p q x e) at true tokens mid rest h s (λ n. absurd cc)
+less_sound frames (bracket_expr_syntax p e) true at tokens mid rest h s = less_then frames (bracket_expr_syntax p e) at true tokens mid rest h s (λ n. absurd cc)
+less_sound frames (call_syntax p f args) true at tokens mid rest h s = absurd (omega (arith, h.5))
+less_sound frames (negate_syntax p e) true at tokens mid rest h s = absurd (omega (arith, h.5))
+less_sound frames (not_syntax p e) true at tokens mid rest h s = absurd (omega (arith, h.5))
+less_sound frames (arith_syntax p op a b) true at tokens mid rest h s = absurd (omega (arith, arith_low op, h.5))
+less_sound frames (compare_syntax p sign a b) true at tokens mid rest h s = absurd (omega (arith, h.5))
+less_sound frames (and_syntax p a b) true at tokens mid rest h s = absurd (omega (arith, h.5))
+less_sound frames (or_syntax p a b) true at tokens mid rest h s = absurd (omega (arith, h.5))
+less_sound frames (cons_syntax p a b) true at tokens mid rest h s = absurd (omega (arith, h.5))
+less_sound frames (if_syntax p c a b) true at tokens mid rest h s = absurd (omega (arith, h.5))
+less_sound frames (let_syntax p x a b) true at tokens mid rest h s = absurd (omega (arith, h.5))
+less_sound frames (match_syntax p l a x y b) true at tokens mid rest h s = absurd (omega (arith, h.5))
 
 -- ---- what ends a frame
 
-close_sound : (last : ExprText) (st : State) (tokens mid rest : List Token) → First (plain mark.Close) mid rest → StandsUpTo 9 last st tokens mid → Stands (close_after st) tokens rest
+close_sound : (last : ExprSyntax) (st : State) (tokens mid rest : List Token) → First (plain mark.Close) mid rest → StandsUpTo 9 last st tokens mid → Stands (close_after st) tokens rest
 close_sound last (Have (InBracket at ∷ frames) t) tokens mid rest s h = (h.1.0, h.1.1, (h.0, mid, h.1.2, h.2, s), h.3.1, h.4, refl)
 close_sound last _ tokens mid rest s h = tt
 
-list_sound : (last : ExprText) (st : State) (tokens mid rest : List Token) → First (plain mark.ListClose) mid rest → StandsUpTo 9 last st tokens mid → Stands (list_after st) tokens rest
+list_sound : (last : ExprSyntax) (st : State) (tokens mid rest : List Token) → First (plain mark.ListClose) mid rest → StandsUpTo 9 last st tokens mid → Stands (list_after st) tokens rest
 list_sound last (Have (InItem at front ∷ frames) t) tokens mid rest s h =
     let r = h.1 in (r.0, r.1, (r.2.0, mid, r.2.1, items_last front t r.2.0 h.0 mid r.2.2 h.2, s), h.3.1, items_fit front t h.3.0 h.4, refl)
 list_sound last _ tokens mid rest s h = tt
 
-record_sound : (last : ExprText) (st : State) (tokens mid rest : List Token) → First (plain mark.RecordClose) mid rest → StandsUpTo 9 last st tokens mid → Stands (record_after st) tokens rest
+record_sound : (last : ExprSyntax) (st : State) (tokens mid rest : List Token) → First (plain mark.RecordClose) mid rest → StandsUpTo 9 last st tokens mid → Stands (record_after st) tokens rest
 record_sound last (Have (InField at front place x ∷ frames) t) tokens mid rest s h =
     let r = h.1 in
     let p = r.2 in
     (r.0, r.1, (p.0, mid, p.3, fields_last front place x t p.0 p.1 p.2 h.0 mid p.4 p.5 p.6 h.2, s), h.3.1, fields_fit front place x t h.3.0 h.4, refl)
 record_sound last _ tokens mid rest s h = tt
 
-semi_sound : (last : ExprText) (st : State) (tokens mid rest : List Token) → First (plain mark.Semi) mid rest → StandsUpTo 9 last st tokens mid → Stands (semi_after st) tokens rest
+semi_sound : (last : ExprSyntax) (st : State) (tokens mid rest : List Token) → First (plain mark.Semi) mid rest → StandsUpTo 9 last st tokens mid → Stands (semi_after st) tokens rest
 semi_sound last (Have (InItem at front ∷ frames) t) tokens mid rest s h =
     let r = h.1 in ((r.0, r.1, (r.2.0, r.2.1, items_next front t r.2.0 h.0 mid rest r.2.2 h.2 s)), (items_fit front t h.3.0 h.4, h.3.1))
 semi_sound last (Have (InField at front place x ∷ frames) t) tokens mid rest s h =
@@ -198,30 +198,30 @@ semi_sound last (Have (InField at front place x ∷ frames) t) tokens mid rest s
     (r.0, r.1, (p.0, p.3, fields_next front place x t p.0 p.1 p.2 h.0 mid rest p.4 p.5 p.6 h.2 s), h.3.1, fields_fit front place x t h.3.0 h.4)
 semi_sound last _ tokens mid rest s h = tt
 
-in_sound : (last : ExprText) (st : State) (tokens mid rest : List Token) → First (plain mark.In) mid rest → StandsUpTo 9 last st tokens mid → Stands (in_after st) tokens rest
+in_sound : (last : ExprSyntax) (st : State) (tokens mid rest : List Token) → First (plain mark.In) mid rest → StandsUpTo 9 last st tokens mid → Stands (in_after st) tokens rest
 in_sound last (Have (InValue at x ∷ frames) t) tokens mid rest s h = ((h.1.0, h.1.1, (h.0, mid, h.1.2, h.2, s)), ((h.3.0, h.4), h.3.1))
 in_sound last _ tokens mid rest s h = tt
 
-then_sound : (last : ExprText) (st : State) (tokens mid rest : List Token) → First (plain mark.Then) mid rest → StandsUpTo 9 last st tokens mid → Stands (then_after st) tokens rest
+then_sound : (last : ExprSyntax) (st : State) (tokens mid rest : List Token) → First (plain mark.Then) mid rest → StandsUpTo 9 last st tokens mid → Stands (then_after st) tokens rest
 then_sound last (Have (InTest at ∷ frames) t) tokens mid rest s h = ((h.1.0, h.1.1, (h.0, mid, h.1.2, h.2, s)), ((h.3.0, h.4), h.3.1))
 then_sound last _ tokens mid rest s h = tt
 
-else_sound : (last : ExprText) (st : State) (tokens mid rest : List Token) → First (plain mark.Else) mid rest → StandsUpTo 9 last st tokens mid → Stands (else_after st) tokens rest
+else_sound : (last : ExprSyntax) (st : State) (tokens mid rest : List Token) → First (plain mark.Else) mid rest → StandsUpTo 9 last st tokens mid → Stands (else_after st) tokens rest
 else_sound last (Have (InThen at c ∷ frames) t) tokens mid rest s h = ((h.1.0, h.1.1, (h.0, mid, h.1.2, h.2, s)), ((h.3.0.0, h.3.0.1, h.4), h.3.1))
 else_sound last _ tokens mid rest s h = tt
 
-with_sound : (last : ExprText) (st : State) (tokens mid rest : List Token) → First (plain mark.With) mid rest → StandsUpTo 9 last st tokens mid → Stands (with_after st) tokens rest
+with_sound : (last : ExprSyntax) (st : State) (tokens mid rest : List Token) → First (plain mark.With) mid rest → StandsUpTo 9 last st tokens mid → Stands (with_after st) tokens rest
 with_sound last (Have (InMatched at ∷ frames) t) tokens mid rest s h = (h.1.0, h.1.1, (h.0, mid, h.1.2, h.2, s), h.3.1, (h.3.0, h.4))
 with_sound last _ tokens mid rest s h = tt
 
-bar_sound : (last : ExprText) (st : State) (tokens mid rest : List Token) → First (plain mark.Bar) mid rest → StandsUpTo 9 last st tokens mid → Stands (bar_after st) tokens rest
+bar_sound : (last : ExprSyntax) (st : State) (tokens mid rest : List Token) → First (plain mark.Bar) mid rest → StandsUpTo 9 last st tokens mid → Stands (bar_after st) tokens rest
 bar_sound last (Have (InEmptyArm at l ∷ frames) t) tokens mid rest s h = (h.1.0, h.1.1, (h.0, mid, h.1.2, h.2, s), h.3.1, (h.3.0.0, h.3.0.1, h.4))
 bar_sound last _ tokens mid rest s h = tt
 
-all_ended : (frames : List Frame) (t : ExprText) (tokens mid : List Token) → Stands (Have frames t) tokens mid → StandsUpTo 9 t (reduce 9 frames t) tokens mid
+all_ended : (frames : List Frame) (t : ExprSyntax) (tokens mid : List Token) → Stands (Have frames t) tokens mid → StandsUpTo 9 t (reduce 9 frames t) tokens mid
 all_ended frames t tokens mid h = ended 9 frames t tokens mid (omega arith) h
 
-after_sound : (frames : List Frame) (t : ExprText) (what : ExprToken) (at : ℕ) (glued : Bool) (tokens mid rest : List Token) → Stands (Have frames t) tokens mid → Next what at glued mid rest
+after_sound : (frames : List Frame) (t : ExprSyntax) (what : ExprToken) (at : ℕ) (glued : Bool) (tokens mid rest : List Token) → Stands (Have frames t) tokens mid → Next what at glued mid rest
     → Stands (after frames t what at glued) tokens rest
 after_sound frames t (name x) at glued tokens mid rest h s = argues frames t (name x) at tokens mid rest h (s.0, s.1, s.2, s.4)
 after_sound frames t (number c) at glued tokens mid rest h s = argues frames t (number c) at tokens mid rest h (s.0, s.1, s.2, s.4)
@@ -286,14 +286,14 @@ inside_sound frames _ _ at tokens mid rest h s = tt
 
 -- ---- notes and types
 
-note_end_sound : (frames : List Frame) (at : ℕ) (c : Frac) (n : NoteState) (found : Option NoteText) (what : ExprToken) (tokens mid rest : List Token) → Stands (InNote frames at c n) tokens mid → First what mid rest
+note_end_sound : (frames : List Frame) (at : ℕ) (c : Frac) (n : NoteState) (found : Option NoteSyntax) (what : ExprToken) (tokens mid rest : List Token) → Stands (InNote frames at c n) tokens mid → First what mid rest
     → note_finish n ≡ found → Stands (note_ends frames at c found what) tokens rest
 note_end_sound frames at c n (Some m) (operator (between.Compare compare.Gt)) tokens mid rest h s e =
     let p = note_found n m h.2 mid h.6 e in
     (h.0, h.3, (h.1, h.4, (h.2, mid, h.5, p.0, s)), h.7, p.1, refl)
 note_end_sound frames at c n _ _ tokens mid rest h s e = tt
 
-type_end_sound : (frames : List Frame) (at : ℕ) (n : TypeState) (found : Option TypeText) (what : ExprToken) (tokens mid rest : List Token) → Stands (InType frames at n) tokens mid → First what mid rest
+type_end_sound : (frames : List Frame) (at : ℕ) (n : TypeState) (found : Option TypeSyntax) (what : ExprToken) (tokens mid rest : List Token) → Stands (InType frames at n) tokens mid → First what mid rest
     → type_finish n ≡ found → Stands (type_ends frames at found what) tokens rest
 type_end_sound frames at n (Some t) (plain mark.Close) tokens mid rest h s e =
     let p = type_found n t h.2 mid h.6 e in
@@ -345,7 +345,7 @@ stands read rest = runs_sound read (Need []) (read ++ rest) rest (refl, tt)
 
 -- ---- what is found
 
-whole_found : (last : ExprText) (st : State) (t : ExprText) (tokens rest : List Token) → StandsUpTo 9 last st tokens rest → whole st ≡ Some t → Spells t tokens rest × Fits t
+whole_found : (last : ExprSyntax) (st : State) (t : ExprSyntax) (tokens rest : List Token) → StandsUpTo 9 last st tokens rest → whole st ≡ Some t → Spells t tokens rest × Fits t
 whole_found last (Have [] u) t tokens rest h e =
     let same : u ≡ t = cc in
     subst (λ w. Spells w tokens rest × Fits w) same (subst (λ w. Spells u w rest) (sym h.1) h.2, h.4)
@@ -358,7 +358,7 @@ whole_found last (InType frames p n) t tokens rest h e = absurd cc
 whole_found last Refused t tokens rest h e = absurd cc
 
 -- what is found is an expression
-pub expr_found : (st : State) (t : ExprText) (tokens rest : List Token) → Stands st tokens rest → finish st ≡ Some t → Spells t tokens rest × Fits t
+pub expr_found : (st : State) (t : ExprSyntax) (tokens rest : List Token) → Stands st tokens rest → finish st ≡ Some t → Spells t tokens rest × Fits t
 expr_found (Have frames u) t tokens rest h e = whole_found u (reduce 9 frames u) t tokens rest (all_ended frames u tokens rest h) e
 expr_found (Need frames) t tokens rest h e = absurd cc
 expr_found (Greater frames p l) t tokens rest h e = absurd cc

@@ -2,7 +2,7 @@
 use Rattle.std.proofs.Common.{◌≡◌, ◌≢◌, ℕ, ◌≤◌, ◌<◌, List, [], ◌∷◌, ◌++◌, refl, sym, subst, ◌∙◌, arith, inl, inr, ◌⊎◌}
 use Rattle.std.proofs.lemmas.Bool.{cases_lt, lt-ltb, le-ltb}
 use Rattle.um_syntax.specs.declared.token.Token.{Token}
-use Rattle.um_tree.specs.RawTree.{BinderText, ExprText, FieldPart, exprs_in_order, fields_in_order}
+use Rattle.um_tree.specs.RawTree.{BinderSyntax, ExprSyntax, FieldPart, exprs_in_order, fields_in_order}
 use Rattle.um_types.specs.NoteMachine.{NoNote}
 use Rattle.um_types.specs.TypeMachine.{NoType}
 use Rattle.um_types.proofs.NoteLaws.{NoteStands}
@@ -17,7 +17,7 @@ use Rattle.um_expr.specs.ExprMachine.{Frame, InBracket, InItem, InField, InValue
 use Rattle.um_expr.proofs.ExprEnds.{infix_low}
 
 -- each item with the `;` behind it
-abbrev pub ItemsRead : List ExprText → List Token → List Token → Type 0
+abbrev pub ItemsRead : List ExprSyntax → List Token → List Token → Type 0
 ItemsRead [] tokens rest = tokens ≡ rest
 ItemsRead (e ∷ es) tokens rest = (mid next : List Token) × Spells e tokens mid × First (plain mark.Semi) mid next × ItemsRead es next rest
 
@@ -28,15 +28,15 @@ FieldsRead (f ∷ fs) tokens rest =
     (sign value mid next : List Token) × FirstAt (name f.name) f.at tokens sign × First equal sign value × Spells f.part value mid × First (plain mark.Semi) mid next × FieldsRead fs next rest
 
 -- from `match` up to the `->` of the empty arm
-abbrev pub MatchReads : ℕ → ExprText → List Token → List Token → Type 0
+abbrev pub MatchReads : ℕ → ExprSyntax → List Token → List Token → Type 0
 MatchReads at l tokens rest = (m m' : List Token) × FirstAt (plain mark.Match) at tokens m × Spells l m m' × EmptyArm m' rest
 
 -- from `if` up to `then`
-abbrev pub TestReads : ℕ → ExprText → List Token → List Token → Type 0
+abbrev pub TestReads : ℕ → ExprSyntax → List Token → List Token → Type 0
 TestReads at c tokens rest = (t t' : List Token) × FirstAt (plain mark.If) at tokens t × Spells c t t' × First (plain mark.Then) t' rest
 
 -- from `let` up to `=`
-abbrev pub LetReads : ℕ → BinderText → List Token → List Token → Type 0
+abbrev pub LetReads : ℕ → BinderSyntax → List Token → List Token → Type 0
 LetReads at x tokens rest = (n e : List Token) × FirstAt (plain mark.Let) at tokens n × BinderSpells x n e × First equal e rest
 
 -- `{`, fields, a name and `=`
@@ -141,78 +141,78 @@ Stands (InType frames at s) tokens rest =
 Stands Refused tokens rest = Unit {0}
 
 -- the same once all up to a limit has ended; the last token is still that of `last`
-abbrev pub StandsUpTo : ℕ → ExprText → State → List Token → List Token → Type 0
+abbrev pub StandsUpTo : ℕ → ExprSyntax → State → List Token → List Token → Type 0
 StandsUpTo limit last (Have frames t) tokens rest =
     (mid : List Token) × FramesRead frames tokens mid × Spells t mid rest × FramesFit frames × Fits t × (rank t < top_bound frames) × (rank t ≤ limit) × (ends_in_number t ≡ ends_in_number last)
 StandsUpTo limit last _ tokens rest = ⊥
 
 -- ---- one part more
 
-pub items_next : (front : List ExprText) (t : ExprText) (tokens mid next rest : List Token) → ItemsRead front tokens mid → Spells t mid next → First (plain mark.Semi) next rest → ItemsRead (front ++ t ∷ []) tokens rest
+pub items_next : (front : List ExprSyntax) (t : ExprSyntax) (tokens mid next rest : List Token) → ItemsRead front tokens mid → Spells t mid next → First (plain mark.Semi) next rest → ItemsRead (front ++ t ∷ []) tokens rest
 items_next [] t tokens mid next rest f s c = (next, rest, subst (λ w. Spells t w next) (sym f) s, c, refl)
 items_next (e ∷ es) t tokens mid next rest f s c = (f.0, f.1, f.2, f.3, items_next es t f.1 mid next rest f.4 s c)
 
-more_items : (front : List ExprText) (t : ExprText) (tokens next mid rest : List Token) → First (plain mark.Semi) tokens next → ItemsRead front next mid → Spells t mid rest
+more_items : (front : List ExprSyntax) (t : ExprSyntax) (tokens next mid rest : List Token) → First (plain mark.Semi) tokens next → ItemsRead front next mid → Spells t mid rest
     → MoreItems (exprs_in_order (front ++ t ∷ [])) tokens rest
 more_items [] t tokens next mid rest c f s = (next, rest, c, subst (λ w. Spells t w rest) (sym f) s, refl)
 more_items (e ∷ es) t tokens next mid rest c f s = (next, f.0, c, f.2, more_items es t f.0 f.1 mid rest f.3 f.4 s)
 
-pub items_last : (front : List ExprText) (t : ExprText) (tokens mid rest : List Token) → ItemsRead front tokens mid → Spells t mid rest → ItemsSpell (exprs_in_order (front ++ t ∷ [])) tokens rest
+pub items_last : (front : List ExprSyntax) (t : ExprSyntax) (tokens mid rest : List Token) → ItemsRead front tokens mid → Spells t mid rest → ItemsSpell (exprs_in_order (front ++ t ∷ [])) tokens rest
 items_last [] t tokens mid rest f s = (rest, subst (λ w. Spells t w rest) (sym f) s, refl)
 items_last (e ∷ es) t tokens mid rest f s = (f.0, f.2, more_items es t f.0 f.1 mid rest f.3 f.4 s)
 
-pub items_fit : (front : List ExprText) (t : ExprText) → AllFit (exprs_in_order front) → Fits t → AllFit (exprs_in_order (front ++ t ∷ []))
+pub items_fit : (front : List ExprSyntax) (t : ExprSyntax) → AllFit (exprs_in_order front) → Fits t → AllFit (exprs_in_order (front ++ t ∷ []))
 items_fit [] t h fits = (fits, tt)
 items_fit (e ∷ es) t h fits = (h.0, items_fit es t h.1 fits)
 
-pub fields_next : (front : List FieldPart) (place : ℕ) (x : List ℕ) (t : ExprText) (tokens mid sign value last rest : List Token) → FieldsRead front tokens mid → FirstAt (name x) place mid sign → First equal sign value
+pub fields_next : (front : List FieldPart) (place : ℕ) (x : List ℕ) (t : ExprSyntax) (tokens mid sign value last rest : List Token) → FieldsRead front tokens mid → FirstAt (name x) place mid sign → First equal sign value
     → Spells t value last → First (plain mark.Semi) last rest → FieldsRead (with_field front place x t) tokens rest
 fields_next [] place x t tokens mid sign value last rest f n e s c = (sign, value, last, rest, subst (λ w. FirstAt (name x) place w sign) (sym f) n, e, s, c, refl)
 fields_next (g ∷ gs) place x t tokens mid sign value last rest f n e s c =
     (f.0, f.1, f.2, f.3, f.4, f.5, f.6, f.7, fields_next gs place x t f.3 mid sign value last rest f.8 n e s c)
 
-more_fields_read : (front : List FieldPart) (place : ℕ) (x : List ℕ) (t : ExprText) (tokens next mid sign value rest : List Token) → First (plain mark.Semi) tokens next → FieldsRead front next mid
+more_fields_read : (front : List FieldPart) (place : ℕ) (x : List ℕ) (t : ExprSyntax) (tokens next mid sign value rest : List Token) → First (plain mark.Semi) tokens next → FieldsRead front next mid
     → FirstAt (name x) place mid sign → First equal sign value → Spells t value rest → MoreFields (fields_in_order (with_field front place x t)) tokens rest
 more_fields_read [] place x t tokens next mid sign value rest c f n e s = (next, sign, value, rest, c, subst (λ w. FirstAt (name x) place w sign) (sym f) n, e, s, refl)
 more_fields_read (g ∷ gs) place x t tokens next mid sign value rest c f n e s =
     (next, f.0, f.1, f.2, c, f.4, f.5, f.6, more_fields_read gs place x t f.2 f.3 mid sign value rest f.7 f.8 n e s)
 
-pub fields_last : (front : List FieldPart) (place : ℕ) (x : List ℕ) (t : ExprText) (tokens mid sign value rest : List Token) → FieldsRead front tokens mid → FirstAt (name x) place mid sign → First equal sign value
+pub fields_last : (front : List FieldPart) (place : ℕ) (x : List ℕ) (t : ExprSyntax) (tokens mid sign value rest : List Token) → FieldsRead front tokens mid → FirstAt (name x) place mid sign → First equal sign value
     → Spells t value rest → FieldsSpell (fields_in_order (with_field front place x t)) tokens rest
 fields_last [] place x t tokens mid sign value rest f n e s = (sign, value, rest, subst (λ w. FirstAt (name x) place w sign) (sym f) n, e, s, refl)
 fields_last (g ∷ gs) place x t tokens mid sign value rest f n e s = (f.0, f.1, f.2, f.4, f.5, f.6, more_fields_read gs place x t f.2 f.3 mid sign value rest f.7 f.8 n e s)
 
-pub fields_fit : (front : List FieldPart) (place : ℕ) (x : List ℕ) (t : ExprText) → FieldsFit (fields_in_order front) → Fits t → FieldsFit (fields_in_order (with_field front place x t))
+pub fields_fit : (front : List FieldPart) (place : ℕ) (x : List ℕ) (t : ExprSyntax) → FieldsFit (fields_in_order front) → Fits t → FieldsFit (fields_in_order (with_field front place x t))
 fields_fit [] place x t h fits = (fits, tt)
 fields_fit (f ∷ fs) place x t h fits = (h.0, fields_fit fs place x t h.1 fits)
 
-pub arguments_last : (front : List ExprText) (t : ExprText) (tokens mid rest : List Token) → AllSpell (exprs_in_order front) tokens mid → Spells t mid rest → AllSpell (exprs_in_order (front ++ t ∷ [])) tokens rest
+pub arguments_last : (front : List ExprSyntax) (t : ExprSyntax) (tokens mid rest : List Token) → AllSpell (exprs_in_order front) tokens mid → Spells t mid rest → AllSpell (exprs_in_order (front ++ t ∷ [])) tokens rest
 arguments_last [] t tokens mid rest e s = (rest, subst (λ w. Spells t w rest) (sym e) s, refl)
 arguments_last (u ∷ us) t tokens mid rest h s = (h.0, h.1, arguments_last us t h.0 mid rest h.2 s)
 
-pub atoms_last : (front : List ExprText) (t : ExprText) → AreAtoms (exprs_in_order front) → Fits t → rank t ≡ 0 → AreAtoms (exprs_in_order (front ++ t ∷ []))
+pub atoms_last : (front : List ExprSyntax) (t : ExprSyntax) → AreAtoms (exprs_in_order front) → Fits t → rank t ≡ 0 → AreAtoms (exprs_in_order (front ++ t ∷ []))
 atoms_last [] t h fits low = (low, fits, tt)
 atoms_last (u ∷ us) t h fits low = (h.0, h.1, atoms_last us t h.2 fits low)
 
-pub any_last : (front : List ExprText) (t : ExprText) → IsAny (exprs_in_order (front ++ t ∷ []))
+pub any_last : (front : List ExprSyntax) (t : ExprSyntax) → IsAny (exprs_in_order (front ++ t ∷ []))
 any_last [] t = tt
 any_last (u ∷ us) t = tt
 
-arguments_number : (front : List ExprText) (t : ExprText) → last_ends_in_number (exprs_in_order (front ++ t ∷ [])) ≡ ends_in_number t
+arguments_number : (front : List ExprSyntax) (t : ExprSyntax) → last_ends_in_number (exprs_in_order (front ++ t ∷ [])) ≡ ends_in_number t
 arguments_number [] t = refl
 arguments_number (u ∷ []) t = refl
 arguments_number (u ∷ v ∷ us) t = arguments_number (v ∷ us) t
 
 -- ---- ending what ends
 
-pub infix_spells : (sign : Infix) (at : ℕ) (a b : ExprText) (tokens mid next rest : List Token) → Spells a tokens mid → InfixAt sign (ends_in_number a) at mid next → Spells b next rest → Spells (infix_text at sign a b) tokens rest
+pub infix_spells : (sign : Infix) (at : ℕ) (a b : ExprSyntax) (tokens mid next rest : List Token) → Spells a tokens mid → InfixAt sign (ends_in_number a) at mid next → Spells b next rest → Spells (infix_text at sign a b) tokens rest
 infix_spells between.Or at a b tokens mid next rest s f r = (mid, next, s, f, r)
 infix_spells between.And at a b tokens mid next rest s f r = (mid, next, s, f, r)
 infix_spells (between.Compare sign) at a b tokens mid next rest s f r = (mid, next, s, f, r)
 infix_spells between.Cons at a b tokens mid next rest s f r = (mid, next, s, f, r)
 infix_spells (between.Arith op) at a b tokens mid next rest s f r = (mid, next, s, f, r)
 
-pub infix_fits : (sign : Infix) (at : ℕ) (a b : ExprText) → rank a ≤ left_limit sign → rank b < right_bound sign → Fits a → Fits b
+pub infix_fits : (sign : Infix) (at : ℕ) (a b : ExprSyntax) → rank a ≤ left_limit sign → rank b < right_bound sign → Fits a → Fits b
     → Fits (infix_text at sign a b) × (rank (infix_text at sign a b) ≡ infix_rank sign) × (ends_in_number (infix_text at sign a b) ≡ ends_in_number b)
 infix_fits between.Or at a b le lt f g = ((le, lt, f, g), refl, refl)
 infix_fits between.And at a b le lt f g = ((le, lt, f, g), refl, refl)
@@ -220,7 +220,7 @@ infix_fits (between.Compare sign) at a b le lt f g = ((le, lt, f, g), refl, refl
 infix_fits between.Cons at a b le lt f g = ((le, lt, f, g), refl, refl)
 infix_fits (between.Arith op) at a b le lt f g = ((le, lt, f, g), refl, refl)
 
-pub plug_reads : (frame : Frame) (t : ExprText) (tokens mid rest : List Token) → own_rank frame < 10 → FrameReads frame tokens mid → Spells t mid rest → Spells (plug frame t) tokens rest
+pub plug_reads : (frame : Frame) (t : ExprSyntax) (tokens mid rest : List Token) → own_rank frame < 10 → FrameReads frame tokens mid → Spells t mid rest → Spells (plug frame t) tokens rest
 plug_reads (InBody at x v) t tokens mid rest h f s = (f.2.0, f.2.1, f.0, f.1, mid, f.2.2, f.2.3, f.2.4, f.3, f.4, s)
 plug_reads (InElse at c a) t tokens mid rest h f s = (f.2.0, f.2.1, f.0, f.1, mid, f.2.2, f.2.3, f.2.4, f.3, f.4, s)
 plug_reads (InFullArm at l a x y) t tokens mid rest h f s = (f.2.0, f.2.1, f.0, f.1, mid, f.2.2, f.2.3, f.2.4, f.3, f.4, s)
@@ -237,7 +237,7 @@ plug_reads (InThen at c) t tokens mid rest h f s = absurd (omega arith)
 plug_reads (InMatched at) t tokens mid rest h f s = absurd (omega arith)
 plug_reads (InEmptyArm at l) t tokens mid rest h f s = absurd (omega arith)
 
-pub plug_fits : (frame : Frame) (frames : List Frame) (t : ExprText) → own_rank frame < 10 → FrameFits frame frames → Fits t → rank t < bound_of frame
+pub plug_fits : (frame : Frame) (frames : List Frame) (t : ExprSyntax) → own_rank frame < 10 → FrameFits frame frames → Fits t → rank t < bound_of frame
     → Fits (plug frame t) × (rank (plug frame t) < top_bound frames) × (rank (plug frame t) ≡ own_rank frame) × (ends_in_number (plug frame t) ≡ ends_in_number t)
 plug_fits (InBody at x v) frames t h f fits lt = ((f.1, fits), f.0, refl, refl)
 plug_fits (InElse at c a) frames t h f fits lt = ((f.1, f.2, fits), f.0, refl, refl)
@@ -256,7 +256,7 @@ plug_fits (InThen at c) frames t h f fits lt = absurd (omega arith)
 plug_fits (InMatched at) frames t h f fits lt = absurd (omega arith)
 plug_fits (InEmptyArm at l) frames t h f fits lt = absurd (omega arith)
 
-reduce_sound : (frames : List Frame) (limit : ℕ) (last t : ExprText) (tokens mid rest : List Token) → limit < 10 → FramesRead frames tokens mid → Spells t mid rest → FramesFit frames → Fits t
+reduce_sound : (frames : List Frame) (limit : ℕ) (last t : ExprSyntax) (tokens mid rest : List Token) → limit < 10 → FramesRead frames tokens mid → Spells t mid rest → FramesFit frames → Fits t
     → rank t < top_bound frames → rank t ≤ limit → ends_in_number t ≡ ends_in_number last → StandsUpTo limit last (reduce limit frames t) tokens rest
 reduce_sound [] limit last t tokens mid rest small r s f fits lt le e = (mid, r, s, f, fits, lt, le, e)
 reduce_sound (frame ∷ frames) limit last t tokens mid rest small r s f fits lt le e =
@@ -287,6 +287,6 @@ bound_positive (InEmptyArm at l ∷ frames) = omega arith
 bound_positive (InFullArm at l a x y ∷ frames) = omega arith
 
 -- an atom at hand, once all up to a limit has ended
-pub ended : (limit : ℕ) (frames : List Frame) (t : ExprText) (tokens rest : List Token) → limit < 10 → Stands (Have frames t) tokens rest → StandsUpTo limit t (reduce limit frames t) tokens rest
+pub ended : (limit : ℕ) (frames : List Frame) (t : ExprSyntax) (tokens rest : List Token) → limit < 10 → Stands (Have frames t) tokens rest → StandsUpTo limit t (reduce limit frames t) tokens rest
 ended limit frames t tokens rest small h =
     reduce_sound frames limit t t tokens h.0 rest small h.1 h.2 h.3 h.4 (omega (arith, bound_positive frames, h.5)) (omega (arith, h.5)) refl

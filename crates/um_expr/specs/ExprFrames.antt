@@ -1,7 +1,7 @@
 -- What is open, without where it lies in memory, and the heights beside it.
 -- Source: this project's own.
 use Rattle.std.specs.Prelude.{◌≡◌, ℕ, ◌+◌, Bool, true, false, max, List, [], ◌∷◌, length, map, reverse, Option, Some, None}
-use Rattle.um_tree.specs.RawTree.{binder_text}
+use Rattle.um_tree.specs.RawTree.{binder_syntax}
 use Rattle.um_types.specs.UnitCount.{counted}
 use Rattle.um_expr.specs.declared.frame.Frame.{Frame as Open}
 use Rattle.um_expr.specs.declared.frame.Frame.TheVariants as open_at
@@ -14,14 +14,14 @@ abbrev pub view_frame : Open → Frame
 view_frame (open_at.InBracket at) = InBracket at
 view_frame (open_at.InItem at front) = InItem at (front_exprs front)
 view_frame (open_at.InField at front place x) = InField at (front_fields front) place x
-view_frame (open_at.InValue at x) = InValue at (binder_text x)
-view_frame (open_at.InBody at x v) = InBody at (binder_text x) (part_expr v)
+view_frame (open_at.InValue at x) = InValue at (binder_syntax x)
+view_frame (open_at.InBody at x v) = InBody at (binder_syntax x) (part_expr v)
 view_frame (open_at.InTest at) = InTest at
 view_frame (open_at.InThen at c) = InThen at (part_expr c)
 view_frame (open_at.InElse at c a) = InElse at (part_expr c) (part_expr a)
 view_frame (open_at.InMatched at) = InMatched at
 view_frame (open_at.InEmptyArm at l) = InEmptyArm at (part_expr l)
-view_frame (open_at.InFullArm at l a x y) = InFullArm at (part_expr l) (part_expr a) (binder_text x) (binder_text y)
+view_frame (open_at.InFullArm at l a x y) = InFullArm at (part_expr l) (part_expr a) (binder_syntax x) (binder_syntax y)
 view_frame (open_at.InNegate at) = InNegate at
 view_frame (open_at.InNot at) = InNot at
 view_frame (open_at.InRight at sign left) = InRight at sign (part_expr left)

@@ -14,7 +14,7 @@
 use Rattle.std.specs.Prelude.{◌≡◌, ℕ, ◌≤◌, ◌<◌, Bool, true, false, ◌⊎◌, List, [], ◌∷◌, Option, Some, None}
 use Rattle.um_syntax.specs.declared.token.Token.{Token}
 use Rattle.um_tree.specs.declared.expression.Sign.TheVariants as compare
-use Rattle.um_tree.specs.RawTree.{NoteText, TypeText, BinderText, ExprText, ExprTexts, FieldTexts, truth_text, number_text, name_text, call_text, negate_text, not_text, arith_text, compare_text, and_text, or_text, if_text, let_text, match_text, nil_text, list_text, cons_text, fields_text, field_text, bracket_expr_text, no_exprs, more_exprs, no_fields, more_fields}
+use Rattle.um_tree.specs.RawTree.{NoteSyntax, TypeSyntax, BinderSyntax, ExprSyntax, ExprSyntaxes, FieldSyntaxes, truth_syntax, number_syntax, name_syntax, call_syntax, negate_syntax, not_syntax, arith_syntax, compare_syntax, and_syntax, or_syntax, if_syntax, let_syntax, match_syntax, nil_syntax, list_syntax, cons_syntax, fields_syntax, field_syntax, bracket_expr_syntax, no_exprs, more_exprs, no_fields, more_fields}
 use Rattle.um_expr.specs.declared.mark.Mark.TheVariants as mark
 use Rattle.um_expr.specs.declared.mark.Infix.{Infix}
 use Rattle.um_expr.specs.declared.mark.Infix.TheVariants as between
@@ -39,34 +39,34 @@ abbrev pub bound : Option (List ℕ) → ExprToken
 bound None = hole
 bound (Some x) = name x
 
-abbrev pub BinderSpells : BinderText → List Token → List Token → Type 0
+abbrev pub BinderSpells : BinderSyntax → List Token → List Token → Type 0
 BinderSpells x tokens rest = FirstAt (bound x.name) x.at tokens rest
 
 -- whether the last token of an expression is a number
 abbrev mutual
-  pub ends_in_number : ExprText → Bool
-  ends_in_number (truth_text at b) = false
-  ends_in_number (number_text at c None) = true
-  ends_in_number (number_text at c (Some n)) = false
-  ends_in_number (name_text at x) = false
-  ends_in_number (call_text at f args) = last_ends_in_number args
-  ends_in_number (negate_text at e) = ends_in_number e
-  ends_in_number (not_text at e) = ends_in_number e
-  ends_in_number (arith_text at op a b) = ends_in_number b
-  ends_in_number (compare_text at sign a b) = ends_in_number b
-  ends_in_number (and_text at a b) = ends_in_number b
-  ends_in_number (or_text at a b) = ends_in_number b
-  ends_in_number (if_text at c a b) = ends_in_number b
-  ends_in_number (let_text at x a b) = ends_in_number b
-  ends_in_number (match_text at l a x y b) = ends_in_number b
-  ends_in_number (nil_text at t) = false
-  ends_in_number (list_text at es) = false
-  ends_in_number (cons_text at a b) = ends_in_number b
-  ends_in_number (fields_text at fs) = false
-  ends_in_number (field_text at place x e) = false
-  ends_in_number (bracket_expr_text at e) = false
+  pub ends_in_number : ExprSyntax → Bool
+  ends_in_number (truth_syntax at b) = false
+  ends_in_number (number_syntax at c None) = true
+  ends_in_number (number_syntax at c (Some n)) = false
+  ends_in_number (name_syntax at x) = false
+  ends_in_number (call_syntax at f args) = last_ends_in_number args
+  ends_in_number (negate_syntax at e) = ends_in_number e
+  ends_in_number (not_syntax at e) = ends_in_number e
+  ends_in_number (arith_syntax at op a b) = ends_in_number b
+  ends_in_number (compare_syntax at sign a b) = ends_in_number b
+  ends_in_number (and_syntax at a b) = ends_in_number b
+  ends_in_number (or_syntax at a b) = ends_in_number b
+  ends_in_number (if_syntax at c a b) = ends_in_number b
+  ends_in_number (let_syntax at x a b) = ends_in_number b
+  ends_in_number (match_syntax at l a x y b) = ends_in_number b
+  ends_in_number (nil_syntax at t) = false
+  ends_in_number (list_syntax at es) = false
+  ends_in_number (cons_syntax at a b) = ends_in_number b
+  ends_in_number (fields_syntax at fs) = false
+  ends_in_number (field_syntax at place x e) = false
+  ends_in_number (bracket_expr_syntax at e) = false
 
-  pub last_ends_in_number : ExprTexts → Bool
+  pub last_ends_in_number : ExprSyntaxes → Bool
   last_ends_in_number no_exprs = false
   last_ends_in_number (more_exprs e no_exprs) = ends_in_number e
   last_ends_in_number (more_exprs e (more_exprs d es)) = last_ends_in_number (more_exprs d es)
@@ -80,7 +80,7 @@ InfixAt (between.Compare compare.Ge) after_number at tokens rest = (next : List 
 InfixAt sign after_number at tokens rest = FirstAt (operator sign) at tokens rest
 
 -- the note of a number, directly behind it
-abbrev pub WrittenNote : Option NoteText → List Token → List Token → Type 0
+abbrev pub WrittenNote : Option NoteSyntax → List Token → List Token → Type 0
 WrittenNote None tokens rest = tokens ≡ rest
 WrittenNote (Some n) tokens rest = (next last : List Token) × FirstGlued less tokens next × NoteSpells n next last × First greater last rest
 
@@ -91,135 +91,135 @@ EmptyArm tokens rest =
     × First (plain mark.ListOpen) empty close × First (plain mark.ListClose) close arrow × First (plain mark.Arrow) arrow rest
 
 -- from the bar of the full arm up to its `->`
-abbrev pub FullArm : BinderText → BinderText → List Token → List Token → Type 0
+abbrev pub FullArm : BinderSyntax → BinderSyntax → List Token → List Token → Type 0
 FullArm x y tokens rest =
     (head cons tail arrow : List Token) × First (plain mark.Bar) tokens head × BinderSpells x head cons × First double_colon cons tail
     × BinderSpells y tail arrow × First (plain mark.Arrow) arrow rest
 
 -- the empty list with its type: `(` `[` `]` `:` T `)`
-abbrev pub NilSpells : ℕ → TypeText → List Token → List Token → Type 0
+abbrev pub NilSpells : ℕ → TypeSyntax → List Token → List Token → Type 0
 NilSpells at t tokens rest =
     (empty close colon written last : List Token) × FirstAt (plain mark.Open) at tokens empty × First (plain mark.ListOpen) empty close
     × First (plain mark.ListClose) close colon × First (plain mark.Colon) colon written × TypeSpells t written last × First (plain mark.Close) last rest
 
 -- the tokens are those of the expression, and then the rest
 abbrev mutual
-  pub Spells : ExprText → List Token → List Token → Type 0
-  Spells (truth_text at b) tokens rest = FirstAt (truth b) at tokens rest
-  Spells (number_text at c n) tokens rest = (next : List Token) × FirstAt (number c) at tokens next × WrittenNote n next rest
-  Spells (name_text at x) tokens rest = FirstAt (name x) at tokens rest
-  Spells (call_text at f args) tokens rest = (next : List Token) × FirstAt (name f) at tokens next × AllSpell args next rest
-  Spells (negate_text at e) tokens rest = (next : List Token) × FirstAt minus at tokens next × Spells e next rest
-  Spells (not_text at e) tokens rest = (next : List Token) × FirstAt (plain mark.Not) at tokens next × Spells e next rest
-  Spells (arith_text at op a b) tokens rest = (mid next : List Token) × Spells a tokens mid × InfixAt (between.Arith op) (ends_in_number a) at mid next × Spells b next rest
-  Spells (compare_text at sign a b) tokens rest =
+  pub Spells : ExprSyntax → List Token → List Token → Type 0
+  Spells (truth_syntax at b) tokens rest = FirstAt (truth b) at tokens rest
+  Spells (number_syntax at c n) tokens rest = (next : List Token) × FirstAt (number c) at tokens next × WrittenNote n next rest
+  Spells (name_syntax at x) tokens rest = FirstAt (name x) at tokens rest
+  Spells (call_syntax at f args) tokens rest = (next : List Token) × FirstAt (name f) at tokens next × AllSpell args next rest
+  Spells (negate_syntax at e) tokens rest = (next : List Token) × FirstAt minus at tokens next × Spells e next rest
+  Spells (not_syntax at e) tokens rest = (next : List Token) × FirstAt (plain mark.Not) at tokens next × Spells e next rest
+  Spells (arith_syntax at op a b) tokens rest = (mid next : List Token) × Spells a tokens mid × InfixAt (between.Arith op) (ends_in_number a) at mid next × Spells b next rest
+  Spells (compare_syntax at sign a b) tokens rest =
       (mid next : List Token) × Spells a tokens mid × InfixAt (between.Compare sign) (ends_in_number a) at mid next × Spells b next rest
-  Spells (and_text at a b) tokens rest = (mid next : List Token) × Spells a tokens mid × InfixAt between.And (ends_in_number a) at mid next × Spells b next rest
-  Spells (or_text at a b) tokens rest = (mid next : List Token) × Spells a tokens mid × InfixAt between.Or (ends_in_number a) at mid next × Spells b next rest
-  Spells (cons_text at a b) tokens rest = (mid next : List Token) × Spells a tokens mid × InfixAt between.Cons (ends_in_number a) at mid next × Spells b next rest
-  Spells (if_text at c a b) tokens rest =
+  Spells (and_syntax at a b) tokens rest = (mid next : List Token) × Spells a tokens mid × InfixAt between.And (ends_in_number a) at mid next × Spells b next rest
+  Spells (or_syntax at a b) tokens rest = (mid next : List Token) × Spells a tokens mid × InfixAt between.Or (ends_in_number a) at mid next × Spells b next rest
+  Spells (cons_syntax at a b) tokens rest = (mid next : List Token) × Spells a tokens mid × InfixAt between.Cons (ends_in_number a) at mid next × Spells b next rest
+  Spells (if_syntax at c a b) tokens rest =
       (t t' e e' o : List Token) × FirstAt (plain mark.If) at tokens t × Spells c t t' × First (plain mark.Then) t' e × Spells a e e' × First (plain mark.Else) e' o × Spells b o rest
-  Spells (let_text at x a b) tokens rest =
+  Spells (let_syntax at x a b) tokens rest =
       (n e v v' o : List Token) × FirstAt (plain mark.Let) at tokens n × BinderSpells x n e × First equal e v × Spells a v v' × First (plain mark.In) v' o × Spells b o rest
-  Spells (match_text at l a x y b) tokens rest =
+  Spells (match_syntax at l a x y b) tokens rest =
       (m m' e e' o : List Token) × FirstAt (plain mark.Match) at tokens m × Spells l m m' × EmptyArm m' e × Spells a e e' × FullArm x y e' o × Spells b o rest
-  Spells (nil_text at t) tokens rest = NilSpells at t tokens rest
-  Spells (list_text at es) tokens rest = (next last : List Token) × FirstAt (plain mark.ListOpen) at tokens next × ItemsSpell es next last × First (plain mark.ListClose) last rest
-  Spells (fields_text at fs) tokens rest =
+  Spells (nil_syntax at t) tokens rest = NilSpells at t tokens rest
+  Spells (list_syntax at es) tokens rest = (next last : List Token) × FirstAt (plain mark.ListOpen) at tokens next × ItemsSpell es next last × First (plain mark.ListClose) last rest
+  Spells (fields_syntax at fs) tokens rest =
       (next last : List Token) × FirstAt (plain mark.RecordOpen) at tokens next × FieldsSpell fs next last × First (plain mark.RecordClose) last rest
-  Spells (field_text at place x e) tokens rest = (mid next : List Token) × Spells e tokens mid × FirstAt (plain mark.Dot) at mid next × FirstAt (name x) place next rest
-  Spells (bracket_expr_text at e) tokens rest = (next last : List Token) × FirstAt (plain mark.Open) at tokens next × Spells e next last × First (plain mark.Close) last rest
+  Spells (field_syntax at place x e) tokens rest = (mid next : List Token) × Spells e tokens mid × FirstAt (plain mark.Dot) at mid next × FirstAt (name x) place next rest
+  Spells (bracket_expr_syntax at e) tokens rest = (next last : List Token) × FirstAt (plain mark.Open) at tokens next × Spells e next last × First (plain mark.Close) last rest
 
   -- one behind the other
-  pub AllSpell : ExprTexts → List Token → List Token → Type 0
+  pub AllSpell : ExprSyntaxes → List Token → List Token → Type 0
   AllSpell no_exprs tokens rest = tokens ≡ rest
   AllSpell (more_exprs e es) tokens rest = (mid : List Token) × Spells e tokens mid × AllSpell es mid rest
 
   -- at least one, separated by `;`
-  pub ItemsSpell : ExprTexts → List Token → List Token → Type 0
+  pub ItemsSpell : ExprSyntaxes → List Token → List Token → Type 0
   ItemsSpell no_exprs tokens rest = ⊥
   ItemsSpell (more_exprs e es) tokens rest = (mid : List Token) × Spells e tokens mid × MoreItems es mid rest
 
-  pub MoreItems : ExprTexts → List Token → List Token → Type 0
+  pub MoreItems : ExprSyntaxes → List Token → List Token → Type 0
   MoreItems no_exprs tokens rest = tokens ≡ rest
   MoreItems (more_exprs e es) tokens rest = (next mid : List Token) × First (plain mark.Semi) tokens next × Spells e next mid × MoreItems es mid rest
 
   -- at least one field, each with its name and `=`, separated by `;`
-  pub FieldsSpell : FieldTexts → List Token → List Token → Type 0
+  pub FieldsSpell : FieldSyntaxes → List Token → List Token → Type 0
   FieldsSpell no_fields tokens rest = ⊥
   FieldsSpell (more_fields at x e fs) tokens rest =
       (sign value mid : List Token) × FirstAt (name x) at tokens sign × First equal sign value × Spells e value mid × MoreFields fs mid rest
 
-  pub MoreFields : FieldTexts → List Token → List Token → Type 0
+  pub MoreFields : FieldSyntaxes → List Token → List Token → Type 0
   MoreFields no_fields tokens rest = tokens ≡ rest
   MoreFields (more_fields at x e fs) tokens rest =
       (next sign value mid : List Token) × First (plain mark.Semi) tokens next × FirstAt (name x) at next sign × First equal sign value × Spells e value mid × MoreFields fs mid rest
 
-abbrev pub rank : ExprText → ℕ
-rank (truth_text at b) = 0
-rank (number_text at c n) = 0
-rank (name_text at x) = 0
-rank (call_text at f args) = 1
-rank (negate_text at e) = 2
-rank (not_text at e) = 1
-rank (arith_text at op a b) = arith_rank op
-rank (compare_text at sign a b) = 6
-rank (and_text at a b) = 7
-rank (or_text at a b) = 8
-rank (if_text at c a b) = 9
-rank (let_text at x a b) = 9
-rank (match_text at l a x y b) = 9
-rank (nil_text at t) = 0
-rank (list_text at es) = 0
-rank (cons_text at a b) = 5
-rank (fields_text at fs) = 0
-rank (field_text at place x e) = 0
-rank (bracket_expr_text at e) = 0
+abbrev pub rank : ExprSyntax → ℕ
+rank (truth_syntax at b) = 0
+rank (number_syntax at c n) = 0
+rank (name_syntax at x) = 0
+rank (call_syntax at f args) = 1
+rank (negate_syntax at e) = 2
+rank (not_syntax at e) = 1
+rank (arith_syntax at op a b) = arith_rank op
+rank (compare_syntax at sign a b) = 6
+rank (and_syntax at a b) = 7
+rank (or_syntax at a b) = 8
+rank (if_syntax at c a b) = 9
+rank (let_syntax at x a b) = 9
+rank (match_syntax at l a x y b) = 9
+rank (nil_syntax at t) = 0
+rank (list_syntax at es) = 0
+rank (cons_syntax at a b) = 5
+rank (fields_syntax at fs) = 0
+rank (field_syntax at place x e) = 0
+rank (bracket_expr_syntax at e) = 0
 
-abbrev pub NoteFitsIn : Option NoteText → Type 0
+abbrev pub NoteFitsIn : Option NoteSyntax → Type 0
 NoteFitsIn None = Unit {0}
 NoteFitsIn (Some n) = NoteFits n
 
-abbrev pub IsAny : ExprTexts → Type 0
+abbrev pub IsAny : ExprSyntaxes → Type 0
 IsAny no_exprs = ⊥
 IsAny (more_exprs e es) = Unit {0}
 
 -- each part stands where the grammar lets it stand
 abbrev mutual
-  pub Fits : ExprText → Type 0
-  Fits (truth_text at b) = Unit {0}
-  Fits (number_text at c n) = NoteFitsIn n
-  Fits (name_text at x) = Unit {0}
-  Fits (call_text at f args) = IsAny args × AreAtoms args
-  Fits (negate_text at e) = (rank e ≤ 2) × Fits e
-  Fits (not_text at e) = (rank e ≡ 0) × Fits e
-  Fits (arith_text at op a b) = (rank a ≤ arith_rank op) × (rank b < arith_rank op) × Fits a × Fits b
-  Fits (compare_text at sign a b) = (rank a ≤ 5) × (rank b < 6) × Fits a × Fits b
-  Fits (and_text at a b) = (rank a ≤ 7) × (rank b < 7) × Fits a × Fits b
-  Fits (or_text at a b) = (rank a ≤ 8) × (rank b < 8) × Fits a × Fits b
-  Fits (cons_text at a b) = (rank a ≤ 4) × (rank b < 6) × Fits a × Fits b
-  Fits (if_text at c a b) = Fits c × Fits a × Fits b
-  Fits (let_text at x a b) = Fits a × Fits b
-  Fits (match_text at l a x y b) = Fits l × Fits a × Fits b
-  Fits (nil_text at t) = TypeFits t
-  Fits (list_text at es) = AllFit es
-  Fits (fields_text at fs) = FieldsFit fs
-  Fits (field_text at place x e) = (rank e ≡ 0) × Fits e
-  Fits (bracket_expr_text at e) = Fits e
+  pub Fits : ExprSyntax → Type 0
+  Fits (truth_syntax at b) = Unit {0}
+  Fits (number_syntax at c n) = NoteFitsIn n
+  Fits (name_syntax at x) = Unit {0}
+  Fits (call_syntax at f args) = IsAny args × AreAtoms args
+  Fits (negate_syntax at e) = (rank e ≤ 2) × Fits e
+  Fits (not_syntax at e) = (rank e ≡ 0) × Fits e
+  Fits (arith_syntax at op a b) = (rank a ≤ arith_rank op) × (rank b < arith_rank op) × Fits a × Fits b
+  Fits (compare_syntax at sign a b) = (rank a ≤ 5) × (rank b < 6) × Fits a × Fits b
+  Fits (and_syntax at a b) = (rank a ≤ 7) × (rank b < 7) × Fits a × Fits b
+  Fits (or_syntax at a b) = (rank a ≤ 8) × (rank b < 8) × Fits a × Fits b
+  Fits (cons_syntax at a b) = (rank a ≤ 4) × (rank b < 6) × Fits a × Fits b
+  Fits (if_syntax at c a b) = Fits c × Fits a × Fits b
+  Fits (let_syntax at x a b) = Fits a × Fits b
+  Fits (match_syntax at l a x y b) = Fits l × Fits a × Fits b
+  Fits (nil_syntax at t) = TypeFits t
+  Fits (list_syntax at es) = AllFit es
+  Fits (fields_syntax at fs) = FieldsFit fs
+  Fits (field_syntax at place x e) = (rank e ≡ 0) × Fits e
+  Fits (bracket_expr_syntax at e) = Fits e
 
-  pub AreAtoms : ExprTexts → Type 0
+  pub AreAtoms : ExprSyntaxes → Type 0
   AreAtoms no_exprs = Unit {0}
   AreAtoms (more_exprs e es) = (rank e ≡ 0) × Fits e × AreAtoms es
 
-  pub AllFit : ExprTexts → Type 0
+  pub AllFit : ExprSyntaxes → Type 0
   AllFit no_exprs = Unit {0}
   AllFit (more_exprs e es) = Fits e × AllFit es
 
-  pub FieldsFit : FieldTexts → Type 0
+  pub FieldsFit : FieldSyntaxes → Type 0
   FieldsFit no_fields = Unit {0}
   FieldsFit (more_fields at x e fs) = Fits e × FieldsFit fs
 
 -- the tokens are this expression
-pub record IsExpr (tokens : List Token) (e : ExprText) : Type 0 where
+pub record IsExpr (tokens : List Token) (e : ExprSyntax) : Type 0 where
   pub spelled : Spells e tokens []
   pub fits : Fits e

@@ -1,16 +1,16 @@
 -- What a following token may make more of: a name, a number without a note; and which tokens begin an argument.
 -- Source: this project's own.
 use Rattle.std.specs.Prelude.{Bool, true, false, None}
-use Rattle.um_tree.specs.RawTree.{ExprText, name_text, number_text}
+use Rattle.um_tree.specs.RawTree.{ExprSyntax, name_syntax, number_syntax}
 use Rattle.um_expr.specs.declared.mark.Mark.TheVariants as mark
 use Rattle.um_expr.specs.ExprTokens.{ExprToken, name, number, truth, plain}
 
-abbrev pub is_name : ExprText → Bool
-is_name (name_text at x) = true
+abbrev pub is_name : ExprSyntax → Bool
+is_name (name_syntax at x) = true
 is_name _ = false
 
-abbrev pub is_plain_number : ExprText → Bool
-is_plain_number (number_text at c None) = true
+abbrev pub is_plain_number : ExprSyntax → Bool
+is_plain_number (number_syntax at c None) = true
 is_plain_number _ = false
 
 abbrev pub begins_argument : ExprToken → Bool

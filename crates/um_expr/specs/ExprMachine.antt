@@ -7,7 +7,7 @@ use Rattle.um_syntax.specs.declared.token.Token.{Token}
 use Rattle.um_syntax.specs.declared.token.Kind.{Kind}
 use Rattle.um_tree.specs.declared.expression.Sign.TheVariants as compare
 use Rattle.um_tree.specs.declared.expression.Arith.TheVariants as arith
-use Rattle.um_tree.specs.RawTree.{NoteText, TypeText, BinderText, ExprText, FieldPart, truth_text, number_text, name_text, call_text, negate_text, not_text, if_text, let_text, match_text, nil_text, list_text, fields_text, field_text, bracket_expr_text, exprs_in_order, fields_in_order}
+use Rattle.um_tree.specs.RawTree.{NoteSyntax, TypeSyntax, BinderSyntax, ExprSyntax, FieldPart, truth_syntax, number_syntax, name_syntax, call_syntax, negate_syntax, not_syntax, if_syntax, let_syntax, match_syntax, nil_syntax, list_syntax, fields_syntax, field_syntax, bracket_expr_syntax, exprs_in_order, fields_in_order}
 use Rattle.um_types.specs.NoteMachine.{NoteState, NeedNote, NoNote, note_act, note_finish}
 use Rattle.um_types.specs.TypeMachine.{TypeState, NeedType, NoType, type_act, type_finish}
 use Rattle.um_expr.specs.declared.mark.Mark.TheVariants as mark
@@ -20,25 +20,25 @@ use Rattle.um_expr.specs.Ranks.{infix_rank, left_limit, right_bound, infix_text}
 pub data Frame : Type 0 where
   InBracket : (at : ℕ) → Frame
   -- `[` and these items
-  InItem : (at : ℕ) (front : List ExprText) → Frame
+  InItem : (at : ℕ) (front : List ExprSyntax) → Frame
   -- `{`, these fields, and a field's name with its `=`
   InField : (at : ℕ) (front : List FieldPart) (place : ℕ) (name : List ℕ) → Frame
   -- behind `=`; behind `in`
-  InValue : (at : ℕ) (x : BinderText) → Frame
-  InBody : (at : ℕ) (x : BinderText) (value : ExprText) → Frame
+  InValue : (at : ℕ) (x : BinderSyntax) → Frame
+  InBody : (at : ℕ) (x : BinderSyntax) (value : ExprSyntax) → Frame
   -- behind `if`; `then`; `else`
   InTest : (at : ℕ) → Frame
-  InThen : (at : ℕ) (test : ExprText) → Frame
-  InElse : (at : ℕ) (test one : ExprText) → Frame
+  InThen : (at : ℕ) (test : ExprSyntax) → Frame
+  InElse : (at : ℕ) (test one : ExprSyntax) → Frame
   -- behind `match`; the first `->`; the second
   InMatched : (at : ℕ) → Frame
-  InEmptyArm : (at : ℕ) (list : ExprText) → Frame
-  InFullArm : (at : ℕ) (list empty : ExprText) (head tail : BinderText) → Frame
+  InEmptyArm : (at : ℕ) (list : ExprSyntax) → Frame
+  InFullArm : (at : ℕ) (list empty : ExprSyntax) (head tail : BinderSyntax) → Frame
   InNegate : (at : ℕ) → Frame
   InNot : (at : ℕ) → Frame
-  InRight : (at : ℕ) (sign : Infix) (left : ExprText) → Frame
+  InRight : (at : ℕ) (sign : Infix) (left : ExprSyntax) → Frame
   -- behind a name and these arguments
-  InArgument : (at : ℕ) (function : List ℕ) (front : List ExprText) → Frame
+  InArgument : (at : ℕ) (function : List ℕ) (front : List ExprSyntax) → Frame
 
 -- the rank of what stands in the frame lies below this
 abbrev pub bound_of : Frame → ℕ
@@ -68,36 +68,36 @@ top_rank [] = 10
 top_rank (frame ∷ frames) = own_rank frame
 
 -- a frame that needs no token to end, with its last part
-abbrev pub plug : Frame → ExprText → ExprText
-plug (InBody at x value) last = let_text at x value last
-plug (InElse at test one) last = if_text at test one last
-plug (InFullArm at list empty head tail) last = match_text at list empty head tail last
-plug (InNegate at) last = negate_text at last
-plug (InNot at) last = not_text at last
+abbrev pub plug : Frame → ExprSyntax → ExprSyntax
+plug (InBody at x value) last = let_syntax at x value last
+plug (InElse at test one) last = if_syntax at test one last
+plug (InFullArm at list empty head tail) last = match_syntax at list empty head tail last
+plug (InNegate at) last = negate_syntax at last
+plug (InNot at) last = not_syntax at last
 plug (InRight at sign left) last = infix_text at sign left last
-plug (InArgument at f front) last = call_text at f (exprs_in_order (front ++ last ∷ []))
+plug (InArgument at f front) last = call_syntax at f (exprs_in_order (front ++ last ∷ []))
 plug _ last = last
 
 -- a place inside a run of tokens that is fixed
 pub data Place : Type 0 where
   -- behind `let`; behind its binder
   LetBinder : (at : ℕ) → Place
-  LetEqual : (at : ℕ) (x : BinderText) → Place
+  LetEqual : (at : ℕ) (x : BinderSyntax) → Place
   -- behind `{` or `;` and these fields; behind the name
   FieldName : (at : ℕ) (front : List FieldPart) → Place
   FieldEqual : (at : ℕ) (front : List FieldPart) (place : ℕ) (name : List ℕ) → Place
   -- behind `.`
-  DotName : (at : ℕ) (part : ExprText) → Place
+  DotName : (at : ℕ) (part : ExprSyntax) → Place
   -- behind `with`; its bar; `[`; `]`
-  ArmBegin : (at : ℕ) (list : ExprText) → Place
-  ArmOpen : (at : ℕ) (list : ExprText) → Place
-  ArmClose : (at : ℕ) (list : ExprText) → Place
-  ArmArrow : (at : ℕ) (list : ExprText) → Place
+  ArmBegin : (at : ℕ) (list : ExprSyntax) → Place
+  ArmOpen : (at : ℕ) (list : ExprSyntax) → Place
+  ArmClose : (at : ℕ) (list : ExprSyntax) → Place
+  ArmArrow : (at : ℕ) (list : ExprSyntax) → Place
   -- behind the bar of the full arm; the head; `::`; the tail
-  HeadBinder : (at : ℕ) (list empty : ExprText) → Place
-  HeadCons : (at : ℕ) (list empty : ExprText) (head : BinderText) → Place
-  TailBinder : (at : ℕ) (list empty : ExprText) (head : BinderText) → Place
-  TailArrow : (at : ℕ) (list empty : ExprText) (head tail : BinderText) → Place
+  HeadBinder : (at : ℕ) (list empty : ExprSyntax) → Place
+  HeadCons : (at : ℕ) (list empty : ExprSyntax) (head : BinderSyntax) → Place
+  TailBinder : (at : ℕ) (list empty : ExprSyntax) (head : BinderSyntax) → Place
+  TailArrow : (at : ℕ) (list empty : ExprSyntax) (head tail : BinderSyntax) → Place
   -- behind `(` `[` `]`
   NilColon : (at : ℕ) → Place
 
@@ -105,9 +105,9 @@ pub data State : Type 0 where
   -- an operand is wanted
   Need : (frames : List Frame) → State
   -- an atom is at hand
-  Have : (frames : List Frame) (at_hand : ExprText) → State
+  Have : (frames : List Frame) (at_hand : ExprSyntax) → State
   -- behind `>`: a `=` directly behind it belongs to the sign
-  Greater : (frames : List Frame) (at : ℕ) (left : ExprText) → State
+  Greater : (frames : List Frame) (at : ℕ) (left : ExprSyntax) → State
   Inside : (frames : List Frame) (place : Place) → State
   -- in the note of a number; in the type of an empty list
   InNote : (frames : List Frame) (at : ℕ) (value : Frac) (note : NoteState) → State
@@ -115,7 +115,7 @@ pub data State : Type 0 where
   Refused : State
 
 -- what is left open where all frames up to this rank end
-abbrev pub reduce : ℕ → List Frame → ExprText → State
+abbrev pub reduce : ℕ → List Frame → ExprSyntax → State
 reduce limit [] t = Have [] t
 reduce limit (frame ∷ frames) t = cond (nat_lt limit (own_rank frame)) (Have (frame ∷ frames) t) (reduce limit frames (plug frame t))
 
@@ -130,9 +130,9 @@ empty_list _ = Refused
 
 -- an operand begins
 abbrev pub begin : List Frame → ExprToken → ℕ → State
-begin frames (name x) at = Have frames (name_text at x)
-begin frames (number c) at = Have frames (number_text at c None)
-begin frames (truth b) at = Have frames (truth_text at b)
+begin frames (name x) at = Have frames (name_syntax at x)
+begin frames (number c) at = Have frames (number_syntax at c None)
+begin frames (truth b) at = Have frames (truth_syntax at b)
 begin frames (plain mark.Open) at = Need (InBracket at ∷ frames)
 begin frames (plain mark.ListOpen) at = Need (InItem at [] ∷ frames)
 begin frames (plain mark.ListClose) at = empty_list frames
@@ -145,14 +145,14 @@ begin frames (operator (between.Arith arith.Sub)) at = if_may frames 2 (Need (In
 begin frames _ at = Refused
 
 -- behind `>`
-abbrev pub after_greater : List Frame → ℕ → ExprText → ExprToken → ℕ → Bool → State
+abbrev pub after_greater : List Frame → ℕ → ExprSyntax → ExprToken → ℕ → Bool → State
 after_greater frames place left (operator (between.Compare compare.Eq)) at glued = cond glued (Need (InRight place (between.Compare compare.Ge) left ∷ frames)) Refused
 after_greater frames place left token at glued = begin (InRight place (between.Compare compare.Gt) left ∷ frames) token at
 
 -- an atom follows an atom: it is an argument
-abbrev pub argument : List Frame → ExprText → Option (List Frame)
+abbrev pub argument : List Frame → ExprSyntax → Option (List Frame)
 argument (InArgument at f front ∷ frames) t = Some (InArgument at f (front ++ t ∷ []) ∷ frames)
-argument frames (name_text at f) = cond (nat_lt 1 (top_bound frames)) (Some (InArgument at f [] ∷ frames)) None
+argument frames (name_syntax at f) = cond (nat_lt 1 (top_bound frames)) (Some (InArgument at f [] ∷ frames)) None
 argument frames t = None
 
 abbrev pub begin_in : Option (List Frame) → ExprToken → ℕ → State
@@ -169,28 +169,28 @@ greater_after at (Have frames t) = if_may frames 6 (Greater frames at t)
 greater_after at _ = Refused
 
 -- `<` right behind a number opens its note
-abbrev pub less_after : List Frame → ExprText → Bool → ℕ → State
+abbrev pub less_after : List Frame → ExprSyntax → Bool → ℕ → State
 less_after frames t false at = infix_after (between.Compare compare.Lt) at (reduce 5 frames t)
-less_after frames (number_text n c None) true at = InNote frames n c NeedNote
+less_after frames (number_syntax n c None) true at = InNote frames n c NeedNote
 less_after frames t true at = infix_after (between.Compare compare.Lt) at (reduce 5 frames t)
 
 abbrev pub close_after : State → State
-close_after (Have (InBracket at ∷ frames) t) = Have frames (bracket_expr_text at t)
+close_after (Have (InBracket at ∷ frames) t) = Have frames (bracket_expr_syntax at t)
 close_after _ = Refused
 
 abbrev pub list_after : State → State
-list_after (Have (InItem at front ∷ frames) t) = Have frames (list_text at (exprs_in_order (front ++ t ∷ [])))
+list_after (Have (InItem at front ∷ frames) t) = Have frames (list_syntax at (exprs_in_order (front ++ t ∷ [])))
 list_after _ = Refused
 
-abbrev pub named_part : ℕ → List ℕ → ExprText → FieldPart
+abbrev pub named_part : ℕ → List ℕ → ExprSyntax → FieldPart
 named_part place x t = record { at = place; name = x; part = t }
 
 -- the fields with one more
-abbrev pub with_field : List FieldPart → ℕ → List ℕ → ExprText → List FieldPart
+abbrev pub with_field : List FieldPart → ℕ → List ℕ → ExprSyntax → List FieldPart
 with_field front place x t = front ++ named_part place x t ∷ []
 
 abbrev pub record_after : State → State
-record_after (Have (InField at front place x ∷ frames) t) = Have frames (fields_text at (fields_in_order (with_field front place x t)))
+record_after (Have (InField at front place x ∷ frames) t) = Have frames (fields_syntax at (fields_in_order (with_field front place x t)))
 record_after _ = Refused
 
 abbrev pub semi_after : State → State
@@ -219,7 +219,7 @@ bar_after (Have (InEmptyArm at list ∷ frames) t) = Inside frames (HeadBinder a
 bar_after _ = Refused
 
 -- behind an atom
-abbrev pub after : List Frame → ExprText → ExprToken → ℕ → Bool → State
+abbrev pub after : List Frame → ExprSyntax → ExprToken → ℕ → Bool → State
 after frames t (name x) at glued = begin_in (argument frames t) (name x) at
 after frames t (number c) at glued = begin_in (argument frames t) (number c) at
 after frames t (truth b) at glued = begin_in (argument frames t) (truth b) at
@@ -249,7 +249,7 @@ inside frames (LetBinder at) hole p = Inside frames (LetEqual at (record { at = 
 inside frames (LetEqual at x) (operator (between.Compare compare.Eq)) p = Need (InValue at x ∷ frames)
 inside frames (FieldName at front) (name x) p = Inside frames (FieldEqual at front p x)
 inside frames (FieldEqual at front place x) (operator (between.Compare compare.Eq)) p = Need (InField at front place x ∷ frames)
-inside frames (DotName at part) (name x) p = Have frames (field_text at p x part)
+inside frames (DotName at part) (name x) p = Have frames (field_syntax at p x part)
 inside frames (ArmBegin at list) (plain mark.Bar) p = Inside frames (ArmOpen at list)
 inside frames (ArmBegin at list) (plain mark.ListOpen) p = Inside frames (ArmClose at list)
 inside frames (ArmOpen at list) (plain mark.ListOpen) p = Inside frames (ArmClose at list)
@@ -265,12 +265,12 @@ inside frames (NilColon at) (plain mark.Colon) p = InType frames at (NeedType 0)
 inside frames _ _ p = Refused
 
 -- a token that the note of a number refuses; that the type of an empty list refuses
-abbrev pub note_ends : List Frame → ℕ → Frac → Option NoteText → ExprToken → State
-note_ends frames at c (Some n) (operator (between.Compare compare.Gt)) = Have frames (number_text at c (Some n))
+abbrev pub note_ends : List Frame → ℕ → Frac → Option NoteSyntax → ExprToken → State
+note_ends frames at c (Some n) (operator (between.Compare compare.Gt)) = Have frames (number_syntax at c (Some n))
 note_ends frames at c _ token = Refused
 
-abbrev pub type_ends : List Frame → ℕ → Option TypeText → ExprToken → State
-type_ends frames at (Some t) (plain mark.Close) = Have frames (nil_text at t)
+abbrev pub type_ends : List Frame → ℕ → Option TypeSyntax → ExprToken → State
+type_ends frames at (Some t) (plain mark.Close) = Have frames (nil_syntax at t)
 type_ends frames at _ token = Refused
 
 -- the note goes on, or ends; the type
@@ -296,10 +296,10 @@ abbrev pub step : State → Token → State
 step state token = act state (expr_token token.kind) token.start token.glued token.kind
 
 -- the expression where all is read
-abbrev pub whole : State → Option ExprText
+abbrev pub whole : State → Option ExprSyntax
 whole (Have [] t) = Some t
 whole _ = None
 
-abbrev pub finish : State → Option ExprText
+abbrev pub finish : State → Option ExprSyntax
 finish (Have frames t) = whole (reduce 9 frames t)
 finish _ = None

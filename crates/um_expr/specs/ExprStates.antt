@@ -1,7 +1,7 @@
 -- What is at hand, without where it lies in memory, and what a step gives.
 -- Source: this project's own.
 use Rattle.std.specs.Prelude.{◌≡◌, ◌≢◌, ℕ, ◌+◌, ◌<◌, Bool, true, false, max, nat_lt, List, [], ◌∷◌, Option, Some, None, option_map}
-use Rattle.um_tree.specs.RawTree.{ExprText, binder_text}
+use Rattle.um_tree.specs.RawTree.{ExprSyntax, binder_syntax}
 use Rattle.um_tree.specs.Heights.{expr_height}
 use Rattle.um_types.specs.UnitStops.{greatest_height}
 use Rattle.um_types.specs.NoteTakes.{note_state}
@@ -21,7 +21,7 @@ use Rattle.um_expr.specs.ExprFrames.{view_frame, is_call}
 
 abbrev pub view_place : PlaceHere → Place
 view_place (place.LetBinder at) = LetBinder at
-view_place (place.LetEqual at x) = LetEqual at (binder_text x)
+view_place (place.LetEqual at x) = LetEqual at (binder_syntax x)
 view_place (place.FieldName at front) = FieldName at (front_fields front)
 view_place (place.FieldEqual at front p x) = FieldEqual at (front_fields front) p x
 view_place (place.DotName at e) = DotName at (part_expr e)
@@ -30,9 +30,9 @@ view_place (place.ArmOpen at l) = ArmOpen at (part_expr l)
 view_place (place.ArmClose at l) = ArmClose at (part_expr l)
 view_place (place.ArmArrow at l) = ArmArrow at (part_expr l)
 view_place (place.HeadBinder at l a) = HeadBinder at (part_expr l) (part_expr a)
-view_place (place.HeadCons at l a x) = HeadCons at (part_expr l) (part_expr a) (binder_text x)
-view_place (place.TailBinder at l a x) = TailBinder at (part_expr l) (part_expr a) (binder_text x)
-view_place (place.TailArrow at l a x y) = TailArrow at (part_expr l) (part_expr a) (binder_text x) (binder_text y)
+view_place (place.HeadCons at l a x) = HeadCons at (part_expr l) (part_expr a) (binder_syntax x)
+view_place (place.TailBinder at l a x) = TailBinder at (part_expr l) (part_expr a) (binder_syntax x)
+view_place (place.TailArrow at l a x y) = TailArrow at (part_expr l) (part_expr a) (binder_syntax x) (binder_syntax y)
 view_place (place.NilColon at) = NilColon at
 
 abbrev pub state_of : List Frame → Hand → State
@@ -53,7 +53,7 @@ hand_height (hand.Note n) = 1
 hand_height (hand.Type at t) = 3
 
 -- What a step gives: the next state; or that a unit text or type text is too high in it; or, where the token is refused, the expression before it, if one is whole there.
-abbrev pub Gives : Option ExprText → List Frame → Step → State → Type 0
+abbrev pub Gives : Option ExprSyntax → List Frame → Step → State → Type 0
 Gives found frames (step.Goes now) new = new ≡ state_of frames now
 Gives found frames step.High new = (new ≢ Refused) × (greatest_height < whole_least new)
 Gives found frames (step.Stops t) new = (new ≡ Refused) × (option_map part_expr t ≡ found)
@@ -64,7 +64,7 @@ Ended limit old None new = (new ≡ old) × (nat_lt limit (top_rank old) ≡ tru
 Ended limit old (Some frame) new = (old ≡ view_frame frame ∷ new) × (nat_lt limit (own_rank (view_frame frame)) ≡ false)
 
 -- the expression that is whole where nothing is open behind it
-abbrev pub left_over : Option Open → ExprText → Option ExprText
+abbrev pub left_over : Option Open → ExprSyntax → Option ExprSyntax
 left_over None t = Some t
 left_over (Some frame) t = None
 
@@ -74,7 +74,7 @@ in_call [] = false
 in_call (frame ∷ frames) = is_call frame
 
 -- an argument begins, or the part is handed back
-abbrev pub Argued : List Frame → ExprText → Option Part → List Frame → Type 0
+abbrev pub Argued : List Frame → ExprSyntax → Option Part → List Frame → Type 0
 Argued old t None new = argument old t ≡ Some new
 Argued old t (Some same) new = (argument old t ≡ None) × (new ≡ old) × (part_expr same ≡ t)
 

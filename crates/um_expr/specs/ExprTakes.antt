@@ -1,7 +1,7 @@
 -- What one token more gives while an expression is read.
 -- Source: this project's own.
 use Rattle.std.specs.Prelude.{◌≡◌, ◌≢◌, ◌≤◌, ◌<◌, option_map}
-use Rattle.um_tree.specs.RawTree.{expr_text}
+use Rattle.um_tree.specs.RawTree.{expr_syntax}
 use Rattle.um_types.specs.UnitStops.{greatest_height}
 use Rattle.um_expr.specs.declared.take.ExprReader.{ExprReader}
 use Rattle.um_expr.specs.declared.take.ExprStep.{ExprStep}
@@ -19,4 +19,4 @@ expr_state r = state_of (stack r.frames.entries.items) r.hand
 abbrev pub ExprTakes : State → State → ExprStep → Type 0
 ExprTakes old new (step.Goes reader) = (new ≡ expr_state reader) × (new ≢ Refused) × (whole_least new ≤ greatest_height)
 ExprTakes old new step.High = (new ≢ Refused) × (greatest_height < whole_least new)
-ExprTakes old new (step.Stops found) = (new ≡ Refused) × (option_map expr_text found ≡ finish old)
+ExprTakes old new (step.Stops found) = (new ≡ Refused) × (option_map expr_syntax found ≡ finish old)

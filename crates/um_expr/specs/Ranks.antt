@@ -4,7 +4,7 @@
 use Rattle.std.specs.Prelude.{ℕ}
 use Rattle.um_tree.specs.declared.expression.Arith.{Arith}
 use Rattle.um_tree.specs.declared.expression.Arith.TheVariants as arith
-use Rattle.um_tree.specs.RawTree.{ExprText, arith_text, compare_text, and_text, or_text, cons_text}
+use Rattle.um_tree.specs.RawTree.{ExprSyntax, arith_syntax, compare_syntax, and_syntax, or_syntax, cons_syntax}
 use Rattle.um_expr.specs.declared.mark.Infix.{Infix}
 use Rattle.um_expr.specs.declared.mark.Infix.TheVariants as between
 
@@ -38,9 +38,9 @@ right_bound between.Cons = 6
 right_bound (between.Arith op) = arith_rank op
 
 -- the tree of a sign at its place with both operands
-abbrev pub infix_text : ℕ → Infix → ExprText → ExprText → ExprText
-infix_text at between.Or a b = or_text at a b
-infix_text at between.And a b = and_text at a b
-infix_text at (between.Compare sign) a b = compare_text at sign a b
-infix_text at between.Cons a b = cons_text at a b
-infix_text at (between.Arith op) a b = arith_text at op a b
+abbrev pub infix_text : ℕ → Infix → ExprSyntax → ExprSyntax → ExprSyntax
+infix_text at between.Or a b = or_syntax at a b
+infix_text at between.And a b = and_syntax at a b
+infix_text at (between.Compare sign) a b = compare_syntax at sign a b
+infix_text at between.Cons a b = cons_syntax at a b
+infix_text at (between.Arith op) a b = arith_syntax at op a b

@@ -1,6 +1,6 @@
 // One token inside a run of tokens that is fixed.
 ghost use Rattle.std.specs.Prelude.{◌≡◌, IfOk, None};
-ghost use Rattle.um_tree.specs.RawTree.{binder_text};
+ghost use Rattle.um_tree.specs.RawTree.{binder_syntax};
 ghost use Rattle.um_expr.specs.ExprMachine.{LetBinder, LetEqual, FieldName, FieldEqual, DotName, ArmBegin, ArmOpen, ArmClose, ArmArrow, HeadBinder, HeadCons, TailBinder, TailArrow, NilColon, inside};
 ghost use Rattle.um_expr.specs.ExprParts.{part_expr, front_fields};
 ghost use Rattle.um_expr.specs.ExprWords.{view_word};
@@ -47,7 +47,7 @@ fn let_equal(
     word: Word,
     p: u32,
 ) -> Result<Step, AllocError>
-    ensures { IfOk result (λ s. Gives None (frames_of frames.new) s (inside (frames_of frames.old) (LetEqual at (binder_text x)) (view_word word) p)) }
+    ensures { IfOk result (λ s. Gives None (frames_of frames.new) s (inside (frames_of frames.old) (LetEqual at (binder_syntax x)) (view_word word) p)) }
 {
     match word {
         Word::Operator(Infix::Compare(Sign::Eq)) => opened(frames, Frame::InValue(at, x)),
@@ -179,7 +179,7 @@ fn head_cons(
     word: Word,
     p: u32,
 ) -> Step
-    ensures { Gives None (frames_of frames.now) result (inside (frames_of frames.now) (HeadCons at (part_expr list) (part_expr empty) (binder_text head)) (view_word word) p) }
+    ensures { Gives None (frames_of frames.now) result (inside (frames_of frames.now) (HeadCons at (part_expr list) (part_expr empty) (binder_syntax head)) (view_word word) p) }
 {
     match word {
         Word::Operator(Infix::Cons) => {
@@ -199,7 +199,7 @@ fn tail_binder(
     word: Word,
     p: u32,
 ) -> Step
-    ensures { Gives None (frames_of frames.now) result (inside (frames_of frames.now) (TailBinder at (part_expr list) (part_expr empty) (binder_text head)) (view_word word) p) }
+    ensures { Gives None (frames_of frames.now) result (inside (frames_of frames.now) (TailBinder at (part_expr list) (part_expr empty) (binder_syntax head)) (view_word word) p) }
 {
     match word {
         Word::Name(name) => {
@@ -228,7 +228,7 @@ fn tail_arrow(
     word: Word,
     p: u32,
 ) -> Result<Step, AllocError>
-    ensures { IfOk result (λ s. Gives None (frames_of frames.new) s (inside (frames_of frames.old) (TailArrow at (part_expr list) (part_expr empty) (binder_text head) (binder_text tail)) (view_word word) p)) }
+    ensures { IfOk result (λ s. Gives None (frames_of frames.new) s (inside (frames_of frames.old) (TailArrow at (part_expr list) (part_expr empty) (binder_syntax head) (binder_syntax tail)) (view_word word) p)) }
 {
     match word {
         Word::Plain(Mark::Arrow) => opened(frames, Frame::InFullArm(at, list, empty, head, tail)),

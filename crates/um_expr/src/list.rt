@@ -1,6 +1,6 @@
 // The items, arguments and fields that were read, with the greatest of their heights.
 ghost use Rattle.std.specs.Prelude.{◌≡◌, ◌≤◌, ◌++◌, ◌∷◌, [], IfOk, map};
-ghost use Rattle.um_tree.specs.RawTree.{expr_text, exprs_in_order, field_part, fields_in_order, call_text, list_text, fields_text};
+ghost use Rattle.um_tree.specs.RawTree.{expr_syntax, exprs_in_order, field_part, fields_in_order, call_syntax, list_syntax, fields_syntax};
 ghost use Rattle.um_tree.specs.Heights.{tallest_expr, tallest_field};
 ghost use Rattle.um_types.specs.UnitCount.{counted};
 ghost use Rattle.um_types.specs.UnitStops.{greatest_height};
@@ -17,8 +17,8 @@ use um_tree::{Name, RawExpr, RawExprs, RawField, RawFields, RawNode};
 pub struct Front {
     pub items: Vec<RawExpr>,
     pub height: u32,
-    ghost exact: { height ≡ counted (tallest_expr (exprs_in_order (map expr_text items.items))) },
-    ghost low: { notes_in_all (exprs_in_order (map expr_text items.items)) ≤ greatest_height },
+    ghost exact: { height ≡ counted (tallest_expr (exprs_in_order (map expr_syntax items.items))) },
+    ghost low: { notes_in_all (exprs_in_order (map expr_syntax items.items)) ≤ greatest_height },
 }
 
 /// Some fields of a record text and the height of the highest, counted up to 401. No unit text or type text in them is higher than 400.
@@ -61,7 +61,7 @@ impl Front {
 
     /// The call of a name with these arguments
     pub fn call(self, at: u32, name: Name) -> Part
-        ensures { part_expr result ≡ call_text at name (exprs_in_order (front_exprs self)) }
+        ensures { part_expr result ≡ call_syntax at name (exprs_in_order (front_exprs self)) }
     {
         let Front { items, height } = self;
         Part {
@@ -75,7 +75,7 @@ impl Front {
 
     /// The list of these items
     pub fn list(self, at: u32) -> Part
-        ensures { part_expr result ≡ list_text at (exprs_in_order (front_exprs self)) }
+        ensures { part_expr result ≡ list_syntax at (exprs_in_order (front_exprs self)) }
     {
         let Front { items, height } = self;
         Part {
@@ -123,7 +123,7 @@ impl FieldFront {
 
     /// The record text with these fields
     pub fn whole(self, at: u32) -> Part
-        ensures { part_expr result ≡ fields_text at (fields_in_order (front_fields self)) }
+        ensures { part_expr result ≡ fields_syntax at (fields_in_order (front_fields self)) }
     {
         let FieldFront { items, height } = self;
         Part {

@@ -1,6 +1,6 @@
 // Expressions with their heights beside them, so that no height is counted again.
 ghost use Rattle.std.specs.Prelude.{◌≡◌, ◌≤◌, IfOk, None};
-ghost use Rattle.um_tree.specs.RawTree.{expr_text, binder_text, type_text, written_note, truth_text, number_text, name_text, negate_text, not_text, if_text, let_text, match_text, nil_text, field_text, bracket_expr_text};
+ghost use Rattle.um_tree.specs.RawTree.{expr_syntax, binder_syntax, type_syntax, written_note, truth_syntax, number_syntax, name_syntax, negate_syntax, not_syntax, if_syntax, let_syntax, match_syntax, nil_syntax, field_syntax, bracket_expr_syntax};
 ghost use Rattle.um_tree.specs.Heights.{expr_height};
 ghost use Rattle.um_types.specs.TypeHeights.{whole_height};
 ghost use Rattle.um_types.specs.UnitCount.{counted};
@@ -19,8 +19,8 @@ use um_tree::{Binder, Name, RawExpr, RawNode, RawNote, RawType};
 pub struct Part {
     pub tree: RawExpr,
     pub height: u32,
-    ghost exact: { height ≡ counted (expr_height (expr_text tree)) },
-    ghost low: { notes_in (expr_text tree) ≤ greatest_height },
+    ghost exact: { height ≡ counted (expr_height (expr_syntax tree)) },
+    ghost low: { notes_in (expr_syntax tree) ≤ greatest_height },
 }
 
 impl Part {
@@ -29,7 +29,7 @@ impl Part {
 
     /// `true` or `false`
     pub fn truth(at: u32, value: bool) -> Part
-        ensures { part_expr result ≡ truth_text at value }
+        ensures { part_expr result ≡ truth_syntax at value }
     {
         Part {
             tree: RawExpr {
@@ -43,7 +43,7 @@ impl Part {
     /// A number, with its note if it has one
     pub fn number(at: u32, value: Frac, note: Option<RawNote>) -> Part
         requires { written_height (written_note note) ≤ greatest_height }
-        ensures { part_expr result ≡ number_text at value (written_note note) }
+        ensures { part_expr result ≡ number_syntax at value (written_note note) }
     {
         Part {
             tree: RawExpr {
@@ -56,7 +56,7 @@ impl Part {
 
     /// A name
     pub fn name(at: u32, name: Name) -> Part
-        ensures { part_expr result ≡ name_text at name }
+        ensures { part_expr result ≡ name_syntax at name }
     {
         Part {
             tree: RawExpr {
@@ -69,7 +69,7 @@ impl Part {
 
     /// `-e`
     pub fn negate(self, alloc: Global, at: u32) -> Result<Part, AllocError>
-        ensures { IfOk result (λ p. part_expr p ≡ negate_text at (part_expr self)) }
+        ensures { IfOk result (λ p. part_expr p ≡ negate_syntax at (part_expr self)) }
     {
         let Part { tree, height } = self;
         let node = RawNode::Neg(Box::new(alloc, tree)?);
@@ -81,7 +81,7 @@ impl Part {
 
     /// `not e`
     pub fn not(self, alloc: Global, at: u32) -> Result<Part, AllocError>
-        ensures { IfOk result (λ p. part_expr p ≡ not_text at (part_expr self)) }
+        ensures { IfOk result (λ p. part_expr p ≡ not_syntax at (part_expr self)) }
     {
         let Part { tree, height } = self;
         let node = RawNode::Not(Box::new(alloc, tree)?);
@@ -93,7 +93,7 @@ impl Part {
 
     /// `(e)`
     pub fn bracket(self, alloc: Global, at: u32) -> Result<Part, AllocError>
-        ensures { IfOk result (λ p. part_expr p ≡ bracket_expr_text at (part_expr self)) }
+        ensures { IfOk result (λ p. part_expr p ≡ bracket_expr_syntax at (part_expr self)) }
     {
         let Part { tree, height } = self;
         let node = RawNode::Bracket(Box::new(alloc, tree)?);
@@ -105,7 +105,7 @@ impl Part {
 
     /// `e.x`, with the place of the field's name
     pub fn field(self, alloc: Global, at: u32, place: u32, name: Name) -> Result<Part, AllocError>
-        ensures { IfOk result (λ p. part_expr p ≡ field_text at place name (part_expr self)) }
+        ensures { IfOk result (λ p. part_expr p ≡ field_syntax at place name (part_expr self)) }
     {
         let Part { tree, height } = self;
         let node = RawNode::Field(place, name, Box::new(alloc, tree)?);
@@ -138,7 +138,7 @@ impl Part {
 
     /// `let x = self in body`
     pub fn bound(self, alloc: Global, at: u32, x: Binder, body: Part) -> Result<Part, AllocError>
-        ensures { IfOk result (λ p. part_expr p ≡ let_text at (binder_text x) (part_expr self) (part_expr body)) }
+        ensures { IfOk result (λ p. part_expr p ≡ let_syntax at (binder_syntax x) (part_expr self) (part_expr body)) }
     {
         let Part { tree, height } = self;
         let node = RawNode::Let(x, Box::new(alloc, tree)?, Box::new(alloc, body.tree)?);
@@ -150,7 +150,7 @@ impl Part {
 
     /// `if self then one else other`
     pub fn choice(self, alloc: Global, at: u32, one: Part, other: Part) -> Result<Part, AllocError>
-        ensures { IfOk result (λ p. part_expr p ≡ if_text at (part_expr self) (part_expr one) (part_expr other)) }
+        ensures { IfOk result (λ p. part_expr p ≡ if_syntax at (part_expr self) (part_expr one) (part_expr other)) }
     {
         let Part { tree, height } = self;
         let node = RawNode::If(
@@ -174,7 +174,7 @@ impl Part {
         tail: Binder,
         full: Part,
     ) -> Result<Part, AllocError>
-        ensures { IfOk result (λ p. part_expr p ≡ match_text at (part_expr self) (part_expr empty) (binder_text head) (binder_text tail) (part_expr full)) }
+        ensures { IfOk result (λ p. part_expr p ≡ match_syntax at (part_expr self) (part_expr empty) (binder_syntax head) (binder_syntax tail) (part_expr full)) }
     {
         let Part { tree, height } = self;
         let node = RawNode::Match(
@@ -192,8 +192,8 @@ impl Part {
 
     /// `([] : T)`
     pub fn nil(at: u32, ty: RawType) -> Part
-        requires { whole_height (type_text ty) ≤ greatest_height }
-        ensures { part_expr result ≡ nil_text at (type_text ty) }
+        requires { whole_height (type_syntax ty) ≤ greatest_height }
+        ensures { part_expr result ≡ nil_syntax at (type_syntax ty) }
     {
         Part {
             tree: RawExpr {

@@ -1,6 +1,6 @@
 // Reading an expression token by token.
 ghost use Rattle.std.specs.Prelude.{◌≡◌, [], IfOk, None, option_map};
-ghost use Rattle.um_tree.specs.RawTree.{expr_text};
+ghost use Rattle.um_tree.specs.RawTree.{expr_syntax};
 ghost use Rattle.um_expr.specs.ExprMachine.{Need, step, finish};
 ghost use Rattle.um_expr.specs.ExprParts.{part_expr};
 ghost use Rattle.um_expr.specs.ExprTakes.{expr_state, ExprTakes};
@@ -17,7 +17,7 @@ use um_syntax::Token;
 use um_tree::RawExpr;
 
 fn tree_of(part: Option<Part>) -> Option<RawExpr>
-    ensures { option_map expr_text result ≡ option_map part_expr part }
+    ensures { option_map expr_syntax result ≡ option_map part_expr part }
 {
     match part {
         Some(part) => Some(part.tree),
@@ -61,7 +61,7 @@ impl ExprReader {
 
     /// The expression where all is read, if it is one.
     pub fn finish(self, alloc: Global) -> Result<Option<RawExpr>, AllocError>
-        ensures found { IfOk result (λ o. option_map expr_text o ≡ finish (expr_state self)) }
+        ensures found { IfOk result (λ o. option_map expr_syntax o ≡ finish (expr_state self)) }
     {
         let ExprReader { mut frames, hand } = self;
         match hand {

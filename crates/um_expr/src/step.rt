@@ -1,6 +1,6 @@
 // One token more, whatever is at hand.
 ghost use Rattle.std.specs.Prelude.{◌≡◌, ◌≤◌, IfOk, None, Some};
-ghost use Rattle.um_tree.specs.RawTree.{note_text, type_text};
+ghost use Rattle.um_tree.specs.RawTree.{note_syntax, type_syntax};
 ghost use Rattle.um_types.specs.TypeHeights.{note_height, whole_height};
 ghost use Rattle.um_types.specs.UnitStops.{greatest_height};
 ghost use Rattle.um_types.specs.NoteMachine.{note_act, note_finish};
@@ -94,8 +94,8 @@ fn after(
 
 // The token that the note of a number has refused.
 fn note_ends(frames: &Frames, at: u32, value: Frac, note: RawNote, word: Word) -> Step
-    requires { note_height (note_text note) ≤ greatest_height }
-    ensures { Gives None (frames_of frames.now) result (note_ends (frames_of frames.now) at value (Some (note_text note)) (view_word word)) }
+    requires { note_height (note_syntax note) ≤ greatest_height }
+    ensures { Gives None (frames_of frames.now) result (note_ends (frames_of frames.now) at value (Some (note_syntax note)) (view_word word)) }
 {
     match word {
         Word::Operator(Infix::Compare(Sign::Gt)) => {
@@ -107,8 +107,8 @@ fn note_ends(frames: &Frames, at: u32, value: Frac, note: RawNote, word: Word) -
 
 // The token that the type of an empty list has refused.
 fn type_ends(frames: &Frames, at: u32, ty: RawType, word: Word) -> Step
-    requires { whole_height (type_text ty) ≤ greatest_height }
-    ensures { Gives None (frames_of frames.now) result (type_ends (frames_of frames.now) at (Some (type_text ty)) (view_word word)) }
+    requires { whole_height (type_syntax ty) ≤ greatest_height }
+    ensures { Gives None (frames_of frames.now) result (type_ends (frames_of frames.now) at (Some (type_syntax ty)) (view_word word)) }
 {
     match word {
         Word::Plain(Mark::Close) => Step::Goes(Hand::Full(Part::nil(at, ty))),

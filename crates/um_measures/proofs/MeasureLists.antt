@@ -9,7 +9,7 @@ use Rattle.um_units.specs.PowerMap.{PowerMap, atom}
 use Rattle.um_measures.specs.declared.abbreviation.Abbreviation.{Abbreviation}
 use Rattle.um_measures.specs.Known.{number_of, short_unit, base_or, measure_unit}
 use Rattle.um_tree.specs.ProgramTree.{ProgramTree}
-use Rattle.um_tree.specs.RawTree.{UnitText}
+use Rattle.um_tree.specs.RawTree.{UnitSyntax}
 use Rattle.um_measures.specs.UnitNames.{resolved_unit}
 use Rattle.um_measures.specs.ClosedUnits.{base_unit, first_of_both, given}
 use Rattle.um_measures.proofs.NameLists.{or_else, if_named, short_unit-append, number_of-append}
@@ -56,7 +56,7 @@ both_none None = refl
 both_none (Some u) = refl
 
 -- the unit of a text depends on what its measures stand for alone
-pub closed_is : (m : List ℕ → Option PowerMap) (vars : List (List ℕ)) (p : ProgramTree) (shorts : List Abbreviation) (u : UnitText) → ((y : List ℕ) → m y ≡ measure_unit (given p shorts) y) → vars ≡ []
+pub closed_is : (m : List ℕ → Option PowerMap) (vars : List (List ℕ)) (p : ProgramTree) (shorts : List Abbreviation) (u : UnitSyntax) → ((y : List ℕ) → m y ≡ measure_unit (given p shorts) y) → vars ≡ []
     → resolved_unit m vars u ≡ resolved_unit (measure_unit (given p shorts)) [] u
 closed_is m vars p shorts u same none =
     let alike : m ≡ measure_unit (given p shorts) = λ i y. same y i in

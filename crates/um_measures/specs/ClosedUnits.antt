@@ -6,7 +6,7 @@ use Rattle.um_units.specs.PowerMap.{PowerMap, atom}
 use Rattle.um_tree.specs.declared.note.UnitNote.{UnitNote}
 use Rattle.um_tree.specs.declared.note.UnitNote.TheVariants as note
 use Rattle.um_tree.specs.ProgramTree.{ProgramTree}
-use Rattle.um_tree.specs.RawTree.{UnitText}
+use Rattle.um_tree.specs.RawTree.{UnitSyntax}
 use Rattle.um_measures.specs.declared.abbreviation.Abbreviation.{Abbreviation}
 use Rattle.um_measures.specs.Faults.{Found, and_then}
 use Rattle.um_measures.specs.Known.{Known, measure_unit}
@@ -25,5 +25,5 @@ abbrev pub given : ProgramTree → List Abbreviation → Known
 given p shorts = record { program = p; shorts = shorts }
 
 -- the text's unit as a note: no unit variable is known
-abbrev pub closed_note : ProgramTree → List Abbreviation → UnitText → Found UnitNote
+abbrev pub closed_note : ProgramTree → List Abbreviation → UnitSyntax → Found UnitNote
 closed_note p shorts u = and_then (resolved_unit (measure_unit (given p shorts)) [] u) (λ v. Ok (note.Written v))

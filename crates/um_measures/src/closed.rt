@@ -4,7 +4,7 @@ ghost use Rattle.std.specs.Prelude.{◌≡◌, ◌∷◌, ◌++◌, [], ℕ, Lis
 ghost use Rattle.um_units.specs.declared.Atom.TheVariants.{Base};
 ghost use Rattle.um_units.specs.PowerMap.{atom};
 ghost use Rattle.um_tree.specs.ProgramTree.{program_tree};
-ghost use Rattle.um_tree.specs.RawTree.{unit_text};
+ghost use Rattle.um_tree.specs.RawTree.{unit_syntax};
 ghost use Rattle.um_measures.specs.Known.{number_of, short_unit};
 ghost use Rattle.um_measures.specs.ClosedUnits.{base_unit, first_of_both, closed_note};
 ghost use Rattle.um_measures.specs.Stops.{IsFirst};
@@ -84,8 +84,8 @@ pub fn closed_unit(
     abbreviations: &Abbreviations,
     raw: &RawUnit,
 ) -> Result<UnitNote, NameStop>
-    ensures exact { IfOk result (λ note. closed_note (program_tree program.now) abbreviations.now (unit_text raw.now) ≡ Ok note) }
-    ensures faults { IfErr result (IsFirst (closed_note (program_tree program.now) abbreviations.now (unit_text raw.now))) }
+    ensures exact { IfOk result (λ note. closed_note (program_tree program.now) abbreviations.now (unit_syntax raw.now) ≡ Ok note) }
+    ensures faults { IfErr result (IsFirst (closed_note (program_tree program.now) abbreviations.now (unit_syntax raw.now))) }
 {
     let bases = base_measures(alloc, program.bases.as_slice())?;
     let measures = with_abbreviations(alloc, bases, abbreviations.as_slice())?;

@@ -2,7 +2,7 @@
 
 ghost use Rattle.std.specs.Prelude.{◌≡◌, IfOk, IfErr, map};
 ghost use Rattle.um_units.specs.Range.{RangeUnless};
-ghost use Rattle.um_tree.specs.RawTree.{unit_text, units_in_order};
+ghost use Rattle.um_tree.specs.RawTree.{unit_syntax, units_in_order};
 ghost use Rattle.um_measures.specs.Known.{short_unit};
 ghost use Rattle.um_measures.specs.UnitNames.{first_place, first_of, unknown_in, unknown_among, unit_of, product_of, parts_fit, products_fit, resolved_unit};
 ghost use Rattle.um_measures.specs.Stops.{IsFirst};
@@ -21,7 +21,7 @@ use um_units::{Atom, Unit, UnitStop};
 /// The place of the first token of a unit text.
 #[cycle(first_place)]
 fn first_place(raw: &RawUnit) -> u32
-    ensures { result ≡ first_place (unit_text raw.now) }
+    ensures { result ≡ first_place (unit_syntax raw.now) }
 {
     match raw {
         RawUnit::One(at)
@@ -36,7 +36,7 @@ fn first_place(raw: &RawUnit) -> u32
 
 #[cycle(first_place)]
 fn first_of(units: &[RawUnit]) -> u32
-    ensures { result ≡ first_of (units_in_order (map unit_text units.now)) }
+    ensures { result ≡ first_of (units_in_order (map unit_syntax units.now)) }
 {
     if units.is_empty() {
         0
@@ -49,7 +49,7 @@ fn first_of(units: &[RawUnit]) -> u32
 /// measures, of a unit variable among these names.
 #[cycle(unknown)]
 pub fn first_unknown(measures: &Measures, variables: &NameTable, raw: &RawUnit) -> Option<u32>
-    ensures { result ≡ unknown_in (short_unit measures.now) variables.now (unit_text raw.now) }
+    ensures { result ≡ unknown_in (short_unit measures.now) variables.now (unit_syntax raw.now) }
 {
     match raw {
         RawUnit::One(_) => None,
@@ -68,7 +68,7 @@ pub fn first_unknown(measures: &Measures, variables: &NameTable, raw: &RawUnit) 
 
 #[cycle(unknown)]
 fn unknown_among(measures: &Measures, variables: &NameTable, units: &[RawUnit]) -> Option<u32>
-    ensures { result ≡ unknown_among (short_unit measures.now) variables.now (units_in_order (map unit_text units.now)) }
+    ensures { result ≡ unknown_among (short_unit measures.now) variables.now (units_in_order (map unit_syntax units.now)) }
 {
     for i in 0..units.len() {
         if let Some(at) = first_unknown(measures, variables, &units[i]) {
@@ -112,8 +112,8 @@ fn evaluated(
     variables: &NameTable,
     raw: &RawUnit,
 ) -> Result<Unit, UnitStop>
-    ensures exact { IfOk result (λ unit. unit ≡ unit_of (short_unit measures.now) variables.now (unit_text raw.now)) }
-    ensures range { RangeUnless result (parts_fit (short_unit measures.now) variables.now (unit_text raw.now)) }
+    ensures exact { IfOk result (λ unit. unit ≡ unit_of (short_unit measures.now) variables.now (unit_syntax raw.now)) }
+    ensures range { RangeUnless result (parts_fit (short_unit measures.now) variables.now (unit_syntax raw.now)) }
 {
     match raw {
         RawUnit::One(_) => Ok(Unit::one(alloc)),
@@ -144,8 +144,8 @@ fn product(
     variables: &NameTable,
     units: &[RawUnit],
 ) -> Result<Unit, UnitStop>
-    ensures exact { IfOk result (λ unit. unit ≡ product_of (short_unit measures.now) variables.now one (units_in_order (map unit_text units.now))) }
-    ensures range { RangeUnless result (products_fit (short_unit measures.now) variables.now one (units_in_order (map unit_text units.now))) }
+    ensures exact { IfOk result (λ unit. unit ≡ product_of (short_unit measures.now) variables.now one (units_in_order (map unit_syntax units.now))) }
+    ensures range { RangeUnless result (products_fit (short_unit measures.now) variables.now one (units_in_order (map unit_syntax units.now))) }
 {
     let mut front = RunningProduct::new(alloc);
     for i in 0..units.len() {
@@ -166,8 +166,8 @@ pub fn resolved_unit(
     variables: &NameTable,
     raw: &RawUnit,
 ) -> Result<Unit, NameStop>
-    ensures exact { IfOk result (λ unit. resolved_unit (short_unit measures.now) variables.now (unit_text raw.now) ≡ Ok unit) }
-    ensures faults { IfErr result (IsFirst (resolved_unit (short_unit measures.now) variables.now (unit_text raw.now))) }
+    ensures exact { IfOk result (λ unit. resolved_unit (short_unit measures.now) variables.now (unit_syntax raw.now) ≡ Ok unit) }
+    ensures faults { IfErr result (IsFirst (resolved_unit (short_unit measures.now) variables.now (unit_syntax raw.now))) }
 {
     if let Some(at) = first_unknown(measures, variables, raw) {
         return Err(NameStop::Unknown { at });

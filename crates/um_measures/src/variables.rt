@@ -2,7 +2,7 @@
 
 ghost use Rattle.std.specs.Prelude.{◌≡◌, [], OnOk, IfOk, map};
 ghost use Rattle.std.specs.List.{flat_map};
-ghost use Rattle.um_tree.specs.RawTree.{unit_text, units_in_order, note_text, written_note, type_text, written_type, expr_text, exprs_in_order, field_part, fields_in_order, param_text, whole_function_text};
+ghost use Rattle.um_tree.specs.RawTree.{unit_syntax, units_in_order, note_syntax, written_note, type_syntax, written_type, expr_syntax, exprs_in_order, field_part, fields_in_order, param_syntax, whole_function_syntax};
 ghost use Rattle.um_measures.specs.Variables.{unit_variables, all_unit_variables, note_variables, number_variables, type_variables, expr_variables, exprs_variables, fields_variables, result_variables, first_occurrences, named_variables};
 
 use crate::table::NameTable;
@@ -12,7 +12,7 @@ use um_tree::{RawExpr, RawField, RawFunction, RawNode, RawNote, RawParam, RawTyp
 #[cycle(unit_variables)]
 #[tactic(auto, using(crate::proofs::Occurrences::both_occur, crate::proofs::Occurrences::occurrences_append))]
 fn in_unit(names: &mut NameTable, alloc: Global, raw: &RawUnit) -> Result<(), AllocError>
-    ensures { OnOk result (names.new ≡ first_occurrences names.old (unit_variables (unit_text raw.now))) }
+    ensures { OnOk result (names.new ≡ first_occurrences names.old (unit_variables (unit_syntax raw.now))) }
 {
     match raw {
         RawUnit::One(_) | RawUnit::Name(_, _) => Ok(()),
@@ -32,7 +32,7 @@ fn in_unit(names: &mut NameTable, alloc: Global, raw: &RawUnit) -> Result<(), Al
 #[cycle(unit_variables)]
 #[tactic(auto, using(crate::proofs::Occurrences::both_occur, crate::proofs::Occurrences::occurrences_append))]
 fn in_units(names: &mut NameTable, alloc: Global, units: &[RawUnit]) -> Result<(), AllocError>
-    ensures { OnOk result (names.new ≡ first_occurrences names.old (all_unit_variables (units_in_order (map unit_text units.now)))) }
+    ensures { OnOk result (names.new ≡ first_occurrences names.old (all_unit_variables (units_in_order (map unit_syntax units.now)))) }
 {
     for i in 0..units.len() {
         in_unit(names, alloc, &units[i])?;
@@ -41,7 +41,7 @@ fn in_units(names: &mut NameTable, alloc: Global, units: &[RawUnit]) -> Result<(
 }
 
 fn in_note(names: &mut NameTable, alloc: Global, raw: &RawNote) -> Result<(), AllocError>
-    ensures { OnOk result (names.new ≡ first_occurrences names.old (note_variables (note_text raw.now))) }
+    ensures { OnOk result (names.new ≡ first_occurrences names.old (note_variables (note_syntax raw.now))) }
 {
     match raw {
         RawNote::Hole(_) => Ok(()),
@@ -51,7 +51,7 @@ fn in_note(names: &mut NameTable, alloc: Global, raw: &RawNote) -> Result<(), Al
 
 #[tactic(auto, using(crate::proofs::Occurrences::both_occur, crate::proofs::Occurrences::occurrences_append))]
 fn in_notes(names: &mut NameTable, alloc: Global, raw: &[RawNote]) -> Result<(), AllocError>
-    ensures { OnOk result (names.new ≡ first_occurrences names.old (flat_map note_variables (map note_text raw.now))) }
+    ensures { OnOk result (names.new ≡ first_occurrences names.old (flat_map note_variables (map note_syntax raw.now))) }
 {
     for note in raw {
         in_note(names, alloc, note)?;
@@ -65,7 +65,7 @@ pub fn add_type_variables(
     alloc: Global,
     raw: &RawType,
 ) -> Result<(), AllocError>
-    ensures { OnOk result (names.new ≡ first_occurrences names.old (type_variables (type_text raw.now))) }
+    ensures { OnOk result (names.new ≡ first_occurrences names.old (type_variables (type_syntax raw.now))) }
 {
     match raw {
         RawType::Bool | RawType::Num(None) => Ok(()),
@@ -78,7 +78,7 @@ pub fn add_type_variables(
 #[cycle(expr_variables)]
 #[tactic(auto, using(crate::proofs::Occurrences::both_occur, crate::proofs::Occurrences::occurrences_append))]
 fn in_expr(names: &mut NameTable, alloc: Global, e: &RawExpr) -> Result<(), AllocError>
-    ensures { OnOk result (names.new ≡ first_occurrences names.old (expr_variables (expr_text e.now))) }
+    ensures { OnOk result (names.new ≡ first_occurrences names.old (expr_variables (expr_syntax e.now))) }
 {
     match &e.node {
         RawNode::Bool(_) | RawNode::Num(_, _) | RawNode::Name(_) => Ok(()),
@@ -110,7 +110,7 @@ fn in_expr(names: &mut NameTable, alloc: Global, e: &RawExpr) -> Result<(), Allo
 #[cycle(expr_variables)]
 #[tactic(auto, using(crate::proofs::Occurrences::both_occur, crate::proofs::Occurrences::occurrences_append))]
 fn in_exprs(names: &mut NameTable, alloc: Global, items: &[RawExpr]) -> Result<(), AllocError>
-    ensures { OnOk result (names.new ≡ first_occurrences names.old (exprs_variables (exprs_in_order (map expr_text items.now)))) }
+    ensures { OnOk result (names.new ≡ first_occurrences names.old (exprs_variables (exprs_in_order (map expr_syntax items.now)))) }
 {
     for i in 0..items.len() {
         in_expr(names, alloc, &items[i])?;
@@ -139,7 +139,7 @@ fn in_field(names: &mut NameTable, alloc: Global, field: &RawField) -> Result<()
 
 #[tactic(auto, using(crate::proofs::Occurrences::both_occur, crate::proofs::Occurrences::occurrences_append))]
 fn in_params(names: &mut NameTable, alloc: Global, params: &[RawParam]) -> Result<(), AllocError>
-    ensures { OnOk result (names.new ≡ first_occurrences names.old (flat_map (λ p. type_variables p.type) (map param_text params.now))) }
+    ensures { OnOk result (names.new ≡ first_occurrences names.old (flat_map (λ p. type_variables p.type) (map param_syntax params.now))) }
 {
     for param in params {
         add_type_variables(names, alloc, &param.ty)?;
@@ -151,7 +151,7 @@ fn in_params(names: &mut NameTable, alloc: Global, params: &[RawParam]) -> Resul
 /// the parameters, the result and the body. A number's unit is no note of the function.
 #[tactic(auto, using(crate::proofs::Occurrences::both_occur))]
 pub fn named_variables(alloc: Global, function: &RawFunction) -> Result<NameTable, AllocError>
-    ensures { IfOk result (λ names. names ≡ named_variables (whole_function_text function.now)) }
+    ensures { IfOk result (λ names. names ≡ named_variables (whole_function_syntax function.now)) }
 {
     let mut names = NameTable::new(alloc);
     in_params(&mut names, alloc, &function.params.items)?;

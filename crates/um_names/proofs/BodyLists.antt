@@ -1,7 +1,7 @@
 -- The expressions of a list in a body, one after another.
 use Rattle.std.proofs.Common.{◌≡◌, ℕ, List, [], ◌∷◌, refl, ap, sym, subst, Ok, Err}
 use Rattle.um_tree.specs.ExprTree.{ExprTree, ExprTrees, in_order, more}
-use Rattle.um_tree.specs.RawTree.{ExprText, FieldPart, exprs_in_order, fields_in_order}
+use Rattle.um_tree.specs.RawTree.{ExprSyntax, FieldPart, exprs_in_order, fields_in_order}
 use Rattle.um_measures.specs.declared.stop.NameStop.{NameStop}
 use Rattle.um_names.specs.declared.callable.Callable.{Callable}
 use Rattle.um_measures.specs.Faults.{Found, and_then, each}
@@ -18,7 +18,7 @@ step (Ok a) rest (Ok ys) e = ap (λ q. and_then q (λ bs. Ok (more a bs))) e
 step (Ok a) rest (Err f) e = ap (λ q. and_then q (λ bs. Ok (more a bs))) e
 
 module _ (known : Known) (variables : List (List ℕ)) (callables : List Callable) (scope : Scope) where
-  pub exprs_each : (ts : List ExprText) → resolved_exprs known variables callables scope (exprs_in_order ts) ≡ and_then (each (resolved_expr known variables callables scope) ts) (λ bs. Ok (in_order bs))
+  pub exprs_each : (ts : List ExprSyntax) → resolved_exprs known variables callables scope (exprs_in_order ts) ≡ and_then (each (resolved_expr known variables callables scope) ts) (λ bs. Ok (in_order bs))
   exprs_each [] = refl
   exprs_each (t ∷ ts) = step (resolved_expr known variables callables scope t) (resolved_exprs known variables callables scope (exprs_in_order ts)) (each (resolved_expr known variables callables scope) ts) (exprs_each ts)
 
@@ -26,7 +26,7 @@ module _ (known : Known) (variables : List (List ℕ)) (callables : List Callabl
   parts_each [] = refl
   parts_each (f ∷ fs) = step (resolved_expr known variables callables scope f.part) (resolved_parts known variables callables scope (fields_in_order fs)) (each (λ p. resolved_expr known variables callables scope p.part) fs) (parts_each fs)
 
-  pub exprs_first : (ts : List ExprText) (stop : NameStop) → IsFirst (each (resolved_expr known variables callables scope) ts) stop → IsFirst (resolved_exprs known variables callables scope (exprs_in_order ts)) stop
+  pub exprs_first : (ts : List ExprSyntax) (stop : NameStop) → IsFirst (each (resolved_expr known variables callables scope) ts) stop → IsFirst (resolved_exprs known variables callables scope (exprs_in_order ts)) stop
   exprs_first ts stop h = subst (λ (r : Found ExprTrees). IsFirst r stop) (sym (exprs_each ts)) (first_and_then (each (resolved_expr known variables callables scope) ts) (λ bs. Ok (in_order bs)) stop h)
 
   pub parts_first : (fs : List FieldPart) (stop : NameStop) → IsFirst (each (λ p. resolved_expr known variables callables scope p.part) fs) stop → IsFirst (resolved_parts known variables callables scope (fields_in_order fs)) stop

@@ -6,7 +6,7 @@ use Rattle.std.proofs.lemmas.List.{map-append}
 use Rattle.std.proofs.lemmas.List.Folds.{list_any-append}
 use Rattle.um_tree.specs.TypeTree.{NoteTree}
 use Rattle.um_tree.specs.ProgramTree.{FieldTree, RecordTree}
-use Rattle.um_tree.specs.RawTree.{FieldDeclText}
+use Rattle.um_tree.specs.RawTree.{FieldDeclSyntax}
 use Rattle.um_names.specs.declared.callable.FieldNumber.{FieldNumber}
 use Rattle.um_measures.specs.declared.stop.NameStop.{NameStop}
 use Rattle.um_measures.specs.Faults.{Fault, Found, and_then, unless_taken}
@@ -60,20 +60,20 @@ is_named (Ok v) (Err f) x g e = absurd cc
 is_named (Err f) t x g e = absurd cc
 
 module _ (known : Known) (variables : List (List ℕ)) where
-  pub field_next : (whole : Found (List FieldTree)) (done : List FieldTree) (f : FieldDeclText) (rest fs : List FieldDeclText) (g : FieldTree) → whole ≡ resolved_field_decls known variables done rest → rest ≡ f ∷ fs
+  pub field_next : (whole : Found (List FieldTree)) (done : List FieldTree) (f : FieldDeclSyntax) (rest fs : List FieldDeclSyntax) (g : FieldTree) → whole ≡ resolved_field_decls known variables done rest → rest ≡ f ∷ fs
       → resolved_field_decl known variables (names_in done) f ≡ Ok g → whole ≡ resolved_field_decls known variables (done ++ g ∷ []) fs
   field_next whole done f rest fs g h e r =
       h ∙ ap (resolved_field_decls known variables done) e
       ∙ goes (unless_taken (is_among (field_names known.program.records) f.name || is_among (names_in done) f.name) f.at) (resolved_type known variables false f.type) f.name g (λ z. resolved_field_decls known variables (done ++ z ∷ []) fs) r
 
-  pub field_stops : (whole : Found (List FieldTree)) (done : List FieldTree) (f : FieldDeclText) (rest fs : List FieldDeclText) (stop : NameStop) → whole ≡ resolved_field_decls known variables done rest → rest ≡ f ∷ fs
+  pub field_stops : (whole : Found (List FieldTree)) (done : List FieldTree) (f : FieldDeclSyntax) (rest fs : List FieldDeclSyntax) (stop : NameStop) → whole ≡ resolved_field_decls known variables done rest → rest ≡ f ∷ fs
       → IsFirst (resolved_field_decl known variables (names_in done) f) stop → IsFirst whole stop
   field_stops whole done f rest fs stop h e = first_from (resolved_field_decl known variables (names_in done) f) whole (λ fault r.
       h ∙ ap (resolved_field_decls known variables done) e
       ∙ stops (unless_taken (is_among (field_names known.program.records) f.name || is_among (names_in done) f.name) f.at) (resolved_type known variables false f.type) f.name fault (λ z. resolved_field_decls known variables (done ++ z ∷ []) fs) r) stop
 
   -- its name is new among those of its own record
-  pub names_next : (own more : List (List ℕ)) (done : List FieldTree) (f : FieldDeclText) (g : FieldTree) → own ≡ names_in done → resolved_field_decl known variables own f ≡ Ok g
+  pub names_next : (own more : List (List ℕ)) (done : List FieldTree) (f : FieldDeclSyntax) (g : FieldTree) → own ≡ names_in done → resolved_field_decl known variables own f ≡ Ok g
       → more ≡ cond (is_among own f.name) own (own ++ f.name ∷ []) → more ≡ names_in (done ++ g ∷ [])
   names_next own more done f g inv r m =
       let new : is_among own f.name ≡ false = is_new (is_among (field_names known.program.records) f.name) (is_among own f.name) f.at (resolved_type known variables false f.type) f.name g r in

@@ -3,7 +3,7 @@ use Rattle.std.proofs.Common.{◌≡◌, ℕ, suc, Bool, true, false, ◌&&◌, 
 use Rattle.std.specs.Prelude.{Option, Some, None, is_some}
 use Rattle.std.specs.Str.{bytes_eq}
 use Rattle.um_tree.specs.ProgramTree.{RecordTree}
-use Rattle.um_tree.specs.RawTree.{FieldPart, ExprText, fields_in_order, exprs_in_order}
+use Rattle.um_tree.specs.RawTree.{FieldPart, ExprSyntax, fields_in_order, exprs_in_order}
 use Rattle.std.specs.Prelude.{Ok}
 use Rattle.um_measures.specs.Faults.{and_then}
 use Rattle.um_names.specs.declared.callable.FieldNumber.{FieldNumber}
@@ -29,7 +29,7 @@ pub names-in_order : (fs : List FieldPart) → field_text_names (fields_in_order
 names-in_order [] = refl
 names-in_order (f ∷ fs) = ap (λ ns. f.name ∷ ns) (names-in_order fs)
 
-pub length_of-in_order : {A : Type 0} (g : A → ExprText) (es : List A) → length_of (exprs_in_order (map g es)) ≡ length es
+pub length_of-in_order : {A : Type 0} (g : A → ExprSyntax) (es : List A) → length_of (exprs_in_order (map g es)) ≡ length es
 length_of-in_order g [] = refl
 length_of-in_order g (e ∷ es) = ap suc (length_of-in_order g es)
 

@@ -7,7 +7,7 @@ use Rattle.um_units.specs.PowerMap.{PowerMap}
 use Rattle.um_tree.specs.TreeHeights.{type_tree_height}
 use Rattle.um_tree.specs.ProgramTree.{FieldTree, RecordTree, FunctionTree}
 use Rattle.um_tree.specs.Formed.{IsNameText, AreNames, IsUnitIn, IsTypeIn, NamesEarlier, IsFormedRecord, IsFormedFunction}
-use Rattle.um_tree.specs.RawTree.{VarText, FieldDeclText}
+use Rattle.um_tree.specs.RawTree.{VarSyntax, FieldDeclSyntax}
 use Rattle.um_measures.specs.Faults.{and_then, unless_taken}
 use Rattle.um_measures.specs.Known.{Known, nothing, is_among, is_taken, short_names, record_names, function_names, names_of_fields, field_names}
 use Rattle.um_names.specs.TypeNames.{resolved_type, written_type}
@@ -92,7 +92,7 @@ short_sound known x u s h = record {
 
 -- ---- records
 
-parameters-count : (before : List (List ℕ)) (vs : List VarText) (names : List (List ℕ)) → resolved_parameters before vs ≡ Ok names → length names ≡ length before + length vs
+parameters-count : (before : List (List ℕ)) (vs : List VarSyntax) (names : List (List ℕ)) → resolved_parameters before vs ≡ Ok names → length names ≡ length before + length vs
 parameters-count before [] names e = let same : before ≡ names = cc e in ap length (sym same) ∙ omega arith
 parameters-count before (v ∷ vs) names e =
     let w = then_found (unless_taken (is_among before v.name) v.at) (λ _. resolved_parameters (before ++ v.name ∷ []) vs) names e in
@@ -127,7 +127,7 @@ module _ (known : Known) (variables : List (List ℕ)) (s : IsSound known) where
         many = length-append before (f ∷ []) ∙ ap (λ k. k + 1) w.many;
       }
 
-  fields_sound : (before : List FieldTree) (raw : List FieldDeclText) (fs : List FieldTree) (n : ℕ) → AreFields before n → AreReadFieldDecls raw → resolved_field_decls known variables before raw ≡ Ok fs → AreFields fs (n + length raw)
+  fields_sound : (before : List FieldTree) (raw : List FieldDeclSyntax) (fs : List FieldTree) (n : ℕ) → AreFields before n → AreReadFieldDecls raw → resolved_field_decls known variables before raw ≡ Ok fs → AreFields fs (n + length raw)
   fields_sound before [] fs n w r e = let same : before ≡ fs = cc e in subst (λ gs. AreFields gs (n + 0)) same (subst (AreFields before) (omega arith) w)
   fields_sound before (f ∷ raw) fs n w r e =
       let taken = is_among (field_names known.program.records) f.name || is_among (names_in before) f.name in
@@ -148,7 +148,7 @@ field_names-more : (ds : List RecordTree) (d : RecordTree) → field_names (ds +
 field_names-more [] d = append-nil (names_of_fields d)
 field_names-more (e ∷ ds) d = ap (λ (ns : List (List ℕ)). names_of_fields e ++ ns) (field_names-more ds d) ∙ sym (append_assoc (names_of_fields e) (field_names ds) (names_of_fields d))
 
-pub record_sound : (known : Known) (at : ℕ) (x : List ℕ) (vs : List VarText) (raw : List FieldDeclText) (d : RecordTree) → IsSound known → IsReadRecord x vs raw → resolved_record_decl known at x vs raw ≡ Ok d → IsSound (with_record known d)
+pub record_sound : (known : Known) (at : ℕ) (x : List ℕ) (vs : List VarSyntax) (raw : List FieldDeclSyntax) (d : RecordTree) → IsSound known → IsReadRecord x vs raw → resolved_record_decl known at x vs raw ≡ Ok d → IsSound (with_record known d)
 record_sound known at x vs raw d s r e =
     let a = then_found (unless_taken (is_taken known x) at) (λ _. and_then (resolved_parameters [] vs) (λ variables. and_then (resolved_field_decls known variables [] raw) (λ fields. Ok (record { name = x; at = at; units = length variables; fields = fields })))) d e in
     let b = then_found (resolved_parameters [] vs) (λ variables. and_then (resolved_field_decls known variables [] raw) (λ fields. Ok (record { name = x; at = at; units = length variables; fields = fields }))) d a.2 in

@@ -14,7 +14,7 @@ use Rattle.um_tree.specs.Heights.{type_height, expr_height, tallest_expr, talles
 use Rattle.um_tree.specs.ExprTree.{ExprTree, ExprTrees, truth, number, local, call, negate, negation, arith as arith_tree, compare, both, either, if, bind, split, nil, list_text, cons, record_text, field, none, more}
 use Rattle.um_tree.specs.ProgramTree.{RecordTree, FunctionTree, ProgramTree}
 use Rattle.um_tree.specs.Formed.{IsNoteTreeIn, count, MayCall, HasFields, IsFormedIn, AllFormedIn}
-use Rattle.um_tree.specs.RawTree.{NoteText, hole_text, unit_note_text, ExprText, ExprTexts, FieldTexts, truth_text, number_text, name_text, call_text, negate_text, not_text, arith_text, compare_text, and_text, or_text, if_text, let_text, match_text, nil_text, list_text as items_text, cons_text, fields_text, field_text, bracket_expr_text, no_exprs, more_exprs, no_fields, more_fields}
+use Rattle.um_tree.specs.RawTree.{NoteSyntax, hole_syntax, unit_note_syntax, ExprSyntax, ExprSyntaxes, FieldSyntaxes, truth_syntax, number_syntax, name_syntax, call_syntax, negate_syntax, not_syntax, arith_syntax, compare_syntax, and_syntax, or_syntax, if_syntax, let_syntax, match_syntax, nil_syntax, list_syntax, cons_syntax, fields_syntax, field_syntax, bracket_expr_syntax, no_exprs, more_exprs, no_fields, more_fields}
 use Rattle.um_names.specs.declared.callable.Callable.{Callable}
 use Rattle.um_names.specs.declared.callable.FieldNumber.{FieldNumber}
 use Rattle.um_measures.specs.Faults.{Found, and_then, hole, unless_taken}
@@ -94,7 +94,7 @@ found_record-is : (o : Option ℕ) (at r : ℕ) → found_record o at ≡ Ok r �
 found_record-is None at r e = absurd cc
 found_record-is (Some q) at r e = let same : q ≡ r = cc e in ap Some same
 
-resolved_fields-are : (records : List RecordTree) (fs : FieldTexts) (at r : ℕ) → resolved_fields records fs at ≡ Ok r → FieldsAre records r (length (field_text_names fs))
+resolved_fields-are : (records : List RecordTree) (fs : FieldSyntaxes) (at r : ℕ) → resolved_fields records fs at ≡ Ok r → FieldsAre records r (length (field_text_names fs))
 resolved_fields-are records fs at r e =
     let w = then_found (known_fields records fs) (λ _. found_record (record_of records (field_text_names fs)) at) r e in
     record_of-fields records (field_text_names fs) r (found_record-is (record_of records (field_text_names fs)) at r w.2)
@@ -140,15 +140,15 @@ module _ (known : Known) (variables : List (List ℕ)) (callables : List Callabl
   abbrev pub AreGood : ℕ → ExprTrees → ℕ → ℕ → ℕ → Type 0
   AreGood n es k height nodes = AllFormedIn program_with i f n es × (count es ≡ k) × (tallest_tree es ≤ height) × (all_tree_nodes es ≤ nodes)
 
-  literal_in : (n at : ℕ) (c : Frac) (o : Option NoteText) (e : ExprTree) → resolved_literal known at c o ≡ Ok e → IsGood n e 1 1
+  literal_in : (n at : ℕ) (c : Frac) (o : Option NoteSyntax) (e : ExprTree) → resolved_literal known at c o ≡ Ok e → IsGood n e 1 1
   literal_in n at c None e h =
       let same : number at c (note.Written one) ≡ e = cc h in
       subst (λ z. IsGood n z 1 1) same ((IsClosed-one, (in_one (length known.program.bases) 0).0), omega arith, omega arith)
-  literal_in n at c (Some (hole_text place)) e h = by (is_zero (numerator c)) refl h where
+  literal_in n at c (Some (hole_syntax place)) e h = by (is_zero (numerator c)) refl h where
     by : (b : Bool) → is_zero (numerator c) ≡ b → cond b (Ok (number at c note.Hole)) (Err (hole at)) ≡ Ok e → IsGood n e 1 1
     by true g k = let same : number at c note.Hole ≡ e = cc k in subst (λ z. IsGood n z 1 1) same (is_zero-is (numerator c) g, omega arith, omega arith)
     by false g k = absurd cc
-  literal_in n at c (Some (unit_note_text place u)) e h =
+  literal_in n at c (Some (unit_note_syntax place u)) e h =
       let w = then_found (resolved_unit (measure_unit known) [] u) (λ v. Ok (number at c (note.Written v))) e h in
       let v = resolved_unit_in (measure_unit known) [] (length known.program.bases) (λ x. measure_in known x closed) u w.0 w.1 in
       let same : number at c (note.Written (w.0)) ≡ e = cc (w.2) in
@@ -168,94 +168,94 @@ module _ (known : Known) (variables : List (List ℕ)) (callables : List Callabl
     nil_in at n m k l h low = ((subst (λ v. IsNoteTreeIn (length known.program.bases) v known.program.records m) (sym count_named) h, omega (arith, low, l)), omega arith, omega arith)
 
     mutual
-      pub expr_in : (t : ExprText) (scope : Scope) (e : ExprTree) → IsReadExpr t → resolved_expr known variables callables scope t ≡ Ok e → IsGood (length scope) e (expr_height t) (expr_nodes t)
-      expr_in (truth_text at b) scope e r h = let same : truth at b ≡ e = cc h in subst (λ z. IsGood (length scope) z 1 1) same (tt, omega arith, omega arith)
-      expr_in (number_text at c o) scope e r h = literal_in (length scope) at c o e h
-      expr_in (name_text at x) scope e r h = name_in scope x at e h
-      expr_in (call_text at x es) scope e r h =
+      pub expr_in : (t : ExprSyntax) (scope : Scope) (e : ExprTree) → IsReadExpr t → resolved_expr known variables callables scope t ≡ Ok e → IsGood (length scope) e (expr_height t) (expr_nodes t)
+      expr_in (truth_syntax at b) scope e r h = let same : truth at b ≡ e = cc h in subst (λ z. IsGood (length scope) z 1 1) same (tt, omega arith, omega arith)
+      expr_in (number_syntax at c o) scope e r h = literal_in (length scope) at c o e h
+      expr_in (name_syntax at x) scope e r h = name_in scope x at e h
+      expr_in (call_syntax at x es) scope e r h =
           let w = pair_found (called callables (local_of scope x) x (length_of es) at) (resolved_exprs known variables callables scope es) (λ j bs. call at j bs) e h in
           let bs = exprs_in es scope w.second r w.two in
           let may = calls x (length_of es) at w.first (no_argument callables (local_of scope x) x (length_of es) at w.first w.one) in
-          subst (λ z. IsGood (length scope) z (expr_height (call_text at x es)) (expr_nodes (call_text at x es))) w.is
+          subst (λ z. IsGood (length scope) z (expr_height (call_syntax at x es)) (expr_nodes (call_syntax at x es))) w.is
           ((subst (MayCall program_with i f.recursive w.first) (sym bs.1) may, bs.0), omega (arith, bs.2), omega (arith, bs.3))
-      expr_in (negate_text at a) scope e r h =
+      expr_in (negate_syntax at a) scope e r h =
           let w = then_found (resolved_expr known variables callables scope a) (λ x. Ok (negate at x)) e h in
           let x = expr_in a scope w.0 r w.1 in
           let same : negate at (w.0) ≡ e = cc (w.2) in
           subst (λ z. IsGood (length scope) z (expr_height a + 1) (expr_nodes a + 1)) same (x.0, omega (arith, x.1), omega (arith, x.2))
-      expr_in (not_text at a) scope e r h =
+      expr_in (not_syntax at a) scope e r h =
           let w = then_found (resolved_expr known variables callables scope a) (λ x. Ok (negation at x)) e h in
           let x = expr_in a scope w.0 r w.1 in
           let same : negation at (w.0) ≡ e = cc (w.2) in
           subst (λ z. IsGood (length scope) z (expr_height a + 1) (expr_nodes a + 1)) same (x.0, omega (arith, x.1), omega (arith, x.2))
-      expr_in (arith_text at op a b) scope e r h =
+      expr_in (arith_syntax at op a b) scope e r h =
           let w = pair_found (resolved_expr known variables callables scope a) (resolved_expr known variables callables scope b) (λ x y. arith_tree at op x y) e h in
           let x = expr_in a scope w.first r.0 w.one in
           let y = expr_in b scope w.second r.1 w.two in
-          subst (λ z. IsGood (length scope) z (expr_height (arith_text at op a b)) (expr_nodes (arith_text at op a b))) w.is ((x.0, y.0), omega (arith, x.1, y.1), omega (arith, x.2, y.2))
-      expr_in (compare_text at s a b) scope e r h =
+          subst (λ z. IsGood (length scope) z (expr_height (arith_syntax at op a b)) (expr_nodes (arith_syntax at op a b))) w.is ((x.0, y.0), omega (arith, x.1, y.1), omega (arith, x.2, y.2))
+      expr_in (compare_syntax at s a b) scope e r h =
           let w = pair_found (resolved_expr known variables callables scope a) (resolved_expr known variables callables scope b) (λ x y. compare at s x y) e h in
           let x = expr_in a scope w.first r.0 w.one in
           let y = expr_in b scope w.second r.1 w.two in
-          subst (λ z. IsGood (length scope) z (expr_height (compare_text at s a b)) (expr_nodes (compare_text at s a b))) w.is ((x.0, y.0), omega (arith, x.1, y.1), omega (arith, x.2, y.2))
-      expr_in (and_text at a b) scope e r h =
+          subst (λ z. IsGood (length scope) z (expr_height (compare_syntax at s a b)) (expr_nodes (compare_syntax at s a b))) w.is ((x.0, y.0), omega (arith, x.1, y.1), omega (arith, x.2, y.2))
+      expr_in (and_syntax at a b) scope e r h =
           let w = pair_found (resolved_expr known variables callables scope a) (resolved_expr known variables callables scope b) (λ x y. both at x y) e h in
           let x = expr_in a scope w.first r.0 w.one in
           let y = expr_in b scope w.second r.1 w.two in
-          subst (λ z. IsGood (length scope) z (expr_height (and_text at a b)) (expr_nodes (and_text at a b))) w.is ((x.0, y.0), omega (arith, x.1, y.1), omega (arith, x.2, y.2))
-      expr_in (or_text at a b) scope e r h =
+          subst (λ z. IsGood (length scope) z (expr_height (and_syntax at a b)) (expr_nodes (and_syntax at a b))) w.is ((x.0, y.0), omega (arith, x.1, y.1), omega (arith, x.2, y.2))
+      expr_in (or_syntax at a b) scope e r h =
           let w = pair_found (resolved_expr known variables callables scope a) (resolved_expr known variables callables scope b) (λ x y. either at x y) e h in
           let x = expr_in a scope w.first r.0 w.one in
           let y = expr_in b scope w.second r.1 w.two in
-          subst (λ z. IsGood (length scope) z (expr_height (or_text at a b)) (expr_nodes (or_text at a b))) w.is ((x.0, y.0), omega (arith, x.1, y.1), omega (arith, x.2, y.2))
-      expr_in (cons_text at a b) scope e r h =
+          subst (λ z. IsGood (length scope) z (expr_height (or_syntax at a b)) (expr_nodes (or_syntax at a b))) w.is ((x.0, y.0), omega (arith, x.1, y.1), omega (arith, x.2, y.2))
+      expr_in (cons_syntax at a b) scope e r h =
           let w = pair_found (resolved_expr known variables callables scope a) (resolved_expr known variables callables scope b) (λ x y. cons at x y) e h in
           let x = expr_in a scope w.first r.0 w.one in
           let y = expr_in b scope w.second r.1 w.two in
-          subst (λ z. IsGood (length scope) z (expr_height (cons_text at a b)) (expr_nodes (cons_text at a b))) w.is ((x.0, y.0), omega (arith, x.1, y.1), omega (arith, x.2, y.2))
-      expr_in (if_text at c a b) scope e r h =
+          subst (λ z. IsGood (length scope) z (expr_height (cons_syntax at a b)) (expr_nodes (cons_syntax at a b))) w.is ((x.0, y.0), omega (arith, x.1, y.1), omega (arith, x.2, y.2))
+      expr_in (if_syntax at c a b) scope e r h =
           let w = triple_found (resolved_expr known variables callables scope c) (resolved_expr known variables callables scope a) (resolved_expr known variables callables scope b) (λ x y z. if at x y z) e h in
           let x = expr_in c scope w.first r.0 w.one in
           let y = expr_in a scope w.second r.1 w.two in
           let z = expr_in b scope w.third r.2 w.three in
-          subst (λ q. IsGood (length scope) q (expr_height (if_text at c a b)) (expr_nodes (if_text at c a b))) w.is ((x.0, y.0, z.0), omega (arith, x.1, y.1, z.1), omega (arith, x.2, y.2, z.2))
-      expr_in (let_text at x a b) scope e r h =
+          subst (λ q. IsGood (length scope) q (expr_height (if_syntax at c a b)) (expr_nodes (if_syntax at c a b))) w.is ((x.0, y.0, z.0), omega (arith, x.1, y.1, z.1), omega (arith, x.2, y.2, z.2))
+      expr_in (let_syntax at x a b) scope e r h =
           let w = pair_found (resolved_expr known variables callables scope a) (resolved_expr known variables callables (scope ++ x.name ∷ []) b) (λ u v. bind at u v) e h in
           let u = expr_in a scope w.first r.0 w.one in
           let v = expr_in b (scope ++ x.name ∷ []) w.second r.1 w.two in
           let inner = subst (λ k. IsFormedIn program_with i f k w.second) (length-append scope (x.name ∷ [])) v.0 in
-          subst (λ z. IsGood (length scope) z (expr_height (let_text at x a b)) (expr_nodes (let_text at x a b))) w.is ((u.0, inner), omega (arith, u.1, v.1), omega (arith, u.2, v.2))
-      expr_in (match_text at l a x y b) scope e r h =
+          subst (λ z. IsGood (length scope) z (expr_height (let_syntax at x a b)) (expr_nodes (let_syntax at x a b))) w.is ((u.0, inner), omega (arith, u.1, v.1), omega (arith, u.2, v.2))
+      expr_in (match_syntax at l a x y b) scope e r h =
           let w = then_found (resolved_expr known variables callables scope l) (λ d. and_then (resolved_expr known variables callables scope a) (λ c. and_then (unless_taken (same_binding x.name y.name) y.at) (λ _. and_then (resolved_expr known variables callables (scope ++ x.name ∷ y.name ∷ []) b) (λ g. Ok (split at d c g))))) e h in
           let k = triple_found (resolved_expr known variables callables scope a) (unless_taken (same_binding x.name y.name) y.at) (resolved_expr known variables callables (scope ++ x.name ∷ y.name ∷ []) b) (λ c _ g. split at w.0 c g) e w.2 in
           let d = expr_in l scope w.0 r.0 w.1 in
           let c = expr_in a scope k.first r.1 k.one in
           let g = expr_in b (scope ++ x.name ∷ y.name ∷ []) k.third r.2 k.three in
           let inner = subst (λ n. IsFormedIn program_with i f n k.third) (length-append scope (x.name ∷ y.name ∷ [])) g.0 in
-          subst (λ z. IsGood (length scope) z (expr_height (match_text at l a x y b)) (expr_nodes (match_text at l a x y b))) k.is ((d.0, c.0, inner), omega (arith, d.1, c.1, g.1), omega (arith, d.2, c.2, g.2))
-      expr_in (nil_text at t) scope e r h =
+          subst (λ z. IsGood (length scope) z (expr_height (match_syntax at l a x y b)) (expr_nodes (match_syntax at l a x y b))) k.is ((d.0, c.0, inner), omega (arith, d.1, c.1, g.1), omega (arith, d.2, c.2, g.2))
+      expr_in (nil_syntax at t) scope e r h =
           let w = then_found (resolved_type known variables true t) (λ n. Ok (nil at n)) e h in
           let m = type_in known variables true closed t w.0 w.1 in
           let same : nil at (w.0) ≡ e = cc (w.2) in
           subst (λ z. IsGood (length scope) z 3 1) same (nil_in at (length scope) w.0 (type_height t) r m.0 m.1)
-      expr_in (items_text at es) scope e r h =
+      expr_in (list_syntax at es) scope e r h =
           let w = then_found (resolved_exprs known variables callables scope es) (λ bs. Ok (list_text at bs)) e h in
           let bs = exprs_in es scope w.0 r.1 w.1 in
           let same : list_text at (w.0) ≡ e = cc (w.2) in
-          subst (λ z. IsGood (length scope) z (expr_height (items_text at es)) (expr_nodes (items_text at es))) same ((subst (λ k. 0 < k) (sym bs.1) r.0, bs.0), omega (arith, bs.2), omega (arith, bs.3))
-      expr_in (fields_text at fs) scope e r h =
+          subst (λ z. IsGood (length scope) z (expr_height (list_syntax at es)) (expr_nodes (list_syntax at es))) same ((subst (λ k. 0 < k) (sym bs.1) r.0, bs.0), omega (arith, bs.2), omega (arith, bs.3))
+      expr_in (fields_syntax at fs) scope e r h =
           let w = pair_found (resolved_fields known.program.records fs at) (resolved_parts known variables callables scope fs) (λ q bs. record_text at q bs) e h in
           let bs = parts_in fs scope w.second r w.two in
           let fields = subst (HasFields program_with w.first) (sym bs.1) (resolved_fields-are known.program.records fs at w.first w.one) in
-          subst (λ z. IsGood (length scope) z (expr_height (fields_text at fs)) (expr_nodes (fields_text at fs))) w.is ((fields, bs.0), omega (arith, bs.2), omega (arith, bs.3))
-      expr_in (field_text at place x a) scope e r h =
+          subst (λ z. IsGood (length scope) z (expr_height (fields_syntax at fs)) (expr_nodes (fields_syntax at fs))) w.is ((fields, bs.0), omega (arith, bs.2), omega (arith, bs.3))
+      expr_in (field_syntax at place x a) scope e r h =
           let w = pair_found (resolved_expr known variables callables scope a) (found_field (field_of known.program.records x) place) (λ u g. field at g.record_number g.field_number u) e h in
           let u = expr_in a scope w.first r w.one in
           let g = field_of-is known.program.records x w.second (found_field-is (field_of known.program.records x) place w.second w.two) in
           subst (λ z. IsGood (length scope) z (expr_height a + 1) (expr_nodes a + 1)) w.is ((g, u.0), omega (arith, u.1), omega (arith, u.2))
-      expr_in (bracket_expr_text at a) scope e r h = let x = expr_in a scope e r h in (x.0, omega (arith, x.1), omega (arith, x.2))
+      expr_in (bracket_expr_syntax at a) scope e r h = let x = expr_in a scope e r h in (x.0, omega (arith, x.1), omega (arith, x.2))
 
-      exprs_in : (ts : ExprTexts) (scope : Scope) (es : ExprTrees) → AreReadExprs ts → resolved_exprs known variables callables scope ts ≡ Ok es → AreGood (length scope) es (length_of ts) (tallest_expr ts) (all_expr_nodes ts)
+      exprs_in : (ts : ExprSyntaxes) (scope : Scope) (es : ExprTrees) → AreReadExprs ts → resolved_exprs known variables callables scope ts ≡ Ok es → AreGood (length scope) es (length_of ts) (tallest_expr ts) (all_expr_nodes ts)
       exprs_in no_exprs scope es r h = let same : none ≡ es = cc h in subst (λ z. AreGood (length scope) z 0 0 0) same (tt, refl, omega arith, omega arith)
       exprs_in (more_exprs t ts) scope es r h =
           let w = pair_found (resolved_expr known variables callables scope t) (resolved_exprs known variables callables scope ts) (λ a bs. more a bs) es h in
@@ -264,7 +264,7 @@ module _ (known : Known) (variables : List (List ℕ)) (callables : List Callabl
           subst (λ z. AreGood (length scope) z (length_of (more_exprs t ts)) (tallest_expr (more_exprs t ts)) (all_expr_nodes (more_exprs t ts))) w.is
           ((a.0, bs.0), omega (arith, bs.1), omega (arith, a.1, bs.2), omega (arith, a.2, bs.3))
 
-      parts_in : (fs : FieldTexts) (scope : Scope) (es : ExprTrees) → AreReadFields fs → resolved_parts known variables callables scope fs ≡ Ok es → AreGood (length scope) es (length (field_text_names fs)) (tallest_field fs) (all_field_nodes fs)
+      parts_in : (fs : FieldSyntaxes) (scope : Scope) (es : ExprTrees) → AreReadFields fs → resolved_parts known variables callables scope fs ≡ Ok es → AreGood (length scope) es (length (field_text_names fs)) (tallest_field fs) (all_field_nodes fs)
       parts_in no_fields scope es r h = let same : none ≡ es = cc h in subst (λ z. AreGood (length scope) z 0 0 0) same (tt, refl, omega arith, omega arith)
       parts_in (more_fields at x t fs) scope es r h =
           let w = pair_found (resolved_expr known variables callables scope t) (resolved_parts known variables callables scope fs) (λ a bs. more a bs) es h in

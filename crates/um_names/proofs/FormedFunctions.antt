@@ -9,7 +9,7 @@ use Rattle.um_tree.specs.Heights.{type_height}
 use Rattle.um_tree.specs.ExprTree.{ExprTree}
 use Rattle.um_tree.specs.ProgramTree.{FunctionTree}
 use Rattle.um_tree.specs.Formed.{AreNames, IsNoteTreeIn, MayCall, ResultFormed, IsFormedIn, IsFormedFunction}
-use Rattle.um_tree.specs.RawTree.{TypeText, ParamText, FunctionText}
+use Rattle.um_tree.specs.RawTree.{TypeSyntax, ParamSyntax, FunctionSyntax}
 use Rattle.um_names.specs.declared.callable.Callable.{Callable}
 use Rattle.um_measures.specs.Faults.{and_then, unless_taken, wrong_count}
 use Rattle.um_measures.specs.Known.{Known, number_of, is_among, function_names}
@@ -30,10 +30,10 @@ module _ (known : Known) (variables : List (List ℕ)) (s : IsSound known) where
   abbrev IsNote : NoteTree → Type 0
   IsNote n = IsNoteTreeIn (length known.program.bases) (length variables) known.program.records n × (note_tree_height n ≤ 400)
 
-  note_sound : (t : TypeText) (n : NoteTree) → type_height t ≤ 400 → resolved_type known variables true t ≡ Ok n → IsNote n
+  note_sound : (t : TypeSyntax) (n : NoteTree) → type_height t ≤ 400 → resolved_type known variables true t ≡ Ok n → IsNote n
   note_sound t n low e = let w = type_in known variables true s.closed t n e in (w.0, omega (arith, w.1, low))
 
-  params_sound : (before : Scope) (ps : List ParamText) (ns : List NoteTree) → AreReadParams ps → resolved_params known variables before ps ≡ Ok ns → All IsNote ns × (length ns ≡ length ps)
+  params_sound : (before : Scope) (ps : List ParamSyntax) (ns : List NoteTree) → AreReadParams ps → resolved_params known variables before ps ≡ Ok ns → All IsNote ns × (length ns ≡ length ps)
   params_sound before [] ns r e = let same : [] ≡ ns = cc e in subst (λ (ms : List NoteTree). All IsNote ms × (length ms ≡ 0)) same (All-nil IsNote, refl)
   params_sound before (p ∷ ps) ns r e =
       let a = then_found (unless_repeated before p.binder) (λ _. and_then (resolved_type known variables true p.type) (λ n. and_then (resolved_params known variables (before ++ p.binder.name ∷ []) ps) (λ ms. Ok (n ∷ ms)))) ns e in
@@ -47,8 +47,8 @@ module _ (known : Known) (variables : List (List ℕ)) (s : IsSound known) where
   IsResult None = Unit {0}
   IsResult (Some n) = IsNote n
 
-  result_sound : (t : Option TypeText) (n : Option NoteTree) → IsReadResult t → resolved_result known variables t ≡ Ok n → IsResult n × (IsSome t → IsSome n)
-  result_sound None n r e = let same : None ≡ n = cc e in subst (λ o. IsResult o × (IsSome {T = TypeText} None → IsSome o)) same (tt, λ h. absurd cc)
+  result_sound : (t : Option TypeSyntax) (n : Option NoteTree) → IsReadResult t → resolved_result known variables t ≡ Ok n → IsResult n × (IsSome t → IsSome n)
+  result_sound None n r e = let same : None ≡ n = cc e in subst (λ o. IsResult o × (IsSome {T = TypeSyntax} None → IsSome o)) same (tt, λ h. absurd cc)
   result_sound (Some t) n r e =
       let w = then_found (resolved_type known variables true t) (λ m. Ok (Some m)) n e in
       let same : Some (w.0) ≡ n = cc (w.2) in
@@ -79,7 +79,7 @@ found_callable cs (Some i) n at j e = by (slice_get cs i) refl e where
   by None g h = absurd cc
   by (Some c) g h = of c (n == c.params) g refl h
 
-may_call : (known : Known) (f : FunctionText) (g : FunctionTree) → g.recursive ≡ f.recursive → length g.params ≡ length f.params
+may_call : (known : Known) (f : FunctionSyntax) (g : FunctionTree) → g.recursive ≡ f.recursive → length g.params ≡ length f.params
     → (x : List ℕ) (n at j : ℕ) → callable_of (callables known f) x n at ≡ Ok j → MayCall (with_function known g).program (length known.program.functions) g.recursive j n
 may_call known f g recursive many x n at j e =
     let fs = known.program.functions in
@@ -100,10 +100,10 @@ may_call known f g recursive many x n at j e =
 
 -- ---- a function
 
-scope-count : (f : FunctionText) → length (scope_of f) ≡ length f.params
+scope-count : (f : FunctionSyntax) → length (scope_of f) ≡ length f.params
 scope-count f = length-map f.params (λ p. p.binder.name)
 
-module _ (known : Known) (f : FunctionText) (s : IsSound known) (r : IsReadFunction f) where
+module _ (known : Known) (f : FunctionSyntax) (s : IsSound known) (r : IsReadFunction f) where
   abbrev built : List NoteTree → Option NoteTree → ExprTree → FunctionTree
   built params result body = record { name = f.name; at = f.at; recursive = f.recursive; params = params; named = length (named_variables f); result = result; body = body }
 

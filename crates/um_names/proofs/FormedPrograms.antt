@@ -2,7 +2,7 @@
 use Rattle.std.proofs.Common.{◌≡◌, ℕ, ◌≤◌, ◌+◌, List, [], ◌∷◌, ◌++◌, length, subst, arith, Ok, length-append}
 use Rattle.um_tree.specs.ProgramTree.{ProgramTree}
 use Rattle.um_tree.specs.Formed.{IsFormed}
-use Rattle.um_tree.specs.RawTree.{DeclText, base_text, short_text, record_decl_text, function_text}
+use Rattle.um_tree.specs.RawTree.{DeclSyntax, base_syntax, short_syntax, record_decl_syntax, function_syntax}
 use Rattle.um_measures.specs.Faults.{and_then, unless_taken}
 use Rattle.um_measures.specs.Known.{Known, nothing, is_taken, record_names, function_names, field_names, measure_unit}
 use Rattle.um_measures.specs.UnitNames.{resolved_unit}
@@ -22,8 +22,8 @@ record IsStage (known : Known) (many functions : ℕ) : Type 0 where
   pub records : length known.program.records ≤ many
   pub functions_are : length known.program.functions ≤ functions
 
-stage_on : (known : Known) (d : DeclText) (after : Known) (m n : ℕ) → IsStage known m n → IsReadDecl d → resolved_decl known d ≡ Ok after → IsStage after (m + 1) (n + functions_in (d ∷ []))
-stage_on known (base_text at x) after m n s r e =
+stage_on : (known : Known) (d : DeclSyntax) (after : Known) (m n : ℕ) → IsStage known m n → IsReadDecl d → resolved_decl known d ≡ Ok after → IsStage after (m + 1) (n + functions_in (d ∷ []))
+stage_on known (base_syntax at x) after m n s r e =
     let w = then_found (unless_taken (is_taken known x) at) (λ _. Ok (with_base known x)) after e in
     let same : with_base known x ≡ after = cc (w.2) in
     subst (λ k. IsStage k (m + 1) (n + 0)) same (record {
@@ -32,7 +32,7 @@ stage_on known (base_text at x) after m n s r e =
       records = (let b = s.records in omega (arith, b));
       functions_are = (let b = s.functions_are in omega (arith, b));
     })
-stage_on known (short_text at x u) after m n s r e =
+stage_on known (short_syntax at x u) after m n s r e =
     let w = then_found (unless_taken (is_taken known x) at) (λ _. and_then (resolved_unit (measure_unit known) [] u) (λ v. Ok (with_short known x v))) after e in
     let v = then_found (resolved_unit (measure_unit known) [] u) (λ v. Ok (with_short known x v)) after w.2 in
     let same : with_short known x (v.0) ≡ after = cc (v.2) in
@@ -42,7 +42,7 @@ stage_on known (short_text at x u) after m n s r e =
       records = (let b = s.records in omega (arith, b));
       functions_are = (let b = s.functions_are in omega (arith, b));
     })
-stage_on known (record_decl_text at x vs fs) after m n s r e =
+stage_on known (record_decl_syntax at x vs fs) after m n s r e =
     let w = then_found (resolved_record_decl known at x vs fs) (λ d. Ok (with_record known d)) after e in
     let same : with_record known (w.0) ≡ after = cc (w.2) in
     subst (λ k. IsStage k (m + 1) (n + 0)) same (record {
@@ -51,7 +51,7 @@ stage_on known (record_decl_text at x vs fs) after m n s r e =
       records = (let l = length-append known.program.records (w.0 ∷ []) in let b = s.records in omega (arith, l, b));
       functions_are = (let b = s.functions_are in omega (arith, b));
     })
-stage_on known (function_text f) after m n s r e =
+stage_on known (function_syntax f) after m n s r e =
     let w = then_found (resolved_function known f) (λ g. Ok (with_function known g)) after e in
     let same : with_function known (w.0) ≡ after = cc (w.2) in
     subst (λ k. IsStage k (m + 1) (n + (0 + 1))) same (record {
@@ -61,13 +61,13 @@ stage_on known (function_text f) after m n s r e =
       functions_are = (let l = length-append known.program.functions (w.0 ∷ []) in let b = s.functions_are in omega (arith, l, b));
     })
 
-one_first : (d : DeclText) (ds : List DeclText) → functions_in (d ∷ ds) ≡ functions_in (d ∷ []) + functions_in ds
-one_first (base_text at x) ds = omega arith
-one_first (short_text at x u) ds = omega arith
-one_first (record_decl_text at x vs fs) ds = omega arith
-one_first (function_text f) ds = omega arith
+one_first : (d : DeclSyntax) (ds : List DeclSyntax) → functions_in (d ∷ ds) ≡ functions_in (d ∷ []) + functions_in ds
+one_first (base_syntax at x) ds = omega arith
+one_first (short_syntax at x u) ds = omega arith
+one_first (record_decl_syntax at x vs fs) ds = omega arith
+one_first (function_syntax f) ds = omega arith
 
-stages_on : (known : Known) (ds : List DeclText) (after : Known) (m n : ℕ) → IsStage known m n → AreReadDecls ds → resolved_decls known ds ≡ Ok after → IsStage after (m + length ds) (n + functions_in ds)
+stages_on : (known : Known) (ds : List DeclSyntax) (after : Known) (m n : ℕ) → IsStage known m n → AreReadDecls ds → resolved_decls known ds ≡ Ok after → IsStage after (m + length ds) (n + functions_in ds)
 stages_on known [] after m n s r e =
     let same : known ≡ after = cc e in
     subst (λ k. IsStage k (m + 0) (n + 0)) same (record {
@@ -87,7 +87,7 @@ stages_on known (d ∷ ds) after m n s r e =
       functions_are = (let b = rest.functions_are in omega (arith, b, first));
     }
 
-pub resolution_formed : (ds : List DeclText) (p : ProgramTree) → IsReadable ds → resolved_program ds ≡ Ok p → IsFormed p
+pub resolution_formed : (ds : List DeclSyntax) (p : ProgramTree) → IsReadable ds → resolved_program ds ≡ Ok p → IsFormed p
 resolution_formed ds p r e =
     let w = then_found (resolution ds) (λ known. Ok known.program) p e in
     let s = stages_on nothing ds w.0 0 0 (record { sound = nothing_sound; bases = omega arith; records = omega arith; functions_are = omega arith }) r.each w.1 in

@@ -10,7 +10,7 @@ use Rattle.um_tree.specs.TreeHeights.{type_tree_height, note_tree_height}
 use Rattle.um_tree.specs.Heights.{type_height}
 use Rattle.um_tree.specs.ProgramTree.{RecordTree}
 use Rattle.um_tree.specs.Formed.{IsUnitIn, IsNoteIn, TakesUnits, IsTypeIn, IsNoteTreeIn, NamesEarlier}
-use Rattle.um_tree.specs.RawTree.{NoteText, hole_text, unit_note_text, TypeText, bool_text, num_text, record_text, list_type_text, bracket_type_text}
+use Rattle.um_tree.specs.RawTree.{NoteSyntax, hole_syntax, unit_note_syntax, TypeSyntax, bool_syntax, num_syntax, record_syntax, list_type_syntax, bracket_type_syntax}
 use Rattle.um_measures.specs.Faults.{Found, and_then, wrong_count, hole}
 use Rattle.um_measures.specs.Known.{Known, number_of, record_names, measure_unit}
 use Rattle.um_measures.specs.UnitNames.{resolved_unit}
@@ -49,17 +49,17 @@ module _ (known : Known) (variables : List (List ℕ)) (holes : Bool) (closed : 
   bases : ℕ
   bases = length known.program.bases
 
-  note_in : (t : NoteText) (n : UnitNote) → resolved_note known variables holes t ≡ Ok n → IsNoteIn (length known.program.bases) (length variables) n
-  note_in (hole_text at) n e = by holes e where
+  note_in : (t : NoteSyntax) (n : UnitNote) → resolved_note known variables holes t ≡ Ok n → IsNoteIn (length known.program.bases) (length variables) n
+  note_in (hole_syntax at) n e = by holes e where
     by : (b : Bool) → cond b (Ok note.Hole) (Err (hole at)) ≡ Ok n → IsNoteIn (length known.program.bases) (length variables) n
     by true h = let same : note.Hole ≡ n = cc h in subst (IsNoteIn (length known.program.bases) (length variables)) same tt
     by false h = absurd cc
-  note_in (unit_note_text at u) n e =
+  note_in (unit_note_syntax at u) n e =
       let w = then_found (resolved_unit (measure_unit known) variables u) (λ v. Ok (note.Written v)) n e in
       let same : note.Written w.0 ≡ n = cc (w.2) in
       subst (IsNoteIn (length known.program.bases) (length variables)) same (resolved_unit_in (measure_unit known) variables (length known.program.bases) (λ x. measure_in known x closed) u w.0 w.1)
 
-  notes_in : (ts : List NoteText) (ns : List UnitNote) → resolved_notes known variables holes ts ≡ Ok ns → All (IsNoteIn (length known.program.bases) (length variables)) ns × (length ns ≡ length ts)
+  notes_in : (ts : List NoteSyntax) (ns : List UnitNote) → resolved_notes known variables holes ts ≡ Ok ns → All (IsNoteIn (length known.program.bases) (length variables)) ns × (length ns ≡ length ts)
   notes_in [] ns e = let same : [] ≡ ns = cc e in subst (λ (ms : List UnitNote). All (IsNoteIn (length known.program.bases) (length variables)) ms × (length ms ≡ 0)) same (All-nil (IsNoteIn (length known.program.bases) (length variables)), refl)
   notes_in (t ∷ ts) ns e =
       let w = then_found (resolved_note known variables holes t) (λ y. and_then (resolved_notes known variables holes ts) (λ ys. Ok (y ∷ ys))) ns e in
@@ -69,7 +69,7 @@ module _ (known : Known) (variables : List (List ℕ)) (holes : Bool) (closed : 
       subst (λ (ms : List UnitNote). All (IsNoteIn (length known.program.bases) (length variables)) ms × (length ms ≡ length (t ∷ ts))) same
       (All-cons (IsNoteIn (length known.program.bases) (length variables)) w.0 z.0 (note_in t w.0 w.1) rest.0, ap suc rest.1)
 
-  number_in : (o : Option NoteText) (n : UnitNote) → resolved_number known variables holes o ≡ Ok n → IsNoteIn (length known.program.bases) (length variables) n
+  number_in : (o : Option NoteSyntax) (n : UnitNote) → resolved_number known variables holes o ≡ Ok n → IsNoteIn (length known.program.bases) (length variables) n
   number_in None n e = let same : note.Written one ≡ n = cc e in subst (IsNoteIn (length known.program.bases) (length variables)) same (in_one (length known.program.bases) (length variables))
   number_in (Some t) n e = note_in t n e
 
@@ -77,25 +77,25 @@ module _ (known : Known) (variables : List (List ℕ)) (holes : Bool) (closed : 
   abbrev pub IsLowIn : ℕ → NoteTree → Type 0
   IsLowIn height n = IsNoteTreeIn (length known.program.bases) (length variables) known.program.records n × (note_tree_height n ≤ height)
 
-  pub type_in : (t : TypeText) (n : NoteTree) → resolved_type known variables holes t ≡ Ok n → IsLowIn (type_height t) n
-  type_in bool_text n e = let same : bool_note ≡ n = cc e in subst (IsLowIn 1) same (tt, omega arith)
-  type_in (num_text o) n e =
+  pub type_in : (t : TypeSyntax) (n : NoteTree) → resolved_type known variables holes t ≡ Ok n → IsLowIn (type_height t) n
+  type_in bool_syntax n e = let same : bool_note ≡ n = cc e in subst (IsLowIn 1) same (tt, omega arith)
+  type_in (num_syntax o) n e =
       let w = then_found (resolved_number known variables holes o) (λ m. Ok (num_note m)) n e in
       let same : num_note w.0 ≡ n = cc (w.2) in
       subst (IsLowIn 1) same (number_in o w.0 w.1, omega arith)
-  type_in (record_text at x ts) n e =
+  type_in (record_syntax at x ts) n e =
       let w = then_found (resolved_record known x (length ts) at) (λ r. and_then (resolved_notes known variables holes ts) (λ ms. Ok (record_note r ms))) n e in
       let z = then_found (resolved_notes known variables holes ts) (λ ms. Ok (record_note w.0 ms)) n w.2 in
       let notes = notes_in ts z.0 z.1 in
       let takes = subst (TakesUnits known.program.records w.0) (sym notes.1) (record_takes known x (length ts) at w.0 w.1) in
       let same : record_note w.0 z.0 ≡ n = cc (z.2) in
       subst (IsLowIn 1) same ((takes, notes.0), omega arith)
-  type_in (list_type_text t) n e =
+  type_in (list_type_syntax t) n e =
       let w = then_found (resolved_type known variables holes t) (λ m. Ok (list_note m)) n e in
       let inner = type_in t w.0 w.1 in
       let same : list_note w.0 ≡ n = cc (w.2) in
       subst (IsLowIn (type_height t + 1)) same (inner.0, omega (arith, inner.1))
-  type_in (bracket_type_text t) n e = let inner = type_in t n e in (inner.0, omega (arith, inner.1))
+  type_in (bracket_type_syntax t) n e = let inner = type_in t n e in (inner.0, omega (arith, inner.1))
 
 -- ---- the type of a note
 

@@ -11,7 +11,7 @@ use Rattle.um_units.proofs.Integers.{zero_cases}
 use Rattle.um_units.proofs.Group.{weight-one, weight-mul, weight-pow, power_of-other_atom}
 use Rattle.um_units.proofs.Variables.{IsClosed-one, IsClosed-base, VariablesBelow-closed, VariablesBelow-more, VariablesBelow-variable, VariablesBelow-mul, VariablesBelow-pow}
 use Rattle.um_tree.specs.Formed.{BasesBelow, IsUnitIn}
-use Rattle.um_tree.specs.RawTree.{UnitText, UnitTexts, one_text, measure_text, variable_text, power_text, side_text, times_text, over_text, inverse_text, bracket_text, no_units, more_units}
+use Rattle.um_tree.specs.RawTree.{UnitSyntax, UnitSyntaxes, one_syntax, measure_syntax, variable_syntax, power_syntax, side_syntax, times_syntax, over_syntax, inverse_syntax, bracket_syntax, no_units, more_units}
 use Rattle.um_measures.specs.declared.abbreviation.Abbreviation.{Abbreviation}
 use Rattle.um_measures.specs.Faults.{range}
 use Rattle.um_measures.specs.Known.{Known, number_of, short_unit, base_or, measure_unit}
@@ -114,22 +114,22 @@ module _ (measures : List ℕ → Option PowerMap) (variables : List (List ℕ))
     by (Some k) below = in_variable n (length variables) k (below k refl)
 
   mutual
-    unit_in : (u : UnitText) → IsUnitIn n (length variables) (unit_of measures variables u)
-    unit_in (one_text at) = in_one n (length variables)
-    unit_in (measure_text at x) = measure_unit_in x
-    unit_in (variable_text at x) = variable_unit_in x
-    unit_in (power_text u k) = in_pow n (length variables) (unit_of measures variables u) k (unit_in u)
-    unit_in (side_text us) = product_in us one (in_one n (length variables))
-    unit_in (times_text u v) = in_mul n (length variables) (unit_of measures variables u) (unit_of measures variables v) (unit_in u) (unit_in v)
-    unit_in (over_text u v) = in_mul n (length variables) (unit_of measures variables u) (inv (unit_of measures variables v)) (unit_in u) (in_inv n (length variables) (unit_of measures variables v) (unit_in v))
-    unit_in (inverse_text at u) = in_inv n (length variables) (unit_of measures variables u) (unit_in u)
-    unit_in (bracket_text at u) = unit_in u
+    unit_in : (u : UnitSyntax) → IsUnitIn n (length variables) (unit_of measures variables u)
+    unit_in (one_syntax at) = in_one n (length variables)
+    unit_in (measure_syntax at x) = measure_unit_in x
+    unit_in (variable_syntax at x) = variable_unit_in x
+    unit_in (power_syntax u k) = in_pow n (length variables) (unit_of measures variables u) k (unit_in u)
+    unit_in (side_syntax us) = product_in us one (in_one n (length variables))
+    unit_in (times_syntax u v) = in_mul n (length variables) (unit_of measures variables u) (unit_of measures variables v) (unit_in u) (unit_in v)
+    unit_in (over_syntax u v) = in_mul n (length variables) (unit_of measures variables u) (inv (unit_of measures variables v)) (unit_in u) (in_inv n (length variables) (unit_of measures variables v) (unit_in v))
+    unit_in (inverse_syntax at u) = in_inv n (length variables) (unit_of measures variables u) (unit_in u)
+    unit_in (bracket_syntax at u) = unit_in u
 
-    product_in : (us : UnitTexts) (before : PowerMap) → IsUnitIn n (length variables) before → IsUnitIn n (length variables) (product_of measures variables before us)
+    product_in : (us : UnitSyntaxes) (before : PowerMap) → IsUnitIn n (length variables) before → IsUnitIn n (length variables) (product_of measures variables before us)
     product_in no_units before h = h
     product_in (more_units u us) before h = product_in us (mul before (unit_of measures variables u)) (in_mul n (length variables) before (unit_of measures variables u) h (unit_in u))
 
-  pub resolved_unit_in : (u : UnitText) (v : PowerMap) → resolved_unit measures variables u ≡ Ok v → IsUnitIn n (length variables) v
+  pub resolved_unit_in : (u : UnitSyntax) (v : PowerMap) → resolved_unit measures variables u ≡ Ok v → IsUnitIn n (length variables) v
   resolved_unit_in u v e = by (unknown_in measures variables u) e where
     fit : (b : Bool) → cond b (Ok (unit_of measures variables u)) (Err (range (first_place u))) ≡ Ok v → IsUnitIn n (length variables) v
     fit true h = let same : unit_of measures variables u ≡ v = cc h in subst (IsUnitIn n (length variables)) same (unit_in u)

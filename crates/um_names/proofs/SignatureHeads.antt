@@ -3,7 +3,7 @@ use Rattle.std.proofs.Common.{◌≡◌, ℕ, zero, suc, false, List, [], ◌∷
 use Rattle.std.specs.Prelude.{Option, Some, None, slice_get}
 use Rattle.um_tree.specs.TypeTree.{TypeTree}
 use Rattle.um_tree.specs.ProgramTree.{RecordTree, ProgramTree}
-use Rattle.um_tree.specs.RawTree.{TypeText, bool_text, num_text, record_text, list_type_text, bracket_type_text}
+use Rattle.um_tree.specs.RawTree.{TypeSyntax, bool_syntax, num_syntax, record_syntax, list_type_syntax, bracket_type_syntax}
 use Rattle.um_measures.specs.declared.abbreviation.Abbreviation.{Abbreviation}
 use Rattle.um_measures.specs.declared.stop.NameStop.{NameStop}
 use Rattle.um_measures.specs.ClosedUnits.{given}
@@ -31,36 +31,36 @@ module _ (p : ProgramTree) (ss : List Abbreviation) where
   head_is x n at = ap (λ (ns : List (List ℕ)). declared_record (map head_of p.records) (number_of ns x) n at) (names_of_heads p.records) ∙ declared_head p.records (number_of (record_names p.records) x) n at
 
   module _ (variables : List (List ℕ)) where
-    names_are : (t : TypeText) → type_names (heads p ss) variables t ≡ type_names (given p ss) variables t
-    names_are bool_text = refl
-    names_are (num_text n) = refl
-    names_are (record_text at x ns) = ap (λ r. and_then r (λ _. all_note_names (given p ss) variables ns)) (head_is x (length ns) at)
-    names_are (list_type_text t) = names_are t
-    names_are (bracket_type_text t) = names_are t
+    names_are : (t : TypeSyntax) → type_names (heads p ss) variables t ≡ type_names (given p ss) variables t
+    names_are bool_syntax = refl
+    names_are (num_syntax n) = refl
+    names_are (record_syntax at x ns) = ap (λ r. and_then r (λ _. all_note_names (given p ss) variables ns)) (head_is x (length ns) at)
+    names_are (list_type_syntax t) = names_are t
+    names_are (bracket_type_syntax t) = names_are t
 
-    all_names_are : (ts : List TypeText) → all_type_names (heads p ss) variables ts ≡ all_type_names (given p ss) variables ts
+    all_names_are : (ts : List TypeSyntax) → all_type_names (heads p ss) variables ts ≡ all_type_names (given p ss) variables ts
     all_names_are [] = refl
     all_names_are (t ∷ ts) =
         ap (λ r. and_then r (λ _. all_type_names (heads p ss) variables ts)) (names_are t) ∙ ap (λ (q : Found (Unit {0})). and_then (type_names (given p ss) variables t) (λ _. q)) (all_names_are ts)
 
-    type_is : (t : TypeText) → resolved_type (heads p ss) variables false t ≡ resolved_type (given p ss) variables false t
-    type_is bool_text = refl
-    type_is (num_text n) = refl
-    type_is (record_text at x ns) = ap (λ r. and_then r (λ q. and_then (resolved_notes (given p ss) variables false ns) (λ ms. Ok (record_note q ms)))) (head_is x (length ns) at)
-    type_is (list_type_text t) = ap (λ r. and_then r (λ n. Ok (list_note n))) (type_is t)
-    type_is (bracket_type_text t) = type_is t
+    type_is : (t : TypeSyntax) → resolved_type (heads p ss) variables false t ≡ resolved_type (given p ss) variables false t
+    type_is bool_syntax = refl
+    type_is (num_syntax n) = refl
+    type_is (record_syntax at x ns) = ap (λ r. and_then r (λ q. and_then (resolved_notes (given p ss) variables false ns) (λ ms. Ok (record_note q ms)))) (head_is x (length ns) at)
+    type_is (list_type_syntax t) = ap (λ r. and_then r (λ n. Ok (list_note n))) (type_is t)
+    type_is (bracket_type_syntax t) = type_is t
 
-    one_is : (t : TypeText) → one_type (heads p ss) variables t ≡ one_type (given p ss) variables t
+    one_is : (t : TypeSyntax) → one_type (heads p ss) variables t ≡ one_type (given p ss) variables t
     one_is t = ap (λ r. and_then r (λ n. Ok (written_type n))) (type_is t)
 
-    types_are : (ts : List TypeText) → resolved_types (heads p ss) variables ts ≡ resolved_types (given p ss) variables ts
+    types_are : (ts : List TypeSyntax) → resolved_types (heads p ss) variables ts ≡ resolved_types (given p ss) variables ts
     types_are [] = refl
     types_are (t ∷ ts) =
         ap (λ r. and_then r (λ y. and_then (resolved_types (heads p ss) variables ts) (λ ys. Ok (y ∷ ys)))) (one_is t)
         ∙ ap (λ (q : Found (List TypeTree)). and_then (one_type (given p ss) variables t) (λ y. and_then q (λ ys. Ok (y ∷ ys)))) (types_are ts)
 
   -- the signature's types are those beside the whole program
-  pub signature_alike : (ts : List TypeText) → resolved_signature (heads p ss) ts ≡ resolved_signature (given p ss) ts
+  pub signature_alike : (ts : List TypeSyntax) → resolved_signature (heads p ss) ts ≡ resolved_signature (given p ss) ts
   unfolding resolved_signature
   signature_alike ts =
       let names = signature_variables ts in
@@ -68,7 +68,7 @@ module _ (p : ProgramTree) (ss : List Abbreviation) where
       ∙ ap (λ (r : Found (List TypeTree)). and_then (all_type_names (given p ss) names ts) (λ _. and_then r (λ types. Ok (let found : SignatureTypes = record { types = types; vars = length names } in found)))) (types_are names ts)
 
 -- part by part
-module _ (known : Known) (ts : List TypeText) where
+module _ (known : Known) (ts : List TypeSyntax) where
   abbrev names : List (List ℕ)
   names = signature_variables ts
 

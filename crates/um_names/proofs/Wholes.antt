@@ -4,7 +4,7 @@ use Rattle.std.specs.Prelude.{Option}
 use Rattle.um_tree.specs.TypeTree.{NoteTree}
 use Rattle.um_tree.specs.ExprTree.{ExprTree}
 use Rattle.um_tree.specs.ProgramTree.{FieldTree, RecordTree, FunctionTree}
-use Rattle.um_tree.specs.RawTree.{VarText, FieldDeclText, FunctionText}
+use Rattle.um_tree.specs.RawTree.{VarSyntax, FieldDeclSyntax, FunctionSyntax}
 use Rattle.um_measures.specs.declared.stop.NameStop.{NameStop}
 use Rattle.um_names.specs.declared.callable.Callable.{Callable}
 use Rattle.um_measures.specs.Faults.{Found, and_then, unless_taken, twice}
@@ -25,7 +25,7 @@ free b at e = ap (λ c. unless_taken c at) e
 
 -- ---- a record
 
-module _ (known : Known) (at : ℕ) (x : List ℕ) (vs : List VarText) (fs : List FieldDeclText) where
+module _ (known : Known) (at : ℕ) (x : List ℕ) (vs : List VarSyntax) (fs : List FieldDeclSyntax) where
   abbrev with_fields : List (List ℕ) → List FieldTree → Found RecordTree
   with_fields variables fields = Ok (record { name = x; at = at; units = length variables; fields = fields })
 
@@ -54,7 +54,7 @@ module _ (known : Known) (at : ℕ) (x : List ℕ) (vs : List VarText) (fs : Lis
 
 -- ---- a function
 
-module _ (known : Known) (f : FunctionText) where
+module _ (known : Known) (f : FunctionSyntax) where
   abbrev names : List (List ℕ)
   names = named_variables f
 

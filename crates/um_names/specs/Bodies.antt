@@ -2,7 +2,7 @@
 -- Source: this project's own.
 use Rattle.std.specs.Prelude.{List}
 use Rattle.um_tree.specs.ExprTree.{ExprTree, ExprTrees}
-use Rattle.um_tree.specs.RawTree.{ExprText, ExprTexts, FieldTexts}
+use Rattle.um_tree.specs.RawTree.{ExprSyntax, ExprSyntaxes, FieldSyntaxes}
 use Rattle.um_names.specs.declared.known.Tables.{Tables}
 use Rattle.um_names.specs.declared.callable.Callable.{Callable}
 use Rattle.um_names.specs.declared.expr.Body.{Body}
@@ -14,11 +14,11 @@ use Rattle.um_names.specs.Tables.{known_of, callables_in}
 abbrev pub callables_of : Tables → Body → List Callable
 callables_of t b = callables_in (known_of t) b.own
 
-abbrev pub resolved_in : Tables → Body → Scope → ExprText → Found ExprTree
+abbrev pub resolved_in : Tables → Body → Scope → ExprSyntax → Found ExprTree
 resolved_in t b scope e = resolved_expr (known_of t) b.variables (callables_of t b) scope e
 
-abbrev pub resolved_all_in : Tables → Body → Scope → ExprTexts → Found ExprTrees
+abbrev pub resolved_all_in : Tables → Body → Scope → ExprSyntaxes → Found ExprTrees
 resolved_all_in t b scope es = resolved_exprs (known_of t) b.variables (callables_of t b) scope es
 
-abbrev pub resolved_parts_in : Tables → Body → Scope → FieldTexts → Found ExprTrees
+abbrev pub resolved_parts_in : Tables → Body → Scope → FieldSyntaxes → Found ExprTrees
 resolved_parts_in t b scope fs = resolved_parts (known_of t) b.variables (callables_of t b) scope fs

@@ -9,7 +9,7 @@ use Rattle.um_units.specs.PowerMap.{one}
 use Rattle.um_tree.specs.declared.note.UnitNote.TheVariants as note
 use Rattle.um_tree.specs.ExprTree.{ExprTree, ExprTrees, truth, number, local, call, negate, negation, arith, compare, both, either, if, bind, split, nil, list_text, cons, record_text, field, none, more}
 use Rattle.um_tree.specs.ProgramTree.{RecordTree}
-use Rattle.um_tree.specs.RawTree.{NoteText, hole_text, unit_note_text, ExprText, ExprTexts, FieldTexts, truth_text, number_text, name_text, call_text, negate_text, not_text, arith_text, compare_text, and_text, or_text, if_text, let_text, match_text, nil_text, list_text as items_text, cons_text, fields_text, field_text, bracket_expr_text, no_exprs, more_exprs, no_fields, more_fields}
+use Rattle.um_tree.specs.RawTree.{NoteSyntax, hole_syntax, unit_note_syntax, ExprSyntax, ExprSyntaxes, FieldSyntaxes, truth_syntax, number_syntax, name_syntax, call_syntax, negate_syntax, not_syntax, arith_syntax, compare_syntax, and_syntax, or_syntax, if_syntax, let_syntax, match_syntax, nil_syntax, list_syntax, cons_syntax, fields_syntax, field_syntax, bracket_expr_syntax, no_exprs, more_exprs, no_fields, more_fields}
 use Rattle.um_measures.specs.Faults.{unknown, wrong_count, hole, Found, and_then, unless_taken}
 use Rattle.um_measures.specs.Scopes.{Scope, local_of, same_binding}
 use Rattle.um_measures.specs.Known.{Known, number_of, names_of_fields, measure_unit}
@@ -74,12 +74,12 @@ abbrev pub record_of : List RecordTree → List (List ℕ) → Option ℕ
 record_of records [] = None
 record_of records (x ∷ xs) = with_all_fields records (field_of records x) (x ∷ xs)
 
-abbrev pub length_of : ExprTexts → ℕ
+abbrev pub length_of : ExprSyntaxes → ℕ
 length_of no_exprs = 0
 length_of (more_exprs e es) = suc (length_of es)
 
 -- the names of the fields of a record text
-abbrev pub field_text_names : FieldTexts → List (List ℕ)
+abbrev pub field_text_names : FieldSyntaxes → List (List ℕ)
 field_text_names no_fields = []
 field_text_names (more_fields at x e fs) = x ∷ field_text_names fs
 
@@ -88,7 +88,7 @@ known_or None at rest = Err (unknown at)
 known_or (Some f) at rest = rest
 
 -- each of these fields is one of some record
-abbrev pub known_fields : List RecordTree → FieldTexts → Found (Unit {0})
+abbrev pub known_fields : List RecordTree → FieldSyntaxes → Found (Unit {0})
 known_fields records no_fields = Ok tt
 known_fields records (more_fields at x e fs) = known_or (field_of records x) at (known_fields records fs)
 
@@ -97,7 +97,7 @@ found_record None at = Err (wrong_count at)
 found_record (Some r) at = Ok r
 
 -- the record of a record text: its fields are known, and are all the fields of one record in order
-abbrev pub resolved_fields : List RecordTree → FieldTexts → ℕ → Found ℕ
+abbrev pub resolved_fields : List RecordTree → FieldSyntaxes → ℕ → Found ℕ
 resolved_fields records fs at = and_then (known_fields records fs) (λ _. found_record (record_of records (field_text_names fs)) at)
 
 abbrev pub found_field : Option FieldNumber → ℕ → Found FieldNumber
@@ -109,47 +109,47 @@ is_zero (pos n) = n == 0
 is_zero (negsuc n) = false
 
 -- a hole stands on 0 alone; a written unit is closed
-abbrev pub resolved_literal : Known → ℕ → Frac → Option NoteText → Found ExprTree
+abbrev pub resolved_literal : Known → ℕ → Frac → Option NoteSyntax → Found ExprTree
 resolved_literal known at c None = Ok (number at c (note.Written one))
-resolved_literal known at c (Some (hole_text place)) = cond (is_zero (numerator c)) (Ok (number at c note.Hole)) (Err (hole at))
-resolved_literal known at c (Some (unit_note_text place u)) = and_then (resolved_unit (measure_unit known) [] u) (λ v. Ok (number at c (note.Written v)))
+resolved_literal known at c (Some (hole_syntax place)) = cond (is_zero (numerator c)) (Ok (number at c note.Hole)) (Err (hole at))
+resolved_literal known at c (Some (unit_note_syntax place u)) = and_then (resolved_unit (measure_unit known) [] u) (λ v. Ok (number at c (note.Written v)))
 
 -- what is known before the function, the function's unit variables, and what may be called in its body
 module _ (known : Known) (variables : List (List ℕ)) (callables : List Callable) where
   abbrev mutual
     -- the expression, in a scope
-    pub resolved_expr : Scope → ExprText → Found ExprTree
-    resolved_expr scope (truth_text at b) = Ok (truth at b)
-    resolved_expr scope (number_text at c n) = resolved_literal known at c n
-    resolved_expr scope (name_text at x) = named callables (local_of scope x) x at
-    resolved_expr scope (call_text at x es) =
+    pub resolved_expr : Scope → ExprSyntax → Found ExprTree
+    resolved_expr scope (truth_syntax at b) = Ok (truth at b)
+    resolved_expr scope (number_syntax at c n) = resolved_literal known at c n
+    resolved_expr scope (name_syntax at x) = named callables (local_of scope x) x at
+    resolved_expr scope (call_syntax at x es) =
         and_then (called callables (local_of scope x) x (length_of es) at) (λ j. and_then (resolved_exprs scope es) (λ bs. Ok (call at j bs)))
-    resolved_expr scope (negate_text at a) = and_then (resolved_expr scope a) (λ e. Ok (negate at e))
-    resolved_expr scope (not_text at a) = and_then (resolved_expr scope a) (λ e. Ok (negation at e))
-    resolved_expr scope (arith_text at op a b) = and_then (resolved_expr scope a) (λ e. and_then (resolved_expr scope b) (λ f. Ok (arith at op e f)))
-    resolved_expr scope (compare_text at s a b) = and_then (resolved_expr scope a) (λ e. and_then (resolved_expr scope b) (λ f. Ok (compare at s e f)))
-    resolved_expr scope (and_text at a b) = and_then (resolved_expr scope a) (λ e. and_then (resolved_expr scope b) (λ f. Ok (both at e f)))
-    resolved_expr scope (or_text at a b) = and_then (resolved_expr scope a) (λ e. and_then (resolved_expr scope b) (λ f. Ok (either at e f)))
-    resolved_expr scope (if_text at c a b) =
+    resolved_expr scope (negate_syntax at a) = and_then (resolved_expr scope a) (λ e. Ok (negate at e))
+    resolved_expr scope (not_syntax at a) = and_then (resolved_expr scope a) (λ e. Ok (negation at e))
+    resolved_expr scope (arith_syntax at op a b) = and_then (resolved_expr scope a) (λ e. and_then (resolved_expr scope b) (λ f. Ok (arith at op e f)))
+    resolved_expr scope (compare_syntax at s a b) = and_then (resolved_expr scope a) (λ e. and_then (resolved_expr scope b) (λ f. Ok (compare at s e f)))
+    resolved_expr scope (and_syntax at a b) = and_then (resolved_expr scope a) (λ e. and_then (resolved_expr scope b) (λ f. Ok (both at e f)))
+    resolved_expr scope (or_syntax at a b) = and_then (resolved_expr scope a) (λ e. and_then (resolved_expr scope b) (λ f. Ok (either at e f)))
+    resolved_expr scope (if_syntax at c a b) =
         and_then (resolved_expr scope c) (λ d. and_then (resolved_expr scope a) (λ e. and_then (resolved_expr scope b) (λ f. Ok (if at d e f))))
-    resolved_expr scope (let_text at x a b) = and_then (resolved_expr scope a) (λ e. and_then (resolved_expr (scope ++ x.name ∷ []) b) (λ f. Ok (bind at e f)))
-    resolved_expr scope (match_text at l a x y b) =
+    resolved_expr scope (let_syntax at x a b) = and_then (resolved_expr scope a) (λ e. and_then (resolved_expr (scope ++ x.name ∷ []) b) (λ f. Ok (bind at e f)))
+    resolved_expr scope (match_syntax at l a x y b) =
         and_then (resolved_expr scope l) (λ d. and_then (resolved_expr scope a) (λ e.
         and_then (unless_taken (same_binding x.name y.name) y.at) (λ _. and_then (resolved_expr (scope ++ x.name ∷ y.name ∷ []) b) (λ f. Ok (split at d e f)))))
-    resolved_expr scope (nil_text at t) = and_then (resolved_type known variables true t) (λ n. Ok (nil at n))
-    resolved_expr scope (items_text at es) = and_then (resolved_exprs scope es) (λ bs. Ok (list_text at bs))
-    resolved_expr scope (cons_text at a b) = and_then (resolved_expr scope a) (λ e. and_then (resolved_expr scope b) (λ f. Ok (cons at e f)))
-    resolved_expr scope (fields_text at fs) =
+    resolved_expr scope (nil_syntax at t) = and_then (resolved_type known variables true t) (λ n. Ok (nil at n))
+    resolved_expr scope (list_syntax at es) = and_then (resolved_exprs scope es) (λ bs. Ok (list_text at bs))
+    resolved_expr scope (cons_syntax at a b) = and_then (resolved_expr scope a) (λ e. and_then (resolved_expr scope b) (λ f. Ok (cons at e f)))
+    resolved_expr scope (fields_syntax at fs) =
         and_then (resolved_fields known.program.records fs at) (λ r. and_then (resolved_parts scope fs) (λ bs. Ok (record_text at r bs)))
-    resolved_expr scope (field_text at place x a) = and_then (resolved_expr scope a) (λ e. and_then (found_field (field_of known.program.records x) place) (λ f. Ok (field at f.record_number f.field_number e)))
-    resolved_expr scope (bracket_expr_text at a) = resolved_expr scope a
+    resolved_expr scope (field_syntax at place x a) = and_then (resolved_expr scope a) (λ e. and_then (found_field (field_of known.program.records x) place) (λ f. Ok (field at f.record_number f.field_number e)))
+    resolved_expr scope (bracket_expr_syntax at a) = resolved_expr scope a
 
     -- expression by expression
-    pub resolved_exprs : Scope → ExprTexts → Found ExprTrees
+    pub resolved_exprs : Scope → ExprSyntaxes → Found ExprTrees
     resolved_exprs scope no_exprs = Ok none
     resolved_exprs scope (more_exprs e es) = and_then (resolved_expr scope e) (λ a. and_then (resolved_exprs scope es) (λ bs. Ok (more a bs)))
 
     -- field by field
-    pub resolved_parts : Scope → FieldTexts → Found ExprTrees
+    pub resolved_parts : Scope → FieldSyntaxes → Found ExprTrees
     resolved_parts scope no_fields = Ok none
     resolved_parts scope (more_fields at x e fs) = and_then (resolved_expr scope e) (λ a. and_then (resolved_parts scope fs) (λ bs. Ok (more a bs)))

@@ -3,7 +3,7 @@
 use Rattle.std.specs.Prelude.{ℕ, false, ◌||◌, cond, List, [], ◌∷◌, length, Option, Some, None, Ok}
 use Rattle.std.specs.Str.{bytes_eq}
 use Rattle.um_tree.specs.ProgramTree.{FieldTree, ProgramTree}
-use Rattle.um_tree.specs.RawTree.{FieldDeclText, FunctionText, DeclText}
+use Rattle.um_tree.specs.RawTree.{FieldDeclSyntax, FunctionSyntax, DeclSyntax}
 use Rattle.um_measures.specs.declared.abbreviation.Abbreviation.{Abbreviation}
 use Rattle.um_names.specs.declared.callable.Callable.{Callable}
 use Rattle.um_names.specs.declared.callable.FieldNumber.{FieldNumber}
@@ -13,14 +13,14 @@ use Rattle.um_names.specs.TypeNames.{resolved_type, written_type}
 use Rattle.um_names.specs.Resolution.{resolution}
 
 -- a field behind these names of fields of its own record
-abbrev pub resolved_field_decl : Known → List (List ℕ) → List (List ℕ) → FieldDeclText → Found FieldTree
+abbrev pub resolved_field_decl : Known → List (List ℕ) → List (List ℕ) → FieldDeclSyntax → Found FieldTree
 resolved_field_decl known variables own f =
     and_then (unless_taken (is_among (field_names known.program.records) f.name || is_among own f.name) f.at) (λ _.
     and_then (resolved_type known variables false f.type) (λ n.
     Ok (record { name = f.name; type = written_type n })))
 
 -- the function itself, where it may be called in its body
-abbrev pub itself : FunctionText → List Callable
+abbrev pub itself : FunctionSyntax → List Callable
 itself f = cond f.recursive (record { name = f.name; params = length f.params } ∷ []) []
 
 -- what a name is, or else another
@@ -38,9 +38,9 @@ field_at r None = None
 field_at r (Some k) = Some (record { record_number = r; field_number = k })
 
 -- the program of a text, or its first fault
-abbrev pub resolved_program : List DeclText → Found ProgramTree
+abbrev pub resolved_program : List DeclSyntax → Found ProgramTree
 resolved_program ds = and_then (resolution ds) (λ known. Ok known.program)
 
 -- the abbreviations of a text, or its first fault
-abbrev pub resolved_abbreviations : List DeclText → Found (List Abbreviation)
+abbrev pub resolved_abbreviations : List DeclSyntax → Found (List Abbreviation)
 resolved_abbreviations ds = and_then (resolution ds) (λ known. Ok known.shorts)

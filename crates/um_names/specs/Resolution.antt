@@ -4,7 +4,7 @@ use Rattle.std.specs.Prelude.{ℕ, true, false, ◌||◌, cond, List, [], ◌∷
 use Rattle.um_units.specs.PowerMap.{PowerMap}
 use Rattle.um_tree.specs.TypeTree.{NoteTree}
 use Rattle.um_tree.specs.ProgramTree.{FieldTree, RecordTree, FunctionTree}
-use Rattle.um_tree.specs.RawTree.{TypeText, BinderText, VarText, FieldDeclText, ParamText, FunctionText, DeclText, base_text, short_text, record_decl_text, function_text}
+use Rattle.um_tree.specs.RawTree.{TypeSyntax, BinderSyntax, VarSyntax, FieldDeclSyntax, ParamSyntax, FunctionSyntax, DeclSyntax, base_syntax, short_syntax, record_decl_syntax, function_syntax}
 use Rattle.um_measures.specs.Faults.{unless_taken, Found, and_then}
 use Rattle.um_measures.specs.Known.{Known, nothing, is_among, is_taken, function_names, field_names, measure_unit}
 use Rattle.um_measures.specs.UnitNames.{resolved_unit}
@@ -17,19 +17,19 @@ use Rattle.um_names.specs.declared.callable.Callable.{Callable}
 -- ---- a record
 
 -- its unit parameters, each once, behind those before
-abbrev pub resolved_parameters : List (List ℕ) → List VarText → Found (List (List ℕ))
+abbrev pub resolved_parameters : List (List ℕ) → List VarSyntax → Found (List (List ℕ))
 resolved_parameters before [] = Ok before
 resolved_parameters before (v ∷ vs) = and_then (unless_taken (is_among before v.name) v.at) (λ _. resolved_parameters (before ++ v.name ∷ []) vs)
 
 -- its fields, each with a name that is new among all fields, behind those before
-abbrev pub resolved_field_decls : Known → List (List ℕ) → List FieldTree → List FieldDeclText → Found (List FieldTree)
+abbrev pub resolved_field_decls : Known → List (List ℕ) → List FieldTree → List FieldDeclSyntax → Found (List FieldTree)
 resolved_field_decls known variables before [] = Ok before
 resolved_field_decls known variables before (f ∷ fs) =
     and_then (unless_taken (is_among (field_names known.program.records) f.name || is_among (map (λ g. g.name) before) f.name) f.at) (λ _.
     and_then (resolved_type known variables false f.type) (λ n.
     resolved_field_decls known variables (before ++ record { name = f.name; type = written_type n } ∷ []) fs))
 
-abbrev pub resolved_record_decl : Known → ℕ → List ℕ → List VarText → List FieldDeclText → Found RecordTree
+abbrev pub resolved_record_decl : Known → ℕ → List ℕ → List VarSyntax → List FieldDeclSyntax → Found RecordTree
 resolved_record_decl known at x vs fs =
     and_then (unless_taken (is_taken known x) at) (λ _.
     and_then (resolved_parameters [] vs) (λ variables.
@@ -38,18 +38,18 @@ resolved_record_decl known at x vs fs =
 
 -- ---- a function
 
-abbrev pub unless_repeated : Scope → BinderText → Found (Unit {0})
+abbrev pub unless_repeated : Scope → BinderSyntax → Found (Unit {0})
 unless_repeated before b = unless_taken (is_repeated before b.name) b.at
 
 -- its parameters: each name is looked at before its own type, and after the types before
-abbrev pub resolved_params : Known → List (List ℕ) → Scope → List ParamText → Found (List NoteTree)
+abbrev pub resolved_params : Known → List (List ℕ) → Scope → List ParamSyntax → Found (List NoteTree)
 resolved_params known variables before [] = Ok []
 resolved_params known variables before (p ∷ ps) =
     and_then (unless_repeated before p.binder) (λ _.
     and_then (resolved_type known variables true p.type) (λ n.
     and_then (resolved_params known variables (before ++ p.binder.name ∷ []) ps) (λ ns. Ok (n ∷ ns))))
 
-abbrev pub resolved_result : Known → List (List ℕ) → Option TypeText → Found (Option NoteTree)
+abbrev pub resolved_result : Known → List (List ℕ) → Option TypeSyntax → Found (Option NoteTree)
 resolved_result known variables None = Ok None
 resolved_result known variables (Some t) = and_then (resolved_type known variables true t) (λ n. Ok (Some n))
 
@@ -57,14 +57,14 @@ abbrev pub callable : FunctionTree → Callable
 callable f = record { name = f.name; params = length f.params }
 
 -- the functions before, and the function itself where it is `rec`
-abbrev pub callables : Known → FunctionText → List Callable
+abbrev pub callables : Known → FunctionSyntax → List Callable
 callables known f =
     map callable known.program.functions ++ cond f.recursive (record { name = f.name; params = length f.params } ∷ []) []
 
-abbrev pub scope_of : FunctionText → Scope
+abbrev pub scope_of : FunctionSyntax → Scope
 scope_of f = map (λ p. p.binder.name) f.params
 
-abbrev pub resolved_function : Known → FunctionText → Found FunctionTree
+abbrev pub resolved_function : Known → FunctionSyntax → Found FunctionTree
 resolved_function known f =
     let variables = named_variables f in
     and_then (unless_taken (is_among (function_names known.program.functions) f.name) f.at) (λ _.
@@ -97,17 +97,17 @@ with_function known f = record {
 }
 
 -- what is known behind a declaration
-abbrev pub resolved_decl : Known → DeclText → Found Known
-resolved_decl known (base_text at x) = and_then (unless_taken (is_taken known x) at) (λ _. Ok (with_base known x))
-resolved_decl known (short_text at x u) =
+abbrev pub resolved_decl : Known → DeclSyntax → Found Known
+resolved_decl known (base_syntax at x) = and_then (unless_taken (is_taken known x) at) (λ _. Ok (with_base known x))
+resolved_decl known (short_syntax at x u) =
     and_then (unless_taken (is_taken known x) at) (λ _. and_then (resolved_unit (measure_unit known) [] u) (λ v. Ok (with_short known x v)))
-resolved_decl known (record_decl_text at x vs fs) = and_then (resolved_record_decl known at x vs fs) (λ d. Ok (with_record known d))
-resolved_decl known (function_text f) = and_then (resolved_function known f) (λ g. Ok (with_function known g))
+resolved_decl known (record_decl_syntax at x vs fs) = and_then (resolved_record_decl known at x vs fs) (λ d. Ok (with_record known d))
+resolved_decl known (function_syntax f) = and_then (resolved_function known f) (λ g. Ok (with_function known g))
 
-abbrev pub resolved_decls : Known → List DeclText → Found Known
+abbrev pub resolved_decls : Known → List DeclSyntax → Found Known
 resolved_decls known [] = Ok known
 resolved_decls known (d ∷ ds) = and_then (resolved_decl known d) (λ after. resolved_decls after ds)
 
 -- the program of the text with its abbreviations, or the first fault
-abbrev pub resolution : List DeclText → Found Known
+abbrev pub resolution : List DeclSyntax → Found Known
 resolution ds = resolved_decls nothing ds

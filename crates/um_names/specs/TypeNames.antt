@@ -6,7 +6,7 @@ use Rattle.um_tree.specs.declared.note.UnitNote.{UnitNote}
 use Rattle.um_tree.specs.declared.note.UnitNote.TheVariants as note
 use Rattle.um_tree.specs.TypeTree.{TypeTree, bool_type, num_type, list_type, record_type, NoteTree, bool_note, num_note, list_note, record_note}
 use Rattle.um_tree.specs.ProgramTree.{RecordTree}
-use Rattle.um_tree.specs.RawTree.{NoteText, hole_text, unit_note_text, TypeText, bool_text, num_text, record_text, list_type_text, bracket_type_text}
+use Rattle.um_tree.specs.RawTree.{NoteSyntax, hole_syntax, unit_note_syntax, TypeSyntax, bool_syntax, num_syntax, record_syntax, list_type_syntax, bracket_type_syntax}
 use Rattle.um_measures.specs.Faults.{unknown, wrong_count, hole, Found, and_then, each}
 use Rattle.um_measures.specs.Known.{Known, number_of, record_names, measure_unit}
 use Rattle.um_measures.specs.UnitNames.{resolved_unit}
@@ -30,26 +30,26 @@ hole_note holes at = cond holes (Ok note.Hole) (Err (hole at))
 
 -- what is known, the unit variables that are known, and whether a hole may stand
 module _ (known : Known) (variables : List (List ℕ)) (holes : Bool) where
-  abbrev pub resolved_note : NoteText → Found UnitNote
-  resolved_note (hole_text at) = hole_note holes at
-  resolved_note (unit_note_text at u) = and_then (resolved_unit (measure_unit known) variables u) (λ v. Ok (note.Written v))
+  abbrev pub resolved_note : NoteSyntax → Found UnitNote
+  resolved_note (hole_syntax at) = hole_note holes at
+  resolved_note (unit_note_syntax at u) = and_then (resolved_unit (measure_unit known) variables u) (λ v. Ok (note.Written v))
 
-  abbrev pub resolved_notes : List NoteText → Found (List UnitNote)
+  abbrev pub resolved_notes : List NoteSyntax → Found (List UnitNote)
   resolved_notes ns = each resolved_note ns
 
   -- no note is the unit 1
-  abbrev pub resolved_number : Option NoteText → Found UnitNote
+  abbrev pub resolved_number : Option NoteSyntax → Found UnitNote
   resolved_number None = Ok (note.Written one)
   resolved_number (Some n) = resolved_note n
 
   -- brackets leave nothing
-  abbrev pub resolved_type : TypeText → Found NoteTree
-  resolved_type bool_text = Ok bool_note
-  resolved_type (num_text n) = and_then (resolved_number n) (λ m. Ok (num_note m))
-  resolved_type (record_text at x ns) =
+  abbrev pub resolved_type : TypeSyntax → Found NoteTree
+  resolved_type bool_syntax = Ok bool_note
+  resolved_type (num_syntax n) = and_then (resolved_number n) (λ m. Ok (num_note m))
+  resolved_type (record_syntax at x ns) =
       and_then (resolved_record known x (length ns) at) (λ r. and_then (resolved_notes ns) (λ ms. Ok (record_note r ms)))
-  resolved_type (list_type_text t) = and_then (resolved_type t) (λ n. Ok (list_note n))
-  resolved_type (bracket_type_text t) = resolved_type t
+  resolved_type (list_type_syntax t) = and_then (resolved_type t) (λ n. Ok (list_note n))
+  resolved_type (bracket_type_syntax t) = resolved_type t
 
 -- the unit of a note without a hole
 abbrev pub written_unit : UnitNote → PowerMap

@@ -2,7 +2,7 @@
 
 ghost use Rattle.std.specs.Prelude.{◌≡◌, Ok, IfOk, IfErr, map};
 ghost use Rattle.um_tree.specs.ProgramTree.{record_tree, function_tree};
-ghost use Rattle.um_tree.specs.RawTree.{var_text, field_decl_text, whole_function_text, decl_text, base_text, short_text, unit_text};
+ghost use Rattle.um_tree.specs.RawTree.{var_syntax, field_decl_syntax, whole_function_syntax, decl_syntax, base_syntax, short_syntax, unit_syntax};
 ghost use Rattle.um_measures.specs.Known.{is_taken};
 ghost use Rattle.um_names.specs.Parts.{itself};
 ghost use Rattle.um_names.specs.Resolution.{resolved_record_decl, resolved_function, resolved_decl};
@@ -41,8 +41,8 @@ fn record_decl(
     fields: &[RawFieldDecl],
 ) -> Result<Record, NameStop>
     requires { AreTables tables.now }
-    ensures exact { IfOk result (λ d. resolved_record_decl (known_of tables.now) at name.now (map var_text vars.now) (map field_decl_text fields.now) ≡ Ok (record_tree d)) }
-    ensures faults { IfErr result (IsFirst (resolved_record_decl (known_of tables.now) at name.now (map var_text vars.now) (map field_decl_text fields.now))) }
+    ensures exact { IfOk result (λ d. resolved_record_decl (known_of tables.now) at name.now (map var_syntax vars.now) (map field_decl_syntax fields.now) ≡ Ok (record_tree d)) }
+    ensures faults { IfErr result (IsFirst (resolved_record_decl (known_of tables.now) at name.now (map var_syntax vars.now) (map field_decl_syntax fields.now))) }
 {
     if is_taken(tables, name.as_slice()) {
         return Err(NameStop::Twice { at });
@@ -59,7 +59,7 @@ fn record_decl(
 
 /// The function itself, where it may be called in its body.
 fn itself(alloc: Global, raw: &RawFunction) -> Result<Option<Callable>, AllocError>
-    ensures { IfOk result (λ own. own_callable own ≡ itself (whole_function_text raw.now)) }
+    ensures { IfOk result (λ own. own_callable own ≡ itself (whole_function_syntax raw.now)) }
 {
     if !raw.recursive {
         return Ok(None);
@@ -73,8 +73,8 @@ fn itself(alloc: Global, raw: &RawFunction) -> Result<Option<Callable>, AllocErr
 /// A function: its name, its parameters, its result, its body.
 fn function(alloc: Global, tables: &Tables, raw: &RawFunction) -> Result<Function, NameStop>
     requires { AreTables tables.now }
-    ensures exact { IfOk result (λ f. resolved_function (known_of tables.now) (whole_function_text raw.now) ≡ Ok (function_tree f)) }
-    ensures faults { IfErr result (IsFirst (resolved_function (known_of tables.now) (whole_function_text raw.now))) }
+    ensures exact { IfOk result (λ f. resolved_function (known_of tables.now) (whole_function_syntax raw.now) ≡ Ok (function_tree f)) }
+    ensures faults { IfErr result (IsFirst (resolved_function (known_of tables.now) (whole_function_syntax raw.now))) }
 {
     if tables.function_names.has(raw.name.as_slice()) {
         return Err(NameStop::Twice { at: raw.at });
@@ -101,8 +101,8 @@ fn function(alloc: Global, tables: &Tables, raw: &RawFunction) -> Result<Functio
 fn declare_base(alloc: Global, tables: Tables, at: u32, name: &Name) -> Result<Tables, NameStop>
     requires { AreTables tables }
     ensures tables { IfOk result AreTables }
-    ensures exact { IfOk result (λ t. resolved_decl (known_of tables) (base_text at name.now) ≡ Ok (known_of t)) }
-    ensures faults { IfErr result (IsFirst (resolved_decl (known_of tables) (base_text at name.now))) }
+    ensures exact { IfOk result (λ t. resolved_decl (known_of tables) (base_syntax at name.now) ≡ Ok (known_of t)) }
+    ensures faults { IfErr result (IsFirst (resolved_decl (known_of tables) (base_syntax at name.now))) }
 {
     if is_taken(&tables, name.as_slice()) {
         return Err(NameStop::Twice { at });
@@ -120,8 +120,8 @@ fn declare_short(
 ) -> Result<Tables, NameStop>
     requires { AreTables tables }
     ensures tables { IfOk result AreTables }
-    ensures exact { IfOk result (λ t. resolved_decl (known_of tables) (short_text at name.now (unit_text unit.now)) ≡ Ok (known_of t)) }
-    ensures faults { IfErr result (IsFirst (resolved_decl (known_of tables) (short_text at name.now (unit_text unit.now)))) }
+    ensures exact { IfOk result (λ t. resolved_decl (known_of tables) (short_syntax at name.now (unit_syntax unit.now)) ≡ Ok (known_of t)) }
+    ensures faults { IfErr result (IsFirst (resolved_decl (known_of tables) (short_syntax at name.now (unit_syntax unit.now)))) }
 {
     if is_taken(&tables, name.as_slice()) {
         return Err(NameStop::Twice { at });
@@ -135,8 +135,8 @@ fn declare_short(
 pub fn declare(alloc: Global, tables: Tables, decl: &RawDecl) -> Result<Tables, NameStop>
     requires { AreTables tables }
     ensures tables { IfOk result AreTables }
-    ensures exact { IfOk result (λ t. resolved_decl (known_of tables) (decl_text decl.now) ≡ Ok (known_of t)) }
-    ensures faults { IfErr result (IsFirst (resolved_decl (known_of tables) (decl_text decl.now))) }
+    ensures exact { IfOk result (λ t. resolved_decl (known_of tables) (decl_syntax decl.now) ≡ Ok (known_of t)) }
+    ensures faults { IfErr result (IsFirst (resolved_decl (known_of tables) (decl_syntax decl.now))) }
 {
     match decl {
         RawDecl::Base(at, name) => declare_base(alloc, tables, *at, name),

@@ -2,7 +2,7 @@
 
 ghost use Rattle.std.specs.Prelude.{◌≡◌, ◌∷◌, ◌++◌, [], Ok, IfOk, IfErr, OnOk, map, length};
 ghost use Rattle.um_tree.specs.ExprTree.{expr_tree, in_order};
-ghost use Rattle.um_tree.specs.RawTree.{written_note, expr_text, exprs_in_order, field_part, fields_in_order};
+ghost use Rattle.um_tree.specs.RawTree.{written_note, expr_syntax, exprs_in_order, field_part, fields_in_order};
 ghost use Rattle.um_measures.specs.Scopes.{same_binding, local_of};
 ghost use Rattle.um_names.specs.ExprNames.{resolved_literal, resolved_fields, known_fields, found_field, field_of, length_of, named, called};
 ghost use Rattle.um_measures.specs.Faults.{unless_taken};
@@ -141,7 +141,7 @@ fn record_of(tables: &Tables, fields: &[RawField], at: u32) -> Result<u32, NameS
 
 /// How many arguments there are.
 fn arity(items: &[RawExpr]) -> usize
-    ensures { result ≡ length_of (exprs_in_order (map expr_text items.now)) }
+    ensures { result ≡ length_of (exprs_in_order (map expr_syntax items.now)) }
 {
     items.len()
 }
@@ -170,8 +170,8 @@ pub fn expr(
     e: &RawExpr,
 ) -> Result<Expr, NameStop>
     requires { AreTables tables.now }
-    ensures exact { IfOk result (λ r. resolved_in tables.now body.now scope.old (expr_text e.now) ≡ Ok (expr_tree r)) }
-    ensures faults { IfErr result (IsFirst (resolved_in tables.now body.now scope.old (expr_text e.now))) }
+    ensures exact { IfOk result (λ r. resolved_in tables.now body.now scope.old (expr_syntax e.now) ≡ Ok (expr_tree r)) }
+    ensures faults { IfErr result (IsFirst (resolved_in tables.now body.now scope.old (expr_syntax e.now))) }
     ensures scope { OnOk result (scope.new ≡ scope.old) }
 {
     let at = e.at;
@@ -281,8 +281,8 @@ fn part(
     e: &RawExpr,
 ) -> Result<Box<Expr>, NameStop>
     requires { AreTables tables.now }
-    ensures exact { IfOk result (λ r. resolved_in tables.now body.now scope.old (expr_text e.now) ≡ Ok (expr_tree r.value)) }
-    ensures faults { IfErr result (IsFirst (resolved_in tables.now body.now scope.old (expr_text e.now))) }
+    ensures exact { IfOk result (λ r. resolved_in tables.now body.now scope.old (expr_syntax e.now) ≡ Ok (expr_tree r.value)) }
+    ensures faults { IfErr result (IsFirst (resolved_in tables.now body.now scope.old (expr_syntax e.now))) }
     ensures scope { OnOk result (scope.new ≡ scope.old) }
 {
     let e = expr(alloc, tables, body, scope, e)?;
@@ -300,8 +300,8 @@ fn under(
     e: &RawExpr,
 ) -> Result<Box<Expr>, NameStop>
     requires { AreTables tables.now }
-    ensures exact { IfOk result (λ r. resolved_in tables.now body.now (scope.old ++ x.now.name ∷ []) (expr_text e.now) ≡ Ok (expr_tree r.value)) }
-    ensures faults { IfErr result (IsFirst (resolved_in tables.now body.now (scope.old ++ x.now.name ∷ []) (expr_text e.now))) }
+    ensures exact { IfOk result (λ r. resolved_in tables.now body.now (scope.old ++ x.now.name ∷ []) (expr_syntax e.now) ≡ Ok (expr_tree r.value)) }
+    ensures faults { IfErr result (IsFirst (resolved_in tables.now body.now (scope.old ++ x.now.name ∷ []) (expr_syntax e.now))) }
     ensures scope { OnOk result (scope.new ≡ scope.old) }
 {
     let count = scope.count();
@@ -323,8 +323,8 @@ fn under_both(
     e: &RawExpr,
 ) -> Result<Box<Expr>, NameStop>
     requires { AreTables tables.now }
-    ensures exact { IfOk result (λ r. resolved_in tables.now body.now (scope.old ++ x.now.name ∷ y.now.name ∷ []) (expr_text e.now) ≡ Ok (expr_tree r.value)) }
-    ensures faults { IfErr result (IsFirst (resolved_in tables.now body.now (scope.old ++ x.now.name ∷ y.now.name ∷ []) (expr_text e.now))) }
+    ensures exact { IfOk result (λ r. resolved_in tables.now body.now (scope.old ++ x.now.name ∷ y.now.name ∷ []) (expr_syntax e.now) ≡ Ok (expr_tree r.value)) }
+    ensures faults { IfErr result (IsFirst (resolved_in tables.now body.now (scope.old ++ x.now.name ∷ y.now.name ∷ []) (expr_syntax e.now))) }
     ensures scope { OnOk result (scope.new ≡ scope.old) }
 {
     let count = scope.count();
@@ -344,8 +344,8 @@ fn exprs(
     items: &[RawExpr],
 ) -> Result<Vec<Expr>, NameStop>
     requires { AreTables tables.now }
-    ensures exact { IfOk result (λ es. resolved_all_in tables.now body.now scope.old (exprs_in_order (map expr_text items.now)) ≡ Ok (in_order (map expr_tree es.items))) }
-    ensures faults { IfErr result (IsFirst (resolved_all_in tables.now body.now scope.old (exprs_in_order (map expr_text items.now)))) }
+    ensures exact { IfOk result (λ es. resolved_all_in tables.now body.now scope.old (exprs_in_order (map expr_syntax items.now)) ≡ Ok (in_order (map expr_tree es.items))) }
+    ensures faults { IfErr result (IsFirst (resolved_all_in tables.now body.now scope.old (exprs_in_order (map expr_syntax items.now)))) }
     ensures scope { OnOk result (scope.new ≡ scope.old) }
 {
     let mut es = Vec::new(alloc);

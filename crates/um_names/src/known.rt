@@ -4,7 +4,7 @@ ghost use Rattle.std.specs.Prelude.{◌≡◌, ◌||◌, ◌∷◌, ◌++◌, []
 ghost use Rattle.std.specs.Prelude.{map};
 ghost use Rattle.std.specs.Prelude.{is_some, slice_get};
 ghost use Rattle.std.specs.Str.{bytes_eq};
-ghost use Rattle.um_tree.specs.RawTree.{unit_text, field_part};
+ghost use Rattle.um_tree.specs.RawTree.{unit_syntax, field_part};
 ghost use Rattle.um_tree.specs.ProgramTree.{field_tree, record_tree, function_tree};
 ghost use Rattle.um_measures.specs.Known.{nothing, is_taken, is_among, measure_unit, function_names, field_names};
 ghost use Rattle.um_measures.specs.Stops.{IsFirst};
@@ -61,8 +61,8 @@ impl Tables {
         raw: &RawUnit,
     ) -> Result<Unit, NameStop>
         requires { AreTables self.now }
-        ensures exact { IfOk result (λ unit. resolved_unit (measure_unit (known_of self.now)) variables.now (unit_text raw.now) ≡ Ok unit) }
-        ensures faults { IfErr result (IsFirst (resolved_unit (measure_unit (known_of self.now)) variables.now (unit_text raw.now))) }
+        ensures exact { IfOk result (λ unit. resolved_unit (measure_unit (known_of self.now)) variables.now (unit_syntax raw.now) ≡ Ok unit) }
+        ensures faults { IfErr result (IsFirst (resolved_unit (measure_unit (known_of self.now)) variables.now (unit_syntax raw.now))) }
     {
         resolved_unit(alloc, &self.measures, variables, raw)
     }
@@ -70,7 +70,7 @@ impl Tables {
     /// The place of the first name or variable of a unit text that isn't known.
     pub fn unknown(&self, variables: &NameTable, raw: &RawUnit) -> Option<u32>
         requires { AreTables self.now }
-        ensures { result ≡ unknown_in (measure_unit (known_of self.now)) variables.now (unit_text raw.now) }
+        ensures { result ≡ unknown_in (measure_unit (known_of self.now)) variables.now (unit_syntax raw.now) }
     {
         first_unknown(&self.measures, variables, raw)
     }

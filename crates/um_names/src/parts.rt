@@ -3,7 +3,7 @@
 ghost use Rattle.std.specs.Prelude.{◌≡◌, ◌∷◌, ◌++◌, [], true, Ok, IfOk, IfErr, OnOk, map};
 ghost use Rattle.um_tree.specs.TypeTree.{note_tree};
 ghost use Rattle.um_tree.specs.ProgramTree.{result_tree};
-ghost use Rattle.um_tree.specs.RawTree.{var_text, binder_text, param_text, type_text, written_type};
+ghost use Rattle.um_tree.specs.RawTree.{var_syntax, binder_syntax, param_syntax, type_syntax, written_type};
 ghost use Rattle.um_measures.specs.Faults.{and_then};
 ghost use Rattle.um_names.specs.TypeNames.{resolved_type};
 ghost use Rattle.um_names.specs.Resolution.{resolved_parameters, unless_repeated, resolved_result};
@@ -18,8 +18,8 @@ use um_tree::{Note, RawParam, RawType, RawVar};
 
 /// The unit parameters of a record, each once, in the order of their numbers.
 pub fn unit_parameters(alloc: Global, raw: &[RawVar]) -> Result<NameTable, NameStop>
-    ensures exact { IfOk result (λ names. resolved_parameters [] (map var_text raw.now) ≡ Ok names) }
-    ensures faults { IfErr result (IsFirst (resolved_parameters [] (map var_text raw.now))) }
+    ensures exact { IfOk result (λ names. resolved_parameters [] (map var_syntax raw.now) ≡ Ok names) }
+    ensures faults { IfErr result (IsFirst (resolved_parameters [] (map var_syntax raw.now))) }
 {
     let mut names = NameTable::new(alloc);
     for var in raw {
@@ -40,8 +40,8 @@ pub fn param(
     raw: &RawParam,
 ) -> Result<Note, NameStop>
     requires { AreTables tables.now }
-    ensures exact { IfOk result (λ n. and_then (unless_repeated scope.old (binder_text raw.now.binder)) (λ _. resolved_type (known_of tables.now) variables.now true (type_text raw.now.ty)) ≡ Ok (note_tree n)) }
-    ensures faults { IfErr result (IsFirst (and_then (unless_repeated scope.old (binder_text raw.now.binder)) (λ _. resolved_type (known_of tables.now) variables.now true (type_text raw.now.ty)))) }
+    ensures exact { IfOk result (λ n. and_then (unless_repeated scope.old (binder_syntax raw.now.binder)) (λ _. resolved_type (known_of tables.now) variables.now true (type_syntax raw.now.ty)) ≡ Ok (note_tree n)) }
+    ensures faults { IfErr result (IsFirst (and_then (unless_repeated scope.old (binder_syntax raw.now.binder)) (λ _. resolved_type (known_of tables.now) variables.now true (type_syntax raw.now.ty)))) }
     ensures scope { OnOk result (scope.new ≡ scope.old ++ raw.now.binder.name ∷ []) }
 {
     if scope.repeats(&raw.binder) {

@@ -2,7 +2,7 @@
 
 ghost use Rattle.std.specs.Prelude.{◌≡◌, Ok, IfOk, IfErr, map};
 ghost use Rattle.um_tree.specs.ProgramTree.{program_tree};
-ghost use Rattle.um_tree.specs.RawTree.{decl_text, program_text};
+ghost use Rattle.um_tree.specs.RawTree.{decl_syntax, program_syntax};
 ghost use Rattle.um_names.specs.Parts.{resolved_program, resolved_abbreviations};
 ghost use Rattle.um_names.specs.Resolution.{resolution};
 ghost use Rattle.um_tree.specs.Formed.{IsFormed};
@@ -18,8 +18,8 @@ use um_tree::{Functions, Names, Program, RawDecl, RawProgram, Records};
 
 /// The tables behind these declarations.
 fn declarations(alloc: Global, raw: &[RawDecl]) -> Result<Tables, NameStop>
-    ensures exact { IfOk result (λ t. resolution (map decl_text raw.now) ≡ Ok (known_of t)) }
-    ensures faults { IfErr result (IsFirst (resolution (map decl_text raw.now))) }
+    ensures exact { IfOk result (λ t. resolution (map decl_syntax raw.now) ≡ Ok (known_of t)) }
+    ensures faults { IfErr result (IsFirst (resolution (map decl_syntax raw.now))) }
 {
     let mut tables = Tables::new(alloc);
     for decl in raw {
@@ -37,9 +37,9 @@ fn declarations(alloc: Global, raw: &[RawDecl]) -> Result<Tables, NameStop>
 /// part out of range. It takes time linear in the text. Measures and their spaces of names are the F#
 /// specification's, Units Of Measure.
 pub fn resolve(alloc: Global, raw: &RawProgram) -> Result<Program, NameStop>
-    ensures exact { IfOk result (λ program. resolved_program (program_text raw.now) ≡ Ok (program_tree program)) }
-    ensures formed { IfOk result (λ program. IsReadable (program_text raw.now) → IsFormed (program_tree program)) }
-    ensures faults { IfErr result (IsFirst (resolved_program (program_text raw.now))) }
+    ensures exact { IfOk result (λ program. resolved_program (program_syntax raw.now) ≡ Ok (program_tree program)) }
+    ensures formed { IfOk result (λ program. IsReadable (program_syntax raw.now) → IsFormed (program_tree program)) }
+    ensures faults { IfErr result (IsFirst (resolved_program (program_syntax raw.now))) }
 {
     let tables = declarations(alloc, &raw.items)?;
     Ok(Program {
@@ -61,8 +61,8 @@ pub fn abbreviations(
     raw: &RawProgram,
     program: &Program,
 ) -> Result<Abbreviations, AllocError>
-    requires given { resolved_program (program_text raw.now) ≡ Ok (program_tree program.now) }
-    ensures exact { IfOk result (λ shorts. resolved_abbreviations (program_text raw.now) ≡ Ok shorts) }
+    requires given { resolved_program (program_syntax raw.now) ≡ Ok (program_tree program.now) }
+    ensures exact { IfOk result (λ shorts. resolved_abbreviations (program_syntax raw.now) ≡ Ok shorts) }
 {
     match declarations(alloc, &raw.items) {
         Ok(tables) => Ok(Abbreviations::from_vec(tables.shorts)),

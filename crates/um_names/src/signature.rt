@@ -2,7 +2,7 @@
 
 ghost use Rattle.std.specs.Prelude.{◌≡◌, [], Ok, IfOk, IfErr, map};
 ghost use Rattle.um_tree.specs.TypeTree.{note_tree};
-ghost use Rattle.um_tree.specs.RawTree.{param_text};
+ghost use Rattle.um_tree.specs.RawTree.{param_syntax};
 ghost use Rattle.um_names.specs.Resolution.{resolved_params};
 ghost use Rattle.um_measures.specs.Stops.{IsFirst};
 ghost use Rattle.um_names.specs.Tables.{AreTables, known_of};
@@ -28,9 +28,9 @@ pub fn params(
     raw: &[RawParam],
 ) -> Result<Parameters, NameStop>
     requires { AreTables tables.now }
-    ensures exact { IfOk result (λ p. resolved_params (known_of tables.now) variables.now [] (map param_text raw.now) ≡ Ok (map note_tree p.notes.items)) }
-    ensures faults { IfErr result (IsFirst (resolved_params (known_of tables.now) variables.now [] (map param_text raw.now))) }
-    ensures scope { IfOk result (λ p. p.scope ≡ map (λ q. q.binder.name) (map param_text raw.now)) }
+    ensures exact { IfOk result (λ p. resolved_params (known_of tables.now) variables.now [] (map param_syntax raw.now) ≡ Ok (map note_tree p.notes.items)) }
+    ensures faults { IfErr result (IsFirst (resolved_params (known_of tables.now) variables.now [] (map param_syntax raw.now))) }
+    ensures scope { IfOk result (λ p. p.scope ≡ map (λ q. q.binder.name) (map param_syntax raw.now)) }
 {
     let mut scope = Scope::new(alloc);
     let mut notes = Vec::new(alloc);

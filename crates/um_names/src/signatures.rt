@@ -4,7 +4,7 @@ ghost use Rattle.std.specs.Prelude.{◌≡◌, false, Ok, IfOk, IfErr, map};
 ghost use Rattle.std.specs.List.{flat_map};
 ghost use Rattle.um_tree.specs.Formed.{IsFormed};
 ghost use Rattle.um_tree.specs.ProgramTree.{program_tree};
-ghost use Rattle.um_tree.specs.RawTree.{note_text, written_note, type_text, type_texts};
+ghost use Rattle.um_tree.specs.RawTree.{note_syntax, written_note, type_syntax, type_syntaxes};
 ghost use Rattle.um_tree.specs.TypeTree.{type_tree, type_trees};
 ghost use Rattle.um_measures.specs.ClosedUnits.{given};
 ghost use Rattle.um_names.specs.SignatureNames.{SignatureTypes, note_names, all_note_names, number_names, type_names, all_type_names, one_type, resolved_types, signature_variables, resolved_signature};
@@ -21,8 +21,8 @@ use um_tree::{Program, RawNote, RawType, RawTypes, Ty, Types};
 /// The first fault of what stands between `<` and `>` besides a range.
 fn note_names(tables: &Tables, variables: &NameTable, raw: &RawNote) -> Result<(), NameStop>
     requires { AreTables tables.now }
-    ensures exact { IfOk result (λ done. note_names (known_of tables.now) variables.now (note_text raw.now) ≡ Ok done) }
-    ensures faults { IfErr result (IsFirst (note_names (known_of tables.now) variables.now (note_text raw.now))) }
+    ensures exact { IfOk result (λ done. note_names (known_of tables.now) variables.now (note_syntax raw.now) ≡ Ok done) }
+    ensures faults { IfErr result (IsFirst (note_names (known_of tables.now) variables.now (note_syntax raw.now))) }
 {
     match raw {
         RawNote::Hole(at) => Err(NameStop::Hole { at: *at }),
@@ -36,8 +36,8 @@ fn note_names(tables: &Tables, variables: &NameTable, raw: &RawNote) -> Result<(
 /// Note by note.
 fn all_note_names(tables: &Tables, variables: &NameTable, raw: &[RawNote]) -> Result<(), NameStop>
     requires { AreTables tables.now }
-    ensures exact { IfOk result (λ done. all_note_names (known_of tables.now) variables.now (map note_text raw.now) ≡ Ok done) }
-    ensures faults { IfErr result (IsFirst (all_note_names (known_of tables.now) variables.now (map note_text raw.now))) }
+    ensures exact { IfOk result (λ done. all_note_names (known_of tables.now) variables.now (map note_syntax raw.now) ≡ Ok done) }
+    ensures faults { IfErr result (IsFirst (all_note_names (known_of tables.now) variables.now (map note_syntax raw.now))) }
 {
     for text in raw {
         note_names(tables, variables, text)?;
@@ -48,8 +48,8 @@ fn all_note_names(tables: &Tables, variables: &NameTable, raw: &[RawNote]) -> Re
 /// The first fault of a type text besides a range.
 fn type_names(tables: &Tables, variables: &NameTable, raw: &RawType) -> Result<(), NameStop>
     requires { AreTables tables.now }
-    ensures exact { IfOk result (λ done. type_names (known_of tables.now) variables.now (type_text raw.now) ≡ Ok done) }
-    ensures faults { IfErr result (IsFirst (type_names (known_of tables.now) variables.now (type_text raw.now))) }
+    ensures exact { IfOk result (λ done. type_names (known_of tables.now) variables.now (type_syntax raw.now) ≡ Ok done) }
+    ensures faults { IfErr result (IsFirst (type_names (known_of tables.now) variables.now (type_syntax raw.now))) }
 {
     match raw {
         RawType::Bool | RawType::Num(None) => Ok(()),
@@ -65,8 +65,8 @@ fn type_names(tables: &Tables, variables: &NameTable, raw: &RawType) -> Result<(
 /// Type by type.
 fn all_type_names(tables: &Tables, variables: &NameTable, raw: &[RawType]) -> Result<(), NameStop>
     requires { AreTables tables.now }
-    ensures exact { IfOk result (λ done. all_type_names (known_of tables.now) variables.now (map type_text raw.now) ≡ Ok done) }
-    ensures faults { IfErr result (IsFirst (all_type_names (known_of tables.now) variables.now (map type_text raw.now))) }
+    ensures exact { IfOk result (λ done. all_type_names (known_of tables.now) variables.now (map type_syntax raw.now) ≡ Ok done) }
+    ensures faults { IfErr result (IsFirst (all_type_names (known_of tables.now) variables.now (map type_syntax raw.now))) }
 {
     for text in raw {
         type_names(tables, variables, text)?;
@@ -77,7 +77,7 @@ fn all_type_names(tables: &Tables, variables: &NameTable, raw: &[RawType]) -> Re
 /// The unit variables of type texts, in the order of their numbers.
 #[tactic(auto, using(um_measures::proofs::Occurrences::both_occur, um_measures::proofs::Occurrences::occurrences_append))]
 fn signature_variables(alloc: Global, raw: &[RawType]) -> Result<NameTable, AllocError>
-    ensures { IfOk result (λ names. names ≡ signature_variables (map type_text raw.now)) }
+    ensures { IfOk result (λ names. names ≡ signature_variables (map type_syntax raw.now)) }
 {
     let mut names = NameTable::new(alloc);
     for ty in raw {
@@ -94,8 +94,8 @@ fn types(
     raw: &[RawType],
 ) -> Result<Vec<Ty>, NameStop>
     requires { AreTables tables.now }
-    ensures exact { IfOk result (λ types. resolved_types (known_of tables.now) variables.now (map type_text raw.now) ≡ Ok (map type_tree types.items)) }
-    ensures faults { IfErr result (IsFirst (resolved_types (known_of tables.now) variables.now (map type_text raw.now))) }
+    ensures exact { IfOk result (λ types. resolved_types (known_of tables.now) variables.now (map type_syntax raw.now) ≡ Ok (map type_tree types.items)) }
+    ensures faults { IfErr result (IsFirst (resolved_types (known_of tables.now) variables.now (map type_syntax raw.now))) }
 {
     let mut types = Vec::new(alloc);
     for text in raw {
@@ -112,8 +112,8 @@ fn type_of(
     raw: &RawType,
 ) -> Result<Ty, NameStop>
     requires { AreTables tables.now }
-    ensures exact { IfOk result (λ ty. one_type (known_of tables.now) variables.now (type_text raw.now) ≡ Ok (type_tree ty)) }
-    ensures faults { IfErr result (IsFirst (one_type (known_of tables.now) variables.now (type_text raw.now))) }
+    ensures exact { IfOk result (λ ty. one_type (known_of tables.now) variables.now (type_syntax raw.now) ≡ Ok (type_tree ty)) }
+    ensures faults { IfErr result (IsFirst (one_type (known_of tables.now) variables.now (type_syntax raw.now))) }
 {
     let note = note(alloc, tables, variables, false, raw)?;
     Ok(written(alloc, &note)?)
@@ -122,8 +122,8 @@ fn type_of(
 /// The types of type texts and the number of their unit variables, with these tables.
 fn signature(alloc: Global, tables: &Tables, raw: &[RawType]) -> Result<(Types, u32), NameStop>
     requires { AreTables tables.now }
-    ensures exact { IfOk result (λ found. resolved_signature (known_of tables.now) (map type_text raw.now) ≡ Ok (record { types = type_trees found.0; vars = found.1 })) }
-    ensures faults { IfErr result (IsFirst (resolved_signature (known_of tables.now) (map type_text raw.now))) }
+    ensures exact { IfOk result (λ found. resolved_signature (known_of tables.now) (map type_syntax raw.now) ≡ Ok (record { types = type_trees found.0; vars = found.1 })) }
+    ensures faults { IfErr result (IsFirst (resolved_signature (known_of tables.now) (map type_syntax raw.now))) }
 {
     let variables = signature_variables(alloc, raw)?;
     all_type_names(tables, &variables, raw)?;
@@ -144,8 +144,8 @@ pub fn types_of(
     raw: &RawTypes,
 ) -> Result<(Types, u32), NameStop>
     requires formed { IsFormed (program_tree program.now) }
-    ensures exact { IfOk result (λ found. resolved_signature (given (program_tree program.now) abbreviations.now) (type_texts raw.now) ≡ Ok (record { types = type_trees found.0; vars = found.1 })) }
-    ensures faults { IfErr result (IsFirst (resolved_signature (given (program_tree program.now) abbreviations.now) (type_texts raw.now))) }
+    ensures exact { IfOk result (λ found. resolved_signature (given (program_tree program.now) abbreviations.now) (type_syntaxes raw.now) ≡ Ok (record { types = type_trees found.0; vars = found.1 })) }
+    ensures faults { IfErr result (IsFirst (resolved_signature (given (program_tree program.now) abbreviations.now) (type_syntaxes raw.now))) }
 {
     let tables = heads(alloc, program, abbreviations)?;
     signature(alloc, &tables, &raw.items)

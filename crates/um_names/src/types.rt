@@ -2,7 +2,7 @@
 
 ghost use Rattle.std.specs.Prelude.{◌≡◌, ℕ, Ok, IfOk, IfErr, map, length};
 ghost use Rattle.um_tree.specs.TypeTree.{note_tree, type_tree};
-ghost use Rattle.um_tree.specs.RawTree.{note_text, written_note, type_text};
+ghost use Rattle.um_tree.specs.RawTree.{note_syntax, written_note, type_syntax};
 ghost use Rattle.um_measures.specs.Stops.{IsFirst};
 ghost use Rattle.um_names.specs.Tables.{AreTables, known_of};
 ghost use Rattle.um_names.specs.TypeNames.{hole_note, resolved_note, resolved_notes, resolved_number, resolved_type, written_unit, written_units, written_type};
@@ -23,8 +23,8 @@ fn unit_note(
     raw: &RawNote,
 ) -> Result<UnitNote, NameStop>
     requires { AreTables tables.now }
-    ensures exact { IfOk result (λ note. resolved_note (known_of tables.now) variables.now holes (note_text raw.now) ≡ Ok note) }
-    ensures faults { IfErr result (IsFirst (resolved_note (known_of tables.now) variables.now holes (note_text raw.now))) }
+    ensures exact { IfOk result (λ note. resolved_note (known_of tables.now) variables.now holes (note_syntax raw.now) ≡ Ok note) }
+    ensures faults { IfErr result (IsFirst (resolved_note (known_of tables.now) variables.now holes (note_syntax raw.now))) }
 {
     match raw {
         RawNote::Hole(at) => hole(holes, *at),
@@ -52,8 +52,8 @@ fn unit_notes(
     raw: &[RawNote],
 ) -> Result<UnitNotes, NameStop>
     requires { AreTables tables.now }
-    ensures exact { IfOk result (λ notes. resolved_notes (known_of tables.now) variables.now holes (map note_text raw.now) ≡ Ok notes.items.items) }
-    ensures faults { IfErr result (IsFirst (resolved_notes (known_of tables.now) variables.now holes (map note_text raw.now))) }
+    ensures exact { IfOk result (λ notes. resolved_notes (known_of tables.now) variables.now holes (map note_syntax raw.now) ≡ Ok notes.items.items) }
+    ensures faults { IfErr result (IsFirst (resolved_notes (known_of tables.now) variables.now holes (map note_syntax raw.now))) }
 {
     let mut items = Vec::new(alloc);
     for text in raw {
@@ -89,8 +89,8 @@ pub fn note(
     raw: &RawType,
 ) -> Result<Note, NameStop>
     requires { AreTables tables.now }
-    ensures exact { IfOk result (λ note. resolved_type (known_of tables.now) variables.now holes (type_text raw.now) ≡ Ok (note_tree note)) }
-    ensures faults { IfErr result (IsFirst (resolved_type (known_of tables.now) variables.now holes (type_text raw.now))) }
+    ensures exact { IfOk result (λ note. resolved_type (known_of tables.now) variables.now holes (type_syntax raw.now) ≡ Ok (note_tree note)) }
+    ensures faults { IfErr result (IsFirst (resolved_type (known_of tables.now) variables.now holes (type_syntax raw.now))) }
 {
     match raw {
         RawType::Bool => Ok(Note::Bool),

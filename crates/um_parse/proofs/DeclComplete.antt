@@ -3,7 +3,7 @@ use Rattle.std.proofs.Common.{◌≡◌, ℕ, List, [], ◌∷◌, ◌++◌, Boo
 use Rattle.std.proofs.lemmas.List.{append-nil}
 use Rattle.um_syntax.specs.declared.token.Token.{Token}
 use Rattle.um_syntax.specs.declared.token.Kind.{Kind}
-use Rattle.um_tree.specs.RawTree.{TypeText, VarText, FieldDeclText, ParamText, FunctionText, DeclText, base_text, short_text, record_decl_text, function_text}
+use Rattle.um_tree.specs.RawTree.{TypeSyntax, VarSyntax, FieldDeclSyntax, ParamSyntax, FunctionSyntax, DeclSyntax, base_syntax, short_syntax, record_decl_syntax, function_syntax}
 use Rattle.um_types.specs.UnitMachine.{Need as NeedUnit}
 use Rattle.um_types.specs.TypeGrammar.{TypeFits}
 use Rattle.um_types.specs.TypeTokens.{type_token}
@@ -22,17 +22,17 @@ use Rattle.um_expr.proofs.ExprLaws.{expr_finds}
 use Rattle.um_parse.proofs.DeclLeads.{Leads, thence, leads_here, leads_as, leads_first, leads_at, leads_binder, leads_attribute, leads_type, leads_unit, leads_body, field_inside, param_inside, result_inside}
 
 -- the state once a declaration was read
-abbrev pub decl_into : DeclText → DeclState
-decl_into (base_text at x) = HaveBase at x
-decl_into (short_text at x u) = InShort at x (unit_into [] u)
-decl_into (record_decl_text at x vs fs) = HaveRecord at x vs fs
-decl_into (function_text f) = InBody f.recursive f.at f.name f.params f.result (into [] f.body)
+abbrev pub decl_into : DeclSyntax → DeclState
+decl_into (base_syntax at x) = HaveBase at x
+decl_into (short_syntax at x u) = InShort at x (unit_into [] u)
+decl_into (record_decl_syntax at x vs fs) = HaveRecord at x vs fs
+decl_into (function_syntax f) = InBody f.recursive f.at f.name f.params f.result (into [] f.body)
 
-pub decl_finds : (d : DeclText) → DeclFits d → decl_finish (decl_into d) ≡ Some d
-decl_finds (base_text at x) fits = refl
-decl_finds (short_text at x u) fits = ap (short_found at x) (unit_finds u fits)
-decl_finds (record_decl_text at x vs fs) fits = refl
-decl_finds (function_text f) fits = ap (body_found f.recursive f.at f.name f.params f.result) (expr_finds f.body fits.2)
+pub decl_finds : (d : DeclSyntax) → DeclFits d → decl_finish (decl_into d) ≡ Some d
+decl_finds (base_syntax at x) fits = refl
+decl_finds (short_syntax at x u) fits = ap (short_found at x) (unit_finds u fits)
+decl_finds (record_decl_syntax at x vs fs) fits = refl
+decl_finds (function_syntax f) fits = ap (body_found f.recursive f.at f.name f.params f.result) (expr_finds f.body fits.2)
 
 -- ---- measures
 
@@ -51,7 +51,7 @@ leads_measure at x tokens word named rest a t n =
 
 -- ---- records
 
-leads_var : (at : ℕ) (x : List ℕ) (front : List VarText) (v : VarText) (tokens rest : List Token) → VarSpells v tokens rest → Leads (AtPlace (VarBegin at x front)) tokens (AtPlace (VarEnd at x (front ++ v ∷ []))) rest
+leads_var : (at : ℕ) (x : List ℕ) (front : List VarSyntax) (v : VarSyntax) (tokens rest : List Token) → VarSpells v tokens rest → Leads (AtPlace (VarBegin at x front)) tokens (AtPlace (VarEnd at x (front ++ v ∷ []))) rest
 leads_var at x front v tokens rest s =
     thence
     (
@@ -60,7 +60,7 @@ leads_var at x front v tokens rest s =
     )
     (leads_at (AtPlace (VarName at x front)) (AtPlace (VarEnd at x (front ++ v ∷ []))) (variable v.name) v.at s.0 rest s.2 (λ g k. refl))
 
-leads_more_vars : (vs : List VarText) (at : ℕ) (x : List ℕ) (front : List VarText) (tokens rest : List Token) → MoreVars vs tokens rest
+leads_more_vars : (vs : List VarSyntax) (at : ℕ) (x : List ℕ) (front : List VarSyntax) (tokens rest : List Token) → MoreVars vs tokens rest
     → Leads (AtPlace (VarEnd at x front)) tokens (AtPlace (VarEnd at x (front ++ vs))) rest
 leads_more_vars [] at x front tokens rest s = leads_here (AtPlace (VarEnd at x front)) (AtPlace (VarEnd at x (front ++ []))) tokens rest (ap (λ w. AtPlace (VarEnd at x w)) (sym (append-nil front))) s
 leads_more_vars (v ∷ vs) at x front tokens rest s =
@@ -73,7 +73,7 @@ leads_more_vars (v ∷ vs) at x front tokens rest s =
     )
     )
 
-leads_vars : (vs : List VarText) (at : ℕ) (x : List ℕ) (tokens mid rest : List Token) → VarsSpell vs tokens mid → First equal mid rest → Leads (AtPlace (RecordVars at x)) tokens (AtPlace (RecordBrace at x vs)) rest
+leads_vars : (vs : List VarSyntax) (at : ℕ) (x : List ℕ) (tokens mid rest : List Token) → VarsSpell vs tokens mid → First equal mid rest → Leads (AtPlace (RecordVars at x)) tokens (AtPlace (RecordBrace at x vs)) rest
 leads_vars [] at x tokens mid rest s e =
     leads_first (AtPlace (RecordVars at x)) (AtPlace (RecordBrace at x [])) equal tokens rest (subst (λ w. First equal w rest) (sym s) e) (λ p g k. refl)
 leads_vars (v ∷ vs) at x tokens mid rest s e =
@@ -89,7 +89,7 @@ leads_vars (v ∷ vs) at x tokens mid rest s e =
     )
     )
 
-leads_field : (at : ℕ) (x : List ℕ) (vs : List VarText) (front : List FieldDeclText) (f : FieldDeclText) (tokens rest : List Token) → FieldDeclSpells f tokens rest → TypeFits f.type
+leads_field : (at : ℕ) (x : List ℕ) (vs : List VarSyntax) (front : List FieldDeclSyntax) (f : FieldDeclSyntax) (tokens rest : List Token) → FieldDeclSpells f tokens rest → TypeFits f.type
     → Leads (AtPlace (FieldName at x vs front)) tokens (InField at x vs front f.at f.name (HaveType 0 f.type)) rest
 leads_field at x vs front f tokens rest s fits =
     thence (leads_at (AtPlace (FieldName at x vs front)) (AtPlace (FieldColon at x vs front f.at f.name)) (name f.name) f.at tokens s.0 s.2 (λ g k. refl))
@@ -99,7 +99,7 @@ leads_field at x vs front f tokens rest s fits =
     )
 
 -- the token behind the type of a field
-ends_field : (at : ℕ) (x : List ℕ) (vs : List VarText) (front : List FieldDeclText) (f : FieldDeclText) (what : ExprToken) (new : DeclState) (tokens rest : List Token) → First what tokens rest
+ends_field : (at : ℕ) (x : List ℕ) (vs : List VarSyntax) (front : List FieldDeclSyntax) (f : FieldDeclSyntax) (what : ExprToken) (new : DeclState) (tokens rest : List Token) → First what tokens rest
     → ((k : Kind) → expr_token k ≡ what → type_after 0 f.type (type_token k) ≡ NoType) → field_ends at x vs front f.at f.name (Some f.type) what ≡ new
     → Leads (InField at x vs front f.at f.name (HaveType 0 f.type)) tokens new rest
 ends_field at x vs front f what new tokens rest n stops e =
@@ -109,13 +109,13 @@ ends_field at x vs front f what new tokens rest n stops e =
       ap (λ w. field_goes at x vs front f.at f.name w over) (stops n.0.kind n.1) ∙ ap (field_ends at x vs front f.at f.name (Some f.type)) n.1 ∙ e,
     )
 
-leads_fields : (fs : List FieldDeclText) (at : ℕ) (x : List ℕ) (vs : List VarText) (front : List FieldDeclText) (f : FieldDeclText) (tokens mid rest : List Token) → MoreFieldDecls fs tokens mid
+leads_fields : (fs : List FieldDeclSyntax) (at : ℕ) (x : List ℕ) (vs : List VarSyntax) (front : List FieldDeclSyntax) (f : FieldDeclSyntax) (tokens mid rest : List Token) → MoreFieldDecls fs tokens mid
     → FieldDeclsFit fs → First (plain mark.RecordClose) mid rest → Leads (InField at x vs front f.at f.name (HaveType 0 f.type)) tokens (HaveRecord at x vs (front ++ f ∷ fs)) rest
 leads_fields [] at x vs front f tokens mid rest s fits c =
     ends_field at x vs front f (plain mark.RecordClose) (HaveRecord at x vs (front ++ f ∷ [])) tokens rest (subst (λ w. First (plain mark.RecordClose) w rest) (sym s) c)
     (λ k e. ap (type_after 0 f.type) (record_close_is k e)) refl
 leads_fields (d ∷ fs) at x vs front f tokens mid rest s fits c =
-    let more : List FieldDeclText = front ++ f ∷ [] in
+    let more : List FieldDeclSyntax = front ++ f ∷ [] in
     thence
     (ends_field at x vs front f (plain mark.Semi) (AtPlace (FieldName at x vs more)) tokens s.0 s.2 (λ k e. ap (type_after 0 f.type) (semi_is k e)) refl)
     (
@@ -128,7 +128,7 @@ leads_fields (d ∷ fs) at x vs front f tokens mid rest s fits c =
 
 -- ---- functions
 
-leads_param : (recursive : Bool) (at : ℕ) (x : List ℕ) (front : List ParamText) (q : ParamText) (tokens rest : List Token) → ParamSpells q tokens rest → TypeFits q.type
+leads_param : (recursive : Bool) (at : ℕ) (x : List ℕ) (front : List ParamSyntax) (q : ParamSyntax) (tokens rest : List Token) → ParamSpells q tokens rest → TypeFits q.type
     → Leads (AtPlace (Params recursive at x front)) tokens (AtPlace (Params recursive at x (front ++ q ∷ []))) rest
 leads_param recursive at x front q tokens rest s fits =
     thence (leads_first (AtPlace (Params recursive at x front)) (AtPlace (ParamBinder recursive at x front)) (plain mark.Open) tokens s.0 s.4 (λ p g k. refl))
@@ -149,7 +149,7 @@ leads_param recursive at x front q tokens rest s fits =
     )
     )
 
-leads_params : (ps : List ParamText) (recursive : Bool) (at : ℕ) (x : List ℕ) (front : List ParamText) (tokens rest : List Token) → ParamsSpell ps tokens rest → ParamsFit ps
+leads_params : (ps : List ParamSyntax) (recursive : Bool) (at : ℕ) (x : List ℕ) (front : List ParamSyntax) (tokens rest : List Token) → ParamsSpell ps tokens rest → ParamsFit ps
     → Leads (AtPlace (Params recursive at x front)) tokens (AtPlace (Params recursive at x (front ++ ps))) rest
 leads_params [] recursive at x front tokens rest s fits =
     leads_here (AtPlace (Params recursive at x front)) (AtPlace (Params recursive at x (front ++ []))) tokens rest (ap (λ w. AtPlace (Params recursive at x w)) (sym (append-nil front))) s
@@ -160,7 +160,7 @@ leads_params (q ∷ ps) recursive at x front tokens rest s fits =
     (leads_params ps recursive at x (front ++ q ∷ []) s.0 rest s.2 fits.1) (ap (λ w. AtPlace (Params recursive at x w)) (append_assoc front (q ∷ []) ps))
     )
 
-leads_result : (r : Option TypeText) (recursive : Bool) (at : ℕ) (x : List ℕ) (ps : List ParamText) (tokens mid rest : List Token) → ResultSpells r tokens mid → First equal mid rest → ResultFits recursive r
+leads_result : (r : Option TypeSyntax) (recursive : Bool) (at : ℕ) (x : List ℕ) (ps : List ParamSyntax) (tokens mid rest : List Token) → ResultSpells r tokens mid → First equal mid rest → ResultFits recursive r
     → Leads (AtPlace (Params recursive at x ps)) tokens (InBody recursive at x ps r (Need [])) rest
 leads_result None false at x ps tokens mid rest s e fits =
     leads_first (AtPlace (Params false at x ps)) (InBody false at x ps None (Need [])) equal tokens rest (subst (λ w. First equal w rest) (sym s) e) (λ p g k. refl)
@@ -183,7 +183,7 @@ leads_name true at x tokens mid rest s n =
     thence (leads_first (AtPlace LetName) (AtPlace RecName) (plain mark.Rec) tokens mid s (λ p g k. refl))
     (leads_at (AtPlace RecName) (AtPlace (Params true at x [])) (name x) at mid rest n (λ g k. refl))
 
-leads_function : (f : FunctionText) (tokens rest : List Token) → FunctionSpells f tokens rest → DeclFits (function_text f) → Leads (AtPlace DeclBegin) tokens (decl_into (function_text f)) rest
+leads_function : (f : FunctionSyntax) (tokens rest : List Token) → FunctionSpells f tokens rest → DeclFits (function_syntax f) → Leads (AtPlace DeclBegin) tokens (decl_into (function_syntax f)) rest
 leads_function f tokens rest s fits =
     thence (leads_first (AtPlace DeclBegin) (AtPlace LetName) (plain mark.Let) tokens s.0 s.6 (λ p g k. refl))
     (
@@ -199,15 +199,15 @@ leads_function f tokens rest s fits =
 
 -- ---- declarations
 
-pub decl_leads : (d : DeclText) (tokens rest : List Token) → DeclSpells d tokens rest → DeclFits d → Leads (AtPlace DeclBegin) tokens (decl_into d) rest
-decl_leads (base_text at x) tokens rest s fits = leads_measure at x tokens s.0 s.1 rest s.2 s.3 s.4
-decl_leads (short_text at x u) tokens rest s fits =
+pub decl_leads : (d : DeclSyntax) (tokens rest : List Token) → DeclSpells d tokens rest → DeclFits d → Leads (AtPlace DeclBegin) tokens (decl_into d) rest
+decl_leads (base_syntax at x) tokens rest s fits = leads_measure at x tokens s.0 s.1 rest s.2 s.3 s.4
+decl_leads (short_syntax at x u) tokens rest s fits =
     thence (leads_measure at x tokens s.0 s.1 s.2 s.4 s.5 s.6)
     (
     thence (leads_first (HaveBase at x) (InShort at x (NeedUnit [])) equal s.2 s.3 s.7 (λ p g k. refl)) (leads_unit at x u s.3 rest s.8 fits)
     )
-decl_leads (record_decl_text at x vs []) tokens rest s fits = absurd s.11
-decl_leads (record_decl_text at x vs (f ∷ fs)) tokens rest s fits =
+decl_leads (record_decl_syntax at x vs []) tokens rest s fits = absurd s.11
+decl_leads (record_decl_syntax at x vs (f ∷ fs)) tokens rest s fits =
     thence (leads_first (AtPlace DeclBegin) (AtPlace RecordName) (plain mark.Type) tokens s.0 s.6 (λ p g k. refl))
     (
     thence (leads_at (AtPlace RecordName) (AtPlace (RecordVars at x)) (name x) at s.0 s.1 s.7 (λ g k. refl))
@@ -219,4 +219,4 @@ decl_leads (record_decl_text at x vs (f ∷ fs)) tokens rest s fits =
     )
     )
     )
-decl_leads (function_text f) tokens rest s fits = leads_function f tokens rest s fits
+decl_leads (function_syntax f) tokens rest s fits = leads_function f tokens rest s fits

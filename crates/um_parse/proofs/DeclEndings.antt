@@ -3,7 +3,7 @@ use Rattle.std.proofs.Common.{◌≡◌, ◌≢◌, ℕ, List, [], ◌∷◌, �
 use Rattle.um_syntax.specs.declared.token.Token.{Token}
 use Rattle.um_syntax.specs.declared.token.Kind.{Kind}
 use Rattle.um_syntax.specs.declared.token.Kind.TheVariants as kind
-use Rattle.um_tree.specs.RawTree.{bool_text, BinderText, VarText, FieldDeclText, ParamText, DeclText, base_text, short_text, record_decl_text, function_text}
+use Rattle.um_tree.specs.RawTree.{bool_syntax, BinderSyntax, VarSyntax, FieldDeclSyntax, ParamSyntax, DeclSyntax, base_syntax, short_syntax, record_decl_syntax, function_syntax}
 use Rattle.um_types.specs.UnitGrammar.{Spells as UnitSpells, IsUnit}
 use Rattle.um_types.specs.UnitMachine.{Need as NeedUnit, Refused as NoUnit, run as unit_run}
 use Rattle.um_types.proofs.UnitLaws.{ending_of, completed, can_go_on}
@@ -34,20 +34,20 @@ abbrev hole_token : Token
 hole_token = token_of kind.Hole
 
 -- parts without letters, of the type `bool`
-abbrev unnamed_var : VarText
+abbrev unnamed_var : VarSyntax
 unnamed_var = record { at = 0; name = [] }
 
-abbrev field_of : ℕ → List ℕ → FieldDeclText
-field_of at y = record { at = at; name = y; type = bool_text }
+abbrev field_of : ℕ → List ℕ → FieldDeclSyntax
+field_of at y = record { at = at; name = y; type = bool_syntax }
 
-abbrev param_of : BinderText → ParamText
-param_of b = record { binder = b; type = bool_text }
+abbrev param_of : BinderSyntax → ParamSyntax
+param_of b = record { binder = b; type = bool_syntax }
 
-abbrev unnamed : BinderText
+abbrev unnamed : BinderSyntax
 unnamed = record { at = 0; name = None }
 
-abbrev function_of : Bool → ℕ → List ℕ → List ParamText → DeclText
-function_of recursive at x ps = function_text (record { at = at; name = x; recursive = recursive; params = ps; result = Some bool_text; body = operand })
+abbrev function_of : Bool → ℕ → List ℕ → List ParamSyntax → DeclSyntax
+function_of recursive at x ps = function_syntax (record { at = at; name = x; recursive = recursive; params = ps; result = Some bool_syntax; body = operand })
 
 -- `: bool }`; `name : bool }`; `{ name : bool }`; `= { name : bool }`; `: bool = true`
 abbrev field_rest : List Token
@@ -94,25 +94,25 @@ place_ending (Params recursive at x ps) = function_rest
 place_ending (ParamBinder recursive at x ps) = hole_token ∷ sign 18 ∷ word 13 ∷ sign 1 ∷ function_rest
 place_ending (ParamColon recursive at x ps b) = sign 18 ∷ word 13 ∷ sign 1 ∷ function_rest
 
-abbrev pub place_completed : DeclPlace → DeclText
-place_completed DeclBegin = base_text 0 []
-place_completed AttributeWord = base_text 0 []
-place_completed AttributeGreater = base_text 0 []
-place_completed AttributeClose = base_text 0 []
-place_completed MeasureType = base_text 0 []
-place_completed MeasureName = base_text 0 []
-place_completed RecordName = record_decl_text 0 [] [] (field_of 0 [] ∷ [])
-place_completed (RecordVars at x) = record_decl_text at x [] (field_of 0 [] ∷ [])
-place_completed (VarBegin at x vs) = record_decl_text at x (vs ++ unnamed_var ∷ []) (field_of 0 [] ∷ [])
-place_completed (VarWord at x vs) = record_decl_text at x (vs ++ unnamed_var ∷ []) (field_of 0 [] ∷ [])
-place_completed (VarGreater at x vs) = record_decl_text at x (vs ++ unnamed_var ∷ []) (field_of 0 [] ∷ [])
-place_completed (VarClose at x vs) = record_decl_text at x (vs ++ unnamed_var ∷ []) (field_of 0 [] ∷ [])
-place_completed (VarName at x vs) = record_decl_text at x (vs ++ unnamed_var ∷ []) (field_of 0 [] ∷ [])
-place_completed (VarEnd at x vs) = record_decl_text at x vs (field_of 0 [] ∷ [])
-place_completed (RecordEqual at x vs) = record_decl_text at x vs (field_of 0 [] ∷ [])
-place_completed (RecordBrace at x vs) = record_decl_text at x vs (field_of 0 [] ∷ [])
-place_completed (FieldName at x vs fs) = record_decl_text at x vs (fs ++ field_of 0 [] ∷ [])
-place_completed (FieldColon at x vs fs place y) = record_decl_text at x vs (fs ++ field_of place y ∷ [])
+abbrev pub place_completed : DeclPlace → DeclSyntax
+place_completed DeclBegin = base_syntax 0 []
+place_completed AttributeWord = base_syntax 0 []
+place_completed AttributeGreater = base_syntax 0 []
+place_completed AttributeClose = base_syntax 0 []
+place_completed MeasureType = base_syntax 0 []
+place_completed MeasureName = base_syntax 0 []
+place_completed RecordName = record_decl_syntax 0 [] [] (field_of 0 [] ∷ [])
+place_completed (RecordVars at x) = record_decl_syntax at x [] (field_of 0 [] ∷ [])
+place_completed (VarBegin at x vs) = record_decl_syntax at x (vs ++ unnamed_var ∷ []) (field_of 0 [] ∷ [])
+place_completed (VarWord at x vs) = record_decl_syntax at x (vs ++ unnamed_var ∷ []) (field_of 0 [] ∷ [])
+place_completed (VarGreater at x vs) = record_decl_syntax at x (vs ++ unnamed_var ∷ []) (field_of 0 [] ∷ [])
+place_completed (VarClose at x vs) = record_decl_syntax at x (vs ++ unnamed_var ∷ []) (field_of 0 [] ∷ [])
+place_completed (VarName at x vs) = record_decl_syntax at x (vs ++ unnamed_var ∷ []) (field_of 0 [] ∷ [])
+place_completed (VarEnd at x vs) = record_decl_syntax at x vs (field_of 0 [] ∷ [])
+place_completed (RecordEqual at x vs) = record_decl_syntax at x vs (field_of 0 [] ∷ [])
+place_completed (RecordBrace at x vs) = record_decl_syntax at x vs (field_of 0 [] ∷ [])
+place_completed (FieldName at x vs fs) = record_decl_syntax at x vs (fs ++ field_of 0 [] ∷ [])
+place_completed (FieldColon at x vs fs place y) = record_decl_syntax at x vs (fs ++ field_of place y ∷ [])
 place_completed LetName = function_of false 0 [] []
 place_completed RecName = function_of true 0 [] []
 place_completed (Params recursive at x ps) = function_of recursive at x ps
@@ -130,21 +130,21 @@ decl_ending (InResult recursive at x ps s) = type_ending s ++ sign 9 ∷ operand
 decl_ending (InBody recursive at x ps r e) = expr_ending e
 decl_ending NoDecl = []
 
-abbrev pub decl_completed : DeclState → DeclText
+abbrev pub decl_completed : DeclState → DeclSyntax
 decl_completed (AtPlace place) = place_completed place
-decl_completed (HaveBase at x) = base_text at x
-decl_completed (InShort at x u) = short_text at x (completed u)
-decl_completed (HaveRecord at x vs fs) = record_decl_text at x vs fs
-decl_completed (InField at x vs fs place y s) = record_decl_text at x vs (fs ++ (record { at = place; name = y; type = type_completed s }) ∷ [])
+decl_completed (HaveBase at x) = base_syntax at x
+decl_completed (InShort at x u) = short_syntax at x (completed u)
+decl_completed (HaveRecord at x vs fs) = record_decl_syntax at x vs fs
+decl_completed (InField at x vs fs place y s) = record_decl_syntax at x vs (fs ++ (record { at = place; name = y; type = type_completed s }) ∷ [])
 decl_completed (InParam recursive at x ps b s) = function_of recursive at x (ps ++ (record { binder = b; type = type_completed s }) ∷ [])
-decl_completed (InResult recursive at x ps s) = function_text (record { at = at; name = x; recursive = recursive; params = ps; result = Some (type_completed s); body = operand })
-decl_completed (InBody recursive at x ps r e) = function_text (record { at = at; name = x; recursive = recursive; params = ps; result = r; body = expr_completed e })
-decl_completed NoDecl = base_text 0 []
+decl_completed (InResult recursive at x ps s) = function_syntax (record { at = at; name = x; recursive = recursive; params = ps; result = Some (type_completed s); body = operand })
+decl_completed (InBody recursive at x ps r e) = function_syntax (record { at = at; name = x; recursive = recursive; params = ps; result = r; body = expr_completed e })
+decl_completed NoDecl = base_syntax 0 []
 
 -- ---- the tokens
 
-record_reads : (at : ℕ) (x : List ℕ) (vs : List VarText) (tokens vars rest : List Token) → RecordHead at x tokens vars → VarsSpell vs vars (record_rest ++ rest)
-    → DeclSpells (record_decl_text at x vs (field_of 0 [] ∷ [])) tokens rest
+record_reads : (at : ℕ) (x : List ℕ) (vs : List VarSyntax) (tokens vars rest : List Token) → RecordHead at x tokens vars → VarsSpell vs vars (record_rest ++ rest)
+    → DeclSpells (record_decl_syntax at x vs (field_of 0 [] ∷ [])) tokens rest
 record_reads at x vs tokens vars rest h s = (
   h.0,
   vars,
@@ -161,19 +161,19 @@ record_reads at x vs tokens vars rest h s = (
   (sign 5, refl, refl),
 )
 
-var_reads : (at : ℕ) (x : List ℕ) (vs : List VarText) (tokens mid rest : List Token) → VarsOpen at x vs tokens mid → Attribute mid (var_rest ++ rest)
-    → DeclSpells (record_decl_text at x (vs ++ unnamed_var ∷ []) (field_of 0 [] ∷ [])) tokens rest
+var_reads : (at : ℕ) (x : List ℕ) (vs : List VarSyntax) (tokens mid rest : List Token) → VarsOpen at x vs tokens mid → Attribute mid (var_rest ++ rest)
+    → DeclSpells (record_decl_syntax at x (vs ++ unnamed_var ∷ []) (field_of 0 [] ∷ [])) tokens rest
 var_reads at x vs tokens mid rest o a =
     let behind : List Token = sign 8 ∷ (record_rest ++ rest) in
     record_reads at x (vs ++ unnamed_var ∷ []) tokens o.0 rest o.2
     (vars_close (vs ++ unnamed_var ∷ []) o.0 o.1 behind (record_rest ++ rest) o.3 (vars_last vs unnamed_var o.1 mid behind o.4 (var_rest ++ rest, a, (var_token, refl, refl, refl))) (sign 8, refl, refl))
 
-fields_read : (at : ℕ) (x : List ℕ) (vs : List VarText) (fs : List FieldDeclText) (f : FieldDeclText) (tokens fields rest : List Token) → RecordOpens at x vs tokens fields → FieldDeclsSpell (fs ++ f ∷ []) fields (sign 5 ∷ rest)
-    → DeclSpells (record_decl_text at x vs (fs ++ f ∷ [])) tokens rest
+fields_read : (at : ℕ) (x : List ℕ) (vs : List VarSyntax) (fs : List FieldDeclSyntax) (f : FieldDeclSyntax) (tokens fields rest : List Token) → RecordOpens at x vs tokens fields → FieldDeclsSpell (fs ++ f ∷ []) fields (sign 5 ∷ rest)
+    → DeclSpells (record_decl_syntax at x vs (fs ++ f ∷ [])) tokens rest
 fields_read at x vs fs f tokens fields rest o s =
     (o.3.0, o.0, o.1, o.2, fields, sign 5 ∷ rest, o.3.1, o.3.2, o.4, o.5, o.6, s, (sign 5, refl, refl))
 
-function_reads : (recursive : Bool) (at : ℕ) (x : List ℕ) (ps : List ParamText) (tokens rest : List Token) → FunctionHead recursive at x ps tokens (function_rest ++ rest) → DeclSpells (function_of recursive at x ps) tokens rest
+function_reads : (recursive : Bool) (at : ℕ) (x : List ℕ) (ps : List ParamSyntax) (tokens rest : List Token) → FunctionHead recursive at x ps tokens (function_rest ++ rest) → DeclSpells (function_of recursive at x ps) tokens rest
 function_reads recursive at x ps tokens rest h = (
   h.0,
   h.1,
@@ -190,7 +190,7 @@ function_reads recursive at x ps tokens rest h = (
   (operand_token, refl, refl, refl),
 )
 
-measure_reads : (tokens rest : List Token) → Attribute tokens (measure_rest ++ rest) → DeclSpells (base_text 0 []) tokens rest
+measure_reads : (tokens rest : List Token) → Attribute tokens (measure_rest ++ rest) → DeclSpells (base_syntax 0 []) tokens rest
 measure_reads tokens rest a = (measure_rest ++ rest, name_token ∷ rest, a, (word 8, refl, refl), (name_token, refl, refl, refl))
 
 place_reads : (place : DeclPlace) (tokens rest : List Token) → PlaceReads place tokens (place_ending place ++ rest) → DeclSpells (place_completed place) tokens rest
@@ -349,12 +349,12 @@ decl_can_end (InShort at x u) tokens rest h ok =
 decl_can_end (HaveRecord at x vs fs) tokens rest h ok = h
 decl_can_end (InField at x vs fs place y s) tokens rest h ok =
     let p = type_can_end s h.3 (sign 5 ∷ rest) (subst (λ w. TypeStands s h.3 w) (append_assoc (type_ending s) (sign 5 ∷ []) rest) h.8) h.10 in
-    let f : FieldDeclText = record { at = place; name = y; type = type_completed s } in
+    let f : FieldDeclSyntax = record { at = place; name = y; type = type_completed s } in
     (fields_read at x vs fs f tokens h.0 rest h.4 (fields_last fs f h.0 h.1 (sign 5 ∷ rest) h.5 (h.2, h.3, h.6, h.7, p.0)), fields_fit fs f h.9 p.1)
 decl_can_end (InParam recursive at x ps b s) tokens rest h ok =
     let behind : List Token = function_rest ++ rest in
     let p = type_can_end s h.3 (sign 1 ∷ behind) (subst (λ w. TypeStands s h.3 w) (append_assoc (type_ending s) (sign 1 ∷ function_rest) rest) h.8) h.10 in
-    let q : ParamText = record { binder = b; type = type_completed s } in (
+    let q : ParamSyntax = record { binder = b; type = type_completed s } in (
       function_reads recursive at x (ps ++ q ∷ []) tokens rest (head_last recursive at x ps q tokens h.0 behind h.4 (h.1, h.2, h.3, sign 1 ∷ behind, h.5, h.6, h.7, p.0, (sign 1, refl, refl))),
       (params_fit ps q h.9 p.1, tt, tt),
     )

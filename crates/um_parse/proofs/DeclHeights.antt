@@ -2,7 +2,7 @@
 use Rattle.std.proofs.Common.{◌≡◌, ◌≢◌, ℕ, ◌≤◌, max, List, [], ◌∷◌, ◌++◌, Bool, true, false, Option, Some, None, refl, sym, ap, ◌∙◌, arith}
 use Rattle.um_syntax.specs.declared.token.Token.{Token}
 use Rattle.um_tree.specs.declared.expression.Sign.TheVariants as compare
-use Rattle.um_tree.specs.RawTree.{UnitText, TypeText, bool_text, BinderText, ExprText, VarText, FieldDeclText, ParamText, DeclText, base_text, short_text, record_decl_text, function_text}
+use Rattle.um_tree.specs.RawTree.{UnitSyntax, TypeSyntax, bool_syntax, BinderSyntax, ExprSyntax, VarSyntax, FieldDeclSyntax, ParamSyntax, DeclSyntax, base_syntax, short_syntax, record_decl_syntax, function_syntax}
 use Rattle.um_types.specs.UnitMachine.{State as UnitState, Need as NeedUnit, Have as HaveUnit, Raised, Lowered, Refused as NoUnit, finish as unit_finish}
 use Rattle.um_types.specs.UnitLeast.{least}
 use Rattle.um_types.specs.TypeHeights.{whole_height}
@@ -23,11 +23,11 @@ use Rattle.um_expr.proofs.ExprHeights.{expr_completed_height, expr_up, expr_foun
 use Rattle.um_parse.proofs.DeclStands.{DeclStands}
 use Rattle.um_parse.proofs.DeclEndings.{place_completed, decl_completed}
 
-fields_last : (fs : List FieldDeclText) (f : FieldDeclText) → fields_height (fs ++ f ∷ []) ≡ max (fields_height fs) (whole_height f.type)
+fields_last : (fs : List FieldDeclSyntax) (f : FieldDeclSyntax) → fields_height (fs ++ f ∷ []) ≡ max (fields_height fs) (whole_height f.type)
 fields_last [] f = omega arith
 fields_last (g ∷ gs) f = let e = fields_last gs f in omega (arith, e)
 
-params_last : (ps : List ParamText) (p : ParamText) → params_height (ps ++ p ∷ []) ≡ max (params_height ps) (whole_height p.type)
+params_last : (ps : List ParamSyntax) (p : ParamSyntax) → params_height (ps ++ p ∷ []) ≡ max (params_height ps) (whole_height p.type)
 params_last [] p = omega arith
 params_last (q ∷ qs) p = let e = params_last qs p in omega (arith, e)
 
@@ -50,13 +50,13 @@ place_height (VarName at x vs) = omega arith
 place_height (VarEnd at x vs) = omega arith
 place_height (RecordEqual at x vs) = omega arith
 place_height (RecordBrace at x vs) = omega arith
-place_height (FieldName at x vs fs) = let e = fields_last fs (record { at = 0; name = []; type = bool_text }) in omega (arith, e)
-place_height (FieldColon at x vs fs place y) = let e = fields_last fs (record { at = place; name = y; type = bool_text }) in omega (arith, e)
+place_height (FieldName at x vs fs) = let e = fields_last fs (record { at = 0; name = []; type = bool_syntax }) in omega (arith, e)
+place_height (FieldColon at x vs fs place y) = let e = fields_last fs (record { at = place; name = y; type = bool_syntax }) in omega (arith, e)
 place_height LetName = omega arith
 place_height RecName = omega arith
 place_height (Params recursive at x ps) = omega arith
-place_height (ParamBinder recursive at x ps) = let e = params_last ps (record { binder = record { at = 0; name = None }; type = bool_text }) in omega (arith, e)
-place_height (ParamColon recursive at x ps b) = let e = params_last ps (record { binder = b; type = bool_text }) in omega (arith, e)
+place_height (ParamBinder recursive at x ps) = let e = params_last ps (record { binder = record { at = 0; name = None }; type = bool_syntax }) in omega (arith, e)
+place_height (ParamColon recursive at x ps b) = let e = params_last ps (record { binder = b; type = bool_syntax }) in omega (arith, e)
 
 pub decl_completed_height : (st : DeclState) (tokens rest : List Token) → DeclStands st tokens rest → st ≢ NoDecl → decl_height (decl_completed st) ≡ decl_least st
 decl_completed_height (AtPlace place) tokens rest h ok = place_height place
@@ -92,7 +92,7 @@ Above n (InParam recursive at x ps b s) = n ≤ decl_least (InParam recursive at
 Above n (InResult recursive at x ps s) = n ≤ decl_least (InResult recursive at x ps s)
 Above n (InBody recursive at x ps r e) = n ≤ decl_least (InBody recursive at x ps r e)
 
-body_up : (recursive : Bool) (at : ℕ) (x : List ℕ) (ps : List ParamText) → Above (max (params_height ps) 1) (body_begins recursive at x ps)
+body_up : (recursive : Bool) (at : ℕ) (x : List ℕ) (ps : List ParamSyntax) → Above (max (params_height ps) 1) (body_begins recursive at x ps)
 body_up true at x ps = tt
 body_up false at x ps = omega arith
 
@@ -141,7 +141,7 @@ short_up at n x (Raised frames t) up = up (λ e. cc)
 short_up at n x (Lowered frames t) up = up (λ e. cc)
 short_up at n x NoUnit up = tt
 
-field_end_up : (at : ℕ) (x : List ℕ) (vs : List VarText) (fs : List FieldDeclText) (place : ℕ) (y : List ℕ) (s : TypeState) (found : Option TypeText) (what : ExprToken) → type_finish s ≡ found
+field_end_up : (at : ℕ) (x : List ℕ) (vs : List VarSyntax) (fs : List FieldDeclSyntax) (place : ℕ) (y : List ℕ) (s : TypeState) (found : Option TypeSyntax) (what : ExprToken) → type_finish s ≡ found
     → Above (max (fields_height fs) (type_least s)) (field_ends at x vs fs place y found what)
 field_end_up at x vs fs place y s (Some t) (plain mark.Semi) e =
     let same = type_found_height s t e in
@@ -153,7 +153,7 @@ field_end_up at x vs fs place y s (Some t) (plain mark.RecordClose) e =
     omega (arith, same, last)
 field_end_up at x vs fs place y s _ _ e = tt
 
-param_end_up : (recursive : Bool) (at : ℕ) (x : List ℕ) (ps : List ParamText) (b : BinderText) (s : TypeState) (found : Option TypeText) (what : ExprToken) → type_finish s ≡ found
+param_end_up : (recursive : Bool) (at : ℕ) (x : List ℕ) (ps : List ParamSyntax) (b : BinderSyntax) (s : TypeState) (found : Option TypeSyntax) (what : ExprToken) → type_finish s ≡ found
     → Above (max (params_height ps) (max (type_least s) 1)) (param_ends recursive at x ps b found what)
 param_end_up recursive at x ps b s (Some t) (plain mark.Close) e =
     let same = type_found_height s t e in
@@ -161,35 +161,35 @@ param_end_up recursive at x ps b s (Some t) (plain mark.Close) e =
     omega (arith, same, last)
 param_end_up recursive at x ps b s _ _ e = tt
 
-result_end_up : (recursive : Bool) (at : ℕ) (x : List ℕ) (ps : List ParamText) (s : TypeState) (found : Option TypeText) (what : ExprToken) → type_finish s ≡ found
+result_end_up : (recursive : Bool) (at : ℕ) (x : List ℕ) (ps : List ParamSyntax) (s : TypeState) (found : Option TypeSyntax) (what : ExprToken) → type_finish s ≡ found
     → Above (max (params_height ps) (max (type_least s) 1)) (result_ends recursive at x ps found what)
 result_end_up recursive at x ps s (Some t) (operator (between.Compare compare.Eq)) e =
     let same = type_found_height s t e in
     omega (arith, same)
 result_end_up recursive at x ps s _ _ e = tt
 
-field_up : (at : ℕ) (x : List ℕ) (vs : List VarText) (fs : List FieldDeclText) (place : ℕ) (y : List ℕ) (low : ℕ) (s : TypeState) (over : DeclState) → (s ≢ NoType → low ≤ type_least s)
+field_up : (at : ℕ) (x : List ℕ) (vs : List VarSyntax) (fs : List FieldDeclSyntax) (place : ℕ) (y : List ℕ) (low : ℕ) (s : TypeState) (over : DeclState) → (s ≢ NoType → low ≤ type_least s)
     → Above (max (fields_height fs) low) over → Above (max (fields_height fs) low) (field_goes at x vs fs place y s over)
 field_up at x vs fs place y low (NeedType depth) over up h = let le = up (λ e. cc) in omega (arith, le)
 field_up at x vs fs place y low (HaveType depth t) over up h = let le = up (λ e. cc) in omega (arith, le)
 field_up at x vs fs place y low (InTypeNote depth owner n) over up h = let le = up (λ e. cc) in omega (arith, le)
 field_up at x vs fs place y low NoType over up h = h
 
-param_up : (recursive : Bool) (at : ℕ) (x : List ℕ) (ps : List ParamText) (b : BinderText) (low : ℕ) (s : TypeState) (over : DeclState) → (s ≢ NoType → low ≤ type_least s)
+param_up : (recursive : Bool) (at : ℕ) (x : List ℕ) (ps : List ParamSyntax) (b : BinderSyntax) (low : ℕ) (s : TypeState) (over : DeclState) → (s ≢ NoType → low ≤ type_least s)
     → Above (max (params_height ps) (max low 1)) over → Above (max (params_height ps) (max low 1)) (param_goes recursive at x ps b s over)
 param_up recursive at x ps b low (NeedType depth) over up h = let le = up (λ e. cc) in omega (arith, le)
 param_up recursive at x ps b low (HaveType depth t) over up h = let le = up (λ e. cc) in omega (arith, le)
 param_up recursive at x ps b low (InTypeNote depth owner n) over up h = let le = up (λ e. cc) in omega (arith, le)
 param_up recursive at x ps b low NoType over up h = h
 
-result_up : (recursive : Bool) (at : ℕ) (x : List ℕ) (ps : List ParamText) (low : ℕ) (s : TypeState) (over : DeclState) → (s ≢ NoType → low ≤ type_least s)
+result_up : (recursive : Bool) (at : ℕ) (x : List ℕ) (ps : List ParamSyntax) (low : ℕ) (s : TypeState) (over : DeclState) → (s ≢ NoType → low ≤ type_least s)
     → Above (max (params_height ps) (max low 1)) over → Above (max (params_height ps) (max low 1)) (result_goes recursive at x ps s over)
 result_up recursive at x ps low (NeedType depth) over up h = let le = up (λ e. cc) in omega (arith, le)
 result_up recursive at x ps low (HaveType depth t) over up h = let le = up (λ e. cc) in omega (arith, le)
 result_up recursive at x ps low (InTypeNote depth owner n) over up h = let le = up (λ e. cc) in omega (arith, le)
 result_up recursive at x ps low NoType over up h = h
 
-in_body_up : (recursive : Bool) (at : ℕ) (x : List ℕ) (ps : List ParamText) (r : Option TypeText) (low : ℕ) (e : State) → (e ≢ Refused → low ≤ whole_least e)
+in_body_up : (recursive : Bool) (at : ℕ) (x : List ℕ) (ps : List ParamSyntax) (r : Option TypeSyntax) (low : ℕ) (e : State) → (e ≢ Refused → low ≤ whole_least e)
     → Above (max (params_height ps) (max (result_height r) low)) (body_goes recursive at x ps r e)
 in_body_up recursive at x ps r low (Need frames) up = let le = up (λ h. cc) in omega (arith, le)
 in_body_up recursive at x ps r low (Have frames t) up = let le = up (λ h. cc) in omega (arith, le)
@@ -232,21 +232,21 @@ decl_up st x ok = above_least (decl_least st) (decl_step st x) ok (decl_above st
 
 -- ---- what is found has it
 
-short_height : (at : ℕ) (x : List ℕ) (u : UnitState) (o : Option UnitText) (d : DeclText) → unit_finish u ≡ o → short_found at x o ≡ Some d → decl_height d ≡ least u
-short_height at x u (Some t) d f e = let same : short_text at x t ≡ d = cc in ap decl_height (sym same) ∙ found_height u t f
+short_height : (at : ℕ) (x : List ℕ) (u : UnitState) (o : Option UnitSyntax) (d : DeclSyntax) → unit_finish u ≡ o → short_found at x o ≡ Some d → decl_height d ≡ least u
+short_height at x u (Some t) d f e = let same : short_syntax at x t ≡ d = cc in ap decl_height (sym same) ∙ found_height u t f
 short_height at x u None d f e = absurd cc
 
-body_height : (recursive : Bool) (at : ℕ) (x : List ℕ) (ps : List ParamText) (r : Option TypeText) (e : State) (o : Option ExprText) (d : DeclText) → finish e ≡ o → body_found recursive at x ps r o ≡ Some d
+body_height : (recursive : Bool) (at : ℕ) (x : List ℕ) (ps : List ParamSyntax) (r : Option TypeSyntax) (e : State) (o : Option ExprSyntax) (d : DeclSyntax) → finish e ≡ o → body_found recursive at x ps r o ≡ Some d
     → decl_height d ≡ max (params_height ps) (max (result_height r) (whole_least e))
 body_height recursive at x ps r e (Some t) d f h =
-    let same : function_text (record { at = at; name = x; recursive = recursive; params = ps; result = r; body = t }) ≡ d = cc in
+    let same : function_syntax (record { at = at; name = x; recursive = recursive; params = ps; result = r; body = t }) ≡ d = cc in
     ap decl_height (sym same) ∙ ap (λ n. max (params_height ps) (max (result_height r) n)) (expr_found_height e t f)
 body_height recursive at x ps r e None d f h = absurd cc
 
-pub decl_found_height : (st : DeclState) (d : DeclText) → decl_finish st ≡ Some d → decl_height d ≡ decl_least st
-decl_found_height (HaveBase at x) d e = let same : base_text at x ≡ d = cc in ap decl_height (sym same)
+pub decl_found_height : (st : DeclState) (d : DeclSyntax) → decl_finish st ≡ Some d → decl_height d ≡ decl_least st
+decl_found_height (HaveBase at x) d e = let same : base_syntax at x ≡ d = cc in ap decl_height (sym same)
 decl_found_height (InShort at x u) d e = short_height at x u (unit_finish u) d refl e
-decl_found_height (HaveRecord at x vs fs) d e = let same : record_decl_text at x vs fs ≡ d = cc in ap decl_height (sym same)
+decl_found_height (HaveRecord at x vs fs) d e = let same : record_decl_syntax at x vs fs ≡ d = cc in ap decl_height (sym same)
 decl_found_height (InBody recursive at x ps r b) d e = body_height recursive at x ps r b (finish b) d refl e
 decl_found_height (AtPlace place) d e = absurd cc
 decl_found_height (InField at x vs fs place y s) d e = absurd cc

@@ -2,7 +2,7 @@
 use Rattle.std.proofs.Common.{◌≡◌, ◌≢◌, ℕ, List, [], ◌∷◌, ◌++◌, Bool, Option, Some, None, refl, sym, ap, ◌∙◌, append_assoc}
 use Rattle.um_syntax.specs.declared.token.Token.{Token}
 use Rattle.um_syntax.specs.declared.token.Kind.{Kind}
-use Rattle.um_tree.specs.RawTree.{UnitText, TypeText, BinderText, ExprText, VarText, FieldDeclText, ParamText}
+use Rattle.um_tree.specs.RawTree.{UnitSyntax, TypeSyntax, BinderSyntax, ExprSyntax, VarSyntax, FieldDeclSyntax, ParamSyntax}
 use Rattle.um_types.specs.Machines.{runs}
 use Rattle.um_types.specs.UnitGrammar.{Spells as UnitSpells, Fits as UnitFits}
 use Rattle.um_types.specs.UnitMachine.{State as UnitState, Need as NeedUnit, Have as HaveUnit, Raised, Lowered, Refused as NoUnit}
@@ -50,7 +50,7 @@ leads_at old new what at tokens rest f e = (
   ap (λ w. decl_act old w f.0.start f.0.glued f.0.kind) f.1 ∙ ap (λ a. decl_act old what a f.0.glued f.0.kind) f.2 ∙ e f.0.glued f.0.kind,
 )
 
-pub leads_binder : (old : DeclState) (new : BinderText → DeclState) (x : BinderText) (tokens rest : List Token) → BinderSpells x tokens rest
+pub leads_binder : (old : DeclState) (new : BinderSyntax → DeclState) (x : BinderSyntax) (tokens rest : List Token) → BinderSpells x tokens rest
     → ((y : List ℕ) (p : ℕ) (g : Bool) (k : Kind) → decl_act old (name y) p g k ≡ new (record { at = p; name = Some y }))
     → ((p : ℕ) (g : Bool) (k : Kind) → decl_act old hole p g k ≡ new (record { at = p; name = None })) → Leads old tokens (new x) rest
 leads_binder old new x tokens rest s named free = by_name x.name s
@@ -70,7 +70,7 @@ leads_attribute a b c d e tokens rest s one two three four =
 -- ---- machines inside
 
 pub leads_type : (inside : TypeState → DeclState) → ((s new : TypeState) (token : Token) → type_step s token ≡ new → new ≢ NoType → decl_step (inside s) token ≡ inside new)
-    → (t : TypeText) (tokens rest : List Token) → TypeSpells t tokens rest → TypeFits t → Leads (inside (NeedType 0)) tokens (inside (HaveType 0 t)) rest
+    → (t : TypeSyntax) (tokens rest : List Token) → TypeSpells t tokens rest → TypeFits t → Leads (inside (NeedType 0)) tokens (inside (HaveType 0 t)) rest
 leads_type inside goes t tokens rest s fits =
     let r = type_reaches t 0 tokens rest s fits in (r.0, r.1, lift type_step NoType (λ x. refl) decl_step inside goes r.0 (NeedType 0) (HaveType 0 t) r.2 r.3)
 
@@ -84,11 +84,11 @@ short_inside at x u new token e ok = ap (short_goes at x) e ∙ short_on new ok
     short_on (Lowered frames t) h = refl
     short_on NoUnit h = absurd (h refl)
 
-pub leads_unit : (at : ℕ) (x : List ℕ) (u : UnitText) (tokens rest : List Token) → UnitSpells u tokens rest → UnitFits u → Leads (InShort at x (NeedUnit [])) tokens (InShort at x (unit_into [] u)) rest
+pub leads_unit : (at : ℕ) (x : List ℕ) (u : UnitSyntax) (tokens rest : List Token) → UnitSpells u tokens rest → UnitFits u → Leads (InShort at x (NeedUnit [])) tokens (InShort at x (unit_into [] u)) rest
 leads_unit at x u tokens rest s fits =
     let r = unit_reaches u tokens rest s fits in (r.0, r.1, lift unit_step NoUnit (λ t. refl) decl_step (λ w. InShort at x w) (short_inside at x) r.0 (NeedUnit []) (unit_into [] u) r.2 r.3)
 
-body_inside : (recursive : Bool) (at : ℕ) (x : List ℕ) (ps : List ParamText) (r : Option TypeText) (e new : State) (token : Token) → step e token ≡ new → new ≢ Refused
+body_inside : (recursive : Bool) (at : ℕ) (x : List ℕ) (ps : List ParamSyntax) (r : Option TypeSyntax) (e new : State) (token : Token) → step e token ≡ new → new ≢ Refused
     → decl_step (InBody recursive at x ps r e) token ≡ InBody recursive at x ps r new
 body_inside recursive at x ps r e new token same ok = ap (body_goes recursive at x ps r) same ∙ body_on new ok
   where
@@ -101,14 +101,14 @@ body_inside recursive at x ps r e new token same ok = ap (body_goes recursive at
     body_on (InType frames p n) h = refl
     body_on Refused h = absurd (h refl)
 
-pub leads_body : (recursive : Bool) (at : ℕ) (x : List ℕ) (ps : List ParamText) (r : Option TypeText) (e : ExprText) (tokens rest : List Token) → Spells e tokens rest → Fits e
+pub leads_body : (recursive : Bool) (at : ℕ) (x : List ℕ) (ps : List ParamSyntax) (r : Option TypeSyntax) (e : ExprSyntax) (tokens rest : List Token) → Spells e tokens rest → Fits e
     → Leads (InBody recursive at x ps r (Need [])) tokens (InBody recursive at x ps r (into [] e)) rest
 leads_body recursive at x ps r e tokens rest s fits =
     let p = expr_reaches e tokens rest s fits in
     (p.0, p.1, lift step Refused (λ t. refl) decl_step (λ w. InBody recursive at x ps r w) (body_inside recursive at x ps r) p.0 (Need []) (into [] e) p.2 p.3)
 
 -- the machine of types goes on inside
-pub field_inside : (at : ℕ) (x : List ℕ) (vs : List VarText) (fs : List FieldDeclText) (place : ℕ) (y : List ℕ) (s new : TypeState) (token : Token) → type_step s token ≡ new → new ≢ NoType
+pub field_inside : (at : ℕ) (x : List ℕ) (vs : List VarSyntax) (fs : List FieldDeclSyntax) (place : ℕ) (y : List ℕ) (s new : TypeState) (token : Token) → type_step s token ≡ new → new ≢ NoType
     → decl_step (InField at x vs fs place y s) token ≡ InField at x vs fs place y new
 field_inside at x vs fs place y s new token e ok = ap (λ w. field_goes at x vs fs place y w (field_ends at x vs fs place y (type_finish s) (expr_token token.kind))) e ∙ field_on new ok
   where
@@ -118,7 +118,7 @@ field_inside at x vs fs place y s new token e ok = ap (λ w. field_goes at x vs 
     field_on (InTypeNote depth owner n) h = refl
     field_on NoType h = absurd (h refl)
 
-pub param_inside : (recursive : Bool) (at : ℕ) (x : List ℕ) (ps : List ParamText) (b : BinderText) (s new : TypeState) (token : Token) → type_step s token ≡ new → new ≢ NoType
+pub param_inside : (recursive : Bool) (at : ℕ) (x : List ℕ) (ps : List ParamSyntax) (b : BinderSyntax) (s new : TypeState) (token : Token) → type_step s token ≡ new → new ≢ NoType
     → decl_step (InParam recursive at x ps b s) token ≡ InParam recursive at x ps b new
 param_inside recursive at x ps b s new token e ok = ap (λ w. param_goes recursive at x ps b w (param_ends recursive at x ps b (type_finish s) (expr_token token.kind))) e ∙ param_on new ok
   where
@@ -128,7 +128,7 @@ param_inside recursive at x ps b s new token e ok = ap (λ w. param_goes recursi
     param_on (InTypeNote depth owner n) h = refl
     param_on NoType h = absurd (h refl)
 
-pub result_inside : (recursive : Bool) (at : ℕ) (x : List ℕ) (ps : List ParamText) (s new : TypeState) (token : Token) → type_step s token ≡ new → new ≢ NoType
+pub result_inside : (recursive : Bool) (at : ℕ) (x : List ℕ) (ps : List ParamSyntax) (s new : TypeState) (token : Token) → type_step s token ≡ new → new ≢ NoType
     → decl_step (InResult recursive at x ps s) token ≡ InResult recursive at x ps new
 result_inside recursive at x ps s new token e ok = ap (λ w. result_goes recursive at x ps w (result_ends recursive at x ps (type_finish s) (expr_token token.kind))) e ∙ result_on new ok
   where

@@ -2,7 +2,7 @@
 use Rattle.std.proofs.Common.{◌≡◌, ◌≢◌, ℕ, List, [], ◌∷◌, ◌++◌, Bool, true, false, Option, Some, None, refl, sym, ap, subst, ◌∙◌, append_assoc}
 use Rattle.um_syntax.specs.declared.token.Token.{Token}
 use Rattle.um_tree.specs.declared.expression.Sign.TheVariants as compare
-use Rattle.um_tree.specs.RawTree.{UnitText, TypeText, BinderText, ExprText, VarText, FieldDeclText, ParamText, DeclText, base_text, short_text, record_decl_text, function_text}
+use Rattle.um_tree.specs.RawTree.{UnitSyntax, TypeSyntax, BinderSyntax, ExprSyntax, VarSyntax, FieldDeclSyntax, ParamSyntax, DeclSyntax, base_syntax, short_syntax, record_decl_syntax, function_syntax}
 use Rattle.um_types.specs.UnitGrammar.{Spells as UnitSpells, IsUnit}
 use Rattle.um_types.specs.UnitMachine.{State as UnitState, Need as NeedUnit, Have as HaveUnit, Raised, Lowered, Refused as NoUnit, run as unit_run, finish as unit_finish}
 use Rattle.um_types.specs.TypeMachine.{TypeState, NeedType, HaveType, NoType, type_step, type_finish}
@@ -28,7 +28,7 @@ need_type e = cc
 need_expr : Need [] ≢ Refused
 need_expr e = cc
 
-body_begins_sound : (recursive : Bool) (at : ℕ) (x : List ℕ) (ps : List ParamText) (tokens mid rest : List Token) → FunctionHead recursive at x ps tokens mid → First equal mid rest → ParamsFit ps
+body_begins_sound : (recursive : Bool) (at : ℕ) (x : List ℕ) (ps : List ParamSyntax) (tokens mid rest : List Token) → FunctionHead recursive at x ps tokens mid → First equal mid rest → ParamsFit ps
     → DeclStands (body_begins recursive at x ps) tokens rest
 body_begins_sound true at x ps tokens mid rest h s fits = tt
 body_begins_sound false at x ps tokens mid rest h s fits = (mid, mid, rest, h, refl, s, (refl, tt), fits, refl, need_expr)
@@ -52,7 +52,7 @@ place_sound (VarClose p x vs) (plain mark.ListClose) at tokens mid rest h s =
     let r = h.0 in ((r.0, r.3, (r.1, r.2, mid, r.4, r.5, r.6, (s.0, s.1, s.3))), tt)
 place_sound (VarName p x vs) (variable v) at tokens mid rest h s =
     let o = h.0.1 in
-    let var : VarText = record { at = at; name = v } in
+    let var : VarSyntax = record { at = at; name = v } in
     ((o.0, o.1, o.2, o.3, vars_last vs var o.1 h.0.0 rest o.4 (mid, h.0.2, s)), tt)
 place_sound (VarEnd p x vs) (plain mark.Comma) at tokens mid rest h s = let r = h.0 in ((r.0, r.1, r.2, r.3, vars_comma vs r.1 mid rest r.4 (s.0, s.1, s.3)), tt)
 place_sound (VarEnd p x vs) (operator (between.Compare compare.Gt)) at tokens mid rest h s = let r = h.0 in ((r.0, r.2, vars_close vs r.0 r.1 mid rest r.3 r.4 (s.0, s.1, s.3)), tt)
@@ -88,35 +88,35 @@ short_sound at x (Raised frames t) tokens sign next read rest m e p r = (sign, n
 short_sound at x (Lowered frames t) tokens sign next read rest m e p r = (sign, next, read, m, e, p, r, λ h. cc)
 short_sound at x NoUnit tokens sign next read rest m e p r = tt
 
-field_end_sound : (at : ℕ) (x : List ℕ) (vs : List VarText) (fs : List FieldDeclText) (place : ℕ) (y : List ℕ) (s : TypeState) (found : Option TypeText) (what : ExprToken) (tokens mid rest : List Token)
+field_end_sound : (at : ℕ) (x : List ℕ) (vs : List VarSyntax) (fs : List FieldDeclSyntax) (place : ℕ) (y : List ℕ) (s : TypeState) (found : Option TypeSyntax) (what : ExprToken) (tokens mid rest : List Token)
     → DeclStands (InField at x vs fs place y s) tokens mid → First what mid rest → type_finish s ≡ found → DeclStands (field_ends at x vs fs place y found what) tokens rest
 field_end_sound at x vs fs place y s (Some t) (plain mark.Semi) tokens mid rest h n e =
     let p = type_found s t h.3 mid h.8 e in
-    let f : FieldDeclText = record { at = place; name = y; type = t } in
+    let f : FieldDeclSyntax = record { at = place; name = y; type = t } in
     ((h.0, h.4, fields_semi fs f h.0 h.1 mid rest h.5 (h.2, h.3, h.6, h.7, p.0) n), fields_fit fs f h.9 p.1)
 field_end_sound at x vs fs place y s (Some t) (plain mark.RecordClose) tokens mid rest h n e =
     let p = type_found s t h.3 mid h.8 e in
-    let f : FieldDeclText = record { at = place; name = y; type = t } in
+    let f : FieldDeclSyntax = record { at = place; name = y; type = t } in
     let o = h.4 in
     let head = o.3 in
     ((head.0, o.0, o.1, o.2, h.0, mid, head.1, head.2, o.4, o.5, o.6, fields_last fs f h.0 h.1 mid h.5 (h.2, h.3, h.6, h.7, p.0), n), fields_fit fs f h.9 p.1)
 field_end_sound at x vs fs place y s _ _ tokens mid rest h n e = tt
 
-param_end_sound : (recursive : Bool) (at : ℕ) (x : List ℕ) (ps : List ParamText) (b : BinderText) (s : TypeState) (found : Option TypeText) (what : ExprToken) (tokens mid rest : List Token)
+param_end_sound : (recursive : Bool) (at : ℕ) (x : List ℕ) (ps : List ParamSyntax) (b : BinderSyntax) (s : TypeState) (found : Option TypeSyntax) (what : ExprToken) (tokens mid rest : List Token)
     → DeclStands (InParam recursive at x ps b s) tokens mid → First what mid rest → type_finish s ≡ found → DeclStands (param_ends recursive at x ps b found what) tokens rest
 param_end_sound recursive at x ps b s (Some t) (plain mark.Close) tokens mid rest h n e =
     let p = type_found s t h.3 mid h.8 e in
-    let q : ParamText = record { binder = b; type = t } in
+    let q : ParamSyntax = record { binder = b; type = t } in
     (head_last recursive at x ps q tokens h.0 rest h.4 (h.1, h.2, h.3, mid, h.5, h.6, h.7, p.0, n), params_fit ps q h.9 p.1)
 param_end_sound recursive at x ps b s _ _ tokens mid rest h n e = tt
 
-result_end_sound : (recursive : Bool) (at : ℕ) (x : List ℕ) (ps : List ParamText) (s : TypeState) (found : Option TypeText) (what : ExprToken) (tokens mid rest : List Token)
+result_end_sound : (recursive : Bool) (at : ℕ) (x : List ℕ) (ps : List ParamSyntax) (s : TypeState) (found : Option TypeSyntax) (what : ExprToken) (tokens mid rest : List Token)
     → DeclStands (InResult recursive at x ps s) tokens mid → First what mid rest → type_finish s ≡ found → DeclStands (result_ends recursive at x ps found what) tokens rest
 result_end_sound recursive at x ps s (Some t) (operator (between.Compare compare.Eq)) tokens mid rest h n e =
     let p = type_found s t h.1 mid h.4 e in (h.0, mid, rest, h.2, (h.1, h.3, p.0), n, (refl, tt), h.5, p.1, need_expr)
 result_end_sound recursive at x ps s _ _ tokens mid rest h n e = tt
 
-field_goes_sound : (at : ℕ) (x : List ℕ) (vs : List VarText) (fs : List FieldDeclText) (place : ℕ) (y : List ℕ) (s : TypeState) (over : DeclState) (tokens fields named colon next rest : List Token)
+field_goes_sound : (at : ℕ) (x : List ℕ) (vs : List VarSyntax) (fs : List FieldDeclSyntax) (place : ℕ) (y : List ℕ) (s : TypeState) (over : DeclState) (tokens fields named colon next rest : List Token)
     → RecordOpens at x vs tokens fields → FieldsRead fs fields named → FirstAt (name y) place named colon → First (plain mark.Colon) colon next → TypeStands s next rest → FieldDeclsFit fs
     → DeclStands over tokens rest → DeclStands (field_goes at x vs fs place y s over) tokens rest
 field_goes_sound at x vs fs place y (NeedType depth) over tokens fields named colon next rest o r n c s f h = (fields, named, colon, next, o, r, n, c, s, f, λ e. cc)
@@ -124,7 +124,7 @@ field_goes_sound at x vs fs place y (HaveType depth t) over tokens fields named 
 field_goes_sound at x vs fs place y (InTypeNote depth owner w) over tokens fields named colon next rest o r n c s f h = (fields, named, colon, next, o, r, n, c, s, f, λ e. cc)
 field_goes_sound at x vs fs place y NoType over tokens fields named colon next rest o r n c s f h = h
 
-param_goes_sound : (recursive : Bool) (at : ℕ) (x : List ℕ) (ps : List ParamText) (b : BinderText) (s : TypeState) (over : DeclState) (tokens d e colon next rest : List Token)
+param_goes_sound : (recursive : Bool) (at : ℕ) (x : List ℕ) (ps : List ParamSyntax) (b : BinderSyntax) (s : TypeState) (over : DeclState) (tokens d e colon next rest : List Token)
     → FunctionHead recursive at x ps tokens d → First (plain mark.Open) d e → BinderSpells b e colon → First (plain mark.Colon) colon next → TypeStands s next rest → ParamsFit ps
     → DeclStands over tokens rest → DeclStands (param_goes recursive at x ps b s over) tokens rest
 param_goes_sound recursive at x ps b (NeedType depth) over tokens d e colon next rest o r n c s f h = (d, e, colon, next, o, r, n, c, s, f, λ h. cc)
@@ -132,14 +132,14 @@ param_goes_sound recursive at x ps b (HaveType depth t) over tokens d e colon ne
 param_goes_sound recursive at x ps b (InTypeNote depth owner w) over tokens d e colon next rest o r n c s f h = (d, e, colon, next, o, r, n, c, s, f, λ h. cc)
 param_goes_sound recursive at x ps b NoType over tokens d e colon next rest o r n c s f h = h
 
-result_goes_sound : (recursive : Bool) (at : ℕ) (x : List ℕ) (ps : List ParamText) (s : TypeState) (over : DeclState) (tokens d next rest : List Token) → FunctionHead recursive at x ps tokens d
+result_goes_sound : (recursive : Bool) (at : ℕ) (x : List ℕ) (ps : List ParamSyntax) (s : TypeState) (over : DeclState) (tokens d next rest : List Token) → FunctionHead recursive at x ps tokens d
     → First (plain mark.Colon) d next → TypeStands s next rest → ParamsFit ps → DeclStands over tokens rest → DeclStands (result_goes recursive at x ps s over) tokens rest
 result_goes_sound recursive at x ps (NeedType depth) over tokens d next rest o c s f h = (d, next, o, c, s, f, λ e. cc)
 result_goes_sound recursive at x ps (HaveType depth t) over tokens d next rest o c s f h = (d, next, o, c, s, f, λ e. cc)
 result_goes_sound recursive at x ps (InTypeNote depth owner w) over tokens d next rest o c s f h = (d, next, o, c, s, f, λ e. cc)
 result_goes_sound recursive at x ps NoType over tokens d next rest o c s f h = h
 
-body_sound : (recursive : Bool) (at : ℕ) (x : List ℕ) (ps : List ParamText) (r : Option TypeText) (e : State) (tokens d sign next rest : List Token) → FunctionHead recursive at x ps tokens d
+body_sound : (recursive : Bool) (at : ℕ) (x : List ℕ) (ps : List ParamSyntax) (r : Option TypeSyntax) (e : State) (tokens d sign next rest : List Token) → FunctionHead recursive at x ps tokens d
     → ResultSpells r d sign → First equal sign next → Stands e next rest → ParamsFit ps → ResultFits recursive r → DeclStands (body_goes recursive at x ps r e) tokens rest
 body_sound recursive at x ps r (Need frames) tokens d sign next rest o w q s f g = (d, sign, next, o, w, q, s, f, g, λ h. cc)
 body_sound recursive at x ps r (Have frames t) tokens d sign next rest o w q s f g = (d, sign, next, o, w, q, s, f, g, λ h. cc)
@@ -170,25 +170,25 @@ decl_sound NoDecl x tokens rest h = tt
 
 -- ---- what is found
 
-short_is : (at : ℕ) (x : List ℕ) (o : Option UnitText) (d : DeclText) → short_found at x o ≡ Some d → (u : UnitText) × (o ≡ Some u) × (short_text at x u ≡ d)
+short_is : (at : ℕ) (x : List ℕ) (o : Option UnitSyntax) (d : DeclSyntax) → short_found at x o ≡ Some d → (u : UnitSyntax) × (o ≡ Some u) × (short_syntax at x u ≡ d)
 short_is at x (Some u) d e = (u, refl, cc)
 short_is at x None d e = absurd cc
 
-body_is : (recursive : Bool) (at : ℕ) (x : List ℕ) (ps : List ParamText) (r : Option TypeText) (o : Option ExprText) (d : DeclText) → body_found recursive at x ps r o ≡ Some d
-    → (e : ExprText) × (o ≡ Some e) × (function_text (record { at = at; name = x; recursive = recursive; params = ps; result = r; body = e }) ≡ d)
+body_is : (recursive : Bool) (at : ℕ) (x : List ℕ) (ps : List ParamSyntax) (r : Option TypeSyntax) (o : Option ExprSyntax) (d : DeclSyntax) → body_found recursive at x ps r o ≡ Some d
+    → (e : ExprSyntax) × (o ≡ Some e) × (function_syntax (record { at = at; name = x; recursive = recursive; params = ps; result = r; body = e }) ≡ d)
 body_is recursive at x ps r (Some e) d h = (e, refl, cc)
 body_is recursive at x ps r None d h = absurd cc
 
 -- what is found is a declaration
-pub decl_found : (st : DeclState) (d : DeclText) (tokens rest : List Token) → DeclStands st tokens rest → decl_finish st ≡ Some d → DeclSpells d tokens rest × DeclFits d
-decl_found (HaveBase at x) d tokens rest h e = let same : base_text at x ≡ d = cc in subst (λ w. DeclSpells w tokens rest × DeclFits w) same ((h.0, h.1, h.2, h.3, h.4), tt)
+pub decl_found : (st : DeclState) (d : DeclSyntax) (tokens rest : List Token) → DeclStands st tokens rest → decl_finish st ≡ Some d → DeclSpells d tokens rest × DeclFits d
+decl_found (HaveBase at x) d tokens rest h e = let same : base_syntax at x ≡ d = cc in subst (λ w. DeclSpells w tokens rest × DeclFits w) same ((h.0, h.1, h.2, h.3, h.4), tt)
 decl_found (InShort at x u) d tokens rest h e =
     let w = short_is at x (unit_finish u) d e in
     let p : IsUnit h.2 w.0 = found h.2 w.0 (ap unit_finish h.6 ∙ w.1) in
     let s : UnitSpells w.0 h.1 rest = subst (λ t. UnitSpells w.0 t rest) (sym h.5) (unit_before w.0 h.2 rest p) in
     let m = h.3 in
     subst (λ t. DeclSpells t tokens rest × DeclFits t) w.2 ((m.0, m.1, h.0, h.1, m.2, m.3, m.4, h.4, s), p.fits)
-decl_found (HaveRecord at x vs fs) d tokens rest h e = let same : record_decl_text at x vs fs ≡ d = cc in subst (λ w. DeclSpells w tokens rest × DeclFits w) same h
+decl_found (HaveRecord at x vs fs) d tokens rest h e = let same : record_decl_syntax at x vs fs ≡ d = cc in subst (λ w. DeclSpells w tokens rest × DeclFits w) same h
 decl_found (InBody recursive at x ps r e) d tokens rest h same =
     let w = body_is recursive at x ps r (finish e) d same in
     let p = expr_found e w.0 h.2 rest h.6 w.1 in

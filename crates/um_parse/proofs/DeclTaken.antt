@@ -4,7 +4,7 @@ use Rattle.std.specs.Prelude.{Result}
 use Rattle.std.specs.declared.alloc.AllocError.{AllocError}
 use Rattle.um_syntax.specs.declared.token.Token.{Token}
 use Rattle.um_tree.specs.declared.raw.RawDecl.{RawDecl}
-use Rattle.um_tree.specs.RawTree.{decl_text}
+use Rattle.um_tree.specs.RawTree.{decl_syntax}
 use Rattle.um_parse.specs.DeclMachine.{NoDecl, decl_step, decl_finish}
 use Rattle.um_parse.specs.ProgramHeights.{decl_height}
 use Rattle.um_parse.specs.ProgramLeast.{decl_place_least, decl_least}
@@ -77,9 +77,9 @@ reader_goes (reader.Result f t) e = cc
 reader_goes (reader.Body h e) h' = cc
 
 -- the declaration before a token that a reader refuses is within the heights
-pub decl_low : (r : DeclReader) (o : Option RawDecl) → option_map decl_text o ≡ decl_finish (reader_state r) → IfSome o (λ d. decl_height (decl_text d) ≤ 400)
+pub decl_low : (r : DeclReader) (o : Option RawDecl) → option_map decl_syntax o ≡ decl_finish (reader_state r) → IfSome o (λ d. decl_height (decl_syntax d) ≤ 400)
 decl_low r None e = tt
-decl_low r (Some d) e = let same = decl_found_height (reader_state r) (decl_text d) (sym e) in omega (arith, same, reader_low r)
+decl_low r (Some d) e = let same = decl_found_height (reader_state r) (decl_syntax d) (sym e) in omega (arith, same, reader_low r)
 
 -- ---- one token more at a place
 

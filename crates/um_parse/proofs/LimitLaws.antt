@@ -2,7 +2,7 @@
 use Rattle.std.proofs.Common.{◌≡◌, ◌≢◌, ℕ, ◌+◌, List, [], ◌∷◌, Bool, true, false, cond, Option, Some, None, refl, sym, ap, subst}
 use Rattle.std.specs.Prelude.{nat_lt, length}
 use Rattle.um_syntax.specs.declared.token.Token.{Token}
-use Rattle.um_tree.specs.RawTree.{DeclText, base_text, short_text, record_decl_text, function_text}
+use Rattle.um_tree.specs.RawTree.{DeclSyntax, base_syntax, short_syntax, record_decl_syntax, function_syntax}
 use Rattle.um_tree.specs.Heights.{expr_nodes}
 use Rattle.um_types.specs.declared.parse.LimitKind.{LimitKind}
 use Rattle.um_types.specs.declared.parse.LimitKind.TheVariants as limit
@@ -10,25 +10,25 @@ use Rattle.um_parse.specs.ProgramLimits.{most_functions, most_parameters, most_f
 use Rattle.um_parse.specs.Parsed.{IsLarge, LimitAt}
 
 -- what is said of the declarations from here on is said of all, where those before pass no limit
-abbrev pub Behind : List DeclText → ℕ → List DeclText → Type 0
+abbrev pub Behind : List DeclSyntax → ℕ → List DeclSyntax → Type 0
 Behind all before rest = (WithinLimits before rest → WithinLimits 0 all) × ((kind : LimitKind) (at : ℕ) → PassesAt before rest kind at → PassesAt 0 all kind at)
 
-pub behind_start : (all rest : List DeclText) → rest ≡ all → Behind all 0 rest
+pub behind_start : (all rest : List DeclSyntax) → rest ≡ all → Behind all 0 rest
 behind_start all rest e = ((λ w. subst (λ ds. WithinLimits 0 ds) e w), (λ kind at p. subst (λ ds. PassesAt 0 ds kind at) e p))
 
 -- a declaration that passes no limit
-pub behind_one : (all : List DeclText) (before : ℕ) (d : DeclText) (rest : List DeclText) → Behind all before (d ∷ rest) → passed_limit before d ≡ None → Behind all (before + functions_in d) rest
+pub behind_one : (all : List DeclSyntax) (before : ℕ) (d : DeclSyntax) (rest : List DeclSyntax) → Behind all before (d ∷ rest) → passed_limit before d ≡ None → Behind all (before + functions_in d) rest
 behind_one all before d rest h e = (
   (λ w. h.0 (e, w)),
   (λ kind at p. h.1 kind at (subst (λ o. FirstPassed o (name_place d) kind at (PassesAt (before + functions_in d) rest kind at)) (sym e) p)),
 )
 
 -- a declaration that passes one
-pub behind_passed : (all : List DeclText) (before : ℕ) (d : DeclText) (rest : List DeclText) (kind : LimitKind) → Behind all before (d ∷ rest) → passed_limit before d ≡ Some kind → PassesAt 0 all kind (name_place d)
+pub behind_passed : (all : List DeclSyntax) (before : ℕ) (d : DeclSyntax) (rest : List DeclSyntax) (kind : LimitKind) → Behind all before (d ∷ rest) → passed_limit before d ≡ Some kind → PassesAt 0 all kind (name_place d)
 behind_passed all before d rest kind h e =
     h.1 kind (name_place d) (subst (λ o. FirstPassed o (name_place d) kind (name_place d) (PassesAt (before + functions_in d) rest kind (name_place d))) (sym e) (refl, refl))
 
-pub behind_end : (all : List DeclText) (before : ℕ) (rest : List DeclText) → Behind all before rest → rest ≡ [] → WithinLimits 0 all
+pub behind_end : (all : List DeclSyntax) (before : ℕ) (rest : List DeclSyntax) → Behind all before rest → rest ≡ [] → WithinLimits 0 all
 behind_end all before rest h e = h.0 (subst (λ ds. WithinLimits before ds) (sym e) tt)
 
 -- ---- the height isn't looked at
@@ -40,13 +40,13 @@ no_height_if : (test : Bool) (kind : LimitKind) (other : Option LimitKind) → k
 no_height_if true kind other free others e = free cc
 no_height_if false kind other free others e = others e
 
-none_passed : (before : ℕ) (d : DeclText) → passed_limit before d ≢ a_height
-none_passed before (base_text at x) e = cc
-none_passed before (short_text at x u) e = cc
-none_passed before (record_decl_text at x vs fs) e =
+none_passed : (before : ℕ) (d : DeclSyntax) → passed_limit before d ≢ a_height
+none_passed before (base_syntax at x) e = cc
+none_passed before (short_syntax at x u) e = cc
+none_passed before (record_decl_syntax at x vs fs) e =
     no_height_if (nat_lt most_fields (length fs)) limit.Fields (cond (nat_lt most_unit_parameters (length vs)) (Some limit.UnitParameters) None) (λ h. cc)
     (no_height_if (nat_lt most_unit_parameters (length vs)) limit.UnitParameters None (λ h. cc) (λ h. cc)) e
-none_passed before (function_text f) e =
+none_passed before (function_syntax f) e =
     no_height_if (nat_lt most_functions (before + 1)) limit.Functions
     (cond (nat_lt most_parameters (length f.params)) (Some limit.Parameters) (cond (nat_lt most_nodes (expr_nodes f.body)) (Some limit.Nodes) None)) (λ h. cc)
     (
@@ -58,7 +58,7 @@ first_none : (o : Option LimitKind) (place at : ℕ) (later : Type 0) → o ≢ 
 first_none (Some kind) place at later free others p = free (ap (λ k. Some k) (sym p.0))
 first_none None place at later free others p = others p
 
-no_height : (ds : List DeclText) (before at : ℕ) → PassesAt before ds limit.Height at → ⊥
+no_height : (ds : List DeclSyntax) (before at : ℕ) → PassesAt before ds limit.Height at → ⊥
 no_height [] before at p = p
 no_height (d ∷ ds) before at p = first_none (passed_limit before d) (name_place d) at (PassesAt (before + functions_in d) ds limit.Height at) (none_passed before d) (λ q. no_height ds (before + functions_in d) at q) p
 

@@ -3,7 +3,7 @@ use Rattle.std.proofs.Common.{◌≡◌, ◌≢◌, ℕ, List, [], ◌∷◌, �
 use Rattle.std.proofs.lemmas.List.{append-nil}
 use Rattle.um_syntax.specs.declared.token.Token.{Token}
 use Rattle.um_syntax.specs.declared.token.Kind.{Kind}
-use Rattle.um_tree.specs.RawTree.{ExprText, DeclText, base_text, short_text, record_decl_text, function_text}
+use Rattle.um_tree.specs.RawTree.{ExprSyntax, DeclSyntax, base_syntax, short_syntax, record_decl_syntax, function_syntax}
 use Rattle.um_types.specs.Machines.{runs}
 use Rattle.um_types.specs.UnitMachine.{act as unit_act}
 use Rattle.um_types.proofs.Reaching.{runs_append, runs_refused, lift}
@@ -28,18 +28,18 @@ base_stops at x (plain mark.Type) h = refl
 base_stops at x (plain mark.Let) h = refl
 base_stops at x _ h = absurd cc
 
-expr_stops : (frames : List Frame) (t : ExprText) (w : ExprToken) (p : ℕ) (g : Bool) (k : Kind) → begins_decl w ≡ true → act (Have frames t) w p g k ≡ Refused
+expr_stops : (frames : List Frame) (t : ExprSyntax) (w : ExprToken) (p : ℕ) (g : Bool) (k : Kind) → begins_decl w ≡ true → act (Have frames t) w p g k ≡ Refused
 expr_stops frames t (plain mark.AttributeOpen) p g k h = refl
 expr_stops frames t (plain mark.Type) p g k h = refl
 expr_stops frames t (plain mark.Let) p g k h = refl
 expr_stops frames t _ p g k h = absurd cc
 
-decl_stops : (d : DeclText) (token : Token) → begins_decl (expr_token token.kind) ≡ true → decl_step (decl_into d) token ≡ NoDecl
-decl_stops (base_text at x) token h = base_stops at x (expr_token token.kind) h
-decl_stops (short_text at x u) token h =
+decl_stops : (d : DeclSyntax) (token : Token) → begins_decl (expr_token token.kind) ≡ true → decl_step (decl_into d) token ≡ NoDecl
+decl_stops (base_syntax at x) token h = base_stops at x (expr_token token.kind) h
+decl_stops (short_syntax at x u) token h =
     ap (λ w. short_goes at x (unit_act (unit_into [] u) w token.start)) (decl_no_unit token.kind h) ∙ ap (short_goes at x) (other_refused (unit_into [] u) token.start)
-decl_stops (record_decl_text at x vs fs) token h = refl
-decl_stops (function_text f) token h =
+decl_stops (record_decl_syntax at x vs fs) token h = refl
+decl_stops (function_syntax f) token h =
     ap (body_goes f.recursive f.at f.name f.params f.result) (expr_stops (opened [] f.body) (last_atom f.body) (expr_token token.kind) token.start token.glued token.kind h)
 
 -- ---- declarations one behind the other
@@ -51,7 +51,7 @@ leads_then : (a b c : ProgramState) (s t r : List Token) → Leads a s b t → L
 leads_then a b c s t r p q =
     (p.0 ++ q.0, p.1 ∙ ap (λ w. p.0 ++ w) q.1 ∙ sym (append_assoc p.0 q.0 r), runs_append program_step p.0 q.0 a ∙ ap (λ o. runs program_step o q.0) p.2 ∙ q.2)
 
-goes_on : (front : List DeclText) (new : DeclState) (over : ProgramState) → new ≢ NoDecl → program_goes front new over ≡ InProgram front new
+goes_on : (front : List DeclSyntax) (new : DeclState) (over : ProgramState) → new ≢ NoDecl → program_goes front new over ≡ InProgram front new
 goes_on front (AtPlace place) over ok = refl
 goes_on front (HaveBase at x) over ok = refl
 goes_on front (InShort at x u) over ok = refl
@@ -62,25 +62,25 @@ goes_on front (InResult recursive at x ps s) over ok = refl
 goes_on front (InBody recursive at x ps r e) over ok = refl
 goes_on front NoDecl over ok = absurd (ok refl)
 
-decl_inside : (front : List DeclText) (d new : DeclState) (token : Token) → decl_step d token ≡ new → new ≢ NoDecl → program_step (InProgram front d) token ≡ InProgram front new
+decl_inside : (front : List DeclSyntax) (d new : DeclState) (token : Token) → decl_step d token ≡ new → new ≢ NoDecl → program_step (InProgram front d) token ≡ InProgram front new
 decl_inside front d new token e ok =
     let over : ProgramState = next_decl front (decl_finish d) (decl_step (AtPlace DeclBegin) token) in
     ap (λ w. program_goes front w over) e ∙ goes_on front new over ok
 
-into_on : (d : DeclText) → decl_into d ≢ NoDecl
-into_on (base_text at x) e = cc
-into_on (short_text at x u) e = cc
-into_on (record_decl_text at x vs fs) e = cc
-into_on (function_text f) e = cc
+into_on : (d : DeclSyntax) → decl_into d ≢ NoDecl
+into_on (base_syntax at x) e = cc
+into_on (short_syntax at x u) e = cc
+into_on (record_decl_syntax at x vs fs) e = cc
+into_on (function_syntax f) e = cc
 
-begin_apart : (d : DeclText) → AtPlace DeclBegin ≢ decl_into d
-begin_apart (base_text at x) e = cc
-begin_apart (short_text at x u) e = cc
-begin_apart (record_decl_text at x vs fs) e = cc
-begin_apart (function_text f) e = cc
+begin_apart : (d : DeclSyntax) → AtPlace DeclBegin ≢ decl_into d
+begin_apart (base_syntax at x) e = cc
+begin_apart (short_syntax at x u) e = cc
+begin_apart (record_decl_syntax at x vs fs) e = cc
+begin_apart (function_syntax f) e = cc
 
 -- a declaration is read
-leads_decl : (front : List DeclText) (d : DeclText) (tokens rest : List Token) → DeclSpells d tokens rest → DeclFits d → Leads (InProgram front (AtPlace DeclBegin)) tokens (InProgram front (decl_into d)) rest
+leads_decl : (front : List DeclSyntax) (d : DeclSyntax) (tokens rest : List Token) → DeclSpells d tokens rest → DeclFits d → Leads (InProgram front (AtPlace DeclBegin)) tokens (InProgram front (decl_into d)) rest
 leads_decl front d tokens rest s fits =
     let r = decl_leads d tokens rest s fits in
     (r.0, r.1, lift decl_step NoDecl (λ t. refl) program_step (λ w. InProgram front w) (decl_inside front) r.0 (AtPlace DeclBegin) (decl_into d) r.2 (into_on d))
@@ -88,30 +88,30 @@ leads_decl front d tokens rest s fits =
 abbrev FirstPasses : List Token → Type 0
 FirstPasses tokens = (token : Token) × (more : List Token) × (tokens ≡ token ∷ more) × (begins_decl (expr_token token.kind) ≡ true)
 
-decl_first : (d : DeclText) (tokens rest : List Token) → DeclSpells d tokens rest → FirstPasses tokens
-decl_first (base_text at x) tokens rest s = let a = s.2.3 in (a.0, s.2.0, a.2, ap begins_decl a.1)
-decl_first (short_text at x u) tokens rest s = let a = s.4.3 in (a.0, s.4.0, a.2, ap begins_decl a.1)
-decl_first (record_decl_text at x vs fs) tokens rest s = let a = s.6 in (a.0, s.0, a.2, ap begins_decl a.1)
-decl_first (function_text f) tokens rest s = let a = s.6 in (a.0, s.0, a.2, ap begins_decl a.1)
+decl_first : (d : DeclSyntax) (tokens rest : List Token) → DeclSpells d tokens rest → FirstPasses tokens
+decl_first (base_syntax at x) tokens rest s = let a = s.2.3 in (a.0, s.2.0, a.2, ap begins_decl a.1)
+decl_first (short_syntax at x u) tokens rest s = let a = s.4.3 in (a.0, s.4.0, a.2, ap begins_decl a.1)
+decl_first (record_decl_syntax at x vs fs) tokens rest s = let a = s.6 in (a.0, s.0, a.2, ap begins_decl a.1)
+decl_first (function_syntax f) tokens rest s = let a = s.6 in (a.0, s.0, a.2, ap begins_decl a.1)
 
 same_head : (x y : Token) (xs ys : List Token) → x ∷ xs ≡ y ∷ ys → x ≡ y
 same_head x y xs ys e = cc
 
 -- behind a declaration the next begins as at the start
-next_alike : (front : List DeclText) (d : DeclText) (token : Token) → DeclFits d → begins_decl (expr_token token.kind) ≡ true
+next_alike : (front : List DeclSyntax) (d : DeclSyntax) (token : Token) → DeclFits d → begins_decl (expr_token token.kind) ≡ true
     → program_step (InProgram front (decl_into d)) token ≡ program_step (InProgram (front ++ d ∷ []) (AtPlace DeclBegin)) token
 next_alike front d token fits h =
     let begun : DeclState = decl_step (AtPlace DeclBegin) token in
     ap (λ w. program_goes front w (next_decl front (decl_finish (decl_into d)) begun)) (decl_stops d token h) ∙ ap (λ o. next_decl front o begun) (decl_finds d fits)
 
-leads_next : (front : List DeclText) (d e : DeclText) (tokens rest : List Token) → DeclFits d → DeclSpells e tokens rest → DeclFits e → Leads (InProgram front (decl_into d)) tokens (InProgram (front ++ d ∷ []) (decl_into e)) rest
+leads_next : (front : List DeclSyntax) (d e : DeclSyntax) (tokens rest : List Token) → DeclFits d → DeclSpells e tokens rest → DeclFits e → Leads (InProgram front (decl_into d)) tokens (InProgram (front ++ d ∷ []) (decl_into e)) rest
 leads_next front d e tokens rest fit s fits =
     let p = leads_decl (front ++ d ∷ []) e tokens rest s fits in alike p.0 p.1 p.2
   where
     first : FirstPasses tokens
     first = decl_first e tokens rest s
 
-    same_decl : (more : List DeclText) (a b : DeclState) → InProgram more a ≡ InProgram more b → a ≡ b
+    same_decl : (more : List DeclSyntax) (a b : DeclState) → InProgram more a ≡ InProgram more b → a ≡ b
     same_decl more a b h = cc
 
     alike : (read : List Token) → tokens ≡ read ++ rest → runs program_step (InProgram (front ++ d ∷ []) (AtPlace DeclBegin)) read ≡ InProgram (front ++ d ∷ []) (decl_into e)
@@ -123,19 +123,19 @@ leads_next front d e tokens rest fit s fits =
         (x ∷ xs, parts, ap (λ w. runs program_step w xs) (next_alike front d x fit passes) ∙ ends)
 
 -- the state once declarations were read
-abbrev pub program_into : List DeclText → List DeclText → ProgramState
+abbrev pub program_into : List DeclSyntax → List DeclSyntax → ProgramState
 program_into front [] = InProgram front (AtPlace DeclBegin)
 program_into front (d ∷ []) = InProgram front (decl_into d)
 program_into front (d ∷ e ∷ ds) = program_into (front ++ d ∷ []) (e ∷ ds)
 
-more_decls : (ds : List DeclText) (d : DeclText) (front : List DeclText) (tokens rest : List Token) → DeclFits d → DeclsSpell ds tokens rest → DeclsFit ds
+more_decls : (ds : List DeclSyntax) (d : DeclSyntax) (front : List DeclSyntax) (tokens rest : List Token) → DeclFits d → DeclsSpell ds tokens rest → DeclsFit ds
     → Leads (InProgram front (decl_into d)) tokens (program_into front (d ∷ ds)) rest
 more_decls [] d front tokens rest fit s fits = ([], s, refl)
 more_decls (e ∷ ds) d front tokens rest fit s fits =
     leads_then (InProgram front (decl_into d)) (InProgram (front ++ d ∷ []) (decl_into e)) (program_into front (d ∷ e ∷ ds)) tokens s.0 rest (leads_next front d e tokens s.0 fit s.1 fits.0)
     (more_decls ds e (front ++ d ∷ []) s.0 rest fits.0 s.2 fits.1)
 
-pub program_leads : (ds : List DeclText) (tokens rest : List Token) → DeclsSpell ds tokens rest → DeclsFit ds → Leads (InProgram [] (AtPlace DeclBegin)) tokens (program_into [] ds) rest
+pub program_leads : (ds : List DeclSyntax) (tokens rest : List Token) → DeclsSpell ds tokens rest → DeclsFit ds → Leads (InProgram [] (AtPlace DeclBegin)) tokens (program_into [] ds) rest
 program_leads [] tokens rest s fits = ([], s, refl)
 program_leads (d ∷ ds) tokens rest s fits =
     leads_then (InProgram [] (AtPlace DeclBegin)) (InProgram [] (decl_into d)) (program_into [] (d ∷ ds)) tokens s.0 rest (leads_decl [] d tokens s.0 s.1 fits.0)
@@ -143,33 +143,33 @@ program_leads (d ∷ ds) tokens rest s fits =
 
 -- ---- laws
 
-found_one : (front : List DeclText) (d : DeclText) → program_finish (InProgram front (decl_into d)) ≡ program_found front (decl_finish (decl_into d))
-found_one front (base_text at x) = refl
-found_one front (short_text at x u) = refl
-found_one front (record_decl_text at x vs fs) = refl
-found_one front (function_text f) = refl
+found_one : (front : List DeclSyntax) (d : DeclSyntax) → program_finish (InProgram front (decl_into d)) ≡ program_found front (decl_finish (decl_into d))
+found_one front (base_syntax at x) = refl
+found_one front (short_syntax at x u) = refl
+found_one front (record_decl_syntax at x vs fs) = refl
+found_one front (function_syntax f) = refl
 
-finds_all : (ds : List DeclText) (d : DeclText) (front : List DeclText) → DeclsFit (d ∷ ds) → program_finish (program_into front (d ∷ ds)) ≡ Some (front ++ d ∷ ds)
+finds_all : (ds : List DeclSyntax) (d : DeclSyntax) (front : List DeclSyntax) → DeclsFit (d ∷ ds) → program_finish (program_into front (d ∷ ds)) ≡ Some (front ++ d ∷ ds)
 finds_all [] d front fits = found_one front d ∙ ap (program_found front) (decl_finds d fits.0)
 finds_all (e ∷ ds) d front fits = finds_all ds e (front ++ d ∷ []) fits.1 ∙ ap Some (append_assoc front (d ∷ []) (e ∷ ds))
 
-pub program_finds : (ds : List DeclText) → DeclsFit ds → program_finish (program_into [] ds) ≡ Some ds
+pub program_finds : (ds : List DeclSyntax) → DeclsFit ds → program_finish (program_into [] ds) ≡ Some ds
 program_finds [] fits = refl
 program_finds (d ∷ ds) fits = finds_all ds d [] fits
 
-pub reads_as : (ds : List DeclText) (tokens : List Token) → IsProgram tokens ds → runs program_step start tokens ≡ program_into [] ds
+pub reads_as : (ds : List DeclSyntax) (tokens : List Token) → IsProgram tokens ds → runs program_step start tokens ≡ program_into [] ds
 reads_as ds tokens p =
     let r = program_leads ds tokens [] p.spelled p.fits in ap (runs program_step start) (r.1 ∙ append-nil r.0) ∙ r.2
 
 -- a program is found
-pub finds : (tokens : List Token) (ds : List DeclText) → IsProgram tokens ds → program_finish (runs program_step start tokens) ≡ Some ds
+pub finds : (tokens : List Token) (ds : List DeclSyntax) → IsProgram tokens ds → program_finish (runs program_step start tokens) ≡ Some ds
 finds tokens ds p = ap program_finish (reads_as ds tokens p) ∙ program_finds ds p.fits
 
 -- one program per list of tokens
-pub one_program : (tokens : List Token) (ds es : List DeclText) → IsProgram tokens ds → IsProgram tokens es → ds ≡ es
+pub one_program : (tokens : List Token) (ds es : List DeclSyntax) → IsProgram tokens ds → IsProgram tokens es → ds ≡ es
 one_program tokens ds es p q = let e : Some ds ≡ Some es = sym (finds tokens ds p) ∙ finds tokens es q in cc
 
-abbrev no_program : Option (List DeclText)
+abbrev no_program : Option (List DeclSyntax)
 no_program = None
 
 -- what is refused begins no program

@@ -1,7 +1,7 @@
 -- The least height of a program that the tokens begin: it is reached, and none is lower.
 use Rattle.std.proofs.Common.{◌≡◌, ◌≢◌, ℕ, ◌≤◌, max, List, [], ◌∷◌, ◌++◌, Option, Some, None, refl, sym, ap, ◌∙◌, arith}
 use Rattle.um_syntax.specs.declared.token.Token.{Token}
-use Rattle.um_tree.specs.RawTree.{DeclText}
+use Rattle.um_tree.specs.RawTree.{DeclSyntax}
 use Rattle.um_types.specs.Machines.{runs}
 use Rattle.um_types.proofs.Reaching.{runs_append, runs_refused}
 use Rattle.um_parse.specs.DeclGrammar.{IsProgram}
@@ -15,7 +15,7 @@ use Rattle.um_parse.proofs.DeclHeights.{decl_completed_height, decl_up, decl_fou
 use Rattle.um_parse.proofs.ProgramComplete.{program_into, program_finds, reads_as}
 use Rattle.um_parse.proofs.ProgramSound.{ProgramStands, stands, program_ending, program_completed, can_go_on}
 
-height_last : (front : List DeclText) (d : DeclText) → program_height (front ++ d ∷ []) ≡ max (program_height front) (decl_height d)
+height_last : (front : List DeclSyntax) (d : DeclSyntax) → program_height (front ++ d ∷ []) ≡ max (program_height front) (decl_height d)
 height_last [] d = omega arith
 height_last (c ∷ front) d = let e = height_last front d in omega (arith, e)
 
@@ -34,7 +34,7 @@ begins_within read limit ok le =
 
 -- ---- a token never lowers it
 
-goes_up : (front : List DeclText) (low : ℕ) (new : DeclState) (over : ProgramState) → program_goes front new over ≢ NoProgram → (new ≢ NoDecl → low ≤ max (program_height front) (decl_least new))
+goes_up : (front : List DeclSyntax) (low : ℕ) (new : DeclState) (over : ProgramState) → program_goes front new over ≢ NoProgram → (new ≢ NoDecl → low ≤ max (program_height front) (decl_least new))
     → (over ≢ NoProgram → low ≤ program_least over) → low ≤ program_least (program_goes front new over)
 goes_up front low (AtPlace place) over ok up next = up (λ e. cc)
 goes_up front low (HaveBase at x) over ok up next = up (λ e. cc)
@@ -46,7 +46,7 @@ goes_up front low (InResult recursive at x ps s) over ok up next = up (λ e. cc)
 goes_up front low (InBody recursive at x ps r e) over ok up next = up (λ e. cc)
 goes_up front low NoDecl over ok up next = next ok
 
-next_up : (front : List DeclText) (d : DeclState) (found : Option DeclText) (begun : DeclState) → decl_finish d ≡ found → next_decl front found begun ≢ NoProgram
+next_up : (front : List DeclSyntax) (d : DeclState) (found : Option DeclSyntax) (begun : DeclState) → decl_finish d ≡ found → next_decl front found begun ≢ NoProgram
     → program_least (InProgram front d) ≤ program_least (next_decl front found begun)
 next_up front d None begun e ok = absurd (ok refl)
 next_up front d (Some c) begun e ok =
@@ -72,7 +72,7 @@ run_up (x ∷ tokens) st ok =
 
 -- ---- what is found has it
 
-found_last : (front : List DeclText) (d : DeclState) (o : Option DeclText) (ds : List DeclText) → decl_finish d ≡ o → program_found front o ≡ Some ds → program_height ds ≡ max (program_height front) (decl_least d)
+found_last : (front : List DeclSyntax) (d : DeclState) (o : Option DeclSyntax) (ds : List DeclSyntax) → decl_finish d ≡ o → program_found front o ≡ Some ds → program_height ds ≡ max (program_height front) (decl_least d)
 found_last front d (Some c) ds e f =
     let same : front ++ c ∷ [] ≡ ds = cc in
     let last = height_last front c in
@@ -80,7 +80,7 @@ found_last front d (Some c) ds e f =
     ap program_height (sym same) ∙ omega (arith, last, low)
 found_last front d None ds e f = absurd cc
 
-pub found_height : (st : ProgramState) (ds : List DeclText) → program_finish st ≡ Some ds → program_height ds ≡ program_least st
+pub found_height : (st : ProgramState) (ds : List DeclSyntax) → program_finish st ≡ Some ds → program_height ds ≡ program_least st
 found_height (InProgram front (AtPlace DeclBegin)) ds e = let same : front ≡ ds = cc in ap program_height (sym same) ∙ omega arith
 found_height (InProgram front (HaveBase at x)) ds e = found_last front (HaveBase at x) (decl_finish (HaveBase at x)) ds refl e
 found_height (InProgram front (InShort at x u)) ds e = found_last front (InShort at x u) (decl_finish (InShort at x u)) ds refl e
@@ -93,11 +93,11 @@ found_height (InProgram front NoDecl) ds e = absurd cc
 found_height (InProgram front (AtPlace _)) ds e = absurd cc
 found_height NoProgram ds e = absurd cc
 
-abbrev nothing : Option (List DeclText)
+abbrev nothing : Option (List DeclSyntax)
 nothing = None
 
 -- no program that the tokens begin is lower
-pub none_lower : (tokens more : List Token) (ds : List DeclText) → IsProgram (tokens ++ more) ds → program_least (runs program_step start tokens) ≤ program_height ds
+pub none_lower : (tokens more : List Token) (ds : List DeclSyntax) → IsProgram (tokens ++ more) ds → program_least (runs program_step start tokens) ≤ program_height ds
 none_lower tokens more ds p =
     let e : runs program_step (runs program_step start tokens) more ≡ program_into [] ds = sym (runs_append program_step tokens more start) ∙ reads_as ds (tokens ++ more) p in
     let finds : program_finish (program_into [] ds) ≡ Some ds = program_finds ds p.fits in

@@ -4,7 +4,7 @@ use Rattle.std.proofs.lemmas.List.{length-append}
 use Rattle.um_syntax.specs.declared.token.Token.{Token}
 use Rattle.um_tree.specs.declared.expression.Sign.{Sign}
 use Rattle.um_tree.specs.declared.expression.Sign.TheVariants as compare
-use Rattle.um_tree.specs.RawTree.{NoteText, TypeText, BinderText, ExprText, ExprTexts, FieldTexts, truth_text, number_text, name_text, call_text, negate_text, not_text, arith_text, compare_text, and_text, or_text, if_text, let_text, match_text, nil_text, list_text, cons_text, fields_text, field_text, bracket_expr_text, no_exprs, more_exprs, no_fields, more_fields, ParamText, DeclText, base_text, short_text, record_decl_text, function_text}
+use Rattle.um_tree.specs.RawTree.{NoteSyntax, TypeSyntax, BinderSyntax, ExprSyntax, ExprSyntaxes, FieldSyntaxes, truth_syntax, number_syntax, name_syntax, call_syntax, negate_syntax, not_syntax, arith_syntax, compare_syntax, and_syntax, or_syntax, if_syntax, let_syntax, match_syntax, nil_syntax, list_syntax, cons_syntax, fields_syntax, field_syntax, bracket_expr_syntax, no_exprs, more_exprs, no_fields, more_fields, ParamSyntax, DeclSyntax, base_syntax, short_syntax, record_decl_syntax, function_syntax}
 use Rattle.um_tree.specs.Heights.{expr_nodes, all_expr_nodes, all_field_nodes}
 use Rattle.um_types.specs.TypeGrammar.{NoteSpells, NoteFits, TypeSpells, TypeFits}
 use Rattle.um_types.proofs.NoteComplete.{note_reaches}
@@ -33,13 +33,13 @@ at_less what at tokens rest f = one_less f.0 tokens rest f.3
 glued_less : (what : ExprToken) (tokens rest : List Token) → FirstGlued what tokens rest → length tokens ≡ length rest + 1
 glued_less what tokens rest f = one_less f.0 tokens rest f.3
 
-note_less : (n : NoteText) (tokens rest : List Token) → NoteSpells n tokens rest → NoteFits n → length rest ≤ length tokens
+note_less : (n : NoteSyntax) (tokens rest : List Token) → NoteSpells n tokens rest → NoteFits n → length rest ≤ length tokens
 note_less n tokens rest s fits = let r = note_reaches n tokens rest s fits in no_longer r.0 tokens rest r.1
 
-type_less : (t : TypeText) (tokens rest : List Token) → TypeSpells t tokens rest → TypeFits t → length rest ≤ length tokens
+type_less : (t : TypeSyntax) (tokens rest : List Token) → TypeSpells t tokens rest → TypeFits t → length rest ≤ length tokens
 type_less t tokens rest s fits = let r = type_reaches t 0 tokens rest s fits in no_longer r.0 tokens rest r.1
 
-written_less : (n : Option NoteText) (tokens rest : List Token) → WrittenNote n tokens rest → NoteFitsIn n → length rest ≤ length tokens
+written_less : (n : Option NoteSyntax) (tokens rest : List Token) → WrittenNote n tokens rest → NoteFitsIn n → length rest ≤ length tokens
 written_less None tokens rest s fits = let e : length tokens ≡ length rest = ap length s in omega (arith, e)
 written_less (Some n) tokens rest s fits =
     let a = glued_less _ tokens s.0 s.2 in
@@ -77,7 +77,7 @@ empty_arm_less tokens rest s =
     bar (inl e) = let same : length s.0 ≡ length s.1 = ap length e in omega (arith, same)
     bar (inr f) = let less = first_less _ s.0 s.1 f in omega (arith, less)
 
-full_arm_less : (x y : BinderText) (tokens rest : List Token) → FullArm x y tokens rest → length rest ≤ length tokens
+full_arm_less : (x y : BinderSyntax) (tokens rest : List Token) → FullArm x y tokens rest → length rest ≤ length tokens
 full_arm_less x y tokens rest s =
     let a = first_less _ tokens s.0 s.4 in
     let b = at_less _ x.at s.0 s.1 s.5 in
@@ -92,36 +92,36 @@ both_less : (sign : Infix) (flag : Bool) (at n m : ℕ) (tokens mid next rest : 
 both_less sign flag at n m tokens mid next rest a s b = let e = infix_less sign flag at mid next s in omega (arith, a, b, e)
 
 mutual
-  fits_nodes : (t : ExprText) (tokens rest : List Token) → Spells t tokens rest → Fits t → expr_nodes t + length rest ≤ length tokens
-  fits_nodes (truth_text at b) tokens rest s fits = let e = at_less _ at tokens rest s in omega (arith, e)
-  fits_nodes (number_text at c n) tokens rest s fits =
+  fits_nodes : (t : ExprSyntax) (tokens rest : List Token) → Spells t tokens rest → Fits t → expr_nodes t + length rest ≤ length tokens
+  fits_nodes (truth_syntax at b) tokens rest s fits = let e = at_less _ at tokens rest s in omega (arith, e)
+  fits_nodes (number_syntax at c n) tokens rest s fits =
       let a = at_less _ at tokens s.0 s.1 in
       let b = written_less n s.0 rest s.2 fits in
       omega (arith, a, b)
-  fits_nodes (name_text at x) tokens rest s fits = let e = at_less _ at tokens rest s in omega (arith, e)
-  fits_nodes (call_text at f args) tokens rest s fits =
+  fits_nodes (name_syntax at x) tokens rest s fits = let e = at_less _ at tokens rest s in omega (arith, e)
+  fits_nodes (call_syntax at f args) tokens rest s fits =
       let a = at_less _ at tokens s.0 s.1 in
       let b = fits_arguments args s.0 rest s.2 fits.1 in
       omega (arith, a, b)
-  fits_nodes (negate_text at e) tokens rest s fits =
+  fits_nodes (negate_syntax at e) tokens rest s fits =
       let a = at_less _ at tokens s.0 s.1 in
       let b = fits_nodes e s.0 rest s.2 fits.1 in
       omega (arith, a, b)
-  fits_nodes (not_text at e) tokens rest s fits =
+  fits_nodes (not_syntax at e) tokens rest s fits =
       let a = at_less _ at tokens s.0 s.1 in
       let b = fits_nodes e s.0 rest s.2 fits.1 in
       omega (arith, a, b)
-  fits_nodes (arith_text at op a b) tokens rest s fits =
+  fits_nodes (arith_syntax at op a b) tokens rest s fits =
       both_less (between.Arith op) (ends_in_number a) at (expr_nodes a) (expr_nodes b) tokens s.0 s.1 rest (fits_nodes a tokens s.0 s.2 fits.2) s.3 (fits_nodes b s.1 rest s.4 fits.3)
-  fits_nodes (compare_text at sign a b) tokens rest s fits =
+  fits_nodes (compare_syntax at sign a b) tokens rest s fits =
       both_less (between.Compare sign) (ends_in_number a) at (expr_nodes a) (expr_nodes b) tokens s.0 s.1 rest (fits_nodes a tokens s.0 s.2 fits.2) s.3 (fits_nodes b s.1 rest s.4 fits.3)
-  fits_nodes (and_text at a b) tokens rest s fits =
+  fits_nodes (and_syntax at a b) tokens rest s fits =
       both_less between.And (ends_in_number a) at (expr_nodes a) (expr_nodes b) tokens s.0 s.1 rest (fits_nodes a tokens s.0 s.2 fits.2) s.3 (fits_nodes b s.1 rest s.4 fits.3)
-  fits_nodes (or_text at a b) tokens rest s fits =
+  fits_nodes (or_syntax at a b) tokens rest s fits =
       both_less between.Or (ends_in_number a) at (expr_nodes a) (expr_nodes b) tokens s.0 s.1 rest (fits_nodes a tokens s.0 s.2 fits.2) s.3 (fits_nodes b s.1 rest s.4 fits.3)
-  fits_nodes (cons_text at a b) tokens rest s fits =
+  fits_nodes (cons_syntax at a b) tokens rest s fits =
       both_less between.Cons (ends_in_number a) at (expr_nodes a) (expr_nodes b) tokens s.0 s.1 rest (fits_nodes a tokens s.0 s.2 fits.2) s.3 (fits_nodes b s.1 rest s.4 fits.3)
-  fits_nodes (if_text at c a b) tokens rest s fits =
+  fits_nodes (if_syntax at c a b) tokens rest s fits =
       let i = at_less _ at tokens s.0 s.5 in
       let p = fits_nodes c s.0 s.1 s.6 fits.0 in
       let t = first_less _ s.1 s.2 s.7 in
@@ -129,7 +129,7 @@ mutual
       let e = first_less _ s.3 s.4 s.9 in
       let r = fits_nodes b s.4 rest s.10 fits.2 in
       omega (arith, i, p, t, q, e, r)
-  fits_nodes (let_text at x a b) tokens rest s fits =
+  fits_nodes (let_syntax at x a b) tokens rest s fits =
       let l = at_less _ at tokens s.0 s.5 in
       let n = at_less _ x.at s.0 s.1 s.6 in
       let e = first_less _ s.1 s.2 s.7 in
@@ -137,7 +137,7 @@ mutual
       let i = first_less _ s.3 s.4 s.9 in
       let q = fits_nodes b s.4 rest s.10 fits.1 in
       omega (arith, l, n, e, p, i, q)
-  fits_nodes (match_text at l a x y b) tokens rest s fits =
+  fits_nodes (match_syntax at l a x y b) tokens rest s fits =
       let m = at_less _ at tokens s.0 s.5 in
       let p = fits_nodes l s.0 s.1 s.6 fits.0 in
       let e = empty_arm_less s.1 s.2 s.7 in
@@ -145,7 +145,7 @@ mutual
       let f = full_arm_less x y s.3 s.4 s.9 in
       let r = fits_nodes b s.4 rest s.10 fits.2 in
       omega (arith, m, p, e, q, f, r)
-  fits_nodes (nil_text at t) tokens rest s fits =
+  fits_nodes (nil_syntax at t) tokens rest s fits =
       let a = at_less _ at tokens s.0 s.5 in
       let b = first_less _ s.0 s.1 s.6 in
       let c = first_less _ s.1 s.2 s.7 in
@@ -153,42 +153,42 @@ mutual
       let e = type_less t s.3 s.4 s.9 fits in
       let f = first_less _ s.4 rest s.10 in
       omega (arith, a, b, c, d, e, f)
-  fits_nodes (list_text at es) tokens rest s fits =
+  fits_nodes (list_syntax at es) tokens rest s fits =
       let a = at_less _ at tokens s.0 s.2 in
       let b = fits_items es s.0 s.1 s.3 fits in
       let c = first_less _ s.1 rest s.4 in
       omega (arith, a, b, c)
-  fits_nodes (fields_text at fs) tokens rest s fits =
+  fits_nodes (fields_syntax at fs) tokens rest s fits =
       let a = at_less _ at tokens s.0 s.2 in
       let b = fits_fields fs s.0 s.1 s.3 fits in
       let c = first_less _ s.1 rest s.4 in
       omega (arith, a, b, c)
-  fits_nodes (field_text at place x e) tokens rest s fits =
+  fits_nodes (field_syntax at place x e) tokens rest s fits =
       let a = fits_nodes e tokens s.0 s.2 fits.1 in
       let b = at_less _ at s.0 s.1 s.3 in
       let c = at_less _ place s.1 rest s.4 in
       omega (arith, a, b, c)
-  fits_nodes (bracket_expr_text at e) tokens rest s fits =
+  fits_nodes (bracket_expr_syntax at e) tokens rest s fits =
       let a = at_less _ at tokens s.0 s.2 in
       let b = fits_nodes e s.0 s.1 s.3 fits in
       let c = first_less _ s.1 rest s.4 in
       omega (arith, a, b, c)
 
-  fits_arguments : (es : ExprTexts) (tokens rest : List Token) → AllSpell es tokens rest → AreAtoms es → all_expr_nodes es + length rest ≤ length tokens
+  fits_arguments : (es : ExprSyntaxes) (tokens rest : List Token) → AllSpell es tokens rest → AreAtoms es → all_expr_nodes es + length rest ≤ length tokens
   fits_arguments no_exprs tokens rest s fits = let e : length tokens ≡ length rest = ap length s in omega (arith, e)
   fits_arguments (more_exprs e es) tokens rest s fits =
       let a = fits_nodes e tokens s.0 s.1 fits.1 in
       let b = fits_arguments es s.0 rest s.2 fits.2 in
       omega (arith, a, b)
 
-  fits_items : (es : ExprTexts) (tokens rest : List Token) → ItemsSpell es tokens rest → AllFit es → all_expr_nodes es + length rest ≤ length tokens
+  fits_items : (es : ExprSyntaxes) (tokens rest : List Token) → ItemsSpell es tokens rest → AllFit es → all_expr_nodes es + length rest ≤ length tokens
   fits_items no_exprs tokens rest s fits = absurd s
   fits_items (more_exprs e es) tokens rest s fits =
       let a = fits_nodes e tokens s.0 s.1 fits.0 in
       let b = fits_more_items es s.0 rest s.2 fits.1 in
       omega (arith, a, b)
 
-  fits_more_items : (es : ExprTexts) (tokens rest : List Token) → MoreItems es tokens rest → AllFit es → all_expr_nodes es + length rest ≤ length tokens
+  fits_more_items : (es : ExprSyntaxes) (tokens rest : List Token) → MoreItems es tokens rest → AllFit es → all_expr_nodes es + length rest ≤ length tokens
   fits_more_items no_exprs tokens rest s fits = let e : length tokens ≡ length rest = ap length s in omega (arith, e)
   fits_more_items (more_exprs e es) tokens rest s fits =
       let c = first_less _ tokens s.0 s.2 in
@@ -196,7 +196,7 @@ mutual
       let b = fits_more_items es s.1 rest s.4 fits.1 in
       omega (arith, a, b, c)
 
-  fits_fields : (fs : FieldTexts) (tokens rest : List Token) → FieldsSpell fs tokens rest → FieldsFit fs → all_field_nodes fs + length rest ≤ length tokens
+  fits_fields : (fs : FieldSyntaxes) (tokens rest : List Token) → FieldsSpell fs tokens rest → FieldsFit fs → all_field_nodes fs + length rest ≤ length tokens
   fits_fields no_fields tokens rest s fits = absurd s
   fits_fields (more_fields at x e fs) tokens rest s fits =
       let n = at_less _ at tokens s.0 s.3 in
@@ -205,7 +205,7 @@ mutual
       let b = fits_more_fields fs s.2 rest s.6 fits.1 in
       omega (arith, n, q, a, b)
 
-  fits_more_fields : (fs : FieldTexts) (tokens rest : List Token) → MoreFields fs tokens rest → FieldsFit fs → all_field_nodes fs + length rest ≤ length tokens
+  fits_more_fields : (fs : FieldSyntaxes) (tokens rest : List Token) → MoreFields fs tokens rest → FieldsFit fs → all_field_nodes fs + length rest ≤ length tokens
   fits_more_fields no_fields tokens rest s fits = let e : length tokens ≡ length rest = ap length s in omega (arith, e)
   fits_more_fields (more_fields at x e fs) tokens rest s fits =
       let c = first_less _ tokens s.0 s.4 in
@@ -217,7 +217,7 @@ mutual
 
 -- ---- declarations
 
-params_less : (ps : List ParamText) (tokens rest : List Token) → ParamsSpell ps tokens rest → ParamsFit ps → length rest ≤ length tokens
+params_less : (ps : List ParamSyntax) (tokens rest : List Token) → ParamsSpell ps tokens rest → ParamsFit ps → length rest ≤ length tokens
 params_less [] tokens rest s fits = let e : length tokens ≡ length rest = ap length s in omega (arith, e)
 params_less (p ∷ ps) tokens rest s fits =
     let one = s.1 in
@@ -229,7 +229,7 @@ params_less (p ∷ ps) tokens rest s fits =
     let more = params_less ps s.0 rest s.2 fits.1 in
     omega (arith, a, b, c, d, e, more)
 
-result_less : (recursive : Bool) (r : Option TypeText) (tokens rest : List Token) → ResultSpells r tokens rest → ResultFits recursive r → length rest ≤ length tokens
+result_less : (recursive : Bool) (r : Option TypeSyntax) (tokens rest : List Token) → ResultSpells r tokens rest → ResultFits recursive r → length rest ≤ length tokens
 result_less recursive None tokens rest s fits = let e : length tokens ≡ length rest = ap length s in omega (arith, e)
 result_less recursive (Some t) tokens rest s fits =
     let a = first_less _ tokens s.0 s.1 in
@@ -240,14 +240,14 @@ rec_less : (recursive : Bool) (tokens rest : List Token) → RecSpells recursive
 rec_less false tokens rest s = let e : length tokens ≡ length rest = ap length s in omega (arith, e)
 rec_less true tokens rest s = let e = first_less _ tokens rest s in omega (arith, e)
 
-other_less : (d : DeclText) (tokens rest : List Token) → DeclSpells d tokens rest → DeclFits d → length rest ≤ length tokens
+other_less : (d : DeclSyntax) (tokens rest : List Token) → DeclSpells d tokens rest → DeclFits d → length rest ≤ length tokens
 other_less d tokens rest s fits = let p = decl_leads d tokens rest s fits in no_longer p.0 tokens rest p.1
 
-decl_fits : (d : DeclText) (tokens rest : List Token) → DeclSpells d tokens rest → DeclFits d → decl_nodes d + length rest ≤ length tokens
-decl_fits (base_text at x) tokens rest s fits = let e = other_less (base_text at x) tokens rest s fits in omega (arith, e)
-decl_fits (short_text at x u) tokens rest s fits = let e = other_less (short_text at x u) tokens rest s fits in omega (arith, e)
-decl_fits (record_decl_text at x vs fs) tokens rest s fits = let e = other_less (record_decl_text at x vs fs) tokens rest s fits in omega (arith, e)
-decl_fits (function_text f) tokens rest s fits =
+decl_fits : (d : DeclSyntax) (tokens rest : List Token) → DeclSpells d tokens rest → DeclFits d → decl_nodes d + length rest ≤ length tokens
+decl_fits (base_syntax at x) tokens rest s fits = let e = other_less (base_syntax at x) tokens rest s fits in omega (arith, e)
+decl_fits (short_syntax at x u) tokens rest s fits = let e = other_less (short_syntax at x u) tokens rest s fits in omega (arith, e)
+decl_fits (record_decl_syntax at x vs fs) tokens rest s fits = let e = other_less (record_decl_syntax at x vs fs) tokens rest s fits in omega (arith, e)
+decl_fits (function_syntax f) tokens rest s fits =
     let a = first_less _ tokens s.0 s.6 in
     let b = rec_less f.recursive s.0 s.1 s.7 in
     let c = at_less _ f.at s.1 s.2 s.8 in
@@ -257,12 +257,12 @@ decl_fits (function_text f) tokens rest s fits =
     let h = fits_nodes f.body s.5 rest s.12 fits.2 in
     omega (arith, a, b, c, d, e, g, h)
 
-decls_fit : (ds : List DeclText) (tokens rest : List Token) → DeclsSpell ds tokens rest → DeclsFit ds → program_nodes ds + length rest ≤ length tokens
+decls_fit : (ds : List DeclSyntax) (tokens rest : List Token) → DeclsSpell ds tokens rest → DeclsFit ds → program_nodes ds + length rest ≤ length tokens
 decls_fit [] tokens rest s fits = let e : length tokens ≡ length rest = ap length s in omega (arith, e)
 decls_fit (d ∷ ds) tokens rest s fits =
     let a = decl_fits d tokens s.0 s.1 fits.0 in
     let b = decls_fit ds s.0 rest s.2 fits.1 in
     omega (arith, a, b)
 
-pub few_nodes : (tokens : List Token) (ds : List DeclText) → IsProgram tokens ds → program_nodes ds ≤ length tokens
+pub few_nodes : (tokens : List Token) (ds : List DeclSyntax) → IsProgram tokens ds → program_nodes ds ≤ length tokens
 few_nodes tokens ds p = let e = decls_fit ds tokens [] p.spelled p.fits in omega (arith, e)

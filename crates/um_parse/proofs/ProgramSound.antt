@@ -2,7 +2,7 @@
 use Rattle.std.proofs.Common.{◌≡◌, ◌≢◌, List, [], ◌∷◌, ◌++◌, Option, Some, None, refl, sym, subst}
 use Rattle.std.proofs.lemmas.List.{append-nil}
 use Rattle.um_syntax.specs.declared.token.Token.{Token}
-use Rattle.um_tree.specs.RawTree.{DeclText}
+use Rattle.um_tree.specs.RawTree.{DeclSyntax}
 use Rattle.um_types.specs.Machines.{runs}
 use Rattle.um_parse.specs.DeclGrammar.{DeclSpells, DeclsSpell, DeclFits, DeclsFit, IsProgram}
 use Rattle.um_parse.specs.DeclMachine.{DeclBegin, DeclState, AtPlace, HaveBase, InShort, HaveRecord, InField, InParam, InResult, InBody, NoDecl, decl_step, decl_finish, ProgramState, InProgram, NoProgram, program_goes, next_decl, program_step, program_found, program_finish}
@@ -16,15 +16,15 @@ abbrev pub ProgramStands : ProgramState → List Token → List Token → Type 0
 ProgramStands (InProgram front d) tokens rest = (mid : List Token) × DeclsSpell front tokens mid × DeclsFit front × DeclStands d mid rest × (d ≢ NoDecl)
 ProgramStands NoProgram tokens rest = Unit {0}
 
-decls_last : (front : List DeclText) (d : DeclText) (tokens mid rest : List Token) → DeclsSpell front tokens mid → DeclSpells d mid rest → DeclsSpell (front ++ d ∷ []) tokens rest
+decls_last : (front : List DeclSyntax) (d : DeclSyntax) (tokens mid rest : List Token) → DeclsSpell front tokens mid → DeclSpells d mid rest → DeclsSpell (front ++ d ∷ []) tokens rest
 decls_last [] d tokens mid rest e s = (rest, subst (λ w. DeclSpells d w rest) (sym e) s, refl)
 decls_last (c ∷ front) d tokens mid rest h s = (h.0, h.1, decls_last front d h.0 mid rest h.2 s)
 
-decls_fit : (front : List DeclText) (d : DeclText) → DeclsFit front → DeclFits d → DeclsFit (front ++ d ∷ [])
+decls_fit : (front : List DeclSyntax) (d : DeclSyntax) → DeclsFit front → DeclFits d → DeclsFit (front ++ d ∷ [])
 decls_fit [] d h fits = (fits, tt)
 decls_fit (c ∷ front) d h fits = (h.0, decls_fit front d h.1 fits)
 
-goes_sound : (front : List DeclText) (d : DeclState) (over : ProgramState) (tokens mid rest : List Token) → DeclsSpell front tokens mid → DeclsFit front → DeclStands d mid rest
+goes_sound : (front : List DeclSyntax) (d : DeclState) (over : ProgramState) (tokens mid rest : List Token) → DeclsSpell front tokens mid → DeclsFit front → DeclStands d mid rest
     → ProgramStands over tokens rest → ProgramStands (program_goes front d over) tokens rest
 goes_sound front (AtPlace place) over tokens mid rest s f h o = (mid, s, f, h, λ e. cc)
 goes_sound front (HaveBase at x) over tokens mid rest s f h o = (mid, s, f, h, λ e. cc)
@@ -36,7 +36,7 @@ goes_sound front (InResult recursive at x ps t) over tokens mid rest s f h o = (
 goes_sound front (InBody recursive at x ps r t) over tokens mid rest s f h o = (mid, s, f, h, λ e. cc)
 goes_sound front NoDecl over tokens mid rest s f h o = o
 
-next_sound : (front : List DeclText) (d : DeclState) (found : Option DeclText) (x : Token) (tokens mid rest : List Token) → DeclsSpell front tokens mid → DeclsFit front → DeclStands d mid (x ∷ rest)
+next_sound : (front : List DeclSyntax) (d : DeclState) (found : Option DeclSyntax) (x : Token) (tokens mid rest : List Token) → DeclsSpell front tokens mid → DeclsFit front → DeclStands d mid (x ∷ rest)
     → decl_finish d ≡ found → ProgramStands (next_decl front found (decl_step (AtPlace DeclBegin) x)) tokens rest
 next_sound front d None x tokens mid rest s f h e = tt
 next_sound front d (Some c) x tokens mid rest s f h e =
@@ -67,7 +67,7 @@ abbrev pub program_ending : ProgramState → List Token
 program_ending (InProgram front d) = decl_ending d
 program_ending NoProgram = []
 
-abbrev pub program_completed : ProgramState → List DeclText
+abbrev pub program_completed : ProgramState → List DeclSyntax
 program_completed (InProgram front d) = front ++ decl_completed d ∷ []
 program_completed NoProgram = []
 
@@ -91,18 +91,18 @@ begins read ok = (program_ending (runs program_step start read), program_complet
 
 -- ---- what is found
 
-found_is : (front : List DeclText) (o : Option DeclText) (ds : List DeclText) → program_found front o ≡ Some ds → (d : DeclText) × (o ≡ Some d) × (front ++ d ∷ [] ≡ ds)
+found_is : (front : List DeclSyntax) (o : Option DeclSyntax) (ds : List DeclSyntax) → program_found front o ≡ Some ds → (d : DeclSyntax) × (o ≡ Some d) × (front ++ d ∷ [] ≡ ds)
 found_is front (Some d) ds e = (d, refl, cc)
 found_is front None ds e = absurd cc
 
-decls_found : (front : List DeclText) (d : DeclState) (ds : List DeclText) (tokens rest : List Token) → ProgramStands (InProgram front d) tokens rest → program_found front (decl_finish d) ≡ Some ds
+decls_found : (front : List DeclSyntax) (d : DeclState) (ds : List DeclSyntax) (tokens rest : List Token) → ProgramStands (InProgram front d) tokens rest → program_found front (decl_finish d) ≡ Some ds
     → DeclsSpell ds tokens rest × DeclsFit ds
 decls_found front d ds tokens rest h e =
     let w = found_is front (decl_finish d) ds e in
     let p = decl_found d w.0 h.0 rest h.3 w.1 in
     subst (λ cs. DeclsSpell cs tokens rest × DeclsFit cs) w.2 (decls_last front w.0 tokens h.0 rest h.1 p.0, decls_fit front w.0 h.2 p.1)
 
-program_is : (st : ProgramState) (ds : List DeclText) (tokens rest : List Token) → ProgramStands st tokens rest → program_finish st ≡ Some ds → DeclsSpell ds tokens rest × DeclsFit ds
+program_is : (st : ProgramState) (ds : List DeclSyntax) (tokens rest : List Token) → ProgramStands st tokens rest → program_finish st ≡ Some ds → DeclsSpell ds tokens rest × DeclsFit ds
 program_is (InProgram front (AtPlace DeclBegin)) ds tokens rest h e =
     let same : front ≡ ds = cc in
     subst (λ cs. DeclsSpell cs tokens rest × DeclsFit cs) same (subst (λ w. DeclsSpell front tokens w) h.3.0 h.1, h.2)
@@ -118,7 +118,7 @@ program_is (InProgram front (AtPlace _)) ds tokens rest h e = absurd cc
 program_is NoProgram ds tokens rest h e = absurd cc
 
 -- what is found is a program
-pub found : (tokens : List Token) (ds : List DeclText) → program_finish (runs program_step start tokens) ≡ Some ds → IsProgram tokens ds
+pub found : (tokens : List Token) (ds : List DeclSyntax) → program_finish (runs program_step start tokens) ≡ Some ds → IsProgram tokens ds
 found tokens ds e =
     let p = program_is (runs program_step start tokens) ds tokens [] (subst (λ w. ProgramStands (runs program_step start tokens) w []) (append-nil tokens) (stands tokens [])) e in
     record { spelled = p.0; fits = p.1 }

@@ -3,7 +3,7 @@ use Rattle.std.proofs.Common.{◌≡◌, ◌≢◌, ℕ, ◌+◌, ◌≤◌, ◌
 use Rattle.std.proofs.lemmas.List.{take_more}
 use Rattle.um_syntax.specs.declared.token.Token.{Token}
 use Rattle.um_tree.specs.declared.raw.RawDecl.{RawDecl}
-use Rattle.um_tree.specs.RawTree.{DeclText, decl_text}
+use Rattle.um_tree.specs.RawTree.{DeclSyntax, decl_syntax}
 use Rattle.um_types.specs.Machines.{runs}
 use Rattle.um_types.proofs.Reaching.{runs_append}
 use Rattle.um_parse.specs.DeclMachine.{DeclBegin, AttributeWord, AttributeGreater, AttributeClose, MeasureType, MeasureName, RecordName, RecordVars, VarBegin, VarWord, VarGreater, VarClose, VarName, VarEnd, RecordEqual, RecordBrace, FieldName, FieldColon, LetName, RecName, Params, ParamBinder, ParamColon, DeclState, AtPlace, HaveBase, InShort, HaveRecord, InField, InParam, InResult, InBody, NoDecl, decl_finish, ProgramState, InProgram, NoProgram, program_goes, program_step, program_found, program_finish}
@@ -16,7 +16,7 @@ use Rattle.um_parse.specs.declared.decl_take.DeclReader.{DeclReader}
 use Rattle.um_parse.specs.declared.program_loop.ProgramStep.TheVariants as step
 use Rattle.um_parse.proofs.DeclTaken.{reader_low, reader_goes}
 
-program_on : (front : List DeclText) (d : DeclState) (ended : ProgramState) → d ≢ NoDecl → program_goes front d ended ≡ InProgram front d
+program_on : (front : List DeclSyntax) (d : DeclState) (ended : ProgramState) → d ≢ NoDecl → program_goes front d ended ≡ InProgram front d
 program_on front (AtPlace place) ended ok = refl
 program_on front (HaveBase at x) ended ok = refl
 program_on front (InShort at x u) ended ok = refl
@@ -28,30 +28,30 @@ program_on front (InBody recursive at x ps r e) ended ok = refl
 program_on front NoDecl ended ok = absurd (ok refl)
 
 -- the declaration goes on
-pub goes_in : (front : List RawDecl) (d : DeclState) (ended : ProgramState) (r : DeclReader) → d ≡ reader_state r → program_height (map decl_text front) ≤ 400
-    → ProgramTakes (program_goes (map decl_text front) d ended) front (step.Goes r)
+pub goes_in : (front : List RawDecl) (d : DeclState) (ended : ProgramState) (r : DeclReader) → d ≡ reader_state r → program_height (map decl_syntax front) ≤ 400
+    → ProgramTakes (program_goes (map decl_syntax front) d ended) front (step.Goes r)
 goes_in front d ended r e low =
-    let same : program_goes (map decl_text front) d ended ≡ program_state front r =
-    ap (λ s. program_goes (map decl_text front) s ended) e ∙ program_on (map decl_text front) (reader_state r) ended (reader_goes r)
+    let same : program_goes (map decl_syntax front) d ended ≡ program_state front r =
+    ap (λ s. program_goes (map decl_syntax front) s ended) e ∙ program_on (map decl_syntax front) (reader_state r) ended (reader_goes r)
     in
     let least = ap program_least same in
     (same, omega (arith, least, low, reader_low r))
 
 -- it is too high
-pub high_in : (front : List RawDecl) (d : DeclState) (ended : ProgramState) → d ≢ NoDecl → 400 < decl_least d → ProgramTakes (program_goes (map decl_text front) d ended) front step.High
+pub high_in : (front : List RawDecl) (d : DeclState) (ended : ProgramState) → d ≢ NoDecl → 400 < decl_least d → ProgramTakes (program_goes (map decl_syntax front) d ended) front step.High
 high_in front d ended ok high =
-    let same : program_goes (map decl_text front) d ended ≡ InProgram (map decl_text front) d = program_on (map decl_text front) d ended ok in
+    let same : program_goes (map decl_syntax front) d ended ≡ InProgram (map decl_syntax front) d = program_on (map decl_syntax front) d ended ok in
     let least = ap program_least same in
-    ((λ h. let bad : InProgram (map decl_text front) d ≡ NoProgram = sym same ∙ h in cc), omega (arith, least, high))
+    ((λ h. let bad : InProgram (map decl_syntax front) d ≡ NoProgram = sym same ∙ h in cc), omega (arith, least, high))
 
 -- the heights with a declaration more
-pub decls_last : (front : List RawDecl) (d : RawDecl) → program_height (map decl_text (front ++ d ∷ [])) ≡ max (program_height (map decl_text front)) (decl_height (decl_text d))
+pub decls_last : (front : List RawDecl) (d : RawDecl) → program_height (map decl_syntax (front ++ d ∷ [])) ≡ max (program_height (map decl_syntax front)) (decl_height (decl_syntax d))
 decls_last [] d = omega arith
 decls_last (c ∷ front) d = let e = decls_last front d in omega (arith, e)
 
-pub decl_texts_last : (front : List RawDecl) (d : RawDecl) → map decl_text (front ++ d ∷ []) ≡ map decl_text front ++ decl_text d ∷ []
+pub decl_texts_last : (front : List RawDecl) (d : RawDecl) → map decl_syntax (front ++ d ∷ []) ≡ map decl_syntax front ++ decl_syntax d ∷ []
 decl_texts_last [] d = refl
-decl_texts_last (c ∷ front) d = ap (λ ds. decl_text c ∷ ds) (decl_texts_last front d)
+decl_texts_last (c ∷ front) d = ap (λ ds. decl_syntax c ∷ ds) (decl_texts_last front d)
 
 -- ---- the loop
 
@@ -68,7 +68,7 @@ is_read_to tokens i front reader le e low = (le, (λ h. program_on_reader front 
 
 -- ---- the end
 
-found_with : (front : List DeclText) (d : DeclState) → at_start d ≡ false → program_finish (InProgram front d) ≡ program_found front (decl_finish d)
+found_with : (front : List DeclSyntax) (d : DeclState) → at_start d ≡ false → program_finish (InProgram front d) ≡ program_found front (decl_finish d)
 found_with front (AtPlace DeclBegin) later = absurd cc
 found_with front (AtPlace AttributeWord) later = refl
 found_with front (AtPlace AttributeGreater) later = refl
@@ -101,12 +101,12 @@ found_with front (InResult recursive at x ps s) later = refl
 found_with front (InBody recursive at x ps r e) later = refl
 found_with front NoDecl later = refl
 
-pub reader_found : (front : List RawDecl) (reader : DeclReader) → at_start (reader_state reader) ≡ false → program_finish (program_state front reader) ≡ program_found (map decl_text front) (decl_finish (reader_state reader))
-reader_found front reader later = found_with (map decl_text front) (reader_state reader) later
+pub reader_found : (front : List RawDecl) (reader : DeclReader) → at_start (reader_state reader) ≡ false → program_finish (program_state front reader) ≡ program_found (map decl_syntax front) (decl_finish (reader_state reader))
+reader_found front reader later = found_with (map decl_syntax front) (reader_state reader) later
 
-start_finish : (front : List DeclText) (d : DeclState) → at_start d ≡ true → program_finish (InProgram front d) ≡ Some front
+start_finish : (front : List DeclSyntax) (d : DeclState) → at_start d ≡ true → program_finish (InProgram front d) ≡ Some front
 start_finish front (AtPlace DeclBegin) here = refl
 start_finish front _ here = absurd cc
 
-pub start_found : (front : List RawDecl) (reader : DeclReader) → at_start (reader_state reader) ≡ true → program_finish (program_state front reader) ≡ Some (map decl_text front)
-start_found front reader here = start_finish (map decl_text front) (reader_state reader) here
+pub start_found : (front : List RawDecl) (reader : DeclReader) → at_start (reader_state reader) ≡ true → program_finish (program_state front reader) ≡ Some (map decl_syntax front)
+start_found front reader here = start_finish (map decl_syntax front) (reader_state reader) here

@@ -2,7 +2,7 @@
 use Rattle.std.proofs.Common.{◌≡◌, ◌≢◌, ℕ, ◌+◌, ◌≤◌, ◌<◌, List, length, take, Option, Some, None, sym, subst, ◌∙◌, arith}
 use Rattle.std.proofs.lemmas.List.{take_all}
 use Rattle.um_syntax.specs.declared.token.Token.{Token}
-use Rattle.um_tree.specs.RawTree.{DeclText}
+use Rattle.um_tree.specs.RawTree.{DeclSyntax}
 use Rattle.um_types.specs.UnitStops.{greatest_height}
 use Rattle.um_types.specs.declared.parse.LimitKind.{LimitKind}
 use Rattle.um_parse.specs.DeclGrammar.{IsProgram}
@@ -17,7 +17,7 @@ use Rattle.um_parse.proofs.ProgramComplete.{none_begins, finds, one_program}
 use Rattle.um_parse.proofs.ProgramSound.{begins, found}
 use Rattle.um_parse.proofs.ProgramLow.{begins_within, none_lower, found_height}
 
-abbrev nothing : Option (List DeclText)
+abbrev nothing : Option (List DeclSyntax)
 nothing = None
 
 -- all tokens are the first so many
@@ -47,17 +47,17 @@ too_high tokens k r lt ok high = record {
 }
 
 -- the program, where all is read
-pub is_program : (tokens : List Token) (k : ℕ) (ds : List DeclText) → k ≡ length tokens → program_finish (state_at tokens k) ≡ Some ds → IsProgram tokens ds
+pub is_program : (tokens : List Token) (k : ℕ) (ds : List DeclSyntax) → k ≡ length tokens → program_finish (state_at tokens k) ≡ Some ds → IsProgram tokens ds
 is_program tokens k ds e f = subst (λ w. IsProgram w ds) (all_tokens tokens k e) (found (take k tokens) ds f)
 
-is_low : (tokens : List Token) (k : ℕ) (ds : List DeclText) → IsReadTo tokens k → program_finish (state_at tokens k) ≡ Some ds → program_height ds ≤ greatest_height
+is_low : (tokens : List Token) (k : ℕ) (ds : List DeclSyntax) → IsReadTo tokens k → program_finish (state_at tokens k) ≡ Some ds → program_height ds ≤ greatest_height
 is_low tokens k ds r f = let same = found_height (state_at tokens k) ds f in let le = r.2 in omega (arith, same, le)
 
-pub is_read : (tokens : List Token) (k : ℕ) (ds : List DeclText) → IsReadTo tokens k → k ≡ length tokens → program_finish (state_at tokens k) ≡ Some ds → WithinLimits 0 ds → IsRead tokens ds
+pub is_read : (tokens : List Token) (k : ℕ) (ds : List DeclSyntax) → IsReadTo tokens k → k ≡ length tokens → program_finish (state_at tokens k) ≡ Some ds → WithinLimits 0 ds → IsRead tokens ds
 is_read tokens k ds r e f small =
     let p = is_program tokens k ds e f in
     record { is = p; only = λ other q. one_program tokens other ds q p; low = is_low tokens k ds r f; small = small }
 
-pub is_large : (tokens : List Token) (k : ℕ) (ds : List DeclText) (kind : LimitKind) (at : ℕ) → IsReadTo tokens k → k ≡ length tokens → program_finish (state_at tokens k) ≡ Some ds → PassesAt 0 ds kind at
+pub is_large : (tokens : List Token) (k : ℕ) (ds : List DeclSyntax) (kind : LimitKind) (at : ℕ) → IsReadTo tokens k → k ≡ length tokens → program_finish (state_at tokens k) ≡ Some ds → PassesAt 0 ds kind at
     → IsLarge tokens kind at
 is_large tokens k ds kind at r e f passes = record { ds = ds; is = is_program tokens k ds e f; low = is_low tokens k ds r f; passes = passes }

@@ -5,7 +5,7 @@ use Rattle.std.specs.Prelude.{ℕ, Bool, true, false, List, [], ◌∷◌, ◌++
 use Rattle.um_syntax.specs.declared.token.Token.{Token}
 use Rattle.um_syntax.specs.declared.token.Kind.{Kind}
 use Rattle.um_tree.specs.declared.expression.Sign.TheVariants as compare
-use Rattle.um_tree.specs.RawTree.{UnitText, TypeText, BinderText, ExprText, VarText, FieldDeclText, ParamText, DeclText, base_text, short_text, record_decl_text, function_text}
+use Rattle.um_tree.specs.RawTree.{UnitSyntax, TypeSyntax, BinderSyntax, ExprSyntax, VarSyntax, FieldDeclSyntax, ParamSyntax, DeclSyntax, base_syntax, short_syntax, record_decl_syntax, function_syntax}
 use Rattle.um_types.specs.UnitTokens.{unit_token}
 use Rattle.um_types.specs.UnitMachine.{State as UnitState, Need as NeedUnit, Refused as NoUnit, act as unit_act, finish as unit_finish}
 use Rattle.um_types.specs.TypeMachine.{TypeState, NeedType, NoType, type_act, type_finish}
@@ -27,39 +27,39 @@ pub data DeclPlace : Type 0 where
   RecordName : DeclPlace
   RecordVars : (at : ℕ) (x : List ℕ) → DeclPlace
   -- behind `<` or `,` and these parameters; `[<`; `Measure`; `>`; `]`; behind a parameter
-  VarBegin : (at : ℕ) (x : List ℕ) (vs : List VarText) → DeclPlace
-  VarWord : (at : ℕ) (x : List ℕ) (vs : List VarText) → DeclPlace
-  VarGreater : (at : ℕ) (x : List ℕ) (vs : List VarText) → DeclPlace
-  VarClose : (at : ℕ) (x : List ℕ) (vs : List VarText) → DeclPlace
-  VarName : (at : ℕ) (x : List ℕ) (vs : List VarText) → DeclPlace
-  VarEnd : (at : ℕ) (x : List ℕ) (vs : List VarText) → DeclPlace
+  VarBegin : (at : ℕ) (x : List ℕ) (vs : List VarSyntax) → DeclPlace
+  VarWord : (at : ℕ) (x : List ℕ) (vs : List VarSyntax) → DeclPlace
+  VarGreater : (at : ℕ) (x : List ℕ) (vs : List VarSyntax) → DeclPlace
+  VarClose : (at : ℕ) (x : List ℕ) (vs : List VarSyntax) → DeclPlace
+  VarName : (at : ℕ) (x : List ℕ) (vs : List VarSyntax) → DeclPlace
+  VarEnd : (at : ℕ) (x : List ℕ) (vs : List VarSyntax) → DeclPlace
   -- behind the parameters; `=`; `{` or `;` and these fields; behind a field's name
-  RecordEqual : (at : ℕ) (x : List ℕ) (vs : List VarText) → DeclPlace
-  RecordBrace : (at : ℕ) (x : List ℕ) (vs : List VarText) → DeclPlace
-  FieldName : (at : ℕ) (x : List ℕ) (vs : List VarText) (fs : List FieldDeclText) → DeclPlace
-  FieldColon : (at : ℕ) (x : List ℕ) (vs : List VarText) (fs : List FieldDeclText) (place : ℕ) (y : List ℕ) → DeclPlace
+  RecordEqual : (at : ℕ) (x : List ℕ) (vs : List VarSyntax) → DeclPlace
+  RecordBrace : (at : ℕ) (x : List ℕ) (vs : List VarSyntax) → DeclPlace
+  FieldName : (at : ℕ) (x : List ℕ) (vs : List VarSyntax) (fs : List FieldDeclSyntax) → DeclPlace
+  FieldColon : (at : ℕ) (x : List ℕ) (vs : List VarSyntax) (fs : List FieldDeclSyntax) (place : ℕ) (y : List ℕ) → DeclPlace
   -- behind `let`; `rec`; the name and these parameters; `(`; behind the binder
   LetName : DeclPlace
   RecName : DeclPlace
-  Params : (recursive : Bool) (at : ℕ) (x : List ℕ) (ps : List ParamText) → DeclPlace
-  ParamBinder : (recursive : Bool) (at : ℕ) (x : List ℕ) (ps : List ParamText) → DeclPlace
-  ParamColon : (recursive : Bool) (at : ℕ) (x : List ℕ) (ps : List ParamText) (b : BinderText) → DeclPlace
+  Params : (recursive : Bool) (at : ℕ) (x : List ℕ) (ps : List ParamSyntax) → DeclPlace
+  ParamBinder : (recursive : Bool) (at : ℕ) (x : List ℕ) (ps : List ParamSyntax) → DeclPlace
+  ParamColon : (recursive : Bool) (at : ℕ) (x : List ℕ) (ps : List ParamSyntax) (b : BinderSyntax) → DeclPlace
 
 pub data DeclState : Type 0 where
   AtPlace : (place : DeclPlace) → DeclState
   -- a measure that may still be an abbreviation; the unit text of an abbreviation; a whole record
   HaveBase : (at : ℕ) (x : List ℕ) → DeclState
   InShort : (at : ℕ) (x : List ℕ) (unit : UnitState) → DeclState
-  HaveRecord : (at : ℕ) (x : List ℕ) (vs : List VarText) (fs : List FieldDeclText) → DeclState
+  HaveRecord : (at : ℕ) (x : List ℕ) (vs : List VarSyntax) (fs : List FieldDeclSyntax) → DeclState
   -- in the type of a field, of a parameter, of a result; in a body
-  InField : (at : ℕ) (x : List ℕ) (vs : List VarText) (fs : List FieldDeclText) (place : ℕ) (y : List ℕ) (s : TypeState) → DeclState
-  InParam : (recursive : Bool) (at : ℕ) (x : List ℕ) (ps : List ParamText) (b : BinderText) (s : TypeState) → DeclState
-  InResult : (recursive : Bool) (at : ℕ) (x : List ℕ) (ps : List ParamText) (s : TypeState) → DeclState
-  InBody : (recursive : Bool) (at : ℕ) (x : List ℕ) (ps : List ParamText) (result : Option TypeText) (e : State) → DeclState
+  InField : (at : ℕ) (x : List ℕ) (vs : List VarSyntax) (fs : List FieldDeclSyntax) (place : ℕ) (y : List ℕ) (s : TypeState) → DeclState
+  InParam : (recursive : Bool) (at : ℕ) (x : List ℕ) (ps : List ParamSyntax) (b : BinderSyntax) (s : TypeState) → DeclState
+  InResult : (recursive : Bool) (at : ℕ) (x : List ℕ) (ps : List ParamSyntax) (s : TypeState) → DeclState
+  InBody : (recursive : Bool) (at : ℕ) (x : List ℕ) (ps : List ParamSyntax) (result : Option TypeSyntax) (e : State) → DeclState
   NoDecl : DeclState
 
 -- `=` behind the parameters: a function with `rec` has a result type
-abbrev pub body_begins : Bool → ℕ → List ℕ → List ParamText → DeclState
+abbrev pub body_begins : Bool → ℕ → List ℕ → List ParamSyntax → DeclState
 body_begins true at x ps = NoDecl
 body_begins false at x ps = InBody false at x ps None (Need [])
 
@@ -103,22 +103,22 @@ base_after at x (operator (between.Compare compare.Eq)) = InShort at x (NeedUnit
 base_after at x _ = NoDecl
 
 -- the token behind a type
-abbrev pub with_field_decl : List FieldDeclText → ℕ → List ℕ → TypeText → List FieldDeclText
+abbrev pub with_field_decl : List FieldDeclSyntax → ℕ → List ℕ → TypeSyntax → List FieldDeclSyntax
 with_field_decl fs place y t = fs ++ (record { at = place; name = y; type = t }) ∷ []
 
-abbrev pub with_param : List ParamText → BinderText → TypeText → List ParamText
+abbrev pub with_param : List ParamSyntax → BinderSyntax → TypeSyntax → List ParamSyntax
 with_param ps b t = ps ++ (record { binder = b; type = t }) ∷ []
 
-abbrev pub field_ends : ℕ → List ℕ → List VarText → List FieldDeclText → ℕ → List ℕ → Option TypeText → ExprToken → DeclState
+abbrev pub field_ends : ℕ → List ℕ → List VarSyntax → List FieldDeclSyntax → ℕ → List ℕ → Option TypeSyntax → ExprToken → DeclState
 field_ends at x vs fs place y (Some t) (plain mark.Semi) = AtPlace (FieldName at x vs (with_field_decl fs place y t))
 field_ends at x vs fs place y (Some t) (plain mark.RecordClose) = HaveRecord at x vs (with_field_decl fs place y t)
 field_ends at x vs fs place y _ _ = NoDecl
 
-abbrev pub param_ends : Bool → ℕ → List ℕ → List ParamText → BinderText → Option TypeText → ExprToken → DeclState
+abbrev pub param_ends : Bool → ℕ → List ℕ → List ParamSyntax → BinderSyntax → Option TypeSyntax → ExprToken → DeclState
 param_ends recursive at x ps b (Some t) (plain mark.Close) = AtPlace (Params recursive at x (with_param ps b t))
 param_ends recursive at x ps b _ _ = NoDecl
 
-abbrev pub result_ends : Bool → ℕ → List ℕ → List ParamText → Option TypeText → ExprToken → DeclState
+abbrev pub result_ends : Bool → ℕ → List ℕ → List ParamSyntax → Option TypeSyntax → ExprToken → DeclState
 result_ends recursive at x ps (Some t) (operator (between.Compare compare.Eq)) = InBody recursive at x ps (Some t) (Need [])
 result_ends recursive at x ps _ _ = NoDecl
 
@@ -127,19 +127,19 @@ abbrev pub short_goes : ℕ → List ℕ → UnitState → DeclState
 short_goes at x NoUnit = NoDecl
 short_goes at x u = InShort at x u
 
-abbrev pub field_goes : ℕ → List ℕ → List VarText → List FieldDeclText → ℕ → List ℕ → TypeState → DeclState → DeclState
+abbrev pub field_goes : ℕ → List ℕ → List VarSyntax → List FieldDeclSyntax → ℕ → List ℕ → TypeState → DeclState → DeclState
 field_goes at x vs fs place y NoType ended = ended
 field_goes at x vs fs place y s ended = InField at x vs fs place y s
 
-abbrev pub param_goes : Bool → ℕ → List ℕ → List ParamText → BinderText → TypeState → DeclState → DeclState
+abbrev pub param_goes : Bool → ℕ → List ℕ → List ParamSyntax → BinderSyntax → TypeState → DeclState → DeclState
 param_goes recursive at x ps b NoType ended = ended
 param_goes recursive at x ps b s ended = InParam recursive at x ps b s
 
-abbrev pub result_goes : Bool → ℕ → List ℕ → List ParamText → TypeState → DeclState → DeclState
+abbrev pub result_goes : Bool → ℕ → List ℕ → List ParamSyntax → TypeState → DeclState → DeclState
 result_goes recursive at x ps NoType ended = ended
 result_goes recursive at x ps s ended = InResult recursive at x ps s
 
-abbrev pub body_goes : Bool → ℕ → List ℕ → List ParamText → Option TypeText → State → DeclState
+abbrev pub body_goes : Bool → ℕ → List ℕ → List ParamSyntax → Option TypeSyntax → State → DeclState
 body_goes recursive at x ps r Refused = NoDecl
 body_goes recursive at x ps r e = InBody recursive at x ps r e
 
@@ -159,33 +159,33 @@ abbrev pub decl_step : DeclState → Token → DeclState
 decl_step state token = decl_act state (expr_token token.kind) token.start token.glued token.kind
 
 -- the declaration where all is read
-abbrev pub short_found : ℕ → List ℕ → Option UnitText → Option DeclText
+abbrev pub short_found : ℕ → List ℕ → Option UnitSyntax → Option DeclSyntax
 short_found at x None = None
-short_found at x (Some u) = Some (short_text at x u)
+short_found at x (Some u) = Some (short_syntax at x u)
 
-abbrev pub body_found : Bool → ℕ → List ℕ → List ParamText → Option TypeText → Option ExprText → Option DeclText
+abbrev pub body_found : Bool → ℕ → List ℕ → List ParamSyntax → Option TypeSyntax → Option ExprSyntax → Option DeclSyntax
 body_found recursive at x ps r None = None
-body_found recursive at x ps r (Some e) = Some (function_text (record { at = at; name = x; recursive = recursive; params = ps; result = r; body = e }))
+body_found recursive at x ps r (Some e) = Some (function_syntax (record { at = at; name = x; recursive = recursive; params = ps; result = r; body = e }))
 
-abbrev pub decl_finish : DeclState → Option DeclText
-decl_finish (HaveBase at x) = Some (base_text at x)
+abbrev pub decl_finish : DeclState → Option DeclSyntax
+decl_finish (HaveBase at x) = Some (base_syntax at x)
 decl_finish (InShort at x u) = short_found at x (unit_finish u)
-decl_finish (HaveRecord at x vs fs) = Some (record_decl_text at x vs fs)
+decl_finish (HaveRecord at x vs fs) = Some (record_decl_syntax at x vs fs)
 decl_finish (InBody recursive at x ps r e) = body_found recursive at x ps r (finish e)
 decl_finish _ = None
 
 -- declarations, and the one that is read
 pub data ProgramState : Type 0 where
-  InProgram : (front : List DeclText) (decl : DeclState) → ProgramState
+  InProgram : (front : List DeclSyntax) (decl : DeclState) → ProgramState
   NoProgram : ProgramState
 
 -- the declaration goes on, or not
-abbrev pub program_goes : List DeclText → DeclState → ProgramState → ProgramState
+abbrev pub program_goes : List DeclSyntax → DeclState → ProgramState → ProgramState
 program_goes front NoDecl ended = ended
 program_goes front d ended = InProgram front d
 
 -- the token that a declaration refused, where it begins the next
-abbrev pub next_decl : List DeclText → Option DeclText → DeclState → ProgramState
+abbrev pub next_decl : List DeclSyntax → Option DeclSyntax → DeclState → ProgramState
 next_decl front None begun = NoProgram
 next_decl front (Some d) begun = program_goes (front ++ d ∷ []) begun NoProgram
 
@@ -194,11 +194,11 @@ program_step (InProgram front d) token = program_goes front (decl_step d token) 
 program_step NoProgram token = NoProgram
 
 -- the program where all is read
-abbrev pub program_found : List DeclText → Option DeclText → Option (List DeclText)
+abbrev pub program_found : List DeclSyntax → Option DeclSyntax → Option (List DeclSyntax)
 program_found front None = None
 program_found front (Some d) = Some (front ++ d ∷ [])
 
-abbrev pub program_finish : ProgramState → Option (List DeclText)
+abbrev pub program_finish : ProgramState → Option (List DeclSyntax)
 program_finish (InProgram front (AtPlace DeclBegin)) = Some front
 program_finish (InProgram front d) = program_found front (decl_finish d)
 program_finish NoProgram = None

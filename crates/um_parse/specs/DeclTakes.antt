@@ -1,7 +1,7 @@
 -- What one token more gives while a declaration is read.
 -- Source: this project's own.
 use Rattle.std.specs.Prelude.{◌≡◌, ◌≢◌, ◌<◌, Option, option_map}
-use Rattle.um_tree.specs.RawTree.{DeclText, decl_text, binder_text, written_type}
+use Rattle.um_tree.specs.RawTree.{DeclSyntax, decl_syntax, binder_syntax, written_type}
 use Rattle.um_types.specs.UnitStops.{greatest_height}
 use Rattle.um_types.specs.UnitTakes.{unit_state}
 use Rattle.um_types.specs.TypeTakes.{type_state}
@@ -21,12 +21,12 @@ reader_state (reader.Base at x) = HaveBase at x
 reader_state (reader.Short s) = InShort s.at s.name (unit_state s.unit)
 reader_state (reader.Record f) = HaveRecord f.head.at f.head.name (head_vars f.head) (read_fields f)
 reader_state (reader.Field f p y t) = InField f.head.at f.head.name (head_vars f.head) (read_fields f) p y (type_state t)
-reader_state (reader.Param f b t) = InParam f.recursive f.at f.name (read_params f) (binder_text b) (type_state t)
+reader_state (reader.Param f b t) = InParam f.recursive f.at f.name (read_params f) (binder_syntax b) (type_state t)
 reader_state (reader.Result f t) = InResult f.recursive f.at f.name (read_params f) (type_state t)
 reader_state (reader.Body h e) = InBody h.front.recursive h.front.at h.front.name (read_params h.front) (written_type h.result) (expr_state e)
 
 -- The next state; or that it is too high; or, where the token is refused, the declaration before it, if one stands there.
-abbrev pub DeclTakes : Option DeclText → DeclState → DeclStep → Type 0
+abbrev pub DeclTakes : Option DeclSyntax → DeclState → DeclStep → Type 0
 DeclTakes found new (step.Goes r) = new ≡ reader_state r
 DeclTakes found new step.High = (new ≢ NoDecl) × (greatest_height < decl_least new)
-DeclTakes found new (step.Stops t) = (new ≡ NoDecl) × (option_map decl_text t ≡ found)
+DeclTakes found new (step.Stops t) = (new ≡ NoDecl) × (option_map decl_syntax t ≡ found)

@@ -1,7 +1,7 @@
 -- What was read of a declaration, without where it lies in memory.
 -- Source: this project's own.
 use Rattle.std.specs.Prelude.{List, [], map, Option, Some, None}
-use Rattle.um_tree.specs.RawTree.{VarText, FieldDeclText, ParamText, var_text, field_decl_text, param_text, binder_text, written_type}
+use Rattle.um_tree.specs.RawTree.{VarSyntax, FieldDeclSyntax, ParamSyntax, var_syntax, field_decl_syntax, param_syntax, binder_syntax, written_type}
 use Rattle.um_types.specs.UnitMachine.{Need as NeedUnit}
 use Rattle.um_types.specs.TypeMachine.{NeedType}
 use Rattle.um_expr.specs.ExprMachine.{Need}
@@ -18,14 +18,14 @@ use Rattle.um_parse.specs.declared.decl_place.DeclPlace.TheVariants as place
 use Rattle.um_parse.specs.declared.decl_place.Next.{Next}
 use Rattle.um_parse.specs.declared.decl_place.Next.TheVariants as next
 
-abbrev pub head_vars : RecordHead → List VarText
-head_vars h = map var_text h.vars.items.items
+abbrev pub head_vars : RecordHead → List VarSyntax
+head_vars h = map var_syntax h.vars.items.items
 
-abbrev pub read_fields : RecordFront → List FieldDeclText
-read_fields f = map field_decl_text f.fields.items.items
+abbrev pub read_fields : RecordFront → List FieldDeclSyntax
+read_fields f = map field_decl_syntax f.fields.items.items
 
-abbrev pub read_params : FunctionFront → List ParamText
-read_params f = map param_text f.params.items.items
+abbrev pub read_params : FunctionFront → List ParamSyntax
+read_params f = map param_syntax f.params.items.items
 
 abbrev pub view_measure : MeasurePlace → DeclPlace
 view_measure measure.Word = AttributeWord
@@ -56,7 +56,7 @@ view_decl_place place.LetName = LetName
 view_decl_place place.RecName = RecName
 view_decl_place (place.Params f) = Params f.recursive f.at f.name (read_params f)
 view_decl_place (place.ParamBinder f) = ParamBinder f.recursive f.at f.name (read_params f)
-view_decl_place (place.ParamColon f b) = ParamColon f.recursive f.at f.name (read_params f) (binder_text b)
+view_decl_place (place.ParamColon f b) = ParamColon f.recursive f.at f.name (read_params f) (binder_syntax b)
 
 abbrev pub next_state : Next → DeclState
 next_state (next.At p) = AtPlace (view_decl_place p)
@@ -64,7 +64,7 @@ next_state (next.Base at x) = HaveBase at x
 next_state (next.Short at x) = InShort at x (NeedUnit [])
 next_state (next.Record f) = HaveRecord f.head.at f.head.name (head_vars f.head) (read_fields f)
 next_state (next.Field f p y) = InField f.head.at f.head.name (head_vars f.head) (read_fields f) p y (NeedType 0)
-next_state (next.Param f b) = InParam f.recursive f.at f.name (read_params f) (binder_text b) (NeedType 0)
+next_state (next.Param f b) = InParam f.recursive f.at f.name (read_params f) (binder_syntax b) (NeedType 0)
 next_state (next.Result f) = InResult f.recursive f.at f.name (read_params f) (NeedType 0)
 next_state (next.Body h) = InBody h.front.recursive h.front.at h.front.name (read_params h.front) (written_type h.result) (Need [])
 

@@ -3,7 +3,7 @@
 use Rattle.std.specs.Prelude.{◌≡◌, ℕ, ◌≤◌, List, Result, Ok, Err}
 use Rattle.um_syntax.specs.declared.token.Token.{Token}
 use Rattle.um_tree.specs.declared.raw.RawProgram.{RawProgram}
-use Rattle.um_tree.specs.RawTree.{DeclText, program_text}
+use Rattle.um_tree.specs.RawTree.{DeclSyntax, program_syntax}
 use Rattle.um_types.specs.declared.parse.LimitKind.{LimitKind}
 use Rattle.um_types.specs.declared.parse.LimitKind.TheVariants as limit
 use Rattle.um_types.specs.declared.parse.ParseStop.{ParseStop}
@@ -15,15 +15,15 @@ use Rattle.um_parse.specs.ProgramLimits.{WithinLimits, PassesAt}
 use Rattle.um_parse.specs.ProgramStops.{StopsAt, HighAt}
 
 -- the tokens are this program and no other, and it is within the limits
-pub record IsRead (tokens : List Token) (ds : List DeclText) : Type 0 where
+pub record IsRead (tokens : List Token) (ds : List DeclSyntax) : Type 0 where
   pub is : IsProgram tokens ds
-  pub only : (other : List DeclText) → IsProgram tokens other → other ≡ ds
+  pub only : (other : List DeclSyntax) → IsProgram tokens other → other ≡ ds
   pub low : program_height ds ≤ greatest_height
   pub small : WithinLimits 0 ds
 
 -- the tokens are a program of an allowed height; its first declaration that passes another limit has its name at the place
 pub record IsLarge (tokens : List Token) (kind : LimitKind) (at : ℕ) : Type 0 where
-  pub ds : List DeclText
+  pub ds : List DeclSyntax
   pub is : IsProgram tokens ds
   pub low : program_height ds ≤ greatest_height
   pub passes : PassesAt 0 ds kind at
@@ -34,7 +34,7 @@ LimitAt tokens end limit.Height at = (k : ℕ) × (at ≡ place_of tokens k end)
 LimitAt tokens end kind at = IsLarge tokens kind at
 
 abbrev pub Parsed : List Token → ℕ → Result RawProgram ParseStop → Type 0
-Parsed tokens end (Ok p) = IsRead tokens (program_text p)
+Parsed tokens end (Ok p) = IsRead tokens (program_syntax p)
 Parsed tokens end (Err (stop.Syntax at)) = (k : ℕ) × (at ≡ place_of tokens k end) × StopsAt tokens k
 Parsed tokens end (Err (stop.Limit kind at)) = LimitAt tokens end kind at
 Parsed tokens end (Err stop.NoMemory) = Unit {0}

@@ -4,7 +4,7 @@ use Rattle.std.specs.Prelude.{◌≡◌, ◌≢◌, ◌+◌, ◌≤◌, ◌<◌,
 use Rattle.um_syntax.specs.declared.token.Token.{Token}
 use Rattle.um_tree.specs.declared.raw.RawDecl.{RawDecl}
 use Rattle.um_tree.specs.declared.raw.RawProgram.{RawProgram}
-use Rattle.um_tree.specs.RawTree.{decl_text, program_text}
+use Rattle.um_tree.specs.RawTree.{decl_syntax, program_syntax}
 use Rattle.um_types.specs.UnitStops.{greatest_height}
 use Rattle.um_parse.specs.DeclMachine.{DeclBegin, DeclState, AtPlace, ProgramState, InProgram, NoProgram, program_finish}
 use Rattle.um_parse.specs.DeclTakes.{reader_state}
@@ -19,7 +19,7 @@ use Rattle.um_parse.specs.declared.program_loop.ProgramStop.TheVariants as stop
 
 -- the state of the declarations that were read and of a reader behind them
 abbrev pub program_state : List RawDecl → DeclReader → ProgramState
-program_state front reader = InProgram (map decl_text front) (reader_state reader)
+program_state front reader = InProgram (map decl_syntax front) (reader_state reader)
 
 -- the next state, within the heights; or that it is too high; or that the token is refused
 abbrev pub ProgramTakes : ProgramState → List RawDecl → ProgramStep → Type 0
@@ -41,7 +41,7 @@ ReadsDecls tokens front (Err stop.NoMemory) = Unit {0}
 
 -- the program, whatever its other limits; or the stop; or the token that makes it too high
 abbrev pub ProgramAnswers : List Token → Result RawProgram ProgramStop → Type 0
-ProgramAnswers tokens (Ok p) = IsReadTo tokens (length tokens) × (program_finish (state_at tokens (length tokens)) ≡ Some (program_text p))
+ProgramAnswers tokens (Ok p) = IsReadTo tokens (length tokens) × (program_finish (state_at tokens (length tokens)) ≡ Some (program_syntax p))
 ProgramAnswers tokens (Err (stop.Syntax k)) = StopsAt tokens k
 ProgramAnswers tokens (Err (stop.High k)) = HighAt tokens k
 ProgramAnswers tokens (Err stop.NoMemory) = Unit {0}

@@ -1,6 +1,6 @@
 // The tokens of a function outside its types and its body.
 ghost use Rattle.std.specs.Prelude.{◌≡◌, ◌≤◌, [], IfOk, IfSome, Some, option_map};
-ghost use Rattle.um_tree.specs.RawTree.{binder_text, type_text};
+ghost use Rattle.um_tree.specs.RawTree.{binder_syntax, type_syntax};
 ghost use Rattle.um_types.specs.TypeHeights.{whole_height};
 ghost use Rattle.um_types.specs.UnitStops.{greatest_height};
 ghost use Rattle.um_parse.specs.DeclMachine.{LetName, RecName, Params, ParamBinder, ParamColon, AtPlace, at_place, body_begins, param_ends, result_ends, with_param};
@@ -96,7 +96,7 @@ pub fn param_binder(front: FunctionFront, word: Word, p: u32) -> Option<Next>
 
 /// The token behind the name of a parameter.
 pub fn param_colon(front: FunctionFront, binder: Binder, word: Word, p: u32) -> Option<Next>
-    ensures { reached result ≡ at_place (ParamColon front.recursive front.at front.name (read_params front) (binder_text binder)) (view_word word) p }
+    ensures { reached result ≡ at_place (ParamColon front.recursive front.at front.name (read_params front) (binder_syntax binder)) (view_word word) p }
 {
     match word {
         Word::Plain(Mark::Colon) => Some(Next::Param(front, binder)),
@@ -110,11 +110,11 @@ fn with_param(
     binder: Binder,
     ty: RawType,
 ) -> Result<FunctionFront, AllocError>
-    requires { whole_height (type_text ty) ≤ greatest_height }
+    requires { whole_height (type_syntax ty) ≤ greatest_height }
     ensures recursive { IfOk result (λ f. f.recursive ≡ front.recursive) }
     ensures at { IfOk result (λ f. f.at ≡ front.at) }
     ensures name { IfOk result (λ f. f.name ≡ front.name) }
-    ensures params { IfOk result (λ f. read_params f ≡ with_param (read_params front) (binder_text binder) (type_text ty)) }
+    ensures params { IfOk result (λ f. read_params f ≡ with_param (read_params front) (binder_syntax binder) (type_syntax ty)) }
 {
     let FunctionFront {
         recursive,
@@ -138,8 +138,8 @@ fn param_typed(
     ty: RawType,
     word: Word,
 ) -> Result<Option<Next>, AllocError>
-    requires { whole_height (type_text ty) ≤ greatest_height }
-    ensures { IfOk result (λ o. reached o ≡ param_ends front.recursive front.at front.name (read_params front) (binder_text binder) (Some (type_text ty)) (view_word word)) }
+    requires { whole_height (type_syntax ty) ≤ greatest_height }
+    ensures { IfOk result (λ o. reached o ≡ param_ends front.recursive front.at front.name (read_params front) (binder_syntax binder) (Some (type_syntax ty)) (view_word word)) }
 {
     match word {
         Word::Plain(Mark::Close) => {
@@ -157,8 +157,8 @@ pub fn param_ends(
     found: Option<RawType>,
     word: Word,
 ) -> Result<Option<Next>, AllocError>
-    requires { IfSome found (λ t. whole_height (type_text t) ≤ greatest_height) }
-    ensures { IfOk result (λ o. reached o ≡ param_ends front.recursive front.at front.name (read_params front) (binder_text binder) (option_map type_text found) (view_word word)) }
+    requires { IfSome found (λ t. whole_height (type_syntax t) ≤ greatest_height) }
+    ensures { IfOk result (λ o. reached o ≡ param_ends front.recursive front.at front.name (read_params front) (binder_syntax binder) (option_map type_syntax found) (view_word word)) }
 {
     match found {
         Some(ty) => param_typed(front, binder, ty, word),
@@ -168,8 +168,8 @@ pub fn param_ends(
 
 // The token behind the result type.
 fn result_typed(front: FunctionFront, ty: RawType, word: Word) -> Option<Next>
-    requires { whole_height (type_text ty) ≤ greatest_height }
-    ensures { reached result ≡ result_ends front.recursive front.at front.name (read_params front) (Some (type_text ty)) (view_word word) }
+    requires { whole_height (type_syntax ty) ≤ greatest_height }
+    ensures { reached result ≡ result_ends front.recursive front.at front.name (read_params front) (Some (type_syntax ty)) (view_word word) }
 {
     match word {
         Word::Operator(Infix::Compare(Sign::Eq)) => Some(Next::Body(FunctionHead {
@@ -182,8 +182,8 @@ fn result_typed(front: FunctionFront, ty: RawType, word: Word) -> Option<Next>
 
 /// The token that the result type has refused, behind the type before it, if one stands there.
 pub fn result_ends(front: FunctionFront, found: Option<RawType>, word: Word) -> Option<Next>
-    requires { IfSome found (λ t. whole_height (type_text t) ≤ greatest_height) }
-    ensures { reached result ≡ result_ends front.recursive front.at front.name (read_params front) (option_map type_text found) (view_word word) }
+    requires { IfSome found (λ t. whole_height (type_syntax t) ≤ greatest_height) }
+    ensures { reached result ≡ result_ends front.recursive front.at front.name (read_params front) (option_map type_syntax found) (view_word word) }
 {
     match found {
         Some(ty) => result_typed(front, ty, word),

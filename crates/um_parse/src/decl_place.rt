@@ -1,6 +1,6 @@
 // What was read of a declaration, and the places inside a run of tokens that is fixed.
 ghost use Rattle.std.specs.Prelude.{◌≤◌, map};
-ghost use Rattle.um_tree.specs.RawTree.{field_decl_text, param_text, written_type};
+ghost use Rattle.um_tree.specs.RawTree.{field_decl_syntax, param_syntax, written_type};
 ghost use Rattle.um_types.specs.UnitStops.{greatest_height};
 ghost use Rattle.um_parse.specs.ProgramHeights.{fields_height, params_height, result_height};
 
@@ -19,7 +19,7 @@ pub struct RecordHead {
 pub struct RecordFront {
     pub head: RecordHead,
     pub fields: RawFieldDecls,
-    ghost low: { fields_height (map field_decl_text fields.items.items) ≤ greatest_height },
+    ghost low: { fields_height (map field_decl_syntax fields.items.items) ≤ greatest_height },
 }
 
 /// A function's name, at its place, and the parameters that were read. No text in them is higher than 400.
@@ -29,7 +29,7 @@ pub struct FunctionFront {
     pub at: u32,
     pub name: Name,
     pub params: RawParams,
-    ghost low: { params_height (map param_text params.items.items) ≤ greatest_height },
+    ghost low: { params_height (map param_syntax params.items.items) ≤ greatest_height },
 }
 
 /// A function up to its `=`, with its result type, if it has one, no higher than 400.

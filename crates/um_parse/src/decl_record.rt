@@ -1,6 +1,6 @@
 // The tokens of a record outside its types.
 ghost use Rattle.std.specs.Prelude.{◌≡◌, ◌≤◌, [], IfOk, IfSome, Some, option_map};
-ghost use Rattle.um_tree.specs.RawTree.{type_text};
+ghost use Rattle.um_tree.specs.RawTree.{type_syntax};
 ghost use Rattle.um_types.specs.TypeHeights.{whole_height};
 ghost use Rattle.um_types.specs.UnitStops.{greatest_height};
 ghost use Rattle.um_parse.specs.DeclMachine.{RecordName, RecordVars, RecordEqual, RecordBrace, FieldName, FieldColon, at_place, field_ends, with_field_decl};
@@ -161,9 +161,9 @@ fn with_field(
     name: Name,
     ty: RawType,
 ) -> Result<RecordFront, AllocError>
-    requires { whole_height (type_text ty) ≤ greatest_height }
+    requires { whole_height (type_syntax ty) ≤ greatest_height }
     ensures head { IfOk result (λ f. f.head ≡ front.head) }
-    ensures fields { IfOk result (λ f. read_fields f ≡ with_field_decl (read_fields front) at name (type_text ty)) }
+    ensures fields { IfOk result (λ f. read_fields f ≡ with_field_decl (read_fields front) at name (type_syntax ty)) }
 {
     let RecordFront { head, mut fields } = front;
     fields.items.push(RawFieldDecl { at, name, ty })?;
@@ -178,8 +178,8 @@ fn field_typed(
     ty: RawType,
     word: Word,
 ) -> Result<Option<Next>, AllocError>
-    requires { whole_height (type_text ty) ≤ greatest_height }
-    ensures { IfOk result (λ o. reached o ≡ field_ends front.head.at front.head.name (head_vars front.head) (read_fields front) at name (Some (type_text ty)) (view_word word)) }
+    requires { whole_height (type_syntax ty) ≤ greatest_height }
+    ensures { IfOk result (λ o. reached o ≡ field_ends front.head.at front.head.name (head_vars front.head) (read_fields front) at name (Some (type_syntax ty)) (view_word word)) }
 {
     match word {
         Word::Plain(Mark::Semi) => {
@@ -201,8 +201,8 @@ pub fn field_ends(
     found: Option<RawType>,
     word: Word,
 ) -> Result<Option<Next>, AllocError>
-    requires { IfSome found (λ t. whole_height (type_text t) ≤ greatest_height) }
-    ensures { IfOk result (λ o. reached o ≡ field_ends front.head.at front.head.name (head_vars front.head) (read_fields front) at name (option_map type_text found) (view_word word)) }
+    requires { IfSome found (λ t. whole_height (type_syntax t) ≤ greatest_height) }
+    ensures { IfOk result (λ o. reached o ≡ field_ends front.head.at front.head.name (head_vars front.head) (read_fields front) at name (option_map type_syntax found) (view_word word)) }
 {
     match found {
         Some(ty) => field_typed(front, at, name, ty, word),

@@ -1,6 +1,6 @@
 // One token more of a declaration, where a place, a type, a unit text or a body has begun.
 ghost use Rattle.std.specs.Prelude.{◌≡◌, IfOk, None, Some, option_map};
-ghost use Rattle.um_tree.specs.RawTree.{base_text, unit_text, expr_text, decl_text, record_decl_text, written_type};
+ghost use Rattle.um_tree.specs.RawTree.{base_syntax, unit_syntax, expr_syntax, decl_syntax, record_decl_syntax, written_type};
 ghost use Rattle.um_parse.specs.DeclMachine.{NoDecl, at_place, base_after, short_found, body_found, decl_step, decl_finish};
 ghost use Rattle.um_parse.specs.DeclViews.{head_vars, read_fields, read_params, view_decl_place, next_state, reached};
 ghost use Rattle.um_parse.specs.DeclTakes.{reader_state, DeclTakes};
@@ -86,7 +86,7 @@ fn take_at(alloc: Global, place: DeclPlace, token: &Token) -> Result<DeclStep, A
 
 // A measure is whole before this word.
 fn base_found(at: u32, name: Name, word: Word) -> DeclStep
-    ensures { DeclTakes (Some (base_text at name)) NoDecl result }
+    ensures { DeclTakes (Some (base_syntax at name)) NoDecl result }
 {
     drop(word);
     DeclStep::Stops(Some(RawDecl::Base(at, name)))
@@ -94,7 +94,7 @@ fn base_found(at: u32, name: Name, word: Word) -> DeclStep
 
 // One token behind the name of a measure, at its place.
 fn take_base(alloc: Global, at: u32, name: Name, token: &Token) -> Result<DeclStep, AllocError>
-    ensures { IfOk result (λ s. DeclTakes (Some (base_text at name)) (base_after at name (expr_token token.now.kind)) s) }
+    ensures { IfOk result (λ s. DeclTakes (Some (base_syntax at name)) (base_after at name (expr_token token.now.kind)) s) }
 {
     match Word::of_kind(alloc, &token.kind)? {
         Word::Operator(Infix::Compare(Sign::Eq)) => {
@@ -107,7 +107,7 @@ fn take_base(alloc: Global, at: u32, name: Name, token: &Token) -> Result<DeclSt
 
 // An abbreviation, where its unit text was found.
 fn short_found(at: u32, name: Name, found: Option<RawUnit>) -> Option<RawDecl>
-    ensures { option_map decl_text result ≡ short_found at name (option_map unit_text found) }
+    ensures { option_map decl_syntax result ≡ short_found at name (option_map unit_syntax found) }
 {
     match found {
         Some(unit) => Some(RawDecl::Short(at, name, unit)),
@@ -195,7 +195,7 @@ fn take_result(
 
 // A function, where its body was found.
 fn body_found(head: FunctionHead, found: Option<RawExpr>) -> Option<RawDecl>
-    ensures { option_map decl_text result ≡ body_found head.front.recursive head.front.at head.front.name (read_params head.front) (written_type head.result) (option_map expr_text found) }
+    ensures { option_map decl_syntax result ≡ body_found head.front.recursive head.front.at head.front.name (read_params head.front) (written_type head.result) (option_map expr_syntax found) }
 {
     let body = match found {
         Some(body) => body,
@@ -236,7 +236,7 @@ fn take_body(
 
 // A whole record.
 fn record_found(front: RecordFront) -> RawDecl
-    ensures { decl_text result ≡ record_decl_text front.head.at front.head.name (head_vars front.head) (read_fields front) }
+    ensures { decl_syntax result ≡ record_decl_syntax front.head.at front.head.name (head_vars front.head) (read_fields front) }
 {
     let RecordFront { head, fields } = front;
     RawDecl::Record(head.at, head.name, head.vars, fields)
@@ -271,7 +271,7 @@ impl DeclReader {
 
     /// The declaration where all is read, if it is one.
     pub fn finish(self, alloc: Global) -> Result<Option<RawDecl>, AllocError>
-        ensures found { IfOk result (λ o. option_map decl_text o ≡ decl_finish (reader_state self)) }
+        ensures found { IfOk result (λ o. option_map decl_syntax o ≡ decl_finish (reader_state self)) }
     {
         match self {
             DeclReader::Base(at, name) => Ok(Some(RawDecl::Base(at, name))),

@@ -1,6 +1,6 @@
 // The limits of a program besides its height.
 ghost use Rattle.std.specs.Prelude.{◌≡◌, ◌<◌, ◌^◌, [], map};
-ghost use Rattle.um_tree.specs.RawTree.{var_text, field_decl_text, record_decl_text, function_text, whole_function_text, decl_text, expr_text};
+ghost use Rattle.um_tree.specs.RawTree.{var_syntax, field_decl_syntax, record_decl_syntax, function_syntax, whole_function_syntax, decl_syntax, expr_syntax};
 ghost use Rattle.um_tree.specs.Heights.{expr_nodes};
 ghost use Rattle.um_parse.specs.ProgramLimits.{passed_limit, functions_in, name_place};
 ghost use Rattle.um_parse.specs.ProgramNodes.{decl_nodes, program_nodes};
@@ -29,7 +29,7 @@ pub struct Passed {
 
 // The first limit that a record passes.
 fn record_limit(vars: &RawVars, fields: &RawFieldDecls) -> Option<LimitKind>
-    ensures { result ≡ passed_limit 0 (record_decl_text 0 [] (map var_text vars.now.items.items) (map field_decl_text fields.now.items.items)) }
+    ensures { result ≡ passed_limit 0 (record_decl_syntax 0 [] (map var_syntax vars.now.items.items) (map field_decl_syntax fields.now.items.items)) }
 {
     if fields.items.len() > MOST_FIELDS {
         Some(LimitKind::Fields)
@@ -42,8 +42,8 @@ fn record_limit(vars: &RawVars, fields: &RawFieldDecls) -> Option<LimitKind>
 
 // The first limit that a function passes behind so many functions.
 fn function_limit(before: usize, function: &RawFunction) -> Option<LimitKind>
-    requires few { expr_nodes (expr_text function.now.body) < 2 ^ 32 }
-    ensures { result ≡ passed_limit before (function_text (whole_function_text function.now)) }
+    requires few { expr_nodes (expr_syntax function.now.body) < 2 ^ 32 }
+    ensures { result ≡ passed_limit before (function_syntax (whole_function_syntax function.now)) }
 {
     if before >= MOST_FUNCTIONS {
         Some(LimitKind::Functions)
@@ -58,8 +58,8 @@ fn function_limit(before: usize, function: &RawFunction) -> Option<LimitKind>
 
 // The first limit that a declaration passes behind so many functions.
 fn passed_limit(before: usize, decl: &RawDecl) -> Option<LimitKind>
-    requires few { decl_nodes (decl_text decl.now) < 2 ^ 32 }
-    ensures { result ≡ passed_limit before (decl_text decl.now) }
+    requires few { decl_nodes (decl_syntax decl.now) < 2 ^ 32 }
+    ensures { result ≡ passed_limit before (decl_syntax decl.now) }
 {
     match decl {
         RawDecl::Base(_, _) | RawDecl::Short(_, _, _) => None,
@@ -70,7 +70,7 @@ fn passed_limit(before: usize, decl: &RawDecl) -> Option<LimitKind>
 
 // The place of a declaration's name.
 fn name_place(decl: &RawDecl) -> u32
-    ensures { result ≡ name_place (decl_text decl.now) }
+    ensures { result ≡ name_place (decl_syntax decl.now) }
 {
     match decl {
         RawDecl::Base(at, _) | RawDecl::Short(at, _, _) | RawDecl::Record(at, _, _, _) => *at,
@@ -80,7 +80,7 @@ fn name_place(decl: &RawDecl) -> u32
 
 // The number of functions in a declaration.
 fn functions_in(decl: &RawDecl) -> usize
-    ensures { result ≡ functions_in (decl_text decl.now) }
+    ensures { result ≡ functions_in (decl_syntax decl.now) }
 {
     match decl {
         RawDecl::Base(_, _) | RawDecl::Short(_, _, _) | RawDecl::Record(_, _, _, _) => 0,
@@ -90,8 +90,8 @@ fn functions_in(decl: &RawDecl) -> usize
 
 /// The limit that the first declaration that passes one passes first.
 pub fn first_passed(decls: &[RawDecl]) -> Option<Passed>
-    requires few { program_nodes (map decl_text decls.now) < 2 ^ 32 }
-    ensures { LimitPassed (map decl_text decls.now) result }
+    requires few { program_nodes (map decl_syntax decls.now) < 2 ^ 32 }
+    ensures { LimitPassed (map decl_syntax decls.now) result }
 {
     let mut before: usize = 0;
     for decl in decls {

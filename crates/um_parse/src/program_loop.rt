@@ -1,6 +1,6 @@
 // Reading the declarations of a program.
 ghost use Rattle.std.specs.Prelude.{◌≡◌, ◌≤◌, [], IfOk, IfSome, map, option_map};
-ghost use Rattle.um_tree.specs.RawTree.{decl_text, program_text};
+ghost use Rattle.um_tree.specs.RawTree.{decl_syntax, program_syntax};
 ghost use Rattle.um_types.specs.UnitStops.{greatest_height};
 ghost use Rattle.um_parse.specs.DeclMachine.{DeclBegin, AtPlace, NoProgram, decl_step, program_goes, next_decl, program_step, program_found, program_finish};
 ghost use Rattle.um_parse.specs.DeclTakes.{reader_state};
@@ -52,8 +52,8 @@ fn refuse(found: Option<RawDecl>) -> ProgramStep
 
 // The first token of a declaration behind these.
 fn begin(alloc: Global, front: &Vec<RawDecl>, token: &Token) -> Result<ProgramStep, AllocError>
-    requires { program_height (map decl_text front.now.items) ≤ greatest_height }
-    ensures { IfOk result (λ s. ProgramTakes (program_goes (map decl_text front.now.items) (decl_step (AtPlace DeclBegin) token.now) NoProgram) front.now.items s) }
+    requires { program_height (map decl_syntax front.now.items) ≤ greatest_height }
+    ensures { IfOk result (λ s. ProgramTakes (program_goes (map decl_syntax front.now.items) (decl_step (AtPlace DeclBegin) token.now) NoProgram) front.now.items s) }
 {
     match DeclReader::At(DeclPlace::Begin).take(alloc, token)? {
         DeclStep::Goes(reader) => Ok(ProgramStep::Goes(reader)),
@@ -69,9 +69,9 @@ fn next_decl(
     found: Option<RawDecl>,
     token: &Token,
 ) -> Result<ProgramStep, AllocError>
-    requires front { program_height (map decl_text front.old.items) ≤ greatest_height }
-    requires found { IfSome found (λ d. decl_height (decl_text d) ≤ greatest_height) }
-    ensures { IfOk result (λ s. ProgramTakes (next_decl (map decl_text front.old.items) (option_map decl_text found) (decl_step (AtPlace DeclBegin) token.now)) front.new.items s) }
+    requires front { program_height (map decl_syntax front.old.items) ≤ greatest_height }
+    requires found { IfSome found (λ d. decl_height (decl_syntax d) ≤ greatest_height) }
+    ensures { IfOk result (λ s. ProgramTakes (next_decl (map decl_syntax front.old.items) (option_map decl_syntax found) (decl_step (AtPlace DeclBegin) token.now)) front.new.items s) }
 {
     match found {
         Some(decl) => {
@@ -132,7 +132,7 @@ fn is_at_start(reader: &DeclReader) -> bool
 
 // The program, with the last declaration, if one was found.
 fn with_last(front: Vec<RawDecl>, last: Option<RawDecl>) -> Result<Option<RawProgram>, AllocError>
-    ensures { IfOk result (λ o. option_map program_text o ≡ program_found (map decl_text front.items) (option_map decl_text last)) }
+    ensures { IfOk result (λ o. option_map program_syntax o ≡ program_found (map decl_syntax front.items) (option_map decl_syntax last)) }
 {
     let mut items = front;
     match last {
@@ -150,7 +150,7 @@ fn finish(
     front: Vec<RawDecl>,
     reader: DeclReader,
 ) -> Result<Option<RawProgram>, AllocError>
-    ensures { IfOk result (λ o. option_map program_text o ≡ program_finish (program_state front.items reader)) }
+    ensures { IfOk result (λ o. option_map program_syntax o ≡ program_finish (program_state front.items reader)) }
 {
     if is_at_start(&reader) {
         return Ok(Some(RawProgram { items: front }));

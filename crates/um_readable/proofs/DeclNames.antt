@@ -4,7 +4,7 @@ use Rattle.um_syntax.specs.declared.token.Token.{Token}
 use Rattle.um_syntax.specs.declared.token.Kind.{Kind}
 use Rattle.um_syntax.specs.declared.token.Kind.TheVariants as kind
 use Rattle.um_tree.specs.Formed.{IsNameText}
-use Rattle.um_tree.specs.RawTree.{FieldDeclText, DeclText, base_text, short_text, record_decl_text, function_text}
+use Rattle.um_tree.specs.RawTree.{FieldDeclSyntax, DeclSyntax, base_syntax, short_syntax, record_decl_syntax, function_syntax}
 use Rattle.um_expr.specs.declared.mark.Mark.TheVariants as mark
 use Rattle.um_expr.specs.ExprTokens.{ExprToken, name, variable, number, truth, hole, operator, plain, expr_token, word_tokens, sign_tokens}
 use Rattle.um_expr.specs.ExprGrammar.{FirstAt}
@@ -65,48 +65,48 @@ name_at x at tokens rest f h = name_of f.0.kind x f.1 (subst (λ w. AllNamed w) 
 
 -- ---- fields and declarations
 
-abbrev pub FieldsNamed : List FieldDeclText → Type 0
+abbrev pub FieldsNamed : List FieldDeclSyntax → Type 0
 FieldsNamed [] = Unit {0}
 FieldsNamed (f ∷ fs) = IsNameText f.name × FieldsNamed fs
 
 -- the names that a declaration declares
-abbrev pub DeclNamed : DeclText → Type 0
-DeclNamed (base_text at x) = IsNameText x
-DeclNamed (short_text at x u) = IsNameText x
-DeclNamed (record_decl_text at x vs fs) = IsNameText x × FieldsNamed fs
-DeclNamed (function_text f) = IsNameText f.name
+abbrev pub DeclNamed : DeclSyntax → Type 0
+DeclNamed (base_syntax at x) = IsNameText x
+DeclNamed (short_syntax at x u) = IsNameText x
+DeclNamed (record_decl_syntax at x vs fs) = IsNameText x × FieldsNamed fs
+DeclNamed (function_syntax f) = IsNameText f.name
 
-abbrev pub DeclsNamed : List DeclText → Type 0
+abbrev pub DeclsNamed : List DeclSyntax → Type 0
 DeclsNamed [] = Unit {0}
 DeclsNamed (d ∷ ds) = DeclNamed d × DeclsNamed ds
 
-more_fields_named : (fs : List FieldDeclText) (tokens rest : List Token) → MoreFieldDecls fs tokens rest → FieldDeclsFit fs → AllNamed tokens → FieldsNamed fs
+more_fields_named : (fs : List FieldDeclSyntax) (tokens rest : List Token) → MoreFieldDecls fs tokens rest → FieldDeclsFit fs → AllNamed tokens → FieldsNamed fs
 more_fields_named [] tokens rest s fits h = tt
 more_fields_named (f ∷ fs) tokens rest s fits h =
     let here = named_rest tokens s.0 (first_leaves _ tokens s.0 s.2) h in
     let behind = named_rest s.0 s.1 (field_leaves f s.0 s.1 s.3 fits.0) here in
     (name_at f.name f.at s.0 s.3.0 s.3.2 here, more_fields_named fs s.1 rest s.4 fits.1 behind)
 
-fields_named : (fs : List FieldDeclText) (tokens rest : List Token) → FieldDeclsSpell fs tokens rest → FieldDeclsFit fs → AllNamed tokens → FieldsNamed fs
+fields_named : (fs : List FieldDeclSyntax) (tokens rest : List Token) → FieldDeclsSpell fs tokens rest → FieldDeclsFit fs → AllNamed tokens → FieldsNamed fs
 fields_named [] tokens rest s fits h = tt
 fields_named (f ∷ fs) tokens rest s fits h =
     let behind = named_rest tokens s.0 (field_leaves f tokens s.0 s.1 fits.0) h in
     (name_at f.name f.at tokens s.1.0 s.1.2 h, more_fields_named fs s.0 rest s.2 fits.1 behind)
 
-decl_named : (d : DeclText) (tokens rest : List Token) → DeclSpells d tokens rest → DeclFits d → AllNamed tokens → DeclNamed d
-decl_named (base_text at x) tokens rest s fits h =
+decl_named : (d : DeclSyntax) (tokens rest : List Token) → DeclSpells d tokens rest → DeclFits d → AllNamed tokens → DeclNamed d
+decl_named (base_syntax at x) tokens rest s fits h =
     name_at x at s.1 rest s.4 (named_rest tokens s.1 (thence (attribute_leaves tokens s.0 s.2) (first_leaves _ s.0 s.1 s.3)) h)
-decl_named (short_text at x u) tokens rest s fits h =
+decl_named (short_syntax at x u) tokens rest s fits h =
     name_at x at s.1 s.2 s.6 (named_rest tokens s.1 (thence (attribute_leaves tokens s.0 s.4) (first_leaves _ s.0 s.1 s.5)) h)
-decl_named (record_decl_text at x vs fs) tokens rest s fits h =
+decl_named (record_decl_syntax at x vs fs) tokens rest s fits h =
     let named = named_rest tokens s.0 (first_leaves _ tokens s.0 s.6) h in
     let behind_vars = named_rest s.0 s.2 (thence (at_leaves _ at s.0 s.1 s.7) (vars_leave vs s.1 s.2 s.8)) named in
     let in_braces = named_rest s.2 s.4 (thence (first_leaves _ s.2 s.3 s.9) (first_leaves _ s.3 s.4 s.10)) behind_vars in
     (name_at x at s.0 s.1 s.7 named, fields_named fs s.4 s.5 s.11 fits in_braces)
-decl_named (function_text f) tokens rest s fits h =
+decl_named (function_syntax f) tokens rest s fits h =
     name_at f.name f.at s.1 s.2 s.8 (named_rest tokens s.1 (thence (first_leaves _ tokens s.0 s.6) (rec_leaves f.recursive s.0 s.1 s.7)) h)
 
-pub decls_named : (ds : List DeclText) (tokens rest : List Token) → DeclsSpell ds tokens rest → DeclsFit ds → AllNamed tokens → DeclsNamed ds
+pub decls_named : (ds : List DeclSyntax) (tokens rest : List Token) → DeclsSpell ds tokens rest → DeclsFit ds → AllNamed tokens → DeclsNamed ds
 decls_named [] tokens rest s fits h = tt
 decls_named (d ∷ ds) tokens rest s fits h =
     (decl_named d tokens s.0 s.1 fits.0 h, decls_named ds s.0 rest s.2 fits.1 (named_rest tokens s.0 (decl_leaves d tokens s.0 s.1 fits.0).0 h))

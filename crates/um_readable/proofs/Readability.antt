@@ -2,7 +2,7 @@
 use Rattle.std.proofs.Common.{◌≡◌, ℕ, ◌+◌, ◌<◌, ◌≤◌, max, Bool, true, false, IsTrue, IsSome, List, [], ◌∷◌, length, Option, Some, None, refl, arith}
 use Rattle.um_syntax.specs.declared.token.Token.{Token}
 use Rattle.um_syntax.specs.Lexing.{HasTokens}
-use Rattle.um_tree.specs.RawTree.{TypeText, FieldDeclText, ParamText, DeclText, base_text, short_text, record_decl_text, function_text}
+use Rattle.um_tree.specs.RawTree.{TypeSyntax, FieldDeclSyntax, ParamSyntax, DeclSyntax, base_syntax, short_syntax, record_decl_syntax, function_syntax}
 use Rattle.um_tree.specs.Heights.{expr_height}
 use Rattle.um_types.specs.TypeHeights.{whole_height}
 use Rattle.um_parse.specs.DeclGrammar.{FieldDeclsSpell, DeclSpells, DeclsSpell, ResultFits, DeclFits, DeclsFit}
@@ -18,34 +18,34 @@ use Rattle.um_readable.proofs.DeclNames.{FieldsNamed, DeclNamed, DeclsNamed, dec
 use Rattle.um_readable.proofs.ExprReadable.{left_low, right_low, type_low, expr_readable}
 use Rattle.um_readable.proofs.LimitCounts.{record_limits, function_limits, few_functions}
 
-some_field : (fs : List FieldDeclText) (tokens rest : List Token) → FieldDeclsSpell fs tokens rest → 0 < length fs
+some_field : (fs : List FieldDeclSyntax) (tokens rest : List Token) → FieldDeclsSpell fs tokens rest → 0 < length fs
 some_field [] tokens rest s = absurd s
 some_field (f ∷ fs) tokens rest s = omega arith
 
-fields_readable : (fs : List FieldDeclText) → FieldsNamed fs → fields_height fs ≤ 400 → AreReadFieldDecls fs
+fields_readable : (fs : List FieldDeclSyntax) → FieldsNamed fs → fields_height fs ≤ 400 → AreReadFieldDecls fs
 fields_readable [] named low = tt
 fields_readable (f ∷ fs) named low =
     (named.0, type_low f.type (left_low (whole_height f.type) (fields_height fs) low), fields_readable fs named.1 (right_low (whole_height f.type) (fields_height fs) low))
 
-params_readable : (ps : List ParamText) → params_height ps ≤ 400 → AreReadParams ps
+params_readable : (ps : List ParamSyntax) → params_height ps ≤ 400 → AreReadParams ps
 params_readable [] low = tt
 params_readable (p ∷ ps) low =
     (type_low p.type (left_low (whole_height p.type) (params_height ps) low), params_readable ps (right_low (whole_height p.type) (params_height ps) low))
 
-result_readable : (r : Option TypeText) → result_height r ≤ 400 → IsReadResult r
+result_readable : (r : Option TypeSyntax) → result_height r ≤ 400 → IsReadResult r
 result_readable None low = tt
 result_readable (Some t) low = type_low t low
 
 -- a function with `rec` has a result type
-noted : (recursive : Bool) (r : Option TypeText) → ResultFits recursive r → IsTrue recursive → IsSome r
+noted : (recursive : Bool) (r : Option TypeSyntax) → ResultFits recursive r → IsTrue recursive → IsSome r
 noted true None fits is = absurd cc
 noted false None fits is = absurd cc
 noted recursive (Some t) fits is = refl
 
-decl_readable : (d : DeclText) (before : ℕ) (tokens rest : List Token) → DeclSpells d tokens rest → DeclFits d → DeclNamed d → decl_height d ≤ 400 → passed_limit before d ≡ None → IsReadDecl d
-decl_readable (base_text at x) before tokens rest s fits named low small = named
-decl_readable (short_text at x u) before tokens rest s fits named low small = named
-decl_readable (record_decl_text at x vs fs) before tokens rest s fits named low small =
+decl_readable : (d : DeclSyntax) (before : ℕ) (tokens rest : List Token) → DeclSpells d tokens rest → DeclFits d → DeclNamed d → decl_height d ≤ 400 → passed_limit before d ≡ None → IsReadDecl d
+decl_readable (base_syntax at x) before tokens rest s fits named low small = named
+decl_readable (short_syntax at x u) before tokens rest s fits named low small = named
+decl_readable (record_decl_syntax at x vs fs) before tokens rest s fits named low small =
     let few = record_limits before at x vs fs small in record {
       name = named.0;
       few_units = few.1;
@@ -53,7 +53,7 @@ decl_readable (record_decl_text at x vs fs) before tokens rest s fits named low 
       few_fields = few.0;
       fields = fields_readable fs named.1 low;
     }
-decl_readable (function_text f) before tokens rest s fits named low small =
+decl_readable (function_syntax f) before tokens rest s fits named low small =
     let few = function_limits before f small in
     let behind = right_low (params_height f.params) (max (result_height f.result) (whole_expr_height f.body)) low in
     let body = right_low (result_height f.result) (whole_expr_height f.body) behind in record {
@@ -67,14 +67,14 @@ decl_readable (function_text f) before tokens rest s fits named low small =
       nodes = few.2;
     }
 
-decls_readable : (ds : List DeclText) (before : ℕ) (tokens rest : List Token) → DeclsSpell ds tokens rest → DeclsFit ds → DeclsNamed ds → program_height ds ≤ 400 → WithinLimits before ds → AreReadDecls ds
+decls_readable : (ds : List DeclSyntax) (before : ℕ) (tokens rest : List Token) → DeclsSpell ds tokens rest → DeclsFit ds → DeclsNamed ds → program_height ds ≤ 400 → WithinLimits before ds → AreReadDecls ds
 decls_readable [] before tokens rest s fits named low small = tt
 decls_readable (d ∷ ds) before tokens rest s fits named low small = (
   decl_readable d before tokens s.0 s.1 fits.0 named.0 (left_low (decl_height d) (program_height ds) low) small.0,
   decls_readable ds (before + functions_among d) s.0 rest s.2 fits.1 named.1 (right_low (decl_height d) (program_height ds) low) small.1,
 )
 
-pub readable : (cs : List ℕ) (tokens : List Token) (ds : List DeclText) → HasTokens cs tokens → length cs ≤ 1048576 → IsRead tokens ds → IsReadable ds
+pub readable : (cs : List ℕ) (tokens : List Token) (ds : List DeclSyntax) → HasTokens cs tokens → length cs ≤ 1048576 → IsRead tokens ds → IsReadable ds
 readable cs tokens ds lexed short read =
     let within = tokens_within cs tokens lexed in
     let few = few_decls ds tokens [] read.is.spelled read.is.fits in

@@ -1,7 +1,7 @@
 -- What the grammar reads of a list of tokens stands at its front: the rest is the end of the list.
 use Rattle.std.proofs.Common.{◌≡◌, ℕ, ◌+◌, ◌≤◌, List, [], ◌∷◌, ◌++◌, length, length-append, sym, ap, ◌∙◌, append_assoc, arith}
 use Rattle.um_syntax.specs.declared.token.Token.{Token}
-use Rattle.um_tree.specs.RawTree.{NoteText, TypeText, ExprText}
+use Rattle.um_tree.specs.RawTree.{NoteSyntax, TypeSyntax, ExprSyntax}
 use Rattle.um_types.specs.TypeGrammar.{NoteSpells, NoteFits, TypeSpells, TypeFits}
 use Rattle.um_types.proofs.NoteComplete.{note_reaches}
 use Rattle.um_types.proofs.TypeComplete.{type_reaches}
@@ -39,11 +39,11 @@ at_leaves what at tokens rest f = leaves_one f.0 tokens rest f.3
 pub glued_leaves : (what : ExprToken) (tokens rest : List Token) → FirstGlued what tokens rest → Leaves tokens rest
 glued_leaves what tokens rest f = leaves_one f.0 tokens rest f.3
 
-pub note_leaves : (n : NoteText) (tokens rest : List Token) → NoteSpells n tokens rest → NoteFits n → Leaves tokens rest
+pub note_leaves : (n : NoteSyntax) (tokens rest : List Token) → NoteSpells n tokens rest → NoteFits n → Leaves tokens rest
 note_leaves n tokens rest s fits = let r = note_reaches n tokens rest s fits in (r.0, r.1)
 
-pub type_leaves : (t : TypeText) (tokens rest : List Token) → TypeSpells t tokens rest → TypeFits t → Leaves tokens rest
+pub type_leaves : (t : TypeSyntax) (tokens rest : List Token) → TypeSpells t tokens rest → TypeFits t → Leaves tokens rest
 type_leaves t tokens rest s fits = let r = type_reaches t 0 tokens rest s fits in (r.0, r.1)
 
-pub expr_leaves : (t : ExprText) (tokens rest : List Token) → Spells t tokens rest → Fits t → Leaves tokens rest
+pub expr_leaves : (t : ExprSyntax) (tokens rest : List Token) → Spells t tokens rest → Fits t → Leaves tokens rest
 expr_leaves t tokens rest s fits = let r = expr_reaches t tokens rest s fits in (r.0, r.1)

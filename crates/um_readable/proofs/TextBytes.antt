@@ -4,7 +4,7 @@ use Rattle.std.specs.Str.{chars, IsUtf8}
 use Rattle.std.proofs.lemmas.Str.{encodes-chars, length-le-encodes}
 use Rattle.um_syntax.specs.declared.token.Token.{Token}
 use Rattle.um_syntax.specs.Lexing.{HasTokens}
-use Rattle.um_tree.specs.RawTree.{DeclText}
+use Rattle.um_tree.specs.RawTree.{DeclSyntax}
 use Rattle.um_parse.specs.Parsed.{IsRead}
 use Rattle.um_names.specs.Readable.{IsReadable}
 use Rattle.um_readable.proofs.TokenCounts.{tokens_within}
@@ -22,7 +22,7 @@ tokens_within_bytes bytes tokens utf8 h =
     let short = chars_within bytes utf8 in
     omega (arith, few, short)
 
-pub readable_program : (bytes : List ℕ) (tokens : List Token) (ds : List DeclText) → IsUtf8 bytes → length bytes ≤ 1048576 → HasTokens (chars bytes) tokens → IsRead tokens ds → IsReadable ds
+pub readable_program : (bytes : List ℕ) (tokens : List Token) (ds : List DeclSyntax) → IsUtf8 bytes → length bytes ≤ 1048576 → HasTokens (chars bytes) tokens → IsRead tokens ds → IsReadable ds
 readable_program bytes tokens ds utf8 short h read =
     let within = chars_within bytes utf8 in
     readable (chars bytes) tokens ds h (omega (arith, short, within)) read

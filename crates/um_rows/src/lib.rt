@@ -1,41 +1,8 @@
-//! Tests of the layers and of those that cross them, as tables. Nothing stands on this crate.
+//! The equations of a function: rows of units over slots, whose joint solutions are exactly the function's typings.
+//!
+//! Each two units that a typing rule asks to be equal give a row, the first over the second, and a unit that the program
+//! leaves open is a slot (Kennedy, Programming Languages and Dimensions, 1996, on the inference of units). The order of the
+//! rows and of the slots, and the range of powers, are this project's own.
 #![tactic(auto)]
 
-#[cfg(test)]
-mod answers;
-#[cfg(test)]
-mod expression_trees;
-#[cfg(test)]
-mod faults;
-#[cfg(test)]
-mod functions;
-#[cfg(test)]
-mod layouts;
-#[cfg(test)]
-mod limits;
-#[cfg(test)]
-mod names;
-#[cfg(test)]
-mod numbers;
-#[cfg(test)]
-mod program_trees;
-#[cfg(test)]
-mod programs;
-#[cfg(test)]
-mod refusals;
-#[cfg(test)]
-mod runs;
-#[cfg(test)]
-mod shapes;
-#[cfg(test)]
-mod shown;
-#[cfg(test)]
-mod signature_texts;
-#[cfg(test)]
-mod signatures;
-#[cfg(test)]
-mod texts;
-#[cfg(test)]
-mod unit_texts;
-#[cfg(test)]
-mod units;
+pub mod laws;

@@ -7,7 +7,7 @@ use Rattle.um_tree.specs.declared.expression.Arith.{Arith}
 use Rattle.um_tree.specs.declared.expression.Arith.TheVariants as arith_of
 use Rattle.um_tree.specs.declared.expression.Sign.{Sign}
 use Rattle.um_tree.specs.declared.expression.Sign.TheVariants as compare
-use Rattle.um_tree.specs.RawTree.{NoteText, TypeText, BinderText, ExprText, ExprTexts, FieldTexts, truth_text, number_text, name_text, call_text, negate_text, not_text, arith_text, compare_text, and_text, or_text, if_text, let_text, match_text, nil_text, list_text, cons_text, fields_text, field_text, bracket_expr_text, no_exprs, more_exprs, no_fields, more_fields}
+use Rattle.um_tree.specs.RawTree.{NoteSyntax, TypeSyntax, BinderSyntax, ExprSyntax, ExprSyntaxes, FieldSyntaxes, truth_syntax, number_syntax, name_syntax, call_syntax, negate_syntax, not_syntax, arith_syntax, compare_syntax, and_syntax, or_syntax, if_syntax, let_syntax, match_syntax, nil_syntax, list_syntax, cons_syntax, fields_syntax, field_syntax, bracket_expr_syntax, no_exprs, more_exprs, no_fields, more_fields}
 use Rattle.um_expr.specs.declared.mark.Infix.{Infix}
 use Rattle.um_expr.specs.declared.mark.Infix.TheVariants as infix_of
 use Rattle.um_expr.specs.ExprTokens.{expr_token}
@@ -64,17 +64,17 @@ bound_step None g d ps t h c = (h, refl, c)
 bound_step (Some x) g d ps t h c = (h, refl, c)
 
 -- a binder and what follows it
-pub binder_links : (x : BinderText) (tokens rest : List Token) → BinderSpells x tokens rest → AllGood tokens → Good (binder_piece x) × AllGood rest
+pub binder_links : (x : BinderSyntax) (tokens rest : List Token) → BinderSpells x tokens rest → AllGood tokens → Good (binder_piece x) × AllGood rest
 binder_links x tokens rest s h = let b = first_good tokens rest s.0 s.3 h in (bound_good x.name s.0.kind s.1 b.0, b.1)
 
-pub binder_step : (x : BinderText) (g : Bool) (ps : List Piece) → Good (binder_piece x) → Chain full ps full → Chain (fresh g false) (binder_piece x ∷ ps) full
+pub binder_step : (x : BinderSyntax) (g : Bool) (ps : List Piece) → Good (binder_piece x) → Chain full ps full → Chain (fresh g false) (binder_piece x ∷ ps) full
 binder_step x g ps h c = bound_step x.name g false ps full h c
 
 truth_chain : (b g : Bool) → Chain (fresh g false) (truth_piece b ∷ []) full
 truth_chain true g = (lit< tt, refl, refl)
 truth_chain false g = (lit< tt, refl, refl)
 
-written_links : (n : Option NoteText) (tokens rest : List Token) → WrittenNote n tokens rest → NoteFitsIn n → AllGood tokens → Linked full (written_pieces n) full rest
+written_links : (n : Option NoteSyntax) (tokens rest : List Token) → WrittenNote n tokens rest → NoteFitsIn n → AllGood tokens → Linked full (written_pieces n) full rest
 written_links None tokens rest s f h = linked_all tokens rest s h
 written_links (Some n) tokens rest s f h = angle_links n tokens s.0 s.1 rest s.2.0 s.4.0 s.2.3 s.3 s.4.2 f h
 
@@ -90,7 +90,7 @@ empty_arm_chain : (ps : List Piece) → Chain (fresh false false) ps full → Ch
 empty_arm_chain ps c = spaced_word 7 (list_open ∷ list_close ∷ space ∷ arrow ∷ space ∷ ps) (lit< tt) (lit< tt, refl, (lit< tt, refl, (tt, refl, (lit< tt, refl, (tt, refl, c)))))
 
 -- ` | x :: y -> ` and what follows
-full_arm_chain : (x y : BinderText) (ps : List Piece) → Good (binder_piece x) → Good (binder_piece y) → Chain (fresh false false) ps full
+full_arm_chain : (x y : BinderSyntax) (ps : List Piece) → Good (binder_piece x) → Good (binder_piece y) → Chain (fresh false false) ps full
     → Chain full (space ∷ bar ∷ space ∷ binder_piece x ∷ space ∷ double_colon ∷ space ∷ binder_piece y ∷ space ∷ arrow ∷ space ∷ ps) full
 full_arm_chain x y ps gx gy c =
     let last = binder_step y false (space ∷ arrow ∷ space ∷ ps) gy (tt, refl, (lit< tt, refl, (tt, refl, c))) in
@@ -98,7 +98,7 @@ full_arm_chain x y ps gx gy c =
     (tt, refl, (lit< tt, refl, (tt, refl, first)))
 
 -- `([] : T)`
-nil_links : (at : ℕ) (t : TypeText) (tokens rest : List Token) → NilSpells at t tokens rest → Fits (nil_text at t) → AllGood tokens → (g : Bool) → Linked (fresh g false) (expr_pieces (nil_text at t)) full rest
+nil_links : (at : ℕ) (t : TypeSyntax) (tokens rest : List Token) → NilSpells at t tokens rest → Fits (nil_syntax at t) → AllGood tokens → (g : Bool) → Linked (fresh g false) (expr_pieces (nil_syntax at t)) full rest
 nil_links at t tokens rest s f h g =
     let empty = (first_good tokens s.0 s.5.0 s.5.3 h).1 in let close = (first_good s.0 s.1 s.6.0 s.6.2 empty).1 in
     let colons = (first_good s.1 s.2 s.7.0 s.7.2 close).1 in let written = (first_good s.2 s.3 s.8.0 s.8.2 colons).1 in
@@ -111,36 +111,36 @@ nil_links at t tokens rest s f h g =
 -- ---- expressions
 
 mutual
-  pub expr_links : (e : ExprText) (tokens rest : List Token) → Spells e tokens rest → Fits e → AllGood tokens → (g : Bool) → Linked (fresh g false) (expr_pieces e) full rest
-  expr_links (truth_text at b) tokens rest s f h g = record { chain = truth_chain b g; good = (first_good tokens rest s.0 s.3 h).1 }
-  expr_links (number_text at c n) tokens rest s f h g =
+  pub expr_links : (e : ExprSyntax) (tokens rest : List Token) → Spells e tokens rest → Fits e → AllGood tokens → (g : Bool) → Linked (fresh g false) (expr_pieces e) full rest
+  expr_links (truth_syntax at b) tokens rest s f h g = record { chain = truth_chain b g; good = (first_good tokens rest s.0 s.3 h).1 }
+  expr_links (number_syntax at c n) tokens rest s f h g =
       let b = first_good tokens s.0 s.1.0 s.1.3 h in let r = written_links n s.0 rest s.2 f b.1 in
       record { chain = (number_good s.1.0.kind c s.1.1 b.0, refl, r.chain); good = r.good }
-  expr_links (name_text at x) tokens rest s f h g =
+  expr_links (name_syntax at x) tokens rest s f h g =
       let b = first_good tokens rest s.0 s.3 h in record { chain = (name_good s.0.kind x s.1 b.0, refl, refl); good = b.1 }
-  expr_links (call_text at x args) tokens rest s f h g =
+  expr_links (call_syntax at x args) tokens rest s f h g =
       let b = first_good tokens s.0 s.1.0 s.1.3 h in let r = argument_links args s.0 rest s.2 f.1 b.1 in
       record { chain = (name_good s.1.0.kind x s.1.1 b.0, refl, r.chain); good = r.good }
-  expr_links (negate_text at e) tokens rest s f h g =
+  expr_links (negate_syntax at e) tokens rest s f h g =
       let r = expr_links e s.0 rest s.2 f.1 (first_good tokens s.0 s.1.0 s.1.3 h).1 true in record { chain = (lit< tt, refl, r.chain); good = r.good }
-  expr_links (not_text at e) tokens rest s f h g =
+  expr_links (not_syntax at e) tokens rest s f h g =
       let r = expr_links e s.0 rest s.2 f.1 (first_good tokens s.0 s.1.0 s.1.3 h).1 false in record { chain = (lit< tt, refl, (tt, refl, r.chain)); good = r.good }
-  expr_links (arith_text at op a b) tokens rest s f h g =
+  expr_links (arith_syntax at op a b) tokens rest s f h g =
       let r = expr_links a tokens s.0 s.2 f.2 h g in let q = expr_links b s.1 rest s.4 f.3 (infix_behind (infix_of.Arith op) (ends_in_number a) at s.0 s.1 s.3 r.good) false in
       record { chain = regroup (expr_pieces a) (space ∷ arith_piece op ∷ []) (space ∷ expr_pieces b) (fresh g false) full (link (expr_pieces a) (space ∷ arith_piece op ∷ space ∷ expr_pieces b) g false r.chain (spaced_arith op (expr_pieces b) q.chain)); good = q.good }
-  expr_links (compare_text at sign a b) tokens rest s f h g =
+  expr_links (compare_syntax at sign a b) tokens rest s f h g =
       let r = expr_links a tokens s.0 s.2 f.2 h g in let q = expr_links b s.1 rest s.4 f.3 (infix_behind (infix_of.Compare sign) (ends_in_number a) at s.0 s.1 s.3 r.good) false in
       record { chain = regroup (expr_pieces a) (space ∷ compare_pieces sign) (space ∷ expr_pieces b) (fresh g false) full (link (expr_pieces a) (space ∷ compare_pieces sign ++ space ∷ expr_pieces b) g false r.chain (spaced_compare sign (expr_pieces b) q.chain)); good = q.good }
-  expr_links (and_text at a b) tokens rest s f h g =
+  expr_links (and_syntax at a b) tokens rest s f h g =
       let r = expr_links a tokens s.0 s.2 f.2 h g in let q = expr_links b s.1 rest s.4 f.3 (infix_behind infix_of.And (ends_in_number a) at s.0 s.1 s.3 r.good) false in
       record { chain = regroup (expr_pieces a) (space ∷ double_and ∷ []) (space ∷ expr_pieces b) (fresh g false) full (link (expr_pieces a) (space ∷ double_and ∷ space ∷ expr_pieces b) g false r.chain (tt, refl, (lit< tt, refl, (tt, refl, q.chain)))); good = q.good }
-  expr_links (or_text at a b) tokens rest s f h g =
+  expr_links (or_syntax at a b) tokens rest s f h g =
       let r = expr_links a tokens s.0 s.2 f.2 h g in let q = expr_links b s.1 rest s.4 f.3 (infix_behind infix_of.Or (ends_in_number a) at s.0 s.1 s.3 r.good) false in
       record { chain = regroup (expr_pieces a) (space ∷ double_bar ∷ []) (space ∷ expr_pieces b) (fresh g false) full (link (expr_pieces a) (space ∷ double_bar ∷ space ∷ expr_pieces b) g false r.chain (tt, refl, (lit< tt, refl, (tt, refl, q.chain)))); good = q.good }
-  expr_links (cons_text at a b) tokens rest s f h g =
+  expr_links (cons_syntax at a b) tokens rest s f h g =
       let r = expr_links a tokens s.0 s.2 f.2 h g in let q = expr_links b s.1 rest s.4 f.3 (infix_behind infix_of.Cons (ends_in_number a) at s.0 s.1 s.3 r.good) false in
       record { chain = regroup (expr_pieces a) (space ∷ double_colon ∷ []) (space ∷ expr_pieces b) (fresh g false) full (link (expr_pieces a) (space ∷ double_colon ∷ space ∷ expr_pieces b) g false r.chain (tt, refl, (lit< tt, refl, (tt, refl, q.chain)))); good = q.good }
-  expr_links (if_text at c a b) tokens rest s f h g =
+  expr_links (if_syntax at c a b) tokens rest s f h g =
       let o = expr_links c s.0 s.1 s.6 f.0 (first_good tokens s.0 s.5.0 s.5.3 h).1 false in
       let r = expr_links a s.2 s.3 s.8 f.1 (first_good s.1 s.2 s.7.0 s.7.2 o.good).1 false in
       let q = expr_links b s.4 rest s.10 f.2 (first_good s.3 s.4 s.9.0 s.9.2 r.good).1 false in
@@ -149,7 +149,7 @@ mutual
       let both = spaced_word 4 (expr_pieces a ++ space ∷ else_word ∷ space ∷ expr_pieces b) (lit< tt) middle in
       let whole = link (expr_pieces c) (space ∷ then_word ∷ space ∷ expr_pieces a ++ space ∷ else_word ∷ space ∷ expr_pieces b) false false o.chain both in
       record { chain = regroup (if_word ∷ space ∷ expr_pieces c) (space ∷ then_word ∷ space ∷ expr_pieces a) (space ∷ else_word ∷ space ∷ expr_pieces b) (fresh g false) full (lit< tt, refl, (tt, refl, whole)); good = q.good }
-  expr_links (let_text at x a b) tokens rest s f h g =
+  expr_links (let_syntax at x a b) tokens rest s f h g =
       let o = binder_links x s.0 s.1 s.6 (first_good tokens s.0 s.5.0 s.5.3 h).1 in
       let r = expr_links a s.2 s.3 s.8 f.0 (first_good s.1 s.2 s.7.0 s.7.2 o.1).1 false in
       let q = expr_links b s.4 rest s.10 f.1 (first_good s.3 s.4 s.9.0 s.9.2 r.good).1 false in
@@ -157,7 +157,7 @@ mutual
       let value = link (expr_pieces a) (space ∷ in_word ∷ space ∷ expr_pieces b) false false r.chain last in
       let others = expr_pieces a ++ space ∷ in_word ∷ space ∷ expr_pieces b in
       record { chain = (lit< tt, refl, (tt, refl, binder_step x false (space ∷ equal ∷ space ∷ others) o.0 (spaced_equal others value))); good = q.good }
-  expr_links (match_text at l a x y b) tokens rest s f h g =
+  expr_links (match_syntax at l a x y b) tokens rest s f h g =
       let o = expr_links l s.0 s.1 s.6 f.0 (first_good tokens s.0 s.5.0 s.5.3 h).1 false in
       let r = expr_links a s.2 s.3 s.8 f.1 (empty_arm_behind s.1 s.2 s.7 o.good) false in
       let arm = s.9 in
@@ -169,39 +169,39 @@ mutual
       let first = empty_arm_chain (expr_pieces a ++ second) (link (expr_pieces a) second false false r.chain last) in
       let whole = link (expr_pieces l) (space ∷ with_word ∷ space ∷ list_open ∷ list_close ∷ space ∷ arrow ∷ space ∷ expr_pieces a ++ second) false false o.chain first in
       record { chain = regroup (match_word ∷ space ∷ expr_pieces l) (space ∷ with_word ∷ space ∷ list_open ∷ list_close ∷ space ∷ arrow ∷ space ∷ expr_pieces a) second (fresh g false) full (lit< tt, refl, (tt, refl, whole)); good = q.good }
-  expr_links (nil_text at t) tokens rest s f h g = nil_links at t tokens rest s f h g
-  expr_links (list_text at es) tokens rest s f h g =
+  expr_links (nil_syntax at t) tokens rest s f h g = nil_links at t tokens rest s f h g
+  expr_links (list_syntax at es) tokens rest s f h g =
       let r = item_links es s.0 s.1 s.3 f (first_good tokens s.0 s.2.0 s.2.3 h).1 in
       record { chain = (lit< tt, refl, link (item_pieces es) (list_close ∷ []) true false r.chain (lit< tt, refl, refl)); good = (first_good s.1 rest s.4.0 s.4.2 r.good).1 }
-  expr_links (fields_text at fs) tokens rest s f h g =
+  expr_links (fields_syntax at fs) tokens rest s f h g =
       let r = field_links fs s.0 s.1 s.3 f (first_good tokens s.0 s.2.0 s.2.3 h).1 in
       record { chain = (lit< tt, refl, (tt, refl, link (field_pieces fs) (space ∷ record_close ∷ []) false false r.chain (tt, refl, (lit< tt, refl, refl)))); good = (first_good s.1 rest s.4.0 s.4.2 r.good).1 }
-  expr_links (field_text at place x e) tokens rest s f h g =
+  expr_links (field_syntax at place x e) tokens rest s f h g =
       let r = expr_links e tokens s.0 s.2 f.1 h g in let b = first_good s.1 rest s.4.0 s.4.3 (first_good s.0 s.1 s.3.0 s.3.3 r.good).1 in
       record { chain = link (expr_pieces e) (dot ∷ name x ∷ []) g false r.chain (lit< tt, refl, (name_good s.4.0.kind x s.4.1 b.0, refl, refl)); good = b.1 }
-  expr_links (bracket_expr_text at e) tokens rest s f h g =
+  expr_links (bracket_expr_syntax at e) tokens rest s f h g =
       let r = expr_links e s.0 s.1 s.3 f (first_good tokens s.0 s.2.0 s.2.3 h).1 true in
       record { chain = (lit< tt, refl, link (expr_pieces e) (bracket_close ∷ []) true false r.chain (lit< tt, refl, refl)); good = (first_good s.1 rest s.4.0 s.4.2 r.good).1 }
 
-  argument_links : (es : ExprTexts) (tokens rest : List Token) → AllSpell es tokens rest → AreAtoms es → AllGood tokens → Linked full (argument_pieces es) full rest
+  argument_links : (es : ExprSyntaxes) (tokens rest : List Token) → AllSpell es tokens rest → AreAtoms es → AllGood tokens → Linked full (argument_pieces es) full rest
   argument_links no_exprs tokens rest s f h = linked_all tokens rest s h
   argument_links (more_exprs e es) tokens rest s f h =
       let r = expr_links e tokens s.0 s.1 f.1 h false in let q = argument_links es s.0 rest s.2 f.2 r.good in
       record { chain = (tt, refl, link (expr_pieces e) (argument_pieces es) false false r.chain q.chain); good = q.good }
 
-  item_links : (es : ExprTexts) (tokens rest : List Token) → ItemsSpell es tokens rest → AllFit es → AllGood tokens → Linked (fresh true false) (item_pieces es) full rest
+  item_links : (es : ExprSyntaxes) (tokens rest : List Token) → ItemsSpell es tokens rest → AllFit es → AllGood tokens → Linked (fresh true false) (item_pieces es) full rest
   item_links no_exprs tokens rest s f h = absurd s
   item_links (more_exprs e es) tokens rest s f h =
       let r = expr_links e tokens s.0 s.1 f.0 h true in let q = more_item_links es s.0 rest s.2 f.1 r.good in
       record { chain = link (expr_pieces e) (more_item_pieces es) true false r.chain q.chain; good = q.good }
 
-  more_item_links : (es : ExprTexts) (tokens rest : List Token) → MoreItems es tokens rest → AllFit es → AllGood tokens → Linked full (more_item_pieces es) full rest
+  more_item_links : (es : ExprSyntaxes) (tokens rest : List Token) → MoreItems es tokens rest → AllFit es → AllGood tokens → Linked full (more_item_pieces es) full rest
   more_item_links no_exprs tokens rest s f h = linked_all tokens rest s h
   more_item_links (more_exprs e es) tokens rest s f h =
       let r = expr_links e s.0 s.1 s.3 f.0 (first_good tokens s.0 s.2.0 s.2.2 h).1 false in let q = more_item_links es s.1 rest s.4 f.1 r.good in
       record { chain = (lit< tt, refl, (tt, refl, link (expr_pieces e) (more_item_pieces es) false false r.chain q.chain)); good = q.good }
 
-  field_links : (fs : FieldTexts) (tokens rest : List Token) → FieldsSpell fs tokens rest → FieldsFit fs → AllGood tokens → Linked (fresh false false) (field_pieces fs) full rest
+  field_links : (fs : FieldSyntaxes) (tokens rest : List Token) → FieldsSpell fs tokens rest → FieldsFit fs → AllGood tokens → Linked (fresh false false) (field_pieces fs) full rest
   field_links no_fields tokens rest s f h = absurd s
   field_links (more_fields at x e fs) tokens rest s f h =
       let b = first_good tokens s.0 s.3.0 s.3.3 h in
@@ -209,7 +209,7 @@ mutual
       let others = expr_pieces e ++ more_field_pieces fs in
       record { chain = (name_good s.3.0.kind x s.3.1 b.0, refl, spaced_equal others (link (expr_pieces e) (more_field_pieces fs) false false r.chain q.chain)); good = q.good }
 
-  more_field_links : (fs : FieldTexts) (tokens rest : List Token) → MoreFields fs tokens rest → FieldsFit fs → AllGood tokens → Linked full (more_field_pieces fs) full rest
+  more_field_links : (fs : FieldSyntaxes) (tokens rest : List Token) → MoreFields fs tokens rest → FieldsFit fs → AllGood tokens → Linked full (more_field_pieces fs) full rest
   more_field_links no_fields tokens rest s f h = linked_all tokens rest s h
   more_field_links (more_fields at x e fs) tokens rest s f h =
       let b = first_good s.0 s.1 s.5.0 s.5.3 (first_good tokens s.0 s.4.0 s.4.2 h).1 in

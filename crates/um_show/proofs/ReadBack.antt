@@ -7,7 +7,7 @@ use lib.Utf8.{encodes, encode}
 use Rattle.um_syntax.specs.declared.token.Token.{Token}
 use Rattle.um_syntax.specs.Lexeme.{begins}
 use Rattle.um_syntax.specs.Lexing.{Lexes, HasTokens}
-use Rattle.um_tree.specs.RawTree.{DeclText, base_text, short_text, record_decl_text, function_text}
+use Rattle.um_tree.specs.RawTree.{DeclSyntax, base_syntax, short_syntax, record_decl_syntax, function_syntax}
 use Rattle.um_show.specs.Layout.{program_pieces, layout}
 use Rattle.um_show.specs.Laws.{LayoutIsReadBack}
 use Rattle.um_show.proofs.Chain.{fresh}
@@ -21,12 +21,12 @@ abbrev is_order : ℕ → Bool
 is_order c = c == 65279
 
 -- a layout begins with a word or sign
-layout_front : (ds : List DeclText) → get_or (layout ds) 0 0 < 128
+layout_front : (ds : List DeclSyntax) → get_or (layout ds) 0 0 < 128
 layout_front [] = lit< tt
-layout_front (base_text at x ∷ ds) = lit< tt
-layout_front (short_text at x u ∷ ds) = lit< tt
-layout_front (record_decl_text at x vs fs ∷ ds) = lit< tt
-layout_front (function_text f ∷ ds) = lit< tt
+layout_front (base_syntax at x ∷ ds) = lit< tt
+layout_front (short_syntax at x u ∷ ds) = lit< tt
+layout_front (record_decl_syntax at x vs fs ∷ ds) = lit< tt
+layout_front (function_syntax f ∷ ds) = lit< tt
 
 high_byte : (more : List ℕ) → get_or (encodes (65279 ∷ more)) 0 0 < 128 → ⊥
 unfolding lib.Utf8.encode

@@ -3,7 +3,7 @@ use Rattle.std.proofs.Common.{◌≡◌, ℕ, zero, suc, ◌≤◌, ℤ, pos, Bo
 use Rattle.std.specs.Prelude.{neg_ℤ}
 use Rattle.std.proofs.lemmas.Bool.{false≢true}
 use Rattle.um_syntax.specs.declared.token.Token.{Token}
-use Rattle.um_tree.specs.RawTree.{UnitText, UnitTexts, one_text, measure_text, variable_text, power_text, side_text, times_text, over_text, inverse_text, bracket_text, no_units, more_units}
+use Rattle.um_tree.specs.RawTree.{UnitSyntax, UnitSyntaxes, one_syntax, measure_syntax, variable_syntax, power_syntax, side_syntax, times_syntax, over_syntax, inverse_syntax, bracket_syntax, no_units, more_units}
 use Rattle.um_types.specs.UnitGrammar.{Digits, PowerSpells, Spells, AllSpell, Fits, ArePowers, rank}
 use Rattle.um_show.specs.Pieces.{Piece, caret, times, over, bracket_close}
 use Rattle.um_show.specs.Layout.{power_pieces, unit_pieces, more_side_pieces}
@@ -59,37 +59,37 @@ no_rank n h = omega (arith, h)
 
 -- behind `/` stands none that begins with another `/`
 mutual
-  pub unit_links : (u : UnitText) (tokens rest : List Token) → Spells u tokens rest → Fits u → AllGood tokens → (g d : Bool) → (d ≡ true → rank u ≤ 2) → Linked (fresh g d) (unit_pieces u) full rest
-  unit_links (one_text at) tokens rest s f h g d low = record { chain = (omega arith, refl, refl); good = (first_good tokens rest s.1.0 s.1.3 h).1 }
-  unit_links (measure_text at x) tokens rest s f h g d low =
+  pub unit_links : (u : UnitSyntax) (tokens rest : List Token) → Spells u tokens rest → Fits u → AllGood tokens → (g d : Bool) → (d ≡ true → rank u ≤ 2) → Linked (fresh g d) (unit_pieces u) full rest
+  unit_links (one_syntax at) tokens rest s f h g d low = record { chain = (omega arith, refl, refl); good = (first_good tokens rest s.1.0 s.1.3 h).1 }
+  unit_links (measure_syntax at x) tokens rest s f h g d low =
       let b = first_good tokens rest s.0 s.3 h in record { chain = (measure_good s.0.kind x s.1 b.0, refl, refl); good = b.1 }
-  unit_links (variable_text at x) tokens rest s f h g d low =
+  unit_links (variable_syntax at x) tokens rest s f h g d low =
       let b = first_good tokens rest s.0 s.3 h in record { chain = (unit_variable_good s.0.kind x s.1 b.0, refl, refl); good = b.1 }
-  unit_links (power_text u k) tokens rest s f h g d low =
+  unit_links (power_syntax u k) tokens rest s f h g d low =
       let r = unit_links u tokens s.0 s.2 f.1 h g d (λ e. no_rank (rank u) f.0) in
       let q = power_links k s.1 rest s.4 (first_good s.0 s.1 s.3.0 s.3.2 r.good).1 in
       record { chain = link (unit_pieces u) (caret ∷ power_pieces k) g d r.chain (lit< tt, refl, q.chain); good = q.good }
-  unit_links (side_text no_units) tokens rest s f h g d low = absurd f.0
-  unit_links (side_text (more_units u us)) tokens rest s f h g d low =
+  unit_links (side_syntax no_units) tokens rest s f h g d low = absurd f.0
+  unit_links (side_syntax (more_units u us)) tokens rest s f h g d low =
       let r = unit_links u tokens s.0 s.1 f.1.1 h g d (λ e. low_rank (rank u) f.1.0) in
       let q = more_links us s.0 rest s.2 f.1.2 r.good in
       record { chain = link (unit_pieces u) (more_side_pieces us) g d r.chain q.chain; good = q.good }
-  unit_links (times_text u v) tokens rest s f h g d low =
+  unit_links (times_syntax u v) tokens rest s f h g d low =
       let r = unit_links u tokens s.0 s.2 f.1 h g d (λ e. absurd (too_high (low e))) in
       let q = unit_links v s.1 rest s.4 f.2 (first_good s.0 s.1 s.3.0 s.3.2 r.good).1 true false never in
       record { chain = link (unit_pieces u) (times ∷ unit_pieces v) g d r.chain (lit< tt, refl, q.chain); good = q.good }
-  unit_links (over_text u v) tokens rest s f h g d low =
+  unit_links (over_syntax u v) tokens rest s f h g d low =
       let r = unit_links u tokens s.0 s.2 f.1 h g d (λ e. absurd (too_high (low e))) in
       let q = unit_links v s.1 rest s.4 f.2 (first_good s.0 s.1 s.3.0 s.3.2 r.good).1 true true (λ e. f.0) in
       record { chain = link (unit_pieces u) (over ∷ unit_pieces v) g d r.chain (lit< tt, refl, q.chain); good = q.good }
-  unit_links (inverse_text at u) tokens rest s f h g d low =
+  unit_links (inverse_syntax at u) tokens rest s f h g d low =
       let q = unit_links u s.0 rest s.2 f.1 (first_good tokens s.0 s.1.0 s.1.3 h).1 true true (λ e. f.0) in
       record { chain = (lit< tt, no_slash d (λ e. high (low e)), q.chain); good = q.good }
-  unit_links (bracket_text at u) tokens rest s f h g d low =
+  unit_links (bracket_syntax at u) tokens rest s f h g d low =
       let r = unit_links u s.0 s.1 s.3 f (first_good tokens s.0 s.2.0 s.2.3 h).1 true false never in
       record { chain = (lit< tt, refl, link (unit_pieces u) (bracket_close ∷ []) true false r.chain (lit< tt, refl, refl)); good = (first_good s.1 rest s.4.0 s.4.2 r.good).1 }
 
-  more_links : (us : UnitTexts) (tokens rest : List Token) → AllSpell us tokens rest → ArePowers us → AllGood tokens → Linked full (more_side_pieces us) full rest
+  more_links : (us : UnitSyntaxes) (tokens rest : List Token) → AllSpell us tokens rest → ArePowers us → AllGood tokens → Linked full (more_side_pieces us) full rest
   more_links no_units tokens rest s f h = linked_all tokens rest s h
   more_links (more_units u us) tokens rest s f h =
       let r = unit_links u tokens s.0 s.1 f.1 h false false never in

@@ -1,8 +1,8 @@
 // The texts of declarations and programs.
 ghost use Rattle.std.specs.Prelude.{◌≡◌, ◌++◌, IfOk, OnOk, map};
 ghost use Rattle.std.specs.List.{flat_map, join_by};
-ghost use Rattle.um_tree.specs.RawTree.{var_text, field_decl_text, param_text, written_type, whole_function_text, decl_text};
-ghost use Rattle.um_tree.specs.RawTree.{program_text as program_tree};
+ghost use Rattle.um_tree.specs.RawTree.{var_syntax, field_decl_syntax, param_syntax, written_type, whole_function_syntax, decl_syntax};
+ghost use Rattle.um_tree.specs.RawTree.{program_syntax};
 ghost use Rattle.um_show.specs.Pieces.{text_of};
 ghost use Rattle.um_show.specs.Layout.{var_pieces, var_list_pieces, field_decl_pieces, param_pieces, result_pieces, rec_pieces, function_pieces, decl_pieces, line_pieces, layout};
 ghost use Rattle.um_show.specs.Lists.{field_decls_text, record_decl_text};
@@ -19,7 +19,7 @@ use um_units::NoMemory;
 ///
 /// Comments and places are not in the tree, so they are dropped. `NoMemory` is its one error. The layout is this project's own.
 pub fn program_text(alloc: Global, raw: &RawProgram) -> Result<Vec<u8>, NoMemory>
-    ensures { IfOk result (λ text. text.items ≡ layout (program_tree raw.now)) }
+    ensures { IfOk result (λ text. text.items ≡ layout (program_syntax raw.now)) }
 {
     let mut text = Vec::new(alloc);
     push_lines(&mut text, &raw.items)?;
@@ -27,7 +27,7 @@ pub fn program_text(alloc: Global, raw: &RawProgram) -> Result<Vec<u8>, NoMemory
 }
 
 fn push_lines(text: &mut Vec<u8>, decls: &[RawDecl]) -> Result<(), AllocError>
-    ensures { OnOk result (text.new.items ≡ text.old.items ++ layout (map decl_text decls.now)) }
+    ensures { OnOk result (text.new.items ≡ text.old.items ++ layout (map decl_syntax decls.now)) }
 {
     for decl in decls {
         push_line(text, decl)?;
@@ -36,14 +36,14 @@ fn push_lines(text: &mut Vec<u8>, decls: &[RawDecl]) -> Result<(), AllocError>
 }
 
 fn push_line(text: &mut Vec<u8>, decl: &RawDecl) -> Result<(), AllocError>
-    ensures { OnOk result (text.new.items ≡ text.old.items ++ text_of (line_pieces (decl_text decl.now))) }
+    ensures { OnOk result (text.new.items ≡ text.old.items ++ text_of (line_pieces (decl_syntax decl.now))) }
 {
     push_decl(text, decl)?;
     text.extend_from_slice(b"\n")
 }
 
 fn push_decl(text: &mut Vec<u8>, decl: &RawDecl) -> Result<(), AllocError>
-    ensures { OnOk result (text.new.items ≡ text.old.items ++ text_of (decl_pieces (decl_text decl.now))) }
+    ensures { OnOk result (text.new.items ≡ text.old.items ++ text_of (decl_pieces (decl_syntax decl.now))) }
 {
     match decl {
         RawDecl::Base(_, name) => {
@@ -70,7 +70,7 @@ fn push_record(
     vars: &[RawVar],
     fields: &[RawFieldDecl],
 ) -> Result<(), AllocError>
-    ensures { OnOk result (text.new.items ≡ text.old.items ++ record_decl_text name.now (map var_text vars.now) (map field_decl_text fields.now)) }
+    ensures { OnOk result (text.new.items ≡ text.old.items ++ record_decl_text name.now (map var_syntax vars.now) (map field_decl_syntax fields.now)) }
 {
     text.extend_from_slice(b"type ")?;
     push_name(text, name)?;
@@ -82,7 +82,7 @@ fn push_record(
 
 /// Adds unit parameters in angle brackets, where there are some.
 fn push_vars(text: &mut Vec<u8>, vars: &[RawVar]) -> Result<(), AllocError>
-    ensures { OnOk result (text.new.items ≡ text.old.items ++ text_of (var_list_pieces (map var_text vars.now))) }
+    ensures { OnOk result (text.new.items ≡ text.old.items ++ text_of (var_list_pieces (map var_syntax vars.now))) }
 {
     let Some((first, rest)) = vars.split_first() else {
         return Ok(());
@@ -97,7 +97,7 @@ fn push_vars(text: &mut Vec<u8>, vars: &[RawVar]) -> Result<(), AllocError>
 }
 
 fn push_var(text: &mut Vec<u8>, var: &RawVar) -> Result<(), AllocError>
-    ensures { OnOk result (text.new.items ≡ text.old.items ++ text_of (var_pieces (var_text var.now))) }
+    ensures { OnOk result (text.new.items ≡ text.old.items ++ text_of (var_pieces (var_syntax var.now))) }
 {
     text.extend_from_slice(b"[<Measure>] ")?;
     push_variable(text, &var.name)
@@ -105,7 +105,7 @@ fn push_var(text: &mut Vec<u8>, var: &RawVar) -> Result<(), AllocError>
 
 /// Adds declared fields, `; ` between each two.
 fn push_field_decls(text: &mut Vec<u8>, fields: &[RawFieldDecl]) -> Result<(), AllocError>
-    ensures { OnOk result (text.new.items ≡ text.old.items ++ field_decls_text (map field_decl_text fields.now)) }
+    ensures { OnOk result (text.new.items ≡ text.old.items ++ field_decls_text (map field_decl_syntax fields.now)) }
 {
     let Some((first, rest)) = fields.split_first() else {
         return Ok(());
@@ -119,7 +119,7 @@ fn push_field_decls(text: &mut Vec<u8>, fields: &[RawFieldDecl]) -> Result<(), A
 }
 
 fn push_field_decl(text: &mut Vec<u8>, field: &RawFieldDecl) -> Result<(), AllocError>
-    ensures { OnOk result (text.new.items ≡ text.old.items ++ text_of (field_decl_pieces (field_decl_text field.now))) }
+    ensures { OnOk result (text.new.items ≡ text.old.items ++ text_of (field_decl_pieces (field_decl_syntax field.now))) }
 {
     push_name(text, &field.name)?;
     text.extend_from_slice(b": ")?;
@@ -128,7 +128,7 @@ fn push_field_decl(text: &mut Vec<u8>, field: &RawFieldDecl) -> Result<(), Alloc
 
 /// Adds a function.
 fn push_function(text: &mut Vec<u8>, function: &RawFunction) -> Result<(), AllocError>
-    ensures { OnOk result (text.new.items ≡ text.old.items ++ text_of (function_pieces (whole_function_text function.now))) }
+    ensures { OnOk result (text.new.items ≡ text.old.items ++ text_of (function_pieces (whole_function_syntax function.now))) }
 {
     text.extend_from_slice(b"let ")?;
     push_rec(text, function.recursive)?;
@@ -149,7 +149,7 @@ fn push_rec(text: &mut Vec<u8>, recursive: bool) -> Result<(), AllocError>
 }
 
 fn push_params(text: &mut Vec<u8>, params: &[RawParam]) -> Result<(), AllocError>
-    ensures { OnOk result (text.new.items ≡ text.old.items ++ text_of (flat_map param_pieces (map param_text params.now))) }
+    ensures { OnOk result (text.new.items ≡ text.old.items ++ text_of (flat_map param_pieces (map param_syntax params.now))) }
 {
     for param in params {
         push_param(text, param)?;
@@ -159,7 +159,7 @@ fn push_params(text: &mut Vec<u8>, params: &[RawParam]) -> Result<(), AllocError
 
 /// Adds a parameter, with a space before it.
 fn push_param(text: &mut Vec<u8>, param: &RawParam) -> Result<(), AllocError>
-    ensures { OnOk result (text.new.items ≡ text.old.items ++ text_of (param_pieces (param_text param.now))) }
+    ensures { OnOk result (text.new.items ≡ text.old.items ++ text_of (param_pieces (param_syntax param.now))) }
 {
     text.extend_from_slice(b" (")?;
     push_binder(text, &param.binder)?;

@@ -1,6 +1,6 @@
 // The texts of expressions.
 ghost use Rattle.std.specs.Prelude.{◌≡◌, ◌++◌, ◌∷◌, [], OnOk, map};
-ghost use Rattle.um_tree.specs.RawTree.{binder_text, expr_text, exprs_in_order, field_part, fields_in_order};
+ghost use Rattle.um_tree.specs.RawTree.{binder_syntax, expr_syntax, exprs_in_order, field_part, fields_in_order};
 ghost use Rattle.um_show.specs.Pieces.{text_of, piece_text};
 ghost use Rattle.um_show.specs.Layout.{truth_piece, binder_piece, arith_piece, compare_pieces, expr_pieces, argument_pieces, item_pieces, field_pieces};
 ghost use Rattle.um_show.specs.Lists.{spaced_text, let_text, arms_text, part_text};
@@ -15,7 +15,7 @@ use um_tree::{Arith, Binder, RawExpr, RawField, RawNode, Sign};
 /// Adds an expression.
 #[cycle(push_expr)]
 pub(crate) fn push_expr(text: &mut Vec<u8>, e: &RawExpr) -> Result<(), AllocError>
-    ensures { OnOk result (text.new.items ≡ text.old.items ++ text_of (expr_pieces (expr_text e.now))) }
+    ensures { OnOk result (text.new.items ≡ text.old.items ++ text_of (expr_pieces (expr_syntax e.now))) }
 {
     match &e.node {
         RawNode::Bool(b) => push_truth(text, *b),
@@ -114,7 +114,7 @@ pub(crate) fn push_expr(text: &mut Vec<u8>, e: &RawExpr) -> Result<(), AllocErro
 /// Adds expressions, a space before each.
 #[cycle(push_expr)]
 fn push_arguments(text: &mut Vec<u8>, items: &[RawExpr]) -> Result<(), AllocError>
-    ensures { OnOk result (text.new.items ≡ text.old.items ++ text_of (argument_pieces (exprs_in_order (map expr_text items.now)))) }
+    ensures { OnOk result (text.new.items ≡ text.old.items ++ text_of (argument_pieces (exprs_in_order (map expr_syntax items.now)))) }
 {
     for i in 0..items.len() {
         text.push(b' ')?;
@@ -126,7 +126,7 @@ fn push_arguments(text: &mut Vec<u8>, items: &[RawExpr]) -> Result<(), AllocErro
 /// Adds expressions, `; ` between each two.
 #[cycle(push_expr)]
 fn push_items(text: &mut Vec<u8>, items: &[RawExpr]) -> Result<(), AllocError>
-    ensures { OnOk result (text.new.items ≡ text.old.items ++ text_of (item_pieces (exprs_in_order (map expr_text items.now)))) }
+    ensures { OnOk result (text.new.items ≡ text.old.items ++ text_of (item_pieces (exprs_in_order (map expr_syntax items.now)))) }
 {
     for i in 0..items.len() {
         push_gap(text, i, b"; ")?;
@@ -194,7 +194,7 @@ fn push_compare(text: &mut Vec<u8>, sign: Sign) -> Result<(), AllocError>
 
 /// Adds `let x = `.
 fn push_let(text: &mut Vec<u8>, x: &Binder) -> Result<(), AllocError>
-    ensures { OnOk result (text.new.items ≡ text.old.items ++ let_text (binder_text x.now)) }
+    ensures { OnOk result (text.new.items ≡ text.old.items ++ let_text (binder_syntax x.now)) }
 {
     text.extend_from_slice(b"let ")?;
     push_binder(text, x)?;
@@ -203,7 +203,7 @@ fn push_let(text: &mut Vec<u8>, x: &Binder) -> Result<(), AllocError>
 
 /// Adds ` | x :: y -> `.
 fn push_full_arm(text: &mut Vec<u8>, x: &Binder, y: &Binder) -> Result<(), AllocError>
-    ensures { OnOk result (text.new.items ≡ text.old.items ++ arms_text (binder_text x.now) (binder_text y.now)) }
+    ensures { OnOk result (text.new.items ≡ text.old.items ++ arms_text (binder_syntax x.now) (binder_syntax y.now)) }
 {
     text.extend_from_slice(b" | ")?;
     push_binder(text, x)?;

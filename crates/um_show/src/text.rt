@@ -1,6 +1,6 @@
 // Adding to a text.
 ghost use Rattle.std.specs.Prelude.{◌≡◌, ◌++◌, ◌∷◌, [], OnOk};
-ghost use Rattle.um_tree.specs.RawTree.{binder_text};
+ghost use Rattle.um_tree.specs.RawTree.{binder_syntax};
 ghost use Rattle.um_show.specs.Pieces.{piece_text};
 ghost use Rattle.um_show.specs.Layout.{binder_piece};
 ghost use Rattle.um_show.specs.Lists.{gap_before};
@@ -34,7 +34,7 @@ pub(crate) fn push_variable(text: &mut Vec<u8>, name: &Name) -> Result<(), Alloc
 
 /// Adds a name that is bound, or `_`.
 pub(crate) fn push_binder(text: &mut Vec<u8>, binder: &Binder) -> Result<(), AllocError>
-    ensures { OnOk result (text.new.items ≡ text.old.items ++ piece_text (binder_piece (binder_text binder.now))) }
+    ensures { OnOk result (text.new.items ≡ text.old.items ++ piece_text (binder_piece (binder_syntax binder.now))) }
 {
     match &binder.name {
         Some(name) => push_name(text, name),

@@ -1,6 +1,6 @@
 // The texts of types.
 ghost use Rattle.std.specs.Prelude.{◌≡◌, ◌++◌, OnOk};
-ghost use Rattle.um_tree.specs.RawTree.{type_text};
+ghost use Rattle.um_tree.specs.RawTree.{type_syntax};
 ghost use Rattle.um_show.specs.Pieces.{text_of};
 ghost use Rattle.um_show.specs.Layout.{type_pieces};
 
@@ -12,7 +12,7 @@ use um_tree::RawType;
 /// Adds a type text.
 #[cycle(push_type)]
 pub(crate) fn push_type(text: &mut Vec<u8>, ty: &RawType) -> Result<(), AllocError>
-    ensures { OnOk result (text.new.items ≡ text.old.items ++ text_of (type_pieces (type_text ty.now))) }
+    ensures { OnOk result (text.new.items ≡ text.old.items ++ text_of (type_pieces (type_syntax ty.now))) }
 {
     match ty {
         RawType::Bool => text.extend_from_slice(b"bool"),

@@ -1,6 +1,6 @@
 // The texts of units and of what stands between `<` and `>`.
 ghost use Rattle.std.specs.Prelude.{◌≡◌, ◌++◌, OnOk, map};
-ghost use Rattle.um_tree.specs.RawTree.{unit_text, units_in_order, note_text, written_note};
+ghost use Rattle.um_tree.specs.RawTree.{unit_syntax, units_in_order, note_syntax, written_note};
 ghost use Rattle.um_show.specs.Pieces.{text_of};
 ghost use Rattle.um_show.specs.Layout.{unit_pieces, side_pieces, note_pieces, written_pieces, angled_pieces};
 
@@ -12,7 +12,7 @@ use um_tree::{RawNote, RawUnit};
 /// Adds a unit text.
 #[cycle(push_unit)]
 pub(crate) fn push_unit(text: &mut Vec<u8>, unit: &RawUnit) -> Result<(), AllocError>
-    ensures { OnOk result (text.new.items ≡ text.old.items ++ text_of (unit_pieces (unit_text unit.now))) }
+    ensures { OnOk result (text.new.items ≡ text.old.items ++ text_of (unit_pieces (unit_syntax unit.now))) }
 {
     match unit {
         RawUnit::One(_) => text.extend_from_slice(b"1"),
@@ -49,7 +49,7 @@ pub(crate) fn push_unit(text: &mut Vec<u8>, unit: &RawUnit) -> Result<(), AllocE
 /// Adds unit texts, a space between each two.
 #[cycle(push_unit)]
 fn push_side(text: &mut Vec<u8>, units: &[RawUnit]) -> Result<(), AllocError>
-    ensures { OnOk result (text.new.items ≡ text.old.items ++ text_of (side_pieces (units_in_order (map unit_text units.now)))) }
+    ensures { OnOk result (text.new.items ≡ text.old.items ++ text_of (side_pieces (units_in_order (map unit_syntax units.now)))) }
 {
     for i in 0..units.len() {
         push_gap(text, i, b" ")?;
@@ -60,7 +60,7 @@ fn push_side(text: &mut Vec<u8>, units: &[RawUnit]) -> Result<(), AllocError>
 
 /// Adds a unit text, or `_`.
 fn push_note(text: &mut Vec<u8>, note: &RawNote) -> Result<(), AllocError>
-    ensures { OnOk result (text.new.items ≡ text.old.items ++ text_of (note_pieces (note_text note.now))) }
+    ensures { OnOk result (text.new.items ≡ text.old.items ++ text_of (note_pieces (note_syntax note.now))) }
 {
     match note {
         RawNote::Hole(_) => text.extend_from_slice(b"_"),
@@ -82,7 +82,7 @@ pub(crate) fn push_written(text: &mut Vec<u8>, note: &Option<RawNote>) -> Result
 
 /// Adds notes in angle brackets, where there are some.
 pub(crate) fn push_angled(text: &mut Vec<u8>, notes: &[RawNote]) -> Result<(), AllocError>
-    ensures { OnOk result (text.new.items ≡ text.old.items ++ text_of (angled_pieces (map note_text notes.now))) }
+    ensures { OnOk result (text.new.items ≡ text.old.items ++ text_of (angled_pieces (map note_syntax notes.now))) }
 {
     let Some((first, rest)) = notes.split_first() else {
         return Ok(());

@@ -24,7 +24,7 @@ use Rattle.um_shape.specs.declared.stop.ShapeStop.TheVariants as shape_stop
 use Rattle.um_shape.specs.FirstFault.{first_fault}
 use Rattle.um_shape.specs.ShapedProgram.{IsRefusal}
 use Rattle.um_closed.specs.ClosedProgram.{IsClosedProgram}
-use Rattle.um_tree.specs.RawTree.{DeclText}
+use Rattle.um_tree.specs.RawTree.{DeclSyntax}
 use Rattle.um_tree.specs.ProgramTree.{ProgramTree}
 use Rattle.um_parse.specs.DeclGrammar.{IsProgram}
 use Rattle.um_parse.specs.ProgramHeights.{program_height}
@@ -64,27 +64,27 @@ text_not_refused bytes tokens text_stop.NoMemory text status lexed refused reply
 
 -- ---- a program that is read isn't refused
 
-not_passed : (before : ℕ) (ds : List DeclText) (kind : LimitKind) (at : ℕ) → WithinLimits before ds → PassesAt before ds kind at → ⊥
+not_passed : (before : ℕ) (ds : List DeclSyntax) (kind : LimitKind) (at : ℕ) → WithinLimits before ds → PassesAt before ds kind at → ⊥
 not_passed before [] kind at within passes = passes
 not_passed before (d ∷ ds) kind at within passes =
     not_passed (before + functions_in d) ds kind at within.1 (rw within.0 at passes)
 
-not_stopped : (tokens : List Token) (ds : List DeclText) (k : ℕ) → IsProgram tokens ds → StopsAt tokens k → ⊥
+not_stopped : (tokens : List Token) (ds : List DeclSyntax) (k : ℕ) → IsProgram tokens ds → StopsAt tokens k → ⊥
 not_stopped tokens ds k is stops = by_place (cases_lt k (length tokens))
   where
     by_place : (k < length tokens) ⊎ (length tokens ≤ k) → ⊥
     by_place (inl below) = stops.through below (drop (k + 1) tokens, ds, rw (take-append-drop (k + 1) tokens) is)
     by_place (inr past) = stops.none (omega (arith, past, stops.within)) ds is
 
-not_high : (tokens : List Token) (ds : List DeclText) (k : ℕ) → IsProgram tokens ds → program_height ds ≤ greatest_height → HighAt tokens k → ⊥
+not_high : (tokens : List Token) (ds : List DeclSyntax) (k : ℕ) → IsProgram tokens ds → program_height ds ≤ greatest_height → HighAt tokens k → ⊥
 not_high tokens ds k is low high = high.none (drop (k + 1) tokens, ds, rw (take-append-drop (k + 1) tokens) is, low)
 
-not_limited : (tokens : List Token) (ds : List DeclText) (end : ℕ) (kind : LimitKind) (at : ℕ) → IsRead tokens ds → LimitAt tokens end kind at → ⊥
+not_limited : (tokens : List Token) (ds : List DeclSyntax) (end : ℕ) (kind : LimitKind) (at : ℕ) → IsRead tokens ds → LimitAt tokens end kind at → ⊥
 not_limited tokens ds end limit.Height at read high = not_high tokens ds high.0 read.is read.low high.2
 not_limited tokens ds end kind at read large =
     not_passed 0 ds kind at read.small (subst (λ other. PassesAt 0 other kind at) (read.only large.ds large.is) large.passes)
 
-program_not_refused : (tokens : List Token) (ds : List DeclText) (end : ℕ) (stop : ParseStop) (bytes text : List ℕ) (status : Status) → IsRead tokens ds → Parsed tokens end (Err stop) → IsParseReply bytes stop text status → ⊥
+program_not_refused : (tokens : List Token) (ds : List DeclSyntax) (end : ℕ) (stop : ParseStop) (bytes text : List ℕ) (status : Status) → IsRead tokens ds → Parsed tokens end (Err stop) → IsParseReply bytes stop text status → ⊥
 program_not_refused tokens ds end (parse_stop.Syntax at) bytes text status read refused reply = not_stopped tokens ds refused.0 read.is refused.2
 program_not_refused tokens ds end (parse_stop.Limit kind at) bytes text status read refused reply = not_limited tokens ds end kind at read refused
 program_not_refused tokens ds end parse_stop.NoMemory bytes text status read refused reply = reply
@@ -111,7 +111,7 @@ unfolding ShapesAnswer
 shapes_done bytes p text status faultless closed typed (inl (none, answer)) = types_done bytes p text status closed typed answer
 shapes_done bytes p text status faultless closed typed (inr (stop, refused, reply)) = absurd (not_refused p stop bytes text status faultless refused reply)
 
-not_faulty : (raw : List DeclText) (p : ProgramTree) (stop : NameStop) (bytes text : List ℕ) (status : Status) → resolved_program raw ≡ Ok p → IsFirst (resolved_program raw) stop → IsNameReply bytes stop text status → ⊥
+not_faulty : (raw : List DeclSyntax) (p : ProgramTree) (stop : NameStop) (bytes text : List ℕ) (status : Status) → resolved_program raw ≡ Ok p → IsFirst (resolved_program raw) stop → IsNameReply bytes stop text status → ⊥
 not_faulty raw p (name_stop.Unknown at) bytes text status ok err reply = cc (sym ok ∙ err)
 not_faulty raw p (name_stop.Twice at) bytes text status ok err reply = cc (sym ok ∙ err)
 not_faulty raw p (name_stop.WrongCount at) bytes text status ok err reply = cc (sym ok ∙ err)
@@ -119,7 +119,7 @@ not_faulty raw p (name_stop.Hole at) bytes text status ok err reply = cc (sym ok
 not_faulty raw p (name_stop.Range at) bytes text status ok err reply = cc (sym ok ∙ err)
 not_faulty raw p name_stop.NoMemory bytes text status ok err reply = reply
 
-names_done : (bytes : List ℕ) (raw : List DeclText) (text : List ℕ) (status : Status) → IsTyped raw → NamesAnswer bytes raw text status → status ≡ Done
+names_done : (bytes : List ℕ) (raw : List DeclSyntax) (text : List ℕ) (status : Status) → IsTyped raw → NamesAnswer bytes raw text status → status ≡ Done
 unfolding NamesAnswer
 names_done bytes raw text status typed (inl (p, resolved, answer)) =
     let ok : Ok p ≡ Ok typed.program = sym resolved ∙ typed.resolved in
@@ -127,18 +127,18 @@ names_done bytes raw text status typed (inl (p, resolved, answer)) =
     shapes_done bytes typed.program text status typed.faultless typed.closed typed.typed (subst (λ q. ShapesAnswer bytes q text status) same answer)
 names_done bytes raw text status typed (inr (stop, refused, reply)) = absurd (not_faulty raw typed.program stop bytes text status typed.resolved refused reply)
 
-program_done : (order : Order) (bytes : List ℕ) (ds : List DeclText) (text : List ℕ) (status : Status) → GoesThrough order ds → ProgramAnswer order bytes ds text status → status ≡ Done
+program_done : (order : Order) (bytes : List ℕ) (ds : List DeclSyntax) (text : List ℕ) (status : Status) → GoesThrough order ds → ProgramAnswer order bytes ds text status → status ≡ Done
 unfolding ProgramAnswer
 program_done Fmt bytes ds text status goes answer = answer.1
 program_done Types bytes ds text status goes answer = names_done bytes ds text status goes answer
 
-grammar_done : (order : Order) (bytes : List ℕ) (tokens : List Token) (ds : List DeclText) (text : List ℕ) (status : Status) → IsRead tokens ds → GoesThrough order ds → GrammarAnswer order bytes tokens text status → status ≡ Done
+grammar_done : (order : Order) (bytes : List ℕ) (tokens : List Token) (ds : List DeclSyntax) (text : List ℕ) (status : Status) → IsRead tokens ds → GoesThrough order ds → GrammarAnswer order bytes tokens text status → status ≡ Done
 unfolding GrammarAnswer
 grammar_done order bytes tokens ds text status read goes (inl (program, is, answer)) =
     program_done order bytes program text status (subst (GoesThrough order) (is.only ds read.is) goes) answer
 grammar_done order bytes tokens ds text status read goes (inr (stop, refused, reply)) = absurd (program_not_refused tokens ds (length bytes) stop bytes text status read refused reply)
 
-tokens_done : (order : Order) (bytes : List ℕ) (tokens : List Token) (ds : List DeclText) (text : List ℕ) (status : Status) → IsTextAnswer bytes (Ok tokens) → IsRead tokens ds → GoesThrough order ds → TokensAnswer order bytes text status → status ≡ Done
+tokens_done : (order : Order) (bytes : List ℕ) (tokens : List Token) (ds : List DeclSyntax) (text : List ℕ) (status : Status) → IsTextAnswer bytes (Ok tokens) → IsRead tokens ds → GoesThrough order ds → TokensAnswer order bytes text status → status ≡ Done
 unfolding TokensAnswer
 tokens_done order bytes tokens ds text status lexed read goes (inl (others, is, answer)) =
     let same : others ≡ tokens = unique_tokens (chars bytes) others tokens is.1 lexed.1 in

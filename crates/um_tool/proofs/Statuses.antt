@@ -10,7 +10,7 @@ use Rattle.um_measures.specs.declared.stop.NameStop.{NameStop}
 use Rattle.um_measures.specs.declared.stop.NameStop.TheVariants as name_stop
 use Rattle.um_shape.specs.declared.stop.ShapeStop.{ShapeStop}
 use Rattle.um_shape.specs.declared.stop.ShapeStop.TheVariants as shape_stop
-use Rattle.um_tree.specs.RawTree.{DeclText}
+use Rattle.um_tree.specs.RawTree.{DeclSyntax}
 use Rattle.um_tree.specs.ProgramTree.{ProgramTree}
 use Rattle.um_tool.specs.Refusals.{IsTextReply, IsParseReply, IsNameReply, IsShapeReply}
 use Rattle.um_tool.specs.declared.status.Status.{Status}
@@ -56,12 +56,12 @@ name_reply bytes (name_stop.Hole at) text status reply = rw reply.1 refl
 name_reply bytes (name_stop.Range at) text status reply = rw reply.1 refl
 name_reply bytes name_stop.NoMemory text status reply = absurd reply
 
-NamesAnswer-status : (bytes : List ℕ) (raw : List DeclText) (text : List ℕ) (status : Status) → NamesAnswer bytes raw text status → IsTrue (is_answered status)
+NamesAnswer-status : (bytes : List ℕ) (raw : List DeclSyntax) (text : List ℕ) (status : Status) → NamesAnswer bytes raw text status → IsTrue (is_answered status)
 unfolding NamesAnswer
 NamesAnswer-status bytes raw text status (inl (p, resolved, answer)) = ShapesAnswer-status bytes p text status answer
 NamesAnswer-status bytes raw text status (inr (stop, refused, reply)) = name_reply bytes stop text status reply
 
-ProgramAnswer-status : (order : Order) (bytes : List ℕ) (program : List DeclText) (text : List ℕ) (status : Status) → ProgramAnswer order bytes program text status → IsTrue (is_answered status)
+ProgramAnswer-status : (order : Order) (bytes : List ℕ) (program : List DeclSyntax) (text : List ℕ) (status : Status) → ProgramAnswer order bytes program text status → IsTrue (is_answered status)
 unfolding ProgramAnswer
 ProgramAnswer-status Fmt bytes program text status reply = rw reply.1 refl
 ProgramAnswer-status Types bytes program text status answer = NamesAnswer-status bytes program text status answer

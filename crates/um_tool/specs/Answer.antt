@@ -10,7 +10,7 @@ use Rattle.um_syntax.specs.declared.token.Token.{Token}
 use Rattle.um_syntax.specs.declared.token.TextStop.{TextStop}
 use Rattle.um_syntax.specs.Feeding.{IsTextAnswer}
 use Rattle.um_types.specs.declared.parse.ParseStop.{ParseStop}
-use Rattle.um_tree.specs.RawTree.{DeclText}
+use Rattle.um_tree.specs.RawTree.{DeclSyntax}
 use Rattle.um_tree.specs.ProgramTree.{ProgramTree}
 use Rattle.um_parse.specs.Parsed.{IsRead, Parsed}
 use Rattle.um_measures.specs.declared.stop.NameStop.{NameStop}
@@ -48,20 +48,20 @@ ShapesAnswer bytes p text status =
     ⊎ ((stop : ShapeStop) × IsRefusal (first_fault p) stop × IsShapeReply bytes stop text status)
 
 -- the program that the names stand for, or the first fault of the names
-unfoldable pub NamesAnswer : List ℕ → List DeclText → List ℕ → Status → Type 0
+unfoldable pub NamesAnswer : List ℕ → List DeclSyntax → List ℕ → Status → Type 0
 NamesAnswer bytes raw text status =
     ((p : ProgramTree) × (resolved_program raw ≡ Ok p) × ShapesAnswer bytes p text status)
     ⊎ ((stop : NameStop) × IsFirst (resolved_program raw) stop × IsNameReply bytes stop text status)
 
 -- the layout of the program, or what its types are
-unfoldable pub ProgramAnswer : Order → List ℕ → List DeclText → List ℕ → Status → Type 0
+unfoldable pub ProgramAnswer : Order → List ℕ → List DeclSyntax → List ℕ → Status → Type 0
 ProgramAnswer Fmt bytes raw text status = IsReply text status (layout raw) Done
 ProgramAnswer Types bytes raw text status = NamesAnswer bytes raw text status
 
 -- the program that the tokens are, or their refusal
 unfoldable pub GrammarAnswer : Order → List ℕ → List Token → List ℕ → Status → Type 0
 GrammarAnswer order bytes tokens text status =
-    ((program : List DeclText) × IsRead tokens program × ProgramAnswer order bytes program text status)
+    ((program : List DeclSyntax) × IsRead tokens program × ProgramAnswer order bytes program text status)
     ⊎ ((stop : ParseStop) × Parsed tokens (length bytes) (Err stop) × IsParseReply bytes stop text status)
 
 -- the tokens of the text, or its refusal

@@ -8,7 +8,7 @@ use Rattle.um_tree.specs.ProgramTree.{FunctionTree, ProgramTree, Signature}
 use Rattle.um_tree.specs.Typing.{Typing}
 use Rattle.um_syntax.specs.declared.token.Token.{Token}
 use Rattle.um_syntax.specs.Feeding.{IsTextAnswer}
-use Rattle.um_tree.specs.RawTree.{DeclText}
+use Rattle.um_tree.specs.RawTree.{DeclSyntax}
 use Rattle.um_parse.specs.Parsed.{IsRead}
 use Rattle.um_names.specs.Parts.{resolved_program}
 use Rattle.um_shape.specs.FirstFault.{first_fault}
@@ -62,7 +62,7 @@ abbrev pub EachIsTyped : ProgramTree → Type 0
 EachIsTyped p = (i : ℕ) (f : FunctionTree) → slice_get p.functions i ≡ Some f → (g : Signature) × Typing p i g
 
 -- the names are known, the shapes are right, every unit is written, and each function has a typing
-pub record IsTyped (raw : List DeclText) : Type 0 where
+pub record IsTyped (raw : List DeclSyntax) : Type 0 where
   pub program : ProgramTree
   pub resolved : resolved_program raw ≡ Ok program
   pub faultless : first_fault program ≡ None
@@ -70,7 +70,7 @@ pub record IsTyped (raw : List DeclText) : Type 0 where
   pub typed : EachIsTyped program
 
 -- each step behind the grammar goes through
-abbrev pub GoesThrough : Order → List DeclText → Type 0
+abbrev pub GoesThrough : Order → List DeclSyntax → Type 0
 GoesThrough Types raw = IsTyped raw
 GoesThrough Fmt raw = Unit {0}
 
@@ -82,7 +82,7 @@ pub record IsComplete (words : List (List ℕ)) (bytes : List ℕ) : Type 0 wher
   pub short : length bytes ≤ 1048576
   pub tokens : List Token
   pub lexed : IsTextAnswer bytes (Ok tokens)
-  pub raw : List DeclText
+  pub raw : List DeclSyntax
   pub read : IsRead tokens raw
   pub goes_through : GoesThrough order raw
 

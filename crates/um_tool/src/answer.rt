@@ -2,7 +2,7 @@
 ghost use Rattle.std.specs.Prelude.{ℕ, List, ◌≤◌, ◌≡◌, length, IfOk, Ok};
 ghost use Rattle.um_tool.specs.Answer.{TokensAnswer, GrammarAnswer, ProgramAnswer, NamesAnswer, ShapesAnswer, TypesAnswer, IsNotBuilt};
 ghost use Rattle.um_syntax.specs.Feeding.{IsTextAnswer};
-ghost use Rattle.um_tree.specs.RawTree.{program_text as raw_tree};
+ghost use Rattle.um_tree.specs.RawTree.{program_syntax};
 ghost use Rattle.um_tree.specs.ProgramTree.{program_tree};
 ghost use Rattle.um_tree.specs.Formed.{IsFormed};
 ghost use Rattle.um_names.specs.Readable.{IsReadable};
@@ -75,8 +75,8 @@ fn answer_program(
     bytes: &[u8],
     program: &RawProgram,
 ) -> Result<Reply, AllocError>
-    requires readable { IsReadable (raw_tree program.now) }
-    ensures { IfOk result (λ reply. ProgramAnswer order bytes.now (raw_tree program.now) reply.text.items reply.status) }
+    requires readable { IsReadable (program_syntax program.now) }
+    ensures { IfOk result (λ reply. ProgramAnswer order bytes.now (program_syntax program.now) reply.text.items reply.status) }
 {
     match order {
         Order::Fmt => Ok(Reply {
@@ -90,8 +90,8 @@ fn answer_program(
 /// The types of a program, where its names are known.
 #[tactic(auto, unfolding(crate::specs::Answer::NamesAnswer))]
 fn answer_names(alloc: Global, bytes: &[u8], program: &RawProgram) -> Result<Reply, AllocError>
-    requires readable { IsReadable (raw_tree program.now) }
-    ensures { IfOk result (λ reply. NamesAnswer bytes.now (raw_tree program.now) reply.text.items reply.status) }
+    requires readable { IsReadable (program_syntax program.now) }
+    ensures { IfOk result (λ reply. NamesAnswer bytes.now (program_syntax program.now) reply.text.items reply.status) }
 {
     match resolve(alloc, program) {
         Ok(program) => answer_shapes(alloc, bytes, program),

@@ -1,6 +1,6 @@
 // The height and the number of nodes of an expression as it is written.
 ghost use Rattle.std.specs.Prelude.{◌≡◌, ◌≤◌, ◌<◌, ◌^◌, map};
-ghost use Rattle.um_tree.specs.RawTree.{expr_text, exprs_in_order, field_part, fields_in_order};
+ghost use Rattle.um_tree.specs.RawTree.{expr_syntax, exprs_in_order, field_part, fields_in_order};
 ghost use Rattle.um_tree.specs.Heights.{expr_height, tallest_expr, tallest_field, expr_nodes, all_expr_nodes, all_field_nodes};
 
 use crate::{RawExpr, RawField, RawNode};
@@ -11,8 +11,8 @@ use crate::{RawExpr, RawField, RawNode};
 /// The rule is this project's own.
 #[cycle(height)]
 pub fn height(e: &RawExpr) -> u32
-    requires low { expr_height (expr_text e.now) ≤ 400 }
-    ensures { result ≡ expr_height (expr_text e.now) }
+    requires low { expr_height (expr_syntax e.now) ≤ 400 }
+    ensures { result ≡ expr_height (expr_syntax e.now) }
 {
     match &e.node {
         RawNode::Bool(_) | RawNode::Num(_, _) | RawNode::Name(_) => 1,
@@ -35,8 +35,8 @@ pub fn height(e: &RawExpr) -> u32
 
 #[cycle(height)]
 fn tallest(items: &[RawExpr]) -> u32
-    requires low { tallest_expr (exprs_in_order (map expr_text items.now)) ≤ 400 }
-    ensures { result ≡ tallest_expr (exprs_in_order (map expr_text items.now)) }
+    requires low { tallest_expr (exprs_in_order (map expr_syntax items.now)) ≤ 400 }
+    ensures { result ≡ tallest_expr (exprs_in_order (map expr_syntax items.now)) }
 {
     let mut top: u32 = 0;
     for i in (0..items.len()).rev() {
@@ -71,8 +71,8 @@ fn part_height(field: &RawField) -> u32
 /// The rule is this project's own.
 #[cycle(nodes)]
 pub fn nodes(e: &RawExpr) -> u32
-    requires few { expr_nodes (expr_text e.now) < 2 ^ 32 }
-    ensures { result ≡ expr_nodes (expr_text e.now) }
+    requires few { expr_nodes (expr_syntax e.now) < 2 ^ 32 }
+    ensures { result ≡ expr_nodes (expr_syntax e.now) }
 {
     match &e.node {
         RawNode::Bool(_) | RawNode::Num(_, _) | RawNode::Name(_) | RawNode::Nil(_) => 1,
@@ -93,8 +93,8 @@ pub fn nodes(e: &RawExpr) -> u32
 
 #[cycle(nodes)]
 fn all_nodes(items: &[RawExpr]) -> u32
-    requires few { all_expr_nodes (exprs_in_order (map expr_text items.now)) < 2 ^ 32 }
-    ensures { result ≡ all_expr_nodes (exprs_in_order (map expr_text items.now)) }
+    requires few { all_expr_nodes (exprs_in_order (map expr_syntax items.now)) < 2 ^ 32 }
+    ensures { result ≡ all_expr_nodes (exprs_in_order (map expr_syntax items.now)) }
 {
     let mut total: u32 = 0;
     for i in (0..items.len()).rev() {

@@ -1,6 +1,6 @@
 //! Worked examples: sizes of small expressions, names, and values of small inputs.
 ghost use Rattle.std.specs.Prelude.{◌≡◌, true, [], IfOk};
-ghost use Rattle.um_tree.specs.RawTree.{expr_text, truth_text, bracket_expr_text, arith_text, list_text, fields_text, no_exprs, more_exprs, no_fields, more_fields};
+ghost use Rattle.um_tree.specs.RawTree.{expr_syntax, truth_syntax, bracket_expr_syntax, arith_syntax, list_syntax, fields_syntax, no_exprs, more_exprs, no_fields, more_fields};
 ghost use Rattle.um_tree.specs.declared.expression.Arith.TheVariants.{Add};
 
 use crate::{
@@ -20,28 +20,28 @@ fn expr(node: RawNode) -> RawExpr
 
 // A truth value.
 fn truth() -> RawExpr
-    ensures { expr_text result ≡ truth_text 0 true }
+    ensures { expr_syntax result ≡ truth_syntax 0 true }
 {
     expr(RawNode::Bool(true))
 }
 
 // Brackets round an expression.
 fn bracket(alloc: Global, e: RawExpr) -> Result<RawExpr, AllocError>
-    ensures { IfOk result (λ r. expr_text r ≡ bracket_expr_text 0 (expr_text e)) }
+    ensures { IfOk result (λ r. expr_syntax r ≡ bracket_expr_syntax 0 (expr_syntax e)) }
 {
     Ok(expr(RawNode::Bracket(Box::new(alloc, e)?)))
 }
 
 // The sum of two expressions.
 fn sum(alloc: Global, a: RawExpr, b: RawExpr) -> Result<RawExpr, AllocError>
-    ensures { IfOk result (λ r. expr_text r ≡ arith_text 0 Add (expr_text a) (expr_text b)) }
+    ensures { IfOk result (λ r. expr_syntax r ≡ arith_syntax 0 Add (expr_syntax a) (expr_syntax b)) }
 {
     Ok(expr(RawNode::Arith(Arith::Add, Box::new(alloc, a)?, Box::new(alloc, b)?)))
 }
 
 // The list of two expressions.
 fn pair(alloc: Global, a: RawExpr, b: RawExpr) -> Result<RawExpr, AllocError>
-    ensures { IfOk result (λ r. expr_text r ≡ list_text 0 (more_exprs (expr_text a) (more_exprs (expr_text b) no_exprs))) }
+    ensures { IfOk result (λ r. expr_syntax r ≡ list_syntax 0 (more_exprs (expr_syntax a) (more_exprs (expr_syntax b) no_exprs))) }
 {
     Ok(expr(RawNode::List(RawExprs {
         items: vec![in alloc; a, b]?,
@@ -50,7 +50,7 @@ fn pair(alloc: Global, a: RawExpr, b: RawExpr) -> Result<RawExpr, AllocError>
 
 // An expression in a record text of one field.
 fn boxed(alloc: Global, a: RawExpr) -> Result<RawExpr, AllocError>
-    ensures { IfOk result (λ r. expr_text r ≡ fields_text 0 (more_fields 0 [] (expr_text a) no_fields)) }
+    ensures { IfOk result (λ r. expr_syntax r ≡ fields_syntax 0 (more_fields 0 [] (expr_syntax a) no_fields)) }
 {
     let field = RawField {
         at: 0,

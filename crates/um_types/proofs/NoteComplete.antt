@@ -3,7 +3,7 @@ use Rattle.std.proofs.Common.{◌≡◌, ◌≢◌, ℕ, List, [], ◌∷◌, �
 use Rattle.um_syntax.specs.declared.token.Token.{Token}
 use Rattle.um_syntax.specs.declared.token.Kind.{Kind}
 use Rattle.um_syntax.specs.declared.token.Kind.TheVariants as kind
-use Rattle.um_tree.specs.RawTree.{UnitText, NoteText, hole_text, unit_note_text}
+use Rattle.um_tree.specs.RawTree.{UnitSyntax, NoteSyntax, hole_syntax, unit_note_syntax}
 use Rattle.um_types.specs.UnitTokens.{sign, unit_token}
 use Rattle.um_types.specs.declared.unit_mark.Mark.TheVariants as mark
 use Rattle.um_types.specs.UnitGrammar.{Fits}
@@ -16,9 +16,9 @@ use Rattle.um_types.proofs.UnitComplete.{into}
 use Rattle.um_types.proofs.UnitNested.{unit_step, unit_finds, unit_reaches, other_refused}
 
 -- the state once a note was read
-abbrev pub note_into : NoteText → NoteState
-note_into (hole_text at) = HaveHole at
-note_into (unit_note_text at u) = InUnit at (into [] u)
+abbrev pub note_into : NoteSyntax → NoteState
+note_into (hole_syntax at) = HaveHole at
+note_into (unit_note_syntax at u) = InUnit at (into [] u)
 
 pub unit_goes_on : (at : ℕ) (u : State) → u ≢ Refused → unit_goes at u ≡ InUnit at u
 unit_goes_on at (Need frames) ok = refl
@@ -38,7 +38,7 @@ note_begin_unit (kind.Number value digits one) at new e ok = ap (unit_goes at) e
 note_begin_unit (kind.Word k) at new e ok = ap (unit_goes at) e ∙ unit_goes_on at new ok
 note_begin_unit (kind.Sign k) at new e ok = ap (unit_goes at) e ∙ unit_goes_on at new ok
 
-abbrev no_unit : Option UnitText
+abbrev no_unit : Option UnitSyntax
 no_unit = None
 
 same_first : (x y : Token) (xs ys : List Token) → x ∷ xs ≡ y ∷ ys → x ≡ y
@@ -48,7 +48,7 @@ in_unit : (at : ℕ) (u : State) → InUnit at u ≢ NoNote
 in_unit at u e = cc
 
 -- the first token of a unit text and then the others
-reads_unit : (at : ℕ) (u : UnitText) (tokens rest : List Token) → BeginsAt at tokens → Fits u → Reaches unit_step Refused (Need []) tokens (into [] u) rest
+reads_unit : (at : ℕ) (u : UnitSyntax) (tokens rest : List Token) → BeginsAt at tokens → Fits u → Reaches unit_step Refused (Need []) tokens (into [] u) rest
     → Reaches note_step NoNote NeedNote tokens (InUnit at (into [] u)) rest
 reads_unit at u tokens rest b fits ([], e, reached, ok) = absurd (let bad : no_unit ≡ Some u = ap finish reached ∙ unit_finds u fits in cc)
 reads_unit at u tokens rest b fits (x ∷ xs, e, reached, ok) =
@@ -66,17 +66,17 @@ reads_unit at u tokens rest b fits (x ∷ xs, e, reached, ok) =
 hole_goes : (at : ℕ) → HaveHole at ≢ NoNote
 hole_goes at e = cc
 
-pub note_reaches : (n : NoteText) (tokens rest : List Token) → NoteSpells n tokens rest → NoteFits n → Reaches note_step NoNote NeedNote tokens (note_into n) rest
-note_reaches (hole_text at) tokens rest s fits =
+pub note_reaches : (n : NoteSyntax) (tokens rest : List Token) → NoteSpells n tokens rest → NoteFits n → Reaches note_step NoNote NeedNote tokens (note_into n) rest
+note_reaches (hole_syntax at) tokens rest s fits =
     reaches_one note_step NoNote NeedNote (HaveHole at) s.0 tokens rest s.3 (ap (λ k. note_act NeedNote k s.0.start) s.1 ∙ ap (λ a. HaveHole a) s.2) (hole_goes at)
-note_reaches (unit_note_text at u) tokens rest s fits = reads_unit at u tokens rest s.0 fits (unit_reaches u tokens rest s.1 fits)
+note_reaches (unit_note_syntax at u) tokens rest s fits = reads_unit at u tokens rest s.0 fits (unit_reaches u tokens rest s.1 fits)
 
 -- what was read is found
-pub note_finds : (n : NoteText) → NoteFits n → note_finish (note_into n) ≡ Some n
-note_finds (hole_text at) fits = refl
-note_finds (unit_note_text at u) fits = ap (noted at) (unit_finds u fits)
+pub note_finds : (n : NoteSyntax) → NoteFits n → note_finish (note_into n) ≡ Some n
+note_finds (hole_syntax at) fits = refl
+note_finds (unit_note_syntax at u) fits = ap (noted at) (unit_finds u fits)
 
 -- and what stands in no unit text is refused behind it
-pub note_stops : (n : NoteText) (k : Kind) (at : ℕ) → unit_token k ≡ sign mark.Other → note_act (note_into n) k at ≡ NoNote
-note_stops (hole_text place) k at e = refl
-note_stops (unit_note_text place u) k at e = ap (unit_goes place) (ap (λ w. act (into [] u) w at) e ∙ other_refused (into [] u) at)
+pub note_stops : (n : NoteSyntax) (k : Kind) (at : ℕ) → unit_token k ≡ sign mark.Other → note_act (note_into n) k at ≡ NoNote
+note_stops (hole_syntax place) k at e = refl
+note_stops (unit_note_syntax place u) k at e = ap (unit_goes place) (ap (λ w. act (into [] u) w at) e ∙ other_refused (into [] u) at)

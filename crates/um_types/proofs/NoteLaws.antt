@@ -3,7 +3,7 @@ use Rattle.std.proofs.Common.{◌≡◌, ◌≢◌, ℕ, ◌≤◌, List, [], �
 use Rattle.um_syntax.specs.declared.token.Token.{Token}
 use Rattle.um_syntax.specs.declared.token.Kind.{Kind}
 use Rattle.um_syntax.specs.declared.token.Kind.TheVariants as kind
-use Rattle.um_tree.specs.RawTree.{UnitText, NoteText, hole_text, unit_note_text}
+use Rattle.um_tree.specs.RawTree.{UnitSyntax, NoteSyntax, hole_syntax, unit_note_syntax}
 use Rattle.um_types.specs.UnitTokens.{unit_token}
 use Rattle.um_types.specs.UnitMachine.{Frame, State, Need, Have, Raised, Lowered, Refused, act, finish}
 use Rattle.um_types.specs.UnitLeast.{least}
@@ -24,13 +24,13 @@ NoteStands NoNote tokens rest = Unit {0}
 need_is : (frames : List Frame) → Need frames ≢ Refused
 need_is frames e = cc
 
-have_is : (frames : List Frame) (t : UnitText) → Have frames t ≢ Refused
+have_is : (frames : List Frame) (t : UnitSyntax) → Have frames t ≢ Refused
 have_is frames t e = cc
 
-raised_is : (frames : List Frame) (t : UnitText) → Raised frames t ≢ Refused
+raised_is : (frames : List Frame) (t : UnitSyntax) → Raised frames t ≢ Refused
 raised_is frames t e = cc
 
-lowered_is : (frames : List Frame) (t : UnitText) → Lowered frames t ≢ Refused
+lowered_is : (frames : List Frame) (t : UnitSyntax) → Lowered frames t ≢ Refused
 lowered_is frames t e = cc
 
 goes_sound : (at : ℕ) (u : State) (tokens rest : List Token) → BeginsAt at tokens → (u ≢ Refused → UnitStands u tokens rest) → NoteStands (unit_goes at u) tokens rest
@@ -61,17 +61,17 @@ note_sound (HaveHole at) x tokens rest h = tt
 note_sound (InUnit at u) x tokens rest h = goes_sound at (unit_step u x) tokens rest h.0 (λ ok. unit_sound u x tokens rest h.1 ok)
 note_sound NoNote x tokens rest h = tt
 
-noted_is : (at : ℕ) (o : Option UnitText) (n : NoteText) → noted at o ≡ Some n → (u : UnitText) × (o ≡ Some u) × (unit_note_text at u ≡ n)
+noted_is : (at : ℕ) (o : Option UnitSyntax) (n : NoteSyntax) → noted at o ≡ Some n → (u : UnitSyntax) × (o ≡ Some u) × (unit_note_syntax at u ≡ n)
 noted_is at (Some u) n e = (u, refl, cc)
 noted_is at None n e = absurd cc
 
 -- what is found is a note
-pub note_found : (st : NoteState) (n : NoteText) (tokens rest : List Token) → NoteStands st tokens rest → note_finish st ≡ Some n → NoteSpells n tokens rest × NoteFits n
+pub note_found : (st : NoteState) (n : NoteSyntax) (tokens rest : List Token) → NoteStands st tokens rest → note_finish st ≡ Some n → NoteSpells n tokens rest × NoteFits n
 note_found (InUnit at u) n tokens rest h e =
     let w = noted_is at (finish u) n e in
     let p = unit_found u w.0 tokens rest h.1 w.1 in
     subst (λ m. NoteSpells m tokens rest × NoteFits m) w.2 ((h.0, p.0), p.1)
-note_found (HaveHole at) n tokens rest h e = let same : hole_text at ≡ n = cc in subst (λ m. NoteSpells m tokens rest × NoteFits m) same (h, tt)
+note_found (HaveHole at) n tokens rest h e = let same : hole_syntax at ≡ n = cc in subst (λ m. NoteSpells m tokens rest × NoteFits m) same (h, tt)
 note_found NeedNote n tokens rest h e = absurd cc
 note_found NoNote n tokens rest h e = absurd cc
 
@@ -86,11 +86,11 @@ note_ending (HaveHole at) = []
 note_ending (InUnit at u) = ending_of u
 note_ending NoNote = []
 
-abbrev pub note_completed : NoteState → NoteText
-note_completed NeedNote = hole_text 0
-note_completed (HaveHole at) = hole_text at
-note_completed (InUnit at u) = unit_note_text at (completed u)
-note_completed NoNote = hole_text 0
+abbrev pub note_completed : NoteState → NoteSyntax
+note_completed NeedNote = hole_syntax 0
+note_completed (HaveHole at) = hole_syntax at
+note_completed (InUnit at u) = unit_note_syntax at (completed u)
+note_completed NoNote = hole_syntax 0
 
 -- what isn't refused can be completed
 pub note_can_end : (st : NoteState) (tokens rest : List Token) → NoteStands st tokens (note_ending st ++ rest) → st ≢ NoNote → NoteSpells (note_completed st) tokens rest × NoteFits (note_completed st)
@@ -123,9 +123,9 @@ note_up (InUnit at u) x ok = goes_up at (least u) (unit_step u x) ok (λ goes. u
 note_up NoNote x ok = absurd (ok refl)
 
 -- what is found has it
-pub note_found_height : (st : NoteState) (n : NoteText) → note_finish st ≡ Some n → note_height n ≡ note_least st
+pub note_found_height : (st : NoteState) (n : NoteSyntax) → note_finish st ≡ Some n → note_height n ≡ note_least st
 note_found_height (InUnit at u) n e =
     let w = noted_is at (finish u) n e in ap note_height (sym w.2) ∙ found_height u w.0 w.1
-note_found_height (HaveHole at) n e = let same : hole_text at ≡ n = cc in ap note_height (sym same)
+note_found_height (HaveHole at) n e = let same : hole_syntax at ≡ n = cc in ap note_height (sym same)
 note_found_height NeedNote n e = absurd cc
 note_found_height NoNote n e = absurd cc

@@ -3,7 +3,7 @@ use Rattle.std.proofs.Common.{◌≡◌, ℕ, ◌+◌, ◌≤◌, List, ◌++◌
 use Rattle.std.proofs.lemmas.Bool.{cases_lt}
 use Rattle.std.proofs.lemmas.List.{take-append-drop, take-take}
 use Rattle.um_syntax.specs.declared.token.Token.{Token}
-use Rattle.um_tree.specs.RawTree.{TypeText}
+use Rattle.um_tree.specs.RawTree.{TypeSyntax}
 use Rattle.um_types.specs.TypeHeights.{all_height}
 use Rattle.um_types.specs.SignatureGrammar.{IsSignature, BeginsSignature, BeginsSignatureWithin, SignatureFails, SignatureHighAt}
 
@@ -21,21 +21,21 @@ begins_before tokens m n le b = (drop m (take n tokens) ++ b.0, b.1, subst (λ w
 pub within_before : (tokens : List Token) (m n height : ℕ) → m ≤ n → BeginsSignatureWithin height (take n tokens) → BeginsSignatureWithin height (take m tokens)
 within_before tokens m n height le b = (drop m (take n tokens) ++ b.0, b.1, subst (λ w. IsSignature w b.1) (fewer tokens b.0 m n le) b.2, b.3)
 
-begins_front : (tokens : List Token) (ts : List TypeText) (k : ℕ) → IsSignature tokens ts → BeginsSignature (take k tokens)
+begins_front : (tokens : List Token) (ts : List TypeSyntax) (k : ℕ) → IsSignature tokens ts → BeginsSignature (take k tokens)
 begins_front tokens ts k p = (drop k tokens, ts, subst (λ w. IsSignature w ts) (sym (take-append-drop k tokens)) p)
 
-within_front : (tokens : List Token) (ts : List TypeText) (k height : ℕ) → IsSignature tokens ts → all_height ts ≤ height → BeginsSignatureWithin height (take k tokens)
+within_front : (tokens : List Token) (ts : List TypeSyntax) (k height : ℕ) → IsSignature tokens ts → all_height ts ≤ height → BeginsSignatureWithin height (take k tokens)
 within_front tokens ts k height p low = (drop k tokens, ts, subst (λ w. IsSignature w ts) (sym (take-append-drop k tokens)) p, low)
 
 -- a signature text is refused nowhere
-pub read_or_fails : (tokens : List Token) (ts : List TypeText) (k : ℕ) → IsSignature tokens ts → SignatureFails tokens k → ⊥
+pub read_or_fails : (tokens : List Token) (ts : List TypeSyntax) (k : ℕ) → IsSignature tokens ts → SignatureFails tokens k → ⊥
 read_or_fails tokens ts k p f =
     elim (cases_lt k (length tokens)) [
       | inl lt ↦ f.through lt (begins_front tokens ts (k + 1) p)
       | inr le ↦ let within = f.within in f.none (omega (arith, within)) ts p
     ]
 
-pub read_or_high : (tokens : List Token) (ts : List TypeText) (k : ℕ) → IsSignature tokens ts → all_height ts ≤ 400 → SignatureHighAt tokens k → ⊥
+pub read_or_high : (tokens : List Token) (ts : List TypeSyntax) (k : ℕ) → IsSignature tokens ts → all_height ts ≤ 400 → SignatureHighAt tokens k → ⊥
 read_or_high tokens ts k p low h = h.none (within_front tokens ts (k + 1) 400 p low)
 
 -- a refusal and a height too great never come together

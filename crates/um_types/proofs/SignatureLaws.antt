@@ -2,7 +2,7 @@
 use Rattle.std.proofs.Common.{◌≡◌, ◌≢◌, ℕ, ◌≤◌, max, List, [], ◌∷◌, ◌++◌, Option, Some, None, refl, sym, ap, subst, ◌∙◌, append_assoc, arith}
 use Rattle.std.proofs.lemmas.List.{append-nil}
 use Rattle.um_syntax.specs.declared.token.Token.{Token}
-use Rattle.um_tree.specs.RawTree.{TypeText}
+use Rattle.um_tree.specs.RawTree.{TypeSyntax}
 use Rattle.um_types.specs.TypeTokens.{TypeToken, symbol, name, type_token}
 use Rattle.um_types.specs.TypeGrammar.{FirstSymbol, TypeSpells, TypeFits}
 use Rattle.um_types.specs.TypeHeights.{whole_height, all_height}
@@ -23,37 +23,37 @@ abbrev SignatureReaches : SignatureState → List Token → SignatureState → L
 SignatureReaches old tokens new rest = Reaches signature_step NoSignature old tokens new rest
 
 -- the state once types were read behind others
-abbrev signature_into : List TypeText → TypeText → List TypeText → SignatureState
+abbrev signature_into : List TypeSyntax → TypeSyntax → List TypeSyntax → SignatureState
 signature_into front t [] = InType front (HaveType 0 t)
 signature_into front t (u ∷ us) = signature_into (front ++ t ∷ []) u us
 
-in_type : (front : List TypeText) (s : TypeState) → InType front s ≢ NoSignature
+in_type : (front : List TypeSyntax) (s : TypeState) → InType front s ≢ NoSignature
 in_type front s e = cc
 
-type_goes_on : (front : List TypeText) (s : TypeState) (ended : SignatureState) → s ≢ NoType → type_goes front s ended ≡ InType front s
+type_goes_on : (front : List TypeSyntax) (s : TypeState) (ended : SignatureState) → s ≢ NoType → type_goes front s ended ≡ InType front s
 type_goes_on front (NeedType depth) ended ok = refl
 type_goes_on front (HaveType depth t) ended ok = refl
 type_goes_on front (InNote depth owner n) ended ok = refl
 type_goes_on front NoType ended ok = absurd (ok refl)
 
-type_inside : (front : List TypeText) (s new : TypeState) (token : Token) → type_step s token ≡ new → new ≢ NoType → signature_step (InType front s) token ≡ InType front new
+type_inside : (front : List TypeSyntax) (s new : TypeState) (token : Token) → type_step s token ≡ new → new ≢ NoType → signature_step (InType front s) token ≡ InType front new
 type_inside front s new token e ok =
     let ended : SignatureState = type_ends front (type_finish s) (type_token token.kind) in
     ap (λ w. type_goes front w ended) e ∙ type_goes_on front new ended ok
 
-reads_type : (front : List TypeText) (t : TypeText) (tokens rest : List Token) → TypeSpells t tokens rest → TypeFits t
+reads_type : (front : List TypeSyntax) (t : TypeSyntax) (tokens rest : List Token) → TypeSpells t tokens rest → TypeFits t
     → SignatureReaches (InType front (NeedType 0)) tokens (InType front (HaveType 0 t)) rest
 reads_type front t tokens rest s fits =
     reaches_inside type_step NoType (λ x. refl) signature_step NoSignature (λ w. InType front w) (type_inside front) (NeedType 0) (HaveType 0 t) tokens rest (in_type front (HaveType 0 t))
     (type_reaches t 0 tokens rest s fits)
 
-reads_arrow : (front : List TypeText) (t : TypeText) (tokens rest : List Token) → FirstSymbol symbol_of.Arrow tokens rest
+reads_arrow : (front : List TypeSyntax) (t : TypeSyntax) (tokens rest : List Token) → FirstSymbol symbol_of.Arrow tokens rest
     → SignatureReaches (InType front (HaveType 0 t)) tokens (InType (front ++ t ∷ []) (NeedType 0)) rest
 reads_arrow front t tokens rest f =
     reaches_one signature_step NoSignature (InType front (HaveType 0 t)) (InType (front ++ t ∷ []) (NeedType 0)) f.0 tokens rest f.2
     (ap (λ w. type_goes front (type_after 0 t w) (type_end front t w)) f.1) (in_type (front ++ t ∷ []) (NeedType 0))
 
-types_reach : (ts : List TypeText) (t : TypeText) (front : List TypeText) (tokens rest : List Token) → TypesSpell (t ∷ ts) tokens rest → TypesFit (t ∷ ts)
+types_reach : (ts : List TypeSyntax) (t : TypeSyntax) (front : List TypeSyntax) (tokens rest : List Token) → TypesSpell (t ∷ ts) tokens rest → TypesFit (t ∷ ts)
     → SignatureReaches (InType front (NeedType 0)) tokens (signature_into front t ts) rest
 types_reach [] t front tokens rest s fits = reads_type front t tokens rest s fits.0
 types_reach (u ∷ us) t front tokens rest s fits =
@@ -64,20 +64,20 @@ types_reach (u ∷ us) t front tokens rest s fits =
     reaches_then signature_step NoSignature begun behind last tokens s.0 rest (reads_type front t tokens s.0 s.2 fits.0)
     (reaches_then signature_step NoSignature behind next last s.0 s.1 rest (reads_arrow front t s.0 s.1 s.3) (types_reach us u (front ++ t ∷ []) s.1 rest s.4 fits.1))
 
-into_finds : (ts : List TypeText) (t : TypeText) (front : List TypeText) → signature_finish (signature_into front t ts) ≡ Some (front ++ t ∷ ts)
+into_finds : (ts : List TypeSyntax) (t : TypeSyntax) (front : List TypeSyntax) → signature_finish (signature_into front t ts) ≡ Some (front ++ t ∷ ts)
 into_finds [] t front = refl
 into_finds (u ∷ us) t front = into_finds us u (front ++ t ∷ []) ∙ ap (λ w. Some w) (append_assoc front (t ∷ []) (u ∷ us))
 
 -- a signature text is read as it
-pub finds_signature : (tokens : List Token) (ts : List TypeText) → IsSignature tokens ts → signature_finish (read_all tokens) ≡ Some ts
+pub finds_signature : (tokens : List Token) (ts : List TypeSyntax) → IsSignature tokens ts → signature_finish (read_all tokens) ≡ Some ts
 finds_signature tokens [] p = absurd p.spelled
 finds_signature tokens (t ∷ ts) p =
     ap signature_finish (reaches_all signature_step NoSignature start (signature_into [] t ts) tokens (types_reach ts t [] tokens [] p.spelled p.fits)) ∙ into_finds ts t []
 
-pub one_signature : (tokens : List Token) (ts us : List TypeText) → IsSignature tokens ts → IsSignature tokens us → ts ≡ us
+pub one_signature : (tokens : List Token) (ts us : List TypeSyntax) → IsSignature tokens ts → IsSignature tokens us → ts ≡ us
 one_signature tokens ts us p q = let e : Some ts ≡ Some us = sym (finds_signature tokens ts p) ∙ finds_signature tokens us q in cc
 
-abbrev no_types : Option (List TypeText)
+abbrev no_types : Option (List TypeSyntax)
 no_types = None
 
 read_more : (tokens more : List Token) → read_all (tokens ++ more) ≡ runs signature_step (read_all tokens) more
@@ -96,7 +96,7 @@ none_begins_signature tokens e b =
 -- ---- what was read stands
 
 -- each type with the arrow behind it
-abbrev FrontSpells : List TypeText → List Token → List Token → Type 0
+abbrev FrontSpells : List TypeSyntax → List Token → List Token → Type 0
 FrontSpells [] tokens rest = tokens ≡ rest
 FrontSpells (t ∷ ts) tokens rest = (mid next : List Token) × TypeSpells t tokens mid × FirstSymbol symbol_of.Arrow mid next × FrontSpells ts next rest
 
@@ -105,30 +105,30 @@ abbrev SignatureStands : SignatureState → List Token → List Token → Type 0
 SignatureStands (InType front s) tokens rest = (mid : List Token) × FrontSpells front tokens mid × TypesFit front × TypeStands s mid rest × (s ≢ NoType)
 SignatureStands NoSignature tokens rest = Unit {0}
 
-types_last : (front : List TypeText) (t : TypeText) (tokens mid rest : List Token) → FrontSpells front tokens mid → TypeSpells t mid rest → TypesSpell (front ++ t ∷ []) tokens rest
+types_last : (front : List TypeSyntax) (t : TypeSyntax) (tokens mid rest : List Token) → FrontSpells front tokens mid → TypeSpells t mid rest → TypesSpell (front ++ t ∷ []) tokens rest
 types_last [] t tokens mid rest e s = subst (λ w. TypeSpells t w rest) (sym e) s
 types_last (u ∷ []) t tokens mid rest f s = (f.0, f.1, f.2, f.3, subst (λ w. TypeSpells t w rest) (sym f.4) s)
 types_last (u ∷ v ∷ us) t tokens mid rest f s = (f.0, f.1, f.2, f.3, types_last (v ∷ us) t f.1 mid rest f.4 s)
 
-front_last : (front : List TypeText) (t : TypeText) (tokens mid next rest : List Token) → FrontSpells front tokens mid → TypeSpells t mid next → FirstSymbol symbol_of.Arrow next rest
+front_last : (front : List TypeSyntax) (t : TypeSyntax) (tokens mid next rest : List Token) → FrontSpells front tokens mid → TypeSpells t mid next → FirstSymbol symbol_of.Arrow next rest
     → FrontSpells (front ++ t ∷ []) tokens rest
 front_last [] t tokens mid next rest e s a = (next, rest, subst (λ w. TypeSpells t w next) (sym e) s, a, refl)
 front_last (u ∷ us) t tokens mid next rest f s a = (f.0, f.1, f.2, f.3, front_last us t f.1 mid next rest f.4 s a)
 
-fits_last : (front : List TypeText) (t : TypeText) → TypesFit front → TypeFits t → TypesFit (front ++ t ∷ [])
+fits_last : (front : List TypeSyntax) (t : TypeSyntax) → TypesFit front → TypeFits t → TypesFit (front ++ t ∷ [])
 fits_last [] t h fits = (fits, tt)
 fits_last (u ∷ us) t h fits = (h.0, fits_last us t h.1 fits)
 
 need_is : (depth : ℕ) → NeedType depth ≢ NoType
 need_is depth e = cc
 
-have_is : (depth : ℕ) (t : TypeText) → HaveType depth t ≢ NoType
+have_is : (depth : ℕ) (t : TypeSyntax) → HaveType depth t ≢ NoType
 have_is depth t e = cc
 
 note_is : (depth : ℕ) (owner : Owner) (n : NoteState) → InNote depth owner n ≢ NoType
 note_is depth owner n e = cc
 
-end_sound : (front : List TypeText) (t : TypeText) (what : TypeToken) (tokens mid next rest : List Token) → FrontSpells front tokens mid → TypesFit front → TypeSpells t mid next → TypeFits t
+end_sound : (front : List TypeSyntax) (t : TypeSyntax) (what : TypeToken) (tokens mid next rest : List Token) → FrontSpells front tokens mid → TypesFit front → TypeSpells t mid next → TypeFits t
     → (x : Token) × (type_token x.kind ≡ what) × (next ≡ x ∷ rest) → SignatureStands (type_end front t what) tokens rest
 end_sound front t (symbol symbol_of.Arrow) tokens mid next rest o ff s fits f = (rest, front_last front t tokens mid next rest o s f, fits_last front t ff fits, refl, need_is 0)
 end_sound front t (symbol symbol_of.Num) tokens mid next rest o ff s fits f = tt
@@ -142,13 +142,13 @@ end_sound front t (symbol symbol_of.Comma) tokens mid next rest o ff s fits f = 
 end_sound front t (symbol symbol_of.Other) tokens mid next rest o ff s fits f = tt
 end_sound front t (name y) tokens mid next rest o ff s fits f = tt
 
-ends_sound : (front : List TypeText) (s : TypeState) (found : Option TypeText) (x : Token) (tokens rest : List Token) → SignatureStands (InType front s) tokens (x ∷ rest)
+ends_sound : (front : List TypeSyntax) (s : TypeState) (found : Option TypeSyntax) (x : Token) (tokens rest : List Token) → SignatureStands (InType front s) tokens (x ∷ rest)
     → type_finish s ≡ found → SignatureStands (type_ends front found (type_token x.kind)) tokens rest
 ends_sound front s None x tokens rest h e = tt
 ends_sound front s (Some t) x tokens rest h e =
     let p = type_found s t h.0 (x ∷ rest) h.3 e in end_sound front t (type_token x.kind) tokens h.0 (x ∷ rest) rest h.1 h.2 p.0 p.1 (x, refl, refl)
 
-goes_sound : (front : List TypeText) (s : TypeState) (ended : SignatureState) (tokens mid rest : List Token) → FrontSpells front tokens mid → TypesFit front → TypeStands s mid rest
+goes_sound : (front : List TypeSyntax) (s : TypeState) (ended : SignatureState) (tokens mid rest : List Token) → FrontSpells front tokens mid → TypesFit front → TypeStands s mid rest
     → SignatureStands ended tokens rest → SignatureStands (type_goes front s ended) tokens rest
 goes_sound front (NeedType depth) ended tokens mid rest o ff s h = (mid, o, ff, s, need_is depth)
 goes_sound front (HaveType depth t) ended tokens mid rest o ff s h = (mid, o, ff, s, have_is depth t)
@@ -168,11 +168,11 @@ run_sound (x ∷ read) st tokens rest h = run_sound read (signature_step st x) t
 stands : (read rest : List Token) → SignatureStands (read_all read) (read ++ rest) rest
 stands read rest = run_sound read start (read ++ rest) rest (read ++ rest, refl, tt, refl, need_is 0)
 
-typed_is : (front : List TypeText) (o : Option TypeText) (ts : List TypeText) → typed front o ≡ Some ts → (t : TypeText) × (o ≡ Some t) × (front ++ t ∷ [] ≡ ts)
+typed_is : (front : List TypeSyntax) (o : Option TypeSyntax) (ts : List TypeSyntax) → typed front o ≡ Some ts → (t : TypeSyntax) × (o ≡ Some t) × (front ++ t ∷ [] ≡ ts)
 typed_is front (Some t) ts e = (t, refl, cc)
 typed_is front None ts e = absurd cc
 
-is_signature : (st : SignatureState) (ts : List TypeText) (tokens : List Token) → SignatureStands st tokens [] → signature_finish st ≡ Some ts → IsSignature tokens ts
+is_signature : (st : SignatureState) (ts : List TypeSyntax) (tokens : List Token) → SignatureStands st tokens [] → signature_finish st ≡ Some ts → IsSignature tokens ts
 is_signature (InType front s) ts tokens h e =
     let w = typed_is front (type_finish s) ts e in
     let p = type_found s w.0 h.0 [] h.3 w.1 in
@@ -180,7 +180,7 @@ is_signature (InType front s) ts tokens h e =
 is_signature NoSignature ts tokens h e = absurd cc
 
 -- what is found is a signature text
-pub found_signature : (tokens : List Token) (ts : List TypeText) → signature_finish (read_all tokens) ≡ Some ts → IsSignature tokens ts
+pub found_signature : (tokens : List Token) (ts : List TypeSyntax) → signature_finish (read_all tokens) ≡ Some ts → IsSignature tokens ts
 found_signature tokens ts e = is_signature (read_all tokens) ts tokens (subst (λ w. SignatureStands (read_all tokens) w []) (append-nil tokens) (stands tokens [])) e
 
 -- ---- what can follow
@@ -189,7 +189,7 @@ abbrev ending : SignatureState → List Token
 ending (InType front s) = type_ending s
 ending NoSignature = []
 
-abbrev completed : SignatureState → List TypeText
+abbrev completed : SignatureState → List TypeSyntax
 completed (InType front s) = front ++ type_completed s ∷ []
 completed NoSignature = []
 
@@ -204,7 +204,7 @@ begins_signature read ok = (ending (read_all read), completed (read_all read), c
 
 -- ---- the least height
 
-all_height_last : (front : List TypeText) (t : TypeText) → all_height (front ++ t ∷ []) ≡ max (all_height front) (whole_height t)
+all_height_last : (front : List TypeSyntax) (t : TypeSyntax) → all_height (front ++ t ∷ []) ≡ max (all_height front) (whole_height t)
 all_height_last [] t = omega arith
 all_height_last (u ∷ us) t = let e = all_height_last us t in omega (arith, e)
 
@@ -223,7 +223,7 @@ begins_signature_within read limit ok le =
       omega (arith, le, same),
     )
 
-end_up : (front : List TypeText) (t : TypeText) (what : TypeToken) → type_end front t what ≢ NoSignature → max (all_height front) (whole_height t) ≤ signature_least (type_end front t what)
+end_up : (front : List TypeSyntax) (t : TypeSyntax) (what : TypeToken) → type_end front t what ≢ NoSignature → max (all_height front) (whole_height t) ≤ signature_least (type_end front t what)
 end_up front t (symbol symbol_of.Arrow) ok = let e = all_height_last front t in omega (arith, e)
 end_up front t (symbol symbol_of.Num) ok = absurd (ok refl)
 end_up front t (symbol symbol_of.Bool) ok = absurd (ok refl)
@@ -236,19 +236,19 @@ end_up front t (symbol symbol_of.Comma) ok = absurd (ok refl)
 end_up front t (symbol symbol_of.Other) ok = absurd (ok refl)
 end_up front t (name x) ok = absurd (ok refl)
 
-ends_up : (front : List TypeText) (s : TypeState) (found : Option TypeText) (what : TypeToken) → type_finish s ≡ found → type_ends front found what ≢ NoSignature
+ends_up : (front : List TypeSyntax) (s : TypeState) (found : Option TypeSyntax) (what : TypeToken) → type_finish s ≡ found → type_ends front found what ≢ NoSignature
     → signature_least (InType front s) ≤ signature_least (type_ends front found what)
 ends_up front s None what e ok = absurd (ok refl)
 ends_up front s (Some t) what e ok = let same = type_found_height s t e in let up = end_up front t what ok in omega (arith, same, up)
 
-goes_up : (low : ℕ) (front : List TypeText) (s : TypeState) (ended : SignatureState) → type_goes front s ended ≢ NoSignature → (s ≢ NoType → low ≤ signature_least (InType front s))
+goes_up : (low : ℕ) (front : List TypeSyntax) (s : TypeState) (ended : SignatureState) → type_goes front s ended ≢ NoSignature → (s ≢ NoType → low ≤ signature_least (InType front s))
     → (ended ≢ NoSignature → low ≤ signature_least ended) → low ≤ signature_least (type_goes front s ended)
 goes_up low front (NeedType depth) ended ok goes ends = goes (need_is depth)
 goes_up low front (HaveType depth t) ended ok goes ends = goes (have_is depth t)
 goes_up low front (InNote depth owner n) ended ok goes ends = goes (note_is depth owner n)
 goes_up low front NoType ended ok goes ends = ends ok
 
-type_in_up : (front : List TypeText) (s : TypeState) (x : Token) → type_step s x ≢ NoType → signature_least (InType front s) ≤ signature_least (InType front (type_step s x))
+type_in_up : (front : List TypeSyntax) (s : TypeState) (x : Token) → type_step s x ≢ NoType → signature_least (InType front s) ≤ signature_least (InType front (type_step s x))
 type_in_up front s x ok = let up = type_up s x ok in omega (arith, up)
 
 -- a token never lowers it
@@ -266,7 +266,7 @@ run_up (x ∷ tokens) st ok =
     omega (arith, signature_up st x goes, run_up tokens next ok)
 
 -- what is found has it
-pub signature_found_height : (st : SignatureState) (ts : List TypeText) → signature_finish st ≡ Some ts → all_height ts ≡ signature_least st
+pub signature_found_height : (st : SignatureState) (ts : List TypeSyntax) → signature_finish st ≡ Some ts → all_height ts ≡ signature_least st
 signature_found_height (InType front s) ts e =
     let w = typed_is front (type_finish s) ts e in
     let same = type_found_height s w.0 w.1 in
@@ -275,7 +275,7 @@ signature_found_height (InType front s) ts e =
 signature_found_height NoSignature ts e = absurd cc
 
 -- no signature text that the tokens begin is lower
-pub none_lower_signature : (tokens more : List Token) (ts : List TypeText) → IsSignature (tokens ++ more) ts → signature_least (read_all tokens) ≤ all_height ts
+pub none_lower_signature : (tokens more : List Token) (ts : List TypeSyntax) → IsSignature (tokens ++ more) ts → signature_least (read_all tokens) ≤ all_height ts
 none_lower_signature tokens more ts p =
     let e : signature_finish (runs signature_step (read_all tokens) more) ≡ Some ts = ap signature_finish (sym (read_more tokens more)) ∙ finds_signature (tokens ++ more) ts p in
     let ok : runs signature_step (read_all tokens) more ≢ NoSignature = λ h. let bad : no_types ≡ Some ts = sym (ap signature_finish h) ∙ e in cc in

@@ -3,7 +3,7 @@ use Rattle.std.proofs.Common.{◌≡◌, ◌≢◌, ℕ, ◌+◌, ◌≤◌, ◌
 use Rattle.std.proofs.lemmas.List.{take_more}
 use Rattle.um_syntax.specs.declared.token.Token.{Token}
 use Rattle.um_tree.specs.declared.raw.RawType.{RawType}
-use Rattle.um_tree.specs.RawTree.{TypeText, type_text}
+use Rattle.um_tree.specs.RawTree.{TypeSyntax, type_syntax}
 use Rattle.um_types.specs.TypeTokens.{TypeToken, symbol, name, symbol_in}
 use Rattle.um_types.specs.TypeHeights.{whole_height, all_height}
 use Rattle.um_types.specs.TypeTakes.{type_state}
@@ -19,27 +19,27 @@ arrow_is : (what : TypeToken) → symbol_in what ≡ symbol_of.Arrow → what �
 arrow_is (symbol s) e = ap symbol e
 arrow_is (name x) e = absurd cc
 
-pub texts_last : (front : List RawType) (t : RawType) → map type_text (front ++ t ∷ []) ≡ map type_text front ++ type_text t ∷ []
+pub texts_last : (front : List RawType) (t : RawType) → map type_syntax (front ++ t ∷ []) ≡ map type_syntax front ++ type_syntax t ∷ []
 texts_last [] t = refl
-texts_last (u ∷ us) t = ap (λ ts. type_text u ∷ ts) (texts_last us t)
+texts_last (u ∷ us) t = ap (λ ts. type_syntax u ∷ ts) (texts_last us t)
 
-heights_last : (front : List TypeText) (t : TypeText) → all_height front ≤ 400 → whole_height t ≤ 400 → all_height (front ++ t ∷ []) ≤ 400
+heights_last : (front : List TypeSyntax) (t : TypeSyntax) → all_height front ≤ 400 → whole_height t ≤ 400 → all_height (front ++ t ∷ []) ≤ 400
 heights_last [] t low high = omega arith
 heights_last (u ∷ us) t low high = let rest = heights_last us t (omega (arith, low)) high in omega (arith, low, rest)
 
 -- `->` behind a type
 pub arrow_behind : (front new : List RawType) (t : RawType) (found : Option RawType) (what : TypeToken) (reader : TypeReader) → found ≡ Some t → symbol_in what ≡ symbol_of.Arrow → new ≡ front ++ t ∷ []
-    → type_state reader ≡ NeedType 0 → all_height (map type_text front) ≤ 400 → whole_height (type_text t) ≤ 400
-    → SignatureTakes (type_ends (map type_text front) (option_map type_text found) what) new (step.Goes reader)
+    → type_state reader ≡ NeedType 0 → all_height (map type_syntax front) ≤ 400 → whole_height (type_syntax t) ≤ 400
+    → SignatureTakes (type_ends (map type_syntax front) (option_map type_syntax found) what) new (step.Goes reader)
 arrow_behind front new t found what reader is arrow pushed begun low high =
-    let state : SignatureState = type_ends (map type_text front) (option_map type_text found) what in
-    let texts : List TypeText = map type_text front ++ type_text t ∷ [] in
+    let state : SignatureState = type_ends (map type_syntax front) (option_map type_syntax found) what in
+    let texts : List TypeSyntax = map type_syntax front ++ type_syntax t ∷ [] in
     let e : state ≡ InType texts (NeedType 0) =
-    ap (λ o. type_ends (map type_text front) (option_map type_text o) what) is ∙ ap (type_ends (map type_text front) (Some (type_text t))) (arrow_is what arrow)
+    ap (λ o. type_ends (map type_syntax front) (option_map type_syntax o) what) is ∙ ap (type_ends (map type_syntax front) (Some (type_syntax t))) (arrow_is what arrow)
     in
-    let same : texts ≡ map type_text new = sym (ap (map type_text) pushed ∙ texts_last front t) in (
-      e ∙ ap (λ ts. InType ts (NeedType 0)) same ∙ ap (λ s. InType (map type_text new) s) (sym begun),
-      omega (arith, ap signature_least e, heights_last (map type_text front) (type_text t) low high),
+    let same : texts ≡ map type_syntax new = sym (ap (map type_syntax) pushed ∙ texts_last front t) in (
+      e ∙ ap (λ ts. InType ts (NeedType 0)) same ∙ ap (λ s. InType (map type_syntax new) s) (sym begun),
+      omega (arith, ap signature_least e, heights_last (map type_syntax front) (type_syntax t) low high),
     )
 
 pub one_more : (tokens : List Token) (i : ℕ) (token : Token) (st : SignatureState) → i < length tokens → get_or tokens i token ≡ token → st ≡ read_all (take i tokens)

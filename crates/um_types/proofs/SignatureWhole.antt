@@ -2,7 +2,7 @@
 use Rattle.std.proofs.Common.{◌≡◌, ◌≢◌, ℕ, ◌+◌, ◌≤◌, ◌<◌, List, length, take, Option, Some, None, sym, ap, ◌∙◌, arith}
 use Rattle.std.proofs.lemmas.List.{take_all}
 use Rattle.um_syntax.specs.declared.token.Token.{Token}
-use Rattle.um_tree.specs.RawTree.{TypeText}
+use Rattle.um_tree.specs.RawTree.{TypeSyntax}
 use Rattle.um_types.specs.TypeHeights.{all_height}
 use Rattle.um_types.specs.SignatureGrammar.{IsSignature, SignatureFails, SignatureHighAt}
 use Rattle.um_types.specs.SignatureMachine.{NoSignature, signature_finish, signature_least, read_all}
@@ -10,7 +10,7 @@ use Rattle.um_types.specs.SignatureReads.{SignatureIsRead}
 use Rattle.um_types.proofs.SignatureLaws.{finds_signature, none_begins_signature, found_signature, begins_signature, begins_signature_within, signature_found_height, none_lower_signature}
 
 -- all tokens are a signature text
-pub is_low : (tokens : List Token) (ts : List TypeText) → signature_finish (read_all tokens) ≡ Some ts → signature_least (read_all tokens) ≤ 400 → IsSignature tokens ts × (all_height ts ≤ 400)
+pub is_low : (tokens : List Token) (ts : List TypeSyntax) → signature_finish (read_all tokens) ≡ Some ts → signature_least (read_all tokens) ≤ 400 → IsSignature tokens ts × (all_height ts ≤ 400)
 is_low tokens ts e low = let same = signature_found_height (read_all tokens) ts e in (found_signature tokens ts e, omega (arith, low, same))
 
 -- a token is refused
@@ -22,7 +22,7 @@ fails_at tokens k r lt e = record {
   none = λ at_end ts p. absurd (omega (arith, lt, at_end));
 }
 
-abbrev nothing : Option (List TypeText)
+abbrev nothing : Option (List TypeSyntax)
 nothing = None
 
 -- all tokens are read, and are none

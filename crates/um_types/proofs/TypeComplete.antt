@@ -2,7 +2,7 @@
 use Rattle.std.proofs.Common.{◌≡◌, ◌≢◌, ℕ, suc, List, [], ◌∷◌, ◌++◌, Option, Some, None, refl, ap, subst, ◌∙◌, append_assoc}
 use Rattle.um_syntax.specs.declared.token.Token.{Token}
 use Rattle.um_syntax.specs.declared.token.Kind.{Kind}
-use Rattle.um_tree.specs.RawTree.{NoteText, TypeText, bool_text, num_text, record_text, list_type_text, bracket_type_text}
+use Rattle.um_tree.specs.RawTree.{NoteSyntax, TypeSyntax, bool_syntax, num_syntax, record_syntax, list_type_syntax, bracket_type_syntax}
 use Rattle.um_types.specs.UnitTokens.{sign, unit_token}
 use Rattle.um_types.specs.declared.unit_mark.Mark.TheVariants as mark
 use Rattle.um_types.specs.TypeTokens.{symbol, type_token}
@@ -22,7 +22,7 @@ TypeReaches old tokens new rest = Reaches type_step NoType old tokens new rest
 need_is : (depth : ℕ) → NeedType depth ≢ NoType
 need_is depth e = cc
 
-have_is : (depth : ℕ) (t : TypeText) → HaveType depth t ≢ NoType
+have_is : (depth : ℕ) (t : TypeSyntax) → HaveType depth t ≢ NoType
 have_is depth t e = cc
 
 note_is : (depth : ℕ) (owner : Owner) (n : NoteState) → InNote depth owner n ≢ NoType
@@ -38,12 +38,12 @@ begins_with : (depth : ℕ) (what : Symbol) (new : TypeState) (tokens rest : Lis
 begins_with depth what new tokens rest f step ok =
     reaches_one type_step NoType (NeedType depth) new f.0 tokens rest f.2 (ap (λ w. type_begin depth w f.0.start) f.1 ∙ step f.0.start) ok
 
-goes_with : (depth : ℕ) (t : TypeText) (what : Symbol) (new : TypeState) (tokens rest : List Token) → FirstSymbol what tokens rest → type_after depth t (symbol what) ≡ new → new ≢ NoType
+goes_with : (depth : ℕ) (t : TypeSyntax) (what : Symbol) (new : TypeState) (tokens rest : List Token) → FirstSymbol what tokens rest → type_after depth t (symbol what) ≡ new → new ≢ NoType
     → TypeReaches (HaveType depth t) tokens new rest
 goes_with depth t what new tokens rest f step ok = reaches_one type_step NoType (HaveType depth t) new f.0 tokens rest f.2 (ap (type_after depth t) f.1 ∙ step) ok
 
 -- the token behind a note
-ends_with : (depth : ℕ) (owner : Owner) (n : NoteText) (what : Symbol) (new : TypeState) (tokens rest : List Token) → NoteFits n → FirstSymbol what tokens rest
+ends_with : (depth : ℕ) (owner : Owner) (n : NoteSyntax) (what : Symbol) (new : TypeState) (tokens rest : List Token) → NoteFits n → FirstSymbol what tokens rest
     → ((k : Kind) → type_token k ≡ symbol what → unit_token k ≡ sign mark.Other) → note_end depth owner n (symbol what) ≡ new → new ≢ NoType
     → TypeReaches (InNote depth owner (note_into n)) tokens new rest
 ends_with depth owner n what new tokens rest fits f other step ok =
@@ -71,84 +71,84 @@ note_inside depth owner n new token e ok =
     ap (λ s. note_goes depth owner s ended) e ∙ note_goes_on depth owner new ended ok
 
 -- a note is read
-reads_note : (depth : ℕ) (owner : Owner) (n : NoteText) (tokens rest : List Token) → NoteSpells n tokens rest → NoteFits n → TypeReaches (InNote depth owner NeedNote) tokens (InNote depth owner (note_into n)) rest
+reads_note : (depth : ℕ) (owner : Owner) (n : NoteSyntax) (tokens rest : List Token) → NoteSpells n tokens rest → NoteFits n → TypeReaches (InNote depth owner NeedNote) tokens (InNote depth owner (note_into n)) rest
 reads_note depth owner n tokens rest s fits =
     reaches_inside note_step NoNote (λ t. refl) type_step NoType (λ w. InNote depth owner w) (note_inside depth owner) NeedNote (note_into n) tokens rest (note_is depth owner (note_into n))
     (note_reaches n tokens rest s fits)
 
 -- notes with commas, and the closing angle bracket
-reads_notes : (ns : List NoteText) (n : NoteText) (depth at : ℕ) (x : List ℕ) (front : List NoteText) (tokens mid rest : List Token) → NotesSpell (n ∷ ns) tokens mid → NotesFit (n ∷ ns)
-    → FirstSymbol symbol_of.Greater mid rest → TypeReaches (InNote depth (OfName at x front) NeedNote) tokens (HaveType depth (record_text at x (front ++ n ∷ ns))) rest
+reads_notes : (ns : List NoteSyntax) (n : NoteSyntax) (depth at : ℕ) (x : List ℕ) (front : List NoteSyntax) (tokens mid rest : List Token) → NotesSpell (n ∷ ns) tokens mid → NotesFit (n ∷ ns)
+    → FirstSymbol symbol_of.Greater mid rest → TypeReaches (InNote depth (OfName at x front) NeedNote) tokens (HaveType depth (record_syntax at x (front ++ n ∷ ns))) rest
 reads_notes [] n depth at x front tokens mid rest s fits f =
     let owner : Owner = OfName at x front in
-    let done : TypeState = HaveType depth (record_text at x (front ++ n ∷ [])) in
+    let done : TypeState = HaveType depth (record_syntax at x (front ++ n ∷ [])) in
     type_then (InNote depth owner NeedNote) (InNote depth owner (note_into n)) done tokens mid rest (reads_note depth owner n tokens mid s fits.0)
-    (ends_with depth owner n symbol_of.Greater done mid rest fits.0 f greater_other refl (have_is depth (record_text at x (front ++ n ∷ []))))
+    (ends_with depth owner n symbol_of.Greater done mid rest fits.0 f greater_other refl (have_is depth (record_syntax at x (front ++ n ∷ []))))
 reads_notes (m ∷ ns) n depth at x front tokens mid rest s fits f =
     let owner : Owner = OfName at x front in
     let more : Owner = OfName at x (front ++ n ∷ []) in
-    let done : TypeState = HaveType depth (record_text at x (front ++ n ∷ m ∷ ns)) in
+    let done : TypeState = HaveType depth (record_syntax at x (front ++ n ∷ m ∷ ns)) in
     let parts : (front ++ n ∷ []) ++ m ∷ ns ≡ front ++ n ∷ m ∷ ns = append_assoc front (n ∷ []) (m ∷ ns) in
     type_then (InNote depth owner NeedNote) (InNote depth owner (note_into n)) done tokens s.0 rest (reads_note depth owner n tokens s.0 s.2 fits.0)
     (
     type_then (InNote depth owner (note_into n)) (InNote depth more NeedNote) done s.0 s.1 rest
     (ends_with depth owner n symbol_of.Comma (InNote depth more NeedNote) s.0 s.1 fits.0 s.3 comma_other refl (note_is depth more NeedNote))
-    (subst (λ w. TypeReaches (InNote depth more NeedNote) s.1 (HaveType depth (record_text at x w)) rest) parts (reads_notes ns m depth at x (front ++ n ∷ []) s.1 mid rest s.4 fits.1 f))
+    (subst (λ w. TypeReaches (InNote depth more NeedNote) s.1 (HaveType depth (record_syntax at x w)) rest) parts (reads_notes ns m depth at x (front ++ n ∷ []) s.1 mid rest s.4 fits.1 f))
     )
 
 -- angle brackets behind a name, if there are notes
-reads_angled : (ns : List NoteText) (depth at : ℕ) (x : List ℕ) (tokens rest : List Token) → AngledSpell ns tokens rest → NotesFit ns
-    → TypeReaches (HaveType depth (record_text at x [])) tokens (HaveType depth (record_text at x ns)) rest
-reads_angled [] depth at x tokens rest s fits = ([], s, refl, have_is depth (record_text at x []))
+reads_angled : (ns : List NoteSyntax) (depth at : ℕ) (x : List ℕ) (tokens rest : List Token) → AngledSpell ns tokens rest → NotesFit ns
+    → TypeReaches (HaveType depth (record_syntax at x [])) tokens (HaveType depth (record_syntax at x ns)) rest
+reads_angled [] depth at x tokens rest s fits = ([], s, refl, have_is depth (record_syntax at x []))
 reads_angled (n ∷ ns) depth at x tokens rest s fits =
     let start : TypeState = InNote depth (OfName at x []) NeedNote in
-    type_then (HaveType depth (record_text at x [])) start (HaveType depth (record_text at x (n ∷ ns))) tokens s.0 rest
-    (goes_with depth (record_text at x []) symbol_of.Less start tokens s.0 s.2 refl (note_is depth (OfName at x []) NeedNote))
+    type_then (HaveType depth (record_syntax at x [])) start (HaveType depth (record_syntax at x (n ∷ ns))) tokens s.0 rest
+    (goes_with depth (record_syntax at x []) symbol_of.Less start tokens s.0 s.2 refl (note_is depth (OfName at x []) NeedNote))
     (reads_notes ns n depth at x [] s.0 s.1 rest s.3 fits s.4)
 
 -- and behind `num`
-reads_note_of_num : (o : Option NoteText) (depth : ℕ) (tokens rest : List Token) → AngledSpell (at_most_one o) tokens rest → NotesFit (at_most_one o)
-    → TypeReaches (HaveType depth (num_text None)) tokens (HaveType depth (num_text o)) rest
-reads_note_of_num None depth tokens rest s fits = ([], s, refl, have_is depth (num_text None))
+reads_note_of_num : (o : Option NoteSyntax) (depth : ℕ) (tokens rest : List Token) → AngledSpell (at_most_one o) tokens rest → NotesFit (at_most_one o)
+    → TypeReaches (HaveType depth (num_syntax None)) tokens (HaveType depth (num_syntax o)) rest
+reads_note_of_num None depth tokens rest s fits = ([], s, refl, have_is depth (num_syntax None))
 reads_note_of_num (Some n) depth tokens rest s fits =
     let start : TypeState = InNote depth OfNum NeedNote in
     let behind : TypeState = InNote depth OfNum (note_into n) in
-    let done : TypeState = HaveType depth (num_text (Some n)) in
-    type_then (HaveType depth (num_text None)) start done tokens s.0 rest
-    (goes_with depth (num_text None) symbol_of.Less start tokens s.0 s.2 refl (note_is depth OfNum NeedNote))
+    let done : TypeState = HaveType depth (num_syntax (Some n)) in
+    type_then (HaveType depth (num_syntax None)) start done tokens s.0 rest
+    (goes_with depth (num_syntax None) symbol_of.Less start tokens s.0 s.2 refl (note_is depth OfNum NeedNote))
     (
     type_then start behind done s.0 s.1 rest (reads_note depth OfNum n s.0 s.1 s.3 fits.0)
-    (ends_with depth OfNum n symbol_of.Greater done s.1 rest fits.0 s.4 greater_other refl (have_is depth (num_text (Some n))))
+    (ends_with depth OfNum n symbol_of.Greater done s.1 rest fits.0 s.4 greater_other refl (have_is depth (num_syntax (Some n))))
     )
 
 -- ---- types
 
-pub type_reaches : (t : TypeText) (depth : ℕ) (tokens rest : List Token) → TypeSpells t tokens rest → TypeFits t → TypeReaches (NeedType depth) tokens (HaveType depth t) rest
-type_reaches bool_text depth tokens rest s fits = begins_with depth symbol_of.Bool (HaveType depth bool_text) tokens rest s (λ at. refl) (have_is depth bool_text)
-type_reaches (num_text o) depth tokens rest s fits =
-    type_then (NeedType depth) (HaveType depth (num_text None)) (HaveType depth (num_text o)) tokens s.0 rest
-    (begins_with depth symbol_of.Num (HaveType depth (num_text None)) tokens s.0 s.1 (λ at. refl) (have_is depth (num_text None)))
+pub type_reaches : (t : TypeSyntax) (depth : ℕ) (tokens rest : List Token) → TypeSpells t tokens rest → TypeFits t → TypeReaches (NeedType depth) tokens (HaveType depth t) rest
+type_reaches bool_syntax depth tokens rest s fits = begins_with depth symbol_of.Bool (HaveType depth bool_syntax) tokens rest s (λ at. refl) (have_is depth bool_syntax)
+type_reaches (num_syntax o) depth tokens rest s fits =
+    type_then (NeedType depth) (HaveType depth (num_syntax None)) (HaveType depth (num_syntax o)) tokens s.0 rest
+    (begins_with depth symbol_of.Num (HaveType depth (num_syntax None)) tokens s.0 s.1 (λ at. refl) (have_is depth (num_syntax None)))
     (reads_note_of_num o depth s.0 rest s.2 fits)
-type_reaches (record_text at x ns) depth tokens rest s fits =
+type_reaches (record_syntax at x ns) depth tokens rest s fits =
     let f = s.1 in
-    let named : TypeState = HaveType depth (record_text at x []) in
-    type_then (NeedType depth) named (HaveType depth (record_text at x ns)) tokens s.0 rest
+    let named : TypeState = HaveType depth (record_syntax at x []) in
+    type_then (NeedType depth) named (HaveType depth (record_syntax at x ns)) tokens s.0 rest
     (
     reaches_one type_step NoType (NeedType depth) named f.0 tokens s.0 f.3
-    (ap (λ w. type_begin depth w f.0.start) f.1 ∙ ap (λ a. HaveType depth (record_text a x [])) f.2) (have_is depth (record_text at x []))
+    (ap (λ w. type_begin depth w f.0.start) f.1 ∙ ap (λ a. HaveType depth (record_syntax a x [])) f.2) (have_is depth (record_syntax at x []))
     )
     (reads_angled ns depth at x s.0 rest s.2 fits)
-type_reaches (list_type_text t) depth tokens rest s fits =
-    type_then (NeedType depth) (HaveType depth t) (HaveType depth (list_type_text t)) tokens s.0 rest (type_reaches t depth tokens s.0 s.1 fits)
-    (goes_with depth t symbol_of.List (HaveType depth (list_type_text t)) s.0 rest s.2 refl (have_is depth (list_type_text t)))
-type_reaches (bracket_type_text t) depth tokens rest s fits =
+type_reaches (list_type_syntax t) depth tokens rest s fits =
+    type_then (NeedType depth) (HaveType depth t) (HaveType depth (list_type_syntax t)) tokens s.0 rest (type_reaches t depth tokens s.0 s.1 fits)
+    (goes_with depth t symbol_of.List (HaveType depth (list_type_syntax t)) s.0 rest s.2 refl (have_is depth (list_type_syntax t)))
+type_reaches (bracket_type_syntax t) depth tokens rest s fits =
     let inner : TypeState = HaveType (suc depth) t in
-    let done : TypeState = HaveType depth (bracket_type_text t) in
+    let done : TypeState = HaveType depth (bracket_type_syntax t) in
     type_then (NeedType depth) (NeedType (suc depth)) done tokens s.0 rest
     (begins_with depth symbol_of.Open (NeedType (suc depth)) tokens s.0 s.2 (λ at. refl) (need_is (suc depth)))
     (
     type_then (NeedType (suc depth)) inner done s.0 s.1 rest (type_reaches t (suc depth) s.0 s.1 s.3 fits)
-    (goes_with (suc depth) t symbol_of.Close done s.1 rest s.4 refl (have_is depth (bracket_type_text t)))
+    (goes_with (suc depth) t symbol_of.Close done s.1 rest s.4 refl (have_is depth (bracket_type_syntax t)))
     )
 
 -- ---- what may follow
@@ -166,7 +166,7 @@ Follows symbol_of.Other = Unit {0}
 Follows symbol_of.Less = ⊥
 Follows symbol_of.List = ⊥
 
-stops_at : (t : TypeText) (what : Symbol) → Follows what → type_after 0 t (symbol what) ≡ NoType
+stops_at : (t : TypeSyntax) (what : Symbol) → Follows what → type_after 0 t (symbol what) ≡ NoType
 stops_at t symbol_of.Close f = refl
 stops_at t symbol_of.Greater f = refl
 stops_at t symbol_of.Comma f = refl
@@ -179,5 +179,5 @@ stops_at t symbol_of.Less f = absurd f
 stops_at t symbol_of.List f = absurd f
 
 -- such a token is refused behind a type text that was read from the start
-pub type_stops : (t : TypeText) (k : Kind) (at : ℕ) (what : Symbol) → type_token k ≡ symbol what → Follows what → type_act (HaveType 0 t) k at ≡ NoType
+pub type_stops : (t : TypeSyntax) (k : Kind) (at : ℕ) (what : Symbol) → type_token k ≡ symbol what → Follows what → type_act (HaveType 0 t) k at ≡ NoType
 type_stops t k at what e f = ap (type_after 0 t) e ∙ stops_at t what f

@@ -1,7 +1,7 @@
 -- The tokens of a type text that were read are those of the state, and what stands in it fits.
 use Rattle.std.proofs.Common.{◌≡◌, ◌≢◌, ℕ, zero, suc, List, [], ◌∷◌, ◌++◌, Option, Some, None, refl, sym, subst}
 use Rattle.um_syntax.specs.declared.token.Token.{Token}
-use Rattle.um_tree.specs.RawTree.{NoteText, TypeText, bool_text, num_text, record_text, list_type_text, bracket_type_text}
+use Rattle.um_tree.specs.RawTree.{NoteSyntax, TypeSyntax, bool_syntax, num_syntax, record_syntax, list_type_syntax, bracket_type_syntax}
 use Rattle.um_types.specs.UnitMachine.{State}
 use Rattle.um_types.specs.TypeTokens.{TypeToken, symbol, name, type_token}
 use Rattle.um_types.specs.TypeGrammar.{FirstSymbol, FirstName, NoteSpells, NotesSpell, AngledSpell, TypeSpells, NoteFits, NotesFit, TypeFits}
@@ -16,7 +16,7 @@ OpenBrackets zero tokens rest = tokens ≡ rest
 OpenBrackets (suc depth) tokens rest = (mid : List Token) × OpenBrackets depth tokens mid × FirstSymbol symbol_of.Open mid rest
 
 -- each note with the comma behind it
-abbrev pub FrontSpells : List NoteText → List Token → List Token → Type 0
+abbrev pub FrontSpells : List NoteSyntax → List Token → List Token → Type 0
 FrontSpells [] tokens rest = tokens ≡ rest
 FrontSpells (n ∷ ns) tokens rest = (mid next : List Token) × NoteSpells n tokens mid × FirstSymbol symbol_of.Comma mid next × FrontSpells ns next rest
 
@@ -38,32 +38,32 @@ TypeStands NoType tokens rest = Unit {0}
 
 -- ---- notes
 
-notes_last : (front : List NoteText) (n : NoteText) (tokens mid rest : List Token) → FrontSpells front tokens mid → NoteSpells n mid rest → NotesSpell (front ++ n ∷ []) tokens rest
+notes_last : (front : List NoteSyntax) (n : NoteSyntax) (tokens mid rest : List Token) → FrontSpells front tokens mid → NoteSpells n mid rest → NotesSpell (front ++ n ∷ []) tokens rest
 notes_last [] n tokens mid rest e s = subst (λ w. NoteSpells n w rest) (sym e) s
 notes_last (m ∷ []) n tokens mid rest f s = (f.0, f.1, f.2, f.3, subst (λ w. NoteSpells n w rest) (sym f.4) s)
 notes_last (m ∷ k ∷ ns) n tokens mid rest f s = (f.0, f.1, f.2, f.3, notes_last (k ∷ ns) n f.1 mid rest f.4 s)
 
-front_last : (front : List NoteText) (n : NoteText) (tokens mid next rest : List Token) → FrontSpells front tokens mid → NoteSpells n mid next → FirstSymbol symbol_of.Comma next rest
+front_last : (front : List NoteSyntax) (n : NoteSyntax) (tokens mid next rest : List Token) → FrontSpells front tokens mid → NoteSpells n mid next → FirstSymbol symbol_of.Comma next rest
     → FrontSpells (front ++ n ∷ []) tokens rest
 front_last [] n tokens mid next rest e s c = (next, rest, subst (λ w. NoteSpells n w next) (sym e) s, c, refl)
 front_last (m ∷ ns) n tokens mid next rest f s c = (f.0, f.1, f.2, f.3, front_last ns n f.1 mid next rest f.4 s c)
 
-pub fits_last : (front : List NoteText) (n : NoteText) → NotesFit front → NoteFits n → NotesFit (front ++ n ∷ [])
+pub fits_last : (front : List NoteSyntax) (n : NoteSyntax) → NotesFit front → NoteFits n → NotesFit (front ++ n ∷ [])
 fits_last [] n h fits = (fits, tt)
 fits_last (m ∷ ns) n h fits = (h.0, fits_last ns n h.1 fits)
 
-angled_last : (front : List NoteText) (n : NoteText) (tokens next last rest : List Token) → FirstSymbol symbol_of.Less tokens next → NotesSpell (front ++ n ∷ []) next last
+angled_last : (front : List NoteSyntax) (n : NoteSyntax) (tokens next last rest : List Token) → FirstSymbol symbol_of.Less tokens next → NotesSpell (front ++ n ∷ []) next last
     → FirstSymbol symbol_of.Greater last rest → AngledSpell (front ++ n ∷ []) tokens rest
 angled_last [] n tokens next last rest less s greater = (next, last, less, s, greater)
 angled_last (m ∷ ns) n tokens next last rest less s greater = (next, last, less, s, greater)
 
 -- the type that its last note ends
-pub owned_spells : (owner : Owner) (n : NoteText) (tokens mid next rest : List Token) → OwnerSpells owner tokens mid → NoteSpells n mid next → FirstSymbol symbol_of.Greater next rest
+pub owned_spells : (owner : Owner) (n : NoteSyntax) (tokens mid next rest : List Token) → OwnerSpells owner tokens mid → NoteSpells n mid next → FirstSymbol symbol_of.Greater next rest
     → TypeSpells (owned owner n) tokens rest
 owned_spells OfNum n tokens mid next rest o s g = (o.0, o.1, (mid, next, o.2, s, g))
 owned_spells (OfName at x front) n tokens mid next rest o s g = (o.0, o.2, angled_last front n o.0 o.1 next rest o.3 (notes_last front n o.1 mid next o.4 s) g)
 
-pub owned_fits : (owner : Owner) (n : NoteText) → OwnerFits owner → NoteFits n → TypeFits (owned owner n)
+pub owned_fits : (owner : Owner) (n : NoteSyntax) → OwnerFits owner → NoteFits n → TypeFits (owned owner n)
 owned_fits OfNum n o fits = (fits, tt)
 owned_fits (OfName at x front) n o fits = fits_last front n o fits
 
@@ -95,22 +95,22 @@ begin_sound depth (symbol symbol_of.Arrow) at tokens mid rest o f = tt
 begin_sound depth (symbol symbol_of.List) at tokens mid rest o f = tt
 begin_sound depth (symbol symbol_of.Other) at tokens mid rest o f = tt
 
-angle_sound : (depth : ℕ) (t : TypeText) (tokens mid next rest : List Token) → OpenBrackets depth tokens mid → TypeSpells t mid next → FirstSymbol symbol_of.Less next rest
+angle_sound : (depth : ℕ) (t : TypeSyntax) (tokens mid next rest : List Token) → OpenBrackets depth tokens mid → TypeSpells t mid next → FirstSymbol symbol_of.Less next rest
     → TypeStands (open_angle depth t) tokens rest
-angle_sound depth (num_text None) tokens mid next rest o s f = (mid, rest, o, (s.0, s.1, subst (λ w. FirstSymbol symbol_of.Less w rest) (sym s.2) f), tt, refl, need_is)
-angle_sound depth (num_text (Some n)) tokens mid next rest o s f = tt
-angle_sound depth (record_text at x []) tokens mid next rest o s f = (mid, rest, o, (s.0, rest, s.1, subst (λ w. FirstSymbol symbol_of.Less w rest) (sym s.2) f, refl), tt, refl, need_is)
-angle_sound depth (record_text at x (n ∷ ns)) tokens mid next rest o s f = tt
-angle_sound depth bool_text tokens mid next rest o s f = tt
-angle_sound depth (list_type_text t) tokens mid next rest o s f = tt
-angle_sound depth (bracket_type_text t) tokens mid next rest o s f = tt
+angle_sound depth (num_syntax None) tokens mid next rest o s f = (mid, rest, o, (s.0, s.1, subst (λ w. FirstSymbol symbol_of.Less w rest) (sym s.2) f), tt, refl, need_is)
+angle_sound depth (num_syntax (Some n)) tokens mid next rest o s f = tt
+angle_sound depth (record_syntax at x []) tokens mid next rest o s f = (mid, rest, o, (s.0, rest, s.1, subst (λ w. FirstSymbol symbol_of.Less w rest) (sym s.2) f, refl), tt, refl, need_is)
+angle_sound depth (record_syntax at x (n ∷ ns)) tokens mid next rest o s f = tt
+angle_sound depth bool_syntax tokens mid next rest o s f = tt
+angle_sound depth (list_type_syntax t) tokens mid next rest o s f = tt
+angle_sound depth (bracket_type_syntax t) tokens mid next rest o s f = tt
 
-close_sound : (depth : ℕ) (t : TypeText) (tokens mid next rest : List Token) → OpenBrackets depth tokens mid → TypeSpells t mid next → TypeFits t → FirstSymbol symbol_of.Close next rest
+close_sound : (depth : ℕ) (t : TypeSyntax) (tokens mid next rest : List Token) → OpenBrackets depth tokens mid → TypeSpells t mid next → TypeFits t → FirstSymbol symbol_of.Close next rest
     → TypeStands (close_bracket depth t) tokens rest
 close_sound zero t tokens mid next rest o s fits f = tt
 close_sound (suc depth) t tokens mid next rest o s fits f = (o.0, o.1, (mid, next, o.2, s, f), fits)
 
-after_sound : (depth : ℕ) (t : TypeText) (what : TypeToken) (at : ℕ) (tokens mid next rest : List Token) → OpenBrackets depth tokens mid → TypeSpells t mid next → TypeFits t → Next what at next rest
+after_sound : (depth : ℕ) (t : TypeSyntax) (what : TypeToken) (at : ℕ) (tokens mid next rest : List Token) → OpenBrackets depth tokens mid → TypeSpells t mid next → TypeFits t → Next what at next rest
     → TypeStands (type_after depth t what) tokens rest
 after_sound depth t (symbol symbol_of.List) at tokens mid next rest o s fits f = (mid, o, (next, s, (f.0, f.1, f.3)), fits)
 after_sound depth t (symbol symbol_of.Close) at tokens mid next rest o s fits f = close_sound depth t tokens mid next rest o s fits (f.0, f.1, f.3)
@@ -124,13 +124,13 @@ after_sound depth t (symbol symbol_of.Arrow) at tokens mid next rest o s fits f 
 after_sound depth t (symbol symbol_of.Other) at tokens mid next rest o s fits f = tt
 after_sound depth t (name x) at tokens mid next rest o s fits f = tt
 
-comma_sound : (depth : ℕ) (owner : Owner) (n : NoteText) (tokens mid next last rest : List Token) → OpenBrackets depth tokens mid → OwnerSpells owner mid next → OwnerFits owner
+comma_sound : (depth : ℕ) (owner : Owner) (n : NoteSyntax) (tokens mid next last rest : List Token) → OpenBrackets depth tokens mid → OwnerSpells owner mid next → OwnerFits owner
     → NoteSpells n next last → NoteFits n → FirstSymbol symbol_of.Comma last rest → TypeStands (next_note depth owner n) tokens rest
 comma_sound depth OfNum n tokens mid next last rest o w wf s fits f = tt
 comma_sound depth (OfName at x front) n tokens mid next last rest o w wf s fits f =
     (mid, rest, o, (w.0, w.1, w.2, w.3, front_last front n w.1 next last rest w.4 s f), fits_last front n wf fits, refl, need_is)
 
-end_sound : (depth : ℕ) (owner : Owner) (n : NoteText) (what : TypeToken) (at : ℕ) (tokens mid next last rest : List Token) → OpenBrackets depth tokens mid → OwnerSpells owner mid next
+end_sound : (depth : ℕ) (owner : Owner) (n : NoteSyntax) (what : TypeToken) (at : ℕ) (tokens mid next last rest : List Token) → OpenBrackets depth tokens mid → OwnerSpells owner mid next
     → OwnerFits owner → NoteSpells n next last → NoteFits n → Next what at last rest → TypeStands (note_end depth owner n what) tokens rest
 end_sound depth owner n (symbol symbol_of.Greater) at tokens mid next last rest o w wf s fits f =
     (mid, o, owned_spells owner n mid next last rest w s (f.0, f.1, f.3), owned_fits owner n wf fits)
@@ -145,7 +145,7 @@ end_sound depth owner n (symbol symbol_of.Arrow) at tokens mid next last rest o 
 end_sound depth owner n (symbol symbol_of.Other) at tokens mid next last rest o w wf s fits f = tt
 end_sound depth owner n (name x) at tokens mid next last rest o w wf s fits f = tt
 
-ends_sound : (depth : ℕ) (owner : Owner) (n : NoteState) (found : Option NoteText) (x : Token) (tokens rest : List Token) → TypeStands (InNote depth owner n) tokens (x ∷ rest)
+ends_sound : (depth : ℕ) (owner : Owner) (n : NoteState) (found : Option NoteSyntax) (x : Token) (tokens rest : List Token) → TypeStands (InNote depth owner n) tokens (x ∷ rest)
     → note_finish n ≡ found → TypeStands (note_ends depth owner found (type_token x.kind)) tokens rest
 ends_sound depth owner n None x tokens rest h e = tt
 ends_sound depth owner n (Some m) x tokens rest h e =
@@ -170,7 +170,7 @@ type_sound (InNote depth owner n) x tokens rest h =
 type_sound NoType x tokens rest h = tt
 
 -- what is found is a type text
-pub type_found : (st : TypeState) (t : TypeText) (tokens rest : List Token) → TypeStands st tokens rest → type_finish st ≡ Some t → TypeSpells t tokens rest × TypeFits t
+pub type_found : (st : TypeState) (t : TypeSyntax) (tokens rest : List Token) → TypeStands st tokens rest → type_finish st ≡ Some t → TypeSpells t tokens rest × TypeFits t
 type_found (HaveType zero u) t tokens rest h e =
     let same : u ≡ t = cc in subst (λ w. TypeSpells w tokens rest × TypeFits w) same (subst (λ w. TypeSpells u w rest) (sym h.1) h.2, h.3)
 type_found (HaveType (suc depth) u) t tokens rest h e = absurd cc

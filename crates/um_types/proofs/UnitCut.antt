@@ -2,7 +2,7 @@
 use Rattle.std.proofs.Common.{◌≡◌, ℕ, ℤ, List, [], ◌∷◌, ◌++◌, true, Some, refl, sym, ap, subst, ◌∙◌, append_assoc, inl, inr}
 use Rattle.std.proofs.lemmas.List.{append-nil}
 use Rattle.um_syntax.specs.declared.token.Token.{Token}
-use Rattle.um_tree.specs.RawTree.{UnitText, UnitTexts, one_text, measure_text, variable_text, power_text, side_text, times_text, over_text, inverse_text, bracket_text, no_units, more_units}
+use Rattle.um_tree.specs.RawTree.{UnitSyntax, UnitSyntaxes, one_syntax, measure_syntax, variable_syntax, power_syntax, side_syntax, times_syntax, over_syntax, inverse_syntax, bracket_syntax, no_units, more_units}
 use Rattle.um_types.specs.UnitTokens.{UnitToken, sign, measure, variable, number}
 use Rattle.um_types.specs.declared.unit_mark.Mark.TheVariants as mark
 use Rattle.um_types.specs.UnitGrammar.{First, FirstAt, PowerSpells, Spells, AllSpell, Fits, IsUnit}
@@ -43,49 +43,49 @@ cut_power k tokens rest (n, inr (next, e, minus, (one, f))) =
     (cut_then (First (sign mark.Minus)) (First (number one (Some n))) tokens next rest (cut_first (sign mark.Minus) tokens next minus) (cut_first (number one (Some n)) next rest f))
 
 mutual
-  pub unit_cut : (t : UnitText) (tokens rest : List Token) → Spells t tokens rest → Cut (Spells t) tokens rest
-  unit_cut (one_text at) tokens rest s =
-      cut_as (FirstAt (number true s.0) at) (Spells (one_text at)) (λ a b g. (s.0, g)) tokens rest (cut_at (number true s.0) at tokens rest s.1)
-  unit_cut (measure_text at x) tokens rest s = cut_at (measure x) at tokens rest s
-  unit_cut (variable_text at x) tokens rest s = cut_at (variable x) at tokens rest s
-  unit_cut (power_text u k) tokens rest s =
-      cut_as (Then (Spells u) (Then (First (sign mark.Caret)) (PowerSpells k))) (Spells (power_text u k)) (λ a b g. (g.0, g.2.0, g.1, g.2.1, g.2.2)) tokens rest
+  pub unit_cut : (t : UnitSyntax) (tokens rest : List Token) → Spells t tokens rest → Cut (Spells t) tokens rest
+  unit_cut (one_syntax at) tokens rest s =
+      cut_as (FirstAt (number true s.0) at) (Spells (one_syntax at)) (λ a b g. (s.0, g)) tokens rest (cut_at (number true s.0) at tokens rest s.1)
+  unit_cut (measure_syntax at x) tokens rest s = cut_at (measure x) at tokens rest s
+  unit_cut (variable_syntax at x) tokens rest s = cut_at (variable x) at tokens rest s
+  unit_cut (power_syntax u k) tokens rest s =
+      cut_as (Then (Spells u) (Then (First (sign mark.Caret)) (PowerSpells k))) (Spells (power_syntax u k)) (λ a b g. (g.0, g.2.0, g.1, g.2.1, g.2.2)) tokens rest
       (
       cut_then (Spells u) (Then (First (sign mark.Caret)) (PowerSpells k)) tokens s.0 rest (unit_cut u tokens s.0 s.2)
       (cut_then (First (sign mark.Caret)) (PowerSpells k) s.0 s.1 rest (cut_first (sign mark.Caret) s.0 s.1 s.3) (cut_power k s.1 rest s.4))
       )
-  unit_cut (side_text us) tokens rest s = all_cut us tokens rest s
-  unit_cut (times_text u v) tokens rest s =
-      cut_as (Then (Spells u) (Then (First (sign mark.Times)) (Spells v))) (Spells (times_text u v)) (λ a b g. (g.0, g.2.0, g.1, g.2.1, g.2.2)) tokens rest
+  unit_cut (side_syntax us) tokens rest s = all_cut us tokens rest s
+  unit_cut (times_syntax u v) tokens rest s =
+      cut_as (Then (Spells u) (Then (First (sign mark.Times)) (Spells v))) (Spells (times_syntax u v)) (λ a b g. (g.0, g.2.0, g.1, g.2.1, g.2.2)) tokens rest
       (
       cut_then (Spells u) (Then (First (sign mark.Times)) (Spells v)) tokens s.0 rest (unit_cut u tokens s.0 s.2)
       (cut_then (First (sign mark.Times)) (Spells v) s.0 s.1 rest (cut_first (sign mark.Times) s.0 s.1 s.3) (unit_cut v s.1 rest s.4))
       )
-  unit_cut (over_text u v) tokens rest s =
-      cut_as (Then (Spells u) (Then (First (sign mark.Over)) (Spells v))) (Spells (over_text u v)) (λ a b g. (g.0, g.2.0, g.1, g.2.1, g.2.2)) tokens rest
+  unit_cut (over_syntax u v) tokens rest s =
+      cut_as (Then (Spells u) (Then (First (sign mark.Over)) (Spells v))) (Spells (over_syntax u v)) (λ a b g. (g.0, g.2.0, g.1, g.2.1, g.2.2)) tokens rest
       (
       cut_then (Spells u) (Then (First (sign mark.Over)) (Spells v)) tokens s.0 rest (unit_cut u tokens s.0 s.2)
       (cut_then (First (sign mark.Over)) (Spells v) s.0 s.1 rest (cut_first (sign mark.Over) s.0 s.1 s.3) (unit_cut v s.1 rest s.4))
       )
-  unit_cut (inverse_text at u) tokens rest s =
+  unit_cut (inverse_syntax at u) tokens rest s =
       cut_then (FirstAt (sign mark.Over) at) (Spells u) tokens s.0 rest (cut_at (sign mark.Over) at tokens s.0 s.1) (unit_cut u s.0 rest s.2)
-  unit_cut (bracket_text at u) tokens rest s =
-      cut_as (Then (FirstAt (sign mark.Open) at) (Then (Spells u) (First (sign mark.Close)))) (Spells (bracket_text at u)) (λ a b g. (g.0, g.2.0, g.1, g.2.1, g.2.2)) tokens rest
+  unit_cut (bracket_syntax at u) tokens rest s =
+      cut_as (Then (FirstAt (sign mark.Open) at) (Then (Spells u) (First (sign mark.Close)))) (Spells (bracket_syntax at u)) (λ a b g. (g.0, g.2.0, g.1, g.2.1, g.2.2)) tokens rest
       (
       cut_then (FirstAt (sign mark.Open) at) (Then (Spells u) (First (sign mark.Close))) tokens s.0 rest (cut_at (sign mark.Open) at tokens s.0 s.2)
       (cut_then (Spells u) (First (sign mark.Close)) s.0 s.1 rest (unit_cut u s.0 s.1 s.3) (cut_first (sign mark.Close) s.1 rest s.4))
       )
 
-  all_cut : (us : UnitTexts) (tokens rest : List Token) → AllSpell us tokens rest → Cut (AllSpell us) tokens rest
+  all_cut : (us : UnitSyntaxes) (tokens rest : List Token) → AllSpell us tokens rest → Cut (AllSpell us) tokens rest
   all_cut no_units tokens rest s = ([], s, (λ more. refl))
   all_cut (more_units u us) tokens rest s = cut_then (Spells u) (AllSpell us) tokens s.0 rest (unit_cut u tokens s.0 s.1) (all_cut us s.0 rest s.2)
 
 -- the unit text's own tokens
-pub cut_unit : (t : UnitText) (tokens rest : List Token) → Spells t tokens rest → Fits t → (read : List Token) × (tokens ≡ read ++ rest) × IsUnit read t
+pub cut_unit : (t : UnitSyntax) (tokens rest : List Token) → Spells t tokens rest → Fits t → (read : List Token) × (tokens ≡ read ++ rest) × IsUnit read t
 cut_unit t tokens rest s fits =
     let c = unit_cut t tokens rest s in (c.0, c.1, record { spelled = subst (λ w. Spells t w []) (append-nil c.0) (c.2 []); fits = fits })
 
 -- a unit text followed by anything
-pub unit_before : (t : UnitText) (tokens rest : List Token) → IsUnit tokens t → Spells t (tokens ++ rest) rest
+pub unit_before : (t : UnitSyntax) (tokens rest : List Token) → IsUnit tokens t → Spells t (tokens ++ rest) rest
 unit_before t tokens rest p =
     let c = unit_cut t tokens [] p.spelled in subst (λ w. Spells t (w ++ rest) rest) (sym (c.1 ∙ append-nil c.0)) (c.2 rest)

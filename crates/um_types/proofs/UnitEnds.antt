@@ -1,21 +1,21 @@
 -- What is left where all ends up to the innermost brackets, and how heights are counted over frames.
 use Rattle.std.proofs.Common.{◌≡◌, ℕ, ◌+◌, max, List, [], ◌∷◌, ◌++◌, true, refl, sym, ap, ◌∙◌, arith, inl, inr, ◌⊎◌}
-use Rattle.um_tree.specs.RawTree.{UnitText, side_text, times_text, over_text, inverse_text, units_in_order}
+use Rattle.um_tree.specs.RawTree.{UnitSyntax, side_syntax, times_syntax, over_syntax, inverse_syntax, units_in_order}
 use Rattle.um_types.specs.UnitMachine.{Frame, InBracket, InInverse, InTimes, InOver, InSide, Have, Refused, reduce, opens, close_after, whole}
 use Rattle.um_types.specs.UnitLeast.{side, least_over}
 use Rattle.um_types.specs.UnitCount.{counted}
 use Rattle.um_types.specs.UnitView.{ends_itself}
 
 -- nothing that needs no token to end is left open
-pub reduced_opens : (old : List Frame) (t : UnitText) (frames : List Frame) (u : UnitText) → Have frames u ≡ reduce old t → opens frames ≡ true
+pub reduced_opens : (old : List Frame) (t : UnitSyntax) (frames : List Frame) (u : UnitSyntax) → Have frames u ≡ reduce old t → opens frames ≡ true
 reduced_opens [] t frames u e = let same : frames ≡ [] = cc in ap opens same
 reduced_opens (InBracket at ∷ old) t frames u e = let same : frames ≡ InBracket at ∷ old = cc in ap opens same
-reduced_opens (InInverse at ∷ old) t frames u e = reduced_opens old (inverse_text at t) frames u e
-reduced_opens (InTimes left ∷ old) t frames u e = reduced_opens old (times_text left t) frames u e
-reduced_opens (InOver left ∷ old) t frames u e = reduced_opens old (over_text left t) frames u e
-reduced_opens (InSide front ∷ old) t frames u e = reduced_opens old (side_text (units_in_order (front ++ t ∷ []))) frames u e
+reduced_opens (InInverse at ∷ old) t frames u e = reduced_opens old (inverse_syntax at t) frames u e
+reduced_opens (InTimes left ∷ old) t frames u e = reduced_opens old (times_syntax left t) frames u e
+reduced_opens (InOver left ∷ old) t frames u e = reduced_opens old (over_syntax left t) frames u e
+reduced_opens (InSide front ∷ old) t frames u e = reduced_opens old (side_syntax (units_in_order (front ++ t ∷ []))) frames u e
 
-opens_stays : (frames : List Frame) (u : UnitText) → opens frames ≡ true → reduce frames u ≡ Have frames u
+opens_stays : (frames : List Frame) (u : UnitSyntax) → opens frames ≡ true → reduce frames u ≡ Have frames u
 opens_stays [] u e = refl
 opens_stays (InBracket at ∷ frames) u e = refl
 opens_stays (InInverse at ∷ frames) u e = absurd cc
@@ -24,7 +24,7 @@ opens_stays (InOver left ∷ frames) u e = absurd cc
 opens_stays (InSide front ∷ frames) u e = absurd cc
 
 -- once all has ended, nothing more ends
-pub reduced_stays : (old : List Frame) (t : UnitText) (frames : List Frame) (u : UnitText) → Have frames u ≡ reduce old t → reduce frames u ≡ reduce old t
+pub reduced_stays : (old : List Frame) (t : UnitSyntax) (frames : List Frame) (u : UnitSyntax) → Have frames u ≡ reduce old t → reduce frames u ≡ reduce old t
 reduced_stays old t frames u e = opens_stays frames u (reduced_opens old t frames u e) ∙ e
 
 -- what is counted is enough
@@ -41,7 +41,7 @@ both_none (InOver left ∷ frames) a b = absurd cc
 both_none (InSide front ∷ frames) a b = absurd cc
 
 -- where no brackets are open, none close, and all has ended
-pub none_close : (old : List Frame) (t : UnitText) (frames new : List Frame) (u : UnitText) → Have frames u ≡ reduce old t → ((frames ≡ []) × (new ≡ [])) ⊎ (ends_itself frames ≡ true)
+pub none_close : (old : List Frame) (t : UnitSyntax) (frames new : List Frame) (u : UnitSyntax) → Have frames u ≡ reduce old t → ((frames ≡ []) × (new ≡ [])) ⊎ (ends_itself frames ≡ true)
     → (close_after (reduce old t) ≡ Refused) × (whole (reduce new u) ≡ whole (reduce old t))
 none_close old t frames new u e (inl (a, b)) =
     let now : reduce old t ≡ Have [] u = sym e ∙ ap (λ fs. Have fs u) a in

@@ -1,7 +1,7 @@
 -- The least height of a unit text that the tokens begin: it is reached, and none is lower.
 use Rattle.std.proofs.Common.{◌≡◌, ◌≢◌, ℕ, ◌+◌, ◌≤◌, max, List, [], ◌∷◌, ◌++◌, cond, Bool, true, false, Some, None, refl, sym, ap, subst, ◌∙◌, arith}
 use Rattle.um_syntax.specs.declared.token.Token.{Token}
-use Rattle.um_tree.specs.RawTree.{UnitText, one_text, measure_text, variable_text, power_text, side_text, times_text, over_text, inverse_text, bracket_text, units_in_order}
+use Rattle.um_tree.specs.RawTree.{UnitSyntax, one_syntax, measure_syntax, variable_syntax, power_syntax, side_syntax, times_syntax, over_syntax, inverse_syntax, bracket_syntax, units_in_order}
 use Rattle.um_tree.specs.Heights.{unit_height, tallest_unit}
 use Rattle.um_types.specs.UnitTokens.{UnitToken, sign, measure, variable, number, unit_token}
 use Rattle.um_types.specs.declared.unit_mark.Mark.TheVariants as mark
@@ -11,26 +11,26 @@ use Rattle.um_types.specs.UnitLeast.{side, least_over, least}
 use Rattle.um_types.proofs.UnitComplete.{into, red, red_into, AtHand, into_hand}
 use Rattle.um_types.proofs.UnitLaws.{filled, all_filled, ending_of, completed, can_go_on, run_append, run_refused, reads_as}
 
-tallest_last : (front : List UnitText) (t : UnitText) → tallest_unit (units_in_order (front ++ t ∷ [])) ≡ max (tallest_unit (units_in_order front)) (unit_height t)
+tallest_last : (front : List UnitSyntax) (t : UnitSyntax) → tallest_unit (units_in_order (front ++ t ∷ [])) ≡ max (tallest_unit (units_in_order front)) (unit_height t)
 tallest_last [] t = omega arith
 tallest_last (u ∷ us) t = let e = tallest_last us t in omega (arith, e)
 
-pub height_filled : (frame : Frame) (t : UnitText) → unit_height (filled frame t) ≡ max (side frame) (unit_height t) + 1
+pub height_filled : (frame : Frame) (t : UnitSyntax) → unit_height (filled frame t) ≡ max (side frame) (unit_height t) + 1
 height_filled (InBracket at) t = omega arith
 height_filled (InInverse at) t = omega arith
 height_filled (InTimes left) t = refl
 height_filled (InOver left) t = refl
 height_filled (InSide front) t = ap (λ n. n + 1) (tallest_last front t)
 
-height_all_filled : (frames : List Frame) (t : UnitText) → unit_height (all_filled frames t) ≡ least_over frames (unit_height t)
+height_all_filled : (frames : List Frame) (t : UnitSyntax) → unit_height (all_filled frames t) ≡ least_over frames (unit_height t)
 height_all_filled [] t = refl
 height_all_filled (frame ∷ frames) t = height_all_filled frames (filled frame t) ∙ ap (least_over frames) (height_filled frame t)
 
 pub completed_height : (st : State) → st ≢ Refused → unit_height (completed st) ≡ least st
-completed_height (Need frames) ok = height_all_filled frames (measure_text 0 [])
+completed_height (Need frames) ok = height_all_filled frames (measure_syntax 0 [])
 completed_height (Have frames t) ok = height_all_filled frames t
-completed_height (Raised frames t) ok = height_all_filled frames (power_text t _)
-completed_height (Lowered frames t) ok = height_all_filled frames (power_text t _)
+completed_height (Raised frames t) ok = height_all_filled frames (power_syntax t _)
+completed_height (Lowered frames t) ok = height_all_filled frames (power_syntax t _)
 completed_height Refused ok = absurd (ok refl)
 
 -- a unit text of the least height begins so
@@ -44,14 +44,14 @@ least_up : (frames : List Frame) (h k : ℕ) → h ≤ k → least_over frames h
 least_up [] h k le = le
 least_up (frame ∷ frames) h k le = least_up frames (max (side frame) h + 1) (max (side frame) k + 1) (omega arith)
 
-pub reduce_least : (frames : List Frame) (t : UnitText) → least (reduce frames t) ≡ least_over frames (unit_height t)
+pub reduce_least : (frames : List Frame) (t : UnitSyntax) → least (reduce frames t) ≡ least_over frames (unit_height t)
 reduce_least [] t = refl
 reduce_least (InBracket at ∷ frames) t = refl
-reduce_least (InInverse at ∷ frames) t = reduce_least frames (inverse_text at t) ∙ ap (least_over frames) (height_filled (InInverse at) t)
-reduce_least (InTimes left ∷ frames) t = reduce_least frames (times_text left t)
-reduce_least (InOver left ∷ frames) t = reduce_least frames (over_text left t)
+reduce_least (InInverse at ∷ frames) t = reduce_least frames (inverse_syntax at t) ∙ ap (least_over frames) (height_filled (InInverse at) t)
+reduce_least (InTimes left ∷ frames) t = reduce_least frames (times_syntax left t)
+reduce_least (InOver left ∷ frames) t = reduce_least frames (over_syntax left t)
 reduce_least (InSide front ∷ frames) t =
-    reduce_least frames (side_text (units_in_order (front ++ t ∷ []))) ∙ ap (least_over frames) (height_filled (InSide front) t)
+    reduce_least frames (side_syntax (units_in_order (front ++ t ∷ []))) ∙ ap (least_over frames) (height_filled (InSide front) t)
 
 abbrev Above : ℕ → State → Type 0
 Above n Refused = Unit {0}
@@ -84,10 +84,10 @@ begin_up frames (sign mark.Caret) at = tt
 begin_up frames (sign mark.Minus) at = tt
 begin_up frames (sign mark.Other) at = tt
 
-first_up : (frames : List Frame) (t : UnitText) → least_over frames (unit_height t) ≤ least_over (InSide (t ∷ []) ∷ frames) 1
+first_up : (frames : List Frame) (t : UnitSyntax) → least_over frames (unit_height t) ≤ least_over (InSide (t ∷ []) ∷ frames) 1
 first_up frames t = least_up frames (unit_height t) (max (tallest_unit (units_in_order (t ∷ []))) 1 + 1) (omega arith)
 
-juxtapose_up : (frames : List Frame) (t : UnitText) → least_over frames (unit_height t) ≤ least_over (juxtapose frames t) 1
+juxtapose_up : (frames : List Frame) (t : UnitSyntax) → least_over frames (unit_height t) ≤ least_over (juxtapose frames t) 1
 juxtapose_up [] t = first_up [] t
 juxtapose_up (InBracket at ∷ frames) t = first_up (InBracket at ∷ frames) t
 juxtapose_up (InInverse at ∷ frames) t = first_up (InInverse at ∷ frames) t
@@ -97,7 +97,7 @@ juxtapose_up (InSide front ∷ frames) t =
     let e = tallest_last front t in
     least_up frames (max (tallest_unit (units_in_order front)) (unit_height t) + 1) (max (tallest_unit (units_in_order (front ++ t ∷ []))) 1 + 1) (omega (arith, e))
 
-next_up : (frames : List Frame) (t : UnitText) (what : UnitToken) (at : ℕ) → Above (least_over frames (unit_height t)) (begin (juxtapose frames t) what at)
+next_up : (frames : List Frame) (t : UnitSyntax) (what : UnitToken) (at : ℕ) → Above (least_over frames (unit_height t)) (begin (juxtapose frames t) what at)
 next_up frames t what at =
     above_more (least_over frames (unit_height t)) (least_over (juxtapose frames t) 1) (begin (juxtapose frames t) what at) (juxtapose_up frames t) (begin_up (juxtapose frames t) what at)
 
@@ -127,21 +127,21 @@ close_up (Raised frames t) = tt
 close_up (Lowered frames t) = tt
 close_up Refused = tt
 
-raise_up : (frames : List Frame) (t : UnitText) → Above (least_over frames (unit_height t)) (raise frames t)
-raise_up frames (one_text at) = least_up frames 1 2 (omega arith)
-raise_up frames (measure_text at x) = least_up frames 1 2 (omega arith)
-raise_up frames (variable_text at x) = least_up frames 1 2 (omega arith)
-raise_up frames (bracket_text at u) = least_up frames (unit_height u + 1) (unit_height u + 1 + 1) (omega arith)
-raise_up frames (power_text u k) = tt
-raise_up frames (side_text us) = tt
-raise_up frames (times_text u v) = tt
-raise_up frames (over_text u v) = tt
-raise_up frames (inverse_text at u) = tt
+raise_up : (frames : List Frame) (t : UnitSyntax) → Above (least_over frames (unit_height t)) (raise frames t)
+raise_up frames (one_syntax at) = least_up frames 1 2 (omega arith)
+raise_up frames (measure_syntax at x) = least_up frames 1 2 (omega arith)
+raise_up frames (variable_syntax at x) = least_up frames 1 2 (omega arith)
+raise_up frames (bracket_syntax at u) = least_up frames (unit_height u + 1) (unit_height u + 1 + 1) (omega arith)
+raise_up frames (power_syntax u k) = tt
+raise_up frames (side_syntax us) = tt
+raise_up frames (times_syntax u v) = tt
+raise_up frames (over_syntax u v) = tt
+raise_up frames (inverse_syntax at u) = tt
 
-ended_up : (frames : List Frame) (t : UnitText) (st : State) → Above (least (reduce frames t)) st → Above (least_over frames (unit_height t)) st
+ended_up : (frames : List Frame) (t : UnitSyntax) (st : State) → Above (least (reduce frames t)) st → Above (least_over frames (unit_height t)) st
 ended_up frames t st h = subst (λ n. Above n st) (reduce_least frames t) h
 
-after_up : (frames : List Frame) (t : UnitText) (what : UnitToken) (at : ℕ) → Above (least_over frames (unit_height t)) (after frames t what at)
+after_up : (frames : List Frame) (t : UnitSyntax) (what : UnitToken) (at : ℕ) → Above (least_over frames (unit_height t)) (after frames t what at)
 after_up frames t (measure x) at = next_up frames t (measure x) at
 after_up frames t (variable x) at = next_up frames t (variable x) at
 after_up frames t (number one power) at = next_up frames t (number one power) at
@@ -153,7 +153,7 @@ after_up frames t (sign mark.Caret) at = raise_up frames t
 after_up frames t (sign mark.Minus) at = tt
 after_up frames t (sign mark.Other) at = tt
 
-raised_up : (frames : List Frame) (t : UnitText) (what : UnitToken) → Above (least_over frames (unit_height t + 1)) (raised frames t what)
+raised_up : (frames : List Frame) (t : UnitSyntax) (what : UnitToken) → Above (least_over frames (unit_height t + 1)) (raised frames t what)
 raised_up frames t (number one (Some n)) = omega arith
 raised_up frames t (number one None) = tt
 raised_up frames t (sign mark.Minus) = omega arith
@@ -166,7 +166,7 @@ raised_up frames t (sign mark.Over) = tt
 raised_up frames t (sign mark.Caret) = tt
 raised_up frames t (sign mark.Other) = tt
 
-lowered_up : (frames : List Frame) (t : UnitText) (what : UnitToken) → Above (least_over frames (unit_height t + 1)) (lowered frames t what)
+lowered_up : (frames : List Frame) (t : UnitSyntax) (what : UnitToken) → Above (least_over frames (unit_height t + 1)) (lowered frames t what)
 lowered_up frames t (number one (Some n)) = omega arith
 lowered_up frames t (number one None) = tt
 lowered_up frames t (sign m) = tt
@@ -209,7 +209,7 @@ hand_reads (Lowered frames t) h e = absurd h
 hand_reads Refused h e = absurd h
 
 -- no unit text that the tokens begin is lower
-pub none_lower : (tokens more : List Token) (t : UnitText) → IsUnit (tokens ++ more) t → least (run (Need []) tokens) ≤ unit_height t
+pub none_lower : (tokens more : List Token) (t : UnitSyntax) → IsUnit (tokens ++ more) t → least (run (Need []) tokens) ≤ unit_height t
 none_lower tokens more t p =
     let hand = into_hand t [] p.fits in
     let e : run (run (Need []) tokens) more ≡ into [] t = sym (run_append tokens more (Need [])) ∙ reads_as t (tokens ++ more) p in
@@ -218,10 +218,10 @@ none_lower tokens more t p =
     omega (arith, up, ap least e, same)
 
 -- what is found has the least height
-pub found_height : (st : State) (t : UnitText) → finish st ≡ Some t → unit_height t ≡ least st
+pub found_height : (st : State) (t : UnitSyntax) → finish st ≡ Some t → unit_height t ≡ least st
 found_height (Have frames u) t e = sym (whole_height (reduce frames u) t e) ∙ reduce_least frames u
   where
-    whole_height : (st : State) (t : UnitText) → whole st ≡ Some t → least st ≡ unit_height t
+    whole_height : (st : State) (t : UnitSyntax) → whole st ≡ Some t → least st ≡ unit_height t
     whole_height (Have [] u) t e = let same : u ≡ t = cc in ap unit_height same
     whole_height (Have (frame ∷ frames) u) t e = absurd cc
     whole_height (Need frames) t e = absurd cc

@@ -7,7 +7,7 @@ use Rattle.um_frac.specs.declared.number.Frac.{Frac}
 use Rattle.um_frac.specs.Gcd.{gcd}
 use Rattle.um_syntax.specs.declared.token.Token.{Token}
 use Rattle.um_syntax.specs.declared.token.Kind.TheVariants as kind
-use Rattle.um_tree.specs.RawTree.{UnitText, measure_text, power_text, side_text, times_text, over_text, inverse_text, bracket_text, units_in_order}
+use Rattle.um_tree.specs.RawTree.{UnitSyntax, measure_syntax, power_syntax, side_syntax, times_syntax, over_syntax, inverse_syntax, bracket_syntax, units_in_order}
 use Rattle.um_types.specs.UnitTokens.{unit_token}
 use Rattle.um_types.specs.UnitGrammar.{Spells, rank, Fits, IsUnit, Begins}
 use Rattle.um_types.specs.UnitMachine.{Frame, InBracket, InInverse, InTimes, InOver, InSide, State, Need, Have, Raised, Lowered, Refused, top_limit, act, run, whole, finish}
@@ -40,14 +40,14 @@ endings (InTimes left ∷ frames) = endings frames
 endings (InOver left ∷ frames) = endings frames
 endings (InSide front ∷ frames) = endings frames
 
-abbrev pub filled : Frame → UnitText → UnitText
-filled (InBracket at) t = bracket_text at t
-filled (InInverse at) t = inverse_text at t
-filled (InTimes left) t = times_text left t
-filled (InOver left) t = over_text left t
-filled (InSide front) t = side_text (units_in_order (front ++ t ∷ []))
+abbrev pub filled : Frame → UnitSyntax → UnitSyntax
+filled (InBracket at) t = bracket_syntax at t
+filled (InInverse at) t = inverse_syntax at t
+filled (InTimes left) t = times_syntax left t
+filled (InOver left) t = over_syntax left t
+filled (InSide front) t = side_syntax (units_in_order (front ++ t ∷ []))
 
-abbrev pub all_filled : List Frame → UnitText → UnitText
+abbrev pub all_filled : List Frame → UnitSyntax → UnitSyntax
 all_filled [] t = t
 all_filled (frame ∷ frames) t = all_filled frames (filled frame t)
 
@@ -58,32 +58,32 @@ ending_of (Raised frames t) = number_token ∷ endings frames
 ending_of (Lowered frames t) = number_token ∷ endings frames
 ending_of Refused = []
 
-abbrev pub completed : State → UnitText
-completed (Need frames) = all_filled frames (measure_text 0 [])
+abbrev pub completed : State → UnitSyntax
+completed (Need frames) = all_filled frames (measure_syntax 0 [])
 completed (Have frames t) = all_filled frames t
-completed (Raised frames t) = all_filled frames (power_text t (pos 0))
-completed (Lowered frames t) = all_filled frames (power_text t (neg_ℤ (pos 0)))
-completed Refused = measure_text 0 []
+completed (Raised frames t) = all_filled frames (power_syntax t (pos 0))
+completed (Lowered frames t) = all_filled frames (power_syntax t (neg_ℤ (pos 0)))
+completed Refused = measure_syntax 0 []
 
-ends : (frames : List Frame) (t : UnitText) (tokens mid : List Token) → Opened frames tokens mid → Spells t mid (endings frames) → FramesFit frames → Fits t → rank t ≤ top_limit frames → IsUnit tokens (all_filled frames t)
+ends : (frames : List Frame) (t : UnitSyntax) (tokens mid : List Token) → Opened frames tokens mid → Spells t mid (endings frames) → FramesFit frames → Fits t → rank t ≤ top_limit frames → IsUnit tokens (all_filled frames t)
 ends [] t tokens mid o s f fits le = record { spelled = subst (λ w. Spells t w []) (sym o) s; fits = fits }
 ends (InBracket at ∷ frames) t tokens mid o s f fits le =
-    ends frames (bracket_text at t) tokens o.0 o.1 (mid, close_token ∷ endings frames, o.2, s, (close_token, refl, refl)) f.1 fits (omega (arith, limit_low frames))
-ends (InInverse at ∷ frames) t tokens mid o s f fits le = ends frames (inverse_text at t) tokens o.0 o.1 (mid, o.2, s) f.1 (le, fits) f.0
-ends (InTimes left ∷ frames) t tokens mid o s f fits le = ends frames (times_text left t) tokens o.0 o.2 (o.1, mid, o.3, o.4, s) f.1 (le, f.0.1, fits) f.0.0
-ends (InOver left ∷ frames) t tokens mid o s f fits le = ends frames (over_text left t) tokens o.0 o.2 (o.1, mid, o.3, o.4, s) f.1 (le, f.0.1, fits) f.0.0
+    ends frames (bracket_syntax at t) tokens o.0 o.1 (mid, close_token ∷ endings frames, o.2, s, (close_token, refl, refl)) f.1 fits (omega (arith, limit_low frames))
+ends (InInverse at ∷ frames) t tokens mid o s f fits le = ends frames (inverse_syntax at t) tokens o.0 o.1 (mid, o.2, s) f.1 (le, fits) f.0
+ends (InTimes left ∷ frames) t tokens mid o s f fits le = ends frames (times_syntax left t) tokens o.0 o.2 (o.1, mid, o.3, o.4, s) f.1 (le, f.0.1, fits) f.0.0
+ends (InOver left ∷ frames) t tokens mid o s f fits le = ends frames (over_syntax left t) tokens o.0 o.2 (o.1, mid, o.3, o.4, s) f.1 (le, f.0.1, fits) f.0.0
 ends (InSide front ∷ frames) t tokens mid o s f fits le =
-    ends frames (side_text (units_in_order (front ++ t ∷ []))) tokens o.0 o.1 (spells_last front t o.0 mid (endings frames) o.2 s) f.1 (side_fits front t f.0.1 f.0.2 fits le) f.0.0
+    ends frames (side_syntax (units_in_order (front ++ t ∷ []))) tokens o.0 o.1 (spells_last front t o.0 mid (endings frames) o.2 s) f.1 (side_fits front t f.0.1 f.0.2 fits le) f.0.0
 
 -- what isn't refused can be completed
 can_end : (st : State) (tokens : List Token) → Stands st tokens (ending_of st) → st ≢ Refused → IsUnit tokens (completed st)
 can_end (Need frames) tokens h ok =
-    ends frames (measure_text 0 []) tokens (name_token ∷ endings frames) h.0 (name_token, refl, refl, refl) h.1 tt (omega (arith, limit_low frames))
+    ends frames (measure_syntax 0 []) tokens (name_token ∷ endings frames) h.0 (name_token, refl, refl, refl) h.1 tt (omega (arith, limit_low frames))
 can_end (Have frames t) tokens h ok = ends frames t tokens h.0 h.1 h.2 h.3 h.4 (omega (arith, h.5, limit_low frames))
 can_end (Raised frames t) tokens h ok =
-    ends frames (power_text t (pos 0)) tokens h.0 h.2 (h.1, number_token ∷ endings frames, h.3, h.4, (0, inl (refl, (false, (number_token, refl, refl))))) h.5 (h.7, h.6) (omega (arith, limit_low frames))
+    ends frames (power_syntax t (pos 0)) tokens h.0 h.2 (h.1, number_token ∷ endings frames, h.3, h.4, (0, inl (refl, (false, (number_token, refl, refl))))) h.5 (h.7, h.6) (omega (arith, limit_low frames))
 can_end (Lowered frames t) tokens h ok =
-    ends frames (power_text t (neg_ℤ (pos 0))) tokens h.0 h.3 (h.1, h.2, h.4, h.5, (0, inr (number_token ∷ endings frames, refl, h.6, (false, (number_token, refl, refl))))) h.7 (h.9, h.8)
+    ends frames (power_syntax t (neg_ℤ (pos 0))) tokens h.0 h.3 (h.1, h.2, h.4, h.5, (0, inr (number_token ∷ endings frames, refl, h.6, (false, (number_token, refl, refl))))) h.7 (h.9, h.8)
     (omega (arith, limit_low frames))
 can_end Refused tokens h ok = absurd (ok refl)
 
@@ -108,7 +108,7 @@ hand_goes_on (Raised frames t) h e = absurd h
 hand_goes_on (Lowered frames t) h e = absurd h
 hand_goes_on Refused h e = absurd h
 
-pub reads_as : (t : UnitText) (tokens : List Token) → IsUnit tokens t → run (Need []) tokens ≡ into [] t
+pub reads_as : (t : UnitSyntax) (tokens : List Token) → IsUnit tokens t → run (Need []) tokens ≡ into [] t
 reads_as t tokens p = complete t [] tokens [] p.spelled p.fits (rank_low t)
 
 -- what was refused begins no unit text
@@ -125,13 +125,13 @@ finish_red (Lowered frames t) = refl
 finish_red Refused = refl
 
 -- a unit text is read as it
-pub finds : (tokens : List Token) (t : UnitText) → IsUnit tokens t → finish (run (Need []) tokens) ≡ Some t
+pub finds : (tokens : List Token) (t : UnitSyntax) → IsUnit tokens t → finish (run (Need []) tokens) ≡ Some t
 finds tokens t p = ap finish (reads_as t tokens p) ∙ finish_red (into [] t) ∙ ap whole (red_into t [] p.fits)
 
 -- one unit text per list of tokens
-pub one_unit : (tokens : List Token) (t u : UnitText) → IsUnit tokens t → IsUnit tokens u → t ≡ u
+pub one_unit : (tokens : List Token) (t u : UnitSyntax) → IsUnit tokens t → IsUnit tokens u → t ≡ u
 one_unit tokens t u p q = let e : Some t ≡ Some u = sym (finds tokens t p) ∙ finds tokens u q in cc
 
 -- what is found is a unit text
-pub found : (tokens : List Token) (t : UnitText) → finish (run (Need []) tokens) ≡ Some t → IsUnit tokens t
+pub found : (tokens : List Token) (t : UnitSyntax) → finish (run (Need []) tokens) ≡ Some t → IsUnit tokens t
 found tokens t e = is_unit (run (Need []) tokens) t tokens (subst (λ w. Stands (run (Need []) tokens) w []) (append-nil tokens) (stands tokens [])) e

@@ -1,7 +1,7 @@
 -- The laws of unit texts for a reader that holds the machine of units inside: what is read stands up to a rest that may be anything.
 use Rattle.std.proofs.Common.{◌≡◌, ◌≢◌, ℕ, ◌≤◌, List, [], ◌∷◌, ◌++◌, Option, Some, None, refl, sym, ap, subst, ◌∙◌, append_assoc}
 use Rattle.um_syntax.specs.declared.token.Token.{Token}
-use Rattle.um_tree.specs.RawTree.{UnitText}
+use Rattle.um_tree.specs.RawTree.{UnitSyntax}
 use Rattle.um_types.specs.UnitTokens.{sign, unit_token}
 use Rattle.um_types.specs.declared.unit_mark.Mark.TheVariants as mark
 use Rattle.um_types.specs.UnitGrammar.{Spells, Fits, IsUnit}
@@ -21,17 +21,17 @@ runs_unit [] state = refl
 runs_unit (token ∷ tokens) state = runs_unit tokens (unit_step state token)
 
 -- what was read is found
-pub unit_finds : (u : UnitText) → Fits u → finish (into [] u) ≡ Some u
+pub unit_finds : (u : UnitSyntax) → Fits u → finish (into [] u) ≡ Some u
 unit_finds u fits = finish_red (into [] u) ∙ ap whole (red_into u [] fits)
 
-abbrev no_unit : Option UnitText
+abbrev no_unit : Option UnitSyntax
 no_unit = None
 
-pub into_goes_on : (u : UnitText) → Fits u → into [] u ≢ Refused
+pub into_goes_on : (u : UnitSyntax) → Fits u → into [] u ≢ Refused
 into_goes_on u fits h = let bad : no_unit ≡ Some u = sym (ap finish h) ∙ unit_finds u fits in cc
 
 -- what a unit text spells is read as it
-pub unit_reaches : (u : UnitText) (tokens rest : List Token) → Spells u tokens rest → Fits u → Reaches unit_step Refused (Need []) tokens (into [] u) rest
+pub unit_reaches : (u : UnitSyntax) (tokens rest : List Token) → Spells u tokens rest → Fits u → Reaches unit_step Refused (Need []) tokens (into [] u) rest
 unit_reaches u tokens rest s fits =
     let c = cut_unit u tokens rest s fits in (c.0, c.1, runs_unit c.0 (Need []) ∙ reads_as u c.0 c.2, into_goes_on u fits)
 
@@ -56,7 +56,7 @@ unit_sound u x tokens rest h ok =
     (h.0 ++ x ∷ [], h.1 ∙ sym (append_assoc h.0 (x ∷ []) rest), run_append h.0 (x ∷ []) (Need []) ∙ ap (λ s. unit_step s x) h.2, ok)
 
 -- what is found is a unit text
-pub unit_found : (u : State) (t : UnitText) (tokens rest : List Token) → UnitStands u tokens rest → finish u ≡ Some t → Spells t tokens rest × Fits t
+pub unit_found : (u : State) (t : UnitSyntax) (tokens rest : List Token) → UnitStands u tokens rest → finish u ≡ Some t → Spells t tokens rest × Fits t
 unit_found u t tokens rest h e =
     let p : IsUnit h.0 t = found h.0 t (ap finish h.2 ∙ e) in (subst (λ s. Spells t s rest) (sym h.1) (unit_before t h.0 rest p), p.fits)
 

@@ -1,7 +1,7 @@
 -- The tokens that were read are those of the state, and what stands in it fits.
 use Rattle.std.proofs.Common.{◌≡◌, ℕ, ◌≤◌, List, [], ◌∷◌, ◌++◌, cond, Bool, true, false, Some, None, refl, sym, subst, arith, inl, inr}
 use Rattle.um_syntax.specs.declared.token.Token.{Token}
-use Rattle.um_tree.specs.RawTree.{UnitText, one_text, measure_text, variable_text, power_text, side_text, times_text, over_text, inverse_text, bracket_text, units_in_order}
+use Rattle.um_tree.specs.RawTree.{UnitSyntax, one_syntax, measure_syntax, variable_syntax, power_syntax, side_syntax, times_syntax, over_syntax, inverse_syntax, bracket_syntax, units_in_order}
 use Rattle.um_types.specs.UnitTokens.{UnitToken, sign, measure, variable, number, unit_token}
 use Rattle.um_types.specs.declared.unit_mark.Mark.TheVariants as mark
 use Rattle.um_types.specs.UnitGrammar.{First, FirstAt, Spells, AllSpell, rank, Several, Fits, ArePowers, IsUnit}
@@ -16,7 +16,7 @@ Opened (InTimes left ∷ frames) tokens rest = (mid next : List Token) × Opened
 Opened (InOver left ∷ frames) tokens rest = (mid next : List Token) × Opened frames tokens mid × Spells left mid next × First (sign mark.Over) next rest
 Opened (InSide front ∷ frames) tokens rest = (mid : List Token) × Opened frames tokens mid × AllSpell (units_in_order front) mid rest
 
-abbrev pub NonEmpty : List UnitText → Type 0
+abbrev pub NonEmpty : List UnitSyntax → Type 0
 NonEmpty [] = ⊥
 NonEmpty (u ∷ us) = Unit {0}
 
@@ -55,42 +55,42 @@ limit_low (InSide front ∷ frames) = (omega arith, omega arith)
 
 -- ---- juxtapositions
 
-pub spells_last : (front : List UnitText) (t : UnitText) (tokens mid rest : List Token) → AllSpell (units_in_order front) tokens mid → Spells t mid rest → AllSpell (units_in_order (front ++ t ∷ [])) tokens rest
+pub spells_last : (front : List UnitSyntax) (t : UnitSyntax) (tokens mid rest : List Token) → AllSpell (units_in_order front) tokens mid → Spells t mid rest → AllSpell (units_in_order (front ++ t ∷ [])) tokens rest
 spells_last [] t tokens mid rest e s = (rest, subst (λ w. Spells t w rest) (sym e) s, refl)
 spells_last (u ∷ us) t tokens mid rest h s = (h.0, h.1, spells_last us t h.0 mid rest h.2 s)
 
-pub powers_last : (front : List UnitText) (t : UnitText) → ArePowers (units_in_order front) → Fits t → rank t ≤ 1 → ArePowers (units_in_order (front ++ t ∷ []))
+pub powers_last : (front : List UnitSyntax) (t : UnitSyntax) → ArePowers (units_in_order front) → Fits t → rank t ≤ 1 → ArePowers (units_in_order (front ++ t ∷ []))
 powers_last [] t h fits le = (le, fits, tt)
 powers_last (u ∷ us) t h fits le = (h.0, h.1, powers_last us t h.2 fits le)
 
-several_last : (front : List UnitText) (t : UnitText) → NonEmpty front → Several (units_in_order (front ++ t ∷ []))
+several_last : (front : List UnitSyntax) (t : UnitSyntax) → NonEmpty front → Several (units_in_order (front ++ t ∷ []))
 several_last [] t h = absurd h
 several_last (u ∷ []) t h = tt
 several_last (u ∷ v ∷ us) t h = tt
 
-nonempty_last : (front : List UnitText) (t : UnitText) → NonEmpty (front ++ t ∷ [])
+nonempty_last : (front : List UnitSyntax) (t : UnitSyntax) → NonEmpty (front ++ t ∷ [])
 nonempty_last [] t = tt
 nonempty_last (u ∷ us) t = tt
 
-pub side_fits : (front : List UnitText) (t : UnitText) → NonEmpty front → ArePowers (units_in_order front) → Fits t → rank t ≤ 1 → Fits (side_text (units_in_order (front ++ t ∷ [])))
+pub side_fits : (front : List UnitSyntax) (t : UnitSyntax) → NonEmpty front → ArePowers (units_in_order front) → Fits t → rank t ≤ 1 → Fits (side_syntax (units_in_order (front ++ t ∷ [])))
 side_fits front t h all fits le = (several_last front t h, powers_last front t all fits le)
 
 -- ---- ending what ends
 
-pub reduce_sound : (frames : List Frame) (t : UnitText) (tokens mid rest : List Token) → Opened frames tokens mid → Spells t mid rest → FramesFit frames → Fits t → rank t ≤ top_limit frames
+pub reduce_sound : (frames : List Frame) (t : UnitSyntax) (tokens mid rest : List Token) → Opened frames tokens mid → Spells t mid rest → FramesFit frames → Fits t → rank t ≤ top_limit frames
     → StandsUpTo (reduce frames t) tokens rest
 reduce_sound [] t tokens mid rest o s f fits le = (mid, o, s, f, fits, refl)
 reduce_sound (InBracket at ∷ frames) t tokens mid rest o s f fits le = (mid, o, s, f, fits, refl)
 reduce_sound (InInverse at ∷ frames) t tokens mid rest o s f fits le =
-    reduce_sound frames (inverse_text at t) tokens o.0 rest o.1 (mid, o.2, s) f.1 (le, fits) f.0
+    reduce_sound frames (inverse_syntax at t) tokens o.0 rest o.1 (mid, o.2, s) f.1 (le, fits) f.0
 reduce_sound (InTimes left ∷ frames) t tokens mid rest o s f fits le =
-    reduce_sound frames (times_text left t) tokens o.0 rest o.2 (o.1, mid, o.3, o.4, s) f.1 (le, f.0.1, fits) f.0.0
+    reduce_sound frames (times_syntax left t) tokens o.0 rest o.2 (o.1, mid, o.3, o.4, s) f.1 (le, f.0.1, fits) f.0.0
 reduce_sound (InOver left ∷ frames) t tokens mid rest o s f fits le =
-    reduce_sound frames (over_text left t) tokens o.0 rest o.2 (o.1, mid, o.3, o.4, s) f.1 (le, f.0.1, fits) f.0.0
+    reduce_sound frames (over_syntax left t) tokens o.0 rest o.2 (o.1, mid, o.3, o.4, s) f.1 (le, f.0.1, fits) f.0.0
 reduce_sound (InSide front ∷ frames) t tokens mid rest o s f fits le =
-    reduce_sound frames (side_text (units_in_order (front ++ t ∷ []))) tokens o.0 rest o.1 (spells_last front t o.0 mid rest o.2 s) f.1 (side_fits front t f.0.1 f.0.2 fits le) f.0.0
+    reduce_sound frames (side_syntax (units_in_order (front ++ t ∷ []))) tokens o.0 rest o.1 (spells_last front t o.0 mid rest o.2 s) f.1 (side_fits front t f.0.1 f.0.2 fits le) f.0.0
 
-ended : (frames : List Frame) (t : UnitText) (tokens rest : List Token) → Stands (Have frames t) tokens rest → StandsUpTo (reduce frames t) tokens rest
+ended : (frames : List Frame) (t : UnitSyntax) (tokens rest : List Token) → Stands (Have frames t) tokens rest → StandsUpTo (reduce frames t) tokens rest
 ended frames t tokens rest h = reduce_sound frames t tokens h.0 rest h.1 h.2 h.3 h.4 (omega (arith, h.5, limit_low frames))
 
 -- ---- one token
@@ -121,10 +121,10 @@ begin_sound frames (sign mark.Caret) at tokens mid rest o f s = tt
 begin_sound frames (sign mark.Minus) at tokens mid rest o f s = tt
 begin_sound frames (sign mark.Other) at tokens mid rest o f s = tt
 
-one_spells : (t : UnitText) (mid rest : List Token) → Spells t mid rest → AllSpell (units_in_order (t ∷ [])) mid rest
+one_spells : (t : UnitSyntax) (mid rest : List Token) → Spells t mid rest → AllSpell (units_in_order (t ∷ [])) mid rest
 one_spells t mid rest s = (rest, s, refl)
 
-juxtapose_sound : (frames : List Frame) (t : UnitText) (tokens rest : List Token) → Stands (Have frames t) tokens rest → Opened (juxtapose frames t) tokens rest × FramesFit (juxtapose frames t)
+juxtapose_sound : (frames : List Frame) (t : UnitSyntax) (tokens rest : List Token) → Stands (Have frames t) tokens rest → Opened (juxtapose frames t) tokens rest × FramesFit (juxtapose frames t)
 juxtapose_sound [] t tokens rest h = ((h.0, h.1, one_spells t h.0 rest h.2), ((omega arith, tt, (h.5, h.4, tt)), h.3))
 juxtapose_sound (InBracket at ∷ frames) t tokens rest h = ((h.0, h.1, one_spells t h.0 rest h.2), ((omega arith, tt, (h.5, h.4, tt)), h.3))
 juxtapose_sound (InInverse at ∷ frames) t tokens rest h = ((h.0, h.1, one_spells t h.0 rest h.2), ((omega arith, tt, (h.5, h.4, tt)), h.3))
@@ -159,22 +159,22 @@ close_sound (Raised frames t) at tokens mid rest h s = absurd h
 close_sound (Lowered frames t) at tokens mid rest h s = absurd h
 close_sound Refused at tokens mid rest h s = absurd h
 
-raise_sound : (frames : List Frame) (t : UnitText) (at : ℕ) (tokens mid rest : List Token) → Stands (Have frames t) tokens mid → FirstAt (sign mark.Caret) at mid rest → Stands (raise frames t) tokens rest
-raise_sound frames (one_text m) at tokens mid rest h s = (h.0, mid, h.1, h.2, (s.0, s.1, s.3), h.3, h.4, refl)
-raise_sound frames (measure_text m x) at tokens mid rest h s = (h.0, mid, h.1, h.2, (s.0, s.1, s.3), h.3, h.4, refl)
-raise_sound frames (variable_text m x) at tokens mid rest h s = (h.0, mid, h.1, h.2, (s.0, s.1, s.3), h.3, h.4, refl)
-raise_sound frames (bracket_text m u) at tokens mid rest h s = (h.0, mid, h.1, h.2, (s.0, s.1, s.3), h.3, h.4, refl)
-raise_sound frames (power_text u k) at tokens mid rest h s = tt
-raise_sound frames (side_text us) at tokens mid rest h s = tt
-raise_sound frames (times_text u v) at tokens mid rest h s = tt
-raise_sound frames (over_text u v) at tokens mid rest h s = tt
-raise_sound frames (inverse_text m u) at tokens mid rest h s = tt
+raise_sound : (frames : List Frame) (t : UnitSyntax) (at : ℕ) (tokens mid rest : List Token) → Stands (Have frames t) tokens mid → FirstAt (sign mark.Caret) at mid rest → Stands (raise frames t) tokens rest
+raise_sound frames (one_syntax m) at tokens mid rest h s = (h.0, mid, h.1, h.2, (s.0, s.1, s.3), h.3, h.4, refl)
+raise_sound frames (measure_syntax m x) at tokens mid rest h s = (h.0, mid, h.1, h.2, (s.0, s.1, s.3), h.3, h.4, refl)
+raise_sound frames (variable_syntax m x) at tokens mid rest h s = (h.0, mid, h.1, h.2, (s.0, s.1, s.3), h.3, h.4, refl)
+raise_sound frames (bracket_syntax m u) at tokens mid rest h s = (h.0, mid, h.1, h.2, (s.0, s.1, s.3), h.3, h.4, refl)
+raise_sound frames (power_syntax u k) at tokens mid rest h s = tt
+raise_sound frames (side_syntax us) at tokens mid rest h s = tt
+raise_sound frames (times_syntax u v) at tokens mid rest h s = tt
+raise_sound frames (over_syntax u v) at tokens mid rest h s = tt
+raise_sound frames (inverse_syntax m u) at tokens mid rest h s = tt
 
-begins_after : (frames : List Frame) (t : UnitText) (what : UnitToken) (at : ℕ) (tokens mid rest : List Token) → Stands (Have frames t) tokens mid → FirstAt what at mid rest → Stands (begin (juxtapose frames t) what at) tokens rest
+begins_after : (frames : List Frame) (t : UnitSyntax) (what : UnitToken) (at : ℕ) (tokens mid rest : List Token) → Stands (Have frames t) tokens mid → FirstAt what at mid rest → Stands (begin (juxtapose frames t) what at) tokens rest
 begins_after frames t what at tokens mid rest h s =
     let j = juxtapose_sound frames t tokens mid h in begin_sound (juxtapose frames t) what at tokens mid rest j.0 j.1 s
 
-after_sound : (frames : List Frame) (t : UnitText) (what : UnitToken) (at : ℕ) (tokens mid rest : List Token) → Stands (Have frames t) tokens mid → FirstAt what at mid rest → Stands (after frames t what at) tokens rest
+after_sound : (frames : List Frame) (t : UnitSyntax) (what : UnitToken) (at : ℕ) (tokens mid rest : List Token) → Stands (Have frames t) tokens mid → FirstAt what at mid rest → Stands (after frames t what at) tokens rest
 after_sound frames t (measure x) at tokens mid rest h s = begins_after frames t (measure x) at tokens mid rest h s
 after_sound frames t (variable x) at tokens mid rest h s = begins_after frames t (variable x) at tokens mid rest h s
 after_sound frames t (number one power) at tokens mid rest h s = begins_after frames t (number one power) at tokens mid rest h s
@@ -186,7 +186,7 @@ after_sound frames t (sign mark.Caret) at tokens mid rest h s = raise_sound fram
 after_sound frames t (sign mark.Minus) at tokens mid rest h s = tt
 after_sound frames t (sign mark.Other) at tokens mid rest h s = tt
 
-raised_sound : (frames : List Frame) (t : UnitText) (what : UnitToken) (at : ℕ) (tokens mid rest : List Token) → Stands (Raised frames t) tokens mid → FirstAt what at mid rest → Stands (raised frames t what) tokens rest
+raised_sound : (frames : List Frame) (t : UnitSyntax) (what : UnitToken) (at : ℕ) (tokens mid rest : List Token) → Stands (Raised frames t) tokens mid → FirstAt what at mid rest → Stands (raised frames t what) tokens rest
 raised_sound frames t (number one (Some n)) at tokens mid rest h s =
     (h.0, h.2, (h.1, mid, h.3, h.4, (n, inl (refl, (one, (s.0, s.1, s.3))))), h.5, (h.7, h.6), omega arith)
 raised_sound frames t (sign mark.Minus) at tokens mid rest h s = (h.0, h.1, mid, h.2, h.3, h.4, (s.0, s.1, s.3), h.5, h.6, h.7)
@@ -200,7 +200,7 @@ raised_sound frames t (sign mark.Over) at tokens mid rest h s = tt
 raised_sound frames t (sign mark.Caret) at tokens mid rest h s = tt
 raised_sound frames t (sign mark.Other) at tokens mid rest h s = tt
 
-lowered_sound : (frames : List Frame) (t : UnitText) (what : UnitToken) (at : ℕ) (tokens mid rest : List Token) → Stands (Lowered frames t) tokens mid → FirstAt what at mid rest → Stands (lowered frames t what) tokens rest
+lowered_sound : (frames : List Frame) (t : UnitSyntax) (what : UnitToken) (at : ℕ) (tokens mid rest : List Token) → Stands (Lowered frames t) tokens mid → FirstAt what at mid rest → Stands (lowered frames t what) tokens rest
 lowered_sound frames t (number one (Some n)) at tokens mid rest h s =
     (h.0, h.3, (h.1, h.2, h.4, h.5, (n, inr (mid, refl, h.6, (one, (s.0, s.1, s.3))))), h.7, (h.9, h.8), omega arith)
 lowered_sound frames t (number one None) at tokens mid rest h s = tt
@@ -225,10 +225,10 @@ run_sound (token ∷ read) st tokens rest h =
 pub stands : (read rest : List Token) → Stands (run (Need []) read) (read ++ rest) rest
 stands read rest = run_sound read (Need []) (read ++ rest) rest (refl, tt)
 
-whole_is : (st : State) (t : UnitText) (tokens : List Token) → StandsUpTo st tokens [] → whole st ≡ Some t → IsUnit tokens t
+whole_is : (st : State) (t : UnitSyntax) (tokens : List Token) → StandsUpTo st tokens [] → whole st ≡ Some t → IsUnit tokens t
 whole_is (Have [] u) t tokens h e =
     let same : u ≡ t = cc in
-    subst (λ (w : UnitText). IsUnit tokens w) same (record { spelled = subst (λ w. Spells u w []) (sym h.1) h.2; fits = h.4 })
+    subst (λ (w : UnitSyntax). IsUnit tokens w) same (record { spelled = subst (λ w. Spells u w []) (sym h.1) h.2; fits = h.4 })
 whole_is (Have (frame ∷ frames) u) t tokens h e = absurd cc
 whole_is (Need frames) t tokens h e = absurd cc
 whole_is (Raised frames u) t tokens h e = absurd cc
@@ -236,7 +236,7 @@ whole_is (Lowered frames u) t tokens h e = absurd cc
 whole_is Refused t tokens h e = absurd cc
 
 -- what is found is a unit text
-pub is_unit : (st : State) (t : UnitText) (tokens : List Token) → Stands st tokens [] → finish st ≡ Some t → IsUnit tokens t
+pub is_unit : (st : State) (t : UnitSyntax) (tokens : List Token) → Stands st tokens [] → finish st ≡ Some t → IsUnit tokens t
 is_unit (Have frames u) t tokens h e = whole_is (reduce frames u) t tokens (ended frames u tokens [] h) e
 is_unit (Need frames) t tokens h e = absurd cc
 is_unit (Raised frames u) t tokens h e = absurd cc

@@ -1,7 +1,7 @@
 -- What the states of the machine say of the tokens: the stop, the unit text up to it, and the first token that makes it too high.
 use Rattle.std.proofs.Common.{◌≡◌, ◌≢◌, ℕ, ◌+◌, ◌<◌, List, length, take, Option, Some, None, sym, ◌∙◌, arith}
 use Rattle.um_syntax.specs.declared.token.Token.{Token}
-use Rattle.um_tree.specs.RawTree.{UnitText}
+use Rattle.um_tree.specs.RawTree.{UnitSyntax}
 use Rattle.um_types.specs.UnitMachine.{Refused, finish}
 use Rattle.um_types.specs.UnitLeast.{least}
 use Rattle.um_types.specs.UnitStops.{StopsAt, Reads, Misread, HighAt}
@@ -13,14 +13,14 @@ pub stops : (tokens : List Token) (k : ℕ) → IsRead tokens k → (k < length 
 stops tokens k r h = record { within = r.0; before = begins (take k tokens) r.1; through = λ lt b. none_begins (take (k + 1) tokens) (h lt) b }
 
 -- up to the stop stands a unit text
-pub reads : (tokens : List Token) (k : ℕ) (u : UnitText) → IsRead tokens k → (k < length tokens → state_at tokens (k + 1) ≡ Refused) → finish (state_at tokens k) ≡ Some u → Reads tokens k u
+pub reads : (tokens : List Token) (k : ℕ) (u : UnitSyntax) → IsRead tokens k → (k < length tokens → state_at tokens (k + 1) ≡ Refused) → finish (state_at tokens k) ≡ Some u → Reads tokens k u
 reads tokens k u r h e = record {
   stop = stops tokens k r h;
   is = found (take k tokens) u e;
   low = omega (arith, r.2, found_height (state_at tokens k) u e);
 }
 
-abbrev nothing : Option UnitText
+abbrev nothing : Option UnitSyntax
 nothing = None
 
 -- up to the stop stands none

@@ -4,7 +4,7 @@ use Rattle.std.specs.Prelude.{ℕ, [], Option, Some, None}
 use Rattle.um_syntax.specs.declared.token.Token.{Token}
 use Rattle.um_syntax.specs.declared.token.Kind.{Kind}
 use Rattle.um_syntax.specs.declared.token.Kind.TheVariants as kind
-use Rattle.um_tree.specs.RawTree.{UnitText, NoteText, hole_text, unit_note_text}
+use Rattle.um_tree.specs.RawTree.{UnitSyntax, NoteSyntax, hole_syntax, unit_note_syntax}
 use Rattle.um_types.specs.UnitTokens.{unit_token}
 use Rattle.um_types.specs.UnitMachine.{State, Need, Have, Raised, Lowered, Refused, act, finish}
 use Rattle.um_types.specs.UnitLeast.{least}
@@ -44,13 +44,13 @@ abbrev pub note_step : NoteState → Token → NoteState
 note_step state token = note_act state token.kind token.start
 
 -- the note where all is read
-abbrev pub noted : ℕ → Option UnitText → Option NoteText
+abbrev pub noted : ℕ → Option UnitSyntax → Option NoteSyntax
 noted at None = None
-noted at (Some u) = Some (unit_note_text at u)
+noted at (Some u) = Some (unit_note_syntax at u)
 
-abbrev pub note_finish : NoteState → Option NoteText
+abbrev pub note_finish : NoteState → Option NoteSyntax
 note_finish NeedNote = None
-note_finish (HaveHole at) = Some (hole_text at)
+note_finish (HaveHole at) = Some (hole_syntax at)
 note_finish (InUnit at u) = noted at (finish u)
 note_finish NoNote = None
 

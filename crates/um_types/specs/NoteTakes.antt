@@ -1,7 +1,7 @@
 -- What one token more gives while a note is read.
 -- Source: this project's own.
 use Rattle.std.specs.Prelude.{◌≡◌, ◌≢◌, ◌≤◌, ◌<◌, option_map}
-use Rattle.um_tree.specs.RawTree.{note_text}
+use Rattle.um_tree.specs.RawTree.{note_syntax}
 use Rattle.um_types.specs.UnitStops.{greatest_height}
 use Rattle.um_types.specs.UnitTakes.{unit_state}
 use Rattle.um_types.specs.NoteMachine.{NoteState, NeedNote, HaveHole, InUnit, NoNote, note_finish, note_least}
@@ -24,4 +24,4 @@ note_state r = note_hand_state r.hand
 abbrev pub NoteTakes : NoteState → NoteState → NoteStep → Type 0
 NoteTakes old new (step.Goes reader) = (new ≡ note_state reader) × (new ≢ NoNote) × (note_least new ≤ greatest_height)
 NoteTakes old new step.High = (new ≢ NoNote) × (greatest_height < note_least new)
-NoteTakes old new (step.Stops found) = (new ≡ NoNote) × (option_map note_text found ≡ note_finish old)
+NoteTakes old new (step.Stops found) = (new ≡ NoNote) × (option_map note_syntax found ≡ note_finish old)

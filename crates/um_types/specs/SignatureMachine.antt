@@ -3,7 +3,7 @@
 use Rattle.std.specs.Prelude.{ℕ, max, List, [], ◌∷◌, ◌++◌, Option, Some, None}
 use Rattle.um_syntax.specs.declared.token.Token.{Token}
 use Rattle.um_syntax.specs.declared.token.Kind.{Kind}
-use Rattle.um_tree.specs.RawTree.{TypeText}
+use Rattle.um_tree.specs.RawTree.{TypeSyntax}
 use Rattle.um_types.specs.TypeTokens.{TypeToken, symbol, name, type_token}
 use Rattle.um_types.specs.TypeHeights.{all_height}
 use Rattle.um_types.specs.Machines.{runs}
@@ -12,11 +12,11 @@ use Rattle.um_types.specs.declared.type_symbol.Symbol.TheVariants as symbol_of
 
 -- a type text behind these
 pub data SignatureState : Type 0 where
-  InType : (front : List TypeText) (type : TypeState) → SignatureState
+  InType : (front : List TypeSyntax) (type : TypeState) → SignatureState
   NoSignature : SignatureState
 
 -- the token behind a type
-abbrev pub type_end : List TypeText → TypeText → TypeToken → SignatureState
+abbrev pub type_end : List TypeSyntax → TypeSyntax → TypeToken → SignatureState
 type_end front t (symbol symbol_of.Arrow) = InType (front ++ t ∷ []) (NeedType 0)
 type_end front t (symbol symbol_of.Num) = NoSignature
 type_end front t (symbol symbol_of.Bool) = NoSignature
@@ -29,12 +29,12 @@ type_end front t (symbol symbol_of.Comma) = NoSignature
 type_end front t (symbol symbol_of.Other) = NoSignature
 type_end front t (name x) = NoSignature
 
-abbrev pub type_ends : List TypeText → Option TypeText → TypeToken → SignatureState
+abbrev pub type_ends : List TypeSyntax → Option TypeSyntax → TypeToken → SignatureState
 type_ends front None token = NoSignature
 type_ends front (Some t) token = type_end front t token
 
 -- the type goes on, or ends
-abbrev pub type_goes : List TypeText → TypeState → SignatureState → SignatureState
+abbrev pub type_goes : List TypeSyntax → TypeState → SignatureState → SignatureState
 type_goes front (NeedType depth) ended = InType front (NeedType depth)
 type_goes front (HaveType depth t) ended = InType front (HaveType depth t)
 type_goes front (InNote depth owner n) ended = InType front (InNote depth owner n)
@@ -48,12 +48,12 @@ signature_act NoSignature k at = NoSignature
 abbrev pub signature_step : SignatureState → Token → SignatureState
 signature_step state token = signature_act state token.kind token.start
 
-abbrev pub typed : List TypeText → Option TypeText → Option (List TypeText)
+abbrev pub typed : List TypeSyntax → Option TypeSyntax → Option (List TypeSyntax)
 typed front None = None
 typed front (Some t) = Some (front ++ t ∷ [])
 
 -- the types where all is read
-abbrev pub signature_finish : SignatureState → Option (List TypeText)
+abbrev pub signature_finish : SignatureState → Option (List TypeSyntax)
 signature_finish (InType front s) = typed front (type_finish s)
 signature_finish NoSignature = None
 

@@ -4,7 +4,7 @@ use Rattle.std.specs.Prelude.{◌≡◌, ◌≢◌, ℕ, ◌+◌, ◌≤◌, ◌
 use Rattle.um_syntax.specs.declared.token.Token.{Token}
 use Rattle.um_tree.specs.declared.raw.RawType.{RawType}
 use Rattle.um_tree.specs.declared.raw.RawTypes.{RawTypes}
-use Rattle.um_tree.specs.RawTree.{type_text, type_texts}
+use Rattle.um_tree.specs.RawTree.{type_syntax, type_syntaxes}
 use Rattle.um_types.specs.UnitStops.{greatest_height}
 use Rattle.um_types.specs.TypeHeights.{all_height}
 use Rattle.um_types.specs.TypeTakes.{type_state}
@@ -18,7 +18,7 @@ use Rattle.um_types.specs.declared.signature.SignatureStop.TheVariants as stop
 
 -- the state of the types that were read and of a reader behind them
 abbrev pub signature_state : List RawType → TypeReader → SignatureState
-signature_state front reader = InType (map type_text front) (type_state reader)
+signature_state front reader = InType (map type_syntax front) (type_state reader)
 
 -- the next state, within the heights; or that it is too high; or that the token is refused
 abbrev pub SignatureTakes : SignatureState → List RawType → SignatureStep → Type 0
@@ -40,7 +40,7 @@ ReadsTypes tokens front (Err stop.NoMemory) = Unit {0}
 
 -- what reading answers, in the words of the grammar
 abbrev pub SignatureAnswers : List Token → Result RawTypes SignatureStop → Type 0
-SignatureAnswers tokens (Ok types) = IsSignature tokens (type_texts types) × (all_height (type_texts types) ≤ greatest_height)
+SignatureAnswers tokens (Ok types) = IsSignature tokens (type_syntaxes types) × (all_height (type_syntaxes types) ≤ greatest_height)
 SignatureAnswers tokens (Err (stop.Syntax k)) = SignatureFails tokens k
 SignatureAnswers tokens (Err (stop.High k)) = SignatureHighAt tokens k
 SignatureAnswers tokens (Err stop.NoMemory) = Unit {0}

@@ -7,7 +7,7 @@
 use Rattle.std.specs.Prelude.{◌≡◌, ℕ, List, [], ◌∷◌, Option, Some, None}
 use Rattle.um_syntax.specs.declared.token.Token.{Token}
 use Rattle.um_syntax.specs.declared.token.Kind.TheVariants as kind
-use Rattle.um_tree.specs.RawTree.{NoteText, hole_text, unit_note_text, TypeText, bool_text, num_text, record_text, list_type_text, bracket_type_text}
+use Rattle.um_tree.specs.RawTree.{NoteSyntax, hole_syntax, unit_note_syntax, TypeSyntax, bool_syntax, num_syntax, record_syntax, list_type_syntax, bracket_type_syntax}
 use Rattle.um_types.specs.UnitGrammar.{Spells, Fits}
 use Rattle.um_types.specs.TypeTokens.{symbol, name, type_token}
 use Rattle.um_types.specs.declared.type_symbol.Symbol.{Symbol}
@@ -30,56 +30,56 @@ abbrev pub BeginsAt : ℕ → List Token → Type 0
 BeginsAt at tokens = (token : Token) × (more : List Token) × (token.start ≡ at) × (tokens ≡ token ∷ more)
 
 -- the tokens are those of the note, and then the rest
-abbrev pub NoteSpells : NoteText → List Token → List Token → Type 0
-NoteSpells (hole_text at) tokens rest = FirstHole at tokens rest
-NoteSpells (unit_note_text at u) tokens rest = BeginsAt at tokens × Spells u tokens rest
+abbrev pub NoteSpells : NoteSyntax → List Token → List Token → Type 0
+NoteSpells (hole_syntax at) tokens rest = FirstHole at tokens rest
+NoteSpells (unit_note_syntax at u) tokens rest = BeginsAt at tokens × Spells u tokens rest
 
 -- one or more notes, with commas between them
-abbrev pub NotesSpell : List NoteText → List Token → List Token → Type 0
+abbrev pub NotesSpell : List NoteSyntax → List Token → List Token → Type 0
 NotesSpell [] tokens rest = ⊥
 NotesSpell (n ∷ []) tokens rest = NoteSpells n tokens rest
 NotesSpell (n ∷ m ∷ ns) tokens rest = (mid next : List Token) × NoteSpells n tokens mid × FirstSymbol symbol_of.Comma mid next × NotesSpell (m ∷ ns) next rest
 
 -- notes in angle brackets, or nothing where there are none
-abbrev pub AngledSpell : List NoteText → List Token → List Token → Type 0
+abbrev pub AngledSpell : List NoteSyntax → List Token → List Token → Type 0
 AngledSpell [] tokens rest = tokens ≡ rest
 AngledSpell (n ∷ ns) tokens rest =
     (next last : List Token) × FirstSymbol symbol_of.Less tokens next × NotesSpell (n ∷ ns) next last × FirstSymbol symbol_of.Greater last rest
 
-abbrev pub at_most_one : Option NoteText → List NoteText
+abbrev pub at_most_one : Option NoteSyntax → List NoteSyntax
 at_most_one None = []
 at_most_one (Some n) = n ∷ []
 
 -- the tokens are those of the type text, and then the rest
-abbrev pub TypeSpells : TypeText → List Token → List Token → Type 0
-TypeSpells bool_text tokens rest = FirstSymbol symbol_of.Bool tokens rest
-TypeSpells (num_text n) tokens rest = (next : List Token) × FirstSymbol symbol_of.Num tokens next × AngledSpell (at_most_one n) next rest
-TypeSpells (record_text at x ns) tokens rest = (next : List Token) × FirstName at x tokens next × AngledSpell ns next rest
-TypeSpells (list_type_text t) tokens rest = (mid : List Token) × TypeSpells t tokens mid × FirstSymbol symbol_of.List mid rest
-TypeSpells (bracket_type_text t) tokens rest =
+abbrev pub TypeSpells : TypeSyntax → List Token → List Token → Type 0
+TypeSpells bool_syntax tokens rest = FirstSymbol symbol_of.Bool tokens rest
+TypeSpells (num_syntax n) tokens rest = (next : List Token) × FirstSymbol symbol_of.Num tokens next × AngledSpell (at_most_one n) next rest
+TypeSpells (record_syntax at x ns) tokens rest = (next : List Token) × FirstName at x tokens next × AngledSpell ns next rest
+TypeSpells (list_type_syntax t) tokens rest = (mid : List Token) × TypeSpells t tokens mid × FirstSymbol symbol_of.List mid rest
+TypeSpells (bracket_type_syntax t) tokens rest =
     (next last : List Token) × FirstSymbol symbol_of.Open tokens next × TypeSpells t next last × FirstSymbol symbol_of.Close last rest
 
 -- each unit text in it is one of the grammar; a type may stand at each place where the rules above put one
-abbrev pub NoteFits : NoteText → Type 0
-NoteFits (hole_text at) = Unit {0}
-NoteFits (unit_note_text at u) = Fits u
+abbrev pub NoteFits : NoteSyntax → Type 0
+NoteFits (hole_syntax at) = Unit {0}
+NoteFits (unit_note_syntax at u) = Fits u
 
-abbrev pub NotesFit : List NoteText → Type 0
+abbrev pub NotesFit : List NoteSyntax → Type 0
 NotesFit [] = Unit {0}
 NotesFit (n ∷ ns) = NoteFits n × NotesFit ns
 
-abbrev pub TypeFits : TypeText → Type 0
-TypeFits bool_text = Unit {0}
-TypeFits (num_text n) = NotesFit (at_most_one n)
-TypeFits (record_text at x ns) = NotesFit ns
-TypeFits (list_type_text t) = TypeFits t
-TypeFits (bracket_type_text t) = TypeFits t
+abbrev pub TypeFits : TypeSyntax → Type 0
+TypeFits bool_syntax = Unit {0}
+TypeFits (num_syntax n) = NotesFit (at_most_one n)
+TypeFits (record_syntax at x ns) = NotesFit ns
+TypeFits (list_type_syntax t) = TypeFits t
+TypeFits (bracket_type_syntax t) = TypeFits t
 
 -- the tokens are this note; this type text
-pub record IsNote (tokens : List Token) (n : NoteText) : Type 0 where
+pub record IsNote (tokens : List Token) (n : NoteSyntax) : Type 0 where
   pub spelled : NoteSpells n tokens []
   pub fits : NoteFits n
 
-pub record IsType (tokens : List Token) (t : TypeText) : Type 0 where
+pub record IsType (tokens : List Token) (t : TypeSyntax) : Type 0 where
   pub spelled : TypeSpells t tokens []
   pub fits : TypeFits t

@@ -4,7 +4,7 @@
 use Rattle.std.specs.Prelude.{ℕ, zero, suc, ◌+◌, max, List, [], ◌∷◌, ◌++◌, Option, Some, None}
 use Rattle.um_syntax.specs.declared.token.Token.{Token}
 use Rattle.um_syntax.specs.declared.token.Kind.{Kind}
-use Rattle.um_tree.specs.RawTree.{NoteText, TypeText, bool_text, num_text, record_text, list_type_text, bracket_type_text}
+use Rattle.um_tree.specs.RawTree.{NoteSyntax, TypeSyntax, bool_syntax, num_syntax, record_syntax, list_type_syntax, bracket_type_syntax}
 use Rattle.um_tree.specs.Heights.{type_height}
 use Rattle.um_types.specs.TypeTokens.{TypeToken, symbol, name, type_token}
 use Rattle.um_types.specs.TypeHeights.{notes_height, units_height}
@@ -14,19 +14,19 @@ use Rattle.um_types.specs.declared.type_symbol.Symbol.TheVariants as symbol_of
 -- what the angle brackets belong to: `num`, or a name with the notes before the comma
 pub data Owner : Type 0 where
   OfNum : Owner
-  OfName : (at : ℕ) (name : List ℕ) (front : List NoteText) → Owner
+  OfName : (at : ℕ) (name : List ℕ) (front : List NoteSyntax) → Owner
 
 -- each with the number of brackets that are open
 pub data TypeState : Type 0 where
   NeedType : (depth : ℕ) → TypeState
-  HaveType : (depth : ℕ) (at_hand : TypeText) → TypeState
+  HaveType : (depth : ℕ) (at_hand : TypeSyntax) → TypeState
   InNote : (depth : ℕ) (owner : Owner) (note : NoteState) → TypeState
   NoType : TypeState
 
 abbrev pub type_begin : ℕ → TypeToken → ℕ → TypeState
-type_begin depth (name x) at = HaveType depth (record_text at x [])
-type_begin depth (symbol symbol_of.Num) at = HaveType depth (num_text None)
-type_begin depth (symbol symbol_of.Bool) at = HaveType depth bool_text
+type_begin depth (name x) at = HaveType depth (record_syntax at x [])
+type_begin depth (symbol symbol_of.Num) at = HaveType depth (num_syntax None)
+type_begin depth (symbol symbol_of.Bool) at = HaveType depth bool_syntax
 type_begin depth (symbol symbol_of.Open) at = NeedType (suc depth)
 type_begin depth (symbol symbol_of.Close) at = NoType
 type_begin depth (symbol symbol_of.Less) at = NoType
@@ -37,28 +37,28 @@ type_begin depth (symbol symbol_of.List) at = NoType
 type_begin depth (symbol symbol_of.Other) at = NoType
 
 -- what angle brackets may open behind: `num`, and a name
-abbrev pub angle_owner : TypeText → Option Owner
-angle_owner (num_text None) = Some OfNum
-angle_owner (num_text (Some n)) = None
-angle_owner (record_text at x []) = Some (OfName at x [])
-angle_owner (record_text at x (n ∷ ns)) = None
-angle_owner bool_text = None
-angle_owner (list_type_text t) = None
-angle_owner (bracket_type_text t) = None
+abbrev pub angle_owner : TypeSyntax → Option Owner
+angle_owner (num_syntax None) = Some OfNum
+angle_owner (num_syntax (Some n)) = None
+angle_owner (record_syntax at x []) = Some (OfName at x [])
+angle_owner (record_syntax at x (n ∷ ns)) = None
+angle_owner bool_syntax = None
+angle_owner (list_type_syntax t) = None
+angle_owner (bracket_type_syntax t) = None
 
 abbrev pub begin_notes : ℕ → Option Owner → TypeState
 begin_notes depth None = NoType
 begin_notes depth (Some owner) = InNote depth owner NeedNote
 
-abbrev pub open_angle : ℕ → TypeText → TypeState
+abbrev pub open_angle : ℕ → TypeSyntax → TypeState
 open_angle depth t = begin_notes depth (angle_owner t)
 
-abbrev pub close_bracket : ℕ → TypeText → TypeState
+abbrev pub close_bracket : ℕ → TypeSyntax → TypeState
 close_bracket zero t = NoType
-close_bracket (suc depth) t = HaveType depth (bracket_type_text t)
+close_bracket (suc depth) t = HaveType depth (bracket_type_syntax t)
 
-abbrev pub type_after : ℕ → TypeText → TypeToken → TypeState
-type_after depth t (symbol symbol_of.List) = HaveType depth (list_type_text t)
+abbrev pub type_after : ℕ → TypeSyntax → TypeToken → TypeState
+type_after depth t (symbol symbol_of.List) = HaveType depth (list_type_syntax t)
 type_after depth t (symbol symbol_of.Close) = close_bracket depth t
 type_after depth t (symbol symbol_of.Less) = open_angle depth t
 type_after depth t (symbol symbol_of.Num) = NoType
@@ -71,17 +71,17 @@ type_after depth t (symbol symbol_of.Other) = NoType
 type_after depth t (name x) = NoType
 
 -- the type with its last note
-abbrev pub owned : Owner → NoteText → TypeText
-owned OfNum n = num_text (Some n)
-owned (OfName at x front) n = record_text at x (front ++ n ∷ [])
+abbrev pub owned : Owner → NoteSyntax → TypeSyntax
+owned OfNum n = num_syntax (Some n)
+owned (OfName at x front) n = record_syntax at x (front ++ n ∷ [])
 
 -- a comma behind a note
-abbrev pub next_note : ℕ → Owner → NoteText → TypeState
+abbrev pub next_note : ℕ → Owner → NoteSyntax → TypeState
 next_note depth OfNum n = NoType
 next_note depth (OfName at x front) n = InNote depth (OfName at x (front ++ n ∷ [])) NeedNote
 
 -- the token behind a note
-abbrev pub note_end : ℕ → Owner → NoteText → TypeToken → TypeState
+abbrev pub note_end : ℕ → Owner → NoteSyntax → TypeToken → TypeState
 note_end depth owner n (symbol symbol_of.Greater) = HaveType depth (owned owner n)
 note_end depth owner n (symbol symbol_of.Comma) = next_note depth owner n
 note_end depth owner n (symbol symbol_of.Num) = NoType
@@ -95,7 +95,7 @@ note_end depth owner n (symbol symbol_of.Other) = NoType
 note_end depth owner n (name x) = NoType
 
 -- the token that the note refused
-abbrev pub note_ends : ℕ → Owner → Option NoteText → TypeToken → TypeState
+abbrev pub note_ends : ℕ → Owner → Option NoteSyntax → TypeToken → TypeState
 note_ends depth owner None token = NoType
 note_ends depth owner (Some n) token = note_end depth owner n token
 
@@ -117,7 +117,7 @@ abbrev pub type_step : TypeState → Token → TypeState
 type_step state token = type_act state token.kind token.start
 
 -- the type text where all is read
-abbrev pub type_finish : TypeState → Option TypeText
+abbrev pub type_finish : TypeState → Option TypeSyntax
 type_finish (HaveType zero t) = Some t
 type_finish (HaveType (suc depth) t) = None
 type_finish (NeedType depth) = None

@@ -1,7 +1,7 @@
 -- What one token more gives while a type text is read.
 -- Source: this project's own.
 use Rattle.std.specs.Prelude.{◌≡◌, ◌≢◌, ◌≤◌, ◌<◌, option_map}
-use Rattle.um_tree.specs.RawTree.{type_text}
+use Rattle.um_tree.specs.RawTree.{type_syntax}
 use Rattle.um_types.specs.UnitStops.{greatest_height}
 use Rattle.um_types.specs.TypeMachine.{TypeState, NoType, type_finish, type_least}
 use Rattle.um_types.specs.TypeView.{type_hand_state}
@@ -17,4 +17,4 @@ type_state r = type_hand_state r.depth r.hand
 abbrev pub TypeTakes : TypeState → TypeState → TypeStep → Type 0
 TypeTakes old new (step.Goes reader) = (new ≡ type_state reader) × (new ≢ NoType) × (type_least new ≤ greatest_height)
 TypeTakes old new step.High = (new ≢ NoType) × (greatest_height < type_least new)
-TypeTakes old new (step.Stops found) = (new ≡ NoType) × (option_map type_text found ≡ type_finish old)
+TypeTakes old new (step.Stops found) = (new ≡ NoType) × (option_map type_syntax found ≡ type_finish old)

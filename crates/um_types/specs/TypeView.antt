@@ -2,7 +2,7 @@
 -- Source: this project's own.
 use Rattle.std.specs.Prelude.{◌≡◌, ℕ, [], Option, Some, None, Result, Ok, Err}
 use Rattle.um_tree.specs.declared.raw.RawType.{RawType}
-use Rattle.um_tree.specs.RawTree.{TypeText, record_text, note_texts, type_text}
+use Rattle.um_tree.specs.RawTree.{TypeSyntax, record_syntax, note_syntaxes, type_syntax}
 use Rattle.um_types.specs.TypeTokens.{TypeToken, symbol, name}
 use Rattle.um_types.specs.NoteTakes.{note_state}
 use Rattle.um_types.specs.TypeMachine.{Owner, OfNum, OfName, TypeState, NeedType, HaveType, InNote, angle_owner}
@@ -12,12 +12,12 @@ use Rattle.um_types.specs.declared.type_part.Owner.TheVariants as owner
 use Rattle.um_types.specs.declared.type_part.TypeHand.{TypeHand}
 use Rattle.um_types.specs.declared.type_part.TypeHand.TheVariants as hand
 
-abbrev pub part_type : TypePart → TypeText
-part_type p = type_text p.ty
+abbrev pub part_type : TypePart → TypeSyntax
+part_type p = type_syntax p.ty
 
 abbrev pub view_owner : OwnerPart → Owner
 view_owner owner.Num = OfNum
-view_owner (owner.Name at x front) = OfName at x (note_texts front)
+view_owner (owner.Name at x front) = OfName at x (note_syntaxes front)
 
 abbrev pub type_hand_state : ℕ → TypeHand → TypeState
 type_hand_state depth hand.Empty = NeedType depth
@@ -25,11 +25,11 @@ type_hand_state depth (hand.Full t) = HaveType depth (part_type t)
 type_hand_state depth (hand.Note o n) = InNote depth (view_owner o) (note_state n)
 
 -- the type that a name is
-abbrev pub named_type : TypeToken → ℕ → Option TypeText
-named_type (name x) at = Some (record_text at x [])
+abbrev pub named_type : TypeToken → ℕ → Option TypeSyntax
+named_type (name x) at = Some (record_syntax at x [])
 named_type (symbol s) at = None
 
 -- what angle brackets behind a type belong to, or the type again
-abbrev pub Opens : TypeText → Result OwnerPart RawType → Type 0
+abbrev pub Opens : TypeSyntax → Result OwnerPart RawType → Type 0
 Opens t (Ok o) = angle_owner t ≡ Some (view_owner o)
-Opens t (Err same) = (angle_owner t ≡ None) × (type_text same ≡ t)
+Opens t (Err same) = (angle_owner t ≡ None) × (type_syntax same ≡ t)

@@ -6,7 +6,7 @@
 -- Source: the F# specification, chapter Units Of Measure, without `_` and rational powers.
 use Rattle.std.specs.Prelude.{◌≡◌, ℕ, ◌≤◌, ℤ, pos, neg_ℤ, Bool, true, ◌⊎◌, List, [], ◌∷◌, ◌++◌, Option, Some}
 use Rattle.um_syntax.specs.declared.token.Token.{Token}
-use Rattle.um_tree.specs.RawTree.{UnitText, UnitTexts, one_text, measure_text, variable_text, power_text, side_text, times_text, over_text, inverse_text, bracket_text, no_units, more_units}
+use Rattle.um_tree.specs.RawTree.{UnitSyntax, UnitSyntaxes, one_syntax, measure_syntax, variable_syntax, power_syntax, side_syntax, times_syntax, over_syntax, inverse_syntax, bracket_syntax, no_units, more_units}
 use Rattle.um_tree.specs.Heights.{unit_height}
 use Rattle.um_types.specs.UnitTokens.{UnitToken, sign, measure, variable, number, unit_token}
 use Rattle.um_types.specs.declared.unit_mark.Mark.TheVariants as mark
@@ -30,66 +30,66 @@ PowerSpells k tokens rest =
 
 -- the tokens are those of the unit text, and then the rest
 abbrev mutual
-  pub Spells : UnitText → List Token → List Token → Type 0
-  Spells (one_text at) tokens rest = (power : Option ℕ) × FirstAt (number true power) at tokens rest
-  Spells (measure_text at x) tokens rest = FirstAt (measure x) at tokens rest
-  Spells (variable_text at x) tokens rest = FirstAt (variable x) at tokens rest
-  Spells (power_text u k) tokens rest = (mid next : List Token) × Spells u tokens mid × First (sign mark.Caret) mid next × PowerSpells k next rest
-  Spells (side_text us) tokens rest = AllSpell us tokens rest
-  Spells (times_text u v) tokens rest = (mid next : List Token) × Spells u tokens mid × First (sign mark.Times) mid next × Spells v next rest
-  Spells (over_text u v) tokens rest = (mid next : List Token) × Spells u tokens mid × First (sign mark.Over) mid next × Spells v next rest
-  Spells (inverse_text at u) tokens rest = (next : List Token) × FirstAt (sign mark.Over) at tokens next × Spells u next rest
-  Spells (bracket_text at u) tokens rest = (next last : List Token) × FirstAt (sign mark.Open) at tokens next × Spells u next last × First (sign mark.Close) last rest
+  pub Spells : UnitSyntax → List Token → List Token → Type 0
+  Spells (one_syntax at) tokens rest = (power : Option ℕ) × FirstAt (number true power) at tokens rest
+  Spells (measure_syntax at x) tokens rest = FirstAt (measure x) at tokens rest
+  Spells (variable_syntax at x) tokens rest = FirstAt (variable x) at tokens rest
+  Spells (power_syntax u k) tokens rest = (mid next : List Token) × Spells u tokens mid × First (sign mark.Caret) mid next × PowerSpells k next rest
+  Spells (side_syntax us) tokens rest = AllSpell us tokens rest
+  Spells (times_syntax u v) tokens rest = (mid next : List Token) × Spells u tokens mid × First (sign mark.Times) mid next × Spells v next rest
+  Spells (over_syntax u v) tokens rest = (mid next : List Token) × Spells u tokens mid × First (sign mark.Over) mid next × Spells v next rest
+  Spells (inverse_syntax at u) tokens rest = (next : List Token) × FirstAt (sign mark.Over) at tokens next × Spells u next rest
+  Spells (bracket_syntax at u) tokens rest = (next last : List Token) × FirstAt (sign mark.Open) at tokens next × Spells u next last × First (sign mark.Close) last rest
 
-  pub AllSpell : UnitTexts → List Token → List Token → Type 0
+  pub AllSpell : UnitSyntaxes → List Token → List Token → Type 0
   AllSpell no_units tokens rest = tokens ≡ rest
   AllSpell (more_units u us) tokens rest = (mid : List Token) × Spells u tokens mid × AllSpell us mid rest
 
 -- an atom has rank 0, a power 1, a juxtaposition 2, a leading `/` 3, a product or quotient 4
-abbrev pub rank : UnitText → ℕ
-rank (one_text at) = 0
-rank (measure_text at x) = 0
-rank (variable_text at x) = 0
-rank (bracket_text at u) = 0
-rank (power_text u k) = 1
-rank (side_text us) = 2
-rank (inverse_text at u) = 3
-rank (times_text u v) = 4
-rank (over_text u v) = 4
+abbrev pub rank : UnitSyntax → ℕ
+rank (one_syntax at) = 0
+rank (measure_syntax at x) = 0
+rank (variable_syntax at x) = 0
+rank (bracket_syntax at u) = 0
+rank (power_syntax u k) = 1
+rank (side_syntax us) = 2
+rank (inverse_syntax at u) = 3
+rank (times_syntax u v) = 4
+rank (over_syntax u v) = 4
 
 -- two or more
-abbrev pub Several : UnitTexts → Type 0
+abbrev pub Several : UnitSyntaxes → Type 0
 Several no_units = ⊥
 Several (more_units u no_units) = ⊥
 Several (more_units u (more_units v us)) = Unit {0}
 
 -- each part stands where the grammar lets it stand
 abbrev mutual
-  pub Fits : UnitText → Type 0
-  Fits (one_text at) = Unit {0}
-  Fits (measure_text at x) = Unit {0}
-  Fits (variable_text at x) = Unit {0}
-  Fits (power_text u k) = (rank u ≡ 0) × Fits u
-  Fits (side_text us) = Several us × ArePowers us
-  Fits (times_text u v) = (rank v ≤ 2) × Fits u × Fits v
-  Fits (over_text u v) = (rank v ≤ 2) × Fits u × Fits v
-  Fits (inverse_text at u) = (rank u ≤ 2) × Fits u
-  Fits (bracket_text at u) = Fits u
+  pub Fits : UnitSyntax → Type 0
+  Fits (one_syntax at) = Unit {0}
+  Fits (measure_syntax at x) = Unit {0}
+  Fits (variable_syntax at x) = Unit {0}
+  Fits (power_syntax u k) = (rank u ≡ 0) × Fits u
+  Fits (side_syntax us) = Several us × ArePowers us
+  Fits (times_syntax u v) = (rank v ≤ 2) × Fits u × Fits v
+  Fits (over_syntax u v) = (rank v ≤ 2) × Fits u × Fits v
+  Fits (inverse_syntax at u) = (rank u ≤ 2) × Fits u
+  Fits (bracket_syntax at u) = Fits u
 
   -- powers and atoms
-  pub ArePowers : UnitTexts → Type 0
+  pub ArePowers : UnitSyntaxes → Type 0
   ArePowers no_units = Unit {0}
   ArePowers (more_units u us) = (rank u ≤ 1) × Fits u × ArePowers us
 
 -- the tokens are this unit text
-pub record IsUnit (tokens : List Token) (u : UnitText) : Type 0 where
+pub record IsUnit (tokens : List Token) (u : UnitSyntax) : Type 0 where
   pub spelled : Spells u tokens []
   pub fits : Fits u
 
 -- the tokens begin a unit text
 abbrev pub Begins : List Token → Type 0
-Begins tokens = (more : List Token) × (u : UnitText) × IsUnit (tokens ++ more) u
+Begins tokens = (more : List Token) × (u : UnitSyntax) × IsUnit (tokens ++ more) u
 
 -- the tokens begin a unit text of at most this height
 abbrev pub BeginsWithin : ℕ → List Token → Type 0
-BeginsWithin height tokens = (more : List Token) × (u : UnitText) × IsUnit (tokens ++ more) u × (unit_height u ≤ height)
+BeginsWithin height tokens = (more : List Token) × (u : UnitSyntax) × IsUnit (tokens ++ more) u × (unit_height u ≤ height)

@@ -2,7 +2,7 @@
 -- Source: operator precedence with a stack, as in Knuth, Fundamental Algorithms, 2.2.1; this project's own states.
 use Rattle.std.specs.Prelude.{ℕ, pos, neg_ℤ, Bool, true, false, cond, List, [], ◌∷◌, ◌++◌, Option, Some, None}
 use Rattle.um_syntax.specs.declared.token.Token.{Token}
-use Rattle.um_tree.specs.RawTree.{UnitText, one_text, measure_text, variable_text, power_text, side_text, times_text, over_text, inverse_text, bracket_text, units_in_order}
+use Rattle.um_tree.specs.RawTree.{UnitSyntax, one_syntax, measure_syntax, variable_syntax, power_syntax, side_syntax, times_syntax, over_syntax, inverse_syntax, bracket_syntax, units_in_order}
 use Rattle.um_types.specs.UnitTokens.{UnitToken, sign, measure, variable, number, unit_token}
 use Rattle.um_types.specs.declared.unit_mark.Mark.{Mark}
 use Rattle.um_types.specs.declared.unit_mark.Mark.TheVariants as mark
@@ -11,19 +11,19 @@ use Rattle.um_types.specs.declared.unit_mark.Mark.TheVariants as mark
 pub data Frame : Type 0 where
   InBracket : (at : ℕ) → Frame
   InInverse : (at : ℕ) → Frame
-  InTimes : (left : UnitText) → Frame
-  InOver : (left : UnitText) → Frame
+  InTimes : (left : UnitSyntax) → Frame
+  InOver : (left : UnitSyntax) → Frame
   -- behind these of a juxtaposition
-  InSide : (front : List UnitText) → Frame
+  InSide : (front : List UnitSyntax) → Frame
 
 pub data State : Type 0 where
   -- an atom is wanted, or a leading `/`
   Need : (frames : List Frame) → State
   -- an atom or a power is at hand
-  Have : (frames : List Frame) (at_hand : UnitText) → State
+  Have : (frames : List Frame) (at_hand : UnitSyntax) → State
   -- behind `^`; behind `^` and `-`
-  Raised : (frames : List Frame) (base : UnitText) → State
-  Lowered : (frames : List Frame) (base : UnitText) → State
+  Raised : (frames : List Frame) (base : UnitSyntax) → State
+  Lowered : (frames : List Frame) (base : UnitSyntax) → State
   Refused : State
 
 -- the greatest rank of what may stand in the innermost frame
@@ -45,24 +45,24 @@ opens (InOver left ∷ frames) = false
 opens (InSide front ∷ frames) = false
 
 -- what a frame is with its last part; brackets need a token more
-abbrev pub plug : Frame → UnitText → UnitText
+abbrev pub plug : Frame → UnitSyntax → UnitSyntax
 plug (InBracket at) t = t
-plug (InInverse at) t = inverse_text at t
-plug (InTimes left) t = times_text left t
-plug (InOver left) t = over_text left t
-plug (InSide front) t = side_text (units_in_order (front ++ t ∷ []))
+plug (InInverse at) t = inverse_syntax at t
+plug (InTimes left) t = times_syntax left t
+plug (InOver left) t = over_syntax left t
+plug (InSide front) t = side_syntax (units_in_order (front ++ t ∷ []))
 
 -- what is left open where all ends up to the innermost brackets
-abbrev pub reduce : List Frame → UnitText → State
+abbrev pub reduce : List Frame → UnitSyntax → State
 reduce [] t = Have [] t
 reduce (InBracket at ∷ frames) t = Have (InBracket at ∷ frames) t
-reduce (InInverse at ∷ frames) t = reduce frames (inverse_text at t)
-reduce (InTimes left ∷ frames) t = reduce frames (times_text left t)
-reduce (InOver left ∷ frames) t = reduce frames (over_text left t)
-reduce (InSide front ∷ frames) t = reduce frames (side_text (units_in_order (front ++ t ∷ [])))
+reduce (InInverse at ∷ frames) t = reduce frames (inverse_syntax at t)
+reduce (InTimes left ∷ frames) t = reduce frames (times_syntax left t)
+reduce (InOver left ∷ frames) t = reduce frames (over_syntax left t)
+reduce (InSide front ∷ frames) t = reduce frames (side_syntax (units_in_order (front ++ t ∷ [])))
 
 -- another power follows: the one at hand belongs to a juxtaposition
-abbrev pub juxtapose : List Frame → UnitText → List Frame
+abbrev pub juxtapose : List Frame → UnitSyntax → List Frame
 juxtapose [] t = InSide (t ∷ []) ∷ []
 juxtapose (InBracket at ∷ frames) t = InSide (t ∷ []) ∷ InBracket at ∷ frames
 juxtapose (InInverse at ∷ frames) t = InSide (t ∷ []) ∷ InInverse at ∷ frames
@@ -72,9 +72,9 @@ juxtapose (InSide front ∷ frames) t = InSide (front ++ t ∷ []) ∷ frames
 
 -- an atom begins, or a leading `/`
 abbrev pub begin : List Frame → UnitToken → ℕ → State
-begin frames (measure x) at = Have frames (measure_text at x)
-begin frames (variable x) at = Have frames (variable_text at x)
-begin frames (number true power) at = Have frames (one_text at)
+begin frames (measure x) at = Have frames (measure_syntax at x)
+begin frames (variable x) at = Have frames (variable_syntax at x)
+begin frames (number true power) at = Have frames (one_syntax at)
 begin frames (number false power) at = Refused
 begin frames (sign mark.Open) at = Need (InBracket at ∷ frames)
 begin frames (sign mark.Over) at = cond (opens frames) (Need (InInverse at ∷ frames)) Refused
@@ -93,26 +93,26 @@ over_after (Have frames t) = Need (InOver t ∷ frames)
 over_after _ = Refused
 
 abbrev pub close_after : State → State
-close_after (Have (InBracket at ∷ frames) t) = Have frames (bracket_text at t)
+close_after (Have (InBracket at ∷ frames) t) = Have frames (bracket_syntax at t)
 close_after _ = Refused
 
 -- an atom: a name, a variable, 1, brackets
-abbrev pub is_atom : UnitText → Bool
-is_atom (one_text at) = true
-is_atom (measure_text at x) = true
-is_atom (variable_text at x) = true
-is_atom (bracket_text at u) = true
-is_atom (power_text u k) = false
-is_atom (side_text us) = false
-is_atom (times_text u v) = false
-is_atom (over_text u v) = false
-is_atom (inverse_text at u) = false
+abbrev pub is_atom : UnitSyntax → Bool
+is_atom (one_syntax at) = true
+is_atom (measure_syntax at x) = true
+is_atom (variable_syntax at x) = true
+is_atom (bracket_syntax at u) = true
+is_atom (power_syntax u k) = false
+is_atom (side_syntax us) = false
+is_atom (times_syntax u v) = false
+is_atom (over_syntax u v) = false
+is_atom (inverse_syntax at u) = false
 
 -- only an atom has a power
-abbrev pub raise : List Frame → UnitText → State
+abbrev pub raise : List Frame → UnitSyntax → State
 raise frames t = cond (is_atom t) (Raised frames t) Refused
 
-abbrev pub after : List Frame → UnitText → UnitToken → ℕ → State
+abbrev pub after : List Frame → UnitSyntax → UnitToken → ℕ → State
 after frames t (measure x) at = begin (juxtapose frames t) (measure x) at
 after frames t (variable x) at = begin (juxtapose frames t) (variable x) at
 after frames t (number one power) at = begin (juxtapose frames t) (number one power) at
@@ -124,13 +124,13 @@ after frames t (sign mark.Caret) at = raise frames t
 after frames t (sign mark.Minus) at = Refused
 after frames t (sign mark.Other) at = Refused
 
-abbrev pub raised : List Frame → UnitText → UnitToken → State
-raised frames base (number one (Some n)) = Have frames (power_text base (pos n))
+abbrev pub raised : List Frame → UnitSyntax → UnitToken → State
+raised frames base (number one (Some n)) = Have frames (power_syntax base (pos n))
 raised frames base (sign mark.Minus) = Lowered frames base
 raised frames base _ = Refused
 
-abbrev pub lowered : List Frame → UnitText → UnitToken → State
-lowered frames base (number one (Some n)) = Have frames (power_text base (neg_ℤ (pos n)))
+abbrev pub lowered : List Frame → UnitSyntax → UnitToken → State
+lowered frames base (number one (Some n)) = Have frames (power_syntax base (neg_ℤ (pos n)))
 lowered frames base _ = Refused
 
 -- one token more
@@ -146,19 +146,19 @@ run state [] = state
 run state (token ∷ tokens) = run (act state (unit_token token.kind) token.start) tokens
 
 -- the unit text where all is read
-abbrev pub whole : State → Option UnitText
+abbrev pub whole : State → Option UnitSyntax
 whole (Have [] t) = Some t
 whole _ = None
 
-abbrev pub finish : State → Option UnitText
+abbrev pub finish : State → Option UnitSyntax
 finish (Have frames t) = whole (reduce frames t)
 finish _ = None
 
 -- the atom that a token is, if it is one, brackets aside
-abbrev pub atom_of : UnitToken → ℕ → Option UnitText
-atom_of (measure x) at = Some (measure_text at x)
-atom_of (variable x) at = Some (variable_text at x)
-atom_of (number true power) at = Some (one_text at)
+abbrev pub atom_of : UnitToken → ℕ → Option UnitSyntax
+atom_of (measure x) at = Some (measure_syntax at x)
+atom_of (variable x) at = Some (variable_syntax at x)
+atom_of (number true power) at = Some (one_syntax at)
 atom_of (number false power) at = None
 atom_of (sign m) at = None
 

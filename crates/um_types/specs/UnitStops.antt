@@ -2,7 +2,7 @@
 -- Source: this project's own; the stop is the end of the longest viable prefix, as in Knuth, On the Translation of Languages from Left to Right.
 use Rattle.std.specs.Prelude.{ℕ, ◌+◌, ◌≤◌, ◌<◌, List, length, take, map, slice_index_or}
 use Rattle.um_syntax.specs.declared.token.Token.{Token}
-use Rattle.um_tree.specs.RawTree.{UnitText}
+use Rattle.um_tree.specs.RawTree.{UnitSyntax}
 use Rattle.um_tree.specs.Heights.{unit_height}
 use Rattle.um_types.specs.UnitGrammar.{IsUnit, Begins, BeginsWithin}
 
@@ -24,7 +24,7 @@ pub record StopsAt (tokens : List Token) (k : ℕ) : Type 0 where
   pub through : k < length tokens → Begins (take (k + 1) tokens) → ⊥
 
 -- up to the stop stands this unit text, within the height
-pub record Reads (tokens : List Token) (k : ℕ) (u : UnitText) : Type 0 where
+pub record Reads (tokens : List Token) (k : ℕ) (u : UnitSyntax) : Type 0 where
   pub stop : StopsAt tokens k
   pub is : IsUnit (take k tokens) u
   pub low : unit_height u ≤ greatest_height
@@ -32,7 +32,7 @@ pub record Reads (tokens : List Token) (k : ℕ) (u : UnitText) : Type 0 where
 -- up to the stop stands no unit text, and no token before it is too high
 pub record Misread (tokens : List Token) (k : ℕ) : Type 0 where
   pub stop : StopsAt tokens k
-  pub none : (u : UnitText) → IsUnit (take k tokens) u → ⊥
+  pub none : (u : UnitSyntax) → IsUnit (take k tokens) u → ⊥
   pub low : BeginsWithin greatest_height (take k tokens)
 
 -- the first token through which the tokens begin a unit text and none within the height

@@ -1,7 +1,7 @@
 -- What one token more gives while a unit text is read.
 -- Source: this project's own.
 use Rattle.std.specs.Prelude.{◌≡◌, ◌≢◌, ◌≤◌, ◌<◌, option_map}
-use Rattle.um_tree.specs.RawTree.{unit_text}
+use Rattle.um_tree.specs.RawTree.{unit_syntax}
 use Rattle.um_types.specs.UnitStops.{greatest_height}
 use Rattle.um_types.specs.UnitMachine.{State, Refused, finish}
 use Rattle.um_types.specs.UnitLeast.{least}
@@ -18,4 +18,4 @@ unit_state r = state_of r.frames.items r.hand
 abbrev pub UnitTakes : State → State → UnitStep → Type 0
 UnitTakes old new (step.Goes reader) = (new ≡ unit_state reader) × (new ≢ Refused) × (least new ≤ greatest_height)
 UnitTakes old new step.High = (new ≢ Refused) × (greatest_height < least new)
-UnitTakes old new (step.Stops found) = (new ≡ Refused) × (option_map unit_text found ≡ finish old)
+UnitTakes old new (step.Stops found) = (new ≡ Refused) × (option_map unit_syntax found ≡ finish old)

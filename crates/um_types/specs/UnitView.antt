@@ -1,6 +1,6 @@
 -- What is open and at hand, without where it lies in memory.
 use Rattle.std.specs.Prelude.{◌≡◌, ℕ, ◌+◌, ◌⊎◌, Bool, true, false, List, [], ◌∷◌, map, reverse, Option, Some, None}
-use Rattle.um_tree.specs.RawTree.{UnitText, unit_text}
+use Rattle.um_tree.specs.RawTree.{UnitSyntax, unit_syntax}
 use Rattle.um_tree.specs.Heights.{unit_height}
 use Rattle.um_types.specs.declared.unit_part.Part.{Part}
 use Rattle.um_types.specs.declared.unit_part.Front.{Front}
@@ -12,11 +12,11 @@ use Rattle.um_types.specs.declared.unit_frame.Step.{Step}
 use Rattle.um_types.specs.declared.unit_frame.Step.TheVariants as step
 use Rattle.um_types.specs.UnitMachine.{Frame, InBracket, InInverse, InTimes, InOver, InSide, State, Need, Have, Raised, Lowered, Refused, finish}
 
-abbrev pub part_text : Part → UnitText
-part_text p = unit_text p.unit
+abbrev pub part_text : Part → UnitSyntax
+part_text p = unit_syntax p.unit
 
-abbrev pub front_texts : Front → List UnitText
-front_texts f = map unit_text f.units.items
+abbrev pub front_texts : Front → List UnitSyntax
+front_texts f = map unit_syntax f.units.items
 
 abbrev pub view_frame : Open → Frame
 view_frame (open_at.InBracket at) = InBracket at

@@ -1,6 +1,6 @@
 // A note that is read one token at a time: `_`, or a unit text.
 ghost use Rattle.std.specs.Prelude.{◌≡◌, IfOk, option_map};
-ghost use Rattle.um_tree.specs.RawTree.{note_text, unit_text};
+ghost use Rattle.um_tree.specs.RawTree.{note_syntax, unit_syntax};
 ghost use Rattle.um_types.specs.NoteMachine.{NeedNote, InUnit, note_begin, note_act, noted, note_finish};
 ghost use Rattle.um_types.specs.UnitTakes.{unit_state};
 ghost use Rattle.um_types.specs.NoteTakes.{note_state, NoteTakes};
@@ -33,7 +33,7 @@ pub enum NoteStep {
 }
 
 fn note_of(at: u32, unit: Option<RawUnit>) -> Option<RawNote>
-    ensures { option_map note_text result ≡ noted at (option_map unit_text unit) }
+    ensures { option_map note_syntax result ≡ noted at (option_map unit_syntax unit) }
 {
     match unit {
         Some(unit) => Some(RawNote::Unit(at, unit)),
@@ -96,7 +96,7 @@ impl NoteReader {
 
     /// The note where all is read, if it is one.
     pub fn finish(self, alloc: Global) -> Result<Option<RawNote>, AllocError>
-        ensures found { IfOk result (λ o. option_map note_text o ≡ note_finish (note_state self)) }
+        ensures found { IfOk result (λ o. option_map note_syntax o ≡ note_finish (note_state self)) }
     {
         match self.hand {
             NoteHand::Empty => Ok(None),

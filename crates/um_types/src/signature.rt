@@ -1,6 +1,6 @@
 // Reading a signature text: types with `->` between them.
 ghost use Rattle.std.specs.Prelude.{◌≡◌, ◌≤◌, [], ◌∷◌, ◌++◌, IfOk, IfSome, map, option_map};
-ghost use Rattle.um_tree.specs.RawTree.{type_text, type_texts};
+ghost use Rattle.um_tree.specs.RawTree.{type_syntax, type_syntaxes};
 ghost use Rattle.um_types.specs.UnitStops.{greatest_height};
 ghost use Rattle.um_types.specs.TypeTokens.{type_token};
 ghost use Rattle.um_types.specs.TypeHeights.{whole_height, all_height};
@@ -46,9 +46,9 @@ fn take_behind(
     found: Option<RawType>,
     token: &Token,
 ) -> Result<SignatureStep, AllocError>
-    requires front { all_height (map type_text front.old.items) ≤ greatest_height }
-    requires found { IfSome found (λ t. whole_height (type_text t) ≤ greatest_height) }
-    ensures { IfOk result (λ s. SignatureTakes (type_ends (map type_text front.old.items) (option_map type_text found) (type_token token.now.kind)) front.new.items s) }
+    requires front { all_height (map type_syntax front.old.items) ≤ greatest_height }
+    requires found { IfSome found (λ t. whole_height (type_syntax t) ≤ greatest_height) }
+    ensures { IfOk result (λ s. SignatureTakes (type_ends (map type_syntax front.old.items) (option_map type_syntax found) (type_token token.now.kind)) front.new.items s) }
 {
     match (found, Symbol::of_kind(&token.kind)) {
         (Some(ty), Symbol::Arrow) => {
@@ -98,7 +98,7 @@ fn read_types(
 
 // The types, the last one too.
 fn with_last(front: Vec<RawType>, last: RawType) -> Result<RawTypes, AllocError>
-    ensures { IfOk result (λ ts. type_texts ts ≡ map type_text front.items ++ type_text last ∷ []) }
+    ensures { IfOk result (λ ts. type_syntaxes ts ≡ map type_syntax front.items ++ type_syntax last ∷ []) }
 {
     let mut items = front;
     items.push(last)?;

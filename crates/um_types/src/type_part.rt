@@ -1,6 +1,6 @@
 // Type texts with their heights beside them, and what is at hand while one is read.
 ghost use Rattle.std.specs.Prelude.{◌≡◌, ◌≤◌, IfOk, None, option_map};
-ghost use Rattle.um_tree.specs.RawTree.{bool_text, num_text, list_type_text, bracket_type_text, note_text, type_text};
+ghost use Rattle.um_tree.specs.RawTree.{bool_syntax, num_syntax, list_type_syntax, bracket_type_syntax, note_syntax, type_syntax};
 ghost use Rattle.um_tree.specs.Heights.{type_height};
 ghost use Rattle.um_types.specs.UnitStops.{greatest_height};
 
@@ -14,7 +14,7 @@ use um_tree::{Name, RawNote, RawNotes, RawType};
 pub struct TypePart {
     pub ty: RawType,
     pub height: u32,
-    ghost exact: { height ≡ type_height (type_text ty) },
+    ghost exact: { height ≡ type_height (type_syntax ty) },
 }
 
 /// What angle brackets belong to: `num`, or a name with the notes before the comma.
@@ -38,7 +38,7 @@ impl TypePart {
 
     /// `num`
     pub fn num() -> TypePart
-        ensures { part_type result ≡ num_text None }
+        ensures { part_type result ≡ num_syntax None }
     {
         TypePart {
             ty: RawType::Num(None),
@@ -48,7 +48,7 @@ impl TypePart {
 
     /// `bool`
     pub fn bool() -> TypePart
-        ensures { part_type result ≡ bool_text }
+        ensures { part_type result ≡ bool_syntax }
     {
         TypePart {
             ty: RawType::Bool,
@@ -80,7 +80,7 @@ impl TypePart {
     /// A list of it
     pub fn list(self, alloc: Global) -> Result<TypePart, AllocError>
         requires { type_height (part_type self) ≤ greatest_height }
-        ensures { IfOk result (λ p. part_type p ≡ list_type_text (part_type self)) }
+        ensures { IfOk result (λ p. part_type p ≡ list_type_syntax (part_type self)) }
     {
         let TypePart { ty, height } = self;
         let ty = RawType::List(Box::new(alloc, ty)?);
@@ -93,7 +93,7 @@ impl TypePart {
     /// In brackets
     pub fn bracket(self, alloc: Global) -> Result<TypePart, AllocError>
         requires { type_height (part_type self) ≤ greatest_height }
-        ensures { IfOk result (λ p. part_type p ≡ bracket_type_text (part_type self)) }
+        ensures { IfOk result (λ p. part_type p ≡ bracket_type_syntax (part_type self)) }
     {
         let TypePart { ty, height } = self;
         let ty = RawType::Bracket(Box::new(alloc, ty)?);
@@ -110,7 +110,7 @@ impl Owner {
 
     /// What angle brackets behind a type belong to; where none may stand there, the type again.
     pub fn of_type(ty: RawType) -> Result<Owner, RawType>
-        ensures { Opens (type_text ty) result }
+        ensures { Opens (type_syntax ty) result }
     {
         match ty {
             RawType::Num(None) => Ok(Owner::Num),
@@ -130,7 +130,7 @@ impl Owner {
 
     /// The type with its last note
     pub fn owned(self, last: RawNote) -> Result<TypePart, AllocError>
-        ensures { IfOk result (λ p. part_type p ≡ owned (view_owner self) (note_text last)) }
+        ensures { IfOk result (λ p. part_type p ≡ owned (view_owner self) (note_syntax last)) }
     {
         match self {
             Owner::Num => Ok(TypePart {

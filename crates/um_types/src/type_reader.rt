@@ -1,6 +1,6 @@
 // Reading a type text token by token.
 ghost use Rattle.std.specs.Prelude.{◌≡◌, suc, ◌+◌, ◌≤◌, IfOk, None, max, option_map};
-ghost use Rattle.um_tree.specs.RawTree.{list_type_text, note_text, type_text};
+ghost use Rattle.um_tree.specs.RawTree.{list_type_syntax, note_syntax, type_syntax};
 ghost use Rattle.um_types.specs.UnitStops.{greatest_height};
 ghost use Rattle.um_types.specs.TypeTokens.{type_token};
 ghost use Rattle.um_types.specs.TypeHeights.{note_height};
@@ -73,7 +73,7 @@ fn take_first(alloc: Global, depth: u32, token: &Token) -> Result<TypeStep, Allo
 
 // The type text where all is read, if no bracket is open.
 fn whole(depth: u32, part: TypePart) -> Option<RawType>
-    ensures { option_map type_text result ≡ type_finish (HaveType depth (part_type part)) }
+    ensures { option_map type_syntax result ≡ type_finish (HaveType depth (part_type part)) }
 {
     if depth == 0 { Some(part.ty) } else { None }
 }
@@ -81,7 +81,7 @@ fn whole(depth: u32, part: TypePart) -> Option<RawType>
 // `list` behind a type.
 fn list_after(alloc: Global, depth: u32, part: TypePart) -> Result<TypeStep, AllocError>
     requires { type_least (HaveType depth (part_type part)) ≤ greatest_height }
-    ensures { IfOk result (λ s. TypeTakes (HaveType depth (part_type part)) (HaveType depth (list_type_text (part_type part))) s) }
+    ensures { IfOk result (λ s. TypeTakes (HaveType depth (part_type part)) (HaveType depth (list_type_syntax (part_type part))) s) }
 {
     if part.height + depth < GREATEST_HEIGHT {
         Ok(TypeStep::Goes(full(depth, part.list(alloc)?)))
@@ -142,8 +142,8 @@ fn take_after(
 
 // A comma behind a note.
 fn comma_after(depth: u32, owner: Owner, note: RawNote) -> Result<TypeStep, AllocError>
-    requires { max (depth + 1) (max (owner_height (view_owner owner)) (note_height (note_text note))) ≤ greatest_height }
-    ensures { IfOk result (λ s. TypeTakes (InNote depth (view_owner owner) NeedNote) (next_note depth (view_owner owner) (note_text note)) s) }
+    requires { max (depth + 1) (max (owner_height (view_owner owner)) (note_height (note_syntax note))) ≤ greatest_height }
+    ensures { IfOk result (λ s. TypeTakes (InNote depth (view_owner owner) NeedNote) (next_note depth (view_owner owner) (note_syntax note)) s) }
 {
     match owner {
         Owner::Num => Ok(refuse(note)),
@@ -171,8 +171,8 @@ fn take_behind(
     note: RawNote,
     token: &Token,
 ) -> Result<TypeStep, AllocError>
-    requires { max (depth + 1) (max (owner_height (view_owner owner)) (note_height (note_text note))) ≤ greatest_height }
-    ensures { IfOk result (λ s. TypeTakes (InNote depth (view_owner owner) NeedNote) (note_end depth (view_owner owner) (note_text note) (type_token token.now.kind)) s) }
+    requires { max (depth + 1) (max (owner_height (view_owner owner)) (note_height (note_syntax note))) ≤ greatest_height }
+    ensures { IfOk result (λ s. TypeTakes (InNote depth (view_owner owner) NeedNote) (note_end depth (view_owner owner) (note_syntax note) (type_token token.now.kind)) s) }
 {
     match Symbol::of_kind(&token.kind) {
         Symbol::Greater => Ok(TypeStep::Goes(full(depth, owner.owned(note)?))),
@@ -235,7 +235,7 @@ impl TypeReader {
 
     /// The type text where all is read, if it is one.
     pub fn finish(self) -> Option<RawType>
-        ensures found { option_map type_text result ≡ type_finish (type_state self) }
+        ensures found { option_map type_syntax result ≡ type_finish (type_state self) }
     {
         let TypeReader { depth, hand } = self;
         match hand {

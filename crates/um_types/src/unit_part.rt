@@ -1,6 +1,6 @@
 // Unit texts with their heights beside them, so that no height is counted again.
 ghost use Rattle.std.specs.Prelude.{◌≡◌, ◌++◌, ◌+◌, ◌∷◌, [], IfOk, map, max};
-ghost use Rattle.um_tree.specs.RawTree.{unit_text, units_in_order, one_text, measure_text, variable_text, power_text, side_text, times_text, over_text, inverse_text, bracket_text};
+ghost use Rattle.um_tree.specs.RawTree.{unit_syntax, units_in_order, one_syntax, measure_syntax, variable_syntax, power_syntax, side_syntax, times_syntax, over_syntax, inverse_syntax, bracket_syntax};
 ghost use Rattle.um_tree.specs.Heights.{unit_height, tallest_unit};
 ghost use Rattle.um_types.specs.UnitCount.{counted};
 
@@ -16,7 +16,7 @@ const TOO_HIGH: u32 = 401;
 pub struct Part {
     pub unit: RawUnit,
     pub height: u32,
-    ghost counted_height: { height ≡ counted (unit_height (unit_text unit)) },
+    ghost counted_height: { height ≡ counted (unit_height (unit_syntax unit)) },
 }
 
 /// The first unit texts of a juxtaposition and the height of the highest, counted up to 401.
@@ -24,7 +24,7 @@ pub struct Part {
 pub struct Front {
     pub units: Vec<RawUnit>,
     pub height: u32,
-    ghost counted_height: { height ≡ counted (tallest_unit (units_in_order (map unit_text units.items))) },
+    ghost counted_height: { height ≡ counted (tallest_unit (units_in_order (map unit_syntax units.items))) },
 }
 
 /// One more, up to 401.
@@ -56,7 +56,7 @@ impl Part {
 
     /// `1`
     pub fn one(at: u32) -> Part
-        ensures { part_text result ≡ one_text at }
+        ensures { part_text result ≡ one_syntax at }
     {
         Part {
             unit: RawUnit::One(at),
@@ -66,7 +66,7 @@ impl Part {
 
     /// A measure
     pub fn measure(alloc: Global, at: u32, letters: &Letters) -> Result<Part, AllocError>
-        ensures { IfOk result (λ p. part_text p ≡ measure_text at letters.now) }
+        ensures { IfOk result (λ p. part_text p ≡ measure_syntax at letters.now) }
     {
         let name = name_of(alloc, letters)?;
         Ok(Part {
@@ -77,7 +77,7 @@ impl Part {
 
     /// A variable
     pub fn variable(alloc: Global, at: u32, letters: &Letters) -> Result<Part, AllocError>
-        ensures { IfOk result (λ p. part_text p ≡ variable_text at letters.now) }
+        ensures { IfOk result (λ p. part_text p ≡ variable_syntax at letters.now) }
     {
         let name = name_of(alloc, letters)?;
         Ok(Part {
@@ -88,7 +88,7 @@ impl Part {
 
     /// Raised to a power
     pub fn power(self, alloc: Global, power: i32) -> Result<Part, AllocError>
-        ensures { IfOk result (λ p. part_text p ≡ power_text (part_text self) power) }
+        ensures { IfOk result (λ p. part_text p ≡ power_syntax (part_text self) power) }
     {
         let Part { unit, height } = self;
         let unit = RawUnit::Power(Box::new(alloc, unit)?, power);
@@ -100,7 +100,7 @@ impl Part {
 
     /// In brackets
     pub fn bracket(self, alloc: Global, at: u32) -> Result<Part, AllocError>
-        ensures { IfOk result (λ p. part_text p ≡ bracket_text at (part_text self)) }
+        ensures { IfOk result (λ p. part_text p ≡ bracket_syntax at (part_text self)) }
     {
         let Part { unit, height } = self;
         let unit = RawUnit::Bracket(at, Box::new(alloc, unit)?);
@@ -112,7 +112,7 @@ impl Part {
 
     /// Behind a leading `/`
     pub fn inverse(self, alloc: Global, at: u32) -> Result<Part, AllocError>
-        ensures { IfOk result (λ p. part_text p ≡ inverse_text at (part_text self)) }
+        ensures { IfOk result (λ p. part_text p ≡ inverse_syntax at (part_text self)) }
     {
         let Part { unit, height } = self;
         let unit = RawUnit::Inverse(at, Box::new(alloc, unit)?);
@@ -124,7 +124,7 @@ impl Part {
 
     /// A product
     pub fn times(self, alloc: Global, right: Part) -> Result<Part, AllocError>
-        ensures { IfOk result (λ p. part_text p ≡ times_text (part_text self) (part_text right)) }
+        ensures { IfOk result (λ p. part_text p ≡ times_syntax (part_text self) (part_text right)) }
     {
         let Part { unit, height } = self;
         let unit = RawUnit::Times(Box::new(alloc, unit)?, Box::new(alloc, right.unit)?);
@@ -136,7 +136,7 @@ impl Part {
 
     /// A quotient
     pub fn over(self, alloc: Global, right: Part) -> Result<Part, AllocError>
-        ensures { IfOk result (λ p. part_text p ≡ over_text (part_text self) (part_text right)) }
+        ensures { IfOk result (λ p. part_text p ≡ over_syntax (part_text self) (part_text right)) }
     {
         let Part { unit, height } = self;
         let unit = RawUnit::Over(Box::new(alloc, unit)?, Box::new(alloc, right.unit)?);
@@ -178,7 +178,7 @@ impl Front {
 
     /// The juxtaposition
     pub fn whole(self) -> Part
-        ensures { part_text result ≡ side_text (units_in_order (front_texts self)) }
+        ensures { part_text result ≡ side_syntax (units_in_order (front_texts self)) }
     {
         let Front { units, height } = self;
         Part {

@@ -1,6 +1,6 @@
 // A unit text that is read one token at a time, so that readers of longer texts can hold it.
 ghost use Rattle.std.specs.Prelude.{◌≡◌, [], IfOk, option_map};
-ghost use Rattle.um_tree.specs.RawTree.{unit_text};
+ghost use Rattle.um_tree.specs.RawTree.{unit_syntax};
 ghost use Rattle.um_types.specs.UnitTokens.{unit_token};
 ghost use Rattle.um_types.specs.UnitMachine.{Need, act, finish};
 ghost use Rattle.um_types.specs.UnitView.{part_text};
@@ -30,7 +30,7 @@ pub enum UnitStep {
 }
 
 fn unit_of(part: Option<Part>) -> Option<RawUnit>
-    ensures { option_map unit_text result ≡ option_map part_text part }
+    ensures { option_map unit_syntax result ≡ option_map part_text part }
 {
     match part {
         Some(part) => Some(part.unit),
@@ -66,7 +66,7 @@ impl UnitReader {
 
     /// The unit text where all is read, if it is one.
     pub fn finish(self, alloc: Global) -> Result<Option<RawUnit>, AllocError>
-        ensures found { IfOk result (λ o. option_map unit_text o ≡ finish (unit_state self)) }
+        ensures found { IfOk result (λ o. option_map unit_syntax o ≡ finish (unit_state self)) }
     {
         let UnitReader { mut frames, hand } = self;
         Ok(unit_of(finish(alloc, &mut frames, hand)?))

@@ -4,7 +4,7 @@ use Rattle.std.proofs.lemmas.Result.{err_from_is_err_and}
 use Rattle.um_units.specs.PowerMap.{PowerMap}
 use Rattle.um_tree.specs.declared.note.UnitNote.TheVariants.{Written}
 use Rattle.um_tree.specs.ProgramTree.{program_tree}
-use Rattle.um_tree.specs.RawTree.{unit_text}
+use Rattle.um_tree.specs.RawTree.{unit_syntax}
 use Rattle.um_measures.specs.declared.abbreviation.Abbreviation.{Abbreviation}
 use Rattle.um_measures.specs.Faults.{Found, and_then}
 use Rattle.um_measures.specs.Stops.{IsFirst}
@@ -25,7 +25,7 @@ returns-clause-exact c =
     ∙ ap (λ (es : List Abbreviation). first_of_both (base_unit (number_of c.as_slice.result.now y)) (short_unit es y)) c.as_slice-2.ensures
     ∙ ap (λ (bs : List (List ℕ)). first_of_both (base_unit (number_of bs y)) (short_unit shorts y)) c.as_slice.ensures
     ∙ measures_are p.bases shorts y in
-    let is = closed_is (short_unit c.in_ok-measures.measures) c.new.result p shorts (unit_text c.args.raw.now) same c.new.ensures in
+    let is = closed_is (short_unit c.in_ok-measures.measures) c.new.result p shorts (unit_syntax c.args.raw.now) same c.new.ensures in
     ap (λ r. and_then r (λ v. Ok (Written v))) (sym is ∙ c.in_ok-unit.ensures.exact)
 
 pub returns-in_err-unit-clause-faults : goal.returns-in_err-unit-clause-faults
@@ -38,8 +38,8 @@ returns-in_err-unit-clause-faults c =
     ∙ ap (λ (es : List Abbreviation). first_of_both (base_unit (number_of c.as_slice.result.now y)) (short_unit es y)) c.as_slice-2.ensures
     ∙ ap (λ (bs : List (List ℕ)). first_of_both (base_unit (number_of bs y)) (short_unit shorts y)) c.as_slice.ensures
     ∙ measures_are p.bases shorts y in
-    let is = closed_is (short_unit c.in_ok-measures.measures) c.new.result p shorts (unit_text c.args.raw.now) same c.new.ensures in
+    let is = closed_is (short_unit c.in_ok-measures.measures) c.new.result p shorts (unit_syntax c.args.raw.now) same c.new.ensures in
     let e = err_from_is_err_and c.from_residual-in_err-unit.result c.from_residual-in_err-unit.ensures.1 in
     let stop = c.in_err-unit.field-0.0 in
     rw (e.1, e.2)
-    (first_and_then (resolved_unit (measure_unit (given p shorts)) [] (unit_text c.args.raw.now)) (λ v. Ok (Written v)) stop (subst (λ (r : Found PowerMap). IsFirst r stop) is c.in_err-unit.ensures.faults))
+    (first_and_then (resolved_unit (measure_unit (given p shorts)) [] (unit_syntax c.args.raw.now)) (λ v. Ok (Written v)) stop (subst (λ (r : Found PowerMap). IsFirst r stop) is c.in_err-unit.ensures.faults))

@@ -1,6 +1,6 @@
 use Rattle.std.proofs.Common.{rules, inl, inr, ◌≡◌, ◌++◌, List, ap, map, drop, ◌+◌}
 use Rattle.um_tree.specs.declared.raw.RawNode.{the_lemmas}
-use Rattle.um_tree.specs.RawTree.{ExprText, FieldPart, expr_text, exprs_in_order, field_part, fields_in_order}
+use Rattle.um_tree.specs.RawTree.{ExprSyntax, FieldPart, expr_syntax, exprs_in_order, field_part, fields_in_order}
 use Rattle.um_measures.specs.Variables.{first_occurrences, expr_variables, exprs_variables, fields_variables}
 use Rattle.um_measures.proofs.Stages.{map_from_more}
 use Rattle.um_measures.proofs.Occurrences.{both_occur, occur_next}
@@ -11,8 +11,8 @@ in_exprs-loop-i-preserved t c =
     let es = c.args.items.now in
     let i = c.loop-i.i in
     let x = c.index-items-i.result in
-    occur_next (first_occurrences c.args.names.now (exprs_variables (exprs_in_order (map expr_text es)))) c.loop-i.names c.in_expr.new.names (exprs_variables (exprs_in_order (map expr_text (drop i es)))) (expr_variables (expr_text x)) (exprs_variables (exprs_in_order (map expr_text (drop (i + 1) es))))
-    c.loop-i.invariant (ap (λ (ts : List ExprText). exprs_variables (exprs_in_order ts)) (map_from_more expr_text es i x c.loop-i-test.true c.index-items-i.is)) c.in_ok-in_expr.ensures
+    occur_next (first_occurrences c.args.names.now (exprs_variables (exprs_in_order (map expr_syntax es)))) c.loop-i.names c.in_expr.new.names (exprs_variables (exprs_in_order (map expr_syntax (drop i es)))) (expr_variables (expr_syntax x)) (exprs_variables (exprs_in_order (map expr_syntax (drop (i + 1) es))))
+    c.loop-i.invariant (ap (λ (ts : List ExprSyntax). exprs_variables (exprs_in_order ts)) (map_from_more expr_syntax es i x c.loop-i-test.true c.index-items-i.is)) c.in_ok-in_expr.ensures
 
 pub in_fields-loop-i-preserved : goal.in_fields-loop-i-preserved
 in_fields-loop-i-preserved t c =
@@ -24,8 +24,8 @@ in_fields-loop-i-preserved t c =
 
 pub in_expr-returns-in_ok-in_expr-in-Arith-2 : goal.in_expr-returns-in_ok-in_expr-in-Arith-2
 in_expr-returns-in_ok-in_expr-in-Arith-2 t c =
-    let g : c.in_expr-in-Arith-2.new.names ≡ first_occurrences c.args.names.now (expr_variables (expr_text c.in-Arith.a.value) ++ expr_variables (expr_text c.in-Arith.b.value)) =
-    both_occur c.args.names.now c.in_expr-in-Arith.new.names c.in_expr-in-Arith-2.new.names (expr_variables (expr_text c.in-Arith.a.value)) (expr_variables (expr_text c.in-Arith.b.value))
+    let g : c.in_expr-in-Arith-2.new.names ≡ first_occurrences c.args.names.now (expr_variables (expr_syntax c.in-Arith.a.value) ++ expr_variables (expr_syntax c.in-Arith.b.value)) =
+    both_occur c.args.names.now c.in_expr-in-Arith.new.names c.in_expr-in-Arith-2.new.names (expr_variables (expr_syntax c.in-Arith.a.value)) (expr_variables (expr_syntax c.in-Arith.b.value))
     (rw c.deref-in-Arith.ensures at c.in_ok-in_expr-in-Arith.ensures) (rw c.deref-in-Arith-2.ensures at c.in_ok-in_expr-in-Arith-2.ensures) in
     elim c.in-Arith.is [
       | inl e ↦ let f = e.1 in search (rules, the_lemmas, g, f)
@@ -38,10 +38,10 @@ in_expr-returns-in_ok-in_expr-in-Arith-2 t c =
 
 pub in_expr-returns-in_ok-in_expr-in-If-3 : goal.in_expr-returns-in_ok-in_expr-in-If-3
 in_expr-returns-in_ok-in_expr-in-If-3 t c =
-    let f : c.in_expr-in-If.new.names ≡ first_occurrences c.args.names.now (expr_variables (expr_text c.in-If.a.value) ++ expr_variables (expr_text c.in-If.b.value)) =
-    both_occur c.args.names.now c.in_expr.new.names c.in_expr-in-If.new.names (expr_variables (expr_text c.in-If.a.value)) (expr_variables (expr_text c.in-If.b.value))
+    let f : c.in_expr-in-If.new.names ≡ first_occurrences c.args.names.now (expr_variables (expr_syntax c.in-If.a.value) ++ expr_variables (expr_syntax c.in-If.b.value)) =
+    both_occur c.args.names.now c.in_expr.new.names c.in_expr-in-If.new.names (expr_variables (expr_syntax c.in-If.a.value)) (expr_variables (expr_syntax c.in-If.b.value))
     (rw c.deref-in-If.ensures at c.in_ok-in_expr-in-If.ensures) (rw c.deref-in-If-2.ensures at c.in_ok-in_expr-in-If-2.ensures) in
-    let g : c.in_expr-in-If-2.new.names ≡ first_occurrences c.args.names.now (expr_variables (expr_text c.in-If.a.value) ++ expr_variables (expr_text c.in-If.b.value) ++ expr_variables (expr_text c.in-If.c.value)) =
-    both_occur c.args.names.now c.in_expr-in-If.new.names c.in_expr-in-If-2.new.names (expr_variables (expr_text c.in-If.a.value) ++ expr_variables (expr_text c.in-If.b.value)) (expr_variables (expr_text c.in-If.c.value))
+    let g : c.in_expr-in-If-2.new.names ≡ first_occurrences c.args.names.now (expr_variables (expr_syntax c.in-If.a.value) ++ expr_variables (expr_syntax c.in-If.b.value) ++ expr_variables (expr_syntax c.in-If.c.value)) =
+    both_occur c.args.names.now c.in_expr-in-If.new.names c.in_expr-in-If-2.new.names (expr_variables (expr_syntax c.in-If.a.value) ++ expr_variables (expr_syntax c.in-If.b.value)) (expr_variables (expr_syntax c.in-If.c.value))
     f (rw c.deref-in-If-3.ensures at c.in_ok-in_expr-in-If-3.ensures) in
     elim c.in-If.is [ inl e ↦ search (rules, the_lemmas, g, e) | inr e ↦ let h = e.2 in search (rules, the_lemmas, g, h) ]

@@ -1,7 +1,7 @@
 use Rattle.std.proofs.Common.{map, ap, ◌∙◌, subst, Ok}
 use Rattle.std.proofs.lemmas.Result.{err_from_is_err_and}
 use Rattle.um_tree.specs.ExprTree.{expr_tree, in_order}
-use Rattle.um_tree.specs.RawTree.{FieldPart, expr_text, field_part}
+use Rattle.um_tree.specs.RawTree.{FieldPart, expr_syntax, field_part}
 use Rattle.um_measures.specs.Faults.{and_then}
 use Rattle.um_measures.specs.Stops.{IsFirst}
 use Rattle.um_names.specs.Tables.{known_of}
@@ -14,9 +14,9 @@ use Rattle.um_names.proofs.expr.+expr.Goals as goal
 pub exprs-returns-clause-exact : goal.exprs-returns-clause-exact
 exprs-returns-clause-exact t c =
     let a = c.args in
-    exprs_each (known_of a.tables.now) a.body.now.variables (callables_of a.tables.now a.body.now) a.scope.now (map expr_text a.items.now)
+    exprs_each (known_of a.tables.now) a.body.now.variables (callables_of a.tables.now a.body.now) a.scope.now (map expr_syntax a.items.now)
     ∙ ap (λ r. and_then r (λ bs. Ok (in_order bs)))
-    (stage_ends (resolved_in a.tables.now a.body.now a.scope.now) expr_text a.items.now (map expr_tree c.loop-i.es.items) c.loop-i.i c.loop-i.invariant.done c.loop-i-test.false)
+    (stage_ends (resolved_in a.tables.now a.body.now a.scope.now) expr_syntax a.items.now (map expr_tree c.loop-i.es.items) c.loop-i.i c.loop-i.invariant.done c.loop-i-test.false)
 
 pub exprs-returns-in_err-expr-clause-faults : goal.exprs-returns-in_err-expr-clause-faults
 exprs-returns-in_err-expr-clause-faults t c =
@@ -24,10 +24,10 @@ exprs-returns-in_err-expr-clause-faults t c =
     let p = err_from_is_err_and c.from_residual.result c.from_residual.ensures.1 in
     let stop = c.in_err-expr.field-0.0 in
     let x = c.index-items-i.result in
-    let here = subst (λ (s : Scope). IsFirst (resolved_in a.tables.now a.body.now s (expr_text x)) stop) c.loop-i.invariant.scope c.in_err-expr.ensures.faults in
+    let here = subst (λ (s : Scope). IsFirst (resolved_in a.tables.now a.body.now s (expr_syntax x)) stop) c.loop-i.invariant.scope c.in_err-expr.ensures.faults in
     rw (p.1, p.2)
-    (exprs_first (known_of a.tables.now) a.body.now.variables (callables_of a.tables.now a.body.now) a.scope.now (map expr_text a.items.now) stop
-    (stage_stops (resolved_in a.tables.now a.body.now a.scope.now) expr_text a.items.now (map expr_tree c.loop-i.es.items) c.loop-i.i x stop c.loop-i.invariant.done c.loop-i-test.true c.index-items-i.is here))
+    (exprs_first (known_of a.tables.now) a.body.now.variables (callables_of a.tables.now a.body.now) a.scope.now (map expr_syntax a.items.now) stop
+    (stage_stops (resolved_in a.tables.now a.body.now a.scope.now) expr_syntax a.items.now (map expr_tree c.loop-i.es.items) c.loop-i.i x stop c.loop-i.invariant.done c.loop-i-test.true c.index-items-i.is here))
 
 pub parts-returns-clause-exact : goal.parts-returns-clause-exact
 parts-returns-clause-exact t c =

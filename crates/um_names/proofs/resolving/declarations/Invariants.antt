@@ -1,5 +1,5 @@
 use Rattle.std.proofs.Common.{◌≡◌, map, drop}
-use Rattle.um_tree.specs.RawTree.{decl_text}
+use Rattle.um_tree.specs.RawTree.{decl_syntax}
 use Rattle.um_names.specs.Resolution.{resolution, resolved_decls}
 use Rattle.um_names.specs.Tables.{AreTables, known_of}
 use Rattle.um_names.proofs.resolving.declarations.Given as goal
@@ -7,5 +7,5 @@ use Rattle.um_names.proofs.resolving.declarations.Given as goal
 abbrev pub invariant-loop-decl : goal.invariant-loop-decl
 invariant-loop-decl l = record {
   are : AreTables l.tables;
-  done : resolution (map decl_text l.raw) ≡ resolved_decls (known_of l.tables) (map decl_text (drop l.decl-index l.raw));
+  done : resolution (map decl_syntax l.raw) ≡ resolved_decls (known_of l.tables) (map decl_syntax (drop l.decl-index l.raw));
 }

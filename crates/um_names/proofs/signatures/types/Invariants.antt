@@ -1,5 +1,5 @@
 use Rattle.std.proofs.Common.{map}
-use Rattle.um_tree.specs.RawTree.{type_text}
+use Rattle.um_tree.specs.RawTree.{type_syntax}
 use Rattle.um_tree.specs.TypeTree.{type_tree}
 use Rattle.um_names.specs.SignatureNames.{one_type}
 use Rattle.um_names.specs.Tables.{known_of}
@@ -7,4 +7,4 @@ use Rattle.um_measures.proofs.Stages.{Stage}
 use Rattle.um_names.proofs.signatures.types.Given as goal
 
 abbrev pub invariant-loop-text : goal.invariant-loop-text
-invariant-loop-text l = Stage (one_type (known_of l.tables) l.variables) type_text l.raw (map type_tree l.types.items) l.text-index
+invariant-loop-text l = Stage (one_type (known_of l.tables) l.variables) type_syntax l.raw (map type_tree l.types.items) l.text-index

@@ -2,7 +2,7 @@ use Rattle.std.proofs.Common.{◌≡◌, List, map, ap, ◌∙◌, subst, Ok}
 use Rattle.std.specs.Prelude.{IfOk, IfErr}
 use Rattle.um_tree.specs.declared.raw.RawType.{RawType}
 use Rattle.um_tree.specs.ProgramTree.{program_tree}
-use Rattle.um_tree.specs.RawTree.{type_text, type_texts}
+use Rattle.um_tree.specs.RawTree.{type_syntax, type_syntaxes}
 use Rattle.um_tree.specs.TypeTree.{type_trees}
 use Rattle.um_measures.specs.ClosedUnits.{given}
 use Rattle.um_measures.specs.Faults.{Found}
@@ -17,18 +17,18 @@ pub returns-clause-exact : goal.returns-clause-exact
 returns-clause-exact c =
     let p = program_tree c.args.program.now in
     let ss = c.args.abbreviations.now in
-    let ts = type_texts c.args.raw.now in
+    let ts = type_syntaxes c.args.raw.now in
     let t = known_of c.in_ok-tables.tables in
-    let whole : resolved_signature t (map type_text c.deref.result.now) ≡ resolved_signature (given p ss) ts =
-    ap (λ (rs : List RawType). resolved_signature t (map type_text rs)) c.deref.ensures.value ∙ ap (λ (k : Known). resolved_signature k ts) c.in_ok-tables.ensures.known ∙ signature_alike p ss ts in
+    let whole : resolved_signature t (map type_syntax c.deref.result.now) ≡ resolved_signature (given p ss) ts =
+    ap (λ (rs : List RawType). resolved_signature t (map type_syntax rs)) c.deref.ensures.value ∙ ap (λ (k : Known). resolved_signature k ts) c.in_ok-tables.ensures.known ∙ signature_alike p ss ts in
     subst (λ (r : Found SignatureTypes). IfOk c.signature.result (λ found. r ≡ Ok (record { types = type_trees found.0; vars = found.1 }))) whole c.signature.ensures.exact
 
 pub returns-clause-faults : goal.returns-clause-faults
 returns-clause-faults c =
     let p = program_tree c.args.program.now in
     let ss = c.args.abbreviations.now in
-    let ts = type_texts c.args.raw.now in
+    let ts = type_syntaxes c.args.raw.now in
     let t = known_of c.in_ok-tables.tables in
-    let whole : resolved_signature t (map type_text c.deref.result.now) ≡ resolved_signature (given p ss) ts =
-    ap (λ (rs : List RawType). resolved_signature t (map type_text rs)) c.deref.ensures.value ∙ ap (λ (k : Known). resolved_signature k ts) c.in_ok-tables.ensures.known ∙ signature_alike p ss ts in
+    let whole : resolved_signature t (map type_syntax c.deref.result.now) ≡ resolved_signature (given p ss) ts =
+    ap (λ (rs : List RawType). resolved_signature t (map type_syntax rs)) c.deref.ensures.value ∙ ap (λ (k : Known). resolved_signature k ts) c.in_ok-tables.ensures.known ∙ signature_alike p ss ts in
     subst (λ (r : Found SignatureTypes). IfErr c.signature.result (IsFirst r)) whole c.signature.ensures.faults

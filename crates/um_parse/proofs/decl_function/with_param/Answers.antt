@@ -1,5 +1,5 @@
 use Rattle.std.proofs.Common.{map, ap, arith}
-use Rattle.um_tree.specs.RawTree.{param_text}
+use Rattle.um_tree.specs.RawTree.{param_syntax}
 use Rattle.um_parse.specs.ProgramHeights.{params_height}
 use Rattle.um_parse.proofs.DeclLists.{raw_params_last}
 use Rattle.um_parse.proofs.decl_function.with_param.Goals as goal
@@ -11,7 +11,7 @@ invariant_of-result c = record {
         arith,
         c.requires,
         c.args.front.low,
-        ap (λ ps. params_height (map param_text ps)) c.in_ok-push.ensures.items,
+        ap (λ ps. params_height (map param_syntax ps)) c.in_ok-push.ensures.items,
         raw_params_last c.args.front.params.items.items (record { binder = c.args.binder; ty = c.args.ty }),
       );
 }

@@ -1,5 +1,5 @@
 use Rattle.std.proofs.Common.{length, option_map, ap, sym, ◌∙◌, arith}
-use Rattle.um_tree.specs.RawTree.{program_text}
+use Rattle.um_tree.specs.RawTree.{program_syntax}
 use Rattle.um_parse.specs.DeclMachine.{program_finish}
 use Rattle.um_parse.proofs.ProgramWhole.{stops, too_high}
 use Rattle.um_parse.proofs.program_loop.read_program.Goals as goal
@@ -18,4 +18,4 @@ pub returns-in-None : goal.returns-in-None
 returns-in-None c =
     let e = c.in-Ok.ensures in
     stops c.args.tokens.now (length c.args.tokens.now) e.0 (λ lt. absurd (omega (arith, lt)))
-    (λ same. ap program_finish (sym e.1) ∙ sym c.in_ok-found.ensures ∙ ap (option_map program_text) c.in-None.is)
+    (λ same. ap program_finish (sym e.1) ∙ sym c.in_ok-found.ensures ∙ ap (option_map program_syntax) c.in-None.is)

@@ -1,5 +1,5 @@
 use Rattle.std.proofs.Common.{◌≤◌, sym, subst, length}
-use Rattle.um_tree.specs.RawTree.{program_text as raw_tree}
+use Rattle.um_tree.specs.RawTree.{program_syntax}
 use Rattle.um_parse.specs.Parsed.{IsRead}
 use Rattle.um_readable.proofs.TextBytes.{tokens_within_bytes, readable_program}
 use Rattle.um_tool.proofs.answer.answer_tokens.Goals as goal
@@ -11,5 +11,5 @@ parse-requires c =
 
 pub answer_program-requires : goal.answer_program-requires
 answer_program-requires c =
-    let read = subst (λ tokens. IsRead tokens (raw_tree c.in-Ok.program)) c.as_slice.ensures c.in-Ok.ensures.parsed in
-    record { readable = readable_program c.args.bytes.now c.args.tokens.now (raw_tree c.in-Ok.program) c.requires.tokens.0 c.requires.short c.requires.tokens.1 read }
+    let read = subst (λ tokens. IsRead tokens (program_syntax c.in-Ok.program)) c.as_slice.ensures c.in-Ok.ensures.parsed in
+    record { readable = readable_program c.args.bytes.now c.args.tokens.now (program_syntax c.in-Ok.program) c.requires.tokens.0 c.requires.short c.requires.tokens.1 read }

@@ -1,6 +1,6 @@
 use Rattle.std.proofs.Common.{◌<◌, ◌-◌, length, ap, arith}
 use denote.Param.Weighed.{at_most}
-use Rattle.um_tree.specs.RawTree.{expr_text, field_part}
+use Rattle.um_tree.specs.RawTree.{expr_syntax, field_part}
 use Rattle.um_tree.proofs.RawSizes.{expr_is_low, field_is_low}
 use Rattle.um_tree.proofs.raw.RawExpr.TheLaws.{the_size}
 use Rattle.um_tree.proofs.raw.RawField.TheLaws.{the_size as the_field_size}
@@ -13,7 +13,7 @@ tallest-height-requires t c =
     let below : i < length es = omega arith in
     let falls = at_most the_size es i c.index-items-i.result below in
     let same = ap the_size c.index-items-i.is in
-    let low = expr_is_low expr_text es i c.index-items-i.result below c.index-items-i.is in
+    let low = expr_is_low expr_syntax es i c.index-items-i.result below c.index-items-i.is in
     (omega (arith, falls, same), omega (arith, low))
 
 pub tallest_part-part_height-requires : goal.tallest_part-part_height-requires

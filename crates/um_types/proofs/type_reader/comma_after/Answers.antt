@@ -1,5 +1,5 @@
 use Rattle.std.proofs.Common.{map, ap, arith}
-use Rattle.um_tree.specs.RawTree.{note_text}
+use Rattle.um_tree.specs.RawTree.{note_syntax}
 use Rattle.um_types.specs.TypeHeights.{notes_height}
 use Rattle.um_types.specs.NoteMachine.{note_least}
 use Rattle.um_types.specs.TypeMachine.{owner_height}
@@ -14,7 +14,7 @@ invariant_of-result c = record {
         arith,
         c.requires,
         ap (λ o. owner_height (view_owner o)) c.in-Name.is,
-        ap (λ ns. notes_height (map note_text ns)) c.in_ok-push-in-Name.ensures.items,
+        ap (λ ns. notes_height (map note_syntax ns)) c.in_ok-push-in-Name.ensures.items,
         raw_notes_last c.in-Name.front.items.items c.args.note,
         ap note_least c.new.ensures.start,
       );

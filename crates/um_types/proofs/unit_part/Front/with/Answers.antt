@@ -1,5 +1,5 @@
 use Rattle.std.proofs.Common.{map, ap, arith}
-use Rattle.um_tree.specs.RawTree.{unit_text, units_in_order}
+use Rattle.um_tree.specs.RawTree.{unit_syntax, units_in_order}
 use Rattle.um_tree.specs.Heights.{tallest_unit}
 use Rattle.um_types.proofs.UnitFronts.{tallest_more}
 use Rattle.um_types.proofs.unit_part.Front.with.Goals as goal
@@ -13,6 +13,6 @@ invariant_of-result c = record {
         c.args.self.counted_height,
         c.args.last.counted_height,
         tallest_more c.args.self.units.items c.args.last.unit,
-        ap (λ w. tallest_unit (units_in_order (map unit_text w))) c.in_ok-push.ensures.items,
+        ap (λ w. tallest_unit (units_in_order (map unit_syntax w))) c.in_ok-push.ensures.items,
       );
 }

@@ -1,5 +1,0 @@
-use Rattle.um_equations.proofs.JudgementLaws.{judged_schemes_are_principal, judged_untyped_have_none}
-use Rattle.um_equations.proofs.laws.judgements.Goals as goal
-
-pub returns : goal.returns
-returns c = record { schemes = judged_schemes_are_principal; refusals = judged_untyped_have_none }

@@ -1,5 +1,0 @@
-use Rattle.um_equations.proofs.Solved.{typings_are_solutions}
-use Rattle.um_equations.proofs.laws.typings_are_solutions.Goals as goal
-
-pub returns : goal.returns
-returns c = typings_are_solutions

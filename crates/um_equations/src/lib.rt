@@ -1,8 +1,0 @@
-//! The equations of a function: rows of units over slots, whose joint solutions are exactly the function's typings.
-//!
-//! Each two units that a typing rule asks to be equal give a row, the first over the second, and a unit that the program
-//! leaves open is a slot (Kennedy, Programming Languages and Dimensions, 1996, on the inference of units). The order of the
-//! rows and of the slots, and the range of powers, are this project's own.
-#![tactic(auto)]
-
-pub mod laws;

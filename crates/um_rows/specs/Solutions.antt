@@ -1,0 +1,44 @@
+-- The joint solutions of a function's rows, and what they give for its types.
+-- Source: Kennedy (1996): a typing is what a unifier of the equations gives. That a solution is a list over numbered slots is
+-- this project's own.
+use Rattle.std.specs.Prelude.{◌≡◌, ℕ, ◌<◌, All, List, [], ◌∷◌, ◌++◌, Some, slice_get}
+use Rattle.um_units.specs.PowerMap.{PowerMap, nth}
+use Rattle.um_units.specs.Solutions.{IsJointSolution}
+use Rattle.um_tree.specs.TypeTree.{TypeTree}
+use Rattle.um_tree.specs.ProgramTree.{RecordTree, FunctionTree, ProgramTree, Signature, SchemeTree}
+use Rattle.um_tree.specs.Typing.{put_signature}
+use Rattle.um_tree.specs.Scheme.{IsPrincipal, variables}
+use Rattle.um_rows.specs.Steps.{row_units}
+use Rattle.um_rows.specs.Slots.{slot_count, slot_equations}
+
+-- the units of the function's rows, in order
+abbrev pub function_rows : List RecordTree → List SchemeTree → ℕ → FunctionTree → List PowerMap
+function_rows records schemes i f = row_units (slot_equations records schemes i f).steps
+
+-- the types of its parameters and of its body, over slots
+abbrev pub slot_signature : List RecordTree → List SchemeTree → ℕ → FunctionTree → Signature
+slot_signature records schemes i f = let e = slot_equations records schemes i f in record { params = e.params; result = e.result }
+
+-- one unit for each slot, such that each row is 1
+abbrev pub IsSolution : List RecordTree → List SchemeTree → ℕ → FunctionTree → List PowerMap → Type 0
+IsSolution records schemes i f units = IsJointSolution (slot_count records schemes i f) (function_rows records schemes i f) units
+
+-- some joint solution, put for the slots, gives the signature
+abbrev pub IsSolved : List RecordTree → List SchemeTree → ℕ → FunctionTree → Signature → Type 0
+IsSolved records schemes i f g = (units : List PowerMap) × IsSolution records schemes i f units × (g ≡ put_signature (nth units) (slot_signature records schemes i f))
+
+-- ---- the schemes of the functions before
+
+abbrev pub signature_types : Signature → List TypeTree
+signature_types g = g.params ++ g.result ∷ []
+
+-- the scheme of function j, over its variables alone: its instances are exactly the function's typings
+pub record HasScheme (p : ProgramTree) (schemes : List SchemeTree) (j : ℕ) : Type 0 where
+  pub scheme : SchemeTree
+  pub stands : slice_get schemes j ≡ Some scheme
+  pub variables_below : All (λ k. k < scheme.vars) (variables (signature_types scheme.signature))
+  pub principal : IsPrincipal p j scheme
+
+-- each function before i has its scheme
+abbrev pub HaveSchemes : ProgramTree → List SchemeTree → ℕ → Type 0
+HaveSchemes p schemes i = (j : ℕ) → j < i → HasScheme p schemes j

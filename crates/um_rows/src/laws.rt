@@ -1,0 +1,38 @@
+//! The laws of equations, as contracts of functions that do nothing. A crate above cites the law that it needs.
+ghost use Rattle.um_rows.specs.Laws.{
+  TypingsAreSolutions,
+  RowsHoldSlots,
+  TypesHoldSlots,
+  JudgedSchemesArePrincipal,
+  JudgedUntypedHaveNone,
+  CallResultsAreSolutions,
+  JudgedCallsHaveTheirType,
+  JudgedUntypedCallsHaveNone,
+};
+
+/// The typings of a function are exactly what the joint solutions of its rows give, where the functions before it have their
+/// schemes.
+pub fn typings_are_solutions()
+    ensures { TypingsAreSolutions }
+{}
+
+/// The rows of a function hold its slots alone, and so do its types.
+pub fn slots_of_equations()
+    ensures rows { RowsHoldSlots }
+    ensures types { TypesHoldSlots }
+{}
+
+/// The scheme that a function is judged to have is numbered, and its instances are exactly the function's typings. A function
+/// that is judged to have no typing has none, and the place is that of its first unsolvable row.
+pub fn judgements()
+    ensures schemes { JudgedSchemesArePrincipal }
+    ensures refusals { JudgedUntypedHaveNone }
+{}
+
+/// The results of a call are exactly what the joint solutions of its rows give. The type that a call is judged to have is a
+/// type of the call, and a call that is judged to have none has no result.
+pub fn calls()
+    ensures results { CallResultsAreSolutions }
+    ensures types { JudgedCallsHaveTheirType }
+    ensures refusals { JudgedUntypedCallsHaveNone }
+{}
