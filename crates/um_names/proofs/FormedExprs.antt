@@ -11,7 +11,7 @@ use Rattle.um_tree.specs.declared.note.UnitNote.TheVariants as note
 use Rattle.um_tree.specs.TypeTree.{NoteTree}
 use Rattle.um_tree.specs.TreeHeights.{note_tree_height, tree_height, tallest_tree, tree_nodes, all_tree_nodes}
 use Rattle.um_tree.specs.Heights.{type_height, expr_height, tallest_expr, tallest_field, expr_nodes, all_expr_nodes, all_field_nodes}
-use Rattle.um_tree.specs.ExprTree.{ExprTree, ExprTrees, truth, number, local, call, negate, negation, arith as arith_tree, compare, both, either, if, bind, split, nil, list_text, cons, record_text, field, none, more}
+use Rattle.um_tree.specs.ExprTree.{ExprTree, ExprTrees, truth, number, local, call, negate, not_expr, arith as arith_tree, compare, both, either, if, bind, split, nil, list_expr, cons, record_expr, field, none, more}
 use Rattle.um_tree.specs.ProgramTree.{RecordTree, FunctionTree, ProgramTree}
 use Rattle.um_tree.specs.Formed.{IsNoteTreeIn, count, MayCall, HasFields, IsFormedIn, AllFormedIn}
 use Rattle.um_tree.specs.RawTree.{NoteSyntax, hole_syntax, unit_note_syntax, ExprSyntax, ExprSyntaxes, FieldSyntaxes, truth_syntax, number_syntax, name_syntax, call_syntax, negate_syntax, not_syntax, arith_syntax, compare_syntax, and_syntax, or_syntax, if_syntax, let_syntax, match_syntax, nil_syntax, list_syntax, cons_syntax, fields_syntax, field_syntax, bracket_expr_syntax, no_exprs, more_exprs, no_fields, more_fields}
@@ -184,9 +184,9 @@ module _ (known : Known) (variables : List (List ℕ)) (callables : List Callabl
           let same : negate at (w.0) ≡ e = cc (w.2) in
           subst (λ z. IsGood (length scope) z (expr_height a + 1) (expr_nodes a + 1)) same (x.0, omega (arith, x.1), omega (arith, x.2))
       expr_in (not_syntax at a) scope e r h =
-          let w = then_found (resolved_expr known variables callables scope a) (λ x. Ok (negation at x)) e h in
+          let w = then_found (resolved_expr known variables callables scope a) (λ x. Ok (not_expr at x)) e h in
           let x = expr_in a scope w.0 r w.1 in
-          let same : negation at (w.0) ≡ e = cc (w.2) in
+          let same : not_expr at (w.0) ≡ e = cc (w.2) in
           subst (λ z. IsGood (length scope) z (expr_height a + 1) (expr_nodes a + 1)) same (x.0, omega (arith, x.1), omega (arith, x.2))
       expr_in (arith_syntax at op a b) scope e r h =
           let w = pair_found (resolved_expr known variables callables scope a) (resolved_expr known variables callables scope b) (λ x y. arith_tree at op x y) e h in
@@ -239,12 +239,12 @@ module _ (known : Known) (variables : List (List ℕ)) (callables : List Callabl
           let same : nil at (w.0) ≡ e = cc (w.2) in
           subst (λ z. IsGood (length scope) z 3 1) same (nil_in at (length scope) w.0 (type_height t) r m.0 m.1)
       expr_in (list_syntax at es) scope e r h =
-          let w = then_found (resolved_exprs known variables callables scope es) (λ bs. Ok (list_text at bs)) e h in
+          let w = then_found (resolved_exprs known variables callables scope es) (λ bs. Ok (list_expr at bs)) e h in
           let bs = exprs_in es scope w.0 r.1 w.1 in
-          let same : list_text at (w.0) ≡ e = cc (w.2) in
+          let same : list_expr at (w.0) ≡ e = cc (w.2) in
           subst (λ z. IsGood (length scope) z (expr_height (list_syntax at es)) (expr_nodes (list_syntax at es))) same ((subst (λ k. 0 < k) (sym bs.1) r.0, bs.0), omega (arith, bs.2), omega (arith, bs.3))
       expr_in (fields_syntax at fs) scope e r h =
-          let w = pair_found (resolved_fields known.program.records fs at) (resolved_parts known variables callables scope fs) (λ q bs. record_text at q bs) e h in
+          let w = pair_found (resolved_fields known.program.records fs at) (resolved_parts known variables callables scope fs) (λ q bs. record_expr at q bs) e h in
           let bs = parts_in fs scope w.second r w.two in
           let fields = subst (HasFields program_with w.first) (sym bs.1) (resolved_fields-are known.program.records fs at w.first w.one) in
           subst (λ z. IsGood (length scope) z (expr_height (fields_syntax at fs)) (expr_nodes (fields_syntax at fs))) w.is ((fields, bs.0), omega (arith, bs.2), omega (arith, bs.3))

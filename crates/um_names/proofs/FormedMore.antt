@@ -5,7 +5,7 @@ use Rattle.um_frac.specs.declared.number.Frac.{Frac}
 use Rattle.um_tree.specs.declared.note.UnitNote.{UnitNote}
 use Rattle.um_tree.specs.declared.note.UnitNote.TheVariants as note
 use Rattle.um_tree.specs.TypeTree.{TypeTree, bool_type, num_type, list_type, record_type, NoteTree, bool_note, num_note, list_note, record_note}
-use Rattle.um_tree.specs.ExprTree.{ExprTree, ExprTrees, truth, number, local, call, negate, negation, arith as arith_tree, compare, both, either, if, bind, split, nil, list_text, cons, record_text, field, none, more}
+use Rattle.um_tree.specs.ExprTree.{ExprTree, ExprTrees, truth, number, local, call, negate, not_expr, arith as arith_tree, compare, both, either, if, bind, split, nil, list_expr, cons, record_expr, field, none, more}
 use Rattle.um_tree.specs.ProgramTree.{RecordTree, FunctionTree, ProgramTree}
 use Rattle.um_tree.specs.Formed.{IsNoteIn, TakesUnits, IsTypeIn, IsNoteTreeIn, IsLiteral, IsFormedIn, AllFormedIn, IsFormedRecord, ResultFormed, IsFormedFunction}
 use Rattle.um_names.proofs.CallableNames.{slice_get-front}
@@ -49,7 +49,7 @@ module _ (p q : ProgramTree) (extends : Extends p q) where
       expr_more n (local at k) w = w
       expr_more n (call at j es) w = (record { function = w.0.function; known = w.0.known; declared = extends.functions j w.0.function w.0.declared; arguments = w.0.arguments }, exprs_more n es w.1)
       expr_more n (negate at a) w = expr_more n a w
-      expr_more n (negation at a) w = expr_more n a w
+      expr_more n (not_expr at a) w = expr_more n a w
       expr_more n (arith_tree at op a b) w = (expr_more n a w.0, expr_more n b w.1)
       expr_more n (compare at sign a b) w = (expr_more n a w.0, expr_more n b w.1)
       expr_more n (both at a b) w = (expr_more n a w.0, expr_more n b w.1)
@@ -58,9 +58,9 @@ module _ (p q : ProgramTree) (extends : Extends p q) where
       expr_more n (bind at a b) w = (expr_more n a w.0, expr_more (n + 1) b w.1)
       expr_more n (split at l a b) w = (expr_more n l w.0, expr_more n a w.1, expr_more (n + 2) b w.2)
       expr_more n (nil at note) w = (note_tree_more f.named note w.0, w.1)
-      expr_more n (list_text at es) w = (w.0, exprs_more n es w.1)
+      expr_more n (list_expr at es) w = (w.0, exprs_more n es w.1)
       expr_more n (cons at a b) w = (expr_more n a w.0, expr_more n b w.1)
-      expr_more n (record_text at r es) w = ((w.0.0, extends.records r w.0.0 w.0.1, w.0.2), exprs_more n es w.1)
+      expr_more n (record_expr at r es) w = ((w.0.0, extends.records r w.0.0 w.0.1, w.0.2), exprs_more n es w.1)
       expr_more n (field at r k a) w = ((w.0.0, extends.records r w.0.0 w.0.1, w.0.2), expr_more n a w.1)
 
       exprs_more : (n : ℕ) (es : ExprTrees) → AllFormedIn p i f n es → AllFormedIn q i f n es

@@ -7,7 +7,7 @@ use Rattle.um_frac.specs.declared.number.Frac.{Frac}
 use Rattle.um_frac.specs.Fraction.{numerator}
 use Rattle.um_units.specs.PowerMap.{one}
 use Rattle.um_tree.specs.declared.note.UnitNote.TheVariants as note
-use Rattle.um_tree.specs.ExprTree.{ExprTree, ExprTrees, truth, number, local, call, negate, negation, arith, compare, both, either, if, bind, split, nil, list_text, cons, record_text, field, none, more}
+use Rattle.um_tree.specs.ExprTree.{ExprTree, ExprTrees, truth, number, local, call, negate, not_expr, arith, compare, both, either, if, bind, split, nil, list_expr, cons, record_expr, field, none, more}
 use Rattle.um_tree.specs.ProgramTree.{RecordTree}
 use Rattle.um_tree.specs.RawTree.{NoteSyntax, hole_syntax, unit_note_syntax, ExprSyntax, ExprSyntaxes, FieldSyntaxes, truth_syntax, number_syntax, name_syntax, call_syntax, negate_syntax, not_syntax, arith_syntax, compare_syntax, and_syntax, or_syntax, if_syntax, let_syntax, match_syntax, nil_syntax, list_syntax, cons_syntax, fields_syntax, field_syntax, bracket_expr_syntax, no_exprs, more_exprs, no_fields, more_fields}
 use Rattle.um_measures.specs.Faults.{unknown, wrong_count, hole, Found, and_then, unless_taken}
@@ -125,7 +125,7 @@ module _ (known : Known) (variables : List (List ℕ)) (callables : List Callabl
     resolved_expr scope (call_syntax at x es) =
         and_then (called callables (local_of scope x) x (length_of es) at) (λ j. and_then (resolved_exprs scope es) (λ bs. Ok (call at j bs)))
     resolved_expr scope (negate_syntax at a) = and_then (resolved_expr scope a) (λ e. Ok (negate at e))
-    resolved_expr scope (not_syntax at a) = and_then (resolved_expr scope a) (λ e. Ok (negation at e))
+    resolved_expr scope (not_syntax at a) = and_then (resolved_expr scope a) (λ e. Ok (not_expr at e))
     resolved_expr scope (arith_syntax at op a b) = and_then (resolved_expr scope a) (λ e. and_then (resolved_expr scope b) (λ f. Ok (arith at op e f)))
     resolved_expr scope (compare_syntax at s a b) = and_then (resolved_expr scope a) (λ e. and_then (resolved_expr scope b) (λ f. Ok (compare at s e f)))
     resolved_expr scope (and_syntax at a b) = and_then (resolved_expr scope a) (λ e. and_then (resolved_expr scope b) (λ f. Ok (both at e f)))
@@ -137,10 +137,10 @@ module _ (known : Known) (variables : List (List ℕ)) (callables : List Callabl
         and_then (resolved_expr scope l) (λ d. and_then (resolved_expr scope a) (λ e.
         and_then (unless_taken (same_binding x.name y.name) y.at) (λ _. and_then (resolved_expr (scope ++ x.name ∷ y.name ∷ []) b) (λ f. Ok (split at d e f)))))
     resolved_expr scope (nil_syntax at t) = and_then (resolved_type known variables true t) (λ n. Ok (nil at n))
-    resolved_expr scope (list_syntax at es) = and_then (resolved_exprs scope es) (λ bs. Ok (list_text at bs))
+    resolved_expr scope (list_syntax at es) = and_then (resolved_exprs scope es) (λ bs. Ok (list_expr at bs))
     resolved_expr scope (cons_syntax at a b) = and_then (resolved_expr scope a) (λ e. and_then (resolved_expr scope b) (λ f. Ok (cons at e f)))
     resolved_expr scope (fields_syntax at fs) =
-        and_then (resolved_fields known.program.records fs at) (λ r. and_then (resolved_parts scope fs) (λ bs. Ok (record_text at r bs)))
+        and_then (resolved_fields known.program.records fs at) (λ r. and_then (resolved_parts scope fs) (λ bs. Ok (record_expr at r bs)))
     resolved_expr scope (field_syntax at place x a) = and_then (resolved_expr scope a) (λ e. and_then (found_field (field_of known.program.records x) place) (λ f. Ok (field at f.record_number f.field_number e)))
     resolved_expr scope (bracket_expr_syntax at a) = resolved_expr scope a
 

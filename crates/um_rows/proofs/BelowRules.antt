@@ -20,7 +20,7 @@ use Rattle.um_tree.specs.Laws.{TypeHas}
 use Rattle.um_elim.proofs.Cases.{on_test}
 use Rattle.um_rows.specs.Steps.{Step, row_at, type_at}
 use Rattle.um_rows.specs.Against.{never, unit_against, units_against, against, types_against, against_each}
-use Rattle.um_rows.specs.Rules.{Derived, after, formed, mismatch, asks_bool, asks_list, item, asks_zero, number_rule, local_rule, call_rule, negate_rule, negation_rule, truths_rule, units_rule, arith_rule, compare_rule, if_rule, split_rule, nil_rule, list_rule, cons_rule, record_rule, declared_rule, found_rule, field_rule}
+use Rattle.um_rows.specs.Rules.{Derived, after, formed, mismatch, asks_bool, asks_list, item, asks_zero, number_rule, local_rule, call_rule, negate_rule, not_rule, truths_rule, units_rule, arith_rule, compare_rule, if_rule, split_rule, nil_rule, list_rule, cons_rule, record_rule, declared_rule, found_rule, field_rule}
 use Rattle.um_rows.specs.Derivation.{first_units}
 use Rattle.um_rows.proofs.Variables.{TypeBelow, TypesBelow, SignatureBelow, StepsBelow}
 
@@ -162,8 +162,8 @@ module _ (n : ℕ) where
   negate_below at (num_type u) h = formed_below at [] (num_type u) tt h
   negate_below at t h = mismatch_below at
 
-  pub negation_below : (at : ℕ) (t : TypeTree) → DerivedBelow (negation_rule at t)
-  negation_below at t = formed_below at (asks_bool at t) bool_type (asks_bool_below at t) tt
+  pub not_below : (at : ℕ) (t : TypeTree) → DerivedBelow (not_rule at t)
+  not_below at t = formed_below at (asks_bool at t) bool_type (asks_bool_below at t) tt
 
   pub truths_below : (at : ℕ) (s t : TypeTree) → DerivedBelow (truths_rule at s t)
   truths_below at s t = formed_below at (asks_bool at s ++ asks_bool at t) bool_type (steps_below-append (asks_bool at s) (asks_bool at t) (asks_bool_below at s) (asks_bool_below at t)) tt

@@ -16,7 +16,7 @@ use Rattle.um_tree.specs.ProgramTree.{RecordTree}
 use Rattle.um_tree.specs.Typing.{put, unit_at, ArithUnit, EachIs, field_types, IsRecordAt}
 use Rattle.um_rows.specs.Steps.{Step}
 use Rattle.um_rows.specs.Against.{never, against, types_against, against_each}
-use Rattle.um_rows.specs.Rules.{Derived, after, formed, asks_bool, asks_list, item, asks_zero, local_rule, negate_rule, negation_rule, truths_rule, units_rule, arith_rule, compare_rule, if_rule, split_rule, nil_rule, list_rule, cons_rule, record_rule, declared_rule, found_rule, field_rule}
+use Rattle.um_rows.specs.Rules.{Derived, after, formed, asks_bool, asks_list, item, asks_zero, local_rule, negate_rule, not_rule, truths_rule, units_rule, arith_rule, compare_rule, if_rule, split_rule, nil_rule, list_rule, cons_rule, record_rule, declared_rule, found_rule, field_rule}
 use Rattle.um_rows.proofs.HeldSteps.{Holds, Holds-append, formed-holds, row-same}
 use Rattle.um_rows.proofs.TypesAgainst.{rows-same, rows-types_same, rows-each_same}
 use Rattle.um_rows.proofs.PutTypes.{put-field, put-fields}
@@ -77,8 +77,8 @@ module _ (v : ℕ → PowerMap) (at : ℕ) where
   compare_complete s t u e f = absurd (cc)
 
   -- ---- truth values and arms
-  pub negation_complete : (t : TypeTree) → put v t ≡ bool_type → Gives v (negation_rule at t) bool_type
-  negation_complete t e = formed_gives v at (asks_bool at t) bool_type bool_type refl (bool_complete t e)
+  pub not_complete : (t : TypeTree) → put v t ≡ bool_type → Gives v (not_rule at t) bool_type
+  not_complete t e = formed_gives v at (asks_bool at t) bool_type bool_type refl (bool_complete t e)
 
   pub truths_complete : (s t : TypeTree) → put v s ≡ bool_type → put v t ≡ bool_type → Gives v (truths_rule at s t) bool_type
   truths_complete s t e f = formed_gives v at (asks_bool at s ++ asks_bool at t) bool_type bool_type refl (Holds-append v (asks_bool at s) (asks_bool at t) (bool_complete s e) (bool_complete t f))

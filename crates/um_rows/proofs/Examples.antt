@@ -8,7 +8,7 @@ use Rattle.um_tree.specs.declared.note.UnitNote.TheVariants.{Hole, Written}
 use Rattle.um_tree.specs.declared.expression.Arith.TheVariants.{Add, Mul}
 use Rattle.um_tree.specs.declared.expression.Sign.TheVariants.{Lt}
 use Rattle.um_tree.specs.TypeTree.{TypeTree, bool_type, num_type, list_type, record_type, bool_note, num_note, list_note, record_note}
-use Rattle.um_tree.specs.ExprTree.{number, local, call, arith as arith_tree, compare, if, split, nil, record_text, field, none, more}
+use Rattle.um_tree.specs.ExprTree.{number, local, call, arith as arith_tree, compare, if, split, nil, record_expr, field, none, more}
 use Rattle.um_tree.specs.ProgramTree.{RecordTree, FunctionTree, SchemeTree}
 use Rattle.um_tree.proofs.ExamplePrograms.{zero_number, one_number, plain, rec_function, marked}
 use Rattle.um_rows.specs.Steps.{Step, row_at, type_at, first_past}
@@ -134,7 +134,7 @@ unfolding product
 sum_equations = refl
 
 -- type V<[<Measure>] 'u> = { x: num }, let make = { x = 1 }: a slot for the record's unit, and a row that asks nothing
-make_equations : summary (marked ∷ []) [] 0 (plain [] (record_text 1 0 (more (number 2 one_number (Written one)) none))) ≡ record { slots = 1; rows = (1, []) ∷ []; params = []; result = made 0 (own 0 ∷ []) }
+make_equations : summary (marked ∷ []) [] 0 (plain [] (record_expr 1 0 (more (number 2 one_number (Written one)) none))) ≡ record { slots = 1; rows = (1, []) ∷ []; params = []; result = made 0 (own 0 ∷ []) }
 unfolding product
 make_equations = refl
 

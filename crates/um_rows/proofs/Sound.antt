@@ -7,18 +7,18 @@ use Rattle.um_units.proofs.Replacement.{replace-replace}
 use Rattle.um_tree.specs.declared.note.UnitNote.{UnitNote}
 use Rattle.um_tree.specs.declared.note.UnitNote.TheVariants.{Hole, Written}
 use Rattle.um_tree.specs.TypeTree.{TypeTree, bool_type, NoteTree, bool_note, num_note, list_note, record_note}
-use Rattle.um_tree.specs.ExprTree.{ExprTree, ExprTrees, truth, number, local, call, negate, negation, arith as arith_tree, compare, both, either, if, bind, split, nil, list_text, cons, record_text, field, none, more}
+use Rattle.um_tree.specs.ExprTree.{ExprTree, ExprTrees, truth, number, local, call, negate, not_expr, arith as arith_tree, compare, both, either, if, bind, split, nil, list_expr, cons, record_expr, field, none, more}
 use Rattle.um_tree.specs.ProgramTree.{RecordTree, Signature}
 use Rattle.um_tree.specs.Typing.{put, put_signature, UnitMatches, UnitsMatch, Matches, LiteralUnit, Typed, AllTyped}
 use Rattle.um_rows.specs.Against.{types_against}
 use Rattle.um_rows.specs.Holes.{unit_holes, Callee, known_by, itself, nobody, callee_holes, record_holes, expr_holes}
-use Rattle.um_rows.specs.Rules.{Derived, after, item, number_rule, call_rule, negate_rule, negation_rule, truths_rule, arith_rule, compare_rule, if_rule, split_rule, list_rule, cons_rule, record_rule, field_rule}
+use Rattle.um_rows.specs.Rules.{Derived, after, item, number_rule, call_rule, negate_rule, not_rule, truths_rule, arith_rule, compare_rule, if_rule, split_rule, list_rule, cons_rule, record_rule, field_rule}
 use Rattle.um_rows.specs.Derivation.{first_units, noted_unit, noted_units, noted_type, offered, derive, derive_all}
 use Rattle.um_rows.proofs.HeldSteps.{Holds, Holds-front, Holds-back, Holds-formed, mismatch_fails}
 use Rattle.um_rows.proofs.TypesAgainst.{types_same_from_rows}
 use Rattle.um_elim.proofs.RenamedUnits.{put-put, puts-put}
 use Rattle.um_rows.proofs.PutTypes.{length-first_units}
-use Rattle.um_rows.proofs.SoundRules.{zero_sound, local_sound, negate_sound, negation_sound, truths_sound, arith_sound, compare_sound, if_sound, split_sound, nil_sound, list_sound, cons_sound, record_sound, field_sound}
+use Rattle.um_rows.proofs.SoundRules.{zero_sound, local_sound, negate_sound, not_sound, truths_sound, arith_sound, compare_sound, if_sound, split_sound, nil_sound, list_sound, cons_sound, record_sound, field_sound}
 use Rattle.um_rows.proofs.Callees.{Offers}
 
 module _ (v holes names : ℕ → PowerMap) where
@@ -91,10 +91,10 @@ module _ (v holes names : ℕ → PowerMap) where
             let d = negate_rule at x.type in
             let s = negate_sound v at x.type (Holds-back v x.steps d.steps h) in
             (s.0, subst (Is (map (put v) vars) a) s.1 (sound n vars a (Holds-front v x.steps d.steps h)), s.2)
-        sound n vars (negation at a) h =
+        sound n vars (not_expr at a) h =
             let x = derive holes names records self callee n vars a in
-            let d = negation_rule at x.type in
-            (subst (Is (map (put v) vars) a) (negation_sound v at x.type (Holds-back v x.steps d.steps h)) (sound n vars a (Holds-front v x.steps d.steps h)), refl)
+            let d = not_rule at x.type in
+            (subst (Is (map (put v) vars) a) (not_sound v at x.type (Holds-back v x.steps d.steps h)) (sound n vars a (Holds-front v x.steps d.steps h)), refl)
         sound n vars (arith_tree at op a b) h =
             let m = n + expr_holes records callee a in
             let x = derive holes names records self callee n vars a in
@@ -158,7 +158,7 @@ module _ (v holes names : ℕ → PowerMap) where
             let t = noted_type holes names n m in
             let is = nil_sound v at t h in
             (put v (item t), subst (Matches (λ k. replace v (names k)) m) is (note_sound n m), is)
-        sound n vars (list_text at es) h =
+        sound n vars (list_expr at es) h =
             let ds = derive_all holes names records self callee n vars es in
             let d = list_rule at ds.types in
             let s = list_sound v at ds.types (Holds-back v ds.steps d.steps h) in
@@ -171,7 +171,7 @@ module _ (v holes names : ℕ → PowerMap) where
             let parts = Holds-front v (x.steps ++ y.steps) d.steps h in
             let s = cons_sound v at x.type y.type (Holds-back v (x.steps ++ y.steps) d.steps h) in
             (put v x.type, sound n vars a (Holds-front v x.steps y.steps parts), subst (Is (map (put v) vars) b) s.0 (sound m vars b (Holds-back v x.steps y.steps parts)), s.1)
-        sound n vars (record_text at r es) h =
+        sound n vars (record_expr at r es) h =
             let m = record_holes (slice_get records r) in
             let us = first_units m (λ k. holes (n + k)) in
             let ds = derive_all holes names records self callee (n + m) vars es in

@@ -17,7 +17,7 @@ use Rattle.um_tree.specs.ProgramTree.{RecordTree}
 use Rattle.um_tree.specs.Typing.{put, unit_at, ArithUnit, EachIs, field_types, IsRecordAt}
 use Rattle.um_elim.proofs.Cases.{on_test}
 use Rattle.um_rows.specs.Against.{never, against, types_against, against_each}
-use Rattle.um_rows.specs.Rules.{asks_bool, asks_list, item, asks_zero, number_rule, local_rule, negate_rule, negation_rule, truths_rule, units_rule, arith_rule, compare_rule, if_rule, split_rule, nil_rule, list_rule, cons_rule, record_rule, declared_rule, found_rule, field_rule}
+use Rattle.um_rows.specs.Rules.{asks_bool, asks_list, item, asks_zero, number_rule, local_rule, negate_rule, not_rule, truths_rule, units_rule, arith_rule, compare_rule, if_rule, split_rule, nil_rule, list_rule, cons_rule, record_rule, declared_rule, found_rule, field_rule}
 use Rattle.um_rows.proofs.HeldSteps.{Holds, Holds-front, Holds-back, Holds-formed, never_solved, mismatch_fails, same_from_row}
 use Rattle.um_rows.proofs.TypesAgainst.{same_from_rows, types_same_from_rows, each_same_from_rows}
 use Rattle.um_rows.proofs.PutTypes.{put-field, put-fields}
@@ -65,8 +65,8 @@ module _ (v : ℕ → PowerMap) (at : ℕ) where
   compare_sound s t h = mismatch_fails v at h
 
   -- ---- truth values and arms
-  pub negation_sound : (t : TypeTree) → Holds v (negation_rule at t).steps → put v t ≡ bool_type
-  negation_sound t h = bool_sound t (Holds-formed v at (asks_bool at t) bool_type h)
+  pub not_sound : (t : TypeTree) → Holds v (not_rule at t).steps → put v t ≡ bool_type
+  not_sound t h = bool_sound t (Holds-formed v at (asks_bool at t) bool_type h)
 
   pub truths_sound : (s t : TypeTree) → Holds v (truths_rule at s t).steps → (put v s ≡ bool_type) × (put v t ≡ bool_type)
   truths_sound s t h =

@@ -4,7 +4,7 @@ use Rattle.std.proofs.lemmas.Bool.Decides.{nat_tests}
 use Rattle.um_units.specs.PowerMap.{PowerMap, one}
 use Rattle.um_tree.specs.declared.note.UnitNote.{UnitNote}
 use Rattle.um_tree.specs.TypeTree.{TypeTree, bool_type, num_type, list_type, record_type, NoteTree, bool_note, num_note, list_note, record_note}
-use Rattle.um_tree.specs.ExprTree.{ExprTree, ExprTrees, truth, number, local, call, negate, negation, arith as arith_tree, compare, both, either, if, bind, split, nil, list_text, cons, record_text, field, none, more}
+use Rattle.um_tree.specs.ExprTree.{ExprTree, ExprTrees, truth, number, local, call, negate, not_expr, arith as arith_tree, compare, both, either, if, bind, split, nil, list_expr, cons, record_expr, field, none, more}
 use Rattle.um_tree.specs.ProgramTree.{RecordTree, Signature}
 use Rattle.um_tree.specs.Typing.{put, unit_at, field_types, UnitsMatch, Matches, TypesMatch, ResultMatches, Typed, AllTyped}
 use Rattle.um_rows.specs.Holes.{unit_holes, note_holes, Callee, known_by, itself, nobody, callee_holes, record_holes, expr_holes}
@@ -74,7 +74,7 @@ module _ (choice : ℕ → PowerMap) where
           let g : Signature = record { params = h.0; result = t } in
           then_units (callee_holes (callee j)) (offer_used (callee j) g (opens j g h.2)) (all_used vars es h.0 h.1)
       used vars (negate at a) t h = used vars a (num_type h.0) h.1
-      used vars (negation at a) t h = used vars a bool_type h.0
+      used vars (not_expr at a) t h = used vars a bool_type h.0
       used vars (arith_tree at op a b) t h = then_units (expr_holes records callee a) (used vars a (num_type h.0) h.3) (used vars b (num_type h.1) h.4)
       used vars (compare at sign a b) t h = then_units (expr_holes records callee a) (used vars a (num_type h.0) h.1) (used vars b (num_type h.0) h.2)
       used vars (both at a b) t h = then_units (expr_holes records callee a) (used vars a bool_type h.0) (used vars b bool_type h.1)
@@ -84,9 +84,9 @@ module _ (choice : ℕ → PowerMap) where
       used vars (split at l a b) t h =
           then_units (expr_holes records callee l) (used vars l (list_type h.0) h.1) (then_units (expr_holes records callee a) (used vars a t h.2) (used (vars ++ h.0 ∷ list_type h.0 ∷ []) b t h.3))
       used vars (nil at m) t h = note_used m (list_type h.0) h.1
-      used vars (list_text at es) t h = all_used vars es (h.0 ∷ h.1) h.2
+      used vars (list_expr at es) t h = all_used vars es (h.0 ∷ h.1) h.2
       used vars (cons at a b) t h = then_units (expr_holes records callee a) (used vars a h.0 h.1) (used vars b (list_type h.0) h.2)
-      used vars (record_text at r es) t h = then_units (record_holes (slice_get records r)) (unit_at h.0) (all_used vars es (map (put (unit_at h.0)) (field_types h.1)) h.3)
+      used vars (record_expr at r es) t h = then_units (record_holes (slice_get records r)) (unit_at h.0) (all_used vars es (map (put (unit_at h.0)) (field_types h.1)) h.3)
       used vars (field at r k a) t h = used vars a (record_type r h.0) h.5
 
       pub all_used : (vars : List TypeTree) (es : ExprTrees) (ts : List TypeTree) → AllTyped records calls choice vars es ts → ℕ → PowerMap

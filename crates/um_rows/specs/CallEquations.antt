@@ -3,7 +3,7 @@
 use Rattle.std.specs.Prelude.{ℕ, false, List, [], ◌∷◌, map, replicate, slice_get, Option, Some, None}
 use Rattle.um_tree.specs.declared.note.UnitNote.TheVariants.{Hole}
 use Rattle.um_tree.specs.TypeTree.{NoteTree, bool_note, num_note, list_note, record_note, ShapeTree, bool_shape, num_shape, list_shape, record_shape}
-use Rattle.um_tree.specs.ExprTree.{ExprTree, ExprTrees, truth, number, call, nil, list_text, record_text, none, more}
+use Rattle.um_tree.specs.ExprTree.{ExprTree, ExprTrees, truth, number, call, nil, list_expr, record_expr, none, more}
 use Rattle.um_tree.specs.ValueTree.{InputTree, InputTrees, truth_input, number_input, list_input, record_input, no_inputs, more_inputs}
 use Rattle.um_tree.specs.ProgramTree.{RecordTree, FunctionTree}
 use Rattle.um_tree.specs.Typing.{field_types}
@@ -29,7 +29,7 @@ field_shapes None = []
 -- a list without items is the empty list of its shape
 abbrev pub list_of : NoteTree → ExprTrees → ExprTree
 list_of n none = nil 0 n
-list_of n (more e es) = list_text 0 (more e es)
+list_of n (more e es) = list_expr 0 (more e es)
 
 module _ (records : List RecordTree) where
   abbrev mutual
@@ -38,7 +38,7 @@ module _ (records : List RecordTree) where
     input_text s (truth_input b) = truth 0 b
     input_text s (number_input c n) = number 0 c n
     input_text s (list_input is) = list_of (open_note records s) (item_texts (item_shape s) is)
-    input_text s (record_input r is) = record_text 0 r (input_texts (field_shapes (slice_get records r)) is)
+    input_text s (record_input r is) = record_expr 0 r (input_texts (field_shapes (slice_get records r)) is)
 
     -- items of one shape
     pub item_texts : ShapeTree → InputTrees → ExprTrees

@@ -6,11 +6,11 @@ use Rattle.um_units.specs.PowerMap.{PowerMap, replace}
 use Rattle.um_tree.specs.declared.note.UnitNote.{UnitNote}
 use Rattle.um_tree.specs.declared.note.UnitNote.TheVariants.{Hole, Written}
 use Rattle.um_tree.specs.TypeTree.{TypeTree, bool_type, num_type, list_type, record_type, NoteTree, bool_note, num_note, list_note, record_note}
-use Rattle.um_tree.specs.ExprTree.{ExprTree, ExprTrees, truth, number, local, call, negate, negation, arith, compare, both, either, if, bind, split, nil, list_text, cons, record_text, field, none, more}
+use Rattle.um_tree.specs.ExprTree.{ExprTree, ExprTrees, truth, number, local, call, negate, not_expr, arith, compare, both, either, if, bind, split, nil, list_expr, cons, record_expr, field, none, more}
 use Rattle.um_tree.specs.ProgramTree.{RecordTree, Signature}
 use Rattle.um_tree.specs.Typing.{put_signature}
 use Rattle.um_rows.specs.Holes.{unit_holes, note_holes, Callee, known_by, itself, nobody, callee_holes, record_holes, expr_holes}
-use Rattle.um_rows.specs.Rules.{Derived, AllDerived, after, formed, item, number_rule, local_rule, call_rule, negate_rule, negation_rule, truths_rule, arith_rule, compare_rule, if_rule, split_rule, nil_rule, list_rule, cons_rule, record_rule, field_rule}
+use Rattle.um_rows.specs.Rules.{Derived, AllDerived, after, formed, item, number_rule, local_rule, call_rule, negate_rule, not_rule, truths_rule, arith_rule, compare_rule, if_rule, split_rule, nil_rule, list_rule, cons_rule, record_rule, field_rule}
 
 -- the units f 0, f 1 and so on up to f (m - 1)
 abbrev pub first_units : ℕ → (ℕ → PowerMap) → List PowerMap
@@ -57,9 +57,9 @@ module _ (holes names : ℕ → PowerMap) where
       derive n vars (negate at a) =
           let x = derive n vars a in
           after x.steps (negate_rule at x.type)
-      derive n vars (negation at a) =
+      derive n vars (not_expr at a) =
           let x = derive n vars a in
-          after x.steps (negation_rule at x.type)
+          after x.steps (not_rule at x.type)
       derive n vars (arith at op a b) =
           let x = derive n vars a in
           let y = derive (n + expr_holes records callee a) vars b in
@@ -91,14 +91,14 @@ module _ (holes names : ℕ → PowerMap) where
           let y = derive (n + expr_holes records callee l + expr_holes records callee a) (vars ++ item z.type ∷ z.type ∷ []) b in
           after (z.steps ++ (x.steps ++ y.steps)) (split_rule at z.type x.type y.type)
       derive n vars (nil at m) = nil_rule at (noted_type n m)
-      derive n vars (list_text at es) =
+      derive n vars (list_expr at es) =
           let ds = derive_all n vars es in
           after ds.steps (list_rule at ds.types)
       derive n vars (cons at a b) =
           let x = derive n vars a in
           let y = derive (n + expr_holes records callee a) vars b in
           after (x.steps ++ y.steps) (cons_rule at x.type y.type)
-      derive n vars (record_text at r es) =
+      derive n vars (record_expr at r es) =
           let m = record_holes (slice_get records r) in
           let ds = derive_all (n + m) vars es in
           after ds.steps (record_rule at r (first_units m (λ k. holes (n + k))) (slice_get records r) ds.types)

@@ -5,7 +5,7 @@ use Rattle.std.specs.Prelude.{ℕ, ◌+◌, List, [], ◌∷◌, Option, Some, N
 use Rattle.um_tree.specs.declared.note.UnitNote.{UnitNote}
 use Rattle.um_tree.specs.declared.note.UnitNote.TheVariants.{Hole, Written}
 use Rattle.um_tree.specs.TypeTree.{NoteTree, bool_note, num_note, list_note, record_note}
-use Rattle.um_tree.specs.ExprTree.{ExprTree, ExprTrees, truth, number, local, call, negate, negation, arith, compare, both, either, if, bind, split, nil, list_text, cons, record_text, field, none, more}
+use Rattle.um_tree.specs.ExprTree.{ExprTree, ExprTrees, truth, number, local, call, negate, not_expr, arith, compare, both, either, if, bind, split, nil, list_expr, cons, record_expr, field, none, more}
 use Rattle.um_tree.specs.ProgramTree.{RecordTree, SchemeTree}
 
 -- ---- notes
@@ -59,7 +59,7 @@ module _ (records : List RecordTree) (callee : ℕ → Callee) where
     expr_holes (local at k) = 0
     expr_holes (call at j es) = callee_holes (callee j) + exprs_holes es
     expr_holes (negate at a) = expr_holes a
-    expr_holes (negation at a) = expr_holes a
+    expr_holes (not_expr at a) = expr_holes a
     expr_holes (arith at op a b) = expr_holes a + expr_holes b
     expr_holes (compare at sign a b) = expr_holes a + expr_holes b
     expr_holes (both at a b) = expr_holes a + expr_holes b
@@ -68,9 +68,9 @@ module _ (records : List RecordTree) (callee : ℕ → Callee) where
     expr_holes (bind at a b) = expr_holes a + expr_holes b
     expr_holes (split at l a b) = expr_holes l + (expr_holes a + expr_holes b)
     expr_holes (nil at n) = note_holes n
-    expr_holes (list_text at es) = exprs_holes es
+    expr_holes (list_expr at es) = exprs_holes es
     expr_holes (cons at a b) = expr_holes a + expr_holes b
-    expr_holes (record_text at r es) = record_holes (slice_get records r) + exprs_holes es
+    expr_holes (record_expr at r es) = record_holes (slice_get records r) + exprs_holes es
     expr_holes (field at r k a) = expr_holes a
 
     pub exprs_holes : ExprTrees → ℕ

@@ -74,8 +74,8 @@ abbrev pub negate_rule : ℕ → TypeTree → Derived
 negate_rule at (num_type u) = formed at [] (num_type u)
 negate_rule at t = mismatch at
 
-abbrev pub negation_rule : ℕ → TypeTree → Derived
-negation_rule at t = formed at (asks_bool at t) bool_type
+abbrev pub not_rule : ℕ → TypeTree → Derived
+not_rule at t = formed at (asks_bool at t) bool_type
 
 -- `&&` and `||`
 abbrev pub truths_rule : ℕ → TypeTree → TypeTree → Derived

@@ -3,7 +3,7 @@ use Rattle.std.proofs.Common.{◌≡◌, refl, sym, subst, ap, ◌∙◌, ℕ, z
 use Rattle.std.proofs.lemmas.List.{append_assoc, length-append}
 use Rattle.std.proofs.lemmas.Option.{slice_get-get_or}
 use Rattle.um_tree.specs.TypeTree.{NoteTree, ShapeTree, bool_shape, num_shape, list_shape, record_shape}
-use Rattle.um_tree.specs.ExprTree.{ExprTree, ExprTrees, truth, number, local, call, negate, negation, arith as arith_tree, compare, both, either, if, bind, split, nil, list_text, cons, record_text, field, none, more}
+use Rattle.um_tree.specs.ExprTree.{ExprTree, ExprTrees, truth, number, local, call, negate, not_expr, arith as arith_tree, compare, both, either, if, bind, split, nil, list_expr, cons, record_expr, field, none, more}
 use Rattle.um_tree.specs.ProgramTree.{RecordTree, FunctionTree, ProgramTree}
 use Rattle.um_tree.specs.Typing.{field_types, MayRecur}
 use Rattle.um_tree.specs.Shapes.{type_shape, note_shape, ShapeSignature, EachShapeIs, HasShape, AllHaveShapes, CallShapes, ResultShape, IsShapeOf, shapes_below, FunctionShape, IsShaped}
@@ -62,7 +62,7 @@ module _ (declared : List RecordTree) (records : List RecordShape) (alike : Alik
     complete vars (call at j es) s h =
         deep_then _ _ h.0 s (all_complete vars es h.0 h.1) (deep_node records at _ s (ap (λ o. of_call o h.0) (called j _ h.2) ∙ kept_where (same_shapes h.0 h.0) s (same_shapes-refl h.0)))
     complete vars (negate at a) s h = deep_then _ _ num_shape s (complete vars a num_shape h.0) (deep_node records at _ s (ap Some (sym h.1)))
-    complete vars (negation at a) s h = deep_then _ _ bool_shape s (complete vars a bool_shape h.0) (deep_node records at _ s (ap Some (sym h.1)))
+    complete vars (not_expr at a) s h = deep_then _ _ bool_shape s (complete vars a bool_shape h.0) (deep_node records at _ s (ap Some (sym h.1)))
     complete vars (arith_tree at op a b) s h =
         deep_then _ _ num_shape s (complete vars a num_shape h.0) (deep_then _ _ num_shape s (complete vars b num_shape h.1) (deep_node records at _ s (ap Some (sym h.2))))
     complete vars (compare at sign a b) s h =
@@ -78,11 +78,11 @@ module _ (declared : List RecordTree) (records : List RecordShape) (alike : Alik
     complete vars (split at l a b) s h =
         deep_then _ _ (list_shape h.0) s (complete vars l (list_shape h.0) h.1) (deep_then _ _ s s (complete vars a s h.2) (deep_then _ _ s s (complete (vars ++ h.0 ∷ list_shape h.0 ∷ []) b s h.3) (deep_node records at _ s (kept_where (same_shape s s) s (same_shape-refl s)))))
     complete vars (nil at n) s h = deep_node records at _ s (ap of_list h.1 ∙ ap Some (sym h.2))
-    complete vars (list_text at es) s h =
+    complete vars (list_expr at es) s h =
         deep_then _ _ (h.0 ∷ h.1) s (all_complete vars es (h.0 ∷ h.1) h.2) (deep_node records at _ s (kept_where (all_same h.0 h.1) (list_shape h.0) (same_each h.0 h.1 h.3) ∙ ap Some (sym h.4)))
     complete vars (cons at a b) s h =
         deep_then _ _ h.0 s (complete vars a h.0 h.1) (deep_then _ _ (list_shape h.0) s (complete vars b (list_shape h.0) h.2) (deep_node records at _ s (kept_where (same_shape h.0 h.0) (list_shape h.0) (same_shape-refl h.0) ∙ ap Some (sym h.3))))
-    complete vars (record_text at r es) s h =
+    complete vars (record_expr at r es) s h =
         let d = shape_at declared records r h.0 alike h.1 in
         let fields = map type_shape (field_types h.0) in
         deep_then _ _ fields s (all_complete vars es fields h.2) (deep_node records at _ s (ap (λ o. of_record o r fields) d.1 ∙ kept_where (same_shapes fields d.0.fields) (record_shape r) (ap (λ fs. same_shapes fields fs) d.2 ∙ same_shapes-refl fields) ∙ ap Some (sym h.3)))

@@ -4,7 +4,7 @@ use Rattle.um_units.specs.PowerMap.{one}
 use Rattle.um_tree.specs.declared.note.UnitNote.TheVariants.{Written}
 use Rattle.um_tree.specs.declared.expression.Arith.TheVariants.{Add}
 use Rattle.um_tree.specs.TypeTree.{TypeTree, num_type, list_type, record_type, NoteTree, bool_note, num_note, list_note, record_note}
-use Rattle.um_tree.specs.ExprTree.{ExprTree, truth, number, local, call, negation, arith as arith_tree, if, split, nil, list_text, none, more}
+use Rattle.um_tree.specs.ExprTree.{ExprTree, truth, number, local, call, not_expr, arith as arith_tree, if, split, nil, list_expr, none, more}
 use Rattle.um_tree.specs.ProgramTree.{RecordTree, FunctionTree, ProgramTree}
 use Rattle.um_tree.proofs.ExamplePrograms.{one_number, sum, squares, weights, make, pick}
 use Rattle.um_shape.specs.FirstFault.{wrong_shape, too_deep, first_fault}
@@ -46,11 +46,11 @@ truth_added : first_fault (constant (arith_tree 10 Add (digit 8) (truth 12 true)
 truth_added = refl
 
 -- let k = match 1 with [] -> not 1 | x :: r -> 1: the part before the arms
-match_of_number : first_fault (constant (split 8 (digit 14) (negation 29 (digit 33)) (digit 45))) ≡ Some (wrong_shape 8)
+match_of_number : first_fault (constant (split 8 (digit 14) (not_expr 29 (digit 33)) (digit 45))) ≡ Some (wrong_shape 8)
 match_of_number = refl
 
 -- let k = match [1] with [] -> not 1 | x :: r -> true: then the first arm
-match_of_list : first_fault (constant (split 8 (list_text 14 (more (digit 15) none)) (negation 29 (digit 33)) (truth 45 true))) ≡ Some (wrong_shape 29)
+match_of_list : first_fault (constant (split 8 (list_expr 14 (more (digit 15) none)) (not_expr 29 (digit 33)) (truth 45 true))) ≡ Some (wrong_shape 29)
 match_of_list = refl
 
 -- n lists of numbers within one another
@@ -59,14 +59,14 @@ lists zero = plain_num
 lists (suc n) = list_note (lists n)
 
 -- let k = [([] : T)], where T is 400 and 399 high
-too_tall : first_fault (constant (list_text 8 (more (nil 9 (lists 399)) none))) ≡ Some (too_deep 8)
+too_tall : first_fault (constant (list_expr 8 (more (nil 9 (lists 399)) none))) ≡ Some (too_deep 8)
 too_tall = refl
 
-tall : first_fault (constant (list_text 8 (more (nil 9 (lists 398)) none))) ≡ None
+tall : first_fault (constant (list_expr 8 (more (nil 9 (lists 398)) none))) ≡ None
 tall = refl
 
 -- the rule is looked at before the height: [([] : T); 1]
-rule_first : first_fault (constant (list_text 8 (more (nil 9 (lists 399)) (more (digit 20) none)))) ≡ Some (wrong_shape 8)
+rule_first : first_fault (constant (list_expr 8 (more (nil 9 (lists 399)) (more (digit 20) none)))) ≡ Some (wrong_shape 8)
 rule_first = refl
 
 -- type R = { a: num list }, as high as 3, in lists
@@ -85,11 +85,11 @@ record_too_tall : first_fault (record { bases = []; records = holder 5 (list_typ
 record_too_tall = refl
 
 -- records are looked at before functions
-records_first : first_fault (record { bases = []; records = holder 5 (list_types 399) ∷ []; functions = function 40 [] None (negation 48 (digit 52)) ∷ [] }) ≡ Some (too_deep 5)
+records_first : first_fault (record { bases = []; records = holder 5 (list_types 399) ∷ []; functions = function 40 [] None (not_expr 48 (digit 52)) ∷ [] }) ≡ Some (too_deep 5)
 records_first = refl
 
 -- let f (x: R list) = not 1, where R is 400 high: the parameter comes before the body
-parameter_first : first_fault (record { bases = []; records = holder 5 (list_types 398) ∷ []; functions = function 40 (list_note (record_note 0 []) ∷ []) None (negation 58 (digit 62)) ∷ [] }) ≡ Some (too_deep 40)
+parameter_first : first_fault (record { bases = []; records = holder 5 (list_types 398) ∷ []; functions = function 40 (list_note (record_note 0 []) ∷ []) None (not_expr 58 (digit 62)) ∷ [] }) ≡ Some (too_deep 40)
 parameter_first = refl
 
 -- let rec f (x: num) : R list = f x, where R is 400 high: the call is the first node

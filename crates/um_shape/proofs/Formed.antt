@@ -2,7 +2,7 @@
 use Rattle.std.proofs.Common.{ℕ, ◌+◌, length, All, Option, Some, None, get_or}
 use Rattle.std.proofs.lemmas.Option.{slice_get-get_or}
 use Rattle.um_tree.specs.TypeTree.{NoteTree}
-use Rattle.um_tree.specs.ExprTree.{ExprTree, ExprTrees, truth, number, local, call, negate, negation, arith, compare, both, either, if, bind, split, nil, list_text, cons, record_text, field, none, more}
+use Rattle.um_tree.specs.ExprTree.{ExprTree, ExprTrees, truth, number, local, call, negate, not_expr, arith, compare, both, either, if, bind, split, nil, list_expr, cons, record_expr, field, none, more}
 use Rattle.um_tree.specs.ProgramTree.{RecordTree, FunctionTree, ProgramTree}
 use Rattle.um_tree.specs.Formed.{IsFormed, IsFormedRecord, IsFormedFunction, ResultFormed, IsFormedIn, AllFormedIn}
 use Rattle.um_shape.specs.LowNotes.{HasLowNotes, HaveLowNotes, HasLowFields, HasLowResult, IsLow}
@@ -16,7 +16,7 @@ module _ (p : ProgramTree) where
       low_notes n (local at k) w = tt
       low_notes n (call at j es) w = have_low_notes n es w.1
       low_notes n (negate at a) w = low_notes n a w
-      low_notes n (negation at a) w = low_notes n a w
+      low_notes n (not_expr at a) w = low_notes n a w
       low_notes n (arith at op a b) w = (low_notes n a w.0, low_notes n b w.1)
       low_notes n (compare at sign a b) w = (low_notes n a w.0, low_notes n b w.1)
       low_notes n (both at a b) w = (low_notes n a w.0, low_notes n b w.1)
@@ -25,9 +25,9 @@ module _ (p : ProgramTree) where
       low_notes n (bind at a b) w = (low_notes n a w.0, low_notes (n + 1) b w.1)
       low_notes n (split at l a b) w = (low_notes n l w.0, low_notes n a w.1, low_notes (n + 2) b w.2)
       low_notes n (nil at note) w = w.1
-      low_notes n (list_text at es) w = have_low_notes n es w.1
+      low_notes n (list_expr at es) w = have_low_notes n es w.1
       low_notes n (cons at a b) w = (low_notes n a w.0, low_notes n b w.1)
-      low_notes n (record_text at r es) w = have_low_notes n es w.1
+      low_notes n (record_expr at r es) w = have_low_notes n es w.1
       low_notes n (field at r k a) w = low_notes n a w.1
 
       have_low_notes : (n : ℕ) (es : ExprTrees) → AllFormedIn p i f n es → HaveLowNotes es

@@ -6,7 +6,7 @@ use Rattle.um_frac.specs.declared.number.Frac.{Frac}
 use Rattle.um_frac.specs.declared.number.Trap.{Trap}
 use Rattle.um_tree.specs.TypeTree.{ShapeTree, bool_shape, num_shape, list_shape, record_shape}
 use Rattle.um_tree.specs.ValueTree.{ValueTree, ValueTrees, truth_value, number_value, list_value, record_value, no_values, more_values, values_in_order}
-use Rattle.um_tree.specs.ExprTree.{ExprTree, ExprTrees, truth, number, local, call, negate, negation, arith as arith_tree, compare, both, either, if, bind, split, nil, list_text, cons, record_text, field, none, more}
+use Rattle.um_tree.specs.ExprTree.{ExprTree, ExprTrees, truth, number, local, call, negate, not_expr, arith as arith_tree, compare, both, either, if, bind, split, nil, list_expr, cons, record_expr, field, none, more}
 use Rattle.um_tree.specs.ProgramTree.{RecordTree, FunctionTree, ProgramTree}
 use Rattle.um_tree.specs.Typing.{field_types}
 use Rattle.um_tree.specs.Shapes.{type_shape, note_shape, ShapeSignature, EachShapeIs, HasShape, AllHaveShapes, CallShapes, ShapeAt, shapes_below, FunctionShape}
@@ -196,7 +196,7 @@ module _ (records : List RecordTree) where
           fine_then (Have h.0) (Has s) b _ _ (all_fine vars es h.0 vs b l h.1 r) (λ ws c k m. fine_calls j (record { params = h.0; result = s }) h.2 ws c (omega (arith, l, m)) k)
       fine vars (negate at x) s vs b l h r =
           at_shape num_shape s b _ h.1 (fine_then (Has num_shape) (Has num_shape) b _ _ (fine vars x num_shape vs b l h.0 r) (λ v c k m. negated_fine v c k))
-      fine vars (negation at x) s vs b l h r =
+      fine vars (not_expr at x) s vs b l h r =
           at_shape bool_shape s b _ h.1 (fine_then (Has bool_shape) (Has bool_shape) b _ _ (fine vars x bool_shape vs b l h.0 r) (λ v c k m. opposite_fine v c k))
       fine vars (arith_tree at op x y) s vs b l h r =
           at_shape num_shape s b _ h.2 (fine_then (Has num_shape) (Has num_shape) b _ _ (fine vars x num_shape vs b l h.0 r) (λ v c k m. fine_then (Has num_shape) (Has num_shape) c _ _ (fine vars y num_shape vs c (omega (arith, l, m)) h.1 r) (λ w d p q. calculated_fine op v w d k p)))
@@ -213,11 +213,11 @@ module _ (records : List RecordTree) where
       fine vars (split at t x y) s vs b l h r =
           fine_then (Has (list_shape h.0)) (Has s) b _ _ (fine vars t (list_shape h.0) vs b l h.1 r) (λ v c k m. list_fine h.0 s v _ _ c k (fine vars x s vs c (omega (arith, l, m)) h.2 r) (λ x0 xs p q. fine (vars ++ h.0 ∷ list_shape h.0 ∷ []) y s (vs ++ x0 ∷ xs ∷ []) c (omega (arith, l, m)) h.3 (have_both vars vs (h.0 ∷ list_shape h.0 ∷ []) (x0 ∷ xs ∷ []) r (p, (q, tt)))))
       fine vars (nil at note) s vs b l h r = ((h.0, tt, h.2), omega arith)
-      fine vars (list_text at es) s vs b l h r =
+      fine vars (list_expr at es) s vs b l h r =
           fine_then (Have (h.0 ∷ h.1)) (Has s) b _ _ (all_fine vars es (h.0 ∷ h.1) vs b l h.2 r) (λ ws c k m. ((h.0, items_have h.0 h.1 ws h.3 k, h.4), omega arith))
       fine vars (cons at x y) s vs b l h r =
           at_shape (list_shape h.0) s b _ h.3 (fine_then (Has h.0) (Has (list_shape h.0)) b _ _ (fine vars x h.0 vs b l h.1 r) (λ v c k m. fine_then (Has (list_shape h.0)) (Has (list_shape h.0)) c _ _ (fine vars y (list_shape h.0) vs c (omega (arith, l, m)) h.2 r) (λ w d p q. longer_fine h.0 v w d k p)))
-      fine vars (record_text at r es) s vs b l h w =
+      fine vars (record_expr at r es) s vs b l h w =
           fine_then (Have (map type_shape (field_types h.0))) (Has s) b _ _ (all_fine vars es (map type_shape (field_types h.0)) vs b l h.2 w) (λ ws c k m. ((h.0, h.1, all_have (map type_shape (field_types h.0)) ws k, h.3), omega arith))
       fine vars (field at r k a) s vs b l h w =
           at_shape (type_shape h.1) s b _ h.5 (fine_then (Has (record_shape r)) (Has (type_shape h.1)) b _ _ (fine vars a (record_shape r) vs b l h.4 w) (λ v c p q. part_fine r k h.0 (type_shape h.1) v c h.2 (slice_get_moved type_shape (field_types h.0) k h.1 h.3) p))

@@ -1,7 +1,7 @@
 -- What is found of an expression is its shape.
 use Rattle.std.proofs.Common.{◌≡◌, refl, sym, ap, subst, ◌∙◌, ℕ, zero, suc, Bool, true, false, cond, nat_le, ◌&&◌, List, [], ◌∷◌, ◌++◌, map, slice_get, Option, Some, None, Result, Ok, Err}
 use Rattle.um_tree.specs.TypeTree.{TypeTree, ShapeTree, bool_shape, num_shape, list_shape, record_shape}
-use Rattle.um_tree.specs.ExprTree.{ExprTree, ExprTrees, truth, number, local, call, negate, negation, arith, compare, both, either, if, bind, split, nil, list_text, cons, record_text, field, none, more}
+use Rattle.um_tree.specs.ExprTree.{ExprTree, ExprTrees, truth, number, local, call, negate, not_expr, arith, compare, both, either, if, bind, split, nil, list_expr, cons, record_expr, field, none, more}
 use Rattle.um_tree.specs.ProgramTree.{RecordTree}
 use Rattle.um_tree.specs.Typing.{field_types}
 use Rattle.um_tree.specs.Shapes.{type_shape, note_shape, ShapeSignature, EachShapeIs, HasShape, AllHaveShapes}
@@ -99,7 +99,7 @@ module _ (declared : List RecordTree) (records : List RecordShape) (alike : Alik
       let same : g ≡ record { params = ss; result = s } = ap (λ x. record { params = x; result = g.result }) (sym (same_shapes-is ss g.params h.0)) ∙ ap (λ x. record { params = ss; result = x }) h.1 in
       (ss, w, subst (calls j) same (called j g k))
 
-  record_is : (vars : List ShapeTree) (at r : ℕ) (es : ExprTrees) (ss : List ShapeTree) (s : ShapeTree) (o : Option RecordShape) → slice_get records r ≡ o → AllHaveShapes declared calls vars es ss → of_record o r ss ≡ Some s → Has vars (record_text at r es) s
+  record_is : (vars : List ShapeTree) (at r : ℕ) (es : ExprTrees) (ss : List ShapeTree) (s : ShapeTree) (o : Option RecordShape) → slice_get records r ≡ o → AllHaveShapes declared calls vars es ss → of_record o r ss ≡ Some s → Has vars (record_expr at r es) s
   record_is vars at r es ss s None k w e = absurd cc
   record_is vars at r es ss s (Some d) k w e =
       let h = where_true_is (same_shapes ss d.fields) (record_shape r) s e in
@@ -116,7 +116,7 @@ module _ (declared : List RecordTree) (records : List RecordShape) (alike : Alik
         (n.0, m.0, n.1, m.1, has_as vars a s (record_shape r) h w, m.2)
     of_record_r false h e = absurd cc
 
-  items_are : (vars : List ShapeTree) (at : ℕ) (es : ExprTrees) (ss : List ShapeTree) (s : ShapeTree) → AllHaveShapes declared calls vars es ss → of_items ss ≡ Some s → Has vars (list_text at es) s
+  items_are : (vars : List ShapeTree) (at : ℕ) (es : ExprTrees) (ss : List ShapeTree) (s : ShapeTree) → AllHaveShapes declared calls vars es ss → of_items ss ≡ Some s → Has vars (list_expr at es) s
   items_are vars at es [] s w e = absurd cc
   items_are vars at es (t ∷ ts) s w e = let h = where_true_is (all_same t ts) (list_shape t) s e in (t, ts, w, all_same-each t ts h.0, sym h.1)
 
@@ -132,7 +132,7 @@ module _ (declared : List RecordTree) (records : List RecordShape) (alike : Alik
         let h = then_ok (found records callees vars a) _ s e in
         let w = where_true_is (same_shape h.0 num_shape) num_shape s (node_ok records at _ s h.2) in
         (has_as vars a h.0 num_shape w.0 (sound vars a h.0 h.1), sym w.1)
-    sound vars (negation at a) s e =
+    sound vars (not_expr at a) s e =
         let h = then_ok (found records callees vars a) _ s e in
         let w = where_true_is (same_shape h.0 bool_shape) bool_shape s (node_ok records at _ s h.2) in
         (has_as vars a h.0 bool_shape w.0 (sound vars a h.0 h.1), sym w.1)
@@ -176,7 +176,7 @@ module _ (declared : List RecordTree) (records : List RecordShape) (alike : Alik
         let w = where_true_is (same_shape m.0 k.0) k.0 s (node_ok records at _ s m.2) in
         (i.0, subst (λ x. Has vars l x) (item_is at h.0 i.0 i.1) (sound vars l h.0 h.1), subst (λ x. Has vars a x) w.1 (sound vars a k.0 k.1), subst (λ x. Has (vars ++ i.0 ∷ list_shape i.0 ∷ []) b x) (same_shape-is m.0 k.0 w.0 ∙ w.1) (sound (vars ++ i.0 ∷ list_shape i.0 ∷ []) b m.0 m.1))
     sound vars (nil at n) s e = let w = of_list_is (note_shape n) s (node_ok records at _ s e) in (w.0, w.1, w.2)
-    sound vars (list_text at es) s e =
+    sound vars (list_expr at es) s e =
         let h = then_ok (all_found records callees vars es) _ s e in
         items_are vars at es h.0 s (all_sound vars es h.0 h.1) (node_ok records at _ s h.2)
     sound vars (cons at a b) s e =
@@ -184,7 +184,7 @@ module _ (declared : List RecordTree) (records : List RecordShape) (alike : Alik
         let k = then_ok (found records callees vars b) _ s h.2 in
         let w = where_true_is (same_shape k.0 (list_shape h.0)) k.0 s (node_ok records at _ s k.2) in
         (h.0, sound vars a h.0 h.1, has_as vars b k.0 (list_shape h.0) w.0 (sound vars b k.0 k.1), sym w.1 ∙ same_shape-is k.0 (list_shape h.0) w.0)
-    sound vars (record_text at r es) s e =
+    sound vars (record_expr at r es) s e =
         let h = then_ok (all_found records callees vars es) _ s e in
         record_is vars at r es h.0 s _ refl (all_sound vars es h.0 h.1) (node_ok records at _ s h.2)
     sound vars (field at r k a) s e =

@@ -1,7 +1,7 @@
 -- An expression has at most one shape, and a function its shapes in one way alone.
 use Rattle.std.proofs.Common.{◌≡◌, sym, subst, ap, ◌∙◌, ℕ, zero, suc, inl, inr, true, false, cond, nat_eq, List, [], ◌∷◌, ◌++◌, Option, Some, None, slice_get, IsSome, arith}
 use Rattle.um_tree.specs.TypeTree.{NoteTree, ShapeTree, list_shape}
-use Rattle.um_tree.specs.ExprTree.{ExprTree, ExprTrees, truth, number, local, call, negate, negation, arith as arith_tree, compare, both, either, if, bind, split, nil, list_text, cons, record_text, field, none, more}
+use Rattle.um_tree.specs.ExprTree.{ExprTree, ExprTrees, truth, number, local, call, negate, not_expr, arith as arith_tree, compare, both, either, if, bind, split, nil, list_expr, cons, record_expr, field, none, more}
 use Rattle.um_tree.specs.ProgramTree.{RecordTree, FunctionTree, ProgramTree}
 use Rattle.um_tree.specs.Typing.{field_types}
 use Rattle.um_tree.specs.Shapes.{type_shape, ShapeSignature, HasShape, AllHaveShapes, EarlierShapes, CallShapes, ResultShape, IsShapeOf, ShapeAt, shapes_below}
@@ -21,7 +21,7 @@ module _ (records : List RecordTree) (calls others : ℕ → ShapeSignature → 
     unique vars (local at i) s t m k = some_same (slice_get vars i) s t m k
     unique vars (call at j es) s t m k = agree j (record { params = m.0; result = s }) (record { params = k.0; result = t }) m.2 k.2 (all_unique vars es m.0 k.0 m.1 k.1)
     unique vars (negate at a) s t m k = m.1 ∙ sym k.1
-    unique vars (negation at a) s t m k = m.1 ∙ sym k.1
+    unique vars (not_expr at a) s t m k = m.1 ∙ sym k.1
     unique vars (arith_tree at op a b) s t m k = m.2 ∙ sym k.2
     unique vars (compare at sign a b) s t m k = m.2 ∙ sym k.2
     unique vars (both at a b) s t m k = m.2 ∙ sym k.2
@@ -32,9 +32,9 @@ module _ (records : List RecordTree) (calls others : ℕ → ShapeSignature → 
         unique (vars ++ m.0 ∷ []) b s t m.2 (subst (λ x. HasShape records others (vars ++ x ∷ []) b t) (sym same) k.2)
     unique vars (split at l a b) s t m k = unique vars a s t m.2 k.2
     unique vars (nil at n) s t m k = m.2 ∙ sym m.1 ∙ k.1 ∙ sym k.2
-    unique vars (list_text at es) s t m k = m.4 ∙ ap list_shape (head_same m.0 k.0 m.1 k.1 (all_unique vars es (m.0 ∷ m.1) (k.0 ∷ k.1) m.2 k.2)) ∙ sym k.4
+    unique vars (list_expr at es) s t m k = m.4 ∙ ap list_shape (head_same m.0 k.0 m.1 k.1 (all_unique vars es (m.0 ∷ m.1) (k.0 ∷ k.1) m.2 k.2)) ∙ sym k.4
     unique vars (cons at a b) s t m k = m.3 ∙ ap list_shape (unique vars a m.0 k.0 m.1 k.1) ∙ sym k.3
-    unique vars (record_text at r es) s t m k = m.3 ∙ sym k.3
+    unique vars (record_expr at r es) s t m k = m.3 ∙ sym k.3
     unique vars (field at r i a) s t m k =
         let same : m.0 ≡ k.0 = some_same (slice_get records r) m.0 k.0 m.2 k.2 in
         let declared : m.1 ≡ k.1 = some_same (slice_get (field_types k.0) i) m.1 k.1 (subst (λ d. slice_get (field_types d) i ≡ Some m.1) same m.3) k.3 in

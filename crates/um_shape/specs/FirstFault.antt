@@ -3,7 +3,7 @@
 -- A recursion on trees: no list of work, nothing looked up that was found before but the shapes of variables and functions.
 use Rattle.std.specs.Prelude.{ℕ, Bool, true, false, cond, ◌&&◌, nat_eq, nat_le, List, [], ◌∷◌, ◌++◌, map, slice_get, Option, Some, None, Result, Ok, Err}
 use Rattle.um_tree.specs.TypeTree.{ShapeTree, bool_shape, num_shape, list_shape, record_shape, NoteTree}
-use Rattle.um_tree.specs.ExprTree.{ExprTree, ExprTrees, truth, number, local, call, negate, negation, arith, compare, both, either, if, bind, split, nil, list_text, cons, record_text, field, none, more}
+use Rattle.um_tree.specs.ExprTree.{ExprTree, ExprTrees, truth, number, local, call, negate, not_expr, arith, compare, both, either, if, bind, split, nil, list_expr, cons, record_expr, field, none, more}
 use Rattle.um_tree.specs.ProgramTree.{RecordTree, FunctionTree, ProgramTree}
 use Rattle.um_tree.specs.Shapes.{note_shape, ShapeSignature}
 use Rattle.um_shape.specs.RecordShapes.{RecordShape, shape_height, tallest, declared_shape}
@@ -107,7 +107,7 @@ module _ (records : List RecordShape) (callees : List ShapeSignature) where
     found vars (local at k) = at_node records at (slice_get vars k)
     found vars (call at j es) = then (all_found vars es) (λ ss. at_node records at (of_call (slice_get callees j) ss))
     found vars (negate at a) = then (found vars a) (λ s. at_node records at (where_true (same_shape s num_shape) num_shape))
-    found vars (negation at a) = then (found vars a) (λ s. at_node records at (where_true (same_shape s bool_shape) bool_shape))
+    found vars (not_expr at a) = then (found vars a) (λ s. at_node records at (where_true (same_shape s bool_shape) bool_shape))
     found vars (arith at op a b) = then (found vars a) (λ s. then (found vars b) (λ t. at_node records at (of_numbers s t num_shape)))
     found vars (compare at sign a b) = then (found vars a) (λ s. then (found vars b) (λ t. at_node records at (of_numbers s t bool_shape)))
     found vars (both at a b) = then (found vars a) (λ s. then (found vars b) (λ t. at_node records at (of_truths s t)))
@@ -117,9 +117,9 @@ module _ (records : List RecordShape) (callees : List ShapeSignature) where
     -- a part that is no list is a fault before the arms are looked at
     found vars (split at l a b) = then (found vars l) (λ r. then (item_of at r) (λ item. then (found vars a) (λ s. then (found (vars ++ item ∷ list_shape item ∷ []) b) (λ t. at_node records at (of_arms s t)))))
     found vars (nil at n) = at_node records at (of_list (note_shape n))
-    found vars (list_text at es) = then (all_found vars es) (λ ss. at_node records at (of_items ss))
+    found vars (list_expr at es) = then (all_found vars es) (λ ss. at_node records at (of_items ss))
     found vars (cons at a b) = then (found vars a) (λ s. then (found vars b) (λ t. at_node records at (of_head s t)))
-    found vars (record_text at r es) = then (all_found vars es) (λ ss. at_node records at (of_record (slice_get records r) r ss))
+    found vars (record_expr at r es) = then (all_found vars es) (λ ss. at_node records at (of_record (slice_get records r) r ss))
     found vars (field at r k a) = then (found vars a) (λ s. at_node records at (of_field (slice_get records r) r k s))
 
     -- expression by expression

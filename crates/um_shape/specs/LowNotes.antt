@@ -4,7 +4,7 @@ use Rattle.std.specs.Prelude.{◌≤◌, All, Option, Some, None}
 use Rattle.um_tree.specs.TypeTree.{NoteTree}
 use Rattle.um_tree.specs.ProgramTree.{RecordTree, FunctionTree}
 use Rattle.um_tree.specs.TreeHeights.{type_tree_height, note_tree_height}
-use Rattle.um_tree.specs.ExprTree.{ExprTree, ExprTrees, truth, number, local, call, negate, negation, arith, compare, both, either, if, bind, split, nil, list_text, cons, record_text, field, none, more}
+use Rattle.um_tree.specs.ExprTree.{ExprTree, ExprTrees, truth, number, local, call, negate, not_expr, arith, compare, both, either, if, bind, split, nil, list_expr, cons, record_expr, field, none, more}
 
 abbrev mutual
   pub HasLowNotes : ExprTree → Type 0
@@ -13,7 +13,7 @@ abbrev mutual
   HasLowNotes (local at k) = Unit {0}
   HasLowNotes (call at j es) = HaveLowNotes es
   HasLowNotes (negate at a) = HasLowNotes a
-  HasLowNotes (negation at a) = HasLowNotes a
+  HasLowNotes (not_expr at a) = HasLowNotes a
   HasLowNotes (arith at op a b) = HasLowNotes a × HasLowNotes b
   HasLowNotes (compare at sign a b) = HasLowNotes a × HasLowNotes b
   HasLowNotes (both at a b) = HasLowNotes a × HasLowNotes b
@@ -22,9 +22,9 @@ abbrev mutual
   HasLowNotes (bind at a b) = HasLowNotes a × HasLowNotes b
   HasLowNotes (split at l a b) = HasLowNotes l × HasLowNotes a × HasLowNotes b
   HasLowNotes (nil at n) = note_tree_height n ≤ 400
-  HasLowNotes (list_text at es) = HaveLowNotes es
+  HasLowNotes (list_expr at es) = HaveLowNotes es
   HasLowNotes (cons at a b) = HasLowNotes a × HasLowNotes b
-  HasLowNotes (record_text at r es) = HaveLowNotes es
+  HasLowNotes (record_expr at r es) = HaveLowNotes es
   HasLowNotes (field at r k a) = HasLowNotes a
 
   pub HaveLowNotes : ExprTrees → Type 0

@@ -2,7 +2,7 @@
 -- and how many calls may stand inside one another is no matter above the budget.
 use Rattle.std.proofs.Common.{◌≡◌, refl, ap, length, subst, ℕ, zero, suc, ◌<◌, ◌≤◌, true, false, cond, nat_eq, List, [], ◌∷◌, ◌++◌, Option, Some, None, Result, Ok, Err, slice_get, arith}
 use Rattle.um_tree.specs.ValueTree.{ValueTree, truth_value, number_value, list_value, record_value, no_values, more_values}
-use Rattle.um_tree.specs.ExprTree.{ExprTree, ExprTrees, truth, number, local, call, negate, negation, arith as arith_tree, compare, both, either, if, bind, split, nil, list_text, cons, record_text, field, none, more}
+use Rattle.um_tree.specs.ExprTree.{ExprTree, ExprTrees, truth, number, local, call, negate, not_expr, arith as arith_tree, compare, both, either, if, bind, split, nil, list_expr, cons, record_expr, field, none, more}
 use Rattle.um_tree.specs.ProgramTree.{FunctionTree}
 use Rattle.um_tree.specs.Meaning.{Out, gives, stops, Stop, wrong, then, Calling, spend, found, with_budget, calculated, compared, negated, opposite, longer, part_of, choose, on_list, means, all_mean, body_means, running, Means, AllMean, Outcome}
 
@@ -53,7 +53,7 @@ module _ (calling : Calling) (low : (j : ℕ) (vs : List ValueTree) (b : ℕ) �
     within (local at k) vars b = within_found (slice_get vars k) b
     within (call at j es) vars b = within_then b _ _ (within_all es vars b) (λ vs c. low j vs c)
     within (negate at x) vars b = within_then b _ _ (within x vars b) (λ v c. within_result (negated v) c)
-    within (negation at x) vars b = within_then b _ _ (within x vars b) (λ v c. within_result (opposite v) c)
+    within (not_expr at x) vars b = within_then b _ _ (within x vars b) (λ v c. within_result (opposite v) c)
     within (arith_tree at op x y) vars b = within_then b _ _ (within x vars b) (λ v c. within_then c _ _ (within y vars c) (λ w d. within_result (calculated op v w) d))
     within (compare at sign x y) vars b = within_then b _ _ (within x vars b) (λ v c. within_then c _ _ (within y vars c) (λ w d. within_result (compared sign v w) d))
     within (both at x y) vars b = within_then b _ _ (within x vars b) (λ v c. within_choose v _ _ c (within y vars c) (omega arith))
@@ -62,9 +62,9 @@ module _ (calling : Calling) (low : (j : ℕ) (vs : List ValueTree) (b : ℕ) �
     within (bind at x y) vars b = within_then b _ _ (within x vars b) (λ v c. within y (vars ++ v ∷ []) c)
     within (split at l x y) vars b = within_then b _ _ (within l vars b) (λ v c. within_list v _ _ c (within x vars c) (λ h t. within y (vars ++ h ∷ t ∷ []) c))
     within (nil at n) vars b = omega arith
-    within (list_text at es) vars b = within_then b _ _ (within_all es vars b) (λ vs c. omega arith)
+    within (list_expr at es) vars b = within_then b _ _ (within_all es vars b) (λ vs c. omega arith)
     within (cons at x y) vars b = within_then b _ _ (within x vars b) (λ v c. within_then c _ _ (within y vars c) (λ w d. within_result (longer v w) d))
-    within (record_text at r es) vars b = within_then b _ _ (within_all es vars b) (λ vs c. omega arith)
+    within (record_expr at r es) vars b = within_then b _ _ (within_all es vars b) (λ vs c. omega arith)
     within (field at r k x) vars b = within_then b _ _ (within x vars b) (λ v c. within_result (part_of r k v) c)
 
     pub within_all : (es : ExprTrees) (vars : List ValueTree) (b : ℕ) → Within b (all_mean calling es vars b)
@@ -125,7 +125,7 @@ module _ (calling other : Calling) (low : (j : ℕ) (vs : List ValueTree) (b : �
     agree (local at k) vars b h = refl
     agree (call at j es) vars b h = then_agree b _ _ _ _ (within_all calling low es vars b) (agree_all es vars b h) (λ vs c k. same j vs c (omega arith))
     agree (negate at x) vars b h = then_agree b _ _ _ _ (within calling low x vars b) (agree x vars b h) (λ v c k. refl)
-    agree (negation at x) vars b h = then_agree b _ _ _ _ (within calling low x vars b) (agree x vars b h) (λ v c k. refl)
+    agree (not_expr at x) vars b h = then_agree b _ _ _ _ (within calling low x vars b) (agree x vars b h) (λ v c k. refl)
     agree (arith_tree at op x y) vars b h = then_agree b _ _ _ _ (within calling low x vars b) (agree x vars b h) (λ v c k. then_agree c _ _ _ _ (within calling low y vars c) (agree y vars c (omega arith)) (λ w d k. refl))
     agree (compare at sign x y) vars b h = then_agree b _ _ _ _ (within calling low x vars b) (agree x vars b h) (λ v c k. then_agree c _ _ _ _ (within calling low y vars c) (agree y vars c (omega arith)) (λ w d k. refl))
     agree (both at x y) vars b h = then_agree b _ _ _ _ (within calling low x vars b) (agree x vars b h) (λ v c k. choose_agree v _ _ _ _ c (agree y vars c (omega arith)) refl)
@@ -134,9 +134,9 @@ module _ (calling other : Calling) (low : (j : ℕ) (vs : List ValueTree) (b : �
     agree (bind at x y) vars b h = then_agree b _ _ _ _ (within calling low x vars b) (agree x vars b h) (λ v c k. agree y (vars ++ v ∷ []) c (omega arith))
     agree (split at l x y) vars b h = then_agree b _ _ _ _ (within calling low l vars b) (agree l vars b h) (λ v c k. list_agree v _ _ _ _ c (agree x vars c (omega arith)) (λ x0 xs. agree y (vars ++ x0 ∷ xs ∷ []) c (omega arith)))
     agree (nil at m) vars b h = refl
-    agree (list_text at es) vars b h = then_agree b _ _ _ _ (within_all calling low es vars b) (agree_all es vars b h) (λ vs c k. refl)
+    agree (list_expr at es) vars b h = then_agree b _ _ _ _ (within_all calling low es vars b) (agree_all es vars b h) (λ vs c k. refl)
     agree (cons at x y) vars b h = then_agree b _ _ _ _ (within calling low x vars b) (agree x vars b h) (λ v c k. then_agree c _ _ _ _ (within calling low y vars c) (agree y vars c (omega arith)) (λ w d k. refl))
-    agree (record_text at r es) vars b h = then_agree b _ _ _ _ (within_all calling low es vars b) (agree_all es vars b h) (λ vs c k. refl)
+    agree (record_expr at r es) vars b h = then_agree b _ _ _ _ (within_all calling low es vars b) (agree_all es vars b h) (λ vs c k. refl)
     agree (field at r m x) vars b h = then_agree b _ _ _ _ (within calling low x vars b) (agree x vars b h) (λ v c k. refl)
 
     agree_all : (es : ExprTrees) (vars : List ValueTree) (b : ℕ) → b ≤ n → all_mean calling es vars b ≡ all_mean other es vars b

@@ -3,7 +3,7 @@ use Rattle.std.proofs.Common.{◌≡◌, refl, ap, ◌∙◌, length, ℕ, zero,
 use Rattle.um_frac.specs.declared.number.Frac.{Frac}
 use Rattle.um_tree.specs.TypeTree.{NoteTree}
 use Rattle.um_tree.specs.ValueTree.{ValueTree, truth_value, number_value, list_value, record_value, no_values, values_in_order}
-use Rattle.um_tree.specs.ExprTree.{ExprTree, ExprTrees, truth, number, local, call, negate, negation, arith as arith_tree, compare, both, either, if, bind, split, nil, list_text, cons, record_text, field, none, more}
+use Rattle.um_tree.specs.ExprTree.{ExprTree, ExprTrees, truth, number, local, call, negate, not_expr, arith as arith_tree, compare, both, either, if, bind, split, nil, list_expr, cons, record_expr, field, none, more}
 use Rattle.um_tree.specs.ProgramTree.{FunctionTree}
 use Rattle.um_tree.specs.Meaning.{gives, stops, budget_end, wrong, then, spend, found, with_budget, calculated, compared, negated, opposite, longer, part_of, choose, on_list, means, all_mean, body_means, running, Means, AllMean, Outcome}
 use Rattle.um_tree.specs.declared.note.UnitNote.{UnitNote}
@@ -42,9 +42,9 @@ module _ (fs : List FunctionTree) (vars : List ValueTree) where
   unfolding Means
   Means-negate at x b = refl
 
-  pub Means-negation : (at : ℕ) (x : ExprTree) (b : ℕ) → Means fs vars (negation at x) b ≡ then (Means fs vars x b) (λ v c. with_budget (opposite v) c)
+  pub Means-not : (at : ℕ) (x : ExprTree) (b : ℕ) → Means fs vars (not_expr at x) b ≡ then (Means fs vars x b) (λ v c. with_budget (opposite v) c)
   unfolding Means
-  Means-negation at x b = refl
+  Means-not at x b = refl
 
   pub Means-arith : (at : ℕ) (op : Arith) (x y : ExprTree) (b : ℕ) → Means fs vars (arith_tree at op x y) b ≡ then (Means fs vars x b) (λ v c. then (Means fs vars y c) (λ w d. with_budget (calculated op v w) d))
   unfolding Means
@@ -74,7 +74,7 @@ module _ (fs : List FunctionTree) (vars : List ValueTree) where
   unfolding Means
   Means-split at l x y b = then_agree b _ _ _ _ (own l b) refl (λ v c k. list_agree v _ _ _ _ c (means_at fs (suc b) x vars c (omega arith)) (λ h t. means_at fs (suc b) y (vars ++ h ∷ t ∷ []) c (omega arith)))
 
-  pub Means-list : (at : ℕ) (es : ExprTrees) (b : ℕ) → Means fs vars (list_text at es) b ≡ then (AllMean fs vars es b) (λ vs c. gives (list_value (values_in_order vs)) c)
+  pub Means-list : (at : ℕ) (es : ExprTrees) (b : ℕ) → Means fs vars (list_expr at es) b ≡ then (AllMean fs vars es b) (λ vs c. gives (list_value (values_in_order vs)) c)
   unfolding Means AllMean
   Means-list at es b = refl
 
@@ -82,7 +82,7 @@ module _ (fs : List FunctionTree) (vars : List ValueTree) where
   unfolding Means
   Means-cons at x y b = then_agree b _ _ _ _ (own x b) refl (λ v c k. ap (λ o. then o (λ w d. with_budget (longer v w) d)) (means_at fs (suc b) y vars c (omega arith)))
 
-  pub Means-record : (at r : ℕ) (es : ExprTrees) (b : ℕ) → Means fs vars (record_text at r es) b ≡ then (AllMean fs vars es b) (λ vs c. gives (record_value r (values_in_order vs)) c)
+  pub Means-record : (at r : ℕ) (es : ExprTrees) (b : ℕ) → Means fs vars (record_expr at r es) b ≡ then (AllMean fs vars es b) (λ vs c. gives (record_value r (values_in_order vs)) c)
   unfolding Means AllMean
   Means-record at r es b = refl
 
@@ -115,4 +115,4 @@ unfolding Outcome
 Outcome-other_count fs j vs f b e t =
     ap (λ o. body_means (running fs b) o vs b) e ∙ ap (λ t. cond t (spend b (means (running fs b) f.body vs)) (stops wrong)) t
 
-pub ruleset meaning_equations = (Means-truth, Means-number, Means-local, Means-call, Means-negate, Means-negation, Means-arith, Means-compare, Means-both, Means-either, Means-if, Means-bind, Means-split, Means-nil, Means-list, Means-cons, Means-record, Means-field, AllMean-none, AllMean-more)
+pub ruleset meaning_equations = (Means-truth, Means-number, Means-local, Means-call, Means-negate, Means-not, Means-arith, Means-compare, Means-both, Means-either, Means-if, Means-bind, Means-split, Means-nil, Means-list, Means-cons, Means-record, Means-field, AllMean-none, AllMean-more)

@@ -9,7 +9,7 @@ use Rattle.um_tree.specs.declared.note.UnitNote.TheVariants.{Hole, Written}
 use Rattle.um_tree.specs.declared.expression.Arith.TheVariants.{Add, Sub, Mul}
 use Rattle.um_tree.specs.declared.expression.Sign.TheVariants.{Lt}
 use Rattle.um_tree.specs.TypeTree.{num_type, NoteTree, bool_note, num_note, list_note, record_note}
-use Rattle.um_tree.specs.ExprTree.{ExprTree, number, local, call, arith as arith_tree, compare, if, split, record_text, none, more}
+use Rattle.um_tree.specs.ExprTree.{ExprTree, number, local, call, arith as arith_tree, compare, if, split, record_expr, none, more}
 use Rattle.um_tree.specs.ProgramTree.{RecordTree, FunctionTree, ProgramTree}
 
 -- a small whole number
@@ -93,7 +93,7 @@ marked = record { name = []; at = 0; units = 1; fields = record { name = []; typ
 
 -- let mk = { x = 1 }
 abbrev pub make : ProgramTree
-make = record { bases = []; records = marked ∷ []; functions = plain [] (record_text 0 0 (more (number 0 one_number (Written one)) none)) ∷ [] }
+make = record { bases = []; records = marked ∷ []; functions = plain [] (record_expr 0 0 (more (number 0 one_number (Written one)) none)) ∷ [] }
 
 -- let pick (b: bool) (p: V<m>) (q: V<s>) = if b then p else q
 abbrev pub pick : ProgramTree

@@ -14,7 +14,7 @@ use Rattle.um_units.proofs.Replacement.{replace-one, replace-mul, replace-inv, r
 use Rattle.um_tree.specs.declared.note.UnitNote.TheVariants.{Hole, Written}
 use Rattle.um_tree.specs.declared.expression.Arith.TheVariants.{Add, Mul, Div}
 use Rattle.um_tree.specs.TypeTree.{TypeTree, num_type, list_type, record_type, num_note, list_note, record_note}
-use Rattle.um_tree.specs.ExprTree.{number, local, call, arith as arith_tree, split, record_text, field, none, more}
+use Rattle.um_tree.specs.ExprTree.{number, local, call, arith as arith_tree, split, record_expr, field, none, more}
 use Rattle.um_tree.specs.ProgramTree.{RecordTree, ProgramTree}
 use Rattle.um_tree.specs.ValueTree.{ValueTree, ValueTrees, number_value, list_value, record_value, no_values, more_values, values_in_order}
 use Rattle.um_tree.specs.Meaning.{Out, gives, Outcome}
@@ -70,7 +70,7 @@ vehicle = record {
       }
       ∷ plain (num_note (Written foot) ∷ []) (arith_tree 0 Mul (local 0 0) (number 0 feet_to_metres (Written (per metre foot))))
       ∷ plain (record_note 0 (Hole ∷ []) ∷ num_note (Written second) ∷ [])
-      (record_text 0 0 (more (arith_tree 0 Add (field 0 0 0 (local 0 0)) (arith_tree 0 Mul (field 0 0 1 (local 0 0)) (local 0 1))) (more (field 0 0 1 (local 0 0)) none)))
+      (record_expr 0 0 (more (arith_tree 0 Add (field 0 0 0 (local 0 0)) (arith_tree 0 Mul (field 0 0 1 (local 0 0)) (local 0 1))) (more (field 0 0 1 (local 0 0)) none)))
       ∷ [];
 }
 

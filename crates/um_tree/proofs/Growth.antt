@@ -1,7 +1,7 @@
 -- A budget that sufficed suffices when it grows: the value stays, and the rest grows by as much.
 use Rattle.std.proofs.Common.{◌≡◌, refl, ap, sym, length, subst, ℕ, zero, suc, ◌+◌, true, false, cond, nat_eq, List, [], ◌∷◌, ◌++◌, Option, Some, None, Result, Ok, Err, slice_get, arith}
 use Rattle.um_tree.specs.ValueTree.{ValueTree, truth_value, number_value, list_value, record_value, no_values, more_values}
-use Rattle.um_tree.specs.ExprTree.{ExprTree, ExprTrees, truth, number, local, call, negate, negation, arith as arith_tree, compare, both, either, if, bind, split, nil, list_text, cons, record_text, field, none, more}
+use Rattle.um_tree.specs.ExprTree.{ExprTree, ExprTrees, truth, number, local, call, negate, not_expr, arith as arith_tree, compare, both, either, if, bind, split, nil, list_expr, cons, record_expr, field, none, more}
 use Rattle.um_tree.specs.ProgramTree.{FunctionTree}
 use Rattle.um_tree.specs.Meaning.{Out, gives, stops, Stop, trap, budget_end, wrong, then, Calling, spend, found, with_budget, calculated, compared, negated, opposite, longer, part_of, choose, on_list, means, all_mean, body_means, running, Means, Outcome}
 use Rattle.um_tree.proofs.Budget.{means_at, running_agree}
@@ -57,7 +57,7 @@ module _ (d : ℕ) (calling : Calling) (grows : (j : ℕ) (vs : List ValueTree) 
     grown (local at k) vars b = grown_found d (slice_get vars k) b
     grown (call at j es) vars b = grown_then d _ _ _ (grown_all es vars b) (λ vs c. grows j vs c)
     grown (negate at x) vars b = grown_then d _ _ _ (grown x vars b) (λ v c. grown_result d (negated v) c)
-    grown (negation at x) vars b = grown_then d _ _ _ (grown x vars b) (λ v c. grown_result d (opposite v) c)
+    grown (not_expr at x) vars b = grown_then d _ _ _ (grown x vars b) (λ v c. grown_result d (opposite v) c)
     grown (arith_tree at op x y) vars b = grown_then d _ _ _ (grown x vars b) (λ v c. grown_then d _ _ _ (grown y vars c) (λ w e. grown_result d (calculated op v w) e))
     grown (compare at sign x y) vars b = grown_then d _ _ _ (grown x vars b) (λ v c. grown_then d _ _ _ (grown y vars c) (λ w e. grown_result d (compared sign v w) e))
     grown (both at x y) vars b = grown_then d _ _ _ (grown x vars b) (λ v c. grown_choose d v _ _ c (grown y vars c) refl)
@@ -66,9 +66,9 @@ module _ (d : ℕ) (calling : Calling) (grows : (j : ℕ) (vs : List ValueTree) 
     grown (bind at x y) vars b = grown_then d _ _ _ (grown x vars b) (λ v c. grown y (vars ++ v ∷ []) c)
     grown (split at l x y) vars b = grown_then d _ _ _ (grown l vars b) (λ v c. grown_list d v _ _ c (grown x vars c) (λ h t. grown y (vars ++ h ∷ t ∷ []) c))
     grown (nil at n) vars b = refl
-    grown (list_text at es) vars b = grown_then d _ _ _ (grown_all es vars b) (λ vs c. refl)
+    grown (list_expr at es) vars b = grown_then d _ _ _ (grown_all es vars b) (λ vs c. refl)
     grown (cons at x y) vars b = grown_then d _ _ _ (grown x vars b) (λ v c. grown_then d _ _ _ (grown y vars c) (λ w e. grown_result d (longer v w) e))
-    grown (record_text at r es) vars b = grown_then d _ _ _ (grown_all es vars b) (λ vs c. refl)
+    grown (record_expr at r es) vars b = grown_then d _ _ _ (grown_all es vars b) (λ vs c. refl)
     grown (field at r k x) vars b = grown_then d _ _ _ (grown x vars b) (λ v c. grown_result d (part_of r k v) c)
 
     grown_all : (es : ExprTrees) (vars : List ValueTree) (b : ℕ) → Grown d (all_mean calling es vars b) (all_mean calling es vars (b + d))

@@ -10,7 +10,7 @@ use Rattle.um_tree.specs.declared.note.UnitNote.TheVariants.{Hole, Written}
 use Rattle.um_tree.specs.declared.expression.Arith.{Arith}
 use Rattle.um_tree.specs.declared.expression.Arith.TheVariants.{Add, Sub, Mul, Div}
 use Rattle.um_tree.specs.TypeTree.{TypeTree, bool_type, num_type, list_type, record_type, NoteTree, bool_note, num_note, list_note, record_note}
-use Rattle.um_tree.specs.ExprTree.{ExprTree, ExprTrees, truth, number, local, call, negate, negation, arith as arith_tree, compare, both, either, if, bind, split, nil, list_text, cons, record_text, field, none, more}
+use Rattle.um_tree.specs.ExprTree.{ExprTree, ExprTrees, truth, number, local, call, negate, not_expr, arith as arith_tree, compare, both, either, if, bind, split, nil, list_expr, cons, record_expr, field, none, more}
 use Rattle.um_tree.specs.ProgramTree.{RecordTree, FunctionTree, ProgramTree, Signature}
 use Rattle.um_tree.specs.Typing.{put, unit_at, UnitMatches, UnitsMatch, Matches, TypesMatch, ResultMatches, ArithUnit, LiteralUnit, EachIs, field_types, IsRecordAt, Typed, AllTyped, Earlier, Calls, IsTypingOf, TypingAt, typings_below, Typing}
 use Rattle.um_tree.specs.Laws.{UnitNoteHas, NoteHas, TypeHas, ExprHas, ExprsHave, ResultHas, FunctionHas, ProgramHas, moved, moved_signature, IsHomomorphism, Leaves}
@@ -116,7 +116,7 @@ module _ (h : PowerMap → PowerMap) (h-mul : IsHomomorphism h) where
         typed vars (local at k) t w m = slice_get_moved (moved h) vars k t m
         typed vars (call at j es) t w m = (map (moved h) m.0, all_typed vars es m.0 w m.1, change j _ m.2)
         typed vars (negate at a) t w m = (h m.0, typed vars a _ w m.1, ap (moved h) m.2)
-        typed vars (negation at a) t w m = (typed vars a bool_type w m.0, ap (moved h) m.1)
+        typed vars (not_expr at a) t w m = (typed vars a bool_type w m.0, ap (moved h) m.1)
         typed vars (arith_tree at op a b) t w m = (h m.0, h m.1, h m.2, typed vars a _ w.0 m.3, typed vars b _ w.1 m.4, arith_unit op m.0 m.1 m.2 m.5, ap (moved h) m.6)
         typed vars (compare at sign a b) t w m = (h m.0, typed vars a _ w.0 m.1, typed vars b _ w.1 m.2, ap (moved h) m.3)
         typed vars (both at a b) t w m = (typed vars a bool_type w.0 m.0, typed vars b bool_type w.1 m.1, ap (moved h) m.2)
@@ -125,9 +125,9 @@ module _ (h : PowerMap → PowerMap) (h-mul : IsHomomorphism h) where
         typed vars (bind at a b) t w m = (moved h m.0, typed vars a m.0 w.0 m.1, wider vars (m.0 ∷ []) b _ (typed (vars ++ m.0 ∷ []) b t w.1 m.2))
         typed vars (split at l a b) t w m = (moved h m.0, typed vars l _ w.0 m.1, typed vars a t w.1 m.2, wider vars (m.0 ∷ list_type m.0 ∷ []) b _ (typed (vars ++ m.0 ∷ list_type m.0 ∷ []) b t w.2 m.3))
         typed vars (nil at n) t w m = (moved h m.0, matches choice n (list_type m.0) w m.1, ap (moved h) m.2)
-        typed vars (list_text at es) t w m = (moved h m.0, map (moved h) m.1, all_typed vars es _ w m.2, each_is m.0 m.1 m.3, ap (moved h) m.4)
+        typed vars (list_expr at es) t w m = (moved h m.0, map (moved h) m.1, all_typed vars es _ w m.2, each_is m.0 m.1 m.3, ap (moved h) m.4)
         typed vars (cons at a b) t w m = (moved h m.0, typed vars a m.0 w.0 m.1, typed vars b _ w.1 m.2, ap (moved h) m.3)
-        typed vars (record_text at r es) t w m =
+        typed vars (record_expr at r es) t w m =
             let fields = all_field_types m.0 (field_types m.1) (fields_left r m.0 m.1 m.2) in
             (map h m.0, m.1, record_at r m.0 m.1 m.2, subst (AllTyped records calls' (λ k. h (choice k)) (map (moved h) vars) es) fields (all_typed vars es _ w m.3), ap (moved h) m.4)
         typed vars (field at r k a) t w m =

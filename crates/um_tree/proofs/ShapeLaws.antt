@@ -3,7 +3,7 @@ use Rattle.std.proofs.Common.{◌≡◌, refl, sym, ap, subst, ◌∙◌, ℕ, z
 use Rattle.std.proofs.lemmas.List.{map-append}
 use Rattle.um_units.specs.PowerMap.{PowerMap}
 use Rattle.um_tree.specs.TypeTree.{TypeTree, bool_type, num_type, list_type, record_type, NoteTree, bool_note, num_note, list_note, record_note, ShapeTree, list_shape}
-use Rattle.um_tree.specs.ExprTree.{ExprTree, ExprTrees, truth, number, local, call, negate, negation, arith as arith_tree, compare, both, either, if, bind, split, nil, list_text, cons, record_text, field, none, more}
+use Rattle.um_tree.specs.ExprTree.{ExprTree, ExprTrees, truth, number, local, call, negate, not_expr, arith as arith_tree, compare, both, either, if, bind, split, nil, list_expr, cons, record_expr, field, none, more}
 use Rattle.um_tree.specs.ProgramTree.{RecordTree, FunctionTree, ProgramTree, Signature}
 use Rattle.um_tree.specs.Typing.{put, unit_at, Matches, TypesMatch, ResultMatches, EachIs, field_types, Typed, AllTyped, Earlier, Calls, IsTypingOf, TypingAt, typings_below}
 use Rattle.um_tree.specs.Shapes.{type_shape, note_shape, ShapeSignature, EachShapeIs, HasShape, AllHaveShapes, EarlierShapes, CallShapes, ResultShape, IsShapeOf, ShapeAt, shapes_below}
@@ -51,7 +51,7 @@ module _ (records : List RecordTree) (calls : ℕ → Signature → Type 0) (sha
     has_shape vars (local at k) t m = slice_get_moved type_shape vars k t m
     has_shape vars (call at j es) t m = (map type_shape m.0, all_have vars es m.0 m.1, change j _ m.2)
     has_shape vars (negate at a) t m = (has_shape vars a _ m.1, ap type_shape m.2)
-    has_shape vars (negation at a) t m = (has_shape vars a _ m.0, ap type_shape m.1)
+    has_shape vars (not_expr at a) t m = (has_shape vars a _ m.0, ap type_shape m.1)
     has_shape vars (arith_tree at op a b) t m = (has_shape vars a _ m.3, has_shape vars b _ m.4, ap type_shape m.6)
     has_shape vars (compare at sign a b) t m = (has_shape vars a _ m.1, has_shape vars b _ m.2, ap type_shape m.3)
     has_shape vars (both at a b) t m = (has_shape vars a _ m.0, has_shape vars b _ m.1, ap type_shape m.2)
@@ -60,9 +60,9 @@ module _ (records : List RecordTree) (calls : ℕ → Signature → Type 0) (sha
     has_shape vars (bind at a b) t m = (type_shape m.0, has_shape vars a m.0 m.1, wider vars (m.0 ∷ []) b _ (has_shape (vars ++ m.0 ∷ []) b t m.2))
     has_shape vars (split at l a b) t m = (type_shape m.0, has_shape vars l _ m.1, has_shape vars a t m.2, wider vars (m.0 ∷ list_type m.0 ∷ []) b _ (has_shape (vars ++ m.0 ∷ list_type m.0 ∷ []) b t m.3))
     has_shape vars (nil at n) t m = (type_shape m.0, sym (shape-matches choice n (list_type m.0) m.1), ap type_shape m.2)
-    has_shape vars (list_text at es) t m = (type_shape m.0, map type_shape m.1, all_have vars es _ m.2, each-shape m.0 m.1 m.3, ap type_shape m.4)
+    has_shape vars (list_expr at es) t m = (type_shape m.0, map type_shape m.1, all_have vars es _ m.2, each-shape m.0 m.1 m.3, ap type_shape m.4)
     has_shape vars (cons at a b) t m = (type_shape m.0, has_shape vars a m.0 m.1, has_shape vars b _ m.2, ap type_shape m.3)
-    has_shape vars (record_text at r es) t m =
+    has_shape vars (record_expr at r es) t m =
         (m.1, m.2.declared, subst (AllHaveShapes records shapes (map type_shape vars) es) (shapes-put (unit_at m.0) (field_types m.1)) (all_have vars es _ m.3), ap type_shape m.4)
     has_shape vars (field at r k a) t m = (m.1, m.2, m.3.declared, m.4, has_shape vars a _ m.5, ap type_shape m.6 ∙ shape-put (unit_at m.0) m.2)
 

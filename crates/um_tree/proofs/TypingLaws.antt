@@ -5,7 +5,7 @@ use Rattle.um_units.proofs.Replacement.{replace-mul, replace-base, replace-close
 use Rattle.um_tree.specs.declared.note.UnitNote.{UnitNote}
 use Rattle.um_tree.specs.declared.note.UnitNote.TheVariants.{Hole, Written}
 use Rattle.um_tree.specs.TypeTree.{TypeTree, bool_type, num_type, list_type, record_type, NoteTree, bool_note, num_note, list_note, record_note}
-use Rattle.um_tree.specs.ExprTree.{ExprTree, ExprTrees, truth, number, local, call, negate, negation, arith as arith_tree, compare, both, either, if, bind, split, nil, list_text, cons, record_text, field, none, more}
+use Rattle.um_tree.specs.ExprTree.{ExprTree, ExprTrees, truth, number, local, call, negate, not_expr, arith as arith_tree, compare, both, either, if, bind, split, nil, list_expr, cons, record_expr, field, none, more}
 use Rattle.um_tree.specs.ProgramTree.{FunctionTree, ProgramTree, Signature}
 use Rattle.um_tree.specs.Typing.{put, put_signature, field_types, Typing}
 use Rattle.um_tree.specs.Laws.{UnitNoteHas, NoteHas, TypeHas, ExprHas, ExprsHave, ResultHas, FunctionHas, ProgramHas, moved, moved_signature, Leaves, TypedIn, ReplacementsKeepTypings, HomomorphismsKeepTypings, SumHasOneUnit, DifferenceHasOneUnit, ComparisonHasOneUnit, ZeroHasEveryUnit, NumberHasItsUnit}
@@ -36,7 +36,7 @@ module _ (Has : PowerMap → Type 0) (has : (u : PowerMap) → Has u) where
     expr_has (local at k) = tt
     expr_has (call at j es) = exprs_have es
     expr_has (negate at a) = expr_has a
-    expr_has (negation at a) = expr_has a
+    expr_has (not_expr at a) = expr_has a
     expr_has (arith_tree at op a b) = (expr_has a, expr_has b)
     expr_has (compare at sign a b) = (expr_has a, expr_has b)
     expr_has (both at a b) = (expr_has a, expr_has b)
@@ -45,9 +45,9 @@ module _ (Has : PowerMap → Type 0) (has : (u : PowerMap) → Has u) where
     expr_has (bind at a b) = (expr_has a, expr_has b)
     expr_has (split at l a b) = (expr_has l, expr_has a, expr_has b)
     expr_has (nil at n) = note_has n
-    expr_has (list_text at es) = exprs_have es
+    expr_has (list_expr at es) = exprs_have es
     expr_has (cons at a b) = (expr_has a, expr_has b)
-    expr_has (record_text at r es) = exprs_have es
+    expr_has (record_expr at r es) = exprs_have es
     expr_has (field at r k a) = expr_has a
 
     exprs_have : (es : ExprTrees) → ExprsHave Has es

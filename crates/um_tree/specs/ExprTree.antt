@@ -21,7 +21,7 @@ mutual
     -- a call of the function of this number
     call : ℕ → ℕ → ExprTrees → ExprTree
     negate : ℕ → ExprTree → ExprTree
-    negation : ℕ → ExprTree → ExprTree
+    not_expr : ℕ → ExprTree → ExprTree
     arith : ℕ → Arith → ExprTree → ExprTree → ExprTree
     compare : ℕ → Sign → ExprTree → ExprTree → ExprTree
     both : ℕ → ExprTree → ExprTree → ExprTree
@@ -34,10 +34,10 @@ mutual
     split : ℕ → ExprTree → ExprTree → ExprTree → ExprTree
     -- the empty list of a written type
     nil : ℕ → NoteTree → ExprTree
-    list_text : ℕ → ExprTrees → ExprTree
+    list_expr : ℕ → ExprTrees → ExprTree
     cons : ℕ → ExprTree → ExprTree → ExprTree
     -- a value of the record of this number, field by field
-    record_text : ℕ → ℕ → ExprTrees → ExprTree
+    record_expr : ℕ → ℕ → ExprTrees → ExprTree
     -- the field of the second number, of a value of the record of the first
     field : ℕ → ℕ → ℕ → ExprTree → ExprTree
 
@@ -55,7 +55,7 @@ node_tree (Node-F.Num c n) at = number at c n
 node_tree (Node-F.Local k) at = local at k
 node_tree (Node-F.Call f es) at = call at f es
 node_tree (Node-F.Neg a) at = negate at a.value
-node_tree (Node-F.Not a) at = negation at a.value
+node_tree (Node-F.Not a) at = not_expr at a.value
 node_tree (Node-F.Arith op a b) at = arith at op a.value b.value
 node_tree (Node-F.Compare s a b) at = compare at s a.value b.value
 node_tree (Node-F.And a b) at = both at a.value b.value
@@ -64,9 +64,9 @@ node_tree (Node-F.If c a b) at = if at c.value a.value b.value
 node_tree (Node-F.Let a b) at = bind at a.value b.value
 node_tree (Node-F.Match l a b) at = split at l.value a.value b.value
 node_tree (Node-F.Nil n) at = nil at (note_tree n)
-node_tree (Node-F.List es) at = list_text at es
+node_tree (Node-F.List es) at = list_expr at es
 node_tree (Node-F.Cons a b) at = cons at a.value b.value
-node_tree (Node-F.Rec r es) at = record_text at r es
+node_tree (Node-F.Rec r es) at = record_expr at r es
 node_tree (Node-F.Field r k a) at = field at r k a.value
 
 abbrev pub placed_tree : Expr-F (ℕ → ExprTree) ExprTree ExprTrees → ExprTree

@@ -12,7 +12,7 @@ use Rattle.um_frac.specs.Fraction.{numerator}
 use Rattle.um_tree.specs.declared.note.UnitNote.{UnitNote}
 use Rattle.um_tree.specs.declared.note.UnitNote.TheVariants.{Hole, Written}
 use Rattle.um_tree.specs.TypeTree.{TypeTree, bool_type, num_type, list_type, record_type, NoteTree, bool_note, num_note, list_note, record_note}
-use Rattle.um_tree.specs.ExprTree.{ExprTree, ExprTrees, truth, number, local, call, negate, negation, arith, compare, both, either, if, bind, split, nil, list_text, cons, record_text, field, none, more}
+use Rattle.um_tree.specs.ExprTree.{ExprTree, ExprTrees, truth, number, local, call, negate, not_expr, arith, compare, both, either, if, bind, split, nil, list_expr, cons, record_expr, field, none, more}
 use Rattle.um_tree.specs.ValueTree.{InputTree, InputTrees, truth_input, number_input, list_input, record_input, no_inputs, more_inputs}
 use Rattle.um_tree.specs.ProgramTree.{RecordTree, FunctionTree, ProgramTree}
 use Rattle.um_tree.specs.TreeHeights.{type_tree_height, note_tree_height, tree_height, tree_nodes}
@@ -119,7 +119,7 @@ module _ (p : ProgramTree) (i : ℕ) (f : FunctionTree) where
     IsFormedIn n (local at k) = k < n
     IsFormedIn n (call at j es) = MayCall p i f.recursive j (count es) × AllFormedIn n es
     IsFormedIn n (negate at a) = IsFormedIn n a
-    IsFormedIn n (negation at a) = IsFormedIn n a
+    IsFormedIn n (not_expr at a) = IsFormedIn n a
     IsFormedIn n (arith at op a b) = IsFormedIn n a × IsFormedIn n b
     IsFormedIn n (compare at sign a b) = IsFormedIn n a × IsFormedIn n b
     IsFormedIn n (both at a b) = IsFormedIn n a × IsFormedIn n b
@@ -128,9 +128,9 @@ module _ (p : ProgramTree) (i : ℕ) (f : FunctionTree) where
     IsFormedIn n (bind at a b) = IsFormedIn n a × IsFormedIn (n + 1) b
     IsFormedIn n (split at l a b) = IsFormedIn n l × IsFormedIn n a × IsFormedIn (n + 2) b
     IsFormedIn n (nil at note) = IsNoteTreeIn (length p.bases) f.named p.records note × (note_tree_height note ≤ 400)
-    IsFormedIn n (list_text at es) = (0 < count es) × AllFormedIn n es
+    IsFormedIn n (list_expr at es) = (0 < count es) × AllFormedIn n es
     IsFormedIn n (cons at a b) = IsFormedIn n a × IsFormedIn n b
-    IsFormedIn n (record_text at r es) = HasFields p r (count es) × AllFormedIn n es
+    IsFormedIn n (record_expr at r es) = HasFields p r (count es) × AllFormedIn n es
     IsFormedIn n (field at r k a) = HasField p r k × IsFormedIn n a
 
     pub AllFormedIn : ℕ → ExprTrees → Type 0

@@ -14,7 +14,7 @@ use Rattle.um_tree.specs.declared.expression.Arith.{Arith}
 use Rattle.um_tree.specs.declared.expression.Arith.TheVariants.{Add, Sub}
 use Rattle.um_tree.specs.declared.expression.Sign.{Sign}
 use Rattle.um_tree.specs.TypeTree.{TypeTree, bool_type, num_type, list_type, record_type, NoteTree, bool_note, num_note, list_note, record_note}
-use Rattle.um_tree.specs.ExprTree.{ExprTree, ExprTrees, truth, number, local, call, negate, negation, arith, compare, both, either, if, bind, split, nil, list_text, cons, record_text, field, none, more}
+use Rattle.um_tree.specs.ExprTree.{ExprTree, ExprTrees, truth, number, local, call, negate, not_expr, arith, compare, both, either, if, bind, split, nil, list_expr, cons, record_expr, field, none, more}
 use Rattle.um_tree.specs.ValueTree.{ValueTree}
 use Rattle.um_tree.specs.ProgramTree.{FunctionTree, ProgramTree, Signature}
 use Rattle.um_tree.specs.Typing.{put_signature, field_types, Typed, Calls, typings_below, Typing}
@@ -49,7 +49,7 @@ module _ (Has : PowerMap → Type 0) where
     ExprHas (local at k) = Unit {0}
     ExprHas (call at j es) = ExprsHave es
     ExprHas (negate at a) = ExprHas a
-    ExprHas (negation at a) = ExprHas a
+    ExprHas (not_expr at a) = ExprHas a
     ExprHas (arith at op a b) = ExprHas a × ExprHas b
     ExprHas (compare at sign a b) = ExprHas a × ExprHas b
     ExprHas (both at a b) = ExprHas a × ExprHas b
@@ -58,9 +58,9 @@ module _ (Has : PowerMap → Type 0) where
     ExprHas (bind at a b) = ExprHas a × ExprHas b
     ExprHas (split at l a b) = ExprHas l × ExprHas a × ExprHas b
     ExprHas (nil at n) = NoteHas n
-    ExprHas (list_text at es) = ExprsHave es
+    ExprHas (list_expr at es) = ExprsHave es
     ExprHas (cons at a b) = ExprHas a × ExprHas b
-    ExprHas (record_text at r es) = ExprsHave es
+    ExprHas (record_expr at r es) = ExprsHave es
     ExprHas (field at r k a) = ExprHas a
 
     pub ExprsHave : ExprTrees → Type 0

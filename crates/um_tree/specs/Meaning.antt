@@ -6,7 +6,7 @@ use Rattle.um_frac.specs.declared.number.Frac.{Frac}
 use Rattle.um_frac.specs.declared.number.Trap.{Trap}
 use Rattle.um_frac.specs.Arithmetic.{sum_of, difference_of, product_of, quotient_of, negation_of, is_less, is_same}
 use Rattle.um_tree.specs.ValueTree.{ValueTree, ValueTrees, truth_value, number_value, list_value, record_value, no_values, more_values, values_in_order, OutcomeTree, value_outcome, trap_outcome, budget_outcome}
-use Rattle.um_tree.specs.ExprTree.{ExprTree, ExprTrees, truth, number, local, call, negate, negation, arith, compare, both, either, if, bind, split, nil, list_text, cons, record_text, field, none, more}
+use Rattle.um_tree.specs.ExprTree.{ExprTree, ExprTrees, truth, number, local, call, negate, not_expr, arith, compare, both, either, if, bind, split, nil, list_expr, cons, record_expr, field, none, more}
 use Rattle.um_tree.specs.ProgramTree.{FunctionTree, ProgramTree}
 use Rattle.um_tree.specs.declared.expression.Arith.{Arith}
 use Rattle.um_tree.specs.declared.expression.Arith.TheVariants.{Add, Sub, Mul, Div}
@@ -112,7 +112,7 @@ module _ (calling : Calling) where
     means (local at k) vars b = found (slice_get vars k) b
     means (call at j es) vars b = then (all_mean es vars b) (calling j)
     means (negate at x) vars b = then (means x vars b) (λ v c. with_budget (negated v) c)
-    means (negation at x) vars b = then (means x vars b) (λ v c. with_budget (opposite v) c)
+    means (not_expr at x) vars b = then (means x vars b) (λ v c. with_budget (opposite v) c)
     means (arith at op x y) vars b = then (means x vars b) (λ v c. then (means y vars c) (λ w d. with_budget (calculated op v w) d))
     means (compare at sign x y) vars b = then (means x vars b) (λ v c. then (means y vars c) (λ w d. with_budget (compared sign v w) d))
     means (both at x y) vars b = then (means x vars b) (λ v c. choose v (means y vars) (gives (truth_value false)) c)
@@ -121,9 +121,9 @@ module _ (calling : Calling) where
     means (bind at x y) vars b = then (means x vars b) (λ v c. means y (vars ++ v ∷ []) c)
     means (split at l x y) vars b = then (means l vars b) (λ v c. on_list v (means x vars) (λ h t. means y (vars ++ h ∷ t ∷ [])) c)
     means (nil at n) vars b = gives (list_value no_values) b
-    means (list_text at es) vars b = then (all_mean es vars b) (λ vs c. gives (list_value (values_in_order vs)) c)
+    means (list_expr at es) vars b = then (all_mean es vars b) (λ vs c. gives (list_value (values_in_order vs)) c)
     means (cons at x y) vars b = then (means x vars b) (λ v c. then (means y vars c) (λ w d. with_budget (longer v w) d))
-    means (record_text at r es) vars b = then (all_mean es vars b) (λ vs c. gives (record_value r (values_in_order vs)) c)
+    means (record_expr at r es) vars b = then (all_mean es vars b) (λ vs c. gives (record_value r (values_in_order vs)) c)
     means (field at r k x) vars b = then (means x vars b) (λ v c. with_budget (part_of r k v) c)
 
     -- expression by expression

@@ -3,7 +3,7 @@
 -- Nothing is found or computed here; an expression has at most one shape.
 use Rattle.std.specs.Prelude.{◌≡◌, ℕ, zero, suc, ◌<◌, ◌⊎◌, cond, nat_eq, List, [], ◌∷◌, ◌++◌, map, slice_get, Option, Some, None}
 use Rattle.um_tree.specs.TypeTree.{TypeTree, bool_type, num_type, list_type, record_type, NoteTree, bool_note, num_note, list_note, record_note, ShapeTree, bool_shape, num_shape, list_shape, record_shape}
-use Rattle.um_tree.specs.ExprTree.{ExprTree, ExprTrees, truth, number, local, call, negate, negation, arith, compare, both, either, if, bind, split, nil, list_text, cons, record_text, field, none, more}
+use Rattle.um_tree.specs.ExprTree.{ExprTree, ExprTrees, truth, number, local, call, negate, not_expr, arith, compare, both, either, if, bind, split, nil, list_expr, cons, record_expr, field, none, more}
 use Rattle.um_tree.specs.ProgramTree.{RecordTree, FunctionTree, ProgramTree}
 use Rattle.um_tree.specs.Typing.{field_types, MayRecur}
 
@@ -39,7 +39,7 @@ module _ (records : List RecordTree) (calls : ℕ → ShapeSignature → Type 0)
     HasShape vars (local at k) s = slice_get vars k ≡ Some s
     HasShape vars (call at j es) s = (ss : List ShapeTree) × AllHaveShapes vars es ss × calls j (record { params = ss; result = s })
     HasShape vars (negate at a) s = HasShape vars a num_shape × (s ≡ num_shape)
-    HasShape vars (negation at a) s = HasShape vars a bool_shape × (s ≡ bool_shape)
+    HasShape vars (not_expr at a) s = HasShape vars a bool_shape × (s ≡ bool_shape)
     HasShape vars (arith at op a b) s = HasShape vars a num_shape × HasShape vars b num_shape × (s ≡ num_shape)
     HasShape vars (compare at sign a b) s = HasShape vars a num_shape × HasShape vars b num_shape × (s ≡ bool_shape)
     HasShape vars (both at a b) s = HasShape vars a bool_shape × HasShape vars b bool_shape × (s ≡ bool_shape)
@@ -48,9 +48,9 @@ module _ (records : List RecordTree) (calls : ℕ → ShapeSignature → Type 0)
     HasShape vars (bind at a b) s = (t : ShapeTree) × HasShape vars a t × HasShape (vars ++ t ∷ []) b s
     HasShape vars (split at l a b) s = (t : ShapeTree) × HasShape vars l (list_shape t) × HasShape vars a s × HasShape (vars ++ t ∷ list_shape t ∷ []) b s
     HasShape vars (nil at n) s = (t : ShapeTree) × (note_shape n ≡ list_shape t) × (s ≡ list_shape t)
-    HasShape vars (list_text at es) s = (t : ShapeTree) × (rest : List ShapeTree) × AllHaveShapes vars es (t ∷ rest) × EachShapeIs t rest × (s ≡ list_shape t)
+    HasShape vars (list_expr at es) s = (t : ShapeTree) × (rest : List ShapeTree) × AllHaveShapes vars es (t ∷ rest) × EachShapeIs t rest × (s ≡ list_shape t)
     HasShape vars (cons at a b) s = (t : ShapeTree) × HasShape vars a t × HasShape vars b (list_shape t) × (s ≡ list_shape t)
-    HasShape vars (record_text at r es) s = (d : RecordTree) × (slice_get records r ≡ Some d) × AllHaveShapes vars es (map type_shape (field_types d)) × (s ≡ record_shape r)
+    HasShape vars (record_expr at r es) s = (d : RecordTree) × (slice_get records r ≡ Some d) × AllHaveShapes vars es (map type_shape (field_types d)) × (s ≡ record_shape r)
     HasShape vars (field at r k a) s = (d : RecordTree) × (declared : TypeTree) × (slice_get records r ≡ Some d) × (slice_get (field_types d) k ≡ Some declared) × HasShape vars a (record_shape r) × (s ≡ type_shape declared)
 
     -- expression by expression

@@ -2,7 +2,7 @@
 -- Source: this project's own limits.
 use Rattle.std.specs.Prelude.{ℕ, ◌+◌, max}
 use Rattle.um_tree.specs.TypeTree.{TypeTree, bool_type, num_type, list_type, record_type, NoteTree, bool_note, num_note, list_note, record_note}
-use Rattle.um_tree.specs.ExprTree.{ExprTree, ExprTrees, truth, number, local, call, negate, negation, arith, compare, both, either, if, bind, split, nil, list_text, cons, record_text, field, none, more}
+use Rattle.um_tree.specs.ExprTree.{ExprTree, ExprTrees, truth, number, local, call, negate, not_expr, arith, compare, both, either, if, bind, split, nil, list_expr, cons, record_expr, field, none, more}
 
 abbrev pub type_tree_height : TypeTree → ℕ
 type_tree_height bool_type = 1
@@ -23,7 +23,7 @@ abbrev mutual
   tree_height (local at k) = 1
   tree_height (call at j es) = tallest_tree es + 1
   tree_height (negate at a) = tree_height a + 1
-  tree_height (negation at a) = tree_height a + 1
+  tree_height (not_expr at a) = tree_height a + 1
   tree_height (arith at op a b) = max (tree_height a) (tree_height b) + 1
   tree_height (compare at sign a b) = max (tree_height a) (tree_height b) + 1
   tree_height (both at a b) = max (tree_height a) (tree_height b) + 1
@@ -32,9 +32,9 @@ abbrev mutual
   tree_height (bind at a b) = max (tree_height a) (tree_height b) + 1
   tree_height (split at l a b) = max (tree_height l) (max (tree_height a) (tree_height b)) + 1
   tree_height (nil at n) = 3
-  tree_height (list_text at es) = tallest_tree es + 1
+  tree_height (list_expr at es) = tallest_tree es + 1
   tree_height (cons at a b) = max (tree_height a) (tree_height b) + 1
-  tree_height (record_text at r es) = tallest_tree es + 1
+  tree_height (record_expr at r es) = tallest_tree es + 1
   tree_height (field at r k a) = tree_height a + 1
 
   pub tallest_tree : ExprTrees → ℕ
@@ -48,7 +48,7 @@ abbrev mutual
   tree_nodes (local at k) = 1
   tree_nodes (call at j es) = all_tree_nodes es + 1
   tree_nodes (negate at a) = tree_nodes a + 1
-  tree_nodes (negation at a) = tree_nodes a + 1
+  tree_nodes (not_expr at a) = tree_nodes a + 1
   tree_nodes (arith at op a b) = tree_nodes a + tree_nodes b + 1
   tree_nodes (compare at sign a b) = tree_nodes a + tree_nodes b + 1
   tree_nodes (both at a b) = tree_nodes a + tree_nodes b + 1
@@ -57,9 +57,9 @@ abbrev mutual
   tree_nodes (bind at a b) = tree_nodes a + tree_nodes b + 1
   tree_nodes (split at l a b) = tree_nodes l + tree_nodes a + tree_nodes b + 1
   tree_nodes (nil at n) = 1
-  tree_nodes (list_text at es) = all_tree_nodes es + 1
+  tree_nodes (list_expr at es) = all_tree_nodes es + 1
   tree_nodes (cons at a b) = tree_nodes a + tree_nodes b + 1
-  tree_nodes (record_text at r es) = all_tree_nodes es + 1
+  tree_nodes (record_expr at r es) = all_tree_nodes es + 1
   tree_nodes (field at r k a) = tree_nodes a + 1
 
   pub all_tree_nodes : ExprTrees → ℕ

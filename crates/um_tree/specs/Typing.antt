@@ -7,7 +7,7 @@ use Rattle.um_units.specs.PowerMap.{PowerMap, one, mul, inv, replace}
 use Rattle.um_frac.specs.declared.number.Frac.{Frac}
 use Rattle.um_frac.specs.Fraction.{numerator}
 use Rattle.um_tree.specs.TypeTree.{TypeTree, bool_type, num_type, list_type, record_type, NoteTree, bool_note, num_note, list_note, record_note}
-use Rattle.um_tree.specs.ExprTree.{ExprTree, ExprTrees, truth, number, local, call, negate, negation, arith, compare, both, either, if, bind, split, nil, list_text, cons, record_text, field, none, more}
+use Rattle.um_tree.specs.ExprTree.{ExprTree, ExprTrees, truth, number, local, call, negate, not_expr, arith, compare, both, either, if, bind, split, nil, list_expr, cons, record_expr, field, none, more}
 use Rattle.um_tree.specs.ProgramTree.{RecordTree, FunctionTree, ProgramTree, Signature}
 use Rattle.um_tree.specs.declared.note.UnitNote.{UnitNote}
 use Rattle.um_tree.specs.declared.note.UnitNote.TheVariants.{Hole, Written}
@@ -90,7 +90,7 @@ module _ (records : List RecordTree) (calls : ℕ → Signature → Type 0) (cho
     Typed vars (local at k) t = slice_get vars k ≡ Some t
     Typed vars (call at j es) t = (ts : List TypeTree) × AllTyped vars es ts × calls j (record { params = ts; result = t })
     Typed vars (negate at a) t = (u : PowerMap) × Typed vars a (num_type u) × (t ≡ num_type u)
-    Typed vars (negation at a) t = Typed vars a bool_type × (t ≡ bool_type)
+    Typed vars (not_expr at a) t = Typed vars a bool_type × (t ≡ bool_type)
     Typed vars (arith at op a b) t = (u v w : PowerMap) × Typed vars a (num_type u) × Typed vars b (num_type v) × ArithUnit op u v w × (t ≡ num_type w)
     Typed vars (compare at sign a b) t = (u : PowerMap) × Typed vars a (num_type u) × Typed vars b (num_type u) × (t ≡ bool_type)
     Typed vars (both at a b) t = Typed vars a bool_type × Typed vars b bool_type × (t ≡ bool_type)
@@ -99,9 +99,9 @@ module _ (records : List RecordTree) (calls : ℕ → Signature → Type 0) (cho
     Typed vars (bind at a b) t = (s : TypeTree) × Typed vars a s × Typed (vars ++ s ∷ []) b t
     Typed vars (split at l a b) t = (s : TypeTree) × Typed vars l (list_type s) × Typed vars a t × Typed (vars ++ s ∷ list_type s ∷ []) b t
     Typed vars (nil at n) t = (s : TypeTree) × Matches choice n (list_type s) × (t ≡ list_type s)
-    Typed vars (list_text at es) t = (s : TypeTree) × (rest : List TypeTree) × AllTyped vars es (s ∷ rest) × EachIs s rest × (t ≡ list_type s)
+    Typed vars (list_expr at es) t = (s : TypeTree) × (rest : List TypeTree) × AllTyped vars es (s ∷ rest) × EachIs s rest × (t ≡ list_type s)
     Typed vars (cons at a b) t = (s : TypeTree) × Typed vars a s × Typed vars b (list_type s) × (t ≡ list_type s)
-    Typed vars (record_text at r es) t = (us : List PowerMap) × (d : RecordTree) × IsRecordAt records r us d × AllTyped vars es (map (put (unit_at us)) (field_types d)) × (t ≡ record_type r us)
+    Typed vars (record_expr at r es) t = (us : List PowerMap) × (d : RecordTree) × IsRecordAt records r us d × AllTyped vars es (map (put (unit_at us)) (field_types d)) × (t ≡ record_type r us)
     Typed vars (field at r k a) t = (us : List PowerMap) × (d : RecordTree) × (declared : TypeTree) × IsRecordAt records r us d × (slice_get (field_types d) k ≡ Some declared) × Typed vars a (record_type r us) × (t ≡ put (unit_at us) declared)
 
     -- expression by expression
