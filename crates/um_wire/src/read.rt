@@ -71,8 +71,8 @@ pub fn read_text<S: Source>(
 /// most `limit`.
 ///
 /// It answers `TooLong` exactly where byte `limit + 1` was read, and `Failed` only where the source
-/// counted a fault; after any other answer it counted none. After either, the taker has taken a prefix of the bytes that were left. It is
-/// given at most `limit` bytes. Each turn takes a byte or is the last, so the call returns.
+/// counted a fault; after any other answer it counted none. After either, the taker has taken a prefix
+/// of the bytes that were left. It is given at most `limit` bytes. Each turn takes a byte or is the last, so the call returns.
 pub fn read_into<S: Source, T: Taker>(
     source: &mut S,
     limit: usize,
