@@ -1,7 +1,6 @@
 -- The meaning of every node, by computation: what it gives, in which order its parts are looked at, and which part's trap
 -- or end of the budget it takes.
 use Rattle.std.proofs.Common.{◌≡◌, refl, ℕ, ◌≤◌, true, false, List, [], ◌∷◌, pos, negsuc, arith}
-use Rattle.std.proofs.lemmas.Int.{ints}
 use Rattle.um_frac.specs.Gcd.{gcd}
 use Rattle.um_frac.specs.Fraction.{fraction, divided, reduced}
 use Rattle.um_frac.specs.Arithmetic.{sum_of, difference_of, product_of, quotient_of, negation_of}
@@ -12,11 +11,11 @@ use Rattle.um_tree.specs.declared.expression.Arith.TheVariants.{Add, Sub, Mul, D
 use Rattle.um_tree.specs.declared.expression.Sign.{Sign}
 use Rattle.um_tree.specs.declared.expression.Sign.TheVariants.{Lt, Le, Eq, Gt, Ge, Ne}
 use Rattle.um_tree.specs.TypeTree.{num_note, list_note}
-use Rattle.um_tree.specs.ExprTree.{ExprTree, truth, number, local, call, negate, not_expr, arith as arith_tree, compare, both, either, if, bind, split, nil, list_expr, cons, record_expr, field, none, more, in_order}
+use Rattle.um_tree.specs.ExprTree.{ExprTree, truth, number, local, call, negate, not_expr, arith as arith_tree, compare, both, either, if, bind, split, nil, list_expr, cons, record_expr, field, none, more}
 use Rattle.um_tree.specs.ProgramTree.{FunctionTree}
 use Rattle.um_tree.specs.Meaning.{Means}
 use Rattle.um_tree.proofs.ExamplePrograms.{whole, plain}
-use Rattle.um_tree.proofs.ExampleShown.{Plain, Shown, value_shown, trap_shown, end_shown, wrong_shown, plain_truth, fraction_of, plain_list, plain_record, number_shown, whole_number, in_plain_order, shown, number_of}
+use Rattle.um_tree.proofs.ExampleShown.{Plain, Shown, value_shown, trap_shown, end_shown, wrong_shown, plain_truth, plain_list, plain_record, number_shown, whole_number, in_plain_order, shown, number_of}
 
 -- let same (x: num<_>) = x, let first (x: num<_>) (y: num<_>) = x, and let second (x: num<_>) (y: num<_>) = y
 abbrev functions : List FunctionTree

@@ -1,12 +1,12 @@
 -- How calls of small programs end, by computation.
-use Rattle.std.proofs.Common.{◌≡◌, refl, ℕ, ◌≤◌, [], ◌∷◌, ℤ, pos, arith}
+use Rattle.std.proofs.Common.{◌≡◌, refl, [], ◌∷◌, pos, arith}
 use Rattle.std.proofs.lemmas.Int.{ints}
 use Rattle.um_frac.specs.declared.number.Frac.{Frac}
 use Rattle.um_frac.specs.Gcd.{gcd}
-use Rattle.um_frac.specs.Fraction.{numerator, denominator, fraction, divided, reduced}
+use Rattle.um_frac.specs.Fraction.{fraction, divided, reduced}
 use Rattle.um_frac.specs.Arithmetic.{sum_of, difference_of, product_of}
 use Rattle.um_tree.specs.ValueTree.{ValueTree, number_value, list_value, no_values, more_values}
-use Rattle.um_tree.specs.Meaning.{Out, gives, stops, budget_end, Outcome}
+use Rattle.um_tree.specs.Meaning.{Outcome}
 use Rattle.um_tree.proofs.ExamplePrograms.{one_number, area, zeros, squares, sum}
 use Rattle.um_tree.proofs.ExampleShown.{number_shown, end_shown, shown, number_of}
 

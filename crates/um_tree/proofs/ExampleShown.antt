@@ -1,6 +1,5 @@
 -- What a meaning gives, as it can be compared by computation.
-use Rattle.std.proofs.Common.{◌≡◌, ℕ, ◌≤◌, Bool, List, [], ◌∷◌, ℤ, pos}
-use Rattle.um_frac.specs.declared.number.Frac.{Frac}
+use Rattle.std.proofs.Common.{ℕ, ◌≤◌, Bool, List, [], ◌∷◌, ℤ, pos}
 use Rattle.um_frac.specs.declared.number.Trap.{Trap}
 use Rattle.um_frac.specs.Fraction.{numerator, denominator}
 use Rattle.um_tree.specs.ValueTree.{ValueTree, ValueTrees, truth_value, number_value, list_value, record_value, no_values, more_values}

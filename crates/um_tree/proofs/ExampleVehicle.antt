@@ -1,10 +1,10 @@
 -- A realistic program, on which the definitions are tried: a small vehicle model.
 -- Each function has the type that is expected at every unit, and an instance of another is refused; and its calls end as expected.
-use Rattle.std.proofs.Common.{◌≡◌, refl, sym, ap, subst, ◌∙◌, inl, inr, ℕ, false, List, [], ◌∷◌, ℤ, pos, Some, arith}
+use Rattle.std.proofs.Common.{◌≡◌, refl, sym, ap, subst, ◌∙◌, inl, inr, ℕ, false, List, [], ◌∷◌, pos, Some, arith}
 use Rattle.std.proofs.lemmas.Int.{ints}
 use Rattle.um_frac.specs.declared.number.Frac.{Frac}
 use Rattle.um_frac.specs.Gcd.{gcd}
-use Rattle.um_frac.specs.Fraction.{numerator, denominator, fraction, divided, reduced}
+use Rattle.um_frac.specs.Fraction.{fraction, divided, reduced}
 use Rattle.um_frac.specs.Arithmetic.{sum_of, product_of, quotient_of}
 use Rattle.um_units.specs.declared.Atom.TheVariants.{Base}
 use Rattle.um_units.specs.PowerMap.{PowerMap, product, one, atom, mul, inv, replace}
@@ -16,8 +16,8 @@ use Rattle.um_tree.specs.declared.expression.Arith.TheVariants.{Add, Mul, Div}
 use Rattle.um_tree.specs.TypeTree.{TypeTree, num_type, list_type, record_type, num_note, list_note, record_note}
 use Rattle.um_tree.specs.ExprTree.{number, local, call, arith as arith_tree, split, record_expr, field, none, more}
 use Rattle.um_tree.specs.ProgramTree.{RecordTree, ProgramTree}
-use Rattle.um_tree.specs.ValueTree.{ValueTree, ValueTrees, number_value, list_value, record_value, no_values, more_values, values_in_order}
-use Rattle.um_tree.specs.Meaning.{Out, gives, Outcome}
+use Rattle.um_tree.specs.ValueTree.{ValueTree, list_value, record_value, values_in_order}
+use Rattle.um_tree.specs.Meaning.{Outcome}
 use Rattle.um_tree.specs.Typing.{unit_at, Typing}
 use Rattle.um_tree.proofs.ExamplePrograms.{whole, zero_number, one_number, metre, second, kilogram, plain, rec_function}
 use Rattle.um_tree.proofs.ExampleTypings.{signature, variable, same_number, same_some, apart, metre_apart, same_item}
