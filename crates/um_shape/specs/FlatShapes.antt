@@ -1,14 +1,17 @@
 -- The shapes that the code keeps: so many lists round an item.
 -- Source: this project's own.
-use Rattle.std.specs.Prelude.{ℕ, zero, suc, List, map}
+use Rattle.std.specs.Prelude.{ℕ, zero, suc, List, map, Result}
 use Rattle.um_tree.specs.TypeTree.{ShapeTree, bool_shape, num_shape, list_shape, record_shape}
 use Rattle.um_tree.specs.Shapes.{ShapeSignature}
+use Rattle.um_tree.specs.ExprTree.{ExprTree, ExprTrees}
 use Rattle.um_shape.specs.declared.flat.Item.{Item}
 use Rattle.um_shape.specs.declared.flat.Item.TheVariants as item
 use Rattle.um_shape.specs.declared.flat.FlatShape.{FlatShape}
 use Rattle.um_shape.specs.declared.known.KnownRecord.{KnownRecord}
 use Rattle.um_shape.specs.declared.known.Head.{Head}
+use Rattle.um_shape.specs.declared.known.Known.{Known}
 use Rattle.um_shape.specs.RecordShapes.{RecordShape}
+use Rattle.um_shape.specs.FirstFault.{ShapeFault, found, all_found}
 
 abbrev pub item_shape : Item → ShapeTree
 item_shape item.Bool = bool_shape
@@ -37,3 +40,12 @@ head_shapes h = record { params = flat_shapes h.params.items; result = flat_shap
 
 abbrev pub heads_shapes : List Head → List ShapeSignature
 heads_shapes hs = map head_shapes hs
+
+-- what is found of an expression, and of some, with what is known and in this scope
+abbrev pub known_found : Known → List FlatShape → ExprTree → Result ShapeTree ShapeFault
+known_found known scope e =
+    found (known_records known.records.items) (heads_shapes known.heads.items) (flat_shapes scope) e
+
+abbrev pub all_known_found : Known → List FlatShape → ExprTrees → Result (List ShapeTree) ShapeFault
+all_known_found known scope es =
+    all_found (known_records known.records.items) (heads_shapes known.heads.items) (flat_shapes scope) es
