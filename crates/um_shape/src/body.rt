@@ -77,7 +77,8 @@ fn asked_shape(
     requires low { HasLowNotes (expr_tree a.now) }
     ensures found { IsFound result
         (then (known_found known.now scope.old.items (expr_tree a.now))
-        (λ s. at_node (known_records known.now.records.items) at (where_true (same_shape s (flat_shape asked)) (flat_shape asked)))) }
+        (λ s. at_node (known_records known.now.records.items) at
+        (where_true (same_shape s (flat_shape asked)) (flat_shape asked)))) }
     ensures scope { IfOk result (λ _. scope.new.items ≡ scope.old.items) }
 {
     let part = shape_of(alloc, known, scope, a)?;

@@ -1,13 +1,8 @@
-use Rattle.std.proofs.Common.{◌≡◌, ◌<◌, ◌+◌, length, sym, ap, subst, ◌∙◌, [], ◌∷◌, ◌++◌, Ok, arith, rules}
-use Rattle.std.proofs.lemmas.List.{append_assoc}
+use Rattle.std.proofs.Common.{◌≡◌, ◌<◌, ◌+◌, length, sym, ap, subst, [], ◌∷◌, ◌++◌, arith, rules}
 use denote.Param.Weighed.{at_most}
-use Rattle.um_tree.specs.ExprTree.{expr_tree, bind, split}
-use Rattle.um_tree.specs.declared.expression.Expr.{the_lemmas}
 use Rattle.um_tree.proofs.expression.Expr.TheLaws.{the_size}
-use Rattle.um_shape.specs.FlatShapes.{flat_shape, flat_shapes, known_records, heads_shapes}
-use Rattle.um_shape.specs.FirstFault.{at_node, found}
-use Rattle.um_shape.specs.Stops.{IsFound}
-use Rattle.um_shape.proofs.AllFound.{IsLeft, left_first, low_at, left_stops, left_next, left_last, bind_found, split_found}
+use Rattle.um_shape.specs.FlatShapes.{known_records, heads_shapes}
+use Rattle.um_shape.proofs.AllFound.{IsLeft, left_first, low_at, left_stops, left_next, left_last}
 use Rattle.um_shape.proofs.body.+body.Goals as goal
 
 pub shapes_of-loop-i-init : goal.shapes_of-loop-i-init
