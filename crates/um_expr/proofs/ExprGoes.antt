@@ -7,15 +7,15 @@ use Rattle.um_tree.specs.declared.expression.Arith.TheVariants as arith_sign
 use Rattle.um_types.specs.NoteMachine.{NoteState, NeedNote, HaveHole, InUnit, NoNote, note_least}
 use Rattle.um_types.specs.TypeMachine.{TypeState, NeedType, HaveType, NoType, type_least}
 use Rattle.um_types.specs.TypeMachine.{InNote as InTypeNote}
-use Rattle.um_expr.specs.declared.mark.Infix.{Infix}
-use Rattle.um_expr.specs.declared.mark.Infix.TheVariants as between
-use Rattle.um_expr.specs.declared.part.Part.{Part}
-use Rattle.um_expr.specs.declared.hand.Step.TheVariants as step
+use Rattle.um_expr.specs.declared.infix.Infix.{Infix}
+use Rattle.um_expr.specs.declared.infix.Infix.TheVariants as between
+use Rattle.um_expr.specs.declared.operand.Operand.{Operand}
+use Rattle.um_expr.specs.declared.focus.Step.TheVariants as step
 use Rattle.um_expr.specs.Ranks.{infix_rank, left_limit}
-use Rattle.um_expr.specs.ExprParts.{part_expr}
+use Rattle.um_expr.specs.ExprOperands.{operand_expr}
 use Rattle.um_expr.specs.ExprMachine.{Frame, own_rank, plug, top_bound, State, Have, InNote, InType, Refused, reduce, infix_after, greater_after, whole, finish, note_goes, type_goes}
 use Rattle.um_expr.specs.ExprLeast.{notes_side, notes_over, whole_least}
-use Rattle.um_expr.specs.ExprStates.{Gives}
+use Rattle.um_expr.specs.ExprStates.{Simulates}
 
 -- frames that are ended up to a lower rank first are ended alike
 reduce_twice : (limit : ℕ) (frames now : List Frame) (t u : ExprSyntax) → limit ≤ 9 → Have now u ≡ reduce limit frames t → reduce 9 now u ≡ reduce 9 frames t
@@ -73,24 +73,24 @@ limit_low (between.Arith arith_sign.Mul) = omega arith
 limit_low (between.Arith arith_sign.Div) = omega arith
 
 -- a sign that may not stand here
-pub sign_refused : (sign : Infix) (at limit : ℕ) (frames now new : List Frame) (t u : ExprSyntax) (o : Option Part) → limit ≤ 9 → Have now u ≡ reduce limit frames t
-    → top_bound now ≤ infix_rank sign → option_map part_expr o ≡ finish (Have now u) → Gives (finish (Have frames t)) new (step.Stops o) (infix_after sign at (reduce limit frames t))
+pub sign_refused : (sign : Infix) (at limit : ℕ) (frames now new : List Frame) (t u : ExprSyntax) (o : Option Operand) → limit ≤ 9 → Have now u ≡ reduce limit frames t
+    → top_bound now ≤ infix_rank sign → option_map operand_expr o ≡ finish (Have now u) → Simulates (finish (Have frames t)) new (step.Stops o) (infix_after sign at (reduce limit frames t))
 sign_refused sign at limit frames now new t u o le e high found =
     let no : infix_after sign at (Have now u) ≡ Refused = rw le-ltb refl in
     (ap (infix_after sign at) (sym e) ∙ no, found ∙ found_alike limit frames now t u le e)
 
-pub greater_refused : (at : ℕ) (frames now new : List Frame) (t u : ExprSyntax) (o : Option Part) → Have now u ≡ reduce 5 frames t
-    → top_bound now ≤ 6 → option_map part_expr o ≡ finish (Have now u) → Gives (finish (Have frames t)) new (step.Stops o) (greater_after at (reduce 5 frames t))
+pub greater_refused : (at : ℕ) (frames now new : List Frame) (t u : ExprSyntax) (o : Option Operand) → Have now u ≡ reduce 5 frames t
+    → top_bound now ≤ 6 → option_map operand_expr o ≡ finish (Have now u) → Simulates (finish (Have frames t)) new (step.Stops o) (greater_after at (reduce 5 frames t))
 greater_refused at frames now new t u o e high found =
     let no : greater_after at (Have now u) ≡ Refused = rw le-ltb refl in
     (ap (greater_after at) (sym e) ∙ no, found ∙ found_alike 5 frames now t u (omega arith) e)
 
-pub note_high : (frames : List Frame) (at : ℕ) (c : Frac) (n : NoteState) (ended : State) → n ≢ NoNote → 400 < note_least n → Gives None frames step.High (note_goes frames at c n ended)
+pub note_high : (frames : List Frame) (at : ℕ) (c : Frac) (n : NoteState) (ended : State) → n ≢ NoNote → 400 < note_least n → Simulates None frames step.High (note_goes frames at c n ended)
 note_high frames at c n ended ok high =
     let e = note_goes_on frames at c n ended ok in
     ((λ h. let f : InNote frames at c n ≡ Refused = sym e ∙ h in absurd cc), omega (arith, note_too_high frames at c n high, ap whole_least e))
 
-pub type_high : (frames : List Frame) (at : ℕ) (s : TypeState) (ended : State) → s ≢ NoType → 400 < type_least s → Gives None frames step.High (type_goes frames at s ended)
+pub type_high : (frames : List Frame) (at : ℕ) (s : TypeState) (ended : State) → s ≢ NoType → 400 < type_least s → Simulates None frames step.High (type_goes frames at s ended)
 type_high frames at s ended ok high =
     let e = type_goes_on frames at s ended ok in
     ((λ h. let f : InType frames at s ≡ Refused = sym e ∙ h in absurd cc), omega (arith, type_too_high frames at s high, ap whole_least e))

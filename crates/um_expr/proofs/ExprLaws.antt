@@ -11,7 +11,7 @@ use Rattle.um_expr.proofs.ExprEnds.{rank_low, ends_whole}
 use Rattle.um_expr.proofs.ExprComplete.{into}
 use Rattle.um_expr.proofs.ExprReads.{complete}
 use Rattle.um_expr.proofs.ExprSound.{stands}
-use Rattle.um_expr.proofs.ExprStands.{Stands}
+use Rattle.um_expr.proofs.ExprPrefixes.{SpellsPrefix}
 use Rattle.um_expr.proofs.ExprEndings.{expr_ending, expr_completed, expr_can_end}
 
 pub into_on : (frames : List Frame) (t : ExprSyntax) → into frames t ≢ Refused
@@ -38,7 +38,7 @@ reads_as t tokens p =
 pub begins_expr : (read : List Token) → runs step (Need []) read ≢ Refused → BeginsExpr read
 begins_expr read ok =
     let st : State = runs step (Need []) read in
-    let p = expr_can_end st (read ++ expr_ending st) [] (subst (λ w. Stands st (read ++ expr_ending st) w) (sym (append-nil (expr_ending st))) (stands read (expr_ending st))) ok in
+    let p = expr_can_end st (read ++ expr_ending st) [] (subst (λ w. SpellsPrefix st (read ++ expr_ending st) w) (sym (append-nil (expr_ending st))) (stands read (expr_ending st))) ok in
     (expr_ending st, expr_completed st, record { spelled = p.0; fits = p.1 })
 
 -- what is refused begins none

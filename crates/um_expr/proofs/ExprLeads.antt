@@ -12,8 +12,11 @@ use Rattle.um_types.specs.TypeMachine.{InNote as InTypeNote}
 use Rattle.um_types.proofs.Reaching.{runs_append, lift}
 use Rattle.um_types.proofs.NoteComplete.{note_into, note_reaches, note_finds, note_stops}
 use Rattle.um_types.proofs.TypeComplete.{type_reaches}
-use Rattle.um_expr.specs.declared.mark.Mark.TheVariants as mark
-use Rattle.um_expr.specs.ExprTokens.{ExprToken, plain, expr_token, greater}
+use Rattle.um_syntax.specs.declared.vocabulary.Keyword.TheVariants as keyword
+use Rattle.um_syntax.specs.declared.vocabulary.Symbol.TheVariants as symbol
+use Rattle.um_expr.specs.declared.token.ExprToken.{ExprToken}
+use Rattle.um_expr.specs.declared.token.ExprToken.TheVariants.{Word as word, Mark as mark}
+use Rattle.um_expr.specs.ExprTokens.{expr_token, greater}
 use Rattle.um_expr.specs.ExprGrammar.{First, FirstAt, FirstGlued}
 use Rattle.um_expr.specs.ExprMachine.{Frame, State, Have, InNote, InType, note_ends, type_ends, note_goes, type_goes, act, step}
 use Rattle.um_expr.proofs.TokenKinds.{greater_is, close_is}
@@ -121,7 +124,7 @@ leads_type frames at t tokens rest s fits =
     let r = type_reaches t 0 tokens rest s fits in
     (r.0, r.1, lift type_step NoType (λ x. refl) step (λ w. InType frames at w) (type_inside frames at) r.0 (NeedType 0) (HaveType 0 t) r.2 r.3)
 
-pub leads_type_end : (frames : List Frame) (at : ℕ) (t : TypeSyntax) (tokens rest : List Token) → First (plain mark.Close) tokens rest
+pub leads_type_end : (frames : List Frame) (at : ℕ) (t : TypeSyntax) (tokens rest : List Token) → First (mark symbol.RightParen) tokens rest
     → Leads (InType frames at (HaveType 0 t)) tokens (Have frames (nil_syntax at t)) rest
 leads_type_end frames at t tokens rest f =
     let ended : State = type_ends frames at (Some t) (expr_token f.0.kind) in (

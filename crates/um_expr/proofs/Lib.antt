@@ -4,7 +4,7 @@ mod ExprLeads
 mod ExprFirsts
 pub mod ExprComplete
 mod ExprReads
-pub mod ExprStands
+pub mod ExprPrefixes
 pub mod ExprSound
 pub mod ExprEndings
 pub mod ExprHeights

@@ -8,9 +8,12 @@ use Rattle.um_types.specs.UnitTokens.{sign, unit_token}
 use Rattle.um_types.specs.TypeTokens.{symbol, type_token}
 use Rattle.um_types.specs.declared.unit_mark.Mark.TheVariants as unit_mark
 use Rattle.um_types.specs.declared.type_symbol.Symbol.TheVariants as symbol_of
-use Rattle.um_expr.specs.declared.mark.Mark.TheVariants as mark
-use Rattle.um_expr.specs.declared.mark.Infix.TheVariants as between
-use Rattle.um_expr.specs.ExprTokens.{ExprToken, operator, plain, expr_token, word_tokens, sign_tokens, equal, greater}
+use Rattle.um_syntax.specs.declared.vocabulary.Keyword.TheVariants as keyword
+use Rattle.um_syntax.specs.declared.vocabulary.Symbol.TheVariants as symbol
+use Rattle.um_expr.specs.declared.infix.Infix.TheVariants as between
+use Rattle.um_expr.specs.declared.token.ExprToken.{ExprToken}
+use Rattle.um_expr.specs.declared.token.ExprToken.TheVariants.{Operator as operator, Word as word, Mark as mark}
+use Rattle.um_expr.specs.ExprTokens.{expr_token, keyword_token, symbol_token, equal, greater}
 
 -- where in a table the tokens stand that pass a test
 abbrev positions : (ExprToken → Bool) → ℕ → List ExprToken → List ℕ
@@ -40,7 +43,7 @@ is_greater (operator (between.Compare compare.Gt)) = true
 is_greater _ = false
 
 abbrev is_close : ExprToken → Bool
-is_close (plain mark.Close) = true
+is_close (mark symbol.RightParen) = true
 is_close _ = false
 
 only : (k n : ℕ) → Among (k + 0) (n ∷ []) → k ≡ n
@@ -61,10 +64,10 @@ greater_is (kind.Name x) e = absurd cc
 greater_is (kind.Var x) e = absurd cc
 greater_is (kind.Number value digits one) e = absurd cc
 
-close_sign : (k : ℕ) → slice_index_or sign_tokens k (plain mark.Other) ≡ plain mark.Close → k ≡ 1
+close_sign : (k : ℕ) → slice_index_or sign_tokens k (plain mark.Other) ≡ mark symbol.RightParen → k ≡ 1
 close_sign k e = only k 1 (stands_at is_close sign_tokens 0 k refl (ap is_close e))
 
-pub close_is : (k : Kind) → expr_token k ≡ plain mark.Close → type_token k ≡ symbol symbol_of.Close
+pub close_is : (k : Kind) → expr_token k ≡ mark symbol.RightParen → type_token k ≡ symbol symbol_of.Close
 close_is (kind.Sign k) e = ap (λ m. type_token (kind.Sign m)) (close_sign k e)
 close_is (kind.Word k) e = absurd (none_at (k + 0) (stands_at is_close word_tokens 0 k refl (ap is_close e)))
 close_is kind.Hole e = absurd cc
@@ -75,11 +78,11 @@ close_is (kind.Number value digits one) e = absurd cc
 -- ---- behind types and units
 
 abbrev is_semi : ExprToken → Bool
-is_semi (plain mark.Semi) = true
+is_semi (mark symbol.Semicolon) = true
 is_semi _ = false
 
 abbrev is_record_close : ExprToken → Bool
-is_record_close (plain mark.RecordClose) = true
+is_record_close (mark symbol.RightBrace) = true
 is_record_close _ = false
 
 abbrev is_equal : ExprToken → Bool
@@ -87,10 +90,10 @@ is_equal (operator (between.Compare compare.Eq)) = true
 is_equal _ = false
 
 abbrev is_attribute : ExprToken → Bool
-is_attribute (plain mark.AttributeOpen) = true
+is_attribute (mark symbol.AttributeOpen) = true
 is_attribute _ = false
 
-pub semi_is : (k : Kind) → expr_token k ≡ plain mark.Semi → type_token k ≡ symbol symbol_of.Other
+pub semi_is : (k : Kind) → expr_token k ≡ mark symbol.Semicolon → type_token k ≡ symbol symbol_of.Other
 semi_is (kind.Sign k) e = ap (λ m. type_token (kind.Sign m)) (only k 17 (stands_at is_semi sign_tokens 0 k refl (ap is_semi e)))
 semi_is (kind.Word k) e = absurd (none_at (k + 0) (stands_at is_semi word_tokens 0 k refl (ap is_semi e)))
 semi_is kind.Hole e = absurd cc
@@ -98,7 +101,7 @@ semi_is (kind.Name x) e = absurd cc
 semi_is (kind.Var x) e = absurd cc
 semi_is (kind.Number value digits one) e = absurd cc
 
-pub record_close_is : (k : Kind) → expr_token k ≡ plain mark.RecordClose → type_token k ≡ symbol symbol_of.Other
+pub record_close_is : (k : Kind) → expr_token k ≡ mark symbol.RightBrace → type_token k ≡ symbol symbol_of.Other
 record_close_is (kind.Sign k) e = ap (λ m. type_token (kind.Sign m)) (only k 5 (stands_at is_record_close sign_tokens 0 k refl (ap is_record_close e)))
 record_close_is (kind.Word k) e = absurd (none_at (k + 0) (stands_at is_record_close word_tokens 0 k refl (ap is_record_close e)))
 record_close_is kind.Hole e = absurd cc
@@ -114,7 +117,7 @@ equal_is (kind.Name x) e = absurd cc
 equal_is (kind.Var x) e = absurd cc
 equal_is (kind.Number value digits one) e = absurd cc
 
-pub attribute_is : (k : Kind) → expr_token k ≡ plain mark.AttributeOpen → unit_token k ≡ sign unit_mark.Other
+pub attribute_is : (k : Kind) → expr_token k ≡ mark symbol.AttributeOpen → unit_token k ≡ sign unit_mark.Other
 attribute_is (kind.Sign k) e = ap (λ m. unit_token (kind.Sign m)) (only k 6 (stands_at is_attribute sign_tokens 0 k refl (ap is_attribute e)))
 attribute_is (kind.Word k) e = refl
 attribute_is kind.Hole e = absurd cc
@@ -123,8 +126,8 @@ attribute_is (kind.Var x) e = absurd cc
 attribute_is (kind.Number value digits one) e = absurd cc
 
 abbrev is_word : ExprToken → Bool
-is_word (plain mark.Type) = true
-is_word (plain mark.Let) = true
+is_word (word keyword.Type) = true
+is_word (word keyword.Let) = true
 is_word _ = false
 
 -- `type` and `let` are words
@@ -138,15 +141,15 @@ word_is (kind.Number value digits one) e = absurd cc
 
 -- no unit text goes on with what begins a declaration
 abbrev pub begins_decl : ExprToken → Bool
-begins_decl (plain mark.AttributeOpen) = true
-begins_decl (plain mark.Type) = true
-begins_decl (plain mark.Let) = true
+begins_decl (mark symbol.AttributeOpen) = true
+begins_decl (word keyword.Type) = true
+begins_decl (word keyword.Let) = true
 begins_decl _ = false
 
 decl_unit : (w : ExprToken) (k : Kind) → expr_token k ≡ w → begins_decl w ≡ true → unit_token k ≡ sign unit_mark.Other
-decl_unit (plain mark.AttributeOpen) k e h = attribute_is k e
-decl_unit (plain mark.Type) k e h = word_is k (ap is_word e)
-decl_unit (plain mark.Let) k e h = word_is k (ap is_word e)
+decl_unit (mark symbol.AttributeOpen) k e h = attribute_is k e
+decl_unit (word keyword.Type) k e h = word_is k (ap is_word e)
+decl_unit (word keyword.Let) k e h = word_is k (ap is_word e)
 decl_unit _ k e h = absurd cc
 
 pub decl_no_unit : (k : Kind) → begins_decl (expr_token k) ≡ true → unit_token k ≡ sign unit_mark.Other

@@ -2,7 +2,7 @@ mod DeclLists
 mod DeclLeads
 mod DeclComplete
 mod ProgramComplete
-mod DeclStands
+mod DeclPrefixes
 mod DeclSound
 mod DeclEndings
 mod ProgramSound
