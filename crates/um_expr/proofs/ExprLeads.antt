@@ -19,7 +19,7 @@ use Rattle.um_expr.specs.declared.token.ExprToken.TheVariants.{Word as word, Mar
 use Rattle.um_expr.specs.ExprTokens.{expr_token, greater}
 use Rattle.um_expr.specs.ExprGrammar.{First, FirstAt, FirstGlued}
 use Rattle.um_expr.specs.ExprMachine.{Frame, State, Have, InNote, InType, note_ends, type_ends, note_goes, type_goes, act, step}
-use Rattle.um_expr.proofs.TokenKinds.{greater_is, close_is}
+use Rattle.um_expr.proofs.TokensBehindTypes.{greater_is, close_is}
 
 abbrev pub Leads : State → List Token → State → List Token → Type 0
 Leads old tokens new rest = (read : List Token) × (tokens ≡ read ++ rest) × (runs step old read ≡ new)

@@ -258,7 +258,7 @@ after_sound frames t _ at glued tokens mid rest h s = tt
 -- ---- inside a run of tokens that is fixed
 
 inside_sound : (frames : List Frame) (expected : Expected) (what : ExprToken) (at : ℕ) (tokens mid rest : List Token) → SpellsPrefix (Inside frames expected) tokens mid → FirstAt what at mid rest
-    → SpellsPrefix (inside frames place what at) tokens rest
+    → SpellsPrefix (inside frames expected what at) tokens rest
 inside_sound frames (LetBinder p) (name x) at tokens mid rest h s = (h.0, h.1, (mid, h.2, s), h.3, h.4)
 inside_sound frames (LetBinder p) hole at tokens mid rest h s = (h.0, h.1, (mid, h.2, s), h.3, h.4)
 inside_sound frames (LetEqual p x) (operator (between.Compare compare.Eq)) at tokens mid rest h s = ((h.0, h.1, (h.2.0, mid, h.2.1, h.2.2, (s.0, s.1, s.3))), (h.4, h.3))
@@ -343,8 +343,8 @@ pub runs_sound : (read : List Token) (st : State) (tokens rest : List Token) →
 runs_sound [] st tokens rest h = h
 runs_sound (x ∷ read) st tokens rest h = runs_sound read (step st x) tokens rest (step_sound st x tokens (read ++ rest) h)
 
-pub stands : (read rest : List Token) → SpellsPrefix (runs step (Need []) read) (read ++ rest) rest
-stands read rest = runs_sound read (Need []) (read ++ rest) rest (refl, tt)
+pub spells_prefix : (read rest : List Token) → SpellsPrefix (runs step (Need []) read) (read ++ rest) rest
+spells_prefix read rest = runs_sound read (Need []) (read ++ rest) rest (refl, tt)
 
 -- ---- what is found
 

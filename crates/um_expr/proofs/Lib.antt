@@ -1,5 +1,5 @@
 pub mod ExprEnds
-pub mod TokenKinds
+pub mod TokensBehindTypes
 mod ExprLeads
 mod ExprFirsts
 pub mod ExprComplete
@@ -9,6 +9,7 @@ pub mod ExprSound
 pub mod ExprEndings
 pub mod ExprHeights
 pub mod ExprLaws
+mod ExprReading
 mod ExprLists
 mod ExprStackLaws
 mod ExprLow

@@ -12,3 +12,5 @@ pub mod ExprFrames
 pub mod ExprStack
 pub mod ExprStates
 pub mod ExprTakes
+-- what is promised of the reader by the grammar alone
+pub mod Laws

@@ -11,6 +11,7 @@ mod frame;
 mod frames;
 mod height;
 mod infix;
+pub mod laws;
 mod least_height;
 mod operand;
 mod operands;

@@ -19,7 +19,7 @@ use Rattle.um_expr.specs.ExprGrammar.{First, FirstAt}
 use Rattle.um_expr.specs.ExprMachine.{Need}
 use Rattle.um_parse.specs.DeclGrammar.{Attribute, VarSpells, MoreVars, VarsSpell, FieldDeclSpells, MoreFieldDecls, ParamSpells, ParamsSpell, ResultSpells, RecSpells, FunctionSpells, DeclSpells, FieldDeclsFit, ParamsFit, ResultFits, DeclFits}
 use Rattle.um_parse.specs.DeclMachine.{DeclBegin, AttributeWord, AttributeGreater, AttributeClose, MeasureType, MeasureName, RecordName, RecordVars, VarBegin, VarWord, VarGreater, VarClose, VarName, VarEnd, RecordEqual, RecordBrace, FieldName, FieldColon, LetName, RecName, Params, ParamBinder, ParamColon, DeclState, Expects, HaveBase, InShort, HaveRecord, InField, InParam, InResult, InBody, field_ends, param_ends, result_ends, field_goes, param_goes, result_goes, short_found, body_found, decl_finish}
-use Rattle.um_expr.proofs.TokenKinds.{semi_is, record_close_is, equal_is, close_is}
+use Rattle.um_expr.proofs.TokensBehindTypes.{semi_is, record_close_is, equal_is, close_is}
 use Rattle.um_expr.proofs.ExprComplete.{into}
 use Rattle.um_expr.proofs.ExprLaws.{expr_finds}
 use Rattle.um_parse.proofs.DeclLeads.{Leads, thence, leads_here, leads_as, leads_first, leads_at, leads_binder, leads_attribute, leads_type, leads_unit, leads_body, field_inside, param_inside, result_inside}

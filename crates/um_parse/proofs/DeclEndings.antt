@@ -3,6 +3,10 @@ use Rattle.std.proofs.Common.{◌≡◌, ◌≢◌, ℕ, List, [], ◌∷◌, �
 use Rattle.um_syntax.specs.declared.token.Token.{Token}
 use Rattle.um_syntax.specs.declared.token.Kind.{Kind}
 use Rattle.um_syntax.specs.declared.token.Kind.TheVariants as kind
+use Rattle.um_syntax.specs.declared.vocabulary.Keyword.{Keyword}
+use Rattle.um_syntax.specs.declared.vocabulary.Keyword.TheVariants as keyword
+use Rattle.um_syntax.specs.declared.vocabulary.Symbol.{Symbol}
+use Rattle.um_syntax.specs.declared.vocabulary.Symbol.TheVariants as symbol
 use Rattle.um_tree.specs.RawTree.{bool_syntax, BinderSyntax, VarSyntax, FieldDeclSyntax, ParamSyntax, DeclSyntax, base_syntax, short_syntax, record_decl_syntax, function_syntax}
 use Rattle.um_types.specs.UnitGrammar.{Spells as UnitSpells, IsUnit}
 use Rattle.um_types.specs.UnitMachine.{Need as NeedUnit, Refused as NoUnit, run as unit_run}
@@ -18,10 +22,10 @@ use Rattle.um_parse.proofs.DeclPrefixes.{RecordHead, VarsOpen, RecordOpens, Func
 abbrev token_of : Kind → Token
 token_of k = record { kind = k; start = 0; end = 0; glued = false }
 
-abbrev word : ℕ → Token
+abbrev word : Keyword → Token
 word k = token_of (kind.Word k)
 
-abbrev sign : ℕ → Token
+abbrev sign : Symbol → Token
 sign k = token_of (kind.Sign k)
 
 abbrev name_token : Token

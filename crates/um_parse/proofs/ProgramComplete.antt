@@ -19,7 +19,7 @@ use Rattle.um_parse.specs.DeclGrammar.{DeclSpells, DeclsSpell, DeclFits, DeclsFi
 use Rattle.um_parse.specs.DeclMachine.{DeclBegin, DeclState, Expects, HaveBase, InShort, HaveRecord, InField, InParam, InResult, InBody, NoDecl, base_after, short_goes, body_goes, decl_step, decl_finish, ProgramState, InProgram, NoProgram, program_goes, next_decl, program_step, program_found, program_finish}
 use Rattle.um_parse.specs.ProgramStops.{Begins}
 use Rattle.um_parse.specs.ProgramStates.{start}
-use Rattle.um_expr.proofs.TokenKinds.{begins_decl, decl_no_unit}
+use Rattle.um_expr.proofs.TokensBehindTypes.{begins_decl, decl_no_unit}
 use Rattle.um_expr.proofs.ExprEnds.{opened, last_atom}
 use Rattle.um_parse.proofs.DeclComplete.{decl_into, decl_finds, decl_leads}
 

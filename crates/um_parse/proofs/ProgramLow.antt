@@ -13,7 +13,7 @@ use Rattle.um_parse.specs.ProgramStops.{BeginsWithin}
 use Rattle.um_parse.proofs.DeclEndings.{decl_completed}
 use Rattle.um_parse.proofs.DeclHeights.{decl_completed_height, decl_up, decl_found_height}
 use Rattle.um_parse.proofs.ProgramComplete.{program_into, program_finds, reads_as}
-use Rattle.um_parse.proofs.ProgramSound.{ProgramSpellsPrefix, stands, program_ending, program_completed, can_go_on}
+use Rattle.um_parse.proofs.ProgramSound.{ProgramSpellsPrefix, spells_prefix, program_ending, program_completed, can_go_on}
 
 height_last : (decls : List DeclSyntax) (d : DeclSyntax) → program_height (decls ++ d ∷ []) ≡ max (program_height decls) (decl_height d)
 height_last [] d = omega arith
@@ -30,7 +30,7 @@ completed_height NoProgram tokens rest h ok = absurd (ok refl)
 pub begins_within : (read : List Token) (limit : ℕ) → runs program_step start read ≢ NoProgram → program_least (runs program_step start read) ≤ limit → BeginsWithin limit read
 begins_within read limit ok le =
     let st : ProgramState = runs program_step start read in
-    (program_ending st, program_completed st, can_go_on read ok, omega (arith, le, completed_height st (read ++ program_ending st) (program_ending st) (stands read (program_ending st)) ok))
+    (program_ending st, program_completed st, can_go_on read ok, omega (arith, le, completed_height st (read ++ program_ending st) (program_ending st) (spells_prefix read (program_ending st)) ok))
 
 -- ---- a token never lowers it
 

@@ -58,8 +58,8 @@ runs_sound (x ∷ read) st tokens rest h = runs_sound read (program_step st x) t
 begin_on : Expects DeclBegin ≢ NoDecl
 begin_on e = cc
 
-pub stands : (read rest : List Token) → ProgramSpellsPrefix (runs program_step start read) (read ++ rest) rest
-stands read rest = runs_sound read start (read ++ rest) rest (read ++ rest, refl, tt, (refl, tt), begin_on)
+pub spells_prefix : (read rest : List Token) → ProgramSpellsPrefix (runs program_step start read) (read ++ rest) rest
+spells_prefix read rest = runs_sound read start (read ++ rest) rest (read ++ rest, refl, tt, (refl, tt), begin_on)
 
 -- ---- what can follow
 
@@ -83,7 +83,7 @@ pub can_go_on : (read : List Token) → runs program_step start read ≢ NoProgr
 can_go_on read ok =
     let st : ProgramState = runs program_step start read in
     let more : List Token = program_ending st in
-    let p = program_can_end st (read ++ more) [] (subst (λ w. ProgramSpellsPrefix st (read ++ more) w) (sym (append-nil more)) (stands read more)) ok in
+    let p = program_can_end st (read ++ more) [] (subst (λ w. ProgramSpellsPrefix st (read ++ more) w) (sym (append-nil more)) (spells_prefix read more)) ok in
     record { spelled = p.0; fits = p.1 }
 
 pub begins : (read : List Token) → runs program_step start read ≢ NoProgram → Begins read
@@ -120,5 +120,5 @@ program_is NoProgram ds tokens rest h e = absurd cc
 -- what is found is a program
 pub found : (tokens : List Token) (ds : List DeclSyntax) → program_finish (runs program_step start tokens) ≡ Some ds → IsProgram tokens ds
 found tokens ds e =
-    let p = program_is (runs program_step start tokens) ds tokens [] (subst (λ w. ProgramSpellsPrefix (runs program_step start tokens) w []) (append-nil tokens) (stands tokens [])) e in
+    let p = program_is (runs program_step start tokens) ds tokens [] (subst (λ w. ProgramSpellsPrefix (runs program_step start tokens) w []) (append-nil tokens) (spells_prefix tokens [])) e in
     record { spelled = p.0; fits = p.1 }
