@@ -9,6 +9,8 @@ use Rattle.um_types.specs.TypeGrammar.{NoteSpells, NoteFits, TypeSpells, TypeFit
 use Rattle.um_types.specs.NoteMachine.{NoteState, NeedNote, HaveHole, InUnit, NoNote, note_step, note_finish}
 use Rattle.um_types.specs.TypeMachine.{TypeState, NeedType, HaveType, NoType, type_after, type_step, type_finish}
 use Rattle.um_types.specs.TypeMachine.{InNote as InTypeNote}
+use Rattle.um_types.specs.UnitTokens.{unit_token}
+use Rattle.um_types.proofs.TokenLinks.{is_foreign}
 use Rattle.um_types.proofs.Reaching.{runs_append, lift}
 use Rattle.um_types.proofs.NoteComplete.{note_into, note_reaches, note_finds, note_stops}
 use Rattle.um_types.proofs.TypeComplete.{type_reaches}
@@ -19,7 +21,7 @@ use Rattle.um_expr.specs.declared.token.ExprToken.TheVariants.{Word as word, Mar
 use Rattle.um_expr.specs.ExprTokens.{expr_token, greater}
 use Rattle.um_expr.specs.ExprGrammar.{First, FirstAt, FirstGlued}
 use Rattle.um_expr.specs.ExprMachine.{Frame, State, Have, InNote, InType, note_ends, type_ends, note_goes, type_goes, act, step}
-use Rattle.um_expr.proofs.TokensBehindTypes.{greater_is, close_is}
+use Rattle.um_expr.proofs.ExprTokenKinds.{greater_is, mark_is}
 
 abbrev pub Leads : State → List Token → State → List Token → Type 0
 Leads old tokens new rest = (read : List Token) × (tokens ≡ read ++ rest) × (runs step old read ≡ new)
@@ -100,7 +102,7 @@ leads_note_end frames at c n tokens rest fits f =
     let ended : State = note_ends frames at c (note_finish (note_into n)) (expr_token f.0.kind) in (
       f.0 ∷ [],
       f.2,
-      ap (λ s. note_goes frames at c s ended) (note_stops n f.0.kind f.0.start (greater_is f.0.kind f.1).0)
+      ap (λ s. note_goes frames at c s ended) (note_stops n f.0.kind f.0.start (ap (λ k. is_foreign (unit_token k)) (greater_is f.0.kind f.1)))
           ∙ ap (λ o. note_ends frames at c o (expr_token f.0.kind)) (note_finds n fits)
           ∙ ap (note_ends frames at c (Some n)) f.1,
     )
@@ -130,5 +132,5 @@ leads_type_end frames at t tokens rest f =
     let ended : State = type_ends frames at (Some t) (expr_token f.0.kind) in (
       f.0 ∷ [],
       f.2,
-      ap (λ w. type_goes frames at (type_after 0 t w) ended) (close_is f.0.kind f.1) ∙ ap (type_ends frames at (Some t)) f.1,
+      ap (λ w. type_goes frames at (type_after 0 t w) ended) (mark_is f.0.kind symbol.RightParen f.1) ∙ ap (type_ends frames at (Some t)) f.1,
     )

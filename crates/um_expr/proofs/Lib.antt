@@ -1,5 +1,5 @@
 pub mod ExprEnds
-pub mod TokensBehindTypes
+pub mod ExprTokenKinds
 mod ExprLeads
 mod ExprFirsts
 pub mod ExprComplete

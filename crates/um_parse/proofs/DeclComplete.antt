@@ -6,7 +6,6 @@ use Rattle.um_syntax.specs.declared.token.Kind.{Kind}
 use Rattle.um_tree.specs.RawTree.{TypeSyntax, VarSyntax, FieldDeclSyntax, ParamSyntax, FunctionSyntax, DeclSyntax, base_syntax, short_syntax, record_decl_syntax, function_syntax}
 use Rattle.um_types.specs.UnitMachine.{Need as NeedUnit}
 use Rattle.um_types.specs.TypeGrammar.{TypeFits}
-use Rattle.um_types.specs.TypeTokens.{type_token}
 use Rattle.um_types.specs.TypeMachine.{NeedType, HaveType, NoType, type_after}
 use Rattle.um_types.proofs.UnitComplete.{into as unit_into}
 use Rattle.um_types.proofs.UnitNested.{unit_finds}
@@ -19,7 +18,7 @@ use Rattle.um_expr.specs.ExprGrammar.{First, FirstAt}
 use Rattle.um_expr.specs.ExprMachine.{Need}
 use Rattle.um_parse.specs.DeclGrammar.{Attribute, VarSpells, MoreVars, VarsSpell, FieldDeclSpells, MoreFieldDecls, ParamSpells, ParamsSpell, ResultSpells, RecSpells, FunctionSpells, DeclSpells, FieldDeclsFit, ParamsFit, ResultFits, DeclFits}
 use Rattle.um_parse.specs.DeclMachine.{DeclBegin, AttributeWord, AttributeGreater, AttributeClose, MeasureType, MeasureName, RecordName, RecordVars, VarBegin, VarWord, VarGreater, VarClose, VarName, VarEnd, RecordEqual, RecordBrace, FieldName, FieldColon, LetName, RecName, Params, ParamBinder, ParamColon, DeclState, Expects, HaveBase, InShort, HaveRecord, InField, InParam, InResult, InBody, field_ends, param_ends, result_ends, field_goes, param_goes, result_goes, short_found, body_found, decl_finish}
-use Rattle.um_expr.proofs.TokensBehindTypes.{semi_is, record_close_is, equal_is, close_is}
+use Rattle.um_expr.proofs.ExprTokenKinds.{mark_is, equal_is}
 use Rattle.um_expr.proofs.ExprComplete.{into}
 use Rattle.um_expr.proofs.ExprLaws.{expr_finds}
 use Rattle.um_parse.proofs.DeclLeads.{Leads, thence, leads_here, leads_as, leads_first, leads_at, leads_binder, leads_attribute, leads_type, leads_unit, leads_body, field_inside, param_inside, result_inside}
@@ -54,25 +53,25 @@ leads_measure at x tokens behind named rest a t n =
 
 -- ---- records
 
-leads_var : (at : ℕ) (x : List ℕ) (decls : List VarSyntax) (v : VarSyntax) (tokens rest : List Token) → VarSpells v tokens rest → Leads (Expects (VarBegin at x decls)) tokens (Expects (VarEnd at x (decls ++ v ∷ []))) rest
-leads_var at x decls v tokens rest s =
+leads_var : (at : ℕ) (x : List ℕ) (before : List VarSyntax) (v : VarSyntax) (tokens rest : List Token) → VarSpells v tokens rest → Leads (Expects (VarBegin at x before)) tokens (Expects (VarEnd at x (before ++ v ∷ []))) rest
+leads_var at x before v tokens rest s =
     thence
     (
-    leads_attribute (Expects (VarBegin at x decls)) (Expects (VarWord at x decls)) (Expects (VarGreater at x decls)) (Expects (VarClose at x decls)) (Expects (VarName at x decls)) tokens s.0 s.1
+    leads_attribute (Expects (VarBegin at x before)) (Expects (VarWord at x before)) (Expects (VarGreater at x before)) (Expects (VarClose at x before)) (Expects (VarName at x before)) tokens s.0 s.1
     (λ p g k. refl) (λ p g k. refl) (λ p g k. refl) (λ p g k. refl)
     )
-    (leads_at (Expects (VarName at x decls)) (Expects (VarEnd at x (decls ++ v ∷ []))) (variable v.name) v.at s.0 rest s.2 (λ g k. refl))
+    (leads_at (Expects (VarName at x before)) (Expects (VarEnd at x (before ++ v ∷ []))) (variable v.name) v.at s.0 rest s.2 (λ g k. refl))
 
-leads_more_vars : (vs : List VarSyntax) (at : ℕ) (x : List ℕ) (decls : List VarSyntax) (tokens rest : List Token) → MoreVars vs tokens rest
-    → Leads (Expects (VarEnd at x decls)) tokens (Expects (VarEnd at x (decls ++ vs))) rest
-leads_more_vars [] at x decls tokens rest s = leads_here (Expects (VarEnd at x decls)) (Expects (VarEnd at x (decls ++ []))) tokens rest (ap (λ w. Expects (VarEnd at x w)) (sym (append-nil decls))) s
-leads_more_vars (v ∷ vs) at x decls tokens rest s =
-    thence (leads_first (Expects (VarEnd at x decls)) (Expects (VarBegin at x decls)) (mark symbol.Comma) tokens s.0 s.2 (λ p g k. refl))
+leads_more_vars : (vs : List VarSyntax) (at : ℕ) (x : List ℕ) (before : List VarSyntax) (tokens rest : List Token) → MoreVars vs tokens rest
+    → Leads (Expects (VarEnd at x before)) tokens (Expects (VarEnd at x (before ++ vs))) rest
+leads_more_vars [] at x before tokens rest s = leads_here (Expects (VarEnd at x before)) (Expects (VarEnd at x (before ++ []))) tokens rest (ap (λ w. Expects (VarEnd at x w)) (sym (append-nil before))) s
+leads_more_vars (v ∷ vs) at x before tokens rest s =
+    thence (leads_first (Expects (VarEnd at x before)) (Expects (VarBegin at x before)) (mark symbol.Comma) tokens s.0 s.2 (λ p g k. refl))
     (
-    thence (leads_var at x decls v s.0 s.1 s.3)
+    thence (leads_var at x before v s.0 s.1 s.3)
     (
-    leads_as (Expects (VarEnd at x (decls ++ v ∷ []))) (Expects (VarEnd at x ((decls ++ v ∷ []) ++ vs))) (Expects (VarEnd at x (decls ++ v ∷ vs))) s.1 rest
-    (leads_more_vars vs at x (decls ++ v ∷ []) s.1 rest s.4) (ap (λ w. Expects (VarEnd at x w)) (append_assoc decls (v ∷ []) vs))
+    leads_as (Expects (VarEnd at x (before ++ v ∷ []))) (Expects (VarEnd at x ((before ++ v ∷ []) ++ vs))) (Expects (VarEnd at x (before ++ v ∷ vs))) s.1 rest
+    (leads_more_vars vs at x (before ++ v ∷ []) s.1 rest s.4) (ap (λ w. Expects (VarEnd at x w)) (append_assoc before (v ∷ []) vs))
     )
     )
 
@@ -92,75 +91,75 @@ leads_vars (v ∷ vs) at x tokens mid rest s e =
     )
     )
 
-leads_field : (at : ℕ) (x : List ℕ) (vs : List VarSyntax) (decls : List FieldDeclSyntax) (f : FieldDeclSyntax) (tokens rest : List Token) → FieldDeclSpells f tokens rest → TypeFits f.type
-    → Leads (Expects (FieldName at x vs decls)) tokens (InField at x vs decls f.at f.name (HaveType 0 f.type)) rest
-leads_field at x vs decls f tokens rest s fits =
-    thence (leads_at (Expects (FieldName at x vs decls)) (Expects (FieldColon at x vs decls f.at f.name)) (name f.name) f.at tokens s.0 s.2 (λ g k. refl))
+leads_field : (at : ℕ) (x : List ℕ) (vs : List VarSyntax) (before : List FieldDeclSyntax) (f : FieldDeclSyntax) (tokens rest : List Token) → FieldDeclSpells f tokens rest → TypeFits f.type
+    → Leads (Expects (FieldName at x vs before)) tokens (InField at x vs before f.at f.name (HaveType 0 f.type)) rest
+leads_field at x vs before f tokens rest s fits =
+    thence (leads_at (Expects (FieldName at x vs before)) (Expects (FieldColon at x vs before f.at f.name)) (name f.name) f.at tokens s.0 s.2 (λ g k. refl))
     (
-    thence (leads_first (Expects (FieldColon at x vs decls f.at f.name)) (InField at x vs decls f.at f.name (NeedType 0)) (mark symbol.Colon) s.0 s.1 s.3 (λ p g k. refl))
-    (leads_type (λ w. InField at x vs decls f.at f.name w) (field_inside at x vs decls f.at f.name) f.type s.1 rest s.4 fits)
+    thence (leads_first (Expects (FieldColon at x vs before f.at f.name)) (InField at x vs before f.at f.name (NeedType 0)) (mark symbol.Colon) s.0 s.1 s.3 (λ p g k. refl))
+    (leads_type (λ w. InField at x vs before f.at f.name w) (field_inside at x vs before f.at f.name) f.type s.1 rest s.4 fits)
     )
 
 -- the token behind the type of a field
-ends_field : (at : ℕ) (x : List ℕ) (vs : List VarSyntax) (decls : List FieldDeclSyntax) (f : FieldDeclSyntax) (what : ExprToken) (new : DeclState) (tokens rest : List Token) → First what tokens rest
-    → ((k : Kind) → expr_token k ≡ what → type_after 0 f.type (type_token k) ≡ NoType) → field_ends at x vs decls f.at f.name (Some f.type) what ≡ new
-    → Leads (InField at x vs decls f.at f.name (HaveType 0 f.type)) tokens new rest
-ends_field at x vs decls f what new tokens rest n stops e =
-    let over : DeclState = field_ends at x vs decls f.at f.name (Some f.type) (expr_token n.0.kind) in (
+ends_field : (at : ℕ) (x : List ℕ) (vs : List VarSyntax) (before : List FieldDeclSyntax) (f : FieldDeclSyntax) (what : ExprToken) (new : DeclState) (tokens rest : List Token) → First what tokens rest
+    → ((k : Kind) → expr_token k ≡ what → type_after 0 f.type k ≡ NoType) → field_ends at x vs before f.at f.name (Some f.type) what ≡ new
+    → Leads (InField at x vs before f.at f.name (HaveType 0 f.type)) tokens new rest
+ends_field at x vs before f what new tokens rest n stops e =
+    let over : DeclState = field_ends at x vs before f.at f.name (Some f.type) (expr_token n.0.kind) in (
       n.0 ∷ [],
       n.2,
-      ap (λ w. field_goes at x vs decls f.at f.name w over) (stops n.0.kind n.1) ∙ ap (field_ends at x vs decls f.at f.name (Some f.type)) n.1 ∙ e,
+      ap (λ w. field_goes at x vs before f.at f.name w over) (stops n.0.kind n.1) ∙ ap (field_ends at x vs before f.at f.name (Some f.type)) n.1 ∙ e,
     )
 
-leads_fields : (fs : List FieldDeclSyntax) (at : ℕ) (x : List ℕ) (vs : List VarSyntax) (decls : List FieldDeclSyntax) (f : FieldDeclSyntax) (tokens mid rest : List Token) → MoreFieldDecls fs tokens mid
-    → FieldDeclsFit fs → First (mark symbol.RightBrace) mid rest → Leads (InField at x vs decls f.at f.name (HaveType 0 f.type)) tokens (HaveRecord at x vs (decls ++ f ∷ fs)) rest
-leads_fields [] at x vs decls f tokens mid rest s fits c =
-    ends_field at x vs decls f (mark symbol.RightBrace) (HaveRecord at x vs (decls ++ f ∷ [])) tokens rest (subst (λ w. First (mark symbol.RightBrace) w rest) (sym s) c)
-    (λ k e. ap (type_after 0 f.type) (record_close_is k e)) refl
-leads_fields (d ∷ fs) at x vs decls f tokens mid rest s fits c =
-    let more : List FieldDeclSyntax = decls ++ f ∷ [] in
+leads_fields : (fs : List FieldDeclSyntax) (at : ℕ) (x : List ℕ) (vs : List VarSyntax) (before : List FieldDeclSyntax) (f : FieldDeclSyntax) (tokens mid rest : List Token) → MoreFieldDecls fs tokens mid
+    → FieldDeclsFit fs → First (mark symbol.RightBrace) mid rest → Leads (InField at x vs before f.at f.name (HaveType 0 f.type)) tokens (HaveRecord at x vs (before ++ f ∷ fs)) rest
+leads_fields [] at x vs before f tokens mid rest s fits c =
+    ends_field at x vs before f (mark symbol.RightBrace) (HaveRecord at x vs (before ++ f ∷ [])) tokens rest (subst (λ w. First (mark symbol.RightBrace) w rest) (sym s) c)
+    (λ k e. ap (type_after 0 f.type) (mark_is k symbol.RightBrace e)) refl
+leads_fields (d ∷ fs) at x vs before f tokens mid rest s fits c =
+    let more : List FieldDeclSyntax = before ++ f ∷ [] in
     thence
-    (ends_field at x vs decls f (mark symbol.Semicolon) (Expects (FieldName at x vs more)) tokens s.0 s.2 (λ k e. ap (type_after 0 f.type) (semi_is k e)) refl)
+    (ends_field at x vs before f (mark symbol.Semicolon) (Expects (FieldName at x vs more)) tokens s.0 s.2 (λ k e. ap (type_after 0 f.type) (mark_is k symbol.Semicolon e)) refl)
     (
     thence (leads_field at x vs more d s.0 s.1 s.3 fits.0)
     (
-    leads_as (InField at x vs more d.at d.name (HaveType 0 d.type)) (HaveRecord at x vs (more ++ d ∷ fs)) (HaveRecord at x vs (decls ++ f ∷ d ∷ fs)) s.1 rest
-    (leads_fields fs at x vs more d s.1 mid rest s.4 fits.1 c) (ap (HaveRecord at x vs) (append_assoc decls (f ∷ []) (d ∷ fs)))
+    leads_as (InField at x vs more d.at d.name (HaveType 0 d.type)) (HaveRecord at x vs (more ++ d ∷ fs)) (HaveRecord at x vs (before ++ f ∷ d ∷ fs)) s.1 rest
+    (leads_fields fs at x vs more d s.1 mid rest s.4 fits.1 c) (ap (HaveRecord at x vs) (append_assoc before (f ∷ []) (d ∷ fs)))
     )
     )
 
 -- ---- functions
 
-leads_param : (recursive : Bool) (at : ℕ) (x : List ℕ) (decls : List ParamSyntax) (q : ParamSyntax) (tokens rest : List Token) → ParamSpells q tokens rest → TypeFits q.type
-    → Leads (Expects (Params recursive at x decls)) tokens (Expects (Params recursive at x (decls ++ q ∷ []))) rest
-leads_param recursive at x decls q tokens rest s fits =
-    thence (leads_first (Expects (Params recursive at x decls)) (Expects (ParamBinder recursive at x decls)) (mark symbol.LeftParen) tokens s.0 s.4 (λ p g k. refl))
+leads_param : (recursive : Bool) (at : ℕ) (x : List ℕ) (before : List ParamSyntax) (q : ParamSyntax) (tokens rest : List Token) → ParamSpells q tokens rest → TypeFits q.type
+    → Leads (Expects (Params recursive at x before)) tokens (Expects (Params recursive at x (before ++ q ∷ []))) rest
+leads_param recursive at x before q tokens rest s fits =
+    thence (leads_first (Expects (Params recursive at x before)) (Expects (ParamBinder recursive at x before)) (mark symbol.LeftParen) tokens s.0 s.4 (λ p g k. refl))
     (
     thence
-    (leads_binder (Expects (ParamBinder recursive at x decls)) (λ z. Expects (ParamColon recursive at x decls z)) q.binder s.0 s.1 s.5 (λ z p g k. refl) (λ p g k. refl))
+    (leads_binder (Expects (ParamBinder recursive at x before)) (λ z. Expects (ParamColon recursive at x before z)) q.binder s.0 s.1 s.5 (λ z p g k. refl) (λ p g k. refl))
     (
     thence
-    (leads_first (Expects (ParamColon recursive at x decls q.binder)) (InParam recursive at x decls q.binder (NeedType 0)) (mark symbol.Colon) s.1 s.2 s.6 (λ p g k. refl))
+    (leads_first (Expects (ParamColon recursive at x before q.binder)) (InParam recursive at x before q.binder (NeedType 0)) (mark symbol.Colon) s.1 s.2 s.6 (λ p g k. refl))
     (
-    thence (leads_type (λ w. InParam recursive at x decls q.binder w) (param_inside recursive at x decls q.binder) q.type s.2 s.3 s.7 fits) (
+    thence (leads_type (λ w. InParam recursive at x before q.binder w) (param_inside recursive at x before q.binder) q.type s.2 s.3 s.7 fits) (
       s.8.0 ∷ [],
       s.8.2,
-      ap (λ w. param_goes recursive at x decls q.binder (type_after 0 q.type w) (param_ends recursive at x decls q.binder (Some q.type) (expr_token s.8.0.kind))) (close_is s.8.0.kind s.8.1)
-          ∙ ap (param_ends recursive at x decls q.binder (Some q.type)) s.8.1,
+      ap (λ w. param_goes recursive at x before q.binder (type_after 0 q.type w) (param_ends recursive at x before q.binder (Some q.type) (expr_token s.8.0.kind))) (mark_is s.8.0.kind symbol.RightParen s.8.1)
+          ∙ ap (param_ends recursive at x before q.binder (Some q.type)) s.8.1,
     )
     )
     )
     )
 
-leads_params : (ps : List ParamSyntax) (recursive : Bool) (at : ℕ) (x : List ℕ) (decls : List ParamSyntax) (tokens rest : List Token) → ParamsSpell ps tokens rest → ParamsFit ps
-    → Leads (Expects (Params recursive at x decls)) tokens (Expects (Params recursive at x (decls ++ ps))) rest
-leads_params [] recursive at x decls tokens rest s fits =
-    leads_here (Expects (Params recursive at x decls)) (Expects (Params recursive at x (decls ++ []))) tokens rest (ap (λ w. Expects (Params recursive at x w)) (sym (append-nil decls))) s
-leads_params (q ∷ ps) recursive at x decls tokens rest s fits =
-    thence (leads_param recursive at x decls q tokens s.0 s.1 fits.0)
+leads_params : (ps : List ParamSyntax) (recursive : Bool) (at : ℕ) (x : List ℕ) (before : List ParamSyntax) (tokens rest : List Token) → ParamsSpell ps tokens rest → ParamsFit ps
+    → Leads (Expects (Params recursive at x before)) tokens (Expects (Params recursive at x (before ++ ps))) rest
+leads_params [] recursive at x before tokens rest s fits =
+    leads_here (Expects (Params recursive at x before)) (Expects (Params recursive at x (before ++ []))) tokens rest (ap (λ w. Expects (Params recursive at x w)) (sym (append-nil before))) s
+leads_params (q ∷ ps) recursive at x before tokens rest s fits =
+    thence (leads_param recursive at x before q tokens s.0 s.1 fits.0)
     (
-    leads_as (Expects (Params recursive at x (decls ++ q ∷ []))) (Expects (Params recursive at x ((decls ++ q ∷ []) ++ ps))) (Expects (Params recursive at x (decls ++ q ∷ ps))) s.0 rest
-    (leads_params ps recursive at x (decls ++ q ∷ []) s.0 rest s.2 fits.1) (ap (λ w. Expects (Params recursive at x w)) (append_assoc decls (q ∷ []) ps))
+    leads_as (Expects (Params recursive at x (before ++ q ∷ []))) (Expects (Params recursive at x ((before ++ q ∷ []) ++ ps))) (Expects (Params recursive at x (before ++ q ∷ ps))) s.0 rest
+    (leads_params ps recursive at x (before ++ q ∷ []) s.0 rest s.2 fits.1) (ap (λ w. Expects (Params recursive at x w)) (append_assoc before (q ∷ []) ps))
     )
 
 leads_result : (r : Option TypeSyntax) (recursive : Bool) (at : ℕ) (x : List ℕ) (ps : List ParamSyntax) (tokens mid rest : List Token) → ResultSpells r tokens mid → First equal mid rest → ResultFits recursive r

@@ -9,6 +9,7 @@ mod ProgramSound
 mod DeclHeights
 mod ProgramLow
 mod ProgramWhole
+mod ProgramExact
 mod ProgramNodes
 mod LimitLaws
 mod DeclTaken

@@ -5,10 +5,10 @@ use Rattle.um_syntax.specs.declared.token.Token.{Token}
 use Rattle.um_syntax.specs.declared.token.Kind.{Kind}
 use Rattle.um_tree.specs.RawTree.{ExprSyntax, DeclSyntax, base_syntax, short_syntax, record_decl_syntax, function_syntax}
 use Rattle.um_types.specs.Machines.{runs}
-use Rattle.um_types.specs.UnitMachine.{act as unit_act}
 use Rattle.um_types.proofs.Reaching.{runs_append, runs_refused, lift}
 use Rattle.um_types.proofs.UnitComplete.{into as unit_into}
-use Rattle.um_types.proofs.UnitNested.{other_refused}
+use Rattle.um_types.specs.UnitTokens.{unit_token}
+use Rattle.um_types.proofs.TokenLinks.{foreign_refused}
 use Rattle.um_syntax.specs.declared.vocabulary.Keyword.TheVariants as keyword
 use Rattle.um_syntax.specs.declared.vocabulary.Symbol.TheVariants as symbol
 use Rattle.um_expr.specs.declared.token.ExprToken.{ExprToken}
@@ -19,7 +19,7 @@ use Rattle.um_parse.specs.DeclGrammar.{DeclSpells, DeclsSpell, DeclFits, DeclsFi
 use Rattle.um_parse.specs.DeclMachine.{DeclBegin, DeclState, Expects, HaveBase, InShort, HaveRecord, InField, InParam, InResult, InBody, NoDecl, base_after, short_goes, body_goes, decl_step, decl_finish, ProgramState, InProgram, NoProgram, program_goes, next_decl, program_step, program_found, program_finish}
 use Rattle.um_parse.specs.ProgramStops.{Begins}
 use Rattle.um_parse.specs.ProgramStates.{start}
-use Rattle.um_expr.proofs.TokensBehindTypes.{begins_decl, decl_no_unit}
+use Rattle.um_expr.proofs.ExprTokenKinds.{begins_decl, decl_is_foreign}
 use Rattle.um_expr.proofs.ExprEnds.{opened, last_atom}
 use Rattle.um_parse.proofs.DeclComplete.{decl_into, decl_finds, decl_leads}
 
@@ -40,7 +40,7 @@ expr_stops frames t _ p g k h = absurd cc
 decl_stops : (d : DeclSyntax) (token : Token) → begins_decl (expr_token token.kind) ≡ true → decl_step (decl_into d) token ≡ NoDecl
 decl_stops (base_syntax at x) token h = base_stops at x (expr_token token.kind) h
 decl_stops (short_syntax at x u) token h =
-    ap (λ w. short_goes at x (unit_act (unit_into [] u) w token.start)) (decl_no_unit token.kind h) ∙ ap (short_goes at x) (other_refused (unit_into [] u) token.start)
+    ap (short_goes at x) (foreign_refused (unit_into [] u) (unit_token token.kind) token.start (decl_is_foreign token.kind h))
 decl_stops (record_decl_syntax at x vs fs) token h = refl
 decl_stops (function_syntax f) token h =
     ap (body_goes f.recursive f.at f.name f.params f.result) (expr_stops (opened [] f.body) (last_atom f.body) (expr_token token.kind) token.start token.glued token.kind h)

@@ -4,6 +4,7 @@ pub mod ProgramHeights
 pub mod ProgramLimits
 pub mod ProgramStops
 pub mod Parsed
+pub mod Laws
 -- what mirrors the code: the machine that reads token by token, and what the readers hold
 pub mod DeclMachine
 pub mod DeclViews
