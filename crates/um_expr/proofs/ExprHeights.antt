@@ -26,7 +26,7 @@ use Rattle.um_expr.specs.ExprLeast.{side, least_over, expected_least, expr_least
 use Rattle.um_expr.specs.ExprHeights.{notes_in, notes_in_all, notes_in_fields, whole_expr_height}
 use Rattle.um_expr.proofs.ExprEnds.{infix_low}
 use Rattle.um_expr.proofs.ExprPrefixes.{SpellsPrefix}
-use Rattle.um_expr.proofs.ExprEndings.{operand, filled, all_filled, expected_filled, expr_completed}
+use Rattle.um_expr.proofs.ExprCompletions.{operand, filled, all_filled, expected_filled, expr_completed}
 
 -- ---- one part more
 

@@ -13,7 +13,7 @@ use Rattle.um_expr.proofs.ExprComplete.{into}
 use Rattle.um_expr.proofs.ExprReads.{complete}
 use Rattle.um_expr.proofs.ExprSound.{spells_prefix}
 use Rattle.um_expr.proofs.ExprPrefixes.{SpellsPrefix}
-use Rattle.um_expr.proofs.ExprEndings.{expr_ending, expr_completed, expr_can_end}
+use Rattle.um_expr.proofs.ExprCompletions.{expr_ending, expr_completed, expr_can_end}
 
 pub into_on : (frames : List Frame) (t : ExprSyntax) → into frames t ≢ Refused
 into_on frames t e = cc

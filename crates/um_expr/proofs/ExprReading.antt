@@ -17,7 +17,7 @@ use Rattle.um_expr.specs.ExprTakes.{expr_state}
 use Rattle.um_expr.specs.Laws.{Begins, BeginsWithin, Finds, HasTaken, EachTokenIsTaken, WholeExpressionsAreFound}
 use Rattle.um_expr.proofs.ExprComplete.{into}
 use Rattle.um_expr.proofs.ExprSound.{spells_prefix, expr_found}
-use Rattle.um_expr.proofs.ExprEndings.{expr_ending, expr_completed}
+use Rattle.um_expr.proofs.ExprCompletions.{expr_ending, expr_completed}
 use Rattle.um_expr.proofs.ExprHeights.{expr_completed_height, expr_up, expr_found_height}
 use Rattle.um_expr.proofs.ExprLaws.{into_on, expr_finds, reads_as, is_completed, begins_expr, none_begins, expr_is_found}
 

@@ -6,12 +6,12 @@ pub mod ExprComplete
 mod ExprReads
 pub mod ExprPrefixes
 pub mod ExprSound
-pub mod ExprEndings
+pub mod ExprCompletions
 pub mod ExprHeights
 pub mod ExprLaws
 mod ExprReading
 mod ExprLists
 mod ExprStackLaws
 mod ExprLow
-mod ExprGoes
+mod ExprRefusals
 mod ExprExamples

@@ -24,7 +24,7 @@ use Rattle.um_parse.specs.ProgramLeast.{expected_least, decl_least}
 use Rattle.um_parse.specs.DeclMachine.{DeclExpected, DeclBegin, AttributeWord, AttributeGreater, AttributeClose, MeasureType, MeasureName, RecordName, RecordVars, VarBegin, VarWord, VarGreater, VarClose, VarName, VarEnd, RecordEqual, RecordBrace, FieldName, FieldColon, LetName, RecName, Params, ParamBinder, ParamColon, DeclState, Expects, HaveBase, InShort, HaveRecord, InField, InParam, InResult, InBody, NoDecl, body_begins, take_expected, base_after, field_ends, param_ends, result_ends, short_goes, field_goes, param_goes, result_goes, body_goes, decl_step, short_found, body_found, decl_finish}
 use Rattle.um_expr.proofs.ExprHeights.{expr_completed_height, expr_up, expr_found_height}
 use Rattle.um_parse.proofs.DeclPrefixes.{DeclSpellsPrefix}
-use Rattle.um_parse.proofs.DeclEndings.{expected_completed, decl_completed}
+use Rattle.um_parse.proofs.DeclCompletions.{expected_completed, decl_completed}
 
 fields_last : (fs : List FieldDeclSyntax) (f : FieldDeclSyntax) → fields_height (fs ++ f ∷ []) ≡ max (fields_height fs) (whole_height f.type)
 fields_last [] f = omega arith

@@ -4,7 +4,7 @@ mod DeclComplete
 mod ProgramComplete
 mod DeclPrefixes
 mod DeclSound
-mod DeclEndings
+mod DeclCompletions
 mod ProgramSound
 mod DeclHeights
 mod ProgramLow

@@ -10,7 +10,7 @@ use Rattle.um_parse.specs.ProgramHeights.{decl_height, program_height}
 use Rattle.um_parse.specs.ProgramLeast.{decl_least, program_least}
 use Rattle.um_parse.specs.ProgramStates.{start}
 use Rattle.um_parse.specs.ProgramStops.{BeginsWithin}
-use Rattle.um_parse.proofs.DeclEndings.{decl_completed}
+use Rattle.um_parse.proofs.DeclCompletions.{decl_completed}
 use Rattle.um_parse.proofs.DeclHeights.{decl_completed_height, decl_up, decl_found_height}
 use Rattle.um_parse.proofs.ProgramComplete.{program_into, program_finds, reads_as}
 use Rattle.um_parse.proofs.ProgramSound.{ProgramSpellsPrefix, spells_prefix, program_ending, program_completed, can_go_on}

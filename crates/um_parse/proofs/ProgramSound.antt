@@ -9,7 +9,7 @@ use Rattle.um_parse.specs.DeclMachine.{DeclBegin, DeclState, Expects, HaveBase, 
 use Rattle.um_parse.specs.ProgramStops.{Begins}
 use Rattle.um_parse.proofs.DeclPrefixes.{DeclSpellsPrefix}
 use Rattle.um_parse.proofs.DeclSound.{decl_sound, decl_found}
-use Rattle.um_parse.proofs.DeclEndings.{decl_ending, decl_completed, decl_can_end}
+use Rattle.um_parse.proofs.DeclCompletions.{decl_ending, decl_completed, decl_can_end}
 use Rattle.um_parse.specs.ProgramStates.{start}
 
 abbrev pub ProgramSpellsPrefix : ProgramState → List Token → List Token → Type 0

@@ -1,7 +1,7 @@
 use Rattle.std.proofs.Common.{arith}
 use Rattle.um_expr.specs.ExprOperands.{operand_expr}
 use Rattle.um_expr.specs.ExprStack.{frames_of}
-use Rattle.um_expr.proofs.ExprGoes.{greater_refused}
+use Rattle.um_expr.proofs.ExprRefusals.{greater_refused}
 use Rattle.um_expr.proofs.sign.greater_after.Goals as goal
 
 pub returns-in_ok-whole : goal.returns-in_ok-whole

@@ -3,7 +3,7 @@ use Rattle.um_expr.specs.Ranks.{left_limit}
 use Rattle.um_expr.specs.ExprMachine.{reduce}
 use Rattle.um_expr.specs.ExprOperands.{operand_expr}
 use Rattle.um_expr.specs.ExprStack.{frames_of}
-use Rattle.um_expr.proofs.ExprGoes.{limit_low, sign_refused}
+use Rattle.um_expr.proofs.ExprRefusals.{limit_low, sign_refused}
 use Rattle.um_expr.proofs.sign.infix_after.Goals as goal
 
 pub returns-in_ok-whole : goal.returns-in_ok-whole

@@ -16,7 +16,7 @@ use Rattle.um_types.proofs.TypeSound.{TypeStands}
 use Rattle.um_types.proofs.TypeLaws.{type_ending, type_completed, type_can_end}
 use Rattle.um_parse.specs.DeclGrammar.{Attribute, VarsSpell, FieldDeclsSpell, DeclSpells, DeclFits}
 use Rattle.um_parse.specs.DeclMachine.{DeclExpected, DeclBegin, AttributeWord, AttributeGreater, AttributeClose, MeasureType, MeasureName, RecordName, RecordVars, VarBegin, VarWord, VarGreater, VarClose, VarName, VarEnd, RecordEqual, RecordBrace, FieldName, FieldColon, LetName, RecName, Params, ParamBinder, ParamColon, DeclState, Expects, HaveBase, InShort, HaveRecord, InField, InParam, InResult, InBody, NoDecl}
-use Rattle.um_expr.proofs.ExprEndings.{operand_token, operand, expr_ending, expr_completed, expr_can_end}
+use Rattle.um_expr.proofs.ExprCompletions.{operand_token, operand, expr_ending, expr_completed, expr_can_end}
 use Rattle.um_parse.proofs.DeclPrefixes.{RecordHead, VarsOpen, RecordOpens, FunctionHead, ExpectedReads, ExpectedFits, DeclSpellsPrefix, vars_last, vars_close, fields_last, fields_fit, params_fit, head_last}
 
 abbrev token_of : Kind → Token
