@@ -9,7 +9,6 @@ pub mod UnitStates
 pub mod UnitReads
 pub mod UnitAnswer
 pub mod UnitParsed
-pub mod TypeTokens
 pub mod TypeGrammar
 pub mod TypeHeights
 pub mod SignatureGrammar
