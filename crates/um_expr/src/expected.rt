@@ -15,6 +15,7 @@ use crate::operand::Operand;
 use crate::operands::ReadFields;
 use crate::token::ExprToken;
 use std::alloc::{AllocError, Global};
+use um_syntax::Symbol;
 use um_tree::{Binder, Name, Sign};
 use um_types::TypeReader;
 

@@ -1,18 +1,19 @@
-//! Laws of the grammar of expressions and of its reader. A call does nothing: what it ensures is the law.
-ghost use Rattle.um_expr.specs.Laws.{EachTokenIsTaken, WholeExpressionsAreFound, ExpressionsAreUnique};
+//! Laws of expressions and of their reader, by the grammar alone. A call does nothing: what it ensures is the law.
+ghost use Rattle.um_expr.specs.Laws.{ExpressionsAreUnambiguous, ExprReaderTells, ExprReaderFinds};
 
-/// What a reader gives for one token more, by the grammar: it goes on while the tokens begin an expression within the heights,
-/// stops at the first token through which they begin none, and then has found the expression that stands before it.
-pub fn each_token_is_taken()
-    ensures { EachTokenIsTaken }
+/// No two expressions have the same tokens.
+pub fn expressions_are_unambiguous()
+    ensures { ExpressionsAreUnambiguous }
 {}
 
-/// A reader that has taken the tokens of an expression finds it, and one that finds an expression has taken its tokens.
-pub fn whole_expressions_are_found()
-    ensures { WholeExpressionsAreFound }
+/// What [`crate::ExprReader::take`] answers to a token, by the grammar of expressions: the reader goes on, and the tokens
+/// through it begin an expression within the heights; or they begin expressions, but none within the heights; or they begin
+/// none, and what was found is the expression that the tokens before it are, if they are one.
+pub fn expr_reader_tells()
+    ensures { ExprReaderTells }
 {}
 
-/// No other tree has the same tokens.
-pub fn expressions_are_unique()
-    ensures { ExpressionsAreUnique }
+/// What [`crate::ExprReader::finish`] answers: the expression that the tokens that were taken are, if they are one.
+pub fn expr_reader_finds()
+    ensures { ExprReaderFinds }
 {}
