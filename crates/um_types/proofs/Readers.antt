@@ -70,3 +70,40 @@ pub found_tree : {S T : Type 0} → (act : S → Token → S) → (refused start
     → IsReaderOf S T act refused start finish least Is height → (tokens : List Token) (found : Option T) → found ≡ finish (runs act start tokens) → IsTreeOf Is tokens found
 found_tree act refused start finish least Is height r tokens (Some t) e = r.found tokens t (sym e)
 found_tree act refused start finish least Is height r tokens None e = λ t p. none_some t (e ∙ r.finds tokens t p)
+
+-- ---- one token more of a reader that has taken some
+
+next_state : {S : Type 0} → (act : S → Token → S) → (start old : S) → (read : List Token) (token : Token) → old ≡ runs act start read → act old token ≡ runs act start (read ++ token ∷ [])
+next_state act start old read token e = ap (λ s. act s token) e ∙ sym (runs_append act read (token ∷ []) start)
+
+pub goes_tells : {S T : Type 0} → (act : S → Token → S) → (refused start : S) → (finish : S → Option T) → (least : S → ℕ) → (Is : List Token → T → Type 0) → (height : T → ℕ)
+    → IsReaderOf S T act refused start finish least Is height → (old new : S) → (read : List Token) (token : Token) (limit : ℕ) → old ≡ runs act start read → act old token ≡ new → new ≢ refused → least new ≤ limit
+    → (new ≡ runs act start (read ++ token ∷ [])) × BeginsTextWithin Is height limit (read ++ token ∷ [])
+goes_tells act refused start finish least Is height r old new read token limit has step ok low =
+    let e : new ≡ runs act start (read ++ token ∷ []) = sym step ∙ next_state act start old read token has in
+    (e, begins_within act refused start finish least Is height r (read ++ token ∷ []) limit (λ h. ok (e ∙ h)) (subst (λ s. least s ≤ limit) e low))
+
+pub high_tells : {S T : Type 0} → (act : S → Token → S) → (refused start : S) → (finish : S → Option T) → (least : S → ℕ) → (Is : List Token → T → Type 0) → (height : T → ℕ)
+    → IsReaderOf S T act refused start finish least Is height → (old : S) → (read : List Token) (token : Token) (limit : ℕ) → old ≡ runs act start read → act old token ≢ refused → limit < least (act old token)
+    → BeginsText Is (read ++ token ∷ []) × (BeginsTextWithin Is height limit (read ++ token ∷ []) → ⊥)
+high_tells act refused start finish least Is height r old read token limit has ok high =
+    let e = next_state act start old read token has in (
+      begins_text act refused start finish least Is height r (read ++ token ∷ []) (λ h. ok (e ∙ h)),
+      none_lower act refused start finish least Is height r (read ++ token ∷ []) limit (subst (λ s. limit < least s) e high),
+    )
+
+pub stops_tells : {S T : Type 0} → (act : S → Token → S) → (refused start : S) → (finish : S → Option T) → (least : S → ℕ) → (Is : List Token → T → Type 0) → (height : T → ℕ)
+    → IsReaderOf S T act refused start finish least Is height → (old : S) → (read : List Token) (token : Token) (found : Option T) → old ≡ runs act start read → act old token ≡ refused → found ≡ finish old
+    → (BeginsText Is (read ++ token ∷ []) → ⊥) × IsTreeOf Is read found
+stops_tells act refused start finish least Is height r old read token found has stops is = (
+  begins_none act refused start finish least Is height r (read ++ token ∷ []) (sym (next_state act start old read token has) ∙ stops),
+  found_tree act refused start finish least Is height r read found (is ∙ ap finish has),
+)
+
+-- ---- what the tokens of a state say goes over from token to token
+
+pub runs_sound : {S : Type 0} → (act : S → Token → S) → (Spells : S → List Token → List Token → Type 0)
+    → ((st : S) (x : Token) (tokens rest : List Token) → Spells st tokens (x ∷ rest) → Spells (act st x) tokens rest)
+    → (read : List Token) (st : S) (tokens rest : List Token) → Spells st tokens (read ++ rest) → Spells (runs act st read) tokens rest
+runs_sound act Spells sound [] st tokens rest h = h
+runs_sound act Spells sound (x ∷ read) st tokens rest h = runs_sound act Spells sound read (act st x) tokens rest (sound st x tokens (read ++ rest) h)

@@ -1,6 +1,7 @@
 //! The grammar of unit texts, notes, types and signature texts: from tokens to raw trees, with the exact place of each refusal.
 #![tactic(auto)]
 
+pub mod laws;
 mod note_take;
 mod parse;
 mod signature;
