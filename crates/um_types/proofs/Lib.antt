@@ -8,6 +8,8 @@ mod UnitWhole
 mod UnitCounts
 mod UnitSteps
 pub mod Reaching
+pub mod Readers
+mod Fewer
 pub mod UnitCut
 pub mod UnitNested
 pub mod TokenLinks
@@ -21,3 +23,5 @@ mod TypeNotes
 mod SignatureWhole
 mod SignatureSteps
 mod SignatureExact
+mod UnitExact
+mod ReaderLaws

@@ -2,16 +2,17 @@
 use Rattle.std.proofs.Common.{◌≡◌, ◌≢◌, ℕ, ◌≤◌, max, List, [], ◌∷◌, ◌++◌, Option, Some, None, refl, sym, ap, subst, ◌∙◌, append_assoc, arith}
 use Rattle.std.proofs.lemmas.List.{append-nil}
 use Rattle.um_syntax.specs.declared.token.Token.{Token}
+use Rattle.um_syntax.specs.declared.token.Kind.{Kind}
+use Rattle.um_syntax.specs.declared.token.Kind.TheVariants as kind
+use Rattle.um_syntax.specs.declared.vocabulary.Symbol.TheVariants as symbol
 use Rattle.um_tree.specs.RawTree.{TypeSyntax}
-use Rattle.um_types.specs.TypeTokens.{TypeToken, symbol, name, type_token}
-use Rattle.um_types.specs.TypeGrammar.{FirstSymbol, TypeSpells, TypeFits}
+use Rattle.um_types.specs.TypeGrammar.{FirstSign, TypeSpells, TypeFits}
 use Rattle.um_types.specs.TypeHeights.{whole_height, all_height}
 use Rattle.um_types.specs.SignatureGrammar.{TypesSpell, TypesFit, IsSignature, BeginsSignature, BeginsSignatureWithin}
 use Rattle.um_types.specs.Machines.{runs, Reaches}
 use Rattle.um_types.specs.NoteMachine.{NoteState}
 use Rattle.um_types.specs.TypeMachine.{Owner, TypeState, NeedType, HaveType, InNote, NoType, type_after, type_step, type_finish}
 use Rattle.um_types.specs.SignatureMachine.{SignatureState, InType, NoSignature, type_end, type_ends, type_goes, signature_step, typed, signature_finish, signature_least, start, read_all}
-use Rattle.um_types.specs.declared.type_symbol.Symbol.TheVariants as symbol_of
 use Rattle.um_types.proofs.Reaching.{runs_append, runs_refused, reaches_one, reaches_then, reaches_inside, reaches_all}
 use Rattle.um_types.proofs.TypeComplete.{type_reaches}
 use Rattle.um_types.proofs.TypeSound.{TypeStands, type_sound, type_found}
@@ -38,7 +39,7 @@ type_goes_on front NoType ended ok = absurd (ok refl)
 
 type_inside : (front : List TypeSyntax) (s new : TypeState) (token : Token) → type_step s token ≡ new → new ≢ NoType → signature_step (InType front s) token ≡ InType front new
 type_inside front s new token e ok =
-    let ended : SignatureState = type_ends front (type_finish s) (type_token token.kind) in
+    let ended : SignatureState = type_ends front (type_finish s) token.kind in
     ap (λ w. type_goes front w ended) e ∙ type_goes_on front new ended ok
 
 reads_type : (front : List TypeSyntax) (t : TypeSyntax) (tokens rest : List Token) → TypeSpells t tokens rest → TypeFits t
@@ -47,7 +48,7 @@ reads_type front t tokens rest s fits =
     reaches_inside type_step NoType (λ x. refl) signature_step NoSignature (λ w. InType front w) (type_inside front) (NeedType 0) (HaveType 0 t) tokens rest (in_type front (HaveType 0 t))
     (type_reaches t 0 tokens rest s fits)
 
-reads_arrow : (front : List TypeSyntax) (t : TypeSyntax) (tokens rest : List Token) → FirstSymbol symbol_of.Arrow tokens rest
+reads_arrow : (front : List TypeSyntax) (t : TypeSyntax) (tokens rest : List Token) → FirstSign symbol.Arrow tokens rest
     → SignatureReaches (InType front (HaveType 0 t)) tokens (InType (front ++ t ∷ []) (NeedType 0)) rest
 reads_arrow front t tokens rest f =
     reaches_one signature_step NoSignature (InType front (HaveType 0 t)) (InType (front ++ t ∷ []) (NeedType 0)) f.0 tokens rest f.2
@@ -98,7 +99,7 @@ none_begins_signature tokens e b =
 -- each type with the arrow behind it
 abbrev FrontSpells : List TypeSyntax → List Token → List Token → Type 0
 FrontSpells [] tokens rest = tokens ≡ rest
-FrontSpells (t ∷ ts) tokens rest = (mid next : List Token) × TypeSpells t tokens mid × FirstSymbol symbol_of.Arrow mid next × FrontSpells ts next rest
+FrontSpells (t ∷ ts) tokens rest = (mid next : List Token) × TypeSpells t tokens mid × FirstSign symbol.Arrow mid next × FrontSpells ts next rest
 
 -- the tokens up to the rest are those of the state
 abbrev SignatureStands : SignatureState → List Token → List Token → Type 0
@@ -110,7 +111,7 @@ types_last [] t tokens mid rest e s = subst (λ w. TypeSpells t w rest) (sym e) 
 types_last (u ∷ []) t tokens mid rest f s = (f.0, f.1, f.2, f.3, subst (λ w. TypeSpells t w rest) (sym f.4) s)
 types_last (u ∷ v ∷ us) t tokens mid rest f s = (f.0, f.1, f.2, f.3, types_last (v ∷ us) t f.1 mid rest f.4 s)
 
-front_last : (front : List TypeSyntax) (t : TypeSyntax) (tokens mid next rest : List Token) → FrontSpells front tokens mid → TypeSpells t mid next → FirstSymbol symbol_of.Arrow next rest
+front_last : (front : List TypeSyntax) (t : TypeSyntax) (tokens mid next rest : List Token) → FrontSpells front tokens mid → TypeSpells t mid next → FirstSign symbol.Arrow next rest
     → FrontSpells (front ++ t ∷ []) tokens rest
 front_last [] t tokens mid next rest e s a = (next, rest, subst (λ w. TypeSpells t w next) (sym e) s, a, refl)
 front_last (u ∷ us) t tokens mid next rest f s a = (f.0, f.1, f.2, f.3, front_last us t f.1 mid next rest f.4 s a)
@@ -128,25 +129,16 @@ have_is depth t e = cc
 note_is : (depth : ℕ) (owner : Owner) (n : NoteState) → InNote depth owner n ≢ NoType
 note_is depth owner n e = cc
 
-end_sound : (front : List TypeSyntax) (t : TypeSyntax) (what : TypeToken) (tokens mid next rest : List Token) → FrontSpells front tokens mid → TypesFit front → TypeSpells t mid next → TypeFits t
-    → (x : Token) × (type_token x.kind ≡ what) × (next ≡ x ∷ rest) → SignatureStands (type_end front t what) tokens rest
-end_sound front t (symbol symbol_of.Arrow) tokens mid next rest o ff s fits f = (rest, front_last front t tokens mid next rest o s f, fits_last front t ff fits, refl, need_is 0)
-end_sound front t (symbol symbol_of.Num) tokens mid next rest o ff s fits f = tt
-end_sound front t (symbol symbol_of.Bool) tokens mid next rest o ff s fits f = tt
-end_sound front t (symbol symbol_of.List) tokens mid next rest o ff s fits f = tt
-end_sound front t (symbol symbol_of.Open) tokens mid next rest o ff s fits f = tt
-end_sound front t (symbol symbol_of.Close) tokens mid next rest o ff s fits f = tt
-end_sound front t (symbol symbol_of.Less) tokens mid next rest o ff s fits f = tt
-end_sound front t (symbol symbol_of.Greater) tokens mid next rest o ff s fits f = tt
-end_sound front t (symbol symbol_of.Comma) tokens mid next rest o ff s fits f = tt
-end_sound front t (symbol symbol_of.Other) tokens mid next rest o ff s fits f = tt
-end_sound front t (name y) tokens mid next rest o ff s fits f = tt
+end_sound : (front : List TypeSyntax) (t : TypeSyntax) (what : Kind) (tokens mid next rest : List Token) → FrontSpells front tokens mid → TypesFit front → TypeSpells t mid next → TypeFits t
+    → (x : Token) × (x.kind ≡ what) × (next ≡ x ∷ rest) → SignatureStands (type_end front t what) tokens rest
+end_sound front t (kind.Sign symbol.Arrow) tokens mid next rest o ff s fits f = (rest, front_last front t tokens mid next rest o s f, fits_last front t ff fits, refl, need_is 0)
+end_sound front t _ tokens mid next rest o ff s fits f = tt
 
 ends_sound : (front : List TypeSyntax) (s : TypeState) (found : Option TypeSyntax) (x : Token) (tokens rest : List Token) → SignatureStands (InType front s) tokens (x ∷ rest)
-    → type_finish s ≡ found → SignatureStands (type_ends front found (type_token x.kind)) tokens rest
+    → type_finish s ≡ found → SignatureStands (type_ends front found x.kind) tokens rest
 ends_sound front s None x tokens rest h e = tt
 ends_sound front s (Some t) x tokens rest h e =
-    let p = type_found s t h.0 (x ∷ rest) h.3 e in end_sound front t (type_token x.kind) tokens h.0 (x ∷ rest) rest h.1 h.2 p.0 p.1 (x, refl, refl)
+    let p = type_found s t h.0 (x ∷ rest) h.3 e in end_sound front t x.kind tokens h.0 (x ∷ rest) rest h.1 h.2 p.0 p.1 (x, refl, refl)
 
 goes_sound : (front : List TypeSyntax) (s : TypeState) (ended : SignatureState) (tokens mid rest : List Token) → FrontSpells front tokens mid → TypesFit front → TypeStands s mid rest
     → SignatureStands ended tokens rest → SignatureStands (type_goes front s ended) tokens rest
@@ -157,7 +149,7 @@ goes_sound front NoType ended tokens mid rest o ff s h = h
 
 signature_sound : (st : SignatureState) (x : Token) (tokens rest : List Token) → SignatureStands st tokens (x ∷ rest) → SignatureStands (signature_step st x) tokens rest
 signature_sound (InType front s) x tokens rest h =
-    goes_sound front (type_step s x) (type_ends front (type_finish s) (type_token x.kind)) tokens h.0 rest h.1 h.2 (type_sound s x h.0 rest h.3)
+    goes_sound front (type_step s x) (type_ends front (type_finish s) x.kind) tokens h.0 rest h.1 h.2 (type_sound s x h.0 rest h.3)
     (ends_sound front s (type_finish s) x tokens rest h refl)
 signature_sound NoSignature x tokens rest h = tt
 
@@ -223,20 +215,11 @@ begins_signature_within read limit ok le =
       omega (arith, le, same),
     )
 
-end_up : (front : List TypeSyntax) (t : TypeSyntax) (what : TypeToken) → type_end front t what ≢ NoSignature → max (all_height front) (whole_height t) ≤ signature_least (type_end front t what)
-end_up front t (symbol symbol_of.Arrow) ok = let e = all_height_last front t in omega (arith, e)
-end_up front t (symbol symbol_of.Num) ok = absurd (ok refl)
-end_up front t (symbol symbol_of.Bool) ok = absurd (ok refl)
-end_up front t (symbol symbol_of.List) ok = absurd (ok refl)
-end_up front t (symbol symbol_of.Open) ok = absurd (ok refl)
-end_up front t (symbol symbol_of.Close) ok = absurd (ok refl)
-end_up front t (symbol symbol_of.Less) ok = absurd (ok refl)
-end_up front t (symbol symbol_of.Greater) ok = absurd (ok refl)
-end_up front t (symbol symbol_of.Comma) ok = absurd (ok refl)
-end_up front t (symbol symbol_of.Other) ok = absurd (ok refl)
-end_up front t (name x) ok = absurd (ok refl)
+end_up : (front : List TypeSyntax) (t : TypeSyntax) (what : Kind) → type_end front t what ≢ NoSignature → max (all_height front) (whole_height t) ≤ signature_least (type_end front t what)
+end_up front t (kind.Sign symbol.Arrow) ok = let e = all_height_last front t in omega (arith, e)
+end_up front t _ ok = absurd (ok refl)
 
-ends_up : (front : List TypeSyntax) (s : TypeState) (found : Option TypeSyntax) (what : TypeToken) → type_finish s ≡ found → type_ends front found what ≢ NoSignature
+ends_up : (front : List TypeSyntax) (s : TypeState) (found : Option TypeSyntax) (what : Kind) → type_finish s ≡ found → type_ends front found what ≢ NoSignature
     → signature_least (InType front s) ≤ signature_least (type_ends front found what)
 ends_up front s None what e ok = absurd (ok refl)
 ends_up front s (Some t) what e ok = let same = type_found_height s t e in let up = end_up front t what ok in omega (arith, same, up)
@@ -254,8 +237,8 @@ type_in_up front s x ok = let up = type_up s x ok in omega (arith, up)
 -- a token never lowers it
 signature_up : (st : SignatureState) (x : Token) → signature_step st x ≢ NoSignature → signature_least st ≤ signature_least (signature_step st x)
 signature_up (InType front s) x ok =
-    goes_up (signature_least (InType front s)) front (type_step s x) (type_ends front (type_finish s) (type_token x.kind)) ok (λ goes. type_in_up front s x goes)
-    (λ ends. ends_up front s (type_finish s) (type_token x.kind) refl ends)
+    goes_up (signature_least (InType front s)) front (type_step s x) (type_ends front (type_finish s) x.kind) ok (λ goes. type_in_up front s x goes)
+    (λ ends. ends_up front s (type_finish s) x.kind refl ends)
 signature_up NoSignature x ok = absurd (ok refl)
 
 run_up : (tokens : List Token) (st : SignatureState) → runs signature_step st tokens ≢ NoSignature → signature_least st ≤ signature_least (runs signature_step st tokens)

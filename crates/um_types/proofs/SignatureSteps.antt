@@ -2,22 +2,19 @@
 use Rattle.std.proofs.Common.{◌≡◌, ◌≢◌, ℕ, ◌+◌, ◌≤◌, ◌<◌, List, [], ◌∷◌, ◌++◌, length, take, get_or, map, Option, Some, option_map, refl, sym, ap, ◌∙◌, arith}
 use Rattle.std.proofs.lemmas.List.{take_more}
 use Rattle.um_syntax.specs.declared.token.Token.{Token}
+use Rattle.um_syntax.specs.declared.token.Kind.{Kind}
+use Rattle.um_syntax.specs.declared.token.Kind.TheVariants as kind
+use Rattle.um_syntax.specs.declared.vocabulary.Symbol.TheVariants as symbol
 use Rattle.um_tree.specs.declared.raw.RawType.{RawType}
 use Rattle.um_tree.specs.RawTree.{TypeSyntax, type_syntax}
-use Rattle.um_types.specs.TypeTokens.{TypeToken, symbol, name, symbol_in}
 use Rattle.um_types.specs.TypeHeights.{whole_height, all_height}
 use Rattle.um_types.specs.TypeTakes.{type_state}
 use Rattle.um_types.specs.TypeMachine.{NeedType}
 use Rattle.um_types.specs.SignatureMachine.{SignatureState, InType, NoSignature, type_ends, signature_step, signature_least, start, read_all}
 use Rattle.um_types.specs.SignatureReads.{signature_state, SignatureTakes, SignatureIsRead}
-use Rattle.um_types.specs.declared.type_symbol.Symbol.TheVariants as symbol_of
 use Rattle.um_types.specs.declared.type_take.TypeReader.{TypeReader}
 use Rattle.um_types.specs.declared.signature.SignatureStep.TheVariants as step
 use Rattle.um_types.proofs.Reaching.{runs_append}
-
-arrow_is : (what : TypeToken) → symbol_in what ≡ symbol_of.Arrow → what ≡ symbol symbol_of.Arrow
-arrow_is (symbol s) e = ap symbol e
-arrow_is (name x) e = absurd cc
 
 pub texts_last : (front : List RawType) (t : RawType) → map type_syntax (front ++ t ∷ []) ≡ map type_syntax front ++ type_syntax t ∷ []
 texts_last [] t = refl
@@ -28,14 +25,14 @@ heights_last [] t low high = omega arith
 heights_last (u ∷ us) t low high = let rest = heights_last us t (omega (arith, low)) high in omega (arith, low, rest)
 
 -- `->` behind a type
-pub arrow_behind : (front new : List RawType) (t : RawType) (found : Option RawType) (what : TypeToken) (reader : TypeReader) → found ≡ Some t → symbol_in what ≡ symbol_of.Arrow → new ≡ front ++ t ∷ []
+pub arrow_behind : (front new : List RawType) (t : RawType) (found : Option RawType) (what : Kind) (reader : TypeReader) → found ≡ Some t → what ≡ kind.Sign symbol.Arrow → new ≡ front ++ t ∷ []
     → type_state reader ≡ NeedType 0 → all_height (map type_syntax front) ≤ 400 → whole_height (type_syntax t) ≤ 400
     → SignatureTakes (type_ends (map type_syntax front) (option_map type_syntax found) what) new (step.Goes reader)
 arrow_behind front new t found what reader is arrow pushed begun low high =
     let state : SignatureState = type_ends (map type_syntax front) (option_map type_syntax found) what in
     let texts : List TypeSyntax = map type_syntax front ++ type_syntax t ∷ [] in
     let e : state ≡ InType texts (NeedType 0) =
-    ap (λ o. type_ends (map type_syntax front) (option_map type_syntax o) what) is ∙ ap (type_ends (map type_syntax front) (Some (type_syntax t))) (arrow_is what arrow)
+    ap (λ o. type_ends (map type_syntax front) (option_map type_syntax o) what) is ∙ ap (type_ends (map type_syntax front) (Some (type_syntax t))) arrow
     in
     let same : texts ≡ map type_syntax new = sym (ap (map type_syntax) pushed ∙ texts_last front t) in (
       e ∙ ap (λ ts. InType ts (NeedType 0)) same ∙ ap (λ s. InType (map type_syntax new) s) (sym begun),

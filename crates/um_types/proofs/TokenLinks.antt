@@ -1,57 +1,55 @@
--- A sign that ends a note stands in no unit text.
-use Rattle.std.proofs.Common.{◌≡◌, ℕ, Bool, true, false, cond, refl, ap, ◌==◌}
-use Rattle.std.proofs.lemmas.Bool.{eqb-true}
-use Rattle.um_syntax.specs.declared.token.Kind.{Kind}
-use Rattle.um_syntax.specs.declared.token.Kind.TheVariants as kind
-use Rattle.um_types.specs.UnitTokens.{sign, mark_of, unit_token}
-use Rattle.um_types.specs.TypeTokens.{symbol, type_token, sign_symbol}
-use Rattle.um_types.specs.declared.unit_mark.Mark.TheVariants as mark
-use Rattle.um_types.specs.declared.type_symbol.Symbol.{Symbol}
-use Rattle.um_types.specs.declared.type_symbol.Symbol.TheVariants as symbol_of
+-- A token that stands in no unit text is refused in one.
+use Rattle.std.proofs.Common.{◌≡◌, ℕ, Bool, true, false, List, refl}
+use Rattle.std.proofs.lemmas.Bool.{false≢true}
+use Rattle.um_syntax.specs.declared.vocabulary.Symbol.TheVariants as symbol
+use Rattle.um_tree.specs.RawTree.{UnitSyntax}
+use Rattle.um_types.specs.UnitTokens.{UnitToken, sign, measure, variable, number, other}
+use Rattle.um_types.specs.UnitMachine.{Frame, State, Need, Have, Raised, Lowered, Refused, act}
 
-abbrev choice : Bool → Bool → Bool → Bool → Bool → Bool → Symbol
-choice a b c d e f =
-    cond a symbol_of.Open (cond b symbol_of.Close (cond c symbol_of.Less (cond d symbol_of.Greater (cond e symbol_of.Comma (cond f symbol_of.Arrow symbol_of.Other)))))
+-- whether no unit text has the token
+abbrev pub is_foreign : UnitToken → Bool
+is_foreign (measure x) = false
+is_foreign (variable x) = false
+is_foreign (number one power) = false
+is_foreign (sign symbol.LeftParen) = false
+is_foreign (sign symbol.RightParen) = false
+is_foreign (sign symbol.Star) = false
+is_foreign (sign symbol.Slash) = false
+is_foreign (sign symbol.Caret) = false
+is_foreign (sign symbol.Minus) = false
+is_foreign _ = true
 
-greater_chosen : (a b c d e f : Bool) → choice a b c d e f ≡ symbol_of.Greater → d ≡ true
-greater_chosen true b c d e f h = absurd cc
-greater_chosen false true c d e f h = absurd cc
-greater_chosen false false true d e f h = absurd cc
-greater_chosen false false false true e f h = refl
-greater_chosen false false false false true f h = absurd cc
-greater_chosen false false false false false true h = absurd cc
-greater_chosen false false false false false false h = absurd cc
+in_need : (frames : List Frame) (what : UnitToken) (at : ℕ) → is_foreign what ≡ true → act (Need frames) what at ≡ Refused
+in_need frames (measure x) at e = absurd (false≢true e)
+in_need frames (variable x) at e = absurd (false≢true e)
+in_need frames (number one power) at e = absurd (false≢true e)
+in_need frames (sign symbol.LeftParen) at e = absurd (false≢true e)
+in_need frames (sign symbol.Slash) at e = absurd (false≢true e)
+in_need frames _ at e = refl
 
-comma_chosen : (a b c d e f : Bool) → choice a b c d e f ≡ symbol_of.Comma → e ≡ true
-comma_chosen true b c d e f h = absurd cc
-comma_chosen false true c d e f h = absurd cc
-comma_chosen false false true d e f h = absurd cc
-comma_chosen false false false true e f h = absurd cc
-comma_chosen false false false false true f h = refl
-comma_chosen false false false false false true h = absurd cc
-comma_chosen false false false false false false h = absurd cc
+in_have : (frames : List Frame) (t : UnitSyntax) (what : UnitToken) (at : ℕ) → is_foreign what ≡ true → act (Have frames t) what at ≡ Refused
+in_have frames t (measure x) at e = absurd (false≢true e)
+in_have frames t (variable x) at e = absurd (false≢true e)
+in_have frames t (number one power) at e = absurd (false≢true e)
+in_have frames t (sign symbol.LeftParen) at e = absurd (false≢true e)
+in_have frames t (sign symbol.RightParen) at e = absurd (false≢true e)
+in_have frames t (sign symbol.Star) at e = absurd (false≢true e)
+in_have frames t (sign symbol.Slash) at e = absurd (false≢true e)
+in_have frames t (sign symbol.Caret) at e = absurd (false≢true e)
+in_have frames t _ at e = refl
 
-is_greater : (k : ℕ) → sign_symbol k ≡ symbol_of.Greater → k ≡ 8
-is_greater k h = eqb-true k 8 (greater_chosen (k == 0) (k == 1) (k == 7) (k == 8) (k == 20) (k == 25) h)
+in_raised : (frames : List Frame) (t : UnitSyntax) (what : UnitToken) (at : ℕ) → is_foreign what ≡ true → act (Raised frames t) what at ≡ Refused
+in_raised frames t (number one power) at e = absurd (false≢true e)
+in_raised frames t (sign symbol.Minus) at e = absurd (false≢true e)
+in_raised frames t _ at e = refl
 
-is_comma : (k : ℕ) → sign_symbol k ≡ symbol_of.Comma → k ≡ 20
-is_comma k h = eqb-true k 20 (comma_chosen (k == 0) (k == 1) (k == 7) (k == 8) (k == 20) (k == 25) h)
+in_lowered : (frames : List Frame) (t : UnitSyntax) (what : UnitToken) (at : ℕ) → is_foreign what ≡ true → act (Lowered frames t) what at ≡ Refused
+in_lowered frames t (number one power) at e = absurd (false≢true e)
+in_lowered frames t _ at e = refl
 
-same_symbol : (a b : Symbol) → symbol a ≡ symbol b → a ≡ b
-same_symbol a b e = cc
-
-pub greater_other : (k : Kind) → type_token k ≡ symbol symbol_of.Greater → unit_token k ≡ sign mark.Other
-greater_other (kind.Sign k) e = ap (λ n. sign (mark_of n)) (is_greater k (same_symbol (sign_symbol k) symbol_of.Greater e))
-greater_other (kind.Word k) e = refl
-greater_other kind.Hole e = refl
-greater_other (kind.Name x) e = absurd cc
-greater_other (kind.Var x) e = absurd cc
-greater_other (kind.Number value digits one) e = absurd cc
-
-pub comma_other : (k : Kind) → type_token k ≡ symbol symbol_of.Comma → unit_token k ≡ sign mark.Other
-comma_other (kind.Sign k) e = ap (λ n. sign (mark_of n)) (is_comma k (same_symbol (sign_symbol k) symbol_of.Comma e))
-comma_other (kind.Word k) e = refl
-comma_other kind.Hole e = refl
-comma_other (kind.Name x) e = absurd cc
-comma_other (kind.Var x) e = absurd cc
-comma_other (kind.Number value digits one) e = absurd cc
+pub foreign_refused : (st : State) (what : UnitToken) (at : ℕ) → is_foreign what ≡ true → act st what at ≡ Refused
+foreign_refused (Need frames) what at e = in_need frames what at e
+foreign_refused (Have frames t) what at e = in_have frames t what at e
+foreign_refused (Raised frames t) what at e = in_raised frames t what at e
+foreign_refused (Lowered frames t) what at e = in_lowered frames t what at e
+foreign_refused Refused what at e = refl

@@ -3,7 +3,7 @@ use Rattle.std.proofs.Common.{◌≡◌, ℕ, ◌≤◌, ℤ, List, [], ◌∷�
 use Rattle.um_syntax.specs.declared.token.Token.{Token}
 use Rattle.um_tree.specs.RawTree.{UnitSyntax, UnitSyntaxes, one_syntax, measure_syntax, variable_syntax, power_syntax, side_syntax, times_syntax, over_syntax, inverse_syntax, bracket_syntax, no_units, more_units, units_in_order}
 use Rattle.um_types.specs.UnitTokens.{UnitToken, sign, measure, variable, number}
-use Rattle.um_types.specs.declared.unit_mark.Mark.TheVariants as mark
+use Rattle.um_syntax.specs.declared.vocabulary.Symbol.TheVariants as symbol
 use Rattle.um_types.specs.UnitGrammar.{First, FirstAt, PowerSpells, Spells, AllSpell, rank, Fits, ArePowers}
 use Rattle.um_types.specs.UnitMachine.{Frame, InBracket, InInverse, InTimes, InOver, InSide, State, Need, Have, Raised, Lowered, Refused, top_limit, opens, reduce, juxtapose, begin, times_after, over_after, close_after, raise, after, act, run}
 
@@ -81,7 +81,7 @@ rank_low (bracket_syntax at u) = omega arith
 
 -- ---- signs behind a unit that was read
 
-on_times : (st : State) (at : ℕ) → act st (sign mark.Times) at ≡ times_after (red st)
+on_times : (st : State) (at : ℕ) → act st (sign symbol.Star) at ≡ times_after (red st)
 on_times (Need frames) at = refl
 on_times (Have frames t) at = refl
 on_times (Raised frames t) at = refl
@@ -93,14 +93,14 @@ abbrev Reading : State → Type 0
 Reading (Need frames) = ⊥
 Reading _ = Unit {0}
 
-on_over : (st : State) (at : ℕ) → Reading st → act st (sign mark.Over) at ≡ over_after (red st)
+on_over : (st : State) (at : ℕ) → Reading st → act st (sign symbol.Slash) at ≡ over_after (red st)
 on_over (Need frames) at h = absurd h
 on_over (Have frames t) at h = refl
 on_over (Raised frames t) at h = refl
 on_over (Lowered frames t) at h = refl
 on_over Refused at h = refl
 
-on_close : (st : State) (at : ℕ) → act st (sign mark.Close) at ≡ close_after (red st)
+on_close : (st : State) (at : ℕ) → act st (sign symbol.RightParen) at ≡ close_after (red st)
 on_close (Need frames) at = refl
 on_close (Have frames t) at = refl
 on_close (Raised frames t) at = refl
@@ -174,7 +174,7 @@ starts : (next : UnitSyntax) (frames : List Frame) (t : UnitSyntax) (tokens rest
 starts (one_syntax at) frames t tokens rest s fits le = same_start frames t (number true s.0) at tokens rest s.1 refl
 starts (measure_syntax at x) frames t tokens rest s fits le = same_start frames t (measure x) at tokens rest s refl
 starts (variable_syntax at x) frames t tokens rest s fits le = same_start frames t (variable x) at tokens rest s refl
-starts (bracket_syntax at u) frames t tokens rest s fits le = same_start frames t (sign mark.Open) at tokens s.0 s.2 refl
+starts (bracket_syntax at u) frames t tokens rest s fits le = same_start frames t (sign symbol.LeftParen) at tokens s.0 s.2 refl
 starts (power_syntax u k) frames t tokens rest s fits le = starts u frames t tokens s.0 s.2 fits.1 (omega (arith, fits.0))
 starts (side_syntax us) frames t tokens rest s fits le = absurd (omega arith)
 starts (times_syntax u v) frames t tokens rest s fits le = absurd (omega arith)
@@ -220,13 +220,13 @@ complete_power : (frames : List Frame) (u : UnitSyntax) (k : ℤ) (tokens rest :
 complete_power frames u k tokens rest (n, inl (e, (one, f))) =
     then_first (Raised frames u) (Have frames (power_syntax u _)) (number one (Some n)) tokens rest f (λ at. refl) ∙ ap (λ j. run (Have frames (power_syntax u j)) rest) (sym e)
 complete_power frames u k tokens rest (n, inr (next, e, minus, (one, f))) =
-    then_first (Raised frames u) (Lowered frames u) (sign mark.Minus) tokens next minus (λ at. refl)
+    then_first (Raised frames u) (Lowered frames u) (sign symbol.Minus) tokens next minus (λ at. refl)
     ∙ then_first (Lowered frames u) (Have frames (power_syntax u _)) (number one (Some n)) next rest f (λ at. refl) ∙ ap (λ j. run (Have frames (power_syntax u j)) rest) (sym e)
 
-after_times : (frames : List Frame) (u : UnitSyntax) (at : ℕ) → Fits u → 4 ≤ top_limit frames → act (into frames u) (sign mark.Times) at ≡ Need (InTimes u ∷ frames)
+after_times : (frames : List Frame) (u : UnitSyntax) (at : ℕ) → Fits u → 4 ≤ top_limit frames → act (into frames u) (sign symbol.Star) at ≡ Need (InTimes u ∷ frames)
 after_times frames u at fits le = on_times (into frames u) at ∙ ap times_after (red_into u frames fits ∙ wide_stays frames u (omega arith))
 
-after_over : (frames : List Frame) (u : UnitSyntax) (at : ℕ) → Fits u → 4 ≤ top_limit frames → act (into frames u) (sign mark.Over) at ≡ Need (InOver u ∷ frames)
+after_over : (frames : List Frame) (u : UnitSyntax) (at : ℕ) → Fits u → 4 ≤ top_limit frames → act (into frames u) (sign symbol.Slash) at ≡ Need (InOver u ∷ frames)
 after_over frames u at fits le =
     on_over (into frames u) at (hand_reads (into frames u) (into_hand u frames fits)) ∙ ap over_after (red_into u frames fits ∙ wide_stays frames u (omega arith))
 
@@ -238,7 +238,7 @@ mutual
   complete (variable_syntax at x) frames tokens rest s fits le = then_at (Need frames) (Have frames (variable_syntax at x)) (variable x) at tokens rest s refl
   complete (power_syntax u k) frames tokens rest s fits le =
       complete u frames tokens s.0 s.2 fits.1 (omega (arith, fits.0))
-      ∙ then_first (into frames u) (Raised frames u) (sign mark.Caret) s.0 s.1 s.3 (λ at. ap (λ st. act st (sign mark.Caret) at) (into_atom frames u (omega (arith, fits.0))) ∙ raise_atom frames u fits.0)
+      ∙ then_first (into frames u) (Raised frames u) (sign symbol.Caret) s.0 s.1 s.3 (λ at. ap (λ st. act st (sign symbol.Caret) at) (into_atom frames u (omega (arith, fits.0))) ∙ raise_atom frames u fits.0)
       ∙ complete_power frames u k s.1 rest s.4
   complete (side_syntax no_units) frames tokens rest s fits le = absurd fits.0
   complete (side_syntax (more_units u us)) frames tokens rest s fits le =
@@ -247,19 +247,19 @@ mutual
       ∙ complete_side us frames [] u s.0 rest s.2 fits.1.2 le
   complete (times_syntax u v) frames tokens rest s fits le =
       complete u frames tokens s.0 s.2 fits.1 (omega (arith, rank_low u))
-      ∙ then_first (into frames u) (Need (InTimes u ∷ frames)) (sign mark.Times) s.0 s.1 s.3 (λ at. after_times frames u at fits.1 le)
+      ∙ then_first (into frames u) (Need (InTimes u ∷ frames)) (sign symbol.Star) s.0 s.1 s.3 (λ at. after_times frames u at fits.1 le)
       ∙ complete v (InTimes u ∷ frames) s.1 rest s.4 fits.2 fits.0
   complete (over_syntax u v) frames tokens rest s fits le =
       complete u frames tokens s.0 s.2 fits.1 (omega (arith, rank_low u))
-      ∙ then_first (into frames u) (Need (InOver u ∷ frames)) (sign mark.Over) s.0 s.1 s.3 (λ at. after_over frames u at fits.1 le)
+      ∙ then_first (into frames u) (Need (InOver u ∷ frames)) (sign symbol.Slash) s.0 s.1 s.3 (λ at. after_over frames u at fits.1 le)
       ∙ complete v (InOver u ∷ frames) s.1 rest s.4 fits.2 fits.0
   complete (inverse_syntax at u) frames tokens rest s fits le =
-      then_at (Need frames) (Need (InInverse at ∷ frames)) (sign mark.Over) at tokens s.0 s.1 (ap (λ b. cond b (Need (InInverse at ∷ frames)) Refused) (wide_opens frames le))
+      then_at (Need frames) (Need (InInverse at ∷ frames)) (sign symbol.Slash) at tokens s.0 s.1 (ap (λ b. cond b (Need (InInverse at ∷ frames)) Refused) (wide_opens frames le))
       ∙ complete u (InInverse at ∷ frames) s.0 rest s.2 fits.1 fits.0
   complete (bracket_syntax at u) frames tokens rest s fits le =
-      then_at (Need frames) (Need (InBracket at ∷ frames)) (sign mark.Open) at tokens s.0 s.2 refl
+      then_at (Need frames) (Need (InBracket at ∷ frames)) (sign symbol.LeftParen) at tokens s.0 s.2 refl
       ∙ complete u (InBracket at ∷ frames) s.0 s.1 s.3 fits (rank_low u)
-      ∙ then_first (into (InBracket at ∷ frames) u) (Have frames (bracket_syntax at u)) (sign mark.Close) s.1 rest s.4
+      ∙ then_first (into (InBracket at ∷ frames) u) (Have frames (bracket_syntax at u)) (sign symbol.RightParen) s.1 rest s.4
       (λ m. on_close (into (InBracket at ∷ frames) u) m ∙ ap close_after (red_into u (InBracket at ∷ frames) fits))
 
   complete_side : (us : UnitSyntaxes) (frames : List Frame) (front : List UnitSyntax) (u : UnitSyntax) (tokens rest : List Token) → AllSpell us tokens rest → ArePowers us → 2 ≤ top_limit frames

@@ -4,7 +4,7 @@ use Rattle.um_syntax.specs.declared.token.Token.{Token}
 use Rattle.um_tree.specs.RawTree.{UnitSyntax, one_syntax, measure_syntax, variable_syntax, power_syntax, side_syntax, times_syntax, over_syntax, inverse_syntax, bracket_syntax, units_in_order}
 use Rattle.um_tree.specs.Heights.{unit_height, tallest_unit}
 use Rattle.um_types.specs.UnitTokens.{UnitToken, sign, measure, variable, number, unit_token}
-use Rattle.um_types.specs.declared.unit_mark.Mark.TheVariants as mark
+use Rattle.um_syntax.specs.declared.vocabulary.Symbol.TheVariants as symbol
 use Rattle.um_types.specs.UnitGrammar.{IsUnit, BeginsWithin}
 use Rattle.um_types.specs.UnitMachine.{Frame, InBracket, InInverse, InTimes, InOver, InSide, State, Need, Have, Raised, Lowered, Refused, opens, reduce, juxtapose, begin, times_after, over_after, close_after, raise, after, raised, lowered, act, run, whole, finish}
 use Rattle.um_types.specs.UnitLeast.{side, least_over, least}
@@ -76,13 +76,9 @@ begin_up frames (measure x) at = omega arith
 begin_up frames (variable x) at = omega arith
 begin_up frames (number true power) at = omega arith
 begin_up frames (number false power) at = tt
-begin_up frames (sign mark.Open) at = least_up frames 1 2 (omega arith)
-begin_up frames (sign mark.Over) at = inverse_up frames (opens frames) at
-begin_up frames (sign mark.Close) at = tt
-begin_up frames (sign mark.Times) at = tt
-begin_up frames (sign mark.Caret) at = tt
-begin_up frames (sign mark.Minus) at = tt
-begin_up frames (sign mark.Other) at = tt
+begin_up frames (sign symbol.LeftParen) at = least_up frames 1 2 (omega arith)
+begin_up frames (sign symbol.Slash) at = inverse_up frames (opens frames) at
+begin_up frames _ at = tt
 
 first_up : (frames : List Frame) (t : UnitSyntax) → least_over frames (unit_height t) ≤ least_over (InSide (t ∷ []) ∷ frames) 1
 first_up frames t = least_up frames (unit_height t) (max (tallest_unit (units_in_order (t ∷ []))) 1 + 1) (omega arith)
@@ -145,33 +141,21 @@ after_up : (frames : List Frame) (t : UnitSyntax) (what : UnitToken) (at : ℕ) 
 after_up frames t (measure x) at = next_up frames t (measure x) at
 after_up frames t (variable x) at = next_up frames t (variable x) at
 after_up frames t (number one power) at = next_up frames t (number one power) at
-after_up frames t (sign mark.Open) at = next_up frames t (sign mark.Open) at
-after_up frames t (sign mark.Close) at = ended_up frames t (close_after (reduce frames t)) (close_up (reduce frames t))
-after_up frames t (sign mark.Times) at = ended_up frames t (times_after (reduce frames t)) (times_up (reduce frames t))
-after_up frames t (sign mark.Over) at = ended_up frames t (over_after (reduce frames t)) (over_up (reduce frames t))
-after_up frames t (sign mark.Caret) at = raise_up frames t
-after_up frames t (sign mark.Minus) at = tt
-after_up frames t (sign mark.Other) at = tt
+after_up frames t (sign symbol.LeftParen) at = next_up frames t (sign symbol.LeftParen) at
+after_up frames t (sign symbol.RightParen) at = ended_up frames t (close_after (reduce frames t)) (close_up (reduce frames t))
+after_up frames t (sign symbol.Star) at = ended_up frames t (times_after (reduce frames t)) (times_up (reduce frames t))
+after_up frames t (sign symbol.Slash) at = ended_up frames t (over_after (reduce frames t)) (over_up (reduce frames t))
+after_up frames t (sign symbol.Caret) at = raise_up frames t
+after_up frames t _ at = tt
 
 raised_up : (frames : List Frame) (t : UnitSyntax) (what : UnitToken) → Above (least_over frames (unit_height t + 1)) (raised frames t what)
 raised_up frames t (number one (Some n)) = omega arith
-raised_up frames t (number one None) = tt
-raised_up frames t (sign mark.Minus) = omega arith
-raised_up frames t (measure x) = tt
-raised_up frames t (variable x) = tt
-raised_up frames t (sign mark.Open) = tt
-raised_up frames t (sign mark.Close) = tt
-raised_up frames t (sign mark.Times) = tt
-raised_up frames t (sign mark.Over) = tt
-raised_up frames t (sign mark.Caret) = tt
-raised_up frames t (sign mark.Other) = tt
+raised_up frames t (sign symbol.Minus) = omega arith
+raised_up frames t _ = tt
 
 lowered_up : (frames : List Frame) (t : UnitSyntax) (what : UnitToken) → Above (least_over frames (unit_height t + 1)) (lowered frames t what)
 lowered_up frames t (number one (Some n)) = omega arith
-lowered_up frames t (number one None) = tt
-lowered_up frames t (sign m) = tt
-lowered_up frames t (measure x) = tt
-lowered_up frames t (variable x) = tt
+lowered_up frames t _ = tt
 
 act_up : (st : State) (what : UnitToken) (at : ℕ) → Above (least st) (act st what at)
 act_up (Need frames) what at = begin_up frames what at

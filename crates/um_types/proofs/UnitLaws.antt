@@ -7,6 +7,7 @@ use Rattle.um_frac.specs.declared.number.Frac.{Frac}
 use Rattle.um_frac.specs.Gcd.{gcd}
 use Rattle.um_syntax.specs.declared.token.Token.{Token}
 use Rattle.um_syntax.specs.declared.token.Kind.TheVariants as kind
+use Rattle.um_syntax.specs.declared.vocabulary.Symbol.TheVariants as symbol
 use Rattle.um_tree.specs.RawTree.{UnitSyntax, measure_syntax, power_syntax, side_syntax, times_syntax, over_syntax, inverse_syntax, bracket_syntax, units_in_order}
 use Rattle.um_types.specs.UnitTokens.{unit_token}
 use Rattle.um_types.specs.UnitGrammar.{Spells, rank, Fits, IsUnit, Begins}
@@ -29,7 +30,7 @@ abbrev number_token : Token
 number_token = record { kind = kind.Number zero_number true false; start = 0; end = 0; glued = false }
 
 abbrev close_token : Token
-close_token = record { kind = kind.Sign 1; start = 0; end = 0; glued = false }
+close_token = record { kind = kind.Sign symbol.RightParen; start = 0; end = 0; glued = false }
 
 -- the least that ends what is open, and the unit text then
 abbrev pub endings : List Frame → List Token

@@ -2,8 +2,7 @@
 use Rattle.std.proofs.Common.{◌≡◌, ◌≢◌, ℕ, ◌≤◌, List, [], ◌∷◌, ◌++◌, Option, Some, None, refl, sym, ap, subst, ◌∙◌, append_assoc}
 use Rattle.um_syntax.specs.declared.token.Token.{Token}
 use Rattle.um_tree.specs.RawTree.{UnitSyntax}
-use Rattle.um_types.specs.UnitTokens.{sign, unit_token}
-use Rattle.um_types.specs.declared.unit_mark.Mark.TheVariants as mark
+use Rattle.um_types.specs.UnitTokens.{unit_token}
 use Rattle.um_types.specs.UnitGrammar.{Spells, Fits, IsUnit}
 use Rattle.um_types.specs.UnitMachine.{State, Need, Have, Raised, Lowered, Refused, act, run, whole, finish}
 use Rattle.um_types.specs.UnitLeast.{least}
@@ -34,14 +33,6 @@ into_goes_on u fits h = let bad : no_unit ≡ Some u = sym (ap finish h) ∙ uni
 pub unit_reaches : (u : UnitSyntax) (tokens rest : List Token) → Spells u tokens rest → Fits u → Reaches unit_step Refused (Need []) tokens (into [] u) rest
 unit_reaches u tokens rest s fits =
     let c = cut_unit u tokens rest s fits in (c.0, c.1, runs_unit c.0 (Need []) ∙ reads_as u c.0 c.2, into_goes_on u fits)
-
--- a token that stands in no unit text is refused behind it
-pub other_refused : (st : State) (at : ℕ) → act st (sign mark.Other) at ≡ Refused
-other_refused (Need frames) at = refl
-other_refused (Have frames t) at = refl
-other_refused (Raised frames t) at = refl
-other_refused (Lowered frames t) at = refl
-other_refused Refused at = refl
 
 -- the tokens up to the rest are those of the state, which hasn't refused
 abbrev pub UnitStands : State → List Token → List Token → Type 0

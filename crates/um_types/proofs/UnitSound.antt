@@ -3,17 +3,17 @@ use Rattle.std.proofs.Common.{◌≡◌, ℕ, ◌≤◌, List, [], ◌∷◌, �
 use Rattle.um_syntax.specs.declared.token.Token.{Token}
 use Rattle.um_tree.specs.RawTree.{UnitSyntax, one_syntax, measure_syntax, variable_syntax, power_syntax, side_syntax, times_syntax, over_syntax, inverse_syntax, bracket_syntax, units_in_order}
 use Rattle.um_types.specs.UnitTokens.{UnitToken, sign, measure, variable, number, unit_token}
-use Rattle.um_types.specs.declared.unit_mark.Mark.TheVariants as mark
+use Rattle.um_syntax.specs.declared.vocabulary.Symbol.TheVariants as symbol
 use Rattle.um_types.specs.UnitGrammar.{First, FirstAt, Spells, AllSpell, rank, Several, Fits, ArePowers, IsUnit}
 use Rattle.um_types.specs.UnitMachine.{Frame, InBracket, InInverse, InTimes, InOver, InSide, State, Need, Have, Raised, Lowered, Refused, top_limit, opens, reduce, juxtapose, begin, times_after, over_after, close_after, raise, after, raised, lowered, act, run, whole, finish}
 
 -- the tokens up to the rest are those of the frames, before their open places
 abbrev pub Opened : List Frame → List Token → List Token → Type 0
 Opened [] tokens rest = tokens ≡ rest
-Opened (InBracket at ∷ frames) tokens rest = (mid : List Token) × Opened frames tokens mid × FirstAt (sign mark.Open) at mid rest
-Opened (InInverse at ∷ frames) tokens rest = (mid : List Token) × Opened frames tokens mid × FirstAt (sign mark.Over) at mid rest
-Opened (InTimes left ∷ frames) tokens rest = (mid next : List Token) × Opened frames tokens mid × Spells left mid next × First (sign mark.Times) next rest
-Opened (InOver left ∷ frames) tokens rest = (mid next : List Token) × Opened frames tokens mid × Spells left mid next × First (sign mark.Over) next rest
+Opened (InBracket at ∷ frames) tokens rest = (mid : List Token) × Opened frames tokens mid × FirstAt (sign symbol.LeftParen) at mid rest
+Opened (InInverse at ∷ frames) tokens rest = (mid : List Token) × Opened frames tokens mid × FirstAt (sign symbol.Slash) at mid rest
+Opened (InTimes left ∷ frames) tokens rest = (mid next : List Token) × Opened frames tokens mid × Spells left mid next × First (sign symbol.Star) next rest
+Opened (InOver left ∷ frames) tokens rest = (mid next : List Token) × Opened frames tokens mid × Spells left mid next × First (sign symbol.Slash) next rest
 Opened (InSide front ∷ frames) tokens rest = (mid : List Token) × Opened frames tokens mid × AllSpell (units_in_order front) mid rest
 
 abbrev pub NonEmpty : List UnitSyntax → Type 0
@@ -35,9 +35,9 @@ FramesFit (frame ∷ frames) = FrameFits frame frames × FramesFit frames
 abbrev pub Stands : State → List Token → List Token → Type 0
 Stands (Need frames) tokens rest = Opened frames tokens rest × FramesFit frames
 Stands (Have frames t) tokens rest = (mid : List Token) × Opened frames tokens mid × Spells t mid rest × FramesFit frames × Fits t × (rank t ≤ 1)
-Stands (Raised frames t) tokens rest = (mid next : List Token) × Opened frames tokens mid × Spells t mid next × First (sign mark.Caret) next rest × FramesFit frames × Fits t × (rank t ≡ 0)
+Stands (Raised frames t) tokens rest = (mid next : List Token) × Opened frames tokens mid × Spells t mid next × First (sign symbol.Caret) next rest × FramesFit frames × Fits t × (rank t ≡ 0)
 Stands (Lowered frames t) tokens rest =
-    (mid next last : List Token) × Opened frames tokens mid × Spells t mid next × First (sign mark.Caret) next last × First (sign mark.Minus) last rest × FramesFit frames × Fits t × (rank t ≡ 0)
+    (mid next last : List Token) × Opened frames tokens mid × Spells t mid next × First (sign symbol.Caret) next last × First (sign symbol.Minus) last rest × FramesFit frames × Fits t × (rank t ≡ 0)
 Stands Refused tokens rest = Unit {0}
 
 -- the same once all up to the innermost brackets has ended
@@ -103,7 +103,7 @@ opens_wide (InTimes left ∷ frames) e = absurd cc
 opens_wide (InOver left ∷ frames) e = absurd cc
 opens_wide (InSide front ∷ frames) e = absurd cc
 
-inverse_begins : (frames : List Frame) (b : Bool) (at : ℕ) (tokens mid rest : List Token) → opens frames ≡ b → Opened frames tokens mid → FramesFit frames → FirstAt (sign mark.Over) at mid rest
+inverse_begins : (frames : List Frame) (b : Bool) (at : ℕ) (tokens mid rest : List Token) → opens frames ≡ b → Opened frames tokens mid → FramesFit frames → FirstAt (sign symbol.Slash) at mid rest
     → Stands (cond b (Need (InInverse at ∷ frames)) Refused) tokens rest
 inverse_begins frames true at tokens mid rest e o f s = ((mid, o, s), (omega (arith, opens_wide frames e), f))
 inverse_begins frames false at tokens mid rest e o f s = tt
@@ -113,13 +113,9 @@ begin_sound frames (measure x) at tokens mid rest o f s = (mid, o, s, f, tt, ome
 begin_sound frames (variable x) at tokens mid rest o f s = (mid, o, s, f, tt, omega arith)
 begin_sound frames (number true power) at tokens mid rest o f s = (mid, o, (power, s), f, tt, omega arith)
 begin_sound frames (number false power) at tokens mid rest o f s = tt
-begin_sound frames (sign mark.Open) at tokens mid rest o f s = ((mid, o, s), (tt, f))
-begin_sound frames (sign mark.Over) at tokens mid rest o f s = inverse_begins frames (opens frames) at tokens mid rest refl o f s
-begin_sound frames (sign mark.Close) at tokens mid rest o f s = tt
-begin_sound frames (sign mark.Times) at tokens mid rest o f s = tt
-begin_sound frames (sign mark.Caret) at tokens mid rest o f s = tt
-begin_sound frames (sign mark.Minus) at tokens mid rest o f s = tt
-begin_sound frames (sign mark.Other) at tokens mid rest o f s = tt
+begin_sound frames (sign symbol.LeftParen) at tokens mid rest o f s = ((mid, o, s), (tt, f))
+begin_sound frames (sign symbol.Slash) at tokens mid rest o f s = inverse_begins frames (opens frames) at tokens mid rest refl o f s
+begin_sound frames _ at tokens mid rest o f s = tt
 
 one_spells : (t : UnitSyntax) (mid rest : List Token) → Spells t mid rest → AllSpell (units_in_order (t ∷ [])) mid rest
 one_spells t mid rest s = (rest, s, refl)
@@ -133,21 +129,21 @@ juxtapose_sound (InOver left ∷ frames) t tokens rest h = ((h.0, h.1, one_spell
 juxtapose_sound (InSide front ∷ frames) t tokens rest h =
     ((h.1.0, h.1.1, spells_last front t h.1.0 h.0 rest h.1.2 h.2), ((h.3.0.0, nonempty_last front t, powers_last front t h.3.0.2 h.4 h.5), h.3.1))
 
-times_sound : (st : State) (at : ℕ) (tokens mid rest : List Token) → StandsUpTo st tokens mid → FirstAt (sign mark.Times) at mid rest → Stands (times_after st) tokens rest
+times_sound : (st : State) (at : ℕ) (tokens mid rest : List Token) → StandsUpTo st tokens mid → FirstAt (sign symbol.Star) at mid rest → Stands (times_after st) tokens rest
 times_sound (Have frames t) at tokens mid rest h s = ((h.0, mid, h.1, h.2, (s.0, s.1, s.3)), ((omega (arith, h.5), h.4), h.3))
 times_sound (Need frames) at tokens mid rest h s = absurd h
 times_sound (Raised frames t) at tokens mid rest h s = absurd h
 times_sound (Lowered frames t) at tokens mid rest h s = absurd h
 times_sound Refused at tokens mid rest h s = absurd h
 
-over_sound : (st : State) (at : ℕ) (tokens mid rest : List Token) → StandsUpTo st tokens mid → FirstAt (sign mark.Over) at mid rest → Stands (over_after st) tokens rest
+over_sound : (st : State) (at : ℕ) (tokens mid rest : List Token) → StandsUpTo st tokens mid → FirstAt (sign symbol.Slash) at mid rest → Stands (over_after st) tokens rest
 over_sound (Have frames t) at tokens mid rest h s = ((h.0, mid, h.1, h.2, (s.0, s.1, s.3)), ((omega (arith, h.5), h.4), h.3))
 over_sound (Need frames) at tokens mid rest h s = absurd h
 over_sound (Raised frames t) at tokens mid rest h s = absurd h
 over_sound (Lowered frames t) at tokens mid rest h s = absurd h
 over_sound Refused at tokens mid rest h s = absurd h
 
-close_sound : (st : State) (at : ℕ) (tokens mid rest : List Token) → StandsUpTo st tokens mid → FirstAt (sign mark.Close) at mid rest → Stands (close_after st) tokens rest
+close_sound : (st : State) (at : ℕ) (tokens mid rest : List Token) → StandsUpTo st tokens mid → FirstAt (sign symbol.RightParen) at mid rest → Stands (close_after st) tokens rest
 close_sound (Have (InBracket m ∷ frames) t) at tokens mid rest h s = (h.1.0, h.1.1, (h.0, mid, h.1.2, h.2, (s.0, s.1, s.3)), h.3.1, h.4, omega arith)
 close_sound (Have [] t) at tokens mid rest h s = tt
 close_sound (Have (InInverse m ∷ frames) t) at tokens mid rest h s = tt
@@ -159,7 +155,7 @@ close_sound (Raised frames t) at tokens mid rest h s = absurd h
 close_sound (Lowered frames t) at tokens mid rest h s = absurd h
 close_sound Refused at tokens mid rest h s = absurd h
 
-raise_sound : (frames : List Frame) (t : UnitSyntax) (at : ℕ) (tokens mid rest : List Token) → Stands (Have frames t) tokens mid → FirstAt (sign mark.Caret) at mid rest → Stands (raise frames t) tokens rest
+raise_sound : (frames : List Frame) (t : UnitSyntax) (at : ℕ) (tokens mid rest : List Token) → Stands (Have frames t) tokens mid → FirstAt (sign symbol.Caret) at mid rest → Stands (raise frames t) tokens rest
 raise_sound frames (one_syntax m) at tokens mid rest h s = (h.0, mid, h.1, h.2, (s.0, s.1, s.3), h.3, h.4, refl)
 raise_sound frames (measure_syntax m x) at tokens mid rest h s = (h.0, mid, h.1, h.2, (s.0, s.1, s.3), h.3, h.4, refl)
 raise_sound frames (variable_syntax m x) at tokens mid rest h s = (h.0, mid, h.1, h.2, (s.0, s.1, s.3), h.3, h.4, refl)
@@ -178,35 +174,23 @@ after_sound : (frames : List Frame) (t : UnitSyntax) (what : UnitToken) (at : �
 after_sound frames t (measure x) at tokens mid rest h s = begins_after frames t (measure x) at tokens mid rest h s
 after_sound frames t (variable x) at tokens mid rest h s = begins_after frames t (variable x) at tokens mid rest h s
 after_sound frames t (number one power) at tokens mid rest h s = begins_after frames t (number one power) at tokens mid rest h s
-after_sound frames t (sign mark.Open) at tokens mid rest h s = begins_after frames t (sign mark.Open) at tokens mid rest h s
-after_sound frames t (sign mark.Close) at tokens mid rest h s = close_sound (reduce frames t) at tokens mid rest (ended frames t tokens mid h) s
-after_sound frames t (sign mark.Times) at tokens mid rest h s = times_sound (reduce frames t) at tokens mid rest (ended frames t tokens mid h) s
-after_sound frames t (sign mark.Over) at tokens mid rest h s = over_sound (reduce frames t) at tokens mid rest (ended frames t tokens mid h) s
-after_sound frames t (sign mark.Caret) at tokens mid rest h s = raise_sound frames t at tokens mid rest h s
-after_sound frames t (sign mark.Minus) at tokens mid rest h s = tt
-after_sound frames t (sign mark.Other) at tokens mid rest h s = tt
+after_sound frames t (sign symbol.LeftParen) at tokens mid rest h s = begins_after frames t (sign symbol.LeftParen) at tokens mid rest h s
+after_sound frames t (sign symbol.RightParen) at tokens mid rest h s = close_sound (reduce frames t) at tokens mid rest (ended frames t tokens mid h) s
+after_sound frames t (sign symbol.Star) at tokens mid rest h s = times_sound (reduce frames t) at tokens mid rest (ended frames t tokens mid h) s
+after_sound frames t (sign symbol.Slash) at tokens mid rest h s = over_sound (reduce frames t) at tokens mid rest (ended frames t tokens mid h) s
+after_sound frames t (sign symbol.Caret) at tokens mid rest h s = raise_sound frames t at tokens mid rest h s
+after_sound frames t _ at tokens mid rest h s = tt
 
 raised_sound : (frames : List Frame) (t : UnitSyntax) (what : UnitToken) (at : ℕ) (tokens mid rest : List Token) → Stands (Raised frames t) tokens mid → FirstAt what at mid rest → Stands (raised frames t what) tokens rest
 raised_sound frames t (number one (Some n)) at tokens mid rest h s =
     (h.0, h.2, (h.1, mid, h.3, h.4, (n, inl (refl, (one, (s.0, s.1, s.3))))), h.5, (h.7, h.6), omega arith)
-raised_sound frames t (sign mark.Minus) at tokens mid rest h s = (h.0, h.1, mid, h.2, h.3, h.4, (s.0, s.1, s.3), h.5, h.6, h.7)
-raised_sound frames t (number one None) at tokens mid rest h s = tt
-raised_sound frames t (measure x) at tokens mid rest h s = tt
-raised_sound frames t (variable x) at tokens mid rest h s = tt
-raised_sound frames t (sign mark.Open) at tokens mid rest h s = tt
-raised_sound frames t (sign mark.Close) at tokens mid rest h s = tt
-raised_sound frames t (sign mark.Times) at tokens mid rest h s = tt
-raised_sound frames t (sign mark.Over) at tokens mid rest h s = tt
-raised_sound frames t (sign mark.Caret) at tokens mid rest h s = tt
-raised_sound frames t (sign mark.Other) at tokens mid rest h s = tt
+raised_sound frames t (sign symbol.Minus) at tokens mid rest h s = (h.0, h.1, mid, h.2, h.3, h.4, (s.0, s.1, s.3), h.5, h.6, h.7)
+raised_sound frames t _ at tokens mid rest h s = tt
 
 lowered_sound : (frames : List Frame) (t : UnitSyntax) (what : UnitToken) (at : ℕ) (tokens mid rest : List Token) → Stands (Lowered frames t) tokens mid → FirstAt what at mid rest → Stands (lowered frames t what) tokens rest
 lowered_sound frames t (number one (Some n)) at tokens mid rest h s =
     (h.0, h.3, (h.1, h.2, h.4, h.5, (n, inr (mid, refl, h.6, (one, (s.0, s.1, s.3))))), h.7, (h.9, h.8), omega arith)
-lowered_sound frames t (number one None) at tokens mid rest h s = tt
-lowered_sound frames t (measure x) at tokens mid rest h s = tt
-lowered_sound frames t (variable x) at tokens mid rest h s = tt
-lowered_sound frames t (sign m) at tokens mid rest h s = tt
+lowered_sound frames t _ at tokens mid rest h s = tt
 
 pub act_sound : (st : State) (what : UnitToken) (at : ℕ) (tokens mid rest : List Token) → Stands st tokens mid → FirstAt what at mid rest → Stands (act st what at) tokens rest
 act_sound (Need frames) what at tokens mid rest h s = begin_sound frames what at tokens mid rest h.0 h.1 s

@@ -4,15 +4,15 @@ use Rattle.std.specs.Prelude.{◌≡◌, ℕ, ◌+◌, ◌≤◌, ◌<◌, List,
 use Rattle.um_syntax.specs.declared.token.Token.{Token}
 use Rattle.um_tree.specs.RawTree.{TypeSyntax}
 use Rattle.um_types.specs.UnitStops.{greatest_height}
-use Rattle.um_types.specs.TypeGrammar.{FirstSymbol, TypeSpells, TypeFits}
+use Rattle.um_types.specs.TypeGrammar.{FirstSign, TypeSpells, TypeFits}
 use Rattle.um_types.specs.TypeHeights.{all_height}
-use Rattle.um_types.specs.declared.type_symbol.Symbol.TheVariants as symbol_of
+use Rattle.um_syntax.specs.declared.vocabulary.Symbol.TheVariants as symbol
 
 -- the tokens are those of the types, and then the rest
 abbrev pub TypesSpell : List TypeSyntax → List Token → List Token → Type 0
 TypesSpell [] tokens rest = ⊥
 TypesSpell (t ∷ []) tokens rest = TypeSpells t tokens rest
-TypesSpell (t ∷ u ∷ us) tokens rest = (mid next : List Token) × TypeSpells t tokens mid × FirstSymbol symbol_of.Arrow mid next × TypesSpell (u ∷ us) next rest
+TypesSpell (t ∷ u ∷ us) tokens rest = (mid next : List Token) × TypeSpells t tokens mid × FirstSign symbol.Arrow mid next × TypesSpell (u ∷ us) next rest
 
 abbrev pub TypesFit : List TypeSyntax → Type 0
 TypesFit [] = Unit {0}

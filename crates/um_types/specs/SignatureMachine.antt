@@ -3,12 +3,12 @@
 use Rattle.std.specs.Prelude.{ℕ, max, List, [], ◌∷◌, ◌++◌, Option, Some, None}
 use Rattle.um_syntax.specs.declared.token.Token.{Token}
 use Rattle.um_syntax.specs.declared.token.Kind.{Kind}
+use Rattle.um_syntax.specs.declared.token.Kind.TheVariants as kind
+use Rattle.um_syntax.specs.declared.vocabulary.Symbol.TheVariants as symbol
 use Rattle.um_tree.specs.RawTree.{TypeSyntax}
-use Rattle.um_types.specs.TypeTokens.{TypeToken, symbol, name, type_token}
 use Rattle.um_types.specs.TypeHeights.{all_height}
 use Rattle.um_types.specs.Machines.{runs}
 use Rattle.um_types.specs.TypeMachine.{TypeState, NeedType, HaveType, InNote, NoType, type_act, type_finish, type_least}
-use Rattle.um_types.specs.declared.type_symbol.Symbol.TheVariants as symbol_of
 
 -- a type text behind these
 pub data SignatureState : Type 0 where
@@ -16,20 +16,11 @@ pub data SignatureState : Type 0 where
   NoSignature : SignatureState
 
 -- the token behind a type
-abbrev pub type_end : List TypeSyntax → TypeSyntax → TypeToken → SignatureState
-type_end front t (symbol symbol_of.Arrow) = InType (front ++ t ∷ []) (NeedType 0)
-type_end front t (symbol symbol_of.Num) = NoSignature
-type_end front t (symbol symbol_of.Bool) = NoSignature
-type_end front t (symbol symbol_of.List) = NoSignature
-type_end front t (symbol symbol_of.Open) = NoSignature
-type_end front t (symbol symbol_of.Close) = NoSignature
-type_end front t (symbol symbol_of.Less) = NoSignature
-type_end front t (symbol symbol_of.Greater) = NoSignature
-type_end front t (symbol symbol_of.Comma) = NoSignature
-type_end front t (symbol symbol_of.Other) = NoSignature
-type_end front t (name x) = NoSignature
+abbrev pub type_end : List TypeSyntax → TypeSyntax → Kind → SignatureState
+type_end front t (kind.Sign symbol.Arrow) = InType (front ++ t ∷ []) (NeedType 0)
+type_end front t _ = NoSignature
 
-abbrev pub type_ends : List TypeSyntax → Option TypeSyntax → TypeToken → SignatureState
+abbrev pub type_ends : List TypeSyntax → Option TypeSyntax → Kind → SignatureState
 type_ends front None token = NoSignature
 type_ends front (Some t) token = type_end front t token
 
@@ -42,7 +33,7 @@ type_goes front NoType ended = ended
 
 -- one token more
 abbrev pub signature_act : SignatureState → Kind → ℕ → SignatureState
-signature_act (InType front s) k at = type_goes front (type_act s k at) (type_ends front (type_finish s) (type_token k))
+signature_act (InType front s) k at = type_goes front (type_act s k at) (type_ends front (type_finish s) k)
 signature_act NoSignature k at = NoSignature
 
 abbrev pub signature_step : SignatureState → Token → SignatureState

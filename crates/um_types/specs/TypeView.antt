@@ -3,7 +3,6 @@
 use Rattle.std.specs.Prelude.{◌≡◌, ℕ, [], Option, Some, None, Result, Ok, Err}
 use Rattle.um_tree.specs.declared.raw.RawType.{RawType}
 use Rattle.um_tree.specs.RawTree.{TypeSyntax, record_syntax, note_syntaxes, type_syntax}
-use Rattle.um_types.specs.TypeTokens.{TypeToken, symbol, name}
 use Rattle.um_types.specs.NoteTakes.{note_state}
 use Rattle.um_types.specs.TypeMachine.{Owner, OfNum, OfName, TypeState, NeedType, HaveType, InNote, angle_owner}
 use Rattle.um_types.specs.declared.type_part.TypePart.{TypePart}
@@ -23,11 +22,6 @@ abbrev pub type_hand_state : ℕ → TypeHand → TypeState
 type_hand_state depth hand.Empty = NeedType depth
 type_hand_state depth (hand.Full t) = HaveType depth (part_type t)
 type_hand_state depth (hand.Note o n) = InNote depth (view_owner o) (note_state n)
-
--- the type that a name is
-abbrev pub named_type : TypeToken → ℕ → Option TypeSyntax
-named_type (name x) at = Some (record_syntax at x [])
-named_type (symbol s) at = None
 
 -- what angle brackets behind a type belong to, or the type again
 abbrev pub Opens : TypeSyntax → Result OwnerPart RawType → Type 0

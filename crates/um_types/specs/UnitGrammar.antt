@@ -9,7 +9,7 @@ use Rattle.um_syntax.specs.declared.token.Token.{Token}
 use Rattle.um_tree.specs.RawTree.{UnitSyntax, UnitSyntaxes, one_syntax, measure_syntax, variable_syntax, power_syntax, side_syntax, times_syntax, over_syntax, inverse_syntax, bracket_syntax, no_units, more_units}
 use Rattle.um_tree.specs.Heights.{unit_height}
 use Rattle.um_types.specs.UnitTokens.{UnitToken, sign, measure, variable, number, unit_token}
-use Rattle.um_types.specs.declared.unit_mark.Mark.TheVariants as mark
+use Rattle.um_syntax.specs.declared.vocabulary.Symbol.TheVariants as symbol
 
 -- the first token is this, and the others are the rest
 abbrev pub First : UnitToken → List Token → List Token → Type 0
@@ -26,7 +26,7 @@ Digits n tokens rest = (one : Bool) × First (number one (Some n)) tokens rest
 -- what stands behind `^`: a number, or `-` and a number
 abbrev pub PowerSpells : ℤ → List Token → List Token → Type 0
 PowerSpells k tokens rest =
-    (n : ℕ) × (((k ≡ pos n) × Digits n tokens rest) ⊎ ((next : List Token) × (k ≡ neg_ℤ (pos n)) × First (sign mark.Minus) tokens next × Digits n next rest))
+    (n : ℕ) × (((k ≡ pos n) × Digits n tokens rest) ⊎ ((next : List Token) × (k ≡ neg_ℤ (pos n)) × First (sign symbol.Minus) tokens next × Digits n next rest))
 
 -- the tokens are those of the unit text, and then the rest
 abbrev mutual
@@ -34,12 +34,12 @@ abbrev mutual
   Spells (one_syntax at) tokens rest = (power : Option ℕ) × FirstAt (number true power) at tokens rest
   Spells (measure_syntax at x) tokens rest = FirstAt (measure x) at tokens rest
   Spells (variable_syntax at x) tokens rest = FirstAt (variable x) at tokens rest
-  Spells (power_syntax u k) tokens rest = (mid next : List Token) × Spells u tokens mid × First (sign mark.Caret) mid next × PowerSpells k next rest
+  Spells (power_syntax u k) tokens rest = (mid next : List Token) × Spells u tokens mid × First (sign symbol.Caret) mid next × PowerSpells k next rest
   Spells (side_syntax us) tokens rest = AllSpell us tokens rest
-  Spells (times_syntax u v) tokens rest = (mid next : List Token) × Spells u tokens mid × First (sign mark.Times) mid next × Spells v next rest
-  Spells (over_syntax u v) tokens rest = (mid next : List Token) × Spells u tokens mid × First (sign mark.Over) mid next × Spells v next rest
-  Spells (inverse_syntax at u) tokens rest = (next : List Token) × FirstAt (sign mark.Over) at tokens next × Spells u next rest
-  Spells (bracket_syntax at u) tokens rest = (next last : List Token) × FirstAt (sign mark.Open) at tokens next × Spells u next last × First (sign mark.Close) last rest
+  Spells (times_syntax u v) tokens rest = (mid next : List Token) × Spells u tokens mid × First (sign symbol.Star) mid next × Spells v next rest
+  Spells (over_syntax u v) tokens rest = (mid next : List Token) × Spells u tokens mid × First (sign symbol.Slash) mid next × Spells v next rest
+  Spells (inverse_syntax at u) tokens rest = (next : List Token) × FirstAt (sign symbol.Slash) at tokens next × Spells u next rest
+  Spells (bracket_syntax at u) tokens rest = (next last : List Token) × FirstAt (sign symbol.LeftParen) at tokens next × Spells u next last × First (sign symbol.RightParen) last rest
 
   pub AllSpell : UnitSyntaxes → List Token → List Token → Type 0
   AllSpell no_units tokens rest = tokens ≡ rest

@@ -1,18 +1,17 @@
 //! The grammar of unit texts, notes, types and signature texts: from tokens to raw trees, with the exact place of each refusal.
 #![tactic(auto)]
 
+pub mod laws;
 mod note_take;
 mod parse;
 mod signature;
 mod type_part;
 mod type_reader;
-mod type_symbol;
 mod type_take;
 mod unit;
 mod unit_frame;
 mod unit_least;
 mod unit_loop;
-mod unit_mark;
 mod unit_part;
 mod unit_reader;
 mod unit_take;

@@ -2,16 +2,14 @@
 ghost use Rattle.std.specs.Prelude.{◌≡◌, ◌≤◌, [], ◌∷◌, ◌++◌, IfOk, IfSome, map, option_map};
 ghost use Rattle.um_tree.specs.RawTree.{type_syntax, type_syntaxes};
 ghost use Rattle.um_types.specs.UnitStops.{greatest_height};
-ghost use Rattle.um_types.specs.TypeTokens.{type_token};
 ghost use Rattle.um_types.specs.TypeHeights.{whole_height, all_height};
 ghost use Rattle.um_types.specs.SignatureMachine.{type_ends, signature_act, signature_least};
 ghost use Rattle.um_types.specs.SignatureReads.{signature_state, SignatureTakes, ReadsTypes, SignatureAnswers};
 ghost use Rattle.um_types.specs.declared.signature.SignatureStop.TheVariants.{NoMemory};
 
-use crate::type_symbol::Symbol;
 use crate::type_take::{TypeReader, TypeStep};
 use std::alloc::{AllocError, Global};
-use um_syntax::Token;
+use um_syntax::{Kind, Symbol, Token};
 use um_tree::{RawType, RawTypes};
 
 /// What a token gives: the reader of the type that goes on or begins; the text is too high; or no signature text begins so.
@@ -48,10 +46,10 @@ fn take_behind(
 ) -> Result<SignatureStep, AllocError>
     requires front { all_height (map type_syntax front.old.items) ≤ greatest_height }
     requires found { IfSome found (λ t. whole_height (type_syntax t) ≤ greatest_height) }
-    ensures { IfOk result (λ s. SignatureTakes (type_ends (map type_syntax front.old.items) (option_map type_syntax found) (type_token token.now.kind)) front.new.items s) }
+    ensures { IfOk result (λ s. SignatureTakes (type_ends (map type_syntax front.old.items) (option_map type_syntax found) token.now.kind) front.new.items s) }
 {
-    match (found, Symbol::of_kind(&token.kind)) {
-        (Some(ty), Symbol::Arrow) => {
+    match (found, &token.kind) {
+        (Some(ty), Kind::Sign(Symbol::Arrow)) => {
             front.push(ty)?;
             Ok(SignatureStep::Goes(TypeReader::new()))
         }

@@ -1,12 +1,12 @@
 // Type texts with their heights beside them, and what is at hand while one is read.
-ghost use Rattle.std.specs.Prelude.{◌≡◌, ◌≤◌, IfOk, None, option_map};
-ghost use Rattle.um_tree.specs.RawTree.{bool_syntax, num_syntax, list_type_syntax, bracket_type_syntax, note_syntax, type_syntax};
+ghost use Rattle.std.specs.Prelude.{◌≡◌, ◌≤◌, IfOk, None};
+ghost use Rattle.um_tree.specs.RawTree.{bool_syntax, num_syntax, record_syntax, list_type_syntax, bracket_type_syntax, note_syntax, type_syntax};
 ghost use Rattle.um_tree.specs.Heights.{type_height};
 ghost use Rattle.um_types.specs.UnitStops.{greatest_height};
 
 use crate::note_take::NoteReader;
 use std::alloc::{AllocError, Global};
-use um_syntax::Kind;
+use um_syntax::Letters;
 use um_tree::{Name, RawNote, RawNotes, RawType};
 
 /// A type text and its height.
@@ -33,8 +33,8 @@ pub enum TypeHand {
 }
 
 impl TypePart {
-    ghost use Rattle.um_types.specs.TypeTokens.{type_token};
-    ghost use Rattle.um_types.specs.TypeView.{part_type, named_type};
+    ghost use Rattle.std.specs.Prelude.{[]};
+    ghost use Rattle.um_types.specs.TypeView.{part_type};
 
     /// `num`
     pub fn num() -> TypePart
@@ -56,25 +56,18 @@ impl TypePart {
         }
     }
 
-    /// The type that a name is, if the token is one.
-    pub fn named(alloc: Global, kind: &Kind, at: u32) -> Result<Option<TypePart>, AllocError>
-        ensures { IfOk result (λ o. option_map part_type o ≡ named_type (type_token kind.now) at) }
+    /// The type that a name is.
+    pub fn named(alloc: Global, at: u32, letters: &Letters) -> Result<TypePart, AllocError>
+        ensures { IfOk result (λ p. part_type p ≡ record_syntax at letters.now []) }
     {
-        match kind {
-            Kind::Name(letters) => {
-                let name = Name::from_vec(Vec::from_slice(alloc, letters.as_slice())?);
-                let notes = RawNotes {
-                    items: Vec::new(alloc),
-                };
-                Ok(Some(TypePart {
-                    ty: RawType::Name(at, name, notes),
-                    height: 1,
-                }))
-            }
-            Kind::Var(_) | Kind::Number { .. } | Kind::Word(_) | Kind::Hole | Kind::Sign(_) => {
-                Ok(None)
-            }
-        }
+        let name = Name::from_vec(Vec::from_slice(alloc, letters.as_slice())?);
+        let notes = RawNotes {
+            items: Vec::new(alloc),
+        };
+        Ok(TypePart {
+            ty: RawType::Name(at, name, notes),
+            height: 1,
+        })
     }
 
     /// A list of it

@@ -2,7 +2,6 @@
 ghost use Rattle.std.specs.Prelude.{◌≡◌, suc, ◌+◌, ◌≤◌, IfOk, None, max, option_map};
 ghost use Rattle.um_tree.specs.RawTree.{list_type_syntax, note_syntax, type_syntax};
 ghost use Rattle.um_types.specs.UnitStops.{greatest_height};
-ghost use Rattle.um_types.specs.TypeTokens.{type_token};
 ghost use Rattle.um_types.specs.TypeHeights.{note_height};
 ghost use Rattle.um_types.specs.NoteMachine.{NeedNote};
 ghost use Rattle.um_types.specs.TypeMachine.{NeedType, HaveType, InNote, type_begin, type_after, close_bracket, open_angle, next_note, note_end, type_act, type_finish, type_least, owner_height};
@@ -13,10 +12,9 @@ ghost use Rattle.um_types.specs.TypeTakes.{type_state, TypeTakes};
 
 use crate::note_take::{NoteReader, NoteStep};
 use crate::type_part::{Owner, TypeHand, TypePart};
-use crate::type_symbol::Symbol;
 use crate::type_take::{TypeReader, TypeStep};
 use std::alloc::{AllocError, Global};
-use um_syntax::Token;
+use um_syntax::{Keyword, Kind, Symbol, Token};
 use um_tree::{RawNote, RawType};
 
 // The greatest height of a type text.
@@ -52,22 +50,17 @@ fn bracket_opens(depth: u32) -> TypeStep
 // One token where a type is wanted.
 fn take_first(alloc: Global, depth: u32, token: &Token) -> Result<TypeStep, AllocError>
     requires { depth + 1 ≤ greatest_height }
-    ensures { IfOk result (λ s. TypeTakes (NeedType depth) (type_begin depth (type_token token.now.kind) token.now.start) s) }
+    ensures { IfOk result (λ s. TypeTakes (NeedType depth) (type_begin depth token.now.kind token.now.start) s) }
 {
-    if let Some(part) = TypePart::named(alloc, &token.kind, token.start)? {
-        return Ok(TypeStep::Goes(full(depth, part)));
-    }
-    match Symbol::of_kind(&token.kind) {
-        Symbol::Num => Ok(TypeStep::Goes(full(depth, TypePart::num()))),
-        Symbol::Bool => Ok(TypeStep::Goes(full(depth, TypePart::bool()))),
-        Symbol::Open => Ok(bracket_opens(depth)),
-        Symbol::Close
-        | Symbol::Less
-        | Symbol::Greater
-        | Symbol::Comma
-        | Symbol::Arrow
-        | Symbol::List
-        | Symbol::Other => Ok(TypeStep::Stops(None)),
+    match &token.kind {
+        Kind::Name(letters) => {
+            let part = TypePart::named(alloc, token.start, letters)?;
+            Ok(TypeStep::Goes(full(depth, part)))
+        }
+        Kind::Word(Keyword::Num) => Ok(TypeStep::Goes(full(depth, TypePart::num()))),
+        Kind::Word(Keyword::Bool) => Ok(TypeStep::Goes(full(depth, TypePart::bool()))),
+        Kind::Sign(Symbol::LeftParen) => Ok(bracket_opens(depth)),
+        _ => Ok(TypeStep::Stops(None)),
     }
 }
 
@@ -124,19 +117,13 @@ fn take_after(
     token: &Token,
 ) -> Result<TypeStep, AllocError>
     requires { type_least (HaveType depth (part_type part)) ≤ greatest_height }
-    ensures { IfOk result (λ s. TypeTakes (HaveType depth (part_type part)) (type_after depth (part_type part) (type_token token.now.kind)) s) }
+    ensures { IfOk result (λ s. TypeTakes (HaveType depth (part_type part)) (type_after depth (part_type part) token.now.kind) s) }
 {
-    match Symbol::of_kind(&token.kind) {
-        Symbol::List => list_after(alloc, depth, part),
-        Symbol::Close => bracket_closes(alloc, depth, part),
-        Symbol::Less => Ok(angle_opens(depth, part)),
-        Symbol::Open
-        | Symbol::Greater
-        | Symbol::Comma
-        | Symbol::Arrow
-        | Symbol::Num
-        | Symbol::Bool
-        | Symbol::Other => Ok(TypeStep::Stops(whole(depth, part))),
+    match &token.kind {
+        Kind::Word(Keyword::List) => list_after(alloc, depth, part),
+        Kind::Sign(Symbol::RightParen) => bracket_closes(alloc, depth, part),
+        Kind::Sign(Symbol::Less) => Ok(angle_opens(depth, part)),
+        _ => Ok(TypeStep::Stops(whole(depth, part))),
     }
 }
 
@@ -172,19 +159,12 @@ fn take_behind(
     token: &Token,
 ) -> Result<TypeStep, AllocError>
     requires { max (depth + 1) (max (owner_height (view_owner owner)) (note_height (note_syntax note))) ≤ greatest_height }
-    ensures { IfOk result (λ s. TypeTakes (InNote depth (view_owner owner) NeedNote) (note_end depth (view_owner owner) (note_syntax note) (type_token token.now.kind)) s) }
+    ensures { IfOk result (λ s. TypeTakes (InNote depth (view_owner owner) NeedNote) (note_end depth (view_owner owner) (note_syntax note) token.now.kind) s) }
 {
-    match Symbol::of_kind(&token.kind) {
-        Symbol::Greater => Ok(TypeStep::Goes(full(depth, owner.owned(note)?))),
-        Symbol::Comma => comma_after(depth, owner, note),
-        Symbol::Open
-        | Symbol::Close
-        | Symbol::Less
-        | Symbol::Arrow
-        | Symbol::Num
-        | Symbol::Bool
-        | Symbol::List
-        | Symbol::Other => Ok(refuse(note)),
+    match &token.kind {
+        Kind::Sign(Symbol::Greater) => Ok(TypeStep::Goes(full(depth, owner.owned(note)?))),
+        Kind::Sign(Symbol::Comma) => comma_after(depth, owner, note),
+        _ => Ok(refuse(note)),
     }
 }
 

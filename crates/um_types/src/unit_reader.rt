@@ -1,15 +1,14 @@
 // Reading a unit text token by token.
 ghost use Rattle.std.specs.Prelude.{◌≡◌, ◌<◌, ◌∷◌, IfOk, IfSome, OnOk, Some, None, option_map, vec_len, pos, neg_ℤ};
 ghost use Rattle.um_types.specs.UnitTokens.{unit_token, power_of};
-ghost use Rattle.um_types.specs.UnitMachine.{Need, sign_after, Have, Raised, Lowered, reduce, juxtapose, begin, raised, lowered, close_after, opens, after, act, finish, atom_of, mark_in, power_in, is_atom};
+ghost use Rattle.um_types.specs.UnitMachine.{Need, sign_after, Have, Raised, Lowered, reduce, juxtapose, begin, raised, lowered, close_after, opens, after, act, finish, atom_of, power_in, is_atom};
 ghost use Rattle.um_types.specs.UnitView.{part_text, stack, state_of, Gives, Ended, Unbracketed, ends_itself};
 
 use crate::unit_frame::{Frame, Hand, Step, pop_frame, push_frame};
-use crate::unit_mark::Mark;
 use crate::unit_part::{Front, Part};
 use std::alloc::{AllocError, Global};
 use um_frac::Frac;
-use um_syntax::{Kind, Token};
+use um_syntax::{Kind, Symbol, Token};
 use um_tree::RawUnit;
 
 // The greatest power that a text writes.
@@ -99,16 +98,6 @@ fn atom(alloc: Global, kind: &Kind, at: u32) -> Result<Option<Part>, AllocError>
     }
 }
 
-// The sign that a token is.
-fn mark(kind: &Kind) -> Mark
-    ensures { result ≡ mark_in (unit_token kind.now) }
-{
-    match kind {
-        Kind::Sign(sign) => Mark::of_sign(*sign),
-        _ => Mark::Other,
-    }
-}
-
 // The power that a token writes.
 fn power(kind: &Kind) -> Option<i32>
     ensures { option_map pos (power_in (unit_token kind.now)) ≡ result }
@@ -126,12 +115,12 @@ fn step_empty(alloc: Global, frames: &mut Vec<Frame>, token: &Token) -> Result<S
     if let Some(atom) = atom(alloc, &token.kind, token.start)? {
         return Ok(Step::Goes(Hand::Full(atom)));
     }
-    match mark(&token.kind) {
-        Mark::Open => {
+    match &token.kind {
+        Kind::Sign(Symbol::LeftParen) => {
             push_frame(frames, Frame::InBracket(token.start))?;
             Ok(Step::Goes(Hand::Empty))
         }
-        Mark::Over => {
+        Kind::Sign(Symbol::Slash) => {
             if opens(frames) {
                 push_frame(frames, Frame::InInverse(token.start))?;
                 Ok(Step::Goes(Hand::Empty))
@@ -155,8 +144,8 @@ fn step_raised(
     if let Some(power) = power(&token.kind) {
         return Ok(Step::Goes(Hand::Full(base.power(alloc, power)?)));
     }
-    match mark(&token.kind) {
-        Mark::Minus => Ok(Step::Goes(Hand::Lowered(base))),
+    match &token.kind {
+        Kind::Sign(Symbol::Minus) => Ok(Step::Goes(Hand::Lowered(base))),
         _ => Ok(Step::Stops(Hand::Raised(base))),
     }
 }
@@ -242,21 +231,21 @@ fn step_full(
         juxtapose(alloc, frames, at_hand)?;
         return Ok(Step::Goes(Hand::Full(atom)));
     }
-    match mark(&token.kind) {
-        Mark::Open => {
+    match &token.kind {
+        Kind::Sign(Symbol::LeftParen) => {
             juxtapose(alloc, frames, at_hand)?;
             push_frame(frames, Frame::InBracket(token.start))?;
             Ok(Step::Goes(Hand::Empty))
         }
-        Mark::Close => close_after(alloc, frames, at_hand),
-        Mark::Times => after_sign(alloc, frames, at_hand, false),
-        Mark::Over => after_sign(alloc, frames, at_hand, true),
-        Mark::Caret => Ok(if is_atom(&at_hand) {
+        Kind::Sign(Symbol::RightParen) => close_after(alloc, frames, at_hand),
+        Kind::Sign(Symbol::Star) => after_sign(alloc, frames, at_hand, false),
+        Kind::Sign(Symbol::Slash) => after_sign(alloc, frames, at_hand, true),
+        Kind::Sign(Symbol::Caret) => Ok(if is_atom(&at_hand) {
             Step::Goes(Hand::Raised(at_hand))
         } else {
             Step::Stops(Hand::Full(at_hand))
         }),
-        Mark::Minus | Mark::Other => Ok(Step::Stops(Hand::Full(at_hand))),
+        _ => Ok(Step::Stops(Hand::Full(at_hand))),
     }
 }
 

@@ -9,5 +9,5 @@ use Rattle.um_types.proofs.type_reader.take_behind.Goals as goal
 pub full-requires : goal.full-requires
 full-requires c =
     let e = owned_height (view_owner c.args.owner) (note_syntax c.args.note) in
-    let is = c.in_ok-owned-in-Greater.ensures in
+    let is = c.in_ok-owned-in-Sign-Greater.ensures in
     omega (arith, c.requires, e.0, e.1, ap type_height is, ap units_height is)
