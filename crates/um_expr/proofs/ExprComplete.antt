@@ -9,9 +9,10 @@ use Rattle.um_tree.specs.declared.expression.Sign.TheVariants as compare
 use Rattle.um_tree.specs.RawTree.{NoteSyntax, BinderSyntax, ExprSyntax, number_syntax}
 use Rattle.um_types.specs.NoteMachine.{NeedNote}
 use Rattle.um_types.proofs.NoteComplete.{note_into}
-use Rattle.um_expr.specs.declared.mark.Infix.{Infix}
-use Rattle.um_expr.specs.declared.mark.Infix.TheVariants as between
-use Rattle.um_expr.specs.ExprTokens.{name, hole, operator, equal, less, greater}
+use Rattle.um_expr.specs.declared.infix.Infix.{Infix}
+use Rattle.um_expr.specs.declared.infix.Infix.TheVariants as between
+use Rattle.um_expr.specs.declared.token.ExprToken.TheVariants.{Name as name, Hole as hole, Operator as operator}
+use Rattle.um_expr.specs.ExprTokens.{equal, less, greater}
 use Rattle.um_expr.specs.Ranks.{infix_rank, left_limit}
 use Rattle.um_expr.specs.ExprGrammar.{FirstAt, bound, BinderSpells, ends_in_number, InfixAt, WrittenNote, Spells, rank, NoteFitsIn, Fits}
 use Rattle.um_expr.specs.ExprMachine.{Frame, InRight, top_bound, State, Need, Have, Greater, InNote, reduce, if_may, infix_after, greater_after, act}

@@ -9,14 +9,19 @@ use Rattle.um_types.specs.TypeGrammar.{NoteSpells, NoteFits, TypeSpells, TypeFit
 use Rattle.um_types.specs.NoteMachine.{NoteState, NeedNote, HaveHole, InUnit, NoNote, note_step, note_finish}
 use Rattle.um_types.specs.TypeMachine.{TypeState, NeedType, HaveType, NoType, type_after, type_step, type_finish}
 use Rattle.um_types.specs.TypeMachine.{InNote as InTypeNote}
+use Rattle.um_types.specs.UnitTokens.{unit_token}
+use Rattle.um_types.proofs.TokenLinks.{is_foreign}
 use Rattle.um_types.proofs.Reaching.{runs_append, lift}
 use Rattle.um_types.proofs.NoteComplete.{note_into, note_reaches, note_finds, note_stops}
 use Rattle.um_types.proofs.TypeComplete.{type_reaches}
-use Rattle.um_expr.specs.declared.mark.Mark.TheVariants as mark
-use Rattle.um_expr.specs.ExprTokens.{ExprToken, plain, expr_token, greater}
+use Rattle.um_syntax.specs.declared.vocabulary.Keyword.TheVariants as keyword
+use Rattle.um_syntax.specs.declared.vocabulary.Symbol.TheVariants as symbol
+use Rattle.um_expr.specs.declared.token.ExprToken.{ExprToken}
+use Rattle.um_expr.specs.declared.token.ExprToken.TheVariants.{Word as word, Mark as mark}
+use Rattle.um_expr.specs.ExprTokens.{expr_token, greater}
 use Rattle.um_expr.specs.ExprGrammar.{First, FirstAt, FirstGlued}
 use Rattle.um_expr.specs.ExprMachine.{Frame, State, Have, InNote, InType, note_ends, type_ends, note_goes, type_goes, act, step}
-use Rattle.um_expr.proofs.TokenKinds.{greater_is, close_is}
+use Rattle.um_expr.proofs.ExprTokenKinds.{greater_is, mark_is}
 
 abbrev pub Leads : State → List Token → State → List Token → Type 0
 Leads old tokens new rest = (read : List Token) × (tokens ≡ read ++ rest) × (runs step old read ≡ new)
@@ -97,7 +102,7 @@ leads_note_end frames at c n tokens rest fits f =
     let ended : State = note_ends frames at c (note_finish (note_into n)) (expr_token f.0.kind) in (
       f.0 ∷ [],
       f.2,
-      ap (λ s. note_goes frames at c s ended) (note_stops n f.0.kind f.0.start (greater_is f.0.kind f.1).0)
+      ap (λ s. note_goes frames at c s ended) (note_stops n f.0.kind f.0.start (ap (λ k. is_foreign (unit_token k)) (greater_is f.0.kind f.1)))
           ∙ ap (λ o. note_ends frames at c o (expr_token f.0.kind)) (note_finds n fits)
           ∙ ap (note_ends frames at c (Some n)) f.1,
     )
@@ -121,11 +126,11 @@ leads_type frames at t tokens rest s fits =
     let r = type_reaches t 0 tokens rest s fits in
     (r.0, r.1, lift type_step NoType (λ x. refl) step (λ w. InType frames at w) (type_inside frames at) r.0 (NeedType 0) (HaveType 0 t) r.2 r.3)
 
-pub leads_type_end : (frames : List Frame) (at : ℕ) (t : TypeSyntax) (tokens rest : List Token) → First (plain mark.Close) tokens rest
+pub leads_type_end : (frames : List Frame) (at : ℕ) (t : TypeSyntax) (tokens rest : List Token) → First (mark symbol.RightParen) tokens rest
     → Leads (InType frames at (HaveType 0 t)) tokens (Have frames (nil_syntax at t)) rest
 leads_type_end frames at t tokens rest f =
     let ended : State = type_ends frames at (Some t) (expr_token f.0.kind) in (
       f.0 ∷ [],
       f.2,
-      ap (λ w. type_goes frames at (type_after 0 t w) ended) (close_is f.0.kind f.1) ∙ ap (type_ends frames at (Some t)) f.1,
+      ap (λ w. type_goes frames at (type_after 0 t w) ended) (mark_is f.0.kind symbol.RightParen f.1) ∙ ap (type_ends frames at (Some t)) f.1,
     )

@@ -13,8 +13,11 @@ use Rattle.um_types.proofs.Reaching.{runs_append, lift}
 use Rattle.um_types.proofs.UnitComplete.{into as unit_into}
 use Rattle.um_types.proofs.UnitNested.{unit_step, unit_reaches}
 use Rattle.um_types.proofs.TypeComplete.{type_reaches}
-use Rattle.um_expr.specs.declared.mark.Mark.TheVariants as mark
-use Rattle.um_expr.specs.ExprTokens.{ExprToken, name, hole, plain, expr_token, greater}
+use Rattle.um_syntax.specs.declared.vocabulary.Keyword.TheVariants as keyword
+use Rattle.um_syntax.specs.declared.vocabulary.Symbol.TheVariants as symbol
+use Rattle.um_expr.specs.declared.token.ExprToken.{ExprToken}
+use Rattle.um_expr.specs.declared.token.ExprToken.TheVariants.{Name as name, Hole as hole, Word as word, Mark as mark}
+use Rattle.um_expr.specs.ExprTokens.{expr_token, greater}
 use Rattle.um_expr.specs.ExprGrammar.{First, FirstAt, bound, BinderSpells, Spells, Fits}
 use Rattle.um_expr.specs.ExprMachine.{State, Need, Have, Greater, Inside, InNote, InType, Refused, step}
 use Rattle.um_parse.specs.DeclGrammar.{Attribute}
@@ -60,12 +63,12 @@ leads_binder old new x tokens rest s named free = by_name x.name s
     by_name None f = leads_at old (new (record { at = x.at; name = None })) hole x.at tokens rest f (λ g k. free x.at g k)
 
 -- `[<Measure>]`, by the states behind its tokens
-pub leads_attribute : (a b c d e : DeclState) (tokens rest : List Token) → Attribute tokens rest → ((p : ℕ) (g : Bool) (k : Kind) → decl_act a (plain mark.AttributeOpen) p g k ≡ b)
-    → ((p : ℕ) (g : Bool) (k : Kind) → decl_act b (plain mark.Measure) p g k ≡ c) → ((p : ℕ) (g : Bool) (k : Kind) → decl_act c greater p g k ≡ d)
-    → ((p : ℕ) (g : Bool) (k : Kind) → decl_act d (plain mark.ListClose) p g k ≡ e) → Leads a tokens e rest
+pub leads_attribute : (a b c d e : DeclState) (tokens rest : List Token) → Attribute tokens rest → ((p : ℕ) (g : Bool) (k : Kind) → decl_act a (mark symbol.AttributeOpen) p g k ≡ b)
+    → ((p : ℕ) (g : Bool) (k : Kind) → decl_act b (word keyword.Measure) p g k ≡ c) → ((p : ℕ) (g : Bool) (k : Kind) → decl_act c greater p g k ≡ d)
+    → ((p : ℕ) (g : Bool) (k : Kind) → decl_act d (mark symbol.RightBracket) p g k ≡ e) → Leads a tokens e rest
 leads_attribute a b c d e tokens rest s one two three four =
-    thence (leads_first a b (plain mark.AttributeOpen) tokens s.0 s.3 one)
-    (thence (leads_first b c (plain mark.Measure) s.0 s.1 s.4 two) (thence (leads_first c d greater s.1 s.2 s.5 three) (leads_first d e (plain mark.ListClose) s.2 rest s.6 four)))
+    thence (leads_first a b (mark symbol.AttributeOpen) tokens s.0 s.3 one)
+    (thence (leads_first b c (word keyword.Measure) s.0 s.1 s.4 two) (thence (leads_first c d greater s.1 s.2 s.5 three) (leads_first d e (mark symbol.RightBracket) s.2 rest s.6 four)))
 
 -- ---- machines inside
 

@@ -2,13 +2,14 @@ mod DeclLists
 mod DeclLeads
 mod DeclComplete
 mod ProgramComplete
-mod DeclStands
+mod DeclPrefixes
 mod DeclSound
-mod DeclEndings
+mod DeclCompletions
 mod ProgramSound
 mod DeclHeights
 mod ProgramLow
 mod ProgramWhole
+mod ProgramExact
 mod ProgramNodes
 mod LimitLaws
 mod DeclTaken

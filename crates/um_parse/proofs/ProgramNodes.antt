@@ -9,10 +9,12 @@ use Rattle.um_tree.specs.Heights.{expr_nodes, all_expr_nodes, all_field_nodes}
 use Rattle.um_types.specs.TypeGrammar.{NoteSpells, NoteFits, TypeSpells, TypeFits}
 use Rattle.um_types.proofs.NoteComplete.{note_reaches}
 use Rattle.um_types.proofs.TypeComplete.{type_reaches}
-use Rattle.um_expr.specs.declared.mark.Mark.TheVariants as mark
-use Rattle.um_expr.specs.declared.mark.Infix.{Infix}
-use Rattle.um_expr.specs.declared.mark.Infix.TheVariants as between
-use Rattle.um_expr.specs.ExprTokens.{ExprToken, plain}
+use Rattle.um_syntax.specs.declared.vocabulary.Keyword.TheVariants as keyword
+use Rattle.um_syntax.specs.declared.vocabulary.Symbol.TheVariants as symbol
+use Rattle.um_expr.specs.declared.infix.Infix.{Infix}
+use Rattle.um_expr.specs.declared.infix.Infix.TheVariants as between
+use Rattle.um_expr.specs.declared.token.ExprToken.{ExprToken}
+use Rattle.um_expr.specs.declared.token.ExprToken.TheVariants.{Word as word, Mark as mark}
 use Rattle.um_expr.specs.ExprGrammar.{First, FirstAt, FirstGlued, ends_in_number, InfixAt, WrittenNote, EmptyArm, FullArm, Spells, AllSpell, ItemsSpell, MoreItems, FieldsSpell, MoreFields, NoteFitsIn, Fits, AreAtoms, AllFit, FieldsFit}
 use Rattle.um_parse.specs.DeclGrammar.{ParamsSpell, ResultSpells, RecSpells, DeclSpells, DeclsSpell, ParamsFit, ResultFits, DeclFits, DeclsFit, IsProgram}
 use Rattle.um_parse.specs.ProgramNodes.{decl_nodes, program_nodes}
@@ -73,7 +75,7 @@ empty_arm_less tokens rest s =
     let e = first_less _ s.3 rest s.8 in
     omega (arith, a, bar s.5, c, d, e)
   where
-    bar : (s.0 ≡ s.1) ⊎ First (plain mark.Bar) s.0 s.1 → length s.1 ≤ length s.0
+    bar : (s.0 ≡ s.1) ⊎ First (mark symbol.Bar) s.0 s.1 → length s.1 ≤ length s.0
     bar (inl e) = let same : length s.0 ≡ length s.1 = ap length e in omega (arith, same)
     bar (inr f) = let less = first_less _ s.0 s.1 f in omega (arith, less)
 

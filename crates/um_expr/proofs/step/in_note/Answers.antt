@@ -7,7 +7,7 @@ use Rattle.um_types.proofs.NoteLaws.{note_found_height}
 use Rattle.um_expr.specs.ExprTokens.{expr_token}
 use Rattle.um_expr.specs.ExprMachine.{note_ends}
 use Rattle.um_expr.specs.ExprStack.{frames_of}
-use Rattle.um_expr.proofs.ExprGoes.{note_high}
+use Rattle.um_expr.proofs.ExprRefusals.{note_high}
 use Rattle.um_expr.proofs.step.in_note.Goals as goal
 
 pub returns-in-High : goal.returns-in-High
