@@ -20,3 +20,6 @@ pub mod TypeLinks
 pub mod ExprLinks
 pub mod DeclLinks
 pub mod ReadBack
+mod RisingLists
+pub mod UnitOrder
+mod JoinedTexts

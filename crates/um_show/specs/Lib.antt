@@ -1,4 +1,6 @@
 pub mod NumberText
+pub mod UnitText
+pub mod SchemeText
 pub mod Pieces
 pub mod Layout
 pub mod Lists
