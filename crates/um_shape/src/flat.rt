@@ -6,7 +6,7 @@ use um_tree::{Note, Shape, Ty};
 use um_units::NoMemory;
 
 /// What stands in the innermost list.
-#[derive(Clone, Copy, Debug)]
+#[derive(Clone, Copy)]
 pub(crate) enum Item {
     Bool,
     Num,
@@ -31,7 +31,7 @@ impl Item {
 }
 
 /// A shape: so many lists round an item. A shape that is kept has fewer than 400 lists.
-#[derive(Clone, Copy, Debug)]
+#[derive(Clone, Copy)]
 pub(crate) struct FlatShape {
     pub(crate) lists: u32,
     pub(crate) item: Item,
