@@ -56,7 +56,7 @@ Pends (pending.Identifier b) letters at start text = (b ≡ start) × (at ≡ st
 Pends (pending.Quote b) letters at start text = (b ≡ start) × (at ≡ start + size_of text) × (letters ≡ []) × (text ≡ 39 ∷ [])
 Pends (pending.Variable b last) letters at start text =
     (b ≡ start) × (at ≡ start + size_of text)
-    × ((front : List ℕ) × (c : ℕ) × (text ≡ 39 ∷ (front ++ c ∷ [])) × IsIdentifier (front ++ c ∷ []) × (letters ≡ encodes (front ++ c ∷ [])) × (last ≡ start + size_of (39 ∷ front)))
+    × ((prefix : List ℕ) × (c : ℕ) × (text ≡ 39 ∷ (prefix ++ c ∷ [])) × IsIdentifier (prefix ++ c ∷ []) × (letters ≡ encodes (prefix ++ c ∷ [])) × (last ≡ start + size_of (39 ∷ prefix)))
 Pends (pending.Number b e p f) letters at start text =
     (b ≡ start) × (at ≡ start + size_of text) × (letters ≡ [])
     × ((numeral : Numeral) × IsNumeral numeral × (f ≡ figures_of numeral) × (text ≡ numeral_text numeral ++ tail_of p) × (e ≡ start + size_of (numeral_text numeral)) × FitsPart p numeral)
@@ -155,20 +155,20 @@ size_of-snoc xs x = let e = size_of-append xs (x ∷ []) in omega (arith, e)
 
 -- a variable whose letters are a word leaves its last letter to a name
 word_variable : (k : Keyword) (before : List Token) (start last at : ℕ) (more : List ℕ)
-    → last ≡ start + size_of (39 ∷ (keyword_parts k).front) → at ≡ start + size_of (39 ∷ ((keyword_parts k).front ++ (keyword_parts k).last ∷ []))
+    → last ≡ start + size_of (39 ∷ (keyword_parts k).prefix) → at ≡ start + size_of (39 ∷ ((keyword_parts k).prefix ++ (keyword_parts k).last ∷ []))
     → begins is_xid_continue more ≡ false → (answer : Result (List Token) LexStop)
     → Means (pushed (pushed (scan_at at before (keyword_text k) (pending.Variable start last)) (kind.Var (take (length (keyword_text k) - 1) (keyword_text k))) start last) (kind.Name (drop (length (keyword_text k) - 1) (keyword_text k))) last at).tokens at more answer
-    → Means before start ((39 ∷ ((keyword_parts k).front ++ (keyword_parts k).last ∷ [])) ++ more) answer
+    → Means before start ((39 ∷ ((keyword_parts k).prefix ++ (keyword_parts k).last ∷ [])) ++ more) answer
 word_variable k before start last at more last_place place stops answer m =
     let p = keyword_parts k in
-    let cut : 39 ∷ ((p.front ++ p.last ∷ []) ++ more) ≡ 39 ∷ (p.front ++ (p.last ∷ more)) = ap (λ x. 39 ∷ x) (append_assoc p.front (p.last ∷ []) more) in
+    let cut : 39 ∷ ((p.prefix ++ p.last ∷ []) ++ more) ≡ 39 ∷ (p.prefix ++ (p.last ∷ more)) = ap (λ x. 39 ∷ x) (append_assoc p.prefix (p.last ∷ []) more) in
     let continues = is_xid_start-is_xid_continue p.last (letter_starts p.last p.last_letter) in
-    let end : at ≡ last + size_of (p.last ∷ []) = omega (arith, last_place, place, size_of-snoc p.front p.last) in
+    let end : at ≡ last + size_of (p.last ∷ []) = omega (arith, last_place, place, size_of-snoc p.prefix p.last) in
     next_token before start _ _ (p.last ∷ more) answer
-    (token_here before start (Var p.front) (p.last ∷ more) _ (kind.Var (take (length (keyword_text k) - 1) (keyword_text k))) last cut
-    (p.front_identifier, not_hole p.front p.front_no_hole, keyword_of-none p.front p.front_no_word)
+    (token_here before start (Var p.prefix) (p.last ∷ more) _ (kind.Var (take (length (keyword_text k) - 1) (keyword_text k))) last cut
+    (p.prefix_identifier, not_hole p.prefix p.prefix_no_hole, keyword_of-none p.prefix p.prefix_no_word)
     (inr (continues, (k, sym p.text), stops)) tt
-    (ap (λ x. Some (kind.Var x)) (letters_encoded p.front p.front_letters ∙ sym p.front_taken)) last_place)
+    (ap (λ x. Some (kind.Var x)) (letters_encoded p.prefix p.prefix_letters ∙ sym p.prefix_taken)) last_place)
     (next_token (before ++ _ ∷ []) last (p.last ∷ more) _ more answer
     (token_here (before ++ _ ∷ []) last (Name (p.last ∷ [])) more (p.last ∷ more) (kind.Name (drop (length (keyword_text k) - 1) (keyword_text k))) at refl
     ((letter_starts_name p.last p.last_letter, tt), not_hole (p.last ∷ []) p.last_no_hole, keyword_of-none (p.last ∷ []) p.last_no_word)
@@ -198,39 +198,39 @@ word_pushed before start at last letters =
     pushed (pushed (variable_state before start at last letters) (kind.Var (take (length letters - 1) letters)) start last) (kind.Name (drop (length letters - 1) letters)) last at
 
 -- the letters are a word
-variable_word : (before : List Token) (start at last : ℕ) (front more : List ℕ) (c : ℕ) (k : Keyword) → last ≡ start + size_of (39 ∷ front) → at ≡ start + size_of (39 ∷ (front ++ c ∷ []))
-    → begins is_xid_continue more ≡ false → keyword_of (encodes (front ++ c ∷ [])) ≡ Some k
-    → VariableMeans before start at last (front ++ c ∷ []) more (Ok (variable_pushed (variable_state before start at last (encodes (front ++ c ∷ []))) start last))
-variable_word before start at last front more c k last_place place stops e =
-    let w = word_from (front ++ c ∷ []) k e in
+variable_word : (before : List Token) (start at last : ℕ) (prefix more : List ℕ) (c : ℕ) (k : Keyword) → last ≡ start + size_of (39 ∷ prefix) → at ≡ start + size_of (39 ∷ (prefix ++ c ∷ []))
+    → begins is_xid_continue more ≡ false → keyword_of (encodes (prefix ++ c ∷ [])) ≡ Some k
+    → VariableMeans before start at last (prefix ++ c ∷ []) more (Ok (variable_pushed (variable_state before start at last (encodes (prefix ++ c ∷ []))) start last))
+variable_word before start at last prefix more c k last_place place stops e =
+    let w = word_from (prefix ++ c ∷ []) k e in
     let p = keyword_parts k in
     let parts = w ∙ p.text in
-    let same = snoc_same front p.front c p.last parts in
-    let letters : encodes (front ++ c ∷ []) ≡ keyword_text k = ap encodes w ∙ keyword_encoded k in
-    let last_there : last ≡ start + size_of (39 ∷ p.front) = last_place ∙ ap (λ x. start + size_of (39 ∷ x)) same.0 in
-    let there : at ≡ start + size_of (39 ∷ (p.front ++ p.last ∷ [])) = place ∙ ap (λ x. start + size_of (39 ∷ x)) parts in
-    let m : VariableMeans before start at last (p.front ++ p.last ∷ []) more (Ok (word_pushed before start at last (keyword_text k))) =
+    let same = snoc_same prefix p.prefix c p.last parts in
+    let letters : encodes (prefix ++ c ∷ []) ≡ keyword_text k = ap encodes w ∙ keyword_encoded k in
+    let last_there : last ≡ start + size_of (39 ∷ p.prefix) = last_place ∙ ap (λ x. start + size_of (39 ∷ x)) same.0 in
+    let there : at ≡ start + size_of (39 ∷ (p.prefix ++ p.last ∷ [])) = place ∙ ap (λ x. start + size_of (39 ∷ x)) parts in
+    let m : VariableMeans before start at last (p.prefix ++ p.last ∷ []) more (Ok (word_pushed before start at last (keyword_text k))) =
     (refl, λ answer alone m. word_variable k before start last at more last_there there stops answer m) in
-    rw e (subst (λ x. VariableMeans before start at last x more (Ok (word_pushed before start at last (encodes (front ++ c ∷ []))))) (sym parts)
-    (subst (λ l. VariableMeans before start at last (p.front ++ p.last ∷ []) more (Ok (word_pushed before start at last l))) (sym letters) m))
+    rw e (subst (λ x. VariableMeans before start at last x more (Ok (word_pushed before start at last (encodes (prefix ++ c ∷ []))))) (sym parts)
+    (subst (λ l. VariableMeans before start at last (p.prefix ++ p.last ∷ []) more (Ok (word_pushed before start at last l))) (sym letters) m))
 
 variable_hole : (before : List Token) (start : ℕ) (name more : List ℕ) → begins is_xid_continue more ≡ false → bytes_eq (encodes name) (95 ∷ []) ≡ true → Means before start ((39 ∷ name) ++ more) (Err (BadChar start))
 variable_hole before start name more stops e = subst (λ x. Means before start ((39 ∷ x) ++ more) (Err (BadChar start))) (sym (hole_from name e)) (hole_variable before start more stops)
 
-pub close_variable : (before : List Token) (start at last : ℕ) (front more : List ℕ) (c : ℕ) → IsIdentifier (front ++ c ∷ []) → last ≡ start + size_of (39 ∷ front) → at ≡ start + size_of (39 ∷ (front ++ c ∷ []))
+pub close_variable : (before : List Token) (start at last : ℕ) (prefix more : List ℕ) (c : ℕ) → IsIdentifier (prefix ++ c ∷ []) → last ≡ start + size_of (39 ∷ prefix) → at ≡ start + size_of (39 ∷ (prefix ++ c ∷ []))
     → begins is_xid_continue more ≡ false
-    → VariableMeans before start at last (front ++ c ∷ []) more (close (variable_state before start at last (encodes (front ++ c ∷ []))) (pending.Variable start last))
-close_variable before start at last front more c is last_place place stops = by_hole (bytes_eq (encodes (front ++ c ∷ [])) (95 ∷ [])) refl
+    → VariableMeans before start at last (prefix ++ c ∷ []) more (close (variable_state before start at last (encodes (prefix ++ c ∷ []))) (pending.Variable start last))
+close_variable before start at last prefix more c is last_place place stops = by_hole (bytes_eq (encodes (prefix ++ c ∷ [])) (95 ∷ [])) refl
   where
-    by_number : bytes_eq (encodes (front ++ c ∷ [])) (95 ∷ []) ≡ false → (o : Option Keyword) → keyword_of (encodes (front ++ c ∷ [])) ≡ o
-        → VariableMeans before start at last (front ++ c ∷ []) more (Ok (variable_pushed (variable_state before start at last (encodes (front ++ c ∷ []))) start last))
-    by_number no_hole (Some k) e = variable_word before start at last front more c k last_place place stops e
-    by_number no_hole None e = variable_plain before start at last (front ++ c ∷ []) more is place stops no_hole e
+    by_number : bytes_eq (encodes (prefix ++ c ∷ [])) (95 ∷ []) ≡ false → (o : Option Keyword) → keyword_of (encodes (prefix ++ c ∷ [])) ≡ o
+        → VariableMeans before start at last (prefix ++ c ∷ []) more (Ok (variable_pushed (variable_state before start at last (encodes (prefix ++ c ∷ []))) start last))
+    by_number no_hole (Some k) e = variable_word before start at last prefix more c k last_place place stops e
+    by_number no_hole None e = variable_plain before start at last (prefix ++ c ∷ []) more is place stops no_hole e
 
-    by_hole : (b : Bool) → bytes_eq (encodes (front ++ c ∷ [])) (95 ∷ []) ≡ b
-        → VariableMeans before start at last (front ++ c ∷ []) more (close (variable_state before start at last (encodes (front ++ c ∷ []))) (pending.Variable start last))
-    by_hole true e = rw e (variable_hole before start (front ++ c ∷ []) more stops e)
-    by_hole false e = rw e (by_number e (keyword_of (encodes (front ++ c ∷ []))) refl)
+    by_hole : (b : Bool) → bytes_eq (encodes (prefix ++ c ∷ [])) (95 ∷ []) ≡ b
+        → VariableMeans before start at last (prefix ++ c ∷ []) more (close (variable_state before start at last (encodes (prefix ++ c ∷ []))) (pending.Variable start last))
+    by_hole true e = rw e (variable_hole before start (prefix ++ c ∷ []) more stops e)
+    by_hole false e = rw e (by_number e (keyword_of (encodes (prefix ++ c ∷ []))) refl)
 
 pub append_nil : (xs : List ℕ) → xs ++ [] ≡ xs
 append_nil [] = refl

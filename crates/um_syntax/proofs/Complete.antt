@@ -90,11 +90,11 @@ of_kind : (before : List Token) (at : ℕ) (text : List ℕ) (k l : Kind) (more 
 of_kind before at text k l more e m = subst (λ x. AfterToken before at text x more) e m
 
 -- a variable
-snoc_of : (text : List ℕ) → IsIdentifier text → (front : List ℕ) × (c : ℕ) × (text ≡ front ++ c ∷ [])
+snoc_of : (text : List ℕ) → IsIdentifier text → (prefix : List ℕ) × (c : ℕ) × (text ≡ prefix ++ c ∷ [])
 snoc_of [] is = absurd is
 snoc_of (c ∷ cs) is = go c cs
   where
-    go : (c : ℕ) (cs : List ℕ) → (front : List ℕ) × (last : ℕ) × (c ∷ cs ≡ front ++ last ∷ [])
+    go : (c : ℕ) (cs : List ℕ) → (prefix : List ℕ) × (last : ℕ) × (c ∷ cs ≡ prefix ++ last ∷ [])
     go c [] = ([], c, refl)
     go c (d ∷ ds) = let r = go d ds in (c ∷ r.0, r.1, ap (λ x. c ∷ x) r.2)
 
@@ -112,12 +112,12 @@ no_hole text h = by_hole (bytes_eq (encodes text) (95 ∷ [])) refl
     by_hole true e = absurd (h (hole_from text e))
     by_hole false e = e
 
-name_variable : (before : List Token) (at : ℕ) (front more : List ℕ) (c : ℕ) → IsName (front ++ c ∷ []) → begins is_xid_continue more ≡ false
-    → AfterToken before at (39 ∷ (front ++ c ∷ [])) (kind.Var (encodes (front ++ c ∷ []))) more
-name_variable before at front more c is stops =
-    variable_run before at c front more is.0
-    ∙ closed_run before (before ++ token_from before (kind.Var (encodes (front ++ c ∷ []))) at (at + size_of (39 ∷ (front ++ c ∷ []))) ∷ []) (encodes (front ++ c ∷ [])) (at + size_of (39 ∷ (front ++ c ∷ [])))
-    (pending.Variable at (at + size_of (39 ∷ front))) more (rw (no_hole (front ++ c ∷ []) is.1, no_word (front ++ c ∷ []) is.2) refl) stops (λ d. absurd (false≢true d))
+name_variable : (before : List Token) (at : ℕ) (prefix more : List ℕ) (c : ℕ) → IsName (prefix ++ c ∷ []) → begins is_xid_continue more ≡ false
+    → AfterToken before at (39 ∷ (prefix ++ c ∷ [])) (kind.Var (encodes (prefix ++ c ∷ []))) more
+name_variable before at prefix more c is stops =
+    variable_run before at c prefix more is.0
+    ∙ closed_run before (before ++ token_from before (kind.Var (encodes (prefix ++ c ∷ []))) at (at + size_of (39 ∷ (prefix ++ c ∷ []))) ∷ []) (encodes (prefix ++ c ∷ [])) (at + size_of (39 ∷ (prefix ++ c ∷ [])))
+    (pending.Variable at (at + size_of (39 ∷ prefix))) more (rw (no_hole (prefix ++ c ∷ []) is.1, no_word (prefix ++ c ∷ []) is.2) refl) stops (λ d. absurd (false≢true d))
 
 AllContinue-snoc : (text : List ℕ) (c : ℕ) → AllContinue text → is_xid_continue c ≡ true → AllContinue (text ++ c ∷ [])
 AllContinue-snoc [] c a e = (e, tt)
@@ -170,9 +170,9 @@ letter_variable before at c name more is leaves =
     let k = leaves.1.0 in
     let same = leaves.1.1 in
     let p = keyword_parts k in
-    let parts = snoc_same name p.front c p.last (same ∙ p.text) in
+    let parts = snoc_same name p.prefix c p.last (same ∙ p.text) in
     let kind_is : kind.Var (take (length (keyword_text k) - 1) (keyword_text k)) ≡ kind.Var (encodes name) =
-    ap (λ x. kind.Var x) (p.front_taken ∙ sym (letters_encoded p.front p.front_letters) ∙ ap encodes (sym parts.0)) in
+    ap (λ x. kind.Var x) (p.prefix_taken ∙ sym (letters_encoded p.prefix p.prefix_letters) ∙ ap encodes (sym parts.0)) in
     let letter_is = letter_kind k c parts.1 in
     let starts : starts_name c ≡ true = rw parts.1 (letter_starts_name p.last p.last_letter) in
     let whole = word_tokens before at k c name more (IsIdentifier-snoc name c is.0 leaves.0) same leaves.2 in

@@ -104,9 +104,9 @@ begins_digits : (q rest : List ℕ) → IsDigits q → begins is_ascii_digit (q 
 begins_digits [] rest is = absurd is
 begins_digits (d ∷ ds) rest is = is.0
 
-part_longest : (mark : ℕ) (ds front part extra rest : List ℕ) (c : ℕ) → is_ascii_digit mark ≡ false → (eqb mark 46 || eqb mark 114) ≡ true → IsDigits ds → IsDigits front → IsDigits part → NumeralEnds (Whole ds) (c ∷ extra ++ rest) → front ++ mark ∷ part ≢ ds ++ c ∷ extra
-part_longest mark ds front part extra rest c no_digit is_mark a b p ends e =
-    let s = digits_split front ds part extra mark c (are_digits front b) (are_digits ds a) no_digit ends.0 e in
+part_longest : (mark : ℕ) (ds prefix part extra rest : List ℕ) (c : ℕ) → is_ascii_digit mark ≡ false → (eqb mark 46 || eqb mark 114) ≡ true → IsDigits ds → IsDigits prefix → IsDigits part → NumeralEnds (Whole ds) (c ∷ extra ++ rest) → prefix ++ mark ∷ part ≢ ds ++ c ∷ extra
+part_longest mark ds prefix part extra rest c no_digit is_mark a b p ends e =
+    let s = digits_split prefix ds part extra mark c (are_digits prefix b) (are_digits ds a) no_digit ends.0 e in
     false≢true (sym ends.1 ∙ ap (λ x. (eqb x 46 || eqb x 114) && begins is_ascii_digit (extra ++ rest)) (sym s.0) ∙ ap (λ t. t && begins is_ascii_digit (extra ++ rest)) is_mark ∙ ap (λ x. begins is_ascii_digit (x ++ rest)) (sym s.1) ∙ begins_digits part rest p)
 
 number_longest : (n m : Numeral) (c : ℕ) (extra rest : List ℕ) → IsNumeral n → IsNumeral m → NumeralEnds n (c ∷ extra ++ rest) → numeral_text m ≢ numeral_text n ++ c ∷ extra
@@ -133,19 +133,19 @@ digit_longest n other c extra rest is fits ends e = by_other other fits e
     h : (d : ℕ) × (ds : List ℕ) × (numeral_text n ≡ d ∷ ds) × (is_ascii_digit d ≡ true)
     h = head_of (Number n) is
 
-    front : (other : Lexeme) → text_of other ≡ numeral_text n ++ c ∷ extra → text_of other ≡ h.0 ∷ (h.1 ++ c ∷ extra)
-    front other e = e ∙ ap (λ x. x ++ c ∷ extra) h.2
+    prefix : (other : Lexeme) → text_of other ≡ numeral_text n ++ c ∷ extra → text_of other ≡ h.0 ∷ (h.1 ++ c ∷ extra)
+    prefix other e = e ∙ ap (λ x. x ++ c ∷ extra) h.2
 
     letter : (other : Lexeme) → IsLexeme other → (g : (d : ℕ) × (ds : List ℕ) × (text_of other ≡ d ∷ ds) × (starts_name d ≡ true)) → text_of other ≡ numeral_text n ++ c ∷ extra → ⊥
-    letter other fits g e = let same : g.0 ≡ h.0 = cc (g.2, front other e) in false≢true (sym (digit_no_name h.0 h.3) ∙ ap starts_name (sym same) ∙ g.3)
+    letter other fits g e = let same : g.0 ≡ h.0 = cc (g.2, prefix other e) in false≢true (sym (digit_no_name h.0 h.3) ∙ ap starts_name (sym same) ∙ g.3)
 
     by_other : (other : Lexeme) → IsLexeme other → text_of other ≡ numeral_text n ++ c ∷ extra → ⊥
     by_other (Number m) fits e = number_longest n m c extra rest is fits ends e
     by_other (Name text) fits e = letter (Name text) fits (head_of (Name text) fits) e
     by_other (Word k) fits e = letter (Word k) fits (head_of (Word k) fits) e
     by_other Hole fits e = letter Hole fits (head_of Hole fits) e
-    by_other (Var name) fits e = let same : ◌≡◌ {A = ℕ} 39 h.0 = cc (front (Var name) e) in false≢true (ap is_ascii_digit same ∙ h.3)
-    by_other (Sign k) fits e = let m = sign_mark k h.0 (h.1 ++ c ∷ extra) (front (Sign k) e) in false≢true (sym m.3 ∙ h.3)
+    by_other (Var name) fits e = let same : ◌≡◌ {A = ℕ} 39 h.0 = cc (prefix (Var name) e) in false≢true (ap is_ascii_digit same ∙ h.3)
+    by_other (Sign k) fits e = let m = sign_mark k h.0 (h.1 ++ c ∷ extra) (prefix (Sign k) e) in false≢true (sym m.3 ∙ h.3)
 
 -- what begins like a sign is one
 sign_longest : (k : Symbol) (other : Lexeme) (c : ℕ) (extra rest : List ℕ) → IsLexeme other → SignEnds (symbol_text k) (c ∷ extra ++ rest) → text_of other ≢ symbol_text k ++ c ∷ extra
@@ -157,11 +157,11 @@ sign_longest k other c extra rest fits ends e = by_other other fits e
     mark : IsMark h.0
     mark = sign_mark k h.0 h.1 h.2
 
-    front : (other : Lexeme) → text_of other ≡ symbol_text k ++ c ∷ extra → text_of other ≡ h.0 ∷ (h.1 ++ c ∷ extra)
-    front other e = e ∙ ap (λ x. x ++ c ∷ extra) h.2
+    prefix : (other : Lexeme) → text_of other ≡ symbol_text k ++ c ∷ extra → text_of other ≡ h.0 ∷ (h.1 ++ c ∷ extra)
+    prefix other e = e ∙ ap (λ x. x ++ c ∷ extra) h.2
 
     letter : (other : Lexeme) → IsLexeme other → (g : (d : ℕ) × (ds : List ℕ) × (text_of other ≡ d ∷ ds) × (starts_name d ≡ true)) → text_of other ≡ symbol_text k ++ c ∷ extra → ⊥
-    letter other fits g e = let same : g.0 ≡ h.0 = cc (g.2, front other e) in false≢true (sym (mark_no_name h.0 mark) ∙ ap starts_name (sym same) ∙ g.3)
+    letter other fits g e = let same : g.0 ≡ h.0 = cc (g.2, prefix other e) in false≢true (sym (mark_no_name h.0 mark) ∙ ap starts_name (sym same) ∙ g.3)
 
     longer : (j : Symbol) (extra : List ℕ) → symbol_text j ≡ symbol_text k ++ c ∷ extra → ⊥
     longer j [] e = ends.0 j e
@@ -177,8 +177,8 @@ sign_longest k other c extra rest fits ends e = by_other other fits e
     by_other (Name text) fits e = letter (Name text) fits (head_of (Name text) fits) e
     by_other (Word j) fits e = letter (Word j) fits (head_of (Word j) fits) e
     by_other Hole fits e = letter Hole fits (head_of Hole fits) e
-    by_other (Var name) fits e = let same : ◌≡◌ {A = ℕ} 39 h.0 = cc (front (Var name) e) in false≢true (sym mark.4 ∙ ap (λ x. eqb x 39) (sym same))
-    by_other (Number m) fits e = false≢true (sym mark.3 ∙ digits_start m fits h.0 (h.1 ++ c ∷ extra) (front (Number m) e))
+    by_other (Var name) fits e = let same : ◌≡◌ {A = ℕ} 39 h.0 = cc (prefix (Var name) e) in false≢true (sym mark.4 ∙ ap (λ x. eqb x 39) (sym same))
+    by_other (Number m) fits e = false≢true (sym mark.3 ∙ digits_start m fits h.0 (h.1 ++ c ∷ extra) (prefix (Number m) e))
 
 pub no_longer : NoTokenIsLonger
 no_longer (Name text) other c extra rest is fits ends e = identifier_longest text other c extra is.0 fits ends e

@@ -169,8 +169,8 @@ first_letter before at c more e =
     run_on (free before at) (scan_at (at + 1) before [] (pending.Quote at)) 39 (c ∷ more) (begin_quote before at)
     ∙ run_on (scan_at (at + 1) before [] (pending.Quote at)) (variable_at before at (at + 1 + len_utf8 c) (at + 1) (encode c)) c more (rw e refl)
 
-pub variable_run : (before : List Token) (at c : ℕ) (front more : List ℕ) → IsIdentifier (front ++ c ∷ [])
-    → run (free before at) (39 ∷ ((front ++ c ∷ []) ++ more)) ≡ run (variable_at before at (at + size_of (39 ∷ (front ++ c ∷ []))) (at + size_of (39 ∷ front)) (encodes (front ++ c ∷ []))) more
+pub variable_run : (before : List Token) (at c : ℕ) (prefix more : List ℕ) → IsIdentifier (prefix ++ c ∷ [])
+    → run (free before at) (39 ∷ ((prefix ++ c ∷ []) ++ more)) ≡ run (variable_at before at (at + size_of (39 ∷ (prefix ++ c ∷ []))) (at + size_of (39 ∷ prefix)) (encodes (prefix ++ c ∷ []))) more
 variable_run before at c [] more is =
     first_letter before at c more is.0
     ∙ ap (λ p. run (variable_at before at p (at + 1) (encode c)) more) (let e : at + 1 + len_utf8 c ≡ at + (1 + (len_utf8 c + 0)) = omega arith in e)

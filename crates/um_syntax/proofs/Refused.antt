@@ -24,8 +24,8 @@ use Rattle.um_syntax.proofs.Complete.{stopped_run, number_letter, number_refused
 one_letter_no_word : (c : ℕ) → ¬ (IsWord (c ∷ []))
 one_letter_no_word c word =
     let p = keyword_parts word.0 in
-    let parts = snoc_same [] p.front c p.last (word.1 ∙ p.text) in
-    subst IsIdentifier (sym parts.0) p.front_identifier
+    let parts = snoc_same [] p.prefix c p.last (word.1 ∙ p.text) in
+    subst IsIdentifier (sym parts.0) p.prefix_identifier
 
 line_no_word : (cs : List ℕ) → ¬ (IsWord (95 ∷ cs))
 line_no_word cs word = false≢true (ap are_letters word.1 ∙ keyword_letters word.0)

@@ -243,37 +243,37 @@ keyword_identifier k = some_letters (keyword_text k) (keyword_some k) (keyword_l
 
 -- A word without its last letter is a name, and so is its last letter.
 pub record KeywordParts (k : Keyword) : Type 0 where
-  pub front : List ℕ
+  pub prefix : List ℕ
   pub last : ℕ
-  pub text : keyword_text k ≡ front ++ last ∷ []
-  pub front_taken : take (length (keyword_text k) - 1) (keyword_text k) ≡ front
+  pub text : keyword_text k ≡ prefix ++ last ∷ []
+  pub prefix_taken : take (length (keyword_text k) - 1) (keyword_text k) ≡ prefix
   pub last_dropped : drop (length (keyword_text k) - 1) (keyword_text k) ≡ last ∷ []
-  pub front_no_word : keyword_of front ≡ None
-  pub front_no_hole : bytes_eq front (95 ∷ []) ≡ false
+  pub prefix_no_word : keyword_of prefix ≡ None
+  pub prefix_no_hole : bytes_eq prefix (95 ∷ []) ≡ false
   pub last_no_word : keyword_of (last ∷ []) ≡ None
   pub last_no_hole : bytes_eq (last ∷ []) (95 ∷ []) ≡ false
-  pub front_identifier : IsIdentifier front
-  pub front_letters : are_letters front ≡ true
+  pub prefix_identifier : IsIdentifier prefix
+  pub prefix_letters : are_letters prefix ≡ true
   pub last_letter : is_ascii_alphabetic last ≡ true
 
 pub keyword_parts : (k : Keyword) → KeywordParts k
-keyword_parts keyword.Let = record { front = 108 ∷ 101 ∷ []; last = 116; text = refl; front_taken = refl; last_dropped = refl; front_no_word = refl; front_no_hole = refl; last_no_word = refl; last_no_hole = refl; front_identifier = letters_identifier 108 (101 ∷ []) refl; front_letters = refl; last_letter = refl }
-keyword_parts keyword.Rec = record { front = 114 ∷ 101 ∷ []; last = 99; text = refl; front_taken = refl; last_dropped = refl; front_no_word = refl; front_no_hole = refl; last_no_word = refl; last_no_hole = refl; front_identifier = letters_identifier 114 (101 ∷ []) refl; front_letters = refl; last_letter = refl }
-keyword_parts keyword.In = record { front = 105 ∷ []; last = 110; text = refl; front_taken = refl; last_dropped = refl; front_no_word = refl; front_no_hole = refl; last_no_word = refl; last_no_hole = refl; front_identifier = letters_identifier 105 ([]) refl; front_letters = refl; last_letter = refl }
-keyword_parts keyword.If = record { front = 105 ∷ []; last = 102; text = refl; front_taken = refl; last_dropped = refl; front_no_word = refl; front_no_hole = refl; last_no_word = refl; last_no_hole = refl; front_identifier = letters_identifier 105 ([]) refl; front_letters = refl; last_letter = refl }
-keyword_parts keyword.Then = record { front = 116 ∷ 104 ∷ 101 ∷ []; last = 110; text = refl; front_taken = refl; last_dropped = refl; front_no_word = refl; front_no_hole = refl; last_no_word = refl; last_no_hole = refl; front_identifier = letters_identifier 116 (104 ∷ 101 ∷ []) refl; front_letters = refl; last_letter = refl }
-keyword_parts keyword.Else = record { front = 101 ∷ 108 ∷ 115 ∷ []; last = 101; text = refl; front_taken = refl; last_dropped = refl; front_no_word = refl; front_no_hole = refl; last_no_word = refl; last_no_hole = refl; front_identifier = letters_identifier 101 (108 ∷ 115 ∷ []) refl; front_letters = refl; last_letter = refl }
-keyword_parts keyword.Match = record { front = 109 ∷ 97 ∷ 116 ∷ 99 ∷ []; last = 104; text = refl; front_taken = refl; last_dropped = refl; front_no_word = refl; front_no_hole = refl; last_no_word = refl; last_no_hole = refl; front_identifier = letters_identifier 109 (97 ∷ 116 ∷ 99 ∷ []) refl; front_letters = refl; last_letter = refl }
-keyword_parts keyword.With = record { front = 119 ∷ 105 ∷ 116 ∷ []; last = 104; text = refl; front_taken = refl; last_dropped = refl; front_no_word = refl; front_no_hole = refl; last_no_word = refl; last_no_hole = refl; front_identifier = letters_identifier 119 (105 ∷ 116 ∷ []) refl; front_letters = refl; last_letter = refl }
-keyword_parts keyword.Type = record { front = 116 ∷ 121 ∷ 112 ∷ []; last = 101; text = refl; front_taken = refl; last_dropped = refl; front_no_word = refl; front_no_hole = refl; last_no_word = refl; last_no_hole = refl; front_identifier = letters_identifier 116 (121 ∷ 112 ∷ []) refl; front_letters = refl; last_letter = refl }
-keyword_parts keyword.True = record { front = 116 ∷ 114 ∷ 117 ∷ []; last = 101; text = refl; front_taken = refl; last_dropped = refl; front_no_word = refl; front_no_hole = refl; last_no_word = refl; last_no_hole = refl; front_identifier = letters_identifier 116 (114 ∷ 117 ∷ []) refl; front_letters = refl; last_letter = refl }
-keyword_parts keyword.False = record { front = 102 ∷ 97 ∷ 108 ∷ 115 ∷ []; last = 101; text = refl; front_taken = refl; last_dropped = refl; front_no_word = refl; front_no_hole = refl; last_no_word = refl; last_no_hole = refl; front_identifier = letters_identifier 102 (97 ∷ 108 ∷ 115 ∷ []) refl; front_letters = refl; last_letter = refl }
-keyword_parts keyword.Not = record { front = 110 ∷ 111 ∷ []; last = 116; text = refl; front_taken = refl; last_dropped = refl; front_no_word = refl; front_no_hole = refl; last_no_word = refl; last_no_hole = refl; front_identifier = letters_identifier 110 (111 ∷ []) refl; front_letters = refl; last_letter = refl }
-keyword_parts keyword.Num = record { front = 110 ∷ 117 ∷ []; last = 109; text = refl; front_taken = refl; last_dropped = refl; front_no_word = refl; front_no_hole = refl; last_no_word = refl; last_no_hole = refl; front_identifier = letters_identifier 110 (117 ∷ []) refl; front_letters = refl; last_letter = refl }
-keyword_parts keyword.Bool = record { front = 98 ∷ 111 ∷ 111 ∷ []; last = 108; text = refl; front_taken = refl; last_dropped = refl; front_no_word = refl; front_no_hole = refl; last_no_word = refl; last_no_hole = refl; front_identifier = letters_identifier 98 (111 ∷ 111 ∷ []) refl; front_letters = refl; last_letter = refl }
-keyword_parts keyword.List = record { front = 108 ∷ 105 ∷ 115 ∷ []; last = 116; text = refl; front_taken = refl; last_dropped = refl; front_no_word = refl; front_no_hole = refl; last_no_word = refl; last_no_hole = refl; front_identifier = letters_identifier 108 (105 ∷ 115 ∷ []) refl; front_letters = refl; last_letter = refl }
-keyword_parts keyword.Measure = record { front = 77 ∷ 101 ∷ 97 ∷ 115 ∷ 117 ∷ 114 ∷ []; last = 101; text = refl; front_taken = refl; last_dropped = refl; front_no_word = refl; front_no_hole = refl; last_no_word = refl; last_no_hole = refl; front_identifier = letters_identifier 77 (101 ∷ 97 ∷ 115 ∷ 117 ∷ 114 ∷ []) refl; front_letters = refl; last_letter = refl }
-keyword_parts keyword.Pown = record { front = 112 ∷ 111 ∷ 119 ∷ []; last = 110; text = refl; front_taken = refl; last_dropped = refl; front_no_word = refl; front_no_hole = refl; last_no_word = refl; last_no_hole = refl; front_identifier = letters_identifier 112 (111 ∷ 119 ∷ []) refl; front_letters = refl; last_letter = refl }
+keyword_parts keyword.Let = record { prefix = 108 ∷ 101 ∷ []; last = 116; text = refl; prefix_taken = refl; last_dropped = refl; prefix_no_word = refl; prefix_no_hole = refl; last_no_word = refl; last_no_hole = refl; prefix_identifier = letters_identifier 108 (101 ∷ []) refl; prefix_letters = refl; last_letter = refl }
+keyword_parts keyword.Rec = record { prefix = 114 ∷ 101 ∷ []; last = 99; text = refl; prefix_taken = refl; last_dropped = refl; prefix_no_word = refl; prefix_no_hole = refl; last_no_word = refl; last_no_hole = refl; prefix_identifier = letters_identifier 114 (101 ∷ []) refl; prefix_letters = refl; last_letter = refl }
+keyword_parts keyword.In = record { prefix = 105 ∷ []; last = 110; text = refl; prefix_taken = refl; last_dropped = refl; prefix_no_word = refl; prefix_no_hole = refl; last_no_word = refl; last_no_hole = refl; prefix_identifier = letters_identifier 105 ([]) refl; prefix_letters = refl; last_letter = refl }
+keyword_parts keyword.If = record { prefix = 105 ∷ []; last = 102; text = refl; prefix_taken = refl; last_dropped = refl; prefix_no_word = refl; prefix_no_hole = refl; last_no_word = refl; last_no_hole = refl; prefix_identifier = letters_identifier 105 ([]) refl; prefix_letters = refl; last_letter = refl }
+keyword_parts keyword.Then = record { prefix = 116 ∷ 104 ∷ 101 ∷ []; last = 110; text = refl; prefix_taken = refl; last_dropped = refl; prefix_no_word = refl; prefix_no_hole = refl; last_no_word = refl; last_no_hole = refl; prefix_identifier = letters_identifier 116 (104 ∷ 101 ∷ []) refl; prefix_letters = refl; last_letter = refl }
+keyword_parts keyword.Else = record { prefix = 101 ∷ 108 ∷ 115 ∷ []; last = 101; text = refl; prefix_taken = refl; last_dropped = refl; prefix_no_word = refl; prefix_no_hole = refl; last_no_word = refl; last_no_hole = refl; prefix_identifier = letters_identifier 101 (108 ∷ 115 ∷ []) refl; prefix_letters = refl; last_letter = refl }
+keyword_parts keyword.Match = record { prefix = 109 ∷ 97 ∷ 116 ∷ 99 ∷ []; last = 104; text = refl; prefix_taken = refl; last_dropped = refl; prefix_no_word = refl; prefix_no_hole = refl; last_no_word = refl; last_no_hole = refl; prefix_identifier = letters_identifier 109 (97 ∷ 116 ∷ 99 ∷ []) refl; prefix_letters = refl; last_letter = refl }
+keyword_parts keyword.With = record { prefix = 119 ∷ 105 ∷ 116 ∷ []; last = 104; text = refl; prefix_taken = refl; last_dropped = refl; prefix_no_word = refl; prefix_no_hole = refl; last_no_word = refl; last_no_hole = refl; prefix_identifier = letters_identifier 119 (105 ∷ 116 ∷ []) refl; prefix_letters = refl; last_letter = refl }
+keyword_parts keyword.Type = record { prefix = 116 ∷ 121 ∷ 112 ∷ []; last = 101; text = refl; prefix_taken = refl; last_dropped = refl; prefix_no_word = refl; prefix_no_hole = refl; last_no_word = refl; last_no_hole = refl; prefix_identifier = letters_identifier 116 (121 ∷ 112 ∷ []) refl; prefix_letters = refl; last_letter = refl }
+keyword_parts keyword.True = record { prefix = 116 ∷ 114 ∷ 117 ∷ []; last = 101; text = refl; prefix_taken = refl; last_dropped = refl; prefix_no_word = refl; prefix_no_hole = refl; last_no_word = refl; last_no_hole = refl; prefix_identifier = letters_identifier 116 (114 ∷ 117 ∷ []) refl; prefix_letters = refl; last_letter = refl }
+keyword_parts keyword.False = record { prefix = 102 ∷ 97 ∷ 108 ∷ 115 ∷ []; last = 101; text = refl; prefix_taken = refl; last_dropped = refl; prefix_no_word = refl; prefix_no_hole = refl; last_no_word = refl; last_no_hole = refl; prefix_identifier = letters_identifier 102 (97 ∷ 108 ∷ 115 ∷ []) refl; prefix_letters = refl; last_letter = refl }
+keyword_parts keyword.Not = record { prefix = 110 ∷ 111 ∷ []; last = 116; text = refl; prefix_taken = refl; last_dropped = refl; prefix_no_word = refl; prefix_no_hole = refl; last_no_word = refl; last_no_hole = refl; prefix_identifier = letters_identifier 110 (111 ∷ []) refl; prefix_letters = refl; last_letter = refl }
+keyword_parts keyword.Num = record { prefix = 110 ∷ 117 ∷ []; last = 109; text = refl; prefix_taken = refl; last_dropped = refl; prefix_no_word = refl; prefix_no_hole = refl; last_no_word = refl; last_no_hole = refl; prefix_identifier = letters_identifier 110 (117 ∷ []) refl; prefix_letters = refl; last_letter = refl }
+keyword_parts keyword.Bool = record { prefix = 98 ∷ 111 ∷ 111 ∷ []; last = 108; text = refl; prefix_taken = refl; last_dropped = refl; prefix_no_word = refl; prefix_no_hole = refl; last_no_word = refl; last_no_hole = refl; prefix_identifier = letters_identifier 98 (111 ∷ 111 ∷ []) refl; prefix_letters = refl; last_letter = refl }
+keyword_parts keyword.List = record { prefix = 108 ∷ 105 ∷ 115 ∷ []; last = 116; text = refl; prefix_taken = refl; last_dropped = refl; prefix_no_word = refl; prefix_no_hole = refl; last_no_word = refl; last_no_hole = refl; prefix_identifier = letters_identifier 108 (105 ∷ 115 ∷ []) refl; prefix_letters = refl; last_letter = refl }
+keyword_parts keyword.Measure = record { prefix = 77 ∷ 101 ∷ 97 ∷ 115 ∷ 117 ∷ 114 ∷ []; last = 101; text = refl; prefix_taken = refl; last_dropped = refl; prefix_no_word = refl; prefix_no_hole = refl; last_no_word = refl; last_no_hole = refl; prefix_identifier = letters_identifier 77 (101 ∷ 97 ∷ 115 ∷ 117 ∷ 114 ∷ []) refl; prefix_letters = refl; last_letter = refl }
+keyword_parts keyword.Pown = record { prefix = 112 ∷ 111 ∷ 119 ∷ []; last = 110; text = refl; prefix_taken = refl; last_dropped = refl; prefix_no_word = refl; prefix_no_hole = refl; last_no_word = refl; last_no_hole = refl; prefix_identifier = letters_identifier 112 (111 ∷ 119 ∷ []) refl; prefix_letters = refl; last_letter = refl }
 
 pub last_encoded : (c : ℕ) → is_ascii_alphabetic c ≡ true → encodes (c ∷ []) ≡ c ∷ []
 last_encoded c e = ap (λ x. x ++ []) (encode_ascii c (alphabetic_small c e))

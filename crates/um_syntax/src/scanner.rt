@@ -131,8 +131,8 @@ impl Scanner {
             let kind = Kind::Var(Letters::from_slice(self.alloc, letters)?);
             return self.push(kind, start, self.at);
         }
-        let (front, letter) = letters.split_at(letters.len().saturating_sub(1));
-        let variable = Kind::Var(Letters::from_slice(self.alloc, front)?);
+        let (prefix, letter) = letters.split_at(letters.len().saturating_sub(1));
+        let variable = Kind::Var(Letters::from_slice(self.alloc, prefix)?);
         let name = Kind::Name(Letters::from_slice(self.alloc, letter)?);
         self.push(variable, start, last)?;
         self.push(name, last, self.at)

@@ -154,7 +154,7 @@ impl From<AllocError> for LexStop {
 /// Why bytes that were fed have no tokens. The place is that of the leftmost fault; bytes that aren't UTF-8 come first.
 #[derive(Clone, Copy, Debug, PartialEq, Eq, Error)]
 pub enum TextStop {
-    /// The bytes aren't UTF-8. The place is the length of the longest front that is.
+    /// The bytes aren't UTF-8. The place is the length of the longest prefix that is.
     #[error("not UTF-8 at {at}")]
     Utf8 { at: u32 },
     /// As [`LexStop::BadChar`].

@@ -1,6 +1,6 @@
 use Rattle.std.proofs.Common.{length, arith, sym, ◌∙◌}
-use Rattle.um_syntax.proofs.Utf8Front.{no_lead, no_text, text_front, whole_len}
-use Rattle.um_syntax.proofs.decode.front_of.Goals as goal
+use Rattle.um_syntax.proofs.DecodedChars.{no_lead, no_text, text_front, whole_len}
+use Rattle.um_syntax.proofs.decode.decode_char.Goals as goal
 
 pub returns-then-len-eq0 : goal.returns-then-len-eq0
 returns-then-len-eq0 c = no_lead c.args.bytes.now c.requires.some (sym c.char_len-len.ensures ∙ c.if-len-eq0.true)
