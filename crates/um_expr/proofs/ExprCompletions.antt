@@ -9,8 +9,8 @@ use Rattle.um_syntax.specs.declared.vocabulary.Symbol.{Symbol}
 use Rattle.um_syntax.specs.declared.vocabulary.Symbol.TheVariants as symbol
 use Rattle.um_tree.specs.declared.expression.Sign.TheVariants as compare
 use Rattle.um_tree.specs.RawTree.{bool_syntax, BinderSyntax, ExprSyntax, truth_syntax, number_syntax, let_syntax, if_syntax, match_syntax, nil_syntax, list_syntax, fields_syntax, field_syntax, bracket_expr_syntax, exprs_in_order, fields_in_order}
-use Rattle.um_types.proofs.NoteLaws.{NoteStands, note_ending, note_completed, note_can_end}
-use Rattle.um_types.proofs.TypeSound.{TypeStands}
+use Rattle.um_types.proofs.NoteLaws.{NoteSpellsPrefix, note_ending, note_completed, note_can_end}
+use Rattle.um_types.proofs.TypeSound.{TypeSpellsPrefix}
 use Rattle.um_types.proofs.TypeLaws.{type_ending, type_completed, type_can_end}
 use Rattle.um_expr.specs.declared.infix.Infix.TheVariants as between
 use Rattle.um_expr.specs.Ranks.{infix_text}
@@ -394,11 +394,11 @@ expr_can_end (Inside frames expected) tokens rest h ok =
     ends frames (expected_filled expected) tokens h.0 rest h.1 (expected_reads expected h.0 (endings frames ++ rest) q) h.3 p.0 p.1
 expr_can_end (InNote frames at c n) tokens rest h ok =
     let behind : List Token = endings frames ++ rest in
-    let p = note_can_end n h.2 (sign symbol.Greater ∷ behind) (subst (λ w. NoteStands n h.2 w) (append_assoc (note_ending n) (sign symbol.Greater ∷ endings frames) rest) h.6) h.8 in
+    let p = note_can_end n h.2 (sign symbol.Greater ∷ behind) (subst (λ w. NoteSpellsPrefix n h.2 w) (append_assoc (note_ending n) (sign symbol.Greater ∷ endings frames) rest) h.6) h.8 in
     ends frames (number_syntax at c (Some (note_completed n))) tokens h.0 rest h.3 (h.1, h.4, (h.2, sign symbol.Greater ∷ behind, h.5, p.0, (sign symbol.Greater, refl, refl))) h.7 p.1 (bound_positive frames)
 expr_can_end (InType frames at s) tokens rest h ok =
     let behind : List Token = endings frames ++ rest in
-    let p = type_can_end s h.2 (sign symbol.RightParen ∷ behind) (subst (λ w. TypeStands s h.2 w) (append_assoc (type_ending s) (sign symbol.RightParen ∷ endings frames) rest) h.6) h.8 in
+    let p = type_can_end s h.2 (sign symbol.RightParen ∷ behind) (subst (λ w. TypeSpellsPrefix s h.2 w) (append_assoc (type_ending s) (sign symbol.RightParen ∷ endings frames) rest) h.6) h.8 in
     let b = h.4 in
     ends frames (nil_syntax at (type_completed s)) tokens h.0 rest h.3 (b.0, b.1, h.1, h.2, sign symbol.RightParen ∷ behind, b.2, b.3, b.4, h.5, p.0, (sign symbol.RightParen, refl, refl)) h.7 p.1 (bound_positive frames)
 expr_can_end Refused tokens rest h ok = absurd (ok refl)

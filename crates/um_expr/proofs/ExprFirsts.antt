@@ -13,7 +13,7 @@ use Rattle.um_expr.specs.ExprTokens.{minus}
 use Rattle.um_expr.specs.ExprGrammar.{FirstAt, Spells, Fits, rank}
 use Rattle.um_expr.specs.ExprMachine.{Frame, InRight, Need, Have, Greater, argument, begin_in, act}
 use Rattle.um_expr.proofs.ExprEnds.{arith_low}
-use Rattle.um_expr.proofs.ExprLeads.{FirstPasses}
+use Rattle.um_expr.proofs.ExprYields.{FirstPasses}
 
 -- the tokens that begin an atom
 abbrev pub begins_atom : ExprToken → Bool

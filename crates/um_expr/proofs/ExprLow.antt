@@ -7,6 +7,7 @@ use Rattle.um_types.specs.NoteTakes.{note_state}
 use Rattle.um_types.specs.NoteMachine.{note_least}
 use Rattle.um_types.specs.TypeTakes.{type_state}
 use Rattle.um_types.specs.TypeMachine.{type_least}
+use Rattle.um_types.specs.UnitStops.{greatest_height}
 use Rattle.um_expr.specs.declared.frame.Frame.{Frame as Open}
 use Rattle.um_expr.specs.declared.frame.Frame.TheVariants as open_at
 use Rattle.um_expr.specs.declared.frame.Entry.{Entry}
@@ -23,7 +24,7 @@ use Rattle.um_expr.specs.ExprStates.{view_expected, focus_height, state_of}
 use Rattle.um_expr.proofs.ExprStackLaws.{over_base}
 
 -- no unit text or type text in a frame is too high
-frame_notes : (frame : Open) → notes_side (view_frame frame) ≤ 400
+frame_notes : (frame : Open) → notes_side (view_frame frame) ≤ greatest_height
 frame_notes (open_at.InBracket at) = omega arith
 frame_notes (open_at.InItem at before) = before.low
 frame_notes (open_at.InField at before p x) = before.low
@@ -40,7 +41,7 @@ frame_notes (open_at.InNot at) = omega arith
 frame_notes (open_at.InRight at sign left) = left.low
 frame_notes (open_at.InArgument at f before) = before.low
 
-expected_low : (p : ExpectedToken) → expected_notes (view_expected p) ≤ 400
+expected_low : (p : ExpectedToken) → expected_notes (view_expected p) ≤ greatest_height
 expected_low (expected.LetBinder at) = omega arith
 expected_low (expected.LetEqual at x) = omega arith
 expected_low (expected.FieldName at before) = before.low
@@ -56,11 +57,11 @@ expected_low (expected.TailBinder at l a x) = omega (arith, l.low, a.low)
 expected_low (expected.TailArrow at l a x y) = omega (arith, l.low, a.low)
 expected_low (expected.NilColon at) = omega arith
 
-entries_low : (entries : List Entry) (m : ℕ) → m ≤ 400 → notes_over (map entry_frame entries) m ≤ 400
+entries_low : (entries : List Entry) (m : ℕ) → m ≤ greatest_height → notes_over (map entry_frame entries) m ≤ greatest_height
 entries_low [] m low = low
 entries_low (e ∷ entries) m low = entries_low entries (max (notes_side (entry_frame e)) m) (omega (arith, frame_notes e.frame, low))
 
-notes_low : (entries : List Entry) (h : Focus) → notes_least (state_of (stack entries) h) ≤ 400
+notes_low : (entries : List Entry) (h : Focus) → notes_least (state_of (stack entries) h) ≤ greatest_height
 notes_low entries focus.Wanted = entries_low (reverse entries) 0 (omega arith)
 notes_low entries (focus.Read t) = entries_low (reverse entries) (notes_in (operand_expr t)) t.low
 notes_low entries (focus.Greater at left) = entries_low (reverse entries) (notes_in (operand_expr left)) left.low
@@ -76,34 +77,34 @@ least_focus frames (focus.Inside p) = refl
 least_focus frames (focus.Note n) = refl
 least_focus frames (focus.Type at t) = refl
 
-less : (n : ℕ) → n < 401 → nat_lt n 401 ≡ true
+less : (n : ℕ) → n < (greatest_height + 1) → nat_lt n (greatest_height + 1) ≡ true
 less n low = rw lt-ltb refl
 
-not_less : (n : ℕ) → 401 ≤ n → nat_lt n 401 ≡ false
+not_less : (n : ℕ) → (greatest_height + 1) ≤ n → nat_lt n (greatest_height + 1) ≡ false
 not_less n high = rw le-ltb refl
 
 -- what is counted decides
-same_side : (n m : ℕ) → n ≡ min m 401 → nat_lt n 401 ≡ nat_lt m 401
+same_side : (n m : ℕ) → n ≡ min m (greatest_height + 1) → nat_lt n (greatest_height + 1) ≡ nat_lt m (greatest_height + 1)
 same_side n m e =
-    elim (cases_lt m 401) [
-      | inl low ↦ let same : n ≡ m = omega (arith, e) in ap (λ k. nat_lt k 401) same
-      | inr high ↦ let same : n ≡ 401 = omega (arith, e) in ap (λ k. nat_lt k 401) same ∙ sym (not_less m high)
+    elim (cases_lt m (greatest_height + 1)) [
+      | inl low ↦ let same : n ≡ m = omega (arith, e) in ap (λ k. nat_lt k (greatest_height + 1)) same
+      | inr high ↦ let same : n ≡ (greatest_height + 1) = omega (arith, e) in ap (λ k. nat_lt k (greatest_height + 1)) same ∙ sym (not_less m high)
     ]
 
 -- what is low beside it decides nothing
-beside : (e m : ℕ) → m ≤ 400 → nat_lt e 401 ≡ nat_lt (max e m) 401
+beside : (e m : ℕ) → m ≤ greatest_height → nat_lt e (greatest_height + 1) ≡ nat_lt (max e m) (greatest_height + 1)
 beside e m small =
-    elim (cases_lt e 401) [
+    elim (cases_lt e (greatest_height + 1)) [
       | inl low ↦ less e low ∙ sym (less (max e m) (omega (arith, low, small)))
       | inr high ↦ not_less e high ∙ sym (not_less (max e m) (omega (arith, high)))
     ]
 
-lower : (height frames sum result hh b len e : ℕ) → height ≡ min hh 401 → frames ≡ min b 401 → sum ≡ min (height + min len 401) 401 → result ≡ max frames sum
-    → e ≡ max b (hh + len) → result ≡ min e 401
+lower : (height frames sum result hh b len e : ℕ) → height ≡ min hh (greatest_height + 1) → frames ≡ min b (greatest_height + 1) → sum ≡ min (height + min len (greatest_height + 1)) (greatest_height + 1) → result ≡ max frames sum
+    → e ≡ max b (hh + len) → result ≡ min e (greatest_height + 1)
 lower height frames sum result hh b len e p q r s u = omega (arith, p, q, r, s, u)
 
 pub low_same : (entries : List Entry) (h : Focus) (height sum frames result : ℕ) → height ≡ counted (focus_height h) → frames ≡ counted (base (stack entries))
-    → sum ≡ counted (height + counted (length (stack entries))) → result ≡ max frames sum → nat_lt result 401 ≡ nat_lt (whole_least (state_of (stack entries) h)) 401
+    → sum ≡ counted (height + counted (length (stack entries))) → result ≡ max frames sum → nat_lt result (greatest_height + 1) ≡ nat_lt (whole_least (state_of (stack entries) h)) (greatest_height + 1)
 low_same entries h height sum frames result a b c d =
     let e = expr_least (state_of (stack entries) h) in
     let above = least_focus (stack entries) h ∙ over_base (stack entries) (focus_height h) in

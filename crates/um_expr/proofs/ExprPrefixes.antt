@@ -5,8 +5,8 @@ use Rattle.um_syntax.specs.declared.token.Token.{Token}
 use Rattle.um_tree.specs.RawTree.{BinderSyntax, ExprSyntax, FieldPart, exprs_in_order, fields_in_order}
 use Rattle.um_types.specs.NoteMachine.{NoNote}
 use Rattle.um_types.specs.TypeMachine.{NoType}
-use Rattle.um_types.proofs.NoteLaws.{NoteStands}
-use Rattle.um_types.proofs.TypeSound.{TypeStands}
+use Rattle.um_types.proofs.NoteLaws.{NoteSpellsPrefix}
+use Rattle.um_types.proofs.TypeSound.{TypeSpellsPrefix}
 use Rattle.um_syntax.specs.declared.vocabulary.Keyword.TheVariants as keyword
 use Rattle.um_syntax.specs.declared.vocabulary.Symbol.TheVariants as symbol
 use Rattle.um_expr.specs.declared.infix.Infix.{Infix}
@@ -137,9 +137,9 @@ SpellsPrefix (Greater frames at left) tokens rest =
     (mid next : List Token) × FramesRead frames tokens mid × Spells left mid next × FirstAt greater at next rest × FramesFit frames × (6 < top_bound frames) × (rank left ≤ 5) × Fits left
 SpellsPrefix (Inside frames expected) tokens rest = (mid : List Token) × FramesRead frames tokens mid × ExpectedReads expected mid rest × FramesFit frames × ExpectedFits expected frames
 SpellsPrefix (InNote frames at c n) tokens rest =
-    (mid sign next : List Token) × FramesRead frames tokens mid × FirstAt (number c) at mid sign × FirstGlued less sign next × NoteStands n next rest × FramesFit frames × (n ≢ NoNote)
+    (mid sign next : List Token) × FramesRead frames tokens mid × FirstAt (number c) at mid sign × FirstGlued less sign next × NoteSpellsPrefix n next rest × FramesFit frames × (n ≢ NoNote)
 SpellsPrefix (InType frames at s) tokens rest =
-    (mid colon next : List Token) × FramesRead frames tokens mid × ExpectedReads (NilColon at) mid colon × First (mark symbol.Colon) colon next × TypeStands s next rest × FramesFit frames × (s ≢ NoType)
+    (mid colon next : List Token) × FramesRead frames tokens mid × ExpectedReads (NilColon at) mid colon × First (mark symbol.Colon) colon next × TypeSpellsPrefix s next rest × FramesFit frames × (s ≢ NoType)
 SpellsPrefix Refused tokens rest = Unit {0}
 
 -- the same once all up to a limit has ended; the last token is still that of `last`

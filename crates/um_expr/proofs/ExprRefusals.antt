@@ -7,6 +7,7 @@ use Rattle.um_tree.specs.declared.expression.Arith.TheVariants as arith_sign
 use Rattle.um_types.specs.NoteMachine.{NoteState, NeedNote, HaveHole, InUnit, NoNote, note_least}
 use Rattle.um_types.specs.TypeMachine.{TypeState, NeedType, HaveType, NoType, type_least}
 use Rattle.um_types.specs.TypeMachine.{InNote as InTypeNote}
+use Rattle.um_types.specs.UnitStops.{greatest_height}
 use Rattle.um_expr.specs.declared.infix.Infix.{Infix}
 use Rattle.um_expr.specs.declared.infix.Infix.TheVariants as between
 use Rattle.um_expr.specs.declared.operand.Operand.{Operand}
@@ -56,10 +57,10 @@ notes_above : (frames : List Frame) (m : ℕ) → m ≤ notes_over frames m
 notes_above [] m = omega arith
 notes_above (frame ∷ frames) m = let e = notes_above frames (max (notes_side frame) m) in omega (arith, e)
 
-note_too_high : (frames : List Frame) (at : ℕ) (c : Frac) (n : NoteState) → 400 < note_least n → 400 < whole_least (InNote frames at c n)
+note_too_high : (frames : List Frame) (at : ℕ) (c : Frac) (n : NoteState) → greatest_height < note_least n → greatest_height < whole_least (InNote frames at c n)
 note_too_high frames at c n high = omega (arith, high, notes_above frames (note_least n))
 
-type_too_high : (frames : List Frame) (at : ℕ) (s : TypeState) → 400 < type_least s → 400 < whole_least (InType frames at s)
+type_too_high : (frames : List Frame) (at : ℕ) (s : TypeState) → greatest_height < type_least s → greatest_height < whole_least (InType frames at s)
 type_too_high frames at s high = omega (arith, high, notes_above frames (type_least s))
 
 pub limit_low : (sign : Infix) → left_limit sign ≤ 9
@@ -85,12 +86,12 @@ greater_refused at frames now new t u o e high found =
     let no : greater_after at (Have now u) ≡ Refused = rw le-ltb refl in
     (ap (greater_after at) (sym e) ∙ no, found ∙ found_alike 5 frames now t u (omega arith) e)
 
-pub note_high : (frames : List Frame) (at : ℕ) (c : Frac) (n : NoteState) (ended : State) → n ≢ NoNote → 400 < note_least n → Simulates None frames step.High (note_goes frames at c n ended)
+pub note_high : (frames : List Frame) (at : ℕ) (c : Frac) (n : NoteState) (ended : State) → n ≢ NoNote → greatest_height < note_least n → Simulates None frames step.High (note_goes frames at c n ended)
 note_high frames at c n ended ok high =
     let e = note_goes_on frames at c n ended ok in
     ((λ h. let f : InNote frames at c n ≡ Refused = sym e ∙ h in absurd cc), omega (arith, note_too_high frames at c n high, ap whole_least e))
 
-pub type_high : (frames : List Frame) (at : ℕ) (s : TypeState) (ended : State) → s ≢ NoType → 400 < type_least s → Simulates None frames step.High (type_goes frames at s ended)
+pub type_high : (frames : List Frame) (at : ℕ) (s : TypeState) (ended : State) → s ≢ NoType → greatest_height < type_least s → Simulates None frames step.High (type_goes frames at s ended)
 type_high frames at s ended ok high =
     let e = type_goes_on frames at s ended ok in
     ((λ h. let f : InType frames at s ≡ Refused = sym e ∙ h in absurd cc), omega (arith, type_too_high frames at s high, ap whole_least e))

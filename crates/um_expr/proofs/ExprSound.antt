@@ -11,8 +11,8 @@ use Rattle.um_types.specs.UnitMachine.{State as UnitState}
 use Rattle.um_types.specs.NoteMachine.{NoteState, NeedNote, HaveHole, InUnit, NoNote, note_step, note_finish}
 use Rattle.um_types.specs.TypeMachine.{TypeState, NeedType, HaveType, NoType, type_step, type_finish}
 use Rattle.um_types.specs.TypeMachine.{InNote as InTypeNote}
-use Rattle.um_types.proofs.NoteLaws.{NoteStands, note_sound, note_found}
-use Rattle.um_types.proofs.TypeSound.{TypeStands, type_sound, type_found}
+use Rattle.um_types.proofs.NoteLaws.{NoteSpellsPrefix, note_sound, note_found}
+use Rattle.um_types.proofs.TypeSound.{TypeSpellsPrefix, type_sound, type_found}
 use Rattle.um_syntax.specs.declared.vocabulary.Keyword.TheVariants as keyword
 use Rattle.um_syntax.specs.declared.vocabulary.Symbol.TheVariants as symbol
 use Rattle.um_expr.specs.declared.infix.Infix.{Infix}
@@ -311,14 +311,14 @@ unit_on : (at : ℕ) (u : UnitState) → InUnit at u ≢ NoNote
 unit_on at u e = cc
 
 note_goes_sound : (frames : List Frame) (at : ℕ) (c : Frac) (n : NoteState) (over : State) (tokens mid sign next rest : List Token) → FramesRead frames tokens mid → FirstAt (number c) at mid sign
-    → FirstGlued less sign next → NoteStands n next rest → FramesFit frames → SpellsPrefix over tokens rest → SpellsPrefix (note_goes frames at c n over) tokens rest
+    → FirstGlued less sign next → NoteSpellsPrefix n next rest → FramesFit frames → SpellsPrefix over tokens rest → SpellsPrefix (note_goes frames at c n over) tokens rest
 note_goes_sound frames at c NeedNote over tokens mid sign next rest r m g s f h = (mid, sign, next, r, m, g, s, f, need_note)
 note_goes_sound frames at c (HaveHole p) over tokens mid sign next rest r m g s f h = (mid, sign, next, r, m, g, s, f, hole_on p)
 note_goes_sound frames at c (InUnit p u) over tokens mid sign next rest r m g s f h = (mid, sign, next, r, m, g, s, f, unit_on p u)
 note_goes_sound frames at c NoNote over tokens mid sign next rest r m g s f h = h
 
 type_goes_sound : (frames : List Frame) (at : ℕ) (n : TypeState) (over : State) (tokens mid colon next rest : List Token) → FramesRead frames tokens mid → ExpectedReads (NilColon at) mid colon
-    → First (mark symbol.Colon) colon next → TypeStands n next rest → FramesFit frames → SpellsPrefix over tokens rest → SpellsPrefix (type_goes frames at n over) tokens rest
+    → First (mark symbol.Colon) colon next → TypeSpellsPrefix n next rest → FramesFit frames → SpellsPrefix over tokens rest → SpellsPrefix (type_goes frames at n over) tokens rest
 type_goes_sound frames at (NeedType depth) over tokens mid colon next rest r b c s f h = (mid, colon, next, r, b, c, s, f, λ e. cc)
 type_goes_sound frames at (HaveType depth t) over tokens mid colon next rest r b c s f h = (mid, colon, next, r, b, c, s, f, λ e. cc)
 type_goes_sound frames at (InTypeNote depth owner n) over tokens mid colon next rest r b c s f h = (mid, colon, next, r, b, c, s, f, λ e. cc)

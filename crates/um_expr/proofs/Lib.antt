@@ -1,6 +1,6 @@
 pub mod ExprEnds
 pub mod ExprTokenKinds
-mod ExprLeads
+mod ExprYields
 mod ExprFirsts
 pub mod ExprComplete
 mod ExprReads

@@ -1,4 +1,4 @@
-// What is at hand beside the open frames, and what a token gives.
+// What stands inside the open frames, and what a token gives.
 ghost use Rattle.std.specs.Prelude.{◌≤◌};
 ghost use Rattle.um_types.specs.UnitStops.{greatest_height};
 ghost use Rattle.um_types.specs.NoteMachine.{note_least};
@@ -10,7 +10,7 @@ use um_frac::Frac;
 use um_tree::{Binder, Name};
 use um_types::{NoteReader, TypeReader};
 
-/// A place inside a run of tokens that is fixed. The first number of each is the place of the form.
+/// The token that is expected inside a run of tokens that is fixed. The first number of each is the place of the form.
 #[derive(Drop)]
 pub enum Expected {
     /// Behind `let`; behind its binder
@@ -44,13 +44,13 @@ pub struct Noted {
     ghost low: { note_least (note_state note) ≤ greatest_height },
 }
 
-/// What is at hand beside the frames.
+/// What stands inside the innermost frame.
 #[derive(Drop)]
 pub enum Focus {
     /// An operand is wanted
-    Empty,
-    /// An atom
-    Full(Operand),
+    Wanted,
+    /// An atom was read
+    Read(Operand),
     /// What stands before `>`, at its place: a `=` directly behind it belongs to the sign
     Greater(u32, Operand),
     Inside(Expected),
@@ -60,7 +60,8 @@ pub enum Focus {
     Type(u32, TypeReader),
 }
 
-/// A token goes on; or a unit text or type text becomes too high through it; or the expression stops before it, and this is what was read, if it is whole.
+/// A token goes on; or a unit text or type text becomes too high through it; or the expression stops before it, and this is
+/// what was read, if it is whole.
 #[derive(Drop)]
 pub enum Step {
     Goes(Focus),

@@ -6,12 +6,12 @@ ghost use Rattle.um_types.specs.UnitCount.{counted};
 ghost use Rattle.um_expr.specs.ExprOperands.{operand_expr};
 ghost use Rattle.um_expr.specs.ExprFrames.{view_frame, is_call};
 
-use crate::height::higher;
 use crate::infix::Infix;
 use crate::operand::Operand;
 use crate::operands::{Operands, ReadFields};
 use std::alloc::{AllocError, Global};
 use um_tree::{Binder, Name};
+use um_types::higher;
 
 /// A form that has begun, up to the operand that is read next. The first number of each is its place.
 #[derive(Drop)]
@@ -39,7 +39,8 @@ pub enum Frame {
     InArgument(u32, Name, Operands),
 }
 
-/// An open frame, and the least height that the parts in it and in the frames around it ask for, counted up to 401.
+/// An open frame, and the least height that the parts in it and in the frames around it ask for,
+/// counted.
 #[derive(Drop)]
 pub struct Entry {
     pub frame: Frame,

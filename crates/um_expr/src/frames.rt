@@ -5,8 +5,9 @@ ghost use Rattle.um_expr.specs.ExprMachine.{top_bound, top_rank};
 ghost use Rattle.um_expr.specs.ExprFrames.{view_frame, entry_least, stack, base, bases, Taken};
 
 use crate::frame::{Entry, Frame};
-use crate::height::{counted_sum, higher, one_higher};
+use crate::height::counted_sum;
 use std::alloc::{AllocError, Global};
+use um_types::{TOO_HIGH, higher, one_higher};
 
 /// The open frames, the innermost last.
 #[derive(Drop)]
@@ -27,15 +28,19 @@ impl Frames {
         }
     }
 
-    /// The number of frames, counted up to 401.
+    /// The number of frames, counted.
     pub fn count(&self) -> u32
         ensures { result ≡ counted (length (frames_of self.now)) }
     {
         let count = self.entries.len();
-        if count < 401 { count as u32 } else { 401 }
+        if count < TOO_HIGH as usize {
+            count as u32
+        } else {
+            TOO_HIGH
+        }
     }
 
-    /// The least height that the parts in the frames ask for, counted up to 401.
+    /// The least height that the parts in the frames ask for, counted.
     pub fn least(&self) -> u32
         ensures { result ≡ counted (base (frames_of self.now)) }
     {

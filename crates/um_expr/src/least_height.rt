@@ -2,6 +2,7 @@
 ghost use Rattle.std.specs.Prelude.{◌≡◌, ◌+◌, max, nat_lt};
 ghost use Rattle.um_tree.specs.Heights.{expr_height};
 ghost use Rattle.um_types.specs.UnitCount.{counted};
+ghost use Rattle.um_types.specs.UnitStops.{greatest_height};
 ghost use Rattle.um_expr.specs.ExprLeast.{expected_least, whole_least};
 ghost use Rattle.um_expr.specs.ExprOperands.{operand_expr};
 ghost use Rattle.um_expr.specs.ExprStack.{frames_of};
@@ -9,8 +10,9 @@ ghost use Rattle.um_expr.specs.ExprStates.{view_expected, focus_height, state_of
 
 use crate::focus::{Expected, Focus};
 use crate::frames::Frames;
-use crate::height::{counted_sum, higher, one_higher};
+use crate::height::counted_sum;
 use crate::operand::Operand;
+use um_types::{TOO_HIGH, higher, one_higher};
 
 // One above what is at hand, and above a part that is missing.
 fn above(list: &Operand) -> u32
@@ -62,8 +64,8 @@ fn focus_height(focus: &Focus) -> u32
 
 /// Whether an expression within the heights begins with what was read.
 pub fn is_low(frames: &Frames, focus: &Focus) -> bool
-    ensures { result ≡ nat_lt (whole_least (state_of (frames_of frames.now) focus.now)) 401 }
+    ensures { result ≡ nat_lt (whole_least (state_of (frames_of frames.now) focus.now)) (greatest_height + 1) }
 {
     let height = counted_sum(focus_height(focus), frames.count());
-    higher(frames.least(), height) < 401
+    higher(frames.least(), height) < TOO_HIGH
 }

@@ -8,13 +8,13 @@ ghost use Rattle.um_types.specs.UnitStops.{greatest_height};
 ghost use Rattle.um_expr.specs.ExprHeights.{notes_in, written_height};
 ghost use Rattle.um_expr.specs.Ranks.{infix_text};
 
-use crate::height::{higher, one_higher};
 use crate::infix::Infix;
 use std::alloc::{AllocError, Global};
 use um_frac::Frac;
 use um_tree::{Binder, Name, RawExpr, RawNode, RawNote, RawType};
+use um_types::{higher, one_higher};
 
-/// An expression and its height, counted up to 401. No unit text or type text in it is higher than 400.
+/// An expression and its height, counted. No unit text or type text in it is too high.
 #[derive(Drop)]
 pub struct Operand {
     pub tree: RawExpr,

@@ -7,12 +7,13 @@ ghost use Rattle.um_types.specs.UnitStops.{greatest_height};
 ghost use Rattle.um_expr.specs.ExprHeights.{notes_in_all, notes_in_fields};
 ghost use Rattle.um_expr.specs.ExprMachine.{with_field};
 
-use crate::height::{higher, one_higher};
 use crate::operand::Operand;
 use std::alloc::{AllocError, Global};
 use um_tree::{Name, RawExpr, RawExprs, RawField, RawFields, RawNode};
+use um_types::{higher, one_higher};
 
-/// Some expressions and the height of the highest, counted up to 401. No unit text or type text in them is higher than 400.
+/// Some expressions and the height of the highest, counted. No unit text or type text in them is
+/// too high.
 #[derive(Drop)]
 pub struct Operands {
     pub items: Vec<RawExpr>,
@@ -21,7 +22,8 @@ pub struct Operands {
     ghost low: { notes_in_all (exprs_in_order (map expr_syntax items.items)) ≤ greatest_height },
 }
 
-/// Some fields of a record text and the height of the highest, counted up to 401. No unit text or type text in them is higher than 400.
+/// Some fields of a record text and the height of the highest, counted. No unit text or type text in them is
+/// too high.
 #[derive(Drop)]
 pub struct ReadFields {
     pub items: Vec<RawField>,

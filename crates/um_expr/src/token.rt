@@ -5,8 +5,9 @@ ghost use Rattle.um_expr.specs.ExprTokens.{expr_token, keyword_token, symbol_tok
 use crate::infix::Infix;
 use std::alloc::{AllocError, Global};
 use um_frac::Frac;
-use um_syntax::{Keyword, Kind, Letters, Symbol};
+use um_syntax::{Keyword, Kind, Symbol};
 use um_tree::{Arith, Name, Sign};
+use um_types::name_of;
 
 /// A name, a unit variable, a number with its value, `true` or `false`, `_`, a sign between two operands, another reserved
 /// word, or another sign.
@@ -20,12 +21,6 @@ pub enum ExprToken {
     Operator(Infix),
     Word(Keyword),
     Mark(Symbol),
-}
-
-fn name_of(alloc: Global, letters: &Letters) -> Result<Name, AllocError>
-    ensures { IfOk result (λ x. x ≡ letters.now) }
-{
-    Ok(Name::from_vec(Vec::from_slice(alloc, letters.as_slice())?))
 }
 
 fn of_keyword(keyword: Keyword) -> ExprToken

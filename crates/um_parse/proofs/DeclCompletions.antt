@@ -12,7 +12,7 @@ use Rattle.um_types.specs.UnitGrammar.{Spells as UnitSpells, IsUnit}
 use Rattle.um_types.specs.UnitMachine.{Need as NeedUnit, Refused as NoUnit, run as unit_run}
 use Rattle.um_types.proofs.UnitLaws.{ending_of, completed, can_go_on}
 use Rattle.um_types.proofs.UnitCut.{unit_before}
-use Rattle.um_types.proofs.TypeSound.{TypeStands}
+use Rattle.um_types.proofs.TypeSound.{TypeSpellsPrefix}
 use Rattle.um_types.proofs.TypeLaws.{type_ending, type_completed, type_can_end}
 use Rattle.um_parse.specs.DeclGrammar.{Attribute, VarsSpell, FieldDeclsSpell, DeclSpells, DeclFits}
 use Rattle.um_parse.specs.DeclMachine.{DeclExpected, DeclBegin, AttributeWord, AttributeGreater, AttributeClose, MeasureType, MeasureName, RecordName, RecordVars, VarBegin, VarWord, VarGreater, VarClose, VarName, VarEnd, RecordEqual, RecordBrace, FieldName, FieldColon, LetName, RecName, Params, ParamBinder, ParamColon, DeclState, Expects, HaveBase, InShort, HaveRecord, InField, InParam, InResult, InBody, NoDecl}
@@ -352,18 +352,18 @@ decl_can_end (InShort at x u) tokens rest h ok =
     ((m.0, m.1, h.0, h.1, m.2, m.3, m.4, h.4, subst (λ s. UnitSpells (completed u) s rest) (sym parts) (unit_before (completed u) (h.2 ++ ending_of u) rest p)), p.fits)
 decl_can_end (HaveRecord at x vs fs) tokens rest h ok = h
 decl_can_end (InField at x vs fs place y s) tokens rest h ok =
-    let p = type_can_end s h.3 (sign symbol.RightBrace ∷ rest) (subst (λ w. TypeStands s h.3 w) (append_assoc (type_ending s) (sign symbol.RightBrace ∷ []) rest) h.8) h.10 in
+    let p = type_can_end s h.3 (sign symbol.RightBrace ∷ rest) (subst (λ w. TypeSpellsPrefix s h.3 w) (append_assoc (type_ending s) (sign symbol.RightBrace ∷ []) rest) h.8) h.10 in
     let f : FieldDeclSyntax = record { at = place; name = y; type = type_completed s } in
     (fields_read at x vs fs f tokens h.0 rest h.4 (fields_last fs f h.0 h.1 (sign symbol.RightBrace ∷ rest) h.5 (h.2, h.3, h.6, h.7, p.0)), fields_fit fs f h.9 p.1)
 decl_can_end (InParam recursive at x ps b s) tokens rest h ok =
     let behind : List Token = function_rest ++ rest in
-    let p = type_can_end s h.3 (sign symbol.RightParen ∷ behind) (subst (λ w. TypeStands s h.3 w) (append_assoc (type_ending s) (sign symbol.RightParen ∷ function_rest) rest) h.8) h.10 in
+    let p = type_can_end s h.3 (sign symbol.RightParen ∷ behind) (subst (λ w. TypeSpellsPrefix s h.3 w) (append_assoc (type_ending s) (sign symbol.RightParen ∷ function_rest) rest) h.8) h.10 in
     let q : ParamSyntax = record { binder = b; type = type_completed s } in (
       function_reads recursive at x (ps ++ q ∷ []) tokens rest (head_last recursive at x ps q tokens h.0 behind h.4 (h.1, h.2, h.3, sign symbol.RightParen ∷ behind, h.5, h.6, h.7, p.0, (sign symbol.RightParen, refl, refl))),
       (params_fit ps q h.9 p.1, tt, tt),
     )
 decl_can_end (InResult recursive at x ps s) tokens rest h ok =
-    let p = type_can_end s h.1 (sign symbol.Equal ∷ operand_token ∷ rest) (subst (λ w. TypeStands s h.1 w) (append_assoc (type_ending s) (sign symbol.Equal ∷ operand_token ∷ []) rest) h.4) h.6 in
+    let p = type_can_end s h.1 (sign symbol.Equal ∷ operand_token ∷ rest) (subst (λ w. TypeSpellsPrefix s h.1 w) (append_assoc (type_ending s) (sign symbol.Equal ∷ operand_token ∷ []) rest) h.4) h.6 in
     let f = h.2 in (
       (f.0, f.1, f.2, h.0, sign symbol.Equal ∷ operand_token ∷ rest, operand_token ∷ rest, f.3, f.4, f.5, f.6, (h.1, h.3, p.0), (sign symbol.Equal, refl, refl), (operand_token, refl, refl, refl)),
       (h.5, p.1, tt),

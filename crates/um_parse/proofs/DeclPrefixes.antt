@@ -5,7 +5,7 @@ use Rattle.um_tree.specs.RawTree.{VarSyntax, FieldDeclSyntax, ParamSyntax, recor
 use Rattle.um_types.specs.UnitMachine.{Need as NeedUnit, Refused as NoUnit, run as unit_run}
 use Rattle.um_types.specs.TypeGrammar.{TypeFits}
 use Rattle.um_types.specs.TypeMachine.{NoType}
-use Rattle.um_types.proofs.TypeSound.{TypeStands}
+use Rattle.um_types.proofs.TypeSound.{TypeSpellsPrefix}
 use Rattle.um_syntax.specs.declared.vocabulary.Keyword.TheVariants as keyword
 use Rattle.um_syntax.specs.declared.vocabulary.Symbol.TheVariants as symbol
 use Rattle.um_expr.specs.declared.token.ExprToken.TheVariants.{Name as name, Word as word, Mark as mark}
@@ -92,12 +92,12 @@ DeclSpellsPrefix (InShort at x u) tokens rest =
 DeclSpellsPrefix (HaveRecord at x vs fs) tokens rest = DeclSpells (record_decl_syntax at x vs fs) tokens rest × FieldDeclsFit fs
 DeclSpellsPrefix (InField at x vs fs place y s) tokens rest =
     (fields named colon next : List Token) × RecordOpens at x vs tokens fields × FieldsRead fs fields named × FirstAt (name y) place named colon × First (mark symbol.Colon) colon next
-    × TypeStands s next rest × FieldDeclsFit fs × (s ≢ NoType)
+    × TypeSpellsPrefix s next rest × FieldDeclsFit fs × (s ≢ NoType)
 DeclSpellsPrefix (InParam recursive at x ps b s) tokens rest =
     (d e colon next : List Token) × FunctionHead recursive at x ps tokens d × First (mark symbol.LeftParen) d e × BinderSpells b e colon × First (mark symbol.Colon) colon next
-    × TypeStands s next rest × ParamsFit ps × (s ≢ NoType)
+    × TypeSpellsPrefix s next rest × ParamsFit ps × (s ≢ NoType)
 DeclSpellsPrefix (InResult recursive at x ps s) tokens rest =
-    (d next : List Token) × FunctionHead recursive at x ps tokens d × First (mark symbol.Colon) d next × TypeStands s next rest × ParamsFit ps × (s ≢ NoType)
+    (d next : List Token) × FunctionHead recursive at x ps tokens d × First (mark symbol.Colon) d next × TypeSpellsPrefix s next rest × ParamsFit ps × (s ≢ NoType)
 DeclSpellsPrefix (InBody recursive at x ps r e) tokens rest =
     (d sign next : List Token) × FunctionHead recursive at x ps tokens d × ResultSpells r d sign × First equal sign next × SpellsPrefix e next rest × ParamsFit ps × ResultFits recursive r × (e ≢ Refused)
 DeclSpellsPrefix NoDecl tokens rest = Unit {0}

@@ -10,7 +10,7 @@ use Rattle.um_types.specs.TypeMachine.{InNote as InTypeNote}
 use Rattle.um_types.proofs.UnitLaws.{run_append, found}
 use Rattle.um_types.proofs.UnitCut.{unit_before}
 use Rattle.um_types.proofs.UnitNested.{unit_step}
-use Rattle.um_types.proofs.TypeSound.{TypeStands, type_sound, type_found}
+use Rattle.um_types.proofs.TypeSound.{TypeSpellsPrefix, type_sound, type_found}
 use Rattle.um_syntax.specs.declared.vocabulary.Keyword.TheVariants as keyword
 use Rattle.um_syntax.specs.declared.vocabulary.Symbol.TheVariants as symbol
 use Rattle.um_expr.specs.declared.infix.Infix.TheVariants as between
@@ -120,7 +120,7 @@ result_end_sound recursive at x ps s (Some t) (operator (between.Compare compare
 result_end_sound recursive at x ps s _ _ tokens mid rest h n e = tt
 
 field_goes_sound : (at : ℕ) (x : List ℕ) (vs : List VarSyntax) (fs : List FieldDeclSyntax) (place : ℕ) (y : List ℕ) (s : TypeState) (over : DeclState) (tokens fields named colon next rest : List Token)
-    → RecordOpens at x vs tokens fields → FieldsRead fs fields named → FirstAt (name y) place named colon → First (mark symbol.Colon) colon next → TypeStands s next rest → FieldDeclsFit fs
+    → RecordOpens at x vs tokens fields → FieldsRead fs fields named → FirstAt (name y) place named colon → First (mark symbol.Colon) colon next → TypeSpellsPrefix s next rest → FieldDeclsFit fs
     → DeclSpellsPrefix over tokens rest → DeclSpellsPrefix (field_goes at x vs fs place y s over) tokens rest
 field_goes_sound at x vs fs place y (NeedType depth) over tokens fields named colon next rest o r n c s f h = (fields, named, colon, next, o, r, n, c, s, f, λ e. cc)
 field_goes_sound at x vs fs place y (HaveType depth t) over tokens fields named colon next rest o r n c s f h = (fields, named, colon, next, o, r, n, c, s, f, λ e. cc)
@@ -128,7 +128,7 @@ field_goes_sound at x vs fs place y (InTypeNote depth owner w) over tokens field
 field_goes_sound at x vs fs place y NoType over tokens fields named colon next rest o r n c s f h = h
 
 param_goes_sound : (recursive : Bool) (at : ℕ) (x : List ℕ) (ps : List ParamSyntax) (b : BinderSyntax) (s : TypeState) (over : DeclState) (tokens d e colon next rest : List Token)
-    → FunctionHead recursive at x ps tokens d → First (mark symbol.LeftParen) d e → BinderSpells b e colon → First (mark symbol.Colon) colon next → TypeStands s next rest → ParamsFit ps
+    → FunctionHead recursive at x ps tokens d → First (mark symbol.LeftParen) d e → BinderSpells b e colon → First (mark symbol.Colon) colon next → TypeSpellsPrefix s next rest → ParamsFit ps
     → DeclSpellsPrefix over tokens rest → DeclSpellsPrefix (param_goes recursive at x ps b s over) tokens rest
 param_goes_sound recursive at x ps b (NeedType depth) over tokens d e colon next rest o r n c s f h = (d, e, colon, next, o, r, n, c, s, f, λ h. cc)
 param_goes_sound recursive at x ps b (HaveType depth t) over tokens d e colon next rest o r n c s f h = (d, e, colon, next, o, r, n, c, s, f, λ h. cc)
@@ -136,7 +136,7 @@ param_goes_sound recursive at x ps b (InTypeNote depth owner w) over tokens d e 
 param_goes_sound recursive at x ps b NoType over tokens d e colon next rest o r n c s f h = h
 
 result_goes_sound : (recursive : Bool) (at : ℕ) (x : List ℕ) (ps : List ParamSyntax) (s : TypeState) (over : DeclState) (tokens d next rest : List Token) → FunctionHead recursive at x ps tokens d
-    → First (mark symbol.Colon) d next → TypeStands s next rest → ParamsFit ps → DeclSpellsPrefix over tokens rest → DeclSpellsPrefix (result_goes recursive at x ps s over) tokens rest
+    → First (mark symbol.Colon) d next → TypeSpellsPrefix s next rest → ParamsFit ps → DeclSpellsPrefix over tokens rest → DeclSpellsPrefix (result_goes recursive at x ps s over) tokens rest
 result_goes_sound recursive at x ps (NeedType depth) over tokens d next rest o c s f h = (d, next, o, c, s, f, λ e. cc)
 result_goes_sound recursive at x ps (HaveType depth t) over tokens d next rest o c s f h = (d, next, o, c, s, f, λ e. cc)
 result_goes_sound recursive at x ps (InTypeNote depth owner w) over tokens d next rest o c s f h = (d, next, o, c, s, f, λ e. cc)

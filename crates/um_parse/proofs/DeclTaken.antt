@@ -5,6 +5,7 @@ use Rattle.std.specs.declared.alloc.AllocError.{AllocError}
 use Rattle.um_syntax.specs.declared.token.Token.{Token}
 use Rattle.um_tree.specs.declared.raw.RawDecl.{RawDecl}
 use Rattle.um_tree.specs.RawTree.{decl_syntax}
+use Rattle.um_types.specs.UnitStops.{greatest_height}
 use Rattle.um_parse.specs.DeclMachine.{NoDecl, decl_step, decl_finish}
 use Rattle.um_parse.specs.ProgramHeights.{decl_height}
 use Rattle.um_parse.specs.ProgramLeast.{expected_least, decl_least}
@@ -24,14 +25,14 @@ use Rattle.um_parse.proofs.DeclHeights.{decl_found_height}
 
 -- ---- heights
 
-measure_low : (m : MeasureExpected) → expected_least (view_measure m) ≤ 400
+measure_low : (m : MeasureExpected) → expected_least (view_measure m) ≤ greatest_height
 measure_low measure.Word = omega arith
 measure_low measure.Greater = omega arith
 measure_low measure.Close = omega arith
 measure_low measure.Type = omega arith
 measure_low measure.Name = omega arith
 
-var_low : (h : RecordHead) (v : VarExpected) → expected_least (view_var h v) ≤ 400
+var_low : (h : RecordHead) (v : VarExpected) → expected_least (view_var h v) ≤ greatest_height
 var_low h var.Begin = omega arith
 var_low h var.Word = omega arith
 var_low h var.Greater = omega arith
@@ -39,7 +40,7 @@ var_low h var.Close = omega arith
 var_low h var.Name = omega arith
 var_low h var.End = omega arith
 
-expected_low : (p : ExpectedToken) → expected_least (view_expected p) ≤ 400
+expected_low : (p : ExpectedToken) → expected_least (view_expected p) ≤ greatest_height
 expected_low expected.Begin = omega arith
 expected_low (expected.Measure m) = measure_low m
 expected_low expected.RecordName = omega arith
@@ -56,7 +57,7 @@ expected_low (expected.ParamBinder f) = omega (arith, f.low)
 expected_low (expected.ParamColon f b) = omega (arith, f.low)
 
 -- a reader stands within the heights
-pub reader_low : (r : DeclReader) → decl_least (reader_state r) ≤ 400
+pub reader_low : (r : DeclReader) → decl_least (reader_state r) ≤ greatest_height
 reader_low (reader.At p) = expected_low p
 reader_low (reader.Base at x) = omega arith
 reader_low (reader.Short s) = s.low
@@ -77,7 +78,7 @@ reader_goes (reader.Result f t) e = cc
 reader_goes (reader.Body h e) h' = cc
 
 -- the declaration before a token that a reader refuses is within the heights
-pub decl_low : (r : DeclReader) (o : Option RawDecl) → option_map decl_syntax o ≡ decl_finish (reader_state r) → IfSome o (λ d. decl_height (decl_syntax d) ≤ 400)
+pub decl_low : (r : DeclReader) (o : Option RawDecl) → option_map decl_syntax o ≡ decl_finish (reader_state r) → IfSome o (λ d. decl_height (decl_syntax d) ≤ greatest_height)
 decl_low r None e = tt
 decl_low r (Some d) e = let same = decl_found_height (reader_state r) (decl_syntax d) (sym e) in omega (arith, same, reader_low r)
 

@@ -1,5 +1,5 @@
 mod DeclLists
-mod DeclLeads
+mod DeclYields
 mod DeclComplete
 mod ProgramComplete
 mod DeclPrefixes

@@ -8,9 +8,11 @@ use Rattle.um_types.specs.Machines.{runs}
 use Rattle.um_types.proofs.Reaching.{runs_append, runs_refused, lift}
 use Rattle.um_types.proofs.UnitComplete.{into as unit_into}
 use Rattle.um_types.specs.UnitTokens.{unit_token}
-use Rattle.um_types.proofs.TokenLinks.{foreign_refused}
+use Rattle.um_types.proofs.ForeignTokens.{foreign_refused}
 use Rattle.um_syntax.specs.declared.vocabulary.Keyword.TheVariants as keyword
 use Rattle.um_syntax.specs.declared.vocabulary.Symbol.TheVariants as symbol
+use Rattle.um_types.specs.Machines.{Yields}
+use Rattle.um_types.proofs.Reaching.{yields_then}
 use Rattle.um_expr.specs.declared.token.ExprToken.{ExprToken}
 use Rattle.um_expr.specs.declared.token.ExprToken.TheVariants.{Word as word, Mark as mark}
 use Rattle.um_expr.specs.ExprTokens.{expr_token}
@@ -21,7 +23,7 @@ use Rattle.um_parse.specs.ProgramStops.{Begins}
 use Rattle.um_parse.specs.ProgramStates.{start}
 use Rattle.um_expr.proofs.ExprTokenKinds.{begins_decl, decl_is_foreign}
 use Rattle.um_expr.proofs.ExprEnds.{opened, last_atom}
-use Rattle.um_parse.proofs.DeclComplete.{decl_into, decl_finds, decl_leads}
+use Rattle.um_parse.proofs.DeclComplete.{decl_into, decl_finds, decl_yields}
 
 -- ---- what begins a declaration ends the one before it
 
@@ -46,13 +48,6 @@ decl_stops (function_syntax f) token h =
     ap (body_goes f.recursive f.at f.name f.params f.result) (expr_stops (opened [] f.body) (last_atom f.body) (expr_token token.kind) token.start token.glued token.kind h)
 
 -- ---- declarations one behind the other
-
-abbrev pub Leads : ProgramState → List Token → ProgramState → List Token → Type 0
-Leads old tokens new rest = (read : List Token) × (tokens ≡ read ++ rest) × (runs program_step old read ≡ new)
-
-leads_then : (a b c : ProgramState) (s t r : List Token) → Leads a s b t → Leads b t c r → Leads a s c r
-leads_then a b c s t r p q =
-    (p.0 ++ q.0, p.1 ∙ ap (λ w. p.0 ++ w) q.1 ∙ sym (append_assoc p.0 q.0 r), runs_append program_step p.0 q.0 a ∙ ap (λ o. runs program_step o q.0) p.2 ∙ q.2)
 
 goes_on : (decls : List DeclSyntax) (new : DeclState) (over : ProgramState) → new ≢ NoDecl → program_goes decls new over ≡ InProgram decls new
 goes_on decls (Expects expected) over ok = refl
@@ -83,9 +78,9 @@ begin_apart (record_decl_syntax at x vs fs) e = cc
 begin_apart (function_syntax f) e = cc
 
 -- a declaration is read
-leads_decl : (decls : List DeclSyntax) (d : DeclSyntax) (tokens rest : List Token) → DeclSpells d tokens rest → DeclFits d → Leads (InProgram decls (Expects DeclBegin)) tokens (InProgram decls (decl_into d)) rest
-leads_decl decls d tokens rest s fits =
-    let r = decl_leads d tokens rest s fits in
+yields_decl : (decls : List DeclSyntax) (d : DeclSyntax) (tokens rest : List Token) → DeclSpells d tokens rest → DeclFits d → Yields program_step (InProgram decls (Expects DeclBegin)) tokens (InProgram decls (decl_into d)) rest
+yields_decl decls d tokens rest s fits =
+    let r = decl_yields d tokens rest s fits in
     (r.0, r.1, lift decl_step NoDecl (λ t. refl) program_step (λ w. InProgram decls w) (decl_inside decls) r.0 (Expects DeclBegin) (decl_into d) r.2 (into_on d))
 
 abbrev FirstPasses : List Token → Type 0
@@ -107,9 +102,9 @@ next_alike decls d token fits h =
     let begun : DeclState = decl_step (Expects DeclBegin) token in
     ap (λ w. program_goes decls w (next_decl decls (decl_finish (decl_into d)) begun)) (decl_stops d token h) ∙ ap (λ o. next_decl decls o begun) (decl_finds d fits)
 
-leads_next : (decls : List DeclSyntax) (d e : DeclSyntax) (tokens rest : List Token) → DeclFits d → DeclSpells e tokens rest → DeclFits e → Leads (InProgram decls (decl_into d)) tokens (InProgram (decls ++ d ∷ []) (decl_into e)) rest
-leads_next decls d e tokens rest fit s fits =
-    let p = leads_decl (decls ++ d ∷ []) e tokens rest s fits in alike p.0 p.1 p.2
+yields_next : (decls : List DeclSyntax) (d e : DeclSyntax) (tokens rest : List Token) → DeclFits d → DeclSpells e tokens rest → DeclFits e → Yields program_step (InProgram decls (decl_into d)) tokens (InProgram (decls ++ d ∷ []) (decl_into e)) rest
+yields_next decls d e tokens rest fit s fits =
+    let p = yields_decl (decls ++ d ∷ []) e tokens rest s fits in alike p.0 p.1 p.2
   where
     first : FirstPasses tokens
     first = decl_first e tokens rest s
@@ -118,7 +113,7 @@ leads_next decls d e tokens rest fit s fits =
     same_decl more a b h = cc
 
     alike : (read : List Token) → tokens ≡ read ++ rest → runs program_step (InProgram (decls ++ d ∷ []) (Expects DeclBegin)) read ≡ InProgram (decls ++ d ∷ []) (decl_into e)
-        → Leads (InProgram decls (decl_into d)) tokens (InProgram (decls ++ d ∷ []) (decl_into e)) rest
+        → Yields program_step (InProgram decls (decl_into d)) tokens (InProgram (decls ++ d ∷ []) (decl_into e)) rest
     alike [] parts ends = absurd (begin_apart e (same_decl (decls ++ d ∷ []) (Expects DeclBegin) (decl_into e) ends))
     alike (x ∷ xs) parts ends =
         let same : first.0 ≡ x = same_head first.0 x first.1 (xs ++ rest) (sym first.2 ∙ parts) in
@@ -132,16 +127,16 @@ program_into decls (d ∷ []) = InProgram decls (decl_into d)
 program_into decls (d ∷ e ∷ ds) = program_into (decls ++ d ∷ []) (e ∷ ds)
 
 more_decls : (ds : List DeclSyntax) (d : DeclSyntax) (decls : List DeclSyntax) (tokens rest : List Token) → DeclFits d → DeclsSpell ds tokens rest → DeclsFit ds
-    → Leads (InProgram decls (decl_into d)) tokens (program_into decls (d ∷ ds)) rest
+    → Yields program_step (InProgram decls (decl_into d)) tokens (program_into decls (d ∷ ds)) rest
 more_decls [] d decls tokens rest fit s fits = ([], s, refl)
 more_decls (e ∷ ds) d decls tokens rest fit s fits =
-    leads_then (InProgram decls (decl_into d)) (InProgram (decls ++ d ∷ []) (decl_into e)) (program_into decls (d ∷ e ∷ ds)) tokens s.0 rest (leads_next decls d e tokens s.0 fit s.1 fits.0)
+    yields_then program_step (InProgram decls (decl_into d)) (InProgram (decls ++ d ∷ []) (decl_into e)) (program_into decls (d ∷ e ∷ ds)) tokens s.0 rest (yields_next decls d e tokens s.0 fit s.1 fits.0)
     (more_decls ds e (decls ++ d ∷ []) s.0 rest fits.0 s.2 fits.1)
 
-pub program_leads : (ds : List DeclSyntax) (tokens rest : List Token) → DeclsSpell ds tokens rest → DeclsFit ds → Leads (InProgram [] (Expects DeclBegin)) tokens (program_into [] ds) rest
+pub program_leads : (ds : List DeclSyntax) (tokens rest : List Token) → DeclsSpell ds tokens rest → DeclsFit ds → Yields program_step (InProgram [] (Expects DeclBegin)) tokens (program_into [] ds) rest
 program_leads [] tokens rest s fits = ([], s, refl)
 program_leads (d ∷ ds) tokens rest s fits =
-    leads_then (InProgram [] (Expects DeclBegin)) (InProgram [] (decl_into d)) (program_into [] (d ∷ ds)) tokens s.0 rest (leads_decl [] d tokens s.0 s.1 fits.0)
+    yields_then program_step (InProgram [] (Expects DeclBegin)) (InProgram [] (decl_into d)) (program_into [] (d ∷ ds)) tokens s.0 rest (yields_decl [] d tokens s.0 s.1 fits.0)
     (more_decls ds d [] s.0 rest fits.0 s.2 fits.1)
 
 -- ---- laws

@@ -18,7 +18,7 @@ use Rattle.um_expr.specs.declared.token.ExprToken.TheVariants.{Word as word, Mar
 use Rattle.um_expr.specs.ExprGrammar.{First, FirstAt, FirstGlued, ends_in_number, InfixAt, WrittenNote, EmptyArm, FullArm, Spells, AllSpell, ItemsSpell, MoreItems, FieldsSpell, MoreFields, NoteFitsIn, Fits, AreAtoms, AllFit, FieldsFit}
 use Rattle.um_parse.specs.DeclGrammar.{ParamsSpell, ResultSpells, RecSpells, DeclSpells, DeclsSpell, ParamsFit, ResultFits, DeclFits, DeclsFit, IsProgram}
 use Rattle.um_parse.specs.ProgramNodes.{decl_nodes, program_nodes}
-use Rattle.um_parse.proofs.DeclComplete.{decl_leads}
+use Rattle.um_parse.proofs.DeclComplete.{decl_yields}
 
 one_less : (token : Token) (tokens rest : List Token) → tokens ≡ token ∷ rest → length tokens ≡ length rest + 1
 one_less token tokens rest e = let same : length tokens ≡ length (token ∷ rest) = ap length e in omega (arith, same)
@@ -243,7 +243,7 @@ rec_less false tokens rest s = let e : length tokens ≡ length rest = ap length
 rec_less true tokens rest s = let e = first_less _ tokens rest s in omega (arith, e)
 
 other_less : (d : DeclSyntax) (tokens rest : List Token) → DeclSpells d tokens rest → DeclFits d → length rest ≤ length tokens
-other_less d tokens rest s fits = let p = decl_leads d tokens rest s fits in no_longer p.0 tokens rest p.1
+other_less d tokens rest s fits = let p = decl_yields d tokens rest s fits in no_longer p.0 tokens rest p.1
 
 decl_fits : (d : DeclSyntax) (tokens rest : List Token) → DeclSpells d tokens rest → DeclFits d → decl_nodes d + length rest ≤ length tokens
 decl_fits (base_syntax at x) tokens rest s fits = let e = other_less (base_syntax at x) tokens rest s fits in omega (arith, e)

@@ -6,6 +6,7 @@ use Rattle.um_tree.specs.declared.raw.RawDecl.{RawDecl}
 use Rattle.um_tree.specs.RawTree.{DeclSyntax, decl_syntax}
 use Rattle.um_types.specs.Machines.{runs}
 use Rattle.um_types.proofs.Reaching.{runs_append}
+use Rattle.um_types.specs.UnitStops.{greatest_height}
 use Rattle.um_parse.specs.DeclMachine.{DeclBegin, AttributeWord, AttributeGreater, AttributeClose, MeasureType, MeasureName, RecordName, RecordVars, VarBegin, VarWord, VarGreater, VarClose, VarName, VarEnd, RecordEqual, RecordBrace, FieldName, FieldColon, LetName, RecName, Params, ParamBinder, ParamColon, DeclState, Expects, HaveBase, InShort, HaveRecord, InField, InParam, InResult, InBody, NoDecl, decl_finish, ProgramState, InProgram, NoProgram, program_goes, program_step, program_found, program_finish}
 use Rattle.um_parse.specs.ProgramHeights.{decl_height, program_height}
 use Rattle.um_parse.specs.ProgramLeast.{decl_least, program_least}
@@ -28,7 +29,7 @@ program_on decls (InBody recursive at x ps r e) ended ok = refl
 program_on decls NoDecl ended ok = absurd (ok refl)
 
 -- the declaration goes on
-pub goes_in : (decls : List RawDecl) (d : DeclState) (ended : ProgramState) (r : DeclReader) → d ≡ reader_state r → program_height (map decl_syntax decls) ≤ 400
+pub goes_in : (decls : List RawDecl) (d : DeclState) (ended : ProgramState) (r : DeclReader) → d ≡ reader_state r → program_height (map decl_syntax decls) ≤ greatest_height
     → ProgramTakes (program_goes (map decl_syntax decls) d ended) decls (step.Goes r)
 goes_in decls d ended r e low =
     let same : program_goes (map decl_syntax decls) d ended ≡ program_state decls r =
@@ -38,7 +39,7 @@ goes_in decls d ended r e low =
     (same, omega (arith, least, low, reader_low r))
 
 -- it is too high
-pub high_in : (decls : List RawDecl) (d : DeclState) (ended : ProgramState) → d ≢ NoDecl → 400 < decl_least d → ProgramTakes (program_goes (map decl_syntax decls) d ended) decls step.High
+pub high_in : (decls : List RawDecl) (d : DeclState) (ended : ProgramState) → d ≢ NoDecl → greatest_height < decl_least d → ProgramTakes (program_goes (map decl_syntax decls) d ended) decls step.High
 high_in decls d ended ok high =
     let same : program_goes (map decl_syntax decls) d ended ≡ InProgram (map decl_syntax decls) d = program_on (map decl_syntax decls) d ended ok in
     let least = ap program_least same in
@@ -63,7 +64,7 @@ one_more tokens i token st lt same e =
 pub program_on_reader : (decls : List RawDecl) (reader : DeclReader) → program_state decls reader ≢ NoProgram
 program_on_reader decls reader e = cc
 
-pub is_read_to : (tokens : List Token) (i : ℕ) (decls : List RawDecl) (reader : DeclReader) → i ≤ length tokens → program_state decls reader ≡ state_at tokens i → program_least (state_at tokens i) ≤ 400 → IsReadTo tokens i
+pub is_read_to : (tokens : List Token) (i : ℕ) (decls : List RawDecl) (reader : DeclReader) → i ≤ length tokens → program_state decls reader ≡ state_at tokens i → program_least (state_at tokens i) ≤ greatest_height → IsReadTo tokens i
 is_read_to tokens i decls reader le e low = (le, (λ h. program_on_reader decls reader (e ∙ h)), low)
 
 -- ---- the end

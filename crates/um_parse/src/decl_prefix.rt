@@ -14,7 +14,7 @@ pub struct RecordHead {
     pub vars: RawVars,
 }
 
-/// A record with the fields that were read. No text in them is higher than 400.
+/// A record with the fields that were read. No text in them is too high.
 #[derive(Drop)]
 pub struct RecordPrefix {
     pub head: RecordHead,
@@ -22,7 +22,7 @@ pub struct RecordPrefix {
     ghost low: { fields_height (map field_decl_syntax fields.items.items) ≤ greatest_height },
 }
 
-/// A function's name, at its place, and the parameters that were read. No text in them is higher than 400.
+/// A function's name, at its place, and the parameters that were read. No text in them is too high.
 #[derive(Drop)]
 pub struct FunctionPrefix {
     pub recursive: bool,
@@ -32,7 +32,7 @@ pub struct FunctionPrefix {
     ghost low: { params_height (map param_syntax params.items.items) ≤ greatest_height },
 }
 
-/// A function up to its `=`, with its result type, if it has one, no higher than 400.
+/// A function up to its `=`, with its result type, if it has one, not too high.
 #[derive(Drop)]
 pub struct FunctionHead {
     pub prefix: FunctionPrefix,

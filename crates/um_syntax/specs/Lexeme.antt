@@ -71,10 +71,12 @@ NumeralEnds (Whole digits) more = (begins is_ascii_digit more ≡ false) × (beg
 NumeralEnds (Decimal whole part) more = begins is_ascii_digit more ≡ false
 NumeralEnds (Ratio above below) more = begins is_ascii_digit more ≡ false
 
--- A variable goes on while letters follow. Only where the longest one would be a reserved word, its last letter is left out.
+-- A variable goes on while letters follow. Only where the longest one would be a reserved word, its last letter is
+-- left out.
 abbrev pub LeavesLetter : List ℕ → List ℕ → Type 0
 LeavesLetter name [] = ⊥
-LeavesLetter name (c ∷ more) = (is_xid_continue c ≡ true) × IsWord (name ++ c ∷ []) × (begins is_xid_continue more ≡ false)
+LeavesLetter name (c ∷ more) =
+    (is_xid_continue c ≡ true) × IsWord (name ++ c ∷ []) × (begins is_xid_continue more ≡ false)
 
 -- No longer symbol stands there, and no comment.
 abbrev pub SignEnds : List ℕ → List ℕ → Type 0
@@ -100,7 +102,8 @@ is_whole (Whole digits) = true
 is_whole (Decimal whole part) = false
 is_whole (Ratio above below) = false
 
--- The kind of a token, where `power` says that a number stands there as a power. There is none for a number that breaks its rule.
+-- The kind of a token, where `power` says that a number stands there as a power. There is none for a number that
+-- breaks its rule.
 abbrev pub kind_of : Bool → Lexeme → Option Kind
 kind_of power (Name text) = Some (kind.Name (encode_utf8_all text))
 kind_of power (Var name) = Some (kind.Var (encode_utf8_all name))

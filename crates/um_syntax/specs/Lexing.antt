@@ -82,11 +82,13 @@ pub record IsNumberAt (chars : List ℕ) (numeral : Numeral) (more : List ℕ) :
   pub fits : IsNumeral numeral
   pub longest : NumeralEnds numeral more
 
--- The fault of the characters at a place: no token stands there, or a number breaks its rule, or a letter follows a number that keeps it.
+-- The fault of the characters at a place: no token stands there, or a number breaks its rule, or a letter follows a
+-- number that keeps it.
 abbrev pub Faulty : List Token → ℕ → List ℕ → LexStop → Type 0
 Faulty before at chars (BadChar place) =
     ((place ≡ at) × NothingStands chars)
-    ⊎ ((numeral : Numeral) × (more : List ℕ) × IsNumberAt chars numeral more × (kind_of (is_power_place before) (Number numeral) ≢ None)
+    ⊎ ((numeral : Numeral) × (more : List ℕ) × IsNumberAt chars numeral more
+    × (kind_of (is_power_place before) (Number numeral) ≢ None)
     × (begins is_xid_continue more ≡ true) × (place ≡ at + size_of (numeral_text numeral)))
 Faulty before at chars (NumberRange place) =
     (place ≡ at) × (is_power_place before ≡ false)

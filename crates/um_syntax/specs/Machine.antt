@@ -1,4 +1,5 @@
--- The machine that reads a text character by character. The definitions of tokens and refusals don't rest on it; that it
+-- The machine that reads a text character by character. The definitions of tokens and refusals don't rest on it; that
+-- it
 -- gives them is proved.
 use Rattle.std.specs.Prelude.{ℕ, ◌+◌, ◌≤◌, ◌-◌, ◌*◌, ◌^◌, Bool, true, false, cond, ◌==◌, ◌||◌, ◌&&◌, nat_lt, nat_le, List, [], ◌∷◌, ◌++◌, length, take, drop, pos, Option, None, Some, is_some, option_map, Result, Ok, Err}
 use Rattle.std.specs.Coded.{×_prop, Unit-prop, le_prop}
@@ -25,7 +26,8 @@ use Rattle.um_syntax.specs.Gap.{is_space}
 use Rattle.um_syntax.specs.Lexeme.{starts_name}
 use Rattle.um_syntax.specs.Lexing.{is_glued, is_power_place}
 
--- the state: the place of the next character, the tokens so far, the letters of a name that has begun, and what has begun
+-- the state: the place of the next character, the tokens so far, the letters of a name that has begun, and what has
+-- begun
 pub record Scan : Type 0 where
   pub at : ℕ
   pub tokens : List Token
@@ -102,8 +104,10 @@ first_figures d = record { above = d; below = 1; count = 1 }
 
 abbrev pub more_figures : Part → Figures → ℕ → Figures
 more_figures part.Whole f d = record { above = with_digit f.above d; below = f.below; count = one_more f.count }
-more_figures part.Point f d = record { above = with_digit f.above d; below = with_digit f.below 0; count = one_more f.count }
-more_figures part.Decimal f d = record { above = with_digit f.above d; below = with_digit f.below 0; count = one_more f.count }
+more_figures part.Point f d =
+    record { above = with_digit f.above d; below = with_digit f.below 0; count = one_more f.count }
+more_figures part.Decimal f d =
+    record { above = with_digit f.above d; below = with_digit f.below 0; count = one_more f.count }
 more_figures part.Over f d = record { above = f.above; below = d; count = one_more f.count }
 more_figures part.Ratio f d = record { above = f.above; below = with_digit f.below d; count = one_more f.count }
 
@@ -130,7 +134,8 @@ is_one_figure p f = is_whole_part p && (f.count == 1 && f.above == 1)
 
 abbrev pub figures_kind : Bool → Part → Figures → Option Kind
 figures_kind power p f =
-    option_map (λ v. kind.Number v (is_whole_part p) (is_one_figure p f)) (cond (is_allowed power p f) (reduced (pos f.above) (pos f.below)) None)
+    option_map (λ v. kind.Number v (is_whole_part p) (is_one_figure p f))
+    (cond (is_allowed power p f) (reduced (pos f.above) (pos f.below)) None)
 
 -- the state with one more token, and nothing begun
 abbrev pub pushed : Scan → Kind → ℕ → ℕ → Scan
@@ -159,7 +164,10 @@ identifier_pushed s start = pushed s (letters_kind s.letters) start s.at
 abbrev pub variable_pushed : Scan → ℕ → ℕ → Scan
 variable_pushed s start last =
     cond (is_some (keyword_of s.letters))
-    (pushed (pushed s (kind.Var (take (length s.letters - 1) s.letters)) start last) (kind.Name (drop (length s.letters - 1) s.letters)) last s.at)
+    (
+    pushed (pushed s (kind.Var (take (length s.letters - 1) s.letters)) start last)
+    (kind.Name (drop (length s.letters - 1) s.letters)) last s.at
+    )
     (pushed s (kind.Var s.letters) start s.at)
 
 -- what follows a number's token
@@ -186,7 +194,8 @@ close s pending.Free = Ok (freed s)
 close s pending.Comment = Ok (freed s)
 close s (pending.Identifier start) = Ok (identifier_pushed s start)
 close s (pending.Quote start) = Err (BadChar start)
-close s (pending.Variable start last) = cond (bytes_eq s.letters (95 ∷ [])) (Err (BadChar start)) (Ok (variable_pushed s start last))
+close s (pending.Variable start last) =
+    cond (bytes_eq s.letters (95 ∷ [])) (Err (BadChar start)) (Ok (variable_pushed s start last))
 close s (pending.Number start end p f) =
     number_pushed s start end p (is_power_place s.tokens) (figures_kind (is_power_place s.tokens) p f)
 close s (pending.Symbol start first) = sign_pushed s start (single_symbol first)
@@ -225,7 +234,8 @@ taken s pending.Free c next = at_state s next s.letters pending.Free
 taken s pending.Comment c next = at_state s next s.letters (cond (c == 10) pending.Free pending.Comment)
 taken s (pending.Identifier start) c next = at_state s next (s.letters ++ encode_utf8 c) (pending.Identifier start)
 taken s (pending.Quote start) c next = at_state s next (s.letters ++ encode_utf8 c) (pending.Variable start s.at)
-taken s (pending.Variable start last) c next = at_state s next (s.letters ++ encode_utf8 c) (pending.Variable start s.at)
+taken s (pending.Variable start last) c next =
+    at_state s next (s.letters ++ encode_utf8 c) (pending.Variable start s.at)
 taken s (pending.Number start end p f) c next = at_state s next s.letters (number_taken start end p f c next)
 taken s (pending.Symbol start first) c next = symbol_taken s start next (double_symbol first c)
 

@@ -2,7 +2,7 @@ pub mod UnitComplete
 pub mod UnitSound
 pub mod UnitLaws
 pub mod UnitHeights
-mod UnitFronts
+mod UnitOperands
 mod UnitEnds
 mod UnitWhole
 mod UnitCounts
@@ -12,7 +12,7 @@ pub mod Readers
 mod Fewer
 pub mod UnitCut
 pub mod UnitNested
-pub mod TokenLinks
+pub mod ForeignTokens
 pub mod NoteComplete
 pub mod NoteLaws
 pub mod TypeComplete

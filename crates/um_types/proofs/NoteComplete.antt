@@ -13,7 +13,7 @@ use Rattle.um_types.specs.NoteMachine.{NoteState, NeedNote, HaveHole, InUnit, No
 use Rattle.um_types.proofs.Reaching.{runs_refused, reaches_one, lift}
 use Rattle.um_types.proofs.UnitComplete.{into}
 use Rattle.um_types.proofs.UnitNested.{unit_step, unit_finds, unit_reaches}
-use Rattle.um_types.proofs.TokenLinks.{is_foreign, foreign_refused}
+use Rattle.um_types.proofs.ForeignTokens.{is_foreign, foreign_refused}
 
 -- the state once a note was read
 abbrev pub note_into : NoteSyntax → NoteState

@@ -13,7 +13,7 @@ use Rattle.um_types.specs.Machines.{Reaches}
 use Rattle.um_types.specs.NoteMachine.{NoteState, NeedNote, HaveHole, InUnit, NoNote, note_step, note_finish}
 use Rattle.um_types.specs.TypeMachine.{Owner, OfNum, OfName, TypeState, NeedType, HaveType, InNote, NoType, type_begin, type_after, note_end, note_ends, note_goes, type_act, type_step}
 use Rattle.um_types.proofs.Reaching.{reaches_one, reaches_then, reaches_inside}
-use Rattle.um_types.proofs.TokenLinks.{is_foreign}
+use Rattle.um_types.proofs.ForeignTokens.{is_foreign}
 use Rattle.um_types.proofs.NoteComplete.{note_into, note_reaches, note_finds, note_stops}
 
 abbrev pub TypeReaches : TypeState → List Token → TypeState → List Token → Type 0
@@ -77,23 +77,23 @@ reads_note depth owner n tokens rest s fits =
     (note_reaches n tokens rest s fits)
 
 -- notes with commas, and the closing angle bracket
-reads_notes : (ns : List NoteSyntax) (n : NoteSyntax) (depth at : ℕ) (x : List ℕ) (front : List NoteSyntax) (tokens mid rest : List Token) → NotesSpell (n ∷ ns) tokens mid → NotesFit (n ∷ ns)
-    → FirstSign symbol.Greater mid rest → TypeReaches (InNote depth (OfName at x front) NeedNote) tokens (HaveType depth (record_syntax at x (front ++ n ∷ ns))) rest
-reads_notes [] n depth at x front tokens mid rest s fits f =
-    let owner : Owner = OfName at x front in
-    let done : TypeState = HaveType depth (record_syntax at x (front ++ n ∷ [])) in
+reads_notes : (ns : List NoteSyntax) (n : NoteSyntax) (depth at : ℕ) (x : List ℕ) (earlier : List NoteSyntax) (tokens mid rest : List Token) → NotesSpell (n ∷ ns) tokens mid → NotesFit (n ∷ ns)
+    → FirstSign symbol.Greater mid rest → TypeReaches (InNote depth (OfName at x earlier) NeedNote) tokens (HaveType depth (record_syntax at x (earlier ++ n ∷ ns))) rest
+reads_notes [] n depth at x earlier tokens mid rest s fits f =
+    let owner : Owner = OfName at x earlier in
+    let done : TypeState = HaveType depth (record_syntax at x (earlier ++ n ∷ [])) in
     type_then (InNote depth owner NeedNote) (InNote depth owner (note_into n)) done tokens mid rest (reads_note depth owner n tokens mid s fits.0)
-    (ends_with depth owner n (kind.Sign symbol.Greater) done mid rest fits.0 f refl refl (have_is depth (record_syntax at x (front ++ n ∷ []))))
-reads_notes (m ∷ ns) n depth at x front tokens mid rest s fits f =
-    let owner : Owner = OfName at x front in
-    let more : Owner = OfName at x (front ++ n ∷ []) in
-    let done : TypeState = HaveType depth (record_syntax at x (front ++ n ∷ m ∷ ns)) in
-    let parts : (front ++ n ∷ []) ++ m ∷ ns ≡ front ++ n ∷ m ∷ ns = append_assoc front (n ∷ []) (m ∷ ns) in
+    (ends_with depth owner n (kind.Sign symbol.Greater) done mid rest fits.0 f refl refl (have_is depth (record_syntax at x (earlier ++ n ∷ []))))
+reads_notes (m ∷ ns) n depth at x earlier tokens mid rest s fits f =
+    let owner : Owner = OfName at x earlier in
+    let more : Owner = OfName at x (earlier ++ n ∷ []) in
+    let done : TypeState = HaveType depth (record_syntax at x (earlier ++ n ∷ m ∷ ns)) in
+    let parts : (earlier ++ n ∷ []) ++ m ∷ ns ≡ earlier ++ n ∷ m ∷ ns = append_assoc earlier (n ∷ []) (m ∷ ns) in
     type_then (InNote depth owner NeedNote) (InNote depth owner (note_into n)) done tokens s.0 rest (reads_note depth owner n tokens s.0 s.2 fits.0)
     (
     type_then (InNote depth owner (note_into n)) (InNote depth more NeedNote) done s.0 s.1 rest
     (ends_with depth owner n (kind.Sign symbol.Comma) (InNote depth more NeedNote) s.0 s.1 fits.0 s.3 refl refl (note_is depth more NeedNote))
-    (subst (λ w. TypeReaches (InNote depth more NeedNote) s.1 (HaveType depth (record_syntax at x w)) rest) parts (reads_notes ns m depth at x (front ++ n ∷ []) s.1 mid rest s.4 fits.1 f))
+    (subst (λ w. TypeReaches (InNote depth more NeedNote) s.1 (HaveType depth (record_syntax at x w)) rest) parts (reads_notes ns m depth at x (earlier ++ n ∷ []) s.1 mid rest s.4 fits.1 f))
     )
 
 -- angle brackets behind a name, if there are notes

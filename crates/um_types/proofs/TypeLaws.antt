@@ -11,8 +11,8 @@ use Rattle.um_types.specs.TypeGrammar.{TypeSpells, TypeFits}
 use Rattle.um_types.specs.TypeHeights.{note_height, notes_height, units_height, whole_height}
 use Rattle.um_types.specs.NoteMachine.{NoteState, NeedNote, HaveHole, InUnit, NoNote, note_step, note_finish, note_least}
 use Rattle.um_types.specs.TypeMachine.{Owner, OfNum, OfName, TypeState, NeedType, HaveType, InNote, NoType, type_begin, open_angle, close_bracket, type_after, owned, next_note, note_end, note_ends, note_goes, type_step, type_finish, owner_height, type_least}
-use Rattle.um_types.proofs.NoteLaws.{NoteStands, note_ending, note_completed, note_can_end, note_completed_height, note_up, note_found_height}
-use Rattle.um_types.proofs.TypeSound.{OpenBrackets, TypeStands, owned_spells, owned_fits}
+use Rattle.um_types.proofs.NoteLaws.{NoteSpellsPrefix, note_ending, note_completed, note_can_end, note_completed_height, note_up, note_found_height}
+use Rattle.um_types.proofs.TypeSound.{OpenBrackets, TypeSpellsPrefix, owned_spells, owned_fits}
 
 abbrev bool_token : Token
 bool_token = record { kind = kind.Word keyword.Bool; start = 0; end = 0; glued = false }
@@ -54,14 +54,14 @@ wrapped_fits zero t fits = fits
 wrapped_fits (suc depth) t fits = wrapped_fits depth (bracket_type_syntax t) fits
 
 -- what isn't refused can be completed
-pub type_can_end : (st : TypeState) (tokens rest : List Token) → TypeStands st tokens (type_ending st ++ rest) → st ≢ NoType → TypeSpells (type_completed st) tokens rest × TypeFits (type_completed st)
+pub type_can_end : (st : TypeState) (tokens rest : List Token) → TypeSpellsPrefix st tokens (type_ending st ++ rest) → st ≢ NoType → TypeSpells (type_completed st) tokens rest × TypeFits (type_completed st)
 type_can_end (NeedType depth) tokens rest h ok =
     (closes_spell depth bool_syntax tokens (bool_token ∷ (closes depth ++ rest)) rest h (bool_token, refl, refl), wrapped_fits depth bool_syntax tt)
 type_can_end (HaveType depth t) tokens rest h ok = (closes_spell depth t tokens h.0 rest h.1 h.2, wrapped_fits depth t h.3)
 type_can_end (InNote depth owner n) tokens rest h ok =
     let behind : List Token = closes depth ++ rest in
     let parts : (note_ending n ++ greater_token ∷ closes depth) ++ rest ≡ note_ending n ++ (greater_token ∷ behind) = append_assoc (note_ending n) (greater_token ∷ closes depth) rest in
-    let p = note_can_end n h.1 (greater_token ∷ behind) (subst (λ w. NoteStands n h.1 w) parts h.5) h.6 in
+    let p = note_can_end n h.1 (greater_token ∷ behind) (subst (λ w. NoteSpellsPrefix n h.1 w) parts h.5) h.6 in
     let t : TypeSyntax = owned owner (note_completed n) in (
       closes_spell depth t tokens h.0 rest h.2 (owned_spells owner (note_completed n) h.0 h.1 (greater_token ∷ behind) behind h.3 p.0 (greater_token, refl, refl)),
       wrapped_fits depth t (owned_fits owner (note_completed n) h.4 p.1),
@@ -74,16 +74,16 @@ wrapped_height : (depth : ℕ) (t : TypeSyntax) → whole_height (wrapped depth 
 wrapped_height zero t = omega arith
 wrapped_height (suc depth) t = let e = wrapped_height depth (bracket_type_syntax t) in omega (arith, e)
 
-pub notes_height_last : (front : List NoteSyntax) (n : NoteSyntax) → notes_height (front ++ n ∷ []) ≡ max (notes_height front) (note_height n)
+pub notes_height_last : (earlier : List NoteSyntax) (n : NoteSyntax) → notes_height (earlier ++ n ∷ []) ≡ max (notes_height earlier) (note_height n)
 notes_height_last [] n = omega arith
 notes_height_last (m ∷ ns) n = let e = notes_height_last ns n in omega (arith, e)
 
 pub owned_height : (owner : Owner) (n : NoteSyntax) → (type_height (owned owner n) ≡ 1) × (units_height (owned owner n) ≡ max (owner_height owner) (note_height n))
 owned_height OfNum n = (refl, omega arith)
-owned_height (OfName at x front) n = (refl, notes_height_last front n)
+owned_height (OfName at x earlier) n = (refl, notes_height_last earlier n)
 
 -- it is that of the completion
-pub type_completed_height : (st : TypeState) (tokens rest : List Token) → TypeStands st tokens rest → st ≢ NoType → whole_height (type_completed st) ≡ type_least st
+pub type_completed_height : (st : TypeState) (tokens rest : List Token) → TypeSpellsPrefix st tokens rest → st ≢ NoType → whole_height (type_completed st) ≡ type_least st
 type_completed_height (NeedType depth) tokens rest h ok = wrapped_height depth bool_syntax ∙ omega arith
 type_completed_height (HaveType depth t) tokens rest h ok = wrapped_height depth t
 type_completed_height (InNote depth owner n) tokens rest h ok =
@@ -121,7 +121,7 @@ after_up depth t _ ok = absurd (ok refl)
 
 comma_up : (depth : ℕ) (owner : Owner) (n : NoteSyntax) → next_note depth owner n ≢ NoType → max (depth + 1) (max (owner_height owner) (note_height n)) ≤ type_least (next_note depth owner n)
 comma_up depth OfNum n ok = absurd (ok refl)
-comma_up depth (OfName at x front) n ok = let e = notes_height_last front n in omega (arith, e)
+comma_up depth (OfName at x earlier) n ok = let e = notes_height_last earlier n in omega (arith, e)
 
 greater_up : (depth : ℕ) (owner : Owner) (n : NoteSyntax) → max (depth + 1) (max (owner_height owner) (note_height n)) ≤ type_least (HaveType depth (owned owner n))
 greater_up depth owner n = let e = owned_height owner n in omega (arith, e.0, e.1)

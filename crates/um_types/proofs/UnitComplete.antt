@@ -14,8 +14,8 @@ inside (u ∷ us) frames = InSide (u ∷ us) ∷ frames
 
 -- the state once a front, a unit and some more of a juxtaposition were read
 abbrev pub behind : List Frame → List UnitSyntax → UnitSyntax → UnitSyntaxes → State
-behind frames front u no_units = Have (inside front frames) u
-behind frames front u (more_units v us) = behind frames (front ++ u ∷ []) v us
+behind frames earlier u no_units = Have (inside earlier frames) u
+behind frames earlier u (more_units v us) = behind frames (earlier ++ u ∷ []) v us
 
 abbrev pub into_side : List Frame → UnitSyntaxes → State
 into_side frames no_units = Refused
@@ -42,11 +42,11 @@ abbrev pub put : List UnitSyntax → UnitSyntaxes → UnitSyntaxes
 put [] us = us
 put (x ∷ xs) us = more_units x (put xs us)
 
-put_last : (front : List UnitSyntax) (u : UnitSyntax) (us : UnitSyntaxes) → put (front ++ u ∷ []) us ≡ put front (more_units u us)
+put_last : (earlier : List UnitSyntax) (u : UnitSyntax) (us : UnitSyntaxes) → put (earlier ++ u ∷ []) us ≡ put earlier (more_units u us)
 put_last [] u us = refl
 put_last (x ∷ xs) u us = ap (more_units x) (put_last xs u us)
 
-pub order_last : (front : List UnitSyntax) (u : UnitSyntax) → units_in_order (front ++ u ∷ []) ≡ put front (more_units u no_units)
+pub order_last : (earlier : List UnitSyntax) (u : UnitSyntax) → units_in_order (earlier ++ u ∷ []) ≡ put earlier (more_units u no_units)
 order_last [] u = refl
 order_last (x ∷ xs) u = ap (more_units x) (order_last xs u)
 
@@ -108,32 +108,32 @@ on_close (Lowered frames t) at = refl
 on_close Refused at = refl
 
 -- what was read ends in a unit at hand
-abbrev pub AtHand : State → Type 0
-AtHand (Have frames t) = Unit {0}
-AtHand _ = ⊥
+abbrev pub IsAtOperand : State → Type 0
+IsAtOperand (Have frames t) = Unit {0}
+IsAtOperand _ = ⊥
 
-behind_hand : (us : UnitSyntaxes) (frames : List Frame) (front : List UnitSyntax) (u : UnitSyntax) → AtHand (behind frames front u us)
-behind_hand no_units frames front u = tt
-behind_hand (more_units v us) frames front u = behind_hand us frames (front ++ u ∷ []) v
+behind_hand : (us : UnitSyntaxes) (frames : List Frame) (earlier : List UnitSyntax) (u : UnitSyntax) → IsAtOperand (behind frames earlier u us)
+behind_hand no_units frames earlier u = tt
+behind_hand (more_units v us) frames earlier u = behind_hand us frames (earlier ++ u ∷ []) v
 
-pub into_hand : (t : UnitSyntax) (frames : List Frame) → Fits t → AtHand (into frames t)
-into_hand (one_syntax at) frames fits = tt
-into_hand (measure_syntax at x) frames fits = tt
-into_hand (variable_syntax at x) frames fits = tt
-into_hand (power_syntax u k) frames fits = tt
-into_hand (side_syntax no_units) frames fits = absurd fits.0
-into_hand (side_syntax (more_units u us)) frames fits = behind_hand us frames [] u
-into_hand (times_syntax u v) frames fits = into_hand v (InTimes u ∷ frames) fits.2
-into_hand (over_syntax u v) frames fits = into_hand v (InOver u ∷ frames) fits.2
-into_hand (inverse_syntax at u) frames fits = into_hand u (InInverse at ∷ frames) fits.1
-into_hand (bracket_syntax at u) frames fits = tt
+pub into_operand : (t : UnitSyntax) (frames : List Frame) → Fits t → IsAtOperand (into frames t)
+into_operand (one_syntax at) frames fits = tt
+into_operand (measure_syntax at x) frames fits = tt
+into_operand (variable_syntax at x) frames fits = tt
+into_operand (power_syntax u k) frames fits = tt
+into_operand (side_syntax no_units) frames fits = absurd fits.0
+into_operand (side_syntax (more_units u us)) frames fits = behind_hand us frames [] u
+into_operand (times_syntax u v) frames fits = into_operand v (InTimes u ∷ frames) fits.2
+into_operand (over_syntax u v) frames fits = into_operand v (InOver u ∷ frames) fits.2
+into_operand (inverse_syntax at u) frames fits = into_operand u (InInverse at ∷ frames) fits.1
+into_operand (bracket_syntax at u) frames fits = tt
 
-hand_reads : (st : State) → AtHand st → Reading st
-hand_reads (Have frames t) h = tt
-hand_reads (Need frames) h = absurd h
-hand_reads (Raised frames t) h = absurd h
-hand_reads (Lowered frames t) h = absurd h
-hand_reads Refused h = absurd h
+operand_reads : (st : State) → IsAtOperand st → Reading st
+operand_reads (Have frames t) h = tt
+operand_reads (Need frames) h = absurd h
+operand_reads (Raised frames t) h = absurd h
+operand_reads (Lowered frames t) h = absurd h
+operand_reads Refused h = absurd h
 
 -- where a product may stand, nothing ends
 wide_stays : (frames : List Frame) (t : UnitSyntax) → 3 ≤ top_limit frames → reduce frames t ≡ Have frames t
@@ -142,7 +142,7 @@ wide_stays (InBracket at ∷ frames) t le = refl
 wide_stays (InInverse at ∷ frames) t le = absurd (omega arith)
 wide_stays (InTimes left ∷ frames) t le = absurd (omega arith)
 wide_stays (InOver left ∷ frames) t le = absurd (omega arith)
-wide_stays (InSide front ∷ frames) t le = absurd (omega arith)
+wide_stays (InSide earlier ∷ frames) t le = absurd (omega arith)
 
 pub wide_opens : (frames : List Frame) → 3 ≤ top_limit frames → opens frames ≡ true
 wide_opens [] le = refl
@@ -150,7 +150,7 @@ wide_opens (InBracket at ∷ frames) le = refl
 wide_opens (InInverse at ∷ frames) le = absurd (omega arith)
 wide_opens (InTimes left ∷ frames) le = absurd (omega arith)
 wide_opens (InOver left ∷ frames) le = absurd (omega arith)
-wide_opens (InSide front ∷ frames) le = absurd (omega arith)
+wide_opens (InSide earlier ∷ frames) le = absurd (omega arith)
 
 -- ---- one token
 
@@ -181,16 +181,16 @@ starts (times_syntax u v) frames t tokens rest s fits le = absurd (omega arith)
 starts (over_syntax u v) frames t tokens rest s fits le = absurd (omega arith)
 starts (inverse_syntax at u) frames t tokens rest s fits le = absurd (omega arith)
 
-pub juxtapose_side : (front : List UnitSyntax) (frames : List Frame) (u : UnitSyntax) → 2 ≤ top_limit frames → juxtapose (inside front frames) u ≡ InSide (front ++ u ∷ []) ∷ frames
+pub juxtapose_side : (earlier : List UnitSyntax) (frames : List Frame) (u : UnitSyntax) → 2 ≤ top_limit frames → juxtapose (inside earlier frames) u ≡ InSide (earlier ++ u ∷ []) ∷ frames
 juxtapose_side (x ∷ xs) frames u le = refl
 juxtapose_side [] [] u le = refl
 juxtapose_side [] (InBracket at ∷ frames) u le = refl
 juxtapose_side [] (InInverse at ∷ frames) u le = refl
 juxtapose_side [] (InTimes left ∷ frames) u le = refl
 juxtapose_side [] (InOver left ∷ frames) u le = refl
-juxtapose_side [] (InSide front ∷ frames) u le = absurd (omega arith)
+juxtapose_side [] (InSide earlier ∷ frames) u le = absurd (omega arith)
 
-inside_last : (front : List UnitSyntax) (u : UnitSyntax) (frames : List Frame) → inside (front ++ u ∷ []) frames ≡ InSide (front ++ u ∷ []) ∷ frames
+inside_last : (earlier : List UnitSyntax) (u : UnitSyntax) (frames : List Frame) → inside (earlier ++ u ∷ []) frames ≡ InSide (earlier ++ u ∷ []) ∷ frames
 inside_last [] u frames = refl
 inside_last (x ∷ xs) u frames = refl
 
@@ -228,7 +228,7 @@ after_times frames u at fits le = on_times (into frames u) at ∙ ap times_after
 
 after_over : (frames : List Frame) (u : UnitSyntax) (at : ℕ) → Fits u → 4 ≤ top_limit frames → act (into frames u) (sign symbol.Slash) at ≡ Need (InOver u ∷ frames)
 after_over frames u at fits le =
-    on_over (into frames u) at (hand_reads (into frames u) (into_hand u frames fits)) ∙ ap over_after (red_into u frames fits ∙ wide_stays frames u (omega arith))
+    on_over (into frames u) at (operand_reads (into frames u) (into_operand u frames fits)) ∙ ap over_after (red_into u frames fits ∙ wide_stays frames u (omega arith))
 
 mutual
   pub complete : (t : UnitSyntax) (frames : List Frame) (tokens rest : List Token) → Spells t tokens rest → Fits t → rank t ≤ top_limit frames
@@ -262,12 +262,12 @@ mutual
       ∙ then_first (into (InBracket at ∷ frames) u) (Have frames (bracket_syntax at u)) (sign symbol.RightParen) s.1 rest s.4
       (λ m. on_close (into (InBracket at ∷ frames) u) m ∙ ap close_after (red_into u (InBracket at ∷ frames) fits))
 
-  complete_side : (us : UnitSyntaxes) (frames : List Frame) (front : List UnitSyntax) (u : UnitSyntax) (tokens rest : List Token) → AllSpell us tokens rest → ArePowers us → 2 ≤ top_limit frames
-      → run (Have (inside front frames) u) tokens ≡ run (behind frames front u us) rest
-  complete_side no_units frames front u tokens rest s fits le = ap (run (Have (inside front frames) u)) s
-  complete_side (more_units v us) frames front u tokens rest s fits le =
-      starts v (inside front frames) u tokens s.0 s.1 fits.1 fits.0
-      ∙ ap (λ fs. run (Need fs) tokens) (juxtapose_side front frames u le)
-      ∙ complete v (InSide (front ++ u ∷ []) ∷ frames) tokens s.0 s.1 fits.1 fits.0
-      ∙ ap (λ st. run st s.0) (into_atom (InSide (front ++ u ∷ []) ∷ frames) v fits.0 ∙ ap (λ fs. Have fs v) (sym (inside_last front u frames)))
-      ∙ complete_side us frames (front ++ u ∷ []) v s.0 rest s.2 fits.2 le
+  complete_side : (us : UnitSyntaxes) (frames : List Frame) (earlier : List UnitSyntax) (u : UnitSyntax) (tokens rest : List Token) → AllSpell us tokens rest → ArePowers us → 2 ≤ top_limit frames
+      → run (Have (inside earlier frames) u) tokens ≡ run (behind frames earlier u us) rest
+  complete_side no_units frames earlier u tokens rest s fits le = ap (run (Have (inside earlier frames) u)) s
+  complete_side (more_units v us) frames earlier u tokens rest s fits le =
+      starts v (inside earlier frames) u tokens s.0 s.1 fits.1 fits.0
+      ∙ ap (λ fs. run (Need fs) tokens) (juxtapose_side earlier frames u le)
+      ∙ complete v (InSide (earlier ++ u ∷ []) ∷ frames) tokens s.0 s.1 fits.1 fits.0
+      ∙ ap (λ st. run st s.0) (into_atom (InSide (earlier ++ u ∷ []) ∷ frames) v fits.0 ∙ ap (λ fs. Have fs v) (sym (inside_last earlier u frames)))
+      ∙ complete_side us frames (earlier ++ u ∷ []) v s.0 rest s.2 fits.2 le

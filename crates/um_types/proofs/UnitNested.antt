@@ -35,24 +35,24 @@ unit_reaches u tokens rest s fits =
     let c = cut_unit u tokens rest s fits in (c.0, c.1, runs_unit c.0 (Need []) ∙ reads_as u c.0 c.2, into_goes_on u fits)
 
 -- the tokens up to the rest are those of the state, which hasn't refused
-abbrev pub UnitStands : State → List Token → List Token → Type 0
-UnitStands u tokens rest = (read : List Token) × (tokens ≡ read ++ rest) × (run (Need []) read ≡ u) × (u ≢ Refused)
+abbrev pub UnitSpellsPrefix : State → List Token → List Token → Type 0
+UnitSpellsPrefix u tokens rest = (read : List Token) × (tokens ≡ read ++ rest) × (run (Need []) read ≡ u) × (u ≢ Refused)
 
-pub unit_begins : (tokens : List Token) → UnitStands (Need []) tokens tokens
+pub unit_begins : (tokens : List Token) → UnitSpellsPrefix (Need []) tokens tokens
 unit_begins tokens = ([], refl, refl, (λ e. cc))
 
 -- the token that is read goes over to the state
-pub unit_sound : (u : State) (x : Token) (tokens rest : List Token) → UnitStands u tokens (x ∷ rest) → unit_step u x ≢ Refused → UnitStands (unit_step u x) tokens rest
+pub unit_sound : (u : State) (x : Token) (tokens rest : List Token) → UnitSpellsPrefix u tokens (x ∷ rest) → unit_step u x ≢ Refused → UnitSpellsPrefix (unit_step u x) tokens rest
 unit_sound u x tokens rest h ok =
     (h.0 ++ x ∷ [], h.1 ∙ sym (append_assoc h.0 (x ∷ []) rest), run_append h.0 (x ∷ []) (Need []) ∙ ap (λ s. unit_step s x) h.2, ok)
 
 -- what is found is a unit text
-pub unit_found : (u : State) (t : UnitSyntax) (tokens rest : List Token) → UnitStands u tokens rest → finish u ≡ Some t → Spells t tokens rest × Fits t
+pub unit_found : (u : State) (t : UnitSyntax) (tokens rest : List Token) → UnitSpellsPrefix u tokens rest → finish u ≡ Some t → Spells t tokens rest × Fits t
 unit_found u t tokens rest h e =
     let p : IsUnit h.0 t = found h.0 t (ap finish h.2 ∙ e) in (subst (λ s. Spells t s rest) (sym h.1) (unit_before t h.0 rest p), p.fits)
 
 -- what isn't refused can be completed
-pub unit_can_end : (u : State) (tokens rest : List Token) → UnitStands u tokens (ending_of u ++ rest) → Spells (completed u) tokens rest × Fits (completed u)
+pub unit_can_end : (u : State) (tokens rest : List Token) → UnitSpellsPrefix u tokens (ending_of u ++ rest) → Spells (completed u) tokens rest × Fits (completed u)
 unit_can_end u tokens rest h =
     let run_ok : run (Need []) h.0 ≢ Refused = λ e. h.3 (sym h.2 ∙ e) in
     let p : IsUnit (h.0 ++ ending_of u) (completed u) = subst (λ s. IsUnit (h.0 ++ ending_of s) (completed s)) h.2 (can_go_on h.0 run_ok) in

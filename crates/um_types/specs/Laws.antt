@@ -20,15 +20,15 @@ use Rattle.um_types.specs.NoteMachine.{NeedNote, note_act, note_step, note_finis
 use Rattle.um_types.specs.NoteTakes.{note_state, NoteTakes}
 use Rattle.um_types.specs.TypeMachine.{NeedType, type_act, type_step, type_finish}
 use Rattle.um_types.specs.TypeTakes.{type_state, TypeTakes}
-use Rattle.um_types.specs.declared.unit_take.UnitReader.{UnitReader}
-use Rattle.um_types.specs.declared.unit_take.UnitStep.{UnitStep}
-use Rattle.um_types.specs.declared.unit_take.UnitStep.TheVariants as unit
-use Rattle.um_types.specs.declared.note_take.NoteReader.{NoteReader}
-use Rattle.um_types.specs.declared.note_take.NoteStep.{NoteStep}
-use Rattle.um_types.specs.declared.note_take.NoteStep.TheVariants as note
-use Rattle.um_types.specs.declared.type_take.TypeReader.{TypeReader}
-use Rattle.um_types.specs.declared.type_take.TypeStep.{TypeStep}
-use Rattle.um_types.specs.declared.type_take.TypeStep.TheVariants as type
+use Rattle.um_types.specs.declared.unit_reader.UnitReader.{UnitReader}
+use Rattle.um_types.specs.declared.unit_reader.UnitStep.{UnitStep}
+use Rattle.um_types.specs.declared.unit_reader.UnitStep.TheVariants as unit
+use Rattle.um_types.specs.declared.note_reader.NoteReader.{NoteReader}
+use Rattle.um_types.specs.declared.note_reader.NoteStep.{NoteStep}
+use Rattle.um_types.specs.declared.note_reader.NoteStep.TheVariants as note
+use Rattle.um_types.specs.declared.type_reader.TypeReader.{TypeReader}
+use Rattle.um_types.specs.declared.type_reader.TypeStep.{TypeStep}
+use Rattle.um_types.specs.declared.type_reader.TypeStep.TheVariants as type
 
 -- ---- one tree a list of tokens
 
@@ -62,7 +62,8 @@ pub record HasOneSignatureAnswer (tokens : List Token) : Type 0 where
   pub one_failure : (j k : ℕ) → SignatureFails tokens j → SignatureFails tokens k → j ≡ k
   pub one_high : (j k : ℕ) → SignatureHighAt tokens j → SignatureHighAt tokens k → j ≡ k
   pub signature_or_failure : (ts : List TypeSyntax) (k : ℕ) → IsSignature tokens ts → SignatureFails tokens k → ⊥
-  pub signature_or_high : (ts : List TypeSyntax) (k : ℕ) → IsSignature tokens ts → all_height ts ≤ greatest_height → SignatureHighAt tokens k → ⊥
+  pub signature_or_high : (ts : List TypeSyntax) (k : ℕ) → IsSignature tokens ts → all_height ts ≤ greatest_height
+      → SignatureHighAt tokens k → ⊥
   pub failure_or_high : (j k : ℕ) → SignatureFails tokens j → SignatureHighAt tokens k → ⊥
 
 abbrev pub SignatureAnswersExclude : Type 0
@@ -80,13 +81,15 @@ HasTakenNote reader read = note_state reader ≡ runs note_step NeedNote read
 abbrev pub HasTakenType : TypeReader → List Token → Type 0
 HasTakenType reader read = type_state reader ≡ runs type_step (NeedType 0) read
 
--- What one token more tells: the reader goes on, and the tokens through it begin a text within the heights; or they begin
+-- What one token more tells: the reader goes on, and the tokens through it begin a text within the heights; or they
+-- begin
 -- texts, but none within the heights; or they begin none, and what was found is the tree of the tokens before it.
 abbrev pub UnitTokenTells : List Token → Token → UnitStep → Type 0
 UnitTokenTells read token (unit.Goes reader) =
     HasTakenUnit reader (read ++ token ∷ []) × BeginsTextWithin IsUnit unit_height greatest_height (read ++ token ∷ [])
 UnitTokenTells read token unit.High =
-    BeginsText IsUnit (read ++ token ∷ []) × (BeginsTextWithin IsUnit unit_height greatest_height (read ++ token ∷ []) → ⊥)
+    BeginsText IsUnit (read ++ token ∷ [])
+    × (BeginsTextWithin IsUnit unit_height greatest_height (read ++ token ∷ []) → ⊥)
 UnitTokenTells read token (unit.Stops found) =
     (BeginsText IsUnit (read ++ token ∷ []) → ⊥) × IsTreeOf IsUnit read (option_map unit_syntax found)
 
@@ -94,7 +97,8 @@ abbrev pub NoteTokenTells : List Token → Token → NoteStep → Type 0
 NoteTokenTells read token (note.Goes reader) =
     HasTakenNote reader (read ++ token ∷ []) × BeginsTextWithin IsNote note_height greatest_height (read ++ token ∷ [])
 NoteTokenTells read token note.High =
-    BeginsText IsNote (read ++ token ∷ []) × (BeginsTextWithin IsNote note_height greatest_height (read ++ token ∷ []) → ⊥)
+    BeginsText IsNote (read ++ token ∷ [])
+    × (BeginsTextWithin IsNote note_height greatest_height (read ++ token ∷ []) → ⊥)
 NoteTokenTells read token (note.Stops found) =
     (BeginsText IsNote (read ++ token ∷ []) → ⊥) × IsTreeOf IsNote read (option_map note_syntax found)
 
@@ -102,7 +106,8 @@ abbrev pub TypeTokenTells : List Token → Token → TypeStep → Type 0
 TypeTokenTells read token (type.Goes reader) =
     HasTakenType reader (read ++ token ∷ []) × BeginsTextWithin IsType whole_height greatest_height (read ++ token ∷ [])
 TypeTokenTells read token type.High =
-    BeginsText IsType (read ++ token ∷ []) × (BeginsTextWithin IsType whole_height greatest_height (read ++ token ∷ []) → ⊥)
+    BeginsText IsType (read ++ token ∷ [])
+    × (BeginsTextWithin IsType whole_height greatest_height (read ++ token ∷ []) → ⊥)
 TypeTokenTells read token (type.Stops found) =
     (BeginsText IsType (read ++ token ∷ []) → ⊥) × IsTreeOf IsType read (option_map type_syntax found)
 
@@ -114,11 +119,13 @@ UnitReaderTells = (reader : UnitReader) (read : List Token) (token : Token) (ste
 
 abbrev pub NoteReaderTells : Type 0
 NoteReaderTells = (reader : NoteReader) (read : List Token) (token : Token) (step : NoteStep) → HasTakenNote reader read
-    → NoteTakes (note_state reader) (note_act (note_state reader) token.kind token.start) step → NoteTokenTells read token step
+    → NoteTakes (note_state reader) (note_act (note_state reader) token.kind token.start) step
+    → NoteTokenTells read token step
 
 abbrev pub TypeReaderTells : Type 0
 TypeReaderTells = (reader : TypeReader) (read : List Token) (token : Token) (step : TypeStep) → HasTakenType reader read
-    → TypeTakes (type_state reader) (type_act (type_state reader) token.kind token.start) step → TypeTokenTells read token step
+    → TypeTakes (type_state reader) (type_act (type_state reader) token.kind token.start) step
+    → TypeTokenTells read token step
 
 -- What `finish` ensures at the end of the tokens tells this: the tree of all of them, or that no tree has them.
 abbrev pub UnitReaderFinds : Type 0
@@ -127,8 +134,10 @@ UnitReaderFinds = (reader : UnitReader) (read : List Token) (found : Option RawU
 
 abbrev pub NoteReaderFinds : Type 0
 NoteReaderFinds = (reader : NoteReader) (read : List Token) (found : Option RawNote) → HasTakenNote reader read
-    → option_map note_syntax found ≡ note_finish (note_state reader) → IsTreeOf IsNote read (option_map note_syntax found)
+    → option_map note_syntax found ≡ note_finish (note_state reader)
+    → IsTreeOf IsNote read (option_map note_syntax found)
 
 abbrev pub TypeReaderFinds : Type 0
 TypeReaderFinds = (reader : TypeReader) (read : List Token) (found : Option RawType) → HasTakenType reader read
-    → option_map type_syntax found ≡ type_finish (type_state reader) → IsTreeOf IsType read (option_map type_syntax found)
+    → option_map type_syntax found ≡ type_finish (type_state reader)
+    → IsTreeOf IsType read (option_map type_syntax found)

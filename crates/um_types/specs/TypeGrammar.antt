@@ -50,13 +50,16 @@ NoteSpells (unit_note_syntax at u) tokens rest = BeginsAt at tokens × Spells u 
 abbrev pub NotesSpell : List NoteSyntax → List Token → List Token → Type 0
 NotesSpell [] tokens rest = ⊥
 NotesSpell (n ∷ []) tokens rest = NoteSpells n tokens rest
-NotesSpell (n ∷ m ∷ ns) tokens rest = (mid next : List Token) × NoteSpells n tokens mid × FirstSign symbol.Comma mid next × NotesSpell (m ∷ ns) next rest
+NotesSpell (n ∷ m ∷ ns) tokens rest =
+    (mid next : List Token) × NoteSpells n tokens mid × FirstSign symbol.Comma mid next
+    × NotesSpell (m ∷ ns) next rest
 
 -- notes in angle brackets, or nothing where there are none
 abbrev pub AngledSpell : List NoteSyntax → List Token → List Token → Type 0
 AngledSpell [] tokens rest = tokens ≡ rest
 AngledSpell (n ∷ ns) tokens rest =
-    (next last : List Token) × FirstSign symbol.Less tokens next × NotesSpell (n ∷ ns) next last × FirstSign symbol.Greater last rest
+    (next last : List Token) × FirstSign symbol.Less tokens next × NotesSpell (n ∷ ns) next last
+    × FirstSign symbol.Greater last rest
 
 abbrev pub at_most_one : Option NoteSyntax → List NoteSyntax
 at_most_one None = []
@@ -65,11 +68,15 @@ at_most_one (Some n) = n ∷ []
 -- the tokens are those of the type text, and then the rest
 abbrev pub TypeSpells : TypeSyntax → List Token → List Token → Type 0
 TypeSpells bool_syntax tokens rest = FirstWord keyword.Bool tokens rest
-TypeSpells (num_syntax n) tokens rest = (next : List Token) × FirstWord keyword.Num tokens next × AngledSpell (at_most_one n) next rest
-TypeSpells (record_syntax at x ns) tokens rest = (next : List Token) × FirstName at x tokens next × AngledSpell ns next rest
-TypeSpells (list_type_syntax t) tokens rest = (mid : List Token) × TypeSpells t tokens mid × FirstWord keyword.List mid rest
+TypeSpells (num_syntax n) tokens rest =
+    (next : List Token) × FirstWord keyword.Num tokens next × AngledSpell (at_most_one n) next rest
+TypeSpells (record_syntax at x ns) tokens rest =
+    (next : List Token) × FirstName at x tokens next × AngledSpell ns next rest
+TypeSpells (list_type_syntax t) tokens rest =
+    (mid : List Token) × TypeSpells t tokens mid × FirstWord keyword.List mid rest
 TypeSpells (bracket_type_syntax t) tokens rest =
-    (next last : List Token) × FirstSign symbol.LeftParen tokens next × TypeSpells t next last × FirstSign symbol.RightParen last rest
+    (next last : List Token) × FirstSign symbol.LeftParen tokens next × TypeSpells t next last
+    × FirstSign symbol.RightParen last rest
 
 -- each unit text in it is one of the grammar; a type may stand at each place where the rules above put one
 abbrev pub NoteFits : NoteSyntax → Type 0

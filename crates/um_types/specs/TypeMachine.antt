@@ -1,4 +1,5 @@
--- Reading a type text token by token, with the machine of notes inside. Of what is open only brackets have to be counted.
+-- Reading a type text token by token, with the machine of notes inside. Of what is open only brackets have to be
+-- counted.
 -- Where the note inside refuses a token, it ends, and the token is looked at again.
 -- Source: this project's own.
 use Rattle.std.specs.Prelude.{ℕ, zero, suc, ◌+◌, max, List, [], ◌∷◌, ◌++◌, Option, Some, None}
@@ -15,12 +16,12 @@ use Rattle.um_types.specs.NoteMachine.{NoteState, NeedNote, HaveHole, InUnit, No
 -- what the angle brackets belong to: `num`, or a name with the notes before the comma
 pub data Owner : Type 0 where
   OfNum : Owner
-  OfName : (at : ℕ) (name : List ℕ) (front : List NoteSyntax) → Owner
+  OfName : (at : ℕ) (name : List ℕ) (earlier : List NoteSyntax) → Owner
 
 -- each with the number of brackets that are open
 pub data TypeState : Type 0 where
   NeedType : (depth : ℕ) → TypeState
-  HaveType : (depth : ℕ) (at_hand : TypeSyntax) → TypeState
+  HaveType : (depth : ℕ) (operand : TypeSyntax) → TypeState
   InNote : (depth : ℕ) (owner : Owner) (note : NoteState) → TypeState
   NoType : TypeState
 
@@ -61,12 +62,12 @@ type_after depth t _ = NoType
 -- the type with its last note
 abbrev pub owned : Owner → NoteSyntax → TypeSyntax
 owned OfNum n = num_syntax (Some n)
-owned (OfName at x front) n = record_syntax at x (front ++ n ∷ [])
+owned (OfName at x earlier) n = record_syntax at x (earlier ++ n ∷ [])
 
 -- a comma behind a note
 abbrev pub next_note : ℕ → Owner → NoteSyntax → TypeState
 next_note depth OfNum n = NoType
-next_note depth (OfName at x front) n = InNote depth (OfName at x (front ++ n ∷ [])) NeedNote
+next_note depth (OfName at x earlier) n = InNote depth (OfName at x (earlier ++ n ∷ [])) NeedNote
 
 -- the token behind a note
 abbrev pub note_end : ℕ → Owner → NoteSyntax → Kind → TypeState
@@ -106,7 +107,7 @@ type_finish NoType = None
 
 abbrev pub owner_height : Owner → ℕ
 owner_height OfNum = 0
-owner_height (OfName at x front) = notes_height front
+owner_height (OfName at x earlier) = notes_height earlier
 
 -- the least that the greatest of the heights in a type text is that begins with what was read
 abbrev pub type_least : TypeState → ℕ

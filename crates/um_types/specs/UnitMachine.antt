@@ -13,13 +13,13 @@ pub data Frame : Type 0 where
   InTimes : (left : UnitSyntax) → Frame
   InOver : (left : UnitSyntax) → Frame
   -- behind these of a juxtaposition
-  InSide : (front : List UnitSyntax) → Frame
+  InSide : (earlier : List UnitSyntax) → Frame
 
 pub data State : Type 0 where
   -- an atom is wanted, or a leading `/`
   Need : (frames : List Frame) → State
   -- an atom or a power is at hand
-  Have : (frames : List Frame) (at_hand : UnitSyntax) → State
+  Have : (frames : List Frame) (operand : UnitSyntax) → State
   -- behind `^`; behind `^` and `-`
   Raised : (frames : List Frame) (base : UnitSyntax) → State
   Lowered : (frames : List Frame) (base : UnitSyntax) → State
@@ -32,7 +32,7 @@ top_limit (InBracket at ∷ frames) = 4
 top_limit (InInverse at ∷ frames) = 2
 top_limit (InTimes left ∷ frames) = 2
 top_limit (InOver left ∷ frames) = 2
-top_limit (InSide front ∷ frames) = 1
+top_limit (InSide earlier ∷ frames) = 1
 
 -- a unit text begins here
 abbrev pub opens : List Frame → Bool
@@ -41,7 +41,7 @@ opens (InBracket at ∷ frames) = true
 opens (InInverse at ∷ frames) = false
 opens (InTimes left ∷ frames) = false
 opens (InOver left ∷ frames) = false
-opens (InSide front ∷ frames) = false
+opens (InSide earlier ∷ frames) = false
 
 -- what a frame is with its last part; brackets need a token more
 abbrev pub plug : Frame → UnitSyntax → UnitSyntax
@@ -49,7 +49,7 @@ plug (InBracket at) t = t
 plug (InInverse at) t = inverse_syntax at t
 plug (InTimes left) t = times_syntax left t
 plug (InOver left) t = over_syntax left t
-plug (InSide front) t = side_syntax (units_in_order (front ++ t ∷ []))
+plug (InSide earlier) t = side_syntax (units_in_order (earlier ++ t ∷ []))
 
 -- what is left open where all ends up to the innermost brackets
 abbrev pub reduce : List Frame → UnitSyntax → State
@@ -58,7 +58,7 @@ reduce (InBracket at ∷ frames) t = Have (InBracket at ∷ frames) t
 reduce (InInverse at ∷ frames) t = reduce frames (inverse_syntax at t)
 reduce (InTimes left ∷ frames) t = reduce frames (times_syntax left t)
 reduce (InOver left ∷ frames) t = reduce frames (over_syntax left t)
-reduce (InSide front ∷ frames) t = reduce frames (side_syntax (units_in_order (front ++ t ∷ [])))
+reduce (InSide earlier ∷ frames) t = reduce frames (side_syntax (units_in_order (earlier ++ t ∷ [])))
 
 -- another power follows: the one at hand belongs to a juxtaposition
 abbrev pub juxtapose : List Frame → UnitSyntax → List Frame
@@ -67,7 +67,7 @@ juxtapose (InBracket at ∷ frames) t = InSide (t ∷ []) ∷ InBracket at ∷ f
 juxtapose (InInverse at ∷ frames) t = InSide (t ∷ []) ∷ InInverse at ∷ frames
 juxtapose (InTimes left ∷ frames) t = InSide (t ∷ []) ∷ InTimes left ∷ frames
 juxtapose (InOver left ∷ frames) t = InSide (t ∷ []) ∷ InOver left ∷ frames
-juxtapose (InSide front ∷ frames) t = InSide (front ++ t ∷ []) ∷ frames
+juxtapose (InSide earlier ∷ frames) t = InSide (earlier ++ t ∷ []) ∷ frames
 
 -- an atom begins, or a leading `/`
 abbrev pub begin : List Frame → UnitToken → ℕ → State

@@ -1,7 +1,7 @@
 use Rattle.std.proofs.Common.{subst}
 use Rattle.um_types.specs.TypeMachine.{type_act, type_finish}
 use Rattle.um_types.specs.TypeTakes.{type_state, TypeTakes}
-use Rattle.um_types.specs.declared.type_take.TypeStep.{TypeStep}
+use Rattle.um_types.specs.declared.type_reader.TypeStep.{TypeStep}
 use Rattle.um_expr.specs.ExprTokens.{expr_token}
 use Rattle.um_expr.specs.ExprMachine.{type_ends}
 use Rattle.um_expr.specs.ExprStack.{frames_of}

@@ -10,12 +10,14 @@ use Rattle.um_types.specs.NoteMachine.{NoteState, NeedNote, HaveHole, InUnit, No
 use Rattle.um_types.specs.TypeMachine.{TypeState, NeedType, HaveType, NoType, type_after, type_step, type_finish}
 use Rattle.um_types.specs.TypeMachine.{InNote as InTypeNote}
 use Rattle.um_types.specs.UnitTokens.{unit_token}
-use Rattle.um_types.proofs.TokenLinks.{is_foreign}
+use Rattle.um_types.proofs.ForeignTokens.{is_foreign}
 use Rattle.um_types.proofs.Reaching.{runs_append, lift}
 use Rattle.um_types.proofs.NoteComplete.{note_into, note_reaches, note_finds, note_stops}
 use Rattle.um_types.proofs.TypeComplete.{type_reaches}
 use Rattle.um_syntax.specs.declared.vocabulary.Keyword.TheVariants as keyword
 use Rattle.um_syntax.specs.declared.vocabulary.Symbol.TheVariants as symbol
+use Rattle.um_types.specs.Machines.{Yields}
+use Rattle.um_types.proofs.Reaching.{yields_then}
 use Rattle.um_expr.specs.declared.token.ExprToken.{ExprToken}
 use Rattle.um_expr.specs.declared.token.ExprToken.TheVariants.{Word as word, Mark as mark}
 use Rattle.um_expr.specs.ExprTokens.{expr_token, greater}
@@ -23,36 +25,22 @@ use Rattle.um_expr.specs.ExprGrammar.{First, FirstAt, FirstGlued}
 use Rattle.um_expr.specs.ExprMachine.{Frame, State, Have, InNote, InType, note_ends, type_ends, note_goes, type_goes, act, step}
 use Rattle.um_expr.proofs.ExprTokenKinds.{greater_is, mark_is}
 
-abbrev pub Leads : State → List Token → State → List Token → Type 0
-Leads old tokens new rest = (read : List Token) × (tokens ≡ read ++ rest) × (runs step old read ≡ new)
+pub thence : {a b c : State} → {s t r : List Token} → Yields step a s b t → Yields step b t c r → Yields step a s c r
+thence {a = a} {b = b} {c = c} {s = s} {t = t} {r = r} p q = yields_then step a b c s t r p q
 
-pub leads_here : (old new : State) (tokens rest : List Token) → old ≡ new → tokens ≡ rest → Leads old tokens new rest
-leads_here old new tokens rest e f = ([], f, e)
-
-pub leads_then : (a b c : State) (s t r : List Token) → Leads a s b t → Leads b t c r → Leads a s c r
-leads_then a b c s t r p q =
-    (p.0 ++ q.0, p.1 ∙ ap (λ w. p.0 ++ w) q.1 ∙ sym (append_assoc p.0 q.0 r), runs_append step p.0 q.0 a ∙ ap (λ o. runs step o q.0) p.2 ∙ q.2)
-
-pub thence : {a b c : State} → {s t r : List Token} → Leads a s b t → Leads b t c r → Leads a s c r
-thence {a = a} {b = b} {c = c} {s = s} {t = t} {r = r} p q = leads_then a b c s t r p q
-
--- the same, where the state between is written in two ways
-pub leads_as : (a b c : State) (s r : List Token) → Leads a s b r → b ≡ c → Leads a s c r
-leads_as a b c s r p e = (p.0, p.1, p.2 ∙ e)
-
-pub leads_first : (old new : State) (what : ExprToken) (tokens rest : List Token) → First what tokens rest → ((at : ℕ) (glued : Bool) (k : Kind) → act old what at glued k ≡ new) → Leads old tokens new rest
-leads_first old new what tokens rest f e =
+pub yields_first : (old new : State) (what : ExprToken) (tokens rest : List Token) → First what tokens rest → ((at : ℕ) (glued : Bool) (k : Kind) → act old what at glued k ≡ new) → Yields step old tokens new rest
+yields_first old new what tokens rest f e =
     (f.0 ∷ [], f.2, ap (λ w. act old w f.0.start f.0.glued f.0.kind) f.1 ∙ e f.0.start f.0.glued f.0.kind)
 
-pub leads_at : (old new : State) (what : ExprToken) (at : ℕ) (tokens rest : List Token) → FirstAt what at tokens rest → ((glued : Bool) (k : Kind) → act old what at glued k ≡ new) → Leads old tokens new rest
-leads_at old new what at tokens rest f e = (
+pub yields_at : (old new : State) (what : ExprToken) (at : ℕ) (tokens rest : List Token) → FirstAt what at tokens rest → ((glued : Bool) (k : Kind) → act old what at glued k ≡ new) → Yields step old tokens new rest
+yields_at old new what at tokens rest f e = (
   f.0 ∷ [],
   f.3,
   ap (λ w. act old w f.0.start f.0.glued f.0.kind) f.1 ∙ ap (λ a. act old what a f.0.glued f.0.kind) f.2 ∙ e f.0.glued f.0.kind,
 )
 
-pub leads_glued : (old new : State) (what : ExprToken) (tokens rest : List Token) → FirstGlued what tokens rest → ((at : ℕ) (k : Kind) → act old what at true k ≡ new) → Leads old tokens new rest
-leads_glued old new what tokens rest f e = (
+pub yields_glued : (old new : State) (what : ExprToken) (tokens rest : List Token) → FirstGlued what tokens rest → ((at : ℕ) (k : Kind) → act old what at true k ≡ new) → Yields step old tokens new rest
+yields_glued old new what tokens rest f e = (
   f.0 ∷ [],
   f.3,
   ap (λ w. act old w f.0.start f.0.glued f.0.kind) f.1 ∙ ap (λ g. act old what f.0.start g f.0.kind) f.2 ∙ e f.0.start f.0.kind,
@@ -66,11 +54,11 @@ same_head : (x y : Token) (xs ys : List Token) → x ∷ xs ≡ y ∷ ys → x �
 same_head x y xs ys e = cc
 
 -- two states that take the first token alike lead alike
-pub leads_alike : (test : ExprToken → Bool) (old other new : State) (tokens rest : List Token) → FirstPasses test tokens
-    → ((w : ExprToken) (at : ℕ) (glued : Bool) (k : Kind) → test w ≡ true → act old w at glued k ≡ act other w at glued k) → other ≢ new → Leads other tokens new rest → Leads old tokens new rest
-leads_alike test old other new tokens rest f e apart p = alike p.0 p.1 p.2
+pub yields_alike : (test : ExprToken → Bool) (old other new : State) (tokens rest : List Token) → FirstPasses test tokens
+    → ((w : ExprToken) (at : ℕ) (glued : Bool) (k : Kind) → test w ≡ true → act old w at glued k ≡ act other w at glued k) → other ≢ new → Yields step other tokens new rest → Yields step old tokens new rest
+yields_alike test old other new tokens rest f e apart p = alike p.0 p.1 p.2
   where
-    alike : (read : List Token) → tokens ≡ read ++ rest → runs step other read ≡ new → Leads old tokens new rest
+    alike : (read : List Token) → tokens ≡ read ++ rest → runs step other read ≡ new → Yields step old tokens new rest
     alike [] parts ends = absurd (apart ends)
     alike (x ∷ xs) parts ends =
         let same : f.0 ≡ x = same_head f.0 x f.1 (xs ++ rest) (sym f.2 ∙ parts) in
@@ -90,15 +78,15 @@ note_inside frames at c n new token e ok =
     let ended : State = note_ends frames at c (note_finish n) (expr_token token.kind) in
     ap (λ s. note_goes frames at c s ended) e ∙ note_on frames at c new ended ok
 
-pub leads_note : (frames : List Frame) (at : ℕ) (c : Frac) (n : NoteSyntax) (tokens rest : List Token) → NoteSpells n tokens rest → NoteFits n
-    → Leads (InNote frames at c NeedNote) tokens (InNote frames at c (note_into n)) rest
-leads_note frames at c n tokens rest s fits =
+pub yields_note : (frames : List Frame) (at : ℕ) (c : Frac) (n : NoteSyntax) (tokens rest : List Token) → NoteSpells n tokens rest → NoteFits n
+    → Yields step (InNote frames at c NeedNote) tokens (InNote frames at c (note_into n)) rest
+yields_note frames at c n tokens rest s fits =
     let r = note_reaches n tokens rest s fits in
     (r.0, r.1, lift note_step NoNote (λ t. refl) step (λ w. InNote frames at c w) (note_inside frames at c) r.0 NeedNote (note_into n) r.2 r.3)
 
-pub leads_note_end : (frames : List Frame) (at : ℕ) (c : Frac) (n : NoteSyntax) (tokens rest : List Token) → NoteFits n → First greater tokens rest
-    → Leads (InNote frames at c (note_into n)) tokens (Have frames (number_syntax at c (Some n))) rest
-leads_note_end frames at c n tokens rest fits f =
+pub yields_note_end : (frames : List Frame) (at : ℕ) (c : Frac) (n : NoteSyntax) (tokens rest : List Token) → NoteFits n → First greater tokens rest
+    → Yields step (InNote frames at c (note_into n)) tokens (Have frames (number_syntax at c (Some n))) rest
+yields_note_end frames at c n tokens rest fits f =
     let ended : State = note_ends frames at c (note_finish (note_into n)) (expr_token f.0.kind) in (
       f.0 ∷ [],
       f.2,
@@ -120,15 +108,15 @@ type_inside frames at s new token e ok =
     let ended : State = type_ends frames at (type_finish s) (expr_token token.kind) in
     ap (λ w. type_goes frames at w ended) e ∙ type_on frames at new ended ok
 
-pub leads_type : (frames : List Frame) (at : ℕ) (t : TypeSyntax) (tokens rest : List Token) → TypeSpells t tokens rest → TypeFits t
-    → Leads (InType frames at (NeedType 0)) tokens (InType frames at (HaveType 0 t)) rest
-leads_type frames at t tokens rest s fits =
+pub yields_type : (frames : List Frame) (at : ℕ) (t : TypeSyntax) (tokens rest : List Token) → TypeSpells t tokens rest → TypeFits t
+    → Yields step (InType frames at (NeedType 0)) tokens (InType frames at (HaveType 0 t)) rest
+yields_type frames at t tokens rest s fits =
     let r = type_reaches t 0 tokens rest s fits in
     (r.0, r.1, lift type_step NoType (λ x. refl) step (λ w. InType frames at w) (type_inside frames at) r.0 (NeedType 0) (HaveType 0 t) r.2 r.3)
 
-pub leads_type_end : (frames : List Frame) (at : ℕ) (t : TypeSyntax) (tokens rest : List Token) → First (mark symbol.RightParen) tokens rest
-    → Leads (InType frames at (HaveType 0 t)) tokens (Have frames (nil_syntax at t)) rest
-leads_type_end frames at t tokens rest f =
+pub yields_type_end : (frames : List Frame) (at : ℕ) (t : TypeSyntax) (tokens rest : List Token) → First (mark symbol.RightParen) tokens rest
+    → Yields step (InType frames at (HaveType 0 t)) tokens (Have frames (nil_syntax at t)) rest
+yields_type_end frames at t tokens rest f =
     let ended : State = type_ends frames at (Some t) (expr_token f.0.kind) in (
       f.0 ∷ [],
       f.2,

@@ -5,14 +5,14 @@ ghost use Rattle.um_types.specs.NoteMachine.{NeedNote, InUnit, note_begin, note_
 ghost use Rattle.um_types.specs.UnitTakes.{unit_state};
 ghost use Rattle.um_types.specs.NoteTakes.{note_state, NoteTakes};
 
-use crate::unit_take::{UnitReader, UnitStep};
+use crate::unit_reader::{UnitReader, UnitStep};
 use std::alloc::{AllocError, Global};
 use um_syntax::{Kind, Token};
 use um_tree::{RawNote, RawUnit};
 
 /// What was read of a note: nothing, `_`, or a unit text that has begun at this place.
 #[derive(Drop)]
-pub enum NoteHand {
+pub enum NoteFocus {
     Empty,
     Hole(u32),
     Unit(u32, UnitReader),
@@ -21,7 +21,7 @@ pub enum NoteHand {
 /// A note that has begun, behind `<`.
 #[derive(Drop)]
 pub struct NoteReader {
-    hand: NoteHand,
+    focus: NoteFocus,
 }
 
 /// What a token gives: the reader goes on; the tokens through it begin a note and none with a unit text of height at most 400; or they begin none, and this is the note before it, if one stands there.
@@ -52,7 +52,7 @@ fn take_unit(
 {
     match unit.take(alloc, token)? {
         UnitStep::Goes(unit) => Ok(NoteStep::Goes(NoteReader {
-            hand: NoteHand::Unit(at, unit),
+            focus: NoteFocus::Unit(at, unit),
         })),
         UnitStep::High => Ok(NoteStep::High),
         UnitStep::Stops(unit) => Ok(NoteStep::Stops(note_of(at, unit))),
@@ -65,7 +65,7 @@ fn take_first(alloc: Global, token: &Token) -> Result<NoteStep, AllocError>
 {
     match &token.kind {
         Kind::Hole => Ok(NoteStep::Goes(NoteReader {
-            hand: NoteHand::Hole(token.start),
+            focus: NoteFocus::Hole(token.start),
         })),
         Kind::Name(_) | Kind::Var(_) | Kind::Number { .. } | Kind::Word(_) | Kind::Sign(_) => {
             take_unit(alloc, token.start, UnitReader::new(alloc), token)
@@ -79,7 +79,7 @@ impl NoteReader {
         ensures start { note_state result ≡ NeedNote }
     {
         NoteReader {
-            hand: NoteHand::Empty,
+            focus: NoteFocus::Empty,
         }
     }
 
@@ -87,10 +87,10 @@ impl NoteReader {
     pub fn take(self, alloc: Global, token: &Token) -> Result<NoteStep, AllocError>
         ensures taken { IfOk result (λ s. NoteTakes (note_state self) (note_act (note_state self) token.now.kind token.now.start) s) }
     {
-        match self.hand {
-            NoteHand::Empty => take_first(alloc, token),
-            NoteHand::Hole(at) => Ok(NoteStep::Stops(Some(RawNote::Hole(at)))),
-            NoteHand::Unit(at, unit) => take_unit(alloc, at, unit, token),
+        match self.focus {
+            NoteFocus::Empty => take_first(alloc, token),
+            NoteFocus::Hole(at) => Ok(NoteStep::Stops(Some(RawNote::Hole(at)))),
+            NoteFocus::Unit(at, unit) => take_unit(alloc, at, unit, token),
         }
     }
 
@@ -98,10 +98,10 @@ impl NoteReader {
     pub fn finish(self, alloc: Global) -> Result<Option<RawNote>, AllocError>
         ensures found { IfOk result (λ o. option_map note_syntax o ≡ note_finish (note_state self)) }
     {
-        match self.hand {
-            NoteHand::Empty => Ok(None),
-            NoteHand::Hole(at) => Ok(Some(RawNote::Hole(at))),
-            NoteHand::Unit(at, unit) => Ok(note_of(at, unit.finish(alloc)?)),
+        match self.focus {
+            NoteFocus::Empty => Ok(None),
+            NoteFocus::Hole(at) => Ok(Some(RawNote::Hole(at))),
+            NoteFocus::Unit(at, unit) => Ok(note_of(at, unit.finish(alloc)?)),
         }
     }
 }

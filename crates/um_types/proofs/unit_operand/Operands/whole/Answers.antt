@@ -4,7 +4,7 @@ use Rattle.um_tree.specs.declared.raw.RawUnit.TheVariants as raw
 use Rattle.um_tree.specs.declared.raw.RawUnits.{roll-RawUnits}
 use Rattle.um_tree.specs.RawTree.{unit_syntax, units_in_order, side_syntax}
 use Rattle.um_tree.specs.Heights.{unit_height, tallest_unit}
-use Rattle.um_types.proofs.unit_part.Front.whole.Goals as goal
+use Rattle.um_types.proofs.unit_operand.Operands.whole.Goals as goal
 
 pub invariant_of-result : goal.invariant_of-result
 invariant_of-result c =

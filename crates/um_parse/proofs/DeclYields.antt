@@ -15,6 +15,8 @@ use Rattle.um_types.proofs.UnitNested.{unit_step, unit_reaches}
 use Rattle.um_types.proofs.TypeComplete.{type_reaches}
 use Rattle.um_syntax.specs.declared.vocabulary.Keyword.TheVariants as keyword
 use Rattle.um_syntax.specs.declared.vocabulary.Symbol.TheVariants as symbol
+use Rattle.um_types.specs.Machines.{Yields}
+use Rattle.um_types.proofs.Reaching.{yields_then}
 use Rattle.um_expr.specs.declared.token.ExprToken.{ExprToken}
 use Rattle.um_expr.specs.declared.token.ExprToken.TheVariants.{Name as name, Hole as hole, Word as word, Mark as mark}
 use Rattle.um_expr.specs.ExprTokens.{expr_token, greater}
@@ -25,56 +27,42 @@ use Rattle.um_parse.specs.DeclMachine.{DeclState, InShort, InField, InParam, InR
 use Rattle.um_expr.proofs.ExprComplete.{into}
 use Rattle.um_expr.proofs.ExprLaws.{expr_reaches}
 
-abbrev pub Leads : DeclState → List Token → DeclState → List Token → Type 0
-Leads old tokens new rest = (read : List Token) × (tokens ≡ read ++ rest) × (runs decl_step old read ≡ new)
+pub thence : {a b c : DeclState} → {s t r : List Token} → Yields decl_step a s b t → Yields decl_step b t c r → Yields decl_step a s c r
+thence {a = a} {b = b} {c = c} {s = s} {t = t} {r = r} p q = yields_then decl_step a b c s t r p q
 
-pub leads_here : (old new : DeclState) (tokens rest : List Token) → old ≡ new → tokens ≡ rest → Leads old tokens new rest
-leads_here old new tokens rest e f = ([], f, e)
-
-leads_then : (a b c : DeclState) (s t r : List Token) → Leads a s b t → Leads b t c r → Leads a s c r
-leads_then a b c s t r p q =
-    (p.0 ++ q.0, p.1 ∙ ap (λ w. p.0 ++ w) q.1 ∙ sym (append_assoc p.0 q.0 r), runs_append decl_step p.0 q.0 a ∙ ap (λ o. runs decl_step o q.0) p.2 ∙ q.2)
-
-pub thence : {a b c : DeclState} → {s t r : List Token} → Leads a s b t → Leads b t c r → Leads a s c r
-thence {a = a} {b = b} {c = c} {s = s} {t = t} {r = r} p q = leads_then a b c s t r p q
-
--- the same, where the last state is written in two ways
-pub leads_as : (a b c : DeclState) (s r : List Token) → Leads a s b r → b ≡ c → Leads a s c r
-leads_as a b c s r p e = (p.0, p.1, p.2 ∙ e)
-
-pub leads_first : (old new : DeclState) (what : ExprToken) (tokens rest : List Token) → First what tokens rest → ((at : ℕ) (glued : Bool) (k : Kind) → decl_act old what at glued k ≡ new) → Leads old tokens new rest
-leads_first old new what tokens rest f e =
+pub yields_first : (old new : DeclState) (what : ExprToken) (tokens rest : List Token) → First what tokens rest → ((at : ℕ) (glued : Bool) (k : Kind) → decl_act old what at glued k ≡ new) → Yields decl_step old tokens new rest
+yields_first old new what tokens rest f e =
     (f.0 ∷ [], f.2, ap (λ w. decl_act old w f.0.start f.0.glued f.0.kind) f.1 ∙ e f.0.start f.0.glued f.0.kind)
 
-pub leads_at : (old new : DeclState) (what : ExprToken) (at : ℕ) (tokens rest : List Token) → FirstAt what at tokens rest → ((glued : Bool) (k : Kind) → decl_act old what at glued k ≡ new) → Leads old tokens new rest
-leads_at old new what at tokens rest f e = (
+pub yields_at : (old new : DeclState) (what : ExprToken) (at : ℕ) (tokens rest : List Token) → FirstAt what at tokens rest → ((glued : Bool) (k : Kind) → decl_act old what at glued k ≡ new) → Yields decl_step old tokens new rest
+yields_at old new what at tokens rest f e = (
   f.0 ∷ [],
   f.3,
   ap (λ w. decl_act old w f.0.start f.0.glued f.0.kind) f.1 ∙ ap (λ a. decl_act old what a f.0.glued f.0.kind) f.2 ∙ e f.0.glued f.0.kind,
 )
 
-pub leads_binder : (old : DeclState) (new : BinderSyntax → DeclState) (x : BinderSyntax) (tokens rest : List Token) → BinderSpells x tokens rest
+pub yields_binder : (old : DeclState) (new : BinderSyntax → DeclState) (x : BinderSyntax) (tokens rest : List Token) → BinderSpells x tokens rest
     → ((y : List ℕ) (p : ℕ) (g : Bool) (k : Kind) → decl_act old (name y) p g k ≡ new (record { at = p; name = Some y }))
-    → ((p : ℕ) (g : Bool) (k : Kind) → decl_act old hole p g k ≡ new (record { at = p; name = None })) → Leads old tokens (new x) rest
-leads_binder old new x tokens rest s named free = by_name x.name s
+    → ((p : ℕ) (g : Bool) (k : Kind) → decl_act old hole p g k ≡ new (record { at = p; name = None })) → Yields decl_step old tokens (new x) rest
+yields_binder old new x tokens rest s named free = by_name x.name s
   where
-    by_name : (o : Option (List ℕ)) → FirstAt (bound o) x.at tokens rest → Leads old tokens (new (record { at = x.at; name = o })) rest
-    by_name (Some y) f = leads_at old (new (record { at = x.at; name = Some y })) (name y) x.at tokens rest f (λ g k. named y x.at g k)
-    by_name None f = leads_at old (new (record { at = x.at; name = None })) hole x.at tokens rest f (λ g k. free x.at g k)
+    by_name : (o : Option (List ℕ)) → FirstAt (bound o) x.at tokens rest → Yields decl_step old tokens (new (record { at = x.at; name = o })) rest
+    by_name (Some y) f = yields_at old (new (record { at = x.at; name = Some y })) (name y) x.at tokens rest f (λ g k. named y x.at g k)
+    by_name None f = yields_at old (new (record { at = x.at; name = None })) hole x.at tokens rest f (λ g k. free x.at g k)
 
 -- `[<Measure>]`, by the states behind its tokens
-pub leads_attribute : (a b c d e : DeclState) (tokens rest : List Token) → Attribute tokens rest → ((p : ℕ) (g : Bool) (k : Kind) → decl_act a (mark symbol.AttributeOpen) p g k ≡ b)
+pub yields_attribute : (a b c d e : DeclState) (tokens rest : List Token) → Attribute tokens rest → ((p : ℕ) (g : Bool) (k : Kind) → decl_act a (mark symbol.AttributeOpen) p g k ≡ b)
     → ((p : ℕ) (g : Bool) (k : Kind) → decl_act b (word keyword.Measure) p g k ≡ c) → ((p : ℕ) (g : Bool) (k : Kind) → decl_act c greater p g k ≡ d)
-    → ((p : ℕ) (g : Bool) (k : Kind) → decl_act d (mark symbol.RightBracket) p g k ≡ e) → Leads a tokens e rest
-leads_attribute a b c d e tokens rest s one two three four =
-    thence (leads_first a b (mark symbol.AttributeOpen) tokens s.0 s.3 one)
-    (thence (leads_first b c (word keyword.Measure) s.0 s.1 s.4 two) (thence (leads_first c d greater s.1 s.2 s.5 three) (leads_first d e (mark symbol.RightBracket) s.2 rest s.6 four)))
+    → ((p : ℕ) (g : Bool) (k : Kind) → decl_act d (mark symbol.RightBracket) p g k ≡ e) → Yields decl_step a tokens e rest
+yields_attribute a b c d e tokens rest s one two three four =
+    thence (yields_first a b (mark symbol.AttributeOpen) tokens s.0 s.3 one)
+    (thence (yields_first b c (word keyword.Measure) s.0 s.1 s.4 two) (thence (yields_first c d greater s.1 s.2 s.5 three) (yields_first d e (mark symbol.RightBracket) s.2 rest s.6 four)))
 
 -- ---- machines inside
 
-pub leads_type : (inside : TypeState → DeclState) → ((s new : TypeState) (token : Token) → type_step s token ≡ new → new ≢ NoType → decl_step (inside s) token ≡ inside new)
-    → (t : TypeSyntax) (tokens rest : List Token) → TypeSpells t tokens rest → TypeFits t → Leads (inside (NeedType 0)) tokens (inside (HaveType 0 t)) rest
-leads_type inside goes t tokens rest s fits =
+pub yields_type : (inside : TypeState → DeclState) → ((s new : TypeState) (token : Token) → type_step s token ≡ new → new ≢ NoType → decl_step (inside s) token ≡ inside new)
+    → (t : TypeSyntax) (tokens rest : List Token) → TypeSpells t tokens rest → TypeFits t → Yields decl_step (inside (NeedType 0)) tokens (inside (HaveType 0 t)) rest
+yields_type inside goes t tokens rest s fits =
     let r = type_reaches t 0 tokens rest s fits in (r.0, r.1, lift type_step NoType (λ x. refl) decl_step inside goes r.0 (NeedType 0) (HaveType 0 t) r.2 r.3)
 
 short_inside : (at : ℕ) (x : List ℕ) (u new : UnitState) (token : Token) → unit_step u token ≡ new → new ≢ NoUnit → decl_step (InShort at x u) token ≡ InShort at x new
@@ -87,8 +75,8 @@ short_inside at x u new token e ok = ap (short_goes at x) e ∙ short_on new ok
     short_on (Lowered frames t) h = refl
     short_on NoUnit h = absurd (h refl)
 
-pub leads_unit : (at : ℕ) (x : List ℕ) (u : UnitSyntax) (tokens rest : List Token) → UnitSpells u tokens rest → UnitFits u → Leads (InShort at x (NeedUnit [])) tokens (InShort at x (unit_into [] u)) rest
-leads_unit at x u tokens rest s fits =
+pub yields_unit : (at : ℕ) (x : List ℕ) (u : UnitSyntax) (tokens rest : List Token) → UnitSpells u tokens rest → UnitFits u → Yields decl_step (InShort at x (NeedUnit [])) tokens (InShort at x (unit_into [] u)) rest
+yields_unit at x u tokens rest s fits =
     let r = unit_reaches u tokens rest s fits in (r.0, r.1, lift unit_step NoUnit (λ t. refl) decl_step (λ w. InShort at x w) (short_inside at x) r.0 (NeedUnit []) (unit_into [] u) r.2 r.3)
 
 body_inside : (recursive : Bool) (at : ℕ) (x : List ℕ) (ps : List ParamSyntax) (r : Option TypeSyntax) (e new : State) (token : Token) → step e token ≡ new → new ≢ Refused
@@ -104,9 +92,9 @@ body_inside recursive at x ps r e new token same ok = ap (body_goes recursive at
     body_on (InType frames p n) h = refl
     body_on Refused h = absurd (h refl)
 
-pub leads_body : (recursive : Bool) (at : ℕ) (x : List ℕ) (ps : List ParamSyntax) (r : Option TypeSyntax) (e : ExprSyntax) (tokens rest : List Token) → Spells e tokens rest → Fits e
-    → Leads (InBody recursive at x ps r (Need [])) tokens (InBody recursive at x ps r (into [] e)) rest
-leads_body recursive at x ps r e tokens rest s fits =
+pub yields_body : (recursive : Bool) (at : ℕ) (x : List ℕ) (ps : List ParamSyntax) (r : Option TypeSyntax) (e : ExprSyntax) (tokens rest : List Token) → Spells e tokens rest → Fits e
+    → Yields decl_step (InBody recursive at x ps r (Need [])) tokens (InBody recursive at x ps r (into [] e)) rest
+yields_body recursive at x ps r e tokens rest s fits =
     let p = expr_reaches e tokens rest s fits in
     (p.0, p.1, lift step Refused (λ t. refl) decl_step (λ w. InBody recursive at x ps r w) (body_inside recursive at x ps r) p.0 (Need []) (into [] e) p.2 p.3)
 

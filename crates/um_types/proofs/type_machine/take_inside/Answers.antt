@@ -2,9 +2,9 @@ use Rattle.std.proofs.Common.{ap, sym, subst, ◌∙◌, arith, option_map}
 use Rattle.um_tree.specs.RawTree.{note_syntax}
 use Rattle.um_types.specs.NoteMachine.{note_act}
 use Rattle.um_types.specs.NoteTakes.{note_state, NoteTakes}
-use Rattle.um_types.specs.declared.note_take.NoteStep.{NoteStep}
+use Rattle.um_types.specs.declared.note_reader.NoteStep.{NoteStep}
 use Rattle.um_types.proofs.NoteLaws.{note_found_height}
-use Rattle.um_types.proofs.type_reader.take_inside.Goals as goal
+use Rattle.um_types.proofs.type_machine.take_inside.Goals as goal
 
 pub take_behind-requires : goal.take_behind-requires
 take_behind-requires c =

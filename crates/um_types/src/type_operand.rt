@@ -4,14 +4,15 @@ ghost use Rattle.um_tree.specs.RawTree.{bool_syntax, num_syntax, record_syntax, 
 ghost use Rattle.um_tree.specs.Heights.{type_height};
 ghost use Rattle.um_types.specs.UnitStops.{greatest_height};
 
-use crate::note_take::NoteReader;
+use crate::name::name_of;
+use crate::note_reader::NoteReader;
 use std::alloc::{AllocError, Global};
 use um_syntax::Letters;
 use um_tree::{Name, RawNote, RawNotes, RawType};
 
 /// A type text and its height.
 #[derive(Drop)]
-pub struct TypePart {
+pub struct TypeOperand {
     pub ty: RawType,
     pub height: u32,
     ghost exact: { height ≡ type_height (type_syntax ty) },
@@ -26,71 +27,71 @@ pub enum Owner {
 
 /// What is at hand beside the open brackets: nothing, a type, or a note that has begun.
 #[derive(Drop)]
-pub enum TypeHand {
+pub enum TypeFocus {
     Empty,
-    Full(TypePart),
+    Full(TypeOperand),
     Note(Owner, NoteReader),
 }
 
-impl TypePart {
+impl TypeOperand {
     ghost use Rattle.std.specs.Prelude.{[]};
-    ghost use Rattle.um_types.specs.TypeView.{part_type};
+    ghost use Rattle.um_types.specs.TypeView.{operand_type};
 
     /// `num`
-    pub fn num() -> TypePart
-        ensures { part_type result ≡ num_syntax None }
+    pub fn num() -> TypeOperand
+        ensures { operand_type result ≡ num_syntax None }
     {
-        TypePart {
+        TypeOperand {
             ty: RawType::Num(None),
             height: 1,
         }
     }
 
     /// `bool`
-    pub fn bool() -> TypePart
-        ensures { part_type result ≡ bool_syntax }
+    pub fn bool() -> TypeOperand
+        ensures { operand_type result ≡ bool_syntax }
     {
-        TypePart {
+        TypeOperand {
             ty: RawType::Bool,
             height: 1,
         }
     }
 
     /// The type that a name is.
-    pub fn named(alloc: Global, at: u32, letters: &Letters) -> Result<TypePart, AllocError>
-        ensures { IfOk result (λ p. part_type p ≡ record_syntax at letters.now []) }
+    pub fn named(alloc: Global, at: u32, letters: &Letters) -> Result<TypeOperand, AllocError>
+        ensures { IfOk result (λ p. operand_type p ≡ record_syntax at letters.now []) }
     {
-        let name = Name::from_vec(Vec::from_slice(alloc, letters.as_slice())?);
+        let name = name_of(alloc, letters)?;
         let notes = RawNotes {
             items: Vec::new(alloc),
         };
-        Ok(TypePart {
+        Ok(TypeOperand {
             ty: RawType::Name(at, name, notes),
             height: 1,
         })
     }
 
     /// A list of it
-    pub fn list(self, alloc: Global) -> Result<TypePart, AllocError>
-        requires { type_height (part_type self) ≤ greatest_height }
-        ensures { IfOk result (λ p. part_type p ≡ list_type_syntax (part_type self)) }
+    pub fn list(self, alloc: Global) -> Result<TypeOperand, AllocError>
+        requires { type_height (operand_type self) ≤ greatest_height }
+        ensures { IfOk result (λ p. operand_type p ≡ list_type_syntax (operand_type self)) }
     {
-        let TypePart { ty, height } = self;
+        let TypeOperand { ty, height } = self;
         let ty = RawType::List(Box::new(alloc, ty)?);
-        Ok(TypePart {
+        Ok(TypeOperand {
             ty,
             height: height + 1,
         })
     }
 
     /// In brackets
-    pub fn bracket(self, alloc: Global) -> Result<TypePart, AllocError>
-        requires { type_height (part_type self) ≤ greatest_height }
-        ensures { IfOk result (λ p. part_type p ≡ bracket_type_syntax (part_type self)) }
+    pub fn bracket(self, alloc: Global) -> Result<TypeOperand, AllocError>
+        requires { type_height (operand_type self) ≤ greatest_height }
+        ensures { IfOk result (λ p. operand_type p ≡ bracket_type_syntax (operand_type self)) }
     {
-        let TypePart { ty, height } = self;
+        let TypeOperand { ty, height } = self;
         let ty = RawType::Bracket(Box::new(alloc, ty)?);
-        Ok(TypePart {
+        Ok(TypeOperand {
             ty,
             height: height + 1,
         })
@@ -99,7 +100,7 @@ impl TypePart {
 
 impl Owner {
     ghost use Rattle.um_types.specs.TypeMachine.{owned};
-    ghost use Rattle.um_types.specs.TypeView.{part_type, view_owner, Opens};
+    ghost use Rattle.um_types.specs.TypeView.{operand_type, view_owner, Opens};
 
     /// What angle brackets behind a type belong to; where none may stand there, the type again.
     pub fn of_type(ty: RawType) -> Result<Owner, RawType>
@@ -122,18 +123,18 @@ impl Owner {
     }
 
     /// The type with its last note
-    pub fn owned(self, last: RawNote) -> Result<TypePart, AllocError>
-        ensures { IfOk result (λ p. part_type p ≡ owned (view_owner self) (note_syntax last)) }
+    pub fn owned(self, last: RawNote) -> Result<TypeOperand, AllocError>
+        ensures { IfOk result (λ p. operand_type p ≡ owned (view_owner self) (note_syntax last)) }
     {
         match self {
-            Owner::Num => Ok(TypePart {
+            Owner::Num => Ok(TypeOperand {
                 ty: RawType::Num(Some(last)),
                 height: 1,
             }),
-            Owner::Name(at, name, mut front) => {
-                front.items.push(last)?;
-                Ok(TypePart {
-                    ty: RawType::Name(at, name, front),
+            Owner::Name(at, name, mut earlier) => {
+                earlier.items.push(last)?;
+                Ok(TypeOperand {
+                    ty: RawType::Name(at, name, earlier),
                     height: 1,
                 })
             }

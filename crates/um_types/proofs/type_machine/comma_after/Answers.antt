@@ -5,7 +5,7 @@ use Rattle.um_types.specs.NoteMachine.{note_least}
 use Rattle.um_types.specs.TypeMachine.{owner_height}
 use Rattle.um_types.specs.TypeView.{view_owner}
 use Rattle.um_types.proofs.TypeNotes.{raw_notes_last}
-use Rattle.um_types.proofs.type_reader.comma_after.Goals as goal
+use Rattle.um_types.proofs.type_machine.comma_after.Goals as goal
 
 pub invariant_of-result : goal.invariant_of-result
 invariant_of-result c = record {
@@ -15,7 +15,7 @@ invariant_of-result c = record {
         c.requires,
         ap (λ o. owner_height (view_owner o)) c.in-Name.is,
         ap (λ ns. notes_height (map note_syntax ns)) c.in_ok-push-in-Name.ensures.items,
-        raw_notes_last c.in-Name.front.items.items c.args.note,
+        raw_notes_last c.in-Name.earlier.items.items c.args.note,
         ap note_least c.new.ensures.start,
       );
 }

@@ -1,8 +1,8 @@
 use Rattle.std.proofs.Common.{map, ap, arith}
 use Rattle.um_tree.specs.RawTree.{unit_syntax, units_in_order}
 use Rattle.um_tree.specs.Heights.{tallest_unit}
-use Rattle.um_types.proofs.UnitFronts.{tallest_more}
-use Rattle.um_types.proofs.unit_part.Front.with.Goals as goal
+use Rattle.um_types.proofs.UnitOperands.{tallest_more}
+use Rattle.um_types.proofs.unit_operand.Operands.with.Goals as goal
 
 pub invariant_of-result : goal.invariant_of-result
 invariant_of-result c = record {

@@ -4,7 +4,7 @@ use Rattle.um_tree.specs.Heights.{type_height}
 use Rattle.um_types.specs.TypeHeights.{units_height}
 use Rattle.um_types.specs.TypeView.{view_owner}
 use Rattle.um_types.proofs.TypeLaws.{owned_height}
-use Rattle.um_types.proofs.type_reader.take_behind.Goals as goal
+use Rattle.um_types.proofs.type_machine.take_behind.Goals as goal
 
 pub full-requires : goal.full-requires
 full-requires c =
