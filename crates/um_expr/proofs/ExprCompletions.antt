@@ -276,7 +276,7 @@ expected_reads (LetEqual at x) tokens rest f =
 expected_reads (FieldName at before) tokens rest f =
     filled_reads (InField at before 0 []) operand tokens (operand_token ∷ sign symbol.RightBrace ∷ rest) rest
     (f.0, name_token ∷ sign symbol.Equal ∷ operand_token ∷ sign symbol.RightBrace ∷ rest, sign symbol.Equal ∷ operand_token ∷ sign symbol.RightBrace ∷ rest, f.1, f.2, (name_token, refl, refl, refl), (sign symbol.Equal, refl, refl)) (operand_token, refl, refl, refl)
-expected_reads (FieldEqual at before expected x) tokens rest f =
+expected_reads (FieldEqual at before place x) tokens rest f =
     filled_reads (InField at before place x) operand tokens (operand_token ∷ sign symbol.RightBrace ∷ rest) rest (f.0, f.1, sign symbol.Equal ∷ operand_token ∷ sign symbol.RightBrace ∷ rest, f.2, f.3, f.4, (sign symbol.Equal, refl, refl))
     (operand_token, refl, refl, refl)
 expected_reads (DotName at e) tokens rest f = (f.0, name_token ∷ rest, f.1, f.2, (name_token, refl, refl, refl))

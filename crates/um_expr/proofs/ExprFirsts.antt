@@ -10,20 +10,11 @@ use Rattle.um_expr.specs.declared.infix.Infix.TheVariants as between
 use Rattle.um_expr.specs.declared.token.ExprToken.{ExprToken}
 use Rattle.um_expr.specs.declared.token.ExprToken.TheVariants.{Name as name, Number as number, Truth as truth, Operator as operator, Word as word, Mark as mark}
 use Rattle.um_expr.specs.ExprTokens.{minus}
+use Rattle.um_expr.specs.ExprKinds.{begins_atom}
 use Rattle.um_expr.specs.ExprGrammar.{FirstAt, Spells, Fits, rank}
 use Rattle.um_expr.specs.ExprMachine.{Frame, InRight, Need, Have, Greater, argument, begin_in, act}
 use Rattle.um_expr.proofs.ExprEnds.{arith_low}
 use Rattle.um_expr.proofs.ExprYields.{FirstPasses}
-
--- the tokens that begin an atom
-abbrev pub begins_atom : ExprToken → Bool
-begins_atom (name x) = true
-begins_atom (number c) = true
-begins_atom (truth b) = true
-begins_atom (mark symbol.LeftParen) = true
-begins_atom (mark symbol.LeftBracket) = true
-begins_atom (mark symbol.LeftBrace) = true
-begins_atom _ = false
 
 abbrev pub is_no_equal : ExprToken → Bool
 is_no_equal (operator (between.Compare compare.Eq)) = false

@@ -19,7 +19,8 @@ use Rattle.um_expr.specs.ExprGrammar.{First, FirstAt, EmptyArm, FullArm, NilSpel
 use Rattle.um_expr.specs.ExprMachine.{Frame, InBracket, InItem, InField, InValue, InBody, InTest, InThen, InElse, InMatched, InEmptyArm, InFullArm, InNegate, InNot, InRight, InArgument, top_bound, with_field, LetBinder, LetEqual, FieldName, FieldEqual, DotName, ArmBegin, ArmOpen, ArmClose, ArmArrow, HeadBinder, HeadCons, TailBinder, TailArrow, NilColon, State, Need, Have, Inside, InType, reduce, act, argument, infix_after, with_after, bar_after, close_after, list_after, record_after, semi_after, in_after, then_after, else_after, step}
 use Rattle.um_expr.proofs.ExprEnds.{opened_call, last_argument, opened, last_atom, rank_low, arith_low, put, put_last, order_last, put_fields, put_field_last, field_order_last, ends_whole}
 use Rattle.um_expr.proofs.ExprYields.{thence, yields_first, yields_at, yields_alike, yields_type, yields_type_end}
-use Rattle.um_expr.proofs.ExprFirsts.{begins_atom, first_atom, atom_alike}
+use Rattle.um_expr.specs.ExprKinds.{begins_atom}
+use Rattle.um_expr.proofs.ExprFirsts.{first_atom, atom_alike}
 use Rattle.um_expr.proofs.ExprComplete.{into, atom_into, may, after_left, yields_compare, yields_binder, yields_written}
 
 -- ---- the arms of a match, and the empty list
@@ -138,9 +139,9 @@ first_argument at f (InNot m ∷ frames) lt = absurd (omega arith)
 first_argument at f (InRight m sign left ∷ frames) lt = rw lt-ltb refl
 first_argument at f (InArgument m g before ∷ frames) lt = absurd (omega arith)
 
-begins_atom : (frames new : List Frame) (t atom : ExprSyntax) (to : State) (tokens mid rest : List Token) → argument frames t ≡ Some new → Spells atom tokens mid → Fits atom → rank atom ≡ 0
+begins_argument : (frames new : List Frame) (t atom : ExprSyntax) (to : State) (tokens mid rest : List Token) → argument frames t ≡ Some new → Spells atom tokens mid → Fits atom → rank atom ≡ 0
     → Need new ≢ to → Yields step (Need new) tokens to rest → Yields step (Have frames t) tokens to rest
-begins_atom frames new t atom to tokens mid rest e s fits low apart p =
+begins_argument frames new t atom to tokens mid rest e s fits low apart p =
     yields_alike begins_atom (Have frames t) (Need new) to tokens rest (first_atom atom tokens mid s fits low) (atom_alike frames new t e) apart p
 
 -- a sign that is no comparison
@@ -161,7 +162,7 @@ mutual
       let first : List Frame = InArgument at f [] ∷ frames in
       thence (yields_at (Need frames) (Have frames (name_syntax at f)) (name f) at tokens s.0 s.1 (λ g k. refl))
       (
-      begins_atom frames first (name_syntax at f) e (into frames (call_syntax at f (more_exprs e es))) s.0 s.2.0 rest (first_argument at f frames lt) s.2.1 fits.1.1 fits.1.0 (λ h. cc)
+      begins_argument frames first (name_syntax at f) e (into frames (call_syntax at f (more_exprs e es))) s.0 s.2.0 rest (first_argument at f frames lt) s.2.1 fits.1.1 fits.1.0 (λ h. cc)
       (
       thence (yields_as step (Need first) (into first e) (Have first e) s.0 s.2.0 (complete e first s.0 s.2.0 s.2.1 fits.1.1 (omega (arith, fits.1.0))) (atom_into first e fits.1.0))
       (complete_arguments es e (call_syntax at f (more_exprs e es)) at f [] frames s.2.0 rest s.2.2 fits.1.2)
@@ -296,7 +297,7 @@ mutual
       yields_here step (Have (InArgument at f before ∷ frames) e) (Have (InArgument at f before ∷ frames) e) tokens rest refl s
   complete_arguments (more_exprs d es) e t at f before frames tokens rest s fits =
       let more : List Frame = InArgument at f (before ++ e ∷ []) ∷ frames in
-      begins_atom (InArgument at f before ∷ frames) more e d (Have (opened_call frames at f (before ++ e ∷ []) (more_exprs d es)) (last_argument t (more_exprs d es))) tokens s.0 rest refl s.1 fits.1 fits.0
+      begins_argument (InArgument at f before ∷ frames) more e d (Have (opened_call frames at f (before ++ e ∷ []) (more_exprs d es)) (last_argument t (more_exprs d es))) tokens s.0 rest refl s.1 fits.1 fits.0
       (λ h. cc)
       (
       thence (yields_as step (Need more) (into more d) (Have more d) tokens s.0 (complete d more tokens s.0 s.1 fits.1 (omega (arith, fits.0))) (atom_into more d fits.0))

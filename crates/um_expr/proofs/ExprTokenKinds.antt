@@ -12,12 +12,18 @@ use Rattle.um_expr.specs.declared.token.ExprToken.TheVariants.{Word as word, Mar
 use Rattle.um_expr.specs.ExprTokens.{expr_token, equal, greater}
 
 pub mark_is : (k : Kind) (s : Symbol) → expr_token k ≡ mark s → k ≡ kind.Sign s
+mark_is (kind.Sign symbol.Less) s e = cc
+mark_is (kind.Word keyword.True) s e = cc
 mark_is _ s e = cc
 
 pub greater_is : (k : Kind) → expr_token k ≡ greater → k ≡ kind.Sign symbol.Greater
+greater_is (kind.Sign symbol.Greater) e = refl
+greater_is (kind.Word keyword.True) e = cc
 greater_is _ e = cc
 
 pub equal_is : (k : Kind) → expr_token k ≡ equal → k ≡ kind.Sign symbol.Equal
+equal_is (kind.Sign symbol.Equal) e = refl
+equal_is (kind.Word keyword.True) e = cc
 equal_is _ e = cc
 
 abbrev pub begins_decl : ExprToken → Bool

@@ -12,6 +12,7 @@ use crate::ending::whole;
 use crate::focus::Step;
 use crate::frame::Frame;
 use crate::frames::Frames;
+use crate::node::composite;
 use crate::operand::Operand;
 use crate::operands::Operands;
 use crate::token::ExprToken;
@@ -68,24 +69,7 @@ fn first_argument(alloc: Global, frames: &mut Frames, operand: Operand) -> Resul
     let RawExpr { at, node } = tree;
     match node {
         RawNode::Name(name) => frames.push(Frame::InArgument(at, name, Operands::empty(alloc))),
-        RawNode::Bool(_)
-        | RawNode::Num(_, _)
-        | RawNode::Call(_, _)
-        | RawNode::Neg(_)
-        | RawNode::Not(_)
-        | RawNode::Arith(_, _, _)
-        | RawNode::Compare(_, _, _)
-        | RawNode::And(_, _)
-        | RawNode::Or(_, _)
-        | RawNode::If(_, _, _)
-        | RawNode::Let(_, _, _)
-        | RawNode::Match(_, _, _, _, _)
-        | RawNode::Nil(_)
-        | RawNode::List(_)
-        | RawNode::Cons(_, _)
-        | RawNode::Rec(_)
-        | RawNode::Field(_, _, _)
-        | RawNode::Bracket(_) => Ok(()),
+        RawNode::Num(_, _) | composite!() => Ok(()),
     }
 }
 

@@ -13,6 +13,7 @@ mod height;
 mod infix;
 pub mod laws;
 mod least_height;
+mod node;
 mod operand;
 mod operands;
 mod operator;

@@ -9,6 +9,7 @@ ghost use Rattle.um_expr.specs.ExprHeights.{notes_in, written_height};
 ghost use Rattle.um_expr.specs.Ranks.{infix_text};
 
 use crate::infix::Infix;
+use crate::node::composite;
 use std::alloc::{AllocError, Global};
 use um_frac::Frac;
 use um_tree::{Binder, Name, RawExpr, RawNode, RawNote, RawType};
@@ -234,24 +235,7 @@ impl Operand {
     {
         match &self.tree.node {
             RawNode::Name(_) => true,
-            RawNode::Bool(_)
-            | RawNode::Num(_, _)
-            | RawNode::Call(_, _)
-            | RawNode::Neg(_)
-            | RawNode::Not(_)
-            | RawNode::Arith(_, _, _)
-            | RawNode::Compare(_, _, _)
-            | RawNode::And(_, _)
-            | RawNode::Or(_, _)
-            | RawNode::If(_, _, _)
-            | RawNode::Let(_, _, _)
-            | RawNode::Match(_, _, _, _, _)
-            | RawNode::Nil(_)
-            | RawNode::List(_)
-            | RawNode::Cons(_, _)
-            | RawNode::Rec(_)
-            | RawNode::Field(_, _, _)
-            | RawNode::Bracket(_) => false,
+            RawNode::Num(_, _) | composite!() => false,
         }
     }
 
@@ -261,25 +245,7 @@ impl Operand {
     {
         match &self.tree.node {
             RawNode::Num(_, None) => true,
-            RawNode::Num(_, Some(_))
-            | RawNode::Bool(_)
-            | RawNode::Name(_)
-            | RawNode::Call(_, _)
-            | RawNode::Neg(_)
-            | RawNode::Not(_)
-            | RawNode::Arith(_, _, _)
-            | RawNode::Compare(_, _, _)
-            | RawNode::And(_, _)
-            | RawNode::Or(_, _)
-            | RawNode::If(_, _, _)
-            | RawNode::Let(_, _, _)
-            | RawNode::Match(_, _, _, _, _)
-            | RawNode::Nil(_)
-            | RawNode::List(_)
-            | RawNode::Cons(_, _)
-            | RawNode::Rec(_)
-            | RawNode::Field(_, _, _)
-            | RawNode::Bracket(_) => false,
+            RawNode::Num(_, Some(_)) | RawNode::Name(_) | composite!() => false,
         }
     }
 }

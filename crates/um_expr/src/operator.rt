@@ -13,6 +13,7 @@ use crate::focus::{Focus, Noted, Step};
 use crate::frame::Frame;
 use crate::frames::Frames;
 use crate::infix::Infix;
+use crate::node::composite;
 use crate::operand::Operand;
 use std::alloc::{AllocError, Global};
 use um_tree::{RawExpr, RawNode, Sign};
@@ -67,25 +68,7 @@ fn note_opens(frames: &Frames, operand: Operand, sign_at: u32) -> Step
             value,
             note: NoteReader::new(),
         })),
-        RawNode::Num(_, Some(_))
-        | RawNode::Bool(_)
-        | RawNode::Name(_)
-        | RawNode::Call(_, _)
-        | RawNode::Neg(_)
-        | RawNode::Not(_)
-        | RawNode::Arith(_, _, _)
-        | RawNode::Compare(_, _, _)
-        | RawNode::And(_, _)
-        | RawNode::Or(_, _)
-        | RawNode::If(_, _, _)
-        | RawNode::Let(_, _, _)
-        | RawNode::Match(_, _, _, _, _)
-        | RawNode::Nil(_)
-        | RawNode::List(_)
-        | RawNode::Cons(_, _)
-        | RawNode::Rec(_)
-        | RawNode::Field(_, _, _)
-        | RawNode::Bracket(_) => Step::Stops(None),
+        RawNode::Num(_, Some(_)) | RawNode::Name(_) | composite!() => Step::Stops(None),
     }
 }
 
