@@ -1,6 +1,7 @@
 -- How a unit is printed.
 -- Source: this project's own texts, in the notation of the F# specification, Units Of Measure.
-use Rattle.std.specs.Prelude.{ℕ, ◌+◌, ◌/◌, ◌%◌, Bool, List, [], ◌∷◌, ◌++◌, codes, nat_lt, nat_eq, if◌then◌else◌, filter, get_or, pos, nat_abs, int_lt}
+use Rattle.std.specs.Prelude.{ℕ, ◌+◌, ◌/◌, ◌%◌, Bool, List, [], ◌∷◌, ◌++◌, codes, nat_lt, nat_eq, if◌then◌else◌}
+use Rattle.std.specs.Prelude.{filter, get_or, pos, nat_abs, int_lt}
 use Rattle.std.specs.List.{join_by}
 use Rattle.std.specs.Cmp.Lexicographic.{slice_cmp}
 use Rattle.std.specs.Ordering.{nat_cmp, is_lt, on, then_cmp}
@@ -79,7 +80,8 @@ divisors_text bases (t ∷ ts) = codes "/" ++ factors_text bases (t ∷ ts)
 -- terms in the order of printing; `1` where there are none
 abbrev pub terms_text : List (List ℕ) → List Term → List ℕ
 terms_text bases [] = codes "1"
-terms_text bases (t ∷ ts) = factors_text bases (filter is_factor (t ∷ ts)) ++ divisors_text bases (filter is_divisor (t ∷ ts))
+terms_text bases (t ∷ ts) =
+    factors_text bases (filter is_factor (t ∷ ts)) ++ divisors_text bases (filter is_divisor (t ∷ ts))
 
 abbrev pub unit_text : List (List ℕ) → PowerMap → List ℕ
 unit_text bases u = terms_text bases (ordered_terms bases u.terms)

@@ -42,16 +42,16 @@ pub record IsBlank (tokens : List Token) (behind : Bool) (rest : List Token) : T
   pub blank_end : behind ≡ false
   pub none : tokens ≡ rest
 
-abbrev pub PieceStands : Piece → Bool → List Token → Bool → List Token → Type 0
-PieceStands (name x) g tokens h rest = IsToken (name x) g tokens h rest
-PieceStands (variable x) g tokens h rest = IsToken (variable x) g tokens h rest
-PieceStands (number_piece c) g tokens h rest = IsToken (number_piece c) g tokens h rest
-PieceStands (digits n) g tokens h rest = IsToken (digits n) g tokens h rest
-PieceStands (word n) g tokens h rest = IsToken (word n) g tokens h rest
-PieceStands (sign n) g tokens h rest = IsToken (sign n) g tokens h rest
-PieceStands hole g tokens h rest = IsToken hole g tokens h rest
-PieceStands space g tokens h rest = IsBlank tokens h rest
-PieceStands line_end g tokens h rest = IsBlank tokens h rest
+abbrev pub PieceSpells : Piece → Bool → List Token → Bool → List Token → Type 0
+PieceSpells (name x) g tokens h rest = IsToken (name x) g tokens h rest
+PieceSpells (variable x) g tokens h rest = IsToken (variable x) g tokens h rest
+PieceSpells (number_piece c) g tokens h rest = IsToken (number_piece c) g tokens h rest
+PieceSpells (digits n) g tokens h rest = IsToken (digits n) g tokens h rest
+PieceSpells (word n) g tokens h rest = IsToken (word n) g tokens h rest
+PieceSpells (sign n) g tokens h rest = IsToken (sign n) g tokens h rest
+PieceSpells hole g tokens h rest = IsToken hole g tokens h rest
+PieceSpells space g tokens h rest = IsBlank tokens h rest
+PieceSpells line_end g tokens h rest = IsBlank tokens h rest
 
 -- this, and then that
 pub record Then (this that : Bool → List Token → Type 0) : Type 0 where
@@ -65,20 +65,20 @@ pub record Ended (g : Bool) (tokens : List Token) (h : Bool) (rest : List Token)
   pub same : tokens ≡ rest
 
 -- The tokens up to the rest are those of the pieces. The flags say whether what stands next is directly behind a token, before the pieces and behind them.
-abbrev pub Stands : List Piece → Bool → List Token → Bool → List Token → Type 0
-Stands [] g tokens h rest = Ended g tokens h rest
-Stands (p ∷ ps) g tokens h rest = Then (λ f next. PieceStands p g tokens f next) (λ f next. Stands ps f next h rest)
+abbrev pub PiecesSpell : List Piece → Bool → List Token → Bool → List Token → Type 0
+PiecesSpell [] g tokens h rest = Ended g tokens h rest
+PiecesSpell (p ∷ ps) g tokens h rest = Then (λ f next. PieceSpells p g tokens f next) (λ f next. PiecesSpell ps f next h rest)
 
-pub both : (xs ys : List Piece) (g : Bool) (tokens : List Token) (h : Bool) (rest : List Token) → Stands (xs ++ ys) g tokens h rest → Then (λ f next. Stands xs g tokens f next) (λ f next. Stands ys f next h rest)
+pub both : (xs ys : List Piece) (g : Bool) (tokens : List Token) (h : Bool) (rest : List Token) → PiecesSpell (xs ++ ys) g tokens h rest → Then (λ f next. PiecesSpell xs g tokens f next) (λ f next. PiecesSpell ys f next h rest)
 both [] ys g tokens h rest s = record { flag = g; next = tokens; here = record { same_flag = refl; same = refl }; later = s }
 both (x ∷ xs) ys g tokens h rest s =
     let more = both xs ys s.flag s.next h rest s.later in
     record { flag = more.flag; next = more.next; here = record { flag = s.flag; next = s.next; here = s.here; later = more.here }; later = more.later }
 
 -- the only piece
-pub only : (p : Piece) (g : Bool) (tokens : List Token) (h : Bool) (rest : List Token) → Stands (p ∷ []) g tokens h rest → PieceStands p g tokens h rest
+pub only : (p : Piece) (g : Bool) (tokens : List Token) (h : Bool) (rest : List Token) → PiecesSpell (p ∷ []) g tokens h rest → PieceSpells p g tokens h rest
 only p g tokens h rest s =
-    subst (λ next. PieceStands p g tokens h next) s.later.same (subst (λ f. PieceStands p g tokens f s.next) s.later.same_flag s.here)
+    subst (λ next. PieceSpells p g tokens h next) s.later.same (subst (λ f. PieceSpells p g tokens f s.next) s.later.same_flag s.here)
 
 -- what digits are in a unit text
 pub power_token : (n : ℕ) (k : Kind) (p : IsPower n k) → unit_token k ≡ number p.one (Some n)

@@ -7,16 +7,18 @@ use Rattle.std.specs.Char.{is_ascii_digit, is_ascii_alphabetic, is_ascii_alphanu
 use lib.Utf8.{scalar, scalars, encodes, low_scalar}
 use Rattle.unicode_ident.specs.Ident.{is_xid_continue}
 use Rattle.unicode_ident.proofs.IdentLemmas.{is_xid_continue-ascii}
-use Rattle.um_syntax.specs.Vocabulary.{words, signs, word_text, sign_text}
+use Rattle.um_syntax.specs.declared.vocabulary.Keyword.{Keyword}
+use Rattle.um_syntax.specs.declared.vocabulary.Symbol.{Symbol}
+use Rattle.um_syntax.specs.Vocabulary.{keyword_text, symbol_text}
 use Rattle.um_syntax.specs.Numeral.{AreDigits, IsDigits, Numeral, Whole, Decimal, Ratio, numeral_text, IsNumeral}
 use Rattle.um_syntax.specs.Lexeme.{starts_name, IsIdentifier, Lexeme, Sign, Number, text_of, IsLexeme, begins, NumeralEnds}
 use Rattle.um_syntax.proofs.Reading.{ascii_no_name, digit_no_name}
-use Rattle.um_syntax.proofs.Tables.{are_letters, word_letters}
+use Rattle.um_syntax.proofs.Tables.{are_letters, keyword_letters}
 use Rattle.um_syntax.proofs.Texts.{head_of}
 use Rattle.um_syntax.proofs.Digits.{IsDigits-are}
 use Rattle.um_show.proofs.Apart.{are_marks, is_mark, both_true, sign_marks, sign_begins}
 use Rattle.um_show.proofs.Chain.{Place, fresh, full, raised, lowered, pointed, role, after_role, is_second, is_slash, takes_letter, is_fresh, takes_digit, takes_blank, takes_sign, Clear, is_behind, is_raised, is_power}
-use Rattle.um_show.proofs.SignRoles.{and_no, role_is, part_front}
+use Rattle.um_show.proofs.SignRoles.{and_no, role_is, part_clear}
 
 -- ---- characters of the ASCII range
 
@@ -62,8 +64,8 @@ letters_low : (cs : List ℕ) → are_letters cs ≡ true → AllLow cs
 letters_low [] e = tt
 letters_low (c ∷ cs) e = let p = both_true (is_ascii_alphabetic c) (are_letters cs) e in (letter_low c p.0, letters_low cs p.1)
 
-pub word_low : (k : ℕ) → k < length words → AllLow (word_text k)
-word_low k h = letters_low (word_text k) (word_letters k h)
+pub word_low : (k : Keyword) → AllLow (keyword_text k)
+word_low k = letters_low (keyword_text k) (keyword_letters k)
 
 mark_low : (c : ℕ) → nat_lt c 128 ≡ true → c < 128
 mark_low c e = grind (arith, nat_tests)
@@ -74,8 +76,8 @@ marks_low (c ∷ cs) e =
     let p = both_true (nat_lt c 128) (is_mark c && are_marks cs) e in
     (mark_low c p.0, marks_low cs (both_true (is_mark c) (are_marks cs) p.1).1)
 
-pub sign_low : (k : ℕ) → AllLow (sign_text k)
-sign_low k = marks_low (sign_text k) (sign_marks k)
+pub sign_low : (k : Symbol) → AllLow (symbol_text k)
+sign_low k = marks_low (symbol_text k) (sign_marks k)
 
 -- ---- the first characters of tokens
 
@@ -105,32 +107,32 @@ digit_no_slash : (c : ℕ) → is_ascii_digit c ≡ true → is_slash c ≡ fals
 digit_no_slash c e = grind (arith, nat_tests)
 
 -- a name, a word or `_`
-pub letter_front : (s : Place) → takes_letter s ≡ true → (text : List ℕ) → IsIdentifier text → (more : List ℕ) → Clear s (text ++ more)
-letter_front s m [] i more = absurd i
-letter_front (fresh g d) m (c ∷ cs) i more = (and_no g (is_second c) (letter_no_second c i.0), and_no d (is_slash c) (letter_apart c 47 i.0 (lit< tt) refl))
-letter_front full m (c ∷ cs) i more = absurd (false≢true m)
-letter_front raised m (c ∷ cs) i more = absurd (false≢true m)
-letter_front lowered m (c ∷ cs) i more = absurd (false≢true m)
-letter_front pointed m (c ∷ cs) i more = letter_no_digit c i.0
+pub letter_clear : (s : Place) → takes_letter s ≡ true → (text : List ℕ) → IsIdentifier text → (more : List ℕ) → Clear s (text ++ more)
+letter_clear s m [] i more = absurd i
+letter_clear (fresh g d) m (c ∷ cs) i more = (and_no g (is_second c) (letter_no_second c i.0), and_no d (is_slash c) (letter_apart c 47 i.0 (lit< tt) refl))
+letter_clear full m (c ∷ cs) i more = absurd (false≢true m)
+letter_clear raised m (c ∷ cs) i more = absurd (false≢true m)
+letter_clear lowered m (c ∷ cs) i more = absurd (false≢true m)
+letter_clear pointed m (c ∷ cs) i more = letter_no_digit c i.0
 
 -- a variable
-pub quote_front : (s : Place) → is_fresh s ≡ true → (more : List ℕ) → Clear s (39 ∷ more)
-quote_front (fresh g d) m more = (and_no g false refl, and_no d false refl)
-quote_front full m more = absurd (false≢true m)
-quote_front raised m more = absurd (false≢true m)
-quote_front lowered m more = absurd (false≢true m)
-quote_front pointed m more = absurd (false≢true m)
+pub quote_clear : (s : Place) → is_fresh s ≡ true → (more : List ℕ) → Clear s (39 ∷ more)
+quote_clear (fresh g d) m more = (and_no g false refl, and_no d false refl)
+quote_clear full m more = absurd (false≢true m)
+quote_clear raised m more = absurd (false≢true m)
+quote_clear lowered m more = absurd (false≢true m)
+quote_clear pointed m more = absurd (false≢true m)
 
 -- a number
-digit_front : (s : Place) → takes_digit s ≡ true → (c : ℕ) → is_ascii_digit c ≡ true → (more : List ℕ) → Clear s (c ∷ more)
-digit_front (fresh g d) m c e more = (and_no g (is_second c) (digit_no_second c e), and_no d (is_slash c) (digit_no_slash c e))
-digit_front full m c e more = absurd (false≢true m)
-digit_front raised m c e more = tt
-digit_front lowered m c e more = digit_no_second c e
-digit_front pointed m c e more = absurd (false≢true m)
+digit_clear : (s : Place) → takes_digit s ≡ true → (c : ℕ) → is_ascii_digit c ≡ true → (more : List ℕ) → Clear s (c ∷ more)
+digit_clear (fresh g d) m c e more = (and_no g (is_second c) (digit_no_second c e), and_no d (is_slash c) (digit_no_slash c e))
+digit_clear full m c e more = absurd (false≢true m)
+digit_clear raised m c e more = tt
+digit_clear lowered m c e more = digit_no_second c e
+digit_clear pointed m c e more = absurd (false≢true m)
 
-pub numeral_front : (s : Place) → takes_digit s ≡ true → (n : Numeral) → IsNumeral n → (more : List ℕ) → Clear s (numeral_text n ++ more)
-numeral_front s m n i more = let h = head_of (Number n) i in subst (λ t. Clear s (t ++ more)) (sym h.2) (digit_front s m h.0 h.3 (h.1 ++ more))
+pub numeral_clear : (s : Place) → takes_digit s ≡ true → (n : Numeral) → IsNumeral n → (more : List ℕ) → Clear s (numeral_text n ++ more)
+numeral_clear s m n i more = let h = head_of (Number n) i in subst (λ t. Clear s (t ++ more)) (sym h.2) (digit_clear s m h.0 h.3 (h.1 ++ more))
 
 pub fresh_takes_digit : (s : Place) → is_fresh s ≡ true → takes_digit s ≡ true
 fresh_takes_digit (fresh g d) m = refl
@@ -150,9 +152,9 @@ fresh_no_power pointed m = refl
 some_text : (lexeme : Lexeme) → IsLexeme lexeme → 0 < length (text_of lexeme)
 some_text lexeme fits = let h = head_of lexeme fits in subst (λ t. 0 < length t) (sym h.2) (omega arith)
 
-begins_front : (f : ℕ → Bool) (t more : List ℕ) → 0 < length t → begins f (t ++ more) ≡ begins f t
-begins_front f [] more some = absurd (omega (arith, some))
-begins_front f (c ∷ cs) more some = refl
+begins_first : (f : ℕ → Bool) (t more : List ℕ) → 0 < length t → begins f (t ++ more) ≡ begins f t
+begins_first f [] more some = absurd (omega (arith, some))
+begins_first f (c ∷ cs) more some = refl
 
 kept_apart : (a g : Bool) → (not a || not g) ≡ true → (g && a) ≡ false
 kept_apart true true e = absurd (false≢true e)
@@ -160,25 +162,25 @@ kept_apart true false e = refl
 kept_apart false true e = refl
 kept_apart false false e = refl
 
-pub sign_front : (s : Place) (k : ℕ) → k < length signs → takes_sign s (sign_text k) ≡ true → (more : List ℕ) → Clear (after_role (role k) s) more → Clear s (sign_text k ++ more)
-sign_front (fresh g d) k h m more clear =
-    let some = some_text (Sign k) h in
-    let p = and_parts (not (begins is_second (sign_text k)) || not g) (not (begins is_slash (sign_text k)) || not d) m in (
-      ap (λ b. g && b) (begins_front is_second (sign_text k) more some) ∙ kept_apart (begins is_second (sign_text k)) g p.0,
-      ap (λ b. d && b) (begins_front is_slash (sign_text k) more some) ∙ kept_apart (begins is_slash (sign_text k)) d p.1,
+pub sign_clear : (s : Place) (k : Symbol) → takes_sign s (symbol_text k) ≡ true → (more : List ℕ) → Clear (after_role (role k) s) more → Clear s (symbol_text k ++ more)
+sign_clear (fresh g d) k m more clear =
+    let some = some_text (Sign k) tt in
+    let p = and_parts (not (begins is_second (symbol_text k)) || not g) (not (begins is_slash (symbol_text k)) || not d) m in (
+      ap (λ b. g && b) (begins_first is_second (symbol_text k) more some) ∙ kept_apart (begins is_second (symbol_text k)) g p.0,
+      ap (λ b. d && b) (begins_first is_slash (symbol_text k) more some) ∙ kept_apart (begins is_slash (symbol_text k)) d p.1,
     )
-sign_front full k h m more clear = (sign_begins k h more, part_front (role k) (sign_text k) more full (role_is k h).front clear (some_text (Sign k) h))
-sign_front raised k h m more clear = tt
-sign_front lowered k h m more clear = absurd (false≢true m)
-sign_front pointed k h m more clear = absurd (false≢true m)
+sign_clear full k m more clear = (sign_begins k more, part_clear (role k) (symbol_text k) more full (role_is k).begins_as clear (some_text (Sign k) tt))
+sign_clear raised k m more clear = tt
+sign_clear lowered k m more clear = absurd (false≢true m)
+sign_clear pointed k m more clear = absurd (false≢true m)
 
 -- white space
-pub blank_front : (s : Place) → takes_blank s ≡ true → (c : ℕ) → is_second c ≡ false → is_slash c ≡ false → is_xid_continue c ≡ false → (eqb c 46 || eqb c 114) ≡ false → (more : List ℕ) → Clear s (c ∷ more)
-blank_front (fresh g d) m c no_second no_slash stops no_part more = (and_no g (is_second c) no_second, and_no d (is_slash c) no_slash)
-blank_front full m c no_second no_slash stops no_part more = (stops, ap (λ b. b && begins is_ascii_digit more) no_part)
-blank_front raised m c no_second no_slash stops no_part more = absurd (false≢true m)
-blank_front lowered m c no_second no_slash stops no_part more = absurd (false≢true m)
-blank_front pointed m c no_second no_slash stops no_part more = absurd (false≢true m)
+pub blank_clear : (s : Place) → takes_blank s ≡ true → (c : ℕ) → is_second c ≡ false → is_slash c ≡ false → is_xid_continue c ≡ false → (eqb c 46 || eqb c 114) ≡ false → (more : List ℕ) → Clear s (c ∷ more)
+blank_clear (fresh g d) m c no_second no_slash stops no_part more = (and_no g (is_second c) no_second, and_no d (is_slash c) no_slash)
+blank_clear full m c no_second no_slash stops no_part more = (stops, ap (λ b. b && begins is_ascii_digit more) no_part)
+blank_clear raised m c no_second no_slash stops no_part more = absurd (false≢true m)
+blank_clear lowered m c no_second no_slash stops no_part more = absurd (false≢true m)
+blank_clear pointed m c no_second no_slash stops no_part more = absurd (false≢true m)
 
 -- what is blank stands behind no `^`
 pub blank_behind : (s : Place) → takes_blank s ≡ true → (is_behind s ≡ true) × (is_raised s ≡ false) × (is_power s ≡ false)
