@@ -3,7 +3,7 @@ use Rattle.std.proofs.Common.{◌≡◌, ℕ, Bool, true, false, List, refl}
 use Rattle.std.proofs.lemmas.Bool.{false≢true}
 use Rattle.um_syntax.specs.declared.vocabulary.Symbol.TheVariants as symbol
 use Rattle.um_tree.specs.RawTree.{UnitSyntax}
-use Rattle.um_types.specs.UnitTokens.{UnitToken, sign, measure, variable, number, other}
+use Rattle.um_types.specs.UnitTokens.{UnitToken, sign, measure, variable, number}
 use Rattle.um_types.specs.UnitMachine.{Frame, State, Need, Have, Raised, Lowered, Refused, act}
 
 -- whether no unit text has the token

@@ -1,5 +1,5 @@
 -- What holds of each machine that reads a grammar token by token, by the grammar alone. Published: crates above use it.
-use Rattle.std.proofs.Common.{◌≡◌, ◌≢◌, ℕ, ◌≤◌, ◌<◌, List, [], ◌∷◌, ◌++◌, Option, Some, None, refl, sym, ap, subst, ◌∙◌, arith}
+use Rattle.std.proofs.Common.{◌≡◌, ◌≢◌, ℕ, ◌≤◌, ◌<◌, List, [], ◌∷◌, ◌++◌, Option, Some, None, sym, ap, subst, ◌∙◌, arith}
 use Rattle.um_syntax.specs.declared.token.Token.{Token}
 use Rattle.um_types.specs.Machines.{runs}
 use Rattle.um_types.specs.Prefixes.{BeginsText, BeginsTextWithin, IsUnambiguous, IsTreeOf}

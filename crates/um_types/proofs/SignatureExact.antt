@@ -6,7 +6,7 @@ use Rattle.um_tree.specs.RawTree.{TypeSyntax}
 use Rattle.um_types.specs.UnitStops.{greatest_height}
 use Rattle.um_types.specs.TypeHeights.{all_height}
 use Rattle.um_types.specs.SignatureGrammar.{IsSignature, SignatureFails, SignatureHighAt}
-use Rattle.um_types.specs.Laws.{HasOneSignatureAnswer, SignatureAnswersExclude}
+use Rattle.um_types.specs.Laws.{SignatureAnswersExclude}
 use Rattle.um_types.proofs.Fewer.{begins_before, within_before, begins_front, within_front}
 use Rattle.um_types.proofs.SignatureLaws.{one_signature}
 

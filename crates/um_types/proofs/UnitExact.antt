@@ -1,12 +1,12 @@
 -- No two answers of `parse_unit` stand together: a unit text up to the stop, a stop with none, and a height too great.
-use Rattle.std.proofs.Common.{◌≡◌, ℕ, ◌+◌, ◌≤◌, ◌<◌, List, length, take, sym, ap, subst, arith, inl, inr}
+use Rattle.std.proofs.Common.{◌≡◌, ℕ, ◌+◌, ◌≤◌, List, take, subst, arith, inl, inr}
 use Rattle.std.proofs.lemmas.Bool.{cases_lt}
 use Rattle.um_syntax.specs.declared.token.Token.{Token}
 use Rattle.um_tree.specs.RawTree.{UnitSyntax}
 use Rattle.um_tree.specs.Heights.{unit_height}
 use Rattle.um_types.specs.UnitGrammar.{IsUnit, BeginsWithin}
 use Rattle.um_types.specs.UnitStops.{greatest_height, StopsAt, Reads, Misread, HighAt}
-use Rattle.um_types.specs.Laws.{HasOneUnitAnswer, UnitAnswersExclude}
+use Rattle.um_types.specs.Laws.{UnitAnswersExclude}
 use Rattle.um_types.proofs.Fewer.{begins_before, within_before, within_whole}
 use Rattle.um_types.proofs.UnitLaws.{one_unit}
 

@@ -1,10 +1,10 @@
 -- The laws of unit texts for a reader that holds the machine of units inside: what is read stands up to a rest that may be anything.
-use Rattle.std.proofs.Common.{◌≡◌, ◌≢◌, ℕ, ◌≤◌, List, [], ◌∷◌, ◌++◌, Option, Some, None, refl, sym, ap, subst, ◌∙◌, append_assoc}
+use Rattle.std.proofs.Common.{◌≡◌, ◌≢◌, ◌≤◌, List, [], ◌∷◌, ◌++◌, Option, Some, None, refl, sym, ap, subst, ◌∙◌, append_assoc}
 use Rattle.um_syntax.specs.declared.token.Token.{Token}
 use Rattle.um_tree.specs.RawTree.{UnitSyntax}
 use Rattle.um_types.specs.UnitTokens.{unit_token}
 use Rattle.um_types.specs.UnitGrammar.{Spells, Fits, IsUnit}
-use Rattle.um_types.specs.UnitMachine.{State, Need, Have, Raised, Lowered, Refused, act, run, whole, finish}
+use Rattle.um_types.specs.UnitMachine.{State, Need, Refused, act, run, whole, finish}
 use Rattle.um_types.specs.UnitLeast.{least}
 use Rattle.um_types.specs.Machines.{runs, Reaches}
 use Rattle.um_types.proofs.UnitComplete.{into, red_into}

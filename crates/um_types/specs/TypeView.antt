@@ -1,8 +1,8 @@
 -- What was read of a type text, without where it lies in memory.
 -- Source: this project's own.
-use Rattle.std.specs.Prelude.{◌≡◌, ℕ, [], Option, Some, None, Result, Ok, Err}
+use Rattle.std.specs.Prelude.{◌≡◌, ℕ, Some, None, Result, Ok, Err}
 use Rattle.um_tree.specs.declared.raw.RawType.{RawType}
-use Rattle.um_tree.specs.RawTree.{TypeSyntax, record_syntax, note_syntaxes, type_syntax}
+use Rattle.um_tree.specs.RawTree.{TypeSyntax, note_syntaxes, type_syntax}
 use Rattle.um_types.specs.NoteTakes.{note_state}
 use Rattle.um_types.specs.TypeMachine.{Owner, OfNum, OfName, TypeState, NeedType, HaveType, InNote, angle_owner}
 use Rattle.um_types.specs.declared.type_operand.TypeOperand.{TypeOperand}
