@@ -12,18 +12,18 @@ use Rattle.um_names.specs.Tables.{own_callable, own_found}
 use Rattle.um_names.specs.declared.callable.Callable.{Callable}
 use Rattle.um_measures.proofs.NameLists.{or_else, if_named, number_of-append}
 
-pub number_of-front : (xs ys : List (List ℕ)) (x : List ℕ) (j : ℕ) → number_of xs x ≡ Some j → number_of (xs ++ ys) x ≡ Some j
-number_of-front [] ys x j e = absurd cc
-number_of-front (z ∷ xs) ys x j e = by (bytes_eq x z) (number_of xs x) (number_of-front xs ys x) e where
+pub number_of-prefix : (xs ys : List (List ℕ)) (x : List ℕ) (j : ℕ) → number_of xs x ≡ Some j → number_of (xs ++ ys) x ≡ Some j
+number_of-prefix [] ys x j e = absurd cc
+number_of-prefix (z ∷ xs) ys x j e = by (bytes_eq x z) (number_of xs x) (number_of-prefix xs ys x) e where
   by : (b : Bool) (o : Option ℕ) → ((i : ℕ) → o ≡ Some i → number_of (xs ++ ys) x ≡ Some i) → cond b (Some 0) (one_later o) ≡ Some j → cond b (Some 0) (one_later (number_of (xs ++ ys) x)) ≡ Some j
   by true o h f = f
   by false None h f = absurd cc
   by false (Some i) h f = ap one_later (h i refl) ∙ f
 
-pub slice_get-front : {A : Type 0} (xs ys : List A) (j : ℕ) (a : A) → slice_get xs j ≡ Some a → slice_get (xs ++ ys) j ≡ Some a
-slice_get-front [] ys j a e = absurd cc
-slice_get-front (x ∷ xs) ys zero a e = e
-slice_get-front (x ∷ xs) ys (suc j) a e = slice_get-front xs ys j a e
+pub slice_get-prefix : {A : Type 0} (xs ys : List A) (j : ℕ) (a : A) → slice_get xs j ≡ Some a → slice_get (xs ++ ys) j ≡ Some a
+slice_get-prefix [] ys j a e = absurd cc
+slice_get-prefix (x ∷ xs) ys zero a e = e
+slice_get-prefix (x ∷ xs) ys (suc j) a e = slice_get-prefix xs ys j a e
 
 pub slice_get-last : {A : Type 0} (xs : List A) (a : A) → slice_get (xs ++ a ∷ []) (length xs) ≡ Some a
 slice_get-last [] a = refl
@@ -53,8 +53,8 @@ pub callable_declared : (fs : List FunctionTree) (own : Option Callable) (x : Li
     → callable_of (map callable fs ++ own_callable own) x n at ≡ cond (n == length f.params) (Ok j) (Err (wrong_count at))
 callable_declared fs own x n at j f e g =
     let cs = map callable fs ++ own_callable own in
-    let numbered : number_of (map (λ f. f.name) cs) x ≡ Some j = ap (λ (ns : List (List ℕ)). number_of ns x) (all_names fs (own_callable own)) ∙ number_of-front (function_names fs) (map (λ f. f.name) (own_callable own)) x j e in
-    let there : slice_get cs j ≡ Some (callable f) = slice_get-front (map callable fs) (own_callable own) j (callable f) (slice_get-callable fs j f g) in
+    let numbered : number_of (map (λ f. f.name) cs) x ≡ Some j = ap (λ (ns : List (List ℕ)). number_of ns x) (all_names fs (own_callable own)) ∙ number_of-prefix (function_names fs) (map (λ f. f.name) (own_callable own)) x j e in
+    let there : slice_get cs j ≡ Some (callable f) = slice_get-prefix (map callable fs) (own_callable own) j (callable f) (slice_get-callable fs j f g) in
     ap (λ o. numbered_function cs o n at) numbered ∙ ap (λ o. with_arguments o j n at) there
 
 pub callable_else : (fs : List FunctionTree) (own : Option Callable) (x : List ℕ) (n at : ℕ) → number_of (function_names fs) x ≡ None → callable_of (map callable fs ++ own_callable own) x n at ≡ own_found own (length fs) x n at

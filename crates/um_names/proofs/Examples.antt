@@ -66,7 +66,7 @@ power_past_range = refl
 abbrev dimensionless : TypeSyntax
 dimensionless = num_syntax None
 
--- m^2147483647 m m^-1: a front of the product is past the range
+-- m^2147483647 m m^-1: a prefix of the product is past the range
 front_past_range : resolution (prelude ++ short_syntax 108 (codes "B") (side_syntax (more_units (power_syntax (measure_syntax 112 (codes "m")) (pos 2147483647)) (more_units (measure_syntax 125 (codes "m")) (more_units (power_syntax (measure_syntax 127 (codes "m")) (negsuc 0)) no_units)))) ∷ []) ≡ Err (range 112)
 unfolding product
 front_past_range = refl

@@ -12,7 +12,7 @@ use Rattle.um_names.specs.ExprNames.{field_or, field_of}
 use Rattle.um_names.specs.Parts.{field_else, field_if, field_at}
 use Rattle.um_names.specs.Tables.{numbered_field}
 use Rattle.um_measures.proofs.NameLists.{or_else, if_named, is_among-number, number_of-append, number_of-below}
-use Rattle.um_names.proofs.CallableNames.{slice_get-front, slice_get-last}
+use Rattle.um_names.proofs.CallableNames.{slice_get-prefix, slice_get-last}
 
 is_there : {A : Type 0} (xs : List A) (k : ℕ) → k < length xs → is_some (slice_get xs k) ≡ true
 is_there [] k h = absurd (omega arith)
@@ -23,16 +23,16 @@ else_there : (o p : Option FieldNumber) → is_some o ≡ true → field_else o 
 else_there None p e = cc
 else_there (Some f) p e = refl
 
-front_there : (ns : List FieldNumber) (n : FieldNumber) (k : ℕ) (p o : Option FieldNumber) → slice_get ns k ≡ o → is_some o ≡ true → slice_get (ns ++ n ∷ []) k ≡ field_else o p
-front_there ns n k p None e h = cc
-front_there ns n k p (Some f) e h = slice_get-front ns (n ∷ []) k f e
+prefix_there : (ns : List FieldNumber) (n : FieldNumber) (k : ℕ) (p o : Option FieldNumber) → slice_get ns k ≡ o → is_some o ≡ true → slice_get (ns ++ n ∷ []) k ≡ field_else o p
+prefix_there ns n k p None e h = cc
+prefix_there ns n k p (Some f) e h = slice_get-prefix ns (n ∷ []) k f e
 
 -- the name of a field is new
 pub field_added : (names : List (List ℕ)) (ns : List FieldNumber) (x : List ℕ) (n : FieldNumber) → length names ≡ length ns
     → (y : List ℕ) → numbered_field (ns ++ n ∷ []) (number_of (names ++ x ∷ []) y) ≡ field_else (numbered_field ns (number_of names y)) (field_if y x n)
 field_added names ns x n counts y = ap (numbered_field (ns ++ n ∷ [])) (number_of-append y names x) ∙ by (number_of names y) (bytes_eq y x) refl where
   by : (o : Option ℕ) (b : Bool) → number_of names y ≡ o → numbered_field (ns ++ n ∷ []) (or_else o (cond b (Some (length names)) None)) ≡ field_else (numbered_field ns o) (cond b (Some n) None)
-  by (Some k) b e = front_there ns n k (cond b (Some n) None) (slice_get ns k) refl (is_there ns k (omega (arith, number_of-below y names k e, counts)))
+  by (Some k) b e = prefix_there ns n k (cond b (Some n) None) (slice_get ns k) refl (is_there ns k (omega (arith, number_of-below y names k e, counts)))
   by None true e = ap (λ (k : ℕ). slice_get (ns ++ n ∷ []) k) counts ∙ slice_get-last ns n
   by None false e = refl
 

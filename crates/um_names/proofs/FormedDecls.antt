@@ -6,7 +6,7 @@ use Rattle.std.proofs.lemmas.List.Elements.{All-nil, All-cons, All-append}
 use Rattle.um_units.specs.PowerMap.{PowerMap}
 use Rattle.um_tree.specs.TreeHeights.{type_tree_height}
 use Rattle.um_tree.specs.ProgramTree.{FieldTree, RecordTree, FunctionTree}
-use Rattle.um_tree.specs.Formed.{IsNameText, AreNames, IsUnitIn, IsTypeIn, NamesEarlier, IsFormedRecord, IsFormedFunction}
+use Rattle.um_tree.specs.Formed.{IsNameBytes, AreNames, IsUnitIn, IsTypeIn, NamesEarlier, IsFormedRecord, IsFormedFunction}
 use Rattle.um_tree.specs.RawTree.{VarSyntax, FieldDeclSyntax}
 use Rattle.um_measures.specs.Faults.{and_then, unless_taken}
 use Rattle.um_measures.specs.Known.{Known, nothing, is_among, is_taken, short_names, record_names, function_names, names_of_fields, field_names}
@@ -58,7 +58,7 @@ absent known x e =
 
 -- ---- measures
 
-pub base_sound : (known : Known) (x : List ℕ) → IsSound known → IsNameText x → is_taken known x ≡ false → IsSound (with_base known x)
+pub base_sound : (known : Known) (x : List ℕ) → IsSound known → IsNameBytes x → is_taken known x ≡ false → IsSound (with_base known x)
 base_sound known x s name new =
     let e = extends_base known.program x in
     let q = (with_base known x).program in
@@ -114,7 +114,7 @@ module _ (known : Known) (variables : List (List ℕ)) (s : IsSound known) where
     pub once : AreFresh (field_names known.program.records ++ names_in fs)
     pub many : length fs ≡ n
 
-  field_pushed : (before : List FieldTree) (f : FieldTree) (n : ℕ) → AreFields before n → IsField f → IsNameText f.name → is_among (field_names known.program.records) f.name ≡ false → is_among (names_in before) f.name ≡ false → AreFields (before ++ f ∷ []) (n + 1)
+  field_pushed : (before : List FieldTree) (f : FieldTree) (n : ℕ) → AreFields before n → IsField f → IsNameBytes f.name → is_among (field_names known.program.records) f.name ≡ false → is_among (names_in before) f.name ≡ false → AreFields (before ++ f ∷ []) (n + 1)
   field_pushed before f n w h name new own =
       let pushed : names_in (before ++ f ∷ []) ≡ names_in before ++ f.name ∷ [] = map-append (λ g. g.name) before (f ∷ []) in
       let all = field_names known.program.records in

@@ -19,7 +19,7 @@ use Rattle.um_measures.specs.Scopes.{Scope}
 use Rattle.um_names.specs.ExprNames.{callable_of, numbered_function, with_arguments, resolved_expr}
 use Rattle.um_names.specs.Resolution.{unless_repeated, resolved_params, resolved_result, callable, callables, scope_of, resolved_function, with_function}
 use Rattle.um_names.specs.Readable.{AreReadParams, IsReadResult, IsReadFunction}
-use Rattle.um_names.proofs.CallableNames.{slice_get-front, slice_get-last}
+use Rattle.um_names.proofs.CallableNames.{slice_get-prefix, slice_get-last}
 use Rattle.um_names.proofs.FormedTypes.{then_found, type_in, slice_get-below, same_count}
 use Rattle.um_names.proofs.FormedExprs.{expr_in}
 use Rattle.um_names.proofs.FormedNames.{AreFresh, fresh_inserted, names-append, names-one}
@@ -86,7 +86,7 @@ may_call known f g recursive many x n at j e =
     let own : Callable = record { name = f.name; params = length f.params } in
     let w = found_callable (callables known f) (number_of (map (λ c. c.name) (callables known f)) x) n at j e in
     elim (callable_at fs (cond f.recursive (own ∷ []) []) j w.0 w.1) [
-      | inl h ↦ record { function = h.0; known = inl (slice_get-below fs j h.0 h.1); declared = slice_get-front fs (g ∷ []) j h.0 h.1; arguments = w.2 ∙ h.2 }
+      | inl h ↦ record { function = h.0; known = inl (slice_get-below fs j h.0 h.1); declared = slice_get-prefix fs (g ∷ []) j h.0 h.1; arguments = w.2 ∙ h.2 }
       | inr h ↦
           let o = own_at f.recursive own w.0 h.0 h.1 in
           let last : j ≡ length fs = (let k = h.2 in let z = o.1 in omega (arith, k, z)) in

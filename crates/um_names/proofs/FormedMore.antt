@@ -8,7 +8,7 @@ use Rattle.um_tree.specs.TypeTree.{TypeTree, bool_type, num_type, list_type, rec
 use Rattle.um_tree.specs.ExprTree.{ExprTree, ExprTrees, truth, number, local, call, negate, not_expr, arith as arith_tree, compare, both, either, if, bind, split, nil, list_expr, cons, record_expr, field, none, more}
 use Rattle.um_tree.specs.ProgramTree.{RecordTree, FunctionTree, ProgramTree}
 use Rattle.um_tree.specs.Formed.{IsNoteIn, TakesUnits, IsTypeIn, IsNoteTreeIn, IsLiteral, IsFormedIn, AllFormedIn, IsFormedRecord, ResultFormed, IsFormedFunction}
-use Rattle.um_names.proofs.CallableNames.{slice_get-front}
+use Rattle.um_names.proofs.CallableNames.{slice_get-prefix}
 use Rattle.um_names.proofs.FormedUnits.{BasesBelow-more, in_more}
 
 -- the one program begins with the other
@@ -96,10 +96,10 @@ pub extends_base : (p : ProgramTree) (x : List ℕ) → Extends p (record { base
 extends_base p x = record { bases = (let l = length-append p.bases (x ∷ []) in omega (arith, l)); records = λ r d e. e; functions = λ j g e. e }
 
 pub extends_record : (p : ProgramTree) (d : RecordTree) → Extends p (record { bases = p.bases; records = p.records ++ d ∷ []; functions = p.functions })
-extends_record p d = record { bases = omega arith; records = λ r e h. slice_get-front p.records (d ∷ []) r e h; functions = λ j g e. e }
+extends_record p d = record { bases = omega arith; records = λ r e h. slice_get-prefix p.records (d ∷ []) r e h; functions = λ j g e. e }
 
 pub extends_function : (p : ProgramTree) (f : FunctionTree) → Extends p (record { bases = p.bases; records = p.records; functions = p.functions ++ f ∷ [] })
-extends_function p f = record { bases = omega arith; records = λ r d e. e; functions = λ j g h. slice_get-front p.functions (f ∷ []) j g h }
+extends_function p f = record { bases = omega arith; records = λ r d e. e; functions = λ j g h. slice_get-prefix p.functions (f ∷ []) j g h }
 
 -- one of these, or the last
 pub slice_get-split : {A : Type 0} (xs : List A) (x : A) (k : ℕ) (y : A) → slice_get (xs ++ x ∷ []) k ≡ Some y → (slice_get xs k ≡ Some y) ⊎ ((k ≡ length xs) × (x ≡ y))

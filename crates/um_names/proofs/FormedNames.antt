@@ -4,7 +4,7 @@ use Rattle.std.specs.Prelude.{Some, slice_get}
 use Rattle.std.specs.Str.{bytes_eq}
 use Rattle.std.proofs.lemmas.Slice.Eq.{bytes_eq-Decides}
 use Rattle.std.proofs.lemmas.List.Folds.{list_any-append}
-use Rattle.um_tree.specs.Formed.{IsNameText, AreNames, AreDistinct}
+use Rattle.um_tree.specs.Formed.{IsNameBytes, AreNames, AreDistinct}
 use Rattle.um_measures.specs.Known.{is_among}
 
 -- no name is one of those behind it
@@ -73,8 +73,8 @@ names-append [] ys h j k x e = j k x e
 names-append (y ∷ xs) ys h j zero x e = h zero x e
 names-append (y ∷ xs) ys h j (suc k) x e = names-append xs ys (λ l. h (suc l)) j k x e
 
-pub names-one : (x : List ℕ) → IsNameText x → AreNames (x ∷ [])
-names-one x h zero y e = let same : x ≡ y = cc e in subst IsNameText same h
+pub names-one : (x : List ℕ) → IsNameBytes x → AreNames (x ∷ [])
+names-one x h zero y e = let same : x ≡ y = cc e in subst IsNameBytes same h
 names-one x h (suc k) y e = absurd cc
 
 pub names-none : AreNames []

@@ -11,7 +11,7 @@ use Rattle.um_tree.specs.ProgramTree.{RecordTree, record_tree}
 use Rattle.um_measures.specs.Known.{Known, is_among, is_taken, record_names}
 use Rattle.um_names.specs.Heads.{head_of, only_bases, with_heads}
 use Rattle.um_names.specs.Resolution.{with_record}
-use Rattle.um_names.proofs.CallableNames.{slice_get-front}
+use Rattle.um_names.proofs.CallableNames.{slice_get-prefix}
 
 found : (xs : List (List ℕ)) (i : ℕ) (x : List ℕ) → is_among (take i xs) x ≡ true → (j : ℕ) × (j < i) × (slice_get xs j ≡ Some x)
 found [] zero x e = absurd cc
@@ -34,8 +34,8 @@ new_among xs i x once l e = by (is_among (take i xs) x) refl where
       let below = w.1 in
       absurd (omega (arith, same, below))
 
-pub distinct-front : (xs ys : List (List ℕ)) → AreDistinct (xs ++ ys) → AreDistinct xs
-distinct-front xs ys h i j x e f = h i j x (slice_get-front xs ys i x e) (slice_get-front xs ys j x f)
+pub distinct-prefix : (xs ys : List (List ℕ)) → AreDistinct (xs ++ ys) → AreDistinct xs
+distinct-prefix xs ys h i j x e f = h i j x (slice_get-prefix xs ys i x e) (slice_get-prefix xs ys j x f)
 
 pub behind : (xs ys : List (List ℕ)) (k : ℕ) → slice_get (xs ++ ys) (length xs + k) ≡ slice_get ys k
 behind [] ys k = ap (slice_get ys) (omega arith)

@@ -9,7 +9,7 @@ use Rattle.um_names.specs.declared.callable.FieldNumber.{FieldNumber}
 use Rattle.um_names.specs.ExprNames.{same_names, if_same_names, with_all_fields, field_or, field_of, later_record}
 use Rattle.um_measures.specs.Known.{number_of, one_later, names_of_fields, field_names}
 use Rattle.um_names.specs.RecordLaws.{RecordHasTheseFields, RecordIsFound}
-use Rattle.um_names.proofs.CallableNames.{slice_get-front}
+use Rattle.um_names.proofs.CallableNames.{slice_get-prefix}
 use Rattle.um_names.proofs.HeadNames.{behind, distinct-back}
 use Rattle.um_measures.proofs.NameLists.{number_of-below}
 
@@ -83,7 +83,7 @@ field_found (c ∷ ds) (suc r) d x xs once e n =
     by (Some k) h w =
         let there = field_there ds r d x xs e n in
         let same : k ≡ length (names_of_fields c) + there.0 =
-        once k (length (names_of_fields c) + there.0) x (slice_get-front (names_of_fields c) (field_names ds) k x (number_there (names_of_fields c) x k h)) (behind (names_of_fields c) (field_names ds) there.0 ∙ there.1) in
+        once k (length (names_of_fields c) + there.0) x (slice_get-prefix (names_of_fields c) (field_names ds) k x (number_there (names_of_fields c) x k h)) (behind (names_of_fields c) (field_names ds) there.0 ∙ there.1) in
         let below = number_of-below x (names_of_fields c) k h in
         absurd (omega (arith, same, below))
 

@@ -1,7 +1,7 @@
 -- What the grammar, the lexer and the limits say of each raw tree that is read from a text.
 -- Source: this project's own limits; names by Unicode Standard Annex 31.
 use Rattle.std.specs.Prelude.{ℕ, ◌<◌, ◌≤◌, ◌+◌, IsTrue, IsSome, List, [], ◌∷◌, length, Option, Some, None}
-use Rattle.um_tree.specs.Formed.{IsNameText}
+use Rattle.um_tree.specs.Formed.{IsNameBytes}
 use Rattle.um_tree.specs.Heights.{type_height, expr_height, expr_nodes}
 use Rattle.um_tree.specs.RawTree.{TypeSyntax, ExprSyntax, ExprSyntaxes, FieldSyntaxes, truth_syntax, number_syntax}
 use Rattle.um_tree.specs.RawTree.{name_syntax, call_syntax, negate_syntax, not_syntax, arith_syntax, compare_syntax}
@@ -44,10 +44,10 @@ abbrev mutual
 
 abbrev pub AreReadFieldDecls : List FieldDeclSyntax → Type 0
 AreReadFieldDecls [] = Unit {0}
-AreReadFieldDecls (f ∷ fs) = IsNameText f.name × (type_height f.type ≤ 400) × AreReadFieldDecls fs
+AreReadFieldDecls (f ∷ fs) = IsNameBytes f.name × (type_height f.type ≤ 400) × AreReadFieldDecls fs
 
 pub record IsReadRecord (x : List ℕ) (vs : List VarSyntax) (fs : List FieldDeclSyntax) : Type 0 where
-  pub name : IsNameText x
+  pub name : IsNameBytes x
   pub few_units : length vs ≤ 4
   pub some_field : 0 < length fs
   pub few_fields : length fs ≤ 32
@@ -62,7 +62,7 @@ IsReadResult None = Unit {0}
 IsReadResult (Some t) = type_height t ≤ 400
 
 pub record IsReadFunction (f : FunctionSyntax) : Type 0 where
-  pub name : IsNameText f.name
+  pub name : IsNameBytes f.name
   pub few_params : length f.params ≤ 16
   pub params : AreReadParams f.params
   pub result : IsReadResult f.result
@@ -72,8 +72,8 @@ pub record IsReadFunction (f : FunctionSyntax) : Type 0 where
   pub nodes : expr_nodes f.body ≤ 20000
 
 abbrev pub IsReadDecl : DeclSyntax → Type 0
-IsReadDecl (base_syntax at x) = IsNameText x
-IsReadDecl (short_syntax at x u) = IsNameText x
+IsReadDecl (base_syntax at x) = IsNameBytes x
+IsReadDecl (short_syntax at x u) = IsNameBytes x
 IsReadDecl (record_decl_syntax at x vs fs) = IsReadRecord x vs fs
 IsReadDecl (function_syntax f) = IsReadFunction f
 

@@ -2,8 +2,9 @@
 
 ghost use Rattle.std.specs.Prelude.{◌≡◌, ◌∷◌, ◌++◌, [], Ok, IfOk, IfErr, OnOk, map, length};
 ghost use Rattle.um_tree.specs.ExprTree.{expr_tree, in_order};
-ghost use Rattle.um_tree.specs.RawTree.{written_note, type_syntax, expr_syntax, exprs_in_order, field_part, fields_in_order};
-ghost use Rattle.um_tree.specs.RawTree.{call_syntax, fields_syntax, field_syntax};
+ghost use Rattle.um_tree.specs.RawTree.{written_note, type_syntax, binder_syntax, expr_syntax, exprs_in_order, field_part, fields_in_order};
+ghost use Rattle.um_tree.specs.RawTree.{call_syntax, arith_syntax, compare_syntax, and_syntax, or_syntax, cons_syntax};
+ghost use Rattle.um_tree.specs.RawTree.{if_syntax, let_syntax, match_syntax, fields_syntax, field_syntax};
 ghost use Rattle.um_measures.specs.Scopes.{same_binding, local_of};
 ghost use Rattle.um_names.specs.ExprNames.{resolved_literal, resolved_nil, resolved_fields, known_fields, found_field, field_of, length_of, named, called};
 ghost use Rattle.um_measures.specs.Faults.{unless_taken};
@@ -19,7 +20,8 @@ use std::boxed::Box;
 use um_frac::Frac;
 use um_measures::{NameStop, NameTable, Scope, same_binding};
 use um_tree::{
-    Binder, Expr, Exprs, Name, Node, RawExpr, RawField, RawNode, RawNote, RawType, UnitNote,
+    Arith, Binder, Expr, Exprs, Name, Node, RawExpr, RawField, RawNode, RawNote, RawType, Sign,
+    UnitNote,
 };
 use um_units::Unit;
 
@@ -211,54 +213,21 @@ pub fn expr(
         RawNode::Call(name, items) => call_expr(alloc, tables, body, scope, at, name, &items.items),
         RawNode::Neg(a) => located(at, Node::Neg(boxed(alloc, tables, body, scope, a)?)),
         RawNode::Not(a) => located(at, Node::Not(boxed(alloc, tables, body, scope, a)?)),
-        RawNode::Arith(op, a, b) => {
-            let left = boxed(alloc, tables, body, scope, a)?;
-            let right = boxed(alloc, tables, body, scope, b)?;
-            located(at, Node::Arith(*op, left, right))
-        }
-        RawNode::Compare(sign, a, b) => {
-            let left = boxed(alloc, tables, body, scope, a)?;
-            let right = boxed(alloc, tables, body, scope, b)?;
-            located(at, Node::Compare(*sign, left, right))
-        }
-        RawNode::And(a, b) => {
-            let left = boxed(alloc, tables, body, scope, a)?;
-            let right = boxed(alloc, tables, body, scope, b)?;
-            located(at, Node::And(left, right))
-        }
-        RawNode::Or(a, b) => {
-            let left = boxed(alloc, tables, body, scope, a)?;
-            let right = boxed(alloc, tables, body, scope, b)?;
-            located(at, Node::Or(left, right))
-        }
-        RawNode::If(c, a, b) => {
-            let condition = boxed(alloc, tables, body, scope, c)?;
-            let yes = boxed(alloc, tables, body, scope, a)?;
-            let no = boxed(alloc, tables, body, scope, b)?;
-            located(at, Node::If(condition, yes, no))
-        }
-        RawNode::Let(x, a, b) => {
-            let value = boxed(alloc, tables, body, scope, a)?;
-            let rest = under(alloc, tables, body, scope, x, b)?;
-            located(at, Node::Let(value, rest))
-        }
+        RawNode::Arith(op, a, b) => arith_expr(alloc, tables, body, scope, at, *op, a, b),
+        RawNode::Compare(sign, a, b) => compare_expr(alloc, tables, body, scope, at, *sign, a, b),
+        RawNode::And(a, b) => and_expr(alloc, tables, body, scope, at, a, b),
+        RawNode::Or(a, b) => or_expr(alloc, tables, body, scope, at, a, b),
+        RawNode::If(c, a, b) => if_expr(alloc, tables, body, scope, at, c, a, b),
+        RawNode::Let(x, a, b) => let_expr(alloc, tables, body, scope, at, x, a, b),
         RawNode::Match(l, a, x, y, b) => {
-            let list = boxed(alloc, tables, body, scope, l)?;
-            let empty = boxed(alloc, tables, body, scope, a)?;
-            distinct(x, y)?;
-            let full = under_both(alloc, tables, body, scope, x, y, b)?;
-            located(at, Node::Match(list, empty, full))
+            match_expr(alloc, tables, body, scope, at, l, a, x, y, b)
         }
         RawNode::Nil(ty) => empty_list(alloc, tables, body, at, ty),
         RawNode::List(items) => {
             let items = exprs(alloc, tables, body, scope, &items.items)?;
             located(at, Node::List(Exprs { items }))
         }
-        RawNode::Cons(a, b) => {
-            let head = boxed(alloc, tables, body, scope, a)?;
-            let tail = boxed(alloc, tables, body, scope, b)?;
-            located(at, Node::Cons(head, tail))
-        }
+        RawNode::Cons(a, b) => cons_expr(alloc, tables, body, scope, at, a, b),
         RawNode::Rec(fields) => record_expr(alloc, tables, body, scope, at, &fields.items),
         RawNode::Field(place, name, a) => {
             field_expr(alloc, tables, body, scope, at, *place, name, a)
@@ -308,50 +277,221 @@ fn call_expr(
     located(at, Node::Call(function, Exprs { items }))
 }
 
-/// With one more variable.
+/// A sum, a difference, a product or a quotient.
 #[cycle(expr)]
-fn under(
+fn arith_expr(
     alloc: Global,
     tables: &Tables,
     body: &Body,
     scope: &mut Scope,
-    x: &Binder,
-    e: &RawExpr,
-) -> Result<Box<Expr>, NameStop>
+    at: u32,
+    op: Arith,
+    a: &RawExpr,
+    b: &RawExpr,
+) -> Result<Expr, NameStop>
     requires { AreTables tables.now }
-    ensures exact { IfOk result (λ r. resolved_in tables.now body.now (scope.old ++ x.now.name ∷ []) (expr_syntax e.now) ≡ Ok (expr_tree r.value)) }
-    ensures faults { IfErr result (IsFirst (resolved_in tables.now body.now (scope.old ++ x.now.name ∷ []) (expr_syntax e.now))) }
+    ensures exact { IfOk result (λ r. resolved_in tables.now body.now scope.old
+        (arith_syntax at op (expr_syntax a.now) (expr_syntax b.now)) ≡ Ok (expr_tree r)) }
+    ensures faults { IfErr result (IsFirst (resolved_in tables.now body.now scope.old
+        (arith_syntax at op (expr_syntax a.now) (expr_syntax b.now)))) }
     ensures scope { OnOk result (scope.new ≡ scope.old) }
 {
-    let count = scope.count();
-    scope.push(alloc, x)?;
-    let e = boxed(alloc, tables, body, scope, e)?;
-    scope.cut(count);
-    Ok(e)
+    let left = expr(alloc, tables, body, scope, a)?;
+    let right = expr(alloc, tables, body, scope, b)?;
+    let left = Box::new(alloc, left)?;
+    let right = Box::new(alloc, right)?;
+    located(at, Node::Arith(op, left, right))
 }
 
-/// With two more variables.
+/// A comparison.
 #[cycle(expr)]
-fn under_both(
+fn compare_expr(
     alloc: Global,
     tables: &Tables,
     body: &Body,
     scope: &mut Scope,
-    x: &Binder,
-    y: &Binder,
-    e: &RawExpr,
-) -> Result<Box<Expr>, NameStop>
+    at: u32,
+    sign: Sign,
+    a: &RawExpr,
+    b: &RawExpr,
+) -> Result<Expr, NameStop>
     requires { AreTables tables.now }
-    ensures exact { IfOk result (λ r. resolved_in tables.now body.now (scope.old ++ x.now.name ∷ y.now.name ∷ []) (expr_syntax e.now) ≡ Ok (expr_tree r.value)) }
-    ensures faults { IfErr result (IsFirst (resolved_in tables.now body.now (scope.old ++ x.now.name ∷ y.now.name ∷ []) (expr_syntax e.now))) }
+    ensures exact { IfOk result (λ r. resolved_in tables.now body.now scope.old
+        (compare_syntax at sign (expr_syntax a.now) (expr_syntax b.now)) ≡ Ok (expr_tree r)) }
+    ensures faults { IfErr result (IsFirst (resolved_in tables.now body.now scope.old
+        (compare_syntax at sign (expr_syntax a.now) (expr_syntax b.now)))) }
     ensures scope { OnOk result (scope.new ≡ scope.old) }
 {
+    let left = expr(alloc, tables, body, scope, a)?;
+    let right = expr(alloc, tables, body, scope, b)?;
+    let left = Box::new(alloc, left)?;
+    let right = Box::new(alloc, right)?;
+    located(at, Node::Compare(sign, left, right))
+}
+
+#[cycle(expr)]
+fn and_expr(
+    alloc: Global,
+    tables: &Tables,
+    body: &Body,
+    scope: &mut Scope,
+    at: u32,
+    a: &RawExpr,
+    b: &RawExpr,
+) -> Result<Expr, NameStop>
+    requires { AreTables tables.now }
+    ensures exact { IfOk result (λ r. resolved_in tables.now body.now scope.old
+        (and_syntax at (expr_syntax a.now) (expr_syntax b.now)) ≡ Ok (expr_tree r)) }
+    ensures faults { IfErr result (IsFirst (resolved_in tables.now body.now scope.old
+        (and_syntax at (expr_syntax a.now) (expr_syntax b.now)))) }
+    ensures scope { OnOk result (scope.new ≡ scope.old) }
+{
+    let left = expr(alloc, tables, body, scope, a)?;
+    let right = expr(alloc, tables, body, scope, b)?;
+    let left = Box::new(alloc, left)?;
+    let right = Box::new(alloc, right)?;
+    located(at, Node::And(left, right))
+}
+
+#[cycle(expr)]
+fn or_expr(
+    alloc: Global,
+    tables: &Tables,
+    body: &Body,
+    scope: &mut Scope,
+    at: u32,
+    a: &RawExpr,
+    b: &RawExpr,
+) -> Result<Expr, NameStop>
+    requires { AreTables tables.now }
+    ensures exact { IfOk result (λ r. resolved_in tables.now body.now scope.old
+        (or_syntax at (expr_syntax a.now) (expr_syntax b.now)) ≡ Ok (expr_tree r)) }
+    ensures faults { IfErr result (IsFirst (resolved_in tables.now body.now scope.old
+        (or_syntax at (expr_syntax a.now) (expr_syntax b.now)))) }
+    ensures scope { OnOk result (scope.new ≡ scope.old) }
+{
+    let left = expr(alloc, tables, body, scope, a)?;
+    let right = expr(alloc, tables, body, scope, b)?;
+    let left = Box::new(alloc, left)?;
+    let right = Box::new(alloc, right)?;
+    located(at, Node::Or(left, right))
+}
+
+/// A head in front of a tail.
+#[cycle(expr)]
+fn cons_expr(
+    alloc: Global,
+    tables: &Tables,
+    body: &Body,
+    scope: &mut Scope,
+    at: u32,
+    a: &RawExpr,
+    b: &RawExpr,
+) -> Result<Expr, NameStop>
+    requires { AreTables tables.now }
+    ensures exact { IfOk result (λ r. resolved_in tables.now body.now scope.old
+        (cons_syntax at (expr_syntax a.now) (expr_syntax b.now)) ≡ Ok (expr_tree r)) }
+    ensures faults { IfErr result (IsFirst (resolved_in tables.now body.now scope.old
+        (cons_syntax at (expr_syntax a.now) (expr_syntax b.now)))) }
+    ensures scope { OnOk result (scope.new ≡ scope.old) }
+{
+    let head = expr(alloc, tables, body, scope, a)?;
+    let tail = expr(alloc, tables, body, scope, b)?;
+    let head = Box::new(alloc, head)?;
+    let tail = Box::new(alloc, tail)?;
+    located(at, Node::Cons(head, tail))
+}
+
+/// A condition and its arms.
+#[cycle(expr)]
+fn if_expr(
+    alloc: Global,
+    tables: &Tables,
+    body: &Body,
+    scope: &mut Scope,
+    at: u32,
+    c: &RawExpr,
+    a: &RawExpr,
+    b: &RawExpr,
+) -> Result<Expr, NameStop>
+    requires { AreTables tables.now }
+    ensures exact { IfOk result (λ r. resolved_in tables.now body.now scope.old
+        (if_syntax at (expr_syntax c.now) (expr_syntax a.now) (expr_syntax b.now)) ≡ Ok (expr_tree r)) }
+    ensures faults { IfErr result (IsFirst (resolved_in tables.now body.now scope.old
+        (if_syntax at (expr_syntax c.now) (expr_syntax a.now) (expr_syntax b.now)))) }
+    ensures scope { OnOk result (scope.new ≡ scope.old) }
+{
+    let condition = expr(alloc, tables, body, scope, c)?;
+    let yes = expr(alloc, tables, body, scope, a)?;
+    let no = expr(alloc, tables, body, scope, b)?;
+    let condition = Box::new(alloc, condition)?;
+    let yes = Box::new(alloc, yes)?;
+    let no = Box::new(alloc, no)?;
+    located(at, Node::If(condition, yes, no))
+}
+
+/// The second part has one more variable.
+#[cycle(expr)]
+fn let_expr(
+    alloc: Global,
+    tables: &Tables,
+    body: &Body,
+    scope: &mut Scope,
+    at: u32,
+    x: &Binder,
+    a: &RawExpr,
+    b: &RawExpr,
+) -> Result<Expr, NameStop>
+    requires { AreTables tables.now }
+    ensures exact { IfOk result (λ r. resolved_in tables.now body.now scope.old
+        (let_syntax at (binder_syntax x.now) (expr_syntax a.now) (expr_syntax b.now)) ≡ Ok (expr_tree r)) }
+    ensures faults { IfErr result (IsFirst (resolved_in tables.now body.now scope.old
+        (let_syntax at (binder_syntax x.now) (expr_syntax a.now) (expr_syntax b.now)))) }
+    ensures scope { OnOk result (scope.new ≡ scope.old) }
+{
+    let value = expr(alloc, tables, body, scope, a)?;
+    let count = scope.count();
+    scope.push(alloc, x)?;
+    let rest = expr(alloc, tables, body, scope, b)?;
+    scope.cut(count);
+    let value = Box::new(alloc, value)?;
+    let rest = Box::new(alloc, rest)?;
+    located(at, Node::Let(value, rest))
+}
+
+/// The last part has two more variables, head and tail.
+#[cycle(expr)]
+fn match_expr(
+    alloc: Global,
+    tables: &Tables,
+    body: &Body,
+    scope: &mut Scope,
+    at: u32,
+    l: &RawExpr,
+    a: &RawExpr,
+    x: &Binder,
+    y: &Binder,
+    b: &RawExpr,
+) -> Result<Expr, NameStop>
+    requires { AreTables tables.now }
+    ensures exact { IfOk result (λ r. resolved_in tables.now body.now scope.old
+        (match_syntax at (expr_syntax l.now) (expr_syntax a.now) (binder_syntax x.now) (binder_syntax y.now) (expr_syntax b.now)) ≡ Ok (expr_tree r)) }
+    ensures faults { IfErr result (IsFirst (resolved_in tables.now body.now scope.old
+        (match_syntax at (expr_syntax l.now) (expr_syntax a.now) (binder_syntax x.now) (binder_syntax y.now) (expr_syntax b.now)))) }
+    ensures scope { OnOk result (scope.new ≡ scope.old) }
+{
+    let list = expr(alloc, tables, body, scope, l)?;
+    let empty = expr(alloc, tables, body, scope, a)?;
+    distinct(x, y)?;
     let count = scope.count();
     scope.push(alloc, x)?;
     scope.push(alloc, y)?;
-    let e = boxed(alloc, tables, body, scope, e)?;
+    let full = expr(alloc, tables, body, scope, b)?;
     scope.cut(count);
-    Ok(e)
+    let list = Box::new(alloc, list)?;
+    let empty = Box::new(alloc, empty)?;
+    let full = Box::new(alloc, full)?;
+    located(at, Node::Match(list, empty, full))
 }
 
 #[cycle(expr)]
@@ -449,8 +589,9 @@ fn field_expr(
         (resolved_in tables.now body.now scope.old (field_syntax at place name.now (expr_syntax a.now)))) }
     ensures scope { OnOk result (scope.new ≡ scope.old) }
 {
-    let value = boxed(alloc, tables, body, scope, a)?;
+    let value = expr(alloc, tables, body, scope, a)?;
     let field = accessed(tables, name, place)?;
+    let value = Box::new(alloc, value)?;
     located(
         at,
         Node::Field(field.record_number, field.field_number, value),

@@ -1,4 +1,5 @@
-use Rattle.std.proofs.Common.{◌≡◌, map}
+use Rattle.std.proofs.Common.{◌≡◌, ◌+◌, max, map}
+use Rattle.um_tree.proofs.raw.RawExpr.TheLaws.{the_size}
 use Rattle.um_tree.specs.ExprTree.{expr_tree}
 use Rattle.um_tree.specs.RawTree.{expr_syntax, field_part}
 use Rattle.um_names.specs.Bodies.{resolved_in}
@@ -16,3 +17,45 @@ invariant-field_values-loop-i l = record {
   done : Stage (λ p. resolved_in l.tables l.body l.fn.scope p.part) field_part l.fields (map expr_tree l.es.items) l.i;
   scope : l.scope ≡ l.fn.scope;
 }
+
+abbrev pub decreases-boxed : goal.decreases-boxed
+decreases-boxed l = the_size l.e.now + 1
+
+abbrev pub decreases-field_expr : goal.decreases-field_expr
+decreases-field_expr l = the_size l.a.now + 1
+
+abbrev pub decreases-arith_expr : goal.decreases-arith_expr
+decreases-arith_expr l = max (the_size l.a.now) (the_size l.b.now) + 1
+
+abbrev pub decreases-compare_expr : goal.decreases-compare_expr
+decreases-compare_expr l = max (the_size l.a.now) (the_size l.b.now) + 1
+
+abbrev pub decreases-and_expr : goal.decreases-and_expr
+decreases-and_expr l = max (the_size l.a.now) (the_size l.b.now) + 1
+
+abbrev pub decreases-or_expr : goal.decreases-or_expr
+decreases-or_expr l = max (the_size l.a.now) (the_size l.b.now) + 1
+
+abbrev pub decreases-cons_expr : goal.decreases-cons_expr
+decreases-cons_expr l = max (the_size l.a.now) (the_size l.b.now) + 1
+
+abbrev pub decreases-if_expr : goal.decreases-if_expr
+decreases-if_expr l = max (the_size l.c.now) (max (the_size l.a.now) (the_size l.b.now)) + 1
+
+abbrev pub decreases-let_expr : goal.decreases-let_expr
+decreases-let_expr l = max (the_size l.a.now) (the_size l.b.now) + 1
+
+abbrev pub decreases-match_expr : goal.decreases-match_expr
+decreases-match_expr l = max (the_size l.l.now) (max (the_size l.a.now) (the_size l.b.now)) + 1
+
+abbrev pub decreases-exprs : goal.decreases-exprs
+decreases-exprs l = goal.size-exprs l + 1
+
+abbrev pub decreases-call_expr : goal.decreases-call_expr
+decreases-call_expr l = goal.size-call_expr l + 2
+
+abbrev pub decreases-field_values : goal.decreases-field_values
+decreases-field_values l = goal.size-field_values l + 1
+
+abbrev pub decreases-record_expr : goal.decreases-record_expr
+decreases-record_expr l = goal.size-record_expr l + 2

@@ -16,10 +16,10 @@ returns-clause-exact c =
     let field = c.in-Some.field in
     let names = map (λ g. g.name) (map field_part fs) in
     let below : 0 < length fs = omega arith in
-    let front = map_from_more field_part fs 0 first below c.first-item.is in
+    let first_cut = map_from_more field_part fs 0 first below c.first-item.is in
     let named : c.as_slice.result.now ≡ (field_part first).name = search (rules, the_lemmas) in
     let declared : field_of records (field_part first).name ≡ Some field = sym (c.in-Some.ensures ∙ ap (field_of records) named) in
-    let is = record_text_is records (map field_part fs) (field_part first) (map field_part (drop (0 + 1) fs)) c.in_ok-known_fields.field-0 (Some field) c.args.at front c.in_ok-known_fields.ensures.exact declared in
+    let is = record_text_is records (map field_part fs) (field_part first) (map field_part (drop (0 + 1) fs)) c.in_ok-known_fields.field-0 (Some field) c.args.at first_cut c.in_ok-known_fields.ensures.exact declared in
     is ∙ ap (λ r. found_record r c.args.at) (found_number (slice_get records field.record_number) field.record_number names (sym c.has_fields.ensures ∙ c.if-not-has_fields.false))
 
 pub returns-then-not-has_fields-clause-faults : goal.returns-then-not-has_fields-clause-faults
@@ -30,8 +30,8 @@ returns-then-not-has_fields-clause-faults c =
     let field = c.in-Some.field in
     let names = map (λ g. g.name) (map field_part fs) in
     let below : 0 < length fs = omega arith in
-    let front = map_from_more field_part fs 0 first below c.first-item.is in
+    let first_cut = map_from_more field_part fs 0 first below c.first-item.is in
     let named : c.as_slice.result.now ≡ (field_part first).name = search (rules, the_lemmas) in
     let declared : field_of records (field_part first).name ≡ Some field = sym (c.in-Some.ensures ∙ ap (field_of records) named) in
-    let is = record_text_is records (map field_part fs) (field_part first) (map field_part (drop (0 + 1) fs)) c.in_ok-known_fields.field-0 (Some field) c.args.at front c.in_ok-known_fields.ensures.exact declared in
+    let is = record_text_is records (map field_part fs) (field_part first) (map field_part (drop (0 + 1) fs)) c.in_ok-known_fields.field-0 (Some field) c.args.at first_cut c.in_ok-known_fields.ensures.exact declared in
     is ∙ ap (λ r. found_record r c.args.at) (no_number (slice_get records field.record_number) field.record_number names (sym c.has_fields.ensures ∙ c.if-not-has_fields.true))
