@@ -6,8 +6,8 @@ ghost use Rattle.um_tree.specs.RawTree.{program_syntax};
 ghost use Rattle.um_names.specs.Readable.{IsReadable};
 
 use std::alloc::Global;
-use std::test::Fail;
 use std::process::Abort;
+use std::test::Fail;
 use um_names::{Abbreviations, abbreviations, closed_unit, resolve, types_of};
 use um_parse::{parse, parse_types, parse_unit};
 use um_shape::{Shaped, shape};
@@ -87,7 +87,9 @@ fn has_shapes(rt: &impl Abort, shaped: &Shaped) {
     assert_eq!(rt; functions.len(), 1);
     assert_eq!(rt; functions[0].params.items.len(), 3);
     assert!(rt; matches!(shaped.param_shape(0, 0), Shape::Num));
-    assert!(rt; matches!(shaped.param_shape(0, 1), Shape::List(item) if matches!(&**item, Shape::Bool)));
+    assert!(rt;
+        matches!(shaped.param_shape(0, 1), Shape::List(item) if matches!(&**item, Shape::Bool))
+    );
     assert!(rt; matches!(shaped.param_shape(0, 2), Shape::Rec(0)));
     assert!(rt; matches!(shaped.result_shape(0), Shape::Num));
 }

@@ -60,7 +60,12 @@ fn rows(rt: HostRuntime) -> Result<(), Fail> {
 fn numbers(rt: HostRuntime) -> Result<(), Fail> {
     let alloc = rt.alloc();
     let unit = unit_below(alloc, &[power(Atom::Var(9), 1), power(Atom::Var(5), 2)], 10)?;
-    let numbered = renumber(alloc, Types { items: vec![in alloc; Ty::Num(unit)]? })?;
+    let numbered = renumber(
+        alloc,
+        Types {
+            items: vec![in alloc; Ty::Num(unit)]?,
+        },
+    )?;
     assert_eq!(rt; numbered.vars, 2);
     let [Ty::Num(unit)] = numbered.types.items.as_slice() else {
         assert!(rt; false);
