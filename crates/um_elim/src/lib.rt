@@ -16,6 +16,7 @@ mod stop;
 mod tests;
 mod turn;
 
+pub use application::put_in_type;
 pub use numbering::{Numbered, renumber};
 pub use solver::Solver;
 pub use stop::ElimStop;

@@ -20,3 +20,9 @@ pub mod NumberedSchemes
 pub mod JudgementLaws
 mod InputTexts
 pub mod CallLaws
+pub mod PushLaws
+pub mod WalkLaws
+pub mod RenamingLaws
+pub mod NodeLaws
+pub mod SliceLaws
+pub mod OfferLaws

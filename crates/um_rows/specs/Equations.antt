@@ -19,8 +19,11 @@ known_function None = nobody
 abbrev pub may_recur : FunctionTree → Bool
 may_recur f = f.recursive && is_some f.result
 
+abbrev pub callee_of : List SchemeTree → ℕ → Bool → ℕ → Callee
+callee_of schemes i recurs j = if nat_lt j i then known_function (slice_get schemes j) else if j == i && recurs then itself else nobody
+
 abbrev pub callee : List SchemeTree → ℕ → FunctionTree → ℕ → Callee
-callee schemes i f j = if nat_lt j i then known_function (slice_get schemes j) else if j == i && may_recur f then itself else nobody
+callee schemes i f = callee_of schemes i (may_recur f)
 
 -- ---- the holes of a function: those of its parameters, of its result and of its body, in this order
 

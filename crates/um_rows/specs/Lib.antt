@@ -8,6 +8,11 @@ pub mod Keys
 pub mod Slots
 pub mod Solutions
 pub mod FirstUnsolvable
+pub mod SlotUnits
+pub mod Pushed
+pub mod Walk
+pub mod Reached
+pub mod Body
 pub mod Judgement
 pub mod CallEquations
 pub mod Laws

@@ -5,4 +5,15 @@
 //! rows and of the slots, and the range of powers, are this project's own.
 #![tactic(auto)]
 
+mod against;
+mod calls;
+mod context;
 pub mod laws;
+mod noted;
+mod progress;
+mod records;
+mod row;
+mod rules;
+mod types;
+
+pub use row::{Row, RowList, RowStop, Rows};
