@@ -88,8 +88,8 @@ module _ (p : ProgramTree) (k : ℕ) (f : FunctionTree) (inputs : InputTrees) (f
           );
         }
 
-    has_none : (at : ℕ) → judge p.records schemes n call ≡ has_no_typing at → (t : TypeTree) → IsResultOfCall p k inputs t → ⊥
-    has_none at is t h = (says (has_no_typing at) is).1 (signature_of t) (back t h)
+    has_none : (row at : ℕ) → judge p.records schemes n call ≡ has_no_typing row at → (t : TypeTree) → IsResultOfCall p k inputs t → ⊥
+    has_none row at is t h = (says (has_no_typing row at) is).1 (signature_of t) (back t h)
 
 pub call_results_are_solutions : CallResultsAreSolutions
 call_results_are_solutions p schemes k f inputs formed have e closed t = results_are_solved p k f inputs formed e closed schemes have t
@@ -98,4 +98,4 @@ pub judged_calls_have_their_type : JudgedCallsHaveTheirType
 judged_calls_have_their_type p schemes k f inputs formed have e closed s is = has_type p k f inputs formed e closed schemes have s is
 
 pub judged_untyped_calls_have_none : JudgedUntypedCallsHaveNone
-judged_untyped_calls_have_none p schemes k f inputs formed have e closed at is t h = has_none p k f inputs formed e closed schemes have at is t h
+judged_untyped_calls_have_none p schemes k f inputs formed have e closed row at is t h = has_none p k f inputs formed e closed schemes have row at is t h

@@ -1,21 +1,30 @@
 -- One node: its rows are pushed, and then its type is in range or passes it.
-use Rattle.std.proofs.Common.{◌≡◌, ℕ, ◌<◌, ◌≤◌, length, get_or, slice_get, cond, List, [], ◌∷◌, ◌++◌, map, Some, None, Ok, Err, refl, sym, ap, ◌∙◌}
+use Rattle.std.proofs.Common.{◌≡◌, ℕ, ◌<◌, ◌≤◌, length, get_or, slice_get, cond, List, [], ◌∷◌, ◌++◌, map, Some, None, Ok, Err, refl, sym, ap, ◌∙◌, subst}
 use Rattle.std.specs.Prelude.{IsTrue, IsFalse}
 use Rattle.std.specs.Option.{option_map}
 use Rattle.std.proofs.lemmas.List.{append-nil}
 use Rattle.std.proofs.lemmas.Option.{slice_get-map, slice_get-get_or, slice_get_past}
 use Rattle.um_tree.specs.declared.types.Ty.{Ty}
-use Rattle.um_tree.specs.TypeTree.{TypeTree, type_tree}
+use Rattle.um_tree.specs.TypeTree.{TypeTree, num_type, list_type, type_tree}
+use Rattle.um_frac.specs.declared.number.Frac.{Frac}
+use Rattle.um_frac.specs.Fraction.{numerator}
+use Rattle.um_units.specs.Terms.{is_zero}
+use Rattle.um_units.specs.Range.{fits}
+use Rattle.um_units.specs.PowerMap.{PowerMap}
+use Rattle.um_tree.specs.declared.note.UnitNote.{UnitNote}
+use Rattle.um_tree.specs.declared.note.UnitNote.TheVariants.{Hole, Written}
+use Rattle.um_elim.proofs.Cases.{on_test}
+use Rattle.um_rows.specs.Against.{never}
 use Rattle.um_elim.specs.Application.{type_fits}
 use Rattle.um_rows.specs.declared.row.Row.{Row}
 use Rattle.um_rows.specs.declared.row.RowStop.{RowStop}
 use Rattle.um_rows.specs.declared.row.RowStop.TheVariants as stop
-use Rattle.um_rows.specs.Steps.{Step, type_at, first_past}
-use Rattle.um_rows.specs.Pushed.{rows_of, AreBehind, StopsPast}
-use Rattle.um_rows.specs.Rules.{formed, local_rule}
+use Rattle.um_rows.specs.Steps.{Step, type_at, first_past, rows_of}
+use Rattle.um_rows.specs.Pushed.{AreBehind, StopsPast}
+use Rattle.um_rows.specs.Rules.{formed, asks_zero, asks_list, local_rule, number_rule, nil_rule}
 use Rattle.um_rows.specs.Walk.{unless_past, node}
 use Rattle.um_rows.specs.Reached.{StopsAs}
-use Rattle.um_rows.proofs.PushLaws.{first_of, first_past-append, rows_of-append}
+use Rattle.um_rows.proofs.PushLaws.{first_of, first_past-append, rows_of-append, never_in_range}
 
 rows_of-formed : (at : ℕ) (rows : List Step) (t : TypeTree) → rows_of (rows ++ type_at at t ∷ []) ≡ rows_of rows
 rows_of-formed at rows t = rows_of-append rows (type_at at t ∷ []) ∙ append-nil (rows_of rows)
@@ -52,3 +61,20 @@ pub node_local : (rows : List Row) (n at : ℕ) (xs : List Ty) (k : ℕ) (x : Ty
     node rows n (local_rule at (slice_get (map type_tree xs) k)) ≡ Ok (record { type = t; rows = rows; holes = n })
 node_local rows n at xs k x t h e same f =
     ap (λ o. node rows n (local_rule at o)) (mapped_found type_tree xs k x h e ∙ ap Some (sym same)) ∙ node_formed rows rows n at [] t (refl, sym (append-nil rows)) f
+
+-- ---- a type that is out of range, behind rows that are in range
+zero_in_range : (at : ℕ) (c : Frac) (m : UnitNote) → first_past (asks_zero at c m) ≡ None
+zero_in_range at c Hole = on_test (is_zero (numerator c))
+    (λ e. subst (λ b. first_past (cond b [] (never at)) ≡ None) (sym e) refl)
+    (λ e. subst (λ b. first_past (cond b [] (never at)) ≡ None) (sym e) (never_in_range at))
+zero_in_range at c (Written u) = refl
+
+pub number_past : (rows : List Row) (n at : ℕ) (c : Frac) (m : UnitNote) (u : PowerMap) → IsFalse (fits u) → node rows n (number_rule at c m u) ≡ Err at
+number_past rows n at c m u f = node_past rows n at (asks_zero at c m) (num_type u) (zero_in_range at c m) f
+
+list_in_range : (at : ℕ) (t : TypeTree) → first_past (asks_list at t) ≡ None
+list_in_range at (list_type t) = refl
+list_in_range at t = never_in_range at
+
+pub nil_past : (rows : List Row) (n at : ℕ) (t : TypeTree) → IsFalse (type_fits t) → node rows n (nil_rule at t) ≡ Err at
+nil_past rows n at t f = node_past rows n at (asks_list at t) t (list_in_range at t) f

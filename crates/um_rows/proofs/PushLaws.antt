@@ -2,15 +2,16 @@
 use Rattle.std.proofs.Common.{◌≡◌, ℕ, ◌-◌, ◌≤◌, length, take, drop, get_or, arith, Bool, true, false, cond, List, [], ◌∷◌, ◌++◌, Option, Some, None, Ok, Err, refl, sym, ap, ◌∙◌}
 use Rattle.std.specs.Prelude.{Result}
 use Rattle.std.proofs.lemmas.List.{append_assoc, take_all}
-use Rattle.um_units.specs.PowerMap.{product}
+use Rattle.um_units.specs.declared.Atom.TheVariants.{Base}
+use Rattle.um_units.specs.PowerMap.{product, atom}
 use Rattle.um_units.specs.Range.{fits}
 use Rattle.um_elim.specs.Application.{type_fits}
 use Rattle.um_rows.specs.declared.row.Row.{Row}
 use Rattle.um_rows.specs.declared.row.RowStop.{RowStop}
 use Rattle.um_rows.specs.declared.row.RowStop.TheVariants as stop
-use Rattle.um_rows.specs.Steps.{Step, row_at, type_at, first_past}
+use Rattle.um_rows.specs.Steps.{Step, row_at, wrong_shape_at, type_at, first_past, rows_of}
 use Rattle.um_rows.specs.Against.{never}
-use Rattle.um_rows.specs.Pushed.{rows_of, AreBehind, StopsPast, ArePushed}
+use Rattle.um_rows.specs.Pushed.{AreBehind, StopsPast, ArePushed}
 
 abbrev pub first_of : Option ℕ → Option ℕ → Option ℕ
 first_of None o = o
@@ -23,11 +24,13 @@ cond_first false o p n = refl
 pub first_past-append : (a b : List Step) → first_past (a ++ b) ≡ first_of (first_past a) (first_past b)
 first_past-append [] b = refl
 first_past-append (row_at at u ∷ a) b = ap (λ o. cond (fits u) o (Some at)) (first_past-append a b) ∙ cond_first (fits u) (first_past a) (first_past b) at
+first_past-append (wrong_shape_at at ∷ a) b = first_past-append a b
 first_past-append (type_at at t ∷ a) b = ap (λ o. cond (type_fits t) o (Some at)) (first_past-append a b) ∙ cond_first (type_fits t) (first_past a) (first_past b) at
 
 pub rows_of-append : (a b : List Step) → rows_of (a ++ b) ≡ rows_of a ++ rows_of b
 rows_of-append [] b = refl
 rows_of-append (row_at at u ∷ a) b = ap (λ rs. record { at = at; unit = u } ∷ rs) (rows_of-append a b)
+rows_of-append (wrong_shape_at at ∷ a) b = ap (λ rs. record { at = at; unit = atom (Base 0) } ∷ rs) (rows_of-append a b)
 rows_of-append (type_at at t ∷ a) b = rows_of-append a b
 
 -- ---- the first steps stop, or the others do

@@ -1,16 +1,10 @@
 -- Rows that are pushed for steps, or the first step that passes the range.
 -- Source: this project's own; want of memory may come in place of every answer.
-use Rattle.std.specs.Prelude.{◌≡◌, ℕ, List, [], ◌∷◌, ◌++◌, Option, Some, None, Result, MatchResult}
+use Rattle.std.specs.Prelude.{◌≡◌, ℕ, List, ◌++◌, Option, Some, None, Result, MatchResult}
 use Rattle.um_rows.specs.declared.row.Row.{Row}
 use Rattle.um_rows.specs.declared.row.RowStop.{RowStop}
 use Rattle.um_rows.specs.declared.row.RowStop.TheVariants as stop
-use Rattle.um_rows.specs.Steps.{Step, row_at, type_at, first_past}
-
--- the rows among the steps
-abbrev pub rows_of : List Step → List Row
-rows_of [] = []
-rows_of (row_at at u ∷ ss) = record { at = at; unit = u } ∷ rows_of ss
-rows_of (type_at at t ∷ ss) = rows_of ss
+use Rattle.um_rows.specs.Steps.{Step, rows_of, first_past}
 
 -- no step passes the range, and the steps' rows are behind the old ones
 abbrev pub AreBehind : List Step → List Row → List Row → Type 0

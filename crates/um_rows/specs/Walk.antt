@@ -7,8 +7,7 @@ use Rattle.um_tree.specs.TypeTree.{TypeTree, bool_type}
 use Rattle.um_tree.specs.ExprTree.{ExprTree, ExprTrees, truth, number, local, call, negate, not_expr, arith, compare, both, either, if, bind, split, nil, list_expr, cons, record_expr, field, none, more}
 use Rattle.um_tree.specs.ProgramTree.{RecordTree, Signature}
 use Rattle.um_rows.specs.declared.row.Row.{Row}
-use Rattle.um_rows.specs.Steps.{first_past}
-use Rattle.um_rows.specs.Pushed.{rows_of}
+use Rattle.um_rows.specs.Steps.{first_past, rows_of}
 use Rattle.um_rows.specs.Holes.{unit_holes, note_holes, Callee, callee_holes, record_holes}
 use Rattle.um_rows.specs.Rules.{Derived, formed, item, number_rule, local_rule, call_rule, negate_rule, not_rule, truths_rule, arith_rule, compare_rule, if_rule, split_rule, nil_rule, list_rule, cons_rule, record_rule, field_rule}
 use Rattle.um_rows.specs.Derivation.{first_units, noted_unit, noted_type, offered}

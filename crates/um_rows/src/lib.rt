@@ -9,11 +9,13 @@ mod against;
 mod calls;
 mod context;
 pub mod laws;
+mod leaves;
 mod noted;
 mod progress;
 mod records;
 mod row;
 mod rules;
 mod types;
+mod walk;
 
 pub use row::{Row, RowList, RowStop, Rows};

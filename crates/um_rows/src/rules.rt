@@ -1,6 +1,6 @@
 //! The rows and the type of a node, from the types of its parts.
 
-ghost use Rattle.std.specs.Prelude.{◌≡◌, ◌∷◌, IfOk, IsTrue, map, slice_get};
+ghost use Rattle.std.specs.Prelude.{◌≡◌, [], ◌∷◌, IfOk, IsTrue, map, slice_get};
 ghost use Rattle.um_tree.specs.TypeTree.{type_tree, bool_type, num_type};
 ghost use Rattle.um_units.specs.Range.{fits};
 ghost use Rattle.um_elim.specs.Application.{type_fits};
@@ -311,4 +311,14 @@ pub(crate) fn number(
         }
         UnitNote::Hole | UnitNote::Written(_) => Ok(Ty::Num(unit)),
     }
+}
+
+/// A node without rows.
+#[tactic(auto, using(crate::proofs::NodeLaws::node_formed))]
+pub(crate) fn whole(at: u32, ty: Ty, progress: &mut Progress) -> Result<Ty, RowStop>
+    requires fits { IsTrue (type_fits (type_tree ty)) }
+    ensures reached { IsReached (node progress.old.rows.items progress.old.holes (formed at [] (type_tree ty))) progress.new result }
+    ensures fits { IfOk result (λ ty. IsTrue (type_fits (type_tree ty))) }
+{
+    Ok(ty)
 }
