@@ -26,3 +26,4 @@ pub mod RenamingLaws
 pub mod NodeLaws
 pub mod SliceLaws
 pub mod OfferLaws
+pub mod WalkedParts
