@@ -11,6 +11,8 @@ mod Used
 pub mod Complete
 mod BelowRules
 pub mod Below
+pub mod KeyOrder
+pub mod TableLaws
 pub mod SlotLaws
 pub mod FunctionLaws
 mod VariableLists
@@ -27,3 +29,4 @@ pub mod NodeLaws
 pub mod SliceLaws
 pub mod OfferLaws
 pub mod WalkedParts
+pub mod SameDerivation

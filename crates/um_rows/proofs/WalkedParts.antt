@@ -144,3 +144,20 @@ module _ (records : List Record) (schemes : List Scheme) (c : Context) where
         reached_second _ (record { type = type_tree list; rows = first.rows.items; holes = first.holes }) (λ z. then (body_walk records schemes c z.rows z.holes (map type_tree vars) a) (λ x. then (body_walk records schemes c x.rows x.holes (map type_tree vars ++ item z.type ∷ z.type ∷ []) b) (λ y. node y.rows y.holes (split_rule at z.type x.type y.type)))) new r f
         (reached_second _ (record { type = type_tree s; rows = second.rows.items; holes = second.holes }) (λ x. then (body_walk records schemes c x.rows x.holes (map type_tree vars ++ item (type_tree list) ∷ type_tree list ∷ []) b) (λ y. node y.rows y.holes (split_rule at (type_tree list) x.type y.type))) new r g
         (reached_second _ (record { type = type_tree t; rows = third.rows.items; holes = third.holes }) (λ y. node y.rows y.holes (split_rule at (type_tree list) (type_tree s) y.type)) new r (ap (λ vs. body_walk records schemes c second.rows.items second.holes vs b) (sym wider) ∙ h) w))
+
+    -- and where the part behind them stops, the whole does
+    pub bind_stops : (at : ℕ) (a b : ExprTree) (s : Ty) (first : Progress) (e : RowStop) → body_walk records schemes c rows n (map type_tree vars) a ≡ Ok (record { type = type_tree s; rows = first.rows.items; holes = first.holes }) →
+        StopsAs (body_walk records schemes c first.rows.items first.holes (map type_tree (vars ++ s ∷ [])) b) e → StopsAs (body_walk records schemes c rows n (map type_tree vars) (bind at a b)) e
+    bind_stops at a b s first e f h =
+        let wider : map type_tree (vars ++ s ∷ []) ≡ map type_tree vars ++ type_tree s ∷ [] = map-append type_tree vars (s ∷ []) in
+        stops_second _ (record { type = type_tree s; rows = first.rows.items; holes = first.holes }) (λ x. then (body_walk records schemes c x.rows x.holes (map type_tree vars ++ x.type ∷ []) b) (λ y. node y.rows y.holes (formed at [] y.type))) e f
+        (stops_first _ (λ y. node y.rows y.holes (formed at [] y.type)) e (subst (λ vs. StopsAs (body_walk records schemes c first.rows.items first.holes vs b) e) wider h))
+
+    pub split_stops : (at : ℕ) (l a b : ExprTree) (list inner s : Ty) (first second : Progress) (e : RowStop) → body_walk records schemes c rows n (map type_tree vars) l ≡ Ok (record { type = type_tree list; rows = first.rows.items; holes = first.holes }) →
+        body_walk records schemes c first.rows.items first.holes (map type_tree vars) a ≡ Ok (record { type = type_tree s; rows = second.rows.items; holes = second.holes }) → type_tree inner ≡ item (type_tree list) → (seen : Ty) → type_tree seen ≡ type_tree list →
+        StopsAs (body_walk records schemes c second.rows.items second.holes (map type_tree (vars ++ inner ∷ seen ∷ [])) b) e → StopsAs (body_walk records schemes c rows n (map type_tree vars) (split at l a b)) e
+    split_stops at l a b list inner s first second e f g is seen same h =
+        let wider : map type_tree (vars ++ inner ∷ seen ∷ []) ≡ map type_tree vars ++ item (type_tree list) ∷ type_tree list ∷ [] = map-append type_tree vars (inner ∷ seen ∷ []) ∙ (λ i. map type_tree vars ++ is i ∷ same i ∷ []) in
+        stops_second _ (record { type = type_tree list; rows = first.rows.items; holes = first.holes }) (λ z. then (body_walk records schemes c z.rows z.holes (map type_tree vars) a) (λ x. then (body_walk records schemes c x.rows x.holes (map type_tree vars ++ item z.type ∷ z.type ∷ []) b) (λ y. node y.rows y.holes (split_rule at z.type x.type y.type)))) e f
+        (stops_second _ (record { type = type_tree s; rows = second.rows.items; holes = second.holes }) (λ x. then (body_walk records schemes c x.rows x.holes (map type_tree vars ++ item (type_tree list) ∷ type_tree list ∷ []) b) (λ y. node y.rows y.holes (split_rule at (type_tree list) x.type y.type))) e g
+        (stops_first _ (λ y. node y.rows y.holes (split_rule at (type_tree list) (type_tree s) y.type)) e (subst (λ vs. StopsAs (body_walk records schemes c second.rows.items second.holes vs b) e) wider h)))

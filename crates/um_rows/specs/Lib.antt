@@ -6,6 +6,7 @@ pub mod Derivation
 pub mod Equations
 pub mod Keys
 pub mod Slots
+pub mod Slotting
 pub mod Solutions
 pub mod FirstUnsolvable
 pub mod SlotUnits

@@ -1,6 +1,6 @@
 //! Calls: the rows of parameters against arguments, and the type of a result.
 
-ghost use Rattle.std.specs.Prelude.{◌≡◌, ◌+◌, ◌≤◌, All, IfOk, IsTrue, List, Some, length, map, take, drop};
+ghost use Rattle.std.specs.Prelude.{◌≡◌, ◌+◌, ◌≤◌, Bool, All, IfOk, IsTrue, List, Some, length, map, take, drop};
 ghost use Rattle.um_units.specs.PowerMap.{nth};
 ghost use Rattle.um_units.specs.Variables.{VariablesBelow};
 ghost use Rattle.um_tree.specs.TypeTree.{type_tree};
@@ -13,6 +13,7 @@ ghost use Rattle.um_rows.specs.SlotUnits.{AreVariables};
 ghost use Rattle.um_rows.specs.Against.{types_against as types_against_steps};
 ghost use Rattle.um_rows.specs.Pushed.{ArePushed};
 ghost use Rattle.um_rows.specs.Holes.{callee_holes};
+ghost use Rattle.um_rows.specs.Equations.{callee_of};
 ghost use Rattle.um_rows.specs.Rules.{call_rule};
 ghost use Rattle.um_rows.specs.Walk.{node};
 ghost use Rattle.um_rows.specs.Reached.{IsReached};
@@ -66,17 +67,24 @@ fn arguments_against(
     }
 }
 
-/// How many units a call of function j leaves open.
-pub(crate) fn open_units(schemes: &[Scheme], context: &Context, j: u32) -> usize
-    ensures { result ≡ callee_holes (called schemes.now context.now j) }
+/// How many units a call of function j leaves open in the function of this number.
+pub(crate) fn called_holes(schemes: &[Scheme], number: u32, j: u32) -> usize
+    ensures { (recurs : Bool) → result ≡ callee_holes (callee_of (map scheme_tree schemes.now) number recurs j) }
 {
-    if j >= context.number {
+    if j >= number {
         return 0;
     }
     match schemes.get(j as usize) {
         Some(scheme) => scheme.vars as usize,
         None => 0,
     }
+}
+
+/// How many units a call of function j leaves open.
+pub(crate) fn open_units(schemes: &[Scheme], context: &Context, j: u32) -> usize
+    ensures { result ≡ callee_holes (called schemes.now context.now j) }
+{
+    called_holes(schemes, context.number, j)
 }
 
 /// A call of an earlier function, at an instance of its scheme.

@@ -15,6 +15,7 @@ mod progress;
 mod records;
 mod row;
 mod rules;
+mod slots;
 mod types;
 mod walk;
 

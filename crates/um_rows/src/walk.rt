@@ -92,7 +92,12 @@ pub(crate) fn derive(
             let right = derive(alloc, records, schemes, context, scope, b, progress)?;
             rules::compare(alloc, at, &left, &right, progress)
         }
-        Node::And(a, b) | Node::Or(a, b) => {
+        Node::And(a, b) => {
+            let left = derive(alloc, records, schemes, context, scope, a, progress)?;
+            let right = derive(alloc, records, schemes, context, scope, b, progress)?;
+            rules::truths(alloc, at, &left, &right, progress)
+        }
+        Node::Or(a, b) => {
             let left = derive(alloc, records, schemes, context, scope, a, progress)?;
             let right = derive(alloc, records, schemes, context, scope, b, progress)?;
             rules::truths(alloc, at, &left, &right, progress)
