@@ -30,3 +30,4 @@ pub mod SliceLaws
 pub mod OfferLaws
 pub mod WalkedParts
 pub mod SameDerivation
+pub mod SlotsLeft

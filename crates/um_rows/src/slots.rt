@@ -126,12 +126,12 @@ fn set_slot(names: &mut Vec<Option<u32>>, k: usize, slot: u32) -> Result<(), All
     Ok(())
 }
 
-/// The variable of an atom, if it is one.
-fn atom_slots(atom: Atom, slots: &mut Slots) -> Result<(), RowStop>
-    ensures slots { HaveSlots (map name (atom_variables atom)) slots.old slots.new result }
+/// The variable of a term, if its atom is one.
+fn term_slots(term: &Term, slots: &mut Slots) -> Result<(), RowStop>
+    ensures slots { HaveSlots (map name (atom_variables term.now.atom)) slots.old slots.new result }
     ensures counted { OnOk result (length slots.new.holes.items ≡ length slots.old.holes.items) }
 {
-    match atom {
+    match term.atom {
         Atom::Base(_) => Ok(()),
         Atom::Var(k) => slots.add_name(k),
     }
@@ -145,7 +145,7 @@ fn terms_slots(terms: &[Term], slots: &mut Slots) -> Result<(), RowStop>
     match terms {
         [] => Ok(()),
         [term, rest @ ..] => {
-            atom_slots(term.atom, slots)?;
+            term_slots(term, slots)?;
             terms_slots(rest, slots)
         }
     }
@@ -227,14 +227,40 @@ pub(crate) fn expr_slots(
         Node::Neg(a) => expr_slots(alloc, records, schemes, number, recurs, a, slots),
         Node::Not(a) => expr_slots(alloc, records, schemes, number, recurs, a, slots),
         Node::Field(_, _, a) => expr_slots(alloc, records, schemes, number, recurs, a, slots),
-        Node::Arith(_, a, b) => pair_slots(alloc, records, schemes, number, recurs, a, b, slots),
-        Node::Compare(_, a, b) => pair_slots(alloc, records, schemes, number, recurs, a, b, slots),
-        Node::And(a, b) => pair_slots(alloc, records, schemes, number, recurs, a, b, slots),
-        Node::Or(a, b) => pair_slots(alloc, records, schemes, number, recurs, a, b, slots),
-        Node::Let(a, b) => pair_slots(alloc, records, schemes, number, recurs, a, b, slots),
-        Node::Cons(a, b) => pair_slots(alloc, records, schemes, number, recurs, a, b, slots),
-        Node::If(c, a, b) => triple_slots(alloc, records, schemes, number, recurs, c, a, b, slots),
-        Node::Match(c, a, b) => triple_slots(alloc, records, schemes, number, recurs, c, a, b, slots),
+        Node::Arith(_, a, b) => {
+            expr_slots(alloc, records, schemes, number, recurs, a, slots)?;
+            expr_slots(alloc, records, schemes, number, recurs, b, slots)
+        }
+        Node::Compare(_, a, b) => {
+            expr_slots(alloc, records, schemes, number, recurs, a, slots)?;
+            expr_slots(alloc, records, schemes, number, recurs, b, slots)
+        }
+        Node::And(a, b) => {
+            expr_slots(alloc, records, schemes, number, recurs, a, slots)?;
+            expr_slots(alloc, records, schemes, number, recurs, b, slots)
+        }
+        Node::Or(a, b) => {
+            expr_slots(alloc, records, schemes, number, recurs, a, slots)?;
+            expr_slots(alloc, records, schemes, number, recurs, b, slots)
+        }
+        Node::Let(a, b) => {
+            expr_slots(alloc, records, schemes, number, recurs, a, slots)?;
+            expr_slots(alloc, records, schemes, number, recurs, b, slots)
+        }
+        Node::Cons(a, b) => {
+            expr_slots(alloc, records, schemes, number, recurs, a, slots)?;
+            expr_slots(alloc, records, schemes, number, recurs, b, slots)
+        }
+        Node::If(c, a, b) => {
+            expr_slots(alloc, records, schemes, number, recurs, c, slots)?;
+            expr_slots(alloc, records, schemes, number, recurs, a, slots)?;
+            expr_slots(alloc, records, schemes, number, recurs, b, slots)
+        }
+        Node::Match(c, a, b) => {
+            expr_slots(alloc, records, schemes, number, recurs, c, slots)?;
+            expr_slots(alloc, records, schemes, number, recurs, a, slots)?;
+            expr_slots(alloc, records, schemes, number, recurs, b, slots)
+        }
         Node::List(items) => exprs_slots(alloc, records, schemes, number, recurs, &items.items, slots),
         Node::Call(j, parts) => {
             slots.add_holes(alloc, called_holes(schemes, number, *j))?;
@@ -245,45 +271,6 @@ pub(crate) fn expr_slots(
             exprs_slots(alloc, records, schemes, number, recurs, &parts.items, slots)
         }
     }
-}
-
-/// The same of two parts.
-#[cycle(slots)]
-fn pair_slots(
-    alloc: Global,
-    records: &[Record],
-    schemes: &[Scheme],
-    number: u32,
-    recurs: bool,
-    a: &Expr,
-    b: &Expr,
-    slots: &mut Slots,
-) -> Result<(), RowStop>
-    ensures slots { HaveSlots (expr_keys (map record_tree records.now) (callee_of (map scheme_tree schemes.now) number recurs) (length slots.old.holes.items) (expr_tree a.now) ++ expr_keys (map record_tree records.now) (callee_of (map scheme_tree schemes.now) number recurs) (length slots.old.holes.items + expr_holes (map record_tree records.now) (callee_of (map scheme_tree schemes.now) number recurs) (expr_tree a.now)) (expr_tree b.now)) slots.old slots.new result }
-    ensures counted { OnOk result (length slots.new.holes.items ≡ length slots.old.holes.items + (expr_holes (map record_tree records.now) (callee_of (map scheme_tree schemes.now) number recurs) (expr_tree a.now) + expr_holes (map record_tree records.now) (callee_of (map scheme_tree schemes.now) number recurs) (expr_tree b.now))) }
-{
-    expr_slots(alloc, records, schemes, number, recurs, a, slots)?;
-    expr_slots(alloc, records, schemes, number, recurs, b, slots)
-}
-
-/// The same of three parts.
-#[cycle(slots)]
-fn triple_slots(
-    alloc: Global,
-    records: &[Record],
-    schemes: &[Scheme],
-    number: u32,
-    recurs: bool,
-    c: &Expr,
-    a: &Expr,
-    b: &Expr,
-    slots: &mut Slots,
-) -> Result<(), RowStop>
-    ensures slots { HaveSlots (expr_keys (map record_tree records.now) (callee_of (map scheme_tree schemes.now) number recurs) (length slots.old.holes.items) (expr_tree c.now) ++ (expr_keys (map record_tree records.now) (callee_of (map scheme_tree schemes.now) number recurs) (length slots.old.holes.items + expr_holes (map record_tree records.now) (callee_of (map scheme_tree schemes.now) number recurs) (expr_tree c.now)) (expr_tree a.now) ++ expr_keys (map record_tree records.now) (callee_of (map scheme_tree schemes.now) number recurs) (length slots.old.holes.items + expr_holes (map record_tree records.now) (callee_of (map scheme_tree schemes.now) number recurs) (expr_tree c.now) + expr_holes (map record_tree records.now) (callee_of (map scheme_tree schemes.now) number recurs) (expr_tree a.now)) (expr_tree b.now))) slots.old slots.new result }
-    ensures counted { OnOk result (length slots.new.holes.items ≡ length slots.old.holes.items + (expr_holes (map record_tree records.now) (callee_of (map scheme_tree schemes.now) number recurs) (expr_tree c.now) + (expr_holes (map record_tree records.now) (callee_of (map scheme_tree schemes.now) number recurs) (expr_tree a.now) + expr_holes (map record_tree records.now) (callee_of (map scheme_tree schemes.now) number recurs) (expr_tree b.now)))) }
-{
-    expr_slots(alloc, records, schemes, number, recurs, c, slots)?;
-    pair_slots(alloc, records, schemes, number, recurs, a, b, slots)
 }
 
 /// The same of some expressions.
@@ -300,11 +287,8 @@ fn exprs_slots(
     ensures slots { HaveSlots (exprs_keys (map record_tree records.now) (callee_of (map scheme_tree schemes.now) number recurs) (length slots.old.holes.items) (in_order (map expr_tree parts.now))) slots.old slots.new result }
     ensures counted { OnOk result (length slots.new.holes.items ≡ length slots.old.holes.items + exprs_holes (map record_tree records.now) (callee_of (map scheme_tree schemes.now) number recurs) (in_order (map expr_tree parts.now))) }
 {
-    match parts {
-        [] => Ok(()),
-        [part, rest @ ..] => {
-            expr_slots(alloc, records, schemes, number, recurs, part, slots)?;
-            exprs_slots(alloc, records, schemes, number, recurs, rest, slots)
-        }
+    for i in 0..parts.len() {
+        expr_slots(alloc, records, schemes, number, recurs, &parts[i], slots)?;
     }
+    Ok(())
 }
