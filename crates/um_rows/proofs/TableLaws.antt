@@ -1,11 +1,14 @@
 -- Slots that are given one by one: one more hole, one more name, and keys behind keys.
-use Rattle.std.proofs.Common.{◌≡◌, ◌≢◌, ℕ, zero, suc, ◌+◌, ◌<◌, ◌≤◌, ◌⊎◌, inl, inr, Bool, true, false, ◌||◌, cond, eqb, ltb, List, [], ◌∷◌, ◌++◌, length, get_or, Option, Some, None, Ok, Err, refl, sym, ap, ◌∙◌, subst, arith}
+use Rattle.std.proofs.Common.{◌≡◌, ◌≢◌, ℕ, zero, suc, ◌+◌, ◌<◌, ◌≤◌, ◌⊎◌, inl, inr, Bool, true, false, ◌||◌, cond, eqb, ltb, List, [], ◌∷◌, ◌++◌, length, get_or, take, drop, map, take-append-drop, Option, Some, None, Ok, Err, refl, sym, ap, ◌∙◌, subst, arith}
 use Rattle.std.specs.Prelude.{IsTrue, Result, is_some}
 use Rattle.std.proofs.lemmas.Bool.Decides.{nat_tests}
 use Rattle.std.proofs.lemmas.Bool.{eqb-true, eq-eqb, false_from_ne_true}
-use Rattle.std.proofs.lemmas.List.{append-nil, length-append}
+use Rattle.std.specs.List.{flat_map}
+use Rattle.std.proofs.lemmas.List.{append-nil, length-append, map-append, take_more}
+use Rattle.std.proofs.lemmas.Grind.{flat_map-append}
 use Rattle.std.proofs.lemmas.List.Folds.{list_any-append}
 use Rattle.um_units.specs.declared.Atom.TheVariants.{Var}
+use Rattle.um_units.specs.declared.Term.{Term}
 use Rattle.um_units.specs.PowerMap.{PowerMap, atom, nth}
 use Rattle.um_elim.proofs.Cases.{on_test}
 use Rattle.um_rows.specs.declared.row.RowStop.{RowStop}
@@ -154,3 +157,27 @@ module _ (order : List Key) (old new : Slots) (t : IsTable order old) where
     fresh_from h = on_test (has_slot order (name k))
         (λ e. absurd (cc (sym h ∙ ap is_some (t.names k) ∙ ap (λ b. is_some (cond b (Some (place order (name k))) None)) e)))
         (λ e. e)
+
+-- ---- the names of some terms, one term after another
+module _ (vars : Term → List ℕ) (terms : List Term) (i : ℕ) (d : Term) (h : i < length terms) (old now : Slots) (was : HaveSlots (map name (flat_map vars (take i terms))) old now (Ok tt)) (new : Slots) where
+  abbrev term : Term
+  term = get_or terms i d
+
+  named_more : map name (flat_map vars (take (i + 1) terms)) ≡ map name (flat_map vars (take i terms)) ++ map name (vars term)
+  named_more =
+      ap (λ ts. map name (flat_map vars ts)) (take_more terms i d h) ∙ ap (map name) (flat_map-append vars (take i terms) (term ∷ []) ∙ ap (λ l. flat_map vars (take i terms) ++ l) (append-nil (vars term)))
+      ∙ map-append name (flat_map vars (take i terms)) (vars term)
+
+  named_all : map name (flat_map vars terms) ≡ map name (flat_map vars (take (i + 1) terms)) ++ map name (flat_map vars (drop (i + 1) terms))
+  named_all =
+      ap (λ ts. map name (flat_map vars ts)) (sym (take-append-drop (i + 1) terms)) ∙ ap (map name) (flat_map-append vars (take (i + 1) terms) (drop (i + 1) terms))
+      ∙ map-append name (flat_map vars (take (i + 1) terms)) (flat_map vars (drop (i + 1) terms))
+
+  pub names_next : HaveSlots (map name (vars term)) now new (Ok tt) → HaveSlots (map name (flat_map vars (take (i + 1) terms))) old new (Ok tt)
+  names_next k = subst (λ ks. HaveSlots ks old new (Ok tt)) (sym named_more) (slots_both (map name (flat_map vars (take i terms))) (map name (vars term)) old now new tt (Ok tt) was k)
+
+  pub names_stop : (e : RowStop) → HaveSlots (map name (vars term)) now new (Err e) → HaveSlots (map name (flat_map vars terms)) old new (Err e)
+  names_stop e k =
+      subst (λ ks. HaveSlots ks old new (Err e)) (sym named_all)
+      (slots_stop (map name (flat_map vars (take (i + 1) terms))) (map name (flat_map vars (drop (i + 1) terms))) old new e
+      (subst (λ ks. HaveSlots ks old new (Err e)) (sym named_more) (slots_both (map name (flat_map vars (take i terms))) (map name (vars term)) old now new tt (Err e) was k)))

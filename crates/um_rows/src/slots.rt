@@ -142,13 +142,10 @@ fn terms_slots(terms: &[Term], slots: &mut Slots) -> Result<(), RowStop>
     ensures slots { HaveSlots (map name (flat_map (λ t. atom_variables t.atom) terms.now)) slots.old slots.new result }
     ensures counted { OnOk result (length slots.new.holes.items ≡ length slots.old.holes.items) }
 {
-    match terms {
-        [] => Ok(()),
-        [term, rest @ ..] => {
-            term_slots(term, slots)?;
-            terms_slots(rest, slots)
-        }
+    for term in terms {
+        term_slots(term, slots)?;
     }
+    Ok(())
 }
 
 /// The hole of a unit's note, or its named variables.
@@ -263,12 +260,14 @@ pub(crate) fn expr_slots(
         }
         Node::List(items) => exprs_slots(alloc, records, schemes, number, recurs, &items.items, slots),
         Node::Call(j, parts) => {
+            let parts: &[Expr] = &parts.items;
             slots.add_holes(alloc, called_holes(schemes, number, *j))?;
-            exprs_slots(alloc, records, schemes, number, recurs, &parts.items, slots)
+            exprs_slots(alloc, records, schemes, number, recurs, parts, slots)
         }
         Node::Rec(r, parts) => {
+            let parts: &[Expr] = &parts.items;
             slots.add_holes(alloc, open_units(records, *r))?;
-            exprs_slots(alloc, records, schemes, number, recurs, &parts.items, slots)
+            exprs_slots(alloc, records, schemes, number, recurs, parts, slots)
         }
     }
 }

@@ -1,7 +1,6 @@
 use Rattle.std.proofs.Common.{◌≡◌, ◌+◌, ◌<◌, ℕ, length, map, slice_get, [], ◌∷◌, ◌++◌, Ok, Err, sym, ap, subst, ◌∙◌, arith, rules}
 use Rattle.um_tree.specs.ExprTree.{expr_tree, in_order, call, arith as arith_tree, compare, both, either, if, bind, split, cons, record_expr}
 use Rattle.um_tree.specs.declared.expression.Expr.{the_lemmas}
-use Rattle.um_tree.specs.declared.expression.Exprs.{Exprs}
 use Rattle.um_tree.specs.ProgramTree.{record_tree, scheme_tree}
 use Rattle.um_rows.specs.Holes.{callee_holes, record_holes, expr_holes, exprs_holes}
 use Rattle.um_rows.specs.Equations.{callee_of}
@@ -346,8 +345,7 @@ expr_slots-returns-in_err-add_holes-in-Call-clause-slots t c =
     let callee = callee_of (map scheme_tree c.args.schemes.now) c.args.number c.args.recurs in
     let old = c.args.slots.now in
     let n = length old.holes.items in
-    let parts : Exprs = c.in-Call.parts in
-    let es = in_order (map expr_tree parts.items.items) in
+    let es = in_order (map expr_tree c.deref-parts.result.now) in
     let j = c.in-Call.j in
     let seen : expr_tree e ≡ call e.at j es = search (rules, the_lemmas) in
     let m = callee_holes (callee j) in
@@ -364,8 +362,7 @@ expr_slots-returns-in_ok-add_holes-in-Call-clause-slots t c =
     let callee = callee_of (map scheme_tree c.args.schemes.now) c.args.number c.args.recurs in
     let old = c.args.slots.now in
     let n = length old.holes.items in
-    let parts : Exprs = c.in-Call.parts in
-    let es = in_order (map expr_tree parts.items.items) in
+    let es = in_order (map expr_tree c.deref-parts.result.now) in
     let j = c.in-Call.j in
     let seen : expr_tree e ≡ call e.at j es = search (rules, the_lemmas) in
     let m = callee_holes (callee j) in
@@ -374,7 +371,7 @@ expr_slots-returns-in_ok-add_holes-in-Call-clause-slots t c =
     let r = c.exprs_slots-in-Call.result in
     let first : HaveSlots (hole_keys n m) old mid (Ok tt) = subst (λ (k : ℕ). HaveSlots (hole_keys n k) old mid (Ok tt)) (c.called_holes.ensures c.args.recurs) c.in_ok-add_holes-in-Call.ensures.slots in
     let counted : length mid.holes.items ≡ n + m = c.in_ok-add_holes-in-Call.ensures.counted ∙ ap (λ k. n + k) (c.called_holes.ensures c.args.recurs) in
-    let rest : HaveSlots (exprs_keys records callee (length mid.holes.items) es) mid new r = subst (λ xs. HaveSlots (exprs_keys records callee (length mid.holes.items) (in_order (map expr_tree xs))) mid new r) c.deref-in-Call.ensures.value c.exprs_slots-in-Call.ensures.slots in
+    let rest : HaveSlots (exprs_keys records callee (length mid.holes.items) es) mid new r = c.exprs_slots-in-Call.ensures.slots in
     subst (λ x. HaveSlots (expr_keys records callee n x) old new r) (sym seen) (slots_both (hole_keys n m) (exprs_keys records callee (n + m) es) old mid new tt r first (subst (λ (k : ℕ). HaveSlots (exprs_keys records callee k es) mid new r) counted rest))
 
 pub expr_slots-returns-in_err-add_holes-in-Rec-clause-slots : goal.expr_slots-returns-in_err-add_holes-in-Rec-clause-slots
@@ -384,8 +381,7 @@ expr_slots-returns-in_err-add_holes-in-Rec-clause-slots t c =
     let callee = callee_of (map scheme_tree c.args.schemes.now) c.args.number c.args.recurs in
     let old = c.args.slots.now in
     let n = length old.holes.items in
-    let parts : Exprs = c.in-Rec.parts in
-    let es = in_order (map expr_tree parts.items.items) in
+    let es = in_order (map expr_tree c.deref-parts-in-Rec.result.now) in
     let r = c.in-Rec.r in
     let seen : expr_tree e ≡ record_expr e.at r es = search (rules, the_lemmas) in
     let m = record_holes (slice_get records r) in
@@ -402,8 +398,7 @@ expr_slots-returns-in_ok-add_holes-in-Rec-clause-slots t c =
     let callee = callee_of (map scheme_tree c.args.schemes.now) c.args.number c.args.recurs in
     let old = c.args.slots.now in
     let n = length old.holes.items in
-    let parts : Exprs = c.in-Rec.parts in
-    let es = in_order (map expr_tree parts.items.items) in
+    let es = in_order (map expr_tree c.deref-parts-in-Rec.result.now) in
     let r = c.in-Rec.r in
     let seen : expr_tree e ≡ record_expr e.at r es = search (rules, the_lemmas) in
     let m = record_holes (slice_get records r) in
@@ -412,7 +407,7 @@ expr_slots-returns-in_ok-add_holes-in-Rec-clause-slots t c =
     let r = c.exprs_slots-in-Rec.result in
     let first : HaveSlots (hole_keys n m) old mid (Ok tt) = subst (λ (k : ℕ). HaveSlots (hole_keys n k) old mid (Ok tt)) c.open_units.ensures c.in_ok-add_holes-in-Rec.ensures.slots in
     let counted : length mid.holes.items ≡ n + m = c.in_ok-add_holes-in-Rec.ensures.counted ∙ ap (λ k. n + k) c.open_units.ensures in
-    let rest : HaveSlots (exprs_keys records callee (length mid.holes.items) es) mid new r = subst (λ xs. HaveSlots (exprs_keys records callee (length mid.holes.items) (in_order (map expr_tree xs))) mid new r) c.deref-in-Rec.ensures.value c.exprs_slots-in-Rec.ensures.slots in
+    let rest : HaveSlots (exprs_keys records callee (length mid.holes.items) es) mid new r = c.exprs_slots-in-Rec.ensures.slots in
     subst (λ x. HaveSlots (expr_keys records callee n x) old new r) (sym seen) (slots_both (hole_keys n m) (exprs_keys records callee (n + m) es) old mid new tt r first (subst (λ (k : ℕ). HaveSlots (exprs_keys records callee k es) mid new r) counted rest))
 
 pub exprs_slots-returns-in_err-expr_slots-clause-slots : goal.exprs_slots-returns-in_err-expr_slots-clause-slots
