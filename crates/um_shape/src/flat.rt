@@ -39,7 +39,8 @@ pub(crate) struct FlatShape {
 }
 
 impl FlatShape {
-    ghost use Rattle.um_tree.specs.TypeTree.{note_tree, type_tree, shape_tree, bool_shape, num_shape, list_shape, record_shape};
+    ghost use Rattle.um_tree.specs.TypeTree.{note_tree, type_tree, shape_tree};
+    ghost use Rattle.um_tree.specs.TypeTree.{bool_shape, num_shape, list_shape, record_shape};
     ghost use Rattle.um_tree.specs.TreeHeights.{note_tree_height, type_tree_height};
     ghost use Rattle.um_tree.specs.Shapes.{note_shape, type_shape};
     ghost use Rattle.um_shape.specs.FirstFault.{same_shape};
