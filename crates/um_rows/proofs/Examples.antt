@@ -12,7 +12,7 @@ use Rattle.um_tree.specs.ExprTree.{number, local, call, arith as arith_tree, com
 use Rattle.um_tree.specs.ProgramTree.{RecordTree, FunctionTree, SchemeTree}
 use Rattle.um_tree.proofs.ExamplePrograms.{zero_number, one_number, plain, rec_function, marked}
 use Rattle.um_rows.specs.declared.row.Row.{Row}
-use Rattle.um_rows.specs.Steps.{Step, rows_of}
+use Rattle.um_rows.specs.Steps.{Step, rows_of, first_past}
 use Rattle.um_rows.specs.Slots.{slot_count, slot_equations}
 use Rattle.um_rows.specs.Judgement.{Judgement, has_scheme, too_many_slots, passes_range, has_no_typing, judge}
 use Rattle.um_rows.specs.CallEquations.{call_function}

@@ -8,7 +8,7 @@ use Rattle.um_units.proofs.Group.{power_of-one, power_of-atom, quotient-same, sa
 use Rattle.um_units.proofs.Replacement.{replace-mul, replace-inv, replace-base}
 use Rattle.um_units.proofs.Solutions.{Solves-nil}
 use Rattle.um_tree.specs.TypeTree.{TypeTree}
-use Rattle.um_rows.specs.Steps.{Step, row_at, wrong_shape_at, type_at, row_units}
+use Rattle.um_rows.specs.Steps.{Step, row_at, wrong_shape_at, type_at, types_at, row_units}
 use Rattle.um_rows.specs.Rules.{formed, mismatch}
 
 -- the units v make each row equal to 1
@@ -51,6 +51,11 @@ Holds-append v [] b h k = k
 Holds-append v (row_at at u ∷ a) b h k = (h.0, Holds-append v a b h.1 k)
 Holds-append v (wrong_shape_at at ∷ a) b h k = (h.0, Holds-append v a b h.1 k)
 Holds-append v (type_at at t ∷ a) b h k = Holds-append v a b h k
+
+-- ---- types hold always
+pub types_hold : (v : ℕ → PowerMap) (at : ℕ) (ts : List TypeTree) → Holds v (types_at at ts)
+types_hold v at [] = tt
+types_hold v at (t ∷ ts) = types_hold v at ts
 
 -- ---- the rows of a node
 pub Holds-formed : (v : ℕ → PowerMap) (at : ℕ) (rows : List Step) (t : TypeTree) → Holds v (formed at rows t).steps → Holds v rows

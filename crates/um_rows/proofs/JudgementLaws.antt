@@ -5,7 +5,9 @@ use Rattle.um_units.specs.PowerMap.{PowerMap, replace, nth}
 use Rattle.um_units.proofs.Replacement.{nth-map}
 use Rattle.um_tree.specs.ProgramTree.{RecordTree, FunctionTree, ProgramTree, Signature, SchemeTree}
 use Rattle.um_tree.specs.Typing.{put_signature, Earlier, IsTypingOf, TypingAt, typings_below, Typing}
-use Rattle.um_tree.specs.Scheme.{IsInstance, IsPrincipal, IsNumberedScheme}
+use Rattle.um_tree.specs.Scheme.{IsInstance, IsNumberedScheme}
+use Rattle.um_tree.specs.Laws.{LiteralsAreClosed}
+use Rattle.um_tree.proofs.Numbered.{numbered_below}
 use Rattle.um_elim.specs.Instances.{SolvesExactly}
 use Rattle.um_elim.specs.Solution.{own_variables}
 use Rattle.um_elim.proofs.Cases.{on_test}
@@ -24,7 +26,7 @@ use Rattle.um_rows.proofs.SolvingLaws.{IsRightFor, solve_right, unsolvable_rows}
 use Rattle.um_rows.proofs.NumberedSchemes.{numbered_instances, numbered_is_numbered}
 use Rattle.um_units.proofs.Solutions.{IsInstance_refl}
 
-module _ (earlier : Earlier) (schemes : List SchemeTree) (i : ℕ) (fit : AllFit earlier schemes i) (records : List RecordTree) (f : FunctionTree) where
+module _ (earlier : Earlier) (schemes : List SchemeTree) (i : ℕ) (fit : AllFit earlier schemes i) (records : List RecordTree) (f : FunctionTree) (closed : LiteralsAreClosed f.body) where
   abbrev sig : Signature
   sig = slot_signature records schemes i f
 
@@ -47,12 +49,12 @@ module _ (earlier : Earlier) (schemes : List SchemeTree) (i : ℕ) (fit : AllFit
   pub scheme_says : (units : List PowerMap) → SolvesExactly n (row_units (slot_equations records schemes i f).steps) units → (g : Signature) → IsTypingOf records earlier i f g ↔ IsInstance (numbered_scheme (put_signature (nth units) sig)) g
   scheme_says units exact g = (
     (λ h.
-        let w = (typings_are_solved earlier schemes i fit records f g).0 h in
+        let w = (typings_are_solved earlier schemes i fit records f closed g).0 h in
         let p = (exact w.0).1 w.1 in
         (numbered_instances (put_signature (nth units) sig) g).1 (p.0, w.2 ∙ ap (λ v. put_signature (nth v) sig) (sym p.1) ∙ moved units p.0 long)),
     (λ h.
         let w = (numbered_instances (put_signature (nth units) sig) g).0 h in
-        (typings_are_solved earlier schemes i fit records f g).1 (map (replace w.0) units, (exact (map (replace w.0) units)).0 (w.0, refl), w.1 ∙ sym (moved units w.0 long))),
+        (typings_are_solved earlier schemes i fit records f closed g).1 (map (replace w.0) units, (exact (map (replace w.0) units)).0 (w.0, refl), w.1 ∙ sym (moved units w.0 long))),
   )
     where
       long : length units ≡ n
@@ -60,7 +62,7 @@ module _ (earlier : Earlier) (schemes : List SchemeTree) (i : ℕ) (fit : AllFit
 
   none_says : (k at : ℕ) → IsFirstUnsolvable n (rows_of (slot_equations records schemes i f).steps) k at → (g : Signature) → IsTypingOf records earlier i f g → ⊥
   none_says k at first g h =
-      let w = (typings_are_solved earlier schemes i fit records f g).0 h in
+      let w = (typings_are_solved earlier schemes i fit records f closed g).0 h in
       unsolvable_rows n (rows_of (slot_equations records schemes i f).steps) k at first (w.0, w.1)
 
   solving_says : (r : Solving) → IsRightFor n (rows_of (slot_equations records schemes i f).steps) r → Says (by_solving f.at sig r)
@@ -86,18 +88,18 @@ module _ (earlier : Earlier) (schemes : List SchemeTree) (i : ℕ) (fit : AllFit
       (λ e. subst (λ b. Says (cond b j too_many_slots)) (sym e) tt)
 
 -- ---- in a program
-module _ (p : ProgramTree) (schemes : List SchemeTree) (i : ℕ) (f : FunctionTree) (e : slice_get p.functions i ≡ Some f) (have : HaveSchemes p schemes i) where
+module _ (p : ProgramTree) (schemes : List SchemeTree) (i : ℕ) (f : FunctionTree) (e : slice_get p.functions i ≡ Some f) (closed : LiteralsAreClosed f.body) (have : HaveSchemes p schemes i) where
   abbrev before : Earlier
   before = typings_below p i
 
   is_typing : (g : Signature) → Typing p i g → IsTypingOf p.records before i f g
   is_typing g h = subst (λ o. TypingAt p.records before i o g) e h
 
-  says : (j : Judgement) → judge p.records schemes i f ≡ j → Says before schemes i (all_fit p schemes i have) p.records f j
-  says j is = subst (Says before schemes i (all_fit p schemes i have) p.records f) is (judge_says before schemes i (all_fit p schemes i have) p.records f)
+  says : (j : Judgement) → judge p.records schemes i f ≡ j → Says before schemes i (all_fit p schemes i have) p.records f closed j
+  says j is = subst (Says before schemes i (all_fit p schemes i have) p.records f closed) is (judge_says before schemes i (all_fit p schemes i have) p.records f closed)
 
-  judged_principal : (s : SchemeTree) → judge p.records schemes i f ≡ has_scheme s → IsPrincipal p i s
-  judged_principal s is g =
+  judged_instances : (s : SchemeTree) → judge p.records schemes i f ≡ has_scheme s → (g : Signature) → Typing p i g ↔ IsInstance s g
+  judged_instances s is g =
       let both = says (has_scheme s) is g in
       ((λ h. both.0 (is_typing g h)), (λ h. subst (λ o. TypingAt p.records before i o g) (sym e) (both.1 h)))
 
@@ -132,7 +134,9 @@ judged_numbered records schemes i f s =
     (λ e h. absurd (cc (subst (λ b. cond b j too_many_slots ≡ has_scheme s) e h)))
 
 pub judged_schemes_are_principal : JudgedSchemesArePrincipal
-judged_schemes_are_principal p schemes i f e have s is = (judged_principal p schemes i f e have s is, judged_numbered p.records schemes i f s is)
+judged_schemes_are_principal p schemes i f e closed have s is =
+    let numbered = judged_numbered p.records schemes i f s is in
+    (record { below = numbered_below s numbered; instances = judged_instances p schemes i f e closed have s is }, numbered)
 
 pub judged_untyped_have_none : JudgedUntypedHaveNone
-judged_untyped_have_none p schemes i f e have k at is = judged_untyped p schemes i f e have k at is
+judged_untyped_have_none p schemes i f e closed have k at is = judged_untyped p schemes i f e closed have k at is

@@ -7,6 +7,7 @@ mod SoundRules
 pub mod Callees
 pub mod Sound
 mod CompleteRules
+mod PutLiterals
 mod Used
 pub mod Complete
 mod BelowRules
@@ -31,3 +32,5 @@ pub mod OfferLaws
 pub mod WalkedParts
 pub mod SameDerivation
 pub mod SlotsLeft
+pub mod EquationLaws
+pub mod ProgramRows

@@ -14,6 +14,7 @@ use Rattle.um_elim.proofs.Cases.{on_test}
 use Rattle.um_elim.proofs.FirstOccurrences.{member}
 use Rattle.um_elim.proofs.RenamedUnits.{unit_alike}
 use Rattle.um_rows.specs.Against.{against}
+use Rattle.um_rows.specs.Steps.{types_at}
 use Rattle.um_rows.specs.Holes.{unit_holes, note_holes, notes_holes, Callee, known_by, itself, nobody, callee_holes, record_holes, expr_holes}
 use Rattle.um_rows.specs.Rules.{Derived, AllDerived, after, formed, item, number_rule, call_rule, negate_rule, not_rule, truths_rule, arith_rule, compare_rule, if_rule, split_rule, nil_rule, list_rule, cons_rule, record_rule, field_rule}
 use Rattle.um_rows.specs.Derivation.{first_units, noted_unit, noted_units, noted_type, noted_types, offered, derive, derive_all}
@@ -194,4 +195,8 @@ module _ (f g m q : ℕ → PowerMap) where
       let whole : derive f m records (own_signature f m fn) (callee schemes i fn) (head_holes fn) (noted_types f m 0 fn.params) fn.body ≡ derive g q records (own_signature g q fn) (callee schemes i fn) (head_holes fn) (noted_types g q 0 fn.params) fn.body =
           same_derived records (own_signature f m fn) (callee schemes i fn) low (head_holes fn) (noted_types f m 0 fn.params) fn.body (alike_back result body behind)
           ∙ (λ j. derive g q records (own j) (callee schemes i fn) (head_holes fn) (params j) fn.body) in
-      λ j. record { params = params j; result = (whole j).type; steps = (whole j).steps ++ same_rows fn.at (whole j).type (notes_holes fn.params) fn.result noted j }
+      λ j. record {
+        params = params j;
+        result = (whole j).type;
+        steps = types_at fn.at (params j ++ same_result (notes_holes fn.params) fn.result noted j ∷ []) ++ ((whole j).steps ++ same_rows fn.at (whole j).type (notes_holes fn.params) fn.result noted j);
+      }

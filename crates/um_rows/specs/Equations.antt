@@ -1,10 +1,10 @@
 -- The equations of a function, given the schemes of the functions before it.
 -- Source: Kennedy (1996): a recursive use has one type, an earlier function is used at any instance of its scheme.
-use Rattle.std.specs.Prelude.{ℕ, ◌+◌, nat_lt, ◌==◌, ◌&&◌, Bool, if◌then◌else◌, is_some, List, [], ◌++◌, Option, Some, None, slice_get}
+use Rattle.std.specs.Prelude.{ℕ, ◌+◌, nat_lt, ◌==◌, ◌&&◌, Bool, if◌then◌else◌, is_some, List, [], ◌∷◌, ◌++◌, Option, Some, None, slice_get}
 use Rattle.um_units.specs.PowerMap.{PowerMap}
 use Rattle.um_tree.specs.TypeTree.{TypeTree, bool_type, NoteTree}
 use Rattle.um_tree.specs.ProgramTree.{RecordTree, FunctionTree, Signature, SchemeTree}
-use Rattle.um_rows.specs.Steps.{Step}
+use Rattle.um_rows.specs.Steps.{Step, types_at}
 use Rattle.um_rows.specs.Against.{against}
 use Rattle.um_rows.specs.Holes.{Callee, known_by, itself, nobody, notes_holes, result_holes, expr_holes}
 use Rattle.um_rows.specs.Derivation.{noted_type, noted_types, derive}
@@ -57,8 +57,16 @@ module _ (holes names : ℕ → PowerMap) where
   abbrev pub own_signature : FunctionTree → Signature
   own_signature f = record { params = noted_types holes names 0 f.params; result = noted_result (notes_holes f.params) f.result }
 
+  -- the types of the parameters and of the result's note, at the function's name
+  abbrev pub head_steps : FunctionTree → List Step
+  head_steps f = types_at f.at (noted_types holes names 0 f.params ++ noted_result (notes_holes f.params) f.result ∷ [])
+
   abbrev pub equations : List RecordTree → List SchemeTree → ℕ → FunctionTree → Equations
   equations records schemes i f =
       let params = noted_types holes names 0 f.params in
       let body = derive holes names records (own_signature f) (callee schemes i f) (head_holes f) params f.body in
-      record { params = params; result = body.type; steps = body.steps ++ result_rows f.at body.type (notes_holes f.params) f.result }
+      record {
+        params = params;
+        result = body.type;
+        steps = head_steps f ++ (body.steps ++ result_rows f.at body.type (notes_holes f.params) f.result);
+      }

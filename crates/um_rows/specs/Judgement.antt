@@ -6,12 +6,13 @@ use Rattle.std.specs.List.{list_all}
 use Rattle.um_units.specs.PowerMap.{nth}
 use Rattle.um_tree.specs.ProgramTree.{RecordTree, FunctionTree, Signature, SchemeTree}
 use Rattle.um_tree.specs.Typing.{put_signature}
+use Rattle.um_tree.specs.Scheme.{signature_types}
 use Rattle.um_elim.specs.Application.{type_fits}
 use Rattle.um_elim.specs.Numbering.{variable_order, by_place}
 use Rattle.um_elim.specs.Solution.{own_variables}
 use Rattle.um_rows.specs.Steps.{rows_of, first_past}
 use Rattle.um_rows.specs.Slots.{slot_count, slot_equations}
-use Rattle.um_rows.specs.Solutions.{slot_signature, signature_types}
+use Rattle.um_rows.specs.Solutions.{slot_signature}
 use Rattle.um_rows.specs.FirstUnsolvable.{Solving, solved, unsolved, out_of_range, solve}
 
 -- the variables of the signature are numbered by their first occurrence, and the scheme holds these

@@ -16,4 +16,5 @@ pub mod Reached
 pub mod Body
 pub mod Judgement
 pub mod CallEquations
+pub mod Answers
 pub mod Laws

@@ -2,7 +2,7 @@
 -- Source: this project's own; want of memory may come in place of every answer, and no public clause rests on it.
 use Rattle.std.specs.Prelude.{◌≡◌, ◌<◌, ◌≤◌, ℕ, Bool, true, false, if◌then◌else◌, IsTrue, List, [], ◌∷◌, ◌++◌, length, slice_index_or, Option, Some, None, Result, MatchResult}
 use Rattle.um_units.specs.declared.Atom.TheVariants.{Var}
-use Rattle.um_units.specs.PowerMap.{PowerMap, atom, nth}
+use Rattle.um_units.specs.PowerMap.{PowerMap, one, atom, nth}
 use Rattle.um_rows.specs.declared.row.RowStop.{RowStop}
 use Rattle.um_rows.specs.declared.row.RowStop.TheVariants as stop
 use Rattle.um_rows.specs.declared.slots.Slots.{Slots}
@@ -38,3 +38,8 @@ StopsSlots order stop.NoMemory = Unit {0}
 -- the keys have slots, or there are too many
 abbrev pub HaveSlots : List Key → Slots → Slots → Result (Unit {0}) RowStop → Type 0
 HaveSlots keys old new r = (order : List Key) → IsTable order old → MatchResult r (λ _. IsTable (with_keys order keys) new) (StopsSlots (with_keys order keys))
+
+-- the unit of a named variable: its slot's variable, if it has one
+abbrev pub name_unit : Option ℕ → PowerMap
+name_unit (Some k) = atom (Var k)
+name_unit None = one

@@ -18,6 +18,11 @@ pub data Step : Type 0 where
   -- the type of a node
   type_at : ℕ → TypeTree → Step
 
+-- the types of what stands at one place
+abbrev pub types_at : ℕ → List TypeTree → List Step
+types_at at [] = []
+types_at at (t ∷ ts) = type_at at t ∷ types_at at ts
+
 -- the rows among the steps, in order. For a wrong shape there stands a row that no units satisfy
 abbrev pub rows_of : List Step → List Row
 rows_of [] = []

@@ -17,7 +17,7 @@ ghost use Rattle.um_rows.specs.Equations.{callee_of};
 ghost use Rattle.um_rows.specs.Rules.{call_rule};
 ghost use Rattle.um_rows.specs.Walk.{node};
 ghost use Rattle.um_rows.specs.Reached.{IsReached};
-ghost use Rattle.um_rows.specs.Body.{noted_signature, called, offer, IsClosedScheme};
+ghost use Rattle.um_rows.specs.Body.{noted_signature, called, offer, IsClosedScheme, AreClosedBefore};
 
 use crate::against::{against, push_never, types_against};
 use crate::context::Context;
@@ -144,7 +144,7 @@ pub(crate) fn call(
     progress: &mut Progress,
 ) -> Result<Ty, RowStop>
     requires variables { AreVariables context.now.holes.items }
-    requires closed { All IsClosedScheme schemes.now }
+    requires closed { AreClosedBefore context.now.number schemes.now }
     requires room { first + callee_holes (called schemes.now context.now j) ≤ length context.now.holes.items }
     ensures reached { (records : List Record) → IsReached (node progress.old.rows.items progress.old.holes (call_rule at (offer records schemes.now context.now first j) (map type_tree arguments.now))) progress.new result }
     ensures fits { IfOk result (λ ty. IsTrue (type_fits (type_tree ty))) }

@@ -34,7 +34,8 @@ pub(crate) struct Slots {
 
 impl Slots {
     pub(crate) fn new(alloc: Global) -> Slots
-        ensures { IsTable [] result }
+        ensures table { IsTable [] result }
+        ensures empty { result.holes.items ≡ [] }
     {
         Slots {
             count: 0,

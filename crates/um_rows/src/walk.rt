@@ -7,7 +7,7 @@ ghost use Rattle.um_elim.specs.Application.{type_fits};
 ghost use Rattle.um_rows.specs.Rules.{item};
 ghost use Rattle.um_rows.specs.SlotUnits.{AreVariables};
 ghost use Rattle.um_rows.specs.Reached.{IsReached, AreReached};
-ghost use Rattle.um_rows.specs.Body.{IsClosedScheme, IsClosedRecord, body_walk, body_walk_all, body_holes, bodies_holes};
+ghost use Rattle.um_rows.specs.Body.{AreClosedBefore, IsClosedRecord, body_walk, body_walk_all, body_holes, bodies_holes};
 
 use crate::context::Context;
 use crate::progress::Progress;
@@ -41,7 +41,7 @@ pub(crate) fn derive(
     progress: &mut Progress,
 ) -> Result<Ty, RowStop>
     requires variables { AreVariables context.now.holes.items }
-    requires schemes { All IsClosedScheme schemes.now }
+    requires schemes { AreClosedBefore context.now.number schemes.now }
     requires records { All IsClosedRecord records.now }
     requires room { progress.old.holes + body_holes records.now schemes.now context.now (expr_tree e.now) ≤ length context.now.holes.items }
     ensures reached { IsReached (body_walk records.now schemes.now context.now progress.old.rows.items progress.old.holes (map type_tree scope.old.items) (expr_tree e.now)) progress.new result }
@@ -147,7 +147,7 @@ fn derive_all(
     progress: &mut Progress,
 ) -> Result<Vec<Ty>, RowStop>
     requires variables { AreVariables context.now.holes.items }
-    requires schemes { All IsClosedScheme schemes.now }
+    requires schemes { AreClosedBefore context.now.number schemes.now }
     requires records { All IsClosedRecord records.now }
     requires room { progress.old.holes + bodies_holes records.now schemes.now context.now (in_order (map expr_tree parts.now)) ≤ length context.now.holes.items }
     ensures reached { AreReached (λ types. map type_tree types.items) (body_walk_all records.now schemes.now context.now progress.old.rows.items progress.old.holes (map type_tree scope.old.items) (in_order (map expr_tree parts.now))) progress.new result }

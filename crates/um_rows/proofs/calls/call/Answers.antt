@@ -41,7 +41,7 @@ returns-in-Some-clause-reached c = λ records.
     let low = ltb-true c.args.j (length c.args.schemes.now) (sym found.0) in
     let callee = called_before c.args.schemes.now c.args.context.now c.args.j s c.if-j-context.true low found.1 in
     let room : c.args.first + s.vars ≤ length holes = subst (λ x. c.args.first + callee_holes x ≤ length holes) callee c.requires.room in
-    let closed = subst IsClosedScheme (sym found.1) (c.requires.closed c.args.j s low) in
+    let closed = subst IsClosedScheme (sym found.1) (c.requires.closed c.args.j s c.if-j-context.true low) in
     let offered = offer_before c.args.schemes.now c.args.context.now c.args.j records c.args.first s c.if-j-context.true low found.1 closed room in
     let by = c.hole_units-by.ensures in
     subst (λ o. IsReached (node progress.rows.items progress.holes (call_rule c.args.at o (map type_tree c.args.arguments.now))) c.scheme_call.new.progress c.scheme_call.result) (sym offered)
