@@ -105,6 +105,9 @@ first_past-types at (t ∷ ts) = ap (λ o. cond (type_fits t) o (Some at)) (firs
     both true b = refl
     both false b = refl
 
+past_head : (at : ℕ) (ts : List TypeTree) (b : List Step) → IsFalse (list_all type_fits ts) → first_past (types_at at ts ++ b) ≡ Some at
+past_head at ts b f = first_past-append (types_at at ts) b ∙ ap (λ o. first_of o (first_past b)) (first_past-types at ts ∙ ap (λ c. cond c None (Some at)) f)
+
 rows_of-types : (at : ℕ) (ts : List TypeTree) → rows_of (types_at at ts) ≡ []
 rows_of-types at [] = refl
 rows_of-types at (t ∷ ts) = rows_of-types at ts
@@ -141,7 +144,7 @@ module _ (records : List Record) (schemes : List Scheme) (number at : ℕ) (recu
 
     -- a type of the head is out of range
     pub head_past : IsFalse (list_all type_fits heads) → StopsFor (map record_tree records) (map scheme_tree schemes) number fn (stop.Range at)
-    head_past f = (few, ap (λ (e : Equations). first_past e.steps) (sym same) ∙ first_past-append (types_at at heads) _ ∙ ap (λ o. first_of o _) (first_past-types at heads ∙ ap (λ b. cond b None (Some at)) f))
+    head_past f = (few, ap (λ (e : Equations). first_past e.steps) (sym same) ∙ past_head at heads _ f)
 
     module _ (c : Context) (fit : IsTrue (list_all type_fits heads)) (exact : IsContextOf number (may_recur fn) t.holes.items (map name_unit t.names.items) params note c) where
       abbrev steps : List Step
@@ -191,6 +194,11 @@ module _ (records : List Record) (schemes : List Scheme) (number at : ℕ) (recu
       stops_right stop.Slots h = absurd h
       stops_right (stop.Range k) h = (few, first_is ∙ h)
       stops_right stop.NoMemory h = tt
+
+      pub body_right : (r : Result Rows RowStop) → MatchResult r (AreBodyRows steps found (map type_tree c.params.items) t.count) (StopsPast (first_past steps)) →
+          MatchResult r (AreEquations (map record_tree records) (map scheme_tree schemes) number fn) (StopsFor (map record_tree records) (map scheme_tree schemes) number fn)
+      body_right (Ok r) h = rows_right r h
+      body_right (Err e) h = stops_right e h
 
   pub too_many : (e : RowStop) → StopsSlots (with_keys [] keys) e → StopsFor (map record_tree records) (map scheme_tree schemes) number fn e
   too_many stop.Slots h = subst (λ o. 2000 < length o) (with_none keys) h

@@ -33,4 +33,5 @@ pub mod WalkedParts
 pub mod SameDerivation
 pub mod SlotsLeft
 pub mod EquationLaws
+pub mod BodyLaws
 pub mod ProgramRows

@@ -23,7 +23,7 @@ use Rattle.um_rows.proofs.Variables.{TypesBelow}
 use Rattle.um_rows.proofs.NodeLaws.{mapped_found, mapped_past}
 use Rattle.um_rows.proofs.SliceLaws.{put-part, types_put-part, types_put-units}
 
-all_below : (n : ℕ) (ts : List Ty) → All (λ t. TypeHas (VariablesBelow n) (type_tree t)) ts → TypesBelow n (map type_tree ts)
+pub all_below : (n : ℕ) (ts : List Ty) → All (λ t. TypeHas (VariablesBelow n) (type_tree t)) ts → TypesBelow n (map type_tree ts)
 all_below n [] h = tt
 all_below n (t ∷ ts) h = (All-head (λ t. TypeHas (VariablesBelow n) (type_tree t)) t ts h, all_below n ts (All-tail (λ t. TypeHas (VariablesBelow n) (type_tree t)) t ts h))
 

@@ -1,11 +1,12 @@
 -- What is known of a formed program, as the code of the equations asks for it, and what its equations say.
-use Rattle.std.proofs.Common.{◌≡◌, ◌↔◌, ℕ, zero, suc, ◌<◌, ◌≤◌, List, [], ◌∷◌, map, length, get_or, Some, None, slice_get, refl, sym, ap, ◌∙◌, subst, arith}
-use Rattle.std.specs.Prelude.{All, Option}
+use Rattle.std.proofs.Common.{◌≡◌, ◌↔◌, ℕ, zero, suc, ◌<◌, ◌≤◌, List, [], ◌∷◌, map, length, get_or, Some, None, Ok, Err, slice_get, refl, sym, ap, ◌∙◌, subst, arith}
+use Rattle.std.specs.Prelude.{All, Option, Result, MatchResult, IfOk, IfErr}
 use Rattle.std.proofs.lemmas.List.{get_or_default}
 use Rattle.std.proofs.lemmas.List.Elements.{All-nil, All-cons, All-head, All-tail}
 use Rattle.um_units.specs.PowerMap.{PowerMap, nth}
 use Rattle.um_units.specs.Variables.{VariablesBelow}
 use Rattle.um_units.specs.Solutions.{IsJointSolution}
+use Rattle.um_tree.specs.declared.note.Note.{Note}
 use Rattle.um_tree.specs.declared.types.Ty.{Ty}
 use Rattle.um_tree.specs.declared.program.FieldDecl.{FieldDecl}
 use Rattle.um_tree.specs.declared.program.Record.{Record}
@@ -22,7 +23,9 @@ use Rattle.um_tree.proofs.WrittenUnits.{formed_literals_are_closed}
 use Rattle.um_rows.specs.declared.row.Rows.{Rows}
 use Rattle.um_rows.specs.declared.row.RowStop.{RowStop}
 use Rattle.um_rows.specs.declared.row.RowStop.TheVariants as stop
-use Rattle.um_rows.specs.Steps.{units_of}
+use Rattle.um_tree.proofs.Moved.{slice_get_moved}
+use Rattle.um_rows.specs.Steps.{rows_of, units_of}
+use Rattle.um_rows.specs.Slots.{slot_count, slot_equations}
 use Rattle.um_rows.specs.Solutions.{IsSolved, HaveSchemes}
 use Rattle.um_rows.specs.Body.{IsClosedScheme, AreClosedBefore, IsClosedRecord}
 use Rattle.um_rows.specs.Answers.{AreEquations, StopsFor, AreRowsOf, RowsStopFor, HaveVariablesBelow, IsGivenBy, TypingsAreSolutionsOf, described}
@@ -63,13 +66,19 @@ closed_records p formed r d l =
     let found = mapped_found record_tree p.records.items.items r x l (get_or_default p.records.items.items r d x l) in
     record { fields = fields_below (program_tree p) r x.units x.fields.items.items (formed.records r (record_tree x) found).fields }
 
+-- ---- what the code of the equations answers of a function with these notes
+abbrev pub IsAnswer : List Record → List SchemeTree → ℕ → Function → List Note → Result Rows RowStop → Type 0
+IsAnswer records schemes i f params r =
+    MatchResult r (AreEquations (map record_tree records) schemes i (described f.at f.recursive (map note_tree params) (result_tree f.result) (expr_tree f.body)))
+    (StopsFor (map record_tree records) schemes i (described f.at f.recursive (map note_tree params) (result_tree f.result) (expr_tree f.body)))
+
 -- ---- a function of the program
-module _ (p : Program) (formed : IsFormed (program_tree p)) (schemes : List SchemeTree) (i : ℕ) (f : Function) (low : i < length p.functions.items.items) (is : f ≡ get_or p.functions.items.items i f) where
+module _ (p : Program) (formed : IsFormed (program_tree p)) (schemes : List SchemeTree) (i : ℕ) (f : Function) (there : slice_get p.functions.items.items i ≡ Some f) where
   abbrev parts : FunctionTree
   parts = described f.at f.recursive (map note_tree f.params.items.items) (result_tree f.result) (expr_tree f.body)
 
   found : slice_get (program_tree p).functions i ≡ Some (function_tree f)
-  found = mapped_found function_tree p.functions.items.items i f low is
+  found = slice_get_moved function_tree p.functions.items.items i f there
 
   only : (g : FunctionTree) → slice_get (program_tree p).functions i ≡ Some g → function_tree f ≡ g
   only g e = let same : Some (function_tree f) ≡ Some g = sym found ∙ e in cc same
@@ -93,13 +102,26 @@ module _ (p : Program) (formed : IsFormed (program_tree p)) (schemes : List Sche
       given : IsSolved (program_tree p).records schemes i (function_tree f) g → IsGivenBy r g
       given w = (
         w.0,
-        subst (λ n. IsJointSolution n (units_of r.list.items.items) w.0) (sym h.slots) (subst (λ rs. IsJointSolution _ (units_of rs) w.0) (sym h.list) w.1),
+        subst (λ n. IsJointSolution n (units_of r.list.items.items) w.0) (sym h.slots) (subst (λ rs. IsJointSolution (slot_count (program_tree p).records schemes i (function_tree f)) (units_of rs) w.0) (sym h.list) w.1),
         w.2 ∙ (λ j. put_signature (nth w.0) (record { params = sym h.params j; result = sym h.result j })),
       )
 
       solved : IsGivenBy r g → IsSolved (program_tree p).records schemes i (function_tree f) g
       solved w = (
         w.0,
-        subst (λ n. IsJointSolution n _ w.0) h.slots (subst (λ rs. IsJointSolution r.slots (units_of rs) w.0) h.list w.1),
+        subst (λ n. IsJointSolution n (units_of (rows_of (slot_equations (program_tree p).records schemes i (function_tree f)).steps)) w.0) h.slots (subst (λ rs. IsJointSolution r.slots (units_of rs) w.0) h.list w.1),
         w.2 ∙ (λ j. put_signature (nth w.0) (record { params = h.params j; result = h.result j })),
       )
+
+  -- ---- by the answer
+  pub rows_ok : (r : Result Rows RowStop) → IsAnswer p.records.items.items schemes i f f.params.items.items r → IfOk r (AreRowsOf (program_tree p) schemes i)
+  rows_ok (Ok r) h = rows_of_function r h
+  rows_ok (Err e) h = tt
+
+  pub rows_err : (r : Result Rows RowStop) → IsAnswer p.records.items.items schemes i f f.params.items.items r → IfErr r (RowsStopFor (program_tree p) schemes i)
+  rows_err (Ok r) h = tt
+  rows_err (Err e) h = stops_of_function e h
+
+  pub rows_typings : (r : Result Rows RowStop) → IsAnswer p.records.items.items schemes i f f.params.items.items r → IfOk r (TypingsAreSolutionsOf (program_tree p) schemes i)
+  rows_typings (Ok r) h = typings_of_function r h
+  rows_typings (Err e) h = tt

@@ -3,11 +3,12 @@
 use Rattle.std.specs.Prelude.{◌≡◌, ◌↔◌, ◌<◌, ◌≤◌, ℕ, Bool, All, List, [], length, slice_get, Option, Some, None}
 use Rattle.um_units.specs.PowerMap.{PowerMap, nth}
 use Rattle.um_units.specs.Solutions.{IsJointSolution}
-use Rattle.um_tree.specs.TypeTree.{NoteTree, type_tree, type_trees}
+use Rattle.um_tree.specs.TypeTree.{TypeTree, NoteTree, type_tree, type_trees}
 use Rattle.um_tree.specs.ExprTree.{ExprTree}
 use Rattle.um_tree.specs.ValueTree.{InputTrees}
 use Rattle.um_tree.specs.ProgramTree.{RecordTree, FunctionTree, ProgramTree, Signature, SchemeTree}
 use Rattle.um_tree.specs.Typing.{put_signature, Typing}
+use Rattle.um_tree.specs.InputType.{IsResultOfCall}
 use Rattle.um_tree.specs.Scheme.{variables, signature_types}
 use Rattle.um_rows.specs.declared.row.Rows.{Rows}
 use Rattle.um_rows.specs.declared.row.RowStop.{RowStop}
@@ -57,6 +58,10 @@ IsGivenBy r g = (units : List PowerMap) × IsJointSolution r.slots (units_of r.l
 
 abbrev pub TypingsAreSolutionsOf : ProgramTree → List SchemeTree → ℕ → Rows → Type 0
 TypingsAreSolutionsOf p schemes i r = HaveSchemes p schemes i → (g : Signature) → Typing p i g ↔ IsGivenBy r g
+
+-- so it is of the results of a call
+abbrev pub ResultsAreSolutionsOf : ProgramTree → List SchemeTree → ℕ → InputTrees → Rows → Type 0
+ResultsAreSolutionsOf p schemes k inputs r = HaveSchemes p schemes (length p.functions) → (t : TypeTree) → IsResultOfCall p k inputs t ↔ IsGivenBy r (record { params = []; result = t })
 
 -- ---- a function without a name
 abbrev pub described : ℕ → Bool → List NoteTree → Option NoteTree → ExprTree → FunctionTree

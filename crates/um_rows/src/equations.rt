@@ -1,6 +1,6 @@
 //! The equations of a function, from its parts.
 
-ghost use Rattle.std.specs.Prelude.{◌≡◌, ◌+◌, ◌≤◌, ◌++◌, [], ◌∷◌, All, IfOk, OnOk, MatchResult, length, map};
+ghost use Rattle.std.specs.Prelude.{◌≡◌, ◌+◌, ◌≤◌, ◌&&◌, is_some, ◌++◌, [], ◌∷◌, All, IfOk, OnOk, MatchResult, length, map};
 ghost use Rattle.std.specs.List.{list_all};
 ghost use Rattle.um_units.specs.PowerMap.{nth};
 ghost use Rattle.um_units.specs.Range.{RangeUnless};
@@ -232,6 +232,13 @@ fn body_rows(
     })
 }
 
+/// A function without a note of its result doesn't call itself.
+fn may_recur(recursive: bool, note: &Option<Note>) -> bool
+    ensures { result ≡ (recursive && is_some (result_tree note.now)) }
+{
+    recursive && note.is_some()
+}
+
 /// The equations of the function of this number with these parameters, this note of its result and this body.
 pub(crate) fn equations(
     alloc: Global,
@@ -248,7 +255,7 @@ pub(crate) fn equations(
     requires records { All IsClosedRecord records.now }
     ensures { MatchResult result (AreEquations (map record_tree records.now) (map scheme_tree schemes.now) number (described at recursive (map note_tree params.now) (result_tree note.now) (expr_tree body.now))) (StopsFor (map record_tree records.now) (map scheme_tree schemes.now) number (described at recursive (map note_tree params.now) (result_tree note.now) (expr_tree body.now))) }
 {
-    let recurs = recursive && note.is_some();
+    let recurs = may_recur(recursive, note);
     let Numbering {
         slots,
         params: first,

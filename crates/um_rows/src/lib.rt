@@ -16,7 +16,6 @@ mod noted;
 mod progress;
 mod records;
 mod row;
-
 mod rules;
 mod slots;
 mod types;
