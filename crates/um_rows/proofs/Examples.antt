@@ -1,5 +1,8 @@
 -- The equations of small functions, by computation of the definition.
-use Rattle.std.proofs.Common.{◌≡◌, ℕ, List, [], ◌∷◌, map, ℤ, pos, negsuc, Some, refl}
+use Rattle.std.proofs.Common.{◌≡◌, ℕ, zero, suc, ◌<◌, ◌≤◌, true, false, not, cond, leb, eqb, List, [], ◌∷◌, ◌++◌, map, length, filter, ℤ, pos, negsuc, Some, refl, ap, ◌∙◌, arith, lit≤, lit<}
+use Rattle.std.proofs.lemmas.Bool.{eqb-true, false_from_ne_true}
+use Rattle.std.proofs.lemmas.Bool.Decides.{nat_tests}
+use Rattle.std.proofs.lemmas.List.{append-nil}
 use Rattle.um_units.specs.declared.Atom.{Atom}
 use Rattle.um_units.specs.declared.Atom.TheVariants.{Base, Var}
 use Rattle.um_units.specs.declared.Term.{Term}
@@ -8,11 +11,14 @@ use Rattle.um_tree.specs.declared.note.UnitNote.TheVariants.{Hole, Written}
 use Rattle.um_tree.specs.declared.expression.Arith.TheVariants.{Add, Mul}
 use Rattle.um_tree.specs.declared.expression.Sign.TheVariants.{Lt}
 use Rattle.um_tree.specs.TypeTree.{TypeTree, bool_type, num_type, list_type, record_type, bool_note, num_note, list_note, record_note}
-use Rattle.um_tree.specs.ExprTree.{number, local, call, arith as arith_tree, compare, if, split, nil, record_expr, field, none, more}
+use Rattle.um_tree.specs.ExprTree.{number, local, call, arith as arith_tree, compare, both, if, split, nil, cons, record_expr, field, none, more}
 use Rattle.um_tree.specs.ProgramTree.{RecordTree, FunctionTree, SchemeTree}
 use Rattle.um_tree.proofs.ExamplePrograms.{zero_number, one_number, plain, rec_function, marked}
-use Rattle.um_rows.specs.Steps.{Step, row_at, type_at, first_past}
-use Rattle.um_rows.specs.Slots.{slot_count, slot_equations}
+use Rattle.um_rows.specs.declared.row.Row.{Row}
+use Rattle.um_rows.specs.Steps.{Step, rows_of, first_past}
+use Rattle.um_elim.proofs.Cases.{on_test}
+use Rattle.um_rows.specs.Keys.{hole, hole_keys}
+use Rattle.um_rows.specs.Slots.{same_key, slot_order, slot_count, slot_equations}
 use Rattle.um_rows.specs.Judgement.{Judgement, has_scheme, too_many_slots, passes_range, has_no_typing, judge}
 use Rattle.um_rows.specs.CallEquations.{call_function}
 use Rattle.um_tree.specs.ValueTree.{InputTree, InputTrees, number_input, list_input, no_inputs, more_inputs}
@@ -35,9 +41,7 @@ shown (record_type r us) = made r (map (λ (u : PowerMap). u.terms) us)
 
 -- the rows with their places, and the terms of their units
 abbrev shown_rows : List Step → List (ℕ × List Term)
-shown_rows [] = []
-shown_rows (row_at at u ∷ ss) = (at, u.terms) ∷ shown_rows ss
-shown_rows (type_at at t ∷ ss) = shown_rows ss
+shown_rows ss = map (λ (r : Row). (r.at, r.unit.terms)) (rows_of ss)
 
 record Summary : Type 0 where
   slots : ℕ
@@ -160,13 +164,13 @@ data ShownJudgement : Type 0 where
   scheme : List Shown → Shown → ℕ → ShownJudgement
   slots : ShownJudgement
   range : ℕ → ShownJudgement
-  units : ℕ → ShownJudgement
+  units : ℕ → ℕ → ShownJudgement
 
 abbrev shown_judgement : Judgement → ShownJudgement
 shown_judgement (has_scheme s) = scheme (map shown s.signature.params) (shown s.signature.result) s.vars
 shown_judgement too_many_slots = slots
 shown_judgement (passes_range at) = range at
-shown_judgement (has_no_typing at) = units at
+shown_judgement (has_no_typing k at) = units k at
 
 -- num</'a^3> -> num</'a^2> -> bool
 squares_under_cubes_judged : shown_judgement (judge [] [] 0 squares_under_cubes) ≡ scheme (num (term (Var 0) (negsuc 2) ∷ []) ∷ num (term (Var 0) (negsuc 1) ∷ []) ∷ []) bool 1
@@ -179,7 +183,7 @@ unfolding product
 sum_judged = refl
 
 -- let h (x: num<_>) = x * x < 1<m^3>: no half powers
-half_powers_judged : shown_judgement (judge [] [] 0 (plain (num_note Hole ∷ []) (compare 4 Lt (arith_tree 2 Mul (local 1 0) (local 3 0)) (number 5 one_number (Written (product (term (Base 0) (pos 3) ∷ []))))))) ≡ units 4
+half_powers_judged : shown_judgement (judge [] [] 0 (plain (num_note Hole ∷ []) (compare 4 Lt (arith_tree 2 Mul (local 1 0) (local 3 0)) (number 5 one_number (Written (product (term (Base 0) (pos 3) ∷ []))))))) ≡ units 0 4
 unfolding product
 half_powers_judged = refl
 
@@ -203,7 +207,7 @@ unfolding product
 metres_summed = refl
 
 -- sum [1<m>; 1<s>]
-metres_and_seconds : call_of_sum (more_inputs (one_of 0) (more_inputs (one_of 1) no_inputs)) ≡ units 0
+metres_and_seconds : call_of_sum (more_inputs (one_of 0) (more_inputs (one_of 1) no_inputs)) ≡ units 0 0
 unfolding product
 metres_and_seconds = refl
 
@@ -211,3 +215,105 @@ metres_and_seconds = refl
 nothing_summed : call_of_sum no_inputs ≡ scheme [] (num (own 0)) 1
 unfolding product
 nothing_summed = refl
+
+-- ---- more on slots
+-- let c (x: num<_>) (l: num<_> list) = x :: l: the head against the tail's item, and the type is the tail's
+cons_equations :
+    summary [] [] 0 (plain (num_note Hole ∷ list_note (num_note Hole) ∷ []) (cons 2 (local 1 0) (local 3 1))) ≡
+    record { slots = 2; rows = (2, term (Var 0) (pos 1) ∷ term (Var 1) (negsuc 0) ∷ []) ∷ []; params = num (own 0) ∷ list (num (own 1)) ∷ []; result = list (num (own 1)) }
+unfolding product
+cons_equations = refl
+
+-- { x = 0<_> }: the slot of the record's unit comes before that of its part's hole
+record_before_parts :
+    summary (marked ∷ []) [] 0 (plain [] (record_expr 1 0 (more (number 2 zero_number Hole) none))) ≡ record { slots = 2; rows = (1, term (Var 1) (negsuc 0) ∷ []) ∷ []; params = []; result = made 0 (own 0 ∷ []) }
+unfolding product
+record_before_parts = refl
+
+-- ([] : num<'b^-1 'a> list): the named variables of one unit have their slots by their numbers
+two_names :
+    summary [] [] 0 (plain [] (nil 1 (list_note (num_note (Written (product (term (Var 0) (negsuc 0) ∷ term (Var 1) (pos 1) ∷ [])))))))
+    ≡ record { slots = 2; rows = []; params = []; result = list (num (term (Var 0) (negsuc 0) ∷ term (Var 1) (pos 1) ∷ [])) }
+unfolding product
+two_names = refl
+
+-- and the second of them has the first slot where it occurs before
+second_name_first :
+    summary [] [] 0 (plain (num_note (Written (atom (Var 1))) ∷ []) (nil 1 (list_note (num_note (Written (product (term (Var 0) (negsuc 0) ∷ term (Var 1) (pos 1) ∷ [])))))))
+    ≡ record { slots = 2; rows = []; params = num (own 0) ∷ []; result = list (num (term (Var 0) (pos 1) ∷ term (Var 1) (negsuc 0) ∷ [])) }
+unfolding product
+second_name_first = refl
+
+-- ---- the range of powers
+-- let r (x: num<_>) (p: num<'u^2147483647>) (y: num<_>) = x < p && x * x < y: while the second row is added
+abbrev past_while_added : FunctionTree
+past_while_added =
+    plain (num_note Hole ∷ num_note (Written (product (term (Var 0) (pos 2147483647) ∷ []))) ∷ num_note Hole ∷ [])
+    (both 4 (compare 2 Lt (local 1 0) (local 3 1)) (compare 8 Lt (arith_tree 6 Mul (local 5 0) (local 7 0)) (local 9 2)))
+
+added_past : shown_judgement (judge [] [] 0 past_while_added) ≡ range 8
+unfolding product
+added_past = refl
+
+-- let square (x: num<_>) = x * x, and let far (x: num<m^2147483647>) = square x: the solution put for the slots, at the name
+abbrev square_scheme : SchemeTree
+square_scheme = record { signature = record { params = num_type (atom (Var 0)) ∷ []; result = num_type (product (term (Var 0) (pos 2) ∷ [])) }; vars = 1 }
+
+abbrev far : FunctionTree
+far = record (plain (num_note (Written (product (term (Base 0) (pos 2147483647) ∷ []))) ∷ []) (call 8 0 (more (local 9 0) none))) { at = 7 }
+
+applied_past : shown_judgement (judge [] (square_scheme ∷ []) 1 far) ≡ range 7
+unfolding product
+applied_past = refl
+
+-- let k (x: num<m^2147483647>) (y: num<m^-2147483647>) = x < y: a closed row past the range is no unsolvable row
+closed_past :
+    shown_judgement (judge [] [] 0 (plain (num_note (Written (product (term (Base 0) (pos 2147483647) ∷ []))) ∷ num_note (Written (product (term (Base 0) (negsuc 2147483646) ∷ []))) ∷ []) (compare 2 Lt (local 1 0) (local 3 1)))) ≡ range 2
+unfolding product
+closed_past = refl
+
+-- ---- the limit of slots
+keep : (k n m : ℕ) → k < n → filter (λ j. not (same_key j (hole k))) (hole_keys n m) ≡ hole_keys n m
+keep k n zero h = refl
+keep k n (suc m) h =
+    let other : eqb n k ≡ false = false_from_ne_true (eqb n k) (λ e. let same = eqb-true n k e in absurd (omega (arith, h, same))) in
+    ap (λ b. cond (not b) (hole n ∷ filter (λ j. not (same_key j (hole k))) (hole_keys (suc n) m)) (filter (λ j. not (same_key j (hole k))) (hole_keys (suc n) m))) other ∙ ap (λ ks. hole n ∷ ks) (keep k (suc n) m (omega arith))
+
+-- each hole has a slot of its own
+order-holes : (n m : ℕ) → slot_order (hole_keys n m) ≡ hole_keys n m
+order-holes n zero = refl
+order-holes n (suc m) = ap (λ ks. hole n ∷ filter (λ j. not (same_key j (hole n))) ks) (order-holes (suc n) m) ∙ ap (λ ks. hole n ∷ ks) (keep n (suc n) m (omega arith))
+
+length-holes : (n m : ℕ) → length (hole_keys n m) ≡ m
+length-holes n zero = refl
+length-holes n (suc m) = ap suc (length-holes (suc n) m)
+
+-- function 0 has a scheme of n variables, and function 1 calls it
+abbrev wide : ℕ → SchemeTree
+wide n = record { signature = record { params = []; result = bool_type }; vars = n }
+
+abbrev one_call : FunctionTree
+one_call = plain [] (call 1 0 none)
+
+call_slots : (n : ℕ) → slot_count [] (wide n ∷ []) 1 one_call ≡ n
+unfolding product
+call_slots n = ap (λ ks. length (slot_order ks)) (append-nil (hole_keys 0 n)) ∙ ap length (order-holes 0 n) ∙ length-holes 0 n
+
+few_slots : (n : ℕ) → n ≤ 2000 → judge [] (wide n ∷ []) 1 one_call ≡ has_scheme (wide 0)
+unfolding product
+few_slots n h = on_test (leb (slot_count [] (wide n ∷ []) 1 one_call) 2000)
+    (λ e. ap (λ b. cond b (has_scheme (wide 0)) too_many_slots) e)
+    (λ e. absurd (let count = call_slots n in let past : 2000 < slot_count [] (wide n ∷ []) 1 one_call = grind (arith, nat_tests) in omega (arith, count, past, h)))
+
+many_slots : (n : ℕ) → 2000 < n → judge [] (wide n ∷ []) 1 one_call ≡ too_many_slots
+unfolding product
+many_slots n h = on_test (leb (slot_count [] (wide n ∷ []) 1 one_call) 2000)
+    (λ e. absurd (let count = call_slots n in let few : slot_count [] (wide n ∷ []) 1 one_call ≤ 2000 = grind (arith, nat_tests) in omega (arith, count, few, h)))
+    (λ e. ap (λ b. cond b (has_scheme (wide 0)) too_many_slots) e)
+
+-- 2,000 slots are few, and 2,001 are too many
+at_the_limit : judge [] (wide 2000 ∷ []) 1 one_call ≡ has_scheme (wide 0)
+at_the_limit = few_slots 2000 (lit≤ tt)
+
+past_the_limit : judge [] (wide 2001 ∷ []) 1 one_call ≡ too_many_slots
+past_the_limit = many_slots 2001 (lit< tt)
