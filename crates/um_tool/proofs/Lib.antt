@@ -1,8 +1,5 @@
 pub mod Statuses
 pub mod Serving
 pub mod Complete
-pub mod Texts
-pub mod SchemeLines
-pub mod UnitTexts
 pub mod PlaceLaws
 pub mod PrintedSchemes
