@@ -3,3 +3,4 @@ pub mod Serving
 pub mod Complete
 pub mod PlaceLaws
 pub mod PrintedSchemes
+pub mod UniqueAnswers

@@ -21,7 +21,7 @@ use Rattle.um_tool.specs.declared.status.Status.TheVariants.{Done, TooLong, Utf8
 use Rattle.um_infer.specs.Inference.{Inference, all_schemes, stops_at_slots, stops_at_range, stops_at_units, infer}
 use Rattle.um_infer.specs.Schemes.{ArePrincipal, IsFirstUntyped}
 use Rattle.um_infer.proofs.InferenceLaws.{given_schemes_are_principal, units_stop_at_first_untyped}
-use Rattle.um_tool.specs.SchemeLines.{AreSchemeLines}
+use Rattle.um_tool.specs.SchemeLines.{scheme_lines}
 use Rattle.um_tool.specs.Refusals.{IsTextReply, IsParseReply, IsNameReply, IsShapeReply, placed, units_label}
 use Rattle.um_tool.specs.Answer.{Answer, OrderAnswer, LengthAnswer, TokensAnswer, GrammarAnswer, ProgramAnswer, NamesAnswer, ShapesAnswer, SchemesAnswer, InferenceAnswer, Asked}
 use Rattle.um_tool.specs.Laws.{SpellsProgram, TypesAnswers, PrintedTypesArePrincipalSchemes, UnitsNameTheFirstUntyped}
@@ -115,7 +115,7 @@ module _ (bytes text : List ℕ) (status : Status) (last : IsTrue (comes_last st
   reached (inr (built, answer)) = order_reached answer
 
 -- ---- the schemes, or the first function without a typing
-schemes_printed : (bytes : List ℕ) (p : ProgramTree) (inferred : Inference) (text : List ℕ) → infer p ≡ inferred → InferenceAnswer bytes p inferred text Done → (schemes : List SchemeTree) × ArePrincipal p (length p.functions) schemes × AreSchemeLines p p.functions schemes text
+schemes_printed : (bytes : List ℕ) (p : ProgramTree) (inferred : Inference) (text : List ℕ) → infer p ≡ inferred → InferenceAnswer bytes p inferred text Done → (schemes : List SchemeTree) × ArePrincipal p (length p.functions) schemes × (text ≡ scheme_lines p p.functions schemes)
 schemes_printed bytes p (all_schemes schemes) text is answer = (schemes, given_schemes_are_principal p schemes is, answer.0)
 schemes_printed bytes p (stops_at_slots i) text is answer = absurd (cc answer.2.1)
 schemes_printed bytes p (stops_at_range i at) text is answer = absurd (cc answer.2.1)
@@ -126,7 +126,7 @@ printed_types_are_principal_schemes bytes text answer =
     let r = reached bytes text Done refl answer in (r.0, r.1, schemes_printed bytes r.0 (infer r.0) text refl r.2)
 
 -- the function that is declared at a number is one
-one_function : (p : ProgramTree) (i : ℕ) (f g : FunctionTree) → slice_get p.functions i ≡ Some f → slice_get p.functions i ≡ Some g → f ≡ g
+pub one_function : (p : ProgramTree) (i : ℕ) (f g : FunctionTree) → slice_get p.functions i ≡ Some f → slice_get p.functions i ≡ Some g → f ≡ g
 one_function p i f g a b = let e : Some f ≡ Some g = sym a ∙ b in cc e
 
 untyped_named : (bytes : List ℕ) (p : ProgramTree) (inferred : Inference) (text : List ℕ) → infer p ≡ inferred → InferenceAnswer bytes p inferred text Units → (i row at : ℕ) × (untyped : IsFirstUntyped p i row at) × (text ≡ placed (units_label untyped.function.name) bytes at)

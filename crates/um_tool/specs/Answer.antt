@@ -23,7 +23,7 @@ use Rattle.um_infer.specs.Inference.{Inference, all_schemes, stops_at_slots, sto
 use Rattle.um_show.specs.Layout.{layout}
 use Rattle.um_tool.specs.Orders.{order_of, NamesUnbuilt}
 use Rattle.um_tool.specs.Refusals.{IsTextReply, IsParseReply, IsNameReply, IsShapeReply, IsSlotsReply, IsRangeReply, IsUnitsReply}
-use Rattle.um_tool.specs.SchemeLines.{AreSchemeLines}
+use Rattle.um_tool.specs.SchemeLines.{scheme_lines}
 use Rattle.um_tool.specs.Steps.{line, IsReply, Cases}
 
 -- what is asked of a program: the order and its words, the bytes of the text, and the program as it is written
@@ -43,7 +43,7 @@ OfFunction p i Says = (f : FunctionTree) × (slice_get p.functions i ≡ Some f)
 
 -- the lines of the schemes, or the refusal of the first function without one
 abbrev pub InferenceAnswer : List ℕ → ProgramTree → Inference → List ℕ → Status → Type 0
-InferenceAnswer bytes p (all_schemes schemes) text status = AreSchemeLines p p.functions schemes text × (status ≡ Done)
+InferenceAnswer bytes p (all_schemes schemes) text status = IsReply text status (scheme_lines p p.functions schemes) Done
 InferenceAnswer bytes p (stops_at_slots i) text status = OfFunction p i (λ f. IsSlotsReply bytes f.at text status)
 InferenceAnswer bytes p (stops_at_range i at) text status = OfFunction p i (λ f. IsRangeReply bytes f.name at text status)
 InferenceAnswer bytes p (stops_at_units i row at) text status = OfFunction p i (λ f. IsUnitsReply bytes f.name at text status)

@@ -17,7 +17,7 @@ use Rattle.um_tool.specs.declared.status.Status.{Status}
 use Rattle.um_tool.specs.declared.status.Status.TheVariants.{Done, Units}
 use Rattle.um_tool.specs.Places.{line_of, column_of, place_text}
 use Rattle.um_tool.specs.Refusals.{placed, units_label}
-use Rattle.um_tool.specs.SchemeLines.{AreSchemeLines}
+use Rattle.um_tool.specs.SchemeLines.{scheme_lines}
 use Rattle.um_tool.specs.Answer.{Answer}
 
 -- ---- lines and columns counted on bytes are those counted on characters
@@ -55,7 +55,7 @@ abbrev pub PrintedTypesArePrincipalSchemes : Type 0
 PrintedTypesArePrincipalSchemes =
     (bytes text : List ℕ) → TypesAnswers bytes text Done →
     (p : ProgramTree) × SpellsProgram bytes p
-    × ((schemes : List SchemeTree) × ArePrincipal p (length p.functions) schemes × AreSchemeLines p p.functions schemes text)
+    × ((schemes : List SchemeTree) × ArePrincipal p (length p.functions) schemes × (text ≡ scheme_lines p p.functions schemes))
 
 -- The function that it names with the status of units is the first of the program without a typing.
 abbrev pub UnitsNameTheFirstUntyped : Type 0

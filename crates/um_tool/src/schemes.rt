@@ -2,7 +2,7 @@
 ghost use Rattle.std.specs.Prelude.{◌≡◌, ◌++◌, IfOk, OnOk, map, length};
 ghost use Rattle.um_tree.specs.ProgramTree.{program_tree, scheme_tree};
 ghost use Rattle.um_infer.specs.Answers.{scheme_trees};
-ghost use Rattle.um_tool.specs.SchemeLines.{AreSchemeLines};
+ghost use Rattle.um_tool.specs.SchemeLines.{scheme_lines};
 
 use std::alloc::{AllocError, Global};
 use um_show::scheme_text;
@@ -15,7 +15,7 @@ pub(crate) fn schemes_text(
     schemes: &Schemes,
 ) -> Result<Vec<u8>, AllocError>
     requires count { length schemes.now.items.items ≡ length (program_tree program.now).functions }
-    ensures { IfOk result (λ text. AreSchemeLines (program_tree program.now) (program_tree program.now).functions (scheme_trees schemes.now) text.items) }
+    ensures { IfOk result (λ text. text.items ≡ scheme_lines (program_tree program.now) (program_tree program.now).functions (scheme_trees schemes.now)) }
 {
     let mut text = Vec::new(alloc);
     let functions: &[Function] = &program.functions.items;
