@@ -1,7 +1,8 @@
 -- The answer to words and bytes is one.
-use Rattle.std.proofs.Common.{◌≡◌, ℕ, ◌≤◌, ◌⊎◌, List, [], ◌∷◌, length, slice_get, Result, Ok, Err, Some, None, MatchOption, codes, inl, inr, refl, ap, sym, subst, ◌∙◌, arith}
+use Rattle.std.proofs.Common.{◌≡◌, ℕ, ◌<◌, ◌≤◌, ◌⊎◌, List, [], ◌∷◌, length, slice_get, Result, Ok, Err, Some, None, MatchOption, codes, inl, inr, refl, ap, sym, subst, ◌∙◌, arith}
 use Rattle.std.specs.declared.option.Option.{Option}
 use Rattle.std.specs.Str.{chars, IsUtf8, IsValidUpTo}
+use Rattle.std.proofs.lemmas.Bool.{cases_lt}
 use Rattle.um_syntax.specs.declared.token.Token.{Token}
 use Rattle.um_syntax.specs.declared.token.TextStop.{TextStop}
 use Rattle.um_syntax.specs.declared.token.TextStop.TheVariants as text_stop
@@ -14,7 +15,7 @@ use Rattle.um_types.specs.declared.parse.ParseStop.{ParseStop}
 use Rattle.um_types.specs.declared.parse.ParseStop.TheVariants as parse_stop
 use Rattle.um_parse.specs.Parsed.{IsRead, Parsed}
 use Rattle.um_parse.specs.Laws.{AreSameAnswer}
-use Rattle.um_parse.proofs.ParseAnswers.{answers_are_unique}
+use Rattle.um_parse.proofs.ProgramExact.{one_answer}
 use Rattle.um_measures.specs.declared.stop.NameStop.{NameStop}
 use Rattle.um_measures.specs.declared.stop.NameStop.TheVariants as name_stop
 use Rattle.um_measures.specs.Faults.{Fault, unknown, twice, wrong_count, hole, range, Found}
@@ -106,7 +107,12 @@ module _ (bytes text : List ℕ) (status : Status) where
 module _ (text other : List ℕ) (status another : Status) where
   -- ---- a refusal of the characters is one
   longest_valid : (bytes : List ℕ) (at place : ℕ) → IsValidUpTo bytes at → IsValidUpTo bytes place → at ≡ place
-  longest_valid bytes at place a b = omega (arith, a.longest place b.short b.valid, b.longest at a.short a.valid)
+  longest_valid bytes at place a b = by (cases_lt at place) (cases_lt place at)
+    where
+      by : (at < place) ⊎ (place ≤ at) → (place < at) ⊎ (at ≤ place) → at ≡ place
+      by (inl before) more = absurd (a.longest place before b.front)
+      by (inr behind) (inl before) = absurd (b.longest at before a.front)
+      by (inr behind) (inr same) = omega (arith, behind, same)
 
   one_text_refusal : (bytes : List ℕ) → IsUtf8Refusal bytes text status ⊎ IsLexicalRefusal bytes text status → IsUtf8Refusal bytes other another ⊎ IsLexicalRefusal bytes other another → (text ≡ other) × (status ≡ another)
   one_text_refusal bytes (inl a) (inl b) =
@@ -192,7 +198,7 @@ module _ (text other : List ℕ) (status another : Status) where
   grammar_one order words bytes tokens (inl (raw, read, a)) (inr (stop, refused, reply)) = absurd (program_not_refused tokens raw (length bytes) stop bytes other another read refused reply)
   grammar_one order words bytes tokens (inr (stop, refused, reply)) (inl (ds, is, b)) = absurd (program_not_refused tokens ds (length bytes) stop bytes text status is refused reply)
   grammar_one order words bytes tokens (inr (stop, refused, reply)) (inr (sort, also, told)) =
-      one_parse_refusal bytes stop sort (answers_are_unique tokens (length bytes) (Err stop) (Err sort) refused also) reply told
+      one_parse_refusal bytes stop sort (one_answer tokens (length bytes) (Err stop) (Err sort) refused also) reply told
 
   tokens_one : (order : Order) (words : List (List ℕ)) (bytes : List ℕ) → TokensAnswer order words bytes text status → TokensAnswer order words bytes other another → (text ≡ other) × (status ≡ another)
   unfolding TokensAnswer
