@@ -6,7 +6,7 @@ ghost use Rattle.um_elim.specs.Pivot.{lesser, lesser_with, pivot_of};
 use um_units::{Atom, Term};
 
 /// A variable of a row and its power.
-#[derive(Clone, Copy, Debug)]
+#[derive(Clone, Copy)]
 pub struct Pivot {
     pub variable: u32,
     pub power: i32,

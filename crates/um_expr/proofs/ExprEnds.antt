@@ -1,22 +1,22 @@
--- What is open and at hand once an expression was read, and what is left of it where frames end.
+-- What is open and at focus once an expression was read, and what is left of it where frames end.
 use Rattle.std.proofs.Common.{◌≡◌, ℕ, ◌+◌, ◌≤◌, ◌<◌, List, [], ◌∷◌, ◌++◌, Bool, true, false, Some, None, refl, ap, ◌∙◌, arith}
 use Rattle.std.proofs.lemmas.Bool.{lt-ltb, le-ltb}
 use Rattle.um_tree.specs.declared.expression.Arith.{Arith}
 use Rattle.um_tree.specs.declared.expression.Arith.TheVariants as arith_of
 use Rattle.um_tree.specs.declared.expression.Sign.TheVariants as compare
 use Rattle.um_tree.specs.RawTree.{ExprSyntax, ExprSyntaxes, FieldSyntaxes, FieldPart, truth_syntax, number_syntax, name_syntax, call_syntax, negate_syntax, not_syntax, arith_syntax, compare_syntax, and_syntax, or_syntax, if_syntax, let_syntax, match_syntax, nil_syntax, list_syntax, cons_syntax, fields_syntax, field_syntax, bracket_expr_syntax, no_exprs, more_exprs, no_fields, more_fields, exprs_in_order, fields_in_order}
-use Rattle.um_expr.specs.declared.mark.Infix.{Infix}
-use Rattle.um_expr.specs.declared.mark.Infix.TheVariants as between
+use Rattle.um_expr.specs.declared.infix.Infix.{Infix}
+use Rattle.um_expr.specs.declared.infix.Infix.TheVariants as between
 use Rattle.um_expr.specs.Ranks.{arith_rank, infix_rank, left_limit, right_bound}
 use Rattle.um_expr.specs.ExprKinds.{is_plain_number}
 use Rattle.um_expr.specs.ExprGrammar.{rank, ends_in_number, last_ends_in_number, Fits, AreAtoms}
 use Rattle.um_expr.specs.ExprMachine.{Frame, InBracket, InItem, InField, InValue, InBody, InTest, InThen, InElse, InMatched, InEmptyArm, InFullArm, InNegate, InNot, InRight, InArgument, own_rank, top_bound, top_rank, plug, with_field, Have, reduce, less_after, infix_after}
 
--- what is open once the arguments behind a front were read, and the last one
+-- what is open once the arguments behind a before were read, and the last one
 abbrev pub opened_call : List Frame → ℕ → List ℕ → List ExprSyntax → ExprSyntaxes → List Frame
-opened_call frames at f front no_exprs = frames
-opened_call frames at f front (more_exprs e no_exprs) = InArgument at f front ∷ frames
-opened_call frames at f front (more_exprs e (more_exprs d es)) = opened_call frames at f (front ++ e ∷ []) (more_exprs d es)
+opened_call frames at f before no_exprs = frames
+opened_call frames at f before (more_exprs e no_exprs) = InArgument at f before ∷ frames
+opened_call frames at f before (more_exprs e (more_exprs d es)) = opened_call frames at f (before ++ e ∷ []) (more_exprs d es)
 
 abbrev pub last_argument : ExprSyntax → ExprSyntaxes → ExprSyntax
 last_argument t no_exprs = t
@@ -45,7 +45,7 @@ opened frames (fields_syntax at fs) = frames
 opened frames (field_syntax at place x e) = frames
 opened frames (bracket_expr_syntax at e) = frames
 
--- the atom at hand then
+-- the atom at focus then
 abbrev pub last_atom : ExprSyntax → ExprSyntax
 last_atom (truth_syntax at b) = truth_syntax at b
 last_atom (number_syntax at c n) = number_syntax at c n
@@ -114,16 +114,16 @@ pub stays : (limit : ℕ) (frames : List Frame) (t : ExprSyntax) → limit < top
 stays limit [] t lt = refl
 stays limit (frame ∷ frames) t lt = rw lt-ltb refl
 
--- a front and then the others
+-- a before and then the others
 abbrev pub put : List ExprSyntax → ExprSyntaxes → ExprSyntaxes
 put [] es = es
 put (x ∷ xs) es = more_exprs x (put xs es)
 
-pub put_last : (front : List ExprSyntax) (e : ExprSyntax) (es : ExprSyntaxes) → put (front ++ e ∷ []) es ≡ put front (more_exprs e es)
+pub put_last : (before : List ExprSyntax) (e : ExprSyntax) (es : ExprSyntaxes) → put (before ++ e ∷ []) es ≡ put before (more_exprs e es)
 put_last [] e es = refl
 put_last (x ∷ xs) e es = ap (more_exprs x) (put_last xs e es)
 
-pub order_last : (front : List ExprSyntax) (e : ExprSyntax) → exprs_in_order (front ++ e ∷ []) ≡ put front (more_exprs e no_exprs)
+pub order_last : (before : List ExprSyntax) (e : ExprSyntax) → exprs_in_order (before ++ e ∷ []) ≡ put before (more_exprs e no_exprs)
 order_last [] e = refl
 order_last (x ∷ xs) e = ap (more_exprs x) (order_last xs e)
 
@@ -131,20 +131,20 @@ abbrev pub put_fields : List FieldPart → FieldSyntaxes → FieldSyntaxes
 put_fields [] fs = fs
 put_fields (x ∷ xs) fs = more_fields x.at x.name x.part (put_fields xs fs)
 
-pub put_field_last : (front : List FieldPart) (at : ℕ) (x : List ℕ) (e : ExprSyntax) (fs : FieldSyntaxes) → put_fields (with_field front at x e) fs ≡ put_fields front (more_fields at x e fs)
+pub put_field_last : (before : List FieldPart) (at : ℕ) (x : List ℕ) (e : ExprSyntax) (fs : FieldSyntaxes) → put_fields (with_field before at x e) fs ≡ put_fields before (more_fields at x e fs)
 put_field_last [] at x e fs = refl
-put_field_last (f ∷ front) at x e fs = ap (more_fields f.at f.name f.part) (put_field_last front at x e fs)
+put_field_last (f ∷ before) at x e fs = ap (more_fields f.at f.name f.part) (put_field_last before at x e fs)
 
-pub field_order_last : (front : List FieldPart) (at : ℕ) (x : List ℕ) (e : ExprSyntax) → fields_in_order (with_field front at x e) ≡ put_fields front (more_fields at x e no_fields)
+pub field_order_last : (before : List FieldPart) (at : ℕ) (x : List ℕ) (e : ExprSyntax) → fields_in_order (with_field before at x e) ≡ put_fields before (more_fields at x e no_fields)
 field_order_last [] at x e = refl
-field_order_last (f ∷ front) at x e = ap (more_fields f.at f.name f.part) (field_order_last front at x e)
+field_order_last (f ∷ before) at x e = ap (more_fields f.at f.name f.part) (field_order_last before at x e)
 
-ends_call : (es : ExprSyntaxes) (e t : ExprSyntax) (limit : ℕ) (frames : List Frame) (at : ℕ) (f : List ℕ) (front : List ExprSyntax) → 1 ≤ limit
-    → reduce limit (opened_call frames at f front (more_exprs e es)) (last_argument t (more_exprs e es)) ≡ reduce limit frames (call_syntax at f (put front (more_exprs e es)))
-ends_call no_exprs e t limit frames at f front le =
-    pops limit (InArgument at f front) frames e le ∙ ap (λ w. reduce limit frames (call_syntax at f w)) (order_last front e)
-ends_call (more_exprs d es) e t limit frames at f front le =
-    ends_call es d t limit frames at f (front ++ e ∷ []) le ∙ ap (λ w. reduce limit frames (call_syntax at f w)) (put_last front e (more_exprs d es))
+ends_call : (es : ExprSyntaxes) (e t : ExprSyntax) (limit : ℕ) (frames : List Frame) (at : ℕ) (f : List ℕ) (before : List ExprSyntax) → 1 ≤ limit
+    → reduce limit (opened_call frames at f before (more_exprs e es)) (last_argument t (more_exprs e es)) ≡ reduce limit frames (call_syntax at f (put before (more_exprs e es)))
+ends_call no_exprs e t limit frames at f before le =
+    pops limit (InArgument at f before) frames e le ∙ ap (λ w. reduce limit frames (call_syntax at f w)) (order_last before e)
+ends_call (more_exprs d es) e t limit frames at f before le =
+    ends_call es d t limit frames at f (before ++ e ∷ []) le ∙ ap (λ w. reduce limit frames (call_syntax at f w)) (put_last before e (more_exprs d es))
 
 -- what was read ends as the expression
 pub ends_as : (t : ExprSyntax) (limit : ℕ) (frames : List Frame) → Fits t → rank t ≤ limit → reduce limit (opened frames t) (last_atom t) ≡ reduce limit frames t
@@ -196,10 +196,10 @@ infix_opens sign [] lt = omega (arith, infix_low sign)
 infix_opens sign (InRight at inner left ∷ frames) lt = right_opens sign inner lt
 infix_opens sign (InNegate at ∷ frames) lt = absurd (omega (arith, infix_low sign))
 infix_opens sign (InNot at ∷ frames) lt = absurd (omega (arith, infix_low sign))
-infix_opens sign (InArgument at f front ∷ frames) lt = absurd (omega (arith, infix_low sign))
+infix_opens sign (InArgument at f before ∷ frames) lt = absurd (omega (arith, infix_low sign))
 infix_opens sign (InBracket at ∷ frames) lt = omega (arith, infix_low sign)
-infix_opens sign (InItem at front ∷ frames) lt = omega (arith, infix_low sign)
-infix_opens sign (InField at front place x ∷ frames) lt = omega (arith, infix_low sign)
+infix_opens sign (InItem at before ∷ frames) lt = omega (arith, infix_low sign)
+infix_opens sign (InField at before place x ∷ frames) lt = omega (arith, infix_low sign)
 infix_opens sign (InValue at x ∷ frames) lt = omega (arith, infix_low sign)
 infix_opens sign (InBody at x value ∷ frames) lt = omega (arith, infix_low sign)
 infix_opens sign (InTest at ∷ frames) lt = omega (arith, infix_low sign)
@@ -253,7 +253,7 @@ atom_last (let_syntax at x a b) low = absurd (omega arith)
 atom_last (match_syntax at l a x y b) low = absurd (omega arith)
 atom_last (cons_syntax at a b) low = absurd (omega arith)
 
--- ---- numbers at hand
+-- ---- numbers at focus
 
 pub atom_number : (t : ExprSyntax) → rank t ≡ 0 → is_plain_number t ≡ ends_in_number t
 atom_number (number_syntax at c None) low = refl
@@ -281,7 +281,7 @@ call_number : (es : ExprSyntaxes) (e t : ExprSyntax) → AreAtoms (more_exprs e 
 call_number no_exprs e t fits = atom_number e fits.0
 call_number (more_exprs d es) e t fits = call_number es d t fits.2
 
--- a number is at hand where the last token is one
+-- a number is at focus where the last token is one
 pub last_number : (t : ExprSyntax) → Fits t → is_plain_number (last_atom t) ≡ ends_in_number t
 last_number (truth_syntax at b) fits = refl
 last_number (number_syntax at c None) fits = refl

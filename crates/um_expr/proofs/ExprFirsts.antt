@@ -4,23 +4,17 @@ use Rattle.um_syntax.specs.declared.token.Token.{Token}
 use Rattle.um_syntax.specs.declared.token.Kind.{Kind}
 use Rattle.um_tree.specs.declared.expression.Sign.TheVariants as compare
 use Rattle.um_tree.specs.RawTree.{ExprSyntax, truth_syntax, number_syntax, name_syntax, call_syntax, negate_syntax, not_syntax, arith_syntax, compare_syntax, and_syntax, or_syntax, if_syntax, let_syntax, match_syntax, nil_syntax, list_syntax, cons_syntax, fields_syntax, field_syntax, bracket_expr_syntax}
-use Rattle.um_expr.specs.declared.mark.Mark.TheVariants as mark
-use Rattle.um_expr.specs.declared.mark.Infix.TheVariants as between
-use Rattle.um_expr.specs.ExprTokens.{ExprToken, name, number, truth, operator, plain, minus}
+use Rattle.um_syntax.specs.declared.vocabulary.Keyword.TheVariants as keyword
+use Rattle.um_syntax.specs.declared.vocabulary.Symbol.TheVariants as symbol
+use Rattle.um_expr.specs.declared.infix.Infix.TheVariants as between
+use Rattle.um_expr.specs.declared.token.ExprToken.{ExprToken}
+use Rattle.um_expr.specs.declared.token.ExprToken.TheVariants.{Name as name, Number as number, Truth as truth, Operator as operator, Word as word, Mark as mark}
+use Rattle.um_expr.specs.ExprTokens.{minus}
+use Rattle.um_expr.specs.ExprKinds.{begins_atom}
 use Rattle.um_expr.specs.ExprGrammar.{FirstAt, Spells, Fits, rank}
 use Rattle.um_expr.specs.ExprMachine.{Frame, InRight, Need, Have, Greater, argument, begin_in, act}
 use Rattle.um_expr.proofs.ExprEnds.{arith_low}
-use Rattle.um_expr.proofs.ExprLeads.{FirstPasses}
-
--- the tokens that begin an atom
-abbrev pub begins_atom : ExprToken → Bool
-begins_atom (name x) = true
-begins_atom (number c) = true
-begins_atom (truth b) = true
-begins_atom (plain mark.Open) = true
-begins_atom (plain mark.ListOpen) = true
-begins_atom (plain mark.RecordOpen) = true
-begins_atom _ = false
+use Rattle.um_expr.proofs.ExprYields.{FirstPasses}
 
 abbrev pub is_no_equal : ExprToken → Bool
 is_no_equal (operator (between.Compare compare.Eq)) = false
@@ -34,11 +28,11 @@ pub first_atom : (t : ExprSyntax) (tokens rest : List Token) → Spells t tokens
 first_atom (truth_syntax at b) tokens rest s fits low = passes begins_atom (truth b) at tokens rest s refl
 first_atom (number_syntax at c n) tokens rest s fits low = passes begins_atom (number c) at tokens s.0 s.1 refl
 first_atom (name_syntax at x) tokens rest s fits low = passes begins_atom (name x) at tokens rest s refl
-first_atom (nil_syntax at t) tokens rest s fits low = passes begins_atom (plain mark.Open) at tokens s.0 s.5 refl
-first_atom (list_syntax at es) tokens rest s fits low = passes begins_atom (plain mark.ListOpen) at tokens s.0 s.2 refl
-first_atom (fields_syntax at fs) tokens rest s fits low = passes begins_atom (plain mark.RecordOpen) at tokens s.0 s.2 refl
+first_atom (nil_syntax at t) tokens rest s fits low = passes begins_atom (mark symbol.LeftParen) at tokens s.0 s.5 refl
+first_atom (list_syntax at es) tokens rest s fits low = passes begins_atom (mark symbol.LeftBracket) at tokens s.0 s.2 refl
+first_atom (fields_syntax at fs) tokens rest s fits low = passes begins_atom (mark symbol.LeftBrace) at tokens s.0 s.2 refl
 first_atom (field_syntax at place x e) tokens rest s fits low = first_atom e tokens s.0 s.2 fits.1 fits.0
-first_atom (bracket_expr_syntax at e) tokens rest s fits low = passes begins_atom (plain mark.Open) at tokens s.0 s.2 refl
+first_atom (bracket_expr_syntax at e) tokens rest s fits low = passes begins_atom (mark symbol.LeftParen) at tokens s.0 s.2 refl
 first_atom (call_syntax at f args) tokens rest s fits low = absurd (omega arith)
 first_atom (negate_syntax at e) tokens rest s fits low = absurd (omega arith)
 first_atom (not_syntax at e) tokens rest s fits low = absurd (omega arith)
@@ -58,20 +52,20 @@ first_no_equal (number_syntax at c n) tokens rest s = passes is_no_equal (number
 first_no_equal (name_syntax at x) tokens rest s = passes is_no_equal (name x) at tokens rest s refl
 first_no_equal (call_syntax at f args) tokens rest s = passes is_no_equal (name f) at tokens s.0 s.1 refl
 first_no_equal (negate_syntax at e) tokens rest s = passes is_no_equal minus at tokens s.0 s.1 refl
-first_no_equal (not_syntax at e) tokens rest s = passes is_no_equal (plain mark.Not) at tokens s.0 s.1 refl
+first_no_equal (not_syntax at e) tokens rest s = passes is_no_equal (word keyword.Not) at tokens s.0 s.1 refl
 first_no_equal (arith_syntax at op a b) tokens rest s = first_no_equal a tokens s.0 s.2
 first_no_equal (compare_syntax at sign a b) tokens rest s = first_no_equal a tokens s.0 s.2
 first_no_equal (and_syntax at a b) tokens rest s = first_no_equal a tokens s.0 s.2
 first_no_equal (or_syntax at a b) tokens rest s = first_no_equal a tokens s.0 s.2
-first_no_equal (if_syntax at c a b) tokens rest s = passes is_no_equal (plain mark.If) at tokens s.0 s.5 refl
-first_no_equal (let_syntax at x a b) tokens rest s = passes is_no_equal (plain mark.Let) at tokens s.0 s.5 refl
-first_no_equal (match_syntax at l a x y b) tokens rest s = passes is_no_equal (plain mark.Match) at tokens s.0 s.5 refl
-first_no_equal (nil_syntax at t) tokens rest s = passes is_no_equal (plain mark.Open) at tokens s.0 s.5 refl
-first_no_equal (list_syntax at es) tokens rest s = passes is_no_equal (plain mark.ListOpen) at tokens s.0 s.2 refl
+first_no_equal (if_syntax at c a b) tokens rest s = passes is_no_equal (word keyword.If) at tokens s.0 s.5 refl
+first_no_equal (let_syntax at x a b) tokens rest s = passes is_no_equal (word keyword.Let) at tokens s.0 s.5 refl
+first_no_equal (match_syntax at l a x y b) tokens rest s = passes is_no_equal (word keyword.Match) at tokens s.0 s.5 refl
+first_no_equal (nil_syntax at t) tokens rest s = passes is_no_equal (mark symbol.LeftParen) at tokens s.0 s.5 refl
+first_no_equal (list_syntax at es) tokens rest s = passes is_no_equal (mark symbol.LeftBracket) at tokens s.0 s.2 refl
 first_no_equal (cons_syntax at a b) tokens rest s = first_no_equal a tokens s.0 s.2
-first_no_equal (fields_syntax at fs) tokens rest s = passes is_no_equal (plain mark.RecordOpen) at tokens s.0 s.2 refl
+first_no_equal (fields_syntax at fs) tokens rest s = passes is_no_equal (mark symbol.LeftBrace) at tokens s.0 s.2 refl
 first_no_equal (field_syntax at place x e) tokens rest s = first_no_equal e tokens s.0 s.2
-first_no_equal (bracket_expr_syntax at e) tokens rest s = passes is_no_equal (plain mark.Open) at tokens s.0 s.2 refl
+first_no_equal (bracket_expr_syntax at e) tokens rest s = passes is_no_equal (mark symbol.LeftParen) at tokens s.0 s.2 refl
 
 -- an atom behind an atom begins an argument
 pub atom_alike : (frames new : List Frame) (t : ExprSyntax) → argument frames t ≡ Some new
@@ -79,9 +73,9 @@ pub atom_alike : (frames new : List Frame) (t : ExprSyntax) → argument frames 
 atom_alike frames new t e (name x) at glued k h = ap (λ o. begin_in o (name x) at) e
 atom_alike frames new t e (number c) at glued k h = ap (λ o. begin_in o (number c) at) e
 atom_alike frames new t e (truth b) at glued k h = ap (λ o. begin_in o (truth b) at) e
-atom_alike frames new t e (plain mark.Open) at glued k h = ap (λ o. begin_in o (plain mark.Open) at) e
-atom_alike frames new t e (plain mark.ListOpen) at glued k h = ap (λ o. begin_in o (plain mark.ListOpen) at) e
-atom_alike frames new t e (plain mark.RecordOpen) at glued k h = ap (λ o. begin_in o (plain mark.RecordOpen) at) e
+atom_alike frames new t e (mark symbol.LeftParen) at glued k h = ap (λ o. begin_in o (mark symbol.LeftParen) at) e
+atom_alike frames new t e (mark symbol.LeftBracket) at glued k h = ap (λ o. begin_in o (mark symbol.LeftBracket) at) e
+atom_alike frames new t e (mark symbol.LeftBrace) at glued k h = ap (λ o. begin_in o (mark symbol.LeftBrace) at) e
 atom_alike frames new t e _ at glued k h = absurd cc
 
 -- behind `>`

@@ -13,27 +13,30 @@ use Rattle.um_types.specs.TypeMachine.{TypeState, NeedType, HaveType, NoType, ty
 use Rattle.um_types.specs.TypeMachine.{InNote as InTypeNote}
 use Rattle.um_types.proofs.NoteLaws.{note_completed, note_completed_height, note_up, note_found_height}
 use Rattle.um_types.proofs.TypeLaws.{type_completed, type_completed_height, type_up, type_found_height}
-use Rattle.um_expr.specs.declared.mark.Mark.TheVariants as mark
-use Rattle.um_expr.specs.declared.mark.Infix.{Infix}
-use Rattle.um_expr.specs.declared.mark.Infix.TheVariants as between
-use Rattle.um_expr.specs.ExprTokens.{ExprToken, name, number, truth, hole, operator, plain, expr_token}
+use Rattle.um_syntax.specs.declared.vocabulary.Keyword.TheVariants as keyword
+use Rattle.um_syntax.specs.declared.vocabulary.Symbol.TheVariants as symbol
+use Rattle.um_expr.specs.declared.infix.Infix.{Infix}
+use Rattle.um_expr.specs.declared.infix.Infix.TheVariants as between
+use Rattle.um_expr.specs.declared.token.ExprToken.{ExprToken}
+use Rattle.um_expr.specs.declared.token.ExprToken.TheVariants.{Name as name, Number as number, Truth as truth, Hole as hole, Operator as operator, Word as word, Mark as mark}
+use Rattle.um_expr.specs.ExprTokens.{expr_token}
 use Rattle.um_expr.specs.Ranks.{infix_rank, left_limit, infix_text}
-use Rattle.um_expr.specs.ExprMachine.{Frame, InBracket, InItem, InField, InValue, InBody, InTest, InThen, InElse, InMatched, InEmptyArm, InFullArm, InNegate, InNot, InRight, InArgument, own_rank, top_bound, plug, with_field, Place, LetBinder, LetEqual, FieldName, FieldEqual, DotName, ArmBegin, ArmOpen, ArmClose, ArmArrow, HeadBinder, HeadCons, TailBinder, TailArrow, NilColon, State, Need, Have, Greater, Inside, InNote, InType, Refused, reduce, if_may, empty_list, begin, after_greater, argument, begin_in, infix_after, greater_after, less_after, close_after, list_after, record_after, semi_after, in_after, then_after, else_after, with_after, bar_after, after, inside, note_ends, type_ends, note_goes, type_goes, step, whole, finish}
-use Rattle.um_expr.specs.ExprLeast.{side, least_over, place_least, expr_least, notes_side, notes_over, place_notes, notes_least, whole_least}
+use Rattle.um_expr.specs.ExprMachine.{Frame, InBracket, InItem, InField, InValue, InBody, InTest, InThen, InElse, InMatched, InEmptyArm, InFullArm, InNegate, InNot, InRight, InArgument, own_rank, top_bound, plug, with_field, Expected, LetBinder, LetEqual, FieldName, FieldEqual, DotName, ArmBegin, ArmOpen, ArmClose, ArmArrow, HeadBinder, HeadCons, TailBinder, TailArrow, NilColon, State, Need, Have, Greater, Inside, InNote, InType, Refused, reduce, if_may, empty_list, begin, after_greater, argument, begin_in, infix_after, greater_after, less_after, close_after, list_after, record_after, semi_after, in_after, then_after, else_after, with_after, bar_after, after, inside, note_ends, type_ends, note_goes, type_goes, step, whole, finish}
+use Rattle.um_expr.specs.ExprLeast.{side, least_over, expected_least, expr_least, notes_side, notes_over, expected_notes, notes_least, whole_least}
 use Rattle.um_expr.specs.ExprHeights.{notes_in, notes_in_all, notes_in_fields, whole_expr_height}
 use Rattle.um_expr.proofs.ExprEnds.{infix_low}
-use Rattle.um_expr.proofs.ExprStands.{Stands}
-use Rattle.um_expr.proofs.ExprEndings.{operand, filled, all_filled, place_filled, expr_completed}
+use Rattle.um_expr.proofs.ExprPrefixes.{SpellsPrefix}
+use Rattle.um_expr.proofs.ExprCompletions.{operand, filled, all_filled, expected_filled, expr_completed}
 
 -- ---- one part more
 
-tallest_last : (front : List ExprSyntax) (t : ExprSyntax) → (tallest_expr (exprs_in_order (front ++ t ∷ [])) ≡ max (tallest_expr (exprs_in_order front)) (expr_height t))
-    × (notes_in_all (exprs_in_order (front ++ t ∷ [])) ≡ max (notes_in_all (exprs_in_order front)) (notes_in t))
+tallest_last : (before : List ExprSyntax) (t : ExprSyntax) → (tallest_expr (exprs_in_order (before ++ t ∷ [])) ≡ max (tallest_expr (exprs_in_order before)) (expr_height t))
+    × (notes_in_all (exprs_in_order (before ++ t ∷ [])) ≡ max (notes_in_all (exprs_in_order before)) (notes_in t))
 tallest_last [] t = (omega arith, omega arith)
 tallest_last (u ∷ us) t = let e = tallest_last us t in (omega (arith, e.0), omega (arith, e.1))
 
-field_last : (front : List FieldPart) (place : ℕ) (x : List ℕ) (t : ExprSyntax) → (tallest_field (fields_in_order (with_field front place x t)) ≡ max (tallest_field (fields_in_order front)) (expr_height t))
-    × (notes_in_fields (fields_in_order (with_field front place x t)) ≡ max (notes_in_fields (fields_in_order front)) (notes_in t))
+field_last : (before : List FieldPart) (place : ℕ) (x : List ℕ) (t : ExprSyntax) → (tallest_field (fields_in_order (with_field before place x t)) ≡ max (tallest_field (fields_in_order before)) (expr_height t))
+    × (notes_in_fields (fields_in_order (with_field before place x t)) ≡ max (notes_in_fields (fields_in_order before)) (notes_in t))
 field_last [] place x t = (omega arith, omega arith)
 field_last (u ∷ us) place x t = let e = field_last us place x t in (omega (arith, e.0), omega (arith, e.1))
 
@@ -46,8 +49,8 @@ infix_height (between.Arith op) at a b = (refl, refl)
 
 pub height_filled : (frame : Frame) (t : ExprSyntax) → (expr_height (filled frame t) ≡ max (side frame) (expr_height t) + 1) × (notes_in (filled frame t) ≡ max (notes_side frame) (notes_in t))
 height_filled (InBracket at) t = (omega arith, omega arith)
-height_filled (InItem at front) t = let e = tallest_last front t in (omega (arith, e.0), e.1)
-height_filled (InField at front place x) t = let e = field_last front place x t in (omega (arith, e.0), e.1)
+height_filled (InItem at before) t = let e = tallest_last before t in (omega (arith, e.0), e.1)
+height_filled (InField at before place x) t = let e = field_last before place x t in (omega (arith, e.0), e.1)
 height_filled (InValue at x) t = (omega arith, omega arith)
 height_filled (InBody at x v) t = (refl, refl)
 height_filled (InTest at) t = (omega arith, omega arith)
@@ -59,7 +62,7 @@ height_filled (InFullArm at l a x y) t = (omega arith, omega arith)
 height_filled (InNegate at) t = (omega arith, omega arith)
 height_filled (InNot at) t = (omega arith, omega arith)
 height_filled (InRight at sign left) t = infix_height sign at left t
-height_filled (InArgument at f front) t = let e = tallest_last front t in (omega (arith, e.0), e.1)
+height_filled (InArgument at f before) t = let e = tallest_last before t in (omega (arith, e.0), e.1)
 
 height_all_filled : (frames : List Frame) (t : ExprSyntax) → (expr_height (all_filled frames t) ≡ least_over frames (expr_height t)) × (notes_in (all_filled frames t) ≡ notes_over frames (notes_in t))
 height_all_filled [] t = (refl, refl)
@@ -68,32 +71,32 @@ height_all_filled (frame ∷ frames) t =
     let e = height_filled frame t in
     (a.0 ∙ ap (least_over frames) e.0, a.1 ∙ ap (notes_over frames) e.1)
 
-place_height : (place : Place) → (expr_height (place_filled place) ≡ place_least place) × (notes_in (place_filled place) ≡ place_notes place)
-place_height (LetBinder at) = (omega arith, omega arith)
-place_height (LetEqual at x) = (omega arith, omega arith)
-place_height (FieldName at front) = let e = field_last front 0 [] operand in (omega (arith, e.0), omega (arith, e.1))
-place_height (FieldEqual at front place x) = let e = field_last front place x operand in (omega (arith, e.0), omega (arith, e.1))
-place_height (DotName at e) = (refl, refl)
-place_height (ArmBegin at l) = (omega arith, omega arith)
-place_height (ArmOpen at l) = (omega arith, omega arith)
-place_height (ArmClose at l) = (omega arith, omega arith)
-place_height (ArmArrow at l) = (omega arith, omega arith)
-place_height (HeadBinder at l a) = (omega arith, omega arith)
-place_height (HeadCons at l a x) = (omega arith, omega arith)
-place_height (TailBinder at l a x) = (omega arith, omega arith)
-place_height (TailArrow at l a x y) = (omega arith, omega arith)
-place_height (NilColon at) = (refl, omega arith)
+expected_height : (expected : Expected) → (expr_height (expected_filled expected) ≡ expected_least expected) × (notes_in (expected_filled expected) ≡ expected_notes expected)
+expected_height (LetBinder at) = (omega arith, omega arith)
+expected_height (LetEqual at x) = (omega arith, omega arith)
+expected_height (FieldName at before) = let e = field_last before 0 [] operand in (omega (arith, e.0), omega (arith, e.1))
+expected_height (FieldEqual at before place x) = let e = field_last before place x operand in (omega (arith, e.0), omega (arith, e.1))
+expected_height (DotName at e) = (refl, refl)
+expected_height (ArmBegin at l) = (omega arith, omega arith)
+expected_height (ArmOpen at l) = (omega arith, omega arith)
+expected_height (ArmClose at l) = (omega arith, omega arith)
+expected_height (ArmArrow at l) = (omega arith, omega arith)
+expected_height (HeadBinder at l a) = (omega arith, omega arith)
+expected_height (HeadCons at l a x) = (omega arith, omega arith)
+expected_height (TailBinder at l a x) = (omega arith, omega arith)
+expected_height (TailArrow at l a x y) = (omega arith, omega arith)
+expected_height (NilColon at) = (refl, omega arith)
 
 -- the least height is that of the completion
-completed_heights : (st : State) (tokens rest : List Token) → Stands st tokens rest → st ≢ Refused → (expr_height (expr_completed st) ≡ expr_least st) × (notes_in (expr_completed st) ≡ notes_least st)
+completed_heights : (st : State) (tokens rest : List Token) → SpellsPrefix st tokens rest → st ≢ Refused → (expr_height (expr_completed st) ≡ expr_least st) × (notes_in (expr_completed st) ≡ notes_least st)
 completed_heights (Need frames) tokens rest h ok = height_all_filled frames operand
 completed_heights (Have frames t) tokens rest h ok = height_all_filled frames t
 completed_heights (Greater frames at left) tokens rest h ok =
     let t : ExprSyntax = infix_text at (between.Compare compare.Gt) left operand in
     let a = height_all_filled frames t in (a.0, a.1 ∙ ap (notes_over frames) (omega arith))
-completed_heights (Inside frames place) tokens rest h ok =
-    let a = height_all_filled frames (place_filled place) in
-    let e = place_height place in
+completed_heights (Inside frames expected) tokens rest h ok =
+    let a = height_all_filled frames (expected_filled expected) in
+    let e = expected_height expected in
     (a.0 ∙ ap (least_over frames) e.0, a.1 ∙ ap (notes_over frames) e.1)
 completed_heights (InNote frames at c n) tokens rest h ok =
     let a = height_all_filled frames (number_syntax at c (Some (note_completed n))) in (a.0, a.1 ∙ ap (notes_over frames) (note_completed_height n h.2 rest h.6))
@@ -101,7 +104,7 @@ completed_heights (InType frames at s) tokens rest h ok =
     let a = height_all_filled frames (nil_syntax at (type_completed s)) in (a.0, a.1 ∙ ap (notes_over frames) (type_completed_height s h.2 rest h.6 h.8))
 completed_heights Refused tokens rest h ok = absurd (ok refl)
 
-pub expr_completed_height : (st : State) (tokens rest : List Token) → Stands st tokens rest → st ≢ Refused → whole_expr_height (expr_completed st) ≡ whole_least st
+pub expr_completed_height : (st : State) (tokens rest : List Token) → SpellsPrefix st tokens rest → st ≢ Refused → whole_expr_height (expr_completed st) ≡ whole_least st
 expr_completed_height st tokens rest h ok = let e = completed_heights st tokens rest h ok in omega (arith, e.0, e.1)
 
 -- ---- a token never lowers it
@@ -122,10 +125,10 @@ plug_filled (InFullArm at l a x y) t lt = refl
 plug_filled (InNegate at) t lt = refl
 plug_filled (InNot at) t lt = refl
 plug_filled (InRight at sign left) t lt = refl
-plug_filled (InArgument at f front) t lt = refl
+plug_filled (InArgument at f before) t lt = refl
 plug_filled (InBracket at) t lt = absurd (omega arith)
-plug_filled (InItem at front) t lt = absurd (omega arith)
-plug_filled (InField at front place x) t lt = absurd (omega arith)
+plug_filled (InItem at before) t lt = absurd (omega arith)
+plug_filled (InField at before place x) t lt = absurd (omega arith)
 plug_filled (InValue at x) t lt = absurd (omega arith)
 plug_filled (InTest at) t lt = absurd (omega arith)
 plug_filled (InThen at c) t lt = absurd (omega arith)
@@ -151,7 +154,7 @@ Above n m Refused = Unit {0}
 Above n m (Need frames) = (n ≤ expr_least (Need frames)) × (m ≤ notes_least (Need frames))
 Above n m (Have frames t) = (n ≤ expr_least (Have frames t)) × (m ≤ notes_least (Have frames t))
 Above n m (Greater frames at left) = (n ≤ expr_least (Greater frames at left)) × (m ≤ notes_least (Greater frames at left))
-Above n m (Inside frames place) = (n ≤ expr_least (Inside frames place)) × (m ≤ notes_least (Inside frames place))
+Above n m (Inside frames expected) = (n ≤ expr_least (Inside frames expected)) × (m ≤ notes_least (Inside frames expected))
 Above n m (InNote frames at c w) = (n ≤ expr_least (InNote frames at c w)) × (m ≤ notes_least (InNote frames at c w))
 Above n m (InType frames at s) = (n ≤ expr_least (InType frames at s)) × (m ≤ notes_least (InType frames at s))
 
@@ -160,7 +163,7 @@ above_more n m k l Refused a b h = tt
 above_more n m k l (Need frames) a b h = (omega (arith, h.0), omega (arith, h.1))
 above_more n m k l (Have frames t) a b h = (omega (arith, h.0), omega (arith, h.1))
 above_more n m k l (Greater frames at left) a b h = (omega (arith, h.0), omega (arith, h.1))
-above_more n m k l (Inside frames place) a b h = (omega (arith, h.0), omega (arith, h.1))
+above_more n m k l (Inside frames expected) a b h = (omega (arith, h.0), omega (arith, h.1))
 above_more n m k l (InNote frames at c w) a b h = (omega (arith, h.0), omega (arith, h.1))
 above_more n m k l (InType frames at s) a b h = (omega (arith, h.0), omega (arith, h.1))
 
@@ -183,15 +186,15 @@ begin_up : (frames : List Frame) (what : ExprToken) (at : ℕ) → Above (least_
 begin_up frames (name x) at = (omega arith, omega arith)
 begin_up frames (number c) at = (omega arith, omega arith)
 begin_up frames (truth b) at = (omega arith, omega arith)
-begin_up frames (plain mark.Open) at = both_up frames 1 (max 0 1 + 1) 0 (max 0 0) (omega arith) (omega arith)
-begin_up frames (plain mark.ListOpen) at = both_up frames 1 (max 0 1 + 1) 0 (max 0 0) (omega arith) (omega arith)
-begin_up frames (plain mark.ListClose) at = empty_up frames
-begin_up frames (plain mark.RecordOpen) at = both_up frames 1 (max 0 1 + 1) 0 0 (omega arith) (omega arith)
-begin_up frames (plain mark.Let) at = may_up frames 9 (least_over frames 1) (notes_over frames 0) (Inside frames (LetBinder at)) (both_up frames 1 2 0 0 (omega arith) (omega arith))
-begin_up frames (plain mark.If) at = may_up frames 9 (least_over frames 1) (notes_over frames 0) (Need (InTest at ∷ frames)) (both_up frames 1 (max 1 1 + 1) 0 (max 0 0) (omega arith) (omega arith))
-begin_up frames (plain mark.Match) at =
+begin_up frames (mark symbol.LeftParen) at = both_up frames 1 (max 0 1 + 1) 0 (max 0 0) (omega arith) (omega arith)
+begin_up frames (mark symbol.LeftBracket) at = both_up frames 1 (max 0 1 + 1) 0 (max 0 0) (omega arith) (omega arith)
+begin_up frames (mark symbol.RightBracket) at = empty_up frames
+begin_up frames (mark symbol.LeftBrace) at = both_up frames 1 (max 0 1 + 1) 0 0 (omega arith) (omega arith)
+begin_up frames (word keyword.Let) at = may_up frames 9 (least_over frames 1) (notes_over frames 0) (Inside frames (LetBinder at)) (both_up frames 1 2 0 0 (omega arith) (omega arith))
+begin_up frames (word keyword.If) at = may_up frames 9 (least_over frames 1) (notes_over frames 0) (Need (InTest at ∷ frames)) (both_up frames 1 (max 1 1 + 1) 0 (max 0 0) (omega arith) (omega arith))
+begin_up frames (word keyword.Match) at =
     may_up frames 9 (least_over frames 1) (notes_over frames 0) (Need (InMatched at ∷ frames)) (both_up frames 1 (max 1 1 + 1) 0 (max 0 0) (omega arith) (omega arith))
-begin_up frames (plain mark.Not) at = may_up frames 1 (least_over frames 1) (notes_over frames 0) (Need (InNot at ∷ frames)) (both_up frames 1 (max 0 1 + 1) 0 (max 0 0) (omega arith) (omega arith))
+begin_up frames (word keyword.Not) at = may_up frames 1 (least_over frames 1) (notes_over frames 0) (Need (InNot at ∷ frames)) (both_up frames 1 (max 0 1 + 1) 0 (max 0 0) (omega arith) (omega arith))
 begin_up frames (operator (between.Arith arith_of.Sub)) at =
     may_up frames 2 (least_over frames 1) (notes_over frames 0) (Need (InNegate at ∷ frames)) (both_up frames 1 (max 0 1 + 1) 0 (max 0 0) (omega arith) (omega arith))
 begin_up frames _ at = tt
@@ -221,10 +224,10 @@ first_up at f frames =
     ]
 
 argument_up : (frames : List Frame) (t : ExprSyntax) → AboveIn (least_over frames (expr_height t)) (notes_over frames (notes_in t)) (argument frames t)
-argument_up (InArgument at f front ∷ frames) t =
-    let e = tallest_last front t in
-    let old : List ExprSyntax = front ++ t ∷ [] in
-    both_up frames (max (tallest_expr (exprs_in_order front)) (expr_height t) + 1) (max (tallest_expr (exprs_in_order old)) 1 + 1) (max (notes_in_all (exprs_in_order front)) (notes_in t))
+argument_up (InArgument at f before ∷ frames) t =
+    let e = tallest_last before t in
+    let old : List ExprSyntax = before ++ t ∷ [] in
+    both_up frames (max (tallest_expr (exprs_in_order before)) (expr_height t) + 1) (max (tallest_expr (exprs_in_order old)) 1 + 1) (max (notes_in_all (exprs_in_order before)) (notes_in t))
     (max (notes_in_all (exprs_in_order old)) 0) (omega (arith, e.0)) (omega (arith, e.1))
 argument_up [] (name_syntax at f) = first_up at f []
 argument_up (frame ∷ frames) (name_syntax at f) = first_up at f (frame ∷ frames)
@@ -266,29 +269,29 @@ close_up (Have (InBracket at ∷ frames) t) = both_up frames (max 0 (expr_height
 close_up _ = tt
 
 list_up : (st : State) → Above (expr_least st) (notes_least st) (list_after st)
-list_up (Have (InItem at front ∷ frames) t) =
-    let e = height_filled (InItem at front) t in
-    both_up frames (max (side (InItem at front)) (expr_height t) + 1) (expr_height (filled (InItem at front) t)) (max (notes_side (InItem at front)) (notes_in t)) (notes_in (filled (InItem at front) t))
+list_up (Have (InItem at before ∷ frames) t) =
+    let e = height_filled (InItem at before) t in
+    both_up frames (max (side (InItem at before)) (expr_height t) + 1) (expr_height (filled (InItem at before) t)) (max (notes_side (InItem at before)) (notes_in t)) (notes_in (filled (InItem at before) t))
     (omega (arith, e.0)) (omega (arith, e.1))
 list_up _ = tt
 
 record_up : (st : State) → Above (expr_least st) (notes_least st) (record_after st)
-record_up (Have (InField at front place x ∷ frames) t) =
-    let f : Frame = InField at front place x in
+record_up (Have (InField at before place x ∷ frames) t) =
+    let f : Frame = InField at before place x in
     let e = height_filled f t in
     both_up frames (max (side f) (expr_height t) + 1) (expr_height (filled f t)) (max (notes_side f) (notes_in t)) (notes_in (filled f t)) (omega (arith, e.0)) (omega (arith, e.1))
 record_up _ = tt
 
 semi_up : (st : State) → Above (expr_least st) (notes_least st) (semi_after st)
-semi_up (Have (InItem at front ∷ frames) t) =
-    let e = tallest_last front t in
-    let f : Frame = InItem at (front ++ t ∷ []) in
-    both_up frames (max (tallest_expr (exprs_in_order front)) (expr_height t) + 1) (max (side f) 1 + 1) (max (notes_in_all (exprs_in_order front)) (notes_in t)) (max (notes_side f) 0) (omega (arith, e.0))
+semi_up (Have (InItem at before ∷ frames) t) =
+    let e = tallest_last before t in
+    let f : Frame = InItem at (before ++ t ∷ []) in
+    both_up frames (max (tallest_expr (exprs_in_order before)) (expr_height t) + 1) (max (side f) 1 + 1) (max (notes_in_all (exprs_in_order before)) (notes_in t)) (max (notes_side f) 0) (omega (arith, e.0))
     (omega (arith, e.1))
-semi_up (Have (InField at front place x ∷ frames) t) =
-    let e = field_last front place x t in
-    let p : Place = FieldName at (with_field front place x t) in
-    both_up frames (max (tallest_field (fields_in_order front)) (expr_height t) + 1) (place_least p) (max (notes_in_fields (fields_in_order front)) (notes_in t)) (place_notes p) (omega (arith, e.0))
+semi_up (Have (InField at before place x ∷ frames) t) =
+    let e = field_last before place x t in
+    let p : Expected = FieldName at (with_field before place x t) in
+    both_up frames (max (tallest_field (fields_in_order before)) (expr_height t) + 1) (expected_least p) (max (notes_in_fields (fields_in_order before)) (notes_in t)) (expected_notes p) (omega (arith, e.0))
     (omega (arith, e.1))
 semi_up _ = tt
 
@@ -337,19 +340,19 @@ after_up : (frames : List Frame) (t : ExprSyntax) (what : ExprToken) (at : ℕ) 
 after_up frames t (name x) at glued = argues_up frames t (name x) at
 after_up frames t (number c) at glued = argues_up frames t (number c) at
 after_up frames t (truth b) at glued = argues_up frames t (truth b) at
-after_up frames t (plain mark.Open) at glued = argues_up frames t (plain mark.Open) at
-after_up frames t (plain mark.ListOpen) at glued = argues_up frames t (plain mark.ListOpen) at
-after_up frames t (plain mark.RecordOpen) at glued = argues_up frames t (plain mark.RecordOpen) at
-after_up frames t (plain mark.Dot) at glued = both_up frames (expr_height t) (expr_height t + 1) (notes_in t) (notes_in t) (omega arith) (omega arith)
-after_up frames t (plain mark.Close) at glued = ended_up 9 frames t (close_after (reduce 9 frames t)) (omega arith) (close_up (reduce 9 frames t))
-after_up frames t (plain mark.ListClose) at glued = ended_up 9 frames t (list_after (reduce 9 frames t)) (omega arith) (list_up (reduce 9 frames t))
-after_up frames t (plain mark.RecordClose) at glued = ended_up 9 frames t (record_after (reduce 9 frames t)) (omega arith) (record_up (reduce 9 frames t))
-after_up frames t (plain mark.Semi) at glued = ended_up 9 frames t (semi_after (reduce 9 frames t)) (omega arith) (semi_up (reduce 9 frames t))
-after_up frames t (plain mark.In) at glued = ended_up 9 frames t (in_after (reduce 9 frames t)) (omega arith) (in_up (reduce 9 frames t))
-after_up frames t (plain mark.Then) at glued = ended_up 9 frames t (then_after (reduce 9 frames t)) (omega arith) (then_up (reduce 9 frames t))
-after_up frames t (plain mark.Else) at glued = ended_up 9 frames t (else_after (reduce 9 frames t)) (omega arith) (else_up (reduce 9 frames t))
-after_up frames t (plain mark.With) at glued = ended_up 9 frames t (with_after (reduce 9 frames t)) (omega arith) (with_up (reduce 9 frames t))
-after_up frames t (plain mark.Bar) at glued = ended_up 9 frames t (bar_after (reduce 9 frames t)) (omega arith) (bar_up (reduce 9 frames t))
+after_up frames t (mark symbol.LeftParen) at glued = argues_up frames t (mark symbol.LeftParen) at
+after_up frames t (mark symbol.LeftBracket) at glued = argues_up frames t (mark symbol.LeftBracket) at
+after_up frames t (mark symbol.LeftBrace) at glued = argues_up frames t (mark symbol.LeftBrace) at
+after_up frames t (mark symbol.Dot) at glued = both_up frames (expr_height t) (expr_height t + 1) (notes_in t) (notes_in t) (omega arith) (omega arith)
+after_up frames t (mark symbol.RightParen) at glued = ended_up 9 frames t (close_after (reduce 9 frames t)) (omega arith) (close_up (reduce 9 frames t))
+after_up frames t (mark symbol.RightBracket) at glued = ended_up 9 frames t (list_after (reduce 9 frames t)) (omega arith) (list_up (reduce 9 frames t))
+after_up frames t (mark symbol.RightBrace) at glued = ended_up 9 frames t (record_after (reduce 9 frames t)) (omega arith) (record_up (reduce 9 frames t))
+after_up frames t (mark symbol.Semicolon) at glued = ended_up 9 frames t (semi_after (reduce 9 frames t)) (omega arith) (semi_up (reduce 9 frames t))
+after_up frames t (word keyword.In) at glued = ended_up 9 frames t (in_after (reduce 9 frames t)) (omega arith) (in_up (reduce 9 frames t))
+after_up frames t (word keyword.Then) at glued = ended_up 9 frames t (then_after (reduce 9 frames t)) (omega arith) (then_up (reduce 9 frames t))
+after_up frames t (word keyword.Else) at glued = ended_up 9 frames t (else_after (reduce 9 frames t)) (omega arith) (else_up (reduce 9 frames t))
+after_up frames t (word keyword.With) at glued = ended_up 9 frames t (with_after (reduce 9 frames t)) (omega arith) (with_up (reduce 9 frames t))
+after_up frames t (mark symbol.Bar) at glued = ended_up 9 frames t (bar_after (reduce 9 frames t)) (omega arith) (bar_up (reduce 9 frames t))
 after_up frames t (operator (between.Compare compare.Lt)) at glued = less_up frames t glued at
 after_up frames t (operator (between.Compare compare.Gt)) at glued = ended_up 5 frames t (greater_after at (reduce 5 frames t)) (omega arith) (greater_up at (reduce 5 frames t))
 after_up frames t (operator (between.Compare compare.Ge)) at glued = tt
@@ -365,29 +368,29 @@ after_up frames t _ at glued = tt
 same_up : (frames : List Frame) (h m : ℕ) → (least_over frames h ≤ least_over frames h) × (notes_over frames m ≤ notes_over frames m)
 same_up frames h m = (omega arith, omega arith)
 
-inside_up : (frames : List Frame) (place : Place) (what : ExprToken) (at : ℕ) → Above (least_over frames (place_least place)) (notes_over frames (place_notes place)) (inside frames place what at)
+inside_up : (frames : List Frame) (expected : Expected) (what : ExprToken) (at : ℕ) → Above (least_over frames (expected_least expected)) (notes_over frames (expected_notes expected)) (inside frames expected what at)
 inside_up frames (LetBinder p) (name x) at = same_up frames 2 0
 inside_up frames (LetBinder p) hole at = same_up frames 2 0
 inside_up frames (LetEqual p x) (operator (between.Compare compare.Eq)) at = both_up frames 2 (max 1 1 + 1) 0 (max 0 0) (omega arith) (omega arith)
-inside_up frames (FieldName p front) (name x) at = same_up frames (place_least (FieldName p front)) (place_notes (FieldName p front))
-inside_up frames (FieldEqual p front place x) (operator (between.Compare compare.Eq)) at =
-    both_up frames (max (tallest_field (fields_in_order front)) 1 + 1) (max (tallest_field (fields_in_order front)) 1 + 1) (notes_in_fields (fields_in_order front))
-    (max (notes_in_fields (fields_in_order front)) 0) (omega arith) (omega arith)
+inside_up frames (FieldName p before) (name x) at = same_up frames (expected_least (FieldName p before)) (expected_notes (FieldName p before))
+inside_up frames (FieldEqual p before place x) (operator (between.Compare compare.Eq)) at =
+    both_up frames (max (tallest_field (fields_in_order before)) 1 + 1) (max (tallest_field (fields_in_order before)) 1 + 1) (notes_in_fields (fields_in_order before))
+    (max (notes_in_fields (fields_in_order before)) 0) (omega arith) (omega arith)
 inside_up frames (DotName p e) (name x) at = same_up frames (expr_height e + 1) (notes_in e)
-inside_up frames (ArmBegin p l) (plain mark.Bar) at = same_up frames (max (expr_height l) 1 + 1) (notes_in l)
-inside_up frames (ArmBegin p l) (plain mark.ListOpen) at = same_up frames (max (expr_height l) 1 + 1) (notes_in l)
-inside_up frames (ArmOpen p l) (plain mark.ListOpen) at = same_up frames (max (expr_height l) 1 + 1) (notes_in l)
-inside_up frames (ArmClose p l) (plain mark.ListClose) at = same_up frames (max (expr_height l) 1 + 1) (notes_in l)
-inside_up frames (ArmArrow p l) (plain mark.Arrow) at = both_up frames (max (expr_height l) 1 + 1) (max (max (expr_height l) 1) 1 + 1) (notes_in l) (max (notes_in l) 0) (omega arith) (omega arith)
-inside_up frames (HeadBinder p l a) (name x) at = same_up frames (place_least (HeadBinder p l a)) (max (notes_in l) (notes_in a))
-inside_up frames (HeadBinder p l a) hole at = same_up frames (place_least (HeadBinder p l a)) (max (notes_in l) (notes_in a))
-inside_up frames (HeadCons p l a x) (operator between.Cons) at = same_up frames (place_least (HeadCons p l a x)) (max (notes_in l) (notes_in a))
-inside_up frames (TailBinder p l a x) (name y) at = same_up frames (place_least (TailBinder p l a x)) (max (notes_in l) (notes_in a))
-inside_up frames (TailBinder p l a x) hole at = same_up frames (place_least (TailBinder p l a x)) (max (notes_in l) (notes_in a))
-inside_up frames (TailArrow p l a x y) (plain mark.Arrow) at =
+inside_up frames (ArmBegin p l) (mark symbol.Bar) at = same_up frames (max (expr_height l) 1 + 1) (notes_in l)
+inside_up frames (ArmBegin p l) (mark symbol.LeftBracket) at = same_up frames (max (expr_height l) 1 + 1) (notes_in l)
+inside_up frames (ArmOpen p l) (mark symbol.LeftBracket) at = same_up frames (max (expr_height l) 1 + 1) (notes_in l)
+inside_up frames (ArmClose p l) (mark symbol.RightBracket) at = same_up frames (max (expr_height l) 1 + 1) (notes_in l)
+inside_up frames (ArmArrow p l) (mark symbol.Arrow) at = both_up frames (max (expr_height l) 1 + 1) (max (max (expr_height l) 1) 1 + 1) (notes_in l) (max (notes_in l) 0) (omega arith) (omega arith)
+inside_up frames (HeadBinder p l a) (name x) at = same_up frames (expected_least (HeadBinder p l a)) (max (notes_in l) (notes_in a))
+inside_up frames (HeadBinder p l a) hole at = same_up frames (expected_least (HeadBinder p l a)) (max (notes_in l) (notes_in a))
+inside_up frames (HeadCons p l a x) (operator between.Cons) at = same_up frames (expected_least (HeadCons p l a x)) (max (notes_in l) (notes_in a))
+inside_up frames (TailBinder p l a x) (name y) at = same_up frames (expected_least (TailBinder p l a x)) (max (notes_in l) (notes_in a))
+inside_up frames (TailBinder p l a x) hole at = same_up frames (expected_least (TailBinder p l a x)) (max (notes_in l) (notes_in a))
+inside_up frames (TailArrow p l a x y) (mark symbol.Arrow) at =
     both_up frames (max (expr_height l) (max (expr_height a) 1) + 1) (max (max (expr_height l) (expr_height a)) 1 + 1) (max (notes_in l) (notes_in a)) (max (max (notes_in l) (notes_in a)) 0) (omega arith)
     (omega arith)
-inside_up frames (NilColon p) (plain mark.Colon) at = both_up frames 3 3 1 (0 + 1) (omega arith) (omega arith)
+inside_up frames (NilColon p) (mark symbol.Colon) at = both_up frames 3 3 1 (0 + 1) (omega arith) (omega arith)
 inside_up frames _ _ at = tt
 
 -- ---- notes and types
@@ -400,7 +403,7 @@ note_end_up frames at c n _ _ e = tt
 
 type_end_up : (frames : List Frame) (at : ℕ) (n : TypeState) (found : Option TypeSyntax) (what : ExprToken) → type_finish n ≡ found
     → Above (least_over frames 3) (notes_over frames (type_least n)) (type_ends frames at found what)
-type_end_up frames at n (Some t) (plain mark.Close) e =
+type_end_up frames at n (Some t) (mark symbol.RightParen) e =
     let same = type_found_height n t e in both_up frames 3 3 (type_least n) (whole_height t) (omega arith) (omega (arith, same))
 type_end_up frames at n _ _ e = tt
 
@@ -422,7 +425,7 @@ step_above : (st : State) (x : Token) → Above (expr_least st) (notes_least st)
 step_above (Need frames) x = begin_up frames (expr_token x.kind) x.start
 step_above (Have frames t) x = after_up frames t (expr_token x.kind) x.start x.glued
 step_above (Greater frames p left) x = greater_then_up frames p left (expr_token x.kind) x.start x.glued
-step_above (Inside frames place) x = inside_up frames place (expr_token x.kind) x.start
+step_above (Inside frames expected) x = inside_up frames expected (expr_token x.kind) x.start
 step_above (InNote frames p c n) x =
     note_goes_up frames p c (note_least n) (note_step n x) (note_ends frames p c (note_finish n) (expr_token x.kind)) (λ goes. note_up n x goes)
     (note_end_up frames p c n (note_finish n) (expr_token x.kind) refl)
@@ -435,7 +438,7 @@ above_whole : (n m : ℕ) (st : State) → st ≢ Refused → Above n m st → m
 above_whole n m (Need frames) ok h = omega (arith, h.0, h.1)
 above_whole n m (Have frames t) ok h = omega (arith, h.0, h.1)
 above_whole n m (Greater frames at left) ok h = omega (arith, h.0, h.1)
-above_whole n m (Inside frames place) ok h = omega (arith, h.0, h.1)
+above_whole n m (Inside frames expected) ok h = omega (arith, h.0, h.1)
 above_whole n m (InNote frames at c w) ok h = omega (arith, h.0, h.1)
 above_whole n m (InType frames at s) ok h = omega (arith, h.0, h.1)
 above_whole n m Refused ok h = absurd (ok refl)

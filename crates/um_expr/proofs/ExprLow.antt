@@ -7,26 +7,27 @@ use Rattle.um_types.specs.NoteTakes.{note_state}
 use Rattle.um_types.specs.NoteMachine.{note_least}
 use Rattle.um_types.specs.TypeTakes.{type_state}
 use Rattle.um_types.specs.TypeMachine.{type_least}
+use Rattle.um_types.specs.UnitStops.{greatest_height}
 use Rattle.um_expr.specs.declared.frame.Frame.{Frame as Open}
 use Rattle.um_expr.specs.declared.frame.Frame.TheVariants as open_at
 use Rattle.um_expr.specs.declared.frame.Entry.{Entry}
-use Rattle.um_expr.specs.declared.hand.Place.{Place as PlaceHere}
-use Rattle.um_expr.specs.declared.hand.Place.TheVariants as place
-use Rattle.um_expr.specs.declared.hand.Hand.{Hand}
-use Rattle.um_expr.specs.declared.hand.Hand.TheVariants as hand
+use Rattle.um_expr.specs.declared.focus.Expected.{Expected as ExpectedToken}
+use Rattle.um_expr.specs.declared.focus.Expected.TheVariants as expected
+use Rattle.um_expr.specs.declared.focus.Focus.{Focus}
+use Rattle.um_expr.specs.declared.focus.Focus.TheVariants as focus
 use Rattle.um_expr.specs.ExprMachine.{Frame, Refused}
-use Rattle.um_expr.specs.ExprLeast.{least_over, expr_least, notes_side, notes_over, place_notes, notes_least, whole_least}
+use Rattle.um_expr.specs.ExprLeast.{least_over, expr_least, notes_side, notes_over, expected_notes, notes_least, whole_least}
 use Rattle.um_expr.specs.ExprHeights.{notes_in}
-use Rattle.um_expr.specs.ExprParts.{part_expr}
+use Rattle.um_expr.specs.ExprOperands.{operand_expr}
 use Rattle.um_expr.specs.ExprFrames.{view_frame, entry_frame, stack, base}
-use Rattle.um_expr.specs.ExprStates.{view_place, hand_height, state_of}
+use Rattle.um_expr.specs.ExprStates.{view_expected, focus_height, state_of}
 use Rattle.um_expr.proofs.ExprStackLaws.{over_base}
 
 -- no unit text or type text in a frame is too high
-frame_notes : (frame : Open) → notes_side (view_frame frame) ≤ 400
+frame_notes : (frame : Open) → notes_side (view_frame frame) ≤ greatest_height
 frame_notes (open_at.InBracket at) = omega arith
-frame_notes (open_at.InItem at front) = front.low
-frame_notes (open_at.InField at front p x) = front.low
+frame_notes (open_at.InItem at before) = before.low
+frame_notes (open_at.InField at before p x) = before.low
 frame_notes (open_at.InValue at x) = omega arith
 frame_notes (open_at.InBody at x v) = v.low
 frame_notes (open_at.InTest at) = omega arith
@@ -38,83 +39,83 @@ frame_notes (open_at.InFullArm at l a x y) = omega (arith, l.low, a.low)
 frame_notes (open_at.InNegate at) = omega arith
 frame_notes (open_at.InNot at) = omega arith
 frame_notes (open_at.InRight at sign left) = left.low
-frame_notes (open_at.InArgument at f front) = front.low
+frame_notes (open_at.InArgument at f before) = before.low
 
-place_low : (p : PlaceHere) → place_notes (view_place p) ≤ 400
-place_low (place.LetBinder at) = omega arith
-place_low (place.LetEqual at x) = omega arith
-place_low (place.FieldName at front) = front.low
-place_low (place.FieldEqual at front p x) = front.low
-place_low (place.DotName at e) = e.low
-place_low (place.ArmBegin at l) = l.low
-place_low (place.ArmOpen at l) = l.low
-place_low (place.ArmClose at l) = l.low
-place_low (place.ArmArrow at l) = l.low
-place_low (place.HeadBinder at l a) = omega (arith, l.low, a.low)
-place_low (place.HeadCons at l a x) = omega (arith, l.low, a.low)
-place_low (place.TailBinder at l a x) = omega (arith, l.low, a.low)
-place_low (place.TailArrow at l a x y) = omega (arith, l.low, a.low)
-place_low (place.NilColon at) = omega arith
+expected_low : (p : ExpectedToken) → expected_notes (view_expected p) ≤ greatest_height
+expected_low (expected.LetBinder at) = omega arith
+expected_low (expected.LetEqual at x) = omega arith
+expected_low (expected.FieldName at before) = before.low
+expected_low (expected.FieldEqual at before p x) = before.low
+expected_low (expected.DotName at e) = e.low
+expected_low (expected.ArmBegin at l) = l.low
+expected_low (expected.ArmOpen at l) = l.low
+expected_low (expected.ArmClose at l) = l.low
+expected_low (expected.ArmArrow at l) = l.low
+expected_low (expected.HeadBinder at l a) = omega (arith, l.low, a.low)
+expected_low (expected.HeadCons at l a x) = omega (arith, l.low, a.low)
+expected_low (expected.TailBinder at l a x) = omega (arith, l.low, a.low)
+expected_low (expected.TailArrow at l a x y) = omega (arith, l.low, a.low)
+expected_low (expected.NilColon at) = omega arith
 
-entries_low : (entries : List Entry) (m : ℕ) → m ≤ 400 → notes_over (map entry_frame entries) m ≤ 400
+entries_low : (entries : List Entry) (m : ℕ) → m ≤ greatest_height → notes_over (map entry_frame entries) m ≤ greatest_height
 entries_low [] m low = low
 entries_low (e ∷ entries) m low = entries_low entries (max (notes_side (entry_frame e)) m) (omega (arith, frame_notes e.frame, low))
 
-notes_low : (entries : List Entry) (h : Hand) → notes_least (state_of (stack entries) h) ≤ 400
-notes_low entries hand.Empty = entries_low (reverse entries) 0 (omega arith)
-notes_low entries (hand.Full t) = entries_low (reverse entries) (notes_in (part_expr t)) t.low
-notes_low entries (hand.Greater at left) = entries_low (reverse entries) (notes_in (part_expr left)) left.low
-notes_low entries (hand.Inside p) = entries_low (reverse entries) (place_notes (view_place p)) (place_low p)
-notes_low entries (hand.Note n) = entries_low (reverse entries) (note_least (note_state n.note)) n.low
-notes_low entries (hand.Type at t) = entries_low (reverse entries) (type_least (type_state t)) t.low
+notes_low : (entries : List Entry) (h : Focus) → notes_least (state_of (stack entries) h) ≤ greatest_height
+notes_low entries focus.Wanted = entries_low (reverse entries) 0 (omega arith)
+notes_low entries (focus.Read t) = entries_low (reverse entries) (notes_in (operand_expr t)) t.low
+notes_low entries (focus.Greater at left) = entries_low (reverse entries) (notes_in (operand_expr left)) left.low
+notes_low entries (focus.Inside p) = entries_low (reverse entries) (expected_notes (view_expected p)) (expected_low p)
+notes_low entries (focus.Note n) = entries_low (reverse entries) (note_least (note_state n.note)) n.low
+notes_low entries (focus.Type at t) = entries_low (reverse entries) (type_least (type_state t)) t.low
 
-least_hand : (frames : List Frame) (h : Hand) → expr_least (state_of frames h) ≡ least_over frames (hand_height h)
-least_hand frames hand.Empty = refl
-least_hand frames (hand.Full t) = refl
-least_hand frames (hand.Greater at left) = refl
-least_hand frames (hand.Inside p) = refl
-least_hand frames (hand.Note n) = refl
-least_hand frames (hand.Type at t) = refl
+least_focus : (frames : List Frame) (h : Focus) → expr_least (state_of frames h) ≡ least_over frames (focus_height h)
+least_focus frames focus.Wanted = refl
+least_focus frames (focus.Read t) = refl
+least_focus frames (focus.Greater at left) = refl
+least_focus frames (focus.Inside p) = refl
+least_focus frames (focus.Note n) = refl
+least_focus frames (focus.Type at t) = refl
 
-less : (n : ℕ) → n < 401 → nat_lt n 401 ≡ true
+less : (n : ℕ) → n < (greatest_height + 1) → nat_lt n (greatest_height + 1) ≡ true
 less n low = rw lt-ltb refl
 
-not_less : (n : ℕ) → 401 ≤ n → nat_lt n 401 ≡ false
+not_less : (n : ℕ) → (greatest_height + 1) ≤ n → nat_lt n (greatest_height + 1) ≡ false
 not_less n high = rw le-ltb refl
 
 -- what is counted decides
-same_side : (n m : ℕ) → n ≡ min m 401 → nat_lt n 401 ≡ nat_lt m 401
+same_side : (n m : ℕ) → n ≡ min m (greatest_height + 1) → nat_lt n (greatest_height + 1) ≡ nat_lt m (greatest_height + 1)
 same_side n m e =
-    elim (cases_lt m 401) [
-      | inl low ↦ let same : n ≡ m = omega (arith, e) in ap (λ k. nat_lt k 401) same
-      | inr high ↦ let same : n ≡ 401 = omega (arith, e) in ap (λ k. nat_lt k 401) same ∙ sym (not_less m high)
+    elim (cases_lt m (greatest_height + 1)) [
+      | inl low ↦ let same : n ≡ m = omega (arith, e) in ap (λ k. nat_lt k (greatest_height + 1)) same
+      | inr high ↦ let same : n ≡ (greatest_height + 1) = omega (arith, e) in ap (λ k. nat_lt k (greatest_height + 1)) same ∙ sym (not_less m high)
     ]
 
 -- what is low beside it decides nothing
-beside : (e m : ℕ) → m ≤ 400 → nat_lt e 401 ≡ nat_lt (max e m) 401
+beside : (e m : ℕ) → m ≤ greatest_height → nat_lt e (greatest_height + 1) ≡ nat_lt (max e m) (greatest_height + 1)
 beside e m small =
-    elim (cases_lt e 401) [
+    elim (cases_lt e (greatest_height + 1)) [
       | inl low ↦ less e low ∙ sym (less (max e m) (omega (arith, low, small)))
       | inr high ↦ not_less e high ∙ sym (not_less (max e m) (omega (arith, high)))
     ]
 
-lower : (height frames sum result hh b len e : ℕ) → height ≡ min hh 401 → frames ≡ min b 401 → sum ≡ min (height + min len 401) 401 → result ≡ max frames sum
-    → e ≡ max b (hh + len) → result ≡ min e 401
+lower : (height frames sum result hh b len e : ℕ) → height ≡ min hh (greatest_height + 1) → frames ≡ min b (greatest_height + 1) → sum ≡ min (height + min len (greatest_height + 1)) (greatest_height + 1) → result ≡ max frames sum
+    → e ≡ max b (hh + len) → result ≡ min e (greatest_height + 1)
 lower height frames sum result hh b len e p q r s u = omega (arith, p, q, r, s, u)
 
-pub low_same : (entries : List Entry) (h : Hand) (height sum frames result : ℕ) → height ≡ counted (hand_height h) → frames ≡ counted (base (stack entries))
-    → sum ≡ counted (height + counted (length (stack entries))) → result ≡ max frames sum → nat_lt result 401 ≡ nat_lt (whole_least (state_of (stack entries) h)) 401
+pub low_same : (entries : List Entry) (h : Focus) (height sum frames result : ℕ) → height ≡ counted (focus_height h) → frames ≡ counted (base (stack entries))
+    → sum ≡ counted (height + counted (length (stack entries))) → result ≡ max frames sum → nat_lt result (greatest_height + 1) ≡ nat_lt (whole_least (state_of (stack entries) h)) (greatest_height + 1)
 low_same entries h height sum frames result a b c d =
     let e = expr_least (state_of (stack entries) h) in
-    let above = least_hand (stack entries) h ∙ over_base (stack entries) (hand_height h) in
-    same_side result e (lower height frames sum result (hand_height h) (base (stack entries)) (length (stack entries)) e a b c d above)
+    let above = least_focus (stack entries) h ∙ over_base (stack entries) (focus_height h) in
+    same_side result e (lower height frames sum result (focus_height h) (base (stack entries)) (length (stack entries)) e a b c d above)
     ∙ beside e (notes_least (state_of (stack entries) h)) (notes_low entries h)
 
--- what is at hand is no refusal
-pub goes_on : (frames : List Frame) (h : Hand) → state_of frames h ≢ Refused
-goes_on frames hand.Empty e = absurd cc
-goes_on frames (hand.Full t) e = absurd cc
-goes_on frames (hand.Greater at left) e = absurd cc
-goes_on frames (hand.Inside p) e = absurd cc
-goes_on frames (hand.Note n) e = absurd cc
-goes_on frames (hand.Type at t) e = absurd cc
+-- what is at focus is no refusal
+pub goes_on : (frames : List Frame) (h : Focus) → state_of frames h ≢ Refused
+goes_on frames focus.Wanted e = absurd cc
+goes_on frames (focus.Read t) e = absurd cc
+goes_on frames (focus.Greater at left) e = absurd cc
+goes_on frames (focus.Inside p) e = absurd cc
+goes_on frames (focus.Note n) e = absurd cc
+goes_on frames (focus.Type at t) e = absurd cc

@@ -11,17 +11,20 @@ use Rattle.um_types.specs.UnitMachine.{State as UnitState}
 use Rattle.um_types.specs.NoteMachine.{NoteState, NeedNote, HaveHole, InUnit, NoNote, note_step, note_finish}
 use Rattle.um_types.specs.TypeMachine.{TypeState, NeedType, HaveType, NoType, type_step, type_finish}
 use Rattle.um_types.specs.TypeMachine.{InNote as InTypeNote}
-use Rattle.um_types.proofs.NoteLaws.{NoteStands, note_sound, note_found}
-use Rattle.um_types.proofs.TypeSound.{TypeStands, type_sound, type_found}
-use Rattle.um_expr.specs.declared.mark.Mark.TheVariants as mark
-use Rattle.um_expr.specs.declared.mark.Infix.{Infix}
-use Rattle.um_expr.specs.declared.mark.Infix.TheVariants as between
-use Rattle.um_expr.specs.ExprTokens.{ExprToken, name, number, truth, hole, operator, plain, expr_token, equal, less, greater}
+use Rattle.um_types.proofs.NoteLaws.{NoteSpellsPrefix, note_sound, note_found}
+use Rattle.um_types.proofs.TypeSound.{TypeSpellsPrefix, type_sound, type_found}
+use Rattle.um_syntax.specs.declared.vocabulary.Keyword.TheVariants as keyword
+use Rattle.um_syntax.specs.declared.vocabulary.Symbol.TheVariants as symbol
+use Rattle.um_expr.specs.declared.infix.Infix.{Infix}
+use Rattle.um_expr.specs.declared.infix.Infix.TheVariants as between
+use Rattle.um_expr.specs.declared.token.ExprToken.{ExprToken}
+use Rattle.um_expr.specs.declared.token.ExprToken.TheVariants.{Name as name, Number as number, Truth as truth, Hole as hole, Operator as operator, Word as word, Mark as mark}
+use Rattle.um_expr.specs.ExprTokens.{expr_token, equal, less, greater}
 use Rattle.um_expr.specs.Ranks.{infix_rank, left_limit}
 use Rattle.um_expr.specs.ExprGrammar.{First, FirstAt, FirstGlued, ends_in_number, InfixAt, Spells, rank, Fits}
-use Rattle.um_expr.specs.ExprMachine.{Frame, InBracket, InItem, InField, InValue, InTest, InThen, InMatched, InEmptyArm, InNegate, InNot, InRight, InArgument, top_bound, Place, LetBinder, LetEqual, FieldName, FieldEqual, DotName, ArmBegin, ArmOpen, ArmClose, ArmArrow, HeadBinder, HeadCons, TailBinder, TailArrow, NilColon, State, Need, Have, Greater, Inside, InNote, InType, Refused, reduce, if_may, empty_list, begin, after_greater, argument, begin_in, infix_after, greater_after, less_after, close_after, list_after, record_after, semi_after, in_after, then_after, else_after, with_after, bar_after, after, inside, note_ends, type_ends, note_goes, type_goes, step, whole, finish}
+use Rattle.um_expr.specs.ExprMachine.{Frame, InBracket, InItem, InField, InValue, InTest, InThen, InMatched, InEmptyArm, InNegate, InNot, InRight, InArgument, top_bound, Expected, LetBinder, LetEqual, FieldName, FieldEqual, DotName, ArmBegin, ArmOpen, ArmClose, ArmArrow, HeadBinder, HeadCons, TailBinder, TailArrow, NilColon, State, Need, Have, Greater, Inside, InNote, InType, Refused, reduce, if_may, empty_list, begin, after_greater, argument, begin_in, infix_after, greater_after, less_after, close_after, list_after, record_after, semi_after, in_after, then_after, else_after, with_after, bar_after, after, inside, note_ends, type_ends, note_goes, type_goes, step, whole, finish}
 use Rattle.um_expr.proofs.ExprEnds.{infix_low, arith_low}
-use Rattle.um_expr.proofs.ExprStands.{PlaceReads, FramesRead, FramesFit, Stands, StandsUpTo, items_next, items_last, items_fit, fields_next, fields_last, fields_fit, arguments_last, atoms_last, ended}
+use Rattle.um_expr.proofs.ExprPrefixes.{ExpectedReads, FramesRead, FramesFit, SpellsPrefix, SpellsPrefixUpTo, items_next, items_last, items_fit, fields_next, fields_last, fields_fit, arguments_last, atoms_last, ended}
 
 -- the token, with all that the machine looks at
 abbrev pub Next : ExprToken → ℕ → Bool → List Token → List Token → Type 0
@@ -33,7 +36,7 @@ at_of what at glued tokens rest n = (n.0, n.1, n.2, n.4)
 first_of : (what : ExprToken) (at : ℕ) (tokens rest : List Token) → FirstAt what at tokens rest → First what tokens rest
 first_of what at tokens rest n = (n.0, n.1, n.3)
 
-may_sound : (frames : List Frame) (rank : ℕ) (st : State) (tokens rest : List Token) → (rank < top_bound frames → Stands st tokens rest) → Stands (if_may frames rank st) tokens rest
+may_sound : (frames : List Frame) (rank : ℕ) (st : State) (tokens rest : List Token) → (rank < top_bound frames → SpellsPrefix st tokens rest) → SpellsPrefix (if_may frames rank st) tokens rest
 may_sound frames rank st tokens rest h =
     elim (cases_lt rank (top_bound frames)) [
       | inl lt ↦ rw lt-ltb (h lt)
@@ -42,40 +45,40 @@ may_sound frames rank st tokens rest h =
 
 -- ---- an operand begins
 
-empty_sound : (frames : List Frame) (tokens mid rest : List Token) → FramesRead frames tokens mid → FramesFit frames → First (plain mark.ListClose) mid rest → Stands (empty_list frames) tokens rest
+empty_sound : (frames : List Frame) (tokens mid rest : List Token) → FramesRead frames tokens mid → FramesFit frames → First (mark symbol.RightBracket) mid rest → SpellsPrefix (empty_list frames) tokens rest
 empty_sound (InItem m [] ∷ InBracket at ∷ frames) tokens mid rest r f s =
     let o = r.1.1 in
     let c = r.2 in
     (r.1.0, o, (r.0, mid, r.1.2, (c.1.0, c.1.1, c.1.3 ∙ ap (λ w. c.1.0 ∷ w) c.2), s), f.1.1, tt)
 empty_sound _ tokens mid rest r f s = tt
 
-begin_sound : (frames : List Frame) (what : ExprToken) (at : ℕ) (tokens mid rest : List Token) → FramesRead frames tokens mid → FramesFit frames → FirstAt what at mid rest → Stands (begin frames what at) tokens rest
+begin_sound : (frames : List Frame) (what : ExprToken) (at : ℕ) (tokens mid rest : List Token) → FramesRead frames tokens mid → FramesFit frames → FirstAt what at mid rest → SpellsPrefix (begin frames what at) tokens rest
 begin_sound frames (name x) at tokens mid rest r f s = (mid, r, s, f, tt, refl)
 begin_sound frames (number c) at tokens mid rest r f s = (mid, r, (rest, s, refl), f, tt, refl)
 begin_sound frames (truth b) at tokens mid rest r f s = (mid, r, s, f, tt, refl)
-begin_sound frames (plain mark.Open) at tokens mid rest r f s = ((mid, r, s), (tt, f))
-begin_sound frames (plain mark.ListOpen) at tokens mid rest r f s = ((mid, r, (rest, s, refl)), (tt, f))
-begin_sound frames (plain mark.ListClose) at tokens mid rest r f s = empty_sound frames tokens mid rest r f (s.0, s.1, s.3)
-begin_sound frames (plain mark.RecordOpen) at tokens mid rest r f s = (mid, r, (rest, s, refl), f, tt)
-begin_sound frames (plain mark.Let) at tokens mid rest r f s = may_sound frames 9 (Inside frames (LetBinder at)) tokens rest (λ lt. (mid, r, s, f, lt))
-begin_sound frames (plain mark.If) at tokens mid rest r f s = may_sound frames 9 (Need (InTest at ∷ frames)) tokens rest (λ lt. ((mid, r, s), (lt, f)))
-begin_sound frames (plain mark.Match) at tokens mid rest r f s = may_sound frames 9 (Need (InMatched at ∷ frames)) tokens rest (λ lt. ((mid, r, s), (lt, f)))
-begin_sound frames (plain mark.Not) at tokens mid rest r f s = may_sound frames 1 (Need (InNot at ∷ frames)) tokens rest (λ lt. ((mid, r, s), (lt, f)))
+begin_sound frames (mark symbol.LeftParen) at tokens mid rest r f s = ((mid, r, s), (tt, f))
+begin_sound frames (mark symbol.LeftBracket) at tokens mid rest r f s = ((mid, r, (rest, s, refl)), (tt, f))
+begin_sound frames (mark symbol.RightBracket) at tokens mid rest r f s = empty_sound frames tokens mid rest r f (s.0, s.1, s.3)
+begin_sound frames (mark symbol.LeftBrace) at tokens mid rest r f s = (mid, r, (rest, s, refl), f, tt)
+begin_sound frames (word keyword.Let) at tokens mid rest r f s = may_sound frames 9 (Inside frames (LetBinder at)) tokens rest (λ lt. (mid, r, s, f, lt))
+begin_sound frames (word keyword.If) at tokens mid rest r f s = may_sound frames 9 (Need (InTest at ∷ frames)) tokens rest (λ lt. ((mid, r, s), (lt, f)))
+begin_sound frames (word keyword.Match) at tokens mid rest r f s = may_sound frames 9 (Need (InMatched at ∷ frames)) tokens rest (λ lt. ((mid, r, s), (lt, f)))
+begin_sound frames (word keyword.Not) at tokens mid rest r f s = may_sound frames 1 (Need (InNot at ∷ frames)) tokens rest (λ lt. ((mid, r, s), (lt, f)))
 begin_sound frames (operator (between.Arith arith_of.Sub)) at tokens mid rest r f s = may_sound frames 2 (Need (InNegate at ∷ frames)) tokens rest (λ lt. ((mid, r, s), (lt, f)))
 begin_sound frames _ at tokens mid rest r f s = tt
 
 -- behind `>`
-greater_frame : (frames : List Frame) (place : ℕ) (left : ExprSyntax) (tokens rest : List Token) → Stands (Greater frames place left) tokens rest
+greater_frame : (frames : List Frame) (place : ℕ) (left : ExprSyntax) (tokens rest : List Token) → SpellsPrefix (Greater frames place left) tokens rest
     → FramesRead (InRight place (between.Compare compare.Gt) left ∷ frames) tokens rest × FramesFit (InRight place (between.Compare compare.Gt) left ∷ frames)
 greater_frame frames place left tokens rest h = ((h.0, h.2, (h.1, h.3, h.4)), ((h.6, h.7, h.8), h.5))
 
-at_least_sound : (frames : List Frame) (place : ℕ) (left : ExprSyntax) (at : ℕ) (glued : Bool) (tokens mid rest : List Token) → Stands (Greater frames place left) tokens mid → Next equal at glued mid rest
-    → Stands (cond glued (Need (InRight place (between.Compare compare.Ge) left ∷ frames)) Refused) tokens rest
+at_least_sound : (frames : List Frame) (place : ℕ) (left : ExprSyntax) (at : ℕ) (glued : Bool) (tokens mid rest : List Token) → SpellsPrefix (Greater frames place left) tokens mid → Next equal at glued mid rest
+    → SpellsPrefix (cond glued (Need (InRight place (between.Compare compare.Ge) left ∷ frames)) Refused) tokens rest
 at_least_sound frames place left at true tokens mid rest h s = ((h.0, h.2, (h.1, h.3, (mid, h.4, (s.0, s.1, s.3, s.4)))), ((h.6, h.7, h.8), h.5))
 at_least_sound frames place left at false tokens mid rest h s = tt
 
-after_greater_sound : (frames : List Frame) (place : ℕ) (left : ExprSyntax) (what : ExprToken) (at : ℕ) (glued : Bool) (tokens mid rest : List Token) → Stands (Greater frames place left) tokens mid
-    → Next what at glued mid rest → Stands (after_greater frames place left what at glued) tokens rest
+after_greater_sound : (frames : List Frame) (place : ℕ) (left : ExprSyntax) (what : ExprToken) (at : ℕ) (glued : Bool) (tokens mid rest : List Token) → SpellsPrefix (Greater frames place left) tokens mid
+    → Next what at glued mid rest → SpellsPrefix (after_greater frames place left what at glued) tokens rest
 after_greater_sound frames place left (operator (between.Compare compare.Eq)) at glued tokens mid rest h s = at_least_sound frames place left at glued tokens mid rest h s
 after_greater_sound frames place left what at glued tokens mid rest h s =
     let g = greater_frame frames place left tokens mid h in
@@ -95,25 +98,25 @@ first_argument_sound at f frames tokens mid rest r s fit =
       | inr not ↦ rw le-ltb tt
     ]
 
-argument_sound : (frames : List Frame) (t : ExprSyntax) (tokens rest : List Token) → Stands (Have frames t) tokens rest → OpenedTo (argument frames t) tokens rest
-argument_sound (InArgument at f front ∷ frames) t tokens rest h =
+argument_sound : (frames : List Frame) (t : ExprSyntax) (tokens rest : List Token) → SpellsPrefix (Have frames t) tokens rest → OpenedTo (argument frames t) tokens rest
+argument_sound (InArgument at f before ∷ frames) t tokens rest h =
     let r = h.1 in
-    ((r.0, r.1, (r.2.0, r.2.1, arguments_last front t r.2.0 h.0 rest r.2.2 h.2)), ((h.3.0.0, atoms_last front t h.3.0.1 h.4 h.5), h.3.1))
+    ((r.0, r.1, (r.2.0, r.2.1, arguments_last before t r.2.0 h.0 rest r.2.2 h.2)), ((h.3.0.0, atoms_last before t h.3.0.1 h.4 h.5), h.3.1))
 argument_sound [] (name_syntax at f) tokens rest h = first_argument_sound at f [] tokens h.0 rest h.1 h.2 h.3
 argument_sound (frame ∷ frames) (name_syntax at f) tokens rest h = first_argument_sound at f (frame ∷ frames) tokens h.0 rest h.1 h.2 h.3
 argument_sound _ _ tokens rest h = tt
 
-begin_in_sound : (o : Option (List Frame)) (what : ExprToken) (at : ℕ) (tokens mid rest : List Token) → OpenedTo o tokens mid → FirstAt what at mid rest → Stands (begin_in o what at) tokens rest
+begin_in_sound : (o : Option (List Frame)) (what : ExprToken) (at : ℕ) (tokens mid rest : List Token) → OpenedTo o tokens mid → FirstAt what at mid rest → SpellsPrefix (begin_in o what at) tokens rest
 begin_in_sound (Some frames) what at tokens mid rest h s = begin_sound frames what at tokens mid rest h.0 h.1 s
 begin_in_sound None what at tokens mid rest h s = tt
 
-argues : (frames : List Frame) (t : ExprSyntax) (what : ExprToken) (at : ℕ) (tokens mid rest : List Token) → Stands (Have frames t) tokens mid → FirstAt what at mid rest → Stands (begin_in (argument frames t) what at) tokens rest
+argues : (frames : List Frame) (t : ExprSyntax) (what : ExprToken) (at : ℕ) (tokens mid rest : List Token) → SpellsPrefix (Have frames t) tokens mid → FirstAt what at mid rest → SpellsPrefix (begin_in (argument frames t) what at) tokens rest
 argues frames t what at tokens mid rest h s = begin_in_sound (argument frames t) what at tokens mid rest (argument_sound frames t tokens mid h) s
 
 -- ---- signs between two operands
 
 infix_sound : (sign : Infix) (last : ExprSyntax) (st : State) (at : ℕ) (tokens mid rest : List Token) → ((t : ExprSyntax) → ends_in_number t ≡ ends_in_number last → InfixAt sign (ends_in_number t) at mid rest)
-    → StandsUpTo (left_limit sign) last st tokens mid → Stands (infix_after sign at st) tokens rest
+    → SpellsPrefixUpTo (left_limit sign) last st tokens mid → SpellsPrefix (infix_after sign at st) tokens rest
 infix_sound sign last (Have frames t) at tokens mid rest s h =
     may_sound frames (infix_rank sign) (Need (InRight at sign t ∷ frames)) tokens rest (λ lt. ((h.0, h.1, (mid, h.2, s t h.7)), ((lt, h.6, h.4), h.3)))
 infix_sound sign last (Need frames) at tokens mid rest s h = absurd h
@@ -126,11 +129,11 @@ infix_sound sign last Refused at tokens mid rest s h = absurd h
 left_small : (sign : Infix) → left_limit sign < 10
 left_small sign = omega (arith, infix_low sign)
 
-infix_then : (frames : List Frame) (t : ExprSyntax) (sign : Infix) (at : ℕ) (tokens mid rest : List Token) → Stands (Have frames t) tokens mid
-    → ((u : ExprSyntax) → ends_in_number u ≡ ends_in_number t → InfixAt sign (ends_in_number u) at mid rest) → Stands (infix_after sign at (reduce (left_limit sign) frames t)) tokens rest
+infix_then : (frames : List Frame) (t : ExprSyntax) (sign : Infix) (at : ℕ) (tokens mid rest : List Token) → SpellsPrefix (Have frames t) tokens mid
+    → ((u : ExprSyntax) → ends_in_number u ≡ ends_in_number t → InfixAt sign (ends_in_number u) at mid rest) → SpellsPrefix (infix_after sign at (reduce (left_limit sign) frames t)) tokens rest
 infix_then frames t sign at tokens mid rest h s = infix_sound sign t (reduce (left_limit sign) frames t) at tokens mid rest s (ended (left_limit sign) frames t tokens mid (left_small sign) h)
 
-greater_sound : (last : ExprSyntax) (st : State) (at : ℕ) (tokens mid rest : List Token) → FirstAt greater at mid rest → StandsUpTo 5 last st tokens mid → Stands (greater_after at st) tokens rest
+greater_sound : (last : ExprSyntax) (st : State) (at : ℕ) (tokens mid rest : List Token) → FirstAt greater at mid rest → SpellsPrefixUpTo 5 last st tokens mid → SpellsPrefix (greater_after at st) tokens rest
 greater_sound last (Have frames t) at tokens mid rest s h = may_sound frames 6 (Greater frames at t) tokens rest (λ lt. (h.0, mid, h.1, h.2, s, h.3, lt, h.6, h.4))
 greater_sound last (Need frames) at tokens mid rest s h = absurd h
 greater_sound last (Greater frames p l) at tokens mid rest s h = absurd h
@@ -142,12 +145,12 @@ greater_sound last Refused at tokens mid rest s h = absurd h
 need_note : NeedNote ≢ NoNote
 need_note e = cc
 
-less_then : (frames : List Frame) (t : ExprSyntax) (at : ℕ) (glued : Bool) (tokens mid rest : List Token) → Stands (Have frames t) tokens mid → Next less at glued mid rest
-    → (ends_in_number t ≡ true → glued ≡ false) → Stands (infix_after (between.Compare compare.Lt) at (reduce 5 frames t)) tokens rest
+less_then : (frames : List Frame) (t : ExprSyntax) (at : ℕ) (glued : Bool) (tokens mid rest : List Token) → SpellsPrefix (Have frames t) tokens mid → Next less at glued mid rest
+    → (ends_in_number t ≡ true → glued ≡ false) → SpellsPrefix (infix_after (between.Compare compare.Lt) at (reduce 5 frames t)) tokens rest
 less_then frames t at glued tokens mid rest h s free =
     infix_then frames t (between.Compare compare.Lt) at tokens mid rest h (λ u e. (s.0, s.1, s.2, (λ n. s.3 ∙ free (sym e ∙ n)), s.4))
 
-less_sound : (frames : List Frame) (t : ExprSyntax) (glued : Bool) (at : ℕ) (tokens mid rest : List Token) → Stands (Have frames t) tokens mid → Next less at glued mid rest → Stands (less_after frames t glued at) tokens rest
+less_sound : (frames : List Frame) (t : ExprSyntax) (glued : Bool) (at : ℕ) (tokens mid rest : List Token) → SpellsPrefix (Have frames t) tokens mid → Next less at glued mid rest → SpellsPrefix (less_after frames t glued at) tokens rest
 less_sound frames t false at tokens mid rest h s = less_then frames t at false tokens mid rest h s (λ n. refl)
 less_sound frames (number_syntax p c None) true at tokens mid rest h s =
     (h.0, mid, rest, h.1, (h.2.1.0, h.2.1.1, h.2.1.2, h.2.1.3 ∙ ap (λ w. h.2.1.0 ∷ w) h.2.2), (s.0, s.1, s.3, s.4), refl, h.3, need_note)
@@ -173,72 +176,72 @@ less_sound frames (match_syntax p l a x y b) true at tokens mid rest h s = absur
 
 -- ---- what ends a frame
 
-close_sound : (last : ExprSyntax) (st : State) (tokens mid rest : List Token) → First (plain mark.Close) mid rest → StandsUpTo 9 last st tokens mid → Stands (close_after st) tokens rest
+close_sound : (last : ExprSyntax) (st : State) (tokens mid rest : List Token) → First (mark symbol.RightParen) mid rest → SpellsPrefixUpTo 9 last st tokens mid → SpellsPrefix (close_after st) tokens rest
 close_sound last (Have (InBracket at ∷ frames) t) tokens mid rest s h = (h.1.0, h.1.1, (h.0, mid, h.1.2, h.2, s), h.3.1, h.4, refl)
 close_sound last _ tokens mid rest s h = tt
 
-list_sound : (last : ExprSyntax) (st : State) (tokens mid rest : List Token) → First (plain mark.ListClose) mid rest → StandsUpTo 9 last st tokens mid → Stands (list_after st) tokens rest
-list_sound last (Have (InItem at front ∷ frames) t) tokens mid rest s h =
-    let r = h.1 in (r.0, r.1, (r.2.0, mid, r.2.1, items_last front t r.2.0 h.0 mid r.2.2 h.2, s), h.3.1, items_fit front t h.3.0 h.4, refl)
+list_sound : (last : ExprSyntax) (st : State) (tokens mid rest : List Token) → First (mark symbol.RightBracket) mid rest → SpellsPrefixUpTo 9 last st tokens mid → SpellsPrefix (list_after st) tokens rest
+list_sound last (Have (InItem at before ∷ frames) t) tokens mid rest s h =
+    let r = h.1 in (r.0, r.1, (r.2.0, mid, r.2.1, items_last before t r.2.0 h.0 mid r.2.2 h.2, s), h.3.1, items_fit before t h.3.0 h.4, refl)
 list_sound last _ tokens mid rest s h = tt
 
-record_sound : (last : ExprSyntax) (st : State) (tokens mid rest : List Token) → First (plain mark.RecordClose) mid rest → StandsUpTo 9 last st tokens mid → Stands (record_after st) tokens rest
-record_sound last (Have (InField at front place x ∷ frames) t) tokens mid rest s h =
+record_sound : (last : ExprSyntax) (st : State) (tokens mid rest : List Token) → First (mark symbol.RightBrace) mid rest → SpellsPrefixUpTo 9 last st tokens mid → SpellsPrefix (record_after st) tokens rest
+record_sound last (Have (InField at before place x ∷ frames) t) tokens mid rest s h =
     let r = h.1 in
     let p = r.2 in
-    (r.0, r.1, (p.0, mid, p.3, fields_last front place x t p.0 p.1 p.2 h.0 mid p.4 p.5 p.6 h.2, s), h.3.1, fields_fit front place x t h.3.0 h.4, refl)
+    (r.0, r.1, (p.0, mid, p.3, fields_last before place x t p.0 p.1 p.2 h.0 mid p.4 p.5 p.6 h.2, s), h.3.1, fields_fit before place x t h.3.0 h.4, refl)
 record_sound last _ tokens mid rest s h = tt
 
-semi_sound : (last : ExprSyntax) (st : State) (tokens mid rest : List Token) → First (plain mark.Semi) mid rest → StandsUpTo 9 last st tokens mid → Stands (semi_after st) tokens rest
-semi_sound last (Have (InItem at front ∷ frames) t) tokens mid rest s h =
-    let r = h.1 in ((r.0, r.1, (r.2.0, r.2.1, items_next front t r.2.0 h.0 mid rest r.2.2 h.2 s)), (items_fit front t h.3.0 h.4, h.3.1))
-semi_sound last (Have (InField at front place x ∷ frames) t) tokens mid rest s h =
+semi_sound : (last : ExprSyntax) (st : State) (tokens mid rest : List Token) → First (mark symbol.Semicolon) mid rest → SpellsPrefixUpTo 9 last st tokens mid → SpellsPrefix (semi_after st) tokens rest
+semi_sound last (Have (InItem at before ∷ frames) t) tokens mid rest s h =
+    let r = h.1 in ((r.0, r.1, (r.2.0, r.2.1, items_next before t r.2.0 h.0 mid rest r.2.2 h.2 s)), (items_fit before t h.3.0 h.4, h.3.1))
+semi_sound last (Have (InField at before place x ∷ frames) t) tokens mid rest s h =
     let r = h.1 in
     let p = r.2 in
-    (r.0, r.1, (p.0, p.3, fields_next front place x t p.0 p.1 p.2 h.0 mid rest p.4 p.5 p.6 h.2 s), h.3.1, fields_fit front place x t h.3.0 h.4)
+    (r.0, r.1, (p.0, p.3, fields_next before place x t p.0 p.1 p.2 h.0 mid rest p.4 p.5 p.6 h.2 s), h.3.1, fields_fit before place x t h.3.0 h.4)
 semi_sound last _ tokens mid rest s h = tt
 
-in_sound : (last : ExprSyntax) (st : State) (tokens mid rest : List Token) → First (plain mark.In) mid rest → StandsUpTo 9 last st tokens mid → Stands (in_after st) tokens rest
+in_sound : (last : ExprSyntax) (st : State) (tokens mid rest : List Token) → First (word keyword.In) mid rest → SpellsPrefixUpTo 9 last st tokens mid → SpellsPrefix (in_after st) tokens rest
 in_sound last (Have (InValue at x ∷ frames) t) tokens mid rest s h = ((h.1.0, h.1.1, (h.0, mid, h.1.2, h.2, s)), ((h.3.0, h.4), h.3.1))
 in_sound last _ tokens mid rest s h = tt
 
-then_sound : (last : ExprSyntax) (st : State) (tokens mid rest : List Token) → First (plain mark.Then) mid rest → StandsUpTo 9 last st tokens mid → Stands (then_after st) tokens rest
+then_sound : (last : ExprSyntax) (st : State) (tokens mid rest : List Token) → First (word keyword.Then) mid rest → SpellsPrefixUpTo 9 last st tokens mid → SpellsPrefix (then_after st) tokens rest
 then_sound last (Have (InTest at ∷ frames) t) tokens mid rest s h = ((h.1.0, h.1.1, (h.0, mid, h.1.2, h.2, s)), ((h.3.0, h.4), h.3.1))
 then_sound last _ tokens mid rest s h = tt
 
-else_sound : (last : ExprSyntax) (st : State) (tokens mid rest : List Token) → First (plain mark.Else) mid rest → StandsUpTo 9 last st tokens mid → Stands (else_after st) tokens rest
+else_sound : (last : ExprSyntax) (st : State) (tokens mid rest : List Token) → First (word keyword.Else) mid rest → SpellsPrefixUpTo 9 last st tokens mid → SpellsPrefix (else_after st) tokens rest
 else_sound last (Have (InThen at c ∷ frames) t) tokens mid rest s h = ((h.1.0, h.1.1, (h.0, mid, h.1.2, h.2, s)), ((h.3.0.0, h.3.0.1, h.4), h.3.1))
 else_sound last _ tokens mid rest s h = tt
 
-with_sound : (last : ExprSyntax) (st : State) (tokens mid rest : List Token) → First (plain mark.With) mid rest → StandsUpTo 9 last st tokens mid → Stands (with_after st) tokens rest
+with_sound : (last : ExprSyntax) (st : State) (tokens mid rest : List Token) → First (word keyword.With) mid rest → SpellsPrefixUpTo 9 last st tokens mid → SpellsPrefix (with_after st) tokens rest
 with_sound last (Have (InMatched at ∷ frames) t) tokens mid rest s h = (h.1.0, h.1.1, (h.0, mid, h.1.2, h.2, s), h.3.1, (h.3.0, h.4))
 with_sound last _ tokens mid rest s h = tt
 
-bar_sound : (last : ExprSyntax) (st : State) (tokens mid rest : List Token) → First (plain mark.Bar) mid rest → StandsUpTo 9 last st tokens mid → Stands (bar_after st) tokens rest
+bar_sound : (last : ExprSyntax) (st : State) (tokens mid rest : List Token) → First (mark symbol.Bar) mid rest → SpellsPrefixUpTo 9 last st tokens mid → SpellsPrefix (bar_after st) tokens rest
 bar_sound last (Have (InEmptyArm at l ∷ frames) t) tokens mid rest s h = (h.1.0, h.1.1, (h.0, mid, h.1.2, h.2, s), h.3.1, (h.3.0.0, h.3.0.1, h.4))
 bar_sound last _ tokens mid rest s h = tt
 
-all_ended : (frames : List Frame) (t : ExprSyntax) (tokens mid : List Token) → Stands (Have frames t) tokens mid → StandsUpTo 9 t (reduce 9 frames t) tokens mid
+all_ended : (frames : List Frame) (t : ExprSyntax) (tokens mid : List Token) → SpellsPrefix (Have frames t) tokens mid → SpellsPrefixUpTo 9 t (reduce 9 frames t) tokens mid
 all_ended frames t tokens mid h = ended 9 frames t tokens mid (omega arith) h
 
-after_sound : (frames : List Frame) (t : ExprSyntax) (what : ExprToken) (at : ℕ) (glued : Bool) (tokens mid rest : List Token) → Stands (Have frames t) tokens mid → Next what at glued mid rest
-    → Stands (after frames t what at glued) tokens rest
+after_sound : (frames : List Frame) (t : ExprSyntax) (what : ExprToken) (at : ℕ) (glued : Bool) (tokens mid rest : List Token) → SpellsPrefix (Have frames t) tokens mid → Next what at glued mid rest
+    → SpellsPrefix (after frames t what at glued) tokens rest
 after_sound frames t (name x) at glued tokens mid rest h s = argues frames t (name x) at tokens mid rest h (s.0, s.1, s.2, s.4)
 after_sound frames t (number c) at glued tokens mid rest h s = argues frames t (number c) at tokens mid rest h (s.0, s.1, s.2, s.4)
 after_sound frames t (truth b) at glued tokens mid rest h s = argues frames t (truth b) at tokens mid rest h (s.0, s.1, s.2, s.4)
-after_sound frames t (plain mark.Open) at glued tokens mid rest h s = argues frames t (plain mark.Open) at tokens mid rest h (s.0, s.1, s.2, s.4)
-after_sound frames t (plain mark.ListOpen) at glued tokens mid rest h s = argues frames t (plain mark.ListOpen) at tokens mid rest h (s.0, s.1, s.2, s.4)
-after_sound frames t (plain mark.RecordOpen) at glued tokens mid rest h s = argues frames t (plain mark.RecordOpen) at tokens mid rest h (s.0, s.1, s.2, s.4)
-after_sound frames t (plain mark.Dot) at glued tokens mid rest h s = (h.0, h.1, (mid, h.2, (s.0, s.1, s.2, s.4)), h.3, (h.5, h.4))
-after_sound frames t (plain mark.Close) at glued tokens mid rest h s = close_sound t (reduce 9 frames t) tokens mid rest (s.0, s.1, s.4) (all_ended frames t tokens mid h)
-after_sound frames t (plain mark.ListClose) at glued tokens mid rest h s = list_sound t (reduce 9 frames t) tokens mid rest (s.0, s.1, s.4) (all_ended frames t tokens mid h)
-after_sound frames t (plain mark.RecordClose) at glued tokens mid rest h s = record_sound t (reduce 9 frames t) tokens mid rest (s.0, s.1, s.4) (all_ended frames t tokens mid h)
-after_sound frames t (plain mark.Semi) at glued tokens mid rest h s = semi_sound t (reduce 9 frames t) tokens mid rest (s.0, s.1, s.4) (all_ended frames t tokens mid h)
-after_sound frames t (plain mark.In) at glued tokens mid rest h s = in_sound t (reduce 9 frames t) tokens mid rest (s.0, s.1, s.4) (all_ended frames t tokens mid h)
-after_sound frames t (plain mark.Then) at glued tokens mid rest h s = then_sound t (reduce 9 frames t) tokens mid rest (s.0, s.1, s.4) (all_ended frames t tokens mid h)
-after_sound frames t (plain mark.Else) at glued tokens mid rest h s = else_sound t (reduce 9 frames t) tokens mid rest (s.0, s.1, s.4) (all_ended frames t tokens mid h)
-after_sound frames t (plain mark.With) at glued tokens mid rest h s = with_sound t (reduce 9 frames t) tokens mid rest (s.0, s.1, s.4) (all_ended frames t tokens mid h)
-after_sound frames t (plain mark.Bar) at glued tokens mid rest h s = bar_sound t (reduce 9 frames t) tokens mid rest (s.0, s.1, s.4) (all_ended frames t tokens mid h)
+after_sound frames t (mark symbol.LeftParen) at glued tokens mid rest h s = argues frames t (mark symbol.LeftParen) at tokens mid rest h (s.0, s.1, s.2, s.4)
+after_sound frames t (mark symbol.LeftBracket) at glued tokens mid rest h s = argues frames t (mark symbol.LeftBracket) at tokens mid rest h (s.0, s.1, s.2, s.4)
+after_sound frames t (mark symbol.LeftBrace) at glued tokens mid rest h s = argues frames t (mark symbol.LeftBrace) at tokens mid rest h (s.0, s.1, s.2, s.4)
+after_sound frames t (mark symbol.Dot) at glued tokens mid rest h s = (h.0, h.1, (mid, h.2, (s.0, s.1, s.2, s.4)), h.3, (h.5, h.4))
+after_sound frames t (mark symbol.RightParen) at glued tokens mid rest h s = close_sound t (reduce 9 frames t) tokens mid rest (s.0, s.1, s.4) (all_ended frames t tokens mid h)
+after_sound frames t (mark symbol.RightBracket) at glued tokens mid rest h s = list_sound t (reduce 9 frames t) tokens mid rest (s.0, s.1, s.4) (all_ended frames t tokens mid h)
+after_sound frames t (mark symbol.RightBrace) at glued tokens mid rest h s = record_sound t (reduce 9 frames t) tokens mid rest (s.0, s.1, s.4) (all_ended frames t tokens mid h)
+after_sound frames t (mark symbol.Semicolon) at glued tokens mid rest h s = semi_sound t (reduce 9 frames t) tokens mid rest (s.0, s.1, s.4) (all_ended frames t tokens mid h)
+after_sound frames t (word keyword.In) at glued tokens mid rest h s = in_sound t (reduce 9 frames t) tokens mid rest (s.0, s.1, s.4) (all_ended frames t tokens mid h)
+after_sound frames t (word keyword.Then) at glued tokens mid rest h s = then_sound t (reduce 9 frames t) tokens mid rest (s.0, s.1, s.4) (all_ended frames t tokens mid h)
+after_sound frames t (word keyword.Else) at glued tokens mid rest h s = else_sound t (reduce 9 frames t) tokens mid rest (s.0, s.1, s.4) (all_ended frames t tokens mid h)
+after_sound frames t (word keyword.With) at glued tokens mid rest h s = with_sound t (reduce 9 frames t) tokens mid rest (s.0, s.1, s.4) (all_ended frames t tokens mid h)
+after_sound frames t (mark symbol.Bar) at glued tokens mid rest h s = bar_sound t (reduce 9 frames t) tokens mid rest (s.0, s.1, s.4) (all_ended frames t tokens mid h)
 after_sound frames t (operator (between.Compare compare.Lt)) at glued tokens mid rest h s = less_sound frames t glued at tokens mid rest h s
 after_sound frames t (operator (between.Compare compare.Gt)) at glued tokens mid rest h s =
     greater_sound t (reduce 5 frames t) at tokens mid rest (s.0, s.1, s.2, s.4) (ended 5 frames t tokens mid (omega arith) h)
@@ -254,19 +257,19 @@ after_sound frames t _ at glued tokens mid rest h s = tt
 
 -- ---- inside a run of tokens that is fixed
 
-inside_sound : (frames : List Frame) (place : Place) (what : ExprToken) (at : ℕ) (tokens mid rest : List Token) → Stands (Inside frames place) tokens mid → FirstAt what at mid rest
-    → Stands (inside frames place what at) tokens rest
+inside_sound : (frames : List Frame) (expected : Expected) (what : ExprToken) (at : ℕ) (tokens mid rest : List Token) → SpellsPrefix (Inside frames expected) tokens mid → FirstAt what at mid rest
+    → SpellsPrefix (inside frames expected what at) tokens rest
 inside_sound frames (LetBinder p) (name x) at tokens mid rest h s = (h.0, h.1, (mid, h.2, s), h.3, h.4)
 inside_sound frames (LetBinder p) hole at tokens mid rest h s = (h.0, h.1, (mid, h.2, s), h.3, h.4)
 inside_sound frames (LetEqual p x) (operator (between.Compare compare.Eq)) at tokens mid rest h s = ((h.0, h.1, (h.2.0, mid, h.2.1, h.2.2, (s.0, s.1, s.3))), (h.4, h.3))
-inside_sound frames (FieldName p front) (name x) at tokens mid rest h s = (h.0, h.1, (h.2.0, mid, h.2.1, h.2.2, s), h.3, h.4)
-inside_sound frames (FieldEqual p front place x) (operator (between.Compare compare.Eq)) at tokens mid rest h s = ((h.0, h.1, (h.2.0, h.2.1, mid, h.2.2, h.2.3, h.2.4, (s.0, s.1, s.3))), (h.4, h.3))
+inside_sound frames (FieldName p before) (name x) at tokens mid rest h s = (h.0, h.1, (h.2.0, mid, h.2.1, h.2.2, s), h.3, h.4)
+inside_sound frames (FieldEqual p before place x) (operator (between.Compare compare.Eq)) at tokens mid rest h s = ((h.0, h.1, (h.2.0, h.2.1, mid, h.2.2, h.2.3, h.2.4, (s.0, s.1, s.3))), (h.4, h.3))
 inside_sound frames (DotName p e) (name x) at tokens mid rest h s = (h.0, h.1, (h.2.0, mid, h.2.1, h.2.2, s), h.3, (h.4.0, h.4.1), refl)
-inside_sound frames (ArmBegin p l) (plain mark.Bar) at tokens mid rest h s = (h.0, h.1, (h.2.0, h.2.1, mid, h.2.2, h.2.3, h.2.4, (s.0, s.1, s.3)), h.3, h.4)
-inside_sound frames (ArmBegin p l) (plain mark.ListOpen) at tokens mid rest h s = (h.0, h.1, (h.2.0, h.2.1, h.2.2, h.2.3, (mid, mid, h.2.4, inl refl, (s.0, s.1, s.3))), h.3, h.4)
-inside_sound frames (ArmOpen p l) (plain mark.ListOpen) at tokens mid rest h s = (h.0, h.1, (h.2.0, h.2.1, h.2.3, h.2.4, (h.2.2, mid, h.2.5, inr h.2.6, (s.0, s.1, s.3))), h.3, h.4)
-inside_sound frames (ArmClose p l) (plain mark.ListClose) at tokens mid rest h s = (h.0, h.1, (h.2.0, h.2.1, mid, h.2.2, h.2.3, h.2.4, (s.0, s.1, s.3)), h.3, h.4)
-inside_sound frames (ArmArrow p l) (plain mark.Arrow) at tokens mid rest h s =
+inside_sound frames (ArmBegin p l) (mark symbol.Bar) at tokens mid rest h s = (h.0, h.1, (h.2.0, h.2.1, mid, h.2.2, h.2.3, h.2.4, (s.0, s.1, s.3)), h.3, h.4)
+inside_sound frames (ArmBegin p l) (mark symbol.LeftBracket) at tokens mid rest h s = (h.0, h.1, (h.2.0, h.2.1, h.2.2, h.2.3, (mid, mid, h.2.4, inl refl, (s.0, s.1, s.3))), h.3, h.4)
+inside_sound frames (ArmOpen p l) (mark symbol.LeftBracket) at tokens mid rest h s = (h.0, h.1, (h.2.0, h.2.1, h.2.3, h.2.4, (h.2.2, mid, h.2.5, inr h.2.6, (s.0, s.1, s.3))), h.3, h.4)
+inside_sound frames (ArmClose p l) (mark symbol.RightBracket) at tokens mid rest h s = (h.0, h.1, (h.2.0, h.2.1, mid, h.2.2, h.2.3, h.2.4, (s.0, s.1, s.3)), h.3, h.4)
+inside_sound frames (ArmArrow p l) (mark symbol.Arrow) at tokens mid rest h s =
     let r = h.2 in
     let a = r.5 in
     ((h.0, h.1, (r.0, r.1, r.3, r.4, (a.0, a.1, r.2, mid, a.2, a.3, a.4, r.6, (s.0, s.1, s.3)))), (h.4, h.3))
@@ -275,10 +278,10 @@ inside_sound frames (HeadBinder p l a) hole at tokens mid rest h s = (h.0, h.1, 
 inside_sound frames (HeadCons p l a x) (operator between.Cons) at tokens mid rest h s = (h.0, h.1, (h.2.0, h.2.1, h.2.2, mid, h.2.3, h.2.4, h.2.5, h.2.6, (s.0, s.1, s.3)), h.3, h.4)
 inside_sound frames (TailBinder p l a x) (name y) at tokens mid rest h s = (h.0, h.1, (h.2.0, h.2.1, h.2.2, h.2.3, mid, h.2.4, h.2.5, h.2.6, h.2.7, h.2.8, s), h.3, h.4)
 inside_sound frames (TailBinder p l a x) hole at tokens mid rest h s = (h.0, h.1, (h.2.0, h.2.1, h.2.2, h.2.3, mid, h.2.4, h.2.5, h.2.6, h.2.7, h.2.8, s), h.3, h.4)
-inside_sound frames (TailArrow p l a x y) (plain mark.Arrow) at tokens mid rest h s =
+inside_sound frames (TailArrow p l a x y) (mark symbol.Arrow) at tokens mid rest h s =
     let r = h.2 in
     ((h.0, h.1, (r.0, r.1, r.5, r.6, (r.2, r.3, r.4, mid, r.7, r.8, r.9, r.10, (s.0, s.1, s.3)))), (h.4, h.3))
-inside_sound frames (NilColon p) (plain mark.Colon) at tokens mid rest h s = (h.0, mid, rest, h.1, h.2, (s.0, s.1, s.3), refl, h.3, need_type)
+inside_sound frames (NilColon p) (mark symbol.Colon) at tokens mid rest h s = (h.0, mid, rest, h.1, h.2, (s.0, s.1, s.3), refl, h.3, need_type)
   where
     need_type : NeedType 0 ≢ NoType
     need_type e = cc
@@ -286,16 +289,16 @@ inside_sound frames _ _ at tokens mid rest h s = tt
 
 -- ---- notes and types
 
-note_end_sound : (frames : List Frame) (at : ℕ) (c : Frac) (n : NoteState) (found : Option NoteSyntax) (what : ExprToken) (tokens mid rest : List Token) → Stands (InNote frames at c n) tokens mid → First what mid rest
-    → note_finish n ≡ found → Stands (note_ends frames at c found what) tokens rest
+note_end_sound : (frames : List Frame) (at : ℕ) (c : Frac) (n : NoteState) (found : Option NoteSyntax) (what : ExprToken) (tokens mid rest : List Token) → SpellsPrefix (InNote frames at c n) tokens mid → First what mid rest
+    → note_finish n ≡ found → SpellsPrefix (note_ends frames at c found what) tokens rest
 note_end_sound frames at c n (Some m) (operator (between.Compare compare.Gt)) tokens mid rest h s e =
     let p = note_found n m h.2 mid h.6 e in
     (h.0, h.3, (h.1, h.4, (h.2, mid, h.5, p.0, s)), h.7, p.1, refl)
 note_end_sound frames at c n _ _ tokens mid rest h s e = tt
 
-type_end_sound : (frames : List Frame) (at : ℕ) (n : TypeState) (found : Option TypeSyntax) (what : ExprToken) (tokens mid rest : List Token) → Stands (InType frames at n) tokens mid → First what mid rest
-    → type_finish n ≡ found → Stands (type_ends frames at found what) tokens rest
-type_end_sound frames at n (Some t) (plain mark.Close) tokens mid rest h s e =
+type_end_sound : (frames : List Frame) (at : ℕ) (n : TypeState) (found : Option TypeSyntax) (what : ExprToken) (tokens mid rest : List Token) → SpellsPrefix (InType frames at n) tokens mid → First what mid rest
+    → type_finish n ≡ found → SpellsPrefix (type_ends frames at found what) tokens rest
+type_end_sound frames at n (Some t) (mark symbol.RightParen) tokens mid rest h s e =
     let p = type_found n t h.2 mid h.6 e in
     let b = h.4 in
     (h.0, h.3, (b.0, b.1, h.1, h.2, mid, b.2, b.3, b.4, h.5, p.0, s), h.7, p.1, refl)
@@ -308,25 +311,25 @@ unit_on : (at : ℕ) (u : UnitState) → InUnit at u ≢ NoNote
 unit_on at u e = cc
 
 note_goes_sound : (frames : List Frame) (at : ℕ) (c : Frac) (n : NoteState) (over : State) (tokens mid sign next rest : List Token) → FramesRead frames tokens mid → FirstAt (number c) at mid sign
-    → FirstGlued less sign next → NoteStands n next rest → FramesFit frames → Stands over tokens rest → Stands (note_goes frames at c n over) tokens rest
+    → FirstGlued less sign next → NoteSpellsPrefix n next rest → FramesFit frames → SpellsPrefix over tokens rest → SpellsPrefix (note_goes frames at c n over) tokens rest
 note_goes_sound frames at c NeedNote over tokens mid sign next rest r m g s f h = (mid, sign, next, r, m, g, s, f, need_note)
 note_goes_sound frames at c (HaveHole p) over tokens mid sign next rest r m g s f h = (mid, sign, next, r, m, g, s, f, hole_on p)
 note_goes_sound frames at c (InUnit p u) over tokens mid sign next rest r m g s f h = (mid, sign, next, r, m, g, s, f, unit_on p u)
 note_goes_sound frames at c NoNote over tokens mid sign next rest r m g s f h = h
 
-type_goes_sound : (frames : List Frame) (at : ℕ) (n : TypeState) (over : State) (tokens mid colon next rest : List Token) → FramesRead frames tokens mid → PlaceReads (NilColon at) mid colon
-    → First (plain mark.Colon) colon next → TypeStands n next rest → FramesFit frames → Stands over tokens rest → Stands (type_goes frames at n over) tokens rest
+type_goes_sound : (frames : List Frame) (at : ℕ) (n : TypeState) (over : State) (tokens mid colon next rest : List Token) → FramesRead frames tokens mid → ExpectedReads (NilColon at) mid colon
+    → First (mark symbol.Colon) colon next → TypeSpellsPrefix n next rest → FramesFit frames → SpellsPrefix over tokens rest → SpellsPrefix (type_goes frames at n over) tokens rest
 type_goes_sound frames at (NeedType depth) over tokens mid colon next rest r b c s f h = (mid, colon, next, r, b, c, s, f, λ e. cc)
 type_goes_sound frames at (HaveType depth t) over tokens mid colon next rest r b c s f h = (mid, colon, next, r, b, c, s, f, λ e. cc)
 type_goes_sound frames at (InTypeNote depth owner n) over tokens mid colon next rest r b c s f h = (mid, colon, next, r, b, c, s, f, λ e. cc)
 type_goes_sound frames at NoType over tokens mid colon next rest r b c s f h = h
 
 -- the token that is read goes over to the state
-pub step_sound : (st : State) (x : Token) (tokens rest : List Token) → Stands st tokens (x ∷ rest) → Stands (step st x) tokens rest
+pub step_sound : (st : State) (x : Token) (tokens rest : List Token) → SpellsPrefix st tokens (x ∷ rest) → SpellsPrefix (step st x) tokens rest
 step_sound (Need frames) x tokens rest h = begin_sound frames (expr_token x.kind) x.start tokens (x ∷ rest) rest h.0 h.1 (x, refl, refl, refl)
 step_sound (Have frames t) x tokens rest h = after_sound frames t (expr_token x.kind) x.start x.glued tokens (x ∷ rest) rest h (x, refl, refl, refl, refl)
 step_sound (Greater frames p left) x tokens rest h = after_greater_sound frames p left (expr_token x.kind) x.start x.glued tokens (x ∷ rest) rest h (x, refl, refl, refl, refl)
-step_sound (Inside frames place) x tokens rest h = inside_sound frames place (expr_token x.kind) x.start tokens (x ∷ rest) rest h (x, refl, refl, refl)
+step_sound (Inside frames expected) x tokens rest h = inside_sound frames expected (expr_token x.kind) x.start tokens (x ∷ rest) rest h (x, refl, refl, refl)
 step_sound (InNote frames p c n) x tokens rest h =
     note_goes_sound frames p c (note_step n x) (note_ends frames p c (note_finish n) (expr_token x.kind)) tokens h.0 h.1 h.2 rest h.3 h.4 h.5 (note_sound n x h.2 rest h.6) h.7
     (note_end_sound frames p c n (note_finish n) (expr_token x.kind) tokens (x ∷ rest) rest h (x, refl, refl) refl)
@@ -336,16 +339,16 @@ step_sound (InType frames p n) x tokens rest h =
 step_sound Refused x tokens rest h = tt
 
 -- the tokens that are read go over to the state, whatever follows
-pub runs_sound : (read : List Token) (st : State) (tokens rest : List Token) → Stands st tokens (read ++ rest) → Stands (runs step st read) tokens rest
+pub runs_sound : (read : List Token) (st : State) (tokens rest : List Token) → SpellsPrefix st tokens (read ++ rest) → SpellsPrefix (runs step st read) tokens rest
 runs_sound [] st tokens rest h = h
 runs_sound (x ∷ read) st tokens rest h = runs_sound read (step st x) tokens rest (step_sound st x tokens (read ++ rest) h)
 
-pub stands : (read rest : List Token) → Stands (runs step (Need []) read) (read ++ rest) rest
-stands read rest = runs_sound read (Need []) (read ++ rest) rest (refl, tt)
+pub spells_prefix : (read rest : List Token) → SpellsPrefix (runs step (Need []) read) (read ++ rest) rest
+spells_prefix read rest = runs_sound read (Need []) (read ++ rest) rest (refl, tt)
 
 -- ---- what is found
 
-whole_found : (last : ExprSyntax) (st : State) (t : ExprSyntax) (tokens rest : List Token) → StandsUpTo 9 last st tokens rest → whole st ≡ Some t → Spells t tokens rest × Fits t
+whole_found : (last : ExprSyntax) (st : State) (t : ExprSyntax) (tokens rest : List Token) → SpellsPrefixUpTo 9 last st tokens rest → whole st ≡ Some t → Spells t tokens rest × Fits t
 whole_found last (Have [] u) t tokens rest h e =
     let same : u ≡ t = cc in
     subst (λ w. Spells w tokens rest × Fits w) same (subst (λ w. Spells u w rest) (sym h.1) h.2, h.4)
@@ -358,7 +361,7 @@ whole_found last (InType frames p n) t tokens rest h e = absurd cc
 whole_found last Refused t tokens rest h e = absurd cc
 
 -- what is found is an expression
-pub expr_found : (st : State) (t : ExprSyntax) (tokens rest : List Token) → Stands st tokens rest → finish st ≡ Some t → Spells t tokens rest × Fits t
+pub expr_found : (st : State) (t : ExprSyntax) (tokens rest : List Token) → SpellsPrefix st tokens rest → finish st ≡ Some t → Spells t tokens rest × Fits t
 expr_found (Have frames u) t tokens rest h e = whole_found u (reduce 9 frames u) t tokens rest (all_ended frames u tokens rest h) e
 expr_found (Need frames) t tokens rest h e = absurd cc
 expr_found (Greater frames p l) t tokens rest h e = absurd cc

@@ -1,4 +1,4 @@
--- The least height over the open frames, from the parts in them and from what is at hand.
+-- The least height over the open frames, from the parts in them and from what is at focus.
 use Rattle.std.proofs.Common.{◌≡◌, ℕ, ◌+◌, max, List, [], ◌∷◌, length, arith}
 use Rattle.um_expr.specs.ExprMachine.{Frame}
 use Rattle.um_expr.specs.ExprLeast.{side, least_over}

@@ -1,16 +1,17 @@
 pub mod ExprEnds
-pub mod TokenKinds
-mod ExprLeads
+pub mod ExprTokenKinds
+mod ExprYields
 mod ExprFirsts
 pub mod ExprComplete
 mod ExprReads
-pub mod ExprStands
+pub mod ExprPrefixes
 pub mod ExprSound
-pub mod ExprEndings
+pub mod ExprCompletions
 pub mod ExprHeights
 pub mod ExprLaws
+mod ExprReading
 mod ExprLists
 mod ExprStackLaws
 mod ExprLow
-mod ExprGoes
+mod ExprRefusals
 mod ExprExamples

@@ -1,31 +1,34 @@
 -- What is open, without where it lies in memory, and the heights beside it.
 -- Source: this project's own.
-use Rattle.std.specs.Prelude.{◌≡◌, ℕ, ◌+◌, Bool, true, false, max, List, [], ◌∷◌, length, map, reverse, Option, Some, None}
+use Rattle.std.specs.Prelude.{◌≡◌, ℕ, ◌+◌, Bool, true, false, max, List, [], ◌∷◌, length, map, reverse, Option, Some}
+use Rattle.std.specs.Prelude.{None}
 use Rattle.um_tree.specs.RawTree.{binder_syntax}
 use Rattle.um_types.specs.UnitCount.{counted}
 use Rattle.um_expr.specs.declared.frame.Frame.{Frame as Open}
 use Rattle.um_expr.specs.declared.frame.Frame.TheVariants as open_at
 use Rattle.um_expr.specs.declared.frame.Entry.{Entry}
-use Rattle.um_expr.specs.ExprMachine.{Frame, InBracket, InItem, InField, InValue, InBody, InTest, InThen, InElse, InMatched, InEmptyArm, InFullArm, InNegate, InNot, InRight, InArgument}
+use Rattle.um_expr.specs.ExprMachine.{Frame, InBracket, InItem, InField, InValue, InBody, InTest, InThen, InElse}
+use Rattle.um_expr.specs.ExprMachine.{InMatched, InEmptyArm, InFullArm, InNegate, InNot, InRight, InArgument}
 use Rattle.um_expr.specs.ExprLeast.{side}
-use Rattle.um_expr.specs.ExprParts.{part_expr, front_exprs, front_fields}
+use Rattle.um_expr.specs.ExprOperands.{operand_expr, operand_exprs, read_fields}
 
 abbrev pub view_frame : Open → Frame
 view_frame (open_at.InBracket at) = InBracket at
-view_frame (open_at.InItem at front) = InItem at (front_exprs front)
-view_frame (open_at.InField at front place x) = InField at (front_fields front) place x
+view_frame (open_at.InItem at before) = InItem at (operand_exprs before)
+view_frame (open_at.InField at before place x) = InField at (read_fields before) place x
 view_frame (open_at.InValue at x) = InValue at (binder_syntax x)
-view_frame (open_at.InBody at x v) = InBody at (binder_syntax x) (part_expr v)
+view_frame (open_at.InBody at x v) = InBody at (binder_syntax x) (operand_expr v)
 view_frame (open_at.InTest at) = InTest at
-view_frame (open_at.InThen at c) = InThen at (part_expr c)
-view_frame (open_at.InElse at c a) = InElse at (part_expr c) (part_expr a)
+view_frame (open_at.InThen at c) = InThen at (operand_expr c)
+view_frame (open_at.InElse at c a) = InElse at (operand_expr c) (operand_expr a)
 view_frame (open_at.InMatched at) = InMatched at
-view_frame (open_at.InEmptyArm at l) = InEmptyArm at (part_expr l)
-view_frame (open_at.InFullArm at l a x y) = InFullArm at (part_expr l) (part_expr a) (binder_syntax x) (binder_syntax y)
+view_frame (open_at.InEmptyArm at l) = InEmptyArm at (operand_expr l)
+view_frame (open_at.InFullArm at l a x y) =
+    InFullArm at (operand_expr l) (operand_expr a) (binder_syntax x) (binder_syntax y)
 view_frame (open_at.InNegate at) = InNegate at
 view_frame (open_at.InNot at) = InNot at
-view_frame (open_at.InRight at sign left) = InRight at sign (part_expr left)
-view_frame (open_at.InArgument at f front) = InArgument at f (front_exprs front)
+view_frame (open_at.InRight at sign left) = InRight at sign (operand_expr left)
+view_frame (open_at.InArgument at f before) = InArgument at f (operand_exprs before)
 
 abbrev pub entry_frame : Entry → Frame
 entry_frame e = view_frame e.frame
@@ -49,7 +52,7 @@ bases (frame ∷ frames) = counted (base (frame ∷ frames)) ∷ bases frames
 
 -- whether it is a call
 abbrev pub is_call : Frame → Bool
-is_call (InArgument at f front) = true
+is_call (InArgument at f before) = true
 is_call _ = false
 
 -- the innermost frame was taken off

@@ -14,11 +14,20 @@
 use Rattle.std.specs.Prelude.{◌≡◌, ℕ, ◌≤◌, ◌<◌, Bool, true, false, ◌⊎◌, List, [], ◌∷◌, Option, Some, None}
 use Rattle.um_syntax.specs.declared.token.Token.{Token}
 use Rattle.um_tree.specs.declared.expression.Sign.TheVariants as compare
-use Rattle.um_tree.specs.RawTree.{NoteSyntax, TypeSyntax, BinderSyntax, ExprSyntax, ExprSyntaxes, FieldSyntaxes, truth_syntax, number_syntax, name_syntax, call_syntax, negate_syntax, not_syntax, arith_syntax, compare_syntax, and_syntax, or_syntax, if_syntax, let_syntax, match_syntax, nil_syntax, list_syntax, cons_syntax, fields_syntax, field_syntax, bracket_expr_syntax, no_exprs, more_exprs, no_fields, more_fields}
-use Rattle.um_expr.specs.declared.mark.Mark.TheVariants as mark
-use Rattle.um_expr.specs.declared.mark.Infix.{Infix}
-use Rattle.um_expr.specs.declared.mark.Infix.TheVariants as between
-use Rattle.um_expr.specs.ExprTokens.{ExprToken, name, number, truth, hole, operator, plain, expr_token, equal, less, greater, minus, double_colon}
+use Rattle.um_tree.specs.RawTree.{NoteSyntax, TypeSyntax, BinderSyntax, ExprSyntax, ExprSyntaxes, FieldSyntaxes}
+use Rattle.um_tree.specs.RawTree.{truth_syntax, number_syntax, name_syntax, call_syntax, negate_syntax, not_syntax}
+use Rattle.um_tree.specs.RawTree.{arith_syntax, compare_syntax, and_syntax, or_syntax, if_syntax, let_syntax}
+use Rattle.um_tree.specs.RawTree.{match_syntax, nil_syntax, list_syntax, cons_syntax, fields_syntax, field_syntax}
+use Rattle.um_tree.specs.RawTree.{bracket_expr_syntax, no_exprs, more_exprs, no_fields, more_fields}
+use Rattle.um_syntax.specs.declared.vocabulary.Keyword.TheVariants as keyword
+use Rattle.um_syntax.specs.declared.vocabulary.Symbol.TheVariants as symbol
+use Rattle.um_expr.specs.declared.infix.Infix.{Infix}
+use Rattle.um_expr.specs.declared.infix.Infix.TheVariants as between
+use Rattle.um_expr.specs.declared.token.ExprToken.{ExprToken}
+use Rattle.um_expr.specs.declared.token.ExprToken.TheVariants.{Name as name, Number as number, Truth as truth}
+use Rattle.um_expr.specs.declared.token.ExprToken.TheVariants.{Hole as hole, Operator as operator, Word as word}
+use Rattle.um_expr.specs.declared.token.ExprToken.TheVariants.{Mark as mark}
+use Rattle.um_expr.specs.ExprTokens.{expr_token, equal, less, greater, minus, double_colon}
 use Rattle.um_expr.specs.Ranks.{arith_rank}
 use Rattle.um_types.specs.TypeGrammar.{NoteSpells, NoteFits, TypeSpells, TypeFits}
 
@@ -28,11 +37,13 @@ First what tokens rest = (token : Token) × (expr_token token.kind ≡ what) × 
 
 -- the same, with its place
 abbrev pub FirstAt : ExprToken → ℕ → List Token → List Token → Type 0
-FirstAt what at tokens rest = (token : Token) × (expr_token token.kind ≡ what) × (token.start ≡ at) × (tokens ≡ token ∷ rest)
+FirstAt what at tokens rest =
+    (token : Token) × (expr_token token.kind ≡ what) × (token.start ≡ at) × (tokens ≡ token ∷ rest)
 
 -- the same, directly behind the token before it
 abbrev pub FirstGlued : ExprToken → List Token → List Token → Type 0
-FirstGlued what tokens rest = (token : Token) × (expr_token token.kind ≡ what) × (token.glued ≡ true) × (tokens ≡ token ∷ rest)
+FirstGlued what tokens rest =
+    (token : Token) × (expr_token token.kind ≡ what) × (token.glued ≡ true) × (tokens ≡ token ∷ rest)
 
 -- what is bound: a name, or `_`
 abbrev pub bound : Option (List ℕ) → ExprToken
@@ -72,63 +83,94 @@ abbrev mutual
   last_ends_in_number (more_exprs e (more_exprs d es)) = last_ends_in_number (more_exprs d es)
 
 -- A sign between two operands, where the flag says that a number stands directly before it.
--- A `<` directly behind a number is none: it opens the number's note. `>=` is `>` and `=` directly behind it, at the `>`.
+-- A `<` directly behind a number is none: it opens the number's note. `>=` is `>` and `=` directly behind it, at the
+-- `>`.
 abbrev pub InfixAt : Infix → Bool → ℕ → List Token → List Token → Type 0
 InfixAt (between.Compare compare.Lt) after_number at tokens rest =
-    (token : Token) × (expr_token token.kind ≡ less) × (token.start ≡ at) × (after_number ≡ true → token.glued ≡ false) × (tokens ≡ token ∷ rest)
-InfixAt (between.Compare compare.Ge) after_number at tokens rest = (next : List Token) × FirstAt greater at tokens next × FirstGlued equal next rest
+    (token : Token) × (expr_token token.kind ≡ less) × (token.start ≡ at)
+    × (after_number ≡ true → token.glued ≡ false) × (tokens ≡ token ∷ rest)
+InfixAt (between.Compare compare.Ge) after_number at tokens rest =
+    (next : List Token) × FirstAt greater at tokens next × FirstGlued equal next rest
 InfixAt sign after_number at tokens rest = FirstAt (operator sign) at tokens rest
 
 -- the note of a number, directly behind it
 abbrev pub WrittenNote : Option NoteSyntax → List Token → List Token → Type 0
 WrittenNote None tokens rest = tokens ≡ rest
-WrittenNote (Some n) tokens rest = (next last : List Token) × FirstGlued less tokens next × NoteSpells n next last × First greater last rest
+WrittenNote (Some n) tokens rest =
+    (next last : List Token) × FirstGlued less tokens next × NoteSpells n next last × First greater last rest
 
 -- from `with` up to the `->` of the empty arm: the bar may be left out
 abbrev pub EmptyArm : List Token → List Token → Type 0
 EmptyArm tokens rest =
-    (arm empty close arrow : List Token) × First (plain mark.With) tokens arm × ((arm ≡ empty) ⊎ First (plain mark.Bar) arm empty)
-    × First (plain mark.ListOpen) empty close × First (plain mark.ListClose) close arrow × First (plain mark.Arrow) arrow rest
+    (arm empty close arrow : List Token) × First (word keyword.With) tokens arm
+    × ((arm ≡ empty) ⊎ First (mark symbol.Bar) arm empty)
+    × First (mark symbol.LeftBracket) empty close × First (mark symbol.RightBracket) close arrow
+    × First (mark symbol.Arrow) arrow rest
 
 -- from the bar of the full arm up to its `->`
 abbrev pub FullArm : BinderSyntax → BinderSyntax → List Token → List Token → Type 0
 FullArm x y tokens rest =
-    (head cons tail arrow : List Token) × First (plain mark.Bar) tokens head × BinderSpells x head cons × First double_colon cons tail
-    × BinderSpells y tail arrow × First (plain mark.Arrow) arrow rest
+    (head cons tail arrow : List Token) × First (mark symbol.Bar) tokens head × BinderSpells x head cons
+    × First double_colon cons tail
+    × BinderSpells y tail arrow × First (mark symbol.Arrow) arrow rest
 
 -- the empty list with its type: `(` `[` `]` `:` T `)`
 abbrev pub NilSpells : ℕ → TypeSyntax → List Token → List Token → Type 0
 NilSpells at t tokens rest =
-    (empty close colon written last : List Token) × FirstAt (plain mark.Open) at tokens empty × First (plain mark.ListOpen) empty close
-    × First (plain mark.ListClose) close colon × First (plain mark.Colon) colon written × TypeSpells t written last × First (plain mark.Close) last rest
+    (empty close colon written last : List Token) × FirstAt (mark symbol.LeftParen) at tokens empty
+    × First (mark symbol.LeftBracket) empty close
+    × First (mark symbol.RightBracket) close colon × First (mark symbol.Colon) colon written
+    × TypeSpells t written last × First (mark symbol.RightParen) last rest
 
 -- the tokens are those of the expression, and then the rest
 abbrev mutual
   pub Spells : ExprSyntax → List Token → List Token → Type 0
   Spells (truth_syntax at b) tokens rest = FirstAt (truth b) at tokens rest
-  Spells (number_syntax at c n) tokens rest = (next : List Token) × FirstAt (number c) at tokens next × WrittenNote n next rest
+  Spells (number_syntax at c n) tokens rest =
+      (next : List Token) × FirstAt (number c) at tokens next × WrittenNote n next rest
   Spells (name_syntax at x) tokens rest = FirstAt (name x) at tokens rest
-  Spells (call_syntax at f args) tokens rest = (next : List Token) × FirstAt (name f) at tokens next × AllSpell args next rest
+  Spells (call_syntax at f args) tokens rest =
+      (next : List Token) × FirstAt (name f) at tokens next × AllSpell args next rest
   Spells (negate_syntax at e) tokens rest = (next : List Token) × FirstAt minus at tokens next × Spells e next rest
-  Spells (not_syntax at e) tokens rest = (next : List Token) × FirstAt (plain mark.Not) at tokens next × Spells e next rest
-  Spells (arith_syntax at op a b) tokens rest = (mid next : List Token) × Spells a tokens mid × InfixAt (between.Arith op) (ends_in_number a) at mid next × Spells b next rest
+  Spells (not_syntax at e) tokens rest =
+      (next : List Token) × FirstAt (word keyword.Not) at tokens next × Spells e next rest
+  Spells (arith_syntax at op a b) tokens rest =
+      (mid next : List Token) × Spells a tokens mid × InfixAt (between.Arith op) (ends_in_number a) at mid next
+      × Spells b next rest
   Spells (compare_syntax at sign a b) tokens rest =
-      (mid next : List Token) × Spells a tokens mid × InfixAt (between.Compare sign) (ends_in_number a) at mid next × Spells b next rest
-  Spells (and_syntax at a b) tokens rest = (mid next : List Token) × Spells a tokens mid × InfixAt between.And (ends_in_number a) at mid next × Spells b next rest
-  Spells (or_syntax at a b) tokens rest = (mid next : List Token) × Spells a tokens mid × InfixAt between.Or (ends_in_number a) at mid next × Spells b next rest
-  Spells (cons_syntax at a b) tokens rest = (mid next : List Token) × Spells a tokens mid × InfixAt between.Cons (ends_in_number a) at mid next × Spells b next rest
+      (mid next : List Token) × Spells a tokens mid × InfixAt (between.Compare sign) (ends_in_number a) at mid next
+      × Spells b next rest
+  Spells (and_syntax at a b) tokens rest =
+      (mid next : List Token) × Spells a tokens mid × InfixAt between.And (ends_in_number a) at mid next
+      × Spells b next rest
+  Spells (or_syntax at a b) tokens rest =
+      (mid next : List Token) × Spells a tokens mid × InfixAt between.Or (ends_in_number a) at mid next
+      × Spells b next rest
+  Spells (cons_syntax at a b) tokens rest =
+      (mid next : List Token) × Spells a tokens mid
+      × InfixAt between.Cons (ends_in_number a) at mid next × Spells b next rest
   Spells (if_syntax at c a b) tokens rest =
-      (t t' e e' o : List Token) × FirstAt (plain mark.If) at tokens t × Spells c t t' × First (plain mark.Then) t' e × Spells a e e' × First (plain mark.Else) e' o × Spells b o rest
+      (t t' e e' o : List Token) × FirstAt (word keyword.If) at tokens t × Spells c t t'
+      × First (word keyword.Then) t' e × Spells a e e' × First (word keyword.Else) e' o × Spells b o rest
   Spells (let_syntax at x a b) tokens rest =
-      (n e v v' o : List Token) × FirstAt (plain mark.Let) at tokens n × BinderSpells x n e × First equal e v × Spells a v v' × First (plain mark.In) v' o × Spells b o rest
+      (n e v v' o : List Token) × FirstAt (word keyword.Let) at tokens n × BinderSpells x n e × First equal e v
+      × Spells a v v' × First (word keyword.In) v' o × Spells b o rest
   Spells (match_syntax at l a x y b) tokens rest =
-      (m m' e e' o : List Token) × FirstAt (plain mark.Match) at tokens m × Spells l m m' × EmptyArm m' e × Spells a e e' × FullArm x y e' o × Spells b o rest
+      (m m' e e' o : List Token) × FirstAt (word keyword.Match) at tokens m × Spells l m m' × EmptyArm m' e
+      × Spells a e e' × FullArm x y e' o × Spells b o rest
   Spells (nil_syntax at t) tokens rest = NilSpells at t tokens rest
-  Spells (list_syntax at es) tokens rest = (next last : List Token) × FirstAt (plain mark.ListOpen) at tokens next × ItemsSpell es next last × First (plain mark.ListClose) last rest
+  Spells (list_syntax at es) tokens rest =
+      (next last : List Token) × FirstAt (mark symbol.LeftBracket) at tokens next × ItemsSpell es next last
+      × First (mark symbol.RightBracket) last rest
   Spells (fields_syntax at fs) tokens rest =
-      (next last : List Token) × FirstAt (plain mark.RecordOpen) at tokens next × FieldsSpell fs next last × First (plain mark.RecordClose) last rest
-  Spells (field_syntax at place x e) tokens rest = (mid next : List Token) × Spells e tokens mid × FirstAt (plain mark.Dot) at mid next × FirstAt (name x) place next rest
-  Spells (bracket_expr_syntax at e) tokens rest = (next last : List Token) × FirstAt (plain mark.Open) at tokens next × Spells e next last × First (plain mark.Close) last rest
+      (next last : List Token) × FirstAt (mark symbol.LeftBrace) at tokens next × FieldsSpell fs next last
+      × First (mark symbol.RightBrace) last rest
+  Spells (field_syntax at place x e) tokens rest =
+      (mid next : List Token) × Spells e tokens mid × FirstAt (mark symbol.Dot) at mid next
+      × FirstAt (name x) place next rest
+  Spells (bracket_expr_syntax at e) tokens rest =
+      (next last : List Token) × FirstAt (mark symbol.LeftParen) at tokens next × Spells e next last
+      × First (mark symbol.RightParen) last rest
 
   -- one behind the other
   pub AllSpell : ExprSyntaxes → List Token → List Token → Type 0
@@ -142,18 +184,21 @@ abbrev mutual
 
   pub MoreItems : ExprSyntaxes → List Token → List Token → Type 0
   MoreItems no_exprs tokens rest = tokens ≡ rest
-  MoreItems (more_exprs e es) tokens rest = (next mid : List Token) × First (plain mark.Semi) tokens next × Spells e next mid × MoreItems es mid rest
+  MoreItems (more_exprs e es) tokens rest =
+      (next mid : List Token) × First (mark symbol.Semicolon) tokens next × Spells e next mid × MoreItems es mid rest
 
   -- at least one field, each with its name and `=`, separated by `;`
   pub FieldsSpell : FieldSyntaxes → List Token → List Token → Type 0
   FieldsSpell no_fields tokens rest = ⊥
   FieldsSpell (more_fields at x e fs) tokens rest =
-      (sign value mid : List Token) × FirstAt (name x) at tokens sign × First equal sign value × Spells e value mid × MoreFields fs mid rest
+      (sign value mid : List Token) × FirstAt (name x) at tokens sign × First equal sign value × Spells e value mid
+      × MoreFields fs mid rest
 
   pub MoreFields : FieldSyntaxes → List Token → List Token → Type 0
   MoreFields no_fields tokens rest = tokens ≡ rest
   MoreFields (more_fields at x e fs) tokens rest =
-      (next sign value mid : List Token) × First (plain mark.Semi) tokens next × FirstAt (name x) at next sign × First equal sign value × Spells e value mid × MoreFields fs mid rest
+      (next sign value mid : List Token) × First (mark symbol.Semicolon) tokens next × FirstAt (name x) at next sign
+      × First equal sign value × Spells e value mid × MoreFields fs mid rest
 
 abbrev pub rank : ExprSyntax → ℕ
 rank (truth_syntax at b) = 0

@@ -1,7 +1,11 @@
 -- The heights of an expression: its own, and those of the unit texts and type texts in it.
 -- Source: this project's own limits.
 use Rattle.std.specs.Prelude.{ℕ, max, Option, Some, None}
-use Rattle.um_tree.specs.RawTree.{NoteSyntax, ExprSyntax, ExprSyntaxes, FieldSyntaxes, truth_syntax, number_syntax, name_syntax, call_syntax, negate_syntax, not_syntax, arith_syntax, compare_syntax, and_syntax, or_syntax, if_syntax, let_syntax, match_syntax, nil_syntax, list_syntax, cons_syntax, fields_syntax, field_syntax, bracket_expr_syntax, no_exprs, more_exprs, no_fields, more_fields}
+use Rattle.um_tree.specs.RawTree.{NoteSyntax, ExprSyntax, ExprSyntaxes, FieldSyntaxes, truth_syntax, number_syntax}
+use Rattle.um_tree.specs.RawTree.{name_syntax, call_syntax, negate_syntax, not_syntax, arith_syntax, compare_syntax}
+use Rattle.um_tree.specs.RawTree.{and_syntax, or_syntax, if_syntax, let_syntax, match_syntax, nil_syntax, list_syntax}
+use Rattle.um_tree.specs.RawTree.{cons_syntax, fields_syntax, field_syntax, bracket_expr_syntax, no_exprs, more_exprs}
+use Rattle.um_tree.specs.RawTree.{no_fields, more_fields}
 use Rattle.um_tree.specs.Heights.{expr_height}
 use Rattle.um_types.specs.TypeHeights.{note_height, whole_height}
 

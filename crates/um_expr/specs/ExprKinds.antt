@@ -2,8 +2,11 @@
 -- Source: this project's own.
 use Rattle.std.specs.Prelude.{Bool, true, false, None}
 use Rattle.um_tree.specs.RawTree.{ExprSyntax, name_syntax, number_syntax}
-use Rattle.um_expr.specs.declared.mark.Mark.TheVariants as mark
-use Rattle.um_expr.specs.ExprTokens.{ExprToken, name, number, truth, plain}
+use Rattle.um_syntax.specs.declared.vocabulary.Keyword.TheVariants as keyword
+use Rattle.um_syntax.specs.declared.vocabulary.Symbol.TheVariants as symbol
+use Rattle.um_expr.specs.declared.token.ExprToken.{ExprToken}
+use Rattle.um_expr.specs.declared.token.ExprToken.TheVariants.{Name as name, Number as number, Truth as truth}
+use Rattle.um_expr.specs.declared.token.ExprToken.TheVariants.{Word as word, Mark as mark}
 
 abbrev pub is_name : ExprSyntax → Bool
 is_name (name_syntax at x) = true
@@ -13,11 +16,11 @@ abbrev pub is_plain_number : ExprSyntax → Bool
 is_plain_number (number_syntax at c None) = true
 is_plain_number _ = false
 
-abbrev pub begins_argument : ExprToken → Bool
-begins_argument (name x) = true
-begins_argument (number c) = true
-begins_argument (truth b) = true
-begins_argument (plain mark.Open) = true
-begins_argument (plain mark.ListOpen) = true
-begins_argument (plain mark.RecordOpen) = true
-begins_argument _ = false
+abbrev pub begins_atom : ExprToken → Bool
+begins_atom (name x) = true
+begins_atom (number c) = true
+begins_atom (truth b) = true
+begins_atom (mark symbol.LeftParen) = true
+begins_atom (mark symbol.LeftBracket) = true
+begins_atom (mark symbol.LeftBrace) = true
+begins_atom _ = false

@@ -1,4 +1,5 @@
--- Reading an expression token by token: what is open, and the atom at hand. The machines of notes and types run inside;
+-- Reading an expression token by token: what is open, and the atom at focus. The machines of notes and types run
+-- inside;
 -- a token that they refuse ends them and is looked at again.
 -- Source: operator precedence with a stack, as in Knuth, Fundamental Algorithms, 2.2.1; this project's own states.
 use Rattle.std.specs.Prelude.{ℕ, Bool, true, false, cond, nat_lt, List, [], ◌∷◌, ◌++◌, Option, Some, None}
@@ -7,22 +8,32 @@ use Rattle.um_syntax.specs.declared.token.Token.{Token}
 use Rattle.um_syntax.specs.declared.token.Kind.{Kind}
 use Rattle.um_tree.specs.declared.expression.Sign.TheVariants as compare
 use Rattle.um_tree.specs.declared.expression.Arith.TheVariants as arith
-use Rattle.um_tree.specs.RawTree.{NoteSyntax, TypeSyntax, BinderSyntax, ExprSyntax, FieldPart, truth_syntax, number_syntax, name_syntax, call_syntax, negate_syntax, not_syntax, if_syntax, let_syntax, match_syntax, nil_syntax, list_syntax, fields_syntax, field_syntax, bracket_expr_syntax, exprs_in_order, fields_in_order}
+use Rattle.um_tree.specs.RawTree.{NoteSyntax, TypeSyntax, BinderSyntax, ExprSyntax, FieldPart, truth_syntax}
+use Rattle.um_tree.specs.RawTree.{number_syntax, name_syntax, call_syntax, negate_syntax, not_syntax, if_syntax}
+use Rattle.um_tree.specs.RawTree.{let_syntax, match_syntax, nil_syntax, list_syntax, fields_syntax, field_syntax}
+use Rattle.um_tree.specs.RawTree.{bracket_expr_syntax, exprs_in_order, fields_in_order}
 use Rattle.um_types.specs.NoteMachine.{NoteState, NeedNote, NoNote, note_act, note_finish}
 use Rattle.um_types.specs.TypeMachine.{TypeState, NeedType, NoType, type_act, type_finish}
-use Rattle.um_expr.specs.declared.mark.Mark.TheVariants as mark
-use Rattle.um_expr.specs.declared.mark.Infix.{Infix}
-use Rattle.um_expr.specs.declared.mark.Infix.TheVariants as between
-use Rattle.um_expr.specs.ExprTokens.{ExprToken, name, number, truth, hole, operator, plain, expr_token}
+use Rattle.um_syntax.specs.declared.vocabulary.Keyword.{Keyword}
+use Rattle.um_syntax.specs.declared.vocabulary.Keyword.TheVariants as keyword
+use Rattle.um_syntax.specs.declared.vocabulary.Symbol.{Symbol}
+use Rattle.um_syntax.specs.declared.vocabulary.Symbol.TheVariants as symbol
+use Rattle.um_expr.specs.declared.infix.Infix.{Infix}
+use Rattle.um_expr.specs.declared.infix.Infix.TheVariants as between
+use Rattle.um_expr.specs.declared.token.ExprToken.{ExprToken}
+use Rattle.um_expr.specs.declared.token.ExprToken.TheVariants.{Name as name, Number as number, Truth as truth}
+use Rattle.um_expr.specs.declared.token.ExprToken.TheVariants.{Hole as hole, Operator as operator, Word as word}
+use Rattle.um_expr.specs.declared.token.ExprToken.TheVariants.{Mark as mark}
+use Rattle.um_expr.specs.ExprTokens.{expr_token}
 use Rattle.um_expr.specs.Ranks.{infix_rank, left_limit, right_bound, infix_text}
 
 -- what is open around the next operand
 pub data Frame : Type 0 where
   InBracket : (at : ℕ) → Frame
   -- `[` and these items
-  InItem : (at : ℕ) (front : List ExprSyntax) → Frame
+  InItem : (at : ℕ) (before : List ExprSyntax) → Frame
   -- `{`, these fields, and a field's name with its `=`
-  InField : (at : ℕ) (front : List FieldPart) (place : ℕ) (name : List ℕ) → Frame
+  InField : (at : ℕ) (before : List FieldPart) (place : ℕ) (name : List ℕ) → Frame
   -- behind `=`; behind `in`
   InValue : (at : ℕ) (x : BinderSyntax) → Frame
   InBody : (at : ℕ) (x : BinderSyntax) (value : ExprSyntax) → Frame
@@ -38,14 +49,14 @@ pub data Frame : Type 0 where
   InNot : (at : ℕ) → Frame
   InRight : (at : ℕ) (sign : Infix) (left : ExprSyntax) → Frame
   -- behind a name and these arguments
-  InArgument : (at : ℕ) (function : List ℕ) (front : List ExprSyntax) → Frame
+  InArgument : (at : ℕ) (function : List ℕ) (before : List ExprSyntax) → Frame
 
 -- the rank of what stands in the frame lies below this
 abbrev pub bound_of : Frame → ℕ
 bound_of (InNegate at) = 3
 bound_of (InNot at) = 1
 bound_of (InRight at sign left) = right_bound sign
-bound_of (InArgument at f front) = 1
+bound_of (InArgument at f before) = 1
 bound_of _ = 10
 
 -- the rank of what a frame that needs no token to end becomes; the others have 10
@@ -56,7 +67,7 @@ own_rank (InFullArm at list empty head tail) = 9
 own_rank (InNegate at) = 2
 own_rank (InNot at) = 1
 own_rank (InRight at sign left) = infix_rank sign
-own_rank (InArgument at f front) = 1
+own_rank (InArgument at f before) = 1
 own_rank _ = 10
 
 abbrev pub top_bound : List Frame → ℕ
@@ -75,40 +86,40 @@ plug (InFullArm at list empty head tail) last = match_syntax at list empty head 
 plug (InNegate at) last = negate_syntax at last
 plug (InNot at) last = not_syntax at last
 plug (InRight at sign left) last = infix_text at sign left last
-plug (InArgument at f front) last = call_syntax at f (exprs_in_order (front ++ last ∷ []))
+plug (InArgument at f before) last = call_syntax at f (exprs_in_order (before ++ last ∷ []))
 plug _ last = last
 
 -- a place inside a run of tokens that is fixed
-pub data Place : Type 0 where
+pub data Expected : Type 0 where
   -- behind `let`; behind its binder
-  LetBinder : (at : ℕ) → Place
-  LetEqual : (at : ℕ) (x : BinderSyntax) → Place
+  LetBinder : (at : ℕ) → Expected
+  LetEqual : (at : ℕ) (x : BinderSyntax) → Expected
   -- behind `{` or `;` and these fields; behind the name
-  FieldName : (at : ℕ) (front : List FieldPart) → Place
-  FieldEqual : (at : ℕ) (front : List FieldPart) (place : ℕ) (name : List ℕ) → Place
+  FieldName : (at : ℕ) (before : List FieldPart) → Expected
+  FieldEqual : (at : ℕ) (before : List FieldPart) (place : ℕ) (name : List ℕ) → Expected
   -- behind `.`
-  DotName : (at : ℕ) (part : ExprSyntax) → Place
+  DotName : (at : ℕ) (e : ExprSyntax) → Expected
   -- behind `with`; its bar; `[`; `]`
-  ArmBegin : (at : ℕ) (list : ExprSyntax) → Place
-  ArmOpen : (at : ℕ) (list : ExprSyntax) → Place
-  ArmClose : (at : ℕ) (list : ExprSyntax) → Place
-  ArmArrow : (at : ℕ) (list : ExprSyntax) → Place
+  ArmBegin : (at : ℕ) (list : ExprSyntax) → Expected
+  ArmOpen : (at : ℕ) (list : ExprSyntax) → Expected
+  ArmClose : (at : ℕ) (list : ExprSyntax) → Expected
+  ArmArrow : (at : ℕ) (list : ExprSyntax) → Expected
   -- behind the bar of the full arm; the head; `::`; the tail
-  HeadBinder : (at : ℕ) (list empty : ExprSyntax) → Place
-  HeadCons : (at : ℕ) (list empty : ExprSyntax) (head : BinderSyntax) → Place
-  TailBinder : (at : ℕ) (list empty : ExprSyntax) (head : BinderSyntax) → Place
-  TailArrow : (at : ℕ) (list empty : ExprSyntax) (head tail : BinderSyntax) → Place
+  HeadBinder : (at : ℕ) (list empty : ExprSyntax) → Expected
+  HeadCons : (at : ℕ) (list empty : ExprSyntax) (head : BinderSyntax) → Expected
+  TailBinder : (at : ℕ) (list empty : ExprSyntax) (head : BinderSyntax) → Expected
+  TailArrow : (at : ℕ) (list empty : ExprSyntax) (head tail : BinderSyntax) → Expected
   -- behind `(` `[` `]`
-  NilColon : (at : ℕ) → Place
+  NilColon : (at : ℕ) → Expected
 
 pub data State : Type 0 where
   -- an operand is wanted
   Need : (frames : List Frame) → State
-  -- an atom is at hand
-  Have : (frames : List Frame) (at_hand : ExprSyntax) → State
+  -- an atom is at focus
+  Have : (frames : List Frame) (operand : ExprSyntax) → State
   -- behind `>`: a `=` directly behind it belongs to the sign
   Greater : (frames : List Frame) (at : ℕ) (left : ExprSyntax) → State
-  Inside : (frames : List Frame) (place : Place) → State
+  Inside : (frames : List Frame) (expected : Expected) → State
   -- in the note of a number; in the type of an empty list
   InNote : (frames : List Frame) (at : ℕ) (value : Frac) (note : NoteState) → State
   InType : (frames : List Frame) (at : ℕ) (type_state : TypeState) → State
@@ -117,7 +128,8 @@ pub data State : Type 0 where
 -- what is left open where all frames up to this rank end
 abbrev pub reduce : ℕ → List Frame → ExprSyntax → State
 reduce limit [] t = Have [] t
-reduce limit (frame ∷ frames) t = cond (nat_lt limit (own_rank frame)) (Have (frame ∷ frames) t) (reduce limit frames (plug frame t))
+reduce limit (frame ∷ frames) t =
+    cond (nat_lt limit (own_rank frame)) (Have (frame ∷ frames) t) (reduce limit frames (plug frame t))
 
 -- a form of this rank begins, where it may
 abbrev pub if_may : List Frame → ℕ → State → State
@@ -133,25 +145,27 @@ abbrev pub begin : List Frame → ExprToken → ℕ → State
 begin frames (name x) at = Have frames (name_syntax at x)
 begin frames (number c) at = Have frames (number_syntax at c None)
 begin frames (truth b) at = Have frames (truth_syntax at b)
-begin frames (plain mark.Open) at = Need (InBracket at ∷ frames)
-begin frames (plain mark.ListOpen) at = Need (InItem at [] ∷ frames)
-begin frames (plain mark.ListClose) at = empty_list frames
-begin frames (plain mark.RecordOpen) at = Inside frames (FieldName at [])
-begin frames (plain mark.Let) at = if_may frames 9 (Inside frames (LetBinder at))
-begin frames (plain mark.If) at = if_may frames 9 (Need (InTest at ∷ frames))
-begin frames (plain mark.Match) at = if_may frames 9 (Need (InMatched at ∷ frames))
-begin frames (plain mark.Not) at = if_may frames 1 (Need (InNot at ∷ frames))
+begin frames (mark symbol.LeftParen) at = Need (InBracket at ∷ frames)
+begin frames (mark symbol.LeftBracket) at = Need (InItem at [] ∷ frames)
+begin frames (mark symbol.RightBracket) at = empty_list frames
+begin frames (mark symbol.LeftBrace) at = Inside frames (FieldName at [])
+begin frames (word keyword.Let) at = if_may frames 9 (Inside frames (LetBinder at))
+begin frames (word keyword.If) at = if_may frames 9 (Need (InTest at ∷ frames))
+begin frames (word keyword.Match) at = if_may frames 9 (Need (InMatched at ∷ frames))
+begin frames (word keyword.Not) at = if_may frames 1 (Need (InNot at ∷ frames))
 begin frames (operator (between.Arith arith.Sub)) at = if_may frames 2 (Need (InNegate at ∷ frames))
 begin frames _ at = Refused
 
 -- behind `>`
 abbrev pub after_greater : List Frame → ℕ → ExprSyntax → ExprToken → ℕ → Bool → State
-after_greater frames place left (operator (between.Compare compare.Eq)) at glued = cond glued (Need (InRight place (between.Compare compare.Ge) left ∷ frames)) Refused
-after_greater frames place left token at glued = begin (InRight place (between.Compare compare.Gt) left ∷ frames) token at
+after_greater frames place left (operator (between.Compare compare.Eq)) at glued =
+    cond glued (Need (InRight place (between.Compare compare.Ge) left ∷ frames)) Refused
+after_greater frames place left token at glued =
+    begin (InRight place (between.Compare compare.Gt) left ∷ frames) token at
 
 -- an atom follows an atom: it is an argument
 abbrev pub argument : List Frame → ExprSyntax → Option (List Frame)
-argument (InArgument at f front ∷ frames) t = Some (InArgument at f (front ++ t ∷ []) ∷ frames)
+argument (InArgument at f before ∷ frames) t = Some (InArgument at f (before ++ t ∷ []) ∷ frames)
 argument frames (name_syntax at f) = cond (nat_lt 1 (top_bound frames)) (Some (InArgument at f [] ∷ frames)) None
 argument frames t = None
 
@@ -179,7 +193,7 @@ close_after (Have (InBracket at ∷ frames) t) = Have frames (bracket_expr_synta
 close_after _ = Refused
 
 abbrev pub list_after : State → State
-list_after (Have (InItem at front ∷ frames) t) = Have frames (list_syntax at (exprs_in_order (front ++ t ∷ [])))
+list_after (Have (InItem at before ∷ frames) t) = Have frames (list_syntax at (exprs_in_order (before ++ t ∷ [])))
 list_after _ = Refused
 
 abbrev pub named_part : ℕ → List ℕ → ExprSyntax → FieldPart
@@ -187,15 +201,16 @@ named_part place x t = record { at = place; name = x; part = t }
 
 -- the fields with one more
 abbrev pub with_field : List FieldPart → ℕ → List ℕ → ExprSyntax → List FieldPart
-with_field front place x t = front ++ named_part place x t ∷ []
+with_field before place x t = before ++ named_part place x t ∷ []
 
 abbrev pub record_after : State → State
-record_after (Have (InField at front place x ∷ frames) t) = Have frames (fields_syntax at (fields_in_order (with_field front place x t)))
+record_after (Have (InField at before place x ∷ frames) t) =
+    Have frames (fields_syntax at (fields_in_order (with_field before place x t)))
 record_after _ = Refused
 
 abbrev pub semi_after : State → State
-semi_after (Have (InItem at front ∷ frames) t) = Need (InItem at (front ++ t ∷ []) ∷ frames)
-semi_after (Have (InField at front place x ∷ frames) t) = Inside frames (FieldName at (with_field front place x t))
+semi_after (Have (InItem at before ∷ frames) t) = Need (InItem at (before ++ t ∷ []) ∷ frames)
+semi_after (Have (InField at before place x ∷ frames) t) = Inside frames (FieldName at (with_field before place x t))
 semi_after _ = Refused
 
 abbrev pub in_after : State → State
@@ -218,50 +233,73 @@ abbrev pub bar_after : State → State
 bar_after (Have (InEmptyArm at list ∷ frames) t) = Inside frames (HeadBinder at list t)
 bar_after _ = Refused
 
+-- a sign that may end or go on the form around an operand; a reserved word
+abbrev pub mark_ends : Symbol → State → State
+mark_ends symbol.RightParen st = close_after st
+mark_ends symbol.RightBracket st = list_after st
+mark_ends symbol.RightBrace st = record_after st
+mark_ends symbol.Semicolon st = semi_after st
+mark_ends symbol.Bar st = bar_after st
+mark_ends _ st = Refused
+
+abbrev pub word_ends : Keyword → State → State
+word_ends keyword.In st = in_after st
+word_ends keyword.Then st = then_after st
+word_ends keyword.Else st = else_after st
+word_ends keyword.With st = with_after st
+word_ends _ st = Refused
+
+-- a sign that isn't an operator behind an atom
+abbrev pub mark_after : List Frame → ExprSyntax → Symbol → ℕ → State
+mark_after frames t symbol.LeftParen at = begin_in (argument frames t) (mark symbol.LeftParen) at
+mark_after frames t symbol.LeftBracket at = begin_in (argument frames t) (mark symbol.LeftBracket) at
+mark_after frames t symbol.LeftBrace at = begin_in (argument frames t) (mark symbol.LeftBrace) at
+mark_after frames t symbol.Dot at = Inside frames (DotName at t)
+mark_after frames t s at = mark_ends s (reduce 9 frames t)
+
+-- an operator behind an atom
+abbrev pub operator_after : List Frame → ExprSyntax → Infix → ℕ → Bool → State
+operator_after frames t (between.Compare compare.Lt) at glued = less_after frames t glued at
+operator_after frames t (between.Compare compare.Gt) at glued = greater_after at (reduce 5 frames t)
+operator_after frames t (between.Compare compare.Ge) at glued = Refused
+operator_after frames t sign at glued = infix_after sign at (reduce (left_limit sign) frames t)
+
 -- behind an atom
 abbrev pub after : List Frame → ExprSyntax → ExprToken → ℕ → Bool → State
 after frames t (name x) at glued = begin_in (argument frames t) (name x) at
 after frames t (number c) at glued = begin_in (argument frames t) (number c) at
 after frames t (truth b) at glued = begin_in (argument frames t) (truth b) at
-after frames t (plain mark.Open) at glued = begin_in (argument frames t) (plain mark.Open) at
-after frames t (plain mark.ListOpen) at glued = begin_in (argument frames t) (plain mark.ListOpen) at
-after frames t (plain mark.RecordOpen) at glued = begin_in (argument frames t) (plain mark.RecordOpen) at
-after frames t (plain mark.Dot) at glued = Inside frames (DotName at t)
-after frames t (plain mark.Close) at glued = close_after (reduce 9 frames t)
-after frames t (plain mark.ListClose) at glued = list_after (reduce 9 frames t)
-after frames t (plain mark.RecordClose) at glued = record_after (reduce 9 frames t)
-after frames t (plain mark.Semi) at glued = semi_after (reduce 9 frames t)
-after frames t (plain mark.In) at glued = in_after (reduce 9 frames t)
-after frames t (plain mark.Then) at glued = then_after (reduce 9 frames t)
-after frames t (plain mark.Else) at glued = else_after (reduce 9 frames t)
-after frames t (plain mark.With) at glued = with_after (reduce 9 frames t)
-after frames t (plain mark.Bar) at glued = bar_after (reduce 9 frames t)
-after frames t (operator (between.Compare compare.Lt)) at glued = less_after frames t glued at
-after frames t (operator (between.Compare compare.Gt)) at glued = greater_after at (reduce 5 frames t)
-after frames t (operator (between.Compare compare.Ge)) at glued = Refused
-after frames t (operator sign) at glued = infix_after sign at (reduce (left_limit sign) frames t)
+after frames t (mark s) at glued = mark_after frames t s at
+after frames t (word k) at glued = word_ends k (reduce 9 frames t)
+after frames t (operator sign) at glued = operator_after frames t sign at glued
 after frames t _ at glued = Refused
 
 -- inside a run of tokens that is fixed
-abbrev pub inside : List Frame → Place → ExprToken → ℕ → State
+abbrev pub inside : List Frame → Expected → ExprToken → ℕ → State
 inside frames (LetBinder at) (name x) p = Inside frames (LetEqual at (record { at = p; name = Some x }))
 inside frames (LetBinder at) hole p = Inside frames (LetEqual at (record { at = p; name = None }))
 inside frames (LetEqual at x) (operator (between.Compare compare.Eq)) p = Need (InValue at x ∷ frames)
-inside frames (FieldName at front) (name x) p = Inside frames (FieldEqual at front p x)
-inside frames (FieldEqual at front place x) (operator (between.Compare compare.Eq)) p = Need (InField at front place x ∷ frames)
-inside frames (DotName at part) (name x) p = Have frames (field_syntax at p x part)
-inside frames (ArmBegin at list) (plain mark.Bar) p = Inside frames (ArmOpen at list)
-inside frames (ArmBegin at list) (plain mark.ListOpen) p = Inside frames (ArmClose at list)
-inside frames (ArmOpen at list) (plain mark.ListOpen) p = Inside frames (ArmClose at list)
-inside frames (ArmClose at list) (plain mark.ListClose) p = Inside frames (ArmArrow at list)
-inside frames (ArmArrow at list) (plain mark.Arrow) p = Need (InEmptyArm at list ∷ frames)
-inside frames (HeadBinder at list empty) (name x) p = Inside frames (HeadCons at list empty (record { at = p; name = Some x }))
-inside frames (HeadBinder at list empty) hole p = Inside frames (HeadCons at list empty (record { at = p; name = None }))
+inside frames (FieldName at before) (name x) p = Inside frames (FieldEqual at before p x)
+inside frames (FieldEqual at before place x) (operator (between.Compare compare.Eq)) p =
+    Need (InField at before place x ∷ frames)
+inside frames (DotName at e) (name x) p = Have frames (field_syntax at p x e)
+inside frames (ArmBegin at list) (mark symbol.Bar) p = Inside frames (ArmOpen at list)
+inside frames (ArmBegin at list) (mark symbol.LeftBracket) p = Inside frames (ArmClose at list)
+inside frames (ArmOpen at list) (mark symbol.LeftBracket) p = Inside frames (ArmClose at list)
+inside frames (ArmClose at list) (mark symbol.RightBracket) p = Inside frames (ArmArrow at list)
+inside frames (ArmArrow at list) (mark symbol.Arrow) p = Need (InEmptyArm at list ∷ frames)
+inside frames (HeadBinder at list empty) (name x) p =
+    Inside frames (HeadCons at list empty (record { at = p; name = Some x }))
+inside frames (HeadBinder at list empty) hole p =
+    Inside frames (HeadCons at list empty (record { at = p; name = None }))
 inside frames (HeadCons at list empty head) (operator between.Cons) p = Inside frames (TailBinder at list empty head)
-inside frames (TailBinder at list empty head) (name x) p = Inside frames (TailArrow at list empty head (record { at = p; name = Some x }))
-inside frames (TailBinder at list empty head) hole p = Inside frames (TailArrow at list empty head (record { at = p; name = None }))
-inside frames (TailArrow at list empty head tail) (plain mark.Arrow) p = Need (InFullArm at list empty head tail ∷ frames)
-inside frames (NilColon at) (plain mark.Colon) p = InType frames at (NeedType 0)
+inside frames (TailBinder at list empty head) (name x) p =
+    Inside frames (TailArrow at list empty head (record { at = p; name = Some x }))
+inside frames (TailBinder at list empty head) hole p =
+    Inside frames (TailArrow at list empty head (record { at = p; name = None }))
+inside frames (TailArrow at list empty head tail) (mark symbol.Arrow) p =
+    Need (InFullArm at list empty head tail ∷ frames)
+inside frames (NilColon at) (mark symbol.Colon) p = InType frames at (NeedType 0)
 inside frames _ _ p = Refused
 
 -- a token that the note of a number refuses; that the type of an empty list refuses
@@ -270,7 +308,7 @@ note_ends frames at c (Some n) (operator (between.Compare compare.Gt)) = Have fr
 note_ends frames at c _ token = Refused
 
 abbrev pub type_ends : List Frame → ℕ → Option TypeSyntax → ExprToken → State
-type_ends frames at (Some t) (plain mark.Close) = Have frames (nil_syntax at t)
+type_ends frames at (Some t) (mark symbol.RightParen) = Have frames (nil_syntax at t)
 type_ends frames at _ token = Refused
 
 -- the note goes on, or ends; the type
@@ -287,9 +325,11 @@ abbrev pub act : State → ExprToken → ℕ → Bool → Kind → State
 act (Need frames) token at glued k = begin frames token at
 act (Have frames t) token at glued k = after frames t token at glued
 act (Greater frames place left) token at glued k = after_greater frames place left token at glued
-act (Inside frames place) token at glued k = inside frames place token at
-act (InNote frames place c n) token at glued k = note_goes frames place c (note_act n k at) (note_ends frames place c (note_finish n) token)
-act (InType frames place s) token at glued k = type_goes frames place (type_act s k at) (type_ends frames place (type_finish s) token)
+act (Inside frames expected) token at glued k = inside frames expected token at
+act (InNote frames place c n) token at glued k =
+    note_goes frames place c (note_act n k at) (note_ends frames place c (note_finish n) token)
+act (InType frames place s) token at glued k =
+    type_goes frames place (type_act s k at) (type_ends frames place (type_finish s) token)
 act Refused token at glued k = Refused
 
 abbrev pub step : State → Token → State

@@ -1,7 +1,7 @@
 -- The frames of a reader.
 -- Source: this project's own.
 use Rattle.std.specs.Prelude.{List}
-use Rattle.um_expr.specs.declared.stack.Frames.{Frames}
+use Rattle.um_expr.specs.declared.frames.Frames.{Frames}
 use Rattle.um_expr.specs.ExprMachine.{Frame}
 use Rattle.um_expr.specs.ExprFrames.{stack}
 

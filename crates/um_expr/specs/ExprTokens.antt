@@ -1,49 +1,26 @@
--- What a token is to expressions and declarations.
--- Source: this project's own.
-use Rattle.std.specs.Prelude.{ℕ, Bool, true, false, List, [], ◌∷◌, slice_index_or}
-use Rattle.um_frac.specs.declared.number.Frac.{Frac}
+-- What a token is to expressions and declarations: each reserved word and sign keeps its name, but `true` and `false`
+-- are
+-- values, and a sign that stands between two operands is an operator.
+-- Source: this project's own; the words and signs are those of the F# specification, Lexical Analysis.
+use Rattle.std.specs.Prelude.{true, false}
 use Rattle.um_syntax.specs.declared.token.Kind.{Kind}
 use Rattle.um_syntax.specs.declared.token.Kind.TheVariants as kind
+use Rattle.um_syntax.specs.declared.vocabulary.Keyword.{Keyword}
+use Rattle.um_syntax.specs.declared.vocabulary.Keyword.TheVariants as keyword
+use Rattle.um_syntax.specs.declared.vocabulary.Symbol.{Symbol}
+use Rattle.um_syntax.specs.declared.vocabulary.Symbol.TheVariants as symbol
 use Rattle.um_tree.specs.declared.expression.Arith.TheVariants as arith
 use Rattle.um_tree.specs.declared.expression.Sign.TheVariants as compare
-use Rattle.um_expr.specs.declared.mark.Mark.{Mark}
-use Rattle.um_expr.specs.declared.mark.Mark.TheVariants as mark
-use Rattle.um_expr.specs.declared.mark.Infix.{Infix}
-use Rattle.um_expr.specs.declared.mark.Infix.TheVariants as between
+use Rattle.um_expr.specs.declared.infix.Infix.TheVariants as between
+use Rattle.um_expr.specs.declared.token.ExprToken.{ExprToken}
+use Rattle.um_expr.specs.declared.token.ExprToken.TheVariants.{Name as name, Variable as variable, Number as number}
+use Rattle.um_expr.specs.declared.token.ExprToken.TheVariants.{Truth as truth, Hole as hole, Operator as operator}
+use Rattle.um_expr.specs.declared.token.ExprToken.TheVariants.{Word as word, Mark as mark}
 
--- a name; a unit variable; a number with its value; `true` or `false`; `_`; a sign between operands; another word or sign
-pub data ExprToken : Type 0 where
-  name : List ℕ → ExprToken
-  variable : List ℕ → ExprToken
-  number : Frac → ExprToken
-  truth : Bool → ExprToken
-  hole : ExprToken
-  operator : Infix → ExprToken
-  plain : Mark → ExprToken
-
--- the words by their numbers: let rec in if then else match with type true false not num bool list Measure pown
-abbrev pub word_tokens : List ExprToken
-word_tokens =
-    plain mark.Let ∷ plain mark.Rec ∷ plain mark.In ∷ plain mark.If ∷ plain mark.Then ∷ plain mark.Else ∷ plain mark.Match ∷ plain mark.With
-    ∷ plain mark.Type ∷ truth true ∷ truth false ∷ plain mark.Not ∷ plain mark.Other ∷ plain mark.Other ∷ plain mark.Other ∷ plain mark.Measure
-    ∷ plain mark.Other ∷ []
-
--- the signs by their numbers: ( ) [ ] { } [< < > = <= <> + - * / ^ ; : :: , . | || && ->
-abbrev pub sign_tokens : List ExprToken
-sign_tokens =
-    plain mark.Open ∷ plain mark.Close ∷ plain mark.ListOpen ∷ plain mark.ListClose ∷ plain mark.RecordOpen ∷ plain mark.RecordClose
-    ∷ plain mark.AttributeOpen ∷ operator (between.Compare compare.Lt) ∷ operator (between.Compare compare.Gt) ∷ operator (between.Compare compare.Eq)
-    ∷ operator (between.Compare compare.Le) ∷ operator (between.Compare compare.Ne) ∷ operator (between.Arith arith.Add) ∷ operator (between.Arith arith.Sub)
-    ∷ operator (between.Arith arith.Mul) ∷ operator (between.Arith arith.Div) ∷ plain mark.Other ∷ plain mark.Semi ∷ plain mark.Colon ∷ operator between.Cons
-    ∷ plain mark.Comma ∷ plain mark.Dot ∷ plain mark.Bar ∷ operator between.Or ∷ operator between.And ∷ plain mark.Arrow ∷ []
-
-abbrev pub expr_token : Kind → ExprToken
-expr_token (kind.Name x) = name x
-expr_token (kind.Var x) = variable x
-expr_token (kind.Number value digits one) = number value
-expr_token (kind.Word k) = slice_index_or word_tokens k (plain mark.Other)
-expr_token kind.Hole = hole
-expr_token (kind.Sign k) = slice_index_or sign_tokens k (plain mark.Other)
+abbrev pub keyword_token : Keyword → ExprToken
+keyword_token keyword.True = truth true
+keyword_token keyword.False = truth false
+keyword_token k = word k
 
 -- the signs that rules name
 abbrev pub equal : ExprToken
@@ -60,3 +37,26 @@ minus = operator (between.Arith arith.Sub)
 
 abbrev pub double_colon : ExprToken
 double_colon = operator between.Cons
+
+abbrev pub symbol_token : Symbol → ExprToken
+symbol_token symbol.Less = less
+symbol_token symbol.Greater = greater
+symbol_token symbol.Equal = equal
+symbol_token symbol.LessEqual = operator (between.Compare compare.Le)
+symbol_token symbol.NotEqual = operator (between.Compare compare.Ne)
+symbol_token symbol.Plus = operator (between.Arith arith.Add)
+symbol_token symbol.Minus = minus
+symbol_token symbol.Star = operator (between.Arith arith.Mul)
+symbol_token symbol.Slash = operator (between.Arith arith.Div)
+symbol_token symbol.ColonColon = double_colon
+symbol_token symbol.BarBar = operator between.Or
+symbol_token symbol.AndAnd = operator between.And
+symbol_token s = mark s
+
+abbrev pub expr_token : Kind → ExprToken
+expr_token (kind.Name x) = name x
+expr_token (kind.Var x) = variable x
+expr_token (kind.Number value digits one) = number value
+expr_token (kind.Word k) = keyword_token k
+expr_token kind.Hole = hole
+expr_token (kind.Sign s) = symbol_token s

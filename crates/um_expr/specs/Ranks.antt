@@ -5,8 +5,8 @@ use Rattle.std.specs.Prelude.{ℕ}
 use Rattle.um_tree.specs.declared.expression.Arith.{Arith}
 use Rattle.um_tree.specs.declared.expression.Arith.TheVariants as arith
 use Rattle.um_tree.specs.RawTree.{ExprSyntax, arith_syntax, compare_syntax, and_syntax, or_syntax, cons_syntax}
-use Rattle.um_expr.specs.declared.mark.Infix.{Infix}
-use Rattle.um_expr.specs.declared.mark.Infix.TheVariants as between
+use Rattle.um_expr.specs.declared.infix.Infix.{Infix}
+use Rattle.um_expr.specs.declared.infix.Infix.TheVariants as between
 
 abbrev pub arith_rank : Arith → ℕ
 arith_rank arith.Add = 4

@@ -1,13 +1,13 @@
 // Ending the frames that need no token to end.
 ghost use Rattle.std.specs.Prelude.{◌≡◌, ◌<◌, IfOk, IfSome, None, option_map, vec_len};
 ghost use Rattle.um_expr.specs.ExprMachine.{Have, reduce, finish};
-ghost use Rattle.um_expr.specs.ExprParts.{part_expr};
+ghost use Rattle.um_expr.specs.ExprOperands.{operand_expr};
 ghost use Rattle.um_expr.specs.ExprStack.{frames_of};
 ghost use Rattle.um_expr.specs.ExprStates.{Ended, left_over};
 
 use crate::frame::Frame;
-use crate::part::Part;
-use crate::stack::Frames;
+use crate::frames::Frames;
+use crate::operand::Operand;
 use std::alloc::{AllocError, Global};
 
 // Takes off the innermost frame if it needs no token to end, and has at most this rank then.
@@ -28,40 +28,44 @@ pub fn ended(
     alloc: Global,
     frames: &mut Frames,
     limit: u8,
-    at_hand: Part,
-) -> Result<Part, AllocError>
+    operand: Operand,
+) -> Result<Operand, AllocError>
     requires { limit < 10 }
-    ensures { IfOk result (λ t. Have (frames_of frames.new) (part_expr t) ≡ reduce limit (frames_of frames.old) (part_expr at_hand)) }
+    ensures { IfOk result (λ t. Have (frames_of frames.new) (operand_expr t) ≡ reduce limit (frames_of frames.old) (operand_expr operand)) }
 {
-    let mut at_hand = at_hand;
+    let mut operand = operand;
     while let Some(frame) = pop_ended(frames, limit) {
-        at_hand = frame.plug(alloc, at_hand)?;
+        operand = frame.plug(alloc, operand)?;
     }
-    Ok(at_hand)
+    Ok(operand)
 }
 
 /// The expression that is whole where nothing is open behind it.
-pub fn left_over(outer: Option<Frame>, at_hand: Part) -> Option<Part>
-    ensures { option_map part_expr result ≡ left_over outer (part_expr at_hand) }
+pub fn left_over(outer: Option<Frame>, operand: Operand) -> Option<Operand>
+    ensures { option_map operand_expr result ≡ left_over outer (operand_expr operand) }
 {
     match outer {
-        None => Some(at_hand),
-        Some(frame) => nothing_left(frame, at_hand),
+        None => Some(operand),
+        Some(frame) => nothing_left(frame, operand),
     }
 }
 
-fn nothing_left(frame: Frame, at_hand: Part) -> Option<Part>
+fn nothing_left(frame: Frame, operand: Operand) -> Option<Operand>
     ensures { result ≡ None }
 {
     drop(frame);
-    drop(at_hand);
+    drop(operand);
     None
 }
 
 /// The expression where all is read behind an atom.
-pub fn whole(alloc: Global, frames: &mut Frames, at_hand: Part) -> Result<Option<Part>, AllocError>
-    ensures { IfOk result (λ o. option_map part_expr o ≡ finish (Have (frames_of frames.old) (part_expr at_hand))) }
+pub fn whole(
+    alloc: Global,
+    frames: &mut Frames,
+    operand: Operand,
+) -> Result<Option<Operand>, AllocError>
+    ensures { IfOk result (λ o. option_map operand_expr o ≡ finish (Have (frames_of frames.old) (operand_expr operand))) }
 {
-    let inner = ended(alloc, frames, 9, at_hand)?;
+    let inner = ended(alloc, frames, 9, operand)?;
     Ok(left_over(frames.pop(), inner))
 }

@@ -1,104 +1,54 @@
 // What is open around the next operand, with the heights of its parts beside them.
 ghost use Rattle.std.specs.Prelude.{◌≡◌, IfOk};
-ghost use Rattle.um_expr.specs.Ranks.{infix_rank, left_limit, right_bound};
 ghost use Rattle.um_expr.specs.ExprMachine.{bound_of, own_rank, plug};
 ghost use Rattle.um_expr.specs.ExprLeast.{side};
 ghost use Rattle.um_types.specs.UnitCount.{counted};
-ghost use Rattle.um_expr.specs.ExprParts.{part_expr};
+ghost use Rattle.um_expr.specs.ExprOperands.{operand_expr};
 ghost use Rattle.um_expr.specs.ExprFrames.{view_frame, is_call};
 
-use crate::height::higher;
-use crate::list::{FieldFront, Front};
-use crate::mark::Infix;
-use crate::part::Part;
+use crate::infix::Infix;
+use crate::operand::Operand;
+use crate::operands::{Operands, ReadFields};
 use std::alloc::{AllocError, Global};
-use um_tree::{Arith, Binder, Name};
+use um_tree::{Binder, Name};
+use um_types::higher;
 
 /// A form that has begun, up to the operand that is read next. The first number of each is its place.
 #[derive(Drop)]
 pub enum Frame {
     InBracket(u32),
     /// `[` and these items
-    InItem(u32, Front),
+    InItem(u32, Operands),
     /// `{`, these fields, and a field's name, at its place, with its `=`
-    InField(u32, FieldFront, u32, Name),
+    InField(u32, ReadFields, u32, Name),
     /// Behind `=`; behind `in`
     InValue(u32, Binder),
-    InBody(u32, Binder, Part),
+    InBody(u32, Binder, Operand),
     /// Behind `if`; `then`; `else`
     InTest(u32),
-    InThen(u32, Part),
-    InElse(u32, Part, Part),
+    InThen(u32, Operand),
+    InElse(u32, Operand, Operand),
     /// Behind `match`; the first `->`; the second
     InMatched(u32),
-    InEmptyArm(u32, Part),
-    InFullArm(u32, Part, Part, Binder, Binder),
+    InEmptyArm(u32, Operand),
+    InFullArm(u32, Operand, Operand, Binder, Binder),
     InNegate(u32),
     InNot(u32),
-    InRight(u32, Infix, Part),
+    InRight(u32, Infix, Operand),
     /// Behind a name and these arguments
-    InArgument(u32, Name, Front),
+    InArgument(u32, Name, Operands),
 }
 
-/// An open frame, and the least height that the parts in it and in the frames around it ask for, counted up to 401.
+/// An open frame, and the least height that the parts in it and in the frames around it ask for,
+/// counted.
 #[derive(Drop)]
 pub struct Entry {
     pub frame: Frame,
     pub least: u32,
 }
 
-impl Infix {
-    /// How tightly the sign binds, from `*` and `/` (3) to `||` (8).
-    pub fn rank(self) -> u8
-        ensures { result ≡ infix_rank self }
-    {
-        match self {
-            Infix::Or => 8,
-            Infix::And => 7,
-            Infix::Compare(_) => 6,
-            Infix::Cons => 5,
-            Infix::Arith(Arith::Add) => 4,
-            Infix::Arith(Arith::Sub) => 4,
-            Infix::Arith(Arith::Mul) => 3,
-            Infix::Arith(Arith::Div) => 3,
-        }
-    }
-
-    /// The greatest rank of its left operand.
-    pub fn left_limit(self) -> u8
-        ensures { result ≡ left_limit self }
-    {
-        match self {
-            Infix::Or => 8,
-            Infix::And => 7,
-            Infix::Compare(_) => 5,
-            Infix::Cons => 4,
-            Infix::Arith(Arith::Add) => 4,
-            Infix::Arith(Arith::Sub) => 4,
-            Infix::Arith(Arith::Mul) => 3,
-            Infix::Arith(Arith::Div) => 3,
-        }
-    }
-
-    /// The rank of its right operand lies below this.
-    pub fn right_bound(self) -> u8
-        ensures { result ≡ right_bound self }
-    {
-        match self {
-            Infix::Or => 8,
-            Infix::And => 7,
-            Infix::Compare(_) => 6,
-            Infix::Cons => 6,
-            Infix::Arith(Arith::Add) => 4,
-            Infix::Arith(Arith::Sub) => 4,
-            Infix::Arith(Arith::Mul) => 3,
-            Infix::Arith(Arith::Div) => 3,
-        }
-    }
-}
-
 // What is whole without the frame.
-fn unframed(frame: Frame, last: Part) -> Part
+fn unframed(frame: Frame, last: Operand) -> Operand
     ensures { result ≡ last }
 {
     drop(frame);
@@ -150,8 +100,8 @@ impl Frame {
     {
         match self {
             Frame::InBracket(_) => 0,
-            Frame::InItem(_, front) => front.height,
-            Frame::InField(_, front, _, _) => front.height,
+            Frame::InItem(_, before) => before.height,
+            Frame::InField(_, before, _, _) => before.height,
             Frame::InValue(_, _) => 1,
             Frame::InBody(_, _, value) => value.height,
             Frame::InTest(_) => 1,
@@ -163,13 +113,13 @@ impl Frame {
             Frame::InNegate(_) => 0,
             Frame::InNot(_) => 0,
             Frame::InRight(_, _, left) => left.height,
-            Frame::InArgument(_, _, front) => front.height,
+            Frame::InArgument(_, _, before) => before.height,
         }
     }
 
     /// What it is with its last part, where no token ends it.
-    pub fn plug(self, alloc: Global, last: Part) -> Result<Part, AllocError>
-        ensures { IfOk result (λ p. part_expr p ≡ plug (view_frame self) (part_expr last)) }
+    pub fn plug(self, alloc: Global, last: Operand) -> Result<Operand, AllocError>
+        ensures { IfOk result (λ p. operand_expr p ≡ plug (view_frame self) (operand_expr last)) }
     {
         match self {
             Frame::InBody(at, x, value) => value.bound(alloc, at, x, last),
@@ -180,7 +130,7 @@ impl Frame {
             Frame::InNegate(at) => last.negate(alloc, at),
             Frame::InNot(at) => last.not(alloc, at),
             Frame::InRight(at, sign, left) => left.infix(alloc, at, sign, last),
-            Frame::InArgument(at, name, front) => Ok(front.with(last)?.call(at, name)),
+            Frame::InArgument(at, name, before) => Ok(before.with(last)?.call(at, name)),
             other => Ok(unframed(other, last)),
         }
     }

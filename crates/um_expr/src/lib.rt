@@ -1,25 +1,26 @@
 //! The grammar of expressions: from tokens to raw trees, one token at a time.
 #![tactic(auto)]
 
-mod after;
 mod argument;
 mod begin;
+mod closing;
 mod ending;
+mod expected;
+mod focus;
 mod frame;
-mod hand;
+mod frames;
 mod height;
-mod inside;
-mod least;
-mod list;
-mod mark;
-mod part;
+mod infix;
+pub mod laws;
+mod least_height;
+mod node;
+mod operand;
+mod operands;
+mod operator;
 mod reader;
-mod sign;
-mod stack;
 mod step;
-mod take;
-mod word;
+mod token;
 
-pub use mark::{Infix, Mark};
-pub use take::{ExprReader, ExprStep};
-pub use word::Word;
+pub use infix::Infix;
+pub use reader::{ExprReader, ExprStep};
+pub use token::ExprToken;

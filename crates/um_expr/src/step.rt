@@ -1,4 +1,4 @@
-// One token more, whatever is at hand.
+// One token more, whatever is in focus.
 ghost use Rattle.std.specs.Prelude.{◌≡◌, ◌≤◌, IfOk, None, Some};
 ghost use Rattle.um_tree.specs.RawTree.{note_syntax, type_syntax};
 ghost use Rattle.um_types.specs.TypeHeights.{note_height, whole_height};
@@ -7,67 +7,45 @@ ghost use Rattle.um_types.specs.NoteMachine.{note_act, note_finish};
 ghost use Rattle.um_types.specs.NoteTakes.{note_state};
 ghost use Rattle.um_types.specs.TypeMachine.{type_act, type_finish};
 ghost use Rattle.um_types.specs.TypeTakes.{type_state};
-ghost use Rattle.um_expr.specs.ExprTokens.{expr_token, plain};
-ghost use Rattle.um_expr.specs.ExprMachine.{Have, finish, after, note_ends, type_ends, note_goes, type_goes, step};
-ghost use Rattle.um_expr.specs.ExprParts.{part_expr};
-ghost use Rattle.um_expr.specs.ExprWords.{view_word};
+ghost use Rattle.um_expr.specs.ExprTokens.{expr_token};
+ghost use Rattle.um_expr.specs.ExprMachine.{Have, finish, mark_after, after, note_ends, type_ends, note_goes, type_goes, step};
+ghost use Rattle.um_expr.specs.ExprOperands.{operand_expr};
 ghost use Rattle.um_expr.specs.ExprStack.{frames_of};
-ghost use Rattle.um_expr.specs.ExprStates.{state_of, Gives};
+ghost use Rattle.um_expr.specs.ExprStates.{state_of, Simulates};
 
-use crate::after::end;
 use crate::argument::begin_argument;
-use crate::begin::{after_greater, begin, refuse_word};
+use crate::begin::{after_greater, begin, refuse_token};
+use crate::closing::{end_by_mark, end_by_word};
 use crate::ending::whole;
-use crate::hand::{Hand, Noted, Place, Step};
-use crate::inside::inside;
-use crate::mark::{Infix, Mark};
-use crate::part::Part;
-use crate::sign::after_sign;
-use crate::stack::Frames;
-use crate::word::Word;
+use crate::expected::inside;
+use crate::focus::{Expected, Focus, Noted, Step};
+use crate::frames::Frames;
+use crate::infix::Infix;
+use crate::operand::Operand;
+use crate::operator::after_operator;
+use crate::token::ExprToken;
 use std::alloc::{AllocError, Global};
 use um_frac::Frac;
-use um_syntax::Token;
+use um_syntax::{Symbol, Token};
 use um_tree::{RawNote, RawType, Sign};
 use um_types::{NoteStep, TypeReader, TypeStep};
 
-// A word or sign behind an atom.
+// A sign behind an atom that isn't an operator.
 fn after_mark(
     alloc: Global,
     frames: &mut Frames,
-    part: Part,
-    mark: Mark,
+    operand: Operand,
+    symbol: Symbol,
     at: u32,
-    glued: bool,
 ) -> Result<Step, AllocError>
-    ensures { IfOk result (λ s. Gives (finish (Have (frames_of frames.old) (part_expr part))) (frames_of frames.new) s (after (frames_of frames.old) (part_expr part) (plain mark) at glued)) }
+    ensures { IfOk result (λ s. Simulates (finish (Have (frames_of frames.old) (operand_expr operand))) (frames_of frames.new) s (mark_after (frames_of frames.old) (operand_expr operand) symbol at)) }
 {
-    match mark {
-        Mark::Open | Mark::ListOpen | Mark::RecordOpen => {
-            begin_argument(alloc, frames, part, Word::Plain(mark), at)
+    match symbol {
+        Symbol::LeftParen | Symbol::LeftBracket | Symbol::LeftBrace => {
+            begin_argument(alloc, frames, operand, ExprToken::Mark(symbol), at)
         }
-        Mark::Dot => Ok(Step::Goes(Hand::Inside(Place::DotName(at, part)))),
-        Mark::Close
-        | Mark::ListClose
-        | Mark::RecordClose
-        | Mark::Semi
-        | Mark::In
-        | Mark::Then
-        | Mark::Else
-        | Mark::With
-        | Mark::Bar => end(alloc, frames, part, mark),
-        Mark::Let
-        | Mark::Rec
-        | Mark::If
-        | Mark::Match
-        | Mark::Type
-        | Mark::Not
-        | Mark::Measure
-        | Mark::AttributeOpen
-        | Mark::Colon
-        | Mark::Comma
-        | Mark::Arrow
-        | Mark::Other => Ok(Step::Stops(whole(alloc, frames, part)?)),
+        Symbol::Dot => Ok(Step::Goes(Focus::Inside(Expected::DotName(at, operand)))),
+        _ => end_by_mark(alloc, frames, operand, symbol),
     }
 }
 
@@ -75,58 +53,63 @@ fn after_mark(
 fn after(
     alloc: Global,
     frames: &mut Frames,
-    part: Part,
-    word: Word,
+    operand: Operand,
+    kind: ExprToken,
     at: u32,
     glued: bool,
 ) -> Result<Step, AllocError>
-    ensures { IfOk result (λ s. Gives (finish (Have (frames_of frames.old) (part_expr part))) (frames_of frames.new) s (after (frames_of frames.old) (part_expr part) (view_word word) at glued)) }
+    ensures { IfOk result (λ s. Simulates (finish (Have (frames_of frames.old) (operand_expr operand))) (frames_of frames.new) s (after (frames_of frames.old) (operand_expr operand) kind at glued)) }
 {
-    match word {
-        Word::Name(name) => begin_argument(alloc, frames, part, Word::Name(name), at),
-        Word::Number(value) => begin_argument(alloc, frames, part, Word::Number(value), at),
-        Word::Truth(value) => begin_argument(alloc, frames, part, Word::Truth(value), at),
-        Word::Plain(mark) => after_mark(alloc, frames, part, mark, at, glued),
-        Word::Operator(sign) => after_sign(alloc, frames, part, sign, at, glued),
-        Word::Variable(_) | Word::Hole => Ok(Step::Stops(whole(alloc, frames, part)?)),
+    match kind {
+        ExprToken::Name(name) => begin_argument(alloc, frames, operand, ExprToken::Name(name), at),
+        ExprToken::Number(value) => {
+            begin_argument(alloc, frames, operand, ExprToken::Number(value), at)
+        }
+        ExprToken::Truth(value) => {
+            begin_argument(alloc, frames, operand, ExprToken::Truth(value), at)
+        }
+        ExprToken::Mark(symbol) => after_mark(alloc, frames, operand, symbol, at),
+        ExprToken::Word(keyword) => end_by_word(alloc, frames, operand, keyword),
+        ExprToken::Operator(sign) => after_operator(alloc, frames, operand, sign, at, glued),
+        ExprToken::Variable(_) | ExprToken::Hole => Ok(Step::Stops(whole(alloc, frames, operand)?)),
     }
 }
 
 // The token that the note of a number has refused.
-fn note_ends(frames: &Frames, at: u32, value: Frac, note: RawNote, word: Word) -> Step
+fn note_ends(frames: &Frames, at: u32, value: Frac, note: RawNote, kind: ExprToken) -> Step
     requires { note_height (note_syntax note) ≤ greatest_height }
-    ensures { Gives None (frames_of frames.now) result (note_ends (frames_of frames.now) at value (Some (note_syntax note)) (view_word word)) }
+    ensures { Simulates None (frames_of frames.now) result (note_ends (frames_of frames.now) at value (Some (note_syntax note)) kind) }
 {
-    match word {
-        Word::Operator(Infix::Compare(Sign::Gt)) => {
-            Step::Goes(Hand::Full(Part::number(at, value, Some(note))))
+    match kind {
+        ExprToken::Operator(Infix::Compare(Sign::Gt)) => {
+            Step::Goes(Focus::Read(Operand::number(at, value, Some(note))))
         }
-        other => refuse_word(other),
+        other => refuse_token(other),
     }
 }
 
 // The token that the type of an empty list has refused.
-fn type_ends(frames: &Frames, at: u32, ty: RawType, word: Word) -> Step
+fn type_ends(frames: &Frames, at: u32, ty: RawType, kind: ExprToken) -> Step
     requires { whole_height (type_syntax ty) ≤ greatest_height }
-    ensures { Gives None (frames_of frames.now) result (type_ends (frames_of frames.now) at (Some (type_syntax ty)) (view_word word)) }
+    ensures { Simulates None (frames_of frames.now) result (type_ends (frames_of frames.now) at (Some (type_syntax ty)) kind) }
 {
-    match word {
-        Word::Plain(Mark::Close) => Step::Goes(Hand::Full(Part::nil(at, ty))),
-        other => refuse_word(other),
+    match kind {
+        ExprToken::Mark(Symbol::RightParen) => Step::Goes(Focus::Read(Operand::nil(at, ty))),
+        other => refuse_token(other),
     }
 }
 
 // One token in the note of a number.
 fn in_note(alloc: Global, frames: &Frames, noted: Noted, token: &Token) -> Result<Step, AllocError>
-    ensures { IfOk result (λ s. Gives None (frames_of frames.now) s (note_goes (frames_of frames.now) noted.at noted.value (note_act (note_state noted.note) token.now.kind token.now.start) (note_ends (frames_of frames.now) noted.at noted.value (note_finish (note_state noted.note)) (expr_token token.now.kind)))) }
+    ensures { IfOk result (λ s. Simulates None (frames_of frames.now) s (note_goes (frames_of frames.now) noted.at noted.value (note_act (note_state noted.note) token.now.kind token.now.start) (note_ends (frames_of frames.now) noted.at noted.value (note_finish (note_state noted.note)) (expr_token token.now.kind)))) }
 {
     let Noted { at, value, note } = noted;
     match note.take(alloc, token)? {
-        NoteStep::Goes(note) => Ok(Step::Goes(Hand::Note(Noted { at, value, note }))),
+        NoteStep::Goes(note) => Ok(Step::Goes(Focus::Note(Noted { at, value, note }))),
         NoteStep::High => Ok(Step::High),
         NoteStep::Stops(Some(note)) => {
-            let word = Word::of_kind(alloc, &token.kind)?;
-            Ok(note_ends(frames, at, value, note, word))
+            let kind = ExprToken::of_kind(alloc, &token.kind)?;
+            Ok(note_ends(frames, at, value, note, kind))
         }
         NoteStep::Stops(None) => Ok(Step::Stops(None)),
     }
@@ -140,14 +123,14 @@ fn in_type(
     ty: TypeReader,
     token: &Token,
 ) -> Result<Step, AllocError>
-    ensures { IfOk result (λ s. Gives None (frames_of frames.now) s (type_goes (frames_of frames.now) at (type_act (type_state ty) token.now.kind token.now.start) (type_ends (frames_of frames.now) at (type_finish (type_state ty)) (expr_token token.now.kind)))) }
+    ensures { IfOk result (λ s. Simulates None (frames_of frames.now) s (type_goes (frames_of frames.now) at (type_act (type_state ty) token.now.kind token.now.start) (type_ends (frames_of frames.now) at (type_finish (type_state ty)) (expr_token token.now.kind)))) }
 {
     match ty.take(alloc, token)? {
-        TypeStep::Goes(ty) => Ok(Step::Goes(Hand::Type(at, ty))),
+        TypeStep::Goes(ty) => Ok(Step::Goes(Focus::Type(at, ty))),
         TypeStep::High => Ok(Step::High),
         TypeStep::Stops(Some(ty)) => {
-            let word = Word::of_kind(alloc, &token.kind)?;
-            Ok(type_ends(frames, at, ty, word))
+            let kind = ExprToken::of_kind(alloc, &token.kind)?;
+            Ok(type_ends(frames, at, ty, kind))
         }
         TypeStep::Stops(None) => Ok(Step::Stops(None)),
     }
@@ -157,29 +140,29 @@ fn in_type(
 pub fn step(
     alloc: Global,
     frames: &mut Frames,
-    hand: Hand,
+    focus: Focus,
     token: &Token,
 ) -> Result<Step, AllocError>
-    ensures { IfOk result (λ s. Gives (finish (state_of (frames_of frames.old) hand)) (frames_of frames.new) s (step (state_of (frames_of frames.old) hand) token.now)) }
+    ensures { IfOk result (λ s. Simulates (finish (state_of (frames_of frames.old) focus)) (frames_of frames.new) s (step (state_of (frames_of frames.old) focus) token.now)) }
 {
-    match hand {
-        Hand::Empty => {
-            let word = Word::of_kind(alloc, &token.kind)?;
-            begin(alloc, frames, word, token.start)
+    match focus {
+        Focus::Wanted => {
+            let kind = ExprToken::of_kind(alloc, &token.kind)?;
+            begin(alloc, frames, kind, token.start)
         }
-        Hand::Full(part) => {
-            let word = Word::of_kind(alloc, &token.kind)?;
-            after(alloc, frames, part, word, token.start, token.glued)
+        Focus::Read(operand) => {
+            let kind = ExprToken::of_kind(alloc, &token.kind)?;
+            after(alloc, frames, operand, kind, token.start, token.glued)
         }
-        Hand::Greater(at, left) => {
-            let word = Word::of_kind(alloc, &token.kind)?;
-            after_greater(alloc, frames, at, left, word, token.start, token.glued)
+        Focus::Greater(at, left) => {
+            let kind = ExprToken::of_kind(alloc, &token.kind)?;
+            after_greater(alloc, frames, at, left, kind, token.start, token.glued)
         }
-        Hand::Inside(place) => {
-            let word = Word::of_kind(alloc, &token.kind)?;
-            inside(alloc, frames, place, word, token.start)
+        Focus::Inside(place) => {
+            let kind = ExprToken::of_kind(alloc, &token.kind)?;
+            inside(alloc, frames, place, kind, token.start)
         }
-        Hand::Note(noted) => in_note(alloc, frames, noted, token),
-        Hand::Type(at, ty) => in_type(alloc, frames, at, ty, token),
+        Focus::Note(noted) => in_note(alloc, frames, noted, token),
+        Focus::Type(at, ty) => in_type(alloc, frames, at, ty, token),
     }
 }

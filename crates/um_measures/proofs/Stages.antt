@@ -1,4 +1,4 @@
--- Loops over texts: what stands for the texts so far, and what the others add to it.
+-- Loops over texts: what the texts so far stand for, and what the others add to it.
 use Rattle.std.proofs.Common.{◌≡◌, ℕ, zero, suc, ◌<◌, ◌≤◌, List, [], ◌∷◌, ◌++◌, map, drop, get_or, length, refl, ap, sym, ◌∙◌, Ok, Err, arith, append_assoc, append-nil, add-one, ◌+◌}
 use Rattle.um_measures.specs.Faults.{Found, and_then, each}
 use Rattle.um_measures.specs.declared.stop.NameStop.{NameStop}

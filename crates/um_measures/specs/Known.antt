@@ -1,6 +1,6 @@
 -- What is known at a place of a program: what the declarations before it declare.
 -- Source: this project's own rules of scope; spaces of names as in the F# specification, Name Resolution.
--- What is known is a list, and a name is looked for from its front; there is no table.
+-- What is known is a list, and the first of a name counts; there is no table.
 use Rattle.std.specs.Prelude.{ℕ, suc, Bool, ◌||◌, cond, List, [], ◌∷◌, map, Option, Some, None}
 use Rattle.std.specs.List.{list_any, flat_map}
 use Rattle.std.specs.Str.{bytes_eq}
@@ -50,7 +50,8 @@ field_names records = flat_map names_of_fields records
 -- measures, abbreviations and records share one space of names
 abbrev pub is_taken : Known → List ℕ → Bool
 is_taken known x =
-    is_among known.program.bases x || (is_among (short_names known.shorts) x || is_among (record_names known.program.records) x)
+    is_among known.program.bases x
+    || (is_among (short_names known.shorts) x || is_among (record_names known.program.records) x)
 
 -- the unit of the first abbreviation of this name
 abbrev pub short_unit : List Abbreviation → List ℕ → Option PowerMap

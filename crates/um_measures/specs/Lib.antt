@@ -1,9 +1,11 @@
+-- What a reader must trust: faults, what is known, the units of unit texts, unit variables, scopes.
 pub mod Faults
-pub mod Stops
-pub mod AbbreviationCode
 pub mod Known
 pub mod UnitNames
-pub mod RunningPowers
-pub mod Variables
 pub mod ClosedUnits
+pub mod Variables
 pub mod Scopes
+-- What mirrors the code: its refusals, how it stores abbreviations, its running products.
+pub mod Stops
+pub mod AbbreviationCode
+pub mod RunningPowers

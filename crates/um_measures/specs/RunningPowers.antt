@@ -1,4 +1,4 @@
--- The powers of a product that grows by one term after another, kept by atom.
+-- Mirrors the code: the powers of a product that grows by one term after another, kept by atom.
 -- Source: this project's own.
 use Rattle.std.specs.Prelude.{◌≡◌, ◌≤◌, cond, List, Option, Some, None, ℤ, pos, ◌+ℤ◌, nat_abs}
 use Rattle.indexmap.specs.IndexMap.{IndexMap, get}
@@ -17,7 +17,8 @@ power_at powers x = or_zero (get same_atom powers x)
 
 -- the term's power is added to that of its atom, and each other atom keeps its own
 abbrev pub Raises : {S : Type 0} → IndexMap Atom ℤ S → IndexMap Atom ℤ S → Term → Type 0
-Raises old new t = (x : Atom) → power_at new x ≡ cond (same_atom t.atom x) (power_at old t.atom +ℤ t.power) (power_at old x)
+Raises old new t =
+    (x : Atom) → power_at new x ≡ cond (same_atom t.atom x) (power_at old t.atom +ℤ t.power) (power_at old x)
 
 -- the map has the power of each atom in the product of the terms, and all of them are in range
 pub record ArePowersOf {S : Type 0} (powers : IndexMap Atom ℤ S) (ts : List Term) : Type 0 where

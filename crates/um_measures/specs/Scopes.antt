@@ -1,5 +1,6 @@
 -- The variables of a place in an expression, and which of them a name is.
--- Source: static scope as in ML: a variable is found from the end of the scope, so that a later one hides an earlier one.
+-- Source: static scope as in ML: a variable is found from the end of the scope, so that a later one hides an
+-- earlier one.
 use Rattle.std.specs.Prelude.{ℕ, suc, Bool, true, false, is_some, List, [], ◌∷◌, Option, Some, None}
 use Rattle.std.specs.Str.{bytes_eq}
 

@@ -1,4 +1,4 @@
--- What a refusal of the code says of a text: it is the text's first fault, with its place.
+-- Mirrors the code: what its refusal says of a text. It is the text's first fault, with its place.
 -- Source: this project's own.
 use Rattle.std.specs.Prelude.{◌≡◌, Err}
 use Rattle.um_measures.specs.declared.stop.NameStop.{NameStop}

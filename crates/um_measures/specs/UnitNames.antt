@@ -5,7 +5,9 @@ use Rattle.std.specs.Prelude.{ℕ, Bool, true, false, ◌&&◌, cond, is_some, L
 use Rattle.um_units.specs.declared.Atom.TheVariants.{Var}
 use Rattle.um_units.specs.PowerMap.{PowerMap, one, atom, mul, inv, pow}
 use Rattle.um_units.specs.Range.{fits}
-use Rattle.um_tree.specs.RawTree.{UnitSyntax, UnitSyntaxes, one_syntax, measure_syntax, variable_syntax, power_syntax, side_syntax, times_syntax, over_syntax, inverse_syntax, bracket_syntax, no_units, more_units}
+use Rattle.um_tree.specs.RawTree.{UnitSyntax, UnitSyntaxes, one_syntax, measure_syntax, variable_syntax, power_syntax}
+use Rattle.um_tree.specs.RawTree.{side_syntax, times_syntax, over_syntax, inverse_syntax, bracket_syntax, no_units}
+use Rattle.um_tree.specs.RawTree.{more_units}
 use Rattle.um_measures.specs.Faults.{unknown, range, Found}
 use Rattle.um_measures.specs.Known.{number_of, is_among}
 
@@ -85,7 +87,7 @@ module _ (measures : List ℕ → Option PowerMap) (variables : List (List ℕ))
     product_of before no_units = before
     product_of before (more_units u us) = product_of (mul before (unit_of u)) us
 
-  -- each part has its powers in range, and so has each front of a juxtaposition
+  -- each part has its powers in range, and so has each prefix of a juxtaposition
   abbrev mutual
     pub parts_fit : UnitSyntax → Bool
     parts_fit (one_syntax at) = true

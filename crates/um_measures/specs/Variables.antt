@@ -2,7 +2,15 @@
 -- Source: this project's own; F# generalizes over the measure variables of a function's annotations too.
 use Rattle.std.specs.Prelude.{ℕ, cond, List, [], ◌∷◌, ◌++◌, Option, Some, None}
 use Rattle.std.specs.List.{flat_map}
-use Rattle.um_tree.specs.RawTree.{UnitSyntax, UnitSyntaxes, one_syntax, measure_syntax, variable_syntax, power_syntax, side_syntax, times_syntax, over_syntax, inverse_syntax, bracket_syntax, no_units, more_units, NoteSyntax, hole_syntax, unit_note_syntax, TypeSyntax, bool_syntax, num_syntax, record_syntax, list_type_syntax, bracket_type_syntax, ExprSyntax, ExprSyntaxes, FieldSyntaxes, truth_syntax, number_syntax, name_syntax, call_syntax, negate_syntax, not_syntax, arith_syntax, compare_syntax, and_syntax, or_syntax, if_syntax, let_syntax, match_syntax, nil_syntax, list_syntax, cons_syntax, fields_syntax, field_syntax, bracket_expr_syntax, no_exprs, more_exprs, no_fields, more_fields, FunctionSyntax}
+use Rattle.um_tree.specs.RawTree.{UnitSyntax, UnitSyntaxes, one_syntax, measure_syntax, variable_syntax, power_syntax}
+use Rattle.um_tree.specs.RawTree.{side_syntax, times_syntax, over_syntax, inverse_syntax, bracket_syntax, no_units}
+use Rattle.um_tree.specs.RawTree.{more_units, NoteSyntax, hole_syntax, unit_note_syntax, TypeSyntax, bool_syntax}
+use Rattle.um_tree.specs.RawTree.{num_syntax, record_syntax, list_type_syntax, bracket_type_syntax, ExprSyntax}
+use Rattle.um_tree.specs.RawTree.{ExprSyntaxes, FieldSyntaxes, truth_syntax, number_syntax, name_syntax, call_syntax}
+use Rattle.um_tree.specs.RawTree.{negate_syntax, not_syntax, arith_syntax, compare_syntax, and_syntax, or_syntax}
+use Rattle.um_tree.specs.RawTree.{if_syntax, let_syntax, match_syntax, nil_syntax, list_syntax, cons_syntax}
+use Rattle.um_tree.specs.RawTree.{fields_syntax, field_syntax, bracket_expr_syntax, no_exprs, more_exprs, no_fields}
+use Rattle.um_tree.specs.RawTree.{more_fields, FunctionSyntax}
 use Rattle.um_measures.specs.Known.{is_among}
 
 -- the variables of a unit text as they stand
@@ -80,7 +88,8 @@ occurring f = flat_map (λ p. type_variables p.type) f.params ++ result_variable
 -- each name once, behind those that are there, at its first occurrence
 abbrev pub first_occurrences : List (List ℕ) → List (List ℕ) → List (List ℕ)
 first_occurrences before [] = before
-first_occurrences before (x ∷ xs) = cond (is_among before x) (first_occurrences before xs) (first_occurrences (before ++ x ∷ []) xs)
+first_occurrences before (x ∷ xs) =
+    cond (is_among before x) (first_occurrences before xs) (first_occurrences (before ++ x ∷ []) xs)
 
 -- the named variables of a function, in the order of their numbers
 abbrev pub named_variables : FunctionSyntax → List (List ℕ)

@@ -147,18 +147,18 @@ fn product(
     ensures exact { IfOk result (λ unit. unit ≡ product_of (short_unit measures.now) variables.now one (units_in_order (map unit_syntax units.now))) }
     ensures range { RangeUnless result (products_fit (short_unit measures.now) variables.now one (units_in_order (map unit_syntax units.now))) }
 {
-    let mut front = RunningProduct::new(alloc);
+    let mut running = RunningProduct::new(alloc);
     for i in 0..units.len() {
         let unit = evaluated(alloc, measures, variables, &units[i])?;
-        front = front.times(&unit)?;
+        running = running.times(&unit)?;
     }
-    Ok(front.to_unit(alloc)?)
+    Ok(running.to_unit(alloc)?)
 }
 
 /// The unit of a text where these measures and unit variables are known.
 ///
 /// A measure stands for its unit, and a unit variable for its number. Unknown comes at the first name or variable that
-/// isn't known. Else Range comes at the text's first token where a part, or a front of a juxtaposition, has a power out
+/// isn't known. Else Range comes at the text's first token where a part, or a prefix of a juxtaposition, has a power out
 /// of range. The rule of measures is the F# specification's, Units Of Measure; the range is this project's own.
 pub fn resolved_unit(
     alloc: Global,

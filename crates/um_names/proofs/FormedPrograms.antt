@@ -6,7 +6,7 @@ use Rattle.um_tree.specs.RawTree.{DeclSyntax, base_syntax, short_syntax, record_
 use Rattle.um_measures.specs.Faults.{and_then, unless_taken}
 use Rattle.um_measures.specs.Known.{Known, nothing, is_taken, record_names, function_names, field_names, measure_unit}
 use Rattle.um_measures.specs.UnitNames.{resolved_unit}
-use Rattle.um_names.specs.Parts.{resolved_program}
+use Rattle.um_names.specs.Resolution.{resolved_program}
 use Rattle.um_names.specs.Resolution.{resolved_record_decl, resolved_function, with_base, with_short, with_record, with_function, resolved_decl, resolved_decls, resolution}
 use Rattle.um_names.specs.Readable.{IsReadDecl, AreReadDecls, functions_in, IsReadable}
 use Rattle.um_names.proofs.FormedUnits.{measure_in, resolved_unit_in}

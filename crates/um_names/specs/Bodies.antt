@@ -1,4 +1,4 @@
--- Expressions in the body of a function, by what the code knows there.
+-- Mirrors the code: expressions in the body of a function, by what the code knows there.
 -- Source: this project's own.
 use Rattle.std.specs.Prelude.{List}
 use Rattle.um_tree.specs.ExprTree.{ExprTree, ExprTrees}

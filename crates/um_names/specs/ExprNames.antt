@@ -1,15 +1,23 @@
 -- The expression of an expression text, or its first fault.
 -- Source: static scope as in ML; the order of the checks is this project's own.
 -- A variable is found from the end of the scope, so that a later one hides an earlier one and a function.
-use Rattle.std.specs.Prelude.{ℕ, suc, Bool, true, false, cond, slice_get, map, ◌==◌, ◌&&◌, List, [], ◌∷◌, ◌++◌, ℤ, pos, negsuc, Option, Some, None, Ok, Err}
+use Rattle.std.specs.Prelude.{ℕ, suc, Bool, true, false, cond, slice_get, map, ◌==◌, ◌&&◌, List, [], ◌∷◌, ◌++◌, ℤ}
+use Rattle.std.specs.Prelude.{pos, negsuc, Option, Some, None, Ok, Err}
 use Rattle.std.specs.Str.{bytes_eq}
 use Rattle.um_frac.specs.declared.number.Frac.{Frac}
 use Rattle.um_frac.specs.Fraction.{numerator}
 use Rattle.um_units.specs.PowerMap.{one}
 use Rattle.um_tree.specs.declared.note.UnitNote.TheVariants as note
-use Rattle.um_tree.specs.ExprTree.{ExprTree, ExprTrees, truth, number, local, call, negate, not_expr, arith, compare, both, either, if, bind, split, nil, list_expr, cons, record_expr, field, none, more}
+use Rattle.um_tree.specs.ExprTree.{ExprTree, ExprTrees, truth, number, local, call, negate, not_expr, arith, compare}
+use Rattle.um_tree.specs.ExprTree.{both, either, if, bind, split, nil, list_expr, cons, record_expr, field, none}
+use Rattle.um_tree.specs.ExprTree.{more}
 use Rattle.um_tree.specs.ProgramTree.{RecordTree}
-use Rattle.um_tree.specs.RawTree.{NoteSyntax, hole_syntax, unit_note_syntax, ExprSyntax, ExprSyntaxes, FieldSyntaxes, truth_syntax, number_syntax, name_syntax, call_syntax, negate_syntax, not_syntax, arith_syntax, compare_syntax, and_syntax, or_syntax, if_syntax, let_syntax, match_syntax, nil_syntax, list_syntax, cons_syntax, fields_syntax, field_syntax, bracket_expr_syntax, no_exprs, more_exprs, no_fields, more_fields}
+use Rattle.um_tree.specs.RawTree.{NoteSyntax, hole_syntax, unit_note_syntax, TypeSyntax, ExprSyntax, ExprSyntaxes}
+use Rattle.um_tree.specs.RawTree.{FieldSyntaxes}
+use Rattle.um_tree.specs.RawTree.{truth_syntax, number_syntax, name_syntax, call_syntax, negate_syntax, not_syntax}
+use Rattle.um_tree.specs.RawTree.{arith_syntax, compare_syntax, and_syntax, or_syntax, if_syntax, let_syntax}
+use Rattle.um_tree.specs.RawTree.{match_syntax, nil_syntax, list_syntax, cons_syntax, fields_syntax, field_syntax}
+use Rattle.um_tree.specs.RawTree.{bracket_expr_syntax, no_exprs, more_exprs, no_fields, more_fields}
 use Rattle.um_measures.specs.Faults.{unknown, wrong_count, hole, Found, and_then, unless_taken}
 use Rattle.um_measures.specs.Scopes.{Scope, local_of, same_binding}
 use Rattle.um_measures.specs.Known.{Known, number_of, names_of_fields, measure_unit}
@@ -98,7 +106,8 @@ found_record (Some r) at = Ok r
 
 -- the record of a record text: its fields are known, and are all the fields of one record in order
 abbrev pub resolved_fields : List RecordTree → FieldSyntaxes → ℕ → Found ℕ
-resolved_fields records fs at = and_then (known_fields records fs) (λ _. found_record (record_of records (field_text_names fs)) at)
+resolved_fields records fs at =
+    and_then (known_fields records fs) (λ _. found_record (record_of records (field_text_names fs)) at)
 
 abbrev pub found_field : Option FieldNumber → ℕ → Found FieldNumber
 found_field None place = Err (unknown place)
@@ -111,8 +120,14 @@ is_zero (negsuc n) = false
 -- a hole stands on 0 alone; a written unit is closed
 abbrev pub resolved_literal : Known → ℕ → Frac → Option NoteSyntax → Found ExprTree
 resolved_literal known at c None = Ok (number at c (note.Written one))
-resolved_literal known at c (Some (hole_syntax place)) = cond (is_zero (numerator c)) (Ok (number at c note.Hole)) (Err (hole at))
-resolved_literal known at c (Some (unit_note_syntax place u)) = and_then (resolved_unit (measure_unit known) [] u) (λ v. Ok (number at c (note.Written v)))
+resolved_literal known at c (Some (hole_syntax place)) =
+    cond (is_zero (numerator c)) (Ok (number at c note.Hole)) (Err (hole at))
+resolved_literal known at c (Some (unit_note_syntax place u)) =
+    and_then (resolved_unit (measure_unit known) [] u) (λ v. Ok (number at c (note.Written v)))
+
+-- the empty list of a written type
+abbrev pub resolved_nil : Known → List (List ℕ) → ℕ → TypeSyntax → Found ExprTree
+resolved_nil known variables at t = and_then (resolved_type known variables true t) (λ n. Ok (nil at n))
 
 -- what is known before the function, the function's unit variables, and what may be called in its body
 module _ (known : Known) (variables : List (List ℕ)) (callables : List Callable) where
@@ -123,33 +138,49 @@ module _ (known : Known) (variables : List (List ℕ)) (callables : List Callabl
     resolved_expr scope (number_syntax at c n) = resolved_literal known at c n
     resolved_expr scope (name_syntax at x) = named callables (local_of scope x) x at
     resolved_expr scope (call_syntax at x es) =
-        and_then (called callables (local_of scope x) x (length_of es) at) (λ j. and_then (resolved_exprs scope es) (λ bs. Ok (call at j bs)))
+        and_then (called callables (local_of scope x) x (length_of es) at) (λ j.
+        and_then (resolved_exprs scope es) (λ bs. Ok (call at j bs)))
     resolved_expr scope (negate_syntax at a) = and_then (resolved_expr scope a) (λ e. Ok (negate at e))
     resolved_expr scope (not_syntax at a) = and_then (resolved_expr scope a) (λ e. Ok (not_expr at e))
-    resolved_expr scope (arith_syntax at op a b) = and_then (resolved_expr scope a) (λ e. and_then (resolved_expr scope b) (λ f. Ok (arith at op e f)))
-    resolved_expr scope (compare_syntax at s a b) = and_then (resolved_expr scope a) (λ e. and_then (resolved_expr scope b) (λ f. Ok (compare at s e f)))
-    resolved_expr scope (and_syntax at a b) = and_then (resolved_expr scope a) (λ e. and_then (resolved_expr scope b) (λ f. Ok (both at e f)))
-    resolved_expr scope (or_syntax at a b) = and_then (resolved_expr scope a) (λ e. and_then (resolved_expr scope b) (λ f. Ok (either at e f)))
+    resolved_expr scope (arith_syntax at op a b) =
+        and_then (resolved_expr scope a) (λ e. and_then (resolved_expr scope b) (λ f. Ok (arith at op e f)))
+    resolved_expr scope (compare_syntax at s a b) =
+        and_then (resolved_expr scope a) (λ e. and_then (resolved_expr scope b) (λ f. Ok (compare at s e f)))
+    resolved_expr scope (and_syntax at a b) =
+        and_then (resolved_expr scope a) (λ e. and_then (resolved_expr scope b) (λ f. Ok (both at e f)))
+    resolved_expr scope (or_syntax at a b) =
+        and_then (resolved_expr scope a) (λ e. and_then (resolved_expr scope b) (λ f. Ok (either at e f)))
     resolved_expr scope (if_syntax at c a b) =
-        and_then (resolved_expr scope c) (λ d. and_then (resolved_expr scope a) (λ e. and_then (resolved_expr scope b) (λ f. Ok (if at d e f))))
-    resolved_expr scope (let_syntax at x a b) = and_then (resolved_expr scope a) (λ e. and_then (resolved_expr (scope ++ x.name ∷ []) b) (λ f. Ok (bind at e f)))
+        and_then (resolved_expr scope c) (λ d.
+        and_then (resolved_expr scope a) (λ e. and_then (resolved_expr scope b) (λ f. Ok (if at d e f))))
+    resolved_expr scope (let_syntax at x a b) =
+        and_then (resolved_expr scope a) (λ e.
+        and_then (resolved_expr (scope ++ x.name ∷ []) b) (λ f. Ok (bind at e f)))
     resolved_expr scope (match_syntax at l a x y b) =
         and_then (resolved_expr scope l) (λ d. and_then (resolved_expr scope a) (λ e.
-        and_then (unless_taken (same_binding x.name y.name) y.at) (λ _. and_then (resolved_expr (scope ++ x.name ∷ y.name ∷ []) b) (λ f. Ok (split at d e f)))))
-    resolved_expr scope (nil_syntax at t) = and_then (resolved_type known variables true t) (λ n. Ok (nil at n))
+        and_then (unless_taken (same_binding x.name y.name) y.at) (λ _.
+        and_then (resolved_expr (scope ++ x.name ∷ y.name ∷ []) b) (λ f. Ok (split at d e f)))))
+    resolved_expr scope (nil_syntax at t) = resolved_nil known variables at t
     resolved_expr scope (list_syntax at es) = and_then (resolved_exprs scope es) (λ bs. Ok (list_expr at bs))
-    resolved_expr scope (cons_syntax at a b) = and_then (resolved_expr scope a) (λ e. and_then (resolved_expr scope b) (λ f. Ok (cons at e f)))
+    resolved_expr scope (cons_syntax at a b) =
+        and_then (resolved_expr scope a) (λ e. and_then (resolved_expr scope b) (λ f. Ok (cons at e f)))
     resolved_expr scope (fields_syntax at fs) =
-        and_then (resolved_fields known.program.records fs at) (λ r. and_then (resolved_parts scope fs) (λ bs. Ok (record_expr at r bs)))
-    resolved_expr scope (field_syntax at place x a) = and_then (resolved_expr scope a) (λ e. and_then (found_field (field_of known.program.records x) place) (λ f. Ok (field at f.record_number f.field_number e)))
+        and_then (resolved_fields known.program.records fs at) (λ r.
+        and_then (resolved_parts scope fs) (λ bs. Ok (record_expr at r bs)))
+    resolved_expr scope (field_syntax at place x a) =
+        and_then (resolved_expr scope a) (λ e.
+        and_then (found_field (field_of known.program.records x) place) (λ f.
+        Ok (field at f.record_number f.field_number e)))
     resolved_expr scope (bracket_expr_syntax at a) = resolved_expr scope a
 
     -- expression by expression
     pub resolved_exprs : Scope → ExprSyntaxes → Found ExprTrees
     resolved_exprs scope no_exprs = Ok none
-    resolved_exprs scope (more_exprs e es) = and_then (resolved_expr scope e) (λ a. and_then (resolved_exprs scope es) (λ bs. Ok (more a bs)))
+    resolved_exprs scope (more_exprs e es) =
+        and_then (resolved_expr scope e) (λ a. and_then (resolved_exprs scope es) (λ bs. Ok (more a bs)))
 
     -- field by field
     pub resolved_parts : Scope → FieldSyntaxes → Found ExprTrees
     resolved_parts scope no_fields = Ok none
-    resolved_parts scope (more_fields at x e fs) = and_then (resolved_expr scope e) (λ a. and_then (resolved_parts scope fs) (λ bs. Ok (more a bs)))
+    resolved_parts scope (more_fields at x e fs) =
+        and_then (resolved_expr scope e) (λ a. and_then (resolved_parts scope fs) (λ bs. Ok (more a bs)))

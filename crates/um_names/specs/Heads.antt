@@ -1,4 +1,6 @@
--- What a type text beside a program may name: measures, abbreviations, and records, of which it takes the name and the number of units.
+-- Mirrors the code: what its tables hold for a type text beside a program: measures, abbreviations, and records, of
+-- which it takes the name and the
+-- number of units.
 -- Source: this project's own.
 use Rattle.std.specs.Prelude.{ℕ, List, [], ◌++◌, map}
 use Rattle.um_tree.specs.ProgramTree.{RecordTree, ProgramTree}
@@ -18,7 +20,11 @@ with_shorts known ss = record { program = known.program; shorts = known.shorts +
 
 abbrev pub with_heads : Known → List RecordTree → Known
 with_heads known ds = record {
-  program = record { bases = known.program.bases; records = known.program.records ++ map head_of ds; functions = known.program.functions };
+  program = record {
+    bases = known.program.bases;
+    records = known.program.records ++ map head_of ds;
+    functions = known.program.functions;
+  };
   shorts = known.shorts;
 }
 

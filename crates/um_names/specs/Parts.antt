@@ -1,16 +1,14 @@
--- Parts of declarations, one at a time, and the program of a text.
+-- Mirrors the code: parts of declarations, one at a time.
 -- Source: this project's own.
 use Rattle.std.specs.Prelude.{ℕ, false, ◌||◌, cond, List, [], ◌∷◌, length, Option, Some, None, Ok}
 use Rattle.std.specs.Str.{bytes_eq}
-use Rattle.um_tree.specs.ProgramTree.{FieldTree, ProgramTree}
-use Rattle.um_tree.specs.RawTree.{FieldDeclSyntax, FunctionSyntax, DeclSyntax}
-use Rattle.um_measures.specs.declared.abbreviation.Abbreviation.{Abbreviation}
+use Rattle.um_tree.specs.ProgramTree.{FieldTree}
+use Rattle.um_tree.specs.RawTree.{FieldDeclSyntax, FunctionSyntax}
 use Rattle.um_names.specs.declared.callable.Callable.{Callable}
 use Rattle.um_names.specs.declared.callable.FieldNumber.{FieldNumber}
 use Rattle.um_measures.specs.Faults.{unless_taken, Found, and_then}
 use Rattle.um_measures.specs.Known.{Known, is_among, field_names}
 use Rattle.um_names.specs.TypeNames.{resolved_type, written_type}
-use Rattle.um_names.specs.Resolution.{resolution}
 
 -- a field behind these names of fields of its own record
 abbrev pub resolved_field_decl : Known → List (List ℕ) → List (List ℕ) → FieldDeclSyntax → Found FieldTree
@@ -36,11 +34,3 @@ field_if x name f = cond (bytes_eq x name) (Some f) None
 abbrev pub field_at : ℕ → Option ℕ → Option FieldNumber
 field_at r None = None
 field_at r (Some k) = Some (record { record_number = r; field_number = k })
-
--- the program of a text, or its first fault
-abbrev pub resolved_program : List DeclSyntax → Found ProgramTree
-resolved_program ds = and_then (resolution ds) (λ known. Ok known.program)
-
--- the abbreviations of a text, or its first fault
-abbrev pub resolved_abbreviations : List DeclSyntax → Found (List Abbreviation)
-resolved_abbreviations ds = and_then (resolution ds) (λ known. Ok known.shorts)

@@ -3,8 +3,10 @@
 use Rattle.std.specs.Prelude.{ℕ, true, false, ◌||◌, cond, List, [], ◌∷◌, ◌++◌, map, length, Option, Some, None, Ok}
 use Rattle.um_units.specs.PowerMap.{PowerMap}
 use Rattle.um_tree.specs.TypeTree.{NoteTree}
-use Rattle.um_tree.specs.ProgramTree.{FieldTree, RecordTree, FunctionTree}
-use Rattle.um_tree.specs.RawTree.{TypeSyntax, BinderSyntax, VarSyntax, FieldDeclSyntax, ParamSyntax, FunctionSyntax, DeclSyntax, base_syntax, short_syntax, record_decl_syntax, function_syntax}
+use Rattle.um_tree.specs.ProgramTree.{FieldTree, RecordTree, FunctionTree, ProgramTree}
+use Rattle.um_tree.specs.RawTree.{TypeSyntax, BinderSyntax, VarSyntax, FieldDeclSyntax, ParamSyntax, FunctionSyntax}
+use Rattle.um_tree.specs.RawTree.{DeclSyntax, base_syntax, short_syntax, record_decl_syntax, function_syntax}
+use Rattle.um_measures.specs.declared.abbreviation.Abbreviation.{Abbreviation}
 use Rattle.um_measures.specs.Faults.{unless_taken, Found, and_then}
 use Rattle.um_measures.specs.Known.{Known, nothing, is_among, is_taken, function_names, field_names, measure_unit}
 use Rattle.um_measures.specs.UnitNames.{resolved_unit}
@@ -19,13 +21,15 @@ use Rattle.um_names.specs.declared.callable.Callable.{Callable}
 -- its unit parameters, each once, behind those before
 abbrev pub resolved_parameters : List (List ℕ) → List VarSyntax → Found (List (List ℕ))
 resolved_parameters before [] = Ok before
-resolved_parameters before (v ∷ vs) = and_then (unless_taken (is_among before v.name) v.at) (λ _. resolved_parameters (before ++ v.name ∷ []) vs)
+resolved_parameters before (v ∷ vs) =
+    and_then (unless_taken (is_among before v.name) v.at) (λ _. resolved_parameters (before ++ v.name ∷ []) vs)
 
 -- its fields, each with a name that is new among all fields, behind those before
 abbrev pub resolved_field_decls : Known → List (List ℕ) → List FieldTree → List FieldDeclSyntax → Found (List FieldTree)
 resolved_field_decls known variables before [] = Ok before
 resolved_field_decls known variables before (f ∷ fs) =
-    and_then (unless_taken (is_among (field_names known.program.records) f.name || is_among (map (λ g. g.name) before) f.name) f.at) (λ _.
+    and_then (unless_taken (is_among (field_names known.program.records) f.name || is_among (map (λ g. g.name) before) f.name)
+    f.at) (λ _.
     and_then (resolved_type known variables false f.type) (λ n.
     resolved_field_decls known variables (before ++ record { name = f.name; type = written_type n } ∷ []) fs))
 
@@ -59,7 +63,8 @@ callable f = record { name = f.name; params = length f.params }
 -- the functions before, and the function itself where it is `rec`
 abbrev pub callables : Known → FunctionSyntax → List Callable
 callables known f =
-    map callable known.program.functions ++ cond f.recursive (record { name = f.name; params = length f.params } ∷ []) []
+    map callable known.program.functions
+    ++ cond f.recursive (record { name = f.name; params = length f.params } ∷ []) []
 
 abbrev pub scope_of : FunctionSyntax → Scope
 scope_of f = map (λ p. p.binder.name) f.params
@@ -71,13 +76,25 @@ resolved_function known f =
     and_then (resolved_params known variables [] f.params) (λ params.
     and_then (resolved_result known variables f.result) (λ result.
     and_then (resolved_expr known variables (callables known f) (scope_of f) f.body) (λ body.
-    Ok (record { name = f.name; at = f.at; recursive = f.recursive; params = params; named = length variables; result = result; body = body })))))
+    Ok (record {
+      name = f.name;
+      at = f.at;
+      recursive = f.recursive;
+      params = params;
+      named = length variables;
+      result = result;
+      body = body;
+    })))))
 
 -- ---- declarations
 
 abbrev pub with_base : Known → List ℕ → Known
 with_base known x = record {
-  program = record { bases = known.program.bases ++ x ∷ []; records = known.program.records; functions = known.program.functions };
+  program = record {
+    bases = known.program.bases ++ x ∷ [];
+    records = known.program.records;
+    functions = known.program.functions;
+  };
   shorts = known.shorts;
 }
 
@@ -86,13 +103,21 @@ with_short known x u = record { program = known.program; shorts = known.shorts +
 
 abbrev pub with_record : Known → RecordTree → Known
 with_record known d = record {
-  program = record { bases = known.program.bases; records = known.program.records ++ d ∷ []; functions = known.program.functions };
+  program = record {
+    bases = known.program.bases;
+    records = known.program.records ++ d ∷ [];
+    functions = known.program.functions;
+  };
   shorts = known.shorts;
 }
 
 abbrev pub with_function : Known → FunctionTree → Known
 with_function known f = record {
-  program = record { bases = known.program.bases; records = known.program.records; functions = known.program.functions ++ f ∷ [] };
+  program = record {
+    bases = known.program.bases;
+    records = known.program.records;
+    functions = known.program.functions ++ f ∷ [];
+  };
   shorts = known.shorts;
 }
 
@@ -100,8 +125,10 @@ with_function known f = record {
 abbrev pub resolved_decl : Known → DeclSyntax → Found Known
 resolved_decl known (base_syntax at x) = and_then (unless_taken (is_taken known x) at) (λ _. Ok (with_base known x))
 resolved_decl known (short_syntax at x u) =
-    and_then (unless_taken (is_taken known x) at) (λ _. and_then (resolved_unit (measure_unit known) [] u) (λ v. Ok (with_short known x v)))
-resolved_decl known (record_decl_syntax at x vs fs) = and_then (resolved_record_decl known at x vs fs) (λ d. Ok (with_record known d))
+    and_then (unless_taken (is_taken known x) at) (λ _.
+    and_then (resolved_unit (measure_unit known) [] u) (λ v. Ok (with_short known x v)))
+resolved_decl known (record_decl_syntax at x vs fs) =
+    and_then (resolved_record_decl known at x vs fs) (λ d. Ok (with_record known d))
 resolved_decl known (function_syntax f) = and_then (resolved_function known f) (λ g. Ok (with_function known g))
 
 abbrev pub resolved_decls : Known → List DeclSyntax → Found Known
@@ -111,3 +138,11 @@ resolved_decls known (d ∷ ds) = and_then (resolved_decl known d) (λ after. re
 -- the program of the text with its abbreviations, or the first fault
 abbrev pub resolution : List DeclSyntax → Found Known
 resolution ds = resolved_decls nothing ds
+
+-- the program of a text, or its first fault
+abbrev pub resolved_program : List DeclSyntax → Found ProgramTree
+resolved_program ds = and_then (resolution ds) (λ known. Ok known.program)
+
+-- the abbreviations of a text, or its first fault
+abbrev pub resolved_abbreviations : List DeclSyntax → Found (List Abbreviation)
+resolved_abbreviations ds = and_then (resolution ds) (λ known. Ok known.shorts)

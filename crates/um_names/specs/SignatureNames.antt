@@ -3,7 +3,8 @@
 use Rattle.std.specs.Prelude.{ℕ, false, List, [], ◌∷◌, length, Option, Some, None, Ok, Err}
 use Rattle.std.specs.List.{flat_map}
 use Rattle.um_tree.specs.TypeTree.{TypeTree}
-use Rattle.um_tree.specs.RawTree.{NoteSyntax, hole_syntax, unit_note_syntax, TypeSyntax, bool_syntax, num_syntax, record_syntax, list_type_syntax, bracket_type_syntax}
+use Rattle.um_tree.specs.RawTree.{NoteSyntax, hole_syntax, unit_note_syntax, TypeSyntax, bool_syntax, num_syntax}
+use Rattle.um_tree.specs.RawTree.{record_syntax, list_type_syntax, bracket_type_syntax}
 use Rattle.um_measures.specs.Faults.{unknown, hole, Found, and_then, each}
 use Rattle.um_measures.specs.Known.{Known, measure_unit}
 use Rattle.um_measures.specs.UnitNames.{unknown_in}
@@ -58,4 +59,5 @@ signature_variables ts = first_occurrences [] (flat_map type_variables ts)
 unfoldable pub resolved_signature : Known → List TypeSyntax → Found SignatureTypes
 resolved_signature known ts =
     let variables = signature_variables ts in
-    and_then (all_type_names known variables ts) (λ _. and_then (resolved_types known variables ts) (λ types. Ok (record { types = types; vars = length variables })))
+    and_then (all_type_names known variables ts) (λ _.
+    and_then (resolved_types known variables ts) (λ types. Ok (record { types = types; vars = length variables })))

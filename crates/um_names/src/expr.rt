@@ -2,9 +2,10 @@
 
 ghost use Rattle.std.specs.Prelude.{◌≡◌, ◌∷◌, ◌++◌, [], Ok, IfOk, IfErr, OnOk, map, length};
 ghost use Rattle.um_tree.specs.ExprTree.{expr_tree, in_order};
-ghost use Rattle.um_tree.specs.RawTree.{written_note, expr_syntax, exprs_in_order, field_part, fields_in_order};
+ghost use Rattle.um_tree.specs.RawTree.{written_note, type_syntax, expr_syntax, exprs_in_order, field_part, fields_in_order};
+ghost use Rattle.um_tree.specs.RawTree.{call_syntax, fields_syntax, field_syntax};
 ghost use Rattle.um_measures.specs.Scopes.{same_binding, local_of};
-ghost use Rattle.um_names.specs.ExprNames.{resolved_literal, resolved_fields, known_fields, found_field, field_of, length_of, named, called};
+ghost use Rattle.um_names.specs.ExprNames.{resolved_literal, resolved_nil, resolved_fields, known_fields, found_field, field_of, length_of, named, called};
 ghost use Rattle.um_measures.specs.Faults.{unless_taken};
 ghost use Rattle.um_names.specs.Bodies.{resolved_in, resolved_all_in, resolved_parts_in, callables_of};
 ghost use Rattle.um_measures.specs.Stops.{IsFirst};
@@ -17,7 +18,9 @@ use std::alloc::Global;
 use std::boxed::Box;
 use um_frac::Frac;
 use um_measures::{NameStop, NameTable, Scope, same_binding};
-use um_tree::{Binder, Expr, Exprs, Name, Node, RawExpr, RawField, RawNode, RawNote, UnitNote};
+use um_tree::{
+    Binder, Expr, Exprs, Name, Node, RawExpr, RawField, RawNode, RawNote, RawType, UnitNote,
+};
 use um_units::Unit;
 
 /// A number with its unit: a hole stands on 0 alone, and a written unit is closed.
@@ -160,6 +163,31 @@ fn known_fields(tables: &Tables, fields: &[RawField]) -> Result<(), NameStop>
     Ok(())
 }
 
+/// An expression at its place.
+fn located(at: u32, node: Node) -> Result<Expr, NameStop>
+    ensures { result ≡ Ok (record { at = at; node = node }) }
+{
+    Ok(Expr { at, node })
+}
+
+/// The empty list of a written type.
+fn empty_list(
+    alloc: Global,
+    tables: &Tables,
+    body: &Body,
+    at: u32,
+    ty: &RawType,
+) -> Result<Expr, NameStop>
+    requires { AreTables tables.now }
+    ensures exact { IfOk result (λ r.
+        resolved_nil (known_of tables.now) body.now.variables at (type_syntax ty.now) ≡ Ok (expr_tree r)) }
+    ensures faults { IfErr result (IsFirst
+        (resolved_nil (known_of tables.now) body.now.variables at (type_syntax ty.now))) }
+{
+    let note = note(alloc, tables, &body.variables, true, ty)?;
+    located(at, Node::Nil(note))
+}
+
 /// The expression of a text, in a scope.
 #[cycle(expr)]
 pub fn expr(
@@ -170,110 +198,77 @@ pub fn expr(
     e: &RawExpr,
 ) -> Result<Expr, NameStop>
     requires { AreTables tables.now }
-    ensures exact { IfOk result (λ r. resolved_in tables.now body.now scope.old (expr_syntax e.now) ≡ Ok (expr_tree r)) }
+    ensures exact { IfOk result (λ r.
+        resolved_in tables.now body.now scope.old (expr_syntax e.now) ≡ Ok (expr_tree r)) }
     ensures faults { IfErr result (IsFirst (resolved_in tables.now body.now scope.old (expr_syntax e.now))) }
     ensures scope { OnOk result (scope.new ≡ scope.old) }
 {
     let at = e.at;
     match &e.node {
-        RawNode::Bool(b) => Ok(Expr {
-            at,
-            node: Node::Bool(*b),
-        }),
+        RawNode::Bool(b) => located(at, Node::Bool(*b)),
         RawNode::Num(number, note) => literal(alloc, tables, at, *number, note),
         RawNode::Name(name) => name_alone(alloc, tables, body, scope, at, name),
-        RawNode::Call(name, items) => {
-            let function = called(tables, body, scope, at, name, arity(&items.items))?;
-            let items = exprs(alloc, tables, body, scope, &items.items)?;
-            let node = Node::Call(function, Exprs { items });
-            Ok(Expr { at, node })
-        }
-        RawNode::Neg(a) => {
-            let node = Node::Neg(part(alloc, tables, body, scope, a)?);
-            Ok(Expr { at, node })
-        }
-        RawNode::Not(a) => {
-            let node = Node::Not(part(alloc, tables, body, scope, a)?);
-            Ok(Expr { at, node })
-        }
+        RawNode::Call(name, items) => call_expr(alloc, tables, body, scope, at, name, &items.items),
+        RawNode::Neg(a) => located(at, Node::Neg(boxed(alloc, tables, body, scope, a)?)),
+        RawNode::Not(a) => located(at, Node::Not(boxed(alloc, tables, body, scope, a)?)),
         RawNode::Arith(op, a, b) => {
-            let left = part(alloc, tables, body, scope, a)?;
-            let right = part(alloc, tables, body, scope, b)?;
-            let node = Node::Arith(*op, left, right);
-            Ok(Expr { at, node })
+            let left = boxed(alloc, tables, body, scope, a)?;
+            let right = boxed(alloc, tables, body, scope, b)?;
+            located(at, Node::Arith(*op, left, right))
         }
         RawNode::Compare(sign, a, b) => {
-            let left = part(alloc, tables, body, scope, a)?;
-            let right = part(alloc, tables, body, scope, b)?;
-            let node = Node::Compare(*sign, left, right);
-            Ok(Expr { at, node })
+            let left = boxed(alloc, tables, body, scope, a)?;
+            let right = boxed(alloc, tables, body, scope, b)?;
+            located(at, Node::Compare(*sign, left, right))
         }
         RawNode::And(a, b) => {
-            let left = part(alloc, tables, body, scope, a)?;
-            let right = part(alloc, tables, body, scope, b)?;
-            let node = Node::And(left, right);
-            Ok(Expr { at, node })
+            let left = boxed(alloc, tables, body, scope, a)?;
+            let right = boxed(alloc, tables, body, scope, b)?;
+            located(at, Node::And(left, right))
         }
         RawNode::Or(a, b) => {
-            let left = part(alloc, tables, body, scope, a)?;
-            let right = part(alloc, tables, body, scope, b)?;
-            let node = Node::Or(left, right);
-            Ok(Expr { at, node })
+            let left = boxed(alloc, tables, body, scope, a)?;
+            let right = boxed(alloc, tables, body, scope, b)?;
+            located(at, Node::Or(left, right))
         }
         RawNode::If(c, a, b) => {
-            let condition = part(alloc, tables, body, scope, c)?;
-            let yes = part(alloc, tables, body, scope, a)?;
-            let no = part(alloc, tables, body, scope, b)?;
-            let node = Node::If(condition, yes, no);
-            Ok(Expr { at, node })
+            let condition = boxed(alloc, tables, body, scope, c)?;
+            let yes = boxed(alloc, tables, body, scope, a)?;
+            let no = boxed(alloc, tables, body, scope, b)?;
+            located(at, Node::If(condition, yes, no))
         }
         RawNode::Let(x, a, b) => {
-            let value = part(alloc, tables, body, scope, a)?;
+            let value = boxed(alloc, tables, body, scope, a)?;
             let rest = under(alloc, tables, body, scope, x, b)?;
-            let node = Node::Let(value, rest);
-            Ok(Expr { at, node })
+            located(at, Node::Let(value, rest))
         }
         RawNode::Match(l, a, x, y, b) => {
-            let list = part(alloc, tables, body, scope, l)?;
-            let empty = part(alloc, tables, body, scope, a)?;
+            let list = boxed(alloc, tables, body, scope, l)?;
+            let empty = boxed(alloc, tables, body, scope, a)?;
             distinct(x, y)?;
             let full = under_both(alloc, tables, body, scope, x, y, b)?;
-            let node = Node::Match(list, empty, full);
-            Ok(Expr { at, node })
+            located(at, Node::Match(list, empty, full))
         }
-        RawNode::Nil(ty) => {
-            let node = Node::Nil(note(alloc, tables, &body.variables, true, ty)?);
-            Ok(Expr { at, node })
-        }
+        RawNode::Nil(ty) => empty_list(alloc, tables, body, at, ty),
         RawNode::List(items) => {
             let items = exprs(alloc, tables, body, scope, &items.items)?;
-            let node = Node::List(Exprs { items });
-            Ok(Expr { at, node })
+            located(at, Node::List(Exprs { items }))
         }
         RawNode::Cons(a, b) => {
-            let head = part(alloc, tables, body, scope, a)?;
-            let tail = part(alloc, tables, body, scope, b)?;
-            let node = Node::Cons(head, tail);
-            Ok(Expr { at, node })
+            let head = boxed(alloc, tables, body, scope, a)?;
+            let tail = boxed(alloc, tables, body, scope, b)?;
+            located(at, Node::Cons(head, tail))
         }
-        RawNode::Rec(fields) => {
-            let record = record_of(tables, &fields.items, at)?;
-            let items = parts(alloc, tables, body, scope, &fields.items)?;
-            let node = Node::Rec(record, Exprs { items });
-            Ok(Expr { at, node })
-        }
+        RawNode::Rec(fields) => record_expr(alloc, tables, body, scope, at, &fields.items),
         RawNode::Field(place, name, a) => {
-            let value = part(alloc, tables, body, scope, a)?;
-            let field = accessed(tables, name, *place)?;
-            let node = Node::Field(field.record_number, field.field_number, value);
-            Ok(Expr { at, node })
+            field_expr(alloc, tables, body, scope, at, *place, name, a)
         }
         RawNode::Bracket(a) => expr(alloc, tables, body, scope, a),
     }
 }
 
 #[cycle(expr)]
-fn part(
+fn boxed(
     alloc: Global,
     tables: &Tables,
     body: &Body,
@@ -281,12 +276,36 @@ fn part(
     e: &RawExpr,
 ) -> Result<Box<Expr>, NameStop>
     requires { AreTables tables.now }
-    ensures exact { IfOk result (λ r. resolved_in tables.now body.now scope.old (expr_syntax e.now) ≡ Ok (expr_tree r.value)) }
+    ensures exact { IfOk result (λ r.
+        resolved_in tables.now body.now scope.old (expr_syntax e.now) ≡ Ok (expr_tree r.value)) }
     ensures faults { IfErr result (IsFirst (resolved_in tables.now body.now scope.old (expr_syntax e.now))) }
     ensures scope { OnOk result (scope.new ≡ scope.old) }
 {
     let e = expr(alloc, tables, body, scope, e)?;
     Ok(Box::new(alloc, e)?)
+}
+
+/// A call: the function and the count come before the arguments.
+#[cycle(expr)]
+fn call_expr(
+    alloc: Global,
+    tables: &Tables,
+    body: &Body,
+    scope: &mut Scope,
+    at: u32,
+    name: &Name,
+    items: &[RawExpr],
+) -> Result<Expr, NameStop>
+    requires { AreTables tables.now }
+    ensures exact { IfOk result (λ r.
+        resolved_in tables.now body.now scope.old (call_syntax at name.now (exprs_in_order (map expr_syntax items.now))) ≡ Ok (expr_tree r)) }
+    ensures faults { IfErr result (IsFirst
+        (resolved_in tables.now body.now scope.old (call_syntax at name.now (exprs_in_order (map expr_syntax items.now))))) }
+    ensures scope { OnOk result (scope.new ≡ scope.old) }
+{
+    let function = called(tables, body, scope, at, name, arity(items))?;
+    let items = exprs(alloc, tables, body, scope, items)?;
+    located(at, Node::Call(function, Exprs { items }))
 }
 
 /// With one more variable.
@@ -306,7 +325,7 @@ fn under(
 {
     let count = scope.count();
     scope.push(alloc, x)?;
-    let e = part(alloc, tables, body, scope, e)?;
+    let e = boxed(alloc, tables, body, scope, e)?;
     scope.cut(count);
     Ok(e)
 }
@@ -330,7 +349,7 @@ fn under_both(
     let count = scope.count();
     scope.push(alloc, x)?;
     scope.push(alloc, y)?;
-    let e = part(alloc, tables, body, scope, e)?;
+    let e = boxed(alloc, tables, body, scope, e)?;
     scope.cut(count);
     Ok(e)
 }
@@ -356,7 +375,7 @@ fn exprs(
 }
 
 #[cycle(expr)]
-fn parts(
+fn field_values(
     alloc: Global,
     tables: &Tables,
     body: &Body,
@@ -389,4 +408,51 @@ fn field_value(
     ensures scope { OnOk result (scope.new ≡ scope.old) }
 {
     expr(alloc, tables, body, scope, &field.value)
+}
+
+#[cycle(expr)]
+fn record_expr(
+    alloc: Global,
+    tables: &Tables,
+    body: &Body,
+    scope: &mut Scope,
+    at: u32,
+    fields: &[RawField],
+) -> Result<Expr, NameStop>
+    requires { AreTables tables.now }
+    ensures exact { IfOk result (λ r.
+        resolved_in tables.now body.now scope.old (fields_syntax at (fields_in_order (map field_part fields.now))) ≡ Ok (expr_tree r)) }
+    ensures faults { IfErr result (IsFirst
+        (resolved_in tables.now body.now scope.old (fields_syntax at (fields_in_order (map field_part fields.now))))) }
+    ensures scope { OnOk result (scope.new ≡ scope.old) }
+{
+    let record = record_of(tables, fields, at)?;
+    let items = field_values(alloc, tables, body, scope, fields)?;
+    located(at, Node::Rec(record, Exprs { items }))
+}
+
+#[cycle(expr)]
+fn field_expr(
+    alloc: Global,
+    tables: &Tables,
+    body: &Body,
+    scope: &mut Scope,
+    at: u32,
+    place: u32,
+    name: &Name,
+    a: &RawExpr,
+) -> Result<Expr, NameStop>
+    requires { AreTables tables.now }
+    ensures exact { IfOk result (λ r.
+        resolved_in tables.now body.now scope.old (field_syntax at place name.now (expr_syntax a.now)) ≡ Ok (expr_tree r)) }
+    ensures faults { IfErr result (IsFirst
+        (resolved_in tables.now body.now scope.old (field_syntax at place name.now (expr_syntax a.now)))) }
+    ensures scope { OnOk result (scope.new ≡ scope.old) }
+{
+    let value = boxed(alloc, tables, body, scope, a)?;
+    let field = accessed(tables, name, place)?;
+    located(
+        at,
+        Node::Field(field.record_number, field.field_number, value),
+    )
 }

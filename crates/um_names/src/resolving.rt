@@ -3,7 +3,7 @@
 ghost use Rattle.std.specs.Prelude.{◌≡◌, Ok, IfOk, IfErr, map};
 ghost use Rattle.um_tree.specs.ProgramTree.{program_tree};
 ghost use Rattle.um_tree.specs.RawTree.{decl_syntax, program_syntax};
-ghost use Rattle.um_names.specs.Parts.{resolved_program, resolved_abbreviations};
+ghost use Rattle.um_names.specs.Resolution.{resolved_program, resolved_abbreviations};
 ghost use Rattle.um_names.specs.Resolution.{resolution};
 ghost use Rattle.um_tree.specs.Formed.{IsFormed};
 ghost use Rattle.um_names.specs.Readable.{IsReadable};

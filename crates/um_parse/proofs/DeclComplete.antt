@@ -6,20 +6,24 @@ use Rattle.um_syntax.specs.declared.token.Kind.{Kind}
 use Rattle.um_tree.specs.RawTree.{TypeSyntax, VarSyntax, FieldDeclSyntax, ParamSyntax, FunctionSyntax, DeclSyntax, base_syntax, short_syntax, record_decl_syntax, function_syntax}
 use Rattle.um_types.specs.UnitMachine.{Need as NeedUnit}
 use Rattle.um_types.specs.TypeGrammar.{TypeFits}
-use Rattle.um_types.specs.TypeTokens.{type_token}
 use Rattle.um_types.specs.TypeMachine.{NeedType, HaveType, NoType, type_after}
 use Rattle.um_types.proofs.UnitComplete.{into as unit_into}
 use Rattle.um_types.proofs.UnitNested.{unit_finds}
-use Rattle.um_expr.specs.declared.mark.Mark.TheVariants as mark
-use Rattle.um_expr.specs.ExprTokens.{ExprToken, name, variable, plain, expr_token, equal, less, greater}
+use Rattle.um_syntax.specs.declared.vocabulary.Keyword.TheVariants as keyword
+use Rattle.um_syntax.specs.declared.vocabulary.Symbol.TheVariants as symbol
+use Rattle.um_types.specs.Machines.{Yields}
+use Rattle.um_types.proofs.Reaching.{yields_here, yields_as}
+use Rattle.um_expr.specs.declared.token.ExprToken.{ExprToken}
+use Rattle.um_expr.specs.declared.token.ExprToken.TheVariants.{Name as name, Variable as variable, Word as word, Mark as mark}
+use Rattle.um_expr.specs.ExprTokens.{expr_token, equal, less, greater}
 use Rattle.um_expr.specs.ExprGrammar.{First, FirstAt}
 use Rattle.um_expr.specs.ExprMachine.{Need}
 use Rattle.um_parse.specs.DeclGrammar.{Attribute, VarSpells, MoreVars, VarsSpell, FieldDeclSpells, MoreFieldDecls, ParamSpells, ParamsSpell, ResultSpells, RecSpells, FunctionSpells, DeclSpells, FieldDeclsFit, ParamsFit, ResultFits, DeclFits}
-use Rattle.um_parse.specs.DeclMachine.{DeclBegin, AttributeWord, AttributeGreater, AttributeClose, MeasureType, MeasureName, RecordName, RecordVars, VarBegin, VarWord, VarGreater, VarClose, VarName, VarEnd, RecordEqual, RecordBrace, FieldName, FieldColon, LetName, RecName, Params, ParamBinder, ParamColon, DeclState, AtPlace, HaveBase, InShort, HaveRecord, InField, InParam, InResult, InBody, field_ends, param_ends, result_ends, field_goes, param_goes, result_goes, short_found, body_found, decl_finish}
-use Rattle.um_expr.proofs.TokenKinds.{semi_is, record_close_is, equal_is, close_is}
+use Rattle.um_parse.specs.DeclMachine.{DeclBegin, AttributeWord, AttributeGreater, AttributeClose, MeasureType, MeasureName, RecordName, RecordVars, VarBegin, VarWord, VarGreater, VarClose, VarName, VarEnd, RecordEqual, RecordBrace, FieldName, FieldColon, LetName, RecName, Params, ParamBinder, ParamColon, DeclState, Expects, HaveBase, InShort, HaveRecord, InField, InParam, InResult, InBody, field_ends, param_ends, result_ends, field_goes, param_goes, result_goes, short_found, body_found, decl_finish, decl_step}
+use Rattle.um_expr.proofs.ExprTokenKinds.{mark_is, equal_is}
 use Rattle.um_expr.proofs.ExprComplete.{into}
 use Rattle.um_expr.proofs.ExprLaws.{expr_finds}
-use Rattle.um_parse.proofs.DeclLeads.{Leads, thence, leads_here, leads_as, leads_first, leads_at, leads_binder, leads_attribute, leads_type, leads_unit, leads_body, field_inside, param_inside, result_inside}
+use Rattle.um_parse.proofs.DeclYields.{thence, yields_first, yields_at, yields_binder, yields_attribute, yields_type, yields_unit, yields_body, field_inside, param_inside, result_inside}
 
 -- the state once a declaration was read
 abbrev pub decl_into : DeclSyntax → DeclState
@@ -36,187 +40,187 @@ decl_finds (function_syntax f) fits = ap (body_found f.recursive f.at f.name f.p
 
 -- ---- measures
 
-leads_measure : (at : ℕ) (x : List ℕ) (tokens word named rest : List Token) → Attribute tokens word → First (plain mark.Type) word named → FirstAt (name x) at named rest
-    → Leads (AtPlace DeclBegin) tokens (HaveBase at x) rest
-leads_measure at x tokens word named rest a t n =
+yields_measure : (at : ℕ) (x : List ℕ) (tokens behind named rest : List Token) → Attribute tokens behind → First (word keyword.Type) behind named → FirstAt (name x) at named rest
+    → Yields decl_step (Expects DeclBegin) tokens (HaveBase at x) rest
+yields_measure at x tokens behind named rest a t n =
     thence
     (
-    leads_attribute (AtPlace DeclBegin) (AtPlace AttributeWord) (AtPlace AttributeGreater) (AtPlace AttributeClose) (AtPlace MeasureType) tokens word a (λ p g k. refl) (λ p g k. refl) (λ p g k. refl)
+    yields_attribute (Expects DeclBegin) (Expects AttributeWord) (Expects AttributeGreater) (Expects AttributeClose) (Expects MeasureType) tokens behind a (λ p g k. refl) (λ p g k. refl) (λ p g k. refl)
     (λ p g k. refl)
     )
     (
-    thence (leads_first (AtPlace MeasureType) (AtPlace MeasureName) (plain mark.Type) word named t (λ p g k. refl))
-    (leads_at (AtPlace MeasureName) (HaveBase at x) (name x) at named rest n (λ g k. refl))
+    thence (yields_first (Expects MeasureType) (Expects MeasureName) (word keyword.Type) behind named t (λ p g k. refl))
+    (yields_at (Expects MeasureName) (HaveBase at x) (name x) at named rest n (λ g k. refl))
     )
 
 -- ---- records
 
-leads_var : (at : ℕ) (x : List ℕ) (front : List VarSyntax) (v : VarSyntax) (tokens rest : List Token) → VarSpells v tokens rest → Leads (AtPlace (VarBegin at x front)) tokens (AtPlace (VarEnd at x (front ++ v ∷ []))) rest
-leads_var at x front v tokens rest s =
+yields_var : (at : ℕ) (x : List ℕ) (before : List VarSyntax) (v : VarSyntax) (tokens rest : List Token) → VarSpells v tokens rest → Yields decl_step (Expects (VarBegin at x before)) tokens (Expects (VarEnd at x (before ++ v ∷ []))) rest
+yields_var at x before v tokens rest s =
     thence
     (
-    leads_attribute (AtPlace (VarBegin at x front)) (AtPlace (VarWord at x front)) (AtPlace (VarGreater at x front)) (AtPlace (VarClose at x front)) (AtPlace (VarName at x front)) tokens s.0 s.1
+    yields_attribute (Expects (VarBegin at x before)) (Expects (VarWord at x before)) (Expects (VarGreater at x before)) (Expects (VarClose at x before)) (Expects (VarName at x before)) tokens s.0 s.1
     (λ p g k. refl) (λ p g k. refl) (λ p g k. refl) (λ p g k. refl)
     )
-    (leads_at (AtPlace (VarName at x front)) (AtPlace (VarEnd at x (front ++ v ∷ []))) (variable v.name) v.at s.0 rest s.2 (λ g k. refl))
+    (yields_at (Expects (VarName at x before)) (Expects (VarEnd at x (before ++ v ∷ []))) (variable v.name) v.at s.0 rest s.2 (λ g k. refl))
 
-leads_more_vars : (vs : List VarSyntax) (at : ℕ) (x : List ℕ) (front : List VarSyntax) (tokens rest : List Token) → MoreVars vs tokens rest
-    → Leads (AtPlace (VarEnd at x front)) tokens (AtPlace (VarEnd at x (front ++ vs))) rest
-leads_more_vars [] at x front tokens rest s = leads_here (AtPlace (VarEnd at x front)) (AtPlace (VarEnd at x (front ++ []))) tokens rest (ap (λ w. AtPlace (VarEnd at x w)) (sym (append-nil front))) s
-leads_more_vars (v ∷ vs) at x front tokens rest s =
-    thence (leads_first (AtPlace (VarEnd at x front)) (AtPlace (VarBegin at x front)) (plain mark.Comma) tokens s.0 s.2 (λ p g k. refl))
+yields_more_vars : (vs : List VarSyntax) (at : ℕ) (x : List ℕ) (before : List VarSyntax) (tokens rest : List Token) → MoreVars vs tokens rest
+    → Yields decl_step (Expects (VarEnd at x before)) tokens (Expects (VarEnd at x (before ++ vs))) rest
+yields_more_vars [] at x before tokens rest s = yields_here decl_step (Expects (VarEnd at x before)) (Expects (VarEnd at x (before ++ []))) tokens rest (ap (λ w. Expects (VarEnd at x w)) (sym (append-nil before))) s
+yields_more_vars (v ∷ vs) at x before tokens rest s =
+    thence (yields_first (Expects (VarEnd at x before)) (Expects (VarBegin at x before)) (mark symbol.Comma) tokens s.0 s.2 (λ p g k. refl))
     (
-    thence (leads_var at x front v s.0 s.1 s.3)
+    thence (yields_var at x before v s.0 s.1 s.3)
     (
-    leads_as (AtPlace (VarEnd at x (front ++ v ∷ []))) (AtPlace (VarEnd at x ((front ++ v ∷ []) ++ vs))) (AtPlace (VarEnd at x (front ++ v ∷ vs))) s.1 rest
-    (leads_more_vars vs at x (front ++ v ∷ []) s.1 rest s.4) (ap (λ w. AtPlace (VarEnd at x w)) (append_assoc front (v ∷ []) vs))
-    )
-    )
-
-leads_vars : (vs : List VarSyntax) (at : ℕ) (x : List ℕ) (tokens mid rest : List Token) → VarsSpell vs tokens mid → First equal mid rest → Leads (AtPlace (RecordVars at x)) tokens (AtPlace (RecordBrace at x vs)) rest
-leads_vars [] at x tokens mid rest s e =
-    leads_first (AtPlace (RecordVars at x)) (AtPlace (RecordBrace at x [])) equal tokens rest (subst (λ w. First equal w rest) (sym s) e) (λ p g k. refl)
-leads_vars (v ∷ vs) at x tokens mid rest s e =
-    thence (leads_first (AtPlace (RecordVars at x)) (AtPlace (VarBegin at x [])) less tokens s.0 s.3 (λ p g k. refl))
-    (
-    thence (leads_var at x [] v s.0 s.1 s.4)
-    (
-    thence (leads_more_vars vs at x (v ∷ []) s.1 s.2 s.5)
-    (
-    thence (leads_first (AtPlace (VarEnd at x (v ∷ vs))) (AtPlace (RecordEqual at x (v ∷ vs))) greater s.2 mid s.6 (λ p g k. refl))
-    (leads_first (AtPlace (RecordEqual at x (v ∷ vs))) (AtPlace (RecordBrace at x (v ∷ vs))) equal mid rest e (λ p g k. refl))
-    )
+    yields_as decl_step (Expects (VarEnd at x (before ++ v ∷ []))) (Expects (VarEnd at x ((before ++ v ∷ []) ++ vs))) (Expects (VarEnd at x (before ++ v ∷ vs))) s.1 rest
+    (yields_more_vars vs at x (before ++ v ∷ []) s.1 rest s.4) (ap (λ w. Expects (VarEnd at x w)) (append_assoc before (v ∷ []) vs))
     )
     )
 
-leads_field : (at : ℕ) (x : List ℕ) (vs : List VarSyntax) (front : List FieldDeclSyntax) (f : FieldDeclSyntax) (tokens rest : List Token) → FieldDeclSpells f tokens rest → TypeFits f.type
-    → Leads (AtPlace (FieldName at x vs front)) tokens (InField at x vs front f.at f.name (HaveType 0 f.type)) rest
-leads_field at x vs front f tokens rest s fits =
-    thence (leads_at (AtPlace (FieldName at x vs front)) (AtPlace (FieldColon at x vs front f.at f.name)) (name f.name) f.at tokens s.0 s.2 (λ g k. refl))
+yields_vars : (vs : List VarSyntax) (at : ℕ) (x : List ℕ) (tokens mid rest : List Token) → VarsSpell vs tokens mid → First equal mid rest → Yields decl_step (Expects (RecordVars at x)) tokens (Expects (RecordBrace at x vs)) rest
+yields_vars [] at x tokens mid rest s e =
+    yields_first (Expects (RecordVars at x)) (Expects (RecordBrace at x [])) equal tokens rest (subst (λ w. First equal w rest) (sym s) e) (λ p g k. refl)
+yields_vars (v ∷ vs) at x tokens mid rest s e =
+    thence (yields_first (Expects (RecordVars at x)) (Expects (VarBegin at x [])) less tokens s.0 s.3 (λ p g k. refl))
     (
-    thence (leads_first (AtPlace (FieldColon at x vs front f.at f.name)) (InField at x vs front f.at f.name (NeedType 0)) (plain mark.Colon) s.0 s.1 s.3 (λ p g k. refl))
-    (leads_type (λ w. InField at x vs front f.at f.name w) (field_inside at x vs front f.at f.name) f.type s.1 rest s.4 fits)
+    thence (yields_var at x [] v s.0 s.1 s.4)
+    (
+    thence (yields_more_vars vs at x (v ∷ []) s.1 s.2 s.5)
+    (
+    thence (yields_first (Expects (VarEnd at x (v ∷ vs))) (Expects (RecordEqual at x (v ∷ vs))) greater s.2 mid s.6 (λ p g k. refl))
+    (yields_first (Expects (RecordEqual at x (v ∷ vs))) (Expects (RecordBrace at x (v ∷ vs))) equal mid rest e (λ p g k. refl))
+    )
+    )
+    )
+
+yields_field : (at : ℕ) (x : List ℕ) (vs : List VarSyntax) (before : List FieldDeclSyntax) (f : FieldDeclSyntax) (tokens rest : List Token) → FieldDeclSpells f tokens rest → TypeFits f.type
+    → Yields decl_step (Expects (FieldName at x vs before)) tokens (InField at x vs before f.at f.name (HaveType 0 f.type)) rest
+yields_field at x vs before f tokens rest s fits =
+    thence (yields_at (Expects (FieldName at x vs before)) (Expects (FieldColon at x vs before f.at f.name)) (name f.name) f.at tokens s.0 s.2 (λ g k. refl))
+    (
+    thence (yields_first (Expects (FieldColon at x vs before f.at f.name)) (InField at x vs before f.at f.name (NeedType 0)) (mark symbol.Colon) s.0 s.1 s.3 (λ p g k. refl))
+    (yields_type (λ w. InField at x vs before f.at f.name w) (field_inside at x vs before f.at f.name) f.type s.1 rest s.4 fits)
     )
 
 -- the token behind the type of a field
-ends_field : (at : ℕ) (x : List ℕ) (vs : List VarSyntax) (front : List FieldDeclSyntax) (f : FieldDeclSyntax) (what : ExprToken) (new : DeclState) (tokens rest : List Token) → First what tokens rest
-    → ((k : Kind) → expr_token k ≡ what → type_after 0 f.type (type_token k) ≡ NoType) → field_ends at x vs front f.at f.name (Some f.type) what ≡ new
-    → Leads (InField at x vs front f.at f.name (HaveType 0 f.type)) tokens new rest
-ends_field at x vs front f what new tokens rest n stops e =
-    let over : DeclState = field_ends at x vs front f.at f.name (Some f.type) (expr_token n.0.kind) in (
+ends_field : (at : ℕ) (x : List ℕ) (vs : List VarSyntax) (before : List FieldDeclSyntax) (f : FieldDeclSyntax) (what : ExprToken) (new : DeclState) (tokens rest : List Token) → First what tokens rest
+    → ((k : Kind) → expr_token k ≡ what → type_after 0 f.type k ≡ NoType) → field_ends at x vs before f.at f.name (Some f.type) what ≡ new
+    → Yields decl_step (InField at x vs before f.at f.name (HaveType 0 f.type)) tokens new rest
+ends_field at x vs before f what new tokens rest n stops e =
+    let over : DeclState = field_ends at x vs before f.at f.name (Some f.type) (expr_token n.0.kind) in (
       n.0 ∷ [],
       n.2,
-      ap (λ w. field_goes at x vs front f.at f.name w over) (stops n.0.kind n.1) ∙ ap (field_ends at x vs front f.at f.name (Some f.type)) n.1 ∙ e,
+      ap (λ w. field_goes at x vs before f.at f.name w over) (stops n.0.kind n.1) ∙ ap (field_ends at x vs before f.at f.name (Some f.type)) n.1 ∙ e,
     )
 
-leads_fields : (fs : List FieldDeclSyntax) (at : ℕ) (x : List ℕ) (vs : List VarSyntax) (front : List FieldDeclSyntax) (f : FieldDeclSyntax) (tokens mid rest : List Token) → MoreFieldDecls fs tokens mid
-    → FieldDeclsFit fs → First (plain mark.RecordClose) mid rest → Leads (InField at x vs front f.at f.name (HaveType 0 f.type)) tokens (HaveRecord at x vs (front ++ f ∷ fs)) rest
-leads_fields [] at x vs front f tokens mid rest s fits c =
-    ends_field at x vs front f (plain mark.RecordClose) (HaveRecord at x vs (front ++ f ∷ [])) tokens rest (subst (λ w. First (plain mark.RecordClose) w rest) (sym s) c)
-    (λ k e. ap (type_after 0 f.type) (record_close_is k e)) refl
-leads_fields (d ∷ fs) at x vs front f tokens mid rest s fits c =
-    let more : List FieldDeclSyntax = front ++ f ∷ [] in
+yields_fields : (fs : List FieldDeclSyntax) (at : ℕ) (x : List ℕ) (vs : List VarSyntax) (before : List FieldDeclSyntax) (f : FieldDeclSyntax) (tokens mid rest : List Token) → MoreFieldDecls fs tokens mid
+    → FieldDeclsFit fs → First (mark symbol.RightBrace) mid rest → Yields decl_step (InField at x vs before f.at f.name (HaveType 0 f.type)) tokens (HaveRecord at x vs (before ++ f ∷ fs)) rest
+yields_fields [] at x vs before f tokens mid rest s fits c =
+    ends_field at x vs before f (mark symbol.RightBrace) (HaveRecord at x vs (before ++ f ∷ [])) tokens rest (subst (λ w. First (mark symbol.RightBrace) w rest) (sym s) c)
+    (λ k e. ap (type_after 0 f.type) (mark_is k symbol.RightBrace e)) refl
+yields_fields (d ∷ fs) at x vs before f tokens mid rest s fits c =
+    let more : List FieldDeclSyntax = before ++ f ∷ [] in
     thence
-    (ends_field at x vs front f (plain mark.Semi) (AtPlace (FieldName at x vs more)) tokens s.0 s.2 (λ k e. ap (type_after 0 f.type) (semi_is k e)) refl)
+    (ends_field at x vs before f (mark symbol.Semicolon) (Expects (FieldName at x vs more)) tokens s.0 s.2 (λ k e. ap (type_after 0 f.type) (mark_is k symbol.Semicolon e)) refl)
     (
-    thence (leads_field at x vs more d s.0 s.1 s.3 fits.0)
+    thence (yields_field at x vs more d s.0 s.1 s.3 fits.0)
     (
-    leads_as (InField at x vs more d.at d.name (HaveType 0 d.type)) (HaveRecord at x vs (more ++ d ∷ fs)) (HaveRecord at x vs (front ++ f ∷ d ∷ fs)) s.1 rest
-    (leads_fields fs at x vs more d s.1 mid rest s.4 fits.1 c) (ap (HaveRecord at x vs) (append_assoc front (f ∷ []) (d ∷ fs)))
+    yields_as decl_step (InField at x vs more d.at d.name (HaveType 0 d.type)) (HaveRecord at x vs (more ++ d ∷ fs)) (HaveRecord at x vs (before ++ f ∷ d ∷ fs)) s.1 rest
+    (yields_fields fs at x vs more d s.1 mid rest s.4 fits.1 c) (ap (HaveRecord at x vs) (append_assoc before (f ∷ []) (d ∷ fs)))
     )
     )
 
 -- ---- functions
 
-leads_param : (recursive : Bool) (at : ℕ) (x : List ℕ) (front : List ParamSyntax) (q : ParamSyntax) (tokens rest : List Token) → ParamSpells q tokens rest → TypeFits q.type
-    → Leads (AtPlace (Params recursive at x front)) tokens (AtPlace (Params recursive at x (front ++ q ∷ []))) rest
-leads_param recursive at x front q tokens rest s fits =
-    thence (leads_first (AtPlace (Params recursive at x front)) (AtPlace (ParamBinder recursive at x front)) (plain mark.Open) tokens s.0 s.4 (λ p g k. refl))
+yields_param : (recursive : Bool) (at : ℕ) (x : List ℕ) (before : List ParamSyntax) (q : ParamSyntax) (tokens rest : List Token) → ParamSpells q tokens rest → TypeFits q.type
+    → Yields decl_step (Expects (Params recursive at x before)) tokens (Expects (Params recursive at x (before ++ q ∷ []))) rest
+yields_param recursive at x before q tokens rest s fits =
+    thence (yields_first (Expects (Params recursive at x before)) (Expects (ParamBinder recursive at x before)) (mark symbol.LeftParen) tokens s.0 s.4 (λ p g k. refl))
     (
     thence
-    (leads_binder (AtPlace (ParamBinder recursive at x front)) (λ z. AtPlace (ParamColon recursive at x front z)) q.binder s.0 s.1 s.5 (λ z p g k. refl) (λ p g k. refl))
+    (yields_binder (Expects (ParamBinder recursive at x before)) (λ z. Expects (ParamColon recursive at x before z)) q.binder s.0 s.1 s.5 (λ z p g k. refl) (λ p g k. refl))
     (
     thence
-    (leads_first (AtPlace (ParamColon recursive at x front q.binder)) (InParam recursive at x front q.binder (NeedType 0)) (plain mark.Colon) s.1 s.2 s.6 (λ p g k. refl))
+    (yields_first (Expects (ParamColon recursive at x before q.binder)) (InParam recursive at x before q.binder (NeedType 0)) (mark symbol.Colon) s.1 s.2 s.6 (λ p g k. refl))
     (
-    thence (leads_type (λ w. InParam recursive at x front q.binder w) (param_inside recursive at x front q.binder) q.type s.2 s.3 s.7 fits) (
+    thence (yields_type (λ w. InParam recursive at x before q.binder w) (param_inside recursive at x before q.binder) q.type s.2 s.3 s.7 fits) (
       s.8.0 ∷ [],
       s.8.2,
-      ap (λ w. param_goes recursive at x front q.binder (type_after 0 q.type w) (param_ends recursive at x front q.binder (Some q.type) (expr_token s.8.0.kind))) (close_is s.8.0.kind s.8.1)
-          ∙ ap (param_ends recursive at x front q.binder (Some q.type)) s.8.1,
+      ap (λ w. param_goes recursive at x before q.binder (type_after 0 q.type w) (param_ends recursive at x before q.binder (Some q.type) (expr_token s.8.0.kind))) (mark_is s.8.0.kind symbol.RightParen s.8.1)
+          ∙ ap (param_ends recursive at x before q.binder (Some q.type)) s.8.1,
     )
     )
     )
     )
 
-leads_params : (ps : List ParamSyntax) (recursive : Bool) (at : ℕ) (x : List ℕ) (front : List ParamSyntax) (tokens rest : List Token) → ParamsSpell ps tokens rest → ParamsFit ps
-    → Leads (AtPlace (Params recursive at x front)) tokens (AtPlace (Params recursive at x (front ++ ps))) rest
-leads_params [] recursive at x front tokens rest s fits =
-    leads_here (AtPlace (Params recursive at x front)) (AtPlace (Params recursive at x (front ++ []))) tokens rest (ap (λ w. AtPlace (Params recursive at x w)) (sym (append-nil front))) s
-leads_params (q ∷ ps) recursive at x front tokens rest s fits =
-    thence (leads_param recursive at x front q tokens s.0 s.1 fits.0)
+yields_params : (ps : List ParamSyntax) (recursive : Bool) (at : ℕ) (x : List ℕ) (before : List ParamSyntax) (tokens rest : List Token) → ParamsSpell ps tokens rest → ParamsFit ps
+    → Yields decl_step (Expects (Params recursive at x before)) tokens (Expects (Params recursive at x (before ++ ps))) rest
+yields_params [] recursive at x before tokens rest s fits =
+    yields_here decl_step (Expects (Params recursive at x before)) (Expects (Params recursive at x (before ++ []))) tokens rest (ap (λ w. Expects (Params recursive at x w)) (sym (append-nil before))) s
+yields_params (q ∷ ps) recursive at x before tokens rest s fits =
+    thence (yields_param recursive at x before q tokens s.0 s.1 fits.0)
     (
-    leads_as (AtPlace (Params recursive at x (front ++ q ∷ []))) (AtPlace (Params recursive at x ((front ++ q ∷ []) ++ ps))) (AtPlace (Params recursive at x (front ++ q ∷ ps))) s.0 rest
-    (leads_params ps recursive at x (front ++ q ∷ []) s.0 rest s.2 fits.1) (ap (λ w. AtPlace (Params recursive at x w)) (append_assoc front (q ∷ []) ps))
+    yields_as decl_step (Expects (Params recursive at x (before ++ q ∷ []))) (Expects (Params recursive at x ((before ++ q ∷ []) ++ ps))) (Expects (Params recursive at x (before ++ q ∷ ps))) s.0 rest
+    (yields_params ps recursive at x (before ++ q ∷ []) s.0 rest s.2 fits.1) (ap (λ w. Expects (Params recursive at x w)) (append_assoc before (q ∷ []) ps))
     )
 
-leads_result : (r : Option TypeSyntax) (recursive : Bool) (at : ℕ) (x : List ℕ) (ps : List ParamSyntax) (tokens mid rest : List Token) → ResultSpells r tokens mid → First equal mid rest → ResultFits recursive r
-    → Leads (AtPlace (Params recursive at x ps)) tokens (InBody recursive at x ps r (Need [])) rest
-leads_result None false at x ps tokens mid rest s e fits =
-    leads_first (AtPlace (Params false at x ps)) (InBody false at x ps None (Need [])) equal tokens rest (subst (λ w. First equal w rest) (sym s) e) (λ p g k. refl)
-leads_result None true at x ps tokens mid rest s e fits = absurd cc
-leads_result (Some t) recursive at x ps tokens mid rest s e fits =
+yields_result : (r : Option TypeSyntax) (recursive : Bool) (at : ℕ) (x : List ℕ) (ps : List ParamSyntax) (tokens mid rest : List Token) → ResultSpells r tokens mid → First equal mid rest → ResultFits recursive r
+    → Yields decl_step (Expects (Params recursive at x ps)) tokens (InBody recursive at x ps r (Need [])) rest
+yields_result None false at x ps tokens mid rest s e fits =
+    yields_first (Expects (Params false at x ps)) (InBody false at x ps None (Need [])) equal tokens rest (subst (λ w. First equal w rest) (sym s) e) (λ p g k. refl)
+yields_result None true at x ps tokens mid rest s e fits = absurd cc
+yields_result (Some t) recursive at x ps tokens mid rest s e fits =
     let over : DeclState = result_ends recursive at x ps (Some t) (expr_token e.0.kind) in
-    thence (leads_first (AtPlace (Params recursive at x ps)) (InResult recursive at x ps (NeedType 0)) (plain mark.Colon) tokens s.0 s.1 (λ p g k. refl))
+    thence (yields_first (Expects (Params recursive at x ps)) (InResult recursive at x ps (NeedType 0)) (mark symbol.Colon) tokens s.0 s.1 (λ p g k. refl))
     (
-    thence (leads_type (λ w. InResult recursive at x ps w) (result_inside recursive at x ps) t s.0 mid s.2 fits) (
+    thence (yields_type (λ w. InResult recursive at x ps w) (result_inside recursive at x ps) t s.0 mid s.2 fits) (
       e.0 ∷ [],
       e.2,
       ap (λ w. result_goes recursive at x ps (type_after 0 t w) over) (equal_is e.0.kind e.1) ∙ ap (result_ends recursive at x ps (Some t)) e.1,
     )
     )
 
-leads_name : (recursive : Bool) (at : ℕ) (x : List ℕ) (tokens mid rest : List Token) → RecSpells recursive tokens mid → FirstAt (name x) at mid rest → Leads (AtPlace LetName) tokens (AtPlace (Params recursive at x [])) rest
-leads_name false at x tokens mid rest s n =
-    leads_at (AtPlace LetName) (AtPlace (Params false at x [])) (name x) at tokens rest (subst (λ w. FirstAt (name x) at w rest) (sym s) n) (λ g k. refl)
-leads_name true at x tokens mid rest s n =
-    thence (leads_first (AtPlace LetName) (AtPlace RecName) (plain mark.Rec) tokens mid s (λ p g k. refl))
-    (leads_at (AtPlace RecName) (AtPlace (Params true at x [])) (name x) at mid rest n (λ g k. refl))
+yields_name : (recursive : Bool) (at : ℕ) (x : List ℕ) (tokens mid rest : List Token) → RecSpells recursive tokens mid → FirstAt (name x) at mid rest → Yields decl_step (Expects LetName) tokens (Expects (Params recursive at x [])) rest
+yields_name false at x tokens mid rest s n =
+    yields_at (Expects LetName) (Expects (Params false at x [])) (name x) at tokens rest (subst (λ w. FirstAt (name x) at w rest) (sym s) n) (λ g k. refl)
+yields_name true at x tokens mid rest s n =
+    thence (yields_first (Expects LetName) (Expects RecName) (word keyword.Rec) tokens mid s (λ p g k. refl))
+    (yields_at (Expects RecName) (Expects (Params true at x [])) (name x) at mid rest n (λ g k. refl))
 
-leads_function : (f : FunctionSyntax) (tokens rest : List Token) → FunctionSpells f tokens rest → DeclFits (function_syntax f) → Leads (AtPlace DeclBegin) tokens (decl_into (function_syntax f)) rest
-leads_function f tokens rest s fits =
-    thence (leads_first (AtPlace DeclBegin) (AtPlace LetName) (plain mark.Let) tokens s.0 s.6 (λ p g k. refl))
+yields_function : (f : FunctionSyntax) (tokens rest : List Token) → FunctionSpells f tokens rest → DeclFits (function_syntax f) → Yields decl_step (Expects DeclBegin) tokens (decl_into (function_syntax f)) rest
+yields_function f tokens rest s fits =
+    thence (yields_first (Expects DeclBegin) (Expects LetName) (word keyword.Let) tokens s.0 s.6 (λ p g k. refl))
     (
-    thence (leads_name f.recursive f.at f.name s.0 s.1 s.2 s.7 s.8)
+    thence (yields_name f.recursive f.at f.name s.0 s.1 s.2 s.7 s.8)
     (
-    thence (leads_params f.params f.recursive f.at f.name [] s.2 s.3 s.9 fits.0)
+    thence (yields_params f.params f.recursive f.at f.name [] s.2 s.3 s.9 fits.0)
     (
-    thence (leads_result f.result f.recursive f.at f.name f.params s.3 s.4 s.5 s.10 s.11 fits.1)
-    (leads_body f.recursive f.at f.name f.params f.result f.body s.5 rest s.12 fits.2)
+    thence (yields_result f.result f.recursive f.at f.name f.params s.3 s.4 s.5 s.10 s.11 fits.1)
+    (yields_body f.recursive f.at f.name f.params f.result f.body s.5 rest s.12 fits.2)
     )
     )
     )
 
 -- ---- declarations
 
-pub decl_leads : (d : DeclSyntax) (tokens rest : List Token) → DeclSpells d tokens rest → DeclFits d → Leads (AtPlace DeclBegin) tokens (decl_into d) rest
-decl_leads (base_syntax at x) tokens rest s fits = leads_measure at x tokens s.0 s.1 rest s.2 s.3 s.4
-decl_leads (short_syntax at x u) tokens rest s fits =
-    thence (leads_measure at x tokens s.0 s.1 s.2 s.4 s.5 s.6)
+pub decl_yields : (d : DeclSyntax) (tokens rest : List Token) → DeclSpells d tokens rest → DeclFits d → Yields decl_step (Expects DeclBegin) tokens (decl_into d) rest
+decl_yields (base_syntax at x) tokens rest s fits = yields_measure at x tokens s.0 s.1 rest s.2 s.3 s.4
+decl_yields (short_syntax at x u) tokens rest s fits =
+    thence (yields_measure at x tokens s.0 s.1 s.2 s.4 s.5 s.6)
     (
-    thence (leads_first (HaveBase at x) (InShort at x (NeedUnit [])) equal s.2 s.3 s.7 (λ p g k. refl)) (leads_unit at x u s.3 rest s.8 fits)
+    thence (yields_first (HaveBase at x) (InShort at x (NeedUnit [])) equal s.2 s.3 s.7 (λ p g k. refl)) (yields_unit at x u s.3 rest s.8 fits)
     )
-decl_leads (record_decl_syntax at x vs []) tokens rest s fits = absurd s.11
-decl_leads (record_decl_syntax at x vs (f ∷ fs)) tokens rest s fits =
-    thence (leads_first (AtPlace DeclBegin) (AtPlace RecordName) (plain mark.Type) tokens s.0 s.6 (λ p g k. refl))
+decl_yields (record_decl_syntax at x vs []) tokens rest s fits = absurd s.11
+decl_yields (record_decl_syntax at x vs (f ∷ fs)) tokens rest s fits =
+    thence (yields_first (Expects DeclBegin) (Expects RecordName) (word keyword.Type) tokens s.0 s.6 (λ p g k. refl))
     (
-    thence (leads_at (AtPlace RecordName) (AtPlace (RecordVars at x)) (name x) at s.0 s.1 s.7 (λ g k. refl))
+    thence (yields_at (Expects RecordName) (Expects (RecordVars at x)) (name x) at s.0 s.1 s.7 (λ g k. refl))
     (
-    thence (leads_vars vs at x s.1 s.2 s.3 s.8 s.9)
+    thence (yields_vars vs at x s.1 s.2 s.3 s.8 s.9)
     (
-    thence (leads_first (AtPlace (RecordBrace at x vs)) (AtPlace (FieldName at x vs [])) (plain mark.RecordOpen) s.3 s.4 s.10 (λ p g k. refl))
-    (thence (leads_field at x vs [] f s.4 s.11.0 s.11.1 fits.0) (leads_fields fs at x vs [] f s.11.0 s.5 rest s.11.2 fits.1 s.12))
+    thence (yields_first (Expects (RecordBrace at x vs)) (Expects (FieldName at x vs [])) (mark symbol.LeftBrace) s.3 s.4 s.10 (λ p g k. refl))
+    (thence (yields_field at x vs [] f s.4 s.11.0 s.11.1 fits.0) (yields_fields fs at x vs [] f s.11.0 s.5 rest s.11.2 fits.1 s.12))
     )
     )
     )
-decl_leads (function_syntax f) tokens rest s fits = leads_function f tokens rest s fits
+decl_yields (function_syntax f) tokens rest s fits = yields_function f tokens rest s fits

@@ -11,17 +11,20 @@ use Rattle.um_types.specs.TypeMachine.{InNote as InTypeNote}
 use Rattle.um_types.proofs.UnitHeights.{completed_height, run_up, found_height}
 use Rattle.um_types.proofs.UnitNested.{unit_step}
 use Rattle.um_types.proofs.TypeLaws.{type_completed, type_completed_height, type_up, type_found_height}
-use Rattle.um_expr.specs.declared.mark.Mark.TheVariants as mark
-use Rattle.um_expr.specs.declared.mark.Infix.TheVariants as between
-use Rattle.um_expr.specs.ExprTokens.{ExprToken, name, variable, hole, operator, plain, expr_token}
+use Rattle.um_syntax.specs.declared.vocabulary.Keyword.TheVariants as keyword
+use Rattle.um_syntax.specs.declared.vocabulary.Symbol.TheVariants as symbol
+use Rattle.um_expr.specs.declared.infix.Infix.TheVariants as between
+use Rattle.um_expr.specs.declared.token.ExprToken.{ExprToken}
+use Rattle.um_expr.specs.declared.token.ExprToken.TheVariants.{Name as name, Variable as variable, Hole as hole, Operator as operator, Word as word, Mark as mark}
+use Rattle.um_expr.specs.ExprTokens.{expr_token}
 use Rattle.um_expr.specs.ExprMachine.{State, Need, Have, Greater, Inside, InNote, InType, Refused, step, finish}
 use Rattle.um_expr.specs.ExprLeast.{whole_least}
 use Rattle.um_parse.specs.ProgramHeights.{fields_height, params_height, result_height, decl_height}
-use Rattle.um_parse.specs.ProgramLeast.{decl_place_least, decl_least}
-use Rattle.um_parse.specs.DeclMachine.{DeclPlace, DeclBegin, AttributeWord, AttributeGreater, AttributeClose, MeasureType, MeasureName, RecordName, RecordVars, VarBegin, VarWord, VarGreater, VarClose, VarName, VarEnd, RecordEqual, RecordBrace, FieldName, FieldColon, LetName, RecName, Params, ParamBinder, ParamColon, DeclState, AtPlace, HaveBase, InShort, HaveRecord, InField, InParam, InResult, InBody, NoDecl, body_begins, at_place, base_after, field_ends, param_ends, result_ends, short_goes, field_goes, param_goes, result_goes, body_goes, decl_step, short_found, body_found, decl_finish}
+use Rattle.um_parse.specs.ProgramLeast.{expected_least, decl_least}
+use Rattle.um_parse.specs.DeclMachine.{DeclExpected, DeclBegin, AttributeWord, AttributeGreater, AttributeClose, MeasureType, MeasureName, RecordName, RecordVars, VarBegin, VarWord, VarGreater, VarClose, VarName, VarEnd, RecordEqual, RecordBrace, FieldName, FieldColon, LetName, RecName, Params, ParamBinder, ParamColon, DeclState, Expects, HaveBase, InShort, HaveRecord, InField, InParam, InResult, InBody, NoDecl, body_begins, take_expected, base_after, field_ends, param_ends, result_ends, short_goes, field_goes, param_goes, result_goes, body_goes, decl_step, short_found, body_found, decl_finish}
 use Rattle.um_expr.proofs.ExprHeights.{expr_completed_height, expr_up, expr_found_height}
-use Rattle.um_parse.proofs.DeclStands.{DeclStands}
-use Rattle.um_parse.proofs.DeclEndings.{place_completed, decl_completed}
+use Rattle.um_parse.proofs.DeclPrefixes.{DeclSpellsPrefix}
+use Rattle.um_parse.proofs.DeclCompletions.{expected_completed, decl_completed}
 
 fields_last : (fs : List FieldDeclSyntax) (f : FieldDeclSyntax) → fields_height (fs ++ f ∷ []) ≡ max (fields_height fs) (whole_height f.type)
 fields_last [] f = omega arith
@@ -33,33 +36,33 @@ params_last (q ∷ qs) p = let e = params_last qs p in omega (arith, e)
 
 -- ---- the completion
 
-place_height : (place : DeclPlace) → decl_height (place_completed place) ≡ decl_place_least place
-place_height DeclBegin = refl
-place_height AttributeWord = refl
-place_height AttributeGreater = refl
-place_height AttributeClose = refl
-place_height MeasureType = refl
-place_height MeasureName = refl
-place_height RecordName = omega arith
-place_height (RecordVars at x) = omega arith
-place_height (VarBegin at x vs) = omega arith
-place_height (VarWord at x vs) = omega arith
-place_height (VarGreater at x vs) = omega arith
-place_height (VarClose at x vs) = omega arith
-place_height (VarName at x vs) = omega arith
-place_height (VarEnd at x vs) = omega arith
-place_height (RecordEqual at x vs) = omega arith
-place_height (RecordBrace at x vs) = omega arith
-place_height (FieldName at x vs fs) = let e = fields_last fs (record { at = 0; name = []; type = bool_syntax }) in omega (arith, e)
-place_height (FieldColon at x vs fs place y) = let e = fields_last fs (record { at = place; name = y; type = bool_syntax }) in omega (arith, e)
-place_height LetName = omega arith
-place_height RecName = omega arith
-place_height (Params recursive at x ps) = omega arith
-place_height (ParamBinder recursive at x ps) = let e = params_last ps (record { binder = record { at = 0; name = None }; type = bool_syntax }) in omega (arith, e)
-place_height (ParamColon recursive at x ps b) = let e = params_last ps (record { binder = b; type = bool_syntax }) in omega (arith, e)
+expected_height : (expected : DeclExpected) → decl_height (expected_completed expected) ≡ expected_least expected
+expected_height DeclBegin = refl
+expected_height AttributeWord = refl
+expected_height AttributeGreater = refl
+expected_height AttributeClose = refl
+expected_height MeasureType = refl
+expected_height MeasureName = refl
+expected_height RecordName = omega arith
+expected_height (RecordVars at x) = omega arith
+expected_height (VarBegin at x vs) = omega arith
+expected_height (VarWord at x vs) = omega arith
+expected_height (VarGreater at x vs) = omega arith
+expected_height (VarClose at x vs) = omega arith
+expected_height (VarName at x vs) = omega arith
+expected_height (VarEnd at x vs) = omega arith
+expected_height (RecordEqual at x vs) = omega arith
+expected_height (RecordBrace at x vs) = omega arith
+expected_height (FieldName at x vs fs) = let e = fields_last fs (record { at = 0; name = []; type = bool_syntax }) in omega (arith, e)
+expected_height (FieldColon at x vs fs place y) = let e = fields_last fs (record { at = place; name = y; type = bool_syntax }) in omega (arith, e)
+expected_height LetName = omega arith
+expected_height RecName = omega arith
+expected_height (Params recursive at x ps) = omega arith
+expected_height (ParamBinder recursive at x ps) = let e = params_last ps (record { binder = record { at = 0; name = None }; type = bool_syntax }) in omega (arith, e)
+expected_height (ParamColon recursive at x ps b) = let e = params_last ps (record { binder = b; type = bool_syntax }) in omega (arith, e)
 
-pub decl_completed_height : (st : DeclState) (tokens rest : List Token) → DeclStands st tokens rest → st ≢ NoDecl → decl_height (decl_completed st) ≡ decl_least st
-decl_completed_height (AtPlace place) tokens rest h ok = place_height place
+pub decl_completed_height : (st : DeclState) (tokens rest : List Token) → DeclSpellsPrefix st tokens rest → st ≢ NoDecl → decl_height (decl_completed st) ≡ decl_least st
+decl_completed_height (Expects expected) tokens rest h ok = expected_height expected
 decl_completed_height (HaveBase at x) tokens rest h ok = refl
 decl_completed_height (InShort at x u) tokens rest h ok = completed_height u h.7
 decl_completed_height (HaveRecord at x vs fs) tokens rest h ok = refl
@@ -83,7 +86,7 @@ decl_completed_height NoDecl tokens rest h ok = absurd (ok refl)
 
 abbrev Above : ℕ → DeclState → Type 0
 Above n NoDecl = Unit {0}
-Above n (AtPlace place) = n ≤ decl_least (AtPlace place)
+Above n (Expects expected) = n ≤ decl_least (Expects expected)
 Above n (HaveBase at x) = n ≤ decl_least (HaveBase at x)
 Above n (InShort at x u) = n ≤ decl_least (InShort at x u)
 Above n (HaveRecord at x vs fs) = n ≤ decl_least (HaveRecord at x vs fs)
@@ -96,39 +99,39 @@ body_up : (recursive : Bool) (at : ℕ) (x : List ℕ) (ps : List ParamSyntax) �
 body_up true at x ps = tt
 body_up false at x ps = omega arith
 
-place_up : (place : DeclPlace) (what : ExprToken) (at : ℕ) → Above (decl_place_least place) (at_place place what at)
-place_up DeclBegin (plain mark.AttributeOpen) at = omega arith
-place_up DeclBegin (plain mark.Type) at = omega arith
-place_up DeclBegin (plain mark.Let) at = omega arith
-place_up AttributeWord (plain mark.Measure) at = omega arith
-place_up AttributeGreater (operator (between.Compare compare.Gt)) at = omega arith
-place_up AttributeClose (plain mark.ListClose) at = omega arith
-place_up MeasureType (plain mark.Type) at = omega arith
-place_up MeasureName (name x) at = omega arith
-place_up RecordName (name x) at = omega arith
-place_up (RecordVars p x) (operator (between.Compare compare.Lt)) at = omega arith
-place_up (RecordVars p x) (operator (between.Compare compare.Eq)) at = omega arith
-place_up (VarBegin p x vs) (plain mark.AttributeOpen) at = omega arith
-place_up (VarWord p x vs) (plain mark.Measure) at = omega arith
-place_up (VarGreater p x vs) (operator (between.Compare compare.Gt)) at = omega arith
-place_up (VarClose p x vs) (plain mark.ListClose) at = omega arith
-place_up (VarName p x vs) (variable v) at = omega arith
-place_up (VarEnd p x vs) (plain mark.Comma) at = omega arith
-place_up (VarEnd p x vs) (operator (between.Compare compare.Gt)) at = omega arith
-place_up (RecordEqual p x vs) (operator (between.Compare compare.Eq)) at = omega arith
-place_up (RecordBrace p x vs) (plain mark.RecordOpen) at = omega arith
-place_up (FieldName p x vs fs) (name y) at = omega arith
-place_up (FieldColon p x vs fs place y) (plain mark.Colon) at = omega arith
-place_up LetName (plain mark.Rec) at = omega arith
-place_up LetName (name x) at = omega arith
-place_up RecName (name x) at = omega arith
-place_up (Params recursive p x ps) (plain mark.Open) at = omega arith
-place_up (Params recursive p x ps) (plain mark.Colon) at = omega arith
-place_up (Params recursive p x ps) (operator (between.Compare compare.Eq)) at = body_up recursive p x ps
-place_up (ParamBinder recursive p x ps) (name y) at = omega arith
-place_up (ParamBinder recursive p x ps) hole at = omega arith
-place_up (ParamColon recursive p x ps b) (plain mark.Colon) at = omega arith
-place_up _ _ at = tt
+expected_up : (expected : DeclExpected) (what : ExprToken) (at : ℕ) → Above (expected_least expected) (take_expected expected what at)
+expected_up DeclBegin (mark symbol.AttributeOpen) at = omega arith
+expected_up DeclBegin (word keyword.Type) at = omega arith
+expected_up DeclBegin (word keyword.Let) at = omega arith
+expected_up AttributeWord (word keyword.Measure) at = omega arith
+expected_up AttributeGreater (operator (between.Compare compare.Gt)) at = omega arith
+expected_up AttributeClose (mark symbol.RightBracket) at = omega arith
+expected_up MeasureType (word keyword.Type) at = omega arith
+expected_up MeasureName (name x) at = omega arith
+expected_up RecordName (name x) at = omega arith
+expected_up (RecordVars p x) (operator (between.Compare compare.Lt)) at = omega arith
+expected_up (RecordVars p x) (operator (between.Compare compare.Eq)) at = omega arith
+expected_up (VarBegin p x vs) (mark symbol.AttributeOpen) at = omega arith
+expected_up (VarWord p x vs) (word keyword.Measure) at = omega arith
+expected_up (VarGreater p x vs) (operator (between.Compare compare.Gt)) at = omega arith
+expected_up (VarClose p x vs) (mark symbol.RightBracket) at = omega arith
+expected_up (VarName p x vs) (variable v) at = omega arith
+expected_up (VarEnd p x vs) (mark symbol.Comma) at = omega arith
+expected_up (VarEnd p x vs) (operator (between.Compare compare.Gt)) at = omega arith
+expected_up (RecordEqual p x vs) (operator (between.Compare compare.Eq)) at = omega arith
+expected_up (RecordBrace p x vs) (mark symbol.LeftBrace) at = omega arith
+expected_up (FieldName p x vs fs) (name y) at = omega arith
+expected_up (FieldColon p x vs fs place y) (mark symbol.Colon) at = omega arith
+expected_up LetName (word keyword.Rec) at = omega arith
+expected_up LetName (name x) at = omega arith
+expected_up RecName (name x) at = omega arith
+expected_up (Params recursive p x ps) (mark symbol.LeftParen) at = omega arith
+expected_up (Params recursive p x ps) (mark symbol.Colon) at = omega arith
+expected_up (Params recursive p x ps) (operator (between.Compare compare.Eq)) at = body_up recursive p x ps
+expected_up (ParamBinder recursive p x ps) (name y) at = omega arith
+expected_up (ParamBinder recursive p x ps) hole at = omega arith
+expected_up (ParamColon recursive p x ps b) (mark symbol.Colon) at = omega arith
+expected_up _ _ at = tt
 
 base_up : (at : ℕ) (x : List ℕ) (what : ExprToken) → Above 0 (base_after at x what)
 base_up at x (operator (between.Compare compare.Eq)) = omega arith
@@ -143,11 +146,11 @@ short_up at n x NoUnit up = tt
 
 field_end_up : (at : ℕ) (x : List ℕ) (vs : List VarSyntax) (fs : List FieldDeclSyntax) (place : ℕ) (y : List ℕ) (s : TypeState) (found : Option TypeSyntax) (what : ExprToken) → type_finish s ≡ found
     → Above (max (fields_height fs) (type_least s)) (field_ends at x vs fs place y found what)
-field_end_up at x vs fs place y s (Some t) (plain mark.Semi) e =
+field_end_up at x vs fs place y s (Some t) (mark symbol.Semicolon) e =
     let same = type_found_height s t e in
     let last = fields_last fs (record { at = place; name = y; type = t }) in
     omega (arith, same, last)
-field_end_up at x vs fs place y s (Some t) (plain mark.RecordClose) e =
+field_end_up at x vs fs place y s (Some t) (mark symbol.RightBrace) e =
     let same = type_found_height s t e in
     let last = fields_last fs (record { at = place; name = y; type = t }) in
     omega (arith, same, last)
@@ -155,7 +158,7 @@ field_end_up at x vs fs place y s _ _ e = tt
 
 param_end_up : (recursive : Bool) (at : ℕ) (x : List ℕ) (ps : List ParamSyntax) (b : BinderSyntax) (s : TypeState) (found : Option TypeSyntax) (what : ExprToken) → type_finish s ≡ found
     → Above (max (params_height ps) (max (type_least s) 1)) (param_ends recursive at x ps b found what)
-param_end_up recursive at x ps b s (Some t) (plain mark.Close) e =
+param_end_up recursive at x ps b s (Some t) (mark symbol.RightParen) e =
     let same = type_found_height s t e in
     let last = params_last ps (record { binder = b; type = t }) in
     omega (arith, same, last)
@@ -200,7 +203,7 @@ in_body_up recursive at x ps r low (InType frames p n) up = let le = up (λ h. c
 in_body_up recursive at x ps r low Refused up = tt
 
 decl_above : (st : DeclState) (x : Token) → Above (decl_least st) (decl_step st x)
-decl_above (AtPlace place) x = place_up place (expr_token x.kind) x.start
+decl_above (Expects expected) x = expected_up expected (expr_token x.kind) x.start
 decl_above (HaveBase at y) x = base_up at y (expr_token x.kind)
 decl_above (InShort at y u) x = short_up at (least u) y (unit_step u x) (λ goes. run_up (x ∷ []) u goes)
 decl_above (HaveRecord at y vs fs) x = tt
@@ -217,7 +220,7 @@ decl_above (InBody recursive at y ps r e) x = in_body_up recursive at y ps r (wh
 decl_above NoDecl x = tt
 
 above_least : (n : ℕ) (st : DeclState) → st ≢ NoDecl → Above n st → n ≤ decl_least st
-above_least n (AtPlace place) ok h = h
+above_least n (Expects expected) ok h = h
 above_least n (HaveBase at x) ok h = h
 above_least n (InShort at x u) ok h = h
 above_least n (HaveRecord at x vs fs) ok h = h
@@ -248,7 +251,7 @@ decl_found_height (HaveBase at x) d e = let same : base_syntax at x ≡ d = cc i
 decl_found_height (InShort at x u) d e = short_height at x u (unit_finish u) d refl e
 decl_found_height (HaveRecord at x vs fs) d e = let same : record_decl_syntax at x vs fs ≡ d = cc in ap decl_height (sym same)
 decl_found_height (InBody recursive at x ps r b) d e = body_height recursive at x ps r b (finish b) d refl e
-decl_found_height (AtPlace place) d e = absurd cc
+decl_found_height (Expects expected) d e = absurd cc
 decl_found_height (InField at x vs fs place y s) d e = absurd cc
 decl_found_height (InParam recursive at x ps b s) d e = absurd cc
 decl_found_height (InResult recursive at x ps s) d e = absurd cc

@@ -10,17 +10,20 @@ use Rattle.um_types.specs.TypeMachine.{InNote as InTypeNote}
 use Rattle.um_types.proofs.UnitLaws.{run_append, found}
 use Rattle.um_types.proofs.UnitCut.{unit_before}
 use Rattle.um_types.proofs.UnitNested.{unit_step}
-use Rattle.um_types.proofs.TypeSound.{TypeStands, type_sound, type_found}
-use Rattle.um_expr.specs.declared.mark.Mark.TheVariants as mark
-use Rattle.um_expr.specs.declared.mark.Infix.TheVariants as between
-use Rattle.um_expr.specs.ExprTokens.{ExprToken, name, variable, hole, operator, plain, expr_token, equal}
+use Rattle.um_types.proofs.TypeSound.{TypeSpellsPrefix, type_sound, type_found}
+use Rattle.um_syntax.specs.declared.vocabulary.Keyword.TheVariants as keyword
+use Rattle.um_syntax.specs.declared.vocabulary.Symbol.TheVariants as symbol
+use Rattle.um_expr.specs.declared.infix.Infix.TheVariants as between
+use Rattle.um_expr.specs.declared.token.ExprToken.{ExprToken}
+use Rattle.um_expr.specs.declared.token.ExprToken.TheVariants.{Name as name, Variable as variable, Hole as hole, Operator as operator, Word as word, Mark as mark}
+use Rattle.um_expr.specs.ExprTokens.{expr_token, equal}
 use Rattle.um_expr.specs.ExprGrammar.{First, FirstAt, BinderSpells}
 use Rattle.um_expr.specs.ExprMachine.{State, Need, Have, Greater, Inside, InNote, InType, Refused, step, finish}
 use Rattle.um_parse.specs.DeclGrammar.{DeclSpells, ResultSpells, ParamsFit, ResultFits, FieldDeclsFit, DeclFits}
-use Rattle.um_parse.specs.DeclMachine.{DeclPlace, DeclBegin, AttributeWord, AttributeGreater, AttributeClose, MeasureType, MeasureName, RecordName, RecordVars, VarBegin, VarWord, VarGreater, VarClose, VarName, VarEnd, RecordEqual, RecordBrace, FieldName, FieldColon, LetName, RecName, Params, ParamBinder, ParamColon, DeclState, AtPlace, HaveBase, InShort, HaveRecord, InField, InParam, InResult, InBody, NoDecl, body_begins, at_place, base_after, field_ends, param_ends, result_ends, short_goes, field_goes, param_goes, result_goes, body_goes, decl_step, short_found, body_found, decl_finish}
-use Rattle.um_expr.proofs.ExprStands.{Stands}
+use Rattle.um_parse.specs.DeclMachine.{DeclExpected, DeclBegin, AttributeWord, AttributeGreater, AttributeClose, MeasureType, MeasureName, RecordName, RecordVars, VarBegin, VarWord, VarGreater, VarClose, VarName, VarEnd, RecordEqual, RecordBrace, FieldName, FieldColon, LetName, RecName, Params, ParamBinder, ParamColon, DeclState, Expects, HaveBase, InShort, HaveRecord, InField, InParam, InResult, InBody, NoDecl, body_begins, take_expected, base_after, field_ends, param_ends, result_ends, short_goes, field_goes, param_goes, result_goes, body_goes, decl_step, short_found, body_found, decl_finish}
+use Rattle.um_expr.proofs.ExprPrefixes.{SpellsPrefix}
 use Rattle.um_expr.proofs.ExprSound.{step_sound, expr_found}
-use Rattle.um_parse.proofs.DeclStands.{FieldsRead, RecordOpens, MeasureReads, FunctionHead, DeclStands, vars_comma, vars_last, vars_close, fields_semi, fields_last, fields_fit, params_fit, head_last}
+use Rattle.um_parse.proofs.DeclPrefixes.{FieldsRead, RecordOpens, MeasureReads, FunctionHead, DeclSpellsPrefix, vars_comma, vars_last, vars_close, fields_semi, fields_last, fields_fit, params_fit, head_last}
 
 need_type : NeedType 0 ≢ NoType
 need_type e = cc
@@ -29,59 +32,59 @@ need_expr : Need [] ≢ Refused
 need_expr e = cc
 
 body_begins_sound : (recursive : Bool) (at : ℕ) (x : List ℕ) (ps : List ParamSyntax) (tokens mid rest : List Token) → FunctionHead recursive at x ps tokens mid → First equal mid rest → ParamsFit ps
-    → DeclStands (body_begins recursive at x ps) tokens rest
+    → DeclSpellsPrefix (body_begins recursive at x ps) tokens rest
 body_begins_sound true at x ps tokens mid rest h s fits = tt
 body_begins_sound false at x ps tokens mid rest h s fits = (mid, mid, rest, h, refl, s, (refl, tt), fits, refl, need_expr)
 
-place_sound : (place : DeclPlace) (what : ExprToken) (at : ℕ) (tokens mid rest : List Token) → DeclStands (AtPlace place) tokens mid → FirstAt what at mid rest → DeclStands (at_place place what at) tokens rest
-place_sound DeclBegin (plain mark.AttributeOpen) at tokens mid rest h s = ((s.0, s.1, h.0 ∙ s.3), tt)
-place_sound DeclBegin (plain mark.Type) at tokens mid rest h s = ((s.0, s.1, h.0 ∙ s.3), tt)
-place_sound DeclBegin (plain mark.Let) at tokens mid rest h s = ((s.0, s.1, h.0 ∙ s.3), tt)
-place_sound AttributeWord (plain mark.Measure) at tokens mid rest h s = ((mid, h.0, (s.0, s.1, s.3)), tt)
-place_sound AttributeGreater (operator (between.Compare compare.Gt)) at tokens mid rest h s = ((h.0.0, mid, h.0.1, h.0.2, (s.0, s.1, s.3)), tt)
-place_sound AttributeClose (plain mark.ListClose) at tokens mid rest h s = ((h.0.0, h.0.1, mid, h.0.2, h.0.3, h.0.4, (s.0, s.1, s.3)), tt)
-place_sound MeasureType (plain mark.Type) at tokens mid rest h s = ((mid, h.0, (s.0, s.1, s.3)), tt)
-place_sound MeasureName (name x) at tokens mid rest h s = (h.0.0, mid, h.0.1, h.0.2, s)
-place_sound RecordName (name x) at tokens mid rest h s = ((mid, h.0, s), tt)
-place_sound (RecordVars p x) (operator (between.Compare compare.Lt)) at tokens mid rest h s = ((mid, rest, h.0, (s.0, s.1, s.3), refl), tt)
-place_sound (RecordVars p x) (operator (between.Compare compare.Eq)) at tokens mid rest h s = ((mid, mid, h.0, refl, (s.0, s.1, s.3)), tt)
-place_sound (VarBegin p x vs) (plain mark.AttributeOpen) at tokens mid rest h s = ((mid, h.0, (s.0, s.1, s.3)), tt)
-place_sound (VarWord p x vs) (plain mark.Measure) at tokens mid rest h s = ((h.0.0, mid, h.0.1, h.0.2, (s.0, s.1, s.3)), tt)
-place_sound (VarGreater p x vs) (operator (between.Compare compare.Gt)) at tokens mid rest h s = ((h.0.0, h.0.1, mid, h.0.2, h.0.3, h.0.4, (s.0, s.1, s.3)), tt)
-place_sound (VarClose p x vs) (plain mark.ListClose) at tokens mid rest h s =
+expected_sound : (expected : DeclExpected) (what : ExprToken) (at : ℕ) (tokens mid rest : List Token) → DeclSpellsPrefix (Expects expected) tokens mid → FirstAt what at mid rest → DeclSpellsPrefix (take_expected expected what at) tokens rest
+expected_sound DeclBegin (mark symbol.AttributeOpen) at tokens mid rest h s = ((s.0, s.1, h.0 ∙ s.3), tt)
+expected_sound DeclBegin (word keyword.Type) at tokens mid rest h s = ((s.0, s.1, h.0 ∙ s.3), tt)
+expected_sound DeclBegin (word keyword.Let) at tokens mid rest h s = ((s.0, s.1, h.0 ∙ s.3), tt)
+expected_sound AttributeWord (word keyword.Measure) at tokens mid rest h s = ((mid, h.0, (s.0, s.1, s.3)), tt)
+expected_sound AttributeGreater (operator (between.Compare compare.Gt)) at tokens mid rest h s = ((h.0.0, mid, h.0.1, h.0.2, (s.0, s.1, s.3)), tt)
+expected_sound AttributeClose (mark symbol.RightBracket) at tokens mid rest h s = ((h.0.0, h.0.1, mid, h.0.2, h.0.3, h.0.4, (s.0, s.1, s.3)), tt)
+expected_sound MeasureType (word keyword.Type) at tokens mid rest h s = ((mid, h.0, (s.0, s.1, s.3)), tt)
+expected_sound MeasureName (name x) at tokens mid rest h s = (h.0.0, mid, h.0.1, h.0.2, s)
+expected_sound RecordName (name x) at tokens mid rest h s = ((mid, h.0, s), tt)
+expected_sound (RecordVars p x) (operator (between.Compare compare.Lt)) at tokens mid rest h s = ((mid, rest, h.0, (s.0, s.1, s.3), refl), tt)
+expected_sound (RecordVars p x) (operator (between.Compare compare.Eq)) at tokens mid rest h s = ((mid, mid, h.0, refl, (s.0, s.1, s.3)), tt)
+expected_sound (VarBegin p x vs) (mark symbol.AttributeOpen) at tokens mid rest h s = ((mid, h.0, (s.0, s.1, s.3)), tt)
+expected_sound (VarWord p x vs) (word keyword.Measure) at tokens mid rest h s = ((h.0.0, mid, h.0.1, h.0.2, (s.0, s.1, s.3)), tt)
+expected_sound (VarGreater p x vs) (operator (between.Compare compare.Gt)) at tokens mid rest h s = ((h.0.0, h.0.1, mid, h.0.2, h.0.3, h.0.4, (s.0, s.1, s.3)), tt)
+expected_sound (VarClose p x vs) (mark symbol.RightBracket) at tokens mid rest h s =
     let r = h.0 in ((r.0, r.3, (r.1, r.2, mid, r.4, r.5, r.6, (s.0, s.1, s.3))), tt)
-place_sound (VarName p x vs) (variable v) at tokens mid rest h s =
+expected_sound (VarName p x vs) (variable v) at tokens mid rest h s =
     let o = h.0.1 in
     let var : VarSyntax = record { at = at; name = v } in
     ((o.0, o.1, o.2, o.3, vars_last vs var o.1 h.0.0 rest o.4 (mid, h.0.2, s)), tt)
-place_sound (VarEnd p x vs) (plain mark.Comma) at tokens mid rest h s = let r = h.0 in ((r.0, r.1, r.2, r.3, vars_comma vs r.1 mid rest r.4 (s.0, s.1, s.3)), tt)
-place_sound (VarEnd p x vs) (operator (between.Compare compare.Gt)) at tokens mid rest h s = let r = h.0 in ((r.0, r.2, vars_close vs r.0 r.1 mid rest r.3 r.4 (s.0, s.1, s.3)), tt)
-place_sound (RecordEqual p x vs) (operator (between.Compare compare.Eq)) at tokens mid rest h s = ((h.0.0, mid, h.0.1, h.0.2, (s.0, s.1, s.3)), tt)
-place_sound (RecordBrace p x vs) (plain mark.RecordOpen) at tokens mid rest h s = ((rest, (h.0.0, h.0.1, mid, h.0.2, h.0.3, h.0.4, (s.0, s.1, s.3)), refl), tt)
-place_sound (FieldName p x vs fs) (name y) at tokens mid rest h s = ((h.0.0, mid, h.0.1, h.0.2, s), h.1)
-place_sound (FieldColon p x vs fs place y) (plain mark.Colon) at tokens mid rest h s = (h.0.0, h.0.1, mid, rest, h.0.2, h.0.3, h.0.4, (s.0, s.1, s.3), refl, h.1, need_type)
-place_sound LetName (plain mark.Rec) at tokens mid rest h s = ((mid, h.0, (s.0, s.1, s.3)), tt)
-place_sound LetName (name x) at tokens mid rest h s = ((mid, mid, rest, h.0, refl, s, refl), tt)
-place_sound RecName (name x) at tokens mid rest h s = ((h.0.0, mid, rest, h.0.1, h.0.2, s, refl), tt)
-place_sound (Params recursive p x ps) (plain mark.Open) at tokens mid rest h s = ((mid, h.0, (s.0, s.1, s.3)), h.1)
-place_sound (Params recursive p x ps) (plain mark.Colon) at tokens mid rest h s = (mid, rest, h.0, (s.0, s.1, s.3), refl, h.1, need_type)
-place_sound (Params recursive p x ps) (operator (between.Compare compare.Eq)) at tokens mid rest h s = body_begins_sound recursive p x ps tokens mid rest h.0 (s.0, s.1, s.3) h.1
-place_sound (ParamBinder recursive p x ps) (name y) at tokens mid rest h s = ((h.0.0, mid, h.0.1, h.0.2, s), h.1)
-place_sound (ParamBinder recursive p x ps) hole at tokens mid rest h s = ((h.0.0, mid, h.0.1, h.0.2, s), h.1)
-place_sound (ParamColon recursive p x ps b) (plain mark.Colon) at tokens mid rest h s = (h.0.0, h.0.1, mid, rest, h.0.2, h.0.3, h.0.4, (s.0, s.1, s.3), refl, h.1, need_type)
-place_sound _ _ at tokens mid rest h s = tt
+expected_sound (VarEnd p x vs) (mark symbol.Comma) at tokens mid rest h s = let r = h.0 in ((r.0, r.1, r.2, r.3, vars_comma vs r.1 mid rest r.4 (s.0, s.1, s.3)), tt)
+expected_sound (VarEnd p x vs) (operator (between.Compare compare.Gt)) at tokens mid rest h s = let r = h.0 in ((r.0, r.2, vars_close vs r.0 r.1 mid rest r.3 r.4 (s.0, s.1, s.3)), tt)
+expected_sound (RecordEqual p x vs) (operator (between.Compare compare.Eq)) at tokens mid rest h s = ((h.0.0, mid, h.0.1, h.0.2, (s.0, s.1, s.3)), tt)
+expected_sound (RecordBrace p x vs) (mark symbol.LeftBrace) at tokens mid rest h s = ((rest, (h.0.0, h.0.1, mid, h.0.2, h.0.3, h.0.4, (s.0, s.1, s.3)), refl), tt)
+expected_sound (FieldName p x vs fs) (name y) at tokens mid rest h s = ((h.0.0, mid, h.0.1, h.0.2, s), h.1)
+expected_sound (FieldColon p x vs fs place y) (mark symbol.Colon) at tokens mid rest h s = (h.0.0, h.0.1, mid, rest, h.0.2, h.0.3, h.0.4, (s.0, s.1, s.3), refl, h.1, need_type)
+expected_sound LetName (word keyword.Rec) at tokens mid rest h s = ((mid, h.0, (s.0, s.1, s.3)), tt)
+expected_sound LetName (name x) at tokens mid rest h s = ((mid, mid, rest, h.0, refl, s, refl), tt)
+expected_sound RecName (name x) at tokens mid rest h s = ((h.0.0, mid, rest, h.0.1, h.0.2, s, refl), tt)
+expected_sound (Params recursive p x ps) (mark symbol.LeftParen) at tokens mid rest h s = ((mid, h.0, (s.0, s.1, s.3)), h.1)
+expected_sound (Params recursive p x ps) (mark symbol.Colon) at tokens mid rest h s = (mid, rest, h.0, (s.0, s.1, s.3), refl, h.1, need_type)
+expected_sound (Params recursive p x ps) (operator (between.Compare compare.Eq)) at tokens mid rest h s = body_begins_sound recursive p x ps tokens mid rest h.0 (s.0, s.1, s.3) h.1
+expected_sound (ParamBinder recursive p x ps) (name y) at tokens mid rest h s = ((h.0.0, mid, h.0.1, h.0.2, s), h.1)
+expected_sound (ParamBinder recursive p x ps) hole at tokens mid rest h s = ((h.0.0, mid, h.0.1, h.0.2, s), h.1)
+expected_sound (ParamColon recursive p x ps b) (mark symbol.Colon) at tokens mid rest h s = (h.0.0, h.0.1, mid, rest, h.0.2, h.0.3, h.0.4, (s.0, s.1, s.3), refl, h.1, need_type)
+expected_sound _ _ at tokens mid rest h s = tt
 
 need_unit : NeedUnit [] ≢ NoUnit
 need_unit e = cc
 
-base_sound : (at : ℕ) (x : List ℕ) (what : ExprToken) (tokens mid rest : List Token) → DeclStands (HaveBase at x) tokens mid → First what mid rest → DeclStands (base_after at x what) tokens rest
+base_sound : (at : ℕ) (x : List ℕ) (what : ExprToken) (tokens mid rest : List Token) → DeclSpellsPrefix (HaveBase at x) tokens mid → First what mid rest → DeclSpellsPrefix (base_after at x what) tokens rest
 base_sound at x (operator (between.Compare compare.Eq)) tokens mid rest h s = (mid, rest, [], h, s, refl, refl, need_unit)
 base_sound at x _ tokens mid rest h s = tt
 
 -- ---- machines inside
 
 short_sound : (at : ℕ) (x : List ℕ) (u : UnitState) (tokens sign next read rest : List Token) → MeasureReads at x tokens sign → First equal sign next → next ≡ read ++ rest → unit_run (NeedUnit []) read ≡ u
-    → DeclStands (short_goes at x u) tokens rest
+    → DeclSpellsPrefix (short_goes at x u) tokens rest
 short_sound at x (NeedUnit frames) tokens sign next read rest m e p r = (sign, next, read, m, e, p, r, λ h. cc)
 short_sound at x (HaveUnit frames t) tokens sign next read rest m e p r = (sign, next, read, m, e, p, r, λ h. cc)
 short_sound at x (Raised frames t) tokens sign next read rest m e p r = (sign, next, read, m, e, p, r, λ h. cc)
@@ -89,12 +92,12 @@ short_sound at x (Lowered frames t) tokens sign next read rest m e p r = (sign, 
 short_sound at x NoUnit tokens sign next read rest m e p r = tt
 
 field_end_sound : (at : ℕ) (x : List ℕ) (vs : List VarSyntax) (fs : List FieldDeclSyntax) (place : ℕ) (y : List ℕ) (s : TypeState) (found : Option TypeSyntax) (what : ExprToken) (tokens mid rest : List Token)
-    → DeclStands (InField at x vs fs place y s) tokens mid → First what mid rest → type_finish s ≡ found → DeclStands (field_ends at x vs fs place y found what) tokens rest
-field_end_sound at x vs fs place y s (Some t) (plain mark.Semi) tokens mid rest h n e =
+    → DeclSpellsPrefix (InField at x vs fs place y s) tokens mid → First what mid rest → type_finish s ≡ found → DeclSpellsPrefix (field_ends at x vs fs place y found what) tokens rest
+field_end_sound at x vs fs place y s (Some t) (mark symbol.Semicolon) tokens mid rest h n e =
     let p = type_found s t h.3 mid h.8 e in
     let f : FieldDeclSyntax = record { at = place; name = y; type = t } in
     ((h.0, h.4, fields_semi fs f h.0 h.1 mid rest h.5 (h.2, h.3, h.6, h.7, p.0) n), fields_fit fs f h.9 p.1)
-field_end_sound at x vs fs place y s (Some t) (plain mark.RecordClose) tokens mid rest h n e =
+field_end_sound at x vs fs place y s (Some t) (mark symbol.RightBrace) tokens mid rest h n e =
     let p = type_found s t h.3 mid h.8 e in
     let f : FieldDeclSyntax = record { at = place; name = y; type = t } in
     let o = h.4 in
@@ -103,44 +106,44 @@ field_end_sound at x vs fs place y s (Some t) (plain mark.RecordClose) tokens mi
 field_end_sound at x vs fs place y s _ _ tokens mid rest h n e = tt
 
 param_end_sound : (recursive : Bool) (at : ℕ) (x : List ℕ) (ps : List ParamSyntax) (b : BinderSyntax) (s : TypeState) (found : Option TypeSyntax) (what : ExprToken) (tokens mid rest : List Token)
-    → DeclStands (InParam recursive at x ps b s) tokens mid → First what mid rest → type_finish s ≡ found → DeclStands (param_ends recursive at x ps b found what) tokens rest
-param_end_sound recursive at x ps b s (Some t) (plain mark.Close) tokens mid rest h n e =
+    → DeclSpellsPrefix (InParam recursive at x ps b s) tokens mid → First what mid rest → type_finish s ≡ found → DeclSpellsPrefix (param_ends recursive at x ps b found what) tokens rest
+param_end_sound recursive at x ps b s (Some t) (mark symbol.RightParen) tokens mid rest h n e =
     let p = type_found s t h.3 mid h.8 e in
     let q : ParamSyntax = record { binder = b; type = t } in
     (head_last recursive at x ps q tokens h.0 rest h.4 (h.1, h.2, h.3, mid, h.5, h.6, h.7, p.0, n), params_fit ps q h.9 p.1)
 param_end_sound recursive at x ps b s _ _ tokens mid rest h n e = tt
 
 result_end_sound : (recursive : Bool) (at : ℕ) (x : List ℕ) (ps : List ParamSyntax) (s : TypeState) (found : Option TypeSyntax) (what : ExprToken) (tokens mid rest : List Token)
-    → DeclStands (InResult recursive at x ps s) tokens mid → First what mid rest → type_finish s ≡ found → DeclStands (result_ends recursive at x ps found what) tokens rest
+    → DeclSpellsPrefix (InResult recursive at x ps s) tokens mid → First what mid rest → type_finish s ≡ found → DeclSpellsPrefix (result_ends recursive at x ps found what) tokens rest
 result_end_sound recursive at x ps s (Some t) (operator (between.Compare compare.Eq)) tokens mid rest h n e =
     let p = type_found s t h.1 mid h.4 e in (h.0, mid, rest, h.2, (h.1, h.3, p.0), n, (refl, tt), h.5, p.1, need_expr)
 result_end_sound recursive at x ps s _ _ tokens mid rest h n e = tt
 
 field_goes_sound : (at : ℕ) (x : List ℕ) (vs : List VarSyntax) (fs : List FieldDeclSyntax) (place : ℕ) (y : List ℕ) (s : TypeState) (over : DeclState) (tokens fields named colon next rest : List Token)
-    → RecordOpens at x vs tokens fields → FieldsRead fs fields named → FirstAt (name y) place named colon → First (plain mark.Colon) colon next → TypeStands s next rest → FieldDeclsFit fs
-    → DeclStands over tokens rest → DeclStands (field_goes at x vs fs place y s over) tokens rest
+    → RecordOpens at x vs tokens fields → FieldsRead fs fields named → FirstAt (name y) place named colon → First (mark symbol.Colon) colon next → TypeSpellsPrefix s next rest → FieldDeclsFit fs
+    → DeclSpellsPrefix over tokens rest → DeclSpellsPrefix (field_goes at x vs fs place y s over) tokens rest
 field_goes_sound at x vs fs place y (NeedType depth) over tokens fields named colon next rest o r n c s f h = (fields, named, colon, next, o, r, n, c, s, f, λ e. cc)
 field_goes_sound at x vs fs place y (HaveType depth t) over tokens fields named colon next rest o r n c s f h = (fields, named, colon, next, o, r, n, c, s, f, λ e. cc)
 field_goes_sound at x vs fs place y (InTypeNote depth owner w) over tokens fields named colon next rest o r n c s f h = (fields, named, colon, next, o, r, n, c, s, f, λ e. cc)
 field_goes_sound at x vs fs place y NoType over tokens fields named colon next rest o r n c s f h = h
 
 param_goes_sound : (recursive : Bool) (at : ℕ) (x : List ℕ) (ps : List ParamSyntax) (b : BinderSyntax) (s : TypeState) (over : DeclState) (tokens d e colon next rest : List Token)
-    → FunctionHead recursive at x ps tokens d → First (plain mark.Open) d e → BinderSpells b e colon → First (plain mark.Colon) colon next → TypeStands s next rest → ParamsFit ps
-    → DeclStands over tokens rest → DeclStands (param_goes recursive at x ps b s over) tokens rest
+    → FunctionHead recursive at x ps tokens d → First (mark symbol.LeftParen) d e → BinderSpells b e colon → First (mark symbol.Colon) colon next → TypeSpellsPrefix s next rest → ParamsFit ps
+    → DeclSpellsPrefix over tokens rest → DeclSpellsPrefix (param_goes recursive at x ps b s over) tokens rest
 param_goes_sound recursive at x ps b (NeedType depth) over tokens d e colon next rest o r n c s f h = (d, e, colon, next, o, r, n, c, s, f, λ h. cc)
 param_goes_sound recursive at x ps b (HaveType depth t) over tokens d e colon next rest o r n c s f h = (d, e, colon, next, o, r, n, c, s, f, λ h. cc)
 param_goes_sound recursive at x ps b (InTypeNote depth owner w) over tokens d e colon next rest o r n c s f h = (d, e, colon, next, o, r, n, c, s, f, λ h. cc)
 param_goes_sound recursive at x ps b NoType over tokens d e colon next rest o r n c s f h = h
 
 result_goes_sound : (recursive : Bool) (at : ℕ) (x : List ℕ) (ps : List ParamSyntax) (s : TypeState) (over : DeclState) (tokens d next rest : List Token) → FunctionHead recursive at x ps tokens d
-    → First (plain mark.Colon) d next → TypeStands s next rest → ParamsFit ps → DeclStands over tokens rest → DeclStands (result_goes recursive at x ps s over) tokens rest
+    → First (mark symbol.Colon) d next → TypeSpellsPrefix s next rest → ParamsFit ps → DeclSpellsPrefix over tokens rest → DeclSpellsPrefix (result_goes recursive at x ps s over) tokens rest
 result_goes_sound recursive at x ps (NeedType depth) over tokens d next rest o c s f h = (d, next, o, c, s, f, λ e. cc)
 result_goes_sound recursive at x ps (HaveType depth t) over tokens d next rest o c s f h = (d, next, o, c, s, f, λ e. cc)
 result_goes_sound recursive at x ps (InTypeNote depth owner w) over tokens d next rest o c s f h = (d, next, o, c, s, f, λ e. cc)
 result_goes_sound recursive at x ps NoType over tokens d next rest o c s f h = h
 
 body_sound : (recursive : Bool) (at : ℕ) (x : List ℕ) (ps : List ParamSyntax) (r : Option TypeSyntax) (e : State) (tokens d sign next rest : List Token) → FunctionHead recursive at x ps tokens d
-    → ResultSpells r d sign → First equal sign next → Stands e next rest → ParamsFit ps → ResultFits recursive r → DeclStands (body_goes recursive at x ps r e) tokens rest
+    → ResultSpells r d sign → First equal sign next → SpellsPrefix e next rest → ParamsFit ps → ResultFits recursive r → DeclSpellsPrefix (body_goes recursive at x ps r e) tokens rest
 body_sound recursive at x ps r (Need frames) tokens d sign next rest o w q s f g = (d, sign, next, o, w, q, s, f, g, λ h. cc)
 body_sound recursive at x ps r (Have frames t) tokens d sign next rest o w q s f g = (d, sign, next, o, w, q, s, f, g, λ h. cc)
 body_sound recursive at x ps r (Greater frames p l) tokens d sign next rest o w q s f g = (d, sign, next, o, w, q, s, f, g, λ h. cc)
@@ -150,8 +153,8 @@ body_sound recursive at x ps r (InType frames p n) tokens d sign next rest o w q
 body_sound recursive at x ps r Refused tokens d sign next rest o w q s f g = tt
 
 -- the token that is read goes over to the state
-pub decl_sound : (st : DeclState) (x : Token) (tokens rest : List Token) → DeclStands st tokens (x ∷ rest) → DeclStands (decl_step st x) tokens rest
-decl_sound (AtPlace place) x tokens rest h = place_sound place (expr_token x.kind) x.start tokens (x ∷ rest) rest h (x, refl, refl, refl)
+pub decl_sound : (st : DeclState) (x : Token) (tokens rest : List Token) → DeclSpellsPrefix st tokens (x ∷ rest) → DeclSpellsPrefix (decl_step st x) tokens rest
+decl_sound (Expects expected) x tokens rest h = expected_sound expected (expr_token x.kind) x.start tokens (x ∷ rest) rest h (x, refl, refl, refl)
 decl_sound (HaveBase at y) x tokens rest h = base_sound at y (expr_token x.kind) tokens (x ∷ rest) rest h (x, refl, refl)
 decl_sound (InShort at y u) x tokens rest h =
     short_sound at y (unit_step u x) tokens h.0 h.1 (h.2 ++ x ∷ []) rest h.3 h.4 (h.5 ∙ sym (append_assoc h.2 (x ∷ []) rest)) (run_append h.2 (x ∷ []) (NeedUnit []) ∙ ap (λ s. unit_step s x) h.6)
@@ -180,7 +183,7 @@ body_is recursive at x ps r (Some e) d h = (e, refl, cc)
 body_is recursive at x ps r None d h = absurd cc
 
 -- what is found is a declaration
-pub decl_found : (st : DeclState) (d : DeclSyntax) (tokens rest : List Token) → DeclStands st tokens rest → decl_finish st ≡ Some d → DeclSpells d tokens rest × DeclFits d
+pub decl_found : (st : DeclState) (d : DeclSyntax) (tokens rest : List Token) → DeclSpellsPrefix st tokens rest → decl_finish st ≡ Some d → DeclSpells d tokens rest × DeclFits d
 decl_found (HaveBase at x) d tokens rest h e = let same : base_syntax at x ≡ d = cc in subst (λ w. DeclSpells w tokens rest × DeclFits w) same ((h.0, h.1, h.2, h.3, h.4), tt)
 decl_found (InShort at x u) d tokens rest h e =
     let w = short_is at x (unit_finish u) d e in
@@ -194,7 +197,7 @@ decl_found (InBody recursive at x ps r e) d tokens rest h same =
     let p = expr_found e w.0 h.2 rest h.6 w.1 in
     let f = h.3 in
     subst (λ t. DeclSpells t tokens rest × DeclFits t) w.2 ((f.0, f.1, f.2, h.0, h.1, h.2, f.3, f.4, f.5, f.6, h.4, h.5, p.0), (h.7, h.8, p.1))
-decl_found (AtPlace place) d tokens rest h e = absurd cc
+decl_found (Expects expected) d tokens rest h e = absurd cc
 decl_found (InField at x vs fs place y s) d tokens rest h e = absurd cc
 decl_found (InParam recursive at x ps b s) d tokens rest h e = absurd cc
 decl_found (InResult recursive at x ps s) d tokens rest h e = absurd cc

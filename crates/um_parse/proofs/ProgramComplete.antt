@@ -5,67 +5,65 @@ use Rattle.um_syntax.specs.declared.token.Token.{Token}
 use Rattle.um_syntax.specs.declared.token.Kind.{Kind}
 use Rattle.um_tree.specs.RawTree.{ExprSyntax, DeclSyntax, base_syntax, short_syntax, record_decl_syntax, function_syntax}
 use Rattle.um_types.specs.Machines.{runs}
-use Rattle.um_types.specs.UnitMachine.{act as unit_act}
 use Rattle.um_types.proofs.Reaching.{runs_append, runs_refused, lift}
 use Rattle.um_types.proofs.UnitComplete.{into as unit_into}
-use Rattle.um_types.proofs.UnitNested.{other_refused}
-use Rattle.um_expr.specs.declared.mark.Mark.TheVariants as mark
-use Rattle.um_expr.specs.ExprTokens.{ExprToken, plain, expr_token}
+use Rattle.um_types.specs.UnitTokens.{unit_token}
+use Rattle.um_types.proofs.ForeignTokens.{foreign_refused}
+use Rattle.um_syntax.specs.declared.vocabulary.Keyword.TheVariants as keyword
+use Rattle.um_syntax.specs.declared.vocabulary.Symbol.TheVariants as symbol
+use Rattle.um_types.specs.Machines.{Yields}
+use Rattle.um_types.proofs.Reaching.{yields_then}
+use Rattle.um_expr.specs.declared.token.ExprToken.{ExprToken}
+use Rattle.um_expr.specs.declared.token.ExprToken.TheVariants.{Word as word, Mark as mark}
+use Rattle.um_expr.specs.ExprTokens.{expr_token}
 use Rattle.um_expr.specs.ExprMachine.{Frame, Have, Refused, act}
 use Rattle.um_parse.specs.DeclGrammar.{DeclSpells, DeclsSpell, DeclFits, DeclsFit, IsProgram}
-use Rattle.um_parse.specs.DeclMachine.{DeclBegin, DeclState, AtPlace, HaveBase, InShort, HaveRecord, InField, InParam, InResult, InBody, NoDecl, base_after, short_goes, body_goes, decl_step, decl_finish, ProgramState, InProgram, NoProgram, program_goes, next_decl, program_step, program_found, program_finish}
+use Rattle.um_parse.specs.DeclMachine.{DeclBegin, DeclState, Expects, HaveBase, InShort, HaveRecord, InField, InParam, InResult, InBody, NoDecl, base_after, short_goes, body_goes, decl_step, decl_finish, ProgramState, InProgram, NoProgram, program_goes, next_decl, program_step, program_found, program_finish}
 use Rattle.um_parse.specs.ProgramStops.{Begins}
 use Rattle.um_parse.specs.ProgramStates.{start}
-use Rattle.um_expr.proofs.TokenKinds.{begins_decl, decl_no_unit}
+use Rattle.um_expr.proofs.ExprTokenKinds.{begins_decl, decl_is_foreign}
 use Rattle.um_expr.proofs.ExprEnds.{opened, last_atom}
-use Rattle.um_parse.proofs.DeclComplete.{decl_into, decl_finds, decl_leads}
+use Rattle.um_parse.proofs.DeclComplete.{decl_into, decl_finds, decl_yields}
 
 -- ---- what begins a declaration ends the one before it
 
 base_stops : (at : ℕ) (x : List ℕ) (w : ExprToken) → begins_decl w ≡ true → base_after at x w ≡ NoDecl
-base_stops at x (plain mark.AttributeOpen) h = refl
-base_stops at x (plain mark.Type) h = refl
-base_stops at x (plain mark.Let) h = refl
+base_stops at x (mark symbol.AttributeOpen) h = refl
+base_stops at x (word keyword.Type) h = refl
+base_stops at x (word keyword.Let) h = refl
 base_stops at x _ h = absurd cc
 
 expr_stops : (frames : List Frame) (t : ExprSyntax) (w : ExprToken) (p : ℕ) (g : Bool) (k : Kind) → begins_decl w ≡ true → act (Have frames t) w p g k ≡ Refused
-expr_stops frames t (plain mark.AttributeOpen) p g k h = refl
-expr_stops frames t (plain mark.Type) p g k h = refl
-expr_stops frames t (plain mark.Let) p g k h = refl
+expr_stops frames t (mark symbol.AttributeOpen) p g k h = refl
+expr_stops frames t (word keyword.Type) p g k h = refl
+expr_stops frames t (word keyword.Let) p g k h = refl
 expr_stops frames t _ p g k h = absurd cc
 
 decl_stops : (d : DeclSyntax) (token : Token) → begins_decl (expr_token token.kind) ≡ true → decl_step (decl_into d) token ≡ NoDecl
 decl_stops (base_syntax at x) token h = base_stops at x (expr_token token.kind) h
 decl_stops (short_syntax at x u) token h =
-    ap (λ w. short_goes at x (unit_act (unit_into [] u) w token.start)) (decl_no_unit token.kind h) ∙ ap (short_goes at x) (other_refused (unit_into [] u) token.start)
+    ap (short_goes at x) (foreign_refused (unit_into [] u) (unit_token token.kind) token.start (decl_is_foreign token.kind h))
 decl_stops (record_decl_syntax at x vs fs) token h = refl
 decl_stops (function_syntax f) token h =
     ap (body_goes f.recursive f.at f.name f.params f.result) (expr_stops (opened [] f.body) (last_atom f.body) (expr_token token.kind) token.start token.glued token.kind h)
 
 -- ---- declarations one behind the other
 
-abbrev pub Leads : ProgramState → List Token → ProgramState → List Token → Type 0
-Leads old tokens new rest = (read : List Token) × (tokens ≡ read ++ rest) × (runs program_step old read ≡ new)
+goes_on : (decls : List DeclSyntax) (new : DeclState) (over : ProgramState) → new ≢ NoDecl → program_goes decls new over ≡ InProgram decls new
+goes_on decls (Expects expected) over ok = refl
+goes_on decls (HaveBase at x) over ok = refl
+goes_on decls (InShort at x u) over ok = refl
+goes_on decls (HaveRecord at x vs fs) over ok = refl
+goes_on decls (InField at x vs fs place y s) over ok = refl
+goes_on decls (InParam recursive at x ps b s) over ok = refl
+goes_on decls (InResult recursive at x ps s) over ok = refl
+goes_on decls (InBody recursive at x ps r e) over ok = refl
+goes_on decls NoDecl over ok = absurd (ok refl)
 
-leads_then : (a b c : ProgramState) (s t r : List Token) → Leads a s b t → Leads b t c r → Leads a s c r
-leads_then a b c s t r p q =
-    (p.0 ++ q.0, p.1 ∙ ap (λ w. p.0 ++ w) q.1 ∙ sym (append_assoc p.0 q.0 r), runs_append program_step p.0 q.0 a ∙ ap (λ o. runs program_step o q.0) p.2 ∙ q.2)
-
-goes_on : (front : List DeclSyntax) (new : DeclState) (over : ProgramState) → new ≢ NoDecl → program_goes front new over ≡ InProgram front new
-goes_on front (AtPlace place) over ok = refl
-goes_on front (HaveBase at x) over ok = refl
-goes_on front (InShort at x u) over ok = refl
-goes_on front (HaveRecord at x vs fs) over ok = refl
-goes_on front (InField at x vs fs place y s) over ok = refl
-goes_on front (InParam recursive at x ps b s) over ok = refl
-goes_on front (InResult recursive at x ps s) over ok = refl
-goes_on front (InBody recursive at x ps r e) over ok = refl
-goes_on front NoDecl over ok = absurd (ok refl)
-
-decl_inside : (front : List DeclSyntax) (d new : DeclState) (token : Token) → decl_step d token ≡ new → new ≢ NoDecl → program_step (InProgram front d) token ≡ InProgram front new
-decl_inside front d new token e ok =
-    let over : ProgramState = next_decl front (decl_finish d) (decl_step (AtPlace DeclBegin) token) in
-    ap (λ w. program_goes front w over) e ∙ goes_on front new over ok
+decl_inside : (decls : List DeclSyntax) (d new : DeclState) (token : Token) → decl_step d token ≡ new → new ≢ NoDecl → program_step (InProgram decls d) token ≡ InProgram decls new
+decl_inside decls d new token e ok =
+    let over : ProgramState = next_decl decls (decl_finish d) (decl_step (Expects DeclBegin) token) in
+    ap (λ w. program_goes decls w over) e ∙ goes_on decls new over ok
 
 into_on : (d : DeclSyntax) → decl_into d ≢ NoDecl
 into_on (base_syntax at x) e = cc
@@ -73,17 +71,17 @@ into_on (short_syntax at x u) e = cc
 into_on (record_decl_syntax at x vs fs) e = cc
 into_on (function_syntax f) e = cc
 
-begin_apart : (d : DeclSyntax) → AtPlace DeclBegin ≢ decl_into d
+begin_apart : (d : DeclSyntax) → Expects DeclBegin ≢ decl_into d
 begin_apart (base_syntax at x) e = cc
 begin_apart (short_syntax at x u) e = cc
 begin_apart (record_decl_syntax at x vs fs) e = cc
 begin_apart (function_syntax f) e = cc
 
 -- a declaration is read
-leads_decl : (front : List DeclSyntax) (d : DeclSyntax) (tokens rest : List Token) → DeclSpells d tokens rest → DeclFits d → Leads (InProgram front (AtPlace DeclBegin)) tokens (InProgram front (decl_into d)) rest
-leads_decl front d tokens rest s fits =
-    let r = decl_leads d tokens rest s fits in
-    (r.0, r.1, lift decl_step NoDecl (λ t. refl) program_step (λ w. InProgram front w) (decl_inside front) r.0 (AtPlace DeclBegin) (decl_into d) r.2 (into_on d))
+yields_decl : (decls : List DeclSyntax) (d : DeclSyntax) (tokens rest : List Token) → DeclSpells d tokens rest → DeclFits d → Yields program_step (InProgram decls (Expects DeclBegin)) tokens (InProgram decls (decl_into d)) rest
+yields_decl decls d tokens rest s fits =
+    let r = decl_yields d tokens rest s fits in
+    (r.0, r.1, lift decl_step NoDecl (λ t. refl) program_step (λ w. InProgram decls w) (decl_inside decls) r.0 (Expects DeclBegin) (decl_into d) r.2 (into_on d))
 
 abbrev FirstPasses : List Token → Type 0
 FirstPasses tokens = (token : Token) × (more : List Token) × (tokens ≡ token ∷ more) × (begins_decl (expr_token token.kind) ≡ true)
@@ -98,15 +96,15 @@ same_head : (x y : Token) (xs ys : List Token) → x ∷ xs ≡ y ∷ ys → x �
 same_head x y xs ys e = cc
 
 -- behind a declaration the next begins as at the start
-next_alike : (front : List DeclSyntax) (d : DeclSyntax) (token : Token) → DeclFits d → begins_decl (expr_token token.kind) ≡ true
-    → program_step (InProgram front (decl_into d)) token ≡ program_step (InProgram (front ++ d ∷ []) (AtPlace DeclBegin)) token
-next_alike front d token fits h =
-    let begun : DeclState = decl_step (AtPlace DeclBegin) token in
-    ap (λ w. program_goes front w (next_decl front (decl_finish (decl_into d)) begun)) (decl_stops d token h) ∙ ap (λ o. next_decl front o begun) (decl_finds d fits)
+next_alike : (decls : List DeclSyntax) (d : DeclSyntax) (token : Token) → DeclFits d → begins_decl (expr_token token.kind) ≡ true
+    → program_step (InProgram decls (decl_into d)) token ≡ program_step (InProgram (decls ++ d ∷ []) (Expects DeclBegin)) token
+next_alike decls d token fits h =
+    let begun : DeclState = decl_step (Expects DeclBegin) token in
+    ap (λ w. program_goes decls w (next_decl decls (decl_finish (decl_into d)) begun)) (decl_stops d token h) ∙ ap (λ o. next_decl decls o begun) (decl_finds d fits)
 
-leads_next : (front : List DeclSyntax) (d e : DeclSyntax) (tokens rest : List Token) → DeclFits d → DeclSpells e tokens rest → DeclFits e → Leads (InProgram front (decl_into d)) tokens (InProgram (front ++ d ∷ []) (decl_into e)) rest
-leads_next front d e tokens rest fit s fits =
-    let p = leads_decl (front ++ d ∷ []) e tokens rest s fits in alike p.0 p.1 p.2
+yields_next : (decls : List DeclSyntax) (d e : DeclSyntax) (tokens rest : List Token) → DeclFits d → DeclSpells e tokens rest → DeclFits e → Yields program_step (InProgram decls (decl_into d)) tokens (InProgram (decls ++ d ∷ []) (decl_into e)) rest
+yields_next decls d e tokens rest fit s fits =
+    let p = yields_decl (decls ++ d ∷ []) e tokens rest s fits in alike p.0 p.1 p.2
   where
     first : FirstPasses tokens
     first = decl_first e tokens rest s
@@ -114,44 +112,44 @@ leads_next front d e tokens rest fit s fits =
     same_decl : (more : List DeclSyntax) (a b : DeclState) → InProgram more a ≡ InProgram more b → a ≡ b
     same_decl more a b h = cc
 
-    alike : (read : List Token) → tokens ≡ read ++ rest → runs program_step (InProgram (front ++ d ∷ []) (AtPlace DeclBegin)) read ≡ InProgram (front ++ d ∷ []) (decl_into e)
-        → Leads (InProgram front (decl_into d)) tokens (InProgram (front ++ d ∷ []) (decl_into e)) rest
-    alike [] parts ends = absurd (begin_apart e (same_decl (front ++ d ∷ []) (AtPlace DeclBegin) (decl_into e) ends))
+    alike : (read : List Token) → tokens ≡ read ++ rest → runs program_step (InProgram (decls ++ d ∷ []) (Expects DeclBegin)) read ≡ InProgram (decls ++ d ∷ []) (decl_into e)
+        → Yields program_step (InProgram decls (decl_into d)) tokens (InProgram (decls ++ d ∷ []) (decl_into e)) rest
+    alike [] parts ends = absurd (begin_apart e (same_decl (decls ++ d ∷ []) (Expects DeclBegin) (decl_into e) ends))
     alike (x ∷ xs) parts ends =
         let same : first.0 ≡ x = same_head first.0 x first.1 (xs ++ rest) (sym first.2 ∙ parts) in
         let passes : begins_decl (expr_token x.kind) ≡ true = ap (λ (t : Token). begins_decl (expr_token t.kind)) (sym same) ∙ first.3 in
-        (x ∷ xs, parts, ap (λ w. runs program_step w xs) (next_alike front d x fit passes) ∙ ends)
+        (x ∷ xs, parts, ap (λ w. runs program_step w xs) (next_alike decls d x fit passes) ∙ ends)
 
 -- the state once declarations were read
 abbrev pub program_into : List DeclSyntax → List DeclSyntax → ProgramState
-program_into front [] = InProgram front (AtPlace DeclBegin)
-program_into front (d ∷ []) = InProgram front (decl_into d)
-program_into front (d ∷ e ∷ ds) = program_into (front ++ d ∷ []) (e ∷ ds)
+program_into decls [] = InProgram decls (Expects DeclBegin)
+program_into decls (d ∷ []) = InProgram decls (decl_into d)
+program_into decls (d ∷ e ∷ ds) = program_into (decls ++ d ∷ []) (e ∷ ds)
 
-more_decls : (ds : List DeclSyntax) (d : DeclSyntax) (front : List DeclSyntax) (tokens rest : List Token) → DeclFits d → DeclsSpell ds tokens rest → DeclsFit ds
-    → Leads (InProgram front (decl_into d)) tokens (program_into front (d ∷ ds)) rest
-more_decls [] d front tokens rest fit s fits = ([], s, refl)
-more_decls (e ∷ ds) d front tokens rest fit s fits =
-    leads_then (InProgram front (decl_into d)) (InProgram (front ++ d ∷ []) (decl_into e)) (program_into front (d ∷ e ∷ ds)) tokens s.0 rest (leads_next front d e tokens s.0 fit s.1 fits.0)
-    (more_decls ds e (front ++ d ∷ []) s.0 rest fits.0 s.2 fits.1)
+more_decls : (ds : List DeclSyntax) (d : DeclSyntax) (decls : List DeclSyntax) (tokens rest : List Token) → DeclFits d → DeclsSpell ds tokens rest → DeclsFit ds
+    → Yields program_step (InProgram decls (decl_into d)) tokens (program_into decls (d ∷ ds)) rest
+more_decls [] d decls tokens rest fit s fits = ([], s, refl)
+more_decls (e ∷ ds) d decls tokens rest fit s fits =
+    yields_then program_step (InProgram decls (decl_into d)) (InProgram (decls ++ d ∷ []) (decl_into e)) (program_into decls (d ∷ e ∷ ds)) tokens s.0 rest (yields_next decls d e tokens s.0 fit s.1 fits.0)
+    (more_decls ds e (decls ++ d ∷ []) s.0 rest fits.0 s.2 fits.1)
 
-pub program_leads : (ds : List DeclSyntax) (tokens rest : List Token) → DeclsSpell ds tokens rest → DeclsFit ds → Leads (InProgram [] (AtPlace DeclBegin)) tokens (program_into [] ds) rest
+pub program_leads : (ds : List DeclSyntax) (tokens rest : List Token) → DeclsSpell ds tokens rest → DeclsFit ds → Yields program_step (InProgram [] (Expects DeclBegin)) tokens (program_into [] ds) rest
 program_leads [] tokens rest s fits = ([], s, refl)
 program_leads (d ∷ ds) tokens rest s fits =
-    leads_then (InProgram [] (AtPlace DeclBegin)) (InProgram [] (decl_into d)) (program_into [] (d ∷ ds)) tokens s.0 rest (leads_decl [] d tokens s.0 s.1 fits.0)
+    yields_then program_step (InProgram [] (Expects DeclBegin)) (InProgram [] (decl_into d)) (program_into [] (d ∷ ds)) tokens s.0 rest (yields_decl [] d tokens s.0 s.1 fits.0)
     (more_decls ds d [] s.0 rest fits.0 s.2 fits.1)
 
 -- ---- laws
 
-found_one : (front : List DeclSyntax) (d : DeclSyntax) → program_finish (InProgram front (decl_into d)) ≡ program_found front (decl_finish (decl_into d))
-found_one front (base_syntax at x) = refl
-found_one front (short_syntax at x u) = refl
-found_one front (record_decl_syntax at x vs fs) = refl
-found_one front (function_syntax f) = refl
+found_one : (decls : List DeclSyntax) (d : DeclSyntax) → program_finish (InProgram decls (decl_into d)) ≡ program_found decls (decl_finish (decl_into d))
+found_one decls (base_syntax at x) = refl
+found_one decls (short_syntax at x u) = refl
+found_one decls (record_decl_syntax at x vs fs) = refl
+found_one decls (function_syntax f) = refl
 
-finds_all : (ds : List DeclSyntax) (d : DeclSyntax) (front : List DeclSyntax) → DeclsFit (d ∷ ds) → program_finish (program_into front (d ∷ ds)) ≡ Some (front ++ d ∷ ds)
-finds_all [] d front fits = found_one front d ∙ ap (program_found front) (decl_finds d fits.0)
-finds_all (e ∷ ds) d front fits = finds_all ds e (front ++ d ∷ []) fits.1 ∙ ap Some (append_assoc front (d ∷ []) (e ∷ ds))
+finds_all : (ds : List DeclSyntax) (d : DeclSyntax) (decls : List DeclSyntax) → DeclsFit (d ∷ ds) → program_finish (program_into decls (d ∷ ds)) ≡ Some (decls ++ d ∷ ds)
+finds_all [] d decls fits = found_one decls d ∙ ap (program_found decls) (decl_finds d fits.0)
+finds_all (e ∷ ds) d decls fits = finds_all ds e (decls ++ d ∷ []) fits.1 ∙ ap Some (append_assoc decls (d ∷ []) (e ∷ ds))
 
 pub program_finds : (ds : List DeclSyntax) → DeclsFit ds → program_finish (program_into [] ds) ≡ Some ds
 program_finds [] fits = refl

@@ -5,23 +5,23 @@ use Rattle.um_tree.specs.RawTree.{DeclSyntax}
 use Rattle.um_types.specs.Machines.{runs}
 use Rattle.um_types.proofs.Reaching.{runs_append, runs_refused}
 use Rattle.um_parse.specs.DeclGrammar.{IsProgram}
-use Rattle.um_parse.specs.DeclMachine.{DeclBegin, DeclState, AtPlace, HaveBase, InShort, HaveRecord, InField, InParam, InResult, InBody, NoDecl, decl_step, decl_finish, ProgramState, InProgram, NoProgram, program_goes, next_decl, program_step, program_found, program_finish}
+use Rattle.um_parse.specs.DeclMachine.{DeclBegin, DeclState, Expects, HaveBase, InShort, HaveRecord, InField, InParam, InResult, InBody, NoDecl, decl_step, decl_finish, ProgramState, InProgram, NoProgram, program_goes, next_decl, program_step, program_found, program_finish}
 use Rattle.um_parse.specs.ProgramHeights.{decl_height, program_height}
 use Rattle.um_parse.specs.ProgramLeast.{decl_least, program_least}
 use Rattle.um_parse.specs.ProgramStates.{start}
 use Rattle.um_parse.specs.ProgramStops.{BeginsWithin}
-use Rattle.um_parse.proofs.DeclEndings.{decl_completed}
+use Rattle.um_parse.proofs.DeclCompletions.{decl_completed}
 use Rattle.um_parse.proofs.DeclHeights.{decl_completed_height, decl_up, decl_found_height}
 use Rattle.um_parse.proofs.ProgramComplete.{program_into, program_finds, reads_as}
-use Rattle.um_parse.proofs.ProgramSound.{ProgramStands, stands, program_ending, program_completed, can_go_on}
+use Rattle.um_parse.proofs.ProgramSound.{ProgramSpellsPrefix, spells_prefix, program_ending, program_completed, can_go_on}
 
-height_last : (front : List DeclSyntax) (d : DeclSyntax) → program_height (front ++ d ∷ []) ≡ max (program_height front) (decl_height d)
+height_last : (decls : List DeclSyntax) (d : DeclSyntax) → program_height (decls ++ d ∷ []) ≡ max (program_height decls) (decl_height d)
 height_last [] d = omega arith
-height_last (c ∷ front) d = let e = height_last front d in omega (arith, e)
+height_last (c ∷ decls) d = let e = height_last decls d in omega (arith, e)
 
-completed_height : (st : ProgramState) (tokens rest : List Token) → ProgramStands st tokens rest → st ≢ NoProgram → program_height (program_completed st) ≡ program_least st
-completed_height (InProgram front d) tokens rest h ok =
-    let last = height_last front (decl_completed d) in
+completed_height : (st : ProgramState) (tokens rest : List Token) → ProgramSpellsPrefix st tokens rest → st ≢ NoProgram → program_height (program_completed st) ≡ program_least st
+completed_height (InProgram decls d) tokens rest h ok =
+    let last = height_last decls (decl_completed d) in
     let same = decl_completed_height d h.0 rest h.3 h.4 in
     omega (arith, last, same)
 completed_height NoProgram tokens rest h ok = absurd (ok refl)
@@ -30,36 +30,36 @@ completed_height NoProgram tokens rest h ok = absurd (ok refl)
 pub begins_within : (read : List Token) (limit : ℕ) → runs program_step start read ≢ NoProgram → program_least (runs program_step start read) ≤ limit → BeginsWithin limit read
 begins_within read limit ok le =
     let st : ProgramState = runs program_step start read in
-    (program_ending st, program_completed st, can_go_on read ok, omega (arith, le, completed_height st (read ++ program_ending st) (program_ending st) (stands read (program_ending st)) ok))
+    (program_ending st, program_completed st, can_go_on read ok, omega (arith, le, completed_height st (read ++ program_ending st) (program_ending st) (spells_prefix read (program_ending st)) ok))
 
 -- ---- a token never lowers it
 
-goes_up : (front : List DeclSyntax) (low : ℕ) (new : DeclState) (over : ProgramState) → program_goes front new over ≢ NoProgram → (new ≢ NoDecl → low ≤ max (program_height front) (decl_least new))
-    → (over ≢ NoProgram → low ≤ program_least over) → low ≤ program_least (program_goes front new over)
-goes_up front low (AtPlace place) over ok up next = up (λ e. cc)
-goes_up front low (HaveBase at x) over ok up next = up (λ e. cc)
-goes_up front low (InShort at x u) over ok up next = up (λ e. cc)
-goes_up front low (HaveRecord at x vs fs) over ok up next = up (λ e. cc)
-goes_up front low (InField at x vs fs place y s) over ok up next = up (λ e. cc)
-goes_up front low (InParam recursive at x ps b s) over ok up next = up (λ e. cc)
-goes_up front low (InResult recursive at x ps s) over ok up next = up (λ e. cc)
-goes_up front low (InBody recursive at x ps r e) over ok up next = up (λ e. cc)
-goes_up front low NoDecl over ok up next = next ok
+goes_up : (decls : List DeclSyntax) (low : ℕ) (new : DeclState) (over : ProgramState) → program_goes decls new over ≢ NoProgram → (new ≢ NoDecl → low ≤ max (program_height decls) (decl_least new))
+    → (over ≢ NoProgram → low ≤ program_least over) → low ≤ program_least (program_goes decls new over)
+goes_up decls low (Expects expected) over ok up next = up (λ e. cc)
+goes_up decls low (HaveBase at x) over ok up next = up (λ e. cc)
+goes_up decls low (InShort at x u) over ok up next = up (λ e. cc)
+goes_up decls low (HaveRecord at x vs fs) over ok up next = up (λ e. cc)
+goes_up decls low (InField at x vs fs place y s) over ok up next = up (λ e. cc)
+goes_up decls low (InParam recursive at x ps b s) over ok up next = up (λ e. cc)
+goes_up decls low (InResult recursive at x ps s) over ok up next = up (λ e. cc)
+goes_up decls low (InBody recursive at x ps r e) over ok up next = up (λ e. cc)
+goes_up decls low NoDecl over ok up next = next ok
 
-next_up : (front : List DeclSyntax) (d : DeclState) (found : Option DeclSyntax) (begun : DeclState) → decl_finish d ≡ found → next_decl front found begun ≢ NoProgram
-    → program_least (InProgram front d) ≤ program_least (next_decl front found begun)
-next_up front d None begun e ok = absurd (ok refl)
-next_up front d (Some c) begun e ok =
-    let last = height_last front c in
+next_up : (decls : List DeclSyntax) (d : DeclState) (found : Option DeclSyntax) (begun : DeclState) → decl_finish d ≡ found → next_decl decls found begun ≢ NoProgram
+    → program_least (InProgram decls d) ≤ program_least (next_decl decls found begun)
+next_up decls d None begun e ok = absurd (ok refl)
+next_up decls d (Some c) begun e ok =
+    let last = height_last decls c in
     let same = decl_found_height d c e in
-    goes_up (front ++ c ∷ []) (program_least (InProgram front d)) begun NoProgram ok (λ goes. omega (arith, last, same)) (λ h. absurd (h refl))
+    goes_up (decls ++ c ∷ []) (program_least (InProgram decls d)) begun NoProgram ok (λ goes. omega (arith, last, same)) (λ h. absurd (h refl))
 
 step_up : (st : ProgramState) (x : Token) → program_step st x ≢ NoProgram → program_least st ≤ program_least (program_step st x)
-step_up (InProgram front d) x ok =
-    let begun : DeclState = decl_step (AtPlace DeclBegin) x in
-    goes_up front (program_least (InProgram front d)) (decl_step d x) (next_decl front (decl_finish d) begun) ok (λ goes. further goes) (λ h. next_up front d (decl_finish d) begun refl h)
+step_up (InProgram decls d) x ok =
+    let begun : DeclState = decl_step (Expects DeclBegin) x in
+    goes_up decls (program_least (InProgram decls d)) (decl_step d x) (next_decl decls (decl_finish d) begun) ok (λ goes. further goes) (λ h. next_up decls d (decl_finish d) begun refl h)
   where
-    further : decl_step d x ≢ NoDecl → max (program_height front) (decl_least d) ≤ max (program_height front) (decl_least (decl_step d x))
+    further : decl_step d x ≢ NoDecl → max (program_height decls) (decl_least d) ≤ max (program_height decls) (decl_least (decl_step d x))
     further goes = let up = decl_up d x goes in omega (arith, up)
 step_up NoProgram x ok = absurd (ok refl)
 
@@ -72,25 +72,25 @@ run_up (x ∷ tokens) st ok =
 
 -- ---- what is found has it
 
-found_last : (front : List DeclSyntax) (d : DeclState) (o : Option DeclSyntax) (ds : List DeclSyntax) → decl_finish d ≡ o → program_found front o ≡ Some ds → program_height ds ≡ max (program_height front) (decl_least d)
-found_last front d (Some c) ds e f =
-    let same : front ++ c ∷ [] ≡ ds = cc in
-    let last = height_last front c in
+found_last : (decls : List DeclSyntax) (d : DeclState) (o : Option DeclSyntax) (ds : List DeclSyntax) → decl_finish d ≡ o → program_found decls o ≡ Some ds → program_height ds ≡ max (program_height decls) (decl_least d)
+found_last decls d (Some c) ds e f =
+    let same : decls ++ c ∷ [] ≡ ds = cc in
+    let last = height_last decls c in
     let low = decl_found_height d c e in
     ap program_height (sym same) ∙ omega (arith, last, low)
-found_last front d None ds e f = absurd cc
+found_last decls d None ds e f = absurd cc
 
 pub found_height : (st : ProgramState) (ds : List DeclSyntax) → program_finish st ≡ Some ds → program_height ds ≡ program_least st
-found_height (InProgram front (AtPlace DeclBegin)) ds e = let same : front ≡ ds = cc in ap program_height (sym same) ∙ omega arith
-found_height (InProgram front (HaveBase at x)) ds e = found_last front (HaveBase at x) (decl_finish (HaveBase at x)) ds refl e
-found_height (InProgram front (InShort at x u)) ds e = found_last front (InShort at x u) (decl_finish (InShort at x u)) ds refl e
-found_height (InProgram front (HaveRecord at x vs fs)) ds e = found_last front (HaveRecord at x vs fs) (decl_finish (HaveRecord at x vs fs)) ds refl e
-found_height (InProgram front (InBody recursive at x ps r b)) ds e = found_last front (InBody recursive at x ps r b) (decl_finish (InBody recursive at x ps r b)) ds refl e
-found_height (InProgram front (InField at x vs fs place y s)) ds e = absurd cc
-found_height (InProgram front (InParam recursive at x ps b s)) ds e = absurd cc
-found_height (InProgram front (InResult recursive at x ps s)) ds e = absurd cc
-found_height (InProgram front NoDecl) ds e = absurd cc
-found_height (InProgram front (AtPlace _)) ds e = absurd cc
+found_height (InProgram decls (Expects DeclBegin)) ds e = let same : decls ≡ ds = cc in ap program_height (sym same) ∙ omega arith
+found_height (InProgram decls (HaveBase at x)) ds e = found_last decls (HaveBase at x) (decl_finish (HaveBase at x)) ds refl e
+found_height (InProgram decls (InShort at x u)) ds e = found_last decls (InShort at x u) (decl_finish (InShort at x u)) ds refl e
+found_height (InProgram decls (HaveRecord at x vs fs)) ds e = found_last decls (HaveRecord at x vs fs) (decl_finish (HaveRecord at x vs fs)) ds refl e
+found_height (InProgram decls (InBody recursive at x ps r b)) ds e = found_last decls (InBody recursive at x ps r b) (decl_finish (InBody recursive at x ps r b)) ds refl e
+found_height (InProgram decls (InField at x vs fs place y s)) ds e = absurd cc
+found_height (InProgram decls (InParam recursive at x ps b s)) ds e = absurd cc
+found_height (InProgram decls (InResult recursive at x ps s)) ds e = absurd cc
+found_height (InProgram decls NoDecl) ds e = absurd cc
+found_height (InProgram decls (Expects _)) ds e = absurd cc
 found_height NoProgram ds e = absurd cc
 
 abbrev nothing : Option (List DeclSyntax)

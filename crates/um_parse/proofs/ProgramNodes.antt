@@ -9,14 +9,16 @@ use Rattle.um_tree.specs.Heights.{expr_nodes, all_expr_nodes, all_field_nodes}
 use Rattle.um_types.specs.TypeGrammar.{NoteSpells, NoteFits, TypeSpells, TypeFits}
 use Rattle.um_types.proofs.NoteComplete.{note_reaches}
 use Rattle.um_types.proofs.TypeComplete.{type_reaches}
-use Rattle.um_expr.specs.declared.mark.Mark.TheVariants as mark
-use Rattle.um_expr.specs.declared.mark.Infix.{Infix}
-use Rattle.um_expr.specs.declared.mark.Infix.TheVariants as between
-use Rattle.um_expr.specs.ExprTokens.{ExprToken, plain}
+use Rattle.um_syntax.specs.declared.vocabulary.Keyword.TheVariants as keyword
+use Rattle.um_syntax.specs.declared.vocabulary.Symbol.TheVariants as symbol
+use Rattle.um_expr.specs.declared.infix.Infix.{Infix}
+use Rattle.um_expr.specs.declared.infix.Infix.TheVariants as between
+use Rattle.um_expr.specs.declared.token.ExprToken.{ExprToken}
+use Rattle.um_expr.specs.declared.token.ExprToken.TheVariants.{Word as word, Mark as mark}
 use Rattle.um_expr.specs.ExprGrammar.{First, FirstAt, FirstGlued, ends_in_number, InfixAt, WrittenNote, EmptyArm, FullArm, Spells, AllSpell, ItemsSpell, MoreItems, FieldsSpell, MoreFields, NoteFitsIn, Fits, AreAtoms, AllFit, FieldsFit}
 use Rattle.um_parse.specs.DeclGrammar.{ParamsSpell, ResultSpells, RecSpells, DeclSpells, DeclsSpell, ParamsFit, ResultFits, DeclFits, DeclsFit, IsProgram}
 use Rattle.um_parse.specs.ProgramNodes.{decl_nodes, program_nodes}
-use Rattle.um_parse.proofs.DeclComplete.{decl_leads}
+use Rattle.um_parse.proofs.DeclComplete.{decl_yields}
 
 one_less : (token : Token) (tokens rest : List Token) → tokens ≡ token ∷ rest → length tokens ≡ length rest + 1
 one_less token tokens rest e = let same : length tokens ≡ length (token ∷ rest) = ap length e in omega (arith, same)
@@ -73,7 +75,7 @@ empty_arm_less tokens rest s =
     let e = first_less _ s.3 rest s.8 in
     omega (arith, a, bar s.5, c, d, e)
   where
-    bar : (s.0 ≡ s.1) ⊎ First (plain mark.Bar) s.0 s.1 → length s.1 ≤ length s.0
+    bar : (s.0 ≡ s.1) ⊎ First (mark symbol.Bar) s.0 s.1 → length s.1 ≤ length s.0
     bar (inl e) = let same : length s.0 ≡ length s.1 = ap length e in omega (arith, same)
     bar (inr f) = let less = first_less _ s.0 s.1 f in omega (arith, less)
 
@@ -241,7 +243,7 @@ rec_less false tokens rest s = let e : length tokens ≡ length rest = ap length
 rec_less true tokens rest s = let e = first_less _ tokens rest s in omega (arith, e)
 
 other_less : (d : DeclSyntax) (tokens rest : List Token) → DeclSpells d tokens rest → DeclFits d → length rest ≤ length tokens
-other_less d tokens rest s fits = let p = decl_leads d tokens rest s fits in no_longer p.0 tokens rest p.1
+other_less d tokens rest s fits = let p = decl_yields d tokens rest s fits in no_longer p.0 tokens rest p.1
 
 decl_fits : (d : DeclSyntax) (tokens rest : List Token) → DeclSpells d tokens rest → DeclFits d → decl_nodes d + length rest ≤ length tokens
 decl_fits (base_syntax at x) tokens rest s fits = let e = other_less (base_syntax at x) tokens rest s fits in omega (arith, e)

@@ -6,52 +6,53 @@ use Rattle.um_tree.specs.declared.raw.RawDecl.{RawDecl}
 use Rattle.um_tree.specs.RawTree.{DeclSyntax, decl_syntax}
 use Rattle.um_types.specs.Machines.{runs}
 use Rattle.um_types.proofs.Reaching.{runs_append}
-use Rattle.um_parse.specs.DeclMachine.{DeclBegin, AttributeWord, AttributeGreater, AttributeClose, MeasureType, MeasureName, RecordName, RecordVars, VarBegin, VarWord, VarGreater, VarClose, VarName, VarEnd, RecordEqual, RecordBrace, FieldName, FieldColon, LetName, RecName, Params, ParamBinder, ParamColon, DeclState, AtPlace, HaveBase, InShort, HaveRecord, InField, InParam, InResult, InBody, NoDecl, decl_finish, ProgramState, InProgram, NoProgram, program_goes, program_step, program_found, program_finish}
+use Rattle.um_types.specs.UnitStops.{greatest_height}
+use Rattle.um_parse.specs.DeclMachine.{DeclBegin, AttributeWord, AttributeGreater, AttributeClose, MeasureType, MeasureName, RecordName, RecordVars, VarBegin, VarWord, VarGreater, VarClose, VarName, VarEnd, RecordEqual, RecordBrace, FieldName, FieldColon, LetName, RecName, Params, ParamBinder, ParamColon, DeclState, Expects, HaveBase, InShort, HaveRecord, InField, InParam, InResult, InBody, NoDecl, decl_finish, ProgramState, InProgram, NoProgram, program_goes, program_step, program_found, program_finish}
 use Rattle.um_parse.specs.ProgramHeights.{decl_height, program_height}
 use Rattle.um_parse.specs.ProgramLeast.{decl_least, program_least}
 use Rattle.um_parse.specs.ProgramStates.{start, state_at, IsReadTo}
 use Rattle.um_parse.specs.DeclTakes.{reader_state}
 use Rattle.um_parse.specs.ProgramReads.{program_state, ProgramTakes, at_start}
-use Rattle.um_parse.specs.declared.decl_take.DeclReader.{DeclReader}
+use Rattle.um_parse.specs.declared.decl_reader.DeclReader.{DeclReader}
 use Rattle.um_parse.specs.declared.program_loop.ProgramStep.TheVariants as step
 use Rattle.um_parse.proofs.DeclTaken.{reader_low, reader_goes}
 
-program_on : (front : List DeclSyntax) (d : DeclState) (ended : ProgramState) → d ≢ NoDecl → program_goes front d ended ≡ InProgram front d
-program_on front (AtPlace place) ended ok = refl
-program_on front (HaveBase at x) ended ok = refl
-program_on front (InShort at x u) ended ok = refl
-program_on front (HaveRecord at x vs fs) ended ok = refl
-program_on front (InField at x vs fs place y s) ended ok = refl
-program_on front (InParam recursive at x ps b s) ended ok = refl
-program_on front (InResult recursive at x ps s) ended ok = refl
-program_on front (InBody recursive at x ps r e) ended ok = refl
-program_on front NoDecl ended ok = absurd (ok refl)
+program_on : (decls : List DeclSyntax) (d : DeclState) (ended : ProgramState) → d ≢ NoDecl → program_goes decls d ended ≡ InProgram decls d
+program_on decls (Expects expected) ended ok = refl
+program_on decls (HaveBase at x) ended ok = refl
+program_on decls (InShort at x u) ended ok = refl
+program_on decls (HaveRecord at x vs fs) ended ok = refl
+program_on decls (InField at x vs fs place y s) ended ok = refl
+program_on decls (InParam recursive at x ps b s) ended ok = refl
+program_on decls (InResult recursive at x ps s) ended ok = refl
+program_on decls (InBody recursive at x ps r e) ended ok = refl
+program_on decls NoDecl ended ok = absurd (ok refl)
 
 -- the declaration goes on
-pub goes_in : (front : List RawDecl) (d : DeclState) (ended : ProgramState) (r : DeclReader) → d ≡ reader_state r → program_height (map decl_syntax front) ≤ 400
-    → ProgramTakes (program_goes (map decl_syntax front) d ended) front (step.Goes r)
-goes_in front d ended r e low =
-    let same : program_goes (map decl_syntax front) d ended ≡ program_state front r =
-    ap (λ s. program_goes (map decl_syntax front) s ended) e ∙ program_on (map decl_syntax front) (reader_state r) ended (reader_goes r)
+pub goes_in : (decls : List RawDecl) (d : DeclState) (ended : ProgramState) (r : DeclReader) → d ≡ reader_state r → program_height (map decl_syntax decls) ≤ greatest_height
+    → ProgramTakes (program_goes (map decl_syntax decls) d ended) decls (step.Goes r)
+goes_in decls d ended r e low =
+    let same : program_goes (map decl_syntax decls) d ended ≡ program_state decls r =
+    ap (λ s. program_goes (map decl_syntax decls) s ended) e ∙ program_on (map decl_syntax decls) (reader_state r) ended (reader_goes r)
     in
     let least = ap program_least same in
     (same, omega (arith, least, low, reader_low r))
 
 -- it is too high
-pub high_in : (front : List RawDecl) (d : DeclState) (ended : ProgramState) → d ≢ NoDecl → 400 < decl_least d → ProgramTakes (program_goes (map decl_syntax front) d ended) front step.High
-high_in front d ended ok high =
-    let same : program_goes (map decl_syntax front) d ended ≡ InProgram (map decl_syntax front) d = program_on (map decl_syntax front) d ended ok in
+pub high_in : (decls : List RawDecl) (d : DeclState) (ended : ProgramState) → d ≢ NoDecl → greatest_height < decl_least d → ProgramTakes (program_goes (map decl_syntax decls) d ended) decls step.High
+high_in decls d ended ok high =
+    let same : program_goes (map decl_syntax decls) d ended ≡ InProgram (map decl_syntax decls) d = program_on (map decl_syntax decls) d ended ok in
     let least = ap program_least same in
-    ((λ h. let bad : InProgram (map decl_syntax front) d ≡ NoProgram = sym same ∙ h in cc), omega (arith, least, high))
+    ((λ h. let bad : InProgram (map decl_syntax decls) d ≡ NoProgram = sym same ∙ h in cc), omega (arith, least, high))
 
 -- the heights with a declaration more
-pub decls_last : (front : List RawDecl) (d : RawDecl) → program_height (map decl_syntax (front ++ d ∷ [])) ≡ max (program_height (map decl_syntax front)) (decl_height (decl_syntax d))
+pub decls_last : (decls : List RawDecl) (d : RawDecl) → program_height (map decl_syntax (decls ++ d ∷ [])) ≡ max (program_height (map decl_syntax decls)) (decl_height (decl_syntax d))
 decls_last [] d = omega arith
-decls_last (c ∷ front) d = let e = decls_last front d in omega (arith, e)
+decls_last (c ∷ decls) d = let e = decls_last decls d in omega (arith, e)
 
-pub decl_texts_last : (front : List RawDecl) (d : RawDecl) → map decl_syntax (front ++ d ∷ []) ≡ map decl_syntax front ++ decl_syntax d ∷ []
+pub decl_texts_last : (decls : List RawDecl) (d : RawDecl) → map decl_syntax (decls ++ d ∷ []) ≡ map decl_syntax decls ++ decl_syntax d ∷ []
 decl_texts_last [] d = refl
-decl_texts_last (c ∷ front) d = ap (λ ds. decl_syntax c ∷ ds) (decl_texts_last front d)
+decl_texts_last (c ∷ decls) d = ap (λ ds. decl_syntax c ∷ ds) (decl_texts_last decls d)
 
 -- ---- the loop
 
@@ -60,53 +61,53 @@ one_more tokens i token st lt same e =
     ap (λ s. program_step s token) e
     ∙ sym (ap (λ ts. runs program_step start ts) (take_more tokens i token lt ∙ ap (λ t. take i tokens ++ t ∷ []) same) ∙ runs_append program_step (take i tokens) (token ∷ []) start)
 
-pub program_on_reader : (front : List RawDecl) (reader : DeclReader) → program_state front reader ≢ NoProgram
-program_on_reader front reader e = cc
+pub program_on_reader : (decls : List RawDecl) (reader : DeclReader) → program_state decls reader ≢ NoProgram
+program_on_reader decls reader e = cc
 
-pub is_read_to : (tokens : List Token) (i : ℕ) (front : List RawDecl) (reader : DeclReader) → i ≤ length tokens → program_state front reader ≡ state_at tokens i → program_least (state_at tokens i) ≤ 400 → IsReadTo tokens i
-is_read_to tokens i front reader le e low = (le, (λ h. program_on_reader front reader (e ∙ h)), low)
+pub is_read_to : (tokens : List Token) (i : ℕ) (decls : List RawDecl) (reader : DeclReader) → i ≤ length tokens → program_state decls reader ≡ state_at tokens i → program_least (state_at tokens i) ≤ greatest_height → IsReadTo tokens i
+is_read_to tokens i decls reader le e low = (le, (λ h. program_on_reader decls reader (e ∙ h)), low)
 
 -- ---- the end
 
-found_with : (front : List DeclSyntax) (d : DeclState) → at_start d ≡ false → program_finish (InProgram front d) ≡ program_found front (decl_finish d)
-found_with front (AtPlace DeclBegin) later = absurd cc
-found_with front (AtPlace AttributeWord) later = refl
-found_with front (AtPlace AttributeGreater) later = refl
-found_with front (AtPlace AttributeClose) later = refl
-found_with front (AtPlace MeasureType) later = refl
-found_with front (AtPlace MeasureName) later = refl
-found_with front (AtPlace RecordName) later = refl
-found_with front (AtPlace (RecordVars at x)) later = refl
-found_with front (AtPlace (VarBegin at x vs)) later = refl
-found_with front (AtPlace (VarWord at x vs)) later = refl
-found_with front (AtPlace (VarGreater at x vs)) later = refl
-found_with front (AtPlace (VarClose at x vs)) later = refl
-found_with front (AtPlace (VarName at x vs)) later = refl
-found_with front (AtPlace (VarEnd at x vs)) later = refl
-found_with front (AtPlace (RecordEqual at x vs)) later = refl
-found_with front (AtPlace (RecordBrace at x vs)) later = refl
-found_with front (AtPlace (FieldName at x vs fs)) later = refl
-found_with front (AtPlace (FieldColon at x vs fs p y)) later = refl
-found_with front (AtPlace LetName) later = refl
-found_with front (AtPlace RecName) later = refl
-found_with front (AtPlace (Params recursive at x ps)) later = refl
-found_with front (AtPlace (ParamBinder recursive at x ps)) later = refl
-found_with front (AtPlace (ParamColon recursive at x ps b)) later = refl
-found_with front (HaveBase at x) later = refl
-found_with front (InShort at x u) later = refl
-found_with front (HaveRecord at x vs fs) later = refl
-found_with front (InField at x vs fs p y s) later = refl
-found_with front (InParam recursive at x ps b s) later = refl
-found_with front (InResult recursive at x ps s) later = refl
-found_with front (InBody recursive at x ps r e) later = refl
-found_with front NoDecl later = refl
+found_with : (decls : List DeclSyntax) (d : DeclState) → at_start d ≡ false → program_finish (InProgram decls d) ≡ program_found decls (decl_finish d)
+found_with decls (Expects DeclBegin) later = absurd cc
+found_with decls (Expects AttributeWord) later = refl
+found_with decls (Expects AttributeGreater) later = refl
+found_with decls (Expects AttributeClose) later = refl
+found_with decls (Expects MeasureType) later = refl
+found_with decls (Expects MeasureName) later = refl
+found_with decls (Expects RecordName) later = refl
+found_with decls (Expects (RecordVars at x)) later = refl
+found_with decls (Expects (VarBegin at x vs)) later = refl
+found_with decls (Expects (VarWord at x vs)) later = refl
+found_with decls (Expects (VarGreater at x vs)) later = refl
+found_with decls (Expects (VarClose at x vs)) later = refl
+found_with decls (Expects (VarName at x vs)) later = refl
+found_with decls (Expects (VarEnd at x vs)) later = refl
+found_with decls (Expects (RecordEqual at x vs)) later = refl
+found_with decls (Expects (RecordBrace at x vs)) later = refl
+found_with decls (Expects (FieldName at x vs fs)) later = refl
+found_with decls (Expects (FieldColon at x vs fs p y)) later = refl
+found_with decls (Expects LetName) later = refl
+found_with decls (Expects RecName) later = refl
+found_with decls (Expects (Params recursive at x ps)) later = refl
+found_with decls (Expects (ParamBinder recursive at x ps)) later = refl
+found_with decls (Expects (ParamColon recursive at x ps b)) later = refl
+found_with decls (HaveBase at x) later = refl
+found_with decls (InShort at x u) later = refl
+found_with decls (HaveRecord at x vs fs) later = refl
+found_with decls (InField at x vs fs p y s) later = refl
+found_with decls (InParam recursive at x ps b s) later = refl
+found_with decls (InResult recursive at x ps s) later = refl
+found_with decls (InBody recursive at x ps r e) later = refl
+found_with decls NoDecl later = refl
 
-pub reader_found : (front : List RawDecl) (reader : DeclReader) → at_start (reader_state reader) ≡ false → program_finish (program_state front reader) ≡ program_found (map decl_syntax front) (decl_finish (reader_state reader))
-reader_found front reader later = found_with (map decl_syntax front) (reader_state reader) later
+pub reader_found : (decls : List RawDecl) (reader : DeclReader) → at_start (reader_state reader) ≡ false → program_finish (program_state decls reader) ≡ program_found (map decl_syntax decls) (decl_finish (reader_state reader))
+reader_found decls reader later = found_with (map decl_syntax decls) (reader_state reader) later
 
-start_finish : (front : List DeclSyntax) (d : DeclState) → at_start d ≡ true → program_finish (InProgram front d) ≡ Some front
-start_finish front (AtPlace DeclBegin) here = refl
-start_finish front _ here = absurd cc
+start_finish : (decls : List DeclSyntax) (d : DeclState) → at_start d ≡ true → program_finish (InProgram decls d) ≡ Some decls
+start_finish decls (Expects DeclBegin) here = refl
+start_finish decls _ here = absurd cc
 
-pub start_found : (front : List RawDecl) (reader : DeclReader) → at_start (reader_state reader) ≡ true → program_finish (program_state front reader) ≡ Some (map decl_syntax front)
-start_found front reader here = start_finish (map decl_syntax front) (reader_state reader) here
+pub start_found : (decls : List RawDecl) (reader : DeclReader) → at_start (reader_state reader) ≡ true → program_finish (program_state decls reader) ≡ Some (map decl_syntax decls)
+start_found decls reader here = start_finish (map decl_syntax decls) (reader_state reader) here

@@ -7,39 +7,52 @@
 --   parameter = attribute Var
 --   field     = Name ":" type
 -- A function with "rec" has a result type.
--- Source: the F# specification, Type Definitions, Function Definitions and Units Of Measure, for the forms that this language has.
+-- Source: the F# specification, Type Definitions, Function Definitions and Units Of Measure, for the forms that this
+-- language has.
 use Rattle.std.specs.Prelude.{◌≡◌, Bool, true, false, List, [], ◌∷◌, Option, Some, None}
 use Rattle.um_syntax.specs.declared.token.Token.{Token}
-use Rattle.um_tree.specs.RawTree.{TypeSyntax, VarSyntax, FieldDeclSyntax, ParamSyntax, FunctionSyntax, DeclSyntax, base_syntax, short_syntax, record_decl_syntax, function_syntax}
+use Rattle.um_tree.specs.RawTree.{TypeSyntax, VarSyntax, FieldDeclSyntax, ParamSyntax, FunctionSyntax, DeclSyntax}
+use Rattle.um_tree.specs.RawTree.{base_syntax, short_syntax, record_decl_syntax, function_syntax}
 use Rattle.um_types.specs.UnitGrammar.{Spells as UnitSpells, Fits as UnitFits}
 use Rattle.um_types.specs.TypeGrammar.{TypeSpells, TypeFits}
-use Rattle.um_expr.specs.declared.mark.Mark.TheVariants as mark
-use Rattle.um_expr.specs.ExprTokens.{name, variable, plain, equal, less, greater}
+use Rattle.um_syntax.specs.declared.vocabulary.Keyword.TheVariants as keyword
+use Rattle.um_syntax.specs.declared.vocabulary.Symbol.TheVariants as symbol
+use Rattle.um_expr.specs.declared.token.ExprToken.TheVariants.{Name as name, Variable as variable, Word as word}
+use Rattle.um_expr.specs.declared.token.ExprToken.TheVariants.{Mark as mark}
+use Rattle.um_expr.specs.ExprTokens.{equal, less, greater}
 use Rattle.um_expr.specs.ExprGrammar.{First, FirstAt, BinderSpells, Spells, Fits}
 
 -- `[<Measure>]`
 abbrev pub Attribute : List Token → List Token → Type 0
 Attribute tokens rest =
-    (word sign last : List Token) × First (plain mark.AttributeOpen) tokens word × First (plain mark.Measure) word sign × First greater sign last × First (plain mark.ListClose) last rest
+    (behind sign last : List Token) × First (mark symbol.AttributeOpen) tokens behind
+    × First (word keyword.Measure) behind sign × First greater sign last × First (mark symbol.RightBracket) last rest
 
 abbrev pub VarSpells : VarSyntax → List Token → List Token → Type 0
 VarSpells v tokens rest = (next : List Token) × Attribute tokens next × FirstAt (variable v.name) v.at next rest
 
 abbrev pub MoreVars : List VarSyntax → List Token → List Token → Type 0
 MoreVars [] tokens rest = tokens ≡ rest
-MoreVars (v ∷ vs) tokens rest = (next mid : List Token) × First (plain mark.Comma) tokens next × VarSpells v next mid × MoreVars vs mid rest
+MoreVars (v ∷ vs) tokens rest =
+    (next mid : List Token) × First (mark symbol.Comma) tokens next × VarSpells v next mid × MoreVars vs mid rest
 
 -- the unit parameters of a record in angle brackets, or nothing where there are none
 abbrev pub VarsSpell : List VarSyntax → List Token → List Token → Type 0
 VarsSpell [] tokens rest = tokens ≡ rest
-VarsSpell (v ∷ vs) tokens rest = (next mid last : List Token) × First less tokens next × VarSpells v next mid × MoreVars vs mid last × First greater last rest
+VarsSpell (v ∷ vs) tokens rest =
+    (next mid last : List Token) × First less tokens next × VarSpells v next mid × MoreVars vs mid last
+    × First greater last rest
 
 abbrev pub FieldDeclSpells : FieldDeclSyntax → List Token → List Token → Type 0
-FieldDeclSpells f tokens rest = (colon written : List Token) × FirstAt (name f.name) f.at tokens colon × First (plain mark.Colon) colon written × TypeSpells f.type written rest
+FieldDeclSpells f tokens rest =
+    (colon written : List Token) × FirstAt (name f.name) f.at tokens colon × First (mark symbol.Colon) colon written
+    × TypeSpells f.type written rest
 
 abbrev pub MoreFieldDecls : List FieldDeclSyntax → List Token → List Token → Type 0
 MoreFieldDecls [] tokens rest = tokens ≡ rest
-MoreFieldDecls (f ∷ fs) tokens rest = (next mid : List Token) × First (plain mark.Semi) tokens next × FieldDeclSpells f next mid × MoreFieldDecls fs mid rest
+MoreFieldDecls (f ∷ fs) tokens rest =
+    (next mid : List Token) × First (mark symbol.Semicolon) tokens next × FieldDeclSpells f next mid
+    × MoreFieldDecls fs mid rest
 
 -- at least one field, separated by `;`
 abbrev pub FieldDeclsSpell : List FieldDeclSyntax → List Token → List Token → Type 0
@@ -48,8 +61,9 @@ FieldDeclsSpell (f ∷ fs) tokens rest = (mid : List Token) × FieldDeclSpells f
 
 abbrev pub ParamSpells : ParamSyntax → List Token → List Token → Type 0
 ParamSpells p tokens rest =
-    (bound colon written last : List Token) × First (plain mark.Open) tokens bound × BinderSpells p.binder bound colon × First (plain mark.Colon) colon written
-    × TypeSpells p.type written last × First (plain mark.Close) last rest
+    (bound colon written last : List Token) × First (mark symbol.LeftParen) tokens bound
+    × BinderSpells p.binder bound colon × First (mark symbol.Colon) colon written
+    × TypeSpells p.type written last × First (mark symbol.RightParen) last rest
 
 abbrev pub ParamsSpell : List ParamSyntax → List Token → List Token → Type 0
 ParamsSpell [] tokens rest = tokens ≡ rest
@@ -57,26 +71,34 @@ ParamsSpell (p ∷ ps) tokens rest = (mid : List Token) × ParamSpells p tokens 
 
 abbrev pub ResultSpells : Option TypeSyntax → List Token → List Token → Type 0
 ResultSpells None tokens rest = tokens ≡ rest
-ResultSpells (Some t) tokens rest = (written : List Token) × First (plain mark.Colon) tokens written × TypeSpells t written rest
+ResultSpells (Some t) tokens rest =
+    (written : List Token) × First (mark symbol.Colon) tokens written × TypeSpells t written rest
 
 -- `rec`, or nothing
 abbrev pub RecSpells : Bool → List Token → List Token → Type 0
 RecSpells false tokens rest = tokens ≡ rest
-RecSpells true tokens rest = First (plain mark.Rec) tokens rest
+RecSpells true tokens rest = First (word keyword.Rec) tokens rest
 
 abbrev pub FunctionSpells : FunctionSyntax → List Token → List Token → Type 0
 FunctionSpells f tokens rest =
-    (word named params result sign body : List Token) × First (plain mark.Let) tokens word × RecSpells f.recursive word named × FirstAt (name f.name) f.at named params
-    × ParamsSpell f.params params result × ResultSpells f.result result sign × First equal sign body × Spells f.body body rest
+    (behind named params result sign body : List Token) × First (word keyword.Let) tokens behind
+    × RecSpells f.recursive behind named × FirstAt (name f.name) f.at named params
+    × ParamsSpell f.params params result × ResultSpells f.result result sign × First equal sign body
+    × Spells f.body body rest
 
 -- the tokens are those of the declaration, and then the rest
 abbrev pub DeclSpells : DeclSyntax → List Token → List Token → Type 0
-DeclSpells (base_syntax at x) tokens rest = (word named : List Token) × Attribute tokens word × First (plain mark.Type) word named × FirstAt (name x) at named rest
+DeclSpells (base_syntax at x) tokens rest =
+    (behind named : List Token) × Attribute tokens behind × First (word keyword.Type) behind named
+    × FirstAt (name x) at named rest
 DeclSpells (short_syntax at x u) tokens rest =
-    (word named sign unit : List Token) × Attribute tokens word × First (plain mark.Type) word named × FirstAt (name x) at named sign × First equal sign unit × UnitSpells u unit rest
+    (behind named sign unit : List Token) × Attribute tokens behind × First (word keyword.Type) behind named
+    × FirstAt (name x) at named sign × First equal sign unit × UnitSpells u unit rest
 DeclSpells (record_decl_syntax at x vs fs) tokens rest =
-    (named vars sign brace fields last : List Token) × First (plain mark.Type) tokens named × FirstAt (name x) at named vars × VarsSpell vs vars sign × First equal sign brace
-    × First (plain mark.RecordOpen) brace fields × FieldDeclsSpell fs fields last × First (plain mark.RecordClose) last rest
+    (named vars sign brace fields last : List Token) × First (word keyword.Type) tokens named
+    × FirstAt (name x) at named vars × VarsSpell vs vars sign × First equal sign brace
+    × First (mark symbol.LeftBrace) brace fields × FieldDeclsSpell fs fields last
+    × First (mark symbol.RightBrace) last rest
 DeclSpells (function_syntax f) tokens rest = FunctionSpells f tokens rest
 
 abbrev pub DeclsSpell : List DeclSyntax → List Token → List Token → Type 0

@@ -5,27 +5,31 @@ use Rattle.um_tree.specs.RawTree.{DeclSyntax, decl_syntax, binder_syntax, writte
 use Rattle.um_types.specs.UnitStops.{greatest_height}
 use Rattle.um_types.specs.UnitTakes.{unit_state}
 use Rattle.um_types.specs.TypeTakes.{type_state}
-use Rattle.um_parse.specs.DeclMachine.{DeclState, AtPlace, HaveBase, InShort, HaveRecord, InField, InParam, InResult, InBody, NoDecl}
+use Rattle.um_parse.specs.DeclMachine.{DeclState, Expects, HaveBase, InShort, HaveRecord, InField, InParam, InResult}
+use Rattle.um_parse.specs.DeclMachine.{InBody, NoDecl}
 use Rattle.um_parse.specs.ProgramLeast.{decl_least}
 use Rattle.um_expr.specs.ExprTakes.{expr_state}
-use Rattle.um_parse.specs.DeclViews.{head_vars, read_fields, read_params, view_decl_place}
-use Rattle.um_parse.specs.declared.decl_take.DeclReader.{DeclReader}
-use Rattle.um_parse.specs.declared.decl_take.DeclReader.TheVariants as reader
-use Rattle.um_parse.specs.declared.decl_take.DeclStep.{DeclStep}
-use Rattle.um_parse.specs.declared.decl_take.DeclStep.TheVariants as step
+use Rattle.um_parse.specs.DeclViews.{head_vars, read_fields, read_params, view_expected}
+use Rattle.um_parse.specs.declared.decl_reader.DeclReader.{DeclReader}
+use Rattle.um_parse.specs.declared.decl_reader.DeclReader.TheVariants as reader
+use Rattle.um_parse.specs.declared.decl_reader.DeclStep.{DeclStep}
+use Rattle.um_parse.specs.declared.decl_reader.DeclStep.TheVariants as step
 
 -- the state of a reader
 abbrev pub reader_state : DeclReader → DeclState
-reader_state (reader.At p) = AtPlace (view_decl_place p)
+reader_state (reader.At p) = Expects (view_expected p)
 reader_state (reader.Base at x) = HaveBase at x
 reader_state (reader.Short s) = InShort s.at s.name (unit_state s.unit)
 reader_state (reader.Record f) = HaveRecord f.head.at f.head.name (head_vars f.head) (read_fields f)
-reader_state (reader.Field f p y t) = InField f.head.at f.head.name (head_vars f.head) (read_fields f) p y (type_state t)
+reader_state (reader.Field f p y t) =
+    InField f.head.at f.head.name (head_vars f.head) (read_fields f) p y (type_state t)
 reader_state (reader.Param f b t) = InParam f.recursive f.at f.name (read_params f) (binder_syntax b) (type_state t)
 reader_state (reader.Result f t) = InResult f.recursive f.at f.name (read_params f) (type_state t)
-reader_state (reader.Body h e) = InBody h.front.recursive h.front.at h.front.name (read_params h.front) (written_type h.result) (expr_state e)
+reader_state (reader.Body h e) =
+    InBody h.prefix.recursive h.prefix.at h.prefix.name (read_params h.prefix) (written_type h.result) (expr_state e)
 
--- The next state; or that it is too high; or, where the token is refused, the declaration before it, if one stands there.
+-- The next state; or that it is too high; or, where the token is refused, the declaration before it, if one stands
+-- there.
 abbrev pub DeclTakes : Option DeclSyntax → DeclState → DeclStep → Type 0
 DeclTakes found new (step.Goes r) = new ≡ reader_state r
 DeclTakes found new step.High = (new ≢ NoDecl) × (greatest_height < decl_least new)

@@ -1,13 +1,16 @@
+-- what a reader must trust: the grammar, heights and limits, where reading stops, what `parse` answers
 pub mod DeclGrammar
-pub mod DeclMachine
-pub mod DeclViews
 pub mod ProgramHeights
-pub mod ProgramLeast
-pub mod ProgramStates
 pub mod ProgramLimits
-pub mod LimitsPassed
-pub mod ProgramNodes
 pub mod ProgramStops
 pub mod Parsed
+pub mod Laws
+-- what mirrors the code: the machine that reads token by token, and what the readers hold
+pub mod DeclMachine
+pub mod DeclViews
 pub mod DeclTakes
+pub mod ProgramLeast
+pub mod ProgramStates
 pub mod ProgramReads
+pub mod ProgramNodes
+pub mod LimitsPassed

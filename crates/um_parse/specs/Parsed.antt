@@ -21,7 +21,8 @@ pub record IsRead (tokens : List Token) (ds : List DeclSyntax) : Type 0 where
   pub low : program_height ds ≤ greatest_height
   pub small : WithinLimits 0 ds
 
--- the tokens are a program of an allowed height; its first declaration that passes another limit has its name at the place
+-- the tokens are a program of an allowed height; its first declaration that passes another limit has its name at the
+-- place
 pub record IsLarge (tokens : List Token) (kind : LimitKind) (at : ℕ) : Type 0 where
   pub ds : List DeclSyntax
   pub is : IsProgram tokens ds

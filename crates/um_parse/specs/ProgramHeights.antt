@@ -1,7 +1,8 @@
 -- The height of a program: the greatest of the heights of its expressions, type texts and unit texts, each by itself.
 -- Source: this project's own limits.
 use Rattle.std.specs.Prelude.{ℕ, max, List, [], ◌∷◌, Option, Some, None}
-use Rattle.um_tree.specs.RawTree.{TypeSyntax, FieldDeclSyntax, ParamSyntax, DeclSyntax, base_syntax, short_syntax, record_decl_syntax, function_syntax}
+use Rattle.um_tree.specs.RawTree.{TypeSyntax, FieldDeclSyntax, ParamSyntax, DeclSyntax, base_syntax, short_syntax}
+use Rattle.um_tree.specs.RawTree.{record_decl_syntax, function_syntax}
 use Rattle.um_tree.specs.Heights.{unit_height}
 use Rattle.um_types.specs.TypeHeights.{whole_height}
 use Rattle.um_expr.specs.ExprHeights.{whole_expr_height}

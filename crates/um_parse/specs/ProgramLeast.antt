@@ -5,25 +5,28 @@ use Rattle.um_types.specs.UnitLeast.{least}
 use Rattle.um_types.specs.TypeMachine.{type_least}
 use Rattle.um_expr.specs.ExprLeast.{whole_least}
 use Rattle.um_parse.specs.ProgramHeights.{fields_height, params_height, result_height, program_height}
-use Rattle.um_parse.specs.DeclMachine.{DeclPlace, DeclBegin, AttributeWord, AttributeGreater, AttributeClose, MeasureType, MeasureName, FieldName, FieldColon, Params, ParamBinder, ParamColon, DeclState, AtPlace, HaveBase, InShort, HaveRecord, InField, InParam, InResult, InBody, NoDecl, ProgramState, InProgram, NoProgram}
+use Rattle.um_parse.specs.DeclMachine.{DeclExpected, DeclBegin, AttributeWord, AttributeGreater, AttributeClose}
+use Rattle.um_parse.specs.DeclMachine.{MeasureType, MeasureName, FieldName, FieldColon, Params, ParamBinder}
+use Rattle.um_parse.specs.DeclMachine.{ParamColon, DeclState, Expects, HaveBase, InShort, HaveRecord, InField}
+use Rattle.um_parse.specs.DeclMachine.{InParam, InResult, InBody, NoDecl, ProgramState, InProgram, NoProgram}
 
 -- a measure has no height; a record has a field, and a function a body
-abbrev pub decl_place_least : DeclPlace → ℕ
-decl_place_least DeclBegin = 0
-decl_place_least AttributeWord = 0
-decl_place_least AttributeGreater = 0
-decl_place_least AttributeClose = 0
-decl_place_least MeasureType = 0
-decl_place_least MeasureName = 0
-decl_place_least (FieldName at x vs fs) = max (fields_height fs) 1
-decl_place_least (FieldColon at x vs fs place y) = max (fields_height fs) 1
-decl_place_least (Params recursive at x ps) = max (params_height ps) 1
-decl_place_least (ParamBinder recursive at x ps) = max (params_height ps) 1
-decl_place_least (ParamColon recursive at x ps b) = max (params_height ps) 1
-decl_place_least _ = 1
+abbrev pub expected_least : DeclExpected → ℕ
+expected_least DeclBegin = 0
+expected_least AttributeWord = 0
+expected_least AttributeGreater = 0
+expected_least AttributeClose = 0
+expected_least MeasureType = 0
+expected_least MeasureName = 0
+expected_least (FieldName at x vs fs) = max (fields_height fs) 1
+expected_least (FieldColon at x vs fs place y) = max (fields_height fs) 1
+expected_least (Params recursive at x ps) = max (params_height ps) 1
+expected_least (ParamBinder recursive at x ps) = max (params_height ps) 1
+expected_least (ParamColon recursive at x ps b) = max (params_height ps) 1
+expected_least _ = 1
 
 abbrev pub decl_least : DeclState → ℕ
-decl_least (AtPlace place) = decl_place_least place
+decl_least (Expects expected) = expected_least expected
 decl_least (HaveBase at x) = 0
 decl_least (InShort at x u) = least u
 decl_least (HaveRecord at x vs fs) = fields_height fs
@@ -34,5 +37,5 @@ decl_least (InBody recursive at x ps r e) = max (params_height ps) (max (result_
 decl_least NoDecl = 0
 
 abbrev pub program_least : ProgramState → ℕ
-program_least (InProgram front d) = max (program_height front) (decl_least d)
+program_least (InProgram decls d) = max (program_height decls) (decl_least d)
 program_least NoProgram = 0

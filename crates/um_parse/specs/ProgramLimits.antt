@@ -40,10 +40,12 @@ abbrev pub passed_limit : ℕ → DeclSyntax → Option LimitKind
 passed_limit before (base_syntax at x) = None
 passed_limit before (short_syntax at x u) = None
 passed_limit before (record_decl_syntax at x vs fs) =
-    cond (nat_lt most_fields (length fs)) (Some limit.Fields) (cond (nat_lt most_unit_parameters (length vs)) (Some limit.UnitParameters) None)
+    cond (nat_lt most_fields (length fs)) (Some limit.Fields)
+    (cond (nat_lt most_unit_parameters (length vs)) (Some limit.UnitParameters) None)
 passed_limit before (function_syntax f) =
     cond (nat_lt most_functions (before + 1)) (Some limit.Functions)
-    (cond (nat_lt most_parameters (length f.params)) (Some limit.Parameters) (cond (nat_lt most_nodes (expr_nodes f.body)) (Some limit.Nodes) None))
+    (cond (nat_lt most_parameters (length f.params)) (Some limit.Parameters)
+    (cond (nat_lt most_nodes (expr_nodes f.body)) (Some limit.Nodes) None))
 
 -- no declaration passes a limit
 abbrev pub WithinLimits : ℕ → List DeclSyntax → Type 0
@@ -58,4 +60,5 @@ FirstPassed None place kind at later = later
 -- the first declaration that passes a limit has its name at this place, and this is the first limit that it passes
 abbrev pub PassesAt : ℕ → List DeclSyntax → LimitKind → ℕ → Type 0
 PassesAt before [] kind at = ⊥
-PassesAt before (d ∷ ds) kind at = FirstPassed (passed_limit before d) (name_place d) kind at (PassesAt (before + functions_in d) ds kind at)
+PassesAt before (d ∷ ds) kind at =
+    FirstPassed (passed_limit before d) (name_place d) kind at (PassesAt (before + functions_in d) ds kind at)

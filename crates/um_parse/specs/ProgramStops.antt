@@ -1,5 +1,6 @@
 -- Where the reading of a program ends.
--- Source: this project's own; the stop is the end of the longest viable prefix, as in Knuth, On the Translation of Languages from Left to Right.
+-- Source: this project's own; the stop is the end of the longest viable prefix, as in Knuth, On the Translation of
+-- Languages from Left to Right.
 use Rattle.std.specs.Prelude.{◌≡◌, ℕ, ◌+◌, ◌≤◌, ◌<◌, List, ◌++◌, length, take}
 use Rattle.um_syntax.specs.declared.token.Token.{Token}
 use Rattle.um_tree.specs.RawTree.{DeclSyntax}
@@ -13,9 +14,11 @@ Begins tokens = (more : List Token) × (ds : List DeclSyntax) × IsProgram (toke
 
 -- the tokens begin a program of at most this height
 abbrev pub BeginsWithin : ℕ → List Token → Type 0
-BeginsWithin height tokens = (more : List Token) × (ds : List DeclSyntax) × IsProgram (tokens ++ more) ds × (program_height ds ≤ height)
+BeginsWithin height tokens =
+    (more : List Token) × (ds : List DeclSyntax) × IsProgram (tokens ++ more) ds × (program_height ds ≤ height)
 
--- the first token through which the tokens begin no program, or the end of tokens that are none; no token before it makes them too high
+-- the first token through which the tokens begin no program, or the end of tokens that are none; no token before it
+-- makes them too high
 pub record StopsAt (tokens : List Token) (k : ℕ) : Type 0 where
   pub within : k ≤ length tokens
   pub before : BeginsWithin greatest_height (take k tokens)

@@ -3,24 +3,24 @@ ghost use Rattle.std.specs.Prelude.{◌≡◌, ◌≤◌, [], IfOk, IfSome, Some
 ghost use Rattle.um_tree.specs.RawTree.{binder_syntax, type_syntax};
 ghost use Rattle.um_types.specs.TypeHeights.{whole_height};
 ghost use Rattle.um_types.specs.UnitStops.{greatest_height};
-ghost use Rattle.um_parse.specs.DeclMachine.{LetName, RecName, Params, ParamBinder, ParamColon, AtPlace, at_place, body_begins, param_ends, result_ends, with_param};
+ghost use Rattle.um_parse.specs.DeclMachine.{LetName, RecName, Params, ParamBinder, ParamColon, Expects, take_expected, body_begins, param_ends, result_ends, with_param};
 ghost use Rattle.um_parse.specs.DeclViews.{read_params, next_state, reached};
-ghost use Rattle.um_expr.specs.ExprWords.{view_word};
 
 use crate::decl_measure::refuse;
-use crate::decl_place::{DeclPlace, FunctionFront, FunctionHead, Next};
+use crate::decl_prefix::{DeclExpected, FunctionHead, FunctionPrefix, Next};
 use std::alloc::{AllocError, Global};
-use um_expr::{Infix, Mark, Word};
+use um_expr::{ExprToken, Infix};
+use um_syntax::{Keyword, Symbol};
 use um_tree::{Binder, Name, RawParam, RawParams, RawType, Sign};
 
 // Behind the name of a function, at its place.
 fn named(alloc: Global, recursive: bool, at: u32, name: Name) -> Next
-    ensures { next_state result ≡ AtPlace (Params recursive at name []) }
+    ensures { next_state result ≡ Expects (Params recursive at name []) }
 {
     let params = RawParams {
         items: Vec::new(alloc),
     };
-    Next::At(DeclPlace::Params(FunctionFront {
+    Next::At(DeclExpected::Params(FunctionPrefix {
         recursive,
         at,
         name,
@@ -29,101 +29,101 @@ fn named(alloc: Global, recursive: bool, at: u32, name: Name) -> Next
 }
 
 /// The token behind `let`.
-pub fn let_name(alloc: Global, word: Word, p: u32) -> Option<Next>
-    ensures { reached result ≡ at_place LetName (view_word word) p }
+pub fn let_name(alloc: Global, kind: ExprToken, p: u32) -> Option<Next>
+    ensures { reached result ≡ take_expected LetName kind p }
 {
-    match word {
-        Word::Plain(Mark::Rec) => Some(Next::At(DeclPlace::RecName)),
-        Word::Name(name) => Some(named(alloc, false, p, name)),
+    match kind {
+        ExprToken::Word(Keyword::Rec) => Some(Next::At(DeclExpected::RecName)),
+        ExprToken::Name(name) => Some(named(alloc, false, p, name)),
         other => refuse(other),
     }
 }
 
 /// The token behind `let` and `rec`.
-pub fn rec_name(alloc: Global, word: Word, p: u32) -> Option<Next>
-    ensures { reached result ≡ at_place RecName (view_word word) p }
+pub fn rec_name(alloc: Global, kind: ExprToken, p: u32) -> Option<Next>
+    ensures { reached result ≡ take_expected RecName kind p }
 {
-    match word {
-        Word::Name(name) => Some(named(alloc, true, p, name)),
+    match kind {
+        ExprToken::Name(name) => Some(named(alloc, true, p, name)),
         other => refuse(other),
     }
 }
 
 // `=` behind the parameters: a function with `rec` has a result type.
-fn body_begins(front: FunctionFront) -> Option<Next>
-    ensures { reached result ≡ body_begins front.recursive front.at front.name (read_params front) }
+fn body_begins(prefix: FunctionPrefix) -> Option<Next>
+    ensures { reached result ≡ body_begins prefix.recursive prefix.at prefix.name (read_params prefix) }
 {
-    if front.recursive {
+    if prefix.recursive {
         return None;
     }
     Some(Next::Body(FunctionHead {
-        front,
+        prefix,
         result: None,
     }))
 }
 
 /// The token behind the name of a function or a parameter.
-pub fn take_params(front: FunctionFront, word: Word, p: u32) -> Option<Next>
-    ensures { reached result ≡ at_place (Params front.recursive front.at front.name (read_params front)) (view_word word) p }
+pub fn take_params(prefix: FunctionPrefix, kind: ExprToken, p: u32) -> Option<Next>
+    ensures { reached result ≡ take_expected (Params prefix.recursive prefix.at prefix.name (read_params prefix)) kind p }
 {
-    match word {
-        Word::Plain(Mark::Open) => Some(Next::At(DeclPlace::ParamBinder(front))),
-        Word::Plain(Mark::Colon) => Some(Next::Result(front)),
-        Word::Operator(Infix::Compare(Sign::Eq)) => body_begins(front),
+    match kind {
+        ExprToken::Mark(Symbol::LeftParen) => Some(Next::At(DeclExpected::ParamBinder(prefix))),
+        ExprToken::Mark(Symbol::Colon) => Some(Next::Result(prefix)),
+        ExprToken::Operator(Infix::Compare(Sign::Eq)) => body_begins(prefix),
         other => refuse(other),
     }
 }
 
 /// The token behind the `(` of a parameter.
-pub fn param_binder(front: FunctionFront, word: Word, p: u32) -> Option<Next>
-    ensures { reached result ≡ at_place (ParamBinder front.recursive front.at front.name (read_params front)) (view_word word) p }
+pub fn param_binder(prefix: FunctionPrefix, kind: ExprToken, p: u32) -> Option<Next>
+    ensures { reached result ≡ take_expected (ParamBinder prefix.recursive prefix.at prefix.name (read_params prefix)) kind p }
 {
-    match word {
-        Word::Name(name) => {
+    match kind {
+        ExprToken::Name(name) => {
             let binder = Binder {
                 at: p,
                 name: Some(name),
             };
-            Some(Next::At(DeclPlace::ParamColon(front, binder)))
+            Some(Next::At(DeclExpected::ParamColon(prefix, binder)))
         }
-        Word::Hole => {
+        ExprToken::Hole => {
             let binder = Binder { at: p, name: None };
-            Some(Next::At(DeclPlace::ParamColon(front, binder)))
+            Some(Next::At(DeclExpected::ParamColon(prefix, binder)))
         }
         other => refuse(other),
     }
 }
 
 /// The token behind the name of a parameter.
-pub fn param_colon(front: FunctionFront, binder: Binder, word: Word, p: u32) -> Option<Next>
-    ensures { reached result ≡ at_place (ParamColon front.recursive front.at front.name (read_params front) (binder_syntax binder)) (view_word word) p }
+pub fn param_colon(prefix: FunctionPrefix, binder: Binder, kind: ExprToken, p: u32) -> Option<Next>
+    ensures { reached result ≡ take_expected (ParamColon prefix.recursive prefix.at prefix.name (read_params prefix) (binder_syntax binder)) kind p }
 {
-    match word {
-        Word::Plain(Mark::Colon) => Some(Next::Param(front, binder)),
+    match kind {
+        ExprToken::Mark(Symbol::Colon) => Some(Next::Param(prefix, binder)),
         other => refuse(other),
     }
 }
 
 // The function with a parameter more.
 fn with_param(
-    front: FunctionFront,
+    prefix: FunctionPrefix,
     binder: Binder,
     ty: RawType,
-) -> Result<FunctionFront, AllocError>
+) -> Result<FunctionPrefix, AllocError>
     requires { whole_height (type_syntax ty) ≤ greatest_height }
-    ensures recursive { IfOk result (λ f. f.recursive ≡ front.recursive) }
-    ensures at { IfOk result (λ f. f.at ≡ front.at) }
-    ensures name { IfOk result (λ f. f.name ≡ front.name) }
-    ensures params { IfOk result (λ f. read_params f ≡ with_param (read_params front) (binder_syntax binder) (type_syntax ty)) }
+    ensures recursive { IfOk result (λ f. f.recursive ≡ prefix.recursive) }
+    ensures at { IfOk result (λ f. f.at ≡ prefix.at) }
+    ensures name { IfOk result (λ f. f.name ≡ prefix.name) }
+    ensures params { IfOk result (λ f. read_params f ≡ with_param (read_params prefix) (binder_syntax binder) (type_syntax ty)) }
 {
-    let FunctionFront {
+    let FunctionPrefix {
         recursive,
         at,
         name,
         mut params,
-    } = front;
+    } = prefix;
     params.items.push(RawParam { binder, ty })?;
-    Ok(FunctionFront {
+    Ok(FunctionPrefix {
         recursive,
         at,
         name,
@@ -133,18 +133,18 @@ fn with_param(
 
 // The token behind the type of a parameter.
 fn param_typed(
-    front: FunctionFront,
+    prefix: FunctionPrefix,
     binder: Binder,
     ty: RawType,
-    word: Word,
+    kind: ExprToken,
 ) -> Result<Option<Next>, AllocError>
     requires { whole_height (type_syntax ty) ≤ greatest_height }
-    ensures { IfOk result (λ o. reached o ≡ param_ends front.recursive front.at front.name (read_params front) (binder_syntax binder) (Some (type_syntax ty)) (view_word word)) }
+    ensures { IfOk result (λ o. reached o ≡ param_ends prefix.recursive prefix.at prefix.name (read_params prefix) (binder_syntax binder) (Some (type_syntax ty)) kind) }
 {
-    match word {
-        Word::Plain(Mark::Close) => {
-            let front = with_param(front, binder, ty)?;
-            Ok(Some(Next::At(DeclPlace::Params(front))))
+    match kind {
+        ExprToken::Mark(Symbol::RightParen) => {
+            let prefix = with_param(prefix, binder, ty)?;
+            Ok(Some(Next::At(DeclExpected::Params(prefix))))
         }
         other => Ok(refuse(other)),
     }
@@ -152,28 +152,28 @@ fn param_typed(
 
 /// The token that the type of a parameter has refused, behind the type before it, if one stands there.
 pub fn param_ends(
-    front: FunctionFront,
+    prefix: FunctionPrefix,
     binder: Binder,
     found: Option<RawType>,
-    word: Word,
+    kind: ExprToken,
 ) -> Result<Option<Next>, AllocError>
     requires { IfSome found (λ t. whole_height (type_syntax t) ≤ greatest_height) }
-    ensures { IfOk result (λ o. reached o ≡ param_ends front.recursive front.at front.name (read_params front) (binder_syntax binder) (option_map type_syntax found) (view_word word)) }
+    ensures { IfOk result (λ o. reached o ≡ param_ends prefix.recursive prefix.at prefix.name (read_params prefix) (binder_syntax binder) (option_map type_syntax found) kind) }
 {
     match found {
-        Some(ty) => param_typed(front, binder, ty, word),
-        None => Ok(refuse(word)),
+        Some(ty) => param_typed(prefix, binder, ty, kind),
+        None => Ok(refuse(kind)),
     }
 }
 
 // The token behind the result type.
-fn result_typed(front: FunctionFront, ty: RawType, word: Word) -> Option<Next>
+fn result_typed(prefix: FunctionPrefix, ty: RawType, kind: ExprToken) -> Option<Next>
     requires { whole_height (type_syntax ty) ≤ greatest_height }
-    ensures { reached result ≡ result_ends front.recursive front.at front.name (read_params front) (Some (type_syntax ty)) (view_word word) }
+    ensures { reached result ≡ result_ends prefix.recursive prefix.at prefix.name (read_params prefix) (Some (type_syntax ty)) kind }
 {
-    match word {
-        Word::Operator(Infix::Compare(Sign::Eq)) => Some(Next::Body(FunctionHead {
-            front,
+    match kind {
+        ExprToken::Operator(Infix::Compare(Sign::Eq)) => Some(Next::Body(FunctionHead {
+            prefix,
             result: Some(ty),
         })),
         other => refuse(other),
@@ -181,12 +181,12 @@ fn result_typed(front: FunctionFront, ty: RawType, word: Word) -> Option<Next>
 }
 
 /// The token that the result type has refused, behind the type before it, if one stands there.
-pub fn result_ends(front: FunctionFront, found: Option<RawType>, word: Word) -> Option<Next>
+pub fn result_ends(prefix: FunctionPrefix, found: Option<RawType>, kind: ExprToken) -> Option<Next>
     requires { IfSome found (λ t. whole_height (type_syntax t) ≤ greatest_height) }
-    ensures { reached result ≡ result_ends front.recursive front.at front.name (read_params front) (option_map type_syntax found) (view_word word) }
+    ensures { reached result ≡ result_ends prefix.recursive prefix.at prefix.name (read_params prefix) (option_map type_syntax found) kind }
 {
     match found {
-        Some(ty) => result_typed(front, ty, word),
-        None => refuse(word),
+        Some(ty) => result_typed(prefix, ty, kind),
+        None => refuse(kind),
     }
 }

@@ -1,59 +1,59 @@
 // The tokens that begin a declaration, and those of a measure.
 ghost use Rattle.std.specs.Prelude.{◌≡◌, None};
-ghost use Rattle.um_parse.specs.DeclMachine.{DeclBegin, at_place};
+ghost use Rattle.um_parse.specs.DeclMachine.{DeclBegin, take_expected};
 ghost use Rattle.um_parse.specs.DeclViews.{view_measure, reached};
-ghost use Rattle.um_expr.specs.ExprWords.{view_word};
 
-use crate::decl_place::{DeclPlace, MeasurePlace, Next};
-use um_expr::{Infix, Mark, Word};
+use crate::decl_prefix::{DeclExpected, MeasureExpected, Next};
+use um_expr::{ExprToken, Infix};
+use um_syntax::{Keyword, Symbol};
 use um_tree::Sign;
 
-/// A word that can't stand here.
-pub fn refuse(word: Word) -> Option<Next>
+/// A token that can't stand here.
+pub fn refuse(kind: ExprToken) -> Option<Next>
     ensures { result ≡ None }
 {
-    drop(word);
+    drop(kind);
     None
 }
 
 /// The first token of a declaration.
-pub fn begin(word: Word, p: u32) -> Option<Next>
-    ensures { reached result ≡ at_place DeclBegin (view_word word) p }
+pub fn begin(kind: ExprToken, p: u32) -> Option<Next>
+    ensures { reached result ≡ take_expected DeclBegin kind p }
 {
-    match word {
-        Word::Plain(Mark::AttributeOpen) => {
-            Some(Next::At(DeclPlace::Measure(MeasurePlace::Word)))
+    match kind {
+        ExprToken::Mark(Symbol::AttributeOpen) => {
+            Some(Next::At(DeclExpected::Measure(MeasureExpected::Word)))
         }
-        Word::Plain(Mark::Type) => Some(Next::At(DeclPlace::RecordName)),
-        Word::Plain(Mark::Let) => Some(Next::At(DeclPlace::LetName)),
+        ExprToken::Word(Keyword::Type) => Some(Next::At(DeclExpected::RecordName)),
+        ExprToken::Word(Keyword::Let) => Some(Next::At(DeclExpected::LetName)),
         other => refuse(other),
     }
 }
 
 /// One token before the name of a measure, or its name.
-pub fn take_measure(place: MeasurePlace, word: Word, p: u32) -> Option<Next>
-    ensures { reached result ≡ at_place (view_measure place) (view_word word) p }
+pub fn take_measure(expected: MeasureExpected, kind: ExprToken, p: u32) -> Option<Next>
+    ensures { reached result ≡ take_expected (view_measure expected) kind p }
 {
-    match (place, word) {
-        (MeasurePlace::Word, Word::Plain(Mark::Measure)) => {
-            Some(Next::At(DeclPlace::Measure(MeasurePlace::Greater)))
+    match (expected, kind) {
+        (MeasureExpected::Word, ExprToken::Word(Keyword::Measure)) => {
+            Some(Next::At(DeclExpected::Measure(MeasureExpected::Greater)))
         }
-        (MeasurePlace::Greater, Word::Operator(Infix::Compare(Sign::Gt))) => {
-            Some(Next::At(DeclPlace::Measure(MeasurePlace::Close)))
+        (MeasureExpected::Greater, ExprToken::Operator(Infix::Compare(Sign::Gt))) => {
+            Some(Next::At(DeclExpected::Measure(MeasureExpected::Close)))
         }
-        (MeasurePlace::Close, Word::Plain(Mark::ListClose)) => {
-            Some(Next::At(DeclPlace::Measure(MeasurePlace::Type)))
+        (MeasureExpected::Close, ExprToken::Mark(Symbol::RightBracket)) => {
+            Some(Next::At(DeclExpected::Measure(MeasureExpected::Type)))
         }
-        (MeasurePlace::Type, Word::Plain(Mark::Type)) => {
-            Some(Next::At(DeclPlace::Measure(MeasurePlace::Name)))
+        (MeasureExpected::Type, ExprToken::Word(Keyword::Type)) => {
+            Some(Next::At(DeclExpected::Measure(MeasureExpected::Name)))
         }
-        (MeasurePlace::Name, Word::Name(name)) => Some(Next::Base(p, name)),
+        (MeasureExpected::Name, ExprToken::Name(name)) => Some(Next::Base(p, name)),
         (
-            MeasurePlace::Word
-            | MeasurePlace::Greater
-            | MeasurePlace::Close
-            | MeasurePlace::Type
-            | MeasurePlace::Name,
+            MeasureExpected::Word
+            | MeasureExpected::Greater
+            | MeasureExpected::Close
+            | MeasureExpected::Type
+            | MeasureExpected::Name,
             other,
         ) => refuse(other),
     }

@@ -3,15 +3,15 @@ ghost use Rattle.std.specs.Prelude.{◌≡◌, ◌≤◌, [], IfOk, IfSome, Some
 ghost use Rattle.um_tree.specs.RawTree.{type_syntax};
 ghost use Rattle.um_types.specs.TypeHeights.{whole_height};
 ghost use Rattle.um_types.specs.UnitStops.{greatest_height};
-ghost use Rattle.um_parse.specs.DeclMachine.{RecordName, RecordVars, RecordEqual, RecordBrace, FieldName, FieldColon, at_place, field_ends, with_field_decl};
+ghost use Rattle.um_parse.specs.DeclMachine.{RecordName, RecordVars, RecordEqual, RecordBrace, FieldName, FieldColon, take_expected, field_ends, with_field_decl};
 ghost use Rattle.um_parse.specs.DeclViews.{head_vars, read_fields, view_var, reached};
-ghost use Rattle.um_parse.specs.declared.decl_place.VarPlace.TheVariants as var;
-ghost use Rattle.um_expr.specs.ExprWords.{view_word};
+ghost use Rattle.um_parse.specs.declared.decl_prefix.VarExpected.TheVariants as var;
 
 use crate::decl_measure::refuse;
-use crate::decl_place::{DeclPlace, Next, RecordFront, RecordHead, VarPlace};
+use crate::decl_prefix::{DeclExpected, Next, RecordHead, RecordPrefix, VarExpected};
 use std::alloc::{AllocError, Global};
-use um_expr::{Infix, Mark, Word};
+use um_expr::{ExprToken, Infix};
+use um_syntax::{Keyword, Symbol};
 use um_tree::{Name, RawFieldDecl, RawFieldDecls, RawType, RawVar, RawVars, Sign};
 
 // A record without unit parameters.
@@ -27,54 +27,59 @@ fn plain_head(alloc: Global, at: u32, name: Name) -> RecordHead
 }
 
 /// The token behind `type`.
-pub fn record_name(word: Word, p: u32) -> Option<Next>
-    ensures { reached result ≡ at_place RecordName (view_word word) p }
+pub fn record_name(kind: ExprToken, p: u32) -> Option<Next>
+    ensures { reached result ≡ take_expected RecordName kind p }
 {
-    match word {
-        Word::Name(name) => Some(Next::At(DeclPlace::RecordVars(p, name))),
+    match kind {
+        ExprToken::Name(name) => Some(Next::At(DeclExpected::RecordVars(p, name))),
         other => refuse(other),
     }
 }
 
 /// The token behind the name of a record, at its place.
-pub fn record_vars(alloc: Global, at: u32, name: Name, word: Word, p: u32) -> Option<Next>
-    ensures { reached result ≡ at_place (RecordVars at name) (view_word word) p }
+pub fn record_vars(alloc: Global, at: u32, name: Name, kind: ExprToken, p: u32) -> Option<Next>
+    ensures { reached result ≡ take_expected (RecordVars at name) kind p }
 {
-    match word {
-        Word::Operator(Infix::Compare(Sign::Lt)) => {
+    match kind {
+        ExprToken::Operator(Infix::Compare(Sign::Lt)) => {
             let head = plain_head(alloc, at, name);
-            Some(Next::At(DeclPlace::Var(head, VarPlace::Begin)))
+            Some(Next::At(DeclExpected::Var(head, VarExpected::Begin)))
         }
-        Word::Operator(Infix::Compare(Sign::Eq)) => {
+        ExprToken::Operator(Infix::Compare(Sign::Eq)) => {
             let head = plain_head(alloc, at, name);
-            Some(Next::At(DeclPlace::RecordBrace(head)))
+            Some(Next::At(DeclExpected::RecordBrace(head)))
         }
         other => refuse(other),
     }
 }
 
 // The name of a unit parameter.
-fn var_name(head: RecordHead, word: Word, p: u32) -> Result<Option<Next>, AllocError>
-    ensures { IfOk result (λ o. reached o ≡ at_place (view_var head var.Name) (view_word word) p) }
+fn var_name(head: RecordHead, kind: ExprToken, p: u32) -> Result<Option<Next>, AllocError>
+    ensures { IfOk result (λ o. reached o ≡ take_expected (view_var head var.Name) kind p) }
 {
-    match word {
-        Word::Variable(var) => {
+    match kind {
+        ExprToken::Variable(var) => {
             let RecordHead { at, name, mut vars } = head;
             vars.items.push(RawVar { at: p, name: var })?;
             let head = RecordHead { at, name, vars };
-            Ok(Some(Next::At(DeclPlace::Var(head, VarPlace::End))))
+            Ok(Some(Next::At(DeclExpected::Var(head, VarExpected::End))))
         }
         other => Ok(refuse(other)),
     }
 }
 
 // The token behind a unit parameter.
-fn var_end(head: RecordHead, word: Word, p: u32) -> Option<Next>
-    ensures { reached result ≡ at_place (view_var head var.End) (view_word word) p }
+fn var_end(head: RecordHead, kind: ExprToken, p: u32) -> Option<Next>
+    ensures { reached result ≡ take_expected (view_var head var.End) kind p }
 {
-    match word {
-        Word::Plain(Mark::Comma) => Some(Next::At(DeclPlace::Var(head, VarPlace::Begin))),
-        Word::Operator(Infix::Compare(Sign::Gt)) => Some(Next::At(DeclPlace::RecordEqual(head))),
+    match kind {
+        ExprToken::Mark(Symbol::Comma) => Some(Next::At(DeclExpected::Var(
+            head,
+            VarExpected::Begin,
+        ))),
+        ExprToken::Operator(Infix::Compare(Sign::Gt)) => Some(Next::At(DeclExpected::RecordEqual(
+            head,
+        ))),
         other => refuse(other),
     }
 }
@@ -82,112 +87,121 @@ fn var_end(head: RecordHead, word: Word, p: u32) -> Option<Next>
 /// One token among the unit parameters of a record.
 pub fn take_var(
     head: RecordHead,
-    place: VarPlace,
-    word: Word,
+    expected: VarExpected,
+    kind: ExprToken,
     p: u32,
 ) -> Result<Option<Next>, AllocError>
-    ensures { IfOk result (λ o. reached o ≡ at_place (view_var head place) (view_word word) p) }
+    ensures { IfOk result (λ o. reached o ≡ take_expected (view_var head expected) kind p) }
 {
-    match (place, word) {
-        (VarPlace::Begin, Word::Plain(Mark::AttributeOpen)) => {
-            Ok(Some(Next::At(DeclPlace::Var(head, VarPlace::Word))))
+    match (expected, kind) {
+        (VarExpected::Begin, ExprToken::Mark(Symbol::AttributeOpen)) => {
+            Ok(Some(Next::At(DeclExpected::Var(head, VarExpected::Word))))
         }
-        (VarPlace::Word, Word::Plain(Mark::Measure)) => {
-            Ok(Some(Next::At(DeclPlace::Var(head, VarPlace::Greater))))
+        (VarExpected::Word, ExprToken::Word(Keyword::Measure)) => {
+            Ok(Some(Next::At(DeclExpected::Var(head, VarExpected::Greater))))
         }
-        (VarPlace::Greater, Word::Operator(Infix::Compare(Sign::Gt))) => {
-            Ok(Some(Next::At(DeclPlace::Var(head, VarPlace::Close))))
+        (VarExpected::Greater, ExprToken::Operator(Infix::Compare(Sign::Gt))) => {
+            Ok(Some(Next::At(DeclExpected::Var(head, VarExpected::Close))))
         }
-        (VarPlace::Close, Word::Plain(Mark::ListClose)) => {
-            Ok(Some(Next::At(DeclPlace::Var(head, VarPlace::Name))))
+        (VarExpected::Close, ExprToken::Mark(Symbol::RightBracket)) => {
+            Ok(Some(Next::At(DeclExpected::Var(head, VarExpected::Name))))
         }
-        (VarPlace::Name, word) => var_name(head, word, p),
-        (VarPlace::End, word) => Ok(var_end(head, word, p)),
-        (VarPlace::Begin | VarPlace::Word | VarPlace::Greater | VarPlace::Close, other) => {
-            Ok(refuse(other))
-        }
+        (VarExpected::Name, kind) => var_name(head, kind, p),
+        (VarExpected::End, kind) => Ok(var_end(head, kind, p)),
+        (
+            VarExpected::Begin | VarExpected::Word | VarExpected::Greater | VarExpected::Close,
+            other,
+        ) => { Ok(refuse(other)) }
     }
 }
 
 /// The token behind the unit parameters of a record.
-pub fn record_equal(head: RecordHead, word: Word, p: u32) -> Option<Next>
-    ensures { reached result ≡ at_place (RecordEqual head.at head.name (head_vars head)) (view_word word) p }
+pub fn record_equal(head: RecordHead, kind: ExprToken, p: u32) -> Option<Next>
+    ensures { reached result ≡ take_expected (RecordEqual head.at head.name (head_vars head)) kind p }
 {
-    match word {
-        Word::Operator(Infix::Compare(Sign::Eq)) => Some(Next::At(DeclPlace::RecordBrace(head))),
+    match kind {
+        ExprToken::Operator(Infix::Compare(Sign::Eq)) => Some(Next::At(DeclExpected::RecordBrace(
+            head,
+        ))),
         other => refuse(other),
     }
 }
 
 /// The token behind the `=` of a record.
-pub fn record_brace(alloc: Global, head: RecordHead, word: Word, p: u32) -> Option<Next>
-    ensures { reached result ≡ at_place (RecordBrace head.at head.name (head_vars head)) (view_word word) p }
+pub fn record_brace(alloc: Global, head: RecordHead, kind: ExprToken, p: u32) -> Option<Next>
+    ensures { reached result ≡ take_expected (RecordBrace head.at head.name (head_vars head)) kind p }
 {
-    match word {
-        Word::Plain(Mark::RecordOpen) => {
+    match kind {
+        ExprToken::Mark(Symbol::LeftBrace) => {
             let fields = RawFieldDecls {
                 items: Vec::new(alloc),
             };
-            Some(Next::At(DeclPlace::FieldName(RecordFront { head, fields })))
+            Some(Next::At(DeclExpected::FieldName(RecordPrefix { head, fields })))
         }
         other => refuse(other),
     }
 }
 
 /// The token behind `{` or `;` in a record.
-pub fn field_name(front: RecordFront, word: Word, p: u32) -> Option<Next>
-    ensures { reached result ≡ at_place (FieldName front.head.at front.head.name (head_vars front.head) (read_fields front)) (view_word word) p }
+pub fn field_name(prefix: RecordPrefix, kind: ExprToken, p: u32) -> Option<Next>
+    ensures { reached result ≡ take_expected (FieldName prefix.head.at prefix.head.name (head_vars prefix.head) (read_fields prefix)) kind p }
 {
-    match word {
-        Word::Name(name) => Some(Next::At(DeclPlace::FieldColon(front, p, name))),
+    match kind {
+        ExprToken::Name(name) => Some(Next::At(DeclExpected::FieldColon(prefix, p, name))),
         other => refuse(other),
     }
 }
 
 /// The token behind the name of a field, at its place.
-pub fn field_colon(front: RecordFront, at: u32, name: Name, word: Word, p: u32) -> Option<Next>
-    ensures { reached result ≡ at_place (FieldColon front.head.at front.head.name (head_vars front.head) (read_fields front) at name) (view_word word) p }
+pub fn field_colon(
+    prefix: RecordPrefix,
+    at: u32,
+    name: Name,
+    kind: ExprToken,
+    p: u32,
+) -> Option<Next>
+    ensures { reached result ≡ take_expected (FieldColon prefix.head.at prefix.head.name (head_vars prefix.head) (read_fields prefix) at name) kind p }
 {
-    match word {
-        Word::Plain(Mark::Colon) => Some(Next::Field(front, at, name)),
+    match kind {
+        ExprToken::Mark(Symbol::Colon) => Some(Next::Field(prefix, at, name)),
         other => refuse(other),
     }
 }
 
 // The record with a field more.
 fn with_field(
-    front: RecordFront,
+    prefix: RecordPrefix,
     at: u32,
     name: Name,
     ty: RawType,
-) -> Result<RecordFront, AllocError>
+) -> Result<RecordPrefix, AllocError>
     requires { whole_height (type_syntax ty) ≤ greatest_height }
-    ensures head { IfOk result (λ f. f.head ≡ front.head) }
-    ensures fields { IfOk result (λ f. read_fields f ≡ with_field_decl (read_fields front) at name (type_syntax ty)) }
+    ensures head { IfOk result (λ f. f.head ≡ prefix.head) }
+    ensures fields { IfOk result (λ f. read_fields f ≡ with_field_decl (read_fields prefix) at name (type_syntax ty)) }
 {
-    let RecordFront { head, mut fields } = front;
+    let RecordPrefix { head, mut fields } = prefix;
     fields.items.push(RawFieldDecl { at, name, ty })?;
-    Ok(RecordFront { head, fields })
+    Ok(RecordPrefix { head, fields })
 }
 
 // The token behind the type of a field.
 fn field_typed(
-    front: RecordFront,
+    prefix: RecordPrefix,
     at: u32,
     name: Name,
     ty: RawType,
-    word: Word,
+    kind: ExprToken,
 ) -> Result<Option<Next>, AllocError>
     requires { whole_height (type_syntax ty) ≤ greatest_height }
-    ensures { IfOk result (λ o. reached o ≡ field_ends front.head.at front.head.name (head_vars front.head) (read_fields front) at name (Some (type_syntax ty)) (view_word word)) }
+    ensures { IfOk result (λ o. reached o ≡ field_ends prefix.head.at prefix.head.name (head_vars prefix.head) (read_fields prefix) at name (Some (type_syntax ty)) kind) }
 {
-    match word {
-        Word::Plain(Mark::Semi) => {
-            let front = with_field(front, at, name, ty)?;
-            Ok(Some(Next::At(DeclPlace::FieldName(front))))
+    match kind {
+        ExprToken::Mark(Symbol::Semicolon) => {
+            let prefix = with_field(prefix, at, name, ty)?;
+            Ok(Some(Next::At(DeclExpected::FieldName(prefix))))
         }
-        Word::Plain(Mark::RecordClose) => {
-            Ok(Some(Next::Record(with_field(front, at, name, ty)?)))
+        ExprToken::Mark(Symbol::RightBrace) => {
+            Ok(Some(Next::Record(with_field(prefix, at, name, ty)?)))
         }
         other => Ok(refuse(other)),
     }
@@ -195,17 +209,17 @@ fn field_typed(
 
 /// The token that the type of a field has refused, behind the type before it, if one stands there.
 pub fn field_ends(
-    front: RecordFront,
+    prefix: RecordPrefix,
     at: u32,
     name: Name,
     found: Option<RawType>,
-    word: Word,
+    kind: ExprToken,
 ) -> Result<Option<Next>, AllocError>
     requires { IfSome found (λ t. whole_height (type_syntax t) ≤ greatest_height) }
-    ensures { IfOk result (λ o. reached o ≡ field_ends front.head.at front.head.name (head_vars front.head) (read_fields front) at name (option_map type_syntax found) (view_word word)) }
+    ensures { IfOk result (λ o. reached o ≡ field_ends prefix.head.at prefix.head.name (head_vars prefix.head) (read_fields prefix) at name (option_map type_syntax found) kind) }
 {
     match found {
-        Some(ty) => field_typed(front, at, name, ty, word),
-        None => Ok(refuse(word)),
+        Some(ty) => field_typed(prefix, at, name, ty, kind),
+        None => Ok(refuse(kind)),
     }
 }

@@ -1,25 +1,24 @@
 // One token more of a declaration, where a place, a type, a unit text or a body has begun.
 ghost use Rattle.std.specs.Prelude.{◌≡◌, IfOk, None, Some, option_map};
 ghost use Rattle.um_tree.specs.RawTree.{base_syntax, unit_syntax, expr_syntax, decl_syntax, record_decl_syntax, written_type};
-ghost use Rattle.um_parse.specs.DeclMachine.{NoDecl, at_place, base_after, short_found, body_found, decl_step, decl_finish};
-ghost use Rattle.um_parse.specs.DeclViews.{head_vars, read_fields, read_params, view_decl_place, next_state, reached};
+ghost use Rattle.um_parse.specs.DeclMachine.{NoDecl, take_expected, base_after, short_found, body_found, decl_step, decl_finish};
+ghost use Rattle.um_parse.specs.DeclViews.{head_vars, read_fields, read_params, view_expected, next_state, reached};
 ghost use Rattle.um_parse.specs.DeclTakes.{reader_state, DeclTakes};
-ghost use Rattle.um_expr.specs.ExprWords.{view_word};
 ghost use Rattle.um_expr.specs.ExprTokens.{expr_token};
-ghost use Rattle.um_parse.specs.declared.decl_take.DeclReader.TheVariants as reader;
+ghost use Rattle.um_parse.specs.declared.decl_reader.DeclReader.TheVariants as reader;
 
 use crate::decl_function::{
     let_name, param_binder, param_colon, param_ends, rec_name, result_ends, take_params,
 };
 use crate::decl_measure::{begin, take_measure};
-use crate::decl_place::{DeclPlace, FunctionFront, FunctionHead, Next, RecordFront};
+use crate::decl_prefix::{DeclExpected, FunctionHead, FunctionPrefix, Next, RecordPrefix};
+use crate::decl_reader::{DeclReader, DeclStep, ShortPrefix};
 use crate::decl_record::{
     field_colon, field_ends, field_name, record_brace, record_equal, record_name, record_vars,
     take_var,
 };
-use crate::decl_take::{DeclReader, DeclStep, ShortFront};
 use std::alloc::{AllocError, Global};
-use um_expr::{ExprReader, ExprStep, Infix, Word};
+use um_expr::{ExprReader, ExprStep, ExprToken, Infix};
 use um_syntax::Token;
 use um_tree::{Binder, Name, RawDecl, RawExpr, RawFunction, RawUnit, Sign};
 use um_types::{TypeReader, TypeStep, UnitReader, UnitStep};
@@ -29,16 +28,16 @@ fn reader_of(alloc: Global, next: Next) -> DeclReader
     ensures { reader_state result ≡ next_state next }
 {
     match next {
-        Next::At(place) => DeclReader::At(place),
+        Next::At(expected) => DeclReader::At(expected),
         Next::Base(at, name) => DeclReader::Base(at, name),
         Next::Short(at, name) => {
             let unit = UnitReader::new(alloc);
-            DeclReader::Short(ShortFront { at, name, unit })
+            DeclReader::Short(ShortPrefix { at, name, unit })
         }
-        Next::Record(front) => DeclReader::Record(front),
-        Next::Field(front, at, name) => DeclReader::Field(front, at, name, TypeReader::new()),
-        Next::Param(front, binder) => DeclReader::Param(front, binder, TypeReader::new()),
-        Next::Result(front) => DeclReader::Result(front, TypeReader::new()),
+        Next::Record(prefix) => DeclReader::Record(prefix),
+        Next::Field(prefix, at, name) => DeclReader::Field(prefix, at, name, TypeReader::new()),
+        Next::Param(prefix, binder) => DeclReader::Param(prefix, binder, TypeReader::new()),
+        Next::Result(prefix) => DeclReader::Result(prefix, TypeReader::new()),
         Next::Body(head) => DeclReader::Body(head, ExprReader::new(alloc)),
     }
 }
@@ -54,41 +53,46 @@ fn step_of(alloc: Global, next: Option<Next>) -> DeclStep
 }
 
 // What follows a place.
-fn next_at(alloc: Global, place: DeclPlace, word: Word, p: u32) -> Result<Option<Next>, AllocError>
-    ensures { IfOk result (λ o. reached o ≡ at_place (view_decl_place place) (view_word word) p) }
+fn next_at(
+    alloc: Global,
+    expected: DeclExpected,
+    kind: ExprToken,
+    p: u32,
+) -> Result<Option<Next>, AllocError>
+    ensures { IfOk result (λ o. reached o ≡ take_expected (view_expected expected) kind p) }
 {
-    match place {
-        DeclPlace::Begin => Ok(begin(word, p)),
-        DeclPlace::Measure(place) => Ok(take_measure(place, word, p)),
-        DeclPlace::RecordName => Ok(record_name(word, p)),
-        DeclPlace::RecordVars(at, name) => Ok(record_vars(alloc, at, name, word, p)),
-        DeclPlace::Var(head, place) => take_var(head, place, word, p),
-        DeclPlace::RecordEqual(head) => Ok(record_equal(head, word, p)),
-        DeclPlace::RecordBrace(head) => Ok(record_brace(alloc, head, word, p)),
-        DeclPlace::FieldName(front) => Ok(field_name(front, word, p)),
-        DeclPlace::FieldColon(front, at, name) => Ok(field_colon(front, at, name, word, p)),
-        DeclPlace::LetName => Ok(let_name(alloc, word, p)),
-        DeclPlace::RecName => Ok(rec_name(alloc, word, p)),
-        DeclPlace::Params(front) => Ok(take_params(front, word, p)),
-        DeclPlace::ParamBinder(front) => Ok(param_binder(front, word, p)),
-        DeclPlace::ParamColon(front, binder) => Ok(param_colon(front, binder, word, p)),
+    match expected {
+        DeclExpected::Begin => Ok(begin(kind, p)),
+        DeclExpected::Measure(expected) => Ok(take_measure(expected, kind, p)),
+        DeclExpected::RecordName => Ok(record_name(kind, p)),
+        DeclExpected::RecordVars(at, name) => Ok(record_vars(alloc, at, name, kind, p)),
+        DeclExpected::Var(head, expected) => take_var(head, expected, kind, p),
+        DeclExpected::RecordEqual(head) => Ok(record_equal(head, kind, p)),
+        DeclExpected::RecordBrace(head) => Ok(record_brace(alloc, head, kind, p)),
+        DeclExpected::FieldName(prefix) => Ok(field_name(prefix, kind, p)),
+        DeclExpected::FieldColon(prefix, at, name) => Ok(field_colon(prefix, at, name, kind, p)),
+        DeclExpected::LetName => Ok(let_name(alloc, kind, p)),
+        DeclExpected::RecName => Ok(rec_name(alloc, kind, p)),
+        DeclExpected::Params(prefix) => Ok(take_params(prefix, kind, p)),
+        DeclExpected::ParamBinder(prefix) => Ok(param_binder(prefix, kind, p)),
+        DeclExpected::ParamColon(prefix, binder) => Ok(param_colon(prefix, binder, kind, p)),
     }
 }
 
 // One token at a place.
-fn take_at(alloc: Global, place: DeclPlace, token: &Token) -> Result<DeclStep, AllocError>
-    ensures { IfOk result (λ s. DeclTakes None (decl_step (reader_state (reader.At place)) token.now) s) }
+fn take_at(alloc: Global, expected: DeclExpected, token: &Token) -> Result<DeclStep, AllocError>
+    ensures { IfOk result (λ s. DeclTakes None (decl_step (reader_state (reader.At expected)) token.now) s) }
 {
-    let word = Word::of_kind(alloc, &token.kind)?;
-    let next = next_at(alloc, place, word, token.start)?;
+    let kind = ExprToken::of_kind(alloc, &token.kind)?;
+    let next = next_at(alloc, expected, kind, token.start)?;
     Ok(step_of(alloc, next))
 }
 
 // A measure is whole before this word.
-fn base_found(at: u32, name: Name, word: Word) -> DeclStep
+fn base_found(at: u32, name: Name, kind: ExprToken) -> DeclStep
     ensures { DeclTakes (Some (base_syntax at name)) NoDecl result }
 {
-    drop(word);
+    drop(kind);
     DeclStep::Stops(Some(RawDecl::Base(at, name)))
 }
 
@@ -96,8 +100,8 @@ fn base_found(at: u32, name: Name, word: Word) -> DeclStep
 fn take_base(alloc: Global, at: u32, name: Name, token: &Token) -> Result<DeclStep, AllocError>
     ensures { IfOk result (λ s. DeclTakes (Some (base_syntax at name)) (base_after at name (expr_token token.now.kind)) s) }
 {
-    match Word::of_kind(alloc, &token.kind)? {
-        Word::Operator(Infix::Compare(Sign::Eq)) => {
+    match ExprToken::of_kind(alloc, &token.kind)? {
+        ExprToken::Operator(Infix::Compare(Sign::Eq)) => {
             let next = Next::Short(at, name);
             Ok(DeclStep::Goes(reader_of(alloc, next)))
         }
@@ -116,12 +120,12 @@ fn short_found(at: u32, name: Name, found: Option<RawUnit>) -> Option<RawDecl>
 }
 
 // One token more of the unit text of an abbreviation.
-fn take_short(alloc: Global, front: ShortFront, token: &Token) -> Result<DeclStep, AllocError>
-    ensures { IfOk result (λ s. DeclTakes (decl_finish (reader_state (reader.Short front))) (decl_step (reader_state (reader.Short front)) token.now) s) }
+fn take_short(alloc: Global, prefix: ShortPrefix, token: &Token) -> Result<DeclStep, AllocError>
+    ensures { IfOk result (λ s. DeclTakes (decl_finish (reader_state (reader.Short prefix))) (decl_step (reader_state (reader.Short prefix)) token.now) s) }
 {
-    let ShortFront { at, name, unit } = front;
+    let ShortPrefix { at, name, unit } = prefix;
     match unit.take(alloc, token)? {
-        UnitStep::Goes(unit) => Ok(DeclStep::Goes(DeclReader::Short(ShortFront {
+        UnitStep::Goes(unit) => Ok(DeclStep::Goes(DeclReader::Short(ShortPrefix {
             at,
             name,
             unit,
@@ -134,20 +138,20 @@ fn take_short(alloc: Global, front: ShortFront, token: &Token) -> Result<DeclSte
 // One token more of the type of a field, at its name.
 fn take_field(
     alloc: Global,
-    front: RecordFront,
+    prefix: RecordPrefix,
     at: u32,
     name: Name,
     ty: TypeReader,
     token: &Token,
 ) -> Result<DeclStep, AllocError>
-    ensures { IfOk result (λ s. DeclTakes None (decl_step (reader_state (reader.Field front at name ty)) token.now) s) }
+    ensures { IfOk result (λ s. DeclTakes None (decl_step (reader_state (reader.Field prefix at name ty)) token.now) s) }
 {
     match ty.take(alloc, token)? {
-        TypeStep::Goes(ty) => Ok(DeclStep::Goes(DeclReader::Field(front, at, name, ty))),
+        TypeStep::Goes(ty) => Ok(DeclStep::Goes(DeclReader::Field(prefix, at, name, ty))),
         TypeStep::High => Ok(DeclStep::High),
         TypeStep::Stops(found) => {
-            let word = Word::of_kind(alloc, &token.kind)?;
-            let next = field_ends(front, at, name, found, word)?;
+            let kind = ExprToken::of_kind(alloc, &token.kind)?;
+            let next = field_ends(prefix, at, name, found, kind)?;
             Ok(step_of(alloc, next))
         }
     }
@@ -156,19 +160,19 @@ fn take_field(
 // One token more of the type of a parameter.
 fn take_param(
     alloc: Global,
-    front: FunctionFront,
+    prefix: FunctionPrefix,
     binder: Binder,
     ty: TypeReader,
     token: &Token,
 ) -> Result<DeclStep, AllocError>
-    ensures { IfOk result (λ s. DeclTakes None (decl_step (reader_state (reader.Param front binder ty)) token.now) s) }
+    ensures { IfOk result (λ s. DeclTakes None (decl_step (reader_state (reader.Param prefix binder ty)) token.now) s) }
 {
     match ty.take(alloc, token)? {
-        TypeStep::Goes(ty) => Ok(DeclStep::Goes(DeclReader::Param(front, binder, ty))),
+        TypeStep::Goes(ty) => Ok(DeclStep::Goes(DeclReader::Param(prefix, binder, ty))),
         TypeStep::High => Ok(DeclStep::High),
         TypeStep::Stops(found) => {
-            let word = Word::of_kind(alloc, &token.kind)?;
-            let next = param_ends(front, binder, found, word)?;
+            let kind = ExprToken::of_kind(alloc, &token.kind)?;
+            let next = param_ends(prefix, binder, found, kind)?;
             Ok(step_of(alloc, next))
         }
     }
@@ -177,37 +181,37 @@ fn take_param(
 // One token more of the result type.
 fn take_result(
     alloc: Global,
-    front: FunctionFront,
+    prefix: FunctionPrefix,
     ty: TypeReader,
     token: &Token,
 ) -> Result<DeclStep, AllocError>
-    ensures { IfOk result (λ s. DeclTakes None (decl_step (reader_state (reader.Result front ty)) token.now) s) }
+    ensures { IfOk result (λ s. DeclTakes None (decl_step (reader_state (reader.Result prefix ty)) token.now) s) }
 {
     match ty.take(alloc, token)? {
-        TypeStep::Goes(ty) => Ok(DeclStep::Goes(DeclReader::Result(front, ty))),
+        TypeStep::Goes(ty) => Ok(DeclStep::Goes(DeclReader::Result(prefix, ty))),
         TypeStep::High => Ok(DeclStep::High),
         TypeStep::Stops(found) => {
-            let word = Word::of_kind(alloc, &token.kind)?;
-            Ok(step_of(alloc, result_ends(front, found, word)))
+            let kind = ExprToken::of_kind(alloc, &token.kind)?;
+            Ok(step_of(alloc, result_ends(prefix, found, kind)))
         }
     }
 }
 
 // A function, where its body was found.
 fn body_found(head: FunctionHead, found: Option<RawExpr>) -> Option<RawDecl>
-    ensures { option_map decl_syntax result ≡ body_found head.front.recursive head.front.at head.front.name (read_params head.front) (written_type head.result) (option_map expr_syntax found) }
+    ensures { option_map decl_syntax result ≡ body_found head.prefix.recursive head.prefix.at head.prefix.name (read_params head.prefix) (written_type head.result) (option_map expr_syntax found) }
 {
     let body = match found {
         Some(body) => body,
         None => return None,
     };
-    let FunctionHead { front, result } = head;
-    let FunctionFront {
+    let FunctionHead { prefix, result } = head;
+    let FunctionPrefix {
         recursive,
         at,
         name,
         params,
-    } = front;
+    } = prefix;
     Some(RawDecl::Function(RawFunction {
         at,
         name,
@@ -235,10 +239,10 @@ fn take_body(
 }
 
 // A whole record.
-fn record_found(front: RecordFront) -> RawDecl
-    ensures { decl_syntax result ≡ record_decl_syntax front.head.at front.head.name (head_vars front.head) (read_fields front) }
+fn record_found(prefix: RecordPrefix) -> RawDecl
+    ensures { decl_syntax result ≡ record_decl_syntax prefix.head.at prefix.head.name (head_vars prefix.head) (read_fields prefix) }
 {
-    let RecordFront { head, fields } = front;
+    let RecordPrefix { head, fields } = prefix;
     RawDecl::Record(head.at, head.name, head.vars, fields)
 }
 
@@ -256,15 +260,15 @@ impl DeclReader {
         ensures taken { IfOk result (λ s. DeclTakes (decl_finish (reader_state self)) (decl_step (reader_state self) token.now) s) }
     {
         match self {
-            DeclReader::At(place) => take_at(alloc, place, token),
+            DeclReader::At(expected) => take_at(alloc, expected, token),
             DeclReader::Base(at, name) => take_base(alloc, at, name, token),
-            DeclReader::Short(front) => take_short(alloc, front, token),
-            DeclReader::Record(front) => Ok(DeclStep::Stops(Some(record_found(front)))),
-            DeclReader::Field(front, at, name, ty) => {
-                take_field(alloc, front, at, name, ty, token)
+            DeclReader::Short(prefix) => take_short(alloc, prefix, token),
+            DeclReader::Record(prefix) => Ok(DeclStep::Stops(Some(record_found(prefix)))),
+            DeclReader::Field(prefix, at, name, ty) => {
+                take_field(alloc, prefix, at, name, ty, token)
             }
-            DeclReader::Param(front, binder, ty) => take_param(alloc, front, binder, ty, token),
-            DeclReader::Result(front, ty) => take_result(alloc, front, ty, token),
+            DeclReader::Param(prefix, binder, ty) => take_param(alloc, prefix, binder, ty, token),
+            DeclReader::Result(prefix, ty) => take_result(alloc, prefix, ty, token),
             DeclReader::Body(head, body) => take_body(alloc, head, body, token),
         }
     }
@@ -275,20 +279,20 @@ impl DeclReader {
     {
         match self {
             DeclReader::Base(at, name) => Ok(Some(RawDecl::Base(at, name))),
-            DeclReader::Short(front) => {
-                let ShortFront { at, name, unit } = front;
+            DeclReader::Short(prefix) => {
+                let ShortPrefix { at, name, unit } = prefix;
                 Ok(short_found(at, name, unit.finish(alloc)?))
             }
-            DeclReader::Record(front) => Ok(Some(record_found(front))),
+            DeclReader::Record(prefix) => Ok(Some(record_found(prefix))),
             DeclReader::Body(head, body) => Ok(body_found(head, body.finish(alloc)?)),
-            DeclReader::At(place) => Ok(unfinished(DeclReader::At(place))),
-            DeclReader::Field(front, at, name, ty) => {
-                Ok(unfinished(DeclReader::Field(front, at, name, ty)))
+            DeclReader::At(expected) => Ok(unfinished(DeclReader::At(expected))),
+            DeclReader::Field(prefix, at, name, ty) => {
+                Ok(unfinished(DeclReader::Field(prefix, at, name, ty)))
             }
-            DeclReader::Param(front, binder, ty) => {
-                Ok(unfinished(DeclReader::Param(front, binder, ty)))
+            DeclReader::Param(prefix, binder, ty) => {
+                Ok(unfinished(DeclReader::Param(prefix, binder, ty)))
             }
-            DeclReader::Result(front, ty) => Ok(unfinished(DeclReader::Result(front, ty))),
+            DeclReader::Result(prefix, ty) => Ok(unfinished(DeclReader::Result(prefix, ty))),
         }
     }
 }

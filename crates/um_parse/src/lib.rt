@@ -3,10 +3,11 @@
 
 mod decl_function;
 mod decl_measure;
-mod decl_place;
+mod decl_prefix;
+mod decl_reader;
 mod decl_record;
 mod decl_step;
-mod decl_take;
+pub mod laws;
 mod limits;
 mod program_loop;
 mod program_parse;

@@ -21,7 +21,7 @@ const MOST_UNIT_PARAMETERS: usize = 4;
 const MOST_NODES: u32 = 20000;
 
 /// The first limit that a program passes, and the place of the declaration's name.
-#[derive(Clone, Copy, Debug, PartialEq, Eq)]
+#[derive(Clone, Copy)]
 pub struct Passed {
     pub kind: LimitKind,
     pub at: u32,

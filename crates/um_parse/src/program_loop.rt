@@ -2,7 +2,7 @@
 ghost use Rattle.std.specs.Prelude.{◌≡◌, ◌≤◌, [], IfOk, IfSome, map, option_map};
 ghost use Rattle.um_tree.specs.RawTree.{decl_syntax, program_syntax};
 ghost use Rattle.um_types.specs.UnitStops.{greatest_height};
-ghost use Rattle.um_parse.specs.DeclMachine.{DeclBegin, AtPlace, NoProgram, decl_step, program_goes, next_decl, program_step, program_found, program_finish};
+ghost use Rattle.um_parse.specs.DeclMachine.{DeclBegin, Expects, NoProgram, decl_step, program_goes, next_decl, program_step, program_found, program_finish};
 ghost use Rattle.um_parse.specs.DeclTakes.{reader_state};
 ghost use Rattle.um_parse.specs.ProgramHeights.{decl_height, program_height};
 ghost use Rattle.um_parse.specs.ProgramLeast.{program_least};
@@ -10,8 +10,8 @@ ghost use Rattle.um_parse.specs.ProgramReads.{program_state, ProgramTakes, at_st
 ghost use Rattle.um_parse.specs.declared.program_loop.ProgramStep.TheVariants.{Stops};
 ghost use Rattle.um_parse.specs.declared.program_loop.ProgramStop.TheVariants.{NoMemory};
 
-use crate::decl_place::DeclPlace;
-use crate::decl_take::{DeclReader, DeclStep};
+use crate::decl_prefix::DeclExpected;
+use crate::decl_reader::{DeclReader, DeclStep};
 use std::alloc::{AllocError, Global};
 use um_syntax::Token;
 use um_tree::{RawDecl, RawProgram};
@@ -25,7 +25,7 @@ pub enum ProgramStep {
 }
 
 /// Why tokens are no program within the heights. The numbers of tokens count from 0; that of the end is the number of tokens.
-#[derive(Clone, Copy, Debug)]
+#[derive(Clone, Copy)]
 pub enum ProgramStop {
     /// The tokens before this one begin a program, and those through it none.
     Syntax(usize),
@@ -51,11 +51,11 @@ fn refuse(found: Option<RawDecl>) -> ProgramStep
 }
 
 // The first token of a declaration behind these.
-fn begin(alloc: Global, front: &Vec<RawDecl>, token: &Token) -> Result<ProgramStep, AllocError>
-    requires { program_height (map decl_syntax front.now.items) ≤ greatest_height }
-    ensures { IfOk result (λ s. ProgramTakes (program_goes (map decl_syntax front.now.items) (decl_step (AtPlace DeclBegin) token.now) NoProgram) front.now.items s) }
+fn begin(alloc: Global, decls: &Vec<RawDecl>, token: &Token) -> Result<ProgramStep, AllocError>
+    requires { program_height (map decl_syntax decls.now.items) ≤ greatest_height }
+    ensures { IfOk result (λ s. ProgramTakes (program_goes (map decl_syntax decls.now.items) (decl_step (Expects DeclBegin) token.now) NoProgram) decls.now.items s) }
 {
-    match DeclReader::At(DeclPlace::Begin).take(alloc, token)? {
+    match DeclReader::At(DeclExpected::Begin).take(alloc, token)? {
         DeclStep::Goes(reader) => Ok(ProgramStep::Goes(reader)),
         DeclStep::High => Ok(ProgramStep::High),
         DeclStep::Stops(found) => Ok(refuse(found)),
@@ -65,18 +65,18 @@ fn begin(alloc: Global, front: &Vec<RawDecl>, token: &Token) -> Result<ProgramSt
 // The token that a declaration has refused, behind the declaration before it, if one stands there.
 fn next_decl(
     alloc: Global,
-    front: &mut Vec<RawDecl>,
+    decls: &mut Vec<RawDecl>,
     found: Option<RawDecl>,
     token: &Token,
 ) -> Result<ProgramStep, AllocError>
-    requires front { program_height (map decl_syntax front.old.items) ≤ greatest_height }
+    requires decls { program_height (map decl_syntax decls.old.items) ≤ greatest_height }
     requires found { IfSome found (λ d. decl_height (decl_syntax d) ≤ greatest_height) }
-    ensures { IfOk result (λ s. ProgramTakes (next_decl (map decl_syntax front.old.items) (option_map decl_syntax found) (decl_step (AtPlace DeclBegin) token.now)) front.new.items s) }
+    ensures { IfOk result (λ s. ProgramTakes (next_decl (map decl_syntax decls.old.items) (option_map decl_syntax found) (decl_step (Expects DeclBegin) token.now)) decls.new.items s) }
 {
     match found {
         Some(decl) => {
-            front.push(decl)?;
-            begin(alloc, front, token)
+            decls.push(decl)?;
+            begin(alloc, decls, token)
         }
         None => Ok(ProgramStep::Stops),
     }
@@ -85,33 +85,33 @@ fn next_decl(
 // One token more.
 fn take(
     alloc: Global,
-    front: &mut Vec<RawDecl>,
+    decls: &mut Vec<RawDecl>,
     reader: DeclReader,
     token: &Token,
 ) -> Result<ProgramStep, AllocError>
-    requires { program_least (program_state front.old.items reader) ≤ greatest_height }
-    ensures { IfOk result (λ s. ProgramTakes (program_step (program_state front.old.items reader) token.now) front.new.items s) }
+    requires { program_least (program_state decls.old.items reader) ≤ greatest_height }
+    ensures { IfOk result (λ s. ProgramTakes (program_step (program_state decls.old.items reader) token.now) decls.new.items s) }
 {
     let step = reader.take(alloc, token)?;
     match step {
         DeclStep::Goes(reader) => Ok(ProgramStep::Goes(reader)),
         DeclStep::High => Ok(ProgramStep::High),
-        DeclStep::Stops(found) => next_decl(alloc, front, found, token),
+        DeclStep::Stops(found) => next_decl(alloc, decls, found, token),
     }
 }
 
 // Reads all tokens: the declarations before the last one, and the reader of the last one.
 fn read_decls(
     alloc: Global,
-    front: &mut Vec<RawDecl>,
+    decls: &mut Vec<RawDecl>,
     tokens: &[Token],
 ) -> Result<DeclReader, ProgramStop>
-    requires { front.now.items ≡ [] }
-    ensures { ReadsDecls tokens.now front.new.items result }
+    requires { decls.now.items ≡ [] }
+    ensures { ReadsDecls tokens.now decls.new.items result }
 {
-    let mut reader = DeclReader::At(DeclPlace::Begin);
+    let mut reader = DeclReader::At(DeclExpected::Begin);
     for (i, token) in tokens.iter().enumerate() {
-        match take(alloc, front, reader, token)? {
+        match take(alloc, decls, reader, token)? {
             ProgramStep::Goes(next) => reader = next,
             ProgramStep::High => return Err(ProgramStop::High(i)),
             ProgramStep::Stops => return Err(ProgramStop::Syntax(i)),
@@ -125,16 +125,16 @@ fn is_at_start(reader: &DeclReader) -> bool
     ensures { result ≡ at_start (reader_state reader.now) }
 {
     match reader {
-        DeclReader::At(DeclPlace::Begin) => true,
+        DeclReader::At(DeclExpected::Begin) => true,
         _ => false,
     }
 }
 
 // The program, with the last declaration, if one was found.
-fn with_last(front: Vec<RawDecl>, last: Option<RawDecl>) -> Result<Option<RawProgram>, AllocError>
-    ensures { IfOk result (λ o. option_map program_syntax o ≡ program_found (map decl_syntax front.items) (option_map decl_syntax last)) }
+fn with_last(decls: Vec<RawDecl>, last: Option<RawDecl>) -> Result<Option<RawProgram>, AllocError>
+    ensures { IfOk result (λ o. option_map program_syntax o ≡ program_found (map decl_syntax decls.items) (option_map decl_syntax last)) }
 {
-    let mut items = front;
+    let mut items = decls;
     match last {
         Some(decl) => {
             items.push(decl)?;
@@ -147,16 +147,16 @@ fn with_last(front: Vec<RawDecl>, last: Option<RawDecl>) -> Result<Option<RawPro
 // The program where all is read.
 fn finish(
     alloc: Global,
-    front: Vec<RawDecl>,
+    decls: Vec<RawDecl>,
     reader: DeclReader,
 ) -> Result<Option<RawProgram>, AllocError>
-    ensures { IfOk result (λ o. option_map program_syntax o ≡ program_finish (program_state front.items reader)) }
+    ensures { IfOk result (λ o. option_map program_syntax o ≡ program_finish (program_state decls.items reader)) }
 {
     if is_at_start(&reader) {
-        return Ok(Some(RawProgram { items: front }));
+        return Ok(Some(RawProgram { items: decls }));
     }
     let last = reader.finish(alloc)?;
-    with_last(front, last)
+    with_last(decls, last)
 }
 
 /// The program that the tokens are, if they are one within the heights, whatever its other limits.

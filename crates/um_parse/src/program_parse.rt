@@ -1,6 +1,5 @@
 // Parsing a program, with the places of its refusals in the text.
-ghost use Rattle.std.specs.Prelude.{◌≡◌, ◌≤◌, length};
-ghost use Rattle.um_types.specs.UnitStops.{place_of};
+ghost use Rattle.std.specs.Prelude.{◌≤◌, length};
 ghost use Rattle.um_parse.specs.ProgramReads.{ProgramAnswers};
 ghost use Rattle.um_parse.specs.Parsed.{Parsed};
 
@@ -9,17 +8,7 @@ use crate::program_loop::{ProgramStop, read_program};
 use std::alloc::Global;
 use um_syntax::Token;
 use um_tree::RawProgram;
-use um_types::{LimitKind, ParseStop};
-
-// The place of a token by its number, or the end.
-fn place(tokens: &[Token], k: usize, end: u32) -> u32
-    ensures { result ≡ place_of tokens.now k end }
-{
-    match tokens.get(k) {
-        Some(token) => token.start,
-        None => end,
-    }
-}
+use um_types::{LimitKind, ParseStop, place};
 
 /// The program that the tokens are, as it is written. `end` is the length of the text in bytes.
 ///

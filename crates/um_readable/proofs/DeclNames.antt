@@ -1,12 +1,17 @@
--- Each declared name stands among the tokens.
-use Rattle.std.proofs.Common.{◌≡◌, ℕ, zero, suc, Bool, true, false, ◌||◌, List, [], ◌∷◌, ◌++◌, slice_index_or, refl, sym, ap, subst, ◌∙◌}
+-- Each declared name is among the tokens.
+use Rattle.std.proofs.Common.{◌≡◌, ℕ, Bool, true, false, List, [], ◌∷◌, ◌++◌, refl, sym, ap, subst, ◌∙◌}
 use Rattle.um_syntax.specs.declared.token.Token.{Token}
 use Rattle.um_syntax.specs.declared.token.Kind.{Kind}
 use Rattle.um_syntax.specs.declared.token.Kind.TheVariants as kind
-use Rattle.um_tree.specs.Formed.{IsNameText}
+use Rattle.um_tree.specs.Formed.{IsNameBytes}
 use Rattle.um_tree.specs.RawTree.{FieldDeclSyntax, DeclSyntax, base_syntax, short_syntax, record_decl_syntax, function_syntax}
-use Rattle.um_expr.specs.declared.mark.Mark.TheVariants as mark
-use Rattle.um_expr.specs.ExprTokens.{ExprToken, name, variable, number, truth, hole, operator, plain, expr_token, word_tokens, sign_tokens}
+use Rattle.um_syntax.specs.declared.vocabulary.Keyword.{Keyword}
+use Rattle.um_syntax.specs.declared.vocabulary.Keyword.TheVariants as keyword
+use Rattle.um_syntax.specs.declared.vocabulary.Symbol.{Symbol}
+use Rattle.um_syntax.specs.declared.vocabulary.Symbol.TheVariants as symbol
+use Rattle.um_expr.specs.declared.token.ExprToken.{ExprToken}
+use Rattle.um_expr.specs.declared.token.ExprToken.TheVariants.{Name as name, Variable as variable, Number as number, Truth as truth, Hole as hole, Operator as operator, Word as word, Mark as mark}
+use Rattle.um_expr.specs.ExprTokens.{expr_token, keyword_token, symbol_token}
 use Rattle.um_expr.specs.ExprGrammar.{FirstAt}
 use Rattle.um_parse.specs.DeclGrammar.{MoreFieldDecls, FieldDeclsSpell, DeclSpells, DeclsSpell, FieldDeclsFit, DeclFits, DeclsFit}
 use Rattle.um_readable.proofs.NameTokens.{IsNamed, AllNamed}
@@ -17,39 +22,29 @@ use Rattle.um_readable.proofs.DeclReading.{attribute_leaves, vars_leave, field_l
 
 abbrev is_name : ExprToken → Bool
 is_name (name x) = true
-is_name (variable x) = false
-is_name (number c) = false
-is_name (truth b) = false
-is_name hole = false
-is_name (operator sign) = false
-is_name (plain m) = false
+is_name _ = false
 
-abbrev any_name : List ExprToken → Bool
-any_name [] = false
-any_name (t ∷ ts) = is_name t || any_name ts
+word_no_name : (k : Keyword) → is_name (keyword_token k) ≡ false
+word_no_name keyword.True = refl
+word_no_name _ = refl
 
-neither : (a b : Bool) → (a || b) ≡ false → (a ≡ false) × (b ≡ false)
-neither true b e = absurd cc
-neither false b e = (refl, e)
+sign_no_name : (s : Symbol) → is_name (symbol_token s) ≡ false
+sign_no_name symbol.Less = refl
+sign_no_name _ = refl
 
-no_name_at : (ts : List ExprToken) (k : ℕ) → any_name ts ≡ false → is_name (slice_index_or ts k (plain mark.Other)) ≡ false
-no_name_at [] k e = refl
-no_name_at (t ∷ ts) zero e = (neither (is_name t) (any_name ts) e).0
-no_name_at (t ∷ ts) (suc k) e = no_name_at ts k (neither (is_name t) (any_name ts) e).1
-
-none_in : (ts : List ExprToken) (k : ℕ) (x : List ℕ) → any_name ts ≡ false → slice_index_or ts k (plain mark.Other) ≡ name x → ⊥
-none_in ts k x none e = let bad : true ≡ false = sym (ap is_name e) ∙ no_name_at ts k none in cc
+no_name : (t : ExprToken) (x : List ℕ) → is_name t ≡ false → t ≡ name x → ⊥
+no_name t x none e = let bad : true ≡ false = sym (ap is_name e) ∙ none in cc
 
 same_name : (x y : List ℕ) → name x ≡ name y → x ≡ y
 same_name x y e = cc
 
-name_of : (k : Kind) (x : List ℕ) → expr_token k ≡ name x → IsNamed k → IsNameText x
-name_of (kind.Name y) x e h = subst (λ w. IsNameText w) (same_name y x e) h
-name_of (kind.Var y) x e h = absurd cc
-name_of (kind.Number value digits one) x e h = absurd cc
-name_of (kind.Word k) x e h = absurd (none_in word_tokens k x refl e)
-name_of kind.Hole x e h = absurd cc
-name_of (kind.Sign k) x e h = absurd (none_in sign_tokens k x refl e)
+name_kind : (k : Kind) (x : List ℕ) → expr_token k ≡ name x → IsNamed k → IsNameBytes x
+name_kind (kind.Name y) x e h = subst (λ w. IsNameBytes w) (same_name y x e) h
+name_kind (kind.Var y) x e h = absurd cc
+name_kind (kind.Number value digits one) x e h = absurd cc
+name_kind (kind.Word k) x e h = absurd (no_name (keyword_token k) x (word_no_name k) e)
+name_kind kind.Hole x e h = absurd cc
+name_kind (kind.Sign k) x e h = absurd (no_name (symbol_token k) x (sign_no_name k) e)
 
 -- ---- the names of what is left
 
@@ -60,21 +55,21 @@ all_behind (t ∷ ts) rest h = all_behind ts rest h.1
 pub named_rest : (tokens rest : List Token) → Leaves tokens rest → AllNamed tokens → AllNamed rest
 named_rest tokens rest l h = all_behind l.0 rest (subst (λ w. AllNamed w) l.1 h)
 
-name_at : (x : List ℕ) (at : ℕ) (tokens rest : List Token) → FirstAt (name x) at tokens rest → AllNamed tokens → IsNameText x
-name_at x at tokens rest f h = name_of f.0.kind x f.1 (subst (λ w. AllNamed w) f.3 h).0
+name_at : (x : List ℕ) (at : ℕ) (tokens rest : List Token) → FirstAt (name x) at tokens rest → AllNamed tokens → IsNameBytes x
+name_at x at tokens rest f h = name_kind f.0.kind x f.1 (subst (λ w. AllNamed w) f.3 h).0
 
 -- ---- fields and declarations
 
 abbrev pub FieldsNamed : List FieldDeclSyntax → Type 0
 FieldsNamed [] = Unit {0}
-FieldsNamed (f ∷ fs) = IsNameText f.name × FieldsNamed fs
+FieldsNamed (f ∷ fs) = IsNameBytes f.name × FieldsNamed fs
 
 -- the names that a declaration declares
 abbrev pub DeclNamed : DeclSyntax → Type 0
-DeclNamed (base_syntax at x) = IsNameText x
-DeclNamed (short_syntax at x u) = IsNameText x
-DeclNamed (record_decl_syntax at x vs fs) = IsNameText x × FieldsNamed fs
-DeclNamed (function_syntax f) = IsNameText f.name
+DeclNamed (base_syntax at x) = IsNameBytes x
+DeclNamed (short_syntax at x u) = IsNameBytes x
+DeclNamed (record_decl_syntax at x vs fs) = IsNameBytes x × FieldsNamed fs
+DeclNamed (function_syntax f) = IsNameBytes f.name
 
 abbrev pub DeclsNamed : List DeclSyntax → Type 0
 DeclsNamed [] = Unit {0}

@@ -1,11 +1,11 @@
--- What the grammar reads of a list of tokens stands at its front: the rest is the end of the list.
+-- What the grammar reads of a list of tokens is its beginning: the rest is the end of the list.
 use Rattle.std.proofs.Common.{◌≡◌, ℕ, ◌+◌, ◌≤◌, List, [], ◌∷◌, ◌++◌, length, length-append, sym, ap, ◌∙◌, append_assoc, arith}
 use Rattle.um_syntax.specs.declared.token.Token.{Token}
 use Rattle.um_tree.specs.RawTree.{NoteSyntax, TypeSyntax, ExprSyntax}
 use Rattle.um_types.specs.TypeGrammar.{NoteSpells, NoteFits, TypeSpells, TypeFits}
 use Rattle.um_types.proofs.NoteComplete.{note_reaches}
 use Rattle.um_types.proofs.TypeComplete.{type_reaches}
-use Rattle.um_expr.specs.ExprTokens.{ExprToken}
+use Rattle.um_expr.specs.declared.token.ExprToken.{ExprToken}
 use Rattle.um_expr.specs.ExprGrammar.{First, FirstAt, FirstGlued, Spells, Fits}
 use Rattle.um_expr.proofs.ExprLaws.{expr_reaches}
 

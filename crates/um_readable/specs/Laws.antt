@@ -12,4 +12,6 @@ TokensAreWithin = (cs : List ℕ) (tokens : List Token) → HasTokens cs tokens 
 
 -- What is read from a text of at most 1,048,576 characters can be resolved.
 abbrev pub ReadProgramsAreReadable : Type 0
-ReadProgramsAreReadable = (cs : List ℕ) (tokens : List Token) (ds : List DeclSyntax) → HasTokens cs tokens → length cs ≤ 1048576 → IsRead tokens ds → IsReadable ds
+ReadProgramsAreReadable =
+    (cs : List ℕ) (tokens : List Token) (ds : List DeclSyntax)
+    → HasTokens cs tokens → length cs ≤ 1048576 → IsRead tokens ds → IsReadable ds

@@ -1,20 +1,19 @@
 -- What is found of expressions one after another: what is left when the first ones were looked at.
-use Rattle.std.proofs.Common.{◌≡◌, refl, sym, ap, subst, ◌∙◌, ℕ, zero, suc, ◌+◌, ◌<◌, ◌≤◌, List, [], ◌∷◌, ◌++◌, map, drop, length, get_or, Some, Result, Ok, Err, arith}
+use Rattle.std.proofs.Common.{◌≡◌, refl, sym, ap, subst, ◌∙◌, ℕ, zero, suc, ◌+◌, ◌<◌, ◌≤◌, List, [], ◌∷◌, ◌++◌, map, drop, length, get_or, Result, Ok, Err, arith}
 use Rattle.std.proofs.lemmas.List.{append_assoc, append-nil, map-append, drop_more}
-use Rattle.um_tree.specs.TypeTree.{ShapeTree, list_shape}
-use Rattle.um_tree.specs.ExprTree.{ExprTree, ExprTrees, none, more, expr_tree, in_order, bind, split}
+use Rattle.um_tree.specs.TypeTree.{ShapeTree}
+use Rattle.um_tree.specs.ExprTree.{ExprTrees, none, more, expr_tree, in_order}
 use Rattle.um_tree.specs.Shapes.{ShapeSignature}
 use Rattle.um_tree.specs.declared.expression.Expr.{Expr}
 use Rattle.um_shape.specs.LowNotes.{HasLowNotes, HaveLowNotes}
 use Rattle.um_shape.specs.RecordShapes.{RecordShape}
-use Rattle.um_shape.specs.FirstFault.{ShapeFault, then, found, all_found, at_node, item_of, of_arms}
+use Rattle.um_shape.specs.FirstFault.{ShapeFault, then, found, all_found}
 use Rattle.um_shape.specs.FlatShapes.{flat_shape, flat_shapes}
 use Rattle.um_shape.specs.declared.flat.FlatShape.{FlatShape}
 use Rattle.um_shape.specs.declared.stop.ShapeStop.{ShapeStop}
 use Rattle.um_shape.specs.declared.stop.ShapeStop.TheVariants as stop
-use Rattle.um_shape.specs.Stops.{StopsAs, IsFound}
+use Rattle.um_shape.specs.Stops.{StopsAs}
 use Rattle.um_shape.proofs.Stopping.{stops_first}
-use Rattle.um_shape.proofs.Sound.{item_is}
 
 -- the shapes found, with these before them
 abbrev pub after_these : List ShapeTree → Result (List ShapeTree) ShapeFault → Result (List ShapeTree) ShapeFault
@@ -82,22 +81,3 @@ module _ (records : List RecordShape) (callees : List ShapeSignature) (vars : Li
   pub left_last : (es : List Expr) (i : ℕ) (shapes scope : List FlatShape) → length es ≤ i → IsLeft records callees vars es i shapes scope → seen (in_order (map expr_tree es)) ≡ Ok (flat_shapes shapes)
   left_last es i shapes scope h l =
       l.whole ∙ ap (λ r. after_these (flat_shapes shapes) (seen r)) (from_end es i h) ∙ ap Ok (append-nil (flat_shapes shapes))
-
-  -- a variable, and the two of a list, come into scope
-  pub bind_found : (at : ℕ) (a b : ExprTree) (s t : FlatShape) (r : Result FlatShape ShapeStop) → found records callees (flat_shapes vars) a ≡ Ok (flat_shape s) → found records callees (flat_shapes (vars ++ s ∷ [])) b ≡ Ok (flat_shape t) → IsFound r (at_node records at (Some (flat_shape t))) → IsFound r (found records callees (flat_shapes vars) (bind at a b))
-  bind_found at a b s t r f g h =
-      let wider : flat_shapes (vars ++ s ∷ []) ≡ flat_shapes vars ++ flat_shape s ∷ [] = map-append flat_shape vars (s ∷ []) in
-      subst (IsFound r) (sym (ap (λ m. then m (λ s. then (found records callees (flat_shapes vars ++ s ∷ []) b) (λ t. at_node records at (Some t)))) f ∙ ap (λ m. then m (λ t. at_node records at (Some t))) (ap (λ vs. found records callees vs b) (sym wider) ∙ g))) h
-
-  pub split_found : (at : ℕ) (l a b : ExprTree) (list item s t : FlatShape) (r : Result FlatShape ShapeStop) → found records callees (flat_shapes vars) l ≡ Ok (flat_shape list) → item_of at (flat_shape list) ≡ Ok (flat_shape item) → found records callees (flat_shapes vars) a ≡ Ok (flat_shape s) → found records callees (flat_shapes (vars ++ item ∷ list ∷ [])) b ≡ Ok (flat_shape t) → IsFound r (at_node records at (of_arms (flat_shape s) (flat_shape t))) → IsFound r (found records callees (flat_shapes vars) (split at l a b))
-  split_found at l a b list item s t r e f g h w =
-      let wider : flat_shapes (vars ++ item ∷ list ∷ []) ≡ flat_shapes vars ++ flat_shape item ∷ flat_shape list ∷ [] = map-append flat_shape vars (item ∷ list ∷ []) in
-      let is_list : flat_shape list ≡ list_shape (flat_shape item) = item_is at (flat_shape list) (flat_shape item) f in
-      let last : found records callees (flat_shapes vars ++ flat_shape item ∷ list_shape (flat_shape item) ∷ []) b ≡ Ok (flat_shape t) =
-      ap (λ x. found records callees (flat_shapes vars ++ flat_shape item ∷ x ∷ []) b) (sym is_list) ∙ ap (λ vs. found records callees vs b) (sym wider) ∙ h in
-      subst
-      (IsFound r)
-      (sym (ap (λ m. then m (λ r. then (item_of at r) (λ i. arms i))) e ∙ ap (λ m. then m (λ i. arms i)) f ∙ ap (λ m. then m (λ s. then (found records callees (flat_shapes vars ++ flat_shape item ∷ list_shape (flat_shape item) ∷ []) b) (λ t. at_node records at (of_arms s t)))) g ∙ ap (λ m. then m (λ t. at_node records at (of_arms (flat_shape s) t))) last))
-      w where
-        arms : ShapeTree → Result ShapeTree ShapeFault
-        arms i = then (found records callees (flat_shapes vars) a) (λ s. then (found records callees (flat_shapes vars ++ i ∷ list_shape i ∷ []) b) (λ t. at_node records at (of_arms s t)))

@@ -10,3 +10,4 @@ pub mod NeverWrong
 pub mod Unique
 pub mod Complete
 pub mod Examples
+mod ExampleNodes

@@ -1,9 +1,13 @@
 -- The first shape fault of a program: the records in order, then the functions in order, each node after its parts.
 -- Source: this project's own; the shapes are those of um_tree's Shapes.
--- A recursion on trees: no list of work, nothing looked up that was found before but the shapes of variables and functions.
-use Rattle.std.specs.Prelude.{ℕ, Bool, true, false, cond, ◌&&◌, nat_eq, nat_le, List, [], ◌∷◌, ◌++◌, map, slice_get, Option, Some, None, Result, Ok, Err}
+-- A recursion on trees: no list of work, and nothing looked up that was found before but the shapes of variables and
+-- functions.
+use Rattle.std.specs.Prelude.{ℕ, Bool, true, false, cond, ◌&&◌, nat_eq, nat_le, List, [], ◌∷◌, ◌++◌, map, slice_get}
+use Rattle.std.specs.Prelude.{Option, Some, None, Result, Ok, Err}
 use Rattle.um_tree.specs.TypeTree.{ShapeTree, bool_shape, num_shape, list_shape, record_shape, NoteTree}
-use Rattle.um_tree.specs.ExprTree.{ExprTree, ExprTrees, truth, number, local, call, negate, not_expr, arith, compare, both, either, if, bind, split, nil, list_expr, cons, record_expr, field, none, more}
+use Rattle.um_tree.specs.ExprTree.{ExprTree, ExprTrees, truth, number, local, call, negate, not_expr, arith, compare}
+use Rattle.um_tree.specs.ExprTree.{both, either, if, bind, split, nil, list_expr, cons, record_expr, field, none}
+use Rattle.um_tree.specs.ExprTree.{more}
 use Rattle.um_tree.specs.ProgramTree.{RecordTree, FunctionTree, ProgramTree}
 use Rattle.um_tree.specs.Shapes.{note_shape, ShapeSignature}
 use Rattle.um_shape.specs.RecordShapes.{RecordShape, shape_height, tallest, declared_shape}
@@ -106,20 +110,32 @@ module _ (records : List RecordShape) (callees : List ShapeSignature) where
     found vars (number at c n) = at_node records at (Some num_shape)
     found vars (local at k) = at_node records at (slice_get vars k)
     found vars (call at j es) = then (all_found vars es) (λ ss. at_node records at (of_call (slice_get callees j) ss))
-    found vars (negate at a) = then (found vars a) (λ s. at_node records at (where_true (same_shape s num_shape) num_shape))
-    found vars (not_expr at a) = then (found vars a) (λ s. at_node records at (where_true (same_shape s bool_shape) bool_shape))
-    found vars (arith at op a b) = then (found vars a) (λ s. then (found vars b) (λ t. at_node records at (of_numbers s t num_shape)))
-    found vars (compare at sign a b) = then (found vars a) (λ s. then (found vars b) (λ t. at_node records at (of_numbers s t bool_shape)))
-    found vars (both at a b) = then (found vars a) (λ s. then (found vars b) (λ t. at_node records at (of_truths s t)))
-    found vars (either at a b) = then (found vars a) (λ s. then (found vars b) (λ t. at_node records at (of_truths s t)))
-    found vars (if at c a b) = then (found vars c) (λ r. then (found vars a) (λ s. then (found vars b) (λ t. at_node records at (of_condition r s t))))
-    found vars (bind at a b) = then (found vars a) (λ s. then (found (vars ++ s ∷ []) b) (λ t. at_node records at (Some t)))
+    found vars (negate at a) =
+        then (found vars a) (λ s. at_node records at (where_true (same_shape s num_shape) num_shape))
+    found vars (not_expr at a) =
+        then (found vars a) (λ s. at_node records at (where_true (same_shape s bool_shape) bool_shape))
+    found vars (arith at op a b) =
+        then (found vars a) (λ s. then (found vars b) (λ t. at_node records at (of_numbers s t num_shape)))
+    found vars (compare at sign a b) =
+        then (found vars a) (λ s. then (found vars b) (λ t. at_node records at (of_numbers s t bool_shape)))
+    found vars (both at a b) =
+        then (found vars a) (λ s. then (found vars b) (λ t. at_node records at (of_truths s t)))
+    found vars (either at a b) =
+        then (found vars a) (λ s. then (found vars b) (λ t. at_node records at (of_truths s t)))
+    found vars (if at c a b) =
+        then (found vars c) (λ r. then (found vars a) (λ s. then (found vars b)
+        (λ t. at_node records at (of_condition r s t))))
+    found vars (bind at a b) =
+        then (found vars a) (λ s. then (found (vars ++ s ∷ []) b) (λ t. at_node records at (Some t)))
     -- a part that is no list is a fault before the arms are looked at
-    found vars (split at l a b) = then (found vars l) (λ r. then (item_of at r) (λ item. then (found vars a) (λ s. then (found (vars ++ item ∷ list_shape item ∷ []) b) (λ t. at_node records at (of_arms s t)))))
+    found vars (split at l a b) =
+        then (found vars l) (λ r. then (item_of at r) (λ item. then (found vars a) (λ s.
+        then (found (vars ++ item ∷ list_shape item ∷ []) b) (λ t. at_node records at (of_arms s t)))))
     found vars (nil at n) = at_node records at (of_list (note_shape n))
     found vars (list_expr at es) = then (all_found vars es) (λ ss. at_node records at (of_items ss))
     found vars (cons at a b) = then (found vars a) (λ s. then (found vars b) (λ t. at_node records at (of_head s t)))
-    found vars (record_expr at r es) = then (all_found vars es) (λ ss. at_node records at (of_record (slice_get records r) r ss))
+    found vars (record_expr at r es) =
+        then (all_found vars es) (λ ss. at_node records at (of_record (slice_get records r) r ss))
     found vars (field at r k a) = then (found vars a) (λ s. at_node records at (of_field (slice_get records r) r k s))
 
     -- expression by expression
@@ -147,16 +163,22 @@ abbrev pub function_found : List RecordShape → List ShapeSignature → Functio
 function_found records known f =
     cond
     (nat_le (tallest records (map note_shape f.params)) 400)
-    (then (found records (known ++ own_shapes f) (map note_shape f.params) f.body) (λ s. cond (fits_result f.result s) (Ok (record { params = map note_shape f.params; result = s })) (Err (wrong_shape f.at))))
+    (then (found records (known ++ own_shapes f) (map note_shape f.params) f.body) (λ s.
+    cond (fits_result f.result s)
+    (Ok (record { params = map note_shape f.params; result = s }))
+    (Err (wrong_shape f.at))))
     (Err (too_deep f.at))
 
-abbrev pub functions_found : List RecordShape → List ShapeSignature → List FunctionTree → Result (List ShapeSignature) ShapeFault
+abbrev pub functions_found :
+    List RecordShape → List ShapeSignature → List FunctionTree → Result (List ShapeSignature) ShapeFault
 functions_found records known [] = Ok known
-functions_found records known (f ∷ fs) = then (function_found records known f) (λ g. functions_found records (known ++ g ∷ []) fs)
+functions_found records known (f ∷ fs) =
+    then (function_found records known f) (λ g. functions_found records (known ++ g ∷ []) fs)
 
 -- a record is no taller than 400
 abbrev pub record_found : List RecordShape → RecordTree → Result RecordShape ShapeFault
-record_found earlier d = cond (nat_le (declared_shape earlier d).height 400) (Ok (declared_shape earlier d)) (Err (too_deep d.at))
+record_found earlier d =
+    cond (nat_le (declared_shape earlier d).height 400) (Ok (declared_shape earlier d)) (Err (too_deep d.at))
 
 abbrev pub records_found : List RecordShape → List RecordTree → Result (List RecordShape) ShapeFault
 records_found earlier [] = Ok earlier

@@ -1,10 +1,12 @@
--- Each type and each note is at most 400 high, as in each formed program.
+-- Each type and each note is at most 400 high, as in each formed program: what the code's functions ask for.
 -- Source: this project's own limits.
 use Rattle.std.specs.Prelude.{◌≤◌, All, Option, Some, None}
 use Rattle.um_tree.specs.TypeTree.{NoteTree}
 use Rattle.um_tree.specs.ProgramTree.{RecordTree, FunctionTree}
 use Rattle.um_tree.specs.TreeHeights.{type_tree_height, note_tree_height}
-use Rattle.um_tree.specs.ExprTree.{ExprTree, ExprTrees, truth, number, local, call, negate, not_expr, arith, compare, both, either, if, bind, split, nil, list_expr, cons, record_expr, field, none, more}
+use Rattle.um_tree.specs.ExprTree.{ExprTree, ExprTrees, truth, number, local, call, negate, not_expr, arith, compare}
+use Rattle.um_tree.specs.ExprTree.{both, either, if, bind, split, nil, list_expr, cons, record_expr, field, none}
+use Rattle.um_tree.specs.ExprTree.{more}
 
 abbrev mutual
   pub HasLowNotes : ExprTree → Type 0

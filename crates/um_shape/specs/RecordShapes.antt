@@ -29,4 +29,7 @@ tallest records (s ∷ ss) = max (shape_height records s) (tallest records ss)
 
 -- a record whose fields name these earlier ones
 abbrev pub declared_shape : List RecordShape → RecordTree → RecordShape
-declared_shape earlier d = record { fields = map type_shape (field_types d); height = tallest earlier (map type_shape (field_types d)) + 1 }
+declared_shape earlier d = record {
+  fields = map type_shape (field_types d);
+  height = tallest earlier (map type_shape (field_types d)) + 1;
+}

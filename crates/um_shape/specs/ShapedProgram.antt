@@ -1,4 +1,5 @@
--- What a shaped program promises: the program that it holds has no fault, and the shapes that it gives are its functions'.
+-- What a shaped program promises: the program that it holds has no fault, and the shapes that it gives are its
+-- functions'.
 -- Source: this project's own.
 use Rattle.std.specs.Prelude.{◌≡◌, ◌<◌, ◌≤◌, ℕ, List, [], length, map, slice_get, Option, Some, Ok}
 use Rattle.um_tree.specs.TypeTree.{ShapeTree}
@@ -21,12 +22,16 @@ HasParam p i k = (f : FunctionTree) × (slice_get p.functions i ≡ Some f) × (
 
 -- the shape of this parameter of function i
 abbrev pub IsParamShape : ProgramTree → ℕ → ℕ → ShapeTree → Type 0
-IsParamShape p i k s = (f : FunctionTree) → slice_get p.functions i ≡ Some f → slice_get (map note_shape f.params) k ≡ Some s
+IsParamShape p i k s =
+    (f : FunctionTree) → slice_get p.functions i ≡ Some f → slice_get (map note_shape f.params) k ≡ Some s
 
 -- function i has its parameters' shapes and this shape of its result
 abbrev pub IsResultShape : ProgramTree → ℕ → ShapeTree → Type 0
-IsResultShape p i s = (f : FunctionTree) → slice_get p.functions i ≡ Some f → FunctionShape p i (record { params = map note_shape f.params; result = s })
+IsResultShape p i s =
+    (f : FunctionTree) → slice_get p.functions i ≡ Some f →
+    FunctionShape p i (record { params = map note_shape f.params; result = s })
 
 -- the shape is no taller than 400, through the fields of the program's records
 abbrev pub IsLowShape : ProgramTree → ShapeTree → Type 0
-IsLowShape p s = (records : List RecordShape) × (records_found [] p.records ≡ Ok records) × (shape_height records s ≤ 400)
+IsLowShape p s =
+    (records : List RecordShape) × (records_found [] p.records ≡ Ok records) × (shape_height records s ≤ 400)

@@ -1,4 +1,4 @@
--- The shapes of functions that the code keeps as trees.
+-- The shapes of functions that the code keeps as trees. This mirrors the code.
 -- Source: this project's own.
 use Rattle.std.specs.Prelude.{List, map}
 use Rattle.um_tree.specs.TypeTree.{shape_tree}

@@ -1,4 +1,5 @@
--- What the calls answer, against the first fault.
+-- What the code's functions answer, against the first fault. This mirrors the code; the public answer is in
+-- ShapedProgram.
 -- Source: this project's own; want of memory may come in place of every answer.
 use Rattle.std.specs.Prelude.{◌≡◌, List, Result, Ok, Err, MatchResult}
 use Rattle.um_tree.specs.TypeTree.{ShapeTree}
@@ -18,5 +19,6 @@ StopsAs m stop.NoMemory = Unit {0}
 abbrev pub IsFound : Result FlatShape ShapeStop → Result ShapeTree ShapeFault → Type 0
 IsFound r m = MatchResult r (λ s. m ≡ Ok (flat_shape s)) (StopsAs m)
 
-abbrev pub AreFound : {A : Type 0} → (A → List ShapeTree) → Result A ShapeStop → Result (List ShapeTree) ShapeFault → Type 0
+abbrev pub AreFound :
+    {A : Type 0} → (A → List ShapeTree) → Result A ShapeStop → Result (List ShapeTree) ShapeFault → Type 0
 AreFound view r m = MatchResult r (λ ss. m ≡ Ok (view ss)) (StopsAs m)

@@ -1,9 +1,9 @@
 //! The shape of an expression, or its first fault.
 ghost use Rattle.std.specs.Prelude.{◌≡◌, IfOk, map};
-ghost use Rattle.um_tree.specs.ExprTree.{expr_tree, in_order};
+ghost use Rattle.um_tree.specs.ExprTree.{expr_tree, in_order, both, if, bind, split, cons};
 ghost use Rattle.um_shape.specs.LowNotes.{HasLowNotes, HaveLowNotes};
-ghost use Rattle.um_shape.specs.FirstFault.{found, all_found};
-ghost use Rattle.um_shape.specs.FlatShapes.{flat_shapes, known_records, heads_shapes};
+ghost use Rattle.um_shape.specs.FirstFault.{same_shape, where_true, of_numbers, at_node, then};
+ghost use Rattle.um_shape.specs.FlatShapes.{flat_shape, flat_shapes, known_records, known_found, all_known_found};
 ghost use Rattle.um_shape.specs.Stops.{IsFound, AreFound};
 
 use crate::ShapeStop;
@@ -27,7 +27,7 @@ pub(crate) fn shape_of(
     e: &Expr,
 ) -> Result<FlatShape, ShapeStop>
     requires low { HasLowNotes (expr_tree e.now) }
-    ensures found { IsFound result (found (known_records known.now.records.items) (heads_shapes known.now.heads.items) (flat_shapes scope.old.items) (expr_tree e.now)) }
+    ensures found { IsFound result (known_found known.now scope.old.items (expr_tree e.now)) }
     ensures scope { IfOk result (λ _. scope.new.items ≡ scope.old.items) }
 {
     let at = e.at;
@@ -52,59 +52,171 @@ pub(crate) fn shape_of(
             let part = shape_of(alloc, known, scope, a)?;
             known.at_node(at, known.field(*r, *k, part))
         }
-        Node::Neg(a) => {
-            let part = shape_of(alloc, known, scope, a)?;
-            known.at_node(at, itself(part, FlatShape::number()))
-        }
-        Node::Not(a) => {
-            let part = shape_of(alloc, known, scope, a)?;
-            known.at_node(at, itself(part, FlatShape::truth()))
-        }
-        Node::Arith(_, a, b) => {
-            let left = shape_of(alloc, known, scope, a)?;
-            let right = shape_of(alloc, known, scope, b)?;
-            known.at_node(at, of_numbers(left, right, FlatShape::number()))
-        }
-        Node::Compare(_, a, b) => {
-            let left = shape_of(alloc, known, scope, a)?;
-            let right = shape_of(alloc, known, scope, b)?;
-            known.at_node(at, of_numbers(left, right, FlatShape::truth()))
-        }
-        Node::And(a, b) | Node::Or(a, b) => {
-            let left = shape_of(alloc, known, scope, a)?;
-            let right = shape_of(alloc, known, scope, b)?;
-            known.at_node(at, of_truths(left, right))
-        }
-        Node::Cons(a, b) => {
-            let head = shape_of(alloc, known, scope, a)?;
-            let tail = shape_of(alloc, known, scope, b)?;
-            known.at_node(at, of_head(head, tail))
-        }
-        Node::If(c, a, b) => {
-            let condition = shape_of(alloc, known, scope, c)?;
-            let first = shape_of(alloc, known, scope, a)?;
-            let second = shape_of(alloc, known, scope, b)?;
-            known.at_node(at, of_condition(condition, first, second))
-        }
-        Node::Let(a, b) => {
-            let bound = shape_of(alloc, known, scope, a)?;
-            scope.push(bound)?;
-            let whole = shape_of(alloc, known, scope, b)?;
-            scope.pop();
-            known.at_node(at, Some(whole))
-        }
-        Node::Match(l, a, b) => {
-            let list = shape_of(alloc, known, scope, l)?;
-            let item = item_of(at, list)?;
-            let empty = shape_of(alloc, known, scope, a)?;
-            scope.push(item)?;
-            scope.push(list)?;
-            let full = shape_of(alloc, known, scope, b)?;
-            scope.pop();
-            scope.pop();
-            known.at_node(at, of_arms(empty, full))
-        }
+        Node::Neg(a) => asked_shape(alloc, known, scope, at, a, FlatShape::number()),
+        Node::Not(a) => asked_shape(alloc, known, scope, at, a, FlatShape::truth()),
+        Node::Arith(_, a, b) => numbers_shape(alloc, known, scope, at, a, b, FlatShape::number()),
+        Node::Compare(_, a, b) => numbers_shape(alloc, known, scope, at, a, b, FlatShape::truth()),
+        Node::And(a, b) | Node::Or(a, b) => truths_shape(alloc, known, scope, at, a, b),
+        Node::Cons(a, b) => cons_shape(alloc, known, scope, at, a, b),
+        Node::If(c, a, b) => if_shape(alloc, known, scope, at, c, a, b),
+        Node::Let(a, b) => let_shape(alloc, known, scope, at, a, b),
+        Node::Match(l, a, b) => match_shape(alloc, known, scope, at, l, a, b),
     }
+}
+
+/// The shape that is asked for of the part, at a node at this place.
+#[cycle(body)]
+fn asked_shape(
+    alloc: Global,
+    known: &Known,
+    scope: &mut Vec<FlatShape>,
+    at: u32,
+    a: &Expr,
+    asked: FlatShape,
+) -> Result<FlatShape, ShapeStop>
+    requires low { HasLowNotes (expr_tree a.now) }
+    ensures found { IsFound result
+        (then (known_found known.now scope.old.items (expr_tree a.now))
+        (λ s. at_node (known_records known.now.records.items) at
+        (where_true (same_shape s (flat_shape asked)) (flat_shape asked)))) }
+    ensures scope { IfOk result (λ _. scope.new.items ≡ scope.old.items) }
+{
+    let part = shape_of(alloc, known, scope, a)?;
+    known.at_node(at, itself(part, asked))
+}
+
+/// The whole of two numbers.
+#[cycle(body)]
+fn numbers_shape(
+    alloc: Global,
+    known: &Known,
+    scope: &mut Vec<FlatShape>,
+    at: u32,
+    a: &Expr,
+    b: &Expr,
+    whole: FlatShape,
+) -> Result<FlatShape, ShapeStop>
+    requires low { HasLowNotes (expr_tree a.now) × HasLowNotes (expr_tree b.now) }
+    ensures found { IsFound result
+        (then (known_found known.now scope.old.items (expr_tree a.now))
+        (λ s. then (known_found known.now scope.old.items (expr_tree b.now))
+        (λ t. at_node (known_records known.now.records.items) at (of_numbers s t (flat_shape whole))))) }
+    ensures scope { IfOk result (λ _. scope.new.items ≡ scope.old.items) }
+{
+    let left = shape_of(alloc, known, scope, a)?;
+    let right = shape_of(alloc, known, scope, b)?;
+    known.at_node(at, of_numbers(left, right, whole))
+}
+
+/// The shape of `&&` and of `||`.
+#[cycle(body)]
+fn truths_shape(
+    alloc: Global,
+    known: &Known,
+    scope: &mut Vec<FlatShape>,
+    at: u32,
+    a: &Expr,
+    b: &Expr,
+) -> Result<FlatShape, ShapeStop>
+    requires low { HasLowNotes (expr_tree a.now) × HasLowNotes (expr_tree b.now) }
+    ensures found { IsFound result
+        (known_found known.now scope.old.items (both at (expr_tree a.now) (expr_tree b.now))) }
+    ensures scope { IfOk result (λ _. scope.new.items ≡ scope.old.items) }
+{
+    let left = shape_of(alloc, known, scope, a)?;
+    let right = shape_of(alloc, known, scope, b)?;
+    known.at_node(at, of_truths(left, right))
+}
+
+/// The shape of `::`.
+#[cycle(body)]
+fn cons_shape(
+    alloc: Global,
+    known: &Known,
+    scope: &mut Vec<FlatShape>,
+    at: u32,
+    a: &Expr,
+    b: &Expr,
+) -> Result<FlatShape, ShapeStop>
+    requires low { HasLowNotes (expr_tree a.now) × HasLowNotes (expr_tree b.now) }
+    ensures found { IsFound result
+        (known_found known.now scope.old.items (cons at (expr_tree a.now) (expr_tree b.now))) }
+    ensures scope { IfOk result (λ _. scope.new.items ≡ scope.old.items) }
+{
+    let head = shape_of(alloc, known, scope, a)?;
+    let tail = shape_of(alloc, known, scope, b)?;
+    known.at_node(at, of_head(head, tail))
+}
+
+/// The shape of a condition and its arms.
+#[cycle(body)]
+fn if_shape(
+    alloc: Global,
+    known: &Known,
+    scope: &mut Vec<FlatShape>,
+    at: u32,
+    c: &Expr,
+    a: &Expr,
+    b: &Expr,
+) -> Result<FlatShape, ShapeStop>
+    requires low { HasLowNotes (expr_tree c.now) × HasLowNotes (expr_tree a.now) × HasLowNotes (expr_tree b.now) }
+    ensures found { IsFound result
+        (known_found known.now scope.old.items (if at (expr_tree c.now) (expr_tree a.now) (expr_tree b.now))) }
+    ensures scope { IfOk result (λ _. scope.new.items ≡ scope.old.items) }
+{
+    let condition = shape_of(alloc, known, scope, c)?;
+    let first = shape_of(alloc, known, scope, a)?;
+    let second = shape_of(alloc, known, scope, b)?;
+    known.at_node(at, of_condition(condition, first, second))
+}
+
+/// The shape of `let`: the second part has one more variable.
+#[cycle(body)]
+fn let_shape(
+    alloc: Global,
+    known: &Known,
+    scope: &mut Vec<FlatShape>,
+    at: u32,
+    a: &Expr,
+    b: &Expr,
+) -> Result<FlatShape, ShapeStop>
+    requires low { HasLowNotes (expr_tree a.now) × HasLowNotes (expr_tree b.now) }
+    ensures found { IsFound result
+        (known_found known.now scope.old.items (bind at (expr_tree a.now) (expr_tree b.now))) }
+    ensures scope { IfOk result (λ _. scope.new.items ≡ scope.old.items) }
+{
+    let bound = shape_of(alloc, known, scope, a)?;
+    scope.push(bound)?;
+    let whole = shape_of(alloc, known, scope, b)?;
+    scope.pop();
+    known.at_node(at, Some(whole))
+}
+
+/// The shape of `match` on a list: the last part has two more variables, head and tail.
+#[cycle(body)]
+fn match_shape(
+    alloc: Global,
+    known: &Known,
+    scope: &mut Vec<FlatShape>,
+    at: u32,
+    l: &Expr,
+    a: &Expr,
+    b: &Expr,
+) -> Result<FlatShape, ShapeStop>
+    requires low { HasLowNotes (expr_tree l.now) × HasLowNotes (expr_tree a.now) × HasLowNotes (expr_tree b.now) }
+    ensures found { IsFound result
+        (known_found known.now scope.old.items (split at (expr_tree l.now) (expr_tree a.now) (expr_tree b.now))) }
+    ensures scope { IfOk result (λ _. scope.new.items ≡ scope.old.items) }
+{
+    let list = shape_of(alloc, known, scope, l)?;
+    let item = item_of(at, list)?;
+    let empty = shape_of(alloc, known, scope, a)?;
+    scope.push(item)?;
+    scope.push(list)?;
+    let full = shape_of(alloc, known, scope, b)?;
+    scope.pop();
+    scope.pop();
+    known.at_node(at, of_arms(empty, full))
 }
 
 /// The shapes of expressions one after another, or their first fault.
@@ -116,7 +228,8 @@ fn shapes_of(
     parts: &[Expr],
 ) -> Result<Vec<FlatShape>, ShapeStop>
     requires low { HaveLowNotes (in_order (map expr_tree parts.now)) }
-    ensures found { AreFound (λ shapes. flat_shapes shapes.items) result (all_found (known_records known.now.records.items) (heads_shapes known.now.heads.items) (flat_shapes scope.old.items) (in_order (map expr_tree parts.now))) }
+    ensures found { AreFound (λ shapes. flat_shapes shapes.items) result
+        (all_known_found known.now scope.old.items (in_order (map expr_tree parts.now))) }
     ensures scope { IfOk result (λ _. scope.new.items ≡ scope.old.items) }
 {
     let mut shapes = Vec::new(alloc);

@@ -6,7 +6,7 @@ use um_tree::{Note, Shape, Ty};
 use um_units::NoMemory;
 
 /// What stands in the innermost list.
-#[derive(Clone, Copy, Debug)]
+#[derive(Clone, Copy)]
 pub(crate) enum Item {
     Bool,
     Num,
@@ -31,7 +31,7 @@ impl Item {
 }
 
 /// A shape: so many lists round an item. A shape that is kept has fewer than 400 lists.
-#[derive(Clone, Copy, Debug)]
+#[derive(Clone, Copy)]
 pub(crate) struct FlatShape {
     pub(crate) lists: u32,
     pub(crate) item: Item,
@@ -39,7 +39,8 @@ pub(crate) struct FlatShape {
 }
 
 impl FlatShape {
-    ghost use Rattle.um_tree.specs.TypeTree.{note_tree, type_tree, shape_tree, bool_shape, num_shape, list_shape, record_shape};
+    ghost use Rattle.um_tree.specs.TypeTree.{note_tree, type_tree, shape_tree};
+    ghost use Rattle.um_tree.specs.TypeTree.{bool_shape, num_shape, list_shape, record_shape};
     ghost use Rattle.um_tree.specs.TreeHeights.{note_tree_height, type_tree_height};
     ghost use Rattle.um_tree.specs.Shapes.{note_shape, type_shape};
     ghost use Rattle.um_shape.specs.FirstFault.{same_shape};

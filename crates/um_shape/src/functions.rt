@@ -7,8 +7,9 @@ ghost use Rattle.um_tree.specs.ExprTree.{expr_tree};
 ghost use Rattle.um_tree.specs.ProgramTree.{function_tree, result_tree};
 ghost use Rattle.um_tree.specs.Shapes.{note_shape};
 ghost use Rattle.um_shape.specs.LowNotes.{HasLowResult, IsLow};
-ghost use Rattle.um_shape.specs.FirstFault.{found, own_shapes, fits_result, function_found, functions_found};
+ghost use Rattle.um_shape.specs.FirstFault.{found, own_shapes, fits_result};
 ghost use Rattle.um_shape.specs.FlatShapes.{flat_shape, flat_shapes, known_records, head_shapes, heads_shapes};
+ghost use Rattle.um_shape.specs.FlatShapes.{known_function_found, known_functions_found};
 ghost use Rattle.um_shape.specs.Stops.{IsFound, StopsAs};
 
 use crate::ShapeStop;
@@ -28,9 +29,8 @@ pub(crate) fn add_heads(
     functions: &[Function],
 ) -> Result<(), ShapeStop>
     requires low { All (λ f. IsLow (function_tree f)) functions.now }
-    ensures { MatchResult result
-        (λ _. functions_found (known_records known.old.records.items) (heads_shapes known.old.heads.items) (map function_tree functions.now) ≡ Ok (heads_shapes known.new.heads.items))
-        (StopsAs (functions_found (known_records known.old.records.items) (heads_shapes known.old.heads.items) (map function_tree functions.now))) }
+    ensures { let found = known_functions_found known.old (map function_tree functions.now) in MatchResult result
+        (λ _. found ≡ Ok (heads_shapes known.new.heads.items)) (StopsAs found) }
 {
     for i in 0..functions.len() {
         let head = head_of(alloc, known, &functions[i])?;
@@ -42,9 +42,8 @@ pub(crate) fn add_heads(
 /// The shapes of a function, or its first fault.
 fn head_of(alloc: Global, known: &mut Known, function: &Function) -> Result<Head, ShapeStop>
     requires low { IsLow (function_tree function.now) }
-    ensures found { MatchResult result
-        (λ head. function_found (known_records known.old.records.items) (heads_shapes known.old.heads.items) (function_tree function.now) ≡ Ok (head_shapes head))
-        (StopsAs (function_found (known_records known.old.records.items) (heads_shapes known.old.heads.items) (function_tree function.now))) }
+    ensures found { let found = known_function_found known.old (function_tree function.now) in MatchResult result
+        (λ head. found ≡ Ok (head_shapes head)) (StopsAs found) }
     ensures records { IfOk result (λ _. known.new.records.items ≡ known.old.records.items) }
     ensures heads { IfOk result (λ _. known.new.heads.items ≡ known.old.heads.items) }
 {
@@ -68,7 +67,10 @@ fn body_shape(
 ) -> Result<FlatShape, ShapeStop>
     requires low { IsLow (function_tree function.now) }
     requires params { flat_shapes params.now ≡ map note_shape (function_tree function.now).params }
-    ensures found { IsFound result (found (known_records known.old.records.items) (heads_shapes known.old.heads.items ++ own_shapes (function_tree function.now)) (flat_shapes params.now) (expr_tree function.now.body)) }
+    ensures found { IsFound result
+        (found (known_records known.old.records.items)
+        (heads_shapes known.old.heads.items ++ own_shapes (function_tree function.now))
+        (flat_shapes params.now) (expr_tree function.now.body)) }
     ensures records { IfOk result (λ _. known.new.records.items ≡ known.old.records.items) }
     ensures heads { IfOk result (λ _. known.new.heads.items ≡ known.old.heads.items) }
 {

@@ -14,8 +14,6 @@ mod rules;
 mod shaped;
 mod signature;
 mod stop;
-#[cfg(test)]
-mod tests;
 mod whole;
 
 pub use laws::{calls_of_shaped_functions, shapes_of_programs};

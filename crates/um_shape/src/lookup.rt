@@ -81,7 +81,8 @@ impl Known {
 
     /// What is found at a list of these items.
     pub(crate) fn at_list(&self, at: u32, items: &[FlatShape]) -> Result<FlatShape, ShapeStop>
-        ensures { IsFound result (at_node (known_records self.now.records.items) at (of_items (flat_shapes items.now))) }
+        ensures { IsFound result
+            (at_node (known_records self.now.records.items) at (of_items (flat_shapes items.now))) }
     {
         let Some((first, rest)) = items.split_first() else {
             return Err(ShapeStop::Shape { at });
@@ -100,7 +101,8 @@ impl Known {
 
     /// The result of a call of function `f` at these arguments.
     pub(crate) fn call(&self, f: u32, arguments: &[FlatShape]) -> Option<FlatShape>
-        ensures { option_map flat_shape result ≡ of_call (slice_get (heads_shapes self.now.heads.items) f) (flat_shapes arguments.now) }
+        ensures { option_map flat_shape result
+            ≡ of_call (slice_get (heads_shapes self.now.heads.items) f) (flat_shapes arguments.now) }
     {
         let head = self.heads.get(f as usize)?;
         same_each(arguments, &head.params).then_some(head.result)
@@ -108,7 +110,8 @@ impl Known {
 
     /// A value of record `r` with these parts.
     pub(crate) fn record(&self, r: u32, parts: &[FlatShape]) -> Option<FlatShape>
-        ensures { option_map flat_shape result ≡ of_record (slice_get (known_records self.now.records.items) r) r (flat_shapes parts.now) }
+        ensures { option_map flat_shape result
+            ≡ of_record (slice_get (known_records self.now.records.items) r) r (flat_shapes parts.now) }
     {
         let record = self.records.get(r as usize)?;
         same_each(parts, &record.fields).then_some(FlatShape::record(r))
@@ -116,7 +119,8 @@ impl Known {
 
     /// Field `k` of a part that is of record `r`.
     pub(crate) fn field(&self, r: u32, k: u32, part: FlatShape) -> Option<FlatShape>
-        ensures { option_map flat_shape result ≡ of_field (slice_get (known_records self.now.records.items) r) r k (flat_shape part) }
+        ensures { option_map flat_shape result
+            ≡ of_field (slice_get (known_records self.now.records.items) r) r k (flat_shape part) }
     {
         let record = self.records.get(r as usize)?;
         if !part.same(FlatShape::record(r)) {

@@ -24,7 +24,8 @@ pub(crate) fn known_records(
     records: &[Record],
 ) -> Result<Vec<KnownRecord>, ShapeStop>
     requires low { All (λ r. HasLowFields (record_tree r)) records.now }
-    ensures { MatchResult result (λ known. records_found [] (map record_tree records.now) ≡ Ok (known_records known.items)) (StopsAs (records_found [] (map record_tree records.now))) }
+    ensures { let found = records_found [] (map record_tree records.now) in MatchResult result
+        (λ known. found ≡ Ok (known_records known.items)) (StopsAs found) }
 {
     let mut known = Vec::new(alloc);
     for i in 0..records.len() {
@@ -40,7 +41,8 @@ fn known_record(
     declared: &Record,
 ) -> Result<KnownRecord, ShapeStop>
     requires low { HasLowFields (record_tree declared.now) }
-    ensures { MatchResult result (λ r. record_found (known_records earlier.now) (record_tree declared.now) ≡ Ok (known_record r)) (StopsAs (record_found (known_records earlier.now) (record_tree declared.now))) }
+    ensures { let found = record_found (known_records earlier.now) (record_tree declared.now) in MatchResult result
+        (λ r. found ≡ Ok (known_record r)) (StopsAs found) }
 {
     let fields = field_shapes(alloc, &declared.fields.items)?;
     let top = tallest(earlier, &fields);

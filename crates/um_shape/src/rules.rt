@@ -1,7 +1,8 @@
 //! The shape of a node from those of its parts, where its rule gives one.
 ghost use Rattle.std.specs.Prelude.{◌≡◌};
 ghost use Rattle.std.specs.Option.{option_map};
-ghost use Rattle.um_shape.specs.FirstFault.{same_shape, where_true, of_numbers, of_truths, of_arms, of_condition, of_list, of_head, item_of};
+ghost use Rattle.um_shape.specs.FirstFault.{same_shape, where_true, of_numbers, of_truths, of_arms, of_condition};
+ghost use Rattle.um_shape.specs.FirstFault.{of_list, of_head, item_of};
 ghost use Rattle.um_shape.specs.FlatShapes.{flat_shape};
 ghost use Rattle.um_shape.specs.Stops.{IsFound};
 ghost use Rattle.um_tree.specs.TypeTree.{bool_shape};
@@ -11,7 +12,8 @@ use crate::flat::FlatShape;
 
 /// The shape itself, where a part of this shape is asked for.
 pub(crate) fn itself(part: FlatShape, asked: FlatShape) -> Option<FlatShape>
-    ensures { option_map flat_shape result ≡ where_true (same_shape (flat_shape part) (flat_shape asked)) (flat_shape asked) }
+    ensures { option_map flat_shape result
+        ≡ where_true (same_shape (flat_shape part) (flat_shape asked)) (flat_shape asked) }
 {
     part.same(asked).then_some(asked)
 }

@@ -26,7 +26,8 @@ impl Model for Shaped {
 
     ghost view = { λ shaped. shaped.program };
 
-    ghost invariant = { λ shaped. IsFormed (program_tree shaped.program) × (program_found (program_tree shaped.program) ≡ Ok (signatures_shapes shaped.signatures.items)) };
+    ghost invariant = { λ shaped. IsFormed (program_tree shaped.program)
+        × (program_found (program_tree shaped.program) ≡ Ok (signatures_shapes shaped.signatures.items)) };
 }
 
 impl Shaped {

@@ -17,12 +17,12 @@ use um_tree::Program;
 
 /// The program with its shapes, or its first fault.
 ///
-/// The records are looked at in order: Depth comes at the first one that is taller than 400. Then the functions are looked
-/// at in order, each node after its parts from left to right. Depth comes at a function's name where a parameter's shape
-/// is taller than 400, Shape at the first node whose parts haven't the shapes that it asks for, and Depth at the first
-/// node whose own shape is taller than 400; at one node Shape is looked at first, and a `match` on what is no list is
-/// refused before its arms. Shape comes at a function's name where the note of its result isn't of its body's shape.
-/// A refusal hands nothing back. The rules are this project's own.
+/// The records are looked at in order: Depth comes at the first one that is taller than 400. Then the functions are
+/// looked at in order, each node after its parts from left to right. Depth comes at a function's name where a
+/// parameter's shape is taller than 400, Shape at the first node whose parts haven't the shapes that it asks for, and
+/// Depth at the first node whose own shape is taller than 400; at one node Shape is looked at first, and a `match` on
+/// what is no list is refused before its arms. Shape comes at a function's name where the note of its result isn't of
+/// its body's shape. A refusal hands nothing back. The rules are this project's own.
 pub fn shape(alloc: Global, program: Program) -> Result<Shaped, ShapeStop>
     requires formed { IsFormed (program_tree program) }
     ensures program { IfOk result (λ shaped. shaped ≡ program) }

@@ -1,11 +1,13 @@
 -- Pieces that may stand one behind the other, so that each is a token of its own, or white space.
 use Rattle.std.proofs.Common.{◌≡◌, ℕ, ◌<◌, ◌≤◌, Bool, true, false, ◌==◌, ◌||◌, ◌&&◌, not, List, [], ◌∷◌, ◌++◌, length, append_assoc, sym, subst}
-use Rattle.std.specs.Prelude.{slice_index_or, pos}
+use Rattle.std.specs.Prelude.{pos}
 use Rattle.std.specs.Char.{is_ascii_digit}
 use Rattle.std.specs.Str.{encode_utf8_all, all_scalars}
 use Rattle.unicode_ident.specs.Ident.{is_xid_continue}
 use Rattle.um_frac.specs.Fraction.{numerator}
-use Rattle.um_syntax.specs.Vocabulary.{words, signs, sign_text}
+use Rattle.um_syntax.specs.declared.vocabulary.Symbol.{Symbol}
+use Rattle.um_syntax.specs.declared.vocabulary.Symbol.TheVariants as symbol
+use Rattle.um_syntax.specs.Vocabulary.{symbol_text}
 use Rattle.um_syntax.specs.Lexeme.{IsName, begins, begins_part}
 use Rattle.um_show.specs.Pieces.{Piece, name, variable, number, digits, word, sign, hole, space, line_end}
 
@@ -26,14 +28,16 @@ pub data Role : Type 0 where
   raising : Role
   pointing : Role
 
--- ( ) [ ] { } [< < > = <= <> + - * / ^ ; : :: , . | || && ->
-abbrev pub roles : List Role
-roles =
-    opening ∷ closing ∷ opening ∷ closing ∷ opening ∷ closing ∷ opening ∷ opening ∷ closing ∷ opening ∷ opening ∷ opening ∷ opening ∷ lowering
-    ∷ opening ∷ slashing ∷ raising ∷ opening ∷ opening ∷ opening ∷ opening ∷ pointing ∷ opening ∷ opening ∷ opening ∷ opening ∷ []
-
-abbrev pub role : ℕ → Role
-role k = slice_index_or roles k opening
+abbrev pub role : Symbol → Role
+role symbol.RightParen = closing
+role symbol.RightBracket = closing
+role symbol.RightBrace = closing
+role symbol.Greater = closing
+role symbol.Minus = lowering
+role symbol.Slash = slashing
+role symbol.Caret = raising
+role symbol.Dot = pointing
+role _ = opening
 
 abbrev pub after_role : Role → Place → Place
 after_role opening s = fresh true false
@@ -107,7 +111,7 @@ may s (variable x) = is_fresh s
 may s (number c) = is_fresh s
 may s (digits n) = takes_digit s
 may s (word k) = takes_letter s
-may s (sign k) = takes_sign s (sign_text k)
+may s (sign k) = takes_sign s (symbol_text k)
 may s hole = takes_letter s
 may s space = takes_blank s
 may s line_end = takes_blank s
@@ -125,8 +129,8 @@ Good (name x) = IsGoodName x
 Good (variable x) = IsGoodName x
 Good (number c) = (n : ℕ) × (numerator c ≡ pos n)
 Good (digits n) = n ≤ 2147483647
-Good (word k) = k < length words
-Good (sign k) = k < length signs
+Good (word k) = Unit {0}
+Good (sign k) = Unit {0}
 Good hole = Unit {0}
 Good space = Unit {0}
 Good line_end = Unit {0}

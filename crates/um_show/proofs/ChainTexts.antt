@@ -10,28 +10,29 @@ use Rattle.unicode_ident.proofs.IdentLemmas.{is_xid_continue-ascii}
 use Rattle.um_syntax.specs.declared.token.Token.{Token}
 use Rattle.um_syntax.specs.declared.token.Kind.{Kind}
 use Rattle.um_syntax.specs.declared.token.Kind.TheVariants as kind_is
+use Rattle.um_syntax.specs.declared.vocabulary.Symbol.TheVariants as symbol
 use Rattle.um_syntax.specs.Gap.{nothing, closed}
 use Rattle.um_syntax.specs.Lexeme.{text_of as lexeme_text, kind_of}
-use Rattle.um_syntax.specs.Lexing.{ends_at, is_glued, is_kind_sign, is_sign, is_power_place, Lexes}
+use Rattle.um_syntax.specs.Lexing.{ends_at, is_glued, is_caret_kind, is_minus_kind, is_caret, is_minus, is_power_place, Lexes}
 use Rattle.um_show.specs.Pieces.{Piece, name, variable, number, digits, word, sign, hole, space, line_end, text_of}
-use Rattle.um_show.proofs.Standing.{IsToken, PieceStands, Stands}
+use Rattle.um_show.proofs.PieceTokens.{IsToken, PieceSpells, PiecesSpell}
 use Rattle.um_show.proofs.NextToken.{Entry, token_of, next_token, next_blank}
 use Rattle.um_show.proofs.Chain.{Place, fresh, full, raised, lowered, pointed, after, takes_blank, may, Good, Chain, Clear, is_behind, is_raised, is_power}
 use Rattle.um_show.proofs.SignRoles.{and_no}
-use Rattle.um_show.proofs.Fronts.{scalars_append, blank_front, blank_behind}
+use Rattle.um_show.proofs.Beginnings.{scalars_append, blank_clear, blank_behind}
 use Rattle.um_show.proofs.Opens.{Opens, is_token, opens}
 
 -- what a place says of the tokens before it
 pub record Matches (s : Place) (before : List Token) (at : ℕ) : Type 0 where
   pub glued : is_glued before at ≡ is_behind s
   pub power : is_power_place before ≡ is_power s
-  pub caret : is_sign 16 (slice_get before (length before - 1)) ≡ is_raised s
+  pub caret : is_caret (slice_get before (length before - 1)) ≡ is_raised s
 
 pub record Lexed (s : Place) (ps : List Piece) (before : List Token) (at : ℕ) (cs : List ℕ) : Type 0 where
   pub tokens : List Token
   pub flag : Bool
   pub lexes : Lexes before at cs tokens
-  pub stands : Stands ps (is_behind s) tokens flag []
+  pub spelled : PiecesSpell ps (is_behind s) tokens flag []
 
 pub record Reads (s : Place) (ps : List Piece) : Type 0 where
   pub cs : List ℕ
@@ -60,45 +61,37 @@ same_place : (n : ℕ) → (n == n) ≡ true
 same_place n = grind (arith, nat_tests)
 
 -- no sign is both `-` and `^`
-two_signs : (k : Kind) → (is_kind_sign 13 k && is_kind_sign 16 k) ≡ false
-two_signs (kind_is.Name x) = refl
-two_signs (kind_is.Var x) = refl
-two_signs (kind_is.Number value whole one) = refl
-two_signs (kind_is.Word n) = refl
-two_signs kind_is.Hole = refl
-two_signs (kind_is.Sign n) = go (eqb n 13) refl
-  where
-    go : (b : Bool) → eqb n 13 ≡ b → (eqb n 13 && eqb n 16) ≡ false
-    go false e = ap (λ x. x && eqb n 16) e
-    go true e = ap (λ m. eqb m 13 && eqb m 16) (eqb-true n 13 e)
+two_signs : (k : Kind) → (is_minus_kind k && is_caret_kind k) ≡ false
+two_signs (kind_is.Sign symbol.Minus) = refl
+two_signs _ = refl
 
 -- whether the last is `-` and the one before it is `^`
-last_two : (before : List Token) (token : Token) (up : Bool) → is_sign 16 (slice_get before (length before - 1)) ≡ up
-    → (is_kind_sign 13 token.kind && is_sign 16 (slice_get (before ++ token ∷ []) (length (before ++ token ∷ []) - 2))) ≡ (is_kind_sign 13 token.kind && up)
-last_two [] token up e = two_signs token.kind ∙ sym (and_no (is_kind_sign 13 token.kind) up (sym e))
+last_two : (before : List Token) (token : Token) (up : Bool) → is_caret (slice_get before (length before - 1)) ≡ up
+    → (is_minus_kind token.kind && is_caret (slice_get (before ++ token ∷ []) (length (before ++ token ∷ []) - 2))) ≡ (is_minus_kind token.kind && up)
+last_two [] token up e = two_signs token.kind ∙ sym (and_no (is_minus_kind token.kind) up (sym e))
 last_two (t ∷ ts) token up e =
     let count = length-append (t ∷ ts) (token ∷ []) in
     let index : length ((t ∷ ts) ++ token ∷ []) - 2 ≡ length ts = omega (arith, count) in let last : length (t ∷ ts) - 1 ≡ length ts = omega arith in
     let there : slice_get ((t ∷ ts) ++ token ∷ []) (length ((t ∷ ts) ++ token ∷ []) - 2) ≡ slice_get (t ∷ ts) (length (t ∷ ts) - 1) =
     ap (slice_get ((t ∷ ts) ++ token ∷ [])) index ∙ within (t ∷ ts) (token ∷ []) (length ts) (omega arith) ∙ ap (slice_get (t ∷ ts)) (sym last) in
-    ap (λ o. is_kind_sign 13 token.kind && is_sign 16 o) there ∙ ap (λ b. is_kind_sign 13 token.kind && b) e
+    ap (λ o. is_minus_kind token.kind && is_caret o) there ∙ ap (λ b. is_minus_kind token.kind && b) e
 
 next_matches : (p : Piece) (s : Place) (before : List Token) (at : ℕ) (token : Token) → Matches s before at
-    → is_kind_sign 16 token.kind ≡ is_raised (after p s) → (is_kind_sign 16 token.kind || (is_kind_sign 13 token.kind && is_raised s)) ≡ is_power (after p s) → is_behind (after p s) ≡ true
+    → is_caret_kind token.kind ≡ is_raised (after p s) → (is_caret_kind token.kind || (is_minus_kind token.kind && is_raised s)) ≡ is_power (after p s) → is_behind (after p s) ≡ true
     → Matches (after p s) (before ++ token ∷ []) token.end
 next_matches p s before at token m caret power behind =
     let last = last_is before token in
     record {
       glued = ap (ends_at token.end) last ∙ same_place token.end ∙ sym behind;
       power =
-          ap (λ o. is_sign 16 o || (is_sign 13 o && is_sign 16 (slice_get (before ++ token ∷ []) (length (before ++ token ∷ []) - 2)))) last
-          ∙ ap (λ b. is_kind_sign 16 token.kind || b) (last_two before token (is_raised s) m.caret) ∙ power;
-      caret = ap (is_sign 16) last ∙ caret;
+          ap (λ o. is_caret o || (is_minus o && is_caret (slice_get (before ++ token ∷ []) (length (before ++ token ∷ []) - 2)))) last
+          ∙ ap (λ b. is_caret_kind token.kind || b) (last_two before token (is_raised s) m.caret) ∙ power;
+      caret = ap is_caret last ∙ caret;
     }
 
 -- ---- one more piece
 
-as_piece : (p : Piece) (g : Bool) (tokens : List Token) (h : Bool) (rest : List Token) → is_token p ≡ true → IsToken p g tokens h rest → PieceStands p g tokens h rest
+as_piece : (p : Piece) (g : Bool) (tokens : List Token) (h : Bool) (rest : List Token) → is_token p ≡ true → IsToken p g tokens h rest → PieceSpells p g tokens h rest
 as_piece (name x) g tokens h rest t i = i
 as_piece (variable x) g tokens h rest t i = i
 as_piece (number c) g tokens h rest t i = i
@@ -119,11 +112,11 @@ token_lexed p s ps t r o before at m =
       tokens = token ∷ l.tokens;
       flag = l.flag;
       lexes = next_token p before at r.cs l.tokens e l.lexes;
-      stands = record {
+      spelled = record {
         flag = is_behind (after p s);
         next = l.tokens;
         here = as_piece p (is_behind s) (token ∷ l.tokens) (is_behind (after p s)) l.tokens t (record { token = token; kind = o.is; gap = m.glued; open_end = o.behind; first = refl });
-        later = l.stands;
+        later = l.spelled;
       };
     }
 
@@ -134,7 +127,7 @@ token_reads p s ps t g m r =
       cs = lexeme_text o.lexeme ++ r.cs;
       encoded = encodes-append (lexeme_text o.lexeme) r.cs ∙ (λ i. o.encoded i ++ r.encoded i);
       scalars = scalars_append (lexeme_text o.lexeme) r.cs o.scalars r.scalars;
-      clear = o.front;
+      clear = o.clears;
       lexed = token_lexed p s ps t r o;
     }
 
@@ -154,9 +147,9 @@ space_reads s ps b r = record {
   cs = 32 ∷ r.cs;
   encoded = (λ i. encode_ascii 32 (lit< tt) i ++ r.encoded i);
   scalars = r.scalars;
-  clear = blank_front s b 32 refl refl (is_xid_continue-ascii 32 (lit< tt)) refl r.cs;
+  clear = blank_clear s b 32 refl refl (is_xid_continue-ascii 32 (lit< tt)) refl r.cs;
   lexed = λ before at m. let l = r.lexed before (at + 1) (blank_matches s before at b m) in
-      record { tokens = l.tokens; flag = l.flag; lexes = next_blank 32 refl refl before at r.cs l.tokens l.lexes; stands = record { flag = false; next = l.tokens; here = record { blank_end = refl; none = refl }; later = l.stands } };
+      record { tokens = l.tokens; flag = l.flag; lexes = next_blank 32 refl refl before at r.cs l.tokens l.lexes; spelled = record { flag = false; next = l.tokens; here = record { blank_end = refl; none = refl }; later = l.spelled } };
 }
 
 line_reads : (s : Place) (ps : List Piece) → takes_blank s ≡ true → Reads (fresh false false) ps → Reads s (line_end ∷ ps)
@@ -164,9 +157,9 @@ line_reads s ps b r = record {
   cs = 10 ∷ r.cs;
   encoded = (λ i. encode_ascii 10 (lit< tt) i ++ r.encoded i);
   scalars = r.scalars;
-  clear = blank_front s b 10 refl refl (is_xid_continue-ascii 10 (lit< tt)) refl r.cs;
+  clear = blank_clear s b 10 refl refl (is_xid_continue-ascii 10 (lit< tt)) refl r.cs;
   lexed = λ before at m. let l = r.lexed before (at + 1) (blank_matches s before at b m) in
-      record { tokens = l.tokens; flag = l.flag; lexes = next_blank 10 refl refl before at r.cs l.tokens l.lexes; stands = record { flag = false; next = l.tokens; here = record { blank_end = refl; none = refl }; later = l.stands } };
+      record { tokens = l.tokens; flag = l.flag; lexes = next_blank 10 refl refl before at r.cs l.tokens l.lexes; spelled = record { flag = false; next = l.tokens; here = record { blank_end = refl; none = refl }; later = l.spelled } };
 }
 
 -- ---- all pieces
@@ -184,7 +177,7 @@ reads [] s t c = record {
   encoded = refl;
   scalars = refl;
   clear = clear_end s;
-  lexed = λ before at m. record { tokens = []; flag = is_behind s; lexes = closed nothing; stands = record { same_flag = refl; same = refl } };
+  lexed = λ before at m. record { tokens = []; flag = is_behind s; lexes = closed nothing; spelled = record { same_flag = refl; same = refl } };
 }
 reads (name x ∷ ps) s t c = token_reads (name x) s ps refl c.0 c.1 (reads ps full t c.2)
 reads (variable x ∷ ps) s t c = token_reads (variable x) s ps refl c.0 c.1 (reads ps full t c.2)
@@ -204,9 +197,9 @@ pub record Begun (ps : List Piece) : Type 0 where
   pub tokens : List Token
   pub flag : Bool
   pub lexes : Lexes [] 0 cs tokens
-  pub stands : Stands ps false tokens flag []
+  pub spelled : PiecesSpell ps false tokens flag []
 
 pub chain_lexes : (ps : List Piece) (t : Place) → Chain (fresh false false) ps t → Begun ps
 chain_lexes ps t c =
     let r = reads ps (fresh false false) t c in let l = r.lexed [] 0 (record { glued = refl; power = refl; caret = refl }) in
-    record { cs = r.cs; encoded = r.encoded; scalars = r.scalars; tokens = l.tokens; flag = l.flag; lexes = l.lexes; stands = l.stands }
+    record { cs = r.cs; encoded = r.encoded; scalars = r.scalars; tokens = l.tokens; flag = l.flag; lexes = l.lexes; spelled = l.spelled }

@@ -9,7 +9,7 @@ use Rattle.um_parse.specs.DeclGrammar.{Attribute, VarSpells, MoreVars, VarsSpell
 use Rattle.um_show.specs.Pieces.{Piece, space, line_end, name, variable, less, greater, equal, comma, semi, colon, let_word, type_word, measure_word, attribute_open, list_close, bracket_open, bracket_close, record_open, record_close}
 use Rattle.um_show.specs.Layout.{unit_pieces, type_pieces, binder_piece, expr_pieces, var_pieces, var_list_pieces, field_decl_pieces, param_pieces, result_pieces, rec_pieces, function_pieces, decl_pieces, line_pieces, program_pieces}
 use Rattle.um_show.specs.Unplaced.{bare_type, bare_expr, bare_var, bare_field_decl, bare_param, bare_result, bare_decl, bare_program}
-use Rattle.um_show.proofs.Standing.{Stands, both, only}
+use Rattle.um_show.proofs.PieceTokens.{PiecesSpell, both, only}
 use Rattle.um_show.proofs.UnitsAgain.{unit_again}
 use Rattle.um_show.proofs.TypesAgain.{type_again}
 use Rattle.um_show.proofs.ExprsAgain.{past, led, spaced, binder_again, expr_again}
@@ -18,9 +18,9 @@ record Attributed (ps : List Piece) (tokens : List Token) (h : Bool) (rest : Lis
   pub flag : Bool
   pub next : List Token
   pub attribute : Attribute tokens next
-  pub later : Stands ps flag next h rest
+  pub later : PiecesSpell ps flag next h rest
 
-attributed : (ps : List Piece) (g : Bool) (tokens : List Token) (h : Bool) (rest : List Token) → Stands (attribute_open ∷ measure_word ∷ greater ∷ list_close ∷ ps) g tokens h rest → Attributed ps tokens h rest
+attributed : (ps : List Piece) (g : Bool) (tokens : List Token) (h : Bool) (rest : List Token) → PiecesSpell (attribute_open ∷ measure_word ∷ greater ∷ list_close ∷ ps) g tokens h rest → Attributed ps tokens h rest
 attributed ps g tokens h rest s =
     let w = s.later in let c = w.later in let l = c.later in let o = s.here in let ow = w.here in let oc = c.here in let ol = l.here in
     record { flag = l.flag; next = l.next; attribute = (s.next, w.next, c.next, (o.token, ap expr_token o.kind, o.first), (ow.token, ap expr_token ow.kind, ow.first), (oc.token, ap expr_token oc.kind, oc.first), (ol.token, ap expr_token ol.kind, ol.first)); later = l.later }
@@ -30,7 +30,7 @@ record VarAgain (v : VarSyntax) (tokens rest : List Token) : Type 0 where
   pub spelled : VarSpells again tokens rest
   pub same : bare_var again ≡ bare_var v
 
-var_again : (v : VarSyntax) (g : Bool) (tokens : List Token) (h : Bool) (rest : List Token) → Stands (var_pieces v) g tokens h rest → VarAgain v tokens rest
+var_again : (v : VarSyntax) (g : Bool) (tokens : List Token) (h : Bool) (rest : List Token) → PiecesSpell (var_pieces v) g tokens h rest → VarAgain v tokens rest
 var_again v g tokens h rest s =
     let a = attributed (space ∷ variable v.name ∷ []) g tokens h rest s in let o = only (variable v.name) false a.next h rest (past (variable v.name ∷ []) a.flag a.next h rest a.later) in
     record { again = record { at = o.token.start; name = v.name }; spelled = (a.next, a.attribute, (o.token, ap expr_token o.kind, refl, o.first)); same = refl }
@@ -43,7 +43,7 @@ record MoreVarsAgain (vs : List VarSyntax) (tokens rest : List Token) : Type 0 w
 abbrev later_vars : List VarSyntax → List Piece
 later_vars vs = flat_map (λ v. (comma ∷ space ∷ []) ++ var_pieces v) vs
 
-more_vars_again : (vs : List VarSyntax) (g : Bool) (tokens : List Token) (h : Bool) (rest : List Token) → Stands (later_vars vs) g tokens h rest → MoreVarsAgain vs tokens rest
+more_vars_again : (vs : List VarSyntax) (g : Bool) (tokens : List Token) (h : Bool) (rest : List Token) → PiecesSpell (later_vars vs) g tokens h rest → MoreVarsAgain vs tokens rest
 more_vars_again [] g tokens h rest s = record { again = []; spelled = s.same; same = refl }
 more_vars_again (v ∷ vs) g tokens h rest s =
     let b = both (comma ∷ space ∷ var_pieces v) (later_vars vs) g tokens h rest s in let l = led comma (var_pieces v) g tokens b.flag b.next b.here in let o = l.here in
@@ -55,7 +55,7 @@ record VarsAgain (vs : List VarSyntax) (tokens rest : List Token) : Type 0 where
   pub spelled : VarsSpell again tokens rest
   pub same : map bare_var again ≡ map bare_var vs
 
-vars_again : (vs : List VarSyntax) (g : Bool) (tokens : List Token) (h : Bool) (rest : List Token) → Stands (var_list_pieces vs) g tokens h rest → VarsAgain vs tokens rest
+vars_again : (vs : List VarSyntax) (g : Bool) (tokens : List Token) (h : Bool) (rest : List Token) → PiecesSpell (var_list_pieces vs) g tokens h rest → VarsAgain vs tokens rest
 vars_again [] g tokens h rest s = record { again = []; spelled = s.same; same = refl }
 vars_again (v ∷ vs) g tokens h rest s =
     let p = both (less ∷ (var_pieces v ++ later_vars vs)) (greater ∷ []) g tokens h rest s in let o = p.here.here in
@@ -69,7 +69,7 @@ record FieldDeclAgain (f : FieldDeclSyntax) (tokens rest : List Token) : Type 0 
   pub fits : TypeFits again.type
   pub same : bare_field_decl again ≡ bare_field_decl f
 
-field_decl_again : (f : FieldDeclSyntax) → TypeFits f.type → (g : Bool) (tokens : List Token) (h : Bool) (rest : List Token) → Stands (field_decl_pieces f) g tokens h rest → FieldDeclAgain f tokens rest
+field_decl_again : (f : FieldDeclSyntax) → TypeFits f.type → (g : Bool) (tokens : List Token) (h : Bool) (rest : List Token) → PiecesSpell (field_decl_pieces f) g tokens h rest → FieldDeclAgain f tokens rest
 field_decl_again f fit g tokens h rest s =
     let o = s.here in let l = led colon (type_pieces f.type) s.flag s.next h rest s.later in let c = l.here in let r = type_again f.type fit false l.next h rest l.later in
     record { again = record { at = o.token.start; name = f.name; type = r.again }; spelled = (s.next, l.next, (o.token, ap expr_token o.kind, refl, o.first), (c.token, ap expr_token c.kind, c.first), r.spelled); fits = r.fits; same = ap (λ t. record { at = 0; name = f.name; type = t }) r.same }
@@ -83,7 +83,7 @@ record MoreFieldDeclsAgain (fs : List FieldDeclSyntax) (tokens rest : List Token
 abbrev later_fields : List FieldDeclSyntax → List Piece
 later_fields fs = flat_map (λ f. (semi ∷ space ∷ []) ++ field_decl_pieces f) fs
 
-more_field_decls_again : (fs : List FieldDeclSyntax) → FieldDeclsFit fs → (g : Bool) (tokens : List Token) (h : Bool) (rest : List Token) → Stands (later_fields fs) g tokens h rest → MoreFieldDeclsAgain fs tokens rest
+more_field_decls_again : (fs : List FieldDeclSyntax) → FieldDeclsFit fs → (g : Bool) (tokens : List Token) (h : Bool) (rest : List Token) → PiecesSpell (later_fields fs) g tokens h rest → MoreFieldDeclsAgain fs tokens rest
 more_field_decls_again [] fit g tokens h rest s = record { again = []; spelled = s.same; fits = tt; same = refl }
 more_field_decls_again (f ∷ fs) fit g tokens h rest s =
     let b = both (semi ∷ space ∷ field_decl_pieces f) (later_fields fs) g tokens h rest s in let l = led semi (field_decl_pieces f) g tokens b.flag b.next b.here in let o = l.here in
@@ -96,7 +96,7 @@ record FieldDeclsAgain (fs : List FieldDeclSyntax) (tokens rest : List Token) : 
   pub fits : FieldDeclsFit again
   pub same : map bare_field_decl again ≡ map bare_field_decl fs
 
-field_decls_again : (fs : List FieldDeclSyntax) → FieldDeclsFit fs → (old end : List Token) → FieldDeclsSpell fs old end → (g : Bool) (tokens : List Token) (h : Bool) (rest : List Token) → Stands (join_by field_decl_pieces (semi ∷ space ∷ []) fs) g tokens h rest → FieldDeclsAgain fs tokens rest
+field_decls_again : (fs : List FieldDeclSyntax) → FieldDeclsFit fs → (old end : List Token) → FieldDeclsSpell fs old end → (g : Bool) (tokens : List Token) (h : Bool) (rest : List Token) → PiecesSpell (join_by field_decl_pieces (semi ∷ space ∷ []) fs) g tokens h rest → FieldDeclsAgain fs tokens rest
 field_decls_again [] fit old end q g tokens h rest s = absurd q
 field_decls_again (f ∷ fs) fit old end q g tokens h rest s =
     let b = both (field_decl_pieces f) (later_fields fs) g tokens h rest s in
@@ -109,7 +109,7 @@ record ParamAgain (p : ParamSyntax) (tokens rest : List Token) : Type 0 where
   pub fits : TypeFits again.type
   pub same : bare_param again ≡ bare_param p
 
-param_again : (p : ParamSyntax) → TypeFits p.type → (g : Bool) (tokens : List Token) (h : Bool) (rest : List Token) → Stands (param_pieces p) g tokens h rest → ParamAgain p tokens rest
+param_again : (p : ParamSyntax) → TypeFits p.type → (g : Bool) (tokens : List Token) (h : Bool) (rest : List Token) → PiecesSpell (param_pieces p) g tokens h rest → ParamAgain p tokens rest
 param_again p fit g tokens h rest s =
     let b = both (space ∷ bracket_open ∷ binder_piece p.binder ∷ colon ∷ space ∷ type_pieces p.type) (bracket_close ∷ []) g tokens h rest s in
     let e = past (bracket_open ∷ binder_piece p.binder ∷ colon ∷ space ∷ type_pieces p.type) g tokens b.flag b.next b.here in let o = e.here in let n = e.later in
@@ -123,7 +123,7 @@ record ParamsAgain (ps : List ParamSyntax) (tokens rest : List Token) : Type 0 w
   pub fits : ParamsFit again
   pub same : map bare_param again ≡ map bare_param ps
 
-params_again : (ps : List ParamSyntax) → ParamsFit ps → (g : Bool) (tokens : List Token) (h : Bool) (rest : List Token) → Stands (flat_map param_pieces ps) g tokens h rest → ParamsAgain ps tokens rest
+params_again : (ps : List ParamSyntax) → ParamsFit ps → (g : Bool) (tokens : List Token) (h : Bool) (rest : List Token) → PiecesSpell (flat_map param_pieces ps) g tokens h rest → ParamsAgain ps tokens rest
 params_again [] fit g tokens h rest s = record { again = []; spelled = s.same; fits = tt; same = refl }
 params_again (p ∷ ps) fit g tokens h rest s =
     let b = both (param_pieces p) (flat_map param_pieces ps) g tokens h rest s in let x = param_again p fit.0 g tokens b.flag b.next b.here in let r = params_again ps fit.1 b.flag b.next h rest b.later in
@@ -135,13 +135,13 @@ record ResultAgain (recursive : Bool) (t : Option TypeSyntax) (tokens rest : Lis
   pub fits : ResultFits recursive again
   pub same : bare_result again ≡ bare_result t
 
-result_again : (recursive : Bool) (t : Option TypeSyntax) → ResultFits recursive t → (g : Bool) (tokens : List Token) (h : Bool) (rest : List Token) → Stands (result_pieces t) g tokens h rest → ResultAgain recursive t tokens rest
+result_again : (recursive : Bool) (t : Option TypeSyntax) → ResultFits recursive t → (g : Bool) (tokens : List Token) (h : Bool) (rest : List Token) → PiecesSpell (result_pieces t) g tokens h rest → ResultAgain recursive t tokens rest
 result_again recursive None fit g tokens h rest s = record { again = None; spelled = s.same; fits = fit; same = refl }
 result_again recursive (Some t) fit g tokens h rest s =
     let l = spaced colon (type_pieces t) g tokens h rest s in let o = l.here in let r = type_again t fit false l.next h rest l.later in
     record { again = Some r.again; spelled = (l.next, (o.token, ap expr_token o.kind, o.first), r.spelled); fits = r.fits; same = ap (λ x. Some x) r.same }
 
-rec_again : (recursive : Bool) (g : Bool) (tokens : List Token) (h : Bool) (rest : List Token) → Stands (rec_pieces recursive) g tokens h rest → RecSpells recursive tokens rest
+rec_again : (recursive : Bool) (g : Bool) (tokens : List Token) (h : Bool) (rest : List Token) → PiecesSpell (rec_pieces recursive) g tokens h rest → RecSpells recursive tokens rest
 rec_again false g tokens h rest s = s.same
 rec_again true g tokens h rest s =
     let o = s.here in let blank = only space s.flag s.next h rest s.later in
@@ -153,7 +153,7 @@ pub record DeclAgain (d : DeclSyntax) (tokens rest : List Token) : Type 0 where
   pub fits : DeclFits again
   pub same : bare_decl again ≡ bare_decl d
 
-function_again : (f : FunctionSyntax) → DeclFits (function_syntax f) → (old end : List Token) → DeclSpells (function_syntax f) old end → (g : Bool) (tokens : List Token) (h : Bool) (rest : List Token) → Stands (function_pieces f) g tokens h rest → DeclAgain (function_syntax f) tokens rest
+function_again : (f : FunctionSyntax) → DeclFits (function_syntax f) → (old end : List Token) → DeclSpells (function_syntax f) old end → (g : Bool) (tokens : List Token) (h : Bool) (rest : List Token) → PiecesSpell (function_pieces f) g tokens h rest → DeclAgain (function_syntax f) tokens rest
 function_again f fit old end q g tokens h rest s =
     let head = (let_word ∷ space ∷ rec_pieces f.recursive) ++ name f.name ∷ flat_map param_pieces f.params in
     let b = both (head ++ result_pieces f.result) (space ∷ equal ∷ space ∷ expr_pieces f.body) g tokens h rest s in
@@ -164,7 +164,7 @@ function_again f fit old end q g tokens h rest s =
     let e = spaced equal (expr_pieces f.body) b.flag b.next h rest b.later in let oe = e.here in let x = expr_again f.body fit.2 q.5 end q.12 false e.next h rest e.later in
     record { again = function_syntax (record { at = on.token.start; name = f.name; recursive = f.recursive; params = ps.again; result = t.again; body = x.again }); spelled = (l.next, d.next, n.next, c.next, b.next, e.next, (ol.token, ap expr_token ol.kind, ol.first), rec_again f.recursive false l.next d.flag d.next l.later, (on.token, ap expr_token on.kind, refl, on.first), ps.spelled, t.spelled, (oe.token, ap expr_token oe.kind, oe.first), x.spelled); fits = (ps.fits, t.fits, x.fits); same = ap (λ y. function_syntax (record { at = 0; name = f.name; recursive = f.recursive; params = y; result = bare_result t.again; body = bare_expr x.again })) ps.same ∙ ap (λ y. function_syntax (record { at = 0; name = f.name; recursive = f.recursive; params = map bare_param f.params; result = y; body = bare_expr x.again })) t.same ∙ ap (λ y. function_syntax (record { at = 0; name = f.name; recursive = f.recursive; params = map bare_param f.params; result = bare_result f.result; body = y })) x.same }
 
-pub decl_again : (d : DeclSyntax) → DeclFits d → (old end : List Token) → DeclSpells d old end → (g : Bool) (tokens : List Token) (h : Bool) (rest : List Token) → Stands (decl_pieces d) g tokens h rest → DeclAgain d tokens rest
+pub decl_again : (d : DeclSyntax) → DeclFits d → (old end : List Token) → DeclSpells d old end → (g : Bool) (tokens : List Token) (h : Bool) (rest : List Token) → PiecesSpell (decl_pieces d) g tokens h rest → DeclAgain d tokens rest
 decl_again (base_syntax at x) fit old end q g tokens h rest s =
     let a = attributed (space ∷ type_word ∷ space ∷ name x ∷ []) g tokens h rest s in let t = spaced type_word (name x ∷ []) a.flag a.next h rest a.later in
     let o = t.here in let n = only (name x) false t.next h rest t.later in
@@ -191,7 +191,7 @@ pub record DeclsAgain (ds : List DeclSyntax) (tokens rest : List Token) : Type 0
   pub fits : DeclsFit again
   pub same : bare_program again ≡ bare_program ds
 
-pub decls_again : (ds : List DeclSyntax) → DeclsFit ds → (old end : List Token) → DeclsSpell ds old end → (g : Bool) (tokens : List Token) (h : Bool) (rest : List Token) → Stands (program_pieces ds) g tokens h rest → DeclsAgain ds tokens rest
+pub decls_again : (ds : List DeclSyntax) → DeclsFit ds → (old end : List Token) → DeclsSpell ds old end → (g : Bool) (tokens : List Token) (h : Bool) (rest : List Token) → PiecesSpell (program_pieces ds) g tokens h rest → DeclsAgain ds tokens rest
 decls_again [] fit old end q g tokens h rest s = record { again = []; spelled = s.same; fits = tt; same = refl }
 decls_again (d ∷ ds) fit old end q g tokens h rest s =
     let b = both (line_pieces d) (program_pieces ds) g tokens h rest s in let c = both (decl_pieces d) (line_end ∷ []) g tokens b.flag b.next b.here in
@@ -199,7 +199,7 @@ decls_again (d ∷ ds) fit old end q g tokens h rest s =
     record { again = x.again ∷ r.again; spelled = (c.next, x.spelled, subst (λ ts. DeclsSpell r.again ts rest) (sym z.none) r.spelled); fits = (x.fits, r.fits); same = ap (λ y. y ∷ bare_program r.again) x.same ∙ ap (λ ys. bare_decl d ∷ ys) r.same }
 
 -- where the tokens of a layout are those of its pieces, they are the same program, places aside
-pub program_again : (ds : List DeclSyntax) (old tokens : List Token) (h : Bool) → IsProgram old ds → Stands (program_pieces ds) false tokens h [] → (again : List DeclSyntax) × IsProgram tokens again × (bare_program again ≡ bare_program ds)
+pub program_again : (ds : List DeclSyntax) (old tokens : List Token) (h : Bool) → IsProgram old ds → PiecesSpell (program_pieces ds) false tokens h [] → (again : List DeclSyntax) × IsProgram tokens again × (bare_program again ≡ bare_program ds)
 program_again ds old tokens h program s =
     let r = decls_again ds program.fits old [] program.spelled false tokens h [] s in
     (r.again, record { spelled = r.spelled; fits = r.fits }, r.same)

@@ -1,15 +1,16 @@
 -- The layout of an expression whose tokens are those of some text is a chain of pieces.
-use Rattle.std.proofs.Common.{◌≡◌, ℕ, ◌<◌, Bool, true, false, List, [], ◌∷◌, ◌++◌, length, Option, Some, None, refl, subst, lit<, ⊎_elim}
+use Rattle.std.proofs.Common.{◌≡◌, ℕ, ◌<◌, Bool, true, false, List, [], ◌∷◌, ◌++◌, length, Option, Some, None, refl, subst, ⊎_elim}
 use Rattle.um_syntax.specs.declared.token.Token.{Token}
 use Rattle.um_syntax.specs.declared.token.Kind.{Kind}
-use Rattle.um_syntax.specs.Vocabulary.{words}
+use Rattle.um_syntax.specs.declared.vocabulary.Keyword.{Keyword}
+use Rattle.um_syntax.specs.declared.vocabulary.Keyword.TheVariants as keyword
 use Rattle.um_tree.specs.declared.expression.Arith.{Arith}
 use Rattle.um_tree.specs.declared.expression.Arith.TheVariants as arith_of
 use Rattle.um_tree.specs.declared.expression.Sign.{Sign}
 use Rattle.um_tree.specs.declared.expression.Sign.TheVariants as compare
 use Rattle.um_tree.specs.RawTree.{NoteSyntax, TypeSyntax, BinderSyntax, ExprSyntax, ExprSyntaxes, FieldSyntaxes, truth_syntax, number_syntax, name_syntax, call_syntax, negate_syntax, not_syntax, arith_syntax, compare_syntax, and_syntax, or_syntax, if_syntax, let_syntax, match_syntax, nil_syntax, list_syntax, cons_syntax, fields_syntax, field_syntax, bracket_expr_syntax, no_exprs, more_exprs, no_fields, more_fields}
-use Rattle.um_expr.specs.declared.mark.Infix.{Infix}
-use Rattle.um_expr.specs.declared.mark.Infix.TheVariants as infix_of
+use Rattle.um_expr.specs.declared.infix.Infix.{Infix}
+use Rattle.um_expr.specs.declared.infix.Infix.TheVariants as infix_of
 use Rattle.um_expr.specs.ExprTokens.{expr_token}
 use Rattle.um_expr.specs.ExprGrammar.{ends_in_number, bound, BinderSpells, InfixAt, WrittenNote, EmptyArm, NilSpells, Spells, AllSpell, ItemsSpell, MoreItems, FieldsSpell, MoreFields, NoteFitsIn, Fits, AreAtoms, AllFit, FieldsFit}
 use Rattle.um_show.specs.Pieces.{Piece, name, word, space, equal, dot, bar, double_bar, double_and, double_colon, arrow, in_word, if_word, match_word, then_word, else_word, with_word, list_open, list_close, bracket_close, record_close}
@@ -21,25 +22,25 @@ use Rattle.um_show.proofs.TypeLinks.{angle_links, type_links}
 
 -- ---- words and signs with a space on each side
 
-pub spaced_word : (k : ℕ) (ps : List Piece) → k < length words → Chain (fresh false false) ps full → Chain full (space ∷ word k ∷ space ∷ ps) full
-spaced_word k ps h c = (tt, refl, (h, refl, (tt, refl, c)))
+pub spaced_word : (k : Keyword) (ps : List Piece) → Chain (fresh false false) ps full → Chain full (space ∷ word k ∷ space ∷ ps) full
+spaced_word k ps c = (tt, refl, (tt, refl, (tt, refl, c)))
 
 pub spaced_equal : (ps : List Piece) → Chain (fresh false false) ps full → Chain full (space ∷ equal ∷ space ∷ ps) full
-spaced_equal ps c = (tt, refl, (lit< tt, refl, (tt, refl, c)))
+spaced_equal ps c = (tt, refl, (tt, refl, (tt, refl, c)))
 
 spaced_arith : (op : Arith) (ps : List Piece) → Chain (fresh false false) ps full → Chain full (space ∷ arith_piece op ∷ space ∷ ps) full
-spaced_arith arith_of.Add ps c = (tt, refl, (lit< tt, refl, (tt, refl, c)))
-spaced_arith arith_of.Sub ps c = (tt, refl, (lit< tt, refl, (tt, refl, c)))
-spaced_arith arith_of.Mul ps c = (tt, refl, (lit< tt, refl, (tt, refl, c)))
-spaced_arith arith_of.Div ps c = (tt, refl, (lit< tt, refl, (tt, refl, c)))
+spaced_arith arith_of.Add ps c = (tt, refl, (tt, refl, (tt, refl, c)))
+spaced_arith arith_of.Sub ps c = (tt, refl, (tt, refl, (tt, refl, c)))
+spaced_arith arith_of.Mul ps c = (tt, refl, (tt, refl, (tt, refl, c)))
+spaced_arith arith_of.Div ps c = (tt, refl, (tt, refl, (tt, refl, c)))
 
 spaced_compare : (sign : Sign) (ps : List Piece) → Chain (fresh false false) ps full → Chain full (space ∷ compare_pieces sign ++ space ∷ ps) full
-spaced_compare compare.Lt ps c = (tt, refl, (lit< tt, refl, (tt, refl, c)))
-spaced_compare compare.Le ps c = (tt, refl, (lit< tt, refl, (tt, refl, c)))
-spaced_compare compare.Eq ps c = (tt, refl, (lit< tt, refl, (tt, refl, c)))
-spaced_compare compare.Ne ps c = (tt, refl, (lit< tt, refl, (tt, refl, c)))
-spaced_compare compare.Gt ps c = (tt, refl, (lit< tt, refl, (tt, refl, c)))
-spaced_compare compare.Ge ps c = (tt, refl, (lit< tt, refl, (lit< tt, refl, (tt, refl, c))))
+spaced_compare compare.Lt ps c = (tt, refl, (tt, refl, (tt, refl, c)))
+spaced_compare compare.Le ps c = (tt, refl, (tt, refl, (tt, refl, c)))
+spaced_compare compare.Eq ps c = (tt, refl, (tt, refl, (tt, refl, c)))
+spaced_compare compare.Ne ps c = (tt, refl, (tt, refl, (tt, refl, c)))
+spaced_compare compare.Gt ps c = (tt, refl, (tt, refl, (tt, refl, c)))
+spaced_compare compare.Ge ps c = (tt, refl, (tt, refl, (tt, refl, (tt, refl, c))))
 
 -- ---- tokens
 
@@ -71,8 +72,8 @@ pub binder_step : (x : BinderSyntax) (g : Bool) (ps : List Piece) → Good (bind
 binder_step x g ps h c = bound_step x.name g false ps full h c
 
 truth_chain : (b g : Bool) → Chain (fresh g false) (truth_piece b ∷ []) full
-truth_chain true g = (lit< tt, refl, refl)
-truth_chain false g = (lit< tt, refl, refl)
+truth_chain true g = (tt, refl, refl)
+truth_chain false g = (tt, refl, refl)
 
 written_links : (n : Option NoteSyntax) (tokens rest : List Token) → WrittenNote n tokens rest → NoteFitsIn n → AllGood tokens → Linked full (written_pieces n) full rest
 written_links None tokens rest s f h = linked_all tokens rest s h
@@ -87,15 +88,15 @@ empty_arm_behind tokens rest s h =
 
 -- ` with [] -> ` and what follows
 empty_arm_chain : (ps : List Piece) → Chain (fresh false false) ps full → Chain full (space ∷ with_word ∷ space ∷ list_open ∷ list_close ∷ space ∷ arrow ∷ space ∷ ps) full
-empty_arm_chain ps c = spaced_word 7 (list_open ∷ list_close ∷ space ∷ arrow ∷ space ∷ ps) (lit< tt) (lit< tt, refl, (lit< tt, refl, (tt, refl, (lit< tt, refl, (tt, refl, c)))))
+empty_arm_chain ps c = spaced_word keyword.With (list_open ∷ list_close ∷ space ∷ arrow ∷ space ∷ ps) (tt, refl, (tt, refl, (tt, refl, (tt, refl, (tt, refl, c)))))
 
 -- ` | x :: y -> ` and what follows
 full_arm_chain : (x y : BinderSyntax) (ps : List Piece) → Good (binder_piece x) → Good (binder_piece y) → Chain (fresh false false) ps full
     → Chain full (space ∷ bar ∷ space ∷ binder_piece x ∷ space ∷ double_colon ∷ space ∷ binder_piece y ∷ space ∷ arrow ∷ space ∷ ps) full
 full_arm_chain x y ps gx gy c =
-    let last = binder_step y false (space ∷ arrow ∷ space ∷ ps) gy (tt, refl, (lit< tt, refl, (tt, refl, c))) in
-    let first = binder_step x false (space ∷ double_colon ∷ space ∷ binder_piece y ∷ space ∷ arrow ∷ space ∷ ps) gx (tt, refl, (lit< tt, refl, (tt, refl, last))) in
-    (tt, refl, (lit< tt, refl, (tt, refl, first)))
+    let last = binder_step y false (space ∷ arrow ∷ space ∷ ps) gy (tt, refl, (tt, refl, (tt, refl, c))) in
+    let first = binder_step x false (space ∷ double_colon ∷ space ∷ binder_piece y ∷ space ∷ arrow ∷ space ∷ ps) gx (tt, refl, (tt, refl, (tt, refl, last))) in
+    (tt, refl, (tt, refl, (tt, refl, first)))
 
 -- `([] : T)`
 nil_links : (at : ℕ) (t : TypeSyntax) (tokens rest : List Token) → NilSpells at t tokens rest → Fits (nil_syntax at t) → AllGood tokens → (g : Bool) → Linked (fresh g false) (expr_pieces (nil_syntax at t)) full rest
@@ -104,7 +105,7 @@ nil_links at t tokens rest s f h g =
     let colons = (first_good s.1 s.2 s.7.0 s.7.2 close).1 in let written = (first_good s.2 s.3 s.8.0 s.8.2 colons).1 in
     let r = type_links t s.3 s.4 s.9 f written false in
     record {
-      chain = (lit< tt, refl, (lit< tt, refl, (lit< tt, refl, (tt, refl, (lit< tt, refl, (tt, refl, link (type_pieces t) (bracket_close ∷ []) false false r.chain (lit< tt, refl, refl)))))));
+      chain = (tt, refl, (tt, refl, (tt, refl, (tt, refl, (tt, refl, (tt, refl, link (type_pieces t) (bracket_close ∷ []) false false r.chain (tt, refl, refl)))))));
       good = (first_good s.4 rest s.10.0 s.10.2 r.good).1;
     }
 
@@ -122,9 +123,9 @@ mutual
       let b = first_good tokens s.0 s.1.0 s.1.3 h in let r = argument_links args s.0 rest s.2 f.1 b.1 in
       record { chain = (name_good s.1.0.kind x s.1.1 b.0, refl, r.chain); good = r.good }
   expr_links (negate_syntax at e) tokens rest s f h g =
-      let r = expr_links e s.0 rest s.2 f.1 (first_good tokens s.0 s.1.0 s.1.3 h).1 true in record { chain = (lit< tt, refl, r.chain); good = r.good }
+      let r = expr_links e s.0 rest s.2 f.1 (first_good tokens s.0 s.1.0 s.1.3 h).1 true in record { chain = (tt, refl, r.chain); good = r.good }
   expr_links (not_syntax at e) tokens rest s f h g =
-      let r = expr_links e s.0 rest s.2 f.1 (first_good tokens s.0 s.1.0 s.1.3 h).1 false in record { chain = (lit< tt, refl, (tt, refl, r.chain)); good = r.good }
+      let r = expr_links e s.0 rest s.2 f.1 (first_good tokens s.0 s.1.0 s.1.3 h).1 false in record { chain = (tt, refl, (tt, refl, r.chain)); good = r.good }
   expr_links (arith_syntax at op a b) tokens rest s f h g =
       let r = expr_links a tokens s.0 s.2 f.2 h g in let q = expr_links b s.1 rest s.4 f.3 (infix_behind (infix_of.Arith op) (ends_in_number a) at s.0 s.1 s.3 r.good) false in
       record { chain = regroup (expr_pieces a) (space ∷ arith_piece op ∷ []) (space ∷ expr_pieces b) (fresh g false) full (link (expr_pieces a) (space ∷ arith_piece op ∷ space ∷ expr_pieces b) g false r.chain (spaced_arith op (expr_pieces b) q.chain)); good = q.good }
@@ -133,30 +134,30 @@ mutual
       record { chain = regroup (expr_pieces a) (space ∷ compare_pieces sign) (space ∷ expr_pieces b) (fresh g false) full (link (expr_pieces a) (space ∷ compare_pieces sign ++ space ∷ expr_pieces b) g false r.chain (spaced_compare sign (expr_pieces b) q.chain)); good = q.good }
   expr_links (and_syntax at a b) tokens rest s f h g =
       let r = expr_links a tokens s.0 s.2 f.2 h g in let q = expr_links b s.1 rest s.4 f.3 (infix_behind infix_of.And (ends_in_number a) at s.0 s.1 s.3 r.good) false in
-      record { chain = regroup (expr_pieces a) (space ∷ double_and ∷ []) (space ∷ expr_pieces b) (fresh g false) full (link (expr_pieces a) (space ∷ double_and ∷ space ∷ expr_pieces b) g false r.chain (tt, refl, (lit< tt, refl, (tt, refl, q.chain)))); good = q.good }
+      record { chain = regroup (expr_pieces a) (space ∷ double_and ∷ []) (space ∷ expr_pieces b) (fresh g false) full (link (expr_pieces a) (space ∷ double_and ∷ space ∷ expr_pieces b) g false r.chain (tt, refl, (tt, refl, (tt, refl, q.chain)))); good = q.good }
   expr_links (or_syntax at a b) tokens rest s f h g =
       let r = expr_links a tokens s.0 s.2 f.2 h g in let q = expr_links b s.1 rest s.4 f.3 (infix_behind infix_of.Or (ends_in_number a) at s.0 s.1 s.3 r.good) false in
-      record { chain = regroup (expr_pieces a) (space ∷ double_bar ∷ []) (space ∷ expr_pieces b) (fresh g false) full (link (expr_pieces a) (space ∷ double_bar ∷ space ∷ expr_pieces b) g false r.chain (tt, refl, (lit< tt, refl, (tt, refl, q.chain)))); good = q.good }
+      record { chain = regroup (expr_pieces a) (space ∷ double_bar ∷ []) (space ∷ expr_pieces b) (fresh g false) full (link (expr_pieces a) (space ∷ double_bar ∷ space ∷ expr_pieces b) g false r.chain (tt, refl, (tt, refl, (tt, refl, q.chain)))); good = q.good }
   expr_links (cons_syntax at a b) tokens rest s f h g =
       let r = expr_links a tokens s.0 s.2 f.2 h g in let q = expr_links b s.1 rest s.4 f.3 (infix_behind infix_of.Cons (ends_in_number a) at s.0 s.1 s.3 r.good) false in
-      record { chain = regroup (expr_pieces a) (space ∷ double_colon ∷ []) (space ∷ expr_pieces b) (fresh g false) full (link (expr_pieces a) (space ∷ double_colon ∷ space ∷ expr_pieces b) g false r.chain (tt, refl, (lit< tt, refl, (tt, refl, q.chain)))); good = q.good }
+      record { chain = regroup (expr_pieces a) (space ∷ double_colon ∷ []) (space ∷ expr_pieces b) (fresh g false) full (link (expr_pieces a) (space ∷ double_colon ∷ space ∷ expr_pieces b) g false r.chain (tt, refl, (tt, refl, (tt, refl, q.chain)))); good = q.good }
   expr_links (if_syntax at c a b) tokens rest s f h g =
       let o = expr_links c s.0 s.1 s.6 f.0 (first_good tokens s.0 s.5.0 s.5.3 h).1 false in
       let r = expr_links a s.2 s.3 s.8 f.1 (first_good s.1 s.2 s.7.0 s.7.2 o.good).1 false in
       let q = expr_links b s.4 rest s.10 f.2 (first_good s.3 s.4 s.9.0 s.9.2 r.good).1 false in
-      let last = spaced_word 5 (expr_pieces b) (lit< tt) q.chain in
+      let last = spaced_word keyword.Else (expr_pieces b) q.chain in
       let middle = link (expr_pieces a) (space ∷ else_word ∷ space ∷ expr_pieces b) false false r.chain last in
-      let both = spaced_word 4 (expr_pieces a ++ space ∷ else_word ∷ space ∷ expr_pieces b) (lit< tt) middle in
+      let both = spaced_word keyword.Then (expr_pieces a ++ space ∷ else_word ∷ space ∷ expr_pieces b) middle in
       let whole = link (expr_pieces c) (space ∷ then_word ∷ space ∷ expr_pieces a ++ space ∷ else_word ∷ space ∷ expr_pieces b) false false o.chain both in
-      record { chain = regroup (if_word ∷ space ∷ expr_pieces c) (space ∷ then_word ∷ space ∷ expr_pieces a) (space ∷ else_word ∷ space ∷ expr_pieces b) (fresh g false) full (lit< tt, refl, (tt, refl, whole)); good = q.good }
+      record { chain = regroup (if_word ∷ space ∷ expr_pieces c) (space ∷ then_word ∷ space ∷ expr_pieces a) (space ∷ else_word ∷ space ∷ expr_pieces b) (fresh g false) full (tt, refl, (tt, refl, whole)); good = q.good }
   expr_links (let_syntax at x a b) tokens rest s f h g =
       let o = binder_links x s.0 s.1 s.6 (first_good tokens s.0 s.5.0 s.5.3 h).1 in
       let r = expr_links a s.2 s.3 s.8 f.0 (first_good s.1 s.2 s.7.0 s.7.2 o.1).1 false in
       let q = expr_links b s.4 rest s.10 f.1 (first_good s.3 s.4 s.9.0 s.9.2 r.good).1 false in
-      let last = spaced_word 2 (expr_pieces b) (lit< tt) q.chain in
+      let last = spaced_word keyword.In (expr_pieces b) q.chain in
       let value = link (expr_pieces a) (space ∷ in_word ∷ space ∷ expr_pieces b) false false r.chain last in
       let others = expr_pieces a ++ space ∷ in_word ∷ space ∷ expr_pieces b in
-      record { chain = (lit< tt, refl, (tt, refl, binder_step x false (space ∷ equal ∷ space ∷ others) o.0 (spaced_equal others value))); good = q.good }
+      record { chain = (tt, refl, (tt, refl, binder_step x false (space ∷ equal ∷ space ∷ others) o.0 (spaced_equal others value))); good = q.good }
   expr_links (match_syntax at l a x y b) tokens rest s f h g =
       let o = expr_links l s.0 s.1 s.6 f.0 (first_good tokens s.0 s.5.0 s.5.3 h).1 false in
       let r = expr_links a s.2 s.3 s.8 f.1 (empty_arm_behind s.1 s.2 s.7 o.good) false in
@@ -168,20 +169,20 @@ mutual
       let second = space ∷ bar ∷ space ∷ binder_piece x ∷ space ∷ double_colon ∷ space ∷ binder_piece y ∷ space ∷ arrow ∷ space ∷ expr_pieces b in
       let first = empty_arm_chain (expr_pieces a ++ second) (link (expr_pieces a) second false false r.chain last) in
       let whole = link (expr_pieces l) (space ∷ with_word ∷ space ∷ list_open ∷ list_close ∷ space ∷ arrow ∷ space ∷ expr_pieces a ++ second) false false o.chain first in
-      record { chain = regroup (match_word ∷ space ∷ expr_pieces l) (space ∷ with_word ∷ space ∷ list_open ∷ list_close ∷ space ∷ arrow ∷ space ∷ expr_pieces a) second (fresh g false) full (lit< tt, refl, (tt, refl, whole)); good = q.good }
+      record { chain = regroup (match_word ∷ space ∷ expr_pieces l) (space ∷ with_word ∷ space ∷ list_open ∷ list_close ∷ space ∷ arrow ∷ space ∷ expr_pieces a) second (fresh g false) full (tt, refl, (tt, refl, whole)); good = q.good }
   expr_links (nil_syntax at t) tokens rest s f h g = nil_links at t tokens rest s f h g
   expr_links (list_syntax at es) tokens rest s f h g =
       let r = item_links es s.0 s.1 s.3 f (first_good tokens s.0 s.2.0 s.2.3 h).1 in
-      record { chain = (lit< tt, refl, link (item_pieces es) (list_close ∷ []) true false r.chain (lit< tt, refl, refl)); good = (first_good s.1 rest s.4.0 s.4.2 r.good).1 }
+      record { chain = (tt, refl, link (item_pieces es) (list_close ∷ []) true false r.chain (tt, refl, refl)); good = (first_good s.1 rest s.4.0 s.4.2 r.good).1 }
   expr_links (fields_syntax at fs) tokens rest s f h g =
       let r = field_links fs s.0 s.1 s.3 f (first_good tokens s.0 s.2.0 s.2.3 h).1 in
-      record { chain = (lit< tt, refl, (tt, refl, link (field_pieces fs) (space ∷ record_close ∷ []) false false r.chain (tt, refl, (lit< tt, refl, refl)))); good = (first_good s.1 rest s.4.0 s.4.2 r.good).1 }
+      record { chain = (tt, refl, (tt, refl, link (field_pieces fs) (space ∷ record_close ∷ []) false false r.chain (tt, refl, (tt, refl, refl)))); good = (first_good s.1 rest s.4.0 s.4.2 r.good).1 }
   expr_links (field_syntax at place x e) tokens rest s f h g =
       let r = expr_links e tokens s.0 s.2 f.1 h g in let b = first_good s.1 rest s.4.0 s.4.3 (first_good s.0 s.1 s.3.0 s.3.3 r.good).1 in
-      record { chain = link (expr_pieces e) (dot ∷ name x ∷ []) g false r.chain (lit< tt, refl, (name_good s.4.0.kind x s.4.1 b.0, refl, refl)); good = b.1 }
+      record { chain = link (expr_pieces e) (dot ∷ name x ∷ []) g false r.chain (tt, refl, (name_good s.4.0.kind x s.4.1 b.0, refl, refl)); good = b.1 }
   expr_links (bracket_expr_syntax at e) tokens rest s f h g =
       let r = expr_links e s.0 s.1 s.3 f (first_good tokens s.0 s.2.0 s.2.3 h).1 true in
-      record { chain = (lit< tt, refl, link (expr_pieces e) (bracket_close ∷ []) true false r.chain (lit< tt, refl, refl)); good = (first_good s.1 rest s.4.0 s.4.2 r.good).1 }
+      record { chain = (tt, refl, link (expr_pieces e) (bracket_close ∷ []) true false r.chain (tt, refl, refl)); good = (first_good s.1 rest s.4.0 s.4.2 r.good).1 }
 
   argument_links : (es : ExprSyntaxes) (tokens rest : List Token) → AllSpell es tokens rest → AreAtoms es → AllGood tokens → Linked full (argument_pieces es) full rest
   argument_links no_exprs tokens rest s f h = linked_all tokens rest s h
@@ -199,7 +200,7 @@ mutual
   more_item_links no_exprs tokens rest s f h = linked_all tokens rest s h
   more_item_links (more_exprs e es) tokens rest s f h =
       let r = expr_links e s.0 s.1 s.3 f.0 (first_good tokens s.0 s.2.0 s.2.2 h).1 false in let q = more_item_links es s.1 rest s.4 f.1 r.good in
-      record { chain = (lit< tt, refl, (tt, refl, link (expr_pieces e) (more_item_pieces es) false false r.chain q.chain)); good = q.good }
+      record { chain = (tt, refl, (tt, refl, link (expr_pieces e) (more_item_pieces es) false false r.chain q.chain)); good = q.good }
 
   field_links : (fs : FieldSyntaxes) (tokens rest : List Token) → FieldsSpell fs tokens rest → FieldsFit fs → AllGood tokens → Linked (fresh false false) (field_pieces fs) full rest
   field_links no_fields tokens rest s f h = absurd s
@@ -215,4 +216,4 @@ mutual
       let b = first_good s.0 s.1 s.5.0 s.5.3 (first_good tokens s.0 s.4.0 s.4.2 h).1 in
       let r = expr_links e s.2 s.3 s.7 f.0 (first_good s.1 s.2 s.6.0 s.6.2 b.1).1 false in let q = more_field_links fs s.3 rest s.8 f.1 r.good in
       let others = expr_pieces e ++ more_field_pieces fs in
-      record { chain = (lit< tt, refl, (tt, refl, (name_good s.5.0.kind x s.5.1 b.0, refl, spaced_equal others (link (expr_pieces e) (more_field_pieces fs) false false r.chain q.chain)))); good = q.good }
+      record { chain = (tt, refl, (tt, refl, (name_good s.5.0.kind x s.5.1 b.0, refl, spaced_equal others (link (expr_pieces e) (more_field_pieces fs) false false r.chain q.chain)))); good = q.good }

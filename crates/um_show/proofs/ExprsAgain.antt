@@ -6,14 +6,14 @@ use Rattle.um_tree.specs.declared.expression.Arith.TheVariants as arith
 use Rattle.um_tree.specs.declared.expression.Sign.{Sign}
 use Rattle.um_tree.specs.declared.expression.Sign.TheVariants as compare
 use Rattle.um_tree.specs.RawTree.{NoteSyntax, BinderSyntax, ExprSyntax, ExprSyntaxes, FieldSyntaxes, truth_syntax, number_syntax, name_syntax, call_syntax, negate_syntax, not_syntax, arith_syntax, compare_syntax, and_syntax, or_syntax, if_syntax, let_syntax, match_syntax, nil_syntax, list_syntax, cons_syntax, fields_syntax, field_syntax, bracket_expr_syntax, no_exprs, more_exprs, no_fields, more_fields}
-use Rattle.um_expr.specs.declared.mark.Infix.TheVariants as between_of
+use Rattle.um_expr.specs.declared.infix.Infix.TheVariants as between_of
 use Rattle.um_expr.specs.ExprTokens.{expr_token}
 use Rattle.um_expr.specs.Ranks.{arith_rank}
 use Rattle.um_expr.specs.ExprGrammar.{BinderSpells, InfixAt, WrittenNote, Spells, AllSpell, MoreItems, MoreFields, NoteFitsIn, IsAny, Fits, AreAtoms, AllFit, FieldsFit, rank, ends_in_number}
 use Rattle.um_show.specs.Pieces.{Piece, space, name, less, greater, equal, at_most, unequal, plus, minus, times, over, double_and, double_bar, double_colon, true_word, false_word, if_word, then_word, else_word, let_word, in_word, match_word, with_word, not_word, bar, arrow, dot, semi, colon, bracket_open, bracket_close, list_open, list_close, record_open, record_close}
 use Rattle.um_show.specs.Layout.{written_pieces, type_pieces, note_pieces, bound_piece, binder_piece, truth_piece, arith_piece, compare_pieces, between, expr_pieces, argument_pieces, item_pieces, more_item_pieces, field_pieces, more_field_pieces}
 use Rattle.um_show.specs.Unplaced.{bare_written, bare_binder, bare_expr, bare_exprs, bare_fields}
-use Rattle.um_show.proofs.Standing.{PieceStands, Stands, both, only}
+use Rattle.um_show.proofs.PieceTokens.{PieceSpells, PiecesSpell, both, only}
 use Rattle.um_show.proofs.TypesAgain.{note_again, type_again}
 
 pub record ExprAgain (e : ExprSyntax) (tokens rest : List Token) : Type 0 where
@@ -43,15 +43,15 @@ pub record MoreFieldsAgain (fs : FieldSyntaxes) (tokens rest : List Token) : Typ
   pub same : bare_fields again ≡ bare_fields fs
 
 -- blanks in front of pieces have no token
-pub past : (ps : List Piece) (g : Bool) (tokens : List Token) (h : Bool) (rest : List Token) → Stands (space ∷ ps) g tokens h rest → Stands ps false tokens h rest
-past ps g tokens h rest s = subst (λ f. Stands ps f tokens h rest) s.here.blank_end (subst (λ ts. Stands ps s.flag ts h rest) (sym s.here.none) s.later)
+pub past : (ps : List Piece) (g : Bool) (tokens : List Token) (h : Bool) (rest : List Token) → PiecesSpell (space ∷ ps) g tokens h rest → PiecesSpell ps false tokens h rest
+past ps g tokens h rest s = subst (λ f. PiecesSpell ps f tokens h rest) s.here.blank_end (subst (λ ts. PiecesSpell ps s.flag ts h rest) (sym s.here.none) s.later)
 
 pub record BinderAgain (x : BinderSyntax) (tokens rest : List Token) : Type 0 where
   pub again : BinderSyntax
   pub spelled : BinderSpells again tokens rest
   pub same : bare_binder again ≡ bare_binder x
 
-pub binder_again : (at : ℕ) (x : Option (List ℕ)) (g : Bool) (tokens : List Token) (h : Bool) (rest : List Token) → PieceStands (bound_piece x) g tokens h rest → BinderAgain (record { at = at; name = x }) tokens rest
+pub binder_again : (at : ℕ) (x : Option (List ℕ)) (g : Bool) (tokens : List Token) (h : Bool) (rest : List Token) → PieceSpells (bound_piece x) g tokens h rest → BinderAgain (record { at = at; name = x }) tokens rest
 binder_again at None g tokens h rest o = record { again = record { at = o.token.start; name = None }; spelled = (o.token, ap expr_token o.kind, refl, o.first); same = refl }
 binder_again at (Some x) g tokens h rest o = record { again = record { at = o.token.start; name = Some x }; spelled = (o.token, ap expr_token o.kind, refl, o.first); same = refl }
 
@@ -59,13 +59,13 @@ binder_again at (Some x) g tokens h rest o = record { again = record { at = o.to
 pub record Led (p : Piece) (g : Bool) (ps : List Piece) (tokens : List Token) (h : Bool) (rest : List Token) : Type 0 where
   pub flag : Bool
   pub next : List Token
-  pub here : PieceStands p g tokens flag next
-  pub later : Stands ps false next h rest
+  pub here : PieceSpells p g tokens flag next
+  pub later : PiecesSpell ps false next h rest
 
-pub led : (p : Piece) (ps : List Piece) (g : Bool) (tokens : List Token) (h : Bool) (rest : List Token) → Stands (p ∷ space ∷ ps) g tokens h rest → Led p g ps tokens h rest
+pub led : (p : Piece) (ps : List Piece) (g : Bool) (tokens : List Token) (h : Bool) (rest : List Token) → PiecesSpell (p ∷ space ∷ ps) g tokens h rest → Led p g ps tokens h rest
 led p ps g tokens h rest s = record { flag = s.flag; next = s.next; here = s.here; later = past ps s.flag s.next h rest s.later }
 
-pub spaced : (p : Piece) (ps : List Piece) (g : Bool) (tokens : List Token) (h : Bool) (rest : List Token) → Stands (space ∷ p ∷ space ∷ ps) g tokens h rest → Led p false ps tokens h rest
+pub spaced : (p : Piece) (ps : List Piece) (g : Bool) (tokens : List Token) (h : Bool) (rest : List Token) → PiecesSpell (space ∷ p ∷ space ∷ ps) g tokens h rest → Led p false ps tokens h rest
 spaced p ps g tokens h rest s = led p ps false tokens h rest (past (p ∷ space ∷ ps) g tokens h rest s)
 
 -- signs between two operands
@@ -74,22 +74,22 @@ record Parted (xs signs ys : List Piece) (g : Bool) (tokens : List Token) (h : B
   pub behind : Bool
   pub mid : List Token
   pub next : List Token
-  pub left : Stands xs g tokens flag mid
-  pub middle : Stands signs false mid behind next
-  pub right : Stands ys false next h rest
+  pub left : PiecesSpell xs g tokens flag mid
+  pub middle : PiecesSpell signs false mid behind next
+  pub right : PiecesSpell ys false next h rest
 
-parted : (xs signs ys : List Piece) (g : Bool) (tokens : List Token) (h : Bool) (rest : List Token) → Stands (between xs signs ys) g tokens h rest → Parted xs signs ys g tokens h rest
+parted : (xs signs ys : List Piece) (g : Bool) (tokens : List Token) (h : Bool) (rest : List Token) → PiecesSpell (between xs signs ys) g tokens h rest → Parted xs signs ys g tokens h rest
 parted xs signs ys g tokens h rest s =
     let b = both (xs ++ space ∷ signs) (space ∷ ys) g tokens h rest s in let c = both xs (space ∷ signs) g tokens b.flag b.next b.here in
     record { flag = c.flag; behind = b.flag; mid = c.next; next = b.next; left = c.here; middle = past signs c.flag c.next b.flag b.next c.later; right = past ys b.flag b.next h rest b.later }
 
-arith_sign : (op : Arith) (tokens : List Token) (h : Bool) (rest : List Token) → Stands (arith_piece op ∷ []) false tokens h rest → (at : ℕ) × ((after : Bool) → InfixAt (between_of.Arith op) after at tokens rest)
+arith_sign : (op : Arith) (tokens : List Token) (h : Bool) (rest : List Token) → PiecesSpell (arith_piece op ∷ []) false tokens h rest → (at : ℕ) × ((after : Bool) → InfixAt (between_of.Arith op) after at tokens rest)
 arith_sign arith.Add tokens h rest s = let o = only plus false tokens h rest s in (o.token.start, λ after. (o.token, ap expr_token o.kind, refl, o.first))
 arith_sign arith.Sub tokens h rest s = let o = only minus false tokens h rest s in (o.token.start, λ after. (o.token, ap expr_token o.kind, refl, o.first))
 arith_sign arith.Mul tokens h rest s = let o = only times false tokens h rest s in (o.token.start, λ after. (o.token, ap expr_token o.kind, refl, o.first))
 arith_sign arith.Div tokens h rest s = let o = only over false tokens h rest s in (o.token.start, λ after. (o.token, ap expr_token o.kind, refl, o.first))
 
-compare_sign : (sg : Sign) (tokens : List Token) (h : Bool) (rest : List Token) → Stands (compare_pieces sg) false tokens h rest → (at : ℕ) × ((after : Bool) → InfixAt (between_of.Compare sg) after at tokens rest)
+compare_sign : (sg : Sign) (tokens : List Token) (h : Bool) (rest : List Token) → PiecesSpell (compare_pieces sg) false tokens h rest → (at : ℕ) × ((after : Bool) → InfixAt (between_of.Compare sg) after at tokens rest)
 compare_sign compare.Lt tokens h rest s = let o = only less false tokens h rest s in (o.token.start, λ after. (o.token, ap expr_token o.kind, refl, (λ e. o.gap), o.first))
 compare_sign compare.Le tokens h rest s = let o = only at_most false tokens h rest s in (o.token.start, λ after. (o.token, ap expr_token o.kind, refl, o.first))
 compare_sign compare.Eq tokens h rest s = let o = only equal false tokens h rest s in (o.token.start, λ after. (o.token, ap expr_token o.kind, refl, o.first))
@@ -106,19 +106,19 @@ record UnitNoteAgain (n : Option NoteSyntax) (tokens rest : List Token) : Type 0
   pub same : bare_written again ≡ bare_written n
 
 -- the note directly behind a number
-unit_note_again : (n : Option NoteSyntax) → NoteFitsIn n → (g : Bool) → g ≡ true → (tokens : List Token) (h : Bool) (rest : List Token) → Stands (written_pieces n) g tokens h rest → UnitNoteAgain n tokens rest
+unit_note_again : (n : Option NoteSyntax) → NoteFitsIn n → (g : Bool) → g ≡ true → (tokens : List Token) (h : Bool) (rest : List Token) → PiecesSpell (written_pieces n) g tokens h rest → UnitNoteAgain n tokens rest
 unit_note_again None f g glued tokens h rest s = record { again = None; spelled = s.same; fits = tt; same = refl }
 unit_note_again (Some n) f g glued tokens h rest s =
     let o = s.here in let b = both (note_pieces n) (greater ∷ []) s.flag s.next h rest s.later in
     let r = note_again n f s.flag s.next b.flag b.next b.here in let c = only greater b.flag b.next h rest b.later in
     record { again = Some r.again; spelled = (s.next, b.next, (o.token, ap expr_token o.kind, o.gap ∙ glued, o.first), r.spelled, (c.token, ap expr_token c.kind, c.first)); fits = r.fits; same = ap (λ m. Some m) r.same }
 
-truth_again : (at : ℕ) (b : Bool) (g : Bool) (tokens : List Token) (h : Bool) (rest : List Token) → Stands (truth_piece b ∷ []) g tokens h rest → ExprAgain (truth_syntax at b) tokens rest
+truth_again : (at : ℕ) (b : Bool) (g : Bool) (tokens : List Token) (h : Bool) (rest : List Token) → PiecesSpell (truth_piece b ∷ []) g tokens h rest → ExprAgain (truth_syntax at b) tokens rest
 truth_again at true g tokens h rest s = let o = only true_word g tokens h rest s in record { again = truth_syntax o.token.start true; spelled = (o.token, ap expr_token o.kind, refl, o.first); fits = tt; same = refl; ranked = refl }
 truth_again at false g tokens h rest s = let o = only false_word g tokens h rest s in record { again = truth_syntax o.token.start false; spelled = (o.token, ap expr_token o.kind, refl, o.first); fits = tt; same = refl; ranked = refl }
 
 mutual
-  pub expr_again : (e : ExprSyntax) → Fits e → (old end : List Token) → Spells e old end → (g : Bool) (tokens : List Token) (h : Bool) (rest : List Token) → Stands (expr_pieces e) g tokens h rest → ExprAgain e tokens rest
+  pub expr_again : (e : ExprSyntax) → Fits e → (old end : List Token) → Spells e old end → (g : Bool) (tokens : List Token) (h : Bool) (rest : List Token) → PiecesSpell (expr_pieces e) g tokens h rest → ExprAgain e tokens rest
   expr_again (truth_syntax at b) f old end q g tokens h rest s = truth_again at b g tokens h rest s
   expr_again (number_syntax at c n) f old end q g tokens h rest s =
       let o = s.here in let r = unit_note_again n f s.flag o.open_end s.next h rest s.later in
@@ -219,21 +219,21 @@ mutual
       let r = expr_again e f q.0 q.1 q.3 p.here.flag p.here.next p.flag p.next p.here.later in let c = only bracket_close p.flag p.next h rest p.later in
       record { again = bracket_expr_syntax o.token.start r.again; spelled = (p.here.next, p.next, (o.token, ap expr_token o.kind, refl, o.first), r.spelled, (c.token, ap expr_token c.kind, c.first)); fits = r.fits; same = ap (bracket_expr_syntax 0) r.same; ranked = refl }
 
-  pub arguments_again : (es : ExprSyntaxes) → AreAtoms es → (old end : List Token) → AllSpell es old end → (g : Bool) (tokens : List Token) (h : Bool) (rest : List Token) → Stands (argument_pieces es) g tokens h rest → ArgumentsAgain es tokens rest
+  pub arguments_again : (es : ExprSyntaxes) → AreAtoms es → (old end : List Token) → AllSpell es old end → (g : Bool) (tokens : List Token) (h : Bool) (rest : List Token) → PiecesSpell (argument_pieces es) g tokens h rest → ArgumentsAgain es tokens rest
   arguments_again no_exprs f old end q g tokens h rest s = record { again = no_exprs; spelled = s.same; fits = tt; same = refl; some = λ n. n }
   arguments_again (more_exprs e es) f old end q g tokens h rest s =
       let b = both (space ∷ expr_pieces e) (argument_pieces es) g tokens h rest s in let x = expr_again e f.1 old q.0 q.1 false tokens b.flag b.next (past (expr_pieces e) g tokens b.flag b.next b.here) in
       let r = arguments_again es f.2 q.0 end q.2 b.flag b.next h rest b.later in
       record { again = more_exprs x.again r.again; spelled = (b.next, x.spelled, r.spelled); fits = (x.ranked ∙ f.0, x.fits, r.fits); same = ap (λ v. more_exprs v (bare_exprs r.again)) x.same ∙ ap (more_exprs (bare_expr e)) r.same; some = λ n. tt }
 
-  pub more_items_again : (es : ExprSyntaxes) → AllFit es → (old end : List Token) → MoreItems es old end → (g : Bool) (tokens : List Token) (h : Bool) (rest : List Token) → Stands (more_item_pieces es) g tokens h rest → MoreItemsAgain es tokens rest
+  pub more_items_again : (es : ExprSyntaxes) → AllFit es → (old end : List Token) → MoreItems es old end → (g : Bool) (tokens : List Token) (h : Bool) (rest : List Token) → PiecesSpell (more_item_pieces es) g tokens h rest → MoreItemsAgain es tokens rest
   more_items_again no_exprs f old end q g tokens h rest s = record { again = no_exprs; spelled = s.same; fits = tt; same = refl }
   more_items_again (more_exprs e es) f old end q g tokens h rest s =
       let b = both (semi ∷ space ∷ expr_pieces e) (more_item_pieces es) g tokens h rest s in let l = led semi (expr_pieces e) g tokens b.flag b.next b.here in let o = l.here in
       let x = expr_again e f.0 q.0 q.1 q.3 false l.next b.flag b.next l.later in let r = more_items_again es f.1 q.1 end q.4 b.flag b.next h rest b.later in
       record { again = more_exprs x.again r.again; spelled = (l.next, b.next, (o.token, ap expr_token o.kind, o.first), x.spelled, r.spelled); fits = (x.fits, r.fits); same = ap (λ v. more_exprs v (bare_exprs r.again)) x.same ∙ ap (more_exprs (bare_expr e)) r.same }
 
-  pub more_fields_again : (fs : FieldSyntaxes) → FieldsFit fs → (old end : List Token) → MoreFields fs old end → (g : Bool) (tokens : List Token) (h : Bool) (rest : List Token) → Stands (more_field_pieces fs) g tokens h rest → MoreFieldsAgain fs tokens rest
+  pub more_fields_again : (fs : FieldSyntaxes) → FieldsFit fs → (old end : List Token) → MoreFields fs old end → (g : Bool) (tokens : List Token) (h : Bool) (rest : List Token) → PiecesSpell (more_field_pieces fs) g tokens h rest → MoreFieldsAgain fs tokens rest
   more_fields_again no_fields f old end q g tokens h rest s = record { again = no_fields; spelled = s.same; fits = tt; same = refl }
   more_fields_again (more_fields at x e fs) f old end q g tokens h rest s =
       let b = both (semi ∷ space ∷ name x ∷ space ∷ equal ∷ space ∷ expr_pieces e) (more_field_pieces fs) g tokens h rest s in

@@ -1,5 +1,5 @@
 -- What the tokens of a text say of their names and numbers.
-use Rattle.std.proofs.Common.{◌≡◌, ℕ, zero, suc, ◌≤◌, ◌/◌, ℤ, pos, negsuc, Bool, true, false, cond, nat_le, ◌==◌, ◌||◌, List, [], ◌∷◌, ◌++◌, Option, Some, None, option_map, bytes_eq, encode_utf8_all, slice_index_or, refl, sym, ap, subst, ◌∙◌, arith}
+use Rattle.std.proofs.Common.{◌≡◌, ℕ, zero, suc, ◌≤◌, ◌/◌, ℤ, pos, negsuc, Bool, true, false, cond, nat_le, List, [], ◌∷◌, ◌++◌, Option, Some, None, refl, sym, ap, subst, ◌∙◌, arith}
 use Rattle.std.proofs.lemmas.Bool.{false≢true, and_parts, and_from}
 use Rattle.std.proofs.lemmas.Bool.Decides.{nat_tests}
 use Rattle.std.proofs.lemmas.Option.{cond_some}
@@ -12,15 +12,18 @@ use Rattle.um_frac.proofs.LowestTerms.{fraction-parts, reduced-zero, reduced-sig
 use Rattle.um_syntax.specs.declared.token.Token.{Token}
 use Rattle.um_syntax.specs.declared.token.Kind.{Kind}
 use Rattle.um_syntax.specs.declared.token.Kind.TheVariants as kind
-use Rattle.um_syntax.specs.Numeral.{Numeral, Whole, Decimal, Ratio, numeral_text, numerator_of, denominator_of, value_of, number_value}
-use Rattle.um_syntax.specs.Lexeme.{Lexeme, Name, Var, Number, Word, Hole, Sign, text_of, IsLexeme, is_whole, kind_of}
-use Rattle.um_syntax.specs.Lexing.{Lexes, HasTokens, is_power_place, body, body_place}
+use Rattle.um_syntax.specs.Numeral.{Numeral, Whole, Decimal, Ratio, numerator_of, denominator_of, value_of, number_value}
+use Rattle.um_syntax.specs.Lexing.{HasTokens}
+use Rattle.um_syntax.proofs.TokenKinds.{AllKinds, KindsHold, kinds_hold}
 use Rattle.um_types.specs.UnitTokens.{UnitToken, unit_token, power_from, greatest_power}
 use Rattle.um_types.specs.UnitTokens as of_unit
-use Rattle.um_types.specs.TypeTokens.{type_token}
-use Rattle.um_types.specs.TypeTokens as of_type
-use Rattle.um_expr.specs.declared.mark.Mark.TheVariants as mark
-use Rattle.um_expr.specs.ExprTokens.{ExprToken, name, variable, number, truth, hole, operator, plain, expr_token, word_tokens, sign_tokens}
+use Rattle.um_syntax.specs.declared.vocabulary.Keyword.{Keyword}
+use Rattle.um_syntax.specs.declared.vocabulary.Keyword.TheVariants as keyword
+use Rattle.um_syntax.specs.declared.vocabulary.Symbol.{Symbol}
+use Rattle.um_syntax.specs.declared.vocabulary.Symbol.TheVariants as symbol
+use Rattle.um_expr.specs.declared.token.ExprToken.{ExprToken}
+use Rattle.um_expr.specs.declared.token.ExprToken.TheVariants.{Name as name, Variable as variable, Number as number, Truth as truth, Hole as hole, Operator as operator, Word as word, Mark as mark}
+use Rattle.um_expr.specs.ExprTokens.{expr_token, keyword_token, symbol_token}
 use Rattle.um_show.proofs.Chain.{IsGoodName}
 
 -- a number that isn't negative
@@ -36,8 +39,7 @@ GoodKind kind.Hole = Unit {0}
 GoodKind (kind.Sign k) = Unit {0}
 
 abbrev pub AllGood : List Token → Type 0
-AllGood [] = Unit {0}
-AllGood (token ∷ tokens) = GoodKind token.kind × AllGood tokens
+AllGood = AllKinds GoodKind
 
 -- ---- numbers
 
@@ -66,44 +68,22 @@ scalars_parts (x ∷ xs) ys e =
     let p = and_parts (scalar x) (all_scalars (xs ++ ys)) e in let q = scalars_parts xs ys p.1 in
     (and_from (scalar x) (all_scalars xs) p.0 q.0, q.1)
 
-of_kind : (x k : Kind) → Some x ≡ Some k → GoodKind x → GoodKind k
-of_kind x k e h = let same : x ≡ k = cc in subst (λ w. GoodKind w) same h
+-- each is a Unicode scalar value
+abbrev AreScalars : List ℕ → Type 0
+AreScalars cs = all_scalars cs ≡ true
 
-of_value : (f : Frac → Kind) (o : Option Frac) (k : Kind) → ((v : Frac) → o ≡ Some v → GoodKind (f v)) → option_map f o ≡ Some k → GoodKind k
-of_value f None k h e = absurd (no_kind k e)
-  where
-    no_kind : (k : Kind) → ◌≡◌ {A = Option Kind} None (Some k) → ⊥
-    no_kind k e = cc
-of_value f (Some v) k h e = of_kind (f v) k e (h v refl)
-
-kind_good : (power : Bool) (lexeme : Lexeme) (k : Kind) → IsLexeme lexeme → all_scalars (text_of lexeme) ≡ true → kind_of power lexeme ≡ Some k → GoodKind k
-kind_good power (Name text) k fits s e = of_kind (kind.Name (encode_utf8_all text)) k e (record { text = text; scalars = s; bytes = refl; named = fits })
-kind_good power (Var letters) k fits s e =
-    of_kind (kind.Var (encode_utf8_all letters)) k e (record { text = letters; scalars = (and_parts (scalar 39) (all_scalars letters) s).1; bytes = refl; named = fits })
-kind_good power (Number n) k fits s e =
-    of_value (λ v. kind.Number v (is_whole n) (bytes_eq (numeral_text n) (49 ∷ []))) (number_value power n) k (λ v is. number_natural power n v is) e
-kind_good power (Word n) k fits s e = of_kind (kind.Word n) k e tt
-kind_good power Hole k fits s e = of_kind kind.Hole k e tt
-kind_good power (Sign n) k fits s e = of_kind (kind.Sign n) k e tt
-
-lexes_good : (tokens before : List Token) (at : ℕ) (chars : List ℕ) → all_scalars chars ≡ true → Lexes before at chars tokens → AllGood tokens
-lexes_good [] before at chars s l = tt
-lexes_good (t ∷ ts) before at chars s l =
-    let n = l.1 in
-    let behind = scalars_parts n.gap (text_of n.lexeme ++ l.0) (ap all_scalars (sym n.cut) ∙ s) in
-    let parts = scalars_parts (text_of n.lexeme) l.0 behind.1 in
-    (kind_good (is_power_place before) n.lexeme t.kind n.fits parts.0 n.kind, lexes_good ts (before ++ t ∷ []) t.end l.0 parts.1 l.2)
-
-body_scalars : (cs : List ℕ) → all_scalars cs ≡ true → all_scalars (body cs) ≡ true
-body_scalars [] s = refl
-body_scalars (c ∷ cs) s = go (c == 65279)
-  where
-    go : (b : Bool) → all_scalars (cond b cs (c ∷ cs)) ≡ true
-    go true = (and_parts (scalar c) (all_scalars cs) s).1
-    go false = s
+good_kinds : KindsHold GoodKind AreScalars
+good_kinds = record {
+  name = λ text named s. record { text = text; scalars = s; bytes = refl; named = named };
+  variable = λ name named s. record { text = name; scalars = s; bytes = refl; named = named };
+  number = number_natural;
+  word = λ k. tt;
+  hole = tt;
+  sign = λ k. tt;
+}
 
 pub tokens_good : (cs : List ℕ) (tokens : List Token) → all_scalars cs ≡ true → HasTokens cs tokens → AllGood tokens
-tokens_good cs tokens s l = lexes_good tokens [] (body_place cs) (body cs) (body_scalars cs s) l
+tokens_good cs tokens s l = kinds_hold GoodKind AreScalars good_kinds scalars_parts cs tokens s l
 
 -- the first token and the others
 pub first_good : (tokens rest : List Token) (token : Token) → tokens ≡ token ∷ rest → AllGood tokens → AllGood (token ∷ rest)
@@ -151,13 +131,8 @@ power_good (kind.Sign k) one n e = absurd cc
 
 -- ---- to types
 
-pub type_name_good : (k : Kind) (x : List ℕ) → type_token k ≡ of_type.name x → GoodKind k → IsGoodName x
-type_name_good (kind.Name y) x e h = let same : y ≡ x = cc in subst (λ w. Named w) same h
-type_name_good (kind.Var y) x e h = absurd cc
-type_name_good (kind.Number value whole one) x e h = absurd cc
-type_name_good (kind.Word k) x e h = absurd cc
-type_name_good kind.Hole x e h = absurd cc
-type_name_good (kind.Sign k) x e h = absurd cc
+pub type_name_good : (k : Kind) (x : List ℕ) → k ≡ kind.Name x → GoodKind k → IsGoodName x
+type_name_good k x e h = subst (λ w. GoodKind w) e h
 
 -- ---- to expressions and declarations
 
@@ -168,44 +143,40 @@ is_atom (number c) = true
 is_atom (truth b) = false
 is_atom hole = false
 is_atom (operator sign) = false
-is_atom (plain m) = false
+is_atom (word k) = false
+is_atom (mark s) = false
 
-abbrev any_atom : List ExprToken → Bool
-any_atom [] = false
-any_atom (t ∷ ts) = is_atom t || any_atom ts
+word_no_atom : (k : Keyword) → is_atom (keyword_token k) ≡ false
+word_no_atom keyword.True = refl
+word_no_atom _ = refl
 
-neither : (a b : Bool) → (a || b) ≡ false → (a ≡ false) × (b ≡ false)
-neither true b e = absurd (false≢true (sym e))
-neither false b e = (refl, e)
+sign_no_atom : (s : Symbol) → is_atom (symbol_token s) ≡ false
+sign_no_atom symbol.Less = refl
+sign_no_atom _ = refl
 
-no_atom_at : (ts : List ExprToken) (k : ℕ) → any_atom ts ≡ false → is_atom (slice_index_or ts k (plain mark.Other)) ≡ false
-no_atom_at [] k e = refl
-no_atom_at (t ∷ ts) zero e = (neither (is_atom t) (any_atom ts) e).0
-no_atom_at (t ∷ ts) (suc k) e = no_atom_at ts k (neither (is_atom t) (any_atom ts) e).1
-
-none_in : (ts : List ExprToken) (k : ℕ) (t : ExprToken) → any_atom ts ≡ false → is_atom t ≡ true → slice_index_or ts k (plain mark.Other) ≡ t → ⊥
-none_in ts k t none atom e = false≢true (sym (no_atom_at ts k none) ∙ ap is_atom e ∙ atom)
+no_atom : (b t : ExprToken) → is_atom b ≡ false → is_atom t ≡ true → b ≡ t → ⊥
+no_atom b t none atom e = false≢true (sym none ∙ ap is_atom e ∙ atom)
 
 pub name_good : (k : Kind) (x : List ℕ) → expr_token k ≡ name x → GoodKind k → IsGoodName x
 name_good (kind.Name y) x e h = let same : y ≡ x = cc in subst (λ w. Named w) same h
 name_good (kind.Var y) x e h = absurd cc
 name_good (kind.Number value whole one) x e h = absurd cc
-name_good (kind.Word k) x e h = absurd (none_in word_tokens k (name x) refl refl e)
+name_good (kind.Word k) x e h = absurd (no_atom (keyword_token k) (name x) (word_no_atom k) refl e)
 name_good kind.Hole x e h = absurd cc
-name_good (kind.Sign k) x e h = absurd (none_in sign_tokens k (name x) refl refl e)
+name_good (kind.Sign k) x e h = absurd (no_atom (symbol_token k) (name x) (sign_no_atom k) refl e)
 
 pub variable_good : (k : Kind) (x : List ℕ) → expr_token k ≡ variable x → GoodKind k → IsGoodName x
 variable_good (kind.Name y) x e h = absurd cc
 variable_good (kind.Var y) x e h = let same : y ≡ x = cc in subst (λ w. Named w) same h
 variable_good (kind.Number value whole one) x e h = absurd cc
-variable_good (kind.Word k) x e h = absurd (none_in word_tokens k (variable x) refl refl e)
+variable_good (kind.Word k) x e h = absurd (no_atom (keyword_token k) (variable x) (word_no_atom k) refl e)
 variable_good kind.Hole x e h = absurd cc
-variable_good (kind.Sign k) x e h = absurd (none_in sign_tokens k (variable x) refl refl e)
+variable_good (kind.Sign k) x e h = absurd (no_atom (symbol_token k) (variable x) (sign_no_atom k) refl e)
 
 pub number_good : (k : Kind) (c : Frac) → expr_token k ≡ number c → GoodKind k → IsNatural c
 number_good (kind.Name y) c e h = absurd cc
 number_good (kind.Var y) c e h = absurd cc
 number_good (kind.Number value whole one) c e h = let same : value ≡ c = cc in subst (λ w. IsNatural w) same h
-number_good (kind.Word k) c e h = absurd (none_in word_tokens k (number c) refl refl e)
+number_good (kind.Word k) c e h = absurd (no_atom (keyword_token k) (number c) (word_no_atom k) refl e)
 number_good kind.Hole c e h = absurd cc
-number_good (kind.Sign k) c e h = absurd (none_in sign_tokens k (number c) refl refl e)
+number_good (kind.Sign k) c e h = absurd (no_atom (symbol_token k) (number c) (sign_no_atom k) refl e)

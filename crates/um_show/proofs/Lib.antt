@@ -1,7 +1,7 @@
 mod Joined
 mod ListTexts
 mod Examples
-pub mod Standing
+pub mod PieceTokens
 pub mod UnitsAgain
 pub mod TypesAgain
 pub mod ExprsAgain
@@ -11,7 +11,7 @@ pub mod NextToken
 pub mod Apart
 pub mod Chain
 pub mod SignRoles
-pub mod Fronts
+pub mod Beginnings
 pub mod Opens
 pub mod ChainTexts
 pub mod GoodTokens
@@ -20,3 +20,6 @@ pub mod TypeLinks
 pub mod ExprLinks
 pub mod DeclLinks
 pub mod ReadBack
+mod RisingLists
+pub mod UnitOrder
+mod JoinedTexts

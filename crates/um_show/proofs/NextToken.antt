@@ -7,7 +7,7 @@ use Rattle.um_syntax.specs.Gap.{is_space, nothing, space, IsLastGap, closed, unc
 use Rattle.um_syntax.specs.Lexeme.{Lexeme, text_of, IsLexeme, Ends, IsAlone, kind_of}
 use Rattle.um_syntax.specs.Lexing.{size_of, is_glued, is_power_place, Lexes}
 use Rattle.um_show.specs.Pieces.{Piece}
-use Rattle.um_show.proofs.Standing.{IsKind}
+use Rattle.um_show.proofs.PieceTokens.{IsKind}
 
 -- behind these tokens and in front of these characters the piece is a token's text
 pub record Entry (p : Piece) (before : List Token) (more : List ℕ) : Type 0 where

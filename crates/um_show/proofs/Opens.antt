@@ -15,19 +15,21 @@ use Rattle.um_frac.proofs.LowestTerms.{fraction_from}
 use Rattle.um_frac.proofs.Outcomes.{reduced-whole}
 use Rattle.um_syntax.specs.declared.token.Kind.{Kind}
 use Rattle.um_syntax.specs.declared.token.Kind.TheVariants as kind_is
-use Rattle.um_syntax.specs.Vocabulary.{words, signs, word_text, sign_text}
+use Rattle.um_syntax.specs.declared.vocabulary.Keyword.{Keyword}
+use Rattle.um_syntax.specs.declared.vocabulary.Symbol.{Symbol}
+use Rattle.um_syntax.specs.Vocabulary.{keyword_text, symbol_text}
 use Rattle.um_syntax.specs.Numeral.{Whole, numeral_text, number_value}
 use Rattle.um_syntax.specs.Lexeme.{Lexeme, Name, Var, Number, Word, Hole, Sign, text_of, IsLexeme, Ends, IsAlone, is_whole, kind_of}
-use Rattle.um_syntax.specs.Lexing.{is_kind_sign}
-use Rattle.um_syntax.proofs.Tables.{word_identifier}
+use Rattle.um_syntax.specs.Lexing.{is_caret_kind, is_minus_kind}
+use Rattle.um_syntax.proofs.Tables.{keyword_identifier}
 use Rattle.um_syntax.proofs.Texts.{hole_encoded}
 use Rattle.um_types.specs.UnitTokens.{greatest_power}
 use Rattle.um_show.specs.Pieces.{Piece, name, variable, number, digits, word, sign, hole, space, line_end, piece_text}
-use Rattle.um_show.proofs.Standing.{IsKind}
+use Rattle.um_show.proofs.PieceTokens.{IsKind}
 use Rattle.um_show.proofs.Numbers.{numeral_of, power_is, decimal_digits}
 use Rattle.um_show.proofs.Chain.{Place, full, role, after_role, after, takes_letter, is_fresh, takes_digit, takes_sign, may, IsGoodName, Good, Clear, is_behind, is_raised, is_power}
 use Rattle.um_show.proofs.SignRoles.{role_is, sign_stops, raised_after, power_after, behind_after}
-use Rattle.um_show.proofs.Fronts.{low_encoded, low_scalars, numeral_low, word_low, sign_low, letter_front, quote_front, numeral_front, fresh_takes_digit, fresh_no_power, sign_front, numeral_ends}
+use Rattle.um_show.proofs.Beginnings.{low_encoded, low_scalars, numeral_low, word_low, sign_low, letter_clear, quote_clear, numeral_clear, fresh_takes_digit, fresh_no_power, sign_clear, numeral_ends}
 
 -- the token that a piece is, at a place and in front of these characters
 pub record Opens (p : Piece) (s : Place) (more : List ℕ) : Type 0 where
@@ -37,12 +39,12 @@ pub record Opens (p : Piece) (s : Place) (more : List ℕ) : Type 0 where
   pub scalars : all_scalars (text_of lexeme) ≡ true
   pub ends : Ends lexeme more
   pub alone : IsAlone lexeme more
-  pub front : Clear s (text_of lexeme ++ more)
+  pub clears : Clear s (text_of lexeme ++ more)
   pub which : Kind
   pub kind : kind_of (is_power s) lexeme ≡ Some which
   pub is : IsKind p which
-  pub caret : is_kind_sign 16 which ≡ is_raised (after p s)
-  pub power : (is_kind_sign 16 which || (is_kind_sign 13 which && is_raised s)) ≡ is_power (after p s)
+  pub caret : is_caret_kind which ≡ is_raised (after p s)
+  pub power : (is_caret_kind which || (is_minus_kind which && is_raised s)) ≡ is_power (after p s)
   pub behind : is_behind (after p s) ≡ true
 
 name_opens : (x : List ℕ) (s : Place) (more : List ℕ) → IsGoodName x → takes_letter s ≡ true → Clear full more → Opens (name x) s more
@@ -53,7 +55,7 @@ name_opens x s more g m clear = record {
   scalars = g.scalars;
   ends = clear.0;
   alone = tt;
-  front = letter_front s m g.text g.named.0 more;
+  clears = letter_clear s m g.text g.named.0 more;
   which = kind_is.Name (encode_utf8_all g.text);
   kind = refl;
   is = ap kind_is.Name g.bytes;
@@ -70,7 +72,7 @@ variable_opens x s more g m clear = record {
   scalars = g.scalars;
   ends = inl clear.0;
   alone = tt;
-  front = quote_front s m (g.text ++ more);
+  clears = quote_clear s m (g.text ++ more);
   which = kind_is.Var (encode_utf8_all g.text);
   kind = refl;
   is = ap kind_is.Var g.bytes;
@@ -79,15 +81,15 @@ variable_opens x s more g m clear = record {
   behind = refl;
 }
 
-word_opens : (k : ℕ) (s : Place) (more : List ℕ) → k < length words → takes_letter s ≡ true → Clear full more → Opens (word k) s more
-word_opens k s more h m clear = record {
+word_opens : (k : Keyword) (s : Place) (more : List ℕ) → takes_letter s ≡ true → Clear full more → Opens (word k) s more
+word_opens k s more m clear = record {
   lexeme = Word k;
-  fits = h;
-  encoded = low_encoded (word_text k) (word_low k h);
-  scalars = low_scalars (word_text k) (word_low k h);
+  fits = tt;
+  encoded = low_encoded (keyword_text k) (word_low k);
+  scalars = low_scalars (keyword_text k) (word_low k);
   ends = clear.0;
   alone = tt;
-  front = letter_front s m (word_text k) (word_identifier k h) more;
+  clears = letter_clear s m (keyword_text k) (keyword_identifier k) more;
   which = kind_is.Word k;
   kind = refl;
   is = refl;
@@ -104,7 +106,7 @@ hole_opens s more m clear = record {
   scalars = refl;
   ends = clear.0;
   alone = tt;
-  front = letter_front s m (95 ∷ []) (refl, tt) more;
+  clears = letter_clear s m (95 ∷ []) (refl, tt) more;
   which = kind_is.Hole;
   kind = refl;
   is = refl;
@@ -113,20 +115,20 @@ hole_opens s more m clear = record {
   behind = refl;
 }
 
-sign_opens : (k : ℕ) (s : Place) (more : List ℕ) → k < length signs → takes_sign s (sign_text k) ≡ true → Clear (after_role (role k) s) more → Opens (sign k) s more
-sign_opens k s more h m clear = record {
+sign_opens : (k : Symbol) (s : Place) (more : List ℕ) → takes_sign s (symbol_text k) ≡ true → Clear (after_role (role k) s) more → Opens (sign k) s more
+sign_opens k s more m clear = record {
   lexeme = Sign k;
-  fits = h;
-  encoded = low_encoded (sign_text k) (sign_low k);
-  scalars = low_scalars (sign_text k) (sign_low k);
-  ends = sign_stops k h s more clear;
+  fits = tt;
+  encoded = low_encoded (symbol_text k) (sign_low k);
+  scalars = low_scalars (symbol_text k) (sign_low k);
+  ends = sign_stops k s more clear;
   alone = tt;
-  front = sign_front s k h m more clear;
+  clears = sign_clear s k m more clear;
   which = kind_is.Sign k;
   kind = refl;
   is = refl;
-  caret = (role_is k h).caret ∙ raised_after (role k) s;
-  power = (λ i. (role_is k h).caret i || ((role_is k h).minus i && is_raised s)) ∙ power_after (role k) s;
+  caret = (role_is k).caret ∙ raised_after (role k) s;
+  power = (λ i. (role_is k).caret i || ((role_is k).minus i && is_raised s)) ∙ power_after (role k) s;
   behind = behind_after (role k) s;
 }
 
@@ -140,7 +142,7 @@ number_opens c n e s more m clear =
       scalars = low_scalars (numeral_text own.numeral) (numeral_low own.numeral own.fits);
       ends = numeral_ends own.numeral more clear;
       alone = clear.0;
-      front = numeral_front s (fresh_takes_digit s m) own.numeral own.fits more;
+      clears = numeral_clear s (fresh_takes_digit s m) own.numeral own.fits more;
       which = kind_is.Number c (is_whole own.numeral) (bytes_eq (numeral_text own.numeral) (49 ∷ []));
       kind =
           ap (λ b. kind_of b (Number own.numeral)) (fresh_no_power s m)
@@ -176,7 +178,7 @@ digits_opens n h s more m clear =
       scalars = low_scalars (decimal n) (numeral_low (Whole (decimal n)) fits);
       ends = numeral_ends (Whole (decimal n)) more clear;
       alone = clear.0;
-      front = numeral_front s m (Whole (decimal n)) fits more;
+      clears = numeral_clear s m (Whole (decimal n)) fits more;
       which = kind_is.Number v.0 true (bytes_eq (decimal n) (49 ∷ []));
       kind = ap (option_map (λ w. kind_is.Number w true (bytes_eq (decimal n) (49 ∷ [])))) (digits_value n h v.0 v.2 (is_power s));
       is = record { value = v.0; one = bytes_eq (decimal n) (49 ∷ []); is = refl; above = v.1; low = small; is_one = one_digit n };
@@ -201,8 +203,8 @@ opens (name x) s more t g m clear = name_opens x s more g m clear
 opens (variable x) s more t g m clear = variable_opens x s more g m clear
 opens (number c) s more t g m clear = number_opens c g.0 g.1 s more m clear
 opens (digits n) s more t g m clear = digits_opens n g s more m clear
-opens (word k) s more t g m clear = word_opens k s more g m clear
-opens (sign k) s more t g m clear = sign_opens k s more g m clear
+opens (word k) s more t g m clear = word_opens k s more m clear
+opens (sign k) s more t g m clear = sign_opens k s more m clear
 opens hole s more t g m clear = hole_opens s more m clear
 opens space s more t g m clear = absurd (false≢true t)
 opens line_end s more t g m clear = absurd (false≢true t)

@@ -52,5 +52,5 @@ layout_is_read_back text tokens ds answer program =
     let utf8 : IsUtf8 (layout ds) = (b.cs, (b.scalars, b.encoded)) in
     let same : b.cs ≡ chars (layout ds) = chars_from_encodes b.cs (layout ds) utf8 b.encoded in
     let read = from_start b.cs b.tokens (no_order b.cs (layout ds) b.encoded (layout_front ds)) b.lexes in
-    let again = program_again ds tokens b.tokens b.flag program b.stands in
+    let again = program_again ds tokens b.tokens b.flag program b.spelled in
     (b.tokens, again.0, (utf8, subst (λ cs. HasTokens cs b.tokens) same read), again.1, again.2)

@@ -2,9 +2,13 @@
 use Rattle.std.proofs.Common.{◌≡◌, ℕ, zero, suc, ◌<◌, Bool, true, false, ◌==◌, ◌||◌, ◌&&◌, cond, eqb, List, [], ◌∷◌, ◌++◌, length, Some, None, is_some, refl, sym, ap, ◌∙◌, subst, arith}
 use Rattle.std.proofs.lemmas.Bool.{false≢true, or_parts, or_from}
 use Rattle.std.specs.Char.{is_ascii_digit}
-use Rattle.um_syntax.specs.Vocabulary.{signs, sign_text}
+use Rattle.um_syntax.specs.declared.vocabulary.Symbol.{Symbol}
+use Rattle.um_syntax.specs.declared.vocabulary.Symbol.TheVariants as symbol
+use Rattle.um_syntax.specs.declared.token.Kind.TheVariants as kind
+use Rattle.um_syntax.specs.Vocabulary.{symbol_text}
+use Rattle.um_syntax.specs.Lexing.{is_caret_kind, is_minus_kind}
 use Rattle.um_syntax.specs.Lexeme.{SignEnds, begins, begins_part}
-use Rattle.um_syntax.specs.Machine.{double_sign, double_signs, found_pair}
+use Rattle.um_syntax.specs.Machine.{double_symbol, double_symbols, found_pair}
 use Rattle.um_show.proofs.Apart.{goes_on, sign_ends}
 use Rattle.um_show.proofs.Chain.{Place, fresh, full, raised, lowered, pointed, Role, opening, closing, lowering, slashing, raising, pointing, role, after_role, is_second, is_slash, Clear, is_behind, is_raised, is_power}
 
@@ -50,44 +54,25 @@ BeginsAs raising t = begins starts_part t ≡ false
 BeginsAs pointing t = t ≡ 46 ∷ []
 
 -- what the role of a sign says of it
-pub record IsRole (k : ℕ) : Type 0 where
-  pub ends : EndsAs (role k) (sign_text k)
-  pub front : BeginsAs (role k) (sign_text k)
-  pub caret : eqb k 16 ≡ is_raising (role k)
-  pub minus : eqb k 13 ≡ is_lowering (role k)
+pub record IsRole (k : Symbol) : Type 0 where
+  pub ends : EndsAs (role k) (symbol_text k)
+  pub begins_as : BeginsAs (role k) (symbol_text k)
+  pub caret : is_caret_kind (kind.Sign k) ≡ is_raising (role k)
+  pub minus : is_minus_kind (kind.Sign k) ≡ is_lowering (role k)
 
-pub role_is : (k : ℕ) → k < length signs → IsRole k
-role_is zero h = record { ends = refl; front = refl; caret = refl; minus = refl }
-role_is (suc zero) h = record { ends = λ c. refl; front = refl; caret = refl; minus = refl }
-role_is (suc (suc zero)) h = record { ends = refl; front = refl; caret = refl; minus = refl }
-role_is (suc (suc (suc zero))) h = record { ends = λ c. refl; front = refl; caret = refl; minus = refl }
-role_is (suc (suc (suc (suc zero)))) h = record { ends = refl; front = refl; caret = refl; minus = refl }
-role_is (suc (suc (suc (suc (suc zero))))) h = record { ends = λ c. refl; front = refl; caret = refl; minus = refl }
-role_is (suc (suc (suc (suc (suc (suc zero)))))) h = record { ends = refl; front = refl; caret = refl; minus = refl }
-role_is (suc (suc (suc (suc (suc (suc (suc zero))))))) h = record { ends = refl; front = refl; caret = refl; minus = refl }
-role_is (suc (suc (suc (suc (suc (suc (suc (suc zero)))))))) h = record { ends = λ c. refl; front = refl; caret = refl; minus = refl }
-role_is (suc (suc (suc (suc (suc (suc (suc (suc (suc zero))))))))) h = record { ends = refl; front = refl; caret = refl; minus = refl }
-role_is (suc (suc (suc (suc (suc (suc (suc (suc (suc (suc zero)))))))))) h = record { ends = refl; front = refl; caret = refl; minus = refl }
-role_is (suc (suc (suc (suc (suc (suc (suc (suc (suc (suc (suc zero))))))))))) h = record { ends = refl; front = refl; caret = refl; minus = refl }
-role_is (suc (suc (suc (suc (suc (suc (suc (suc (suc (suc (suc (suc zero)))))))))))) h = record { ends = refl; front = refl; caret = refl; minus = refl }
-role_is (suc (suc (suc (suc (suc (suc (suc (suc (suc (suc (suc (suc (suc zero))))))))))))) h = record { ends = refl; front = refl; caret = refl; minus = refl }
-role_is (suc (suc (suc (suc (suc (suc (suc (suc (suc (suc (suc (suc (suc (suc zero)))))))))))))) h = record { ends = refl; front = refl; caret = refl; minus = refl }
-role_is (suc (suc (suc (suc (suc (suc (suc (suc (suc (suc (suc (suc (suc (suc (suc zero))))))))))))))) h = record { ends = tt; front = refl; caret = refl; minus = refl }
-role_is (suc (suc (suc (suc (suc (suc (suc (suc (suc (suc (suc (suc (suc (suc (suc (suc zero)))))))))))))))) h = record { ends = λ c. refl; front = refl; caret = refl; minus = refl }
-role_is (suc (suc (suc (suc (suc (suc (suc (suc (suc (suc (suc (suc (suc (suc (suc (suc (suc zero))))))))))))))))) h = record { ends = refl; front = refl; caret = refl; minus = refl }
-role_is (suc (suc (suc (suc (suc (suc (suc (suc (suc (suc (suc (suc (suc (suc (suc (suc (suc (suc zero)))))))))))))))))) h = record { ends = refl; front = refl; caret = refl; minus = refl }
-role_is (suc (suc (suc (suc (suc (suc (suc (suc (suc (suc (suc (suc (suc (suc (suc (suc (suc (suc (suc zero))))))))))))))))))) h = record { ends = refl; front = refl; caret = refl; minus = refl }
-role_is (suc (suc (suc (suc (suc (suc (suc (suc (suc (suc (suc (suc (suc (suc (suc (suc (suc (suc (suc (suc zero)))))))))))))))))))) h = record { ends = refl; front = refl; caret = refl; minus = refl }
-role_is (suc (suc (suc (suc (suc (suc (suc (suc (suc (suc (suc (suc (suc (suc (suc (suc (suc (suc (suc (suc (suc zero))))))))))))))))))))) h = record { ends = λ c. refl; front = refl; caret = refl; minus = refl }
-role_is (suc (suc (suc (suc (suc (suc (suc (suc (suc (suc (suc (suc (suc (suc (suc (suc (suc (suc (suc (suc (suc (suc zero)))))))))))))))))))))) h = record { ends = refl; front = refl; caret = refl; minus = refl }
-role_is (suc (suc (suc (suc (suc (suc (suc (suc (suc (suc (suc (suc (suc (suc (suc (suc (suc (suc (suc (suc (suc (suc (suc zero))))))))))))))))))))))) h = record { ends = refl; front = refl; caret = refl; minus = refl }
-role_is (suc (suc (suc (suc (suc (suc (suc (suc (suc (suc (suc (suc (suc (suc (suc (suc (suc (suc (suc (suc (suc (suc (suc (suc zero)))))))))))))))))))))))) h = record { ends = refl; front = refl; caret = refl; minus = refl }
-role_is (suc (suc (suc (suc (suc (suc (suc (suc (suc (suc (suc (suc (suc (suc (suc (suc (suc (suc (suc (suc (suc (suc (suc (suc (suc zero))))))))))))))))))))))))) h = record { ends = refl; front = refl; caret = refl; minus = refl }
-role_is (suc (suc (suc (suc (suc (suc (suc (suc (suc (suc (suc (suc (suc (suc (suc (suc (suc (suc (suc (suc (suc (suc (suc (suc (suc (suc k)))))))))))))))))))))))))) h = absurd (omega arith)
+pub role_is : (k : Symbol) → IsRole k
+role_is symbol.RightParen = record { ends = λ c. refl; begins_as = refl; caret = refl; minus = refl }
+role_is symbol.RightBracket = record { ends = λ c. refl; begins_as = refl; caret = refl; minus = refl }
+role_is symbol.RightBrace = record { ends = λ c. refl; begins_as = refl; caret = refl; minus = refl }
+role_is symbol.Greater = record { ends = λ c. refl; begins_as = refl; caret = refl; minus = refl }
+role_is symbol.Caret = record { ends = λ c. refl; begins_as = refl; caret = refl; minus = refl }
+role_is symbol.Dot = record { ends = λ c. refl; begins_as = refl; caret = refl; minus = refl }
+role_is symbol.Slash = record { ends = tt; begins_as = refl; caret = refl; minus = refl }
+role_is _ = record { ends = refl; begins_as = refl; caret = refl; minus = refl }
 
 -- ---- no second character of a sign, so no longer sign
 
-abbrev NoSecond : ℕ → List (ℕ × ℕ × ℕ) → Type 0
+abbrev NoSecond : ℕ → List (ℕ × ℕ × Symbol) → Type 0
 NoSecond c [] = Unit {0}
 NoSecond c (x ∷ xs) = (eqb c x.1 ≡ false) × NoSecond c xs
 
@@ -95,19 +80,19 @@ pub and_no : (a b : Bool) → b ≡ false → (a && b) ≡ false
 and_no true b e = e
 and_no false b e = refl
 
-no_pair : (a c : ℕ) (xs : List (ℕ × ℕ × ℕ)) → NoSecond c xs → found_pair a c xs ≡ None
+no_pair : (a c : ℕ) (xs : List (ℕ × ℕ × Symbol)) → NoSecond c xs → found_pair a c xs ≡ None
 no_pair a c [] none = refl
 no_pair a c (x ∷ xs) none = ap (λ b. cond b (Some x.2) (found_pair a c xs)) (and_no (eqb a x.0) (eqb c x.1) none.0) ∙ no_pair a c xs none.1
 
-no_double : (a c : ℕ) → is_second c ≡ false → is_some (double_sign a c) ≡ false
+no_double : (a c : ℕ) → is_second c ≡ false → is_some (double_symbol a c) ≡ false
 no_double a c e =
     let less = or_parts _ _ e in let equal = or_parts _ _ less.1 in let greater = or_parts _ _ equal.1 in
     let colon = or_parts _ _ greater.1 in let bar = or_parts _ _ colon.1 in
-    ap is_some (no_pair a c double_signs (less.0, (equal.0, (greater.0, (colon.0, (bar.0, (bar.1, (greater.0, tt))))))))
+    ap is_some (no_pair a c double_symbols (less.0, (equal.0, (greater.0, (colon.0, (bar.0, (bar.1, (greater.0, tt))))))))
 
 apart : (t : List ℕ) (c : ℕ) → is_second c ≡ false → (begins is_slash t && is_slash c) ≡ false → goes_on t c ≡ false
 apart [] c s l = refl
-apart (a ∷ []) c s l = or_from (is_some (double_sign a c)) (is_slash a && is_slash c) (no_double a c s) l
+apart (a ∷ []) c s l = or_from (is_some (double_symbol a c)) (is_slash a && is_slash c) (no_double a c s) l
 apart (a ∷ b ∷ more) c s l = refl
 
 no_slash : (a b : Bool) → a ≡ false → (a && b) ≡ false
@@ -127,22 +112,22 @@ by_role lowering t lowered c more e clear = apart t c clear.0 (no_slash (begins 
 by_role lowering t pointed c more e clear = apart t c clear.0 (no_slash (begins is_slash t) (is_slash c) e)
 
 -- a sign ends where what follows is clear
-pub sign_stops : (k : ℕ) → k < length signs → (s : Place) (cs : List ℕ) → Clear (after_role (role k) s) cs → SignEnds (sign_text k) cs
-sign_stops k h s [] clear = tt
-sign_stops k h s (c ∷ more) clear = sign_ends k h c more (by_role (role k) (sign_text k) s c more (role_is k h).ends clear)
+pub sign_stops : (k : Symbol) (s : Place) (cs : List ℕ) → Clear (after_role (role k) s) cs → SignEnds (symbol_text k) cs
+sign_stops k s [] clear = tt
+sign_stops k s (c ∷ more) clear = sign_ends k c more (by_role (role k) (symbol_text k) s c more (role_is k).ends clear)
 
 no_part : (t more : List ℕ) → begins starts_part t ≡ false → 0 < length t → begins_part (t ++ more) ≡ false
 no_part [] more e some = absurd (omega (arith, some))
 no_part (c ∷ cs) more e some = no_slash (starts_part c) (begins is_ascii_digit (cs ++ more)) e
 
 -- no sign but a point with a digit continues a number
-pub part_front : (r : Role) (t more : List ℕ) (s : Place) → BeginsAs r t → Clear (after_role r s) more → 0 < length t → begins_part (t ++ more) ≡ false
-part_front opening t more s e clear some = no_part t more e some
-part_front closing t more s e clear some = no_part t more e some
-part_front lowering t more s e clear some = no_part t more e some
-part_front slashing t more s e clear some = no_part t more e some
-part_front raising t more s e clear some = no_part t more e some
-part_front pointing t more s e clear some = subst (λ x. begins_part (x ++ more) ≡ false) (sym e) clear
+pub part_clear : (r : Role) (t more : List ℕ) (s : Place) → BeginsAs r t → Clear (after_role r s) more → 0 < length t → begins_part (t ++ more) ≡ false
+part_clear opening t more s e clear some = no_part t more e some
+part_clear closing t more s e clear some = no_part t more e some
+part_clear lowering t more s e clear some = no_part t more e some
+part_clear slashing t more s e clear some = no_part t more e some
+part_clear raising t more s e clear some = no_part t more e some
+part_clear pointing t more s e clear some = subst (λ x. begins_part (x ++ more) ≡ false) (sym e) clear
 
 -- ---- what the place behind a sign is
 

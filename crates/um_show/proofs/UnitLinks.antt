@@ -1,5 +1,5 @@
 -- The layout of a unit text whose tokens are those of some text is a chain of pieces.
-use Rattle.std.proofs.Common.{◌≡◌, ℕ, zero, suc, ◌≤◌, ℤ, pos, Bool, true, false, not, List, [], ◌∷◌, ◌++◌, refl, sym, subst, arith, lit<, ⊎_elim}
+use Rattle.std.proofs.Common.{◌≡◌, ℕ, zero, suc, ◌≤◌, ℤ, pos, Bool, true, false, not, List, [], ◌∷◌, ◌++◌, refl, sym, subst, arith, ⊎_elim}
 use Rattle.std.specs.Prelude.{neg_ℤ}
 use Rattle.std.proofs.lemmas.Bool.{false≢true}
 use Rattle.um_syntax.specs.declared.token.Token.{Token}
@@ -32,7 +32,7 @@ digits_low n tokens rest s h = (power_good s.1.0.kind s.0 n s.1.1, (first_good t
 
 negative_links : (n : ℕ) (rest : List Token) → n ≤ 2147483647 → AllGood rest → Linked raised (power_pieces (neg_ℤ (pos n))) full rest
 negative_links zero rest low h = record { chain = (low, refl, refl); good = h }
-negative_links (suc n) rest low h = record { chain = (lit< tt, refl, (low, refl, refl)); good = h }
+negative_links (suc n) rest low h = record { chain = (tt, refl, (low, refl, refl)); good = h }
 
 power_links : (k : ℤ) (tokens rest : List Token) → PowerSpells k tokens rest → AllGood tokens → Linked raised (power_pieces k) full rest
 power_links k tokens rest s h =
@@ -68,7 +68,7 @@ mutual
   unit_links (power_syntax u k) tokens rest s f h g d low =
       let r = unit_links u tokens s.0 s.2 f.1 h g d (λ e. no_rank (rank u) f.0) in
       let q = power_links k s.1 rest s.4 (first_good s.0 s.1 s.3.0 s.3.2 r.good).1 in
-      record { chain = link (unit_pieces u) (caret ∷ power_pieces k) g d r.chain (lit< tt, refl, q.chain); good = q.good }
+      record { chain = link (unit_pieces u) (caret ∷ power_pieces k) g d r.chain (tt, refl, q.chain); good = q.good }
   unit_links (side_syntax no_units) tokens rest s f h g d low = absurd f.0
   unit_links (side_syntax (more_units u us)) tokens rest s f h g d low =
       let r = unit_links u tokens s.0 s.1 f.1.1 h g d (λ e. low_rank (rank u) f.1.0) in
@@ -77,17 +77,17 @@ mutual
   unit_links (times_syntax u v) tokens rest s f h g d low =
       let r = unit_links u tokens s.0 s.2 f.1 h g d (λ e. absurd (too_high (low e))) in
       let q = unit_links v s.1 rest s.4 f.2 (first_good s.0 s.1 s.3.0 s.3.2 r.good).1 true false never in
-      record { chain = link (unit_pieces u) (times ∷ unit_pieces v) g d r.chain (lit< tt, refl, q.chain); good = q.good }
+      record { chain = link (unit_pieces u) (times ∷ unit_pieces v) g d r.chain (tt, refl, q.chain); good = q.good }
   unit_links (over_syntax u v) tokens rest s f h g d low =
       let r = unit_links u tokens s.0 s.2 f.1 h g d (λ e. absurd (too_high (low e))) in
       let q = unit_links v s.1 rest s.4 f.2 (first_good s.0 s.1 s.3.0 s.3.2 r.good).1 true true (λ e. f.0) in
-      record { chain = link (unit_pieces u) (over ∷ unit_pieces v) g d r.chain (lit< tt, refl, q.chain); good = q.good }
+      record { chain = link (unit_pieces u) (over ∷ unit_pieces v) g d r.chain (tt, refl, q.chain); good = q.good }
   unit_links (inverse_syntax at u) tokens rest s f h g d low =
       let q = unit_links u s.0 rest s.2 f.1 (first_good tokens s.0 s.1.0 s.1.3 h).1 true true (λ e. f.0) in
-      record { chain = (lit< tt, no_slash d (λ e. high (low e)), q.chain); good = q.good }
+      record { chain = (tt, no_slash d (λ e. high (low e)), q.chain); good = q.good }
   unit_links (bracket_syntax at u) tokens rest s f h g d low =
       let r = unit_links u s.0 s.1 s.3 f (first_good tokens s.0 s.2.0 s.2.3 h).1 true false never in
-      record { chain = (lit< tt, refl, link (unit_pieces u) (bracket_close ∷ []) true false r.chain (lit< tt, refl, refl)); good = (first_good s.1 rest s.4.0 s.4.2 r.good).1 }
+      record { chain = (tt, refl, link (unit_pieces u) (bracket_close ∷ []) true false r.chain (tt, refl, refl)); good = (first_good s.1 rest s.4.0 s.4.2 r.good).1 }
 
   more_links : (us : UnitSyntaxes) (tokens rest : List Token) → AllSpell us tokens rest → ArePowers us → AllGood tokens → Linked full (more_side_pieces us) full rest
   more_links no_units tokens rest s f h = linked_all tokens rest s h

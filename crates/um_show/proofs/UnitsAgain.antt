@@ -7,7 +7,7 @@ use Rattle.um_types.specs.UnitGrammar.{Spells, AllSpell, PowerSpells, Fits, AreP
 use Rattle.um_show.specs.Pieces.{digits, name, variable, caret, times, over, bracket_close}
 use Rattle.um_show.specs.Layout.{power_pieces, unit_pieces, side_pieces, more_side_pieces}
 use Rattle.um_show.specs.Unplaced.{bare_unit, bare_units}
-use Rattle.um_show.proofs.Standing.{Stands, both, only, power_token}
+use Rattle.um_show.proofs.PieceTokens.{PiecesSpell, both, only, power_token}
 
 pub record UnitAgain (u : UnitSyntax) (tokens rest : List Token) : Type 0 where
   pub again : UnitSyntax
@@ -23,7 +23,7 @@ pub record UnitsAgain (us : UnitSyntaxes) (tokens rest : List Token) : Type 0 wh
   pub same : bare_units again ≡ bare_units us
   pub several : Several us → Several again
 
-power_again : (k : ℤ) (g : Bool) (tokens : List Token) (h : Bool) (rest : List Token) → Stands (power_pieces k) g tokens h rest → PowerSpells k tokens rest
+power_again : (k : ℤ) (g : Bool) (tokens : List Token) (h : Bool) (rest : List Token) → PiecesSpell (power_pieces k) g tokens h rest → PowerSpells k tokens rest
 power_again (pos n) g tokens h rest s =
     let o = only (digits n) g tokens h rest s in
     (n, inl (refl, (o.kind.one, (o.token, power_token n o.token.kind o.kind, o.first))))
@@ -40,7 +40,7 @@ several_more u v (more_units w us) no_units e s = absurd (none_more (bare_unit w
 several_more u v (more_units w us) (more_units x vs) e s = tt
 
 mutual
-  pub unit_again : (u : UnitSyntax) → Fits u → (g : Bool) (tokens : List Token) (h : Bool) (rest : List Token) → Stands (unit_pieces u) g tokens h rest → UnitAgain u tokens rest
+  pub unit_again : (u : UnitSyntax) → Fits u → (g : Bool) (tokens : List Token) (h : Bool) (rest : List Token) → PiecesSpell (unit_pieces u) g tokens h rest → UnitAgain u tokens rest
   unit_again (one_syntax at) f g tokens h rest s =
       let o = only (digits 1) g tokens h rest s in
       record { again = one_syntax o.token.start; spelled = (Some 1, (o.token, power_token 1 o.token.kind o.kind ∙ ap (λ b. number b (Some 1)) (o.kind.is_one refl), refl, o.first)); fits = tt; same = refl; ranked = refl }
@@ -73,17 +73,17 @@ mutual
       let c = only bracket_close b.flag b.next h rest b.later in
       record { again = bracket_syntax o.token.start r.again; spelled = (s.next, b.next, (o.token, ap unit_token o.kind, refl, o.first), r.spelled, (c.token, ap unit_token c.kind, c.first)); fits = r.fits; same = ap (bracket_syntax 0) r.same; ranked = refl }
 
-  side_again : (us : UnitSyntaxes) → ArePowers us → (g : Bool) (tokens : List Token) (h : Bool) (rest : List Token) → Stands (side_pieces us) g tokens h rest → UnitsAgain us tokens rest
+  side_again : (us : UnitSyntaxes) → ArePowers us → (g : Bool) (tokens : List Token) (h : Bool) (rest : List Token) → PiecesSpell (side_pieces us) g tokens h rest → UnitsAgain us tokens rest
   side_again no_units f g tokens h rest s = record { again = no_units; spelled = s.same; fits = tt; same = refl; several = λ n. n }
   side_again (more_units u us) f g tokens h rest s =
       let b = both (unit_pieces u) (more_side_pieces us) g tokens h rest s in let r = unit_again u f.1 g tokens b.flag b.next b.here in
       let q = more_again us f.2 b.flag b.next h rest b.later in
       record { again = more_units r.again q.again; spelled = (b.next, r.spelled, q.spelled); fits = (subst (λ n. n ≤ 1) (sym r.ranked) f.0, r.fits, q.fits); same = ap (λ a. more_units a (bare_units q.again)) r.same ∙ ap (more_units (bare_unit u)) q.same; several = several_more u r.again us q.again q.same }
 
-  more_again : (us : UnitSyntaxes) → ArePowers us → (g : Bool) (tokens : List Token) (h : Bool) (rest : List Token) → Stands (more_side_pieces us) g tokens h rest → UnitsAgain us tokens rest
+  more_again : (us : UnitSyntaxes) → ArePowers us → (g : Bool) (tokens : List Token) (h : Bool) (rest : List Token) → PiecesSpell (more_side_pieces us) g tokens h rest → UnitsAgain us tokens rest
   more_again no_units f g tokens h rest s = record { again = no_units; spelled = s.same; fits = tt; same = refl; several = λ n. n }
   more_again (more_units u us) f g tokens h rest s =
-      let begun = subst (λ ts. Stands (unit_pieces u ++ more_side_pieces us) s.flag ts h rest) (sym s.here.none) s.later in
+      let begun = subst (λ ts. PiecesSpell (unit_pieces u ++ more_side_pieces us) s.flag ts h rest) (sym s.here.none) s.later in
       let b = both (unit_pieces u) (more_side_pieces us) s.flag tokens h rest begun in let r = unit_again u f.1 s.flag tokens b.flag b.next b.here in
       let q = more_again us f.2 b.flag b.next h rest b.later in
       record { again = more_units r.again q.again; spelled = (b.next, r.spelled, q.spelled); fits = (subst (λ n. n ≤ 1) (sym r.ranked) f.0, r.fits, q.fits); same = ap (λ a. more_units a (bare_units q.again)) r.same ∙ ap (more_units (bare_unit u)) q.same; several = several_more u r.again us q.again q.same }

@@ -7,7 +7,10 @@ use Rattle.um_parse.specs.DeclGrammar.{IsProgram}
 use Rattle.um_show.specs.Layout.{layout}
 use Rattle.um_show.specs.Unplaced.{bare_program}
 
--- For each program that the tokens of some text are, the layout of it is a text whose tokens are the same program, places aside.
+-- For each program that the tokens of some text are, the layout of it is a text whose tokens are the same program,
+-- places aside.
 abbrev pub LayoutIsReadBack : Type 0
-LayoutIsReadBack = (text : List ℕ) (tokens : List Token) (ds : List DeclSyntax) → IsTextAnswer text (Ok tokens) → IsProgram tokens ds
-    → (others : List Token) × (again : List DeclSyntax) × IsTextAnswer (layout ds) (Ok others) × IsProgram others again × (bare_program again ≡ bare_program ds)
+LayoutIsReadBack =
+    (text : List ℕ) (tokens : List Token) (ds : List DeclSyntax) → IsTextAnswer text (Ok tokens) → IsProgram tokens ds
+    → (others : List Token) × (again : List DeclSyntax) × IsTextAnswer (layout ds) (Ok others) × IsProgram others again
+    × (bare_program again ≡ bare_program ds)

@@ -1,10 +1,13 @@
--- The layout of a program, by cases on its raw tree: one declaration a line, one space round signs between operands and between words.
+-- The layout of a program, by cases on its raw tree: one declaration a line, one space round signs between operands and
+-- between words.
 --   [<Measure>] type A            [<Measure>] type A = UNIT
 --   type R<[<Measure>] 'u, [<Measure>] 'v> = { f: TYPE; g: TYPE }     type R = { f: TYPE }
 --   let f (x: TYPE) (y: TYPE) : TYPE = EXPR                           let rec f (x: TYPE) : TYPE = EXPR
---   expressions: let x = A in B, if A then B else C, match A with [] -> B | x :: y -> C, A + B, -A, not A, f A B, A.f, (A),
+--   expressions: let x = A in B, if A then B else C, match A with [] -> B | x :: y -> C, A + B, -A, not A, f A B, A.f,
+--                (A),
 --                ([] : TYPE), [A; B], { f = A; g = B }, true, false, 5r2<UNIT>
---   types: num, num<UNIT>, bool, R, R<UNIT, UNIT>, T list, (T)        units: A B, A*B, A/B, /A, A^2, A^-2, 1, _, 'u, (A)
+--   types: num, num<UNIT>, bool, R, R<UNIT, UNIT>, T list, (T)
+--   units: A B, A*B, A/B, /A, A^2, A^-2, 1, _, 'u, (A)
 -- Source: this project's own.
 use Rattle.std.specs.Prelude.{ℕ, suc, ℤ, pos, negsuc, Bool, true, false, List, [], ◌∷◌, ◌++◌, Option, Some, None}
 use Rattle.std.specs.List.{flat_map, join_by}
@@ -12,8 +15,22 @@ use Rattle.um_tree.specs.declared.expression.Arith.{Arith}
 use Rattle.um_tree.specs.declared.expression.Arith.TheVariants as arith
 use Rattle.um_tree.specs.declared.expression.Sign.{Sign}
 use Rattle.um_tree.specs.declared.expression.Sign.TheVariants as compare
-use Rattle.um_tree.specs.RawTree.{UnitSyntax, UnitSyntaxes, one_syntax, measure_syntax, variable_syntax, power_syntax, side_syntax, times_syntax, over_syntax, inverse_syntax, bracket_syntax, no_units, more_units, NoteSyntax, hole_syntax, unit_note_syntax, TypeSyntax, bool_syntax, num_syntax, record_syntax, list_type_syntax, bracket_type_syntax, BinderSyntax, ExprSyntax, ExprSyntaxes, FieldSyntaxes, truth_syntax, number_syntax, name_syntax, call_syntax, negate_syntax, not_syntax, arith_syntax, compare_syntax, and_syntax, or_syntax, if_syntax, let_syntax, match_syntax, nil_syntax, list_syntax, cons_syntax, fields_syntax, field_syntax, bracket_expr_syntax, no_exprs, more_exprs, no_fields, more_fields, VarSyntax, FieldDeclSyntax, ParamSyntax, FunctionSyntax, DeclSyntax, base_syntax, short_syntax, record_decl_syntax, function_syntax}
-use Rattle.um_show.specs.Pieces.{Piece, name, variable, number, digits, hole, space, line_end, text_of, let_word, rec_word, in_word, if_word, then_word, else_word, match_word, with_word, type_word, true_word, false_word, not_word, num_word, bool_word, list_word, measure_word, bracket_open, bracket_close, list_open, list_close, record_open, record_close, attribute_open, less, greater, equal, at_most, unequal, plus, minus, times, over, caret, semi, colon, double_colon, comma, dot, bar, double_bar, double_and, arrow}
+use Rattle.um_tree.specs.RawTree.{UnitSyntax, UnitSyntaxes, one_syntax, measure_syntax, variable_syntax, power_syntax}
+use Rattle.um_tree.specs.RawTree.{side_syntax, times_syntax, over_syntax, inverse_syntax, bracket_syntax, no_units}
+use Rattle.um_tree.specs.RawTree.{more_units, NoteSyntax, hole_syntax, unit_note_syntax, TypeSyntax, bool_syntax}
+use Rattle.um_tree.specs.RawTree.{num_syntax, record_syntax, list_type_syntax, bracket_type_syntax, BinderSyntax}
+use Rattle.um_tree.specs.RawTree.{ExprSyntax, ExprSyntaxes, FieldSyntaxes, truth_syntax, number_syntax, name_syntax}
+use Rattle.um_tree.specs.RawTree.{call_syntax, negate_syntax, not_syntax, arith_syntax, compare_syntax, and_syntax}
+use Rattle.um_tree.specs.RawTree.{or_syntax, if_syntax, let_syntax, match_syntax, nil_syntax, list_syntax}
+use Rattle.um_tree.specs.RawTree.{cons_syntax, fields_syntax, field_syntax, bracket_expr_syntax, no_exprs, more_exprs}
+use Rattle.um_tree.specs.RawTree.{no_fields, more_fields, VarSyntax, FieldDeclSyntax, ParamSyntax, FunctionSyntax}
+use Rattle.um_tree.specs.RawTree.{DeclSyntax, base_syntax, short_syntax, record_decl_syntax, function_syntax}
+use Rattle.um_show.specs.Pieces.{Piece, name, variable, number, digits, hole, space, line_end, text_of, let_word}
+use Rattle.um_show.specs.Pieces.{rec_word, in_word, if_word, then_word, else_word, match_word, with_word, type_word}
+use Rattle.um_show.specs.Pieces.{true_word, false_word, not_word, num_word, bool_word, list_word, measure_word}
+use Rattle.um_show.specs.Pieces.{bracket_open, bracket_close, list_open, list_close, record_open, record_close}
+use Rattle.um_show.specs.Pieces.{attribute_open, less, greater, equal, at_most, unequal, plus, minus, times, over}
+use Rattle.um_show.specs.Pieces.{caret, semi, colon, double_colon, comma, dot, bar, double_bar, double_and, arrow}
 
 -- the digits of a power, with `-` where it is negative
 abbrev pub power_pieces : ℤ → List Piece
@@ -105,13 +122,18 @@ abbrev mutual
   expr_pieces (or_syntax at a b) = between (expr_pieces a) (double_bar ∷ []) (expr_pieces b)
   expr_pieces (cons_syntax at a b) = between (expr_pieces a) (double_colon ∷ []) (expr_pieces b)
   expr_pieces (if_syntax at c a b) =
-      if_word ∷ space ∷ expr_pieces c ++ space ∷ then_word ∷ space ∷ expr_pieces a ++ space ∷ else_word ∷ space ∷ expr_pieces b
+      if_word ∷ space ∷ expr_pieces c ++ space ∷ then_word ∷ space ∷ expr_pieces a
+      ++ space ∷ else_word ∷ space ∷ expr_pieces b
   expr_pieces (let_syntax at x a b) =
-      let_word ∷ space ∷ binder_piece x ∷ space ∷ equal ∷ space ∷ expr_pieces a ++ space ∷ in_word ∷ space ∷ expr_pieces b
+      let_word ∷ space ∷ binder_piece x ∷ space ∷ equal ∷ space ∷ expr_pieces a
+      ++ space ∷ in_word ∷ space ∷ expr_pieces b
   expr_pieces (match_syntax at l a x y b) =
-      match_word ∷ space ∷ expr_pieces l ++ space ∷ with_word ∷ space ∷ list_open ∷ list_close ∷ space ∷ arrow ∷ space ∷ expr_pieces a
-      ++ space ∷ bar ∷ space ∷ binder_piece x ∷ space ∷ double_colon ∷ space ∷ binder_piece y ∷ space ∷ arrow ∷ space ∷ expr_pieces b
-  expr_pieces (nil_syntax at t) = bracket_open ∷ list_open ∷ list_close ∷ space ∷ colon ∷ space ∷ type_pieces t ++ bracket_close ∷ []
+      match_word ∷ space ∷ expr_pieces l
+      ++ space ∷ with_word ∷ space ∷ list_open ∷ list_close ∷ space ∷ arrow ∷ space ∷ expr_pieces a
+      ++ space ∷ bar ∷ space ∷ binder_piece x ∷ space ∷ double_colon ∷ space ∷ binder_piece y ∷ space
+      ∷ arrow ∷ space ∷ expr_pieces b
+  expr_pieces (nil_syntax at t) =
+      bracket_open ∷ list_open ∷ list_close ∷ space ∷ colon ∷ space ∷ type_pieces t ++ bracket_close ∷ []
   expr_pieces (list_syntax at es) = list_open ∷ item_pieces es ++ list_close ∷ []
   expr_pieces (fields_syntax at fs) = record_open ∷ space ∷ field_pieces fs ++ space ∷ record_close ∷ []
   expr_pieces (field_syntax at place x e) = expr_pieces e ++ dot ∷ name x ∷ []
@@ -137,7 +159,8 @@ abbrev mutual
 
   pub more_field_pieces : FieldSyntaxes → List Piece
   more_field_pieces no_fields = []
-  more_field_pieces (more_fields at x e fs) = semi ∷ space ∷ name x ∷ space ∷ equal ∷ space ∷ expr_pieces e ++ more_field_pieces fs
+  more_field_pieces (more_fields at x e fs) =
+      semi ∷ space ∷ name x ∷ space ∷ equal ∷ space ∷ expr_pieces e ++ more_field_pieces fs
 
 -- `[<Measure>]`
 abbrev pub attribute_pieces : List Piece
@@ -168,13 +191,16 @@ rec_pieces true = rec_word ∷ space ∷ []
 
 abbrev pub function_pieces : FunctionSyntax → List Piece
 function_pieces f =
-    let_word ∷ space ∷ rec_pieces f.recursive ++ name f.name ∷ flat_map param_pieces f.params ++ result_pieces f.result ++ space ∷ equal ∷ space ∷ expr_pieces f.body
+    let_word ∷ space ∷ rec_pieces f.recursive ++ name f.name ∷ flat_map param_pieces f.params
+    ++ result_pieces f.result ++ space ∷ equal ∷ space ∷ expr_pieces f.body
 
 abbrev pub decl_pieces : DeclSyntax → List Piece
 decl_pieces (base_syntax at x) = attribute_pieces ++ space ∷ type_word ∷ space ∷ name x ∷ []
-decl_pieces (short_syntax at x u) = attribute_pieces ++ space ∷ type_word ∷ space ∷ name x ∷ space ∷ equal ∷ space ∷ unit_pieces u
+decl_pieces (short_syntax at x u) =
+    attribute_pieces ++ space ∷ type_word ∷ space ∷ name x ∷ space ∷ equal ∷ space ∷ unit_pieces u
 decl_pieces (record_decl_syntax at x vs fs) =
-    type_word ∷ space ∷ name x ∷ var_list_pieces vs ++ space ∷ equal ∷ space ∷ record_open ∷ space ∷ join_by field_decl_pieces (semi ∷ space ∷ []) fs ++ space ∷ record_close ∷ []
+    type_word ∷ space ∷ name x ∷ var_list_pieces vs ++ space ∷ equal ∷ space ∷ record_open ∷ space
+    ∷ join_by field_decl_pieces (semi ∷ space ∷ []) fs ++ space ∷ record_close ∷ []
 decl_pieces (function_syntax f) = function_pieces f
 
 -- a declaration on its line

@@ -1,6 +1,10 @@
+-- What a reader must trust: the texts of numbers, units, types and schemes, and the layout of programs.
 pub mod NumberText
+pub mod UnitText
+pub mod SchemeText
 pub mod Pieces
 pub mod Layout
-pub mod Lists
 pub mod Unplaced
 pub mod Laws
+-- What mirrors the code: texts as its printing functions speak of them.
+pub mod Lists

@@ -1,4 +1,4 @@
--- Texts of lists as the printing functions speak of them.
+-- Mirrors the code: texts of lists, fields and arms as its printing functions speak of them.
 -- Source: this project's own.
 use Rattle.std.specs.Prelude.{ℕ, ◌==◌, List, [], ◌∷◌, ◌++◌, cond}
 use Rattle.std.specs.List.{join_by}
@@ -7,7 +7,7 @@ use Rattle.um_tree.specs.RawTree.{record_decl_syntax}
 use Rattle.um_show.specs.Pieces.{Piece, name, space, semi, let_word, equal, bar, double_colon, arrow, text_of}
 use Rattle.um_show.specs.Layout.{binder_piece, expr_pieces, field_decl_pieces, decl_pieces}
 
--- what stands before item i, where the separator stands between each two
+-- what is written before item i, where the separator is written between each two
 abbrev pub gap_before : ℕ → List ℕ → List ℕ
 gap_before i separator = cond (i == 0) [] separator
 
@@ -21,7 +21,8 @@ let_text x = text_of (let_word ∷ space ∷ binder_piece x ∷ space ∷ equal 
 
 -- ` | x :: y -> `
 abbrev pub arm_pieces : BinderSyntax → BinderSyntax → List Piece
-arm_pieces x y = space ∷ bar ∷ space ∷ binder_piece x ∷ space ∷ double_colon ∷ space ∷ binder_piece y ∷ space ∷ arrow ∷ space ∷ []
+arm_pieces x y =
+    space ∷ bar ∷ space ∷ binder_piece x ∷ space ∷ double_colon ∷ space ∷ binder_piece y ∷ space ∷ arrow ∷ space ∷ []
 
 abbrev pub arms_text : BinderSyntax → BinderSyntax → List ℕ
 arms_text x y = text_of (arm_pieces x y)

@@ -1,5 +1,5 @@
--- How a number is printed: the digits of its numerator in base 10, with `-` where it is negative, and then `r` and the digits
--- of its denominator where that isn't 1.
+-- How a number is printed: the digits of its numerator in base 10, with `-` where it is negative, and then `r` and the
+-- digits of its denominator where that isn't 1.
 -- Source: decimal notation; the `r` is this project's own.
 use Rattle.std.specs.Prelude.{ℕ, ℤ, pos, List, [], ◌++◌, codes, cond}
 use Rattle.std.specs.Ordering.{int_eq}

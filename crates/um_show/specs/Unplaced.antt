@@ -1,7 +1,16 @@
 -- Raw trees without their places: each place is 0.
 -- Source: this project's own.
 use Rattle.std.specs.Prelude.{Option, Some, None, List, map}
-use Rattle.um_tree.specs.RawTree.{UnitSyntax, UnitSyntaxes, one_syntax, measure_syntax, variable_syntax, power_syntax, side_syntax, times_syntax, over_syntax, inverse_syntax, bracket_syntax, no_units, more_units, NoteSyntax, hole_syntax, unit_note_syntax, TypeSyntax, bool_syntax, num_syntax, record_syntax, list_type_syntax, bracket_type_syntax, BinderSyntax, ExprSyntax, ExprSyntaxes, FieldSyntaxes, truth_syntax, number_syntax, name_syntax, call_syntax, negate_syntax, not_syntax, arith_syntax, compare_syntax, and_syntax, or_syntax, if_syntax, let_syntax, match_syntax, nil_syntax, list_syntax, cons_syntax, fields_syntax, field_syntax, bracket_expr_syntax, no_exprs, more_exprs, no_fields, more_fields, VarSyntax, FieldDeclSyntax, ParamSyntax, FunctionSyntax, DeclSyntax, base_syntax, short_syntax, record_decl_syntax, function_syntax}
+use Rattle.um_tree.specs.RawTree.{UnitSyntax, UnitSyntaxes, one_syntax, measure_syntax, variable_syntax, power_syntax}
+use Rattle.um_tree.specs.RawTree.{side_syntax, times_syntax, over_syntax, inverse_syntax, bracket_syntax, no_units}
+use Rattle.um_tree.specs.RawTree.{more_units, NoteSyntax, hole_syntax, unit_note_syntax, TypeSyntax, bool_syntax}
+use Rattle.um_tree.specs.RawTree.{num_syntax, record_syntax, list_type_syntax, bracket_type_syntax, BinderSyntax}
+use Rattle.um_tree.specs.RawTree.{ExprSyntax, ExprSyntaxes, FieldSyntaxes, truth_syntax, number_syntax, name_syntax}
+use Rattle.um_tree.specs.RawTree.{call_syntax, negate_syntax, not_syntax, arith_syntax, compare_syntax, and_syntax}
+use Rattle.um_tree.specs.RawTree.{or_syntax, if_syntax, let_syntax, match_syntax, nil_syntax, list_syntax}
+use Rattle.um_tree.specs.RawTree.{cons_syntax, fields_syntax, field_syntax, bracket_expr_syntax, no_exprs, more_exprs}
+use Rattle.um_tree.specs.RawTree.{no_fields, more_fields, VarSyntax, FieldDeclSyntax, ParamSyntax, FunctionSyntax}
+use Rattle.um_tree.specs.RawTree.{DeclSyntax, base_syntax, short_syntax, record_decl_syntax, function_syntax}
 
 abbrev mutual
   pub bare_unit : UnitSyntax → UnitSyntax
@@ -51,7 +60,8 @@ abbrev mutual
   bare_expr (or_syntax at a b) = or_syntax 0 (bare_expr a) (bare_expr b)
   bare_expr (if_syntax at c a b) = if_syntax 0 (bare_expr c) (bare_expr a) (bare_expr b)
   bare_expr (let_syntax at x a b) = let_syntax 0 (bare_binder x) (bare_expr a) (bare_expr b)
-  bare_expr (match_syntax at l a x y b) = match_syntax 0 (bare_expr l) (bare_expr a) (bare_binder x) (bare_binder y) (bare_expr b)
+  bare_expr (match_syntax at l a x y b) =
+      match_syntax 0 (bare_expr l) (bare_expr a) (bare_binder x) (bare_binder y) (bare_expr b)
   bare_expr (nil_syntax at t) = nil_syntax 0 (bare_type t)
   bare_expr (list_syntax at es) = list_syntax 0 (bare_exprs es)
   bare_expr (cons_syntax at a b) = cons_syntax 0 (bare_expr a) (bare_expr b)

@@ -1,13 +1,19 @@
-//! Printed texts: of numbers, and of programs in their layout.
+//! Printed texts: of numbers, of units, types and schemes, and of programs in their layout.
 #![tactic(auto)]
 
 mod decl;
 mod expr;
 pub mod laws;
 mod number;
+mod printed_scheme;
+mod printed_type;
+mod printed_unit;
 mod text;
 mod types;
 mod unit;
 
 pub use decl::program_text;
 pub use number::number_text;
+pub use printed_scheme::scheme_text;
+pub use printed_type::type_text;
+pub use printed_unit::unit_text;

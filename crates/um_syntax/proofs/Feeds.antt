@@ -5,6 +5,7 @@ use Rattle.std.proofs.lemmas.Str.{encodes-append, encode_same, encode_ascii, cha
 use Rattle.std.specs.Str.{chars}
 use lib.Utf8.{encode, encodes, scalar, scalars, next}
 use Rattle.unicode_ident.proofs.IdentLemmas.{is_xid_continue-ascii}
+use Rattle.um_syntax.specs.declared.vocabulary.Symbol.{Symbol}
 use Rattle.um_syntax.specs.declared.token.Token.{Token}
 use Rattle.um_syntax.specs.declared.token.LexStop.{LexStop}
 use Rattle.um_syntax.specs.declared.token.LexStop.TheVariants as lex
@@ -15,17 +16,17 @@ use Rattle.um_syntax.specs.declared.pending.Pending.{Pending}
 use Rattle.um_syntax.specs.declared.pending.Pending.TheVariants as pending
 use Rattle.um_syntax.specs.Gap.{IsLine, nothing, closed}
 use Rattle.um_syntax.specs.Lexing.{HasTokens}
-use Rattle.um_syntax.specs.Machine.{Scan, scan_start, takes, double_sign, close, ends_in_digit, followed, at_state, taken, step, steps, ended, tokens_of}
+use Rattle.um_syntax.specs.Machine.{Scan, scan_start, takes, double_symbol, close, ends_in_digit, followed, at_state, taken, step, steps, ended, tokens_of}
 use Rattle.um_syntax.specs.Scanning.{Stops}
 use Rattle.um_syntax.specs.Feeding.{EndsLine, CountsTokens, CountsLines, is_readable, IsReadable, text_stop, HasScanned, HasBehind}
 use Rattle.um_syntax.specs.Decoding.{char_len, NoWhole, NoChar}
 use Rattle.um_syntax.proofs.Closing.{snoc_same}
-use Rattle.um_syntax.proofs.Utf8Front.{no_whole}
+use Rattle.um_syntax.proofs.DecodedChars.{no_whole}
 use Rattle.std.proofs.Math.ListN.{set, length-set}
 use Rattle.std.proofs.lemmas.List.{take_more_set, length-take-le, length-take}
 use Rattle.um_syntax.proofs.Runs.{steps-append}
 use Rattle.unicode_ident.specs.Ident.{is_xid_continue}
-use Rattle.um_syntax.proofs.Tables.{double_sign-feed}
+use Rattle.um_syntax.proofs.Tables.{double_symbol-feed}
 use Rattle.um_syntax.proofs.Reading.{ascii_no_name}
 use Rattle.um_syntax.proofs.Whole.{scanned_complete, unique_tokens}
 
@@ -125,11 +126,11 @@ counts_goes n cs c other k = counts_on n cs c (is_false (eqb c 10) refl) k
     is_false false e = e
 
 -- a line feed ends what has begun
-no_pair : (first : ℕ) → is_some (double_sign first 10) ≡ false
-no_pair first = by_sign (double_sign first 10) refl
+no_pair : (first : ℕ) → is_some (double_symbol first 10) ≡ false
+no_pair first = by_sign (double_symbol first 10) refl
   where
-    by_sign : (o : Option ℕ) → double_sign first 10 ≡ o → is_some (double_sign first 10) ≡ false
-    by_sign (Some k) e = absurd (double_sign-feed first k e)
+    by_sign : (o : Option Symbol) → double_symbol first 10 ≡ o → is_some (double_symbol first 10) ≡ false
+    by_sign (Some k) e = absurd (double_symbol-feed first k e)
     by_sign None e = ap is_some e
 
 line_feed_begun : (p : Pending) (r : Result Scan LexStop) (new : Scan) (next : ℕ) → followed r p 10 next ≡ Ok new → new.pending ≡ pending.Free
@@ -176,7 +177,7 @@ line_feed_free s new e = by_pending s.pending refl
     by_pending (pending.Number b n part.Decimal f) is = line_feed_step s new (pending.Number b n part.Decimal f) is refl e
     by_pending (pending.Number b n part.Over f) is = line_feed_step s new (pending.Number b n part.Over f) is refl e
     by_pending (pending.Number b n part.Ratio f) is = line_feed_step s new (pending.Number b n part.Ratio f) is refl e
-    by_pending (pending.Symbol b first) is = line_feed_step s new (pending.Symbol b first) is (or_both (is_some (double_sign first 10)) (eqb first 47 && eqb 10 47) (no_pair first) (no_slash first)) e
+    by_pending (pending.Symbol b first) is = line_feed_step s new (pending.Symbol b first) is (or_both (is_some (double_symbol first 10)) (eqb first 47 && eqb 10 47) (no_pair first) (no_slash first)) e
 
 -- the tokens behind a line feed
 free_answer : (s : Scan) → s.pending ≡ pending.Free → ended (Ok s) ≡ Ok s.tokens
@@ -326,11 +327,11 @@ last_byte c = ⊎_elim one (λ l. ⊎_elim (two l) (λ m. ⊎_elim (three m) fou
     four n = let l : 128 ≤ c = omega arith in let m : 2048 ≤ c = omega arith in
         ((240 + c / 262144) ∷ next (c / 4096) ∷ next (c / 64) ∷ [], 128 + c % 64, rw (le-ltb c 128 l, le-ltb c 2048 m, le-ltb c 65536 n) refl, high (c % 64))
 
-snoc_view : (xs : List ℕ) → (xs ≡ []) ⊎ ((front : List ℕ) × (c : ℕ) × (xs ≡ front ++ c ∷ []))
+snoc_view : (xs : List ℕ) → (xs ≡ []) ⊎ ((prefix : List ℕ) × (c : ℕ) × (xs ≡ prefix ++ c ∷ []))
 snoc_view [] = inl refl
 snoc_view (x ∷ xs) = inr (go x xs)
   where
-    go : (x : ℕ) (xs : List ℕ) → (front : List ℕ) × (c : ℕ) × (x ∷ xs ≡ front ++ c ∷ [])
+    go : (x : ℕ) (xs : List ℕ) → (prefix : List ℕ) × (c : ℕ) × (x ∷ xs ≡ prefix ++ c ∷ [])
     go x [] = ([], x, refl)
     go x (y ∷ ys) = let r = go y ys in (x ∷ r.0, r.1, ap (λ l. x ∷ l) r.2)
 
@@ -344,13 +345,13 @@ EndsLine-chars ps ends = ⊎_elim (λ none. inl (none_chars ps none)) (λ w. ⊎
     none_chars : (ps : List ℕ) → encodes ps ≡ [] → ps ≡ []
     none_chars ps none = encodes_same ps [] none
 
-    by_last : (before : List ℕ) → encodes ps ≡ before ++ 10 ∷ [] → (front : List ℕ) (c : ℕ) → ps ≡ front ++ c ∷ [] → EndsLine ps
-    by_last before e front c same =
+    by_last : (before : List ℕ) → encodes ps ≡ before ++ 10 ∷ [] → (prefix : List ℕ) (c : ℕ) → ps ≡ prefix ++ c ∷ [] → EndsLine ps
+    by_last before e prefix c same =
         let l = last_byte c in
-        let bytes : (encodes front ++ l.0) ++ l.1 ∷ [] ≡ before ++ 10 ∷ [] =
-        append_assoc (encodes front) l.0 (l.1 ∷ []) ∙ ap (λ x. encodes front ++ x) (sym l.2 ∙ sym (append_nil (encode c))) ∙ sym (encodes-append front (c ∷ [])) ∙ ap encodes (sym same) ∙ e in
-        let feed = l.3 (snoc_same (encodes front ++ l.0) before l.1 10 bytes).1 in
-        inr (front, same ∙ ap (λ x. front ++ x ∷ []) feed)
+        let bytes : (encodes prefix ++ l.0) ++ l.1 ∷ [] ≡ before ++ 10 ∷ [] =
+        append_assoc (encodes prefix) l.0 (l.1 ∷ []) ∙ ap (λ x. encodes prefix ++ x) (sym l.2 ∙ sym (append_nil (encode c))) ∙ sym (encodes-append prefix (c ∷ [])) ∙ ap encodes (sym same) ∙ e in
+        let feed = l.3 (snoc_same (encodes prefix ++ l.0) before l.1 10 bytes).1 in
+        inr (prefix, same ∙ ap (λ x. prefix ++ x ∷ []) feed)
 
 pub behind_no_whole : (f : Option TextStop) (valid held : ℕ) (partial tail : List ℕ) → held < char_len (get_or (take held partial) 0 0) → HasBehind f valid (take held partial) tail → NoWhole tail
 behind_no_whole f valid held partial tail begun h = by_fault f h
@@ -367,13 +368,13 @@ behind_no_whole f valid held partial tail begun h = by_fault f h
     by_fault (Some text.NoMemory) h = absurd h
 
 pub counts_tokens : (bytes cs tail : List ℕ) (count : ℕ) → bytes ≡ encodes cs ++ tail → NoWhole tail → CountsLines count cs → CountsTokens bytes count
-counts_tokens bytes cs tail count whole none k = λ front rest tokens e ends line text has.
+counts_tokens bytes cs tail count whole none k = λ prefix rest tokens e ends line text has.
     let ps = text.0 in
     let cut : encodes ps ++ rest ≡ encodes cs ++ tail = ap (λ x. x ++ rest) text.1.1 ∙ sym e ∙ whole in
     let r = text_front ps cs rest tail text.1.0 none cut in
     let last : IsLine (encodes r.0 ++ tail) = subst IsLine r.2 line in
     let same = line_split k.0 k.1 ps r.0 k.3 k.4 (EndsLine-chars ps (subst EndsLine (sym text.1.1) ends)) (IsLine-chars r.0 (IsLine-left (encodes r.0) tail last)) (sym k.2 ∙ r.1) in
-    let characters : chars front ≡ ps = ap chars (sym text.1.1) ∙ chars-encodes ps text.1.0 in
+    let characters : chars prefix ≡ ps = ap chars (sym text.1.1) ∙ chars-encodes ps text.1.0 in
     k.5 tokens (subst (λ x. HasTokens x tokens) (characters ∙ sym same) has)
 
 pub ok_from : {T E P : Type 0} (r : Result T E) → OnOk r P → is_err r ≡ false → P

@@ -1,4 +1,4 @@
--- What a lexer that is fed in pieces stands for, and what it answers.
+-- What a lexer that is fed in pieces answers, by the definitions of tokens, and what it stands for, by the scanner's states.
 use Rattle.std.specs.Prelude.{◌≡◌, ℕ, ◌⊎◌, Bool, true, false, List, [], ◌∷◌, ◌++◌, length, take, Option, None, Some, Result, Ok, Err}
 use Rattle.std.specs.Str.{chars, IsUtf8, IsValidUpTo, encode_utf8_all, all_scalars}
 use Rattle.um_syntax.specs.declared.token.Token.{Token}
@@ -17,10 +17,11 @@ use Rattle.um_syntax.specs.Decoding.{NoChar}
 abbrev pub EndsLine : List ℕ → Type 0
 EndsLine xs = (xs ≡ []) ⊎ ((before : List ℕ) × (xs ≡ before ++ 10 ∷ []))
 
--- Of the longest front of the bytes that is empty or ends with a line feed: where it has tokens, they are so many.
+-- Of the longest prefix of the bytes that is empty or ends with a line feed: where it has tokens, they are so many.
 abbrev pub CountsTokens : List ℕ → ℕ → Type 0
 CountsTokens bytes count =
-    (front rest : List ℕ) (tokens : List Token) → bytes ≡ front ++ rest → EndsLine front → IsLine rest → IsUtf8 front → HasTokens (chars front) tokens → count ≡ length tokens
+    (prefix rest : List ℕ) (tokens : List Token) → bytes ≡ prefix ++ rest → EndsLine prefix → IsLine rest → IsUtf8 prefix
+    → HasTokens (chars prefix) tokens → count ≡ length tokens
 
 -- What the text of the bytes has: tokens, or its leftmost fault; bytes that aren't UTF-8 have none.
 abbrev pub IsTextAnswer : List ℕ → Result (List Token) TextStop → Type 0
@@ -70,7 +71,8 @@ HasScanned (Some text.NoMemory) scan cs = Unit {0}
 -- the count is that of the tokens up to the last line feed
 abbrev pub CountsLines : ℕ → List ℕ → Type 0
 CountsLines count cs =
-    (front line : List ℕ) × (cs ≡ front ++ line) × EndsLine front × IsLine line × ((tokens : List Token) → HasTokens front tokens → count ≡ length tokens)
+    (prefix line : List ℕ) × (cs ≡ prefix ++ line) × EndsLine prefix × IsLine line
+    × ((tokens : List Token) → HasTokens prefix tokens → count ≡ length tokens)
 
 -- the lexer has read these characters
 pub record HasRead (lexer : Lexer) (cs : List ℕ) : Type 0 where

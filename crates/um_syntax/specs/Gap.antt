@@ -1,4 +1,5 @@
--- What is skipped between tokens: white space and comments. A comment runs from two slashes to its line feed (this project's own).
+-- What is skipped between tokens: white space and comments. A comment runs from two slashes to its line feed (this
+-- project's own).
 use Rattle.std.specs.Prelude.{◌≡◌, ℕ, Bool, true, false, ◌==◌, ◌||◌, List, [], ◌∷◌, ◌++◌}
 
 -- space, tab, carriage return and line feed

@@ -1,4 +1,5 @@
--- In reading order: the tables, what is skipped, numbers, the texts of tokens, the tokens of a text, its lines and columns; then the machine.
+-- To be trusted, in reading order: the vocabulary, what is skipped, numbers, the texts of tokens, the tokens of a text,
+-- what holds of them, lines and columns.
 pub mod Vocabulary
 pub mod Gap
 pub mod Numeral
@@ -6,6 +7,9 @@ pub mod Lexeme
 pub mod Lexing
 pub mod Laws
 pub mod LineColumn
+-- What mirrors the code: the machine over characters, the scanner, characters of bytes, and the lexer that is fed. The
+-- definitions above don't rest on these. Of `Feeding`, what a lexer answers (`IsTextAnswer`, `CountsTokens`) rests on
+-- the definitions above alone; what a lexer stands for (`Stands`) rests on the scanner's states.
 pub mod Machine
 pub mod Scanning
 pub mod Decoding

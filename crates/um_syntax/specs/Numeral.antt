@@ -1,4 +1,5 @@
--- The texts of numbers and their values: digits in decimal notation (Knuth, Seminumerical Algorithms, 4.4), with a point or
+-- The texts of numbers and their values: digits in decimal notation (Knuth, Seminumerical Algorithms, 4.4), with a
+-- point or
 -- over other digits (this project's own).
 use Rattle.std.specs.Prelude.{◌≡◌, ℕ, ◌+◌, ◌-◌, ◌*◌, ◌^◌, Bool, true, false, cond, nat_le, List, [], ◌∷◌, ◌++◌, length, pos, Option, None}
 use Rattle.std.specs.Char.{is_ascii_digit}
@@ -38,7 +39,8 @@ IsNumeral (Whole digits) = IsDigits digits
 IsNumeral (Decimal whole part) = IsDigits whole × IsDigits part
 IsNumeral (Ratio above below) = IsDigits above × IsDigits below
 
--- Its value is the first of these over the second: the digits; the digits without the point over a power of ten; the first digits over the second.
+-- Its value is the first of these over the second: the digits; the digits without the point over a power of ten; the
+-- first digits over the second.
 abbrev pub numerator_of : Numeral → ℕ
 numerator_of (Whole digits) = value_of digits
 numerator_of (Decimal whole part) = value_of (whole ++ part)

@@ -1,12 +1,12 @@
 //! UTF-8, one character at a time.
 ghost use Rattle.std.specs.Prelude.{◌≡◌, ◌<◌, ◌≤◌, length, slice_index};
-ghost use Rattle.um_syntax.specs.Decoding.{char_len, IsFront};
+ghost use Rattle.um_syntax.specs.Decoding.{char_len, IsDecoded};
 
 use std::str;
 
 /// What bytes that are at most one character are.
 #[derive(Clone, Copy, Debug, PartialEq, Eq)]
-pub enum Front {
+pub enum Decoded {
     /// A character.
     Whole(char),
     /// The beginning of what may be a character.
@@ -30,23 +30,23 @@ fn char_len(first: u8) -> usize
 }
 
 // What the bytes are: some, and no more than their first byte asks for.
-pub fn front_of(bytes: &[u8]) -> Front
+pub fn decode_char(bytes: &[u8]) -> Decoded
     requires some { 0 < length bytes.now }
     requires one { 1 < length bytes.now → length bytes.now ≤ char_len (slice_index bytes.now 0) }
-    ensures { IsFront result bytes.now }
+    ensures { IsDecoded result bytes.now }
 {
     let len = char_len(bytes[0]);
     if len == 0 {
-        return Front::Broken;
+        return Decoded::Broken;
     }
     if bytes.len() < len {
-        return Front::Partial;
+        return Decoded::Partial;
     }
     let Ok(text) = str::from_utf8(bytes) else {
-        return Front::Broken;
+        return Decoded::Broken;
     };
     match text.chars().next() {
-        Some(c) => Front::Whole(c),
-        None => Front::Broken,
+        Some(c) => Decoded::Whole(c),
+        None => Decoded::Broken,
     }
 }

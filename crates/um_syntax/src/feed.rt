@@ -4,7 +4,7 @@ ghost use Rattle.std.specs.Char.{len_utf8};
 ghost use Rattle.um_syntax.specs.Decoding.{char_len};
 ghost use Rattle.um_syntax.specs.Machine.{PendingFits, PendingFits-prop};
 
-use crate::decode::{Front, front_of};
+use crate::decode::{Decoded, decode_char};
 use crate::scanner::Scanner;
 use crate::token::{LexStop, NoMemory, TextStop, Tokens};
 use std::alloc::{AllocError, Global};
@@ -82,7 +82,7 @@ impl Lexer {
     ///
     /// # Errors
     ///
-    /// `Utf8` where the bytes aren't UTF-8, at the length of their longest front that is; else the refusal of `lex`.
+    /// `Utf8` where the bytes aren't UTF-8, at the length of their longest prefix that is; else the refusal of `lex`.
     pub fn finish(self) -> Result<Tokens, TextStop>
         ensures answer { (bytes : List ℕ) → Stands self bytes → IsTextAnswer bytes result }
         ensures spent { IsSpent self → result ≡ Err text_stop_of.NoMemory }
@@ -148,14 +148,14 @@ impl Lexer {
         let mut partial = self.partial;
         partial[held] = byte;
         self.held = 0;
-        match front_of(&partial[..held + 1]) {
-            Front::Whole(c) => self.take_char(c),
-            Front::Partial => {
+        match decode_char(&partial[..held + 1]) {
+            Decoded::Whole(c) => self.take_char(c),
+            Decoded::Partial => {
                 self.partial = partial;
                 self.held = held + 1;
                 Ok(())
             }
-            Front::Broken => {
+            Decoded::Broken => {
                 self.fault = Some(TextStop::Utf8 { at: self.valid });
                 Ok(())
             }

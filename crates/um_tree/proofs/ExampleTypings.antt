@@ -7,10 +7,12 @@ use Rattle.um_units.proofs.Group.{mul-one, mul_assoc}
 use Rattle.um_units.proofs.Replacement.{replace-one, replace-mul, replace-inv, replace-base, replace-variable}
 use Rattle.um_tree.specs.declared.note.UnitNote.TheVariants.{Hole, Written}
 use Rattle.um_tree.specs.TypeTree.{TypeTree, bool_type, num_type, list_type, record_type, num_note}
-use Rattle.um_tree.specs.ProgramTree.{Signature, SchemeTree}
+use Rattle.um_tree.specs.ExprTree.{number}
+use Rattle.um_tree.specs.ProgramTree.{ProgramTree, Signature, SchemeTree}
 use Rattle.um_tree.specs.Typing.{put_signature, UnitsMatch, TypesMatch, Typing}
-use Rattle.um_tree.specs.Scheme.{IsPrincipal}
-use Rattle.um_tree.proofs.ExamplePrograms.{metre, second, kilogram, newton, marked, area_of_metres, area, identity, zeros, squares, sum, weights, make, pick}
+use Rattle.um_tree.specs.Scheme.{IsInstance, IsPrincipal, IsNumberedScheme}
+use Rattle.um_tree.proofs.Numbered.{numbered_below}
+use Rattle.um_tree.proofs.ExamplePrograms.{one_number, plain, with_functions, metre, second, kilogram, newton, marked, area_of_metres, area, identity, zeros, squares, sum, weights, make, pick}
 
 abbrev pub signature : List TypeTree → TypeTree → Signature
 signature ts t = record { params = ts; result = t }
@@ -80,12 +82,16 @@ area_instance u v =
     ∙ ap (λ x. signature (num_type x ∷ num_type (replace (pair_at u v) (variable 1)) ∷ []) (num_type (mul x (replace (pair_at u v) (variable 1))))) first
     ∙ ap (λ y. signature (num_type u ∷ num_type y ∷ []) (num_type (mul u y))) other
 
+area_numbered : IsNumberedScheme area_scheme
+unfolding product
+area_numbered = inr (refl, inr (refl, inl (omega arith, inl (omega arith, refl))))
+
 -- its typings are exactly the instances of num<'a> -> num<'b> -> num<'a 'b>
 area_principal : IsPrincipal area 0 area_scheme
-area_principal g = (there, back)
+area_principal = record { below = numbered_below area_scheme area_numbered; instances = λ g. (there g, back g) }
   where
-    there : Typing area 0 g → (units : ℕ → PowerMap) × (g ≡ put_signature units area_scheme.signature)
-    there m =
+    there : (g : Signature) → Typing area 0 g → IsInstance area_scheme g
+    there g m =
         let found = two_holes m.choice g.params m.params in
         let u = found.0 in
         let v = found.1.0 in
@@ -95,8 +101,8 @@ area_principal g = (there, back)
         let unit = m.body.5 ∙ ap (λ x. mul x m.body.1) (sym left) ∙ ap (mul u) (sym right) in
         (pair_at u v, signature_is g _ _ params (m.body.6 ∙ ap num_type unit) ∙ sym (area_instance u v))
 
-    back : (units : ℕ → PowerMap) × (g ≡ put_signature units area_scheme.signature) → Typing area 0 g
-    back m =
+    back : (g : Signature) → IsInstance area_scheme g → Typing area 0 g
+    back g m =
         let u = replace m.0 (variable 0) in
         let v = replace m.0 (variable 1) in
         subst (Typing area 0) (ap (λ w. signature (num_type u ∷ num_type v ∷ []) (num_type w)) (sym (replace-mul m.0 (variable 0) (variable 1))) ∙ sym m.1) (area_typed u v)
@@ -127,6 +133,21 @@ zeros_typed u v = record { choice = λ k. one; params = refl; result = tt; body 
 zero_refused : Typing zeros 0 (signature [] bool_type) → ⊥
 zero_refused m = absurd (cc m.body.2)
 
+-- ---- a literal has its unit as it stands, whatever is chosen for the function's variables: a program with an open one is
+-- not formed
+abbrev open_literal : ProgramTree
+open_literal = with_functions (plain [] (number 0 one_number (Written (variable 0))) ∷ [])
+
+open_literal_typed : (choice : ℕ → PowerMap) → Typing open_literal 0 (signature [] (num_type (variable 0)))
+open_literal_typed choice = record { choice = choice; params = refl; result = tt; body = (variable 0, refl, refl) }
+
+variable_apart : metre ≡ variable 0 → ⊥
+unfolding product
+variable_apart = apart metre (variable 0) (Base 0) 1 0 refl refl (λ e. absurd (omega (arith, e)))
+
+open_literal_refused : Typing open_literal 0 (signature [] (num_type metre)) → ⊥
+open_literal_refused m = variable_apart (same_number _ _ m.body.2 ∙ m.body.1)
+
 -- ---- let rec f (n: num) (x: num<_>) : num<_> = if n < 1 then x else f (n - 1) (x * x) has num -> num -> num alone
 pub squares_typed : Typing squares 0 (signature (num_type one ∷ num_type one ∷ []) (num_type one))
 squares_typed = record {
@@ -134,14 +155,14 @@ squares_typed = record {
   params = (num_type one, num_type one ∷ [], (one, sym (replace-one _), refl), (num_type one, [], (one, tt, refl), refl, refl), refl);
   result = (one, tt, refl);
   body = (
-    (one, refl, (one, sym (replace-one _), refl), refl),
+    (one, refl, (one, refl, refl), refl),
     refl,
     (
       num_type one ∷ num_type one ∷ [],
       (
         num_type one,
         num_type one ∷ [],
-        (one, one, one, refl, (one, sym (replace-one _), refl), (refl, refl), refl),
+        (one, one, one, refl, (one, refl, refl), (refl, refl), refl),
         (num_type one, [], (one, one, one, refl, refl, sym (mul-one one), refl), refl, refl),
         refl,
       ),
@@ -207,15 +228,12 @@ closed_newton s =
 abbrev gravity : PowerMap
 gravity = mul metre (inv (mul second second))
 
-closed_gravity : (s : ℕ → PowerMap) → replace s gravity ≡ gravity
-closed_gravity s = replace-mul s metre (inv (mul second second)) ∙ ap (mul (replace s metre)) (closed_per_second s) ∙ ap (λ u. mul u (inv (mul second second))) (replace-base s 0)
-
 weight_typed : Typing weights 0 (signature (num_type kilogram ∷ []) (num_type newton))
 weight_typed = record {
   choice = λ k. one;
   params = (num_type kilogram, [], (kilogram, sym (replace-base _ 2), refl), refl, refl);
   result = tt;
-  body = (kilogram, gravity, newton, refl, (gravity, sym (closed_gravity _), refl), mul_assoc kilogram metre (inv (mul second second)), refl);
+  body = (kilogram, gravity, newton, refl, (gravity, refl, refl), mul_assoc kilogram metre (inv (mul second second)), refl);
 }
 
 push_typed : Typing weights 1 (signature (num_type newton ∷ []) (num_type newton))
@@ -249,7 +267,7 @@ make_typed u = record {
   choice = λ k. one;
   params = refl;
   result = tt;
-  body = (u ∷ [], marked, record { declared = refl; units = refl }, (num_type one, [], (one, sym (replace-one _), refl), refl, ap (λ v. num_type v ∷ []) (replace-one _)), refl);
+  body = (u ∷ [], marked, record { declared = refl; units = refl }, (num_type one, [], (one, refl, refl), refl, ap (λ v. num_type v ∷ []) (replace-one _)), refl);
 }
 
 -- a record has as many units as are declared

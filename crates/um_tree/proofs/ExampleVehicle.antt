@@ -1,10 +1,10 @@
 -- A realistic program, on which the definitions are tried: a small vehicle model.
 -- Each function has the type that is expected at every unit, and an instance of another is refused; and its calls end as expected.
-use Rattle.std.proofs.Common.{◌≡◌, refl, sym, ap, subst, ◌∙◌, inl, inr, ℕ, false, List, [], ◌∷◌, ℤ, pos, Some, arith}
+use Rattle.std.proofs.Common.{◌≡◌, refl, sym, ap, subst, ◌∙◌, inl, inr, ℕ, false, List, [], ◌∷◌, pos, Some, arith}
 use Rattle.std.proofs.lemmas.Int.{ints}
 use Rattle.um_frac.specs.declared.number.Frac.{Frac}
 use Rattle.um_frac.specs.Gcd.{gcd}
-use Rattle.um_frac.specs.Fraction.{numerator, denominator, fraction, divided, reduced}
+use Rattle.um_frac.specs.Fraction.{fraction, divided, reduced}
 use Rattle.um_frac.specs.Arithmetic.{sum_of, product_of, quotient_of}
 use Rattle.um_units.specs.declared.Atom.TheVariants.{Base}
 use Rattle.um_units.specs.PowerMap.{PowerMap, product, one, atom, mul, inv, replace}
@@ -16,12 +16,12 @@ use Rattle.um_tree.specs.declared.expression.Arith.TheVariants.{Add, Mul, Div}
 use Rattle.um_tree.specs.TypeTree.{TypeTree, num_type, list_type, record_type, num_note, list_note, record_note}
 use Rattle.um_tree.specs.ExprTree.{number, local, call, arith as arith_tree, split, record_expr, field, none, more}
 use Rattle.um_tree.specs.ProgramTree.{RecordTree, ProgramTree}
-use Rattle.um_tree.specs.ValueTree.{ValueTree, ValueTrees, number_value, list_value, record_value, no_values, more_values, values_in_order}
-use Rattle.um_tree.specs.Meaning.{Out, gives, Outcome}
+use Rattle.um_tree.specs.ValueTree.{ValueTree, list_value, record_value, values_in_order}
+use Rattle.um_tree.specs.Meaning.{Outcome}
 use Rattle.um_tree.specs.Typing.{unit_at, Typing}
 use Rattle.um_tree.proofs.ExamplePrograms.{whole, zero_number, one_number, metre, second, kilogram, plain, rec_function}
 use Rattle.um_tree.proofs.ExampleTypings.{signature, variable, same_number, same_some, apart, metre_apart, same_item}
-use Rattle.um_tree.proofs.ExampleRuns.{number_shown, end_shown, shown, number_of}
+use Rattle.um_tree.proofs.ExampleShown.{value_shown, end_shown, number_shown, plain_record, whole_number, in_plain_order, shown, number_of}
 
 abbrev foot : PowerMap
 foot = atom (Base 3)
@@ -107,8 +107,8 @@ count_typed u = record {
   body = (
     num_type u,
     refl,
-    (one, sym (replace-one _), refl),
-    (one, one, one, (one, sym (replace-one _), refl), (list_type (num_type u) ∷ [], (list_type (num_type u), [], refl, refl, refl), inr (refl, record { recursive = refl; noted = refl }, refl)), (refl, refl), refl),
+    (one, refl, refl),
+    (one, one, one, (one, refl, refl), (list_type (num_type u) ∷ [], (list_type (num_type u), [], refl, refl, refl), inr (refl, record { recursive = refl; noted = refl }, refl)), (refl, refl), refl),
   );
 }
 
@@ -187,7 +187,7 @@ kinetic_typed = record {
   choice = λ k. one;
   params = (num_type kilogram, num_type speed ∷ [], (kilogram, sym (replace-base _ 2), refl), (num_type speed, [], (speed, sym (closed_speed _), refl), refl, refl), refl);
   result = (joule, sym (closed_joule _), refl);
-  body = (mul (mul kilogram speed) speed, one, joule, (mul kilogram speed, speed, mul (mul kilogram speed) speed, (kilogram, speed, mul kilogram speed, refl, refl, refl, refl), refl, refl, refl), (one, sym (replace-one _), refl), sym kinetic_unit, refl);
+  body = (mul (mul kilogram speed) speed, one, joule, (mul kilogram speed, speed, mul (mul kilogram speed) speed, (kilogram, speed, mul kilogram speed, refl, refl, refl, refl), refl, refl, refl), (one, refl, refl), sym kinetic_unit, refl);
 }
 
 joule_apart : joule ≡ kilogram → ⊥
@@ -202,15 +202,12 @@ metres_unit : mul foot (per metre foot) ≡ metre
 unfolding product
 metres_unit = same_from_terms _ _ refl
 
-closed_rate : (s : ℕ → PowerMap) → replace s (per metre foot) ≡ per metre foot
-closed_rate s = replace-mul s metre (inv foot) ∙ ap (λ u. mul u (replace s (inv foot))) (replace-base s 0) ∙ ap (mul metre) (replace-inv s foot ∙ ap inv (replace-base s 3))
-
 metres_typed : Typing vehicle 4 (signature (num_type foot ∷ []) (num_type metre))
 metres_typed = record {
   choice = λ k. one;
   params = (num_type foot, [], (foot, sym (replace-base _ 3), refl), refl, refl);
   result = tt;
-  body = (foot, per metre foot, metre, refl, (per metre foot, sym (closed_rate _), refl), sym metres_unit, refl);
+  body = (foot, per metre foot, metre, refl, (per metre foot, refl, refl), sym metres_unit, refl);
 }
 
 foot_apart : metre ≡ foot → ⊥
@@ -304,17 +301,7 @@ kinetic_runs : shown (Outcome vehicle.functions 3 (number_of 2 (omega arith) ∷
 unfolding Outcome product_of quotient_of reduced divided fraction gcd
 kinetic_runs = refl
 
--- numerator and denominator of each part of a record value
-abbrev parts : ValueTrees → List (ℤ × ℤ)
-parts no_values = []
-parts (more_values (number_value c) vs) = (numerator c, denominator c) ∷ parts vs
-parts (more_values v vs) = parts vs
-
-abbrev parts_shown : Out ValueTree → List (ℤ × ℤ)
-parts_shown (gives (record_value r vs) b) = parts vs
-parts_shown o = []
-
 -- { pos = 1; vel = 2 } and 3 give { pos = 7; vel = 2 }
-move_runs : parts_shown (Outcome vehicle.functions 5 (record_value 0 (values_in_order (number_of 1 (omega arith) ∷ number_of 2 (omega arith) ∷ [])) ∷ number_of 3 (omega arith) ∷ []) 1) ≡ (pos 7, pos 1) ∷ (pos 2, pos 1) ∷ []
+move_runs : shown (Outcome vehicle.functions 5 (record_value 0 (values_in_order (number_of 1 (omega arith) ∷ number_of 2 (omega arith) ∷ [])) ∷ number_of 3 (omega arith) ∷ []) 1) ≡ value_shown (plain_record 0 (in_plain_order (whole_number 7 ∷ whole_number 2 ∷ []))) 0
 unfolding Outcome sum_of product_of reduced divided fraction gcd
 move_runs = refl

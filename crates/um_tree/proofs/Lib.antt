@@ -6,11 +6,16 @@ pub mod Growth
 pub mod Homomorphisms
 pub mod Below
 pub mod Moved
+pub mod WrittenUnits
+pub mod Numbered
 pub mod TypingLaws
 pub mod ShapeLaws
 pub mod BudgetLaws
 pub mod ExamplePrograms
-pub mod ExampleRuns
+pub mod ExampleShown
+mod ExampleMeanings
+mod ExampleFormed
+mod ExampleRuns
 mod ExampleVehicle
 pub mod ExampleTypings
 pub mod ExampleSchemes

@@ -2,15 +2,17 @@ pub mod UnitComplete
 pub mod UnitSound
 pub mod UnitLaws
 pub mod UnitHeights
-mod UnitFronts
+mod UnitOperands
 mod UnitEnds
 mod UnitWhole
 mod UnitCounts
 mod UnitSteps
 pub mod Reaching
+pub mod Readers
+mod Fewer
 pub mod UnitCut
 pub mod UnitNested
-pub mod TokenLinks
+pub mod ForeignTokens
 pub mod NoteComplete
 pub mod NoteLaws
 pub mod TypeComplete
@@ -21,3 +23,5 @@ mod TypeNotes
 mod SignatureWhole
 mod SignatureSteps
 mod SignatureExact
+mod UnitExact
+mod ReaderLaws

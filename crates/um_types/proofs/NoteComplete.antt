@@ -1,11 +1,10 @@
 -- What a note spells is read as it, whatever follows.
-use Rattle.std.proofs.Common.{◌≡◌, ◌≢◌, ℕ, List, [], ◌∷◌, ◌++◌, Option, Some, None, refl, sym, ap, ◌∙◌}
+use Rattle.std.proofs.Common.{◌≡◌, ◌≢◌, ℕ, true, List, [], ◌∷◌, ◌++◌, Option, Some, None, refl, sym, ap, ◌∙◌}
 use Rattle.um_syntax.specs.declared.token.Token.{Token}
 use Rattle.um_syntax.specs.declared.token.Kind.{Kind}
 use Rattle.um_syntax.specs.declared.token.Kind.TheVariants as kind
 use Rattle.um_tree.specs.RawTree.{UnitSyntax, NoteSyntax, hole_syntax, unit_note_syntax}
-use Rattle.um_types.specs.UnitTokens.{sign, unit_token}
-use Rattle.um_types.specs.declared.unit_mark.Mark.TheVariants as mark
+use Rattle.um_types.specs.UnitTokens.{unit_token}
 use Rattle.um_types.specs.UnitGrammar.{Fits}
 use Rattle.um_types.specs.UnitMachine.{State, Need, Have, Raised, Lowered, Refused, act, finish}
 use Rattle.um_types.specs.TypeGrammar.{BeginsAt, NoteSpells, NoteFits}
@@ -13,7 +12,8 @@ use Rattle.um_types.specs.Machines.{runs, Reaches}
 use Rattle.um_types.specs.NoteMachine.{NoteState, NeedNote, HaveHole, InUnit, NoNote, unit_goes, note_begin, note_act, note_step, noted, note_finish}
 use Rattle.um_types.proofs.Reaching.{runs_refused, reaches_one, lift}
 use Rattle.um_types.proofs.UnitComplete.{into}
-use Rattle.um_types.proofs.UnitNested.{unit_step, unit_finds, unit_reaches, other_refused}
+use Rattle.um_types.proofs.UnitNested.{unit_step, unit_finds, unit_reaches}
+use Rattle.um_types.proofs.ForeignTokens.{is_foreign, foreign_refused}
 
 -- the state once a note was read
 abbrev pub note_into : NoteSyntax → NoteState
@@ -77,6 +77,6 @@ note_finds (hole_syntax at) fits = refl
 note_finds (unit_note_syntax at u) fits = ap (noted at) (unit_finds u fits)
 
 -- and what stands in no unit text is refused behind it
-pub note_stops : (n : NoteSyntax) (k : Kind) (at : ℕ) → unit_token k ≡ sign mark.Other → note_act (note_into n) k at ≡ NoNote
+pub note_stops : (n : NoteSyntax) (k : Kind) (at : ℕ) → is_foreign (unit_token k) ≡ true → note_act (note_into n) k at ≡ NoNote
 note_stops (hole_syntax place) k at e = refl
-note_stops (unit_note_syntax place u) k at e = ap (unit_goes place) (ap (λ w. act (into [] u) w at) e ∙ other_refused (into [] u) at)
+note_stops (unit_note_syntax place u) k at e = ap (unit_goes place) (foreign_refused (into [] u) (unit_token k) at e)

@@ -12,14 +12,14 @@ use Rattle.um_types.specs.TypeHeights.{note_height}
 use Rattle.um_types.specs.NoteMachine.{NoteState, NeedNote, HaveHole, InUnit, NoNote, unit_goes, note_begin, note_step, noted, note_finish, note_least}
 use Rattle.um_types.proofs.UnitLaws.{ending_of, completed}
 use Rattle.um_types.proofs.UnitHeights.{completed_height, found_height}
-use Rattle.um_types.proofs.UnitNested.{unit_step, UnitStands, unit_begins, unit_sound, unit_found, unit_can_end, unit_up}
+use Rattle.um_types.proofs.UnitNested.{unit_step, UnitSpellsPrefix, unit_begins, unit_sound, unit_found, unit_can_end, unit_up}
 
 -- the tokens up to the rest are those of the state
-abbrev pub NoteStands : NoteState → List Token → List Token → Type 0
-NoteStands NeedNote tokens rest = tokens ≡ rest
-NoteStands (HaveHole at) tokens rest = FirstHole at tokens rest
-NoteStands (InUnit at u) tokens rest = BeginsAt at tokens × UnitStands u tokens rest
-NoteStands NoNote tokens rest = Unit {0}
+abbrev pub NoteSpellsPrefix : NoteState → List Token → List Token → Type 0
+NoteSpellsPrefix NeedNote tokens rest = tokens ≡ rest
+NoteSpellsPrefix (HaveHole at) tokens rest = FirstHole at tokens rest
+NoteSpellsPrefix (InUnit at u) tokens rest = BeginsAt at tokens × UnitSpellsPrefix u tokens rest
+NoteSpellsPrefix NoNote tokens rest = Unit {0}
 
 need_is : (frames : List Frame) → Need frames ≢ Refused
 need_is frames e = cc
@@ -33,20 +33,20 @@ raised_is frames t e = cc
 lowered_is : (frames : List Frame) (t : UnitSyntax) → Lowered frames t ≢ Refused
 lowered_is frames t e = cc
 
-goes_sound : (at : ℕ) (u : State) (tokens rest : List Token) → BeginsAt at tokens → (u ≢ Refused → UnitStands u tokens rest) → NoteStands (unit_goes at u) tokens rest
+goes_sound : (at : ℕ) (u : State) (tokens rest : List Token) → BeginsAt at tokens → (u ≢ Refused → UnitSpellsPrefix u tokens rest) → NoteSpellsPrefix (unit_goes at u) tokens rest
 goes_sound at (Need frames) tokens rest b h = (b, h (need_is frames))
 goes_sound at (Have frames t) tokens rest b h = (b, h (have_is frames t))
 goes_sound at (Raised frames t) tokens rest b h = (b, h (raised_is frames t))
 goes_sound at (Lowered frames t) tokens rest b h = (b, h (lowered_is frames t))
 goes_sound at Refused tokens rest b h = tt
 
-first_sound : (k : Kind) (at : ℕ) (x : Token) (tokens rest : List Token) → x.kind ≡ k → x.start ≡ at → tokens ≡ x ∷ rest → NoteStands (unit_goes at (act (Need []) (unit_token k) at)) tokens rest
+first_sound : (k : Kind) (at : ℕ) (x : Token) (tokens rest : List Token) → x.kind ≡ k → x.start ≡ at → tokens ≡ x ∷ rest → NoteSpellsPrefix (unit_goes at (act (Need []) (unit_token k) at)) tokens rest
 first_sound k at x tokens rest ek ea e =
     let same : unit_step (Need []) x ≡ act (Need []) (unit_token k) at = ap (λ j. act (Need []) (unit_token j) x.start) ek ∙ ap (λ a. act (Need []) (unit_token k) a) ea in
     goes_sound at (act (Need []) (unit_token k) at) tokens rest (x, rest, ea, e)
-    (λ ok. subst (λ s. UnitStands s tokens rest) same (unit_sound (Need []) x tokens rest (subst (λ w. UnitStands (Need []) tokens w) e (unit_begins tokens)) (λ h. ok (sym same ∙ h))))
+    (λ ok. subst (λ s. UnitSpellsPrefix s tokens rest) same (unit_sound (Need []) x tokens rest (subst (λ w. UnitSpellsPrefix (Need []) tokens w) e (unit_begins tokens)) (λ h. ok (sym same ∙ h))))
 
-begin_sound : (k : Kind) (at : ℕ) (x : Token) (tokens rest : List Token) → x.kind ≡ k → x.start ≡ at → tokens ≡ x ∷ rest → NoteStands (note_begin k at) tokens rest
+begin_sound : (k : Kind) (at : ℕ) (x : Token) (tokens rest : List Token) → x.kind ≡ k → x.start ≡ at → tokens ≡ x ∷ rest → NoteSpellsPrefix (note_begin k at) tokens rest
 begin_sound kind.Hole at x tokens rest ek ea e = (x, ek, ea, e)
 begin_sound (kind.Name y) at x tokens rest ek ea e = first_sound (kind.Name y) at x tokens rest ek ea e
 begin_sound (kind.Var y) at x tokens rest ek ea e = first_sound (kind.Var y) at x tokens rest ek ea e
@@ -55,7 +55,7 @@ begin_sound (kind.Word k) at x tokens rest ek ea e = first_sound (kind.Word k) a
 begin_sound (kind.Sign k) at x tokens rest ek ea e = first_sound (kind.Sign k) at x tokens rest ek ea e
 
 -- the token that is read goes over to the state
-pub note_sound : (st : NoteState) (x : Token) (tokens rest : List Token) → NoteStands st tokens (x ∷ rest) → NoteStands (note_step st x) tokens rest
+pub note_sound : (st : NoteState) (x : Token) (tokens rest : List Token) → NoteSpellsPrefix st tokens (x ∷ rest) → NoteSpellsPrefix (note_step st x) tokens rest
 note_sound NeedNote x tokens rest h = begin_sound x.kind x.start x tokens rest refl refl h
 note_sound (HaveHole at) x tokens rest h = tt
 note_sound (InUnit at u) x tokens rest h = goes_sound at (unit_step u x) tokens rest h.0 (λ ok. unit_sound u x tokens rest h.1 ok)
@@ -66,7 +66,7 @@ noted_is at (Some u) n e = (u, refl, cc)
 noted_is at None n e = absurd cc
 
 -- what is found is a note
-pub note_found : (st : NoteState) (n : NoteSyntax) (tokens rest : List Token) → NoteStands st tokens rest → note_finish st ≡ Some n → NoteSpells n tokens rest × NoteFits n
+pub note_found : (st : NoteState) (n : NoteSyntax) (tokens rest : List Token) → NoteSpellsPrefix st tokens rest → note_finish st ≡ Some n → NoteSpells n tokens rest × NoteFits n
 note_found (InUnit at u) n tokens rest h e =
     let w = noted_is at (finish u) n e in
     let p = unit_found u w.0 tokens rest h.1 w.1 in
@@ -93,7 +93,7 @@ note_completed (InUnit at u) = unit_note_syntax at (completed u)
 note_completed NoNote = hole_syntax 0
 
 -- what isn't refused can be completed
-pub note_can_end : (st : NoteState) (tokens rest : List Token) → NoteStands st tokens (note_ending st ++ rest) → st ≢ NoNote → NoteSpells (note_completed st) tokens rest × NoteFits (note_completed st)
+pub note_can_end : (st : NoteState) (tokens rest : List Token) → NoteSpellsPrefix st tokens (note_ending st ++ rest) → st ≢ NoNote → NoteSpells (note_completed st) tokens rest × NoteFits (note_completed st)
 note_can_end NeedNote tokens rest h ok = ((hole_token, refl, refl, h), tt)
 note_can_end (HaveHole at) tokens rest h ok = (h, tt)
 note_can_end (InUnit at u) tokens rest h ok = let p = unit_can_end u tokens rest h.1 in ((h.0, p.0), p.1)
@@ -102,7 +102,7 @@ note_can_end NoNote tokens rest h ok = absurd (ok refl)
 -- ---- the least height
 
 -- it is that of the completion
-pub note_completed_height : (st : NoteState) (tokens rest : List Token) → NoteStands st tokens rest → note_height (note_completed st) ≡ note_least st
+pub note_completed_height : (st : NoteState) (tokens rest : List Token) → NoteSpellsPrefix st tokens rest → note_height (note_completed st) ≡ note_least st
 note_completed_height NeedNote tokens rest h = refl
 note_completed_height (HaveHole at) tokens rest h = refl
 note_completed_height (InUnit at u) tokens rest h = completed_height u h.1.3

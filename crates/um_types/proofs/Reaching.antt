@@ -1,11 +1,29 @@
 -- Machines that take one token at a time: what they read in parts, and one machine inside another.
 use Rattle.std.proofs.Common.{◌≡◌, ◌≢◌, List, [], ◌∷◌, ◌++◌, refl, sym, ap, ◌∙◌, append_assoc}
 use Rattle.um_syntax.specs.declared.token.Token.{Token}
-use Rattle.um_types.specs.Machines.{runs, Reaches}
+use Rattle.um_types.specs.Machines.{runs, Yields, Reaches}
 
 pub runs_append : {S : Type 0} → (act : S → Token → S) → (tokens more : List Token) (state : S) → runs act state (tokens ++ more) ≡ runs act (runs act state tokens) more
 runs_append act [] more state = refl
 runs_append act (token ∷ tokens) more state = runs_append act tokens more (act state token)
+
+-- moves in parts
+pub yields_here : {S : Type 0} → (act : S → Token → S) → (old new : S) → (tokens rest : List Token) → old ≡ new → tokens ≡ rest → Yields act old tokens new rest
+yields_here act old new tokens rest e f = ([], f, e)
+
+pub yields_one : {S : Type 0} → (act : S → Token → S) → (old new : S) → (token : Token) (tokens rest : List Token) → tokens ≡ token ∷ rest → act old token ≡ new → Yields act old tokens new rest
+yields_one act old new token tokens rest parts step = (token ∷ [], parts, step)
+
+pub yields_then : {S : Type 0} → (act : S → Token → S) → (a b c : S) → (s t r : List Token) → Yields act a s b t → Yields act b t c r → Yields act a s c r
+yields_then act a b c s t r p q = (
+  p.0 ++ q.0,
+  p.1 ∙ ap (λ w. p.0 ++ w) q.1 ∙ sym (append_assoc p.0 q.0 r),
+  runs_append act p.0 q.0 a ∙ ap (λ o. runs act o q.0) p.2 ∙ q.2,
+)
+
+-- the same, where the last state is written in two ways
+pub yields_as : {S : Type 0} → (act : S → Token → S) → (a b c : S) → (s r : List Token) → Yields act a s b r → b ≡ c → Yields act a s c r
+yields_as act a b c s r p e = (p.0, p.1, p.2 ∙ e)
 
 -- a machine that stays where it refused
 pub runs_refused : {S : Type 0} → (act : S → Token → S) → (refused : S) → ((token : Token) → act refused token ≡ refused) → (tokens : List Token) → runs act refused tokens ≡ refused
@@ -17,12 +35,8 @@ pub reaches_one : {S : Type 0} → (act : S → Token → S) → (refused old ne
 reaches_one act refused old new token tokens rest parts step ok = (token ∷ [], parts, step, ok)
 
 pub reaches_then : {S : Type 0} → (act : S → Token → S) → (refused a b c : S) → (s t r : List Token) → Reaches act refused a s b t → Reaches act refused b t c r → Reaches act refused a s c r
-reaches_then act refused a b c s t r p q = (
-  p.0 ++ q.0,
-  p.1 ∙ ap (λ w. p.0 ++ w) q.1 ∙ sym (append_assoc p.0 q.0 r),
-  runs_append act p.0 q.0 a ∙ ap (λ o. runs act o q.0) p.2 ∙ q.2,
-  q.3,
-)
+reaches_then act refused a b c s t r p q =
+    let y = yields_then act a b c s t r (p.0, p.1, p.2) (q.0, q.1, q.2) in (y.0, y.1, y.2, q.3)
 
 -- what is read up to the end
 pub reaches_all : {S : Type 0} → (act : S → Token → S) → (refused old new : S) → (tokens : List Token) → Reaches act refused old tokens new [] → runs act old tokens ≡ new

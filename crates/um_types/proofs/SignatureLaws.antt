@@ -2,19 +2,20 @@
 use Rattle.std.proofs.Common.{◌≡◌, ◌≢◌, ℕ, ◌≤◌, max, List, [], ◌∷◌, ◌++◌, Option, Some, None, refl, sym, ap, subst, ◌∙◌, append_assoc, arith}
 use Rattle.std.proofs.lemmas.List.{append-nil}
 use Rattle.um_syntax.specs.declared.token.Token.{Token}
+use Rattle.um_syntax.specs.declared.token.Kind.{Kind}
+use Rattle.um_syntax.specs.declared.token.Kind.TheVariants as kind
+use Rattle.um_syntax.specs.declared.vocabulary.Symbol.TheVariants as symbol
 use Rattle.um_tree.specs.RawTree.{TypeSyntax}
-use Rattle.um_types.specs.TypeTokens.{TypeToken, symbol, name, type_token}
-use Rattle.um_types.specs.TypeGrammar.{FirstSymbol, TypeSpells, TypeFits}
+use Rattle.um_types.specs.TypeGrammar.{FirstSign, TypeSpells, TypeFits}
 use Rattle.um_types.specs.TypeHeights.{whole_height, all_height}
 use Rattle.um_types.specs.SignatureGrammar.{TypesSpell, TypesFit, IsSignature, BeginsSignature, BeginsSignatureWithin}
 use Rattle.um_types.specs.Machines.{runs, Reaches}
 use Rattle.um_types.specs.NoteMachine.{NoteState}
 use Rattle.um_types.specs.TypeMachine.{Owner, TypeState, NeedType, HaveType, InNote, NoType, type_after, type_step, type_finish}
 use Rattle.um_types.specs.SignatureMachine.{SignatureState, InType, NoSignature, type_end, type_ends, type_goes, signature_step, typed, signature_finish, signature_least, start, read_all}
-use Rattle.um_types.specs.declared.type_symbol.Symbol.TheVariants as symbol_of
 use Rattle.um_types.proofs.Reaching.{runs_append, runs_refused, reaches_one, reaches_then, reaches_inside, reaches_all}
 use Rattle.um_types.proofs.TypeComplete.{type_reaches}
-use Rattle.um_types.proofs.TypeSound.{TypeStands, type_sound, type_found}
+use Rattle.um_types.proofs.TypeSound.{TypeSpellsPrefix, type_sound, type_found}
 use Rattle.um_types.proofs.TypeLaws.{type_ending, type_completed, type_can_end, type_completed_height, type_up, type_found_height}
 
 -- ---- what is spelled is read
@@ -24,49 +25,49 @@ SignatureReaches old tokens new rest = Reaches signature_step NoSignature old to
 
 -- the state once types were read behind others
 abbrev signature_into : List TypeSyntax → TypeSyntax → List TypeSyntax → SignatureState
-signature_into front t [] = InType front (HaveType 0 t)
-signature_into front t (u ∷ us) = signature_into (front ++ t ∷ []) u us
+signature_into earlier t [] = InType earlier (HaveType 0 t)
+signature_into earlier t (u ∷ us) = signature_into (earlier ++ t ∷ []) u us
 
-in_type : (front : List TypeSyntax) (s : TypeState) → InType front s ≢ NoSignature
-in_type front s e = cc
+in_type : (earlier : List TypeSyntax) (s : TypeState) → InType earlier s ≢ NoSignature
+in_type earlier s e = cc
 
-type_goes_on : (front : List TypeSyntax) (s : TypeState) (ended : SignatureState) → s ≢ NoType → type_goes front s ended ≡ InType front s
-type_goes_on front (NeedType depth) ended ok = refl
-type_goes_on front (HaveType depth t) ended ok = refl
-type_goes_on front (InNote depth owner n) ended ok = refl
-type_goes_on front NoType ended ok = absurd (ok refl)
+type_goes_on : (earlier : List TypeSyntax) (s : TypeState) (ended : SignatureState) → s ≢ NoType → type_goes earlier s ended ≡ InType earlier s
+type_goes_on earlier (NeedType depth) ended ok = refl
+type_goes_on earlier (HaveType depth t) ended ok = refl
+type_goes_on earlier (InNote depth owner n) ended ok = refl
+type_goes_on earlier NoType ended ok = absurd (ok refl)
 
-type_inside : (front : List TypeSyntax) (s new : TypeState) (token : Token) → type_step s token ≡ new → new ≢ NoType → signature_step (InType front s) token ≡ InType front new
-type_inside front s new token e ok =
-    let ended : SignatureState = type_ends front (type_finish s) (type_token token.kind) in
-    ap (λ w. type_goes front w ended) e ∙ type_goes_on front new ended ok
+type_inside : (earlier : List TypeSyntax) (s new : TypeState) (token : Token) → type_step s token ≡ new → new ≢ NoType → signature_step (InType earlier s) token ≡ InType earlier new
+type_inside earlier s new token e ok =
+    let ended : SignatureState = type_ends earlier (type_finish s) token.kind in
+    ap (λ w. type_goes earlier w ended) e ∙ type_goes_on earlier new ended ok
 
-reads_type : (front : List TypeSyntax) (t : TypeSyntax) (tokens rest : List Token) → TypeSpells t tokens rest → TypeFits t
-    → SignatureReaches (InType front (NeedType 0)) tokens (InType front (HaveType 0 t)) rest
-reads_type front t tokens rest s fits =
-    reaches_inside type_step NoType (λ x. refl) signature_step NoSignature (λ w. InType front w) (type_inside front) (NeedType 0) (HaveType 0 t) tokens rest (in_type front (HaveType 0 t))
+reads_type : (earlier : List TypeSyntax) (t : TypeSyntax) (tokens rest : List Token) → TypeSpells t tokens rest → TypeFits t
+    → SignatureReaches (InType earlier (NeedType 0)) tokens (InType earlier (HaveType 0 t)) rest
+reads_type earlier t tokens rest s fits =
+    reaches_inside type_step NoType (λ x. refl) signature_step NoSignature (λ w. InType earlier w) (type_inside earlier) (NeedType 0) (HaveType 0 t) tokens rest (in_type earlier (HaveType 0 t))
     (type_reaches t 0 tokens rest s fits)
 
-reads_arrow : (front : List TypeSyntax) (t : TypeSyntax) (tokens rest : List Token) → FirstSymbol symbol_of.Arrow tokens rest
-    → SignatureReaches (InType front (HaveType 0 t)) tokens (InType (front ++ t ∷ []) (NeedType 0)) rest
-reads_arrow front t tokens rest f =
-    reaches_one signature_step NoSignature (InType front (HaveType 0 t)) (InType (front ++ t ∷ []) (NeedType 0)) f.0 tokens rest f.2
-    (ap (λ w. type_goes front (type_after 0 t w) (type_end front t w)) f.1) (in_type (front ++ t ∷ []) (NeedType 0))
+reads_arrow : (earlier : List TypeSyntax) (t : TypeSyntax) (tokens rest : List Token) → FirstSign symbol.Arrow tokens rest
+    → SignatureReaches (InType earlier (HaveType 0 t)) tokens (InType (earlier ++ t ∷ []) (NeedType 0)) rest
+reads_arrow earlier t tokens rest f =
+    reaches_one signature_step NoSignature (InType earlier (HaveType 0 t)) (InType (earlier ++ t ∷ []) (NeedType 0)) f.0 tokens rest f.2
+    (ap (λ w. type_goes earlier (type_after 0 t w) (type_end earlier t w)) f.1) (in_type (earlier ++ t ∷ []) (NeedType 0))
 
-types_reach : (ts : List TypeSyntax) (t : TypeSyntax) (front : List TypeSyntax) (tokens rest : List Token) → TypesSpell (t ∷ ts) tokens rest → TypesFit (t ∷ ts)
-    → SignatureReaches (InType front (NeedType 0)) tokens (signature_into front t ts) rest
-types_reach [] t front tokens rest s fits = reads_type front t tokens rest s fits.0
-types_reach (u ∷ us) t front tokens rest s fits =
-    let begun : SignatureState = InType front (NeedType 0) in
-    let behind : SignatureState = InType front (HaveType 0 t) in
-    let next : SignatureState = InType (front ++ t ∷ []) (NeedType 0) in
-    let last : SignatureState = signature_into (front ++ t ∷ []) u us in
-    reaches_then signature_step NoSignature begun behind last tokens s.0 rest (reads_type front t tokens s.0 s.2 fits.0)
-    (reaches_then signature_step NoSignature behind next last s.0 s.1 rest (reads_arrow front t s.0 s.1 s.3) (types_reach us u (front ++ t ∷ []) s.1 rest s.4 fits.1))
+types_reach : (ts : List TypeSyntax) (t : TypeSyntax) (earlier : List TypeSyntax) (tokens rest : List Token) → TypesSpell (t ∷ ts) tokens rest → TypesFit (t ∷ ts)
+    → SignatureReaches (InType earlier (NeedType 0)) tokens (signature_into earlier t ts) rest
+types_reach [] t earlier tokens rest s fits = reads_type earlier t tokens rest s fits.0
+types_reach (u ∷ us) t earlier tokens rest s fits =
+    let begun : SignatureState = InType earlier (NeedType 0) in
+    let behind : SignatureState = InType earlier (HaveType 0 t) in
+    let next : SignatureState = InType (earlier ++ t ∷ []) (NeedType 0) in
+    let last : SignatureState = signature_into (earlier ++ t ∷ []) u us in
+    reaches_then signature_step NoSignature begun behind last tokens s.0 rest (reads_type earlier t tokens s.0 s.2 fits.0)
+    (reaches_then signature_step NoSignature behind next last s.0 s.1 rest (reads_arrow earlier t s.0 s.1 s.3) (types_reach us u (earlier ++ t ∷ []) s.1 rest s.4 fits.1))
 
-into_finds : (ts : List TypeSyntax) (t : TypeSyntax) (front : List TypeSyntax) → signature_finish (signature_into front t ts) ≡ Some (front ++ t ∷ ts)
-into_finds [] t front = refl
-into_finds (u ∷ us) t front = into_finds us u (front ++ t ∷ []) ∙ ap (λ w. Some w) (append_assoc front (t ∷ []) (u ∷ us))
+into_finds : (ts : List TypeSyntax) (t : TypeSyntax) (earlier : List TypeSyntax) → signature_finish (signature_into earlier t ts) ≡ Some (earlier ++ t ∷ ts)
+into_finds [] t earlier = refl
+into_finds (u ∷ us) t earlier = into_finds us u (earlier ++ t ∷ []) ∙ ap (λ w. Some w) (append_assoc earlier (t ∷ []) (u ∷ us))
 
 -- a signature text is read as it
 pub finds_signature : (tokens : List Token) (ts : List TypeSyntax) → IsSignature tokens ts → signature_finish (read_all tokens) ≡ Some ts
@@ -98,24 +99,24 @@ none_begins_signature tokens e b =
 -- each type with the arrow behind it
 abbrev FrontSpells : List TypeSyntax → List Token → List Token → Type 0
 FrontSpells [] tokens rest = tokens ≡ rest
-FrontSpells (t ∷ ts) tokens rest = (mid next : List Token) × TypeSpells t tokens mid × FirstSymbol symbol_of.Arrow mid next × FrontSpells ts next rest
+FrontSpells (t ∷ ts) tokens rest = (mid next : List Token) × TypeSpells t tokens mid × FirstSign symbol.Arrow mid next × FrontSpells ts next rest
 
 -- the tokens up to the rest are those of the state
-abbrev SignatureStands : SignatureState → List Token → List Token → Type 0
-SignatureStands (InType front s) tokens rest = (mid : List Token) × FrontSpells front tokens mid × TypesFit front × TypeStands s mid rest × (s ≢ NoType)
-SignatureStands NoSignature tokens rest = Unit {0}
+abbrev SignatureSpellsPrefix : SignatureState → List Token → List Token → Type 0
+SignatureSpellsPrefix (InType earlier s) tokens rest = (mid : List Token) × FrontSpells earlier tokens mid × TypesFit earlier × TypeSpellsPrefix s mid rest × (s ≢ NoType)
+SignatureSpellsPrefix NoSignature tokens rest = Unit {0}
 
-types_last : (front : List TypeSyntax) (t : TypeSyntax) (tokens mid rest : List Token) → FrontSpells front tokens mid → TypeSpells t mid rest → TypesSpell (front ++ t ∷ []) tokens rest
+types_last : (earlier : List TypeSyntax) (t : TypeSyntax) (tokens mid rest : List Token) → FrontSpells earlier tokens mid → TypeSpells t mid rest → TypesSpell (earlier ++ t ∷ []) tokens rest
 types_last [] t tokens mid rest e s = subst (λ w. TypeSpells t w rest) (sym e) s
 types_last (u ∷ []) t tokens mid rest f s = (f.0, f.1, f.2, f.3, subst (λ w. TypeSpells t w rest) (sym f.4) s)
 types_last (u ∷ v ∷ us) t tokens mid rest f s = (f.0, f.1, f.2, f.3, types_last (v ∷ us) t f.1 mid rest f.4 s)
 
-front_last : (front : List TypeSyntax) (t : TypeSyntax) (tokens mid next rest : List Token) → FrontSpells front tokens mid → TypeSpells t mid next → FirstSymbol symbol_of.Arrow next rest
-    → FrontSpells (front ++ t ∷ []) tokens rest
+front_last : (earlier : List TypeSyntax) (t : TypeSyntax) (tokens mid next rest : List Token) → FrontSpells earlier tokens mid → TypeSpells t mid next → FirstSign symbol.Arrow next rest
+    → FrontSpells (earlier ++ t ∷ []) tokens rest
 front_last [] t tokens mid next rest e s a = (next, rest, subst (λ w. TypeSpells t w next) (sym e) s, a, refl)
 front_last (u ∷ us) t tokens mid next rest f s a = (f.0, f.1, f.2, f.3, front_last us t f.1 mid next rest f.4 s a)
 
-fits_last : (front : List TypeSyntax) (t : TypeSyntax) → TypesFit front → TypeFits t → TypesFit (front ++ t ∷ [])
+fits_last : (earlier : List TypeSyntax) (t : TypeSyntax) → TypesFit earlier → TypeFits t → TypesFit (earlier ++ t ∷ [])
 fits_last [] t h fits = (fits, tt)
 fits_last (u ∷ us) t h fits = (h.0, fits_last us t h.1 fits)
 
@@ -128,134 +129,116 @@ have_is depth t e = cc
 note_is : (depth : ℕ) (owner : Owner) (n : NoteState) → InNote depth owner n ≢ NoType
 note_is depth owner n e = cc
 
-end_sound : (front : List TypeSyntax) (t : TypeSyntax) (what : TypeToken) (tokens mid next rest : List Token) → FrontSpells front tokens mid → TypesFit front → TypeSpells t mid next → TypeFits t
-    → (x : Token) × (type_token x.kind ≡ what) × (next ≡ x ∷ rest) → SignatureStands (type_end front t what) tokens rest
-end_sound front t (symbol symbol_of.Arrow) tokens mid next rest o ff s fits f = (rest, front_last front t tokens mid next rest o s f, fits_last front t ff fits, refl, need_is 0)
-end_sound front t (symbol symbol_of.Num) tokens mid next rest o ff s fits f = tt
-end_sound front t (symbol symbol_of.Bool) tokens mid next rest o ff s fits f = tt
-end_sound front t (symbol symbol_of.List) tokens mid next rest o ff s fits f = tt
-end_sound front t (symbol symbol_of.Open) tokens mid next rest o ff s fits f = tt
-end_sound front t (symbol symbol_of.Close) tokens mid next rest o ff s fits f = tt
-end_sound front t (symbol symbol_of.Less) tokens mid next rest o ff s fits f = tt
-end_sound front t (symbol symbol_of.Greater) tokens mid next rest o ff s fits f = tt
-end_sound front t (symbol symbol_of.Comma) tokens mid next rest o ff s fits f = tt
-end_sound front t (symbol symbol_of.Other) tokens mid next rest o ff s fits f = tt
-end_sound front t (name y) tokens mid next rest o ff s fits f = tt
+end_sound : (earlier : List TypeSyntax) (t : TypeSyntax) (what : Kind) (tokens mid next rest : List Token) → FrontSpells earlier tokens mid → TypesFit earlier → TypeSpells t mid next → TypeFits t
+    → (x : Token) × (x.kind ≡ what) × (next ≡ x ∷ rest) → SignatureSpellsPrefix (type_end earlier t what) tokens rest
+end_sound earlier t (kind.Sign symbol.Arrow) tokens mid next rest o ff s fits f = (rest, front_last earlier t tokens mid next rest o s f, fits_last earlier t ff fits, refl, need_is 0)
+end_sound earlier t _ tokens mid next rest o ff s fits f = tt
 
-ends_sound : (front : List TypeSyntax) (s : TypeState) (found : Option TypeSyntax) (x : Token) (tokens rest : List Token) → SignatureStands (InType front s) tokens (x ∷ rest)
-    → type_finish s ≡ found → SignatureStands (type_ends front found (type_token x.kind)) tokens rest
-ends_sound front s None x tokens rest h e = tt
-ends_sound front s (Some t) x tokens rest h e =
-    let p = type_found s t h.0 (x ∷ rest) h.3 e in end_sound front t (type_token x.kind) tokens h.0 (x ∷ rest) rest h.1 h.2 p.0 p.1 (x, refl, refl)
+ends_sound : (earlier : List TypeSyntax) (s : TypeState) (found : Option TypeSyntax) (x : Token) (tokens rest : List Token) → SignatureSpellsPrefix (InType earlier s) tokens (x ∷ rest)
+    → type_finish s ≡ found → SignatureSpellsPrefix (type_ends earlier found x.kind) tokens rest
+ends_sound earlier s None x tokens rest h e = tt
+ends_sound earlier s (Some t) x tokens rest h e =
+    let p = type_found s t h.0 (x ∷ rest) h.3 e in end_sound earlier t x.kind tokens h.0 (x ∷ rest) rest h.1 h.2 p.0 p.1 (x, refl, refl)
 
-goes_sound : (front : List TypeSyntax) (s : TypeState) (ended : SignatureState) (tokens mid rest : List Token) → FrontSpells front tokens mid → TypesFit front → TypeStands s mid rest
-    → SignatureStands ended tokens rest → SignatureStands (type_goes front s ended) tokens rest
-goes_sound front (NeedType depth) ended tokens mid rest o ff s h = (mid, o, ff, s, need_is depth)
-goes_sound front (HaveType depth t) ended tokens mid rest o ff s h = (mid, o, ff, s, have_is depth t)
-goes_sound front (InNote depth owner n) ended tokens mid rest o ff s h = (mid, o, ff, s, note_is depth owner n)
-goes_sound front NoType ended tokens mid rest o ff s h = h
+goes_sound : (earlier : List TypeSyntax) (s : TypeState) (ended : SignatureState) (tokens mid rest : List Token) → FrontSpells earlier tokens mid → TypesFit earlier → TypeSpellsPrefix s mid rest
+    → SignatureSpellsPrefix ended tokens rest → SignatureSpellsPrefix (type_goes earlier s ended) tokens rest
+goes_sound earlier (NeedType depth) ended tokens mid rest o ff s h = (mid, o, ff, s, need_is depth)
+goes_sound earlier (HaveType depth t) ended tokens mid rest o ff s h = (mid, o, ff, s, have_is depth t)
+goes_sound earlier (InNote depth owner n) ended tokens mid rest o ff s h = (mid, o, ff, s, note_is depth owner n)
+goes_sound earlier NoType ended tokens mid rest o ff s h = h
 
-signature_sound : (st : SignatureState) (x : Token) (tokens rest : List Token) → SignatureStands st tokens (x ∷ rest) → SignatureStands (signature_step st x) tokens rest
-signature_sound (InType front s) x tokens rest h =
-    goes_sound front (type_step s x) (type_ends front (type_finish s) (type_token x.kind)) tokens h.0 rest h.1 h.2 (type_sound s x h.0 rest h.3)
-    (ends_sound front s (type_finish s) x tokens rest h refl)
+signature_sound : (st : SignatureState) (x : Token) (tokens rest : List Token) → SignatureSpellsPrefix st tokens (x ∷ rest) → SignatureSpellsPrefix (signature_step st x) tokens rest
+signature_sound (InType earlier s) x tokens rest h =
+    goes_sound earlier (type_step s x) (type_ends earlier (type_finish s) x.kind) tokens h.0 rest h.1 h.2 (type_sound s x h.0 rest h.3)
+    (ends_sound earlier s (type_finish s) x tokens rest h refl)
 signature_sound NoSignature x tokens rest h = tt
 
-run_sound : (read : List Token) (st : SignatureState) (tokens rest : List Token) → SignatureStands st tokens (read ++ rest) → SignatureStands (runs signature_step st read) tokens rest
+run_sound : (read : List Token) (st : SignatureState) (tokens rest : List Token) → SignatureSpellsPrefix st tokens (read ++ rest) → SignatureSpellsPrefix (runs signature_step st read) tokens rest
 run_sound [] st tokens rest h = h
 run_sound (x ∷ read) st tokens rest h = run_sound read (signature_step st x) tokens rest (signature_sound st x tokens (read ++ rest) h)
 
-stands : (read rest : List Token) → SignatureStands (read_all read) (read ++ rest) rest
-stands read rest = run_sound read start (read ++ rest) rest (read ++ rest, refl, tt, refl, need_is 0)
+spells_prefix : (read rest : List Token) → SignatureSpellsPrefix (read_all read) (read ++ rest) rest
+spells_prefix read rest = run_sound read start (read ++ rest) rest (read ++ rest, refl, tt, refl, need_is 0)
 
-typed_is : (front : List TypeSyntax) (o : Option TypeSyntax) (ts : List TypeSyntax) → typed front o ≡ Some ts → (t : TypeSyntax) × (o ≡ Some t) × (front ++ t ∷ [] ≡ ts)
-typed_is front (Some t) ts e = (t, refl, cc)
-typed_is front None ts e = absurd cc
+typed_is : (earlier : List TypeSyntax) (o : Option TypeSyntax) (ts : List TypeSyntax) → typed earlier o ≡ Some ts → (t : TypeSyntax) × (o ≡ Some t) × (earlier ++ t ∷ [] ≡ ts)
+typed_is earlier (Some t) ts e = (t, refl, cc)
+typed_is earlier None ts e = absurd cc
 
-is_signature : (st : SignatureState) (ts : List TypeSyntax) (tokens : List Token) → SignatureStands st tokens [] → signature_finish st ≡ Some ts → IsSignature tokens ts
-is_signature (InType front s) ts tokens h e =
-    let w = typed_is front (type_finish s) ts e in
+is_signature : (st : SignatureState) (ts : List TypeSyntax) (tokens : List Token) → SignatureSpellsPrefix st tokens [] → signature_finish st ≡ Some ts → IsSignature tokens ts
+is_signature (InType earlier s) ts tokens h e =
+    let w = typed_is earlier (type_finish s) ts e in
     let p = type_found s w.0 h.0 [] h.3 w.1 in
-    subst (λ us. IsSignature tokens us) w.2 (record { spelled = types_last front w.0 tokens h.0 [] h.1 p.0; fits = fits_last front w.0 h.2 p.1 })
+    subst (λ us. IsSignature tokens us) w.2 (record { spelled = types_last earlier w.0 tokens h.0 [] h.1 p.0; fits = fits_last earlier w.0 h.2 p.1 })
 is_signature NoSignature ts tokens h e = absurd cc
 
 -- what is found is a signature text
 pub found_signature : (tokens : List Token) (ts : List TypeSyntax) → signature_finish (read_all tokens) ≡ Some ts → IsSignature tokens ts
-found_signature tokens ts e = is_signature (read_all tokens) ts tokens (subst (λ w. SignatureStands (read_all tokens) w []) (append-nil tokens) (stands tokens [])) e
+found_signature tokens ts e = is_signature (read_all tokens) ts tokens (subst (λ w. SignatureSpellsPrefix (read_all tokens) w []) (append-nil tokens) (spells_prefix tokens [])) e
 
 -- ---- what can follow
 
 abbrev ending : SignatureState → List Token
-ending (InType front s) = type_ending s
+ending (InType earlier s) = type_ending s
 ending NoSignature = []
 
 abbrev completed : SignatureState → List TypeSyntax
-completed (InType front s) = front ++ type_completed s ∷ []
+completed (InType earlier s) = earlier ++ type_completed s ∷ []
 completed NoSignature = []
 
-can_end : (st : SignatureState) (tokens : List Token) → SignatureStands st tokens (ending st) → st ≢ NoSignature → IsSignature tokens (completed st)
-can_end (InType front s) tokens h ok =
-    let p = type_can_end s h.0 [] (subst (λ w. TypeStands s h.0 w) (sym (append-nil (type_ending s))) h.3) h.4 in
-    record { spelled = types_last front (type_completed s) tokens h.0 [] h.1 p.0; fits = fits_last front (type_completed s) h.2 p.1 }
+can_end : (st : SignatureState) (tokens : List Token) → SignatureSpellsPrefix st tokens (ending st) → st ≢ NoSignature → IsSignature tokens (completed st)
+can_end (InType earlier s) tokens h ok =
+    let p = type_can_end s h.0 [] (subst (λ w. TypeSpellsPrefix s h.0 w) (sym (append-nil (type_ending s))) h.3) h.4 in
+    record { spelled = types_last earlier (type_completed s) tokens h.0 [] h.1 p.0; fits = fits_last earlier (type_completed s) h.2 p.1 }
 can_end NoSignature tokens h ok = absurd (ok refl)
 
 pub begins_signature : (read : List Token) → read_all read ≢ NoSignature → BeginsSignature read
-begins_signature read ok = (ending (read_all read), completed (read_all read), can_end (read_all read) (read ++ ending (read_all read)) (stands read (ending (read_all read))) ok)
+begins_signature read ok = (ending (read_all read), completed (read_all read), can_end (read_all read) (read ++ ending (read_all read)) (spells_prefix read (ending (read_all read))) ok)
 
 -- ---- the least height
 
-all_height_last : (front : List TypeSyntax) (t : TypeSyntax) → all_height (front ++ t ∷ []) ≡ max (all_height front) (whole_height t)
+all_height_last : (earlier : List TypeSyntax) (t : TypeSyntax) → all_height (earlier ++ t ∷ []) ≡ max (all_height earlier) (whole_height t)
 all_height_last [] t = omega arith
 all_height_last (u ∷ us) t = let e = all_height_last us t in omega (arith, e)
 
-completed_height : (st : SignatureState) (tokens rest : List Token) → SignatureStands st tokens rest → st ≢ NoSignature → all_height (completed st) ≡ signature_least st
-completed_height (InType front s) tokens rest h ok =
-    let e = all_height_last front (type_completed s) in let same = type_completed_height s h.0 rest h.3 h.4 in omega (arith, e, same)
+completed_height : (st : SignatureState) (tokens rest : List Token) → SignatureSpellsPrefix st tokens rest → st ≢ NoSignature → all_height (completed st) ≡ signature_least st
+completed_height (InType earlier s) tokens rest h ok =
+    let e = all_height_last earlier (type_completed s) in let same = type_completed_height s h.0 rest h.3 h.4 in omega (arith, e, same)
 completed_height NoSignature tokens rest h ok = absurd (ok refl)
 
 -- a signature text of the least height begins so
 pub begins_signature_within : (read : List Token) (limit : ℕ) → read_all read ≢ NoSignature → signature_least (read_all read) ≤ limit → BeginsSignatureWithin limit read
 begins_signature_within read limit ok le =
-    let same = completed_height (read_all read) (read ++ ending (read_all read)) (ending (read_all read)) (stands read (ending (read_all read))) ok in (
+    let same = completed_height (read_all read) (read ++ ending (read_all read)) (ending (read_all read)) (spells_prefix read (ending (read_all read))) ok in (
       ending (read_all read),
       completed (read_all read),
-      can_end (read_all read) (read ++ ending (read_all read)) (stands read (ending (read_all read))) ok,
+      can_end (read_all read) (read ++ ending (read_all read)) (spells_prefix read (ending (read_all read))) ok,
       omega (arith, le, same),
     )
 
-end_up : (front : List TypeSyntax) (t : TypeSyntax) (what : TypeToken) → type_end front t what ≢ NoSignature → max (all_height front) (whole_height t) ≤ signature_least (type_end front t what)
-end_up front t (symbol symbol_of.Arrow) ok = let e = all_height_last front t in omega (arith, e)
-end_up front t (symbol symbol_of.Num) ok = absurd (ok refl)
-end_up front t (symbol symbol_of.Bool) ok = absurd (ok refl)
-end_up front t (symbol symbol_of.List) ok = absurd (ok refl)
-end_up front t (symbol symbol_of.Open) ok = absurd (ok refl)
-end_up front t (symbol symbol_of.Close) ok = absurd (ok refl)
-end_up front t (symbol symbol_of.Less) ok = absurd (ok refl)
-end_up front t (symbol symbol_of.Greater) ok = absurd (ok refl)
-end_up front t (symbol symbol_of.Comma) ok = absurd (ok refl)
-end_up front t (symbol symbol_of.Other) ok = absurd (ok refl)
-end_up front t (name x) ok = absurd (ok refl)
+end_up : (earlier : List TypeSyntax) (t : TypeSyntax) (what : Kind) → type_end earlier t what ≢ NoSignature → max (all_height earlier) (whole_height t) ≤ signature_least (type_end earlier t what)
+end_up earlier t (kind.Sign symbol.Arrow) ok = let e = all_height_last earlier t in omega (arith, e)
+end_up earlier t _ ok = absurd (ok refl)
 
-ends_up : (front : List TypeSyntax) (s : TypeState) (found : Option TypeSyntax) (what : TypeToken) → type_finish s ≡ found → type_ends front found what ≢ NoSignature
-    → signature_least (InType front s) ≤ signature_least (type_ends front found what)
-ends_up front s None what e ok = absurd (ok refl)
-ends_up front s (Some t) what e ok = let same = type_found_height s t e in let up = end_up front t what ok in omega (arith, same, up)
+ends_up : (earlier : List TypeSyntax) (s : TypeState) (found : Option TypeSyntax) (what : Kind) → type_finish s ≡ found → type_ends earlier found what ≢ NoSignature
+    → signature_least (InType earlier s) ≤ signature_least (type_ends earlier found what)
+ends_up earlier s None what e ok = absurd (ok refl)
+ends_up earlier s (Some t) what e ok = let same = type_found_height s t e in let up = end_up earlier t what ok in omega (arith, same, up)
 
-goes_up : (low : ℕ) (front : List TypeSyntax) (s : TypeState) (ended : SignatureState) → type_goes front s ended ≢ NoSignature → (s ≢ NoType → low ≤ signature_least (InType front s))
-    → (ended ≢ NoSignature → low ≤ signature_least ended) → low ≤ signature_least (type_goes front s ended)
-goes_up low front (NeedType depth) ended ok goes ends = goes (need_is depth)
-goes_up low front (HaveType depth t) ended ok goes ends = goes (have_is depth t)
-goes_up low front (InNote depth owner n) ended ok goes ends = goes (note_is depth owner n)
-goes_up low front NoType ended ok goes ends = ends ok
+goes_up : (low : ℕ) (earlier : List TypeSyntax) (s : TypeState) (ended : SignatureState) → type_goes earlier s ended ≢ NoSignature → (s ≢ NoType → low ≤ signature_least (InType earlier s))
+    → (ended ≢ NoSignature → low ≤ signature_least ended) → low ≤ signature_least (type_goes earlier s ended)
+goes_up low earlier (NeedType depth) ended ok goes ends = goes (need_is depth)
+goes_up low earlier (HaveType depth t) ended ok goes ends = goes (have_is depth t)
+goes_up low earlier (InNote depth owner n) ended ok goes ends = goes (note_is depth owner n)
+goes_up low earlier NoType ended ok goes ends = ends ok
 
-type_in_up : (front : List TypeSyntax) (s : TypeState) (x : Token) → type_step s x ≢ NoType → signature_least (InType front s) ≤ signature_least (InType front (type_step s x))
-type_in_up front s x ok = let up = type_up s x ok in omega (arith, up)
+type_in_up : (earlier : List TypeSyntax) (s : TypeState) (x : Token) → type_step s x ≢ NoType → signature_least (InType earlier s) ≤ signature_least (InType earlier (type_step s x))
+type_in_up earlier s x ok = let up = type_up s x ok in omega (arith, up)
 
 -- a token never lowers it
 signature_up : (st : SignatureState) (x : Token) → signature_step st x ≢ NoSignature → signature_least st ≤ signature_least (signature_step st x)
-signature_up (InType front s) x ok =
-    goes_up (signature_least (InType front s)) front (type_step s x) (type_ends front (type_finish s) (type_token x.kind)) ok (λ goes. type_in_up front s x goes)
-    (λ ends. ends_up front s (type_finish s) (type_token x.kind) refl ends)
+signature_up (InType earlier s) x ok =
+    goes_up (signature_least (InType earlier s)) earlier (type_step s x) (type_ends earlier (type_finish s) x.kind) ok (λ goes. type_in_up earlier s x goes)
+    (λ ends. ends_up earlier s (type_finish s) x.kind refl ends)
 signature_up NoSignature x ok = absurd (ok refl)
 
 run_up : (tokens : List Token) (st : SignatureState) → runs signature_step st tokens ≢ NoSignature → signature_least st ≤ signature_least (runs signature_step st tokens)
@@ -267,10 +250,10 @@ run_up (x ∷ tokens) st ok =
 
 -- what is found has it
 pub signature_found_height : (st : SignatureState) (ts : List TypeSyntax) → signature_finish st ≡ Some ts → all_height ts ≡ signature_least st
-signature_found_height (InType front s) ts e =
-    let w = typed_is front (type_finish s) ts e in
+signature_found_height (InType earlier s) ts e =
+    let w = typed_is earlier (type_finish s) ts e in
     let same = type_found_height s w.0 w.1 in
-    let last = all_height_last front w.0 in
+    let last = all_height_last earlier w.0 in
     ap all_height (sym w.2) ∙ omega (arith, same, last)
 signature_found_height NoSignature ts e = absurd cc
 

@@ -1,19 +1,19 @@
 -- What a type text spells is read as it, inside any brackets, whatever follows.
-use Rattle.std.proofs.Common.{◌≡◌, ◌≢◌, ℕ, suc, List, [], ◌∷◌, ◌++◌, Option, Some, None, refl, ap, subst, ◌∙◌, append_assoc}
+use Rattle.std.proofs.Common.{◌≡◌, ◌≢◌, ℕ, suc, Bool, true, false, List, [], ◌∷◌, ◌++◌, Option, Some, None, refl, ap, subst, ◌∙◌, append_assoc}
+use Rattle.std.proofs.lemmas.Bool.{false≢true}
 use Rattle.um_syntax.specs.declared.token.Token.{Token}
 use Rattle.um_syntax.specs.declared.token.Kind.{Kind}
+use Rattle.um_syntax.specs.declared.token.Kind.TheVariants as kind
+use Rattle.um_syntax.specs.declared.vocabulary.Keyword.TheVariants as keyword
+use Rattle.um_syntax.specs.declared.vocabulary.Symbol.TheVariants as symbol
 use Rattle.um_tree.specs.RawTree.{NoteSyntax, TypeSyntax, bool_syntax, num_syntax, record_syntax, list_type_syntax, bracket_type_syntax}
-use Rattle.um_types.specs.UnitTokens.{sign, unit_token}
-use Rattle.um_types.specs.declared.unit_mark.Mark.TheVariants as mark
-use Rattle.um_types.specs.TypeTokens.{symbol, type_token}
-use Rattle.um_types.specs.TypeGrammar.{FirstSymbol, NoteSpells, NotesSpell, AngledSpell, TypeSpells, NoteFits, NotesFit, TypeFits, at_most_one}
+use Rattle.um_types.specs.UnitTokens.{unit_token}
+use Rattle.um_types.specs.TypeGrammar.{FirstKind, FirstSign, NoteSpells, NotesSpell, AngledSpell, TypeSpells, NoteFits, NotesFit, TypeFits, at_most_one}
 use Rattle.um_types.specs.Machines.{Reaches}
 use Rattle.um_types.specs.NoteMachine.{NoteState, NeedNote, HaveHole, InUnit, NoNote, note_step, note_finish}
 use Rattle.um_types.specs.TypeMachine.{Owner, OfNum, OfName, TypeState, NeedType, HaveType, InNote, NoType, type_begin, type_after, note_end, note_ends, note_goes, type_act, type_step}
-use Rattle.um_types.specs.declared.type_symbol.Symbol.{Symbol}
-use Rattle.um_types.specs.declared.type_symbol.Symbol.TheVariants as symbol_of
 use Rattle.um_types.proofs.Reaching.{reaches_one, reaches_then, reaches_inside}
-use Rattle.um_types.proofs.TokenLinks.{greater_other, comma_other}
+use Rattle.um_types.proofs.ForeignTokens.{is_foreign}
 use Rattle.um_types.proofs.NoteComplete.{note_into, note_reaches, note_finds, note_stops}
 
 abbrev pub TypeReaches : TypeState → List Token → TypeState → List Token → Type 0
@@ -33,25 +33,25 @@ type_then a b c s t r p q = reaches_then type_step NoType a b c s t r p q
 
 -- ---- one token
 
-begins_with : (depth : ℕ) (what : Symbol) (new : TypeState) (tokens rest : List Token) → FirstSymbol what tokens rest → ((at : ℕ) → type_begin depth (symbol what) at ≡ new) → new ≢ NoType
+begins_with : (depth : ℕ) (what : Kind) (new : TypeState) (tokens rest : List Token) → FirstKind what tokens rest → ((at : ℕ) → type_begin depth what at ≡ new) → new ≢ NoType
     → TypeReaches (NeedType depth) tokens new rest
 begins_with depth what new tokens rest f step ok =
     reaches_one type_step NoType (NeedType depth) new f.0 tokens rest f.2 (ap (λ w. type_begin depth w f.0.start) f.1 ∙ step f.0.start) ok
 
-goes_with : (depth : ℕ) (t : TypeSyntax) (what : Symbol) (new : TypeState) (tokens rest : List Token) → FirstSymbol what tokens rest → type_after depth t (symbol what) ≡ new → new ≢ NoType
+goes_with : (depth : ℕ) (t : TypeSyntax) (what : Kind) (new : TypeState) (tokens rest : List Token) → FirstKind what tokens rest → type_after depth t what ≡ new → new ≢ NoType
     → TypeReaches (HaveType depth t) tokens new rest
 goes_with depth t what new tokens rest f step ok = reaches_one type_step NoType (HaveType depth t) new f.0 tokens rest f.2 (ap (type_after depth t) f.1 ∙ step) ok
 
 -- the token behind a note
-ends_with : (depth : ℕ) (owner : Owner) (n : NoteSyntax) (what : Symbol) (new : TypeState) (tokens rest : List Token) → NoteFits n → FirstSymbol what tokens rest
-    → ((k : Kind) → type_token k ≡ symbol what → unit_token k ≡ sign mark.Other) → note_end depth owner n (symbol what) ≡ new → new ≢ NoType
+ends_with : (depth : ℕ) (owner : Owner) (n : NoteSyntax) (what : Kind) (new : TypeState) (tokens rest : List Token) → NoteFits n → FirstKind what tokens rest
+    → is_foreign (unit_token what) ≡ true → note_end depth owner n what ≡ new → new ≢ NoType
     → TypeReaches (InNote depth owner (note_into n)) tokens new rest
 ends_with depth owner n what new tokens rest fits f other step ok =
-    let ended : TypeState = note_ends depth owner (note_finish (note_into n)) (type_token f.0.kind) in
+    let ended : TypeState = note_ends depth owner (note_finish (note_into n)) f.0.kind in
     reaches_one type_step NoType (InNote depth owner (note_into n)) new f.0 tokens rest f.2
     (
-    ap (λ s. note_goes depth owner s ended) (note_stops n f.0.kind f.0.start (other f.0.kind f.1))
-    ∙ ap (λ o. note_ends depth owner o (type_token f.0.kind)) (note_finds n fits)
+    ap (λ s. note_goes depth owner s ended) (note_stops n f.0.kind f.0.start (ap (λ k. is_foreign (unit_token k)) f.1 ∙ other))
+    ∙ ap (λ o. note_ends depth owner o f.0.kind) (note_finds n fits)
     ∙ ap (note_end depth owner n) f.1
     ∙ step
     )
@@ -67,7 +67,7 @@ note_goes_on depth owner NoNote ended ok = absurd (ok refl)
 
 note_inside : (depth : ℕ) (owner : Owner) (n new : NoteState) (token : Token) → note_step n token ≡ new → new ≢ NoNote → type_step (InNote depth owner n) token ≡ InNote depth owner new
 note_inside depth owner n new token e ok =
-    let ended : TypeState = note_ends depth owner (note_finish n) (type_token token.kind) in
+    let ended : TypeState = note_ends depth owner (note_finish n) token.kind in
     ap (λ s. note_goes depth owner s ended) e ∙ note_goes_on depth owner new ended ok
 
 -- a note is read
@@ -77,23 +77,23 @@ reads_note depth owner n tokens rest s fits =
     (note_reaches n tokens rest s fits)
 
 -- notes with commas, and the closing angle bracket
-reads_notes : (ns : List NoteSyntax) (n : NoteSyntax) (depth at : ℕ) (x : List ℕ) (front : List NoteSyntax) (tokens mid rest : List Token) → NotesSpell (n ∷ ns) tokens mid → NotesFit (n ∷ ns)
-    → FirstSymbol symbol_of.Greater mid rest → TypeReaches (InNote depth (OfName at x front) NeedNote) tokens (HaveType depth (record_syntax at x (front ++ n ∷ ns))) rest
-reads_notes [] n depth at x front tokens mid rest s fits f =
-    let owner : Owner = OfName at x front in
-    let done : TypeState = HaveType depth (record_syntax at x (front ++ n ∷ [])) in
+reads_notes : (ns : List NoteSyntax) (n : NoteSyntax) (depth at : ℕ) (x : List ℕ) (earlier : List NoteSyntax) (tokens mid rest : List Token) → NotesSpell (n ∷ ns) tokens mid → NotesFit (n ∷ ns)
+    → FirstSign symbol.Greater mid rest → TypeReaches (InNote depth (OfName at x earlier) NeedNote) tokens (HaveType depth (record_syntax at x (earlier ++ n ∷ ns))) rest
+reads_notes [] n depth at x earlier tokens mid rest s fits f =
+    let owner : Owner = OfName at x earlier in
+    let done : TypeState = HaveType depth (record_syntax at x (earlier ++ n ∷ [])) in
     type_then (InNote depth owner NeedNote) (InNote depth owner (note_into n)) done tokens mid rest (reads_note depth owner n tokens mid s fits.0)
-    (ends_with depth owner n symbol_of.Greater done mid rest fits.0 f greater_other refl (have_is depth (record_syntax at x (front ++ n ∷ []))))
-reads_notes (m ∷ ns) n depth at x front tokens mid rest s fits f =
-    let owner : Owner = OfName at x front in
-    let more : Owner = OfName at x (front ++ n ∷ []) in
-    let done : TypeState = HaveType depth (record_syntax at x (front ++ n ∷ m ∷ ns)) in
-    let parts : (front ++ n ∷ []) ++ m ∷ ns ≡ front ++ n ∷ m ∷ ns = append_assoc front (n ∷ []) (m ∷ ns) in
+    (ends_with depth owner n (kind.Sign symbol.Greater) done mid rest fits.0 f refl refl (have_is depth (record_syntax at x (earlier ++ n ∷ []))))
+reads_notes (m ∷ ns) n depth at x earlier tokens mid rest s fits f =
+    let owner : Owner = OfName at x earlier in
+    let more : Owner = OfName at x (earlier ++ n ∷ []) in
+    let done : TypeState = HaveType depth (record_syntax at x (earlier ++ n ∷ m ∷ ns)) in
+    let parts : (earlier ++ n ∷ []) ++ m ∷ ns ≡ earlier ++ n ∷ m ∷ ns = append_assoc earlier (n ∷ []) (m ∷ ns) in
     type_then (InNote depth owner NeedNote) (InNote depth owner (note_into n)) done tokens s.0 rest (reads_note depth owner n tokens s.0 s.2 fits.0)
     (
     type_then (InNote depth owner (note_into n)) (InNote depth more NeedNote) done s.0 s.1 rest
-    (ends_with depth owner n symbol_of.Comma (InNote depth more NeedNote) s.0 s.1 fits.0 s.3 comma_other refl (note_is depth more NeedNote))
-    (subst (λ w. TypeReaches (InNote depth more NeedNote) s.1 (HaveType depth (record_syntax at x w)) rest) parts (reads_notes ns m depth at x (front ++ n ∷ []) s.1 mid rest s.4 fits.1 f))
+    (ends_with depth owner n (kind.Sign symbol.Comma) (InNote depth more NeedNote) s.0 s.1 fits.0 s.3 refl refl (note_is depth more NeedNote))
+    (subst (λ w. TypeReaches (InNote depth more NeedNote) s.1 (HaveType depth (record_syntax at x w)) rest) parts (reads_notes ns m depth at x (earlier ++ n ∷ []) s.1 mid rest s.4 fits.1 f))
     )
 
 -- angle brackets behind a name, if there are notes
@@ -103,7 +103,7 @@ reads_angled [] depth at x tokens rest s fits = ([], s, refl, have_is depth (rec
 reads_angled (n ∷ ns) depth at x tokens rest s fits =
     let start : TypeState = InNote depth (OfName at x []) NeedNote in
     type_then (HaveType depth (record_syntax at x [])) start (HaveType depth (record_syntax at x (n ∷ ns))) tokens s.0 rest
-    (goes_with depth (record_syntax at x []) symbol_of.Less start tokens s.0 s.2 refl (note_is depth (OfName at x []) NeedNote))
+    (goes_with depth (record_syntax at x []) (kind.Sign symbol.Less) start tokens s.0 s.2 refl (note_is depth (OfName at x []) NeedNote))
     (reads_notes ns n depth at x [] s.0 s.1 rest s.3 fits s.4)
 
 -- and behind `num`
@@ -115,19 +115,19 @@ reads_note_of_num (Some n) depth tokens rest s fits =
     let behind : TypeState = InNote depth OfNum (note_into n) in
     let done : TypeState = HaveType depth (num_syntax (Some n)) in
     type_then (HaveType depth (num_syntax None)) start done tokens s.0 rest
-    (goes_with depth (num_syntax None) symbol_of.Less start tokens s.0 s.2 refl (note_is depth OfNum NeedNote))
+    (goes_with depth (num_syntax None) (kind.Sign symbol.Less) start tokens s.0 s.2 refl (note_is depth OfNum NeedNote))
     (
     type_then start behind done s.0 s.1 rest (reads_note depth OfNum n s.0 s.1 s.3 fits.0)
-    (ends_with depth OfNum n symbol_of.Greater done s.1 rest fits.0 s.4 greater_other refl (have_is depth (num_syntax (Some n))))
+    (ends_with depth OfNum n (kind.Sign symbol.Greater) done s.1 rest fits.0 s.4 refl refl (have_is depth (num_syntax (Some n))))
     )
 
 -- ---- types
 
 pub type_reaches : (t : TypeSyntax) (depth : ℕ) (tokens rest : List Token) → TypeSpells t tokens rest → TypeFits t → TypeReaches (NeedType depth) tokens (HaveType depth t) rest
-type_reaches bool_syntax depth tokens rest s fits = begins_with depth symbol_of.Bool (HaveType depth bool_syntax) tokens rest s (λ at. refl) (have_is depth bool_syntax)
+type_reaches bool_syntax depth tokens rest s fits = begins_with depth (kind.Word keyword.Bool) (HaveType depth bool_syntax) tokens rest s (λ at. refl) (have_is depth bool_syntax)
 type_reaches (num_syntax o) depth tokens rest s fits =
     type_then (NeedType depth) (HaveType depth (num_syntax None)) (HaveType depth (num_syntax o)) tokens s.0 rest
-    (begins_with depth symbol_of.Num (HaveType depth (num_syntax None)) tokens s.0 s.1 (λ at. refl) (have_is depth (num_syntax None)))
+    (begins_with depth (kind.Word keyword.Num) (HaveType depth (num_syntax None)) tokens s.0 s.1 (λ at. refl) (have_is depth (num_syntax None)))
     (reads_note_of_num o depth s.0 rest s.2 fits)
 type_reaches (record_syntax at x ns) depth tokens rest s fits =
     let f = s.1 in
@@ -140,44 +140,27 @@ type_reaches (record_syntax at x ns) depth tokens rest s fits =
     (reads_angled ns depth at x s.0 rest s.2 fits)
 type_reaches (list_type_syntax t) depth tokens rest s fits =
     type_then (NeedType depth) (HaveType depth t) (HaveType depth (list_type_syntax t)) tokens s.0 rest (type_reaches t depth tokens s.0 s.1 fits)
-    (goes_with depth t symbol_of.List (HaveType depth (list_type_syntax t)) s.0 rest s.2 refl (have_is depth (list_type_syntax t)))
+    (goes_with depth t (kind.Word keyword.List) (HaveType depth (list_type_syntax t)) s.0 rest s.2 refl (have_is depth (list_type_syntax t)))
 type_reaches (bracket_type_syntax t) depth tokens rest s fits =
     let inner : TypeState = HaveType (suc depth) t in
     let done : TypeState = HaveType depth (bracket_type_syntax t) in
     type_then (NeedType depth) (NeedType (suc depth)) done tokens s.0 rest
-    (begins_with depth symbol_of.Open (NeedType (suc depth)) tokens s.0 s.2 (λ at. refl) (need_is (suc depth)))
+    (begins_with depth (kind.Sign symbol.LeftParen) (NeedType (suc depth)) tokens s.0 s.2 (λ at. refl) (need_is (suc depth)))
     (
     type_then (NeedType (suc depth)) inner done s.0 s.1 rest (type_reaches t (suc depth) s.0 s.1 s.3 fits)
-    (goes_with (suc depth) t symbol_of.Close done s.1 rest s.4 refl (have_is depth (bracket_type_syntax t)))
+    (goes_with (suc depth) t (kind.Sign symbol.RightParen) done s.1 rest s.4 refl (have_is depth (bracket_type_syntax t)))
     )
 
 -- ---- what may follow
 
--- what doesn't go on a type text that is whole
-abbrev pub Follows : Symbol → Type 0
-Follows symbol_of.Close = Unit {0}
-Follows symbol_of.Greater = Unit {0}
-Follows symbol_of.Comma = Unit {0}
-Follows symbol_of.Arrow = Unit {0}
-Follows symbol_of.Num = Unit {0}
-Follows symbol_of.Bool = Unit {0}
-Follows symbol_of.Open = Unit {0}
-Follows symbol_of.Other = Unit {0}
-Follows symbol_of.Less = ⊥
-Follows symbol_of.List = ⊥
-
-stops_at : (t : TypeSyntax) (what : Symbol) → Follows what → type_after 0 t (symbol what) ≡ NoType
-stops_at t symbol_of.Close f = refl
-stops_at t symbol_of.Greater f = refl
-stops_at t symbol_of.Comma f = refl
-stops_at t symbol_of.Arrow f = refl
-stops_at t symbol_of.Num f = refl
-stops_at t symbol_of.Bool f = refl
-stops_at t symbol_of.Open f = refl
-stops_at t symbol_of.Other f = refl
-stops_at t symbol_of.Less f = absurd f
-stops_at t symbol_of.List f = absurd f
+-- whether a token of the kind goes on no type text that is whole
+abbrev pub ends_type : Kind → Bool
+ends_type (kind.Sign symbol.Less) = false
+ends_type (kind.Word keyword.List) = false
+ends_type _ = true
 
 -- such a token is refused behind a type text that was read from the start
-pub type_stops : (t : TypeSyntax) (k : Kind) (at : ℕ) (what : Symbol) → type_token k ≡ symbol what → Follows what → type_act (HaveType 0 t) k at ≡ NoType
-type_stops t k at what e f = ap (type_after 0 t) e ∙ stops_at t what f
+pub type_stops : (t : TypeSyntax) (k : Kind) (at : ℕ) → ends_type k ≡ true → type_act (HaveType 0 t) k at ≡ NoType
+type_stops t (kind.Sign symbol.Less) at e = absurd (false≢true e)
+type_stops t (kind.Word keyword.List) at e = absurd (false≢true e)
+type_stops t _ at e = refl

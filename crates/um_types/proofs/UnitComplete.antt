@@ -3,7 +3,7 @@ use Rattle.std.proofs.Common.{◌≡◌, ℕ, ◌≤◌, ℤ, List, [], ◌∷�
 use Rattle.um_syntax.specs.declared.token.Token.{Token}
 use Rattle.um_tree.specs.RawTree.{UnitSyntax, UnitSyntaxes, one_syntax, measure_syntax, variable_syntax, power_syntax, side_syntax, times_syntax, over_syntax, inverse_syntax, bracket_syntax, no_units, more_units, units_in_order}
 use Rattle.um_types.specs.UnitTokens.{UnitToken, sign, measure, variable, number}
-use Rattle.um_types.specs.declared.unit_mark.Mark.TheVariants as mark
+use Rattle.um_syntax.specs.declared.vocabulary.Symbol.TheVariants as symbol
 use Rattle.um_types.specs.UnitGrammar.{First, FirstAt, PowerSpells, Spells, AllSpell, rank, Fits, ArePowers}
 use Rattle.um_types.specs.UnitMachine.{Frame, InBracket, InInverse, InTimes, InOver, InSide, State, Need, Have, Raised, Lowered, Refused, top_limit, opens, reduce, juxtapose, begin, times_after, over_after, close_after, raise, after, act, run}
 
@@ -14,8 +14,8 @@ inside (u ∷ us) frames = InSide (u ∷ us) ∷ frames
 
 -- the state once a front, a unit and some more of a juxtaposition were read
 abbrev pub behind : List Frame → List UnitSyntax → UnitSyntax → UnitSyntaxes → State
-behind frames front u no_units = Have (inside front frames) u
-behind frames front u (more_units v us) = behind frames (front ++ u ∷ []) v us
+behind frames earlier u no_units = Have (inside earlier frames) u
+behind frames earlier u (more_units v us) = behind frames (earlier ++ u ∷ []) v us
 
 abbrev pub into_side : List Frame → UnitSyntaxes → State
 into_side frames no_units = Refused
@@ -42,11 +42,11 @@ abbrev pub put : List UnitSyntax → UnitSyntaxes → UnitSyntaxes
 put [] us = us
 put (x ∷ xs) us = more_units x (put xs us)
 
-put_last : (front : List UnitSyntax) (u : UnitSyntax) (us : UnitSyntaxes) → put (front ++ u ∷ []) us ≡ put front (more_units u us)
+put_last : (earlier : List UnitSyntax) (u : UnitSyntax) (us : UnitSyntaxes) → put (earlier ++ u ∷ []) us ≡ put earlier (more_units u us)
 put_last [] u us = refl
 put_last (x ∷ xs) u us = ap (more_units x) (put_last xs u us)
 
-pub order_last : (front : List UnitSyntax) (u : UnitSyntax) → units_in_order (front ++ u ∷ []) ≡ put front (more_units u no_units)
+pub order_last : (earlier : List UnitSyntax) (u : UnitSyntax) → units_in_order (earlier ++ u ∷ []) ≡ put earlier (more_units u no_units)
 order_last [] u = refl
 order_last (x ∷ xs) u = ap (more_units x) (order_last xs u)
 
@@ -81,7 +81,7 @@ rank_low (bracket_syntax at u) = omega arith
 
 -- ---- signs behind a unit that was read
 
-on_times : (st : State) (at : ℕ) → act st (sign mark.Times) at ≡ times_after (red st)
+on_times : (st : State) (at : ℕ) → act st (sign symbol.Star) at ≡ times_after (red st)
 on_times (Need frames) at = refl
 on_times (Have frames t) at = refl
 on_times (Raised frames t) at = refl
@@ -93,14 +93,14 @@ abbrev Reading : State → Type 0
 Reading (Need frames) = ⊥
 Reading _ = Unit {0}
 
-on_over : (st : State) (at : ℕ) → Reading st → act st (sign mark.Over) at ≡ over_after (red st)
+on_over : (st : State) (at : ℕ) → Reading st → act st (sign symbol.Slash) at ≡ over_after (red st)
 on_over (Need frames) at h = absurd h
 on_over (Have frames t) at h = refl
 on_over (Raised frames t) at h = refl
 on_over (Lowered frames t) at h = refl
 on_over Refused at h = refl
 
-on_close : (st : State) (at : ℕ) → act st (sign mark.Close) at ≡ close_after (red st)
+on_close : (st : State) (at : ℕ) → act st (sign symbol.RightParen) at ≡ close_after (red st)
 on_close (Need frames) at = refl
 on_close (Have frames t) at = refl
 on_close (Raised frames t) at = refl
@@ -108,32 +108,32 @@ on_close (Lowered frames t) at = refl
 on_close Refused at = refl
 
 -- what was read ends in a unit at hand
-abbrev pub AtHand : State → Type 0
-AtHand (Have frames t) = Unit {0}
-AtHand _ = ⊥
+abbrev pub IsAtOperand : State → Type 0
+IsAtOperand (Have frames t) = Unit {0}
+IsAtOperand _ = ⊥
 
-behind_hand : (us : UnitSyntaxes) (frames : List Frame) (front : List UnitSyntax) (u : UnitSyntax) → AtHand (behind frames front u us)
-behind_hand no_units frames front u = tt
-behind_hand (more_units v us) frames front u = behind_hand us frames (front ++ u ∷ []) v
+behind_hand : (us : UnitSyntaxes) (frames : List Frame) (earlier : List UnitSyntax) (u : UnitSyntax) → IsAtOperand (behind frames earlier u us)
+behind_hand no_units frames earlier u = tt
+behind_hand (more_units v us) frames earlier u = behind_hand us frames (earlier ++ u ∷ []) v
 
-pub into_hand : (t : UnitSyntax) (frames : List Frame) → Fits t → AtHand (into frames t)
-into_hand (one_syntax at) frames fits = tt
-into_hand (measure_syntax at x) frames fits = tt
-into_hand (variable_syntax at x) frames fits = tt
-into_hand (power_syntax u k) frames fits = tt
-into_hand (side_syntax no_units) frames fits = absurd fits.0
-into_hand (side_syntax (more_units u us)) frames fits = behind_hand us frames [] u
-into_hand (times_syntax u v) frames fits = into_hand v (InTimes u ∷ frames) fits.2
-into_hand (over_syntax u v) frames fits = into_hand v (InOver u ∷ frames) fits.2
-into_hand (inverse_syntax at u) frames fits = into_hand u (InInverse at ∷ frames) fits.1
-into_hand (bracket_syntax at u) frames fits = tt
+pub into_operand : (t : UnitSyntax) (frames : List Frame) → Fits t → IsAtOperand (into frames t)
+into_operand (one_syntax at) frames fits = tt
+into_operand (measure_syntax at x) frames fits = tt
+into_operand (variable_syntax at x) frames fits = tt
+into_operand (power_syntax u k) frames fits = tt
+into_operand (side_syntax no_units) frames fits = absurd fits.0
+into_operand (side_syntax (more_units u us)) frames fits = behind_hand us frames [] u
+into_operand (times_syntax u v) frames fits = into_operand v (InTimes u ∷ frames) fits.2
+into_operand (over_syntax u v) frames fits = into_operand v (InOver u ∷ frames) fits.2
+into_operand (inverse_syntax at u) frames fits = into_operand u (InInverse at ∷ frames) fits.1
+into_operand (bracket_syntax at u) frames fits = tt
 
-hand_reads : (st : State) → AtHand st → Reading st
-hand_reads (Have frames t) h = tt
-hand_reads (Need frames) h = absurd h
-hand_reads (Raised frames t) h = absurd h
-hand_reads (Lowered frames t) h = absurd h
-hand_reads Refused h = absurd h
+operand_reads : (st : State) → IsAtOperand st → Reading st
+operand_reads (Have frames t) h = tt
+operand_reads (Need frames) h = absurd h
+operand_reads (Raised frames t) h = absurd h
+operand_reads (Lowered frames t) h = absurd h
+operand_reads Refused h = absurd h
 
 -- where a product may stand, nothing ends
 wide_stays : (frames : List Frame) (t : UnitSyntax) → 3 ≤ top_limit frames → reduce frames t ≡ Have frames t
@@ -142,7 +142,7 @@ wide_stays (InBracket at ∷ frames) t le = refl
 wide_stays (InInverse at ∷ frames) t le = absurd (omega arith)
 wide_stays (InTimes left ∷ frames) t le = absurd (omega arith)
 wide_stays (InOver left ∷ frames) t le = absurd (omega arith)
-wide_stays (InSide front ∷ frames) t le = absurd (omega arith)
+wide_stays (InSide earlier ∷ frames) t le = absurd (omega arith)
 
 pub wide_opens : (frames : List Frame) → 3 ≤ top_limit frames → opens frames ≡ true
 wide_opens [] le = refl
@@ -150,7 +150,7 @@ wide_opens (InBracket at ∷ frames) le = refl
 wide_opens (InInverse at ∷ frames) le = absurd (omega arith)
 wide_opens (InTimes left ∷ frames) le = absurd (omega arith)
 wide_opens (InOver left ∷ frames) le = absurd (omega arith)
-wide_opens (InSide front ∷ frames) le = absurd (omega arith)
+wide_opens (InSide earlier ∷ frames) le = absurd (omega arith)
 
 -- ---- one token
 
@@ -174,23 +174,23 @@ starts : (next : UnitSyntax) (frames : List Frame) (t : UnitSyntax) (tokens rest
 starts (one_syntax at) frames t tokens rest s fits le = same_start frames t (number true s.0) at tokens rest s.1 refl
 starts (measure_syntax at x) frames t tokens rest s fits le = same_start frames t (measure x) at tokens rest s refl
 starts (variable_syntax at x) frames t tokens rest s fits le = same_start frames t (variable x) at tokens rest s refl
-starts (bracket_syntax at u) frames t tokens rest s fits le = same_start frames t (sign mark.Open) at tokens s.0 s.2 refl
+starts (bracket_syntax at u) frames t tokens rest s fits le = same_start frames t (sign symbol.LeftParen) at tokens s.0 s.2 refl
 starts (power_syntax u k) frames t tokens rest s fits le = starts u frames t tokens s.0 s.2 fits.1 (omega (arith, fits.0))
 starts (side_syntax us) frames t tokens rest s fits le = absurd (omega arith)
 starts (times_syntax u v) frames t tokens rest s fits le = absurd (omega arith)
 starts (over_syntax u v) frames t tokens rest s fits le = absurd (omega arith)
 starts (inverse_syntax at u) frames t tokens rest s fits le = absurd (omega arith)
 
-pub juxtapose_side : (front : List UnitSyntax) (frames : List Frame) (u : UnitSyntax) → 2 ≤ top_limit frames → juxtapose (inside front frames) u ≡ InSide (front ++ u ∷ []) ∷ frames
+pub juxtapose_side : (earlier : List UnitSyntax) (frames : List Frame) (u : UnitSyntax) → 2 ≤ top_limit frames → juxtapose (inside earlier frames) u ≡ InSide (earlier ++ u ∷ []) ∷ frames
 juxtapose_side (x ∷ xs) frames u le = refl
 juxtapose_side [] [] u le = refl
 juxtapose_side [] (InBracket at ∷ frames) u le = refl
 juxtapose_side [] (InInverse at ∷ frames) u le = refl
 juxtapose_side [] (InTimes left ∷ frames) u le = refl
 juxtapose_side [] (InOver left ∷ frames) u le = refl
-juxtapose_side [] (InSide front ∷ frames) u le = absurd (omega arith)
+juxtapose_side [] (InSide earlier ∷ frames) u le = absurd (omega arith)
 
-inside_last : (front : List UnitSyntax) (u : UnitSyntax) (frames : List Frame) → inside (front ++ u ∷ []) frames ≡ InSide (front ++ u ∷ []) ∷ frames
+inside_last : (earlier : List UnitSyntax) (u : UnitSyntax) (frames : List Frame) → inside (earlier ++ u ∷ []) frames ≡ InSide (earlier ++ u ∷ []) ∷ frames
 inside_last [] u frames = refl
 inside_last (x ∷ xs) u frames = refl
 
@@ -220,15 +220,15 @@ complete_power : (frames : List Frame) (u : UnitSyntax) (k : ℤ) (tokens rest :
 complete_power frames u k tokens rest (n, inl (e, (one, f))) =
     then_first (Raised frames u) (Have frames (power_syntax u _)) (number one (Some n)) tokens rest f (λ at. refl) ∙ ap (λ j. run (Have frames (power_syntax u j)) rest) (sym e)
 complete_power frames u k tokens rest (n, inr (next, e, minus, (one, f))) =
-    then_first (Raised frames u) (Lowered frames u) (sign mark.Minus) tokens next minus (λ at. refl)
+    then_first (Raised frames u) (Lowered frames u) (sign symbol.Minus) tokens next minus (λ at. refl)
     ∙ then_first (Lowered frames u) (Have frames (power_syntax u _)) (number one (Some n)) next rest f (λ at. refl) ∙ ap (λ j. run (Have frames (power_syntax u j)) rest) (sym e)
 
-after_times : (frames : List Frame) (u : UnitSyntax) (at : ℕ) → Fits u → 4 ≤ top_limit frames → act (into frames u) (sign mark.Times) at ≡ Need (InTimes u ∷ frames)
+after_times : (frames : List Frame) (u : UnitSyntax) (at : ℕ) → Fits u → 4 ≤ top_limit frames → act (into frames u) (sign symbol.Star) at ≡ Need (InTimes u ∷ frames)
 after_times frames u at fits le = on_times (into frames u) at ∙ ap times_after (red_into u frames fits ∙ wide_stays frames u (omega arith))
 
-after_over : (frames : List Frame) (u : UnitSyntax) (at : ℕ) → Fits u → 4 ≤ top_limit frames → act (into frames u) (sign mark.Over) at ≡ Need (InOver u ∷ frames)
+after_over : (frames : List Frame) (u : UnitSyntax) (at : ℕ) → Fits u → 4 ≤ top_limit frames → act (into frames u) (sign symbol.Slash) at ≡ Need (InOver u ∷ frames)
 after_over frames u at fits le =
-    on_over (into frames u) at (hand_reads (into frames u) (into_hand u frames fits)) ∙ ap over_after (red_into u frames fits ∙ wide_stays frames u (omega arith))
+    on_over (into frames u) at (operand_reads (into frames u) (into_operand u frames fits)) ∙ ap over_after (red_into u frames fits ∙ wide_stays frames u (omega arith))
 
 mutual
   pub complete : (t : UnitSyntax) (frames : List Frame) (tokens rest : List Token) → Spells t tokens rest → Fits t → rank t ≤ top_limit frames
@@ -238,7 +238,7 @@ mutual
   complete (variable_syntax at x) frames tokens rest s fits le = then_at (Need frames) (Have frames (variable_syntax at x)) (variable x) at tokens rest s refl
   complete (power_syntax u k) frames tokens rest s fits le =
       complete u frames tokens s.0 s.2 fits.1 (omega (arith, fits.0))
-      ∙ then_first (into frames u) (Raised frames u) (sign mark.Caret) s.0 s.1 s.3 (λ at. ap (λ st. act st (sign mark.Caret) at) (into_atom frames u (omega (arith, fits.0))) ∙ raise_atom frames u fits.0)
+      ∙ then_first (into frames u) (Raised frames u) (sign symbol.Caret) s.0 s.1 s.3 (λ at. ap (λ st. act st (sign symbol.Caret) at) (into_atom frames u (omega (arith, fits.0))) ∙ raise_atom frames u fits.0)
       ∙ complete_power frames u k s.1 rest s.4
   complete (side_syntax no_units) frames tokens rest s fits le = absurd fits.0
   complete (side_syntax (more_units u us)) frames tokens rest s fits le =
@@ -247,27 +247,27 @@ mutual
       ∙ complete_side us frames [] u s.0 rest s.2 fits.1.2 le
   complete (times_syntax u v) frames tokens rest s fits le =
       complete u frames tokens s.0 s.2 fits.1 (omega (arith, rank_low u))
-      ∙ then_first (into frames u) (Need (InTimes u ∷ frames)) (sign mark.Times) s.0 s.1 s.3 (λ at. after_times frames u at fits.1 le)
+      ∙ then_first (into frames u) (Need (InTimes u ∷ frames)) (sign symbol.Star) s.0 s.1 s.3 (λ at. after_times frames u at fits.1 le)
       ∙ complete v (InTimes u ∷ frames) s.1 rest s.4 fits.2 fits.0
   complete (over_syntax u v) frames tokens rest s fits le =
       complete u frames tokens s.0 s.2 fits.1 (omega (arith, rank_low u))
-      ∙ then_first (into frames u) (Need (InOver u ∷ frames)) (sign mark.Over) s.0 s.1 s.3 (λ at. after_over frames u at fits.1 le)
+      ∙ then_first (into frames u) (Need (InOver u ∷ frames)) (sign symbol.Slash) s.0 s.1 s.3 (λ at. after_over frames u at fits.1 le)
       ∙ complete v (InOver u ∷ frames) s.1 rest s.4 fits.2 fits.0
   complete (inverse_syntax at u) frames tokens rest s fits le =
-      then_at (Need frames) (Need (InInverse at ∷ frames)) (sign mark.Over) at tokens s.0 s.1 (ap (λ b. cond b (Need (InInverse at ∷ frames)) Refused) (wide_opens frames le))
+      then_at (Need frames) (Need (InInverse at ∷ frames)) (sign symbol.Slash) at tokens s.0 s.1 (ap (λ b. cond b (Need (InInverse at ∷ frames)) Refused) (wide_opens frames le))
       ∙ complete u (InInverse at ∷ frames) s.0 rest s.2 fits.1 fits.0
   complete (bracket_syntax at u) frames tokens rest s fits le =
-      then_at (Need frames) (Need (InBracket at ∷ frames)) (sign mark.Open) at tokens s.0 s.2 refl
+      then_at (Need frames) (Need (InBracket at ∷ frames)) (sign symbol.LeftParen) at tokens s.0 s.2 refl
       ∙ complete u (InBracket at ∷ frames) s.0 s.1 s.3 fits (rank_low u)
-      ∙ then_first (into (InBracket at ∷ frames) u) (Have frames (bracket_syntax at u)) (sign mark.Close) s.1 rest s.4
+      ∙ then_first (into (InBracket at ∷ frames) u) (Have frames (bracket_syntax at u)) (sign symbol.RightParen) s.1 rest s.4
       (λ m. on_close (into (InBracket at ∷ frames) u) m ∙ ap close_after (red_into u (InBracket at ∷ frames) fits))
 
-  complete_side : (us : UnitSyntaxes) (frames : List Frame) (front : List UnitSyntax) (u : UnitSyntax) (tokens rest : List Token) → AllSpell us tokens rest → ArePowers us → 2 ≤ top_limit frames
-      → run (Have (inside front frames) u) tokens ≡ run (behind frames front u us) rest
-  complete_side no_units frames front u tokens rest s fits le = ap (run (Have (inside front frames) u)) s
-  complete_side (more_units v us) frames front u tokens rest s fits le =
-      starts v (inside front frames) u tokens s.0 s.1 fits.1 fits.0
-      ∙ ap (λ fs. run (Need fs) tokens) (juxtapose_side front frames u le)
-      ∙ complete v (InSide (front ++ u ∷ []) ∷ frames) tokens s.0 s.1 fits.1 fits.0
-      ∙ ap (λ st. run st s.0) (into_atom (InSide (front ++ u ∷ []) ∷ frames) v fits.0 ∙ ap (λ fs. Have fs v) (sym (inside_last front u frames)))
-      ∙ complete_side us frames (front ++ u ∷ []) v s.0 rest s.2 fits.2 le
+  complete_side : (us : UnitSyntaxes) (frames : List Frame) (earlier : List UnitSyntax) (u : UnitSyntax) (tokens rest : List Token) → AllSpell us tokens rest → ArePowers us → 2 ≤ top_limit frames
+      → run (Have (inside earlier frames) u) tokens ≡ run (behind frames earlier u us) rest
+  complete_side no_units frames earlier u tokens rest s fits le = ap (run (Have (inside earlier frames) u)) s
+  complete_side (more_units v us) frames earlier u tokens rest s fits le =
+      starts v (inside earlier frames) u tokens s.0 s.1 fits.1 fits.0
+      ∙ ap (λ fs. run (Need fs) tokens) (juxtapose_side earlier frames u le)
+      ∙ complete v (InSide (earlier ++ u ∷ []) ∷ frames) tokens s.0 s.1 fits.1 fits.0
+      ∙ ap (λ st. run st s.0) (into_atom (InSide (earlier ++ u ∷ []) ∷ frames) v fits.0 ∙ ap (λ fs. Have fs v) (sym (inside_last earlier u frames)))
+      ∙ complete_side us frames (earlier ++ u ∷ []) v s.0 rest s.2 fits.2 le

@@ -4,7 +4,7 @@ use Rattle.std.proofs.lemmas.List.{append-nil}
 use Rattle.um_syntax.specs.declared.token.Token.{Token}
 use Rattle.um_tree.specs.RawTree.{UnitSyntax, UnitSyntaxes, one_syntax, measure_syntax, variable_syntax, power_syntax, side_syntax, times_syntax, over_syntax, inverse_syntax, bracket_syntax, no_units, more_units}
 use Rattle.um_types.specs.UnitTokens.{UnitToken, sign, measure, variable, number}
-use Rattle.um_types.specs.declared.unit_mark.Mark.TheVariants as mark
+use Rattle.um_syntax.specs.declared.vocabulary.Symbol.TheVariants as symbol
 use Rattle.um_types.specs.UnitGrammar.{First, FirstAt, PowerSpells, Spells, AllSpell, Fits, IsUnit}
 
 abbrev pub Text : Type 1
@@ -39,8 +39,8 @@ cut_power : (k : ℤ) (tokens rest : List Token) → PowerSpells k tokens rest �
 cut_power k tokens rest (n, inl (e, (one, f))) =
     cut_as (First (number one (Some n))) (PowerSpells k) (λ s r g. (n, inl (e, (one, g)))) tokens rest (cut_first (number one (Some n)) tokens rest f)
 cut_power k tokens rest (n, inr (next, e, minus, (one, f))) =
-    cut_as (Then (First (sign mark.Minus)) (First (number one (Some n)))) (PowerSpells k) (λ s r g. (n, inr (g.0, e, g.1, (one, g.2)))) tokens rest
-    (cut_then (First (sign mark.Minus)) (First (number one (Some n))) tokens next rest (cut_first (sign mark.Minus) tokens next minus) (cut_first (number one (Some n)) next rest f))
+    cut_as (Then (First (sign symbol.Minus)) (First (number one (Some n)))) (PowerSpells k) (λ s r g. (n, inr (g.0, e, g.1, (one, g.2)))) tokens rest
+    (cut_then (First (sign symbol.Minus)) (First (number one (Some n))) tokens next rest (cut_first (sign symbol.Minus) tokens next minus) (cut_first (number one (Some n)) next rest f))
 
 mutual
   pub unit_cut : (t : UnitSyntax) (tokens rest : List Token) → Spells t tokens rest → Cut (Spells t) tokens rest
@@ -49,31 +49,31 @@ mutual
   unit_cut (measure_syntax at x) tokens rest s = cut_at (measure x) at tokens rest s
   unit_cut (variable_syntax at x) tokens rest s = cut_at (variable x) at tokens rest s
   unit_cut (power_syntax u k) tokens rest s =
-      cut_as (Then (Spells u) (Then (First (sign mark.Caret)) (PowerSpells k))) (Spells (power_syntax u k)) (λ a b g. (g.0, g.2.0, g.1, g.2.1, g.2.2)) tokens rest
+      cut_as (Then (Spells u) (Then (First (sign symbol.Caret)) (PowerSpells k))) (Spells (power_syntax u k)) (λ a b g. (g.0, g.2.0, g.1, g.2.1, g.2.2)) tokens rest
       (
-      cut_then (Spells u) (Then (First (sign mark.Caret)) (PowerSpells k)) tokens s.0 rest (unit_cut u tokens s.0 s.2)
-      (cut_then (First (sign mark.Caret)) (PowerSpells k) s.0 s.1 rest (cut_first (sign mark.Caret) s.0 s.1 s.3) (cut_power k s.1 rest s.4))
+      cut_then (Spells u) (Then (First (sign symbol.Caret)) (PowerSpells k)) tokens s.0 rest (unit_cut u tokens s.0 s.2)
+      (cut_then (First (sign symbol.Caret)) (PowerSpells k) s.0 s.1 rest (cut_first (sign symbol.Caret) s.0 s.1 s.3) (cut_power k s.1 rest s.4))
       )
   unit_cut (side_syntax us) tokens rest s = all_cut us tokens rest s
   unit_cut (times_syntax u v) tokens rest s =
-      cut_as (Then (Spells u) (Then (First (sign mark.Times)) (Spells v))) (Spells (times_syntax u v)) (λ a b g. (g.0, g.2.0, g.1, g.2.1, g.2.2)) tokens rest
+      cut_as (Then (Spells u) (Then (First (sign symbol.Star)) (Spells v))) (Spells (times_syntax u v)) (λ a b g. (g.0, g.2.0, g.1, g.2.1, g.2.2)) tokens rest
       (
-      cut_then (Spells u) (Then (First (sign mark.Times)) (Spells v)) tokens s.0 rest (unit_cut u tokens s.0 s.2)
-      (cut_then (First (sign mark.Times)) (Spells v) s.0 s.1 rest (cut_first (sign mark.Times) s.0 s.1 s.3) (unit_cut v s.1 rest s.4))
+      cut_then (Spells u) (Then (First (sign symbol.Star)) (Spells v)) tokens s.0 rest (unit_cut u tokens s.0 s.2)
+      (cut_then (First (sign symbol.Star)) (Spells v) s.0 s.1 rest (cut_first (sign symbol.Star) s.0 s.1 s.3) (unit_cut v s.1 rest s.4))
       )
   unit_cut (over_syntax u v) tokens rest s =
-      cut_as (Then (Spells u) (Then (First (sign mark.Over)) (Spells v))) (Spells (over_syntax u v)) (λ a b g. (g.0, g.2.0, g.1, g.2.1, g.2.2)) tokens rest
+      cut_as (Then (Spells u) (Then (First (sign symbol.Slash)) (Spells v))) (Spells (over_syntax u v)) (λ a b g. (g.0, g.2.0, g.1, g.2.1, g.2.2)) tokens rest
       (
-      cut_then (Spells u) (Then (First (sign mark.Over)) (Spells v)) tokens s.0 rest (unit_cut u tokens s.0 s.2)
-      (cut_then (First (sign mark.Over)) (Spells v) s.0 s.1 rest (cut_first (sign mark.Over) s.0 s.1 s.3) (unit_cut v s.1 rest s.4))
+      cut_then (Spells u) (Then (First (sign symbol.Slash)) (Spells v)) tokens s.0 rest (unit_cut u tokens s.0 s.2)
+      (cut_then (First (sign symbol.Slash)) (Spells v) s.0 s.1 rest (cut_first (sign symbol.Slash) s.0 s.1 s.3) (unit_cut v s.1 rest s.4))
       )
   unit_cut (inverse_syntax at u) tokens rest s =
-      cut_then (FirstAt (sign mark.Over) at) (Spells u) tokens s.0 rest (cut_at (sign mark.Over) at tokens s.0 s.1) (unit_cut u s.0 rest s.2)
+      cut_then (FirstAt (sign symbol.Slash) at) (Spells u) tokens s.0 rest (cut_at (sign symbol.Slash) at tokens s.0 s.1) (unit_cut u s.0 rest s.2)
   unit_cut (bracket_syntax at u) tokens rest s =
-      cut_as (Then (FirstAt (sign mark.Open) at) (Then (Spells u) (First (sign mark.Close)))) (Spells (bracket_syntax at u)) (λ a b g. (g.0, g.2.0, g.1, g.2.1, g.2.2)) tokens rest
+      cut_as (Then (FirstAt (sign symbol.LeftParen) at) (Then (Spells u) (First (sign symbol.RightParen)))) (Spells (bracket_syntax at u)) (λ a b g. (g.0, g.2.0, g.1, g.2.1, g.2.2)) tokens rest
       (
-      cut_then (FirstAt (sign mark.Open) at) (Then (Spells u) (First (sign mark.Close))) tokens s.0 rest (cut_at (sign mark.Open) at tokens s.0 s.2)
-      (cut_then (Spells u) (First (sign mark.Close)) s.0 s.1 rest (unit_cut u s.0 s.1 s.3) (cut_first (sign mark.Close) s.1 rest s.4))
+      cut_then (FirstAt (sign symbol.LeftParen) at) (Then (Spells u) (First (sign symbol.RightParen))) tokens s.0 rest (cut_at (sign symbol.LeftParen) at tokens s.0 s.2)
+      (cut_then (Spells u) (First (sign symbol.RightParen)) s.0 s.1 rest (unit_cut u s.0 s.1 s.3) (cut_first (sign symbol.RightParen) s.1 rest s.4))
       )
 
   all_cut : (us : UnitSyntaxes) (tokens rest : List Token) → AllSpell us tokens rest → Cut (AllSpell us) tokens rest

@@ -13,7 +13,7 @@ reduced_opens (InBracket at ∷ old) t frames u e = let same : frames ≡ InBrac
 reduced_opens (InInverse at ∷ old) t frames u e = reduced_opens old (inverse_syntax at t) frames u e
 reduced_opens (InTimes left ∷ old) t frames u e = reduced_opens old (times_syntax left t) frames u e
 reduced_opens (InOver left ∷ old) t frames u e = reduced_opens old (over_syntax left t) frames u e
-reduced_opens (InSide front ∷ old) t frames u e = reduced_opens old (side_syntax (units_in_order (front ++ t ∷ []))) frames u e
+reduced_opens (InSide earlier ∷ old) t frames u e = reduced_opens old (side_syntax (units_in_order (earlier ++ t ∷ []))) frames u e
 
 opens_stays : (frames : List Frame) (u : UnitSyntax) → opens frames ≡ true → reduce frames u ≡ Have frames u
 opens_stays [] u e = refl
@@ -21,7 +21,7 @@ opens_stays (InBracket at ∷ frames) u e = refl
 opens_stays (InInverse at ∷ frames) u e = absurd cc
 opens_stays (InTimes left ∷ frames) u e = absurd cc
 opens_stays (InOver left ∷ frames) u e = absurd cc
-opens_stays (InSide front ∷ frames) u e = absurd cc
+opens_stays (InSide earlier ∷ frames) u e = absurd cc
 
 -- once all has ended, nothing more ends
 pub reduced_stays : (old : List Frame) (t : UnitSyntax) (frames : List Frame) (u : UnitSyntax) → Have frames u ≡ reduce old t → reduce frames u ≡ reduce old t
@@ -38,7 +38,7 @@ both_none (InBracket at ∷ frames) a b = absurd cc
 both_none (InInverse at ∷ frames) a b = absurd cc
 both_none (InTimes left ∷ frames) a b = absurd cc
 both_none (InOver left ∷ frames) a b = absurd cc
-both_none (InSide front ∷ frames) a b = absurd cc
+both_none (InSide earlier ∷ frames) a b = absurd cc
 
 -- where no brackets are open, none close, and all has ended
 pub none_close : (old : List Frame) (t : UnitSyntax) (frames new : List Frame) (u : UnitSyntax) → Have frames u ≡ reduce old t → ((frames ≡ []) × (new ≡ [])) ⊎ (ends_itself frames ≡ true)

@@ -1,17 +1,17 @@
 -- The least height of a unit text that the tokens begin: it is reached, and none is lower.
-use Rattle.std.proofs.Common.{◌≡◌, ◌≢◌, ℕ, ◌+◌, ◌≤◌, max, List, [], ◌∷◌, ◌++◌, cond, Bool, true, false, Some, None, refl, sym, ap, subst, ◌∙◌, arith}
+use Rattle.std.proofs.Common.{◌≡◌, ◌≢◌, ℕ, ◌+◌, ◌≤◌, max, List, [], ◌∷◌, ◌++◌, cond, Bool, true, false, Some, refl, sym, ap, subst, ◌∙◌, arith}
 use Rattle.um_syntax.specs.declared.token.Token.{Token}
 use Rattle.um_tree.specs.RawTree.{UnitSyntax, one_syntax, measure_syntax, variable_syntax, power_syntax, side_syntax, times_syntax, over_syntax, inverse_syntax, bracket_syntax, units_in_order}
 use Rattle.um_tree.specs.Heights.{unit_height, tallest_unit}
 use Rattle.um_types.specs.UnitTokens.{UnitToken, sign, measure, variable, number, unit_token}
-use Rattle.um_types.specs.declared.unit_mark.Mark.TheVariants as mark
+use Rattle.um_syntax.specs.declared.vocabulary.Symbol.TheVariants as symbol
 use Rattle.um_types.specs.UnitGrammar.{IsUnit, BeginsWithin}
 use Rattle.um_types.specs.UnitMachine.{Frame, InBracket, InInverse, InTimes, InOver, InSide, State, Need, Have, Raised, Lowered, Refused, opens, reduce, juxtapose, begin, times_after, over_after, close_after, raise, after, raised, lowered, act, run, whole, finish}
 use Rattle.um_types.specs.UnitLeast.{side, least_over, least}
-use Rattle.um_types.proofs.UnitComplete.{into, red, red_into, AtHand, into_hand}
+use Rattle.um_types.proofs.UnitComplete.{into, red, red_into, IsAtOperand, into_operand}
 use Rattle.um_types.proofs.UnitLaws.{filled, all_filled, ending_of, completed, can_go_on, run_append, run_refused, reads_as}
 
-tallest_last : (front : List UnitSyntax) (t : UnitSyntax) → tallest_unit (units_in_order (front ++ t ∷ [])) ≡ max (tallest_unit (units_in_order front)) (unit_height t)
+tallest_last : (earlier : List UnitSyntax) (t : UnitSyntax) → tallest_unit (units_in_order (earlier ++ t ∷ [])) ≡ max (tallest_unit (units_in_order earlier)) (unit_height t)
 tallest_last [] t = omega arith
 tallest_last (u ∷ us) t = let e = tallest_last us t in omega (arith, e)
 
@@ -20,7 +20,7 @@ height_filled (InBracket at) t = omega arith
 height_filled (InInverse at) t = omega arith
 height_filled (InTimes left) t = refl
 height_filled (InOver left) t = refl
-height_filled (InSide front) t = ap (λ n. n + 1) (tallest_last front t)
+height_filled (InSide earlier) t = ap (λ n. n + 1) (tallest_last earlier t)
 
 height_all_filled : (frames : List Frame) (t : UnitSyntax) → unit_height (all_filled frames t) ≡ least_over frames (unit_height t)
 height_all_filled [] t = refl
@@ -50,8 +50,8 @@ reduce_least (InBracket at ∷ frames) t = refl
 reduce_least (InInverse at ∷ frames) t = reduce_least frames (inverse_syntax at t) ∙ ap (least_over frames) (height_filled (InInverse at) t)
 reduce_least (InTimes left ∷ frames) t = reduce_least frames (times_syntax left t)
 reduce_least (InOver left ∷ frames) t = reduce_least frames (over_syntax left t)
-reduce_least (InSide front ∷ frames) t =
-    reduce_least frames (side_syntax (units_in_order (front ++ t ∷ []))) ∙ ap (least_over frames) (height_filled (InSide front) t)
+reduce_least (InSide earlier ∷ frames) t =
+    reduce_least frames (side_syntax (units_in_order (earlier ++ t ∷ []))) ∙ ap (least_over frames) (height_filled (InSide earlier) t)
 
 abbrev Above : ℕ → State → Type 0
 Above n Refused = Unit {0}
@@ -76,13 +76,9 @@ begin_up frames (measure x) at = omega arith
 begin_up frames (variable x) at = omega arith
 begin_up frames (number true power) at = omega arith
 begin_up frames (number false power) at = tt
-begin_up frames (sign mark.Open) at = least_up frames 1 2 (omega arith)
-begin_up frames (sign mark.Over) at = inverse_up frames (opens frames) at
-begin_up frames (sign mark.Close) at = tt
-begin_up frames (sign mark.Times) at = tt
-begin_up frames (sign mark.Caret) at = tt
-begin_up frames (sign mark.Minus) at = tt
-begin_up frames (sign mark.Other) at = tt
+begin_up frames (sign symbol.LeftParen) at = least_up frames 1 2 (omega arith)
+begin_up frames (sign symbol.Slash) at = inverse_up frames (opens frames) at
+begin_up frames _ at = tt
 
 first_up : (frames : List Frame) (t : UnitSyntax) → least_over frames (unit_height t) ≤ least_over (InSide (t ∷ []) ∷ frames) 1
 first_up frames t = least_up frames (unit_height t) (max (tallest_unit (units_in_order (t ∷ []))) 1 + 1) (omega arith)
@@ -93,9 +89,9 @@ juxtapose_up (InBracket at ∷ frames) t = first_up (InBracket at ∷ frames) t
 juxtapose_up (InInverse at ∷ frames) t = first_up (InInverse at ∷ frames) t
 juxtapose_up (InTimes left ∷ frames) t = first_up (InTimes left ∷ frames) t
 juxtapose_up (InOver left ∷ frames) t = first_up (InOver left ∷ frames) t
-juxtapose_up (InSide front ∷ frames) t =
-    let e = tallest_last front t in
-    least_up frames (max (tallest_unit (units_in_order front)) (unit_height t) + 1) (max (tallest_unit (units_in_order (front ++ t ∷ []))) 1 + 1) (omega (arith, e))
+juxtapose_up (InSide earlier ∷ frames) t =
+    let e = tallest_last earlier t in
+    least_up frames (max (tallest_unit (units_in_order earlier)) (unit_height t) + 1) (max (tallest_unit (units_in_order (earlier ++ t ∷ []))) 1 + 1) (omega (arith, e))
 
 next_up : (frames : List Frame) (t : UnitSyntax) (what : UnitToken) (at : ℕ) → Above (least_over frames (unit_height t)) (begin (juxtapose frames t) what at)
 next_up frames t what at =
@@ -121,7 +117,7 @@ close_up (Have [] t) = tt
 close_up (Have (InInverse at ∷ frames) t) = tt
 close_up (Have (InTimes left ∷ frames) t) = tt
 close_up (Have (InOver left ∷ frames) t) = tt
-close_up (Have (InSide front ∷ frames) t) = tt
+close_up (Have (InSide earlier ∷ frames) t) = tt
 close_up (Need frames) = tt
 close_up (Raised frames t) = tt
 close_up (Lowered frames t) = tt
@@ -145,33 +141,21 @@ after_up : (frames : List Frame) (t : UnitSyntax) (what : UnitToken) (at : ℕ) 
 after_up frames t (measure x) at = next_up frames t (measure x) at
 after_up frames t (variable x) at = next_up frames t (variable x) at
 after_up frames t (number one power) at = next_up frames t (number one power) at
-after_up frames t (sign mark.Open) at = next_up frames t (sign mark.Open) at
-after_up frames t (sign mark.Close) at = ended_up frames t (close_after (reduce frames t)) (close_up (reduce frames t))
-after_up frames t (sign mark.Times) at = ended_up frames t (times_after (reduce frames t)) (times_up (reduce frames t))
-after_up frames t (sign mark.Over) at = ended_up frames t (over_after (reduce frames t)) (over_up (reduce frames t))
-after_up frames t (sign mark.Caret) at = raise_up frames t
-after_up frames t (sign mark.Minus) at = tt
-after_up frames t (sign mark.Other) at = tt
+after_up frames t (sign symbol.LeftParen) at = next_up frames t (sign symbol.LeftParen) at
+after_up frames t (sign symbol.RightParen) at = ended_up frames t (close_after (reduce frames t)) (close_up (reduce frames t))
+after_up frames t (sign symbol.Star) at = ended_up frames t (times_after (reduce frames t)) (times_up (reduce frames t))
+after_up frames t (sign symbol.Slash) at = ended_up frames t (over_after (reduce frames t)) (over_up (reduce frames t))
+after_up frames t (sign symbol.Caret) at = raise_up frames t
+after_up frames t _ at = tt
 
 raised_up : (frames : List Frame) (t : UnitSyntax) (what : UnitToken) → Above (least_over frames (unit_height t + 1)) (raised frames t what)
 raised_up frames t (number one (Some n)) = omega arith
-raised_up frames t (number one None) = tt
-raised_up frames t (sign mark.Minus) = omega arith
-raised_up frames t (measure x) = tt
-raised_up frames t (variable x) = tt
-raised_up frames t (sign mark.Open) = tt
-raised_up frames t (sign mark.Close) = tt
-raised_up frames t (sign mark.Times) = tt
-raised_up frames t (sign mark.Over) = tt
-raised_up frames t (sign mark.Caret) = tt
-raised_up frames t (sign mark.Other) = tt
+raised_up frames t (sign symbol.Minus) = omega arith
+raised_up frames t _ = tt
 
 lowered_up : (frames : List Frame) (t : UnitSyntax) (what : UnitToken) → Above (least_over frames (unit_height t + 1)) (lowered frames t what)
 lowered_up frames t (number one (Some n)) = omega arith
-lowered_up frames t (number one None) = tt
-lowered_up frames t (sign m) = tt
-lowered_up frames t (measure x) = tt
-lowered_up frames t (variable x) = tt
+lowered_up frames t _ = tt
 
 act_up : (st : State) (what : UnitToken) (at : ℕ) → Above (least st) (act st what at)
 act_up (Need frames) what at = begin_up frames what at
@@ -194,27 +178,27 @@ run_up (token ∷ tokens) st ok =
     let goes : next ≢ Refused = λ e. ok (ap (λ s. run s tokens) e ∙ run_refused tokens) in
     omega (arith, above_least (least st) next goes (act_up st (unit_token token.kind) token.start), run_up tokens next ok)
 
-hand_least : (st : State) → AtHand st → least (red st) ≡ least st
-hand_least (Have frames t) h = reduce_least frames t
-hand_least (Need frames) h = absurd h
-hand_least (Raised frames t) h = absurd h
-hand_least (Lowered frames t) h = absurd h
-hand_least Refused h = absurd h
+operand_least : (st : State) → IsAtOperand st → least (red st) ≡ least st
+operand_least (Have frames t) h = reduce_least frames t
+operand_least (Need frames) h = absurd h
+operand_least (Raised frames t) h = absurd h
+operand_least (Lowered frames t) h = absurd h
+operand_least Refused h = absurd h
 
-hand_reads : (st : State) → AtHand st → st ≢ Refused
-hand_reads (Have frames t) h e = cc
-hand_reads (Need frames) h e = absurd h
-hand_reads (Raised frames t) h e = absurd h
-hand_reads (Lowered frames t) h e = absurd h
-hand_reads Refused h e = absurd h
+operand_reads : (st : State) → IsAtOperand st → st ≢ Refused
+operand_reads (Have frames t) h e = cc
+operand_reads (Need frames) h e = absurd h
+operand_reads (Raised frames t) h e = absurd h
+operand_reads (Lowered frames t) h e = absurd h
+operand_reads Refused h e = absurd h
 
 -- no unit text that the tokens begin is lower
 pub none_lower : (tokens more : List Token) (t : UnitSyntax) → IsUnit (tokens ++ more) t → least (run (Need []) tokens) ≤ unit_height t
 none_lower tokens more t p =
-    let hand = into_hand t [] p.fits in
+    let focus = into_operand t [] p.fits in
     let e : run (run (Need []) tokens) more ≡ into [] t = sym (run_append tokens more (Need [])) ∙ reads_as t (tokens ++ more) p in
-    let up : least (run (Need []) tokens) ≤ least (run (run (Need []) tokens) more) = run_up more (run (Need []) tokens) (λ h. hand_reads (into [] t) hand (sym e ∙ h)) in
-    let same : least (into [] t) ≡ unit_height t = sym (hand_least (into [] t) hand) ∙ ap least (red_into t [] p.fits) in
+    let up : least (run (Need []) tokens) ≤ least (run (run (Need []) tokens) more) = run_up more (run (Need []) tokens) (λ h. operand_reads (into [] t) focus (sym e ∙ h)) in
+    let same : least (into [] t) ≡ unit_height t = sym (operand_least (into [] t) focus) ∙ ap least (red_into t [] p.fits) in
     omega (arith, up, ap least e, same)
 
 -- what is found has the least height

@@ -7,12 +7,13 @@ use Rattle.um_frac.specs.declared.number.Frac.{Frac}
 use Rattle.um_frac.specs.Gcd.{gcd}
 use Rattle.um_syntax.specs.declared.token.Token.{Token}
 use Rattle.um_syntax.specs.declared.token.Kind.TheVariants as kind
+use Rattle.um_syntax.specs.declared.vocabulary.Symbol.TheVariants as symbol
 use Rattle.um_tree.specs.RawTree.{UnitSyntax, measure_syntax, power_syntax, side_syntax, times_syntax, over_syntax, inverse_syntax, bracket_syntax, units_in_order}
 use Rattle.um_types.specs.UnitTokens.{unit_token}
 use Rattle.um_types.specs.UnitGrammar.{Spells, rank, Fits, IsUnit, Begins}
 use Rattle.um_types.specs.UnitMachine.{Frame, InBracket, InInverse, InTimes, InOver, InSide, State, Need, Have, Raised, Lowered, Refused, top_limit, act, run, whole, finish}
-use Rattle.um_types.proofs.UnitComplete.{into, red, red_into, rank_low, complete, AtHand, into_hand}
-use Rattle.um_types.proofs.UnitSound.{Opened, FramesFit, Stands, limit_low, side_fits, spells_last, stands, is_unit}
+use Rattle.um_types.proofs.UnitComplete.{into, red, red_into, rank_low, complete, IsAtOperand, into_operand}
+use Rattle.um_types.proofs.UnitSound.{Opened, FramesFit, SpellsPrefix, limit_low, side_fits, spells_last, spells_prefix, is_unit}
 
 pub lowest_zero : gcd 0 1 ≡ 1
 unfolding gcd
@@ -29,7 +30,7 @@ abbrev number_token : Token
 number_token = record { kind = kind.Number zero_number true false; start = 0; end = 0; glued = false }
 
 abbrev close_token : Token
-close_token = record { kind = kind.Sign 1; start = 0; end = 0; glued = false }
+close_token = record { kind = kind.Sign symbol.RightParen; start = 0; end = 0; glued = false }
 
 -- the least that ends what is open, and the unit text then
 abbrev pub endings : List Frame → List Token
@@ -38,14 +39,14 @@ endings (InBracket at ∷ frames) = close_token ∷ endings frames
 endings (InInverse at ∷ frames) = endings frames
 endings (InTimes left ∷ frames) = endings frames
 endings (InOver left ∷ frames) = endings frames
-endings (InSide front ∷ frames) = endings frames
+endings (InSide earlier ∷ frames) = endings frames
 
 abbrev pub filled : Frame → UnitSyntax → UnitSyntax
 filled (InBracket at) t = bracket_syntax at t
 filled (InInverse at) t = inverse_syntax at t
 filled (InTimes left) t = times_syntax left t
 filled (InOver left) t = over_syntax left t
-filled (InSide front) t = side_syntax (units_in_order (front ++ t ∷ []))
+filled (InSide earlier) t = side_syntax (units_in_order (earlier ++ t ∷ []))
 
 abbrev pub all_filled : List Frame → UnitSyntax → UnitSyntax
 all_filled [] t = t
@@ -72,11 +73,11 @@ ends (InBracket at ∷ frames) t tokens mid o s f fits le =
 ends (InInverse at ∷ frames) t tokens mid o s f fits le = ends frames (inverse_syntax at t) tokens o.0 o.1 (mid, o.2, s) f.1 (le, fits) f.0
 ends (InTimes left ∷ frames) t tokens mid o s f fits le = ends frames (times_syntax left t) tokens o.0 o.2 (o.1, mid, o.3, o.4, s) f.1 (le, f.0.1, fits) f.0.0
 ends (InOver left ∷ frames) t tokens mid o s f fits le = ends frames (over_syntax left t) tokens o.0 o.2 (o.1, mid, o.3, o.4, s) f.1 (le, f.0.1, fits) f.0.0
-ends (InSide front ∷ frames) t tokens mid o s f fits le =
-    ends frames (side_syntax (units_in_order (front ++ t ∷ []))) tokens o.0 o.1 (spells_last front t o.0 mid (endings frames) o.2 s) f.1 (side_fits front t f.0.1 f.0.2 fits le) f.0.0
+ends (InSide earlier ∷ frames) t tokens mid o s f fits le =
+    ends frames (side_syntax (units_in_order (earlier ++ t ∷ []))) tokens o.0 o.1 (spells_last earlier t o.0 mid (endings frames) o.2 s) f.1 (side_fits earlier t f.0.1 f.0.2 fits le) f.0.0
 
 -- what isn't refused can be completed
-can_end : (st : State) (tokens : List Token) → Stands st tokens (ending_of st) → st ≢ Refused → IsUnit tokens (completed st)
+can_end : (st : State) (tokens : List Token) → SpellsPrefix st tokens (ending_of st) → st ≢ Refused → IsUnit tokens (completed st)
 can_end (Need frames) tokens h ok =
     ends frames (measure_syntax 0 []) tokens (name_token ∷ endings frames) h.0 (name_token, refl, refl, refl) h.1 tt (omega (arith, limit_low frames))
 can_end (Have frames t) tokens h ok = ends frames t tokens h.0 h.1 h.2 h.3 h.4 (omega (arith, h.5, limit_low frames))
@@ -88,7 +89,7 @@ can_end (Lowered frames t) tokens h ok =
 can_end Refused tokens h ok = absurd (ok refl)
 
 pub can_go_on : (read : List Token) → run (Need []) read ≢ Refused → IsUnit (read ++ ending_of (run (Need []) read)) (completed (run (Need []) read))
-can_go_on read ok = can_end (run (Need []) read) (read ++ ending_of (run (Need []) read)) (stands read (ending_of (run (Need []) read))) ok
+can_go_on read ok = can_end (run (Need []) read) (read ++ ending_of (run (Need []) read)) (spells_prefix read (ending_of (run (Need []) read))) ok
 
 pub begins : (read : List Token) → run (Need []) read ≢ Refused → Begins read
 begins read ok = (ending_of (run (Need []) read), completed (run (Need []) read), can_go_on read ok)
@@ -101,12 +102,12 @@ pub run_refused : (tokens : List Token) → run Refused tokens ≡ Refused
 run_refused [] = refl
 run_refused (token ∷ tokens) = run_refused tokens
 
-hand_goes_on : (st : State) → AtHand st → st ≢ Refused
-hand_goes_on (Have frames t) h e = cc
-hand_goes_on (Need frames) h e = absurd h
-hand_goes_on (Raised frames t) h e = absurd h
-hand_goes_on (Lowered frames t) h e = absurd h
-hand_goes_on Refused h e = absurd h
+operand_goes_on : (st : State) → IsAtOperand st → st ≢ Refused
+operand_goes_on (Have frames t) h e = cc
+operand_goes_on (Need frames) h e = absurd h
+operand_goes_on (Raised frames t) h e = absurd h
+operand_goes_on (Lowered frames t) h e = absurd h
+operand_goes_on Refused h e = absurd h
 
 pub reads_as : (t : UnitSyntax) (tokens : List Token) → IsUnit tokens t → run (Need []) tokens ≡ into [] t
 reads_as t tokens p = complete t [] tokens [] p.spelled p.fits (rank_low t)
@@ -114,7 +115,7 @@ reads_as t tokens p = complete t [] tokens [] p.spelled p.fits (rank_low t)
 -- what was refused begins no unit text
 pub none_begins : (tokens : List Token) → run (Need []) tokens ≡ Refused → Begins tokens → ⊥
 none_begins tokens e b =
-    hand_goes_on (into [] b.1) (into_hand b.1 [] b.2.fits)
+    operand_goes_on (into [] b.1) (into_operand b.1 [] b.2.fits)
     (sym (reads_as b.1 (tokens ++ b.0) b.2) ∙ run_append tokens b.0 (Need []) ∙ ap (λ s. run s b.0) e ∙ run_refused b.0)
 
 pub finish_red : (st : State) → finish st ≡ whole (red st)
@@ -134,4 +135,4 @@ one_unit tokens t u p q = let e : Some t ≡ Some u = sym (finds tokens t p) ∙
 
 -- what is found is a unit text
 pub found : (tokens : List Token) (t : UnitSyntax) → finish (run (Need []) tokens) ≡ Some t → IsUnit tokens t
-found tokens t e = is_unit (run (Need []) tokens) t tokens (subst (λ w. Stands (run (Need []) tokens) w []) (append-nil tokens) (stands tokens [])) e
+found tokens t e = is_unit (run (Need []) tokens) t tokens (subst (λ w. SpellsPrefix (run (Need []) tokens) w []) (append-nil tokens) (spells_prefix tokens [])) e

@@ -1,11 +1,10 @@
 -- The laws of unit texts for a reader that holds the machine of units inside: what is read stands up to a rest that may be anything.
-use Rattle.std.proofs.Common.{◌≡◌, ◌≢◌, ℕ, ◌≤◌, List, [], ◌∷◌, ◌++◌, Option, Some, None, refl, sym, ap, subst, ◌∙◌, append_assoc}
+use Rattle.std.proofs.Common.{◌≡◌, ◌≢◌, ◌≤◌, List, [], ◌∷◌, ◌++◌, Option, Some, None, refl, sym, ap, subst, ◌∙◌, append_assoc}
 use Rattle.um_syntax.specs.declared.token.Token.{Token}
 use Rattle.um_tree.specs.RawTree.{UnitSyntax}
-use Rattle.um_types.specs.UnitTokens.{sign, unit_token}
-use Rattle.um_types.specs.declared.unit_mark.Mark.TheVariants as mark
+use Rattle.um_types.specs.UnitTokens.{unit_token}
 use Rattle.um_types.specs.UnitGrammar.{Spells, Fits, IsUnit}
-use Rattle.um_types.specs.UnitMachine.{State, Need, Have, Raised, Lowered, Refused, act, run, whole, finish}
+use Rattle.um_types.specs.UnitMachine.{State, Need, Refused, act, run, whole, finish}
 use Rattle.um_types.specs.UnitLeast.{least}
 use Rattle.um_types.specs.Machines.{runs, Reaches}
 use Rattle.um_types.proofs.UnitComplete.{into, red_into}
@@ -35,33 +34,25 @@ pub unit_reaches : (u : UnitSyntax) (tokens rest : List Token) → Spells u toke
 unit_reaches u tokens rest s fits =
     let c = cut_unit u tokens rest s fits in (c.0, c.1, runs_unit c.0 (Need []) ∙ reads_as u c.0 c.2, into_goes_on u fits)
 
--- a token that stands in no unit text is refused behind it
-pub other_refused : (st : State) (at : ℕ) → act st (sign mark.Other) at ≡ Refused
-other_refused (Need frames) at = refl
-other_refused (Have frames t) at = refl
-other_refused (Raised frames t) at = refl
-other_refused (Lowered frames t) at = refl
-other_refused Refused at = refl
-
 -- the tokens up to the rest are those of the state, which hasn't refused
-abbrev pub UnitStands : State → List Token → List Token → Type 0
-UnitStands u tokens rest = (read : List Token) × (tokens ≡ read ++ rest) × (run (Need []) read ≡ u) × (u ≢ Refused)
+abbrev pub UnitSpellsPrefix : State → List Token → List Token → Type 0
+UnitSpellsPrefix u tokens rest = (read : List Token) × (tokens ≡ read ++ rest) × (run (Need []) read ≡ u) × (u ≢ Refused)
 
-pub unit_begins : (tokens : List Token) → UnitStands (Need []) tokens tokens
+pub unit_begins : (tokens : List Token) → UnitSpellsPrefix (Need []) tokens tokens
 unit_begins tokens = ([], refl, refl, (λ e. cc))
 
 -- the token that is read goes over to the state
-pub unit_sound : (u : State) (x : Token) (tokens rest : List Token) → UnitStands u tokens (x ∷ rest) → unit_step u x ≢ Refused → UnitStands (unit_step u x) tokens rest
+pub unit_sound : (u : State) (x : Token) (tokens rest : List Token) → UnitSpellsPrefix u tokens (x ∷ rest) → unit_step u x ≢ Refused → UnitSpellsPrefix (unit_step u x) tokens rest
 unit_sound u x tokens rest h ok =
     (h.0 ++ x ∷ [], h.1 ∙ sym (append_assoc h.0 (x ∷ []) rest), run_append h.0 (x ∷ []) (Need []) ∙ ap (λ s. unit_step s x) h.2, ok)
 
 -- what is found is a unit text
-pub unit_found : (u : State) (t : UnitSyntax) (tokens rest : List Token) → UnitStands u tokens rest → finish u ≡ Some t → Spells t tokens rest × Fits t
+pub unit_found : (u : State) (t : UnitSyntax) (tokens rest : List Token) → UnitSpellsPrefix u tokens rest → finish u ≡ Some t → Spells t tokens rest × Fits t
 unit_found u t tokens rest h e =
     let p : IsUnit h.0 t = found h.0 t (ap finish h.2 ∙ e) in (subst (λ s. Spells t s rest) (sym h.1) (unit_before t h.0 rest p), p.fits)
 
 -- what isn't refused can be completed
-pub unit_can_end : (u : State) (tokens rest : List Token) → UnitStands u tokens (ending_of u ++ rest) → Spells (completed u) tokens rest × Fits (completed u)
+pub unit_can_end : (u : State) (tokens rest : List Token) → UnitSpellsPrefix u tokens (ending_of u ++ rest) → Spells (completed u) tokens rest × Fits (completed u)
 unit_can_end u tokens rest h =
     let run_ok : run (Need []) h.0 ≢ Refused = λ e. h.3 (sym h.2 ∙ e) in
     let p : IsUnit (h.0 ++ ending_of u) (completed u) = subst (λ s. IsUnit (h.0 ++ ending_of s) (completed s)) h.2 (can_go_on h.0 run_ok) in

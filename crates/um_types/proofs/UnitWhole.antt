@@ -4,7 +4,7 @@ use Rattle.um_syntax.specs.declared.token.Token.{Token}
 use Rattle.um_tree.specs.RawTree.{UnitSyntax}
 use Rattle.um_types.specs.UnitMachine.{Refused, finish}
 use Rattle.um_types.specs.UnitLeast.{least}
-use Rattle.um_types.specs.UnitStops.{StopsAt, Reads, Misread, HighAt}
+use Rattle.um_types.specs.UnitStops.{greatest_height, StopsAt, Reads, Misread, HighAt}
 use Rattle.um_types.specs.UnitStates.{state_at, IsRead}
 use Rattle.um_types.proofs.UnitLaws.{begins, none_begins, finds, found}
 use Rattle.um_types.proofs.UnitHeights.{begins_within, none_lower, found_height}
@@ -28,14 +28,14 @@ pub misread : (tokens : List Token) (k : ℕ) → IsRead tokens k → (k < lengt
 misread tokens k r h e = record {
   stop = stops tokens k r h;
   none = λ u p. let bad : nothing ≡ Some u = sym e ∙ finds (take k tokens) u p in cc;
-  low = begins_within (take k tokens) 400 r.1 r.2;
+  low = begins_within (take k tokens) greatest_height r.1 r.2;
 }
 
 -- a token makes it too high
-pub too_high : (tokens : List Token) (k : ℕ) → IsRead tokens k → k < length tokens → state_at tokens (k + 1) ≢ Refused → 400 < least (state_at tokens (k + 1)) → HighAt tokens k
+pub too_high : (tokens : List Token) (k : ℕ) → IsRead tokens k → k < length tokens → state_at tokens (k + 1) ≢ Refused → greatest_height < least (state_at tokens (k + 1)) → HighAt tokens k
 too_high tokens k r lt ok high = record {
   within = lt;
-  before = begins_within (take k tokens) 400 r.1 r.2;
+  before = begins_within (take k tokens) greatest_height r.1 r.2;
   through = begins (take (k + 1) tokens) ok;
   none = λ b. let low = none_lower (take (k + 1) tokens) b.0 b.1 b.2 in let le = b.3 in absurd (omega (arith, low, le));
 }

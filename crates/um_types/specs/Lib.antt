@@ -1,25 +1,29 @@
+-- To be trusted, in reading order: what a token is to unit texts, the grammars, the limits, what the calls answer.
 pub mod UnitTokens
 pub mod UnitGrammar
-pub mod UnitMachine
 pub mod UnitStops
+pub mod UnitParsed
+pub mod TypeGrammar
+pub mod TypeHeights
+pub mod SignatureGrammar
+pub mod SignatureParsed
+pub mod Prefixes
+pub mod Laws
+-- What mirrors the code: the machines that read token by token, and the readers by the machines' states. The clauses of
+-- the readers rest on these; `Laws` says by the grammars alone what they come to.
+pub mod Machines
+pub mod UnitMachine
 pub mod UnitLeast
 pub mod UnitCount
 pub mod UnitView
 pub mod UnitStates
 pub mod UnitReads
 pub mod UnitAnswer
-pub mod UnitParsed
-pub mod TypeTokens
-pub mod TypeGrammar
-pub mod TypeHeights
-pub mod SignatureGrammar
-pub mod SignatureParsed
-pub mod Machines
-pub mod NoteMachine
-pub mod TypeMachine
-pub mod SignatureMachine
 pub mod UnitTakes
+pub mod NoteMachine
 pub mod NoteTakes
+pub mod TypeMachine
 pub mod TypeView
 pub mod TypeTakes
+pub mod SignatureMachine
 pub mod SignatureReads

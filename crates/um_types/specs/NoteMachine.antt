@@ -29,7 +29,8 @@ abbrev pub note_begin : Kind → ℕ → NoteState
 note_begin kind.Hole at = HaveHole at
 note_begin (kind.Name x) at = unit_goes at (act (Need []) (unit_token (kind.Name x)) at)
 note_begin (kind.Var x) at = unit_goes at (act (Need []) (unit_token (kind.Var x)) at)
-note_begin (kind.Number value digits one) at = unit_goes at (act (Need []) (unit_token (kind.Number value digits one)) at)
+note_begin (kind.Number value digits one) at =
+    unit_goes at (act (Need []) (unit_token (kind.Number value digits one)) at)
 note_begin (kind.Word k) at = unit_goes at (act (Need []) (unit_token (kind.Word k)) at)
 note_begin (kind.Sign k) at = unit_goes at (act (Need []) (unit_token (kind.Sign k)) at)
 

@@ -3,63 +3,54 @@
 use Rattle.std.specs.Prelude.{ℕ, max, List, [], ◌∷◌, ◌++◌, Option, Some, None}
 use Rattle.um_syntax.specs.declared.token.Token.{Token}
 use Rattle.um_syntax.specs.declared.token.Kind.{Kind}
+use Rattle.um_syntax.specs.declared.token.Kind.TheVariants as kind
+use Rattle.um_syntax.specs.declared.vocabulary.Symbol.TheVariants as symbol
 use Rattle.um_tree.specs.RawTree.{TypeSyntax}
-use Rattle.um_types.specs.TypeTokens.{TypeToken, symbol, name, type_token}
 use Rattle.um_types.specs.TypeHeights.{all_height}
 use Rattle.um_types.specs.Machines.{runs}
 use Rattle.um_types.specs.TypeMachine.{TypeState, NeedType, HaveType, InNote, NoType, type_act, type_finish, type_least}
-use Rattle.um_types.specs.declared.type_symbol.Symbol.TheVariants as symbol_of
 
 -- a type text behind these
 pub data SignatureState : Type 0 where
-  InType : (front : List TypeSyntax) (type : TypeState) → SignatureState
+  InType : (earlier : List TypeSyntax) (type : TypeState) → SignatureState
   NoSignature : SignatureState
 
 -- the token behind a type
-abbrev pub type_end : List TypeSyntax → TypeSyntax → TypeToken → SignatureState
-type_end front t (symbol symbol_of.Arrow) = InType (front ++ t ∷ []) (NeedType 0)
-type_end front t (symbol symbol_of.Num) = NoSignature
-type_end front t (symbol symbol_of.Bool) = NoSignature
-type_end front t (symbol symbol_of.List) = NoSignature
-type_end front t (symbol symbol_of.Open) = NoSignature
-type_end front t (symbol symbol_of.Close) = NoSignature
-type_end front t (symbol symbol_of.Less) = NoSignature
-type_end front t (symbol symbol_of.Greater) = NoSignature
-type_end front t (symbol symbol_of.Comma) = NoSignature
-type_end front t (symbol symbol_of.Other) = NoSignature
-type_end front t (name x) = NoSignature
+abbrev pub type_end : List TypeSyntax → TypeSyntax → Kind → SignatureState
+type_end earlier t (kind.Sign symbol.Arrow) = InType (earlier ++ t ∷ []) (NeedType 0)
+type_end earlier t _ = NoSignature
 
-abbrev pub type_ends : List TypeSyntax → Option TypeSyntax → TypeToken → SignatureState
-type_ends front None token = NoSignature
-type_ends front (Some t) token = type_end front t token
+abbrev pub type_ends : List TypeSyntax → Option TypeSyntax → Kind → SignatureState
+type_ends earlier None token = NoSignature
+type_ends earlier (Some t) token = type_end earlier t token
 
 -- the type goes on, or ends
 abbrev pub type_goes : List TypeSyntax → TypeState → SignatureState → SignatureState
-type_goes front (NeedType depth) ended = InType front (NeedType depth)
-type_goes front (HaveType depth t) ended = InType front (HaveType depth t)
-type_goes front (InNote depth owner n) ended = InType front (InNote depth owner n)
-type_goes front NoType ended = ended
+type_goes earlier (NeedType depth) ended = InType earlier (NeedType depth)
+type_goes earlier (HaveType depth t) ended = InType earlier (HaveType depth t)
+type_goes earlier (InNote depth owner n) ended = InType earlier (InNote depth owner n)
+type_goes earlier NoType ended = ended
 
 -- one token more
 abbrev pub signature_act : SignatureState → Kind → ℕ → SignatureState
-signature_act (InType front s) k at = type_goes front (type_act s k at) (type_ends front (type_finish s) (type_token k))
+signature_act (InType earlier s) k at = type_goes earlier (type_act s k at) (type_ends earlier (type_finish s) k)
 signature_act NoSignature k at = NoSignature
 
 abbrev pub signature_step : SignatureState → Token → SignatureState
 signature_step state token = signature_act state token.kind token.start
 
 abbrev pub typed : List TypeSyntax → Option TypeSyntax → Option (List TypeSyntax)
-typed front None = None
-typed front (Some t) = Some (front ++ t ∷ [])
+typed earlier None = None
+typed earlier (Some t) = Some (earlier ++ t ∷ [])
 
 -- the types where all is read
 abbrev pub signature_finish : SignatureState → Option (List TypeSyntax)
-signature_finish (InType front s) = typed front (type_finish s)
+signature_finish (InType earlier s) = typed earlier (type_finish s)
 signature_finish NoSignature = None
 
 -- the least that the greatest of the heights in a signature text is that begins with what was read
 abbrev pub signature_least : SignatureState → ℕ
-signature_least (InType front s) = max (all_height front) (type_least s)
+signature_least (InType earlier s) = max (all_height earlier) (type_least s)
 signature_least NoSignature = 0
 
 -- nothing was read yet

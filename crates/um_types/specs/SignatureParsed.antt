@@ -12,7 +12,9 @@ use Rattle.um_types.specs.TypeHeights.{all_height}
 use Rattle.um_types.specs.SignatureGrammar.{IsSignature, SignatureFails, SignatureHighAt}
 
 abbrev pub SignatureParsed : List Token → ℕ → Result RawTypes ParseStop → Type 0
-SignatureParsed tokens end (Ok types) = IsSignature tokens (type_syntaxes types) × (all_height (type_syntaxes types) ≤ greatest_height)
+SignatureParsed tokens end (Ok types) =
+    IsSignature tokens (type_syntaxes types) × (all_height (type_syntaxes types) ≤ greatest_height)
 SignatureParsed tokens end (Err (stop.Syntax at)) = (k : ℕ) × (at ≡ place_of tokens k end) × SignatureFails tokens k
-SignatureParsed tokens end (Err (stop.Limit kind at)) = (k : ℕ) × (kind ≡ limit.Height) × (at ≡ place_of tokens k end) × SignatureHighAt tokens k
+SignatureParsed tokens end (Err (stop.Limit kind at)) =
+    (k : ℕ) × (kind ≡ limit.Height) × (at ≡ place_of tokens k end) × SignatureHighAt tokens k
 SignatureParsed tokens end (Err stop.NoMemory) = Unit {0}

@@ -6,24 +6,36 @@
 -- records are this project's own.
 use Rattle.std.specs.Prelude.{◌≡◌, ℕ, List, [], ◌∷◌, Option, Some, None}
 use Rattle.um_syntax.specs.declared.token.Token.{Token}
+use Rattle.um_syntax.specs.declared.token.Kind.{Kind}
 use Rattle.um_syntax.specs.declared.token.Kind.TheVariants as kind
+use Rattle.um_syntax.specs.declared.vocabulary.Keyword.{Keyword}
+use Rattle.um_syntax.specs.declared.vocabulary.Keyword.TheVariants as keyword
+use Rattle.um_syntax.specs.declared.vocabulary.Symbol.{Symbol}
+use Rattle.um_syntax.specs.declared.vocabulary.Symbol.TheVariants as symbol
 use Rattle.um_tree.specs.RawTree.{NoteSyntax, hole_syntax, unit_note_syntax, TypeSyntax, bool_syntax, num_syntax, record_syntax, list_type_syntax, bracket_type_syntax}
 use Rattle.um_types.specs.UnitGrammar.{Spells, Fits}
-use Rattle.um_types.specs.TypeTokens.{symbol, name, type_token}
-use Rattle.um_types.specs.declared.type_symbol.Symbol.{Symbol}
-use Rattle.um_types.specs.declared.type_symbol.Symbol.TheVariants as symbol_of
 
--- the first token is this sign or word, and the others are the rest
-abbrev pub FirstSymbol : Symbol → List Token → List Token → Type 0
-FirstSymbol what tokens rest = (token : Token) × (type_token token.kind ≡ symbol what) × (tokens ≡ token ∷ rest)
+-- the first token is of this kind, and the others are the rest
+abbrev pub FirstKind : Kind → List Token → List Token → Type 0
+FirstKind what tokens rest = (token : Token) × (token.kind ≡ what) × (tokens ≡ token ∷ rest)
+
+abbrev pub FirstSign : Symbol → List Token → List Token → Type 0
+FirstSign what tokens rest = FirstKind (kind.Sign what) tokens rest
+
+abbrev pub FirstWord : Keyword → List Token → List Token → Type 0
+FirstWord what tokens rest = FirstKind (kind.Word what) tokens rest
+
+-- the same, with its place
+abbrev pub FirstKindAt : Kind → ℕ → List Token → List Token → Type 0
+FirstKindAt what at tokens rest = (token : Token) × (token.kind ≡ what) × (token.start ≡ at) × (tokens ≡ token ∷ rest)
 
 -- the first token is this name, at this place
 abbrev pub FirstName : ℕ → List ℕ → List Token → List Token → Type 0
-FirstName at x tokens rest = (token : Token) × (type_token token.kind ≡ name x) × (token.start ≡ at) × (tokens ≡ token ∷ rest)
+FirstName at x tokens rest = FirstKindAt (kind.Name x) at tokens rest
 
 -- the first token is `_`, at this place
 abbrev pub FirstHole : ℕ → List Token → List Token → Type 0
-FirstHole at tokens rest = (token : Token) × (token.kind ≡ kind.Hole) × (token.start ≡ at) × (tokens ≡ token ∷ rest)
+FirstHole at tokens rest = FirstKindAt kind.Hole at tokens rest
 
 -- the first token stands at this place
 abbrev pub BeginsAt : ℕ → List Token → Type 0
@@ -38,13 +50,16 @@ NoteSpells (unit_note_syntax at u) tokens rest = BeginsAt at tokens × Spells u 
 abbrev pub NotesSpell : List NoteSyntax → List Token → List Token → Type 0
 NotesSpell [] tokens rest = ⊥
 NotesSpell (n ∷ []) tokens rest = NoteSpells n tokens rest
-NotesSpell (n ∷ m ∷ ns) tokens rest = (mid next : List Token) × NoteSpells n tokens mid × FirstSymbol symbol_of.Comma mid next × NotesSpell (m ∷ ns) next rest
+NotesSpell (n ∷ m ∷ ns) tokens rest =
+    (mid next : List Token) × NoteSpells n tokens mid × FirstSign symbol.Comma mid next
+    × NotesSpell (m ∷ ns) next rest
 
 -- notes in angle brackets, or nothing where there are none
 abbrev pub AngledSpell : List NoteSyntax → List Token → List Token → Type 0
 AngledSpell [] tokens rest = tokens ≡ rest
 AngledSpell (n ∷ ns) tokens rest =
-    (next last : List Token) × FirstSymbol symbol_of.Less tokens next × NotesSpell (n ∷ ns) next last × FirstSymbol symbol_of.Greater last rest
+    (next last : List Token) × FirstSign symbol.Less tokens next × NotesSpell (n ∷ ns) next last
+    × FirstSign symbol.Greater last rest
 
 abbrev pub at_most_one : Option NoteSyntax → List NoteSyntax
 at_most_one None = []
@@ -52,12 +67,16 @@ at_most_one (Some n) = n ∷ []
 
 -- the tokens are those of the type text, and then the rest
 abbrev pub TypeSpells : TypeSyntax → List Token → List Token → Type 0
-TypeSpells bool_syntax tokens rest = FirstSymbol symbol_of.Bool tokens rest
-TypeSpells (num_syntax n) tokens rest = (next : List Token) × FirstSymbol symbol_of.Num tokens next × AngledSpell (at_most_one n) next rest
-TypeSpells (record_syntax at x ns) tokens rest = (next : List Token) × FirstName at x tokens next × AngledSpell ns next rest
-TypeSpells (list_type_syntax t) tokens rest = (mid : List Token) × TypeSpells t tokens mid × FirstSymbol symbol_of.List mid rest
+TypeSpells bool_syntax tokens rest = FirstWord keyword.Bool tokens rest
+TypeSpells (num_syntax n) tokens rest =
+    (next : List Token) × FirstWord keyword.Num tokens next × AngledSpell (at_most_one n) next rest
+TypeSpells (record_syntax at x ns) tokens rest =
+    (next : List Token) × FirstName at x tokens next × AngledSpell ns next rest
+TypeSpells (list_type_syntax t) tokens rest =
+    (mid : List Token) × TypeSpells t tokens mid × FirstWord keyword.List mid rest
 TypeSpells (bracket_type_syntax t) tokens rest =
-    (next last : List Token) × FirstSymbol symbol_of.Open tokens next × TypeSpells t next last × FirstSymbol symbol_of.Close last rest
+    (next last : List Token) × FirstSign symbol.LeftParen tokens next × TypeSpells t next last
+    × FirstSign symbol.RightParen last rest
 
 -- each unit text in it is one of the grammar; a type may stand at each place where the rules above put one
 abbrev pub NoteFits : NoteSyntax → Type 0

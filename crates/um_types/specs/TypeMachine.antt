@@ -1,40 +1,36 @@
--- Reading a type text token by token, with the machine of notes inside. Of what is open only brackets have to be counted.
+-- Reading a type text token by token, with the machine of notes inside. Of what is open only brackets have to be
+-- counted.
 -- Where the note inside refuses a token, it ends, and the token is looked at again.
 -- Source: this project's own.
 use Rattle.std.specs.Prelude.{ℕ, zero, suc, ◌+◌, max, List, [], ◌∷◌, ◌++◌, Option, Some, None}
 use Rattle.um_syntax.specs.declared.token.Token.{Token}
 use Rattle.um_syntax.specs.declared.token.Kind.{Kind}
+use Rattle.um_syntax.specs.declared.token.Kind.TheVariants as kind
+use Rattle.um_syntax.specs.declared.vocabulary.Keyword.TheVariants as keyword
+use Rattle.um_syntax.specs.declared.vocabulary.Symbol.TheVariants as symbol
 use Rattle.um_tree.specs.RawTree.{NoteSyntax, TypeSyntax, bool_syntax, num_syntax, record_syntax, list_type_syntax, bracket_type_syntax}
 use Rattle.um_tree.specs.Heights.{type_height}
-use Rattle.um_types.specs.TypeTokens.{TypeToken, symbol, name, type_token}
 use Rattle.um_types.specs.TypeHeights.{notes_height, units_height}
 use Rattle.um_types.specs.NoteMachine.{NoteState, NeedNote, HaveHole, InUnit, NoNote, note_act, note_finish, note_least}
-use Rattle.um_types.specs.declared.type_symbol.Symbol.TheVariants as symbol_of
 
 -- what the angle brackets belong to: `num`, or a name with the notes before the comma
 pub data Owner : Type 0 where
   OfNum : Owner
-  OfName : (at : ℕ) (name : List ℕ) (front : List NoteSyntax) → Owner
+  OfName : (at : ℕ) (name : List ℕ) (earlier : List NoteSyntax) → Owner
 
 -- each with the number of brackets that are open
 pub data TypeState : Type 0 where
   NeedType : (depth : ℕ) → TypeState
-  HaveType : (depth : ℕ) (at_hand : TypeSyntax) → TypeState
+  HaveType : (depth : ℕ) (operand : TypeSyntax) → TypeState
   InNote : (depth : ℕ) (owner : Owner) (note : NoteState) → TypeState
   NoType : TypeState
 
-abbrev pub type_begin : ℕ → TypeToken → ℕ → TypeState
-type_begin depth (name x) at = HaveType depth (record_syntax at x [])
-type_begin depth (symbol symbol_of.Num) at = HaveType depth (num_syntax None)
-type_begin depth (symbol symbol_of.Bool) at = HaveType depth bool_syntax
-type_begin depth (symbol symbol_of.Open) at = NeedType (suc depth)
-type_begin depth (symbol symbol_of.Close) at = NoType
-type_begin depth (symbol symbol_of.Less) at = NoType
-type_begin depth (symbol symbol_of.Greater) at = NoType
-type_begin depth (symbol symbol_of.Comma) at = NoType
-type_begin depth (symbol symbol_of.Arrow) at = NoType
-type_begin depth (symbol symbol_of.List) at = NoType
-type_begin depth (symbol symbol_of.Other) at = NoType
+abbrev pub type_begin : ℕ → Kind → ℕ → TypeState
+type_begin depth (kind.Name x) at = HaveType depth (record_syntax at x [])
+type_begin depth (kind.Word keyword.Num) at = HaveType depth (num_syntax None)
+type_begin depth (kind.Word keyword.Bool) at = HaveType depth bool_syntax
+type_begin depth (kind.Sign symbol.LeftParen) at = NeedType (suc depth)
+type_begin depth _ at = NoType
 
 -- what angle brackets may open behind: `num`, and a name
 abbrev pub angle_owner : TypeSyntax → Option Owner
@@ -57,45 +53,30 @@ abbrev pub close_bracket : ℕ → TypeSyntax → TypeState
 close_bracket zero t = NoType
 close_bracket (suc depth) t = HaveType depth (bracket_type_syntax t)
 
-abbrev pub type_after : ℕ → TypeSyntax → TypeToken → TypeState
-type_after depth t (symbol symbol_of.List) = HaveType depth (list_type_syntax t)
-type_after depth t (symbol symbol_of.Close) = close_bracket depth t
-type_after depth t (symbol symbol_of.Less) = open_angle depth t
-type_after depth t (symbol symbol_of.Num) = NoType
-type_after depth t (symbol symbol_of.Bool) = NoType
-type_after depth t (symbol symbol_of.Open) = NoType
-type_after depth t (symbol symbol_of.Greater) = NoType
-type_after depth t (symbol symbol_of.Comma) = NoType
-type_after depth t (symbol symbol_of.Arrow) = NoType
-type_after depth t (symbol symbol_of.Other) = NoType
-type_after depth t (name x) = NoType
+abbrev pub type_after : ℕ → TypeSyntax → Kind → TypeState
+type_after depth t (kind.Word keyword.List) = HaveType depth (list_type_syntax t)
+type_after depth t (kind.Sign symbol.RightParen) = close_bracket depth t
+type_after depth t (kind.Sign symbol.Less) = open_angle depth t
+type_after depth t _ = NoType
 
 -- the type with its last note
 abbrev pub owned : Owner → NoteSyntax → TypeSyntax
 owned OfNum n = num_syntax (Some n)
-owned (OfName at x front) n = record_syntax at x (front ++ n ∷ [])
+owned (OfName at x earlier) n = record_syntax at x (earlier ++ n ∷ [])
 
 -- a comma behind a note
 abbrev pub next_note : ℕ → Owner → NoteSyntax → TypeState
 next_note depth OfNum n = NoType
-next_note depth (OfName at x front) n = InNote depth (OfName at x (front ++ n ∷ [])) NeedNote
+next_note depth (OfName at x earlier) n = InNote depth (OfName at x (earlier ++ n ∷ [])) NeedNote
 
 -- the token behind a note
-abbrev pub note_end : ℕ → Owner → NoteSyntax → TypeToken → TypeState
-note_end depth owner n (symbol symbol_of.Greater) = HaveType depth (owned owner n)
-note_end depth owner n (symbol symbol_of.Comma) = next_note depth owner n
-note_end depth owner n (symbol symbol_of.Num) = NoType
-note_end depth owner n (symbol symbol_of.Bool) = NoType
-note_end depth owner n (symbol symbol_of.List) = NoType
-note_end depth owner n (symbol symbol_of.Open) = NoType
-note_end depth owner n (symbol symbol_of.Close) = NoType
-note_end depth owner n (symbol symbol_of.Less) = NoType
-note_end depth owner n (symbol symbol_of.Arrow) = NoType
-note_end depth owner n (symbol symbol_of.Other) = NoType
-note_end depth owner n (name x) = NoType
+abbrev pub note_end : ℕ → Owner → NoteSyntax → Kind → TypeState
+note_end depth owner n (kind.Sign symbol.Greater) = HaveType depth (owned owner n)
+note_end depth owner n (kind.Sign symbol.Comma) = next_note depth owner n
+note_end depth owner n _ = NoType
 
 -- the token that the note refused
-abbrev pub note_ends : ℕ → Owner → Option NoteSyntax → TypeToken → TypeState
+abbrev pub note_ends : ℕ → Owner → Option NoteSyntax → Kind → TypeState
 note_ends depth owner None token = NoType
 note_ends depth owner (Some n) token = note_end depth owner n token
 
@@ -108,9 +89,9 @@ note_goes depth owner NoNote ended = ended
 
 -- one token more
 abbrev pub type_act : TypeState → Kind → ℕ → TypeState
-type_act (NeedType depth) k at = type_begin depth (type_token k) at
-type_act (HaveType depth t) k at = type_after depth t (type_token k)
-type_act (InNote depth owner n) k at = note_goes depth owner (note_act n k at) (note_ends depth owner (note_finish n) (type_token k))
+type_act (NeedType depth) k at = type_begin depth k at
+type_act (HaveType depth t) k at = type_after depth t k
+type_act (InNote depth owner n) k at = note_goes depth owner (note_act n k at) (note_ends depth owner (note_finish n) k)
 type_act NoType k at = NoType
 
 abbrev pub type_step : TypeState → Token → TypeState
@@ -126,7 +107,7 @@ type_finish NoType = None
 
 abbrev pub owner_height : Owner → ℕ
 owner_height OfNum = 0
-owner_height (OfName at x front) = notes_height front
+owner_height (OfName at x earlier) = notes_height earlier
 
 -- the least that the greatest of the heights in a type text is that begins with what was read
 abbrev pub type_least : TypeState → ℕ

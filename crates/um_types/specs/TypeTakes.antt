@@ -4,16 +4,17 @@ use Rattle.std.specs.Prelude.{◌≡◌, ◌≢◌, ◌≤◌, ◌<◌, option_m
 use Rattle.um_tree.specs.RawTree.{type_syntax}
 use Rattle.um_types.specs.UnitStops.{greatest_height}
 use Rattle.um_types.specs.TypeMachine.{TypeState, NoType, type_finish, type_least}
-use Rattle.um_types.specs.TypeView.{type_hand_state}
-use Rattle.um_types.specs.declared.type_take.TypeReader.{TypeReader}
-use Rattle.um_types.specs.declared.type_take.TypeStep.{TypeStep}
-use Rattle.um_types.specs.declared.type_take.TypeStep.TheVariants as step
+use Rattle.um_types.specs.TypeView.{type_focus_state}
+use Rattle.um_types.specs.declared.type_reader.TypeReader.{TypeReader}
+use Rattle.um_types.specs.declared.type_reader.TypeStep.{TypeStep}
+use Rattle.um_types.specs.declared.type_reader.TypeStep.TheVariants as step
 
 -- the state of a reader
 abbrev pub type_state : TypeReader → TypeState
-type_state r = type_hand_state r.depth r.hand
+type_state r = type_focus_state r.depth r.focus
 
--- The next state, within the heights; or that it is too high; or, where the token is refused, the type text before it, if one stands there.
+-- The next state, within the heights; or that it is too high; or, where the token is refused, the type text before
+-- it, if one stands there.
 abbrev pub TypeTakes : TypeState → TypeState → TypeStep → Type 0
 TypeTakes old new (step.Goes reader) = (new ≡ type_state reader) × (new ≢ NoType) × (type_least new ≤ greatest_height)
 TypeTakes old new step.High = (new ≢ NoType) × (greatest_height < type_least new)

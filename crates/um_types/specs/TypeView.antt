@@ -1,33 +1,27 @@
 -- What was read of a type text, without where it lies in memory.
 -- Source: this project's own.
-use Rattle.std.specs.Prelude.{◌≡◌, ℕ, [], Option, Some, None, Result, Ok, Err}
+use Rattle.std.specs.Prelude.{◌≡◌, ℕ, Some, None, Result, Ok, Err}
 use Rattle.um_tree.specs.declared.raw.RawType.{RawType}
-use Rattle.um_tree.specs.RawTree.{TypeSyntax, record_syntax, note_syntaxes, type_syntax}
-use Rattle.um_types.specs.TypeTokens.{TypeToken, symbol, name}
+use Rattle.um_tree.specs.RawTree.{TypeSyntax, note_syntaxes, type_syntax}
 use Rattle.um_types.specs.NoteTakes.{note_state}
 use Rattle.um_types.specs.TypeMachine.{Owner, OfNum, OfName, TypeState, NeedType, HaveType, InNote, angle_owner}
-use Rattle.um_types.specs.declared.type_part.TypePart.{TypePart}
-use Rattle.um_types.specs.declared.type_part.Owner.{Owner as OwnerPart}
-use Rattle.um_types.specs.declared.type_part.Owner.TheVariants as owner
-use Rattle.um_types.specs.declared.type_part.TypeHand.{TypeHand}
-use Rattle.um_types.specs.declared.type_part.TypeHand.TheVariants as hand
+use Rattle.um_types.specs.declared.type_operand.TypeOperand.{TypeOperand}
+use Rattle.um_types.specs.declared.type_operand.Owner.{Owner as OwnerPart}
+use Rattle.um_types.specs.declared.type_operand.Owner.TheVariants as owner
+use Rattle.um_types.specs.declared.type_operand.TypeFocus.{TypeFocus}
+use Rattle.um_types.specs.declared.type_operand.TypeFocus.TheVariants as focus
 
-abbrev pub part_type : TypePart → TypeSyntax
-part_type p = type_syntax p.ty
+abbrev pub operand_type : TypeOperand → TypeSyntax
+operand_type p = type_syntax p.ty
 
 abbrev pub view_owner : OwnerPart → Owner
 view_owner owner.Num = OfNum
-view_owner (owner.Name at x front) = OfName at x (note_syntaxes front)
+view_owner (owner.Name at x earlier) = OfName at x (note_syntaxes earlier)
 
-abbrev pub type_hand_state : ℕ → TypeHand → TypeState
-type_hand_state depth hand.Empty = NeedType depth
-type_hand_state depth (hand.Full t) = HaveType depth (part_type t)
-type_hand_state depth (hand.Note o n) = InNote depth (view_owner o) (note_state n)
-
--- the type that a name is
-abbrev pub named_type : TypeToken → ℕ → Option TypeSyntax
-named_type (name x) at = Some (record_syntax at x [])
-named_type (symbol s) at = None
+abbrev pub type_focus_state : ℕ → TypeFocus → TypeState
+type_focus_state depth focus.Empty = NeedType depth
+type_focus_state depth (focus.Full t) = HaveType depth (operand_type t)
+type_focus_state depth (focus.Note o n) = InNote depth (view_owner o) (note_state n)
 
 -- what angle brackets behind a type belong to, or the type again
 abbrev pub Opens : TypeSyntax → Result OwnerPart RawType → Type 0

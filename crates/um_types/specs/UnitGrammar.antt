@@ -3,13 +3,14 @@
 --   side  = power { power }                           a leading "/" takes the first side
 --   power = atom [ "^" [ "-" ] Number ]
 --   atom  = Name | Var | "1" | "(" unit ")"
--- Source: the F# specification, chapter Units Of Measure, without `_` and rational powers.
+-- Source: the F# specification, chapter Units Of Measure, for the forms of unit texts, without `_` and rational powers. How
+-- tightly the signs of units bind is this project's own.
 use Rattle.std.specs.Prelude.{◌≡◌, ℕ, ◌≤◌, ℤ, pos, neg_ℤ, Bool, true, ◌⊎◌, List, [], ◌∷◌, ◌++◌, Option, Some}
 use Rattle.um_syntax.specs.declared.token.Token.{Token}
 use Rattle.um_tree.specs.RawTree.{UnitSyntax, UnitSyntaxes, one_syntax, measure_syntax, variable_syntax, power_syntax, side_syntax, times_syntax, over_syntax, inverse_syntax, bracket_syntax, no_units, more_units}
 use Rattle.um_tree.specs.Heights.{unit_height}
 use Rattle.um_types.specs.UnitTokens.{UnitToken, sign, measure, variable, number, unit_token}
-use Rattle.um_types.specs.declared.unit_mark.Mark.TheVariants as mark
+use Rattle.um_syntax.specs.declared.vocabulary.Symbol.TheVariants as symbol
 
 -- the first token is this, and the others are the rest
 abbrev pub First : UnitToken → List Token → List Token → Type 0
@@ -17,7 +18,8 @@ First what tokens rest = (token : Token) × (unit_token token.kind ≡ what) × 
 
 -- the same, with its place
 abbrev pub FirstAt : UnitToken → ℕ → List Token → List Token → Type 0
-FirstAt what at tokens rest = (token : Token) × (unit_token token.kind ≡ what) × (token.start ≡ at) × (tokens ≡ token ∷ rest)
+FirstAt what at tokens rest =
+    (token : Token) × (unit_token token.kind ≡ what) × (token.start ≡ at) × (tokens ≡ token ∷ rest)
 
 -- the number of a power
 abbrev pub Digits : ℕ → List Token → List Token → Type 0
@@ -26,7 +28,9 @@ Digits n tokens rest = (one : Bool) × First (number one (Some n)) tokens rest
 -- what stands behind `^`: a number, or `-` and a number
 abbrev pub PowerSpells : ℤ → List Token → List Token → Type 0
 PowerSpells k tokens rest =
-    (n : ℕ) × (((k ≡ pos n) × Digits n tokens rest) ⊎ ((next : List Token) × (k ≡ neg_ℤ (pos n)) × First (sign mark.Minus) tokens next × Digits n next rest))
+    (n : ℕ)
+    × (((k ≡ pos n) × Digits n tokens rest)
+    ⊎ ((next : List Token) × (k ≡ neg_ℤ (pos n)) × First (sign symbol.Minus) tokens next × Digits n next rest))
 
 -- the tokens are those of the unit text, and then the rest
 abbrev mutual
@@ -34,12 +38,18 @@ abbrev mutual
   Spells (one_syntax at) tokens rest = (power : Option ℕ) × FirstAt (number true power) at tokens rest
   Spells (measure_syntax at x) tokens rest = FirstAt (measure x) at tokens rest
   Spells (variable_syntax at x) tokens rest = FirstAt (variable x) at tokens rest
-  Spells (power_syntax u k) tokens rest = (mid next : List Token) × Spells u tokens mid × First (sign mark.Caret) mid next × PowerSpells k next rest
+  Spells (power_syntax u k) tokens rest =
+      (mid next : List Token) × Spells u tokens mid × First (sign symbol.Caret) mid next × PowerSpells k next rest
   Spells (side_syntax us) tokens rest = AllSpell us tokens rest
-  Spells (times_syntax u v) tokens rest = (mid next : List Token) × Spells u tokens mid × First (sign mark.Times) mid next × Spells v next rest
-  Spells (over_syntax u v) tokens rest = (mid next : List Token) × Spells u tokens mid × First (sign mark.Over) mid next × Spells v next rest
-  Spells (inverse_syntax at u) tokens rest = (next : List Token) × FirstAt (sign mark.Over) at tokens next × Spells u next rest
-  Spells (bracket_syntax at u) tokens rest = (next last : List Token) × FirstAt (sign mark.Open) at tokens next × Spells u next last × First (sign mark.Close) last rest
+  Spells (times_syntax u v) tokens rest =
+      (mid next : List Token) × Spells u tokens mid × First (sign symbol.Star) mid next × Spells v next rest
+  Spells (over_syntax u v) tokens rest =
+      (mid next : List Token) × Spells u tokens mid × First (sign symbol.Slash) mid next × Spells v next rest
+  Spells (inverse_syntax at u) tokens rest =
+      (next : List Token) × FirstAt (sign symbol.Slash) at tokens next × Spells u next rest
+  Spells (bracket_syntax at u) tokens rest =
+      (next last : List Token) × FirstAt (sign symbol.LeftParen) at tokens next × Spells u next last
+      × First (sign symbol.RightParen) last rest
 
   pub AllSpell : UnitSyntaxes → List Token → List Token → Type 0
   AllSpell no_units tokens rest = tokens ≡ rest
@@ -92,4 +102,5 @@ Begins tokens = (more : List Token) × (u : UnitSyntax) × IsUnit (tokens ++ mor
 
 -- the tokens begin a unit text of at most this height
 abbrev pub BeginsWithin : ℕ → List Token → Type 0
-BeginsWithin height tokens = (more : List Token) × (u : UnitSyntax) × IsUnit (tokens ++ more) u × (unit_height u ≤ height)
+BeginsWithin height tokens =
+    (more : List Token) × (u : UnitSyntax) × IsUnit (tokens ++ more) u × (unit_height u ≤ height)

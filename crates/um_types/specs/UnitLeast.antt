@@ -11,7 +11,7 @@ side (InBracket at) = 0
 side (InInverse at) = 0
 side (InTimes left) = unit_height left
 side (InOver left) = unit_height left
-side (InSide front) = tallest_unit (units_in_order front)
+side (InSide earlier) = tallest_unit (units_in_order earlier)
 
 -- the height of the frames once the innermost holds something of this height
 abbrev pub least_over : List Frame → ℕ → ℕ

@@ -3,9 +3,8 @@
 use Rattle.std.specs.Prelude.{ℕ, pos, neg_ℤ, Bool, true, false, cond, List, [], ◌∷◌, ◌++◌, Option, Some, None}
 use Rattle.um_syntax.specs.declared.token.Token.{Token}
 use Rattle.um_tree.specs.RawTree.{UnitSyntax, one_syntax, measure_syntax, variable_syntax, power_syntax, side_syntax, times_syntax, over_syntax, inverse_syntax, bracket_syntax, units_in_order}
-use Rattle.um_types.specs.UnitTokens.{UnitToken, sign, measure, variable, number, unit_token}
-use Rattle.um_types.specs.declared.unit_mark.Mark.{Mark}
-use Rattle.um_types.specs.declared.unit_mark.Mark.TheVariants as mark
+use Rattle.um_types.specs.UnitTokens.{UnitToken, sign, measure, variable, number, other, unit_token}
+use Rattle.um_syntax.specs.declared.vocabulary.Symbol.TheVariants as symbol
 
 -- what is open around the next atom
 pub data Frame : Type 0 where
@@ -14,13 +13,13 @@ pub data Frame : Type 0 where
   InTimes : (left : UnitSyntax) → Frame
   InOver : (left : UnitSyntax) → Frame
   -- behind these of a juxtaposition
-  InSide : (front : List UnitSyntax) → Frame
+  InSide : (earlier : List UnitSyntax) → Frame
 
 pub data State : Type 0 where
   -- an atom is wanted, or a leading `/`
   Need : (frames : List Frame) → State
   -- an atom or a power is at hand
-  Have : (frames : List Frame) (at_hand : UnitSyntax) → State
+  Have : (frames : List Frame) (operand : UnitSyntax) → State
   -- behind `^`; behind `^` and `-`
   Raised : (frames : List Frame) (base : UnitSyntax) → State
   Lowered : (frames : List Frame) (base : UnitSyntax) → State
@@ -33,7 +32,7 @@ top_limit (InBracket at ∷ frames) = 4
 top_limit (InInverse at ∷ frames) = 2
 top_limit (InTimes left ∷ frames) = 2
 top_limit (InOver left ∷ frames) = 2
-top_limit (InSide front ∷ frames) = 1
+top_limit (InSide earlier ∷ frames) = 1
 
 -- a unit text begins here
 abbrev pub opens : List Frame → Bool
@@ -42,7 +41,7 @@ opens (InBracket at ∷ frames) = true
 opens (InInverse at ∷ frames) = false
 opens (InTimes left ∷ frames) = false
 opens (InOver left ∷ frames) = false
-opens (InSide front ∷ frames) = false
+opens (InSide earlier ∷ frames) = false
 
 -- what a frame is with its last part; brackets need a token more
 abbrev pub plug : Frame → UnitSyntax → UnitSyntax
@@ -50,7 +49,7 @@ plug (InBracket at) t = t
 plug (InInverse at) t = inverse_syntax at t
 plug (InTimes left) t = times_syntax left t
 plug (InOver left) t = over_syntax left t
-plug (InSide front) t = side_syntax (units_in_order (front ++ t ∷ []))
+plug (InSide earlier) t = side_syntax (units_in_order (earlier ++ t ∷ []))
 
 -- what is left open where all ends up to the innermost brackets
 abbrev pub reduce : List Frame → UnitSyntax → State
@@ -59,7 +58,7 @@ reduce (InBracket at ∷ frames) t = Have (InBracket at ∷ frames) t
 reduce (InInverse at ∷ frames) t = reduce frames (inverse_syntax at t)
 reduce (InTimes left ∷ frames) t = reduce frames (times_syntax left t)
 reduce (InOver left ∷ frames) t = reduce frames (over_syntax left t)
-reduce (InSide front ∷ frames) t = reduce frames (side_syntax (units_in_order (front ++ t ∷ [])))
+reduce (InSide earlier ∷ frames) t = reduce frames (side_syntax (units_in_order (earlier ++ t ∷ [])))
 
 -- another power follows: the one at hand belongs to a juxtaposition
 abbrev pub juxtapose : List Frame → UnitSyntax → List Frame
@@ -68,7 +67,7 @@ juxtapose (InBracket at ∷ frames) t = InSide (t ∷ []) ∷ InBracket at ∷ f
 juxtapose (InInverse at ∷ frames) t = InSide (t ∷ []) ∷ InInverse at ∷ frames
 juxtapose (InTimes left ∷ frames) t = InSide (t ∷ []) ∷ InTimes left ∷ frames
 juxtapose (InOver left ∷ frames) t = InSide (t ∷ []) ∷ InOver left ∷ frames
-juxtapose (InSide front ∷ frames) t = InSide (front ++ t ∷ []) ∷ frames
+juxtapose (InSide earlier ∷ frames) t = InSide (earlier ++ t ∷ []) ∷ frames
 
 -- an atom begins, or a leading `/`
 abbrev pub begin : List Frame → UnitToken → ℕ → State
@@ -76,13 +75,9 @@ begin frames (measure x) at = Have frames (measure_syntax at x)
 begin frames (variable x) at = Have frames (variable_syntax at x)
 begin frames (number true power) at = Have frames (one_syntax at)
 begin frames (number false power) at = Refused
-begin frames (sign mark.Open) at = Need (InBracket at ∷ frames)
-begin frames (sign mark.Over) at = cond (opens frames) (Need (InInverse at ∷ frames)) Refused
-begin frames (sign mark.Close) at = Refused
-begin frames (sign mark.Times) at = Refused
-begin frames (sign mark.Caret) at = Refused
-begin frames (sign mark.Minus) at = Refused
-begin frames (sign mark.Other) at = Refused
+begin frames (sign symbol.LeftParen) at = Need (InBracket at ∷ frames)
+begin frames (sign symbol.Slash) at = cond (opens frames) (Need (InInverse at ∷ frames)) Refused
+begin frames _ at = Refused
 
 abbrev pub times_after : State → State
 times_after (Have frames t) = Need (InTimes t ∷ frames)
@@ -116,17 +111,16 @@ abbrev pub after : List Frame → UnitSyntax → UnitToken → ℕ → State
 after frames t (measure x) at = begin (juxtapose frames t) (measure x) at
 after frames t (variable x) at = begin (juxtapose frames t) (variable x) at
 after frames t (number one power) at = begin (juxtapose frames t) (number one power) at
-after frames t (sign mark.Open) at = begin (juxtapose frames t) (sign mark.Open) at
-after frames t (sign mark.Close) at = close_after (reduce frames t)
-after frames t (sign mark.Times) at = times_after (reduce frames t)
-after frames t (sign mark.Over) at = over_after (reduce frames t)
-after frames t (sign mark.Caret) at = raise frames t
-after frames t (sign mark.Minus) at = Refused
-after frames t (sign mark.Other) at = Refused
+after frames t (sign symbol.LeftParen) at = begin (juxtapose frames t) (sign symbol.LeftParen) at
+after frames t (sign symbol.RightParen) at = close_after (reduce frames t)
+after frames t (sign symbol.Star) at = times_after (reduce frames t)
+after frames t (sign symbol.Slash) at = over_after (reduce frames t)
+after frames t (sign symbol.Caret) at = raise frames t
+after frames t _ at = Refused
 
 abbrev pub raised : List Frame → UnitSyntax → UnitToken → State
 raised frames base (number one (Some n)) = Have frames (power_syntax base (pos n))
-raised frames base (sign mark.Minus) = Lowered frames base
+raised frames base (sign symbol.Minus) = Lowered frames base
 raised frames base _ = Refused
 
 abbrev pub lowered : List Frame → UnitSyntax → UnitToken → State
@@ -160,20 +154,13 @@ atom_of (measure x) at = Some (measure_syntax at x)
 atom_of (variable x) at = Some (variable_syntax at x)
 atom_of (number true power) at = Some (one_syntax at)
 atom_of (number false power) at = None
-atom_of (sign m) at = None
+atom_of (sign s) at = None
+atom_of other at = None
 
--- the sign that a token is, and the power that it writes
-abbrev pub mark_in : UnitToken → Mark
-mark_in (sign m) = m
-mark_in (measure x) = mark.Other
-mark_in (variable x) = mark.Other
-mark_in (number one power) = mark.Other
-
+-- the power that a token writes
 abbrev pub power_in : UnitToken → Option ℕ
 power_in (number one power) = power
-power_in (sign m) = None
-power_in (measure x) = None
-power_in (variable x) = None
+power_in _ = None
 
 -- `/` or `*` behind what is at hand
 abbrev pub sign_after : Bool → State → State

@@ -11,6 +11,8 @@ use Rattle.um_types.specs.UnitStops.{place_of, Reads, Misread, HighAt}
 
 abbrev pub Parsed : List Token → ℕ → ℕ → Result (RawUnit × ℕ) ParseStop → Type 0
 Parsed tokens from end (Ok (u, n)) = (k : ℕ) × (n ≡ from + k) × Reads (drop from tokens) k (unit_syntax u)
-Parsed tokens from end (Err (stop.Syntax at)) = (k : ℕ) × (at ≡ place_of (drop from tokens) k end) × Misread (drop from tokens) k
-Parsed tokens from end (Err (stop.Limit kind at)) = (k : ℕ) × (kind ≡ limit.Height) × (at ≡ place_of (drop from tokens) k end) × HighAt (drop from tokens) k
+Parsed tokens from end (Err (stop.Syntax at)) =
+    (k : ℕ) × (at ≡ place_of (drop from tokens) k end) × Misread (drop from tokens) k
+Parsed tokens from end (Err (stop.Limit kind at)) =
+    (k : ℕ) × (kind ≡ limit.Height) × (at ≡ place_of (drop from tokens) k end) × HighAt (drop from tokens) k
 Parsed tokens from end (Err stop.NoMemory) = Unit {0}

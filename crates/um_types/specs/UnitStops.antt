@@ -1,12 +1,13 @@
 -- Where the reading of a unit text ends.
--- Source: this project's own; the stop is the end of the longest viable prefix, as in Knuth, On the Translation of Languages from Left to Right.
+-- Source: this project's own; the stop is the end of the longest viable prefix, as in Knuth, On the Translation of
+-- Languages from Left to Right.
 use Rattle.std.specs.Prelude.{ℕ, ◌+◌, ◌≤◌, ◌<◌, List, length, take, map, slice_index_or}
 use Rattle.um_syntax.specs.declared.token.Token.{Token}
 use Rattle.um_tree.specs.RawTree.{UnitSyntax}
 use Rattle.um_tree.specs.Heights.{unit_height}
 use Rattle.um_types.specs.UnitGrammar.{IsUnit, Begins, BeginsWithin}
 
--- the greatest height of a unit text
+-- the greatest height of a unit text, a type text and an expression
 abbrev pub greatest_height : ℕ
 greatest_height = 400
 

@@ -1,25 +1,20 @@
 -- What a token is to a unit text.
 -- Source: this project's own.
-use Rattle.std.specs.Prelude.{ℕ, ℤ, pos, negsuc, Bool, true, false, cond, nat_le, ◌==◌, List, Option, Some, None}
+use Rattle.std.specs.Prelude.{ℕ, ℤ, pos, negsuc, Bool, true, false, cond, nat_le, List, Option, Some, None}
 use Rattle.um_frac.specs.declared.number.Frac.{Frac}
 use Rattle.um_frac.specs.Fraction.{numerator}
 use Rattle.um_syntax.specs.declared.token.Kind.{Kind}
 use Rattle.um_syntax.specs.declared.token.Kind.TheVariants as kind
-use Rattle.um_types.specs.declared.unit_mark.Mark.{Mark}
-use Rattle.um_types.specs.declared.unit_mark.Mark.TheVariants as mark
+use Rattle.um_syntax.specs.declared.vocabulary.Symbol.{Symbol}
 
--- a sign of unit texts, or any token that stands in none; a measure; a variable;
--- a number: whether its text is the one digit 1, and what it is as a power
+-- a sign; a measure; a variable; a number: whether its text is the one digit 1, and what it is as a power; or a token
+-- that stands in no unit text
 pub data UnitToken : Type 0 where
-  sign : Mark → UnitToken
+  sign : Symbol → UnitToken
   measure : List ℕ → UnitToken
   variable : List ℕ → UnitToken
   number : Bool → Option ℕ → UnitToken
-
--- the signs `(` `)` `*` `/` `^` `-` by their numbers in the language's table
-abbrev pub mark_of : ℕ → Mark
-mark_of k =
-    cond (k == 0) mark.Open (cond (k == 1) mark.Close (cond (k == 14) mark.Times (cond (k == 15) mark.Over (cond (k == 16) mark.Caret (cond (k == 13) mark.Minus mark.Other)))))
+  other : UnitToken
 
 -- the greatest power that a text writes
 abbrev pub greatest_power : ℕ
@@ -38,6 +33,6 @@ abbrev pub unit_token : Kind → UnitToken
 unit_token (kind.Name x) = measure x
 unit_token (kind.Var x) = variable x
 unit_token (kind.Number value digits one) = number one (power_of value digits)
-unit_token (kind.Word k) = sign mark.Other
-unit_token kind.Hole = sign mark.Other
-unit_token (kind.Sign k) = sign (mark_of k)
+unit_token (kind.Word k) = other
+unit_token kind.Hole = other
+unit_token (kind.Sign s) = sign s

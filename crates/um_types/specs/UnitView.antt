@@ -2,38 +2,38 @@
 use Rattle.std.specs.Prelude.{◌≡◌, ℕ, ◌+◌, ◌⊎◌, Bool, true, false, List, [], ◌∷◌, map, reverse, Option, Some, None}
 use Rattle.um_tree.specs.RawTree.{UnitSyntax, unit_syntax}
 use Rattle.um_tree.specs.Heights.{unit_height}
-use Rattle.um_types.specs.declared.unit_part.Part.{Part}
-use Rattle.um_types.specs.declared.unit_part.Front.{Front}
+use Rattle.um_types.specs.declared.unit_operand.Operand.{Operand}
+use Rattle.um_types.specs.declared.unit_operand.Operands.{Operands}
 use Rattle.um_types.specs.declared.unit_frame.Frame.{Frame as Open}
 use Rattle.um_types.specs.declared.unit_frame.Frame.TheVariants as open_at
-use Rattle.um_types.specs.declared.unit_frame.Hand.{Hand}
-use Rattle.um_types.specs.declared.unit_frame.Hand.TheVariants as hand
+use Rattle.um_types.specs.declared.unit_frame.Focus.{Focus}
+use Rattle.um_types.specs.declared.unit_frame.Focus.TheVariants as focus
 use Rattle.um_types.specs.declared.unit_frame.Step.{Step}
 use Rattle.um_types.specs.declared.unit_frame.Step.TheVariants as step
 use Rattle.um_types.specs.UnitMachine.{Frame, InBracket, InInverse, InTimes, InOver, InSide, State, Need, Have, Raised, Lowered, Refused, finish}
 
-abbrev pub part_text : Part → UnitSyntax
-part_text p = unit_syntax p.unit
+abbrev pub operand_syntax : Operand → UnitSyntax
+operand_syntax p = unit_syntax p.unit
 
-abbrev pub front_texts : Front → List UnitSyntax
-front_texts f = map unit_syntax f.units.items
+abbrev pub operands_syntax : Operands → List UnitSyntax
+operands_syntax f = map unit_syntax f.units.items
 
 abbrev pub view_frame : Open → Frame
 view_frame (open_at.InBracket at) = InBracket at
 view_frame (open_at.InInverse at) = InInverse at
-view_frame (open_at.InTimes left) = InTimes (part_text left)
-view_frame (open_at.InOver left) = InOver (part_text left)
-view_frame (open_at.InSide front) = InSide (front_texts front)
+view_frame (open_at.InTimes left) = InTimes (operand_syntax left)
+view_frame (open_at.InOver left) = InOver (operand_syntax left)
+view_frame (open_at.InSide earlier) = InSide (operands_syntax earlier)
 
 -- the frames from the innermost out
 abbrev pub stack : List Open → List Frame
 stack frames = map view_frame (reverse frames)
 
-abbrev pub state_of : List Open → Hand → State
-state_of frames hand.Empty = Need (stack frames)
-state_of frames (hand.Full t) = Have (stack frames) (part_text t)
-state_of frames (hand.Raised t) = Raised (stack frames) (part_text t)
-state_of frames (hand.Lowered t) = Lowered (stack frames) (part_text t)
+abbrev pub state_of : List Open → Focus → State
+state_of frames focus.Empty = Need (stack frames)
+state_of frames (focus.Full t) = Have (stack frames) (operand_syntax t)
+state_of frames (focus.Raised t) = Raised (stack frames) (operand_syntax t)
+state_of frames (focus.Lowered t) = Lowered (stack frames) (operand_syntax t)
 
 -- the innermost frame was taken off
 abbrev pub Taken : List Frame → Option Open → List Frame → Type 0
@@ -41,9 +41,9 @@ Taken old None new = (old ≡ []) × (new ≡ [])
 Taken old (Some frame) new = old ≡ view_frame frame ∷ new
 
 -- what a step gives: the next state, or, at a refused token, a state that ends as the one before
-abbrev pub Gives : State → List Open → Step → State → Type 0
-Gives old frames (step.Goes now) state = state ≡ state_of frames now
-Gives old frames (step.Stops now) state = (state ≡ Refused) × (finish (state_of frames now) ≡ finish old)
+abbrev pub Simulates : State → List Open → Step → State → Type 0
+Simulates old frames (step.Goes now) state = state ≡ state_of frames now
+Simulates old frames (step.Stops now) state = (state ≡ Refused) × (finish (state_of frames now) ≡ finish old)
 
 -- whether the innermost frame needs no token to end
 abbrev pub ends_itself : List Frame → Bool
@@ -52,21 +52,22 @@ ends_itself (InBracket at ∷ frames) = false
 ends_itself (InInverse at ∷ frames) = true
 ends_itself (InTimes left ∷ frames) = true
 ends_itself (InOver left ∷ frames) = true
-ends_itself (InSide front ∷ frames) = true
+ends_itself (InSide earlier ∷ frames) = true
 
 -- the innermost frame was taken off if it needs no token to end
 abbrev pub Ended : List Frame → Option Open → List Frame → Type 0
 Ended old None new = (new ≡ old) × (ends_itself old ≡ false)
 Ended old (Some frame) new = (old ≡ view_frame frame ∷ new) × (ends_itself old ≡ true)
 
--- The innermost brackets were taken off, with their place. Where the innermost frame is none, it is one that needs no token to end, or nothing is open.
+-- The innermost brackets were taken off, with their place. Where the innermost frame is none, it is one that needs no
+-- token to end, or nothing is open.
 abbrev pub Unbracketed : List Frame → Option ℕ → List Frame → Type 0
 Unbracketed old (Some at) new = old ≡ InBracket at ∷ new
 Unbracketed old None new = ((old ≡ []) × (new ≡ [])) ⊎ (ends_itself old ≡ true)
 
 -- the height of what is at hand; an atom is wanted at least
-abbrev pub hand_height : Hand → ℕ
-hand_height hand.Empty = 1
-hand_height (hand.Full t) = unit_height (part_text t)
-hand_height (hand.Raised t) = unit_height (part_text t) + 1
-hand_height (hand.Lowered t) = unit_height (part_text t) + 1
+abbrev pub focus_height : Focus → ℕ
+focus_height focus.Empty = 1
+focus_height (focus.Full t) = unit_height (operand_syntax t)
+focus_height (focus.Raised t) = unit_height (operand_syntax t) + 1
+focus_height (focus.Lowered t) = unit_height (operand_syntax t) + 1

@@ -1,23 +1,28 @@
 //! The grammar of unit texts, notes, types and signature texts: from tokens to raw trees, with the exact place of each refusal.
 #![tactic(auto)]
 
-mod note_take;
+mod height;
+pub mod laws;
+mod name;
+mod note_reader;
 mod parse;
+mod places;
 mod signature;
-mod type_part;
+mod type_machine;
+mod type_operand;
 mod type_reader;
-mod type_symbol;
-mod type_take;
 mod unit;
 mod unit_frame;
 mod unit_least;
 mod unit_loop;
-mod unit_mark;
-mod unit_part;
+mod unit_machine;
+mod unit_operand;
 mod unit_reader;
-mod unit_take;
 
-pub use note_take::{NoteReader, NoteStep};
+pub use height::{GREATEST_HEIGHT, TOO_HIGH, higher, one_higher};
+pub use name::name_of;
+pub use note_reader::{NoteReader, NoteStep};
 pub use parse::{LimitKind, ParseStop, parse_types, parse_unit};
-pub use type_take::{TypeReader, TypeStep};
-pub use unit_take::{UnitReader, UnitStep};
+pub use places::place;
+pub use type_reader::{TypeReader, TypeStep};
+pub use unit_reader::{UnitReader, UnitStep};

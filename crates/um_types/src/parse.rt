@@ -1,12 +1,13 @@
 // What the grammar reads, with its places in the text.
-ghost use Rattle.std.specs.Prelude.{◌≡◌, ◌≤◌, length};
+ghost use Rattle.std.specs.Prelude.{◌≤◌, length};
 ghost use Rattle.um_types.specs.UnitParsed.{Parsed};
-ghost use Rattle.um_types.specs.UnitStops.{place_of};
 ghost use Rattle.um_types.specs.SignatureParsed.{SignatureParsed};
 
+use crate::places::place;
 use crate::signature::{SignatureStop, read_signature};
 use crate::unit::{UnitStop, read_unit};
 use std::alloc::Global;
+use thiserror::Error;
 use um_syntax::Token;
 use um_tree::{RawTypes, RawUnit};
 
@@ -24,21 +25,14 @@ pub enum LimitKind {
 }
 
 /// Why tokens are not read, with the place.
-#[derive(Clone, Copy, Debug, PartialEq, Eq)]
+#[derive(Clone, Copy, Debug, PartialEq, Eq, Error)]
 pub enum ParseStop {
+    #[error("no text of the grammar begins so, at {at}")]
     Syntax { at: u32 },
+    #[error("a limit is passed at {at}")]
     Limit { kind: LimitKind, at: u32 },
+    #[error("out of memory")]
     NoMemory,
-}
-
-// The place of a token by its number, or the end.
-fn place(tokens: &[Token], k: usize, end: u32) -> u32
-    ensures { result ≡ place_of tokens.now k end }
-{
-    match tokens.get(k) {
-        Some(token) => token.start,
-        None => end,
-    }
 }
 
 /// The unit text that begins at the token of number `from`, and the number of its stop, counted from 0.

@@ -2,16 +2,14 @@
 ghost use Rattle.std.specs.Prelude.{◌≡◌, ◌≤◌, [], ◌∷◌, ◌++◌, IfOk, IfSome, map, option_map};
 ghost use Rattle.um_tree.specs.RawTree.{type_syntax, type_syntaxes};
 ghost use Rattle.um_types.specs.UnitStops.{greatest_height};
-ghost use Rattle.um_types.specs.TypeTokens.{type_token};
 ghost use Rattle.um_types.specs.TypeHeights.{whole_height, all_height};
 ghost use Rattle.um_types.specs.SignatureMachine.{type_ends, signature_act, signature_least};
 ghost use Rattle.um_types.specs.SignatureReads.{signature_state, SignatureTakes, ReadsTypes, SignatureAnswers};
 ghost use Rattle.um_types.specs.declared.signature.SignatureStop.TheVariants.{NoMemory};
 
-use crate::type_symbol::Symbol;
-use crate::type_take::{TypeReader, TypeStep};
+use crate::type_reader::{TypeReader, TypeStep};
 use std::alloc::{AllocError, Global};
-use um_syntax::Token;
+use um_syntax::{Kind, Symbol, Token};
 use um_tree::{RawType, RawTypes};
 
 /// What a token gives: the reader of the type that goes on or begins; the text is too high; or no signature text begins so.
@@ -42,17 +40,17 @@ impl From<AllocError> for SignatureStop {
 
 // The token that a type has refused.
 fn take_behind(
-    front: &mut Vec<RawType>,
+    earlier: &mut Vec<RawType>,
     found: Option<RawType>,
     token: &Token,
 ) -> Result<SignatureStep, AllocError>
-    requires front { all_height (map type_syntax front.old.items) ≤ greatest_height }
+    requires earlier { all_height (map type_syntax earlier.old.items) ≤ greatest_height }
     requires found { IfSome found (λ t. whole_height (type_syntax t) ≤ greatest_height) }
-    ensures { IfOk result (λ s. SignatureTakes (type_ends (map type_syntax front.old.items) (option_map type_syntax found) (type_token token.now.kind)) front.new.items s) }
+    ensures { IfOk result (λ s. SignatureTakes (type_ends (map type_syntax earlier.old.items) (option_map type_syntax found) token.now.kind) earlier.new.items s) }
 {
-    match (found, Symbol::of_kind(&token.kind)) {
-        (Some(ty), Symbol::Arrow) => {
-            front.push(ty)?;
+    match (found, &token.kind) {
+        (Some(ty), Kind::Sign(Symbol::Arrow)) => {
+            earlier.push(ty)?;
             Ok(SignatureStep::Goes(TypeReader::new()))
         }
         _ => Ok(SignatureStep::Stops),
@@ -62,32 +60,32 @@ fn take_behind(
 // One token more.
 fn take(
     alloc: Global,
-    front: &mut Vec<RawType>,
+    earlier: &mut Vec<RawType>,
     reader: TypeReader,
     token: &Token,
 ) -> Result<SignatureStep, AllocError>
-    requires { signature_least (signature_state front.old.items reader) ≤ greatest_height }
-    ensures { IfOk result (λ s. SignatureTakes (signature_act (signature_state front.old.items reader) token.now.kind token.now.start) front.new.items s) }
+    requires { signature_least (signature_state earlier.old.items reader) ≤ greatest_height }
+    ensures { IfOk result (λ s. SignatureTakes (signature_act (signature_state earlier.old.items reader) token.now.kind token.now.start) earlier.new.items s) }
 {
     match reader.take(alloc, token)? {
         TypeStep::Goes(reader) => Ok(SignatureStep::Goes(reader)),
         TypeStep::High => Ok(SignatureStep::High),
-        TypeStep::Stops(found) => take_behind(front, found, token),
+        TypeStep::Stops(found) => take_behind(earlier, found, token),
     }
 }
 
 // Reads all tokens: the types before the last `->`, and the reader of the last one.
 fn read_types(
     alloc: Global,
-    front: &mut Vec<RawType>,
+    earlier: &mut Vec<RawType>,
     tokens: &[Token],
 ) -> Result<TypeReader, SignatureStop>
-    requires { front.now.items ≡ [] }
-    ensures { ReadsTypes tokens.now front.new.items result }
+    requires { earlier.now.items ≡ [] }
+    ensures { ReadsTypes tokens.now earlier.new.items result }
 {
     let mut reader = TypeReader::new();
     for (i, token) in tokens.iter().enumerate() {
-        match take(alloc, front, reader, token)? {
+        match take(alloc, earlier, reader, token)? {
             SignatureStep::Goes(next) => reader = next,
             SignatureStep::High => return Err(SignatureStop::High(i)),
             SignatureStep::Stops => return Err(SignatureStop::Syntax(i)),
@@ -97,10 +95,10 @@ fn read_types(
 }
 
 // The types, the last one too.
-fn with_last(front: Vec<RawType>, last: RawType) -> Result<RawTypes, AllocError>
-    ensures { IfOk result (λ ts. type_syntaxes ts ≡ map type_syntax front.items ++ type_syntax last ∷ []) }
+fn with_last(earlier: Vec<RawType>, last: RawType) -> Result<RawTypes, AllocError>
+    ensures { IfOk result (λ ts. type_syntaxes ts ≡ map type_syntax earlier.items ++ type_syntax last ∷ []) }
 {
-    let mut items = front;
+    let mut items = earlier;
     items.push(last)?;
     Ok(RawTypes { items })
 }

@@ -4,7 +4,7 @@ ghost use Rattle.um_types.specs.declared.unit.UnitStop.TheVariants.{NoMemory};
 ghost use Rattle.std.specs.Prelude.{◌≡◌};
 
 use crate::unit_loop::{ReadStop, read};
-use crate::unit_reader::finish;
+use crate::unit_machine::finish;
 use std::alloc::{AllocError, Global};
 use um_syntax::Token;
 use um_tree::RawUnit;
@@ -32,13 +32,13 @@ pub fn read_unit(alloc: Global, tokens: &[Token]) -> Result<(RawUnit, usize), Un
     ensures { Answers tokens.now result }
 {
     let mut frames = Vec::new(alloc);
-    let (hand, stop) = match read(alloc, &mut frames, tokens) {
+    let (focus, stop) = match read(alloc, &mut frames, tokens) {
         Ok(found) => found,
         Err(ReadStop::High(at)) => return Err(UnitStop::High(at)),
         Err(ReadStop::NoMemory) => return Err(UnitStop::NoMemory),
     };
-    match finish(alloc, &mut frames, hand)? {
-        Some(part) => Ok((part.unit, stop)),
+    match finish(alloc, &mut frames, focus)? {
+        Some(operand) => Ok((operand.unit, stop)),
         None => Err(UnitStop::Syntax(stop)),
     }
 }

@@ -3,9 +3,9 @@ ghost use Rattle.std.specs.Prelude.{◌≡◌, ◌<◌, ◌∷◌, IfOk, IfSome,
 ghost use Rattle.um_types.specs.UnitMachine.{plug};
 ghost use Rattle.um_types.specs.UnitLeast.{side};
 ghost use Rattle.um_types.specs.UnitCount.{counted};
-ghost use Rattle.um_types.specs.UnitView.{part_text, view_frame, stack, Taken};
+ghost use Rattle.um_types.specs.UnitView.{operand_syntax, view_frame, stack, Taken};
 
-use crate::unit_part::{Front, Part};
+use crate::unit_operand::{Operand, Operands};
 use std::alloc::{AllocError, Global};
 
 /// A unit text that has begun, up to the part that is read next.
@@ -13,25 +13,25 @@ use std::alloc::{AllocError, Global};
 pub enum Frame {
     InBracket(u32),
     InInverse(u32),
-    InTimes(Part),
-    InOver(Part),
-    InSide(Front),
+    InTimes(Operand),
+    InOver(Operand),
+    InSide(Operands),
 }
 
 /// What is at hand beside the frames: nothing, an atom or a power, or an atom with `^`, or with `^` and `-`.
 #[derive(Drop)]
-pub enum Hand {
+pub enum Focus {
     Empty,
-    Full(Part),
-    Raised(Part),
-    Lowered(Part),
+    Full(Operand),
+    Raised(Operand),
+    Lowered(Operand),
 }
 
 /// A token goes on, or the text stops before it.
 #[derive(Drop)]
 pub enum Step {
-    Goes(Hand),
-    Stops(Hand),
+    Goes(Focus),
+    Stops(Focus),
 }
 
 impl Frame {
@@ -44,20 +44,20 @@ impl Frame {
             Frame::InInverse(_) => 0,
             Frame::InTimes(left) => left.height,
             Frame::InOver(left) => left.height,
-            Frame::InSide(front) => front.height,
+            Frame::InSide(earlier) => earlier.height,
         }
     }
 
     /// What it is with its last part, where no token ends it.
-    pub fn plug(self, alloc: Global, last: Part) -> Result<Part, AllocError>
-        ensures { IfOk result (λ p. part_text p ≡ plug (view_frame self) (part_text last)) }
+    pub fn plug(self, alloc: Global, last: Operand) -> Result<Operand, AllocError>
+        ensures { IfOk result (λ p. operand_syntax p ≡ plug (view_frame self) (operand_syntax last)) }
     {
         match self {
             Frame::InBracket(_) => Ok(last),
             Frame::InInverse(at) => last.inverse(alloc, at),
             Frame::InTimes(left) => left.times(alloc, last),
             Frame::InOver(left) => left.over(alloc, last),
-            Frame::InSide(front) => Ok(front.with(last)?.whole()),
+            Frame::InSide(earlier) => Ok(earlier.with(last)?.whole()),
         }
     }
 }

@@ -3,9 +3,9 @@ ghost use Rattle.std.specs.Prelude.{◌≡◌, []};
 ghost use Rattle.um_types.specs.UnitReads.{ReadsTo};
 ghost use Rattle.um_types.specs.declared.unit_loop.ReadStop.TheVariants.{NoMemory};
 
-use crate::unit_frame::{Frame, Hand, Step};
+use crate::unit_frame::{Focus, Frame, Step};
 use crate::unit_least::is_low;
-use crate::unit_reader::step;
+use crate::unit_machine::step;
 use std::alloc::{AllocError, Global};
 use um_syntax::Token;
 
@@ -29,19 +29,19 @@ pub fn read(
     alloc: Global,
     frames: &mut Vec<Frame>,
     tokens: &[Token],
-) -> Result<(Hand, usize), ReadStop>
+) -> Result<(Focus, usize), ReadStop>
     requires { frames.now.items ≡ [] }
     ensures { ReadsTo tokens.now frames.new.items result }
 {
-    let mut hand = Hand::Empty;
+    let mut focus = Focus::Empty;
     for (i, token) in tokens.iter().enumerate() {
-        match step(alloc, frames, hand, token)? {
+        match step(alloc, frames, focus, token)? {
             Step::Stops(last) => return Ok((last, i)),
-            Step::Goes(next) => hand = next,
+            Step::Goes(next) => focus = next,
         }
-        if !is_low(frames, &hand) {
+        if !is_low(frames, &focus) {
             return Err(ReadStop::High(i));
         }
     }
-    Ok((hand, tokens.len()))
+    Ok((focus, tokens.len()))
 }

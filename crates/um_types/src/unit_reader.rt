@@ -1,313 +1,74 @@
-// Reading a unit text token by token.
-ghost use Rattle.std.specs.Prelude.{◌≡◌, ◌<◌, ◌∷◌, IfOk, IfSome, OnOk, Some, None, option_map, vec_len, pos, neg_ℤ};
-ghost use Rattle.um_types.specs.UnitTokens.{unit_token, power_of};
-ghost use Rattle.um_types.specs.UnitMachine.{Need, sign_after, Have, Raised, Lowered, reduce, juxtapose, begin, raised, lowered, close_after, opens, after, act, finish, atom_of, mark_in, power_in, is_atom};
-ghost use Rattle.um_types.specs.UnitView.{part_text, stack, state_of, Gives, Ended, Unbracketed, ends_itself};
+// A unit text that is read one token at a time, so that readers of longer texts can hold it.
+ghost use Rattle.std.specs.Prelude.{◌≡◌, [], IfOk, option_map};
+ghost use Rattle.um_tree.specs.RawTree.{unit_syntax};
+ghost use Rattle.um_types.specs.UnitTokens.{unit_token};
+ghost use Rattle.um_types.specs.UnitMachine.{Need, act, finish};
+ghost use Rattle.um_types.specs.UnitView.{operand_syntax};
+ghost use Rattle.um_types.specs.UnitTakes.{unit_state, UnitTakes};
 
-use crate::unit_frame::{Frame, Hand, Step, pop_frame, push_frame};
-use crate::unit_mark::Mark;
-use crate::unit_part::{Front, Part};
+use crate::unit_frame::{Focus, Frame, Step};
+use crate::unit_least::is_low;
+use crate::unit_machine::{finish, step};
+use crate::unit_operand::Operand;
 use std::alloc::{AllocError, Global};
-use um_frac::Frac;
-use um_syntax::{Kind, Token};
+use um_syntax::Token;
 use um_tree::RawUnit;
 
-// The greatest power that a text writes.
-const GREATEST_POWER: i64 = 2147483647;
-
-// Whether the innermost frame needs no token to end.
-fn ends_itself(frames: &Vec<Frame>) -> bool
-    ensures { result ≡ ends_itself (stack frames.now.items) }
-{
-    match frames.last() {
-        Some(Frame::InBracket(_)) => false,
-        Some(_) => true,
-        None => false,
-    }
+/// A unit text that has begun.
+#[derive(Drop)]
+pub struct UnitReader {
+    frames: Vec<Frame>,
+    focus: Focus,
 }
 
-// Takes off the innermost frame if it needs no token to end.
-fn pop_ended(frames: &mut Vec<Frame>) -> Option<Frame>
-    ensures state { Ended (stack frames.old.items) result (stack frames.new.items) }
-    ensures shorter { IfSome result (λ _. vec_len frames.new < vec_len frames.old) }
-{
-    if ends_itself(frames) {
-        pop_frame(frames)
-    } else {
-        None
-    }
+/// What a token gives: the reader goes on; the tokens through it begin a unit text and none of height at most 400; or they begin none, and this is the unit text before it, if one stands there.
+#[derive(Drop)]
+pub enum UnitStep {
+    Goes(UnitReader),
+    High,
+    Stops(Option<RawUnit>),
 }
 
-// Ends all frames up to the innermost brackets.
-fn ended(alloc: Global, frames: &mut Vec<Frame>, at_hand: Part) -> Result<Part, AllocError>
-    ensures { IfOk result (λ t. Have (stack frames.new.items) (part_text t) ≡ reduce (stack frames.old.items) (part_text at_hand)) }
+fn unit_of(operand: Option<Operand>) -> Option<RawUnit>
+    ensures { option_map unit_syntax result ≡ option_map operand_syntax operand }
 {
-    let mut at_hand = at_hand;
-    while let Some(frame) = pop_ended(frames) {
-        at_hand = frame.plug(alloc, at_hand)?;
-    }
-    Ok(at_hand)
-}
-
-// Whether a unit text begins here.
-fn opens(frames: &Vec<Frame>) -> bool
-    ensures { result ≡ opens (stack frames.now.items) }
-{
-    match frames.last() {
-        Some(Frame::InBracket(_)) => true,
-        Some(_) => false,
-        None => true,
-    }
-}
-
-// The unit at hand goes into a juxtaposition.
-fn juxtapose(alloc: Global, frames: &mut Vec<Frame>, at_hand: Part) -> Result<(), AllocError>
-    ensures { OnOk result (stack frames.new.items ≡ juxtapose (stack frames.old.items) (part_text at_hand)) }
-{
-    let front = match pop_frame(frames) {
-        Some(Frame::InSide(front)) => front,
-        Some(other) => {
-            push_frame(frames, other)?;
-            Front::empty(alloc)
-        }
-        None => Front::empty(alloc),
-    };
-    push_frame(frames, Frame::InSide(front.with(at_hand)?))
-}
-
-// The power that a number writes.
-fn power_of(value: Frac, digits: bool) -> Option<i32>
-    ensures { option_map pos (power_of value digits) ≡ result }
-{
-    let power = value.num();
-    if digits && 0 <= power && power <= GREATEST_POWER {
-        Some(power as i32)
-    } else {
-        None
-    }
-}
-
-// The atom that a token is, if it is one; not an opening bracket.
-fn atom(alloc: Global, kind: &Kind, at: u32) -> Result<Option<Part>, AllocError>
-    ensures { IfOk result (λ o. option_map part_text o ≡ atom_of (unit_token kind.now) at) }
-{
-    match kind {
-        Kind::Name(letters) => Ok(Some(Part::measure(alloc, at, letters)?)),
-        Kind::Var(letters) => Ok(Some(Part::variable(alloc, at, letters)?)),
-        Kind::Number { one, .. } => Ok(if *one { Some(Part::one(at)) } else { None }),
-        Kind::Word(_) | Kind::Hole | Kind::Sign(_) => Ok(None),
-    }
-}
-
-// The sign that a token is.
-fn mark(kind: &Kind) -> Mark
-    ensures { result ≡ mark_in (unit_token kind.now) }
-{
-    match kind {
-        Kind::Sign(sign) => Mark::of_sign(*sign),
-        _ => Mark::Other,
-    }
-}
-
-// The power that a token writes.
-fn power(kind: &Kind) -> Option<i32>
-    ensures { option_map pos (power_in (unit_token kind.now)) ≡ result }
-{
-    match kind {
-        Kind::Number { value, digits, .. } => power_of(*value, *digits),
-        _ => None,
-    }
-}
-
-// One token where an atom is wanted.
-fn step_empty(alloc: Global, frames: &mut Vec<Frame>, token: &Token) -> Result<Step, AllocError>
-    ensures { IfOk result (λ s. Gives (Need (stack frames.old.items)) frames.new.items s (begin (stack frames.old.items) (unit_token token.now.kind) token.now.start)) }
-{
-    if let Some(atom) = atom(alloc, &token.kind, token.start)? {
-        return Ok(Step::Goes(Hand::Full(atom)));
-    }
-    match mark(&token.kind) {
-        Mark::Open => {
-            push_frame(frames, Frame::InBracket(token.start))?;
-            Ok(Step::Goes(Hand::Empty))
-        }
-        Mark::Over => {
-            if opens(frames) {
-                push_frame(frames, Frame::InInverse(token.start))?;
-                Ok(Step::Goes(Hand::Empty))
-            } else {
-                Ok(Step::Stops(Hand::Empty))
-            }
-        }
-        _ => Ok(Step::Stops(Hand::Empty)),
-    }
-}
-
-// One token behind `^`.
-fn step_raised(
-    alloc: Global,
-    frames: &Vec<Frame>,
-    base: Part,
-    token: &Token,
-) -> Result<Step, AllocError>
-    ensures { IfOk result (λ s. Gives (Raised (stack frames.now.items) (part_text base)) frames.now.items s (raised (stack frames.now.items) (part_text base) (unit_token token.now.kind))) }
-{
-    if let Some(power) = power(&token.kind) {
-        return Ok(Step::Goes(Hand::Full(base.power(alloc, power)?)));
-    }
-    match mark(&token.kind) {
-        Mark::Minus => Ok(Step::Goes(Hand::Lowered(base))),
-        _ => Ok(Step::Stops(Hand::Raised(base))),
-    }
-}
-
-// One token behind `^` and `-`.
-fn step_lowered(
-    alloc: Global,
-    frames: &Vec<Frame>,
-    base: Part,
-    token: &Token,
-) -> Result<Step, AllocError>
-    ensures { IfOk result (λ s. Gives (Lowered (stack frames.now.items) (part_text base)) frames.now.items s (lowered (stack frames.now.items) (part_text base) (unit_token token.now.kind))) }
-{
-    match power(&token.kind) {
-        Some(power) => Ok(Step::Goes(Hand::Full(base.power(alloc, -power)?))),
-        None => Ok(Step::Stops(Hand::Lowered(base))),
-    }
-}
-
-// The place of the innermost frame, if it is brackets, which are taken off.
-fn pop_bracket(frames: &mut Vec<Frame>) -> Option<u32>
-    ensures { Unbracketed (stack frames.old.items) result (stack frames.new.items) }
-{
-    match pop_frame(frames) {
-        Some(Frame::InBracket(at)) => Some(at),
-        Some(_) => None,
+    match operand {
+        Some(operand) => Some(operand.unit),
         None => None,
     }
 }
 
-// Brackets close behind the unit at hand, if any are open.
-fn close_after(alloc: Global, frames: &mut Vec<Frame>, at_hand: Part) -> Result<Step, AllocError>
-    ensures { IfOk result (λ s. Gives (Have (stack frames.old.items) (part_text at_hand)) frames.new.items s (close_after (reduce (stack frames.old.items) (part_text at_hand)))) }
-{
-    let inner = ended(alloc, frames, at_hand)?;
-    match pop_bracket(frames) {
-        Some(at) => Ok(Step::Goes(Hand::Full(inner.bracket(alloc, at)?))),
-        None => Ok(Step::Stops(Hand::Full(inner))),
-    }
-}
-
-// Whether it is an atom.
-fn is_atom(at_hand: &Part) -> bool
-    ensures { result ≡ is_atom (part_text at_hand.now) }
-{
-    match &at_hand.unit {
-        RawUnit::One(_) | RawUnit::Name(_, _) | RawUnit::Var(_, _) | RawUnit::Bracket(_, _) => true,
-        _ => false,
-    }
-}
-
-// `*` or `/` behind the unit at hand.
-fn after_sign(
-    alloc: Global,
-    frames: &mut Vec<Frame>,
-    at_hand: Part,
-    over: bool,
-) -> Result<Step, AllocError>
-    ensures { IfOk result (λ s. Gives (Have (stack frames.old.items) (part_text at_hand)) frames.new.items s (sign_after over (reduce (stack frames.old.items) (part_text at_hand)))) }
-{
-    let left = ended(alloc, frames, at_hand)?;
-    push_frame(
-        frames,
-        if over {
-            Frame::InOver(left)
-        } else {
-            Frame::InTimes(left)
-        },
-    )?;
-    Ok(Step::Goes(Hand::Empty))
-}
-
-// One token behind an atom or a power.
-fn step_full(
-    alloc: Global,
-    frames: &mut Vec<Frame>,
-    at_hand: Part,
-    token: &Token,
-) -> Result<Step, AllocError>
-    ensures { IfOk result (λ s. Gives (Have (stack frames.old.items) (part_text at_hand)) frames.new.items s (after (stack frames.old.items) (part_text at_hand) (unit_token token.now.kind) token.now.start)) }
-{
-    if let Some(atom) = atom(alloc, &token.kind, token.start)? {
-        juxtapose(alloc, frames, at_hand)?;
-        return Ok(Step::Goes(Hand::Full(atom)));
-    }
-    match mark(&token.kind) {
-        Mark::Open => {
-            juxtapose(alloc, frames, at_hand)?;
-            push_frame(frames, Frame::InBracket(token.start))?;
-            Ok(Step::Goes(Hand::Empty))
+impl UnitReader {
+    /// No token was read yet.
+    pub fn new(alloc: Global) -> UnitReader
+        ensures start { unit_state result ≡ Need [] }
+    {
+        UnitReader {
+            frames: Vec::new(alloc),
+            focus: Focus::Empty,
         }
-        Mark::Close => close_after(alloc, frames, at_hand),
-        Mark::Times => after_sign(alloc, frames, at_hand, false),
-        Mark::Over => after_sign(alloc, frames, at_hand, true),
-        Mark::Caret => Ok(if is_atom(&at_hand) {
-            Step::Goes(Hand::Raised(at_hand))
-        } else {
-            Step::Stops(Hand::Full(at_hand))
-        }),
-        Mark::Minus | Mark::Other => Ok(Step::Stops(Hand::Full(at_hand))),
     }
-}
 
-/// One token more.
-pub fn step(
-    alloc: Global,
-    frames: &mut Vec<Frame>,
-    hand: Hand,
-    token: &Token,
-) -> Result<Step, AllocError>
-    ensures { IfOk result (λ s. Gives (state_of frames.old.items hand) frames.new.items s (act (state_of frames.old.items hand) (unit_token token.now.kind) token.now.start)) }
-{
-    match hand {
-        Hand::Empty => step_empty(alloc, frames, token),
-        Hand::Full(at_hand) => step_full(alloc, frames, at_hand, token),
-        Hand::Raised(base) => step_raised(alloc, frames, base, token),
-        Hand::Lowered(base) => step_lowered(alloc, frames, base, token),
-    }
-}
-
-fn no_part(hand: Hand) -> Option<Part>
-    ensures { result ≡ None }
-{
-    drop(hand);
-    None
-}
-
-fn no_whole(open: Option<Frame>, at_hand: Part) -> Option<Part>
-    ensures { result ≡ None }
-{
-    drop(open);
-    drop(at_hand);
-    None
-}
-
-/// The unit text where all is read.
-pub fn finish(
-    alloc: Global,
-    frames: &mut Vec<Frame>,
-    hand: Hand,
-) -> Result<Option<Part>, AllocError>
-    ensures { IfOk result (λ o. option_map part_text o ≡ finish (state_of frames.old.items hand)) }
-{
-    match hand {
-        Hand::Full(at_hand) => {
-            let at_hand = ended(alloc, frames, at_hand)?;
-            match pop_frame(frames) {
-                None => Ok(Some(at_hand)),
-                open => Ok(no_whole(open, at_hand)),
-            }
+    /// One token more.
+    pub fn take(self, alloc: Global, token: &Token) -> Result<UnitStep, AllocError>
+        ensures taken { IfOk result (λ s. UnitTakes (unit_state self) (act (unit_state self) (unit_token token.now.kind) token.now.start) s) }
+    {
+        let UnitReader { mut frames, focus } = self;
+        match step(alloc, &mut frames, focus, token)? {
+            Step::Goes(focus) => Ok(if is_low(&frames, &focus) {
+                UnitStep::Goes(UnitReader { frames, focus })
+            } else {
+                UnitStep::High
+            }),
+            Step::Stops(focus) => Ok(UnitStep::Stops(unit_of(finish(alloc, &mut frames, focus)?))),
         }
-        other => Ok(no_part(other)),
+    }
+
+    /// The unit text where all is read, if it is one.
+    pub fn finish(self, alloc: Global) -> Result<Option<RawUnit>, AllocError>
+        ensures found { IfOk result (λ o. option_map unit_syntax o ≡ finish (unit_state self)) }
+    {
+        let UnitReader { mut frames, focus } = self;
+        Ok(unit_of(finish(alloc, &mut frames, focus)?))
     }
 }

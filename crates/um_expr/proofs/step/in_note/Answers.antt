@@ -2,12 +2,12 @@ use Rattle.std.proofs.Common.{ap, sym, subst, ◌∙◌, arith, option_map}
 use Rattle.um_tree.specs.RawTree.{note_syntax}
 use Rattle.um_types.specs.NoteMachine.{note_act, note_finish}
 use Rattle.um_types.specs.NoteTakes.{note_state, NoteTakes}
-use Rattle.um_types.specs.declared.note_take.NoteStep.{NoteStep}
+use Rattle.um_types.specs.declared.note_reader.NoteStep.{NoteStep}
 use Rattle.um_types.proofs.NoteLaws.{note_found_height}
 use Rattle.um_expr.specs.ExprTokens.{expr_token}
 use Rattle.um_expr.specs.ExprMachine.{note_ends}
 use Rattle.um_expr.specs.ExprStack.{frames_of}
-use Rattle.um_expr.proofs.ExprGoes.{note_high}
+use Rattle.um_expr.proofs.ExprRefusals.{note_high}
 use Rattle.um_expr.proofs.step.in_note.Goals as goal
 
 pub returns-in-High : goal.returns-in-High

@@ -1,11 +1,11 @@
 use Rattle.std.proofs.Common.{subst}
 use Rattle.um_types.specs.TypeMachine.{type_act, type_finish}
 use Rattle.um_types.specs.TypeTakes.{type_state, TypeTakes}
-use Rattle.um_types.specs.declared.type_take.TypeStep.{TypeStep}
+use Rattle.um_types.specs.declared.type_reader.TypeStep.{TypeStep}
 use Rattle.um_expr.specs.ExprTokens.{expr_token}
 use Rattle.um_expr.specs.ExprMachine.{type_ends}
 use Rattle.um_expr.specs.ExprStack.{frames_of}
-use Rattle.um_expr.proofs.ExprGoes.{type_high}
+use Rattle.um_expr.proofs.ExprRefusals.{type_high}
 use Rattle.um_expr.proofs.step.in_type.Goals as goal
 
 pub returns-in-High : goal.returns-in-High

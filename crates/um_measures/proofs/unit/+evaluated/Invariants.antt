@@ -8,6 +8,6 @@ use Rattle.um_measures.proofs.unit.+evaluated.Given as goal
 
 abbrev pub invariant-product-loop-i : goal.invariant-product-loop-i
 invariant-product-loop-i l = record {
-  value : product_of (short_unit l.measures) l.variables one (units_from unit_syntax l.units 0) ≡ product_of (short_unit l.measures) l.variables l.front (units_from unit_syntax l.units l.i);
-  range : products_fit (short_unit l.measures) l.variables one (units_from unit_syntax l.units 0) ≡ products_fit (short_unit l.measures) l.variables l.front (units_from unit_syntax l.units l.i);
+  value : product_of (short_unit l.measures) l.variables one (units_from unit_syntax l.units 0) ≡ product_of (short_unit l.measures) l.variables l.running (units_from unit_syntax l.units l.i);
+  range : products_fit (short_unit l.measures) l.variables one (units_from unit_syntax l.units 0) ≡ products_fit (short_unit l.measures) l.variables l.running (units_from unit_syntax l.units l.i);
 }

@@ -29,15 +29,15 @@ exprs-returns-in_err-expr-clause-faults t c =
     (exprs_first (known_of a.tables.now) a.body.now.variables (callables_of a.tables.now a.body.now) a.scope.now (map expr_syntax a.items.now) stop
     (stage_stops (resolved_in a.tables.now a.body.now a.scope.now) expr_syntax a.items.now (map expr_tree c.loop-i.es.items) c.loop-i.i x stop c.loop-i.invariant.done c.loop-i-test.true c.index-items-i.is here))
 
-pub parts-returns-clause-exact : goal.parts-returns-clause-exact
-parts-returns-clause-exact t c =
+pub field_values-returns-clause-exact : goal.field_values-returns-clause-exact
+field_values-returns-clause-exact t c =
     let a = c.args in
     parts_each (known_of a.tables.now) a.body.now.variables (callables_of a.tables.now a.body.now) a.scope.now (map field_part a.fields.now)
     ∙ ap (λ r. and_then r (λ bs. Ok (in_order bs)))
     (stage_ends (λ (p : FieldPart). resolved_in a.tables.now a.body.now a.scope.now p.part) field_part a.fields.now (map expr_tree c.loop-i.es.items) c.loop-i.i c.loop-i.invariant.done c.loop-i-test.false)
 
-pub parts-returns-in_err-field_value-clause-faults : goal.parts-returns-in_err-field_value-clause-faults
-parts-returns-in_err-field_value-clause-faults t c =
+pub field_values-returns-in_err-field_value-clause-faults : goal.field_values-returns-in_err-field_value-clause-faults
+field_values-returns-in_err-field_value-clause-faults t c =
     let a = c.args in
     let p = err_from_is_err_and c.from_residual.result c.from_residual.ensures.1 in
     let stop = c.in_err-field_value.field-0.0 in

@@ -11,8 +11,8 @@ invariant-exprs-loop-i l = record {
   scope : l.scope ≡ l.fn.scope;
 }
 
-abbrev pub invariant-parts-loop-i : goal.invariant-parts-loop-i
-invariant-parts-loop-i l = record {
+abbrev pub invariant-field_values-loop-i : goal.invariant-field_values-loop-i
+invariant-field_values-loop-i l = record {
   done : Stage (λ p. resolved_in l.tables l.body l.fn.scope p.part) field_part l.fields (map expr_tree l.es.items) l.i;
   scope : l.scope ≡ l.fn.scope;
 }

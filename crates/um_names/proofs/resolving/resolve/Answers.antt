@@ -4,7 +4,7 @@ use Rattle.um_tree.specs.ProgramTree.{ProgramTree}
 use Rattle.um_tree.specs.RawTree.{decl_syntax, program_syntax}
 use Rattle.um_measures.specs.Faults.{Found, and_then}
 use Rattle.um_measures.specs.Known.{Known}
-use Rattle.um_names.specs.Parts.{resolved_program}
+use Rattle.um_names.specs.Resolution.{resolved_program}
 use Rattle.um_names.specs.Resolution.{resolution}
 use Rattle.um_names.specs.Tables.{known_of}
 use Rattle.um_names.proofs.FormedPrograms.{resolution_formed}

@@ -10,8 +10,8 @@ invariant_of-result c = record {
       omega (
         arith,
         c.requires,
-        c.args.front.low,
+        c.args.prefix.low,
         ap (λ ps. params_height (map param_syntax ps)) c.in_ok-push.ensures.items,
-        raw_params_last c.args.front.params.items.items (record { binder = c.args.binder; ty = c.args.ty }),
+        raw_params_last c.args.prefix.params.items.items (record { binder = c.args.binder; ty = c.args.ty }),
       );
 }

@@ -10,8 +10,8 @@ invariant_of-result c = record {
       omega (
         arith,
         c.requires,
-        c.args.front.low,
+        c.args.prefix.low,
         ap (λ fs. fields_height (map field_decl_syntax fs)) c.in_ok-push.ensures.items,
-        raw_fields_last c.args.front.fields.items.items (record { at = c.args.at; name = c.args.name; ty = c.args.ty }),
+        raw_fields_last c.args.prefix.fields.items.items (record { at = c.args.at; name = c.args.name; ty = c.args.ty }),
       );
 }

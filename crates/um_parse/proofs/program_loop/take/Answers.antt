@@ -1,7 +1,7 @@
 use Rattle.std.proofs.Common.{subst}
 use Rattle.um_parse.specs.DeclMachine.{decl_step, decl_finish}
 use Rattle.um_parse.specs.DeclTakes.{reader_state, DeclTakes}
-use Rattle.um_parse.specs.declared.decl_take.DeclStep.{DeclStep}
+use Rattle.um_parse.specs.declared.decl_reader.DeclStep.{DeclStep}
 use Rattle.um_parse.proofs.DeclTaken.{decl_low}
 use Rattle.um_parse.proofs.program_loop.take.Goals as goal
 

@@ -1,48 +1,9 @@
-use Rattle.std.proofs.Common.{◌≡◌, ◌<◌, ◌+◌, length, sym, ap, subst, ◌∙◌, [], ◌∷◌, ◌++◌, Ok, arith, rules}
-use Rattle.std.proofs.lemmas.List.{append_assoc}
+use Rattle.std.proofs.Common.{◌≡◌, ◌<◌, ◌+◌, length, sym, ap, subst, [], ◌∷◌, ◌++◌, arith, rules}
 use denote.Param.Weighed.{at_most}
-use Rattle.um_tree.specs.ExprTree.{expr_tree, bind, split}
-use Rattle.um_tree.specs.declared.expression.Expr.{the_lemmas}
 use Rattle.um_tree.proofs.expression.Expr.TheLaws.{the_size}
-use Rattle.um_shape.specs.FlatShapes.{flat_shape, flat_shapes, known_records, heads_shapes}
-use Rattle.um_shape.specs.FirstFault.{at_node, found}
-use Rattle.um_shape.specs.Stops.{IsFound}
-use Rattle.um_shape.proofs.AllFound.{IsLeft, left_first, low_at, left_stops, left_next, left_last, bind_found, split_found}
+use Rattle.um_shape.specs.FlatShapes.{known_records, heads_shapes}
+use Rattle.um_shape.proofs.AllFound.{IsLeft, left_first, low_at, left_stops, left_next, left_last}
 use Rattle.um_shape.proofs.body.+body.Goals as goal
-
-pub shape_of-returns-in_ok-whole-in-Let-clause-found : goal.shape_of-returns-in_ok-whole-in-Let-clause-found
-shape_of-returns-in_ok-whole-in-Let-clause-found t c =
-    let e = c.args.e.now in
-    let known = c.args.known.now in
-    let a = expr_tree c.in-Let.a.value in
-    let b = expr_tree c.in-Let.b.value in
-    let seen : expr_tree e ≡ bind e.at a b = search (rules, the_lemmas) in
-    let records = known_records known.records.items in
-    let heads = heads_shapes known.heads.items in
-    let items : c.push.new.self.items ≡ c.args.scope.now.items ++ c.in_ok-bound-in-Let.bound ∷ [] = search rules in
-    let whole : found records heads (flat_shapes c.push.new.self.items) b ≡ Ok (flat_shape c.in_ok-whole-in-Let.whole) = search rules in
-    rw seen (bind_found records heads c.args.scope.now.items e.at a b c.in_ok-bound-in-Let.bound c.in_ok-whole-in-Let.whole _ (search rules) (ap (λ vs. found records heads (flat_shapes vs) b) (sym items) ∙ whole) c.at_node-in-Let.ensures)
-
-pub shape_of-returns-in_ok-full-in-Match-clause-found : goal.shape_of-returns-in_ok-full-in-Match-clause-found
-shape_of-returns-in_ok-full-in-Match-clause-found t c =
-    let e = c.args.e.now in
-    let known = c.args.known.now in
-    let l = expr_tree c.in-Match.l.value in
-    let a = expr_tree c.in-Match.a.value in
-    let b = expr_tree c.in-Match.b.value in
-    let seen : expr_tree e ≡ split e.at l a b = search (rules, the_lemmas) in
-    let records = known_records known.records.items in
-    let heads = heads_shapes known.heads.items in
-    let vars = c.args.scope.now.items in
-    let list = c.in_ok-list-in-Match.list in
-    let item = c.in_ok-item-in-Match.item in
-    let same : c.shape_of-in-Match.new.scope.items ≡ vars = search rules in
-    let first : found records heads (flat_shapes c.shape_of-in-Match.new.scope.items) a ≡ Ok (flat_shape c.in_ok-empty-in-Match.empty) = search rules in
-    let pushed : c.push-in-Match.new.self.items ≡ vars ++ item ∷ [] = search rules in
-    let pushed_both : c.push-in-Match-2.new.self.items ≡ c.push-in-Match.new.self.items ++ list ∷ [] = search rules in
-    let items : c.push-in-Match-2.new.self.items ≡ vars ++ item ∷ list ∷ [] = pushed_both ∙ ap (λ xs. xs ++ list ∷ []) pushed ∙ append_assoc vars (item ∷ []) (list ∷ []) in
-    let last : found records heads (flat_shapes c.push-in-Match-2.new.self.items) b ≡ Ok (flat_shape c.in_ok-full-in-Match.full) = search rules in
-    rw seen (split_found records heads vars e.at l a b list item c.in_ok-empty-in-Match.empty c.in_ok-full-in-Match.full _ (search rules) (search rules) (ap (λ vs. found records heads (flat_shapes vs) a) (sym same) ∙ first) (ap (λ vs. found records heads (flat_shapes vs) b) (sym items) ∙ last) (subst (λ o. IsFound c.at_node-in-Match.result (at_node records e.at o)) c.of_arms.ensures c.at_node-in-Match.ensures))
 
 pub shapes_of-loop-i-init : goal.shapes_of-loop-i-init
 shapes_of-loop-i-init t c =

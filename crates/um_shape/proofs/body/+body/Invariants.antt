@@ -1,3 +1,5 @@
+use Rattle.std.proofs.Common.{◌+◌, max}
+use Rattle.um_tree.proofs.expression.Expr.TheLaws.{the_size}
 use Rattle.um_shape.specs.FlatShapes.{known_records, heads_shapes}
 use Rattle.um_shape.proofs.AllFound.{IsLeft}
 use Rattle.um_shape.proofs.body.+body.Given as goal
@@ -5,3 +7,27 @@ use Rattle.um_shape.proofs.body.+body.Given as goal
 abbrev pub invariant-shapes_of-loop-i : goal.invariant-shapes_of-loop-i
 invariant-shapes_of-loop-i l =
     IsLeft (known_records l.known.records.items) (heads_shapes l.known.heads.items) l.fn.scope.items l.parts l.i l.shapes.items l.scope.items
+
+abbrev pub decreases-asked_shape : goal.decreases-asked_shape
+decreases-asked_shape l = the_size l.a.now + 1
+
+abbrev pub decreases-numbers_shape : goal.decreases-numbers_shape
+decreases-numbers_shape l = max (the_size l.a.now) (the_size l.b.now) + 1
+
+abbrev pub decreases-truths_shape : goal.decreases-truths_shape
+decreases-truths_shape l = max (the_size l.a.now) (the_size l.b.now) + 1
+
+abbrev pub decreases-cons_shape : goal.decreases-cons_shape
+decreases-cons_shape l = max (the_size l.a.now) (the_size l.b.now) + 1
+
+abbrev pub decreases-let_shape : goal.decreases-let_shape
+decreases-let_shape l = max (the_size l.a.now) (the_size l.b.now) + 1
+
+abbrev pub decreases-if_shape : goal.decreases-if_shape
+decreases-if_shape l = max (the_size l.c.now) (max (the_size l.a.now) (the_size l.b.now)) + 1
+
+abbrev pub decreases-match_shape : goal.decreases-match_shape
+decreases-match_shape l = max (the_size l.l.now) (max (the_size l.a.now) (the_size l.b.now)) + 1
+
+abbrev pub decreases-shapes_of : goal.decreases-shapes_of
+decreases-shapes_of l = goal.size-shapes_of l + 1

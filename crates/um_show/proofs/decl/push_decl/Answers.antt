@@ -16,8 +16,8 @@ returns-in_ok-extend_from_slice-in-Base c =
 pub returns-in_ok-extend_from_slice-in-Short-2 : goal.returns-in_ok-extend_from_slice-in-Short-2
 returns-in_ok-extend_from_slice-in-Short-2 c =
     let x = c.in-Short.name in let u = unit_pieces (unit_syntax c.in-Short.unit) in
-    let front : List Piece = attribute_pieces ++ space ∷ type_word ∷ space ∷ [] in
+    let head : List Piece = attribute_pieces ++ space ∷ type_word ∷ space ∷ [] in
     let named = c.in_ok-push_name-in-Short.ensures ∙ ap (λ s. c.extend_from_slice-in-Short.new.self.items ++ s) (sym (append-nil x)) in
-    let two = grown _ _ _ front (name x ∷ []) c.in_ok-extend_from_slice-in-Short.ensures.items named in
-    let three = grown _ _ _ (front ++ name x ∷ []) (space ∷ equal ∷ space ∷ []) two c.in_ok-extend_from_slice-in-Short-2.ensures.items in
-    grows c.push_unit.result _ _ _ ((front ++ name x ∷ []) ++ space ∷ equal ∷ space ∷ []) u _ (ap (λ d. decl_pieces (decl_syntax d)) c.in-Short.is) three c.push_unit.ensures
+    let two = grown _ _ _ head (name x ∷ []) c.in_ok-extend_from_slice-in-Short.ensures.items named in
+    let three = grown _ _ _ (head ++ name x ∷ []) (space ∷ equal ∷ space ∷ []) two c.in_ok-extend_from_slice-in-Short-2.ensures.items in
+    grows c.push_unit.result _ _ _ ((head ++ name x ∷ []) ++ space ∷ equal ∷ space ∷ []) u _ (ap (λ d. decl_pieces (decl_syntax d)) c.in-Short.is) three c.push_unit.ensures

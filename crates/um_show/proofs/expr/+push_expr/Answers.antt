@@ -24,23 +24,23 @@ push_expr-returns-in_ok-push_full_arm-in-Match t c =
     let l = expr_syntax c.deref-in-Match.result.now in let a = expr_syntax c.deref-in-Match-2.result.now in let b = expr_syntax c.deref-in-Match-3.result.now in
     let x = binder_syntax c.in-Match.x in let y = binder_syntax c.in-Match.y in
     let seen : expr_syntax c.args.e.now ≡ match_syntax c.args.e.now.at l a x y b = search (rules, the_lemmas, c.in-Match.is, c.deref-in-Match.ensures, c.deref-in-Match-2.ensures, c.deref-in-Match-3.ensures) in
-    let front : List Piece = match_word ∷ space ∷ [] in
+    let head : List Piece = match_word ∷ space ∷ [] in
     let empty : List Piece = space ∷ with_word ∷ space ∷ list_open ∷ list_close ∷ space ∷ arrow ∷ space ∷ [] in
     let full : List Piece = arm_pieces x y in
-    let two = grown _ _ _ front (expr_pieces l) c.in_ok-extend_from_slice-in-Match.ensures.items c.in_ok-push_expr-in-Match.ensures in
-    let three = grown _ _ _ (front ++ expr_pieces l) empty two c.in_ok-extend_from_slice-in-Match-2.ensures.items in
-    let four = grown _ _ _ ((front ++ expr_pieces l) ++ empty) (expr_pieces a) three c.in_ok-push_expr-in-Match-2.ensures in
-    let five = grown _ _ _ (((front ++ expr_pieces l) ++ empty) ++ expr_pieces a) full four c.in_ok-push_full_arm-in-Match.ensures in
-    grows c.push_expr-in-Match-3.result _ _ _ ((((front ++ expr_pieces l) ++ empty) ++ expr_pieces a) ++ full) (expr_pieces b) _
-    (ap expr_pieces seen ∙ six_parts front (expr_pieces l) empty (expr_pieces a) full (expr_pieces b)) five c.push_expr-in-Match-3.ensures
+    let two = grown _ _ _ head (expr_pieces l) c.in_ok-extend_from_slice-in-Match.ensures.items c.in_ok-push_expr-in-Match.ensures in
+    let three = grown _ _ _ (head ++ expr_pieces l) empty two c.in_ok-extend_from_slice-in-Match-2.ensures.items in
+    let four = grown _ _ _ ((head ++ expr_pieces l) ++ empty) (expr_pieces a) three c.in_ok-push_expr-in-Match-2.ensures in
+    let five = grown _ _ _ (((head ++ expr_pieces l) ++ empty) ++ expr_pieces a) full four c.in_ok-push_full_arm-in-Match.ensures in
+    grows c.push_expr-in-Match-3.result _ _ _ ((((head ++ expr_pieces l) ++ empty) ++ expr_pieces a) ++ full) (expr_pieces b) _
+    (ap expr_pieces seen ∙ six_parts head (expr_pieces l) empty (expr_pieces a) full (expr_pieces b)) five c.push_expr-in-Match-3.ensures
 
 pub push_expr-returns-in_ok-push_type-in-Nil : goal.push_expr-returns-in_ok-push_type-in-Nil
 push_expr-returns-in_ok-push_type-in-Nil t c =
     let ty = type_syntax c.in-Nil.ty in
     let seen : expr_syntax c.args.e.now ≡ nil_syntax c.args.e.now.at ty = search (rules, the_lemmas, c.in-Nil.is) in
-    let front : List Piece = bracket_open ∷ list_open ∷ list_close ∷ space ∷ colon ∷ space ∷ [] in
-    let begun = grown _ _ _ front (type_pieces ty) c.in_ok-extend_from_slice-in-Nil.ensures.items c.in_ok-push_type-in-Nil.ensures in
-    closes c.extend_from_slice-in-Nil-2.result _ _ _ (front ++ type_pieces ty) (bracket_close ∷ []) _ (ap expr_pieces seen) begun c.extend_from_slice-in-Nil-2.ensures.items
+    let head : List Piece = bracket_open ∷ list_open ∷ list_close ∷ space ∷ colon ∷ space ∷ [] in
+    let begun = grown _ _ _ head (type_pieces ty) c.in_ok-extend_from_slice-in-Nil.ensures.items c.in_ok-push_type-in-Nil.ensures in
+    closes c.extend_from_slice-in-Nil-2.result _ _ _ (head ++ type_pieces ty) (bracket_close ∷ []) _ (ap expr_pieces seen) begun c.extend_from_slice-in-Nil-2.ensures.items
 
 pub push_expr-returns-in_ok-push_items-in-List : goal.push_expr-returns-in_ok-push_items-in-List
 push_expr-returns-in_ok-push_items-in-List t c =
@@ -61,9 +61,9 @@ pub push_expr-returns-in_ok-push_fields-in-Rec : goal.push_expr-returns-in_ok-pu
 push_expr-returns-in_ok-push_fields-in-Rec t c =
     let fs = fields_in_order (map field_part c.deref-in-Rec.result.now) in
     let seen : expr_syntax c.args.e.now ≡ fields_syntax c.args.e.now.at fs = search (rules, the_lemmas, c.in-Rec.is, c.deref-in-Rec.ensures.value) in
-    let front : List Piece = record_open ∷ space ∷ [] in
-    let begun = grown _ _ _ front (field_pieces fs) c.in_ok-extend_from_slice-in-Rec.ensures.items c.in_ok-push_fields-in-Rec.ensures in
-    closes c.extend_from_slice-in-Rec-2.result _ _ _ (front ++ field_pieces fs) (space ∷ record_close ∷ []) _ (ap expr_pieces seen) begun c.extend_from_slice-in-Rec-2.ensures.items
+    let head : List Piece = record_open ∷ space ∷ [] in
+    let begun = grown _ _ _ head (field_pieces fs) c.in_ok-extend_from_slice-in-Rec.ensures.items c.in_ok-push_fields-in-Rec.ensures in
+    closes c.extend_from_slice-in-Rec-2.result _ _ _ (head ++ field_pieces fs) (space ∷ record_close ∷ []) _ (ap expr_pieces seen) begun c.extend_from_slice-in-Rec-2.ensures.items
 
 pub push_expr-returns-in_ok-push-in-Field : goal.push_expr-returns-in_ok-push-in-Field
 push_expr-returns-in_ok-push-in-Field t c =

@@ -16,13 +16,13 @@ returns-in-Err-High c =
 pub returns-in_ok-with_last-in-Some : goal.returns-in_ok-with_last-in-Some
 returns-in_ok-with_last-in-Some c =
     let e = c.in-Ok.ensures in
-    let front = map type_syntax c.read_types.new.front.items in
+    let earlier = map type_syntax c.read_types.new.earlier.items in
     is_low c.args.tokens.now _
-    (ap signature_finish (sym e.0) ∙ ap (typed front) (sym c.finish.ensures.found ∙ ap (option_map type_syntax) c.in-Some.is) ∙ ap (λ ts. Some ts) (sym c.in_ok-with_last-in-Some.ensures)) e.1
+    (ap signature_finish (sym e.0) ∙ ap (typed earlier) (sym c.finish.ensures.found ∙ ap (option_map type_syntax) c.in-Some.is) ∙ ap (λ ts. Some ts) (sym c.in_ok-with_last-in-Some.ensures)) e.1
 
 pub returns-in-None : goal.returns-in-None
 returns-in-None c =
     let e = c.in-Ok.ensures in
-    let front = map type_syntax c.read_types.new.front.items in
-    fails_at_end c.args.tokens.now (not_refused c.args.tokens.now c.read_types.new.front.items c.in-Ok.reader e.0) e.1
-    (ap signature_finish (sym e.0) ∙ ap (typed front) (sym c.finish.ensures.found ∙ ap (option_map type_syntax) c.in-None.is))
+    let earlier = map type_syntax c.read_types.new.earlier.items in
+    fails_at_end c.args.tokens.now (not_refused c.args.tokens.now c.read_types.new.earlier.items c.in-Ok.reader e.0) e.1
+    (ap signature_finish (sym e.0) ∙ ap (typed earlier) (sym c.finish.ensures.found ∙ ap (option_map type_syntax) c.in-None.is))

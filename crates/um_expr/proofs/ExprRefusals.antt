@@ -1,0 +1,97 @@
+-- What the machine does where a test of the code fails.
+use Rattle.std.proofs.Common.{◌≡◌, ◌≢◌, ℕ, ◌<◌, ◌≤◌, max, List, [], ◌∷◌, Option, None, option_map, refl, sym, ap, ◌∙◌, arith, inl, inr}
+use Rattle.std.proofs.lemmas.Bool.{cases_lt, lt-ltb, le-ltb}
+use Rattle.um_frac.specs.declared.number.Frac.{Frac}
+use Rattle.um_tree.specs.RawTree.{ExprSyntax}
+use Rattle.um_tree.specs.declared.expression.Arith.TheVariants as arith_sign
+use Rattle.um_types.specs.NoteMachine.{NoteState, NeedNote, HaveHole, InUnit, NoNote, note_least}
+use Rattle.um_types.specs.TypeMachine.{TypeState, NeedType, HaveType, NoType, type_least}
+use Rattle.um_types.specs.TypeMachine.{InNote as InTypeNote}
+use Rattle.um_types.specs.UnitStops.{greatest_height}
+use Rattle.um_expr.specs.declared.infix.Infix.{Infix}
+use Rattle.um_expr.specs.declared.infix.Infix.TheVariants as between
+use Rattle.um_expr.specs.declared.operand.Operand.{Operand}
+use Rattle.um_expr.specs.declared.focus.Step.TheVariants as step
+use Rattle.um_expr.specs.Ranks.{infix_rank, left_limit}
+use Rattle.um_expr.specs.ExprOperands.{operand_expr}
+use Rattle.um_expr.specs.ExprMachine.{Frame, own_rank, plug, top_bound, State, Have, InNote, InType, Refused, reduce, infix_after, greater_after, whole, finish, note_goes, type_goes}
+use Rattle.um_expr.specs.ExprLeast.{notes_side, notes_over, whole_least}
+use Rattle.um_expr.specs.ExprStates.{Simulates}
+
+-- frames that are ended up to a lower rank first are ended alike
+reduce_twice : (limit : ℕ) (frames now : List Frame) (t u : ExprSyntax) → limit ≤ 9 → Have now u ≡ reduce limit frames t → reduce 9 now u ≡ reduce 9 frames t
+reduce_twice limit [] now t u le e =
+    let a : now ≡ [] = cc in let b : u ≡ t = cc in ap (λ fs. reduce 9 fs u) a ∙ ap (reduce 9 []) b
+reduce_twice limit (frame ∷ frames) now t u le e =
+    elim (cases_lt limit (own_rank frame)) [
+      | inl keeps ↦
+          let f : Have now u ≡ Have (frame ∷ frames) t = e ∙ (rw lt-ltb refl) in
+          let a : now ≡ frame ∷ frames = cc in
+          let b : u ≡ t = cc in
+          ap (λ fs. reduce 9 fs u) a ∙ ap (reduce 9 (frame ∷ frames)) b
+      | inr ends ↦
+          let f : Have now u ≡ reduce limit frames (plug frame t) = e ∙ (rw le-ltb refl) in
+          reduce_twice limit frames now (plug frame t) u le f ∙ sym (popped frame frames t (omega (arith, ends, le)))
+    ]
+  where
+    popped : (frame : Frame) (frames : List Frame) (t : ExprSyntax) → own_rank frame ≤ 9 → reduce 9 (frame ∷ frames) t ≡ reduce 9 frames (plug frame t)
+    popped frame frames t low = rw le-ltb refl
+
+found_alike : (limit : ℕ) (frames now : List Frame) (t u : ExprSyntax) → limit ≤ 9 → Have now u ≡ reduce limit frames t → finish (Have now u) ≡ finish (Have frames t)
+found_alike limit frames now t u le e = ap whole (reduce_twice limit frames now t u le e)
+
+-- a note goes on; a type
+note_goes_on : (frames : List Frame) (at : ℕ) (c : Frac) (n : NoteState) (ended : State) → n ≢ NoNote → note_goes frames at c n ended ≡ InNote frames at c n
+note_goes_on frames at c NoNote ended ok = absurd (ok refl)
+note_goes_on frames at c NeedNote ended ok = refl
+note_goes_on frames at c (HaveHole p) ended ok = refl
+note_goes_on frames at c (InUnit p u) ended ok = refl
+
+type_goes_on : (frames : List Frame) (at : ℕ) (s : TypeState) (ended : State) → s ≢ NoType → type_goes frames at s ended ≡ InType frames at s
+type_goes_on frames at NoType ended ok = absurd (ok refl)
+type_goes_on frames at (NeedType d) ended ok = refl
+type_goes_on frames at (HaveType d t) ended ok = refl
+type_goes_on frames at (InTypeNote d o n) ended ok = refl
+
+notes_above : (frames : List Frame) (m : ℕ) → m ≤ notes_over frames m
+notes_above [] m = omega arith
+notes_above (frame ∷ frames) m = let e = notes_above frames (max (notes_side frame) m) in omega (arith, e)
+
+note_too_high : (frames : List Frame) (at : ℕ) (c : Frac) (n : NoteState) → greatest_height < note_least n → greatest_height < whole_least (InNote frames at c n)
+note_too_high frames at c n high = omega (arith, high, notes_above frames (note_least n))
+
+type_too_high : (frames : List Frame) (at : ℕ) (s : TypeState) → greatest_height < type_least s → greatest_height < whole_least (InType frames at s)
+type_too_high frames at s high = omega (arith, high, notes_above frames (type_least s))
+
+pub limit_low : (sign : Infix) → left_limit sign ≤ 9
+limit_low between.Or = omega arith
+limit_low between.And = omega arith
+limit_low (between.Compare sign) = omega arith
+limit_low between.Cons = omega arith
+limit_low (between.Arith arith_sign.Add) = omega arith
+limit_low (between.Arith arith_sign.Sub) = omega arith
+limit_low (between.Arith arith_sign.Mul) = omega arith
+limit_low (between.Arith arith_sign.Div) = omega arith
+
+-- a sign that may not stand here
+pub sign_refused : (sign : Infix) (at limit : ℕ) (frames now new : List Frame) (t u : ExprSyntax) (o : Option Operand) → limit ≤ 9 → Have now u ≡ reduce limit frames t
+    → top_bound now ≤ infix_rank sign → option_map operand_expr o ≡ finish (Have now u) → Simulates (finish (Have frames t)) new (step.Stops o) (infix_after sign at (reduce limit frames t))
+sign_refused sign at limit frames now new t u o le e high found =
+    let no : infix_after sign at (Have now u) ≡ Refused = rw le-ltb refl in
+    (ap (infix_after sign at) (sym e) ∙ no, found ∙ found_alike limit frames now t u le e)
+
+pub greater_refused : (at : ℕ) (frames now new : List Frame) (t u : ExprSyntax) (o : Option Operand) → Have now u ≡ reduce 5 frames t
+    → top_bound now ≤ 6 → option_map operand_expr o ≡ finish (Have now u) → Simulates (finish (Have frames t)) new (step.Stops o) (greater_after at (reduce 5 frames t))
+greater_refused at frames now new t u o e high found =
+    let no : greater_after at (Have now u) ≡ Refused = rw le-ltb refl in
+    (ap (greater_after at) (sym e) ∙ no, found ∙ found_alike 5 frames now t u (omega arith) e)
+
+pub note_high : (frames : List Frame) (at : ℕ) (c : Frac) (n : NoteState) (ended : State) → n ≢ NoNote → greatest_height < note_least n → Simulates None frames step.High (note_goes frames at c n ended)
+note_high frames at c n ended ok high =
+    let e = note_goes_on frames at c n ended ok in
+    ((λ h. let f : InNote frames at c n ≡ Refused = sym e ∙ h in absurd cc), omega (arith, note_too_high frames at c n high, ap whole_least e))
+
+pub type_high : (frames : List Frame) (at : ℕ) (s : TypeState) (ended : State) → s ≢ NoType → greatest_height < type_least s → Simulates None frames step.High (type_goes frames at s ended)
+type_high frames at s ended ok high =
+    let e = type_goes_on frames at s ended ok in
+    ((λ h. let f : InType frames at s ≡ Refused = sym e ∙ h in absurd cc), omega (arith, type_too_high frames at s high, ap whole_least e))

@@ -1,9 +1,0 @@
-use Rattle.std.proofs.Common.{◌+◌, ap, ◌∙◌}
-use Rattle.um_types.specs.UnitCount.{counted}
-use Rattle.um_expr.proofs.ExprLow.{low_same}
-use Rattle.um_expr.proofs.least.is_low.Goals as goal
-
-pub returns : goal.returns
-returns c =
-    low_same c.args.frames.now.entries.items c.args.hand.now c.hand_height.result c.counted_sum-height.result c.least.result c.higher.result c.hand_height.ensures c.least.ensures
-    (c.counted_sum-height.ensures ∙ ap (λ n. counted (c.hand_height.result + n)) c.count.ensures) c.higher.ensures

@@ -1,0 +1,14 @@
+use Rattle.std.proofs.Common.{map, ap, arith}
+use Rattle.um_tree.specs.RawTree.{expr_syntax, exprs_in_order}
+use Rattle.um_tree.specs.Heights.{tallest_expr}
+use Rattle.um_expr.specs.ExprHeights.{notes_in_all}
+use Rattle.um_expr.proofs.ExprLists.{items_more}
+use Rattle.um_expr.proofs.list.Operands.with.Goals as goal
+
+pub invariant_of-result : goal.invariant_of-result
+invariant_of-result c =
+    let more = items_more c.args.self.items.items c.args.last.tree in
+    record {
+      exact = omega (arith, c.higher.ensures, c.args.self.exact, c.args.last.exact, more.0, ap (λ w. tallest_expr (exprs_in_order (map expr_syntax w))) c.in_ok-push.ensures.items);
+      low = omega (arith, c.args.self.low, c.args.last.low, more.1, ap (λ w. notes_in_all (exprs_in_order (map expr_syntax w))) c.in_ok-push.ensures.items);
+    }

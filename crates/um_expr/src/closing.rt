@@ -1,0 +1,195 @@
+// A sign or reserved word that ends or goes on a form behind an atom.
+ghost use Rattle.std.specs.Prelude.{◌≡◌, ◌∷◌, IfOk, None};
+ghost use Rattle.um_expr.specs.declared.focus.Step.TheVariants.{Stops};
+ghost use Rattle.um_expr.specs.ExprMachine.{Have, reduce, finish, close_after, list_after, record_after, semi_after, in_after, then_after, else_after, with_after, bar_after, mark_ends, word_ends};
+ghost use Rattle.um_expr.specs.ExprOperands.{operand_expr};
+ghost use Rattle.um_expr.specs.ExprFrames.{view_frame};
+ghost use Rattle.um_expr.specs.ExprStack.{frames_of};
+ghost use Rattle.um_expr.specs.ExprStates.{Simulates};
+
+use crate::begin::opened;
+use crate::ending::ended;
+use crate::focus::{Expected, Focus, Step};
+use crate::frame::Frame;
+use crate::frames::Frames;
+use crate::operand::Operand;
+use std::alloc::{AllocError, Global};
+use um_syntax::{Keyword, Symbol};
+
+// A frame that the token doesn't end.
+fn refuse(frame: Frame, inner: Operand) -> Step
+    ensures { result ≡ Stops None }
+{
+    drop(frame);
+    drop(inner);
+    Step::Stops(None)
+}
+
+// `)`
+fn close(alloc: Global, frames: &Frames, frame: Frame, inner: Operand) -> Result<Step, AllocError>
+    ensures { IfOk result (λ s. Simulates None (frames_of frames.now) s (close_after (Have (view_frame frame ∷ frames_of frames.now) (operand_expr inner)))) }
+{
+    match frame {
+        Frame::InBracket(at) => Ok(Step::Goes(Focus::Read(inner.bracket(alloc, at)?))),
+        other => Ok(refuse(other, inner)),
+    }
+}
+
+// `]`
+fn close_list(frames: &Frames, frame: Frame, inner: Operand) -> Result<Step, AllocError>
+    ensures { IfOk result (λ s. Simulates None (frames_of frames.now) s (list_after (Have (view_frame frame ∷ frames_of frames.now) (operand_expr inner)))) }
+{
+    match frame {
+        Frame::InItem(at, before) => Ok(Step::Goes(Focus::Read(before.with(inner)?.list(at)))),
+        other => Ok(refuse(other, inner)),
+    }
+}
+
+// `}`
+fn close_record(frames: &Frames, frame: Frame, inner: Operand) -> Result<Step, AllocError>
+    ensures { IfOk result (λ s. Simulates None (frames_of frames.now) s (record_after (Have (view_frame frame ∷ frames_of frames.now) (operand_expr inner)))) }
+{
+    match frame {
+        Frame::InField(at, before, place, name) => {
+            let fields = before.with(place, name, inner)?;
+            Ok(Step::Goes(Focus::Read(fields.whole(at))))
+        }
+        other => Ok(refuse(other, inner)),
+    }
+}
+
+// `;`
+fn semicolon(frames: &mut Frames, frame: Frame, inner: Operand) -> Result<Step, AllocError>
+    ensures { IfOk result (λ s. Simulates None (frames_of frames.new) s (semi_after (Have (view_frame frame ∷ frames_of frames.old) (operand_expr inner)))) }
+{
+    match frame {
+        Frame::InItem(at, before) => opened(frames, Frame::InItem(at, before.with(inner)?)),
+        Frame::InField(at, before, place, name) => {
+            let fields = before.with(place, name, inner)?;
+            Ok(Step::Goes(Focus::Inside(Expected::FieldName(at, fields))))
+        }
+        other => Ok(refuse(other, inner)),
+    }
+}
+
+// `in`
+fn body(frames: &mut Frames, frame: Frame, inner: Operand) -> Result<Step, AllocError>
+    ensures { IfOk result (λ s. Simulates None (frames_of frames.new) s (in_after (Have (view_frame frame ∷ frames_of frames.old) (operand_expr inner)))) }
+{
+    match frame {
+        Frame::InValue(at, x) => opened(frames, Frame::InBody(at, x, inner)),
+        other => Ok(refuse(other, inner)),
+    }
+}
+
+// `then`
+fn first_branch(frames: &mut Frames, frame: Frame, inner: Operand) -> Result<Step, AllocError>
+    ensures { IfOk result (λ s. Simulates None (frames_of frames.new) s (then_after (Have (view_frame frame ∷ frames_of frames.old) (operand_expr inner)))) }
+{
+    match frame {
+        Frame::InTest(at) => opened(frames, Frame::InThen(at, inner)),
+        other => Ok(refuse(other, inner)),
+    }
+}
+
+// `else`
+fn second_branch(frames: &mut Frames, frame: Frame, inner: Operand) -> Result<Step, AllocError>
+    ensures { IfOk result (λ s. Simulates None (frames_of frames.new) s (else_after (Have (view_frame frame ∷ frames_of frames.old) (operand_expr inner)))) }
+{
+    match frame {
+        Frame::InThen(at, test) => opened(frames, Frame::InElse(at, test, inner)),
+        other => Ok(refuse(other, inner)),
+    }
+}
+
+// `with`
+fn arms(frames: &Frames, frame: Frame, inner: Operand) -> Step
+    ensures { Simulates None (frames_of frames.now) result (with_after (Have (view_frame frame ∷ frames_of frames.now) (operand_expr inner))) }
+{
+    match frame {
+        Frame::InMatched(at) => Step::Goes(Focus::Inside(Expected::ArmBegin(at, inner))),
+        other => refuse(other, inner),
+    }
+}
+
+// `|`
+fn full_arm(frames: &Frames, frame: Frame, inner: Operand) -> Step
+    ensures { Simulates None (frames_of frames.now) result (bar_after (Have (view_frame frame ∷ frames_of frames.now) (operand_expr inner))) }
+{
+    match frame {
+        Frame::InEmptyArm(at, list) => Step::Goes(Focus::Inside(Expected::HeadBinder(
+            at, list, inner,
+        ))),
+        other => refuse(other, inner),
+    }
+}
+
+// The sign ends or goes on the frame, whose last operand is whole.
+fn end_frame_by_mark(
+    alloc: Global,
+    frames: &mut Frames,
+    frame: Frame,
+    inner: Operand,
+    symbol: Symbol,
+) -> Result<Step, AllocError>
+    ensures { IfOk result (λ s. Simulates None (frames_of frames.new) s (mark_ends symbol (Have (view_frame frame ∷ frames_of frames.old) (operand_expr inner)))) }
+{
+    match symbol {
+        Symbol::RightParen => close(alloc, frames, frame, inner),
+        Symbol::RightBracket => close_list(frames, frame, inner),
+        Symbol::RightBrace => close_record(frames, frame, inner),
+        Symbol::Semicolon => semicolon(frames, frame, inner),
+        Symbol::Bar => Ok(full_arm(frames, frame, inner)),
+        _ => Ok(refuse(frame, inner)),
+    }
+}
+
+/// The sign ends or goes on the innermost frame that a token ends.
+pub fn end_by_mark(
+    alloc: Global,
+    frames: &mut Frames,
+    operand: Operand,
+    symbol: Symbol,
+) -> Result<Step, AllocError>
+    ensures { IfOk result (λ s. Simulates (finish (Have (frames_of frames.old) (operand_expr operand))) (frames_of frames.new) s (mark_ends symbol (reduce 9 (frames_of frames.old) (operand_expr operand)))) }
+{
+    let inner = ended(alloc, frames, 9, operand)?;
+    match frames.pop() {
+        Some(frame) => end_frame_by_mark(alloc, frames, frame, inner, symbol),
+        None => Ok(Step::Stops(Some(inner))),
+    }
+}
+
+// The reserved word goes on the frame, whose last operand is whole.
+fn end_frame_by_word(
+    frames: &mut Frames,
+    frame: Frame,
+    inner: Operand,
+    keyword: Keyword,
+) -> Result<Step, AllocError>
+    ensures { IfOk result (λ s. Simulates None (frames_of frames.new) s (word_ends keyword (Have (view_frame frame ∷ frames_of frames.old) (operand_expr inner)))) }
+{
+    match keyword {
+        Keyword::In => body(frames, frame, inner),
+        Keyword::Then => first_branch(frames, frame, inner),
+        Keyword::Else => second_branch(frames, frame, inner),
+        Keyword::With => Ok(arms(frames, frame, inner)),
+        _ => Ok(refuse(frame, inner)),
+    }
+}
+
+/// The reserved word goes on the innermost frame that a token ends.
+pub fn end_by_word(
+    alloc: Global,
+    frames: &mut Frames,
+    operand: Operand,
+    keyword: Keyword,
+) -> Result<Step, AllocError>
+    ensures { IfOk result (λ s. Simulates (finish (Have (frames_of frames.old) (operand_expr operand))) (frames_of frames.new) s (word_ends keyword (reduce 9 (frames_of frames.old) (operand_expr operand)))) }
+{
+    let inner = ended(alloc, frames, 9, operand)?;
+    match frames.pop() {
+        Some(frame) => end_frame_by_word(frames, frame, inner, keyword),
+        None => Ok(Step::Stops(Some(inner))),
+    }
+}

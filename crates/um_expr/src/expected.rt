@@ -1,0 +1,301 @@
+// One token inside a run of tokens that is fixed.
+ghost use Rattle.std.specs.Prelude.{◌≡◌, IfOk, None};
+ghost use Rattle.um_tree.specs.RawTree.{binder_syntax};
+ghost use Rattle.um_expr.specs.ExprMachine.{LetBinder, LetEqual, FieldName, FieldEqual, DotName, ArmBegin, ArmOpen, ArmClose, ArmArrow, HeadBinder, HeadCons, TailBinder, TailArrow, NilColon, inside};
+ghost use Rattle.um_expr.specs.ExprOperands.{operand_expr, read_fields};
+ghost use Rattle.um_expr.specs.ExprStack.{frames_of};
+ghost use Rattle.um_expr.specs.ExprStates.{Simulates, view_expected};
+
+use crate::begin::{opened, refuse_token};
+use crate::focus::{Expected, Focus, Step};
+use crate::frame::Frame;
+use crate::frames::Frames;
+use crate::infix::Infix;
+use crate::operand::Operand;
+use crate::operands::ReadFields;
+use crate::token::ExprToken;
+use std::alloc::{AllocError, Global};
+use um_syntax::Symbol;
+use um_tree::{Binder, Name, Sign};
+use um_types::TypeReader;
+
+// Behind `let`
+fn let_binder(frames: &Frames, at: u32, kind: ExprToken, p: u32) -> Step
+    ensures { Simulates None (frames_of frames.now) result (inside (frames_of frames.now) (LetBinder at) kind p) }
+{
+    match kind {
+        ExprToken::Name(name) => {
+            let x = Binder {
+                at: p,
+                name: Some(name),
+            };
+            Step::Goes(Focus::Inside(Expected::LetEqual(at, x)))
+        }
+        ExprToken::Hole => {
+            let x = Binder { at: p, name: None };
+            Step::Goes(Focus::Inside(Expected::LetEqual(at, x)))
+        }
+        other => refuse_token(other),
+    }
+}
+
+// Behind `let` and its binder
+fn let_equal(
+    frames: &mut Frames,
+    at: u32,
+    x: Binder,
+    kind: ExprToken,
+    p: u32,
+) -> Result<Step, AllocError>
+    ensures { IfOk result (λ s. Simulates None (frames_of frames.new) s (inside (frames_of frames.old) (LetEqual at (binder_syntax x)) kind p)) }
+{
+    match kind {
+        ExprToken::Operator(Infix::Compare(Sign::Eq)) => opened(frames, Frame::InValue(at, x)),
+        other => Ok(refuse_token(other)),
+    }
+}
+
+// Behind `{` or `;` and these fields
+fn field_name(frames: &Frames, at: u32, before: ReadFields, kind: ExprToken, p: u32) -> Step
+    ensures { Simulates None (frames_of frames.now) result (inside (frames_of frames.now) (FieldName at (read_fields before)) kind p) }
+{
+    match kind {
+        ExprToken::Name(name) => Step::Goes(Focus::Inside(Expected::FieldEqual(
+            at, before, p, name,
+        ))),
+        other => refuse_token(other),
+    }
+}
+
+// Behind a field's name
+fn field_equal(
+    frames: &mut Frames,
+    at: u32,
+    before: ReadFields,
+    place: u32,
+    name: Name,
+    kind: ExprToken,
+    p: u32,
+) -> Result<Step, AllocError>
+    ensures { IfOk result (λ s. Simulates None (frames_of frames.new) s (inside (frames_of frames.old) (FieldEqual at (read_fields before) place name) kind p)) }
+{
+    match kind {
+        ExprToken::Operator(Infix::Compare(Sign::Eq)) => {
+            opened(frames, Frame::InField(at, before, place, name))
+        }
+        other => Ok(refuse_token(other)),
+    }
+}
+
+// Behind `.`
+fn dot_name(
+    alloc: Global,
+    frames: &Frames,
+    at: u32,
+    operand: Operand,
+    kind: ExprToken,
+    p: u32,
+) -> Result<Step, AllocError>
+    ensures { IfOk result (λ s. Simulates None (frames_of frames.now) s (inside (frames_of frames.now) (DotName at (operand_expr operand)) kind p)) }
+{
+    match kind {
+        ExprToken::Name(name) => Ok(Step::Goes(Focus::Read(operand.field(alloc, at, p, name)?))),
+        other => Ok(refuse_token(other)),
+    }
+}
+
+// Behind `with`
+fn arm_begin(frames: &Frames, at: u32, list: Operand, kind: ExprToken, p: u32) -> Step
+    ensures { Simulates None (frames_of frames.now) result (inside (frames_of frames.now) (ArmBegin at (operand_expr list)) kind p) }
+{
+    match kind {
+        ExprToken::Mark(Symbol::Bar) => Step::Goes(Focus::Inside(Expected::ArmOpen(at, list))),
+        ExprToken::Mark(Symbol::LeftBracket) => Step::Goes(Focus::Inside(Expected::ArmClose(
+            at, list,
+        ))),
+        other => refuse_token(other),
+    }
+}
+
+// Behind the bar of the empty arm
+fn arm_open(frames: &Frames, at: u32, list: Operand, kind: ExprToken, p: u32) -> Step
+    ensures { Simulates None (frames_of frames.now) result (inside (frames_of frames.now) (ArmOpen at (operand_expr list)) kind p) }
+{
+    match kind {
+        ExprToken::Mark(Symbol::LeftBracket) => Step::Goes(Focus::Inside(Expected::ArmClose(
+            at, list,
+        ))),
+        other => refuse_token(other),
+    }
+}
+
+// Behind `[` of the empty arm
+fn arm_close(frames: &Frames, at: u32, list: Operand, kind: ExprToken, p: u32) -> Step
+    ensures { Simulates None (frames_of frames.now) result (inside (frames_of frames.now) (ArmClose at (operand_expr list)) kind p) }
+{
+    match kind {
+        ExprToken::Mark(Symbol::RightBracket) => Step::Goes(Focus::Inside(Expected::ArmArrow(
+            at, list,
+        ))),
+        other => refuse_token(other),
+    }
+}
+
+// Behind `]` of the empty arm
+fn arm_arrow(
+    frames: &mut Frames,
+    at: u32,
+    list: Operand,
+    kind: ExprToken,
+    p: u32,
+) -> Result<Step, AllocError>
+    ensures { IfOk result (λ s. Simulates None (frames_of frames.new) s (inside (frames_of frames.old) (ArmArrow at (operand_expr list)) kind p)) }
+{
+    match kind {
+        ExprToken::Mark(Symbol::Arrow) => opened(frames, Frame::InEmptyArm(at, list)),
+        other => Ok(refuse_token(other)),
+    }
+}
+
+// Behind the bar of the full arm
+fn head_binder(
+    frames: &Frames,
+    at: u32,
+    list: Operand,
+    empty: Operand,
+    kind: ExprToken,
+    p: u32,
+) -> Step
+    ensures { Simulates None (frames_of frames.now) result (inside (frames_of frames.now) (HeadBinder at (operand_expr list) (operand_expr empty)) kind p) }
+{
+    match kind {
+        ExprToken::Name(name) => {
+            let head = Binder {
+                at: p,
+                name: Some(name),
+            };
+            Step::Goes(Focus::Inside(Expected::HeadCons(at, list, empty, head)))
+        }
+        ExprToken::Hole => {
+            let head = Binder { at: p, name: None };
+            Step::Goes(Focus::Inside(Expected::HeadCons(at, list, empty, head)))
+        }
+        other => refuse_token(other),
+    }
+}
+
+// Behind the head
+fn head_cons(
+    frames: &Frames,
+    at: u32,
+    list: Operand,
+    empty: Operand,
+    head: Binder,
+    kind: ExprToken,
+    p: u32,
+) -> Step
+    ensures { Simulates None (frames_of frames.now) result (inside (frames_of frames.now) (HeadCons at (operand_expr list) (operand_expr empty) (binder_syntax head)) kind p) }
+{
+    match kind {
+        ExprToken::Operator(Infix::Cons) => {
+            Step::Goes(Focus::Inside(Expected::TailBinder(at, list, empty, head)))
+        }
+        other => refuse_token(other),
+    }
+}
+
+// Behind the head and `::`
+fn tail_binder(
+    frames: &Frames,
+    at: u32,
+    list: Operand,
+    empty: Operand,
+    head: Binder,
+    kind: ExprToken,
+    p: u32,
+) -> Step
+    ensures { Simulates None (frames_of frames.now) result (inside (frames_of frames.now) (TailBinder at (operand_expr list) (operand_expr empty) (binder_syntax head)) kind p) }
+{
+    match kind {
+        ExprToken::Name(name) => {
+            let tail = Binder {
+                at: p,
+                name: Some(name),
+            };
+            Step::Goes(Focus::Inside(Expected::TailArrow(at, list, empty, head, tail)))
+        }
+        ExprToken::Hole => {
+            let tail = Binder { at: p, name: None };
+            Step::Goes(Focus::Inside(Expected::TailArrow(at, list, empty, head, tail)))
+        }
+        other => refuse_token(other),
+    }
+}
+
+// Behind the tail
+fn tail_arrow(
+    frames: &mut Frames,
+    at: u32,
+    list: Operand,
+    empty: Operand,
+    head: Binder,
+    tail: Binder,
+    kind: ExprToken,
+    p: u32,
+) -> Result<Step, AllocError>
+    ensures { IfOk result (λ s. Simulates None (frames_of frames.new) s (inside (frames_of frames.old) (TailArrow at (operand_expr list) (operand_expr empty) (binder_syntax head) (binder_syntax tail)) kind p)) }
+{
+    match kind {
+        ExprToken::Mark(Symbol::Arrow) => opened(
+            frames,
+            Frame::InFullArm(at, list, empty, head, tail),
+        ),
+        other => Ok(refuse_token(other)),
+    }
+}
+
+// Behind `(` `[` `]`
+fn nil_colon(frames: &Frames, at: u32, kind: ExprToken, p: u32) -> Step
+    ensures { Simulates None (frames_of frames.now) result (inside (frames_of frames.now) (NilColon at) kind p) }
+{
+    match kind {
+        ExprToken::Mark(Symbol::Colon) => Step::Goes(Focus::Type(at, TypeReader::new())),
+        other => refuse_token(other),
+    }
+}
+
+/// One token inside a run of tokens that is fixed.
+pub fn inside(
+    alloc: Global,
+    frames: &mut Frames,
+    place: Expected,
+    kind: ExprToken,
+    p: u32,
+) -> Result<Step, AllocError>
+    ensures { IfOk result (λ s. Simulates None (frames_of frames.new) s (inside (frames_of frames.old) (view_expected place) kind p)) }
+{
+    match place {
+        Expected::LetBinder(at) => Ok(let_binder(frames, at, kind, p)),
+        Expected::LetEqual(at, x) => let_equal(frames, at, x, kind, p),
+        Expected::FieldName(at, before) => Ok(field_name(frames, at, before, kind, p)),
+        Expected::FieldEqual(at, before, place, name) => {
+            field_equal(frames, at, before, place, name, kind, p)
+        }
+        Expected::DotName(at, operand) => dot_name(alloc, frames, at, operand, kind, p),
+        Expected::ArmBegin(at, list) => Ok(arm_begin(frames, at, list, kind, p)),
+        Expected::ArmOpen(at, list) => Ok(arm_open(frames, at, list, kind, p)),
+        Expected::ArmClose(at, list) => Ok(arm_close(frames, at, list, kind, p)),
+        Expected::ArmArrow(at, list) => arm_arrow(frames, at, list, kind, p),
+        Expected::HeadBinder(at, list, empty) => Ok(head_binder(frames, at, list, empty, kind, p)),
+        Expected::HeadCons(at, list, empty, head) => {
+            Ok(head_cons(frames, at, list, empty, head, kind, p))
+        }
+        Expected::TailBinder(at, list, empty, head) => {
+            Ok(tail_binder(frames, at, list, empty, head, kind, p))
+        }
+        Expected::TailArrow(at, list, empty, head, tail) => {
+            tail_arrow(frames, at, list, empty, head, tail, kind, p)
+        }
+        Expected::NilColon(at) => Ok(nil_colon(frames, at, kind, p)),
+    }
+}

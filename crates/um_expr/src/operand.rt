@@ -1,0 +1,251 @@
+// Expressions with their heights beside them, so that no height is counted again.
+ghost use Rattle.std.specs.Prelude.{◌≡◌, ◌≤◌, IfOk, None};
+ghost use Rattle.um_tree.specs.RawTree.{expr_syntax, binder_syntax, type_syntax, written_note, truth_syntax, number_syntax, name_syntax, negate_syntax, not_syntax, if_syntax, let_syntax, match_syntax, nil_syntax, field_syntax, bracket_expr_syntax};
+ghost use Rattle.um_tree.specs.Heights.{expr_height};
+ghost use Rattle.um_types.specs.TypeHeights.{whole_height};
+ghost use Rattle.um_types.specs.UnitCount.{counted};
+ghost use Rattle.um_types.specs.UnitStops.{greatest_height};
+ghost use Rattle.um_expr.specs.ExprHeights.{notes_in, written_height};
+ghost use Rattle.um_expr.specs.Ranks.{infix_text};
+
+use crate::infix::Infix;
+use crate::node::composite;
+use std::alloc::{AllocError, Global};
+use um_frac::Frac;
+use um_tree::{Binder, Name, RawExpr, RawNode, RawNote, RawType};
+use um_types::{higher, one_higher};
+
+/// An expression and its height, counted. No unit text or type text in it is too high.
+#[derive(Drop)]
+pub struct Operand {
+    pub tree: RawExpr,
+    pub height: u32,
+    ghost exact: { height ≡ counted (expr_height (expr_syntax tree)) },
+    ghost low: { notes_in (expr_syntax tree) ≤ greatest_height },
+}
+
+impl Operand {
+    ghost use Rattle.um_expr.specs.ExprKinds.{is_name, is_plain_number};
+    ghost use Rattle.um_expr.specs.ExprOperands.{operand_expr};
+
+    /// `true` or `false`
+    pub fn truth(at: u32, value: bool) -> Operand
+        ensures { operand_expr result ≡ truth_syntax at value }
+    {
+        Operand {
+            tree: RawExpr {
+                at,
+                node: RawNode::Bool(value),
+            },
+            height: 1,
+        }
+    }
+
+    /// A number, with its note if it has one
+    pub fn number(at: u32, value: Frac, note: Option<RawNote>) -> Operand
+        requires { written_height (written_note note) ≤ greatest_height }
+        ensures { operand_expr result ≡ number_syntax at value (written_note note) }
+    {
+        Operand {
+            tree: RawExpr {
+                at,
+                node: RawNode::Num(value, note),
+            },
+            height: 1,
+        }
+    }
+
+    /// A name
+    pub fn name(at: u32, name: Name) -> Operand
+        ensures { operand_expr result ≡ name_syntax at name }
+    {
+        Operand {
+            tree: RawExpr {
+                at,
+                node: RawNode::Name(name),
+            },
+            height: 1,
+        }
+    }
+
+    /// `-e`
+    pub fn negate(self, alloc: Global, at: u32) -> Result<Operand, AllocError>
+        ensures { IfOk result (λ p. operand_expr p ≡ negate_syntax at (operand_expr self)) }
+    {
+        let Operand { tree, height } = self;
+        let node = RawNode::Neg(Box::new(alloc, tree)?);
+        Ok(Operand {
+            tree: RawExpr { at, node },
+            height: one_higher(height),
+        })
+    }
+
+    /// `not e`
+    pub fn not(self, alloc: Global, at: u32) -> Result<Operand, AllocError>
+        ensures { IfOk result (λ p. operand_expr p ≡ not_syntax at (operand_expr self)) }
+    {
+        let Operand { tree, height } = self;
+        let node = RawNode::Not(Box::new(alloc, tree)?);
+        Ok(Operand {
+            tree: RawExpr { at, node },
+            height: one_higher(height),
+        })
+    }
+
+    /// `(e)`
+    pub fn bracket(self, alloc: Global, at: u32) -> Result<Operand, AllocError>
+        ensures { IfOk result (λ p. operand_expr p ≡ bracket_expr_syntax at (operand_expr self)) }
+    {
+        let Operand { tree, height } = self;
+        let node = RawNode::Bracket(Box::new(alloc, tree)?);
+        Ok(Operand {
+            tree: RawExpr { at, node },
+            height: one_higher(height),
+        })
+    }
+
+    /// `e.x`, with the place of the field's name
+    pub fn field(
+        self,
+        alloc: Global,
+        at: u32,
+        place: u32,
+        name: Name,
+    ) -> Result<Operand, AllocError>
+        ensures { IfOk result (λ p. operand_expr p ≡ field_syntax at place name (operand_expr self)) }
+    {
+        let Operand { tree, height } = self;
+        let node = RawNode::Field(place, name, Box::new(alloc, tree)?);
+        Ok(Operand {
+            tree: RawExpr { at, node },
+            height: one_higher(height),
+        })
+    }
+
+    /// A sign with both operands
+    pub fn infix(
+        self,
+        alloc: Global,
+        at: u32,
+        sign: Infix,
+        right: Operand,
+    ) -> Result<Operand, AllocError>
+        ensures { IfOk result (λ p. operand_expr p ≡ infix_text at sign (operand_expr self) (operand_expr right)) }
+    {
+        let Operand { tree, height } = self;
+        let left = Box::new(alloc, tree)?;
+        let height = one_higher(higher(height, right.height));
+        let right = Box::new(alloc, right.tree)?;
+        let node = match sign {
+            Infix::Or => RawNode::Or(left, right),
+            Infix::And => RawNode::And(left, right),
+            Infix::Compare(sign) => RawNode::Compare(sign, left, right),
+            Infix::Cons => RawNode::Cons(left, right),
+            Infix::Arith(op) => RawNode::Arith(op, left, right),
+        };
+        Ok(Operand {
+            tree: RawExpr { at, node },
+            height,
+        })
+    }
+
+    /// `let x = self in body`
+    pub fn bound(
+        self,
+        alloc: Global,
+        at: u32,
+        x: Binder,
+        body: Operand,
+    ) -> Result<Operand, AllocError>
+        ensures { IfOk result (λ p. operand_expr p ≡ let_syntax at (binder_syntax x) (operand_expr self) (operand_expr body)) }
+    {
+        let Operand { tree, height } = self;
+        let node = RawNode::Let(x, Box::new(alloc, tree)?, Box::new(alloc, body.tree)?);
+        Ok(Operand {
+            tree: RawExpr { at, node },
+            height: one_higher(higher(height, body.height)),
+        })
+    }
+
+    /// `if self then one else other`
+    pub fn choice(
+        self,
+        alloc: Global,
+        at: u32,
+        one: Operand,
+        other: Operand,
+    ) -> Result<Operand, AllocError>
+        ensures { IfOk result (λ p. operand_expr p ≡ if_syntax at (operand_expr self) (operand_expr one) (operand_expr other)) }
+    {
+        let Operand { tree, height } = self;
+        let node = RawNode::If(
+            Box::new(alloc, tree)?,
+            Box::new(alloc, one.tree)?,
+            Box::new(alloc, other.tree)?,
+        );
+        Ok(Operand {
+            tree: RawExpr { at, node },
+            height: one_higher(higher(height, higher(one.height, other.height))),
+        })
+    }
+
+    /// `match self with [] -> empty | head :: tail -> full`
+    pub fn matched(
+        self,
+        alloc: Global,
+        at: u32,
+        empty: Operand,
+        head: Binder,
+        tail: Binder,
+        full: Operand,
+    ) -> Result<Operand, AllocError>
+        ensures { IfOk result (λ p. operand_expr p ≡ match_syntax at (operand_expr self) (operand_expr empty) (binder_syntax head) (binder_syntax tail) (operand_expr full)) }
+    {
+        let Operand { tree, height } = self;
+        let node = RawNode::Match(
+            Box::new(alloc, tree)?,
+            Box::new(alloc, empty.tree)?,
+            head,
+            tail,
+            Box::new(alloc, full.tree)?,
+        );
+        Ok(Operand {
+            tree: RawExpr { at, node },
+            height: one_higher(higher(height, higher(empty.height, full.height))),
+        })
+    }
+
+    /// `([] : T)`
+    pub fn nil(at: u32, ty: RawType) -> Operand
+        requires { whole_height (type_syntax ty) ≤ greatest_height }
+        ensures { operand_expr result ≡ nil_syntax at (type_syntax ty) }
+    {
+        Operand {
+            tree: RawExpr {
+                at,
+                node: RawNode::Nil(ty),
+            },
+            height: 3,
+        }
+    }
+
+    /// Whether it is a name without arguments.
+    pub fn is_name(&self) -> bool
+        ensures { result ≡ is_name (operand_expr self.now) }
+    {
+        match &self.tree.node {
+            RawNode::Name(_) => true,
+            RawNode::Num(_, _) | composite!() => false,
+        }
+    }
+
+    /// Whether it is a number without a note.
+    pub fn is_plain_number(&self) -> bool
+        ensures { result ≡ is_plain_number (operand_expr self.now) }
+    {
+        match &self.tree.node {
+            RawNode::Num(_, None) => true,
+            RawNode::Num(_, Some(_)) | RawNode::Name(_) | composite!() => false,
+        }
+    }
+}

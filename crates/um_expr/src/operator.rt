@@ -1,0 +1,115 @@
+// A sign between operands behind an atom.
+ghost use Rattle.std.specs.Prelude.{◌≡◌, IfOk, None, true};
+ghost use Rattle.um_expr.specs.declared.focus.Step.TheVariants.{Stops};
+ghost use Rattle.um_expr.specs.ExprKinds.{is_plain_number};
+ghost use Rattle.um_expr.specs.Ranks.{left_limit};
+ghost use Rattle.um_expr.specs.ExprMachine.{Have, reduce, finish, infix_after, greater_after, less_after, operator_after};
+ghost use Rattle.um_expr.specs.ExprOperands.{operand_expr};
+ghost use Rattle.um_expr.specs.ExprStack.{frames_of};
+ghost use Rattle.um_expr.specs.ExprStates.{Simulates};
+
+use crate::ending::{ended, whole};
+use crate::focus::{Focus, Noted, Step};
+use crate::frame::Frame;
+use crate::frames::Frames;
+use crate::infix::Infix;
+use crate::node::composite;
+use crate::operand::Operand;
+use std::alloc::{AllocError, Global};
+use um_tree::{RawExpr, RawNode, Sign};
+use um_types::NoteReader;
+
+// A sign between two operands.
+fn infix_after(
+    alloc: Global,
+    frames: &mut Frames,
+    operand: Operand,
+    sign: Infix,
+    at: u32,
+) -> Result<Step, AllocError>
+    ensures { IfOk result (λ s. Simulates (finish (Have (frames_of frames.old) (operand_expr operand))) (frames_of frames.new) s (infix_after sign at (reduce (left_limit sign) (frames_of frames.old) (operand_expr operand)))) }
+{
+    let left = ended(alloc, frames, sign.left_limit(), operand)?;
+    if sign.rank() < frames.bound() {
+        frames.push(Frame::InRight(at, sign, left))?;
+        Ok(Step::Goes(Focus::Wanted))
+    } else {
+        Ok(Step::Stops(whole(alloc, frames, left)?))
+    }
+}
+
+// `>`
+fn greater_after(
+    alloc: Global,
+    frames: &mut Frames,
+    operand: Operand,
+    at: u32,
+) -> Result<Step, AllocError>
+    ensures { IfOk result (λ s. Simulates (finish (Have (frames_of frames.old) (operand_expr operand))) (frames_of frames.new) s (greater_after at (reduce 5 (frames_of frames.old) (operand_expr operand)))) }
+{
+    let left = ended(alloc, frames, 5, operand)?;
+    if frames.bound() > 6 {
+        Ok(Step::Goes(Focus::Greater(at, left)))
+    } else {
+        Ok(Step::Stops(whole(alloc, frames, left)?))
+    }
+}
+
+// `<` right behind a number
+fn note_opens(frames: &Frames, operand: Operand, sign_at: u32) -> Step
+    requires { is_plain_number (operand_expr operand) ≡ true }
+    ensures { Simulates (finish (Have (frames_of frames.now) (operand_expr operand))) (frames_of frames.now) result (less_after (frames_of frames.now) (operand_expr operand) true sign_at) }
+{
+    let Operand { tree, .. } = operand;
+    let RawExpr { at, node } = tree;
+    match node {
+        RawNode::Num(value, None) => Step::Goes(Focus::Note(Noted {
+            at,
+            value,
+            note: NoteReader::new(),
+        })),
+        RawNode::Num(_, Some(_)) | RawNode::Name(_) | composite!() => Step::Stops(None),
+    }
+}
+
+// `<`
+fn less_after(
+    alloc: Global,
+    frames: &mut Frames,
+    operand: Operand,
+    at: u32,
+    glued: bool,
+) -> Result<Step, AllocError>
+    ensures { IfOk result (λ s. Simulates (finish (Have (frames_of frames.old) (operand_expr operand))) (frames_of frames.new) s (less_after (frames_of frames.old) (operand_expr operand) glued at)) }
+{
+    if glued && operand.is_plain_number() {
+        Ok(note_opens(frames, operand, at))
+    } else {
+        infix_after(alloc, frames, operand, Infix::Compare(Sign::Lt), at)
+    }
+}
+
+/// A sign between operands behind an atom.
+pub fn after_operator(
+    alloc: Global,
+    frames: &mut Frames,
+    operand: Operand,
+    sign: Infix,
+    at: u32,
+    glued: bool,
+) -> Result<Step, AllocError>
+    ensures { IfOk result (λ s. Simulates (finish (Have (frames_of frames.old) (operand_expr operand))) (frames_of frames.new) s (operator_after (frames_of frames.old) (operand_expr operand) sign at glued)) }
+{
+    match sign {
+        Infix::Compare(Sign::Lt) => less_after(alloc, frames, operand, at, glued),
+        Infix::Compare(Sign::Gt) => greater_after(alloc, frames, operand, at),
+        Infix::Compare(Sign::Ge) => Ok(Step::Stops(whole(alloc, frames, operand)?)),
+        Infix::Or
+        | Infix::And
+        | Infix::Cons
+        | Infix::Compare(Sign::Eq)
+        | Infix::Compare(Sign::Ne)
+        | Infix::Compare(Sign::Le)
+        | Infix::Arith(_) => infix_after(alloc, frames, operand, sign, at),
+    }
+}

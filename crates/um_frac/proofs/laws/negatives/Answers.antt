@@ -1,5 +1,0 @@
-use Rattle.um_frac.proofs.FractionLaws.{negation_is_exact}
-use Rattle.um_frac.proofs.laws.negatives.Goals as goal
-
-pub returns : goal.returns
-returns c = negation_is_exact

@@ -1,0 +1,12 @@
+//! Laws of the grammar of programs. A call does nothing: what it ensures is the law.
+ghost use Rattle.um_parse.specs.Laws.{ProgramsAreUnique, AnswersAreUnique};
+
+/// No other program has the same tokens.
+pub fn programs_are_unique()
+    ensures { ProgramsAreUnique }
+{}
+
+/// The clause of [`crate::parse`] allows one answer to each list of tokens, but for want of memory.
+pub fn answers_are_unique()
+    ensures { AnswersAreUnique }
+{}

@@ -1,0 +1,302 @@
+// Reading a unit text token by token.
+ghost use Rattle.std.specs.Prelude.{◌≡◌, ◌<◌, ◌∷◌, IfOk, IfSome, OnOk, Some, None, option_map, vec_len, pos, neg_ℤ};
+ghost use Rattle.um_types.specs.UnitTokens.{unit_token, power_of};
+ghost use Rattle.um_types.specs.UnitMachine.{Need, sign_after, Have, Raised, Lowered, reduce, juxtapose, begin, raised, lowered, close_after, opens, after, act, finish, atom_of, power_in, is_atom};
+ghost use Rattle.um_types.specs.UnitView.{operand_syntax, stack, state_of, Simulates, Ended, Unbracketed, ends_itself};
+
+use crate::unit_frame::{Focus, Frame, Step, pop_frame, push_frame};
+use crate::unit_operand::{Operand, Operands};
+use std::alloc::{AllocError, Global};
+use um_frac::Frac;
+use um_syntax::{Kind, Symbol, Token};
+use um_tree::RawUnit;
+
+// The greatest power that a text writes.
+const GREATEST_POWER: i64 = 2147483647;
+
+// Whether the innermost frame needs no token to end.
+fn ends_itself(frames: &Vec<Frame>) -> bool
+    ensures { result ≡ ends_itself (stack frames.now.items) }
+{
+    match frames.last() {
+        Some(Frame::InBracket(_)) => false,
+        Some(_) => true,
+        None => false,
+    }
+}
+
+// Takes off the innermost frame if it needs no token to end.
+fn pop_ended(frames: &mut Vec<Frame>) -> Option<Frame>
+    ensures state { Ended (stack frames.old.items) result (stack frames.new.items) }
+    ensures shorter { IfSome result (λ _. vec_len frames.new < vec_len frames.old) }
+{
+    if ends_itself(frames) {
+        pop_frame(frames)
+    } else {
+        None
+    }
+}
+
+// Ends all frames up to the innermost brackets.
+fn ended(alloc: Global, frames: &mut Vec<Frame>, operand: Operand) -> Result<Operand, AllocError>
+    ensures { IfOk result (λ t. Have (stack frames.new.items) (operand_syntax t) ≡ reduce (stack frames.old.items) (operand_syntax operand)) }
+{
+    let mut operand = operand;
+    while let Some(frame) = pop_ended(frames) {
+        operand = frame.plug(alloc, operand)?;
+    }
+    Ok(operand)
+}
+
+// Whether a unit text begins here.
+fn opens(frames: &Vec<Frame>) -> bool
+    ensures { result ≡ opens (stack frames.now.items) }
+{
+    match frames.last() {
+        Some(Frame::InBracket(_)) => true,
+        Some(_) => false,
+        None => true,
+    }
+}
+
+// The unit at hand goes into a juxtaposition.
+fn juxtapose(alloc: Global, frames: &mut Vec<Frame>, operand: Operand) -> Result<(), AllocError>
+    ensures { OnOk result (stack frames.new.items ≡ juxtapose (stack frames.old.items) (operand_syntax operand)) }
+{
+    let earlier = match pop_frame(frames) {
+        Some(Frame::InSide(earlier)) => earlier,
+        Some(other) => {
+            push_frame(frames, other)?;
+            Operands::empty(alloc)
+        }
+        None => Operands::empty(alloc),
+    };
+    push_frame(frames, Frame::InSide(earlier.with(operand)?))
+}
+
+// The power that a number writes.
+fn power_of(value: Frac, digits: bool) -> Option<i32>
+    ensures { option_map pos (power_of value digits) ≡ result }
+{
+    let power = value.num();
+    if digits && 0 <= power && power <= GREATEST_POWER {
+        Some(power as i32)
+    } else {
+        None
+    }
+}
+
+// The atom that a token is, if it is one; not an opening bracket.
+fn atom(alloc: Global, kind: &Kind, at: u32) -> Result<Option<Operand>, AllocError>
+    ensures { IfOk result (λ o. option_map operand_syntax o ≡ atom_of (unit_token kind.now) at) }
+{
+    match kind {
+        Kind::Name(letters) => Ok(Some(Operand::measure(alloc, at, letters)?)),
+        Kind::Var(letters) => Ok(Some(Operand::variable(alloc, at, letters)?)),
+        Kind::Number { one, .. } => Ok(if *one { Some(Operand::one(at)) } else { None }),
+        Kind::Word(_) | Kind::Hole | Kind::Sign(_) => Ok(None),
+    }
+}
+
+// The power that a token writes.
+fn power(kind: &Kind) -> Option<i32>
+    ensures { option_map pos (power_in (unit_token kind.now)) ≡ result }
+{
+    match kind {
+        Kind::Number { value, digits, .. } => power_of(*value, *digits),
+        _ => None,
+    }
+}
+
+// One token where an atom is wanted.
+fn step_empty(alloc: Global, frames: &mut Vec<Frame>, token: &Token) -> Result<Step, AllocError>
+    ensures { IfOk result (λ s. Simulates (Need (stack frames.old.items)) frames.new.items s (begin (stack frames.old.items) (unit_token token.now.kind) token.now.start)) }
+{
+    if let Some(atom) = atom(alloc, &token.kind, token.start)? {
+        return Ok(Step::Goes(Focus::Full(atom)));
+    }
+    match &token.kind {
+        Kind::Sign(Symbol::LeftParen) => {
+            push_frame(frames, Frame::InBracket(token.start))?;
+            Ok(Step::Goes(Focus::Empty))
+        }
+        Kind::Sign(Symbol::Slash) => {
+            if opens(frames) {
+                push_frame(frames, Frame::InInverse(token.start))?;
+                Ok(Step::Goes(Focus::Empty))
+            } else {
+                Ok(Step::Stops(Focus::Empty))
+            }
+        }
+        _ => Ok(Step::Stops(Focus::Empty)),
+    }
+}
+
+// One token behind `^`.
+fn step_raised(
+    alloc: Global,
+    frames: &Vec<Frame>,
+    base: Operand,
+    token: &Token,
+) -> Result<Step, AllocError>
+    ensures { IfOk result (λ s. Simulates (Raised (stack frames.now.items) (operand_syntax base)) frames.now.items s (raised (stack frames.now.items) (operand_syntax base) (unit_token token.now.kind))) }
+{
+    if let Some(power) = power(&token.kind) {
+        return Ok(Step::Goes(Focus::Full(base.power(alloc, power)?)));
+    }
+    match &token.kind {
+        Kind::Sign(Symbol::Minus) => Ok(Step::Goes(Focus::Lowered(base))),
+        _ => Ok(Step::Stops(Focus::Raised(base))),
+    }
+}
+
+// One token behind `^` and `-`.
+fn step_lowered(
+    alloc: Global,
+    frames: &Vec<Frame>,
+    base: Operand,
+    token: &Token,
+) -> Result<Step, AllocError>
+    ensures { IfOk result (λ s. Simulates (Lowered (stack frames.now.items) (operand_syntax base)) frames.now.items s (lowered (stack frames.now.items) (operand_syntax base) (unit_token token.now.kind))) }
+{
+    match power(&token.kind) {
+        Some(power) => Ok(Step::Goes(Focus::Full(base.power(alloc, -power)?))),
+        None => Ok(Step::Stops(Focus::Lowered(base))),
+    }
+}
+
+// The place of the innermost frame, if it is brackets, which are taken off.
+fn pop_bracket(frames: &mut Vec<Frame>) -> Option<u32>
+    ensures { Unbracketed (stack frames.old.items) result (stack frames.new.items) }
+{
+    match pop_frame(frames) {
+        Some(Frame::InBracket(at)) => Some(at),
+        Some(_) => None,
+        None => None,
+    }
+}
+
+// Brackets close behind the unit at hand, if any are open.
+fn close_after(alloc: Global, frames: &mut Vec<Frame>, operand: Operand) -> Result<Step, AllocError>
+    ensures { IfOk result (λ s. Simulates (Have (stack frames.old.items) (operand_syntax operand)) frames.new.items s (close_after (reduce (stack frames.old.items) (operand_syntax operand)))) }
+{
+    let inner = ended(alloc, frames, operand)?;
+    match pop_bracket(frames) {
+        Some(at) => Ok(Step::Goes(Focus::Full(inner.bracket(alloc, at)?))),
+        None => Ok(Step::Stops(Focus::Full(inner))),
+    }
+}
+
+// Whether it is an atom.
+fn is_atom(operand: &Operand) -> bool
+    ensures { result ≡ is_atom (operand_syntax operand.now) }
+{
+    match &operand.unit {
+        RawUnit::One(_) | RawUnit::Name(_, _) | RawUnit::Var(_, _) | RawUnit::Bracket(_, _) => true,
+        _ => false,
+    }
+}
+
+// `*` or `/` behind the unit at hand.
+fn after_sign(
+    alloc: Global,
+    frames: &mut Vec<Frame>,
+    operand: Operand,
+    over: bool,
+) -> Result<Step, AllocError>
+    ensures { IfOk result (λ s. Simulates (Have (stack frames.old.items) (operand_syntax operand)) frames.new.items s (sign_after over (reduce (stack frames.old.items) (operand_syntax operand)))) }
+{
+    let left = ended(alloc, frames, operand)?;
+    push_frame(
+        frames,
+        if over {
+            Frame::InOver(left)
+        } else {
+            Frame::InTimes(left)
+        },
+    )?;
+    Ok(Step::Goes(Focus::Empty))
+}
+
+// One token behind an atom or a power.
+fn step_full(
+    alloc: Global,
+    frames: &mut Vec<Frame>,
+    operand: Operand,
+    token: &Token,
+) -> Result<Step, AllocError>
+    ensures { IfOk result (λ s. Simulates (Have (stack frames.old.items) (operand_syntax operand)) frames.new.items s (after (stack frames.old.items) (operand_syntax operand) (unit_token token.now.kind) token.now.start)) }
+{
+    if let Some(atom) = atom(alloc, &token.kind, token.start)? {
+        juxtapose(alloc, frames, operand)?;
+        return Ok(Step::Goes(Focus::Full(atom)));
+    }
+    match &token.kind {
+        Kind::Sign(Symbol::LeftParen) => {
+            juxtapose(alloc, frames, operand)?;
+            push_frame(frames, Frame::InBracket(token.start))?;
+            Ok(Step::Goes(Focus::Empty))
+        }
+        Kind::Sign(Symbol::RightParen) => close_after(alloc, frames, operand),
+        Kind::Sign(Symbol::Star) => after_sign(alloc, frames, operand, false),
+        Kind::Sign(Symbol::Slash) => after_sign(alloc, frames, operand, true),
+        Kind::Sign(Symbol::Caret) => Ok(if is_atom(&operand) {
+            Step::Goes(Focus::Raised(operand))
+        } else {
+            Step::Stops(Focus::Full(operand))
+        }),
+        _ => Ok(Step::Stops(Focus::Full(operand))),
+    }
+}
+
+/// One token more.
+pub fn step(
+    alloc: Global,
+    frames: &mut Vec<Frame>,
+    focus: Focus,
+    token: &Token,
+) -> Result<Step, AllocError>
+    ensures { IfOk result (λ s. Simulates (state_of frames.old.items focus) frames.new.items s (act (state_of frames.old.items focus) (unit_token token.now.kind) token.now.start)) }
+{
+    match focus {
+        Focus::Empty => step_empty(alloc, frames, token),
+        Focus::Full(operand) => step_full(alloc, frames, operand, token),
+        Focus::Raised(base) => step_raised(alloc, frames, base, token),
+        Focus::Lowered(base) => step_lowered(alloc, frames, base, token),
+    }
+}
+
+fn no_operand(focus: Focus) -> Option<Operand>
+    ensures { result ≡ None }
+{
+    drop(focus);
+    None
+}
+
+fn no_whole(open: Option<Frame>, operand: Operand) -> Option<Operand>
+    ensures { result ≡ None }
+{
+    drop(open);
+    drop(operand);
+    None
+}
+
+/// The unit text where all is read.
+pub fn finish(
+    alloc: Global,
+    frames: &mut Vec<Frame>,
+    focus: Focus,
+) -> Result<Option<Operand>, AllocError>
+    ensures { IfOk result (λ o. option_map operand_syntax o ≡ finish (state_of frames.old.items focus)) }
+{
+    match focus {
+        Focus::Full(operand) => {
+            let operand = ended(alloc, frames, operand)?;
+            match pop_frame(frames) {
+                None => Ok(Some(operand)),
+                open => Ok(no_whole(open, operand)),
+            }
+        }
+        other => Ok(no_operand(other)),
+    }
+}

@@ -1,0 +1,62 @@
+-- What the lists of terms that the code computes stand for.
+use Rattle.std.proofs.Common.{◌≡◌, ℕ, ◌<◌, ◌+ℤ◌, length, take, drop, true, false, List, [], ◌∷◌, ◌++◌, map, ℤ, pos, negsuc, ◌*ℤ◌, nat_abs, refl, sym, ap, ◌∙◌, arith}
+use Rattle.std.specs.Prelude.{IsTrue, nat_le}
+use Rattle.std.proofs.lemmas.Bool.{and_parts, and_from, false_from_ne_true}
+use Rattle.std.proofs.lemmas.Int.{ints}
+use Rattle.std.proofs.lemmas.List.Concat.{flat_map-append}
+use Rattle.std.proofs.lemmas.List.{take-append-drop}
+use Rattle.um_units.specs.declared.Term.{Term}
+use Rattle.um_units.specs.Terms.{indicator, power_in, is_zero, is_normal}
+use Rattle.um_units.specs.NormalForm.{head_nonzero, head_before_all, tail_normal, cons_normal}
+use Rattle.um_units.specs.PowerMap.{PowerMap, product, mul, scale, pow, image, images}
+use Rattle.um_units.specs.Range.{in_range, all_in_range, IsKept}
+use Rattle.um_units.proofs.Weights.{zero_is, weigh-product, weigh-++}
+use Rattle.um_units.proofs.Equality.{product-of_terms, product-terms, same_product}
+use Rattle.um_units.proofs.Group.{pow-one}
+use Rattle.um_units.proofs.Nonzero.{before_all-scale}
+
+-- the terms of a unit and of another's power, multiplied
+pub product-mul_pow : (u v : PowerMap) (k : ℤ) (ts us vs : List Term) → ts ≡ (pow u (pos 1)).terms → us ≡ (pow v k).terms → vs ≡ (product (ts ++ us)).terms → product vs ≡ mul u (pow v k)
+product-mul_pow u v k ts us vs e f g =
+    ap product g ∙ product-of_terms (product (ts ++ us)) ∙ ap (λ ws. product (ws ++ us)) (e ∙ ap (λ (w : PowerMap). w.terms) (pow-one u)) ∙ ap (λ ws. product (u.terms ++ ws)) f
+
+-- ---- each power negated
+negated_zero : (z : ℤ) → is_zero z ≡ false → is_zero (negsuc 0 *ℤ z) ≡ false
+negated_zero z n = false_from_ne_true (is_zero (negsuc 0 *ℤ z)) (λ e. let f = zero_is (negsuc 0 *ℤ z) e in let g : z ≡ pos 0 = omega (arith, ints, f) in let h : is_zero z ≡ true = ap is_zero g in cc)
+
+normal-inverted : (ts : List Term) → IsTrue (is_normal ts) → IsTrue (is_normal (map (scale (negsuc 0)) ts))
+normal-inverted [] h = refl
+normal-inverted (t ∷ ts) h =
+    cons_normal (scale (negsuc 0) t) (map (scale (negsuc 0)) ts) (negated_zero t.power (head_nonzero t ts h)) (before_all-scale (negsuc 0) t.atom ts (head_before_all t ts h)) (normal-inverted ts (tail_normal t ts h))
+
+in_range-inverted : (ts : List Term) → IsTrue (all_in_range ts) → IsTrue (all_in_range (map (scale (negsuc 0)) ts))
+in_range-inverted [] h = refl
+in_range-inverted (t ∷ ts) h =
+    let p = and_parts (in_range t.power) (all_in_range ts) h in
+    and_from _ _ (ap (λ n. nat_le n 2147483647) (same_abs t.power) ∙ p.0) (in_range-inverted ts p.1)
+  where
+    same_abs : (z : ℤ) → nat_abs (negsuc 0 *ℤ z) ≡ nat_abs z
+    same_abs z = omega (arith, ints)
+
+pub kept-inverted : (ts : List Term) → IsKept ts → IsKept (map (scale (negsuc 0)) ts)
+kept-inverted ts kept = record { normal = normal-inverted ts kept.normal; fit = in_range-inverted ts kept.fit }
+
+-- ---- images
+pub product-append : (ts us ls rs : List Term) → ls ≡ (product ts).terms → rs ≡ (product us).terms → product (ls ++ rs) ≡ product (ts ++ us)
+product-append ts us ls rs e f =
+    same_product (ls ++ rs) (ts ++ us) (λ x. weigh-++ (indicator x) ls rs
+    ∙ ap (λ n. n +ℤ power_in rs x) (ap (λ vs. power_in vs x) e ∙ weigh-product (indicator x) ts)
+    ∙ ap (λ n. power_in ts x +ℤ n) (ap (λ vs. power_in vs x) f ∙ weigh-product (indicator x) us)
+    ∙ sym (weigh-++ (indicator x) ts us))
+
+-- the halves of the terms
+pub product-halves : (s : ℕ → PowerMap) (ts front back ls rs : List Term) (n : ℕ) → front ≡ take n ts → back ≡ drop n ts → ls ≡ (product (images s front)).terms → rs ≡ (product (images s back)).terms →
+    product (ls ++ rs) ≡ product (images s ts)
+product-halves s ts front back ls rs n e f g h =
+    product-append (images s front) (images s back) ls rs g h
+    ∙ ap product (sym (flat_map-append (λ t. map (scale t.power) (image s t.atom).terms) front back)
+    ∙ ap (images s) (ap (λ us. us ++ back) e ∙ ap (λ us. take n ts ++ us) f ∙ take-append-drop n ts))
+
+pub images-none : (s : ℕ → PowerMap) (ts : List Term) → length ts < 1 → [] ≡ (product (images s ts)).terms
+images-none s [] h = sym (product-terms [])
+images-none s (t ∷ ts) h = absurd (omega arith)
