@@ -15,10 +15,11 @@ use Rattle.um_tree.specs.Scheme.{unit_variables}
 use Rattle.um_elim.proofs.Cases.{on_test}
 use Rattle.um_elim.proofs.FirstOccurrences.{member}
 use Rattle.um_elim.proofs.RenamedUnits.{held-member}
+use Rattle.um_rows.specs.Steps.{types_at}
 use Rattle.um_rows.specs.Holes.{unit_holes, note_holes, notes_holes, Callee, known_by, itself, nobody, callee_holes, record_holes, expr_holes}
 use Rattle.um_rows.specs.Rules.{Derived, item, call_rule, negate_rule, not_rule, truths_rule, arith_rule, compare_rule, if_rule, split_rule, list_rule, cons_rule, record_rule, field_rule, formed}
 use Rattle.um_rows.specs.Derivation.{first_units, noted_unit, noted_units, noted_type, noted_types, offered, derive, derive_all}
-use Rattle.um_rows.specs.Equations.{callee, head_holes, noted_result, result_rows, own_signature, equations}
+use Rattle.um_rows.specs.Equations.{callee, head_holes, noted_result, result_rows, own_signature, head_steps, equations}
 use Rattle.um_rows.specs.Keys.{Key, hole, name, hole_keys, unit_keys, units_keys, note_keys, notes_keys, result_keys, expr_keys, exprs_keys, function_keys}
 use Rattle.um_rows.proofs.Variables.{TypeBelow, TypesBelow, SignatureBelow, StepsBelow, CalleeBelow}
 use Rattle.um_rows.proofs.BelowRules.{put_below, types_put_below, first_units_below, types_below-append, steps_below-append, against_below, DerivedBelow, after_below, formed_below, item_below, number_below, local_below, OfferBelow, call_below, negate_below, not_below, truths_below, arith_below, compare_below, if_below, split_below, nil_below, list_below, cons_below, record_below, field_rule_below}
@@ -219,6 +220,10 @@ module _ (limit : ℕ) (holes names : ℕ → PowerMap) where
   result_rows_below at t n None h k = tt
   result_rows_below at t n (Some m) h k = against_below limit at t (noted_type holes names n m) h (note_below n m k)
 
+  types_at_below : (at : ℕ) (ts : List TypeTree) → TypesBelow limit ts → StepsBelow limit (types_at at ts)
+  types_at_below at [] h = tt
+  types_at_below at (t ∷ ts) h = (h.0, types_at_below at ts h.1)
+
   pub equations_below : (records : List RecordTree) (schemes : List SchemeTree) (i : ℕ) (f : FunctionTree) → ((j : ℕ) → CalleeBelow (callee schemes i f j)) → KeysBelow (function_keys records schemes i f) →
       SignatureBelow limit (record { params = (equations holes names records schemes i f).params; result = (equations holes names records schemes i f).result }) × StepsBelow limit (equations holes names records schemes i f).steps
   equations_below records schemes i f low h =
@@ -232,4 +237,5 @@ module _ (limit : ℕ) (holes names : ℕ → PowerMap) where
       let r = result_below n f.result (keys_front last own rest) in
       let body = derive holes names records (own_signature holes names f) (callee schemes i f) (head_holes f) params f.body in
       let b = derived_below records (own_signature holes names f) (ps, r) (callee schemes i f) low (head_holes f) params f.body ps (keys_back last own rest) in
-      ((ps, b.0), steps_below-append limit body.steps (result_rows holes names f.at body.type n f.result) b.1 (result_rows_below f.at body.type n f.result b.0 (keys_front last own rest)))
+      ((ps, b.0), steps_below-append limit (head_steps holes names f) (body.steps ++ result_rows holes names f.at body.type n f.result) (types_at_below f.at (params ++ noted_result holes names n f.result ∷ []) (types_below-append limit params (noted_result holes names n f.result ∷ []) ps (r, tt)))
+      (steps_below-append limit body.steps (result_rows holes names f.at body.type n f.result) b.1 (result_rows_below f.at body.type n f.result b.0 (keys_front last own rest))))

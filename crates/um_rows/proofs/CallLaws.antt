@@ -13,13 +13,14 @@ use Rattle.um_tree.specs.Shapes.{note_shape}
 use Rattle.um_tree.specs.InputType.{IsResultOfCall, IsTypeOfCall}
 use Rattle.um_tree.specs.Formed.{IsTypeIn, AreFormedInputs, IsFormed}
 use Rattle.um_tree.proofs.Below.{earlier_typings}
+use Rattle.um_tree.specs.Laws.{LiteralsAreClosed}
 use Rattle.um_rows.specs.Solutions.{IsSolved, HaveSchemes}
 use Rattle.um_rows.specs.Judgement.{Judgement, has_scheme, has_no_typing, judge}
 use Rattle.um_rows.specs.CallEquations.{input_texts, call_function}
 use Rattle.um_rows.specs.Laws.{CallResultsAreSolutions, JudgedCallsHaveTheirType, JudgedUntypedCallsHaveNone}
 use Rattle.um_rows.proofs.Solved.{all_fit, typings_are_solved}
 use Rattle.um_rows.proofs.JudgementLaws.{Says, judge_says, judged_numbered}
-use Rattle.um_rows.proofs.InputTexts.{notes_are_open, texts_typed, inputs_have}
+use Rattle.um_rows.proofs.InputTexts.{notes_are_open, texts_typed, inputs_have, inputs_closed}
 
 module _ (p : ProgramTree) (k : ℕ) (f : FunctionTree) (inputs : InputTrees) (formed : IsFormed p) (e : slice_get p.functions k ≡ Some f) (closed : AreFormedInputs (length p.bases) inputs) where
   abbrev n : ℕ
@@ -33,6 +34,9 @@ module _ (p : ProgramTree) (k : ℕ) (f : FunctionTree) (inputs : InputTrees) (f
 
   declared_fields : (r : ℕ) (d : RecordTree) → slice_get p.records r ≡ Some d → All (IsTypeIn (length p.bases) d.units p.records) (field_types d)
   declared_fields r d is = All-map (IsTypeIn (length p.bases) d.units p.records) (λ (g : FieldTree). g.type) d.fields (λ j g l. ((formed.records r d is).fields j g l).0)
+
+  call_closed : LiteralsAreClosed call.body
+  call_closed = inputs_closed (length p.bases) p.records (map note_shape f.params) inputs closed
 
   before : k < n
   before = slice_get_within p.functions k f e
@@ -63,14 +67,14 @@ module _ (p : ProgramTree) (k : ℕ) (f : FunctionTree) (inputs : InputTrees) (f
   module _ (schemes : List SchemeTree) (have : HaveSchemes p schemes (length p.functions)) where
     results_are_solved : (t : TypeTree) → IsResultOfCall p k inputs t ↔ IsSolved p.records schemes n call (signature_of t)
     results_are_solved t =
-        let both = typings_are_solved (typings_below p n) schemes n (all_fit p schemes n have) p.records call (signature_of t) in
+        let both = typings_are_solved (typings_below p n) schemes n (all_fit p schemes n have) p.records call call_closed (signature_of t) in
         ((λ h. both.0 (back t h)), (λ h. (there (signature_of t) (both.1 h)).1))
 
     abbrev CallSays : Judgement → Type 0
-    CallSays j = Says (typings_below p n) schemes n (all_fit p schemes n have) p.records call j
+    CallSays j = Says (typings_below p n) schemes n (all_fit p schemes n have) p.records call call_closed j
 
     says : (j : Judgement) → judge p.records schemes n call ≡ j → CallSays j
-    says j is = subst CallSays is (judge_says (typings_below p n) schemes n (all_fit p schemes n have) p.records call)
+    says j is = subst CallSays is (judge_says (typings_below p n) schemes n (all_fit p schemes n have) p.records call call_closed)
 
     no_params : (ts : List TypeTree) → map (put (λ j. one)) ts ≡ [] → ts ≡ []
     no_params [] h = refl
@@ -88,8 +92,8 @@ module _ (p : ProgramTree) (k : ℕ) (f : FunctionTree) (inputs : InputTrees) (f
           );
         }
 
-    has_none : (at : ℕ) → judge p.records schemes n call ≡ has_no_typing at → (t : TypeTree) → IsResultOfCall p k inputs t → ⊥
-    has_none at is t h = (says (has_no_typing at) is).1 (signature_of t) (back t h)
+    has_none : (row at : ℕ) → judge p.records schemes n call ≡ has_no_typing row at → (t : TypeTree) → IsResultOfCall p k inputs t → ⊥
+    has_none row at is t h = (says (has_no_typing row at) is).1 (signature_of t) (back t h)
 
 pub call_results_are_solutions : CallResultsAreSolutions
 call_results_are_solutions p schemes k f inputs formed have e closed t = results_are_solved p k f inputs formed e closed schemes have t
@@ -98,4 +102,4 @@ pub judged_calls_have_their_type : JudgedCallsHaveTheirType
 judged_calls_have_their_type p schemes k f inputs formed have e closed s is = has_type p k f inputs formed e closed schemes have s is
 
 pub judged_untyped_calls_have_none : JudgedUntypedCallsHaveNone
-judged_untyped_calls_have_none p schemes k f inputs formed have e closed at is t h = has_none p k f inputs formed e closed schemes have at is t h
+judged_untyped_calls_have_none p schemes k f inputs formed have e closed row at is t h = has_none p k f inputs formed e closed schemes have row at is t h

@@ -10,6 +10,7 @@ use Rattle.um_tree.specs.TypeTree.{TypeTree, bool_type, num_type, list_type, rec
 use Rattle.um_tree.specs.ExprTree.{ExprTree, ExprTrees, truth, number, local, call, negate, not_expr, arith as arith_tree, compare, both, either, if, bind, split, nil, list_expr, cons, record_expr, field, none, more}
 use Rattle.um_tree.specs.ProgramTree.{RecordTree, Signature}
 use Rattle.um_tree.specs.Typing.{put, put_signature, unit_at, field_types, UnitMatches, UnitsMatch, Matches, LiteralUnit, Typed, AllTyped}
+use Rattle.um_rows.proofs.PutLiterals.{put_literal, put_literals, all_put_literals}
 use Rattle.um_rows.specs.Against.{types_against}
 use Rattle.um_rows.specs.Holes.{unit_holes, units_holes, note_holes, Callee, known_by, itself, nobody, callee_holes, record_holes, expr_holes, exprs_holes}
 use Rattle.um_rows.specs.Rules.{Derived, item, asks_zero, number_rule, call_rule, negate_rule, not_rule, truths_rule, arith_rule, compare_rule, if_rule, split_rule, list_rule, cons_rule, record_rule, field_rule}
@@ -56,7 +57,7 @@ module _ (v holes names choice : ℕ → PowerMap) (same : (k : ℕ) → replace
   note_complete n (list_note m) t h a = ap list_type (note_complete n m h.0 h.1 a) ∙ sym h.2
   note_complete n (record_note r ms) t h a = ap (record_type r) (units_complete n ms h.0 h.1 a) ∙ sym h.2
 
-  literal_complete : (at n : ℕ) (c : Frac) (m : UnitNote) (u : PowerMap) → LiteralUnit choice c m u → HolesAre n (unit_holes m) (λ _. u) → Gives v (number_rule at c m (noted_unit holes names n m)) (num_type u)
+  literal_complete : (at n : ℕ) (c : Frac) (m : UnitNote) (u : PowerMap) → LiteralUnit c (put_literal choice m) u → HolesAre n (unit_holes m) (λ _. u) → Gives v (number_rule at c m (noted_unit holes names n m)) (num_type u)
   literal_complete at n c Hole u h a = formed_gives v at (asks_zero at c Hole) (num_type (holes n)) (num_type u) (ap num_type (agrees_at (λ k. replace v (holes k)) n u a)) (zero_complete v at c h)
   literal_complete at n c (Written w) u h a = formed_gives v at [] (num_type (replace names w)) (num_type u) (ap num_type (written_complete w ∙ sym h)) tt
 
@@ -78,10 +79,10 @@ module _ (v holes names choice : ℕ → PowerMap) (same : (k : ℕ) → replace
         formed_gives v at (types_against at self.params types) self.result t (sym result) (rows-types_same v at self.params types (sym params ∙ sym e))
     call_complete at n nobody types ts t low e h a = absurd h
 
-    abbrev from : (vs : List TypeTree) (e : ExprTree) (t : TypeTree) → Typed records calls choice vs e t → ℕ → PowerMap
+    abbrev from : (vs : List TypeTree) (e : ExprTree) (t : TypeTree) → Typed records calls choice vs (put_literals choice e) t → ℕ → PowerMap
     from vs e t h = used choice records own callee calls opens vs e t h
 
-    abbrev all_from : (vs : List TypeTree) (es : ExprTrees) (ts : List TypeTree) → AllTyped records calls choice vs es ts → ℕ → PowerMap
+    abbrev all_from : (vs : List TypeTree) (es : ExprTrees) (ts : List TypeTree) → AllTyped records calls choice vs (all_put_literals choice es) ts → ℕ → PowerMap
     all_from vs es ts h = all_used choice records own callee calls opens vs es ts h
 
     abbrev holes_in : ExprTree → ℕ
@@ -94,7 +95,7 @@ module _ (v holes names choice : ℕ → PowerMap) (same : (k : ℕ) → replace
     wider vars vs others ts e f = map-append (put v) vars others ∙ (λ i. e i ++ f i)
 
     mutual
-      pub complete : (n : ℕ) (vars vs : List TypeTree) → map (put v) vars ≡ vs → (e : ExprTree) (t : TypeTree) (h : Typed records calls choice vs e t) → HolesAre n (holes_in e) (from vs e t h) → Gives v (at_number n vars e) t
+      pub complete : (n : ℕ) (vars vs : List TypeTree) → map (put v) vars ≡ vs → (e : ExprTree) (t : TypeTree) (h : Typed records calls choice vs (put_literals choice e) t) → HolesAre n (holes_in e) (from vs e t h) → Gives v (at_number n vars e) t
       complete n vars vs ev (truth at b) t h a = (sym h, tt)
       complete n vars vs ev (number at c m) t h a = let x = literal_complete at n c m h.0 h.1 a in (x.0 ∙ sym h.2, x.1)
       complete n vars vs ev (local at k) t h a = local_complete v at k vars t (ap (λ us. slice_get us k) ev ∙ h)
@@ -235,7 +236,7 @@ module _ (v holes names choice : ℕ → PowerMap) (same : (k : ℕ) → replace
           let z = field_complete v at records r k d.type h.0 h.1 h.2 h.3 h.4 x.0 in
           after_gives v d.steps (field_rule at r k (slice_get records r) d.type) t x.1 (z.0 ∙ sym h.6, z.1)
 
-      pub all_complete : (n : ℕ) (vars vs : List TypeTree) → map (put v) vars ≡ vs → (es : ExprTrees) (ts : List TypeTree) (h : AllTyped records calls choice vs es ts) → HolesAre n (exprs_holes records callee es) (all_from vs es ts h) →
+      pub all_complete : (n : ℕ) (vars vs : List TypeTree) → map (put v) vars ≡ vs → (es : ExprTrees) (ts : List TypeTree) (h : AllTyped records calls choice vs (all_put_literals choice es) ts) → HolesAre n (exprs_holes records callee es) (all_from vs es ts h) →
           (map (put v) (derive_all holes names records self callee n vars es).types ≡ ts) × Holds v (derive_all holes names records self callee n vars es).steps
       all_complete n vars vs ev none ts h a = (sym h, tt)
       all_complete n vars vs ev (more e es) ts h ag =

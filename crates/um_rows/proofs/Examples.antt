@@ -11,7 +11,8 @@ use Rattle.um_tree.specs.TypeTree.{TypeTree, bool_type, num_type, list_type, rec
 use Rattle.um_tree.specs.ExprTree.{number, local, call, arith as arith_tree, compare, if, split, nil, record_expr, field, none, more}
 use Rattle.um_tree.specs.ProgramTree.{RecordTree, FunctionTree, SchemeTree}
 use Rattle.um_tree.proofs.ExamplePrograms.{zero_number, one_number, plain, rec_function, marked}
-use Rattle.um_rows.specs.Steps.{Step, row_at, type_at, first_past}
+use Rattle.um_rows.specs.declared.row.Row.{Row}
+use Rattle.um_rows.specs.Steps.{Step, rows_of, first_past}
 use Rattle.um_rows.specs.Slots.{slot_count, slot_equations}
 use Rattle.um_rows.specs.Judgement.{Judgement, has_scheme, too_many_slots, passes_range, has_no_typing, judge}
 use Rattle.um_rows.specs.CallEquations.{call_function}
@@ -35,9 +36,7 @@ shown (record_type r us) = made r (map (λ (u : PowerMap). u.terms) us)
 
 -- the rows with their places, and the terms of their units
 abbrev shown_rows : List Step → List (ℕ × List Term)
-shown_rows [] = []
-shown_rows (row_at at u ∷ ss) = (at, u.terms) ∷ shown_rows ss
-shown_rows (type_at at t ∷ ss) = shown_rows ss
+shown_rows ss = map (λ (r : Row). (r.at, r.unit.terms)) (rows_of ss)
 
 record Summary : Type 0 where
   slots : ℕ
@@ -160,13 +159,13 @@ data ShownJudgement : Type 0 where
   scheme : List Shown → Shown → ℕ → ShownJudgement
   slots : ShownJudgement
   range : ℕ → ShownJudgement
-  units : ℕ → ShownJudgement
+  units : ℕ → ℕ → ShownJudgement
 
 abbrev shown_judgement : Judgement → ShownJudgement
 shown_judgement (has_scheme s) = scheme (map shown s.signature.params) (shown s.signature.result) s.vars
 shown_judgement too_many_slots = slots
 shown_judgement (passes_range at) = range at
-shown_judgement (has_no_typing at) = units at
+shown_judgement (has_no_typing k at) = units k at
 
 -- num</'a^3> -> num</'a^2> -> bool
 squares_under_cubes_judged : shown_judgement (judge [] [] 0 squares_under_cubes) ≡ scheme (num (term (Var 0) (negsuc 2) ∷ []) ∷ num (term (Var 0) (negsuc 1) ∷ []) ∷ []) bool 1
@@ -179,7 +178,7 @@ unfolding product
 sum_judged = refl
 
 -- let h (x: num<_>) = x * x < 1<m^3>: no half powers
-half_powers_judged : shown_judgement (judge [] [] 0 (plain (num_note Hole ∷ []) (compare 4 Lt (arith_tree 2 Mul (local 1 0) (local 3 0)) (number 5 one_number (Written (product (term (Base 0) (pos 3) ∷ []))))))) ≡ units 4
+half_powers_judged : shown_judgement (judge [] [] 0 (plain (num_note Hole ∷ []) (compare 4 Lt (arith_tree 2 Mul (local 1 0) (local 3 0)) (number 5 one_number (Written (product (term (Base 0) (pos 3) ∷ []))))))) ≡ units 0 4
 unfolding product
 half_powers_judged = refl
 
@@ -203,7 +202,7 @@ unfolding product
 metres_summed = refl
 
 -- sum [1<m>; 1<s>]
-metres_and_seconds : call_of_sum (more_inputs (one_of 0) (more_inputs (one_of 1) no_inputs)) ≡ units 0
+metres_and_seconds : call_of_sum (more_inputs (one_of 0) (more_inputs (one_of 1) no_inputs)) ≡ units 0 0
 unfolding product
 metres_and_seconds = refl
 

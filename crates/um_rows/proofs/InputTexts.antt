@@ -1,22 +1,24 @@
 -- Inputs as expressions have exactly the types of the inputs.
-use Rattle.std.proofs.Common.{◌≡◌, ℕ, suc, List, [], ◌∷◌, map, length, replicate, Some, slice_get, refl, sym, ap, ◌∙◌, subst}
+use Rattle.std.proofs.Common.{◌≡◌, ℕ, suc, List, [], ◌∷◌, map, length, replicate, get_or, Some, slice_get, refl, sym, ap, ◌∙◌, subst}
 use Rattle.std.specs.Prelude.{All}
 use Rattle.std.proofs.lemmas.List.{length-map}
 use Rattle.std.proofs.lemmas.List.Elements.{All-head, All-tail}
 use Rattle.um_frac.specs.declared.number.Frac.{Frac}
 use Rattle.um_units.specs.PowerMap.{PowerMap, replace}
-use Rattle.um_units.proofs.Replacement.{replace-closed}
+use Rattle.um_units.specs.Variables.{IsClosed}
 use Rattle.um_tree.specs.declared.note.UnitNote.{UnitNote}
 use Rattle.um_tree.specs.declared.note.UnitNote.TheVariants.{Hole, Written}
 use Rattle.um_tree.specs.TypeTree.{TypeTree, bool_type, num_type, list_type, record_type, NoteTree, bool_note, num_note, list_note, record_note, ShapeTree, bool_shape, num_shape, list_shape, record_shape}
 use Rattle.um_tree.specs.ValueTree.{InputTree, InputTrees, truth_input, number_input, list_input, record_input, no_inputs, more_inputs}
 use Rattle.um_tree.specs.ProgramTree.{RecordTree, Signature}
-use Rattle.um_tree.specs.Typing.{put, unit_at, field_types, UnitsMatch, Matches, TypesMatch, LiteralUnit, EachIs, Typed, AllTyped}
+use Rattle.um_tree.specs.Typing.{put, unit_at, field_types, UnitsMatch, Matches, TypesMatch, EachIs, Typed, AllTyped}
+use Rattle.um_tree.specs.ExprTree.{ExprTrees, none, more}
+use Rattle.um_tree.specs.Laws.{UnitNoteHas, NoteHas, ExprsHave, LiteralsAreClosed}
 use Rattle.um_tree.specs.Shapes.{type_shape, note_shape}
-use Rattle.um_tree.specs.InputType.{InputUnit, InputHas, EachInputHas, InputsHave}
+use Rattle.um_tree.specs.InputType.{InputHas, EachInputHas, InputsHave}
 use Rattle.um_tree.specs.Formed.{IsTypeIn, IsNoteTreeIn, IsLiteral, IsFormedInput, AreFormedInputs}
 use Rattle.um_rows.specs.Holes.{record_holes}
-use Rattle.um_rows.specs.CallEquations.{open_note, item_shape, field_shapes, input_text, item_texts, input_texts}
+use Rattle.um_rows.specs.CallEquations.{open_note, item_shape, list_of, field_shapes, input_text, item_texts, input_texts}
 
 -- ---- types of a shape
 units_open : (choice : ℕ → PowerMap) (us : List PowerMap) → UnitsMatch choice (replicate (length us) Hole) us
@@ -80,20 +82,11 @@ item_is_open records choice (list_shape s) t m = let same : t ≡ m.0 = cc m.2 i
 item_is_open records choice (record_shape r) t m = absurd (cc m.2)
 
 module _ (bases : ℕ) (records : List RecordTree) (fields : (r : ℕ) (d : RecordTree) → slice_get records r ≡ Some d → All (IsTypeIn bases d.units records) (field_types d)) (calls : ℕ → Signature → Type 0) (choice : ℕ → PowerMap) where
-  -- ---- numbers
-  literal_from : (c : Frac) (n : UnitNote) (u : PowerMap) → IsLiteral bases c n → InputUnit c n u → LiteralUnit choice c n u
-  literal_from c Hole u w h = h
-  literal_from c (Written v) u w h = h ∙ sym (replace-closed choice v w.0)
-
-  unit_from : (c : Frac) (n : UnitNote) (u : PowerMap) → IsLiteral bases c n → LiteralUnit choice c n u → InputUnit c n u
-  unit_from c Hole u w h = h
-  unit_from c (Written v) u w h = h ∙ replace-closed choice v w.0
-
   -- ---- an input's type is the expression's
   mutual
     pub text_typed : (s : ShapeTree) (i : InputTree) (t : TypeTree) → IsFormedInput bases i → Matches choice (open_note records s) t → InputHas records i t → Typed records calls choice [] (input_text records s i) t
     text_typed s (truth_input b) t w m h = h
-    text_typed s (number_input c n) t w m h = (h.0, literal_from c n h.0 w h.1, h.2)
+    text_typed s (number_input c n) t w m h = (h.0, h.1, h.2)
     text_typed s (list_input is) t w m h = list_typed s is t h.0 w (subst (Matches choice (open_note records s)) h.2 m) h.1 h.2
     text_typed s (record_input r is) t w m h =
         let found : field_shapes (slice_get records r) ≡ map type_shape (field_types h.1) = ap field_shapes h.2.declared in
@@ -126,7 +119,7 @@ module _ (bases : ℕ) (records : List RecordTree) (fields : (r : ℕ) (d : Reco
   mutual
     pub input_has : (s : ShapeTree) (i : InputTree) (t : TypeTree) → IsFormedInput bases i → Typed records calls choice [] (input_text records s i) t → InputHas records i t
     input_has s (truth_input b) t w h = h
-    input_has s (number_input c n) t w h = (h.0, unit_from c n h.0 w h.1, h.2)
+    input_has s (number_input c n) t w h = (h.0, h.1, h.2)
     input_has s (list_input no_inputs) t w h = (h.0, tt, h.2)
     input_has s (list_input (more_inputs i is)) t w h =
         let first : h.2.0 ≡ h.0 = cc h.2.4 in
@@ -144,3 +137,39 @@ module _ (bases : ℕ) (records : List RecordTree) (fields : (r : ℕ) (d : Reco
     inputs_have ss no_inputs ts w h = h
     inputs_have [] (more_inputs i is) ts w h = (h.0, h.1, input_has bool_shape i h.0 w.0 h.2, inputs_have [] is h.1 w.1 h.3, h.4)
     inputs_have (s ∷ ss) (more_inputs i is) ts w h = (h.0, h.1, input_has s i h.0 w.0 h.2, inputs_have ss is h.1 w.1 h.3, h.4)
+
+-- ---- the literals of inputs are closed
+any_unit_note : (n : UnitNote) → UnitNoteHas (λ u. Unit {0}) n
+any_unit_note Hole = tt
+any_unit_note (Written u) = tt
+
+any_note : (n : NoteTree) → NoteHas (λ u. Unit {0}) n
+any_note bool_note = tt
+any_note (num_note n) = any_unit_note n
+any_note (list_note n) = any_note n
+any_note (record_note r ns) = λ k d l. any_unit_note (get_or ns k d)
+
+list_closed : (n : NoteTree) (es : ExprTrees) → ExprsHave (λ u. Unit {0}) IsClosed es → LiteralsAreClosed (list_of n es)
+list_closed n none h = any_note n
+list_closed n (more e es) h = h
+
+literal_closed : (bases : ℕ) (c : Frac) (n : UnitNote) → IsLiteral bases c n → UnitNoteHas IsClosed n
+literal_closed bases c Hole h = tt
+literal_closed bases c (Written u) h = h.0
+
+module _ (bases : ℕ) (records : List RecordTree) where
+  mutual
+    input_closed : (s : ShapeTree) (i : InputTree) → IsFormedInput bases i → LiteralsAreClosed (input_text records s i)
+    input_closed s (truth_input b) h = tt
+    input_closed s (number_input c n) h = literal_closed bases c n h
+    input_closed s (list_input is) h = list_closed (open_note records s) (item_texts records (item_shape s) is) (items_closed (item_shape s) is h)
+    input_closed s (record_input r is) h = inputs_closed (field_shapes (slice_get records r)) is h
+
+    items_closed : (s : ShapeTree) (is : InputTrees) → AreFormedInputs bases is → ExprsHave (λ u. Unit {0}) IsClosed (item_texts records s is)
+    items_closed s no_inputs h = tt
+    items_closed s (more_inputs i is) h = (input_closed s i h.0, items_closed s is h.1)
+
+    pub inputs_closed : (ss : List ShapeTree) (is : InputTrees) → AreFormedInputs bases is → ExprsHave (λ u. Unit {0}) IsClosed (input_texts records ss is)
+    inputs_closed ss no_inputs h = tt
+    inputs_closed [] (more_inputs i is) h = (input_closed bool_shape i h.0, inputs_closed [] is h.1)
+    inputs_closed (s ∷ ss) (more_inputs i is) h = (input_closed s i h.0, inputs_closed ss is h.1)

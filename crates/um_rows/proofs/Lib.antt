@@ -7,10 +7,13 @@ mod SoundRules
 pub mod Callees
 pub mod Sound
 mod CompleteRules
+mod PutLiterals
 mod Used
 pub mod Complete
 mod BelowRules
 pub mod Below
+pub mod KeyOrder
+pub mod TableLaws
 pub mod SlotLaws
 pub mod FunctionLaws
 mod VariableLists
@@ -20,3 +23,14 @@ pub mod NumberedSchemes
 pub mod JudgementLaws
 mod InputTexts
 pub mod CallLaws
+pub mod PushLaws
+pub mod WalkLaws
+pub mod RenamingLaws
+pub mod NodeLaws
+pub mod SliceLaws
+pub mod OfferLaws
+pub mod WalkedParts
+pub mod SameDerivation
+pub mod SlotsLeft
+pub mod EquationLaws
+pub mod ProgramRows

@@ -6,10 +6,9 @@ use Rattle.um_units.specs.PowerMap.{PowerMap, replace}
 use Rattle.um_tree.specs.TypeTree.{TypeTree}
 use Rattle.um_tree.specs.ProgramTree.{Signature}
 use Rattle.um_tree.specs.Typing.{put, put_signature}
-use Rattle.um_tree.specs.Scheme.{IsInstance, IsNumberedScheme, IsNumberedBy, variables}
+use Rattle.um_tree.specs.Scheme.{IsInstance, IsNumberedScheme, IsNumberedBy, variables, signature_types}
 use Rattle.um_elim.specs.Numbering.{variable_order, by_place}
-use Rattle.um_elim.proofs.NumberedTypes.{renumbered_is_numbered, in_order_below, same_instances}
-use Rattle.um_rows.specs.Solutions.{signature_types}
+use Rattle.um_elim.proofs.NumberedTypes.{renumbered_is_numbered, same_instances}
 use Rattle.um_rows.specs.Judgement.{numbered_scheme}
 use Rattle.um_rows.proofs.PutTypes.{signature_put-put}
 
@@ -48,6 +47,3 @@ pub numbered_is_numbered : (g : Signature) → IsNumberedScheme (numbered_scheme
 numbered_is_numbered g =
     let order = variable_order (signature_types g) in
     subst (IsNumberedBy (length order)) (sym (types-put (by_place order) g)) (renumbered_is_numbered (signature_types g))
-
-pub numbered_below : (g : Signature) → All (λ k. k < (numbered_scheme g).vars) (variables (signature_types (numbered_scheme g).signature))
-numbered_below g = in_order_below 0 (numbered_scheme g).vars (variables (signature_types (numbered_scheme g).signature)) (numbered_is_numbered g)

@@ -5,6 +5,7 @@ use Rattle.um_units.specs.PowerMap.{PowerMap, nth}
 use Rattle.um_tree.specs.ProgramTree.{RecordTree, FunctionTree, ProgramTree, Signature, SchemeTree}
 use Rattle.um_tree.specs.Typing.{put_signature, Earlier, IsTypingOf, TypingAt, typings_below}
 use Rattle.um_tree.proofs.Below.{earlier_typings}
+use Rattle.um_tree.specs.Laws.{LiteralsAreClosed}
 use Rattle.um_rows.specs.Derivation.{first_units}
 use Rattle.um_rows.specs.Keys.{hole, name, function_keys}
 use Rattle.um_rows.specs.Slots.{slot_unit, function_slots, slot_count, slot_equations}
@@ -24,27 +25,29 @@ module _ (earlier : Earlier) (schemes : List SchemeTree) (i : ℕ) (fit : AllFit
       let order = function_slots records schemes i f in
       equations_below (slot_count records schemes i f) (λ k. slot_unit order (hole k)) (λ k. slot_unit order (name k)) records schemes i f (callee_below earlier schemes i fit f) (keys_below (function_keys records schemes i f))
 
-  solution_typed : (units : List PowerMap) → IsSolution records schemes i f units → IsTypingOf records earlier i f (put_signature (nth units) (slot_signature records schemes i f))
-  solution_typed units h =
-      let order = function_slots records schemes i f in
-      function_sound earlier schemes i fit f records (λ k. slot_unit order (hole k)) (λ k. slot_unit order (name k)) (nth units) (Holds-solves (nth units) (slot_equations records schemes i f).steps h.solves)
+  -- ---- where each literal's unit is closed
+  module _ (closed : LiteralsAreClosed f.body) where
+    solution_typed : (units : List PowerMap) → IsSolution records schemes i f units → IsTypingOf records earlier i f (put_signature (nth units) (slot_signature records schemes i f))
+    solution_typed units h =
+        let order = function_slots records schemes i f in
+        function_sound earlier schemes i fit f closed records (λ k. slot_unit order (hole k)) (λ k. slot_unit order (name k)) (nth units) (Holds-solves (nth units) (slot_equations records schemes i f).steps h.solves)
 
-  typed_solved : (g : Signature) → IsTypingOf records earlier i f g → IsSolved records schemes i f g
-  typed_solved g h =
-      let order = function_slots records schemes i f in
-      let n = slot_count records schemes i f in
-      let v = slot_values order (function_used earlier schemes i fit f records g h) h.choice in
-      let w = function_complete earlier schemes i fit f records (λ k. slot_unit order (hole k)) (λ k. slot_unit order (name k)) g h v (hole_value order (function_used earlier schemes i fit f records g h) h.choice) (name_value order (function_used earlier schemes i fit f records g h) h.choice) in
-      let units = first_units n v in
-      let alike = λ (k : ℕ) (l : k < n). sym (nth-first n v k l) in
-      let steps = (slot_equations records schemes i f).steps in (
-        units,
-        record { per_slot = length-first n v; solves = Solves-holds (nth units) steps (Holds_alike_below n v (nth units) alike steps slots_below.1 w.0) },
-        w.1 ∙ signature_put_alike_below n v (nth units) alike (slot_signature records schemes i f) slots_below.0,
-      )
+    typed_solved : (g : Signature) → IsTypingOf records earlier i f g → IsSolved records schemes i f g
+    typed_solved g h =
+        let order = function_slots records schemes i f in
+        let n = slot_count records schemes i f in
+        let v = slot_values order (function_used earlier schemes i fit f closed records g h) h.choice in
+        let w = function_complete earlier schemes i fit f closed records (λ k. slot_unit order (hole k)) (λ k. slot_unit order (name k)) g h v (hole_value order (function_used earlier schemes i fit f closed records g h) h.choice) (name_value order (function_used earlier schemes i fit f closed records g h) h.choice) in
+        let units = first_units n v in
+        let alike = λ (k : ℕ) (l : k < n). sym (nth-first n v k l) in
+        let steps = (slot_equations records schemes i f).steps in (
+          units,
+          record { per_slot = length-first n v; solves = Solves-holds (nth units) steps (Holds_alike_below n v (nth units) alike steps slots_below.1 w.0) },
+          w.1 ∙ signature_put_alike_below n v (nth units) alike (slot_signature records schemes i f) slots_below.0,
+        )
 
-  pub typings_are_solved : (g : Signature) → IsTypingOf records earlier i f g ↔ IsSolved records schemes i f g
-  typings_are_solved g = (typed_solved g, λ h. subst (IsTypingOf records earlier i f) (sym h.2) (solution_typed h.0 h.1))
+    pub typings_are_solved : (g : Signature) → IsTypingOf records earlier i f g ↔ IsSolved records schemes i f g
+    typings_are_solved g = (typed_solved g, λ h. subst (IsTypingOf records earlier i f) (sym h.2) (solution_typed h.0 h.1))
 
 -- ---- in a program
 pub all_fit : (p : ProgramTree) (schemes : List SchemeTree) (i : ℕ) → HaveSchemes p schemes i → AllFit (typings_below p i) schemes i
@@ -53,14 +56,14 @@ all_fit p schemes i have j l =
     record {
       scheme = h.scheme;
       stands = h.stands;
-      below = signature_below_from h.scheme.vars h.scheme.signature h.variables_below;
-      instances = λ g k. (h.principal g).0 ((earlier_typings p i j g l).0 k);
-      typings = λ g k. (earlier_typings p i j g l).1 ((h.principal g).1 k);
+      below = signature_below_from h.scheme.vars h.scheme.signature h.principal.below;
+      instances = λ g k. (h.principal.instances g).0 ((earlier_typings p i j g l).0 k);
+      typings = λ g k. (earlier_typings p i j g l).1 ((h.principal.instances g).1 k);
     }
 
 pub typings_are_solutions : TypingsAreSolutions
-typings_are_solutions p schemes i f e have g =
-    let both = typings_are_solved (typings_below p i) schemes i (all_fit p schemes i have) p.records f g in
+typings_are_solutions p schemes i f e closed have g =
+    let both = typings_are_solved (typings_below p i) schemes i (all_fit p schemes i have) p.records f closed g in
     ((λ h. both.0 (subst (λ o. TypingAt p.records (typings_below p i) i o g) e h)), (λ h. subst (λ o. TypingAt p.records (typings_below p i) i o g) (sym e) (both.1 h)))
 
 pub rows_hold_slots : RowsHoldSlots

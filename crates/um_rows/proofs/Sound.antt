@@ -10,6 +10,7 @@ use Rattle.um_tree.specs.TypeTree.{TypeTree, bool_type, NoteTree, bool_note, num
 use Rattle.um_tree.specs.ExprTree.{ExprTree, ExprTrees, truth, number, local, call, negate, not_expr, arith as arith_tree, compare, both, either, if, bind, split, nil, list_expr, cons, record_expr, field, none, more}
 use Rattle.um_tree.specs.ProgramTree.{RecordTree, Signature}
 use Rattle.um_tree.specs.Typing.{put, put_signature, UnitMatches, UnitsMatch, Matches, LiteralUnit, Typed, AllTyped}
+use Rattle.um_rows.proofs.PutLiterals.{put_literal, put_literals, all_put_literals}
 use Rattle.um_rows.specs.Against.{types_against}
 use Rattle.um_rows.specs.Holes.{unit_holes, Callee, known_by, itself, nobody, callee_holes, record_holes, expr_holes}
 use Rattle.um_rows.specs.Rules.{Derived, after, item, number_rule, call_rule, negate_rule, not_rule, truths_rule, arith_rule, compare_rule, if_rule, split_rule, list_rule, cons_rule, record_rule, field_rule}
@@ -38,7 +39,7 @@ module _ (v holes names : ℕ → PowerMap) where
   note_sound n (list_note m) = (put v (noted_type holes names n m), note_sound n m, refl)
   note_sound n (record_note r ms) = (map (replace v) (noted_units holes names n ms), units_sound n ms, refl)
 
-  literal_sound : (at n : ℕ) (c : Frac) (m : UnitNote) → Holds v (number_rule at c m (noted_unit holes names n m)).steps → LiteralUnit (λ k. replace v (names k)) c m (replace v (noted_unit holes names n m))
+  literal_sound : (at n : ℕ) (c : Frac) (m : UnitNote) → Holds v (number_rule at c m (noted_unit holes names n m)).steps → LiteralUnit c (put_literal (λ k. replace v (names k)) m) (replace v (noted_unit holes names n m))
   literal_sound at n c Hole h = zero_sound v at c (holes n) h
   literal_sound at n c (Written u) h = replace-replace names v u
 
@@ -59,10 +60,10 @@ module _ (v holes names : ℕ → PowerMap) where
 
     module _ (callee : ℕ → Callee) (calls : ℕ → Signature → Type 0) (closes : (j : ℕ) (g : Signature) → Offers (put_signature v self) (callee j) g → calls j g) where
       abbrev Is : List TypeTree → ExprTree → TypeTree → Type 0
-      Is vars e t = Typed records calls (λ k. replace v (names k)) vars e t
+      Is vars e t = Typed records calls (λ k. replace v (names k)) vars (put_literals (λ k. replace v (names k)) e) t
 
       abbrev AllAre : List TypeTree → ExprTrees → List TypeTree → Type 0
-      AllAre vars es ts = AllTyped records calls (λ k. replace v (names k)) vars es ts
+      AllAre vars es ts = AllTyped records calls (λ k. replace v (names k)) vars (all_put_literals (λ k. replace v (names k)) es) ts
 
       wider : (vars others : List TypeTree) (e : ExprTree) (t : TypeTree) → Is (map (put v) (vars ++ others)) e t → Is (map (put v) vars ++ map (put v) others) e t
       wider vars others e t h = subst (λ vs. Is vs e t) (map-append (put v) vars others) h

@@ -7,6 +7,7 @@ use Rattle.um_tree.specs.TypeTree.{TypeTree, bool_type, num_type, list_type, rec
 use Rattle.um_tree.specs.ExprTree.{ExprTree, ExprTrees, truth, number, local, call, negate, not_expr, arith as arith_tree, compare, both, either, if, bind, split, nil, list_expr, cons, record_expr, field, none, more}
 use Rattle.um_tree.specs.ProgramTree.{RecordTree, Signature}
 use Rattle.um_tree.specs.Typing.{put, unit_at, field_types, UnitsMatch, Matches, TypesMatch, ResultMatches, Typed, AllTyped}
+use Rattle.um_rows.proofs.PutLiterals.{put_literals, all_put_literals}
 use Rattle.um_rows.specs.Holes.{unit_holes, note_holes, Callee, known_by, itself, nobody, callee_holes, record_holes, expr_holes}
 use Rattle.um_rows.proofs.Callees.{Offers}
 
@@ -66,7 +67,7 @@ module _ (choice : ℕ → PowerMap) where
     offer_used nobody g h = λ k. one
 
     abbrev mutual
-      pub used : (vars : List TypeTree) (e : ExprTree) (t : TypeTree) → Typed records calls choice vars e t → ℕ → PowerMap
+      pub used : (vars : List TypeTree) (e : ExprTree) (t : TypeTree) → Typed records calls choice vars (put_literals choice e) t → ℕ → PowerMap
       used vars (truth at b) t h = λ k. one
       used vars (number at c m) t h = λ k. h.0
       used vars (local at k) t h = λ k. one
@@ -89,6 +90,6 @@ module _ (choice : ℕ → PowerMap) where
       used vars (record_expr at r es) t h = then_units (record_holes (slice_get records r)) (unit_at h.0) (all_used vars es (map (put (unit_at h.0)) (field_types h.1)) h.3)
       used vars (field at r k a) t h = used vars a (record_type r h.0) h.5
 
-      pub all_used : (vars : List TypeTree) (es : ExprTrees) (ts : List TypeTree) → AllTyped records calls choice vars es ts → ℕ → PowerMap
+      pub all_used : (vars : List TypeTree) (es : ExprTrees) (ts : List TypeTree) → AllTyped records calls choice vars (all_put_literals choice es) ts → ℕ → PowerMap
       all_used vars none ts h = λ k. one
       all_used vars (more e es) ts h = then_units (expr_holes records callee e) (used vars e h.0 h.2) (all_used vars es h.1 h.3)

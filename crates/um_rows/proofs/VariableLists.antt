@@ -3,16 +3,16 @@ use Rattle.std.proofs.Common.{ℕ, ◌<◌, List, [], ◌∷◌, ◌++◌}
 use Rattle.std.specs.Prelude.{All}
 use Rattle.std.specs.List.{flat_map}
 use Rattle.std.proofs.lemmas.List.Elements.{All-nil, All-cons, All-head, All-tail, All-append}
-use Rattle.um_units.specs.PowerMap.{PowerMap}
+use Rattle.um_units.specs.declared.Atom.TheVariants.{Base}
+use Rattle.um_units.specs.PowerMap.{PowerMap, atom}
 use Rattle.um_units.specs.Variables.{VariablesBelow}
 use Rattle.um_units.proofs.Variables.{variables_below-from_VariablesBelow}
 use Rattle.um_tree.specs.TypeTree.{TypeTree, bool_type, num_type, list_type, record_type}
 use Rattle.um_tree.specs.ProgramTree.{Signature}
-use Rattle.um_tree.specs.Scheme.{unit_variables, type_variables, variables}
+use Rattle.um_tree.specs.Scheme.{unit_variables, type_variables, variables, signature_types}
 use Rattle.um_elim.proofs.GrowingOrder.{All-front, All-back, All-member, All-from_below}
 use Rattle.um_elim.proofs.RenamedUnits.{held-member}
-use Rattle.um_rows.specs.Steps.{Step, row_at, type_at, row_units}
-use Rattle.um_rows.specs.Solutions.{signature_types}
+use Rattle.um_rows.specs.Steps.{Step, row_at, wrong_shape_at, type_at, row_units}
 use Rattle.um_rows.proofs.Variables.{TypeBelow, TypesBelow, SignatureBelow, StepsBelow}
 
 module _ (n : ℕ) where
@@ -67,4 +67,5 @@ module _ (n : ℕ) where
   pub rows_all : (ss : List Step) → StepsBelow n ss → All (VariablesBelow n) (row_units ss)
   rows_all [] low = All-nil (VariablesBelow n)
   rows_all (row_at at u ∷ ss) low = All-cons (VariablesBelow n) u (row_units ss) low.0 (rows_all ss low.1)
+  rows_all (wrong_shape_at at ∷ ss) low = All-cons (VariablesBelow n) (atom (Base 0)) (row_units ss) low.0 (rows_all ss low.1)
   rows_all (type_at at t ∷ ss) low = rows_all ss low.1

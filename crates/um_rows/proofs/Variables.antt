@@ -2,14 +2,15 @@
 use Rattle.std.proofs.Common.{◌≡◌, ℕ, ◌<◌, List, [], ◌∷◌, map, refl, ap, sym, ◌∙◌}
 use Rattle.std.specs.Prelude.{All}
 use Rattle.std.proofs.lemmas.List.Elements.{All-head, All-tail}
-use Rattle.um_units.specs.PowerMap.{PowerMap, replace}
+use Rattle.um_units.specs.declared.Atom.TheVariants.{Base}
+use Rattle.um_units.specs.PowerMap.{PowerMap, replace, atom}
 use Rattle.um_units.specs.Variables.{VariablesBelow}
 use Rattle.um_units.proofs.Replacement.{replace_alike}
 use Rattle.um_tree.specs.TypeTree.{TypeTree, bool_type, num_type, list_type, record_type}
 use Rattle.um_tree.specs.ProgramTree.{Signature}
 use Rattle.um_tree.specs.Typing.{put, put_signature}
 use Rattle.um_tree.specs.Laws.{TypeHas}
-use Rattle.um_rows.specs.Steps.{Step, row_at, type_at}
+use Rattle.um_rows.specs.Steps.{Step, row_at, wrong_shape_at, type_at}
 use Rattle.um_rows.specs.Holes.{Callee, known_by, itself, nobody}
 use Rattle.um_rows.proofs.HeldSteps.{Holds}
 
@@ -27,6 +28,7 @@ SignatureBelow n g = TypesBelow n g.params × TypeBelow n g.result
 abbrev pub StepsBelow : ℕ → List Step → Type 0
 StepsBelow n [] = Unit {0}
 StepsBelow n (row_at at u ∷ ss) = VariablesBelow n u × StepsBelow n ss
+StepsBelow n (wrong_shape_at at ∷ ss) = VariablesBelow n (atom (Base 0)) × StepsBelow n ss
 StepsBelow n (type_at at t ∷ ss) = TypeBelow n t × StepsBelow n ss
 
 -- each variable of the scheme is below their number
@@ -63,4 +65,5 @@ module _ (n : ℕ) (s t : ℕ → PowerMap) (alike : (k : ℕ) → k < n → s k
   pub Holds_alike_below : (ss : List Step) → StepsBelow n ss → Holds s ss → Holds t ss
   Holds_alike_below [] low h = tt
   Holds_alike_below (row_at at u ∷ ss) low h = (sym (replace_alike_below u low.0) ∙ h.0, Holds_alike_below ss low.1 h.1)
+  Holds_alike_below (wrong_shape_at at ∷ ss) low h = (sym (replace_alike_below (atom (Base 0)) low.0) ∙ h.0, Holds_alike_below ss low.1 h.1)
   Holds_alike_below (type_at at type ∷ ss) low h = Holds_alike_below ss low.1 h

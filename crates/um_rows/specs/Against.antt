@@ -1,14 +1,13 @@
 -- The rows of two types that must be equal: one for each unit, from left to right, the first unit over the second.
 -- Source: Kennedy (1996): two types unify where their units do, and two units are equal where their quotient is 1.
 use Rattle.std.specs.Prelude.{ℕ, ◌==◌, if◌then◌else◌, List, [], ◌∷◌, ◌++◌}
-use Rattle.um_units.specs.declared.Atom.TheVariants.{Base}
-use Rattle.um_units.specs.PowerMap.{PowerMap, atom, mul, inv}
+use Rattle.um_units.specs.PowerMap.{PowerMap, mul, inv}
 use Rattle.um_tree.specs.TypeTree.{TypeTree, bool_type, num_type, list_type, record_type}
-use Rattle.um_rows.specs.Steps.{Step, row_at}
+use Rattle.um_rows.specs.Steps.{Step, row_at, wrong_shape_at}
 
--- a row that no units satisfy, for types of two shapes. A function that has its shapes forms none
+-- the types have two shapes. A function that has its shapes forms no such step
 abbrev pub never : ℕ → List Step
-never at = row_at at (atom (Base 0)) ∷ []
+never at = wrong_shape_at at ∷ []
 
 abbrev pub unit_against : ℕ → PowerMap → PowerMap → Step
 unit_against at u v = row_at at (mul u (inv v))

@@ -1,10 +1,10 @@
 -- The equations of a function, given the schemes of the functions before it.
 -- Source: Kennedy (1996): a recursive use has one type, an earlier function is used at any instance of its scheme.
-use Rattle.std.specs.Prelude.{ℕ, ◌+◌, nat_lt, ◌==◌, ◌&&◌, Bool, if◌then◌else◌, is_some, List, [], ◌++◌, Option, Some, None, slice_get}
+use Rattle.std.specs.Prelude.{ℕ, ◌+◌, nat_lt, ◌==◌, ◌&&◌, Bool, if◌then◌else◌, is_some, List, [], ◌∷◌, ◌++◌, Option, Some, None, slice_get}
 use Rattle.um_units.specs.PowerMap.{PowerMap}
 use Rattle.um_tree.specs.TypeTree.{TypeTree, bool_type, NoteTree}
 use Rattle.um_tree.specs.ProgramTree.{RecordTree, FunctionTree, Signature, SchemeTree}
-use Rattle.um_rows.specs.Steps.{Step}
+use Rattle.um_rows.specs.Steps.{Step, types_at}
 use Rattle.um_rows.specs.Against.{against}
 use Rattle.um_rows.specs.Holes.{Callee, known_by, itself, nobody, notes_holes, result_holes, expr_holes}
 use Rattle.um_rows.specs.Derivation.{noted_type, noted_types, derive}
@@ -19,8 +19,11 @@ known_function None = nobody
 abbrev pub may_recur : FunctionTree → Bool
 may_recur f = f.recursive && is_some f.result
 
+abbrev pub callee_of : List SchemeTree → ℕ → Bool → ℕ → Callee
+callee_of schemes i recurs j = if nat_lt j i then known_function (slice_get schemes j) else if j == i && recurs then itself else nobody
+
 abbrev pub callee : List SchemeTree → ℕ → FunctionTree → ℕ → Callee
-callee schemes i f j = if nat_lt j i then known_function (slice_get schemes j) else if j == i && may_recur f then itself else nobody
+callee schemes i f = callee_of schemes i (may_recur f)
 
 -- ---- the holes of a function: those of its parameters, of its result and of its body, in this order
 
@@ -54,8 +57,16 @@ module _ (holes names : ℕ → PowerMap) where
   abbrev pub own_signature : FunctionTree → Signature
   own_signature f = record { params = noted_types holes names 0 f.params; result = noted_result (notes_holes f.params) f.result }
 
+  -- the types of the parameters and of the result's note, at the function's name
+  abbrev pub head_steps : FunctionTree → List Step
+  head_steps f = types_at f.at (noted_types holes names 0 f.params ++ noted_result (notes_holes f.params) f.result ∷ [])
+
   abbrev pub equations : List RecordTree → List SchemeTree → ℕ → FunctionTree → Equations
   equations records schemes i f =
       let params = noted_types holes names 0 f.params in
       let body = derive holes names records (own_signature f) (callee schemes i f) (head_holes f) params f.body in
-      record { params = params; result = body.type; steps = body.steps ++ result_rows f.at body.type (notes_holes f.params) f.result }
+      record {
+        params = params;
+        result = body.type;
+        steps = head_steps f ++ (body.steps ++ result_rows f.at body.type (notes_holes f.params) f.result);
+      }

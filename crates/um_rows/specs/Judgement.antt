@@ -6,12 +6,13 @@ use Rattle.std.specs.List.{list_all}
 use Rattle.um_units.specs.PowerMap.{nth}
 use Rattle.um_tree.specs.ProgramTree.{RecordTree, FunctionTree, Signature, SchemeTree}
 use Rattle.um_tree.specs.Typing.{put_signature}
+use Rattle.um_tree.specs.Scheme.{signature_types}
 use Rattle.um_elim.specs.Application.{type_fits}
 use Rattle.um_elim.specs.Numbering.{variable_order, by_place}
 use Rattle.um_elim.specs.Solution.{own_variables}
-use Rattle.um_rows.specs.Steps.{first_past}
+use Rattle.um_rows.specs.Steps.{rows_of, first_past}
 use Rattle.um_rows.specs.Slots.{slot_count, slot_equations}
-use Rattle.um_rows.specs.Solutions.{slot_signature, signature_types}
+use Rattle.um_rows.specs.Solutions.{slot_signature}
 use Rattle.um_rows.specs.FirstUnsolvable.{Solving, solved, unsolved, out_of_range, solve}
 
 -- the variables of the signature are numbered by their first occurrence, and the scheme holds these
@@ -27,8 +28,8 @@ pub data Judgement : Type 0 where
   too_many_slots : Judgement
   -- the place of the first power that is formed and passes the range
   passes_range : ℕ → Judgement
-  -- the place of the first unsolvable row
-  has_no_typing : ℕ → Judgement
+  -- the number of the first unsolvable row, counted from 0, and its place
+  has_no_typing : ℕ → ℕ → Judgement
 
 -- the most general solution put for the slots. Where a power of it passes the range the place is the function's name
 abbrev pub by_solution : ℕ → Signature → Judgement
@@ -36,7 +37,7 @@ by_solution at g = if signature_fits g then has_scheme (numbered_scheme g) else 
 
 abbrev pub by_solving : ℕ → Signature → Solving → Judgement
 by_solving at g (solved units) = by_solution at (put_signature (nth units) g)
-by_solving at g (unsolved row) = has_no_typing row
+by_solving at g (unsolved k row) = has_no_typing k row
 by_solving at g (out_of_range row) = passes_range row
 
 -- the range of the rows and types comes before any row is solved
@@ -48,4 +49,4 @@ abbrev pub judge : List RecordTree → List SchemeTree → ℕ → FunctionTree 
 judge records schemes i f =
     let n = slot_count records schemes i f in
     let steps = (slot_equations records schemes i f).steps in
-    if nat_le n 2000 then by_range (first_past steps) (by_solving f.at (slot_signature records schemes i f) (solve steps (own_variables n))) else too_many_slots
+    if nat_le n 2000 then by_range (first_past steps) (by_solving f.at (slot_signature records schemes i f) (solve 0 (rows_of steps) (own_variables n))) else too_many_slots

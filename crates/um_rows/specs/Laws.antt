@@ -8,17 +8,20 @@ use Rattle.um_tree.specs.ValueTree.{InputTrees}
 use Rattle.um_tree.specs.Typing.{Typing}
 use Rattle.um_tree.specs.InputType.{IsResultOfCall, IsTypeOfCall}
 use Rattle.um_tree.specs.Formed.{IsFormed, AreFormedInputs}
-use Rattle.um_tree.specs.Scheme.{IsPrincipal, IsNumberedScheme, variables}
+use Rattle.um_tree.specs.Laws.{LiteralsAreClosed}
+use Rattle.um_tree.specs.Scheme.{IsPrincipal, IsNumberedScheme, variables, signature_types}
+use Rattle.um_rows.specs.Steps.{rows_of}
 use Rattle.um_rows.specs.Slots.{slot_count, slot_equations}
-use Rattle.um_rows.specs.Solutions.{function_rows, slot_signature, IsSolved, signature_types, HaveSchemes}
+use Rattle.um_rows.specs.Solutions.{function_rows, slot_signature, IsSolved, HaveSchemes}
 use Rattle.um_rows.specs.FirstUnsolvable.{IsFirstUnsolvable}
 use Rattle.um_rows.specs.CallEquations.{call_function}
 use Rattle.um_rows.specs.Judgement.{has_scheme, has_no_typing, judge}
 
--- a signature is a typing of function i exactly where some joint solution of the function's rows gives it
+-- a signature is a typing of function i, whose literals are closed, exactly where some joint solution of the function's
+-- rows gives it
 abbrev pub TypingsAreSolutions : Type 0
 TypingsAreSolutions =
-    (p : ProgramTree) (schemes : List SchemeTree) (i : ℕ) (f : FunctionTree) → slice_get p.functions i ≡ Some f → HaveSchemes p schemes i →
+    (p : ProgramTree) (schemes : List SchemeTree) (i : ℕ) (f : FunctionTree) → slice_get p.functions i ≡ Some f → LiteralsAreClosed f.body → HaveSchemes p schemes i →
     (g : Signature) → Typing p i g ↔ IsSolved p.records schemes i f g
 
 -- the rows hold slots alone, and so do the types
@@ -37,15 +40,16 @@ TypesHoldSlots =
 -- the scheme that a function is judged to have is numbered, and its instances are exactly the function's typings
 abbrev pub JudgedSchemesArePrincipal : Type 0
 JudgedSchemesArePrincipal =
-    (p : ProgramTree) (schemes : List SchemeTree) (i : ℕ) (f : FunctionTree) → slice_get p.functions i ≡ Some f → HaveSchemes p schemes i →
+    (p : ProgramTree) (schemes : List SchemeTree) (i : ℕ) (f : FunctionTree) → slice_get p.functions i ≡ Some f → LiteralsAreClosed f.body → HaveSchemes p schemes i →
     (s : SchemeTree) → judge p.records schemes i f ≡ has_scheme s → IsPrincipal p i s × IsNumberedScheme s
 
--- where a function is judged to have no typing the first unsolvable row of its equations stands at the place, and the
--- function has none
+-- where a function is judged to have no typing the row is the first unsolvable one of its equations, and the function has
+-- none
 abbrev pub JudgedUntypedHaveNone : Type 0
 JudgedUntypedHaveNone =
-    (p : ProgramTree) (schemes : List SchemeTree) (i : ℕ) (f : FunctionTree) → slice_get p.functions i ≡ Some f → HaveSchemes p schemes i →
-    (at : ℕ) → judge p.records schemes i f ≡ has_no_typing at → IsFirstUnsolvable (slot_count p.records schemes i f) (slot_equations p.records schemes i f).steps at × ((g : Signature) → Typing p i g → ⊥)
+    (p : ProgramTree) (schemes : List SchemeTree) (i : ℕ) (f : FunctionTree) → slice_get p.functions i ≡ Some f → LiteralsAreClosed f.body → HaveSchemes p schemes i →
+    (k at : ℕ) → judge p.records schemes i f ≡ has_no_typing k at →
+    IsFirstUnsolvable (slot_count p.records schemes i f) (rows_of (slot_equations p.records schemes i f).steps) k at × ((g : Signature) → Typing p i g → ⊥)
 
 -- ---- calls
 
@@ -65,4 +69,4 @@ JudgedCallsHaveTheirType =
 abbrev pub JudgedUntypedCallsHaveNone : Type 0
 JudgedUntypedCallsHaveNone =
     (p : ProgramTree) (schemes : List SchemeTree) (k : ℕ) (f : FunctionTree) (inputs : InputTrees) → IsFormed p → HaveSchemes p schemes (length p.functions) → slice_get p.functions k ≡ Some f → AreFormedInputs (length p.bases) inputs →
-    (at : ℕ) → judge p.records schemes (length p.functions) (call_function p.records k f inputs) ≡ has_no_typing at → (t : TypeTree) → IsResultOfCall p k inputs t → ⊥
+    (row at : ℕ) → judge p.records schemes (length p.functions) (call_function p.records k f inputs) ≡ has_no_typing row at → (t : TypeTree) → IsResultOfCall p k inputs t → ⊥

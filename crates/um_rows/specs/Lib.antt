@@ -6,8 +6,15 @@ pub mod Derivation
 pub mod Equations
 pub mod Keys
 pub mod Slots
+pub mod Slotting
 pub mod Solutions
 pub mod FirstUnsolvable
+pub mod SlotUnits
+pub mod Pushed
+pub mod Walk
+pub mod Reached
+pub mod Body
 pub mod Judgement
 pub mod CallEquations
+pub mod Answers
 pub mod Laws

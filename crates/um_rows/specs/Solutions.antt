@@ -1,13 +1,12 @@
 -- The joint solutions of a function's rows, and what they give for its types.
 -- Source: Kennedy (1996): a typing is what a unifier of the equations gives. That a solution is a list over numbered slots is
 -- this project's own.
-use Rattle.std.specs.Prelude.{◌≡◌, ℕ, ◌<◌, All, List, [], ◌∷◌, ◌++◌, Some, slice_get}
+use Rattle.std.specs.Prelude.{◌≡◌, ℕ, ◌<◌, List, Some, slice_get}
 use Rattle.um_units.specs.PowerMap.{PowerMap, nth}
 use Rattle.um_units.specs.Solutions.{IsJointSolution}
-use Rattle.um_tree.specs.TypeTree.{TypeTree}
 use Rattle.um_tree.specs.ProgramTree.{RecordTree, FunctionTree, ProgramTree, Signature, SchemeTree}
 use Rattle.um_tree.specs.Typing.{put_signature}
-use Rattle.um_tree.specs.Scheme.{IsPrincipal, variables}
+use Rattle.um_tree.specs.Scheme.{IsPrincipal}
 use Rattle.um_rows.specs.Steps.{row_units}
 use Rattle.um_rows.specs.Slots.{slot_count, slot_equations}
 
@@ -29,14 +28,10 @@ IsSolved records schemes i f g = (units : List PowerMap) × IsSolution records s
 
 -- ---- the schemes of the functions before
 
-abbrev pub signature_types : Signature → List TypeTree
-signature_types g = g.params ++ g.result ∷ []
-
--- the scheme of function j, over its variables alone: its instances are exactly the function's typings
+-- the scheme of function j: its instances are exactly the function's typings
 pub record HasScheme (p : ProgramTree) (schemes : List SchemeTree) (j : ℕ) : Type 0 where
   pub scheme : SchemeTree
   pub stands : slice_get schemes j ≡ Some scheme
-  pub variables_below : All (λ k. k < scheme.vars) (variables (signature_types scheme.signature))
   pub principal : IsPrincipal p j scheme
 
 -- each function before i has its scheme

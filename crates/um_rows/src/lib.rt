@@ -5,4 +5,22 @@
 //! rows and of the slots, and the range of powers, are this project's own.
 #![tactic(auto)]
 
+mod against;
+mod calls;
+mod context;
+mod equations;
+mod function_rows;
 pub mod laws;
+mod leaves;
+mod noted;
+mod progress;
+mod records;
+mod row;
+
+mod rules;
+mod slots;
+mod types;
+mod walk;
+
+pub use row::{Row, RowList, RowStop, Rows};
+pub use function_rows::rows;

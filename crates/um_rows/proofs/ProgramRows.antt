@@ -1,0 +1,105 @@
+-- What is known of a formed program, as the code of the equations asks for it, and what its equations say.
+use Rattle.std.proofs.Common.{◌≡◌, ◌↔◌, ℕ, zero, suc, ◌<◌, ◌≤◌, List, [], ◌∷◌, map, length, get_or, Some, None, slice_get, refl, sym, ap, ◌∙◌, subst, arith}
+use Rattle.std.specs.Prelude.{All, Option}
+use Rattle.std.proofs.lemmas.List.{get_or_default}
+use Rattle.std.proofs.lemmas.List.Elements.{All-nil, All-cons, All-head, All-tail}
+use Rattle.um_units.specs.PowerMap.{PowerMap, nth}
+use Rattle.um_units.specs.Variables.{VariablesBelow}
+use Rattle.um_units.specs.Solutions.{IsJointSolution}
+use Rattle.um_tree.specs.declared.types.Ty.{Ty}
+use Rattle.um_tree.specs.declared.program.FieldDecl.{FieldDecl}
+use Rattle.um_tree.specs.declared.program.Record.{Record}
+use Rattle.um_tree.specs.declared.program.Scheme.{Scheme}
+use Rattle.um_tree.specs.declared.program.Function.{Function}
+use Rattle.um_tree.specs.declared.program.Program.{Program}
+use Rattle.um_tree.specs.TypeTree.{TypeTree, bool_type, num_type, list_type, record_type, type_tree, type_trees, note_tree, note_trees}
+use Rattle.um_tree.specs.ExprTree.{expr_tree}
+use Rattle.um_tree.specs.ProgramTree.{RecordTree, FieldTree, FunctionTree, ProgramTree, Signature, SchemeTree, field_tree, record_tree, function_tree, result_tree, program_tree, scheme_tree}
+use Rattle.um_tree.specs.Typing.{put_signature, Typing}
+use Rattle.um_tree.specs.Laws.{TypeHas}
+use Rattle.um_tree.specs.Formed.{IsTypeIn, IsFieldType, IsFormed}
+use Rattle.um_tree.proofs.WrittenUnits.{formed_literals_are_closed}
+use Rattle.um_rows.specs.declared.row.Rows.{Rows}
+use Rattle.um_rows.specs.declared.row.RowStop.{RowStop}
+use Rattle.um_rows.specs.declared.row.RowStop.TheVariants as stop
+use Rattle.um_rows.specs.Steps.{units_of}
+use Rattle.um_rows.specs.Solutions.{IsSolved, HaveSchemes}
+use Rattle.um_rows.specs.Body.{IsClosedScheme, AreClosedBefore, IsClosedRecord}
+use Rattle.um_rows.specs.Answers.{AreEquations, StopsFor, AreRowsOf, RowsStopFor, HaveVariablesBelow, IsGivenBy, TypingsAreSolutionsOf, described}
+use Rattle.um_rows.proofs.Variables.{TypesBelow}
+use Rattle.um_rows.proofs.VariableLists.{signature_below_from}
+use Rattle.um_rows.proofs.NodeLaws.{mapped_found}
+use Rattle.um_rows.proofs.Solved.{typings_are_solutions}
+
+-- ---- schemes
+all_from : (n : ℕ) (ts : List Ty) → TypesBelow n (map type_tree ts) → All (λ t. TypeHas (VariablesBelow n) (type_tree t)) ts
+all_from n [] h = All-nil (λ t. TypeHas (VariablesBelow n) (type_tree t))
+all_from n (t ∷ ts) h = All-cons (λ t. TypeHas (VariablesBelow n) (type_tree t)) t ts h.0 (all_from n ts h.1)
+
+pub closed_before : (i : ℕ) (schemes : List Scheme) → HaveVariablesBelow i (map scheme_tree schemes) → AreClosedBefore i schemes
+closed_before i schemes h j d l m =
+    let s = get_or schemes j d in
+    let found = mapped_found scheme_tree schemes j s m (get_or_default schemes j d s m) in
+    let below = signature_below_from s.vars (scheme_tree s).signature (h j (scheme_tree s) l found) in
+    record { params = all_from s.vars s.params.items.items below.0; result = below.1 }
+
+-- ---- records
+type_below : (bases n : ℕ) (records : List RecordTree) (t : TypeTree) → IsTypeIn bases n records t → TypeHas (VariablesBelow n) t
+type_below bases n records bool_type h = tt
+type_below bases n records (num_type u) h = h.1
+type_below bases n records (list_type t) h = type_below bases n records t h
+type_below bases n records (record_type r us) h = λ k d l. (h.1 k d l).1
+
+fields_below : (p : ProgramTree) (r n : ℕ) (fs : List FieldDecl) → All (λ (f : FieldTree). IsFieldType p r n f.type) (map field_tree fs) → All (λ (f : FieldDecl). TypeHas (VariablesBelow n) (type_tree f.ty)) fs
+fields_below p r n [] h = All-nil (λ (f : FieldDecl). TypeHas (VariablesBelow n) (type_tree f.ty))
+fields_below p r n (f ∷ fs) h =
+    All-cons (λ (f : FieldDecl). TypeHas (VariablesBelow n) (type_tree f.ty)) f fs
+    (type_below (length p.bases) n p.records (type_tree f.ty) (All-head (λ (f : FieldTree). IsFieldType p r n f.type) (field_tree f) (map field_tree fs) h).0)
+    (fields_below p r n fs (All-tail (λ (f : FieldTree). IsFieldType p r n f.type) (field_tree f) (map field_tree fs) h))
+
+pub closed_records : (p : Program) → IsFormed (program_tree p) → All IsClosedRecord p.records.items.items
+closed_records p formed r d l =
+    let x = get_or p.records.items.items r d in
+    let found = mapped_found record_tree p.records.items.items r x l (get_or_default p.records.items.items r d x l) in
+    record { fields = fields_below (program_tree p) r x.units x.fields.items.items (formed.records r (record_tree x) found).fields }
+
+-- ---- a function of the program
+module _ (p : Program) (formed : IsFormed (program_tree p)) (schemes : List SchemeTree) (i : ℕ) (f : Function) (low : i < length p.functions.items.items) (is : f ≡ get_or p.functions.items.items i f) where
+  abbrev parts : FunctionTree
+  parts = described f.at f.recursive (map note_tree f.params.items.items) (result_tree f.result) (expr_tree f.body)
+
+  found : slice_get (program_tree p).functions i ≡ Some (function_tree f)
+  found = mapped_found function_tree p.functions.items.items i f low is
+
+  only : (g : FunctionTree) → slice_get (program_tree p).functions i ≡ Some g → function_tree f ≡ g
+  only g e = let same : Some (function_tree f) ≡ Some g = sym found ∙ e in cc same
+
+  pub rows_of_function : (r : Rows) → AreEquations (program_tree p).records schemes i parts r → AreRowsOf (program_tree p) schemes i r
+  rows_of_function r h g e = subst (λ x. AreEquations (program_tree p).records schemes i x r) (only g e) (record { few = h.few; in_range = h.in_range; slots = h.slots; list = h.list; params = h.params; result = h.result })
+
+  stops_with : (x : RowStop) → StopsFor (program_tree p).records schemes i parts x → StopsFor (program_tree p).records schemes i (function_tree f) x
+  stops_with stop.Slots h = h
+  stops_with (stop.Range at) h = h
+  stops_with stop.NoMemory h = tt
+
+  pub stops_of_function : (x : RowStop) → StopsFor (program_tree p).records schemes i parts x → RowsStopFor (program_tree p) schemes i x
+  stops_of_function x h g e = subst (λ y. StopsFor (program_tree p).records schemes i y x) (only g e) (stops_with x h)
+
+  pub typings_of_function : (r : Rows) → AreEquations (program_tree p).records schemes i parts r → TypingsAreSolutionsOf (program_tree p) schemes i r
+  typings_of_function r h have g =
+      let both = typings_are_solutions (program_tree p) schemes i (function_tree f) found (formed_literals_are_closed (program_tree p) i formed i (function_tree f) (omega arith) found) have g in
+      ((λ t. given (both.0 t)), (λ w. both.1 (solved w)))
+    where
+      given : IsSolved (program_tree p).records schemes i (function_tree f) g → IsGivenBy r g
+      given w = (
+        w.0,
+        subst (λ n. IsJointSolution n (units_of r.list.items.items) w.0) (sym h.slots) (subst (λ rs. IsJointSolution _ (units_of rs) w.0) (sym h.list) w.1),
+        w.2 ∙ (λ j. put_signature (nth w.0) (record { params = sym h.params j; result = sym h.result j })),
+      )
+
+      solved : IsGivenBy r g → IsSolved (program_tree p).records schemes i (function_tree f) g
+      solved w = (
+        w.0,
+        subst (λ n. IsJointSolution n _ w.0) h.slots (subst (λ rs. IsJointSolution r.slots (units_of rs) w.0) h.list w.1),
+        w.2 ∙ (λ j. put_signature (nth w.0) (record { params = h.params j; result = h.result j })),
+      )

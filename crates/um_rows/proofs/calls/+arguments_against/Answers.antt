@@ -1,0 +1,29 @@
+use Rattle.std.proofs.Common.{◌∷◌, ◌-◌, length, take, drop, map, sym, ap, subst}
+use Rattle.um_units.specs.PowerMap.{nth}
+use Rattle.um_tree.specs.TypeTree.{type_tree}
+use Rattle.um_tree.specs.Typing.{put}
+use Rattle.um_rows.specs.Against.{against as against_steps}
+use Rattle.um_rows.specs.Against.{types_against as types_against_steps}
+use Rattle.um_rows.specs.Pushed.{ArePushed, AreBehind}
+use Rattle.um_rows.proofs.PushLaws.{pushed_after, first_and_others}
+use Rattle.um_rows.proofs.calls.+arguments_against.Goals as goal
+
+pub returns-in_ok-against-in-len1-up-arguments-2 : goal.returns-in_ok-against-in-len1-up-arguments-2
+returns-in_ok-against-in-len1-up-arguments-2 t c =
+    let by = nth c.args.by.now in
+    let left = c.args.params.now in
+    let right = c.args.arguments.now in
+    let x = c.param-item.result in
+    let y = c.argument-item.result in
+    let at = c.args.at in
+    let old = c.args.rows.now.items in
+    let mid = c.against.new.rows.items in
+    let new = c.arguments_against.new.rows.items in
+    let r = c.arguments_against.result in
+    let made = c.in_ok-param-in-len1-up-arguments-2.ensures.exact in
+    let first = subst (λ s. AreBehind (against_steps at s (type_tree y)) old mid) made c.in_ok-against-in-len1-up-arguments-2.ensures in
+    let lefts = first_and_others left x c.in-len1-up.len_at_least c.param-item.is in
+    let rights = first_and_others right y c.in-len1-up-arguments-2.len_at_least c.argument-item.is in
+    subst (λ xs. ArePushed (types_against_steps at (map (put by) (map type_tree xs)) (map type_tree right)) old new r) (sym lefts)
+    (subst (λ ys. ArePushed (types_against_steps at (map (put by) (map type_tree (x ∷ take (length left - 1) (drop 1 left)))) (map type_tree ys)) old new r) (sym rights)
+    (pushed_after (against_steps at (put by (type_tree x)) (type_tree y)) (types_against_steps at (map (put by) (map type_tree (take (length left - 1) (drop 1 left)))) (map type_tree (take (length right - 1) (drop 1 right)))) old mid new r first c.arguments_against.ensures))

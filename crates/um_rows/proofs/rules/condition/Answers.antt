@@ -1,0 +1,17 @@
+use Rattle.std.proofs.Common.{◌++◌}
+use Rattle.um_tree.specs.TypeTree.{type_tree}
+use Rattle.um_rows.specs.Against.{against}
+use Rattle.um_rows.specs.Rules.{asks_bool}
+use Rattle.um_rows.proofs.PushLaws.{behind_then}
+use Rattle.um_rows.proofs.NodeLaws.{node_formed}
+use Rattle.um_rows.proofs.rules.condition.Goals as goal
+
+pub returns-clause-reached : goal.returns-clause-reached
+returns-clause-reached c =
+    let progress = c.args.progress.now in
+    let at = c.args.at in
+    let asked = asks_bool at (type_tree c.args.test.now) in
+    let rows = against at (type_tree c.args.first) (type_tree c.args.second.now) in
+    node_formed progress.rows.items c.against.new.rows.items progress.holes at (asked ++ rows) (type_tree c.args.first)
+    (behind_then asked rows progress.rows.items c.ask_bool.new.rows.items c.against.new.rows.items c.in_ok-ask_bool.ensures c.in_ok-against.ensures)
+    c.requires.fits

@@ -1,0 +1,63 @@
+-- What the calls that give equations answer: all of the equations, or why there are none.
+-- Source: this project's own; want of memory may come in place of every answer.
+use Rattle.std.specs.Prelude.{◌≡◌, ◌↔◌, ◌<◌, ◌≤◌, ℕ, Bool, All, List, [], length, slice_get, Option, Some, None}
+use Rattle.um_units.specs.PowerMap.{PowerMap, nth}
+use Rattle.um_units.specs.Solutions.{IsJointSolution}
+use Rattle.um_tree.specs.TypeTree.{NoteTree, type_tree, type_trees}
+use Rattle.um_tree.specs.ExprTree.{ExprTree}
+use Rattle.um_tree.specs.ValueTree.{InputTrees}
+use Rattle.um_tree.specs.ProgramTree.{RecordTree, FunctionTree, ProgramTree, Signature, SchemeTree}
+use Rattle.um_tree.specs.Typing.{put_signature, Typing}
+use Rattle.um_tree.specs.Scheme.{variables, signature_types}
+use Rattle.um_rows.specs.declared.row.Rows.{Rows}
+use Rattle.um_rows.specs.declared.row.RowStop.{RowStop}
+use Rattle.um_rows.specs.declared.row.RowStop.TheVariants as stop
+use Rattle.um_rows.specs.Steps.{rows_of, units_of, first_past}
+use Rattle.um_rows.specs.Slots.{slot_count, slot_equations}
+use Rattle.um_rows.specs.Solutions.{HaveSchemes}
+use Rattle.um_rows.specs.CallEquations.{call_function}
+
+-- these are the equations: there are no more than 2,000 slots, and no power passes the range
+pub record AreEquations (records : List RecordTree) (schemes : List SchemeTree) (i : ℕ) (f : FunctionTree) (r : Rows) : Type 0 where
+  pub few : slot_count records schemes i f ≤ 2000
+  pub in_range : first_past (slot_equations records schemes i f).steps ≡ None
+  pub slots : r.slots ≡ slot_count records schemes i f
+  pub list : r.list.items.items ≡ rows_of (slot_equations records schemes i f).steps
+  pub params : type_trees r.params ≡ (slot_equations records schemes i f).params
+  pub result : type_tree r.result ≡ (slot_equations records schemes i f).result
+
+-- there are none, for this cause. The number of slots is looked at first
+abbrev pub StopsFor : List RecordTree → List SchemeTree → ℕ → FunctionTree → RowStop → Type 0
+StopsFor records schemes i f stop.Slots = 2000 < slot_count records schemes i f
+StopsFor records schemes i f (stop.Range at) = (slot_count records schemes i f ≤ 2000) × (first_past (slot_equations records schemes i f).steps ≡ Some at)
+StopsFor records schemes i f stop.NoMemory = Unit {0}
+
+-- ---- of function i
+abbrev pub AreRowsOf : ProgramTree → List SchemeTree → ℕ → Rows → Type 0
+AreRowsOf p schemes i r = (f : FunctionTree) → slice_get p.functions i ≡ Some f → AreEquations p.records schemes i f r
+
+abbrev pub RowsStopFor : ProgramTree → List SchemeTree → ℕ → RowStop → Type 0
+RowsStopFor p schemes i e = (f : FunctionTree) → slice_get p.functions i ≡ Some f → StopsFor p.records schemes i f e
+
+-- ---- of a call of function k
+abbrev pub AreCallRowsOf : ProgramTree → List SchemeTree → ℕ → InputTrees → Rows → Type 0
+AreCallRowsOf p schemes k inputs r = (f : FunctionTree) → slice_get p.functions k ≡ Some f → AreEquations p.records schemes (length p.functions) (call_function p.records k f inputs) r
+
+abbrev pub CallRowsStopFor : ProgramTree → List SchemeTree → ℕ → InputTrees → RowStop → Type 0
+CallRowsStopFor p schemes k inputs e = (f : FunctionTree) → slice_get p.functions k ≡ Some f → StopsFor p.records schemes (length p.functions) (call_function p.records k f inputs) e
+
+-- ---- what is asked of the schemes of the functions before function i: each is over its own variables
+abbrev pub HaveVariablesBelow : ℕ → List SchemeTree → Type 0
+HaveVariablesBelow i schemes = (j : ℕ) (s : SchemeTree) → j < i → slice_get schemes j ≡ Some s → All (λ k. k < s.vars) (variables (signature_types s.signature))
+
+-- ---- a signature is a typing of function i exactly where some joint solution of the rows gives it: where the instances of each
+-- scheme before are exactly the function's typings
+abbrev pub IsGivenBy : Rows → Signature → Type 0
+IsGivenBy r g = (units : List PowerMap) × IsJointSolution r.slots (units_of r.list.items.items) units × (g ≡ put_signature (nth units) (record { params = type_trees r.params; result = type_tree r.result }))
+
+abbrev pub TypingsAreSolutionsOf : ProgramTree → List SchemeTree → ℕ → Rows → Type 0
+TypingsAreSolutionsOf p schemes i r = HaveSchemes p schemes i → (g : Signature) → Typing p i g ↔ IsGivenBy r g
+
+-- ---- a function without a name
+abbrev pub described : ℕ → Bool → List NoteTree → Option NoteTree → ExprTree → FunctionTree
+described at recursive params note body = record { name = []; at = at; recursive = recursive; params = params; named = 0; result = note; body = body }

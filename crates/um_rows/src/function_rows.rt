@@ -1,0 +1,40 @@
+//! The equations of a function of a program.
+
+ghost use Rattle.std.specs.Prelude.{◌≡◌, ◌↔◌, ◌<◌, IfOk, IfErr, length, map};
+ghost use Rattle.um_tree.specs.ProgramTree.{Signature, program_tree, scheme_tree};
+ghost use Rattle.um_tree.specs.Typing.{Typing};
+ghost use Rattle.um_rows.specs.Answers.{AreRowsOf, RowsStopFor, HaveVariablesBelow, TypingsAreSolutionsOf};
+
+use crate::equations::equations;
+use crate::row::{RowStop, Rows};
+use std::alloc::Global;
+use um_shape::Shaped;
+use um_tree::Schemes;
+
+/// The equations of function i, over its slots, given schemes of the functions before it.
+///
+/// The rows come in the order of the walk: those of a node after those of its parts, and at last the body against the note of
+/// the result (Kennedy 1996). Slots comes exactly where there are more than 2,000; else Range comes exactly where a power
+/// passes -2147483647..2147483647, at the first such node or row. Where each scheme's instances are exactly the typings of its
+/// function, the typings of function i are exactly what the joint solutions of the rows give.
+pub fn rows(alloc: Global, shaped: &Shaped, i: u32, schemes: &Schemes) -> Result<Rows, RowStop>
+    requires function { i < length (program_tree shaped.now).functions }
+    requires schemes { HaveVariablesBelow i (map scheme_tree schemes.now.items.items) }
+    ensures equations { IfOk result (AreRowsOf (program_tree shaped.now) (map scheme_tree schemes.now.items.items) i) }
+    ensures stops { IfErr result (RowsStopFor (program_tree shaped.now) (map scheme_tree schemes.now.items.items) i) }
+    ensures typings { IfOk result (TypingsAreSolutionsOf (program_tree shaped.now) (map scheme_tree schemes.now.items.items) i) }
+{
+    let program = shaped.program();
+    let function = &program.functions.items[i as usize];
+    equations(
+        alloc,
+        &program.records.items,
+        &schemes.items,
+        i,
+        function.at,
+        function.recursive,
+        &function.params.items,
+        &function.result,
+        &function.body,
+    )
+}

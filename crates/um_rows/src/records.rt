@@ -1,0 +1,202 @@
+//! Values of records, and their fields.
+
+ghost use Rattle.std.specs.Prelude.{◌≡◌, ◌+◌, ◌≤◌, ◌==◌, All, IfOk, IsTrue, Some, true, length, map, slice_get};
+ghost use Rattle.um_units.specs.PowerMap.{nth};
+ghost use Rattle.um_units.specs.Variables.{VariablesBelow};
+ghost use Rattle.um_tree.specs.declared.program.FieldDecl.{FieldDecl};
+ghost use Rattle.um_tree.specs.TypeTree.{type_tree};
+ghost use Rattle.um_tree.specs.ProgramTree.{record_tree};
+ghost use Rattle.um_tree.specs.Typing.{put, unit_at, field_types};
+ghost use Rattle.um_tree.specs.Laws.{TypeHas};
+ghost use Rattle.um_elim.specs.Application.{type_fits};
+ghost use Rattle.um_rows.specs.SlotUnits.{AreVariables};
+ghost use Rattle.um_rows.specs.Against.{types_against as types_against_steps};
+ghost use Rattle.um_rows.specs.Pushed.{ArePushed};
+ghost use Rattle.um_rows.specs.Rules.{record_rule, declared_rule, field_rule, found_rule};
+ghost use Rattle.um_rows.specs.Holes.{record_holes};
+ghost use Rattle.um_rows.specs.Derivation.{first_units};
+ghost use Rattle.um_rows.specs.Walk.{node};
+ghost use Rattle.um_rows.specs.Reached.{IsReached};
+ghost use Rattle.um_rows.specs.Body.{declared_types, IsClosedRecord};
+
+use crate::against::{against, push_never};
+use crate::calls::hole_units;
+use crate::context::Context;
+use crate::progress::Progress;
+use crate::row::{Row, RowStop};
+use crate::rules::mismatch;
+use crate::types::{copied_units, renamed};
+use std::alloc::Global;
+use um_elim::put_in_type;
+use um_tree::{FieldDecl, Record, Ty};
+use um_units::{Unit, UnitStop};
+
+/// Pushes the rows of fields' types, whose variables are renamed, against parts.
+#[tactic(auto, using(crate::proofs::PushLaws::stops_front))]
+fn fields_against(
+    alloc: Global,
+    at: u32,
+    by: &[Unit],
+    fields: &[FieldDecl],
+    parts: &[Ty],
+    rows: &mut Vec<Row>,
+) -> Result<(), RowStop>
+    requires variables { AreVariables by.now }
+    requires below { All (λ (f : FieldDecl). TypeHas (VariablesBelow (length by.now)) (type_tree f.ty)) fields.now }
+    ensures { ArePushed (types_against_steps at (map (put (nth by.now)) (declared_types fields.now)) (map type_tree parts.now)) rows.old.items rows.new.items result }
+{
+    match fields {
+        [] => match parts {
+            [] => Ok(()),
+            [_, ..] => push_never(alloc, at, rows),
+        },
+        [field, fields @ ..] => match parts {
+            [] => push_never(alloc, at, rows),
+            [part, parts @ ..] => {
+                let declared = renamed(alloc, by, &field.ty)?;
+                against(alloc, at, &declared, part, rows)?;
+                fields_against(alloc, at, by, fields, parts, rows)
+            }
+        },
+    }
+}
+
+/// Pushes the rows of the record's fields, with these variables for its units, against parts.
+fn parts_against(
+    alloc: Global,
+    at: u32,
+    by: &[Unit],
+    record: &Record,
+    parts: &[Ty],
+    rows: &mut Vec<Row>,
+) -> Result<(), RowStop>
+    requires variables { AreVariables by.now }
+    requires many { length by.now ≡ record.now.units }
+    requires closed { IsClosedRecord record.now }
+    ensures { ArePushed (types_against_steps at (map (put (unit_at by.now)) (field_types (record_tree record.now))) (map type_tree parts.now)) rows.old.items rows.new.items result }
+{
+    fields_against(alloc, at, by, &record.fields.items, parts, rows)
+}
+
+/// A value of the record, whose units are these variables.
+#[tactic(auto, using(crate::proofs::NodeLaws::node_made, crate::proofs::NodeLaws::node_stops))]
+fn record_of(
+    alloc: Global,
+    at: u32,
+    r: u32,
+    by: &[Unit],
+    record: &Record,
+    parts: &[Ty],
+    progress: &mut Progress,
+) -> Result<Ty, RowStop>
+    requires variables { AreVariables by.now }
+    requires many { length by.now ≡ record.now.units }
+    requires closed { IsClosedRecord record.now }
+    ensures reached { IsReached (node progress.old.rows.items progress.old.holes (record_rule at r by.now (Some (record_tree record.now)) (map type_tree parts.now))) progress.new result }
+    ensures fits { IfOk result (λ ty. IsTrue (type_fits (type_tree ty))) }
+{
+    parts_against(alloc, at, by, record, parts, &mut progress.rows)?;
+    let units = copied_units(alloc, by)?;
+    Ok(Ty::Rec(r, units))
+}
+
+/// The type of a field, at the units of a record.
+#[tactic(auto, using(crate::proofs::NodeLaws::node_made, crate::proofs::NodeLaws::node_past))]
+fn declared(
+    alloc: Global,
+    at: u32,
+    units: &[Unit],
+    field: &FieldDecl,
+    progress: &mut Progress,
+) -> Result<Ty, RowStop>
+    requires below { TypeHas (VariablesBelow (length units.now)) (type_tree field.now.ty) }
+    ensures reached { IsReached (node progress.old.rows.items progress.old.holes (declared_rule at units.now true (Some (type_tree field.now.ty)))) progress.new result }
+    ensures fits { IfOk result (λ ty. IsTrue (type_fits (type_tree ty))) }
+{
+    match put_in_type(alloc, units, &field.ty) {
+        Ok(ty) => Ok(ty),
+        Err(UnitStop::Range) => Err(RowStop::Range { at }),
+        Err(UnitStop::NoMemory) => Err(RowStop::NoMemory),
+    }
+}
+
+/// How many units a value of record r leaves open.
+pub(crate) fn open_units(records: &[Record], r: u32) -> usize
+    ensures { result ≡ record_holes (slice_get (map record_tree records.now) r) }
+{
+    match records.get(r as usize) {
+        Some(record) => record.units as usize,
+        None => 0,
+    }
+}
+
+/// A value of record r, whose holes are numbered from the first on.
+pub(crate) fn record(
+    alloc: Global,
+    at: u32,
+    records: &[Record],
+    context: &Context,
+    first: usize,
+    r: u32,
+    parts: &[Ty],
+    progress: &mut Progress,
+) -> Result<Ty, RowStop>
+    requires variables { AreVariables context.now.holes.items }
+    requires closed { All IsClosedRecord records.now }
+    requires room { first + record_holes (slice_get (map record_tree records.now) r) ≤ length context.now.holes.items }
+    ensures reached { IsReached (node progress.old.rows.items progress.old.holes (record_rule at r (first_units (record_holes (slice_get (map record_tree records.now) r)) (λ k. nth context.now.holes.items (first + k))) (slice_get (map record_tree records.now) r) (map type_tree parts.now))) progress.new result }
+    ensures fits { IfOk result (λ ty. IsTrue (type_fits (type_tree ty))) }
+{
+    match records.get(r as usize) {
+        Some(record) => {
+            let by = hole_units(context, first, record.units as usize);
+            record_of(alloc, at, r, by, record, parts, progress)
+        }
+        None => mismatch(alloc, at, progress),
+    }
+}
+
+/// The type of the k-th field of a value of this record, at the value's units.
+fn field_of(
+    alloc: Global,
+    at: u32,
+    record: &Record,
+    k: u32,
+    units: &[Unit],
+    progress: &mut Progress,
+) -> Result<Ty, RowStop>
+    requires closed { IsClosedRecord record.now }
+    ensures reached { IsReached (node progress.old.rows.items progress.old.holes (found_rule at k units.now true (Some (record_tree record.now)))) progress.new result }
+    ensures fits { IfOk result (λ ty. IsTrue (type_fits (type_tree ty))) }
+{
+    if units.len() != record.units as usize {
+        return mismatch(alloc, at, progress);
+    }
+    match record.fields.items.get(k as usize) {
+        Some(field) => declared(alloc, at, units, field, progress),
+        None => mismatch(alloc, at, progress),
+    }
+}
+
+/// The type of the k-th field of a part, which is a value of record r.
+pub(crate) fn field(
+    alloc: Global,
+    at: u32,
+    records: &[Record],
+    r: u32,
+    k: u32,
+    part: &Ty,
+    progress: &mut Progress,
+) -> Result<Ty, RowStop>
+    requires closed { All IsClosedRecord records.now }
+    ensures reached { IsReached (node progress.old.rows.items progress.old.holes (field_rule at r k (slice_get (map record_tree records.now) r) (type_tree part.now))) progress.new result }
+    ensures fits { IfOk result (λ ty. IsTrue (type_fits (type_tree ty))) }
+{
+    match part {
+        Ty::Rec(q, units) if *q == r => match records.get(r as usize) {
+            Some(record) => field_of(alloc, at, record, k, units.as_slice(), progress),
+            None => mismatch(alloc, at, progress),
+        },
+        Ty::Rec(_, _) | Ty::Bool | Ty::Num(_) | Ty::List(_) => mismatch(alloc, at, progress),
+    }
+}
