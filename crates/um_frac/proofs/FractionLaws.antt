@@ -9,10 +9,10 @@ use Rattle.um_frac.specs.declared.number.Frac.{Frac}
 use Rattle.um_frac.specs.declared.number.Trap.TheVariants.{Overflow}
 use Rattle.um_frac.specs.Gcd.{gcd}
 use Rattle.um_frac.specs.Fraction.{numerator, denominator}
-use Rattle.um_frac.specs.Arithmetic.{exactly, sum_of, difference_of, product_of, negation_of, IsRatio, IsNegative}
+use Rattle.um_frac.specs.Arithmetic.{exactly, sum_of, difference_of, product_of, negation_of, IsRatio, IsNegation}
 use Rattle.um_frac.specs.Laws.{GreatestIsCommon, PartsInRange, PartsInLowestTerms, EqualParts, EqualCrossProducts, OneForm, ReducedIsQuotient, SumIsExact, SumOverflows, SumNeverDivZero, DifferenceIsExact, DifferenceOverflows, DifferenceNeverDivZero, ProductIsExact, ProductOverflows, ProductNeverDivZero, QuotientIsExact, QuotientByZero, QuotientOverflows, NegationIsExact, SameIsEqual, OrderIsIrreflexive, OrderIsTransitive, OrderIsTotal}
 use Rattle.um_frac.proofs.Gcd.{gcd-is, gcd_comm, gauss}
-use Rattle.um_frac.proofs.Integers.{not_zero, times_swap, less_times, less_cancel, less_trans}
+use Rattle.um_frac.proofs.Integers.{*ℤ-ne-zero, times_swap, less_times, less_cancel, less_trans}
 use Rattle.um_frac.proofs.LowestTerms.{AreTerms, above_zero, reduced_terms, reduced_from, reduced_exact, fraction_from, same_parts, some_is, neg_abs, num_size}
 use Rattle.um_frac.proofs.Outcomes.{less_iff, exact_ok, cross_equal, same_iff, sum_clauses, difference_clauses, product_clauses, quotient_any, quotient_exactly, dens_apart, den_apart, size_up, within}
 
@@ -95,20 +95,20 @@ product_overflows a b = (product_clauses a b (product_of a b) refl).overflow
 pub product_never_div_zero : ProductNeverDivZero
 product_never_div_zero a b = (product_clauses a b (product_of a b) refl).never_div_zero
 
-pub negation_from : (a r : Frac) → IsNegative r a → r ≡ negation_of a
+pub negation_from : (a r : Frac) → IsNegation r a → r ≡ negation_of a
 unfolding negation_of
 negation_from a r is = ap (λ o. unwrap_or o a) (fraction_from (neg_ℤ (numerator a)) (denominator a) r is.0 is.1)
 
--- the negative, which is always within the range
-pub negative : (a : Frac) → (n : Frac) × IsNegative n a
-negative a =
+-- the negation, which is always within the range
+pub negation : (a : Frac) → (n : Frac) × IsNegation n a
+negation a =
     let size : unsigned_abs (neg_ℤ (numerator a)) ≤ greatest = rw (neg_abs (numerator a)) (num_size a) in
     let n : Frac = record { num = neg_ℤ a.num; den = a.den; positive = a.positive; den_fits = a.den_fits; above = (within (neg_ℤ (numerator a)) size).0; num_fits = (within (neg_ℤ (numerator a)) size).1; lowest = ap (λ m. gcd m (unsigned_abs a.den)) (neg_abs (numerator a)) ∙ a.lowest } in
     (n, (refl, refl))
 
 pub negation_is_exact : NegationIsExact
 negation_is_exact a r =
-    let n = negative a in
+    let n = negation a in
     let is : n.0 ≡ negation_of a = negation_from a n.0 n.1 in
     ((λ e. let same : r ≡ n.0 = e ∙ sym is in (ap numerator same ∙ n.1.0, ap denominator same ∙ n.1.1)), negation_from a r)
 
@@ -121,7 +121,7 @@ quotient_by_zero a b = (quotient_any a b).zero
 
 pub quotient_is_exact : QuotientIsExact
 quotient_is_exact a b r =
-    ((λ e. subst (λ o. IfOk o (λ s. IsRatio s a b)) e (quotient_any a b).exact), (λ is. quotient_exactly a b is.0 ∙ (exactly_ok (numerator a *ℤ denominator b) (denominator a *ℤ numerator b) r (not_zero (denominator a) (numerator b) (den_apart a) is.0)).1 is.1))
+    ((λ e. subst (λ o. IfOk o (λ s. IsRatio s a b)) e (quotient_any a b).exact), (λ is. quotient_exactly a b is.0 ∙ (exactly_ok (numerator a *ℤ denominator b) (denominator a *ℤ numerator b) r (*ℤ-ne-zero (denominator a) (numerator b) (den_apart a) is.0)).1 is.1))
 
 -- ---- the order
 pub order_is_irreflexive : OrderIsIrreflexive

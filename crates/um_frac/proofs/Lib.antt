@@ -1,5 +1,6 @@
 pub mod Gcd
 pub mod Integers
+pub mod WideProducts
 pub mod LowestTerms
 pub mod SumTerms
 pub mod ProductTerms

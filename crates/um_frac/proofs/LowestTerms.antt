@@ -16,7 +16,7 @@ use Rattle.um_frac.specs.declared.number.Frac.{Frac}
 use Rattle.um_frac.specs.Gcd.{gcd}
 use Rattle.um_frac.specs.Fraction.{numerator, denominator, IsQuotient, Fits, where_true, signed, fraction, divided, reduced}
 use Rattle.um_frac.proofs.Gcd.{gcd-is, gcd-div, gcd_up, quotient_up, same_terms}
-use Rattle.um_frac.proofs.Integers.{times_assoc, neg_times, cancel, cross}
+use Rattle.um_frac.proofs.Integers.{*ℤ_assoc, neg_ℤ-*ℤ, cancel, cross}
 
 abbrev Facts : ℤ × ℤ → Type 0
 Facts p = (pos 1 ≤ℤ p.1) × (p.1 ≤ℤ pos greatest) × (neg_ℤ (pos greatest) ≤ℤ p.0) × (p.0 ≤ℤ pos greatest) × (gcd (unsigned_abs p.0) (unsigned_abs p.1) ≡ 1)
@@ -93,7 +93,7 @@ divided_terms n d h =
     record {
       above = quotient_up (unsigned_abs n) d h;
       lowest = ap (λ m. gcd m (d / g)) (div_abs n g) ∙ gcd-div (unsigned_abs n) d up;
-      equal = ap (λ m. int_div n (pos g) *ℤ pos m) (sym whole) ∙ sym (times_assoc (int_div n (pos g)) (pos g) (pos (d / g))) ∙ ap (λ m. m *ℤ pos (d / g)) (div_whole n g is.0);
+      equal = ap (λ m. int_div n (pos g) *ℤ pos m) (sym whole) ∙ sym (*ℤ_assoc (int_div n (pos g)) (pos g) (pos (d / g))) ∙ ap (λ m. m *ℤ pos (d / g)) (div_whole n g is.0);
     }
 
 -- the terms of n / d, with which `reduced` begins
@@ -105,7 +105,7 @@ reduced_terms n (negsuc d) other =
     let terms = divided_terms (neg_ℤ n) (suc d) (omega arith) in
     let p = int_div (neg_ℤ n) (pos (gcd (unsigned_abs (neg_ℤ n)) (suc d))) in
     let q = suc d / gcd (unsigned_abs (neg_ℤ n)) (suc d) in
-    (p, q, record { above = terms.above; lowest = terms.lowest; equal = *ℤ-negsuc p d ∙ ap neg_ℤ (terms.equal ∙ neg_times n (pos q)) ∙ neg_ℤ-neg_ℤ (n *ℤ pos q) }, refl)
+    (p, q, record { above = terms.above; lowest = terms.lowest; equal = *ℤ-negsuc p d ∙ ap neg_ℤ (terms.equal ∙ neg_ℤ-*ℤ n (pos q)) ∙ neg_ℤ-neg_ℤ (n *ℤ pos q) }, refl)
 
 -- an integer above 0 is a number above 0
 pub above_zero : (z : ℤ) → pos 1 ≤ℤ z → (n : ℕ) × (z ≡ pos n) × (0 < n)

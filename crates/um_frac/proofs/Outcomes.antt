@@ -15,9 +15,9 @@ use Rattle.um_frac.specs.declared.number.Trap.{Trap}
 use Rattle.um_frac.specs.declared.number.Trap.TheVariants.{Overflow, DivZero}
 use Rattle.um_frac.specs.Gcd.{gcd}
 use Rattle.um_frac.specs.Fraction.{numerator, denominator, IsQuotient, reduced, fraction}
-use Rattle.um_frac.specs.Arithmetic.{exactly, divided_by, sum_of, difference_of, product_of, quotient_of, is_same, IsSum, IsDifference, IsProduct, IsRatio, IsNegative}
+use Rattle.um_frac.specs.Arithmetic.{exactly, divided_by, sum_of, difference_of, product_of, quotient_of, is_same, IsSum, IsDifference, IsProduct, IsRatio, IsNegation}
 use Rattle.um_frac.proofs.Gcd.{gcd-one, gcd_comm}
-use Rattle.um_frac.proofs.Integers.{times-one, times_four, not_zero, neg_times}
+use Rattle.um_frac.proofs.Integers.{*ℤ-pos_one, times_four, *ℤ-ne-zero, neg_ℤ-*ℤ}
 use Rattle.um_frac.proofs.LowestTerms.{above_zero, reduced_is, reduced_same, reduced_from, reduced_exact, reduced_none, num_size, den_size}
 
 -- ---- an exact outcome n / d
@@ -44,7 +44,7 @@ pub den_apart : (a : Frac) → denominator a ≢ pos 0
 den_apart a e = let up = a.positive in omega (arith, ints, e)
 
 pub dens_apart : (a b : Frac) → denominator a *ℤ denominator b ≢ pos 0
-dens_apart a b = not_zero (denominator a) (denominator b) (den_apart a) (den_apart b)
+dens_apart a b = *ℤ-ne-zero (denominator a) (denominator b) (den_apart a) (den_apart b)
 
 -- ---- whole numbers
 pub reduced-whole : (n : ℤ) → reduced n (pos 1) ≡ fraction n (pos 1)
@@ -53,7 +53,7 @@ reduced-whole n = reduced_is n (pos 1) n 1 (λ e. cc) (record { above = omega ar
 pub whole_sum : (a b : Frac) → denominator a ≡ pos 1 → denominator b ≡ pos 1 → sum_of a b ≡ exactly (numerator a +ℤ numerator b) (pos 1)
 unfolding sum_of
 whole_sum a b e f =
-    (λ i. exactly (numerator a *ℤ f i +ℤ numerator b *ℤ e i) (e i *ℤ f i)) ∙ (λ i. exactly (times-one (numerator a) i +ℤ times-one (numerator b) i) (pos 1))
+    (λ i. exactly (numerator a *ℤ f i +ℤ numerator b *ℤ e i) (e i *ℤ f i)) ∙ (λ i. exactly (*ℤ-pos_one (numerator a) i +ℤ *ℤ-pos_one (numerator b) i) (pos 1))
 
 pub whole_product : (a b : Frac) → denominator a ≡ pos 1 → denominator b ≡ pos 1 → product_of a b ≡ exactly (numerator a *ℤ numerator b) (pos 1)
 unfolding product_of
@@ -189,7 +189,7 @@ divided_exactly n (negsuc d) other = refl
 
 pub quotient_exactly : (a b : Frac) → numerator b ≢ pos 0 → quotient_of a b ≡ exactly (numerator a *ℤ denominator b) (denominator a *ℤ numerator b)
 unfolding quotient_of
-quotient_exactly a b other = divided_exactly (numerator a *ℤ denominator b) (denominator a *ℤ numerator b) (not_zero (denominator a) (numerator b) (den_apart a) other)
+quotient_exactly a b other = divided_exactly (numerator a *ℤ denominator b) (denominator a *ℤ numerator b) (*ℤ-ne-zero (denominator a) (numerator b) (den_apart a) other)
 
 pub quotient_zero : (a b : Frac) → numerator b ≡ pos 0 → quotient_of a b ≡ Err DivZero
 unfolding quotient_of
@@ -200,7 +200,7 @@ quotient_clauses a b o other e =
     let n = numerator a *ℤ denominator b in
     let d = denominator a *ℤ numerator b in
     let e' = e ∙ quotient_exactly a b other in
-    let apart = not_zero (denominator a) (numerator b) (den_apart a) other in
+    let apart = *ℤ-ne-zero (denominator a) (numerator b) (den_apart a) other in
     let over = exact_overflow n d o apart e' in
     record {
       value = e;
@@ -216,17 +216,17 @@ quotient_clauses a b o other e =
 pub quotient_zero_clauses : (a b : Frac) → numerator b ≡ pos 0 → QuotientClauses a b (Err DivZero)
 quotient_zero_clauses a b e = record { value = sym (quotient_zero a b e); exact = tt; zero = ((λ f. e), (λ f. refl)); overflow = ((λ f. cc), (λ none. absurd (none.0 e))) }
 
--- a difference is the sum with the negative
-pub difference_from : (a b c : Frac) → IsNegative c b → sum_of a c ≡ difference_of a b
+-- a difference is the sum with the negation
+pub difference_from : (a b c : Frac) → IsNegation c b → sum_of a c ≡ difference_of a b
 unfolding sum_of difference_of
-difference_from a b c is = λ i. exactly (numerator a *ℤ is.1 i +ℤ (ap (λ z. z *ℤ denominator a) is.0 ∙ neg_times (numerator b) (denominator a)) i) (denominator a *ℤ is.1 i)
+difference_from a b c is = λ i. exactly (numerator a *ℤ is.1 i +ℤ (ap (λ z. z *ℤ denominator a) is.0 ∙ neg_ℤ-*ℤ (numerator b) (denominator a)) i) (denominator a *ℤ is.1 i)
 
 -- a quotient is the product with the reciprocal
 pub quotient_from : (a b c : Frac) → numerator b ≢ pos 0 → IsQuotient c (denominator b) (numerator b) → product_of a c ≡ quotient_of a b
 unfolding product_of
 quotient_from a b c other is =
     let crossed = times_four (numerator a) (numerator c) (denominator a) (numerator b) ∙ ap (λ z. numerator a *ℤ denominator a *ℤ z) is.1 ∙ times_four (numerator a) (denominator a) (denominator b) (denominator c) in
-    let apart = not_zero (denominator a) (numerator b) (den_apart a) other in
+    let apart = *ℤ-ne-zero (denominator a) (numerator b) (den_apart a) other in
     ap (λ x. ok_or x Overflow) (reduced_same (numerator a *ℤ numerator c) (denominator a *ℤ denominator c) (numerator a *ℤ denominator b) (denominator a *ℤ numerator b) (dens_apart a c) apart crossed) ∙ sym (quotient_exactly a b other)
 
 -- whichever b is

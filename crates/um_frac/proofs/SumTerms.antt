@@ -10,7 +10,8 @@ use lib.IntN.{+ℤ_comm}
 use Rattle.um_frac.specs.Gcd.{gcd}
 use Rattle.um_frac.specs.Fraction.{signed, fraction, reduced}
 use Rattle.um_frac.proofs.Gcd.{gcd-is, gcd-mod, gcd-one, gcd-div, gcd_up, gcd_comm, coprime_left, coprime_right, coprime_times, factor_up}
-use Rattle.um_frac.proofs.Integers.{times_assoc, sum_times, sizes}
+use Rattle.um_frac.proofs.Integers.{*ℤ_assoc, +ℤ-*ℤ}
+use Rattle.um_frac.proofs.WideProducts.{sizes}
 use Rattle.um_frac.proofs.LowestTerms.{AreTerms, signed_abs, reduced_is, signed_size, signed_times}
 
 -- what divides a sum and one summand divides the other
@@ -52,8 +53,8 @@ module _ (u v p : ℤ) (own others g k rest : ℕ) (split : g ≡ k * rest) (tak
   sum_equal =
       let above = u *ℤ pos others +ℤ v *ℤ pos own in
       let sizes : own * g * (others * g) ≡ rest * (g * (own * (others * k))) = ap (λ n. own * g * (others * n)) split ∙ omega arith in
-      let scaled : above *ℤ pos g ≡ u *ℤ pos (others * g) +ℤ v *ℤ pos (own * g) = sum_times (u *ℤ pos others) (v *ℤ pos own) (pos g) ∙ (λ i. times_assoc u (pos others) (pos g) i +ℤ times_assoc v (pos own) (pos g) i) in
-      ap (λ n. p *ℤ pos n) sizes ∙ sym (times_assoc p (pos rest) (pos (g * (own * (others * k))))) ∙ ap (λ z. z *ℤ pos (g * (own * (others * k)))) taken ∙ sym (times_assoc above (pos g) (pos (own * (others * k)))) ∙ ap (λ z. z *ℤ pos (own * (others * k))) scaled
+      let scaled : above *ℤ pos g ≡ u *ℤ pos (others * g) +ℤ v *ℤ pos (own * g) = +ℤ-*ℤ (u *ℤ pos others) (v *ℤ pos own) (pos g) ∙ (λ i. *ℤ_assoc u (pos others) (pos g) i +ℤ *ℤ_assoc v (pos own) (pos g) i) in
+      ap (λ n. p *ℤ pos n) sizes ∙ sym (*ℤ_assoc p (pos rest) (pos (g * (own * (others * k))))) ∙ ap (λ z. z *ℤ pos (g * (own * (others * k)))) taken ∙ sym (*ℤ_assoc above (pos g) (pos (own * (others * k)))) ∙ ap (λ z. z *ℤ pos (own * (others * k))) scaled
 
 -- what the code comes to
 module _ (u v : ℤ) (du dv : ℕ) where

@@ -1,6 +1,7 @@
--- The four operations, the sign and the order of fractions: the rational numbers' own, over integers without bound.
--- A result is the exact one in lowest terms, or Overflow where that is out of the range, or DivZero for a quotient by 0.
--- Sum, product and quotient by cross products: Knuth, Seminumerical Algorithms, 4.5.1. The two traps are this project's own.
+-- The four operations, the negation and the order of fractions: the rational numbers' own, over integers without bound.
+-- A result is the exact one in lowest terms, or Overflow where that is out of the range, or DivZero for a quotient
+-- by 0. Sum, product and quotient by cross products: Knuth, Seminumerical Algorithms, 4.5.1. The two traps are this
+-- project's own.
 use Rattle.std.specs.Prelude.{◌≡◌, ◌≢◌, Bool, zero, suc, ℤ, pos, negsuc, neg_ℤ, ◌+ℤ◌, ◌-ℤ◌, ◌*ℤ◌, int_lt, Result, Err}
 use Rattle.std.specs.Option.{ok_or, unwrap_or}
 use Rattle.std.specs.Ordering.{int_eq}
@@ -16,10 +17,12 @@ abbrev pub exactly : ℤ → ℤ → Result Frac Trap
 exactly n d = ok_or (reduced n d) Overflow
 
 unfoldable pub sum_of : Frac → Frac → Result Frac Trap
-sum_of a b = exactly (numerator a *ℤ denominator b +ℤ numerator b *ℤ denominator a) (denominator a *ℤ denominator b)
+sum_of a b =
+    exactly (numerator a *ℤ denominator b +ℤ numerator b *ℤ denominator a) (denominator a *ℤ denominator b)
 
 unfoldable pub difference_of : Frac → Frac → Result Frac Trap
-difference_of a b = exactly (numerator a *ℤ denominator b -ℤ numerator b *ℤ denominator a) (denominator a *ℤ denominator b)
+difference_of a b =
+    exactly (numerator a *ℤ denominator b -ℤ numerator b *ℤ denominator a) (denominator a *ℤ denominator b)
 
 unfoldable pub product_of : Frac → Frac → Result Frac Trap
 product_of a b = exactly (numerator a *ℤ numerator b) (denominator a *ℤ denominator b)
@@ -44,19 +47,25 @@ is_less a b = int_lt (numerator a *ℤ denominator b) (numerator b *ℤ denomina
 abbrev pub is_same : Frac → Frac → Bool
 is_same a b = int_eq (numerator a *ℤ denominator b) (numerator b *ℤ denominator a)
 
--- ---- the same as relations: r is the sum, the difference, the product, the quotient of a and b, the negative of a
+-- ---- the same as relations: r is the sum, the difference, the product, the quotient of a and b, the negation of a
 abbrev pub IsSum : Frac → Frac → Frac → Type 0
-IsSum r a b = numerator r *ℤ (denominator a *ℤ denominator b) ≡ (numerator a *ℤ denominator b +ℤ numerator b *ℤ denominator a) *ℤ denominator r
+IsSum r a b =
+    numerator r *ℤ (denominator a *ℤ denominator b)
+    ≡ (numerator a *ℤ denominator b +ℤ numerator b *ℤ denominator a) *ℤ denominator r
 
 abbrev pub IsDifference : Frac → Frac → Frac → Type 0
-IsDifference r a b = numerator r *ℤ (denominator a *ℤ denominator b) ≡ (numerator a *ℤ denominator b -ℤ numerator b *ℤ denominator a) *ℤ denominator r
+IsDifference r a b =
+    numerator r *ℤ (denominator a *ℤ denominator b)
+    ≡ (numerator a *ℤ denominator b -ℤ numerator b *ℤ denominator a) *ℤ denominator r
 
 abbrev pub IsProduct : Frac → Frac → Frac → Type 0
 IsProduct r a b = numerator r *ℤ (denominator a *ℤ denominator b) ≡ (numerator a *ℤ numerator b) *ℤ denominator r
 
 -- of a divisor b that is not 0
 abbrev pub IsRatio : Frac → Frac → Frac → Type 0
-IsRatio r a b = (numerator b ≢ pos 0) × (numerator r *ℤ (denominator a *ℤ numerator b) ≡ (numerator a *ℤ denominator b) *ℤ denominator r)
+IsRatio r a b =
+    (numerator b ≢ pos 0)
+    × (numerator r *ℤ (denominator a *ℤ numerator b) ≡ (numerator a *ℤ denominator b) *ℤ denominator r)
 
-abbrev pub IsNegative : Frac → Frac → Type 0
-IsNegative r a = (numerator r ≡ neg_ℤ (numerator a)) × (denominator r ≡ denominator a)
+abbrev pub IsNegation : Frac → Frac → Type 0
+IsNegation r a = (numerator r ≡ neg_ℤ (numerator a)) × (denominator r ≡ denominator a)

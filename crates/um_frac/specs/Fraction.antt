@@ -2,7 +2,8 @@
 -- Integers here have no bound. A rational number is a quotient n / d with d other than 0, and n / d and m / e are the
 -- same number exactly where their cross products n * e and m * d are equal.
 -- The range is this project's own; lowest terms are those of Knuth, Seminumerical Algorithms, 4.5.1.
-use Rattle.std.specs.Prelude.{◌≡◌, ◌≢◌, ℕ, zero, suc, ◌/◌, ◌==◌, Bool, true, false, T, ℤ, pos, negsuc, neg_ℤ, ◌*ℤ◌, unsigned_abs, int_le, int_div, Option, None, Some}
+use Rattle.std.specs.Prelude.{◌≡◌, ◌≢◌, ℕ, zero, suc, ◌/◌, ◌==◌, Bool, true, false, T}
+use Rattle.std.specs.Prelude.{ℤ, pos, negsuc, neg_ℤ, ◌*ℤ◌, unsigned_abs, int_le, int_div, Option, None, Some}
 use lib.Dec.{eqb→eq}
 use lib.Signed.{le_z_yes}
 use Rattle.um_frac.specs.Range.{greatest}

@@ -1,4 +1,5 @@
--- The greatest common divisor, as the word says (Knuth, Seminumerical Algorithms, 4.5.2): the greatest number that divides both.
+-- The greatest common divisor, as the word says (Knuth, Seminumerical Algorithms, 4.5.2): the greatest number that
+-- divides both.
 use Rattle.std.specs.Prelude.{ℕ, zero, suc, ◌%◌, ◌==◌, ◌&&◌, Bool, cond}
 
 -- whether d, which is not 0, divides a and b

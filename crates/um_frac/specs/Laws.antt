@@ -1,13 +1,15 @@
--- The laws of fractions: what the definitions of this crate come to, in the words of the rational numbers, which are pairs of
--- integers with equal cross products. That lowest terms are unique: Knuth, Seminumerical Algorithms, 4.5.1.
-use Rattle.std.specs.Prelude.{◌≡◌, ◌≢◌, ◌↔◌, ◌⊎◌, ℕ, ◌≤◌, ℤ, pos, neg_ℤ, ◌*ℤ◌, ◌≤ℤ◌, unsigned_abs, IsTrue, Some, Ok, Err}
+-- The laws of fractions: what the definitions of this crate come to, in the words of the rational numbers, which are
+-- pairs of integers with equal cross products. That lowest terms are unique: Knuth, Seminumerical Algorithms, 4.5.1.
+use Rattle.std.specs.Prelude.{◌≡◌, ◌≢◌, ◌↔◌, ◌⊎◌, ℕ, ◌≤◌, ℤ, pos}
+use Rattle.std.specs.Prelude.{neg_ℤ, ◌*ℤ◌, ◌≤ℤ◌, unsigned_abs, IsTrue, Some, Ok, Err}
 use Rattle.std.specs.Int.{IsGcd, ◌∣◌}
 use Rattle.um_frac.specs.Range.{greatest}
 use Rattle.um_frac.specs.declared.number.Frac.{Frac}
 use Rattle.um_frac.specs.declared.number.Trap.TheVariants.{Overflow, DivZero}
 use Rattle.um_frac.specs.Gcd.{gcd}
 use Rattle.um_frac.specs.Fraction.{numerator, denominator, reduced, IsQuotient}
-use Rattle.um_frac.specs.Arithmetic.{sum_of, difference_of, product_of, quotient_of, negation_of, is_less, is_same, IsSum, IsDifference, IsProduct, IsRatio, IsNegative}
+use Rattle.um_frac.specs.Arithmetic.{sum_of, difference_of, product_of, quotient_of, negation_of, is_less}
+use Rattle.um_frac.specs.Arithmetic.{is_same, IsSum, IsDifference, IsProduct, IsRatio, IsNegation}
 
 -- ---- lowest terms
 -- the greatest number that divides two numbers is divided by each number that divides both
@@ -18,7 +20,8 @@ GreatestIsCommon = (a b : ℕ) → IsGcd a b (gcd a b)
 abbrev pub PartsInRange : Type 0
 PartsInRange =
     (a : Frac) →
-    ((neg_ℤ (pos greatest) ≤ℤ numerator a) × (numerator a ≤ℤ pos greatest)) × ((pos 1 ≤ℤ denominator a) × (denominator a ≤ℤ pos greatest))
+    ((neg_ℤ (pos greatest) ≤ℤ numerator a) × (numerator a ≤ℤ pos greatest))
+    × ((pos 1 ≤ℤ denominator a) × (denominator a ≤ℤ pos greatest))
 
 -- and no number but 1 divides both
 abbrev pub PartsInLowestTerms : Type 0
@@ -80,11 +83,12 @@ abbrev pub QuotientByZero : Type 0
 QuotientByZero = (a b : Frac) → (quotient_of a b ≡ Err DivZero) ↔ (numerator b ≡ pos 0)
 
 abbrev pub QuotientOverflows : Type 0
-QuotientOverflows = (a b : Frac) → (quotient_of a b ≡ Err Overflow) ↔ ((numerator b ≢ pos 0) × ((r : Frac) → ¬ IsRatio r a b))
+QuotientOverflows =
+    (a b : Frac) → (quotient_of a b ≡ Err Overflow) ↔ ((numerator b ≢ pos 0) × ((r : Frac) → ¬ IsRatio r a b))
 
--- ---- the sign and equality
+-- ---- negation and equality
 abbrev pub NegationIsExact : Type 0
-NegationIsExact = (a r : Frac) → (r ≡ negation_of a) ↔ IsNegative r a
+NegationIsExact = (a r : Frac) → (r ≡ negation_of a) ↔ IsNegation r a
 
 abbrev pub SameIsEqual : Type 0
 SameIsEqual = (a b : Frac) → IsTrue (is_same a b) ↔ (a ≡ b)

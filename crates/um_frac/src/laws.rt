@@ -78,8 +78,8 @@ pub fn quotients()
     ensures overflow { QuotientOverflows }
 {}
 
-/// The negative has the numerator with the other sign and the same denominator.
-pub fn negatives()
+/// The negation has the numerator with the other sign and the same denominator.
+pub fn negations()
     ensures { NegationIsExact }
 {}
 

@@ -7,7 +7,5 @@
 mod divisor;
 pub mod laws;
 mod number;
-#[cfg(test)]
-mod tests;
 
 pub use number::{Frac, Trap};

@@ -36,7 +36,7 @@ pub struct Frac {
 
 impl Frac {
     ghost use Rattle.um_frac.specs.Fraction.{numerator, denominator, reduced, IsQuotient, Fits};
-    ghost use Rattle.um_frac.specs.Arithmetic.{sum_of, difference_of, product_of, quotient_of, negation_of, is_less, is_same, IsSum, IsDifference, IsProduct, IsRatio, IsNegative};
+    ghost use Rattle.um_frac.specs.Arithmetic.{sum_of, difference_of, product_of, quotient_of, negation_of, is_less, is_same, IsSum, IsDifference, IsProduct, IsRatio, IsNegation};
 
     /// The number 0.
     pub fn zero() -> Frac
@@ -152,7 +152,7 @@ impl Frac {
     /// The number with the other sign, which is always in range.
     pub fn neg(self) -> Frac
         ensures value { result ≡ negation_of self }
-        ensures parts { IsNegative result self }
+        ensures parts { IsNegation result self }
     {
         Frac {
             num: -self.num,
@@ -177,8 +177,8 @@ impl Frac {
     }
 }
 
-// How the operations come to lowest terms. The two general paths stay out of `add` and `mul`, whose path for whole numbers is
-// a few instructions that a caller takes in.
+// How the operations come to lowest terms. The two general paths stay out of `add` and `mul`, whose path for whole
+// numbers is a few instructions that a caller takes in.
 impl Frac {
     ghost use Rattle.um_frac.specs.Fraction.{numerator, denominator, signed, fraction, reduced, IsQuotient};
     ghost use Rattle.um_frac.specs.Arithmetic.{exactly};
@@ -192,8 +192,8 @@ impl Frac {
         Frac::in_range(negative, above / common, below / common)
     }
 
-    // The fraction of a numerator, given by its sign and its size, and a denominator in lowest terms, or `None` where it is
-    // out of range.
+    // The fraction of a numerator, given by its sign and its size, and a denominator in lowest terms, or `None` where
+    // it is out of range.
     fn in_range(negative: bool, size: u128, den: u128) -> Option<Frac>
         requires positive { 0 < den }
         requires lowest { gcd size den ≡ 1 }
@@ -223,9 +223,9 @@ impl Frac {
         })
     }
 
-    // The sum of a / m and b / n, which are in lowest terms, or `None` where it is out of range. It comes to lowest terms by
-    // the greatest common divisor of the denominators, and the one that the sum may still have with it (Knuth,
-    // Seminumerical Algorithms, 4.5.1).
+    // The sum of a / m and b / n, which are in lowest terms, or `None` where it is out of range. It comes to lowest
+    // terms by the greatest common divisor of the denominators, and the one that the sum may still have with it
+    // (Knuth, Seminumerical Algorithms, 4.5.1).
     #[inline(never)]
     fn sum_of_parts(a: i64, m: u64, b: i64, n: u64) -> Option<Frac>
         requires first_den { 0 < m }
@@ -251,8 +251,8 @@ impl Frac {
         )
     }
 
-    // The product of a / m and b / n, which are in lowest terms, or `None` where it is out of range. It is in lowest terms
-    // once the greatest common divisors are taken out crosswise (Knuth, Seminumerical Algorithms, 4.5.1).
+    // The product of a / m and b / n, which are in lowest terms, or `None` where it is out of range. It is in lowest
+    // terms once the greatest common divisors are taken out crosswise (Knuth, Seminumerical Algorithms, 4.5.1).
     #[inline(never)]
     fn product_of_parts(a: i64, m: u64, b: i64, n: u64) -> Option<Frac>
         requires first_den { 0 < m }

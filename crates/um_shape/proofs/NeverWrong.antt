@@ -11,7 +11,7 @@ use Rattle.um_tree.specs.ProgramTree.{RecordTree, FunctionTree, ProgramTree}
 use Rattle.um_tree.specs.Typing.{field_types}
 use Rattle.um_tree.specs.Shapes.{type_shape, note_shape, ShapeSignature, EachShapeIs, HasShape, AllHaveShapes, CallShapes, ShapeAt, shapes_below, FunctionShape}
 use Rattle.um_tree.specs.InputType.{ValueHas, EachValueHas, ValuesHave}
-use Rattle.um_tree.specs.Meaning.{trap, budget_end, wrong, Out, gives, stops, then, Calling, spend, found, with_budget, number_result, arithmetic, calculated, compared, negated, opposite, longer, value_at, part_of, choose, on_list, means, all_mean, body_means, running, Outcome, end_of}
+use Rattle.um_tree.specs.Meaning.{trap, budget_end, wrong, Out, gives, stops, then, Calling, spend, found, with_budget, number_result, arithmetic, calculated, compared, negated, not_of, longer, value_at, field_of, choose, on_list, means, all_mean, body_means, running, Outcome, end_of}
 use Rattle.um_tree.specs.declared.expression.Arith.{Arith}
 use Rattle.um_tree.specs.declared.expression.Sign.{Sign}
 use Rattle.um_tree.proofs.Below.{earlier_shapes_are}
@@ -125,7 +125,7 @@ module _ (records : List RecordTree) where
   negated_fine (list_value x) b h = let e : num_shape ≡ list_shape h.0 = h.2 in absurd cc
   negated_fine (record_value r x) b h = let e : num_shape ≡ record_shape r = h.3 in absurd cc
 
-  opposite_fine : (v : ValueTree) (b : ℕ) → Has bool_shape v → Fine (Has bool_shape) b (with_budget (opposite v) b)
+  opposite_fine : (v : ValueTree) (b : ℕ) → Has bool_shape v → Fine (Has bool_shape) b (with_budget (not_of v) b)
   opposite_fine (truth_value x) b h = (refl, omega arith)
   opposite_fine (number_value c) b h = absurd cc
   opposite_fine (list_value x) b h = let e : bool_shape ≡ list_shape h.0 = h.2 in absurd cc
@@ -166,7 +166,7 @@ module _ (records : List RecordTree) where
       let f : slice_get (h.0 ∷ h.1) (suc k) ≡ Some s = subst (λ xs. slice_get xs (suc k) ≡ Some s) h.4 e in
       at_fine vs h.1 k s b h.3 f
 
-  part_fine : (r k : ℕ) (d : RecordTree) (s : ShapeTree) (v : ValueTree) (b : ℕ) → slice_get records r ≡ Some d → slice_get (map type_shape (field_types d)) k ≡ Some s → Has (record_shape r) v → Fine (Has s) b (with_budget (part_of r k v) b)
+  part_fine : (r k : ℕ) (d : RecordTree) (s : ShapeTree) (v : ValueTree) (b : ℕ) → slice_get records r ≡ Some d → slice_get (map type_shape (field_types d)) k ≡ Some s → Has (record_shape r) v → Fine (Has s) b (with_budget (field_of r k v) b)
   part_fine r k d s (record_value q vs) b there here h =
       let same : r ≡ q = number_of r q h.3 in
       let test : nat_eq q r ≡ true = grind (arith, nat_tests) in

@@ -6,6 +6,9 @@ use Rattle.std.specs.Char.{is_ascii_digit, len_utf8}
 use lib.Utf8.{encodes}
 use Rattle.unicode_ident.specs.Ident.{is_xid_start, is_xid_continue}
 use Rattle.unicode_ident.proofs.IdentLemmas.{is_xid_start-ascii, is_xid_continue-ascii, is_xid_start-is_xid_continue}
+use Rattle.um_syntax.specs.declared.vocabulary.Keyword.{Keyword}
+use Rattle.um_syntax.specs.declared.vocabulary.Symbol.{Symbol}
+use Rattle.um_syntax.specs.declared.vocabulary.Symbol.TheVariants as symbol
 use Rattle.um_syntax.specs.declared.token.Kind.{Kind}
 use Rattle.um_syntax.specs.declared.token.Kind.TheVariants as kind
 use Rattle.um_syntax.specs.declared.token.Token.{Token}
@@ -15,16 +18,16 @@ use Rattle.um_syntax.specs.declared.number.Part.{Part}
 use Rattle.um_syntax.specs.declared.number.Part.TheVariants as part
 use Rattle.um_syntax.specs.declared.pending.Pending.{Pending}
 use Rattle.um_syntax.specs.declared.pending.Pending.TheVariants as pending
-use Rattle.um_syntax.specs.Vocabulary.{words, word_text, sign_text, dot}
+use Rattle.um_syntax.specs.Vocabulary.{keyword_text, symbol_text}
 use Rattle.um_syntax.specs.Gap.{IsLine}
 use Rattle.um_syntax.specs.Numeral.{Numeral, Whole, Decimal, Ratio, numeral_text, IsNumeral}
 use Rattle.um_syntax.specs.Lexeme.{starts_name, IsIdentifier, IsName, Name, Var, Number, Sign, begins, NumeralEnds, SignEnds, is_whole, kind_of}
 use Rattle.um_syntax.specs.Lexing.{size_of, is_glued, is_power_place, IsNumberAt}
-use Rattle.um_syntax.specs.Machine.{Scan, word_number, single_sign, double_sign, part_takes, takes, is_whole_part, pushed, letters_kind, identifier_pushed, variable_pushed, part_pushed, number_pushed, sign_pushed, close, ends_in_digit}
+use Rattle.um_syntax.specs.Machine.{Scan, keyword_of, single_symbol, double_symbol, part_takes, takes, is_whole_part, pushed, letters_kind, identifier_pushed, variable_pushed, part_pushed, number_pushed, sign_pushed, close, ends_in_digit}
 use Rattle.um_syntax.proofs.Places.{size_of-append}
 use Rattle.um_syntax.proofs.Digits.{figures_of, figures_kind-of}
 use Rattle.std.proofs.lemmas.Slice.Eq.{bytes_eq-Decides}
-use Rattle.um_syntax.proofs.Tables.{word_number-none, word_encoded, word_parts, letters_encoded, last_encoded, letter_starts_name, letter_starts, single_sign-text, sign_text-double}
+use Rattle.um_syntax.proofs.Tables.{keyword_of-none, keyword_encoded, keyword_parts, letters_encoded, last_encoded, letter_starts_name, letter_starts, single_symbol-text, symbol_text-double}
 use Rattle.um_syntax.proofs.Texts.{NoHead, nothing_at, identifier_head, hole_from, no_hole_from, word_from, no_word_from, identifier_read}
 use Rattle.um_syntax.proofs.Meaning.{Means, next_token, faulty_here, token_here}
 
@@ -58,7 +61,7 @@ Pends (pending.Number b e p f) letters at start text =
     (b ≡ start) × (at ≡ start + size_of text) × (letters ≡ [])
     × ((numeral : Numeral) × IsNumeral numeral × (f ≡ figures_of numeral) × (text ≡ numeral_text numeral ++ tail_of p) × (e ≡ start + size_of (numeral_text numeral)) × FitsPart p numeral)
 Pends (pending.Symbol b first) letters at start text =
-    (b ≡ start) × (at ≡ start + size_of text) × (letters ≡ []) × (text ≡ first ∷ []) × ((is_some (single_sign first) || eqb first 38) ≡ true)
+    (b ≡ start) × (at ≡ start + size_of text) × (letters ≡ []) × (text ≡ first ∷ []) × ((is_some (single_symbol first) || eqb first 38) ≡ true)
 
 -- The state in which what has begun ended means for the characters what it meant.
 abbrev pub CloseMeans : List Token → ℕ → List ℕ → ℕ → List ℕ → Pending → Result Scan LexStop → Type 0
@@ -151,24 +154,24 @@ pub size_of-snoc : (xs : List ℕ) (x : ℕ) → size_of (xs ++ x ∷ []) ≡ si
 size_of-snoc xs x = let e = size_of-append xs (x ∷ []) in omega (arith, e)
 
 -- a variable whose letters are a word leaves its last letter to a name
-word_variable : (k : ℕ) (h : k < length words) (before : List Token) (start last at : ℕ) (more : List ℕ)
-    → last ≡ start + size_of (39 ∷ (word_parts k h).front) → at ≡ start + size_of (39 ∷ ((word_parts k h).front ++ (word_parts k h).last ∷ []))
+word_variable : (k : Keyword) (before : List Token) (start last at : ℕ) (more : List ℕ)
+    → last ≡ start + size_of (39 ∷ (keyword_parts k).front) → at ≡ start + size_of (39 ∷ ((keyword_parts k).front ++ (keyword_parts k).last ∷ []))
     → begins is_xid_continue more ≡ false → (answer : Result (List Token) LexStop)
-    → Means (pushed (pushed (scan_at at before (word_text k) (pending.Variable start last)) (kind.Var (take (length (word_text k) - 1) (word_text k))) start last) (kind.Name (drop (length (word_text k) - 1) (word_text k))) last at).tokens at more answer
-    → Means before start ((39 ∷ ((word_parts k h).front ++ (word_parts k h).last ∷ [])) ++ more) answer
-word_variable k h before start last at more last_place place stops answer m =
-    let p = word_parts k h in
+    → Means (pushed (pushed (scan_at at before (keyword_text k) (pending.Variable start last)) (kind.Var (take (length (keyword_text k) - 1) (keyword_text k))) start last) (kind.Name (drop (length (keyword_text k) - 1) (keyword_text k))) last at).tokens at more answer
+    → Means before start ((39 ∷ ((keyword_parts k).front ++ (keyword_parts k).last ∷ [])) ++ more) answer
+word_variable k before start last at more last_place place stops answer m =
+    let p = keyword_parts k in
     let cut : 39 ∷ ((p.front ++ p.last ∷ []) ++ more) ≡ 39 ∷ (p.front ++ (p.last ∷ more)) = ap (λ x. 39 ∷ x) (append_assoc p.front (p.last ∷ []) more) in
     let continues = is_xid_start-is_xid_continue p.last (letter_starts p.last p.last_letter) in
     let end : at ≡ last + size_of (p.last ∷ []) = omega (arith, last_place, place, size_of-snoc p.front p.last) in
     next_token before start _ _ (p.last ∷ more) answer
-    (token_here before start (Var p.front) (p.last ∷ more) _ (kind.Var (take (length (word_text k) - 1) (word_text k))) last cut
-    (p.front_identifier, not_hole p.front p.front_no_hole, word_number-none p.front p.front_no_word)
-    (inr (continues, (k, h, sym p.text), stops)) tt
+    (token_here before start (Var p.front) (p.last ∷ more) _ (kind.Var (take (length (keyword_text k) - 1) (keyword_text k))) last cut
+    (p.front_identifier, not_hole p.front p.front_no_hole, keyword_of-none p.front p.front_no_word)
+    (inr (continues, (k, sym p.text), stops)) tt
     (ap (λ x. Some (kind.Var x)) (letters_encoded p.front p.front_letters ∙ sym p.front_taken)) last_place)
     (next_token (before ++ _ ∷ []) last (p.last ∷ more) _ more answer
-    (token_here (before ++ _ ∷ []) last (Name (p.last ∷ [])) more (p.last ∷ more) (kind.Name (drop (length (word_text k) - 1) (word_text k))) at refl
-    ((letter_starts_name p.last p.last_letter, tt), not_hole (p.last ∷ []) p.last_no_hole, word_number-none (p.last ∷ []) p.last_no_word)
+    (token_here (before ++ _ ∷ []) last (Name (p.last ∷ [])) more (p.last ∷ more) (kind.Name (drop (length (keyword_text k) - 1) (keyword_text k))) at refl
+    ((letter_starts_name p.last p.last_letter, tt), not_hole (p.last ∷ []) p.last_no_hole, keyword_of-none (p.last ∷ []) p.last_no_word)
     stops tt (ap (λ x. Some (kind.Name x)) (last_encoded p.last p.last_letter ∙ sym p.last_dropped)) end)
     m)
 
@@ -180,7 +183,7 @@ VariableMeans before start at last name more r = CloseMeans before start (39 ∷
 
 -- the letters aren't a word
 variable_plain : (before : List Token) (start at last : ℕ) (name more : List ℕ) → IsIdentifier name → at ≡ start + size_of (39 ∷ name) → begins is_xid_continue more ≡ false
-    → bytes_eq (encodes name) (95 ∷ []) ≡ false → word_number (encodes name) ≡ None
+    → bytes_eq (encodes name) (95 ∷ []) ≡ false → keyword_of (encodes name) ≡ None
     → VariableMeans before start at last name more (Ok (variable_pushed (variable_state before start at last (encodes name)) start last))
 variable_plain before start at last name more is place stops no_hole e = rw e (
   refl,
@@ -195,19 +198,19 @@ word_pushed before start at last letters =
     pushed (pushed (variable_state before start at last letters) (kind.Var (take (length letters - 1) letters)) start last) (kind.Name (drop (length letters - 1) letters)) last at
 
 -- the letters are a word
-variable_word : (before : List Token) (start at last : ℕ) (front more : List ℕ) (c k : ℕ) → last ≡ start + size_of (39 ∷ front) → at ≡ start + size_of (39 ∷ (front ++ c ∷ []))
-    → begins is_xid_continue more ≡ false → word_number (encodes (front ++ c ∷ [])) ≡ Some k
+variable_word : (before : List Token) (start at last : ℕ) (front more : List ℕ) (c : ℕ) (k : Keyword) → last ≡ start + size_of (39 ∷ front) → at ≡ start + size_of (39 ∷ (front ++ c ∷ []))
+    → begins is_xid_continue more ≡ false → keyword_of (encodes (front ++ c ∷ [])) ≡ Some k
     → VariableMeans before start at last (front ++ c ∷ []) more (Ok (variable_pushed (variable_state before start at last (encodes (front ++ c ∷ []))) start last))
 variable_word before start at last front more c k last_place place stops e =
     let w = word_from (front ++ c ∷ []) k e in
-    let p = word_parts k w.0 in
-    let parts = w.1 ∙ p.text in
+    let p = keyword_parts k in
+    let parts = w ∙ p.text in
     let same = snoc_same front p.front c p.last parts in
-    let letters : encodes (front ++ c ∷ []) ≡ word_text k = ap encodes w.1 ∙ word_encoded k w.0 in
+    let letters : encodes (front ++ c ∷ []) ≡ keyword_text k = ap encodes w ∙ keyword_encoded k in
     let last_there : last ≡ start + size_of (39 ∷ p.front) = last_place ∙ ap (λ x. start + size_of (39 ∷ x)) same.0 in
     let there : at ≡ start + size_of (39 ∷ (p.front ++ p.last ∷ [])) = place ∙ ap (λ x. start + size_of (39 ∷ x)) parts in
-    let m : VariableMeans before start at last (p.front ++ p.last ∷ []) more (Ok (word_pushed before start at last (word_text k))) =
-    (refl, λ answer alone m. word_variable k w.0 before start last at more last_there there stops answer m) in
+    let m : VariableMeans before start at last (p.front ++ p.last ∷ []) more (Ok (word_pushed before start at last (keyword_text k))) =
+    (refl, λ answer alone m. word_variable k before start last at more last_there there stops answer m) in
     rw e (subst (λ x. VariableMeans before start at last x more (Ok (word_pushed before start at last (encodes (front ++ c ∷ []))))) (sym parts)
     (subst (λ l. VariableMeans before start at last (p.front ++ p.last ∷ []) more (Ok (word_pushed before start at last l))) (sym letters) m))
 
@@ -219,7 +222,7 @@ pub close_variable : (before : List Token) (start at last : ℕ) (front more : L
     → VariableMeans before start at last (front ++ c ∷ []) more (close (variable_state before start at last (encodes (front ++ c ∷ []))) (pending.Variable start last))
 close_variable before start at last front more c is last_place place stops = by_hole (bytes_eq (encodes (front ++ c ∷ [])) (95 ∷ [])) refl
   where
-    by_number : bytes_eq (encodes (front ++ c ∷ [])) (95 ∷ []) ≡ false → (o : Option ℕ) → word_number (encodes (front ++ c ∷ [])) ≡ o
+    by_number : bytes_eq (encodes (front ++ c ∷ [])) (95 ∷ []) ≡ false → (o : Option Keyword) → keyword_of (encodes (front ++ c ∷ [])) ≡ o
         → VariableMeans before start at last (front ++ c ∷ []) more (Ok (variable_pushed (variable_state before start at last (encodes (front ++ c ∷ []))) start last))
     by_number no_hole (Some k) e = variable_word before start at last front more c k last_place place stops e
     by_number no_hole None e = variable_plain before start at last (front ++ c ∷ []) more is place stops no_hole e
@@ -227,7 +230,7 @@ close_variable before start at last front more c is last_place place stops = by_
     by_hole : (b : Bool) → bytes_eq (encodes (front ++ c ∷ [])) (95 ∷ []) ≡ b
         → VariableMeans before start at last (front ++ c ∷ []) more (close (variable_state before start at last (encodes (front ++ c ∷ []))) (pending.Variable start last))
     by_hole true e = rw e (variable_hole before start (front ++ c ∷ []) more stops e)
-    by_hole false e = rw e (by_number e (word_number (encodes (front ++ c ∷ []))) refl)
+    by_hole false e = rw e (by_number e (keyword_of (encodes (front ++ c ∷ []))) refl)
 
 pub append_nil : (xs : List ℕ) → xs ++ [] ≡ xs
 append_nil [] = refl
@@ -310,23 +313,23 @@ digit_ended before start at e p n more kind no_tail digit r is_kind =
 
 pub dot_ends : (more : List ℕ) → SignEnds (46 ∷ []) more
 dot_ends [] = tt
-dot_ends (c ∷ cs) = (λ k h e. double_none (sign_text-double 46 c k h e), λ e. dot_slash e)
+dot_ends (c ∷ cs) = (λ k e. double_none (symbol_text-double 46 c k e), λ e. dot_slash e)
   where
-    double_none : {k : ℕ} → ◌≡◌ {A = Option ℕ} None (Some k) → ⊥
+    double_none : {k : Symbol} → ◌≡◌ {A = Option Symbol} None (Some k) → ⊥
     double_none e = cc
 
     dot_slash : ◌≡◌ {A = List ℕ} (46 ∷ c ∷ []) (47 ∷ 47 ∷ []) → ⊥
     dot_slash e = let same : ◌≡◌ {A = ℕ} 46 47 = cc in omega (arith, same)
 
 point_ended : (before : List Token) (start at e : ℕ) (n : Numeral) (more : List ℕ) (which : Kind) → IsNumberRead start at e part.Point n more
-    → kind_of (is_power_place before) (Number n) ≡ Some which → NumberMeans before start at e part.Point n more (Ok (pushed (pushed (number_state before start at e part.Point n) which start e) (kind.Sign dot) e at))
+    → kind_of (is_power_place before) (Number n) ≡ Some which → NumberMeans before start at e part.Point n more (Ok (pushed (pushed (number_state before start at e part.Point n) which start e) (kind.Sign symbol.Dot) e at))
 point_ended before start at e n more which r is_kind = (
   refl,
   λ answer alone m.
       next_token before start _ _ (46 ∷ more) answer
       (token_here before start (Number n) (46 ∷ more) _ which e (append_assoc (numeral_text n) (46 ∷ []) more) r.fits r.ends (is_xid_continue-ascii 46 (lit< tt)) is_kind r.end)
       (next_token (before ++ _ ∷ []) e (46 ∷ more) _ more answer
-      (token_here (before ++ _ ∷ []) e (Sign dot) more (46 ∷ more) (kind.Sign dot) at refl (lit< tt) (dot_ends more) tt refl (omega (arith, r.place, r.end, size_of-append (numeral_text n) (46 ∷ []))))
+      (token_here (before ++ _ ∷ []) e (Sign symbol.Dot) more (46 ∷ more) (kind.Sign symbol.Dot) at refl tt (dot_ends more) tt refl (omega (arith, r.place, r.end, size_of-append (numeral_text n) (46 ∷ []))))
       m),
 )
 
@@ -367,14 +370,14 @@ close_number before start at e p n more fits has end place untaken =
     by_kind None is = number_refused before start at e p n more r (is_power_place before) refl is
 
 -- signs
-single_ends : (k c : ℕ) (more : List ℕ) → sign_text k ≡ c ∷ [] → begins (takes (pending.Symbol 0 c)) more ≡ false → SignEnds (sign_text k) more
+single_ends : (k : Symbol) (c : ℕ) (more : List ℕ) → symbol_text k ≡ c ∷ [] → begins (takes (pending.Symbol 0 c)) more ≡ false → SignEnds (symbol_text k) more
 single_ends k c more e untaken = subst (λ x. SignEnds x more) (sym e) (ends more untaken)
   where
     ends : (more : List ℕ) → begins (takes (pending.Symbol 0 c)) more ≡ false → SignEnds (c ∷ []) more
     ends [] u = tt
     ends (d ∷ ds) u =
-        let parts = or_false (is_some (double_sign c d)) (eqb c 47 && eqb d 47) u in (
-          λ j h t. false≢true (sym parts.0 ∙ ap is_some (sign_text-double c d j h t)),
+        let parts = or_false (is_some (double_symbol c d)) (eqb c 47 && eqb d 47) u in (
+          λ j t. false≢true (sym parts.0 ∙ ap is_some (symbol_text-double c d j t)),
           λ t. let first : c ≡ 47 = cc in let second : d ≡ 47 = cc in false≢true (sym parts.1 ∙ ap (λ x. eqb x 47 && eqb d 47) first ∙ ap (λ y. eqb y 47) second),
         )
 
@@ -383,7 +386,7 @@ ampersand_head more untaken = record {
   name = ampersand_no_name;
   digit = refl;
   single = refl;
-  double = λ b rest e. let u = sym (ap (begins (takes (pending.Symbol 0 38))) e) ∙ untaken in (or_false (is_some (double_sign 38 b)) (eqb 38 47 && eqb b 47) u).0;
+  double = λ b rest e. let u = sym (ap (begins (takes (pending.Symbol 0 38))) e) ∙ untaken in (or_false (is_some (double_symbol 38 b)) (eqb 38 47 && eqb b 47) u).0;
   variable = λ e. absurd (not_quote e);
 }
   where
@@ -393,28 +396,28 @@ ampersand_head more untaken = record {
 abbrev SymbolMeans : List Token → ℕ → ℕ → ℕ → List ℕ → Result Scan LexStop → Type 0
 SymbolMeans before start at first more r = CloseMeans before start (first ∷ []) at more (pending.Symbol start first) r
 
-pub close_symbol : (before : List Token) (start at first : ℕ) (more : List ℕ) → at ≡ start + size_of (first ∷ []) → (is_some (single_sign first) || eqb first 38) ≡ true
+pub close_symbol : (before : List Token) (start at first : ℕ) (more : List ℕ) → at ≡ start + size_of (first ∷ []) → (is_some (single_symbol first) || eqb first 38) ≡ true
     → begins (takes (pending.Symbol 0 first)) more ≡ false → SymbolMeans before start at first more (close (scan_at at before [] (pending.Symbol start first)) (pending.Symbol start first))
-close_symbol before start at first more place begun untaken = by_sign (single_sign first) refl
+close_symbol before start at first more place begun untaken = by_sign (single_symbol first) refl
   where
-    sign : (k : ℕ) → single_sign first ≡ Some k → SymbolMeans before start at first more (sign_pushed (scan_at at before [] (pending.Symbol start first)) start (Some k))
+    sign : (k : Symbol) → single_symbol first ≡ Some k → SymbolMeans before start at first more (sign_pushed (scan_at at before [] (pending.Symbol start first)) start (Some k))
     sign k e =
-        let t = single_sign-text first k e in (
+        let t = single_symbol-text first k e in (
           refl,
           λ answer alone m.
               next_token before start _ _ more answer
-              (token_here before start (Sign k) more _ (kind.Sign k) at (ap (λ x. x ++ more) (sym t.1)) t.0 (single_ends k first more t.1 untaken) tt refl (place ∙ ap (λ x. start + size_of x) (sym t.1)))
+              (token_here before start (Sign k) more _ (kind.Sign k) at (ap (λ x. x ++ more) (sym t)) tt (single_ends k first more t untaken) tt refl (place ∙ ap (λ x. start + size_of x) (sym t)))
               m,
         )
 
-    ampersand : single_sign first ≡ None → Means before start (first ∷ more) (Err (BadChar start))
+    ampersand : single_symbol first ≡ None → Means before start (first ∷ more) (Err (BadChar start))
     ampersand e =
         let is : eqb first 38 ≡ true = sym (ap (λ o. is_some o || eqb first 38) e) ∙ begun in
         let same = eqb-true first 38 is in
         subst (λ x. Means before start (x ∷ more) (Err (BadChar start))) (sym same)
         (faulty_here before start (38 ∷ more) (BadChar start) (inl (refl, nothing_at 38 more refl (ampersand_head more (subst (λ x. begins (takes (pending.Symbol 0 x)) more ≡ false) same untaken)))))
 
-    by_sign : (o : Option ℕ) → single_sign first ≡ o → SymbolMeans before start at first more (close (scan_at at before [] (pending.Symbol start first)) (pending.Symbol start first))
+    by_sign : (o : Option Symbol) → single_symbol first ≡ o → SymbolMeans before start at first more (close (scan_at at before [] (pending.Symbol start first)) (pending.Symbol start first))
     by_sign (Some k) e = rw e (sign k e)
     by_sign None e = rw e (ampersand e)
 

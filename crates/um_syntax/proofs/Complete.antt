@@ -1,5 +1,5 @@
 -- What a text means is what the machine answers.
-use Rattle.std.proofs.Common.{◌≡◌, ◌≢◌, ℕ, ◌+◌, ◌-◌, ◌<◌, Bool, true, false, ◌&&◌, ◌||◌, eqb, List, [], ◌∷◌, ◌++◌, length, take, drop, Option, None, Some, is_some, Result, Ok, Err, refl, sym, ap, subst, ◌∙◌, arith, append_assoc, ◌⊎◌, inl, inr, ⊎_elim, lit<}
+use Rattle.std.proofs.Common.{◌≡◌, ◌≢◌, ℕ, ◌+◌, ◌-◌, Bool, true, false, ◌&&◌, ◌||◌, eqb, List, [], ◌∷◌, ◌++◌, length, take, drop, Option, None, Some, is_some, Result, Ok, Err, refl, sym, ap, subst, ◌∙◌, arith, append_assoc, ◌⊎◌, inl, inr, ⊎_elim, lit<}
 use Rattle.std.proofs.lemmas.Bool.{false≢true, eqb-true}
 use Rattle.std.specs.Str.{bytes_eq}
 use Rattle.std.proofs.lemmas.Slice.Eq.{bytes_eq-Decides}
@@ -7,6 +7,9 @@ use Rattle.std.specs.Char.{is_ascii_digit, len_utf8}
 use lib.Utf8.{encodes}
 use Rattle.unicode_ident.specs.Ident.{is_xid_continue}
 use Rattle.unicode_ident.proofs.IdentLemmas.{is_xid_continue-ascii}
+use Rattle.um_syntax.specs.declared.vocabulary.Keyword.{Keyword}
+use Rattle.um_syntax.specs.declared.vocabulary.Symbol.{Symbol}
+use Rattle.um_syntax.specs.declared.vocabulary.Symbol.TheVariants as symbol
 use Rattle.um_syntax.specs.declared.token.Kind.{Kind}
 use Rattle.um_syntax.specs.declared.token.Kind.TheVariants as kind
 use Rattle.um_syntax.specs.declared.token.Token.{Token}
@@ -16,14 +19,14 @@ use Rattle.um_syntax.specs.declared.number.Part.{Part}
 use Rattle.um_syntax.specs.declared.number.Part.TheVariants as part
 use Rattle.um_syntax.specs.declared.pending.Pending.{Pending}
 use Rattle.um_syntax.specs.declared.pending.Pending.TheVariants as pending
-use Rattle.um_syntax.specs.Vocabulary.{words, signs, word_text, sign_text, dot}
+use Rattle.um_syntax.specs.Vocabulary.{keyword_text, symbol_text}
 use Rattle.um_syntax.specs.Gap.{IsLastGap, closed, unclosed, IsLine}
 use Rattle.um_syntax.specs.Numeral.{Numeral, Whole, Decimal, Ratio, numeral_text, IsNumeral}
 use Rattle.um_syntax.specs.Lexeme.{starts_name, AllContinue, IsIdentifier, IsWord, IsName, Lexeme, Name, Var, Number, Word, Hole, Sign, text_of, IsLexeme, begins, NumeralEnds, LeavesLetter, SignEnds, Ends, IsAlone, is_whole, kind_of}
 use Rattle.um_syntax.specs.Lexing.{size_of, is_glued, is_power_place, IsNext, Lexes}
-use Rattle.um_syntax.specs.Machine.{Scan, word_number, single_sign, double_sign, takes, part_takes, is_whole_part, letters_kind, word_kind, part_pushed, number_pushed, close, ends_in_digit, step, steps, ended, tokens_of}
+use Rattle.um_syntax.specs.Machine.{Scan, keyword_of, single_symbol, double_symbol, takes, part_takes, is_whole_part, letters_kind, word_kind, part_pushed, number_pushed, close, ends_in_digit, step, steps, ended, tokens_of}
 use Rattle.um_syntax.proofs.Digits.{figures_of, figures_kind-of}
-use Rattle.um_syntax.proofs.Tables.{word_parts, word_encoded, word_number-word, word_identifier, letters_encoded, last_encoded, letter_starts_name, sign_form, single_sign-mark, double_sign-mark, double_sign-first, double_sign-text, IsMark}
+use Rattle.um_syntax.proofs.Tables.{keyword_parts, keyword_encoded, keyword_of-keyword, keyword_identifier, letters_encoded, last_encoded, letter_starts_name, symbol_form, single_symbol-mark, double_symbol-mark, double_symbol-first, double_symbol-text, IsMark}
 use Rattle.um_syntax.proofs.Texts.{hole_from, word_from, hole_encoded}
 use Rattle.um_syntax.proofs.Closing.{scan_at, append_nil, number_state, snoc_same, size_of-snoc, dot_ends}
 use Rattle.um_syntax.proofs.Reading.{run, run_on, run_stop, free, gap_run, identifier_run, begin_symbol, variable_at, variable_run, digits_at, part_of, number_run}
@@ -57,18 +60,18 @@ token_from before kind start end = record { kind = kind; start = start; end = en
 
 -- the kinds of letters
 name_kind : (text : List ℕ) → IsName text → letters_kind (encodes text) ≡ kind.Name (encodes text)
-name_kind text is = by_number (word_number (encodes text)) refl
+name_kind text is = by_number (keyword_of (encodes text)) refl
   where
     by_hole : (b : Bool) → bytes_eq (encodes text) (95 ∷ []) ≡ b → word_kind (encodes text) None ≡ kind.Name (encodes text)
     by_hole true e = absurd (is.1 (hole_from text e))
     by_hole false e = rw e refl
 
-    by_number : (o : Option ℕ) → word_number (encodes text) ≡ o → letters_kind (encodes text) ≡ kind.Name (encodes text)
-    by_number (Some k) e = let w = word_from text k e in absurd (is.2 (k, w.0, w.1))
+    by_number : (o : Option Keyword) → keyword_of (encodes text) ≡ o → letters_kind (encodes text) ≡ kind.Name (encodes text)
+    by_number (Some k) e = absurd (is.2 (k, word_from text k e))
     by_number None e = rw e (by_hole (bytes_eq (encodes text) (95 ∷ [])) refl)
 
-word_kind-word : (k : ℕ) → k < length words → letters_kind (encodes (word_text k)) ≡ kind.Word k
-word_kind-word k h = ap letters_kind (word_encoded k h) ∙ ap (λ o. word_kind (word_text k) o) (word_number-word k h)
+word_kind-word : (k : Keyword) → letters_kind (encodes (keyword_text k)) ≡ kind.Word k
+word_kind-word k = ap letters_kind (keyword_encoded k) ∙ ap (λ o. word_kind (keyword_text k) o) (keyword_of-keyword k)
 
 hole_kind : letters_kind (encodes (95 ∷ [])) ≡ kind.Hole
 hole_kind = ap letters_kind hole_encoded
@@ -95,11 +98,11 @@ snoc_of (c ∷ cs) is = go c cs
     go c [] = ([], c, refl)
     go c (d ∷ ds) = let r = go d ds in (c ∷ r.0, r.1, ap (λ x. c ∷ x) r.2)
 
-no_word : (text : List ℕ) → ¬ (IsWord text) → word_number (encodes text) ≡ None
-no_word text h = by_number (word_number (encodes text)) refl
+no_word : (text : List ℕ) → ¬ (IsWord text) → keyword_of (encodes text) ≡ None
+no_word text h = by_number (keyword_of (encodes text)) refl
   where
-    by_number : (o : Option ℕ) → word_number (encodes text) ≡ o → word_number (encodes text) ≡ None
-    by_number (Some k) e = let w = word_from text k e in absurd (h (k, w.0, w.1))
+    by_number : (o : Option Keyword) → keyword_of (encodes text) ≡ o → keyword_of (encodes text) ≡ None
+    by_number (Some k) e = absurd (h (k, word_from text k e))
     by_number None e = e
 
 no_hole : (text : List ℕ) → text ≢ 95 ∷ [] → bytes_eq (encodes text) (95 ∷ []) ≡ false
@@ -124,17 +127,17 @@ IsIdentifier-snoc : (text : List ℕ) (c : ℕ) → IsIdentifier text → is_xid
 IsIdentifier-snoc [] c i e = absurd i
 IsIdentifier-snoc (d ∷ ds) c i e = (i.0, AllContinue-snoc ds c i.1 e)
 
-word_no_hole : (k : ℕ) → k < length words → bytes_eq (word_text k) (95 ∷ []) ≡ false
-word_no_hole k h = by_hole (bytes_eq (word_text k) (95 ∷ [])) refl
+word_no_hole : (k : Keyword) → bytes_eq (keyword_text k) (95 ∷ []) ≡ false
+word_no_hole k = by_hole (bytes_eq (keyword_text k) (95 ∷ [])) refl
   where
-    hole_number : word_number (95 ∷ []) ≡ None
+    hole_number : keyword_of (95 ∷ []) ≡ None
     hole_number = refl
 
-    none_some : ◌≡◌ {A = Option ℕ} None (Some k) → ⊥
+    none_some : ◌≡◌ {A = Option Keyword} None (Some k) → ⊥
     none_some e = cc
 
-    by_hole : (b : Bool) → bytes_eq (word_text k) (95 ∷ []) ≡ b → bytes_eq (word_text k) (95 ∷ []) ≡ false
-    by_hole true e = absurd (none_some (sym hole_number ∙ ap word_number (sym ((bytes_eq-Decides (word_text k) (95 ∷ [])).0 e)) ∙ word_number-word k h))
+    by_hole : (b : Bool) → bytes_eq (keyword_text k) (95 ∷ []) ≡ b → bytes_eq (keyword_text k) (95 ∷ []) ≡ false
+    by_hole true e = absurd (none_some (sym hole_number ∙ ap keyword_of (sym ((bytes_eq-Decides (keyword_text k) (95 ∷ [])).0 e)) ∙ keyword_of-keyword k))
     by_hole false e = e
 
 -- both tokens of a quote and a word
@@ -143,17 +146,17 @@ both_tokens before at name c letters =
     (before ++ token_from before (kind.Var (take (length letters - 1) letters)) at (at + size_of (39 ∷ name)) ∷ [])
     ++ token_from (before ++ token_from before (kind.Var (take (length letters - 1) letters)) at (at + size_of (39 ∷ name)) ∷ []) (kind.Name (drop (length letters - 1) letters)) (at + size_of (39 ∷ name)) (at + size_of (39 ∷ (name ++ c ∷ []))) ∷ []
 
-word_tokens : (before : List Token) (at k c : ℕ) (name more : List ℕ) → k < length words → IsIdentifier (name ++ c ∷ []) → name ++ c ∷ [] ≡ word_text k → begins is_xid_continue more ≡ false
-    → run (free before at) (39 ∷ ((name ++ c ∷ []) ++ more)) ≡ run (free (both_tokens before at name c (word_text k)) (at + size_of (39 ∷ (name ++ c ∷ [])))) more
-word_tokens before at k c name more h is same stops =
+word_tokens : (before : List Token) (at : ℕ) (k : Keyword) (c : ℕ) (name more : List ℕ) → IsIdentifier (name ++ c ∷ []) → name ++ c ∷ [] ≡ keyword_text k → begins is_xid_continue more ≡ false
+    → run (free before at) (39 ∷ ((name ++ c ∷ []) ++ more)) ≡ run (free (both_tokens before at name c (keyword_text k)) (at + size_of (39 ∷ (name ++ c ∷ [])))) more
+word_tokens before at k c name more is same stops =
     variable_run before at c name more is
-    ∙ ap (λ l. run (variable_at before at (at + size_of (39 ∷ (name ++ c ∷ []))) (at + size_of (39 ∷ name)) l) more) (ap encodes same ∙ word_encoded k h)
-    ∙ closed_run before (both_tokens before at name c (word_text k)) (word_text k) (at + size_of (39 ∷ (name ++ c ∷ []))) (pending.Variable at (at + size_of (39 ∷ name))) more
-    (rw (word_no_hole k h, word_number-word k h) refl) stops (λ d. absurd (false≢true d))
+    ∙ ap (λ l. run (variable_at before at (at + size_of (39 ∷ (name ++ c ∷ []))) (at + size_of (39 ∷ name)) l) more) (ap encodes same ∙ keyword_encoded k)
+    ∙ closed_run before (both_tokens before at name c (keyword_text k)) (keyword_text k) (at + size_of (39 ∷ (name ++ c ∷ []))) (pending.Variable at (at + size_of (39 ∷ name))) more
+    (rw (word_no_hole k, keyword_of-keyword k) refl) stops (λ d. absurd (false≢true d))
 
-letter_kind : (k c : ℕ) (h : k < length words) → c ≡ (word_parts k h).last → letters_kind (encodes (c ∷ [])) ≡ kind.Name (drop (length (word_text k) - 1) (word_text k))
-letter_kind k c h same =
-    let p = word_parts k h in
+letter_kind : (k : Keyword) (c : ℕ) → c ≡ (keyword_parts k).last → letters_kind (encodes (c ∷ [])) ≡ kind.Name (drop (length (keyword_text k) - 1) (keyword_text k))
+letter_kind k c same =
+    let p = keyword_parts k in
     let plain : letters_kind (p.last ∷ []) ≡ kind.Name (p.last ∷ []) = rw (p.last_no_word, p.last_no_hole) refl in
     ap (λ x. letters_kind (encodes (x ∷ []))) same ∙ ap letters_kind (last_encoded p.last p.last_letter) ∙ plain ∙ ap (λ x. kind.Name x) (sym p.last_dropped)
 
@@ -165,20 +168,19 @@ behind_letter before at name more v n e =
 letter_variable : (before : List Token) (at c : ℕ) (name more : List ℕ) → IsName name → LeavesLetter name (c ∷ more) → AfterToken before at (39 ∷ name) (kind.Var (encodes name)) (c ∷ more)
 letter_variable before at c name more is leaves =
     let k = leaves.1.0 in
-    let h = leaves.1.1 in
-    let same = leaves.1.2 in
-    let p = word_parts k h in
+    let same = leaves.1.1 in
+    let p = keyword_parts k in
     let parts = snoc_same name p.front c p.last (same ∙ p.text) in
-    let kind_is : kind.Var (take (length (word_text k) - 1) (word_text k)) ≡ kind.Var (encodes name) =
+    let kind_is : kind.Var (take (length (keyword_text k) - 1) (keyword_text k)) ≡ kind.Var (encodes name) =
     ap (λ x. kind.Var x) (p.front_taken ∙ sym (letters_encoded p.front p.front_letters) ∙ ap encodes (sym parts.0)) in
-    let letter_is = letter_kind k c h parts.1 in
+    let letter_is = letter_kind k c parts.1 in
     let starts : starts_name c ≡ true = rw parts.1 (letter_starts_name p.last p.last_letter) in
-    let whole = word_tokens before at k c name more h (IsIdentifier-snoc name c is.0 leaves.0) same leaves.2 in
+    let whole = word_tokens before at k c name more (IsIdentifier-snoc name c is.0 leaves.0) same leaves.2 in
     let letter = identifier_token (before ++ token_from before (kind.Var (encodes name)) at (at + size_of (39 ∷ name)) ∷ []) (at + size_of (39 ∷ name)) (c ∷ []) more (starts, tt) leaves.2 in
     let there : at + size_of (39 ∷ (name ++ c ∷ [])) ≡ at + size_of (39 ∷ name) + size_of (c ∷ []) = omega (arith, size_of-snoc name c) in
     ap (λ x. run (free before at) (39 ∷ x)) (sym (append_assoc name (c ∷ []) more))
     ∙ whole
-    ∙ ap (λ v. behind_letter before at name more v (kind.Name (drop (length (word_text k) - 1) (word_text k))) (at + size_of (39 ∷ (name ++ c ∷ [])))) kind_is
+    ∙ ap (λ v. behind_letter before at name more v (kind.Name (drop (length (keyword_text k) - 1) (keyword_text k))) (at + size_of (39 ∷ (name ++ c ∷ [])))) kind_is
     ∙ ap (λ n. behind_letter before at name more (kind.Var (encodes name)) n (at + size_of (39 ∷ (name ++ c ∷ [])))) (sym letter_is)
     ∙ ap (λ e. behind_letter before at name more (kind.Var (encodes name)) (letters_kind (encodes (c ∷ []))) e) there
     ∙ sym letter
@@ -190,35 +192,35 @@ or_both false b e f = f
 
 sign_untaken : (k c : ℕ) (more : List ℕ) → SignEnds (c ∷ []) more → begins (takes (pending.Symbol k c)) more ≡ false
 sign_untaken k c [] ends = refl
-sign_untaken k c (d ∷ ds) ends = or_both (is_some (double_sign c d)) (eqb c 47 && eqb d 47) (by_sign (double_sign c d) refl) (and_false (eqb c 47) (eqb d 47) (λ one. by_slash one (eqb d 47) refl))
+sign_untaken k c (d ∷ ds) ends = or_both (is_some (double_symbol c d)) (eqb c 47 && eqb d 47) (by_sign (double_symbol c d) refl) (and_false (eqb c 47) (eqb d 47) (λ one. by_slash one (eqb d 47) refl))
   where
-    by_sign : (o : Option ℕ) → double_sign c d ≡ o → is_some (double_sign c d) ≡ false
-    by_sign (Some j) e = let t = double_sign-text c d j e in absurd (ends.0 j t.0 t.1)
+    by_sign : (o : Option Symbol) → double_symbol c d ≡ o → is_some (double_symbol c d) ≡ false
+    by_sign (Some j) e = absurd (ends.0 j (double_symbol-text c d j e))
     by_sign None e = ap is_some e
 
     by_slash : eqb c 47 ≡ true → (b : Bool) → eqb d 47 ≡ b → eqb d 47 ≡ false
     by_slash one true two = absurd (ends.1 (ap (λ x. x ∷ d ∷ []) (eqb-true c 47 one) ∙ ap (λ x. 47 ∷ x ∷ []) (eqb-true d 47 two)))
     by_slash one false two = two
 
-single_token : (before : List Token) (at k c : ℕ) (more : List ℕ) → single_sign c ≡ Some k → SignEnds (c ∷ []) more → AfterToken before at (c ∷ []) (kind.Sign k) more
+single_token : (before : List Token) (at : ℕ) (k : Symbol) (c : ℕ) (more : List ℕ) → single_symbol c ≡ Some k → SignEnds (c ∷ []) more → AfterToken before at (c ∷ []) (kind.Sign k) more
 single_token before at k c more e ends =
     let there : at + len_utf8 c ≡ at + size_of (c ∷ []) = omega arith in
-    run_on (free before at) (scan_at (at + len_utf8 c) before [] (pending.Symbol at c)) c more (begin_symbol before at c (single_sign-mark c k e) (ap (λ o. is_some o || eqb c 38) e))
+    run_on (free before at) (scan_at (at + len_utf8 c) before [] (pending.Symbol at c)) c more (begin_symbol before at c (single_symbol-mark c k e) (ap (λ o. is_some o || eqb c 38) e))
     ∙ ap (λ x. run (scan_at x before [] (pending.Symbol at c)) more) there
     ∙ closed_run before (before ++ token_from before (kind.Sign k) at (at + size_of (c ∷ [])) ∷ []) [] (at + size_of (c ∷ [])) (pending.Symbol at c) more (rw e refl) (sign_untaken at c more ends) (λ d. absurd (false≢true d))
 
-double_token : (before : List Token) (at k a b : ℕ) (more : List ℕ) → double_sign a b ≡ Some k → AfterToken before at (a ∷ b ∷ []) (kind.Sign k) more
+double_token : (before : List Token) (at : ℕ) (k : Symbol) (a b : ℕ) (more : List ℕ) → double_symbol a b ≡ Some k → AfterToken before at (a ∷ b ∷ []) (kind.Sign k) more
 double_token before at k a b more e =
     let there : at + len_utf8 a + len_utf8 b ≡ at + size_of (a ∷ b ∷ []) = omega arith in
-    run_on (free before at) (scan_at (at + len_utf8 a) before [] (pending.Symbol at a)) a (b ∷ more) (begin_symbol before at a (double_sign-mark a b k e) (double_sign-first a b k e))
+    run_on (free before at) (scan_at (at + len_utf8 a) before [] (pending.Symbol at a)) a (b ∷ more) (begin_symbol before at a (double_symbol-mark a b k e) (double_symbol-first a b k e))
     ∙ run_on (scan_at (at + len_utf8 a) before [] (pending.Symbol at a)) (free (before ++ token_from before (kind.Sign k) at (at + len_utf8 a + len_utf8 b) ∷ []) (at + len_utf8 a + len_utf8 b)) b more (rw e refl)
     ∙ ap (λ x. run (free (before ++ token_from before (kind.Sign k) at x ∷ []) x) more) there
 
-pub sign_token : (before : List Token) (at k : ℕ) (more : List ℕ) → k < length signs → SignEnds (sign_text k) more → AfterToken before at (sign_text k) (kind.Sign k) more
-sign_token before at k more h ends =
+pub sign_token : (before : List Token) (at : ℕ) (k : Symbol) (more : List ℕ) → SignEnds (symbol_text k) more → AfterToken before at (symbol_text k) (kind.Sign k) more
+sign_token before at k more ends =
     ⊎_elim (λ f. subst (λ x. AfterToken before at x (kind.Sign k) more) (sym f.1) (single_token before at k f.0 more f.2 (subst (λ x. SignEnds x more) f.1 ends)))
     (λ f. subst (λ x. AfterToken before at x (kind.Sign k) more) (sym f.2) (double_token before at k f.0 f.1 more f.3))
-    (sign_form k h)
+    (symbol_form k)
 
 -- a number
 whole_of : (n : Numeral) → is_whole_part (part_of n) ≡ is_whole n
@@ -283,8 +285,8 @@ point_token before at ds cs which is no_digit kind_is =
     let e : ℕ = at + size_of ds in
     let tokens : List Token = before ++ token_from before which at (at + size_of ds) ∷ [] in
     mark_taken before at 46 ds cs part.Point refl
-    ∙ closed_run before (tokens ++ token_from tokens (kind.Sign dot) e (e + 1) ∷ []) [] (e + 1) (pending.Number at e part.Point (figures_of (Whole ds))) cs (number_close before at (e + 1) e part.Point (Whole ds) (Some which) is refl kind_is) no_digit (λ d. absurd (false≢true d))
-    ∙ sym (sign_token tokens e dot cs (lit< tt) (dot_ends cs))
+    ∙ closed_run before (tokens ++ token_from tokens (kind.Sign symbol.Dot) e (e + 1) ∷ []) [] (e + 1) (pending.Number at e part.Point (figures_of (Whole ds))) cs (number_close before at (e + 1) e part.Point (Whole ds) (Some which) is refl kind_is) no_digit (λ d. absurd (false≢true d))
+    ∙ sym (sign_token tokens e symbol.Dot cs (dot_ends cs))
 
 number_token : (before : List Token) (at : ℕ) (n : Numeral) (more : List ℕ) (which : Kind) → IsNumeral n → NumeralEnds n more → begins is_xid_continue more ≡ false → kind_of (is_power_place before) (Number n) ≡ Some which
     → AfterToken before at (numeral_text n) which more
@@ -376,7 +378,7 @@ lexeme_run before at (Name text) more which is ends alone e =
     of_kind before at text (letters_kind (encodes text)) which more (name_kind text is ∙ same) (identifier_token before at text more is.0 ends)
 lexeme_run before at (Word k) more which is ends alone e =
     let same : kind.Word k ≡ which = cc in
-    of_kind before at (word_text k) (letters_kind (encodes (word_text k))) which more (word_kind-word k is ∙ same) (identifier_token before at (word_text k) more (word_identifier k is) ends)
+    of_kind before at (keyword_text k) (letters_kind (encodes (keyword_text k))) which more (word_kind-word k ∙ same) (identifier_token before at (keyword_text k) more (keyword_identifier k) ends)
 lexeme_run before at Hole more which is ends alone e =
     let same : kind.Hole ≡ which = cc in
     of_kind before at (95 ∷ []) (letters_kind (encodes (95 ∷ []))) which more (hole_kind ∙ same) (identifier_token before at (95 ∷ []) more (refl, tt) ends)
@@ -398,7 +400,7 @@ lexeme_run before at (Var name) more which is ends alone e =
 lexeme_run before at (Number n) more which is ends alone e = number_token before at n more which is ends alone e
 lexeme_run before at (Sign k) more which is ends alone e =
     let same : kind.Sign k ≡ which = cc in
-    of_kind before at (sign_text k) (kind.Sign k) which more same (sign_token before at k more is ends)
+    of_kind before at (symbol_text k) (kind.Sign k) which more same (sign_token before at k more ends)
 
 same_token : (before : List Token) (token : Token) (start end : ℕ) → token.start ≡ start → token.end ≡ end → token.glued ≡ is_glued before start → token ≡ token_from before token.kind start end
 same_token before token start end p q r = λ i. record { kind = token.kind; start = p i; end = q i; glued = r i }

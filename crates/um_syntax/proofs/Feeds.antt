@@ -5,6 +5,7 @@ use Rattle.std.proofs.lemmas.Str.{encodes-append, encode_same, encode_ascii, cha
 use Rattle.std.specs.Str.{chars}
 use lib.Utf8.{encode, encodes, scalar, scalars, next}
 use Rattle.unicode_ident.proofs.IdentLemmas.{is_xid_continue-ascii}
+use Rattle.um_syntax.specs.declared.vocabulary.Symbol.{Symbol}
 use Rattle.um_syntax.specs.declared.token.Token.{Token}
 use Rattle.um_syntax.specs.declared.token.LexStop.{LexStop}
 use Rattle.um_syntax.specs.declared.token.LexStop.TheVariants as lex
@@ -15,7 +16,7 @@ use Rattle.um_syntax.specs.declared.pending.Pending.{Pending}
 use Rattle.um_syntax.specs.declared.pending.Pending.TheVariants as pending
 use Rattle.um_syntax.specs.Gap.{IsLine, nothing, closed}
 use Rattle.um_syntax.specs.Lexing.{HasTokens}
-use Rattle.um_syntax.specs.Machine.{Scan, scan_start, takes, double_sign, close, ends_in_digit, followed, at_state, taken, step, steps, ended, tokens_of}
+use Rattle.um_syntax.specs.Machine.{Scan, scan_start, takes, double_symbol, close, ends_in_digit, followed, at_state, taken, step, steps, ended, tokens_of}
 use Rattle.um_syntax.specs.Scanning.{Stops}
 use Rattle.um_syntax.specs.Feeding.{EndsLine, CountsTokens, CountsLines, is_readable, IsReadable, text_stop, HasScanned, HasBehind}
 use Rattle.um_syntax.specs.Decoding.{char_len, NoWhole, NoChar}
@@ -25,7 +26,7 @@ use Rattle.std.proofs.Math.ListN.{set, length-set}
 use Rattle.std.proofs.lemmas.List.{take_more_set, length-take-le, length-take}
 use Rattle.um_syntax.proofs.Runs.{steps-append}
 use Rattle.unicode_ident.specs.Ident.{is_xid_continue}
-use Rattle.um_syntax.proofs.Tables.{double_sign-feed}
+use Rattle.um_syntax.proofs.Tables.{double_symbol-feed}
 use Rattle.um_syntax.proofs.Reading.{ascii_no_name}
 use Rattle.um_syntax.proofs.Whole.{scanned_complete, unique_tokens}
 
@@ -125,11 +126,11 @@ counts_goes n cs c other k = counts_on n cs c (is_false (eqb c 10) refl) k
     is_false false e = e
 
 -- a line feed ends what has begun
-no_pair : (first : ℕ) → is_some (double_sign first 10) ≡ false
-no_pair first = by_sign (double_sign first 10) refl
+no_pair : (first : ℕ) → is_some (double_symbol first 10) ≡ false
+no_pair first = by_sign (double_symbol first 10) refl
   where
-    by_sign : (o : Option ℕ) → double_sign first 10 ≡ o → is_some (double_sign first 10) ≡ false
-    by_sign (Some k) e = absurd (double_sign-feed first k e)
+    by_sign : (o : Option Symbol) → double_symbol first 10 ≡ o → is_some (double_symbol first 10) ≡ false
+    by_sign (Some k) e = absurd (double_symbol-feed first k e)
     by_sign None e = ap is_some e
 
 line_feed_begun : (p : Pending) (r : Result Scan LexStop) (new : Scan) (next : ℕ) → followed r p 10 next ≡ Ok new → new.pending ≡ pending.Free
@@ -176,7 +177,7 @@ line_feed_free s new e = by_pending s.pending refl
     by_pending (pending.Number b n part.Decimal f) is = line_feed_step s new (pending.Number b n part.Decimal f) is refl e
     by_pending (pending.Number b n part.Over f) is = line_feed_step s new (pending.Number b n part.Over f) is refl e
     by_pending (pending.Number b n part.Ratio f) is = line_feed_step s new (pending.Number b n part.Ratio f) is refl e
-    by_pending (pending.Symbol b first) is = line_feed_step s new (pending.Symbol b first) is (or_both (is_some (double_sign first 10)) (eqb first 47 && eqb 10 47) (no_pair first) (no_slash first)) e
+    by_pending (pending.Symbol b first) is = line_feed_step s new (pending.Symbol b first) is (or_both (is_some (double_symbol first 10)) (eqb first 47 && eqb 10 47) (no_pair first) (no_slash first)) e
 
 -- the tokens behind a line feed
 free_answer : (s : Scan) → s.pending ≡ pending.Free → ended (Ok s) ≡ Ok s.tokens

@@ -3,11 +3,12 @@ use Rattle.std.proofs.Common.{◌≡◌, ◌≢◌, ℕ, ◌<◌, true, false, �
 use Rattle.std.proofs.lemmas.Bool.{false≢true}
 use Rattle.std.specs.Char.{is_ascii_digit}
 use Rattle.unicode_ident.specs.Ident.{is_xid_continue}
-use Rattle.um_syntax.specs.Vocabulary.{signs, word_text, sign_text}
+use Rattle.um_syntax.specs.declared.vocabulary.Symbol.{Symbol}
+use Rattle.um_syntax.specs.Vocabulary.{keyword_text, symbol_text}
 use Rattle.um_syntax.specs.Numeral.{Numeral, Whole, Decimal, Ratio, numeral_text, IsNumeral, AreDigits, IsDigits}
 use Rattle.um_syntax.specs.Lexeme.{starts_name, AllContinue, IsIdentifier, IsName, Lexeme, Name, Var, Number, Word, Hole, Sign, text_of, IsLexeme, begins, NumeralEnds, LeavesLetter, SignEnds, Ends}
 use Rattle.um_syntax.specs.Laws.{NoTokenIsLonger}
-use Rattle.um_syntax.proofs.Tables.{word_identifier, sign_form, sign_text-three, single_sign-mark, double_sign-mark, IsMark}
+use Rattle.um_syntax.proofs.Tables.{keyword_identifier, symbol_form, symbol_text-three, single_symbol-mark, double_symbol-mark, IsMark}
 use Rattle.um_syntax.proofs.Texts.{head_of}
 use Rattle.um_syntax.proofs.Reading.{digit_no_name, ascii_no_name}
 
@@ -25,11 +26,11 @@ identifier_letter (d ∷ ds) more c some is = go ds is.1
     go (x ∷ xs) all = go xs all.1
 
 -- a sign begins with a mark
-sign_mark : (k : ℕ) → k < length signs → (c : ℕ) (cs : List ℕ) → sign_text k ≡ c ∷ cs → IsMark c
-sign_mark k h c cs e =
-    ⊎_elim (λ f. let same : f.0 ≡ c = cc (f.1, e) in subst IsMark same (single_sign-mark f.0 k f.2))
-    (λ f. let same : f.0 ≡ c = cc (f.2, e) in subst IsMark same (double_sign-mark f.0 f.1 k f.3))
-    (sign_form k h)
+sign_mark : (k : Symbol) (c : ℕ) (cs : List ℕ) → symbol_text k ≡ c ∷ cs → IsMark c
+sign_mark k c cs e =
+    ⊎_elim (λ f. let same : f.0 ≡ c = cc (f.1, e) in subst IsMark same (single_symbol-mark f.0 k f.2))
+    (λ f. let same : f.0 ≡ c = cc (f.2, e) in subst IsMark same (double_symbol-mark f.0 f.1 k f.3))
+    (symbol_form k)
 
 digits_start : (n : Numeral) → IsNumeral n → (c : ℕ) (cs : List ℕ) → numeral_text n ≡ c ∷ cs → is_ascii_digit c ≡ true
 digits_start n is c cs e = let h = head_of (Number n) is in let same : h.0 ≡ c = cc (h.2, e) in subst (λ x. is_ascii_digit x ≡ true) same h.3
@@ -37,11 +38,11 @@ digits_start n is c cs e = let h = head_of (Number n) is in let same : h.0 ≡ c
 -- what begins like an identifier is one
 identifier_from : (other : Lexeme) → IsLexeme other → (c : ℕ) (cs : List ℕ) → text_of other ≡ c ∷ cs → starts_name c ≡ true → IsIdentifier (c ∷ cs)
 identifier_from (Name text) is c cs e s = subst IsIdentifier e is.0
-identifier_from (Word k) is c cs e s = subst IsIdentifier e (word_identifier k is)
+identifier_from (Word k) is c cs e s = subst IsIdentifier e (keyword_identifier k)
 identifier_from Hole is c cs e s = subst IsIdentifier e (refl, tt)
 identifier_from (Var name) is c cs e s = let same : ◌≡◌ {A = ℕ} 39 c = cc in absurd (false≢true (sym (ascii_no_name 39 (lit< tt) refl) ∙ ap starts_name same ∙ s))
 identifier_from (Number n) is c cs e s = absurd (false≢true (sym (digit_no_name c (digits_start n is c cs e)) ∙ s))
-identifier_from (Sign k) is c cs e s = absurd (false≢true (sym (mark_no_name c (sign_mark k is c cs e)) ∙ s))
+identifier_from (Sign k) is c cs e s = absurd (false≢true (sym (mark_no_name c (sign_mark k c cs e)) ∙ s))
 
 identifier_longest : (text : List ℕ) (other : Lexeme) (c : ℕ) (extra : List ℕ) → IsIdentifier text → IsLexeme other → is_xid_continue c ≡ false → text_of other ≢ text ++ c ∷ extra
 identifier_longest [] other c extra is fits stops e = is
@@ -70,7 +71,7 @@ variable_longest name (Var longer) c extra rest is fits ends e = ⊎_elim plain 
     plain stops = false≢true (sym stops ∙ identifier_letter name extra c some all)
 
     second : (extra : List ℕ) → longer ≡ name ++ c ∷ extra → LeavesLetter name (c ∷ extra ++ rest) → ⊥
-    second [] same l = fits.2 (l.1.0, l.1.1, same ∙ l.1.2)
+    second [] same l = fits.2 (l.1.0, same ∙ l.1.1)
     second (d ∷ ds) same l =
         let here : (name ++ c ∷ []) ++ d ∷ ds ≡ longer = append_assoc name (c ∷ []) (d ∷ ds) ∙ sym same in
         let more = subst IsIdentifier (sym here) fits.0 in
@@ -82,7 +83,7 @@ variable_longest name (Name text) c extra rest is fits ends e = let h = head_of 
 variable_longest name (Word k) c extra rest is fits ends e = let h = head_of (Word k) fits in let same : h.0 ≡ 39 = cc (h.2, e) in false≢true (sym (ascii_no_name 39 (lit< tt) refl) ∙ ap starts_name (sym same) ∙ h.3)
 variable_longest name Hole c extra rest is fits ends e = let same : ◌≡◌ {A = ℕ} 95 39 = cc in omega (arith, same)
 variable_longest name (Number n) c extra rest is fits ends e = let d = digits_start n fits 39 (name ++ c ∷ extra) e in false≢true d
-variable_longest name (Sign k) c extra rest is fits ends e = let m = sign_mark k fits 39 (name ++ c ∷ extra) e in false≢true (sym m.4)
+variable_longest name (Sign k) c extra rest is fits ends e = let m = sign_mark k 39 (name ++ c ∷ extra) e in false≢true (sym m.4)
 
 -- digits
 digit_at : (xs ys : List ℕ) (c : ℕ) → AreDigits (xs ++ c ∷ ys) → is_ascii_digit c ≡ true
@@ -144,35 +145,35 @@ digit_longest n other c extra rest is fits ends e = by_other other fits e
     by_other (Word k) fits e = letter (Word k) fits (head_of (Word k) fits) e
     by_other Hole fits e = letter Hole fits (head_of Hole fits) e
     by_other (Var name) fits e = let same : ◌≡◌ {A = ℕ} 39 h.0 = cc (front (Var name) e) in false≢true (ap is_ascii_digit same ∙ h.3)
-    by_other (Sign k) fits e = let m = sign_mark k fits h.0 (h.1 ++ c ∷ extra) (front (Sign k) e) in false≢true (sym m.3 ∙ h.3)
+    by_other (Sign k) fits e = let m = sign_mark k h.0 (h.1 ++ c ∷ extra) (front (Sign k) e) in false≢true (sym m.3 ∙ h.3)
 
 -- what begins like a sign is one
-sign_longest : (k : ℕ) (other : Lexeme) (c : ℕ) (extra rest : List ℕ) → k < length signs → IsLexeme other → SignEnds (sign_text k) (c ∷ extra ++ rest) → text_of other ≢ sign_text k ++ c ∷ extra
-sign_longest k other c extra rest is fits ends e = by_other other fits e
+sign_longest : (k : Symbol) (other : Lexeme) (c : ℕ) (extra rest : List ℕ) → IsLexeme other → SignEnds (symbol_text k) (c ∷ extra ++ rest) → text_of other ≢ symbol_text k ++ c ∷ extra
+sign_longest k other c extra rest fits ends e = by_other other fits e
   where
-    h : (d : ℕ) × (ds : List ℕ) × (sign_text k ≡ d ∷ ds)
-    h = ⊎_elim (λ f. (f.0, [], f.1)) (λ f. (f.0, f.1 ∷ [], f.2)) (sign_form k is)
+    h : (d : ℕ) × (ds : List ℕ) × (symbol_text k ≡ d ∷ ds)
+    h = ⊎_elim (λ f. (f.0, [], f.1)) (λ f. (f.0, f.1 ∷ [], f.2)) (symbol_form k)
 
     mark : IsMark h.0
-    mark = sign_mark k is h.0 h.1 h.2
+    mark = sign_mark k h.0 h.1 h.2
 
-    front : (other : Lexeme) → text_of other ≡ sign_text k ++ c ∷ extra → text_of other ≡ h.0 ∷ (h.1 ++ c ∷ extra)
+    front : (other : Lexeme) → text_of other ≡ symbol_text k ++ c ∷ extra → text_of other ≡ h.0 ∷ (h.1 ++ c ∷ extra)
     front other e = e ∙ ap (λ x. x ++ c ∷ extra) h.2
 
-    letter : (other : Lexeme) → IsLexeme other → (g : (d : ℕ) × (ds : List ℕ) × (text_of other ≡ d ∷ ds) × (starts_name d ≡ true)) → text_of other ≡ sign_text k ++ c ∷ extra → ⊥
+    letter : (other : Lexeme) → IsLexeme other → (g : (d : ℕ) × (ds : List ℕ) × (text_of other ≡ d ∷ ds) × (starts_name d ≡ true)) → text_of other ≡ symbol_text k ++ c ∷ extra → ⊥
     letter other fits g e = let same : g.0 ≡ h.0 = cc (g.2, front other e) in false≢true (sym (mark_no_name h.0 mark) ∙ ap starts_name (sym same) ∙ g.3)
 
-    longer : (j : ℕ) → j < length signs → (extra : List ℕ) → sign_text j ≡ sign_text k ++ c ∷ extra → ⊥
-    longer j fits [] e = ends.0 j fits e
-    longer j fits (d ∷ ds) e = three (h.1) (e ∙ ap (λ x. x ++ c ∷ d ∷ ds) h.2)
+    longer : (j : Symbol) (extra : List ℕ) → symbol_text j ≡ symbol_text k ++ c ∷ extra → ⊥
+    longer j [] e = ends.0 j e
+    longer j (d ∷ ds) e = three (h.1) (e ∙ ap (λ x. x ++ c ∷ d ∷ ds) h.2)
       where
-        three : (xs : List ℕ) → sign_text j ≡ h.0 ∷ (xs ++ c ∷ d ∷ ds) → ⊥
-        three [] e = sign_text-three h.0 c d ds j fits e
-        three (x ∷ []) e = sign_text-three h.0 x c (d ∷ ds) j fits e
-        three (x ∷ y ∷ ys) e = sign_text-three h.0 x y (ys ++ c ∷ d ∷ ds) j fits e
+        three : (xs : List ℕ) → symbol_text j ≡ h.0 ∷ (xs ++ c ∷ d ∷ ds) → ⊥
+        three [] e = symbol_text-three h.0 c d ds j e
+        three (x ∷ []) e = symbol_text-three h.0 x c (d ∷ ds) j e
+        three (x ∷ y ∷ ys) e = symbol_text-three h.0 x y (ys ++ c ∷ d ∷ ds) j e
 
-    by_other : (other : Lexeme) → IsLexeme other → text_of other ≡ sign_text k ++ c ∷ extra → ⊥
-    by_other (Sign j) fits e = longer j fits extra e
+    by_other : (other : Lexeme) → IsLexeme other → text_of other ≡ symbol_text k ++ c ∷ extra → ⊥
+    by_other (Sign j) fits e = longer j extra e
     by_other (Name text) fits e = letter (Name text) fits (head_of (Name text) fits) e
     by_other (Word j) fits e = letter (Word j) fits (head_of (Word j) fits) e
     by_other Hole fits e = letter Hole fits (head_of Hole fits) e
@@ -181,8 +182,8 @@ sign_longest k other c extra rest is fits ends e = by_other other fits e
 
 pub no_longer : NoTokenIsLonger
 no_longer (Name text) other c extra rest is fits ends e = identifier_longest text other c extra is.0 fits ends e
-no_longer (Word k) other c extra rest is fits ends e = identifier_longest (word_text k) other c extra (word_identifier k is) fits ends e
+no_longer (Word k) other c extra rest is fits ends e = identifier_longest (keyword_text k) other c extra (keyword_identifier k) fits ends e
 no_longer Hole other c extra rest is fits ends e = identifier_longest (95 ∷ []) other c extra (refl, tt) fits ends e
 no_longer (Var name) other c extra rest is fits ends e = variable_longest name other c extra rest is fits ends e
 no_longer (Number n) other c extra rest is fits ends e = digit_longest n other c extra rest is fits ends e
-no_longer (Sign k) other c extra rest is fits ends e = sign_longest k other c extra rest is fits ends e
+no_longer (Sign k) other c extra rest is fits ends e = sign_longest k other c extra rest fits ends e

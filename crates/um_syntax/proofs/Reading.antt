@@ -15,7 +15,7 @@ use Rattle.um_syntax.specs.Gap.{is_space, IsLine, IsGap, nothing, space, comment
 use Rattle.um_syntax.specs.Numeral.{Numeral, Whole, Decimal, Ratio, numeral_text, IsNumeral, AreDigits, IsDigits}
 use Rattle.um_syntax.specs.Lexeme.{starts_name, AllContinue, IsIdentifier}
 use Rattle.um_syntax.specs.Lexing.{size_of}
-use Rattle.um_syntax.specs.Machine.{Scan, single_sign, first_figures, more_figures, part_after_digit, step, steps, ended}
+use Rattle.um_syntax.specs.Machine.{Scan, single_symbol, first_figures, more_figures, part_after_digit, step, steps, ended}
 use Rattle.um_syntax.proofs.Places.{size_of-append}
 use Rattle.um_syntax.proofs.Runs.{steps-stopped}
 use Rattle.um_syntax.proofs.Digits.{figures_of, figures-first, figures-whole, figures-point, figures-decimal, figures-over, figures-ratio}
@@ -90,7 +90,7 @@ ascii_no_name c small e = ap (λ b. eqb c 95 || b) (is_xid_start-ascii c small) 
 pub begin_quote : (before : List Token) (at : ℕ) → begin_step before at 39 ≡ Ok (scan_at (at + 1) before [] (pending.Quote at))
 begin_quote before at = rw (ascii_no_name 39 (lit< tt) refl) refl
 
-pub begin_symbol : (before : List Token) (at c : ℕ) → IsMark c → (is_some (single_sign c) || eqb c 38) ≡ true → begin_step before at c ≡ Ok (scan_at (at + len_utf8 c) before [] (pending.Symbol at c))
+pub begin_symbol : (before : List Token) (at c : ℕ) → IsMark c → (is_some (single_symbol c) || eqb c 38) ≡ true → begin_step before at c ≡ Ok (scan_at (at + len_utf8 c) before [] (pending.Symbol at c))
 begin_symbol before at c m e = rw (m.0, ascii_no_name c m.1 m.2, m.3, m.4, e) refl
 
 -- a gap

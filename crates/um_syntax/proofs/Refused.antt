@@ -4,6 +4,7 @@ use Rattle.std.proofs.lemmas.Bool.{false≢true, eqb-true}
 use Rattle.std.proofs.lemmas.Str.{encode_ascii}
 use Rattle.std.specs.Char.{is_ascii_digit}
 use Rattle.unicode_ident.specs.Ident.{is_xid_continue}
+use Rattle.um_syntax.specs.declared.vocabulary.Symbol.{Symbol}
 use Rattle.um_syntax.specs.declared.token.Kind.{Kind}
 use Rattle.um_syntax.specs.declared.token.Token.{Token}
 use Rattle.um_syntax.specs.declared.token.LexStop.{LexStop}
@@ -12,8 +13,8 @@ use Rattle.um_syntax.specs.declared.pending.Pending.TheVariants as pending
 use Rattle.um_syntax.specs.Numeral.{Numeral, Whole, numeral_text}
 use Rattle.um_syntax.specs.Lexeme.{starts_name, IsIdentifier, IsWord, Lexeme, Var, Number, Sign, text_of, IsLexeme, begins, kind_of}
 use Rattle.um_syntax.specs.Lexing.{size_of, is_power_place, NothingStands, IsNumberAt, Faulty, Refuses}
-use Rattle.um_syntax.specs.Machine.{single_sign, double_sign, takes}
-use Rattle.um_syntax.proofs.Tables.{word_letters, are_letters, word_parts, single_sign-text, double_sign-text}
+use Rattle.um_syntax.specs.Machine.{single_symbol, double_symbol, takes}
+use Rattle.um_syntax.proofs.Tables.{keyword_letters, are_letters, keyword_parts, single_symbol-text, double_symbol-text}
 use Rattle.um_syntax.proofs.Texts.{identifier_read}
 use Rattle.um_syntax.proofs.Closing.{scan_at, snoc_same}
 use Rattle.um_syntax.proofs.Reading.{run, run_on, run_stop, free, gap_run, begin_quote, begin_symbol, variable_at, first_letter}
@@ -22,12 +23,12 @@ use Rattle.um_syntax.proofs.Complete.{stopped_run, number_letter, number_refused
 -- no word is of one letter, and none begins with `_`
 one_letter_no_word : (c : ℕ) → ¬ (IsWord (c ∷ []))
 one_letter_no_word c word =
-    let p = word_parts word.0 word.1 in
-    let parts = snoc_same [] p.front c p.last (word.2 ∙ p.text) in
+    let p = keyword_parts word.0 in
+    let parts = snoc_same [] p.front c p.last (word.1 ∙ p.text) in
     subst IsIdentifier (sym parts.0) p.front_identifier
 
 line_no_word : (cs : List ℕ) → ¬ (IsWord (95 ∷ cs))
-line_no_word cs word = false≢true (ap are_letters word.2 ∙ word_letters word.0 word.1)
+line_no_word cs word = false≢true (ap are_letters word.1 ∙ keyword_letters word.0)
 
 -- A quote with nothing that may follow it.
 abbrev NoToken : List ℕ → Type 0
@@ -76,10 +77,10 @@ ampersand_run before at cs none =
   where
     untaken : (cs : List ℕ) → NoToken (38 ∷ cs) → begins (takes (pending.Symbol at 38)) cs ≡ false
     untaken [] none = refl
-    untaken (d ∷ ds) none = by_sign (double_sign 38 d) refl
+    untaken (d ∷ ds) none = by_sign (double_symbol 38 d) refl
       where
-        by_sign : (o : Option ℕ) → double_sign 38 d ≡ o → begins (takes (pending.Symbol at 38)) (d ∷ ds) ≡ false
-        by_sign (Some k) e = let t = double_sign-text 38 d k e in absurd (none (Sign k) ds t.0 (ap (λ x. x ++ ds) (sym t.1)))
+        by_sign : (o : Option Symbol) → double_symbol 38 d ≡ o → begins (takes (pending.Symbol at 38)) (d ∷ ds) ≡ false
+        by_sign (Some k) e = absurd (none (Sign k) ds tt (ap (λ x. x ++ ds) (sym (double_symbol-text 38 d k e))))
         by_sign None e = rw e refl
 
 -- no token, white space or comment stands there
@@ -87,24 +88,24 @@ nothing_run : (before : List Token) (at : ℕ) (chars : List ℕ) → NothingSta
 nothing_run before at [] n = absurd (n.some refl)
 nothing_run before at (c ∷ cs) n = by_start (starts_name c) refl
   where
-    neither : starts_name c ≡ false → is_ascii_digit c ≡ false → eqb c 39 ≡ false → (is_some (single_sign c) || eqb c 38) ≡ false → run (free before at) (c ∷ cs) ≡ Err (BadChar at)
+    neither : starts_name c ≡ false → is_ascii_digit c ≡ false → eqb c 39 ≡ false → (is_some (single_symbol c) || eqb c 38) ≡ false → run (free before at) (c ∷ cs) ≡ Err (BadChar at)
     neither s d q m = run_stop (free before at) c cs (BadChar at) (rw (n.no_space, s, d, q, m) refl)
 
-    by_ampersand : starts_name c ≡ false → is_ascii_digit c ≡ false → eqb c 39 ≡ false → single_sign c ≡ None → (b : Bool) → eqb c 38 ≡ b → run (free before at) (c ∷ cs) ≡ Err (BadChar at)
+    by_ampersand : starts_name c ≡ false → is_ascii_digit c ≡ false → eqb c 39 ≡ false → single_symbol c ≡ None → (b : Bool) → eqb c 38 ≡ b → run (free before at) (c ∷ cs) ≡ Err (BadChar at)
     by_ampersand s d q m true is =
         let same = eqb-true c 38 is in
         subst (λ x. run (free before at) (x ∷ cs) ≡ Err (BadChar at)) (sym same) (ampersand_run before at cs (subst (λ x. NoToken (x ∷ cs)) same n.no_token))
     by_ampersand s d q m false is = neither s d q (ap (λ o. is_some o || eqb c 38) m ∙ is)
 
-    by_sign : starts_name c ≡ false → is_ascii_digit c ≡ false → eqb c 39 ≡ false → (o : Option ℕ) → single_sign c ≡ o → run (free before at) (c ∷ cs) ≡ Err (BadChar at)
-    by_sign s d q (Some k) e = let t = single_sign-text c k e in absurd (n.no_token (Sign k) cs t.0 (ap (λ x. x ++ cs) (sym t.1)))
+    by_sign : starts_name c ≡ false → is_ascii_digit c ≡ false → eqb c 39 ≡ false → (o : Option Symbol) → single_symbol c ≡ o → run (free before at) (c ∷ cs) ≡ Err (BadChar at)
+    by_sign s d q (Some k) e = absurd (n.no_token (Sign k) cs tt (ap (λ x. x ++ cs) (sym (single_symbol-text c k e))))
     by_sign s d q None e = by_ampersand s d q e (eqb c 38) refl
 
     by_quote : starts_name c ≡ false → is_ascii_digit c ≡ false → (b : Bool) → eqb c 39 ≡ b → run (free before at) (c ∷ cs) ≡ Err (BadChar at)
     by_quote s d true is =
         let same = eqb-true c 39 is in
         subst (λ x. run (free before at) (x ∷ cs) ≡ Err (BadChar at)) (sym same) (quote_run before at cs (subst (λ x. NoToken (x ∷ cs)) same n.no_token))
-    by_quote s d false is = by_sign s d is (single_sign c) refl
+    by_quote s d false is = by_sign s d is (single_symbol c) refl
 
     by_digit : starts_name c ≡ false → (b : Bool) → is_ascii_digit c ≡ b → run (free before at) (c ∷ cs) ≡ Err (BadChar at)
     by_digit s true e = absurd (n.no_token (Number (Whole (c ∷ []))) cs (e, tt) refl)

@@ -5,6 +5,7 @@ use Rattle.std.proofs.lemmas.Str.{encodes-append}
 use Rattle.std.specs.Char.{is_ascii_digit, len_utf8}
 use lib.Utf8.{encode, encodes}
 use Rattle.unicode_ident.specs.Ident.{is_xid_continue}
+use Rattle.um_syntax.specs.declared.vocabulary.Symbol.{Symbol}
 use Rattle.um_syntax.specs.declared.token.Kind.TheVariants as kind
 use Rattle.um_syntax.specs.declared.token.Token.{Token}
 use Rattle.um_syntax.specs.declared.token.LexStop.{LexStop}
@@ -13,14 +14,14 @@ use Rattle.um_syntax.specs.declared.number.Part.{Part}
 use Rattle.um_syntax.specs.declared.number.Part.TheVariants as part
 use Rattle.um_syntax.specs.declared.pending.Pending.{Pending}
 use Rattle.um_syntax.specs.declared.pending.Pending.TheVariants as pending
-use Rattle.um_syntax.specs.Vocabulary.{sign_text}
+use Rattle.um_syntax.specs.Vocabulary.{symbol_text}
 use Rattle.um_syntax.specs.Gap.{is_space, IsLine, nothing, space, comment}
 use Rattle.um_syntax.specs.Numeral.{Numeral, Whole, Decimal, Ratio, numeral_text, IsNumeral, IsDigits}
 use Rattle.um_syntax.specs.Lexeme.{starts_name, AllContinue, IsIdentifier, Sign, SignEnds}
 use Rattle.um_syntax.specs.Lexing.{size_of}
-use Rattle.um_syntax.specs.Machine.{Scan, single_sign, double_sign, part_takes, takes, first_figures, more_figures, part_after_digit, number_taken, symbol_taken, taken, begun}
+use Rattle.um_syntax.specs.Machine.{Scan, single_symbol, double_symbol, part_takes, takes, first_figures, more_figures, part_after_digit, number_taken, symbol_taken, taken, begun}
 use Rattle.um_syntax.proofs.Digits.{figures_of, figures-first, figures-whole, figures-point, figures-decimal, figures-over, figures-ratio, AreDigits-append}
-use Rattle.um_syntax.proofs.Tables.{double_sign-first, double_sign-text, sign_text-three}
+use Rattle.um_syntax.proofs.Tables.{double_symbol-first, double_symbol-text, symbol_text-three}
 use Rattle.um_syntax.proofs.Texts.{nothing_at}
 use Rattle.um_syntax.proofs.Meaning.{Means, skip, next_token, faulty_here, token_here}
 use Rattle.um_syntax.proofs.Closing.{tail_of, FitsPart, Pends, scan_at, size_of-snoc, append_nil}
@@ -155,19 +156,19 @@ take_number before start at next e p n c more fits has end place after taking = 
     by_digit false d = rw d (goes_on before start next (numeral_text n ++ tail_of p) c more [] (pending.Number start e (cond (eqb c 46) part.Point part.Over) (figures_of n)) (marked p n fits has end place taking d))
 
 -- no sign of two characters goes on
-double_ends : (a b : ℕ) (k : ℕ) (more : List ℕ) → sign_text k ≡ a ∷ b ∷ [] → SignEnds (sign_text k) more
+double_ends : (a b : ℕ) (k : Symbol) (more : List ℕ) → symbol_text k ≡ a ∷ b ∷ [] → SignEnds (symbol_text k) more
 double_ends a b k more e = subst (λ x. SignEnds x more) (sym e) (ends more)
   where
     ends : (more : List ℕ) → SignEnds (a ∷ b ∷ []) more
     ends [] = tt
-    ends (c ∷ cs) = (λ j h t. sign_text-three a b c [] j h t, λ t. three_two t)
+    ends (c ∷ cs) = (λ j t. symbol_text-three a b c [] j t, λ t. three_two t)
       where
         three_two : ◌≡◌ {A = List ℕ} (a ∷ b ∷ c ∷ []) (47 ∷ 47 ∷ []) → ⊥
         three_two t = cc
 
-take_symbol : (before : List Token) (start at next first : ℕ) (c : ℕ) (more : List ℕ) → at ≡ start + size_of (first ∷ []) → next ≡ at + len_utf8 c → (is_some (double_sign first c) || (eqb first 47 && eqb c 47)) ≡ true
-    → TakeMeans before start (first ∷ []) c more (symbol_taken (scan_at at before [] (pending.Symbol start first)) start next (double_sign first c))
-take_symbol before start at next first c more place after taking = by_sign (double_sign first c) refl
+take_symbol : (before : List Token) (start at next first : ℕ) (c : ℕ) (more : List ℕ) → at ≡ start + size_of (first ∷ []) → next ≡ at + len_utf8 c → (is_some (double_symbol first c) || (eqb first 47 && eqb c 47)) ≡ true
+    → TakeMeans before start (first ∷ []) c more (symbol_taken (scan_at at before [] (pending.Symbol start first)) start next (double_symbol first c))
+take_symbol before start at next first c more place after taking = by_sign (double_symbol first c) refl
   where
     both : (a b : Bool) → (a && b) ≡ true → (a ≡ true) × (b ≡ true)
     both true b e = (refl, e)
@@ -176,26 +177,26 @@ take_symbol before start at next first c more place after taking = by_sign (doub
     there : next ≡ start + size_of (first ∷ c ∷ [])
     there = place_on start at next (first ∷ []) c place after
 
-    sign : (k : ℕ) → double_sign first c ≡ Some k → TakeMeans before start (first ∷ []) c more (symbol_taken (scan_at at before [] (pending.Symbol start first)) start next (Some k))
+    sign : (k : Symbol) → double_symbol first c ≡ Some k → TakeMeans before start (first ∷ []) c more (symbol_taken (scan_at at before [] (pending.Symbol start first)) start next (Some k))
     sign k e =
-        let t = double_sign-text first c k e in (
+        let t = double_symbol-text first c k e in (
           next,
           [],
           (refl, refl, refl),
           λ answer m.
               next_token before start _ _ more answer
-              (token_here before start (Sign k) more _ (kind.Sign k) next (ap (λ x. x ++ more) (sym t.1)) t.0 (double_ends first c k more t.1) tt refl (there ∙ ap (λ x. start + size_of x) (sym t.1)))
+              (token_here before start (Sign k) more _ (kind.Sign k) next (ap (λ x. x ++ more) (sym t)) tt (double_ends first c k more t) tt refl (there ∙ ap (λ x. start + size_of x) (sym t)))
               m,
         )
 
-    slashes : double_sign first c ≡ None → TakeMeans before start (first ∷ []) c more (symbol_taken (scan_at at before [] (pending.Symbol start first)) start next None)
+    slashes : double_symbol first c ≡ None → TakeMeans before start (first ∷ []) c more (symbol_taken (scan_at at before [] (pending.Symbol start first)) start next None)
     slashes e =
         let is = both (eqb first 47) (eqb c 47) (sym (ap (λ o. is_some o || (eqb first 47 && eqb c 47)) e) ∙ taking) in
         let one = eqb-true first 47 is.0 in
         let two = eqb-true c 47 is.1 in
         goes_on before start next (first ∷ []) c more [] pending.Comment (refl, there, ([], ap (λ x. x ∷ c ∷ []) one ∙ ap (λ x. 47 ∷ x ∷ []) two, tt))
 
-    by_sign : (o : Option ℕ) → double_sign first c ≡ o → TakeMeans before start (first ∷ []) c more (symbol_taken (scan_at at before [] (pending.Symbol start first)) start next (double_sign first c))
+    by_sign : (o : Option Symbol) → double_symbol first c ≡ o → TakeMeans before start (first ∷ []) c more (symbol_taken (scan_at at before [] (pending.Symbol start first)) start next (double_symbol first c))
     by_sign (Some k) e = rw e (sign k e)
     by_sign None e = rw e (slashes e)
 
@@ -230,9 +231,9 @@ take_sound before start at next letters text (pending.Number b e p f) c more h a
     (subst (λ s. TakeMeans before start (numeral_text w.0 ++ tail_of p) c more (scan_at next before [] (number_taken s e p (figures_of w.0) c next))) (sym h.0) m)))
 take_sound before start at next letters text (pending.Symbol b first) c more h after t =
     let m = take_symbol before start at next first c more (h.1 ∙ ap (λ x. start + size_of x) h.3) after t in
-    subst (λ x. TakeMeans before start x c more (symbol_taken (scan_at at before letters (pending.Symbol b first)) b next (double_sign first c))) (sym h.3)
-    (subst (λ l. TakeMeans before start (first ∷ []) c more (symbol_taken (scan_at at before l (pending.Symbol b first)) b next (double_sign first c))) (sym h.2)
-    (subst (λ s. TakeMeans before start (first ∷ []) c more (symbol_taken (scan_at at before [] (pending.Symbol s first)) s next (double_sign first c))) (sym h.0) m))
+    subst (λ x. TakeMeans before start x c more (symbol_taken (scan_at at before letters (pending.Symbol b first)) b next (double_symbol first c))) (sym h.3)
+    (subst (λ l. TakeMeans before start (first ∷ []) c more (symbol_taken (scan_at at before l (pending.Symbol b first)) b next (double_symbol first c))) (sym h.2)
+    (subst (λ s. TakeMeans before start (first ∷ []) c more (symbol_taken (scan_at at before [] (pending.Symbol s first)) s next (double_symbol first c))) (sym h.0) m))
 
 -- the state after a character that begins something
 abbrev pub BeginMeans : List Token → ℕ → ℕ → List ℕ → Result Scan LexStop → Type 0
@@ -268,28 +269,28 @@ begin_quote before at next c more after e =
     let there : next ≡ at + size_of (c ∷ []) = omega (arith, after) in
     stands before at next c more [] (pending.Quote at) (refl, there, refl, ap (λ x. x ∷ []) (eqb-true c 39 e))
 
-begin_symbol : (before : List Token) (at next c : ℕ) (more : List ℕ) → next ≡ at + len_utf8 c → (is_some (single_sign c) || eqb c 38) ≡ true → BeginMeans before at c more (Ok (scan_at next before [] (pending.Symbol at c)))
+begin_symbol : (before : List Token) (at next c : ℕ) (more : List ℕ) → next ≡ at + len_utf8 c → (is_some (single_symbol c) || eqb c 38) ≡ true → BeginMeans before at c more (Ok (scan_at next before [] (pending.Symbol at c)))
 begin_symbol before at next c more after e =
     let there : next ≡ at + size_of (c ∷ []) = omega (arith, after) in
     stands before at next c more [] (pending.Symbol at c) (refl, there, refl, refl, e)
 
 -- a sign of two characters begins with a sign, or with an ampersand
-double_begins : (a b : ℕ) → is_some (double_sign a b) ≡ true → (is_some (single_sign a) || eqb a 38) ≡ true
-double_begins a b e = by_sign (double_sign a b) refl e
+double_begins : (a b : ℕ) → is_some (double_symbol a b) ≡ true → (is_some (single_symbol a) || eqb a 38) ≡ true
+double_begins a b e = by_sign (double_symbol a b) refl e
   where
-    by_sign : (o : Option ℕ) → double_sign a b ≡ o → is_some o ≡ true → (is_some (single_sign a) || eqb a 38) ≡ true
-    by_sign (Some k) is e = double_sign-first a b k is
+    by_sign : (o : Option Symbol) → double_symbol a b ≡ o → is_some o ≡ true → (is_some (single_symbol a) || eqb a 38) ≡ true
+    by_sign (Some k) is e = double_symbol-first a b k is
     by_sign None is e = absurd (false≢true e)
 
-begin_none : (before : List Token) (at c : ℕ) (more : List ℕ) → is_space c ≡ false → starts_name c ≡ false → is_ascii_digit c ≡ false → eqb c 39 ≡ false → (is_some (single_sign c) || eqb c 38) ≡ false
+begin_none : (before : List Token) (at c : ℕ) (more : List ℕ) → is_space c ≡ false → starts_name c ≡ false → is_ascii_digit c ≡ false → eqb c 39 ≡ false → (is_some (single_symbol c) || eqb c 38) ≡ false
     → Means before at (c ∷ more) (Err (BadChar at))
 begin_none before at c more no_space no_name no_digit no_quote no_sign = faulty_here before at (c ∷ more) (BadChar at) (inl (
   refl,
   nothing_at c more no_space (record {
     name = no_name;
     digit = no_digit;
-    single = or_false-left (is_some (single_sign c)) (eqb c 38) no_sign;
-    double = λ b rest e. is_false (is_some (double_sign c b)) (λ d. false≢true (sym no_sign ∙ double_begins c b d));
+    single = or_false-left (is_some (single_symbol c)) (eqb c 38) no_sign;
+    double = λ b rest e. is_false (is_some (double_symbol c b)) (λ d. false≢true (sym no_sign ∙ double_begins c b d));
     variable = λ e. absurd (quote e);
   }),
 ))
@@ -308,23 +309,23 @@ begin_none before at c more no_space no_name no_digit no_quote no_sign = faulty_
 pub begin_sound : (before : List Token) (at next c : ℕ) (more : List ℕ) → next ≡ at + len_utf8 c → BeginMeans before at c more (begun (scan_at at before [] pending.Free) c next)
 begin_sound before at next c more after = by_space (is_space c) refl
   where
-    by_sign : is_space c ≡ false → starts_name c ≡ false → is_ascii_digit c ≡ false → eqb c 39 ≡ false → (b : Bool) → (is_some (single_sign c) || eqb c 38) ≡ b
+    by_sign : is_space c ≡ false → starts_name c ≡ false → is_ascii_digit c ≡ false → eqb c 39 ≡ false → (b : Bool) → (is_some (single_symbol c) || eqb c 38) ≡ b
         → BeginMeans before at c more (cond b (Ok (scan_at next before [] (pending.Symbol at c))) (Err (BadChar at)))
     by_sign s n d q true e = begin_symbol before at next c more after e
     by_sign s n d q false e = begin_none before at c more s n d q e
 
     by_quote : is_space c ≡ false → starts_name c ≡ false → is_ascii_digit c ≡ false → (b : Bool) → eqb c 39 ≡ b
-        → BeginMeans before at c more (cond b (Ok (scan_at next before [] (pending.Quote at))) (cond (is_some (single_sign c) || eqb c 38) (Ok (scan_at next before [] (pending.Symbol at c))) (Err (BadChar at))))
+        → BeginMeans before at c more (cond b (Ok (scan_at next before [] (pending.Quote at))) (cond (is_some (single_symbol c) || eqb c 38) (Ok (scan_at next before [] (pending.Symbol at c))) (Err (BadChar at))))
     by_quote s n d true e = begin_quote before at next c more after e
-    by_quote s n d false e = by_sign s n d e (is_some (single_sign c) || eqb c 38) refl
+    by_quote s n d false e = by_sign s n d e (is_some (single_symbol c) || eqb c 38) refl
 
     by_digit : is_space c ≡ false → starts_name c ≡ false → (b : Bool) → is_ascii_digit c ≡ b
-        → BeginMeans before at c more (cond b (Ok (scan_at next before [] (pending.Number at next part.Whole (first_figures (c - 48))))) (cond (eqb c 39) (Ok (scan_at next before [] (pending.Quote at))) (cond (is_some (single_sign c) || eqb c 38) (Ok (scan_at next before [] (pending.Symbol at c))) (Err (BadChar at)))))
+        → BeginMeans before at c more (cond b (Ok (scan_at next before [] (pending.Number at next part.Whole (first_figures (c - 48))))) (cond (eqb c 39) (Ok (scan_at next before [] (pending.Quote at))) (cond (is_some (single_symbol c) || eqb c 38) (Ok (scan_at next before [] (pending.Symbol at c))) (Err (BadChar at)))))
     by_digit s n true e = begin_digit before at next c more after e
     by_digit s n false e = by_quote s n e (eqb c 39) refl
 
     by_name : is_space c ≡ false → (b : Bool) → starts_name c ≡ b
-        → BeginMeans before at c more (cond b (Ok (scan_at next before ([] ++ encode c) (pending.Identifier at))) (cond (is_ascii_digit c) (Ok (scan_at next before [] (pending.Number at next part.Whole (first_figures (c - 48))))) (cond (eqb c 39) (Ok (scan_at next before [] (pending.Quote at))) (cond (is_some (single_sign c) || eqb c 38) (Ok (scan_at next before [] (pending.Symbol at c))) (Err (BadChar at))))))
+        → BeginMeans before at c more (cond b (Ok (scan_at next before ([] ++ encode c) (pending.Identifier at))) (cond (is_ascii_digit c) (Ok (scan_at next before [] (pending.Number at next part.Whole (first_figures (c - 48))))) (cond (eqb c 39) (Ok (scan_at next before [] (pending.Quote at))) (cond (is_some (single_symbol c) || eqb c 38) (Ok (scan_at next before [] (pending.Symbol at c))) (Err (BadChar at))))))
     by_name s true e = begin_name before at next c more after e
     by_name s false e = by_digit s e (is_ascii_digit c) refl
 

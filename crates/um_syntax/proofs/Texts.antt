@@ -1,5 +1,5 @@
 -- How the texts of tokens begin, and which token an identifier is.
-use Rattle.std.proofs.Common.{◌≡◌, ◌≢◌, ℕ, ◌<◌, Bool, true, false, cond, List, [], ◌∷◌, ◌++◌, length, Option, None, Some, is_some, refl, sym, ap, subst, ◌∙◌, ◌⊎◌, inl, inr, ⊎_elim, lit<}
+use Rattle.std.proofs.Common.{◌≡◌, ◌≢◌, ℕ, Bool, true, false, cond, List, [], ◌∷◌, ◌++◌, Option, None, Some, is_some, refl, sym, ap, subst, ◌∙◌, ◌⊎◌, inl, inr, ⊎_elim, lit<}
 use Rattle.std.proofs.lemmas.Slice.Eq.{bytes_eq-Decides}
 use Rattle.std.proofs.lemmas.Bool.{false≢true}
 use Rattle.std.proofs.lemmas.Str.{encodes_same, encode_ascii}
@@ -7,14 +7,15 @@ use Rattle.std.specs.Str.{bytes_eq}
 use Rattle.std.specs.Char.{is_ascii_digit}
 use lib.Utf8.{encodes}
 use Rattle.unicode_ident.specs.Ident.{is_xid_continue}
+use Rattle.um_syntax.specs.declared.vocabulary.Keyword.{Keyword}
 use Rattle.um_syntax.specs.declared.token.Kind.TheVariants as kind
-use Rattle.um_syntax.specs.Vocabulary.{words, word_text}
+use Rattle.um_syntax.specs.Vocabulary.{keyword_text}
 use Rattle.um_syntax.specs.Gap.{is_space}
 use Rattle.um_syntax.specs.Numeral.{Whole, Decimal, Ratio, IsDigits}
 use Rattle.um_syntax.specs.Lexeme.{starts_name, IsIdentifier, IsWord, IsName, Lexeme, Name, Var, Number, Word, Hole, Sign, text_of, IsLexeme, begins, Ends, IsAlone, kind_of}
 use Rattle.um_syntax.specs.Lexing.{NothingStands}
-use Rattle.um_syntax.specs.Machine.{word_number, single_sign, double_sign, letters_kind, word_kind}
-use Rattle.um_syntax.proofs.Tables.{word_number-text, word_number-none, word_encoded, word_identifier, sign_form}
+use Rattle.um_syntax.specs.Machine.{keyword_of, single_symbol, double_symbol, letters_kind, word_kind}
+use Rattle.um_syntax.proofs.Tables.{keyword_of-text, keyword_of-none, keyword_encoded, keyword_identifier, symbol_form}
 
 -- the first character of a token's text, and what it tells
 abbrev pub HasHead : Lexeme → ℕ → List ℕ → Type 0
@@ -23,7 +24,7 @@ HasHead (Var name) c cs = (c ≡ 39) × (cs ≡ name) × IsName name
 HasHead (Number numeral) c cs = is_ascii_digit c ≡ true
 HasHead (Word k) c cs = starts_name c ≡ true
 HasHead Hole c cs = starts_name c ≡ true
-HasHead (Sign k) c cs = (is_some (single_sign c) ≡ true) ⊎ ((b : ℕ) × (cs ≡ b ∷ []) × (is_some (double_sign c b) ≡ true))
+HasHead (Sign k) c cs = (is_some (single_symbol c) ≡ true) ⊎ ((b : ℕ) × (cs ≡ b ∷ []) × (is_some (double_symbol c b) ≡ true))
 
 pub identifier_head : (text : List ℕ) → IsIdentifier text → (c : ℕ) × (cs : List ℕ) × (text ≡ c ∷ cs) × (starts_name c ≡ true)
 identifier_head [] i = absurd i
@@ -43,19 +44,19 @@ head_of (Var name) fits = (39, name, refl, (refl, refl, fits))
 head_of (Number (Whole ds)) fits = let d = digits_head ds [] fits in (d.0, d.1, sym (append_nil ds) ∙ d.2, d.3)
 head_of (Number (Decimal w q)) fits = digits_head w (46 ∷ q) fits.0
 head_of (Number (Ratio a b)) fits = digits_head a (114 ∷ b) fits.0
-head_of (Word k) fits = identifier_head (word_text k) (word_identifier k fits)
+head_of (Word k) fits = identifier_head (keyword_text k) (keyword_identifier k)
 head_of Hole fits = (95, [], refl, refl)
 head_of (Sign k) fits =
     ⊎_elim (λ f. (f.0, [], f.1, inl (ap is_some f.2)))
     (λ f. (f.0, f.1 ∷ [], f.2, inr (f.1, refl, ap is_some f.3)))
-    (sign_form k fits)
+    (symbol_form k)
 
 -- the tests by which no token begins with a character
 pub record NoHead (c : ℕ) (rest : List ℕ) : Type 0 where
   pub name : starts_name c ≡ false
   pub digit : is_ascii_digit c ≡ false
-  pub single : is_some (single_sign c) ≡ false
-  pub double : (b : ℕ) (more : List ℕ) → rest ≡ b ∷ more → is_some (double_sign c b) ≡ false
+  pub single : is_some (single_symbol c) ≡ false
+  pub double : (b : ℕ) (more : List ℕ) → rest ≡ b ∷ more → is_some (double_symbol c b) ≡ false
   pub variable : c ≡ 39 → (name more : List ℕ) → IsName name → rest ≢ name ++ more
 
 clash : (lexeme : Lexeme) (c : ℕ) (rest cs more : List ℕ) → NoHead c rest → HasHead lexeme c cs → rest ≡ cs ++ more → ⊥
@@ -94,13 +95,11 @@ hole_from text e = encodes_same text (95 ∷ []) ((bytes_eq-Decides (encodes tex
 pub no_hole_from : (text : List ℕ) → bytes_eq (encodes text) (95 ∷ []) ≡ false → text ≢ 95 ∷ []
 no_hole_from text e same = false≢true (sym e ∙ (bytes_eq-Decides (encodes text) (95 ∷ [])).1 (ap encodes same ∙ hole_encoded))
 
-pub word_from : (text : List ℕ) (k : ℕ) → word_number (encodes text) ≡ Some k → (k < length words) × (text ≡ word_text k)
-word_from text k e =
-    let w = word_number-text (encodes text) k e in
-    (w.0, encodes_same text (word_text k) (w.1 ∙ sym (word_encoded k w.0)))
+pub word_from : (text : List ℕ) (k : Keyword) → keyword_of (encodes text) ≡ Some k → text ≡ keyword_text k
+word_from text k e = encodes_same text (keyword_text k) (keyword_of-text (encodes text) k e ∙ sym (keyword_encoded k))
 
-pub no_word_from : (text : List ℕ) → word_number (encodes text) ≡ None → ¬ (IsWord text)
-no_word_from text e word = word_number-none (encodes text) e (word.0, word.1, ap encodes word.2 ∙ word_encoded word.0 word.1)
+pub no_word_from : (text : List ℕ) → keyword_of (encodes text) ≡ None → ¬ (IsWord text)
+no_word_from text e word = keyword_of-none (encodes text) e (word.0, ap encodes word.1 ∙ keyword_encoded word.0)
 
 -- which token an identifier is
 pub record IsRead (text : List ℕ) : Type 0 where
@@ -111,19 +110,19 @@ pub record IsRead (text : List ℕ) : Type 0 where
   pub alone : (more : List ℕ) → IsAlone lexeme more
   pub kind : (power : Bool) → kind_of power lexeme ≡ Some (letters_kind (encodes text))
 
-identifier_word : (text : List ℕ) (k : ℕ) → word_number (encodes text) ≡ Some k → IsRead text
+identifier_word : (text : List ℕ) (k : Keyword) → keyword_of (encodes text) ≡ Some k → IsRead text
 identifier_word text k e =
     let w = word_from text k e in
     record {
       lexeme = Word k;
-      text_is = sym w.1;
-      fits = w.0;
+      text_is = sym w;
+      fits = tt;
       ends = λ more h. h;
       alone = λ more. tt;
       kind = λ power. ap (λ o. Some (word_kind (encodes text) o)) (sym e);
     }
 
-identifier_hole : (text : List ℕ) → word_number (encodes text) ≡ None → bytes_eq (encodes text) (95 ∷ []) ≡ true → IsRead text
+identifier_hole : (text : List ℕ) → keyword_of (encodes text) ≡ None → bytes_eq (encodes text) (95 ∷ []) ≡ true → IsRead text
 identifier_hole text e hole = record {
   lexeme = Hole;
   text_is = sym (hole_from text hole);
@@ -133,7 +132,7 @@ identifier_hole text e hole = record {
   kind = λ power. ap (λ b. Some (cond b kind.Hole (kind.Name (encodes text)))) (sym hole) ∙ ap (λ o. Some (word_kind (encodes text) o)) (sym e);
 }
 
-identifier_name : (text : List ℕ) → IsIdentifier text → word_number (encodes text) ≡ None → bytes_eq (encodes text) (95 ∷ []) ≡ false → IsRead text
+identifier_name : (text : List ℕ) → IsIdentifier text → keyword_of (encodes text) ≡ None → bytes_eq (encodes text) (95 ∷ []) ≡ false → IsRead text
 identifier_name text is e hole = record {
   lexeme = Name text;
   text_is = refl;
@@ -144,12 +143,12 @@ identifier_name text is e hole = record {
 }
 
 pub identifier_read : (text : List ℕ) → IsIdentifier text → IsRead text
-identifier_read text is = by_number (word_number (encodes text)) refl
+identifier_read text is = by_number (keyword_of (encodes text)) refl
   where
-    by_hole : word_number (encodes text) ≡ None → (b : Bool) → bytes_eq (encodes text) (95 ∷ []) ≡ b → IsRead text
+    by_hole : keyword_of (encodes text) ≡ None → (b : Bool) → bytes_eq (encodes text) (95 ∷ []) ≡ b → IsRead text
     by_hole e true hole = identifier_hole text e hole
     by_hole e false hole = identifier_name text is e hole
 
-    by_number : (o : Option ℕ) → word_number (encodes text) ≡ o → IsRead text
+    by_number : (o : Option Keyword) → keyword_of (encodes text) ≡ o → IsRead text
     by_number (Some k) e = identifier_word text k e
     by_number None e = by_hole e (bytes_eq (encodes text) (95 ∷ [])) refl

@@ -1,11 +1,13 @@
 -- The texts of tokens, by the kinds of the language's table (this project's own; names by Unicode Standard Annex 31).
-use Rattle.std.specs.Prelude.{◌≡◌, ◌≢◌, ℕ, ◌<◌, Bool, true, false, ◌==◌, ◌||◌, ◌&&◌, ◌⊎◌, List, [], ◌∷◌, ◌++◌, length, Option, Some, option_map}
+use Rattle.std.specs.Prelude.{◌≡◌, ◌≢◌, ℕ, Bool, true, false, ◌==◌, ◌||◌, ◌&&◌, ◌⊎◌, List, [], ◌∷◌, ◌++◌, Option, Some, option_map}
 use Rattle.std.specs.Char.{is_ascii_digit}
 use Rattle.std.specs.Str.{encode_utf8_all, bytes_eq}
 use Rattle.unicode_ident.specs.Ident.{is_xid_start, is_xid_continue}
 use Rattle.um_syntax.specs.declared.token.Kind.{Kind}
 use Rattle.um_syntax.specs.declared.token.Kind.TheVariants as kind
-use Rattle.um_syntax.specs.Vocabulary.{words, signs, word_text, sign_text}
+use Rattle.um_syntax.specs.declared.vocabulary.Keyword.{Keyword}
+use Rattle.um_syntax.specs.declared.vocabulary.Symbol.{Symbol}
+use Rattle.um_syntax.specs.Vocabulary.{keyword_text, symbol_text}
 use Rattle.um_syntax.specs.Numeral.{Numeral, Whole, Decimal, Ratio, numeral_text, IsNumeral, number_value}
 
 -- `_` or a character that may start an identifier, and then characters that may continue one
@@ -20,38 +22,38 @@ abbrev pub IsIdentifier : List ℕ → Type 0
 IsIdentifier [] = ⊥
 IsIdentifier (c ∷ cs) = (starts_name c ≡ true) × AllContinue cs
 
--- the text is one of the words
+-- the text is that of a reserved word
 abbrev pub IsWord : List ℕ → Type 0
-IsWord text = (k : ℕ) × (k < length words) × (text ≡ word_text k)
+IsWord text = (k : Keyword) × (text ≡ keyword_text k)
 
--- an identifier that is neither a word nor `_` alone
+-- an identifier that is neither a reserved word nor `_` alone
 abbrev pub IsName : List ℕ → Type 0
 IsName text = IsIdentifier text × (text ≢ 95 ∷ []) × ¬ (IsWord text)
 
--- A token's text by its parts: a name; a quote and a name; a number; the word of a number; `_`; the sign of a number.
+-- A token's text by its parts: a name; a quote and a name; a number; a reserved word; `_`; a symbol.
 pub data Lexeme : Type 0 where
   Name : (text : List ℕ) → Lexeme
   Var : (name : List ℕ) → Lexeme
   Number : (numeral : Numeral) → Lexeme
-  Word : (k : ℕ) → Lexeme
+  Word : (k : Keyword) → Lexeme
   Hole : Lexeme
-  Sign : (k : ℕ) → Lexeme
+  Sign : (k : Symbol) → Lexeme
 
 abbrev pub text_of : Lexeme → List ℕ
 text_of (Name text) = text
 text_of (Var name) = 39 ∷ name
 text_of (Number numeral) = numeral_text numeral
-text_of (Word k) = word_text k
+text_of (Word k) = keyword_text k
 text_of Hole = 95 ∷ []
-text_of (Sign k) = sign_text k
+text_of (Sign k) = symbol_text k
 
 abbrev pub IsLexeme : Lexeme → Type 0
 IsLexeme (Name text) = IsName text
 IsLexeme (Var name) = IsName name
 IsLexeme (Number numeral) = IsNumeral numeral
-IsLexeme (Word k) = k < length words
+IsLexeme (Word k) = Unit {0}
 IsLexeme Hole = Unit {0}
-IsLexeme (Sign k) = k < length signs
+IsLexeme (Sign k) = Unit {0}
 
 -- whether the first of the characters passes a test
 abbrev pub begins : (ℕ → Bool) → List ℕ → Bool
@@ -69,15 +71,15 @@ NumeralEnds (Whole digits) more = (begins is_ascii_digit more ≡ false) × (beg
 NumeralEnds (Decimal whole part) more = begins is_ascii_digit more ≡ false
 NumeralEnds (Ratio above below) more = begins is_ascii_digit more ≡ false
 
--- A variable goes on while letters follow. Only where the longest one would be a word, its last letter is left out.
+-- A variable goes on while letters follow. Only where the longest one would be a reserved word, its last letter is left out.
 abbrev pub LeavesLetter : List ℕ → List ℕ → Type 0
 LeavesLetter name [] = ⊥
 LeavesLetter name (c ∷ more) = (is_xid_continue c ≡ true) × IsWord (name ++ c ∷ []) × (begins is_xid_continue more ≡ false)
 
--- No longer sign stands there, and no comment.
+-- No longer symbol stands there, and no comment.
 abbrev pub SignEnds : List ℕ → List ℕ → Type 0
 SignEnds text [] = Unit {0}
-SignEnds text (c ∷ more) = ((k : ℕ) → k < length signs → sign_text k ≢ text ++ c ∷ []) × (text ++ c ∷ [] ≢ 47 ∷ 47 ∷ [])
+SignEnds text (c ∷ more) = ((k : Symbol) → symbol_text k ≢ text ++ c ∷ []) × (text ++ c ∷ [] ≢ 47 ∷ 47 ∷ [])
 
 -- what may follow a token's text: nothing by which a longer token or a comment stands at its place
 abbrev pub Ends : Lexeme → List ℕ → Type 0
@@ -86,7 +88,7 @@ Ends (Var name) more = (begins is_xid_continue more ≡ false) ⊎ LeavesLetter 
 Ends (Number numeral) more = NumeralEnds numeral more
 Ends (Word k) more = begins is_xid_continue more ≡ false
 Ends Hole more = begins is_xid_continue more ≡ false
-Ends (Sign k) more = SignEnds (sign_text k) more
+Ends (Sign k) more = SignEnds (symbol_text k) more
 
 -- no character that may continue an identifier directly follows a number
 abbrev pub IsAlone : Lexeme → List ℕ → Type 0

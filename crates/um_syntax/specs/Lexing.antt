@@ -8,7 +8,7 @@ use Rattle.um_syntax.specs.declared.token.Kind.TheVariants as kind
 use Rattle.um_syntax.specs.declared.token.Token.{Token}
 use Rattle.um_syntax.specs.declared.token.LexStop.{LexStop}
 use Rattle.um_syntax.specs.declared.token.LexStop.TheVariants.{BadChar, NumberRange, PowerText, NoMemory}
-use Rattle.um_syntax.specs.Vocabulary.{minus, caret}
+use Rattle.um_syntax.specs.declared.vocabulary.Symbol.TheVariants as symbol
 use Rattle.um_syntax.specs.Gap.{is_space, IsGap, IsLastGap}
 use Rattle.um_syntax.specs.Numeral.{Numeral, numeral_text, IsNumeral}
 use Rattle.um_syntax.specs.Lexeme.{Lexeme, Number, text_of, IsLexeme, begins, NumeralEnds, Ends, IsAlone, kind_of}
@@ -26,23 +26,29 @@ ends_at start (Some token) = token.end == start
 abbrev pub is_glued : List Token → ℕ → Bool
 is_glued before start = ends_at start (slice_get before (length before - 1))
 
-abbrev pub is_kind_sign : ℕ → Kind → Bool
-is_kind_sign k (kind.Sign n) = n == k
-is_kind_sign k (kind.Name letters) = false
-is_kind_sign k (kind.Var letters) = false
-is_kind_sign k (kind.Number value digits one) = false
-is_kind_sign k (kind.Word n) = false
-is_kind_sign k kind.Hole = false
+abbrev pub is_caret_kind : Kind → Bool
+is_caret_kind (kind.Sign symbol.Caret) = true
+is_caret_kind _ = false
 
-abbrev pub is_sign : ℕ → Option Token → Bool
-is_sign k None = false
-is_sign k (Some token) = is_kind_sign k token.kind
+abbrev pub is_minus_kind : Kind → Bool
+is_minus_kind (kind.Sign symbol.Minus) = true
+is_minus_kind _ = false
+
+-- the token is `^`
+abbrev pub is_caret : Option Token → Bool
+is_caret None = false
+is_caret (Some token) = is_caret_kind token.kind
+
+-- the token is `-`
+abbrev pub is_minus : Option Token → Bool
+is_minus None = false
+is_minus (Some token) = is_minus_kind token.kind
 
 -- A number behind these tokens is a power: the last is `^`, or the last two are `^` and `-`.
 abbrev pub is_power_place : List Token → Bool
 is_power_place before =
-    is_sign caret (slice_get before (length before - 1))
-    || (is_sign minus (slice_get before (length before - 1)) && is_sign caret (slice_get before (length before - 2)))
+    is_caret (slice_get before (length before - 1))
+    || (is_minus (slice_get before (length before - 1)) && is_caret (slice_get before (length before - 2)))
 
 -- Behind the tokens before, which end at `at`, the next token of the characters is this one, and `more` follows it.
 pub record IsNext (before : List Token) (at : ℕ) (chars : List ℕ) (token : Token) (more : List ℕ) : Type 0 where
@@ -64,7 +70,7 @@ Lexes before at chars [] = IsLastGap chars
 Lexes before at chars (token ∷ tokens) =
     (more : List ℕ) × IsNext before at chars token more × Lexes (before ++ token ∷ []) token.end more tokens
 
--- neither white space nor a token stands first (a comment begins with a sign)
+-- neither white space nor a token stands first (a comment begins with a symbol)
 pub record NothingStands (chars : List ℕ) : Type 0 where
   pub some : chars ≢ []
   pub no_space : begins is_space chars ≡ false

@@ -4,7 +4,6 @@ use Rattle.std.specs.Prelude.{ℕ, ◌+◌, ◌≤◌, ◌-◌, ◌*◌, ◌^◌
 use Rattle.std.specs.Coded.{×_prop, Unit-prop, le_prop}
 use Rattle.std.specs.Char.{is_ascii_digit, len_utf8, encode_utf8}
 use Rattle.std.specs.Str.{bytes_eq}
-use Rattle.std.specs.List.{position_from}
 use Rattle.unicode_ident.specs.Ident.{is_xid_continue}
 use Rattle.um_frac.specs.Fraction.{reduced}
 use Rattle.um_syntax.specs.declared.token.Kind.{Kind}
@@ -17,7 +16,11 @@ use Rattle.um_syntax.specs.declared.number.Part.TheVariants as part
 use Rattle.um_syntax.specs.declared.number.Figures.{Figures}
 use Rattle.um_syntax.specs.declared.pending.Pending.{Pending}
 use Rattle.um_syntax.specs.declared.pending.Pending.TheVariants as pending
-use Rattle.um_syntax.specs.Vocabulary.{words, dot}
+use Rattle.um_syntax.specs.declared.vocabulary.Keyword.{Keyword}
+use Rattle.um_syntax.specs.declared.vocabulary.Keyword.TheVariants as keyword
+use Rattle.um_syntax.specs.declared.vocabulary.Symbol.{Symbol}
+use Rattle.um_syntax.specs.declared.vocabulary.Symbol.TheVariants as symbol
+use Rattle.um_syntax.specs.Vocabulary.{keyword_text}
 use Rattle.um_syntax.specs.Gap.{is_space}
 use Rattle.um_syntax.specs.Lexeme.{starts_name}
 use Rattle.um_syntax.specs.Lexing.{is_glued, is_power_place}
@@ -32,33 +35,48 @@ pub record Scan : Type 0 where
 abbrev pub scan_start : Scan
 scan_start = record { at = 0; tokens = []; letters = []; pending = pending.Start }
 
--- the number of a word
-abbrev pub word_number : List ℕ → Option ℕ
-word_number letters = position_from (λ w. bytes_eq letters w) 0 words
+-- the reserved word with these letters
+abbrev pub keywords : List Keyword
+keywords =
+    keyword.Let ∷ keyword.Rec ∷ keyword.In ∷ keyword.If ∷ keyword.Then ∷ keyword.Else ∷ keyword.Match ∷ keyword.With
+    ∷ keyword.Type ∷ keyword.True ∷ keyword.False ∷ keyword.Not ∷ keyword.Num ∷ keyword.Bool ∷ keyword.List
+    ∷ keyword.Measure ∷ keyword.Pown ∷ []
 
--- a sign of one character, and one of two
-abbrev pub found : ℕ → List (ℕ × ℕ) → Option ℕ
+abbrev pub found_keyword : List ℕ → List Keyword → Option Keyword
+found_keyword letters [] = None
+found_keyword letters (k ∷ ks) = cond (bytes_eq letters (keyword_text k)) (Some k) (found_keyword letters ks)
+
+abbrev pub keyword_of : List ℕ → Option Keyword
+keyword_of letters = found_keyword letters keywords
+
+-- a symbol of one character, and one of two
+abbrev pub found : ℕ → List (ℕ × Symbol) → Option Symbol
 found c [] = None
 found c (x ∷ xs) = cond (c == x.0) (Some x.1) (found c xs)
 
-abbrev pub single_signs : List (ℕ × ℕ)
-single_signs =
-    (40, 0) ∷ (41, 1) ∷ (91, 2) ∷ (93, 3) ∷ (123, 4) ∷ (125, 5) ∷ (60, 7) ∷ (62, 8) ∷ (61, 9) ∷ (43, 12) ∷ (45, 13)
-    ∷ (42, 14) ∷ (47, 15) ∷ (94, 16) ∷ (59, 17) ∷ (58, 18) ∷ (44, 20) ∷ (46, 21) ∷ (124, 22) ∷ []
+abbrev pub single_symbols : List (ℕ × Symbol)
+single_symbols =
+    (40, symbol.LeftParen) ∷ (41, symbol.RightParen) ∷ (91, symbol.LeftBracket) ∷ (93, symbol.RightBracket)
+    ∷ (123, symbol.LeftBrace) ∷ (125, symbol.RightBrace) ∷ (60, symbol.Less) ∷ (62, symbol.Greater)
+    ∷ (61, symbol.Equal) ∷ (43, symbol.Plus) ∷ (45, symbol.Minus) ∷ (42, symbol.Star) ∷ (47, symbol.Slash)
+    ∷ (94, symbol.Caret) ∷ (59, symbol.Semicolon) ∷ (58, symbol.Colon) ∷ (44, symbol.Comma) ∷ (46, symbol.Dot)
+    ∷ (124, symbol.Bar) ∷ []
 
-abbrev pub single_sign : ℕ → Option ℕ
-single_sign c = found c single_signs
+abbrev pub single_symbol : ℕ → Option Symbol
+single_symbol c = found c single_symbols
 
-abbrev pub found_pair : ℕ → ℕ → List (ℕ × ℕ × ℕ) → Option ℕ
+abbrev pub found_pair : ℕ → ℕ → List (ℕ × ℕ × Symbol) → Option Symbol
 found_pair a b [] = None
 found_pair a b (x ∷ xs) = cond (a == x.0 && b == x.1) (Some x.2) (found_pair a b xs)
 
-abbrev pub double_signs : List (ℕ × ℕ × ℕ)
-double_signs =
-    (91, 60, 6) ∷ (60, 61, 10) ∷ (60, 62, 11) ∷ (58, 58, 19) ∷ (124, 124, 23) ∷ (38, 38, 24) ∷ (45, 62, 25) ∷ []
+abbrev pub double_symbols : List (ℕ × ℕ × Symbol)
+double_symbols =
+    (91, 60, symbol.AttributeOpen) ∷ (60, 61, symbol.LessEqual) ∷ (60, 62, symbol.NotEqual)
+    ∷ (58, 58, symbol.ColonColon) ∷ (124, 124, symbol.BarBar) ∷ (38, 38, symbol.AndAnd) ∷ (45, 62, symbol.Arrow)
+    ∷ []
 
-abbrev pub double_sign : ℕ → ℕ → Option ℕ
-double_sign a b = found_pair a b double_signs
+abbrev pub double_symbol : ℕ → ℕ → Option Symbol
+double_symbol a b = found_pair a b double_symbols
 
 -- Digits. A number stands still at 10 ^ 38, and a count of digits at 39: numbers in range have 38 digits at most.
 abbrev pub with_digit : ℕ → ℕ → ℕ
@@ -127,12 +145,12 @@ abbrev pub freed : Scan → Scan
 freed s = record { at = s.at; tokens = s.tokens; letters = s.letters; pending = pending.Free }
 
 -- the kind of an identifier's letters
-abbrev pub word_kind : List ℕ → Option ℕ → Kind
+abbrev pub word_kind : List ℕ → Option Keyword → Kind
 word_kind letters (Some k) = kind.Word k
 word_kind letters None = cond (bytes_eq letters (95 ∷ [])) kind.Hole (kind.Name letters)
 
 abbrev pub letters_kind : List ℕ → Kind
-letters_kind letters = word_kind letters (word_number letters)
+letters_kind letters = word_kind letters (keyword_of letters)
 
 abbrev pub identifier_pushed : Scan → ℕ → Scan
 identifier_pushed s start = pushed s (letters_kind s.letters) start s.at
@@ -140,7 +158,7 @@ identifier_pushed s start = pushed s (letters_kind s.letters) start s.at
 -- a variable's token; where the letters are a word, the last of them is a name by itself
 abbrev pub variable_pushed : Scan → ℕ → ℕ → Scan
 variable_pushed s start last =
-    cond (is_some (word_number s.letters))
+    cond (is_some (keyword_of s.letters))
     (pushed (pushed s (kind.Var (take (length s.letters - 1) s.letters)) start last) (kind.Name (drop (length s.letters - 1) s.letters)) last s.at)
     (pushed s (kind.Var s.letters) start s.at)
 
@@ -149,7 +167,7 @@ abbrev pub part_pushed : Part → Scan → ℕ → Result Scan LexStop
 part_pushed part.Whole s end = Ok s
 part_pushed part.Decimal s end = Ok s
 part_pushed part.Ratio s end = Ok s
-part_pushed part.Point s end = Ok (pushed s (kind.Sign dot) end s.at)
+part_pushed part.Point s end = Ok (pushed s (kind.Sign symbol.Dot) end s.at)
 part_pushed part.Over s end = Err (BadChar end)
 
 abbrev pub number_pushed : Scan → ℕ → ℕ → Part → Bool → Option Kind → Result Scan LexStop
@@ -157,7 +175,7 @@ number_pushed s start end p power (Some kind) = part_pushed p (pushed s kind sta
 number_pushed s start end p true None = Err (PowerText start)
 number_pushed s start end p false None = Err (NumberRange start)
 
-abbrev pub sign_pushed : Scan → ℕ → Option ℕ → Result Scan LexStop
+abbrev pub sign_pushed : Scan → ℕ → Option Symbol → Result Scan LexStop
 sign_pushed s start (Some k) = Ok (pushed s (kind.Sign k) start s.at)
 sign_pushed s start None = Err (BadChar start)
 
@@ -171,7 +189,7 @@ close s (pending.Quote start) = Err (BadChar start)
 close s (pending.Variable start last) = cond (bytes_eq s.letters (95 ∷ [])) (Err (BadChar start)) (Ok (variable_pushed s start last))
 close s (pending.Number start end p f) =
     number_pushed s start end p (is_power_place s.tokens) (figures_kind (is_power_place s.tokens) p f)
-close s (pending.Symbol start first) = sign_pushed s start (single_sign first)
+close s (pending.Symbol start first) = sign_pushed s start (single_symbol first)
 
 -- whether a character belongs to what has begun
 abbrev pub part_takes : Part → ℕ → Bool
@@ -186,7 +204,7 @@ takes (pending.Identifier start) c = is_xid_continue c
 takes (pending.Quote start) c = starts_name c
 takes (pending.Variable start last) c = is_xid_continue c
 takes (pending.Number start end p f) c = part_takes p c
-takes (pending.Symbol start first) c = is_some (double_sign first c) || (first == 47 && c == 47)
+takes (pending.Symbol start first) c = is_some (double_symbol first c) || (first == 47 && c == 47)
 
 abbrev pub at_state : Scan → ℕ → List ℕ → Pending → Scan
 at_state s at letters p = record { at = at; tokens = s.tokens; letters = letters; pending = p }
@@ -196,7 +214,7 @@ number_taken start end p f c next =
     cond (is_ascii_digit c) (pending.Number start next (part_after_digit p) (more_figures p f (c - 48)))
     (pending.Number start end (cond (c == 46) part.Point part.Over) f)
 
-abbrev pub symbol_taken : Scan → ℕ → ℕ → Option ℕ → Scan
+abbrev pub symbol_taken : Scan → ℕ → ℕ → Option Symbol → Scan
 symbol_taken s start next (Some k) = pushed (at_state s next s.letters pending.Free) (kind.Sign k) start next
 symbol_taken s start next None = at_state s next s.letters pending.Comment
 
@@ -209,7 +227,7 @@ taken s (pending.Identifier start) c next = at_state s next (s.letters ++ encode
 taken s (pending.Quote start) c next = at_state s next (s.letters ++ encode_utf8 c) (pending.Variable start s.at)
 taken s (pending.Variable start last) c next = at_state s next (s.letters ++ encode_utf8 c) (pending.Variable start s.at)
 taken s (pending.Number start end p f) c next = at_state s next s.letters (number_taken start end p f c next)
-taken s (pending.Symbol start first) c next = symbol_taken s start next (double_sign first c)
+taken s (pending.Symbol start first) c next = symbol_taken s start next (double_symbol first c)
 
 -- the state after the first character of something, where nothing has begun
 abbrev pub begun : Scan → ℕ → ℕ → Result Scan LexStop
@@ -218,7 +236,7 @@ begun s c next =
     (cond (starts_name c) (Ok (at_state s next (s.letters ++ encode_utf8 c) (pending.Identifier s.at)))
     (cond (is_ascii_digit c) (Ok (at_state s next s.letters (pending.Number s.at next part.Whole (first_figures (c - 48)))))
     (cond (c == 39) (Ok (at_state s next s.letters (pending.Quote s.at)))
-    (cond (is_some (single_sign c) || c == 38) (Ok (at_state s next s.letters (pending.Symbol s.at c)))
+    (cond (is_some (single_symbol c) || c == 38) (Ok (at_state s next s.letters (pending.Symbol s.at c)))
     (Err (BadChar s.at))))))
 
 -- no letter may directly follow a number, so none follows one that has its last digit

@@ -14,13 +14,11 @@ mod number;
 mod pending;
 mod place;
 mod scanner;
-mod table;
-#[cfg(test)]
-mod tests;
 mod token;
+mod vocabulary;
 
 pub use feed::Lexer;
 pub use lexer::lex;
 pub use place::line_column;
-pub use table::{SIGNS, WORDS};
 pub use token::{Kind, Letters, LexStop, NoMemory, TextStop, Token, Tokens};
+pub use vocabulary::{Keyword, Symbol};

@@ -1,10 +1,11 @@
 //! What has been read of a token that may go on.
 ghost use Rattle.std.specs.Prelude.{◌≡◌};
+ghost use Rattle.um_syntax.specs.Lexeme.{starts_name};
 ghost use Rattle.um_syntax.specs.Machine.{takes, ends_in_digit};
 
 use crate::number::{Figures, Part};
-use crate::table::{double_sign, starts_name};
-use unicode_ident::is_xid_continue;
+use crate::vocabulary::double_symbol;
+use unicode_ident::{is_xid_continue, is_xid_start};
 
 /// What has been read of the token that may go on, with the place where it starts.
 #[derive(Clone, Copy, Debug, PartialEq, Eq)]
@@ -15,7 +16,7 @@ pub enum Pending {
     Free,
     /// A comment.
     Comment,
-    /// Letters that begin a name, a word or a hole.
+    /// Letters that begin a name, a reserved word or a hole.
     Identifier {
         start: u32,
     },
@@ -35,11 +36,18 @@ pub enum Pending {
         part: Part,
         figures: Figures,
     },
-    /// The first character of a sign or of a comment.
+    /// The first character of a symbol or of a comment.
     Symbol {
         start: u32,
         first: char,
     },
+}
+
+// Whether a name may start with the character.
+pub fn starts_name(c: char) -> bool
+    ensures { result ≡ starts_name c }
+{
+    c == '_' || is_xid_start(c)
 }
 
 impl Pending {
@@ -54,7 +62,7 @@ impl Pending {
             Pending::Identifier { .. } | Pending::Variable { .. } => is_xid_continue(c),
             Pending::Quote { .. } => starts_name(c),
             Pending::Number { part, .. } => part.takes(c),
-            Pending::Symbol { first, .. } => double_sign(first, c).is_some()
+            Pending::Symbol { first, .. } => double_symbol(first, c).is_some()
                 || (first == '/' && c == '/'),
         }
     }

@@ -3,15 +3,15 @@ ghost use Rattle.std.specs.Prelude.{◌≡◌, ◌+◌, ◌<◌, ◌≤◌, ◌^
 ghost use Rattle.std.specs.Char.{len_utf8};
 ghost use Rattle.std.specs.Option.{option_copied};
 ghost use Rattle.um_syntax.specs.Gap.{is_space};
-ghost use Rattle.um_syntax.specs.Lexing.{is_glued, is_power_place, is_sign};
+ghost use Rattle.um_syntax.specs.Lexing.{is_glued, is_power_place, is_caret, is_minus};
 ghost use Rattle.um_syntax.specs.Machine.{scan_start, step, ended, taken, close, begun, pushed, identifier_pushed, variable_pushed, letters_kind, number_taken, FiguresFit, PendingFits};
 ghost use Rattle.um_syntax.specs.declared.pending.Pending.TheVariants as pending;
 ghost use Rattle.um_syntax.specs.Scanning.{scan_of, Follows, Answers};
 
 use crate::number::{Figures, Part};
-use crate::pending::Pending;
-use crate::table::{CARET, DOT, MINUS, double_sign, single_sign, starts_name, word_number};
+use crate::pending::{Pending, starts_name};
 use crate::token::{Kind, Letters, LexStop, Token, Tokens};
+use crate::vocabulary::{Symbol, double_symbol, keyword_of, single_symbol};
 use std::alloc::{AllocError, Global};
 use unicode_ident::is_xid_continue;
 
@@ -27,17 +27,32 @@ pub struct Scanner {
     pending: Pending,
 }
 
-// Whether the token is that sign.
-fn is_sign(token: Option<&Token>, sign: u8) -> bool
-    ensures { result ≡ is_sign sign (option_copied token.entry) }
+// Whether the token is `^`.
+fn is_caret(token: Option<&Token>) -> bool
+    ensures { result ≡ is_caret (option_copied token.entry) }
 {
     match token {
         Some(
             Token {
-                kind: Kind::Sign(k),
+                kind: Kind::Sign(Symbol::Caret),
                 ..
             },
-        ) => *k == sign,
+        ) => true,
+        _ => false,
+    }
+}
+
+// Whether the token is `-`.
+fn is_minus(token: Option<&Token>) -> bool
+    ensures { result ≡ is_minus (option_copied token.entry) }
+{
+    match token {
+        Some(
+            Token {
+                kind: Kind::Sign(Symbol::Minus),
+                ..
+            },
+        ) => true,
         _ => false,
     }
 }
@@ -46,9 +61,8 @@ fn is_sign(token: Option<&Token>, sign: u8) -> bool
 fn is_power_place(tokens: &[Token]) -> bool
     ensures { result ≡ is_power_place tokens.now }
 {
-    is_sign(tokens.last(), CARET)
-        || (is_sign(tokens.last(), MINUS)
-            && is_sign(tokens.get(tokens.len().saturating_sub(2)), CARET))
+    is_caret(tokens.last())
+        || (is_minus(tokens.last()) && is_caret(tokens.get(tokens.len().saturating_sub(2))))
 }
 
 // Whether a token that starts there directly follows the last.
@@ -105,7 +119,7 @@ impl Scanner {
         self.push(kind, start, self.at)
     }
 
-    // Ends the variable whose letters are at hand. Where they are a word, the last of them is a name by itself.
+    // Ends the variable whose letters are at hand. Where they are a reserved word, the last of them is a name by itself.
     fn close_variable(&mut self, start: u32, last: u32) -> Result<(), AllocError>
         ensures goes { OnOk result (scan_of self.new ≡ variable_pushed (scan_of self.old) start last) }
         ensures free { OnOk result (self.new.pending ≡ pending.Free) }
@@ -113,7 +127,7 @@ impl Scanner {
         ensures place { self.new.at ≡ self.old.at }
     {
         let letters = self.letters.as_bytes();
-        if word_number(&self.letters).is_none() {
+        if keyword_of(&self.letters).is_none() {
             let kind = Kind::Var(Letters::from_slice(self.alloc, letters)?);
             return self.push(kind, start, self.at);
         }
@@ -149,7 +163,7 @@ impl Scanner {
         self.push(kind, start, end)?;
         match part {
             Part::Whole | Part::Decimal | Part::Ratio => Ok(()),
-            Part::Point => Ok(self.push(Kind::Sign(DOT), end, self.at)?),
+            Part::Point => Ok(self.push(Kind::Sign(Symbol::Dot), end, self.at)?),
             Part::Over => Err(LexStop::BadChar { at: end }),
         }
     }
@@ -179,10 +193,10 @@ impl Scanner {
                 figures,
             } => return self.close_number(start, end, part, figures),
             Pending::Symbol { start, first } => {
-                let Some(sign) = single_sign(first) else {
+                let Some(symbol) = single_symbol(first) else {
                     return Err(LexStop::BadChar { at: start });
                 };
-                self.push(Kind::Sign(sign), start, self.at)?;
+                self.push(Kind::Sign(symbol), start, self.at)?;
             }
         }
         Ok(())
@@ -218,8 +232,8 @@ impl Scanner {
             } => {
                 self.pending = number_with(start, end, part, figures, c, next);
             }
-            Pending::Symbol { start, first } => match double_sign(first, c) {
-                Some(sign) => self.push(Kind::Sign(sign), start, next)?,
+            Pending::Symbol { start, first } => match double_symbol(first, c) {
+                Some(symbol) => self.push(Kind::Sign(symbol), start, next)?,
                 None => self.pending = Pending::Comment,
             },
         }
@@ -250,7 +264,7 @@ impl Scanner {
             };
         } else if c == '\'' {
             self.pending = Pending::Quote { start };
-        } else if single_sign(c).is_some() || c == '&' {
+        } else if single_symbol(c).is_some() || c == '&' {
             self.pending = Pending::Symbol { start, first: c };
         } else {
             return Err(LexStop::BadChar { at: start });
@@ -332,8 +346,8 @@ fn number_with(start: u32, end: u32, part: Part, figures: Figures, c: char, next
 fn letters_kind(alloc: Global, letters: &str) -> Result<Kind, AllocError>
     ensures { IfOk result (λ k. k ≡ letters_kind letters.now) }
 {
-    match word_number(letters) {
-        Some(k) => Ok(Kind::Word(k)),
+    match keyword_of(letters) {
+        Some(keyword) => Ok(Kind::Word(keyword)),
         None if letters == "_" => Ok(Kind::Hole),
         None => Ok(Kind::Name(Letters::from_slice(alloc, letters.as_bytes())?)),
     }

@@ -2,6 +2,7 @@
 ghost use Rattle.std.specs.Prelude.{◌≡◌, ℕ, List, IfOk};
 ghost use Rattle.um_syntax.specs.declared.token.LexStop.TheVariants.{NoMemory};
 
+use crate::vocabulary::{Keyword, Symbol};
 use std::alloc::{AllocError, Global};
 use std::marker::Model;
 use thiserror::Error;
@@ -67,12 +68,12 @@ pub enum Kind {
         digits: bool,
         one: bool,
     },
-    /// A reserved word, by its number in [`crate::WORDS`].
-    Word(u8),
+    /// A reserved word.
+    Word(Keyword),
     /// `_` alone.
     Hole,
-    /// A sign, by its number in [`crate::SIGNS`].
-    Sign(u8),
+    /// A symbol.
+    Sign(Symbol),
 }
 
 /// A token of a text.

@@ -5,3 +5,4 @@ pub mod Texts
 pub mod SchemeLines
 pub mod UnitTexts
 pub mod PlaceLaws
+pub mod PrintedSchemes

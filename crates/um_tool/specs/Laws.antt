@@ -1,10 +1,26 @@
--- Lines and columns counted on the bytes before a place are those counted on the characters before it.
--- Source: UTF-8 (RFC 3629), in which one byte begins each character and every other byte of it lies in 128..191.
-use Rattle.std.specs.Prelude.{ℕ, ◌≡◌, List, ◌++◌, codes, take}
+-- What report lines and answers say, in the subject's words.
+-- Source: UTF-8 (RFC 3629), in which one byte begins each character and every other byte of it lies in 128..191; principal
+-- schemes and typings are Kennedy's (1996).
+use Rattle.std.specs.Prelude.{ℕ, ◌≡◌, List, [], ◌∷◌, ◌++◌, codes, take, None, Ok}
 use Rattle.std.specs.Fmt.{decimal}
 use Rattle.std.specs.Str.{IsUtf8}
 use Rattle.um_syntax.specs.LineColumn.{line_after, column_after}
+use Rattle.um_syntax.specs.declared.token.Token.{Token}
+use Rattle.um_syntax.specs.Feeding.{IsTextAnswer}
+use Rattle.um_tree.specs.RawTree.{DeclSyntax}
+use Rattle.um_tree.specs.ProgramTree.{ProgramTree}
+use Rattle.um_parse.specs.Parsed.{IsRead}
+use Rattle.um_names.specs.Parts.{resolved_program}
+use Rattle.um_shape.specs.FirstFault.{first_fault}
+use Rattle.um_closed.specs.ClosedSchemes.{IsFirstUntyped}
+use Rattle.um_tool.specs.declared.status.Status.{Status}
+use Rattle.um_tool.specs.declared.status.Status.TheVariants.{Done, Units}
 use Rattle.um_tool.specs.Places.{line_of, column_of, place_text}
+use Rattle.um_tool.specs.Refusals.{placed, units_label}
+use Rattle.um_tool.specs.SchemeText.{IsSchemesText}
+use Rattle.um_tool.specs.Answer.{Answer}
+
+-- ---- lines and columns counted on bytes are those counted on characters
 
 -- The line by the bytes of a text is the line by its characters.
 abbrev pub LinesAgree : Type 0
@@ -16,4 +32,32 @@ ColumnsAgree = (before : List ℕ) → IsUtf8 before → column_of before ≡ co
 
 -- A place is printed as its line, a colon and its column, both by the characters before it and in decimal notation.
 abbrev pub PlacesArePrinted : Type 0
-PlacesArePrinted = (bytes : List ℕ) (at : ℕ) → IsUtf8 (take at bytes) → place_text bytes at ≡ decimal (line_after (take at bytes)) ++ codes ":" ++ decimal (column_after (take at bytes))
+PlacesArePrinted =
+    (bytes : List ℕ) (at : ℕ) → IsUtf8 (take at bytes) →
+    place_text bytes at ≡ decimal (line_after (take at bytes)) ++ codes ":" ++ decimal (column_after (take at bytes))
+
+-- ---- what `types` prints
+
+-- The bytes are a text whose tokens are a program within the limits; its names stand for this program, and it has no shape fault.
+pub record SpellsProgram (bytes : List ℕ) (p : ProgramTree) : Type 0 where
+  pub tokens : List Token
+  pub lexed : IsTextAnswer bytes (Ok tokens)
+  pub raw : List DeclSyntax
+  pub read : IsRead tokens raw
+  pub resolved : resolved_program raw ≡ Ok p
+  pub faultless : first_fault p ≡ None
+
+abbrev pub TypesAnswers : List ℕ → List ℕ → Status → Type 0
+TypesAnswers bytes text status = Answer (codes "types" ∷ []) bytes text status
+
+-- What `types` prints with status 0 are the principal schemes of the program that the bytes spell, a line for each function.
+abbrev pub PrintedTypesArePrincipalSchemes : Type 0
+PrintedTypesArePrincipalSchemes =
+    (bytes text : List ℕ) → TypesAnswers bytes text Done → (p : ProgramTree) × SpellsProgram bytes p × IsSchemesText p text
+
+-- The function that it names with the status of units is the first of the program without a typing.
+abbrev pub UnitsNameTheFirstUntyped : Type 0
+UnitsNameTheFirstUntyped =
+    (bytes text : List ℕ) → TypesAnswers bytes text Units →
+    (p : ProgramTree) × SpellsProgram bytes p
+    × ((i at : ℕ) × (untyped : IsFirstUntyped p i at) × (text ≡ placed (units_label untyped.function.name) bytes at))

@@ -2,7 +2,6 @@ pub mod Numbers
 pub mod Orders
 pub mod Steps
 pub mod Places
-pub mod Laws
 pub mod Refusals
 pub mod Reading
 pub mod UnitText
@@ -10,3 +9,4 @@ pub mod SchemeText
 pub mod Lines
 pub mod Answer
 pub mod Served
+pub mod Laws

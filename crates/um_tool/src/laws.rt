@@ -1,5 +1,13 @@
-//! A law of report lines. A call does nothing: what it ensures is the law.
+//! Laws of answers and report lines. A call does nothing: what it ensures is the law.
 ghost use Rattle.um_tool.specs.Laws.{LinesAgree, ColumnsAgree, PlacesArePrinted};
+ghost use Rattle.um_tool.specs.Laws.{PrintedTypesArePrincipalSchemes, UnitsNameTheFirstUntyped};
+
+/// What `types` printed with status 0 on some bytes are the principal schemes of the program that they spell, a line for
+/// each function in order; what it printed with the status of units names the first function without a typing.
+pub fn printed_types()
+    ensures schemes { PrintedTypesArePrincipalSchemes }
+    ensures refusal { UnitsNameTheFirstUntyped }
+{}
 
 /// The place of a report line, which is counted on bytes, is the line and the column that
 /// `um_syntax::line_column` counts on characters, wherever the bytes before the place are UTF-8.

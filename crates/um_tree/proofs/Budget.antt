@@ -4,7 +4,7 @@ use Rattle.std.proofs.Common.{◌≡◌, refl, ap, length, subst, ℕ, zero, suc
 use Rattle.um_tree.specs.ValueTree.{ValueTree, truth_value, number_value, list_value, record_value, no_values, more_values}
 use Rattle.um_tree.specs.ExprTree.{ExprTree, ExprTrees, truth, number, local, call, negate, not_expr, arith as arith_tree, compare, both, either, if, bind, split, nil, list_expr, cons, record_expr, field, none, more}
 use Rattle.um_tree.specs.ProgramTree.{FunctionTree}
-use Rattle.um_tree.specs.Meaning.{Out, gives, stops, Stop, wrong, then, Calling, spend, found, with_budget, calculated, compared, negated, opposite, longer, part_of, choose, on_list, means, all_mean, body_means, running, Means, AllMean, Outcome}
+use Rattle.um_tree.specs.Meaning.{Out, gives, stops, Stop, wrong, then, Calling, spend, found, with_budget, calculated, compared, negated, not_of, longer, field_of, choose, on_list, means, all_mean, body_means, running, Means, AllMean, Outcome}
 
 -- the rest, where there is one, is at most the budget
 abbrev pub Within : {A : Type 0} → ℕ → Out A → Type 0
@@ -53,7 +53,7 @@ module _ (calling : Calling) (low : (j : ℕ) (vs : List ValueTree) (b : ℕ) �
     within (local at k) vars b = within_found (slice_get vars k) b
     within (call at j es) vars b = within_then b _ _ (within_all es vars b) (λ vs c. low j vs c)
     within (negate at x) vars b = within_then b _ _ (within x vars b) (λ v c. within_result (negated v) c)
-    within (not_expr at x) vars b = within_then b _ _ (within x vars b) (λ v c. within_result (opposite v) c)
+    within (not_expr at x) vars b = within_then b _ _ (within x vars b) (λ v c. within_result (not_of v) c)
     within (arith_tree at op x y) vars b = within_then b _ _ (within x vars b) (λ v c. within_then c _ _ (within y vars c) (λ w d. within_result (calculated op v w) d))
     within (compare at sign x y) vars b = within_then b _ _ (within x vars b) (λ v c. within_then c _ _ (within y vars c) (λ w d. within_result (compared sign v w) d))
     within (both at x y) vars b = within_then b _ _ (within x vars b) (λ v c. within_choose v _ _ c (within y vars c) (omega arith))
@@ -65,7 +65,7 @@ module _ (calling : Calling) (low : (j : ℕ) (vs : List ValueTree) (b : ℕ) �
     within (list_expr at es) vars b = within_then b _ _ (within_all es vars b) (λ vs c. omega arith)
     within (cons at x y) vars b = within_then b _ _ (within x vars b) (λ v c. within_then c _ _ (within y vars c) (λ w d. within_result (longer v w) d))
     within (record_expr at r es) vars b = within_then b _ _ (within_all es vars b) (λ vs c. omega arith)
-    within (field at r k x) vars b = within_then b _ _ (within x vars b) (λ v c. within_result (part_of r k v) c)
+    within (field at r k x) vars b = within_then b _ _ (within x vars b) (λ v c. within_result (field_of r k v) c)
 
     pub within_all : (es : ExprTrees) (vars : List ValueTree) (b : ℕ) → Within b (all_mean calling es vars b)
     within_all none vars b = omega arith

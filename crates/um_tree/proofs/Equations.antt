@@ -5,7 +5,7 @@ use Rattle.um_tree.specs.TypeTree.{NoteTree}
 use Rattle.um_tree.specs.ValueTree.{ValueTree, truth_value, number_value, list_value, record_value, no_values, values_in_order}
 use Rattle.um_tree.specs.ExprTree.{ExprTree, ExprTrees, truth, number, local, call, negate, not_expr, arith as arith_tree, compare, both, either, if, bind, split, nil, list_expr, cons, record_expr, field, none, more}
 use Rattle.um_tree.specs.ProgramTree.{FunctionTree}
-use Rattle.um_tree.specs.Meaning.{gives, stops, budget_end, wrong, then, spend, found, with_budget, calculated, compared, negated, opposite, longer, part_of, choose, on_list, means, all_mean, body_means, running, Means, AllMean, Outcome}
+use Rattle.um_tree.specs.Meaning.{gives, stops, budget_end, wrong, then, spend, found, with_budget, calculated, compared, negated, not_of, longer, field_of, choose, on_list, means, all_mean, body_means, running, Means, AllMean, Outcome}
 use Rattle.um_tree.specs.declared.note.UnitNote.{UnitNote}
 use Rattle.um_tree.specs.declared.expression.Arith.{Arith}
 use Rattle.um_tree.specs.declared.expression.Sign.{Sign}
@@ -42,7 +42,7 @@ module _ (fs : List FunctionTree) (vars : List ValueTree) where
   unfolding Means
   Means-negate at x b = refl
 
-  pub Means-not : (at : ℕ) (x : ExprTree) (b : ℕ) → Means fs vars (not_expr at x) b ≡ then (Means fs vars x b) (λ v c. with_budget (opposite v) c)
+  pub Means-not : (at : ℕ) (x : ExprTree) (b : ℕ) → Means fs vars (not_expr at x) b ≡ then (Means fs vars x b) (λ v c. with_budget (not_of v) c)
   unfolding Means
   Means-not at x b = refl
 
@@ -86,7 +86,7 @@ module _ (fs : List FunctionTree) (vars : List ValueTree) where
   unfolding Means AllMean
   Means-record at r es b = refl
 
-  pub Means-field : (at r n : ℕ) (x : ExprTree) (b : ℕ) → Means fs vars (field at r n x) b ≡ then (Means fs vars x b) (λ v c. with_budget (part_of r n v) c)
+  pub Means-field : (at r n : ℕ) (x : ExprTree) (b : ℕ) → Means fs vars (field at r n x) b ≡ then (Means fs vars x b) (λ v c. with_budget (field_of r n v) c)
   unfolding Means
   Means-field at r n x b = refl
 

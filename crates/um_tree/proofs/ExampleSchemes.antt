@@ -1,13 +1,14 @@
 -- Schemes of small programs: the typings are exactly the instances.
 -- Source: Kennedy 1996: principal schemes.
-use Rattle.std.proofs.Common.{◌≡◌, sym, ap, subst, ◌∙◌, inl, inr, ℕ, [], ◌∷◌, ◌++◌, slice_get, arith}
-use Rattle.um_units.specs.PowerMap.{PowerMap, one, mul, replace}
+use Rattle.std.proofs.Common.{◌≡◌, refl, sym, ap, subst, ◌∙◌, inl, inr, ℕ, [], ◌∷◌, ◌++◌, slice_get, arith}
+use Rattle.um_units.specs.PowerMap.{PowerMap, product, one, mul, replace}
 use Rattle.um_units.proofs.Group.{mul-one, mul_cancel}
 use Rattle.um_units.proofs.Replacement.{replace-one, replace-variable}
 use Rattle.um_tree.specs.TypeTree.{num_type, list_type}
 use Rattle.um_tree.specs.ProgramTree.{Signature, SchemeTree}
 use Rattle.um_tree.specs.Typing.{put_signature, Typing}
-use Rattle.um_tree.specs.Scheme.{IsPrincipal, IsInstance}
+use Rattle.um_tree.specs.Scheme.{IsPrincipal, IsInstance, IsNumberedScheme}
+use Rattle.um_tree.proofs.Numbered.{numbered_below}
 use Rattle.um_tree.proofs.ExamplePrograms.{identity, zeros, squares, sum}
 use Rattle.um_tree.proofs.ExampleTypings.{signature, variable, signature_is, same_number, same_some, same_item, second_of, identity_typed, zero_typed, squares_typed, sum_typed}
 
@@ -23,8 +24,15 @@ identity_instance g m =
     let same = ap (λ v. signature (num_type v ∷ []) (num_type v)) (replace-variable (λ k. u) 0) in
     (λ k. u, signature_is g _ _ params result ∙ sym same)
 
+identity_numbered : IsNumberedScheme identity_scheme
+unfolding product
+identity_numbered = inr (refl, inl (omega arith, refl))
+
 identity_principal : IsPrincipal identity 0 identity_scheme
-identity_principal g = (identity_instance g, λ m. subst (Typing identity 0) (sym m.1) (identity_typed (replace m.0 (variable 0))))
+identity_principal = record {
+  below = numbered_below identity_scheme identity_numbered;
+  instances = λ g. (identity_instance g, λ m. subst (Typing identity 0) (sym m.1) (identity_typed (replace m.0 (variable 0))));
+}
 
 -- ---- let z = 0<_> has num<'a>
 abbrev zero_scheme : SchemeTree
@@ -35,8 +43,15 @@ zero_instance g m =
     let u = m.body.0 in
     (λ k. u, signature_is g _ _ m.params m.body.2 ∙ sym (ap (λ v. signature [] (num_type v)) (replace-variable (λ k. u) 0)))
 
+zero_numbered : IsNumberedScheme zero_scheme
+unfolding product
+zero_numbered = inr (refl, refl)
+
 zero_principal : IsPrincipal zeros 0 zero_scheme
-zero_principal g = (zero_instance g, λ m. subst (Typing zeros 0) (sym m.1) (zero_typed (replace m.0 (variable 0))))
+zero_principal = record {
+  below = numbered_below zero_scheme zero_numbered;
+  instances = λ g. (zero_instance g, λ m. subst (Typing zeros 0) (sym m.1) (zero_typed (replace m.0 (variable 0))));
+}
 
 -- ---- let rec sum (l: num<_> list) : num<_> = match l with [] -> 0<_> | x :: r -> x + sum r has num<'a> list -> num<'a>
 abbrev sum_scheme : SchemeTree
@@ -52,8 +67,15 @@ sum_instance g m =
     let same = ap (λ v. signature (list_type (num_type v) ∷ []) (num_type v)) (replace-variable (λ k. u) 0) in
     (λ k. u, signature_is g _ _ params result ∙ sym same)
 
+sum_numbered : IsNumberedScheme sum_scheme
+unfolding product
+sum_numbered = inr (refl, inl (omega arith, refl))
+
 sum_principal : IsPrincipal sum 0 sum_scheme
-sum_principal g = (sum_instance g, λ m. subst (Typing sum 0) (sym m.1) (sum_typed (replace m.0 (variable 0))))
+sum_principal = record {
+  below = numbered_below sum_scheme sum_numbered;
+  instances = λ g. (sum_instance g, λ m. subst (Typing sum 0) (sym m.1) (sum_typed (replace m.0 (variable 0))));
+}
 
 -- ---- let rec f (n: num) (x: num<_>) : num<_> = if n < 1 then x else f (n - 1) (x * x) has num -> num -> num: its own call
 -- squares the unit of x, and a unit that is its own square is 1
@@ -93,6 +115,15 @@ module _ (g : Signature) (m : Typing squares 0 g) where
 squares_at : (s : ℕ → PowerMap) → put_signature s squares_scheme.signature ≡ squares_scheme.signature
 squares_at s = ap (λ u. signature (num_type u ∷ num_type u ∷ []) (num_type u)) (replace-one s)
 
+squares_numbered : IsNumberedScheme squares_scheme
+unfolding product
+squares_numbered = refl
+
 squares_principal : IsPrincipal squares 0 squares_scheme
-squares_principal g =
-    (λ m. (λ k. one, squares_only g m ∙ sym (squares_at (λ k. one))), λ m. subst (Typing squares 0) (sym (m.1 ∙ squares_at m.0)) squares_typed)
+squares_principal = record {
+  below = numbered_below squares_scheme squares_numbered;
+  instances = λ g. (
+    λ m. (λ k. one, squares_only g m ∙ sym (squares_at (λ k. one))),
+    λ m. subst (Typing squares 0) (sym (m.1 ∙ squares_at m.0)) squares_typed,
+  );
+}

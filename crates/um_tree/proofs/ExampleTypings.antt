@@ -9,7 +9,8 @@ use Rattle.um_tree.specs.declared.note.UnitNote.TheVariants.{Hole, Written}
 use Rattle.um_tree.specs.TypeTree.{TypeTree, bool_type, num_type, list_type, record_type, num_note}
 use Rattle.um_tree.specs.ProgramTree.{Signature, SchemeTree}
 use Rattle.um_tree.specs.Typing.{put_signature, UnitsMatch, TypesMatch, Typing}
-use Rattle.um_tree.specs.Scheme.{IsPrincipal}
+use Rattle.um_tree.specs.Scheme.{IsInstance, IsPrincipal, IsNumberedScheme}
+use Rattle.um_tree.proofs.Numbered.{numbered_below}
 use Rattle.um_tree.proofs.ExamplePrograms.{metre, second, kilogram, newton, marked, area_of_metres, area, identity, zeros, squares, sum, weights, make, pick}
 
 abbrev pub signature : List TypeTree → TypeTree → Signature
@@ -80,12 +81,16 @@ area_instance u v =
     ∙ ap (λ x. signature (num_type x ∷ num_type (replace (pair_at u v) (variable 1)) ∷ []) (num_type (mul x (replace (pair_at u v) (variable 1))))) first
     ∙ ap (λ y. signature (num_type u ∷ num_type y ∷ []) (num_type (mul u y))) other
 
+area_numbered : IsNumberedScheme area_scheme
+unfolding product
+area_numbered = inr (refl, inr (refl, inl (omega arith, inl (omega arith, refl))))
+
 -- its typings are exactly the instances of num<'a> -> num<'b> -> num<'a 'b>
 area_principal : IsPrincipal area 0 area_scheme
-area_principal g = (there, back)
+area_principal = record { below = numbered_below area_scheme area_numbered; instances = λ g. (there g, back g) }
   where
-    there : Typing area 0 g → (units : ℕ → PowerMap) × (g ≡ put_signature units area_scheme.signature)
-    there m =
+    there : (g : Signature) → Typing area 0 g → IsInstance area_scheme g
+    there g m =
         let found = two_holes m.choice g.params m.params in
         let u = found.0 in
         let v = found.1.0 in
@@ -95,8 +100,8 @@ area_principal g = (there, back)
         let unit = m.body.5 ∙ ap (λ x. mul x m.body.1) (sym left) ∙ ap (mul u) (sym right) in
         (pair_at u v, signature_is g _ _ params (m.body.6 ∙ ap num_type unit) ∙ sym (area_instance u v))
 
-    back : (units : ℕ → PowerMap) × (g ≡ put_signature units area_scheme.signature) → Typing area 0 g
-    back m =
+    back : (g : Signature) → IsInstance area_scheme g → Typing area 0 g
+    back g m =
         let u = replace m.0 (variable 0) in
         let v = replace m.0 (variable 1) in
         subst (Typing area 0) (ap (λ w. signature (num_type u ∷ num_type v ∷ []) (num_type w)) (sym (replace-mul m.0 (variable 0) (variable 1))) ∙ sym m.1) (area_typed u v)
@@ -134,14 +139,14 @@ squares_typed = record {
   params = (num_type one, num_type one ∷ [], (one, sym (replace-one _), refl), (num_type one, [], (one, tt, refl), refl, refl), refl);
   result = (one, tt, refl);
   body = (
-    (one, refl, (one, sym (replace-one _), refl), refl),
+    (one, refl, (one, refl, refl), refl),
     refl,
     (
       num_type one ∷ num_type one ∷ [],
       (
         num_type one,
         num_type one ∷ [],
-        (one, one, one, refl, (one, sym (replace-one _), refl), (refl, refl), refl),
+        (one, one, one, refl, (one, refl, refl), (refl, refl), refl),
         (num_type one, [], (one, one, one, refl, refl, sym (mul-one one), refl), refl, refl),
         refl,
       ),
@@ -207,15 +212,12 @@ closed_newton s =
 abbrev gravity : PowerMap
 gravity = mul metre (inv (mul second second))
 
-closed_gravity : (s : ℕ → PowerMap) → replace s gravity ≡ gravity
-closed_gravity s = replace-mul s metre (inv (mul second second)) ∙ ap (mul (replace s metre)) (closed_per_second s) ∙ ap (λ u. mul u (inv (mul second second))) (replace-base s 0)
-
 weight_typed : Typing weights 0 (signature (num_type kilogram ∷ []) (num_type newton))
 weight_typed = record {
   choice = λ k. one;
   params = (num_type kilogram, [], (kilogram, sym (replace-base _ 2), refl), refl, refl);
   result = tt;
-  body = (kilogram, gravity, newton, refl, (gravity, sym (closed_gravity _), refl), mul_assoc kilogram metre (inv (mul second second)), refl);
+  body = (kilogram, gravity, newton, refl, (gravity, refl, refl), mul_assoc kilogram metre (inv (mul second second)), refl);
 }
 
 push_typed : Typing weights 1 (signature (num_type newton ∷ []) (num_type newton))
@@ -249,7 +251,7 @@ make_typed u = record {
   choice = λ k. one;
   params = refl;
   result = tt;
-  body = (u ∷ [], marked, record { declared = refl; units = refl }, (num_type one, [], (one, sym (replace-one _), refl), refl, ap (λ v. num_type v ∷ []) (replace-one _)), refl);
+  body = (u ∷ [], marked, record { declared = refl; units = refl }, (num_type one, [], (one, refl, refl), refl, ap (λ v. num_type v ∷ []) (replace-one _)), refl);
 }
 
 -- a record has as many units as are declared

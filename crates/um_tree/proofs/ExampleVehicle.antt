@@ -107,8 +107,8 @@ count_typed u = record {
   body = (
     num_type u,
     refl,
-    (one, sym (replace-one _), refl),
-    (one, one, one, (one, sym (replace-one _), refl), (list_type (num_type u) ∷ [], (list_type (num_type u), [], refl, refl, refl), inr (refl, record { recursive = refl; noted = refl }, refl)), (refl, refl), refl),
+    (one, refl, refl),
+    (one, one, one, (one, refl, refl), (list_type (num_type u) ∷ [], (list_type (num_type u), [], refl, refl, refl), inr (refl, record { recursive = refl; noted = refl }, refl)), (refl, refl), refl),
   );
 }
 
@@ -187,7 +187,7 @@ kinetic_typed = record {
   choice = λ k. one;
   params = (num_type kilogram, num_type speed ∷ [], (kilogram, sym (replace-base _ 2), refl), (num_type speed, [], (speed, sym (closed_speed _), refl), refl, refl), refl);
   result = (joule, sym (closed_joule _), refl);
-  body = (mul (mul kilogram speed) speed, one, joule, (mul kilogram speed, speed, mul (mul kilogram speed) speed, (kilogram, speed, mul kilogram speed, refl, refl, refl, refl), refl, refl, refl), (one, sym (replace-one _), refl), sym kinetic_unit, refl);
+  body = (mul (mul kilogram speed) speed, one, joule, (mul kilogram speed, speed, mul (mul kilogram speed) speed, (kilogram, speed, mul kilogram speed, refl, refl, refl, refl), refl, refl, refl), (one, refl, refl), sym kinetic_unit, refl);
 }
 
 joule_apart : joule ≡ kilogram → ⊥
@@ -202,15 +202,12 @@ metres_unit : mul foot (per metre foot) ≡ metre
 unfolding product
 metres_unit = same_from_terms _ _ refl
 
-closed_rate : (s : ℕ → PowerMap) → replace s (per metre foot) ≡ per metre foot
-closed_rate s = replace-mul s metre (inv foot) ∙ ap (λ u. mul u (replace s (inv foot))) (replace-base s 0) ∙ ap (mul metre) (replace-inv s foot ∙ ap inv (replace-base s 3))
-
 metres_typed : Typing vehicle 4 (signature (num_type foot ∷ []) (num_type metre))
 metres_typed = record {
   choice = λ k. one;
   params = (num_type foot, [], (foot, sym (replace-base _ 3), refl), refl, refl);
   result = tt;
-  body = (foot, per metre foot, metre, refl, (per metre foot, sym (closed_rate _), refl), sym metres_unit, refl);
+  body = (foot, per metre foot, metre, refl, (per metre foot, refl, refl), sym metres_unit, refl);
 }
 
 foot_apart : metre ≡ foot → ⊥

@@ -6,6 +6,8 @@ pub mod Growth
 pub mod Homomorphisms
 pub mod Below
 pub mod Moved
+pub mod WrittenUnits
+pub mod Numbered
 pub mod TypingLaws
 pub mod ShapeLaws
 pub mod BudgetLaws

@@ -1,5 +1,5 @@
 -- A typing stays one where each unit is changed by a homomorphism that leaves what is written.
-use Rattle.std.proofs.Common.{◌≡◌, refl, ap, subst, ◌∙◌, ℕ, zero, suc, List, [], ◌∷◌, ◌++◌, map, get_or, Option, Some, None, slice_get, inl, inr, cond, nat_eq, true, false, arith}
+use Rattle.std.proofs.Common.{◌≡◌, refl, ap, subst, ◌∙◌, ℕ, zero, suc, ◌≤◌, List, [], ◌∷◌, ◌++◌, map, get_or, Option, Some, None, slice_get, inl, inr, cond, nat_eq, true, false, arith}
 use Rattle.std.specs.Prelude.{All}
 use Rattle.std.proofs.lemmas.List.{map-append, length-map}
 use Rattle.um_units.specs.PowerMap.{PowerMap, one, mul, inv, replace}
@@ -13,7 +13,7 @@ use Rattle.um_tree.specs.TypeTree.{TypeTree, bool_type, num_type, list_type, rec
 use Rattle.um_tree.specs.ExprTree.{ExprTree, ExprTrees, truth, number, local, call, negate, not_expr, arith as arith_tree, compare, both, either, if, bind, split, nil, list_expr, cons, record_expr, field, none, more}
 use Rattle.um_tree.specs.ProgramTree.{RecordTree, FunctionTree, ProgramTree, Signature}
 use Rattle.um_tree.specs.Typing.{put, unit_at, UnitMatches, UnitsMatch, Matches, TypesMatch, ResultMatches, ArithUnit, LiteralUnit, EachIs, field_types, IsRecordAt, Typed, AllTyped, Earlier, Calls, IsTypingOf, TypingAt, typings_below, Typing}
-use Rattle.um_tree.specs.Laws.{UnitNoteHas, NoteHas, TypeHas, ExprHas, ExprsHave, ResultHas, FunctionHas, ProgramHas, moved, moved_signature, IsHomomorphism, Leaves}
+use Rattle.um_tree.specs.Laws.{UnitNoteHas, NoteHas, TypeHas, ExprHas, ExprsHave, ResultHas, FunctionHas, ProgramHas, moved, moved_signature, IsHomomorphism, Leaves, Fixes}
 use Rattle.um_tree.proofs.Homomorphisms.{h-one, h-inv, h-replace}
 
 -- ---- lists
@@ -69,9 +69,9 @@ module _ (h : PowerMap → PowerMap) (h-mul : IsHomomorphism h) where
   arith_unit Mul u v w m = ap h m ∙ h-mul u v
   arith_unit Div u v w m = ap h m ∙ h-mul u (inv v) ∙ ap (mul (h u)) (h-inv h h-mul v)
 
-  literal_unit : (choice : ℕ → PowerMap) (c : Frac) (n : UnitNote) (u : PowerMap) → UnitNoteHas (Leaves h) n → LiteralUnit choice c n u → LiteralUnit (λ k. h (choice k)) c n (h u)
-  literal_unit choice c Hole u w m = m
-  literal_unit choice c (Written v) u w m = ap h m ∙ h-replace h h-mul v w choice
+  literal_unit : (c : Frac) (n : UnitNote) (u : PowerMap) → UnitNoteHas (Fixes h) n → LiteralUnit c n u → LiteralUnit c n (h u)
+  literal_unit c Hole u w m = m
+  literal_unit c (Written v) u w m = ap h m ∙ w
 
   each_is : (s : TypeTree) (ts : List TypeTree) → EachIs s ts → EachIs (moved h s) (map (moved h) ts)
   each_is s [] m = tt
@@ -110,9 +110,9 @@ module _ (h : PowerMap → PowerMap) (h-mul : IsHomomorphism h) where
       wider vars others e t m = subst (λ vs. Typed records calls' (λ k. h (choice k)) vs e t) (map-append (moved h) vars others) m
 
       mutual
-        typed : (vars : List TypeTree) (e : ExprTree) (t : TypeTree) → ExprHas (Leaves h) e → Typed records calls choice vars e t → Typed records calls' (λ k. h (choice k)) (map (moved h) vars) e (moved h t)
+        typed : (vars : List TypeTree) (e : ExprTree) (t : TypeTree) → ExprHas (Leaves h) (Fixes h) e → Typed records calls choice vars e t → Typed records calls' (λ k. h (choice k)) (map (moved h) vars) e (moved h t)
         typed vars (truth at b) t w m = ap (moved h) m
-        typed vars (number at c n) t w m = (h m.0, literal_unit choice c n m.0 w m.1, ap (moved h) m.2)
+        typed vars (number at c n) t w m = (h m.0, literal_unit c n m.0 w m.1, ap (moved h) m.2)
         typed vars (local at k) t w m = slice_get_moved (moved h) vars k t m
         typed vars (call at j es) t w m = (map (moved h) m.0, all_typed vars es m.0 w m.1, change j _ m.2)
         typed vars (negate at a) t w m = (h m.0, typed vars a _ w m.1, ap (moved h) m.2)
@@ -134,7 +134,7 @@ module _ (h : PowerMap → PowerMap) (h-mul : IsHomomorphism h) where
             let declared = field_type m.0 m.2 (All_at (TypeHas (Leaves h)) (field_types m.1) k m.2 m.4 (fields_left r m.0 m.1 m.3)) in
             (map h m.0, m.1, m.2, record_at r m.0 m.1 m.3, m.4, typed vars a _ w m.5, ap (moved h) m.6 ∙ declared)
 
-        all_typed : (vars : List TypeTree) (es : ExprTrees) (ts : List TypeTree) → ExprsHave (Leaves h) es → AllTyped records calls choice vars es ts → AllTyped records calls' (λ k. h (choice k)) (map (moved h) vars) es (map (moved h) ts)
+        all_typed : (vars : List TypeTree) (es : ExprTrees) (ts : List TypeTree) → ExprsHave (Leaves h) (Fixes h) es → AllTyped records calls choice vars es ts → AllTyped records calls' (λ k. h (choice k)) (map (moved h) vars) es (map (moved h) ts)
         all_typed vars none ts w m = ap (map (moved h)) m
         all_typed vars (more e es) ts w m = (moved h m.0, map (moved h) m.1, typed vars e m.0 w.0 m.2, all_typed vars es m.1 w.1 m.3, ap (map (moved h)) m.4)
 
@@ -144,7 +144,7 @@ module _ (h : PowerMap → PowerMap) (h-mul : IsHomomorphism h) where
       calls_stay f self j g (inl m) = inl (m.0, stays j g m.1)
       calls_stay f self j g (inr m) = inr (m.0, m.1, ap (moved_signature h) m.2)
 
-      typing_of : (f : FunctionTree) (g : Signature) → FunctionHas (Leaves h) f → IsTypingOf records earlier i f g → IsTypingOf records earlier i f (moved_signature h g)
+      typing_of : (f : FunctionTree) (g : Signature) → FunctionHas (Leaves h) (Fixes h) f → IsTypingOf records earlier i f g → IsTypingOf records earlier i f (moved_signature h g)
       typing_of f g w m = record {
         choice = λ k. h (m.choice k);
         params = types_match m.choice f.params g.params w.params m.params;
@@ -152,22 +152,20 @@ module _ (h : PowerMap → PowerMap) (h-mul : IsHomomorphism h) where
         body = typed (Calls earlier i f g) (Calls earlier i f (moved_signature h g)) (calls_stay f g) m.choice g.params f.body g.result w.body m.body;
       }
 
-      pub typing_at : (o : Option FunctionTree) → ((f : FunctionTree) → o ≡ Some f → FunctionHas (Leaves h) f) → (g : Signature) → TypingAt records earlier i o g → TypingAt records earlier i o (moved_signature h g)
+      pub typing_at : (o : Option FunctionTree) → ((f : FunctionTree) → o ≡ Some f → FunctionHas (Leaves h) (Fixes h) f) → (g : Signature) → TypingAt records earlier i o g → TypingAt records earlier i o (moved_signature h g)
       typing_at None w g m = m
       typing_at (Some f) w g m = typing_of f g (w f refl) m
 
-  -- ---- a program
-  module _ (p : ProgramTree) (left : ProgramHas (Leaves h) p) where
-    function_left : (i : ℕ) (f : FunctionTree) → slice_get p.functions i ≡ Some f → FunctionHas (Leaves h) f
-    function_left i f e = All_at (FunctionHas (Leaves h)) p.functions i f e left.functions
-
-    below_moved : (n j : ℕ) (g : Signature) → typings_below p n j g → typings_below p n j (moved_signature h g)
-    below_moved zero j g m = m
-    below_moved (suc n) j g m =
+  -- ---- a program, up to function i
+  module _ (p : ProgramTree) (i : ℕ) (left : ProgramHas (Leaves h) (Fixes h) p i) where
+    below_moved : (n : ℕ) → n ≤ i → (j : ℕ) (g : Signature) → typings_below p n j g → typings_below p n j (moved_signature h g)
+    below_moved zero low j g m = m
+    below_moved (suc n) low j g m =
         elim (nat_eq j n) as (λ b. cond b (TypingAt p.records (typings_below p n) n (slice_get p.functions n) g) (typings_below p n j g) → cond b (TypingAt p.records (typings_below p n) n (slice_get p.functions n) (moved_signature h g)) (typings_below p n j (moved_signature h g))) [
-          | true ↦ λ m. typing_at p.records left.records (typings_below p n) (below_moved n) n (slice_get p.functions n) (function_left n) g m
-          | false ↦ λ m. below_moved n j g m
+          | true ↦ λ m. typing_at p.records left.records (typings_below p n) (below_moved n (omega arith)) n (slice_get p.functions n) (λ f. left.functions n f (omega arith)) g m
+          | false ↦ λ m. below_moved n (omega arith) j g m
         ] m
 
-    pub typing_moved : (i : ℕ) (g : Signature) → Typing p i g → Typing p i (moved_signature h g)
-    typing_moved i g m = typing_at p.records left.records (typings_below p i) (below_moved i) i (slice_get p.functions i) (function_left i) g m
+    pub typing_moved : (g : Signature) → Typing p i g → Typing p i (moved_signature h g)
+    typing_moved g m =
+        typing_at p.records left.records (typings_below p i) (below_moved i (omega arith)) i (slice_get p.functions i) (λ f. left.functions i f (omega arith)) g m

@@ -1,6 +1,7 @@
 -- Formed programs and formed inputs: what the reader of a text promises, and what each call above asks for.
 -- Source: this project's own rules and limits; names by Unicode Standard Annex 31.
-use Rattle.std.specs.Prelude.{◌≡◌, ◌≢◌, ◌<◌, ◌≤◌, ◌+◌, ◌==◌, ◌||◌, ◌⊎◌, ℕ, Bool, true, All, IsTrue, IsSome, pos, List, [], ◌∷◌, ◌++◌, length, map, codes, slice_get, Option, Some, None}
+use Rattle.std.specs.Prelude.{◌≡◌, ◌≢◌, ◌<◌, ◌≤◌, ◌+◌, ◌==◌, ◌||◌, ◌⊎◌, ℕ, Bool, true, All, IsTrue, IsSome, pos, List}
+use Rattle.std.specs.Prelude.{[], ◌∷◌, ◌++◌, length, map, codes, slice_get, Option, Some, None}
 use Rattle.std.specs.Str.{encode_utf8_all}
 use Rattle.std.specs.List.{flat_map}
 use Rattle.unicode_ident.specs.Ident.{is_xid_start, is_xid_continue}
@@ -11,17 +12,21 @@ use Rattle.um_frac.specs.declared.number.Frac.{Frac}
 use Rattle.um_frac.specs.Fraction.{numerator}
 use Rattle.um_tree.specs.declared.note.UnitNote.{UnitNote}
 use Rattle.um_tree.specs.declared.note.UnitNote.TheVariants.{Hole, Written}
-use Rattle.um_tree.specs.TypeTree.{TypeTree, bool_type, num_type, list_type, record_type, NoteTree, bool_note, num_note, list_note, record_note}
-use Rattle.um_tree.specs.ExprTree.{ExprTree, ExprTrees, truth, number, local, call, negate, not_expr, arith, compare, both, either, if, bind, split, nil, list_expr, cons, record_expr, field, none, more}
-use Rattle.um_tree.specs.ValueTree.{InputTree, InputTrees, truth_input, number_input, list_input, record_input, no_inputs, more_inputs}
+use Rattle.um_tree.specs.TypeTree.{TypeTree, bool_type, num_type, list_type, record_type, NoteTree, bool_note}
+use Rattle.um_tree.specs.TypeTree.{num_note, list_note, record_note}
+use Rattle.um_tree.specs.ExprTree.{ExprTree, ExprTrees, truth, number, local, call, negate, not_expr, arith, compare}
+use Rattle.um_tree.specs.ExprTree.{both, either, if, bind, split, nil, list_expr, cons, record_expr, field, none}
+use Rattle.um_tree.specs.ExprTree.{more}
+use Rattle.um_tree.specs.ValueTree.{InputTree, InputTrees, truth_input, number_input, list_input, record_input}
+use Rattle.um_tree.specs.ValueTree.{no_inputs, more_inputs}
 use Rattle.um_tree.specs.ProgramTree.{RecordTree, FunctionTree, ProgramTree}
 use Rattle.um_tree.specs.TreeHeights.{type_tree_height, note_tree_height, tree_height, tree_nodes}
 
 -- ---- names
 
--- the words that are no names
-abbrev pub words : List (List ℕ)
-words =
+-- the words that are no names: the tokens' keywords
+abbrev pub reserved_words : List (List ℕ)
+reserved_words =
     codes "let" ∷ codes "rec" ∷ codes "in" ∷ codes "if" ∷ codes "then" ∷ codes "else" ∷ codes "match" ∷ codes "with"
     ∷ codes "type" ∷ codes "true" ∷ codes "false" ∷ codes "not" ∷ codes "num" ∷ codes "bool" ∷ codes "list"
     ∷ codes "Measure" ∷ codes "pown" ∷ []
@@ -39,19 +44,19 @@ IsIdentifier [] = ⊥
 IsIdentifier (c ∷ cs) = (starts_name c ≡ true) × AllContinue cs
 
 -- the bytes of an identifier that is neither a word nor `_` alone
-pub record IsNameText (bytes : List ℕ) : Type 0 where
+pub record IsName (bytes : List ℕ) : Type 0 where
   pub text : List ℕ
   pub is : bytes ≡ encode_utf8_all text
   pub identifier : IsIdentifier text
   pub no_hole : text ≢ 95 ∷ []
-  pub no_word : (k : ℕ) → slice_get words k ≡ Some text → ⊥
+  pub no_word : (k : ℕ) → slice_get reserved_words k ≡ Some text → ⊥
 
 -- no two of these are equal
 abbrev pub AreDistinct : List (List ℕ) → Type 0
 AreDistinct xs = (i j : ℕ) (x : List ℕ) → slice_get xs i ≡ Some x → slice_get xs j ≡ Some x → i ≡ j
 
 abbrev pub AreNames : List (List ℕ) → Type 0
-AreNames xs = (k : ℕ) (x : List ℕ) → slice_get xs k ≡ Some x → IsNameText x
+AreNames xs = (k : ℕ) (x : List ℕ) → slice_get xs k ≡ Some x → IsName x
 
 -- ---- units and types
 
@@ -76,13 +81,15 @@ abbrev pub IsTypeIn : ℕ → ℕ → List RecordTree → TypeTree → Type 0
 IsTypeIn bases vars records bool_type = Unit {0}
 IsTypeIn bases vars records (num_type u) = IsUnitIn bases vars u
 IsTypeIn bases vars records (list_type t) = IsTypeIn bases vars records t
-IsTypeIn bases vars records (record_type r us) = TakesUnits records r (length us) × All (IsUnitIn bases vars) us
+IsTypeIn bases vars records (record_type r us) =
+    TakesUnits records r (length us) × All (IsUnitIn bases vars) us
 
 abbrev pub IsNoteTreeIn : ℕ → ℕ → List RecordTree → NoteTree → Type 0
 IsNoteTreeIn bases vars records bool_note = Unit {0}
 IsNoteTreeIn bases vars records (num_note n) = IsNoteIn bases vars n
 IsNoteTreeIn bases vars records (list_note n) = IsNoteTreeIn bases vars records n
-IsNoteTreeIn bases vars records (record_note r ns) = TakesUnits records r (length ns) × All (IsNoteIn bases vars) ns
+IsNoteTreeIn bases vars records (record_note r ns) =
+    TakesUnits records r (length ns) × All (IsNoteIn bases vars) ns
 
 -- ---- expressions
 
@@ -127,7 +134,8 @@ module _ (p : ProgramTree) (i : ℕ) (f : FunctionTree) where
     IsFormedIn n (if at c a b) = IsFormedIn n c × IsFormedIn n a × IsFormedIn n b
     IsFormedIn n (bind at a b) = IsFormedIn n a × IsFormedIn (n + 1) b
     IsFormedIn n (split at l a b) = IsFormedIn n l × IsFormedIn n a × IsFormedIn (n + 2) b
-    IsFormedIn n (nil at note) = IsNoteTreeIn (length p.bases) f.named p.records note × (note_tree_height note ≤ 400)
+    IsFormedIn n (nil at note) =
+        IsNoteTreeIn (length p.bases) f.named p.records note × (note_tree_height note ≤ 400)
     IsFormedIn n (list_expr at es) = (0 < count es) × AllFormedIn n es
     IsFormedIn n (cons at a b) = IsFormedIn n a × IsFormedIn n b
     IsFormedIn n (record_expr at r es) = HasFields p r (count es) × AllFormedIn n es
@@ -146,21 +154,30 @@ NamesEarlier r (num_type u) = Unit {0}
 NamesEarlier r (list_type t) = NamesEarlier r t
 NamesEarlier r (record_type q us) = q < r
 
--- record r of the program: its fields name earlier records alone
+-- the type of a field of record r, which takes so many units: the field names earlier records alone
+abbrev pub IsFieldType : ProgramTree → ℕ → ℕ → TypeTree → Type 0
+IsFieldType p r units t =
+    IsTypeIn (length p.bases) units p.records t × NamesEarlier r t × (type_tree_height t ≤ 400)
+
+-- record r of the program
 pub record IsFormedRecord (p : ProgramTree) (r : ℕ) (d : RecordTree) : Type 0 where
   pub some_field : 0 < length d.fields
   pub few_fields : length d.fields ≤ 32
   pub few_units : d.units ≤ 4
-  pub fields : All (λ f. IsTypeIn (length p.bases) d.units p.records f.type × NamesEarlier r f.type × (type_tree_height f.type ≤ 400)) d.fields
+  pub fields : All (λ f. IsFieldType p r d.units f.type) d.fields
+
+-- a note of the function
+abbrev pub IsFormedNote : ProgramTree → FunctionTree → NoteTree → Type 0
+IsFormedNote p f n = IsNoteTreeIn (length p.bases) f.named p.records n × (note_tree_height n ≤ 400)
 
 abbrev pub ResultFormed : ProgramTree → FunctionTree → Option NoteTree → Type 0
 ResultFormed p f None = Unit {0}
-ResultFormed p f (Some n) = IsNoteTreeIn (length p.bases) f.named p.records n × (note_tree_height n ≤ 400)
+ResultFormed p f (Some n) = IsFormedNote p f n
 
 -- function i of the program
 pub record IsFormedFunction (p : ProgramTree) (i : ℕ) (f : FunctionTree) : Type 0 where
   pub few_params : length f.params ≤ 16
-  pub params : All (λ n. IsNoteTreeIn (length p.bases) f.named p.records n × (note_tree_height n ≤ 400)) f.params
+  pub params : All (IsFormedNote p f) f.params
   pub result : ResultFormed p f f.result
   pub noted : IsTrue f.recursive → IsSome f.result
   pub body : IsFormedIn p i f (length f.params) f.body

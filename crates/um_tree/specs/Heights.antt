@@ -1,7 +1,14 @@
 -- Heights and numbers of nodes.
 -- Source: this project's own limits.
 use Rattle.std.specs.Prelude.{ℕ, ◌+◌, max}
-use Rattle.um_tree.specs.RawTree.{UnitSyntax, UnitSyntaxes, one_syntax, measure_syntax, variable_syntax, power_syntax, side_syntax, times_syntax, over_syntax, inverse_syntax, bracket_syntax, no_units, more_units, TypeSyntax, bool_syntax, num_syntax, record_syntax, list_type_syntax, bracket_type_syntax, ExprSyntax, ExprSyntaxes, FieldSyntaxes, truth_syntax, number_syntax, name_syntax, call_syntax, negate_syntax, not_syntax, arith_syntax, compare_syntax, and_syntax, or_syntax, if_syntax, let_syntax, match_syntax, nil_syntax, list_syntax, cons_syntax, fields_syntax, field_syntax, bracket_expr_syntax, no_exprs, more_exprs, no_fields, more_fields}
+use Rattle.um_tree.specs.RawTree.{UnitSyntax, UnitSyntaxes, one_syntax, measure_syntax, variable_syntax, power_syntax}
+use Rattle.um_tree.specs.RawTree.{side_syntax, times_syntax, over_syntax, inverse_syntax, bracket_syntax, no_units}
+use Rattle.um_tree.specs.RawTree.{more_units, TypeSyntax, bool_syntax, num_syntax, record_syntax, list_type_syntax}
+use Rattle.um_tree.specs.RawTree.{bracket_type_syntax, ExprSyntax, ExprSyntaxes, FieldSyntaxes, truth_syntax}
+use Rattle.um_tree.specs.RawTree.{number_syntax, name_syntax, call_syntax, negate_syntax, not_syntax, arith_syntax}
+use Rattle.um_tree.specs.RawTree.{compare_syntax, and_syntax, or_syntax, if_syntax, let_syntax, match_syntax}
+use Rattle.um_tree.specs.RawTree.{nil_syntax, list_syntax, cons_syntax, fields_syntax, field_syntax}
+use Rattle.um_tree.specs.RawTree.{bracket_expr_syntax, no_exprs, more_exprs, no_fields, more_fields}
 
 -- the height of a unit text
 abbrev mutual

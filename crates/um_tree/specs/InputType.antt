@@ -1,30 +1,27 @@
 -- When an input has a type, when a value has a shape, and the type of a call.
 -- Source: this project's own; a type of a call is a principal scheme (Kennedy 1996) without parameters.
-use Rattle.std.specs.Prelude.{◌≡◌, ◌↔◌, ℕ, List, [], ◌∷◌, map, pos, slice_get, Some}
+use Rattle.std.specs.Prelude.{◌≡◌, ◌↔◌, ℕ, List, [], ◌∷◌, map, slice_get, Some}
 use Rattle.um_units.specs.PowerMap.{PowerMap}
-use Rattle.um_frac.specs.declared.number.Frac.{Frac}
-use Rattle.um_frac.specs.Fraction.{numerator}
-use Rattle.um_tree.specs.declared.note.UnitNote.{UnitNote}
-use Rattle.um_tree.specs.declared.note.UnitNote.TheVariants.{Hole, Written}
-use Rattle.um_tree.specs.TypeTree.{TypeTree, bool_type, num_type, list_type, record_type, ShapeTree, bool_shape, num_shape, list_shape, record_shape}
-use Rattle.um_tree.specs.ValueTree.{ValueTree, ValueTrees, truth_value, number_value, list_value, record_value, no_values, more_values, InputTree, InputTrees, truth_input, number_input, list_input, record_input, no_inputs, more_inputs}
+use Rattle.um_tree.specs.TypeTree.{TypeTree, bool_type, num_type, list_type, record_type, ShapeTree, bool_shape}
+use Rattle.um_tree.specs.TypeTree.{num_shape, list_shape, record_shape}
+use Rattle.um_tree.specs.ValueTree.{ValueTree, ValueTrees, truth_value, number_value, list_value, record_value}
+use Rattle.um_tree.specs.ValueTree.{no_values, more_values, InputTree, InputTrees, truth_input, number_input}
+use Rattle.um_tree.specs.ValueTree.{list_input, record_input, no_inputs, more_inputs}
 use Rattle.um_tree.specs.ProgramTree.{RecordTree, ProgramTree}
-use Rattle.um_tree.specs.Typing.{put, unit_at, field_types, IsRecordAt, Typing}
+use Rattle.um_tree.specs.Typing.{put, unit_at, LiteralUnit, field_types, IsRecordAt, Typing}
 use Rattle.um_tree.specs.Shapes.{type_shape}
 use Rattle.um_tree.specs.Scheme.{IsNumbered}
 
--- a written unit is the unit; 0 with a hole stands at any unit
-abbrev pub InputUnit : Frac → UnitNote → PowerMap → Type 0
-InputUnit c Hole u = numerator c ≡ pos 0
-InputUnit c (Written w) u = u ≡ w
-
 module _ (records : List RecordTree) where
   abbrev mutual
+    -- a number has the unit of a literal: its written unit, and 0 with a hole every unit
     pub InputHas : InputTree → TypeTree → Type 0
     InputHas (truth_input b) t = t ≡ bool_type
-    InputHas (number_input c n) t = (u : PowerMap) × InputUnit c n u × (t ≡ num_type u)
+    InputHas (number_input c n) t = (u : PowerMap) × LiteralUnit c n u × (t ≡ num_type u)
     InputHas (list_input is) t = (s : TypeTree) × EachInputHas is s × (t ≡ list_type s)
-    InputHas (record_input r is) t = (us : List PowerMap) × (d : RecordTree) × IsRecordAt records r us d × InputsHave is (map (put (unit_at us)) (field_types d)) × (t ≡ record_type r us)
+    InputHas (record_input r is) t =
+        (us : List PowerMap) × (d : RecordTree) × IsRecordAt records r us d
+        × InputsHave is (map (put (unit_at us)) (field_types d)) × (t ≡ record_type r us)
 
     -- all items have the item's type
     pub EachInputHas : InputTrees → TypeTree → Type 0
@@ -34,14 +31,17 @@ module _ (records : List RecordTree) where
     -- input by input
     pub InputsHave : InputTrees → List TypeTree → Type 0
     InputsHave no_inputs ts = ts ≡ []
-    InputsHave (more_inputs i is) ts = (s : TypeTree) × (rest : List TypeTree) × InputHas i s × InputsHave is rest × (ts ≡ s ∷ rest)
+    InputsHave (more_inputs i is) ts =
+        (s : TypeTree) × (rest : List TypeTree) × InputHas i s × InputsHave is rest × (ts ≡ s ∷ rest)
 
   abbrev mutual
     pub ValueHas : ValueTree → ShapeTree → Type 0
     ValueHas (truth_value b) s = s ≡ bool_shape
     ValueHas (number_value c) s = s ≡ num_shape
     ValueHas (list_value vs) s = (t : ShapeTree) × EachValueHas vs t × (s ≡ list_shape t)
-    ValueHas (record_value r vs) s = (d : RecordTree) × (slice_get records r ≡ Some d) × ValuesHave vs (map type_shape (field_types d)) × (s ≡ record_shape r)
+    ValueHas (record_value r vs) s =
+        (d : RecordTree) × (slice_get records r ≡ Some d)
+        × ValuesHave vs (map type_shape (field_types d)) × (s ≡ record_shape r)
 
     pub EachValueHas : ValueTrees → ShapeTree → Type 0
     EachValueHas no_values s = Unit {0}
@@ -50,13 +50,16 @@ module _ (records : List RecordTree) where
     -- value by value
     pub ValuesHave : ValueTrees → List ShapeTree → Type 0
     ValuesHave no_values ss = ss ≡ []
-    ValuesHave (more_values v vs) ss = (t : ShapeTree) × (rest : List ShapeTree) × ValueHas v t × ValuesHave vs rest × (ss ≡ t ∷ rest)
+    ValuesHave (more_values v vs) ss =
+        (t : ShapeTree) × (rest : List ShapeTree) × ValueHas v t × ValuesHave vs rest × (ss ≡ t ∷ rest)
 
 -- the result is one of a typing of function f at whose parameter types the inputs stand
 abbrev pub IsResultOfCall : ProgramTree → ℕ → InputTrees → TypeTree → Type 0
-IsResultOfCall p f inputs t = (ts : List TypeTree) × InputsHave p.records inputs ts × Typing p f (record { params = ts; result = t })
+IsResultOfCall p f inputs t =
+    (ts : List TypeTree) × InputsHave p.records inputs ts × Typing p f (record { params = ts; result = t })
 
 -- a type of a call: numbered, and its instances are exactly the results
 pub record IsTypeOfCall (p : ProgramTree) (f : ℕ) (inputs : InputTrees) (t : TypeTree) : Type 0 where
   pub numbered : IsNumbered (t ∷ [])
-  pub instances : (result : TypeTree) → IsResultOfCall p f inputs result ↔ ((units : ℕ → PowerMap) × (result ≡ put units t))
+  pub instances :
+      (result : TypeTree) → IsResultOfCall p f inputs result ↔ ((units : ℕ → PowerMap) × (result ≡ put units t))

@@ -1,12 +1,17 @@
 -- What an expression means: values, traps, and a budget of calls.
 -- Source: a big-step meaning of a call-by-value language, from left to right; the budget is this project's own.
 -- There is no code, stack, frame or address here, and no order of work but that of the parts.
-use Rattle.std.specs.Prelude.{ℕ, zero, suc, Bool, true, false, cond, not, nat_eq, length, List, [], ◌∷◌, ◌++◌, Option, Some, None, Result, Ok, Err, slice_get}
+use Rattle.std.specs.Prelude.{ℕ, zero, suc, Bool, true, false, cond, not, nat_eq, length, List, [], ◌∷◌, ◌++◌, Option}
+use Rattle.std.specs.Prelude.{Some, None, Result, Ok, Err, slice_get}
 use Rattle.um_frac.specs.declared.number.Frac.{Frac}
 use Rattle.um_frac.specs.declared.number.Trap.{Trap}
 use Rattle.um_frac.specs.Arithmetic.{sum_of, difference_of, product_of, quotient_of, negation_of, is_less, is_same}
-use Rattle.um_tree.specs.ValueTree.{ValueTree, ValueTrees, truth_value, number_value, list_value, record_value, no_values, more_values, values_in_order, OutcomeTree, value_outcome, trap_outcome, budget_outcome}
-use Rattle.um_tree.specs.ExprTree.{ExprTree, ExprTrees, truth, number, local, call, negate, not_expr, arith, compare, both, either, if, bind, split, nil, list_expr, cons, record_expr, field, none, more}
+use Rattle.um_tree.specs.ValueTree.{ValueTree, ValueTrees, truth_value, number_value, list_value, record_value}
+use Rattle.um_tree.specs.ValueTree.{no_values, more_values, values_in_order, OutcomeTree, value_outcome, trap_outcome}
+use Rattle.um_tree.specs.ValueTree.{budget_outcome}
+use Rattle.um_tree.specs.ExprTree.{ExprTree, ExprTrees, truth, number, local, call, negate, not_expr, arith, compare}
+use Rattle.um_tree.specs.ExprTree.{both, either, if, bind, split, nil, list_expr, cons, record_expr, field, none}
+use Rattle.um_tree.specs.ExprTree.{more}
 use Rattle.um_tree.specs.ProgramTree.{FunctionTree, ProgramTree}
 use Rattle.um_tree.specs.declared.expression.Arith.{Arith}
 use Rattle.um_tree.specs.declared.expression.Arith.TheVariants.{Add, Sub, Mul, Div}
@@ -64,9 +69,9 @@ abbrev pub negated : ValueTree → Result ValueTree Stop
 negated (number_value a) = Ok (number_value (negation_of a))
 negated v = Err wrong
 
-abbrev pub opposite : ValueTree → Result ValueTree Stop
-opposite (truth_value b) = Ok (truth_value (not b))
-opposite v = Err wrong
+abbrev pub not_of : ValueTree → Result ValueTree Stop
+not_of (truth_value b) = Ok (truth_value (not b))
+not_of v = Err wrong
 
 -- the list with one more item before it
 abbrev pub longer : ValueTree → ValueTree → Result ValueTree Stop
@@ -78,10 +83,10 @@ value_at no_values k = Err wrong
 value_at (more_values v vs) zero = Ok v
 value_at (more_values v vs) (suc k) = value_at vs k
 
--- the k-th part of a value of record r
-abbrev pub part_of : ℕ → ℕ → ValueTree → Result ValueTree Stop
-part_of r k (record_value q vs) = cond (nat_eq q r) (value_at vs k) (Err wrong)
-part_of r k v = Err wrong
+-- the k-th field of a value of record r
+abbrev pub field_of : ℕ → ℕ → ValueTree → Result ValueTree Stop
+field_of r k (record_value q vs) = cond (nat_eq q r) (value_at vs k) (Err wrong)
+field_of r k v = Err wrong
 
 abbrev pub found : Option ValueTree → ℕ → Out ValueTree
 found None b = stops wrong
@@ -112,24 +117,32 @@ module _ (calling : Calling) where
     means (local at k) vars b = found (slice_get vars k) b
     means (call at j es) vars b = then (all_mean es vars b) (calling j)
     means (negate at x) vars b = then (means x vars b) (λ v c. with_budget (negated v) c)
-    means (not_expr at x) vars b = then (means x vars b) (λ v c. with_budget (opposite v) c)
-    means (arith at op x y) vars b = then (means x vars b) (λ v c. then (means y vars c) (λ w d. with_budget (calculated op v w) d))
-    means (compare at sign x y) vars b = then (means x vars b) (λ v c. then (means y vars c) (λ w d. with_budget (compared sign v w) d))
-    means (both at x y) vars b = then (means x vars b) (λ v c. choose v (means y vars) (gives (truth_value false)) c)
-    means (either at x y) vars b = then (means x vars b) (λ v c. choose v (gives (truth_value true)) (means y vars) c)
+    means (not_expr at x) vars b = then (means x vars b) (λ v c. with_budget (not_of v) c)
+    means (arith at op x y) vars b =
+        then (means x vars b) (λ v c. then (means y vars c) (λ w d. with_budget (calculated op v w) d))
+    means (compare at sign x y) vars b =
+        then (means x vars b) (λ v c. then (means y vars c) (λ w d. with_budget (compared sign v w) d))
+    means (both at x y) vars b =
+        then (means x vars b) (λ v c. choose v (means y vars) (gives (truth_value false)) c)
+    means (either at x y) vars b =
+        then (means x vars b) (λ v c. choose v (gives (truth_value true)) (means y vars) c)
     means (if at c x y) vars b = then (means c vars b) (λ v d. choose v (means x vars) (means y vars) d)
     means (bind at x y) vars b = then (means x vars b) (λ v c. means y (vars ++ v ∷ []) c)
-    means (split at l x y) vars b = then (means l vars b) (λ v c. on_list v (means x vars) (λ h t. means y (vars ++ h ∷ t ∷ [])) c)
+    means (split at l x y) vars b =
+        then (means l vars b) (λ v c. on_list v (means x vars) (λ h t. means y (vars ++ h ∷ t ∷ [])) c)
     means (nil at n) vars b = gives (list_value no_values) b
     means (list_expr at es) vars b = then (all_mean es vars b) (λ vs c. gives (list_value (values_in_order vs)) c)
-    means (cons at x y) vars b = then (means x vars b) (λ v c. then (means y vars c) (λ w d. with_budget (longer v w) d))
-    means (record_expr at r es) vars b = then (all_mean es vars b) (λ vs c. gives (record_value r (values_in_order vs)) c)
-    means (field at r k x) vars b = then (means x vars b) (λ v c. with_budget (part_of r k v) c)
+    means (cons at x y) vars b =
+        then (means x vars b) (λ v c. then (means y vars c) (λ w d. with_budget (longer v w) d))
+    means (record_expr at r es) vars b =
+        then (all_mean es vars b) (λ vs c. gives (record_value r (values_in_order vs)) c)
+    means (field at r k x) vars b = then (means x vars b) (λ v c. with_budget (field_of r k v) c)
 
     -- expression by expression
     pub all_mean : ExprTrees → List ValueTree → ℕ → Out (List ValueTree)
     all_mean none vars b = gives [] b
-    all_mean (more e es) vars b = then (means e vars b) (λ v c. then (all_mean es vars c) (λ vs d. gives (v ∷ vs) d))
+    all_mean (more e es) vars b =
+        then (means e vars b) (λ v c. then (all_mean es vars c) (λ vs d. gives (v ∷ vs) d))
 
 -- a call costs one, and ends the run where nothing is left
 abbrev pub spend : ℕ → (ℕ → Out ValueTree) → Out ValueTree
@@ -139,7 +152,8 @@ spend (suc b) go = go b
 -- function and number of arguments are looked at before the budget
 abbrev pub body_means : Calling → Option FunctionTree → List ValueTree → ℕ → Out ValueTree
 body_means calling None vs b = stops wrong
-body_means calling (Some f) vs b = cond (nat_eq (length vs) (length f.params)) (spend b (means calling f.body vs)) (stops wrong)
+body_means calling (Some f) vs b =
+    cond (nat_eq (length vs) (length f.params)) (spend b (means calling f.body vs)) (stops wrong)
 
 -- calls, where at most n of them stand inside one another
 abbrev pub running : List FunctionTree → ℕ → Calling

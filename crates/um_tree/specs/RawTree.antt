@@ -10,7 +10,8 @@ use Rattle.um_tree.specs.declared.raw.RawUnit.TheFolds.{fold-RawUnit}
 use Rattle.um_tree.specs.declared.raw.RawNote.{RawNote}
 use Rattle.um_tree.specs.declared.raw.RawNote.TheVariants.{Hole as Hole-note, Unit as Unit-note}
 use Rattle.um_tree.specs.declared.raw.RawNotes.{RawNotes}
-use Rattle.um_tree.specs.declared.raw.RawType.{RawType, Bool as Bool-type, Num as Num-type, Name as Name-type, List' as List-type, Bracket' as Bracket-type}
+use Rattle.um_tree.specs.declared.raw.RawType.{RawType, Bool as Bool-type, Num as Num-type, Name as Name-type}
+use Rattle.um_tree.specs.declared.raw.RawType.{List' as List-type, Bracket' as Bracket-type}
 use Rattle.um_tree.specs.declared.raw.RawTypes.{RawTypes}
 use Rattle.um_tree.specs.declared.raw.Binder.{Binder}
 use Rattle.um_tree.specs.declared.raw.RawExpr.{RawExpr, fold-RawExpr}
@@ -191,11 +192,15 @@ listed_fields fs = fields_in_order fs.items.items
 
 -- the tree that an expression stands for
 abbrev pub expr_syntax : RawExpr → ExprSyntax
-expr_syntax = fold-RawExpr (ℕ → ExprSyntax) ExprSyntax ExprSyntaxes FieldPart FieldSyntaxes listed_node listed_expr listed_exprs listed_field listed_fields
+expr_syntax =
+    fold-RawExpr (ℕ → ExprSyntax) ExprSyntax ExprSyntaxes FieldPart FieldSyntaxes
+    listed_node listed_expr listed_exprs listed_field listed_fields
 
 -- the part that a field of a record text stands for
 abbrev pub field_part : RawField → FieldPart
-field_part = fold-RawField (ℕ → ExprSyntax) ExprSyntax ExprSyntaxes FieldPart FieldSyntaxes listed_node listed_expr listed_exprs listed_field listed_fields
+field_part =
+    fold-RawField (ℕ → ExprSyntax) ExprSyntax ExprSyntaxes FieldPart FieldSyntaxes
+    listed_node listed_expr listed_exprs listed_field listed_fields
 
 -- a unit parameter at its quote
 pub record VarSyntax : Type 0 where
@@ -252,7 +257,8 @@ whole_function_syntax f = record {
 abbrev pub decl_syntax : RawDecl → DeclSyntax
 decl_syntax (Base at x) = base_syntax at x
 decl_syntax (Short at x u) = short_syntax at x (unit_syntax u)
-decl_syntax (Record at x vs fs) = record_decl_syntax at x (map var_syntax vs.items.items) (map field_decl_syntax fs.items.items)
+decl_syntax (Record at x vs fs) =
+    record_decl_syntax at x (map var_syntax vs.items.items) (map field_decl_syntax fs.items.items)
 decl_syntax (Function f) = function_syntax (whole_function_syntax f)
 
 -- a program as it is written

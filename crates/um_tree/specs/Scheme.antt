@@ -1,7 +1,7 @@
 -- Schemes, when one is principal, and how variables are numbered.
 -- Source: Kennedy 1996: a function has a scheme whose instances are its typings. The numbering is this project's own.
 -- The instances are all replacements of the variables by units.
-use Rattle.std.specs.Prelude.{◌≡◌, ◌↔◌, ◌<◌, ◌⊎◌, ℕ, suc, List, [], ◌∷◌, ◌++◌}
+use Rattle.std.specs.Prelude.{◌≡◌, ◌↔◌, ◌<◌, ◌⊎◌, ℕ, suc, All, List, [], ◌∷◌, ◌++◌}
 use Rattle.std.specs.List.{flat_map}
 use Rattle.um_units.specs.declared.Atom.{Atom}
 use Rattle.um_units.specs.declared.Atom.TheVariants.{Base, Var}
@@ -10,13 +10,7 @@ use Rattle.um_tree.specs.TypeTree.{TypeTree, bool_type, num_type, list_type, rec
 use Rattle.um_tree.specs.ProgramTree.{ProgramTree, Signature, SchemeTree}
 use Rattle.um_tree.specs.Typing.{put_signature, Typing}
 
--- the signature is the scheme's with some units in place of its variables
-abbrev pub IsInstance : SchemeTree → Signature → Type 0
-IsInstance s g = (units : ℕ → PowerMap) × (g ≡ put_signature units s.signature)
-
--- the instances are exactly the typings of function i
-abbrev pub IsPrincipal : ProgramTree → ℕ → SchemeTree → Type 0
-IsPrincipal p i s = (g : Signature) → Typing p i g ↔ IsInstance s g
+-- ---- the variables of types
 
 -- the variable of an atom, if it is one
 abbrev pub atom_variables : Atom → List ℕ
@@ -37,6 +31,23 @@ type_variables (record_type r us) = flat_map unit_variables us
 abbrev pub variables : List TypeTree → List ℕ
 variables ts = flat_map type_variables ts
 
+-- the types of a signature, the result last
+abbrev pub signature_types : Signature → List TypeTree
+signature_types g = g.params ++ g.result ∷ []
+
+-- ---- instances
+
+-- the signature is the scheme's with some units in place of its variables
+abbrev pub IsInstance : SchemeTree → Signature → Type 0
+IsInstance s g = (units : ℕ → PowerMap) × (g ≡ put_signature units s.signature)
+
+-- the scheme is over its own variables alone, and its instances are exactly the typings of function i
+pub record IsPrincipal (p : ProgramTree) (i : ℕ) (s : SchemeTree) : Type 0 where
+  pub below : All (λ k. k < s.vars) (variables (signature_types s.signature))
+  pub instances : (g : Signature) → Typing p i g ↔ IsInstance s g
+
+-- ---- numbering
+
 -- the numbers are new in their order: from k on, where those below k came before, up to n
 abbrev pub FirstComeInOrder : ℕ → List ℕ → ℕ → Type 0
 FirstComeInOrder k [] n = k ≡ n
@@ -49,6 +60,6 @@ IsNumberedBy n ts = FirstComeInOrder 0 (variables ts) n
 abbrev pub IsNumbered : List TypeTree → Type 0
 IsNumbered ts = (n : ℕ) × IsNumberedBy n ts
 
--- a scheme is numbered where its types are, the result last, and each variable below `vars` occurs
+-- a scheme is numbered where its types are, and each variable below `vars` occurs
 abbrev pub IsNumberedScheme : SchemeTree → Type 0
-IsNumberedScheme s = IsNumberedBy s.vars (s.signature.params ++ s.signature.result ∷ [])
+IsNumberedScheme s = IsNumberedBy s.vars (signature_types s.signature)

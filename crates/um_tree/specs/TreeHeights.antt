@@ -1,8 +1,11 @@
 -- Heights and numbers of nodes of resolved trees, in which brackets leave no node.
 -- Source: this project's own limits.
 use Rattle.std.specs.Prelude.{ℕ, ◌+◌, max}
-use Rattle.um_tree.specs.TypeTree.{TypeTree, bool_type, num_type, list_type, record_type, NoteTree, bool_note, num_note, list_note, record_note}
-use Rattle.um_tree.specs.ExprTree.{ExprTree, ExprTrees, truth, number, local, call, negate, not_expr, arith, compare, both, either, if, bind, split, nil, list_expr, cons, record_expr, field, none, more}
+use Rattle.um_tree.specs.TypeTree.{TypeTree, bool_type, num_type, list_type, record_type, NoteTree, bool_note}
+use Rattle.um_tree.specs.TypeTree.{num_note, list_note, record_note}
+use Rattle.um_tree.specs.ExprTree.{ExprTree, ExprTrees, truth, number, local, call, negate, not_expr, arith, compare}
+use Rattle.um_tree.specs.ExprTree.{both, either, if, bind, split, nil, list_expr, cons, record_expr, field, none}
+use Rattle.um_tree.specs.ExprTree.{more}
 
 abbrev pub type_tree_height : TypeTree → ℕ
 type_tree_height bool_type = 1

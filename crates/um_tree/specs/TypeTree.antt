@@ -4,11 +4,14 @@
 use Rattle.std.specs.Prelude.{ℕ, List, map}
 use Rattle.um_units.specs.PowerMap.{PowerMap}
 use Rattle.um_tree.specs.declared.note.UnitNote.{UnitNote}
-use Rattle.um_tree.specs.declared.note.Note.{Note, Bool as Bool-note, Num as Num-note, List' as List-note, Rec as Rec-note}
+use Rattle.um_tree.specs.declared.note.Note.{Note, Bool as Bool-note, Num as Num-note, List' as List-note}
+use Rattle.um_tree.specs.declared.note.Note.{Rec as Rec-note}
 use Rattle.um_tree.specs.declared.note.Notes.{Notes}
-use Rattle.um_tree.specs.declared.types.Ty.{Ty, Bool as Bool-type, Num as Num-type, List' as List-type, Rec as Rec-type}
+use Rattle.um_tree.specs.declared.types.Ty.{Ty, Bool as Bool-type, Num as Num-type, List' as List-type}
+use Rattle.um_tree.specs.declared.types.Ty.{Rec as Rec-type}
 use Rattle.um_tree.specs.declared.types.Types.{Types}
-use Rattle.um_tree.specs.declared.types.Shape.{Shape, Bool as Bool-shape, Num as Num-shape, List' as List-shape, Rec as Rec-shape}
+use Rattle.um_tree.specs.declared.types.Shape.{Shape, Bool as Bool-shape, Num as Num-shape, List' as List-shape}
+use Rattle.um_tree.specs.declared.types.Shape.{Rec as Rec-shape}
 
 -- a type: a record type has the record's number and its units
 pub data TypeTree : Type 0 where

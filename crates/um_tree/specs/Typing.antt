@@ -2,12 +2,16 @@
 -- Source: the declarative typing rules of Kennedy 1996, with ML's rule for recursion (a recursive use has one type,
 -- an earlier function is used at any instance); the notation of measures is that of the F# specification.
 -- There are no equations, slots, substitutions or schemes here, and no order in which anything is found.
-use Rattle.std.specs.Prelude.{◌≡◌, ℕ, zero, suc, ◌<◌, ◌⊎◌, IsTrue, IsSome, cond, nat_eq, List, [], ◌∷◌, ◌++◌, map, length, get_or, slice_get, pos, Option, Some, None}
+use Rattle.std.specs.Prelude.{◌≡◌, ℕ, zero, suc, ◌<◌, ◌⊎◌, IsTrue, IsSome, cond, nat_eq, List, [], ◌∷◌, ◌++◌, map}
+use Rattle.std.specs.Prelude.{length, get_or, slice_get, pos, Option, Some, None}
 use Rattle.um_units.specs.PowerMap.{PowerMap, one, mul, inv, replace}
 use Rattle.um_frac.specs.declared.number.Frac.{Frac}
 use Rattle.um_frac.specs.Fraction.{numerator}
-use Rattle.um_tree.specs.TypeTree.{TypeTree, bool_type, num_type, list_type, record_type, NoteTree, bool_note, num_note, list_note, record_note}
-use Rattle.um_tree.specs.ExprTree.{ExprTree, ExprTrees, truth, number, local, call, negate, not_expr, arith, compare, both, either, if, bind, split, nil, list_expr, cons, record_expr, field, none, more}
+use Rattle.um_tree.specs.TypeTree.{TypeTree, bool_type, num_type, list_type, record_type, NoteTree, bool_note}
+use Rattle.um_tree.specs.TypeTree.{num_note, list_note, record_note}
+use Rattle.um_tree.specs.ExprTree.{ExprTree, ExprTrees, truth, number, local, call, negate, not_expr, arith, compare}
+use Rattle.um_tree.specs.ExprTree.{both, either, if, bind, split, nil, list_expr, cons, record_expr, field, none}
+use Rattle.um_tree.specs.ExprTree.{more}
 use Rattle.um_tree.specs.ProgramTree.{RecordTree, FunctionTree, ProgramTree, Signature}
 use Rattle.um_tree.specs.declared.note.UnitNote.{UnitNote}
 use Rattle.um_tree.specs.declared.note.UnitNote.TheVariants.{Hole, Written}
@@ -36,7 +40,8 @@ UnitMatches choice (Written w) u = u ≡ replace choice w
 -- unit by unit
 abbrev pub UnitsMatch : (ℕ → PowerMap) → List UnitNote → List PowerMap → Type 0
 UnitsMatch choice [] us = us ≡ []
-UnitsMatch choice (n ∷ ns) us = (v : PowerMap) × (vs : List PowerMap) × UnitMatches choice n v × UnitsMatch choice ns vs × (us ≡ v ∷ vs)
+UnitsMatch choice (n ∷ ns) us =
+    (v : PowerMap) × (vs : List PowerMap) × UnitMatches choice n v × UnitsMatch choice ns vs × (us ≡ v ∷ vs)
 
 -- the type has the note's form, and its units match
 abbrev pub Matches : (ℕ → PowerMap) → NoteTree → TypeTree → Type 0
@@ -48,7 +53,8 @@ Matches choice (record_note r ns) t = (us : List PowerMap) × UnitsMatch choice 
 -- type by type
 abbrev pub TypesMatch : (ℕ → PowerMap) → List NoteTree → List TypeTree → Type 0
 TypesMatch choice [] ts = ts ≡ []
-TypesMatch choice (n ∷ ns) ts = (s : TypeTree) × (rest : List TypeTree) × Matches choice n s × TypesMatch choice ns rest × (ts ≡ s ∷ rest)
+TypesMatch choice (n ∷ ns) ts =
+    (s : TypeTree) × (rest : List TypeTree) × Matches choice n s × TypesMatch choice ns rest × (ts ≡ s ∷ rest)
 
 -- no note leaves the result open
 abbrev pub ResultMatches : (ℕ → PowerMap) → Option NoteTree → TypeTree → Type 0
@@ -62,10 +68,10 @@ ArithUnit Sub u v w = (u ≡ v) × (w ≡ u)
 ArithUnit Mul u v w = w ≡ mul u v
 ArithUnit Div u v w = w ≡ mul u (inv v)
 
--- a literal has the unit that is written, which is closed in a formed program; only 0 has every unit
-abbrev pub LiteralUnit : (ℕ → PowerMap) → Frac → UnitNote → PowerMap → Type 0
-LiteralUnit choice c Hole u = numerator c ≡ pos 0
-LiteralUnit choice c (Written w) u = u ≡ replace choice w
+-- a literal has its written unit as it stands, which is closed in a formed program; only 0 has every unit
+abbrev pub LiteralUnit : Frac → UnitNote → PowerMap → Type 0
+LiteralUnit c Hole u = numerator c ≡ pos 0
+LiteralUnit c (Written w) u = u ≡ w
 
 abbrev pub EachIs : TypeTree → List TypeTree → Type 0
 EachIs s [] = Unit {0}
@@ -86,28 +92,40 @@ module _ (records : List RecordTree) (calls : ℕ → Signature → Type 0) (cho
     -- the expression has the type, where the variables of the scope have these types
     pub Typed : List TypeTree → ExprTree → TypeTree → Type 0
     Typed vars (truth at b) t = t ≡ bool_type
-    Typed vars (number at c n) t = (u : PowerMap) × LiteralUnit choice c n u × (t ≡ num_type u)
+    Typed vars (number at c n) t = (u : PowerMap) × LiteralUnit c n u × (t ≡ num_type u)
     Typed vars (local at k) t = slice_get vars k ≡ Some t
-    Typed vars (call at j es) t = (ts : List TypeTree) × AllTyped vars es ts × calls j (record { params = ts; result = t })
+    Typed vars (call at j es) t =
+        (ts : List TypeTree) × AllTyped vars es ts × calls j (record { params = ts; result = t })
     Typed vars (negate at a) t = (u : PowerMap) × Typed vars a (num_type u) × (t ≡ num_type u)
     Typed vars (not_expr at a) t = Typed vars a bool_type × (t ≡ bool_type)
-    Typed vars (arith at op a b) t = (u v w : PowerMap) × Typed vars a (num_type u) × Typed vars b (num_type v) × ArithUnit op u v w × (t ≡ num_type w)
-    Typed vars (compare at sign a b) t = (u : PowerMap) × Typed vars a (num_type u) × Typed vars b (num_type u) × (t ≡ bool_type)
+    Typed vars (arith at op a b) t =
+        (u v w : PowerMap) × Typed vars a (num_type u) × Typed vars b (num_type v)
+        × ArithUnit op u v w × (t ≡ num_type w)
+    Typed vars (compare at sign a b) t =
+        (u : PowerMap) × Typed vars a (num_type u) × Typed vars b (num_type u) × (t ≡ bool_type)
     Typed vars (both at a b) t = Typed vars a bool_type × Typed vars b bool_type × (t ≡ bool_type)
     Typed vars (either at a b) t = Typed vars a bool_type × Typed vars b bool_type × (t ≡ bool_type)
     Typed vars (if at c a b) t = Typed vars c bool_type × Typed vars a t × Typed vars b t
     Typed vars (bind at a b) t = (s : TypeTree) × Typed vars a s × Typed (vars ++ s ∷ []) b t
-    Typed vars (split at l a b) t = (s : TypeTree) × Typed vars l (list_type s) × Typed vars a t × Typed (vars ++ s ∷ list_type s ∷ []) b t
+    Typed vars (split at l a b) t =
+        (s : TypeTree) × Typed vars l (list_type s) × Typed vars a t × Typed (vars ++ s ∷ list_type s ∷ []) b t
     Typed vars (nil at n) t = (s : TypeTree) × Matches choice n (list_type s) × (t ≡ list_type s)
-    Typed vars (list_expr at es) t = (s : TypeTree) × (rest : List TypeTree) × AllTyped vars es (s ∷ rest) × EachIs s rest × (t ≡ list_type s)
+    Typed vars (list_expr at es) t =
+        (s : TypeTree) × (rest : List TypeTree) × AllTyped vars es (s ∷ rest) × EachIs s rest × (t ≡ list_type s)
     Typed vars (cons at a b) t = (s : TypeTree) × Typed vars a s × Typed vars b (list_type s) × (t ≡ list_type s)
-    Typed vars (record_expr at r es) t = (us : List PowerMap) × (d : RecordTree) × IsRecordAt records r us d × AllTyped vars es (map (put (unit_at us)) (field_types d)) × (t ≡ record_type r us)
-    Typed vars (field at r k a) t = (us : List PowerMap) × (d : RecordTree) × (declared : TypeTree) × IsRecordAt records r us d × (slice_get (field_types d) k ≡ Some declared) × Typed vars a (record_type r us) × (t ≡ put (unit_at us) declared)
+    Typed vars (record_expr at r es) t =
+        (us : List PowerMap) × (d : RecordTree) × IsRecordAt records r us d
+        × AllTyped vars es (map (put (unit_at us)) (field_types d)) × (t ≡ record_type r us)
+    Typed vars (field at r k a) t =
+        (us : List PowerMap) × (d : RecordTree) × (declared : TypeTree)
+        × IsRecordAt records r us d × (slice_get (field_types d) k ≡ Some declared)
+        × Typed vars a (record_type r us) × (t ≡ put (unit_at us) declared)
 
     -- expression by expression
     pub AllTyped : List TypeTree → ExprTrees → List TypeTree → Type 0
     AllTyped vars none ts = ts ≡ []
-    AllTyped vars (more e es) ts = (s : TypeTree) × (rest : List TypeTree) × Typed vars e s × AllTyped vars es rest × (ts ≡ s ∷ rest)
+    AllTyped vars (more e es) ts =
+        (s : TypeTree) × (rest : List TypeTree) × Typed vars e s × AllTyped vars es rest × (ts ≡ s ∷ rest)
 
 -- the signatures at which each function before may be used
 abbrev pub Earlier : Type 1
@@ -124,7 +142,8 @@ abbrev pub Calls : Earlier → ℕ → FunctionTree → Signature → ℕ → Si
 Calls earlier i f self j g = ((j < i) × earlier j g) ⊎ ((j ≡ i) × MayRecur f × (g ≡ self))
 
 -- some choice of units for the named variables gives the notes their types and the body the result's
-pub record IsTypingOf (records : List RecordTree) (earlier : Earlier) (i : ℕ) (f : FunctionTree) (g : Signature) : Type 0 where
+pub record IsTypingOf (records : List RecordTree) (earlier : Earlier) (i : ℕ) (f : FunctionTree) (g : Signature)
+    : Type 0 where
   pub choice : ℕ → PowerMap
   pub params : TypesMatch choice f.params g.params
   pub result : ResultMatches choice f.result g.result
@@ -137,7 +156,10 @@ TypingAt records earlier i (Some f) g = IsTypingOf records earlier i f g
 -- the typings of the functions below a number
 abbrev pub typings_below : ProgramTree → ℕ → Earlier
 typings_below p zero j g = ⊥
-typings_below p (suc n) j g = cond (nat_eq j n) (TypingAt p.records (typings_below p n) n (slice_get p.functions n) g) (typings_below p n j g)
+typings_below p (suc n) j g =
+    cond (nat_eq j n)
+    (TypingAt p.records (typings_below p n) n (slice_get p.functions n) g)
+    (typings_below p n j g)
 
 -- the signature is a typing of function i of the program
 abbrev pub Typing : ProgramTree → ℕ → Signature → Type 0

@@ -13,7 +13,8 @@ use Rattle.um_tree.specs.declared.value.Input.TheOpen.{Input-F, Inputs-F}
 use Rattle.um_tree.specs.declared.value.Input.TheFolds.{fold-Input, fold-Inputs}
 use Rattle.um_tree.specs.declared.value.Inputs.{Inputs}
 use Rattle.um_tree.specs.declared.value.Outcome.{Outcome}
-use Rattle.um_tree.specs.declared.value.Outcome.TheVariants.{Value as Value-outcome, Trap as Trap-outcome, BudgetEnd as Budget-outcome}
+use Rattle.um_tree.specs.declared.value.Outcome.TheVariants.{Value as Value-outcome, Trap as Trap-outcome}
+use Rattle.um_tree.specs.declared.value.Outcome.TheVariants.{BudgetEnd as Budget-outcome}
 
 mutual
   pub data ValueTree : Type 0 where

@@ -1,7 +1,11 @@
-//! The laws of typing and of meaning, as contracts of functions that do nothing. A crate above cites the law that it needs.
+//! The laws of typing and of meaning, as contracts of functions that do nothing. A crate above cites the law that it
+//! needs.
 ghost use Rattle.um_tree.specs.Laws.{
   EarlierTypings,
   EarlierShapesAre,
+  FormedLiteralsAreClosed,
+  NumberedSchemesAreOverTheirVariables,
+  ClosedUnitsAreFixed,
   ReplacementsKeepTypings,
   HomomorphismsKeepTypings,
   SumHasOneUnit,
@@ -25,11 +29,23 @@ pub fn earlier_functions()
     ensures shapes { EarlierShapesAre }
 {}
 
-/// A typing stays a typing with any units in place of its variables, and under each homomorphism of units that leaves the base
-/// units that the program writes.
+/// A typing stays a typing with any units in place of its variables, and under each homomorphism of units that leaves
+/// the base units of notes and fields and the units of literals, as far as the function and those before it write them.
+/// A homomorphism that leaves the base units of a closed unit leaves the unit.
 pub fn changes_of_units()
     ensures replacements { ReplacementsKeepTypings }
     ensures homomorphisms { HomomorphismsKeepTypings }
+    ensures closed { ClosedUnitsAreFixed }
+{}
+
+/// The literals of a formed program have closed units or holes.
+pub fn literals_of_formed_programs()
+    ensures { FormedLiteralsAreClosed }
+{}
+
+/// The types of a numbered scheme are over the scheme's own variables.
+pub fn numbered_schemes()
+    ensures { NumberedSchemesAreOverTheirVariables }
 {}
 
 /// A sum, a difference and a comparison are typed exactly where both sides have one unit.
@@ -45,8 +61,8 @@ pub fn units_of_literals()
     ensures written { NumberHasItsUnit }
 {}
 
-/// What an expression leaves of its budget is at most the budget. A budget that sufficed suffices with the same value when it
-/// grows, and the rest grows by as much; a trap stays too.
+/// What an expression leaves of its budget is at most the budget. A budget that sufficed suffices with the same value
+/// when it grows, and the rest grows by as much; a trap stays too.
 pub fn budgets_of_expressions()
     ensures rest { RestIsWithin }
     ensures larger { LargerBudgetSuffices }

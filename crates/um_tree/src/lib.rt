@@ -8,15 +8,13 @@ mod note;
 mod program;
 mod raw;
 mod size;
-#[cfg(test)]
-mod tests;
 mod types;
 mod value;
 
 pub use expression::{Arith, Expr, Exprs, Node, Sign};
 pub use laws::{
     budgets_of_calls, budgets_of_expressions, changes_of_units, earlier_functions, equal_units,
-    shapes_of_types, units_of_literals,
+    literals_of_formed_programs, numbered_schemes, shapes_of_types, units_of_literals,
 };
 pub use name::{Name, Names};
 pub use note::{Note, Notes, UnitNote, UnitNotes};

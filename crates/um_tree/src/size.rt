@@ -1,13 +1,15 @@
 // The height and the number of nodes of an expression as it is written.
 ghost use Rattle.std.specs.Prelude.{◌≡◌, ◌≤◌, ◌<◌, ◌^◌, map};
 ghost use Rattle.um_tree.specs.RawTree.{expr_syntax, exprs_in_order, field_part, fields_in_order};
-ghost use Rattle.um_tree.specs.Heights.{expr_height, tallest_expr, tallest_field, expr_nodes, all_expr_nodes, all_field_nodes};
+ghost use Rattle.um_tree.specs.Heights.{expr_height, tallest_expr, tallest_field};
+ghost use Rattle.um_tree.specs.Heights.{expr_nodes, all_expr_nodes, all_field_nodes};
 
 use crate::{RawExpr, RawField, RawNode};
 
 /// The height of an expression: 1 where it has no parts, else one more than its highest part.
 ///
-/// Brackets count one; `([] : T)` has the height 3; units and types in it are not counted. The expression is no higher than 400.
+/// Brackets count one; `([] : T)` has the height 3; units and types in it are not counted. The expression is no higher
+/// than 400.
 /// The rule is this project's own.
 #[cycle(height)]
 pub fn height(e: &RawExpr) -> u32

@@ -1,6 +1,7 @@
 // Values, inputs and outcomes.
 ghost use Rattle.std.specs.Prelude.{◌≡◌, IfOk, map};
-ghost use Rattle.um_tree.specs.ValueTree.{value_tree, value_trees, input_tree, input_trees, without_units, without_units_each};
+ghost use Rattle.um_tree.specs.ValueTree.{value_tree, value_trees, input_tree, input_trees};
+ghost use Rattle.um_tree.specs.ValueTree.{without_units, without_units_each};
 
 use crate::UnitNote;
 use std::alloc::Global;

@@ -5,7 +5,7 @@ use Rattle.std.proofs.lemmas.Int.{ints}
 use Rattle.std.proofs.Math.IntN.{*ℤ-zero, +ℤ_comm}
 use Rattle.um_units.specs.declared.Atom.{Atom}
 use Rattle.um_units.specs.declared.Term.{Term}
-use Rattle.um_units.proofs.Integers.{*ℤ-+ℤ, +ℤ-*ℤ, *ℤ_assoc, *ℤ-eq-zero}
+use Rattle.um_frac.proofs.Integers.{*ℤ-+ℤ, +ℤ-*ℤ, *ℤ_assoc, *ℤ-eq-zero}
 use Rattle.um_units.specs.Atoms.{same_atom}
 use Rattle.um_units.specs.Terms.{weigh, indicator}
 use Rattle.um_units.specs.PowerMap.{PowerMap, weight, power_of, one, atom, mul, scale, pow, inv}

@@ -1,56 +1,15 @@
--- Laws of the integers that the standard library lacks: the product distributes over the sum, is associative and
--- has no divisors of 0; the quotient that is rounded down, and the remainder that it leaves.
+-- Whether an integer is 0; the quotient that is rounded down, and the remainder that it leaves.
 use Rattle.std.proofs.Common.{◌≡◌, ◌≢◌, ◌⊎◌, inl, inr, ℕ, zero, suc, ◌-◌, ◌*◌, ◌%◌, ◌<◌, ◌≤◌, ℤ, pos, negsuc, ◌+ℤ◌, ◌*ℤ◌, neg_ℤ, ap, arith, refl}
 use Rattle.std.proofs.lemmas.Int.{ints}
 use Rattle.std.proofs.Math.IntN.{*ℤ_comm}
 use Rattle.std.specs.Int.{int_div_euclid, int_rem_euclid}
-use borrow.Author.Differences.{up, down, sum_is_lem, product_is, neg_is}
 use native.Mathlib.Nat.{zero-div}
+use Rattle.um_frac.proofs.Integers.{*ℤ-neg_ℤ}
 
--- ---- sums and products
-pub *ℤ-+ℤ : (a b c : ℤ) → a *ℤ (b +ℤ c) ≡ a *ℤ b +ℤ a *ℤ c
-*ℤ-+ℤ a b c = omega (arith, ints, ap (λ n. up a * n) (sum_is_lem b c), ap (λ n. down a * n) (sum_is_lem b c))
-
-pub +ℤ-*ℤ : (a b c : ℤ) → (a +ℤ b) *ℤ c ≡ a *ℤ c +ℤ b *ℤ c
-+ℤ-*ℤ a b c = omega (arith, ints, ap (λ n. up c * n) (sum_is_lem a b), ap (λ n. down c * n) (sum_is_lem a b))
-
-pub *ℤ_assoc : (a b c : ℤ) → (a *ℤ b) *ℤ c ≡ a *ℤ (b *ℤ c)
-*ℤ_assoc a b c =
-    let p = product_is a b in
-    let q = product_is b c in
-    omega (
-      arith,
-      ints,
-      ap (λ n. n * up c) p.0,
-      ap (λ n. n * down c) p.0,
-      ap (λ n. n * up c) p.1,
-      ap (λ n. n * down c) p.1,
-      ap (λ n. up a * n) q.0,
-      ap (λ n. down a * n) q.0,
-      ap (λ n. up a * n) q.1,
-      ap (λ n. down a * n) q.1,
-    )
-
-pub *ℤ-neg_ℤ : (a b : ℤ) → a *ℤ neg_ℤ b ≡ neg_ℤ (a *ℤ b)
-*ℤ-neg_ℤ a b =
-    let p = neg_is b in
-    omega (arith, ints, ap (λ n. up a * n) p.0, ap (λ n. down a * n) p.0, ap (λ n. up a * n) p.1, ap (λ n. down a * n) p.1)
-
--- ---- no divisors of 0
 pub zero_cases : (z : ℤ) → (z ≡ pos 0) ⊎ (z ≢ pos 0)
 zero_cases (pos zero) = inl refl
 zero_cases (pos (suc n)) = inr (λ e. omega (arith, ints, e))
 zero_cases (negsuc n) = inr (λ e. omega (arith, ints, e))
-
-pub pos-*ℤ-zero : (p : ℕ) (z : ℤ) → 0 < p → pos p *ℤ z ≡ pos 0 → z ≡ pos 0
-pos-*ℤ-zero p (pos zero) h e = refl
-pos-*ℤ-zero p (pos (suc k)) h e = absurd (omega (arith, ints, e, h))
-pos-*ℤ-zero p (negsuc k) h e = absurd (omega (arith, ints, e, h))
-
-pub *ℤ-eq-zero : (a b : ℤ) → a *ℤ b ≡ pos 0 → (a ≡ pos 0) ⊎ (b ≡ pos 0)
-*ℤ-eq-zero (pos zero) b e = inl refl
-*ℤ-eq-zero (pos (suc k)) b e = inr (pos-*ℤ-zero (suc k) b (omega arith) e)
-*ℤ-eq-zero (negsuc k) b e = inr (pos-*ℤ-zero (suc k) b (omega arith) (omega (arith, ints, e)))
 
 -- ---- the quotient rounded down, and what it leaves
 pub div-rem_euclid : (a : ℤ) (p : ℕ) → 0 < p → int_div_euclid a (pos p) *ℤ pos p +ℤ int_rem_euclid a (pos p) ≡ a

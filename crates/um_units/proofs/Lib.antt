@@ -9,4 +9,4 @@ pub mod Solutions
 mod AtomOrder
 mod Nonzero
 mod MergeLemmas
-mod Results
+mod ComputedTerms

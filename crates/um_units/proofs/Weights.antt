@@ -5,7 +5,7 @@ use Rattle.std.proofs.lemmas.Bool.{cond_both, eqb-true}
 use Rattle.std.proofs.Math.IntN.{zero-*ℤ, +ℤ_idl}
 use Rattle.um_units.specs.declared.Atom.{Atom}
 use Rattle.um_units.specs.declared.Term.{Term}
-use Rattle.um_units.proofs.Integers.{+ℤ-*ℤ}
+use Rattle.um_frac.proofs.Integers.{+ℤ-*ℤ}
 use Rattle.um_units.specs.Atoms.{is_before, same_atom}
 use Rattle.um_units.specs.Terms.{weigh, is_zero, unless_zero, times_term, normal_form}
 use Rattle.um_units.specs.NormalForm.{same_atom-eq}

@@ -1,9 +1,11 @@
+-- The definitions, in the order in which they are to be read.
 pub mod Atoms
 pub mod Terms
 pub mod NormalForm
 pub mod PowerMap
-pub mod PowerMapCode
 pub mod Range
 pub mod Variables
 pub mod Solutions
+-- The code's.
+pub mod PowerMapCode
 pub mod Wide

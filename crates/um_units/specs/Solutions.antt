@@ -1,6 +1,6 @@
 -- Joint solutions of a list of units over slots, and instances of a list of units.
--- Source: Kennedy (1996) on unification in the free abelian group: a unifier makes a unit equal to 1, and an instance is
--- what a substitution gives. That a solution is a list over numbered slots is this project's own.
+-- Source: Kennedy (1996) on unification in the free abelian group: a unifier makes a unit equal to 1, and an instance
+-- is what a substitution gives. That a solution is a list over numbered slots is this project's own.
 use Rattle.std.specs.Prelude.{◌≡◌, ℕ, List, map, length, All}
 use Rattle.um_units.specs.PowerMap.{PowerMap, one, replace, nth}
 

@@ -1,7 +1,8 @@
 -- Lists of terms, whose powers are integers without bound.
 -- Source: Kennedy (1996): a unit is a product of powers of base units and unit variables. The normal form, in which
 -- atoms rise and no power is 0, is this project's own.
-use Rattle.std.specs.Prelude.{Bool, true, false, not, ◌&&◌, if◌then◌else◌, ◌==◌, List, [], ◌∷◌, ℤ, pos, negsuc, ◌+ℤ◌, ◌*ℤ◌}
+use Rattle.std.specs.Prelude.{Bool, true, false, not, ◌&&◌, if◌then◌else◌, ◌==◌, List}
+use Rattle.std.specs.Prelude.{[], ◌∷◌, ℤ, pos, negsuc, ◌+ℤ◌, ◌*ℤ◌}
 use Rattle.std.specs.List.{list_all}
 use Rattle.um_units.specs.declared.Atom.{Atom}
 use Rattle.um_units.specs.declared.Term.{Term}

@@ -1,5 +1,6 @@
--- Terms whose powers have room for sums of products of powers, which the code adds up before it looks at the range.
--- Source: this project's own.
+-- The code's: terms whose powers have room for sums of products of powers, which the code adds up before it looks at
+-- the range.
+-- Source: this project's own; no public clause rests on it.
 use Rattle.std.specs.Prelude.{◌≡◌, ℕ, max, List, [], ◌∷◌, map, nat_abs}
 use Rattle.um_units.specs.declared.Term.{Term}
 use Rattle.um_units.specs.PowerMap.{PowerMap}

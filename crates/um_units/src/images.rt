@@ -46,9 +46,9 @@ pub fn product(alloc: Global, terms: &[Term], by: &[Unit]) -> Result<Vec<WideTer
         [] => Ok(Vec::new(alloc)),
         [term] => image(alloc, *term, by),
         _ => {
-            let (front, back) = terms.split_at(terms.len() / 2);
-            let left = product(alloc, front, by)?;
-            let right = product(alloc, back, by)?;
+            let (first_half, second_half) = terms.split_at(terms.len() / 2);
+            let left = product(alloc, first_half, by)?;
+            let right = product(alloc, second_half, by)?;
             wide::merged(alloc, &left, &right)
         }
     }

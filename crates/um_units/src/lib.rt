@@ -20,8 +20,6 @@ use std::marker::Model;
 use thiserror::Error;
 
 mod images;
-#[cfg(test)]
-mod tests;
 mod wide;
 
 use wide::WideTerm;

@@ -1,10 +1,10 @@
 -- Lemmas on pieces of lists, and on what calls move of bytes that are known.
-use Rattle.std.proofs.Common.{◌≡◌, ℕ, ◌+◌, ◌-◌, ◌<◌, ◌≤◌, ◌↔◌, List, ◌++◌, length, take, drop, None, Some, refl, sym, ◌∙◌, ap, append_assoc, arith, length-append, length-drop, take_all, take-append-drop}
+use Rattle.std.proofs.Common.{◌≡◌, ℕ, ◌+◌, ◌-◌, ◌<◌, ◌≤◌, ◌↔◌, List, [], ◌++◌, length, take, drop, None, Some, Result, Ok, Err, refl, sym, ◌∙◌, ap, append_assoc, arith, length-append, length-drop, take_all, take-append-drop}
 use Rattle.std.proofs.lemmas.List.{take-append-le, drop-drop}
 use Rattle.std.specs.declared.option.Option.{Option}
-use Rattle.std.specs.Io.KnownBytes.{Consumes}
-use Rattle.std.proofs.KnownBytes.{Consumes-trans}
-use Rattle.um_wire.specs.Bytes.{TellsMoreThan, TellsPrefix, ReadsPast}
+use Rattle.std.specs.Io.KnownBytes.{Consumes, Keeps, WriteAppends}
+use Rattle.std.proofs.KnownBytes.{Consumes-trans, Appends-kept, Appends-nil, Keeps-trans}
+use Rattle.um_wire.specs.Bytes.{TellsMoreThan, TellsPrefix, ReadsPast, AppendsPrefix}
 
 -- known bytes that lose some were at least as many
 pub TellsMoreThan-of_read : (limit : ℕ) (old new : Option (List ℕ)) (bytes : List ℕ)
@@ -44,6 +44,28 @@ append-moved all front rest n m parts is =
     let regrouped = sym (append_assoc front (take n rest) (drop n rest)) in
     let kept = ap (λ (l : List ℕ). front ++ take n rest ++ l) (sym (take_all _ _ whole)) in
     parts ∙ split ∙ regrouped ∙ kept
+
+-- no rest is left of nothing
+pub no_rest : (all front rest : List ℕ) → all ≡ front ++ rest → all ≡ [] → 0 < length rest → ⊥
+no_rest all front rest parts is more =
+    omega (arith, more, length-append front rest, ap length parts, ap length is)
+
+-- what a writer has after a write and a flush of which one failed
+pub failed_write : {E : Type 0} (old mid new : Option (List ℕ)) (result : Result ℕ E)
+    (piece : List ℕ) → WriteAppends old mid result piece → Keeps mid new
+    → AppendsPrefix old new piece
+failed_write old mid new (Ok n) piece written kept = record {
+  front = take n piece;
+  rest = drop n piece;
+  parts = sym (take-append-drop n piece);
+  added = Appends-kept old mid new (take n piece) written kept;
+}
+failed_write old mid new (Err e) piece written kept = record {
+  front = [];
+  rest = piece;
+  parts = refl;
+  added = Appends-kept old old new [] (Appends-nil old) (Keeps-trans old mid new written kept);
+}
 
 -- the next n bytes stand at the front of the piece
 pub drop-copied : (bytes copy piece : List ℕ) (at n : ℕ) → copy ≡ take n (drop at bytes)

@@ -20,8 +20,6 @@ mod source;
 mod std_sink;
 mod std_source;
 mod taker;
-#[cfg(test)]
-mod tests;
 mod write;
 
 pub use mem_sink::MemSink;

@@ -1,6 +1,6 @@
 // A sink in memory, for tests: it takes a few bytes at a time, and fails at the calls that it is
 // told.
-ghost use Rattle.std.specs.Prelude.{◌≡◌, ◌≤◌, ◌↔◌, ◌⊎◌, [], Some, IsErr, IfOk, OnErr, Contains, length, vec_len, vec_capacity};
+ghost use Rattle.std.specs.Prelude.{◌≡◌, ◌≤◌, ◌↔◌, ◌⊎◌, [], Some, IsErr, IfOk, OnOk, OnErr, Contains, length, vec_len, vec_capacity};
 ghost use Rattle.std.specs.Io.KnownBytes.{WriteAppends};
 ghost use Rattle.um_wire.specs.Faults.{Rose, next_count, fault_count};
 ghost use Rattle.um_wire.specs.Bytes.{TakesSome};
@@ -86,6 +86,7 @@ impl Sink for MemSink {
     fn write(&mut self, from: &[u8]) -> Result<usize, Failed>
         ensures bound { TakesSome result from.now }
         ensures bytes { WriteAppends (Some self.old.taken) (Some self.new.taken) result from.now }
+        ensures no_fault { OnOk result (self.new.faults ≡ self.old.faults) }
         ensures never_falls { self.old.faults ≤ self.new.faults }
         ensures failed { OnErr result (Rose self.old.faults self.new.faults) }
 

@@ -45,7 +45,7 @@ const PIECE: usize = 4096;
 /// Reads all bytes that are left in `source`, where they number at most `limit`.
 ///
 /// It answers `TooLong` exactly where byte `limit + 1` was read, and `Failed` only where the source
-/// counted a fault.
+/// counted a fault. After any other answer the source counted none.
 pub fn read_text<S: Source>(
     alloc: Global,
     source: &mut S,
@@ -57,6 +57,7 @@ pub fn read_text<S: Source>(
     ensures too_long { IsErrOf result ReadStop.TooLong → TellsMoreThan limit (S.left source.old) }
     ensures past_limit { ReadsPast limit (IsErrOf result ReadStop.TooLong)
         (S.left source.old) (S.left source.new) }
+    ensures no_fault { ¬ IsErrOf result ReadStop.Failed → S.faults source.new ≡ S.faults source.old }
     ensures never_falls { S.faults source.old ≤ S.faults source.new }
     ensures failed { IsErrOf result ReadStop.Failed →
         Rose (S.faults source.old) (S.faults source.new) }
@@ -70,9 +71,8 @@ pub fn read_text<S: Source>(
 /// most `limit`.
 ///
 /// It answers `TooLong` exactly where byte `limit + 1` was read, and `Failed` only where the source
-/// counted a fault. After either, the taker has taken a prefix of the bytes that were left. It is
-/// given at most `limit` bytes. Each turn takes a byte or is the last, so the call returns.
-#[tactic(auto, using(crate::proofs::Counts::rose_later))]
+/// counted a fault; after any other answer it counted none. After either, the taker has taken a prefix
+/// of the bytes that were left. It is given at most `limit` bytes. Each turn takes a byte or is the last, so the call returns.
 pub fn read_into<S: Source, T: Taker>(
     source: &mut S,
     limit: usize,
@@ -89,6 +89,7 @@ pub fn read_into<S: Source, T: Taker>(
         TellsPrefix (S.left source.old) (T.taken taker.new) }
     ensures fits { ¬ IsErrOf result ReadStop.NoMemory → length (T.taken taker.new) ≤ limit }
     ensures most { T.most taker.new ≡ T.most taker.old }
+    ensures no_fault { ¬ IsErrOf result ReadStop.Failed → S.faults source.new ≡ S.faults source.old }
     ensures never_falls { S.faults source.old ≤ S.faults source.new }
     ensures failed { IsErrOf result ReadStop.Failed →
         Rose (S.faults source.old) (S.faults source.new) }

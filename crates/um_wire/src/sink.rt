@@ -1,5 +1,5 @@
 // Where bytes go.
-ghost use Rattle.std.specs.Prelude.{ℕ, List, ◌≤◌, OnErr};
+ghost use Rattle.std.specs.Prelude.{◌≡◌, ℕ, List, ◌≤◌, OnOk, OnErr};
 ghost use Rattle.std.specs.declared.option.Option.{Option};
 ghost use Rattle.std.specs.Io.KnownBytes.{WriteAppends};
 ghost use Rattle.um_wire.specs.Faults.{Rose};
@@ -17,10 +17,12 @@ pub trait Sink {
     ghost faults: { Self → ℕ };
 
     /// Takes the first bytes of `from`, and answers how many: at least one of a piece that isn't
-    /// empty. After `Failed` the bytes taken are those of before, where the sink tells them.
+    /// empty. After `Failed` the bytes taken are those of before, where the sink tells them. A write
+    /// that takes bytes met no fault on the way.
     fn write(&mut self, from: &[u8]) -> Result<usize, Failed>
         ensures bound { TakesSome result from.now }
         ensures bytes { WriteAppends (taken self.old) (taken self.new) result from.now }
+        ensures no_fault { OnOk result (faults self.new ≡ faults self.old) }
         ensures never_falls { faults self.old ≤ faults self.new }
         ensures failed { OnErr result (Rose (faults self.old) (faults self.new)) };
 }

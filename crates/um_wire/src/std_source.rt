@@ -1,5 +1,5 @@
 // Any reader of std as a source.
-ghost use Rattle.std.specs.Prelude.{◌≡◌, ◌≤◌, OnErr};
+ghost use Rattle.std.specs.Prelude.{◌≡◌, ◌≤◌, OnOk, OnErr};
 ghost use Rattle.std.specs.Io.{ReadsAtMost};
 ghost use Rattle.std.specs.Io.KnownBytes.{ReadConsumes};
 ghost use Rattle.um_wire.specs.Faults.{Rose, fault_count};
@@ -42,6 +42,7 @@ impl<R: Read> Source for StdSource<R> {
         ensures bound { ReadsAtMost result into.new }
         ensures bytes { ReadConsumes (R.remaining self.old.reader) (R.remaining self.new.reader)
             result into.new }
+        ensures no_fault { OnOk result (self.new.faults ≡ self.old.faults) }
         ensures never_falls { self.old.faults ≤ self.new.faults }
         ensures failed { OnErr result (Rose self.old.faults self.new.faults) }
 

@@ -1,7 +1,7 @@
 use Rattle.std.proofs.Common.{ap, sym, subst, ◌∙◌, FitsSigned, to_z, of_z}
 use Rattle.std.specs.Int.{w128}
 use Rattle.std.proofs.lemmas.Int.{to_z-of_z}
-use Rattle.um_frac.proofs.Integers.{sum_read, sum_fits}
+use Rattle.um_frac.proofs.WideProducts.{sum_read, sum_fits}
 use Rattle.um_frac.proofs.number.cross_sum.Goals as goal
 
 pub overflow_add-result : goal.overflow_add-result

@@ -2,7 +2,7 @@ use Rattle.std.proofs.Common.{◌∙◌, ap, subst, sym, map, negsuc}
 use Rattle.um_units.specs.PowerMap.{product, scale}
 use Rattle.um_units.specs.Range.{IsKept}
 use Rattle.um_units.proofs.InRange.{fits-inv, fits-kept, terms-kept}
-use Rattle.um_units.proofs.Results.{kept-inverted}
+use Rattle.um_units.proofs.ComputedTerms.{kept-inverted}
 use Rattle.um_units.proofs.Unit.inv.Goals as goal
 
 pub returns-in_err-terms-clause-fits : goal.returns-in_err-terms-clause-fits

@@ -4,7 +4,7 @@ use Rattle.std.specs.Prelude.{IfOk}
 use Rattle.um_units.specs.PowerMap.{mul, pow, product, scale}
 use Rattle.um_units.specs.Range.{fits, RangeUnless}
 use Rattle.um_units.specs.Wide.{as_terms}
-use Rattle.um_units.proofs.Results.{product-mul_pow}
+use Rattle.um_units.proofs.ComputedTerms.{product-mul_pow}
 use Rattle.um_units.proofs.InRange.{terms-kept}
 use Rattle.um_units.proofs.Unit.mul_pow.Goals as goal
 

@@ -2,7 +2,7 @@ use Rattle.std.proofs.Common.{◌≡◌, ◌/◌, ap, ◌∙◌, subst, length}
 use Rattle.std.specs.Prelude.{IfOk}
 use Rattle.um_units.specs.PowerMap.{PowerMap, nth}
 use Rattle.um_units.specs.Wide.{as_terms}
-use Rattle.um_units.proofs.Results.{images-none, product-halves}
+use Rattle.um_units.proofs.ComputedTerms.{images-none, product-halves}
 use Rattle.um_units.proofs.images.+product.Goals as goal
 
 pub returns-in-empty-clause-product : goal.returns-in-empty-clause-product

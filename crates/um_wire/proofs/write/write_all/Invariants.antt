@@ -1,4 +1,4 @@
-use Rattle.std.proofs.Common.{◌≤◌, ◌≡◌, ◌++◌, List, ℕ, length}
+use Rattle.std.proofs.Common.{◌≡◌, ◌++◌, [], List, ℕ, length}
 use Rattle.std.specs.Io.KnownBytes.{Appends}
 use Rattle.um_wire.proofs.write.write_all.Given as goal
 
@@ -8,7 +8,8 @@ invariant-loop-rest g l = record {
   front : List ℕ;
   parts : l.bytes ≡ front ++ l.rest;
   added : Appends (g.K.Sink.taken l.fn.sink) (g.K.Sink.taken l.sink) front;
-  never_falls : g.K.Sink.faults l.fn.sink ≤ g.K.Sink.faults l.sink;
+  nothing : l.bytes ≡ [] → l.sink ≡ l.fn.sink;
+  no_fault : g.K.Sink.faults l.sink ≡ g.K.Sink.faults l.fn.sink;
 }
 
 -- each turn takes at least one byte

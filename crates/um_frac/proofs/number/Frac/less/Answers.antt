@@ -1,6 +1,6 @@
 use Rattle.std.specs.Prelude.{int_lt}
 use Rattle.um_frac.specs.Fraction.{numerator, denominator}
-use Rattle.um_frac.proofs.Integers.{read_product}
+use Rattle.um_frac.proofs.WideProducts.{read_product}
 use Rattle.um_frac.proofs.LowestTerms.{num_wide, den_wide}
 use Rattle.um_frac.proofs.Outcomes.{less_at}
 use Rattle.um_frac.proofs.number.Frac.less.Goals as goal

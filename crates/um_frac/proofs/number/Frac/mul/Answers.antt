@@ -2,7 +2,7 @@ use Rattle.std.proofs.Common.{◌≡◌, pos, ap, sym, ◌∙◌, arith}
 use Rattle.std.proofs.lemmas.Int.{ints}
 use Rattle.um_frac.specs.Fraction.{numerator, denominator}
 use Rattle.um_frac.specs.Arithmetic.{exactly}
-use Rattle.um_frac.proofs.Integers.{read_product}
+use Rattle.um_frac.proofs.WideProducts.{read_product}
 use Rattle.um_frac.proofs.LowestTerms.{num_read, den_read, num_wide}
 use Rattle.um_frac.proofs.Outcomes.{product_clauses, whole_product, product_from}
 use Rattle.um_frac.proofs.number.Frac.mul.Goals as goal

@@ -1,5 +1,5 @@
 use Rattle.um_frac.proofs.FractionLaws.{negation_is_exact}
-use Rattle.um_frac.proofs.laws.negatives.Goals as goal
+use Rattle.um_frac.proofs.laws.negations.Goals as goal
 
 pub returns : goal.returns
 returns c = negation_is_exact
