@@ -1,4 +1,4 @@
-mod SchemeLists
+pub mod SchemeLists
 pub mod PrincipalSchemes
 mod Stops
 mod ManySlots
