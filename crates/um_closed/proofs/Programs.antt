@@ -12,6 +12,7 @@ use Rattle.um_tree.specs.TypeTree.{num_type}
 use Rattle.um_tree.specs.declared.program.Function.{Function}
 use Rattle.um_tree.specs.ProgramTree.{function_tree, FunctionTree, ProgramTree, SchemeTree, Signature}
 use Rattle.um_tree.specs.Typing.{Typing}
+use Rattle.um_tree.proofs.Numbered.{numbered_below}
 use Rattle.um_tree.specs.Scheme.{IsPrincipal, IsNumberedScheme, atom_variables, unit_variables, variables}
 use Rattle.um_closed.specs.ClosedUnits.{AreClosed}
 use Rattle.um_closed.specs.ClosedProgram.{IsClosedProgram, body_unit}
@@ -24,7 +25,7 @@ use Rattle.um_closed.specs.declared.stop.ClosedStop.{ClosedStop}
 use Rattle.um_closed.specs.declared.stop.ClosedStop.TheVariants.{Open, Units, NoMemory}
 use Rattle.um_closed.proofs.Closedness.{closed_by_terms}
 use Rattle.um_closed.proofs.Functions.{IsClosed as IsClosed-function}
-use Rattle.um_closed.proofs.Typings.{principal, typing, untyped, closed_body}
+use Rattle.um_closed.proofs.Typings.{one_instance, typing, untyped, closed_body}
 
 -- ---- schemes without variables
 
@@ -127,9 +128,10 @@ all_closed p n ss untyped found covers i f at =
 scheme_of : (p : ProgramTree) (i : ℕ) (f : FunctionTree) (s : SchemeTree) (b : Option ℕ) → slice_get p.functions i ≡ Some f → b ≡ None → IsFound f s b → IsPrincipal p i s × IsNumberedScheme s × ((g : Signature) × Typing p i g)
 scheme_of p i f s b at none found =
     let us = found.units in let u = body_unit us f.body in
-    let balanced : IsBalanced us f.body = subst (IsBalance us f.body) none found.balance in (
-      subst (IsPrincipal p i) (sym found.is) (principal p i f us found.closed at balanced),
-      subst IsNumberedScheme (sym found.is) (numbered us u found.closed.closed (closed_body us f.body found.closed.closed found.closed.body)),
+    let balanced : IsBalanced us f.body = subst (IsBalance us f.body) none found.balance in
+    let order = numbered us u found.closed.closed (closed_body us f.body found.closed.closed found.closed.body) in (
+      subst (IsPrincipal p i) (sym found.is) (record { below = numbered_below (number_scheme us u) order; instances = one_instance p i f us found.closed at balanced }),
+      subst IsNumberedScheme (sym found.is) order,
       (number_signature us u, typing p i f us found.closed at balanced),
     )
 

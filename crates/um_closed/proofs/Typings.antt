@@ -1,5 +1,5 @@
 -- A body whose units are all written has one type at most, and its function one typing at most.
-use Rattle.std.proofs.Common.{◌≡◌, refl, sym, ap, ◌∙◌, subst, ℕ, zero, suc, ◌<◌, inl, inr, List, [], ◌∷◌, map, length, slice_get, option_map, Option, Some}
+use Rattle.std.proofs.Common.{◌≡◌, ◌↔◌, refl, sym, ap, ◌∙◌, subst, ℕ, zero, suc, ◌<◌, inl, inr, List, [], ◌∷◌, map, length, slice_get, option_map, Option, Some}
 use Rattle.std.proofs.lemmas.Option.{slice_get-get_or, slice_get-map}
 use Rattle.um_units.specs.PowerMap.{PowerMap, one, inv}
 use Rattle.um_units.specs.Variables.{IsClosed}
@@ -9,7 +9,7 @@ use Rattle.um_tree.specs.TypeTree.{TypeTree, num_type}
 use Rattle.um_tree.specs.ExprTree.{ExprTree, number, local, negate, arith}
 use Rattle.um_tree.specs.ProgramTree.{RecordTree, FunctionTree, ProgramTree, Signature}
 use Rattle.um_tree.specs.Typing.{Typed, TypesMatch, ResultMatches, unit_at, put, put_signature, TypingAt, typings_below, IsTypingOf, Calls, Typing, ArithUnit}
-use Rattle.um_tree.specs.Scheme.{IsPrincipal}
+use Rattle.um_tree.specs.Scheme.{IsInstance}
 use Rattle.um_tree.specs.declared.note.UnitNote.TheVariants.{Written}
 use Rattle.um_tree.specs.declared.expression.Arith.{Arith}
 use Rattle.um_tree.specs.declared.expression.Arith.TheVariants.{Add, Sub, Mul, Div}
@@ -50,7 +50,7 @@ slice_get-num_type us k below = slice_get-map num_type us k ∙ ap (option_map n
 module _ (records : List RecordTree) (calls : ℕ → Signature → Type 0) (choice : ℕ → PowerMap) where
   -- a balanced body has its unit
   pub body_typed : (us : List PowerMap) (e : ExprTree) → IsClosedBody (length us) e → IsBalanced us e → Typed records calls choice (map num_type us) e (num_type (body_unit us e))
-  body_typed us (number at c (Written u)) h balanced = (u, sym (replace-closed choice u h), refl)
+  body_typed us (number at c (Written u)) h balanced = (u, refl, refl)
   body_typed us (local at k) h balanced = slice_get-num_type us k h
   body_typed us (negate at a) h balanced = (body_unit us a, body_typed us a h balanced, refl)
   body_typed us (arith at op a b) h balanced =
@@ -60,7 +60,7 @@ module _ (records : List RecordTree) (calls : ℕ → Signature → Type 0) (cho
 
   -- a body that has a type has its unit
   pub body_type : (us : List PowerMap) (e : ExprTree) (t : TypeTree) → IsClosedBody (length us) e → Typed records calls choice (map num_type us) e t → t ≡ num_type (body_unit us e)
-  body_type us (number at c (Written u)) t h typed = typed.2 ∙ ap num_type (typed.1 ∙ replace-closed choice u h)
+  body_type us (number at c (Written u)) t h typed = typed.2 ∙ ap num_type typed.1
   body_type us (local at k) t h typed = let found : Some t ≡ Some (num_type (unit_at us k)) = sym typed ∙ slice_get-num_type us k h in cc found
   body_type us (negate at a) t h typed = typed.2 ∙ body_type us a (num_type typed.0) h typed.1
   body_type us (arith at op a b) t h typed =
@@ -161,8 +161,8 @@ module _ (p : ProgramTree) (i : ℕ) (f : FunctionTree) (us : List PowerMap) (cl
   }
 
   -- the scheme's only instance is the function's only typing
-  pub principal : slice_get p.functions i ≡ Some f → IsBalanced us f.body → IsPrincipal p i (number_scheme us (body_unit us f.body))
-  principal declared balanced g =
+  pub one_instance : slice_get p.functions i ≡ Some f → IsBalanced us f.body → (g : Signature) → Typing p i g ↔ IsInstance (number_scheme us (body_unit us f.body)) g
+  one_instance declared balanced g =
       let at : Option FunctionTree → Type 0 = λ o. TypingAt p.records (typings_below p i) i o g in (
         (λ typing. (λ k. one, one_typing g (subst at declared typing) ∙ sym (put-signature (λ k. one)))),
         (λ instance.

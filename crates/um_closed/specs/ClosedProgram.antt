@@ -68,4 +68,5 @@ pub record IsClosedFunction (f : FunctionTree) (units : List PowerMap) : Type 0 
 
 -- each function of the program is such a one
 abbrev pub IsClosedProgram : ProgramTree → Type 0
-IsClosedProgram p = (i : ℕ) (f : FunctionTree) → slice_get p.functions i ≡ Some f → (units : List PowerMap) × IsClosedFunction f units
+IsClosedProgram p =
+    (i : ℕ) (f : FunctionTree) → slice_get p.functions i ≡ Some f → (units : List PowerMap) × IsClosedFunction f units

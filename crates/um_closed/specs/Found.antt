@@ -1,5 +1,5 @@
--- What is found of each function.
--- Source: this project's own.
+-- The code's: what is found of each function.
+-- Source: this project's own; no public clause rests on it.
 use Rattle.std.specs.Prelude.{◌≡◌, ◌<◌, ℕ, List, length, slice_get, Option, Some, None, Result, MatchResult}
 use Rattle.um_units.specs.PowerMap.{PowerMap}
 use Rattle.um_tree.specs.ProgramTree.{FunctionTree, ProgramTree, SchemeTree}
@@ -31,7 +31,8 @@ first_told (Some first) i unbalanced = Some first
 -- what the first function without a typing says of function i
 abbrev pub Tells : Option Untyped → ℕ → Option ℕ → Type 0
 Tells None i unbalanced = unbalanced ≡ None
-Tells (Some first) i unbalanced = (i < first.function → unbalanced ≡ None) × (i ≡ first.function → unbalanced ≡ Some first.at)
+Tells (Some first) i unbalanced =
+    (i < first.function → unbalanced ≡ None) × (i ≡ first.function → unbalanced ≡ Some first.at)
 
 abbrev pub IsWithin : Option Untyped → ℕ → Type 0
 IsWithin None n = Unit {0}
@@ -41,5 +42,6 @@ IsWithin (Some first) n = first.function < n
 pub record FoundUpTo (p : ProgramTree) (n : ℕ) (schemes : List SchemeTree) (untyped : Option Untyped) : Type 0 where
   pub count : length schemes ≡ n
   pub each : (i : ℕ) (f : FunctionTree) → i < n → slice_get p.functions i ≡ Some f
-      → (s : SchemeTree) × (unbalanced : Option ℕ) × (slice_get schemes i ≡ Some s) × IsFound f s unbalanced × Tells untyped i unbalanced
+      → (s : SchemeTree) × (unbalanced : Option ℕ) × (slice_get schemes i ≡ Some s) × IsFound f s unbalanced
+      × Tells untyped i unbalanced
   pub within : IsWithin untyped n

@@ -1,6 +1,7 @@
--- What the walk over a body promises, node by node.
--- Source: this project's own.
-use Rattle.std.specs.Prelude.{◌≡◌, ◌<◌, ◌⊎◌, ℕ, IsTrue, List, length, Option, Some, None, Result, MatchResult, MatchOption}
+-- The code's: what the walk over a body promises, node by node.
+-- Source: this project's own; no public clause rests on it.
+use Rattle.std.specs.Prelude.{◌≡◌, ◌<◌, ◌⊎◌, ℕ, IsTrue, List, length}
+use Rattle.std.specs.Prelude.{Option, Some, None, Result, MatchResult, MatchOption}
 use Rattle.um_units.specs.PowerMap.{PowerMap}
 use Rattle.um_units.specs.Range.{fits}
 use Rattle.um_units.specs.Variables.{IsClosed}
@@ -62,5 +63,7 @@ IsFirstOf at op left right place = MatchOption left.unbalanced
 
 abbrev pub IsOperationMeasured : ℕ → Arith → Measured → Measured → Result Measured ClosedStop → Type 0
 IsOperationMeasured at op left right result = MatchResult result
-    (λ m. (m.unit ≡ operation_unit op left.unit right.unit) × IsTrue (fits (formed_unit op left.unit right.unit)) × IsFirstOf at op left right m.unbalanced)
+    (λ m. (m.unit ≡ operation_unit op left.unit right.unit)
+    × IsTrue (fits (formed_unit op left.unit right.unit))
+    × IsFirstOf at op left right m.unbalanced)
     (λ stop. IsOpenUnless stop (IsTrue (fits (formed_unit op left.unit right.unit))) (Unit {0}))

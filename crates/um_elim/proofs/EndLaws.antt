@@ -9,7 +9,8 @@ use Rattle.um_units.specs.declared.Atom.{Atom}
 use Rattle.um_units.specs.declared.Atom.TheVariants.{Base, Var}
 use Rattle.um_units.specs.Terms.{indicator}
 use Rattle.um_units.specs.PowerMap.{PowerMap, power_of, one, atom, pow, image, replace}
-use Rattle.um_units.proofs.Integers.{no_multiple, pos-*ℤ-zero}
+use Rattle.um_frac.proofs.Integers.{pos-*ℤ-zero}
+use Rattle.um_units.proofs.Integers.{no_multiple}
 use Rattle.um_units.proofs.Equality.{same_unit}
 use Rattle.um_units.proofs.Group.{weight-one, weight-atom, weight-pow, one-pow}
 use Rattle.um_units.proofs.Replacement.{weight-replace, weight_held, replace-one, replace-pow, replace-variable}

@@ -4,17 +4,17 @@ use Rattle.um_units.specs.declared.Atom.{Atom}
 use Rattle.um_units.specs.declared.Atom.TheVariants.{Base, Var}
 use Rattle.um_units.specs.declared.Term.{Term}
 use Rattle.um_units.specs.PowerMap.{PowerMap, product, atom}
-use Rattle.um_elim.specs.Elimination.{Outcome, Solved, NoSolution, Range, eliminate, eliminate_rows}
+use Rattle.um_elim.specs.Elimination.{Elimination, Solved, NoSolution, Range, eliminate, eliminate_rows}
 
 abbrev term : Atom → ℤ → Term
 term x k = record { atom = x; power = k }
 
-abbrev units_of : Outcome → List PowerMap
+abbrev units_of : Elimination → List PowerMap
 units_of (Solved us) = us
 units_of NoSolution = []
 units_of Range = []
 
-abbrev terms_of : Outcome → List (List Term)
+abbrev terms_of : Elimination → List (List Term)
 terms_of o = map (λ (u : PowerMap). u.terms) (units_of o)
 
 -- a^2 b^-3 over two slots: b^-3 and b^-2 over a new variable, which is the first slot's

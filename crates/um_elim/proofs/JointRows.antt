@@ -8,7 +8,7 @@ use Rattle.um_units.specs.PowerMap.{PowerMap}
 use Rattle.um_units.specs.Variables.{VariablesBelow}
 use Rattle.um_units.specs.Solutions.{IsSolvable}
 use Rattle.um_units.proofs.Solutions.{IsSolvable-front}
-use Rattle.um_elim.specs.Elimination.{Outcome, Solved, NoSolution, Range, eliminate, on_solved, eliminate_rows}
+use Rattle.um_elim.specs.Elimination.{Elimination, Solved, NoSolution, Range, eliminate, on_solved, eliminate_rows}
 use Rattle.um_elim.specs.Instances.{SolvesExactly, IsJointlyRight}
 use Rattle.um_elim.specs.Solution.{own_variables}
 use Rattle.um_elim.proofs.Rows.{solved_is_most_general, refused_is_unsatisfiable, length-solved, exactly-more, unsolvable-more}
@@ -26,7 +26,7 @@ one_by_one slots us done (row ∷ rows) l below exact =
     split : (done ++ row ∷ []) ++ rows ≡ done ++ row ∷ rows
     split = append_assoc done (row ∷ []) rows
 
-    at : ((vs : List PowerMap) → length vs ≡ slots → SolvesExactly slots (done ++ row ∷ []) vs → IsJointlyRight slots ((done ++ row ∷ []) ++ rows) (eliminate_rows vs rows)) → (o : Outcome) → eliminate us row ≡ o → IsJointlyRight slots (done ++ row ∷ rows) (on_solved o (λ vs. eliminate_rows vs rows))
+    at : ((vs : List PowerMap) → length vs ≡ slots → SolvesExactly slots (done ++ row ∷ []) vs → IsJointlyRight slots ((done ++ row ∷ []) ++ rows) (eliminate_rows vs rows)) → (o : Elimination) → eliminate us row ≡ o → IsJointlyRight slots (done ++ row ∷ rows) (on_solved o (λ vs. eliminate_rows vs rows))
     at rest (Solved vs) e =
         let g = solved_is_most_general us row vs h e in
         subst (λ rs. IsJointlyRight slots rs (eliminate_rows vs rows)) split

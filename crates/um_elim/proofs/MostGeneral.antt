@@ -14,11 +14,11 @@ use Rattle.um_units.proofs.Group.{weight-one, terms-one}
 use Rattle.um_units.proofs.Replacement.{replace-one, replace-replace, replace-closed}
 use Rattle.um_elim.specs.declared.pivot.Pivot.{Pivot}
 use Rattle.um_elim.specs.Pivot.{pivot, size, least_power, has_other, has_base}
-use Rattle.um_elim.specs.Turn.{substitute, turn, upright}
-use Rattle.um_elim.specs.Elimination.{Outcome, Solved, NoSolution, Range, is_empty, ended, after_turn, turn_at, turns}
+use Rattle.um_elim.specs.Turn.{substitute, turn, inverted_if_negative}
+use Rattle.um_elim.specs.Elimination.{Elimination, Solved, NoSolution, Range, is_empty, ended, after_turn, turn_at, turns}
 use Rattle.um_elim.proofs.Cases.{on_test}
 use Rattle.um_elim.proofs.PivotLaws.{is_pivot, no_pivot}
-use Rattle.um_elim.proofs.TurnLaws.{IsRemainder, power_of-turn_pivot, power_of-turn_other, least_power-falls, turn_back, turned_back, upright_pivot, upright_solved, upright_solves, positive_size}
+use Rattle.um_elim.proofs.TurnLaws.{IsRemainder, power_of-turn_pivot, power_of-turn_other, least_power-falls, turn_back, turned_back, positive_pivot, inverted_solved, inverted_solves, positive_size}
 use Rattle.um_elim.proofs.EndLaws.{unsolvable_end, pivot_is_one, one_solves, after_one, one_for_pivot}
 
 -- the substitutions that solve r give the old units exactly the values that any substitution gives the new ones
@@ -26,7 +26,7 @@ pub record Generates (old : List PowerMap) (r : PowerMap) (new : List PowerMap) 
   pub each : (s : ℕ → PowerMap) → replace s r ≡ one → (t : ℕ → PowerMap) × (map (replace t) new ≡ map (replace s) old)
   pub only : (t : ℕ → PowerMap) → (s : ℕ → PowerMap) × (replace s r ≡ one) × (map (replace s) old ≡ map (replace t) new)
 
-abbrev pub IsSound : List PowerMap → PowerMap → Outcome → Type 0
+abbrev pub IsSound : List PowerMap → PowerMap → Elimination → Type 0
 IsSound old r (Solved new) = Generates old r new
 IsSound old r NoSolution = (s : ℕ → PowerMap) → replace s r ≡ one → ⊥
 IsSound old r Range = Unit {0}
@@ -47,19 +47,19 @@ map-undone : (m p : ℕ) (q : PowerMap) (s : ℕ → PowerMap) (us : List PowerM
 map-undone m p q s [] = refl
 map-undone m p q s (u ∷ us) = λ i. undone m p q u s i ∷ map-undone m p q s us i
 
-before_turn : (m p : ℕ) (a : ℤ) (r : PowerMap) (old : List PowerMap) (o : Outcome) →
-    IsSound (map (replace (turn m p (upright a r))) old) (replace (turn m p (upright a r)) (upright a r)) o → IsSound old r o
+before_turn : (m p : ℕ) (a : ℤ) (r : PowerMap) (old : List PowerMap) (o : Elimination) →
+    IsSound (map (replace (turn m p (inverted_if_negative a r))) old) (replace (turn m p (inverted_if_negative a r)) (inverted_if_negative a r)) o → IsSound old r o
 before_turn m p a r old (Solved new) g =
-    let q = upright a r in
+    let q = inverted_if_negative a r in
     record {
       each = λ s h.
-          let w = g.each (after s (turn_back m p q)) (undone m p q q s ∙ upright_solved s a r h) in
+          let w = g.each (after s (turn_back m p q)) (undone m p q q s ∙ inverted_solved s a r h) in
           (w.0, w.1 ∙ map-undone m p q s old);
       only = λ t.
           let w = g.only t in
-          (after w.0 (turn m p q), upright_solves (after w.0 (turn m p q)) a r (sym (replace-replace (turn m p q) w.0 q) ∙ w.1), sym (map-after w.0 (turn m p q) old) ∙ w.2);
+          (after w.0 (turn m p q), inverted_solves (after w.0 (turn m p q)) a r (sym (replace-replace (turn m p q) w.0 q) ∙ w.1), sym (map-after w.0 (turn m p q) old) ∙ w.2);
     }
-before_turn m p a r old NoSolution g = λ s h. g (after s (turn_back m p (upright a r))) (undone m p (upright a r) (upright a r) s ∙ upright_solved s a r h)
+before_turn m p a r old NoSolution g = λ s h. g (after s (turn_back m p (inverted_if_negative a r))) (undone m p (inverted_if_negative a r) (inverted_if_negative a r) s ∙ inverted_solved s a r h)
 before_turn m p a r old Range g = tt
 
 -- ---- the end of a row
@@ -72,7 +72,7 @@ ended_sound m p r old h e small o =
       only = λ t. (after t (substitute m one), one_solves m p r e o f (after t (substitute m one)) (one_for_pivot m t), sym (map-after t (substitute m one) old));
     }))
 
-after_turn_sound : (again : List PowerMap → PowerMap → Outcome) (n m p : ℕ) (r : PowerMap) (old : List PowerMap) →
+after_turn_sound : (again : List PowerMap → PowerMap → Elimination) (n m p : ℕ) (r : PowerMap) (old : List PowerMap) →
     ((us : List PowerMap) (u : PowerMap) → least_power u < n → IsSound us u (again us u)) →
     0 < p → p ≤ n → power_of r (Var m) ≡ pos p → ((y : Atom) → same_atom (Var m) y ≡ false → IsRemainder p (power_of r y)) →
     IsSound old r (after_turn again m old r)
@@ -95,7 +95,7 @@ one_empty : (r : PowerMap) → r ≡ one → is_empty r.terms ≡ true
 one_empty r e = ap (λ (u : PowerMap). is_empty u.terms) e ∙ ap is_empty terms-one
 
 -- ---- all turns
-turn_at_sound : (again : List PowerMap → PowerMap → Outcome) (n : ℕ) (old : List PowerMap) (r : PowerMap) →
+turn_at_sound : (again : List PowerMap → PowerMap → Elimination) (n : ℕ) (old : List PowerMap) (r : PowerMap) →
     ((us : List PowerMap) (u : PowerMap) → least_power u < n → IsSound us u (again us u)) →
     (o : Option Pivot) → pivot r ≡ o → size o ≤ n → IsSound old r (turn_at again old r o)
 turn_at_sound again n old r rest None e l =
@@ -106,8 +106,8 @@ turn_at_sound again n old r rest (Some t) e l =
     let found = is_pivot r t e in
     let m = t.variable in
     let p = nat_abs t.power in
-    let q = upright t.power r in
-    let at : power_of q (Var m) ≡ pos p = upright_pivot t.power m r found.is in
+    let q = inverted_if_negative t.power r in
+    let at : power_of q (Var m) ≡ pos p = positive_pivot t.power m r found.is in
     let h : 0 < p = positive_size t.power found.nonzero in
     before_turn m p t.power r old _
     (after_turn_sound again n m p (replace (turn m p q) q) (map (replace (turn m p q)) old) rest h l (power_of-turn_pivot m p q ∙ at) (power_of-turn_other m p q h at))

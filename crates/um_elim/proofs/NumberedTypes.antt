@@ -1,10 +1,9 @@
 -- The renumbered types are numbered, and have the same instances.
 use Rattle.std.proofs.Common.{◌≡◌, ◌≢◌, inl, inr, ℕ, suc, ◌+◌, ◌-◌, ◌<◌, ◌≤◌, true, false, not, List, [], ◌∷◌, ◌++◌, length, get_or, map, pos, refl, sym, ap, ◌∙◌, subst, length-append, arith}
-use Rattle.std.specs.Prelude.{IsTrue, All, Contains}
+use Rattle.std.specs.Prelude.{IsTrue, Contains}
 use Rattle.std.specs.List.{flat_map}
 use Rattle.std.proofs.lemmas.Bool.{cases_lt, cases_eq, ne_eqb, lt-ltb, and_parts}
 use Rattle.std.proofs.lemmas.List.{append-nil, append_assoc, map-append, get_or_append_left, get_or-append_right}
-use Rattle.std.proofs.lemmas.List.Elements.{All-nil, All-cons}
 use Rattle.std.proofs.lemmas.Grind.{flat_map-append}
 use Rattle.std.proofs.lemmas.Map.Views.{list_any-from_Contains}
 use Rattle.std.proofs.lemmas.Cmp.{nat_eq_equiv}
@@ -221,18 +220,6 @@ Contains-member xs k h = list_any-from_Contains nat_eq_equiv k xs h
 pub one_for_one : (ts : List TypeTree) → AreRenamedOneForOne ts
 one_for_one ts j k h g e =
     same_place (variable_order ts) j k (member-first j (variables ts) ∙ Contains-member (variables ts) j h) (member-first k (variables ts) ∙ Contains-member (variables ts) k g) e
-
--- the numbers that come in order are below their count
-not_after : (k n : ℕ) (xs : List ℕ) → FirstComeInOrder k xs n → k ≤ n
-not_after k n [] e = omega (arith, e)
-not_after k n (x ∷ xs) h = elim h [ inl p ↦ not_after k n xs p.1 | inr p ↦ let l = not_after (suc k) n xs p.1 in omega (arith, l) ]
-
-pub in_order_below : (k n : ℕ) (xs : List ℕ) → FirstComeInOrder k xs n → All (λ x. x < n) xs
-in_order_below k n [] e = All-nil (λ x. x < n)
-in_order_below k n (x ∷ xs) h = elim h [
-  | inl p ↦ All-cons (λ x. x < n) x xs (let l = not_after k n xs p.1 in let i = p.0 in omega (arith, l, i)) (in_order_below k n xs p.1)
-  | inr p ↦ All-cons (λ x. x < n) x xs (let l = not_after (suc k) n xs p.1 in let i = p.0 in omega (arith, l, i)) (in_order_below (suc k) n xs p.1)
-]
 
 -- the numbers of an order put back
 abbrev put_back : List ℕ → (ℕ → PowerMap) → ℕ → PowerMap

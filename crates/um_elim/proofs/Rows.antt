@@ -13,16 +13,16 @@ use Rattle.um_units.proofs.Replacement.{replace-nth_map}
 use Rattle.um_units.proofs.Solutions.{IsJointSolution-append, IsJointSolution-front, Solves-back, length-instance, IsInstance_refl}
 use Rattle.um_elim.specs.declared.pivot.Pivot.{Pivot}
 use Rattle.um_elim.specs.Pivot.{pivot, size, least_power, has_other}
-use Rattle.um_elim.specs.Turn.{turn, upright}
-use Rattle.um_elim.specs.Elimination.{Outcome, Solved, NoSolution, Range, after_turn, turn_at, turns, eliminate}
+use Rattle.um_elim.specs.Turn.{turn, inverted_if_negative}
+use Rattle.um_elim.specs.Elimination.{Elimination, Solved, NoSolution, Range, after_turn, turn_at, turns, eliminate}
 use Rattle.um_elim.specs.Instances.{Satisfies, IsMostGeneral, IsUnsatisfiable, IsRight, SolvesExactly}
 use Rattle.um_elim.proofs.Cases.{on_test}
 use Rattle.um_elim.proofs.PivotLaws.{is_pivot}
-use Rattle.um_elim.proofs.TurnLaws.{power_of-turn_other, least_power-falls, upright_pivot, positive_size}
+use Rattle.um_elim.proofs.TurnLaws.{power_of-turn_other, least_power-falls, positive_pivot, positive_size}
 use Rattle.um_elim.proofs.MostGeneral.{IsSound, turns_sound}
 
 -- ---- one row
-right_from_sound : (old : List PowerMap) (row : PowerMap) → VariablesBelow (length old) row → (o : Outcome) → IsSound old (replace (nth old) row) o → IsRight old row o
+right_from_sound : (old : List PowerMap) (row : PowerMap) → VariablesBelow (length old) row → (o : Elimination) → IsSound old (replace (nth old) row) o → IsRight old row o
 right_from_sound old row h (Solved new) g = λ v. (
   (λ i. let w = g.only i.0 in ((w.0, w.2 ∙ i.1), subst (λ z. Satisfies z row) (w.2 ∙ i.1) (replace-nth_map w.0 old row h ∙ w.1))),
   (λ b. let i = b.0 in let w = g.each i.0 (sym (replace-nth_map i.0 old row h) ∙ subst (λ z. Satisfies z row) (sym i.1) b.1) in (w.0, w.1 ∙ i.1)),
@@ -66,20 +66,20 @@ unsolvable-more slots rows row old exact g solvable =
     g v ((exact v).1 (IsJointSolution-front slots rows (row ∷ []) v joint)) (last_row (nth v) rows row joint.solves)
 
 -- ---- more turns than are needed change nothing
-after_turn-alike : (f g : List PowerMap → PowerMap → Outcome) (m : ℕ) (us : List PowerMap) (r : PowerMap) → (has_other m r ≡ true → f us r ≡ g us r) → after_turn f m us r ≡ after_turn g m us r
+after_turn-alike : (f g : List PowerMap → PowerMap → Elimination) (m : ℕ) (us : List PowerMap) (r : PowerMap) → (has_other m r ≡ true → f us r ≡ g us r) → after_turn f m us r ≡ after_turn g m us r
 after_turn-alike f g m us r same = on_test (fits r && list_all fits us)
     (λ e. rw e (on_test (has_other m r) (λ o. rw o (same o)) (λ o. rw o)))
     (λ e. rw e)
 
-turn_at-alike : (f g : List PowerMap → PowerMap → Outcome) (us : List PowerMap) (r : PowerMap) (o : Option Pivot) → pivot r ≡ o →
+turn_at-alike : (f g : List PowerMap → PowerMap → Elimination) (us : List PowerMap) (r : PowerMap) (o : Option Pivot) → pivot r ≡ o →
     ((vs : List PowerMap) (v : PowerMap) → least_power v < size o → f vs v ≡ g vs v) → turn_at f us r o ≡ turn_at g us r o
 turn_at-alike f g us r None e same = refl
 turn_at-alike f g us r (Some t) e same =
     let found = is_pivot r t e in
     let m = t.variable in
     let p = nat_abs t.power in
-    let q = upright t.power r in
-    let at : power_of q (Var m) ≡ pos p = upright_pivot t.power m r found.is in
+    let q = inverted_if_negative t.power r in
+    let at : power_of q (Var m) ≡ pos p = positive_pivot t.power m r found.is in
     let h : 0 < p = positive_size t.power found.nonzero in
     after_turn-alike f g m (map (replace (turn m p q)) us) (replace (turn m p q) q)
     (λ o. same (map (replace (turn m p q)) us) (replace (turn m p q) q) (least_power-falls m p (replace (turn m p q) q) (power_of-turn_other m p q h at) o))

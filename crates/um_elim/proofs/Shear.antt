@@ -10,7 +10,7 @@ use Rattle.um_units.specs.declared.Atom.TheVariants.{Base, Var}
 use Rattle.um_units.specs.declared.Term.{Term}
 use Rattle.um_units.specs.Terms.{indicator, weigh}
 use Rattle.um_units.specs.PowerMap.{PowerMap, power_of, one, atom, mul, inv, pow, image, replace}
-use Rattle.um_units.proofs.Integers.{*ℤ-+ℤ, +ℤ-*ℤ, *ℤ_assoc, *ℤ-neg_ℤ}
+use Rattle.um_frac.proofs.Integers.{*ℤ-+ℤ, +ℤ-*ℤ, *ℤ_assoc, *ℤ-neg_ℤ}
 use Rattle.um_units.proofs.Weights.{weigh_alike}
 use Rattle.um_units.proofs.Equality.{same_unit}
 use Rattle.um_units.proofs.Group.{weight-atom, weight-mul, weight-inv, weight-pow, mul-inv, mul-one, pow-zero}

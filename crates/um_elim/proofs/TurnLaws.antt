@@ -18,7 +18,7 @@ use Rattle.um_units.proofs.Group.{weight-inv, inv-one, inv-inv}
 use Rattle.um_units.proofs.Replacement.{replace-inv}
 use Rattle.um_elim.specs.declared.pivot.Pivot.{Pivot}
 use Rattle.um_elim.specs.Pivot.{pivot, size, least_power, has_other}
-use Rattle.um_elim.specs.Turn.{quotients, multiply, turn, upright}
+use Rattle.um_elim.specs.Turn.{quotients, multiply, turn, inverted_if_negative}
 use Rattle.um_elim.proofs.Cases.{on_test}
 use Rattle.um_elim.proofs.Shear.{power_of-multiply, power_of-multiply_same, multiply_back}
 use Rattle.um_elim.proofs.PivotLaws.{no_pivot, is_pivot, some_other}
@@ -104,17 +104,17 @@ pub turned_back : (m p : ℕ) (r u : PowerMap) → replace (turn_back m p r) (re
 turned_back m p r u = multiply_back m (quotients m p r) u (power_of-quotients_pivot m p r)
 
 -- ---- inverting a unit
-pub upright_pivot : (a : ℤ) (m : ℕ) (r : PowerMap) → power_of r (Var m) ≡ a → power_of (upright a r) (Var m) ≡ pos (nat_abs a)
-upright_pivot (pos n) m r e = e
-upright_pivot (negsuc n) m r e = weight-inv (indicator (Var m)) r ∙ ap neg_ℤ e
+pub positive_pivot : (a : ℤ) (m : ℕ) (r : PowerMap) → power_of r (Var m) ≡ a → power_of (inverted_if_negative a r) (Var m) ≡ pos (nat_abs a)
+positive_pivot (pos n) m r e = e
+positive_pivot (negsuc n) m r e = weight-inv (indicator (Var m)) r ∙ ap neg_ℤ e
 
-pub upright_solved : (s : ℕ → PowerMap) (a : ℤ) (r : PowerMap) → replace s r ≡ one → replace s (upright a r) ≡ one
-upright_solved s (pos n) r h = h
-upright_solved s (negsuc n) r h = replace-inv s r ∙ ap inv h ∙ inv-one
+pub inverted_solved : (s : ℕ → PowerMap) (a : ℤ) (r : PowerMap) → replace s r ≡ one → replace s (inverted_if_negative a r) ≡ one
+inverted_solved s (pos n) r h = h
+inverted_solved s (negsuc n) r h = replace-inv s r ∙ ap inv h ∙ inv-one
 
-pub upright_solves : (s : ℕ → PowerMap) (a : ℤ) (r : PowerMap) → replace s (upright a r) ≡ one → replace s r ≡ one
-upright_solves s (pos n) r h = h
-upright_solves s (negsuc n) r h = sym (inv-inv (replace s r)) ∙ ap inv (sym (replace-inv s r) ∙ h) ∙ inv-one
+pub inverted_solves : (s : ℕ → PowerMap) (a : ℤ) (r : PowerMap) → replace s (inverted_if_negative a r) ≡ one → replace s r ≡ one
+inverted_solves s (pos n) r h = h
+inverted_solves s (negsuc n) r h = sym (inv-inv (replace s r)) ∙ ap inv (sym (replace-inv s r) ∙ h) ∙ inv-one
 
 pub positive_size : (a : ℤ) → a ≢ pos 0 → 0 < nat_abs a
 positive_size (pos zero) n = absurd (n refl)

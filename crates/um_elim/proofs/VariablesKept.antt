@@ -14,8 +14,8 @@ use Rattle.um_tree.specs.Typing.{put}
 use Rattle.um_tree.specs.Scheme.{unit_variables, type_variables}
 use Rattle.um_elim.specs.declared.pivot.Pivot.{Pivot}
 use Rattle.um_elim.specs.Pivot.{pivot, least_power, has_other, has_base}
-use Rattle.um_elim.specs.Turn.{substitute, quotients, turn, upright}
-use Rattle.um_elim.specs.Elimination.{Outcome, Solved, NoSolution, Range, is_empty, ended, after_turn, turn_at, turns, eliminate}
+use Rattle.um_elim.specs.Turn.{substitute, quotients, turn, inverted_if_negative}
+use Rattle.um_elim.specs.Elimination.{Elimination, Solved, NoSolution, Range, is_empty, ended, after_turn, turn_at, turns, eliminate}
 use Rattle.um_elim.specs.Solution.{own_variables}
 use Rattle.um_elim.proofs.Cases.{on_test}
 use Rattle.um_elim.proofs.PivotLaws.{is_pivot}
@@ -34,9 +34,9 @@ one_below n = VariablesBelow-closed n one IsClosed-one
 pub quotients_below : (n m p : ℕ) (r : PowerMap) → VariablesBelow n r → VariablesBelow n (quotients m p r)
 quotients_below n m p r below k held = below k (λ z. held (power_of-quotients m p r (Var k) ∙ ap (less m p (Var k)) z ∙ less-zero m p (Var k)))
 
-pub upright_below : (n : ℕ) (a : ℤ) (r : PowerMap) → VariablesBelow n r → VariablesBelow n (upright a r)
-upright_below n (pos a) r below = below
-upright_below n (negsuc a) r below = VariablesBelow-inv n r below
+pub inverted_below : (n : ℕ) (a : ℤ) (r : PowerMap) → VariablesBelow n r → VariablesBelow n (inverted_if_negative a r)
+inverted_below n (pos a) r below = below
+inverted_below n (negsuc a) r below = VariablesBelow-inv n r below
 
 -- each variable below n becomes a unit whose variables are below n
 abbrev pub Stays : ℕ → (ℕ → PowerMap) → Type 0
@@ -60,43 +60,43 @@ all_replaced_below n s stays (u ∷ us) all =
     (all_replaced_below n s stays us (All-tail (VariablesBelow n) u us all))
 
 -- ---- the elimination
-abbrev OutcomeBelow : ℕ → Outcome → Type 0
-OutcomeBelow n (Solved us) = All (VariablesBelow n) us
-OutcomeBelow n NoSolution = Unit {0}
-OutcomeBelow n Range = Unit {0}
+abbrev SolvedBelow : ℕ → Elimination → Type 0
+SolvedBelow n (Solved us) = All (VariablesBelow n) us
+SolvedBelow n NoSolution = Unit {0}
+SolvedBelow n Range = Unit {0}
 
-module _ (n : ℕ) (again : List PowerMap → PowerMap → Outcome) (rest : (us : List PowerMap) (r : PowerMap) → All (VariablesBelow n) us → VariablesBelow n r → OutcomeBelow n (again us r)) where
-  ended_below : (m : ℕ) (us : List PowerMap) (r : PowerMap) → All (VariablesBelow n) us → OutcomeBelow n (ended m us r)
+module _ (n : ℕ) (again : List PowerMap → PowerMap → Elimination) (rest : (us : List PowerMap) (r : PowerMap) → All (VariablesBelow n) us → VariablesBelow n r → SolvedBelow n (again us r)) where
+  ended_below : (m : ℕ) (us : List PowerMap) (r : PowerMap) → All (VariablesBelow n) us → SolvedBelow n (ended m us r)
   ended_below m us r all =
       on_test (has_base r) (λ f. rw f tt) (λ f. rw f (all_replaced_below n (substitute m one) (substitute_stays n m one (one_below n)) us all))
 
-  after_turn_below : (m : ℕ) (us : List PowerMap) (r : PowerMap) → All (VariablesBelow n) us → VariablesBelow n r → OutcomeBelow n (after_turn again m us r)
+  after_turn_below : (m : ℕ) (us : List PowerMap) (r : PowerMap) → All (VariablesBelow n) us → VariablesBelow n r → SolvedBelow n (after_turn again m us r)
   after_turn_below m us r all below =
       on_test (fits r && list_all fits us)
       (λ f. rw f (on_test (has_other m r) (λ g. rw g (rest us r all below)) (λ g. rw g (ended_below m us r all))))
       (λ f. rw f tt)
 
-  turn_at_below : (us : List PowerMap) (r : PowerMap) (o : Option Pivot) → pivot r ≡ o → All (VariablesBelow n) us → VariablesBelow n r → OutcomeBelow n (turn_at again us r o)
+  turn_at_below : (us : List PowerMap) (r : PowerMap) (o : Option Pivot) → pivot r ≡ o → All (VariablesBelow n) us → VariablesBelow n r → SolvedBelow n (turn_at again us r o)
   turn_at_below us r None e all below = on_test (is_empty r.terms) (λ f. rw f all) (λ f. rw f tt)
   turn_at_below us r (Some t) e all below =
       let found = is_pivot r t e in
-      let q = upright t.power r in
-      let low = upright_below n t.power r below in
+      let q = inverted_if_negative t.power r in
+      let low = inverted_below n t.power r below in
       let stays = turn_stays n t.variable (nat_abs t.power) q (below t.variable (λ z. found.nonzero (sym found.is ∙ z))) low in
       after_turn_below t.variable (map (replace (turn t.variable (nat_abs t.power) q)) us) (replace (turn t.variable (nat_abs t.power) q) q) (all_replaced_below n _ stays us all) (replaced_below n _ stays q low)
 
-turns_below : (n fuel : ℕ) (us : List PowerMap) (r : PowerMap) → All (VariablesBelow n) us → VariablesBelow n r → OutcomeBelow n (turns fuel us r)
+turns_below : (n fuel : ℕ) (us : List PowerMap) (r : PowerMap) → All (VariablesBelow n) us → VariablesBelow n r → SolvedBelow n (turns fuel us r)
 turns_below n zero us r all below = tt
 turns_below n (suc f) us r all below = turn_at_below n (turns f) (turns_below n f) us r (pivot r) refl all below
 
-eliminate_below : (n : ℕ) (us : List PowerMap) (row : PowerMap) → VariablesBelow (length us) row → All (VariablesBelow n) us → OutcomeBelow n (eliminate us row)
+eliminate_below : (n : ℕ) (us : List PowerMap) (row : PowerMap) → VariablesBelow (length us) row → All (VariablesBelow n) us → SolvedBelow n (eliminate us row)
 eliminate_below n us row slots all =
     on_test (fits (replace (nth us) row))
     (λ f. rw f (turns_below n (suc (least_power (replace (nth us) row))) us (replace (nth us) row) all (VariablesBelow-replace_nth n us row all slots)))
     (λ f. rw f tt)
 
 pub solved_below : (us : List PowerMap) (row : PowerMap) (new : List PowerMap) → VariablesBelow (length us) row → eliminate us row ≡ Solved new → (n : ℕ) → All (VariablesBelow n) us → All (VariablesBelow n) new
-solved_below us row new slots e n all = subst (OutcomeBelow n) e (eliminate_below n us row slots all)
+solved_below us row new slots e n all = subst (SolvedBelow n) e (eliminate_below n us row slots all)
 
 pub all_own_below : (slots : ℕ) → All (VariablesBelow slots) (own_variables slots)
 all_own_below slots k d h =

@@ -11,12 +11,16 @@ use Rattle.um_elim.specs.Elimination.{Solved, NoSolution, Range, eliminate}
 use Rattle.um_elim.specs.Instances.{IsMostGeneral, IsUnsatisfiable, SolvesExactly}
 use Rattle.um_elim.specs.Solution.{Solution}
 
--- the elimination's outcome is the answer, unless a row was refused before or memory ran out. A refusal spends it
+-- the answer is what the elimination gives, unless a row was refused before or memory ran out. A refusal spends the
+-- solver
 abbrev pub IsAdded : Solution → PowerMap → Solution → Result (Unit {0}) ElimStop → Type 0
-IsAdded old row new (Ok _) = (old.spent ≡ false) × (eliminate old.units row ≡ Solved new.units) × (new.spent ≡ false)
+IsAdded old row new (Ok _) =
+    (old.spent ≡ false) × (eliminate old.units row ≡ Solved new.units) × (new.spent ≡ false)
 IsAdded old row new (Err stop.Spent) = (old.spent ≡ true) × (new ≡ old)
-IsAdded old row new (Err stop.NoSolution) = (old.spent ≡ false) × (eliminate old.units row ≡ NoSolution) × (new.spent ≡ true)
-IsAdded old row new (Err stop.Range) = (old.spent ≡ false) × (eliminate old.units row ≡ Range) × (new.spent ≡ true)
+IsAdded old row new (Err stop.NoSolution) =
+    (old.spent ≡ false) × (eliminate old.units row ≡ NoSolution) × (new.spent ≡ true)
+IsAdded old row new (Err stop.Range) =
+    (old.spent ≡ false) × (eliminate old.units row ≡ Range) × (new.spent ≡ true)
 IsAdded old row new (Err stop.NoMemory) = (old.spent ≡ false) × (new.spent ≡ true)
 
 -- what the answer says of the instances: after Ok they are those that satisfy the row, and after NoSolution none does
@@ -29,9 +33,13 @@ HasInstances old row new (Err stop.NoMemory) = Unit {0}
 
 -- what the answer says of the rows, where the instances were exactly the joint solutions of those before
 abbrev pub SolvesRows : Solution → PowerMap → Solution → Result (Unit {0}) ElimStop → Type 0
-SolvesRows old row new (Ok _) = (rows : List PowerMap) → SolvesExactly (length old.units) rows old.units → SolvesExactly (length old.units) (rows ++ row ∷ []) new.units
+SolvesRows old row new (Ok _) =
+    (rows : List PowerMap) →
+    SolvesExactly (length old.units) rows old.units → SolvesExactly (length old.units) (rows ++ row ∷ []) new.units
 SolvesRows old row new (Err stop.Spent) = Unit {0}
-SolvesRows old row new (Err stop.NoSolution) = (rows : List PowerMap) → SolvesExactly (length old.units) rows old.units → IsSolvable (length old.units) (rows ++ row ∷ []) → ⊥
+SolvesRows old row new (Err stop.NoSolution) =
+    (rows : List PowerMap) →
+    SolvesExactly (length old.units) rows old.units → IsSolvable (length old.units) (rows ++ row ∷ []) → ⊥
 SolvesRows old row new (Err stop.Range) = Unit {0}
 SolvesRows old row new (Err stop.NoMemory) = Unit {0}
 

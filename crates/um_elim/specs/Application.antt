@@ -1,5 +1,6 @@
 -- What it is to apply a solution to a type.
--- Source: Kennedy (1996): a substitution applied to a type. That powers are refused outside a range is this project's own.
+-- Source: Kennedy (1996): a substitution applied to a type. That powers are refused outside a range is this project's
+-- own.
 use Rattle.std.specs.Prelude.{◌≡◌, ℕ, ◌<◌, All, length, IsTrue, IsFalse, Bool, true, false, Result, Ok, Err}
 use Rattle.std.specs.List.{list_all}
 use Rattle.um_units.specs.PowerMap.{nth}
@@ -24,14 +25,19 @@ type_fits (record_type r us) = list_all fits us
 abbrev pub applied : Solution → TypeTree → TypeTree
 applied solution t = put (nth solution.units) t
 
--- the type with the solution put in, or Range exactly where it has a power outside, or Spent exactly after a refused row
+-- the type with the solution put in, or Range exactly where it has a power outside, or Spent exactly after a refused
+-- row
 abbrev pub IsApplied : Solution → TypeTree → Result Ty ElimStop → Type 0
-IsApplied solution t (Ok ty) = (solution.spent ≡ false) × (type_tree ty ≡ applied solution t) × IsTrue (type_fits (applied solution t))
+IsApplied solution t (Ok ty) =
+    (solution.spent ≡ false) × (type_tree ty ≡ applied solution t) × IsTrue (type_fits (applied solution t))
 IsApplied solution t (Err stop.NoSolution) = ⊥
 IsApplied solution t (Err stop.Range) = (solution.spent ≡ false) × IsFalse (type_fits (applied solution t))
 IsApplied solution t (Err stop.Spent) = solution.spent ≡ true
 IsApplied solution t (Err stop.NoMemory) = solution.spent ≡ false
 
--- where the variables of the type are slots, those of the result are below each number that those of the units are below
+-- where the variables of the type are slots, those of the result are below each number that those of the units are
+-- below
 abbrev pub VariablesAreBelow : Solution → TypeTree → TypeTree → Type 0
-VariablesAreBelow solution t result = (n : ℕ) → All (VariablesBelow n) solution.units → All (λ k. k < length solution.units) (type_variables t) → All (λ k. k < n) (type_variables result)
+VariablesAreBelow solution t result =
+    (n : ℕ) → All (VariablesBelow n) solution.units →
+    All (λ k. k < length solution.units) (type_variables t) → All (λ k. k < n) (type_variables result)

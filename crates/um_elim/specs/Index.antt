@@ -1,6 +1,8 @@
--- For each variable the slots whose units hold it: a turn of the elimination changes the units of these slots alone.
--- Source: this project's own.
-use Rattle.std.specs.Prelude.{◌≡◌, ℕ, suc, ◌<◌, IsTrue, Bool, not, ◌==◌, nat_lt, if◌then◌else◌, List, [], ◌∷◌, set, length, All, slice_index_or}
+-- The code's: for each variable the slots whose units hold it. A turn of the elimination changes the units of these
+-- slots alone.
+-- Source: this project's own; no public clause rests on it.
+use Rattle.std.specs.Prelude.{◌≡◌, ℕ, suc, ◌<◌, IsTrue, Bool, not, ◌==◌, nat_lt}
+use Rattle.std.specs.Prelude.{if◌then◌else◌, List, [], ◌∷◌, set, length, All, slice_index_or}
 use Rattle.std.specs.List.{list_any}
 use Rattle.um_units.specs.declared.Atom.{Atom}
 use Rattle.um_units.specs.declared.Atom.TheVariants.{Base, Var}
@@ -45,7 +47,7 @@ without_slot (x ∷ xs) s = if x == s then xs else x ∷ without_slot xs s
 abbrev pub followed : List ℕ → ℕ → Bool → Bool → List ℕ
 followed xs s was is = if was then (if is then xs else without_slot xs s) else (if is then with_slot xs s else xs)
 
--- ---- an index, where slot s had the unit old and gets the unit new: it follows at one atom, and at those of some terms
+-- ---- an index, where slot s had the unit old and gets the unit new: it follows at one atom, and at those of terms
 abbrev pub followed_at : List (List ℕ) → Atom → ℕ → PowerMap → PowerMap → List (List ℕ)
 followed_at index (Base n) s old new = index
 followed_at index (Var k) s old new = set index k (followed (slice_index_or index k []) s (holds k old) (holds k new))

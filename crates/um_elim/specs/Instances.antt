@@ -3,7 +3,7 @@
 use Rattle.std.specs.Prelude.{◌≡◌, ◌↔◌, ℕ, List}
 use Rattle.um_units.specs.PowerMap.{PowerMap, one, replace, nth}
 use Rattle.um_units.specs.Solutions.{IsInstance, IsJointSolution, IsSolvable}
-use Rattle.um_elim.specs.Elimination.{Outcome, Solved, NoSolution, Range}
+use Rattle.um_elim.specs.Elimination.{Elimination, Solved, NoSolution, Range}
 
 -- the units v, put for the slots, make the row equal to 1
 abbrev pub Satisfies : List PowerMap → PowerMap → Type 0
@@ -17,7 +17,7 @@ IsMostGeneral old row new = (v : List PowerMap) → IsInstance new v ↔ (IsInst
 abbrev pub IsUnsatisfiable : List PowerMap → PowerMap → Type 0
 IsUnsatisfiable old row = (v : List PowerMap) → IsInstance old v → Satisfies v row → ⊥
 
-abbrev pub IsRight : List PowerMap → PowerMap → Outcome → Type 0
+abbrev pub IsRight : List PowerMap → PowerMap → Elimination → Type 0
 IsRight old row (Solved new) = IsMostGeneral old row new
 IsRight old row NoSolution = IsUnsatisfiable old row
 IsRight old row Range = Unit {0}
@@ -27,7 +27,7 @@ abbrev pub SolvesExactly : ℕ → List PowerMap → List PowerMap → Type 0
 SolvesExactly slots rows units = (v : List PowerMap) → IsInstance units v ↔ IsJointSolution slots rows v
 
 -- what an outcome says of the joint solutions of all rows
-abbrev pub IsJointlyRight : ℕ → List PowerMap → Outcome → Type 0
+abbrev pub IsJointlyRight : ℕ → List PowerMap → Elimination → Type 0
 IsJointlyRight slots rows (Solved units) = SolvesExactly slots rows units
 IsJointlyRight slots rows NoSolution = IsSolvable slots rows → ⊥
 IsJointlyRight slots rows Range = Unit {0}

@@ -1,12 +1,14 @@
+-- The definitions, in the order in which they are to be read.
 pub mod Pivot
 pub mod Turn
 pub mod Elimination
 pub mod Instances
-pub mod Stops
-pub mod Steps
 pub mod Solution
 pub mod Adding
 pub mod Application
 pub mod Numbering
+-- The code's.
+pub mod Stops
+pub mod Steps
 pub mod Order
 pub mod Index

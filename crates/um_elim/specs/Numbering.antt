@@ -1,6 +1,6 @@
 -- Types whose variables are renamed one for one, in the order of their first occurrence.
--- Source: this project's own; a scheme's variables may be renamed one for one (Kennedy 1996). No list of what was met so
--- far and no number to come is in it.
+-- Source: this project's own; a scheme's variables may be renamed one for one (Kennedy 1996). No list of what was met
+-- so far and no number to come is in it.
 use Rattle.std.specs.Prelude.{◌≡◌, ◌↔◌, ℕ, not, ◌==◌, nat_eq, List, [], ◌∷◌, map, filter, Contains}
 use Rattle.std.specs.List.{position_or_len}
 use Rattle.um_units.specs.declared.Atom.TheVariants.{Var}
@@ -14,8 +14,8 @@ abbrev pub first_occurrences : List ℕ → List ℕ
 first_occurrences [] = []
 first_occurrences (k ∷ ks) = k ∷ filter (λ j. not (j == k)) (first_occurrences ks)
 
--- the variables of the types in the order of their first occurrence, in which the units are read from left to right, and
--- the variables of one unit by their numbers
+-- the variables of the types in the order of their first occurrence, in which the units are read from left to right,
+-- and the variables of one unit by their numbers
 abbrev pub variable_order : List TypeTree → List ℕ
 variable_order ts = first_occurrences (variables ts)
 
@@ -33,7 +33,9 @@ renumbered ts = map (put (by_place (variable_order ts))) ts
 
 -- two variables of the types have two numbers
 abbrev pub AreRenamedOneForOne : List TypeTree → Type 0
-AreRenamedOneForOne ts = (j k : ℕ) → Contains (variables ts) j → Contains (variables ts) k → place (variable_order ts) j ≡ place (variable_order ts) k → j ≡ k
+AreRenamedOneForOne ts =
+    (j k : ℕ) → Contains (variables ts) j → Contains (variables ts) k →
+    place (variable_order ts) j ≡ place (variable_order ts) k → j ≡ k
 
 -- the types that some units, put for the variables, give
 abbrev pub IsInstanceOf : List TypeTree → List TypeTree → Type 0

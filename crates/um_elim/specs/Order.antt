@@ -1,4 +1,4 @@
--- The order of first occurrence as it grows while types are read.
+-- The code's: the order of first occurrence as it grows while types are read.
 -- Source: this project's own; no public clause rests on it.
 use Rattle.std.specs.Prelude.{ℕ, ◌++◌, nat_eq, if◌then◌else◌, List, [], ◌∷◌}
 use Rattle.std.specs.List.{list_any}

@@ -2,7 +2,8 @@
 -- Source: Kennedy (1996), on unification in the free abelian group, after Knuth (The Art of Computer Programming,
 -- volume 2, on linear equations over the integers): a variable with the least absolute power. That it is the one with
 -- the greatest number where several have that power is this project's own.
-use Rattle.std.specs.Prelude.{ℕ, Bool, true, false, not, ◌==◌, nat_lt, nat_abs, if◌then◌else◌, Option, Some, None, List, [], ◌∷◌, ℤ}
+use Rattle.std.specs.Prelude.{ℕ, Bool, true, false, not, ◌==◌, nat_lt, nat_abs}
+use Rattle.std.specs.Prelude.{if◌then◌else◌, Option, Some, None, List, [], ◌∷◌, ℤ}
 use Rattle.std.specs.List.{list_any}
 use Rattle.um_units.specs.declared.Atom.{Atom}
 use Rattle.um_units.specs.declared.Atom.TheVariants.{Base, Var}

@@ -12,9 +12,13 @@ pub record Solution : Type 0 where
   pub units : List PowerMap
   pub spent : Bool
 
--- how solutions are stored as data
+-- how solutions are stored as data, which is the code's
 abbrev pub solution_code : Coded Solution
-solution_code = code_by (List PowerMap × Bool) (coded× (coded_list power_map_code) coded_bool) (λ s. (s.units, s.spent)) (λ p. record { units = p.0; spent = p.1 }) (λ _. refl)
+solution_code =
+    code_by (List PowerMap × Bool) (coded× (coded_list power_map_code) coded_bool)
+    (λ s. (s.units, s.spent))
+    (λ p. record { units = p.0; spent = p.1 })
+    (λ _. refl)
 
 -- each slot's own variable
 abbrev pub own_variables : ℕ → List PowerMap

@@ -1,5 +1,5 @@
--- The refusal that a refusal of a unit becomes.
--- Source: this project's own.
+-- The code's: the refusal that a refusal of a unit becomes.
+-- Source: this project's own; no public clause rests on it.
 use Rattle.um_units.specs.declared.UnitStop.{UnitStop}
 use Rattle.um_units.specs.declared.UnitStop.TheVariants as unit
 use Rattle.um_elim.specs.declared.stop.ElimStop.{ElimStop}

@@ -19,7 +19,10 @@ multiply m w = substitute m (mul (atom (Var m)) w)
 
 -- y^(-floor(a/p)) for the term y^a, and power 0 for variable m itself
 abbrev pub less_quotient : ℕ → ℕ → Term → Term
-less_quotient m p t = record { atom = t.atom; power = if same_atom (Var m) t.atom then pos 0 else neg_ℤ (int_div_euclid t.power (pos p)) }
+less_quotient m p t = record {
+  atom = t.atom;
+  power = if same_atom (Var m) t.atom then pos 0 else neg_ℤ (int_div_euclid t.power (pos p));
+}
 
 -- the product over the atoms y of r other than variable m of y^(-floor(a/p)), where a is the power of y in r
 abbrev pub quotients : ℕ → ℕ → PowerMap → PowerMap
@@ -30,6 +33,6 @@ abbrev pub turn : ℕ → ℕ → PowerMap → ℕ → PowerMap
 turn m p r = multiply m (quotients m p r)
 
 -- inverted where the power is negative
-abbrev pub upright : ℤ → PowerMap → PowerMap
-upright (pos n) r = r
-upright (negsuc n) r = inv r
+abbrev pub inverted_if_negative : ℤ → PowerMap → PowerMap
+inverted_if_negative (pos n) r = r
+inverted_if_negative (negsuc n) r = inv r

@@ -12,10 +12,9 @@ mod numbering;
 mod pivot;
 mod solver;
 mod stop;
-#[cfg(test)]
-mod tests;
 mod turn;
 
+pub use application::put_in_type;
 pub use numbering::{Numbered, renumber};
 pub use solver::Solver;
 pub use stop::ElimStop;

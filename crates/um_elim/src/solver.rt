@@ -136,7 +136,7 @@ fn eliminate_row(
     let mut r = row.replace(alloc, units)?;
     loop {
         match take_turn(alloc, units, index, &r)? {
-            Step::Again(left) => r = left,
+            Step::Again(remainder) => r = remainder,
             Step::Ended => return Ok(()),
         }
     }

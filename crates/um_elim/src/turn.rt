@@ -9,8 +9,8 @@ ghost use Rattle.um_units.specs.PowerMap.{PowerMap, one, replace};
 ghost use Rattle.um_units.specs.Range.{all_in_range, fits, in_range, RangeUnless};
 ghost use Rattle.um_units.specs.declared.UnitStop.TheVariants.{NoMemory};
 ghost use Rattle.um_elim.specs.Pivot.{is_base, is_other};
-ghost use Rattle.um_elim.specs.Turn.{less_quotient, multiply, quotients, substitute, upright};
-ghost use Rattle.um_elim.specs.Steps.{IsTurn, LeavesBelow, StopsTurn};
+ghost use Rattle.um_elim.specs.Turn.{inverted_if_negative, less_quotient, multiply, quotients, substitute};
+ghost use Rattle.um_elim.specs.Steps.{IsTurn, RemainderBelow, StopsTurn};
 ghost use Rattle.um_elim.specs.Index.{IsIndex};
 ghost use Rattle.um_units.specs.Variables.{VariablesBelow};
 
@@ -22,7 +22,7 @@ use um_units::{Atom, Term, Unit, UnitStop};
 
 /// What is to be done after a turn.
 pub enum Step {
-    /// Another turn, of the unit that is left.
+    /// Another turn, of what is left of the unit.
     Again(Unit),
     /// Nothing: the row is solved.
     Ended,
@@ -40,7 +40,7 @@ pub fn take_turn(
     ensures outcome { MatchResult result (IsTurn units.old.items r.now units.new.items) (StopsTurn units.old.items r.now) }
     ensures slots { length units.new.items ≡ length units.old.items }
     ensures indexed { OnOk result (IsIndex units.new.items index.new.items) }
-    ensures variables { IfOk result (LeavesBelow (length units.old.items)) }
+    ensures variables { IfOk result (RemainderBelow (length units.old.items)) }
 {
     let Some(pivot) = pivot_of(r.terms()) else {
         if r.terms().is_empty() {
@@ -48,14 +48,14 @@ pub fn take_turn(
         }
         return Err(ElimStop::NoSolution);
     };
-    let upright = made_upright(alloc, r, pivot.power)?;
-    let factor = quotients_of(alloc, &upright, pivot.variable, absolute(pivot.power))?;
-    let left = multiplied(alloc, &upright, pivot.variable, &factor)?;
+    let positive = inverted_if_negative(alloc, r, pivot.power)?;
+    let factor = quotients_of(alloc, &positive, pivot.variable, absolute(pivot.power))?;
+    let remainder = multiplied(alloc, &positive, pivot.variable, &factor)?;
     multiply_holders(alloc, units, index, pivot.variable, &factor)?;
-    if has_other_variable(left.terms(), pivot.variable) {
-        return Ok(Step::Again(left));
+    if has_other_variable(remainder.terms(), pivot.variable) {
+        return Ok(Step::Again(remainder));
     }
-    if has_base_unit(left.terms()) {
+    if has_base_unit(remainder.terms()) {
         return Err(ElimStop::NoSolution);
     }
     let inverse = Unit::atom(alloc, Atom::Var(pivot.variable))?.inv(alloc)?;
@@ -64,8 +64,8 @@ pub fn take_turn(
 }
 
 /// The unit, inverted where the power is negative.
-fn made_upright(alloc: Global, unit: &Unit, power: i32) -> Result<Unit, AllocError>
-    ensures { IfOk result (λ u. u ≡ upright power unit.now) }
+fn inverted_if_negative(alloc: Global, unit: &Unit, power: i32) -> Result<Unit, AllocError>
+    ensures { IfOk result (λ u. u ≡ inverted_if_negative power unit.now) }
 {
     if power < 0 {
         unit.inv(alloc)

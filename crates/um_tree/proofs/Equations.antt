@@ -1,11 +1,13 @@
 -- The equations of the meaning, one a node. Proofs about it use these and never unfold it.
 use Rattle.std.proofs.Common.{◌≡◌, refl, ap, ◌∙◌, length, ℕ, zero, suc, IsTrue, Bool, true, false, cond, nat_eq, List, [], ◌∷◌, ◌++◌, Some, None, slice_get, arith}
+use Rattle.std.proofs.lemmas.Bool.Decides.{nat_tests}
 use Rattle.um_frac.specs.declared.number.Frac.{Frac}
 use Rattle.um_tree.specs.TypeTree.{NoteTree}
 use Rattle.um_tree.specs.ValueTree.{ValueTree, truth_value, number_value, list_value, record_value, no_values, values_in_order}
 use Rattle.um_tree.specs.ExprTree.{ExprTree, ExprTrees, truth, number, local, call, negate, not_expr, arith as arith_tree, compare, both, either, if, bind, split, nil, list_expr, cons, record_expr, field, none, more}
 use Rattle.um_tree.specs.ProgramTree.{FunctionTree}
 use Rattle.um_tree.specs.Meaning.{gives, stops, budget_end, wrong, then, spend, found, with_budget, calculated, compared, negated, not_of, longer, field_of, choose, on_list, means, all_mean, body_means, running, Means, AllMean, Outcome}
+use Rattle.um_tree.specs.MeaningEquations.{EquationsOfMeaning, DeclaredCallsMeanTheirBody, OtherCallsAreWrong, UndeclaredCallsAreWrong}
 use Rattle.um_tree.specs.declared.note.UnitNote.{UnitNote}
 use Rattle.um_tree.specs.declared.expression.Arith.{Arith}
 use Rattle.um_tree.specs.declared.expression.Sign.{Sign}
@@ -116,3 +118,37 @@ Outcome-other_count fs j vs f b e t =
     ap (λ o. body_means (running fs b) o vs b) e ∙ ap (λ t. cond t (spend b (means (running fs b) f.body vs)) (stops wrong)) t
 
 pub ruleset meaning_equations = (Means-truth, Means-number, Means-local, Means-call, Means-negate, Means-not, Means-arith, Means-compare, Means-both, Means-either, Means-if, Means-bind, Means-split, Means-nil, Means-list, Means-cons, Means-record, Means-field, AllMean-none, AllMean-more)
+
+-- ---- as laws
+pub equations_of_meaning : EquationsOfMeaning
+equations_of_meaning fs vars b = record {
+  of_truth = λ at x. Means-truth fs vars at x b;
+  of_number = λ at c n. Means-number fs vars at c n b;
+  of_local = λ at k. Means-local fs vars at k b;
+  of_call = λ at j es. Means-call fs vars at j es b;
+  of_negate = λ at x. Means-negate fs vars at x b;
+  of_not = λ at x. Means-not fs vars at x b;
+  of_arith = λ at op x y. Means-arith fs vars at op x y b;
+  of_compare = λ at sign x y. Means-compare fs vars at sign x y b;
+  of_both = λ at x y. Means-both fs vars at x y b;
+  of_either = λ at x y. Means-either fs vars at x y b;
+  of_if = λ at t x y. Means-if fs vars at t x y b;
+  of_bind = λ at x y. Means-bind fs vars at x y b;
+  of_split = λ at l x y. Means-split fs vars at l x y b;
+  of_nil = λ at n. Means-nil fs vars at n b;
+  of_list = λ at es. Means-list fs vars at es b;
+  of_cons = λ at x y. Means-cons fs vars at x y b;
+  of_record = λ at r es. Means-record fs vars at r es b;
+  of_field = λ at r k x. Means-field fs vars at r k x b;
+  of_none = AllMean-none fs vars b;
+  of_more = λ e es. AllMean-more fs vars e es b;
+}
+
+pub declared_calls_mean_their_body : DeclaredCallsMeanTheirBody
+declared_calls_mean_their_body fs j vs f b e same = Outcome-some fs j vs f b e (grind (arith, nat_tests))
+
+pub other_calls_are_wrong : OtherCallsAreWrong
+other_calls_are_wrong fs j vs f b e other = Outcome-other_count fs j vs f b e (grind (arith, nat_tests))
+
+pub undeclared_calls_are_wrong : UndeclaredCallsAreWrong
+undeclared_calls_are_wrong fs j vs b e = Outcome-none fs j vs b e

@@ -1,27 +1,14 @@
 -- How calls of small programs end, by computation.
-use Rattle.std.proofs.Common.{◌≡◌, refl, ℕ, ◌≤◌, [], ◌∷◌, ℤ, pos, arith}
+use Rattle.std.proofs.Common.{◌≡◌, refl, [], ◌∷◌, pos, arith}
 use Rattle.std.proofs.lemmas.Int.{ints}
 use Rattle.um_frac.specs.declared.number.Frac.{Frac}
 use Rattle.um_frac.specs.Gcd.{gcd}
-use Rattle.um_frac.specs.Fraction.{numerator, denominator, fraction, divided, reduced}
+use Rattle.um_frac.specs.Fraction.{fraction, divided, reduced}
 use Rattle.um_frac.specs.Arithmetic.{sum_of, difference_of, product_of}
 use Rattle.um_tree.specs.ValueTree.{ValueTree, number_value, list_value, no_values, more_values}
-use Rattle.um_tree.specs.Meaning.{Out, gives, stops, budget_end, Outcome}
-use Rattle.um_tree.proofs.ExamplePrograms.{whole, one_number, area, zeros, squares, sum}
-
--- a number, its parts read, with the rest of the budget; the end of the budget; or something else
-pub data Shown : Type 0 where
-  number_shown : ℤ → ℤ → ℕ → Shown
-  end_shown : Shown
-  other_shown : Shown
-
-abbrev pub shown : Out ValueTree → Shown
-shown (gives (number_value c) b) = number_shown (numerator c) (denominator c) b
-shown (stops budget_end) = end_shown
-shown o = other_shown
-
-abbrev pub number_of : (n : ℕ) → n ≤ 1000000 → ValueTree
-number_of n low = number_value (whole n low)
+use Rattle.um_tree.specs.Meaning.{Outcome}
+use Rattle.um_tree.proofs.ExamplePrograms.{one_number, area, zeros, squares, sum}
+use Rattle.um_tree.proofs.ExampleShown.{number_shown, end_shown, shown, number_of}
 
 area_runs : shown (Outcome area.functions 0 (number_of 2 (omega arith) ∷ number_of 3 (omega arith) ∷ []) 1) ≡ number_shown (pos 6) (pos 1) 0
 unfolding Outcome product_of reduced divided fraction gcd

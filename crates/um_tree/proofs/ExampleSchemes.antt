@@ -34,6 +34,11 @@ identity_principal = record {
   instances = λ g. (identity_instance g, λ m. subst (Typing identity 0) (sym m.1) (identity_typed (replace m.0 (variable 0))));
 }
 
+-- a scheme of no variables is not over 'a
+identity_of_no_variables : IsPrincipal identity 0 (record { signature = identity_scheme.signature; vars = 0 }) → ⊥
+unfolding product
+identity_of_no_variables w = let low = w.below 0 0 (omega arith) in absurd (omega (arith, low))
+
 -- ---- let z = 0<_> has num<'a>
 abbrev zero_scheme : SchemeTree
 zero_scheme = record { signature = signature [] (num_type (variable 0)); vars = 1 }

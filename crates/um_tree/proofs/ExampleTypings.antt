@@ -7,11 +7,12 @@ use Rattle.um_units.proofs.Group.{mul-one, mul_assoc}
 use Rattle.um_units.proofs.Replacement.{replace-one, replace-mul, replace-inv, replace-base, replace-variable}
 use Rattle.um_tree.specs.declared.note.UnitNote.TheVariants.{Hole, Written}
 use Rattle.um_tree.specs.TypeTree.{TypeTree, bool_type, num_type, list_type, record_type, num_note}
-use Rattle.um_tree.specs.ProgramTree.{Signature, SchemeTree}
+use Rattle.um_tree.specs.ExprTree.{number}
+use Rattle.um_tree.specs.ProgramTree.{ProgramTree, Signature, SchemeTree}
 use Rattle.um_tree.specs.Typing.{put_signature, UnitsMatch, TypesMatch, Typing}
 use Rattle.um_tree.specs.Scheme.{IsInstance, IsPrincipal, IsNumberedScheme}
 use Rattle.um_tree.proofs.Numbered.{numbered_below}
-use Rattle.um_tree.proofs.ExamplePrograms.{metre, second, kilogram, newton, marked, area_of_metres, area, identity, zeros, squares, sum, weights, make, pick}
+use Rattle.um_tree.proofs.ExamplePrograms.{one_number, plain, with_functions, metre, second, kilogram, newton, marked, area_of_metres, area, identity, zeros, squares, sum, weights, make, pick}
 
 abbrev pub signature : List TypeTree → TypeTree → Signature
 signature ts t = record { params = ts; result = t }
@@ -131,6 +132,21 @@ zeros_typed u v = record { choice = λ k. one; params = refl; result = tt; body 
 
 zero_refused : Typing zeros 0 (signature [] bool_type) → ⊥
 zero_refused m = absurd (cc m.body.2)
+
+-- ---- a literal has its unit as it stands, whatever is chosen for the function's variables: a program with an open one is
+-- not formed
+abbrev open_literal : ProgramTree
+open_literal = with_functions (plain [] (number 0 one_number (Written (variable 0))) ∷ [])
+
+open_literal_typed : (choice : ℕ → PowerMap) → Typing open_literal 0 (signature [] (num_type (variable 0)))
+open_literal_typed choice = record { choice = choice; params = refl; result = tt; body = (variable 0, refl, refl) }
+
+variable_apart : metre ≡ variable 0 → ⊥
+unfolding product
+variable_apart = apart metre (variable 0) (Base 0) 1 0 refl refl (λ e. absurd (omega (arith, e)))
+
+open_literal_refused : Typing open_literal 0 (signature [] (num_type metre)) → ⊥
+open_literal_refused m = variable_apart (same_number _ _ m.body.2 ∙ m.body.1)
 
 -- ---- let rec f (n: num) (x: num<_>) : num<_> = if n < 1 then x else f (n - 1) (x * x) has num -> num -> num alone
 pub squares_typed : Typing squares 0 (signature (num_type one ∷ num_type one ∷ []) (num_type one))

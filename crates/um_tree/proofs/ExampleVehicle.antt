@@ -1,10 +1,10 @@
 -- A realistic program, on which the definitions are tried: a small vehicle model.
 -- Each function has the type that is expected at every unit, and an instance of another is refused; and its calls end as expected.
-use Rattle.std.proofs.Common.{◌≡◌, refl, sym, ap, subst, ◌∙◌, inl, inr, ℕ, false, List, [], ◌∷◌, ℤ, pos, Some, arith}
+use Rattle.std.proofs.Common.{◌≡◌, refl, sym, ap, subst, ◌∙◌, inl, inr, ℕ, false, List, [], ◌∷◌, pos, Some, arith}
 use Rattle.std.proofs.lemmas.Int.{ints}
 use Rattle.um_frac.specs.declared.number.Frac.{Frac}
 use Rattle.um_frac.specs.Gcd.{gcd}
-use Rattle.um_frac.specs.Fraction.{numerator, denominator, fraction, divided, reduced}
+use Rattle.um_frac.specs.Fraction.{fraction, divided, reduced}
 use Rattle.um_frac.specs.Arithmetic.{sum_of, product_of, quotient_of}
 use Rattle.um_units.specs.declared.Atom.TheVariants.{Base}
 use Rattle.um_units.specs.PowerMap.{PowerMap, product, one, atom, mul, inv, replace}
@@ -16,12 +16,12 @@ use Rattle.um_tree.specs.declared.expression.Arith.TheVariants.{Add, Mul, Div}
 use Rattle.um_tree.specs.TypeTree.{TypeTree, num_type, list_type, record_type, num_note, list_note, record_note}
 use Rattle.um_tree.specs.ExprTree.{number, local, call, arith as arith_tree, split, record_expr, field, none, more}
 use Rattle.um_tree.specs.ProgramTree.{RecordTree, ProgramTree}
-use Rattle.um_tree.specs.ValueTree.{ValueTree, ValueTrees, number_value, list_value, record_value, no_values, more_values, values_in_order}
-use Rattle.um_tree.specs.Meaning.{Out, gives, Outcome}
+use Rattle.um_tree.specs.ValueTree.{ValueTree, list_value, record_value, values_in_order}
+use Rattle.um_tree.specs.Meaning.{Outcome}
 use Rattle.um_tree.specs.Typing.{unit_at, Typing}
 use Rattle.um_tree.proofs.ExamplePrograms.{whole, zero_number, one_number, metre, second, kilogram, plain, rec_function}
 use Rattle.um_tree.proofs.ExampleTypings.{signature, variable, same_number, same_some, apart, metre_apart, same_item}
-use Rattle.um_tree.proofs.ExampleRuns.{number_shown, end_shown, shown, number_of}
+use Rattle.um_tree.proofs.ExampleShown.{value_shown, end_shown, number_shown, plain_record, whole_number, in_plain_order, shown, number_of}
 
 abbrev foot : PowerMap
 foot = atom (Base 3)
@@ -301,17 +301,7 @@ kinetic_runs : shown (Outcome vehicle.functions 3 (number_of 2 (omega arith) ∷
 unfolding Outcome product_of quotient_of reduced divided fraction gcd
 kinetic_runs = refl
 
--- numerator and denominator of each part of a record value
-abbrev parts : ValueTrees → List (ℤ × ℤ)
-parts no_values = []
-parts (more_values (number_value c) vs) = (numerator c, denominator c) ∷ parts vs
-parts (more_values v vs) = parts vs
-
-abbrev parts_shown : Out ValueTree → List (ℤ × ℤ)
-parts_shown (gives (record_value r vs) b) = parts vs
-parts_shown o = []
-
 -- { pos = 1; vel = 2 } and 3 give { pos = 7; vel = 2 }
-move_runs : parts_shown (Outcome vehicle.functions 5 (record_value 0 (values_in_order (number_of 1 (omega arith) ∷ number_of 2 (omega arith) ∷ [])) ∷ number_of 3 (omega arith) ∷ []) 1) ≡ (pos 7, pos 1) ∷ (pos 2, pos 1) ∷ []
+move_runs : shown (Outcome vehicle.functions 5 (record_value 0 (values_in_order (number_of 1 (omega arith) ∷ number_of 2 (omega arith) ∷ [])) ∷ number_of 3 (omega arith) ∷ []) 1) ≡ value_shown (plain_record 0 (in_plain_order (whole_number 7 ∷ whole_number 2 ∷ []))) 0
 unfolding Outcome sum_of product_of reduced divided fraction gcd
 move_runs = refl

@@ -12,7 +12,10 @@ pub mod TypingLaws
 pub mod ShapeLaws
 pub mod BudgetLaws
 pub mod ExamplePrograms
-pub mod ExampleRuns
+pub mod ExampleShown
+mod ExampleMeanings
+mod ExampleFormed
+mod ExampleRuns
 mod ExampleVehicle
 pub mod ExampleTypings
 pub mod ExampleSchemes

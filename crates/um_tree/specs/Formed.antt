@@ -24,7 +24,7 @@ use Rattle.um_tree.specs.TreeHeights.{type_tree_height, note_tree_height, tree_h
 
 -- ---- names
 
--- the words that are no names: the tokens' keywords
+-- the words that are no names: the same list as that of the keywords among the tokens (um_syntax)
 abbrev pub reserved_words : List (List ℕ)
 reserved_words =
     codes "let" ∷ codes "rec" ∷ codes "in" ∷ codes "if" ∷ codes "then" ∷ codes "else" ∷ codes "match" ∷ codes "with"
@@ -44,7 +44,7 @@ IsIdentifier [] = ⊥
 IsIdentifier (c ∷ cs) = (starts_name c ≡ true) × AllContinue cs
 
 -- the bytes of an identifier that is neither a word nor `_` alone
-pub record IsName (bytes : List ℕ) : Type 0 where
+pub record IsNameBytes (bytes : List ℕ) : Type 0 where
   pub text : List ℕ
   pub is : bytes ≡ encode_utf8_all text
   pub identifier : IsIdentifier text
@@ -56,7 +56,7 @@ abbrev pub AreDistinct : List (List ℕ) → Type 0
 AreDistinct xs = (i j : ℕ) (x : List ℕ) → slice_get xs i ≡ Some x → slice_get xs j ≡ Some x → i ≡ j
 
 abbrev pub AreNames : List (List ℕ) → Type 0
-AreNames xs = (k : ℕ) (x : List ℕ) → slice_get xs k ≡ Some x → IsName x
+AreNames xs = (k : ℕ) (x : List ℕ) → slice_get xs k ≡ Some x → IsNameBytes x
 
 -- ---- units and types
 

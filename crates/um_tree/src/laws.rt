@@ -22,6 +22,12 @@ ghost use Rattle.um_tree.specs.Laws.{
   TypedExpressionHasShape,
   TypedHasShape,
 };
+ghost use Rattle.um_tree.specs.MeaningEquations.{
+  EquationsOfMeaning,
+  DeclaredCallsMeanTheirBody,
+  OtherCallsAreWrong,
+  UndeclaredCallsAreWrong,
+};
 
 /// What a function may use of an earlier one are the earlier one's typings, and its shapes.
 pub fn earlier_functions()
@@ -59,6 +65,14 @@ pub fn equal_units()
 pub fn units_of_literals()
     ensures zero { ZeroHasEveryUnit }
     ensures written { NumberHasItsUnit }
+{}
+
+/// The equations of the meaning: what an expression means, by what its parts mean, and what a call of a function gives.
+pub fn equations_of_meaning()
+    ensures expressions { EquationsOfMeaning }
+    ensures calls { DeclaredCallsMeanTheirBody }
+    ensures others { OtherCallsAreWrong }
+    ensures undeclared { UndeclaredCallsAreWrong }
 {}
 
 /// What an expression leaves of its budget is at most the budget. A budget that sufficed suffices with the same value

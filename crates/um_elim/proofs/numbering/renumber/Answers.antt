@@ -3,10 +3,11 @@ use Rattle.std.specs.Prelude.{All}
 use Rattle.um_tree.specs.TypeTree.{type_tree, type_trees}
 use Rattle.um_tree.specs.Typing.{put}
 use Rattle.um_tree.specs.Scheme.{IsNumberedBy, variables}
+use Rattle.um_tree.proofs.Numbered.{in_order_below}
 use Rattle.um_elim.specs.Numbering.{by_place, renumbered, variable_order, HaveSameInstances}
 use Rattle.um_elim.specs.Order.{with_variables}
 use Rattle.um_elim.proofs.FirstOccurrences.{with_none}
-use Rattle.um_elim.proofs.NumberedTypes.{renumbered_is_numbered, in_order_below, one_for_one, same_instances}
+use Rattle.um_elim.proofs.NumberedTypes.{renumbered_is_numbered, one_for_one, same_instances}
 use Rattle.um_elim.proofs.numbering.renumber.Goals as goal
 
 pub renamed_types-requires : goal.renamed_types-requires

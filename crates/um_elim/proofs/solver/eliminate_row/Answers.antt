@@ -6,7 +6,7 @@ use Rattle.um_units.specs.PowerMap.{replace, nth}
 use Rattle.um_units.specs.Range.{fits, IsStopUnless}
 use Rattle.um_elim.specs.Pivot.{least_power}
 use Rattle.um_elim.specs.Elimination.{Range, turns, eliminate}
-use Rattle.um_elim.specs.Steps.{IsTurn, LeavesBelow}
+use Rattle.um_elim.specs.Steps.{IsTurn, RemainderBelow}
 use Rattle.um_elim.proofs.TurnSteps.{first_stops, turn_goes_on}
 use Rattle.um_elim.proofs.solver.eliminate_row.Goals as goal
 
@@ -18,12 +18,12 @@ returns-in_err-r-clause-outcome c =
 
 pub loop-r-preserved : goal.loop-r-preserved
 loop-r-preserved c =
-    let w = subst (IsTurn c.loop-r.units.items c.loop-r.r c.take_turn.new.units.items) c.in-Again.is c.in_ok-left.ensures.outcome in
+    let w = subst (IsTurn c.loop-r.units.items c.loop-r.r c.take_turn.new.units.items) c.in-Again.is c.in_ok-remainder.ensures.outcome in
     record {
-      same = turn_goes_on c.loop-r.units.items c.take_turn.new.units.items c.loop-r.r c.in-Again.left (eliminate c.args.units.now.items c.args.row.now) c.loop-r.invariant.same w.0 w.1;
+      same = turn_goes_on c.loop-r.units.items c.take_turn.new.units.items c.loop-r.r c.in-Again.remainder (eliminate c.args.units.now.items c.args.row.now) c.loop-r.invariant.same w.0 w.1;
       slots = c.take_turn.ensures.slots ∙ c.loop-r.invariant.slots;
-      indexed = c.in_ok-left.ensures.indexed;
-      variables = subst (λ n. VariablesBelow n c.in-Again.left) (sym c.take_turn.ensures.slots) (subst (LeavesBelow (length c.loop-r.units.items)) c.in-Again.is c.in_ok-left.ensures.variables);
+      indexed = c.in_ok-remainder.ensures.indexed;
+      variables = subst (λ n. VariablesBelow n c.in-Again.remainder) (sym c.take_turn.ensures.slots) (subst (RemainderBelow (length c.loop-r.units.items)) c.in-Again.is c.in_ok-remainder.ensures.variables);
     }
 
 pub loop-r-init : goal.loop-r-init

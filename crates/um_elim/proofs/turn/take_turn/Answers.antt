@@ -12,8 +12,8 @@ use Rattle.um_elim.specs.Elimination.{Solved}
 use Rattle.um_elim.specs.Stops.{stop_of}
 use Rattle.um_elim.specs.Steps.{StopsTurn}
 use Rattle.um_elim.proofs.InRange.{pivot-in_range, pivot-positive, kept32, all_fit-substitute_one, stops_for_memory}
-use Rattle.um_elim.proofs.TurnSteps.{IsSet, is_set, passed_positive, left_stops, slots_stop, turns_again, turns_unsolvable, turns_solved, least_power-lower, multiply-inverse}
-use Rattle.um_elim.proofs.TurnKept.{pivot_low, factor_below, left_below, inverse_below}
+use Rattle.um_elim.proofs.TurnSteps.{IsSet, is_set, passed_positive, remainder_stops, slots_stop, turns_again, turns_unsolvable, turns_solved, least_power-lower, multiply-inverse}
+use Rattle.um_elim.proofs.TurnKept.{pivot_low, factor_below, remainder_below, inverse_below}
 use Rattle.um_elim.proofs.turn.take_turn.Goals as goal
 
 pub absolute-requires : goal.absolute-requires
@@ -32,17 +32,17 @@ quotients_of-requires c =
     let e : pivot r ≡ Some p = sym (c.pivot_of.ensures ∙ ap pivot_of c.terms.ensures.terms) ∙ c.in-Some.is in
     passed_positive p.power c.absolute.result (pivot-in_range r p f e) (pivot-positive r p e) c.absolute.ensures
 
-pub returns-in_err-left-clause-outcome : goal.returns-in_err-left-clause-outcome
-returns-in_err-left-clause-outcome c =
-    let x = err_from_is_err_and c.from_residual-in_err-left.result c.from_residual-in_err-left.ensures.1 in
+pub returns-in_err-remainder-clause-outcome : goal.returns-in_err-remainder-clause-outcome
+returns-in_err-remainder-clause-outcome c =
+    let x = err_from_is_err_and c.from_residual-in_err-remainder.result c.from_residual-in_err-remainder.ensures.1 in
     let r = c.args.r.now in
     let p = c.in-Some.pivot in
     let f : IsTrue (fits r) = c.terms.ensures.fits in
     let e : pivot r ≡ Some p = sym (c.pivot_of.ensures ∙ ap pivot_of c.terms.ensures.terms) ∙ c.in-Some.is in
-    let s : IsSet r p c.in_ok-factor.factor (replace (multiply c.in-Some.pivot.variable c.in_ok-factor.factor) c.in_ok-upright.upright) = is_set r p f e c.in_ok-upright.upright c.in_ok-factor.factor (replace (multiply c.in-Some.pivot.variable c.in_ok-factor.factor) c.in_ok-upright.upright) c.absolute.result
-    c.in_ok-upright.ensures c.absolute.ensures c.in_ok-factor.ensures.exact refl in
+    let s : IsSet r p c.in_ok-factor.factor (replace (multiply c.in-Some.pivot.variable c.in_ok-factor.factor) c.in_ok-positive.positive) = is_set r p f e c.in_ok-positive.positive c.in_ok-factor.factor (replace (multiply c.in-Some.pivot.variable c.in_ok-factor.factor) c.in_ok-positive.positive) c.absolute.result
+    c.in_ok-positive.ensures c.absolute.ensures c.in_ok-factor.ensures.exact refl in
     let old = c.args.units.now.items in
-    rw (x.1, x.2) (left_stops old r p c.in_ok-factor.factor (replace (multiply c.in-Some.pivot.variable c.in_ok-factor.factor) c.in_ok-upright.upright) s c.in_err-left.field-0.0 c.in_err-left.ensures.range)
+    rw (x.1, x.2) (remainder_stops old r p c.in_ok-factor.factor (replace (multiply c.in-Some.pivot.variable c.in_ok-factor.factor) c.in_ok-positive.positive) s c.in_err-remainder.field-0.0 c.in_err-remainder.ensures.range)
 
 pub returns-in_err-multiply_holders-clause-outcome : goal.returns-in_err-multiply_holders-clause-outcome
 returns-in_err-multiply_holders-clause-outcome c =
@@ -51,10 +51,10 @@ returns-in_err-multiply_holders-clause-outcome c =
     let p = c.in-Some.pivot in
     let f : IsTrue (fits r) = c.terms.ensures.fits in
     let e : pivot r ≡ Some p = sym (c.pivot_of.ensures ∙ ap pivot_of c.terms.ensures.terms) ∙ c.in-Some.is in
-    let s : IsSet r p c.in_ok-factor.factor c.in_ok-left.left = is_set r p f e c.in_ok-upright.upright c.in_ok-factor.factor c.in_ok-left.left c.absolute.result
-    c.in_ok-upright.ensures c.absolute.ensures c.in_ok-factor.ensures.exact c.in_ok-left.ensures.exact in
+    let s : IsSet r p c.in_ok-factor.factor c.in_ok-remainder.remainder = is_set r p f e c.in_ok-positive.positive c.in_ok-factor.factor c.in_ok-remainder.remainder c.absolute.result
+    c.in_ok-positive.ensures c.absolute.ensures c.in_ok-factor.ensures.exact c.in_ok-remainder.ensures.exact in
     let old = c.args.units.now.items in
-    rw (x.1, x.2) (slots_stop old r p c.in_ok-factor.factor c.in_ok-left.left s c.in_err-multiply_holders.field-0.0 c.in_err-multiply_holders.ensures.range)
+    rw (x.1, x.2) (slots_stop old r p c.in_ok-factor.factor c.in_ok-remainder.remainder s c.in_err-multiply_holders.field-0.0 c.in_err-multiply_holders.ensures.range)
 
 pub returns-then-has_other_variable-clause-outcome : goal.returns-then-has_other_variable-clause-outcome
 returns-then-has_other_variable-clause-outcome c =
@@ -62,15 +62,15 @@ returns-then-has_other_variable-clause-outcome c =
     let p = c.in-Some.pivot in
     let f : IsTrue (fits r) = c.terms.ensures.fits in
     let e : pivot r ≡ Some p = sym (c.pivot_of.ensures ∙ ap pivot_of c.terms.ensures.terms) ∙ c.in-Some.is in
-    let s : IsSet r p c.in_ok-factor.factor c.in_ok-left.left = is_set r p f e c.in_ok-upright.upright c.in_ok-factor.factor c.in_ok-left.left c.absolute.result
-    c.in_ok-upright.ensures c.absolute.ensures c.in_ok-factor.ensures.exact c.in_ok-left.ensures.exact in
+    let s : IsSet r p c.in_ok-factor.factor c.in_ok-remainder.remainder = is_set r p f e c.in_ok-positive.positive c.in_ok-factor.factor c.in_ok-remainder.remainder c.absolute.result
+    c.in_ok-positive.ensures c.absolute.ensures c.in_ok-factor.ensures.exact c.in_ok-remainder.ensures.exact in
     let old = c.args.units.now.items in
     let w = c.in_ok-factor.factor in
-    let left = c.in_ok-left.left in
-    let fl : IsTrue (fits left) = subst (λ u. IsTrue (fits u)) (sym c.in_ok-left.ensures.exact) c.in_ok-left.ensures.range in
+    let remainder = c.in_ok-remainder.remainder in
+    let fl : IsTrue (fits remainder) = subst (λ u. IsTrue (fits u)) (sym c.in_ok-remainder.ensures.exact) c.in_ok-remainder.ensures.range in
     let fs : IsTrue (list_all fits (map (replace (multiply p.variable w)) old)) = c.in_ok-multiply_holders.ensures.range in
-    let o : has_other p.variable left ≡ true = sym (c.has_other_variable.ensures ∙ ap (list_any (λ (t : Term). is_other p.variable t.atom)) c.terms-2.ensures.terms) ∙ c.if-has_other_variable.true in
-    ((λ again. turns_again old r p w left s fl fs o again ∙ ap (λ us. again us left) (sym c.in_ok-multiply_holders.ensures.exact)), least_power-lower old r p w left s o)
+    let o : has_other p.variable remainder ≡ true = sym (c.has_other_variable.ensures ∙ ap (list_any (λ (t : Term). is_other p.variable t.atom)) c.terms-2.ensures.terms) ∙ c.if-has_other_variable.true in
+    ((λ again. turns_again old r p w remainder s fl fs o again ∙ ap (λ us. again us remainder) (sym c.in_ok-multiply_holders.ensures.exact)), least_power-lower old r p w remainder s o)
 
 pub returns-then-has_base_unit-clause-outcome : goal.returns-then-has_base_unit-clause-outcome
 returns-then-has_base_unit-clause-outcome c =
@@ -78,16 +78,16 @@ returns-then-has_base_unit-clause-outcome c =
     let p = c.in-Some.pivot in
     let f : IsTrue (fits r) = c.terms.ensures.fits in
     let e : pivot r ≡ Some p = sym (c.pivot_of.ensures ∙ ap pivot_of c.terms.ensures.terms) ∙ c.in-Some.is in
-    let s : IsSet r p c.in_ok-factor.factor c.in_ok-left.left = is_set r p f e c.in_ok-upright.upright c.in_ok-factor.factor c.in_ok-left.left c.absolute.result
-    c.in_ok-upright.ensures c.absolute.ensures c.in_ok-factor.ensures.exact c.in_ok-left.ensures.exact in
+    let s : IsSet r p c.in_ok-factor.factor c.in_ok-remainder.remainder = is_set r p f e c.in_ok-positive.positive c.in_ok-factor.factor c.in_ok-remainder.remainder c.absolute.result
+    c.in_ok-positive.ensures c.absolute.ensures c.in_ok-factor.ensures.exact c.in_ok-remainder.ensures.exact in
     let old = c.args.units.now.items in
     let w = c.in_ok-factor.factor in
-    let left = c.in_ok-left.left in
-    let fl : IsTrue (fits left) = subst (λ u. IsTrue (fits u)) (sym c.in_ok-left.ensures.exact) c.in_ok-left.ensures.range in
+    let remainder = c.in_ok-remainder.remainder in
+    let fl : IsTrue (fits remainder) = subst (λ u. IsTrue (fits u)) (sym c.in_ok-remainder.ensures.exact) c.in_ok-remainder.ensures.range in
     let fs : IsTrue (list_all fits (map (replace (multiply p.variable w)) old)) = c.in_ok-multiply_holders.ensures.range in
-    let o : has_other p.variable left ≡ false = sym (c.has_other_variable.ensures ∙ ap (list_any (λ (t : Term). is_other p.variable t.atom)) c.terms-2.ensures.terms) ∙ c.if-has_other_variable.false in
-    let b : has_base left ≡ true = sym (c.has_base_unit.ensures ∙ ap (list_any (λ (t : Term). is_base t.atom)) c.terms-3.ensures.terms) ∙ c.if-has_base_unit.true in
-    turns_unsolvable old r p w left s fl fs o b
+    let o : has_other p.variable remainder ≡ false = sym (c.has_other_variable.ensures ∙ ap (list_any (λ (t : Term). is_other p.variable t.atom)) c.terms-2.ensures.terms) ∙ c.if-has_other_variable.false in
+    let b : has_base remainder ≡ true = sym (c.has_base_unit.ensures ∙ ap (list_any (λ (t : Term). is_base t.atom)) c.terms-3.ensures.terms) ∙ c.if-has_base_unit.true in
+    turns_unsolvable old r p w remainder s fl fs o b
 
 pub returns-in_err-multiply_holders-2-clause-outcome : goal.returns-in_err-multiply_holders-2-clause-outcome
 returns-in_err-multiply_holders-2-clause-outcome c =
@@ -96,12 +96,12 @@ returns-in_err-multiply_holders-2-clause-outcome c =
     let p = c.in-Some.pivot in
     let f : IsTrue (fits r) = c.terms.ensures.fits in
     let e : pivot r ≡ Some p = sym (c.pivot_of.ensures ∙ ap pivot_of c.terms.ensures.terms) ∙ c.in-Some.is in
-    let s : IsSet r p c.in_ok-factor.factor c.in_ok-left.left = is_set r p f e c.in_ok-upright.upright c.in_ok-factor.factor c.in_ok-left.left c.absolute.result
-    c.in_ok-upright.ensures c.absolute.ensures c.in_ok-factor.ensures.exact c.in_ok-left.ensures.exact in
+    let s : IsSet r p c.in_ok-factor.factor c.in_ok-remainder.remainder = is_set r p f e c.in_ok-positive.positive c.in_ok-factor.factor c.in_ok-remainder.remainder c.absolute.result
+    c.in_ok-positive.ensures c.absolute.ensures c.in_ok-factor.ensures.exact c.in_ok-remainder.ensures.exact in
     let old = c.args.units.now.items in
     let w = c.in_ok-factor.factor in
-    let left = c.in_ok-left.left in
-    let fl : IsTrue (fits left) = subst (λ u. IsTrue (fits u)) (sym c.in_ok-left.ensures.exact) c.in_ok-left.ensures.range in
+    let remainder = c.in_ok-remainder.remainder in
+    let fl : IsTrue (fits remainder) = subst (λ u. IsTrue (fits u)) (sym c.in_ok-remainder.ensures.exact) c.in_ok-remainder.ensures.range in
     let fs : IsTrue (list_all fits (map (replace (multiply p.variable w)) old)) = c.in_ok-multiply_holders.ensures.range in
     let m : multiply p.variable c.in_ok-inverse.inverse ≡ substitute p.variable one = multiply-inverse p.variable c.in_ok-inverse.inverse (c.in_ok-inverse.ensures.exact ∙ ap inv c.in_ok-atom.ensures.exact) in
     let now : c.multiply_holders.new.units.items ≡ map (replace (multiply p.variable w)) old = c.in_ok-multiply_holders.ensures.exact in
@@ -116,18 +116,18 @@ returns-clause-outcome c =
     let p = c.in-Some.pivot in
     let f : IsTrue (fits r) = c.terms.ensures.fits in
     let e : pivot r ≡ Some p = sym (c.pivot_of.ensures ∙ ap pivot_of c.terms.ensures.terms) ∙ c.in-Some.is in
-    let s : IsSet r p c.in_ok-factor.factor c.in_ok-left.left = is_set r p f e c.in_ok-upright.upright c.in_ok-factor.factor c.in_ok-left.left c.absolute.result
-    c.in_ok-upright.ensures c.absolute.ensures c.in_ok-factor.ensures.exact c.in_ok-left.ensures.exact in
+    let s : IsSet r p c.in_ok-factor.factor c.in_ok-remainder.remainder = is_set r p f e c.in_ok-positive.positive c.in_ok-factor.factor c.in_ok-remainder.remainder c.absolute.result
+    c.in_ok-positive.ensures c.absolute.ensures c.in_ok-factor.ensures.exact c.in_ok-remainder.ensures.exact in
     let old = c.args.units.now.items in
     let w = c.in_ok-factor.factor in
-    let left = c.in_ok-left.left in
-    let fl : IsTrue (fits left) = subst (λ u. IsTrue (fits u)) (sym c.in_ok-left.ensures.exact) c.in_ok-left.ensures.range in
+    let remainder = c.in_ok-remainder.remainder in
+    let fl : IsTrue (fits remainder) = subst (λ u. IsTrue (fits u)) (sym c.in_ok-remainder.ensures.exact) c.in_ok-remainder.ensures.range in
     let fs : IsTrue (list_all fits (map (replace (multiply p.variable w)) old)) = c.in_ok-multiply_holders.ensures.range in
-    let o : has_other p.variable left ≡ false = sym (c.has_other_variable.ensures ∙ ap (list_any (λ (t : Term). is_other p.variable t.atom)) c.terms-2.ensures.terms) ∙ c.if-has_other_variable.false in
-    let b : has_base left ≡ false = sym (c.has_base_unit.ensures ∙ ap (list_any (λ (t : Term). is_base t.atom)) c.terms-3.ensures.terms) ∙ c.if-has_base_unit.false in
+    let o : has_other p.variable remainder ≡ false = sym (c.has_other_variable.ensures ∙ ap (list_any (λ (t : Term). is_other p.variable t.atom)) c.terms-2.ensures.terms) ∙ c.if-has_other_variable.false in
+    let b : has_base remainder ≡ false = sym (c.has_base_unit.ensures ∙ ap (list_any (λ (t : Term). is_base t.atom)) c.terms-3.ensures.terms) ∙ c.if-has_base_unit.false in
     let m : multiply p.variable c.in_ok-inverse.inverse ≡ substitute p.variable one = multiply-inverse p.variable c.in_ok-inverse.inverse (c.in_ok-inverse.ensures.exact ∙ ap inv c.in_ok-atom.ensures.exact) in
     let now : c.multiply_holders.new.units.items ≡ map (replace (multiply p.variable w)) old = c.in_ok-multiply_holders.ensures.exact in
-    λ again. turns_solved old r p w left s fl fs o b again
+    λ again. turns_solved old r p w remainder s fl fs o b again
     ∙ ap Solved (sym (c.in_ok-multiply_holders-2.ensures.exact ∙ ap (λ g. map (replace g) c.multiply_holders.new.units.items) m ∙ ap (map (replace (substitute p.variable one))) now))
 
 pub multiply_holders-requires-clause-m : goal.multiply_holders-requires-clause-m
@@ -137,12 +137,12 @@ multiply_holders-requires-clause-m c =
 
 pub multiply_holders-requires-clause-variables : goal.multiply_holders-requires-clause-variables
 multiply_holders-requires-clause-variables c =
-    factor_below _ c.in-Some.pivot.variable _ _ c.args.r.now c.in_ok-upright.upright c.in_ok-factor.factor c.in_ok-upright.ensures c.in_ok-factor.ensures.exact c.requires.variables
+    factor_below _ c.in-Some.pivot.variable _ _ c.args.r.now c.in_ok-positive.positive c.in_ok-factor.factor c.in_ok-positive.ensures c.in_ok-factor.ensures.exact c.requires.variables
 
 pub returns-then-has_other_variable-clause-variables : goal.returns-then-has_other_variable-clause-variables
 returns-then-has_other_variable-clause-variables c =
-    left_below _ c.in-Some.pivot.variable _ c.args.r.now c.in_ok-upright.upright c.in_ok-factor.factor c.in_ok-left.left c.in_ok-upright.ensures
-    (factor_below _ c.in-Some.pivot.variable _ _ c.args.r.now c.in_ok-upright.upright c.in_ok-factor.factor c.in_ok-upright.ensures c.in_ok-factor.ensures.exact c.requires.variables) c.in_ok-left.ensures.exact c.requires.variables
+    remainder_below _ c.in-Some.pivot.variable _ c.args.r.now c.in_ok-positive.positive c.in_ok-factor.factor c.in_ok-remainder.remainder c.in_ok-positive.ensures
+    (factor_below _ c.in-Some.pivot.variable _ _ c.args.r.now c.in_ok-positive.positive c.in_ok-factor.factor c.in_ok-positive.ensures c.in_ok-factor.ensures.exact c.requires.variables) c.in_ok-remainder.ensures.exact c.requires.variables
 
 pub multiply_holders-requires-2-clause-m : goal.multiply_holders-requires-2-clause-m
 multiply_holders-requires-2-clause-m c =
