@@ -18,14 +18,14 @@ use Rattle.um_infer.proofs.PrincipalSchemes.{have_schemes}
 use Rattle.um_infer.proofs.InferenceLaws.{given_schemes_are_principal}
 
 -- all functions have their schemes
-pub have_all : (p : ProgramTree) (schemes : List SchemeTree) → infer p ≡ all_schemes schemes → HaveSchemes p schemes (length p.functions)
-have_all p schemes is = have_schemes p (length p.functions) schemes (given_schemes_are_principal p schemes is)
+pub have_all : (p : ProgramTree) → IsFormed p → (schemes : List SchemeTree) → infer p ≡ all_schemes schemes → HaveSchemes p schemes (length p.functions)
+have_all p formed schemes is = have_schemes p (length p.functions) schemes (given_schemes_are_principal p formed schemes is)
 
 pub judged_call_types : JudgedCallTypes
-judged_call_types p schemes k f inputs formed is declared closed s judged = judged_calls_have_their_type p schemes k f inputs formed (have_all p schemes is) declared closed s judged
+judged_call_types p schemes k f inputs formed is declared closed s judged = judged_calls_have_their_type p schemes k f inputs formed (have_all p formed schemes is) declared closed s judged
 
 pub judged_call_refusals : JudgedCallRefusals
-judged_call_refusals p schemes k f inputs formed is declared closed row at judged t h = judged_untyped_calls_have_none p schemes k f inputs formed (have_all p schemes is) declared closed row at judged t h
+judged_call_refusals p schemes k f inputs formed is declared closed row at judged t h = judged_untyped_calls_have_none p schemes k f inputs formed (have_all p formed schemes is) declared closed row at judged t h
 
 -- the refusal of a call
 pub refused_call : (p : ProgramTree) (schemes : List SchemeTree) (k : ℕ) (f : FunctionTree) (inputs : InputTrees) → IsFormed p → infer p ≡ all_schemes schemes → slice_get p.functions k ≡ Some f → AreFormedInputs (length p.bases) inputs →

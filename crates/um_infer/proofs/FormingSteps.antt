@@ -11,7 +11,7 @@ use Rattle.um_units.specs.Variables.{VariablesBelow}
 use Rattle.um_tree.specs.declared.types.Ty.{Ty}
 use Rattle.um_tree.specs.TypeTree.{TypeTree, type_tree}
 use Rattle.um_tree.specs.ProgramTree.{Signature, SchemeTree}
-use Rattle.um_tree.specs.Scheme.{type_variables, variables}
+use Rattle.um_tree.specs.Scheme.{signature_types, type_variables, variables}
 use Rattle.um_tree.specs.Typing.{put, put_signature}
 use Rattle.um_elim.specs.Application.{type_fits}
 use Rattle.um_elim.specs.Numbering.{by_place, renumbered, variable_order}
@@ -19,7 +19,6 @@ use Rattle.um_elim.proofs.GrowingOrder.{All-front, All-back}
 use Rattle.um_elim.proofs.VariablesKept.{put_below}
 use Rattle.um_rows.specs.FirstUnsolvable.{Solving, solved}
 use Rattle.um_rows.specs.Judgement.{has_scheme, passes_range, signature_fits, numbered_scheme, by_solving}
-use Rattle.um_rows.specs.Solutions.{signature_types}
 use Rattle.um_infer.specs.declared.refusal.Refusal.{Refusal}
 use Rattle.um_infer.specs.declared.refusal.Refusal.TheVariants as refusal
 use Rattle.um_infer.specs.Forming.{RefusesUnless, RefusesRows, IsAnswer}

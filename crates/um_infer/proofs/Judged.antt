@@ -7,7 +7,7 @@ use Rattle.std.proofs.lemmas.List.Elements.{All-nil, All-cons, All-head, All-tai
 use Rattle.um_units.specs.Variables.{VariablesBelow}
 use Rattle.um_tree.specs.declared.program.Scheme.{Scheme}
 use Rattle.um_tree.specs.ProgramTree.{RecordTree, FunctionTree, ProgramTree, SchemeTree}
-use Rattle.um_tree.specs.Scheme.{variables}
+use Rattle.um_tree.specs.Scheme.{signature_types, variables}
 use Rattle.um_elim.specs.Solution.{own_variables}
 use Rattle.um_rows.specs.declared.row.Row.{Row}
 use Rattle.um_rows.specs.declared.row.Rows.{Rows}
@@ -15,7 +15,7 @@ use Rattle.um_rows.specs.declared.row.RowStop.{RowStop}
 use Rattle.um_rows.specs.declared.row.RowStop.TheVariants as rows_stop
 use Rattle.um_rows.specs.Steps.{rows_of, first_past}
 use Rattle.um_rows.specs.Slots.{slot_count, slot_equations}
-use Rattle.um_rows.specs.Solutions.{function_rows, slot_signature, signature_types, HaveSchemes}
+use Rattle.um_rows.specs.Solutions.{function_rows, slot_signature, HaveSchemes}
 use Rattle.um_rows.specs.FirstUnsolvable.{solve}
 use Rattle.um_rows.specs.Judgement.{Judgement, too_many_slots, by_solving, by_range, judge}
 use Rattle.um_rows.specs.Answers.{AreEquations, StopsFor, HaveVariablesBelow}
@@ -78,4 +78,4 @@ pub own_variables_alone : (p : ProgramTree) (schemes : List SchemeTree) (i : ℕ
 own_variables_alone p schemes i have j s l e =
     let h = have j l in
     let same : h.scheme ≡ s = (let both : Some h.scheme ≡ Some s = sym h.stands ∙ e in cc both) in
-    subst (λ (t : SchemeTree). All (λ k. k < t.vars) (variables (signature_types t.signature))) same h.variables_below
+    subst (λ (t : SchemeTree). All (λ k. k < t.vars) (variables (signature_types t.signature))) same h.principal.below

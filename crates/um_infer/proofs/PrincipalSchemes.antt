@@ -5,9 +5,9 @@ use Rattle.std.proofs.lemmas.List.{length-append}
 use Rattle.um_units.specs.PowerMap.{one}
 use Rattle.um_tree.specs.ProgramTree.{FunctionTree, ProgramTree, SchemeTree}
 use Rattle.um_tree.specs.Typing.{put_signature}
-use Rattle.um_tree.specs.Scheme.{IsPrincipal, IsNumberedScheme, variables}
-use Rattle.um_elim.proofs.NumberedTypes.{in_order_below}
-use Rattle.um_rows.specs.Solutions.{signature_types, HaveSchemes}
+use Rattle.um_tree.specs.Scheme.{IsPrincipal, IsNumberedScheme}
+use Rattle.um_tree.specs.Laws.{LiteralsAreClosed}
+use Rattle.um_rows.specs.Solutions.{HaveSchemes}
 use Rattle.um_rows.specs.Judgement.{has_scheme, judge}
 use Rattle.um_rows.proofs.JudgementLaws.{judged_schemes_are_principal}
 use Rattle.um_infer.specs.Schemes.{ArePrincipal, AreTyped}
@@ -23,7 +23,6 @@ module _ (p : ProgramTree) (n : ℕ) (schemes : List SchemeTree) (h : ArePrincip
       record {
         scheme = w.0;
         stands = w.1;
-        variables_below = in_order_below 0 w.0.vars (variables (signature_types w.0.signature)) (h.numbered j w.0 w.1);
         principal = h.principal j w.0 w.1;
       }
 
@@ -32,12 +31,12 @@ module _ (p : ProgramTree) (n : ℕ) (schemes : List SchemeTree) (h : ArePrincip
   are_typed j l =
       let w = scheme_at j l in
       let g = put_signature (λ k. one) w.0.signature in
-      (g, (h.principal j w.0 w.1 g).1 ((λ k. one), refl))
+      (g, ((h.principal j w.0 w.1).instances g).1 ((λ k. one), refl))
 
   -- the next function's scheme, behind the others
-  pub one_more : (f : FunctionTree) (s : SchemeTree) → slice_get p.functions n ≡ Some f → judge p.records schemes n f ≡ has_scheme s → ArePrincipal p (suc n) (schemes ++ s ∷ [])
-  one_more f s declared is =
-      let right = judged_schemes_are_principal p schemes n f declared have_schemes s is in
+  pub one_more : (f : FunctionTree) (s : SchemeTree) → slice_get p.functions n ≡ Some f → LiteralsAreClosed f.body → judge p.records schemes n f ≡ has_scheme s → ArePrincipal p (suc n) (schemes ++ s ∷ [])
+  one_more f s declared closed is =
+      let right = judged_schemes_are_principal p schemes n f declared closed have_schemes s is in
       let count = h.count in
       record {
         count = length-append schemes (s ∷ []) ∙ omega (arith, count);

@@ -1,7 +1,8 @@
 -- The functions of a program, judged one after another.
 -- Source: Kennedy (1996): functions are taken in order, each with the schemes of those before it.
-use Rattle.std.proofs.Common.{◌≡◌, ℕ, ◌+◌, ◌<◌, ◌≤◌, add-one, List, [], ◌∷◌, ◌++◌, length, slice_get, Some, Err, refl, sym, ap, ◌∙◌, subst}
+use Rattle.std.proofs.Common.{◌≡◌, ℕ, ◌+◌, ◌<◌, ◌≤◌, add-one, List, [], ◌∷◌, ◌++◌, length, slice_get, Some, Err, refl, sym, ap, ◌∙◌}
 use Rattle.um_tree.specs.ProgramTree.{FunctionTree, ProgramTree, SchemeTree}
+use Rattle.um_tree.specs.Formed.{IsFormed}
 use Rattle.um_rows.specs.Solutions.{HaveSchemes}
 use Rattle.um_rows.specs.Judgement.{Judgement, has_scheme, too_many_slots, passes_range, has_no_typing, judge}
 use Rattle.um_infer.specs.declared.refusal.Refusal.{Refusal}
@@ -14,11 +15,11 @@ use Rattle.um_infer.specs.Refusals.{stop_of}
 use Rattle.um_infer.proofs.SchemeLists.{item_at}
 use Rattle.um_infer.proofs.PrincipalSchemes.{have_schemes}
 use Rattle.um_infer.proofs.Stops.{after_before, stops}
-use Rattle.um_infer.proofs.InferenceLaws.{Says, first_says}
+use Rattle.um_infer.proofs.InferenceLaws.{first_are_principal}
 
 module _ (p : ProgramTree) (i : ℕ) (schemes : List SchemeTree) (before : infer_first p i ≡ all_schemes schemes) where
-  pub have_before : i ≤ length p.functions → HaveSchemes p schemes i
-  have_before l = have_schemes p i schemes (subst (Says p i) before (first_says p i l))
+  pub have_before : IsFormed p → i ≤ length p.functions → HaveSchemes p schemes i
+  have_before formed l = have_schemes p i schemes (first_are_principal p formed i schemes l before)
 
   module _ (l : i < length p.functions) where
     abbrev is_judged : (j : Judgement) → ((f : FunctionTree) → slice_get p.functions i ≡ Some f → judge p.records schemes i f ≡ j) → IsJudged p i j

@@ -5,6 +5,7 @@ use Rattle.um_tree.specs.declared.types.Ty.{Ty}
 use Rattle.um_tree.specs.declared.program.Schemes.{Schemes}
 use Rattle.um_tree.specs.TypeTree.{TypeTree, type_tree}
 use Rattle.um_tree.specs.ValueTree.{InputTrees}
+use Rattle.um_tree.specs.Formed.{IsFormed}
 use Rattle.um_tree.specs.InputType.{IsResultOfCall, IsTypeOfCall}
 use Rattle.um_tree.specs.ProgramTree.{FunctionTree, ProgramTree, SchemeTree, scheme_tree}
 use Rattle.um_rows.specs.Judgement.{Judgement, has_scheme, too_many_slots, passes_range, has_no_typing}
@@ -40,7 +41,7 @@ SaysOfTypings p (Err (stop.Slots i)) = IsJudged p i too_many_slots
 SaysOfTypings p (Err stop.NoMemory) = Unit {0}
 
 abbrev pub InferredAnswersAreRight : Type 0
-InferredAnswersAreRight = (p : ProgramTree) (r : Result Schemes InferStop) → IsInferred p r → SaysOfTypings p r
+InferredAnswersAreRight = (p : ProgramTree) → IsFormed p → (r : Result Schemes InferStop) → IsInferred p r → SaysOfTypings p r
 
 -- ---- the call of function k on the inputs, given the schemes of all functions
 

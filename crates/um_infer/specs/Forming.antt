@@ -6,7 +6,7 @@ use Rattle.um_units.specs.Variables.{VariablesBelow}
 use Rattle.um_tree.specs.declared.program.Scheme.{Scheme}
 use Rattle.um_tree.specs.TypeTree.{type_tree, type_trees}
 use Rattle.um_tree.specs.ProgramTree.{Signature, scheme_tree}
-use Rattle.um_elim.specs.Elimination.{Outcome, Solved, NoSolution, Range, eliminate}
+use Rattle.um_elim.specs.Elimination.{Elimination, Solved, NoSolution, Range, eliminate}
 use Rattle.um_elim.specs.Solution.{Solution, own_variables}
 use Rattle.um_rows.specs.declared.row.Row.{Row}
 use Rattle.um_rows.specs.declared.row.Rows.{Rows}
@@ -18,7 +18,7 @@ use Rattle.um_infer.specs.declared.refusal.Refusal.TheVariants as refusal
 -- ---- one row
 
 -- the row at the place is refused as its elimination is
-abbrev pub RefusesRow : ℕ → Outcome → Refusal → Type 0
+abbrev pub RefusesRow : ℕ → Elimination → Refusal → Type 0
 RefusesRow at o (refusal.Units k) = (o ≡ NoSolution) × (k ≡ at)
 RefusesRow at o (refusal.PowerRange k) = (o ≡ Range) × (k ≡ at)
 RefusesRow at o refusal.Slots = ⊥

@@ -14,9 +14,9 @@ use Rattle.um_infer.specs.CallJudgement.{judge_call}
 
 -- ---- schemes
 
--- the schemes that are given are as many as the functions, principal and numbered
+-- the schemes that a formed program is given are as many as its functions, principal and numbered
 abbrev pub GivenSchemesArePrincipal : Type 0
-GivenSchemesArePrincipal = (p : ProgramTree) (schemes : List SchemeTree) → infer p ≡ all_schemes schemes → ArePrincipal p (length p.functions) schemes
+GivenSchemesArePrincipal = (p : ProgramTree) → IsFormed p → (schemes : List SchemeTree) → infer p ≡ all_schemes schemes → ArePrincipal p (length p.functions) schemes
 
 -- a function has too many slots or passes the range, where those before have their schemes
 abbrev pub IsLimited : Inference → Type 0
@@ -30,17 +30,17 @@ GivesSchemes r = (schemes : List SchemeTree) × (r ≡ all_schemes schemes)
 
 -- schemes are given exactly where every function has a typing and no limit is passed
 abbrev pub SchemesAreGivenToTyped : Type 0
-SchemesAreGivenToTyped = (p : ProgramTree) → GivesSchemes (infer p) ↔ (AreTyped p (length p.functions) × (IsLimited (infer p) → ⊥))
+SchemesAreGivenToTyped = (p : ProgramTree) → IsFormed p → GivesSchemes (infer p) ↔ (AreTyped p (length p.functions) × (IsLimited (infer p) → ⊥))
 
 -- ---- stops
 
 -- a stop for units is at the first function without a typing, at its first unsolvable row
 abbrev pub UnitsStopAtFirstUntyped : Type 0
-UnitsStopAtFirstUntyped = (p : ProgramTree) (i row at : ℕ) → infer p ≡ stops_at_units i row at → IsFirstUntyped p i row at
+UnitsStopAtFirstUntyped = (p : ProgramTree) → IsFormed p → (i row at : ℕ) → infer p ≡ stops_at_units i row at → IsFirstUntyped p i row at
 
 -- so a program whose every function has a typing stops for slots or range alone
 abbrev pub TypedStopForLimits : Type 0
-TypedStopForLimits = (p : ProgramTree) → AreTyped p (length p.functions) → (i row at : ℕ) → infer p ≡ stops_at_units i row at → ⊥
+TypedStopForLimits = (p : ProgramTree) → IsFormed p → AreTyped p (length p.functions) → (i row at : ℕ) → infer p ≡ stops_at_units i row at → ⊥
 
 -- each stop comes exactly where a function is judged so, and all before it have their schemes
 abbrev pub SlotStopsAreExact : Type 0

@@ -2,7 +2,7 @@
 ghost use Rattle.std.specs.Prelude.{◌≡◌, ◌<◌, length, slice_get, Some};
 ghost use Rattle.um_tree.specs.ProgramTree.{FunctionTree, program_tree};
 ghost use Rattle.um_tree.specs.ValueTree.{input_trees};
-ghost use Rattle.um_tree.specs.Formed.{AreFormedInputs};
+ghost use Rattle.um_tree.specs.Formed.{IsFormed, AreFormedInputs};
 ghost use Rattle.um_infer.specs.Answers.{IsCallTyped, SaysOfCall, scheme_trees};
 ghost use Rattle.um_infer.specs.CallJudgement.{judge_call};
 ghost use Rattle.um_infer.specs.Forming.{IsAnswer};
@@ -11,6 +11,7 @@ ghost use Rattle.um_infer.specs.Refusals.{call_stop_of};
 
 use crate::CallStop;
 use crate::forming::formed_scheme;
+use crate::program::function_count;
 use crate::refusal::Refusal;
 use std::alloc::Global;
 use um_rows::call_rows;
@@ -35,7 +36,7 @@ pub fn type_call(
     ensures typed { IsCallTyped (program_tree shaped.now) (scheme_trees schemes.now) f (input_trees args.now) result }
     ensures types { SaysOfCall (program_tree shaped.now) f (input_trees args.now) result }
 {
-    prove!((f as usize) < shaped.program().functions.items.len());
+    prove!(f < function_count(shaped));
     match call_scheme(alloc, shaped, schemes, f, args) {
         Ok(
             Scheme {
@@ -56,6 +57,7 @@ fn call_scheme(
     f: u32,
     args: &Inputs,
 ) -> Result<Scheme, Refusal>
+    requires formed { IsFormed (program_tree shaped.now) }
     requires function { f < length (program_tree shaped.now).functions }
     requires inferred { infer (program_tree shaped.now) ≡ all_schemes (scheme_trees schemes.now) }
     requires inputs { AreFormedInputs (length (program_tree shaped.now).bases) (input_trees args.now) }

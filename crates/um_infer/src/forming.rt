@@ -6,14 +6,13 @@ ghost use Rattle.um_units.specs.Variables.{VariablesBelow};
 ghost use Rattle.um_tree.specs.TypeTree.{type_tree, type_trees};
 ghost use Rattle.um_tree.specs.ProgramTree.{scheme_tree};
 ghost use Rattle.um_tree.specs.Typing.{put};
-ghost use Rattle.um_tree.specs.Scheme.{variables};
+ghost use Rattle.um_tree.specs.Scheme.{signature_types, variables};
 ghost use Rattle.um_elim.specs.Application.{type_fits};
 ghost use Rattle.um_elim.specs.Numbering.{renumbered, variable_order};
 ghost use Rattle.um_elim.specs.Solution.{own_variables};
 ghost use Rattle.um_rows.specs.declared.row.Row.{Row};
 ghost use Rattle.um_rows.specs.FirstUnsolvable.{solve};
 ghost use Rattle.um_rows.specs.Judgement.{by_solving};
-ghost use Rattle.um_rows.specs.Solutions.{signature_types};
 ghost use Rattle.um_infer.specs.Forming.{rows_signature, IsAnswer, RefusesUnless};
 
 use crate::refusal::Refusal;

@@ -1,6 +1,7 @@
 //! The schemes of a program.
 ghost use Rattle.std.specs.Prelude.{◌≡◌, ◌<◌, length, map, slice_get, Some, IfErr};
 ghost use Rattle.um_tree.specs.ProgramTree.{FunctionTree, program_tree, scheme_tree};
+ghost use Rattle.um_tree.specs.Formed.{IsFormed};
 ghost use Rattle.um_rows.specs.Judgement.{judge};
 ghost use Rattle.um_rows.specs.Solutions.{HaveSchemes};
 ghost use Rattle.um_infer.specs.Answers.{IsInferred, SaysOfTypings, scheme_trees};
@@ -56,9 +57,10 @@ fn function_scheme(
     formed_scheme(alloc, &equations, place_of(shaped, i))
 }
 
-/// How many functions the program has.
-fn function_count(shaped: &Shaped) -> u32
+/// How many functions the program has, which is formed.
+pub(crate) fn function_count(shaped: &Shaped) -> u32
     ensures count { result ≡ length (program_tree shaped.now).functions }
+    ensures formed { IsFormed (program_tree shaped.now) }
 {
     shaped.program().functions.items.len() as u32
 }

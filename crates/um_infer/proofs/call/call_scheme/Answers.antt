@@ -13,7 +13,7 @@ use Rattle.um_infer.proofs.call.call_scheme.Goals as goal
 pub call_rows-requires-clause-schemes : goal.call_rows-requires-clause-schemes
 call_rows-requires-clause-schemes c =
     let p = program_tree c.args.shaped.now in let schemes = scheme_trees c.args.schemes.now in
-    own_variables_alone p schemes (length p.functions) (have_all p schemes c.requires.inferred)
+    own_variables_alone p schemes (length p.functions) (have_all p c.requires.formed schemes c.requires.inferred)
 
 pub formed_scheme-requires-clause-few : goal.formed_scheme-requires-clause-few
 formed_scheme-requires-clause-few c =
@@ -26,14 +26,14 @@ formed_scheme-requires-clause-rows c =
     let p = program_tree c.args.shaped.now in let schemes = scheme_trees c.args.schemes.now in
     let w = item_at p.functions c.args.f c.requires.function in
     let call = call_function p.records c.args.f w.0 (input_trees c.args.args.now) in
-    rows_below p.records schemes (length p.functions) call c.in_ok-equations.equations (c.in_ok-equations.ensures.equations w.0 w.1) (rows_hold_slots p schemes (length p.functions) call (have_all p schemes c.requires.inferred))
+    rows_below p.records schemes (length p.functions) call c.in_ok-equations.equations (c.in_ok-equations.ensures.equations w.0 w.1) (rows_hold_slots p schemes (length p.functions) call (have_all p c.requires.formed schemes c.requires.inferred))
 
 pub formed_scheme-requires-clause-types : goal.formed_scheme-requires-clause-types
 formed_scheme-requires-clause-types c =
     let p = program_tree c.args.shaped.now in let schemes = scheme_trees c.args.schemes.now in
     let w = item_at p.functions c.args.f c.requires.function in
     let call = call_function p.records c.args.f w.0 (input_trees c.args.args.now) in
-    types_below p.records schemes (length p.functions) call c.in_ok-equations.equations (c.in_ok-equations.ensures.equations w.0 w.1) (types_hold_slots p schemes (length p.functions) call (have_all p schemes c.requires.inferred))
+    types_below p.records schemes (length p.functions) call c.in_ok-equations.equations (c.in_ok-equations.ensures.equations w.0 w.1) (types_hold_slots p schemes (length p.functions) call (have_all p c.requires.formed schemes c.requires.inferred))
 
 pub returns : goal.returns
 returns c = λ f declared.

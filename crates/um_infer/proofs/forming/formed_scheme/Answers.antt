@@ -3,10 +3,9 @@ use Rattle.std.specs.Prelude.{All}
 use Rattle.std.proofs.lemmas.List.Elements.{All-weaker}
 use Rattle.um_tree.specs.TypeTree.{type_trees}
 use Rattle.um_tree.specs.ProgramTree.{scheme_tree}
-use Rattle.um_tree.specs.Scheme.{variables}
+use Rattle.um_tree.specs.Scheme.{signature_types, variables}
 use Rattle.um_elim.specs.Solution.{own_variables}
 use Rattle.um_rows.specs.FirstUnsolvable.{solve}
-use Rattle.um_rows.specs.Solutions.{signature_types}
 use Rattle.um_infer.specs.Forming.{rows_signature, IsSolutionOf}
 use Rattle.um_infer.proofs.FormingSteps.{puts_below, formed_is_judged}
 use Rattle.um_infer.proofs.forming.formed_scheme.Goals as goal

@@ -12,7 +12,7 @@ pub function_scheme-requires-clause-before : goal.function_scheme-requires-claus
 function_scheme-requires-clause-before c =
     let p = program_tree c.args.shaped.now in
     let below : c.loop-i.i < length p.functions = subst (λ n. c.loop-i.i < n) c.function_count-functions.ensures.count c.loop-i-test.true in
-    have_before p c.loop-i.i (scheme_trees c.loop-i.schemes) c.loop-i.invariant (omega (arith, below))
+    have_before p c.loop-i.i (scheme_trees c.loop-i.schemes) c.loop-i.invariant c.function_count-functions.ensures.formed (omega (arith, below))
 
 pub loop-i-preserved : goal.loop-i-preserved
 loop-i-preserved c =
@@ -31,10 +31,10 @@ pub returns-in-Err-clause-typings : goal.returns-in-Err-clause-typings
 returns-in-Err-clause-typings c =
     let p = program_tree c.args.shaped.now in
     let below : c.loop-i.i < length p.functions = subst (λ n. c.loop-i.i < n) c.function_count-functions.ensures.count c.loop-i-test.true in
-    rw c.stop_of.ensures (inferred_answers_are_right p (Err (stop_of c.loop-i.i c.in-Err.refusal)) (refused_inferred p c.loop-i.i (scheme_trees c.loop-i.schemes) c.loop-i.invariant below c.in-Err.refusal c.in-Err.ensures))
+    rw c.stop_of.ensures (inferred_answers_are_right p c.function_count-functions.ensures.formed (Err (stop_of c.loop-i.i c.in-Err.refusal)) (refused_inferred p c.loop-i.i (scheme_trees c.loop-i.schemes) c.loop-i.invariant below c.in-Err.refusal c.in-Err.ensures))
 
 pub returns-clause-typings : goal.returns-clause-typings
 returns-clause-typings c =
     let p = program_tree c.args.shaped.now in
     let all : c.loop-i.i ≡ length p.functions = (let past = c.loop-i-test.false in let end = c.loop-i.auto.i-end in omega (arith, past, end, c.function_count-functions.ensures.count)) in
-    inferred_answers_are_right p (Ok c.loop-i.schemes) (all_inferred p c.loop-i.i (scheme_trees c.loop-i.schemes) all c.loop-i.invariant)
+    inferred_answers_are_right p c.function_count-functions.ensures.formed (Ok c.loop-i.schemes) (all_inferred p c.loop-i.i (scheme_trees c.loop-i.schemes) all c.loop-i.invariant)
