@@ -41,7 +41,8 @@ SaysOfTypings p (Err (stop.Slots i)) = IsJudged p i too_many_slots
 SaysOfTypings p (Err stop.NoMemory) = Unit {0}
 
 abbrev pub InferredAnswersAreRight : Type 0
-InferredAnswersAreRight = (p : ProgramTree) → IsFormed p → (r : Result Schemes InferStop) → IsInferred p r → SaysOfTypings p r
+InferredAnswersAreRight =
+    (p : ProgramTree) → IsFormed p → (r : Result Schemes InferStop) → IsInferred p r → SaysOfTypings p r
 
 -- ---- the call of function k on the inputs, given the schemes of all functions
 
@@ -54,7 +55,8 @@ CallAnswers j (Err call_stop.Slots) = j ≡ too_many_slots
 CallAnswers j (Err call_stop.NoMemory) = Unit {0}
 
 abbrev pub IsCallTyped : ProgramTree → List SchemeTree → ℕ → InputTrees → Result Ty CallStop → Type 0
-IsCallTyped p schemes k given r = (f : FunctionTree) → slice_get p.functions k ≡ Some f → CallAnswers (judge_call p schemes k f given) r
+IsCallTyped p schemes k given r =
+    (f : FunctionTree) → slice_get p.functions k ≡ Some f → CallAnswers (judge_call p schemes k f given) r
 
 -- what such an answer says: the type is a type of the call, or the call has no result
 abbrev pub SaysOfCall : ProgramTree → ℕ → InputTrees → Result Ty CallStop → Type 0

@@ -1,5 +1,5 @@
--- What the steps from a function's rows to its scheme answer, against its judgement. Want of memory may come in place of
--- every answer.
+-- What the steps from a function's rows to its scheme answer, against its judgement. Want of memory may come in place
+-- of every answer.
 -- Source: this project's own; solving row by row after Kennedy (1996).
 use Rattle.std.specs.Prelude.{◌≡◌, ℕ, Bool, false, List, length, All, IsFalse, Result, Ok, Err}
 use Rattle.um_units.specs.Variables.{VariablesBelow}

@@ -1,6 +1,6 @@
 -- The inference of a program: the schemes of its functions, or its first function without one.
--- Source: Kennedy (1996): functions are taken in order, each with the schemes of those before it. The limit of slots and the
--- range of powers are this project's own.
+-- Source: Kennedy (1996): functions are taken in order, each with the schemes of those before it. The limit of slots
+-- and the range of powers are this project's own.
 use Rattle.std.specs.Prelude.{ℕ, zero, suc, List, [], ◌∷◌, ◌++◌, length, Option, Some, None, slice_get}
 use Rattle.um_tree.specs.ProgramTree.{RecordTree, FunctionTree, ProgramTree, SchemeTree}
 use Rattle.um_rows.specs.Judgement.{Judgement, has_scheme, too_many_slots, passes_range, has_no_typing, judge}
@@ -37,7 +37,8 @@ and_then (stops_at_units i row at) next = stops_at_units i row at
 -- the first n functions: those before the last, and then it
 abbrev pub infer_first : ProgramTree → ℕ → Inference
 infer_first p zero = all_schemes []
-infer_first p (suc n) = and_then (infer_first p n) (λ schemes. with_function p.records schemes n (slice_get p.functions n))
+infer_first p (suc n) =
+    and_then (infer_first p n) (λ schemes. with_function p.records schemes n (slice_get p.functions n))
 
 -- all functions
 abbrev pub infer : ProgramTree → Inference

@@ -16,7 +16,9 @@ use Rattle.um_infer.specs.CallJudgement.{judge_call}
 
 -- the schemes that a formed program is given are as many as its functions, principal and numbered
 abbrev pub GivenSchemesArePrincipal : Type 0
-GivenSchemesArePrincipal = (p : ProgramTree) → IsFormed p → (schemes : List SchemeTree) → infer p ≡ all_schemes schemes → ArePrincipal p (length p.functions) schemes
+GivenSchemesArePrincipal =
+    (p : ProgramTree) → IsFormed p → (schemes : List SchemeTree) →
+    infer p ≡ all_schemes schemes → ArePrincipal p (length p.functions) schemes
 
 -- a function has too many slots or passes the range, where those before have their schemes
 abbrev pub IsLimited : Inference → Type 0
@@ -30,42 +32,57 @@ GivesSchemes r = (schemes : List SchemeTree) × (r ≡ all_schemes schemes)
 
 -- schemes are given exactly where every function has a typing and no limit is passed
 abbrev pub SchemesAreGivenToTyped : Type 0
-SchemesAreGivenToTyped = (p : ProgramTree) → IsFormed p → GivesSchemes (infer p) ↔ (AreTyped p (length p.functions) × (IsLimited (infer p) → ⊥))
+SchemesAreGivenToTyped =
+    (p : ProgramTree) → IsFormed p →
+    GivesSchemes (infer p) ↔ (AreTyped p (length p.functions) × (IsLimited (infer p) → ⊥))
 
 -- ---- stops
 
 -- a stop for units is at the first function without a typing, at its first unsolvable row
 abbrev pub UnitsStopAtFirstUntyped : Type 0
-UnitsStopAtFirstUntyped = (p : ProgramTree) → IsFormed p → (i row at : ℕ) → infer p ≡ stops_at_units i row at → IsFirstUntyped p i row at
+UnitsStopAtFirstUntyped =
+    (p : ProgramTree) → IsFormed p → (i row at : ℕ) →
+    infer p ≡ stops_at_units i row at → IsFirstUntyped p i row at
 
 -- so a program whose every function has a typing stops for slots or range alone
 abbrev pub TypedStopForLimits : Type 0
-TypedStopForLimits = (p : ProgramTree) → IsFormed p → AreTyped p (length p.functions) → (i row at : ℕ) → infer p ≡ stops_at_units i row at → ⊥
+TypedStopForLimits =
+    (p : ProgramTree) → IsFormed p → AreTyped p (length p.functions) →
+    (i row at : ℕ) → infer p ≡ stops_at_units i row at → ⊥
 
 -- each stop comes exactly where a function is judged so, and all before it have their schemes
 abbrev pub SlotStopsAreExact : Type 0
 SlotStopsAreExact = (p : ProgramTree) (i : ℕ) → infer p ≡ stops_at_slots i ↔ IsJudged p i too_many_slots
 
 abbrev pub RangeStopsAreExact : Type 0
-RangeStopsAreExact = (p : ProgramTree) (i at : ℕ) → infer p ≡ stops_at_range i at ↔ IsJudged p i (passes_range at)
+RangeStopsAreExact =
+    (p : ProgramTree) (i at : ℕ) → infer p ≡ stops_at_range i at ↔ IsJudged p i (passes_range at)
 
 abbrev pub UnitStopsAreExact : Type 0
-UnitStopsAreExact = (p : ProgramTree) (i row at : ℕ) → infer p ≡ stops_at_units i row at ↔ IsJudged p i (has_no_typing row at)
+UnitStopsAreExact =
+    (p : ProgramTree) (i row at : ℕ) → infer p ≡ stops_at_units i row at ↔ IsJudged p i (has_no_typing row at)
 
 -- too many slots are more than 2,000
 abbrev pub ManySlotsAreCounted : Type 0
-ManySlotsAreCounted = (records : List RecordTree) (schemes : List SchemeTree) (i : ℕ) (f : FunctionTree) → judge records schemes i f ≡ too_many_slots ↔ (2000 < slot_count records schemes i f)
+ManySlotsAreCounted =
+    (records : List RecordTree) (schemes : List SchemeTree) (i : ℕ) (f : FunctionTree) →
+    judge records schemes i f ≡ too_many_slots ↔ (2000 < slot_count records schemes i f)
 
 -- ---- calls, where the schemes of all functions are given
 
 -- the type that a call is judged to have is a type of the call
 abbrev pub JudgedCallTypes : Type 0
 JudgedCallTypes =
-    (p : ProgramTree) (schemes : List SchemeTree) (k : ℕ) (f : FunctionTree) (inputs : InputTrees) → IsFormed p → infer p ≡ all_schemes schemes → slice_get p.functions k ≡ Some f → AreFormedInputs (length p.bases) inputs →
+    (p : ProgramTree) (schemes : List SchemeTree) (k : ℕ) (f : FunctionTree) (inputs : InputTrees) →
+    IsFormed p → infer p ≡ all_schemes schemes → slice_get p.functions k ≡ Some f →
+    AreFormedInputs (length p.bases) inputs →
     (s : SchemeTree) → judge_call p schemes k f inputs ≡ has_scheme s → IsTypeOfCall p k inputs s.signature.result
 
 -- a call that is judged to have no typing has no result
 abbrev pub JudgedCallRefusals : Type 0
 JudgedCallRefusals =
-    (p : ProgramTree) (schemes : List SchemeTree) (k : ℕ) (f : FunctionTree) (inputs : InputTrees) → IsFormed p → infer p ≡ all_schemes schemes → slice_get p.functions k ≡ Some f → AreFormedInputs (length p.bases) inputs →
-    (row at : ℕ) → judge_call p schemes k f inputs ≡ has_no_typing row at → (t : TypeTree) → IsResultOfCall p k inputs t → ⊥
+    (p : ProgramTree) (schemes : List SchemeTree) (k : ℕ) (f : FunctionTree) (inputs : InputTrees) →
+    IsFormed p → infer p ≡ all_schemes schemes → slice_get p.functions k ≡ Some f →
+    AreFormedInputs (length p.bases) inputs →
+    (row at : ℕ) → judge_call p schemes k f inputs ≡ has_no_typing row at →
+    (t : TypeTree) → IsResultOfCall p k inputs t → ⊥

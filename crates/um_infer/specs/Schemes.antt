@@ -10,7 +10,8 @@ use Rattle.um_rows.specs.FirstUnsolvable.{IsFirstUnsolvable}
 use Rattle.um_rows.specs.Judgement.{Judgement, judge}
 use Rattle.um_infer.specs.Inference.{all_schemes, infer_first}
 
--- a scheme for each of the first n functions, in order: its instances are exactly the function's typings, and it is numbered
+-- a scheme for each of the first n functions, in order: its instances are exactly the function's typings, and it is
+-- numbered
 pub record ArePrincipal (p : ProgramTree) (n : ℕ) (schemes : List SchemeTree) : Type 0 where
   pub count : length schemes ≡ n
   pub principal : (i : ℕ) (s : SchemeTree) → slice_get schemes i ≡ Some s → IsPrincipal p i s
@@ -20,8 +21,8 @@ pub record ArePrincipal (p : ProgramTree) (n : ℕ) (schemes : List SchemeTree) 
 abbrev pub AreTyped : ProgramTree → ℕ → Type 0
 AreTyped p n = (i : ℕ) → i < n → (g : Signature) × Typing p i g
 
--- function i is the first without a typing. Given the principal schemes of those before it, the row of this number is the
--- first unsolvable one of its equations, and stands at the place
+-- function i is the first without a typing. Given the principal schemes of those before it, the row of this number is
+-- the first unsolvable one of its equations, and stands at the place
 pub record IsFirstUntyped (p : ProgramTree) (i row at : ℕ) : Type 0 where
   pub function : FunctionTree
   pub declared : slice_get p.functions i ≡ Some function
@@ -29,7 +30,9 @@ pub record IsFirstUntyped (p : ProgramTree) (i row at : ℕ) : Type 0 where
   pub untyped : (g : Signature) → Typing p i g → ⊥
   pub schemes : List SchemeTree
   pub principal : ArePrincipal p i schemes
-  pub first_row : IsFirstUnsolvable (slot_count p.records schemes i function) (rows_of (slot_equations p.records schemes i function).steps) row at
+  pub first_row :
+      IsFirstUnsolvable (slot_count p.records schemes i function)
+      (rows_of (slot_equations p.records schemes i function).steps) row at
 
 -- all functions before function i have schemes, and given these it is judged so
 pub record IsJudged (p : ProgramTree) (i : ℕ) (judgement : Judgement) : Type 0 where
