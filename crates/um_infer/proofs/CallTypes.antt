@@ -28,9 +28,9 @@ pub judged_call_refusals : JudgedCallRefusals
 judged_call_refusals p schemes k f inputs formed is declared closed row at judged t h = judged_untyped_calls_have_none p schemes k f inputs formed (have_all p formed schemes is) declared closed row at judged t h
 
 -- the refusal of a call
-pub refused_call : (p : ProgramTree) (schemes : List SchemeTree) (k : ℕ) (f : FunctionTree) (inputs : InputTrees) → IsFormed p → infer p ≡ all_schemes schemes → slice_get p.functions k ≡ Some f → AreFormedInputs (length p.bases) inputs →
-    (r : Refusal) → IsAnswer (judge_call p schemes k f inputs) (Err r) → SaysOfCall p k inputs (Err (call_stop_of r))
-refused_call p schemes k f inputs formed is declared closed (refusal.Units at) h = judged_call_refusals p schemes k f inputs formed is declared closed h.0 at h.1
-refused_call p schemes k f inputs formed is declared closed (refusal.PowerRange at) h = tt
-refused_call p schemes k f inputs formed is declared closed refusal.Slots h = tt
-refused_call p schemes k f inputs formed is declared closed refusal.NoMemory h = tt
+pub refused_call : (p : ProgramTree) (schemes : List SchemeTree) (k : ℕ) (f : FunctionTree) (given : InputTrees) → IsFormed p → infer p ≡ all_schemes schemes → slice_get p.functions k ≡ Some f → AreFormedInputs (length p.bases) given →
+    (r : Refusal) → IsAnswer (judge_call p schemes k f given) (Err r) → SaysOfCall p k given (Err (call_stop_of r))
+refused_call p schemes k f given formed is declared closed (refusal.Units at) h = judged_call_refusals p schemes k f given formed is declared closed h.0 at h.1
+refused_call p schemes k f given formed is declared closed (refusal.PowerRange at) h = tt
+refused_call p schemes k f given formed is declared closed refusal.Slots h = tt
+refused_call p schemes k f given formed is declared closed refusal.NoMemory h = tt
