@@ -15,7 +15,7 @@ use Rattle.um_tree.specs.ProgramTree.{FunctionTree, ProgramTree}
 use Rattle.um_parse.specs.Parsed.{IsRead, Parsed}
 use Rattle.um_measures.specs.declared.stop.NameStop.{NameStop}
 use Rattle.um_measures.specs.Stops.{IsFirst}
-use Rattle.um_names.specs.Parts.{resolved_program}
+use Rattle.um_names.specs.Resolution.{resolved_program}
 use Rattle.um_shape.specs.declared.stop.ShapeStop.{ShapeStop}
 use Rattle.um_shape.specs.FirstFault.{first_fault}
 use Rattle.um_shape.specs.ShapedProgram.{IsRefusal}

@@ -10,7 +10,7 @@ use Rattle.um_syntax.specs.Feeding.{IsTextAnswer}
 use Rattle.um_tree.specs.RawTree.{DeclSyntax}
 use Rattle.um_tree.specs.ProgramTree.{ProgramTree, SchemeTree}
 use Rattle.um_parse.specs.Parsed.{IsRead}
-use Rattle.um_names.specs.Parts.{resolved_program}
+use Rattle.um_names.specs.Resolution.{resolved_program}
 use Rattle.um_shape.specs.FirstFault.{first_fault}
 use Rattle.um_infer.specs.Schemes.{ArePrincipal, IsFirstUntyped}
 use Rattle.um_tool.specs.declared.status.Status.{Status}
