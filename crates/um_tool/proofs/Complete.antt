@@ -18,14 +18,22 @@ use Rattle.um_types.specs.UnitStops.{greatest_height}
 use Rattle.um_measures.specs.declared.stop.NameStop.{NameStop}
 use Rattle.um_measures.specs.declared.stop.NameStop.TheVariants as name_stop
 use Rattle.um_measures.specs.Stops.{IsFirst}
-use Rattle.um_names.specs.Parts.{resolved_program}
+use Rattle.um_tree.specs.Formed.{IsFormed}
+use Rattle.um_names.specs.Resolution.{resolved_program}
+use Rattle.um_names.specs.Readable.{IsReadable}
+use Rattle.um_names.proofs.FormedPrograms.{resolution_formed}
+use Rattle.um_readable.proofs.TextBytes.{readable_program}
 use Rattle.um_shape.specs.declared.stop.ShapeStop.{ShapeStop}
 use Rattle.um_shape.specs.declared.stop.ShapeStop.TheVariants as shape_stop
 use Rattle.um_shape.specs.FirstFault.{first_fault}
 use Rattle.um_shape.specs.ShapedProgram.{IsRefusal}
-use Rattle.um_closed.specs.ClosedProgram.{IsClosedProgram}
+use Rattle.um_infer.specs.Inference.{Inference, all_schemes, stops_at_slots, stops_at_range, stops_at_units, infer}
+use Rattle.um_infer.specs.Schemes.{AreTyped}
+use Rattle.um_infer.specs.Laws.{IsLimited}
+use Rattle.um_infer.proofs.InferenceLaws.{schemes_are_given_to_typed}
+use Rattle.um_infer.proofs.SchemeLists.{item_at}
 use Rattle.um_tree.specs.RawTree.{DeclSyntax}
-use Rattle.um_tree.specs.ProgramTree.{ProgramTree}
+use Rattle.um_tree.specs.ProgramTree.{ProgramTree, SchemeTree}
 use Rattle.um_parse.specs.DeclGrammar.{IsProgram}
 use Rattle.um_parse.specs.ProgramHeights.{program_height}
 use Rattle.um_parse.specs.ProgramLimits.{WithinLimits, PassesAt, functions_in}
@@ -35,27 +43,22 @@ use Rattle.um_tool.specs.declared.order.Order.{Order}
 use Rattle.um_tool.specs.declared.status.Status.{Status}
 use Rattle.um_tool.specs.declared.status.Status.TheVariants.{Done}
 use Rattle.um_tool.specs.declared.order.Order.TheVariants.{Types, Fmt}
-use Rattle.um_tool.specs.Answer.{Answer, OrderAnswer, LengthAnswer, TokensAnswer, GrammarAnswer, ProgramAnswer, NamesAnswer, ShapesAnswer, TypesAnswer, SchemesAnswer}
+use Rattle.um_tool.specs.Answer.{Asked, Answer, OrderAnswer, LengthAnswer, TokensAnswer, GrammarAnswer, ProgramAnswer, ByLayout, NamesAnswer, ShapesAnswer, SchemesAnswer, ByOrder, InferenceAnswer}
 use Rattle.um_tool.specs.Refusals.{IsTextReply, IsParseReply, IsNameReply, IsShapeReply}
 use Rattle.um_tool.specs.Steps.{Cases}
 use Rattle.um_tool.specs.Served.{IsPlanned, IsComplete, EachIsTyped, IsTyped, GoesThrough, IsUndisturbed}
 
 -- what follows a case that doesn't apply
-passed : {P Q R : Type 0} → (P → ⊥) → Cases P Q R → R
+pub passed : {P Q R : Type 0} → (P → ⊥) → Cases P Q R → R
 passed not (inl (case, here)) = absurd (not case)
 passed not (inr (none, after)) = after
 
--- what is said of a case that applies
-applied : {P Q R : Type 0} → P → Cases P Q R → Q
-applied is (inl (case, here)) = here
-applied is (inr (none, after)) = absurd (none is)
-
 -- ---- a text with tokens isn't refused
 
-not_utf8 : (bytes : List ℕ) (at : ℕ) → IsValidUpTo bytes at → IsUtf8 bytes → ⊥
+pub not_utf8 : (bytes : List ℕ) (at : ℕ) → IsValidUpTo bytes at → IsUtf8 bytes → ⊥
 not_utf8 bytes at valid utf8 = valid.longest (length bytes) valid.short (rw (take_all (length bytes) bytes (omega (arith))) utf8)
 
-text_not_refused : (bytes : List ℕ) (tokens : List Token) (stop : TextStop) (text : List ℕ) (status : Status) → IsTextAnswer bytes (Ok tokens) → IsTextAnswer bytes (Err stop) → IsTextReply bytes stop text status → ⊥
+pub text_not_refused : (bytes : List ℕ) (tokens : List Token) (stop : TextStop) (text : List ℕ) (status : Status) → IsTextAnswer bytes (Ok tokens) → IsTextAnswer bytes (Err stop) → IsTextReply bytes stop text status → ⊥
 text_not_refused bytes tokens (text_stop.Utf8 at) text status lexed refused reply = not_utf8 bytes at refused lexed.0
 text_not_refused bytes tokens (text_stop.BadChar at) text status lexed refused reply = tokens_or_fault (chars bytes) tokens (lex_stop.BadChar at) lexed.1 refused.1
 text_not_refused bytes tokens (text_stop.NumberRange at) text status lexed refused reply = tokens_or_fault (chars bytes) tokens (lex_stop.NumberRange at) lexed.1 refused.1
@@ -64,54 +67,63 @@ text_not_refused bytes tokens text_stop.NoMemory text status lexed refused reply
 
 -- ---- a program that is read isn't refused
 
-not_passed : (before : ℕ) (ds : List DeclSyntax) (kind : LimitKind) (at : ℕ) → WithinLimits before ds → PassesAt before ds kind at → ⊥
+pub not_passed : (before : ℕ) (ds : List DeclSyntax) (kind : LimitKind) (at : ℕ) → WithinLimits before ds → PassesAt before ds kind at → ⊥
 not_passed before [] kind at within passes = passes
 not_passed before (d ∷ ds) kind at within passes =
     not_passed (before + functions_in d) ds kind at within.1 (rw within.0 at passes)
 
-not_stopped : (tokens : List Token) (ds : List DeclSyntax) (k : ℕ) → IsProgram tokens ds → StopsAt tokens k → ⊥
+pub not_stopped : (tokens : List Token) (ds : List DeclSyntax) (k : ℕ) → IsProgram tokens ds → StopsAt tokens k → ⊥
 not_stopped tokens ds k is stops = by_place (cases_lt k (length tokens))
   where
     by_place : (k < length tokens) ⊎ (length tokens ≤ k) → ⊥
     by_place (inl below) = stops.through below (drop (k + 1) tokens, ds, rw (take-append-drop (k + 1) tokens) is)
     by_place (inr past) = stops.none (omega (arith, past, stops.within)) ds is
 
-not_high : (tokens : List Token) (ds : List DeclSyntax) (k : ℕ) → IsProgram tokens ds → program_height ds ≤ greatest_height → HighAt tokens k → ⊥
+pub not_high : (tokens : List Token) (ds : List DeclSyntax) (k : ℕ) → IsProgram tokens ds → program_height ds ≤ greatest_height → HighAt tokens k → ⊥
 not_high tokens ds k is low high = high.none (drop (k + 1) tokens, ds, rw (take-append-drop (k + 1) tokens) is, low)
 
-not_limited : (tokens : List Token) (ds : List DeclSyntax) (end : ℕ) (kind : LimitKind) (at : ℕ) → IsRead tokens ds → LimitAt tokens end kind at → ⊥
+pub not_limited : (tokens : List Token) (ds : List DeclSyntax) (end : ℕ) (kind : LimitKind) (at : ℕ) → IsRead tokens ds → LimitAt tokens end kind at → ⊥
 not_limited tokens ds end limit.Height at read high = not_high tokens ds high.0 read.is read.low high.2
 not_limited tokens ds end kind at read large =
     not_passed 0 ds kind at read.small (subst (λ other. PassesAt 0 other kind at) (read.only large.ds large.is) large.passes)
 
-program_not_refused : (tokens : List Token) (ds : List DeclSyntax) (end : ℕ) (stop : ParseStop) (bytes text : List ℕ) (status : Status) → IsRead tokens ds → Parsed tokens end (Err stop) → IsParseReply bytes stop text status → ⊥
+pub program_not_refused : (tokens : List Token) (ds : List DeclSyntax) (end : ℕ) (stop : ParseStop) (bytes text : List ℕ) (status : Status) → IsRead tokens ds → Parsed tokens end (Err stop) → IsParseReply bytes stop text status → ⊥
 program_not_refused tokens ds end (parse_stop.Syntax at) bytes text status read refused reply = not_stopped tokens ds refused.0 read.is refused.2
 program_not_refused tokens ds end (parse_stop.Limit kind at) bytes text status read refused reply = not_limited tokens ds end kind at read refused
 program_not_refused tokens ds end parse_stop.NoMemory bytes text status read refused reply = reply
 
 -- ---- each step in turn
 
-schemes_done : (bytes : List ℕ) (p : ProgramTree) (text : List ℕ) (status : Status) → EachIsTyped p → SchemesAnswer bytes p text status → status ≡ Done
+-- a program whose functions are typed and pass no limit has its schemes
+inferred_done : (bytes : List ℕ) (p : ProgramTree) (inferred : Inference) (text : List ℕ) (status : Status) → (schemes : List SchemeTree) × (inferred ≡ all_schemes schemes) → InferenceAnswer bytes p inferred text status → status ≡ Done
+inferred_done bytes p (all_schemes others) text status h answer = answer.1
+inferred_done bytes p (stops_at_slots i) text status h answer = absurd (cc h.1)
+inferred_done bytes p (stops_at_range i at) text status h answer = absurd (cc h.1)
+inferred_done bytes p (stops_at_units i row at) text status h answer = absurd (cc h.1)
+
+by_order_done : (order : Order) (asked : Asked) (p : ProgramTree) (text : List ℕ) (status : Status) → (schemes : List SchemeTree) × (infer p ≡ all_schemes schemes) → ByOrder order asked p (infer p) text status → status ≡ Done
+by_order_done Types asked p text status h answer = inferred_done asked.bytes p (infer p) text status h answer
+by_order_done Fmt asked p text status h reply = reply.1
+
+all_typed : (p : ProgramTree) → EachIsTyped p → AreTyped p (length p.functions)
+all_typed p typed i below = let f = item_at p.functions i below in typed i f.0 f.1
+
+schemes_done : (asked : Asked) (p : ProgramTree) (text : List ℕ) (status : Status) → IsFormed p → EachIsTyped p → (IsLimited (infer p) → ⊥) → SchemesAnswer asked p text status → status ≡ Done
 unfolding SchemesAnswer
-schemes_done bytes p text status typed (inl (printed, done)) = done
-schemes_done bytes p text status typed (inr (i, at, untyped, reply)) =
-    let one = typed i untyped.function untyped.declared in absurd (untyped.untyped one.0 one.1)
+schemes_done asked p text status formed typed unlimited answer =
+    by_order_done asked.order asked p text status ((schemes_are_given_to_typed p formed).1 (all_typed p typed, unlimited)) answer
 
-types_done : (bytes : List ℕ) (p : ProgramTree) (text : List ℕ) (status : Status) → IsClosedProgram p → EachIsTyped p → TypesAnswer bytes p text status → status ≡ Done
-unfolding TypesAnswer
-types_done bytes p text status closed typed answer = schemes_done bytes p text status typed (applied closed answer)
-
-not_refused : (p : ProgramTree) (stop : ShapeStop) (bytes text : List ℕ) (status : Status) → first_fault p ≡ None → IsRefusal (first_fault p) stop → IsShapeReply bytes stop text status → ⊥
+pub not_refused : (p : ProgramTree) (stop : ShapeStop) (bytes text : List ℕ) (status : Status) → first_fault p ≡ None → IsRefusal (first_fault p) stop → IsShapeReply bytes stop text status → ⊥
 not_refused p (shape_stop.Shape at) bytes text status none some reply = cc (sym none ∙ some)
 not_refused p (shape_stop.Depth at) bytes text status none some reply = cc (sym none ∙ some)
 not_refused p shape_stop.NoMemory bytes text status none some reply = reply
 
-shapes_done : (bytes : List ℕ) (p : ProgramTree) (text : List ℕ) (status : Status) → first_fault p ≡ None → IsClosedProgram p → EachIsTyped p → ShapesAnswer bytes p text status → status ≡ Done
+shapes_done : (asked : Asked) (p : ProgramTree) (text : List ℕ) (status : Status) → IsFormed p → first_fault p ≡ None → EachIsTyped p → (IsLimited (infer p) → ⊥) → ShapesAnswer asked p text status → status ≡ Done
 unfolding ShapesAnswer
-shapes_done bytes p text status faultless closed typed (inl (none, answer)) = types_done bytes p text status closed typed answer
-shapes_done bytes p text status faultless closed typed (inr (stop, refused, reply)) = absurd (not_refused p stop bytes text status faultless refused reply)
+shapes_done asked p text status formed faultless typed unlimited (inl (none, answer)) = schemes_done asked p text status formed typed unlimited answer
+shapes_done asked p text status formed faultless typed unlimited (inr (stop, refused, reply)) = absurd (not_refused p stop asked.bytes text status faultless refused reply)
 
-not_faulty : (raw : List DeclSyntax) (p : ProgramTree) (stop : NameStop) (bytes text : List ℕ) (status : Status) → resolved_program raw ≡ Ok p → IsFirst (resolved_program raw) stop → IsNameReply bytes stop text status → ⊥
+pub not_faulty : (raw : List DeclSyntax) (p : ProgramTree) (stop : NameStop) (bytes text : List ℕ) (status : Status) → resolved_program raw ≡ Ok p → IsFirst (resolved_program raw) stop → IsNameReply bytes stop text status → ⊥
 not_faulty raw p (name_stop.Unknown at) bytes text status ok err reply = cc (sym ok ∙ err)
 not_faulty raw p (name_stop.Twice at) bytes text status ok err reply = cc (sym ok ∙ err)
 not_faulty raw p (name_stop.WrongCount at) bytes text status ok err reply = cc (sym ok ∙ err)
@@ -119,39 +131,46 @@ not_faulty raw p (name_stop.Hole at) bytes text status ok err reply = cc (sym ok
 not_faulty raw p (name_stop.Range at) bytes text status ok err reply = cc (sym ok ∙ err)
 not_faulty raw p name_stop.NoMemory bytes text status ok err reply = reply
 
-names_done : (bytes : List ℕ) (raw : List DeclSyntax) (text : List ℕ) (status : Status) → IsTyped raw → NamesAnswer bytes raw text status → status ≡ Done
+names_done : (asked : Asked) (text : List ℕ) (status : Status) → IsReadable asked.raw → IsTyped asked.raw → NamesAnswer asked text status → status ≡ Done
 unfolding NamesAnswer
-names_done bytes raw text status typed (inl (p, resolved, answer)) =
+names_done asked text status readable typed (inl (p, resolved, answer)) =
     let ok : Ok p ≡ Ok typed.program = sym resolved ∙ typed.resolved in
     let same : p ≡ typed.program = cc ok in
-    shapes_done bytes typed.program text status typed.faultless typed.closed typed.typed (subst (λ q. ShapesAnswer bytes q text status) same answer)
-names_done bytes raw text status typed (inr (stop, refused, reply)) = absurd (not_faulty raw typed.program stop bytes text status typed.resolved refused reply)
+    let formed = resolution_formed asked.raw typed.program readable typed.resolved in
+    shapes_done asked typed.program text status formed typed.faultless typed.typed typed.unlimited (subst (λ q. ShapesAnswer asked q text status) same answer)
+names_done asked text status readable typed (inr (stop, refused, reply)) =
+    absurd (not_faulty asked.raw typed.program stop asked.bytes text status typed.resolved refused reply)
 
-program_done : (order : Order) (bytes : List ℕ) (ds : List DeclSyntax) (text : List ℕ) (status : Status) → GoesThrough order ds → ProgramAnswer order bytes ds text status → status ≡ Done
+by_layout_done : (order : Order) (asked : Asked) (text : List ℕ) (status : Status) → IsReadable asked.raw → GoesThrough order asked.raw → ByLayout order asked text status → status ≡ Done
+by_layout_done Fmt asked text status readable goes reply = reply.1
+by_layout_done Types asked text status readable goes answer = names_done asked text status readable goes answer
+
+program_done : (asked : Asked) (text : List ℕ) (status : Status) → IsReadable asked.raw → GoesThrough asked.order asked.raw → ProgramAnswer asked text status → status ≡ Done
 unfolding ProgramAnswer
-program_done Fmt bytes ds text status goes answer = answer.1
-program_done Types bytes ds text status goes answer = names_done bytes ds text status goes answer
+program_done asked text status readable goes answer = by_layout_done asked.order asked text status readable goes answer
 
-grammar_done : (order : Order) (bytes : List ℕ) (tokens : List Token) (ds : List DeclSyntax) (text : List ℕ) (status : Status) → IsRead tokens ds → GoesThrough order ds → GrammarAnswer order bytes tokens text status → status ≡ Done
+grammar_done : (order : Order) (words : List (List ℕ)) (bytes : List ℕ) (tokens : List Token) (ds : List DeclSyntax) (text : List ℕ) (status : Status) → IsReadable ds → IsRead tokens ds → GoesThrough order ds → GrammarAnswer order words bytes tokens text status → status ≡ Done
 unfolding GrammarAnswer
-grammar_done order bytes tokens ds text status read goes (inl (program, is, answer)) =
-    program_done order bytes program text status (subst (GoesThrough order) (is.only ds read.is) goes) answer
-grammar_done order bytes tokens ds text status read goes (inr (stop, refused, reply)) = absurd (program_not_refused tokens ds (length bytes) stop bytes text status read refused reply)
+grammar_done order words bytes tokens ds text status readable read goes (inl (raw, is, answer)) =
+    program_done (record { order = order; words = words; bytes = bytes; raw = raw }) text status
+    (subst IsReadable (is.only ds read.is) readable) (subst (GoesThrough order) (is.only ds read.is) goes) answer
+grammar_done order words bytes tokens ds text status readable read goes (inr (stop, refused, reply)) = absurd (program_not_refused tokens ds (length bytes) stop bytes text status read refused reply)
 
-tokens_done : (order : Order) (bytes : List ℕ) (tokens : List Token) (ds : List DeclSyntax) (text : List ℕ) (status : Status) → IsTextAnswer bytes (Ok tokens) → IsRead tokens ds → GoesThrough order ds → TokensAnswer order bytes text status → status ≡ Done
+tokens_done : (order : Order) (words : List (List ℕ)) (bytes : List ℕ) (tokens : List Token) (ds : List DeclSyntax) (text : List ℕ) (status : Status) → length bytes ≤ 1048576 → IsTextAnswer bytes (Ok tokens) → IsRead tokens ds → GoesThrough order ds → TokensAnswer order words bytes text status → status ≡ Done
 unfolding TokensAnswer
-tokens_done order bytes tokens ds text status lexed read goes (inl (others, is, answer)) =
+tokens_done order words bytes tokens ds text status short lexed read goes (inl (others, is, answer)) =
     let same : others ≡ tokens = unique_tokens (chars bytes) others tokens is.1 lexed.1 in
-    grammar_done order bytes others ds text status (subst (λ ts. IsRead ts ds) (sym same) read) goes answer
-tokens_done order bytes tokens ds text status lexed read goes (inr (stop, refused, reply)) = absurd (text_not_refused bytes tokens stop text status lexed refused reply)
+    let readable = readable_program bytes tokens ds lexed.0 short lexed.1 read in
+    grammar_done order words bytes others ds text status readable (subst (λ ts. IsRead ts ds) (sym same) read) goes answer
+tokens_done order words bytes tokens ds text status short lexed read goes (inr (stop, refused, reply)) = absurd (text_not_refused bytes tokens stop text status lexed refused reply)
 
 pub Answer-complete : (words : List (List ℕ)) (bytes text : List ℕ) (status : Status) → IsComplete words bytes → Answer words bytes text status → status ≡ Done
 unfolding Answer OrderAnswer LengthAnswer
 Answer-complete words bytes text status ok answer =
     let long : 1048576 < length bytes → ⊥ = λ h. omega (arith, ok.short) in
     let order : OrderAnswer words bytes text status = passed ok.built answer in
-    let steps : LengthAnswer ok.order bytes text status = rw ok.ordered at order in
-    tokens_done ok.order bytes ok.tokens ok.raw text status ok.lexed ok.read ok.goes_through (passed long steps)
+    let steps : LengthAnswer ok.order words bytes text status = rw ok.ordered at order in
+    tokens_done ok.order words bytes ok.tokens ok.raw text status ok.short ok.lexed ok.read ok.goes_through (passed long steps)
 
 pub planned_complete : (words : List (List ℕ)) (left : Option (List ℕ)) (before now : ℕ) (text : List ℕ) (status : Status) → IsPlanned words left before now text status → IsUndisturbed words left before now → status ≡ Done
 planned_complete words left before now text status (inl (bytes, told, answer)) ok =

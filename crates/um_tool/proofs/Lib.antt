@@ -1,8 +1,6 @@
 pub mod Statuses
 pub mod Serving
 pub mod Complete
-pub mod Texts
-pub mod SchemeLines
-pub mod UnitTexts
 pub mod PlaceLaws
 pub mod PrintedSchemes
+pub mod UniqueAnswers

@@ -1,7 +1,7 @@
 -- What `types` printed says of the program that the bytes spell.
-use Rattle.std.proofs.Common.{◌≡◌, ℕ, Bool, true, false, IsTrue, List, [], ◌∷◌, codes, Ok, inl, inr, refl, subst, sym, ◌∙◌}
+use Rattle.std.proofs.Common.{◌≡◌, ℕ, ◌<◌, ◌≤◌, ◌⊎◌, Bool, true, false, IsTrue, List, [], ◌∷◌, length, codes, slice_get, Ok, Some, inl, inr, refl, ap, subst, sym, ◌∙◌}
 use Rattle.um_tree.specs.RawTree.{DeclSyntax}
-use Rattle.um_tree.specs.ProgramTree.{ProgramTree}
+use Rattle.um_tree.specs.ProgramTree.{FunctionTree, ProgramTree, SchemeTree}
 use Rattle.um_syntax.specs.declared.token.Token.{Token}
 use Rattle.um_syntax.specs.declared.token.TextStop.{TextStop}
 use Rattle.um_syntax.specs.declared.token.TextStop.TheVariants as text_stop
@@ -11,17 +11,24 @@ use Rattle.um_types.specs.declared.parse.ParseStop.TheVariants as parse_stop
 use Rattle.um_parse.specs.Parsed.{IsRead}
 use Rattle.um_measures.specs.declared.stop.NameStop.{NameStop}
 use Rattle.um_measures.specs.declared.stop.NameStop.TheVariants as name_stop
-use Rattle.um_names.specs.Parts.{resolved_program}
+use Rattle.std.proofs.lemmas.Bool.{cases_lt}
+use Rattle.um_tree.specs.Formed.{IsFormed}
+use Rattle.um_names.specs.Resolution.{resolved_program}
+use Rattle.um_names.specs.Readable.{IsReadable}
+use Rattle.um_names.proofs.FormedPrograms.{resolution_formed}
+use Rattle.um_readable.proofs.TextBytes.{readable_program}
 use Rattle.um_shape.specs.declared.stop.ShapeStop.{ShapeStop}
 use Rattle.um_shape.specs.declared.stop.ShapeStop.TheVariants as shape_stop
 use Rattle.um_shape.specs.FirstFault.{first_fault}
 use Rattle.um_tool.specs.declared.order.Order.TheVariants.{Types}
 use Rattle.um_tool.specs.declared.status.Status.{Status}
 use Rattle.um_tool.specs.declared.status.Status.TheVariants.{Done, TooLong, Utf8, Lexical, Syntax, Limit, Names, Shape, Units, PowerRange}
-use Rattle.um_closed.specs.ClosedSchemes.{IsFirstUntyped}
-use Rattle.um_tool.specs.SchemeText.{IsSchemesText}
+use Rattle.um_infer.specs.Inference.{Inference, all_schemes, stops_at_slots, stops_at_range, stops_at_units, infer}
+use Rattle.um_infer.specs.Schemes.{ArePrincipal, IsFirstUntyped}
+use Rattle.um_infer.proofs.InferenceLaws.{given_schemes_are_principal, units_stop_at_first_untyped}
+use Rattle.um_tool.specs.SchemeLines.{scheme_lines}
 use Rattle.um_tool.specs.Refusals.{IsTextReply, IsParseReply, IsNameReply, IsShapeReply, placed, units_label}
-use Rattle.um_tool.specs.Answer.{Answer, OrderAnswer, LengthAnswer, TokensAnswer, GrammarAnswer, ProgramAnswer, NamesAnswer, ShapesAnswer, TypesAnswer, SchemesAnswer}
+use Rattle.um_tool.specs.Answer.{Answer, OrderAnswer, LengthAnswer, TokensAnswer, GrammarAnswer, ProgramAnswer, NamesAnswer, ShapesAnswer, SchemesAnswer, InferenceAnswer, Asked}
 use Rattle.um_tool.specs.Laws.{SpellsProgram, TypesAnswers, PrintedTypesArePrincipalSchemes, UnitsNameTheFirstUntyped}
 
 -- the statuses that no step before the types answers
@@ -30,9 +37,9 @@ comes_last Done = true
 comes_last Units = true
 comes_last status = false
 
--- the program that the bytes spell, and what its types are answered
+-- the program that the bytes spell, and what its inference is answered
 Reached : List ℕ → List ℕ → Status → Type 0
-Reached bytes text status = (p : ProgramTree) × SpellsProgram bytes p × TypesAnswer bytes p text status
+Reached bytes text status = (p : ProgramTree) × SpellsProgram bytes p × IsFormed p × InferenceAnswer bytes p (infer p) text status
 
 refuted : (status wanted : Status) → status ≡ wanted → comes_last wanted ≡ false → IsTrue (comes_last status) → ⊥
 refuted status wanted e none last = cc (sym none ∙ subst (λ s. IsTrue (comes_last s)) e last)
@@ -64,37 +71,55 @@ shape_refusal bytes (shape_stop.Shape at) text status reply last = refuted statu
 shape_refusal bytes (shape_stop.Depth at) text status reply last = refuted status Limit reply.1 refl last
 shape_refusal bytes shape_stop.NoMemory text status reply last = reply
 
+within : (n : ℕ) → (1048576 < n → ⊥) → n ≤ 1048576
+within n short = by (cases_lt 1048576 n)
+  where
+    by : (1048576 < n) ⊎ (n ≤ 1048576) → n ≤ 1048576
+    by (inl past) = absurd (short past)
+    by (inr fits) = fits
+
 -- ---- each step in turn
 module _ (bytes text : List ℕ) (status : Status) (last : IsTrue (comes_last status)) where
-  shapes_reached : (tokens : List Token) (raw : List DeclSyntax) (p : ProgramTree) → IsTextAnswer bytes (Ok tokens) → IsRead tokens raw → resolved_program raw ≡ Ok p → ShapesAnswer bytes p text status → Reached bytes text status
+  abbrev asked_with : List DeclSyntax → Asked
+  asked_with raw = record { order = Types; words = codes "types" ∷ []; bytes = bytes; raw = raw }
+
+  schemes_reached : (raw : List DeclSyntax) (p : ProgramTree) → SchemesAnswer (asked_with raw) p text status → InferenceAnswer bytes p (infer p) text status
+  unfolding SchemesAnswer
+  schemes_reached raw p answer = answer
+
+  shapes_reached : (tokens : List Token) (raw : List DeclSyntax) (p : ProgramTree) → IsFormed p → IsTextAnswer bytes (Ok tokens) → IsRead tokens raw → resolved_program raw ≡ Ok p → ShapesAnswer (asked_with raw) p text status → Reached bytes text status
   unfolding ShapesAnswer
-  shapes_reached tokens raw p lexed read resolved (inl (faultless, answer)) =
-      (p, record { tokens = tokens; lexed = lexed; raw = raw; read = read; resolved = resolved; faultless = faultless }, answer)
-  shapes_reached tokens raw p lexed read resolved (inr (stop, refused, reply)) = absurd (shape_refusal bytes stop text status reply last)
+  shapes_reached tokens raw p formed lexed read resolved (inl (faultless, answer)) = (
+    p,
+    record { tokens = tokens; lexed = lexed; raw = raw; read = read; resolved = resolved; faultless = faultless },
+    formed,
+    schemes_reached raw p answer,
+  )
+  shapes_reached tokens raw p formed lexed read resolved (inr (stop, refused, reply)) = absurd (shape_refusal bytes stop text status reply last)
 
-  names_reached : (tokens : List Token) (raw : List DeclSyntax) → IsTextAnswer bytes (Ok tokens) → IsRead tokens raw → NamesAnswer bytes raw text status → Reached bytes text status
+  names_reached : (tokens : List Token) (raw : List DeclSyntax) → IsReadable raw → IsTextAnswer bytes (Ok tokens) → IsRead tokens raw → NamesAnswer (asked_with raw) text status → Reached bytes text status
   unfolding NamesAnswer
-  names_reached tokens raw lexed read (inl (p, resolved, answer)) = shapes_reached tokens raw p lexed read resolved answer
-  names_reached tokens raw lexed read (inr (stop, refused, reply)) = absurd (name_refusal bytes stop text status reply last)
+  names_reached tokens raw readable lexed read (inl (p, resolved, answer)) = shapes_reached tokens raw p (resolution_formed raw p readable resolved) lexed read resolved answer
+  names_reached tokens raw readable lexed read (inr (stop, refused, reply)) = absurd (name_refusal bytes stop text status reply last)
 
-  program_reached : (tokens : List Token) (raw : List DeclSyntax) → IsTextAnswer bytes (Ok tokens) → IsRead tokens raw → ProgramAnswer Types bytes raw text status → Reached bytes text status
+  program_reached : (tokens : List Token) (raw : List DeclSyntax) → IsReadable raw → IsTextAnswer bytes (Ok tokens) → IsRead tokens raw → ProgramAnswer (asked_with raw) text status → Reached bytes text status
   unfolding ProgramAnswer
-  program_reached tokens raw lexed read answer = names_reached tokens raw lexed read answer
+  program_reached tokens raw readable lexed read answer = names_reached tokens raw readable lexed read answer
 
-  grammar_reached : (tokens : List Token) → IsTextAnswer bytes (Ok tokens) → GrammarAnswer Types bytes tokens text status → Reached bytes text status
+  grammar_reached : (tokens : List Token) → length bytes ≤ 1048576 → IsTextAnswer bytes (Ok tokens) → GrammarAnswer Types (codes "types" ∷ []) bytes tokens text status → Reached bytes text status
   unfolding GrammarAnswer
-  grammar_reached tokens lexed (inl (raw, read, answer)) = program_reached tokens raw lexed read answer
-  grammar_reached tokens lexed (inr (stop, refused, reply)) = absurd (parse_refusal bytes stop text status reply last)
+  grammar_reached tokens short lexed (inl (raw, read, answer)) = program_reached tokens raw (readable_program bytes tokens raw lexed.0 short lexed.1 read) lexed read answer
+  grammar_reached tokens short lexed (inr (stop, refused, reply)) = absurd (parse_refusal bytes stop text status reply last)
 
-  tokens_reached : TokensAnswer Types bytes text status → Reached bytes text status
+  tokens_reached : length bytes ≤ 1048576 → TokensAnswer Types (codes "types" ∷ []) bytes text status → Reached bytes text status
   unfolding TokensAnswer
-  tokens_reached (inl (tokens, lexed, answer)) = grammar_reached tokens lexed answer
-  tokens_reached (inr (stop, refused, reply)) = absurd (text_refusal bytes stop text status reply last)
+  tokens_reached short (inl (tokens, lexed, answer)) = grammar_reached tokens short lexed answer
+  tokens_reached short (inr (stop, refused, reply)) = absurd (text_refusal bytes stop text status reply last)
 
-  length_reached : LengthAnswer Types bytes text status → Reached bytes text status
+  length_reached : LengthAnswer Types (codes "types" ∷ []) bytes text status → Reached bytes text status
   unfolding LengthAnswer
   length_reached (inl (long, reply)) = absurd (refuted status TooLong reply.1 refl last)
-  length_reached (inr (short, answer)) = tokens_reached answer
+  length_reached (inr (short, answer)) = tokens_reached (within (length bytes) short) answer
 
   order_reached : OrderAnswer (codes "types" ∷ []) bytes text status → Reached bytes text status
   unfolding OrderAnswer
@@ -106,21 +131,28 @@ module _ (bytes text : List ℕ) (status : Status) (last : IsTrue (comes_last st
   reached (inr (built, answer)) = order_reached answer
 
 -- ---- the schemes, or the first function without a typing
-
-schemes_done : (bytes : List ℕ) (p : ProgramTree) (text : List ℕ) → TypesAnswer bytes p text Done → IsSchemesText p text
-unfolding TypesAnswer, SchemesAnswer
-schemes_done bytes p text (inl (closed, inl (printed, done))) = printed
-schemes_done bytes p text (inl (closed, inr (i, at, untyped, reply))) = absurd (cc reply.1)
-schemes_done bytes p text (inr (open_unit, reply)) = absurd (cc reply.1)
+schemes_printed : (bytes : List ℕ) (p : ProgramTree) → IsFormed p → (inferred : Inference) (text : List ℕ) → infer p ≡ inferred → InferenceAnswer bytes p inferred text Done → (schemes : List SchemeTree) × ArePrincipal p (length p.functions) schemes × (text ≡ scheme_lines p p.functions schemes)
+schemes_printed bytes p formed (all_schemes schemes) text is answer = (schemes, given_schemes_are_principal p formed schemes is, answer.0)
+schemes_printed bytes p formed (stops_at_slots i) text is answer = absurd (cc answer.2.1)
+schemes_printed bytes p formed (stops_at_range i at) text is answer = absurd (cc answer.2.1)
+schemes_printed bytes p formed (stops_at_units i row at) text is answer = absurd (cc answer.2.1)
 
 pub printed_types_are_principal_schemes : PrintedTypesArePrincipalSchemes
-printed_types_are_principal_schemes bytes text answer = let r = reached bytes text Done refl answer in (r.0, r.1, schemes_done bytes r.0 text r.2)
+printed_types_are_principal_schemes bytes text answer =
+    let r = reached bytes text Done refl answer in (r.0, r.1, schemes_printed bytes r.0 r.2 (infer r.0) text refl r.3)
+
+-- the function that is declared at a number is one
+pub one_function : (p : ProgramTree) (i : ℕ) (f g : FunctionTree) → slice_get p.functions i ≡ Some f → slice_get p.functions i ≡ Some g → f ≡ g
+one_function p i f g a b = let e : Some f ≡ Some g = sym a ∙ b in cc e
+
+untyped_named : (bytes : List ℕ) (p : ProgramTree) → IsFormed p → (inferred : Inference) (text : List ℕ) → infer p ≡ inferred → InferenceAnswer bytes p inferred text Units → (i row at : ℕ) × (untyped : IsFirstUntyped p i row at) × (text ≡ placed (units_label untyped.function.name) bytes at)
+untyped_named bytes p formed (all_schemes schemes) text is answer = absurd (cc answer.1)
+untyped_named bytes p formed (stops_at_slots i) text is answer = absurd (cc answer.2.1)
+untyped_named bytes p formed (stops_at_range i at) text is answer = absurd (cc answer.2.1)
+untyped_named bytes p formed (stops_at_units i row at) text is (f, declared, reply) =
+    let u = units_stop_at_first_untyped p formed i row at is in
+    (i, row, at, u, reply.0 ∙ ap (λ g. placed (units_label g.name) bytes at) (one_function p i f u.function declared u.declared))
 
 pub units_name_the_first_untyped : UnitsNameTheFirstUntyped
-unfolding TypesAnswer, SchemesAnswer
-units_name_the_first_untyped bytes text answer = let r = reached bytes text Units refl answer in (r.0, r.1, named r.0 r.2)
-  where
-    named : (p : ProgramTree) → TypesAnswer bytes p text Units → (i at : ℕ) × (untyped : IsFirstUntyped p i at) × (text ≡ placed (units_label untyped.function.name) bytes at)
-    named p (inl (closed, inl (printed, done))) = absurd (cc done)
-    named p (inl (closed, inr (i, at, untyped, reply))) = (i, at, untyped, reply.0)
-    named p (inr (open_unit, reply)) = absurd (cc reply.1)
+units_name_the_first_untyped bytes text answer =
+    let r = reached bytes text Units refl answer in (r.0, r.1, untyped_named bytes r.0 r.2 (infer r.0) text refl r.3)

@@ -34,7 +34,7 @@ usage_planned words left before now text status built none reply =
     let told = some_told left in
     inl (told.0, told.1, inr (built, rw (← none) reply))
 
-pub text_planned : (words : List (List ℕ)) (left : Option (List ℕ)) (before now : ℕ) (order : Order) (bytes text : List ℕ) (status : Status) → (NamesUnbuilt words → ⊥) → Some order ≡ order_of words → Tells left bytes → length bytes ≤ 1048576 → TokensAnswer order bytes text status → IsPlanned words left before now text status
+pub text_planned : (words : List (List ℕ)) (left : Option (List ℕ)) (before now : ℕ) (order : Order) (bytes text : List ℕ) (status : Status) → (NamesUnbuilt words → ⊥) → Some order ≡ order_of words → Tells left bytes → length bytes ≤ 1048576 → TokensAnswer order words bytes text status → IsPlanned words left before now text status
 unfolding Answer OrderAnswer LengthAnswer
 text_planned words left before now order bytes text status built is told short answer =
     let past : 1048576 < length bytes → ⊥ = λ h. omega arith in

@@ -10,14 +10,14 @@ use Rattle.um_measures.specs.declared.stop.NameStop.{NameStop}
 use Rattle.um_measures.specs.declared.stop.NameStop.TheVariants as name_stop
 use Rattle.um_shape.specs.declared.stop.ShapeStop.{ShapeStop}
 use Rattle.um_shape.specs.declared.stop.ShapeStop.TheVariants as shape_stop
-use Rattle.um_tree.specs.RawTree.{DeclSyntax}
 use Rattle.um_tree.specs.ProgramTree.{ProgramTree}
 use Rattle.um_tool.specs.Refusals.{IsTextReply, IsParseReply, IsNameReply, IsShapeReply}
 use Rattle.um_tool.specs.declared.status.Status.{Status}
 use Rattle.um_tool.specs.declared.status.Status.TheVariants.{Usage, ReadFault, WriteFault, NoMemory}
 use Rattle.um_tool.specs.declared.order.Order.{Order}
 use Rattle.um_tool.specs.declared.order.Order.TheVariants.{Types, Fmt}
-use Rattle.um_tool.specs.Answer.{Answer, OrderAnswer, LengthAnswer, TokensAnswer, GrammarAnswer, ProgramAnswer, NamesAnswer, ShapesAnswer, TypesAnswer, SchemesAnswer}
+use Rattle.um_infer.specs.Inference.{Inference, all_schemes, stops_at_slots, stops_at_range, stops_at_units, infer}
+use Rattle.um_tool.specs.Answer.{Asked, Answer, OrderAnswer, LengthAnswer, TokensAnswer, GrammarAnswer, ProgramAnswer, ByLayout, NamesAnswer, ShapesAnswer, SchemesAnswer, ByOrder, InferenceAnswer}
 use Rattle.um_tool.specs.Orders.{order_of}
 use Rattle.um_tool.specs.Steps.{IsReply, line}
 
@@ -28,25 +28,29 @@ is_answered WriteFault = false
 is_answered NoMemory = false
 is_answered status = true
 
-SchemesAnswer-status : (bytes : List ℕ) (p : ProgramTree) (text : List ℕ) (status : Status) → SchemesAnswer bytes p text status → IsTrue (is_answered status)
-unfolding SchemesAnswer
-SchemesAnswer-status bytes p text status (inl (printed, done)) = rw done refl
-SchemesAnswer-status bytes p text status (inr (i, at, untyped, reply)) = rw reply.1 refl
+inference_status : (bytes : List ℕ) (p : ProgramTree) (inferred : Inference) (text : List ℕ) (status : Status) → InferenceAnswer bytes p inferred text status → IsTrue (is_answered status)
+inference_status bytes p (all_schemes schemes) text status answer = rw answer.1 refl
+inference_status bytes p (stops_at_slots i) text status answer = rw answer.2.1 refl
+inference_status bytes p (stops_at_range i at) text status answer = rw answer.2.1 refl
+inference_status bytes p (stops_at_units i row at) text status answer = rw answer.2.1 refl
 
-TypesAnswer-status : (bytes : List ℕ) (p : ProgramTree) (text : List ℕ) (status : Status) → TypesAnswer bytes p text status → IsTrue (is_answered status)
-unfolding TypesAnswer
-TypesAnswer-status bytes p text status (inl (closed, answer)) = SchemesAnswer-status bytes p text status answer
-TypesAnswer-status bytes p text status (inr (unwritten, reply)) = rw reply.1 refl
+by_order_status : (order : Order) (asked : Asked) (p : ProgramTree) (inferred : Inference) (text : List ℕ) (status : Status) → ByOrder order asked p inferred text status → IsTrue (is_answered status)
+by_order_status Types asked p inferred text status answer = inference_status asked.bytes p inferred text status answer
+by_order_status Fmt asked p inferred text status reply = rw reply.1 refl
+
+SchemesAnswer-status : (asked : Asked) (p : ProgramTree) (text : List ℕ) (status : Status) → SchemesAnswer asked p text status → IsTrue (is_answered status)
+unfolding SchemesAnswer
+SchemesAnswer-status asked p text status answer = by_order_status asked.order asked p (infer p) text status answer
 
 shape_reply : (bytes : List ℕ) (stop : ShapeStop) (text : List ℕ) (status : Status) → IsShapeReply bytes stop text status → IsTrue (is_answered status)
 shape_reply bytes (shape_stop.Shape at) text status reply = rw reply.1 refl
 shape_reply bytes (shape_stop.Depth at) text status reply = rw reply.1 refl
 shape_reply bytes shape_stop.NoMemory text status reply = absurd reply
 
-ShapesAnswer-status : (bytes : List ℕ) (p : ProgramTree) (text : List ℕ) (status : Status) → ShapesAnswer bytes p text status → IsTrue (is_answered status)
+ShapesAnswer-status : (asked : Asked) (p : ProgramTree) (text : List ℕ) (status : Status) → ShapesAnswer asked p text status → IsTrue (is_answered status)
 unfolding ShapesAnswer
-ShapesAnswer-status bytes p text status (inl (faultless, answer)) = TypesAnswer-status bytes p text status answer
-ShapesAnswer-status bytes p text status (inr (stop, refused, reply)) = shape_reply bytes stop text status reply
+ShapesAnswer-status asked p text status (inl (faultless, answer)) = SchemesAnswer-status asked p text status answer
+ShapesAnswer-status asked p text status (inr (stop, refused, reply)) = shape_reply asked.bytes stop text status reply
 
 name_reply : (bytes : List ℕ) (stop : NameStop) (text : List ℕ) (status : Status) → IsNameReply bytes stop text status → IsTrue (is_answered status)
 name_reply bytes (name_stop.Unknown at) text status reply = rw reply.1 refl
@@ -56,25 +60,29 @@ name_reply bytes (name_stop.Hole at) text status reply = rw reply.1 refl
 name_reply bytes (name_stop.Range at) text status reply = rw reply.1 refl
 name_reply bytes name_stop.NoMemory text status reply = absurd reply
 
-NamesAnswer-status : (bytes : List ℕ) (raw : List DeclSyntax) (text : List ℕ) (status : Status) → NamesAnswer bytes raw text status → IsTrue (is_answered status)
+NamesAnswer-status : (asked : Asked) (text : List ℕ) (status : Status) → NamesAnswer asked text status → IsTrue (is_answered status)
 unfolding NamesAnswer
-NamesAnswer-status bytes raw text status (inl (p, resolved, answer)) = ShapesAnswer-status bytes p text status answer
-NamesAnswer-status bytes raw text status (inr (stop, refused, reply)) = name_reply bytes stop text status reply
+NamesAnswer-status asked text status (inl (p, resolved, answer)) = ShapesAnswer-status asked p text status answer
+NamesAnswer-status asked text status (inr (stop, refused, reply)) = name_reply asked.bytes stop text status reply
 
-ProgramAnswer-status : (order : Order) (bytes : List ℕ) (program : List DeclSyntax) (text : List ℕ) (status : Status) → ProgramAnswer order bytes program text status → IsTrue (is_answered status)
+by_layout_status : (order : Order) (asked : Asked) (text : List ℕ) (status : Status) → ByLayout order asked text status → IsTrue (is_answered status)
+by_layout_status Fmt asked text status reply = rw reply.1 refl
+by_layout_status Types asked text status answer = NamesAnswer-status asked text status answer
+
+ProgramAnswer-status : (asked : Asked) (text : List ℕ) (status : Status) → ProgramAnswer asked text status → IsTrue (is_answered status)
 unfolding ProgramAnswer
-ProgramAnswer-status Fmt bytes program text status reply = rw reply.1 refl
-ProgramAnswer-status Types bytes program text status answer = NamesAnswer-status bytes program text status answer
+ProgramAnswer-status asked text status answer = by_layout_status asked.order asked text status answer
 
 parse_reply : (bytes : List ℕ) (stop : ParseStop) (text : List ℕ) (status : Status) → IsParseReply bytes stop text status → IsTrue (is_answered status)
 parse_reply bytes (parse_stop.Syntax at) text status reply = rw reply.1 refl
 parse_reply bytes (parse_stop.Limit kind at) text status reply = rw reply.1 refl
 parse_reply bytes parse_stop.NoMemory text status reply = absurd reply
 
-GrammarAnswer-status : (order : Order) (bytes : List ℕ) (tokens : List Token) (text : List ℕ) (status : Status) → GrammarAnswer order bytes tokens text status → IsTrue (is_answered status)
+GrammarAnswer-status : (order : Order) (words : List (List ℕ)) (bytes : List ℕ) (tokens : List Token) (text : List ℕ) (status : Status) → GrammarAnswer order words bytes tokens text status → IsTrue (is_answered status)
 unfolding GrammarAnswer
-GrammarAnswer-status order bytes tokens text status (inl (program, read, after)) = ProgramAnswer-status order bytes program text status after
-GrammarAnswer-status order bytes tokens text status (inr (stop, parsed, reply)) = parse_reply bytes stop text status reply
+GrammarAnswer-status order words bytes tokens text status (inl (raw, read, answer)) =
+    ProgramAnswer-status (record { order = order; words = words; bytes = bytes; raw = raw }) text status answer
+GrammarAnswer-status order words bytes tokens text status (inr (stop, parsed, reply)) = parse_reply bytes stop text status reply
 
 text_reply : (bytes : List ℕ) (stop : TextStop) (text : List ℕ) (status : Status) → IsTextReply bytes stop text status → IsTrue (is_answered status)
 text_reply bytes (text_stop.Utf8 at) text status reply = rw reply.1 refl
@@ -83,23 +91,23 @@ text_reply bytes (text_stop.NumberRange at) text status reply = rw reply.1 refl
 text_reply bytes (text_stop.PowerText at) text status reply = rw reply.1 refl
 text_reply bytes text_stop.NoMemory text status reply = absurd reply
 
-TokensAnswer-status : (order : Order) (bytes text : List ℕ) (status : Status) → TokensAnswer order bytes text status → IsTrue (is_answered status)
+TokensAnswer-status : (order : Order) (words : List (List ℕ)) (bytes text : List ℕ) (status : Status) → TokensAnswer order words bytes text status → IsTrue (is_answered status)
 unfolding TokensAnswer
-TokensAnswer-status order bytes text status (inl (tokens, lexed, after)) = GrammarAnswer-status order bytes tokens text status after
-TokensAnswer-status order bytes text status (inr (stop, lexed, reply)) = text_reply bytes stop text status reply
+TokensAnswer-status order words bytes text status (inl (tokens, lexed, answer)) = GrammarAnswer-status order words bytes tokens text status answer
+TokensAnswer-status order words bytes text status (inr (stop, lexed, reply)) = text_reply bytes stop text status reply
 
-LengthAnswer-status : (order : Order) (bytes text : List ℕ) (status : Status) → LengthAnswer order bytes text status → IsTrue (is_answered status)
+LengthAnswer-status : (order : Order) (words : List (List ℕ)) (bytes text : List ℕ) (status : Status) → LengthAnswer order words bytes text status → IsTrue (is_answered status)
 unfolding LengthAnswer
-LengthAnswer-status order bytes text status (inl (long, reply)) = rw reply.1 refl
-LengthAnswer-status order bytes text status (inr (short, after)) = TokensAnswer-status order bytes text status after
+LengthAnswer-status order words bytes text status (inl (long, reply)) = rw reply.1 refl
+LengthAnswer-status order words bytes text status (inr (short, answer)) = TokensAnswer-status order words bytes text status answer
 
-by_order : (order : Option Order) (bytes text : List ℕ) (status : Status) → MatchOption order (IsReply text status (line (codes "error 1: usage")) Usage) (λ o. LengthAnswer o bytes text status) → IsTrue (is_answered status)
-by_order None bytes text status reply = rw reply.1 refl
-by_order (Some order) bytes text status answer = LengthAnswer-status order bytes text status answer
+ordered_status : (order : Option Order) (words : List (List ℕ)) (bytes text : List ℕ) (status : Status) → MatchOption order (IsReply text status (line (codes "error 1: usage")) Usage) (λ o. LengthAnswer o words bytes text status) → IsTrue (is_answered status)
+ordered_status None words bytes text status reply = rw reply.1 refl
+ordered_status (Some order) words bytes text status answer = LengthAnswer-status order words bytes text status answer
 
 OrderAnswer-status : (words : List (List ℕ)) (bytes text : List ℕ) (status : Status) → OrderAnswer words bytes text status → IsTrue (is_answered status)
 unfolding OrderAnswer
-OrderAnswer-status words bytes text status answer = by_order (order_of words) bytes text status answer
+OrderAnswer-status words bytes text status answer = ordered_status (order_of words) words bytes text status answer
 
 pub Answer-status : (words : List (List ℕ)) (bytes text : List ℕ) (status : Status) → Answer words bytes text status → IsTrue (is_answered status)
 unfolding Answer

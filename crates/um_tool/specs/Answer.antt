@@ -1,7 +1,7 @@
 -- The answer to words and a text, as a relation between words, bytes, text and status.
 -- One definition a step; each names only the next, and none is unfolded but in its own step's proof.
 -- Source: this project's own.
-use Rattle.std.specs.Prelude.{ℕ, ◌<◌, ◌≡◌, ◌⊎◌, List, length, codes, MatchOption, None, Ok, Err}
+use Rattle.std.specs.Prelude.{ℕ, ◌<◌, ◌≡◌, ◌⊎◌, List, length, codes, slice_get, MatchOption, Some, None, Ok, Err}
 use Rattle.um_tool.specs.declared.order.Order.{Order}
 use Rattle.um_tool.specs.declared.order.Order.TheVariants.{Types, Fmt}
 use Rattle.um_tool.specs.declared.status.Status.{Status}
@@ -11,76 +11,96 @@ use Rattle.um_syntax.specs.declared.token.TextStop.{TextStop}
 use Rattle.um_syntax.specs.Feeding.{IsTextAnswer}
 use Rattle.um_types.specs.declared.parse.ParseStop.{ParseStop}
 use Rattle.um_tree.specs.RawTree.{DeclSyntax}
-use Rattle.um_tree.specs.ProgramTree.{ProgramTree}
+use Rattle.um_tree.specs.ProgramTree.{FunctionTree, ProgramTree}
 use Rattle.um_parse.specs.Parsed.{IsRead, Parsed}
 use Rattle.um_measures.specs.declared.stop.NameStop.{NameStop}
 use Rattle.um_measures.specs.Stops.{IsFirst}
-use Rattle.um_names.specs.Parts.{resolved_program}
+use Rattle.um_names.specs.Resolution.{resolved_program}
 use Rattle.um_shape.specs.declared.stop.ShapeStop.{ShapeStop}
 use Rattle.um_shape.specs.FirstFault.{first_fault}
 use Rattle.um_shape.specs.ShapedProgram.{IsRefusal}
-use Rattle.um_closed.specs.ClosedProgram.{IsClosedProgram}
-use Rattle.um_closed.specs.ClosedSchemes.{IsFirstUntyped}
+use Rattle.um_infer.specs.Inference.{Inference, all_schemes, stops_at_slots, stops_at_range, stops_at_units, infer}
 use Rattle.um_show.specs.Layout.{layout}
 use Rattle.um_tool.specs.Orders.{order_of, NamesUnbuilt}
-use Rattle.um_tool.specs.Refusals.{IsTextReply, IsParseReply, IsNameReply, IsShapeReply, IsUnitsReply}
-use Rattle.um_tool.specs.SchemeText.{IsSchemesText}
+use Rattle.um_tool.specs.Refusals.{IsTextReply, IsParseReply, IsNameReply, IsShapeReply, IsSlotsReply, IsRangeReply, IsUnitsReply}
+use Rattle.um_tool.specs.SchemeLines.{scheme_lines}
 use Rattle.um_tool.specs.Steps.{line, IsReply, Cases}
+
+-- what is asked of a program: the order and its words, the bytes of the text, and the program as it is written
+pub record Asked : Type 0 where
+  pub order : Order
+  pub words : List (List ℕ)
+  pub bytes : List ℕ
+  pub raw : List DeclSyntax
 
 -- the form isn't built yet
 abbrev pub IsNotBuilt : List ℕ → Status → Type 0
 IsNotBuilt text status = IsReply text status (line (codes "error 18: not built")) NotBuilt
 
--- the schemes of the functions, or the first function that has no typing
-unfoldable pub SchemesAnswer : List ℕ → ProgramTree → List ℕ → Status → Type 0
-SchemesAnswer bytes p text status =
-    (IsSchemesText p text × (status ≡ Done))
-    ⊎ ((i at : ℕ) × (untyped : IsFirstUntyped p i at) × IsUnitsReply bytes untyped.function.name at text status)
+-- the function of this number, and what is said of it
+abbrev pub OfFunction : ProgramTree → ℕ → (FunctionTree → Type 0) → Type 0
+OfFunction p i Says = (f : FunctionTree) × (slice_get p.functions i ≡ Some f) × Says f
 
--- the schemes, where every unit is written
-unfoldable pub TypesAnswer : List ℕ → ProgramTree → List ℕ → Status → Type 0
-TypesAnswer bytes p text status = Cases (IsClosedProgram p) (SchemesAnswer bytes p text status) (IsNotBuilt text status)
+-- the lines of the schemes, or the refusal of the first function without one
+abbrev pub InferenceAnswer : List ℕ → ProgramTree → Inference → List ℕ → Status → Type 0
+InferenceAnswer bytes p (all_schemes schemes) text status = IsReply text status (scheme_lines p p.functions schemes) Done
+InferenceAnswer bytes p (stops_at_slots i) text status = OfFunction p i (λ f. IsSlotsReply bytes f.at text status)
+InferenceAnswer bytes p (stops_at_range i at) text status = OfFunction p i (λ f. IsRangeReply bytes f.name at text status)
+InferenceAnswer bytes p (stops_at_units i row at) text status = OfFunction p i (λ f. IsUnitsReply bytes f.name at text status)
+
+-- what the order asks of the program's schemes; `fmt` was answered before
+abbrev pub ByOrder : Order → Asked → ProgramTree → Inference → List ℕ → Status → Type 0
+ByOrder Types asked p inferred text status = InferenceAnswer asked.bytes p inferred text status
+ByOrder Fmt asked p inferred text status = IsReply text status (layout asked.raw) Done
+
+-- the schemes of the functions, one after another
+unfoldable pub SchemesAnswer : Asked → ProgramTree → List ℕ → Status → Type 0
+SchemesAnswer asked p text status = ByOrder asked.order asked p (infer p) text status
 
 -- the program with its shapes, or its first shape fault
-unfoldable pub ShapesAnswer : List ℕ → ProgramTree → List ℕ → Status → Type 0
-ShapesAnswer bytes p text status =
-    ((first_fault p ≡ None) × TypesAnswer bytes p text status)
-    ⊎ ((stop : ShapeStop) × IsRefusal (first_fault p) stop × IsShapeReply bytes stop text status)
+unfoldable pub ShapesAnswer : Asked → ProgramTree → List ℕ → Status → Type 0
+ShapesAnswer asked p text status =
+    ((first_fault p ≡ None) × SchemesAnswer asked p text status)
+    ⊎ ((stop : ShapeStop) × IsRefusal (first_fault p) stop × IsShapeReply asked.bytes stop text status)
 
 -- the program that the names stand for, or the first fault of the names
-unfoldable pub NamesAnswer : List ℕ → List DeclSyntax → List ℕ → Status → Type 0
-NamesAnswer bytes raw text status =
-    ((p : ProgramTree) × (resolved_program raw ≡ Ok p) × ShapesAnswer bytes p text status)
-    ⊎ ((stop : NameStop) × IsFirst (resolved_program raw) stop × IsNameReply bytes stop text status)
+unfoldable pub NamesAnswer : Asked → List ℕ → Status → Type 0
+NamesAnswer asked text status =
+    ((p : ProgramTree) × (resolved_program asked.raw ≡ Ok p) × ShapesAnswer asked p text status)
+    ⊎ ((stop : NameStop) × IsFirst (resolved_program asked.raw) stop × IsNameReply asked.bytes stop text status)
 
--- the layout of the program, or what its types are
-unfoldable pub ProgramAnswer : Order → List ℕ → List DeclSyntax → List ℕ → Status → Type 0
-ProgramAnswer Fmt bytes raw text status = IsReply text status (layout raw) Done
-ProgramAnswer Types bytes raw text status = NamesAnswer bytes raw text status
+-- the layout of the program, or what is asked of what its names stand for
+abbrev pub ByLayout : Order → Asked → List ℕ → Status → Type 0
+ByLayout Fmt asked text status = IsReply text status (layout asked.raw) Done
+ByLayout Types asked text status = NamesAnswer asked text status
+
+unfoldable pub ProgramAnswer : Asked → List ℕ → Status → Type 0
+ProgramAnswer asked text status = ByLayout asked.order asked text status
 
 -- the program that the tokens are, or their refusal
-unfoldable pub GrammarAnswer : Order → List ℕ → List Token → List ℕ → Status → Type 0
-GrammarAnswer order bytes tokens text status =
-    ((program : List DeclSyntax) × IsRead tokens program × ProgramAnswer order bytes program text status)
+unfoldable pub GrammarAnswer : Order → List (List ℕ) → List ℕ → List Token → List ℕ → Status → Type 0
+GrammarAnswer order words bytes tokens text status =
+    ((raw : List DeclSyntax) × IsRead tokens raw
+    × ProgramAnswer (record { order = order; words = words; bytes = bytes; raw = raw }) text status)
     ⊎ ((stop : ParseStop) × Parsed tokens (length bytes) (Err stop) × IsParseReply bytes stop text status)
 
 -- the tokens of the text, or its refusal
-unfoldable pub TokensAnswer : Order → List ℕ → List ℕ → Status → Type 0
-TokensAnswer order bytes text status =
-    ((tokens : List Token) × IsTextAnswer bytes (Ok tokens) × GrammarAnswer order bytes tokens text status)
+unfoldable pub TokensAnswer : Order → List (List ℕ) → List ℕ → List ℕ → Status → Type 0
+TokensAnswer order words bytes text status =
+    ((tokens : List Token) × IsTextAnswer bytes (Ok tokens) × GrammarAnswer order words bytes tokens text status)
     ⊎ ((stop : TextStop) × IsTextAnswer bytes (Err stop) × IsTextReply bytes stop text status)
 
 -- the bytes are at most this many
-unfoldable pub LengthAnswer : Order → List ℕ → List ℕ → Status → Type 0
-LengthAnswer order bytes text status = Cases (1048576 < length bytes)
+unfoldable pub LengthAnswer : Order → List (List ℕ) → List ℕ → List ℕ → Status → Type 0
+LengthAnswer order words bytes text status = Cases (1048576 < length bytes)
     (IsReply text status (line (codes "error 2: text too long")) TooLong)
-    (TokensAnswer order bytes text status)
+    (TokensAnswer order words bytes text status)
 
 -- the words name an order
 unfoldable pub OrderAnswer : List (List ℕ) → List ℕ → List ℕ → Status → Type 0
 OrderAnswer words bytes text status = MatchOption (order_of words)
     (IsReply text status (line (codes "error 1: usage")) Usage)
-    (λ order. LengthAnswer order bytes text status)
+    (λ order. LengthAnswer order words bytes text status)
 
 -- the first word is no command that isn't built yet
 unfoldable pub Answer : List (List ℕ) → List ℕ → List ℕ → Status → Type 0

@@ -1,23 +1,23 @@
 -- What report lines and answers say, in the subject's words.
 -- Source: UTF-8 (RFC 3629), in which one byte begins each character and every other byte of it lies in 128..191; principal
 -- schemes and typings are Kennedy's (1996).
-use Rattle.std.specs.Prelude.{ℕ, ◌≡◌, List, [], ◌∷◌, ◌++◌, codes, take, None, Ok}
+use Rattle.std.specs.Prelude.{ℕ, ◌≡◌, List, [], ◌∷◌, ◌++◌, length, codes, take, None, Ok}
 use Rattle.std.specs.Fmt.{decimal}
 use Rattle.std.specs.Str.{IsUtf8}
 use Rattle.um_syntax.specs.LineColumn.{line_after, column_after}
 use Rattle.um_syntax.specs.declared.token.Token.{Token}
 use Rattle.um_syntax.specs.Feeding.{IsTextAnswer}
 use Rattle.um_tree.specs.RawTree.{DeclSyntax}
-use Rattle.um_tree.specs.ProgramTree.{ProgramTree}
+use Rattle.um_tree.specs.ProgramTree.{ProgramTree, SchemeTree}
 use Rattle.um_parse.specs.Parsed.{IsRead}
-use Rattle.um_names.specs.Parts.{resolved_program}
+use Rattle.um_names.specs.Resolution.{resolved_program}
 use Rattle.um_shape.specs.FirstFault.{first_fault}
-use Rattle.um_closed.specs.ClosedSchemes.{IsFirstUntyped}
+use Rattle.um_infer.specs.Schemes.{ArePrincipal, IsFirstUntyped}
 use Rattle.um_tool.specs.declared.status.Status.{Status}
 use Rattle.um_tool.specs.declared.status.Status.TheVariants.{Done, Units}
 use Rattle.um_tool.specs.Places.{line_of, column_of, place_text}
 use Rattle.um_tool.specs.Refusals.{placed, units_label}
-use Rattle.um_tool.specs.SchemeText.{IsSchemesText}
+use Rattle.um_tool.specs.SchemeLines.{scheme_lines}
 use Rattle.um_tool.specs.Answer.{Answer}
 
 -- ---- lines and columns counted on bytes are those counted on characters
@@ -53,11 +53,19 @@ TypesAnswers bytes text status = Answer (codes "types" ∷ []) bytes text status
 -- What `types` prints with status 0 are the principal schemes of the program that the bytes spell, a line for each function.
 abbrev pub PrintedTypesArePrincipalSchemes : Type 0
 PrintedTypesArePrincipalSchemes =
-    (bytes text : List ℕ) → TypesAnswers bytes text Done → (p : ProgramTree) × SpellsProgram bytes p × IsSchemesText p text
+    (bytes text : List ℕ) → TypesAnswers bytes text Done →
+    (p : ProgramTree) × SpellsProgram bytes p
+    × ((schemes : List SchemeTree) × ArePrincipal p (length p.functions) schemes × (text ≡ scheme_lines p p.functions schemes))
 
 -- The function that it names with the status of units is the first of the program without a typing.
 abbrev pub UnitsNameTheFirstUntyped : Type 0
 UnitsNameTheFirstUntyped =
     (bytes text : List ℕ) → TypesAnswers bytes text Units →
     (p : ProgramTree) × SpellsProgram bytes p
-    × ((i at : ℕ) × (untyped : IsFirstUntyped p i at) × (text ≡ placed (units_label untyped.function.name) bytes at))
+    × ((i row at : ℕ) × (untyped : IsFirstUntyped p i row at) × (text ≡ placed (units_label untyped.function.name) bytes at))
+
+-- ---- the answer to words and bytes is one
+abbrev pub AnswersAreUnique : Type 0
+AnswersAreUnique =
+    (words : List (List ℕ)) (bytes text other : List ℕ) (status another : Status) →
+    Answer words bytes text status → Answer words bytes other another → (text ≡ other) × (status ≡ another)

@@ -4,9 +4,8 @@ pub mod Steps
 pub mod Places
 pub mod Refusals
 pub mod Reading
-pub mod UnitText
-pub mod SchemeText
-pub mod Lines
+pub mod SchemeLines
 pub mod Answer
+pub mod Asking
 pub mod Served
 pub mod Laws

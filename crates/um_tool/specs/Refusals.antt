@@ -62,9 +62,22 @@ IsShapeReply bytes (shape_stop.Shape at) text status = IsReply text status (plac
 IsShapeReply bytes (shape_stop.Depth at) text status = IsReply text status (placed (limit_label limit.Depth) bytes at) Limit
 IsShapeReply bytes shape_stop.NoMemory text status = ⊥
 
--- the line and the status of a function of this name without a typing
+-- ---- of a function, by its name and a place
+
+-- no units satisfy its equations up to the one at the place
 abbrev pub units_label : List ℕ → List ℕ
 units_label name = codes "error 9: units of " ++ name ++ codes " at "
 
 abbrev pub IsUnitsReply : List ℕ → List ℕ → ℕ → List ℕ → Status → Type 0
 IsUnitsReply bytes name at text status = IsReply text status (placed (units_label name) bytes at) Units
+
+-- a power passes the range there
+abbrev pub range_label : List ℕ → List ℕ
+range_label name = codes "error 10: power range of " ++ name ++ codes " at "
+
+abbrev pub IsRangeReply : List ℕ → List ℕ → ℕ → List ℕ → Status → Type 0
+IsRangeReply bytes name at text status = IsReply text status (placed (range_label name) bytes at) PowerRange
+
+-- it has more slots than are allowed; the place is that of its name
+abbrev pub IsSlotsReply : List ℕ → ℕ → List ℕ → Status → Type 0
+IsSlotsReply bytes at text status = IsReply text status (placed (limit_label limit.Slots) bytes at) Limit

@@ -10,9 +10,10 @@ use Rattle.um_syntax.specs.declared.token.Token.{Token}
 use Rattle.um_syntax.specs.Feeding.{IsTextAnswer}
 use Rattle.um_tree.specs.RawTree.{DeclSyntax}
 use Rattle.um_parse.specs.Parsed.{IsRead}
-use Rattle.um_names.specs.Parts.{resolved_program}
+use Rattle.um_names.specs.Resolution.{resolved_program}
 use Rattle.um_shape.specs.FirstFault.{first_fault}
-use Rattle.um_closed.specs.ClosedProgram.{IsClosedProgram}
+use Rattle.um_infer.specs.Inference.{infer}
+use Rattle.um_infer.specs.Laws.{IsLimited}
 use Rattle.um_tool.specs.declared.order.Order.{Order}
 use Rattle.um_tool.specs.declared.order.Order.TheVariants.{Types, Fmt}
 use Rattle.um_tool.specs.declared.status.Status.{Status}
@@ -61,13 +62,13 @@ Serves Planned old new before now status =
 abbrev pub EachIsTyped : ProgramTree → Type 0
 EachIsTyped p = (i : ℕ) (f : FunctionTree) → slice_get p.functions i ≡ Some f → (g : Signature) × Typing p i g
 
--- the names are known, the shapes are right, every unit is written, and each function has a typing
+-- the names are known, the shapes are right, each function has a typing, and no limit of slots or powers is passed
 pub record IsTyped (raw : List DeclSyntax) : Type 0 where
   pub program : ProgramTree
   pub resolved : resolved_program raw ≡ Ok program
   pub faultless : first_fault program ≡ None
-  pub closed : IsClosedProgram program
   pub typed : EachIsTyped program
+  pub unlimited : IsLimited (infer program) → ⊥
 
 -- each step behind the grammar goes through
 abbrev pub GoesThrough : Order → List DeclSyntax → Type 0

@@ -1,26 +1,32 @@
 // The steps of an answer, each by its definition.
-ghost use Rattle.std.specs.Prelude.{ℕ, List, ◌≤◌, ◌≡◌, length, IfOk, Ok};
-ghost use Rattle.um_tool.specs.Answer.{TokensAnswer, GrammarAnswer, ProgramAnswer, NamesAnswer, ShapesAnswer, TypesAnswer, IsNotBuilt};
+ghost use Rattle.std.specs.Prelude.{◌<◌, ◌≤◌, ◌≡◌, length, slice_get, IfOk, Ok, Some};
+ghost use Rattle.um_tool.specs.Answer.{TokensAnswer, GrammarAnswer, ProgramAnswer, NamesAnswer, ShapesAnswer, SchemesAnswer, InferenceAnswer, IsNotBuilt};
+ghost use Rattle.um_tool.specs.Asking.{asked_of};
+ghost use Rattle.um_tool.specs.Steps.{IsReply};
+ghost use Rattle.um_show.specs.Layout.{layout};
 ghost use Rattle.um_syntax.specs.Feeding.{IsTextAnswer};
 ghost use Rattle.um_tree.specs.RawTree.{program_syntax};
-ghost use Rattle.um_tree.specs.ProgramTree.{program_tree};
+ghost use Rattle.um_tree.specs.ProgramTree.{program_tree, function_tree};
 ghost use Rattle.um_tree.specs.Formed.{IsFormed};
 ghost use Rattle.um_names.specs.Readable.{IsReadable};
+ghost use Rattle.um_infer.specs.Inference.{infer};
 
+use crate::asked::Asked;
 use crate::reading::Text;
 use crate::refusal::{
-    reply_line, reply_to_names, reply_to_shapes, reply_to_text, reply_to_tokens, reply_to_units,
+    reply_line, reply_to_names, reply_to_range, reply_to_shapes, reply_to_slots, reply_to_text,
+    reply_to_tokens, reply_to_units,
 };
 use crate::schemes::schemes_text;
-use crate::{Order, Status};
+use crate::{Order, Status, Words};
 use std::alloc::{AllocError, Global};
-use um_closed::{ClosedStop, closed_signatures};
+use um_infer::{InferStop, infer};
 use um_names::resolve;
 use um_parse::parse;
-use um_shape::shape;
+use um_shape::{Shaped, shape};
 use um_show::program_text;
 use um_syntax::Tokens;
-use um_tree::{Function, Program, RawProgram};
+use um_tree::{Function, Program};
 
 /// What a run is about to write, and the status that it then ends with.
 #[derive(Drop)]
@@ -37,14 +43,19 @@ pub(crate) fn not_built(alloc: Global) -> Result<Reply, AllocError>
 
 /// The answer to a text that is not too long.
 #[tactic(auto, unfolding(crate::specs::Answer::TokensAnswer))]
-pub(crate) fn answer_text(alloc: Global, order: Order, text: Text) -> Result<Reply, AllocError>
+pub(crate) fn answer_text(
+    alloc: Global,
+    order: Order,
+    words: &Words,
+    text: Text,
+) -> Result<Reply, AllocError>
     requires tokens { IsTextAnswer text.bytes.items text.tokens }
     requires short { length text.bytes.items ≤ 1048576 }
-    ensures { IfOk result (λ reply. TokensAnswer order text.bytes.items reply.text.items reply.status) }
+    ensures { IfOk result (λ reply. TokensAnswer order words.now text.bytes.items reply.text.items reply.status) }
 {
     let Text { bytes, tokens } = text;
     match tokens {
-        Ok(tokens) => answer_tokens(alloc, order, &bytes, &tokens),
+        Ok(tokens) => answer_tokens(alloc, order, words, &bytes, &tokens),
         Err(stop) => reply_to_text(alloc, &bytes, stop),
     }
 }
@@ -54,78 +65,113 @@ pub(crate) fn answer_text(alloc: Global, order: Order, text: Text) -> Result<Rep
 fn answer_tokens(
     alloc: Global,
     order: Order,
+    words: &Words,
     bytes: &[u8],
     tokens: &Tokens,
 ) -> Result<Reply, AllocError>
     requires tokens { IsTextAnswer bytes.now (Ok tokens.now) }
     requires short { length bytes.now ≤ 1048576 }
-    ensures { IfOk result (λ reply. GrammarAnswer order bytes.now tokens.now reply.text.items reply.status) }
+    ensures { IfOk result (λ reply. GrammarAnswer order words.now bytes.now tokens.now reply.text.items reply.status) }
 {
     match parse(alloc, tokens.as_slice(), bytes.len() as u32) {
-        Ok(program) => answer_program(alloc, order, bytes, &program),
+        Ok(raw) => answer_program(
+            alloc,
+            &Asked {
+                order,
+                words,
+                bytes,
+                raw: &raw,
+            },
+        ),
         Err(stop) => reply_to_tokens(alloc, bytes, stop),
     }
 }
 
-/// The answer to a program.
+/// The answer to a program as it is written.
 #[tactic(auto, unfolding(crate::specs::Answer::ProgramAnswer))]
-fn answer_program(
-    alloc: Global,
-    order: Order,
-    bytes: &[u8],
-    program: &RawProgram,
-) -> Result<Reply, AllocError>
-    requires readable { IsReadable (program_syntax program.now) }
-    ensures { IfOk result (λ reply. ProgramAnswer order bytes.now (program_syntax program.now) reply.text.items reply.status) }
+fn answer_program(alloc: Global, asked: &Asked) -> Result<Reply, AllocError>
+    requires readable { IsReadable (program_syntax asked.now.raw.now) }
+    ensures { IfOk result (λ reply. ProgramAnswer (asked_of asked.now) reply.text.items reply.status) }
 {
-    match order {
-        Order::Fmt => Ok(Reply {
-            text: program_text(alloc, program)?,
-            status: Status::Done,
-        }),
-        Order::Types => answer_names(alloc, bytes, program),
+    match asked.order {
+        Order::Fmt => reply_layout(alloc, asked),
+        Order::Types => answer_names(alloc, asked),
     }
 }
 
-/// The types of a program, where its names are known.
+/// The answer to a program whose names are looked up.
 #[tactic(auto, unfolding(crate::specs::Answer::NamesAnswer))]
-fn answer_names(alloc: Global, bytes: &[u8], program: &RawProgram) -> Result<Reply, AllocError>
-    requires readable { IsReadable (program_syntax program.now) }
-    ensures { IfOk result (λ reply. NamesAnswer bytes.now (program_syntax program.now) reply.text.items reply.status) }
+fn answer_names(alloc: Global, asked: &Asked) -> Result<Reply, AllocError>
+    requires readable { IsReadable (program_syntax asked.now.raw.now) }
+    ensures { IfOk result (λ reply. NamesAnswer (asked_of asked.now) reply.text.items reply.status) }
 {
-    match resolve(alloc, program) {
-        Ok(program) => answer_shapes(alloc, bytes, program),
-        Err(stop) => reply_to_names(alloc, bytes, stop),
+    match resolve(alloc, asked.raw) {
+        Ok(program) => answer_shapes(alloc, asked, program),
+        Err(stop) => reply_to_names(alloc, asked.bytes, stop),
     }
 }
 
-/// The types of a program, where its shapes are right.
+/// The answer to a program whose names are known.
 #[tactic(auto, unfolding(crate::specs::Answer::ShapesAnswer))]
-fn answer_shapes(alloc: Global, bytes: &[u8], program: Program) -> Result<Reply, AllocError>
+fn answer_shapes(alloc: Global, asked: &Asked, program: Program) -> Result<Reply, AllocError>
     requires formed { IsFormed (program_tree program) }
-    ensures { IfOk result (λ reply. ShapesAnswer bytes.now (program_tree program) reply.text.items reply.status) }
+    ensures { IfOk result (λ reply. ShapesAnswer (asked_of asked.now) (program_tree program) reply.text.items reply.status) }
 {
     match shape(alloc, program) {
-        Ok(shaped) => answer_types(alloc, bytes, shaped.program()),
-        Err(stop) => reply_to_shapes(alloc, bytes, stop),
+        Ok(shaped) => answer_schemes(alloc, asked, &shaped),
+        Err(stop) => reply_to_shapes(alloc, asked.bytes, stop),
     }
 }
 
-/// The types of a program.
-#[tactic(auto, unfolding(crate::specs::Answer::TypesAnswer, crate::specs::Answer::SchemesAnswer))]
-fn answer_types(alloc: Global, bytes: &[u8], program: &Program) -> Result<Reply, AllocError>
-    ensures { IfOk result (λ reply. TypesAnswer bytes.now (program_tree program.now) reply.text.items reply.status) }
+/// The answer to a program whose shapes are right.
+#[tactic(auto, unfolding(crate::specs::Answer::SchemesAnswer))]
+fn answer_schemes(alloc: Global, asked: &Asked, shaped: &Shaped) -> Result<Reply, AllocError>
+    ensures { IfOk result (λ reply. SchemesAnswer (asked_of asked.now) (program_tree shaped.now) reply.text.items reply.status) }
 {
-    match closed_signatures(alloc, program) {
-        Ok(signatures) => Ok(Reply {
-            text: schemes_text(alloc, program, &signatures)?,
+    match asked.order {
+        Order::Types => answer_types(alloc, asked.bytes, shaped),
+        Order::Fmt => reply_layout(alloc, asked),
+    }
+}
+
+/// The layout of the program.
+fn reply_layout(alloc: Global, asked: &Asked) -> Result<Reply, AllocError>
+    ensures { IfOk result (λ reply. IsReply reply.text.items reply.status (layout (program_syntax asked.now.raw.now)) Status.Done) }
+{
+    Ok(Reply {
+        text: program_text(alloc, asked.raw)?,
+        status: Status::Done,
+    })
+}
+
+/// The schemes of the functions, or the first function without one.
+fn answer_types(alloc: Global, bytes: &[u8], shaped: &Shaped) -> Result<Reply, AllocError>
+    ensures { IfOk result (λ reply. InferenceAnswer bytes.now (program_tree shaped.now) (infer (program_tree shaped.now)) reply.text.items reply.status) }
+{
+    let program = shaped.program();
+    match infer(alloc, shaped) {
+        Ok(schemes) => Ok(Reply {
+            text: schemes_text(alloc, program, &schemes)?,
             status: Status::Done,
         }),
-        Err(ClosedStop::Open) => not_built(alloc),
-        Err(ClosedStop::Units { function, at }) => {
-            let functions: &[Function] = &program.functions.items;
-            reply_to_units(alloc, bytes, &functions[function].name, at)
+        Err(InferStop::Units { function, at }) => {
+            reply_to_units(alloc, bytes, &function_at(program, function).name, at)
         }
-        Err(ClosedStop::NoMemory) => Err(AllocError),
+        Err(InferStop::PowerRange { function, at }) => {
+            reply_to_range(alloc, bytes, &function_at(program, function).name, at)
+        }
+        Err(InferStop::Slots { function }) => {
+            reply_to_slots(alloc, bytes, function_at(program, function).at)
+        }
+        Err(InferStop::NoMemory) => Err(AllocError),
     }
+}
+
+/// The function of this number.
+fn function_at(program: &Program, number: u32) -> &Function
+    requires { number < length (program_tree program.now).functions }
+    ensures { slice_get (program_tree program.now).functions number ≡ Some (function_tree result.now) }
+{
+    let functions: &[Function] = &program.functions.items;
+    &functions[number as usize]
 }

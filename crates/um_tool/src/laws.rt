@@ -1,6 +1,6 @@
 //! Laws of answers and report lines. A call does nothing: what it ensures is the law.
 ghost use Rattle.um_tool.specs.Laws.{LinesAgree, ColumnsAgree, PlacesArePrinted};
-ghost use Rattle.um_tool.specs.Laws.{PrintedTypesArePrincipalSchemes, UnitsNameTheFirstUntyped};
+ghost use Rattle.um_tool.specs.Laws.{PrintedTypesArePrincipalSchemes, UnitsNameTheFirstUntyped, AnswersAreUnique};
 
 /// What `types` printed with status 0 on some bytes are the principal schemes of the program that they spell, a line for
 /// each function in order; what it printed with the status of units names the first function without a typing.
@@ -15,4 +15,9 @@ pub fn places_are_lines_and_columns()
     ensures line { LinesAgree }
     ensures column { ColumnsAgree }
     ensures printed { PlacesArePrinted }
+{}
+
+/// Two texts and statuses that answer the same words and bytes are equal.
+pub fn answers_are_unique()
+    ensures { AnswersAreUnique }
 {}

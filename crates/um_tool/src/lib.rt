@@ -2,6 +2,7 @@
 #![tactic(auto)]
 
 mod answer;
+mod asked;
 pub mod laws;
 mod order;
 mod place;
@@ -10,7 +11,6 @@ mod reading;
 mod refusal;
 mod schemes;
 mod status;
-mod text;
 mod top;
 mod words;
 

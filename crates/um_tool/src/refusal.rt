@@ -1,6 +1,6 @@
 // The lines of refusals.
-ghost use Rattle.std.specs.Prelude.{◌≡◌, ◌++◌, IfOk};
-ghost use Rattle.um_tool.specs.Refusals.{IsTextReply, IsParseReply, IsNameReply, IsShapeReply, IsUnitsReply, limit_label as label_of_limit, placed};
+ghost use Rattle.std.specs.Prelude.{◌≡◌, ◌++◌, IfOk, codes};
+ghost use Rattle.um_tool.specs.Refusals.{IsTextReply, IsParseReply, IsNameReply, IsShapeReply, IsUnitsReply, IsRangeReply, IsSlotsReply, limit_label as label_of_limit, placed};
 ghost use Rattle.um_tool.specs.Steps.{IsReply, line};
 
 use crate::Status;
@@ -35,10 +35,7 @@ fn reply_at(
 ) -> Result<Reply, AllocError>
     ensures { IfOk result (λ reply. IsReply reply.text.items reply.status (placed label.now bytes.now at) status) }
 {
-    let mut text = label.as_bytes().to_vec(alloc)?;
-    push_place(&mut text, bytes, at)?;
-    text.push(b'\n')?;
-    Ok(Reply { text, status })
+    reply_labelled(label.as_bytes().to_vec(alloc)?, bytes, at, status)
 }
 
 /// The refusal of a text that has no tokens.
@@ -164,13 +161,57 @@ pub(crate) fn reply_to_units(
 ) -> Result<Reply, AllocError>
     ensures { IfOk result (λ reply. IsUnitsReply bytes.now name.now at reply.text.items reply.status) }
 {
-    let mut text = b"error 9: units of ".to_vec(alloc)?;
-    text.extend_from_slice(name.as_slice())?;
-    text.extend_from_slice(b" at ")?;
+    let label = label_with(alloc, b"error 9: units of ", name)?;
+    reply_labelled(label, bytes, at, Status::Units)
+}
+
+/// The refusal of a function of this name that forms a power past the range.
+pub(crate) fn reply_to_range(
+    alloc: Global,
+    bytes: &[u8],
+    name: &Name,
+    at: u32,
+) -> Result<Reply, AllocError>
+    ensures { IfOk result (λ reply. IsRangeReply bytes.now name.now at reply.text.items reply.status) }
+{
+    let label = label_with(alloc, b"error 10: power range of ", name)?;
+    reply_labelled(label, bytes, at, Status::PowerRange)
+}
+
+/// The refusal of a function, whose name stands at the place, that has too many slots.
+pub(crate) fn reply_to_slots(alloc: Global, bytes: &[u8], at: u32) -> Result<Reply, AllocError>
+    ensures { IfOk result (λ reply. IsSlotsReply bytes.now at reply.text.items reply.status) }
+{
+    reply_at(
+        alloc,
+        limit_label(LimitKind::Slots),
+        bytes,
+        at,
+        Status::Limit,
+    )
+}
+
+// A label that holds a name, up to the place.
+fn label_with(alloc: Global, before: &[u8], name: &Name) -> Result<Vec<u8>, AllocError>
+    ensures { IfOk result (λ label. label.items ≡ before.now ++ name.now ++ codes " at ") }
+{
+    let mut label = before.to_vec(alloc)?;
+    label.extend_from_slice(name.as_slice())?;
+    label.extend_from_slice(b" at ")?;
+    Ok(label)
+}
+
+// The label, a place and the end of the line.
+fn reply_labelled(
+    label: Vec<u8>,
+    bytes: &[u8],
+    at: u32,
+    status: Status,
+) -> Result<Reply, AllocError>
+    ensures { IfOk result (λ reply. IsReply reply.text.items reply.status (placed label.items bytes.now at) status) }
+{
+    let mut text = label;
     push_place(&mut text, bytes, at)?;
     text.push(b'\n')?;
-    Ok(Reply {
-        text,
-        status: Status::Units,
-    })
+    Ok(Reply { text, status })
 }

@@ -66,7 +66,7 @@ fn reply_to<S: Source>(alloc: Global, words: &Words, source: &mut S) -> Result<R
         Some(order) => {
             let mut reading = Reading::new(alloc);
             match read_into(source, TEXT_LIMIT, &mut reading) {
-                Ok(()) => answer_text(alloc, order, reading.into_text()?),
+                Ok(()) => answer_text(alloc, order, words, reading.into_text()?),
                 Err(ReadStop::TooLong) => {
                     reply_line(alloc, "error 2: text too long", Status::TooLong)
                 }

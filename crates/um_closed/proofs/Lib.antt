@@ -1,6 +1,0 @@
-mod Closedness
-mod Typings
-mod Measures
-mod Prefixes
-mod Functions
-mod Programs

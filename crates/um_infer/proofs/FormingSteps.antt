@@ -1,0 +1,122 @@
+-- A solution put for the slots of types.
+-- Source: Kennedy (1996): a substitution applied to a type.
+use Rattle.std.proofs.Common.{◌≡◌, ℕ, ◌<◌, Bool, true, false, ◌&&◌, cond, List, [], ◌∷◌, ◌++◌, length, get_or, map, Err, refl, sym, ap, ◌∙◌}
+use Rattle.std.specs.Prelude.{All}
+use Rattle.std.specs.List.{list_all}
+use Rattle.std.proofs.lemmas.List.Folds.{list_all-append, list_all-map, list_all_at}
+use Rattle.std.proofs.lemmas.List.{map-append}
+use Rattle.std.proofs.lemmas.List.Elements.{All-nil, All-append}
+use Rattle.um_units.specs.PowerMap.{PowerMap, nth}
+use Rattle.um_units.specs.Variables.{VariablesBelow}
+use Rattle.um_tree.specs.declared.types.Ty.{Ty}
+use Rattle.um_tree.specs.TypeTree.{TypeTree, type_tree}
+use Rattle.um_tree.specs.ProgramTree.{Signature, SchemeTree}
+use Rattle.um_tree.specs.Scheme.{signature_types, type_variables, variables}
+use Rattle.um_tree.specs.Typing.{put, put_signature}
+use Rattle.um_elim.specs.Application.{type_fits}
+use Rattle.um_elim.specs.Numbering.{by_place, renumbered, variable_order}
+use Rattle.um_elim.proofs.GrowingOrder.{All-front, All-back}
+use Rattle.um_elim.proofs.VariablesKept.{put_below}
+use Rattle.um_rows.specs.FirstUnsolvable.{Solving, solved}
+use Rattle.um_rows.specs.Judgement.{has_scheme, passes_range, signature_fits, numbered_scheme, by_solving}
+use Rattle.um_infer.specs.declared.refusal.Refusal.{Refusal}
+use Rattle.um_infer.specs.declared.refusal.Refusal.TheVariants as refusal
+use Rattle.um_infer.specs.Forming.{RefusesUnless, RefusesRows, IsAnswer}
+
+pub refuses_both : (at : ℕ) (a b : Bool) (r : Refusal) → (a ≡ false → b ≡ false) → RefusesUnless at a r → RefusesUnless at b r
+refuses_both at a b (refusal.Units k) false_too h = h
+refuses_both at a b (refusal.PowerRange k) false_too h = (false_too h.0, h.1)
+refuses_both at a b refusal.Slots false_too h = h
+refuses_both at a b refusal.NoMemory false_too h = h
+
+-- a type that is refused is one of them
+pub refused_among : (at : ℕ) (s : ℕ → PowerMap) (ts : List Ty) (i : ℕ) (ty : Ty) (r : Refusal) → i < length ts → ty ≡ get_or ts i ty →
+    RefusesUnless at (type_fits (put s (type_tree ty))) r → RefusesUnless at (list_all type_fits (map (put s) (map type_tree ts))) r
+refused_among at s ts i ty r l is =
+    refuses_both at (type_fits (put s (type_tree ty))) (list_all type_fits (map (put s) (map type_tree ts))) r
+    (λ e.
+    let here : type_fits (put s (type_tree (get_or ts i ty))) ≡ false = ap (λ (t : Ty). type_fits (put s (type_tree t))) (sym is) ∙ e in
+    list_all-map type_fits (put s) (map type_tree ts) ∙ list_all-map (λ t. type_fits (put s t)) type_tree ts ∙ list_all_at (λ (t : Ty). type_fits (put s (type_tree t))) ts i ty l here)
+
+-- the first types are refused, or the last
+pub refused_before : (at : ℕ) (ts : List TypeTree) (t : TypeTree) (r : Refusal) → RefusesUnless at (list_all type_fits ts) r → RefusesUnless at (list_all type_fits (ts ++ t ∷ [])) r
+refused_before at ts t r =
+    refuses_both at (list_all type_fits ts) (list_all type_fits (ts ++ t ∷ [])) r
+    (λ e. list_all-append type_fits ts (t ∷ []) ∙ ap (λ b. b && list_all type_fits (t ∷ [])) e)
+
+pub refused_last : (at : ℕ) (ts : List TypeTree) (t : TypeTree) (r : Refusal) → RefusesUnless at (type_fits t) r → RefusesUnless at (list_all type_fits (ts ++ t ∷ [])) r
+refused_last at ts t r =
+    refuses_both at (type_fits t) (list_all type_fits (ts ++ t ∷ [])) r
+    (λ e. list_all-append type_fits ts (t ∷ []) ∙ ap (λ b. list_all type_fits ts && (b && true)) e ∙ both_false (list_all type_fits ts))
+  where
+    both_false : (b : Bool) → (b && false) ≡ false
+    both_false true = refl
+    both_false false = refl
+
+-- ---- a solution's types as a scheme
+
+-- the variables of the types stay below the number that those of the units are below
+pub puts_below : (n : ℕ) (us : List PowerMap) → All (VariablesBelow n) us → (ts : List TypeTree) → All (λ k. k < length us) (variables ts) → All (λ k. k < n) (variables (map (put (nth us)) ts))
+puts_below n us low [] h = All-nil (λ k. k < n)
+puts_below n us low (t ∷ ts) h =
+    All-append (λ k. k < n) (type_variables (put (nth us) t)) (variables (map (put (nth us)) ts))
+    (put_below n us low t (All-front (λ k. k < length us) (type_variables t) (variables ts) h))
+    (puts_below n us low ts (All-back (λ k. k < length us) (type_variables t) (variables ts) h))
+
+-- two lists with a last item are equal item by item
+same_last : {A : Type 0} (xs ys : List A) (x y : A) → xs ++ x ∷ [] ≡ ys ++ y ∷ [] → (xs ≡ ys) × (x ≡ y)
+same_last [] [] x y e = let last : x ≡ y = cc e in (refl, last)
+same_last [] (z ∷ ys) x y e = absurd (nothing_behind ys y (let rest : [] ≡ ys ++ y ∷ [] = cc e in rest))
+  where
+    nothing_behind : {A : Type 0} (ys : List A) (y : A) → [] ≡ ys ++ y ∷ [] → ⊥
+    nothing_behind [] y e = cc e
+    nothing_behind (z ∷ ys) y e = cc e
+same_last (z ∷ xs) [] x y e = absurd (nothing_left xs x (let rest : xs ++ x ∷ [] ≡ [] = cc e in rest))
+  where
+    nothing_left : {A : Type 0} (xs : List A) (x : A) → xs ++ x ∷ [] ≡ [] → ⊥
+    nothing_left [] x e = cc e
+    nothing_left (z ∷ xs) x e = cc e
+same_last (z ∷ xs) (w ∷ ys) x y e =
+    let rest : xs ++ x ∷ [] ≡ ys ++ y ∷ [] = cc e in
+    let head : z ≡ w = cc e in
+    let both = same_last xs ys x y rest in
+    (λ i. head i ∷ both.0 i, both.1)
+
+-- signatures of the same types
+same_signature : (g h : Signature) → signature_types g ≡ signature_types h → g ≡ h
+same_signature g h e = let both = same_last g.params h.params g.result h.result e in λ i. record { params = both.0 i; result = both.1 i }
+
+types-put : (s : ℕ → PowerMap) (g : Signature) → signature_types (put_signature s g) ≡ map (put s) (signature_types g)
+types-put s g = sym (map-append (put s) g.params (g.result ∷ []))
+
+-- the renumbered types with their count are the numbered scheme
+pub scheme_numbered : (g : Signature) (ts : List TypeTree) (s : SchemeTree) → ts ≡ signature_types g → signature_types s.signature ≡ renumbered ts → s.vars ≡ length (variable_order ts) → numbered_scheme g ≡ s
+scheme_numbered g ts s types renamed count =
+    let by = by_place (variable_order (signature_types g)) in
+    let signature : put_signature by g ≡ s.signature = same_signature (put_signature by g) s.signature (types-put by g ∙ ap renumbered (sym types) ∙ sym renamed) in
+    let vars : length (variable_order (signature_types g)) ≡ s.vars = ap (λ us. length (variable_order us)) (sym types) ∙ sym count in
+    λ i. record { signature = signature i; vars = vars i }
+
+-- the most general solution put for the slots of a signature, in range
+pub formed_is_judged : (at : ℕ) (g : Signature) (us : List PowerMap) (end : Solving) (ts : List TypeTree) (s : SchemeTree) → end ≡ solved us → ts ≡ map (put (nth us)) (signature_types g) → list_all type_fits ts ≡ true →
+    signature_types s.signature ≡ renumbered ts → s.vars ≡ length (variable_order ts) → by_solving at g end ≡ has_scheme s
+formed_is_judged at g us end ts s is types fit renamed count =
+    let h = put_signature (nth us) g in
+    let same : ts ≡ signature_types h = types ∙ sym (types-put (nth us) g) in
+    let inside : signature_fits h ≡ true = ap (list_all type_fits) (sym same) ∙ fit in
+    ap (by_solving at g) is ∙ ap (λ b. cond b (has_scheme (numbered_scheme h)) (passes_range at)) inside ∙ ap has_scheme (scheme_numbered h ts s same renamed count)
+
+-- or out of range
+pub past_is_judged : (at : ℕ) (g : Signature) (us : List PowerMap) (end : Solving) (r : Refusal) → end ≡ solved us → RefusesUnless at (list_all type_fits (map (put (nth us)) (signature_types g))) r → IsAnswer (by_solving at g end) (Err r)
+past_is_judged at g us end (refusal.Units k) is h = absurd h
+past_is_judged at g us end (refusal.PowerRange k) is h =
+    let outside : signature_fits (put_signature (nth us) g) ≡ false = ap (list_all type_fits) (types-put (nth us) g) ∙ h.0 in
+    rw h.1 (ap (by_solving at g) is ∙ ap (λ b. cond b (has_scheme (numbered_scheme (put_signature (nth us) g))) (passes_range at)) outside)
+past_is_judged at g us end refusal.Slots is h = absurd h
+past_is_judged at g us end refusal.NoMemory is h = tt
+
+pub refused_is_judged : (at : ℕ) (g : Signature) (end : Solving) (r : Refusal) → RefusesRows end r → IsAnswer (by_solving at g end) (Err r)
+refused_is_judged at g end (refusal.Units k) h = (h.0, ap (by_solving at g) h.1)
+refused_is_judged at g end (refusal.PowerRange k) h = ap (by_solving at g) h
+refused_is_judged at g end refusal.Slots h = absurd h
+refused_is_judged at g end refusal.NoMemory h = tt

@@ -1,0 +1,12 @@
+pub mod SchemeLists
+pub mod PrincipalSchemes
+mod Stops
+mod ManySlots
+pub mod InferenceLaws
+pub mod CallTypes
+pub mod AnswerLaws
+mod SolvingSteps
+mod FormingSteps
+mod Judged
+mod ProgramSteps
+mod Examples

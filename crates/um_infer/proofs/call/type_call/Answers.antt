@@ -1,0 +1,18 @@
+use Rattle.um_tree.specs.ProgramTree.{program_tree, scheme_tree}
+use Rattle.um_tree.specs.ValueTree.{input_trees}
+use Rattle.um_infer.specs.Answers.{scheme_trees}
+use Rattle.um_infer.proofs.SchemeLists.{item_at}
+use Rattle.um_infer.proofs.CallTypes.{judged_call_types, refused_call}
+use Rattle.um_infer.proofs.call.type_call.Goals as goal
+
+pub returns-in-Ok-clause-types : goal.returns-in-Ok-clause-types
+returns-in-Ok-clause-types c =
+    let p = program_tree c.args.shaped.now in let schemes = scheme_trees c.args.schemes.now in let inputs = input_trees c.args.args.now in
+    let w = item_at p.functions c.args.f c.requires.function in
+    judged_call_types p schemes c.args.f w.0 inputs c.function_count.ensures.formed c.requires.inferred w.1 c.requires.inputs (scheme_tree c.in-Ok.field-0) (c.in-Ok.ensures w.0 w.1)
+
+pub returns-clause-types : goal.returns-clause-types
+returns-clause-types c =
+    let p = program_tree c.args.shaped.now in let schemes = scheme_trees c.args.schemes.now in
+    let w = item_at p.functions c.args.f c.requires.function in
+    rw c.call_stop_of.ensures (refused_call p schemes c.args.f w.0 (input_trees c.args.args.now) c.function_count.ensures.formed c.requires.inferred w.1 c.requires.inputs c.in-Err.refusal (c.in-Err.ensures w.0 w.1))

@@ -1,0 +1,88 @@
+-- What the inference of a program comes to. The definitions do not rest on this.
+-- Source: Kennedy (1996): a typable function has a principal scheme, and the inference finds it.
+use Rattle.std.specs.Prelude.{◌≡◌, ◌↔◌, ℕ, ◌<◌, List, length, Some, slice_get}
+use Rattle.um_tree.specs.TypeTree.{TypeTree}
+use Rattle.um_tree.specs.ProgramTree.{RecordTree, FunctionTree, ProgramTree, SchemeTree}
+use Rattle.um_tree.specs.ValueTree.{InputTrees}
+use Rattle.um_tree.specs.InputType.{IsResultOfCall, IsTypeOfCall}
+use Rattle.um_tree.specs.Formed.{IsFormed, AreFormedInputs}
+use Rattle.um_rows.specs.Slots.{slot_count}
+use Rattle.um_rows.specs.Judgement.{has_scheme, too_many_slots, passes_range, has_no_typing, judge}
+use Rattle.um_infer.specs.Inference.{Inference, all_schemes, stops_at_slots, stops_at_range, stops_at_units, infer}
+use Rattle.um_infer.specs.Schemes.{ArePrincipal, AreTyped, IsFirstUntyped, IsJudged}
+use Rattle.um_infer.specs.CallJudgement.{judge_call}
+
+-- ---- schemes
+
+-- the schemes that a formed program is given are as many as its functions, principal and numbered
+abbrev pub GivenSchemesArePrincipal : Type 0
+GivenSchemesArePrincipal =
+    (p : ProgramTree) → IsFormed p → (schemes : List SchemeTree) →
+    infer p ≡ all_schemes schemes → ArePrincipal p (length p.functions) schemes
+
+-- a function has too many slots or passes the range, where those before have their schemes
+abbrev pub IsLimited : Inference → Type 0
+IsLimited (all_schemes schemes) = ⊥
+IsLimited (stops_at_slots i) = Unit {0}
+IsLimited (stops_at_range i at) = Unit {0}
+IsLimited (stops_at_units i row at) = ⊥
+
+abbrev pub GivesSchemes : Inference → Type 0
+GivesSchemes r = (schemes : List SchemeTree) × (r ≡ all_schemes schemes)
+
+-- schemes are given exactly where every function has a typing and no limit is passed
+abbrev pub SchemesAreGivenToTyped : Type 0
+SchemesAreGivenToTyped =
+    (p : ProgramTree) → IsFormed p →
+    GivesSchemes (infer p) ↔ (AreTyped p (length p.functions) × (IsLimited (infer p) → ⊥))
+
+-- ---- stops
+
+-- a stop for units is at the first function without a typing, at its first unsolvable row
+abbrev pub UnitsStopAtFirstUntyped : Type 0
+UnitsStopAtFirstUntyped =
+    (p : ProgramTree) → IsFormed p → (i row at : ℕ) →
+    infer p ≡ stops_at_units i row at → IsFirstUntyped p i row at
+
+-- so a program whose every function has a typing stops for slots or range alone
+abbrev pub TypedStopForLimits : Type 0
+TypedStopForLimits =
+    (p : ProgramTree) → IsFormed p → AreTyped p (length p.functions) →
+    (i row at : ℕ) → infer p ≡ stops_at_units i row at → ⊥
+
+-- each stop comes exactly where a function is judged so, and all before it have their schemes
+abbrev pub SlotStopsAreExact : Type 0
+SlotStopsAreExact = (p : ProgramTree) (i : ℕ) → infer p ≡ stops_at_slots i ↔ IsJudged p i too_many_slots
+
+abbrev pub RangeStopsAreExact : Type 0
+RangeStopsAreExact =
+    (p : ProgramTree) (i at : ℕ) → infer p ≡ stops_at_range i at ↔ IsJudged p i (passes_range at)
+
+abbrev pub UnitStopsAreExact : Type 0
+UnitStopsAreExact =
+    (p : ProgramTree) (i row at : ℕ) → infer p ≡ stops_at_units i row at ↔ IsJudged p i (has_no_typing row at)
+
+-- too many slots are more than 2,000
+abbrev pub ManySlotsAreCounted : Type 0
+ManySlotsAreCounted =
+    (records : List RecordTree) (schemes : List SchemeTree) (i : ℕ) (f : FunctionTree) →
+    judge records schemes i f ≡ too_many_slots ↔ (2000 < slot_count records schemes i f)
+
+-- ---- calls, where the schemes of all functions are given
+
+-- the type that a call is judged to have is a type of the call
+abbrev pub JudgedCallTypes : Type 0
+JudgedCallTypes =
+    (p : ProgramTree) (schemes : List SchemeTree) (k : ℕ) (f : FunctionTree) (inputs : InputTrees) →
+    IsFormed p → infer p ≡ all_schemes schemes → slice_get p.functions k ≡ Some f →
+    AreFormedInputs (length p.bases) inputs →
+    (s : SchemeTree) → judge_call p schemes k f inputs ≡ has_scheme s → IsTypeOfCall p k inputs s.signature.result
+
+-- a call that is judged to have no typing has no result
+abbrev pub JudgedCallRefusals : Type 0
+JudgedCallRefusals =
+    (p : ProgramTree) (schemes : List SchemeTree) (k : ℕ) (f : FunctionTree) (inputs : InputTrees) →
+    IsFormed p → infer p ≡ all_schemes schemes → slice_get p.functions k ≡ Some f →
+    AreFormedInputs (length p.bases) inputs →
+    (row at : ℕ) → judge_call p schemes k f inputs ≡ has_no_typing row at →
+    (t : TypeTree) → IsResultOfCall p k inputs t → ⊥

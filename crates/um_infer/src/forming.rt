@@ -1,0 +1,90 @@
+//! The scheme of a function from its equations.
+ghost use Rattle.std.specs.Prelude.{◌≡◌, ◌<◌, ◌≤◌, All, IfOk, MatchResult, IsTrue, IsFalse, false, length, map, [], ◌∷◌, ◌++◌};
+ghost use Rattle.std.specs.List.{list_all};
+ghost use Rattle.um_units.specs.PowerMap.{nth};
+ghost use Rattle.um_units.specs.Variables.{VariablesBelow};
+ghost use Rattle.um_tree.specs.TypeTree.{type_tree, type_trees};
+ghost use Rattle.um_tree.specs.ProgramTree.{scheme_tree};
+ghost use Rattle.um_tree.specs.Typing.{put};
+ghost use Rattle.um_tree.specs.Scheme.{signature_types, variables};
+ghost use Rattle.um_elim.specs.Application.{type_fits};
+ghost use Rattle.um_elim.specs.Numbering.{renumbered, variable_order};
+ghost use Rattle.um_elim.specs.Solution.{own_variables};
+ghost use Rattle.um_rows.specs.declared.row.Row.{Row};
+ghost use Rattle.um_rows.specs.FirstUnsolvable.{solve};
+ghost use Rattle.um_rows.specs.Judgement.{by_solving};
+ghost use Rattle.um_infer.specs.Forming.{rows_signature, IsAnswer, RefusesUnless};
+
+use crate::refusal::Refusal;
+use crate::solving::solve_rows;
+use std::alloc::{AllocError, Global};
+use um_elim::{ElimStop, Numbered, Solver, renumber};
+use um_rows::{Row, Rows};
+use um_tree::{Scheme, Ty, Types};
+
+/// The formed scheme: the rows are solved one by one, the solution is put for the slots of the types, and their variables
+/// are numbered. A power of these types that passes the range is refused at the place `at`.
+pub(crate) fn formed_scheme(alloc: Global, rows: &Rows, at: u32) -> Result<Scheme, Refusal>
+    requires few { rows.now.slots ≤ 2000 }
+    requires rows { All (λ (row : Row). VariablesBelow rows.now.slots row.unit) rows.now.list.items.items }
+    requires types { All (λ k. k < rows.now.slots) (variables (signature_types (rows_signature rows.now))) }
+    ensures { IsAnswer (by_solving at (rows_signature rows.now) (solve 0 rows.now.list.items.items (own_variables rows.now.slots))) result }
+{
+    let solver = solve_rows(alloc, rows.slots, &rows.list.items)?;
+    let types = solved_types(alloc, &solver, rows, at)?;
+    Ok(numbered_scheme(alloc, types)?)
+}
+
+/// The types with the solution put for their slots, the result's last.
+fn solved_types(alloc: Global, solver: &Solver, rows: &Rows, at: u32) -> Result<Types, Refusal>
+    requires { solver.now.spent ≡ false }
+    ensures solved { IfOk result (λ types. type_trees types ≡ map (put (nth solver.now.units)) (signature_types (rows_signature rows.now))) }
+    ensures range { MatchResult result (λ types. IsTrue (list_all type_fits (type_trees types))) (RefusesUnless at (list_all type_fits (map (put (nth solver.now.units)) (signature_types (rows_signature rows.now))))) }
+{
+    let mut items = solved_params(alloc, solver, &rows.params.items, at)?;
+    items.push(solved_type(alloc, solver, &rows.result, at)?)?;
+    Ok(Types { items })
+}
+
+fn solved_params(alloc: Global, solver: &Solver, params: &[Ty], at: u32) -> Result<Vec<Ty>, Refusal>
+    requires { solver.now.spent ≡ false }
+    ensures solved { IfOk result (λ items. map type_tree items.items ≡ map (put (nth solver.now.units)) (map type_tree params.now)) }
+    ensures range { MatchResult result (λ items. IsTrue (list_all type_fits (map type_tree items.items))) (RefusesUnless at (list_all type_fits (map (put (nth solver.now.units)) (map type_tree params.now)))) }
+{
+    let mut items = Vec::new(alloc);
+    for ty in params {
+        items.push(solved_type(alloc, solver, ty, at)?)?;
+    }
+    Ok(items)
+}
+
+fn solved_type(alloc: Global, solver: &Solver, ty: &Ty, at: u32) -> Result<Ty, Refusal>
+    requires { solver.now.spent ≡ false }
+    ensures solved { IfOk result (λ t. type_tree t ≡ put (nth solver.now.units) (type_tree ty.now)) }
+    ensures range { MatchResult result (λ t. IsTrue (type_fits (type_tree t))) (RefusesUnless at (type_fits (put (nth solver.now.units) (type_tree ty.now)))) }
+{
+    match solver.apply(alloc, ty) {
+        Ok(solved) => Ok(solved),
+        Err(ElimStop::Range) => Err(Refusal::PowerRange { at }),
+        Err(ElimStop::NoMemory) => Err(Refusal::NoMemory),
+        Err(ElimStop::NoSolution | ElimStop::Spent) => unreachable!(),
+    }
+}
+
+/// The scheme of types whose last is the result's, with their variables numbered.
+fn numbered_scheme(alloc: Global, types: Types) -> Result<Scheme, AllocError>
+    requires some { 0 < length types.items.items }
+    requires variables { All (λ k. k < 4294967295) (variables (type_trees types)) }
+    ensures types { IfOk result (λ scheme. signature_types (scheme_tree scheme).signature ≡ renumbered (type_trees types)) }
+    ensures vars { IfOk result (λ scheme. scheme.vars ≡ length (variable_order (type_trees types))) }
+{
+    let Numbered { mut types, vars } = renumber(alloc, types)?;
+    let Some(result) = types.items.pop() else {
+        unreachable!()
+    };
+    Ok(Scheme {
+        params: types,
+        result,
+        vars,
+    })
+}

@@ -1,0 +1,50 @@
+//! The laws of inference, as contracts of functions that do nothing. A crate above cites the law that it needs.
+ghost use Rattle.um_infer.specs.Laws.{
+  GivenSchemesArePrincipal,
+  SchemesAreGivenToTyped,
+  UnitsStopAtFirstUntyped,
+  TypedStopForLimits,
+  SlotStopsAreExact,
+  RangeStopsAreExact,
+  UnitStopsAreExact,
+  ManySlotsAreCounted,
+  JudgedCallTypes,
+  JudgedCallRefusals,
+};
+ghost use Rattle.um_infer.specs.Answers.{InferredAnswersAreRight};
+
+/// The schemes that are given are as many as the functions, numbered, and the instances of each are exactly the typings of
+/// its function. They are given exactly where every function has a typing and no function has too many slots or passes the
+/// range of powers.
+pub fn schemes()
+    ensures principal { GivenSchemesArePrincipal }
+    ensures exact { SchemesAreGivenToTyped }
+{}
+
+/// A stop for units is at the first function without a typing, at its first unsolvable row given the principal schemes of
+/// those before it. So a program whose every function has a typing stops for slots or range alone.
+pub fn refusals()
+    ensures untyped { UnitsStopAtFirstUntyped }
+    ensures typed { TypedStopForLimits }
+{}
+
+/// Each stop comes exactly where a function is judged so and all before it have their schemes.
+pub fn stops()
+    ensures slots { SlotStopsAreExact }
+    ensures range { RangeStopsAreExact }
+    ensures units { UnitStopsAreExact }
+    ensures counted { ManySlotsAreCounted }
+{}
+
+/// Where the schemes of all functions are given, the type that a call is judged to have is a type of the call, and a call
+/// that is judged to have none has no result.
+pub fn calls()
+    ensures types { JudgedCallTypes }
+    ensures refusals { JudgedCallRefusals }
+{}
+
+/// An answer that is the inference's says this of the program's typings: its schemes are principal and numbered, or the
+/// function is the first without a typing, at its first unsolvable row, or it is the first that passes a limit.
+pub fn answers()
+    ensures { InferredAnswersAreRight }
+{}

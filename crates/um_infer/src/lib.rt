@@ -1,0 +1,18 @@
+//! The schemes of a program's functions, or its first function without one.
+//!
+//! Functions are taken in order, each with the schemes of those before it (Kennedy, Programming Languages and Dimensions,
+//! 1996: a program's principal schemes). The limit of slots, the range of powers and the place of a refusal are this
+//! project's own.
+#![tactic(auto)]
+
+mod call;
+mod forming;
+pub mod laws;
+mod program;
+mod refusal;
+mod solving;
+mod stop;
+
+pub use call::type_call;
+pub use program::infer;
+pub use stop::{CallStop, InferStop};
