@@ -7,7 +7,7 @@ use Rattle.um_units.specs.PowerMap.{PowerMap}
 use Rattle.um_units.specs.Variables.{VariablesBelow}
 use Rattle.um_units.specs.Solutions.{IsSolvable}
 use Rattle.um_units.proofs.Solutions.{IsInstance_refl, IsSolvable-front}
-use Rattle.um_elim.specs.Elimination.{Outcome, Solved, NoSolution, Range, eliminate}
+use Rattle.um_elim.specs.Elimination.{Elimination, Solved, NoSolution, Range, eliminate}
 use Rattle.um_elim.specs.Instances.{SolvesExactly}
 use Rattle.um_elim.specs.Solution.{own_variables}
 use Rattle.um_elim.proofs.Rows.{solved_is_most_general, refused_is_unsatisfiable, length-solved, exactly-more, unsolvable-more}
@@ -39,7 +39,7 @@ solved_from slots k done (r ∷ rows) us count l low exact =
     one_more = units_of-append done (r ∷ [])
 
     found : ((vs : List PowerMap) → length vs ≡ slots → SolvesExactly slots (units_of (done ++ r ∷ [])) vs → IsRightFor slots ((done ++ r ∷ []) ++ rows) (solve (suc k) rows vs)) →
-        (o : Outcome) → eliminate us r.unit ≡ o → IsRightFor slots (done ++ r ∷ rows) (after_row k r.at o (solve (suc k) rows))
+        (o : Elimination) → eliminate us r.unit ≡ o → IsRightFor slots (done ++ r ∷ rows) (after_row k r.at o (solve (suc k) rows))
     found rest (Solved vs) e =
         let g = solved_is_most_general us r.unit vs h e in
         subst (λ rs. IsRightFor slots rs (solve (suc k) rows vs)) (append_assoc done (r ∷ []) rows)

@@ -4,7 +4,7 @@
 use Rattle.std.specs.Prelude.{◌≡◌, ℕ, suc, List, [], ◌∷◌, ◌++◌, length}
 use Rattle.um_units.specs.PowerMap.{PowerMap}
 use Rattle.um_units.specs.Solutions.{IsSolvable}
-use Rattle.um_elim.specs.Elimination.{Outcome, Solved, NoSolution, Range, eliminate}
+use Rattle.um_elim.specs.Elimination.{Elimination, Solved, NoSolution, Range, eliminate}
 use Rattle.um_rows.specs.declared.row.Row.{Row}
 use Rattle.um_rows.specs.Steps.{units_of}
 
@@ -27,7 +27,7 @@ pub data Solving : Type 0 where
   unsolved : ℕ → ℕ → Solving
   out_of_range : ℕ → Solving
 
-abbrev pub after_row : ℕ → ℕ → Outcome → (List PowerMap → Solving) → Solving
+abbrev pub after_row : ℕ → ℕ → Elimination → (List PowerMap → Solving) → Solving
 after_row k at (Solved us) rest = rest us
 after_row k at NoSolution rest = unsolved k at
 after_row k at Range rest = out_of_range at
