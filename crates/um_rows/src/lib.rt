@@ -9,7 +9,9 @@ mod against;
 mod calls;
 mod context;
 mod equations;
+mod function_calls;
 mod function_rows;
+mod inputs;
 pub mod laws;
 mod leaves;
 mod noted;
@@ -22,4 +24,5 @@ mod types;
 mod walk;
 
 pub use row::{Row, RowList, RowStop, Rows};
+pub use function_calls::call_rows;
 pub use function_rows::rows;
