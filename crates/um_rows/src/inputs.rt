@@ -135,24 +135,39 @@ fn input_expr(
     ensures { IfOk result (λ e. expr_tree e ≡ input_text (map record_tree records.now) (shape_tree shape.now) (input_tree input.now)) }
 {
     match input {
-        Input::Bool(b) => Ok(Expr { at: 0, node: Node::Bool(*b) }),
+        Input::Bool(b) => Ok(Expr {
+            at: 0,
+            node: Node::Bool(*b),
+        }),
         Input::Num(value, note) => {
             let note = copied_note(alloc, note)?;
-            Ok(Expr { at: 0, node: Node::Num(*value, note) })
+            Ok(Expr {
+                at: 0,
+                node: Node::Num(*value, note),
+            })
         }
         Input::List(items) => {
             let truth = Shape::Bool;
             let items = item_exprs(alloc, records, &items.items, item_shape(shape, &truth))?;
             if items.is_empty() {
                 let note = open_note(alloc, records, shape)?;
-                return Ok(Expr { at: 0, node: Node::Nil(note) });
+                return Ok(Expr {
+                    at: 0,
+                    node: Node::Nil(note),
+                });
             }
-            Ok(Expr { at: 0, node: Node::List(Exprs { items }) })
+            Ok(Expr {
+                at: 0,
+                node: Node::List(Exprs { items }),
+            })
         }
         Input::Rec(r, parts) => {
             let shapes = shapes_of(alloc, records, *r)?;
             let items = input_exprs(alloc, records, &parts.items, &shapes)?;
-            Ok(Expr { at: 0, node: Node::Rec(*r, Exprs { items }) })
+            Ok(Expr {
+                at: 0,
+                node: Node::Rec(*r, Exprs { items }),
+            })
         }
     }
 }

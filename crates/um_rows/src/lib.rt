@@ -23,6 +23,6 @@ mod slots;
 mod types;
 mod walk;
 
-pub use row::{Row, RowList, RowStop, Rows};
 pub use function_calls::call_rows;
 pub use function_rows::rows;
+pub use row::{Row, RowList, RowStop, Rows};

@@ -53,12 +53,12 @@ returns-clause-equations c =
     let shapes_are : shapes ≡ map note_shape (map note_tree f.params.items.items) = c.in_ok-shapes.ensures ∙ ap (λ ns. map note_shape (map note_tree ns)) c.deref.ensures.value in
     let items = in_order (map expr_tree c.in_ok-items.items.items) in
     let items_are : items ≡ input_texts (program_tree q).records (map note_shape (map note_tree f.params.items.items)) inputs =
-        c.in_ok-items.ensures ∙ ap (λ rs. input_texts (map record_tree rs) (map shape_tree c.deref-3.result.now) inputs) c.deref-2.ensures.value
-        ∙ ap (λ ss. input_texts (program_tree q).records (map shape_tree ss) inputs) c.deref-3.ensures.value ∙ ap (λ ss. input_texts (program_tree q).records ss inputs) shapes_are in
+    c.in_ok-items.ensures ∙ ap (λ rs. input_texts (map record_tree rs) (map shape_tree c.deref-3.result.now) inputs) c.deref-2.ensures.value
+    ∙ ap (λ ss. input_texts (program_tree q).records (map shape_tree ss) inputs) c.deref-3.ensures.value ∙ ap (λ ss. input_texts (program_tree q).records ss inputs) shapes_are in
     let body = expr_tree c.call_of-body.result in
     let body_is : body ≡ call 0 k (input_texts (program_tree q).records (map note_shape (map note_tree f.params.items.items)) inputs) = c.call_of-body.ensures ∙ ap (call 0 k) items_are in
     let answer = subst (λ ss. MatchResult c.equations.result (AreEquations (program_tree q).records (map scheme_tree ss) n (described 0 false [] None body)) (StopsFor (program_tree q).records (map scheme_tree ss) n (described 0 false [] None body))) c.deref-5.ensures.value
-        (subst (λ rs. MatchResult c.equations.result (AreEquations (map record_tree rs) (map scheme_tree c.deref-5.result.now) n (described 0 false [] None body)) (StopsFor (map record_tree rs) (map scheme_tree c.deref-5.result.now) n (described 0 false [] None body))) c.deref-4.ensures.value c.equations.ensures) in
+    (subst (λ rs. MatchResult c.equations.result (AreEquations (map record_tree rs) (map scheme_tree c.deref-5.result.now) n (described 0 false [] None body)) (StopsFor (map record_tree rs) (map scheme_tree c.deref-5.result.now) n (described 0 false [] None body))) c.deref-4.ensures.value c.equations.ensures) in
     subst (λ (x : Program). IfOk c.equations.result (AreCallRowsOf (program_tree x) (map scheme_tree schemes) k inputs)) same (calls_ok q formed (map scheme_tree schemes) k f there inputs n count body body_is c.equations.result answer)
 
 pub returns-clause-stops : goal.returns-clause-stops
@@ -80,12 +80,12 @@ returns-clause-stops c =
     let shapes_are : shapes ≡ map note_shape (map note_tree f.params.items.items) = c.in_ok-shapes.ensures ∙ ap (λ ns. map note_shape (map note_tree ns)) c.deref.ensures.value in
     let items = in_order (map expr_tree c.in_ok-items.items.items) in
     let items_are : items ≡ input_texts (program_tree q).records (map note_shape (map note_tree f.params.items.items)) inputs =
-        c.in_ok-items.ensures ∙ ap (λ rs. input_texts (map record_tree rs) (map shape_tree c.deref-3.result.now) inputs) c.deref-2.ensures.value
-        ∙ ap (λ ss. input_texts (program_tree q).records (map shape_tree ss) inputs) c.deref-3.ensures.value ∙ ap (λ ss. input_texts (program_tree q).records ss inputs) shapes_are in
+    c.in_ok-items.ensures ∙ ap (λ rs. input_texts (map record_tree rs) (map shape_tree c.deref-3.result.now) inputs) c.deref-2.ensures.value
+    ∙ ap (λ ss. input_texts (program_tree q).records (map shape_tree ss) inputs) c.deref-3.ensures.value ∙ ap (λ ss. input_texts (program_tree q).records ss inputs) shapes_are in
     let body = expr_tree c.call_of-body.result in
     let body_is : body ≡ call 0 k (input_texts (program_tree q).records (map note_shape (map note_tree f.params.items.items)) inputs) = c.call_of-body.ensures ∙ ap (call 0 k) items_are in
     let answer = subst (λ ss. MatchResult c.equations.result (AreEquations (program_tree q).records (map scheme_tree ss) n (described 0 false [] None body)) (StopsFor (program_tree q).records (map scheme_tree ss) n (described 0 false [] None body))) c.deref-5.ensures.value
-        (subst (λ rs. MatchResult c.equations.result (AreEquations (map record_tree rs) (map scheme_tree c.deref-5.result.now) n (described 0 false [] None body)) (StopsFor (map record_tree rs) (map scheme_tree c.deref-5.result.now) n (described 0 false [] None body))) c.deref-4.ensures.value c.equations.ensures) in
+    (subst (λ rs. MatchResult c.equations.result (AreEquations (map record_tree rs) (map scheme_tree c.deref-5.result.now) n (described 0 false [] None body)) (StopsFor (map record_tree rs) (map scheme_tree c.deref-5.result.now) n (described 0 false [] None body))) c.deref-4.ensures.value c.equations.ensures) in
     subst (λ (x : Program). IfErr c.equations.result (CallRowsStopFor (program_tree x) (map scheme_tree schemes) k inputs)) same (calls_err q formed (map scheme_tree schemes) k f there inputs n count body body_is c.equations.result answer)
 
 pub returns-clause-results : goal.returns-clause-results
@@ -107,10 +107,10 @@ returns-clause-results c =
     let shapes_are : shapes ≡ map note_shape (map note_tree f.params.items.items) = c.in_ok-shapes.ensures ∙ ap (λ ns. map note_shape (map note_tree ns)) c.deref.ensures.value in
     let items = in_order (map expr_tree c.in_ok-items.items.items) in
     let items_are : items ≡ input_texts (program_tree q).records (map note_shape (map note_tree f.params.items.items)) inputs =
-        c.in_ok-items.ensures ∙ ap (λ rs. input_texts (map record_tree rs) (map shape_tree c.deref-3.result.now) inputs) c.deref-2.ensures.value
-        ∙ ap (λ ss. input_texts (program_tree q).records (map shape_tree ss) inputs) c.deref-3.ensures.value ∙ ap (λ ss. input_texts (program_tree q).records ss inputs) shapes_are in
+    c.in_ok-items.ensures ∙ ap (λ rs. input_texts (map record_tree rs) (map shape_tree c.deref-3.result.now) inputs) c.deref-2.ensures.value
+    ∙ ap (λ ss. input_texts (program_tree q).records (map shape_tree ss) inputs) c.deref-3.ensures.value ∙ ap (λ ss. input_texts (program_tree q).records ss inputs) shapes_are in
     let body = expr_tree c.call_of-body.result in
     let body_is : body ≡ call 0 k (input_texts (program_tree q).records (map note_shape (map note_tree f.params.items.items)) inputs) = c.call_of-body.ensures ∙ ap (call 0 k) items_are in
     let answer = subst (λ ss. MatchResult c.equations.result (AreEquations (program_tree q).records (map scheme_tree ss) n (described 0 false [] None body)) (StopsFor (program_tree q).records (map scheme_tree ss) n (described 0 false [] None body))) c.deref-5.ensures.value
-        (subst (λ rs. MatchResult c.equations.result (AreEquations (map record_tree rs) (map scheme_tree c.deref-5.result.now) n (described 0 false [] None body)) (StopsFor (map record_tree rs) (map scheme_tree c.deref-5.result.now) n (described 0 false [] None body))) c.deref-4.ensures.value c.equations.ensures) in
+    (subst (λ rs. MatchResult c.equations.result (AreEquations (map record_tree rs) (map scheme_tree c.deref-5.result.now) n (described 0 false [] None body)) (StopsFor (map record_tree rs) (map scheme_tree c.deref-5.result.now) n (described 0 false [] None body))) c.deref-4.ensures.value c.equations.ensures) in
     subst (λ (x : Program). IfOk c.equations.result (ResultsAreSolutionsOf (program_tree x) (map scheme_tree schemes) k inputs)) same (calls_results q formed (map scheme_tree schemes) k f there inputs n count body body_is (subst (λ (x : Program). AreFormedInputs (length (program_tree x).bases) inputs) (sym same) c.requires.inputs) c.equations.result answer)
