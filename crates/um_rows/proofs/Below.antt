@@ -236,6 +236,8 @@ module _ (limit : ℕ) (holes names : ℕ → PowerMap) where
       let ps = notes_below 0 f.params (keys_front head (last ++ own) h) in
       let r = result_below n f.result (keys_front last own rest) in
       let body = derive holes names records (own_signature holes names f) (callee schemes i f) (head_holes f) params f.body in
-      let b = derived_below records (own_signature holes names f) (ps, r) (callee schemes i f) low (head_holes f) params f.body ps (keys_back last own rest) in
-      ((ps, b.0), steps_below-append limit (head_steps holes names f) (body.steps ++ result_rows holes names f.at body.type n f.result) (types_at_below f.at (params ++ noted_result holes names n f.result ∷ []) (types_below-append limit params (noted_result holes names n f.result ∷ []) ps (r, tt)))
-      (steps_below-append limit body.steps (result_rows holes names f.at body.type n f.result) b.1 (result_rows_below f.at body.type n f.result b.0 (keys_front last own rest))))
+      let b = derived_below records (own_signature holes names f) (ps, r) (callee schemes i f) low (head_holes f) params f.body ps (keys_back last own rest) in (
+        (ps, b.0),
+        steps_below-append limit (head_steps holes names f) (body.steps ++ result_rows holes names f.at body.type n f.result) (types_at_below f.at (params ++ noted_result holes names n f.result ∷ []) (types_below-append limit params (noted_result holes names n f.result ∷ []) ps (r, tt)))
+            (steps_below-append limit body.steps (result_rows holes names f.at body.type n f.result) b.1 (result_rows_below f.at body.type n f.result b.0 (keys_front last own rest))),
+      )

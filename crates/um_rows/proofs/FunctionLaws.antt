@@ -190,6 +190,8 @@ module _ (earlier : Earlier) (schemes : List SchemeTree) (i : ℕ) (fit : AllFit
           let self = own_signature holes names f in
           let own : own_sig f sig ≡ put_signature v self = λ i. record { params = sym ps i; result = sym r i } in
           let body = derive holes names records self c (np + nr) params f.body in
-          let b = complete v holes names h.choice same records self (own_sig f sig) own c callee_below (Calls earlier i f sig) (own_opens sig) (np + nr) params sig.params ps f.body sig.result (body_typed records sig h) (agrees_second s np nr nb fr fb rest) in
-          (Holds-append v (head_steps holes names f) (body.steps ++ result_rows holes names f.at body.type np f.result) (types_hold v f.at (noted_types holes names 0 f.params ++ noted_result holes names np f.result ∷ []))
-          (Holds-append v body.steps (result_rows holes names f.at body.type np f.result) b.1 (rows_complete v h.choice same f.at body.type np f.result sig.result b.0 r)), λ i. record { params = sym ps i; result = sym b.0 i })
+          let b = complete v holes names h.choice same records self (own_sig f sig) own c callee_below (Calls earlier i f sig) (own_opens sig) (np + nr) params sig.params ps f.body sig.result (body_typed records sig h) (agrees_second s np nr nb fr fb rest) in (
+            Holds-append v (head_steps holes names f) (body.steps ++ result_rows holes names f.at body.type np f.result) (types_hold v f.at (noted_types holes names 0 f.params ++ noted_result holes names np f.result ∷ []))
+                (Holds-append v body.steps (result_rows holes names f.at body.type np f.result) b.1 (rows_complete v h.choice same f.at body.type np f.result sig.result b.0 r)),
+            λ i. record { params = sym ps i; result = sym b.0 i },
+          )

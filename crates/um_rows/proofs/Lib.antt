@@ -34,4 +34,6 @@ pub mod SameDerivation
 pub mod SlotsLeft
 pub mod EquationLaws
 pub mod BodyLaws
+mod InputLoops
 pub mod ProgramRows
+pub mod ProgramCalls

@@ -193,8 +193,8 @@ module _ (f g m q : ℕ → PowerMap) where
       let noted = alike_front result body behind in
       let own : own_signature f m fn ≡ own_signature g q fn = λ j. record { params = params j; result = same_result (notes_holes fn.params) fn.result noted j } in
       let whole : derive f m records (own_signature f m fn) (callee schemes i fn) (head_holes fn) (noted_types f m 0 fn.params) fn.body ≡ derive g q records (own_signature g q fn) (callee schemes i fn) (head_holes fn) (noted_types g q 0 fn.params) fn.body =
-          same_derived records (own_signature f m fn) (callee schemes i fn) low (head_holes fn) (noted_types f m 0 fn.params) fn.body (alike_back result body behind)
-          ∙ (λ j. derive g q records (own j) (callee schemes i fn) (head_holes fn) (params j) fn.body) in
+      same_derived records (own_signature f m fn) (callee schemes i fn) low (head_holes fn) (noted_types f m 0 fn.params) fn.body (alike_back result body behind)
+      ∙ (λ j. derive g q records (own j) (callee schemes i fn) (head_holes fn) (params j) fn.body) in
       λ j. record {
         params = params j;
         result = (whole j).type;

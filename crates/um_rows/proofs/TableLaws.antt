@@ -95,9 +95,9 @@ module _ (order : List Key) (old new : Slots) (t : IsTable order old) where
         few = omega (arith, more, was, low);
         holes = λ k l. at k (omega (arith, l, long));
         later = λ k l. (
-          let absent = t.later k (omega (arith, l, long)) in
-          let other = other_hole k n (λ e. omega (arith, l, long, e)) in
-          has_more order (hole n) fresh_hole (hole k) ∙ ap (λ b. b || (same_key (hole k) (hole n) || false)) absent ∙ ap (λ b. b || false) other);
+            let absent = t.later k (omega (arith, l, long)) in
+            let other = other_hole k n (λ e. omega (arith, l, long, e)) in
+            has_more order (hole n) fresh_hole (hole k) ∙ ap (λ b. b || (same_key (hole k) (hole n) || false)) absent ∙ ap (λ b. b || false) other);
         names = λ k. ap (λ ns. get_or ns k None) names ∙ t.names k ∙ sym (found_other order (hole n) fresh_hole (name k) refl);
       })
     where
@@ -138,10 +138,10 @@ module _ (order : List Key) (old new : Slots) (t : IsTable order old) where
           count = omega (arith, more, was, count);
           few = omega (arith, more, was, low);
           holes = λ j l. (
-            let below : j < n = omega (arith, l, long) in (
-              had order (name k) fresh (hole j) (t.holes j below).0,
-              ap (λ us. nth us j) holes ∙ (t.holes j below).1 ∙ ap (λ p. atom (Var p)) (sym (place-append order (name k ∷ []) (hole j) (t.holes j below).0)),
-            ));
+              let below : j < n = omega (arith, l, long) in (
+                had order (name k) fresh (hole j) (t.holes j below).0,
+                ap (λ us. nth us j) holes ∙ (t.holes j below).1 ∙ ap (λ p. atom (Var p)) (sym (place-append order (name k ∷ []) (hole j) (t.holes j below).0)),
+              ));
           later = λ j l. (let absent = t.later j (omega (arith, l, long)) in has_more order (name k) fresh (hole j) ∙ ap (λ b. b || false) absent);
           names = λ j. on_test (eqb j k)
               (λ e. subst (λ (i : ℕ). get_or new.names.items i None ≡ found_slot (order ++ name k ∷ []) (name i)) (sym (eqb-true j k e)) (own ∙ ap Some t.count ∙ sym (found_new order (name k) fresh)))

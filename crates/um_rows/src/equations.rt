@@ -220,8 +220,23 @@ fn body_rows(
         rows: Vec::new(alloc),
         holes: head,
     };
-    let result = derive(alloc, records, schemes, context, &mut scope, body, &mut progress)?;
-    note_against(alloc, at, &result, &context.result, note, &mut progress.rows)?;
+    let result = derive(
+        alloc,
+        records,
+        schemes,
+        context,
+        &mut scope,
+        body,
+        &mut progress,
+    )?;
+    note_against(
+        alloc,
+        at,
+        &result,
+        &context.result,
+        note,
+        &mut progress.rows,
+    )?;
     Ok(Rows {
         slots,
         list: RowList {
@@ -268,7 +283,9 @@ pub(crate) fn equations(
     } = slots;
     let names = name_units(alloc, &names)?;
     match context_of(alloc, number, recurs, first, holes, names, params, note) {
-        Ok(context) => body_rows(alloc, records, schemes, &context, count, head, at, note, body),
+        Ok(context) => body_rows(
+            alloc, records, schemes, &context, count, head, at, note, body,
+        ),
         Err(UnitStop::Range) => Err(RowStop::Range { at }),
         Err(UnitStop::NoMemory) => Err(RowStop::NoMemory),
     }

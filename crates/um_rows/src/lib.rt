@@ -9,7 +9,9 @@ mod against;
 mod calls;
 mod context;
 mod equations;
+mod function_calls;
 mod function_rows;
+mod inputs;
 pub mod laws;
 mod leaves;
 mod noted;
@@ -21,5 +23,6 @@ mod slots;
 mod types;
 mod walk;
 
-pub use row::{Row, RowList, RowStop, Rows};
+pub use function_calls::call_rows;
 pub use function_rows::rows;
+pub use row::{Row, RowList, RowStop, Rows};

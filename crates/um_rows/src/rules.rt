@@ -84,12 +84,7 @@ pub(crate) fn negate(
 
 /// `not`
 #[tactic(auto, using(crate::proofs::NodeLaws::node_formed, crate::proofs::NodeLaws::node_stops))]
-pub(crate) fn not(
-    alloc: Global,
-    at: u32,
-    part: &Ty,
-    progress: &mut Progress,
-) -> Result<Ty, RowStop>
+pub(crate) fn not(alloc: Global, at: u32, part: &Ty, progress: &mut Progress) -> Result<Ty, RowStop>
     ensures reached { IsReached (node progress.old.rows.items progress.old.holes (not_rule at (type_tree part.now))) progress.new result }
     ensures fits { IfOk result (λ ty. IsTrue (type_fits (type_tree ty))) }
 {

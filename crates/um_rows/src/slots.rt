@@ -187,11 +187,7 @@ pub(crate) fn note_slots(alloc: Global, note: &Note, slots: &mut Slots) -> Resul
 }
 
 /// The holes and the named variables of some notes.
-pub(crate) fn notes_slots(
-    alloc: Global,
-    notes: &[Note],
-    slots: &mut Slots,
-) -> Result<(), RowStop>
+pub(crate) fn notes_slots(alloc: Global, notes: &[Note], slots: &mut Slots) -> Result<(), RowStop>
     ensures slots { HaveSlots (notes_keys (length slots.old.holes.items) (map note_tree notes.now)) slots.old slots.new result }
     ensures counted { OnOk result (length slots.new.holes.items ≡ length slots.old.holes.items + notes_holes (map note_tree notes.now)) }
 {
@@ -259,7 +255,15 @@ pub(crate) fn expr_slots(
             expr_slots(alloc, records, schemes, number, recurs, a, slots)?;
             expr_slots(alloc, records, schemes, number, recurs, b, slots)
         }
-        Node::List(items) => exprs_slots(alloc, records, schemes, number, recurs, &items.items, slots),
+        Node::List(items) => exprs_slots(
+            alloc,
+            records,
+            schemes,
+            number,
+            recurs,
+            &items.items,
+            slots,
+        ),
         Node::Call(j, parts) => {
             let parts: &[Expr] = &parts.items;
             slots.add_holes(alloc, called_holes(schemes, number, *j))?;

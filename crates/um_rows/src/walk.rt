@@ -57,17 +57,41 @@ pub(crate) fn derive(
         Node::Call(j, arguments) => {
             let first = progress.holes;
             progress.holes += calls::open_units(schemes, context, *j);
-            let arguments = derive_all(alloc, records, schemes, context, scope, &arguments.items, progress)?;
+            let arguments = derive_all(
+                alloc,
+                records,
+                schemes,
+                context,
+                scope,
+                &arguments.items,
+                progress,
+            )?;
             calls::call(alloc, at, schemes, context, first, *j, &arguments, progress)
         }
         Node::List(items) => {
-            let items = derive_all(alloc, records, schemes, context, scope, &items.items, progress)?;
+            let items = derive_all(
+                alloc,
+                records,
+                schemes,
+                context,
+                scope,
+                &items.items,
+                progress,
+            )?;
             rules::list(alloc, at, &items, progress)
         }
         Node::Rec(r, parts) => {
             let first = progress.holes;
             progress.holes += values::open_units(records, *r);
-            let parts = derive_all(alloc, records, schemes, context, scope, &parts.items, progress)?;
+            let parts = derive_all(
+                alloc,
+                records,
+                schemes,
+                context,
+                scope,
+                &parts.items,
+                progress,
+            )?;
             values::record(alloc, at, records, context, first, *r, &parts, progress)
         }
         Node::Field(r, k, a) => {

@@ -34,7 +34,7 @@ returns-in_err-note_against c =
     let same : scope ≡ map type_tree context.params.items = c.in_ok-scope.ensures ∙ ap (map type_tree) c.deref.ensures.value in
     let progress = c.derive.new.progress in
     let stops : StopsPast (first_past (body_steps records schemes context c.args.head c.args.at note body)) err =
-        note_stops records schemes context c.args.head c.args.at note body c.new.result.items scope same (record { type = type_tree c.in_ok-result.result; rows = progress.rows.items; holes = progress.holes }) c.in_ok-result.ensures.reached err c.in_err-note_against.ensures in
+    note_stops records schemes context c.args.head c.args.at note body c.new.result.items scope same (record { type = type_tree c.in_ok-result.result; rows = progress.rows.items; holes = progress.holes }) c.in_ok-result.ensures.reached err c.in_err-note_against.ensures in
     search (rules, stops)
 
 pub returns : goal.returns

@@ -31,8 +31,8 @@ returns-clause-equations c =
     let below : c.args.i < length functions = omega (arith, low, length-map functions function_tree) in
     let there = slice_get_read functions (length functions) c.args.i f refl below c.index-function.ensures in
     let answer = subst (λ ns. IsAnswer q.records.items.items (map scheme_tree schemes) c.args.i f ns c.equations.result) c.deref-3.ensures.value
-        (subst (λ ss. IsAnswer q.records.items.items (map scheme_tree ss) c.args.i f c.deref-3.result.now c.equations.result) c.deref-2.ensures.value
-        (subst (λ rs. IsAnswer rs (map scheme_tree c.deref-2.result.now) c.args.i f c.deref-3.result.now c.equations.result) c.deref.ensures.value c.equations.ensures)) in
+    (subst (λ ss. IsAnswer q.records.items.items (map scheme_tree ss) c.args.i f c.deref-3.result.now c.equations.result) c.deref-2.ensures.value
+    (subst (λ rs. IsAnswer rs (map scheme_tree c.deref-2.result.now) c.args.i f c.deref-3.result.now c.equations.result) c.deref.ensures.value c.equations.ensures)) in
     subst (λ (x : Program). IfOk c.equations.result (AreRowsOf (program_tree x) (map scheme_tree schemes) c.args.i)) same (rows_ok q formed (map scheme_tree schemes) c.args.i f there c.equations.result answer)
 
 pub returns-clause-stops : goal.returns-clause-stops
@@ -47,8 +47,8 @@ returns-clause-stops c =
     let below : c.args.i < length functions = omega (arith, low, length-map functions function_tree) in
     let there = slice_get_read functions (length functions) c.args.i f refl below c.index-function.ensures in
     let answer = subst (λ ns. IsAnswer q.records.items.items (map scheme_tree schemes) c.args.i f ns c.equations.result) c.deref-3.ensures.value
-        (subst (λ ss. IsAnswer q.records.items.items (map scheme_tree ss) c.args.i f c.deref-3.result.now c.equations.result) c.deref-2.ensures.value
-        (subst (λ rs. IsAnswer rs (map scheme_tree c.deref-2.result.now) c.args.i f c.deref-3.result.now c.equations.result) c.deref.ensures.value c.equations.ensures)) in
+    (subst (λ ss. IsAnswer q.records.items.items (map scheme_tree ss) c.args.i f c.deref-3.result.now c.equations.result) c.deref-2.ensures.value
+    (subst (λ rs. IsAnswer rs (map scheme_tree c.deref-2.result.now) c.args.i f c.deref-3.result.now c.equations.result) c.deref.ensures.value c.equations.ensures)) in
     subst (λ (x : Program). IfErr c.equations.result (RowsStopFor (program_tree x) (map scheme_tree schemes) c.args.i)) same (rows_err q formed (map scheme_tree schemes) c.args.i f there c.equations.result answer)
 
 pub returns-clause-typings : goal.returns-clause-typings
@@ -63,6 +63,6 @@ returns-clause-typings c =
     let below : c.args.i < length functions = omega (arith, low, length-map functions function_tree) in
     let there = slice_get_read functions (length functions) c.args.i f refl below c.index-function.ensures in
     let answer = subst (λ ns. IsAnswer q.records.items.items (map scheme_tree schemes) c.args.i f ns c.equations.result) c.deref-3.ensures.value
-        (subst (λ ss. IsAnswer q.records.items.items (map scheme_tree ss) c.args.i f c.deref-3.result.now c.equations.result) c.deref-2.ensures.value
-        (subst (λ rs. IsAnswer rs (map scheme_tree c.deref-2.result.now) c.args.i f c.deref-3.result.now c.equations.result) c.deref.ensures.value c.equations.ensures)) in
+    (subst (λ ss. IsAnswer q.records.items.items (map scheme_tree ss) c.args.i f c.deref-3.result.now c.equations.result) c.deref-2.ensures.value
+    (subst (λ rs. IsAnswer rs (map scheme_tree c.deref-2.result.now) c.args.i f c.deref-3.result.now c.equations.result) c.deref.ensures.value c.equations.ensures)) in
     subst (λ (x : Program). IfOk c.equations.result (TypingsAreSolutionsOf (program_tree x) (map scheme_tree schemes) c.args.i)) same (rows_typings q formed (map scheme_tree schemes) c.args.i f there c.equations.result answer)

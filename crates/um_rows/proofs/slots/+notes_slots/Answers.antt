@@ -24,8 +24,8 @@ returns-in_err-note_slots-in-len1-up-clause-slots t c =
     let err = c.in_err-note_slots-in-len1-up.field-0.0 in
     let n = length old.holes.items in
     let stops : HaveSlots (notes_keys n (map note_tree notes)) old new (Err err) =
-        subst (λ xs. HaveSlots (notes_keys n (map note_tree xs)) old new (Err err)) (sym whole)
-        (slots_stop (note_keys n (note_tree note)) (notes_keys (n + note_holes (note_tree note)) (map note_tree rest)) old new err c.in_err-note_slots-in-len1-up.ensures.slots) in
+    subst (λ xs. HaveSlots (notes_keys n (map note_tree xs)) old new (Err err)) (sym whole)
+    (slots_stop (note_keys n (note_tree note)) (notes_keys (n + note_holes (note_tree note)) (map note_tree rest)) old new err c.in_err-note_slots-in-len1-up.ensures.slots) in
     search (rules, stops)
 
 pub returns-in_ok-note_slots-in-len1-up-clause-slots : goal.returns-in_ok-note_slots-in-len1-up-clause-slots

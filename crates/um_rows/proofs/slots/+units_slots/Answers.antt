@@ -24,8 +24,8 @@ returns-in_err-unit_slots-in-len1-up-clause-slots t c =
     let err = c.in_err-unit_slots-in-len1-up.field-0.0 in
     let n = length old.holes.items in
     let stops : HaveSlots (units_keys n notes) old new (Err err) =
-        subst (λ xs. HaveSlots (units_keys n xs) old new (Err err)) (sym whole)
-        (slots_stop (unit_keys n (note)) (units_keys (n + unit_holes (note)) rest) old new err c.in_err-unit_slots-in-len1-up.ensures.slots) in
+    subst (λ xs. HaveSlots (units_keys n xs) old new (Err err)) (sym whole)
+    (slots_stop (unit_keys n (note)) (units_keys (n + unit_holes (note)) rest) old new err c.in_err-unit_slots-in-len1-up.ensures.slots) in
     search (rules, stops)
 
 pub returns-in_ok-unit_slots-in-len1-up-clause-slots : goal.returns-in_ok-unit_slots-in-len1-up-clause-slots

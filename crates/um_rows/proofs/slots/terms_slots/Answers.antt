@@ -11,7 +11,7 @@ pub returns-in_err-term_slots-clause-slots : goal.returns-in_err-term_slots-clau
 returns-in_err-term_slots-clause-slots c =
     let err = c.in_err-term_slots.field-0.0 in
     let stops : HaveSlots (map name (flat_map (λ (t : Term). atom_variables t.atom) c.args.terms.now)) c.args.slots.now c.term_slots.new.slots (Err err) =
-        names_stop (λ (t : Term). atom_variables t.atom) c.args.terms.now c.loop-term.term-index _ c.loop-term-test.true c.args.slots.now c.loop-term.slots c.loop-term.invariant.slots c.term_slots.new.slots err c.in_err-term_slots.ensures.slots in
+    names_stop (λ (t : Term). atom_variables t.atom) c.args.terms.now c.loop-term.term-index _ c.loop-term-test.true c.args.slots.now c.loop-term.slots c.loop-term.invariant.slots c.term_slots.new.slots err c.in_err-term_slots.ensures.slots in
     search (rules, stops)
 
 pub loop-term-preserved : goal.loop-term-preserved

@@ -321,8 +321,8 @@ derive-returns-in_ok-arguments-in-Call-clause-reached t c =
     let found = c.in_ok-arguments-in-Call.arguments in
     let seen : expr_tree e ≡ call e.at j (in_order (map expr_tree args)) = search (rules, the_lemmas) in
     let parts : body_walk_all records schemes context p.rows.items (p.holes + callee_holes (called schemes context j)) vars (in_order (map expr_tree args)) ≡ Ok (record { types = map type_tree found.items; rows = new.rows.items; holes = new.holes }) =
-        ap (λ k. body_walk_all records schemes context p.rows.items (p.holes + k) vars (in_order (map expr_tree args))) (sym c.open_units.ensures)
-        ∙ c.in_ok-arguments-in-Call.ensures.reached in
+    ap (λ k. body_walk_all records schemes context p.rows.items (p.holes + k) vars (in_order (map expr_tree args))) (sym c.open_units.ensures)
+    ∙ c.in_ok-arguments-in-Call.ensures.reached in
     let last = subst (λ xs. IsReached (node new.rows.items new.holes (call_rule e.at (offer records schemes context p.holes j) (map type_tree xs))) c.call.new.progress c.call.result) c.deref-in-Call-2.ensures.value (c.call.ensures.reached records) in
     rw seen (reached_second _ (record { types = map type_tree found.items; rows = new.rows.items; holes = new.holes }) (λ (w : AllWalked). node w.rows w.holes (call_rule e.at (offer records schemes context p.holes j) w.types)) c.call.new.progress c.call.result parts last)
 
