@@ -1,37 +1,34 @@
 -- From what the code finds of a function to its equations over slots.
-use Rattle.std.proofs.Common.{◌≡◌, ℕ, zero, suc, ◌+◌, ◌-◌, ◌<◌, ◌≤◌, Bool, true, false, cond, ltb, eqb, ◌&&◌, List, [], ◌∷◌, ◌++◌, map, length, get_or, Option, Some, None, Ok, Err, slice_get, refl, sym, ap, ◌∙◌, subst, arith}
-use Rattle.std.specs.Prelude.{IsTrue, IsFalse, All, Result, MatchResult}
+use Rattle.std.proofs.Common.{◌≡◌, ℕ, zero, suc, ◌+◌, ◌<◌, ◌≤◌, Bool, true, false, cond, ltb, eqb, ◌&&◌, List, [], ◌∷◌, ◌++◌, map, length, get_or, Option, Some, None, Ok, Err, slice_get, refl, sym, ap, ◌∙◌, subst, arith}
+use Rattle.std.specs.Prelude.{IsTrue, IsFalse, Result, MatchResult}
 use Rattle.std.specs.List.{list_all}
-use Rattle.std.proofs.lemmas.List.Elements.{All-head, All-tail}
 use Rattle.std.proofs.lemmas.Bool.Decides.{nat_tests}
 use Rattle.um_units.specs.declared.Atom.TheVariants.{Var}
 use Rattle.um_units.specs.PowerMap.{PowerMap, atom, nth}
-use Rattle.um_tree.specs.declared.types.Ty.{Ty}
 use Rattle.um_tree.specs.declared.program.Record.{Record}
 use Rattle.um_tree.specs.declared.program.Scheme.{Scheme}
 use Rattle.um_tree.specs.TypeTree.{TypeTree, type_tree, NoteTree}
 use Rattle.um_tree.specs.ExprTree.{ExprTree}
-use Rattle.um_tree.specs.ProgramTree.{RecordTree, FunctionTree, Signature, SchemeTree, record_tree, scheme_tree}
+use Rattle.um_tree.specs.ProgramTree.{FunctionTree, record_tree, scheme_tree}
 use Rattle.um_elim.specs.Application.{type_fits}
 use Rattle.um_elim.proofs.Cases.{on_test}
 use Rattle.um_rows.specs.declared.context.Context.{Context}
-use Rattle.um_rows.specs.declared.row.Row.{Row}
 use Rattle.um_rows.specs.declared.row.Rows.{Rows}
 use Rattle.um_rows.specs.declared.row.RowStop.{RowStop}
 use Rattle.um_rows.specs.declared.row.RowStop.TheVariants as stop
 use Rattle.um_rows.specs.declared.slots.Slots.{Slots}
 use Rattle.um_rows.specs.Steps.{Step, types_at, rows_of, first_past}
-use Rattle.um_rows.specs.Holes.{Callee, known_by, itself, nobody, notes_holes, result_holes, expr_holes}
+use Rattle.um_rows.specs.Holes.{itself, nobody, notes_holes}
 use Rattle.um_rows.specs.Against.{against}
 use Rattle.um_rows.specs.Rules.{Derived}
 use Rattle.um_rows.specs.Derivation.{noted_types, derive}
 use Rattle.um_rows.specs.Equations.{known_function, callee_of, callee, may_recur, head_holes, noted_result, own_signature, result_rows, Equations, equations}
 use Rattle.um_rows.specs.Keys.{Key, hole, name, function_keys}
-use Rattle.um_rows.specs.Slots.{has_slot, place, own_number, slot, slot_unit, slot_order, function_slots, slot_count, slot_equations}
-use Rattle.um_rows.specs.Slotting.{with_keys, IsTable, StopsSlots, HaveSlots, found_slot, name_unit}
+use Rattle.um_rows.specs.Slots.{has_slot, place, own_number, slot_unit, slot_order, slot_count, slot_equations}
+use Rattle.um_rows.specs.Slotting.{with_keys, IsTable, StopsSlots, HaveSlots, name_unit}
 use Rattle.um_rows.specs.SlotUnits.{AreVariables}
 use Rattle.um_rows.specs.Pushed.{StopsPast}
-use Rattle.um_rows.specs.Body.{IsClosedScheme, AreClosedBefore, noted_signature, called, noted_rows, whole_keys, body_derived, body_steps, IsContextOf, AreBodyRows}
+use Rattle.um_rows.specs.Body.{IsClosedScheme, AreClosedBefore, noted_rows, body_derived, body_steps, IsContextOf, AreBodyRows}
 use Rattle.um_rows.specs.Answers.{described, AreEquations, StopsFor}
 use Rattle.um_rows.proofs.KeyOrder.{has-order, with_none, at-place}
 use Rattle.um_rows.proofs.SlotLaws.{here, behind}

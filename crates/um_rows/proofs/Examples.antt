@@ -1,5 +1,5 @@
 -- The equations of small functions, by computation of the definition.
-use Rattle.std.proofs.Common.{◌≡◌, ℕ, zero, suc, ◌<◌, ◌≤◌, true, false, not, cond, leb, eqb, List, [], ◌∷◌, ◌++◌, map, length, filter, ℤ, pos, negsuc, Some, refl, ap, ◌∙◌, arith, lit≤, lit<}
+use Rattle.std.proofs.Common.{◌≡◌, ℕ, zero, suc, ◌<◌, ◌≤◌, false, not, cond, leb, eqb, List, [], ◌∷◌, map, length, filter, ℤ, pos, negsuc, Some, refl, ap, ◌∙◌, arith, lit≤, lit<}
 use Rattle.std.proofs.lemmas.Bool.{eqb-true, false_from_ne_true}
 use Rattle.std.proofs.lemmas.Bool.Decides.{nat_tests}
 use Rattle.std.proofs.lemmas.List.{append-nil}

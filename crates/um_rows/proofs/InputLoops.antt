@@ -1,6 +1,6 @@
 -- Inputs as expressions, one after another: what is left when the first ones were made.
 use Rattle.std.proofs.Common.{◌≡◌, refl, sym, ap, ◌∙◌, ℕ, zero, suc, ◌+◌, ◌<◌, ◌≤◌, List, [], ◌∷◌, ◌++◌, map, drop, length, get_or, arith}
-use Rattle.std.proofs.lemmas.List.{append-nil, map-append, drop_more}
+use Rattle.std.proofs.lemmas.List.{map-append, drop_more}
 use Rattle.um_tree.specs.declared.expression.Expr.{Expr}
 use Rattle.um_tree.specs.declared.program.FieldDecl.{FieldDecl}
 use Rattle.um_tree.specs.declared.types.Shape.{Shape}

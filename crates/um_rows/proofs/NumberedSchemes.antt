@@ -1,12 +1,11 @@
 -- A signature's numbered scheme has the instances of the signature.
-use Rattle.std.proofs.Common.{◌≡◌, ◌↔◌, ℕ, ◌<◌, List, [], ◌∷◌, ◌++◌, map, length, refl, sym, ap, ◌∙◌, subst}
-use Rattle.std.specs.Prelude.{All}
+use Rattle.std.proofs.Common.{◌≡◌, ◌↔◌, ℕ, List, [], ◌∷◌, ◌++◌, map, length, refl, sym, ap, ◌∙◌, subst}
 use Rattle.std.proofs.lemmas.List.{map-append}
 use Rattle.um_units.specs.PowerMap.{PowerMap, replace}
 use Rattle.um_tree.specs.TypeTree.{TypeTree}
 use Rattle.um_tree.specs.ProgramTree.{Signature}
 use Rattle.um_tree.specs.Typing.{put, put_signature}
-use Rattle.um_tree.specs.Scheme.{IsInstance, IsNumberedScheme, IsNumberedBy, variables, signature_types}
+use Rattle.um_tree.specs.Scheme.{IsInstance, IsNumberedScheme, IsNumberedBy, signature_types}
 use Rattle.um_elim.specs.Numbering.{variable_order, by_place}
 use Rattle.um_elim.proofs.NumberedTypes.{renumbered_is_numbered, same_instances}
 use Rattle.um_rows.specs.Judgement.{numbered_scheme}

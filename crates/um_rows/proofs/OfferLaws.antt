@@ -1,8 +1,7 @@
 -- What a call goes to, and what it is used at.
-use Rattle.std.proofs.Common.{◌≡◌, ℕ, ◌+◌, ◌<◌, ◌≤◌, true, false, cond, ltb, eqb, ◌&&◌, List, [], ◌∷◌, map, length, get_or, take, drop, Some, None, slice_get, refl, sym, ap, ◌∙◌, subst, arith}
+use Rattle.std.proofs.Common.{◌≡◌, ℕ, ◌+◌, ◌<◌, ◌≤◌, cond, eqb, ◌&&◌, List, [], ◌∷◌, map, length, get_or, take, drop, Some, None, slice_get, refl, sym, ap, ◌∙◌, subst}
 use Rattle.std.specs.Prelude.{All}
 use Rattle.std.proofs.lemmas.Bool.{lt-ltb}
-use Rattle.std.proofs.lemmas.Bool.Decides.{nat_tests}
 use Rattle.std.proofs.lemmas.List.Elements.{All-head, All-tail}
 use Rattle.um_units.specs.PowerMap.{PowerMap, nth}
 use Rattle.um_units.specs.Variables.{VariablesBelow}
@@ -10,13 +9,13 @@ use Rattle.um_tree.specs.declared.types.Ty.{Ty}
 use Rattle.um_tree.specs.declared.program.FieldDecl.{FieldDecl}
 use Rattle.um_tree.specs.declared.program.Record.{Record}
 use Rattle.um_tree.specs.declared.program.Scheme.{Scheme}
-use Rattle.um_tree.specs.TypeTree.{TypeTree, type_tree}
-use Rattle.um_tree.specs.ProgramTree.{Signature, SchemeTree, field_tree, record_tree, scheme_tree}
+use Rattle.um_tree.specs.TypeTree.{type_tree}
+use Rattle.um_tree.specs.ProgramTree.{field_tree, record_tree, scheme_tree}
 use Rattle.um_tree.specs.Typing.{put, put_signature, unit_at, field_types}
 use Rattle.um_tree.specs.Laws.{TypeHas}
 use Rattle.um_rows.specs.declared.context.Context.{Context}
-use Rattle.um_rows.specs.Holes.{Callee, known_by, itself, nobody, callee_holes}
-use Rattle.um_rows.specs.Equations.{known_function, callee_of}
+use Rattle.um_rows.specs.Holes.{Callee, known_by, itself, nobody}
+use Rattle.um_rows.specs.Equations.{known_function}
 use Rattle.um_rows.specs.Derivation.{offered}
 use Rattle.um_rows.specs.Body.{noted_signature, called, offer, IsClosedScheme, declared_types, IsClosedRecord}
 use Rattle.um_rows.proofs.Variables.{TypesBelow}

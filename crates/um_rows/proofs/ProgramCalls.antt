@@ -1,23 +1,22 @@
 -- What the equations of a call say.
-use Rattle.std.proofs.Common.{◌≡◌, ◌↔◌, ℕ, ◌<◌, false, List, [], map, length, get_or, Some, None, Ok, Err, slice_get, refl, sym, ap, ◌∙◌, subst}
+use Rattle.std.proofs.Common.{◌≡◌, ℕ, false, List, [], map, length, Some, None, Ok, Err, slice_get, sym, ap, ◌∙◌, subst}
 use Rattle.std.specs.Prelude.{Result, MatchResult, IfOk, IfErr}
-use Rattle.um_units.specs.PowerMap.{PowerMap, nth}
+use Rattle.um_units.specs.PowerMap.{nth}
 use Rattle.um_units.specs.Solutions.{IsJointSolution}
 use Rattle.um_tree.specs.declared.program.Function.{Function}
 use Rattle.um_tree.specs.declared.program.Program.{Program}
-use Rattle.um_tree.specs.TypeTree.{TypeTree, type_tree, type_trees, note_tree}
+use Rattle.um_tree.specs.TypeTree.{note_tree}
 use Rattle.um_tree.specs.ExprTree.{ExprTree, call}
 use Rattle.um_tree.specs.ValueTree.{InputTrees}
 use Rattle.um_tree.specs.ProgramTree.{FunctionTree, SchemeTree, function_tree, program_tree}
 use Rattle.um_tree.specs.Typing.{put_signature}
 use Rattle.um_tree.specs.Shapes.{note_shape}
 use Rattle.um_tree.specs.Formed.{IsFormed, AreFormedInputs}
-use Rattle.um_tree.specs.InputType.{IsResultOfCall}
 use Rattle.um_rows.specs.declared.row.Rows.{Rows}
 use Rattle.um_rows.specs.declared.row.RowStop.{RowStop}
 use Rattle.um_rows.specs.Steps.{rows_of, units_of}
 use Rattle.um_rows.specs.Slots.{slot_count, slot_equations}
-use Rattle.um_rows.specs.Solutions.{IsSolved, HaveSchemes}
+use Rattle.um_rows.specs.Solutions.{IsSolved}
 use Rattle.um_rows.specs.CallEquations.{input_texts, call_function}
 use Rattle.um_rows.specs.Answers.{AreEquations, StopsFor, AreCallRowsOf, CallRowsStopFor, IsGivenBy, ResultsAreSolutionsOf, described}
 use Rattle.um_tree.proofs.Moved.{slice_get_moved}

@@ -1,9 +1,9 @@
 -- What is known of a formed program, as the code of the equations asks for it, and what its equations say.
-use Rattle.std.proofs.Common.{◌≡◌, ◌↔◌, ℕ, zero, suc, ◌<◌, ◌≤◌, List, [], ◌∷◌, map, length, get_or, Some, None, Ok, Err, slice_get, refl, sym, ap, ◌∙◌, subst, arith}
-use Rattle.std.specs.Prelude.{All, Option, Result, MatchResult, IfOk, IfErr}
+use Rattle.std.proofs.Common.{◌≡◌, ℕ, List, [], ◌∷◌, map, length, get_or, Some, Ok, Err, slice_get, sym, ◌∙◌, subst, arith}
+use Rattle.std.specs.Prelude.{All, Result, MatchResult, IfOk, IfErr}
 use Rattle.std.proofs.lemmas.List.{get_or_default}
 use Rattle.std.proofs.lemmas.List.Elements.{All-nil, All-cons, All-head, All-tail}
-use Rattle.um_units.specs.PowerMap.{PowerMap, nth}
+use Rattle.um_units.specs.PowerMap.{nth}
 use Rattle.um_units.specs.Variables.{VariablesBelow}
 use Rattle.um_units.specs.Solutions.{IsJointSolution}
 use Rattle.um_tree.specs.declared.note.Note.{Note}
@@ -13,10 +13,10 @@ use Rattle.um_tree.specs.declared.program.Record.{Record}
 use Rattle.um_tree.specs.declared.program.Scheme.{Scheme}
 use Rattle.um_tree.specs.declared.program.Function.{Function}
 use Rattle.um_tree.specs.declared.program.Program.{Program}
-use Rattle.um_tree.specs.TypeTree.{TypeTree, bool_type, num_type, list_type, record_type, type_tree, type_trees, note_tree, note_trees}
+use Rattle.um_tree.specs.TypeTree.{TypeTree, bool_type, num_type, list_type, record_type, type_tree, note_tree}
 use Rattle.um_tree.specs.ExprTree.{expr_tree}
-use Rattle.um_tree.specs.ProgramTree.{RecordTree, FieldTree, FunctionTree, ProgramTree, Signature, SchemeTree, field_tree, record_tree, function_tree, result_tree, program_tree, scheme_tree}
-use Rattle.um_tree.specs.Typing.{put_signature, Typing}
+use Rattle.um_tree.specs.ProgramTree.{RecordTree, FieldTree, FunctionTree, ProgramTree, SchemeTree, field_tree, record_tree, function_tree, result_tree, program_tree, scheme_tree}
+use Rattle.um_tree.specs.Typing.{put_signature}
 use Rattle.um_tree.specs.Laws.{TypeHas}
 use Rattle.um_tree.specs.Formed.{IsTypeIn, IsFieldType, IsFormed}
 use Rattle.um_tree.proofs.WrittenUnits.{formed_literals_are_closed}
@@ -26,8 +26,8 @@ use Rattle.um_rows.specs.declared.row.RowStop.TheVariants as stop
 use Rattle.um_tree.proofs.Moved.{slice_get_moved}
 use Rattle.um_rows.specs.Steps.{rows_of, units_of}
 use Rattle.um_rows.specs.Slots.{slot_count, slot_equations}
-use Rattle.um_rows.specs.Solutions.{IsSolved, HaveSchemes}
-use Rattle.um_rows.specs.Body.{IsClosedScheme, AreClosedBefore, IsClosedRecord}
+use Rattle.um_rows.specs.Solutions.{IsSolved}
+use Rattle.um_rows.specs.Body.{AreClosedBefore, IsClosedRecord}
 use Rattle.um_rows.specs.Answers.{AreEquations, StopsFor, AreRowsOf, RowsStopFor, HaveVariablesBelow, IsGivenBy, TypingsAreSolutionsOf, described}
 use Rattle.um_rows.proofs.Variables.{TypesBelow}
 use Rattle.um_rows.proofs.VariableLists.{signature_below_from}

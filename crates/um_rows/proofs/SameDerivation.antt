@@ -2,13 +2,12 @@
 use Rattle.std.proofs.Common.{◌≡◌, ℕ, zero, suc, ◌+◌, ◌<◌, ◌||◌, eqb, List, [], ◌∷◌, ◌++◌, map, Option, Some, None, slice_get, refl, sym, ap, ◌∙◌, subst, arith}
 use Rattle.std.specs.Prelude.{IsTrue}
 use Rattle.std.proofs.lemmas.Bool.{eqb-true}
-use Rattle.um_units.specs.PowerMap.{PowerMap, replace}
+use Rattle.um_units.specs.PowerMap.{PowerMap}
 use Rattle.um_tree.specs.declared.note.UnitNote.{UnitNote}
 use Rattle.um_tree.specs.declared.note.UnitNote.TheVariants.{Hole, Written}
-use Rattle.um_tree.specs.TypeTree.{TypeTree, bool_type, num_type, list_type, record_type, NoteTree, bool_note, num_note, list_note, record_note}
+use Rattle.um_tree.specs.TypeTree.{TypeTree, num_type, list_type, record_type, NoteTree, bool_note, num_note, list_note, record_note}
 use Rattle.um_tree.specs.ExprTree.{ExprTree, ExprTrees, truth, number, local, call, negate, not_expr, arith as arith_tree, compare, both, either, if, bind, split, nil, list_expr, cons, record_expr, field, none, more}
 use Rattle.um_tree.specs.ProgramTree.{RecordTree, FunctionTree, SchemeTree, Signature}
-use Rattle.um_tree.specs.Typing.{put_signature}
 use Rattle.um_tree.specs.Scheme.{unit_variables}
 use Rattle.um_elim.proofs.Cases.{on_test}
 use Rattle.um_elim.proofs.FirstOccurrences.{member}
@@ -16,9 +15,9 @@ use Rattle.um_elim.proofs.RenamedUnits.{unit_alike}
 use Rattle.um_rows.specs.Against.{against}
 use Rattle.um_rows.specs.Steps.{types_at}
 use Rattle.um_rows.specs.Holes.{unit_holes, note_holes, notes_holes, Callee, known_by, itself, nobody, callee_holes, record_holes, expr_holes}
-use Rattle.um_rows.specs.Rules.{Derived, AllDerived, after, formed, item, number_rule, call_rule, negate_rule, not_rule, truths_rule, arith_rule, compare_rule, if_rule, split_rule, nil_rule, list_rule, cons_rule, record_rule, field_rule}
+use Rattle.um_rows.specs.Rules.{Derived, after, formed, item, number_rule, call_rule, negate_rule, not_rule, truths_rule, arith_rule, compare_rule, if_rule, split_rule, nil_rule, list_rule, cons_rule, record_rule, field_rule}
 use Rattle.um_rows.specs.Derivation.{first_units, noted_unit, noted_units, noted_type, noted_types, offered, derive, derive_all}
-use Rattle.um_rows.specs.Equations.{Equations, callee, head_holes, noted_result, result_rows, own_signature, equations}
+use Rattle.um_rows.specs.Equations.{callee, head_holes, noted_result, result_rows, own_signature, equations}
 use Rattle.um_rows.specs.Keys.{Key, hole, name, hole_keys, unit_keys, units_keys, note_keys, notes_keys, result_keys, expr_keys, exprs_keys, function_keys}
 use Rattle.um_rows.proofs.Variables.{CalleeBelow, signature_put_alike_below}
 

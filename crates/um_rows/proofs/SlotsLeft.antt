@@ -1,14 +1,14 @@
 -- The keys of expressions one after another: what is left when the first ones have their slots.
-use Rattle.std.proofs.Common.{◌≡◌, refl, sym, ap, subst, ◌∙◌, ℕ, ◌+◌, ◌<◌, ◌≤◌, List, [], ◌∷◌, ◌++◌, map, length, get_or, Ok, Err, arith}
+use Rattle.std.proofs.Common.{◌≡◌, refl, sym, ap, subst, ◌∙◌, ℕ, ◌+◌, ◌<◌, ◌≤◌, List, [], ◌++◌, length, get_or, Ok, Err, arith}
 use Rattle.std.proofs.lemmas.List.{append_assoc, append-nil}
 use Rattle.um_tree.specs.declared.expression.Expr.{Expr}
-use Rattle.um_tree.specs.ExprTree.{ExprTree, ExprTrees, none, more, expr_tree, in_order}
+use Rattle.um_tree.specs.ExprTree.{expr_tree}
 use Rattle.um_tree.specs.ProgramTree.{RecordTree}
 use Rattle.um_rows.specs.declared.row.RowStop.{RowStop}
 use Rattle.um_rows.specs.declared.slots.Slots.{Slots}
 use Rattle.um_rows.specs.Holes.{Callee, expr_holes, exprs_holes}
 use Rattle.um_rows.specs.Keys.{Key, expr_keys, exprs_keys}
-use Rattle.um_rows.specs.Slotting.{IsTable, HaveSlots}
+use Rattle.um_rows.specs.Slotting.{HaveSlots}
 use Rattle.um_rows.proofs.WalkedParts.{from, from_more, from_end}
 use Rattle.um_rows.proofs.TableLaws.{slots_both, slots_stop}
 

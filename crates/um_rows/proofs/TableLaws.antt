@@ -1,5 +1,5 @@
 -- Slots that are given one by one: one more hole, one more name, and keys behind keys.
-use Rattle.std.proofs.Common.{◌≡◌, ◌≢◌, ℕ, zero, suc, ◌+◌, ◌<◌, ◌≤◌, ◌⊎◌, inl, inr, Bool, true, false, ◌||◌, cond, eqb, ltb, List, [], ◌∷◌, ◌++◌, length, get_or, take, drop, map, take-append-drop, Option, Some, None, Ok, Err, refl, sym, ap, ◌∙◌, subst, arith}
+use Rattle.std.proofs.Common.{◌≡◌, ◌≢◌, ℕ, zero, suc, ◌+◌, ◌<◌, ◌≤◌, ◌⊎◌, inl, inr, false, ◌||◌, cond, eqb, ltb, List, [], ◌∷◌, ◌++◌, length, get_or, take, drop, map, take-append-drop, Some, None, Ok, Err, refl, sym, ap, ◌∙◌, subst, arith}
 use Rattle.std.specs.Prelude.{IsTrue, Result, is_some}
 use Rattle.std.proofs.lemmas.Bool.Decides.{nat_tests}
 use Rattle.std.proofs.lemmas.Bool.{eqb-true, eq-eqb, false_from_ne_true}
@@ -16,8 +16,8 @@ use Rattle.um_rows.specs.declared.row.RowStop.TheVariants as stop
 use Rattle.um_rows.specs.declared.slots.Slots.{Slots}
 use Rattle.um_rows.specs.Keys.{Key, hole, name}
 use Rattle.um_rows.specs.Slots.{same_key, has_slot, place}
-use Rattle.um_rows.specs.Slotting.{with_key, with_keys, found_slot, IsTable, StopsSlots, HaveSlots}
-use Rattle.um_rows.proofs.KeyOrder.{same_key-true, same_key-own, with_more, length-with_more, place-append, place-last}
+use Rattle.um_rows.specs.Slotting.{with_keys, found_slot, IsTable, StopsSlots, HaveSlots}
+use Rattle.um_rows.proofs.KeyOrder.{same_key-own, with_more, length-with_more, place-append, place-last}
 
 -- ---- keys behind keys
 pub slots_both : (a b : List Key) (old mid new : Slots) (x : Unit {0}) (r : Result (Unit {0}) RowStop) → HaveSlots a old mid (Ok x) → HaveSlots b mid new r → HaveSlots (a ++ b) old new r

@@ -6,7 +6,7 @@ use Rattle.um_tree.specs.declared.types.Ty.{Ty}
 use Rattle.um_tree.specs.declared.program.Record.{Record}
 use Rattle.um_tree.specs.declared.program.Scheme.{Scheme}
 use Rattle.um_tree.specs.declared.expression.Expr.{Expr}
-use Rattle.um_tree.specs.TypeTree.{TypeTree, type_tree, list_type}
+use Rattle.um_tree.specs.TypeTree.{TypeTree, type_tree}
 use Rattle.um_tree.specs.ProgramTree.{record_tree}
 use Rattle.um_tree.specs.ExprTree.{ExprTree, ExprTrees, none, more, expr_tree, in_order, bind, split}
 use Rattle.um_rows.specs.declared.context.Context.{Context}
@@ -14,7 +14,6 @@ use Rattle.um_rows.specs.declared.progress.Progress.{Progress}
 use Rattle.um_rows.specs.declared.row.Row.{Row}
 use Rattle.um_rows.specs.declared.row.RowStop.{RowStop}
 use Rattle.um_rows.specs.declared.row.RowStop.TheVariants as stop
-use Rattle.um_rows.specs.Steps.{first_past}
 use Rattle.um_rows.specs.Rules.{item, formed, split_rule}
 use Rattle.um_rows.specs.Walk.{Walked, AllWalked, then, unless_past, node}
 use Rattle.um_rows.specs.Reached.{StopsAs, IsReached}

@@ -1,6 +1,6 @@
 -- Slots that are given to keys one by one, as the code gives them.
 -- Source: this project's own; want of memory may come in place of every answer, and no public clause rests on it.
-use Rattle.std.specs.Prelude.{◌≡◌, ◌<◌, ◌≤◌, ℕ, Bool, true, false, if◌then◌else◌, IsTrue, List, [], ◌∷◌, ◌++◌, length, slice_index_or, Option, Some, None, Result, MatchResult}
+use Rattle.std.specs.Prelude.{◌≡◌, ◌<◌, ◌≤◌, ℕ, false, if◌then◌else◌, IsTrue, List, [], ◌∷◌, ◌++◌, length, slice_index_or, Option, Some, None, Result, MatchResult}
 use Rattle.um_units.specs.declared.Atom.TheVariants.{Var}
 use Rattle.um_units.specs.PowerMap.{PowerMap, one, atom, nth}
 use Rattle.um_rows.specs.declared.row.RowStop.{RowStop}

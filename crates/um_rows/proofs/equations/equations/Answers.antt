@@ -1,5 +1,5 @@
-use Rattle.std.proofs.Common.{◌≡◌, ◌+◌, ℕ, Bool, true, false, map, [], ◌∷◌, ◌++◌, sym, ap, subst, ◌∙◌, rules}
-use Rattle.std.specs.Prelude.{IsTrue, MatchResult, List}
+use Rattle.std.proofs.Common.{◌≡◌, ℕ, Bool, true, false, map, [], ◌∷◌, ◌++◌, sym, ap, subst, ◌∙◌, rules}
+use Rattle.std.specs.Prelude.{MatchResult, List}
 use Rattle.std.specs.List.{list_all}
 use Rattle.um_units.specs.PowerMap.{PowerMap, nth}
 use Rattle.um_tree.specs.TypeTree.{type_tree, note_tree}
@@ -7,7 +7,6 @@ use Rattle.um_tree.specs.ExprTree.{expr_tree}
 use Rattle.um_tree.specs.ProgramTree.{record_tree, scheme_tree, result_tree}
 use Rattle.um_elim.specs.Application.{type_fits}
 use Rattle.um_rows.specs.Steps.{first_past}
-use Rattle.um_rows.specs.Holes.{notes_holes, result_holes}
 use Rattle.um_rows.specs.Derivation.{noted_types}
 use Rattle.um_rows.specs.Equations.{callee_of, noted_result}
 use Rattle.um_rows.specs.SlotUnits.{AreVariables}

@@ -1,11 +1,11 @@
-use Rattle.std.proofs.Common.{◌≡◌, ◌+◌, ℕ, length, map, [], ◌++◌, Ok, Err, ap, subst, ◌∙◌, arith, rules}
+use Rattle.std.proofs.Common.{◌≡◌, ◌+◌, ℕ, length, map, [], ◌++◌, Ok, Err, ap, subst, arith, rules}
 use Rattle.um_tree.specs.TypeTree.{note_tree}
 use Rattle.um_tree.specs.ExprTree.{expr_tree}
 use Rattle.um_tree.specs.ProgramTree.{record_tree, scheme_tree, result_tree}
 use Rattle.um_rows.specs.Holes.{notes_holes, result_holes}
 use Rattle.um_rows.specs.Equations.{callee_of}
 use Rattle.um_rows.specs.Keys.{notes_keys, result_keys, expr_keys}
-use Rattle.um_rows.specs.Slotting.{IsTable, StopsSlots, HaveSlots, with_keys}
+use Rattle.um_rows.specs.Slotting.{StopsSlots, HaveSlots, with_keys}
 use Rattle.um_rows.specs.Body.{whole_keys}
 use Rattle.um_rows.proofs.TableLaws.{slots_both, slots_stop}
 use Rattle.um_rows.proofs.EquationLaws.{slots_all}

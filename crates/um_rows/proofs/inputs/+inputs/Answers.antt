@@ -1,8 +1,8 @@
-use Rattle.std.proofs.Common.{◌≡◌, ◌+◌, ◌<◌, length, map, ◌++◌, ◌∷◌, [], get_or, subst, sym, ap, ◌∙◌, arith, rules}
+use Rattle.std.proofs.Common.{◌≡◌, ◌+◌, ◌<◌, length, map, ◌++◌, ◌∷◌, [], subst, sym, ap, ◌∙◌, arith, rules}
 use Rattle.std.proofs.lemmas.Bool.Decides.{nat_tests}
 use Rattle.um_tree.specs.declared.expression.Expr.{the_lemmas}
 use Rattle.um_tree.specs.declared.value.Input.{the_lemmas as the_input_lemmas}
-use Rattle.um_tree.specs.TypeTree.{shape_tree, bool_shape}
+use Rattle.um_tree.specs.TypeTree.{shape_tree}
 use Rattle.um_tree.specs.ExprTree.{list_expr, expr_tree, in_order}
 use Rattle.um_tree.specs.ProgramTree.{record_tree}
 use Rattle.um_tree.specs.ValueTree.{list_input, input_tree, inputs_in_order}

@@ -1,4 +1,4 @@
-use Rattle.std.proofs.Common.{◌≡◌, length, map, take, ap, ◌∙◌, arith}
+use Rattle.std.proofs.Common.{map, ap, ◌∙◌, arith}
 use Rattle.std.proofs.lemmas.List.{take_all}
 use Rattle.um_tree.specs.declared.program.FieldDecl.{FieldDecl}
 use Rattle.um_tree.specs.TypeTree.{type_tree}

@@ -1,4 +1,4 @@
-use Rattle.std.proofs.Common.{◌≡◌, false, [], None, refl, sym, ap, ◌∙◌, append-nil}
+use Rattle.std.proofs.Common.{◌≡◌, false, [], refl, sym, ap, ◌∙◌, append-nil}
 use Rattle.um_units.specs.PowerMap.{nth}
 use Rattle.um_tree.specs.TypeTree.{type_tree}
 use Rattle.um_tree.specs.Typing.{put, unit_at}

@@ -1,5 +1,4 @@
 use Rattle.std.proofs.Common.{◌≡◌, true, length, map, Some, slice_get, sym, ap, subst}
-use Rattle.std.specs.Prelude.{◌==◌}
 use Rattle.std.proofs.lemmas.Bool.{ltb-true, eq-eqb}
 use Rattle.um_tree.specs.TypeTree.{type_tree, record_type}
 use Rattle.um_tree.specs.ProgramTree.{record_tree}

@@ -1,7 +1,5 @@
 use Rattle.std.proofs.Common.{◌≡◌, ◌<◌, ◌≤◌, true, length, get_or, slice_get, sym, subst}
-use Rattle.std.specs.Prelude.{◌==◌}
 use Rattle.std.proofs.lemmas.Bool.{ltb-true, eq-eqb}
-use Rattle.um_units.specs.Variables.{VariablesBelow}
 use Rattle.um_tree.specs.ProgramTree.{record_tree}
 use Rattle.um_tree.specs.Typing.{field_types}
 use Rattle.um_rows.specs.Rules.{declared_rule}

@@ -1,4 +1,4 @@
-use Rattle.std.proofs.Common.{◌≡◌, length, map, sym, subst, ◌∙◌}
+use Rattle.std.proofs.Common.{length, map, sym, subst}
 use Rattle.std.specs.Prelude.{All}
 use Rattle.um_units.specs.PowerMap.{nth}
 use Rattle.um_units.specs.Variables.{VariablesBelow}

@@ -1,13 +1,13 @@
-use Rattle.std.proofs.Common.{◌≡◌, ◌+◌, ◌<◌, ℕ, length, map, slice_get, [], ◌∷◌, ◌++◌, Ok, Err, sym, ap, subst, ◌∙◌, arith, rules}
+use Rattle.std.proofs.Common.{◌≡◌, ◌+◌, ◌<◌, ℕ, length, map, slice_get, ◌++◌, Ok, Err, sym, ap, subst, ◌∙◌, arith, rules}
 use Rattle.um_tree.specs.ExprTree.{expr_tree, in_order, call, arith as arith_tree, compare, both, either, if, bind, split, cons, record_expr}
 use Rattle.um_tree.specs.declared.expression.Expr.{the_lemmas}
 use Rattle.um_tree.specs.ProgramTree.{record_tree, scheme_tree}
-use Rattle.um_rows.specs.Holes.{callee_holes, record_holes, expr_holes, exprs_holes}
+use Rattle.um_rows.specs.Holes.{callee_holes, record_holes, expr_holes}
 use Rattle.um_rows.specs.Equations.{callee_of}
 use Rattle.um_rows.specs.Keys.{hole_keys, expr_keys, exprs_keys}
-use Rattle.um_rows.specs.Slotting.{IsTable, HaveSlots}
+use Rattle.um_rows.specs.Slotting.{HaveSlots}
 use Rattle.um_rows.proofs.TableLaws.{slots_both, slots_stop}
-use Rattle.um_rows.proofs.SlotsLeft.{SlotsLeft, slots_left_first, slots_left_stops, slots_left_next, slots_left_last}
+use Rattle.um_rows.proofs.SlotsLeft.{slots_left_stops, slots_left_next}
 use Rattle.um_rows.proofs.slots.+slots.Goals as goal
 
 pub expr_slots-returns-in_err-expr_slots-in-Arith-clause-slots : goal.expr_slots-returns-in_err-expr_slots-in-Arith-clause-slots

@@ -1,13 +1,13 @@
 use Rattle.std.proofs.Common.{◌≡◌, ◌+◌, ◌≤◌, ◌<◌, length, map, sym, ap, subst, ◌∙◌, [], ◌∷◌, ◌++◌, Ok, arith, rules}
 use Rattle.std.proofs.lemmas.List.{append_assoc}
 use Rattle.um_tree.specs.TypeTree.{type_tree}
-use Rattle.um_tree.specs.ExprTree.{ExprTree, expr_tree, in_order, call, arith as arith_tree, compare, both, either, if, bind, split, cons}
+use Rattle.um_tree.specs.ExprTree.{expr_tree, in_order, call, arith as arith_tree, compare, both, either, if, bind, split, cons}
 use Rattle.um_tree.specs.declared.expression.Expr.{the_lemmas}
-use Rattle.um_rows.specs.Rules.{formed, item, call_rule, split_rule}
-use Rattle.um_rows.specs.Walk.{Walked, AllWalked, then, node}
+use Rattle.um_rows.specs.Rules.{call_rule}
+use Rattle.um_rows.specs.Walk.{AllWalked, node}
 use Rattle.um_rows.specs.Reached.{StopsAs, IsReached}
 use Rattle.um_rows.specs.Holes.{callee_holes}
-use Rattle.um_rows.specs.Body.{called, offer, body_walk, body_walk_all, body_holes, bodies_holes}
+use Rattle.um_rows.specs.Body.{called, offer, body_walk, body_walk_all, body_holes}
 use Rattle.um_rows.proofs.WalkedParts.{IsLeft, room_behind, left_next, reached_second, bind_walked, split_walked, bind_stops, split_stops}
 use Rattle.um_rows.proofs.walk.+walk.Goals as goal
 

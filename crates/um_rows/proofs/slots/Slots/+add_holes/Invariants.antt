@@ -1,4 +1,3 @@
-use Rattle.std.proofs.Common.{length}
 use Rattle.um_rows.proofs.slots.Slots.+add_holes.Given as goal
 
 abbrev pub decreases-add_holes : goal.decreases-add_holes

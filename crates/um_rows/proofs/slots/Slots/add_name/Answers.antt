@@ -1,17 +1,7 @@
-use Rattle.std.proofs.Common.{◌≡◌, false, ◌+◌, ◌-◌, ◌<◌, ◌≤◌, ℕ, suc, length, take, drop, map, get_or, [], ◌∷◌, ◌++◌, Ok, Err, None, Some, sym, ap, subst, ◌∙◌, arith, rules}
+use Rattle.std.proofs.Common.{◌≡◌, false, get_or, None, Some, ap, ◌∙◌, rules}
 use Rattle.std.specs.Prelude.{is_some}
-use Rattle.std.specs.List.{flat_map}
-use Rattle.std.proofs.lemmas.List.{map-append}
-use Rattle.um_units.specs.declared.Atom.TheVariants.{Var}
-use Rattle.um_units.specs.PowerMap.{atom}
-use Rattle.um_tree.specs.TypeTree.{note_tree}
-use Rattle.um_tree.specs.Scheme.{atom_variables}
-use Rattle.um_rows.specs.Holes.{unit_holes, units_holes, note_holes, notes_holes}
-use Rattle.um_rows.specs.Keys.{hole, name, hole_keys, unit_keys, units_keys, note_keys, notes_keys}
 use Rattle.um_rows.specs.declared.slots.Slots.{Slots}
-use Rattle.um_rows.specs.Slotting.{IsTable, HaveSlots}
-use Rattle.um_rows.proofs.PushLaws.{first_and_others}
-use Rattle.um_rows.proofs.TableLaws.{slots_both, slots_stop, hole_added, name_added, fresh_from}
+use Rattle.um_rows.proofs.TableLaws.{name_added, fresh_from}
 use Rattle.um_rows.proofs.slots.Slots.add_name.Goals as goal
 
 pub returns-clause-slots : goal.returns-clause-slots
