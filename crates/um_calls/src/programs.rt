@@ -50,7 +50,10 @@ fn raw_program(alloc: Global, text: &str) -> Option<RawProgram>
     let Ok(tokens) = lex(alloc, text) else {
         return None;
     };
-    parse(alloc, tokens.as_slice(), text.len() as u32).ok()
+    match parse(alloc, tokens.as_slice(), text.len() as u32) {
+        Ok(raw) => Some(raw),
+        Err(_) => None,
+    }
 }
 
 // A unit text and a signature text with the names of the program.
