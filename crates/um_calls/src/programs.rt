@@ -50,7 +50,10 @@ fn raw_program(alloc: Global, text: &str) -> Option<RawProgram>
     let Ok(tokens) = lex(alloc, text) else {
         return None;
     };
-    parse(alloc, tokens.as_slice(), text.len() as u32).ok()
+    match parse(alloc, tokens.as_slice(), text.len() as u32) {
+        Ok(raw) => Some(raw),
+        Err(_) => None,
+    }
 }
 
 // A unit text and a signature text with the names of the program.
@@ -81,17 +84,13 @@ fn names_are_read(
     Ok(())
 }
 
-// The shapes of the function's parameters and of its result.
-fn has_shapes(rt: &impl Abort, shaped: &Shaped) {
-    let functions = &shaped.program().functions.items;
-    assert_eq!(rt; functions.len(), 1);
-    assert_eq!(rt; functions[0].params.items.len(), 3);
-    assert!(rt; matches!(shaped.param_shape(0, 0), Shape::Num));
-    assert!(rt;
-        matches!(shaped.param_shape(0, 1), Shape::List(item) if matches!(&**item, Shape::Bool))
-    );
-    assert!(rt; matches!(shaped.param_shape(0, 2), Shape::Rec(0)));
-    assert!(rt; matches!(shaped.result_shape(0), Shape::Num));
+// The shapes of a parameter of the first function and of its result.
+fn shapes_of(shaped: &Shaped, k: u32) -> Option<(&Shape, &Shape)> {
+    let function = shaped.program().functions.items.first()?;
+    if k as usize >= function.params.items.len() {
+        return None;
+    }
+    Some((shaped.param_shape(0, k), shaped.result_shape(0)))
 }
 
 #[test]
@@ -111,6 +110,12 @@ fn calls_beside_a_program(rt: HostRuntime) -> Result<(), Fail> {
     assert_eq!(rt; short.name.as_slice(), b"v".as_slice());
     assert_eq!(rt; short.unit.terms(), [M, PER_S].as_slice());
     names_are_read(&rt, alloc, &program, &shorts)?;
-    has_shapes(&rt, &shape(alloc, program)?);
+    let shaped = shape(alloc, program)?;
+    assert!(rt; matches!(shapes_of(&shaped, 0), Some((Shape::Num, Shape::Num))));
+    assert!(rt;
+        matches!(shapes_of(&shaped, 1), Some((Shape::List(item), _)) if matches!(&**item, Shape::Bool))
+    );
+    assert!(rt; matches!(shapes_of(&shaped, 2), Some((Shape::Rec(0), _))));
+    assert!(rt; shapes_of(&shaped, 3).is_none());
     Ok(())
 }
