@@ -1,7 +1,7 @@
 use Rattle.std.proofs.Common.{◌+◌, ap, ◌∙◌}
 use Rattle.um_types.specs.UnitCount.{counted}
 use Rattle.um_expr.proofs.ExprLow.{low_same}
-use Rattle.um_expr.proofs.least.is_low.Goals as goal
+use Rattle.um_expr.proofs.least_height.is_low.Goals as goal
 
 pub returns : goal.returns
 returns c =

@@ -2,7 +2,7 @@ use Rattle.std.proofs.Common.{arith}
 use Rattle.um_expr.specs.ExprOperands.{operand_expr}
 use Rattle.um_expr.specs.ExprStack.{frames_of}
 use Rattle.um_expr.proofs.ExprRefusals.{greater_refused}
-use Rattle.um_expr.proofs.sign.greater_after.Goals as goal
+use Rattle.um_expr.proofs.operator.greater_after.Goals as goal
 
 pub returns-in_ok-whole : goal.returns-in_ok-whole
 returns-in_ok-whole c =

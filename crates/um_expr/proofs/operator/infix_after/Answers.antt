@@ -4,7 +4,7 @@ use Rattle.um_expr.specs.ExprMachine.{reduce}
 use Rattle.um_expr.specs.ExprOperands.{operand_expr}
 use Rattle.um_expr.specs.ExprStack.{frames_of}
 use Rattle.um_expr.proofs.ExprRefusals.{limit_low, sign_refused}
-use Rattle.um_expr.proofs.sign.infix_after.Goals as goal
+use Rattle.um_expr.proofs.operator.infix_after.Goals as goal
 
 pub returns-in_ok-whole : goal.returns-in_ok-whole
 returns-in_ok-whole c =

@@ -3,7 +3,7 @@ use Rattle.um_tree.specs.RawTree.{expr_syntax, exprs_in_order}
 use Rattle.um_tree.specs.Heights.{tallest_expr}
 use Rattle.um_expr.specs.ExprHeights.{notes_in_all}
 use Rattle.um_expr.proofs.ExprLists.{items_more}
-use Rattle.um_expr.proofs.list.Operands.with.Goals as goal
+use Rattle.um_expr.proofs.operands.Operands.with.Goals as goal
 
 pub invariant_of-result : goal.invariant_of-result
 invariant_of-result c =

@@ -4,7 +4,7 @@ use Rattle.um_tree.specs.RawTree.{FieldPart, expr_syntax, field_part, fields_in_
 use Rattle.um_tree.specs.Heights.{expr_height, tallest_field}
 use Rattle.um_expr.specs.ExprHeights.{notes_in, notes_in_fields}
 use Rattle.um_expr.proofs.ExprLists.{fields_more, fields_put}
-use Rattle.um_expr.proofs.list.ReadFields.with.Goals as goal
+use Rattle.um_expr.proofs.operands.ReadFields.with.Goals as goal
 
 pub invariant_of-result : goal.invariant_of-result
 invariant_of-result c =
