@@ -5,8 +5,9 @@ use Rattle.std.proofs.Math.Dec.{eqb-suc-zero}
 use Rattle.std.proofs.lemmas.Grind.{flat_map-append}
 use Rattle.std.specs.List.{flat_map, join_by}
 use Rattle.std.specs.Bool.{if◌then◌else◌}
-use Rattle.um_show.specs.Pieces.{Piece, text_of, piece_text}
-use Rattle.um_show.specs.Lists.{gap_before}
+use Rattle.um_show.specs.Pieces.{Piece, space, text_of, piece_text}
+use Rattle.um_show.specs.Layout.{between}
+use Rattle.um_show.specs.Lists.{gap_before, spaced_text}
 
 -- the separator stands before each item but the first
 joined_more : {A : Type 0} (f : A → List ℕ) (separator : List ℕ) (xs : List A) (x : A) → join_by f separator (xs ++ x ∷ []) ≡ join_by f separator xs ++ (gap_before (length xs) separator ++ f x)
@@ -65,3 +66,18 @@ joined_all f g separator x xs i old begun new past first others =
     let later = flat_map (λ y. separator ++ f y) (map g xs) in
     let whole : new ≡ begun ++ text_of later = others ∙ ap (λ s. begun ++ s) (ap (flat_map (λ y. text_of separator ++ text_of (f (g y)))) (take_all i xs past) ∙ sym (separated f g separator xs)) in
     grown old begun new (f (g x)) later first whole
+
+-- the text of signs between two operands
+between_text : (a signs b : List Piece) → text_of (between a signs b) ≡ text_of a ++ spaced_text signs ++ text_of b
+between_text a signs b =
+    let gap : List Piece = space ∷ [] in
+    let split : text_of (between a signs b) ≡ text_of (a ++ space ∷ signs) ++ (text_of gap ++ text_of b) = text_append (a ++ space ∷ signs) (space ∷ b) in
+    let whole : spaced_text signs ≡ text_of (space ∷ signs) ++ text_of gap = text_append (space ∷ signs) gap in
+    split ∙ ap (λ s. s ++ (text_of gap ++ text_of b)) (text_append a (space ∷ signs)) ∙ sym (append_assoc (text_of a ++ text_of (space ∷ signs)) (text_of gap) (text_of b))
+    ∙ ap (λ s. s ++ text_of b) (append_assoc (text_of a) (text_of (space ∷ signs)) (text_of gap) ∙ ap (λ s. text_of a ++ s) (sym whole))
+
+-- two operands and the sign between them were added
+pub infix_added : {T E : Type 0} (r : Result T E) (old new : List ℕ) (all a signs b : List Piece) (sign : List ℕ) → all ≡ between a signs b → sign ≡ spaced_text signs → OnOk r (new ≡ old ++ (text_of a ++ sign ++ text_of b)) → OnOk r (new ≡ old ++ text_of all)
+infix_added (Ok x) old new all a signs b sign is written added =
+    added ∙ ap (λ s. old ++ (text_of a ++ s ++ text_of b)) written ∙ ap (λ s. old ++ s) (sym (ap text_of is ∙ between_text a signs b))
+infix_added (Err e) old new all a signs b sign is written added = tt
