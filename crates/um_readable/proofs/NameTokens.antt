@@ -24,12 +24,55 @@ AreWords [] = Unit {0}
 AreWords (w ∷ ws) = IsWord w × AreWords ws
 
 reserved_are_words : AreWords reserved_words
-reserved_are_words =
-    ((keyword.Let, refl), ((keyword.Rec, refl), ((keyword.In, refl), ((keyword.If, refl),
-    ((keyword.Then, refl), ((keyword.Else, refl), ((keyword.Match, refl), ((keyword.With, refl),
-    ((keyword.Type, refl), ((keyword.True, refl), ((keyword.False, refl), ((keyword.Not, refl),
-    ((keyword.Num, refl), ((keyword.Bool, refl), ((keyword.List, refl), ((keyword.Measure, refl),
-    ((keyword.Pown, refl), tt)))))))))))))))))
+reserved_are_words = (
+  (keyword.Let, refl),
+  (
+    (keyword.Rec, refl),
+    (
+      (keyword.In, refl),
+      (
+        (keyword.If, refl),
+        (
+          (keyword.Then, refl),
+          (
+            (keyword.Else, refl),
+            (
+              (keyword.Match, refl),
+              (
+                (keyword.With, refl),
+                (
+                  (keyword.Type, refl),
+                  (
+                    (keyword.True, refl),
+                    (
+                      (keyword.False, refl),
+                      (
+                        (keyword.Not, refl),
+                        (
+                          (keyword.Num, refl),
+                          (
+                            (keyword.Bool, refl),
+                            (
+                              (keyword.List, refl),
+                              (
+                                (keyword.Measure, refl),
+                                ((keyword.Pown, refl), tt),
+                              ),
+                            ),
+                          ),
+                        ),
+                      ),
+                    ),
+                  ),
+                ),
+              ),
+            ),
+          ),
+        ),
+      ),
+    ),
+  ),
+)
 
 word_at : (ws : List (List ℕ)) → AreWords ws → (k : ℕ) (text : List ℕ) → slice_get ws k ≡ Some text → IsWord text
 word_at [] all k text e = absurd cc
