@@ -32,13 +32,13 @@ use Rattle.um_tool.specs.Answer.{Answer, OrderAnswer, LengthAnswer, TokensAnswer
 use Rattle.um_tool.specs.Laws.{SpellsProgram, TypesAnswers, PrintedTypesArePrincipalSchemes, UnitsNameTheFirstUntyped}
 
 -- the statuses that no step before the types answers
-comes_last : Status → Bool
+abbrev comes_last : Status → Bool
 comes_last Done = true
 comes_last Units = true
 comes_last status = false
 
 -- the program that the bytes spell, and what its inference is answered
-Reached : List ℕ → List ℕ → Status → Type 0
+abbrev Reached : List ℕ → List ℕ → Status → Type 0
 Reached bytes text status = (p : ProgramTree) × SpellsProgram bytes p × IsFormed p × InferenceAnswer bytes p (infer p) text status
 
 refuted : (status wanted : Status) → status ≡ wanted → comes_last wanted ≡ false → IsTrue (comes_last status) → ⊥

@@ -14,8 +14,7 @@ use Rattle.um_syntax.proofs.Whole.{unique_tokens, unique_fault}
 use Rattle.um_types.specs.declared.parse.ParseStop.{ParseStop}
 use Rattle.um_types.specs.declared.parse.ParseStop.TheVariants as parse_stop
 use Rattle.um_parse.specs.Parsed.{IsRead, Parsed}
-use Rattle.um_parse.specs.Laws.{AreSameAnswer}
-use Rattle.um_parse.proofs.ProgramExact.{one_answer}
+use Rattle.um_parse.specs.Laws.{AreSameAnswer, AnswersAreUnique as ParsesAreUnique}
 use Rattle.um_measures.specs.declared.stop.NameStop.{NameStop}
 use Rattle.um_measures.specs.declared.stop.NameStop.TheVariants as name_stop
 use Rattle.um_measures.specs.Faults.{Fault, unknown, twice, wrong_count, hole, range, Found}
@@ -104,7 +103,7 @@ module _ (bytes text : List ℕ) (status : Status) where
   text_told (text_stop.PowerText at) is reply = inr (lex_stop.PowerText at, is.0, is.1, reply)
   text_told text_stop.NoMemory is reply = absurd reply
 
-module _ (text other : List ℕ) (status another : Status) where
+module _ (one_answer : ParsesAreUnique) (text other : List ℕ) (status another : Status) where
   -- ---- a refusal of the characters is one
   longest_valid : (bytes : List ℕ) (at place : ℕ) → IsValidUpTo bytes at → IsValidUpTo bytes place → at ≡ place
   longest_valid bytes at place a b = by (cases_lt at place) (cases_lt place at)
@@ -225,9 +224,10 @@ module _ (text other : List ℕ) (status another : Status) where
   unfolding OrderAnswer
   order_one words bytes a b = ordered_one (order_of words) words bytes a b
 
-pub answers_are_one : AnswersAreUnique
+-- where `parse` has one answer to each list of tokens
+pub answers_are_one : ParsesAreUnique → AnswersAreUnique
 unfolding Answer
-answers_are_one words bytes text other status another (inl (unbuilt, a)) (inl (also, b)) = (a.0 ∙ sym b.0, a.1 ∙ sym b.1)
-answers_are_one words bytes text other status another (inl (unbuilt, a)) (inr (built, b)) = absurd (built unbuilt)
-answers_are_one words bytes text other status another (inr (built, a)) (inl (unbuilt, b)) = absurd (built unbuilt)
-answers_are_one words bytes text other status another (inr (built, a)) (inr (also, b)) = order_one text other status another words bytes a b
+answers_are_one one words bytes text other status another (inl (unbuilt, a)) (inl (also, b)) = (a.0 ∙ sym b.0, a.1 ∙ sym b.1)
+answers_are_one one words bytes text other status another (inl (unbuilt, a)) (inr (built, b)) = absurd (built unbuilt)
+answers_are_one one words bytes text other status another (inr (built, a)) (inl (unbuilt, b)) = absurd (built unbuilt)
+answers_are_one one words bytes text other status another (inr (built, a)) (inr (also, b)) = order_one one text other status another words bytes a b

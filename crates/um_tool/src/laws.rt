@@ -20,4 +20,6 @@ pub fn places_are_lines_and_columns()
 /// Two texts and statuses that answer the same words and bytes are equal.
 pub fn answers_are_unique()
     ensures { AnswersAreUnique }
-{}
+{
+    um_parse::laws::answers_are_unique();
+}
