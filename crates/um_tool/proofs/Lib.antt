@@ -4,3 +4,4 @@ pub mod Complete
 pub mod PlaceLaws
 pub mod PrintedSchemes
 pub mod UniqueAnswers
+pub mod SchemesPrinted
