@@ -19,6 +19,11 @@ ghost use Rattle.um_frac.specs.Laws.{
   QuotientIsExact,
   QuotientByZero,
   QuotientOverflows,
+  WholePowerIsExact,
+  WholePowerOfZero,
+  WholePowerOverflows,
+  PowerZeroIsOne,
+  PowersOfProducts,
   NegationIsExact,
   SameIsEqual,
   OrderIsIrreflexive,
@@ -76,6 +81,16 @@ pub fn quotients()
     ensures exact { QuotientIsExact }
     ensures zero { QuotientByZero }
     ensures overflow { QuotientOverflows }
+{}
+
+/// A whole power is the number that the powers of the parts say; a negative power of 0 is a trap of its own, and the
+/// power 0 of every number is 1. A power of a product is the product of the powers.
+pub fn whole_powers()
+    ensures exact { WholePowerIsExact }
+    ensures zero { WholePowerOfZero }
+    ensures overflow { WholePowerOverflows }
+    ensures power_zero { PowerZeroIsOne }
+    ensures products { PowersOfProducts }
 {}
 
 /// The negation has the numerator with the other sign and the same denominator.
