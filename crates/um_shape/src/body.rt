@@ -52,7 +52,9 @@ pub(crate) fn shape_of(
             let part = shape_of(alloc, known, scope, a)?;
             known.at_node(at, known.field(*r, *k, part))
         }
-        Node::Neg(a) => asked_shape(alloc, known, scope, at, a, FlatShape::number()),
+        Node::Neg(a) | Node::Pow(a, _) => {
+            asked_shape(alloc, known, scope, at, a, FlatShape::number())
+        }
         Node::Not(a) => asked_shape(alloc, known, scope, at, a, FlatShape::truth()),
         Node::Arith(_, a, b) => numbers_shape(alloc, known, scope, at, a, b, FlatShape::number()),
         Node::Compare(_, a, b) => numbers_shape(alloc, known, scope, at, a, b, FlatShape::truth()),
