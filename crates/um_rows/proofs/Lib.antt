@@ -36,4 +36,5 @@ pub mod EquationLaws
 pub mod BodyLaws
 mod InputLoops
 pub mod ProgramRows
+pub mod RightShapes
 pub mod ProgramCalls
