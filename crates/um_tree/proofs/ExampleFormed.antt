@@ -1,5 +1,5 @@
 -- Formed and not formed programs: one that uses every node is formed, and each condition is broken once.
-use Rattle.std.proofs.Common.{◌≡◌, ◌≢◌, refl, sym, ap, subst, ◌∙◌, inl, inr, ℕ, zero, suc, Bool, true, false, not, nat_eq, List, [], ◌∷◌, pos, Some, None, length, slice_get, get_or, codes, nat_lt, lit<, lit≤, encode_utf8_all, arith}
+use Rattle.std.proofs.Common.{◌≡◌, ◌≢◌, refl, sym, ap, subst, ◌∙◌, inl, inr, ℕ, zero, suc, Bool, true, false, not, nat_eq, List, [], ◌∷◌, pos, negsuc, Some, None, length, slice_get, get_or, codes, nat_lt, lit<, lit≤, encode_utf8_all, arith}
 use Rattle.std.specs.Prelude.{All, ◌==◌}
 use Rattle.std.specs.List.{list_all}
 use Rattle.std.proofs.lemmas.Int.{ints}
