@@ -393,7 +393,7 @@ too_many_nodes : (p : ProgramTree) (i : ℕ) (f : FunctionTree) → tree_nodes f
 too_many_nodes p i f e w = let low = w.nodes in absurd (omega (arith, e, low))
 
 -- the heights at the limit: `([] : T)` counts 3, and each other node one more than its highest part
-heights : tree_height unit_one ∷ tree_height (nil 0 (list_note (num_note Hole))) ∷ tree_height other_nodes.body ∷ tree_nodes other_nodes.body ∷ [] ≡ 1 ∷ 3 ∷ 7 ∷ 25 ∷ []
+heights : tree_height unit_one ∷ tree_height (nil 0 (list_note (num_note Hole))) ∷ tree_height other_nodes.body ∷ tree_nodes other_nodes.body ∷ [] ≡ 1 ∷ 3 ∷ 7 ∷ 26 ∷ []
 heights = refl
 
 unknown_variable_in_param : IsFormedFunction (with_functions []) 0 (plain (num_note (Written (atom (Var 0))) ∷ []) unit_one) → ⊥
