@@ -36,5 +36,6 @@ pub mod EquationLaws
 pub mod BodyLaws
 mod InputLoops
 pub mod ProgramRows
-pub mod RightShapes
+mod RightShapes
+pub mod TypedShapes
 pub mod ProgramCalls

@@ -28,8 +28,7 @@ use Rattle.um_rows.specs.Holes.{unit_holes, note_holes, notes_holes, Callee, kno
 use Rattle.um_rows.specs.Rules.{Derived, AllDerived, after, formed, asks_bool, asks_list, item, asks_zero, number_rule, local_rule, call_rule, negate_rule, not_rule, pown_rule, truths_rule, units_rule, arith_rule, compare_rule, if_rule, split_rule, nil_rule, list_rule, cons_rule, record_rule, declared_rule, found_rule, field_rule}
 use Rattle.um_rows.specs.Derivation.{first_units, noted_unit, noted_units, noted_type, noted_types, offered, derive, derive_all}
 use Rattle.um_rows.specs.Equations.{known_function, may_recur, callee, head_holes, noted_result, result_rows, own_signature, head_steps, equations}
-use Rattle.um_rows.specs.RightShapes.{HaveRightShapes, IsOfShape, AreOfShapes, SchemeHasShapes, SchemesHaveShapes}
-use Rattle.um_rows.specs.Laws.{ShapedFunctionsFormNoWrongShape}
+use Rattle.um_rows.specs.RightShapes.{HaveRightShapes, IsOfShape, AreOfShapes}
 use Rattle.um_rows.proofs.FunctionLaws.{recurs_test}
 use Rattle.um_rows.proofs.SlotLaws.{length-first}
 
@@ -52,7 +51,7 @@ units_are_right at (u ∷ us) [] e = absurd (omega (arith, e))
 
 module _ (records : List RecordTree) where
   -- ---- types that have shapes
-  is_put : (s : ℕ → PowerMap) (t : TypeTree) (r : ShapeTree) → IsOfShape records t r → IsOfShape records (put s t) r
+  pub is_put : (s : ℕ → PowerMap) (t : TypeTree) (r : ShapeTree) → IsOfShape records t r → IsOfShape records (put s t) r
   is_put s bool_type bool_shape h = tt
   is_put s (num_type u) num_shape h = tt
   is_put s (list_type t) (list_shape r) h = is_put s t r h
@@ -65,7 +64,7 @@ module _ (records : List RecordTree) where
   are_put s [] (r ∷ rs) h = absurd h
   are_put s (t ∷ ts) [] h = absurd h
 
-  are_append : (ts ss : List TypeTree) (rs qs : List ShapeTree) → AreOfShapes records ts rs → AreOfShapes records ss qs → AreOfShapes records (ts ++ ss) (rs ++ qs)
+  pub are_append : (ts ss : List TypeTree) (rs qs : List ShapeTree) → AreOfShapes records ts rs → AreOfShapes records ss qs → AreOfShapes records (ts ++ ss) (rs ++ qs)
   are_append [] ss [] qs h k = k
   are_append (t ∷ ts) ss (r ∷ rs) qs h k = (h.0, are_append ts ss rs qs h.1 k)
   are_append [] ss (r ∷ rs) qs h k = absurd h
@@ -83,7 +82,7 @@ module _ (records : List RecordTree) where
   are_declared bases vars P in_type (f ∷ fs) h =
       (is_declared bases vars f.type (in_type f.type (All-head (λ f. P f.type) f fs h)), are_declared bases vars P in_type fs (All-tail (λ f. P f.type) f fs h))
 
-  is_at : (ts : List TypeTree) (k : ℕ) (t : TypeTree) → AreOfShapes records ts (map type_shape ts) → slice_get ts k ≡ Some t → IsOfShape records t (type_shape t)
+  pub is_at : (ts : List TypeTree) (k : ℕ) (t : TypeTree) → AreOfShapes records ts (map type_shape ts) → slice_get ts k ≡ Some t → IsOfShape records t (type_shape t)
   is_at [] zero t h e = absurd cc
   is_at [] (suc k) t h e = absurd cc
   is_at (s ∷ ts) zero t h e = let same : s ≡ t = cc in subst (λ x. IsOfShape records x (type_shape x)) same h.0
@@ -232,11 +231,19 @@ module _ (records : List RecordTree) where
         (formed_is_right [] (put (unit_at us) declared) (type_shape declared) tt (is_put (unit_at us) declared (type_shape declared) is)))))
     field_right r k d declared t found stands is h = absurd h
 
+-- the scheme of function j has these shapes
+pub record SchemeHasShapes (records : List RecordTree) (schemes : List SchemeTree) (j : ℕ) (g : ShapeSignature) : Type 0 where
+  pub scheme : SchemeTree
+  pub stands : slice_get schemes j ≡ Some scheme
+  pub params : AreOfShapes records scheme.signature.params g.params
+  pub result : IsOfShape records scheme.signature.result g.result
+
+-- the declared types of a formed record's fields
+pub fields_are : (p : ProgramTree) → IsFormed p → (r : ℕ) (d : RecordTree) → slice_get p.records r ≡ Some d → AreOfShapes p.records (field_types d) (map type_shape (field_types d))
+fields_are p well r d e = are_declared p.records (length p.bases) d.units (IsFieldType p r d.units) (λ t h. h.0) d.fields (well.records r d e).fields
+
 -- ---- expressions of a formed function
 module _ (p : ProgramTree) (i : ℕ) (f : FunctionTree) (well : IsFormed p) (holes names : ℕ → PowerMap) where
-  fields_are : (r : ℕ) (d : RecordTree) → slice_get p.records r ≡ Some d → AreOfShapes p.records (field_types d) (map type_shape (field_types d))
-  fields_are r d e = are_declared p.records (length p.bases) d.units (IsFieldType p r d.units) (λ t h. h.0) d.fields (well.records r d e).fields
-
   length-noted : (n : ℕ) (ms : List UnitNote) → length (noted_units holes names n ms) ≡ length ms
   length-noted n [] = refl
   length-noted n (m ∷ ms) = ap suc (length-noted (n + unit_holes m) ms)
@@ -357,12 +364,12 @@ module _ (p : ProgramTree) (i : ℕ) (f : FunctionTree) (well : IsFormed p) (hol
           let parts = all_right (n + c) m vars ss es (map type_shape (field_types h.0)) v w.1 h.2 in
           let units : length us ≡ h.0.units = length-first c (λ k. holes (n + k)) ∙ ap record_holes h.1 in
           after_is_right p.records ds.steps (record_rule at r us (slice_get p.records r) ds.types) s parts.1
-          (subst (Is (record_rule at r us (slice_get p.records r) ds.types)) (sym h.3) (record_right p.records at r us h.0 ds.types h.1 units (fields_are r h.0 h.1) parts.0))
+          (subst (Is (record_rule at r us (slice_get p.records r) ds.types)) (sym h.3) (record_right p.records at r us h.0 ds.types h.1 units (fields_are p well r h.0 h.1) parts.0))
       right n m vars ss (field at r k a) s v w h =
           let x = at_number n vars a in
           let part = right n m vars ss a (record_shape r) v w.1 h.4 in
           let rule = field_rule at r k (slice_get p.records r) x.type in
-          let is = is_at p.records (field_types h.0) k h.1 (fields_are r h.0 h.2) h.3 in
+          let is = is_at p.records (field_types h.0) k h.1 (fields_are p well r h.0 h.2) h.3 in
           after_is_right p.records x.steps rule s part.1 (subst (Is rule) (sym h.5) (field_right p.records at r k h.0 h.1 x.type h.2 h.3 is part.0))
 
       all_right : (n m : ℕ) (vars : List TypeTree) (ss : List ShapeTree) (es : ExprTrees) (rs : List ShapeTree) → AreOfShapes p.records vars ss → AllFormedIn p i f m es → AllHaveShapes p.records calls ss es rs →
@@ -376,7 +383,7 @@ module _ (p : ProgramTree) (i : ℕ) (f : FunctionTree) (well : IsFormed p) (hol
           (subst (AreOfShapes p.records (x.type ∷ ds.types)) (sym h.4) (first.0, rest.0), right_append x.steps ds.steps first.1 rest.1)
 
   -- ---- what calls are offered
-  module _ (schemes : List SchemeTree) (have : SchemesHaveShapes p schemes i) (declared : slice_get p.functions i ≡ Some f) (g : ShapeSignature) (shaped : FunctionShape p i g) where
+  module _ (schemes : List SchemeTree) (have : (j : ℕ) (c : ShapeSignature) → j < i → FunctionShape p j c → SchemeHasShapes p.records schemes j c) (declared : slice_get p.functions i ≡ Some f) (g : ShapeSignature) (shaped : FunctionShape p i g) where
     abbrev own : Signature
     own = own_signature holes names f
 
@@ -406,7 +413,7 @@ module _ (p : ProgramTree) (i : ℕ) (f : FunctionTree) (well : IsFormed p) (hol
     result_is_right n t None w h k = tt
     result_is_right n t (Some note) w h k = against_is_right p.records f.at t (noted_type holes names n note) g.result k (own_result n (Some note) refl w h)
 
-    equations_are_right : HaveRightShapes (equations holes names p.records schemes i f).steps
+    pub equations_are_right : HaveRightShapes (equations holes names p.records schemes i f).steps
     equations_are_right =
         let shapes = its_shapes p i f g declared shaped in
         let is = well.functions i f declared in
@@ -417,7 +424,3 @@ module _ (p : ProgramTree) (i : ℕ) (f : FunctionTree) (well : IsFormed p) (hol
         let last = result_is_right n body.type f.result is.result shapes.result inside.0 in
         right_append (head_steps holes names f) (body.steps ++ result_rows holes names f.at body.type n f.result) (right_types_at f.at (params ++ noted_result holes names n f.result ∷ []))
         (right_append body.steps (result_rows holes names f.at body.type n f.result) inside.1 last)
-
-pub shaped_functions_form_no_wrong_shape : ShapedFunctionsFormNoWrongShape
-shaped_functions_form_no_wrong_shape p schemes i f g well declared shaped have =
-    equations_are_right p i f well _ _ schemes have declared g shaped

@@ -17,7 +17,7 @@ use Rattle.um_rows.specs.Solutions.{function_rows, slot_signature, IsSolved, Hav
 use Rattle.um_rows.specs.FirstUnsolvable.{IsFirstUnsolvable}
 use Rattle.um_rows.specs.CallEquations.{call_function}
 use Rattle.um_rows.specs.Judgement.{has_scheme, has_no_typing, judge}
-use Rattle.um_rows.specs.RightShapes.{HaveRightShapes, SchemesHaveShapes}
+use Rattle.um_rows.specs.RightShapes.{HaveRightShapes}
 
 -- a signature is a typing of function i, whose literals are closed, exactly where some joint solution of the function's
 -- rows gives it
@@ -75,9 +75,9 @@ JudgedUntypedCallsHaveNone =
 
 -- ---- shapes
 
--- a function that has its shapes forms no step for a wrong shape, where the schemes before it have their shapes
+-- a function of a formed program that has its shapes forms no step for a wrong shape
 abbrev pub ShapedFunctionsFormNoWrongShape : Type 0
 ShapedFunctionsFormNoWrongShape =
     (p : ProgramTree) (schemes : List SchemeTree) (i : ℕ) (f : FunctionTree) (g : ShapeSignature) →
-    IsFormed p → slice_get p.functions i ≡ Some f → FunctionShape p i g → SchemesHaveShapes p schemes i →
+    IsFormed p → slice_get p.functions i ≡ Some f → FunctionShape p i g → HaveSchemes p schemes i →
     HaveRightShapes (slot_equations p.records schemes i f).steps

@@ -1,10 +1,9 @@
 -- Steps that stand for no wrong shape, and types that have a shape.
 -- Source: this project's own; shapes are types without their units.
-use Rattle.std.specs.Prelude.{◌≡◌, ◌<◌, ℕ, List, [], ◌∷◌, length, Some, slice_get}
+use Rattle.std.specs.Prelude.{◌≡◌, List, [], ◌∷◌, length}
 use Rattle.um_tree.specs.TypeTree.{TypeTree, bool_type, num_type, list_type, record_type, ShapeTree, bool_shape}
 use Rattle.um_tree.specs.TypeTree.{num_shape, list_shape, record_shape}
-use Rattle.um_tree.specs.ProgramTree.{RecordTree, ProgramTree, SchemeTree}
-use Rattle.um_tree.specs.Shapes.{ShapeSignature, FunctionShape}
+use Rattle.um_tree.specs.ProgramTree.{RecordTree}
 use Rattle.um_tree.specs.Formed.{TakesUnits}
 use Rattle.um_rows.specs.Steps.{Step, row_at, wrong_shape_at, type_at}
 
@@ -29,15 +28,3 @@ module _ (records : List RecordTree) where
   AreOfShapes [] [] = Unit {0}
   AreOfShapes (t ∷ ts) (s ∷ ss) = IsOfShape t s × AreOfShapes ts ss
   AreOfShapes ts ss = ⊥
-
--- the scheme of function j has these shapes
-pub record SchemeHasShapes (records : List RecordTree) (schemes : List SchemeTree) (j : ℕ) (g : ShapeSignature) : Type 0 where
-  pub scheme : SchemeTree
-  pub stands : slice_get schemes j ≡ Some scheme
-  pub params : AreOfShapes records scheme.signature.params g.params
-  pub result : IsOfShape records scheme.signature.result g.result
-
--- the scheme of each function before i has the shapes of its function
-abbrev pub SchemesHaveShapes : ProgramTree → List SchemeTree → ℕ → Type 0
-SchemesHaveShapes p schemes i =
-    (j : ℕ) (g : ShapeSignature) → j < i → FunctionShape p j g → SchemeHasShapes p.records schemes j g

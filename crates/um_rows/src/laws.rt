@@ -38,8 +38,7 @@ pub fn calls()
     ensures refusals { JudgedUntypedCallsHaveNone }
 {}
 
-/// A function that has its shapes forms no step for a wrong shape, where the schemes before it have the shapes of their
-/// functions.
+/// A function of a formed program that has its shapes forms no step for a wrong shape.
 pub fn right_shapes()
     ensures { ShapedFunctionsFormNoWrongShape }
 {}
