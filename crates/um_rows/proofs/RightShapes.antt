@@ -55,7 +55,7 @@ module _ (records : List RecordTree) where
   is_put s bool_type bool_shape h = tt
   is_put s (num_type u) num_shape h = tt
   is_put s (list_type t) (list_shape r) h = is_put s t r h
-  is_put s (record_type q us) (record_shape r) h = (h.0, h.1.0, h.1.1, length-map us (replace s) ∙ h.1.2)
+  is_put s (record_type q us) (record_shape r) h = (h.0, (h.1.0, h.1.1, length-map us (replace s) ∙ h.1.2))
   is_put s t r h = absurd h
 
   are_put : (s : ℕ → PowerMap) (ts : List TypeTree) (rs : List ShapeTree) → AreOfShapes records ts rs → AreOfShapes records (map (put s) ts) rs
@@ -133,6 +133,11 @@ module _ (records : List RecordTree) where
   after_is_right : (ss : List Step) (d : Derived) (s : ShapeTree) → HaveRightShapes ss → IsRight d s → IsRight (after ss d) s
   after_is_right ss d s h k = (k.0, right_append ss d.steps h k.1)
 
+  -- a signature that is offered to a call has its shapes
+  abbrev IsOffer : Option Signature → ShapeSignature → Type 0
+  IsOffer None g = ⊥
+  IsOffer (Some f) g = AreOfShapes records f.params g.params × IsOfShape records f.result g.result
+
   module _ (at : ℕ) where
     formed_is_right : (rows : List Step) (t : TypeTree) (s : ShapeTree) → HaveRightShapes rows → IsOfShape records t s → IsRight (formed at rows t) s
     formed_is_right rows t s h k = (k, right_append rows (type_at at t ∷ []) h tt)
@@ -156,11 +161,6 @@ module _ (records : List RecordTree) where
     local_right (suc k) (t ∷ ts) (r ∷ rs) s h e = local_right k ts rs s h.1 e
     local_right k [] (r ∷ rs) s h e = absurd h
     local_right k (t ∷ ts) [] s h e = absurd h
-
-    -- a signature that is offered to a call has its shapes
-    abbrev IsOffer : Option Signature → ShapeSignature → Type 0
-    IsOffer None g = ⊥
-    IsOffer (Some f) g = AreOfShapes records f.params g.params × IsOfShape records f.result g.result
 
     call_right : (o : Option Signature) (g : ShapeSignature) (ts : List TypeTree) → IsOffer o g → AreOfShapes records ts g.params → IsRight (call_rule at o ts) g.result
     call_right None g ts h k = absurd h
@@ -218,7 +218,7 @@ module _ (records : List RecordTree) where
     record_right r us d ts found units declared h =
         let fields = map (put (unit_at us)) (field_types d) in
         subst (λ o. IsRight (record_rule at r us o ts) (record_shape r)) (sym found)
-        (formed_is_right (types_against at fields ts) (record_type r us) (record_shape r) (types_against_are_right at fields ts (map type_shape (field_types d)) (are_put (unit_at us) (field_types d) _ declared) h) (refl, d, found, units))
+        (formed_is_right (types_against at fields ts) (record_type r us) (record_shape r) (types_against_are_right at fields ts (map type_shape (field_types d)) (are_put (unit_at us) (field_types d) _ declared) h) (refl, (d, found, units)))
 
     field_right : (r k : ℕ) (d : RecordTree) (declared t : TypeTree) → slice_get records r ≡ Some d → slice_get (field_types d) k ≡ Some declared → IsOfShape records declared (type_shape declared) → IsOfShape records t (record_shape r) →
         IsRight (field_rule at r k (slice_get records r) t) (type_shape declared)
@@ -252,13 +252,13 @@ module _ (p : ProgramTree) (i : ℕ) (f : FunctionTree) (well : IsFormed p) (hol
   is_noted n bool_note h = tt
   is_noted n (num_note m) h = tt
   is_noted n (list_note m) h = is_noted n m h
-  is_noted n (record_note r ms) h = (refl, h.0.0, h.0.1, length-noted n ms ∙ h.0.2)
+  is_noted n (record_note r ms) h = (refl, (h.0.0, h.0.1, length-noted n ms ∙ h.0.2))
 
   are_noted : (n : ℕ) (ms : List NoteTree) → All (IsFormedNote p f) ms → AreOfShapes p.records (noted_types holes names n ms) (map note_shape ms)
   are_noted n [] h = tt
   are_noted n (m ∷ ms) h = (is_noted n m (All-head (IsFormedNote p f) m ms h).0, are_noted (n + note_holes m) ms (All-tail (IsFormedNote p f) m ms h))
 
-  module _ (self : Signature) (callee : ℕ → Callee) (calls : ℕ → ShapeSignature → Type 0) (offers : (n j : ℕ) (g : ShapeSignature) → calls j g → IsOffer p.records n (offered holes names p.records self callee n (callee j)) g) where
+  module _ (self : Signature) (callee : ℕ → Callee) (calls : ℕ → ShapeSignature → Type 0) (offers : (n j : ℕ) (g : ShapeSignature) → calls j g → IsOffer p.records (offered holes names p.records self callee n (callee j)) g) where
     abbrev at_number : ℕ → List TypeTree → ExprTree → Derived
     at_number n vars e = derive holes names p.records self callee n vars e
 
@@ -394,20 +394,20 @@ module _ (p : ProgramTree) (i : ℕ) (f : FunctionTree) (well : IsFormed p) (hol
     own_params : AreOfShapes p.records (noted_types holes names 0 f.params) g.params
     own_params = subst (AreOfShapes p.records (noted_types holes names 0 f.params)) (sym (its_shapes p i f g declared shaped).params) (are_noted 0 f.params (well.functions i f declared).params)
 
-    offers : (n j : ℕ) (c : ShapeSignature) → CallShapes (shapes_below p i) i f g j c → IsOffer p.records n (offered holes names p.records own (callee schemes i f) n (callee schemes i f j)) c
+    offers : (n j : ℕ) (c : ShapeSignature) → CallShapes (shapes_below p i) i f g j c → IsOffer p.records (offered holes names p.records own (callee schemes i f) n (callee schemes i f j)) c
     offers n j c (inl h) =
         let k = have j c h.0 ((earlier_shapes_are p i j c h.0).0 h.1) in
         let is : callee schemes i f j ≡ known_by k.scheme = ap (λ b. cond b (known_function (slice_get schemes j)) (cond (eqb j i && may_recur f) itself nobody)) (lt-ltb j i h.0) ∙ ap known_function k.stands in
         let s = λ (x : ℕ). holes (n + x) in
-        subst (λ a. IsOffer p.records n (offered holes names p.records own (callee schemes i f) n a) c) (sym is) (are_put p.records s k.scheme.signature.params c.params k.params, is_put p.records s k.scheme.signature.result c.result k.result)
+        subst (λ a. IsOffer p.records (offered holes names p.records own (callee schemes i f) n a) c) (sym is) (are_put p.records s k.scheme.signature.params c.params k.params, is_put p.records s k.scheme.signature.result c.result k.result)
     offers n j c (inr h) =
         let later : ltb j i ≡ false = let same = h.0 in grind (arith, nat_tests, same) in
         let test : eqb j i && may_recur f ≡ true = and_from _ _ (eq-eqb j i h.0) (recurs_test f h.1) in
         let is : callee schemes i f j ≡ itself = ap (λ b. cond b (known_function (slice_get schemes j)) (cond (eqb j i && may_recur f) itself nobody)) later ∙ ap (λ b. cond b itself nobody) test in
         let shapes = its_shapes p i f g declared shaped in
         let result = own_result (notes_holes f.params) f.result h.1.noted (well.functions i f declared).result shapes.result in
-        subst (λ (x : ShapeSignature). IsOffer p.records n (offered holes names p.records own (callee schemes i f) n (callee schemes i f j)) x) (sym h.2)
-        (subst (λ a. IsOffer p.records n (offered holes names p.records own (callee schemes i f) n a) g) (sym is) (own_params, result))
+        subst (λ (x : ShapeSignature). IsOffer p.records (offered holes names p.records own (callee schemes i f) n (callee schemes i f j)) x) (sym h.2)
+        (subst (λ a. IsOffer p.records (offered holes names p.records own (callee schemes i f) n a) g) (sym is) (own_params, result))
 
     result_is_right : (n : ℕ) (t : TypeTree) (o : Option NoteTree) → ResultFormed p f o → ResultShape o g.result → IsOfShape p.records t g.result → HaveRightShapes (result_rows holes names f.at t n o)
     result_is_right n t None w h k = tt

@@ -48,15 +48,9 @@ module _ (records : List RecordTree) where
   found (x ∷ ts) (s ∷ ss) (suc k) t h e = found ts ss k t h.1 e
   found (x ∷ ts) [] k t h e = absurd h
 
-  item_has : (t : TypeTree) → HasShapeOf (list_type t) → HasShapeOf t
-  item_has t (list_shape s, h) = (s, h)
-  item_has t (bool_shape, h) = absurd h
-  item_has t (num_shape, h) = absurd h
-  item_has t (record_shape r, h) = absurd h
-
-  first_has : (t : TypeTree) (ts : List TypeTree) → HaveShapesOf (t ∷ ts) → HasShapeOf t
-  first_has t ts (s ∷ ss, h) = (s, h.0)
-  first_has t ts ([], h) = absurd h
+  first_has : (t : TypeTree) (ts : List TypeTree) (ss : List ShapeTree) → AreOfShapes records (t ∷ ts) ss → HasShapeOf t
+  first_has t ts (s ∷ ss) h = (s, h.0)
+  first_has t ts [] h = absurd h
 
   wider : (vars : List TypeTree) (t : TypeTree) → HaveShapesOf vars → HasShapeOf t → HaveShapesOf (vars ++ t ∷ [])
   wider vars t v h = (v.0 ++ h.0 ∷ [], are_append records vars (t ∷ []) v.0 (h.0 ∷ []) v.1 (h.1, tt))
@@ -66,7 +60,7 @@ module _ (records : List RecordTree) where
   is_put_back s bool_type bool_shape h = tt
   is_put_back s (num_type u) num_shape h = tt
   is_put_back s (list_type t) (list_shape r) h = is_put_back s t r h
-  is_put_back s (record_type q us) (record_shape r) h = (h.0, h.1.0, h.1.1, sym (length-map us (replace s)) ∙ h.1.2)
+  is_put_back s (record_type q us) (record_shape r) h = (h.0, (h.1.0, h.1.1, sym (length-map us (replace s)) ∙ h.1.2))
   is_put_back s t r h = absurd h
 
   are_put_back : (s : ℕ → PowerMap) (ts : List TypeTree) (rs : List ShapeTree) → AreOfShapes records (map (put s) ts) rs → AreOfShapes records ts rs
@@ -87,7 +81,7 @@ matches_has bases vars records choice (list_note n) t w h =
     let item = matches_has bases vars records choice n h.0 w h.1 in
     subst (HasShapeOf records) (sym h.2) (list_shape item.0, item.1)
 matches_has bases vars records choice (record_note r ns) t w h =
-    subst (HasShapeOf records) (sym h.2) (record_shape r, (refl, w.0.0, w.0.1, units_match_length choice ns h.0 h.1 ∙ w.0.2))
+    subst (HasShapeOf records) (sym h.2) (record_shape r, (refl, (w.0.0, w.0.1, units_match_length choice ns h.0 h.1 ∙ w.0.2)))
 
 module _ (p : ProgramTree) (well : IsFormed p) where
   abbrev Has : TypeTree → Type 0
@@ -123,10 +117,11 @@ module _ (p : ProgramTree) (well : IsFormed p) where
       has m vars (split at l a b) t v w h = has m vars a t v w.1 h.2
       has m vars (nil at n) t v w h = subst Has (sym h.2) (matches_has (length p.bases) f.named p.records choice n (list_type h.0) w.0 h.1)
       has m vars (list_expr at es) t v w h =
-          let item = first_has p.records h.0 h.1 (all_have m vars es (h.0 ∷ h.1) v w.1 h.2) in
+          let items = all_have m vars es (h.0 ∷ h.1) v w.1 h.2 in
+          let item = first_has p.records h.0 h.1 items.0 items.1 in
           subst Has (sym h.4) (list_shape item.0, item.1)
       has m vars (cons at a b) t v w h = subst Has (sym h.3) (has m vars b (list_type h.0) v w.1 h.2)
-      has m vars (record_expr at r es) t v w h = subst Has (sym h.4) (record_shape r, (refl, h.1, h.2.declared, h.2.units))
+      has m vars (record_expr at r es) t v w h = subst Has (sym h.4) (record_shape r, (refl, (h.1, h.2.declared, h.2.units)))
       has m vars (field at r k a) t v w h =
           let declared = is_at p.records (field_types h.1) k h.2 (fields_are p well r h.1 h.3.declared) h.4 in
           subst Has (sym h.6) (type_shape h.2, is_put p.records (unit_at h.0) h.2 (type_shape h.2) declared)
