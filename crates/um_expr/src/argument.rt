@@ -54,7 +54,10 @@ fn more_arguments(frames: &mut Frames, operand: Operand) -> Result<(), AllocErro
 {
     match frames.pop() {
         Some(frame) => add_argument(frames, frame, operand),
-        None => Ok(()),
+        None => {
+            drop(operand);
+            Ok(())
+        }
     }
 }
 

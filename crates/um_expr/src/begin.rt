@@ -167,6 +167,7 @@ pub fn after_greater(
             if glued {
                 opened(frames, Frame::InRight(place, sign, left))
             } else {
+                drop(left);
                 Ok(Step::Stops(None))
             }
         }

@@ -1,6 +1,7 @@
 // One token inside a run of tokens that is fixed.
 ghost use Rattle.std.specs.Prelude.{◌≡◌, IfOk, None};
 ghost use Rattle.um_tree.specs.RawTree.{binder_syntax};
+ghost use Rattle.um_expr.specs.declared.focus.Step.TheVariants.{Stops};
 ghost use Rattle.um_expr.specs.ExprMachine.{LetBinder, LetEqual, FieldName, FieldEqual, DotName, ArmBegin, ArmOpen, ArmClose, ArmArrow, HeadBinder, HeadCons, TailBinder, TailArrow, NilColon, inside};
 ghost use Rattle.um_expr.specs.ExprOperands.{operand_expr, read_fields};
 ghost use Rattle.um_expr.specs.ExprStack.{frames_of};
@@ -18,6 +19,23 @@ use std::alloc::{AllocError, Global};
 use um_syntax::Symbol;
 use um_tree::{Binder, Name, Sign};
 use um_types::TypeReader;
+
+// A token that can't stand here behind this operand. A value that holds a tree goes by a call: its drop would else be written
+// out, and proved, in each caller.
+fn refuse_behind(kind: ExprToken, list: Operand) -> Step
+    ensures { result ≡ Stops None }
+{
+    drop(list);
+    refuse_token(kind)
+}
+
+// The same behind two operands.
+fn refuse_behind_both(kind: ExprToken, list: Operand, empty: Operand) -> Step
+    ensures { result ≡ Stops None }
+{
+    drop(empty);
+    refuse_behind(kind, list)
+}
 
 // Behind `let`
 fn let_binder(frames: &Frames, at: u32, kind: ExprToken, p: u32) -> Step
@@ -100,7 +118,7 @@ fn dot_name(
 {
     match kind {
         ExprToken::Name(name) => Ok(Step::Goes(Focus::Read(operand.field(alloc, at, p, name)?))),
-        other => Ok(refuse_token(other)),
+        other => Ok(refuse_behind(other, operand)),
     }
 }
 
@@ -113,7 +131,7 @@ fn arm_begin(frames: &Frames, at: u32, list: Operand, kind: ExprToken, p: u32) -
         ExprToken::Mark(Symbol::LeftBracket) => Step::Goes(Focus::Inside(Expected::ArmClose(
             at, list,
         ))),
-        other => refuse_token(other),
+        other => refuse_behind(other, list),
     }
 }
 
@@ -125,7 +143,7 @@ fn arm_open(frames: &Frames, at: u32, list: Operand, kind: ExprToken, p: u32) ->
         ExprToken::Mark(Symbol::LeftBracket) => Step::Goes(Focus::Inside(Expected::ArmClose(
             at, list,
         ))),
-        other => refuse_token(other),
+        other => refuse_behind(other, list),
     }
 }
 
@@ -137,7 +155,7 @@ fn arm_close(frames: &Frames, at: u32, list: Operand, kind: ExprToken, p: u32) -
         ExprToken::Mark(Symbol::RightBracket) => Step::Goes(Focus::Inside(Expected::ArmArrow(
             at, list,
         ))),
-        other => refuse_token(other),
+        other => refuse_behind(other, list),
     }
 }
 
@@ -153,7 +171,7 @@ fn arm_arrow(
 {
     match kind {
         ExprToken::Mark(Symbol::Arrow) => opened(frames, Frame::InEmptyArm(at, list)),
-        other => Ok(refuse_token(other)),
+        other => Ok(refuse_behind(other, list)),
     }
 }
 
@@ -180,7 +198,7 @@ fn head_binder(
             let head = Binder { at: p, name: None };
             Step::Goes(Focus::Inside(Expected::HeadCons(at, list, empty, head)))
         }
-        other => refuse_token(other),
+        other => refuse_behind_both(other, list, empty),
     }
 }
 
@@ -200,7 +218,7 @@ fn head_cons(
         ExprToken::Operator(Infix::Cons) => {
             Step::Goes(Focus::Inside(Expected::TailBinder(at, list, empty, head)))
         }
-        other => refuse_token(other),
+        other => refuse_behind_both(other, list, empty),
     }
 }
 
@@ -228,7 +246,7 @@ fn tail_binder(
             let tail = Binder { at: p, name: None };
             Step::Goes(Focus::Inside(Expected::TailArrow(at, list, empty, head, tail)))
         }
-        other => refuse_token(other),
+        other => refuse_behind_both(other, list, empty),
     }
 }
 
@@ -250,7 +268,7 @@ fn tail_arrow(
             frames,
             Frame::InFullArm(at, list, empty, head, tail),
         ),
-        other => Ok(refuse_token(other)),
+        other => Ok(refuse_behind_both(other, list, empty)),
     }
 }
 

@@ -3,6 +3,7 @@
 
 mod argument;
 mod begin;
+mod boxes;
 mod closing;
 mod ending;
 mod expected;

@@ -8,6 +8,7 @@ ghost use Rattle.um_types.specs.UnitStops.{greatest_height};
 ghost use Rattle.um_expr.specs.ExprHeights.{notes_in, written_height};
 ghost use Rattle.um_expr.specs.Ranks.{infix_text};
 
+use crate::boxes::{boxed_three, boxed_two};
 use crate::infix::Infix;
 use crate::node::composite;
 use std::alloc::{AllocError, Global};
@@ -133,9 +134,8 @@ impl Operand {
         ensures { IfOk result (λ p. operand_expr p ≡ infix_text at sign (operand_expr self) (operand_expr right)) }
     {
         let Operand { tree, height } = self;
-        let left = Box::new(alloc, tree)?;
         let height = one_higher(higher(height, right.height));
-        let right = Box::new(alloc, right.tree)?;
+        let (left, right) = boxed_two(alloc, tree, right.tree)?;
         let node = match sign {
             Infix::Or => RawNode::Or(left, right),
             Infix::And => RawNode::And(left, right),
@@ -160,10 +160,12 @@ impl Operand {
         ensures { IfOk result (λ p. operand_expr p ≡ let_syntax at (binder_syntax x) (operand_expr self) (operand_expr body)) }
     {
         let Operand { tree, height } = self;
-        let node = RawNode::Let(x, Box::new(alloc, tree)?, Box::new(alloc, body.tree)?);
+        let height = one_higher(higher(height, body.height));
+        let (value, body) = boxed_two(alloc, tree, body.tree)?;
+        let node = RawNode::Let(x, value, body);
         Ok(Operand {
             tree: RawExpr { at, node },
-            height: one_higher(higher(height, body.height)),
+            height,
         })
     }
 
@@ -178,14 +180,12 @@ impl Operand {
         ensures { IfOk result (λ p. operand_expr p ≡ if_syntax at (operand_expr self) (operand_expr one) (operand_expr other)) }
     {
         let Operand { tree, height } = self;
-        let node = RawNode::If(
-            Box::new(alloc, tree)?,
-            Box::new(alloc, one.tree)?,
-            Box::new(alloc, other.tree)?,
-        );
+        let height = one_higher(higher(height, higher(one.height, other.height)));
+        let (test, one, other) = boxed_three(alloc, tree, one.tree, other.tree)?;
+        let node = RawNode::If(test, one, other);
         Ok(Operand {
             tree: RawExpr { at, node },
-            height: one_higher(higher(height, higher(one.height, other.height))),
+            height,
         })
     }
 
@@ -202,16 +202,12 @@ impl Operand {
         ensures { IfOk result (λ p. operand_expr p ≡ match_syntax at (operand_expr self) (operand_expr empty) (binder_syntax head) (binder_syntax tail) (operand_expr full)) }
     {
         let Operand { tree, height } = self;
-        let node = RawNode::Match(
-            Box::new(alloc, tree)?,
-            Box::new(alloc, empty.tree)?,
-            head,
-            tail,
-            Box::new(alloc, full.tree)?,
-        );
+        let height = one_higher(higher(height, higher(empty.height, full.height)));
+        let (list, empty, full) = boxed_three(alloc, tree, empty.tree, full.tree)?;
+        let node = RawNode::Match(list, empty, head, tail, full);
         Ok(Operand {
             tree: RawExpr { at, node },
-            height: one_higher(higher(height, higher(empty.height, full.height))),
+            height,
         })
     }
 
