@@ -19,7 +19,7 @@ use Rattle.um_tree.specs.declared.note.UnitNote.TheVariants.{Hole, Written}
 use Rattle.um_tree.specs.declared.expression.Arith.TheVariants.{Add}
 use Rattle.um_tree.specs.declared.expression.Sign.TheVariants.{Lt}
 use Rattle.um_tree.specs.TypeTree.{TypeTree, num_type, list_type, record_type, NoteTree, num_note, list_note, record_note}
-use Rattle.um_tree.specs.ExprTree.{ExprTree, truth, number, local, call, negate, not_expr, arith as arith_tree, compare, both, either, if, bind, split, nil, list_expr, cons, record_expr, field, none, more}
+use Rattle.um_tree.specs.ExprTree.{ExprTree, truth, number, local, call, negate, not_expr, pown, arith as arith_tree, compare, both, either, if, bind, split, nil, list_expr, cons, record_expr, field, none, more}
 use Rattle.um_tree.specs.ValueTree.{number_input, list_input, no_inputs, more_inputs}
 use Rattle.um_tree.specs.ProgramTree.{FieldTree, RecordTree, FunctionTree, ProgramTree}
 use Rattle.um_tree.specs.TreeHeights.{type_tree_height, note_tree_height, tree_height, tree_nodes}
@@ -174,7 +174,7 @@ other_nodes = record {
   result = Some (num_note Hole);
   body =
       if 0 (both 0 (truth 0 true) (either 0 (compare 0 Lt (local 0 1) unit_one) (not_expr 0 (truth 0 false))))
-      (bind 0 (negate 0 unit_one) (split 0 (list_expr 0 (more (local 0 2) none)) (local 0 2) (cons 0 (local 0 3) (nil 0 (list_note (num_note Hole))))))
+      (bind 0 (negate 0 (pown 0 unit_one (negsuc 1))) (split 0 (list_expr 0 (more (local 0 2) none)) (local 0 2) (cons 0 (local 0 3) (nil 0 (list_note (num_note Hole))))))
       (call 0 1 (more (call 0 0 (more (record_expr 0 0 (more unit_one (more (number 0 zero_number Hole) none))) none)) (more (number 0 one_number (Written metre)) none)));
 }
 
@@ -479,9 +479,10 @@ unknown_field w =
 
 -- each part of a node is looked at
 broken_parts :
-    Broken (negate 0 (local 0 1)) × Broken (not_expr 0 (local 0 1)) × Broken (compare 0 Lt (local 0 0) (local 0 1)) × Broken (both 0 (local 0 1) (local 0 0))
+    Broken (negate 0 (local 0 1)) × Broken (not_expr 0 (local 0 1)) × Broken (pown 0 (local 0 1) (pos 2)) × Broken (compare 0 Lt (local 0 0) (local 0 1)) × Broken (both 0 (local 0 1) (local 0 0))
     × Broken (either 0 (local 0 0) (local 0 1)) × Broken (if 0 (local 0 0) (local 0 1) (local 0 0)) × Broken (cons 0 (local 0 0) (local 0 1)) × Broken (list_expr 0 (more (local 0 0) (more (local 0 1) none)))
 broken_parts = (
+  unknown_variable,
   unknown_variable,
   unknown_variable,
   λ w. unknown_variable w.1,

@@ -10,11 +10,11 @@ use Rattle.um_tree.specs.declared.note.UnitNote.TheVariants.{Hole, Written}
 use Rattle.um_tree.specs.declared.expression.Arith.{Arith}
 use Rattle.um_tree.specs.declared.expression.Arith.TheVariants.{Add, Sub, Mul, Div}
 use Rattle.um_tree.specs.TypeTree.{TypeTree, bool_type, num_type, list_type, record_type, NoteTree, bool_note, num_note, list_note, record_note}
-use Rattle.um_tree.specs.ExprTree.{ExprTree, ExprTrees, truth, number, local, call, negate, not_expr, arith as arith_tree, compare, both, either, if, bind, split, nil, list_expr, cons, record_expr, field, none, more}
+use Rattle.um_tree.specs.ExprTree.{ExprTree, ExprTrees, truth, number, local, call, negate, not_expr, pown, arith as arith_tree, compare, both, either, if, bind, split, nil, list_expr, cons, record_expr, field, none, more}
 use Rattle.um_tree.specs.ProgramTree.{RecordTree, FunctionTree, ProgramTree, Signature}
 use Rattle.um_tree.specs.Typing.{put, unit_at, UnitMatches, UnitsMatch, Matches, TypesMatch, ResultMatches, ArithUnit, LiteralUnit, EachIs, field_types, IsRecordAt, Typed, AllTyped, Earlier, Calls, IsTypingOf, TypingAt, typings_below, Typing}
 use Rattle.um_tree.specs.Laws.{UnitNoteHas, NoteHas, TypeHas, ExprHas, ExprsHave, ResultHas, FunctionHas, ProgramHas, moved, moved_signature, IsHomomorphism, Leaves, Fixes}
-use Rattle.um_tree.proofs.Homomorphisms.{h-one, h-inv, h-replace}
+use Rattle.um_tree.proofs.Homomorphisms.{h-one, h-inv, h-pow, h-replace}
 
 -- ---- lists
 pub slice_get_moved : {A B : Type 0} (f : A → B) (xs : List A) (k : ℕ) (x : A) → slice_get xs k ≡ Some x → slice_get (map f xs) k ≡ Some (f x)
@@ -117,6 +117,7 @@ module _ (h : PowerMap → PowerMap) (h-mul : IsHomomorphism h) where
         typed vars (call at j es) t w m = (map (moved h) m.0, all_typed vars es m.0 w m.1, change j _ m.2)
         typed vars (negate at a) t w m = (h m.0, typed vars a _ w m.1, ap (moved h) m.2)
         typed vars (not_expr at a) t w m = (typed vars a bool_type w m.0, ap (moved h) m.1)
+        typed vars (pown at a k) t w m = (h m.0, typed vars a _ w m.1, ap (moved h) m.2 ∙ ap num_type (h-pow h h-mul m.0 k))
         typed vars (arith_tree at op a b) t w m = (h m.0, h m.1, h m.2, typed vars a _ w.0 m.3, typed vars b _ w.1 m.4, arith_unit op m.0 m.1 m.2 m.5, ap (moved h) m.6)
         typed vars (compare at sign a b) t w m = (h m.0, typed vars a _ w.0 m.1, typed vars b _ w.1 m.2, ap (moved h) m.3)
         typed vars (both at a b) t w m = (typed vars a bool_type w.0 m.0, typed vars b bool_type w.1 m.1, ap (moved h) m.2)

@@ -3,7 +3,7 @@ use Rattle.std.proofs.Common.{◌≡◌, refl, sym, ap, subst, ◌∙◌, ℕ, z
 use Rattle.std.proofs.lemmas.List.{map-append}
 use Rattle.um_units.specs.PowerMap.{PowerMap}
 use Rattle.um_tree.specs.TypeTree.{TypeTree, bool_type, num_type, list_type, record_type, NoteTree, bool_note, num_note, list_note, record_note, ShapeTree, list_shape}
-use Rattle.um_tree.specs.ExprTree.{ExprTree, ExprTrees, truth, number, local, call, negate, not_expr, arith as arith_tree, compare, both, either, if, bind, split, nil, list_expr, cons, record_expr, field, none, more}
+use Rattle.um_tree.specs.ExprTree.{ExprTree, ExprTrees, truth, number, local, call, negate, not_expr, pown, arith as arith_tree, compare, both, either, if, bind, split, nil, list_expr, cons, record_expr, field, none, more}
 use Rattle.um_tree.specs.ProgramTree.{RecordTree, FunctionTree, ProgramTree, Signature}
 use Rattle.um_tree.specs.Typing.{put, unit_at, Matches, TypesMatch, ResultMatches, EachIs, field_types, Typed, AllTyped, Earlier, Calls, IsTypingOf, TypingAt, typings_below}
 use Rattle.um_tree.specs.Shapes.{type_shape, note_shape, ShapeSignature, EachShapeIs, HasShape, AllHaveShapes, EarlierShapes, CallShapes, ResultShape, IsShapeOf, ShapeAt, shapes_below}
@@ -52,6 +52,7 @@ module _ (records : List RecordTree) (calls : ℕ → Signature → Type 0) (sha
     has_shape vars (call at j es) t m = (map type_shape m.0, all_have vars es m.0 m.1, change j _ m.2)
     has_shape vars (negate at a) t m = (has_shape vars a _ m.1, ap type_shape m.2)
     has_shape vars (not_expr at a) t m = (has_shape vars a _ m.0, ap type_shape m.1)
+    has_shape vars (pown at a k) t m = (has_shape vars a _ m.1, ap type_shape m.2)
     has_shape vars (arith_tree at op a b) t m = (has_shape vars a _ m.3, has_shape vars b _ m.4, ap type_shape m.6)
     has_shape vars (compare at sign a b) t m = (has_shape vars a _ m.1, has_shape vars b _ m.2, ap type_shape m.3)
     has_shape vars (both at a b) t m = (has_shape vars a _ m.0, has_shape vars b _ m.1, ap type_shape m.2)

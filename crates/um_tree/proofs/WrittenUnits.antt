@@ -6,7 +6,7 @@ use Rattle.um_frac.specs.declared.number.Frac.{Frac}
 use Rattle.um_tree.specs.declared.note.UnitNote.{UnitNote}
 use Rattle.um_tree.specs.declared.note.UnitNote.TheVariants.{Hole, Written}
 use Rattle.um_tree.specs.TypeTree.{TypeTree, bool_type, num_type, list_type, record_type, NoteTree, bool_note, num_note, list_note, record_note}
-use Rattle.um_tree.specs.ExprTree.{ExprTree, ExprTrees, truth, number, local, call, negate, not_expr, arith, compare, both, either, if, bind, split, nil, list_expr, cons, record_expr, field, none, more}
+use Rattle.um_tree.specs.ExprTree.{ExprTree, ExprTrees, truth, number, local, call, negate, not_expr, pown, arith, compare, both, either, if, bind, split, nil, list_expr, cons, record_expr, field, none, more}
 use Rattle.um_tree.specs.ProgramTree.{FunctionTree, ProgramTree}
 use Rattle.um_tree.specs.Typing.{field_types}
 use Rattle.um_tree.specs.Formed.{IsLiteral, IsFormedIn, AllFormedIn}
@@ -48,6 +48,7 @@ module _ (InNote InLiteral : PowerMap → Type 0) (has : (u : PowerMap) → InNo
     expr_has (call at j es) w = exprs_have es w
     expr_has (negate at a) w = expr_has a w
     expr_has (not_expr at a) w = expr_has a w
+    expr_has (pown at a k) w = expr_has a w
     expr_has (arith at op a b) w = (expr_has a w.0, expr_has b w.1)
     expr_has (compare at sign a b) w = (expr_has a w.0, expr_has b w.1)
     expr_has (both at a b) w = (expr_has a w.0, expr_has b w.1)
@@ -92,6 +93,7 @@ module _ (p : ProgramTree) (i : ℕ) (f : FunctionTree) where
     formed_closed n (call at j es) w = all_formed_closed n es w.1
     formed_closed n (negate at a) w = formed_closed n a w
     formed_closed n (not_expr at a) w = formed_closed n a w
+    formed_closed n (pown at a k) w = formed_closed n a w
     formed_closed n (arith at op a b) w = (formed_closed n a w.0, formed_closed n b w.1)
     formed_closed n (compare at sign a b) w = (formed_closed n a w.0, formed_closed n b w.1)
     formed_closed n (both at a b) w = (formed_closed n a w.0, formed_closed n b w.1)

@@ -15,7 +15,7 @@ use Rattle.um_tree.specs.declared.expression.Arith.TheVariants.{Add, Sub}
 use Rattle.um_tree.specs.declared.expression.Sign.{Sign}
 use Rattle.um_tree.specs.TypeTree.{TypeTree, bool_type, num_type, list_type, record_type, NoteTree, bool_note}
 use Rattle.um_tree.specs.TypeTree.{num_note, list_note, record_note}
-use Rattle.um_tree.specs.ExprTree.{ExprTree, ExprTrees, truth, number, local, call, negate, not_expr, arith, compare}
+use Rattle.um_tree.specs.ExprTree.{ExprTree, ExprTrees, truth, number, local, call, negate, not_expr, pown, arith, compare}
 use Rattle.um_tree.specs.ExprTree.{both, either, if, bind, split, nil, list_expr, cons, record_expr, field, none}
 use Rattle.um_tree.specs.ExprTree.{more}
 use Rattle.um_tree.specs.ValueTree.{ValueTree}
@@ -60,6 +60,7 @@ module _ (InNote InLiteral : PowerMap → Type 0) where
     ExprHas (call at j es) = ExprsHave es
     ExprHas (negate at a) = ExprHas a
     ExprHas (not_expr at a) = ExprHas a
+    ExprHas (pown at a k) = ExprHas a
     ExprHas (arith at op a b) = ExprHas a × ExprHas b
     ExprHas (compare at sign a b) = ExprHas a × ExprHas b
     ExprHas (both at a b) = ExprHas a × ExprHas b

@@ -4,14 +4,14 @@
 -- There are no equations, slots, substitutions or schemes here, and no order in which anything is found.
 use Rattle.std.specs.Prelude.{◌≡◌, ℕ, zero, suc, ◌<◌, ◌⊎◌, IsTrue, IsSome, cond, nat_eq, List, [], ◌∷◌, ◌++◌, map}
 use Rattle.std.specs.Prelude.{length, get_or, slice_get, pos, Option, Some, None}
-use Rattle.um_units.specs.PowerMap.{PowerMap, one, mul, inv, replace}
+use Rattle.um_units.specs.PowerMap.{PowerMap, one, mul, inv, pow, replace}
 use Rattle.um_frac.specs.declared.number.Frac.{Frac}
 use Rattle.um_frac.specs.Fraction.{numerator}
 use Rattle.um_tree.specs.TypeTree.{TypeTree, bool_type, num_type, list_type, record_type, NoteTree, bool_note}
 use Rattle.um_tree.specs.TypeTree.{num_note, list_note, record_note}
-use Rattle.um_tree.specs.ExprTree.{ExprTree, ExprTrees, truth, number, local, call, negate, not_expr, arith, compare}
-use Rattle.um_tree.specs.ExprTree.{both, either, if, bind, split, nil, list_expr, cons, record_expr, field, none}
-use Rattle.um_tree.specs.ExprTree.{more}
+use Rattle.um_tree.specs.ExprTree.{ExprTree, ExprTrees, truth, number, local, call, negate, not_expr, pown, arith}
+use Rattle.um_tree.specs.ExprTree.{compare, both, either, if, bind, split, nil, list_expr, cons, record_expr, field}
+use Rattle.um_tree.specs.ExprTree.{none, more}
 use Rattle.um_tree.specs.ProgramTree.{RecordTree, FunctionTree, ProgramTree, Signature}
 use Rattle.um_tree.specs.declared.note.UnitNote.{UnitNote}
 use Rattle.um_tree.specs.declared.note.UnitNote.TheVariants.{Hole, Written}
@@ -98,6 +98,7 @@ module _ (records : List RecordTree) (calls : ℕ → Signature → Type 0) (cho
         (ts : List TypeTree) × AllTyped vars es ts × calls j (record { params = ts; result = t })
     Typed vars (negate at a) t = (u : PowerMap) × Typed vars a (num_type u) × (t ≡ num_type u)
     Typed vars (not_expr at a) t = Typed vars a bool_type × (t ≡ bool_type)
+    Typed vars (pown at a k) t = (u : PowerMap) × Typed vars a (num_type u) × (t ≡ num_type (pow u k))
     Typed vars (arith at op a b) t =
         (u v w : PowerMap) × Typed vars a (num_type u) × Typed vars b (num_type v)
         × ArithUnit op u v w × (t ≡ num_type w)

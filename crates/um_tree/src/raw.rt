@@ -98,6 +98,8 @@ pub enum RawNode {
     Call(Name, RawExprs),
     Neg(Box<RawExpr>),
     Not(Box<RawExpr>),
+    /// `pown e k`
+    Pow(Box<RawExpr>, i32),
     Arith(Arith, Box<RawExpr>, Box<RawExpr>),
     Compare(Sign, Box<RawExpr>, Box<RawExpr>),
     And(Box<RawExpr>, Box<RawExpr>),
