@@ -59,7 +59,7 @@ BinderSpells x tokens rest = FirstAt (bound x.name) x.at tokens rest
 
 -- a number stands directly before the rest
 abbrev pub AfterNumber : List Token → List Token → Type 0
-AfterNumber tokens rest = (read last : List Token) (c : Frac) × (tokens ≡ read ++ last) × First (number c) last rest
+AfterNumber tokens rest = (read last : List Token) × (c : Frac) × (tokens ≡ read ++ last) × First (number c) last rest
 
 -- A sign between two operands, where the left one begins these tokens.
 -- A `<` directly behind a number is none: it opens a unit. `>=` is `>` and `=` directly behind it, at the `>`.
@@ -86,7 +86,7 @@ FirstPower n tokens rest =
 abbrev pub PowerSpells : ℤ → List Token → List Token → Type 0
 PowerSpells k tokens rest =
     ((n : ℕ) × (k ≡ pos n) × FirstPower n tokens rest)
-    ⊎ ((n : ℕ) (sign digits close : List Token) × (k ≡ neg_ℤ (pos n)) × First (mark symbol.LeftParen) tokens sign
+    ⊎ ((n : ℕ) × (sign digits close : List Token) × (k ≡ neg_ℤ (pos n)) × First (mark symbol.LeftParen) tokens sign
     × First minus sign digits × FirstPower n digits close × First (mark symbol.RightParen) close rest)
 
 -- from `with` up to the `->` of the empty arm: the bar may be left out

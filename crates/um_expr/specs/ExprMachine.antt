@@ -187,9 +187,13 @@ begin_in (Some frames) token at = begin frames token at
 begin_in None token at = Refused
 
 -- whether the power of `pown` is wanted
+abbrev pub is_pown : Frame → Bool
+is_pown (InPown at) = true
+is_pown _ = false
+
 abbrev pub in_pown : List Frame → Bool
-in_pown (InPown at ∷ frames) = true
-in_pown _ = false
+in_pown [] = false
+in_pown (frame ∷ frames) = is_pown frame
 
 -- a number behind an atom: it is an argument, or the power, where it is digits alone
 abbrev pub pown_after : List Frame → ExprSyntax → Option ℕ → State

@@ -72,7 +72,7 @@ fn first_argument(alloc: Global, frames: &mut Frames, operand: Operand) -> Resul
     let RawExpr { at, node } = tree;
     match node {
         RawNode::Name(name) => frames.push(Frame::InArgument(at, name, Operands::empty(alloc))),
-        RawNode::Num(_, _) | composite!() => Ok(()),
+        RawNode::Num(_, _) | RawNode::Pow(_, _) | composite!() => Ok(()),
     }
 }
 

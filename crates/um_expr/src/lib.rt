@@ -18,6 +18,7 @@ mod node;
 mod operand;
 mod operands;
 mod operator;
+mod power;
 mod reader;
 mod step;
 mod token;

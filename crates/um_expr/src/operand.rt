@@ -1,6 +1,6 @@
 // Expressions with their heights beside them, so that no height is counted again.
 ghost use Rattle.std.specs.Prelude.{◌≡◌, ◌≤◌, IfOk, None};
-ghost use Rattle.um_tree.specs.RawTree.{expr_syntax, binder_syntax, type_syntax, written_note, truth_syntax, number_syntax, name_syntax, negate_syntax, not_syntax, if_syntax, let_syntax, match_syntax, nil_syntax, field_syntax, bracket_expr_syntax};
+ghost use Rattle.um_tree.specs.RawTree.{expr_syntax, binder_syntax, type_syntax, written_note, truth_syntax, number_syntax, name_syntax, negate_syntax, not_syntax, pown_syntax, if_syntax, let_syntax, match_syntax, nil_syntax, field_syntax, bracket_expr_syntax};
 ghost use Rattle.um_tree.specs.Heights.{expr_height};
 ghost use Rattle.um_types.specs.TypeHeights.{whole_height};
 ghost use Rattle.um_types.specs.UnitCount.{counted};
@@ -26,7 +26,7 @@ pub struct Operand {
 }
 
 impl Operand {
-    ghost use Rattle.um_expr.specs.ExprKinds.{is_name, is_plain_number};
+    ghost use Rattle.um_expr.specs.ExprKinds.{is_name, is_plain_number, is_power};
     ghost use Rattle.um_expr.specs.ExprOperands.{operand_expr};
 
     /// `true` or `false`
@@ -87,6 +87,18 @@ impl Operand {
     {
         let Operand { tree, height } = self;
         let node = RawNode::Not(Box::new(alloc, tree)?);
+        Ok(Operand {
+            tree: RawExpr { at, node },
+            height: one_higher(height),
+        })
+    }
+
+    /// `pown e k`
+    pub fn pown(self, alloc: Global, at: u32, k: i32) -> Result<Operand, AllocError>
+        ensures { IfOk result (λ p. operand_expr p ≡ pown_syntax at (operand_expr self) k) }
+    {
+        let Operand { tree, height } = self;
+        let node = RawNode::Pow(Box::new(alloc, tree)?, k);
         Ok(Operand {
             tree: RawExpr { at, node },
             height: one_higher(height),
@@ -231,7 +243,7 @@ impl Operand {
     {
         match &self.tree.node {
             RawNode::Name(_) => true,
-            RawNode::Num(_, _) | composite!() => false,
+            RawNode::Num(_, _) | RawNode::Pow(_, _) | composite!() => false,
         }
     }
 
@@ -241,7 +253,20 @@ impl Operand {
     {
         match &self.tree.node {
             RawNode::Num(_, None) => true,
-            RawNode::Num(_, Some(_)) | RawNode::Name(_) | composite!() => false,
+            RawNode::Num(_, Some(_))
+            | RawNode::Name(_)
+            | RawNode::Pow(_, _)
+            | composite!() => false,
+        }
+    }
+
+    /// Whether it is a whole power.
+    pub fn is_power(&self) -> bool
+        ensures { result ≡ is_power (operand_expr self.now) }
+    {
+        match &self.tree.node {
+            RawNode::Pow(_, _) => true,
+            RawNode::Num(_, _) | RawNode::Name(_) | composite!() => false,
         }
     }
 }
