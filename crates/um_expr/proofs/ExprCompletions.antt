@@ -379,7 +379,6 @@ expected_reads (TailArrow at l a x y) tokens rest f =
     (f.0, f.1, f.5, f.6, (f.2, f.3, f.4, sign symbol.Arrow ∷ operand_token ∷ rest, f.7, f.8, f.9, f.10, (sign symbol.Arrow, refl, refl))) (operand_token, refl, refl, refl)
 expected_reads (NilColon at) tokens rest f =
     (f.0, f.1, sign symbol.Colon ∷ word keyword.Bool ∷ sign symbol.RightParen ∷ rest, word keyword.Bool ∷ sign symbol.RightParen ∷ rest, sign symbol.RightParen ∷ rest, f.2, f.3, f.4, (sign symbol.Colon, refl, refl), (word keyword.Bool, refl, refl), (sign symbol.RightParen, refl, refl))
-
 expected_reads (PownMinus at e) tokens rest f =
     (f.0, f.1, f.2, f.3, inr (0, sign symbol.Minus ∷ zero_token ∷ sign symbol.RightParen ∷ rest, zero_token ∷ sign symbol.RightParen ∷ rest, sign symbol.RightParen ∷ rest, refl, f.4, (sign symbol.Minus, refl, refl), (zero_token, refl, refl), (sign symbol.RightParen, refl, refl)))
 expected_reads (PownDigits at e) tokens rest f =

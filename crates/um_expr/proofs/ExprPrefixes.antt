@@ -116,7 +116,6 @@ ExpectedReads (TailBinder at l a x) tokens rest =
 ExpectedReads (TailArrow at l a x y) tokens rest =
     (e e' head cons tail : List Token) × MatchReads at l tokens e × Spells a e e' × First (mark symbol.Bar) e' head × BinderSpells x head cons × First double_colon cons tail × BinderSpells y tail rest
 ExpectedReads (NilColon at) tokens rest = (a b : List Token) × FirstAt (mark symbol.LeftParen) at tokens a × First (mark symbol.LeftBracket) a b × First (mark symbol.RightBracket) b rest
-
 ExpectedReads (PownMinus at e) tokens rest = (a b : List Token) × FirstAt (word keyword.Pown) at tokens a × Spells e a b × First (mark symbol.LeftParen) b rest
 ExpectedReads (PownDigits at e) tokens rest = (a b c : List Token) × FirstAt (word keyword.Pown) at tokens a × Spells e a b × First (mark symbol.LeftParen) b c × First minus c rest
 ExpectedReads (PownClose at e k) tokens rest =

@@ -54,7 +54,10 @@ fn let_binder(frames: &Frames, at: u32, kind: ExprToken, token: &Token) -> Step
             Step::Goes(Focus::Inside(Expected::LetEqual(at, x)))
         }
         ExprToken::Hole => {
-            let x = Binder { at: token.start, name: None };
+            let x = Binder {
+                at: token.start,
+                name: None,
+            };
             Step::Goes(Focus::Inside(Expected::LetEqual(at, x)))
         }
         other => refuse_token(other),
@@ -124,7 +127,12 @@ fn dot_name(
     ensures { IfOk result (λ s. Simulates None (frames_of frames.now) s (inside (frames_of frames.now) (DotName at (operand_expr operand)) kind token.now.start (power_in (unit_token token.now.kind)))) }
 {
     match kind {
-        ExprToken::Name(name) => Ok(Step::Goes(Focus::Read(operand.field(alloc, at, token.start, name)?))),
+        ExprToken::Name(name) => Ok(Step::Goes(Focus::Read(operand.field(
+            alloc,
+            at,
+            token.start,
+            name,
+        )?))),
         other => Ok(refuse_behind(other, operand)),
     }
 }
@@ -202,7 +210,10 @@ fn head_binder(
             Step::Goes(Focus::Inside(Expected::HeadCons(at, list, empty, head)))
         }
         ExprToken::Hole => {
-            let head = Binder { at: token.start, name: None };
+            let head = Binder {
+                at: token.start,
+                name: None,
+            };
             Step::Goes(Focus::Inside(Expected::HeadCons(at, list, empty, head)))
         }
         other => refuse_behind_both(other, list, empty),
@@ -250,7 +261,10 @@ fn tail_binder(
             Step::Goes(Focus::Inside(Expected::TailArrow(at, list, empty, head, tail)))
         }
         ExprToken::Hole => {
-            let tail = Binder { at: token.start, name: None };
+            let tail = Binder {
+                at: token.start,
+                name: None,
+            };
             Step::Goes(Focus::Inside(Expected::TailArrow(at, list, empty, head, tail)))
         }
         other => refuse_behind_both(other, list, empty),
@@ -360,7 +374,9 @@ pub fn inside(
         Expected::ArmOpen(at, list) => Ok(arm_open(frames, at, list, kind, token)),
         Expected::ArmClose(at, list) => Ok(arm_close(frames, at, list, kind, token)),
         Expected::ArmArrow(at, list) => arm_arrow(frames, at, list, kind, token),
-        Expected::HeadBinder(at, list, empty) => Ok(head_binder(frames, at, list, empty, kind, token)),
+        Expected::HeadBinder(at, list, empty) => Ok(head_binder(
+            frames, at, list, empty, kind, token,
+        )),
         Expected::HeadCons(at, list, empty, head) => {
             Ok(head_cons(frames, at, list, empty, head, kind, token))
         }

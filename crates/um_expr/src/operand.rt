@@ -253,10 +253,8 @@ impl Operand {
     {
         match &self.tree.node {
             RawNode::Num(_, None) => true,
-            RawNode::Num(_, Some(_))
-            | RawNode::Name(_)
-            | RawNode::Pow(_, _)
-            | composite!() => false,
+            RawNode::Num(_, Some(_)) | RawNode::Name(_) | RawNode::Pow(_, _) | composite!() =>
+                false,
         }
     }
 

@@ -87,7 +87,13 @@ pub fn number_after(
     if in_pown(frames) {
         pown_after(alloc, frames, operand, token)
     } else {
-        begin_argument(alloc, frames, operand, ExprToken::Number(value), token.start)
+        begin_argument(
+            alloc,
+            frames,
+            operand,
+            ExprToken::Number(value),
+            token.start,
+        )
     }
 }
 
@@ -125,6 +131,12 @@ pub fn bracket_after(
     if in_pown(frames) {
         Ok(pown_bracket(frames, operand))
     } else {
-        begin_argument(alloc, frames, operand, ExprToken::Mark(Symbol::LeftParen), at)
+        begin_argument(
+            alloc,
+            frames,
+            operand,
+            ExprToken::Mark(Symbol::LeftParen),
+            at,
+        )
     }
 }

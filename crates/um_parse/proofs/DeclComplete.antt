@@ -191,17 +191,16 @@ yields_name true at x tokens mid rest s n =
 yields_function : (f : FunctionSyntax) (tokens rest : List Token) → FunctionSpells f tokens rest → DeclFits (function_syntax f)
     → (b : Bool) × Yields decl_step (Expects DeclBegin) tokens (decl_into b (function_syntax f)) rest
 yields_function f tokens rest s fits =
-    let body = yields_body f.recursive f.at f.name f.params f.result f.body s.5 rest s.12 fits.2 in
-    (
+    let body = yields_body f.recursive f.at f.name f.params f.result f.body s.5 rest s.12 fits.2 in (
       body.0,
       thence (yields_first (Expects DeclBegin) (Expects LetName) (word keyword.Let) tokens s.0 s.6 (λ p g k. refl))
-      (
-      thence (yields_name f.recursive f.at f.name s.0 s.1 s.2 s.7 s.8)
-      (
-      thence (yields_params f.params f.recursive f.at f.name [] s.2 s.3 s.9 fits.0)
-      (thence (yields_result f.result f.recursive f.at f.name f.params s.3 s.4 s.5 s.10 s.11 fits.1) body.1)
-      )
-      ),
+          (
+          thence (yields_name f.recursive f.at f.name s.0 s.1 s.2 s.7 s.8)
+          (
+          thence (yields_params f.params f.recursive f.at f.name [] s.2 s.3 s.9 fits.0)
+          (thence (yields_result f.result f.recursive f.at f.name f.params s.3 s.4 s.5 s.10 s.11 fits.1) body.1)
+          )
+          ),
     )
 
 -- ---- declarations
@@ -211,23 +210,23 @@ decl_yields (base_syntax at x) tokens rest s fits = (false, yields_measure at x 
 decl_yields (short_syntax at x u) tokens rest s fits = (
   false,
   thence (yields_measure at x tokens s.0 s.1 s.2 s.4 s.5 s.6)
-  (
-  thence (yields_first (HaveBase at x) (InShort at x (NeedUnit [])) equal s.2 s.3 s.7 (λ p g k. refl)) (yields_unit at x u s.3 rest s.8 fits)
-  ),
+      (
+      thence (yields_first (HaveBase at x) (InShort at x (NeedUnit [])) equal s.2 s.3 s.7 (λ p g k. refl)) (yields_unit at x u s.3 rest s.8 fits)
+      ),
 )
 decl_yields (record_decl_syntax at x vs []) tokens rest s fits = absurd s.11
 decl_yields (record_decl_syntax at x vs (f ∷ fs)) tokens rest s fits = (
   false,
   thence (yields_first (Expects DeclBegin) (Expects RecordName) (word keyword.Type) tokens s.0 s.6 (λ p g k. refl))
-  (
-  thence (yields_at (Expects RecordName) (Expects (RecordVars at x)) (name x) at s.0 s.1 s.7 (λ g k. refl))
-  (
-  thence (yields_vars vs at x s.1 s.2 s.3 s.8 s.9)
-  (
-  thence (yields_first (Expects (RecordBrace at x vs)) (Expects (FieldName at x vs [])) (mark symbol.LeftBrace) s.3 s.4 s.10 (λ p g k. refl))
-  (thence (yields_field at x vs [] f s.4 s.11.0 s.11.1 fits.0) (yields_fields fs at x vs [] f s.11.0 s.5 rest s.11.2 fits.1 s.12))
-  )
-  )
-  ),
+      (
+      thence (yields_at (Expects RecordName) (Expects (RecordVars at x)) (name x) at s.0 s.1 s.7 (λ g k. refl))
+      (
+      thence (yields_vars vs at x s.1 s.2 s.3 s.8 s.9)
+      (
+      thence (yields_first (Expects (RecordBrace at x vs)) (Expects (FieldName at x vs [])) (mark symbol.LeftBrace) s.3 s.4 s.10 (λ p g k. refl))
+      (thence (yields_field at x vs [] f s.4 s.11.0 s.11.1 fits.0) (yields_fields fs at x vs [] f s.11.0 s.5 rest s.11.2 fits.1 s.12))
+      )
+      )
+      ),
 )
 decl_yields (function_syntax f) tokens rest s fits = yields_function f tokens rest s fits
