@@ -12,13 +12,15 @@
 --         | "[" expr { ";" expr } "]" | "{" Name "=" expr { ";" Name "=" expr } "}"
 -- Each level is a rank, so the relation has one case for each form of expression.
 -- Source: the F# specification, chapter Expressions, for the forms that this language has.
-use Rattle.std.specs.Prelude.{◌≡◌, ℕ, ℤ, pos, neg_ℤ, ◌≤◌, ◌<◌, true, false, ◌⊎◌, List, [], ◌∷◌, ◌++◌, Option, Some, None}
+use Rattle.std.specs.Prelude.{◌≡◌, ℕ, ℤ, pos, neg_ℤ, ◌≤◌, ◌<◌, true, false, ◌⊎◌, List, [], ◌∷◌, ◌++◌, Option}
+use Rattle.std.specs.Prelude.{Some, None}
 use Rattle.um_frac.specs.declared.number.Frac.{Frac}
 use Rattle.um_syntax.specs.declared.token.Token.{Token}
 use Rattle.um_tree.specs.declared.expression.Sign.TheVariants as compare
 use Rattle.um_tree.specs.RawTree.{NoteSyntax, TypeSyntax, BinderSyntax, ExprSyntax, ExprSyntaxes, FieldSyntaxes}
 use Rattle.um_tree.specs.RawTree.{truth_syntax, number_syntax, name_syntax, call_syntax, negate_syntax, not_syntax}
-use Rattle.um_tree.specs.RawTree.{pown_syntax, arith_syntax, compare_syntax, and_syntax, or_syntax, if_syntax, let_syntax}
+use Rattle.um_tree.specs.RawTree.{pown_syntax, arith_syntax, compare_syntax, and_syntax, or_syntax, if_syntax}
+use Rattle.um_tree.specs.RawTree.{let_syntax}
 use Rattle.um_tree.specs.RawTree.{match_syntax, nil_syntax, list_syntax, cons_syntax, fields_syntax, field_syntax}
 use Rattle.um_tree.specs.RawTree.{bracket_expr_syntax, no_exprs, more_exprs, no_fields, more_fields}
 use Rattle.um_syntax.specs.declared.vocabulary.Keyword.TheVariants as keyword

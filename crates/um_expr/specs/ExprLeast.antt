@@ -11,7 +11,8 @@ use Rattle.um_expr.specs.ExprMachine.{Frame, InBracket, InItem, InField, InValue
 use Rattle.um_expr.specs.ExprMachine.{InMatched, InEmptyArm, InFullArm, InNegate, InNot, InPown, InRight, InArgument}
 use Rattle.um_expr.specs.ExprMachine.{Expected, LetBinder, LetEqual, FieldName, FieldEqual, DotName, ArmBegin}
 use Rattle.um_expr.specs.ExprMachine.{ArmOpen, ArmClose, ArmArrow, HeadBinder, HeadCons, TailBinder, TailArrow}
-use Rattle.um_expr.specs.ExprMachine.{NilColon, PownMinus, PownDigits, PownClose, State, Need, Have, HavePower, Greater, Inside, InNote, InType, Refused}
+use Rattle.um_expr.specs.ExprMachine.{NilColon, PownMinus, PownDigits, PownClose, State, Need, Have, HavePower}
+use Rattle.um_expr.specs.ExprMachine.{Greater, Inside, InNote, InType, Refused}
 use Rattle.um_expr.specs.ExprHeights.{notes_in, notes_in_all, notes_in_fields}
 
 -- the height of a frame's other parts

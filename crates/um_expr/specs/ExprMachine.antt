@@ -2,7 +2,8 @@
 -- inside;
 -- a token that they refuse ends them and is looked at again.
 -- Source: operator precedence with a stack, as in Knuth, Fundamental Algorithms, 2.2.1; this project's own states.
-use Rattle.std.specs.Prelude.{ℕ, ℤ, pos, neg_ℤ, Bool, true, false, cond, nat_lt, List, [], ◌∷◌, ◌++◌, Option, Some, None}
+use Rattle.std.specs.Prelude.{ℕ, ℤ, pos, neg_ℤ, Bool, true, false, cond, nat_lt, List, [], ◌∷◌, ◌++◌, Option}
+use Rattle.std.specs.Prelude.{Some, None}
 use Rattle.um_frac.specs.declared.number.Frac.{Frac}
 use Rattle.um_syntax.specs.declared.token.Token.{Token}
 use Rattle.um_syntax.specs.declared.token.Kind.{Kind}
@@ -10,8 +11,8 @@ use Rattle.um_tree.specs.declared.expression.Sign.TheVariants as compare
 use Rattle.um_tree.specs.declared.expression.Arith.TheVariants as arith
 use Rattle.um_tree.specs.RawTree.{NoteSyntax, TypeSyntax, BinderSyntax, ExprSyntax, FieldPart, truth_syntax}
 use Rattle.um_tree.specs.RawTree.{number_syntax, name_syntax, call_syntax, negate_syntax, not_syntax, if_syntax}
-use Rattle.um_tree.specs.RawTree.{pown_syntax, let_syntax, match_syntax, nil_syntax, list_syntax, fields_syntax, field_syntax}
-use Rattle.um_tree.specs.RawTree.{bracket_expr_syntax, exprs_in_order, fields_in_order}
+use Rattle.um_tree.specs.RawTree.{pown_syntax, let_syntax, match_syntax, nil_syntax, list_syntax, fields_syntax}
+use Rattle.um_tree.specs.RawTree.{field_syntax, bracket_expr_syntax, exprs_in_order, fields_in_order}
 use Rattle.um_types.specs.UnitTokens.{unit_token}
 use Rattle.um_types.specs.UnitMachine.{power_in}
 use Rattle.um_types.specs.NoteMachine.{NoteState, NeedNote, NoNote, note_act, note_finish}
@@ -337,7 +338,8 @@ inside frames (HeadBinder at list empty) (name x) p power =
     Inside frames (HeadCons at list empty (record { at = p; name = Some x }))
 inside frames (HeadBinder at list empty) hole p power =
     Inside frames (HeadCons at list empty (record { at = p; name = None }))
-inside frames (HeadCons at list empty head) (operator between.Cons) p power = Inside frames (TailBinder at list empty head)
+inside frames (HeadCons at list empty head) (operator between.Cons) p power =
+    Inside frames (TailBinder at list empty head)
 inside frames (TailBinder at list empty head) (name x) p power =
     Inside frames (TailArrow at list empty head (record { at = p; name = Some x }))
 inside frames (TailBinder at list empty head) hole p power =
