@@ -62,8 +62,8 @@ formed_parts s t before n at (w ∷ ws) g l e a h =
     let (p, q) = both_true _ _ h in
     let here = next_cell before t (map Part ws) (Part w) at e a in
     and_true _ _
-      (subst (λ c. IsTrue (part_formed t n c)) (sym here) (names_among-more s t (length s) n w g l p))
-      (formed_parts s t (before ++ Part w ∷ []) n (at + 1) ws g l (shifted_parts before t (Part w) (map Part ws) e) (shifted_number before (Part w) at a) q)
+    (subst (λ c. IsTrue (part_formed t n c)) (sym here) (names_among-more s t (length s) n w g l p))
+    (formed_parts s t (before ++ Part w ∷ []) n (at + 1) ws g l (shifted_parts before t (Part w) (map Part ws) e) (shifted_number before (Part w) at a) q)
 
 part_is_formed : (t : List Cell) (n i : ℕ) (ws : List Word) (c : Cell) → slice_get (map Part ws) i ≡ Some c → IsTrue (cell_formed t n c)
 part_is_formed t n i [] c h = absurd cc
@@ -85,7 +85,7 @@ formed_record s t ws e f h = formed_behind s t (Record (length ws) ∷ map Part 
         let same : Record (length ws) ≡ c = cc in
         let at : length s + 0 + 1 ≡ length (s ++ head ∷ []) = shifted_number s head (length s + 0) (omega arith) in
         subst (λ d. IsTrue (cell_formed t (length s + 0) d)) same
-          (formed_parts s t (s ++ head ∷ []) (length s + 0) (length s + 0 + 1) ws grown (omega arith) (shifted_parts s t head (map Part ws) e) at h)
+        (formed_parts s t (s ++ head ∷ []) (length s + 0) (length s + 0 + 1) ws grown (omega arith) (shifted_parts s t head (map Part ws) e) at h)
     last (suc i) c a = part_is_formed t (length s + suc i) i ws c a
 
 pub formed_made : (E : Type 0) (r : Result (Unit {0}) E) (s t : List Cell) (ws : List Word) → OnOk r (t ≡ s ++ Record (length ws) ∷ map Part ws) → OnErr r (t ≡ s) → Formed s → IsTrue (list_all (holds s) ws) → Formed t

@@ -41,7 +41,7 @@ mutual
       let same_record : q ≡ r = cc in
       let same_cell : n ≡ m = cc in
       let same_count : number_of vs ≡ number_of us =
-          let k : slice_get s n ≡ Some (Record (number_of us)) = ap (slice_get s) same_cell ∙ d in cc in
+      let k : slice_get s n ≡ Some (Record (number_of us)) = ap (slice_get s) same_cell ∙ d in cc in
       let same : vs ≡ us = one_row s (n + 1) (m + 1) vs us (ap (λ i. i + 1) same_cell) same_count p o in
       cc
 

@@ -14,11 +14,13 @@ pub exact_true : (s : List Cell) (w : Word) → Formed s → IsTrue (holds s w) 
 exact_true s w f h = (λ u. value_of_word s f w h, λ p. search rules)
 
 pub exact_list : (s : List Cell) (w : Word) (n : ℕ) (b : Bool) → Formed s → w ≡ ListAt n → b ≡ is_item (slice_get s n) → IsTrue b ↔ ((v : ValueTree) × Denotes s w v)
-exact_list s w n b f e is =
-    (λ h. value_of_word s f w (subst (λ x. IsTrue (holds s x)) (sym e) (item_holds s n (subst IsTrue is h))),
-     λ p. subst IsTrue (sym is) (item_of_value s w n e p))
+exact_list s w n b f e is = (
+  λ h. value_of_word s f w (subst (λ x. IsTrue (holds s x)) (sym e) (item_holds s n (subst IsTrue is h))),
+  λ p. subst IsTrue (sym is) (item_of_value s w n e p),
+)
 
 pub exact_record : (s : List Cell) (w : Word) (r n : ℕ) (b : Bool) → Formed s → w ≡ RecordAt r n → b ≡ is_record (slice_get s n) → IsTrue b ↔ ((v : ValueTree) × Denotes s w v)
-exact_record s w r n b f e is =
-    (λ h. value_of_word s f w (subst (λ x. IsTrue (holds s x)) (sym e) (record_holds s r n (subst IsTrue is h))),
-     λ p. subst IsTrue (sym is) (record_of_value s w r n e p))
+exact_record s w r n b f e is = (
+  λ h. value_of_word s f w (subst (λ x. IsTrue (holds s x)) (sym e) (record_holds s r n (subst IsTrue is h))),
+  λ p. subst IsTrue (sym is) (record_of_value s w r n e p),
+)

@@ -31,7 +31,7 @@ longer_row s t u ws vs i w d first n k h p q e l g =
     let next : suc (i - 1) ≡ i = omega arith in
     let (v, is, x) = value_at_word s ws vs (i - 1) w d h (omega arith) e in
     let others : ListFrom t first (values_in_order (drop (suc (i - 1)) vs)) =
-        subst (λ j. ListFrom t first (values_in_order (drop j vs))) (sym next) l in
+    subst (λ j. ListFrom t first (values_in_order (drop j vs))) (sym next) l in
     subst (λ us. ListFrom u (Some n) us) (sym is) (g v (values_in_order (drop (suc (i - 1)) vs)) (k w v x) others)
 
 pub number_of-values_in_order : (vs : List ValueTree) → number_of (values_in_order vs) ≡ length vs
@@ -60,7 +60,7 @@ pub one_more : {X : Type 0} (f : X → ValueTree) (s t : List Cell) (ws : List W
 one_more f s t ws xs i x w k h l e denotes =
     let more : take (i + 1) xs ≡ take i xs ++ x ∷ [] = take_more xs i x l ∙ ap (λ y. take i xs ++ y ∷ []) (sym e) in
     subst (λ vs. DenoteEach t (ws ++ w ∷ []) vs) (sym (ap (map f) more ∙ map-append f (take i xs) (x ∷ [])))
-      (DenoteEach-append t ws (w ∷ []) (map f (take i xs)) (f x ∷ []) (retained_each s t k ws (map f (take i xs)) h) (denotes, tt))
+    (DenoteEach-append t ws (w ∷ []) (map f (take i xs)) (f x ∷ []) (retained_each s t k ws (map f (take i xs)) h) (denotes, tt))
 
 pub all_words : {X : Type 0} (f : X → ValueTree) (s : List Cell) (ws : List Word) (xs : List X) (i : ℕ) → DenoteEach s ws (map f (take i xs)) → length xs ≤ i → DenoteEach s ws (map f xs)
 all_words f s ws xs i h l = subst (λ ys. DenoteEach s ws (map f ys)) (take_all i xs l) h

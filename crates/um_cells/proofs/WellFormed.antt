@@ -38,8 +38,8 @@ parts_formed-more s t n at (suc k) g h =
     let (p, q) = both_true _ _ h in
     let (w, e, r) = part_there s n (slice_get s at) p in
     and_true _ _
-      (subst (λ c. IsTrue (part_formed t n c)) (sym (g at _ e)) (names_among-more s t n n w g (omega arith) r))
-      (parts_formed-more s t n (at + 1) k g q)
+    (subst (λ c. IsTrue (part_formed t n c)) (sym (g at _ e)) (names_among-more s t n n w g (omega arith) r))
+    (parts_formed-more s t n (at + 1) k g q)
 
 pub cell_formed-more : (s t : List Cell) (n : ℕ) (c : Cell) → Extends s t → IsTrue (cell_formed s n c) → IsTrue (cell_formed t n c)
 cell_formed-more s t n (Item w next) g h =
@@ -93,7 +93,7 @@ value_among s f (suc n) (RecordAt r m) h =
     let less = less_from_test m (suc n) p in
     let (k, e) = record_there (slice_get s m) q in
     let all : (w : Word) → IsTrue (names_among s m w) → (v : ValueTree) × Denotes s w v =
-        λ w a. value_among s f n w (names_among-more s s m n w (λ i c g. g) (omega arith) a) in
+    λ w a. value_among s f n w (names_among-more s s m n w (λ i c g. g) (omega arith) a) in
     let (vs, many, ps) = values_of_parts s m all (m + 1) k (f m (Record k) e) in
     (record_value r vs, (m, refl, e ∙ ap (λ i. Some (Record i)) (sym many), ps))
 

@@ -1,10 +1,14 @@
 -- What words and stores come to, for the crates above.
 -- Source: this project's own.
-use Rattle.std.specs.Prelude.{◌≡◌, ◌↔◌, List}
+use Rattle.std.specs.Prelude.{◌≡◌, ◌↔◌, ℕ, List, Option, Some, None}
 use Rattle.um_tree.specs.ValueTree.{ValueTree}
+use Rattle.um_tree.specs.Meaning.{Out, stops, wrong, on_list}
 use Rattle.um_cells.specs.declared.store.Store.{Store}
 use Rattle.um_cells.specs.declared.word.Word.{Word}
+use Rattle.um_cells.specs.declared.word.ListCase.{ListCase}
+use Rattle.um_cells.specs.declared.word.ListCase.TheVariants.{Empty, Items}
 use Rattle.um_cells.specs.Stores.{DenotesIn, AllDenote, HasValue, HaveValues, Keeps}
+use Rattle.um_cells.specs.Operations.{TakenApart}
 use Rattle.um_cells.specs.Holding.{HoldsIn, AllHold}
 
 -- a word denotes one value at most
@@ -36,3 +40,19 @@ HoldingIsKept = (s t : Store) → Keeps s t → (ws : List Word) → AllHold s w
 -- two steps that each keep what words denote keep it together
 abbrev pub KeepingIsTransitive : Type 0
 KeepingIsTransitive = (s t u : Store) → Keeps s t → Keeps t u → Keeps s u
+
+-- the arm of a match by how its list is taken apart: `x` where it is empty, `y` where it has items
+abbrev pub TakesArm :
+    Store → Option ListCase →
+    (ℕ → Out ValueTree) → (ValueTree → ValueTree → ℕ → Out ValueTree) → ℕ → Out ValueTree → Type 0
+TakesArm store None x y b out = out ≡ stops wrong
+TakesArm store (Some Empty) x y b out = out ≡ x b
+TakesArm store (Some (Items first others)) x y b out =
+    (v : ValueTree) × (u : ValueTree) × DenotesIn store first v × DenotesIn store others u × (out ≡ y v u b)
+
+-- it is the arm that the meaning of a match takes
+abbrev pub ListsTakeTheirArm : Type 0
+ListsTakeTheirArm =
+    (s : Store) (v : ValueTree) (given : Option ListCase) →
+    (x : ℕ → Out ValueTree) (y : ValueTree → ValueTree → ℕ → Out ValueTree) (b : ℕ) →
+    TakenApart s v given → TakesArm s given x y b (on_list v x y b)

@@ -1,6 +1,6 @@
 //! The laws of words and stores, as contracts of functions that do nothing. A crate above cites the law that it needs.
 ghost use Rattle.um_cells.specs.Laws.{WordsHaveOneValue, ListsHaveOneValue, HoldingWordsDenote, HoldingListsDenote};
-ghost use Rattle.um_cells.specs.Laws.{ListsAreKept, HoldingIsKept, KeepingIsTransitive};
+ghost use Rattle.um_cells.specs.Laws.{ListsAreKept, HoldingIsKept, KeepingIsTransitive, ListsTakeTheirArm};
 
 /// A word denotes one value at most, and some words one list of values at most.
 pub fn one_value()
@@ -20,4 +20,9 @@ pub fn kept_words()
     ensures words { ListsAreKept }
     ensures holding { HoldingIsKept }
     ensures steps { KeepingIsTransitive }
+{}
+
+/// How a list is taken apart is the arm that the meaning of a match takes.
+pub fn arms_of_lists()
+    ensures { ListsTakeTheirArm }
 {}

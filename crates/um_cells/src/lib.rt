@@ -8,6 +8,6 @@ mod putting;
 mod store;
 mod word;
 
-pub use laws::{holding_words, kept_words, one_value};
+pub use laws::{arms_of_lists, holding_words, kept_words, one_value};
 pub use store::Store;
 pub use word::{ListCase, Word};

@@ -1,6 +1,6 @@
 use Rattle.std.proofs.Common.{sym}
 use Rattle.um_cells.proofs.WellFormed.{holds_from_value}
-use Rattle.um_cells.proofs.Operating.{list_holds, longer_none, longer_some}
+use Rattle.um_cells.proofs.Operating.{list_holds, longer_some}
 use Rattle.um_cells.proofs.store.Store.cons.Goals as goal
 
 pub add_item-requires-clause-item : goal.add_item-requires-clause-item
