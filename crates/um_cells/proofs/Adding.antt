@@ -1,5 +1,5 @@
 -- Cells behind well formed ones: an item, and a record with its parts.
-use Rattle.std.proofs.Common.{rules, ◌≡◌, refl, sym, ap, ◌∙◌, subst, ℕ, zero, suc, ◌+◌, ◌≤◌, List, [], ◌∷◌, ◌++◌, length, map, Option, Some, Result, Ok, Err, cond, arith, length-append, append_assoc, ◌⊎◌, inl, inr}
+use Rattle.std.proofs.Common.{rules, ◌≡◌, refl, sym, ap, ◌∙◌, subst, ℕ, zero, suc, ◌+◌, ◌≤◌, List, [], ◌∷◌, ◌++◌, length, map, Option, Some, Result, Ok, Err, cond, arith, length-append, append_assoc, inl, inr}
 use Rattle.std.specs.Prelude.{slice_get, Bool, true, false, IsTrue, OnOk, OnErr}
 use Rattle.std.specs.List.{list_all}
 use Rattle.um_tree.specs.ValueTree.{ValueTree, ValueTrees, more_values}

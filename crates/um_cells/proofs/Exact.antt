@@ -1,13 +1,13 @@
 -- The test of a word is true exactly where the word denotes a value.
-use Rattle.std.proofs.Common.{rules, ◌≡◌, sym, subst, ℕ, length, List, ◌↔◌}
-use Rattle.std.specs.Prelude.{slice_get, Bool, true, nat_lt, IsTrue}
+use Rattle.std.proofs.Common.{rules, ◌≡◌, sym, subst, ℕ, List, ◌↔◌}
+use Rattle.std.specs.Prelude.{slice_get, Bool, true, IsTrue}
 use Rattle.um_tree.specs.ValueTree.{ValueTree}
 use Rattle.um_cells.specs.declared.word.Word.{Word}
 use Rattle.um_cells.specs.declared.word.Word.TheVariants.{List as ListAt, Rec as RecordAt}
 use Rattle.um_cells.specs.declared.cell.Cell.{Cell}
 use Rattle.um_cells.specs.Denotes.{Denotes}
 use Rattle.um_cells.specs.Formed.{Formed, holds, is_item, is_record}
-use Rattle.um_cells.proofs.WellFormed.{value_of_word, holds_from_value, item_holds, record_holds}
+use Rattle.um_cells.proofs.WellFormed.{value_of_word, item_holds, record_holds}
 use Rattle.um_cells.proofs.Walking.{item_of_value, record_of_value}
 
 pub exact_true : (s : List Cell) (w : Word) → Formed s → IsTrue (holds s w) → IsTrue true ↔ ((v : ValueTree) × Denotes s w v)

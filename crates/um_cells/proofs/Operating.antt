@@ -1,15 +1,14 @@
 -- The operations on words beside those on values.
-use Rattle.std.proofs.Common.{◌≡◌, refl, sym, ap, ◌∙◌, subst, ℕ, zero, suc, ◌+◌, ◌<◌, ◌≤◌, List, length, Option, Some, None, Err, Ok, arith, cond}
-use Rattle.std.specs.Prelude.{slice_get, nat_eq, IsTrue, true, false}
+use Rattle.std.proofs.Common.{◌≡◌, refl, sym, ap, ◌∙◌, subst, ℕ, zero, suc, ◌+◌, ◌<◌, ◌≤◌, List, Option, Some, None, Err, Ok, arith}
+use Rattle.std.specs.Prelude.{slice_get, IsTrue}
 use Rattle.um_tree.specs.ValueTree.{ValueTree, ValueTrees, truth_value, number_value, list_value, record_value, no_values, more_values}
 use Rattle.um_tree.specs.Meaning.{Out, stops, longer, on_list, value_at, wrong}
 use Rattle.um_cells.specs.declared.store.Store.{Store}
 use Rattle.um_cells.specs.declared.word.Word.{Word}
 use Rattle.um_cells.specs.declared.word.Word.TheVariants.{Bool as Truth, Num as Number, Nil, List as ListAt, Rec as RecordAt}
 use Rattle.um_cells.specs.declared.word.ListCase.{ListCase}
-use Rattle.um_cells.specs.declared.word.ListCase.TheVariants.{Empty, Items}
 use Rattle.um_cells.specs.declared.cell.Cell.{Cell}
-use Rattle.um_cells.specs.declared.cell.Cell.TheVariants.{Item, Record, Part}
+use Rattle.um_cells.specs.declared.cell.Cell.TheVariants.{Record, Part}
 use Rattle.um_cells.specs.Denotes.{Denotes, ListFrom, PartsFrom, list_from, number_of}
 use Rattle.um_cells.specs.Formed.{holds}
 use Rattle.um_cells.specs.Operations.{Gives, TakenApart}

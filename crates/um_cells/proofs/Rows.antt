@@ -1,6 +1,5 @@
 -- Lists and records of some words.
 use Rattle.std.proofs.Common.{◌≡◌, refl, sym, ap, ◌∙◌, subst, ℕ, zero, suc, ◌+◌, ◌-◌, ◌<◌, ◌≤◌, List, [], ◌∷◌, ◌++◌, length, map, take, drop, get_or, Option, Some, arith, length-append}
-use Rattle.std.specs.Prelude.{slice_get}
 use Rattle.std.proofs.lemmas.List.{take_more, take_all, map-append, length-map}
 use Rattle.um_tree.specs.ValueTree.{ValueTree, ValueTrees, record_value, no_values, more_values, values_in_order}
 use Rattle.um_cells.specs.declared.word.Word.{Word}

@@ -1,6 +1,6 @@
 -- Tests joined by and, and what a test on a cell says of it.
 use Rattle.std.proofs.Common.{rules, ◌≡◌, refl, ℕ, ◌<◌, List, Option, Some, None}
-use Rattle.std.specs.Prelude.{slice_get, Bool, true, false, ◌&&◌, nat_lt, IsTrue}
+use Rattle.std.specs.Prelude.{Bool, true, false, ◌&&◌, nat_lt, IsTrue}
 use Rattle.um_cells.specs.declared.word.Word.{Word}
 use Rattle.um_cells.specs.declared.cell.Cell.{Cell}
 use Rattle.um_cells.specs.declared.cell.Cell.TheVariants.{Item, Record, Part}

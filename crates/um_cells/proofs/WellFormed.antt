@@ -10,7 +10,7 @@ use Rattle.um_cells.specs.declared.cell.Cell.{Cell}
 use Rattle.um_cells.specs.declared.cell.Cell.TheVariants.{Item, Record, Part}
 use Rattle.um_cells.specs.Denotes.{Denotes, ListFrom, PartsFrom, DenoteEach, Retains, list_from, number_of}
 use Rattle.um_cells.specs.Formed.{is_item, is_record, names_among, part_formed, parts_formed, cell_formed, Formed, holds}
-use Rattle.um_cells.proofs.Denoting.{Extends, one_value}
+use Rattle.um_cells.proofs.Denoting.{Extends}
 use Rattle.um_cells.proofs.Tests.{both_true, and_true, less_from_test, test_from_less, item_there, record_there, part_there}
 
 -- what is named among the first cells is so among more of them, and where every cell is kept

@@ -2,7 +2,7 @@ use Rattle.std.proofs.Common.{rules, ◌≡◌, sym, subst, ap, ◌∙◌, arith
 use Rattle.um_tree.specs.ValueTree.{value_tree}
 use Rattle.std.specs.Prelude.{IsTrue}
 use Rattle.um_tree.specs.declared.value.Value.{the_lemmas}
-use Rattle.um_cells.specs.declared.cell.Cell.TheVariants.{Item, Record}
+use Rattle.um_cells.specs.declared.cell.Cell.TheVariants.{Record}
 use Rattle.um_cells.specs.Denotes.{ListFrom, PartsFrom}
 use Rattle.um_cells.proofs.Walking.{reach, reach_of_next, next_is_item, followed, reach_within, next_within, next_item, item_names, list_step, list_end, parts_step, parts_end, part_is_there, part_names, named_value, item_of_value, record_of_value, record_read, nil_read}
 use Rattle.um_cells.proofs.store.Store.+get.Goals as goal
