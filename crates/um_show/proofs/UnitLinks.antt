@@ -27,7 +27,7 @@ pub never : {P : Type 0} → false ≡ true → P
 never e = absurd (false≢true e)
 
 -- digits up to the greatest power
-digits_low : (n : ℕ) (tokens rest : List Token) → Digits n tokens rest → AllGood tokens → (n ≤ 2147483647) × AllGood rest
+pub digits_low : (n : ℕ) (tokens rest : List Token) → Digits n tokens rest → AllGood tokens → (n ≤ 2147483647) × AllGood rest
 digits_low n tokens rest s h = (power_good s.1.0.kind s.0 n s.1.1, (first_good tokens rest s.1.0 s.1.2 h).1)
 
 negative_links : (n : ℕ) (rest : List Token) → n ≤ 2147483647 → AllGood rest → Linked raised (power_pieces (neg_ℤ (pos n))) full rest
