@@ -1,6 +1,7 @@
-use Rattle.std.proofs.Common.{rules, ◌≡◌, refl, ◌++◌, ◌∷◌, [], List, ap, sym, ◌∙◌, append_assoc, codes, map}
+use Rattle.std.proofs.Common.{rules, w32, ◌≡◌, refl, ◌++◌, ◌∷◌, [], List, ap, sym, ◌∙◌, append_assoc, codes, map}
 use Rattle.std.specs.List.{join_by, flat_map}
 use Rattle.std.proofs.lemmas.List.{take_all, append-nil}
+use Rattle.std.proofs.lemmas.Int.{to_z-of_z}
 use Rattle.std.proofs.lemmas.Result.{on_ok_weaker}
 use Rattle.um_tree.specs.declared.raw.RawNode.{the_lemmas}
 use Rattle.um_tree.specs.RawTree.{binder_syntax, expr_syntax, exprs_in_order, field_part, fields_in_order, arith_syntax, compare_syntax, and_syntax, or_syntax, cons_syntax}
@@ -58,8 +59,9 @@ push_pown-returns t c =
     let head : List Piece = pown_word ∷ space ∷ [] in
     let begun = grown _ _ _ head (expr_pieces a) c.in_ok-extend_from_slice.ensures.items c.in_ok-push_expr.ensures in
     let apart = grown _ _ _ (head ++ expr_pieces a) (space ∷ []) begun c.in_ok-push.ensures.items in
-    grows c.push_whole_power.result _ _ _ ((head ++ expr_pieces a) ++ space ∷ []) (whole_power_pieces c.args.power) _
-    (sym (append_assoc (head ++ expr_pieces a) (space ∷ []) (whole_power_pieces c.args.power))) apart c.push_whole_power.ensures
+    let whole = sym (append_assoc (head ++ expr_pieces a) (space ∷ []) (whole_power_pieces c.args.power)) in
+    let passed = ap (λ k. ((head ++ expr_pieces a) ++ space ∷ []) ++ whole_power_pieces k) (sym (to_z-of_z w32 c.args.power c.ranges.power)) in
+    grows c.push_whole_power.result _ _ _ ((head ++ expr_pieces a) ++ space ∷ []) _ _ (whole ∙ passed) apart c.push_whole_power.ensures
 
 pub push_bracketed-returns : goal.push_bracketed-returns
 push_bracketed-returns t c =
