@@ -92,8 +92,8 @@ power_links k tokens rest s h =
     ⊎_elim
     (λ p. let d = first_power_good p.0 tokens rest p.2 h in subst (λ z. Linked (fresh false false) (whole_power_pieces z) full rest) (sym p.1) (record { chain = (d.0, refl, refl); good = d.1 }))
     (λ m.
-      let behind = (first_good m.1 m.2 m.6.0 m.6.2 (first_good tokens m.1 m.5.0 m.5.2 h).1).1 in let d = first_power_good m.0 m.2 m.3 m.7 behind in
-      subst (λ z. Linked (fresh false false) (whole_power_pieces z) full rest) (sym m.4) (negative_power_links m.0 rest d.0 (first_good m.3 rest m.8.0 m.8.2 d.1).1))
+    let behind = (first_good m.1 m.2 m.6.0 m.6.2 (first_good tokens m.1 m.5.0 m.5.2 h).1).1 in let d = first_power_good m.0 m.2 m.3 m.7 behind in
+    subst (λ z. Linked (fresh false false) (whole_power_pieces z) full rest) (sym m.4) (negative_power_links m.0 rest d.0 (first_good m.3 rest m.8.0 m.8.2 d.1).1))
     s
 
 empty_arm_behind : (tokens rest : List Token) → EmptyArm tokens rest → AllGood tokens → AllGood rest
