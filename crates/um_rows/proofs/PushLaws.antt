@@ -84,12 +84,12 @@ module _ (at : ℕ) (left : TypeTree) where
   each-both : (ss ts : List Ty) → each (ss ++ ts) ≡ each ss ++ each ts
   each-both ss ts = ap (against_each at left) (map-append type_tree ss ts) ∙ each-append (map type_tree ss) (map type_tree ts)
 
-  module _ (others : List Ty) (i : ℕ) (d : Ty) (h : i < length others) (old now : List Row) (was : AreBehind (each (take i others)) old now) where
+  module _ (others : List Ty) (i : ℕ) (t : Ty) (h : i < length others) (is : t ≡ get_or others i t) (old now : List Row) (was : AreBehind (each (take i others)) old now) where
     abbrev own : List Step
-    own = against at left (type_tree (get_or others i d))
+    own = against at left (type_tree t)
 
     each_more : each (take (i + 1) others) ≡ each (take i others) ++ own
-    each_more = ap each (take_more others i d h) ∙ each-both (take i others) (get_or others i d ∷ []) ∙ ap (λ r. each (take i others) ++ r) (append-nil own)
+    each_more = ap each (take_more others i t h ∙ ap (λ x. take i others ++ x ∷ []) (sym is)) ∙ each-both (take i others) (t ∷ []) ∙ ap (λ r. each (take i others) ++ r) (append-nil own)
 
     each_all : each others ≡ each (take (i + 1) others) ++ each (drop (i + 1) others)
     each_all = ap each (sym (take-append-drop (i + 1) others)) ∙ each-both (take (i + 1) others) (drop (i + 1) others)

@@ -12,9 +12,9 @@ returns-in_err-against c =
     let left = type_tree c.args.left.now in
     let others = c.args.others.now in
     let stops : StopsPast (first_past (against_each c.args.at left (map type_tree others))) err =
-    each_stops c.args.at left others c.loop-t.t-index _ c.loop-t-test.true c.args.rows.now.items c.loop-t.rows.items c.loop-t.invariant err c.in_err-against.ensures in
+    each_stops c.args.at left others c.loop-t.t-index c.t-item.result c.loop-t-test.true c.t-item.is c.args.rows.now.items c.loop-t.rows.items c.loop-t.invariant err c.in_err-against.ensures in
     search (rules, stops)
 
 pub loop-t-preserved : goal.loop-t-preserved
 loop-t-preserved c =
-    each_next c.args.at (type_tree c.args.left.now) c.args.others.now c.loop-t.t-index _ c.loop-t-test.true c.args.rows.now.items c.loop-t.rows.items c.loop-t.invariant c.against.new.rows.items c.in_ok-against.ensures
+    each_next c.args.at (type_tree c.args.left.now) c.args.others.now c.loop-t.t-index c.t-item.result c.loop-t-test.true c.t-item.is c.args.rows.now.items c.loop-t.rows.items c.loop-t.invariant c.against.new.rows.items c.in_ok-against.ensures
