@@ -98,7 +98,7 @@ pub yields_body : (recursive : Bool) (at : ℕ) (x : List ℕ) (ps : List ParamS
     → (b : Bool) × Yields decl_step (InBody recursive at x ps r (Need [])) tokens (InBody recursive at x ps r (at_end b (opened [] e) (last_atom e))) rest
 yields_body recursive at x ps r e tokens rest s fits =
     let p = expr_reaches e tokens rest s fits in
-    (p.2, p.0, p.1, lift step Refused (λ t. refl) decl_step (λ w. InBody recursive at x ps r w) (body_inside recursive at x ps r) p.0 (Need []) (at_end p.2 (opened [] e) (last_atom e)) p.3 p.4)
+    (p.2, (p.0, p.1, lift step Refused (λ t. refl) decl_step (λ w. InBody recursive at x ps r w) (body_inside recursive at x ps r) p.0 (Need []) (at_end p.2 (opened [] e) (last_atom e)) p.3 p.4))
 
 -- the machine of types goes on inside
 pub field_inside : (at : ℕ) (x : List ℕ) (vs : List VarSyntax) (fs : List FieldDeclSyntax) (place : ℕ) (y : List ℕ) (s new : TypeState) (token : Token) → type_step s token ≡ new → new ≢ NoType
