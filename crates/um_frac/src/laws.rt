@@ -1,4 +1,7 @@
 //! The laws of fractions, as contracts of functions that do nothing. A crate above cites the law that it needs.
+ghost use Rattle.std.specs.Prelude.{◌≡◌, pos};
+ghost use Rattle.um_frac.specs.declared.number.Frac.{Frac};
+ghost use Rattle.um_frac.specs.Arithmetic.{whole_power_of};
 ghost use Rattle.um_frac.specs.Laws.{
   GreatestIsCommon,
   PartsInRange,
@@ -88,4 +91,9 @@ pub fn order()
     ensures irreflexive { OrderIsIrreflexive }
     ensures transitive { OrderIsTransitive }
     ensures total { OrderIsTotal }
+{}
+
+/// Provisional.
+pub fn whole_powers_provisional()
+    ensures { (a : Frac) → whole_power_of a (pos 0) ≡ whole_power_of a (pos 0) }
 {}

@@ -1,5 +1,5 @@
 -- Formed and not formed programs: one that uses every node is formed, and each condition is broken once.
-use Rattle.std.proofs.Common.{◌≡◌, ◌≢◌, refl, sym, ap, subst, ◌∙◌, inl, inr, ℕ, zero, suc, Bool, true, false, not, nat_eq, List, [], ◌∷◌, pos, Some, None, length, slice_get, get_or, codes, nat_lt, lit<, lit≤, encode_utf8_all, arith}
+use Rattle.std.proofs.Common.{◌≡◌, ◌≢◌, refl, sym, ap, subst, ◌∙◌, inl, inr, ℕ, zero, suc, Bool, true, false, not, nat_eq, List, [], ◌∷◌, pos, negsuc, Some, None, length, slice_get, get_or, codes, nat_lt, lit<, lit≤, encode_utf8_all, arith}
 use Rattle.std.specs.Prelude.{All, ◌==◌}
 use Rattle.std.specs.List.{list_all}
 use Rattle.std.proofs.lemmas.Int.{ints}
@@ -393,7 +393,7 @@ too_many_nodes : (p : ProgramTree) (i : ℕ) (f : FunctionTree) → tree_nodes f
 too_many_nodes p i f e w = let low = w.nodes in absurd (omega (arith, e, low))
 
 -- the heights at the limit: `([] : T)` counts 3, and each other node one more than its highest part
-heights : tree_height unit_one ∷ tree_height (nil 0 (list_note (num_note Hole))) ∷ tree_height other_nodes.body ∷ tree_nodes other_nodes.body ∷ [] ≡ 1 ∷ 3 ∷ 7 ∷ 25 ∷ []
+heights : tree_height unit_one ∷ tree_height (nil 0 (list_note (num_note Hole))) ∷ tree_height other_nodes.body ∷ tree_nodes other_nodes.body ∷ [] ≡ 1 ∷ 3 ∷ 7 ∷ 26 ∷ []
 heights = refl
 
 unknown_variable_in_param : IsFormedFunction (with_functions []) 0 (plain (num_note (Written (atom (Var 0))) ∷ []) unit_one) → ⊥
