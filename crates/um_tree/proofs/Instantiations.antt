@@ -97,9 +97,20 @@ module _ (b n : ℕ) where
   is_parameter m = nat_le b m && nat_lt m (b + n)
 
   -- the parameters become variables
-  abbrev named : Atom → PowerMap
+  abbrev pub named : Atom → PowerMap
   named (Base m) = if is_parameter m then atom (Var (m - b)) else atom (Base m)
   named (Var j) = atom (Var (n + j))
+
+  not_parameter : (m : ℕ) → ((m < b) ⊎ (b + n ≤ m)) → is_parameter m ≡ false
+  not_parameter m (inl e) = grind (arith, nat_tests)
+  not_parameter m (inr e) = grind (arith, nat_tests)
+
+  parameter : (k : ℕ) → k < n → is_parameter (b + k) ≡ true
+  parameter k e = grind (arith, nat_tests)
+
+  -- declared base units are left
+  pub named-declared : (k : ℕ) → k < b → extension named (atom (Base k)) ≡ atom (Base k)
+  named-declared k e = extension-atom named (Base k) ∙ ap (λ t. if t then atom (Var (k - b)) else atom (Base k)) (not_parameter k (inl e))
 
   module _ (inst h : PowerMap → PowerMap) (is : IsInstantiation b n inst) (h-mul : IsHomomorphism h) where
     -- the change that leaves the parameters
@@ -117,6 +128,26 @@ module _ (b n : ℕ) where
 
     abbrev pub instantiation : PowerMap → PowerMap
     instantiation = extension loose_at
+
+    pub rigid_change-mul : IsHomomorphism rigid_change
+    rigid_change-mul = extension-mul rigid_at
+
+    pub rigid_change-declared : (k : ℕ) → k < b → rigid_change (atom (Base k)) ≡ extension named (h (atom (Base k)))
+    rigid_change-declared k e =
+        extension-atom rigid_at (Base k)
+        ∙ ap (λ t. if t then atom (Base k) else extension named (h (inst (atom (Base k))))) (not_parameter k (inl e))
+        ∙ ap (λ u. extension named (h u)) (is.others k (inl e))
+
+    pub rigid_change-parameter : (k : ℕ) → k < n → rigid_change (atom (Base (b + k))) ≡ atom (Base (b + k))
+    rigid_change-parameter k e =
+        extension-atom rigid_at (Base (b + k))
+        ∙ ap (λ t. if t then atom (Base (b + k)) else extension named (h (inst (atom (Base (b + k)))))) (parameter k e)
+
+    pub instantiation-is : IsInstantiation b n instantiation
+    instantiation-is = record {
+      homomorphism = extension-mul loose_at;
+      others = λ k e. extension-atom loose_at (Base k) ∙ ap (λ t. if t then h (inst (atom (Base k))) else atom (Base k)) (not_parameter k e);
+    }
 
     -- it takes the names back
     back_at : (x : Atom) → extension loose_at (named x) ≡ atom x
@@ -149,7 +180,7 @@ module _ (b n : ℕ) where
     -- one after the other they are h behind the instantiation
     same_at : (x : Atom) → instantiation (rigid_change (atom x)) ≡ h (inst (atom x))
     same_at (Base m) =
-        elim (is_parameter m) as (λ t. is_parameter m ≡ t → instantiation (if t then atom (Base m) else extension named (h (inst (atom (Base m))))) ≡ h (inst (atom (Base m)))) [
+        ap instantiation (extension-atom rigid_at (Base m)) ∙ elim (is_parameter m) as (λ t. is_parameter m ≡ t → instantiation (if t then atom (Base m) else extension named (h (inst (atom (Base m))))) ≡ h (inst (atom (Base m)))) [
           | true ↦ λ e. extension-atom loose_at (Base m) ∙ ap (λ t. if t then h (inst (atom (Base m))) else atom (Base m)) e
           | false ↦ λ e. back (h (inst (atom (Base m))))
         ] refl

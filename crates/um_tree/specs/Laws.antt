@@ -1,7 +1,7 @@
 -- What the definitions come to: how typings, literals, budgets and shapes behave. The definitions do not rest on this.
 -- Source: Kennedy 1996: typings are closed under replacements of units for variables; Kennedy 1997: a homomorphism of
 -- units moves them, and only 0 has every unit. The laws of budgets and shapes are this project's own.
-use Rattle.std.specs.Prelude.{◌≡◌, ◌≢◌, ◌↔◌, ◌<◌, ◌≤◌, ◌+◌, ℕ, All, List, map, pos, slice_get, Option, Some, None}
+use Rattle.std.specs.Prelude.{◌≡◌, ◌≢◌, ◌↔◌, ◌<◌, ◌≤◌, ◌+◌, ℕ, All, List, length, map, pos, slice_get, Option, Some, None}
 use Rattle.um_units.specs.declared.Atom.TheVariants.{Base}
 use Rattle.um_units.specs.PowerMap.{PowerMap, mul, atom, power_of}
 use Rattle.um_units.specs.Variables.{IsClosed}
