@@ -13,3 +13,11 @@ pub mod Numbered
 pub mod TypingLaws
 pub mod ShapeLaws
 pub mod BudgetLaws
+pub mod ExamplePrograms
+pub mod ExampleShown
+mod ExampleMeanings
+mod ExampleFormed
+mod ExampleRuns
+mod ExampleVehicle
+pub mod ExampleTypings
+pub mod ExampleSchemes
