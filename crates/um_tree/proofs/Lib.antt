@@ -21,3 +21,4 @@ mod ExampleRuns
 mod ExampleVehicle
 pub mod ExampleTypings
 pub mod ExampleSchemes
+mod ExampleParameters
