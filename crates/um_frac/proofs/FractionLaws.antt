@@ -1,5 +1,5 @@
 -- The laws of fractions, proved.
-use Rattle.std.proofs.Common.{inl, inr, ◌<ℤ◌, subst, ◌≡◌, ◌≢◌, ◌↔◌, ℕ, ◌*◌, ◌<◌, ◌≤◌, ℤ, pos, ◌*ℤ◌, neg_ℤ, unsigned_abs, Ok, IfOk, refl, sym, ap, ◌∙◌, arith}
+use Rattle.std.proofs.Common.{inl, inr, ◌<ℤ◌, subst, ◌≡◌, ◌≢◌, ◌↔◌, ℕ, ◌*◌, ◌<◌, ◌≤◌, ℤ, pos, ◌*ℤ◌, neg_ℤ, unsigned_abs, Ok, IfOk, suc, negsuc, refl, sym, ap, ◌∙◌, arith}
 use Rattle.std.specs.Option.{ok_or, unwrap_or}
 use Rattle.std.specs.Int.{◌∣◌}
 use Rattle.std.proofs.lemmas.Int.{ints, unsigned_abs-mul, by_lt_z}
@@ -9,12 +9,14 @@ use Rattle.um_frac.specs.declared.number.Frac.{Frac}
 use Rattle.um_frac.specs.declared.number.Trap.TheVariants.{Overflow}
 use Rattle.um_frac.specs.Gcd.{gcd}
 use Rattle.um_frac.specs.Fraction.{numerator, denominator}
-use Rattle.um_frac.specs.Arithmetic.{exactly, sum_of, difference_of, product_of, negation_of, IsRatio, IsNegation}
-use Rattle.um_frac.specs.Laws.{GreatestIsCommon, PartsInRange, PartsInLowestTerms, EqualParts, EqualCrossProducts, OneForm, ReducedIsQuotient, SumIsExact, SumOverflows, SumNeverDivZero, DifferenceIsExact, DifferenceOverflows, DifferenceNeverDivZero, ProductIsExact, ProductOverflows, ProductNeverDivZero, QuotientIsExact, QuotientByZero, QuotientOverflows, NegationIsExact, SameIsEqual, OrderIsIrreflexive, OrderIsTransitive, OrderIsTotal}
+use Rattle.um_frac.specs.Arithmetic.{exactly, sum_of, difference_of, product_of, whole_power_of, negation_of, IsRatio, IsWholePower, IsNegation}
+use Rattle.um_frac.specs.Laws.{GreatestIsCommon, PartsInRange, PartsInLowestTerms, EqualParts, EqualCrossProducts, OneForm, ReducedIsQuotient, SumIsExact, SumOverflows, SumNeverDivZero, DifferenceIsExact, DifferenceOverflows, DifferenceNeverDivZero, ProductIsExact, ProductOverflows, ProductNeverDivZero, QuotientIsExact, QuotientByZero, QuotientOverflows, WholePowerIsExact, WholePowerOfZero, WholePowerOverflows, PowerZeroIsOne, NegationIsExact, SameIsEqual, OrderIsIrreflexive, OrderIsTransitive, OrderIsTotal}
 use Rattle.um_frac.proofs.Gcd.{gcd-is, gcd_comm, gauss}
 use Rattle.um_frac.proofs.Integers.{*ℤ-ne-zero, times_swap, less_times, less_cancel, less_trans}
 use Rattle.um_frac.proofs.LowestTerms.{AreTerms, above_zero, reduced_terms, reduced_from, reduced_exact, fraction_from, same_parts, some_is, neg_abs, num_size}
 use Rattle.um_frac.proofs.Outcomes.{less_iff, exact_ok, cross_equal, same_iff, sum_clauses, difference_clauses, product_clauses, quotient_any, quotient_exactly, dens_apart, den_apart, size_up, within}
+use Rattle.um_frac.proofs.Powers.{int_pow-zero, int_pow-ne-zero}
+use Rattle.um_frac.proofs.WholePowers.{whole_power_clauses, negative_exactly, den_power_apart}
 
 pub greatest_is_common : GreatestIsCommon
 greatest_is_common = gcd-is
@@ -122,6 +124,25 @@ quotient_by_zero a b = (quotient_any a b).zero
 pub quotient_is_exact : QuotientIsExact
 quotient_is_exact a b r =
     ((λ e. subst (λ o. IfOk o (λ s. IsRatio s a b)) e (quotient_any a b).exact), (λ is. quotient_exactly a b is.0 ∙ (exactly_ok (numerator a *ℤ denominator b) (denominator a *ℤ numerator b) r (*ℤ-ne-zero (denominator a) (numerator b) (den_apart a) is.0)).1 is.1))
+
+-- ---- whole powers
+pub whole_power_from : (a r : Frac) (k : ℤ) → IsWholePower r a k → whole_power_of a k ≡ Ok r
+unfolding whole_power_of
+whole_power_from a r (pos n) is = (exactly_ok _ _ r (den_power_apart a n)).1 is
+whole_power_from a r (negsuc n) is = negative_exactly a n is.0 ∙ (exactly_ok _ _ r (int_pow-ne-zero (numerator a) (suc n) is.0)).1 is.1
+
+pub whole_power_is_exact : WholePowerIsExact
+whole_power_is_exact a r k = ((λ e. subst (λ o. IfOk o (λ s. IsWholePower s a k)) e (whole_power_clauses a k _ refl).exact), whole_power_from a r k)
+
+pub whole_power_of_zero : WholePowerOfZero
+whole_power_of_zero a k = (whole_power_clauses a k _ refl).zero
+
+pub whole_power_overflows : WholePowerOverflows
+whole_power_overflows a k = (whole_power_clauses a k _ refl).overflow
+
+pub power_zero_is_one : PowerZeroIsOne
+power_zero_is_one a r e f =
+    (whole_power_is_exact a r (pos 0)).1 ((λ i. e i *ℤ int_pow-zero (denominator a) i) ∙ (λ i. sym (int_pow-zero (numerator a)) i *ℤ sym f i))
 
 -- ---- the order
 pub order_is_irreflexive : OrderIsIrreflexive

@@ -1,15 +1,16 @@
 -- The laws of fractions: what the definitions of this crate come to, in the words of the rational numbers, which are
 -- pairs of integers with equal cross products. That lowest terms are unique: Knuth, Seminumerical Algorithms, 4.5.1.
 use Rattle.std.specs.Prelude.{◌≡◌, ◌≢◌, ◌↔◌, ◌⊎◌, ℕ, ◌≤◌, ℤ, pos}
-use Rattle.std.specs.Prelude.{neg_ℤ, ◌*ℤ◌, ◌≤ℤ◌, unsigned_abs, IsTrue, Some, Ok, Err}
+use Rattle.std.specs.Prelude.{neg_ℤ, ◌*ℤ◌, ◌≤ℤ◌, ◌<ℤ◌, unsigned_abs, IsTrue, Some, Ok, Err}
 use Rattle.std.specs.Int.{IsGcd, ◌∣◌}
 use Rattle.um_frac.specs.Range.{greatest}
 use Rattle.um_frac.specs.declared.number.Frac.{Frac}
 use Rattle.um_frac.specs.declared.number.Trap.TheVariants.{Overflow, DivZero}
 use Rattle.um_frac.specs.Gcd.{gcd}
 use Rattle.um_frac.specs.Fraction.{numerator, denominator, reduced, IsQuotient}
-use Rattle.um_frac.specs.Arithmetic.{sum_of, difference_of, product_of, quotient_of, negation_of, is_less}
-use Rattle.um_frac.specs.Arithmetic.{is_same, IsSum, IsDifference, IsProduct, IsRatio, IsNegation}
+use Rattle.um_frac.specs.Arithmetic.{sum_of, difference_of, product_of, quotient_of, whole_power_of}
+use Rattle.um_frac.specs.Arithmetic.{negation_of, is_less}
+use Rattle.um_frac.specs.Arithmetic.{is_same, IsSum, IsDifference, IsProduct, IsRatio, IsWholePower, IsNegation}
 
 -- ---- lowest terms
 -- the greatest number that divides two numbers is divided by each number that divides both
@@ -85,6 +86,29 @@ QuotientByZero = (a b : Frac) → (quotient_of a b ≡ Err DivZero) ↔ (numerat
 abbrev pub QuotientOverflows : Type 0
 QuotientOverflows =
     (a b : Frac) → (quotient_of a b ≡ Err Overflow) ↔ ((numerator b ≢ pos 0) × ((r : Frac) → ¬ IsRatio r a b))
+
+-- ---- whole powers
+abbrev pub WholePowerIsExact : Type 0
+WholePowerIsExact = (a r : Frac) (k : ℤ) → (whole_power_of a k ≡ Ok r) ↔ IsWholePower r a k
+
+abbrev pub WholePowerOfZero : Type 0
+WholePowerOfZero = (a : Frac) (k : ℤ) → (whole_power_of a k ≡ Err DivZero) ↔ ((numerator a ≡ pos 0) × (k <ℤ pos 0))
+
+abbrev pub WholePowerOverflows : Type 0
+WholePowerOverflows =
+    (a : Frac) (k : ℤ) →
+    (whole_power_of a k ≡ Err Overflow)
+    ↔ ((¬ ((numerator a ≡ pos 0) × (k <ℤ pos 0))) × ((r : Frac) → ¬ IsWholePower r a k))
+
+-- the power 0 of every number is 1
+abbrev pub PowerZeroIsOne : Type 0
+PowerZeroIsOne = (a r : Frac) → numerator r ≡ pos 1 → denominator r ≡ pos 1 → whole_power_of a (pos 0) ≡ Ok r
+
+-- a power of a product is the product of the powers
+abbrev pub PowersOfProducts : Type 0
+PowersOfProducts =
+    (a b r s t v : Frac) (k : ℤ) →
+    IsWholePower r a k → IsWholePower s b k → IsProduct t a b → IsProduct v r s → IsWholePower v t k
 
 -- ---- negation and equality
 abbrev pub NegationIsExact : Type 0

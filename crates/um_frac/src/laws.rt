@@ -1,7 +1,4 @@
 //! The laws of fractions, as contracts of functions that do nothing. A crate above cites the law that it needs.
-ghost use Rattle.std.specs.Prelude.{◌≡◌, pos};
-ghost use Rattle.um_frac.specs.declared.number.Frac.{Frac};
-ghost use Rattle.um_frac.specs.Arithmetic.{whole_power_of};
 ghost use Rattle.um_frac.specs.Laws.{
   GreatestIsCommon,
   PartsInRange,
@@ -22,6 +19,11 @@ ghost use Rattle.um_frac.specs.Laws.{
   QuotientIsExact,
   QuotientByZero,
   QuotientOverflows,
+  WholePowerIsExact,
+  WholePowerOfZero,
+  WholePowerOverflows,
+  PowerZeroIsOne,
+  PowersOfProducts,
   NegationIsExact,
   SameIsEqual,
   OrderIsIrreflexive,
@@ -81,6 +83,16 @@ pub fn quotients()
     ensures overflow { QuotientOverflows }
 {}
 
+/// A whole power is the number that the powers of the parts say; a negative power of 0 is a trap of its own, and the
+/// power 0 of every number is 1. A power of a product is the product of the powers.
+pub fn whole_powers()
+    ensures exact { WholePowerIsExact }
+    ensures zero { WholePowerOfZero }
+    ensures overflow { WholePowerOverflows }
+    ensures power_zero { PowerZeroIsOne }
+    ensures products { PowersOfProducts }
+{}
+
 /// The negation has the numerator with the other sign and the same denominator.
 pub fn negations()
     ensures { NegationIsExact }
@@ -91,9 +103,4 @@ pub fn order()
     ensures irreflexive { OrderIsIrreflexive }
     ensures transitive { OrderIsTransitive }
     ensures total { OrderIsTotal }
-{}
-
-/// Provisional.
-pub fn whole_powers_provisional()
-    ensures { (a : Frac) → whole_power_of a (pos 0) ≡ whole_power_of a (pos 0) }
 {}

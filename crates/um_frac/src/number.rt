@@ -1,4 +1,5 @@
 ghost use Rattle.std.specs.Prelude.{◌≡◌, ◌≢◌, ◌↔◌, ◌<◌, ◌≤◌, ℤ, pos, neg_ℤ, ◌≤ℤ◌, ◌<ℤ◌, ◌+ℤ◌, ◌*ℤ◌, unsigned_abs, IsTrue, IsNone, IfSome, IfOk};
+ghost use Rattle.std.specs.Int.{int_pow};
 ghost use Rattle.um_frac.specs.Range.{greatest};
 ghost use Rattle.um_frac.specs.Gcd.{gcd};
 
@@ -12,7 +13,7 @@ const GREATEST: u128 = i64::MAX as u128;
 pub enum Trap {
     /// The exact result, in lowest terms, is out of the range of [`Frac`].
     Overflow,
-    /// A quotient has the divisor 0.
+    /// A quotient has the divisor 0, or a negative power the base 0.
     DivZero,
 }
 
@@ -36,7 +37,7 @@ pub struct Frac {
 
 impl Frac {
     ghost use Rattle.um_frac.specs.Fraction.{numerator, denominator, reduced, IsQuotient, Fits};
-    ghost use Rattle.um_frac.specs.Arithmetic.{sum_of, difference_of, product_of, quotient_of, negation_of, is_less, is_same, IsSum, IsDifference, IsProduct, IsRatio, IsNegation};
+    ghost use Rattle.um_frac.specs.Arithmetic.{sum_of, difference_of, product_of, quotient_of, whole_power_of, negation_of, is_less, is_same, IsSum, IsDifference, IsProduct, IsRatio, IsWholePower, IsNegation};
 
     /// The number 0.
     pub fn zero() -> Frac
@@ -147,6 +148,27 @@ impl Frac {
             return Err(Trap::DivZero);
         }
         self.mul(other.reciprocal())
+    }
+
+    /// The number to the power `k`; the power 0 of every number is 1.
+    ///
+    /// `DivZero` exactly where the number is 0 and `k` is negative, and else `Overflow` exactly where the exact power is
+    /// out of range.
+    pub fn pow(self, k: i32) -> Result<Frac, Trap>
+        ensures value { result ≡ whole_power_of self k }
+        ensures exact { IfOk result (λ r. IsWholePower r self k) }
+        ensures zero { (result ≡ Err Trap.DivZero) ↔ ((numerator self ≡ pos 0) × (k <ℤ pos 0)) }
+        ensures overflow { (result ≡ Err Trap.Overflow) ↔ ((¬ ((numerator self ≡ pos 0) × (k <ℤ pos 0))) × ((r : Frac) → ¬ IsWholePower r self k)) }
+    {
+        if k >= 0 {
+            return self.natural_power(k.unsigned_abs()).ok_or(Trap::Overflow);
+        }
+        if self.num == 0 {
+            return Err(Trap::DivZero);
+        }
+        self.reciprocal()
+            .natural_power(k.unsigned_abs())
+            .ok_or(Trap::Overflow)
     }
 
     /// The number with the other sign, which is always in range.
@@ -268,6 +290,16 @@ impl Frac {
         let size = (own / left) as u128 * (others / right) as u128;
         let below = (m / right) as u128 * (n / left) as u128;
         Frac::in_range((a < 0) != (b < 0), size, below)
+    }
+
+    // The number to the power n, or `None` where it is out of range. Powers of numbers in lowest terms are in lowest
+    // terms.
+    fn natural_power(self, n: u32) -> Option<Frac>
+        ensures { result ≡ reduced (int_pow (numerator self) n) (int_pow (denominator self) n) }
+    {
+        let size = self.num.unsigned_abs().checked_pow(n)?;
+        let den = self.den.unsigned_abs().checked_pow(n)?;
+        Frac::in_range(self.num < 0 && n % 2 == 1, size as u128, den as u128)
     }
 
     // 1 / self, which is always in range.
