@@ -1,5 +1,5 @@
 -- What an expression spells is read as it, inside any frames, whatever follows.
-use Rattle.std.proofs.Common.{◌≡◌, ℕ, ◌≤◌, ◌<◌, List, [], ◌∷◌, Bool, Option, Some, None, refl, sym, ap, ◌∙◌}
+use Rattle.std.proofs.Common.{◌≡◌, ℕ, ◌≤◌, ◌<◌, List, [], ◌∷◌, Bool, false, Option, Some, None, refl, sym, ap, ◌∙◌}
 use Rattle.std.proofs.lemmas.Bool.{lt-ltb}
 use Rattle.um_frac.specs.declared.number.Frac.{Frac}
 use Rattle.um_syntax.specs.declared.token.Token.{Token}
@@ -16,18 +16,12 @@ use Rattle.um_expr.specs.declared.infix.Infix.TheVariants as between
 use Rattle.um_expr.specs.declared.token.ExprToken.TheVariants.{Name as name, Hole as hole, Operator as operator}
 use Rattle.um_expr.specs.ExprTokens.{equal, less, greater}
 use Rattle.um_expr.specs.Ranks.{infix_rank, left_limit}
-use Rattle.um_expr.specs.ExprGrammar.{FirstAt, bound, BinderSpells, ends_in_number, InfixAt, WrittenNote, Spells, rank, NoteFitsIn, Fits}
+use Rattle.um_expr.specs.ExprGrammar.{FirstAt, bound, BinderSpells, InfixAt, WrittenNote, Spells, rank, NoteFitsIn, Fits}
 use Rattle.um_expr.specs.ExprMachine.{Frame, InRight, top_bound, State, Need, Have, Greater, InNote, reduce, if_may, infix_after, greater_after, act, step}
-use Rattle.um_expr.proofs.ExprEnds.{opened, last_atom, stays, ends_as, infix_opens, atom_opened, atom_last, last_number, less_free}
-use Rattle.um_expr.proofs.ExprYields.{yields_at, yields_glued, yields_alike, yields_note, yields_note_end}
+use Rattle.um_expr.proofs.ExprEnds.{opened, last_atom, stays, ends_as, infix_opens}
+use Rattle.um_expr.proofs.ExprAtEnd.{at_end, Reads, reads_then, need_apart, is_less, less_at_end, ends_at}
+use Rattle.um_expr.proofs.ExprYields.{thence, yields_at, yields_glued, yields_alike, yields_note, yields_note_end}
 use Rattle.um_expr.proofs.ExprFirsts.{is_no_equal, first_no_equal, greater_alike}
-
--- the state once an expression was read inside frames
-abbrev pub into : List Frame → ExprSyntax → State
-into frames t = Have (opened frames t) (last_atom t)
-
-pub atom_into : (frames : List Frame) (t : ExprSyntax) → rank t ≡ 0 → into frames t ≡ Have frames t
-atom_into frames t low = ap (λ fs. Have fs (last_atom t)) (atom_opened t frames low) ∙ ap (Have frames) (atom_last t low)
 
 pub may : (frames : List Frame) (rank : ℕ) (st : State) → rank < top_bound frames → if_may frames rank st ≡ st
 may frames rank st lt = rw lt-ltb refl
@@ -42,63 +36,60 @@ pub after_left : (sign : Infix) (at : ℕ) (frames : List Frame) (a : ExprSyntax
     → infix_after sign at (reduce (left_limit sign) (opened frames a) (last_atom a)) ≡ Need (InRight at sign a ∷ frames)
 after_left sign at frames a fits le lt = ap (infix_after sign at) (left_ends sign frames a fits le lt) ∙ may frames (infix_rank sign) (Need (InRight at sign a ∷ frames)) lt
 
-yields_less : (at : ℕ) (frames : List Frame) (a : ExprSyntax) (tokens rest : List Token) → Fits a → rank a ≤ 5 → 6 < top_bound frames → InfixAt (between.Compare compare.Lt) (ends_in_number a) at tokens rest
-    → Yields step (into frames a) tokens (Need (InRight at (between.Compare compare.Lt) a ∷ frames)) rest
-yields_less at frames a tokens rest fits le lt s =
+less_ends : (at : ℕ) (frames : List Frame) (a : ExprSyntax) (old : State) (tokens mid rest : List Token) → Reads old tokens frames a mid → Fits a → rank a ≤ 5 → 6 < top_bound frames
+    → InfixAt (between.Compare compare.Lt) tokens at mid rest → Yields step old tokens (Need (InRight at (between.Compare compare.Lt) a ∷ frames)) rest
+less_ends at frames a old tokens mid rest r fits le lt s =
     let token : Token = s.0 in
-    let free = less_free (opened frames a) (last_atom a) token.glued token.start (λ h. s.3 (sym (last_number a fits) ∙ h)) in (
+    let held : State = at_end r.power (opened frames a) (last_atom a) in
+    let y : Yields step held mid (Need (InRight at (between.Compare compare.Lt) a ∷ frames)) rest = (
       token ∷ [],
       s.4,
-      ap (λ w. act (into frames a) w token.start token.glued token.kind) s.1
-          ∙ free
+      ap (λ w. act held w token.start token.glued token.kind) s.1
+          ∙ less_at_end r.power (opened frames a) (last_atom a) token.glued token.start token.kind (λ h. s.3 (r.number h))
           ∙ ap (λ p. infix_after (between.Compare compare.Lt) p (reduce 5 (opened frames a) (last_atom a))) s.2
           ∙ after_left (between.Compare compare.Lt) at frames a fits le lt,
     )
+    in thence r.yields y
 
 after_left_greater : (at : ℕ) (frames : List Frame) (a : ExprSyntax) → Fits a → rank a ≤ 5 → 6 < top_bound frames → greater_after at (reduce 5 (opened frames a) (last_atom a)) ≡ Greater frames at a
 after_left_greater at frames a fits le lt = ap (greater_after at) (left_ends (between.Compare compare.Gt) frames a fits le lt) ∙ may frames 6 (Greater frames at a) lt
 
 -- `>` and the right operand, where it is read behind other signs
-yields_greater : (at : ℕ) (frames : List Frame) (a b : ExprSyntax) (tokens next rest : List Token) → Fits a → rank a ≤ 5 → 6 < top_bound frames → FirstAt greater at tokens next → Spells b next rest
-    → Yields step (Need (InRight at (between.Compare compare.Gt) a ∷ frames)) next (into (InRight at (between.Compare compare.Gt) a ∷ frames) b) rest
-    → Yields step (into frames a) tokens (into (InRight at (between.Compare compare.Gt) a ∷ frames) b) rest
-yields_greater at frames a b tokens next rest fits le lt s r p =
+greater_ends : (at : ℕ) (frames : List Frame) (a b : ExprSyntax) (old : State) (tokens mid next rest : List Token) → Reads old tokens frames a mid → Fits a → rank a ≤ 5 → 6 < top_bound frames → FirstAt greater at mid next
+    → Spells b next rest → Reads (Need (InRight at (between.Compare compare.Gt) a ∷ frames)) next (InRight at (between.Compare compare.Gt) a ∷ frames) b rest
+    → Reads old tokens (InRight at (between.Compare compare.Gt) a ∷ frames) b rest
+greater_ends at frames a b old tokens mid next rest r fits le lt s right p =
     let behind : List Frame = InRight at (between.Compare compare.Gt) a ∷ frames in
-    yields_then step (into frames a) (Greater frames at a) (into behind b) tokens next rest
-    (yields_at (into frames a) (Greater frames at a) greater at tokens next s (λ g k. after_left_greater at frames a fits le lt))
-    (yields_alike is_no_equal (Greater frames at a) (Need behind) (into behind b) next rest (first_no_equal b next rest r) (λ w q g k h. greater_alike frames at a w q g k h) (λ e. cc) p)
+    let to : State = at_end p.power (opened behind b) (last_atom b) in
+    let sign : Yields step old tokens (Greater frames at a) next = ends_at r (Greater frames at a) greater at s refl (λ g k. after_left_greater at frames a fits le lt) in
+    let y : Yields step (Greater frames at a) next to rest
+    = yields_alike is_no_equal (Greater frames at a) (Need behind) to next rest (first_no_equal b next rest right) (λ w q g k h. greater_alike frames at a w q g k h) (need_apart p.power behind (opened behind b) (last_atom b)) p.yields in
+    reads_then sign (record { power = p.power; yields = y; number = p.number })
 
-yields_at_least : (at : ℕ) (frames : List Frame) (a : ExprSyntax) (tokens rest : List Token) → Fits a → rank a ≤ 5 → 6 < top_bound frames → InfixAt (between.Compare compare.Ge) (ends_in_number a) at tokens rest
-    → Yields step (into frames a) tokens (Need (InRight at (between.Compare compare.Ge) a ∷ frames)) rest
-yields_at_least at frames a tokens rest fits le lt s =
-    yields_then step (into frames a) (Greater frames at a) (Need (InRight at (between.Compare compare.Ge) a ∷ frames)) tokens s.0 rest
-    (yields_at (into frames a) (Greater frames at a) greater at tokens s.0 s.1 (λ g k. after_left_greater at frames a fits le lt))
+at_least_ends : (at : ℕ) (frames : List Frame) (a : ExprSyntax) (old : State) (tokens mid rest : List Token) → Reads old tokens frames a mid → Fits a → rank a ≤ 5 → 6 < top_bound frames
+    → InfixAt (between.Compare compare.Ge) tokens at mid rest → Yields step old tokens (Need (InRight at (between.Compare compare.Ge) a ∷ frames)) rest
+at_least_ends at frames a old tokens mid rest r fits le lt s =
+    thence (ends_at r (Greater frames at a) greater at s.1 refl (λ g k. after_left_greater at frames a fits le lt))
     (yields_glued (Greater frames at a) (Need (InRight at (between.Compare compare.Ge) a ∷ frames)) equal s.0 rest s.2 (λ p k. refl))
 
+-- a sign that is no comparison, and the other comparisons
+pub sign_ends : (sign : Infix) (at : ℕ) (frames : List Frame) (a : ExprSyntax) (old : State) (tokens mid rest : List Token) → Reads old tokens frames a mid → Fits a → rank a ≤ left_limit sign → infix_rank sign < top_bound frames
+    → FirstAt (operator sign) at mid rest → is_less (operator sign) ≡ false
+    → ((p : ℕ) (g : Bool) (k : Kind) → act (Have (opened frames a) (last_atom a)) (operator sign) p g k ≡ infix_after sign p (reduce (left_limit sign) (opened frames a) (last_atom a)))
+    → Yields step old tokens (Need (InRight at sign a ∷ frames)) rest
+sign_ends sign at frames a old tokens mid rest r fits le lt f free e =
+    ends_at r (Need (InRight at sign a ∷ frames)) (operator sign) at f free (λ g k. e at g k ∙ after_left sign at frames a fits le lt)
+
 -- a comparison
-pub yields_compare : (sign : Sign) (at : ℕ) (frames : List Frame) (a b : ExprSyntax) (tokens next rest : List Token) → Fits a → rank a ≤ 5 → 6 < top_bound frames
-    → InfixAt (between.Compare sign) (ends_in_number a) at tokens next → Spells b next rest
-    → Yields step (Need (InRight at (between.Compare sign) a ∷ frames)) next (into (InRight at (between.Compare sign) a ∷ frames) b) rest
-    → Yields step (into frames a) tokens (into (InRight at (between.Compare sign) a ∷ frames) b) rest
-yields_compare compare.Gt at frames a b tokens next rest fits le lt s r p = yields_greater at frames a b tokens next rest fits le lt s r p
-yields_compare compare.Lt at frames a b tokens next rest fits le lt s r p =
-    yields_then step (into frames a) (Need (InRight at (between.Compare compare.Lt) a ∷ frames)) (into (InRight at (between.Compare compare.Lt) a ∷ frames) b) tokens next rest
-    (yields_less at frames a tokens next fits le lt s) p
-yields_compare compare.Ge at frames a b tokens next rest fits le lt s r p =
-    yields_then step (into frames a) (Need (InRight at (between.Compare compare.Ge) a ∷ frames)) (into (InRight at (between.Compare compare.Ge) a ∷ frames) b) tokens next rest
-    (yields_at_least at frames a tokens next fits le lt s) p
-yields_compare compare.Le at frames a b tokens next rest fits le lt s r p =
-    let sign : Infix = between.Compare compare.Le in
-    yields_then step (into frames a) (Need (InRight at sign a ∷ frames)) (into (InRight at sign a ∷ frames) b) tokens next rest
-    (yields_at (into frames a) (Need (InRight at sign a ∷ frames)) (operator sign) at tokens next s (λ g k. after_left sign at frames a fits le lt)) p
-yields_compare compare.Eq at frames a b tokens next rest fits le lt s r p =
-    let sign : Infix = between.Compare compare.Eq in
-    yields_then step (into frames a) (Need (InRight at sign a ∷ frames)) (into (InRight at sign a ∷ frames) b) tokens next rest
-    (yields_at (into frames a) (Need (InRight at sign a ∷ frames)) (operator sign) at tokens next s (λ g k. after_left sign at frames a fits le lt)) p
-yields_compare compare.Ne at frames a b tokens next rest fits le lt s r p =
-    let sign : Infix = between.Compare compare.Ne in
-    yields_then step (into frames a) (Need (InRight at sign a ∷ frames)) (into (InRight at sign a ∷ frames) b) tokens next rest
-    (yields_at (into frames a) (Need (InRight at sign a ∷ frames)) (operator sign) at tokens next s (λ g k. after_left sign at frames a fits le lt)) p
+pub compare_ends : (sign : Sign) (at : ℕ) (frames : List Frame) (a b : ExprSyntax) (old : State) (tokens mid next rest : List Token) → Reads old tokens frames a mid → Fits a → rank a ≤ 5 → 6 < top_bound frames
+    → InfixAt (between.Compare sign) tokens at mid next → Spells b next rest → Reads (Need (InRight at (between.Compare sign) a ∷ frames)) next (InRight at (between.Compare sign) a ∷ frames) b rest
+    → Reads old tokens (InRight at (between.Compare sign) a ∷ frames) b rest
+compare_ends compare.Gt at frames a b old tokens mid next rest r fits le lt s right p = greater_ends at frames a b old tokens mid next rest r fits le lt s right p
+compare_ends compare.Lt at frames a b old tokens mid next rest r fits le lt s right p = reads_then (less_ends at frames a old tokens mid next r fits le lt s) p
+compare_ends compare.Ge at frames a b old tokens mid next rest r fits le lt s right p = reads_then (at_least_ends at frames a old tokens mid next r fits le lt s) p
+compare_ends compare.Le at frames a b old tokens mid next rest r fits le lt s right p = reads_then (sign_ends (between.Compare compare.Le) at frames a old tokens mid next r fits le lt s refl (λ q g k. refl)) p
+compare_ends compare.Eq at frames a b old tokens mid next rest r fits le lt s right p = reads_then (sign_ends (between.Compare compare.Eq) at frames a old tokens mid next r fits le lt s refl (λ q g k. refl)) p
+compare_ends compare.Ne at frames a b old tokens mid next rest r fits le lt s right p = reads_then (sign_ends (between.Compare compare.Ne) at frames a old tokens mid next r fits le lt s refl (λ q g k. refl)) p
 
 -- ---- runs of tokens that are fixed
 

@@ -1,5 +1,5 @@
 -- What an expression that was begun can be completed to: the least tokens that end what is open.
-use Rattle.std.proofs.Common.{◌≢◌, ℕ, ◌<◌, List, [], ◌∷◌, ◌++◌, true, false, Some, None, refl, sym, subst, append_assoc, arith, inl, inr}
+use Rattle.std.proofs.Common.{◌≢◌, ℕ, pos, neg_ℤ, ◌<◌, List, [], ◌∷◌, ◌++◌, true, false, Some, None, refl, sym, subst, append_assoc, arith, inl, inr}
 use Rattle.um_syntax.specs.declared.token.Token.{Token}
 use Rattle.um_syntax.specs.declared.token.Kind.{Kind}
 use Rattle.um_syntax.specs.declared.token.Kind.TheVariants as kind
@@ -8,16 +8,17 @@ use Rattle.um_syntax.specs.declared.vocabulary.Keyword.TheVariants as keyword
 use Rattle.um_syntax.specs.declared.vocabulary.Symbol.{Symbol}
 use Rattle.um_syntax.specs.declared.vocabulary.Symbol.TheVariants as symbol
 use Rattle.um_tree.specs.declared.expression.Sign.TheVariants as compare
-use Rattle.um_tree.specs.RawTree.{bool_syntax, BinderSyntax, ExprSyntax, truth_syntax, number_syntax, let_syntax, if_syntax, match_syntax, nil_syntax, list_syntax, fields_syntax, field_syntax, bracket_expr_syntax, exprs_in_order, fields_in_order}
+use Rattle.um_tree.specs.RawTree.{bool_syntax, BinderSyntax, ExprSyntax, truth_syntax, number_syntax, pown_syntax, let_syntax, if_syntax, match_syntax, nil_syntax, list_syntax, fields_syntax, field_syntax, bracket_expr_syntax, exprs_in_order, fields_in_order}
+use Rattle.um_types.proofs.UnitLaws.{zero_number}
 use Rattle.um_types.proofs.NoteLaws.{NoteSpellsPrefix, note_ending, note_completed, note_can_end}
 use Rattle.um_types.proofs.TypeSound.{TypeSpellsPrefix}
 use Rattle.um_types.proofs.TypeLaws.{type_ending, type_completed, type_can_end}
 use Rattle.um_expr.specs.declared.infix.Infix.TheVariants as between
 use Rattle.um_expr.specs.Ranks.{infix_text}
 use Rattle.um_expr.specs.ExprGrammar.{Spells, rank, Fits}
-use Rattle.um_expr.specs.ExprMachine.{Frame, InBracket, InItem, InField, InValue, InBody, InTest, InThen, InElse, InMatched, InEmptyArm, InFullArm, InNegate, InNot, InRight, InArgument, bound_of, top_bound, plug, with_field, Expected, LetBinder, LetEqual, FieldName, FieldEqual, DotName, ArmBegin, ArmOpen, ArmClose, ArmArrow, HeadBinder, HeadCons, TailBinder, TailArrow, NilColon, State, Need, Have, Greater, Inside, InNote, InType, Refused}
+use Rattle.um_expr.specs.ExprMachine.{Frame, InBracket, InItem, InField, InValue, InBody, InTest, InThen, InElse, InMatched, InEmptyArm, InFullArm, InNegate, InNot, InPown, InRight, InArgument, bound_of, top_bound, plug, with_field, Expected, LetBinder, LetEqual, FieldName, FieldEqual, DotName, ArmBegin, ArmOpen, ArmClose, ArmArrow, HeadBinder, HeadCons, TailBinder, TailArrow, NilColon, PownMinus, PownDigits, PownClose, State, Need, Have, HavePower, Greater, Inside, InNote, InType, Refused}
 use Rattle.um_expr.proofs.ExprEnds.{infix_low}
-use Rattle.um_expr.proofs.ExprPrefixes.{FrameReads, FramesRead, FrameFits, FramesFit, ExpectedReads, ExpectedFits, SpellsPrefix, items_last, items_fit, fields_last, fields_fit, bound_positive, plug_reads, plug_fits}
+use Rattle.um_expr.proofs.ExprPrefixes.{FrameReads, FramesRead, FrameFits, FramesFit, ExpectedReads, ExpectedFits, SpellsPrefix, focus_low, items_last, items_fit, fields_last, fields_fit, bound_positive, plug_reads, plug_fits}
 
 abbrev token_of : Kind → Token
 token_of k = record { kind = k; start = 0; end = 0; glued = false }
@@ -28,7 +29,7 @@ word k = token_of (kind.Word k)
 abbrev sign : Symbol → Token
 sign k = token_of (kind.Sign k)
 
--- `true` for an operand that is missing, `_` for a binder, and a name without letters
+-- `true` for an operand that is missing, `_` for a binder, a name without letters, and the power 0
 abbrev pub operand_token : Token
 operand_token = word keyword.True
 
@@ -37,6 +38,9 @@ hole_token = token_of kind.Hole
 
 abbrev name_token : Token
 name_token = token_of (kind.Name [])
+
+abbrev zero_token : Token
+zero_token = token_of (kind.Number zero_number true false)
 
 abbrev pub operand : ExprSyntax
 operand = truth_syntax 0 true
@@ -70,6 +74,7 @@ ending (InElse at c a) = []
 ending (InFullArm at l a x y) = []
 ending (InNegate at) = []
 ending (InNot at) = []
+ending (InPown at) = zero_token ∷ []
 ending (InRight at s left) = []
 ending (InArgument at f before) = []
 
@@ -87,6 +92,7 @@ filled (InElse at c a) t = plug (InElse at c a) t
 filled (InFullArm at l a x y) t = plug (InFullArm at l a x y) t
 filled (InNegate at) t = plug (InNegate at) t
 filled (InNot at) t = plug (InNot at) t
+filled (InPown at) t = pown_syntax at t (pos 0)
 filled (InRight at s left) t = plug (InRight at s left) t
 filled (InArgument at f before) t = plug (InArgument at f before) t
 
@@ -114,6 +120,9 @@ expected_ending (HeadCons at l a x) = after_head
 expected_ending (TailBinder at l a x) = hole_token ∷ sign symbol.Arrow ∷ operand_token ∷ []
 expected_ending (TailArrow at l a x y) = sign symbol.Arrow ∷ operand_token ∷ []
 expected_ending (NilColon at) = sign symbol.Colon ∷ word keyword.Bool ∷ sign symbol.RightParen ∷ []
+expected_ending (PownMinus at e) = sign symbol.Minus ∷ zero_token ∷ sign symbol.RightParen ∷ []
+expected_ending (PownDigits at e) = zero_token ∷ sign symbol.RightParen ∷ []
+expected_ending (PownClose at e k) = sign symbol.RightParen ∷ []
 
 abbrev pub expected_filled : Expected → ExprSyntax
 expected_filled (LetBinder at) = let_syntax at unnamed operand operand
@@ -130,10 +139,14 @@ expected_filled (HeadCons at l a x) = match_syntax at l a x unnamed operand
 expected_filled (TailBinder at l a x) = match_syntax at l a x unnamed operand
 expected_filled (TailArrow at l a x y) = match_syntax at l a x y operand
 expected_filled (NilColon at) = nil_syntax at bool_syntax
+expected_filled (PownMinus at e) = pown_syntax at e (neg_ℤ (pos 0))
+expected_filled (PownDigits at e) = pown_syntax at e (neg_ℤ (pos 0))
+expected_filled (PownClose at e k) = pown_syntax at e k
 
 abbrev pub expr_ending : State → List Token
 expr_ending (Need frames) = operand_token ∷ endings frames
 expr_ending (Have frames t) = endings frames
+expr_ending (HavePower frames t) = endings frames
 expr_ending (Greater frames at left) = operand_token ∷ endings frames
 expr_ending (Inside frames expected) = expected_ending expected ++ endings frames
 expr_ending (InNote frames at c n) = note_ending n ++ sign symbol.Greater ∷ endings frames
@@ -143,6 +156,7 @@ expr_ending Refused = []
 abbrev pub expr_completed : State → ExprSyntax
 expr_completed (Need frames) = all_filled frames operand
 expr_completed (Have frames t) = all_filled frames t
+expr_completed (HavePower frames t) = all_filled frames t
 expr_completed (Greater frames at left) = all_filled frames (infix_text at (between.Compare compare.Gt) left operand)
 expr_completed (Inside frames expected) = all_filled frames (expected_filled expected)
 expr_completed (InNote frames at c n) = all_filled frames (number_syntax at c (Some (note_completed n)))
@@ -234,6 +248,7 @@ filled_reads (InElse at c a) t tokens mid rest f s = plug_reads (InElse at c a) 
 filled_reads (InFullArm at l a x y) t tokens mid rest f s = plug_reads (InFullArm at l a x y) t tokens mid rest (omega arith) f s
 filled_reads (InNegate at) t tokens mid rest f s = plug_reads (InNegate at) t tokens mid rest (omega arith) f s
 filled_reads (InNot at) t tokens mid rest f s = plug_reads (InNot at) t tokens mid rest (omega arith) f s
+filled_reads (InPown at) t tokens mid rest f s = (mid, zero_token ∷ rest, f, s, inl (0, refl, (zero_token, refl, refl)))
 filled_reads (InRight at o left) t tokens mid rest f s = plug_reads (InRight at o left) t tokens mid rest (omega (arith, infix_low o)) f s
 filled_reads (InArgument at g before) t tokens mid rest f s = plug_reads (InArgument at g before) t tokens mid rest (omega arith) f s
 
@@ -254,6 +269,7 @@ filled_fits (InElse at c a) frames t f fits lt = let p = plug_fits (InElse at c 
 filled_fits (InFullArm at l a x y) frames t f fits lt = let p = plug_fits (InFullArm at l a x y) frames t (omega arith) f fits lt in (p.0, p.1)
 filled_fits (InNegate at) frames t f fits lt = let p = plug_fits (InNegate at) frames t (omega arith) f fits lt in (p.0, p.1)
 filled_fits (InNot at) frames t f fits lt = let p = plug_fits (InNot at) frames t (omega arith) f fits lt in (p.0, p.1)
+filled_fits (InPown at) frames t f fits lt = ((omega (arith, lt), fits), f)
 filled_fits (InRight at s left) frames t f fits lt = let p = plug_fits (InRight at s left) frames t (omega (arith, infix_low s)) f fits lt in (p.0, p.1)
 filled_fits (InArgument at g before) frames t f fits lt = let p = plug_fits (InArgument at g before) frames t (omega arith) f fits lt in (p.0, p.1)
 
@@ -363,6 +379,12 @@ expected_reads (TailArrow at l a x y) tokens rest f =
     (f.0, f.1, f.5, f.6, (f.2, f.3, f.4, sign symbol.Arrow ∷ operand_token ∷ rest, f.7, f.8, f.9, f.10, (sign symbol.Arrow, refl, refl))) (operand_token, refl, refl, refl)
 expected_reads (NilColon at) tokens rest f =
     (f.0, f.1, sign symbol.Colon ∷ word keyword.Bool ∷ sign symbol.RightParen ∷ rest, word keyword.Bool ∷ sign symbol.RightParen ∷ rest, sign symbol.RightParen ∷ rest, f.2, f.3, f.4, (sign symbol.Colon, refl, refl), (word keyword.Bool, refl, refl), (sign symbol.RightParen, refl, refl))
+expected_reads (PownMinus at e) tokens rest f =
+    (f.0, f.1, f.2, f.3, inr (0, sign symbol.Minus ∷ zero_token ∷ sign symbol.RightParen ∷ rest, zero_token ∷ sign symbol.RightParen ∷ rest, sign symbol.RightParen ∷ rest, refl, f.4, (sign symbol.Minus, refl, refl), (zero_token, refl, refl), (sign symbol.RightParen, refl, refl)))
+expected_reads (PownDigits at e) tokens rest f =
+    (f.0, f.1, f.3, f.4, inr (0, f.2, zero_token ∷ sign symbol.RightParen ∷ rest, sign symbol.RightParen ∷ rest, refl, f.5, f.6, (zero_token, refl, refl), (sign symbol.RightParen, refl, refl)))
+expected_reads (PownClose at e k) tokens rest f =
+    (f.1, f.2, f.6, f.7, inr (f.0, f.3, f.4, sign symbol.RightParen ∷ rest, f.5, f.8, f.9, f.10, (sign symbol.RightParen, refl, refl)))
 
 expected_fits : (expected : Expected) (frames : List Frame) → ExpectedFits expected frames → Fits (expected_filled expected) × (rank (expected_filled expected) < top_bound frames)
 expected_fits (LetBinder at) frames f = ((tt, tt), f)
@@ -379,12 +401,16 @@ expected_fits (HeadCons at l a x) frames f = ((f.1, f.2, tt), f.0)
 expected_fits (TailBinder at l a x) frames f = ((f.1, f.2, tt), f.0)
 expected_fits (TailArrow at l a x y) frames f = ((f.1, f.2, tt), f.0)
 expected_fits (NilColon at) frames f = (tt, bound_positive frames)
+expected_fits (PownMinus at e) frames f = ((f.1, f.2), f.0)
+expected_fits (PownDigits at e) frames f = ((f.1, f.2), f.0)
+expected_fits (PownClose at e k) frames f = ((f.1, f.2), f.0)
 
 -- what isn't refused can be completed
 pub expr_can_end : (st : State) (tokens rest : List Token) → SpellsPrefix st tokens (expr_ending st ++ rest) → st ≢ Refused → Spells (expr_completed st) tokens rest × Fits (expr_completed st)
 expr_can_end (Need frames) tokens rest h ok =
     ends frames operand tokens (operand_token ∷ (endings frames ++ rest)) rest h.0 (operand_token, refl, refl, refl) h.1 tt (bound_positive frames)
-expr_can_end (Have frames t) tokens rest h ok = ends frames t tokens h.0 rest h.1 h.2 h.3 h.4 (omega (arith, h.5, bound_positive frames))
+expr_can_end (Have frames t) tokens rest h ok = ends frames t tokens h.0.0 rest h.0.1 h.0.2 h.0.3 h.0.4 (focus_low frames t h.0.5).0
+expr_can_end (HavePower frames t) tokens rest h ok = ends frames t tokens h.0 rest h.1 h.2 h.3 h.4 (focus_low frames t h.5).0
 expr_can_end (Greater frames at left) tokens rest h ok =
     ends frames (infix_text at (between.Compare compare.Gt) left operand) tokens h.0 rest h.2 (h.1, operand_token ∷ (endings frames ++ rest), h.3, h.4, (operand_token, refl, refl, refl)) h.5
     (h.7, omega arith, h.8, tt) h.6

@@ -4,13 +4,13 @@ use Rattle.std.proofs.lemmas.Bool.{lt-ltb, le-ltb}
 use Rattle.um_tree.specs.declared.expression.Arith.{Arith}
 use Rattle.um_tree.specs.declared.expression.Arith.TheVariants as arith_of
 use Rattle.um_tree.specs.declared.expression.Sign.TheVariants as compare
-use Rattle.um_tree.specs.RawTree.{ExprSyntax, ExprSyntaxes, FieldSyntaxes, FieldPart, truth_syntax, number_syntax, name_syntax, call_syntax, negate_syntax, not_syntax, arith_syntax, compare_syntax, and_syntax, or_syntax, if_syntax, let_syntax, match_syntax, nil_syntax, list_syntax, cons_syntax, fields_syntax, field_syntax, bracket_expr_syntax, no_exprs, more_exprs, no_fields, more_fields, exprs_in_order, fields_in_order}
+use Rattle.um_tree.specs.RawTree.{ExprSyntax, ExprSyntaxes, FieldSyntaxes, FieldPart, truth_syntax, number_syntax, name_syntax, call_syntax, negate_syntax, not_syntax, pown_syntax, arith_syntax, compare_syntax, and_syntax, or_syntax, if_syntax, let_syntax, match_syntax, nil_syntax, list_syntax, cons_syntax, fields_syntax, field_syntax, bracket_expr_syntax, no_exprs, more_exprs, no_fields, more_fields, exprs_in_order, fields_in_order}
 use Rattle.um_expr.specs.declared.infix.Infix.{Infix}
 use Rattle.um_expr.specs.declared.infix.Infix.TheVariants as between
 use Rattle.um_expr.specs.Ranks.{arith_rank, infix_rank, left_limit, right_bound}
 use Rattle.um_expr.specs.ExprKinds.{is_plain_number}
-use Rattle.um_expr.specs.ExprGrammar.{rank, ends_in_number, last_ends_in_number, Fits, AreAtoms}
-use Rattle.um_expr.specs.ExprMachine.{Frame, InBracket, InItem, InField, InValue, InBody, InTest, InThen, InElse, InMatched, InEmptyArm, InFullArm, InNegate, InNot, InRight, InArgument, own_rank, top_bound, top_rank, plug, with_field, Have, reduce, less_after, infix_after}
+use Rattle.um_expr.specs.ExprGrammar.{rank, Fits}
+use Rattle.um_expr.specs.ExprMachine.{Frame, InBracket, InItem, InField, InValue, InBody, InTest, InThen, InElse, InMatched, InEmptyArm, InFullArm, InNegate, InNot, InPown, InRight, InArgument, own_rank, top_bound, top_rank, plug, with_field, Have, reduce, less_after, infix_after}
 
 -- what is open once the arguments behind a before were read, and the last one
 abbrev pub opened_call : List Frame → ℕ → List ℕ → List ExprSyntax → ExprSyntaxes → List Frame
@@ -31,6 +31,7 @@ opened frames (name_syntax at x) = frames
 opened frames (call_syntax at f args) = opened_call frames at f [] args
 opened frames (negate_syntax at e) = opened (InNegate at ∷ frames) e
 opened frames (not_syntax at e) = opened (InNot at ∷ frames) e
+opened frames (pown_syntax at e k) = frames
 opened frames (arith_syntax at op a b) = opened (InRight at (between.Arith op) a ∷ frames) b
 opened frames (compare_syntax at sign a b) = opened (InRight at (between.Compare sign) a ∷ frames) b
 opened frames (and_syntax at a b) = opened (InRight at between.And a ∷ frames) b
@@ -45,7 +46,7 @@ opened frames (fields_syntax at fs) = frames
 opened frames (field_syntax at place x e) = frames
 opened frames (bracket_expr_syntax at e) = frames
 
--- the atom at focus then
+-- the atom or the whole power at focus then
 abbrev pub last_atom : ExprSyntax → ExprSyntax
 last_atom (truth_syntax at b) = truth_syntax at b
 last_atom (number_syntax at c n) = number_syntax at c n
@@ -53,6 +54,7 @@ last_atom (name_syntax at x) = name_syntax at x
 last_atom (call_syntax at f args) = last_argument (call_syntax at f args) args
 last_atom (negate_syntax at e) = last_atom e
 last_atom (not_syntax at e) = last_atom e
+last_atom (pown_syntax at e k) = pown_syntax at e k
 last_atom (arith_syntax at op a b) = last_atom b
 last_atom (compare_syntax at sign a b) = last_atom b
 last_atom (and_syntax at a b) = last_atom b
@@ -83,6 +85,7 @@ rank_low (name_syntax at x) = omega arith
 rank_low (call_syntax at f args) = omega arith
 rank_low (negate_syntax at e) = omega arith
 rank_low (not_syntax at e) = omega arith
+rank_low (pown_syntax at e k) = omega arith
 rank_low (compare_syntax at sign a b) = omega arith
 rank_low (and_syntax at a b) = omega arith
 rank_low (or_syntax at a b) = omega arith
@@ -155,6 +158,7 @@ ends_as (call_syntax at f no_exprs) limit frames fits le = absurd fits.0
 ends_as (call_syntax at f (more_exprs e es)) limit frames fits le = ends_call es e (call_syntax at f (more_exprs e es)) limit frames at f [] le
 ends_as (negate_syntax at e) limit frames fits le = ends_as e limit (InNegate at ∷ frames) fits.1 (omega (arith, fits.0)) ∙ pops limit (InNegate at) frames e le
 ends_as (not_syntax at e) limit frames fits le = ends_as e limit (InNot at ∷ frames) fits.1 (omega (arith, fits.0)) ∙ pops limit (InNot at) frames e le
+ends_as (pown_syntax at e k) limit frames fits le = refl
 ends_as (arith_syntax at op a b) limit frames fits le =
     ends_as b limit (InRight at (between.Arith op) a ∷ frames) fits.3 (omega (arith, fits.1)) ∙ pops limit (InRight at (between.Arith op) a) frames b le
 ends_as (compare_syntax at sign a b) limit frames fits le =
@@ -196,6 +200,7 @@ infix_opens sign [] lt = omega (arith, infix_low sign)
 infix_opens sign (InRight at inner left ∷ frames) lt = right_opens sign inner lt
 infix_opens sign (InNegate at ∷ frames) lt = absurd (omega (arith, infix_low sign))
 infix_opens sign (InNot at ∷ frames) lt = absurd (omega (arith, infix_low sign))
+infix_opens sign (InPown at ∷ frames) lt = absurd (omega (arith, infix_low sign))
 infix_opens sign (InArgument at f before ∷ frames) lt = absurd (omega (arith, infix_low sign))
 infix_opens sign (InBracket at ∷ frames) lt = omega (arith, infix_low sign)
 infix_opens sign (InItem at before ∷ frames) lt = omega (arith, infix_low sign)
@@ -223,6 +228,7 @@ atom_opened (bracket_expr_syntax at e) frames low = refl
 atom_opened (call_syntax at f args) frames low = absurd (omega arith)
 atom_opened (negate_syntax at e) frames low = absurd (omega arith)
 atom_opened (not_syntax at e) frames low = absurd (omega arith)
+atom_opened (pown_syntax at e k) frames low = absurd (omega arith)
 atom_opened (arith_syntax at op a b) frames low = absurd (omega (arith, arith_low op))
 atom_opened (compare_syntax at sign a b) frames low = absurd (omega arith)
 atom_opened (and_syntax at a b) frames low = absurd (omega arith)
@@ -244,6 +250,7 @@ atom_last (bracket_expr_syntax at e) low = refl
 atom_last (call_syntax at f args) low = absurd (omega arith)
 atom_last (negate_syntax at e) low = absurd (omega arith)
 atom_last (not_syntax at e) low = absurd (omega arith)
+atom_last (pown_syntax at e k) low = absurd (omega arith)
 atom_last (arith_syntax at op a b) low = absurd (omega (arith, arith_low op))
 atom_last (compare_syntax at sign a b) low = absurd (omega arith)
 atom_last (and_syntax at a b) low = absurd (omega arith)
@@ -254,56 +261,6 @@ atom_last (match_syntax at l a x y b) low = absurd (omega arith)
 atom_last (cons_syntax at a b) low = absurd (omega arith)
 
 -- ---- numbers at focus
-
-pub atom_number : (t : ExprSyntax) → rank t ≡ 0 → is_plain_number t ≡ ends_in_number t
-atom_number (number_syntax at c None) low = refl
-atom_number (number_syntax at c (Some n)) low = refl
-atom_number (truth_syntax at b) low = refl
-atom_number (name_syntax at x) low = refl
-atom_number (nil_syntax at t) low = refl
-atom_number (list_syntax at es) low = refl
-atom_number (fields_syntax at fs) low = refl
-atom_number (field_syntax at place x e) low = refl
-atom_number (bracket_expr_syntax at e) low = refl
-atom_number (call_syntax at f args) low = absurd (omega arith)
-atom_number (negate_syntax at e) low = absurd (omega arith)
-atom_number (not_syntax at e) low = absurd (omega arith)
-atom_number (arith_syntax at op a b) low = absurd (omega (arith, arith_low op))
-atom_number (compare_syntax at sign a b) low = absurd (omega arith)
-atom_number (and_syntax at a b) low = absurd (omega arith)
-atom_number (or_syntax at a b) low = absurd (omega arith)
-atom_number (if_syntax at c a b) low = absurd (omega arith)
-atom_number (let_syntax at x a b) low = absurd (omega arith)
-atom_number (match_syntax at l a x y b) low = absurd (omega arith)
-atom_number (cons_syntax at a b) low = absurd (omega arith)
-
-call_number : (es : ExprSyntaxes) (e t : ExprSyntax) → AreAtoms (more_exprs e es) → is_plain_number (last_argument t (more_exprs e es)) ≡ last_ends_in_number (more_exprs e es)
-call_number no_exprs e t fits = atom_number e fits.0
-call_number (more_exprs d es) e t fits = call_number es d t fits.2
-
--- a number is at focus where the last token is one
-pub last_number : (t : ExprSyntax) → Fits t → is_plain_number (last_atom t) ≡ ends_in_number t
-last_number (truth_syntax at b) fits = refl
-last_number (number_syntax at c None) fits = refl
-last_number (number_syntax at c (Some n)) fits = refl
-last_number (name_syntax at x) fits = refl
-last_number (call_syntax at f no_exprs) fits = absurd fits.0
-last_number (call_syntax at f (more_exprs e es)) fits = call_number es e (call_syntax at f (more_exprs e es)) fits.1
-last_number (negate_syntax at e) fits = last_number e fits.1
-last_number (not_syntax at e) fits = last_number e fits.1
-last_number (arith_syntax at op a b) fits = last_number b fits.3
-last_number (compare_syntax at sign a b) fits = last_number b fits.3
-last_number (and_syntax at a b) fits = last_number b fits.3
-last_number (or_syntax at a b) fits = last_number b fits.3
-last_number (if_syntax at c a b) fits = last_number b fits.2
-last_number (let_syntax at x a b) fits = last_number b fits.1
-last_number (match_syntax at l a x y b) fits = last_number b fits.2
-last_number (nil_syntax at t) fits = refl
-last_number (list_syntax at es) fits = refl
-last_number (cons_syntax at a b) fits = last_number b fits.3
-last_number (fields_syntax at fs) fits = refl
-last_number (field_syntax at place x e) fits = refl
-last_number (bracket_expr_syntax at e) fits = refl
 
 -- elsewhere `<` is a sign
 pub less_free : (frames : List Frame) (t : ExprSyntax) (glued : Bool) (at : ℕ) → (is_plain_number t ≡ true → glued ≡ false)
@@ -316,6 +273,7 @@ less_free frames (name_syntax m x) true at free = refl
 less_free frames (call_syntax m f args) true at free = refl
 less_free frames (negate_syntax m e) true at free = refl
 less_free frames (not_syntax m e) true at free = refl
+less_free frames (pown_syntax m e k) true at free = refl
 less_free frames (arith_syntax m op a b) true at free = refl
 less_free frames (compare_syntax m sign a b) true at free = refl
 less_free frames (and_syntax m a b) true at free = refl

@@ -1,5 +1,5 @@
 -- A few texts as the machine reads them.
-use Rattle.std.proofs.Common.{◌≡◌, ℕ, List, [], ◌∷◌, Bool, true, false, Some, None, refl}
+use Rattle.std.proofs.Common.{◌≡◌, ℕ, pos, List, [], ◌∷◌, Bool, true, false, Some, None, refl}
 use Rattle.um_syntax.specs.declared.token.Token.{Token}
 use Rattle.um_syntax.specs.declared.token.Kind.{Kind}
 use Rattle.um_syntax.specs.declared.token.Kind.TheVariants as kind
@@ -9,8 +9,9 @@ use Rattle.um_syntax.specs.declared.vocabulary.Symbol.{Symbol}
 use Rattle.um_syntax.specs.declared.vocabulary.Symbol.TheVariants as symbol
 use Rattle.um_tree.specs.declared.expression.Arith.TheVariants as arith_of
 use Rattle.um_tree.specs.declared.expression.Sign.TheVariants as compare
-use Rattle.um_tree.specs.RawTree.{num_syntax, name_syntax, call_syntax, negate_syntax, not_syntax, arith_syntax, compare_syntax, let_syntax, match_syntax, nil_syntax, cons_syntax, field_syntax, no_exprs, more_exprs}
+use Rattle.um_tree.specs.RawTree.{num_syntax, name_syntax, call_syntax, negate_syntax, not_syntax, pown_syntax, arith_syntax, compare_syntax, let_syntax, match_syntax, nil_syntax, cons_syntax, field_syntax, no_exprs, more_exprs}
 use Rattle.um_types.specs.Machines.{runs}
+use Rattle.um_types.proofs.UnitLaws.{zero_number}
 use Rattle.um_expr.specs.ExprMachine.{State, Need, Refused, step, finish}
 
 abbrev token : Kind → ℕ → Bool → Token
@@ -103,6 +104,30 @@ long_let = refl
 no_let_behind : read (letter a 0 ∷ sign symbol.Plus 2 ∷ word keyword.Let 4 ∷ []) ≡ Refused
 no_let_behind = refl
 
--- pown begins nothing
-no_pown : read (word keyword.Pown 0 ∷ []) ≡ Refused
-no_pown = refl
+abbrev zero : ℕ → Bool → Token
+zero at glued = token (kind.Number zero_number true false) at glued
+
+-- pown a 0, where the number is digits alone
+power : finish (read (word keyword.Pown 0 ∷ letter a 5 ∷ zero 7 false ∷ [])) ≡ Some (pown_syntax 0 (name_syntax 5 a) (pos 0))
+power = refl
+
+no_power : read (word keyword.Pown 0 ∷ letter a 5 ∷ token (kind.Number zero_number false false) 7 false ∷ []) ≡ Refused
+no_power = refl
+
+-- pown a (-0) is the same, and pown a (0) is refused
+power_in_brackets : finish (read (word keyword.Pown 0 ∷ letter a 5 ∷ sign symbol.LeftParen 7 ∷ sign symbol.Minus 8 ∷ zero 9 true ∷ sign symbol.RightParen 10 ∷ [])) ≡ Some (pown_syntax 0 (name_syntax 5 a) (pos 0))
+power_in_brackets = refl
+
+no_sign : read (word keyword.Pown 0 ∷ letter a 5 ∷ sign symbol.LeftParen 7 ∷ zero 8 true ∷ []) ≡ Refused
+no_sign = refl
+
+-- a `<` directly behind the number is refused; behind a blank or the bracket it compares
+no_unit : read (word keyword.Pown 0 ∷ letter a 5 ∷ zero 7 false ∷ token (kind.Sign symbol.Less) 8 true ∷ []) ≡ Refused
+no_unit = refl
+
+compares : finish (read (word keyword.Pown 0 ∷ letter a 5 ∷ zero 7 false ∷ sign symbol.Less 9 ∷ letter b 11 ∷ [])) ≡ Some (compare_syntax 9 compare.Lt (pown_syntax 0 (name_syntax 5 a) (pos 0)) (name_syntax 11 b))
+compares = refl
+
+compares_behind_bracket : finish (read (word keyword.Pown 0 ∷ letter a 5 ∷ sign symbol.LeftParen 7 ∷ sign symbol.Minus 8 ∷ zero 9 true ∷ sign symbol.RightParen 10 ∷ token (kind.Sign symbol.Less) 11 true ∷ letter b 12 ∷ []))
+    ≡ Some (compare_syntax 11 compare.Lt (pown_syntax 0 (name_syntax 5 a) (pos 0)) (name_syntax 12 b))
+compares_behind_bracket = refl

@@ -1,9 +1,9 @@
 -- The first token of an expression.
-use Rattle.std.proofs.Common.{◌≡◌, ℕ, List, ◌∷◌, Bool, true, false, Some, refl, ap, ◌∙◌, arith}
+use Rattle.std.proofs.Common.{◌≡◌, ℕ, List, ◌∷◌, Bool, true, false, cond, Some, refl, ap, ◌∙◌, arith}
 use Rattle.um_syntax.specs.declared.token.Token.{Token}
 use Rattle.um_syntax.specs.declared.token.Kind.{Kind}
 use Rattle.um_tree.specs.declared.expression.Sign.TheVariants as compare
-use Rattle.um_tree.specs.RawTree.{ExprSyntax, truth_syntax, number_syntax, name_syntax, call_syntax, negate_syntax, not_syntax, arith_syntax, compare_syntax, and_syntax, or_syntax, if_syntax, let_syntax, match_syntax, nil_syntax, list_syntax, cons_syntax, fields_syntax, field_syntax, bracket_expr_syntax}
+use Rattle.um_tree.specs.RawTree.{ExprSyntax, truth_syntax, number_syntax, name_syntax, call_syntax, negate_syntax, not_syntax, pown_syntax, arith_syntax, compare_syntax, and_syntax, or_syntax, if_syntax, let_syntax, match_syntax, nil_syntax, list_syntax, cons_syntax, fields_syntax, field_syntax, bracket_expr_syntax}
 use Rattle.um_syntax.specs.declared.vocabulary.Keyword.TheVariants as keyword
 use Rattle.um_syntax.specs.declared.vocabulary.Symbol.TheVariants as symbol
 use Rattle.um_expr.specs.declared.infix.Infix.TheVariants as between
@@ -12,7 +12,9 @@ use Rattle.um_expr.specs.declared.token.ExprToken.TheVariants.{Name as name, Num
 use Rattle.um_expr.specs.ExprTokens.{minus}
 use Rattle.um_expr.specs.ExprKinds.{begins_atom}
 use Rattle.um_expr.specs.ExprGrammar.{FirstAt, Spells, Fits, rank}
-use Rattle.um_expr.specs.ExprMachine.{Frame, InRight, Need, Have, Greater, argument, begin_in, act}
+use Rattle.um_types.specs.UnitTokens.{unit_token}
+use Rattle.um_types.specs.UnitMachine.{power_in}
+use Rattle.um_expr.specs.ExprMachine.{Frame, InPown, InRight, Need, Have, Greater, argument, begin_in, in_pown, pown_after, pown_bracket, act}
 use Rattle.um_expr.proofs.ExprEnds.{arith_low}
 use Rattle.um_expr.proofs.ExprYields.{FirstPasses}
 
@@ -36,6 +38,7 @@ first_atom (bracket_expr_syntax at e) tokens rest s fits low = passes begins_ato
 first_atom (call_syntax at f args) tokens rest s fits low = absurd (omega arith)
 first_atom (negate_syntax at e) tokens rest s fits low = absurd (omega arith)
 first_atom (not_syntax at e) tokens rest s fits low = absurd (omega arith)
+first_atom (pown_syntax at e k) tokens rest s fits low = absurd (omega arith)
 first_atom (arith_syntax at op a b) tokens rest s fits low = absurd (omega (arith, arith_low op))
 first_atom (compare_syntax at sign a b) tokens rest s fits low = absurd (omega arith)
 first_atom (and_syntax at a b) tokens rest s fits low = absurd (omega arith)
@@ -53,6 +56,7 @@ first_no_equal (name_syntax at x) tokens rest s = passes is_no_equal (name x) at
 first_no_equal (call_syntax at f args) tokens rest s = passes is_no_equal (name f) at tokens s.0 s.1 refl
 first_no_equal (negate_syntax at e) tokens rest s = passes is_no_equal minus at tokens s.0 s.1 refl
 first_no_equal (not_syntax at e) tokens rest s = passes is_no_equal (word keyword.Not) at tokens s.0 s.1 refl
+first_no_equal (pown_syntax at e k) tokens rest s = passes is_no_equal (word keyword.Pown) at tokens s.0 s.2 refl
 first_no_equal (arith_syntax at op a b) tokens rest s = first_no_equal a tokens s.0 s.2
 first_no_equal (compare_syntax at sign a b) tokens rest s = first_no_equal a tokens s.0 s.2
 first_no_equal (and_syntax at a b) tokens rest s = first_no_equal a tokens s.0 s.2
@@ -67,13 +71,23 @@ first_no_equal (fields_syntax at fs) tokens rest s = passes is_no_equal (mark sy
 first_no_equal (field_syntax at place x e) tokens rest s = first_no_equal e tokens s.0 s.2
 first_no_equal (bracket_expr_syntax at e) tokens rest s = passes is_no_equal (mark symbol.LeftParen) at tokens s.0 s.2 refl
 
+-- where an argument may begin no power is wanted
+no_pown : (frames new : List Frame) (t : ExprSyntax) → argument frames t ≡ Some new → in_pown frames ≡ false
+no_pown (InPown at ∷ frames) new (name_syntax m x) e = absurd cc
+no_pown (InPown at ∷ frames) new t e = absurd cc
+no_pown frames new t e = refl
+
 -- an atom behind an atom begins an argument
 pub atom_alike : (frames new : List Frame) (t : ExprSyntax) → argument frames t ≡ Some new
     → (w : ExprToken) (at : ℕ) (glued : Bool) (k : Kind) → begins_atom w ≡ true → act (Have frames t) w at glued k ≡ act (Need new) w at glued k
 atom_alike frames new t e (name x) at glued k h = ap (λ o. begin_in o (name x) at) e
-atom_alike frames new t e (number c) at glued k h = ap (λ o. begin_in o (number c) at) e
+atom_alike frames new t e (number c) at glued k h =
+    ap (λ b. cond b (pown_after frames t (power_in (unit_token k))) (begin_in (argument frames t) (number c) at)) (no_pown frames new t e)
+    ∙ ap (λ o. begin_in o (number c) at) e
 atom_alike frames new t e (truth b) at glued k h = ap (λ o. begin_in o (truth b) at) e
-atom_alike frames new t e (mark symbol.LeftParen) at glued k h = ap (λ o. begin_in o (mark symbol.LeftParen) at) e
+atom_alike frames new t e (mark symbol.LeftParen) at glued k h =
+    ap (λ b. cond b (pown_bracket frames t) (begin_in (argument frames t) (mark symbol.LeftParen) at)) (no_pown frames new t e)
+    ∙ ap (λ o. begin_in o (mark symbol.LeftParen) at) e
 atom_alike frames new t e (mark symbol.LeftBracket) at glued k h = ap (λ o. begin_in o (mark symbol.LeftBracket) at) e
 atom_alike frames new t e (mark symbol.LeftBrace) at glued k h = ap (λ o. begin_in o (mark symbol.LeftBrace) at) e
 atom_alike frames new t e _ at glued k h = absurd cc

@@ -7,6 +7,8 @@ use Rattle.um_tree.specs.declared.expression.Sign.TheVariants as compare
 use Rattle.um_tree.specs.declared.expression.Arith.TheVariants as arith_of
 use Rattle.um_tree.specs.RawTree.{NoteSyntax, TypeSyntax, ExprSyntax, FieldPart, number_syntax, name_syntax, nil_syntax, exprs_in_order, fields_in_order}
 use Rattle.um_tree.specs.Heights.{expr_height, tallest_expr, tallest_field}
+use Rattle.um_types.specs.UnitTokens.{unit_token}
+use Rattle.um_types.specs.UnitMachine.{power_in}
 use Rattle.um_types.specs.TypeHeights.{note_height, whole_height}
 use Rattle.um_types.specs.NoteMachine.{NoteState, NeedNote, HaveHole, InUnit, NoNote, note_step, note_finish, note_least}
 use Rattle.um_types.specs.TypeMachine.{TypeState, NeedType, HaveType, NoType, type_step, type_finish, type_least}
@@ -21,8 +23,9 @@ use Rattle.um_expr.specs.declared.token.ExprToken.{ExprToken}
 use Rattle.um_expr.specs.declared.token.ExprToken.TheVariants.{Name as name, Number as number, Truth as truth, Hole as hole, Operator as operator, Word as word, Mark as mark}
 use Rattle.um_expr.specs.ExprTokens.{expr_token}
 use Rattle.um_expr.specs.Ranks.{infix_rank, left_limit, infix_text}
-use Rattle.um_expr.specs.ExprMachine.{Frame, InBracket, InItem, InField, InValue, InBody, InTest, InThen, InElse, InMatched, InEmptyArm, InFullArm, InNegate, InNot, InRight, InArgument, own_rank, top_bound, plug, with_field, Expected, LetBinder, LetEqual, FieldName, FieldEqual, DotName, ArmBegin, ArmOpen, ArmClose, ArmArrow, HeadBinder, HeadCons, TailBinder, TailArrow, NilColon, State, Need, Have, Greater, Inside, InNote, InType, Refused, reduce, if_may, empty_list, begin, after_greater, argument, begin_in, infix_after, greater_after, less_after, close_after, list_after, record_after, semi_after, in_after, then_after, else_after, with_after, bar_after, after, inside, note_ends, type_ends, note_goes, type_goes, step, whole, finish}
+use Rattle.um_expr.specs.ExprMachine.{Frame, InBracket, InItem, InField, InValue, InBody, InTest, InThen, InElse, InMatched, InEmptyArm, InFullArm, InNegate, InNot, InPown, InRight, InArgument, own_rank, top_bound, plug, with_field, Expected, LetBinder, LetEqual, FieldName, FieldEqual, DotName, ArmBegin, ArmOpen, ArmClose, ArmArrow, HeadBinder, HeadCons, TailBinder, TailArrow, NilColon, PownMinus, PownDigits, PownClose, State, Need, Have, HavePower, Greater, Inside, InNote, InType, Refused, reduce, if_may, empty_list, begin, after_greater, argument, begin_in, infix_after, greater_after, less_after, close_after, list_after, record_after, semi_after, in_after, then_after, else_after, with_after, bar_after, pown_after, number_after, bracket_after, after, power_after, inside, note_ends, type_ends, note_goes, type_goes, step, whole, finish}
 use Rattle.um_expr.specs.ExprLeast.{side, least_over, expected_least, expr_least, notes_side, notes_over, expected_notes, notes_least, whole_least}
+use Rattle.um_expr.specs.ExprKinds.{is_power}
 use Rattle.um_expr.specs.ExprHeights.{notes_in, notes_in_all, notes_in_fields, whole_expr_height}
 use Rattle.um_expr.proofs.ExprEnds.{infix_low}
 use Rattle.um_expr.proofs.ExprPrefixes.{SpellsPrefix}
@@ -61,6 +64,7 @@ height_filled (InEmptyArm at l) t = (omega arith, omega arith)
 height_filled (InFullArm at l a x y) t = (omega arith, omega arith)
 height_filled (InNegate at) t = (omega arith, omega arith)
 height_filled (InNot at) t = (omega arith, omega arith)
+height_filled (InPown at) t = (omega arith, omega arith)
 height_filled (InRight at sign left) t = infix_height sign at left t
 height_filled (InArgument at f before) t = let e = tallest_last before t in (omega (arith, e.0), e.1)
 
@@ -86,11 +90,15 @@ expected_height (HeadCons at l a x) = (omega arith, omega arith)
 expected_height (TailBinder at l a x) = (omega arith, omega arith)
 expected_height (TailArrow at l a x y) = (omega arith, omega arith)
 expected_height (NilColon at) = (refl, omega arith)
+expected_height (PownMinus at e) = (refl, refl)
+expected_height (PownDigits at e) = (refl, refl)
+expected_height (PownClose at e k) = (refl, refl)
 
 -- the least height is that of the completion
 completed_heights : (st : State) (tokens rest : List Token) → SpellsPrefix st tokens rest → st ≢ Refused → (expr_height (expr_completed st) ≡ expr_least st) × (notes_in (expr_completed st) ≡ notes_least st)
 completed_heights (Need frames) tokens rest h ok = height_all_filled frames operand
 completed_heights (Have frames t) tokens rest h ok = height_all_filled frames t
+completed_heights (HavePower frames t) tokens rest h ok = height_all_filled frames t
 completed_heights (Greater frames at left) tokens rest h ok =
     let t : ExprSyntax = infix_text at (between.Compare compare.Gt) left operand in
     let a = height_all_filled frames t in (a.0, a.1 ∙ ap (notes_over frames) (omega arith))
@@ -128,6 +136,7 @@ plug_filled (InRight at sign left) t lt = refl
 plug_filled (InArgument at f before) t lt = refl
 plug_filled (InBracket at) t lt = absurd (omega arith)
 plug_filled (InItem at before) t lt = absurd (omega arith)
+plug_filled (InPown at) t lt = absurd (omega arith)
 plug_filled (InField at before place x) t lt = absurd (omega arith)
 plug_filled (InValue at x) t lt = absurd (omega arith)
 plug_filled (InTest at) t lt = absurd (omega arith)
@@ -153,6 +162,7 @@ abbrev Above : ℕ → ℕ → State → Type 0
 Above n m Refused = Unit {0}
 Above n m (Need frames) = (n ≤ expr_least (Need frames)) × (m ≤ notes_least (Need frames))
 Above n m (Have frames t) = (n ≤ expr_least (Have frames t)) × (m ≤ notes_least (Have frames t))
+Above n m (HavePower frames t) = (n ≤ expr_least (HavePower frames t)) × (m ≤ notes_least (HavePower frames t))
 Above n m (Greater frames at left) = (n ≤ expr_least (Greater frames at left)) × (m ≤ notes_least (Greater frames at left))
 Above n m (Inside frames expected) = (n ≤ expr_least (Inside frames expected)) × (m ≤ notes_least (Inside frames expected))
 Above n m (InNote frames at c w) = (n ≤ expr_least (InNote frames at c w)) × (m ≤ notes_least (InNote frames at c w))
@@ -162,6 +172,7 @@ above_more : (n m k l : ℕ) (st : State) → n ≤ k → m ≤ l → Above k l 
 above_more n m k l Refused a b h = tt
 above_more n m k l (Need frames) a b h = (omega (arith, h.0), omega (arith, h.1))
 above_more n m k l (Have frames t) a b h = (omega (arith, h.0), omega (arith, h.1))
+above_more n m k l (HavePower frames t) a b h = (omega (arith, h.0), omega (arith, h.1))
 above_more n m k l (Greater frames at left) a b h = (omega (arith, h.0), omega (arith, h.1))
 above_more n m k l (Inside frames expected) a b h = (omega (arith, h.0), omega (arith, h.1))
 above_more n m k l (InNote frames at c w) a b h = (omega (arith, h.0), omega (arith, h.1))
@@ -195,6 +206,7 @@ begin_up frames (word keyword.If) at = may_up frames 9 (least_over frames 1) (no
 begin_up frames (word keyword.Match) at =
     may_up frames 9 (least_over frames 1) (notes_over frames 0) (Need (InMatched at ∷ frames)) (both_up frames 1 (max 1 1 + 1) 0 (max 0 0) (omega arith) (omega arith))
 begin_up frames (word keyword.Not) at = may_up frames 1 (least_over frames 1) (notes_over frames 0) (Need (InNot at ∷ frames)) (both_up frames 1 (max 0 1 + 1) 0 (max 0 0) (omega arith) (omega arith))
+begin_up frames (word keyword.Pown) at = may_up frames 1 (least_over frames 1) (notes_over frames 0) (Need (InPown at ∷ frames)) (both_up frames 1 (max 0 1 + 1) 0 (max 0 0) (omega arith) (omega arith))
 begin_up frames (operator (between.Arith arith_of.Sub)) at =
     may_up frames 2 (least_over frames 1) (notes_over frames 0) (Need (InNegate at ∷ frames)) (both_up frames 1 (max 0 1 + 1) 0 (max 0 0) (omega arith) (omega arith))
 begin_up frames _ at = tt
@@ -247,6 +259,7 @@ infix_up sign at (Have frames t) =
     may_up frames (infix_rank sign) (least_over frames (expr_height t)) (notes_over frames (notes_in t)) (Need (InRight at sign t ∷ frames))
     (both_up frames (expr_height t) (max (expr_height t) 1 + 1) (notes_in t) (max (notes_in t) 0) (omega arith) (omega arith))
 infix_up sign at (Need frames) = tt
+infix_up sign at (HavePower frames t) = tt
 infix_up sign at (Greater frames p l) = tt
 infix_up sign at (Inside frames p) = tt
 infix_up sign at (InNote frames p c n) = tt
@@ -258,6 +271,7 @@ greater_up at (Have frames t) =
     may_up frames 6 (least_over frames (expr_height t)) (notes_over frames (notes_in t)) (Greater frames at t)
     (both_up frames (expr_height t) (max (expr_height t) 1 + 1) (notes_in t) (notes_in t) (omega arith) (omega arith))
 greater_up at (Need frames) = tt
+greater_up at (HavePower frames t) = tt
 greater_up at (Greater frames p l) = tt
 greater_up at (Inside frames p) = tt
 greater_up at (InNote frames p c n) = tt
@@ -336,62 +350,84 @@ less_up frames t false at = signed_up (between.Compare compare.Lt) frames t at
 less_up frames (number_syntax p c None) true at = (omega arith, omega arith)
 less_up frames t true at = signed_up (between.Compare compare.Lt) frames t at
 
-after_up : (frames : List Frame) (t : ExprSyntax) (what : ExprToken) (at : ℕ) (glued : Bool) → Above (least_over frames (expr_height t)) (notes_over frames (notes_in t)) (after frames t what at glued)
-after_up frames t (name x) at glued = argues_up frames t (name x) at
-after_up frames t (number c) at glued = argues_up frames t (number c) at
-after_up frames t (truth b) at glued = argues_up frames t (truth b) at
-after_up frames t (mark symbol.LeftParen) at glued = argues_up frames t (mark symbol.LeftParen) at
-after_up frames t (mark symbol.LeftBracket) at glued = argues_up frames t (mark symbol.LeftBracket) at
-after_up frames t (mark symbol.LeftBrace) at glued = argues_up frames t (mark symbol.LeftBrace) at
-after_up frames t (mark symbol.Dot) at glued = both_up frames (expr_height t) (expr_height t + 1) (notes_in t) (notes_in t) (omega arith) (omega arith)
-after_up frames t (mark symbol.RightParen) at glued = ended_up 9 frames t (close_after (reduce 9 frames t)) (omega arith) (close_up (reduce 9 frames t))
-after_up frames t (mark symbol.RightBracket) at glued = ended_up 9 frames t (list_after (reduce 9 frames t)) (omega arith) (list_up (reduce 9 frames t))
-after_up frames t (mark symbol.RightBrace) at glued = ended_up 9 frames t (record_after (reduce 9 frames t)) (omega arith) (record_up (reduce 9 frames t))
-after_up frames t (mark symbol.Semicolon) at glued = ended_up 9 frames t (semi_after (reduce 9 frames t)) (omega arith) (semi_up (reduce 9 frames t))
-after_up frames t (word keyword.In) at glued = ended_up 9 frames t (in_after (reduce 9 frames t)) (omega arith) (in_up (reduce 9 frames t))
-after_up frames t (word keyword.Then) at glued = ended_up 9 frames t (then_after (reduce 9 frames t)) (omega arith) (then_up (reduce 9 frames t))
-after_up frames t (word keyword.Else) at glued = ended_up 9 frames t (else_after (reduce 9 frames t)) (omega arith) (else_up (reduce 9 frames t))
-after_up frames t (word keyword.With) at glued = ended_up 9 frames t (with_after (reduce 9 frames t)) (omega arith) (with_up (reduce 9 frames t))
-after_up frames t (mark symbol.Bar) at glued = ended_up 9 frames t (bar_after (reduce 9 frames t)) (omega arith) (bar_up (reduce 9 frames t))
-after_up frames t (operator (between.Compare compare.Lt)) at glued = less_up frames t glued at
-after_up frames t (operator (between.Compare compare.Gt)) at glued = ended_up 5 frames t (greater_after at (reduce 5 frames t)) (omega arith) (greater_up at (reduce 5 frames t))
-after_up frames t (operator (between.Compare compare.Ge)) at glued = tt
-after_up frames t (operator (between.Compare compare.Le)) at glued = signed_up (between.Compare compare.Le) frames t at
-after_up frames t (operator (between.Compare compare.Eq)) at glued = signed_up (between.Compare compare.Eq) frames t at
-after_up frames t (operator (between.Compare compare.Ne)) at glued = signed_up (between.Compare compare.Ne) frames t at
-after_up frames t (operator between.Or) at glued = signed_up between.Or frames t at
-after_up frames t (operator between.And) at glued = signed_up between.And frames t at
-after_up frames t (operator between.Cons) at glued = signed_up between.Cons frames t at
-after_up frames t (operator (between.Arith op)) at glued = signed_up (between.Arith op) frames t at
-after_up frames t _ at glued = tt
+-- the power of `pown`
+number_up : (frames : List Frame) (t : ExprSyntax) (c : Frac) (at : ℕ) (power : Option ℕ) → Above (least_over frames (expr_height t)) (notes_over frames (notes_in t)) (number_after frames t c at power)
+number_up (InPown p ∷ frames) t c at None = tt
+number_up (InPown p ∷ frames) t c at (Some n) = both_up frames (max 0 (expr_height t) + 1) (expr_height t + 1) (max 0 (notes_in t)) (notes_in t) (omega arith) (omega arith)
+number_up frames t c at power = argues_up frames t (number c) at
+
+bracket_up : (frames : List Frame) (t : ExprSyntax) (at : ℕ) → Above (least_over frames (expr_height t)) (notes_over frames (notes_in t)) (bracket_after frames t at)
+bracket_up (InPown p ∷ frames) t at = both_up frames (max 0 (expr_height t) + 1) (expr_height t + 1) (max 0 (notes_in t)) (notes_in t) (omega arith) (omega arith)
+bracket_up frames t at = argues_up frames t (mark symbol.LeftParen) at
+
+dot_up : (frames : List Frame) (t : ExprSyntax) (at : ℕ) (b : Bool) → Above (least_over frames (expr_height t)) (notes_over frames (notes_in t)) (cond b Refused (Inside frames (DotName at t)))
+dot_up frames t at true = tt
+dot_up frames t at false = both_up frames (expr_height t) (expr_height t + 1) (notes_in t) (notes_in t) (omega arith) (omega arith)
+
+after_up : (frames : List Frame) (t : ExprSyntax) (what : ExprToken) (at : ℕ) (glued : Bool) (power : Option ℕ) → Above (least_over frames (expr_height t)) (notes_over frames (notes_in t)) (after frames t what at glued power)
+after_up frames t (name x) at glued power = argues_up frames t (name x) at
+after_up frames t (number c) at glued power = number_up frames t c at power
+after_up frames t (truth b) at glued power = argues_up frames t (truth b) at
+after_up frames t (mark symbol.LeftParen) at glued power = bracket_up frames t at
+after_up frames t (mark symbol.LeftBracket) at glued power = argues_up frames t (mark symbol.LeftBracket) at
+after_up frames t (mark symbol.LeftBrace) at glued power = argues_up frames t (mark symbol.LeftBrace) at
+after_up frames t (mark symbol.Dot) at glued power = dot_up frames t at (is_power t)
+after_up frames t (mark symbol.RightParen) at glued power = ended_up 9 frames t (close_after (reduce 9 frames t)) (omega arith) (close_up (reduce 9 frames t))
+after_up frames t (mark symbol.RightBracket) at glued power = ended_up 9 frames t (list_after (reduce 9 frames t)) (omega arith) (list_up (reduce 9 frames t))
+after_up frames t (mark symbol.RightBrace) at glued power = ended_up 9 frames t (record_after (reduce 9 frames t)) (omega arith) (record_up (reduce 9 frames t))
+after_up frames t (mark symbol.Semicolon) at glued power = ended_up 9 frames t (semi_after (reduce 9 frames t)) (omega arith) (semi_up (reduce 9 frames t))
+after_up frames t (word keyword.In) at glued power = ended_up 9 frames t (in_after (reduce 9 frames t)) (omega arith) (in_up (reduce 9 frames t))
+after_up frames t (word keyword.Then) at glued power = ended_up 9 frames t (then_after (reduce 9 frames t)) (omega arith) (then_up (reduce 9 frames t))
+after_up frames t (word keyword.Else) at glued power = ended_up 9 frames t (else_after (reduce 9 frames t)) (omega arith) (else_up (reduce 9 frames t))
+after_up frames t (word keyword.With) at glued power = ended_up 9 frames t (with_after (reduce 9 frames t)) (omega arith) (with_up (reduce 9 frames t))
+after_up frames t (mark symbol.Bar) at glued power = ended_up 9 frames t (bar_after (reduce 9 frames t)) (omega arith) (bar_up (reduce 9 frames t))
+after_up frames t (operator (between.Compare compare.Lt)) at glued power = less_up frames t glued at
+after_up frames t (operator (between.Compare compare.Gt)) at glued power = ended_up 5 frames t (greater_after at (reduce 5 frames t)) (omega arith) (greater_up at (reduce 5 frames t))
+after_up frames t (operator (between.Compare compare.Ge)) at glued power = tt
+after_up frames t (operator (between.Compare compare.Le)) at glued power = signed_up (between.Compare compare.Le) frames t at
+after_up frames t (operator (between.Compare compare.Eq)) at glued power = signed_up (between.Compare compare.Eq) frames t at
+after_up frames t (operator (between.Compare compare.Ne)) at glued power = signed_up (between.Compare compare.Ne) frames t at
+after_up frames t (operator between.Or) at glued power = signed_up between.Or frames t at
+after_up frames t (operator between.And) at glued power = signed_up between.And frames t at
+after_up frames t (operator between.Cons) at glued power = signed_up between.Cons frames t at
+after_up frames t (operator (between.Arith op)) at glued power = signed_up (between.Arith op) frames t at
+after_up frames t _ at glued power = tt
+
+power_up : (frames : List Frame) (t : ExprSyntax) (what : ExprToken) (at : ℕ) (glued : Bool) (power : Option ℕ) → Above (least_over frames (expr_height t)) (notes_over frames (notes_in t)) (power_after frames t what at glued power)
+power_up frames t (operator (between.Compare compare.Lt)) at true power = tt
+power_up frames t what at glued power = after_up frames t what at glued power
 
 same_up : (frames : List Frame) (h m : ℕ) → (least_over frames h ≤ least_over frames h) × (notes_over frames m ≤ notes_over frames m)
 same_up frames h m = (omega arith, omega arith)
 
-inside_up : (frames : List Frame) (expected : Expected) (what : ExprToken) (at : ℕ) → Above (least_over frames (expected_least expected)) (notes_over frames (expected_notes expected)) (inside frames expected what at)
-inside_up frames (LetBinder p) (name x) at = same_up frames 2 0
-inside_up frames (LetBinder p) hole at = same_up frames 2 0
-inside_up frames (LetEqual p x) (operator (between.Compare compare.Eq)) at = both_up frames 2 (max 1 1 + 1) 0 (max 0 0) (omega arith) (omega arith)
-inside_up frames (FieldName p before) (name x) at = same_up frames (expected_least (FieldName p before)) (expected_notes (FieldName p before))
-inside_up frames (FieldEqual p before place x) (operator (between.Compare compare.Eq)) at =
+inside_up : (frames : List Frame) (expected : Expected) (what : ExprToken) (at : ℕ) (power : Option ℕ) → Above (least_over frames (expected_least expected)) (notes_over frames (expected_notes expected)) (inside frames expected what at power)
+inside_up frames (LetBinder p) (name x) at power = same_up frames 2 0
+inside_up frames (LetBinder p) hole at power = same_up frames 2 0
+inside_up frames (LetEqual p x) (operator (between.Compare compare.Eq)) at power = both_up frames 2 (max 1 1 + 1) 0 (max 0 0) (omega arith) (omega arith)
+inside_up frames (FieldName p before) (name x) at power = same_up frames (expected_least (FieldName p before)) (expected_notes (FieldName p before))
+inside_up frames (FieldEqual p before place x) (operator (between.Compare compare.Eq)) at power =
     both_up frames (max (tallest_field (fields_in_order before)) 1 + 1) (max (tallest_field (fields_in_order before)) 1 + 1) (notes_in_fields (fields_in_order before))
     (max (notes_in_fields (fields_in_order before)) 0) (omega arith) (omega arith)
-inside_up frames (DotName p e) (name x) at = same_up frames (expr_height e + 1) (notes_in e)
-inside_up frames (ArmBegin p l) (mark symbol.Bar) at = same_up frames (max (expr_height l) 1 + 1) (notes_in l)
-inside_up frames (ArmBegin p l) (mark symbol.LeftBracket) at = same_up frames (max (expr_height l) 1 + 1) (notes_in l)
-inside_up frames (ArmOpen p l) (mark symbol.LeftBracket) at = same_up frames (max (expr_height l) 1 + 1) (notes_in l)
-inside_up frames (ArmClose p l) (mark symbol.RightBracket) at = same_up frames (max (expr_height l) 1 + 1) (notes_in l)
-inside_up frames (ArmArrow p l) (mark symbol.Arrow) at = both_up frames (max (expr_height l) 1 + 1) (max (max (expr_height l) 1) 1 + 1) (notes_in l) (max (notes_in l) 0) (omega arith) (omega arith)
-inside_up frames (HeadBinder p l a) (name x) at = same_up frames (expected_least (HeadBinder p l a)) (max (notes_in l) (notes_in a))
-inside_up frames (HeadBinder p l a) hole at = same_up frames (expected_least (HeadBinder p l a)) (max (notes_in l) (notes_in a))
-inside_up frames (HeadCons p l a x) (operator between.Cons) at = same_up frames (expected_least (HeadCons p l a x)) (max (notes_in l) (notes_in a))
-inside_up frames (TailBinder p l a x) (name y) at = same_up frames (expected_least (TailBinder p l a x)) (max (notes_in l) (notes_in a))
-inside_up frames (TailBinder p l a x) hole at = same_up frames (expected_least (TailBinder p l a x)) (max (notes_in l) (notes_in a))
-inside_up frames (TailArrow p l a x y) (mark symbol.Arrow) at =
+inside_up frames (DotName p e) (name x) at power = same_up frames (expr_height e + 1) (notes_in e)
+inside_up frames (ArmBegin p l) (mark symbol.Bar) at power = same_up frames (max (expr_height l) 1 + 1) (notes_in l)
+inside_up frames (ArmBegin p l) (mark symbol.LeftBracket) at power = same_up frames (max (expr_height l) 1 + 1) (notes_in l)
+inside_up frames (ArmOpen p l) (mark symbol.LeftBracket) at power = same_up frames (max (expr_height l) 1 + 1) (notes_in l)
+inside_up frames (ArmClose p l) (mark symbol.RightBracket) at power = same_up frames (max (expr_height l) 1 + 1) (notes_in l)
+inside_up frames (ArmArrow p l) (mark symbol.Arrow) at power = both_up frames (max (expr_height l) 1 + 1) (max (max (expr_height l) 1) 1 + 1) (notes_in l) (max (notes_in l) 0) (omega arith) (omega arith)
+inside_up frames (HeadBinder p l a) (name x) at power = same_up frames (expected_least (HeadBinder p l a)) (max (notes_in l) (notes_in a))
+inside_up frames (HeadBinder p l a) hole at power = same_up frames (expected_least (HeadBinder p l a)) (max (notes_in l) (notes_in a))
+inside_up frames (HeadCons p l a x) (operator between.Cons) at power = same_up frames (expected_least (HeadCons p l a x)) (max (notes_in l) (notes_in a))
+inside_up frames (TailBinder p l a x) (name y) at power = same_up frames (expected_least (TailBinder p l a x)) (max (notes_in l) (notes_in a))
+inside_up frames (TailBinder p l a x) hole at power = same_up frames (expected_least (TailBinder p l a x)) (max (notes_in l) (notes_in a))
+inside_up frames (TailArrow p l a x y) (mark symbol.Arrow) at power =
     both_up frames (max (expr_height l) (max (expr_height a) 1) + 1) (max (max (expr_height l) (expr_height a)) 1 + 1) (max (notes_in l) (notes_in a)) (max (max (notes_in l) (notes_in a)) 0) (omega arith)
     (omega arith)
-inside_up frames (NilColon p) (mark symbol.Colon) at = both_up frames 3 3 1 (0 + 1) (omega arith) (omega arith)
-inside_up frames _ _ at = tt
+inside_up frames (NilColon p) (mark symbol.Colon) at power = both_up frames 3 3 1 (0 + 1) (omega arith) (omega arith)
+inside_up frames (PownMinus p e) (operator (between.Arith arith_of.Sub)) at power = same_up frames (expr_height e + 1) (notes_in e)
+inside_up frames (PownDigits p e) what at (Some n) = same_up frames (expr_height e + 1) (notes_in e)
+inside_up frames (PownDigits p e) what at None = tt
+inside_up frames (PownClose p e k) (mark symbol.RightParen) at power = same_up frames (expr_height e + 1) (notes_in e)
+inside_up frames _ _ at power = tt
 
 -- ---- notes and types
 
@@ -423,9 +459,10 @@ type_goes_up frames at low NoType over up h = h
 
 step_above : (st : State) (x : Token) → Above (expr_least st) (notes_least st) (step st x)
 step_above (Need frames) x = begin_up frames (expr_token x.kind) x.start
-step_above (Have frames t) x = after_up frames t (expr_token x.kind) x.start x.glued
+step_above (Have frames t) x = after_up frames t (expr_token x.kind) x.start x.glued (power_in (unit_token x.kind))
+step_above (HavePower frames t) x = power_up frames t (expr_token x.kind) x.start x.glued (power_in (unit_token x.kind))
 step_above (Greater frames p left) x = greater_then_up frames p left (expr_token x.kind) x.start x.glued
-step_above (Inside frames expected) x = inside_up frames expected (expr_token x.kind) x.start
+step_above (Inside frames expected) x = inside_up frames expected (expr_token x.kind) x.start (power_in (unit_token x.kind))
 step_above (InNote frames p c n) x =
     note_goes_up frames p c (note_least n) (note_step n x) (note_ends frames p c (note_finish n) (expr_token x.kind)) (λ goes. note_up n x goes)
     (note_end_up frames p c n (note_finish n) (expr_token x.kind) refl)
@@ -437,6 +474,7 @@ step_above Refused x = tt
 above_whole : (n m : ℕ) (st : State) → st ≢ Refused → Above n m st → max n m ≤ whole_least st
 above_whole n m (Need frames) ok h = omega (arith, h.0, h.1)
 above_whole n m (Have frames t) ok h = omega (arith, h.0, h.1)
+above_whole n m (HavePower frames t) ok h = omega (arith, h.0, h.1)
 above_whole n m (Greater frames at left) ok h = omega (arith, h.0, h.1)
 above_whole n m (Inside frames expected) ok h = omega (arith, h.0, h.1)
 above_whole n m (InNote frames at c w) ok h = omega (arith, h.0, h.1)
@@ -452,6 +490,7 @@ expr_up st x ok = above_whole (expr_least st) (notes_least st) (step st x) ok (s
 whole_found_height : (st : State) (t : ExprSyntax) → whole st ≡ Some t → (expr_height t ≡ expr_least st) × (notes_in t ≡ notes_least st)
 whole_found_height (Have [] u) t e = let same : u ≡ t = cc in (ap expr_height (sym same), ap notes_in (sym same))
 whole_found_height (Have (frame ∷ frames) u) t e = absurd cc
+whole_found_height (HavePower frames u) t e = absurd cc
 whole_found_height (Need frames) t e = absurd cc
 whole_found_height (Greater frames p l) t e = absurd cc
 whole_found_height (Inside frames p) t e = absurd cc
@@ -461,6 +500,10 @@ whole_found_height Refused t e = absurd cc
 
 pub expr_found_height : (st : State) (t : ExprSyntax) → finish st ≡ Some t → whole_expr_height t ≡ whole_least st
 expr_found_height (Have frames u) t e =
+    let w = whole_found_height (reduce 9 frames u) t e in
+    let r = reduce_least frames 9 u (omega arith) in
+    omega (arith, w.0, w.1, r.0, r.1)
+expr_found_height (HavePower frames u) t e =
     let w = whole_found_height (reduce 9 frames u) t e in
     let r = reduce_least frames 9 u (omega arith) in
     omega (arith, w.0, w.1, r.0, r.1)

@@ -38,6 +38,7 @@ frame_notes (open_at.InEmptyArm at l) = l.low
 frame_notes (open_at.InFullArm at l a x y) = omega (arith, l.low, a.low)
 frame_notes (open_at.InNegate at) = omega arith
 frame_notes (open_at.InNot at) = omega arith
+frame_notes (open_at.InPown at) = omega arith
 frame_notes (open_at.InRight at sign left) = left.low
 frame_notes (open_at.InArgument at f before) = before.low
 
@@ -56,6 +57,9 @@ expected_low (expected.HeadCons at l a x) = omega (arith, l.low, a.low)
 expected_low (expected.TailBinder at l a x) = omega (arith, l.low, a.low)
 expected_low (expected.TailArrow at l a x y) = omega (arith, l.low, a.low)
 expected_low (expected.NilColon at) = omega arith
+expected_low (expected.PownMinus at e) = e.low
+expected_low (expected.PownDigits at e) = e.low
+expected_low (expected.PownClose at e k) = e.low
 
 entries_low : (entries : List Entry) (m : ℕ) → m ≤ greatest_height → notes_over (map entry_frame entries) m ≤ greatest_height
 entries_low [] m low = low
@@ -64,6 +68,7 @@ entries_low (e ∷ entries) m low = entries_low entries (max (notes_side (entry_
 notes_low : (entries : List Entry) (h : Focus) → notes_least (state_of (stack entries) h) ≤ greatest_height
 notes_low entries focus.Wanted = entries_low (reverse entries) 0 (omega arith)
 notes_low entries (focus.Read t) = entries_low (reverse entries) (notes_in (operand_expr t)) t.low
+notes_low entries (focus.Power t) = entries_low (reverse entries) (notes_in (operand_expr t)) t.low
 notes_low entries (focus.Greater at left) = entries_low (reverse entries) (notes_in (operand_expr left)) left.low
 notes_low entries (focus.Inside p) = entries_low (reverse entries) (expected_notes (view_expected p)) (expected_low p)
 notes_low entries (focus.Note n) = entries_low (reverse entries) (note_least (note_state n.note)) n.low
@@ -72,6 +77,7 @@ notes_low entries (focus.Type at t) = entries_low (reverse entries) (type_least 
 least_focus : (frames : List Frame) (h : Focus) → expr_least (state_of frames h) ≡ least_over frames (focus_height h)
 least_focus frames focus.Wanted = refl
 least_focus frames (focus.Read t) = refl
+least_focus frames (focus.Power t) = refl
 least_focus frames (focus.Greater at left) = refl
 least_focus frames (focus.Inside p) = refl
 least_focus frames (focus.Note n) = refl
@@ -115,6 +121,7 @@ low_same entries h height sum frames result a b c d =
 pub goes_on : (frames : List Frame) (h : Focus) → state_of frames h ≢ Refused
 goes_on frames focus.Wanted e = absurd cc
 goes_on frames (focus.Read t) e = absurd cc
+goes_on frames (focus.Power t) e = absurd cc
 goes_on frames (focus.Greater at left) e = absurd cc
 goes_on frames (focus.Inside p) e = absurd cc
 goes_on frames (focus.Note n) e = absurd cc

@@ -1,8 +1,8 @@
 -- The tokens of what is open and at focus: what a state says of the tokens that were read.
-use Rattle.std.proofs.Common.{◌≡◌, ◌≢◌, ℕ, ◌≤◌, ◌<◌, List, [], ◌∷◌, ◌++◌, refl, sym, subst, ◌∙◌, arith, inl, inr, ◌⊎◌}
+use Rattle.std.proofs.Common.{◌≡◌, ◌≢◌, ℕ, ℤ, pos, neg_ℤ, ◌≤◌, ◌<◌, List, [], ◌∷◌, ◌++◌, true, Some, refl, sym, subst, ◌∙◌, arith, inl, inr, ◌⊎◌}
 use Rattle.std.proofs.lemmas.Bool.{cases_lt, lt-ltb, le-ltb}
 use Rattle.um_syntax.specs.declared.token.Token.{Token}
-use Rattle.um_tree.specs.RawTree.{BinderSyntax, ExprSyntax, FieldPart, exprs_in_order, fields_in_order}
+use Rattle.um_tree.specs.RawTree.{pown_syntax, BinderSyntax, ExprSyntax, FieldPart, exprs_in_order, fields_in_order}
 use Rattle.um_types.specs.NoteMachine.{NoNote}
 use Rattle.um_types.specs.TypeMachine.{NoType}
 use Rattle.um_types.proofs.NoteLaws.{NoteSpellsPrefix}
@@ -14,9 +14,11 @@ use Rattle.um_expr.specs.declared.infix.Infix.TheVariants as between
 use Rattle.um_expr.specs.declared.token.ExprToken.TheVariants.{Name as name, Number as number, Word as word, Mark as mark}
 use Rattle.um_expr.specs.ExprTokens.{equal, less, greater, minus, double_colon}
 use Rattle.um_expr.specs.Ranks.{infix_rank, left_limit, right_bound, infix_text}
-use Rattle.um_expr.specs.ExprGrammar.{First, FirstAt, FirstGlued, BinderSpells, ends_in_number, last_ends_in_number, InfixAt, EmptyArm, FullArm, Spells, AllSpell, ItemsSpell, MoreItems, FieldsSpell, MoreFields, rank, IsAny, Fits, AreAtoms, AllFit, FieldsFit}
-use Rattle.um_expr.specs.ExprMachine.{Frame, InBracket, InItem, InField, InValue, InBody, InTest, InThen, InElse, InMatched, InEmptyArm, InFullArm, InNegate, InNot, InRight, InArgument, bound_of, own_rank, top_bound, plug, with_field, Expected, LetBinder, LetEqual, FieldName, FieldEqual, DotName, ArmBegin, ArmOpen, ArmClose, ArmArrow, HeadBinder, HeadCons, TailBinder, TailArrow, NilColon, State, Need, Have, Greater, Inside, InNote, InType, Refused, reduce}
+use Rattle.um_expr.specs.ExprGrammar.{First, FirstAt, FirstGlued, BinderSpells, InfixAt, FirstPower, EmptyArm, FullArm, Spells, AllSpell, ItemsSpell, MoreItems, FieldsSpell, MoreFields, rank, IsAny, Fits, AreAtoms, AllFit, FieldsFit}
+use Rattle.um_expr.specs.ExprMachine.{Frame, InBracket, InItem, InField, InValue, InBody, InTest, InThen, InElse, InMatched, InEmptyArm, InFullArm, InNegate, InNot, InPown, InRight, InArgument, bound_of, own_rank, top_bound, plug, with_field, Expected, LetBinder, LetEqual, FieldName, FieldEqual, DotName, ArmBegin, ArmOpen, ArmClose, ArmArrow, HeadBinder, HeadCons, TailBinder, TailArrow, NilColon, PownMinus, PownDigits, PownClose, State, Need, Have, HavePower, Greater, Inside, InNote, InType, Refused, reduce}
+use Rattle.um_expr.specs.ExprKinds.{is_power}
 use Rattle.um_expr.proofs.ExprEnds.{infix_low}
+use Rattle.um_expr.proofs.ExprSuffixes.{Leaves, leaves_then, leaves_first, leaves_at, leaves_expr, leaves_arguments, leaves_sign, leaves_empty_arm, leaves_full_arm, NumberFree, free_more}
 
 -- each item with the `;` behind it
 abbrev pub ItemsRead : List ExprSyntax → List Token → List Token → Type 0
@@ -61,7 +63,8 @@ FrameReads (InEmptyArm at l) tokens rest = MatchReads at l tokens rest
 FrameReads (InFullArm at l a x y) tokens rest = (e e' : List Token) × MatchReads at l tokens e × Spells a e e' × FullArm x y e' rest
 FrameReads (InNegate at) tokens rest = FirstAt minus at tokens rest
 FrameReads (InNot at) tokens rest = FirstAt (word keyword.Not) at tokens rest
-FrameReads (InRight at sign left) tokens rest = (mid : List Token) × Spells left tokens mid × InfixAt sign (ends_in_number left) at mid rest
+FrameReads (InPown at) tokens rest = FirstAt (word keyword.Pown) at tokens rest
+FrameReads (InRight at sign left) tokens rest = (mid : List Token) × Spells left tokens mid × InfixAt sign tokens at mid rest
 FrameReads (InArgument at f before) tokens rest = (a : List Token) × FirstAt (name f) at tokens a × AllSpell (exprs_in_order before) a rest
 
 abbrev pub FramesRead : List Frame → List Token → List Token → Type 0
@@ -83,6 +86,7 @@ FrameFits (InEmptyArm at l) frames = (9 < top_bound frames) × Fits l
 FrameFits (InFullArm at l a x y) frames = (9 < top_bound frames) × Fits l × Fits a
 FrameFits (InNegate at) frames = 2 < top_bound frames
 FrameFits (InNot at) frames = 1 < top_bound frames
+FrameFits (InPown at) frames = 1 < top_bound frames
 FrameFits (InRight at sign left) frames = (infix_rank sign < top_bound frames) × (rank left ≤ left_limit sign) × Fits left
 FrameFits (InArgument at f before) frames = (1 < top_bound frames) × AreAtoms (exprs_in_order before)
 
@@ -112,6 +116,10 @@ ExpectedReads (TailBinder at l a x) tokens rest =
 ExpectedReads (TailArrow at l a x y) tokens rest =
     (e e' head cons tail : List Token) × MatchReads at l tokens e × Spells a e e' × First (mark symbol.Bar) e' head × BinderSpells x head cons × First double_colon cons tail × BinderSpells y tail rest
 ExpectedReads (NilColon at) tokens rest = (a b : List Token) × FirstAt (mark symbol.LeftParen) at tokens a × First (mark symbol.LeftBracket) a b × First (mark symbol.RightBracket) b rest
+ExpectedReads (PownMinus at e) tokens rest = (a b : List Token) × FirstAt (word keyword.Pown) at tokens a × Spells e a b × First (mark symbol.LeftParen) b rest
+ExpectedReads (PownDigits at e) tokens rest = (a b c : List Token) × FirstAt (word keyword.Pown) at tokens a × Spells e a b × First (mark symbol.LeftParen) b c × First minus c rest
+ExpectedReads (PownClose at e k) tokens rest =
+    (n : ℕ) × (a b c d : List Token) × (k ≡ neg_ℤ (pos n)) × FirstAt (word keyword.Pown) at tokens a × Spells e a b × First (mark symbol.LeftParen) b c × First minus c d × FirstPower n d rest
 
 abbrev pub ExpectedFits : Expected → List Frame → Type 0
 ExpectedFits (LetBinder at) frames = 9 < top_bound frames
@@ -128,11 +136,23 @@ ExpectedFits (HeadCons at l a x) frames = (9 < top_bound frames) × Fits l × Fi
 ExpectedFits (TailBinder at l a x) frames = (9 < top_bound frames) × Fits l × Fits a
 ExpectedFits (TailArrow at l a x y) frames = (9 < top_bound frames) × Fits l × Fits a
 ExpectedFits (NilColon at) frames = Unit {0}
+ExpectedFits (PownMinus at e) frames = (1 < top_bound frames) × (rank e ≡ 0) × Fits e
+ExpectedFits (PownDigits at e) frames = (1 < top_bound frames) × (rank e ≡ 0) × Fits e
+ExpectedFits (PownClose at e k) frames = (1 < top_bound frames) × (rank e ≡ 0) × Fits e
+
+-- what is at focus is an atom, or a whole power, which stands where it may
+abbrev pub AtFocus : List Frame → ExprSyntax → Type 0
+AtFocus frames t = (rank t ≡ 0) ⊎ ((is_power t ≡ true) × (1 < top_bound frames))
+
+-- it stands behind the frames
+abbrev pub FocusReads : List Frame → ExprSyntax → List Token → List Token → Type 0
+FocusReads frames t tokens rest = (mid : List Token) × FramesRead frames tokens mid × Spells t mid rest × FramesFit frames × Fits t × AtFocus frames t
 
 -- the tokens up to the rest are those of the state, and what stands in it fits
 abbrev pub SpellsPrefix : State → List Token → List Token → Type 0
 SpellsPrefix (Need frames) tokens rest = FramesRead frames tokens rest × FramesFit frames
-SpellsPrefix (Have frames t) tokens rest = (mid : List Token) × FramesRead frames tokens mid × Spells t mid rest × FramesFit frames × Fits t × (rank t ≡ 0)
+SpellsPrefix (Have frames t) tokens rest = (f : FocusReads frames t tokens rest) × (is_power t ≡ true → NumberFree f.0 rest)
+SpellsPrefix (HavePower frames t) tokens rest = FocusReads frames t tokens rest
 SpellsPrefix (Greater frames at left) tokens rest =
     (mid next : List Token) × FramesRead frames tokens mid × Spells left mid next × FirstAt greater at next rest × FramesFit frames × (6 < top_bound frames) × (rank left ≤ 5) × Fits left
 SpellsPrefix (Inside frames expected) tokens rest = (mid : List Token) × FramesRead frames tokens mid × ExpectedReads expected mid rest × FramesFit frames × ExpectedFits expected frames
@@ -142,10 +162,10 @@ SpellsPrefix (InType frames at s) tokens rest =
     (mid colon next : List Token) × FramesRead frames tokens mid × ExpectedReads (NilColon at) mid colon × First (mark symbol.Colon) colon next × TypeSpellsPrefix s next rest × FramesFit frames × (s ≢ NoType)
 SpellsPrefix Refused tokens rest = Unit {0}
 
--- the same once all up to a limit has ended; the last token is still that of `last`
-abbrev pub SpellsPrefixUpTo : ℕ → ExprSyntax → State → List Token → List Token → Type 0
+-- the same once all up to a limit has ended; what was at focus before begins the tokens `last`
+abbrev pub SpellsPrefixUpTo : ℕ → List Token → State → List Token → List Token → Type 0
 SpellsPrefixUpTo limit last (Have frames t) tokens rest =
-    (mid : List Token) × FramesRead frames tokens mid × Spells t mid rest × FramesFit frames × Fits t × (rank t < top_bound frames) × (rank t ≤ limit) × (ends_in_number t ≡ ends_in_number last)
+    (mid : List Token) × FramesRead frames tokens mid × Spells t mid rest × FramesFit frames × Fits t × (rank t < top_bound frames) × (rank t ≤ limit) × (NumberFree last rest → NumberFree mid rest)
 SpellsPrefixUpTo limit last _ tokens rest = ⊥
 
 -- ---- one part more
@@ -200,14 +220,9 @@ pub any_last : (before : List ExprSyntax) (t : ExprSyntax) → IsAny (exprs_in_o
 any_last [] t = tt
 any_last (u ∷ us) t = tt
 
-arguments_number : (before : List ExprSyntax) (t : ExprSyntax) → last_ends_in_number (exprs_in_order (before ++ t ∷ [])) ≡ ends_in_number t
-arguments_number [] t = refl
-arguments_number (u ∷ []) t = refl
-arguments_number (u ∷ v ∷ us) t = arguments_number (v ∷ us) t
-
 -- ---- ending what ends
 
-pub infix_spells : (sign : Infix) (at : ℕ) (a b : ExprSyntax) (tokens mid next rest : List Token) → Spells a tokens mid → InfixAt sign (ends_in_number a) at mid next → Spells b next rest → Spells (infix_text at sign a b) tokens rest
+pub infix_spells : (sign : Infix) (at : ℕ) (a b : ExprSyntax) (tokens mid next rest : List Token) → Spells a tokens mid → InfixAt sign tokens at mid next → Spells b next rest → Spells (infix_text at sign a b) tokens rest
 infix_spells between.Or at a b tokens mid next rest s f r = (mid, next, s, f, r)
 infix_spells between.And at a b tokens mid next rest s f r = (mid, next, s, f, r)
 infix_spells (between.Compare sign) at a b tokens mid next rest s f r = (mid, next, s, f, r)
@@ -215,12 +230,12 @@ infix_spells between.Cons at a b tokens mid next rest s f r = (mid, next, s, f, 
 infix_spells (between.Arith op) at a b tokens mid next rest s f r = (mid, next, s, f, r)
 
 pub infix_fits : (sign : Infix) (at : ℕ) (a b : ExprSyntax) → rank a ≤ left_limit sign → rank b < right_bound sign → Fits a → Fits b
-    → Fits (infix_text at sign a b) × (rank (infix_text at sign a b) ≡ infix_rank sign) × (ends_in_number (infix_text at sign a b) ≡ ends_in_number b)
-infix_fits between.Or at a b le lt f g = ((le, lt, f, g), refl, refl)
-infix_fits between.And at a b le lt f g = ((le, lt, f, g), refl, refl)
-infix_fits (between.Compare sign) at a b le lt f g = ((le, lt, f, g), refl, refl)
-infix_fits between.Cons at a b le lt f g = ((le, lt, f, g), refl, refl)
-infix_fits (between.Arith op) at a b le lt f g = ((le, lt, f, g), refl, refl)
+    → Fits (infix_text at sign a b) × (rank (infix_text at sign a b) ≡ infix_rank sign)
+infix_fits between.Or at a b le lt f g = ((le, lt, f, g), refl)
+infix_fits between.And at a b le lt f g = ((le, lt, f, g), refl)
+infix_fits (between.Compare sign) at a b le lt f g = ((le, lt, f, g), refl)
+infix_fits between.Cons at a b le lt f g = ((le, lt, f, g), refl)
+infix_fits (between.Arith op) at a b le lt f g = ((le, lt, f, g), refl)
 
 pub plug_reads : (frame : Frame) (t : ExprSyntax) (tokens mid rest : List Token) → own_rank frame < 10 → FrameReads frame tokens mid → Spells t mid rest → Spells (plug frame t) tokens rest
 plug_reads (InBody at x v) t tokens mid rest h f s = (f.2.0, f.2.1, f.0, f.1, mid, f.2.2, f.2.3, f.2.4, f.3, f.4, s)
@@ -234,21 +249,46 @@ plug_reads (InBracket at) t tokens mid rest h f s = absurd (omega arith)
 plug_reads (InItem at before) t tokens mid rest h f s = absurd (omega arith)
 plug_reads (InField at before place x) t tokens mid rest h f s = absurd (omega arith)
 plug_reads (InValue at x) t tokens mid rest h f s = absurd (omega arith)
+plug_reads (InPown at) t tokens mid rest h f s = absurd (omega arith)
 plug_reads (InTest at) t tokens mid rest h f s = absurd (omega arith)
 plug_reads (InThen at c) t tokens mid rest h f s = absurd (omega arith)
 plug_reads (InMatched at) t tokens mid rest h f s = absurd (omega arith)
 plug_reads (InEmptyArm at l) t tokens mid rest h f s = absurd (omega arith)
 
+-- a frame that needs no token to end leaves the tokens behind it
+plug_leaves : (frame : Frame) (frames : List Frame) (tokens rest : List Token) → own_rank frame < 10 → FrameFits frame frames → FrameReads frame tokens rest → Leaves tokens rest
+plug_leaves (InBody at x v) frames tokens rest h f s =
+    let l = s.2 in leaves_then (leaves_at l.2) (leaves_then (leaves_at l.3) (leaves_then (leaves_first l.4) (leaves_then (leaves_expr v s.0 s.1 s.3 f.1) (leaves_first s.4))))
+plug_leaves (InElse at c a) frames tokens rest h f s =
+    let t = s.2 in leaves_then (leaves_at t.2) (leaves_then (leaves_expr c t.0 t.1 t.3 f.1) (leaves_then (leaves_first t.4) (leaves_then (leaves_expr a s.0 s.1 s.3 f.2) (leaves_first s.4))))
+plug_leaves (InFullArm at l a x y) frames tokens rest h f s =
+    let m = s.2 in leaves_then (leaves_at m.2)
+    (leaves_then (leaves_expr l m.0 m.1 m.3 f.1) (leaves_then (leaves_empty_arm m.1 s.0 m.4) (leaves_then (leaves_expr a s.0 s.1 s.3 f.2) (leaves_full_arm x y s.1 rest s.4))))
+plug_leaves (InNegate at) frames tokens rest h f s = leaves_at s
+plug_leaves (InNot at) frames tokens rest h f s = leaves_at s
+plug_leaves (InRight at sign left) frames tokens rest h f s = leaves_then (leaves_expr left tokens s.0 s.1 f.2) (leaves_sign sign tokens at s.0 rest s.2)
+plug_leaves (InArgument at g before) frames tokens rest h f s = leaves_then (leaves_at s.1) (leaves_arguments (exprs_in_order before) s.0 rest s.2 f.1)
+plug_leaves (InPown at) frames tokens rest h f s = absurd (omega arith)
+plug_leaves (InBracket at) frames tokens rest h f s = absurd (omega arith)
+plug_leaves (InItem at before) frames tokens rest h f s = absurd (omega arith)
+plug_leaves (InField at before place x) frames tokens rest h f s = absurd (omega arith)
+plug_leaves (InValue at x) frames tokens rest h f s = absurd (omega arith)
+plug_leaves (InTest at) frames tokens rest h f s = absurd (omega arith)
+plug_leaves (InThen at c) frames tokens rest h f s = absurd (omega arith)
+plug_leaves (InMatched at) frames tokens rest h f s = absurd (omega arith)
+plug_leaves (InEmptyArm at l) frames tokens rest h f s = absurd (omega arith)
+
 pub plug_fits : (frame : Frame) (frames : List Frame) (t : ExprSyntax) → own_rank frame < 10 → FrameFits frame frames → Fits t → rank t < bound_of frame
-    → Fits (plug frame t) × (rank (plug frame t) < top_bound frames) × (rank (plug frame t) ≡ own_rank frame) × (ends_in_number (plug frame t) ≡ ends_in_number t)
-plug_fits (InBody at x v) frames t h f fits lt = ((f.1, fits), f.0, refl, refl)
-plug_fits (InElse at c a) frames t h f fits lt = ((f.1, f.2, fits), f.0, refl, refl)
-plug_fits (InFullArm at l a x y) frames t h f fits lt = ((f.1, f.2, fits), f.0, refl, refl)
-plug_fits (InNegate at) frames t h f fits lt = ((omega arith, fits), f, refl, refl)
-plug_fits (InNot at) frames t h f fits lt = ((omega arith, fits), f, refl, refl)
+    → Fits (plug frame t) × (rank (plug frame t) < top_bound frames) × (rank (plug frame t) ≡ own_rank frame)
+plug_fits (InBody at x v) frames t h f fits lt = ((f.1, fits), f.0, refl)
+plug_fits (InElse at c a) frames t h f fits lt = ((f.1, f.2, fits), f.0, refl)
+plug_fits (InFullArm at l a x y) frames t h f fits lt = ((f.1, f.2, fits), f.0, refl)
+plug_fits (InNegate at) frames t h f fits lt = ((omega arith, fits), f, refl)
+plug_fits (InNot at) frames t h f fits lt = ((omega arith, fits), f, refl)
 plug_fits (InRight at sign left) frames t h f fits lt =
-    let p = infix_fits sign at left t f.1 lt f.2 fits in (p.0, omega (arith, p.1, f.0), p.1, p.2)
-plug_fits (InArgument at g before) frames t h f fits lt = ((any_last before t, atoms_last before t f.1 fits (omega arith)), f.0, refl, arguments_number before t)
+    let p = infix_fits sign at left t f.1 lt f.2 fits in (p.0, omega (arith, p.1, f.0), p.1)
+plug_fits (InArgument at g before) frames t h f fits lt = ((any_last before t, atoms_last before t f.1 fits (omega arith)), f.0, refl)
+plug_fits (InPown at) frames t h f fits lt = absurd (omega arith)
 plug_fits (InBracket at) frames t h f fits lt = absurd (omega arith)
 plug_fits (InItem at before) frames t h f fits lt = absurd (omega arith)
 plug_fits (InField at before place x) frames t h f fits lt = absurd (omega arith)
@@ -258,16 +298,17 @@ plug_fits (InThen at c) frames t h f fits lt = absurd (omega arith)
 plug_fits (InMatched at) frames t h f fits lt = absurd (omega arith)
 plug_fits (InEmptyArm at l) frames t h f fits lt = absurd (omega arith)
 
-reduce_sound : (frames : List Frame) (limit : ℕ) (last t : ExprSyntax) (tokens mid rest : List Token) → limit < 10 → FramesRead frames tokens mid → Spells t mid rest → FramesFit frames → Fits t
-    → rank t < top_bound frames → rank t ≤ limit → ends_in_number t ≡ ends_in_number last → SpellsPrefixUpTo limit last (reduce limit frames t) tokens rest
-reduce_sound [] limit last t tokens mid rest small r s f fits lt le e = (mid, r, s, f, fits, lt, le, e)
-reduce_sound (frame ∷ frames) limit last t tokens mid rest small r s f fits lt le e =
+reduce_sound : (frames : List Frame) (limit : ℕ) (t : ExprSyntax) (last tokens mid rest : List Token) → limit < 10 → FramesRead frames tokens mid → Spells t mid rest → FramesFit frames → Fits t
+    → rank t < top_bound frames → rank t ≤ limit → (NumberFree last rest → NumberFree mid rest) → SpellsPrefixUpTo limit last (reduce limit frames t) tokens rest
+reduce_sound [] limit t last tokens mid rest small r s f fits lt le e = (mid, r, s, f, fits, lt, le, e)
+reduce_sound (frame ∷ frames) limit t last tokens mid rest small r s f fits lt le e =
     elim (cases_lt limit (own_rank frame)) [
       | inl keeps ↦ rw lt-ltb (mid, r, s, f, fits, lt, le, e)
       | inr ends ↦
           let low : own_rank frame < 10 = omega arith in
           let p = plug_fits frame frames t low f.0 fits lt in
-          rw le-ltb (reduce_sound frames limit last (plug frame t) tokens r.0 rest small r.1 (plug_reads frame t r.0 mid rest low r.2 s) f.1 p.0 p.1 (omega (arith, p.2)) (p.3 ∙ e))
+          let free : NumberFree last rest → NumberFree r.0 rest = λ n. free_more r.0 mid rest (plug_leaves frame frames r.0 mid low f.0 r.2) (e n) in
+          rw le-ltb (reduce_sound frames limit (plug frame t) last tokens r.0 rest small r.1 (plug_reads frame t r.0 mid rest low r.2 s) f.1 p.0 p.1 (omega (arith, p.2)) free)
     ]
 
 pub bound_positive : (frames : List Frame) → 0 < top_bound frames
@@ -275,6 +316,7 @@ bound_positive [] = omega arith
 bound_positive (InRight at sign left ∷ frames) = omega (arith, infix_low sign)
 bound_positive (InNegate at ∷ frames) = omega arith
 bound_positive (InNot at ∷ frames) = omega arith
+bound_positive (InPown at ∷ frames) = omega arith
 bound_positive (InArgument at f before ∷ frames) = omega arith
 bound_positive (InBracket at ∷ frames) = omega arith
 bound_positive (InItem at before ∷ frames) = omega arith
@@ -288,7 +330,15 @@ bound_positive (InMatched at ∷ frames) = omega arith
 bound_positive (InEmptyArm at l ∷ frames) = omega arith
 bound_positive (InFullArm at l a x y ∷ frames) = omega arith
 
--- an atom at focus, once all up to a limit has ended
-pub ended : (limit : ℕ) (frames : List Frame) (t : ExprSyntax) (tokens rest : List Token) → limit < 10 → SpellsPrefix (Have frames t) tokens rest → SpellsPrefixUpTo limit t (reduce limit frames t) tokens rest
-ended limit frames t tokens rest small h =
-    reduce_sound frames limit t t tokens h.0 rest small h.1 h.2 h.3 h.4 (omega (arith, bound_positive frames, h.5)) (omega (arith, h.5)) refl
+pub power_rank : (t : ExprSyntax) → is_power t ≡ true → rank t ≡ 1
+power_rank (pown_syntax at e k) p = refl
+power_rank t p = absurd cc
+
+pub focus_low : (frames : List Frame) (t : ExprSyntax) → AtFocus frames t → (rank t < top_bound frames) × (rank t ≤ 1)
+focus_low frames t (inl low) = (omega (arith, bound_positive frames, low), omega (arith, low))
+focus_low frames t (inr p) = let one = power_rank t p.0 in (omega (arith, one, p.1), omega (arith, one))
+
+-- what is at focus, once all up to a limit has ended
+pub ended : (limit : ℕ) (frames : List Frame) (t : ExprSyntax) (tokens rest : List Token) → 0 < limit → limit < 10 → (h : FocusReads frames t tokens rest) → SpellsPrefixUpTo limit h.0 (reduce limit frames t) tokens rest
+ended limit frames t tokens rest some small h =
+    let low = focus_low frames t h.5 in reduce_sound frames limit t h.0 tokens h.0 rest small h.1 h.2 h.3 h.4 low.0 (omega (arith, low.1)) (λ n. n)

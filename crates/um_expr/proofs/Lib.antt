@@ -2,8 +2,10 @@ pub mod ExprEnds
 pub mod ExprTokenKinds
 mod ExprYields
 mod ExprFirsts
+pub mod ExprAtEnd
 pub mod ExprComplete
 mod ExprReads
+mod ExprSuffixes
 pub mod ExprPrefixes
 pub mod ExprSound
 pub mod ExprCompletions

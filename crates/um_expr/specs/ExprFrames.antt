@@ -8,7 +8,7 @@ use Rattle.um_expr.specs.declared.frame.Frame.{Frame as Open}
 use Rattle.um_expr.specs.declared.frame.Frame.TheVariants as open_at
 use Rattle.um_expr.specs.declared.frame.Entry.{Entry}
 use Rattle.um_expr.specs.ExprMachine.{Frame, InBracket, InItem, InField, InValue, InBody, InTest, InThen, InElse}
-use Rattle.um_expr.specs.ExprMachine.{InMatched, InEmptyArm, InFullArm, InNegate, InNot, InRight, InArgument}
+use Rattle.um_expr.specs.ExprMachine.{InMatched, InEmptyArm, InFullArm, InNegate, InNot, InPown, InRight, InArgument}
 use Rattle.um_expr.specs.ExprLeast.{side}
 use Rattle.um_expr.specs.ExprOperands.{operand_expr, operand_exprs, read_fields}
 
@@ -27,6 +27,7 @@ view_frame (open_at.InFullArm at l a x y) =
     InFullArm at (operand_expr l) (operand_expr a) (binder_syntax x) (binder_syntax y)
 view_frame (open_at.InNegate at) = InNegate at
 view_frame (open_at.InNot at) = InNot at
+view_frame (open_at.InPown at) = InPown at
 view_frame (open_at.InRight at sign left) = InRight at sign (operand_expr left)
 view_frame (open_at.InArgument at f before) = InArgument at f (operand_exprs before)
 

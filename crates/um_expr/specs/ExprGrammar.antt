@@ -5,18 +5,22 @@
 --   cmp   = cons [ sign cons ]        sign = "<" | "<=" | "=" | "<>" | ">" | ">" and "=" directly behind it
 --   cons  = add [ "::" cons ]
 --   add   = mul { ( "+" | "-" ) mul } mul = un { ( "*" | "/" ) un } both associate to the left
---   un    = "-" un | app              app = Name atom { atom } | "not" atom | atom
+--   un    = "-" un | app
+--   app   = Name atom { atom } | "not" atom | "pown" atom Number | "pown" atom "(" "-" Number ")" | atom
 --   atom  = prim { "." Name }
 --   prim  = Number [ "<" note ">" ] | "true" | "false" | Name | "(" expr ")" | "(" "[" "]" ":" type ")"
 --         | "[" expr { ";" expr } "]" | "{" Name "=" expr { ";" Name "=" expr } "}"
 -- Each level is a rank, so the relation has one case for each form of expression.
 -- Source: the F# specification, chapter Expressions, for the forms that this language has.
-use Rattle.std.specs.Prelude.{◌≡◌, ℕ, ◌≤◌, ◌<◌, Bool, true, false, ◌⊎◌, List, [], ◌∷◌, Option, Some, None}
+use Rattle.std.specs.Prelude.{◌≡◌, ℕ, ℤ, pos, neg_ℤ, ◌≤◌, ◌<◌, true, false, ◌⊎◌, List, [], ◌∷◌, ◌++◌, Option}
+use Rattle.std.specs.Prelude.{Some, None}
+use Rattle.um_frac.specs.declared.number.Frac.{Frac}
 use Rattle.um_syntax.specs.declared.token.Token.{Token}
 use Rattle.um_tree.specs.declared.expression.Sign.TheVariants as compare
 use Rattle.um_tree.specs.RawTree.{NoteSyntax, TypeSyntax, BinderSyntax, ExprSyntax, ExprSyntaxes, FieldSyntaxes}
 use Rattle.um_tree.specs.RawTree.{truth_syntax, number_syntax, name_syntax, call_syntax, negate_syntax, not_syntax}
-use Rattle.um_tree.specs.RawTree.{arith_syntax, compare_syntax, and_syntax, or_syntax, if_syntax, let_syntax}
+use Rattle.um_tree.specs.RawTree.{pown_syntax, arith_syntax, compare_syntax, and_syntax, or_syntax, if_syntax}
+use Rattle.um_tree.specs.RawTree.{let_syntax}
 use Rattle.um_tree.specs.RawTree.{match_syntax, nil_syntax, list_syntax, cons_syntax, fields_syntax, field_syntax}
 use Rattle.um_tree.specs.RawTree.{bracket_expr_syntax, no_exprs, more_exprs, no_fields, more_fields}
 use Rattle.um_syntax.specs.declared.vocabulary.Keyword.TheVariants as keyword
@@ -29,6 +33,8 @@ use Rattle.um_expr.specs.declared.token.ExprToken.TheVariants.{Hole as hole, Ope
 use Rattle.um_expr.specs.declared.token.ExprToken.TheVariants.{Mark as mark}
 use Rattle.um_expr.specs.ExprTokens.{expr_token, equal, less, greater, minus, double_colon}
 use Rattle.um_expr.specs.Ranks.{arith_rank}
+use Rattle.um_types.specs.UnitTokens.{unit_token}
+use Rattle.um_types.specs.UnitMachine.{power_in}
 use Rattle.um_types.specs.TypeGrammar.{NoteSpells, NoteFits, TypeSpells, TypeFits}
 
 -- the first token is this, and the others are the rest
@@ -53,51 +59,37 @@ bound (Some x) = name x
 abbrev pub BinderSpells : BinderSyntax → List Token → List Token → Type 0
 BinderSpells x tokens rest = FirstAt (bound x.name) x.at tokens rest
 
--- whether the last token of an expression is a number
-abbrev mutual
-  pub ends_in_number : ExprSyntax → Bool
-  ends_in_number (truth_syntax at b) = false
-  ends_in_number (number_syntax at c None) = true
-  ends_in_number (number_syntax at c (Some n)) = false
-  ends_in_number (name_syntax at x) = false
-  ends_in_number (call_syntax at f args) = last_ends_in_number args
-  ends_in_number (negate_syntax at e) = ends_in_number e
-  ends_in_number (not_syntax at e) = ends_in_number e
-  ends_in_number (arith_syntax at op a b) = ends_in_number b
-  ends_in_number (compare_syntax at sign a b) = ends_in_number b
-  ends_in_number (and_syntax at a b) = ends_in_number b
-  ends_in_number (or_syntax at a b) = ends_in_number b
-  ends_in_number (if_syntax at c a b) = ends_in_number b
-  ends_in_number (let_syntax at x a b) = ends_in_number b
-  ends_in_number (match_syntax at l a x y b) = ends_in_number b
-  ends_in_number (nil_syntax at t) = false
-  ends_in_number (list_syntax at es) = false
-  ends_in_number (cons_syntax at a b) = ends_in_number b
-  ends_in_number (fields_syntax at fs) = false
-  ends_in_number (field_syntax at place x e) = false
-  ends_in_number (bracket_expr_syntax at e) = false
+-- a number stands directly before the rest
+abbrev pub AfterNumber : List Token → List Token → Type 0
+AfterNumber tokens rest = (read last : List Token) × (c : Frac) × (tokens ≡ read ++ last) × First (number c) last rest
 
-  pub last_ends_in_number : ExprSyntaxes → Bool
-  last_ends_in_number no_exprs = false
-  last_ends_in_number (more_exprs e no_exprs) = ends_in_number e
-  last_ends_in_number (more_exprs e (more_exprs d es)) = last_ends_in_number (more_exprs d es)
-
--- A sign between two operands, where the flag says that a number stands directly before it.
--- A `<` directly behind a number is none: it opens the number's note. `>=` is `>` and `=` directly behind it, at the
--- `>`.
-abbrev pub InfixAt : Infix → Bool → ℕ → List Token → List Token → Type 0
-InfixAt (between.Compare compare.Lt) after_number at tokens rest =
+-- A sign between two operands, where the left one begins these tokens.
+-- A `<` directly behind a number is none: it opens a unit. `>=` is `>` and `=` directly behind it, at the `>`.
+abbrev pub InfixAt : Infix → List Token → ℕ → List Token → List Token → Type 0
+InfixAt (between.Compare compare.Lt) left at tokens rest =
     (token : Token) × (expr_token token.kind ≡ less) × (token.start ≡ at)
-    × (after_number ≡ true → token.glued ≡ false) × (tokens ≡ token ∷ rest)
-InfixAt (between.Compare compare.Ge) after_number at tokens rest =
+    × (AfterNumber left tokens → token.glued ≡ false) × (tokens ≡ token ∷ rest)
+InfixAt (between.Compare compare.Ge) left at tokens rest =
     (next : List Token) × FirstAt greater at tokens next × FirstGlued equal next rest
-InfixAt sign after_number at tokens rest = FirstAt (operator sign) at tokens rest
+InfixAt sign left at tokens rest = FirstAt (operator sign) at tokens rest
 
 -- the note of a number, directly behind it
 abbrev pub WrittenNote : Option NoteSyntax → List Token → List Token → Type 0
 WrittenNote None tokens rest = tokens ≡ rest
 WrittenNote (Some n) tokens rest =
     (next last : List Token) × FirstGlued less tokens next × NoteSpells n next last × First greater last rest
+
+-- a number of digits alone, which has this value: as behind `^` in a unit text
+abbrev pub FirstPower : ℕ → List Token → List Token → Type 0
+FirstPower n tokens rest =
+    (token : Token) × (power_in (unit_token token.kind) ≡ Some n) × (tokens ≡ token ∷ rest)
+
+-- the power of `pown`: such a number, or one behind `-` in brackets
+abbrev pub PowerSpells : ℤ → List Token → List Token → Type 0
+PowerSpells k tokens rest =
+    ((n : ℕ) × (k ≡ pos n) × FirstPower n tokens rest)
+    ⊎ ((n : ℕ) × (sign digits close : List Token) × (k ≡ neg_ℤ (pos n)) × First (mark symbol.LeftParen) tokens sign
+    × First minus sign digits × FirstPower n digits close × First (mark symbol.RightParen) close rest)
 
 -- from `with` up to the `->` of the empty arm: the bar may be left out
 abbrev pub EmptyArm : List Token → List Token → Type 0
@@ -134,21 +126,23 @@ abbrev mutual
   Spells (negate_syntax at e) tokens rest = (next : List Token) × FirstAt minus at tokens next × Spells e next rest
   Spells (not_syntax at e) tokens rest =
       (next : List Token) × FirstAt (word keyword.Not) at tokens next × Spells e next rest
+  Spells (pown_syntax at e k) tokens rest =
+      (next mid : List Token) × FirstAt (word keyword.Pown) at tokens next × Spells e next mid × PowerSpells k mid rest
   Spells (arith_syntax at op a b) tokens rest =
-      (mid next : List Token) × Spells a tokens mid × InfixAt (between.Arith op) (ends_in_number a) at mid next
+      (mid next : List Token) × Spells a tokens mid × InfixAt (between.Arith op) tokens at mid next
       × Spells b next rest
   Spells (compare_syntax at sign a b) tokens rest =
-      (mid next : List Token) × Spells a tokens mid × InfixAt (between.Compare sign) (ends_in_number a) at mid next
+      (mid next : List Token) × Spells a tokens mid × InfixAt (between.Compare sign) tokens at mid next
       × Spells b next rest
   Spells (and_syntax at a b) tokens rest =
-      (mid next : List Token) × Spells a tokens mid × InfixAt between.And (ends_in_number a) at mid next
+      (mid next : List Token) × Spells a tokens mid × InfixAt between.And tokens at mid next
       × Spells b next rest
   Spells (or_syntax at a b) tokens rest =
-      (mid next : List Token) × Spells a tokens mid × InfixAt between.Or (ends_in_number a) at mid next
+      (mid next : List Token) × Spells a tokens mid × InfixAt between.Or tokens at mid next
       × Spells b next rest
   Spells (cons_syntax at a b) tokens rest =
       (mid next : List Token) × Spells a tokens mid
-      × InfixAt between.Cons (ends_in_number a) at mid next × Spells b next rest
+      × InfixAt between.Cons tokens at mid next × Spells b next rest
   Spells (if_syntax at c a b) tokens rest =
       (t t' e e' o : List Token) × FirstAt (word keyword.If) at tokens t × Spells c t t'
       × First (word keyword.Then) t' e × Spells a e e' × First (word keyword.Else) e' o × Spells b o rest
@@ -207,6 +201,7 @@ rank (name_syntax at x) = 0
 rank (call_syntax at f args) = 1
 rank (negate_syntax at e) = 2
 rank (not_syntax at e) = 1
+rank (pown_syntax at e k) = 1
 rank (arith_syntax at op a b) = arith_rank op
 rank (compare_syntax at sign a b) = 6
 rank (and_syntax at a b) = 7
@@ -238,6 +233,7 @@ abbrev mutual
   Fits (call_syntax at f args) = IsAny args × AreAtoms args
   Fits (negate_syntax at e) = (rank e ≤ 2) × Fits e
   Fits (not_syntax at e) = (rank e ≡ 0) × Fits e
+  Fits (pown_syntax at e k) = (rank e ≡ 0) × Fits e
   Fits (arith_syntax at op a b) = (rank a ≤ arith_rank op) × (rank b < arith_rank op) × Fits a × Fits b
   Fits (compare_syntax at sign a b) = (rank a ≤ 5) × (rank b < 6) × Fits a × Fits b
   Fits (and_syntax at a b) = (rank a ≤ 7) × (rank b < 7) × Fits a × Fits b

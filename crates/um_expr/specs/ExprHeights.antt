@@ -2,7 +2,8 @@
 -- Source: this project's own limits.
 use Rattle.std.specs.Prelude.{ℕ, max, Option, Some, None}
 use Rattle.um_tree.specs.RawTree.{NoteSyntax, ExprSyntax, ExprSyntaxes, FieldSyntaxes, truth_syntax, number_syntax}
-use Rattle.um_tree.specs.RawTree.{name_syntax, call_syntax, negate_syntax, not_syntax, arith_syntax, compare_syntax}
+use Rattle.um_tree.specs.RawTree.{name_syntax, call_syntax, negate_syntax, not_syntax, pown_syntax, arith_syntax}
+use Rattle.um_tree.specs.RawTree.{compare_syntax}
 use Rattle.um_tree.specs.RawTree.{and_syntax, or_syntax, if_syntax, let_syntax, match_syntax, nil_syntax, list_syntax}
 use Rattle.um_tree.specs.RawTree.{cons_syntax, fields_syntax, field_syntax, bracket_expr_syntax, no_exprs, more_exprs}
 use Rattle.um_tree.specs.RawTree.{no_fields, more_fields}
@@ -23,6 +24,7 @@ abbrev mutual
   notes_in (call_syntax at f es) = notes_in_all es
   notes_in (negate_syntax at a) = notes_in a
   notes_in (not_syntax at a) = notes_in a
+  notes_in (pown_syntax at a k) = notes_in a
   notes_in (arith_syntax at op a b) = max (notes_in a) (notes_in b)
   notes_in (compare_syntax at sign a b) = max (notes_in a) (notes_in b)
   notes_in (and_syntax at a b) = max (notes_in a) (notes_in b)

@@ -8,10 +8,11 @@ use Rattle.um_tree.specs.Heights.{expr_height, tallest_expr, tallest_field}
 use Rattle.um_types.specs.NoteMachine.{note_least}
 use Rattle.um_types.specs.TypeMachine.{type_least}
 use Rattle.um_expr.specs.ExprMachine.{Frame, InBracket, InItem, InField, InValue, InBody, InTest, InThen, InElse}
-use Rattle.um_expr.specs.ExprMachine.{InMatched, InEmptyArm, InFullArm, InNegate, InNot, InRight, InArgument}
+use Rattle.um_expr.specs.ExprMachine.{InMatched, InEmptyArm, InFullArm, InNegate, InNot, InPown, InRight, InArgument}
 use Rattle.um_expr.specs.ExprMachine.{Expected, LetBinder, LetEqual, FieldName, FieldEqual, DotName, ArmBegin}
 use Rattle.um_expr.specs.ExprMachine.{ArmOpen, ArmClose, ArmArrow, HeadBinder, HeadCons, TailBinder, TailArrow}
-use Rattle.um_expr.specs.ExprMachine.{NilColon, State, Need, Have, Greater, Inside, InNote, InType, Refused}
+use Rattle.um_expr.specs.ExprMachine.{NilColon, PownMinus, PownDigits, PownClose, State, Need, Have, HavePower}
+use Rattle.um_expr.specs.ExprMachine.{Greater, Inside, InNote, InType, Refused}
 use Rattle.um_expr.specs.ExprHeights.{notes_in, notes_in_all, notes_in_fields}
 
 -- the height of a frame's other parts
@@ -29,6 +30,7 @@ side (InEmptyArm at l) = max (expr_height l) 1
 side (InFullArm at l a x y) = max (expr_height l) (expr_height a)
 side (InNegate at) = 0
 side (InNot at) = 0
+side (InPown at) = 0
 side (InRight at sign left) = expr_height left
 side (InArgument at f before) = tallest_expr (exprs_in_order before)
 
@@ -53,10 +55,14 @@ expected_least (HeadCons at l a x) = max (expr_height l) (max (expr_height a) 1)
 expected_least (TailBinder at l a x) = max (expr_height l) (max (expr_height a) 1) + 1
 expected_least (TailArrow at l a x y) = max (expr_height l) (max (expr_height a) 1) + 1
 expected_least (NilColon at) = 3
+expected_least (PownMinus at e) = expr_height e + 1
+expected_least (PownDigits at e) = expr_height e + 1
+expected_least (PownClose at e n) = expr_height e + 1
 
 abbrev pub expr_least : State → ℕ
 expr_least (Need frames) = least_over frames 1
 expr_least (Have frames t) = least_over frames (expr_height t)
+expr_least (HavePower frames t) = least_over frames (expr_height t)
 expr_least (Greater frames at left) = least_over frames (max (expr_height left) 1 + 1)
 expr_least (Inside frames expected) = least_over frames (expected_least expected)
 expr_least (InNote frames at c n) = least_over frames 1
@@ -78,6 +84,7 @@ notes_side (InEmptyArm at l) = notes_in l
 notes_side (InFullArm at l a x y) = max (notes_in l) (notes_in a)
 notes_side (InNegate at) = 0
 notes_side (InNot at) = 0
+notes_side (InPown at) = 0
 notes_side (InRight at sign left) = notes_in left
 notes_side (InArgument at f before) = notes_in_all (exprs_in_order before)
 
@@ -100,10 +107,14 @@ expected_notes (HeadCons at l a x) = max (notes_in l) (notes_in a)
 expected_notes (TailBinder at l a x) = max (notes_in l) (notes_in a)
 expected_notes (TailArrow at l a x y) = max (notes_in l) (notes_in a)
 expected_notes (NilColon at) = 1
+expected_notes (PownMinus at e) = notes_in e
+expected_notes (PownDigits at e) = notes_in e
+expected_notes (PownClose at e n) = notes_in e
 
 abbrev pub notes_least : State → ℕ
 notes_least (Need frames) = notes_over frames 0
 notes_least (Have frames t) = notes_over frames (notes_in t)
+notes_least (HavePower frames t) = notes_over frames (notes_in t)
 notes_least (Greater frames at left) = notes_over frames (notes_in left)
 notes_least (Inside frames expected) = notes_over frames (expected_notes expected)
 notes_least (InNote frames at c n) = notes_over frames (note_least n)

@@ -2,7 +2,8 @@
 -- inside;
 -- a token that they refuse ends them and is looked at again.
 -- Source: operator precedence with a stack, as in Knuth, Fundamental Algorithms, 2.2.1; this project's own states.
-use Rattle.std.specs.Prelude.{ℕ, Bool, true, false, cond, nat_lt, List, [], ◌∷◌, ◌++◌, Option, Some, None}
+use Rattle.std.specs.Prelude.{ℕ, ℤ, pos, neg_ℤ, Bool, true, false, cond, nat_lt, List, [], ◌∷◌, ◌++◌, Option}
+use Rattle.std.specs.Prelude.{Some, None}
 use Rattle.um_frac.specs.declared.number.Frac.{Frac}
 use Rattle.um_syntax.specs.declared.token.Token.{Token}
 use Rattle.um_syntax.specs.declared.token.Kind.{Kind}
@@ -10,8 +11,10 @@ use Rattle.um_tree.specs.declared.expression.Sign.TheVariants as compare
 use Rattle.um_tree.specs.declared.expression.Arith.TheVariants as arith
 use Rattle.um_tree.specs.RawTree.{NoteSyntax, TypeSyntax, BinderSyntax, ExprSyntax, FieldPart, truth_syntax}
 use Rattle.um_tree.specs.RawTree.{number_syntax, name_syntax, call_syntax, negate_syntax, not_syntax, if_syntax}
-use Rattle.um_tree.specs.RawTree.{let_syntax, match_syntax, nil_syntax, list_syntax, fields_syntax, field_syntax}
-use Rattle.um_tree.specs.RawTree.{bracket_expr_syntax, exprs_in_order, fields_in_order}
+use Rattle.um_tree.specs.RawTree.{pown_syntax, let_syntax, match_syntax, nil_syntax, list_syntax, fields_syntax}
+use Rattle.um_tree.specs.RawTree.{field_syntax, bracket_expr_syntax, exprs_in_order, fields_in_order}
+use Rattle.um_types.specs.UnitTokens.{unit_token}
+use Rattle.um_types.specs.UnitMachine.{power_in}
 use Rattle.um_types.specs.NoteMachine.{NoteState, NeedNote, NoNote, note_act, note_finish}
 use Rattle.um_types.specs.TypeMachine.{TypeState, NeedType, NoType, type_act, type_finish}
 use Rattle.um_syntax.specs.declared.vocabulary.Keyword.{Keyword}
@@ -25,6 +28,7 @@ use Rattle.um_expr.specs.declared.token.ExprToken.TheVariants.{Name as name, Num
 use Rattle.um_expr.specs.declared.token.ExprToken.TheVariants.{Hole as hole, Operator as operator, Word as word}
 use Rattle.um_expr.specs.declared.token.ExprToken.TheVariants.{Mark as mark}
 use Rattle.um_expr.specs.ExprTokens.{expr_token}
+use Rattle.um_expr.specs.ExprKinds.{is_power}
 use Rattle.um_expr.specs.Ranks.{infix_rank, left_limit, right_bound, infix_text}
 
 -- what is open around the next operand
@@ -47,6 +51,8 @@ pub data Frame : Type 0 where
   InFullArm : (at : ℕ) (list empty : ExprSyntax) (head tail : BinderSyntax) → Frame
   InNegate : (at : ℕ) → Frame
   InNot : (at : ℕ) → Frame
+  -- behind `pown`: its power ends it
+  InPown : (at : ℕ) → Frame
   InRight : (at : ℕ) (sign : Infix) (left : ExprSyntax) → Frame
   -- behind a name and these arguments
   InArgument : (at : ℕ) (function : List ℕ) (before : List ExprSyntax) → Frame
@@ -55,6 +61,7 @@ pub data Frame : Type 0 where
 abbrev pub bound_of : Frame → ℕ
 bound_of (InNegate at) = 3
 bound_of (InNot at) = 1
+bound_of (InPown at) = 1
 bound_of (InRight at sign left) = right_bound sign
 bound_of (InArgument at f before) = 1
 bound_of _ = 10
@@ -111,12 +118,18 @@ pub data Expected : Type 0 where
   TailArrow : (at : ℕ) (list empty : ExprSyntax) (head tail : BinderSyntax) → Expected
   -- behind `(` `[` `]`
   NilColon : (at : ℕ) → Expected
+  -- behind `pown`, its part and `(`; `-`; the power, which is this
+  PownMinus : (at : ℕ) (e : ExprSyntax) → Expected
+  PownDigits : (at : ℕ) (e : ExprSyntax) → Expected
+  PownClose : (at : ℕ) (e : ExprSyntax) (k : ℤ) → Expected
 
 pub data State : Type 0 where
   -- an operand is wanted
   Need : (frames : List Frame) → State
-  -- an atom is at focus
+  -- an atom is at focus, or a whole power in brackets
   Have : (frames : List Frame) (operand : ExprSyntax) → State
+  -- a whole power is at focus: a `<` directly behind its number would open a unit, and it has none
+  HavePower : (frames : List Frame) (operand : ExprSyntax) → State
   -- behind `>`: a `=` directly behind it belongs to the sign
   Greater : (frames : List Frame) (at : ℕ) (left : ExprSyntax) → State
   Inside : (frames : List Frame) (expected : Expected) → State
@@ -153,6 +166,7 @@ begin frames (word keyword.Let) at = if_may frames 9 (Inside frames (LetBinder a
 begin frames (word keyword.If) at = if_may frames 9 (Need (InTest at ∷ frames))
 begin frames (word keyword.Match) at = if_may frames 9 (Need (InMatched at ∷ frames))
 begin frames (word keyword.Not) at = if_may frames 1 (Need (InNot at ∷ frames))
+begin frames (word keyword.Pown) at = if_may frames 1 (Need (InPown at ∷ frames))
 begin frames (operator (between.Arith arith.Sub)) at = if_may frames 2 (Need (InNegate at ∷ frames))
 begin frames _ at = Refused
 
@@ -172,6 +186,33 @@ argument frames t = None
 abbrev pub begin_in : Option (List Frame) → ExprToken → ℕ → State
 begin_in (Some frames) token at = begin frames token at
 begin_in None token at = Refused
+
+-- whether the power of `pown` is wanted
+abbrev pub is_pown : Frame → Bool
+is_pown (InPown at) = true
+is_pown _ = false
+
+abbrev pub in_pown : List Frame → Bool
+in_pown [] = false
+in_pown (frame ∷ frames) = is_pown frame
+
+-- a number behind an atom: it is an argument, or the power, where it is digits alone
+abbrev pub pown_after : List Frame → ExprSyntax → Option ℕ → State
+pown_after (InPown at ∷ frames) t (Some n) = HavePower frames (pown_syntax at t (pos n))
+pown_after _ t power = Refused
+
+abbrev pub number_after : List Frame → ExprSyntax → Frac → ℕ → Option ℕ → State
+number_after frames t c at power =
+    cond (in_pown frames) (pown_after frames t power) (begin_in (argument frames t) (number c) at)
+
+-- `(` behind an atom
+abbrev pub pown_bracket : List Frame → ExprSyntax → State
+pown_bracket (InPown at ∷ frames) t = Inside frames (PownMinus at t)
+pown_bracket _ t = Refused
+
+abbrev pub bracket_after : List Frame → ExprSyntax → ℕ → State
+bracket_after frames t at =
+    cond (in_pown frames) (pown_bracket frames t) (begin_in (argument frames t) (mark symbol.LeftParen) at)
 
 -- a sign between two operands
 abbrev pub infix_after : Infix → ℕ → State → State
@@ -251,10 +292,10 @@ word_ends _ st = Refused
 
 -- a sign that isn't an operator behind an atom
 abbrev pub mark_after : List Frame → ExprSyntax → Symbol → ℕ → State
-mark_after frames t symbol.LeftParen at = begin_in (argument frames t) (mark symbol.LeftParen) at
+mark_after frames t symbol.LeftParen at = bracket_after frames t at
 mark_after frames t symbol.LeftBracket at = begin_in (argument frames t) (mark symbol.LeftBracket) at
 mark_after frames t symbol.LeftBrace at = begin_in (argument frames t) (mark symbol.LeftBrace) at
-mark_after frames t symbol.Dot at = Inside frames (DotName at t)
+mark_after frames t symbol.Dot at = cond (is_power t) Refused (Inside frames (DotName at t))
 mark_after frames t s at = mark_ends s (reduce 9 frames t)
 
 -- an operator behind an atom
@@ -264,43 +305,52 @@ operator_after frames t (between.Compare compare.Gt) at glued = greater_after at
 operator_after frames t (between.Compare compare.Ge) at glued = Refused
 operator_after frames t sign at glued = infix_after sign at (reduce (left_limit sign) frames t)
 
--- behind an atom
-abbrev pub after : List Frame → ExprSyntax → ExprToken → ℕ → Bool → State
-after frames t (name x) at glued = begin_in (argument frames t) (name x) at
-after frames t (number c) at glued = begin_in (argument frames t) (number c) at
-after frames t (truth b) at glued = begin_in (argument frames t) (truth b) at
-after frames t (mark s) at glued = mark_after frames t s at
-after frames t (word k) at glued = word_ends k (reduce 9 frames t)
-after frames t (operator sign) at glued = operator_after frames t sign at glued
-after frames t _ at glued = Refused
+-- behind an atom; the last is what the token is as a power
+abbrev pub after : List Frame → ExprSyntax → ExprToken → ℕ → Bool → Option ℕ → State
+after frames t (name x) at glued power = begin_in (argument frames t) (name x) at
+after frames t (number c) at glued power = number_after frames t c at power
+after frames t (truth b) at glued power = begin_in (argument frames t) (truth b) at
+after frames t (mark s) at glued power = mark_after frames t s at
+after frames t (word k) at glued power = word_ends k (reduce 9 frames t)
+after frames t (operator sign) at glued power = operator_after frames t sign at glued
+after frames t _ at glued power = Refused
 
--- inside a run of tokens that is fixed
-abbrev pub inside : List Frame → Expected → ExprToken → ℕ → State
-inside frames (LetBinder at) (name x) p = Inside frames (LetEqual at (record { at = p; name = Some x }))
-inside frames (LetBinder at) hole p = Inside frames (LetEqual at (record { at = p; name = None }))
-inside frames (LetEqual at x) (operator (between.Compare compare.Eq)) p = Need (InValue at x ∷ frames)
-inside frames (FieldName at before) (name x) p = Inside frames (FieldEqual at before p x)
-inside frames (FieldEqual at before place x) (operator (between.Compare compare.Eq)) p =
+-- behind the number of a whole power
+abbrev pub power_after : List Frame → ExprSyntax → ExprToken → ℕ → Bool → Option ℕ → State
+power_after frames t (operator (between.Compare compare.Lt)) at true power = Refused
+power_after frames t token at glued power = after frames t token at glued power
+
+-- inside a run of tokens that is fixed; the last is what the token is as a power
+abbrev pub inside : List Frame → Expected → ExprToken → ℕ → Option ℕ → State
+inside frames (LetBinder at) (name x) p power = Inside frames (LetEqual at (record { at = p; name = Some x }))
+inside frames (LetBinder at) hole p power = Inside frames (LetEqual at (record { at = p; name = None }))
+inside frames (LetEqual at x) (operator (between.Compare compare.Eq)) p power = Need (InValue at x ∷ frames)
+inside frames (FieldName at before) (name x) p power = Inside frames (FieldEqual at before p x)
+inside frames (FieldEqual at before place x) (operator (between.Compare compare.Eq)) p power =
     Need (InField at before place x ∷ frames)
-inside frames (DotName at e) (name x) p = Have frames (field_syntax at p x e)
-inside frames (ArmBegin at list) (mark symbol.Bar) p = Inside frames (ArmOpen at list)
-inside frames (ArmBegin at list) (mark symbol.LeftBracket) p = Inside frames (ArmClose at list)
-inside frames (ArmOpen at list) (mark symbol.LeftBracket) p = Inside frames (ArmClose at list)
-inside frames (ArmClose at list) (mark symbol.RightBracket) p = Inside frames (ArmArrow at list)
-inside frames (ArmArrow at list) (mark symbol.Arrow) p = Need (InEmptyArm at list ∷ frames)
-inside frames (HeadBinder at list empty) (name x) p =
+inside frames (DotName at e) (name x) p power = Have frames (field_syntax at p x e)
+inside frames (ArmBegin at list) (mark symbol.Bar) p power = Inside frames (ArmOpen at list)
+inside frames (ArmBegin at list) (mark symbol.LeftBracket) p power = Inside frames (ArmClose at list)
+inside frames (ArmOpen at list) (mark symbol.LeftBracket) p power = Inside frames (ArmClose at list)
+inside frames (ArmClose at list) (mark symbol.RightBracket) p power = Inside frames (ArmArrow at list)
+inside frames (ArmArrow at list) (mark symbol.Arrow) p power = Need (InEmptyArm at list ∷ frames)
+inside frames (HeadBinder at list empty) (name x) p power =
     Inside frames (HeadCons at list empty (record { at = p; name = Some x }))
-inside frames (HeadBinder at list empty) hole p =
+inside frames (HeadBinder at list empty) hole p power =
     Inside frames (HeadCons at list empty (record { at = p; name = None }))
-inside frames (HeadCons at list empty head) (operator between.Cons) p = Inside frames (TailBinder at list empty head)
-inside frames (TailBinder at list empty head) (name x) p =
+inside frames (HeadCons at list empty head) (operator between.Cons) p power =
+    Inside frames (TailBinder at list empty head)
+inside frames (TailBinder at list empty head) (name x) p power =
     Inside frames (TailArrow at list empty head (record { at = p; name = Some x }))
-inside frames (TailBinder at list empty head) hole p =
+inside frames (TailBinder at list empty head) hole p power =
     Inside frames (TailArrow at list empty head (record { at = p; name = None }))
-inside frames (TailArrow at list empty head tail) (mark symbol.Arrow) p =
+inside frames (TailArrow at list empty head tail) (mark symbol.Arrow) p power =
     Need (InFullArm at list empty head tail ∷ frames)
-inside frames (NilColon at) (mark symbol.Colon) p = InType frames at (NeedType 0)
-inside frames _ _ p = Refused
+inside frames (NilColon at) (mark symbol.Colon) p power = InType frames at (NeedType 0)
+inside frames (PownMinus at e) (operator (between.Arith arith.Sub)) p power = Inside frames (PownDigits at e)
+inside frames (PownDigits at e) token p (Some n) = Inside frames (PownClose at e (neg_ℤ (pos n)))
+inside frames (PownClose at e k) (mark symbol.RightParen) p power = Have frames (pown_syntax at e k)
+inside frames _ _ p power = Refused
 
 -- a token that the note of a number refuses; that the type of an empty list refuses
 abbrev pub note_ends : List Frame → ℕ → Frac → Option NoteSyntax → ExprToken → State
@@ -323,9 +373,10 @@ type_goes frames at s ended = InType frames at s
 -- one token more
 abbrev pub act : State → ExprToken → ℕ → Bool → Kind → State
 act (Need frames) token at glued k = begin frames token at
-act (Have frames t) token at glued k = after frames t token at glued
+act (Have frames t) token at glued k = after frames t token at glued (power_in (unit_token k))
+act (HavePower frames t) token at glued k = power_after frames t token at glued (power_in (unit_token k))
 act (Greater frames place left) token at glued k = after_greater frames place left token at glued
-act (Inside frames expected) token at glued k = inside frames expected token at
+act (Inside frames expected) token at glued k = inside frames expected token at (power_in (unit_token k))
 act (InNote frames place c n) token at glued k =
     note_goes frames place c (note_act n k at) (note_ends frames place c (note_finish n) token)
 act (InType frames place s) token at glued k =
@@ -342,4 +393,5 @@ whole _ = None
 
 abbrev pub finish : State → Option ExprSyntax
 finish (Have frames t) = whole (reduce 9 frames t)
+finish (HavePower frames t) = whole (reduce 9 frames t)
 finish _ = None

@@ -17,7 +17,8 @@ use Rattle.um_expr.specs.declared.focus.Step.{Step}
 use Rattle.um_expr.specs.declared.focus.Step.TheVariants as step
 use Rattle.um_expr.specs.ExprMachine.{Frame, InBracket, Expected, LetBinder, LetEqual, FieldName, FieldEqual, DotName}
 use Rattle.um_expr.specs.ExprMachine.{ArmBegin, ArmOpen, ArmClose, ArmArrow, HeadBinder, HeadCons, TailBinder}
-use Rattle.um_expr.specs.ExprMachine.{TailArrow, NilColon, State, Need, Have, Greater, Inside, InNote, InType}
+use Rattle.um_expr.specs.ExprMachine.{TailArrow, NilColon, PownMinus, PownDigits, PownClose, State, Need, Have}
+use Rattle.um_expr.specs.ExprMachine.{HavePower, Greater, Inside, InNote, InType}
 use Rattle.um_expr.specs.ExprMachine.{Refused, argument, own_rank, top_rank}
 use Rattle.um_expr.specs.ExprLeast.{expected_least, whole_least}
 use Rattle.um_expr.specs.ExprOperands.{operand_expr, read_fields}
@@ -39,10 +40,14 @@ view_expected (expected.TailBinder at l a x) = TailBinder at (operand_expr l) (o
 view_expected (expected.TailArrow at l a x y) =
     TailArrow at (operand_expr l) (operand_expr a) (binder_syntax x) (binder_syntax y)
 view_expected (expected.NilColon at) = NilColon at
+view_expected (expected.PownMinus at e) = PownMinus at (operand_expr e)
+view_expected (expected.PownDigits at e) = PownDigits at (operand_expr e)
+view_expected (expected.PownClose at e k) = PownClose at (operand_expr e) k
 
 abbrev pub state_of : List Frame → Focus → State
 state_of frames focus.Wanted = Need frames
 state_of frames (focus.Read t) = Have frames (operand_expr t)
+state_of frames (focus.Power t) = HavePower frames (operand_expr t)
 state_of frames (focus.Greater at left) = Greater frames at (operand_expr left)
 state_of frames (focus.Inside p) = Inside frames (view_expected p)
 state_of frames (focus.Note n) = InNote frames n.at n.value (note_state n.note)
@@ -52,6 +57,7 @@ state_of frames (focus.Type at t) = InType frames at (type_state t)
 abbrev pub focus_height : Focus → ℕ
 focus_height focus.Wanted = 1
 focus_height (focus.Read t) = expr_height (operand_expr t)
+focus_height (focus.Power t) = expr_height (operand_expr t)
 focus_height (focus.Greater at left) = max (expr_height (operand_expr left)) 1 + 1
 focus_height (focus.Inside p) = expected_least (view_expected p)
 focus_height (focus.Note n) = 1

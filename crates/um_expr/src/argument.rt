@@ -54,7 +54,10 @@ fn more_arguments(frames: &mut Frames, operand: Operand) -> Result<(), AllocErro
 {
     match frames.pop() {
         Some(frame) => add_argument(frames, frame, operand),
-        None => Ok(()),
+        None => {
+            drop(operand);
+            Ok(())
+        }
     }
 }
 
@@ -69,7 +72,7 @@ fn first_argument(alloc: Global, frames: &mut Frames, operand: Operand) -> Resul
     let RawExpr { at, node } = tree;
     match node {
         RawNode::Name(name) => frames.push(Frame::InArgument(at, name, Operands::empty(alloc))),
-        RawNode::Num(_, _) | composite!() => Ok(()),
+        RawNode::Num(_, _) | RawNode::Pow(_, _) | composite!() => Ok(()),
     }
 }
 

@@ -115,6 +115,7 @@ fn begin_word(frames: &mut Frames, keyword: Keyword, at: u32) -> Result<Step, Al
         Keyword::If => open_if(frames, 9, Frame::InTest(at)),
         Keyword::Match => open_if(frames, 9, Frame::InMatched(at)),
         Keyword::Not => open_if(frames, 1, Frame::InNot(at)),
+        Keyword::Pown => open_if(frames, 1, Frame::InPown(at)),
         _ => Ok(Step::Stops(None)),
     }
 }
@@ -167,6 +168,7 @@ pub fn after_greater(
             if glued {
                 opened(frames, Frame::InRight(place, sign, left))
             } else {
+                drop(left);
                 Ok(Step::Stops(None))
             }
         }

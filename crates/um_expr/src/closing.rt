@@ -16,8 +16,8 @@ use crate::operand::Operand;
 use std::alloc::{AllocError, Global};
 use um_syntax::{Keyword, Symbol};
 
-// A frame that the token doesn't end.
-fn refuse(frame: Frame, inner: Operand) -> Step
+/// A frame that the token doesn't end.
+pub fn refuse(frame: Frame, inner: Operand) -> Step
     ensures { result ≡ Stops None }
 {
     drop(frame);

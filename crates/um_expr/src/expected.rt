@@ -1,7 +1,12 @@
 // One token inside a run of tokens that is fixed.
 ghost use Rattle.std.specs.Prelude.{◌≡◌, IfOk, None};
 ghost use Rattle.um_tree.specs.RawTree.{binder_syntax};
-ghost use Rattle.um_expr.specs.ExprMachine.{LetBinder, LetEqual, FieldName, FieldEqual, DotName, ArmBegin, ArmOpen, ArmClose, ArmArrow, HeadBinder, HeadCons, TailBinder, TailArrow, NilColon, inside};
+ghost use Rattle.um_types.specs.UnitTokens.{unit_token};
+ghost use Rattle.um_types.specs.UnitMachine.{power_in};
+ghost use Rattle.um_expr.specs.declared.focus.Step.TheVariants.{Goes, Stops};
+ghost use Rattle.um_expr.specs.declared.focus.Focus.TheVariants.{Inside as Within};
+ghost use Rattle.um_expr.specs.declared.focus.Expected.TheVariants as expected;
+ghost use Rattle.um_expr.specs.ExprMachine.{LetBinder, LetEqual, FieldName, FieldEqual, DotName, ArmBegin, ArmOpen, ArmClose, ArmArrow, HeadBinder, HeadCons, TailBinder, TailArrow, NilColon, PownMinus, PownDigits, PownClose, inside};
 ghost use Rattle.um_expr.specs.ExprOperands.{operand_expr, read_fields};
 ghost use Rattle.um_expr.specs.ExprStack.{frames_of};
 ghost use Rattle.um_expr.specs.ExprStates.{Simulates, view_expected};
@@ -15,24 +20,44 @@ use crate::operand::Operand;
 use crate::operands::ReadFields;
 use crate::token::ExprToken;
 use std::alloc::{AllocError, Global};
-use um_syntax::Symbol;
-use um_tree::{Binder, Name, Sign};
-use um_types::TypeReader;
+use um_syntax::{Symbol, Token};
+use um_tree::{Arith, Binder, Name, Sign};
+use um_types::{TypeReader, written_power};
+
+// A token that can't stand here behind this operand. A value that holds a tree goes by a call: its drop would else be written
+// out, and proved, in each caller.
+fn refuse_behind(kind: ExprToken, list: Operand) -> Step
+    ensures { result ≡ Stops None }
+{
+    drop(list);
+    refuse_token(kind)
+}
+
+// The same behind two operands.
+fn refuse_behind_both(kind: ExprToken, list: Operand, empty: Operand) -> Step
+    ensures { result ≡ Stops None }
+{
+    drop(empty);
+    refuse_behind(kind, list)
+}
 
 // Behind `let`
-fn let_binder(frames: &Frames, at: u32, kind: ExprToken, p: u32) -> Step
-    ensures { Simulates None (frames_of frames.now) result (inside (frames_of frames.now) (LetBinder at) kind p) }
+fn let_binder(frames: &Frames, at: u32, kind: ExprToken, token: &Token) -> Step
+    ensures { Simulates None (frames_of frames.now) result (inside (frames_of frames.now) (LetBinder at) kind token.now.start (power_in (unit_token token.now.kind))) }
 {
     match kind {
         ExprToken::Name(name) => {
             let x = Binder {
-                at: p,
+                at: token.start,
                 name: Some(name),
             };
             Step::Goes(Focus::Inside(Expected::LetEqual(at, x)))
         }
         ExprToken::Hole => {
-            let x = Binder { at: p, name: None };
+            let x = Binder {
+                at: token.start,
+                name: None,
+            };
             Step::Goes(Focus::Inside(Expected::LetEqual(at, x)))
         }
         other => refuse_token(other),
@@ -45,9 +70,9 @@ fn let_equal(
     at: u32,
     x: Binder,
     kind: ExprToken,
-    p: u32,
+    token: &Token,
 ) -> Result<Step, AllocError>
-    ensures { IfOk result (λ s. Simulates None (frames_of frames.new) s (inside (frames_of frames.old) (LetEqual at (binder_syntax x)) kind p)) }
+    ensures { IfOk result (λ s. Simulates None (frames_of frames.new) s (inside (frames_of frames.old) (LetEqual at (binder_syntax x)) kind token.now.start (power_in (unit_token token.now.kind)))) }
 {
     match kind {
         ExprToken::Operator(Infix::Compare(Sign::Eq)) => opened(frames, Frame::InValue(at, x)),
@@ -56,12 +81,15 @@ fn let_equal(
 }
 
 // Behind `{` or `;` and these fields
-fn field_name(frames: &Frames, at: u32, before: ReadFields, kind: ExprToken, p: u32) -> Step
-    ensures { Simulates None (frames_of frames.now) result (inside (frames_of frames.now) (FieldName at (read_fields before)) kind p) }
+fn field_name(frames: &Frames, at: u32, before: ReadFields, kind: ExprToken, token: &Token) -> Step
+    ensures { Simulates None (frames_of frames.now) result (inside (frames_of frames.now) (FieldName at (read_fields before)) kind token.now.start (power_in (unit_token token.now.kind))) }
 {
     match kind {
         ExprToken::Name(name) => Step::Goes(Focus::Inside(Expected::FieldEqual(
-            at, before, p, name,
+            at,
+            before,
+            token.start,
+            name,
         ))),
         other => refuse_token(other),
     }
@@ -75,9 +103,9 @@ fn field_equal(
     place: u32,
     name: Name,
     kind: ExprToken,
-    p: u32,
+    token: &Token,
 ) -> Result<Step, AllocError>
-    ensures { IfOk result (λ s. Simulates None (frames_of frames.new) s (inside (frames_of frames.old) (FieldEqual at (read_fields before) place name) kind p)) }
+    ensures { IfOk result (λ s. Simulates None (frames_of frames.new) s (inside (frames_of frames.old) (FieldEqual at (read_fields before) place name) kind token.now.start (power_in (unit_token token.now.kind)))) }
 {
     match kind {
         ExprToken::Operator(Infix::Compare(Sign::Eq)) => {
@@ -94,50 +122,55 @@ fn dot_name(
     at: u32,
     operand: Operand,
     kind: ExprToken,
-    p: u32,
+    token: &Token,
 ) -> Result<Step, AllocError>
-    ensures { IfOk result (λ s. Simulates None (frames_of frames.now) s (inside (frames_of frames.now) (DotName at (operand_expr operand)) kind p)) }
+    ensures { IfOk result (λ s. Simulates None (frames_of frames.now) s (inside (frames_of frames.now) (DotName at (operand_expr operand)) kind token.now.start (power_in (unit_token token.now.kind)))) }
 {
     match kind {
-        ExprToken::Name(name) => Ok(Step::Goes(Focus::Read(operand.field(alloc, at, p, name)?))),
-        other => Ok(refuse_token(other)),
+        ExprToken::Name(name) => Ok(Step::Goes(Focus::Read(operand.field(
+            alloc,
+            at,
+            token.start,
+            name,
+        )?))),
+        other => Ok(refuse_behind(other, operand)),
     }
 }
 
 // Behind `with`
-fn arm_begin(frames: &Frames, at: u32, list: Operand, kind: ExprToken, p: u32) -> Step
-    ensures { Simulates None (frames_of frames.now) result (inside (frames_of frames.now) (ArmBegin at (operand_expr list)) kind p) }
+fn arm_begin(frames: &Frames, at: u32, list: Operand, kind: ExprToken, token: &Token) -> Step
+    ensures { Simulates None (frames_of frames.now) result (inside (frames_of frames.now) (ArmBegin at (operand_expr list)) kind token.now.start (power_in (unit_token token.now.kind))) }
 {
     match kind {
         ExprToken::Mark(Symbol::Bar) => Step::Goes(Focus::Inside(Expected::ArmOpen(at, list))),
         ExprToken::Mark(Symbol::LeftBracket) => Step::Goes(Focus::Inside(Expected::ArmClose(
             at, list,
         ))),
-        other => refuse_token(other),
+        other => refuse_behind(other, list),
     }
 }
 
 // Behind the bar of the empty arm
-fn arm_open(frames: &Frames, at: u32, list: Operand, kind: ExprToken, p: u32) -> Step
-    ensures { Simulates None (frames_of frames.now) result (inside (frames_of frames.now) (ArmOpen at (operand_expr list)) kind p) }
+fn arm_open(frames: &Frames, at: u32, list: Operand, kind: ExprToken, token: &Token) -> Step
+    ensures { Simulates None (frames_of frames.now) result (inside (frames_of frames.now) (ArmOpen at (operand_expr list)) kind token.now.start (power_in (unit_token token.now.kind))) }
 {
     match kind {
         ExprToken::Mark(Symbol::LeftBracket) => Step::Goes(Focus::Inside(Expected::ArmClose(
             at, list,
         ))),
-        other => refuse_token(other),
+        other => refuse_behind(other, list),
     }
 }
 
 // Behind `[` of the empty arm
-fn arm_close(frames: &Frames, at: u32, list: Operand, kind: ExprToken, p: u32) -> Step
-    ensures { Simulates None (frames_of frames.now) result (inside (frames_of frames.now) (ArmClose at (operand_expr list)) kind p) }
+fn arm_close(frames: &Frames, at: u32, list: Operand, kind: ExprToken, token: &Token) -> Step
+    ensures { Simulates None (frames_of frames.now) result (inside (frames_of frames.now) (ArmClose at (operand_expr list)) kind token.now.start (power_in (unit_token token.now.kind))) }
 {
     match kind {
         ExprToken::Mark(Symbol::RightBracket) => Step::Goes(Focus::Inside(Expected::ArmArrow(
             at, list,
         ))),
-        other => refuse_token(other),
+        other => refuse_behind(other, list),
     }
 }
 
@@ -147,13 +180,13 @@ fn arm_arrow(
     at: u32,
     list: Operand,
     kind: ExprToken,
-    p: u32,
+    token: &Token,
 ) -> Result<Step, AllocError>
-    ensures { IfOk result (λ s. Simulates None (frames_of frames.new) s (inside (frames_of frames.old) (ArmArrow at (operand_expr list)) kind p)) }
+    ensures { IfOk result (λ s. Simulates None (frames_of frames.new) s (inside (frames_of frames.old) (ArmArrow at (operand_expr list)) kind token.now.start (power_in (unit_token token.now.kind)))) }
 {
     match kind {
         ExprToken::Mark(Symbol::Arrow) => opened(frames, Frame::InEmptyArm(at, list)),
-        other => Ok(refuse_token(other)),
+        other => Ok(refuse_behind(other, list)),
     }
 }
 
@@ -164,23 +197,26 @@ fn head_binder(
     list: Operand,
     empty: Operand,
     kind: ExprToken,
-    p: u32,
+    token: &Token,
 ) -> Step
-    ensures { Simulates None (frames_of frames.now) result (inside (frames_of frames.now) (HeadBinder at (operand_expr list) (operand_expr empty)) kind p) }
+    ensures { Simulates None (frames_of frames.now) result (inside (frames_of frames.now) (HeadBinder at (operand_expr list) (operand_expr empty)) kind token.now.start (power_in (unit_token token.now.kind))) }
 {
     match kind {
         ExprToken::Name(name) => {
             let head = Binder {
-                at: p,
+                at: token.start,
                 name: Some(name),
             };
             Step::Goes(Focus::Inside(Expected::HeadCons(at, list, empty, head)))
         }
         ExprToken::Hole => {
-            let head = Binder { at: p, name: None };
+            let head = Binder {
+                at: token.start,
+                name: None,
+            };
             Step::Goes(Focus::Inside(Expected::HeadCons(at, list, empty, head)))
         }
-        other => refuse_token(other),
+        other => refuse_behind_both(other, list, empty),
     }
 }
 
@@ -192,15 +228,15 @@ fn head_cons(
     empty: Operand,
     head: Binder,
     kind: ExprToken,
-    p: u32,
+    token: &Token,
 ) -> Step
-    ensures { Simulates None (frames_of frames.now) result (inside (frames_of frames.now) (HeadCons at (operand_expr list) (operand_expr empty) (binder_syntax head)) kind p) }
+    ensures { Simulates None (frames_of frames.now) result (inside (frames_of frames.now) (HeadCons at (operand_expr list) (operand_expr empty) (binder_syntax head)) kind token.now.start (power_in (unit_token token.now.kind))) }
 {
     match kind {
         ExprToken::Operator(Infix::Cons) => {
             Step::Goes(Focus::Inside(Expected::TailBinder(at, list, empty, head)))
         }
-        other => refuse_token(other),
+        other => refuse_behind_both(other, list, empty),
     }
 }
 
@@ -212,23 +248,26 @@ fn tail_binder(
     empty: Operand,
     head: Binder,
     kind: ExprToken,
-    p: u32,
+    token: &Token,
 ) -> Step
-    ensures { Simulates None (frames_of frames.now) result (inside (frames_of frames.now) (TailBinder at (operand_expr list) (operand_expr empty) (binder_syntax head)) kind p) }
+    ensures { Simulates None (frames_of frames.now) result (inside (frames_of frames.now) (TailBinder at (operand_expr list) (operand_expr empty) (binder_syntax head)) kind token.now.start (power_in (unit_token token.now.kind))) }
 {
     match kind {
         ExprToken::Name(name) => {
             let tail = Binder {
-                at: p,
+                at: token.start,
                 name: Some(name),
             };
             Step::Goes(Focus::Inside(Expected::TailArrow(at, list, empty, head, tail)))
         }
         ExprToken::Hole => {
-            let tail = Binder { at: p, name: None };
+            let tail = Binder {
+                at: token.start,
+                name: None,
+            };
             Step::Goes(Focus::Inside(Expected::TailArrow(at, list, empty, head, tail)))
         }
-        other => refuse_token(other),
+        other => refuse_behind_both(other, list, empty),
     }
 }
 
@@ -241,26 +280,75 @@ fn tail_arrow(
     head: Binder,
     tail: Binder,
     kind: ExprToken,
-    p: u32,
+    token: &Token,
 ) -> Result<Step, AllocError>
-    ensures { IfOk result (λ s. Simulates None (frames_of frames.new) s (inside (frames_of frames.old) (TailArrow at (operand_expr list) (operand_expr empty) (binder_syntax head) (binder_syntax tail)) kind p)) }
+    ensures { IfOk result (λ s. Simulates None (frames_of frames.new) s (inside (frames_of frames.old) (TailArrow at (operand_expr list) (operand_expr empty) (binder_syntax head) (binder_syntax tail)) kind token.now.start (power_in (unit_token token.now.kind)))) }
 {
     match kind {
         ExprToken::Mark(Symbol::Arrow) => opened(
             frames,
             Frame::InFullArm(at, list, empty, head, tail),
         ),
-        other => Ok(refuse_token(other)),
+        other => Ok(refuse_behind_both(other, list, empty)),
     }
 }
 
 // Behind `(` `[` `]`
-fn nil_colon(frames: &Frames, at: u32, kind: ExprToken, p: u32) -> Step
-    ensures { Simulates None (frames_of frames.now) result (inside (frames_of frames.now) (NilColon at) kind p) }
+fn nil_colon(frames: &Frames, at: u32, kind: ExprToken, token: &Token) -> Step
+    ensures { Simulates None (frames_of frames.now) result (inside (frames_of frames.now) (NilColon at) kind token.now.start (power_in (unit_token token.now.kind))) }
 {
     match kind {
         ExprToken::Mark(Symbol::Colon) => Step::Goes(Focus::Type(at, TypeReader::new())),
         other => refuse_token(other),
+    }
+}
+
+// Behind `pown`, its part and `(`
+fn pown_minus(frames: &Frames, at: u32, operand: Operand, kind: ExprToken, token: &Token) -> Step
+    ensures { Simulates None (frames_of frames.now) result (inside (frames_of frames.now) (PownMinus at (operand_expr operand)) kind token.now.start (power_in (unit_token token.now.kind))) }
+{
+    match kind {
+        ExprToken::Operator(Infix::Arith(Arith::Sub)) => {
+            Step::Goes(Focus::Inside(Expected::PownDigits(at, operand)))
+        }
+        other => refuse_behind(other, operand),
+    }
+}
+
+// Behind `-` of a power
+fn pown_digits(frames: &Frames, at: u32, operand: Operand, kind: ExprToken, token: &Token) -> Step
+    ensures { Simulates None (frames_of frames.now) result (inside (frames_of frames.now) (PownDigits at (operand_expr operand)) kind token.now.start (power_in (unit_token token.now.kind))) }
+{
+    match written_power(&token.kind) {
+        Some(power) => goes_to_close(at, operand, -power, kind),
+        None => refuse_behind(kind, operand),
+    }
+}
+
+fn goes_to_close(at: u32, operand: Operand, power: i32, kind: ExprToken) -> Step
+    ensures { result ≡ Goes (Within (expected.PownClose at operand power)) }
+{
+    drop(kind);
+    Step::Goes(Focus::Inside(Expected::PownClose(at, operand, power)))
+}
+
+// Behind a power in brackets
+fn pown_close(
+    alloc: Global,
+    frames: &Frames,
+    at: u32,
+    operand: Operand,
+    power: i32,
+    kind: ExprToken,
+    token: &Token,
+) -> Result<Step, AllocError>
+    ensures { IfOk result (λ s. Simulates None (frames_of frames.now) s (inside (frames_of frames.now) (PownClose at (operand_expr operand) power) kind token.now.start (power_in (unit_token token.now.kind)))) }
+{
+    match kind {
+        ExprToken::Mark(Symbol::RightParen) => {
+            Ok(Step::Goes(Focus::Read(operand.pown(alloc, at, power)?)))
+        }
+        other => Ok(refuse_behind(other, operand)),
     }
 }
 
@@ -270,32 +358,39 @@ pub fn inside(
     frames: &mut Frames,
     place: Expected,
     kind: ExprToken,
-    p: u32,
+    token: &Token,
 ) -> Result<Step, AllocError>
-    ensures { IfOk result (λ s. Simulates None (frames_of frames.new) s (inside (frames_of frames.old) (view_expected place) kind p)) }
+    ensures { IfOk result (λ s. Simulates None (frames_of frames.new) s (inside (frames_of frames.old) (view_expected place) kind token.now.start (power_in (unit_token token.now.kind)))) }
 {
     match place {
-        Expected::LetBinder(at) => Ok(let_binder(frames, at, kind, p)),
-        Expected::LetEqual(at, x) => let_equal(frames, at, x, kind, p),
-        Expected::FieldName(at, before) => Ok(field_name(frames, at, before, kind, p)),
+        Expected::LetBinder(at) => Ok(let_binder(frames, at, kind, token)),
+        Expected::LetEqual(at, x) => let_equal(frames, at, x, kind, token),
+        Expected::FieldName(at, before) => Ok(field_name(frames, at, before, kind, token)),
         Expected::FieldEqual(at, before, place, name) => {
-            field_equal(frames, at, before, place, name, kind, p)
+            field_equal(frames, at, before, place, name, kind, token)
         }
-        Expected::DotName(at, operand) => dot_name(alloc, frames, at, operand, kind, p),
-        Expected::ArmBegin(at, list) => Ok(arm_begin(frames, at, list, kind, p)),
-        Expected::ArmOpen(at, list) => Ok(arm_open(frames, at, list, kind, p)),
-        Expected::ArmClose(at, list) => Ok(arm_close(frames, at, list, kind, p)),
-        Expected::ArmArrow(at, list) => arm_arrow(frames, at, list, kind, p),
-        Expected::HeadBinder(at, list, empty) => Ok(head_binder(frames, at, list, empty, kind, p)),
+        Expected::DotName(at, operand) => dot_name(alloc, frames, at, operand, kind, token),
+        Expected::ArmBegin(at, list) => Ok(arm_begin(frames, at, list, kind, token)),
+        Expected::ArmOpen(at, list) => Ok(arm_open(frames, at, list, kind, token)),
+        Expected::ArmClose(at, list) => Ok(arm_close(frames, at, list, kind, token)),
+        Expected::ArmArrow(at, list) => arm_arrow(frames, at, list, kind, token),
+        Expected::HeadBinder(at, list, empty) => Ok(head_binder(
+            frames, at, list, empty, kind, token,
+        )),
         Expected::HeadCons(at, list, empty, head) => {
-            Ok(head_cons(frames, at, list, empty, head, kind, p))
+            Ok(head_cons(frames, at, list, empty, head, kind, token))
         }
         Expected::TailBinder(at, list, empty, head) => {
-            Ok(tail_binder(frames, at, list, empty, head, kind, p))
+            Ok(tail_binder(frames, at, list, empty, head, kind, token))
         }
         Expected::TailArrow(at, list, empty, head, tail) => {
-            tail_arrow(frames, at, list, empty, head, tail, kind, p)
+            tail_arrow(frames, at, list, empty, head, tail, kind, token)
         }
-        Expected::NilColon(at) => Ok(nil_colon(frames, at, kind, p)),
+        Expected::NilColon(at) => Ok(nil_colon(frames, at, kind, token)),
+        Expected::PownMinus(at, operand) => Ok(pown_minus(frames, at, operand, kind, token)),
+        Expected::PownDigits(at, operand) => Ok(pown_digits(frames, at, operand, kind, token)),
+        Expected::PownClose(at, operand, power) => {
+            pown_close(alloc, frames, at, operand, power, kind, token)
+        }
     }
 }

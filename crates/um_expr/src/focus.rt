@@ -33,6 +33,10 @@ pub enum Expected {
     TailArrow(u32, Operand, Operand, Binder, Binder),
     /// Behind `(` `[` `]`
     NilColon(u32),
+    /// Behind `pown`, its part and `(`; `-`; the power
+    PownMinus(u32, Operand),
+    PownDigits(u32, Operand),
+    PownClose(u32, Operand, i32),
 }
 
 /// A number, at its place, and its note that has begun, within the height.
@@ -49,8 +53,10 @@ pub struct Noted {
 pub enum Focus {
     /// An operand is wanted
     Wanted,
-    /// An atom was read
+    /// An atom was read, or a whole power whose number stands in brackets
     Read(Operand),
+    /// A whole power was read, whose number is the last token
+    Power(Operand),
     /// What stands before `>`, at its place: a `=` directly behind it belongs to the sign
     Greater(u32, Operand),
     Inside(Expected),

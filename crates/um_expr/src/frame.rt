@@ -1,6 +1,6 @@
 // What is open around the next operand, with the heights of its parts beside them.
 ghost use Rattle.std.specs.Prelude.{◌≡◌, IfOk};
-ghost use Rattle.um_expr.specs.ExprMachine.{bound_of, own_rank, plug};
+ghost use Rattle.um_expr.specs.ExprMachine.{bound_of, own_rank, plug, is_pown};
 ghost use Rattle.um_expr.specs.ExprLeast.{side};
 ghost use Rattle.um_types.specs.UnitCount.{counted};
 ghost use Rattle.um_expr.specs.ExprOperands.{operand_expr};
@@ -34,6 +34,8 @@ pub enum Frame {
     InFullArm(u32, Operand, Operand, Binder, Binder),
     InNegate(u32),
     InNot(u32),
+    /// Behind `pown`: its power ends it
+    InPown(u32),
     InRight(u32, Infix, Operand),
     /// Behind a name and these arguments
     InArgument(u32, Name, Operands),
@@ -63,7 +65,7 @@ impl Frame {
         match self {
             Frame::InNegate(_) => 3,
             Frame::InRight(_, sign, _) => sign.right_bound(),
-            Frame::InNot(_) | Frame::InArgument(_, _, _) => 1,
+            Frame::InNot(_) | Frame::InPown(_) | Frame::InArgument(_, _, _) => 1,
             _ => 10,
         }
     }
@@ -94,6 +96,16 @@ impl Frame {
         }
     }
 
+    /// Whether it waits for the power of `pown`.
+    pub fn is_pown(&self) -> bool
+        ensures { result ≡ is_pown (view_frame self.now) }
+    {
+        match self {
+            Frame::InPown(_) => true,
+            _ => false,
+        }
+    }
+
     /// The greatest height of its own parts, counted.
     pub fn side(&self) -> u32
         ensures { result ≡ counted (side (view_frame self.now)) }
@@ -112,6 +124,7 @@ impl Frame {
             Frame::InFullArm(_, list, empty, _, _) => higher(list.height, empty.height),
             Frame::InNegate(_) => 0,
             Frame::InNot(_) => 0,
+            Frame::InPown(_) => 0,
             Frame::InRight(_, _, left) => left.height,
             Frame::InArgument(_, _, before) => before.height,
         }

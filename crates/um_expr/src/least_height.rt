@@ -46,6 +46,9 @@ fn expected_height(place: &Expected) -> u32
         Expected::TailBinder(_, list, empty, _) => above_both(list, empty),
         Expected::TailArrow(_, list, empty, _, _) => above_both(list, empty),
         Expected::NilColon(_) => 3,
+        Expected::PownMinus(_, operand) => one_higher(operand.height),
+        Expected::PownDigits(_, operand) => one_higher(operand.height),
+        Expected::PownClose(_, operand, _) => one_higher(operand.height),
     }
 }
 
@@ -55,6 +58,7 @@ fn focus_height(focus: &Focus) -> u32
     match focus {
         Focus::Wanted => 1,
         Focus::Read(operand) => operand.height,
+        Focus::Power(operand) => operand.height,
         Focus::Greater(_, left) => above(left),
         Focus::Inside(place) => expected_height(place),
         Focus::Note(_) => 1,

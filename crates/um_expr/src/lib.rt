@@ -3,6 +3,7 @@
 
 mod argument;
 mod begin;
+mod boxes;
 mod closing;
 mod ending;
 mod expected;
@@ -17,6 +18,7 @@ mod node;
 mod operand;
 mod operands;
 mod operator;
+mod power;
 mod reader;
 mod step;
 mod token;

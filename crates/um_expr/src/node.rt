@@ -1,6 +1,6 @@
 // The nodes of expressions that no token behind them makes more of.
 
-// All but a name and a number, as one pattern.
+// All but a name, a number and a whole power, as one pattern.
 macro_rules! composite {
     () => {
         RawNode::Bool(_)

@@ -1,6 +1,6 @@
 // Expressions with their heights beside them, so that no height is counted again.
 ghost use Rattle.std.specs.Prelude.{◌≡◌, ◌≤◌, IfOk, None};
-ghost use Rattle.um_tree.specs.RawTree.{expr_syntax, binder_syntax, type_syntax, written_note, truth_syntax, number_syntax, name_syntax, negate_syntax, not_syntax, if_syntax, let_syntax, match_syntax, nil_syntax, field_syntax, bracket_expr_syntax};
+ghost use Rattle.um_tree.specs.RawTree.{expr_syntax, binder_syntax, type_syntax, written_note, truth_syntax, number_syntax, name_syntax, negate_syntax, not_syntax, pown_syntax, if_syntax, let_syntax, match_syntax, nil_syntax, field_syntax, bracket_expr_syntax};
 ghost use Rattle.um_tree.specs.Heights.{expr_height};
 ghost use Rattle.um_types.specs.TypeHeights.{whole_height};
 ghost use Rattle.um_types.specs.UnitCount.{counted};
@@ -8,6 +8,7 @@ ghost use Rattle.um_types.specs.UnitStops.{greatest_height};
 ghost use Rattle.um_expr.specs.ExprHeights.{notes_in, written_height};
 ghost use Rattle.um_expr.specs.Ranks.{infix_text};
 
+use crate::boxes::{boxed_three, boxed_two};
 use crate::infix::Infix;
 use crate::node::composite;
 use std::alloc::{AllocError, Global};
@@ -25,7 +26,7 @@ pub struct Operand {
 }
 
 impl Operand {
-    ghost use Rattle.um_expr.specs.ExprKinds.{is_name, is_plain_number};
+    ghost use Rattle.um_expr.specs.ExprKinds.{is_name, is_plain_number, is_power};
     ghost use Rattle.um_expr.specs.ExprOperands.{operand_expr};
 
     /// `true` or `false`
@@ -92,6 +93,18 @@ impl Operand {
         })
     }
 
+    /// `pown e k`
+    pub fn pown(self, alloc: Global, at: u32, k: i32) -> Result<Operand, AllocError>
+        ensures { IfOk result (λ p. operand_expr p ≡ pown_syntax at (operand_expr self) k) }
+    {
+        let Operand { tree, height } = self;
+        let node = RawNode::Pow(Box::new(alloc, tree)?, k);
+        Ok(Operand {
+            tree: RawExpr { at, node },
+            height: one_higher(height),
+        })
+    }
+
     /// `(e)`
     pub fn bracket(self, alloc: Global, at: u32) -> Result<Operand, AllocError>
         ensures { IfOk result (λ p. operand_expr p ≡ bracket_expr_syntax at (operand_expr self)) }
@@ -133,9 +146,8 @@ impl Operand {
         ensures { IfOk result (λ p. operand_expr p ≡ infix_text at sign (operand_expr self) (operand_expr right)) }
     {
         let Operand { tree, height } = self;
-        let left = Box::new(alloc, tree)?;
         let height = one_higher(higher(height, right.height));
-        let right = Box::new(alloc, right.tree)?;
+        let (left, right) = boxed_two(alloc, tree, right.tree)?;
         let node = match sign {
             Infix::Or => RawNode::Or(left, right),
             Infix::And => RawNode::And(left, right),
@@ -160,10 +172,12 @@ impl Operand {
         ensures { IfOk result (λ p. operand_expr p ≡ let_syntax at (binder_syntax x) (operand_expr self) (operand_expr body)) }
     {
         let Operand { tree, height } = self;
-        let node = RawNode::Let(x, Box::new(alloc, tree)?, Box::new(alloc, body.tree)?);
+        let height = one_higher(higher(height, body.height));
+        let (value, body) = boxed_two(alloc, tree, body.tree)?;
+        let node = RawNode::Let(x, value, body);
         Ok(Operand {
             tree: RawExpr { at, node },
-            height: one_higher(higher(height, body.height)),
+            height,
         })
     }
 
@@ -178,14 +192,12 @@ impl Operand {
         ensures { IfOk result (λ p. operand_expr p ≡ if_syntax at (operand_expr self) (operand_expr one) (operand_expr other)) }
     {
         let Operand { tree, height } = self;
-        let node = RawNode::If(
-            Box::new(alloc, tree)?,
-            Box::new(alloc, one.tree)?,
-            Box::new(alloc, other.tree)?,
-        );
+        let height = one_higher(higher(height, higher(one.height, other.height)));
+        let (test, one, other) = boxed_three(alloc, tree, one.tree, other.tree)?;
+        let node = RawNode::If(test, one, other);
         Ok(Operand {
             tree: RawExpr { at, node },
-            height: one_higher(higher(height, higher(one.height, other.height))),
+            height,
         })
     }
 
@@ -202,16 +214,12 @@ impl Operand {
         ensures { IfOk result (λ p. operand_expr p ≡ match_syntax at (operand_expr self) (operand_expr empty) (binder_syntax head) (binder_syntax tail) (operand_expr full)) }
     {
         let Operand { tree, height } = self;
-        let node = RawNode::Match(
-            Box::new(alloc, tree)?,
-            Box::new(alloc, empty.tree)?,
-            head,
-            tail,
-            Box::new(alloc, full.tree)?,
-        );
+        let height = one_higher(higher(height, higher(empty.height, full.height)));
+        let (list, empty, full) = boxed_three(alloc, tree, empty.tree, full.tree)?;
+        let node = RawNode::Match(list, empty, head, tail, full);
         Ok(Operand {
             tree: RawExpr { at, node },
-            height: one_higher(higher(height, higher(empty.height, full.height))),
+            height,
         })
     }
 
@@ -235,7 +243,7 @@ impl Operand {
     {
         match &self.tree.node {
             RawNode::Name(_) => true,
-            RawNode::Num(_, _) | composite!() => false,
+            RawNode::Num(_, _) | RawNode::Pow(_, _) | composite!() => false,
         }
     }
 
@@ -245,7 +253,18 @@ impl Operand {
     {
         match &self.tree.node {
             RawNode::Num(_, None) => true,
-            RawNode::Num(_, Some(_)) | RawNode::Name(_) | composite!() => false,
+            RawNode::Num(_, Some(_)) | RawNode::Name(_) | RawNode::Pow(_, _) | composite!() =>
+                false,
+        }
+    }
+
+    /// Whether it is a whole power.
+    pub fn is_power(&self) -> bool
+        ensures { result ≡ is_power (operand_expr self.now) }
+    {
+        match &self.tree.node {
+            RawNode::Pow(_, _) => true,
+            RawNode::Num(_, _) | RawNode::Name(_) | composite!() => false,
         }
     }
 }

@@ -68,7 +68,8 @@ fn note_opens(frames: &Frames, operand: Operand, sign_at: u32) -> Step
             value,
             note: NoteReader::new(),
         })),
-        RawNode::Num(_, Some(_)) | RawNode::Name(_) | composite!() => Step::Stops(None),
+        RawNode::Num(_, Some(_)) | RawNode::Name(_) | RawNode::Pow(_, _) | composite!() =>
+            Step::Stops(None),
     }
 }
 

@@ -86,7 +86,9 @@ impl ExprReader {
     {
         let ExprReader { mut frames, focus } = self;
         match focus {
-            Focus::Read(operand) => Ok(tree_of(whole(alloc, &mut frames, operand)?)),
+            Focus::Read(operand) | Focus::Power(operand) => {
+                Ok(tree_of(whole(alloc, &mut frames, operand)?))
+            }
             other => Ok(no_expr(other)),
         }
     }

@@ -1,14 +1,17 @@
 // One token more, whatever is in focus.
-ghost use Rattle.std.specs.Prelude.{◌≡◌, ◌≤◌, IfOk, None, Some};
+ghost use Rattle.std.specs.Prelude.{◌≡◌, ◌≤◌, IfOk, None, Some, cond};
 ghost use Rattle.um_tree.specs.RawTree.{note_syntax, type_syntax};
 ghost use Rattle.um_types.specs.TypeHeights.{note_height, whole_height};
 ghost use Rattle.um_types.specs.UnitStops.{greatest_height};
+ghost use Rattle.um_types.specs.UnitTokens.{unit_token};
+ghost use Rattle.um_types.specs.UnitMachine.{power_in};
 ghost use Rattle.um_types.specs.NoteMachine.{note_act, note_finish};
 ghost use Rattle.um_types.specs.NoteTakes.{note_state};
 ghost use Rattle.um_types.specs.TypeMachine.{type_act, type_finish};
 ghost use Rattle.um_types.specs.TypeTakes.{type_state};
 ghost use Rattle.um_expr.specs.ExprTokens.{expr_token};
-ghost use Rattle.um_expr.specs.ExprMachine.{Have, finish, mark_after, after, note_ends, type_ends, note_goes, type_goes, step};
+ghost use Rattle.um_expr.specs.ExprKinds.{is_power};
+ghost use Rattle.um_expr.specs.ExprMachine.{Have, Inside, DotName, Refused, finish, mark_after, after, power_after, note_ends, type_ends, note_goes, type_goes, step};
 ghost use Rattle.um_expr.specs.ExprOperands.{operand_expr};
 ghost use Rattle.um_expr.specs.ExprStack.{frames_of};
 ghost use Rattle.um_expr.specs.ExprStates.{state_of, Simulates};
@@ -23,12 +26,29 @@ use crate::frames::Frames;
 use crate::infix::Infix;
 use crate::operand::Operand;
 use crate::operator::after_operator;
+use crate::power::{bracket_after, number_after};
 use crate::token::ExprToken;
 use std::alloc::{AllocError, Global};
 use um_frac::Frac;
 use um_syntax::{Symbol, Token};
 use um_tree::{RawNote, RawType, Sign};
 use um_types::{NoteStep, TypeReader, TypeStep};
+
+// `.`, which no whole power has behind it
+fn field_after(
+    alloc: Global,
+    frames: &mut Frames,
+    operand: Operand,
+    at: u32,
+) -> Result<Step, AllocError>
+    ensures { IfOk result (λ s. Simulates (finish (Have (frames_of frames.old) (operand_expr operand))) (frames_of frames.new) s (cond (is_power (operand_expr operand)) Refused (Inside (frames_of frames.old) (DotName at (operand_expr operand))))) }
+{
+    if operand.is_power() {
+        Ok(Step::Stops(whole(alloc, frames, operand)?))
+    } else {
+        Ok(Step::Goes(Focus::Inside(Expected::DotName(at, operand))))
+    }
+}
 
 // A sign behind an atom that isn't an operator.
 fn after_mark(
@@ -41,10 +61,11 @@ fn after_mark(
     ensures { IfOk result (λ s. Simulates (finish (Have (frames_of frames.old) (operand_expr operand))) (frames_of frames.new) s (mark_after (frames_of frames.old) (operand_expr operand) symbol at)) }
 {
     match symbol {
-        Symbol::LeftParen | Symbol::LeftBracket | Symbol::LeftBrace => {
+        Symbol::LeftParen => bracket_after(alloc, frames, operand, at),
+        Symbol::LeftBracket | Symbol::LeftBrace => {
             begin_argument(alloc, frames, operand, ExprToken::Mark(symbol), at)
         }
-        Symbol::Dot => Ok(Step::Goes(Focus::Inside(Expected::DotName(at, operand)))),
+        Symbol::Dot => field_after(alloc, frames, operand, at),
         _ => end_by_mark(alloc, frames, operand, symbol),
     }
 }
@@ -55,23 +76,44 @@ fn after(
     frames: &mut Frames,
     operand: Operand,
     kind: ExprToken,
-    at: u32,
-    glued: bool,
+    token: &Token,
 ) -> Result<Step, AllocError>
-    ensures { IfOk result (λ s. Simulates (finish (Have (frames_of frames.old) (operand_expr operand))) (frames_of frames.new) s (after (frames_of frames.old) (operand_expr operand) kind at glued)) }
+    ensures { IfOk result (λ s. Simulates (finish (Have (frames_of frames.old) (operand_expr operand))) (frames_of frames.new) s (after (frames_of frames.old) (operand_expr operand) kind token.now.start token.now.glued (power_in (unit_token token.now.kind)))) }
 {
+    let at = token.start;
     match kind {
         ExprToken::Name(name) => begin_argument(alloc, frames, operand, ExprToken::Name(name), at),
-        ExprToken::Number(value) => {
-            begin_argument(alloc, frames, operand, ExprToken::Number(value), at)
-        }
+        ExprToken::Number(value) => number_after(alloc, frames, operand, value, token),
         ExprToken::Truth(value) => {
             begin_argument(alloc, frames, operand, ExprToken::Truth(value), at)
         }
         ExprToken::Mark(symbol) => after_mark(alloc, frames, operand, symbol, at),
         ExprToken::Word(keyword) => end_by_word(alloc, frames, operand, keyword),
-        ExprToken::Operator(sign) => after_operator(alloc, frames, operand, sign, at, glued),
+        ExprToken::Operator(sign) => after_operator(alloc, frames, operand, sign, at, token.glued),
         ExprToken::Variable(_) | ExprToken::Hole => Ok(Step::Stops(whole(alloc, frames, operand)?)),
+    }
+}
+
+// One token behind a whole power whose number is the last token: a `<` directly behind it would open a unit.
+fn power_after(
+    alloc: Global,
+    frames: &mut Frames,
+    operand: Operand,
+    kind: ExprToken,
+    token: &Token,
+) -> Result<Step, AllocError>
+    ensures { IfOk result (λ s. Simulates (finish (Have (frames_of frames.old) (operand_expr operand))) (frames_of frames.new) s (power_after (frames_of frames.old) (operand_expr operand) kind token.now.start token.now.glued (power_in (unit_token token.now.kind)))) }
+{
+    match kind {
+        ExprToken::Operator(Infix::Compare(Sign::Lt)) => {
+            if token.glued {
+                Ok(Step::Stops(whole(alloc, frames, operand)?))
+            } else {
+                let less = Infix::Compare(Sign::Lt);
+                after_operator(alloc, frames, operand, less, token.start, false)
+            }
+        }
+        other => after(alloc, frames, operand, other, token),
     }
 }
 
@@ -152,7 +194,11 @@ pub fn step(
         }
         Focus::Read(operand) => {
             let kind = ExprToken::of_kind(alloc, &token.kind)?;
-            after(alloc, frames, operand, kind, token.start, token.glued)
+            after(alloc, frames, operand, kind, token)
+        }
+        Focus::Power(operand) => {
+            let kind = ExprToken::of_kind(alloc, &token.kind)?;
+            power_after(alloc, frames, operand, kind, token)
         }
         Focus::Greater(at, left) => {
             let kind = ExprToken::of_kind(alloc, &token.kind)?;
@@ -160,7 +206,7 @@ pub fn step(
         }
         Focus::Inside(place) => {
             let kind = ExprToken::of_kind(alloc, &token.kind)?;
-            inside(alloc, frames, place, kind, token.start)
+            inside(alloc, frames, place, kind, token)
         }
         Focus::Note(noted) => in_note(alloc, frames, noted, token),
         Focus::Type(at, ty) => in_type(alloc, frames, at, ty, token),

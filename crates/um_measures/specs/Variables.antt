@@ -7,10 +7,10 @@ use Rattle.um_tree.specs.RawTree.{side_syntax, times_syntax, over_syntax, invers
 use Rattle.um_tree.specs.RawTree.{more_units, NoteSyntax, hole_syntax, unit_note_syntax, TypeSyntax, bool_syntax}
 use Rattle.um_tree.specs.RawTree.{num_syntax, record_syntax, list_type_syntax, bracket_type_syntax, ExprSyntax}
 use Rattle.um_tree.specs.RawTree.{ExprSyntaxes, FieldSyntaxes, truth_syntax, number_syntax, name_syntax, call_syntax}
-use Rattle.um_tree.specs.RawTree.{negate_syntax, not_syntax, arith_syntax, compare_syntax, and_syntax, or_syntax}
-use Rattle.um_tree.specs.RawTree.{if_syntax, let_syntax, match_syntax, nil_syntax, list_syntax, cons_syntax}
-use Rattle.um_tree.specs.RawTree.{fields_syntax, field_syntax, bracket_expr_syntax, no_exprs, more_exprs, no_fields}
-use Rattle.um_tree.specs.RawTree.{more_fields, FunctionSyntax}
+use Rattle.um_tree.specs.RawTree.{negate_syntax, not_syntax, pown_syntax, arith_syntax, compare_syntax, and_syntax}
+use Rattle.um_tree.specs.RawTree.{or_syntax, if_syntax, let_syntax, match_syntax, nil_syntax, list_syntax}
+use Rattle.um_tree.specs.RawTree.{cons_syntax, fields_syntax, field_syntax, bracket_expr_syntax, no_exprs, more_exprs}
+use Rattle.um_tree.specs.RawTree.{no_fields, more_fields, FunctionSyntax}
 use Rattle.um_measures.specs.Known.{is_among}
 
 -- the variables of a unit text as they stand
@@ -55,6 +55,7 @@ abbrev mutual
   expr_variables (call_syntax at x es) = exprs_variables es
   expr_variables (negate_syntax at a) = expr_variables a
   expr_variables (not_syntax at a) = expr_variables a
+  expr_variables (pown_syntax at a k) = expr_variables a
   expr_variables (arith_syntax at op a b) = expr_variables a ++ expr_variables b
   expr_variables (compare_syntax at s a b) = expr_variables a ++ expr_variables b
   expr_variables (and_syntax at a b) = expr_variables a ++ expr_variables b

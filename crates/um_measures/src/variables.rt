@@ -85,9 +85,11 @@ fn in_expr(names: &mut NameTable, alloc: Global, e: &RawExpr) -> Result<(), Allo
         RawNode::Nil(ty) => add_type_variables(names, alloc, ty),
         RawNode::Call(_, items) | RawNode::List(items) => in_exprs(names, alloc, &items.items),
         RawNode::Rec(fields) => in_fields(names, alloc, &fields.items),
-        RawNode::Neg(a) | RawNode::Not(a) | RawNode::Field(_, _, a) | RawNode::Bracket(a) => {
-            in_expr(names, alloc, a)
-        }
+        RawNode::Neg(a)
+        | RawNode::Not(a)
+        | RawNode::Pow(a, _)
+        | RawNode::Field(_, _, a)
+        | RawNode::Bracket(a) => in_expr(names, alloc, a),
         RawNode::Arith(_, a, b)
         | RawNode::Compare(_, a, b)
         | RawNode::And(a, b)

@@ -11,10 +11,10 @@ use Rattle.um_tree.specs.declared.note.UnitNote.TheVariants as note
 use Rattle.um_tree.specs.TypeTree.{NoteTree}
 use Rattle.um_tree.specs.TreeHeights.{note_tree_height, tree_height, tallest_tree, tree_nodes, all_tree_nodes}
 use Rattle.um_tree.specs.Heights.{type_height, expr_height, tallest_expr, tallest_field, expr_nodes, all_expr_nodes, all_field_nodes}
-use Rattle.um_tree.specs.ExprTree.{ExprTree, ExprTrees, truth, number, local, call, negate, not_expr, arith as arith_tree, compare, both, either, if, bind, split, nil, list_expr, cons, record_expr, field, none, more}
+use Rattle.um_tree.specs.ExprTree.{ExprTree, ExprTrees, truth, number, local, call, negate, not_expr, pown, arith as arith_tree, compare, both, either, if, bind, split, nil, list_expr, cons, record_expr, field, none, more}
 use Rattle.um_tree.specs.ProgramTree.{RecordTree, FunctionTree, ProgramTree}
 use Rattle.um_tree.specs.Formed.{IsNoteTreeIn, count, MayCall, HasFields, IsFormedIn, AllFormedIn}
-use Rattle.um_tree.specs.RawTree.{NoteSyntax, hole_syntax, unit_note_syntax, ExprSyntax, ExprSyntaxes, FieldSyntaxes, truth_syntax, number_syntax, name_syntax, call_syntax, negate_syntax, not_syntax, arith_syntax, compare_syntax, and_syntax, or_syntax, if_syntax, let_syntax, match_syntax, nil_syntax, list_syntax, cons_syntax, fields_syntax, field_syntax, bracket_expr_syntax, no_exprs, more_exprs, no_fields, more_fields}
+use Rattle.um_tree.specs.RawTree.{NoteSyntax, hole_syntax, unit_note_syntax, ExprSyntax, ExprSyntaxes, FieldSyntaxes, truth_syntax, number_syntax, name_syntax, call_syntax, negate_syntax, not_syntax, pown_syntax, arith_syntax, compare_syntax, and_syntax, or_syntax, if_syntax, let_syntax, match_syntax, nil_syntax, list_syntax, cons_syntax, fields_syntax, field_syntax, bracket_expr_syntax, no_exprs, more_exprs, no_fields, more_fields}
 use Rattle.um_names.specs.declared.callable.Callable.{Callable}
 use Rattle.um_names.specs.declared.callable.FieldNumber.{FieldNumber}
 use Rattle.um_measures.specs.Faults.{Found, and_then, hole, unless_taken}
@@ -187,6 +187,11 @@ module _ (known : Known) (variables : List (List ℕ)) (callables : List Callabl
           let w = then_found (resolved_expr known variables callables scope a) (λ x. Ok (not_expr at x)) e h in
           let x = expr_in a scope w.0 r w.1 in
           let same : not_expr at (w.0) ≡ e = cc (w.2) in
+          subst (λ z. IsGood (length scope) z (expr_height a + 1) (expr_nodes a + 1)) same (x.0, omega (arith, x.1), omega (arith, x.2))
+      expr_in (pown_syntax at a k) scope e r h =
+          let w = then_found (resolved_expr known variables callables scope a) (λ x. Ok (pown at x k)) e h in
+          let x = expr_in a scope w.0 r w.1 in
+          let same : pown at (w.0) k ≡ e = cc (w.2) in
           subst (λ z. IsGood (length scope) z (expr_height a + 1) (expr_nodes a + 1)) same (x.0, omega (arith, x.1), omega (arith, x.2))
       expr_in (arith_syntax at op a b) scope e r h =
           let w = pair_found (resolved_expr known variables callables scope a) (resolved_expr known variables callables scope b) (λ x y. arith_tree at op x y) e h in

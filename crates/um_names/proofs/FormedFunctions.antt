@@ -137,8 +137,11 @@ module _ (known : Known) (f : FunctionSyntax) (s : IsSound known) (r : IsReadFun
       let c = then_found (resolved_result known variables f.result) (λ result. and_then (resolved_expr known variables (callables known f) (scope_of f) f.body) (λ body. Ok (built (b.0) result body))) g b.2 in
       let d = then_found (resolved_expr known variables (callables known f) (scope_of f) f.body) (λ body. Ok (built (b.0) (c.0) body)) g c.2 in
       let same : built (b.0) (c.0) (d.0) ≡ g = cc (d.2) in
-      subst (λ z. IsSound (with_function known z)) same (whole (built (b.0) (c.0) (d.0)) refl (not_taken (is_among (function_names known.program.functions) f.name) f.at a.0 a.1) (function_here b.0 c.0 d.0 b.1 c.1 d.1))
+      along (built (b.0) (c.0) (d.0)) same (whole (built (b.0) (c.0) (d.0)) (refl {a = f.name}) (not_taken (is_among (function_names known.program.functions) f.name) f.at a.0 a.1) (function_here b.0 c.0 d.0 b.1 c.1 d.1))
     where
+      along : (z : FunctionTree) → z ≡ g → IsSound (with_function known z) → IsSound (with_function known g)
+      along z is h = subst (λ y. IsSound (with_function known y)) is h
+
       whole : (z : FunctionTree) → z.name ≡ f.name → is_among (function_names known.program.functions) f.name ≡ false → IsFormedFunction (with_function known z).program (length known.program.functions) z → IsSound (with_function known z)
       whole z named new here =
           let fs = known.program.functions in

@@ -5,7 +5,7 @@ use Rattle.um_frac.specs.declared.number.Frac.{Frac}
 use Rattle.um_tree.specs.declared.note.UnitNote.{UnitNote}
 use Rattle.um_tree.specs.declared.note.UnitNote.TheVariants as note
 use Rattle.um_tree.specs.TypeTree.{TypeTree, bool_type, num_type, list_type, record_type, NoteTree, bool_note, num_note, list_note, record_note}
-use Rattle.um_tree.specs.ExprTree.{ExprTree, ExprTrees, truth, number, local, call, negate, not_expr, arith as arith_tree, compare, both, either, if, bind, split, nil, list_expr, cons, record_expr, field, none, more}
+use Rattle.um_tree.specs.ExprTree.{ExprTree, ExprTrees, truth, number, local, call, negate, not_expr, pown, arith as arith_tree, compare, both, either, if, bind, split, nil, list_expr, cons, record_expr, field, none, more}
 use Rattle.um_tree.specs.ProgramTree.{RecordTree, FunctionTree, ProgramTree}
 use Rattle.um_tree.specs.Formed.{IsNoteIn, TakesUnits, IsTypeIn, IsNoteTreeIn, IsLiteral, IsFormedIn, AllFormedIn, IsFormedRecord, ResultFormed, IsFormedFunction}
 use Rattle.um_names.proofs.CallableNames.{slice_get-prefix}
@@ -50,6 +50,7 @@ module _ (p q : ProgramTree) (extends : Extends p q) where
       expr_more n (call at j es) w = (record { function = w.0.function; known = w.0.known; declared = extends.functions j w.0.function w.0.declared; arguments = w.0.arguments }, exprs_more n es w.1)
       expr_more n (negate at a) w = expr_more n a w
       expr_more n (not_expr at a) w = expr_more n a w
+      expr_more n (pown at a k) w = expr_more n a w
       expr_more n (arith_tree at op a b) w = (expr_more n a w.0, expr_more n b w.1)
       expr_more n (compare at sign a b) w = (expr_more n a w.0, expr_more n b w.1)
       expr_more n (both at a b) w = (expr_more n a w.0, expr_more n b w.1)

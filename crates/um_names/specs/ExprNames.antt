@@ -8,16 +8,16 @@ use Rattle.um_frac.specs.declared.number.Frac.{Frac}
 use Rattle.um_frac.specs.Fraction.{numerator}
 use Rattle.um_units.specs.PowerMap.{one}
 use Rattle.um_tree.specs.declared.note.UnitNote.TheVariants as note
-use Rattle.um_tree.specs.ExprTree.{ExprTree, ExprTrees, truth, number, local, call, negate, not_expr, arith, compare}
-use Rattle.um_tree.specs.ExprTree.{both, either, if, bind, split, nil, list_expr, cons, record_expr, field, none}
-use Rattle.um_tree.specs.ExprTree.{more}
+use Rattle.um_tree.specs.ExprTree.{ExprTree, ExprTrees, truth, number, local, call, negate, not_expr, pown, arith}
+use Rattle.um_tree.specs.ExprTree.{compare, both, either, if, bind, split, nil, list_expr, cons, record_expr, field}
+use Rattle.um_tree.specs.ExprTree.{none, more}
 use Rattle.um_tree.specs.ProgramTree.{RecordTree}
 use Rattle.um_tree.specs.RawTree.{NoteSyntax, hole_syntax, unit_note_syntax, TypeSyntax, ExprSyntax, ExprSyntaxes}
 use Rattle.um_tree.specs.RawTree.{FieldSyntaxes}
 use Rattle.um_tree.specs.RawTree.{truth_syntax, number_syntax, name_syntax, call_syntax, negate_syntax, not_syntax}
-use Rattle.um_tree.specs.RawTree.{arith_syntax, compare_syntax, and_syntax, or_syntax, if_syntax, let_syntax}
-use Rattle.um_tree.specs.RawTree.{match_syntax, nil_syntax, list_syntax, cons_syntax, fields_syntax, field_syntax}
-use Rattle.um_tree.specs.RawTree.{bracket_expr_syntax, no_exprs, more_exprs, no_fields, more_fields}
+use Rattle.um_tree.specs.RawTree.{pown_syntax, arith_syntax, compare_syntax, and_syntax, or_syntax, if_syntax}
+use Rattle.um_tree.specs.RawTree.{let_syntax, match_syntax, nil_syntax, list_syntax, cons_syntax, fields_syntax}
+use Rattle.um_tree.specs.RawTree.{field_syntax, bracket_expr_syntax, no_exprs, more_exprs, no_fields, more_fields}
 use Rattle.um_measures.specs.Faults.{unknown, wrong_count, hole, Found, and_then, unless_taken}
 use Rattle.um_measures.specs.Scopes.{Scope, local_of, same_binding}
 use Rattle.um_measures.specs.Known.{Known, number_of, names_of_fields, measure_unit}
@@ -142,6 +142,7 @@ module _ (known : Known) (variables : List (List ℕ)) (callables : List Callabl
         and_then (resolved_exprs scope es) (λ bs. Ok (call at j bs)))
     resolved_expr scope (negate_syntax at a) = and_then (resolved_expr scope a) (λ e. Ok (negate at e))
     resolved_expr scope (not_syntax at a) = and_then (resolved_expr scope a) (λ e. Ok (not_expr at e))
+    resolved_expr scope (pown_syntax at a k) = and_then (resolved_expr scope a) (λ e. Ok (pown at e k))
     resolved_expr scope (arith_syntax at op a b) =
         and_then (resolved_expr scope a) (λ e. and_then (resolved_expr scope b) (λ f. Ok (arith at op e f)))
     resolved_expr scope (compare_syntax at s a b) =

@@ -4,12 +4,17 @@ use Rattle.std.specs.Prelude.{ℕ, ◌<◌, ◌≤◌, ◌+◌, IsTrue, IsSome, 
 use Rattle.um_tree.specs.Formed.{IsNameBytes}
 use Rattle.um_tree.specs.Heights.{type_height, expr_height, expr_nodes}
 use Rattle.um_tree.specs.RawTree.{TypeSyntax, ExprSyntax, ExprSyntaxes, FieldSyntaxes, truth_syntax, number_syntax}
-use Rattle.um_tree.specs.RawTree.{name_syntax, call_syntax, negate_syntax, not_syntax, arith_syntax, compare_syntax}
-use Rattle.um_tree.specs.RawTree.{and_syntax, or_syntax, if_syntax, let_syntax, match_syntax, nil_syntax, list_syntax}
-use Rattle.um_tree.specs.RawTree.{cons_syntax, fields_syntax, field_syntax, bracket_expr_syntax, no_exprs, more_exprs}
-use Rattle.um_tree.specs.RawTree.{no_fields, more_fields, VarSyntax, FieldDeclSyntax, ParamSyntax, FunctionSyntax}
-use Rattle.um_tree.specs.RawTree.{DeclSyntax, base_syntax, short_syntax, record_decl_syntax, function_syntax}
+use Rattle.um_tree.specs.RawTree.{name_syntax, call_syntax, negate_syntax, not_syntax, pown_syntax, arith_syntax}
+use Rattle.um_tree.specs.RawTree.{compare_syntax, and_syntax, or_syntax, if_syntax, let_syntax, match_syntax}
+use Rattle.um_tree.specs.RawTree.{nil_syntax, list_syntax, cons_syntax, fields_syntax, field_syntax}
+use Rattle.um_tree.specs.RawTree.{bracket_expr_syntax, no_exprs, more_exprs, no_fields, more_fields, VarSyntax}
+use Rattle.um_tree.specs.RawTree.{FieldDeclSyntax, ParamSyntax, FunctionSyntax, DeclSyntax, base_syntax}
+use Rattle.um_tree.specs.RawTree.{short_syntax, record_decl_syntax, function_syntax}
 use Rattle.um_names.specs.ExprNames.{length_of}
+
+-- no type text and no expression that is read is taller
+abbrev pub greatest_height : ℕ
+greatest_height = 400
 
 -- a list text has an item, and a type text is low
 abbrev mutual
@@ -20,6 +25,7 @@ abbrev mutual
   IsReadExpr (call_syntax at x es) = AreReadExprs es
   IsReadExpr (negate_syntax at a) = IsReadExpr a
   IsReadExpr (not_syntax at a) = IsReadExpr a
+  IsReadExpr (pown_syntax at a k) = IsReadExpr a
   IsReadExpr (arith_syntax at op a b) = IsReadExpr a × IsReadExpr b
   IsReadExpr (compare_syntax at s a b) = IsReadExpr a × IsReadExpr b
   IsReadExpr (and_syntax at a b) = IsReadExpr a × IsReadExpr b
@@ -27,7 +33,7 @@ abbrev mutual
   IsReadExpr (if_syntax at c a b) = IsReadExpr c × IsReadExpr a × IsReadExpr b
   IsReadExpr (let_syntax at x a b) = IsReadExpr a × IsReadExpr b
   IsReadExpr (match_syntax at l a x y b) = IsReadExpr l × IsReadExpr a × IsReadExpr b
-  IsReadExpr (nil_syntax at t) = type_height t ≤ 400
+  IsReadExpr (nil_syntax at t) = type_height t ≤ greatest_height
   IsReadExpr (list_syntax at es) = (0 < length_of es) × AreReadExprs es
   IsReadExpr (cons_syntax at a b) = IsReadExpr a × IsReadExpr b
   IsReadExpr (fields_syntax at fs) = AreReadFields fs
@@ -44,7 +50,7 @@ abbrev mutual
 
 abbrev pub AreReadFieldDecls : List FieldDeclSyntax → Type 0
 AreReadFieldDecls [] = Unit {0}
-AreReadFieldDecls (f ∷ fs) = IsNameBytes f.name × (type_height f.type ≤ 400) × AreReadFieldDecls fs
+AreReadFieldDecls (f ∷ fs) = IsNameBytes f.name × (type_height f.type ≤ greatest_height) × AreReadFieldDecls fs
 
 pub record IsReadRecord (x : List ℕ) (vs : List VarSyntax) (fs : List FieldDeclSyntax) : Type 0 where
   pub name : IsNameBytes x
@@ -55,11 +61,11 @@ pub record IsReadRecord (x : List ℕ) (vs : List VarSyntax) (fs : List FieldDec
 
 abbrev pub AreReadParams : List ParamSyntax → Type 0
 AreReadParams [] = Unit {0}
-AreReadParams (p ∷ ps) = (type_height p.type ≤ 400) × AreReadParams ps
+AreReadParams (p ∷ ps) = (type_height p.type ≤ greatest_height) × AreReadParams ps
 
 abbrev pub IsReadResult : Option TypeSyntax → Type 0
 IsReadResult None = Unit {0}
-IsReadResult (Some t) = type_height t ≤ 400
+IsReadResult (Some t) = type_height t ≤ greatest_height
 
 pub record IsReadFunction (f : FunctionSyntax) : Type 0 where
   pub name : IsNameBytes f.name
@@ -68,7 +74,7 @@ pub record IsReadFunction (f : FunctionSyntax) : Type 0 where
   pub result : IsReadResult f.result
   pub noted : IsTrue f.recursive → IsSome f.result
   pub body : IsReadExpr f.body
-  pub height : expr_height f.body ≤ 400
+  pub height : expr_height f.body ≤ greatest_height
   pub nodes : expr_nodes f.body ≤ 20000
 
 abbrev pub IsReadDecl : DeclSyntax → Type 0

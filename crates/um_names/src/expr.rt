@@ -213,6 +213,7 @@ pub fn expr(
         RawNode::Call(name, items) => call_expr(alloc, tables, body, scope, at, name, &items.items),
         RawNode::Neg(a) => located(at, Node::Neg(boxed(alloc, tables, body, scope, a)?)),
         RawNode::Not(a) => located(at, Node::Not(boxed(alloc, tables, body, scope, a)?)),
+        RawNode::Pow(a, k) => located(at, Node::Pow(boxed(alloc, tables, body, scope, a)?, *k)),
         RawNode::Arith(op, a, b) => arith_expr(alloc, tables, body, scope, at, *op, a, b),
         RawNode::Compare(sign, a, b) => compare_expr(alloc, tables, body, scope, at, *sign, a, b),
         RawNode::And(a, b) => and_expr(alloc, tables, body, scope, at, a, b),

@@ -21,22 +21,23 @@ use Rattle.um_expr.specs.ExprMachine.{Need}
 use Rattle.um_parse.specs.DeclGrammar.{Attribute, VarSpells, MoreVars, VarsSpell, FieldDeclSpells, MoreFieldDecls, ParamSpells, ParamsSpell, ResultSpells, RecSpells, FunctionSpells, DeclSpells, FieldDeclsFit, ParamsFit, ResultFits, DeclFits}
 use Rattle.um_parse.specs.DeclMachine.{DeclBegin, AttributeWord, AttributeGreater, AttributeClose, MeasureType, MeasureName, RecordName, RecordVars, VarBegin, VarWord, VarGreater, VarClose, VarName, VarEnd, RecordEqual, RecordBrace, FieldName, FieldColon, LetName, RecName, Params, ParamBinder, ParamColon, DeclState, Expects, HaveBase, InShort, HaveRecord, InField, InParam, InResult, InBody, field_ends, param_ends, result_ends, field_goes, param_goes, result_goes, short_found, body_found, decl_finish, decl_step}
 use Rattle.um_expr.proofs.ExprTokenKinds.{mark_is, equal_is}
-use Rattle.um_expr.proofs.ExprComplete.{into}
+use Rattle.um_expr.proofs.ExprEnds.{opened, last_atom}
+use Rattle.um_expr.proofs.ExprAtEnd.{at_end}
 use Rattle.um_expr.proofs.ExprLaws.{expr_finds}
 use Rattle.um_parse.proofs.DeclYields.{thence, yields_first, yields_at, yields_binder, yields_attribute, yields_type, yields_unit, yields_body, field_inside, param_inside, result_inside}
 
--- the state once a declaration was read
-abbrev pub decl_into : DeclSyntax → DeclState
-decl_into (base_syntax at x) = HaveBase at x
-decl_into (short_syntax at x u) = InShort at x (unit_into [] u)
-decl_into (record_decl_syntax at x vs fs) = HaveRecord at x vs fs
-decl_into (function_syntax f) = InBody f.recursive f.at f.name f.params f.result (into [] f.body)
+-- the state once a declaration was read; the flag says whether the number of a whole power is the last token
+abbrev pub decl_into : Bool → DeclSyntax → DeclState
+decl_into b (base_syntax at x) = HaveBase at x
+decl_into b (short_syntax at x u) = InShort at x (unit_into [] u)
+decl_into b (record_decl_syntax at x vs fs) = HaveRecord at x vs fs
+decl_into b (function_syntax f) = InBody f.recursive f.at f.name f.params f.result (at_end b (opened [] f.body) (last_atom f.body))
 
-pub decl_finds : (d : DeclSyntax) → DeclFits d → decl_finish (decl_into d) ≡ Some d
-decl_finds (base_syntax at x) fits = refl
-decl_finds (short_syntax at x u) fits = ap (short_found at x) (unit_finds u fits)
-decl_finds (record_decl_syntax at x vs fs) fits = refl
-decl_finds (function_syntax f) fits = ap (body_found f.recursive f.at f.name f.params f.result) (expr_finds f.body fits.2)
+pub decl_finds : (b : Bool) (d : DeclSyntax) → DeclFits d → decl_finish (decl_into b d) ≡ Some d
+decl_finds b (base_syntax at x) fits = refl
+decl_finds b (short_syntax at x u) fits = ap (short_found at x) (unit_finds u fits)
+decl_finds b (record_decl_syntax at x vs fs) fits = refl
+decl_finds b (function_syntax f) fits = ap (body_found f.recursive f.at f.name f.params f.result) (expr_finds b f.body fits.2)
 
 -- ---- measures
 
@@ -187,40 +188,45 @@ yields_name true at x tokens mid rest s n =
     thence (yields_first (Expects LetName) (Expects RecName) (word keyword.Rec) tokens mid s (λ p g k. refl))
     (yields_at (Expects RecName) (Expects (Params true at x [])) (name x) at mid rest n (λ g k. refl))
 
-yields_function : (f : FunctionSyntax) (tokens rest : List Token) → FunctionSpells f tokens rest → DeclFits (function_syntax f) → Yields decl_step (Expects DeclBegin) tokens (decl_into (function_syntax f)) rest
+yields_function : (f : FunctionSyntax) (tokens rest : List Token) → FunctionSpells f tokens rest → DeclFits (function_syntax f)
+    → (b : Bool) × Yields decl_step (Expects DeclBegin) tokens (decl_into b (function_syntax f)) rest
 yields_function f tokens rest s fits =
-    thence (yields_first (Expects DeclBegin) (Expects LetName) (word keyword.Let) tokens s.0 s.6 (λ p g k. refl))
-    (
-    thence (yields_name f.recursive f.at f.name s.0 s.1 s.2 s.7 s.8)
-    (
-    thence (yields_params f.params f.recursive f.at f.name [] s.2 s.3 s.9 fits.0)
-    (
-    thence (yields_result f.result f.recursive f.at f.name f.params s.3 s.4 s.5 s.10 s.11 fits.1)
-    (yields_body f.recursive f.at f.name f.params f.result f.body s.5 rest s.12 fits.2)
-    )
-    )
+    let body = yields_body f.recursive f.at f.name f.params f.result f.body s.5 rest s.12 fits.2 in (
+      body.0,
+      thence (yields_first (Expects DeclBegin) (Expects LetName) (word keyword.Let) tokens s.0 s.6 (λ p g k. refl))
+          (
+          thence (yields_name f.recursive f.at f.name s.0 s.1 s.2 s.7 s.8)
+          (
+          thence (yields_params f.params f.recursive f.at f.name [] s.2 s.3 s.9 fits.0)
+          (thence (yields_result f.result f.recursive f.at f.name f.params s.3 s.4 s.5 s.10 s.11 fits.1) body.1)
+          )
+          ),
     )
 
 -- ---- declarations
 
-pub decl_yields : (d : DeclSyntax) (tokens rest : List Token) → DeclSpells d tokens rest → DeclFits d → Yields decl_step (Expects DeclBegin) tokens (decl_into d) rest
-decl_yields (base_syntax at x) tokens rest s fits = yields_measure at x tokens s.0 s.1 rest s.2 s.3 s.4
-decl_yields (short_syntax at x u) tokens rest s fits =
-    thence (yields_measure at x tokens s.0 s.1 s.2 s.4 s.5 s.6)
-    (
-    thence (yields_first (HaveBase at x) (InShort at x (NeedUnit [])) equal s.2 s.3 s.7 (λ p g k. refl)) (yields_unit at x u s.3 rest s.8 fits)
-    )
+pub decl_yields : (d : DeclSyntax) (tokens rest : List Token) → DeclSpells d tokens rest → DeclFits d → (b : Bool) × Yields decl_step (Expects DeclBegin) tokens (decl_into b d) rest
+decl_yields (base_syntax at x) tokens rest s fits = (false, yields_measure at x tokens s.0 s.1 rest s.2 s.3 s.4)
+decl_yields (short_syntax at x u) tokens rest s fits = (
+  false,
+  thence (yields_measure at x tokens s.0 s.1 s.2 s.4 s.5 s.6)
+      (
+      thence (yields_first (HaveBase at x) (InShort at x (NeedUnit [])) equal s.2 s.3 s.7 (λ p g k. refl)) (yields_unit at x u s.3 rest s.8 fits)
+      ),
+)
 decl_yields (record_decl_syntax at x vs []) tokens rest s fits = absurd s.11
-decl_yields (record_decl_syntax at x vs (f ∷ fs)) tokens rest s fits =
-    thence (yields_first (Expects DeclBegin) (Expects RecordName) (word keyword.Type) tokens s.0 s.6 (λ p g k. refl))
-    (
-    thence (yields_at (Expects RecordName) (Expects (RecordVars at x)) (name x) at s.0 s.1 s.7 (λ g k. refl))
-    (
-    thence (yields_vars vs at x s.1 s.2 s.3 s.8 s.9)
-    (
-    thence (yields_first (Expects (RecordBrace at x vs)) (Expects (FieldName at x vs [])) (mark symbol.LeftBrace) s.3 s.4 s.10 (λ p g k. refl))
-    (thence (yields_field at x vs [] f s.4 s.11.0 s.11.1 fits.0) (yields_fields fs at x vs [] f s.11.0 s.5 rest s.11.2 fits.1 s.12))
-    )
-    )
-    )
+decl_yields (record_decl_syntax at x vs (f ∷ fs)) tokens rest s fits = (
+  false,
+  thence (yields_first (Expects DeclBegin) (Expects RecordName) (word keyword.Type) tokens s.0 s.6 (λ p g k. refl))
+      (
+      thence (yields_at (Expects RecordName) (Expects (RecordVars at x)) (name x) at s.0 s.1 s.7 (λ g k. refl))
+      (
+      thence (yields_vars vs at x s.1 s.2 s.3 s.8 s.9)
+      (
+      thence (yields_first (Expects (RecordBrace at x vs)) (Expects (FieldName at x vs [])) (mark symbol.LeftBrace) s.3 s.4 s.10 (λ p g k. refl))
+      (thence (yields_field at x vs [] f s.4 s.11.0 s.11.1 fits.0) (yields_fields fs at x vs [] f s.11.0 s.5 rest s.11.2 fits.1 s.12))
+      )
+      )
+      ),
+)
 decl_yields (function_syntax f) tokens rest s fits = yields_function f tokens rest s fits

@@ -17,7 +17,7 @@ use Rattle.um_expr.specs.declared.infix.Infix.TheVariants as between
 use Rattle.um_expr.specs.declared.token.ExprToken.{ExprToken}
 use Rattle.um_expr.specs.declared.token.ExprToken.TheVariants.{Name as name, Variable as variable, Hole as hole, Operator as operator, Word as word, Mark as mark}
 use Rattle.um_expr.specs.ExprTokens.{expr_token}
-use Rattle.um_expr.specs.ExprMachine.{State, Need, Have, Greater, Inside, InNote, InType, Refused, step, finish}
+use Rattle.um_expr.specs.ExprMachine.{State, Need, Have, HavePower, Greater, Inside, InNote, InType, Refused, step, finish}
 use Rattle.um_expr.specs.ExprLeast.{whole_least}
 use Rattle.um_parse.specs.ProgramHeights.{fields_height, params_height, result_height, decl_height}
 use Rattle.um_parse.specs.ProgramLeast.{expected_least, decl_least}
@@ -196,6 +196,7 @@ in_body_up : (recursive : Bool) (at : ℕ) (x : List ℕ) (ps : List ParamSyntax
     → Above (max (params_height ps) (max (result_height r) low)) (body_goes recursive at x ps r e)
 in_body_up recursive at x ps r low (Need frames) up = let le = up (λ h. cc) in omega (arith, le)
 in_body_up recursive at x ps r low (Have frames t) up = let le = up (λ h. cc) in omega (arith, le)
+in_body_up recursive at x ps r low (HavePower frames t) up = let le = up (λ h. cc) in omega (arith, le)
 in_body_up recursive at x ps r low (Greater frames p l) up = let le = up (λ h. cc) in omega (arith, le)
 in_body_up recursive at x ps r low (Inside frames p) up = let le = up (λ h. cc) in omega (arith, le)
 in_body_up recursive at x ps r low (InNote frames p c n) up = let le = up (λ h. cc) in omega (arith, le)

@@ -18,7 +18,7 @@ use Rattle.um_expr.specs.declared.token.ExprToken.{ExprToken}
 use Rattle.um_expr.specs.declared.token.ExprToken.TheVariants.{Name as name, Variable as variable, Hole as hole, Operator as operator, Word as word, Mark as mark}
 use Rattle.um_expr.specs.ExprTokens.{expr_token, equal}
 use Rattle.um_expr.specs.ExprGrammar.{First, FirstAt, BinderSpells}
-use Rattle.um_expr.specs.ExprMachine.{State, Need, Have, Greater, Inside, InNote, InType, Refused, step, finish}
+use Rattle.um_expr.specs.ExprMachine.{State, Need, Have, HavePower, Greater, Inside, InNote, InType, Refused, step, finish}
 use Rattle.um_parse.specs.DeclGrammar.{DeclSpells, ResultSpells, ParamsFit, ResultFits, FieldDeclsFit, DeclFits}
 use Rattle.um_parse.specs.DeclMachine.{DeclExpected, DeclBegin, AttributeWord, AttributeGreater, AttributeClose, MeasureType, MeasureName, RecordName, RecordVars, VarBegin, VarWord, VarGreater, VarClose, VarName, VarEnd, RecordEqual, RecordBrace, FieldName, FieldColon, LetName, RecName, Params, ParamBinder, ParamColon, DeclState, Expects, HaveBase, InShort, HaveRecord, InField, InParam, InResult, InBody, NoDecl, body_begins, take_expected, base_after, field_ends, param_ends, result_ends, short_goes, field_goes, param_goes, result_goes, body_goes, decl_step, short_found, body_found, decl_finish}
 use Rattle.um_expr.proofs.ExprPrefixes.{SpellsPrefix}
@@ -146,6 +146,7 @@ body_sound : (recursive : Bool) (at : ℕ) (x : List ℕ) (ps : List ParamSyntax
     → ResultSpells r d sign → First equal sign next → SpellsPrefix e next rest → ParamsFit ps → ResultFits recursive r → DeclSpellsPrefix (body_goes recursive at x ps r e) tokens rest
 body_sound recursive at x ps r (Need frames) tokens d sign next rest o w q s f g = (d, sign, next, o, w, q, s, f, g, λ h. cc)
 body_sound recursive at x ps r (Have frames t) tokens d sign next rest o w q s f g = (d, sign, next, o, w, q, s, f, g, λ h. cc)
+body_sound recursive at x ps r (HavePower frames t) tokens d sign next rest o w q s f g = (d, sign, next, o, w, q, s, f, g, λ h. cc)
 body_sound recursive at x ps r (Greater frames p l) tokens d sign next rest o w q s f g = (d, sign, next, o, w, q, s, f, g, λ h. cc)
 body_sound recursive at x ps r (Inside frames p) tokens d sign next rest o w q s f g = (d, sign, next, o, w, q, s, f, g, λ h. cc)
 body_sound recursive at x ps r (InNote frames p c n) tokens d sign next rest o w q s f g = (d, sign, next, o, w, q, s, f, g, λ h. cc)

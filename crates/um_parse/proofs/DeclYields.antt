@@ -21,10 +21,11 @@ use Rattle.um_expr.specs.declared.token.ExprToken.{ExprToken}
 use Rattle.um_expr.specs.declared.token.ExprToken.TheVariants.{Name as name, Hole as hole, Word as word, Mark as mark}
 use Rattle.um_expr.specs.ExprTokens.{expr_token, greater}
 use Rattle.um_expr.specs.ExprGrammar.{First, FirstAt, bound, BinderSpells, Spells, Fits}
-use Rattle.um_expr.specs.ExprMachine.{State, Need, Have, Greater, Inside, InNote, InType, Refused, step}
+use Rattle.um_expr.specs.ExprMachine.{State, Need, Have, HavePower, Greater, Inside, InNote, InType, Refused, step}
 use Rattle.um_parse.specs.DeclGrammar.{Attribute}
 use Rattle.um_parse.specs.DeclMachine.{DeclState, InShort, InField, InParam, InResult, InBody, short_goes, field_goes, param_goes, result_goes, body_goes, field_ends, param_ends, result_ends, decl_act, decl_step}
-use Rattle.um_expr.proofs.ExprComplete.{into}
+use Rattle.um_expr.proofs.ExprEnds.{opened, last_atom}
+use Rattle.um_expr.proofs.ExprAtEnd.{at_end}
 use Rattle.um_expr.proofs.ExprLaws.{expr_reaches}
 
 pub thence : {a b c : DeclState} → {s t r : List Token} → Yields decl_step a s b t → Yields decl_step b t c r → Yields decl_step a s c r
@@ -86,6 +87,7 @@ body_inside recursive at x ps r e new token same ok = ap (body_goes recursive at
     body_on : (w : State) → w ≢ Refused → body_goes recursive at x ps r w ≡ InBody recursive at x ps r w
     body_on (Need frames) h = refl
     body_on (Have frames t) h = refl
+    body_on (HavePower frames t) h = refl
     body_on (Greater frames p l) h = refl
     body_on (Inside frames p) h = refl
     body_on (InNote frames p c n) h = refl
@@ -93,10 +95,10 @@ body_inside recursive at x ps r e new token same ok = ap (body_goes recursive at
     body_on Refused h = absurd (h refl)
 
 pub yields_body : (recursive : Bool) (at : ℕ) (x : List ℕ) (ps : List ParamSyntax) (r : Option TypeSyntax) (e : ExprSyntax) (tokens rest : List Token) → Spells e tokens rest → Fits e
-    → Yields decl_step (InBody recursive at x ps r (Need [])) tokens (InBody recursive at x ps r (into [] e)) rest
+    → (b : Bool) × Yields decl_step (InBody recursive at x ps r (Need [])) tokens (InBody recursive at x ps r (at_end b (opened [] e) (last_atom e))) rest
 yields_body recursive at x ps r e tokens rest s fits =
     let p = expr_reaches e tokens rest s fits in
-    (p.0, p.1, lift step Refused (λ t. refl) decl_step (λ w. InBody recursive at x ps r w) (body_inside recursive at x ps r) p.0 (Need []) (into [] e) p.2 p.3)
+    (p.2, p.0, p.1, lift step Refused (λ t. refl) decl_step (λ w. InBody recursive at x ps r w) (body_inside recursive at x ps r) p.0 (Need []) (at_end p.2 (opened [] e) (last_atom e)) p.3 p.4)
 
 -- the machine of types goes on inside
 pub field_inside : (at : ℕ) (x : List ℕ) (vs : List VarSyntax) (fs : List FieldDeclSyntax) (place : ℕ) (y : List ℕ) (s new : TypeState) (token : Token) → type_step s token ≡ new → new ≢ NoType

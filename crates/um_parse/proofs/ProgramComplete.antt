@@ -1,5 +1,5 @@
 -- What a program spells is read as it; what is refused begins none; one program per list of tokens.
-use Rattle.std.proofs.Common.{◌≡◌, ◌≢◌, ℕ, List, [], ◌∷◌, ◌++◌, Bool, true, Option, Some, None, refl, sym, ap, ◌∙◌, append_assoc}
+use Rattle.std.proofs.Common.{◌≡◌, ◌≢◌, ℕ, List, [], ◌∷◌, ◌++◌, Bool, true, false, Option, Some, None, refl, sym, ap, ◌∙◌, append_assoc}
 use Rattle.std.proofs.lemmas.List.{append-nil}
 use Rattle.um_syntax.specs.declared.token.Token.{Token}
 use Rattle.um_syntax.specs.declared.token.Kind.{Kind}
@@ -16,13 +16,14 @@ use Rattle.um_types.proofs.Reaching.{yields_then}
 use Rattle.um_expr.specs.declared.token.ExprToken.{ExprToken}
 use Rattle.um_expr.specs.declared.token.ExprToken.TheVariants.{Word as word, Mark as mark}
 use Rattle.um_expr.specs.ExprTokens.{expr_token}
-use Rattle.um_expr.specs.ExprMachine.{Frame, Have, Refused, act}
+use Rattle.um_expr.specs.ExprMachine.{Frame, Refused, act}
 use Rattle.um_parse.specs.DeclGrammar.{DeclSpells, DeclsSpell, DeclFits, DeclsFit, IsProgram}
 use Rattle.um_parse.specs.DeclMachine.{DeclBegin, DeclState, Expects, HaveBase, InShort, HaveRecord, InField, InParam, InResult, InBody, NoDecl, base_after, short_goes, body_goes, decl_step, decl_finish, ProgramState, InProgram, NoProgram, program_goes, next_decl, program_step, program_found, program_finish}
 use Rattle.um_parse.specs.ProgramStops.{Begins}
 use Rattle.um_parse.specs.ProgramStates.{start}
 use Rattle.um_expr.proofs.ExprTokenKinds.{begins_decl, decl_is_foreign}
 use Rattle.um_expr.proofs.ExprEnds.{opened, last_atom}
+use Rattle.um_expr.proofs.ExprAtEnd.{at_end}
 use Rattle.um_parse.proofs.DeclComplete.{decl_into, decl_finds, decl_yields}
 
 -- ---- what begins a declaration ends the one before it
@@ -33,19 +34,22 @@ base_stops at x (word keyword.Type) h = refl
 base_stops at x (word keyword.Let) h = refl
 base_stops at x _ h = absurd cc
 
-expr_stops : (frames : List Frame) (t : ExprSyntax) (w : ExprToken) (p : ℕ) (g : Bool) (k : Kind) → begins_decl w ≡ true → act (Have frames t) w p g k ≡ Refused
-expr_stops frames t (mark symbol.AttributeOpen) p g k h = refl
-expr_stops frames t (word keyword.Type) p g k h = refl
-expr_stops frames t (word keyword.Let) p g k h = refl
-expr_stops frames t _ p g k h = absurd cc
+expr_stops : (b : Bool) (frames : List Frame) (t : ExprSyntax) (w : ExprToken) (p : ℕ) (g : Bool) (k : Kind) → begins_decl w ≡ true → act (at_end b frames t) w p g k ≡ Refused
+expr_stops false frames t (mark symbol.AttributeOpen) p g k h = refl
+expr_stops false frames t (word keyword.Type) p g k h = refl
+expr_stops false frames t (word keyword.Let) p g k h = refl
+expr_stops true frames t (mark symbol.AttributeOpen) p g k h = refl
+expr_stops true frames t (word keyword.Type) p g k h = refl
+expr_stops true frames t (word keyword.Let) p g k h = refl
+expr_stops b frames t _ p g k h = absurd cc
 
-decl_stops : (d : DeclSyntax) (token : Token) → begins_decl (expr_token token.kind) ≡ true → decl_step (decl_into d) token ≡ NoDecl
-decl_stops (base_syntax at x) token h = base_stops at x (expr_token token.kind) h
-decl_stops (short_syntax at x u) token h =
+decl_stops : (b : Bool) (d : DeclSyntax) (token : Token) → begins_decl (expr_token token.kind) ≡ true → decl_step (decl_into b d) token ≡ NoDecl
+decl_stops b (base_syntax at x) token h = base_stops at x (expr_token token.kind) h
+decl_stops b (short_syntax at x u) token h =
     ap (short_goes at x) (foreign_refused (unit_into [] u) (unit_token token.kind) token.start (decl_is_foreign token.kind h))
-decl_stops (record_decl_syntax at x vs fs) token h = refl
-decl_stops (function_syntax f) token h =
-    ap (body_goes f.recursive f.at f.name f.params f.result) (expr_stops (opened [] f.body) (last_atom f.body) (expr_token token.kind) token.start token.glued token.kind h)
+decl_stops b (record_decl_syntax at x vs fs) token h = refl
+decl_stops b (function_syntax f) token h =
+    ap (body_goes f.recursive f.at f.name f.params f.result) (expr_stops b (opened [] f.body) (last_atom f.body) (expr_token token.kind) token.start token.glued token.kind h)
 
 -- ---- declarations one behind the other
 
@@ -65,23 +69,24 @@ decl_inside decls d new token e ok =
     let over : ProgramState = next_decl decls (decl_finish d) (decl_step (Expects DeclBegin) token) in
     ap (λ w. program_goes decls w over) e ∙ goes_on decls new over ok
 
-into_on : (d : DeclSyntax) → decl_into d ≢ NoDecl
-into_on (base_syntax at x) e = cc
-into_on (short_syntax at x u) e = cc
-into_on (record_decl_syntax at x vs fs) e = cc
-into_on (function_syntax f) e = cc
+into_on : (b : Bool) (d : DeclSyntax) → decl_into b d ≢ NoDecl
+into_on b (base_syntax at x) e = cc
+into_on b (short_syntax at x u) e = cc
+into_on b (record_decl_syntax at x vs fs) e = cc
+into_on b (function_syntax f) e = cc
 
-begin_apart : (d : DeclSyntax) → Expects DeclBegin ≢ decl_into d
-begin_apart (base_syntax at x) e = cc
-begin_apart (short_syntax at x u) e = cc
-begin_apart (record_decl_syntax at x vs fs) e = cc
-begin_apart (function_syntax f) e = cc
+begin_apart : (b : Bool) (d : DeclSyntax) → Expects DeclBegin ≢ decl_into b d
+begin_apart b (base_syntax at x) e = cc
+begin_apart b (short_syntax at x u) e = cc
+begin_apart b (record_decl_syntax at x vs fs) e = cc
+begin_apart b (function_syntax f) e = cc
 
 -- a declaration is read
-yields_decl : (decls : List DeclSyntax) (d : DeclSyntax) (tokens rest : List Token) → DeclSpells d tokens rest → DeclFits d → Yields program_step (InProgram decls (Expects DeclBegin)) tokens (InProgram decls (decl_into d)) rest
+yields_decl : (decls : List DeclSyntax) (d : DeclSyntax) (tokens rest : List Token) → DeclSpells d tokens rest → DeclFits d
+    → (b : Bool) × Yields program_step (InProgram decls (Expects DeclBegin)) tokens (InProgram decls (decl_into b d)) rest
 yields_decl decls d tokens rest s fits =
     let r = decl_yields d tokens rest s fits in
-    (r.0, r.1, lift decl_step NoDecl (λ t. refl) program_step (λ w. InProgram decls w) (decl_inside decls) r.0 (Expects DeclBegin) (decl_into d) r.2 (into_on d))
+    (r.0, r.1, r.2, lift decl_step NoDecl (λ t. refl) program_step (λ w. InProgram decls w) (decl_inside decls) r.1 (Expects DeclBegin) (decl_into r.0 d) r.3 (into_on r.0 d))
 
 abbrev FirstPasses : List Token → Type 0
 FirstPasses tokens = (token : Token) × (more : List Token) × (tokens ≡ token ∷ more) × (begins_decl (expr_token token.kind) ≡ true)
@@ -96,72 +101,76 @@ same_head : (x y : Token) (xs ys : List Token) → x ∷ xs ≡ y ∷ ys → x �
 same_head x y xs ys e = cc
 
 -- behind a declaration the next begins as at the start
-next_alike : (decls : List DeclSyntax) (d : DeclSyntax) (token : Token) → DeclFits d → begins_decl (expr_token token.kind) ≡ true
-    → program_step (InProgram decls (decl_into d)) token ≡ program_step (InProgram (decls ++ d ∷ []) (Expects DeclBegin)) token
-next_alike decls d token fits h =
+next_alike : (decls : List DeclSyntax) (b : Bool) (d : DeclSyntax) (token : Token) → DeclFits d → begins_decl (expr_token token.kind) ≡ true
+    → program_step (InProgram decls (decl_into b d)) token ≡ program_step (InProgram (decls ++ d ∷ []) (Expects DeclBegin)) token
+next_alike decls b d token fits h =
     let begun : DeclState = decl_step (Expects DeclBegin) token in
-    ap (λ w. program_goes decls w (next_decl decls (decl_finish (decl_into d)) begun)) (decl_stops d token h) ∙ ap (λ o. next_decl decls o begun) (decl_finds d fits)
+    ap (λ w. program_goes decls w (next_decl decls (decl_finish (decl_into b d)) begun)) (decl_stops b d token h) ∙ ap (λ o. next_decl decls o begun) (decl_finds b d fits)
 
-yields_next : (decls : List DeclSyntax) (d e : DeclSyntax) (tokens rest : List Token) → DeclFits d → DeclSpells e tokens rest → DeclFits e → Yields program_step (InProgram decls (decl_into d)) tokens (InProgram (decls ++ d ∷ []) (decl_into e)) rest
-yields_next decls d e tokens rest fit s fits =
-    let p = yields_decl (decls ++ d ∷ []) e tokens rest s fits in alike p.0 p.1 p.2
+yields_next : (decls : List DeclSyntax) (b : Bool) (d e : DeclSyntax) (tokens rest : List Token) → DeclFits d → DeclSpells e tokens rest → DeclFits e
+    → (c : Bool) × Yields program_step (InProgram decls (decl_into b d)) tokens (InProgram (decls ++ d ∷ []) (decl_into c e)) rest
+yields_next decls b d e tokens rest fit s fits =
+    let p = yields_decl (decls ++ d ∷ []) e tokens rest s fits in (p.0, alike p.0 p.1 p.2 p.3)
   where
     first : FirstPasses tokens
     first = decl_first e tokens rest s
 
-    same_decl : (more : List DeclSyntax) (a b : DeclState) → InProgram more a ≡ InProgram more b → a ≡ b
-    same_decl more a b h = cc
+    same_decl : (more : List DeclSyntax) (x y : DeclState) → InProgram more x ≡ InProgram more y → x ≡ y
+    same_decl more x y h = cc
 
-    alike : (read : List Token) → tokens ≡ read ++ rest → runs program_step (InProgram (decls ++ d ∷ []) (Expects DeclBegin)) read ≡ InProgram (decls ++ d ∷ []) (decl_into e)
-        → Yields program_step (InProgram decls (decl_into d)) tokens (InProgram (decls ++ d ∷ []) (decl_into e)) rest
-    alike [] parts ends = absurd (begin_apart e (same_decl (decls ++ d ∷ []) (Expects DeclBegin) (decl_into e) ends))
-    alike (x ∷ xs) parts ends =
+    alike : (c : Bool) (read : List Token) → tokens ≡ read ++ rest → runs program_step (InProgram (decls ++ d ∷ []) (Expects DeclBegin)) read ≡ InProgram (decls ++ d ∷ []) (decl_into c e)
+        → Yields program_step (InProgram decls (decl_into b d)) tokens (InProgram (decls ++ d ∷ []) (decl_into c e)) rest
+    alike c [] parts ends = absurd (begin_apart c e (same_decl (decls ++ d ∷ []) (Expects DeclBegin) (decl_into c e) ends))
+    alike c (x ∷ xs) parts ends =
         let same : first.0 ≡ x = same_head first.0 x first.1 (xs ++ rest) (sym first.2 ∙ parts) in
         let passes : begins_decl (expr_token x.kind) ≡ true = ap (λ (t : Token). begins_decl (expr_token t.kind)) (sym same) ∙ first.3 in
-        (x ∷ xs, parts, ap (λ w. runs program_step w xs) (next_alike decls d x fit passes) ∙ ends)
+        (x ∷ xs, parts, ap (λ w. runs program_step w xs) (next_alike decls b d x fit passes) ∙ ends)
 
 -- the state once declarations were read
-abbrev pub program_into : List DeclSyntax → List DeclSyntax → ProgramState
-program_into decls [] = InProgram decls (Expects DeclBegin)
-program_into decls (d ∷ []) = InProgram decls (decl_into d)
-program_into decls (d ∷ e ∷ ds) = program_into (decls ++ d ∷ []) (e ∷ ds)
+abbrev pub program_into : Bool → List DeclSyntax → List DeclSyntax → ProgramState
+program_into b decls [] = InProgram decls (Expects DeclBegin)
+program_into b decls (d ∷ []) = InProgram decls (decl_into b d)
+program_into b decls (d ∷ e ∷ ds) = program_into b (decls ++ d ∷ []) (e ∷ ds)
 
-more_decls : (ds : List DeclSyntax) (d : DeclSyntax) (decls : List DeclSyntax) (tokens rest : List Token) → DeclFits d → DeclsSpell ds tokens rest → DeclsFit ds
-    → Yields program_step (InProgram decls (decl_into d)) tokens (program_into decls (d ∷ ds)) rest
-more_decls [] d decls tokens rest fit s fits = ([], s, refl)
-more_decls (e ∷ ds) d decls tokens rest fit s fits =
-    yields_then program_step (InProgram decls (decl_into d)) (InProgram (decls ++ d ∷ []) (decl_into e)) (program_into decls (d ∷ e ∷ ds)) tokens s.0 rest (yields_next decls d e tokens s.0 fit s.1 fits.0)
-    (more_decls ds e (decls ++ d ∷ []) s.0 rest fits.0 s.2 fits.1)
+more_decls : (ds : List DeclSyntax) (b : Bool) (d : DeclSyntax) (decls : List DeclSyntax) (tokens rest : List Token) → DeclFits d → DeclsSpell ds tokens rest → DeclsFit ds
+    → (c : Bool) × Yields program_step (InProgram decls (decl_into b d)) tokens (program_into c decls (d ∷ ds)) rest
+more_decls [] b d decls tokens rest fit s fits = (b, [], s, refl)
+more_decls (e ∷ ds) b d decls tokens rest fit s fits =
+    let next = yields_next decls b d e tokens s.0 fit s.1 fits.0 in
+    let more = more_decls ds next.0 e (decls ++ d ∷ []) s.0 rest fits.0 s.2 fits.1 in
+    (more.0, yields_then program_step (InProgram decls (decl_into b d)) (InProgram (decls ++ d ∷ []) (decl_into next.0 e)) (program_into more.0 decls (d ∷ e ∷ ds)) tokens s.0 rest (next.1, next.2, next.3) (more.1, more.2, more.3))
 
-pub program_leads : (ds : List DeclSyntax) (tokens rest : List Token) → DeclsSpell ds tokens rest → DeclsFit ds → Yields program_step (InProgram [] (Expects DeclBegin)) tokens (program_into [] ds) rest
-program_leads [] tokens rest s fits = ([], s, refl)
+program_leads : (ds : List DeclSyntax) (tokens rest : List Token) → DeclsSpell ds tokens rest → DeclsFit ds
+    → (b : Bool) × Yields program_step (InProgram [] (Expects DeclBegin)) tokens (program_into b [] ds) rest
+program_leads [] tokens rest s fits = (false, [], s, refl)
 program_leads (d ∷ ds) tokens rest s fits =
-    yields_then program_step (InProgram [] (Expects DeclBegin)) (InProgram [] (decl_into d)) (program_into [] (d ∷ ds)) tokens s.0 rest (yields_decl [] d tokens s.0 s.1 fits.0)
-    (more_decls ds d [] s.0 rest fits.0 s.2 fits.1)
+    let one = yields_decl [] d tokens s.0 s.1 fits.0 in
+    let more = more_decls ds one.0 d [] s.0 rest fits.0 s.2 fits.1 in
+    (more.0, yields_then program_step (InProgram [] (Expects DeclBegin)) (InProgram [] (decl_into one.0 d)) (program_into more.0 [] (d ∷ ds)) tokens s.0 rest (one.1, one.2, one.3) (more.1, more.2, more.3))
 
 -- ---- laws
 
-found_one : (decls : List DeclSyntax) (d : DeclSyntax) → program_finish (InProgram decls (decl_into d)) ≡ program_found decls (decl_finish (decl_into d))
-found_one decls (base_syntax at x) = refl
-found_one decls (short_syntax at x u) = refl
-found_one decls (record_decl_syntax at x vs fs) = refl
-found_one decls (function_syntax f) = refl
+found_one : (decls : List DeclSyntax) (b : Bool) (d : DeclSyntax) → program_finish (InProgram decls (decl_into b d)) ≡ program_found decls (decl_finish (decl_into b d))
+found_one decls b (base_syntax at x) = refl
+found_one decls b (short_syntax at x u) = refl
+found_one decls b (record_decl_syntax at x vs fs) = refl
+found_one decls b (function_syntax f) = refl
 
-finds_all : (ds : List DeclSyntax) (d : DeclSyntax) (decls : List DeclSyntax) → DeclsFit (d ∷ ds) → program_finish (program_into decls (d ∷ ds)) ≡ Some (decls ++ d ∷ ds)
-finds_all [] d decls fits = found_one decls d ∙ ap (program_found decls) (decl_finds d fits.0)
-finds_all (e ∷ ds) d decls fits = finds_all ds e (decls ++ d ∷ []) fits.1 ∙ ap Some (append_assoc decls (d ∷ []) (e ∷ ds))
+finds_all : (ds : List DeclSyntax) (b : Bool) (d : DeclSyntax) (decls : List DeclSyntax) → DeclsFit (d ∷ ds) → program_finish (program_into b decls (d ∷ ds)) ≡ Some (decls ++ d ∷ ds)
+finds_all [] b d decls fits = found_one decls b d ∙ ap (program_found decls) (decl_finds b d fits.0)
+finds_all (e ∷ ds) b d decls fits = finds_all ds b e (decls ++ d ∷ []) fits.1 ∙ ap Some (append_assoc decls (d ∷ []) (e ∷ ds))
 
-pub program_finds : (ds : List DeclSyntax) → DeclsFit ds → program_finish (program_into [] ds) ≡ Some ds
-program_finds [] fits = refl
-program_finds (d ∷ ds) fits = finds_all ds d [] fits
+pub program_finds : (b : Bool) (ds : List DeclSyntax) → DeclsFit ds → program_finish (program_into b [] ds) ≡ Some ds
+program_finds b [] fits = refl
+program_finds b (d ∷ ds) fits = finds_all ds b d [] fits
 
-pub reads_as : (ds : List DeclSyntax) (tokens : List Token) → IsProgram tokens ds → runs program_step start tokens ≡ program_into [] ds
+pub reads_as : (ds : List DeclSyntax) (tokens : List Token) → IsProgram tokens ds → (b : Bool) × (runs program_step start tokens ≡ program_into b [] ds)
 reads_as ds tokens p =
-    let r = program_leads ds tokens [] p.spelled p.fits in ap (runs program_step start) (r.1 ∙ append-nil r.0) ∙ r.2
+    let r = program_leads ds tokens [] p.spelled p.fits in (r.0, ap (runs program_step start) (r.2 ∙ append-nil r.1) ∙ r.3)
 
 -- a program is found
 pub finds : (tokens : List Token) (ds : List DeclSyntax) → IsProgram tokens ds → program_finish (runs program_step start tokens) ≡ Some ds
-finds tokens ds p = ap program_finish (reads_as ds tokens p) ∙ program_finds ds p.fits
+finds tokens ds p = let r = reads_as ds tokens p in ap program_finish r.1 ∙ program_finds r.0 ds p.fits
 
 -- one program per list of tokens
 pub one_program : (tokens : List Token) (ds es : List DeclSyntax) → IsProgram tokens ds → IsProgram tokens es → ds ≡ es

@@ -99,8 +99,10 @@ nothing = None
 -- no program that the tokens begin is lower
 pub none_lower : (tokens more : List Token) (ds : List DeclSyntax) → IsProgram (tokens ++ more) ds → program_least (runs program_step start tokens) ≤ program_height ds
 none_lower tokens more ds p =
-    let e : runs program_step (runs program_step start tokens) more ≡ program_into [] ds = sym (runs_append program_step tokens more start) ∙ reads_as ds (tokens ++ more) p in
-    let finds : program_finish (program_into [] ds) ≡ Some ds = program_finds ds p.fits in
+    let r = reads_as ds (tokens ++ more) p in
+    let to : ProgramState = program_into r.0 [] ds in
+    let e : runs program_step (runs program_step start tokens) more ≡ to = sym (runs_append program_step tokens more start) ∙ r.1 in
+    let finds : program_finish to ≡ Some ds = program_finds r.0 ds p.fits in
     let ok : runs program_step (runs program_step start tokens) more ≢ NoProgram = λ h. absurd (let bad : nothing ≡ Some ds = ap program_finish (sym h ∙ e) ∙ finds in cc) in
     let up : program_least (runs program_step start tokens) ≤ program_least (runs program_step (runs program_step start tokens) more) = run_up more (runs program_step start tokens) ok in
-    omega (arith, up, ap program_least e, found_height (program_into [] ds) ds finds)
+    omega (arith, up, ap program_least e, found_height to ds finds)

@@ -1,10 +1,10 @@
 -- A program has no more nodes than tokens: each node has a token of its own.
-use Rattle.std.proofs.Common.{◌≡◌, ℕ, ◌+◌, ◌≤◌, List, [], ◌∷◌, ◌++◌, length, Bool, true, false, Option, Some, None, ap, ◌∙◌, arith, ◌⊎◌, inl, inr}
+use Rattle.std.proofs.Common.{◌≡◌, ℕ, ℤ, ◌+◌, ◌≤◌, List, [], ◌∷◌, ◌++◌, length, Bool, true, false, Option, Some, None, ap, ◌∙◌, arith, ◌⊎◌, inl, inr}
 use Rattle.std.proofs.lemmas.List.{length-append}
 use Rattle.um_syntax.specs.declared.token.Token.{Token}
 use Rattle.um_tree.specs.declared.expression.Sign.{Sign}
 use Rattle.um_tree.specs.declared.expression.Sign.TheVariants as compare
-use Rattle.um_tree.specs.RawTree.{NoteSyntax, TypeSyntax, BinderSyntax, ExprSyntax, ExprSyntaxes, FieldSyntaxes, truth_syntax, number_syntax, name_syntax, call_syntax, negate_syntax, not_syntax, arith_syntax, compare_syntax, and_syntax, or_syntax, if_syntax, let_syntax, match_syntax, nil_syntax, list_syntax, cons_syntax, fields_syntax, field_syntax, bracket_expr_syntax, no_exprs, more_exprs, no_fields, more_fields, ParamSyntax, DeclSyntax, base_syntax, short_syntax, record_decl_syntax, function_syntax}
+use Rattle.um_tree.specs.RawTree.{NoteSyntax, TypeSyntax, BinderSyntax, ExprSyntax, ExprSyntaxes, FieldSyntaxes, truth_syntax, number_syntax, name_syntax, call_syntax, negate_syntax, not_syntax, pown_syntax, arith_syntax, compare_syntax, and_syntax, or_syntax, if_syntax, let_syntax, match_syntax, nil_syntax, list_syntax, cons_syntax, fields_syntax, field_syntax, bracket_expr_syntax, no_exprs, more_exprs, no_fields, more_fields, ParamSyntax, DeclSyntax, base_syntax, short_syntax, record_decl_syntax, function_syntax}
 use Rattle.um_tree.specs.Heights.{expr_nodes, all_expr_nodes, all_field_nodes}
 use Rattle.um_types.specs.TypeGrammar.{NoteSpells, NoteFits, TypeSpells, TypeFits}
 use Rattle.um_types.proofs.NoteComplete.{note_reaches}
@@ -15,7 +15,7 @@ use Rattle.um_expr.specs.declared.infix.Infix.{Infix}
 use Rattle.um_expr.specs.declared.infix.Infix.TheVariants as between
 use Rattle.um_expr.specs.declared.token.ExprToken.{ExprToken}
 use Rattle.um_expr.specs.declared.token.ExprToken.TheVariants.{Word as word, Mark as mark}
-use Rattle.um_expr.specs.ExprGrammar.{First, FirstAt, FirstGlued, ends_in_number, InfixAt, WrittenNote, EmptyArm, FullArm, Spells, AllSpell, ItemsSpell, MoreItems, FieldsSpell, MoreFields, NoteFitsIn, Fits, AreAtoms, AllFit, FieldsFit}
+use Rattle.um_expr.specs.ExprGrammar.{First, FirstAt, FirstGlued, InfixAt, PowerSpells, WrittenNote, EmptyArm, FullArm, Spells, AllSpell, ItemsSpell, MoreItems, FieldsSpell, MoreFields, NoteFitsIn, Fits, AreAtoms, AllFit, FieldsFit}
 use Rattle.um_parse.specs.DeclGrammar.{ParamsSpell, ResultSpells, RecSpells, DeclSpells, DeclsSpell, ParamsFit, ResultFits, DeclFits, DeclsFit, IsProgram}
 use Rattle.um_parse.specs.ProgramNodes.{decl_nodes, program_nodes}
 use Rattle.um_parse.proofs.DeclComplete.{decl_yields}
@@ -49,23 +49,23 @@ written_less (Some n) tokens rest s fits =
     let c = first_less _ s.1 rest s.4 in
     omega (arith, a, b, c)
 
-compare_less : (sign : Sign) (flag : Bool) (at : ℕ) (tokens rest : List Token) → InfixAt (between.Compare sign) flag at tokens rest → length rest + 1 ≤ length tokens
-compare_less compare.Lt flag at tokens rest s = let e = one_less s.0 tokens rest s.4 in omega (arith, e)
-compare_less compare.Ge flag at tokens rest s =
+compare_less : (sign : Sign) (left : List Token) (at : ℕ) (tokens rest : List Token) → InfixAt (between.Compare sign) left at tokens rest → length rest + 1 ≤ length tokens
+compare_less compare.Lt left at tokens rest s = let e = one_less s.0 tokens rest s.4 in omega (arith, e)
+compare_less compare.Ge left at tokens rest s =
     let a = at_less _ at tokens s.0 s.1 in
     let b = glued_less _ s.0 rest s.2 in
     omega (arith, a, b)
-compare_less compare.Le flag at tokens rest s = let e = at_less _ at tokens rest s in omega (arith, e)
-compare_less compare.Eq flag at tokens rest s = let e = at_less _ at tokens rest s in omega (arith, e)
-compare_less compare.Ne flag at tokens rest s = let e = at_less _ at tokens rest s in omega (arith, e)
-compare_less compare.Gt flag at tokens rest s = let e = at_less _ at tokens rest s in omega (arith, e)
+compare_less compare.Le left at tokens rest s = let e = at_less _ at tokens rest s in omega (arith, e)
+compare_less compare.Eq left at tokens rest s = let e = at_less _ at tokens rest s in omega (arith, e)
+compare_less compare.Ne left at tokens rest s = let e = at_less _ at tokens rest s in omega (arith, e)
+compare_less compare.Gt left at tokens rest s = let e = at_less _ at tokens rest s in omega (arith, e)
 
-infix_less : (sign : Infix) (flag : Bool) (at : ℕ) (tokens rest : List Token) → InfixAt sign flag at tokens rest → length rest + 1 ≤ length tokens
-infix_less (between.Compare sign) flag at tokens rest s = compare_less sign flag at tokens rest s
-infix_less between.Or flag at tokens rest s = let e = at_less _ at tokens rest s in omega (arith, e)
-infix_less between.And flag at tokens rest s = let e = at_less _ at tokens rest s in omega (arith, e)
-infix_less between.Cons flag at tokens rest s = let e = at_less _ at tokens rest s in omega (arith, e)
-infix_less (between.Arith op) flag at tokens rest s = let e = at_less _ at tokens rest s in omega (arith, e)
+infix_less : (sign : Infix) (left : List Token) (at : ℕ) (tokens rest : List Token) → InfixAt sign left at tokens rest → length rest + 1 ≤ length tokens
+infix_less (between.Compare sign) left at tokens rest s = compare_less sign left at tokens rest s
+infix_less between.Or left at tokens rest s = let e = at_less _ at tokens rest s in omega (arith, e)
+infix_less between.And left at tokens rest s = let e = at_less _ at tokens rest s in omega (arith, e)
+infix_less between.Cons left at tokens rest s = let e = at_less _ at tokens rest s in omega (arith, e)
+infix_less (between.Arith op) left at tokens rest s = let e = at_less _ at tokens rest s in omega (arith, e)
 
 empty_arm_less : (tokens rest : List Token) → EmptyArm tokens rest → length rest ≤ length tokens
 empty_arm_less tokens rest s =
@@ -88,10 +88,19 @@ full_arm_less x y tokens rest s =
     let e = first_less _ s.3 rest s.8 in
     omega (arith, a, b, c, d, e)
 
+power_less : (k : ℤ) (tokens rest : List Token) → PowerSpells k tokens rest → length rest ≤ length tokens
+power_less k tokens rest (inl s) = let e = one_less s.2.0 tokens rest s.2.2 in omega (arith, e)
+power_less k tokens rest (inr s) =
+    let a = first_less _ tokens s.1 s.5 in
+    let b = first_less _ s.1 s.2 s.6 in
+    let c = one_less s.7.0 s.2 s.3 s.7.2 in
+    let d = first_less _ s.3 rest s.8 in
+    omega (arith, a, b, c, d)
+
 -- both operands and the sign between them
-both_less : (sign : Infix) (flag : Bool) (at n m : ℕ) (tokens mid next rest : List Token) → n + length mid ≤ length tokens → InfixAt sign flag at mid next → m + length rest ≤ length next
+both_less : (sign : Infix) (left : List Token) (at n m : ℕ) (tokens mid next rest : List Token) → n + length mid ≤ length tokens → InfixAt sign left at mid next → m + length rest ≤ length next
     → n + m + 1 + length rest ≤ length tokens
-both_less sign flag at n m tokens mid next rest a s b = let e = infix_less sign flag at mid next s in omega (arith, a, b, e)
+both_less sign left at n m tokens mid next rest a s b = let e = infix_less sign left at mid next s in omega (arith, a, b, e)
 
 mutual
   fits_nodes : (t : ExprSyntax) (tokens rest : List Token) → Spells t tokens rest → Fits t → expr_nodes t + length rest ≤ length tokens
@@ -113,16 +122,21 @@ mutual
       let a = at_less _ at tokens s.0 s.1 in
       let b = fits_nodes e s.0 rest s.2 fits.1 in
       omega (arith, a, b)
+  fits_nodes (pown_syntax at e k) tokens rest s fits =
+      let a = at_less _ at tokens s.0 s.2 in
+      let b = fits_nodes e s.0 s.1 s.3 fits.1 in
+      let c = power_less k s.1 rest s.4 in
+      omega (arith, a, b, c)
   fits_nodes (arith_syntax at op a b) tokens rest s fits =
-      both_less (between.Arith op) (ends_in_number a) at (expr_nodes a) (expr_nodes b) tokens s.0 s.1 rest (fits_nodes a tokens s.0 s.2 fits.2) s.3 (fits_nodes b s.1 rest s.4 fits.3)
+      both_less (between.Arith op) tokens at (expr_nodes a) (expr_nodes b) tokens s.0 s.1 rest (fits_nodes a tokens s.0 s.2 fits.2) s.3 (fits_nodes b s.1 rest s.4 fits.3)
   fits_nodes (compare_syntax at sign a b) tokens rest s fits =
-      both_less (between.Compare sign) (ends_in_number a) at (expr_nodes a) (expr_nodes b) tokens s.0 s.1 rest (fits_nodes a tokens s.0 s.2 fits.2) s.3 (fits_nodes b s.1 rest s.4 fits.3)
+      both_less (between.Compare sign) tokens at (expr_nodes a) (expr_nodes b) tokens s.0 s.1 rest (fits_nodes a tokens s.0 s.2 fits.2) s.3 (fits_nodes b s.1 rest s.4 fits.3)
   fits_nodes (and_syntax at a b) tokens rest s fits =
-      both_less between.And (ends_in_number a) at (expr_nodes a) (expr_nodes b) tokens s.0 s.1 rest (fits_nodes a tokens s.0 s.2 fits.2) s.3 (fits_nodes b s.1 rest s.4 fits.3)
+      both_less between.And tokens at (expr_nodes a) (expr_nodes b) tokens s.0 s.1 rest (fits_nodes a tokens s.0 s.2 fits.2) s.3 (fits_nodes b s.1 rest s.4 fits.3)
   fits_nodes (or_syntax at a b) tokens rest s fits =
-      both_less between.Or (ends_in_number a) at (expr_nodes a) (expr_nodes b) tokens s.0 s.1 rest (fits_nodes a tokens s.0 s.2 fits.2) s.3 (fits_nodes b s.1 rest s.4 fits.3)
+      both_less between.Or tokens at (expr_nodes a) (expr_nodes b) tokens s.0 s.1 rest (fits_nodes a tokens s.0 s.2 fits.2) s.3 (fits_nodes b s.1 rest s.4 fits.3)
   fits_nodes (cons_syntax at a b) tokens rest s fits =
-      both_less between.Cons (ends_in_number a) at (expr_nodes a) (expr_nodes b) tokens s.0 s.1 rest (fits_nodes a tokens s.0 s.2 fits.2) s.3 (fits_nodes b s.1 rest s.4 fits.3)
+      both_less between.Cons tokens at (expr_nodes a) (expr_nodes b) tokens s.0 s.1 rest (fits_nodes a tokens s.0 s.2 fits.2) s.3 (fits_nodes b s.1 rest s.4 fits.3)
   fits_nodes (if_syntax at c a b) tokens rest s fits =
       let i = at_less _ at tokens s.0 s.5 in
       let p = fits_nodes c s.0 s.1 s.6 fits.0 in
@@ -243,7 +257,7 @@ rec_less false tokens rest s = let e : length tokens ≡ length rest = ap length
 rec_less true tokens rest s = let e = first_less _ tokens rest s in omega (arith, e)
 
 other_less : (d : DeclSyntax) (tokens rest : List Token) → DeclSpells d tokens rest → DeclFits d → length rest ≤ length tokens
-other_less d tokens rest s fits = let p = decl_yields d tokens rest s fits in no_longer p.0 tokens rest p.1
+other_less d tokens rest s fits = let p = decl_yields d tokens rest s fits in no_longer p.1 tokens rest p.2
 
 decl_fits : (d : DeclSyntax) (tokens rest : List Token) → DeclSpells d tokens rest → DeclFits d → decl_nodes d + length rest ≤ length tokens
 decl_fits (base_syntax at x) tokens rest s fits = let e = other_less (base_syntax at x) tokens rest s fits in omega (arith, e)

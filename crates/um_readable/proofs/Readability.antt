@@ -10,7 +10,7 @@ use Rattle.um_parse.specs.ProgramHeights.{fields_height, params_height, result_h
 use Rattle.um_expr.specs.ExprHeights.{notes_in, whole_expr_height}
 use Rattle.um_parse.specs.ProgramLimits.{functions_in as functions_among, passed_limit, WithinLimits}
 use Rattle.um_parse.specs.Parsed.{IsRead}
-use Rattle.um_names.specs.Readable.{AreReadFieldDecls, AreReadParams, IsReadResult, IsReadDecl, AreReadDecls, IsReadable}
+use Rattle.um_names.specs.Readable.{greatest_height, AreReadFieldDecls, AreReadParams, IsReadResult, IsReadDecl, AreReadDecls, IsReadable}
 use Rattle.um_readable.proofs.TokenCounts.{tokens_within}
 use Rattle.um_readable.proofs.NameTokens.{tokens_named}
 use Rattle.um_readable.proofs.DeclReading.{few_decls}
@@ -22,17 +22,17 @@ some_field : (fs : List FieldDeclSyntax) (tokens rest : List Token) → FieldDec
 some_field [] tokens rest s = absurd s
 some_field (f ∷ fs) tokens rest s = omega arith
 
-fields_readable : (fs : List FieldDeclSyntax) → FieldsNamed fs → fields_height fs ≤ 400 → AreReadFieldDecls fs
+fields_readable : (fs : List FieldDeclSyntax) → FieldsNamed fs → fields_height fs ≤ greatest_height → AreReadFieldDecls fs
 fields_readable [] named low = tt
 fields_readable (f ∷ fs) named low =
     (named.0, type_low f.type (left_low (whole_height f.type) (fields_height fs) low), fields_readable fs named.1 (right_low (whole_height f.type) (fields_height fs) low))
 
-params_readable : (ps : List ParamSyntax) → params_height ps ≤ 400 → AreReadParams ps
+params_readable : (ps : List ParamSyntax) → params_height ps ≤ greatest_height → AreReadParams ps
 params_readable [] low = tt
 params_readable (p ∷ ps) low =
     (type_low p.type (left_low (whole_height p.type) (params_height ps) low), params_readable ps (right_low (whole_height p.type) (params_height ps) low))
 
-result_readable : (r : Option TypeSyntax) → result_height r ≤ 400 → IsReadResult r
+result_readable : (r : Option TypeSyntax) → result_height r ≤ greatest_height → IsReadResult r
 result_readable None low = tt
 result_readable (Some t) low = type_low t low
 
@@ -42,7 +42,7 @@ noted true None fits is = absurd cc
 noted false None fits is = absurd cc
 noted recursive (Some t) fits is = refl
 
-decl_readable : (d : DeclSyntax) (before : ℕ) (tokens rest : List Token) → DeclSpells d tokens rest → DeclFits d → DeclNamed d → decl_height d ≤ 400 → passed_limit before d ≡ None → IsReadDecl d
+decl_readable : (d : DeclSyntax) (before : ℕ) (tokens rest : List Token) → DeclSpells d tokens rest → DeclFits d → DeclNamed d → decl_height d ≤ greatest_height → passed_limit before d ≡ None → IsReadDecl d
 decl_readable (base_syntax at x) before tokens rest s fits named low small = named
 decl_readable (short_syntax at x u) before tokens rest s fits named low small = named
 decl_readable (record_decl_syntax at x vs fs) before tokens rest s fits named low small =
@@ -67,7 +67,7 @@ decl_readable (function_syntax f) before tokens rest s fits named low small =
       nodes = few.2;
     }
 
-decls_readable : (ds : List DeclSyntax) (before : ℕ) (tokens rest : List Token) → DeclsSpell ds tokens rest → DeclsFit ds → DeclsNamed ds → program_height ds ≤ 400 → WithinLimits before ds → AreReadDecls ds
+decls_readable : (ds : List DeclSyntax) (before : ℕ) (tokens rest : List Token) → DeclsSpell ds tokens rest → DeclsFit ds → DeclsNamed ds → program_height ds ≤ greatest_height → WithinLimits before ds → AreReadDecls ds
 decls_readable [] before tokens rest s fits named low small = tt
 decls_readable (d ∷ ds) before tokens rest s fits named low small = (
   decl_readable d before tokens s.0 s.1 fits.0 named.0 (left_low (decl_height d) (program_height ds) low) small.0,

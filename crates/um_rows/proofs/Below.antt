@@ -9,7 +9,7 @@ use Rattle.um_units.proofs.Variables.{VariablesBelow-replace}
 use Rattle.um_tree.specs.declared.note.UnitNote.{UnitNote}
 use Rattle.um_tree.specs.declared.note.UnitNote.TheVariants.{Hole, Written}
 use Rattle.um_tree.specs.TypeTree.{TypeTree, NoteTree, bool_note, num_note, list_note, record_note}
-use Rattle.um_tree.specs.ExprTree.{ExprTree, ExprTrees, truth, number, local, call, negate, not_expr, arith as arith_tree, compare, both, either, if, bind, split, nil, list_expr, cons, record_expr, field, none, more}
+use Rattle.um_tree.specs.ExprTree.{ExprTree, ExprTrees, truth, number, local, call, negate, not_expr, pown, arith as arith_tree, compare, both, either, if, bind, split, nil, list_expr, cons, record_expr, field, none, more}
 use Rattle.um_tree.specs.ProgramTree.{RecordTree, FunctionTree, SchemeTree, Signature}
 use Rattle.um_tree.specs.Scheme.{unit_variables}
 use Rattle.um_elim.proofs.Cases.{on_test}
@@ -17,12 +17,12 @@ use Rattle.um_elim.proofs.FirstOccurrences.{member}
 use Rattle.um_elim.proofs.RenamedUnits.{held-member}
 use Rattle.um_rows.specs.Steps.{types_at}
 use Rattle.um_rows.specs.Holes.{unit_holes, note_holes, notes_holes, Callee, known_by, itself, nobody, callee_holes, record_holes, expr_holes}
-use Rattle.um_rows.specs.Rules.{Derived, item, call_rule, negate_rule, not_rule, truths_rule, arith_rule, compare_rule, if_rule, split_rule, list_rule, cons_rule, record_rule, field_rule, formed}
+use Rattle.um_rows.specs.Rules.{Derived, item, call_rule, negate_rule, not_rule, pown_rule, truths_rule, arith_rule, compare_rule, if_rule, split_rule, list_rule, cons_rule, record_rule, field_rule, formed}
 use Rattle.um_rows.specs.Derivation.{first_units, noted_unit, noted_units, noted_type, noted_types, offered, derive, derive_all}
 use Rattle.um_rows.specs.Equations.{callee, head_holes, noted_result, result_rows, own_signature, head_steps, equations}
 use Rattle.um_rows.specs.Keys.{Key, hole, name, hole_keys, unit_keys, units_keys, note_keys, notes_keys, result_keys, expr_keys, exprs_keys, function_keys}
 use Rattle.um_rows.proofs.Variables.{TypeBelow, TypesBelow, SignatureBelow, StepsBelow, CalleeBelow}
-use Rattle.um_rows.proofs.BelowRules.{put_below, types_put_below, first_units_below, types_below-append, steps_below-append, against_below, DerivedBelow, after_below, formed_below, item_below, number_below, local_below, OfferBelow, call_below, negate_below, not_below, truths_below, arith_below, compare_below, if_below, split_below, nil_below, list_below, cons_below, record_below, field_rule_below}
+use Rattle.um_rows.proofs.BelowRules.{put_below, types_put_below, first_units_below, types_below-append, steps_below-append, against_below, DerivedBelow, after_below, formed_below, item_below, number_below, local_below, OfferBelow, call_below, negate_below, not_below, pown_below, truths_below, arith_below, compare_below, if_below, split_below, nil_below, list_below, cons_below, record_below, field_rule_below}
 
 module _ (limit : ℕ) (holes names : ℕ → PowerMap) where
   -- the units of the keys hold only variables below the limit
@@ -113,6 +113,10 @@ module _ (limit : ℕ) (holes names : ℕ → PowerMap) where
           let x = at_number n vars a in
           let p = derived_below n vars a h k in
           after_below limit x.steps (not_rule at x.type) p.1 (not_below limit at x.type)
+      derived_below n vars (pown at a i) h k =
+          let x = at_number n vars a in
+          let p = derived_below n vars a h k in
+          after_below limit x.steps (pown_rule at i x.type) p.1 (pown_below limit at i x.type p.0)
       derived_below n vars (arith_tree at op a b) h k =
           let m = n + expr_holes records callee a in
           let x = at_number n vars a in

@@ -1,14 +1,14 @@
 -- The rules bring in no variable: a node's rows and its type hold those of its parts.
-use Rattle.std.proofs.Common.{ℕ, zero, suc, ◌<◌, Bool, true, cond, List, [], ◌∷◌, ◌++◌, map, length, Option, Some, None, slice_get, sym, subst, arith}
+use Rattle.std.proofs.Common.{ℕ, ℤ, zero, suc, ◌<◌, Bool, true, cond, List, [], ◌∷◌, ◌++◌, map, length, Option, Some, None, slice_get, sym, subst, arith}
 use Rattle.std.specs.Prelude.{All, ◌==◌}
 use Rattle.std.proofs.lemmas.List.Elements.{All-nil, All-cons, All-head, All-tail}
 use Rattle.um_frac.specs.declared.number.Frac.{Frac}
 use Rattle.um_frac.specs.Fraction.{numerator}
 use Rattle.um_units.specs.Terms.{is_zero}
 use Rattle.um_units.specs.declared.Atom.TheVariants.{Base}
-use Rattle.um_units.specs.PowerMap.{PowerMap, one, atom, mul, inv, replace}
+use Rattle.um_units.specs.PowerMap.{PowerMap, one, atom, mul, pow, inv, replace}
 use Rattle.um_units.specs.Variables.{VariablesBelow}
-use Rattle.um_units.proofs.Variables.{IsClosed-one, IsClosed-base, VariablesBelow-closed, VariablesBelow-mul, VariablesBelow-inv, VariablesBelow-replace}
+use Rattle.um_units.proofs.Variables.{IsClosed-one, IsClosed-base, VariablesBelow-closed, VariablesBelow-mul, VariablesBelow-pow, VariablesBelow-inv, VariablesBelow-replace}
 use Rattle.um_tree.specs.declared.note.UnitNote.{UnitNote}
 use Rattle.um_tree.specs.declared.note.UnitNote.TheVariants.{Hole, Written}
 use Rattle.um_tree.specs.declared.expression.Arith.{Arith}
@@ -20,7 +20,7 @@ use Rattle.um_tree.specs.Laws.{TypeHas}
 use Rattle.um_elim.proofs.Cases.{on_test}
 use Rattle.um_rows.specs.Steps.{Step, row_at, wrong_shape_at, type_at}
 use Rattle.um_rows.specs.Against.{never, unit_against, units_against, against, types_against, against_each}
-use Rattle.um_rows.specs.Rules.{Derived, after, formed, mismatch, asks_bool, asks_list, item, asks_zero, number_rule, local_rule, call_rule, negate_rule, not_rule, truths_rule, units_rule, arith_rule, compare_rule, if_rule, split_rule, nil_rule, list_rule, cons_rule, record_rule, declared_rule, found_rule, field_rule}
+use Rattle.um_rows.specs.Rules.{Derived, after, formed, mismatch, asks_bool, asks_list, item, asks_zero, number_rule, local_rule, call_rule, negate_rule, not_rule, pown_rule, truths_rule, units_rule, arith_rule, compare_rule, if_rule, split_rule, nil_rule, list_rule, cons_rule, record_rule, declared_rule, found_rule, field_rule}
 use Rattle.um_rows.specs.Derivation.{first_units}
 use Rattle.um_rows.proofs.Variables.{TypeBelow, TypesBelow, SignatureBelow, StepsBelow}
 
@@ -165,6 +165,10 @@ module _ (n : ℕ) where
 
   pub not_below : (at : ℕ) (t : TypeTree) → DerivedBelow (not_rule at t)
   not_below at t = formed_below at (asks_bool at t) bool_type (asks_bool_below at t) tt
+
+  pub pown_below : (at : ℕ) (i : ℤ) (t : TypeTree) → TypeBelow n t → DerivedBelow (pown_rule at i t)
+  pown_below at i (num_type u) h = formed_below at [] (num_type (pow u i)) tt (VariablesBelow-pow n u i h)
+  pown_below at i t h = mismatch_below at
 
   pub truths_below : (at : ℕ) (s t : TypeTree) → DerivedBelow (truths_rule at s t)
   truths_below at s t = formed_below at (asks_bool at s ++ asks_bool at t) bool_type (steps_below-append (asks_bool at s) (asks_bool at t) (asks_bool_below at s) (asks_bool_below at t)) tt

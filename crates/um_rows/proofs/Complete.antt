@@ -7,20 +7,20 @@ use Rattle.um_units.proofs.Replacement.{replace-replace}
 use Rattle.um_tree.specs.declared.note.UnitNote.{UnitNote}
 use Rattle.um_tree.specs.declared.note.UnitNote.TheVariants.{Hole, Written}
 use Rattle.um_tree.specs.TypeTree.{TypeTree, bool_type, num_type, list_type, record_type, NoteTree, bool_note, num_note, list_note, record_note}
-use Rattle.um_tree.specs.ExprTree.{ExprTree, ExprTrees, truth, number, local, call, negate, not_expr, arith as arith_tree, compare, both, either, if, bind, split, nil, list_expr, cons, record_expr, field, none, more}
+use Rattle.um_tree.specs.ExprTree.{ExprTree, ExprTrees, truth, number, local, call, negate, not_expr, pown, arith as arith_tree, compare, both, either, if, bind, split, nil, list_expr, cons, record_expr, field, none, more}
 use Rattle.um_tree.specs.ProgramTree.{RecordTree, Signature}
 use Rattle.um_tree.specs.Typing.{put, put_signature, unit_at, field_types, UnitMatches, UnitsMatch, Matches, LiteralUnit, Typed, AllTyped}
 use Rattle.um_rows.proofs.PutLiterals.{put_literal, put_literals, all_put_literals}
 use Rattle.um_rows.specs.Against.{types_against}
 use Rattle.um_rows.specs.Holes.{unit_holes, units_holes, note_holes, Callee, known_by, itself, nobody, callee_holes, record_holes, expr_holes, exprs_holes}
-use Rattle.um_rows.specs.Rules.{Derived, item, asks_zero, number_rule, call_rule, negate_rule, not_rule, truths_rule, arith_rule, compare_rule, if_rule, split_rule, list_rule, cons_rule, record_rule, field_rule}
+use Rattle.um_rows.specs.Rules.{Derived, item, asks_zero, number_rule, call_rule, negate_rule, not_rule, pown_rule, truths_rule, arith_rule, compare_rule, if_rule, split_rule, list_rule, cons_rule, record_rule, field_rule}
 use Rattle.um_rows.specs.Derivation.{first_units, noted_unit, noted_units, noted_type, offered, derive, derive_all}
 use Rattle.um_rows.proofs.HeldSteps.{Holds, Holds-append}
 use Rattle.um_rows.proofs.TypesAgainst.{rows-types_same}
 use Rattle.um_elim.proofs.RenamedUnits.{put-put, puts-put}
 use Rattle.um_rows.proofs.PutTypes.{first_units-are}
 use Rattle.um_rows.proofs.Variables.{CalleeBelow, put_alike_below, types_put_alike_below}
-use Rattle.um_rows.proofs.CompleteRules.{Gives, after_gives, formed_gives, item_complete, zero_complete, local_complete, negate_complete, not_complete, truths_complete, arith_complete, compare_complete, if_complete, split_complete, nil_complete, list_complete, cons_complete, record_complete, field_complete}
+use Rattle.um_rows.proofs.CompleteRules.{Gives, after_gives, formed_gives, item_complete, zero_complete, local_complete, negate_complete, not_complete, pown_complete, truths_complete, arith_complete, compare_complete, if_complete, split_complete, nil_complete, list_complete, cons_complete, record_complete, field_complete}
 use Rattle.um_rows.proofs.Callees.{Offers}
 use Rattle.um_rows.proofs.Used.{then_units, Agrees, agrees_first, agrees_second, agrees_at, units_used, note_used, offer_used, used, all_used}
 
@@ -118,6 +118,11 @@ module _ (v holes names choice : ℕ → PowerMap) (same : (k : ℕ) → replace
           let d = at_number n vars a in
           let z = not_complete v at d.type x.0 in
           after_gives v d.steps (not_rule at d.type) t x.1 (z.0 ∙ sym h.1, z.1)
+      complete n vars vs ev (pown at a i) t h ag =
+          let x = complete n vars vs ev a (num_type h.0) h.1 ag in
+          let d = at_number n vars a in
+          let z = pown_complete v at i d.type h.0 x.0 in
+          after_gives v d.steps (pown_rule at i d.type) t x.1 (z.0 ∙ sym h.2, z.1)
       complete n vars vs ev (arith_tree at op a b) t h ag =
           let m = holes_in a in
           let fa = from vs a (num_type h.0) h.3 in

@@ -1,13 +1,13 @@
 -- Types that a typing rule relates make the node's rows 1.
-use Rattle.std.proofs.Common.{◌≡◌, ℕ, zero, suc, Bool, true, cond, List, [], ◌∷◌, ◌++◌, map, length, pos, Option, Some, slice_get, refl, sym, ap, ◌∙◌, subst}
+use Rattle.std.proofs.Common.{◌≡◌, ℕ, ℤ, zero, suc, Bool, true, cond, List, [], ◌∷◌, ◌++◌, map, length, pos, Option, Some, slice_get, refl, sym, ap, ◌∙◌, subst}
 use Rattle.std.specs.Prelude.{◌==◌}
 use Rattle.std.proofs.lemmas.Bool.{eq-eqb}
 use Rattle.std.proofs.lemmas.List.{length-map}
 use Rattle.um_frac.specs.declared.number.Frac.{Frac}
 use Rattle.um_frac.specs.Fraction.{numerator}
 use Rattle.um_units.specs.Terms.{is_zero}
-use Rattle.um_units.specs.PowerMap.{PowerMap, mul, inv, replace}
-use Rattle.um_units.proofs.Replacement.{replace-mul, replace-inv}
+use Rattle.um_units.specs.PowerMap.{PowerMap, mul, pow, inv, replace}
+use Rattle.um_units.proofs.Replacement.{replace-mul, replace-pow, replace-inv}
 use Rattle.um_tree.specs.declared.expression.Arith.{Arith}
 use Rattle.um_tree.specs.declared.expression.Arith.TheVariants.{Add, Sub, Mul, Div}
 use Rattle.um_tree.specs.declared.note.UnitNote.TheVariants.{Hole}
@@ -16,7 +16,7 @@ use Rattle.um_tree.specs.ProgramTree.{RecordTree}
 use Rattle.um_tree.specs.Typing.{put, unit_at, ArithUnit, EachIs, field_types, IsRecordAt}
 use Rattle.um_rows.specs.Steps.{Step}
 use Rattle.um_rows.specs.Against.{never, against, types_against, against_each}
-use Rattle.um_rows.specs.Rules.{Derived, after, formed, asks_bool, asks_list, item, asks_zero, local_rule, negate_rule, not_rule, truths_rule, units_rule, arith_rule, compare_rule, if_rule, split_rule, nil_rule, list_rule, cons_rule, record_rule, declared_rule, found_rule, field_rule}
+use Rattle.um_rows.specs.Rules.{Derived, after, formed, asks_bool, asks_list, item, asks_zero, local_rule, negate_rule, not_rule, pown_rule, truths_rule, units_rule, arith_rule, compare_rule, if_rule, split_rule, nil_rule, list_rule, cons_rule, record_rule, declared_rule, found_rule, field_rule}
 use Rattle.um_rows.proofs.HeldSteps.{Holds, Holds-append, formed-holds, row-same}
 use Rattle.um_rows.proofs.TypesAgainst.{rows-same, rows-types_same, rows-each_same}
 use Rattle.um_rows.proofs.PutTypes.{put-field, put-fields}
@@ -54,6 +54,10 @@ module _ (v : ℕ → PowerMap) (at : ℕ) where
   pub negate_complete : (t : TypeTree) (u : PowerMap) → put v t ≡ num_type u → Gives v (negate_rule at t) (num_type u)
   negate_complete (num_type a) u e = (e, tt)
   negate_complete t u e = absurd (cc e)
+
+  pub pown_complete : (i : ℤ) (t : TypeTree) (u : PowerMap) → put v t ≡ num_type u → Gives v (pown_rule at i t) (num_type (pow u i))
+  pown_complete i (num_type a) u e = let same : replace v a ≡ u = cc e in (ap num_type (replace-pow v a i ∙ ap (λ x. pow x i) same), tt)
+  pown_complete i t u e = absurd (cc e)
 
   units_complete : (op : Arith) (a b u w r : PowerMap) → replace v a ≡ u → replace v b ≡ w → ArithUnit op u w r → Gives v (units_rule at op a b) (num_type r)
   units_complete Add a b u w r e f h = (ap num_type (e ∙ sym h.1), (row-same v a b (e ∙ h.0 ∙ sym f), tt))

@@ -11,7 +11,7 @@ use Rattle.um_tree.specs.declared.note.UnitNote.TheVariants.{Hole, Written}
 use Rattle.um_tree.specs.declared.expression.Arith.TheVariants.{Add, Mul}
 use Rattle.um_tree.specs.declared.expression.Sign.TheVariants.{Lt}
 use Rattle.um_tree.specs.TypeTree.{TypeTree, bool_type, num_type, list_type, record_type, bool_note, num_note, list_note, record_note}
-use Rattle.um_tree.specs.ExprTree.{number, local, call, arith as arith_tree, compare, both, if, split, nil, cons, record_expr, field, none, more}
+use Rattle.um_tree.specs.ExprTree.{number, local, call, pown, arith as arith_tree, compare, both, if, split, nil, cons, record_expr, field, none, more}
 use Rattle.um_tree.specs.ProgramTree.{RecordTree, FunctionTree, SchemeTree}
 use Rattle.um_tree.proofs.ExamplePrograms.{zero_number, one_number, plain, rec_function, marked}
 use Rattle.um_rows.specs.declared.row.Row.{Row}
@@ -271,6 +271,39 @@ closed_past :
     shown_judgement (judge [] [] 0 (plain (num_note (Written (product (term (Base 0) (pos 2147483647) ∷ []))) ∷ num_note (Written (product (term (Base 0) (negsuc 2147483646) ∷ []))) ∷ []) (compare 2 Lt (local 1 0) (local 3 1)))) ≡ range 2
 unfolding product
 closed_past = refl
+
+-- ---- whole powers
+-- let power (x: num<_>) = pown x k
+abbrev power : ℤ → FunctionTree
+power k = plain (num_note Hole ∷ []) (pown 1 (local 2 0) k)
+
+cube_equations : summary [] [] 0 (power (pos 3)) ≡ record { slots = 1; rows = []; params = num (own 0) ∷ []; result = num (term (Var 0) (pos 3) ∷ []) }
+unfolding product
+cube_equations = refl
+
+inverse_square_equations : summary [] [] 0 (power (negsuc 1)) ≡ record { slots = 1; rows = []; params = num (own 0) ∷ []; result = num (term (Var 0) (negsuc 1) ∷ []) }
+unfolding product
+inverse_square_equations = refl
+
+-- the power 0 has no unit
+no_power_equations : summary [] [] 0 (power (pos 0)) ≡ record { slots = 1; rows = []; params = num (own 0) ∷ []; result = num [] }
+unfolding product
+no_power_equations = refl
+
+-- num<'a> -> num<'a^3>
+cube_judged : shown_judgement (judge [] [] 0 (power (pos 3))) ≡ scheme (num (own 0) ∷ []) (num (term (Var 0) (pos 3) ∷ [])) 1
+unfolding product
+cube_judged = refl
+
+-- let far (x: num<_>) = pown (pown x 2147483647) 2: the outer power is past the range, at its place
+powers_past_judged : shown_judgement (judge [] [] 0 (plain (num_note Hole ∷ []) (pown 1 (pown 2 (local 3 0) (pos 2147483647)) (pos 2)))) ≡ range 1
+unfolding product
+powers_past_judged = refl
+
+-- let back (x: num<_>) = pown (pown x 2147483647) (-1): -2147483647 is in range
+powers_kept_judged : shown_judgement (judge [] [] 0 (plain (num_note Hole ∷ []) (pown 1 (pown 2 (local 3 0) (pos 2147483647)) (negsuc 0)))) ≡ scheme (num (own 0) ∷ []) (num (term (Var 0) (negsuc 2147483646) ∷ [])) 1
+unfolding product
+powers_kept_judged = refl
 
 -- ---- the limit of slots
 keep : (k n m : ℕ) → k < n → filter (λ j. not (same_key j (hole k))) (hole_keys n m) ≡ hole_keys n m

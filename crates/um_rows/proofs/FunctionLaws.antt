@@ -37,7 +37,7 @@ AllFit earlier schemes i = (j : ℕ) → j < i → Fits earlier schemes j
 pub recurs : (f : FunctionTree) → IsTrue (may_recur f) → MayRecur f
 recurs f h = let parts = and_parts f.recursive (is_some f.result) h in record { recursive = parts.0; noted = parts.1 }
 
-recurs_test : (f : FunctionTree) → MayRecur f → IsTrue (may_recur f)
+pub recurs_test : (f : FunctionTree) → MayRecur f → IsTrue (may_recur f)
 recurs_test f m = and_from _ _ m.recursive m.noted
 
 -- ---- the signature for calls of the function itself: without a result note there are none

@@ -36,4 +36,6 @@ pub mod EquationLaws
 pub mod BodyLaws
 mod InputLoops
 pub mod ProgramRows
+mod RightShapes
+pub mod TypedShapes
 pub mod ProgramCalls

@@ -1,16 +1,18 @@
 -- Steps behind steps: their rows, and the first that passes the range.
-use Rattle.std.proofs.Common.{◌≡◌, ℕ, ◌-◌, ◌≤◌, length, take, drop, get_or, arith, Bool, true, false, cond, List, [], ◌∷◌, ◌++◌, Option, Some, None, Ok, Err, refl, sym, ap, ◌∙◌}
+use Rattle.std.proofs.Common.{◌≡◌, ℕ, ◌+◌, ◌-◌, ◌<◌, ◌≤◌, length, map, take, drop, take-append-drop, get_or, arith, Bool, true, false, cond, List, [], ◌∷◌, ◌++◌, Option, Some, None, Ok, Err, refl, sym, ap, ◌∙◌, subst}
 use Rattle.std.specs.Prelude.{Result}
-use Rattle.std.proofs.lemmas.List.{append_assoc, take_all}
+use Rattle.std.proofs.lemmas.List.{append_assoc, append-nil, map-append, take_all, take_more}
 use Rattle.um_units.specs.declared.Atom.TheVariants.{Base}
 use Rattle.um_units.specs.PowerMap.{product, atom}
 use Rattle.um_units.specs.Range.{fits}
+use Rattle.um_tree.specs.declared.types.Ty.{Ty}
+use Rattle.um_tree.specs.TypeTree.{TypeTree, type_tree}
 use Rattle.um_elim.specs.Application.{type_fits}
 use Rattle.um_rows.specs.declared.row.Row.{Row}
 use Rattle.um_rows.specs.declared.row.RowStop.{RowStop}
 use Rattle.um_rows.specs.declared.row.RowStop.TheVariants as stop
 use Rattle.um_rows.specs.Steps.{Step, row_at, wrong_shape_at, type_at, first_past, rows_of}
-use Rattle.um_rows.specs.Against.{never}
+use Rattle.um_rows.specs.Against.{never, against, against_each}
 use Rattle.um_rows.specs.Pushed.{AreBehind, StopsPast, ArePushed}
 
 abbrev pub first_of : Option ℕ → Option ℕ → Option ℕ
@@ -69,3 +71,34 @@ first_and_others [] x h e = absurd (omega (arith, h))
 first_and_others (y ∷ ys) x h e =
     let rest : take (length (y ∷ ys) - 1) ys ≡ ys = take_all (length (y ∷ ys) - 1) ys (omega arith) in
     λ i. sym e i ∷ sym rest i
+
+-- ---- one type against each of the others, one after another
+module _ (at : ℕ) (left : TypeTree) where
+  abbrev pub each : List Ty → List Step
+  each ts = against_each at left (map type_tree ts)
+
+  each-append : (ss ts : List TypeTree) → against_each at left (ss ++ ts) ≡ against_each at left ss ++ against_each at left ts
+  each-append [] ts = refl
+  each-append (s ∷ ss) ts = ap (λ r. against at left s ++ r) (each-append ss ts) ∙ sym (append_assoc (against at left s) (against_each at left ss) (against_each at left ts))
+
+  each-both : (ss ts : List Ty) → each (ss ++ ts) ≡ each ss ++ each ts
+  each-both ss ts = ap (against_each at left) (map-append type_tree ss ts) ∙ each-append (map type_tree ss) (map type_tree ts)
+
+  module _ (others : List Ty) (i : ℕ) (t : Ty) (h : i < length others) (is : t ≡ get_or others i t) (old now : List Row) (was : AreBehind (each (take i others)) old now) where
+    abbrev own : List Step
+    own = against at left (type_tree t)
+
+    each_more : each (take (i + 1) others) ≡ each (take i others) ++ own
+    each_more = ap each (take_more others i t h ∙ ap (λ x. take i others ++ x ∷ []) (sym is)) ∙ each-both (take i others) (t ∷ []) ∙ ap (λ r. each (take i others) ++ r) (append-nil own)
+
+    each_all : each others ≡ each (take (i + 1) others) ++ each (drop (i + 1) others)
+    each_all = ap each (sym (take-append-drop (i + 1) others)) ∙ each-both (take (i + 1) others) (drop (i + 1) others)
+
+    pub each_next : (new : List Row) → AreBehind own now new → AreBehind (each (take (i + 1) others)) old new
+    each_next new k = subst (λ ss. AreBehind ss old new) (sym each_more) (behind-append (each (take i others)) own old now new was k)
+
+    pub each_stops : (e : RowStop) → StopsPast (first_past own) e → StopsPast (first_past (each others)) e
+    each_stops e k =
+        subst (λ ss. StopsPast (first_past ss) e) (sym each_all)
+        (stops_front (each (take (i + 1) others)) (each (drop (i + 1) others)) e
+        (subst (λ ss. StopsPast (first_past ss) e) (sym each_more) (stops_back (each (take i others)) own e was.0 k)))

@@ -4,7 +4,7 @@ use Rattle.um_units.specs.PowerMap.{PowerMap, replace}
 use Rattle.um_units.proofs.Replacement.{replace-closed}
 use Rattle.um_tree.specs.declared.note.UnitNote.{UnitNote}
 use Rattle.um_tree.specs.declared.note.UnitNote.TheVariants.{Hole, Written}
-use Rattle.um_tree.specs.ExprTree.{ExprTree, ExprTrees, truth, number, local, call, negate, not_expr, arith, compare, both, either, if, bind, split, nil, list_expr, cons, record_expr, field, none, more}
+use Rattle.um_tree.specs.ExprTree.{ExprTree, ExprTrees, truth, number, local, call, negate, not_expr, pown, arith, compare, both, either, if, bind, split, nil, list_expr, cons, record_expr, field, none, more}
 use Rattle.um_units.specs.Variables.{IsClosed}
 use Rattle.um_tree.specs.Laws.{LiteralsAreClosed, UnitNoteHas, ExprsHave}
 
@@ -21,6 +21,7 @@ module _ (choice : ℕ → PowerMap) where
     put_literals (call at j es) = call at j (all_put_literals es)
     put_literals (negate at a) = negate at (put_literals a)
     put_literals (not_expr at a) = not_expr at (put_literals a)
+    put_literals (pown at a i) = pown at (put_literals a) i
     put_literals (arith at op a b) = arith at op (put_literals a) (put_literals b)
     put_literals (compare at sign a b) = compare at sign (put_literals a) (put_literals b)
     put_literals (both at a b) = both at (put_literals a) (put_literals b)
@@ -50,6 +51,7 @@ module _ (choice : ℕ → PowerMap) where
     same_literals (call at j es) h = ap (call at j) (all_same_literals es h)
     same_literals (negate at a) h = ap (negate at) (same_literals a h)
     same_literals (not_expr at a) h = ap (not_expr at) (same_literals a h)
+    same_literals (pown at a i) h = ap (λ x. pown at x i) (same_literals a h)
     same_literals (arith at op a b) h = let x = same_literals a h.0 in let y = same_literals b h.1 in λ i. arith at op (x i) (y i)
     same_literals (compare at sign a b) h = let x = same_literals a h.0 in let y = same_literals b h.1 in λ i. compare at sign (x i) (y i)
     same_literals (both at a b) h = let x = same_literals a h.0 in let y = same_literals b h.1 in λ i. both at (x i) (y i)

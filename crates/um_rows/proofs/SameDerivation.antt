@@ -6,7 +6,7 @@ use Rattle.um_units.specs.PowerMap.{PowerMap}
 use Rattle.um_tree.specs.declared.note.UnitNote.{UnitNote}
 use Rattle.um_tree.specs.declared.note.UnitNote.TheVariants.{Hole, Written}
 use Rattle.um_tree.specs.TypeTree.{TypeTree, num_type, list_type, record_type, NoteTree, bool_note, num_note, list_note, record_note}
-use Rattle.um_tree.specs.ExprTree.{ExprTree, ExprTrees, truth, number, local, call, negate, not_expr, arith as arith_tree, compare, both, either, if, bind, split, nil, list_expr, cons, record_expr, field, none, more}
+use Rattle.um_tree.specs.ExprTree.{ExprTree, ExprTrees, truth, number, local, call, negate, not_expr, pown, arith as arith_tree, compare, both, either, if, bind, split, nil, list_expr, cons, record_expr, field, none, more}
 use Rattle.um_tree.specs.ProgramTree.{RecordTree, FunctionTree, SchemeTree, Signature}
 use Rattle.um_tree.specs.Scheme.{unit_variables}
 use Rattle.um_elim.proofs.Cases.{on_test}
@@ -15,7 +15,7 @@ use Rattle.um_elim.proofs.RenamedUnits.{unit_alike}
 use Rattle.um_rows.specs.Against.{against}
 use Rattle.um_rows.specs.Steps.{types_at}
 use Rattle.um_rows.specs.Holes.{unit_holes, note_holes, notes_holes, Callee, known_by, itself, nobody, callee_holes, record_holes, expr_holes}
-use Rattle.um_rows.specs.Rules.{Derived, after, formed, item, number_rule, call_rule, negate_rule, not_rule, truths_rule, arith_rule, compare_rule, if_rule, split_rule, nil_rule, list_rule, cons_rule, record_rule, field_rule}
+use Rattle.um_rows.specs.Rules.{Derived, after, formed, item, number_rule, call_rule, negate_rule, not_rule, pown_rule, truths_rule, arith_rule, compare_rule, if_rule, split_rule, nil_rule, list_rule, cons_rule, record_rule, field_rule}
 use Rattle.um_rows.specs.Derivation.{first_units, noted_unit, noted_units, noted_type, noted_types, offered, derive, derive_all}
 use Rattle.um_rows.specs.Equations.{callee, head_holes, noted_result, result_rows, own_signature, equations}
 use Rattle.um_rows.specs.Keys.{Key, hole, name, hole_keys, unit_keys, units_keys, note_keys, notes_keys, result_keys, expr_keys, exprs_keys, function_keys}
@@ -128,6 +128,7 @@ module _ (f g m q : ℕ → PowerMap) where
           λ i. after (ds i).steps (call_rule at (o i) (ds i).types)
       same_derived n vars (negate at a) k = let x = same_derived n vars a k in λ i. after (x i).steps (negate_rule at (x i).type)
       same_derived n vars (not_expr at a) k = let x = same_derived n vars a k in λ i. after (x i).steps (not_rule at (x i).type)
+      same_derived n vars (pown at a j) k = let x = same_derived n vars a k in λ i. after (x i).steps (pown_rule at j (x i).type)
       same_derived n vars (arith_tree at op a b) k =
           let l = n + holes_in a in
           same_two n vars (λ t. vars) a b (λ s t. arith_rule at op s t) (same_derived n vars a (alike_front (keys_in n a) (keys_in l b) k)) (λ vs. same_derived l vs b (alike_back (keys_in n a) (keys_in l b) k))

@@ -7,19 +7,19 @@ use Rattle.um_units.proofs.Replacement.{replace-replace}
 use Rattle.um_tree.specs.declared.note.UnitNote.{UnitNote}
 use Rattle.um_tree.specs.declared.note.UnitNote.TheVariants.{Hole, Written}
 use Rattle.um_tree.specs.TypeTree.{TypeTree, bool_type, NoteTree, bool_note, num_note, list_note, record_note}
-use Rattle.um_tree.specs.ExprTree.{ExprTree, ExprTrees, truth, number, local, call, negate, not_expr, arith as arith_tree, compare, both, either, if, bind, split, nil, list_expr, cons, record_expr, field, none, more}
+use Rattle.um_tree.specs.ExprTree.{ExprTree, ExprTrees, truth, number, local, call, negate, not_expr, pown, arith as arith_tree, compare, both, either, if, bind, split, nil, list_expr, cons, record_expr, field, none, more}
 use Rattle.um_tree.specs.ProgramTree.{RecordTree, Signature}
 use Rattle.um_tree.specs.Typing.{put, put_signature, UnitMatches, UnitsMatch, Matches, LiteralUnit, Typed, AllTyped}
 use Rattle.um_rows.proofs.PutLiterals.{put_literal, put_literals, all_put_literals}
 use Rattle.um_rows.specs.Against.{types_against}
 use Rattle.um_rows.specs.Holes.{unit_holes, Callee, known_by, itself, nobody, callee_holes, record_holes, expr_holes}
-use Rattle.um_rows.specs.Rules.{Derived, after, item, number_rule, call_rule, negate_rule, not_rule, truths_rule, arith_rule, compare_rule, if_rule, split_rule, list_rule, cons_rule, record_rule, field_rule}
+use Rattle.um_rows.specs.Rules.{Derived, after, item, number_rule, call_rule, negate_rule, not_rule, pown_rule, truths_rule, arith_rule, compare_rule, if_rule, split_rule, list_rule, cons_rule, record_rule, field_rule}
 use Rattle.um_rows.specs.Derivation.{first_units, noted_unit, noted_units, noted_type, offered, derive, derive_all}
 use Rattle.um_rows.proofs.HeldSteps.{Holds, Holds-front, Holds-back, Holds-formed, mismatch_fails}
 use Rattle.um_rows.proofs.TypesAgainst.{types_same_from_rows}
 use Rattle.um_elim.proofs.RenamedUnits.{put-put, puts-put}
 use Rattle.um_rows.proofs.PutTypes.{length-first_units}
-use Rattle.um_rows.proofs.SoundRules.{zero_sound, local_sound, negate_sound, not_sound, truths_sound, arith_sound, compare_sound, if_sound, split_sound, nil_sound, list_sound, cons_sound, record_sound, field_sound}
+use Rattle.um_rows.proofs.SoundRules.{zero_sound, local_sound, negate_sound, not_sound, pown_sound, truths_sound, arith_sound, compare_sound, if_sound, split_sound, nil_sound, list_sound, cons_sound, record_sound, field_sound}
 use Rattle.um_rows.proofs.Callees.{Offers}
 
 module _ (v holes names : ℕ → PowerMap) where
@@ -96,6 +96,11 @@ module _ (v holes names : ℕ → PowerMap) where
             let x = derive holes names records self callee n vars a in
             let d = not_rule at x.type in
             (subst (Is (map (put v) vars) a) (not_sound v at x.type (Holds-back v x.steps d.steps h)) (sound n vars a (Holds-front v x.steps d.steps h)), refl)
+        sound n vars (pown at a i) h =
+            let x = derive holes names records self callee n vars a in
+            let d = pown_rule at i x.type in
+            let s = pown_sound v at i x.type (Holds-back v x.steps d.steps h) in
+            (s.0, subst (Is (map (put v) vars) a) s.1 (sound n vars a (Holds-front v x.steps d.steps h)), s.2)
         sound n vars (arith_tree at op a b) h =
             let m = n + expr_holes records callee a in
             let x = derive holes names records self callee n vars a in

@@ -1,14 +1,14 @@
 -- Units that make a node's rows 1 give its types the rule that the typing asks for.
-use Rattle.std.proofs.Common.{◌≡◌, ℕ, zero, suc, Bool, true, cond, List, [], ◌∷◌, ◌++◌, map, length, pos, Option, Some, None, slice_get, refl, sym, ap, ◌∙◌, subst}
+use Rattle.std.proofs.Common.{◌≡◌, ℕ, ℤ, zero, suc, Bool, true, cond, List, [], ◌∷◌, ◌++◌, map, length, pos, Option, Some, None, slice_get, refl, sym, ap, ◌∙◌, subst}
 use Rattle.std.specs.Prelude.{◌==◌}
 use Rattle.std.proofs.lemmas.Bool.{eqb-true}
 use Rattle.std.proofs.lemmas.List.{length-map}
 use Rattle.um_frac.specs.declared.number.Frac.{Frac}
 use Rattle.um_frac.specs.Fraction.{numerator}
 use Rattle.um_units.specs.Terms.{is_zero}
-use Rattle.um_units.specs.PowerMap.{PowerMap, mul, inv, replace}
+use Rattle.um_units.specs.PowerMap.{PowerMap, mul, pow, inv, replace}
 use Rattle.um_units.proofs.Weights.{zero_is}
-use Rattle.um_units.proofs.Replacement.{replace-mul, replace-inv}
+use Rattle.um_units.proofs.Replacement.{replace-mul, replace-pow, replace-inv}
 use Rattle.um_tree.specs.declared.note.UnitNote.TheVariants.{Hole}
 use Rattle.um_tree.specs.declared.expression.Arith.{Arith}
 use Rattle.um_tree.specs.declared.expression.Arith.TheVariants.{Add, Sub, Mul, Div}
@@ -17,7 +17,7 @@ use Rattle.um_tree.specs.ProgramTree.{RecordTree}
 use Rattle.um_tree.specs.Typing.{put, unit_at, ArithUnit, EachIs, field_types, IsRecordAt}
 use Rattle.um_elim.proofs.Cases.{on_test}
 use Rattle.um_rows.specs.Against.{never, against, types_against, against_each}
-use Rattle.um_rows.specs.Rules.{asks_bool, asks_list, item, asks_zero, number_rule, local_rule, negate_rule, not_rule, truths_rule, units_rule, arith_rule, compare_rule, if_rule, split_rule, nil_rule, list_rule, cons_rule, record_rule, declared_rule, found_rule, field_rule}
+use Rattle.um_rows.specs.Rules.{asks_bool, asks_list, item, asks_zero, number_rule, local_rule, negate_rule, not_rule, pown_rule, truths_rule, units_rule, arith_rule, compare_rule, if_rule, split_rule, nil_rule, list_rule, cons_rule, record_rule, declared_rule, found_rule, field_rule}
 use Rattle.um_rows.proofs.HeldSteps.{Holds, Holds-front, Holds-back, Holds-formed, never_solved, mismatch_fails, same_from_row}
 use Rattle.um_rows.proofs.TypesAgainst.{same_from_rows, types_same_from_rows, each_same_from_rows}
 use Rattle.um_rows.proofs.PutTypes.{put-field, put-fields}
@@ -48,6 +48,10 @@ module _ (v : ℕ → PowerMap) (at : ℕ) where
   pub negate_sound : (t : TypeTree) → Holds v (negate_rule at t).steps → (u : PowerMap) × (put v t ≡ num_type u) × (put v (negate_rule at t).type ≡ num_type u)
   negate_sound (num_type u) h = (replace v u, refl, refl)
   negate_sound t h = mismatch_fails v at h
+
+  pub pown_sound : (i : ℤ) (t : TypeTree) → Holds v (pown_rule at i t).steps → (u : PowerMap) × (put v t ≡ num_type u) × (put v (pown_rule at i t).type ≡ num_type (pow u i))
+  pown_sound i (num_type u) h = (replace v u, refl, ap num_type (replace-pow v u i))
+  pown_sound i t h = mismatch_fails v at h
 
   units_sound : (op : Arith) (u w : PowerMap) → Holds v (units_rule at op u w).steps → (r : PowerMap) × ArithUnit op (replace v u) (replace v w) r × (put v (units_rule at op u w).type ≡ num_type r)
   units_sound Add u w h = (replace v u, (same_from_row v u w h.0, refl), refl)

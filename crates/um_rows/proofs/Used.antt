@@ -4,7 +4,7 @@ use Rattle.std.proofs.lemmas.Bool.Decides.{nat_tests}
 use Rattle.um_units.specs.PowerMap.{PowerMap, one}
 use Rattle.um_tree.specs.declared.note.UnitNote.{UnitNote}
 use Rattle.um_tree.specs.TypeTree.{TypeTree, bool_type, num_type, list_type, record_type, NoteTree, bool_note, num_note, list_note, record_note}
-use Rattle.um_tree.specs.ExprTree.{ExprTree, ExprTrees, truth, number, local, call, negate, not_expr, arith as arith_tree, compare, both, either, if, bind, split, nil, list_expr, cons, record_expr, field, none, more}
+use Rattle.um_tree.specs.ExprTree.{ExprTree, ExprTrees, truth, number, local, call, negate, not_expr, pown, arith as arith_tree, compare, both, either, if, bind, split, nil, list_expr, cons, record_expr, field, none, more}
 use Rattle.um_tree.specs.ProgramTree.{RecordTree, Signature}
 use Rattle.um_tree.specs.Typing.{put, unit_at, field_types, UnitsMatch, Matches, TypesMatch, ResultMatches, Typed, AllTyped}
 use Rattle.um_rows.proofs.PutLiterals.{put_literals, all_put_literals}
@@ -76,6 +76,7 @@ module _ (choice : ℕ → PowerMap) where
           then_units (callee_holes (callee j)) (offer_used (callee j) g (opens j g h.2)) (all_used vars es h.0 h.1)
       used vars (negate at a) t h = used vars a (num_type h.0) h.1
       used vars (not_expr at a) t h = used vars a bool_type h.0
+      used vars (pown at a i) t h = used vars a (num_type h.0) h.1
       used vars (arith_tree at op a b) t h = then_units (expr_holes records callee a) (used vars a (num_type h.0) h.3) (used vars b (num_type h.1) h.4)
       used vars (compare at sign a b) t h = then_units (expr_holes records callee a) (used vars a (num_type h.0) h.1) (used vars b (num_type h.0) h.2)
       used vars (both at a b) t h = then_units (expr_holes records callee a) (used vars a bool_type h.0) (used vars b bool_type h.1)

@@ -3,12 +3,12 @@ use Rattle.std.proofs.Common.{◌≡◌, ℕ, ◌+◌, List, [], ◌∷◌, ◌+
 use Rattle.std.proofs.lemmas.List.{append_assoc, append-nil}
 use Rattle.um_units.specs.PowerMap.{PowerMap}
 use Rattle.um_tree.specs.TypeTree.{TypeTree, bool_type}
-use Rattle.um_tree.specs.ExprTree.{ExprTree, ExprTrees, truth, number, local, call, negate, not_expr, arith as arith_tree, compare, both, either, if, bind, split, nil, list_expr, cons, record_expr, field, none, more}
+use Rattle.um_tree.specs.ExprTree.{ExprTree, ExprTrees, truth, number, local, call, negate, not_expr, pown, arith as arith_tree, compare, both, either, if, bind, split, nil, list_expr, cons, record_expr, field, none, more}
 use Rattle.um_tree.specs.ProgramTree.{RecordTree, Signature}
 use Rattle.um_rows.specs.declared.row.Row.{Row}
 use Rattle.um_rows.specs.Steps.{Step, first_past, rows_of}
 use Rattle.um_rows.specs.Holes.{Callee, callee_holes, record_holes, expr_holes, exprs_holes}
-use Rattle.um_rows.specs.Rules.{Derived, AllDerived, after, formed, item, local_rule, call_rule, negate_rule, not_rule, truths_rule, arith_rule, compare_rule, if_rule, split_rule, list_rule, cons_rule, record_rule, field_rule}
+use Rattle.um_rows.specs.Rules.{Derived, AllDerived, after, formed, item, local_rule, call_rule, negate_rule, not_rule, pown_rule, truths_rule, arith_rule, compare_rule, if_rule, split_rule, list_rule, cons_rule, record_rule, field_rule}
 use Rattle.um_rows.specs.Derivation.{first_units, offered, derive, derive_all}
 use Rattle.um_rows.specs.Walk.{Walked, AllWalked, then, unless_past, node, walk, walk_all}
 use Rattle.um_rows.proofs.PushLaws.{first_of, first_past-append, rows_of-append}
@@ -152,6 +152,7 @@ module _ (holes names : ℕ → PowerMap) (records : List RecordTree) (self : Si
         ∙ ap (λ m. node rows m (after ds.steps (call_rule at (offered holes names records self callee n (callee j)) ds.types))) sum
     walk-is (negate at a) rows n vars = one_part a (walk-is a) rows n vars (λ t. negate_rule at t)
     walk-is (not_expr at a) rows n vars = one_part a (walk-is a) rows n vars (λ t. not_rule at t)
+    walk-is (pown at a i) rows n vars = one_part a (walk-is a) rows n vars (λ t. pown_rule at i t)
     walk-is (arith_tree at op a b) rows n vars = two_parts a b (walk-is a) (walk-is b) rows n vars (λ t. vars) (λ s t. arith_rule at op s t)
     walk-is (compare at sign a b) rows n vars = two_parts a b (walk-is a) (walk-is b) rows n vars (λ t. vars) (λ s t. compare_rule at s t)
     walk-is (both at a b) rows n vars = two_parts a b (walk-is a) (walk-is b) rows n vars (λ t. vars) (λ s t. truths_rule at s t)

@@ -5,7 +5,9 @@ use Rattle.std.specs.Prelude.{ℕ, ◌+◌, List, [], ◌∷◌, Option, Some, N
 use Rattle.um_tree.specs.declared.note.UnitNote.{UnitNote}
 use Rattle.um_tree.specs.declared.note.UnitNote.TheVariants.{Hole, Written}
 use Rattle.um_tree.specs.TypeTree.{NoteTree, bool_note, num_note, list_note, record_note}
-use Rattle.um_tree.specs.ExprTree.{ExprTree, ExprTrees, truth, number, local, call, negate, not_expr, arith, compare, both, either, if, bind, split, nil, list_expr, cons, record_expr, field, none, more}
+use Rattle.um_tree.specs.ExprTree.{ExprTree, ExprTrees, truth, number, local, call, negate, not_expr, pown, arith}
+use Rattle.um_tree.specs.ExprTree.{compare, both, either, if, bind, split, nil, list_expr, cons, record_expr, field}
+use Rattle.um_tree.specs.ExprTree.{none, more}
 use Rattle.um_tree.specs.ProgramTree.{RecordTree, SchemeTree}
 
 -- ---- notes
@@ -60,6 +62,7 @@ module _ (records : List RecordTree) (callee : ℕ → Callee) where
     expr_holes (call at j es) = callee_holes (callee j) + exprs_holes es
     expr_holes (negate at a) = expr_holes a
     expr_holes (not_expr at a) = expr_holes a
+    expr_holes (pown at a k) = expr_holes a
     expr_holes (arith at op a b) = expr_holes a + expr_holes b
     expr_holes (compare at sign a b) = expr_holes a + expr_holes b
     expr_holes (both at a b) = expr_holes a + expr_holes b

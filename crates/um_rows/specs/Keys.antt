@@ -4,7 +4,9 @@ use Rattle.std.specs.Prelude.{ℕ, zero, suc, ◌+◌, List, [], ◌∷◌, ◌+
 use Rattle.um_tree.specs.declared.note.UnitNote.{UnitNote}
 use Rattle.um_tree.specs.declared.note.UnitNote.TheVariants.{Hole, Written}
 use Rattle.um_tree.specs.TypeTree.{NoteTree, bool_note, num_note, list_note, record_note}
-use Rattle.um_tree.specs.ExprTree.{ExprTree, ExprTrees, truth, number, local, call, negate, not_expr, arith, compare, both, either, if, bind, split, nil, list_expr, cons, record_expr, field, none, more}
+use Rattle.um_tree.specs.ExprTree.{ExprTree, ExprTrees, truth, number, local, call, negate, not_expr, pown, arith}
+use Rattle.um_tree.specs.ExprTree.{compare, both, either, if, bind, split, nil, list_expr, cons, record_expr, field}
+use Rattle.um_tree.specs.ExprTree.{none, more}
 use Rattle.um_tree.specs.ProgramTree.{RecordTree, FunctionTree, SchemeTree}
 use Rattle.um_tree.specs.Scheme.{unit_variables}
 use Rattle.um_rows.specs.Holes.{unit_holes, note_holes, notes_holes, Callee, callee_holes, record_holes, expr_holes}
@@ -54,6 +56,7 @@ module _ (records : List RecordTree) (callee : ℕ → Callee) where
     expr_keys n (call at j es) = hole_keys n (callee_holes (callee j)) ++ exprs_keys (n + callee_holes (callee j)) es
     expr_keys n (negate at a) = expr_keys n a
     expr_keys n (not_expr at a) = expr_keys n a
+    expr_keys n (pown at a k) = expr_keys n a
     expr_keys n (arith at op a b) = expr_keys n a ++ expr_keys (n + expr_holes records callee a) b
     expr_keys n (compare at sign a b) = expr_keys n a ++ expr_keys (n + expr_holes records callee a) b
     expr_keys n (both at a b) = expr_keys n a ++ expr_keys (n + expr_holes records callee a) b

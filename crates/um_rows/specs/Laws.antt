@@ -9,6 +9,7 @@ use Rattle.um_tree.specs.Typing.{Typing}
 use Rattle.um_tree.specs.InputType.{IsResultOfCall, IsTypeOfCall}
 use Rattle.um_tree.specs.Formed.{IsFormed, AreFormedInputs}
 use Rattle.um_tree.specs.Laws.{LiteralsAreClosed}
+use Rattle.um_tree.specs.Shapes.{ShapeSignature, FunctionShape}
 use Rattle.um_tree.specs.Scheme.{IsPrincipal, IsNumberedScheme, variables, signature_types}
 use Rattle.um_rows.specs.Steps.{rows_of}
 use Rattle.um_rows.specs.Slots.{slot_count, slot_equations}
@@ -16,6 +17,7 @@ use Rattle.um_rows.specs.Solutions.{function_rows, slot_signature, IsSolved, Hav
 use Rattle.um_rows.specs.FirstUnsolvable.{IsFirstUnsolvable}
 use Rattle.um_rows.specs.CallEquations.{call_function}
 use Rattle.um_rows.specs.Judgement.{has_scheme, has_no_typing, judge}
+use Rattle.um_rows.specs.RightShapes.{HaveRightShapes}
 
 -- a signature is a typing of function i, whose literals are closed, exactly where some joint solution of the function's
 -- rows gives it
@@ -70,3 +72,12 @@ abbrev pub JudgedUntypedCallsHaveNone : Type 0
 JudgedUntypedCallsHaveNone =
     (p : ProgramTree) (schemes : List SchemeTree) (k : ℕ) (f : FunctionTree) (inputs : InputTrees) → IsFormed p → HaveSchemes p schemes (length p.functions) → slice_get p.functions k ≡ Some f → AreFormedInputs (length p.bases) inputs →
     (row at : ℕ) → judge p.records schemes (length p.functions) (call_function p.records k f inputs) ≡ has_no_typing row at → (t : TypeTree) → IsResultOfCall p k inputs t → ⊥
+
+-- ---- shapes
+
+-- a function of a formed program that has its shapes forms no step for a wrong shape
+abbrev pub ShapedFunctionsFormNoWrongShape : Type 0
+ShapedFunctionsFormNoWrongShape =
+    (p : ProgramTree) (schemes : List SchemeTree) (i : ℕ) (f : FunctionTree) (g : ShapeSignature) →
+    IsFormed p → slice_get p.functions i ≡ Some f → FunctionShape p i g → HaveSchemes p schemes i →
+    HaveRightShapes (slot_equations p.records schemes i f).steps

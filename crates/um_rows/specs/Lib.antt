@@ -15,6 +15,7 @@ pub mod Walk
 pub mod Reached
 pub mod Body
 pub mod Judgement
+pub mod RightShapes
 pub mod CallEquations
 pub mod Answers
 pub mod Laws

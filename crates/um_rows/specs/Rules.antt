@@ -1,11 +1,12 @@
 -- What the typing rule of each node gives over the types of its parts: the node's rows, and then its type.
 -- Source: Kennedy (1996): sums and comparisons need equal units, products and quotients have the product and the quotient
 -- of the units; F# specification, Units Of Measure. Which of two equal types stands for both is this project's own.
-use Rattle.std.specs.Prelude.{ℕ, Bool, true, ◌==◌, List, [], ◌∷◌, ◌++◌, map, length, if◌then◌else◌, slice_get, Option, Some, None}
+use Rattle.std.specs.Prelude.{ℕ, Bool, true, ◌==◌, List, [], ◌∷◌, ◌++◌, map, length, if◌then◌else◌, slice_get, Option}
+use Rattle.std.specs.Prelude.{Some, None, ℤ}
 use Rattle.um_frac.specs.declared.number.Frac.{Frac}
 use Rattle.um_frac.specs.Fraction.{numerator}
 use Rattle.um_units.specs.Terms.{is_zero}
-use Rattle.um_units.specs.PowerMap.{PowerMap, mul, inv}
+use Rattle.um_units.specs.PowerMap.{PowerMap, mul, pow, inv}
 use Rattle.um_tree.specs.declared.note.UnitNote.{UnitNote}
 use Rattle.um_tree.specs.declared.note.UnitNote.TheVariants.{Hole, Written}
 use Rattle.um_tree.specs.declared.expression.Arith.{Arith}
@@ -76,6 +77,11 @@ negate_rule at t = mismatch at
 
 abbrev pub not_rule : ℕ → TypeTree → Derived
 not_rule at t = formed at (asks_bool at t) bool_type
+
+-- the unit of the part, raised
+abbrev pub pown_rule : ℕ → ℤ → TypeTree → Derived
+pown_rule at k (num_type u) = formed at [] (num_type (pow u k))
+pown_rule at k t = mismatch at
 
 -- `&&` and `||`
 abbrev pub truths_rule : ℕ → TypeTree → TypeTree → Derived

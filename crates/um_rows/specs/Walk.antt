@@ -4,12 +4,14 @@
 use Rattle.std.specs.Prelude.{ℕ, ◌+◌, List, [], ◌∷◌, ◌++◌, Option, Some, None, Result, Ok, Err, slice_get}
 use Rattle.um_units.specs.PowerMap.{PowerMap}
 use Rattle.um_tree.specs.TypeTree.{TypeTree, bool_type}
-use Rattle.um_tree.specs.ExprTree.{ExprTree, ExprTrees, truth, number, local, call, negate, not_expr, arith, compare, both, either, if, bind, split, nil, list_expr, cons, record_expr, field, none, more}
+use Rattle.um_tree.specs.ExprTree.{ExprTree, ExprTrees, truth, number, local, call, negate, not_expr, pown, arith}
+use Rattle.um_tree.specs.ExprTree.{compare, both, either, if, bind, split, nil, list_expr, cons, record_expr, field}
+use Rattle.um_tree.specs.ExprTree.{none, more}
 use Rattle.um_tree.specs.ProgramTree.{RecordTree, Signature}
 use Rattle.um_rows.specs.declared.row.Row.{Row}
 use Rattle.um_rows.specs.Steps.{first_past, rows_of}
 use Rattle.um_rows.specs.Holes.{unit_holes, note_holes, Callee, callee_holes, record_holes}
-use Rattle.um_rows.specs.Rules.{Derived, formed, item, number_rule, local_rule, call_rule, negate_rule, not_rule, truths_rule, arith_rule, compare_rule, if_rule, split_rule, nil_rule, list_rule, cons_rule, record_rule, field_rule}
+use Rattle.um_rows.specs.Rules.{Derived, formed, item, number_rule, local_rule, call_rule, negate_rule, not_rule, pown_rule, truths_rule, arith_rule, compare_rule, if_rule, split_rule, nil_rule, list_rule, cons_rule, record_rule, field_rule}
 use Rattle.um_rows.specs.Derivation.{first_units, noted_unit, noted_type, offered}
 
 -- the type of the last node, and where the walk stands
@@ -46,6 +48,7 @@ module _ (holes names : ℕ → PowerMap) (records : List RecordTree) (self : Si
         then (walk_all rows (n + callee_holes (callee j)) vars es) (λ w. node w.rows w.holes (call_rule at (offered holes names records self callee n (callee j)) w.types))
     walk rows n vars (negate at a) = then (walk rows n vars a) (λ x. node x.rows x.holes (negate_rule at x.type))
     walk rows n vars (not_expr at a) = then (walk rows n vars a) (λ x. node x.rows x.holes (not_rule at x.type))
+    walk rows n vars (pown at a k) = then (walk rows n vars a) (λ x. node x.rows x.holes (pown_rule at k x.type))
     walk rows n vars (arith at op a b) = then (walk rows n vars a) (λ x. then (walk x.rows x.holes vars b) (λ y. node y.rows y.holes (arith_rule at op x.type y.type)))
     walk rows n vars (compare at sign a b) = then (walk rows n vars a) (λ x. then (walk x.rows x.holes vars b) (λ y. node y.rows y.holes (compare_rule at x.type y.type)))
     walk rows n vars (both at a b) = then (walk rows n vars a) (λ x. then (walk x.rows x.holes vars b) (λ y. node y.rows y.holes (truths_rule at x.type y.type)))

@@ -116,7 +116,6 @@ pub(crate) fn types_against(
 }
 
 /// Pushes the rows of one type against each of the others.
-#[tactic(auto, using(crate::proofs::PushLaws::stops_front, crate::proofs::PushLaws::pushed_after))]
 pub(crate) fn against_each(
     alloc: Global,
     at: u32,
@@ -126,11 +125,8 @@ pub(crate) fn against_each(
 ) -> Result<(), RowStop>
     ensures { ArePushed (against_each_steps at (type_tree left.now) (map type_tree others.now)) rows.old.items rows.new.items result }
 {
-    match others {
-        [] => Ok(()),
-        [t, rest @ ..] => {
-            against(alloc, at, left, t, rows)?;
-            against_each(alloc, at, left, rest, rows)
-        }
+    for t in others {
+        against(alloc, at, left, t, rows)?;
     }
+    Ok(())
 }

@@ -8,6 +8,7 @@ ghost use Rattle.um_rows.specs.Laws.{
   CallResultsAreSolutions,
   JudgedCallsHaveTheirType,
   JudgedUntypedCallsHaveNone,
+  ShapedFunctionsFormNoWrongShape,
 };
 
 /// The typings of a function are exactly what the joint solutions of its rows give, where the functions before it have their
@@ -35,4 +36,9 @@ pub fn calls()
     ensures results { CallResultsAreSolutions }
     ensures types { JudgedCallsHaveTheirType }
     ensures refusals { JudgedUntypedCallsHaveNone }
+{}
+
+/// A function of a formed program that has its shapes forms no step for a wrong shape.
+pub fn right_shapes()
+    ensures { ShapedFunctionsFormNoWrongShape }
 {}

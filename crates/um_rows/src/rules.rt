@@ -4,7 +4,7 @@ ghost use Rattle.std.specs.Prelude.{◌≡◌, [], ◌∷◌, IfOk, IsTrue, map,
 ghost use Rattle.um_tree.specs.TypeTree.{type_tree, bool_type, num_type};
 ghost use Rattle.um_units.specs.Range.{fits};
 ghost use Rattle.um_elim.specs.Application.{type_fits};
-ghost use Rattle.um_rows.specs.Rules.{formed, mismatch as mismatched, local_rule, negate_rule, not_rule, truths_rule, units_rule, arith_rule, compare_rule, if_rule, split_rule, nil_rule, list_rule, cons_rule, number_rule, asks_bool, asks_list};
+ghost use Rattle.um_rows.specs.Rules.{formed, mismatch as mismatched, local_rule, negate_rule, not_rule, pown_rule, truths_rule, units_rule, arith_rule, compare_rule, if_rule, split_rule, nil_rule, list_rule, cons_rule, number_rule, asks_bool, asks_list};
 ghost use Rattle.um_rows.specs.Pushed.{ArePushed};
 ghost use Rattle.um_rows.specs.Walk.{node};
 ghost use Rattle.um_rows.specs.Reached.{IsReached};
@@ -90,6 +90,28 @@ pub(crate) fn not(alloc: Global, at: u32, part: &Ty, progress: &mut Progress) ->
 {
     ask_bool(alloc, at, part, &mut progress.rows)?;
     Ok(Ty::Bool)
+}
+
+/// A whole power: the unit of its part, raised.
+#[tactic(auto, using(crate::proofs::NodeLaws::node_formed, crate::proofs::NodeLaws::node_stops, crate::proofs::NodeLaws::node_past))]
+pub(crate) fn pown(
+    alloc: Global,
+    at: u32,
+    part: Ty,
+    k: i32,
+    progress: &mut Progress,
+) -> Result<Ty, RowStop>
+    ensures reached { IsReached (node progress.old.rows.items progress.old.holes (pown_rule at k (type_tree part))) progress.new result }
+    ensures fits { IfOk result (λ ty. IsTrue (type_fits (type_tree ty))) }
+{
+    match part {
+        Ty::Num(unit) => match unit.pow(alloc, k) {
+            Ok(unit) => Ok(Ty::Num(unit)),
+            Err(UnitStop::Range) => Err(RowStop::Range { at }),
+            Err(UnitStop::NoMemory) => Err(RowStop::NoMemory),
+        },
+        Ty::Bool | Ty::List(_) | Ty::Rec(_, _) => mismatch(alloc, at, progress),
+    }
 }
 
 /// `&&` and `||`

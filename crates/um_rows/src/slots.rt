@@ -220,6 +220,7 @@ pub(crate) fn expr_slots(
         Node::Nil(note) => note_slots(alloc, note, slots),
         Node::Neg(a) => expr_slots(alloc, records, schemes, number, recurs, a, slots),
         Node::Not(a) => expr_slots(alloc, records, schemes, number, recurs, a, slots),
+        Node::Pow(a, _) => expr_slots(alloc, records, schemes, number, recurs, a, slots),
         Node::Field(_, _, a) => expr_slots(alloc, records, schemes, number, recurs, a, slots),
         Node::Arith(_, a, b) => {
             expr_slots(alloc, records, schemes, number, recurs, a, slots)?;

@@ -106,6 +106,10 @@ pub(crate) fn derive(
             let part = derive(alloc, records, schemes, context, scope, a, progress)?;
             rules::not(alloc, at, &part, progress)
         }
+        Node::Pow(a, k) => {
+            let part = derive(alloc, records, schemes, context, scope, a, progress)?;
+            rules::pown(alloc, at, part, *k, progress)
+        }
         Node::Arith(op, a, b) => {
             let left = derive(alloc, records, schemes, context, scope, a, progress)?;
             let right = derive(alloc, records, schemes, context, scope, b, progress)?;

@@ -3,7 +3,7 @@ use Rattle.std.proofs.Common.{◌≡◌, refl, sym, subst, ap, ◌∙◌, ℕ, z
 use Rattle.std.proofs.lemmas.List.{append_assoc, length-append}
 use Rattle.std.proofs.lemmas.Option.{slice_get-get_or}
 use Rattle.um_tree.specs.TypeTree.{NoteTree, ShapeTree, bool_shape, num_shape, list_shape, record_shape}
-use Rattle.um_tree.specs.ExprTree.{ExprTree, ExprTrees, truth, number, local, call, negate, not_expr, arith as arith_tree, compare, both, either, if, bind, split, nil, list_expr, cons, record_expr, field, none, more}
+use Rattle.um_tree.specs.ExprTree.{ExprTree, ExprTrees, truth, number, local, call, negate, not_expr, pown, arith as arith_tree, compare, both, either, if, bind, split, nil, list_expr, cons, record_expr, field, none, more}
 use Rattle.um_tree.specs.ProgramTree.{RecordTree, FunctionTree, ProgramTree}
 use Rattle.um_tree.specs.Typing.{field_types, MayRecur}
 use Rattle.um_tree.specs.Shapes.{type_shape, note_shape, ShapeSignature, EachShapeIs, HasShape, AllHaveShapes, CallShapes, ResultShape, IsShapeOf, shapes_below, FunctionShape, IsShaped}
@@ -63,6 +63,7 @@ module _ (declared : List RecordTree) (records : List RecordShape) (alike : Alik
         deep_then _ _ h.0 s (all_complete vars es h.0 h.1) (deep_node records at _ s (ap (λ o. of_call o h.0) (called j _ h.2) ∙ kept_where (same_shapes h.0 h.0) s (same_shapes-refl h.0)))
     complete vars (negate at a) s h = deep_then _ _ num_shape s (complete vars a num_shape h.0) (deep_node records at _ s (ap Some (sym h.1)))
     complete vars (not_expr at a) s h = deep_then _ _ bool_shape s (complete vars a bool_shape h.0) (deep_node records at _ s (ap Some (sym h.1)))
+    complete vars (pown at a i) s h = deep_then _ _ num_shape s (complete vars a num_shape h.0) (deep_node records at _ s (ap Some (sym h.1)))
     complete vars (arith_tree at op a b) s h =
         deep_then _ _ num_shape s (complete vars a num_shape h.0) (deep_then _ _ num_shape s (complete vars b num_shape h.1) (deep_node records at _ s (ap Some (sym h.2))))
     complete vars (compare at sign a b) s h =

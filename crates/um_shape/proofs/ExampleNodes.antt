@@ -1,11 +1,11 @@
 -- What is found of every node, with a right and a wrong part, by computation.
-use Rattle.std.proofs.Common.{◌≡◌, refl, true, List, [], ◌∷◌, Result, Ok, Err}
+use Rattle.std.proofs.Common.{◌≡◌, refl, true, List, [], ◌∷◌, Result, Ok, Err, pos, negsuc}
 use Rattle.um_units.specs.PowerMap.{one}
 use Rattle.um_tree.specs.declared.note.UnitNote.TheVariants.{Written}
 use Rattle.um_tree.specs.declared.expression.Arith.TheVariants.{Add}
 use Rattle.um_tree.specs.declared.expression.Sign.TheVariants.{Lt}
 use Rattle.um_tree.specs.TypeTree.{ShapeTree, bool_shape, num_shape, list_shape, record_shape, bool_note, list_note}
-use Rattle.um_tree.specs.ExprTree.{ExprTree, truth, number, local, call, negate, not_expr, arith, compare, both, either, if, bind, split, nil, list_expr, cons, record_expr, field, none, more}
+use Rattle.um_tree.specs.ExprTree.{ExprTree, truth, number, local, call, negate, not_expr, pown, arith, compare, both, either, if, bind, split, nil, list_expr, cons, record_expr, field, none, more}
 use Rattle.um_tree.specs.Shapes.{ShapeSignature}
 use Rattle.um_tree.proofs.ExamplePrograms.{one_number}
 use Rattle.um_shape.specs.RecordShapes.{RecordShape}
@@ -38,7 +38,10 @@ wrong = Err (wrong_shape 1)
 leaves : finds yes ∷ finds num ∷ finds (local 1 0) ∷ finds (local 1 1) ∷ finds (local 1 2) ∷ [] ≡ Ok bool_shape ∷ Ok num_shape ∷ Ok num_shape ∷ Ok (record_shape 0) ∷ wrong ∷ []
 leaves = refl
 
-single_parts : finds (negate 1 num) ∷ finds (negate 1 yes) ∷ finds (not_expr 1 yes) ∷ finds (not_expr 1 num) ∷ [] ≡ Ok num_shape ∷ wrong ∷ Ok bool_shape ∷ wrong ∷ []
+single_parts :
+    finds (negate 1 num) ∷ finds (negate 1 yes) ∷ finds (not_expr 1 yes) ∷ finds (not_expr 1 num)
+    ∷ finds (pown 1 num (pos 3)) ∷ finds (pown 1 yes (pos 3)) ∷ finds (pown 1 numbers (negsuc 0)) ∷ []
+    ≡ Ok num_shape ∷ wrong ∷ Ok bool_shape ∷ wrong ∷ Ok num_shape ∷ wrong ∷ wrong ∷ []
 single_parts = refl
 
 two_numbers :

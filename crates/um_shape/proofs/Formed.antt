@@ -2,7 +2,7 @@
 use Rattle.std.proofs.Common.{ℕ, ◌+◌, length, All, Option, Some, None, get_or}
 use Rattle.std.proofs.lemmas.Option.{slice_get-get_or}
 use Rattle.um_tree.specs.TypeTree.{NoteTree}
-use Rattle.um_tree.specs.ExprTree.{ExprTree, ExprTrees, truth, number, local, call, negate, not_expr, arith, compare, both, either, if, bind, split, nil, list_expr, cons, record_expr, field, none, more}
+use Rattle.um_tree.specs.ExprTree.{ExprTree, ExprTrees, truth, number, local, call, negate, not_expr, pown, arith, compare, both, either, if, bind, split, nil, list_expr, cons, record_expr, field, none, more}
 use Rattle.um_tree.specs.ProgramTree.{RecordTree, FunctionTree, ProgramTree}
 use Rattle.um_tree.specs.Formed.{IsFormed, IsFormedRecord, IsFormedFunction, ResultFormed, IsFormedIn, AllFormedIn}
 use Rattle.um_shape.specs.LowNotes.{HasLowNotes, HaveLowNotes, HasLowFields, HasLowResult, IsLow}
@@ -17,6 +17,7 @@ module _ (p : ProgramTree) where
       low_notes n (call at j es) w = have_low_notes n es w.1
       low_notes n (negate at a) w = low_notes n a w
       low_notes n (not_expr at a) w = low_notes n a w
+      low_notes n (pown at a i) w = low_notes n a w
       low_notes n (arith at op a b) w = (low_notes n a w.0, low_notes n b w.1)
       low_notes n (compare at sign a b) w = (low_notes n a w.0, low_notes n b w.1)
       low_notes n (both at a b) w = (low_notes n a w.0, low_notes n b w.1)

@@ -2,7 +2,7 @@
 use Rattle.std.proofs.Common.{◌≡◌, refl, sym, subst, ℕ, zero, suc, ◌+◌, ◌<◌, ◌≤◌, ◌⊎◌, inl, inr, Bool, true, false, cond, nat_le, List, [], ◌∷◌, ◌++◌, map, length, slice_get, Option, Some, None, Ok, Err, arith}
 use Rattle.std.proofs.lemmas.Bool.Decides.{nat_tests}
 use Rattle.um_tree.specs.TypeTree.{ShapeTree, bool_shape, num_shape, list_shape}
-use Rattle.um_tree.specs.ExprTree.{ExprTree, truth, number, local, call, negate, not_expr, arith as arith_tree, compare, both, either, if, bind, split, nil, list_expr, cons, record_expr, field}
+use Rattle.um_tree.specs.ExprTree.{ExprTree, truth, number, local, call, negate, not_expr, pown, arith as arith_tree, compare, both, either, if, bind, split, nil, list_expr, cons, record_expr, field}
 use Rattle.um_tree.specs.ProgramTree.{FunctionTree, ProgramTree}
 use Rattle.um_tree.specs.Shapes.{note_shape, ShapeSignature}
 use Rattle.um_shape.specs.RecordShapes.{RecordShape, shape_height, tallest}
@@ -28,6 +28,7 @@ module _ (records : List RecordShape) (callees : List ShapeSignature) where
   low_found vars (local at k) s e = low_node records at (slice_get vars k) s e
   low_found vars (call at j es) s e = let h = then_ok (all_found records callees vars es) _ s e in low_node records at (of_call (slice_get callees j) h.0) s h.2
   low_found vars (negate at a) s e = let h = then_ok (found records callees vars a) _ s e in low_node records at (where_true (same_shape h.0 num_shape) num_shape) s h.2
+  low_found vars (pown at a i) s e = let h = then_ok (found records callees vars a) _ s e in low_node records at (where_true (same_shape h.0 num_shape) num_shape) s h.2
   low_found vars (not_expr at a) s e = let h = then_ok (found records callees vars a) _ s e in low_node records at (where_true (same_shape h.0 bool_shape) bool_shape) s h.2
   low_found vars (arith_tree at op a b) s e =
       let h = then_ok (found records callees vars a) _ s e in

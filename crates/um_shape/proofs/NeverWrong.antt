@@ -1,17 +1,18 @@
 -- A call at values of its parameters' shapes is never wrong, and its value has the result's shape.
-use Rattle.std.proofs.Common.{◌≡◌, refl, sym, subst, ap, ◌∙◌, ℕ, zero, suc, ◌<◌, ◌≤◌, inl, inr, IsSome, true, false, cond, nat_eq, List, [], ◌∷◌, ◌++◌, map, length, Option, Some, None, Result, Ok, Err, slice_get, arith, rules}
+use Rattle.std.proofs.Common.{◌≡◌, refl, sym, subst, ap, ◌∙◌, ℕ, zero, suc, ◌<◌, ◌≤◌, inl, inr, IsSome, true, false, cond, nat_eq, List, [], ◌∷◌, ◌++◌, map, length, Option, Some, None, Result, Ok, Err, slice_get, ℤ, arith, rules}
 use Rattle.std.proofs.lemmas.List.{length-map}
 use Rattle.std.proofs.lemmas.Bool.Decides.{nat_tests}
 use Rattle.um_frac.specs.declared.number.Frac.{Frac}
 use Rattle.um_frac.specs.declared.number.Trap.{Trap}
+use Rattle.um_frac.specs.Arithmetic.{whole_power_of}
 use Rattle.um_tree.specs.TypeTree.{ShapeTree, bool_shape, num_shape, list_shape, record_shape}
 use Rattle.um_tree.specs.ValueTree.{ValueTree, ValueTrees, truth_value, number_value, list_value, record_value, no_values, more_values, values_in_order}
-use Rattle.um_tree.specs.ExprTree.{ExprTree, ExprTrees, truth, number, local, call, negate, not_expr, arith as arith_tree, compare, both, either, if, bind, split, nil, list_expr, cons, record_expr, field, none, more}
+use Rattle.um_tree.specs.ExprTree.{ExprTree, ExprTrees, truth, number, local, call, negate, not_expr, pown, arith as arith_tree, compare, both, either, if, bind, split, nil, list_expr, cons, record_expr, field, none, more}
 use Rattle.um_tree.specs.ProgramTree.{RecordTree, FunctionTree, ProgramTree}
 use Rattle.um_tree.specs.Typing.{field_types}
 use Rattle.um_tree.specs.Shapes.{type_shape, note_shape, ShapeSignature, EachShapeIs, HasShape, AllHaveShapes, CallShapes, ShapeAt, shapes_below, FunctionShape}
 use Rattle.um_tree.specs.InputType.{ValueHas, EachValueHas, ValuesHave}
-use Rattle.um_tree.specs.Meaning.{trap, budget_end, wrong, Out, gives, stops, then, Calling, spend, found, with_budget, number_result, arithmetic, calculated, compared, negated, not_of, longer, value_at, field_of, choose, on_list, means, all_mean, body_means, running, Outcome, end_of}
+use Rattle.um_tree.specs.Meaning.{trap, budget_end, wrong, Out, gives, stops, then, Calling, spend, found, with_budget, number_result, arithmetic, calculated, compared, negated, not_of, raised, longer, value_at, field_of, choose, on_list, means, all_mean, body_means, running, Outcome, end_of}
 use Rattle.um_tree.specs.declared.expression.Arith.{Arith}
 use Rattle.um_tree.specs.declared.expression.Sign.{Sign}
 use Rattle.um_tree.proofs.Below.{earlier_shapes_are}
@@ -125,6 +126,12 @@ module _ (records : List RecordTree) where
   negated_fine (list_value x) b h = let e : num_shape ≡ list_shape h.0 = h.2 in absurd cc
   negated_fine (record_value r x) b h = let e : num_shape ≡ record_shape r = h.3 in absurd cc
 
+  raised_fine : (i : ℤ) (v : ValueTree) (b : ℕ) → Has num_shape v → Fine (Has num_shape) b (with_budget (raised i v) b)
+  raised_fine i (number_value c) b h = result_fine (whole_power_of c i) b
+  raised_fine i (truth_value x) b h = absurd cc
+  raised_fine i (list_value x) b h = let e : num_shape ≡ list_shape h.0 = h.2 in absurd cc
+  raised_fine i (record_value r x) b h = let e : num_shape ≡ record_shape r = h.3 in absurd cc
+
   opposite_fine : (v : ValueTree) (b : ℕ) → Has bool_shape v → Fine (Has bool_shape) b (with_budget (not_of v) b)
   opposite_fine (truth_value x) b h = (refl, omega arith)
   opposite_fine (number_value c) b h = absurd cc
@@ -198,6 +205,8 @@ module _ (records : List RecordTree) where
           at_shape num_shape s b _ h.1 (fine_then (Has num_shape) (Has num_shape) b _ _ (fine vars x num_shape vs b l h.0 r) (λ v c k m. negated_fine v c k))
       fine vars (not_expr at x) s vs b l h r =
           at_shape bool_shape s b _ h.1 (fine_then (Has bool_shape) (Has bool_shape) b _ _ (fine vars x bool_shape vs b l h.0 r) (λ v c k m. opposite_fine v c k))
+      fine vars (pown at x i) s vs b l h r =
+          at_shape num_shape s b _ h.1 (fine_then (Has num_shape) (Has num_shape) b _ _ (fine vars x num_shape vs b l h.0 r) (λ v c k m. raised_fine i v c k))
       fine vars (arith_tree at op x y) s vs b l h r =
           at_shape num_shape s b _ h.2 (fine_then (Has num_shape) (Has num_shape) b _ _ (fine vars x num_shape vs b l h.0 r) (λ v c k m. fine_then (Has num_shape) (Has num_shape) c _ _ (fine vars y num_shape vs c (omega (arith, l, m)) h.1 r) (λ w d p q. calculated_fine op v w d k p)))
       fine vars (compare at sign x y) s vs b l h r =

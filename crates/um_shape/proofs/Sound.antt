@@ -1,7 +1,7 @@
 -- What is found of an expression is its shape.
 use Rattle.std.proofs.Common.{◌≡◌, refl, sym, ap, subst, ◌∙◌, ℕ, zero, suc, Bool, true, false, cond, nat_le, ◌&&◌, List, [], ◌∷◌, ◌++◌, map, slice_get, Option, Some, None, Result, Ok, Err}
 use Rattle.um_tree.specs.TypeTree.{TypeTree, ShapeTree, bool_shape, num_shape, list_shape, record_shape}
-use Rattle.um_tree.specs.ExprTree.{ExprTree, ExprTrees, truth, number, local, call, negate, not_expr, arith, compare, both, either, if, bind, split, nil, list_expr, cons, record_expr, field, none, more}
+use Rattle.um_tree.specs.ExprTree.{ExprTree, ExprTrees, truth, number, local, call, negate, not_expr, pown, arith, compare, both, either, if, bind, split, nil, list_expr, cons, record_expr, field, none, more}
 use Rattle.um_tree.specs.ProgramTree.{RecordTree}
 use Rattle.um_tree.specs.Typing.{field_types}
 use Rattle.um_tree.specs.Shapes.{type_shape, note_shape, ShapeSignature, EachShapeIs, HasShape, AllHaveShapes}
@@ -136,6 +136,10 @@ module _ (declared : List RecordTree) (records : List RecordShape) (alike : Alik
         let h = then_ok (found records callees vars a) _ s e in
         let w = where_true_is (same_shape h.0 bool_shape) bool_shape s (node_ok records at _ s h.2) in
         (has_as vars a h.0 bool_shape w.0 (sound vars a h.0 h.1), sym w.1)
+    sound vars (pown at a i) s e =
+        let h = then_ok (found records callees vars a) _ s e in
+        let w = where_true_is (same_shape h.0 num_shape) num_shape s (node_ok records at _ s h.2) in
+        (has_as vars a h.0 num_shape w.0 (sound vars a h.0 h.1), sym w.1)
     sound vars (arith at op a b) s e =
         let h = then_ok (found records callees vars a) _ s e in
         let k = then_ok (found records callees vars b) _ s h.2 in

@@ -1,7 +1,7 @@
 -- An expression has at most one shape, and a function its shapes in one way alone.
 use Rattle.std.proofs.Common.{◌≡◌, sym, subst, ap, ◌∙◌, ℕ, zero, suc, inl, inr, true, false, cond, nat_eq, List, [], ◌∷◌, ◌++◌, Option, Some, None, slice_get, IsSome, arith}
 use Rattle.um_tree.specs.TypeTree.{NoteTree, ShapeTree, list_shape}
-use Rattle.um_tree.specs.ExprTree.{ExprTree, ExprTrees, truth, number, local, call, negate, not_expr, arith as arith_tree, compare, both, either, if, bind, split, nil, list_expr, cons, record_expr, field, none, more}
+use Rattle.um_tree.specs.ExprTree.{ExprTree, ExprTrees, truth, number, local, call, negate, not_expr, pown, arith as arith_tree, compare, both, either, if, bind, split, nil, list_expr, cons, record_expr, field, none, more}
 use Rattle.um_tree.specs.ProgramTree.{RecordTree, FunctionTree, ProgramTree}
 use Rattle.um_tree.specs.Typing.{field_types}
 use Rattle.um_tree.specs.Shapes.{type_shape, ShapeSignature, HasShape, AllHaveShapes, EarlierShapes, CallShapes, ResultShape, IsShapeOf, ShapeAt, shapes_below}
@@ -22,6 +22,7 @@ module _ (records : List RecordTree) (calls others : ℕ → ShapeSignature → 
     unique vars (call at j es) s t m k = agree j (record { params = m.0; result = s }) (record { params = k.0; result = t }) m.2 k.2 (all_unique vars es m.0 k.0 m.1 k.1)
     unique vars (negate at a) s t m k = m.1 ∙ sym k.1
     unique vars (not_expr at a) s t m k = m.1 ∙ sym k.1
+    unique vars (pown at a i) s t m k = m.1 ∙ sym k.1
     unique vars (arith_tree at op a b) s t m k = m.2 ∙ sym k.2
     unique vars (compare at sign a b) s t m k = m.2 ∙ sym k.2
     unique vars (both at a b) s t m k = m.2 ∙ sym k.2

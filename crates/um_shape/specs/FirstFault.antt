@@ -5,9 +5,9 @@
 use Rattle.std.specs.Prelude.{ℕ, Bool, true, false, cond, ◌&&◌, nat_eq, nat_le, List, [], ◌∷◌, ◌++◌, map, slice_get}
 use Rattle.std.specs.Prelude.{Option, Some, None, Result, Ok, Err}
 use Rattle.um_tree.specs.TypeTree.{ShapeTree, bool_shape, num_shape, list_shape, record_shape, NoteTree}
-use Rattle.um_tree.specs.ExprTree.{ExprTree, ExprTrees, truth, number, local, call, negate, not_expr, arith, compare}
-use Rattle.um_tree.specs.ExprTree.{both, either, if, bind, split, nil, list_expr, cons, record_expr, field, none}
-use Rattle.um_tree.specs.ExprTree.{more}
+use Rattle.um_tree.specs.ExprTree.{ExprTree, ExprTrees, truth, number, local, call, negate, not_expr, pown, arith}
+use Rattle.um_tree.specs.ExprTree.{compare, both, either, if, bind, split, nil, list_expr, cons, record_expr, field}
+use Rattle.um_tree.specs.ExprTree.{none, more}
 use Rattle.um_tree.specs.ProgramTree.{RecordTree, FunctionTree, ProgramTree}
 use Rattle.um_tree.specs.Shapes.{note_shape, ShapeSignature}
 use Rattle.um_shape.specs.RecordShapes.{RecordShape, shape_height, tallest, declared_shape}
@@ -114,6 +114,8 @@ module _ (records : List RecordShape) (callees : List ShapeSignature) where
         then (found vars a) (λ s. at_node records at (where_true (same_shape s num_shape) num_shape))
     found vars (not_expr at a) =
         then (found vars a) (λ s. at_node records at (where_true (same_shape s bool_shape) bool_shape))
+    found vars (pown at a k) =
+        then (found vars a) (λ s. at_node records at (where_true (same_shape s num_shape) num_shape))
     found vars (arith at op a b) =
         then (found vars a) (λ s. then (found vars b) (λ t. at_node records at (of_numbers s t num_shape)))
     found vars (compare at sign a b) =

@@ -1,7 +1,7 @@
 -- The shapes that the code keeps: so many lists round an item. This mirrors the code; the shapes that they stand for
 -- are those of the definition.
 -- Source: this project's own.
-use Rattle.std.specs.Prelude.{ℕ, zero, suc, List, map, Result}
+use Rattle.std.specs.Prelude.{ℕ, zero, suc, List, map, Option, Result}
 use Rattle.um_tree.specs.TypeTree.{ShapeTree, bool_shape, num_shape, list_shape, record_shape}
 use Rattle.um_tree.specs.Shapes.{ShapeSignature}
 use Rattle.um_tree.specs.ProgramTree.{FunctionTree}
@@ -13,7 +13,10 @@ use Rattle.um_shape.specs.declared.known.KnownRecord.{KnownRecord}
 use Rattle.um_shape.specs.declared.known.Head.{Head}
 use Rattle.um_shape.specs.declared.known.Known.{Known}
 use Rattle.um_shape.specs.RecordShapes.{RecordShape}
-use Rattle.um_shape.specs.FirstFault.{ShapeFault, found, all_found, function_found, functions_found}
+use Rattle.um_shape.specs.declared.rules.PairRule.{PairRule}
+use Rattle.um_shape.specs.declared.rules.PairRule.TheVariants as pair
+use Rattle.um_shape.specs.FirstFault.{ShapeFault, found, all_found, function_found, functions_found, of_numbers}
+use Rattle.um_shape.specs.FirstFault.{of_truths, of_head}
 
 abbrev pub item_shape : Item → ShapeTree
 item_shape item.Bool = bool_shape
@@ -30,6 +33,12 @@ flat_shape f = in_lists f.lists (item_shape f.item)
 
 abbrev pub flat_shapes : List FlatShape → List ShapeTree
 flat_shapes fs = map flat_shape fs
+
+-- what the rule of a node of two parts gives
+abbrev pub of_pair : PairRule → ShapeTree → ShapeTree → Option ShapeTree
+of_pair (pair.Numbers whole) s t = of_numbers s t (flat_shape whole)
+of_pair pair.Truths s t = of_truths s t
+of_pair pair.HeadAndTail s t = of_head s t
 
 abbrev pub known_record : KnownRecord → RecordShape
 known_record r = record { fields = flat_shapes r.fields.items; height = r.height }

@@ -4,9 +4,9 @@ use Rattle.std.specs.Prelude.{◌≤◌, All, Option, Some, None}
 use Rattle.um_tree.specs.TypeTree.{NoteTree}
 use Rattle.um_tree.specs.ProgramTree.{RecordTree, FunctionTree}
 use Rattle.um_tree.specs.TreeHeights.{type_tree_height, note_tree_height}
-use Rattle.um_tree.specs.ExprTree.{ExprTree, ExprTrees, truth, number, local, call, negate, not_expr, arith, compare}
-use Rattle.um_tree.specs.ExprTree.{both, either, if, bind, split, nil, list_expr, cons, record_expr, field, none}
-use Rattle.um_tree.specs.ExprTree.{more}
+use Rattle.um_tree.specs.ExprTree.{ExprTree, ExprTrees, truth, number, local, call, negate, not_expr, pown, arith}
+use Rattle.um_tree.specs.ExprTree.{compare, both, either, if, bind, split, nil, list_expr, cons, record_expr, field}
+use Rattle.um_tree.specs.ExprTree.{none, more}
 
 abbrev mutual
   pub HasLowNotes : ExprTree → Type 0
@@ -16,6 +16,7 @@ abbrev mutual
   HasLowNotes (call at j es) = HaveLowNotes es
   HasLowNotes (negate at a) = HasLowNotes a
   HasLowNotes (not_expr at a) = HasLowNotes a
+  HasLowNotes (pown at a k) = HasLowNotes a
   HasLowNotes (arith at op a b) = HasLowNotes a × HasLowNotes b
   HasLowNotes (compare at sign a b) = HasLowNotes a × HasLowNotes b
   HasLowNotes (both at a b) = HasLowNotes a × HasLowNotes b

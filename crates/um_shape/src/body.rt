@@ -1,18 +1,16 @@
 //! The shape of an expression, or its first fault.
 ghost use Rattle.std.specs.Prelude.{◌≡◌, IfOk, map};
-ghost use Rattle.um_tree.specs.ExprTree.{expr_tree, in_order, both, if, bind, split, cons};
+ghost use Rattle.um_tree.specs.ExprTree.{expr_tree, in_order, if, bind, split};
 ghost use Rattle.um_shape.specs.LowNotes.{HasLowNotes, HaveLowNotes};
-ghost use Rattle.um_shape.specs.FirstFault.{same_shape, where_true, of_numbers, at_node, then};
-ghost use Rattle.um_shape.specs.FlatShapes.{flat_shape, flat_shapes, known_records, known_found, all_known_found};
+ghost use Rattle.um_shape.specs.FirstFault.{same_shape, where_true, at_node, then};
+ghost use Rattle.um_shape.specs.FlatShapes.{flat_shape, flat_shapes, of_pair, known_records, known_found, all_known_found};
 ghost use Rattle.um_shape.specs.Stops.{IsFound, AreFound};
 
 use crate::ShapeStop;
 use crate::flat::FlatShape;
 use crate::known::Known;
 use crate::lookup::shape_at;
-use crate::rules::{
-    item_of, itself, of_arms, of_condition, of_head, of_list, of_numbers, of_truths,
-};
+use crate::rules::{PairRule, item_of, itself, of_arms, of_condition, of_list, of_pair};
 use std::alloc::Global;
 use um_tree::{Expr, Node};
 
@@ -52,12 +50,22 @@ pub(crate) fn shape_of(
             let part = shape_of(alloc, known, scope, a)?;
             known.at_node(at, known.field(*r, *k, part))
         }
-        Node::Neg(a) => asked_shape(alloc, known, scope, at, a, FlatShape::number()),
+        Node::Neg(a) | Node::Pow(a, _) => {
+            asked_shape(alloc, known, scope, at, a, FlatShape::number())
+        }
         Node::Not(a) => asked_shape(alloc, known, scope, at, a, FlatShape::truth()),
-        Node::Arith(_, a, b) => numbers_shape(alloc, known, scope, at, a, b, FlatShape::number()),
-        Node::Compare(_, a, b) => numbers_shape(alloc, known, scope, at, a, b, FlatShape::truth()),
-        Node::And(a, b) | Node::Or(a, b) => truths_shape(alloc, known, scope, at, a, b),
-        Node::Cons(a, b) => cons_shape(alloc, known, scope, at, a, b),
+        Node::Arith(_, a, b) => {
+            let rule = PairRule::Numbers(FlatShape::number());
+            pair_shape(alloc, known, scope, at, a, b, rule)
+        }
+        Node::Compare(_, a, b) => {
+            let rule = PairRule::Numbers(FlatShape::truth());
+            pair_shape(alloc, known, scope, at, a, b, rule)
+        }
+        Node::And(a, b) | Node::Or(a, b) => {
+            pair_shape(alloc, known, scope, at, a, b, PairRule::Truths)
+        }
+        Node::Cons(a, b) => pair_shape(alloc, known, scope, at, a, b, PairRule::HeadAndTail),
         Node::If(c, a, b) => if_shape(alloc, known, scope, at, c, a, b),
         Node::Let(a, b) => let_shape(alloc, known, scope, at, a, b),
         Node::Match(l, a, b) => match_shape(alloc, known, scope, at, l, a, b),
@@ -85,67 +93,27 @@ fn asked_shape(
     known.at_node(at, itself(part, asked))
 }
 
-/// The whole of two numbers.
+/// The whole of two parts, by the rule of their node.
 #[cycle(body)]
-fn numbers_shape(
+fn pair_shape(
     alloc: Global,
     known: &Known,
     scope: &mut Vec<FlatShape>,
     at: u32,
     a: &Expr,
     b: &Expr,
-    whole: FlatShape,
+    rule: PairRule,
 ) -> Result<FlatShape, ShapeStop>
     requires low { HasLowNotes (expr_tree a.now) × HasLowNotes (expr_tree b.now) }
     ensures found { IsFound result
         (then (known_found known.now scope.old.items (expr_tree a.now))
         (λ s. then (known_found known.now scope.old.items (expr_tree b.now))
-        (λ t. at_node (known_records known.now.records.items) at (of_numbers s t (flat_shape whole))))) }
+        (λ t. at_node (known_records known.now.records.items) at (of_pair rule s t)))) }
     ensures scope { IfOk result (λ _. scope.new.items ≡ scope.old.items) }
 {
     let left = shape_of(alloc, known, scope, a)?;
     let right = shape_of(alloc, known, scope, b)?;
-    known.at_node(at, of_numbers(left, right, whole))
-}
-
-/// The shape of `&&` and of `||`.
-#[cycle(body)]
-fn truths_shape(
-    alloc: Global,
-    known: &Known,
-    scope: &mut Vec<FlatShape>,
-    at: u32,
-    a: &Expr,
-    b: &Expr,
-) -> Result<FlatShape, ShapeStop>
-    requires low { HasLowNotes (expr_tree a.now) × HasLowNotes (expr_tree b.now) }
-    ensures found { IsFound result
-        (known_found known.now scope.old.items (both at (expr_tree a.now) (expr_tree b.now))) }
-    ensures scope { IfOk result (λ _. scope.new.items ≡ scope.old.items) }
-{
-    let left = shape_of(alloc, known, scope, a)?;
-    let right = shape_of(alloc, known, scope, b)?;
-    known.at_node(at, of_truths(left, right))
-}
-
-/// The shape of `::`.
-#[cycle(body)]
-fn cons_shape(
-    alloc: Global,
-    known: &Known,
-    scope: &mut Vec<FlatShape>,
-    at: u32,
-    a: &Expr,
-    b: &Expr,
-) -> Result<FlatShape, ShapeStop>
-    requires low { HasLowNotes (expr_tree a.now) × HasLowNotes (expr_tree b.now) }
-    ensures found { IsFound result
-        (known_found known.now scope.old.items (cons at (expr_tree a.now) (expr_tree b.now))) }
-    ensures scope { IfOk result (λ _. scope.new.items ≡ scope.old.items) }
-{
-    let head = shape_of(alloc, known, scope, a)?;
-    let tail = shape_of(alloc, known, scope, b)?;
-    known.at_node(at, of_head(head, tail))
+    known.at_node(at, of_pair(rule, left, right))
 }
 
 /// The shape of a condition and its arms.

@@ -3,12 +3,34 @@ ghost use Rattle.std.specs.Prelude.{◌≡◌};
 ghost use Rattle.std.specs.Option.{option_map};
 ghost use Rattle.um_shape.specs.FirstFault.{same_shape, where_true, of_numbers, of_truths, of_arms, of_condition};
 ghost use Rattle.um_shape.specs.FirstFault.{of_list, of_head, item_of};
-ghost use Rattle.um_shape.specs.FlatShapes.{flat_shape};
+ghost use Rattle.um_shape.specs.FlatShapes.{flat_shape, of_pair};
 ghost use Rattle.um_shape.specs.Stops.{IsFound};
 ghost use Rattle.um_tree.specs.TypeTree.{bool_shape};
 
 use crate::ShapeStop;
 use crate::flat::FlatShape;
+
+/// What a node asks of the shapes of its two parts.
+#[derive(Clone, Copy)]
+pub(crate) enum PairRule {
+    /// Two numbers, whose whole has this shape
+    Numbers(FlatShape),
+    /// Two truth values, whose whole is one
+    Truths,
+    /// A head before its tail, whose whole has the tail's shape
+    HeadAndTail,
+}
+
+/// The shape of the whole, where the two parts have the shapes that the rule asks for.
+pub(crate) fn of_pair(rule: PairRule, a: FlatShape, b: FlatShape) -> Option<FlatShape>
+    ensures { option_map flat_shape result ≡ of_pair rule (flat_shape a) (flat_shape b) }
+{
+    match rule {
+        PairRule::Numbers(whole) => of_numbers(a, b, whole),
+        PairRule::Truths => of_truths(a, b),
+        PairRule::HeadAndTail => of_head(a, b),
+    }
+}
 
 /// The shape itself, where a part of this shape is asked for.
 pub(crate) fn itself(part: FlatShape, asked: FlatShape) -> Option<FlatShape>
@@ -19,7 +41,7 @@ pub(crate) fn itself(part: FlatShape, asked: FlatShape) -> Option<FlatShape>
 }
 
 /// The whole, where both parts are numbers.
-pub(crate) fn of_numbers(a: FlatShape, b: FlatShape, whole: FlatShape) -> Option<FlatShape>
+fn of_numbers(a: FlatShape, b: FlatShape, whole: FlatShape) -> Option<FlatShape>
     ensures { option_map flat_shape result ≡ of_numbers (flat_shape a) (flat_shape b) (flat_shape whole) }
 {
     let number = FlatShape::number();
@@ -27,7 +49,7 @@ pub(crate) fn of_numbers(a: FlatShape, b: FlatShape, whole: FlatShape) -> Option
 }
 
 /// A truth value, where both parts are truth values.
-pub(crate) fn of_truths(a: FlatShape, b: FlatShape) -> Option<FlatShape>
+fn of_truths(a: FlatShape, b: FlatShape) -> Option<FlatShape>
     ensures { option_map flat_shape result ≡ of_truths (flat_shape a) (flat_shape b) }
 {
     let truth = FlatShape::truth();
@@ -56,7 +78,7 @@ pub(crate) fn of_list(shape: FlatShape) -> Option<FlatShape>
 }
 
 /// The tail's shape, where it is a list of such heads.
-pub(crate) fn of_head(head: FlatShape, tail: FlatShape) -> Option<FlatShape>
+fn of_head(head: FlatShape, tail: FlatShape) -> Option<FlatShape>
     ensures { option_map flat_shape result ≡ of_head (flat_shape head) (flat_shape tail) }
 {
     tail.is_list_of(head).then_some(tail)

@@ -1,5 +1,5 @@
 -- Pieces that may stand one behind the other, so that each is a token of its own, or white space.
-use Rattle.std.proofs.Common.{◌≡◌, ℕ, ◌<◌, ◌≤◌, Bool, true, false, ◌==◌, ◌||◌, ◌&&◌, not, List, [], ◌∷◌, ◌++◌, length, append_assoc, sym, subst}
+use Rattle.std.proofs.Common.{◌≡◌, ℕ, ◌≤◌, Bool, true, false, ◌==◌, ◌||◌, ◌&&◌, not, List, [], ◌∷◌, ◌++◌, append_assoc, sym, subst}
 use Rattle.std.specs.Prelude.{pos}
 use Rattle.std.specs.Char.{is_ascii_digit}
 use Rattle.std.specs.Str.{encode_utf8_all, all_scalars}

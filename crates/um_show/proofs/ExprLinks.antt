@@ -1,5 +1,6 @@
 -- The layout of an expression whose tokens are those of some text is a chain of pieces.
-use Rattle.std.proofs.Common.{◌≡◌, ℕ, ◌<◌, Bool, true, false, List, [], ◌∷◌, ◌++◌, length, Option, Some, None, refl, subst, ⊎_elim}
+use Rattle.std.proofs.Common.{◌≡◌, ℕ, zero, suc, ◌≤◌, ℤ, pos, Bool, true, false, List, [], ◌∷◌, ◌++◌, Option, Some, None, refl, sym, subst, ⊎_elim}
+use Rattle.std.specs.Prelude.{neg_ℤ}
 use Rattle.um_syntax.specs.declared.token.Token.{Token}
 use Rattle.um_syntax.specs.declared.token.Kind.{Kind}
 use Rattle.um_syntax.specs.declared.vocabulary.Keyword.{Keyword}
@@ -8,15 +9,15 @@ use Rattle.um_tree.specs.declared.expression.Arith.{Arith}
 use Rattle.um_tree.specs.declared.expression.Arith.TheVariants as arith_of
 use Rattle.um_tree.specs.declared.expression.Sign.{Sign}
 use Rattle.um_tree.specs.declared.expression.Sign.TheVariants as compare
-use Rattle.um_tree.specs.RawTree.{NoteSyntax, TypeSyntax, BinderSyntax, ExprSyntax, ExprSyntaxes, FieldSyntaxes, truth_syntax, number_syntax, name_syntax, call_syntax, negate_syntax, not_syntax, arith_syntax, compare_syntax, and_syntax, or_syntax, if_syntax, let_syntax, match_syntax, nil_syntax, list_syntax, cons_syntax, fields_syntax, field_syntax, bracket_expr_syntax, no_exprs, more_exprs, no_fields, more_fields}
+use Rattle.um_tree.specs.RawTree.{NoteSyntax, TypeSyntax, BinderSyntax, ExprSyntax, ExprSyntaxes, FieldSyntaxes, truth_syntax, number_syntax, name_syntax, call_syntax, negate_syntax, not_syntax, pown_syntax, arith_syntax, compare_syntax, and_syntax, or_syntax, if_syntax, let_syntax, match_syntax, nil_syntax, list_syntax, cons_syntax, fields_syntax, field_syntax, bracket_expr_syntax, no_exprs, more_exprs, no_fields, more_fields}
 use Rattle.um_expr.specs.declared.infix.Infix.{Infix}
 use Rattle.um_expr.specs.declared.infix.Infix.TheVariants as infix_of
 use Rattle.um_expr.specs.ExprTokens.{expr_token}
-use Rattle.um_expr.specs.ExprGrammar.{ends_in_number, bound, BinderSpells, InfixAt, WrittenNote, EmptyArm, NilSpells, Spells, AllSpell, ItemsSpell, MoreItems, FieldsSpell, MoreFields, NoteFitsIn, Fits, AreAtoms, AllFit, FieldsFit}
+use Rattle.um_expr.specs.ExprGrammar.{bound, BinderSpells, InfixAt, WrittenNote, EmptyArm, FirstPower, PowerSpells, NilSpells, Spells, AllSpell, ItemsSpell, MoreItems, FieldsSpell, MoreFields, NoteFitsIn, Fits, AreAtoms, AllFit, FieldsFit}
 use Rattle.um_show.specs.Pieces.{Piece, name, word, space, equal, dot, bar, double_bar, double_and, double_colon, arrow, in_word, if_word, match_word, then_word, else_word, with_word, list_open, list_close, bracket_close, record_close}
-use Rattle.um_show.specs.Layout.{written_pieces, type_pieces, bound_piece, binder_piece, truth_piece, arith_piece, compare_pieces, expr_pieces, argument_pieces, item_pieces, more_item_pieces, field_pieces, more_field_pieces}
+use Rattle.um_show.specs.Layout.{written_pieces, type_pieces, bound_piece, binder_piece, truth_piece, arith_piece, compare_pieces, whole_power_pieces, expr_pieces, argument_pieces, item_pieces, more_item_pieces, field_pieces, more_field_pieces}
 use Rattle.um_show.proofs.Chain.{Place, fresh, full, Good, Chain, regroup}
-use Rattle.um_show.proofs.GoodTokens.{AllGood, GoodKind, first_good, name_good, number_good}
+use Rattle.um_show.proofs.GoodTokens.{AllGood, GoodKind, first_good, name_good, number_good, power_good}
 use Rattle.um_show.proofs.UnitLinks.{Linked, linked_all, link}
 use Rattle.um_show.proofs.TypeLinks.{angle_links, type_links}
 
@@ -44,17 +45,17 @@ spaced_compare compare.Ge ps c = (tt, refl, (tt, refl, (tt, refl, (tt, refl, c))
 
 -- ---- tokens
 
-infix_behind : (sign : Infix) (after : Bool) (at : ℕ) (tokens rest : List Token) → InfixAt sign after at tokens rest → AllGood tokens → AllGood rest
-infix_behind infix_of.Or after at tokens rest s h = (first_good tokens rest s.0 s.3 h).1
-infix_behind infix_of.And after at tokens rest s h = (first_good tokens rest s.0 s.3 h).1
-infix_behind infix_of.Cons after at tokens rest s h = (first_good tokens rest s.0 s.3 h).1
-infix_behind (infix_of.Arith op) after at tokens rest s h = (first_good tokens rest s.0 s.3 h).1
-infix_behind (infix_of.Compare compare.Lt) after at tokens rest s h = (first_good tokens rest s.0 s.4 h).1
-infix_behind (infix_of.Compare compare.Le) after at tokens rest s h = (first_good tokens rest s.0 s.3 h).1
-infix_behind (infix_of.Compare compare.Eq) after at tokens rest s h = (first_good tokens rest s.0 s.3 h).1
-infix_behind (infix_of.Compare compare.Ne) after at tokens rest s h = (first_good tokens rest s.0 s.3 h).1
-infix_behind (infix_of.Compare compare.Gt) after at tokens rest s h = (first_good tokens rest s.0 s.3 h).1
-infix_behind (infix_of.Compare compare.Ge) after at tokens rest s h = (first_good s.0 rest s.2.0 s.2.3 (first_good tokens s.0 s.1.0 s.1.3 h).1).1
+infix_behind : (sign : Infix) (left : List Token) (at : ℕ) (tokens rest : List Token) → InfixAt sign left at tokens rest → AllGood tokens → AllGood rest
+infix_behind infix_of.Or left at tokens rest s h = (first_good tokens rest s.0 s.3 h).1
+infix_behind infix_of.And left at tokens rest s h = (first_good tokens rest s.0 s.3 h).1
+infix_behind infix_of.Cons left at tokens rest s h = (first_good tokens rest s.0 s.3 h).1
+infix_behind (infix_of.Arith op) left at tokens rest s h = (first_good tokens rest s.0 s.3 h).1
+infix_behind (infix_of.Compare compare.Lt) left at tokens rest s h = (first_good tokens rest s.0 s.4 h).1
+infix_behind (infix_of.Compare compare.Le) left at tokens rest s h = (first_good tokens rest s.0 s.3 h).1
+infix_behind (infix_of.Compare compare.Eq) left at tokens rest s h = (first_good tokens rest s.0 s.3 h).1
+infix_behind (infix_of.Compare compare.Ne) left at tokens rest s h = (first_good tokens rest s.0 s.3 h).1
+infix_behind (infix_of.Compare compare.Gt) left at tokens rest s h = (first_good tokens rest s.0 s.3 h).1
+infix_behind (infix_of.Compare compare.Ge) left at tokens rest s h = (first_good s.0 rest s.2.0 s.2.3 (first_good tokens s.0 s.1.0 s.1.3 h).1).1
 
 bound_good : (o : Option (List ℕ)) (k : Kind) → expr_token k ≡ bound o → GoodKind k → Good (bound_piece o)
 bound_good None k e h = tt
@@ -78,6 +79,22 @@ truth_chain false g = (tt, refl, refl)
 written_links : (n : Option NoteSyntax) (tokens rest : List Token) → WrittenNote n tokens rest → NoteFitsIn n → AllGood tokens → Linked full (written_pieces n) full rest
 written_links None tokens rest s f h = linked_all tokens rest s h
 written_links (Some n) tokens rest s f h = angle_links n tokens s.0 s.1 rest s.2.0 s.4.0 s.2.3 s.3 s.4.2 f h
+
+negative_power_links : (n : ℕ) (rest : List Token) → n ≤ 2147483647 → AllGood rest → Linked (fresh false false) (whole_power_pieces (neg_ℤ (pos n))) full rest
+negative_power_links zero rest low h = record { chain = (low, refl, refl); good = h }
+negative_power_links (suc n) rest low h = record { chain = (tt, refl, (tt, refl, (low, refl, (tt, refl, refl)))); good = h }
+
+first_power_good : (n : ℕ) (tokens rest : List Token) → FirstPower n tokens rest → AllGood tokens → (n ≤ 2147483647) × AllGood rest
+first_power_good n tokens rest s h = (power_good s.0.kind n s.1, (first_good tokens rest s.0 s.2 h).1)
+
+power_links : (k : ℤ) (tokens rest : List Token) → PowerSpells k tokens rest → AllGood tokens → Linked (fresh false false) (whole_power_pieces k) full rest
+power_links k tokens rest s h =
+    ⊎_elim
+    (λ p. let d = first_power_good p.0 tokens rest p.2 h in subst (λ z. Linked (fresh false false) (whole_power_pieces z) full rest) (sym p.1) (record { chain = (d.0, refl, refl); good = d.1 }))
+    (λ m.
+    let behind = (first_good m.1 m.2 m.6.0 m.6.2 (first_good tokens m.1 m.5.0 m.5.2 h).1).1 in let d = first_power_good m.0 m.2 m.3 m.7 behind in
+    subst (λ z. Linked (fresh false false) (whole_power_pieces z) full rest) (sym m.4) (negative_power_links m.0 rest d.0 (first_good m.3 rest m.8.0 m.8.2 d.1).1))
+    s
 
 empty_arm_behind : (tokens rest : List Token) → EmptyArm tokens rest → AllGood tokens → AllGood rest
 empty_arm_behind tokens rest s h =
@@ -126,20 +143,23 @@ mutual
       let r = expr_links e s.0 rest s.2 f.1 (first_good tokens s.0 s.1.0 s.1.3 h).1 true in record { chain = (tt, refl, r.chain); good = r.good }
   expr_links (not_syntax at e) tokens rest s f h g =
       let r = expr_links e s.0 rest s.2 f.1 (first_good tokens s.0 s.1.0 s.1.3 h).1 false in record { chain = (tt, refl, (tt, refl, r.chain)); good = r.good }
+  expr_links (pown_syntax at e k) tokens rest s f h g =
+      let r = expr_links e s.0 s.1 s.3 f.1 (first_good tokens s.0 s.2.0 s.2.3 h).1 false in let q = power_links k s.1 rest s.4 r.good in
+      record { chain = (tt, refl, (tt, refl, link (expr_pieces e) (space ∷ whole_power_pieces k) false false r.chain (tt, refl, q.chain))); good = q.good }
   expr_links (arith_syntax at op a b) tokens rest s f h g =
-      let r = expr_links a tokens s.0 s.2 f.2 h g in let q = expr_links b s.1 rest s.4 f.3 (infix_behind (infix_of.Arith op) (ends_in_number a) at s.0 s.1 s.3 r.good) false in
+      let r = expr_links a tokens s.0 s.2 f.2 h g in let q = expr_links b s.1 rest s.4 f.3 (infix_behind (infix_of.Arith op) tokens at s.0 s.1 s.3 r.good) false in
       record { chain = regroup (expr_pieces a) (space ∷ arith_piece op ∷ []) (space ∷ expr_pieces b) (fresh g false) full (link (expr_pieces a) (space ∷ arith_piece op ∷ space ∷ expr_pieces b) g false r.chain (spaced_arith op (expr_pieces b) q.chain)); good = q.good }
   expr_links (compare_syntax at sign a b) tokens rest s f h g =
-      let r = expr_links a tokens s.0 s.2 f.2 h g in let q = expr_links b s.1 rest s.4 f.3 (infix_behind (infix_of.Compare sign) (ends_in_number a) at s.0 s.1 s.3 r.good) false in
+      let r = expr_links a tokens s.0 s.2 f.2 h g in let q = expr_links b s.1 rest s.4 f.3 (infix_behind (infix_of.Compare sign) tokens at s.0 s.1 s.3 r.good) false in
       record { chain = regroup (expr_pieces a) (space ∷ compare_pieces sign) (space ∷ expr_pieces b) (fresh g false) full (link (expr_pieces a) (space ∷ compare_pieces sign ++ space ∷ expr_pieces b) g false r.chain (spaced_compare sign (expr_pieces b) q.chain)); good = q.good }
   expr_links (and_syntax at a b) tokens rest s f h g =
-      let r = expr_links a tokens s.0 s.2 f.2 h g in let q = expr_links b s.1 rest s.4 f.3 (infix_behind infix_of.And (ends_in_number a) at s.0 s.1 s.3 r.good) false in
+      let r = expr_links a tokens s.0 s.2 f.2 h g in let q = expr_links b s.1 rest s.4 f.3 (infix_behind infix_of.And tokens at s.0 s.1 s.3 r.good) false in
       record { chain = regroup (expr_pieces a) (space ∷ double_and ∷ []) (space ∷ expr_pieces b) (fresh g false) full (link (expr_pieces a) (space ∷ double_and ∷ space ∷ expr_pieces b) g false r.chain (tt, refl, (tt, refl, (tt, refl, q.chain)))); good = q.good }
   expr_links (or_syntax at a b) tokens rest s f h g =
-      let r = expr_links a tokens s.0 s.2 f.2 h g in let q = expr_links b s.1 rest s.4 f.3 (infix_behind infix_of.Or (ends_in_number a) at s.0 s.1 s.3 r.good) false in
+      let r = expr_links a tokens s.0 s.2 f.2 h g in let q = expr_links b s.1 rest s.4 f.3 (infix_behind infix_of.Or tokens at s.0 s.1 s.3 r.good) false in
       record { chain = regroup (expr_pieces a) (space ∷ double_bar ∷ []) (space ∷ expr_pieces b) (fresh g false) full (link (expr_pieces a) (space ∷ double_bar ∷ space ∷ expr_pieces b) g false r.chain (tt, refl, (tt, refl, (tt, refl, q.chain)))); good = q.good }
   expr_links (cons_syntax at a b) tokens rest s f h g =
-      let r = expr_links a tokens s.0 s.2 f.2 h g in let q = expr_links b s.1 rest s.4 f.3 (infix_behind infix_of.Cons (ends_in_number a) at s.0 s.1 s.3 r.good) false in
+      let r = expr_links a tokens s.0 s.2 f.2 h g in let q = expr_links b s.1 rest s.4 f.3 (infix_behind infix_of.Cons tokens at s.0 s.1 s.3 r.good) false in
       record { chain = regroup (expr_pieces a) (space ∷ double_colon ∷ []) (space ∷ expr_pieces b) (fresh g false) full (link (expr_pieces a) (space ∷ double_colon ∷ space ∷ expr_pieces b) g false r.chain (tt, refl, (tt, refl, (tt, refl, q.chain)))); good = q.good }
   expr_links (if_syntax at c a b) tokens rest s f h g =
       let o = expr_links c s.0 s.1 s.6 f.0 (first_good tokens s.0 s.5.0 s.5.3 h).1 false in

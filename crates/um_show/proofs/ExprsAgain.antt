@@ -1,19 +1,20 @@
 -- The tokens of the layout of an expression are those of the same expression, places aside.
-use Rattle.std.proofs.Common.{◌≡◌, ℕ, ◌≤◌, ◌<◌, Bool, true, false, List, [], ◌∷◌, ◌++◌, Option, Some, None, refl, sym, ap, ◌∙◌, subst, inl}
+use Rattle.std.proofs.Common.{◌≡◌, ℕ, suc, ◌≤◌, ◌<◌, ℤ, pos, negsuc, Bool, true, false, List, [], ◌∷◌, ◌++◌, Option, Some, None, refl, sym, ap, ◌∙◌, subst, inl, inr}
 use Rattle.um_syntax.specs.declared.token.Token.{Token}
 use Rattle.um_tree.specs.declared.expression.Arith.{Arith}
 use Rattle.um_tree.specs.declared.expression.Arith.TheVariants as arith
 use Rattle.um_tree.specs.declared.expression.Sign.{Sign}
 use Rattle.um_tree.specs.declared.expression.Sign.TheVariants as compare
-use Rattle.um_tree.specs.RawTree.{NoteSyntax, BinderSyntax, ExprSyntax, ExprSyntaxes, FieldSyntaxes, truth_syntax, number_syntax, name_syntax, call_syntax, negate_syntax, not_syntax, arith_syntax, compare_syntax, and_syntax, or_syntax, if_syntax, let_syntax, match_syntax, nil_syntax, list_syntax, cons_syntax, fields_syntax, field_syntax, bracket_expr_syntax, no_exprs, more_exprs, no_fields, more_fields}
+use Rattle.um_tree.specs.RawTree.{NoteSyntax, BinderSyntax, ExprSyntax, ExprSyntaxes, FieldSyntaxes, truth_syntax, number_syntax, name_syntax, call_syntax, negate_syntax, not_syntax, pown_syntax, arith_syntax, compare_syntax, and_syntax, or_syntax, if_syntax, let_syntax, match_syntax, nil_syntax, list_syntax, cons_syntax, fields_syntax, field_syntax, bracket_expr_syntax, no_exprs, more_exprs, no_fields, more_fields}
+use Rattle.um_types.specs.UnitMachine.{power_in}
 use Rattle.um_expr.specs.declared.infix.Infix.TheVariants as between_of
 use Rattle.um_expr.specs.ExprTokens.{expr_token}
 use Rattle.um_expr.specs.Ranks.{arith_rank}
-use Rattle.um_expr.specs.ExprGrammar.{BinderSpells, InfixAt, WrittenNote, Spells, AllSpell, MoreItems, MoreFields, NoteFitsIn, IsAny, Fits, AreAtoms, AllFit, FieldsFit, rank, ends_in_number}
-use Rattle.um_show.specs.Pieces.{Piece, space, name, less, greater, equal, at_most, unequal, plus, minus, times, over, double_and, double_bar, double_colon, true_word, false_word, if_word, then_word, else_word, let_word, in_word, match_word, with_word, not_word, bar, arrow, dot, semi, colon, bracket_open, bracket_close, list_open, list_close, record_open, record_close}
-use Rattle.um_show.specs.Layout.{written_pieces, type_pieces, note_pieces, bound_piece, binder_piece, truth_piece, arith_piece, compare_pieces, between, expr_pieces, argument_pieces, item_pieces, more_item_pieces, field_pieces, more_field_pieces}
+use Rattle.um_expr.specs.ExprGrammar.{BinderSpells, InfixAt, WrittenNote, PowerSpells, Spells, AllSpell, MoreItems, MoreFields, NoteFitsIn, IsAny, Fits, AreAtoms, AllFit, FieldsFit, rank}
+use Rattle.um_show.specs.Pieces.{Piece, space, name, digits, less, greater, equal, at_most, unequal, plus, minus, times, over, double_and, double_bar, double_colon, true_word, false_word, if_word, then_word, else_word, let_word, in_word, match_word, with_word, not_word, pown_word, bar, arrow, dot, semi, colon, bracket_open, bracket_close, list_open, list_close, record_open, record_close}
+use Rattle.um_show.specs.Layout.{written_pieces, type_pieces, note_pieces, bound_piece, binder_piece, truth_piece, arith_piece, compare_pieces, whole_power_pieces, between, expr_pieces, argument_pieces, item_pieces, more_item_pieces, field_pieces, more_field_pieces}
 use Rattle.um_show.specs.Unplaced.{bare_written, bare_binder, bare_expr, bare_exprs, bare_fields}
-use Rattle.um_show.proofs.PieceTokens.{PieceSpells, PiecesSpell, both, only}
+use Rattle.um_show.proofs.PieceTokens.{PieceSpells, PiecesSpell, both, only, power_token}
 use Rattle.um_show.proofs.TypesAgain.{note_again, type_again}
 
 pub record ExprAgain (e : ExprSyntax) (tokens rest : List Token) : Type 0 where
@@ -83,21 +84,21 @@ parted xs signs ys g tokens h rest s =
     let b = both (xs ++ space ∷ signs) (space ∷ ys) g tokens h rest s in let c = both xs (space ∷ signs) g tokens b.flag b.next b.here in
     record { flag = c.flag; behind = b.flag; mid = c.next; next = b.next; left = c.here; middle = past signs c.flag c.next b.flag b.next c.later; right = past ys b.flag b.next h rest b.later }
 
-arith_sign : (op : Arith) (tokens : List Token) (h : Bool) (rest : List Token) → PiecesSpell (arith_piece op ∷ []) false tokens h rest → (at : ℕ) × ((after : Bool) → InfixAt (between_of.Arith op) after at tokens rest)
-arith_sign arith.Add tokens h rest s = let o = only plus false tokens h rest s in (o.token.start, λ after. (o.token, ap expr_token o.kind, refl, o.first))
-arith_sign arith.Sub tokens h rest s = let o = only minus false tokens h rest s in (o.token.start, λ after. (o.token, ap expr_token o.kind, refl, o.first))
-arith_sign arith.Mul tokens h rest s = let o = only times false tokens h rest s in (o.token.start, λ after. (o.token, ap expr_token o.kind, refl, o.first))
-arith_sign arith.Div tokens h rest s = let o = only over false tokens h rest s in (o.token.start, λ after. (o.token, ap expr_token o.kind, refl, o.first))
+arith_sign : (op : Arith) (tokens : List Token) (h : Bool) (rest : List Token) → PiecesSpell (arith_piece op ∷ []) false tokens h rest → (at : ℕ) × ((left : List Token) → InfixAt (between_of.Arith op) left at tokens rest)
+arith_sign arith.Add tokens h rest s = let o = only plus false tokens h rest s in (o.token.start, λ left. (o.token, ap expr_token o.kind, refl, o.first))
+arith_sign arith.Sub tokens h rest s = let o = only minus false tokens h rest s in (o.token.start, λ left. (o.token, ap expr_token o.kind, refl, o.first))
+arith_sign arith.Mul tokens h rest s = let o = only times false tokens h rest s in (o.token.start, λ left. (o.token, ap expr_token o.kind, refl, o.first))
+arith_sign arith.Div tokens h rest s = let o = only over false tokens h rest s in (o.token.start, λ left. (o.token, ap expr_token o.kind, refl, o.first))
 
-compare_sign : (sg : Sign) (tokens : List Token) (h : Bool) (rest : List Token) → PiecesSpell (compare_pieces sg) false tokens h rest → (at : ℕ) × ((after : Bool) → InfixAt (between_of.Compare sg) after at tokens rest)
-compare_sign compare.Lt tokens h rest s = let o = only less false tokens h rest s in (o.token.start, λ after. (o.token, ap expr_token o.kind, refl, (λ e. o.gap), o.first))
-compare_sign compare.Le tokens h rest s = let o = only at_most false tokens h rest s in (o.token.start, λ after. (o.token, ap expr_token o.kind, refl, o.first))
-compare_sign compare.Eq tokens h rest s = let o = only equal false tokens h rest s in (o.token.start, λ after. (o.token, ap expr_token o.kind, refl, o.first))
-compare_sign compare.Ne tokens h rest s = let o = only unequal false tokens h rest s in (o.token.start, λ after. (o.token, ap expr_token o.kind, refl, o.first))
-compare_sign compare.Gt tokens h rest s = let o = only greater false tokens h rest s in (o.token.start, λ after. (o.token, ap expr_token o.kind, refl, o.first))
+compare_sign : (sg : Sign) (tokens : List Token) (h : Bool) (rest : List Token) → PiecesSpell (compare_pieces sg) false tokens h rest → (at : ℕ) × ((left : List Token) → InfixAt (between_of.Compare sg) left at tokens rest)
+compare_sign compare.Lt tokens h rest s = let o = only less false tokens h rest s in (o.token.start, λ left. (o.token, ap expr_token o.kind, refl, (λ e. o.gap), o.first))
+compare_sign compare.Le tokens h rest s = let o = only at_most false tokens h rest s in (o.token.start, λ left. (o.token, ap expr_token o.kind, refl, o.first))
+compare_sign compare.Eq tokens h rest s = let o = only equal false tokens h rest s in (o.token.start, λ left. (o.token, ap expr_token o.kind, refl, o.first))
+compare_sign compare.Ne tokens h rest s = let o = only unequal false tokens h rest s in (o.token.start, λ left. (o.token, ap expr_token o.kind, refl, o.first))
+compare_sign compare.Gt tokens h rest s = let o = only greater false tokens h rest s in (o.token.start, λ left. (o.token, ap expr_token o.kind, refl, o.first))
 compare_sign compare.Ge tokens h rest s =
     let o = s.here in let e = only equal s.flag s.next h rest s.later in
-    (o.token.start, λ after. (s.next, (o.token, ap expr_token o.kind, refl, o.first), (e.token, ap expr_token e.kind, e.gap ∙ o.open_end, e.first)))
+    (o.token.start, λ left. (s.next, (o.token, ap expr_token o.kind, refl, o.first), (e.token, ap expr_token e.kind, e.gap ∙ o.open_end, e.first)))
 
 record UnitNoteAgain (n : Option NoteSyntax) (tokens rest : List Token) : Type 0 where
   pub again : Option NoteSyntax
@@ -112,6 +113,16 @@ unit_note_again (Some n) f g glued tokens h rest s =
     let o = s.here in let b = both (note_pieces n) (greater ∷ []) s.flag s.next h rest s.later in
     let r = note_again n f s.flag s.next b.flag b.next b.here in let c = only greater b.flag b.next h rest b.later in
     record { again = Some r.again; spelled = (s.next, b.next, (o.token, ap expr_token o.kind, o.gap ∙ glued, o.first), r.spelled, (c.token, ap expr_token c.kind, c.first)); fits = r.fits; same = ap (λ m. Some m) r.same }
+
+-- the power of `pown` behind a space
+power_again : (k : ℤ) (g : Bool) (tokens : List Token) (h : Bool) (rest : List Token) → PiecesSpell (space ∷ whole_power_pieces k) g tokens h rest → PowerSpells k tokens rest
+power_again (pos n) g tokens h rest s =
+    let o = only (digits n) false tokens h rest (past (digits n ∷ []) g tokens h rest s) in
+    inl (n, refl, (o.token, ap power_in (power_token n o.token.kind o.kind), o.first))
+power_again (negsuc n) g tokens h rest s =
+    let p = past (bracket_open ∷ minus ∷ digits (suc n) ∷ bracket_close ∷ []) g tokens h rest s in
+    let b = p.here in let m = p.later.here in let o = p.later.later.here in let e = p.later.later.later in let c = only bracket_close p.later.later.flag p.later.later.next h rest e in
+    inr (suc n, p.next, p.later.next, p.later.later.next, refl, (b.token, ap expr_token b.kind, b.first), (m.token, ap expr_token m.kind, m.first), (o.token, ap power_in (power_token (suc n) o.token.kind o.kind), o.first), (c.token, ap expr_token c.kind, c.first))
 
 truth_again : (at : ℕ) (b : Bool) (g : Bool) (tokens : List Token) (h : Bool) (rest : List Token) → PiecesSpell (truth_piece b ∷ []) g tokens h rest → ExprAgain (truth_syntax at b) tokens rest
 truth_again at true g tokens h rest s = let o = only true_word g tokens h rest s in record { again = truth_syntax o.token.start true; spelled = (o.token, ap expr_token o.kind, refl, o.first); fits = tt; same = refl; ranked = refl }
@@ -135,14 +146,18 @@ mutual
   expr_again (not_syntax at e) f old end q g tokens h rest s =
       let l = led not_word (expr_pieces e) g tokens h rest s in let o = l.here in let r = expr_again e f.1 q.0 end q.2 false l.next h rest l.later in
       record { again = not_syntax o.token.start r.again; spelled = (l.next, (o.token, ap expr_token o.kind, refl, o.first), r.spelled); fits = (r.ranked ∙ f.0, r.fits); same = ap (not_syntax 0) r.same; ranked = refl }
+  expr_again (pown_syntax at e k) f old end q g tokens h rest s =
+      let p = both (pown_word ∷ space ∷ expr_pieces e) (space ∷ whole_power_pieces k) g tokens h rest s in
+      let l = led pown_word (expr_pieces e) g tokens p.flag p.next p.here in let o = l.here in let r = expr_again e f.1 q.0 q.1 q.3 false l.next p.flag p.next l.later in
+      record { again = pown_syntax o.token.start r.again k; spelled = (l.next, p.next, (o.token, ap expr_token o.kind, refl, o.first), r.spelled, power_again k p.flag p.next h rest p.later); fits = (r.ranked ∙ f.0, r.fits); same = ap (λ x. pown_syntax 0 x k) r.same; ranked = refl }
   expr_again (arith_syntax at op a b) f old end q g tokens h rest s =
       let p = parted (expr_pieces a) (arith_piece op ∷ []) (expr_pieces b) g tokens h rest s in let i = arith_sign op p.mid p.behind p.next p.middle in
       let l = expr_again a f.2 old q.0 q.2 g tokens p.flag p.mid p.left in let r = expr_again b f.3 q.1 end q.4 false p.next h rest p.right in
-      record { again = arith_syntax i.0 op l.again r.again; spelled = (p.mid, p.next, l.spelled, i.1 (ends_in_number l.again), r.spelled); fits = (subst (λ n. n ≤ arith_rank op) (sym l.ranked) f.0, subst (λ n. n < arith_rank op) (sym r.ranked) f.1, l.fits, r.fits); same = ap (λ x. arith_syntax 0 op x (bare_expr r.again)) l.same ∙ ap (arith_syntax 0 op (bare_expr a)) r.same; ranked = refl }
+      record { again = arith_syntax i.0 op l.again r.again; spelled = (p.mid, p.next, l.spelled, i.1 tokens, r.spelled); fits = (subst (λ n. n ≤ arith_rank op) (sym l.ranked) f.0, subst (λ n. n < arith_rank op) (sym r.ranked) f.1, l.fits, r.fits); same = ap (λ x. arith_syntax 0 op x (bare_expr r.again)) l.same ∙ ap (arith_syntax 0 op (bare_expr a)) r.same; ranked = refl }
   expr_again (compare_syntax at sg a b) f old end q g tokens h rest s =
       let p = parted (expr_pieces a) (compare_pieces sg) (expr_pieces b) g tokens h rest s in let i = compare_sign sg p.mid p.behind p.next p.middle in
       let l = expr_again a f.2 old q.0 q.2 g tokens p.flag p.mid p.left in let r = expr_again b f.3 q.1 end q.4 false p.next h rest p.right in
-      record { again = compare_syntax i.0 sg l.again r.again; spelled = (p.mid, p.next, l.spelled, i.1 (ends_in_number l.again), r.spelled); fits = (subst (λ n. n ≤ 5) (sym l.ranked) f.0, subst (λ n. n < 6) (sym r.ranked) f.1, l.fits, r.fits); same = ap (λ x. compare_syntax 0 sg x (bare_expr r.again)) l.same ∙ ap (compare_syntax 0 sg (bare_expr a)) r.same; ranked = refl }
+      record { again = compare_syntax i.0 sg l.again r.again; spelled = (p.mid, p.next, l.spelled, i.1 tokens, r.spelled); fits = (subst (λ n. n ≤ 5) (sym l.ranked) f.0, subst (λ n. n < 6) (sym r.ranked) f.1, l.fits, r.fits); same = ap (λ x. compare_syntax 0 sg x (bare_expr r.again)) l.same ∙ ap (compare_syntax 0 sg (bare_expr a)) r.same; ranked = refl }
   expr_again (and_syntax at a b) f old end q g tokens h rest s =
       let p = parted (expr_pieces a) (double_and ∷ []) (expr_pieces b) g tokens h rest s in let o = only double_and false p.mid p.behind p.next p.middle in
       let l = expr_again a f.2 old q.0 q.2 g tokens p.flag p.mid p.left in let r = expr_again b f.3 q.1 end q.4 false p.next h rest p.right in

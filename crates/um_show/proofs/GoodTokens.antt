@@ -17,6 +17,7 @@ use Rattle.um_syntax.specs.Lexing.{HasTokens}
 use Rattle.um_syntax.proofs.TokenKinds.{AllKinds, KindsHold, kinds_hold}
 use Rattle.um_types.specs.UnitTokens.{UnitToken, unit_token, power_from, greatest_power}
 use Rattle.um_types.specs.UnitTokens as of_unit
+use Rattle.um_types.specs.UnitMachine.{power_in}
 use Rattle.um_syntax.specs.declared.vocabulary.Keyword.{Keyword}
 use Rattle.um_syntax.specs.declared.vocabulary.Keyword.TheVariants as keyword
 use Rattle.um_syntax.specs.declared.vocabulary.Symbol.{Symbol}
@@ -118,16 +119,13 @@ power_low true (pos m) n e = let p = cond_some (nat_le m greatest_power) m n e i
 power_low true (negsuc m) n e = absurd cc
 power_low false z n e = absurd cc
 
-same_power : (a b : Bool) (p q : Option ℕ) → of_unit.number a p ≡ of_unit.number b q → p ≡ q
-same_power a b p q e = cc
-
-pub power_good : (k : Kind) (one : Bool) (n : ℕ) → unit_token k ≡ of_unit.number one (Some n) → n ≤ 2147483647
-power_good (kind.Name y) one n e = absurd cc
-power_good (kind.Var y) one n e = absurd cc
-power_good (kind.Number value whole text) one n e = power_low whole (numerator value) n (same_power text one (power_from whole (numerator value)) (Some n) e)
-power_good (kind.Word k) one n e = absurd cc
-power_good kind.Hole one n e = absurd cc
-power_good (kind.Sign k) one n e = absurd cc
+pub power_good : (k : Kind) (n : ℕ) → power_in (unit_token k) ≡ Some n → n ≤ 2147483647
+power_good (kind.Name y) n e = absurd cc
+power_good (kind.Var y) n e = absurd cc
+power_good (kind.Number value whole text) n e = power_low whole (numerator value) n e
+power_good (kind.Word k) n e = absurd cc
+power_good kind.Hole n e = absurd cc
+power_good (kind.Sign k) n e = absurd cc
 
 -- ---- to types
 

@@ -1,9 +1,10 @@
 -- The layout of a unit text whose tokens are those of some text is a chain of pieces.
-use Rattle.std.proofs.Common.{◌≡◌, ℕ, zero, suc, ◌≤◌, ℤ, pos, Bool, true, false, not, List, [], ◌∷◌, ◌++◌, refl, sym, subst, arith, ⊎_elim}
+use Rattle.std.proofs.Common.{◌≡◌, ℕ, zero, suc, ◌≤◌, ℤ, pos, Bool, true, false, not, List, [], ◌∷◌, ◌++◌, refl, sym, ap, subst, arith, ⊎_elim}
 use Rattle.std.specs.Prelude.{neg_ℤ}
 use Rattle.std.proofs.lemmas.Bool.{false≢true}
 use Rattle.um_syntax.specs.declared.token.Token.{Token}
 use Rattle.um_tree.specs.RawTree.{UnitSyntax, UnitSyntaxes, one_syntax, measure_syntax, variable_syntax, power_syntax, side_syntax, times_syntax, over_syntax, inverse_syntax, bracket_syntax, no_units, more_units}
+use Rattle.um_types.specs.UnitMachine.{power_in}
 use Rattle.um_types.specs.UnitGrammar.{Digits, PowerSpells, Spells, AllSpell, Fits, ArePowers, rank}
 use Rattle.um_show.specs.Pieces.{Piece, caret, times, over, bracket_close}
 use Rattle.um_show.specs.Layout.{power_pieces, unit_pieces, more_side_pieces}
@@ -28,7 +29,7 @@ never e = absurd (false≢true e)
 
 -- digits up to the greatest power
 digits_low : (n : ℕ) (tokens rest : List Token) → Digits n tokens rest → AllGood tokens → (n ≤ 2147483647) × AllGood rest
-digits_low n tokens rest s h = (power_good s.1.0.kind s.0 n s.1.1, (first_good tokens rest s.1.0 s.1.2 h).1)
+digits_low n tokens rest s h = (power_good s.1.0.kind n (ap power_in s.1.1), (first_good tokens rest s.1.0 s.1.2 h).1)
 
 negative_links : (n : ℕ) (rest : List Token) → n ≤ 2147483647 → AllGood rest → Linked raised (power_pieces (neg_ℤ (pos n))) full rest
 negative_links zero rest low h = record { chain = (low, refl, refl); good = h }

@@ -3,9 +3,8 @@
 --   [<Measure>] type A            [<Measure>] type A = UNIT
 --   type R<[<Measure>] 'u, [<Measure>] 'v> = { f: TYPE; g: TYPE }     type R = { f: TYPE }
 --   let f (x: TYPE) (y: TYPE) : TYPE = EXPR                           let rec f (x: TYPE) : TYPE = EXPR
---   expressions: let x = A in B, if A then B else C, match A with [] -> B | x :: y -> C, A + B, -A, not A, f A B, A.f,
---                (A),
---                ([] : TYPE), [A; B], { f = A; g = B }, true, false, 5r2<UNIT>
+--   expressions: let x = A in B, if A then B else C, match A with [] -> B | x :: y -> C, A + B, -A, not A, pown A 3,
+--                pown A (-2), f A B, A.f, (A), ([] : TYPE), [A; B], { f = A; g = B }, true, false, 5r2<UNIT>
 --   types: num, num<UNIT>, bool, R, R<UNIT, UNIT>, T list, (T)
 --   units: A B, A*B, A/B, /A, A^2, A^-2, 1, _, 'u, (A)
 -- Source: this project's own.
@@ -20,14 +19,15 @@ use Rattle.um_tree.specs.RawTree.{side_syntax, times_syntax, over_syntax, invers
 use Rattle.um_tree.specs.RawTree.{more_units, NoteSyntax, hole_syntax, unit_note_syntax, TypeSyntax, bool_syntax}
 use Rattle.um_tree.specs.RawTree.{num_syntax, record_syntax, list_type_syntax, bracket_type_syntax, BinderSyntax}
 use Rattle.um_tree.specs.RawTree.{ExprSyntax, ExprSyntaxes, FieldSyntaxes, truth_syntax, number_syntax, name_syntax}
-use Rattle.um_tree.specs.RawTree.{call_syntax, negate_syntax, not_syntax, arith_syntax, compare_syntax, and_syntax}
-use Rattle.um_tree.specs.RawTree.{or_syntax, if_syntax, let_syntax, match_syntax, nil_syntax, list_syntax}
+use Rattle.um_tree.specs.RawTree.{call_syntax, negate_syntax, not_syntax, pown_syntax, arith_syntax, compare_syntax}
+use Rattle.um_tree.specs.RawTree.{and_syntax, or_syntax, if_syntax, let_syntax, match_syntax, nil_syntax, list_syntax}
 use Rattle.um_tree.specs.RawTree.{cons_syntax, fields_syntax, field_syntax, bracket_expr_syntax, no_exprs, more_exprs}
 use Rattle.um_tree.specs.RawTree.{no_fields, more_fields, VarSyntax, FieldDeclSyntax, ParamSyntax, FunctionSyntax}
 use Rattle.um_tree.specs.RawTree.{DeclSyntax, base_syntax, short_syntax, record_decl_syntax, function_syntax}
 use Rattle.um_show.specs.Pieces.{Piece, name, variable, number, digits, hole, space, line_end, text_of, let_word}
 use Rattle.um_show.specs.Pieces.{rec_word, in_word, if_word, then_word, else_word, match_word, with_word, type_word}
-use Rattle.um_show.specs.Pieces.{true_word, false_word, not_word, num_word, bool_word, list_word, measure_word}
+use Rattle.um_show.specs.Pieces.{true_word, false_word, not_word, pown_word, num_word, bool_word, list_word}
+use Rattle.um_show.specs.Pieces.{measure_word}
 use Rattle.um_show.specs.Pieces.{bracket_open, bracket_close, list_open, list_close, record_open, record_close}
 use Rattle.um_show.specs.Pieces.{attribute_open, less, greater, equal, at_most, unequal, plus, minus, times, over}
 use Rattle.um_show.specs.Pieces.{caret, semi, colon, double_colon, comma, dot, bar, double_bar, double_and, arrow}
@@ -104,6 +104,11 @@ compare_pieces compare.Ne = unequal ∷ []
 compare_pieces compare.Gt = greater ∷ []
 compare_pieces compare.Ge = greater ∷ equal ∷ []
 
+-- the power of `pown`: in brackets where it is negative
+abbrev pub whole_power_pieces : ℤ → List Piece
+whole_power_pieces (pos n) = digits n ∷ []
+whole_power_pieces (negsuc n) = bracket_open ∷ minus ∷ digits (suc n) ∷ bracket_close ∷ []
+
 -- a sign between two operands, with one space on each side
 abbrev pub between : List Piece → List Piece → List Piece → List Piece
 between a signs b = a ++ space ∷ signs ++ space ∷ b
@@ -116,6 +121,7 @@ abbrev mutual
   expr_pieces (call_syntax at f args) = name f ∷ argument_pieces args
   expr_pieces (negate_syntax at e) = minus ∷ expr_pieces e
   expr_pieces (not_syntax at e) = not_word ∷ space ∷ expr_pieces e
+  expr_pieces (pown_syntax at e k) = pown_word ∷ space ∷ expr_pieces e ++ space ∷ whole_power_pieces k
   expr_pieces (arith_syntax at op a b) = between (expr_pieces a) (arith_piece op ∷ []) (expr_pieces b)
   expr_pieces (compare_syntax at sign a b) = between (expr_pieces a) (compare_pieces sign) (expr_pieces b)
   expr_pieces (and_syntax at a b) = between (expr_pieces a) (double_and ∷ []) (expr_pieces b)

@@ -76,6 +76,9 @@ false_word = word keyword.False
 abbrev pub not_word : Piece
 not_word = word keyword.Not
 
+abbrev pub pown_word : Piece
+pown_word = word keyword.Pown
+
 abbrev pub num_word : Piece
 num_word = word keyword.Num
 

@@ -6,8 +6,8 @@ use Rattle.um_tree.specs.RawTree.{side_syntax, times_syntax, over_syntax, invers
 use Rattle.um_tree.specs.RawTree.{more_units, NoteSyntax, hole_syntax, unit_note_syntax, TypeSyntax, bool_syntax}
 use Rattle.um_tree.specs.RawTree.{num_syntax, record_syntax, list_type_syntax, bracket_type_syntax, BinderSyntax}
 use Rattle.um_tree.specs.RawTree.{ExprSyntax, ExprSyntaxes, FieldSyntaxes, truth_syntax, number_syntax, name_syntax}
-use Rattle.um_tree.specs.RawTree.{call_syntax, negate_syntax, not_syntax, arith_syntax, compare_syntax, and_syntax}
-use Rattle.um_tree.specs.RawTree.{or_syntax, if_syntax, let_syntax, match_syntax, nil_syntax, list_syntax}
+use Rattle.um_tree.specs.RawTree.{call_syntax, negate_syntax, not_syntax, pown_syntax, arith_syntax, compare_syntax}
+use Rattle.um_tree.specs.RawTree.{and_syntax, or_syntax, if_syntax, let_syntax, match_syntax, nil_syntax, list_syntax}
 use Rattle.um_tree.specs.RawTree.{cons_syntax, fields_syntax, field_syntax, bracket_expr_syntax, no_exprs, more_exprs}
 use Rattle.um_tree.specs.RawTree.{no_fields, more_fields, VarSyntax, FieldDeclSyntax, ParamSyntax, FunctionSyntax}
 use Rattle.um_tree.specs.RawTree.{DeclSyntax, base_syntax, short_syntax, record_decl_syntax, function_syntax}
@@ -54,6 +54,7 @@ abbrev mutual
   bare_expr (call_syntax at f es) = call_syntax 0 f (bare_exprs es)
   bare_expr (negate_syntax at a) = negate_syntax 0 (bare_expr a)
   bare_expr (not_syntax at a) = not_syntax 0 (bare_expr a)
+  bare_expr (pown_syntax at a k) = pown_syntax 0 (bare_expr a) k
   bare_expr (arith_syntax at op a b) = arith_syntax 0 op (bare_expr a) (bare_expr b)
   bare_expr (compare_syntax at sign a b) = compare_syntax 0 sign (bare_expr a) (bare_expr b)
   bare_expr (and_syntax at a b) = and_syntax 0 (bare_expr a) (bare_expr b)

@@ -1,13 +1,13 @@
 // The texts of expressions.
 ghost use Rattle.std.specs.Prelude.{◌≡◌, ◌++◌, ◌∷◌, [], OnOk, map};
 ghost use Rattle.um_tree.specs.RawTree.{written_note, type_syntax, binder_syntax, expr_syntax, exprs_in_order, field_part};
-ghost use Rattle.um_tree.specs.RawTree.{fields_in_order, number_syntax, call_syntax, if_syntax, let_syntax, match_syntax};
+ghost use Rattle.um_tree.specs.RawTree.{fields_in_order, number_syntax, call_syntax, pown_syntax, if_syntax, let_syntax, match_syntax};
 ghost use Rattle.um_tree.specs.RawTree.{nil_syntax, list_syntax, fields_syntax, field_syntax, bracket_expr_syntax};
 ghost use Rattle.um_show.specs.Pieces.{text_of, piece_text};
 ghost use Rattle.um_show.specs.Layout.{truth_piece, binder_piece, arith_piece, compare_pieces, expr_pieces, argument_pieces, item_pieces, field_pieces};
 ghost use Rattle.um_show.specs.Lists.{spaced_text, let_text, arms_text, part_text};
 
-use crate::number::push_number;
+use crate::number::{push_number, push_whole_power};
 use crate::text::{push_binder, push_gap, push_name};
 use crate::types::push_type;
 use crate::unit::push_written;
@@ -33,6 +33,7 @@ pub(crate) fn push_expr(text: &mut Vec<u8>, e: &RawExpr) -> Result<(), AllocErro
             text.extend_from_slice(b"not ")?;
             push_expr(text, a)
         }
+        RawNode::Pow(a, k) => push_pown(text, a, *k),
         RawNode::Arith(op, a, b) => push_infix(text, a, arith_sign(*op), b),
         RawNode::Compare(sign, a, b) => push_infix(text, a, compare_sign(*sign), b),
         RawNode::And(a, b) => push_infix(text, a, b" && ", b),
@@ -66,6 +67,18 @@ fn push_call(text: &mut Vec<u8>, name: &Name, items: &[RawExpr]) -> Result<(), A
 {
     push_name(text, name)?;
     push_arguments(text, items)
+}
+
+/// Adds a whole power.
+#[cycle(push_expr)]
+fn push_pown(text: &mut Vec<u8>, a: &RawExpr, power: i32) -> Result<(), AllocError>
+    ensures { OnOk result (text.new.items ≡ text.old.items
+        ++ text_of (expr_pieces (pown_syntax 0 (expr_syntax a.now) power))) }
+{
+    text.extend_from_slice(b"pown ")?;
+    push_expr(text, a)?;
+    text.push(b' ')?;
+    push_whole_power(text, power)
 }
 
 /// Adds two operands and the sign between them, which has its spaces.

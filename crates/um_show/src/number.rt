@@ -3,7 +3,7 @@ ghost use Rattle.std.specs.Prelude.{◌≡◌, ◌++◌, IfOk, OnOk, pos};
 ghost use Rattle.std.specs.Fmt.{decimal, signed_decimal};
 ghost use Rattle.um_show.specs.NumberText.{number_text, divisor_text};
 ghost use Rattle.um_show.specs.Pieces.{text_of};
-ghost use Rattle.um_show.specs.Layout.{power_pieces};
+ghost use Rattle.um_show.specs.Layout.{power_pieces, whole_power_pieces};
 
 use std::alloc::{AllocError, Global};
 use um_frac::Frac;
@@ -44,9 +44,21 @@ fn push_integer(text: &mut Vec<u8>, n: i64) -> Result<(), AllocError>
     text.extend_from_slice(itoa::Buffer::new().format(n).as_bytes())
 }
 
-/// Adds a power.
+/// Adds the power of a unit.
 pub(crate) fn push_power(text: &mut Vec<u8>, power: i32) -> Result<(), AllocError>
     ensures { OnOk result (text.new.items ≡ text.old.items ++ text_of (power_pieces power)) }
 {
     push_integer(text, i64::from(power))
+}
+
+/// Adds the power of `pown`, in brackets where it is negative.
+pub(crate) fn push_whole_power(text: &mut Vec<u8>, power: i32) -> Result<(), AllocError>
+    ensures { OnOk result (text.new.items ≡ text.old.items ++ text_of (whole_power_pieces power)) }
+{
+    if power >= 0 {
+        return push_power(text, power);
+    }
+    text.push(b'(')?;
+    push_power(text, power)?;
+    text.extend_from_slice(b")")
 }

@@ -19,7 +19,7 @@ pub lowest_zero : gcd 0 1 ≡ 1
 unfolding gcd
 lowest_zero = refl
 
-abbrev zero_number : Frac
+abbrev pub zero_number : Frac
 zero_number = record { num = pos 0; den = pos 1; positive = le_z_yes tt; den_fits = le_z_yes tt; above = le_z_yes tt; num_fits = le_z_yes tt; lowest = lowest_zero }
 
 -- a name without letters, a number and a closing bracket

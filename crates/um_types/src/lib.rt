@@ -25,4 +25,5 @@ pub use note_reader::{NoteReader, NoteStep};
 pub use parse::{LimitKind, ParseStop, parse_types, parse_unit};
 pub use places::place;
 pub use type_reader::{TypeReader, TypeStep};
+pub use unit_machine::written_power;
 pub use unit_reader::{UnitReader, UnitStep};

@@ -98,8 +98,8 @@ fn atom(alloc: Global, kind: &Kind, at: u32) -> Result<Option<Operand>, AllocErr
     }
 }
 
-// The power that a token writes.
-fn power(kind: &Kind) -> Option<i32>
+/// The power that a token writes: the value of a number whose text is digits alone, up to 2147483647.
+pub fn written_power(kind: &Kind) -> Option<i32>
     ensures { option_map pos (power_in (unit_token kind.now)) ≡ result }
 {
     match kind {
@@ -141,7 +141,7 @@ fn step_raised(
 ) -> Result<Step, AllocError>
     ensures { IfOk result (λ s. Simulates (Raised (stack frames.now.items) (operand_syntax base)) frames.now.items s (raised (stack frames.now.items) (operand_syntax base) (unit_token token.now.kind))) }
 {
-    if let Some(power) = power(&token.kind) {
+    if let Some(power) = written_power(&token.kind) {
         return Ok(Step::Goes(Focus::Full(base.power(alloc, power)?)));
     }
     match &token.kind {
@@ -159,7 +159,7 @@ fn step_lowered(
 ) -> Result<Step, AllocError>
     ensures { IfOk result (λ s. Simulates (Lowered (stack frames.now.items) (operand_syntax base)) frames.now.items s (lowered (stack frames.now.items) (operand_syntax base) (unit_token token.now.kind))) }
 {
-    match power(&token.kind) {
+    match written_power(&token.kind) {
         Some(power) => Ok(Step::Goes(Focus::Full(base.power(alloc, -power)?))),
         None => Ok(Step::Stops(Focus::Lowered(base))),
     }

@@ -11,14 +11,8 @@ invariant-shapes_of-loop-i l =
 abbrev pub decreases-asked_shape : goal.decreases-asked_shape
 decreases-asked_shape l = the_size l.a.now + 1
 
-abbrev pub decreases-numbers_shape : goal.decreases-numbers_shape
-decreases-numbers_shape l = max (the_size l.a.now) (the_size l.b.now) + 1
-
-abbrev pub decreases-truths_shape : goal.decreases-truths_shape
-decreases-truths_shape l = max (the_size l.a.now) (the_size l.b.now) + 1
-
-abbrev pub decreases-cons_shape : goal.decreases-cons_shape
-decreases-cons_shape l = max (the_size l.a.now) (the_size l.b.now) + 1
+abbrev pub decreases-pair_shape : goal.decreases-pair_shape
+decreases-pair_shape l = max (the_size l.a.now) (the_size l.b.now) + 1
 
 abbrev pub decreases-let_shape : goal.decreases-let_shape
 decreases-let_shape l = max (the_size l.a.now) (the_size l.b.now) + 1

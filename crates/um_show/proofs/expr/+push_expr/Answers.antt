@@ -1,11 +1,12 @@
-use Rattle.std.proofs.Common.{rules, ◌≡◌, refl, ◌++◌, ◌∷◌, [], List, ap, sym, ◌∙◌, append_assoc, codes, map}
+use Rattle.std.proofs.Common.{rules, w32, ◌≡◌, refl, ◌++◌, ◌∷◌, [], List, ap, sym, ◌∙◌, append_assoc, codes, map}
 use Rattle.std.specs.List.{join_by, flat_map}
 use Rattle.std.proofs.lemmas.List.{take_all, append-nil}
+use Rattle.std.proofs.lemmas.Int.{to_z-of_z}
 use Rattle.std.proofs.lemmas.Result.{on_ok_weaker}
 use Rattle.um_tree.specs.declared.raw.RawNode.{the_lemmas}
 use Rattle.um_tree.specs.RawTree.{binder_syntax, expr_syntax, exprs_in_order, field_part, fields_in_order, arith_syntax, compare_syntax, and_syntax, or_syntax, cons_syntax}
-use Rattle.um_show.specs.Pieces.{Piece, name, space, match_word, with_word, list_open, list_close, arrow, double_colon, double_and, double_bar, bracket_open, bracket_close, record_open, record_close, dot, text_of}
-use Rattle.um_show.specs.Layout.{arith_piece, compare_pieces, expr_pieces, item_pieces, field_pieces}
+use Rattle.um_show.specs.Pieces.{Piece, name, space, pown_word, match_word, with_word, list_open, list_close, arrow, double_colon, double_and, double_bar, bracket_open, bracket_close, record_open, record_close, dot, text_of}
+use Rattle.um_show.specs.Layout.{arith_piece, compare_pieces, whole_power_pieces, expr_pieces, item_pieces, field_pieces}
 use Rattle.um_show.specs.Lists.{arm_pieces, part_text}
 use Rattle.um_show.proofs.Joined.{joined_next, grown, grows, closes, infix_added}
 use Rattle.um_show.proofs.ListTexts.{arguments, items, fields}
@@ -51,6 +52,16 @@ push_access-returns t c =
     let begun = grown _ _ _ (expr_pieces a) (dot ∷ []) c.in_ok-push_expr.ensures c.in_ok-push.ensures.items in
     grows c.push_name.result _ _ _ (expr_pieces a ++ dot ∷ []) (name x ∷ []) _ (sym (append_assoc (expr_pieces a) (dot ∷ []) (name x ∷ []))) begun
     (on_ok_weaker c.push_name.result (λ e. e ∙ ap (λ s. c.push.new.self.items ++ s) (sym (append-nil x))) c.push_name.ensures)
+
+pub push_pown-returns : goal.push_pown-returns
+push_pown-returns t c =
+    let a = expr_syntax c.args.a.now in
+    let head : List Piece = pown_word ∷ space ∷ [] in
+    let begun = grown _ _ _ head (expr_pieces a) c.in_ok-extend_from_slice.ensures.items c.in_ok-push_expr.ensures in
+    let apart = grown _ _ _ (head ++ expr_pieces a) (space ∷ []) begun c.in_ok-push.ensures.items in
+    let whole = sym (append_assoc (head ++ expr_pieces a) (space ∷ []) (whole_power_pieces c.args.power)) in
+    let passed = ap (λ k. ((head ++ expr_pieces a) ++ space ∷ []) ++ whole_power_pieces k) (sym (to_z-of_z w32 c.args.power c.ranges.power)) in
+    grows c.push_whole_power.result _ _ _ ((head ++ expr_pieces a) ++ space ∷ []) _ _ (whole ∙ passed) apart c.push_whole_power.ensures
 
 pub push_bracketed-returns : goal.push_bracketed-returns
 push_bracketed-returns t c =

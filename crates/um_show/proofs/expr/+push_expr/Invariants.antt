@@ -31,6 +31,9 @@ decreases-push_match l = max (the_size l.l.now) (max (the_size l.a.now) (the_siz
 abbrev pub decreases-push_access : goal.decreases-push_access
 decreases-push_access l = the_size l.a.now + 1
 
+abbrev pub decreases-push_pown : goal.decreases-push_pown
+decreases-push_pown l = the_size l.a.now + 1
+
 abbrev pub decreases-push_bracketed : goal.decreases-push_bracketed
 decreases-push_bracketed l = the_size l.a.now + 1
 

@@ -1,0 +1,9 @@
+pub mod Denoting
+mod Tests
+mod Growing
+pub mod WellFormed
+mod Adding
+mod Rows
+mod Operating
+mod Walking
+mod Exact

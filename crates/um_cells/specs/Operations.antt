@@ -1,0 +1,32 @@
+-- What an operation on words gives, beside what it gives on the values that they denote.
+-- Source: this project's own.
+use Rattle.std.specs.Prelude.{◌≡◌, Option, Some, None, Result, Ok, Err}
+use Rattle.um_tree.specs.ValueTree.{ValueTree, truth_value, number_value, list_value, record_value}
+use Rattle.um_tree.specs.ValueTree.{no_values, more_values}
+use Rattle.um_tree.specs.Meaning.{Stop, wrong}
+use Rattle.um_cells.specs.declared.store.Store.{Store}
+use Rattle.um_cells.specs.declared.word.Word.{Word}
+use Rattle.um_cells.specs.declared.word.ListCase.{ListCase}
+use Rattle.um_cells.specs.declared.word.ListCase.TheVariants.{Empty, Items}
+use Rattle.um_cells.specs.Stores.{DenotesIn}
+
+-- a word is given exactly where the values give a value, and denotes it; none is given where their shapes are wrong
+abbrev pub Gives : Store → Result ValueTree Stop → Option Word → Type 0
+Gives store (Ok v) (Some w) = DenotesIn store w v
+Gives store (Ok v) None = ⊥
+Gives store (Err stop) (Some w) = ⊥
+Gives store (Err stop) None = stop ≡ wrong
+
+abbrev pub GivesIfOk : {E : Type 0} → Store → Result ValueTree Stop → Result (Option Word) E → Type 0
+GivesIfOk store value (Ok given) = Gives store value given
+GivesIfOk store value (Err e) = Unit {0}
+
+-- a list is taken apart, as the two arms of a match have it: it is empty, or it has a first item and the others
+abbrev pub TakenApart : Store → ValueTree → Option ListCase → Type 0
+TakenApart store (truth_value b) given = given ≡ None
+TakenApart store (number_value c) given = given ≡ None
+TakenApart store (list_value no_values) given = given ≡ Some Empty
+TakenApart store (list_value (more_values v vs)) given =
+    (first : Word) × (others : Word) × (given ≡ Some (Items first others)) ×
+    DenotesIn store first v × DenotesIn store others (list_value vs)
+TakenApart store (record_value r vs) given = given ≡ None
