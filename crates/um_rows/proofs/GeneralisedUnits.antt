@@ -219,12 +219,25 @@ module _ (bases parameters slots : ℕ) where
   same_source (Var j) (Base m) low = same_source_variable j m
   same_source (Var j) (Var m) low = same_source_variables j m (low m refl)
 
-  -- so powers stay in range
-  pub fits-generalised : (u : PowerMap) → VariablesBelow slots u → IsTrue (fits u) → IsTrue (fits (generalised_unit bases parameters slots u))
-  fits-generalised u low f = fits_from_powers (generalised_unit bases parameters slots u) (λ x. subst (λ z. nat_abs z ≤ 2147483647) (sym (moved x)) (fits-power_of u f (source x)))
-    where
-      at : (x y : Atom) → power_of u y ≢ pos 0 → indicator x (generalised_atom bases parameters slots y) ≡ indicator (source x) y
-      at x y held = ap (λ b. cond b (pos 1) (pos 0)) (same_source x y (λ k e. low k (subst (λ z. power_of u z ≢ pos 0) e held)))
+  module _ (u : PowerMap) (low : VariablesBelow slots u) where
+    same_indicator : (x y : Atom) → power_of u y ≢ pos 0 → indicator x (generalised_atom bases parameters slots y) ≡ indicator (source x) y
+    same_indicator x y held = ap (λ b. cond b (pos 1) (pos 0)) (same_source x y (λ k e. low k (subst (λ z. power_of u z ≢ pos 0) e held)))
 
-      moved : (x : Atom) → power_of (generalised_unit bases parameters slots u) x ≡ power_of u (source x)
-      moved x = power_of-generalised u x ∙ weight_held _ _ u (at x)
+    power_from : (x : Atom) → power_of (generalised_unit bases parameters slots u) x ≡ power_of u (source x)
+    power_from x = power_of-generalised u x ∙ weight_held _ _ u (same_indicator x)
+
+    -- so powers stay in range
+    pub fits-generalised : IsTrue (fits u) → IsTrue (fits (generalised_unit bases parameters slots u))
+    fits-generalised f = fits_from_powers (generalised_unit bases parameters slots u) (λ x. subst (λ z. nat_abs z ≤ 2147483647) (sym (power_from x)) (fits-power_of u f (source x)))
+
+    -- and variables are those of the slots and of the parameters
+    pub variables-generalised : VariablesBelow (slots + parameters) (generalised_unit bases parameters slots u)
+    variables-generalised k held =
+        on_test (nat_lt k (slots + parameters))
+        (λ e. let below : k < slots + parameters = grind (arith, nat_tests) in below)
+        (λ e.
+        let past : nat_lt k slots ≡ false = grind (arith, nat_tests) in
+        let behind : nat_lt (k - slots) parameters ≡ false = grind (arith, nat_tests) in
+        let none : source (Var k) ≡ Var slots = ap (λ b. cond b (Var k) (from_behind k)) past ∙ ap (λ b. cond b (Base (bases + (k - slots))) (Var slots)) behind in
+        let inside = low slots (λ z. held (power_from (Var k) ∙ ap (power_of u) none ∙ z)) in
+        absurd (omega (arith, inside)))
