@@ -10,7 +10,7 @@ use Rattle.um_tree.specs.TypeTree.{TypeTree, bool_type, num_type, list_type, rec
 use Rattle.um_tree.specs.ExprTree.{local, call, arith as arith_tree, none, more}
 use Rattle.um_tree.specs.ProgramTree.{FunctionTree, ProgramTree, SchemeTree}
 use Rattle.um_tree.proofs.ExamplePrograms.{metre, second, plain, with_functions}
-use Rattle.um_infer.specs.Inference.{Inference, all_schemes, stops_at_slots, stops_at_range, stops_at_units, infer}
+use Rattle.um_infer.specs.Inference.{Inference, all_schemes, stops_at_slots, stops_at_range, stops_at_units, stops_at_not_general, infer}
 
 abbrev term : Atom → ℤ → Term
 term x k = record { atom = x; power = k }
@@ -36,12 +36,14 @@ data Shown : Type 0 where
   slots : ℕ → Shown
   range : ℕ → ℕ → Shown
   units : ℕ → ℕ → ℕ → Shown
+  less_general : ℕ → ℕ → ℕ → Shown
 
 abbrev shown : Inference → Shown
 shown (all_schemes ss) = schemes (map shown_scheme ss)
 shown (stops_at_slots i) = slots i
 shown (stops_at_range i at) = range i at
 shown (stops_at_units i row at) = units i row at
+shown (stops_at_not_general i row at) = less_general i row at
 
 -- let double (x: num<_>) = x + x
 abbrev double : FunctionTree
