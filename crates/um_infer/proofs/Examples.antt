@@ -1,5 +1,5 @@
 -- Small programs, and what their inference comes to, by computation of the definition.
-use Rattle.std.proofs.Common.{◌≡◌, ℕ, List, [], ◌∷◌, map, ℤ, pos, refl}
+use Rattle.std.proofs.Common.{◌≡◌, ℕ, List, [], ◌∷◌, map, ℤ, pos, codes, refl}
 use Rattle.um_units.specs.declared.Atom.{Atom}
 use Rattle.um_units.specs.declared.Atom.TheVariants.{Base, Var}
 use Rattle.um_units.specs.declared.Term.{Term}
@@ -82,7 +82,10 @@ far_refused : shown (infer (with_functions (square ∷ far ∷ []))) ≡ range 1
 unfolding product
 far_refused = refl
 
--- ---- unit parameters
+-- ---- unit parameters, behind one base unit
+abbrev of_metres : List FunctionTree → ProgramTree
+of_metres fs = record { bases = codes "m" ∷ []; records = []; functions = fs }
+
 -- let total<'u> (x: num<'u>) (y: num<_>) = x + y, and let length (x: num<m>) = total x x: a caller puts any unit
 abbrev total : FunctionTree
 total = record (plain (num_note (Written (atom (Var 0))) ∷ num_note Hole ∷ []) (arith_tree 2 Add (local 1 0) (local 3 1))) { units = 1; named = 1 }
@@ -92,7 +95,7 @@ length_of = plain (num_note (Written metre) ∷ []) (call 1 0 (more (local 2 0) 
 
 -- num<'a> -> num<'a> -> num<'a>, and num<m> -> num<m>
 total_inferred :
-    shown (infer (with_functions (total ∷ length_of ∷ []))) ≡
+    shown (infer (of_metres (total ∷ length_of ∷ []))) ≡
     schemes (record { params = (term (Var 0) (pos 1) ∷ []) ∷ (term (Var 0) (pos 1) ∷ []) ∷ []; result = term (Var 0) (pos 1) ∷ []; vars = 1 }
     ∷ record { params = (term (Base 0) (pos 1) ∷ []) ∷ []; result = term (Base 0) (pos 1) ∷ []; vars = 0 } ∷ [])
 unfolding product
@@ -102,6 +105,6 @@ total_inferred = refl
 abbrev fixed : FunctionTree
 fixed = record (plain (num_note (Written (atom (Var 0))) ∷ []) (arith_tree 2 Add (local 1 0) (number 3 one_number (Written metre)))) { units = 1; named = 1 }
 
-fixed_refused : shown (infer (with_functions (double ∷ fixed ∷ []))) ≡ less_general 1 0 2
+fixed_refused : shown (infer (of_metres (double ∷ fixed ∷ []))) ≡ less_general 1 0 2
 unfolding product
 fixed_refused = refl
