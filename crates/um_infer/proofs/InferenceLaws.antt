@@ -7,7 +7,7 @@ use Rattle.um_tree.specs.Typing.{Typing}
 use Rattle.um_tree.specs.Formed.{IsFormed}
 use Rattle.um_tree.proofs.WrittenUnits.{formed_literals_are_closed}
 use Rattle.um_rows.specs.Judgement.{Judgement, has_scheme, too_many_slots, passes_range, has_no_typing, not_general, judge}
-use Rattle.um_rows.specs.Laws.{IsFirstRow, AreSolvableUpTo}
+use Rattle.um_rows.specs.Laws.{IsFirstRow}
 use Rattle.um_rows.proofs.JudgementLaws.{judged_untyped_have_none, judged_not_general_have_none}
 use Rattle.um_infer.specs.Inference.{Inference, all_schemes, stops_at_slots, stops_at_range, stops_at_units, stops_at_not_general, with_judgement, with_function, and_then, infer_first, infer}
 use Rattle.um_infer.specs.Schemes.{ArePrincipal, AreTyped, IsFirstUntyped, IsFirstWithoutUnits, IsFirstNotGeneral, IsJudged}

@@ -1,6 +1,6 @@
 -- A function without unit parameters is never judged to be not general: its rows are solved from the slots' own variables at
 -- first, and once more they end in the same way.
-use Rattle.std.proofs.Common.{◌≡◌, ℕ, cond, leb, Option, Some, None, List, refl, sym, ap, ◌∙◌, subst}
+use Rattle.std.proofs.Common.{◌≡◌, ℕ, cond, leb, Option, Some, None, List, sym, ap, ◌∙◌, subst}
 use Rattle.um_units.specs.PowerMap.{nth}
 use Rattle.um_tree.specs.ProgramTree.{RecordTree, FunctionTree, Signature, SchemeTree}
 use Rattle.um_tree.specs.Typing.{put_signature}

@@ -2,16 +2,15 @@ use Rattle.std.proofs.Common.{◌≡◌, ◌+◌, ◌<◌, map, ap, ◌∙◌, s
 use Rattle.std.specs.Prelude.{All}
 use Rattle.std.proofs.lemmas.List.Elements.{All-weaker}
 use Rattle.std.proofs.lemmas.Result.{err_from_is_err_and}
-use Rattle.um_units.specs.PowerMap.{nth}
 use Rattle.um_tree.specs.TypeTree.{type_tree, type_trees}
 use Rattle.um_tree.specs.ProgramTree.{scheme_tree}
-use Rattle.um_tree.specs.Typing.{put, moved}
+use Rattle.um_tree.specs.Typing.{moved}
 use Rattle.um_tree.specs.Scheme.{signature_types, variables}
 use Rattle.um_elim.specs.Solution.{rigid_units}
 use Rattle.um_rows.specs.Answers.{rows_signature}
 use Rattle.um_rows.specs.FirstUnsolvable.{solve}
 use Rattle.um_rows.specs.Generalised.{generalised_unit}
-use Rattle.um_infer.specs.Forming.{IsSolutionOf, AreRigidlySolved}
+use Rattle.um_infer.specs.Forming.{IsSolutionOf}
 use Rattle.um_infer.proofs.FormingSteps.{puts_below, formed_is_judged, past_is_judged}
 use Rattle.um_infer.proofs.GeneralSteps.{types_stay}
 use Rattle.um_infer.proofs.forming.formed_scheme.Goals as goal

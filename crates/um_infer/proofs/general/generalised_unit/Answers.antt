@@ -2,7 +2,7 @@ use Rattle.std.proofs.Common.{◌≡◌, true, false, map, ap, ◌∙◌}
 use Rattle.um_units.specs.PowerMap.{product}
 use Rattle.um_units.specs.Range.{fits}
 use Rattle.um_elim.proofs.VariablesKept.{unit_below}
-use Rattle.um_rows.specs.Generalised.{generalised_term, generalised_unit}
+use Rattle.um_rows.specs.Generalised.{generalised_term}
 use Rattle.um_rows.proofs.GeneralisedUnits.{product-generalised, fits-generalised}
 use Rattle.um_infer.proofs.general.generalised_unit.Goals as goal
 
