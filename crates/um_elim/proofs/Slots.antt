@@ -71,7 +71,7 @@ module _ (bases parameters : ℕ) where
       ∙ ap (mul (s k)) (replace-inv s (atom (Base (bases + k))) ∙ ap inv (replace-base s (bases + k)))
 
   -- the equations hold exactly where each parameter's slot has its base unit
-  rows_solved : (s : ℕ → PowerMap) (a n : ℕ) → ((k : ℕ) → a ≤ k → k < a + n → s k ≡ atom (Base (bases + k))) → Solves s (map (parameter_row bases) (range_with_len a n))
+  pub rows_solved : (s : ℕ → PowerMap) (a n : ℕ) → ((k : ℕ) → a ≤ k → k < a + n → s k ≡ atom (Base (bases + k))) → Solves s (map (parameter_row bases) (range_with_len a n))
   rows_solved s a zero same = Solves-nil s
   rows_solved s a (suc n) same =
       All-cons (λ row. replace s row ≡ one) (parameter_row bases a) (map (parameter_row bases) (range_with_len (a + 1) n))

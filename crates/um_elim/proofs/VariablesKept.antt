@@ -112,10 +112,10 @@ all_own_below slots k d h =
     subst (VariablesBelow slots) (sym (get_or-map-range_with_len (λ i. atom (Var i)) 0 slots k k d low (omega arith))) (own_below slots k low)
 
 -- ---- a type with units put in
-unit_all : (n : ℕ) (u : PowerMap) → VariablesBelow n u → All (λ k. k < n) (unit_variables u)
+pub unit_all : (n : ℕ) (u : PowerMap) → VariablesBelow n u → All (λ k. k < n) (unit_variables u)
 unit_all n u below = All-from_below n u.terms (variables_below-from_VariablesBelow n u below)
 
-unit_below : (n : ℕ) (u : PowerMap) → All (λ k. k < n) (unit_variables u) → VariablesBelow n u
+pub unit_below : (n : ℕ) (u : PowerMap) → All (λ k. k < n) (unit_variables u) → VariablesBelow n u
 unit_below n u all k held = All-member (λ i. i < n) (unit_variables u) k all (held-member u k held)
 
 module _ (n : ℕ) (units : List PowerMap) (all : All (VariablesBelow n) units) where

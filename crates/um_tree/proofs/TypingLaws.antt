@@ -20,7 +20,7 @@ puts-moved : (s : ℕ → PowerMap) (ts : List TypeTree) → map (moved (replace
 puts-moved s [] = refl
 puts-moved s (t ∷ ts) = ap (λ x. x ∷ map (moved (replace s)) ts) (put-moved s t) ∙ ap (λ xs. put s t ∷ xs) (puts-moved s ts)
 
-signature-moved : (s : ℕ → PowerMap) (g : Signature) → moved_signature (replace s) g ≡ put_signature s g
+pub signature-moved : (s : ℕ → PowerMap) (g : Signature) → moved_signature (replace s) g ≡ put_signature s g
 signature-moved s g =
     ap (λ ts. record { params = ts; result = moved (replace s) g.result }) (puts-moved s g.params) ∙ ap (λ t. record { params = map (put s) g.params; result = t }) (put-moved s g.result)
 
