@@ -31,13 +31,13 @@ abbrev pub decl_into : Bool → DeclSyntax → DeclState
 decl_into b (base_syntax at x) = HaveBase at x
 decl_into b (short_syntax at x u) = InShort at x (unit_into [] u)
 decl_into b (record_decl_syntax at x vs fs) = HaveRecord at x vs fs
-decl_into b (function_syntax f) = InBody f.recursive f.at f.name f.params f.result (at_end b (opened [] f.body) (last_atom f.body))
+decl_into b (function_syntax f) = InBody (start_of f) f.params f.result (at_end b (opened [] f.body) (last_atom f.body))
 
 pub decl_finds : (b : Bool) (d : DeclSyntax) → DeclFits d → decl_finish (decl_into b d) ≡ Some d
 decl_finds b (base_syntax at x) fits = refl
 decl_finds b (short_syntax at x u) fits = ap (short_found at x) (unit_finds u fits)
 decl_finds b (record_decl_syntax at x vs fs) fits = refl
-decl_finds b (function_syntax f) fits = ap (body_found f.recursive f.at f.name f.params f.result) (expr_finds b f.body fits.2)
+decl_finds b (function_syntax f) fits = ap (body_found (start_of f) f.params f.result) (expr_finds b f.body fits.2)
 
 -- ---- measures
 
@@ -133,55 +133,55 @@ yields_fields (d ∷ fs) at x vs before f tokens mid rest s fits c =
 
 -- ---- functions
 
-yields_param : (recursive : Bool) (at : ℕ) (x : List ℕ) (before : List ParamSyntax) (q : ParamSyntax) (tokens rest : List Token) → ParamSpells q tokens rest → TypeFits q.type
-    → Yields decl_step (Expects (Params recursive at x before)) tokens (Expects (Params recursive at x (before ++ q ∷ []))) rest
-yields_param recursive at x before q tokens rest s fits =
-    thence (yields_first (Expects (Params recursive at x before)) (Expects (ParamBinder recursive at x before)) (mark symbol.LeftParen) tokens s.0 s.4 (λ p g k. refl))
+yields_param : (head : FunctionStart) (before : List ParamSyntax) (q : ParamSyntax) (tokens rest : List Token) → ParamSpells q tokens rest → TypeFits q.type
+    → Yields decl_step (Expects (Params head before)) tokens (Expects (Params head (before ++ q ∷ []))) rest
+yields_param head before q tokens rest s fits =
+    thence (yields_first (Expects (Params head before)) (Expects (ParamBinder head before)) (mark symbol.LeftParen) tokens s.0 s.4 (λ p g k. refl))
     (
     thence
-    (yields_binder (Expects (ParamBinder recursive at x before)) (λ z. Expects (ParamColon recursive at x before z)) q.binder s.0 s.1 s.5 (λ z p g k. refl) (λ p g k. refl))
+    (yields_binder (Expects (ParamBinder head before)) (λ z. Expects (ParamColon head before z)) q.binder s.0 s.1 s.5 (λ z p g k. refl) (λ p g k. refl))
     (
     thence
-    (yields_first (Expects (ParamColon recursive at x before q.binder)) (InParam recursive at x before q.binder (NeedType 0)) (mark symbol.Colon) s.1 s.2 s.6 (λ p g k. refl))
+    (yields_first (Expects (ParamColon head before q.binder)) (InParam head before q.binder (NeedType 0)) (mark symbol.Colon) s.1 s.2 s.6 (λ p g k. refl))
     (
-    thence (yields_type (λ w. InParam recursive at x before q.binder w) (param_inside recursive at x before q.binder) q.type s.2 s.3 s.7 fits) (
+    thence (yields_type (λ w. InParam head before q.binder w) (param_inside head before q.binder) q.type s.2 s.3 s.7 fits) (
       s.8.0 ∷ [],
       s.8.2,
-      ap (λ w. param_goes recursive at x before q.binder (type_after 0 q.type w) (param_ends recursive at x before q.binder (Some q.type) (expr_token s.8.0.kind))) (mark_is s.8.0.kind symbol.RightParen s.8.1)
-          ∙ ap (param_ends recursive at x before q.binder (Some q.type)) s.8.1,
+      ap (λ w. param_goes head before q.binder (type_after 0 q.type w) (param_ends head before q.binder (Some q.type) (expr_token s.8.0.kind))) (mark_is s.8.0.kind symbol.RightParen s.8.1)
+          ∙ ap (param_ends head before q.binder (Some q.type)) s.8.1,
     )
     )
     )
     )
 
-yields_params : (ps : List ParamSyntax) (recursive : Bool) (at : ℕ) (x : List ℕ) (before : List ParamSyntax) (tokens rest : List Token) → ParamsSpell ps tokens rest → ParamsFit ps
-    → Yields decl_step (Expects (Params recursive at x before)) tokens (Expects (Params recursive at x (before ++ ps))) rest
-yields_params [] recursive at x before tokens rest s fits =
-    yields_here decl_step (Expects (Params recursive at x before)) (Expects (Params recursive at x (before ++ []))) tokens rest (ap (λ w. Expects (Params recursive at x w)) (sym (append-nil before))) s
-yields_params (q ∷ ps) recursive at x before tokens rest s fits =
-    thence (yields_param recursive at x before q tokens s.0 s.1 fits.0)
+yields_params : (ps : List ParamSyntax) (head : FunctionStart) (before : List ParamSyntax) (tokens rest : List Token) → ParamsSpell ps tokens rest → ParamsFit ps
+    → Yields decl_step (Expects (Params head before)) tokens (Expects (Params head (before ++ ps))) rest
+yields_params [] head before tokens rest s fits =
+    yields_here decl_step (Expects (Params head before)) (Expects (Params head (before ++ []))) tokens rest (ap (λ w. Expects (Params head w)) (sym (append-nil before))) s
+yields_params (q ∷ ps) head before tokens rest s fits =
+    thence (yields_param head before q tokens s.0 s.1 fits.0)
     (
-    yields_as decl_step (Expects (Params recursive at x (before ++ q ∷ []))) (Expects (Params recursive at x ((before ++ q ∷ []) ++ ps))) (Expects (Params recursive at x (before ++ q ∷ ps))) s.0 rest
-    (yields_params ps recursive at x (before ++ q ∷ []) s.0 rest s.2 fits.1) (ap (λ w. Expects (Params recursive at x w)) (append_assoc before (q ∷ []) ps))
+    yields_as decl_step (Expects (Params head (before ++ q ∷ []))) (Expects (Params head ((before ++ q ∷ []) ++ ps))) (Expects (Params head (before ++ q ∷ ps))) s.0 rest
+    (yields_params ps head (before ++ q ∷ []) s.0 rest s.2 fits.1) (ap (λ w. Expects (Params head w)) (append_assoc before (q ∷ []) ps))
     )
 
-yields_result : (r : Option TypeSyntax) (recursive : Bool) (at : ℕ) (x : List ℕ) (ps : List ParamSyntax) (tokens mid rest : List Token) → ResultSpells r tokens mid → First equal mid rest → ResultFits recursive r
-    → Yields decl_step (Expects (Params recursive at x ps)) tokens (InBody recursive at x ps r (Need [])) rest
+yields_result : (r : Option TypeSyntax) (head : FunctionStart) (ps : List ParamSyntax) (tokens mid rest : List Token) → ResultSpells r tokens mid → First equal mid rest → ResultFits recursive r
+    → Yields decl_step (Expects (Params head ps)) tokens (InBody head ps r (Need [])) rest
 yields_result None false at x ps tokens mid rest s e fits =
     yields_first (Expects (Params false at x ps)) (InBody false at x ps None (Need [])) equal tokens rest (subst (λ w. First equal w rest) (sym s) e) (λ p g k. refl)
 yields_result None true at x ps tokens mid rest s e fits = absurd cc
-yields_result (Some t) recursive at x ps tokens mid rest s e fits =
-    let over : DeclState = result_ends recursive at x ps (Some t) (expr_token e.0.kind) in
-    thence (yields_first (Expects (Params recursive at x ps)) (InResult recursive at x ps (NeedType 0)) (mark symbol.Colon) tokens s.0 s.1 (λ p g k. refl))
+yields_result (Some t) head ps tokens mid rest s e fits =
+    let over : DeclState = result_ends head ps (Some t) (expr_token e.0.kind) in
+    thence (yields_first (Expects (Params head ps)) (InResult head ps (NeedType 0)) (mark symbol.Colon) tokens s.0 s.1 (λ p g k. refl))
     (
-    thence (yields_type (λ w. InResult recursive at x ps w) (result_inside recursive at x ps) t s.0 mid s.2 fits) (
+    thence (yields_type (λ w. InResult head ps w) (result_inside head ps) t s.0 mid s.2 fits) (
       e.0 ∷ [],
       e.2,
-      ap (λ w. result_goes recursive at x ps (type_after 0 t w) over) (equal_is e.0.kind e.1) ∙ ap (result_ends recursive at x ps (Some t)) e.1,
+      ap (λ w. result_goes head ps (type_after 0 t w) over) (equal_is e.0.kind e.1) ∙ ap (result_ends head ps (Some t)) e.1,
     )
     )
 
-yields_name : (recursive : Bool) (at : ℕ) (x : List ℕ) (tokens mid rest : List Token) → RecSpells recursive tokens mid → FirstAt (name x) at mid rest → Yields decl_step (Expects LetName) tokens (Expects (Params recursive at x [])) rest
+yields_name : (head : FunctionStart) (tokens mid rest : List Token) → RecSpells recursive tokens mid → FirstAt (name x) at mid rest → Yields decl_step (Expects LetName) tokens (Expects (Params head [])) rest
 yields_name false at x tokens mid rest s n =
     yields_at (Expects LetName) (Expects (Params false at x [])) (name x) at tokens rest (subst (λ w. FirstAt (name x) at w rest) (sym s) n) (λ g k. refl)
 yields_name true at x tokens mid rest s n =
@@ -191,14 +191,14 @@ yields_name true at x tokens mid rest s n =
 yields_function : (f : FunctionSyntax) (tokens rest : List Token) → FunctionSpells f tokens rest → DeclFits (function_syntax f)
     → (b : Bool) × Yields decl_step (Expects DeclBegin) tokens (decl_into b (function_syntax f)) rest
 yields_function f tokens rest s fits =
-    let body = yields_body f.recursive f.at f.name f.params f.result f.body s.5 rest s.12 fits.2 in (
+    let body = yields_body (start_of f) f.params f.result f.body s.5 rest s.12 fits.2 in (
       body.0,
       thence (yields_first (Expects DeclBegin) (Expects LetName) (word keyword.Let) tokens s.0 s.6 (λ p g k. refl))
           (
-          thence (yields_name f.recursive f.at f.name s.0 s.1 s.2 s.7 s.8)
+          thence (yields_name (start_of f) s.0 s.1 s.2 s.7 s.8)
           (
-          thence (yields_params f.params f.recursive f.at f.name [] s.2 s.3 s.9 fits.0)
-          (thence (yields_result f.result f.recursive f.at f.name f.params s.3 s.4 s.5 s.10 s.11 fits.1) body.1)
+          thence (yields_params f.params (start_of f) [] s.2 s.3 s.9 fits.0)
+          (thence (yields_result f.result (start_of f) f.params s.3 s.4 s.5 s.10 s.11 fits.1) body.1)
           )
           ),
     )

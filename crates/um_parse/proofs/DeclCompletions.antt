@@ -50,8 +50,8 @@ param_of b = record { binder = b; type = bool_syntax }
 abbrev unnamed : BinderSyntax
 unnamed = record { at = 0; name = None }
 
-abbrev function_of : Bool → ℕ → List ℕ → List ParamSyntax → DeclSyntax
-function_of recursive at x ps = function_syntax (record { at = at; name = x; recursive = recursive; params = ps; result = Some bool_syntax; body = operand })
+abbrev function_of : FunctionStart → List ParamSyntax → DeclSyntax
+function_of head ps = function_syntax (record { at = at; name = x; recursive = recursive; params = ps; result = Some bool_syntax; body = operand })
 
 -- `: bool }`; `name : bool }`; `{ name : bool }`; `= { name : bool }`; `: bool = true`
 abbrev field_rest : List Token
@@ -94,9 +94,9 @@ expected_ending (FieldName at x vs fs) = name_token ∷ field_rest
 expected_ending (FieldColon at x vs fs place y) = field_rest
 expected_ending LetName = name_token ∷ function_rest
 expected_ending RecName = name_token ∷ function_rest
-expected_ending (Params recursive at x ps) = function_rest
-expected_ending (ParamBinder recursive at x ps) = hole_token ∷ sign symbol.Colon ∷ word keyword.Bool ∷ sign symbol.RightParen ∷ function_rest
-expected_ending (ParamColon recursive at x ps b) = sign symbol.Colon ∷ word keyword.Bool ∷ sign symbol.RightParen ∷ function_rest
+expected_ending (Params head ps) = function_rest
+expected_ending (ParamBinder head ps) = hole_token ∷ sign symbol.Colon ∷ word keyword.Bool ∷ sign symbol.RightParen ∷ function_rest
+expected_ending (ParamColon head ps b) = sign symbol.Colon ∷ word keyword.Bool ∷ sign symbol.RightParen ∷ function_rest
 
 abbrev pub expected_completed : DeclExpected → DeclSyntax
 expected_completed DeclBegin = base_syntax 0 []
@@ -119,9 +119,9 @@ expected_completed (FieldName at x vs fs) = record_decl_syntax at x vs (fs ++ fi
 expected_completed (FieldColon at x vs fs place y) = record_decl_syntax at x vs (fs ++ field_of place y ∷ [])
 expected_completed LetName = function_of false 0 [] []
 expected_completed RecName = function_of true 0 [] []
-expected_completed (Params recursive at x ps) = function_of recursive at x ps
-expected_completed (ParamBinder recursive at x ps) = function_of recursive at x (ps ++ param_of unnamed ∷ [])
-expected_completed (ParamColon recursive at x ps b) = function_of recursive at x (ps ++ param_of b ∷ [])
+expected_completed (Params head ps) = function_of head ps
+expected_completed (ParamBinder head ps) = function_of head (ps ++ param_of unnamed ∷ [])
+expected_completed (ParamColon head ps b) = function_of head (ps ++ param_of b ∷ [])
 
 abbrev pub decl_ending : DeclState → List Token
 decl_ending (Expects expected) = expected_ending expected
@@ -129,9 +129,9 @@ decl_ending (HaveBase at x) = []
 decl_ending (InShort at x u) = ending_of u
 decl_ending (HaveRecord at x vs fs) = []
 decl_ending (InField at x vs fs place y s) = type_ending s ++ sign symbol.RightBrace ∷ []
-decl_ending (InParam recursive at x ps b s) = type_ending s ++ sign symbol.RightParen ∷ function_rest
-decl_ending (InResult recursive at x ps s) = type_ending s ++ sign symbol.Equal ∷ operand_token ∷ []
-decl_ending (InBody recursive at x ps r e) = expr_ending e
+decl_ending (InParam head ps b s) = type_ending s ++ sign symbol.RightParen ∷ function_rest
+decl_ending (InResult head ps s) = type_ending s ++ sign symbol.Equal ∷ operand_token ∷ []
+decl_ending (InBody head ps r e) = expr_ending e
 decl_ending NoDecl = []
 
 abbrev pub decl_completed : DeclState → DeclSyntax
@@ -140,9 +140,9 @@ decl_completed (HaveBase at x) = base_syntax at x
 decl_completed (InShort at x u) = short_syntax at x (completed u)
 decl_completed (HaveRecord at x vs fs) = record_decl_syntax at x vs fs
 decl_completed (InField at x vs fs place y s) = record_decl_syntax at x vs (fs ++ (record { at = place; name = y; type = type_completed s }) ∷ [])
-decl_completed (InParam recursive at x ps b s) = function_of recursive at x (ps ++ (record { binder = b; type = type_completed s }) ∷ [])
-decl_completed (InResult recursive at x ps s) = function_syntax (record { at = at; name = x; recursive = recursive; params = ps; result = Some (type_completed s); body = operand })
-decl_completed (InBody recursive at x ps r e) = function_syntax (record { at = at; name = x; recursive = recursive; params = ps; result = r; body = expr_completed e })
+decl_completed (InParam head ps b s) = function_of head (ps ++ (record { binder = b; type = type_completed s }) ∷ [])
+decl_completed (InResult head ps s) = function_syntax (record { at = at; name = x; recursive = recursive; params = ps; result = Some (type_completed s); body = operand })
+decl_completed (InBody head ps r e) = function_syntax (record { at = at; name = x; recursive = recursive; params = ps; result = r; body = expr_completed e })
 decl_completed NoDecl = base_syntax 0 []
 
 -- ---- the tokens
@@ -177,8 +177,8 @@ fields_read : (at : ℕ) (x : List ℕ) (vs : List VarSyntax) (fs : List FieldDe
 fields_read at x vs fs f tokens fields rest o s =
     (o.3.0, o.0, o.1, o.2, fields, sign symbol.RightBrace ∷ rest, o.3.1, o.3.2, o.4, o.5, o.6, s, (sign symbol.RightBrace, refl, refl))
 
-function_reads : (recursive : Bool) (at : ℕ) (x : List ℕ) (ps : List ParamSyntax) (tokens rest : List Token) → FunctionHead recursive at x ps tokens (function_rest ++ rest) → DeclSpells (function_of recursive at x ps) tokens rest
-function_reads recursive at x ps tokens rest h = (
+function_reads : (head : FunctionStart) (ps : List ParamSyntax) (tokens rest : List Token) → FunctionHead head ps tokens (function_rest ++ rest) → DeclSpells (function_of head ps) tokens rest
+function_reads head ps tokens rest h = (
   h.0,
   h.1,
   h.2,
@@ -282,12 +282,12 @@ expected_reads LetName tokens rest h =
     function_reads false 0 [] [] tokens rest (name_token ∷ (function_rest ++ rest), name_token ∷ (function_rest ++ rest), function_rest ++ rest, h, refl, (name_token, refl, refl, refl), refl)
 expected_reads RecName tokens rest h =
     function_reads true 0 [] [] tokens rest (h.0, name_token ∷ (function_rest ++ rest), function_rest ++ rest, h.1, h.2, (name_token, refl, refl, refl), refl)
-expected_reads (Params recursive at x ps) tokens rest h = function_reads recursive at x ps tokens rest h
-expected_reads (ParamBinder recursive at x ps) tokens rest h =
+expected_reads (Params head ps) tokens rest h = function_reads head ps tokens rest h
+expected_reads (ParamBinder head ps) tokens rest h =
     let behind : List Token = sign symbol.Colon ∷ word keyword.Bool ∷ sign symbol.RightParen ∷ (function_rest ++ rest) in
-    function_reads recursive at x (ps ++ param_of unnamed ∷ []) tokens rest
+    function_reads head (ps ++ param_of unnamed ∷ []) tokens rest
     (
-    head_last recursive at x ps (param_of unnamed) tokens h.0 (function_rest ++ rest) h.1 (
+    head_last head ps (param_of unnamed) tokens h.0 (function_rest ++ rest) h.1 (
       hole_token ∷ behind,
       behind,
       word keyword.Bool ∷ sign symbol.RightParen ∷ (function_rest ++ rest),
@@ -299,10 +299,10 @@ expected_reads (ParamBinder recursive at x ps) tokens rest h =
       (sign symbol.RightParen, refl, refl),
     )
     )
-expected_reads (ParamColon recursive at x ps b) tokens rest h =
-    function_reads recursive at x (ps ++ param_of b ∷ []) tokens rest
+expected_reads (ParamColon head ps b) tokens rest h =
+    function_reads head (ps ++ param_of b ∷ []) tokens rest
     (
-    head_last recursive at x ps (param_of b) tokens h.0 (function_rest ++ rest) h.2 (
+    head_last head ps (param_of b) tokens h.0 (function_rest ++ rest) h.2 (
       h.1,
       sign symbol.Colon ∷ word keyword.Bool ∷ sign symbol.RightParen ∷ (function_rest ++ rest),
       word keyword.Bool ∷ sign symbol.RightParen ∷ (function_rest ++ rest),
@@ -336,9 +336,9 @@ expected_fits (FieldName at x vs fs) f = fields_fit fs (field_of 0 []) f tt
 expected_fits (FieldColon at x vs fs place y) f = fields_fit fs (field_of place y) f tt
 expected_fits LetName f = (tt, tt, tt)
 expected_fits RecName f = (tt, tt, tt)
-expected_fits (Params recursive at x ps) f = (f, tt, tt)
-expected_fits (ParamBinder recursive at x ps) f = (params_fit ps (param_of unnamed) f tt, tt, tt)
-expected_fits (ParamColon recursive at x ps b) f = (params_fit ps (param_of b) f tt, tt, tt)
+expected_fits (Params head ps) f = (f, tt, tt)
+expected_fits (ParamBinder head ps) f = (params_fit ps (param_of unnamed) f tt, tt, tt)
+expected_fits (ParamColon head ps b) f = (params_fit ps (param_of b) f tt, tt, tt)
 
 -- what isn't refused can be completed
 pub decl_can_end : (st : DeclState) (tokens rest : List Token) → DeclSpellsPrefix st tokens (decl_ending st ++ rest) → st ≢ NoDecl → DeclSpells (decl_completed st) tokens rest × DeclFits (decl_completed st)
@@ -355,20 +355,20 @@ decl_can_end (InField at x vs fs place y s) tokens rest h ok =
     let p = type_can_end s h.3 (sign symbol.RightBrace ∷ rest) (subst (λ w. TypeSpellsPrefix s h.3 w) (append_assoc (type_ending s) (sign symbol.RightBrace ∷ []) rest) h.8) h.10 in
     let f : FieldDeclSyntax = record { at = place; name = y; type = type_completed s } in
     (fields_read at x vs fs f tokens h.0 rest h.4 (fields_last fs f h.0 h.1 (sign symbol.RightBrace ∷ rest) h.5 (h.2, h.3, h.6, h.7, p.0)), fields_fit fs f h.9 p.1)
-decl_can_end (InParam recursive at x ps b s) tokens rest h ok =
+decl_can_end (InParam head ps b s) tokens rest h ok =
     let behind : List Token = function_rest ++ rest in
     let p = type_can_end s h.3 (sign symbol.RightParen ∷ behind) (subst (λ w. TypeSpellsPrefix s h.3 w) (append_assoc (type_ending s) (sign symbol.RightParen ∷ function_rest) rest) h.8) h.10 in
     let q : ParamSyntax = record { binder = b; type = type_completed s } in (
-      function_reads recursive at x (ps ++ q ∷ []) tokens rest (head_last recursive at x ps q tokens h.0 behind h.4 (h.1, h.2, h.3, sign symbol.RightParen ∷ behind, h.5, h.6, h.7, p.0, (sign symbol.RightParen, refl, refl))),
+      function_reads head (ps ++ q ∷ []) tokens rest (head_last head ps q tokens h.0 behind h.4 (h.1, h.2, h.3, sign symbol.RightParen ∷ behind, h.5, h.6, h.7, p.0, (sign symbol.RightParen, refl, refl))),
       (params_fit ps q h.9 p.1, tt, tt),
     )
-decl_can_end (InResult recursive at x ps s) tokens rest h ok =
+decl_can_end (InResult head ps s) tokens rest h ok =
     let p = type_can_end s h.1 (sign symbol.Equal ∷ operand_token ∷ rest) (subst (λ w. TypeSpellsPrefix s h.1 w) (append_assoc (type_ending s) (sign symbol.Equal ∷ operand_token ∷ []) rest) h.4) h.6 in
     let f = h.2 in (
       (f.0, f.1, f.2, h.0, sign symbol.Equal ∷ operand_token ∷ rest, operand_token ∷ rest, f.3, f.4, f.5, f.6, (h.1, h.3, p.0), (sign symbol.Equal, refl, refl), (operand_token, refl, refl, refl)),
       (h.5, p.1, tt),
     )
-decl_can_end (InBody recursive at x ps r e) tokens rest h ok =
+decl_can_end (InBody head ps r e) tokens rest h ok =
     let p = expr_can_end e h.2 rest h.6 h.9 in
     let f = h.3 in
     ((f.0, f.1, f.2, h.0, h.1, h.2, f.3, f.4, f.5, f.6, h.4, h.5, p.0), (h.7, h.8, p.1))

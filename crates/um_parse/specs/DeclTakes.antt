@@ -23,8 +23,8 @@ reader_state (reader.Short s) = InShort s.at s.name (unit_state s.unit)
 reader_state (reader.Record f) = HaveRecord f.head.at f.head.name (head_vars f.head) (read_fields f)
 reader_state (reader.Field f p y t) =
     InField f.head.at f.head.name (head_vars f.head) (read_fields f) p y (type_state t)
-reader_state (reader.Param f b t) = InParam f.recursive f.at f.name (read_params f) (binder_syntax b) (type_state t)
-reader_state (reader.Result f t) = InResult f.recursive f.at f.name (read_params f) (type_state t)
+reader_state (reader.Param f b t) = InParam (start_of f) (read_params f) (binder_syntax b) (type_state t)
+reader_state (reader.Result f t) = InResult (start_of f) (read_params f) (type_state t)
 reader_state (reader.Body h e) =
     InBody h.prefix.recursive h.prefix.at h.prefix.name (read_params h.prefix) (written_type h.result) (expr_state e)
 

@@ -60,9 +60,9 @@ view_expected (expected.FieldName f) = FieldName f.head.at f.head.name (head_var
 view_expected (expected.FieldColon f p y) = FieldColon f.head.at f.head.name (head_vars f.head) (read_fields f) p y
 view_expected expected.LetName = LetName
 view_expected expected.RecName = RecName
-view_expected (expected.Params f) = Params f.recursive f.at f.name (read_params f)
-view_expected (expected.ParamBinder f) = ParamBinder f.recursive f.at f.name (read_params f)
-view_expected (expected.ParamColon f b) = ParamColon f.recursive f.at f.name (read_params f) (binder_syntax b)
+view_expected (expected.Params f) = Params (start_of f) (read_params f)
+view_expected (expected.ParamBinder f) = ParamBinder (start_of f) (read_params f)
+view_expected (expected.ParamColon f b) = ParamColon (start_of f) (read_params f) (binder_syntax b)
 
 abbrev pub next_state : Next → DeclState
 next_state (next.At p) = Expects (view_expected p)
@@ -70,8 +70,8 @@ next_state (next.Base at x) = HaveBase at x
 next_state (next.Short at x) = InShort at x (NeedUnit [])
 next_state (next.Record f) = HaveRecord f.head.at f.head.name (head_vars f.head) (read_fields f)
 next_state (next.Field f p y) = InField f.head.at f.head.name (head_vars f.head) (read_fields f) p y (NeedType 0)
-next_state (next.Param f b) = InParam f.recursive f.at f.name (read_params f) (binder_syntax b) (NeedType 0)
-next_state (next.Result f) = InResult f.recursive f.at f.name (read_params f) (NeedType 0)
+next_state (next.Param f b) = InParam (start_of f) (read_params f) (binder_syntax b) (NeedType 0)
+next_state (next.Result f) = InResult (start_of f) (read_params f) (NeedType 0)
 next_state (next.Body h) =
     InBody h.prefix.recursive h.prefix.at h.prefix.name (read_params h.prefix) (written_type h.result) (Need [])
 
