@@ -21,10 +21,10 @@ use Rattle.um_expr.specs.ExprMachine.{State, Need, Have, HavePower, Greater, Ins
 use Rattle.um_expr.specs.ExprLeast.{whole_least}
 use Rattle.um_parse.specs.ProgramHeights.{fields_height, params_height, result_height, decl_height}
 use Rattle.um_parse.specs.ProgramLeast.{expected_least, decl_least}
-use Rattle.um_parse.specs.DeclMachine.{DeclExpected, DeclBegin, AttributeWord, AttributeGreater, AttributeClose, MeasureType, MeasureName, RecordName, RecordVars, VarBegin, VarWord, VarGreater, VarClose, VarName, VarEnd, RecordEqual, RecordBrace, FieldName, FieldColon, LetName, RecName, Params, ParamBinder, ParamColon, DeclState, Expects, HaveBase, InShort, HaveRecord, InField, InParam, InResult, InBody, NoDecl, body_begins, take_expected, base_after, field_ends, param_ends, result_ends, short_goes, field_goes, param_goes, result_goes, body_goes, decl_step, short_found, body_found, decl_finish}
+use Rattle.um_parse.specs.DeclMachine.{FunctionStart, VarOwner, OfRecord, OfFunction, started, behind_vars, body_begins_if, take_params, function_from, DeclExpected, DeclBegin, AttributeWord, AttributeGreater, AttributeClose, MeasureType, MeasureName, RecordName, RecordVars, VarBegin, VarWord, VarGreater, VarClose, VarName, VarEnd, RecordEqual, RecordBrace, FieldName, FieldColon, LetName, RecName, FunctionVars, Params, ParamBinder, ParamColon, DeclState, Expects, HaveBase, InShort, HaveRecord, InField, InParam, InResult, InBody, NoDecl, body_begins, take_expected, base_after, field_ends, param_ends, result_ends, short_goes, field_goes, param_goes, result_goes, body_goes, decl_step, short_found, body_found, decl_finish}
 use Rattle.um_expr.proofs.ExprHeights.{expr_completed_height, expr_up, expr_found_height}
 use Rattle.um_parse.proofs.DeclPrefixes.{DeclSpellsPrefix}
-use Rattle.um_parse.proofs.DeclCompletions.{expected_completed, decl_completed}
+use Rattle.um_parse.proofs.DeclCompletions.{owner_with, expected_completed, decl_completed}
 
 fields_last : (fs : List FieldDeclSyntax) (f : FieldDeclSyntax) → fields_height (fs ++ f ∷ []) ≡ max (fields_height fs) (whole_height f.type)
 fields_last [] f = omega arith
@@ -36,6 +36,13 @@ params_last (q ∷ qs) p = let e = params_last qs p in omega (arith, e)
 
 -- ---- the completion
 
+unnamed : VarSyntax
+unnamed = record { at = 0; name = [] }
+
+owner_height : (owner : VarOwner) (vs : List VarSyntax) → decl_height (owner_with owner vs) ≡ 1
+owner_height (OfRecord at x) vs = omega arith
+owner_height (OfFunction recursive at x) vs = omega arith
+
 expected_height : (expected : DeclExpected) → decl_height (expected_completed expected) ≡ expected_least expected
 expected_height DeclBegin = refl
 expected_height AttributeWord = refl
@@ -45,18 +52,19 @@ expected_height MeasureType = refl
 expected_height MeasureName = refl
 expected_height RecordName = omega arith
 expected_height (RecordVars at x) = omega arith
-expected_height (VarBegin at x vs) = omega arith
-expected_height (VarWord at x vs) = omega arith
-expected_height (VarGreater at x vs) = omega arith
-expected_height (VarClose at x vs) = omega arith
-expected_height (VarName at x vs) = omega arith
-expected_height (VarEnd at x vs) = omega arith
+expected_height (VarBegin owner vs) = owner_height owner (vs ++ unnamed ∷ [])
+expected_height (VarWord owner vs) = owner_height owner (vs ++ unnamed ∷ [])
+expected_height (VarGreater owner vs) = owner_height owner (vs ++ unnamed ∷ [])
+expected_height (VarClose owner vs) = owner_height owner (vs ++ unnamed ∷ [])
+expected_height (VarName owner vs) = owner_height owner (vs ++ unnamed ∷ [])
+expected_height (VarEnd owner vs) = owner_height owner vs
 expected_height (RecordEqual at x vs) = omega arith
 expected_height (RecordBrace at x vs) = omega arith
 expected_height (FieldName at x vs fs) = let e = fields_last fs (record { at = 0; name = []; type = bool_syntax }) in omega (arith, e)
 expected_height (FieldColon at x vs fs place y) = let e = fields_last fs (record { at = place; name = y; type = bool_syntax }) in omega (arith, e)
 expected_height LetName = omega arith
 expected_height RecName = omega arith
+expected_height (FunctionVars recursive at x) = omega arith
 expected_height (Params head ps) = omega arith
 expected_height (ParamBinder head ps) = let e = params_last ps (record { binder = record { at = 0; name = None }; type = bool_syntax }) in omega (arith, e)
 expected_height (ParamColon head ps b) = let e = params_last ps (record { binder = b; type = bool_syntax }) in omega (arith, e)
@@ -96,8 +104,22 @@ Above n (InResult head ps s) = n ≤ decl_least (InResult head ps s)
 Above n (InBody head ps r e) = n ≤ decl_least (InBody head ps r e)
 
 body_up : (head : FunctionStart) (ps : List ParamSyntax) → Above (max (params_height ps) 1) (body_begins head ps)
-body_up true at x ps = tt
-body_up false at x ps = omega arith
+body_up head ps = by (head.recursive)
+  where
+    by : (b : Bool) → Above (max (params_height ps) 1) (body_begins_if b head ps)
+    by true = tt
+    by false = omega arith
+
+take_params_up : (head : FunctionStart) (ps : List ParamSyntax) (what : ExprToken) → Above (max (params_height ps) 1) (take_params head ps what)
+take_params_up head ps (mark symbol.LeftParen) = omega arith
+take_params_up head ps (mark symbol.Colon) = omega arith
+take_params_up head ps (operator (between.Compare compare.Eq)) = body_up head ps
+take_params_up head ps _ = tt
+
+-- a record without fields, or a function without parameters
+vars_up : (owner : VarOwner) (vs : List VarSyntax) → Above 1 (Expects (behind_vars owner vs))
+vars_up (OfRecord at x) vs = omega arith
+vars_up (OfFunction recursive at x) vs = omega arith
 
 expected_up : (expected : DeclExpected) (what : ExprToken) (at : ℕ) → Above (expected_least expected) (take_expected expected what at)
 expected_up DeclBegin (mark symbol.AttributeOpen) at = omega arith
@@ -111,13 +133,13 @@ expected_up MeasureName (name x) at = omega arith
 expected_up RecordName (name x) at = omega arith
 expected_up (RecordVars p x) (operator (between.Compare compare.Lt)) at = omega arith
 expected_up (RecordVars p x) (operator (between.Compare compare.Eq)) at = omega arith
-expected_up (VarBegin p x vs) (mark symbol.AttributeOpen) at = omega arith
-expected_up (VarWord p x vs) (word keyword.Measure) at = omega arith
-expected_up (VarGreater p x vs) (operator (between.Compare compare.Gt)) at = omega arith
-expected_up (VarClose p x vs) (mark symbol.RightBracket) at = omega arith
-expected_up (VarName p x vs) (variable v) at = omega arith
-expected_up (VarEnd p x vs) (mark symbol.Comma) at = omega arith
-expected_up (VarEnd p x vs) (operator (between.Compare compare.Gt)) at = omega arith
+expected_up (VarBegin owner vs) (mark symbol.AttributeOpen) at = omega arith
+expected_up (VarWord owner vs) (word keyword.Measure) at = omega arith
+expected_up (VarGreater owner vs) (operator (between.Compare compare.Gt)) at = omega arith
+expected_up (VarClose owner vs) (mark symbol.RightBracket) at = omega arith
+expected_up (VarName owner vs) (variable v) at = omega arith
+expected_up (VarEnd owner vs) (mark symbol.Comma) at = omega arith
+expected_up (VarEnd owner vs) (operator (between.Compare compare.Gt)) at = vars_up owner vs
 expected_up (RecordEqual p x vs) (operator (between.Compare compare.Eq)) at = omega arith
 expected_up (RecordBrace p x vs) (mark symbol.LeftBrace) at = omega arith
 expected_up (FieldName p x vs fs) (name y) at = omega arith
@@ -125,9 +147,9 @@ expected_up (FieldColon p x vs fs place y) (mark symbol.Colon) at = omega arith
 expected_up LetName (word keyword.Rec) at = omega arith
 expected_up LetName (name x) at = omega arith
 expected_up RecName (name x) at = omega arith
-expected_up (Params head ps) (mark symbol.LeftParen) at = omega arith
-expected_up (Params head ps) (mark symbol.Colon) at = omega arith
-expected_up (Params head ps) (operator (between.Compare compare.Eq)) at = body_up head ps
+expected_up (FunctionVars recursive p x) (operator (between.Compare compare.Lt)) at = omega arith
+expected_up (FunctionVars recursive p x) what at = take_params_up (started recursive p x []) [] what
+expected_up (Params head ps) what at = take_params_up head ps what
 expected_up (ParamBinder head ps) (name y) at = omega arith
 expected_up (ParamBinder head ps) hole at = omega arith
 expected_up (ParamColon head ps b) (mark symbol.Colon) at = omega arith
@@ -243,7 +265,7 @@ short_height at x u None d f e = absurd cc
 body_height : (head : FunctionStart) (ps : List ParamSyntax) (r : Option TypeSyntax) (e : State) (o : Option ExprSyntax) (d : DeclSyntax) → finish e ≡ o → body_found head ps r o ≡ Some d
     → decl_height d ≡ max (params_height ps) (max (result_height r) (whole_least e))
 body_height head ps r e (Some t) d f h =
-    let same : function_syntax (record { at = at; name = x; recursive = recursive; params = ps; result = r; body = t }) ≡ d = cc in
+    let same : function_from head ps r t ≡ d = cc in
     ap decl_height (sym same) ∙ ap (λ n. max (params_height ps) (max (result_height r) n)) (expr_found_height e t f)
 body_height head ps r e None d f h = absurd cc
 

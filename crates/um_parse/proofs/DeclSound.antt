@@ -20,10 +20,10 @@ use Rattle.um_expr.specs.ExprTokens.{expr_token, equal}
 use Rattle.um_expr.specs.ExprGrammar.{First, FirstAt, BinderSpells}
 use Rattle.um_expr.specs.ExprMachine.{State, Need, Have, HavePower, Greater, Inside, InNote, InType, Refused, step, finish}
 use Rattle.um_parse.specs.DeclGrammar.{DeclSpells, ResultSpells, ParamsFit, ResultFits, FieldDeclsFit, DeclFits}
-use Rattle.um_parse.specs.DeclMachine.{DeclExpected, DeclBegin, AttributeWord, AttributeGreater, AttributeClose, MeasureType, MeasureName, RecordName, RecordVars, VarBegin, VarWord, VarGreater, VarClose, VarName, VarEnd, RecordEqual, RecordBrace, FieldName, FieldColon, LetName, RecName, Params, ParamBinder, ParamColon, DeclState, Expects, HaveBase, InShort, HaveRecord, InField, InParam, InResult, InBody, NoDecl, body_begins, take_expected, base_after, field_ends, param_ends, result_ends, short_goes, field_goes, param_goes, result_goes, body_goes, decl_step, short_found, body_found, decl_finish}
+use Rattle.um_parse.specs.DeclMachine.{FunctionStart, VarOwner, OfRecord, OfFunction, started, behind_vars, body_begins_if, take_params, function_from, DeclExpected, DeclBegin, AttributeWord, AttributeGreater, AttributeClose, MeasureType, MeasureName, RecordName, RecordVars, VarBegin, VarWord, VarGreater, VarClose, VarName, VarEnd, RecordEqual, RecordBrace, FieldName, FieldColon, LetName, RecName, FunctionVars, Params, ParamBinder, ParamColon, DeclState, Expects, HaveBase, InShort, HaveRecord, InField, InParam, InResult, InBody, NoDecl, body_begins, take_expected, base_after, field_ends, param_ends, result_ends, short_goes, field_goes, param_goes, result_goes, body_goes, decl_step, short_found, body_found, decl_finish}
 use Rattle.um_expr.proofs.ExprPrefixes.{SpellsPrefix}
 use Rattle.um_expr.proofs.ExprSound.{step_sound, expr_found}
-use Rattle.um_parse.proofs.DeclPrefixes.{FieldsRead, RecordOpens, MeasureReads, FunctionHead, DeclSpellsPrefix, vars_comma, vars_last, vars_close, fields_semi, fields_last, fields_fit, params_fit, head_last}
+use Rattle.um_parse.proofs.DeclPrefixes.{OwnerReads, FieldsRead, RecordOpens, MeasureReads, FunctionHead, DeclSpellsPrefix, vars_comma, vars_last, vars_close, fields_semi, fields_last, fields_fit, params_fit, head_last}
 
 need_type : NeedType 0 ≢ NoType
 need_type e = cc
@@ -33,8 +33,24 @@ need_expr e = cc
 
 body_begins_sound : (head : FunctionStart) (ps : List ParamSyntax) (tokens mid rest : List Token) → FunctionHead head ps tokens mid → First equal mid rest → ParamsFit ps
     → DeclSpellsPrefix (body_begins head ps) tokens rest
-body_begins_sound true at x ps tokens mid rest h s fits = tt
-body_begins_sound false at x ps tokens mid rest h s fits = (mid, mid, rest, h, refl, s, (refl, tt), fits, refl, need_expr)
+body_begins_sound head ps tokens mid rest h s fits = by (head.recursive) refl
+  where
+    by : (b : Bool) → head.recursive ≡ b → DeclSpellsPrefix (body_begins_if b head ps) tokens rest
+    by true e = tt
+    by false e = (mid, mid, rest, h, refl, s, (refl, tt), fits, e, need_expr)
+
+-- behind the parameters of a function, or its name
+params_sound : (head : FunctionStart) (ps : List ParamSyntax) (what : ExprToken) (at : ℕ) (tokens mid rest : List Token) → FunctionHead head ps tokens mid → ParamsFit ps → FirstAt what at mid rest
+    → DeclSpellsPrefix (take_params head ps what) tokens rest
+params_sound head ps (mark symbol.LeftParen) at tokens mid rest h fits s = ((mid, h, (s.0, s.1, s.3)), fits)
+params_sound head ps (mark symbol.Colon) at tokens mid rest h fits s = (mid, rest, h, (s.0, s.1, s.3), refl, fits, need_type)
+params_sound head ps (operator (between.Compare compare.Eq)) at tokens mid rest h fits s = body_begins_sound head ps tokens mid rest h (s.0, s.1, s.3) fits
+params_sound head ps _ at tokens mid rest h fits s = tt
+
+-- behind the `>` of unit parameters
+vars_sound : (owner : VarOwner) (vs : List VarSyntax) (tokens sign rest : List Token) → OwnerReads owner tokens sign → VarsSpell vs sign rest → DeclSpellsPrefix (Expects (behind_vars owner vs)) tokens rest
+vars_sound (OfRecord p x) vs tokens sign rest h s = ((sign, h, s), tt)
+vars_sound (OfFunction recursive p x) vs tokens sign rest h s = ((sign, rest, h, s, refl), tt)
 
 expected_sound : (expected : DeclExpected) (what : ExprToken) (at : ℕ) (tokens mid rest : List Token) → DeclSpellsPrefix (Expects expected) tokens mid → FirstAt what at mid rest → DeclSpellsPrefix (take_expected expected what at) tokens rest
 expected_sound DeclBegin (mark symbol.AttributeOpen) at tokens mid rest h s = ((s.0, s.1, h.0 ∙ s.3), tt)
@@ -48,27 +64,28 @@ expected_sound MeasureName (name x) at tokens mid rest h s = (h.0.0, mid, h.0.1,
 expected_sound RecordName (name x) at tokens mid rest h s = ((mid, h.0, s), tt)
 expected_sound (RecordVars p x) (operator (between.Compare compare.Lt)) at tokens mid rest h s = ((mid, rest, h.0, (s.0, s.1, s.3), refl), tt)
 expected_sound (RecordVars p x) (operator (between.Compare compare.Eq)) at tokens mid rest h s = ((mid, mid, h.0, refl, (s.0, s.1, s.3)), tt)
-expected_sound (VarBegin p x vs) (mark symbol.AttributeOpen) at tokens mid rest h s = ((mid, h.0, (s.0, s.1, s.3)), tt)
-expected_sound (VarWord p x vs) (word keyword.Measure) at tokens mid rest h s = ((h.0.0, mid, h.0.1, h.0.2, (s.0, s.1, s.3)), tt)
-expected_sound (VarGreater p x vs) (operator (between.Compare compare.Gt)) at tokens mid rest h s = ((h.0.0, h.0.1, mid, h.0.2, h.0.3, h.0.4, (s.0, s.1, s.3)), tt)
-expected_sound (VarClose p x vs) (mark symbol.RightBracket) at tokens mid rest h s =
+expected_sound (VarBegin owner vs) (mark symbol.AttributeOpen) at tokens mid rest h s = ((mid, h.0, (s.0, s.1, s.3)), tt)
+expected_sound (VarWord owner vs) (word keyword.Measure) at tokens mid rest h s = ((h.0.0, mid, h.0.1, h.0.2, (s.0, s.1, s.3)), tt)
+expected_sound (VarGreater owner vs) (operator (between.Compare compare.Gt)) at tokens mid rest h s = ((h.0.0, h.0.1, mid, h.0.2, h.0.3, h.0.4, (s.0, s.1, s.3)), tt)
+expected_sound (VarClose owner vs) (mark symbol.RightBracket) at tokens mid rest h s =
     let r = h.0 in ((r.0, r.3, (r.1, r.2, mid, r.4, r.5, r.6, (s.0, s.1, s.3))), tt)
-expected_sound (VarName p x vs) (variable v) at tokens mid rest h s =
+expected_sound (VarName owner vs) (variable v) at tokens mid rest h s =
     let o = h.0.1 in
     let var : VarSyntax = record { at = at; name = v } in
     ((o.0, o.1, o.2, o.3, vars_last vs var o.1 h.0.0 rest o.4 (mid, h.0.2, s)), tt)
-expected_sound (VarEnd p x vs) (mark symbol.Comma) at tokens mid rest h s = let r = h.0 in ((r.0, r.1, r.2, r.3, vars_comma vs r.1 mid rest r.4 (s.0, s.1, s.3)), tt)
-expected_sound (VarEnd p x vs) (operator (between.Compare compare.Gt)) at tokens mid rest h s = let r = h.0 in ((r.0, r.2, vars_close vs r.0 r.1 mid rest r.3 r.4 (s.0, s.1, s.3)), tt)
+expected_sound (VarEnd owner vs) (mark symbol.Comma) at tokens mid rest h s = let r = h.0 in ((r.0, r.1, r.2, r.3, vars_comma vs r.1 mid rest r.4 (s.0, s.1, s.3)), tt)
+expected_sound (VarEnd owner vs) (operator (between.Compare compare.Gt)) at tokens mid rest h s =
+    let r = h.0 in vars_sound owner vs tokens r.0 rest r.2 (vars_close vs r.0 r.1 mid rest r.3 r.4 (s.0, s.1, s.3))
 expected_sound (RecordEqual p x vs) (operator (between.Compare compare.Eq)) at tokens mid rest h s = ((h.0.0, mid, h.0.1, h.0.2, (s.0, s.1, s.3)), tt)
 expected_sound (RecordBrace p x vs) (mark symbol.LeftBrace) at tokens mid rest h s = ((rest, (h.0.0, h.0.1, mid, h.0.2, h.0.3, h.0.4, (s.0, s.1, s.3)), refl), tt)
 expected_sound (FieldName p x vs fs) (name y) at tokens mid rest h s = ((h.0.0, mid, h.0.1, h.0.2, s), h.1)
 expected_sound (FieldColon p x vs fs place y) (mark symbol.Colon) at tokens mid rest h s = (h.0.0, h.0.1, mid, rest, h.0.2, h.0.3, h.0.4, (s.0, s.1, s.3), refl, h.1, need_type)
 expected_sound LetName (word keyword.Rec) at tokens mid rest h s = ((mid, h.0, (s.0, s.1, s.3)), tt)
-expected_sound LetName (name x) at tokens mid rest h s = ((mid, mid, rest, h.0, refl, s, refl), tt)
-expected_sound RecName (name x) at tokens mid rest h s = ((h.0.0, mid, rest, h.0.1, h.0.2, s, refl), tt)
-expected_sound (Params head ps) (mark symbol.LeftParen) at tokens mid rest h s = ((mid, h.0, (s.0, s.1, s.3)), h.1)
-expected_sound (Params head ps) (mark symbol.Colon) at tokens mid rest h s = (mid, rest, h.0, (s.0, s.1, s.3), refl, h.1, need_type)
-expected_sound (Params head ps) (operator (between.Compare compare.Eq)) at tokens mid rest h s = body_begins_sound head ps tokens mid rest h.0 (s.0, s.1, s.3) h.1
+expected_sound LetName (name x) at tokens mid rest h s = ((mid, mid, h.0, refl, s), tt)
+expected_sound RecName (name x) at tokens mid rest h s = ((h.0.0, mid, h.0.1, h.0.2, s), tt)
+expected_sound (FunctionVars recursive p x) (operator (between.Compare compare.Lt)) at tokens mid rest h s = ((mid, rest, h.0, (s.0, s.1, s.3), refl), tt)
+expected_sound (FunctionVars recursive p x) what at tokens mid rest h s = params_sound (started recursive p x []) [] what at tokens mid rest (mid, mid, h.0, refl, refl) tt s
+expected_sound (Params head ps) what at tokens mid rest h s = params_sound head ps what at tokens mid rest h.0 h.1 s
 expected_sound (ParamBinder head ps) (name y) at tokens mid rest h s = ((h.0.0, mid, h.0.1, h.0.2, s), h.1)
 expected_sound (ParamBinder head ps) hole at tokens mid rest h s = ((h.0.0, mid, h.0.1, h.0.2, s), h.1)
 expected_sound (ParamColon head ps b) (mark symbol.Colon) at tokens mid rest h s = (h.0.0, h.0.1, mid, rest, h.0.2, h.0.3, h.0.4, (s.0, s.1, s.3), refl, h.1, need_type)
@@ -143,7 +160,7 @@ result_goes_sound head ps (InTypeNote depth owner w) over tokens d next rest o c
 result_goes_sound head ps NoType over tokens d next rest o c s f h = h
 
 body_sound : (head : FunctionStart) (ps : List ParamSyntax) (r : Option TypeSyntax) (e : State) (tokens d sign next rest : List Token) → FunctionHead head ps tokens d
-    → ResultSpells r d sign → First equal sign next → SpellsPrefix e next rest → ParamsFit ps → ResultFits recursive r → DeclSpellsPrefix (body_goes head ps r e) tokens rest
+    → ResultSpells r d sign → First equal sign next → SpellsPrefix e next rest → ParamsFit ps → ResultFits head.recursive r → DeclSpellsPrefix (body_goes head ps r e) tokens rest
 body_sound head ps r (Need frames) tokens d sign next rest o w q s f g = (d, sign, next, o, w, q, s, f, g, λ h. cc)
 body_sound head ps r (Have frames t) tokens d sign next rest o w q s f g = (d, sign, next, o, w, q, s, f, g, λ h. cc)
 body_sound head ps r (HavePower frames t) tokens d sign next rest o w q s f g = (d, sign, next, o, w, q, s, f, g, λ h. cc)
@@ -179,7 +196,7 @@ short_is at x (Some u) d e = (u, refl, cc)
 short_is at x None d e = absurd cc
 
 body_is : (head : FunctionStart) (ps : List ParamSyntax) (r : Option TypeSyntax) (o : Option ExprSyntax) (d : DeclSyntax) → body_found head ps r o ≡ Some d
-    → (e : ExprSyntax) × (o ≡ Some e) × (function_syntax (record { at = at; name = x; recursive = recursive; params = ps; result = r; body = e }) ≡ d)
+    → (e : ExprSyntax) × (o ≡ Some e) × (function_from head ps r e ≡ d)
 body_is head ps r (Some e) d h = (e, refl, cc)
 body_is head ps r None d h = absurd cc
 
@@ -197,7 +214,7 @@ decl_found (InBody head ps r e) d tokens rest h same =
     let w = body_is head ps r (finish e) d same in
     let p = expr_found e w.0 h.2 rest h.6 w.1 in
     let f = h.3 in
-    subst (λ t. DeclSpells t tokens rest × DeclFits t) w.2 ((f.0, f.1, f.2, h.0, h.1, h.2, f.3, f.4, f.5, f.6, h.4, h.5, p.0), (h.7, h.8, p.1))
+    subst (λ t. DeclSpells t tokens rest × DeclFits t) w.2 ((f.2.0, f.2.1, f.0, f.1, h.0, h.1, h.2, f.2.2, f.2.3, f.2.4, f.3, f.4, h.4, h.5, p.0), (h.7, h.8, p.1))
 decl_found (Expects expected) d tokens rest h e = absurd cc
 decl_found (InField at x vs fs place y s) d tokens rest h e = absurd cc
 decl_found (InParam head ps b s) d tokens rest h e = absurd cc

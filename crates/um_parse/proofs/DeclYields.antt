@@ -23,7 +23,7 @@ use Rattle.um_expr.specs.ExprTokens.{expr_token, greater}
 use Rattle.um_expr.specs.ExprGrammar.{First, FirstAt, bound, BinderSpells, Spells, Fits}
 use Rattle.um_expr.specs.ExprMachine.{State, Need, Have, HavePower, Greater, Inside, InNote, InType, Refused, step}
 use Rattle.um_parse.specs.DeclGrammar.{Attribute}
-use Rattle.um_parse.specs.DeclMachine.{DeclState, InShort, InField, InParam, InResult, InBody, short_goes, field_goes, param_goes, result_goes, body_goes, field_ends, param_ends, result_ends, decl_act, decl_step}
+use Rattle.um_parse.specs.DeclMachine.{FunctionStart, DeclState, InShort, InField, InParam, InResult, InBody, short_goes, field_goes, param_goes, result_goes, body_goes, field_ends, param_ends, result_ends, decl_act, decl_step}
 use Rattle.um_expr.proofs.ExprEnds.{opened, last_atom}
 use Rattle.um_expr.proofs.ExprAtEnd.{at_end}
 use Rattle.um_expr.proofs.ExprLaws.{expr_reaches}

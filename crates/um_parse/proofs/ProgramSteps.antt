@@ -7,7 +7,7 @@ use Rattle.um_tree.specs.RawTree.{DeclSyntax, decl_syntax}
 use Rattle.um_types.specs.Machines.{runs}
 use Rattle.um_types.proofs.Reaching.{runs_append}
 use Rattle.um_types.specs.UnitStops.{greatest_height}
-use Rattle.um_parse.specs.DeclMachine.{DeclBegin, AttributeWord, AttributeGreater, AttributeClose, MeasureType, MeasureName, RecordName, RecordVars, VarBegin, VarWord, VarGreater, VarClose, VarName, VarEnd, RecordEqual, RecordBrace, FieldName, FieldColon, LetName, RecName, Params, ParamBinder, ParamColon, DeclState, Expects, HaveBase, InShort, HaveRecord, InField, InParam, InResult, InBody, NoDecl, decl_finish, ProgramState, InProgram, NoProgram, program_goes, program_step, program_found, program_finish}
+use Rattle.um_parse.specs.DeclMachine.{DeclBegin, AttributeWord, AttributeGreater, AttributeClose, MeasureType, MeasureName, RecordName, RecordVars, VarBegin, VarWord, VarGreater, VarClose, VarName, VarEnd, RecordEqual, RecordBrace, FieldName, FieldColon, LetName, RecName, FunctionVars, Params, ParamBinder, ParamColon, DeclState, Expects, HaveBase, InShort, HaveRecord, InField, InParam, InResult, InBody, NoDecl, decl_finish, ProgramState, InProgram, NoProgram, program_goes, program_step, program_found, program_finish}
 use Rattle.um_parse.specs.ProgramHeights.{decl_height, program_height}
 use Rattle.um_parse.specs.ProgramLeast.{decl_least, program_least}
 use Rattle.um_parse.specs.ProgramStates.{start, state_at, IsReadTo}
@@ -78,18 +78,19 @@ found_with decls (Expects MeasureType) later = refl
 found_with decls (Expects MeasureName) later = refl
 found_with decls (Expects RecordName) later = refl
 found_with decls (Expects (RecordVars at x)) later = refl
-found_with decls (Expects (VarBegin at x vs)) later = refl
-found_with decls (Expects (VarWord at x vs)) later = refl
-found_with decls (Expects (VarGreater at x vs)) later = refl
-found_with decls (Expects (VarClose at x vs)) later = refl
-found_with decls (Expects (VarName at x vs)) later = refl
-found_with decls (Expects (VarEnd at x vs)) later = refl
+found_with decls (Expects (VarBegin owner vs)) later = refl
+found_with decls (Expects (VarWord owner vs)) later = refl
+found_with decls (Expects (VarGreater owner vs)) later = refl
+found_with decls (Expects (VarClose owner vs)) later = refl
+found_with decls (Expects (VarName owner vs)) later = refl
+found_with decls (Expects (VarEnd owner vs)) later = refl
 found_with decls (Expects (RecordEqual at x vs)) later = refl
 found_with decls (Expects (RecordBrace at x vs)) later = refl
 found_with decls (Expects (FieldName at x vs fs)) later = refl
 found_with decls (Expects (FieldColon at x vs fs p y)) later = refl
 found_with decls (Expects LetName) later = refl
 found_with decls (Expects RecName) later = refl
+found_with decls (Expects (FunctionVars recursive at x)) later = refl
 found_with decls (Expects (Params head ps)) later = refl
 found_with decls (Expects (ParamBinder head ps)) later = refl
 found_with decls (Expects (ParamColon head ps b)) later = refl
