@@ -262,10 +262,10 @@ yields_function f tokens rest s fits =
     let body = yields_body (start_of f) f.params f.result f.body s.6 rest s.14 fits.2 in (
       body.0,
       thence (yields_first (Expects DeclBegin) (Expects LetName) (word keyword.Let) tokens s.0 s.7 (λ p g k. refl))
-      (
-      thence (yields_name f.recursive f.at f.name s.0 s.1 s.2 s.8 s.9)
-      (thence (yields_units_behind f.units f.recursive f.at f.name f.params f.result s.2 s.3 s.4 s.5 s.6 s.10 s.11 fits.0 s.12 s.13 fits.1) body.1)
-      ),
+          (
+          thence (yields_name f.recursive f.at f.name s.0 s.1 s.2 s.8 s.9)
+          (thence (yields_units_behind f.units f.recursive f.at f.name f.params f.result s.2 s.3 s.4 s.5 s.6 s.10 s.11 fits.0 s.12 s.13 fits.1) body.1)
+          ),
     )
 
 -- ---- declarations

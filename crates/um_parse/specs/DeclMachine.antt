@@ -223,8 +223,15 @@ short_found at x (Some u) = Some (short_syntax at x u)
 
 abbrev pub function_from : FunctionStart → List ParamSyntax → Option TypeSyntax → ExprSyntax → DeclSyntax
 function_from head ps r e =
-    function_syntax (record { at = head.at; name = head.name; recursive = head.recursive; units = head.units;
-    params = ps; result = r; body = e })
+    function_syntax (record {
+      at = head.at;
+      name = head.name;
+      recursive = head.recursive;
+      units = head.units;
+      params = ps;
+      result = r;
+      body = e;
+    })
 
 abbrev pub body_found : FunctionStart → List ParamSyntax → Option TypeSyntax → Option ExprSyntax → Option DeclSyntax
 body_found head ps r None = None
