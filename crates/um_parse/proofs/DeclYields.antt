@@ -98,7 +98,7 @@ pub yields_body : (head : FunctionStart) (ps : List ParamSyntax) (r : Option Typ
     → (b : Bool) × Yields decl_step (InBody head ps r (Need [])) tokens (InBody head ps r (at_end b (opened [] e) (last_atom e))) rest
 yields_body head ps r e tokens rest s fits =
     let p = expr_reaches e tokens rest s fits in
-    (p.2, p.0, p.1, lift step Refused (λ t. refl) decl_step (λ w. InBody head ps r w) (body_inside head ps r) p.0 (Need []) (at_end p.2 (opened [] e) (last_atom e)) p.3 p.4)
+    (p.2, (p.0, p.1, lift step Refused (λ t. refl) decl_step (λ w. InBody head ps r w) (body_inside head ps r) p.0 (Need []) (at_end p.2 (opened [] e) (last_atom e)) p.3 p.4))
 
 -- the machine of types goes on inside
 pub field_inside : (at : ℕ) (x : List ℕ) (vs : List VarSyntax) (fs : List FieldDeclSyntax) (place : ℕ) (y : List ℕ) (s new : TypeState) (token : Token) → type_step s token ≡ new → new ≢ NoType

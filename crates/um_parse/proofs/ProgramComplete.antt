@@ -86,7 +86,8 @@ yields_decl : (decls : List DeclSyntax) (d : DeclSyntax) (tokens rest : List Tok
     → (b : Bool) × Yields program_step (InProgram decls (Expects DeclBegin)) tokens (InProgram decls (decl_into b d)) rest
 yields_decl decls d tokens rest s fits =
     let r = decl_yields d tokens rest s fits in
-    (r.0, r.1, r.2, lift decl_step NoDecl (λ t. refl) program_step (λ w. InProgram decls w) (decl_inside decls) r.1 (Expects DeclBegin) (decl_into r.0 d) r.3 (into_on r.0 d))
+    let y = r.1 in
+    (r.0, (y.0, y.1, lift decl_step NoDecl (λ t. refl) program_step (λ w. InProgram decls w) (decl_inside decls) y.0 (Expects DeclBegin) (decl_into r.0 d) y.2 (into_on r.0 d)))
 
 abbrev FirstPasses : List Token → Type 0
 FirstPasses tokens = (token : Token) × (more : List Token) × (tokens ≡ token ∷ more) × (begins_decl (expr_token token.kind) ≡ true)
@@ -110,7 +111,9 @@ next_alike decls b d token fits h =
 yields_next : (decls : List DeclSyntax) (b : Bool) (d e : DeclSyntax) (tokens rest : List Token) → DeclFits d → DeclSpells e tokens rest → DeclFits e
     → (c : Bool) × Yields program_step (InProgram decls (decl_into b d)) tokens (InProgram (decls ++ d ∷ []) (decl_into c e)) rest
 yields_next decls b d e tokens rest fit s fits =
-    let p = yields_decl (decls ++ d ∷ []) e tokens rest s fits in (p.0, alike p.0 p.1 p.2 p.3)
+    let p = yields_decl (decls ++ d ∷ []) e tokens rest s fits in
+    let y = p.1 in
+    (p.0, alike p.0 y.0 y.1 y.2)
   where
     first : FirstPasses tokens
     first = decl_first e tokens rest s
@@ -134,19 +137,19 @@ program_into b decls (d ∷ e ∷ ds) = program_into b (decls ++ d ∷ []) (e �
 
 more_decls : (ds : List DeclSyntax) (b : Bool) (d : DeclSyntax) (decls : List DeclSyntax) (tokens rest : List Token) → DeclFits d → DeclsSpell ds tokens rest → DeclsFit ds
     → (c : Bool) × Yields program_step (InProgram decls (decl_into b d)) tokens (program_into c decls (d ∷ ds)) rest
-more_decls [] b d decls tokens rest fit s fits = (b, [], s, refl)
+more_decls [] b d decls tokens rest fit s fits = (b, ([], s, refl))
 more_decls (e ∷ ds) b d decls tokens rest fit s fits =
     let next = yields_next decls b d e tokens s.0 fit s.1 fits.0 in
     let more = more_decls ds next.0 e (decls ++ d ∷ []) s.0 rest fits.0 s.2 fits.1 in
-    (more.0, yields_then program_step (InProgram decls (decl_into b d)) (InProgram (decls ++ d ∷ []) (decl_into next.0 e)) (program_into more.0 decls (d ∷ e ∷ ds)) tokens s.0 rest (next.1, next.2, next.3) (more.1, more.2, more.3))
+    (more.0, yields_then program_step (InProgram decls (decl_into b d)) (InProgram (decls ++ d ∷ []) (decl_into next.0 e)) (program_into more.0 decls (d ∷ e ∷ ds)) tokens s.0 rest next.1 more.1)
 
 program_leads : (ds : List DeclSyntax) (tokens rest : List Token) → DeclsSpell ds tokens rest → DeclsFit ds
     → (b : Bool) × Yields program_step (InProgram [] (Expects DeclBegin)) tokens (program_into b [] ds) rest
-program_leads [] tokens rest s fits = (false, [], s, refl)
+program_leads [] tokens rest s fits = (false, ([], s, refl))
 program_leads (d ∷ ds) tokens rest s fits =
     let one = yields_decl [] d tokens s.0 s.1 fits.0 in
     let more = more_decls ds one.0 d [] s.0 rest fits.0 s.2 fits.1 in
-    (more.0, yields_then program_step (InProgram [] (Expects DeclBegin)) (InProgram [] (decl_into one.0 d)) (program_into more.0 [] (d ∷ ds)) tokens s.0 rest (one.1, one.2, one.3) (more.1, more.2, more.3))
+    (more.0, yields_then program_step (InProgram [] (Expects DeclBegin)) (InProgram [] (decl_into one.0 d)) (program_into more.0 [] (d ∷ ds)) tokens s.0 rest one.1 more.1)
 
 -- ---- laws
 
@@ -166,7 +169,9 @@ program_finds b (d ∷ ds) fits = finds_all ds b d [] fits
 
 pub reads_as : (ds : List DeclSyntax) (tokens : List Token) → IsProgram tokens ds → (b : Bool) × (runs program_step start tokens ≡ program_into b [] ds)
 reads_as ds tokens p =
-    let r = program_leads ds tokens [] p.spelled p.fits in (r.0, ap (runs program_step start) (r.2 ∙ append-nil r.1) ∙ r.3)
+    let r = program_leads ds tokens [] p.spelled p.fits in
+    let y = r.1 in
+    (r.0, ap (runs program_step start) (y.1 ∙ append-nil y.0) ∙ y.2)
 
 -- a program is found
 pub finds : (tokens : List Token) (ds : List DeclSyntax) → IsProgram tokens ds → program_finish (runs program_step start tokens) ≡ Some ds

@@ -288,7 +288,7 @@ vars_less (v ∷ vs) tokens rest s =
     omega (arith, a, b, c, d)
 
 other_less : (d : DeclSyntax) (tokens rest : List Token) → DeclSpells d tokens rest → DeclFits d → length rest ≤ length tokens
-other_less d tokens rest s fits = let p = decl_yields d tokens rest s fits in no_longer p.1 tokens rest p.2
+other_less d tokens rest s fits = let p = decl_yields d tokens rest s fits in let y = p.1 in no_longer y.0 tokens rest y.1
 
 decl_fits : (d : DeclSyntax) (tokens rest : List Token) → DeclSpells d tokens rest → DeclFits d → decl_nodes d + length rest ≤ length tokens
 decl_fits (base_syntax at x) tokens rest s fits = let e = other_less (base_syntax at x) tokens rest s fits in omega (arith, e)
