@@ -49,7 +49,7 @@ decl_stops b (short_syntax at x u) token h =
     ap (short_goes at x) (foreign_refused (unit_into [] u) (unit_token token.kind) token.start (decl_is_foreign token.kind h))
 decl_stops b (record_decl_syntax at x vs fs) token h = refl
 decl_stops b (function_syntax f) token h =
-    ap (body_goes f.recursive f.at f.name f.params f.result) (expr_stops b (opened [] f.body) (last_atom f.body) (expr_token token.kind) token.start token.glued token.kind h)
+    ap (body_goes (start_of f) f.params f.result) (expr_stops b (opened [] f.body) (last_atom f.body) (expr_token token.kind) token.start token.glued token.kind h)
 
 -- ---- declarations one behind the other
 
@@ -59,9 +59,9 @@ goes_on decls (HaveBase at x) over ok = refl
 goes_on decls (InShort at x u) over ok = refl
 goes_on decls (HaveRecord at x vs fs) over ok = refl
 goes_on decls (InField at x vs fs place y s) over ok = refl
-goes_on decls (InParam recursive at x ps b s) over ok = refl
-goes_on decls (InResult recursive at x ps s) over ok = refl
-goes_on decls (InBody recursive at x ps r e) over ok = refl
+goes_on decls (InParam head ps b s) over ok = refl
+goes_on decls (InResult head ps s) over ok = refl
+goes_on decls (InBody head ps r e) over ok = refl
 goes_on decls NoDecl over ok = absurd (ok refl)
 
 decl_inside : (decls : List DeclSyntax) (d new : DeclState) (token : Token) → decl_step d token ≡ new → new ≢ NoDecl → program_step (InProgram decls d) token ≡ InProgram decls new
