@@ -2,9 +2,9 @@
 -- and how many calls may stand inside one another is no matter above the budget.
 use Rattle.std.proofs.Common.{◌≡◌, refl, ap, length, subst, ℕ, zero, suc, ◌<◌, ◌≤◌, true, false, cond, nat_eq, List, [], ◌∷◌, ◌++◌, Option, Some, None, Result, Ok, Err, slice_get, arith}
 use Rattle.um_tree.specs.ValueTree.{ValueTree, truth_value, number_value, list_value, record_value, no_values, more_values}
-use Rattle.um_tree.specs.ExprTree.{ExprTree, ExprTrees, truth, number, local, call, negate, not_expr, arith as arith_tree, compare, both, either, if, bind, split, nil, list_expr, cons, record_expr, field, none, more}
+use Rattle.um_tree.specs.ExprTree.{ExprTree, ExprTrees, truth, number, local, call, negate, not_expr, pown, arith as arith_tree, compare, both, either, if, bind, split, nil, list_expr, cons, record_expr, field, none, more}
 use Rattle.um_tree.specs.ProgramTree.{FunctionTree}
-use Rattle.um_tree.specs.Meaning.{Out, gives, stops, Stop, wrong, then, Calling, spend, found, with_budget, calculated, compared, negated, not_of, longer, field_of, choose, on_list, means, all_mean, body_means, running, Means, AllMean, Outcome}
+use Rattle.um_tree.specs.Meaning.{Out, gives, stops, Stop, wrong, then, Calling, spend, found, with_budget, calculated, compared, negated, not_of, raised, longer, field_of, choose, on_list, means, all_mean, body_means, running, Means, AllMean, Outcome}
 
 -- the rest, where there is one, is at most the budget
 abbrev pub Within : {A : Type 0} → ℕ → Out A → Type 0
@@ -54,6 +54,7 @@ module _ (calling : Calling) (low : (j : ℕ) (vs : List ValueTree) (b : ℕ) �
     within (call at j es) vars b = within_then b _ _ (within_all es vars b) (λ vs c. low j vs c)
     within (negate at x) vars b = within_then b _ _ (within x vars b) (λ v c. within_result (negated v) c)
     within (not_expr at x) vars b = within_then b _ _ (within x vars b) (λ v c. within_result (not_of v) c)
+    within (pown at x k) vars b = within_then b _ _ (within x vars b) (λ v c. within_result (raised k v) c)
     within (arith_tree at op x y) vars b = within_then b _ _ (within x vars b) (λ v c. within_then c _ _ (within y vars c) (λ w d. within_result (calculated op v w) d))
     within (compare at sign x y) vars b = within_then b _ _ (within x vars b) (λ v c. within_then c _ _ (within y vars c) (λ w d. within_result (compared sign v w) d))
     within (both at x y) vars b = within_then b _ _ (within x vars b) (λ v c. within_choose v _ _ c (within y vars c) (omega arith))
@@ -126,6 +127,7 @@ module _ (calling other : Calling) (low : (j : ℕ) (vs : List ValueTree) (b : �
     agree (call at j es) vars b h = then_agree b _ _ _ _ (within_all calling low es vars b) (agree_all es vars b h) (λ vs c k. same j vs c (omega arith))
     agree (negate at x) vars b h = then_agree b _ _ _ _ (within calling low x vars b) (agree x vars b h) (λ v c k. refl)
     agree (not_expr at x) vars b h = then_agree b _ _ _ _ (within calling low x vars b) (agree x vars b h) (λ v c k. refl)
+    agree (pown at x n) vars b h = then_agree b _ _ _ _ (within calling low x vars b) (agree x vars b h) (λ v c k. refl)
     agree (arith_tree at op x y) vars b h = then_agree b _ _ _ _ (within calling low x vars b) (agree x vars b h) (λ v c k. then_agree c _ _ _ _ (within calling low y vars c) (agree y vars c (omega arith)) (λ w d k. refl))
     agree (compare at sign x y) vars b h = then_agree b _ _ _ _ (within calling low x vars b) (agree x vars b h) (λ v c k. then_agree c _ _ _ _ (within calling low y vars c) (agree y vars c (omega arith)) (λ w d k. refl))
     agree (both at x y) vars b h = then_agree b _ _ _ _ (within calling low x vars b) (agree x vars b h) (λ v c k. choose_agree v _ _ _ _ c (agree y vars c (omega arith)) refl)

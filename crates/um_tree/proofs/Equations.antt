@@ -1,12 +1,12 @@
 -- The equations of the meaning, one a node. Proofs about it use these and never unfold it.
-use Rattle.std.proofs.Common.{◌≡◌, refl, ap, ◌∙◌, length, ℕ, zero, suc, IsTrue, Bool, true, false, cond, nat_eq, List, [], ◌∷◌, ◌++◌, Some, None, slice_get, arith}
+use Rattle.std.proofs.Common.{◌≡◌, refl, ap, ◌∙◌, length, ℕ, zero, suc, IsTrue, Bool, true, false, cond, nat_eq, List, [], ◌∷◌, ◌++◌, Some, None, slice_get, ℤ, arith}
 use Rattle.std.proofs.lemmas.Bool.Decides.{nat_tests}
 use Rattle.um_frac.specs.declared.number.Frac.{Frac}
 use Rattle.um_tree.specs.TypeTree.{NoteTree}
 use Rattle.um_tree.specs.ValueTree.{ValueTree, truth_value, number_value, list_value, record_value, no_values, values_in_order}
-use Rattle.um_tree.specs.ExprTree.{ExprTree, ExprTrees, truth, number, local, call, negate, not_expr, arith as arith_tree, compare, both, either, if, bind, split, nil, list_expr, cons, record_expr, field, none, more}
+use Rattle.um_tree.specs.ExprTree.{ExprTree, ExprTrees, truth, number, local, call, negate, not_expr, pown, arith as arith_tree, compare, both, either, if, bind, split, nil, list_expr, cons, record_expr, field, none, more}
 use Rattle.um_tree.specs.ProgramTree.{FunctionTree}
-use Rattle.um_tree.specs.Meaning.{gives, stops, budget_end, wrong, then, spend, found, with_budget, calculated, compared, negated, not_of, longer, field_of, choose, on_list, means, all_mean, body_means, running, Means, AllMean, Outcome}
+use Rattle.um_tree.specs.Meaning.{gives, stops, budget_end, wrong, then, spend, found, with_budget, calculated, compared, negated, not_of, raised, longer, field_of, choose, on_list, means, all_mean, body_means, running, Means, AllMean, Outcome}
 use Rattle.um_tree.specs.MeaningEquations.{EquationsOfMeaning, DeclaredCallsMeanTheirBody, OtherCallsAreWrong, UndeclaredCallsAreWrong}
 use Rattle.um_tree.specs.declared.note.UnitNote.{UnitNote}
 use Rattle.um_tree.specs.declared.expression.Arith.{Arith}
@@ -47,6 +47,10 @@ module _ (fs : List FunctionTree) (vars : List ValueTree) where
   pub Means-not : (at : ℕ) (x : ExprTree) (b : ℕ) → Means fs vars (not_expr at x) b ≡ then (Means fs vars x b) (λ v c. with_budget (not_of v) c)
   unfolding Means
   Means-not at x b = refl
+
+  pub Means-pown : (at : ℕ) (x : ExprTree) (k : ℤ) (b : ℕ) → Means fs vars (pown at x k) b ≡ then (Means fs vars x b) (λ v c. with_budget (raised k v) c)
+  unfolding Means
+  Means-pown at x k b = refl
 
   pub Means-arith : (at : ℕ) (op : Arith) (x y : ExprTree) (b : ℕ) → Means fs vars (arith_tree at op x y) b ≡ then (Means fs vars x b) (λ v c. then (Means fs vars y c) (λ w d. with_budget (calculated op v w) d))
   unfolding Means
@@ -117,7 +121,7 @@ unfolding Outcome
 Outcome-other_count fs j vs f b e t =
     ap (λ o. body_means (running fs b) o vs b) e ∙ ap (λ t. cond t (spend b (means (running fs b) f.body vs)) (stops wrong)) t
 
-pub ruleset meaning_equations = (Means-truth, Means-number, Means-local, Means-call, Means-negate, Means-not, Means-arith, Means-compare, Means-both, Means-either, Means-if, Means-bind, Means-split, Means-nil, Means-list, Means-cons, Means-record, Means-field, AllMean-none, AllMean-more)
+pub ruleset meaning_equations = (Means-truth, Means-number, Means-local, Means-call, Means-negate, Means-not, Means-pown, Means-arith, Means-compare, Means-both, Means-either, Means-if, Means-bind, Means-split, Means-nil, Means-list, Means-cons, Means-record, Means-field, AllMean-none, AllMean-more)
 
 -- ---- as laws
 pub equations_of_meaning : EquationsOfMeaning
@@ -128,6 +132,7 @@ equations_of_meaning fs vars b = record {
   of_call = λ at j es. Means-call fs vars at j es b;
   of_negate = λ at x. Means-negate fs vars at x b;
   of_not = λ at x. Means-not fs vars at x b;
+  of_pown = λ at x k. Means-pown fs vars at x k b;
   of_arith = λ at op x y. Means-arith fs vars at op x y b;
   of_compare = λ at sign x y. Means-compare fs vars at sign x y b;
   of_both = λ at x y. Means-both fs vars at x y b;

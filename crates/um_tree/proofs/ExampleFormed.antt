@@ -1,5 +1,5 @@
 -- Formed and not formed programs: one that uses every node is formed, and each condition is broken once.
-use Rattle.std.proofs.Common.{◌≡◌, ◌≢◌, refl, sym, ap, subst, ◌∙◌, inl, inr, ℕ, zero, suc, Bool, true, false, not, nat_eq, List, [], ◌∷◌, pos, Some, None, length, slice_get, get_or, codes, nat_lt, lit<, lit≤, encode_utf8_all, arith}
+use Rattle.std.proofs.Common.{◌≡◌, ◌≢◌, refl, sym, ap, subst, ◌∙◌, inl, inr, ℕ, zero, suc, Bool, true, false, not, nat_eq, List, [], ◌∷◌, pos, negsuc, Some, None, length, slice_get, get_or, codes, nat_lt, lit<, lit≤, encode_utf8_all, arith}
 use Rattle.std.specs.Prelude.{All, ◌==◌}
 use Rattle.std.specs.List.{list_all}
 use Rattle.std.proofs.lemmas.Int.{ints}
@@ -19,7 +19,7 @@ use Rattle.um_tree.specs.declared.note.UnitNote.TheVariants.{Hole, Written}
 use Rattle.um_tree.specs.declared.expression.Arith.TheVariants.{Add}
 use Rattle.um_tree.specs.declared.expression.Sign.TheVariants.{Lt}
 use Rattle.um_tree.specs.TypeTree.{TypeTree, num_type, list_type, record_type, NoteTree, num_note, list_note, record_note}
-use Rattle.um_tree.specs.ExprTree.{ExprTree, truth, number, local, call, negate, not_expr, arith as arith_tree, compare, both, either, if, bind, split, nil, list_expr, cons, record_expr, field, none, more}
+use Rattle.um_tree.specs.ExprTree.{ExprTree, truth, number, local, call, negate, not_expr, pown, arith as arith_tree, compare, both, either, if, bind, split, nil, list_expr, cons, record_expr, field, none, more}
 use Rattle.um_tree.specs.ValueTree.{number_input, list_input, no_inputs, more_inputs}
 use Rattle.um_tree.specs.ProgramTree.{FieldTree, RecordTree, FunctionTree, ProgramTree}
 use Rattle.um_tree.specs.TreeHeights.{type_tree_height, note_tree_height, tree_height, tree_nodes}
@@ -155,6 +155,7 @@ sum_of_fields = record {
   name = codes "f";
   at = 0;
   recursive = false;
+  units = 0;
   params = record_note 0 (Written (atom (Var 0)) ∷ []) ∷ [];
   named = 1;
   result = None;
@@ -169,12 +170,13 @@ other_nodes = record {
   name = codes "g";
   at = 0;
   recursive = true;
+  units = 0;
   params = list_note (num_note (Written one)) ∷ num_note Hole ∷ [];
   named = 0;
   result = Some (num_note Hole);
   body =
       if 0 (both 0 (truth 0 true) (either 0 (compare 0 Lt (local 0 1) unit_one) (not_expr 0 (truth 0 false))))
-      (bind 0 (negate 0 unit_one) (split 0 (list_expr 0 (more (local 0 2) none)) (local 0 2) (cons 0 (local 0 3) (nil 0 (list_note (num_note Hole))))))
+      (bind 0 (negate 0 (pown 0 unit_one (negsuc 1))) (split 0 (list_expr 0 (more (local 0 2) none)) (local 0 2) (cons 0 (local 0 3) (nil 0 (list_note (num_note Hole))))))
       (call 0 1 (more (call 0 0 (more (record_expr 0 0 (more unit_one (more (number 0 zero_number Hole) none))) none)) (more (number 0 one_number (Written metre)) none)));
 }
 
@@ -198,6 +200,8 @@ point_formed = record {
 sum_formed : IsFormedFunction formed 0 sum_of_fields
 sum_formed = record {
   few_params = lit≤ tt;
+  few_units = lit≤ tt;
+  units = lit≤ tt;
   params = one_item (IsFormedNote formed sum_of_fields) _ (((point, refl, refl), one_item (IsNoteIn 2 1) _ (variable_in 2)), lit≤ tt);
   result = tt;
   noted = λ e. absurd (cc e);
@@ -216,6 +220,8 @@ metre_below (suc k) h = let other : (suc k == 0) ≡ false = grind (arith, nat_t
 others_formed : IsFormedFunction formed 1 other_nodes
 others_formed = record {
   few_params = lit≤ tt;
+  few_units = lit≤ tt;
+  units = lit≤ tt;
   params = two_items (IsFormedNote formed other_nodes) _ _ (one_in 2 0, lit≤ tt) (tt, lit≤ tt);
   result = (tt, lit≤ tt);
   noted = λ e. refl;
@@ -319,7 +325,7 @@ abbrev number_field : List ℕ → FieldTree
 number_field name = record { name = name; type = num_type one }
 
 abbrev named_function : List ℕ → FunctionTree
-named_function name = record { name = name; at = 0; recursive = false; params = []; named = 0; result = None; body = unit_one }
+named_function name = record { name = name; at = 0; recursive = false; units = 0; params = []; named = 0; result = None; body = unit_one }
 
 word_as_base : IsFormed (with_records (codes "let" ∷ []) []) → ⊥
 word_as_base w = no_word_name (w.names 0 _ refl)
@@ -393,7 +399,7 @@ too_many_nodes : (p : ProgramTree) (i : ℕ) (f : FunctionTree) → tree_nodes f
 too_many_nodes p i f e w = let low = w.nodes in absurd (omega (arith, e, low))
 
 -- the heights at the limit: `([] : T)` counts 3, and each other node one more than its highest part
-heights : tree_height unit_one ∷ tree_height (nil 0 (list_note (num_note Hole))) ∷ tree_height other_nodes.body ∷ tree_nodes other_nodes.body ∷ [] ≡ 1 ∷ 3 ∷ 7 ∷ 25 ∷ []
+heights : tree_height unit_one ∷ tree_height (nil 0 (list_note (num_note Hole))) ∷ tree_height other_nodes.body ∷ tree_nodes other_nodes.body ∷ [] ≡ 1 ∷ 3 ∷ 7 ∷ 26 ∷ []
 heights = refl
 
 unknown_variable_in_param : IsFormedFunction (with_functions []) 0 (plain (num_note (Written (atom (Var 0))) ∷ []) unit_one) → ⊥
@@ -406,7 +412,7 @@ unknown_base_in_result : IsFormedFunction (with_functions []) 0 (rec_function []
 unknown_base_in_result w = base_needed 0 refl w.result.0.0
 
 -- a `rec` function has a note of its result
-no_result_note : IsFormedFunction (with_functions []) 0 (record { name = []; at = 0; recursive = true; params = []; named = 0; result = None; body = unit_one }) → ⊥
+no_result_note : IsFormedFunction (with_functions []) 0 (record { name = []; at = 0; recursive = true; units = 0; params = []; named = 0; result = None; body = unit_one }) → ⊥
 no_result_note w = absurd (cc (w.noted refl))
 
 -- ---- bodies, in function i = 1 of the formed program, which has one parameter and doesn't call itself
@@ -479,9 +485,10 @@ unknown_field w =
 
 -- each part of a node is looked at
 broken_parts :
-    Broken (negate 0 (local 0 1)) × Broken (not_expr 0 (local 0 1)) × Broken (compare 0 Lt (local 0 0) (local 0 1)) × Broken (both 0 (local 0 1) (local 0 0))
+    Broken (negate 0 (local 0 1)) × Broken (not_expr 0 (local 0 1)) × Broken (pown 0 (local 0 1) (pos 2)) × Broken (compare 0 Lt (local 0 0) (local 0 1)) × Broken (both 0 (local 0 1) (local 0 0))
     × Broken (either 0 (local 0 0) (local 0 1)) × Broken (if 0 (local 0 0) (local 0 1) (local 0 0)) × Broken (cons 0 (local 0 0) (local 0 1)) × Broken (list_expr 0 (more (local 0 0) (more (local 0 1) none)))
 broken_parts = (
+  unknown_variable,
   unknown_variable,
   unknown_variable,
   λ w. unknown_variable w.1,

@@ -3,7 +3,7 @@
 use Rattle.std.proofs.Common.{◌≡◌, refl, ℕ, ◌≤◌, true, false, List, [], ◌∷◌, pos, negsuc, arith}
 use Rattle.um_frac.specs.Gcd.{gcd}
 use Rattle.um_frac.specs.Fraction.{fraction, divided, reduced}
-use Rattle.um_frac.specs.Arithmetic.{sum_of, difference_of, product_of, quotient_of, negation_of}
+use Rattle.um_frac.specs.Arithmetic.{sum_of, difference_of, product_of, quotient_of, whole_power_of, negation_of}
 use Rattle.um_frac.specs.declared.number.Trap.TheVariants.{Overflow, DivZero}
 use Rattle.um_units.specs.PowerMap.{one}
 use Rattle.um_tree.specs.declared.note.UnitNote.TheVariants.{Hole, Written}
@@ -11,7 +11,7 @@ use Rattle.um_tree.specs.declared.expression.Arith.TheVariants.{Add, Sub, Mul, D
 use Rattle.um_tree.specs.declared.expression.Sign.{Sign}
 use Rattle.um_tree.specs.declared.expression.Sign.TheVariants.{Lt, Le, Eq, Gt, Ge, Ne}
 use Rattle.um_tree.specs.TypeTree.{num_note, list_note}
-use Rattle.um_tree.specs.ExprTree.{ExprTree, truth, number, local, call, negate, not_expr, arith as arith_tree, compare, both, either, if, bind, split, nil, list_expr, cons, record_expr, field, none, more}
+use Rattle.um_tree.specs.ExprTree.{ExprTree, truth, number, local, call, negate, not_expr, pown, arith as arith_tree, compare, both, either, if, bind, split, nil, list_expr, cons, record_expr, field, none, more}
 use Rattle.um_tree.specs.ProgramTree.{FunctionTree}
 use Rattle.um_tree.specs.Meaning.{Means}
 use Rattle.um_tree.proofs.ExamplePrograms.{whole, plain}
@@ -109,6 +109,19 @@ minus = refl
 nots : runs (not_expr 0 (truth 0 true)) 5 ∷ runs (not_expr 0 (truth 0 false)) 5 ∷ runs (not_expr 0 n1) 5 ∷ [] ≡ no ∷ yes ∷ wrong_shown ∷ []
 unfolding Means
 nots = refl
+
+-- ---- whole powers: 3^2, 3^-2, (-2)^3, 2^0, 0^0, 0^-1, 2^62, 2^63, of a truth value, of a trap
+powers :
+    runs (pown 0 n3 (pos 2)) 5 ∷ runs (pown 0 n3 (negsuc 1)) 5 ∷ runs (pown 0 (negate 0 n2) (pos 3)) 5 ∷ runs (pown 0 n2 (pos 0)) 5
+    ∷ runs (pown 0 n0 (pos 0)) 5 ∷ runs (pown 0 n0 (negsuc 0)) 5 ∷ runs (pown 0 (truth 0 true) (pos 2)) 5 ∷ runs (pown 0 by_zero (pos 0)) 5 ∷ []
+    ≡ whole_shown 9 5 ∷ number_shown (pos 1) (pos 9) 5 ∷ number_shown (negsuc 7) (pos 1) 5 ∷ whole_shown 1 5
+    ∷ whole_shown 1 5 ∷ trap_shown DivZero ∷ wrong_shown ∷ trap_shown DivZero ∷ []
+unfolding Means whole_power_of negation_of quotient_of reduced divided fraction gcd
+powers = refl
+
+powers_to_the_end : runs (pown 0 n2 (pos 62)) 5 ∷ runs (pown 0 n2 (pos 63)) 5 ∷ [] ≡ whole_shown 4611686018427387904 5 ∷ trap_shown Overflow ∷ []
+unfolding Means whole_power_of reduced divided fraction gcd
+powers_to_the_end = refl
 
 -- ---- arithmetic: 3 + 2, 3 - 2, 2 - 3, 3 * 2, 3 / 2, 2 / 3
 operations :

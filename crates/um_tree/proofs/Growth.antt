@@ -1,9 +1,9 @@
 -- A budget that sufficed suffices when it grows: the value stays, and the rest grows by as much.
 use Rattle.std.proofs.Common.{◌≡◌, refl, ap, sym, length, subst, ℕ, zero, suc, ◌+◌, true, false, cond, nat_eq, List, [], ◌∷◌, ◌++◌, Option, Some, None, Result, Ok, Err, slice_get, arith}
 use Rattle.um_tree.specs.ValueTree.{ValueTree, truth_value, number_value, list_value, record_value, no_values, more_values}
-use Rattle.um_tree.specs.ExprTree.{ExprTree, ExprTrees, truth, number, local, call, negate, not_expr, arith as arith_tree, compare, both, either, if, bind, split, nil, list_expr, cons, record_expr, field, none, more}
+use Rattle.um_tree.specs.ExprTree.{ExprTree, ExprTrees, truth, number, local, call, negate, not_expr, pown, arith as arith_tree, compare, both, either, if, bind, split, nil, list_expr, cons, record_expr, field, none, more}
 use Rattle.um_tree.specs.ProgramTree.{FunctionTree}
-use Rattle.um_tree.specs.Meaning.{Out, gives, stops, Stop, trap, budget_end, wrong, then, Calling, spend, found, with_budget, calculated, compared, negated, not_of, longer, field_of, choose, on_list, means, all_mean, body_means, running, Means, Outcome}
+use Rattle.um_tree.specs.Meaning.{Out, gives, stops, Stop, trap, budget_end, wrong, then, Calling, spend, found, with_budget, calculated, compared, negated, not_of, raised, longer, field_of, choose, on_list, means, all_mean, body_means, running, Means, Outcome}
 use Rattle.um_tree.proofs.Budget.{means_at, running_agree}
 
 -- the second is what the first becomes where the budget grows by d: only the end of the budget may become anything
@@ -58,6 +58,7 @@ module _ (d : ℕ) (calling : Calling) (grows : (j : ℕ) (vs : List ValueTree) 
     grown (call at j es) vars b = grown_then d _ _ _ (grown_all es vars b) (λ vs c. grows j vs c)
     grown (negate at x) vars b = grown_then d _ _ _ (grown x vars b) (λ v c. grown_result d (negated v) c)
     grown (not_expr at x) vars b = grown_then d _ _ _ (grown x vars b) (λ v c. grown_result d (not_of v) c)
+    grown (pown at x k) vars b = grown_then d _ _ _ (grown x vars b) (λ v c. grown_result d (raised k v) c)
     grown (arith_tree at op x y) vars b = grown_then d _ _ _ (grown x vars b) (λ v c. grown_then d _ _ _ (grown y vars c) (λ w e. grown_result d (calculated op v w) e))
     grown (compare at sign x y) vars b = grown_then d _ _ _ (grown x vars b) (λ v c. grown_then d _ _ _ (grown y vars c) (λ w e. grown_result d (compared sign v w) e))
     grown (both at x y) vars b = grown_then d _ _ _ (grown x vars b) (λ v c. grown_choose d v _ _ c (grown y vars c) refl)

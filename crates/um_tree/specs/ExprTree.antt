@@ -1,6 +1,6 @@
 -- Expressions as pure trees. The first part of each is its place in the text.
 -- Source: this project's own expressions, after the F# specification.
-use Rattle.std.specs.Prelude.{ℕ, Bool, List, [], ◌∷◌}
+use Rattle.std.specs.Prelude.{ℕ, Bool, List, [], ◌∷◌, ℤ}
 use Rattle.um_frac.specs.declared.number.Frac.{Frac}
 use Rattle.um_tree.specs.TypeTree.{NoteTree, note_tree}
 use Rattle.um_tree.specs.declared.note.UnitNote.{UnitNote}
@@ -22,6 +22,8 @@ mutual
     call : ℕ → ℕ → ExprTrees → ExprTree
     negate : ℕ → ExprTree → ExprTree
     not_expr : ℕ → ExprTree → ExprTree
+    -- a whole power
+    pown : ℕ → ExprTree → ℤ → ExprTree
     arith : ℕ → Arith → ExprTree → ExprTree → ExprTree
     compare : ℕ → Sign → ExprTree → ExprTree → ExprTree
     both : ℕ → ExprTree → ExprTree → ExprTree
@@ -56,6 +58,7 @@ node_tree (Node-F.Local k) at = local at k
 node_tree (Node-F.Call f es) at = call at f es
 node_tree (Node-F.Neg a) at = negate at a.value
 node_tree (Node-F.Not a) at = not_expr at a.value
+node_tree (Node-F.Pow a k) at = pown at a.value k
 node_tree (Node-F.Arith op a b) at = arith at op a.value b.value
 node_tree (Node-F.Compare s a b) at = compare at s a.value b.value
 node_tree (Node-F.And a b) at = both at a.value b.value

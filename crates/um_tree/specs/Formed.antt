@@ -14,9 +14,9 @@ use Rattle.um_tree.specs.declared.note.UnitNote.{UnitNote}
 use Rattle.um_tree.specs.declared.note.UnitNote.TheVariants.{Hole, Written}
 use Rattle.um_tree.specs.TypeTree.{TypeTree, bool_type, num_type, list_type, record_type, NoteTree, bool_note}
 use Rattle.um_tree.specs.TypeTree.{num_note, list_note, record_note}
-use Rattle.um_tree.specs.ExprTree.{ExprTree, ExprTrees, truth, number, local, call, negate, not_expr, arith, compare}
-use Rattle.um_tree.specs.ExprTree.{both, either, if, bind, split, nil, list_expr, cons, record_expr, field, none}
-use Rattle.um_tree.specs.ExprTree.{more}
+use Rattle.um_tree.specs.ExprTree.{ExprTree, ExprTrees, truth, number, local, call, negate, not_expr, pown, arith}
+use Rattle.um_tree.specs.ExprTree.{compare, both, either, if, bind, split, nil, list_expr, cons, record_expr, field}
+use Rattle.um_tree.specs.ExprTree.{none, more}
 use Rattle.um_tree.specs.ValueTree.{InputTree, InputTrees, truth_input, number_input, list_input, record_input}
 use Rattle.um_tree.specs.ValueTree.{no_inputs, more_inputs}
 use Rattle.um_tree.specs.ProgramTree.{RecordTree, FunctionTree, ProgramTree}
@@ -127,6 +127,7 @@ module _ (p : ProgramTree) (i : ℕ) (f : FunctionTree) where
     IsFormedIn n (call at j es) = MayCall p i f.recursive j (count es) × AllFormedIn n es
     IsFormedIn n (negate at a) = IsFormedIn n a
     IsFormedIn n (not_expr at a) = IsFormedIn n a
+    IsFormedIn n (pown at a k) = IsFormedIn n a
     IsFormedIn n (arith at op a b) = IsFormedIn n a × IsFormedIn n b
     IsFormedIn n (compare at sign a b) = IsFormedIn n a × IsFormedIn n b
     IsFormedIn n (both at a b) = IsFormedIn n a × IsFormedIn n b
@@ -177,6 +178,8 @@ ResultFormed p f (Some n) = IsFormedNote p f n
 -- function i of the program
 pub record IsFormedFunction (p : ProgramTree) (i : ℕ) (f : FunctionTree) : Type 0 where
   pub few_params : length f.params ≤ 16
+  pub few_units : f.units ≤ 4
+  pub units : f.units ≤ f.named
   pub params : All (IsFormedNote p f) f.params
   pub result : ResultFormed p f f.result
   pub noted : IsTrue f.recursive → IsSome f.result

@@ -5,7 +5,8 @@ use Rattle.um_tree.specs.RawTree.{UnitSyntax, UnitSyntaxes, one_syntax, measure_
 use Rattle.um_tree.specs.RawTree.{side_syntax, times_syntax, over_syntax, inverse_syntax, bracket_syntax, no_units}
 use Rattle.um_tree.specs.RawTree.{more_units, TypeSyntax, bool_syntax, num_syntax, record_syntax, list_type_syntax}
 use Rattle.um_tree.specs.RawTree.{bracket_type_syntax, ExprSyntax, ExprSyntaxes, FieldSyntaxes, truth_syntax}
-use Rattle.um_tree.specs.RawTree.{number_syntax, name_syntax, call_syntax, negate_syntax, not_syntax, arith_syntax}
+use Rattle.um_tree.specs.RawTree.{number_syntax, name_syntax, call_syntax, negate_syntax, not_syntax, pown_syntax}
+use Rattle.um_tree.specs.RawTree.{arith_syntax}
 use Rattle.um_tree.specs.RawTree.{compare_syntax, and_syntax, or_syntax, if_syntax, let_syntax, match_syntax}
 use Rattle.um_tree.specs.RawTree.{nil_syntax, list_syntax, cons_syntax, fields_syntax, field_syntax}
 use Rattle.um_tree.specs.RawTree.{bracket_expr_syntax, no_exprs, more_exprs, no_fields, more_fields}
@@ -44,6 +45,7 @@ abbrev mutual
   expr_height (call_syntax at x es) = tallest_expr es + 1
   expr_height (negate_syntax at a) = expr_height a + 1
   expr_height (not_syntax at a) = expr_height a + 1
+  expr_height (pown_syntax at a k) = expr_height a + 1
   expr_height (arith_syntax at op a b) = max (expr_height a) (expr_height b) + 1
   expr_height (compare_syntax at sign a b) = max (expr_height a) (expr_height b) + 1
   expr_height (and_syntax at a b) = max (expr_height a) (expr_height b) + 1
@@ -76,6 +78,7 @@ abbrev mutual
   expr_nodes (call_syntax at x es) = all_expr_nodes es + 1
   expr_nodes (negate_syntax at a) = expr_nodes a + 1
   expr_nodes (not_syntax at a) = expr_nodes a + 1
+  expr_nodes (pown_syntax at a k) = expr_nodes a + 1
   expr_nodes (arith_syntax at op a b) = expr_nodes a + expr_nodes b + 1
   expr_nodes (compare_syntax at sign a b) = expr_nodes a + expr_nodes b + 1
   expr_nodes (and_syntax at a b) = expr_nodes a + expr_nodes b + 1

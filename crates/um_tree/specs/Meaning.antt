@@ -2,16 +2,17 @@
 -- Source: a big-step meaning of a call-by-value language, from left to right; the budget is this project's own.
 -- There is no code, stack, frame or address here, and no order of work but that of the parts.
 use Rattle.std.specs.Prelude.{ℕ, zero, suc, Bool, true, false, cond, not, nat_eq, length, List, [], ◌∷◌, ◌++◌, Option}
-use Rattle.std.specs.Prelude.{Some, None, Result, Ok, Err, slice_get}
+use Rattle.std.specs.Prelude.{Some, None, Result, Ok, Err, slice_get, ℤ}
 use Rattle.um_frac.specs.declared.number.Frac.{Frac}
 use Rattle.um_frac.specs.declared.number.Trap.{Trap}
-use Rattle.um_frac.specs.Arithmetic.{sum_of, difference_of, product_of, quotient_of, negation_of, is_less, is_same}
+use Rattle.um_frac.specs.Arithmetic.{sum_of, difference_of, product_of, quotient_of, whole_power_of, negation_of}
+use Rattle.um_frac.specs.Arithmetic.{is_less, is_same}
 use Rattle.um_tree.specs.ValueTree.{ValueTree, ValueTrees, truth_value, number_value, list_value, record_value}
 use Rattle.um_tree.specs.ValueTree.{no_values, more_values, values_in_order, OutcomeTree, value_outcome, trap_outcome}
 use Rattle.um_tree.specs.ValueTree.{budget_outcome}
-use Rattle.um_tree.specs.ExprTree.{ExprTree, ExprTrees, truth, number, local, call, negate, not_expr, arith, compare}
-use Rattle.um_tree.specs.ExprTree.{both, either, if, bind, split, nil, list_expr, cons, record_expr, field, none}
-use Rattle.um_tree.specs.ExprTree.{more}
+use Rattle.um_tree.specs.ExprTree.{ExprTree, ExprTrees, truth, number, local, call, negate, not_expr, pown, arith}
+use Rattle.um_tree.specs.ExprTree.{compare, both, either, if, bind, split, nil, list_expr, cons, record_expr, field}
+use Rattle.um_tree.specs.ExprTree.{none, more}
 use Rattle.um_tree.specs.ProgramTree.{FunctionTree, ProgramTree}
 use Rattle.um_tree.specs.declared.expression.Arith.{Arith}
 use Rattle.um_tree.specs.declared.expression.Arith.TheVariants.{Add, Sub, Mul, Div}
@@ -69,6 +70,10 @@ abbrev pub negated : ValueTree → Result ValueTree Stop
 negated (number_value a) = Ok (number_value (negation_of a))
 negated v = Err wrong
 
+abbrev pub raised : ℤ → ValueTree → Result ValueTree Stop
+raised k (number_value a) = number_result (whole_power_of a k)
+raised k v = Err wrong
+
 abbrev pub not_of : ValueTree → Result ValueTree Stop
 not_of (truth_value b) = Ok (truth_value (not b))
 not_of v = Err wrong
@@ -118,6 +123,7 @@ module _ (calling : Calling) where
     means (call at j es) vars b = then (all_mean es vars b) (calling j)
     means (negate at x) vars b = then (means x vars b) (λ v c. with_budget (negated v) c)
     means (not_expr at x) vars b = then (means x vars b) (λ v c. with_budget (not_of v) c)
+    means (pown at x k) vars b = then (means x vars b) (λ v c. with_budget (raised k v) c)
     means (arith at op x y) vars b =
         then (means x vars b) (λ v c. then (means y vars c) (λ w d. with_budget (calculated op v w) d))
     means (compare at sign x y) vars b =

@@ -2,18 +2,20 @@
 -- Source: a big-step meaning of a call-by-value language. A crate above that follows the tree, or compiles it, needs
 -- these equations alone: in them the bound on calls inside one another is gone.
 use Rattle.std.specs.Prelude.{◌≡◌, ◌≢◌, ℕ, Bool, true, false, length, List, [], ◌∷◌, ◌++◌, Some, None, slice_get}
+use Rattle.std.specs.Prelude.{ℤ}
 use Rattle.um_frac.specs.declared.number.Frac.{Frac}
 use Rattle.um_tree.specs.declared.note.UnitNote.{UnitNote}
 use Rattle.um_tree.specs.declared.expression.Arith.{Arith}
 use Rattle.um_tree.specs.declared.expression.Sign.{Sign}
 use Rattle.um_tree.specs.TypeTree.{NoteTree}
-use Rattle.um_tree.specs.ExprTree.{ExprTree, ExprTrees, truth, number, local, call, negate, not_expr, arith, compare}
-use Rattle.um_tree.specs.ExprTree.{both, either, if, bind, split, nil, list_expr, cons, record_expr, field, none, more}
+use Rattle.um_tree.specs.ExprTree.{ExprTree, ExprTrees, truth, number, local, call, negate, not_expr, pown, arith}
+use Rattle.um_tree.specs.ExprTree.{compare, both, either, if, bind, split, nil, list_expr, cons, record_expr, field}
+use Rattle.um_tree.specs.ExprTree.{none, more}
 use Rattle.um_tree.specs.ValueTree.{ValueTree, truth_value, number_value, list_value, record_value}
 use Rattle.um_tree.specs.ValueTree.{no_values, values_in_order}
 use Rattle.um_tree.specs.ProgramTree.{FunctionTree}
 use Rattle.um_tree.specs.Meaning.{gives, stops, wrong, then, spend, found, with_budget, calculated, compared, negated}
-use Rattle.um_tree.specs.Meaning.{not_of, longer, field_of, choose, on_list, Means, AllMean, Outcome}
+use Rattle.um_tree.specs.Meaning.{not_of, raised, longer, field_of, choose, on_list, Means, AllMean, Outcome}
 
 -- the equations of expressions, where the variables of the scope have these values
 pub record MeansByNode (fs : List FunctionTree) (vars : List ValueTree) (b : ℕ) : Type 0 where
@@ -28,6 +30,9 @@ pub record MeansByNode (fs : List FunctionTree) (vars : List ValueTree) (b : ℕ
   pub of_not :
       (at : ℕ) (x : ExprTree) →
       Means fs vars (not_expr at x) b ≡ then (Means fs vars x b) (λ v c. with_budget (not_of v) c)
+  pub of_pown :
+      (at : ℕ) (x : ExprTree) (k : ℤ) →
+      Means fs vars (pown at x k) b ≡ then (Means fs vars x b) (λ v c. with_budget (raised k v) c)
   pub of_arith :
       (at : ℕ) (op : Arith) (x y : ExprTree) →
       Means fs vars (arith at op x y) b ≡

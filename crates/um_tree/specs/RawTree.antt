@@ -118,6 +118,7 @@ mutual
     call_syntax : ℕ → List ℕ → ExprSyntaxes → ExprSyntax
     negate_syntax : ℕ → ExprSyntax → ExprSyntax
     not_syntax : ℕ → ExprSyntax → ExprSyntax
+    pown_syntax : ℕ → ExprSyntax → ℤ → ExprSyntax
     arith_syntax : ℕ → Arith → ExprSyntax → ExprSyntax → ExprSyntax
     compare_syntax : ℕ → Sign → ExprSyntax → ExprSyntax → ExprSyntax
     and_syntax : ℕ → ExprSyntax → ExprSyntax → ExprSyntax
@@ -164,6 +165,7 @@ listed_node (RawNode-F.Name x) at = name_syntax at x
 listed_node (RawNode-F.Call x es) at = call_syntax at x es
 listed_node (RawNode-F.Neg a) at = negate_syntax at a.value
 listed_node (RawNode-F.Not a) at = not_syntax at a.value
+listed_node (RawNode-F.Pow a k) at = pown_syntax at a.value k
 listed_node (RawNode-F.Arith op a b) at = arith_syntax at op a.value b.value
 listed_node (RawNode-F.Compare s a b) at = compare_syntax at s a.value b.value
 listed_node (RawNode-F.And a b) at = and_syntax at a.value b.value
@@ -220,6 +222,7 @@ pub record FunctionSyntax : Type 0 where
   pub at : ℕ
   pub name : List ℕ
   pub recursive : Bool
+  pub units : List VarSyntax
   pub params : List ParamSyntax
   pub result : Option TypeSyntax
   pub body : ExprSyntax
@@ -249,6 +252,7 @@ whole_function_syntax f = record {
   at = f.at;
   name = f.name;
   recursive = f.recursive;
+  units = map var_syntax f.units.items.items;
   params = map param_syntax f.params.items.items;
   result = written_type f.result;
   body = expr_syntax f.body;

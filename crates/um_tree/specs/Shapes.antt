@@ -6,9 +6,9 @@ use Rattle.std.specs.Prelude.{Some, None}
 use Rattle.um_tree.specs.TypeTree.{TypeTree, bool_type, num_type, list_type, record_type, NoteTree, bool_note}
 use Rattle.um_tree.specs.TypeTree.{num_note, list_note, record_note, ShapeTree, bool_shape, num_shape, list_shape}
 use Rattle.um_tree.specs.TypeTree.{record_shape}
-use Rattle.um_tree.specs.ExprTree.{ExprTree, ExprTrees, truth, number, local, call, negate, not_expr, arith, compare}
-use Rattle.um_tree.specs.ExprTree.{both, either, if, bind, split, nil, list_expr, cons, record_expr, field, none}
-use Rattle.um_tree.specs.ExprTree.{more}
+use Rattle.um_tree.specs.ExprTree.{ExprTree, ExprTrees, truth, number, local, call, negate, not_expr, pown, arith}
+use Rattle.um_tree.specs.ExprTree.{compare, both, either, if, bind, split, nil, list_expr, cons, record_expr, field}
+use Rattle.um_tree.specs.ExprTree.{none, more}
 use Rattle.um_tree.specs.ProgramTree.{RecordTree, FunctionTree, ProgramTree}
 use Rattle.um_tree.specs.Typing.{field_types, MayRecur}
 
@@ -46,6 +46,7 @@ module _ (records : List RecordTree) (calls : ℕ → ShapeSignature → Type 0)
         (ss : List ShapeTree) × AllHaveShapes vars es ss × calls j (record { params = ss; result = s })
     HasShape vars (negate at a) s = HasShape vars a num_shape × (s ≡ num_shape)
     HasShape vars (not_expr at a) s = HasShape vars a bool_shape × (s ≡ bool_shape)
+    HasShape vars (pown at a k) s = HasShape vars a num_shape × (s ≡ num_shape)
     HasShape vars (arith at op a b) s = HasShape vars a num_shape × HasShape vars b num_shape × (s ≡ num_shape)
     HasShape vars (compare at sign a b) s =
         HasShape vars a num_shape × HasShape vars b num_shape × (s ≡ bool_shape)

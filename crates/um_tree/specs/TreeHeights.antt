@@ -3,9 +3,9 @@
 use Rattle.std.specs.Prelude.{ℕ, ◌+◌, max}
 use Rattle.um_tree.specs.TypeTree.{TypeTree, bool_type, num_type, list_type, record_type, NoteTree, bool_note}
 use Rattle.um_tree.specs.TypeTree.{num_note, list_note, record_note}
-use Rattle.um_tree.specs.ExprTree.{ExprTree, ExprTrees, truth, number, local, call, negate, not_expr, arith, compare}
-use Rattle.um_tree.specs.ExprTree.{both, either, if, bind, split, nil, list_expr, cons, record_expr, field, none}
-use Rattle.um_tree.specs.ExprTree.{more}
+use Rattle.um_tree.specs.ExprTree.{ExprTree, ExprTrees, truth, number, local, call, negate, not_expr, pown, arith}
+use Rattle.um_tree.specs.ExprTree.{compare, both, either, if, bind, split, nil, list_expr, cons, record_expr, field}
+use Rattle.um_tree.specs.ExprTree.{none, more}
 
 abbrev pub type_tree_height : TypeTree → ℕ
 type_tree_height bool_type = 1
@@ -27,6 +27,7 @@ abbrev mutual
   tree_height (call at j es) = tallest_tree es + 1
   tree_height (negate at a) = tree_height a + 1
   tree_height (not_expr at a) = tree_height a + 1
+  tree_height (pown at a k) = tree_height a + 1
   tree_height (arith at op a b) = max (tree_height a) (tree_height b) + 1
   tree_height (compare at sign a b) = max (tree_height a) (tree_height b) + 1
   tree_height (both at a b) = max (tree_height a) (tree_height b) + 1
@@ -52,6 +53,7 @@ abbrev mutual
   tree_nodes (call at j es) = all_tree_nodes es + 1
   tree_nodes (negate at a) = tree_nodes a + 1
   tree_nodes (not_expr at a) = tree_nodes a + 1
+  tree_nodes (pown at a k) = tree_nodes a + 1
   tree_nodes (arith at op a b) = tree_nodes a + tree_nodes b + 1
   tree_nodes (compare at sign a b) = tree_nodes a + tree_nodes b + 1
   tree_nodes (both at a b) = tree_nodes a + tree_nodes b + 1

@@ -53,6 +53,8 @@ pub enum Node {
     Neg(Box<Expr>),
     /// `not e`
     Not(Box<Expr>),
+    /// `pown e k`
+    Pow(Box<Expr>, i32),
     Arith(Arith, Box<Expr>, Box<Expr>),
     Compare(Sign, Box<Expr>, Box<Expr>),
     /// `a && b`

@@ -98,6 +98,8 @@ pub enum RawNode {
     Call(Name, RawExprs),
     Neg(Box<RawExpr>),
     Not(Box<RawExpr>),
+    /// `pown e k`
+    Pow(Box<RawExpr>, i32),
     Arith(Arith, Box<RawExpr>, Box<RawExpr>),
     Compare(Sign, Box<RawExpr>, Box<RawExpr>),
     And(Box<RawExpr>, Box<RawExpr>),
@@ -187,6 +189,7 @@ pub struct RawFunction {
     pub at: u32,
     pub name: Name,
     pub recursive: bool,
+    pub units: RawVars,
     pub params: RawParams,
     pub result: Option<RawType>,
     pub body: RawExpr,

@@ -22,7 +22,9 @@ pub fn height(e: &RawExpr) -> u32
         RawNode::Call(_, items) | RawNode::List(items) => tallest(&items.items) + 1,
         RawNode::Rec(fields) => tallest_part(&fields.items) + 1,
         RawNode::Bracket(a) => height(a) + 1,
-        RawNode::Neg(a) | RawNode::Not(a) | RawNode::Field(_, _, a) => height(a) + 1,
+        RawNode::Neg(a) | RawNode::Not(a) | RawNode::Pow(a, _) | RawNode::Field(_, _, a) => {
+            height(a) + 1
+        }
         RawNode::Arith(_, a, b)
         | RawNode::Compare(_, a, b)
         | RawNode::And(a, b)
@@ -80,9 +82,11 @@ pub fn nodes(e: &RawExpr) -> u32
         RawNode::Bool(_) | RawNode::Num(_, _) | RawNode::Name(_) | RawNode::Nil(_) => 1,
         RawNode::Call(_, items) | RawNode::List(items) => all_nodes(&items.items) + 1,
         RawNode::Rec(fields) => all_part_nodes(&fields.items) + 1,
-        RawNode::Neg(a) | RawNode::Not(a) | RawNode::Field(_, _, a) | RawNode::Bracket(a) => {
-            nodes(a) + 1
-        }
+        RawNode::Neg(a)
+        | RawNode::Not(a)
+        | RawNode::Pow(a, _)
+        | RawNode::Field(_, _, a)
+        | RawNode::Bracket(a) => nodes(a) + 1,
         RawNode::Arith(_, a, b)
         | RawNode::Compare(_, a, b)
         | RawNode::And(a, b)
