@@ -23,7 +23,7 @@ use Rattle.um_shape.specs.FirstFault.{first_fault}
 use Rattle.um_tool.specs.declared.order.Order.TheVariants.{Types}
 use Rattle.um_tool.specs.declared.status.Status.{Status}
 use Rattle.um_tool.specs.declared.status.Status.TheVariants.{Done, TooLong, Utf8, Lexical, Syntax, Limit, Names, Shape, Units, PowerRange}
-use Rattle.um_infer.specs.Inference.{Inference, all_schemes, stops_at_slots, stops_at_range, stops_at_units, infer}
+use Rattle.um_infer.specs.Inference.{Inference, all_schemes, stops_at_slots, stops_at_range, stops_at_units, stops_at_not_general, infer}
 use Rattle.um_infer.specs.Schemes.{ArePrincipal, IsFirstUntyped}
 use Rattle.um_infer.proofs.InferenceLaws.{given_schemes_are_principal, units_stop_at_first_untyped}
 use Rattle.um_tool.specs.SchemeLines.{scheme_lines}
@@ -136,6 +136,7 @@ schemes_printed bytes p formed (all_schemes schemes) text is answer = (schemes, 
 schemes_printed bytes p formed (stops_at_slots i) text is answer = absurd (cc answer.2.1)
 schemes_printed bytes p formed (stops_at_range i at) text is answer = absurd (cc answer.2.1)
 schemes_printed bytes p formed (stops_at_units i row at) text is answer = absurd (cc answer.2.1)
+schemes_printed bytes p formed (stops_at_not_general i row at) text is answer = absurd (cc answer.2.1)
 
 pub printed_types_are_principal_schemes : PrintedTypesArePrincipalSchemes
 printed_types_are_principal_schemes bytes text answer =
@@ -149,6 +150,7 @@ untyped_named : (bytes : List ℕ) (p : ProgramTree) → IsFormed p → (inferre
 untyped_named bytes p formed (all_schemes schemes) text is answer = absurd (cc answer.1)
 untyped_named bytes p formed (stops_at_slots i) text is answer = absurd (cc answer.2.1)
 untyped_named bytes p formed (stops_at_range i at) text is answer = absurd (cc answer.2.1)
+untyped_named bytes p formed (stops_at_not_general i row at) text is answer = absurd (cc answer.2.1)
 untyped_named bytes p formed (stops_at_units i row at) text is (f, declared, reply) =
     let u = units_stop_at_first_untyped p formed i row at is in
     (i, row, at, u, reply.0 ∙ ap (λ g. placed (units_label g.name) bytes at) (one_function p i f u.function declared u.declared))
