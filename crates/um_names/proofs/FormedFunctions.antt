@@ -11,7 +11,7 @@ use Rattle.um_tree.specs.ProgramTree.{FunctionTree}
 use Rattle.um_tree.specs.Formed.{AreNames, IsNoteTreeIn, MayCall, ResultFormed, IsFormedIn, IsFormedFunction}
 use Rattle.um_tree.specs.RawTree.{TypeSyntax, ParamSyntax, FunctionSyntax}
 use Rattle.um_names.specs.declared.callable.Callable.{Callable}
-use Rattle.um_measures.specs.Faults.{and_then, unless_taken, wrong_count}
+use Rattle.um_measures.specs.Faults.{and_then, wrong_count}
 use Rattle.um_measures.specs.Known.{Known, number_of, is_among, function_names}
 use Rattle.um_names.specs.TypeNames.{resolved_type}
 use Rattle.um_measures.specs.Variables.{occurring, named_variables}
