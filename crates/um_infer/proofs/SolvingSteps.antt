@@ -11,7 +11,7 @@ use Rattle.um_elim.specs.Adding.{VariablesStayBelow}
 use Rattle.um_elim.specs.Solution.{Solution, own_variables, rigid, rigid_units}
 use Rattle.um_elim.proofs.Slots.{length-rigid, rigid-own}
 use Rattle.um_rows.specs.declared.row.Row.{Row}
-use Rattle.um_rows.specs.FirstUnsolvable.{Solving, solved, unsolved, out_of_range, after_row, solve, rows_up_to}
+use Rattle.um_rows.specs.FirstUnsolvable.{Solving, unsolved, out_of_range, after_row, solve, rows_up_to}
 use Rattle.um_rows.specs.Judgement.{by_slots, by_solving, by_rows}
 use Rattle.um_infer.specs.declared.refusal.Refusal.{Refusal}
 use Rattle.um_infer.specs.declared.solving.SolveStop.{SolveStop}

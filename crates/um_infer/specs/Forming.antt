@@ -62,8 +62,8 @@ abbrev pub IsAnswer : Judgement → Result Scheme Refusal → Type 0
 IsAnswer j (Ok s) = j ≡ has_scheme (scheme_tree s)
 IsAnswer j (Err r) = IsRefusal j r
 
--- where each unit parameter is a unit of its own: the solution, or the refusal of a function with these rows, whatever its
--- types and its place
+-- where each unit parameter is a unit of its own: the solution, or the refusal of a function with these rows, whatever
+-- its types and its place
 abbrev pub AreRigidlySolved : ℕ → ℕ → ℕ → List Row → Result Solution Refusal → Type 0
 AreRigidlySolved bases parameters slots rows (Ok solution) =
     IsSolutionOf slots (rigid_units bases parameters slots) rows solution

@@ -3,7 +3,8 @@
 -- and the range of powers are this project's own.
 use Rattle.std.specs.Prelude.{ℕ, zero, suc, List, [], ◌∷◌, ◌++◌, length, Option, Some, None, slice_get}
 use Rattle.um_tree.specs.ProgramTree.{RecordTree, FunctionTree, ProgramTree, SchemeTree}
-use Rattle.um_rows.specs.Judgement.{Judgement, has_scheme, too_many_slots, passes_range, has_no_typing, not_general, judge}
+use Rattle.um_rows.specs.Judgement.{Judgement, has_scheme, too_many_slots, passes_range, has_no_typing, not_general}
+use Rattle.um_rows.specs.Judgement.{judge}
 
 -- what functions, taken in order, come to
 pub data Inference : Type 0 where
@@ -13,8 +14,8 @@ pub data Inference : Type 0 where
   stops_at_slots : ℕ → Inference
   -- or a power passes the range at the place,
   stops_at_range : ℕ → ℕ → Inference
-  -- or it has no typing: the number of its first unsolvable row, counted from 0, and its place. No units satisfy the rows
-  -- up to it,
+  -- or it has no typing: the number of its first unsolvable row, counted from 0, and its place. No units satisfy the
+  -- rows up to it,
   stops_at_units : ℕ → ℕ → ℕ → Inference
   -- or some do, but none where each unit parameter is a unit of its own
   stops_at_not_general : ℕ → ℕ → ℕ → Inference

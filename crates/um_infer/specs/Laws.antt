@@ -40,8 +40,8 @@ SchemesAreGivenToTyped =
 
 -- ---- stops
 
--- a stop for units is at the first function without a typing, at its first unsolvable row, and no units satisfy the rows
--- up to it
+-- a stop for units is at the first function without a typing, at its first unsolvable row, and no units satisfy the
+-- rows up to it
 abbrev pub UnitsStopAtFirstUntyped : Type 0
 UnitsStopAtFirstUntyped =
     (p : ProgramTree) → IsFormed p → (i row at : ℕ) →

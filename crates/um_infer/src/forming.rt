@@ -1,5 +1,5 @@
 //! The scheme of a function from its equations.
-ghost use Rattle.std.specs.Prelude.{◌≡◌, ◌<◌, ◌≤◌, ◌+◌, ◌^◌, All, IfOk, MatchResult, IsTrue, IsFalse, false, length, map, [], ◌∷◌, ◌++◌};
+ghost use Rattle.std.specs.Prelude.{◌≡◌, ◌<◌, ◌≤◌, ◌+◌, ◌^◌, All, IfOk, MatchResult, IsTrue, false, length, map};
 ghost use Rattle.std.specs.List.{list_all};
 ghost use Rattle.um_units.specs.PowerMap.{nth};
 ghost use Rattle.um_units.specs.Variables.{VariablesBelow};

@@ -3,7 +3,6 @@
 
 ghost use Rattle.std.specs.Prelude.{◌≡◌, ◌<◌, ◌+◌, ◌^◌, All, IfOk, map};
 ghost use Rattle.std.specs.List.{flat_map};
-ghost use Rattle.um_units.specs.Variables.{VariablesBelow};
 ghost use Rattle.um_tree.specs.TypeTree.{type_tree};
 ghost use Rattle.um_tree.specs.Typing.{moved};
 ghost use Rattle.um_tree.specs.Scheme.{unit_variables, type_variables, variables};

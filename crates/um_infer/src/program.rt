@@ -1,6 +1,6 @@
 //! The schemes of a program.
-ghost use Rattle.std.specs.Prelude.{◌≡◌, ◌<◌, ◌≤◌, length, map, slice_get, Some};
-ghost use Rattle.um_tree.specs.ProgramTree.{FunctionTree, program_tree, scheme_tree};
+ghost use Rattle.std.specs.Prelude.{◌≡◌, ◌<◌, ◌≤◌, length, slice_get, Some};
+ghost use Rattle.um_tree.specs.ProgramTree.{FunctionTree, program_tree};
 ghost use Rattle.um_tree.specs.Formed.{IsFormed};
 ghost use Rattle.um_rows.specs.Judgement.{judge};
 ghost use Rattle.um_rows.specs.Solutions.{HaveSchemes};
@@ -52,7 +52,7 @@ fn function_scheme(
 ) -> Result<Scheme, Refusal>
     requires declared { i < length (program_tree shaped.now).functions }
     requires before { HaveSchemes (program_tree shaped.now) (scheme_trees schemes.now) i }
-    ensures { (f : FunctionTree) → slice_get (program_tree shaped.now).functions i ≡ Some f → IsAnswer (judge (program_tree shaped.now).records (scheme_trees schemes.now) i f) result }
+    ensures { (f : FunctionTree) → slice_get (program_tree shaped.now).functions i ≡ Some f → IsAnswer (judge (length (program_tree shaped.now).bases) (program_tree shaped.now).records (scheme_trees schemes.now) i f) result }
 {
     let equations = rows(alloc, shaped, i, schemes)?;
     let (parameters, at) = head_of(shaped, i);

@@ -1,6 +1,6 @@
 -- What a judgement of a function says of its typings.
 -- Source: Kennedy (1996), on principal schemes and their generalisation.
-use Rattle.std.proofs.Common.{◌≡◌, ◌↔◌, ℕ, suc, ◌<◌, ◌≤◌, cond, leb, Option, Some, None, List, [], ◌++◌, length, map, slice_get, refl, sym, ap, ◌∙◌, subst, arith}
+use Rattle.std.proofs.Common.{◌≡◌, ◌↔◌, ℕ, suc, ◌<◌, cond, leb, Option, Some, None, List, [], ◌++◌, length, map, slice_get, refl, sym, ap, ◌∙◌, subst, arith}
 use Rattle.std.specs.Prelude.{All}
 use Rattle.um_units.specs.PowerMap.{PowerMap, replace, nth}
 use Rattle.um_units.specs.Variables.{VariablesBelow}

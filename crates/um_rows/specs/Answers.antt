@@ -59,20 +59,24 @@ rows_signature r = record { params = type_trees r.params; result = type_tree r.r
 
 -- some joint solution of the rows gives the signature
 abbrev pub IsGivenBy : Rows → Signature → Type 0
-IsGivenBy r g = (units : List PowerMap) × IsJointSolution r.slots (units_of r.list.items.items) units × (g ≡ put_signature (nth units) (rows_signature r))
+IsGivenBy r g =
+    (units : List PowerMap) × IsJointSolution r.slots (units_of r.list.items.items) units
+    × (g ≡ put_signature (nth units) (rows_signature r))
 
 -- and so does some rigid one
 abbrev pub IsRigidlyGivenBy : ℕ → ℕ → Rows → Signature → Type 0
 IsRigidlyGivenBy bases parameters r g =
-    (units : List PowerMap) × IsJointSolution r.slots (units_of r.list.items.items) units × IsRigid bases parameters units × (g ≡ put_signature (nth units) (rows_signature r))
+    (units : List PowerMap) × IsJointSolution r.slots (units_of r.list.items.items) units × IsRigid bases parameters units
+    × (g ≡ put_signature (nth units) (rows_signature r))
 
--- a signature is a loose typing of function i exactly where some joint solution gives it, and a rigid typing exactly where
--- some rigid one does
+-- a signature is a loose typing of function i exactly where some joint solution gives it, and a rigid typing exactly
+-- where some rigid one does
 abbrev pub TypingsAreSolutionsOf : ProgramTree → List SchemeTree → ℕ → Rows → Type 0
 TypingsAreSolutionsOf p schemes i r =
     (f : FunctionTree) → slice_get p.functions i ≡ Some f → HaveSchemes p schemes i → (g : Signature) →
     (IsLooseTypingOf p.records (typings_below p i) i f g ↔ IsGivenBy r g)
-    × (IsRigidTypingOf (length p.bases) p.records (typings_below p i) i f g ↔ IsRigidlyGivenBy (length p.bases) f.units r g)
+    × (IsRigidTypingOf (length p.bases) p.records (typings_below p i) i f g
+    ↔ IsRigidlyGivenBy (length p.bases) f.units r g)
 
 -- so it is of the results of a call
 abbrev pub ResultsAreSolutionsOf : ProgramTree → List SchemeTree → ℕ → InputTrees → Rows → Type 0
@@ -80,5 +84,13 @@ ResultsAreSolutionsOf p schemes k inputs r = HaveSchemes p schemes (length p.fun
 
 -- ---- a function without a name
 abbrev pub described : ℕ → Bool → ℕ → List NoteTree → Option NoteTree → ExprTree → FunctionTree
-described at recursive units params note body =
-    record { name = []; at = at; recursive = recursive; units = units; params = params; named = 0; result = note; body = body }
+described at recursive units params note body = record {
+  name = [];
+  at = at;
+  recursive = recursive;
+  units = units;
+  params = params;
+  named = 0;
+  result = note;
+  body = body;
+}

@@ -71,7 +71,9 @@ noted_rows at t s (Some m) = against at t s
 -- the keys of the whole function
 abbrev pub whole_keys : List RecordTree → (ℕ → Callee) → ℕ → List NoteTree → Option NoteTree → ExprTree → List Key
 whole_keys records callee units params note e =
-    name_keys 0 units ++ (notes_keys 0 params ++ (result_keys (notes_holes params) note ++ expr_keys records callee (notes_holes params + result_holes note) e))
+    let n = notes_holes params in
+    name_keys 0 units
+    ++ (notes_keys 0 params ++ (result_keys n note ++ expr_keys records callee (n + result_holes note) e))
 
 -- the derivation of the body, and all steps behind the head
 abbrev pub body_derived : List Record → List Scheme → Context → ℕ → ExprTree → Derived

@@ -8,8 +8,8 @@ use Rattle.um_elim.specs.Elimination.{Elimination, Solved, NoSolution, Range, el
 use Rattle.um_rows.specs.declared.row.Row.{Row}
 use Rattle.um_rows.specs.Steps.{units_of}
 
--- row k, counted from 0, is the one, and it stands at this place: the given equations and the rows before it have a joint
--- solution, and with it they have none. Where each unit parameter is a unit of its own the given equations say so
+-- row k, counted from 0, is the one, and it stands at this place: the given equations and the rows before it have a
+-- joint solution, and with it they have none. Where each unit parameter is a unit of its own the given equations say so
 pub record IsFirstUnsolvable (slots : ℕ) (given : List PowerMap) (rows : List Row) (k at : ℕ) : Type 0 where
   pub before : List Row
   pub row : Row

@@ -1,5 +1,5 @@
--- Unit parameters as variables: in a function's own typing each is a base unit behind the declared ones, and its callers
--- may put any unit for it.
+-- Unit parameters as variables: in a function's own typing each is a base unit behind the declared ones, and its
+-- callers may put any unit for it.
 -- Source: F# specification, Units Of Measure, on declared measure parameters; Kennedy (1996): generalisation. That the
 -- variables of parameters come behind the slots is this project's own.
 use Rattle.std.specs.Prelude.{ℕ, ◌+◌, ◌-◌, nat_le, nat_lt, ◌&&◌, Bool, if◌then◌else◌}

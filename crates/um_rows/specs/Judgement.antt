@@ -43,18 +43,19 @@ by_slots k at (unsolved j row) = has_no_typing k at
 by_slots k at (out_of_range row) = passes_range row
 
 module _ (bases parameters slots : ℕ) where
-  -- the most general solution put for the slots, and then any unit for each unit parameter. Where a power of it passes the
-  -- range the place is the function's name
+  -- the most general solution put for the slots, and then any unit for each unit parameter. Where a power of it passes
+  -- the range the place is the function's name
   abbrev pub by_solution : ℕ → Signature → Judgement
-  by_solution at g = if signature_fits g then has_scheme (numbered_scheme (generalised bases parameters slots g)) else passes_range at
+  by_solution at g =
+      if signature_fits g then has_scheme (numbered_scheme (generalised bases parameters slots g)) else passes_range at
 
   abbrev pub by_solving : ℕ → Signature → List Row → Solving → Judgement
   by_solving at g rows (solved units) = by_solution at (put_signature (nth units) g)
   by_solving at g rows (unsolved k row) = by_slots k row (solve 0 (rows_up_to k rows) (own_variables slots))
   by_solving at g rows (out_of_range row) = passes_range row
 
-  -- the rows are solved where each unit parameter is a unit of its own. Without unit parameters these are the slots' own
-  -- variables from the start, and to solve the rows once more gives the same
+  -- the rows are solved where each unit parameter is a unit of its own. Without unit parameters these are the slots'
+  -- own variables from the start, and to solve the rows once more gives the same
   abbrev pub by_rows : ℕ → Signature → List Row → Judgement
   by_rows at g rows = by_solving at g rows (solve 0 rows (rigid_units bases parameters slots))
 
@@ -68,4 +69,5 @@ abbrev pub judge : ℕ → List RecordTree → List SchemeTree → ℕ → Funct
 judge bases records schemes i f =
     let n = slot_count records schemes i f in
     let steps = (slot_equations records schemes i f).steps in
-    if nat_le n 2000 then by_range (first_past steps) (by_rows bases f.units n f.at (slot_signature records schemes i f) (rows_of steps)) else too_many_slots
+    let solved_rows = by_rows bases f.units n f.at (slot_signature records schemes i f) (rows_of steps) in
+    if nat_le n 2000 then by_range (first_past steps) solved_rows else too_many_slots

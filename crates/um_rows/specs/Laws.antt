@@ -25,14 +25,17 @@ use Rattle.um_rows.specs.RightShapes.{HaveRightShapes}
 -- function's rows gives it
 abbrev pub LooseTypingsAreSolutions : Type 0
 LooseTypingsAreSolutions =
-    (p : ProgramTree) (schemes : List SchemeTree) (i : ℕ) (f : FunctionTree) → LiteralsAreClosed f.body → HaveSchemes p schemes i →
-    (g : Signature) → IsLooseTypingOf p.records (typings_below p i) i f g ↔ IsSolved p.records schemes i f g
+    (p : ProgramTree) (schemes : List SchemeTree) (i : ℕ) (f : FunctionTree) → LiteralsAreClosed f.body →
+    HaveSchemes p schemes i → (g : Signature) →
+    IsLooseTypingOf p.records (typings_below p i) i f g ↔ IsSolved p.records schemes i f g
 
 -- and a rigid typing exactly where some rigid joint solution does
 abbrev pub RigidTypingsAreSolutions : Type 0
 RigidTypingsAreSolutions =
-    (p : ProgramTree) (schemes : List SchemeTree) (i : ℕ) (f : FunctionTree) → LiteralsAreClosed f.body → HaveSchemes p schemes i →
-    (g : Signature) → IsRigidTypingOf (length p.bases) p.records (typings_below p i) i f g ↔ IsRigidlySolved (length p.bases) p.records schemes i f g
+    (p : ProgramTree) (schemes : List SchemeTree) (i : ℕ) (f : FunctionTree) → LiteralsAreClosed f.body →
+    HaveSchemes p schemes i → (g : Signature) →
+    IsRigidTypingOf (length p.bases) p.records (typings_below p i) i f g
+    ↔ IsRigidlySolved (length p.bases) p.records schemes i f g
 
 -- the rows hold slots alone, and so do the types
 abbrev pub RowsHoldSlots : Type 0
@@ -51,30 +54,35 @@ TypesHoldSlots =
 abbrev pub JudgedSchemesArePrincipal : Type 0
 JudgedSchemesArePrincipal =
     (p : ProgramTree) (schemes : List SchemeTree) (i : ℕ) (f : FunctionTree) → slice_get p.functions i ≡ Some f → LiteralsAreClosed f.body → HaveSchemes p schemes i →
-    (s : SchemeTree) → judge (length p.bases) p.records schemes i f ≡ has_scheme s → IsPrincipal p i s × IsNumberedScheme s
+    (s : SchemeTree) → judge (length p.bases) p.records schemes i f ≡ has_scheme s →
+    IsPrincipal p i s × IsNumberedScheme s
 
 -- row k of the function's equations is the first with which they have no rigid joint solution
 abbrev pub IsFirstRow : ProgramTree → List SchemeTree → ℕ → FunctionTree → ℕ → ℕ → Type 0
 IsFirstRow p schemes i f k at =
-    IsFirstUnsolvable (slot_count p.records schemes i f) (parameter_rows (length p.bases) f.units) (rows_of (slot_equations p.records schemes i f).steps) k at
+    IsFirstUnsolvable (slot_count p.records schemes i f) (parameter_rows (length p.bases) f.units)
+    (rows_of (slot_equations p.records schemes i f).steps) k at
 
 -- the rows up to row k have a joint solution, in which a unit parameter may be any unit
 abbrev pub AreSolvableUpTo : ProgramTree → List SchemeTree → ℕ → FunctionTree → ℕ → Type 0
-AreSolvableUpTo p schemes i f k = IsSolvable (slot_count p.records schemes i f) (units_of (rows_up_to k (rows_of (slot_equations p.records schemes i f).steps)))
+AreSolvableUpTo p schemes i f k =
+    IsSolvable (slot_count p.records schemes i f)
+    (units_of (rows_up_to k (rows_of (slot_equations p.records schemes i f).steps)))
 
--- where a function is judged to have no typing the row is the first unsolvable one, no units at all satisfy the rows up to
--- it, and the function has no typing
+-- where a function is judged to have no typing the row is the first unsolvable one, no units at all satisfy the rows up
+-- to it, and the function has no typing
 abbrev pub JudgedUntypedHaveNone : Type 0
 JudgedUntypedHaveNone =
     (p : ProgramTree) (schemes : List SchemeTree) (i : ℕ) (f : FunctionTree) → slice_get p.functions i ≡ Some f → LiteralsAreClosed f.body → HaveSchemes p schemes i →
     (k at : ℕ) → judge (length p.bases) p.records schemes i f ≡ has_no_typing k at →
     IsFirstRow p schemes i f k at × (AreSolvableUpTo p schemes i f k → ⊥) × ((g : Signature) → Typing p i g → ⊥)
 
--- where it is judged to be not general the row is the first unsolvable one, some units satisfy the rows up to it, and the
--- function has no typing
+-- where it is judged to be not general the row is the first unsolvable one, some units satisfy the rows up to it, and
+-- the function has no typing
 abbrev pub JudgedNotGeneralHaveNone : Type 0
 JudgedNotGeneralHaveNone =
-    (p : ProgramTree) (schemes : List SchemeTree) (i : ℕ) (f : FunctionTree) → slice_get p.functions i ≡ Some f → LiteralsAreClosed f.body → HaveSchemes p schemes i →
+    (p : ProgramTree) (schemes : List SchemeTree) (i : ℕ) (f : FunctionTree) → slice_get p.functions i ≡ Some f →
+    LiteralsAreClosed f.body → HaveSchemes p schemes i →
     (k at : ℕ) → judge (length p.bases) p.records schemes i f ≡ not_general k at →
     IsFirstRow p schemes i f k at × AreSolvableUpTo p schemes i f k × ((g : Signature) → Typing p i g → ⊥)
 
@@ -96,13 +104,17 @@ CallResultsAreSolutions =
 abbrev pub JudgedCallsHaveTheirType : Type 0
 JudgedCallsHaveTheirType =
     (p : ProgramTree) (schemes : List SchemeTree) (k : ℕ) (f : FunctionTree) (inputs : InputTrees) → IsFormed p → HaveSchemes p schemes (length p.functions) → slice_get p.functions k ≡ Some f → AreFormedInputs (length p.bases) inputs →
-    (s : SchemeTree) → judge (length p.bases) p.records schemes (length p.functions) (call_function p.records k f inputs) ≡ has_scheme s → IsTypeOfCall p k inputs s.signature.result
+    (s : SchemeTree) →
+    judge (length p.bases) p.records schemes (length p.functions) (call_function p.records k f inputs) ≡ has_scheme s →
+    IsTypeOfCall p k inputs s.signature.result
 
 -- and a call that is judged to have none has no result
 abbrev pub JudgedUntypedCallsHaveNone : Type 0
 JudgedUntypedCallsHaveNone =
     (p : ProgramTree) (schemes : List SchemeTree) (k : ℕ) (f : FunctionTree) (inputs : InputTrees) → IsFormed p → HaveSchemes p schemes (length p.functions) → slice_get p.functions k ≡ Some f → AreFormedInputs (length p.bases) inputs →
-    (row at : ℕ) → judge (length p.bases) p.records schemes (length p.functions) (call_function p.records k f inputs) ≡ has_no_typing row at → (t : TypeTree) → IsResultOfCall p k inputs t → ⊥
+    (row at : ℕ) →
+    judge (length p.bases) p.records schemes (length p.functions) (call_function p.records k f inputs)
+    ≡ has_no_typing row at → (t : TypeTree) → IsResultOfCall p k inputs t → ⊥
 
 -- ---- shapes
 

@@ -1,6 +1,6 @@
 -- The joint solutions of a function's rows, and what they give for its types.
--- Source: Kennedy (1996): a typing is what a unifier of the equations gives, and a declared parameter is a constant in them.
--- That a solution is a list over numbered slots is this project's own.
+-- Source: Kennedy (1996): a typing is what a unifier of the equations gives, and a declared parameter is a constant in
+-- them. That a solution is a list over numbered slots is this project's own.
 use Rattle.std.specs.Prelude.{◌≡◌, ℕ, ◌<◌, List, Some, slice_get}
 use Rattle.um_units.specs.PowerMap.{PowerMap, nth}
 use Rattle.um_units.specs.Solutions.{IsJointSolution}
