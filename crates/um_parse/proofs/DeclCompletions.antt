@@ -7,7 +7,7 @@ use Rattle.um_syntax.specs.declared.vocabulary.Keyword.{Keyword}
 use Rattle.um_syntax.specs.declared.vocabulary.Keyword.TheVariants as keyword
 use Rattle.um_syntax.specs.declared.vocabulary.Symbol.{Symbol}
 use Rattle.um_syntax.specs.declared.vocabulary.Symbol.TheVariants as symbol
-use Rattle.um_tree.specs.RawTree.{bool_syntax, BinderSyntax, VarSyntax, FieldDeclSyntax, ParamSyntax, DeclSyntax, base_syntax, short_syntax, record_decl_syntax, function_syntax}
+use Rattle.um_tree.specs.RawTree.{bool_syntax, BinderSyntax, VarSyntax, FieldDeclSyntax, ParamSyntax, DeclSyntax, base_syntax, short_syntax, record_decl_syntax}
 use Rattle.um_types.specs.UnitGrammar.{Spells as UnitSpells, IsUnit}
 use Rattle.um_types.specs.UnitMachine.{Need as NeedUnit, Refused as NoUnit, run as unit_run}
 use Rattle.um_types.proofs.UnitLaws.{ending_of, completed, can_go_on}
@@ -38,7 +38,7 @@ abbrev hole_token : Token
 hole_token = token_of kind.Hole
 
 -- parts without letters, of the type `bool`
-abbrev unnamed_var : VarSyntax
+abbrev pub unnamed_var : VarSyntax
 unnamed_var = record { at = 0; name = [] }
 
 abbrev field_of : ℕ → List ℕ → FieldDeclSyntax

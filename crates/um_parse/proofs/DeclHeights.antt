@@ -1,8 +1,8 @@
 -- The least height of a declaration that the tokens begin: it is that of the completion, no token lowers it, and what is found has it.
-use Rattle.std.proofs.Common.{◌≡◌, ◌≢◌, ℕ, ◌≤◌, max, List, [], ◌∷◌, ◌++◌, Bool, true, false, Option, Some, None, refl, sym, ap, ◌∙◌, arith}
+use Rattle.std.proofs.Common.{◌≡◌, ◌≢◌, ℕ, ◌≤◌, max, List, [], ◌∷◌, ◌++◌, Bool, true, false, Option, Some, None, refl, sym, ap, subst, ◌∙◌, arith}
 use Rattle.um_syntax.specs.declared.token.Token.{Token}
 use Rattle.um_tree.specs.declared.expression.Sign.TheVariants as compare
-use Rattle.um_tree.specs.RawTree.{UnitSyntax, TypeSyntax, bool_syntax, BinderSyntax, ExprSyntax, VarSyntax, FieldDeclSyntax, ParamSyntax, DeclSyntax, base_syntax, short_syntax, record_decl_syntax, function_syntax}
+use Rattle.um_tree.specs.RawTree.{UnitSyntax, TypeSyntax, bool_syntax, BinderSyntax, ExprSyntax, VarSyntax, FieldDeclSyntax, ParamSyntax, DeclSyntax, base_syntax, short_syntax, record_decl_syntax}
 use Rattle.um_types.specs.UnitMachine.{State as UnitState, Need as NeedUnit, Have as HaveUnit, Raised, Lowered, Refused as NoUnit, finish as unit_finish}
 use Rattle.um_types.specs.UnitLeast.{least}
 use Rattle.um_types.specs.TypeHeights.{whole_height}
@@ -24,7 +24,7 @@ use Rattle.um_parse.specs.ProgramLeast.{expected_least, decl_least}
 use Rattle.um_parse.specs.DeclMachine.{FunctionStart, VarOwner, OfRecord, OfFunction, started, behind_vars, body_begins_if, take_params, function_from, DeclExpected, DeclBegin, AttributeWord, AttributeGreater, AttributeClose, MeasureType, MeasureName, RecordName, RecordVars, VarBegin, VarWord, VarGreater, VarClose, VarName, VarEnd, RecordEqual, RecordBrace, FieldName, FieldColon, LetName, RecName, FunctionVars, Params, ParamBinder, ParamColon, DeclState, Expects, HaveBase, InShort, HaveRecord, InField, InParam, InResult, InBody, NoDecl, body_begins, take_expected, base_after, field_ends, param_ends, result_ends, short_goes, field_goes, param_goes, result_goes, body_goes, decl_step, short_found, body_found, decl_finish}
 use Rattle.um_expr.proofs.ExprHeights.{expr_completed_height, expr_up, expr_found_height}
 use Rattle.um_parse.proofs.DeclPrefixes.{DeclSpellsPrefix}
-use Rattle.um_parse.proofs.DeclCompletions.{owner_with, expected_completed, decl_completed}
+use Rattle.um_parse.proofs.DeclCompletions.{unnamed_var, owner_with, expected_completed, decl_completed}
 
 fields_last : (fs : List FieldDeclSyntax) (f : FieldDeclSyntax) → fields_height (fs ++ f ∷ []) ≡ max (fields_height fs) (whole_height f.type)
 fields_last [] f = omega arith
@@ -35,9 +35,6 @@ params_last [] p = omega arith
 params_last (q ∷ qs) p = let e = params_last qs p in omega (arith, e)
 
 -- ---- the completion
-
-unnamed : VarSyntax
-unnamed = record { at = 0; name = [] }
 
 owner_height : (owner : VarOwner) (vs : List VarSyntax) → decl_height (owner_with owner vs) ≡ 1
 owner_height (OfRecord at x) vs = omega arith
@@ -52,11 +49,11 @@ expected_height MeasureType = refl
 expected_height MeasureName = refl
 expected_height RecordName = omega arith
 expected_height (RecordVars at x) = omega arith
-expected_height (VarBegin owner vs) = owner_height owner (vs ++ unnamed ∷ [])
-expected_height (VarWord owner vs) = owner_height owner (vs ++ unnamed ∷ [])
-expected_height (VarGreater owner vs) = owner_height owner (vs ++ unnamed ∷ [])
-expected_height (VarClose owner vs) = owner_height owner (vs ++ unnamed ∷ [])
-expected_height (VarName owner vs) = owner_height owner (vs ++ unnamed ∷ [])
+expected_height (VarBegin owner vs) = owner_height owner (vs ++ unnamed_var ∷ [])
+expected_height (VarWord owner vs) = owner_height owner (vs ++ unnamed_var ∷ [])
+expected_height (VarGreater owner vs) = owner_height owner (vs ++ unnamed_var ∷ [])
+expected_height (VarClose owner vs) = owner_height owner (vs ++ unnamed_var ∷ [])
+expected_height (VarName owner vs) = owner_height owner (vs ++ unnamed_var ∷ [])
 expected_height (VarEnd owner vs) = owner_height owner vs
 expected_height (RecordEqual at x vs) = omega arith
 expected_height (RecordBrace at x vs) = omega arith
@@ -116,6 +113,13 @@ take_params_up head ps (mark symbol.Colon) = omega arith
 take_params_up head ps (operator (between.Compare compare.Eq)) = body_up head ps
 take_params_up head ps _ = tt
 
+-- behind the name of a function
+named_up : (recursive : Bool) (at : ℕ) (x : List ℕ) (what : ExprToken) → Above 1 (take_params (started recursive at x []) [] what)
+named_up recursive at x what = subst (λ n. Above n (take_params (started recursive at x []) [] what)) least_is (take_params_up (started recursive at x []) [] what)
+  where
+    least_is : max (params_height []) 1 ≡ 1
+    least_is = omega arith
+
 -- a record without fields, or a function without parameters
 vars_up : (owner : VarOwner) (vs : List VarSyntax) → Above 1 (Expects (behind_vars owner vs))
 vars_up (OfRecord at x) vs = omega arith
@@ -148,7 +152,7 @@ expected_up LetName (word keyword.Rec) at = omega arith
 expected_up LetName (name x) at = omega arith
 expected_up RecName (name x) at = omega arith
 expected_up (FunctionVars recursive p x) (operator (between.Compare compare.Lt)) at = omega arith
-expected_up (FunctionVars recursive p x) what at = take_params_up (started recursive p x []) [] what
+expected_up (FunctionVars recursive p x) what at = named_up recursive p x what
 expected_up (Params head ps) what at = take_params_up head ps what
 expected_up (ParamBinder head ps) (name y) at = omega arith
 expected_up (ParamBinder head ps) hole at = omega arith

@@ -30,12 +30,23 @@ abbrev pub FieldsRead : List FieldDeclSyntax → List Token → List Token → T
 FieldsRead [] tokens rest = tokens ≡ rest
 FieldsRead (f ∷ fs) tokens rest = (mid next : List Token) × FieldDeclSpells f tokens mid × First (mark symbol.Semicolon) mid next × FieldsRead fs next rest
 
--- `type` and a name; up to the unit parameters; up to `{`
+-- `type` and a name
 abbrev pub RecordHead : ℕ → List ℕ → List Token → List Token → Type 0
 RecordHead at x tokens rest = (named : List Token) × First (word keyword.Type) tokens named × FirstAt (name x) at named rest
 
-abbrev pub VarsOpen : ℕ → List ℕ → List VarSyntax → List Token → List Token → Type 0
-VarsOpen owner vs tokens rest = (sign vars : List Token) × RecordHead at x tokens sign × First less sign vars × VarsRead vs vars rest
+-- `let`, `rec` or not, and a name
+abbrev pub FunctionNamed : Bool → ℕ → List ℕ → List Token → List Token → Type 0
+FunctionNamed recursive at x tokens rest =
+    (behind named : List Token) × First (word keyword.Let) tokens behind × RecSpells recursive behind named × FirstAt (name x) at named rest
+
+-- a record or a function up to its name
+abbrev pub OwnerReads : VarOwner → List Token → List Token → Type 0
+OwnerReads (OfRecord at x) tokens rest = RecordHead at x tokens rest
+OwnerReads (OfFunction recursive at x) tokens rest = FunctionNamed recursive at x tokens rest
+
+-- up to a unit parameter; a record up to `{`
+abbrev pub VarsOpen : VarOwner → List VarSyntax → List Token → List Token → Type 0
+VarsOpen owner vs tokens rest = (sign vars : List Token) × OwnerReads owner tokens sign × First less sign vars × VarsRead vs vars rest
 
 abbrev pub RecordOpens : ℕ → List ℕ → List VarSyntax → List Token → List Token → Type 0
 RecordOpens at x vs tokens rest = (vars sign brace : List Token) × RecordHead at x tokens vars × VarsSpell vs vars sign × First equal sign brace × First (mark symbol.LeftBrace) brace rest

@@ -2,7 +2,7 @@
 use Rattle.std.proofs.Common.{◌≡◌, ◌≢◌, ℕ, List, [], ◌∷◌, ◌++◌, Bool, true, false, Option, Some, None, refl, sym, ap, subst, ◌∙◌, append_assoc}
 use Rattle.um_syntax.specs.declared.token.Token.{Token}
 use Rattle.um_tree.specs.declared.expression.Sign.TheVariants as compare
-use Rattle.um_tree.specs.RawTree.{UnitSyntax, TypeSyntax, BinderSyntax, ExprSyntax, VarSyntax, FieldDeclSyntax, ParamSyntax, DeclSyntax, base_syntax, short_syntax, record_decl_syntax, function_syntax}
+use Rattle.um_tree.specs.RawTree.{UnitSyntax, TypeSyntax, BinderSyntax, ExprSyntax, VarSyntax, FieldDeclSyntax, ParamSyntax, DeclSyntax, base_syntax, short_syntax, record_decl_syntax}
 use Rattle.um_types.specs.UnitGrammar.{Spells as UnitSpells, IsUnit}
 use Rattle.um_types.specs.UnitMachine.{State as UnitState, Need as NeedUnit, Have as HaveUnit, Raised, Lowered, Refused as NoUnit, run as unit_run, finish as unit_finish}
 use Rattle.um_types.specs.TypeMachine.{TypeState, NeedType, HaveType, NoType, type_step, type_finish}
@@ -19,7 +19,7 @@ use Rattle.um_expr.specs.declared.token.ExprToken.TheVariants.{Name as name, Var
 use Rattle.um_expr.specs.ExprTokens.{expr_token, equal}
 use Rattle.um_expr.specs.ExprGrammar.{First, FirstAt, BinderSpells}
 use Rattle.um_expr.specs.ExprMachine.{State, Need, Have, HavePower, Greater, Inside, InNote, InType, Refused, step, finish}
-use Rattle.um_parse.specs.DeclGrammar.{DeclSpells, ResultSpells, ParamsFit, ResultFits, FieldDeclsFit, DeclFits}
+use Rattle.um_parse.specs.DeclGrammar.{VarsSpell, DeclSpells, ResultSpells, ParamsFit, ResultFits, FieldDeclsFit, DeclFits}
 use Rattle.um_parse.specs.DeclMachine.{FunctionStart, VarOwner, OfRecord, OfFunction, started, behind_vars, body_begins_if, take_params, function_from, DeclExpected, DeclBegin, AttributeWord, AttributeGreater, AttributeClose, MeasureType, MeasureName, RecordName, RecordVars, VarBegin, VarWord, VarGreater, VarClose, VarName, VarEnd, RecordEqual, RecordBrace, FieldName, FieldColon, LetName, RecName, FunctionVars, Params, ParamBinder, ParamColon, DeclState, Expects, HaveBase, InShort, HaveRecord, InField, InParam, InResult, InBody, NoDecl, body_begins, take_expected, base_after, field_ends, param_ends, result_ends, short_goes, field_goes, param_goes, result_goes, body_goes, decl_step, short_found, body_found, decl_finish}
 use Rattle.um_expr.proofs.ExprPrefixes.{SpellsPrefix}
 use Rattle.um_expr.proofs.ExprSound.{step_sound, expr_found}

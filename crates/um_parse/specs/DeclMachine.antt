@@ -87,7 +87,7 @@ pub data DeclState : Type 0 where
       → DeclState
   NoDecl : DeclState
 
--- a function without unit parameters, up to its name; with them
+-- a function up to its parameters, by its parts
 abbrev pub started : Bool → ℕ → List ℕ → List VarSyntax → FunctionStart
 started recursive at x vs = record { at = at; name = x; recursive = recursive; units = vs }
 
