@@ -154,9 +154,9 @@ module _ (b n : ℕ) where
     back_at (Base m) =
         elim (is_parameter m) as (λ t. is_parameter m ≡ t → extension loose_at (if t then atom (Var (m - b)) else atom (Base m)) ≡ atom (Base m)) [
           | true ↦ λ e.
-            extension-atom loose_at (Var (m - b))
-            ∙ ap (λ t. if t then atom (Base (b + (m - b))) else atom (Var (m - b - n))) (parameter_below m e)
-            ∙ ap (λ k. atom (Base k)) (parameter_back m e)
+              extension-atom loose_at (Var (m - b))
+              ∙ ap (λ t. if t then atom (Base (b + (m - b))) else atom (Var (m - b - n))) (parameter_below m e)
+              ∙ ap (λ k. atom (Base k)) (parameter_back m e)
           | false ↦ λ e. extension-atom loose_at (Base m) ∙ ap (λ t. if t then h (inst (atom (Base m))) else atom (Base m)) e
         ] refl
       where

@@ -32,8 +32,7 @@ replacements_keep_typings p i g units m = subst (Typing p i) (signature-moved un
 
 pub typings_without_parameters : TypingsWithoutParameters
 typings_without_parameters p i f g at none closed =
-    let same : Typing p i g ≡ IsTypingOf (length p.bases) p.records (typings_below p i) i f g = ap (λ o. TypingAt (length p.bases) p.records (typings_below p i) i o g) at in
-    (
+    let same : Typing p i g ≡ IsTypingOf (length p.bases) p.records (typings_below p i) i f g = ap (λ o. TypingAt (length p.bases) p.records (typings_below p i) i o g) at in (
       λ m. loose_of_typing p i f none closed g (subst (λ (X : Type 0). X) same m),
       λ m. subst (λ (X : Type 0). X) (sym same) (typing_of_loose p i f none g m),
     )

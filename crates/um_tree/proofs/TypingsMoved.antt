@@ -120,9 +120,9 @@ module _ (p : ProgramTree) (i : ℕ) (f : FunctionTree) (none : f.units ≡ 0) w
     where
       each : (k : ℕ) → (k < length p.bases) ⊎ (length p.bases + f.units ≤ k)
       each k = elim (nat_lt k (length p.bases)) as (λ t. nat_lt k (length p.bases) ≡ t → (k < length p.bases) ⊎ (length p.bases + f.units ≤ k)) [
-          | true ↦ λ e. inl (grind (arith, nat_tests))
-          | false ↦ λ e. inr (grind (arith, nat_tests, none))
-        ] refl
+        | true ↦ λ e. inl (grind (arith, nat_tests))
+        | false ↦ λ e. inr (grind (arith, nat_tests, none))
+      ] refl
 
   pub loose_of_typing : LiteralsAreClosed f.body → (g : Signature) → IsTypingOf (length p.bases) p.records (typings_below p i) i f g → IsLooseTypingOf p.records (typings_below p i) i f g
   loose_of_typing closed g m =

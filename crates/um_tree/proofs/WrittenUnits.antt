@@ -102,47 +102,47 @@ module _ (A B C : PowerMap → Type 0) (both_of : (u : PowerMap) → A u → B u
   type_both (record_type r us) v w = λ k d below. both_of (get_or us k d) (v k d below) (w k d below)
 
 module _
-  (A B C A' B' C' : PowerMap → Type 0) (both_of : (u : PowerMap) → A u → B u → C u)
-  (both_of' : (u : PowerMap) → A' u → B' u → C' u)
+    (A B C A' B' C' : PowerMap → Type 0) (both_of : (u : PowerMap) → A u → B u → C u)
+    (both_of' : (u : PowerMap) → A' u → B' u → C' u)
   where
-  mutual
-    expr_both : (e : ExprTree) → ExprHas A A' e → ExprHas B B' e → ExprHas C C' e
-    expr_both (truth at b) v w = tt
-    expr_both (number at c n) v w = unit_note_both A' B' C' both_of' n v w
-    expr_both (local at k) v w = tt
-    expr_both (call at j es) v w = exprs_both es v w
-    expr_both (negate at a) v w = expr_both a v w
-    expr_both (not_expr at a) v w = expr_both a v w
-    expr_both (pown at a k) v w = expr_both a v w
-    expr_both (arith at op a b) v w = (expr_both a v.0 w.0, expr_both b v.1 w.1)
-    expr_both (compare at sign a b) v w = (expr_both a v.0 w.0, expr_both b v.1 w.1)
-    expr_both (both at a b) v w = (expr_both a v.0 w.0, expr_both b v.1 w.1)
-    expr_both (either at a b) v w = (expr_both a v.0 w.0, expr_both b v.1 w.1)
-    expr_both (if at c a b) v w = (expr_both c v.0 w.0, expr_both a v.1 w.1, expr_both b v.2 w.2)
-    expr_both (bind at a b) v w = (expr_both a v.0 w.0, expr_both b v.1 w.1)
-    expr_both (split at l a b) v w = (expr_both l v.0 w.0, expr_both a v.1 w.1, expr_both b v.2 w.2)
-    expr_both (nil at n) v w = note_both A B C both_of n v w
-    expr_both (list_expr at es) v w = exprs_both es v w
-    expr_both (cons at a b) v w = (expr_both a v.0 w.0, expr_both b v.1 w.1)
-    expr_both (record_expr at r es) v w = exprs_both es v w
-    expr_both (field at r k a) v w = expr_both a v w
+    mutual
+      expr_both : (e : ExprTree) → ExprHas A A' e → ExprHas B B' e → ExprHas C C' e
+      expr_both (truth at b) v w = tt
+      expr_both (number at c n) v w = unit_note_both A' B' C' both_of' n v w
+      expr_both (local at k) v w = tt
+      expr_both (call at j es) v w = exprs_both es v w
+      expr_both (negate at a) v w = expr_both a v w
+      expr_both (not_expr at a) v w = expr_both a v w
+      expr_both (pown at a k) v w = expr_both a v w
+      expr_both (arith at op a b) v w = (expr_both a v.0 w.0, expr_both b v.1 w.1)
+      expr_both (compare at sign a b) v w = (expr_both a v.0 w.0, expr_both b v.1 w.1)
+      expr_both (both at a b) v w = (expr_both a v.0 w.0, expr_both b v.1 w.1)
+      expr_both (either at a b) v w = (expr_both a v.0 w.0, expr_both b v.1 w.1)
+      expr_both (if at c a b) v w = (expr_both c v.0 w.0, expr_both a v.1 w.1, expr_both b v.2 w.2)
+      expr_both (bind at a b) v w = (expr_both a v.0 w.0, expr_both b v.1 w.1)
+      expr_both (split at l a b) v w = (expr_both l v.0 w.0, expr_both a v.1 w.1, expr_both b v.2 w.2)
+      expr_both (nil at n) v w = note_both A B C both_of n v w
+      expr_both (list_expr at es) v w = exprs_both es v w
+      expr_both (cons at a b) v w = (expr_both a v.0 w.0, expr_both b v.1 w.1)
+      expr_both (record_expr at r es) v w = exprs_both es v w
+      expr_both (field at r k a) v w = expr_both a v w
 
-    exprs_both : (es : ExprTrees) → ExprsHave A A' es → ExprsHave B B' es → ExprsHave C C' es
-    exprs_both none v w = tt
-    exprs_both (more e es) v w = (expr_both e v.0 w.0, exprs_both es v.1 w.1)
+      exprs_both : (es : ExprTrees) → ExprsHave A A' es → ExprsHave B B' es → ExprsHave C C' es
+      exprs_both none v w = tt
+      exprs_both (more e es) v w = (expr_both e v.0 w.0, exprs_both es v.1 w.1)
 
-  function_both : (f : FunctionTree) → FunctionHas A A' f → FunctionHas B B' f → FunctionHas C C' f
-  function_both f v w = record {
-    params = λ k d below. note_both A B C both_of (get_or f.params k d) (v.params k d below) (w.params k d below);
-    result = result_both A B C both_of f.result v.result w.result;
-    body = expr_both f.body v.body w.body;
-  }
+    function_both : (f : FunctionTree) → FunctionHas A A' f → FunctionHas B B' f → FunctionHas C C' f
+    function_both f v w = record {
+      params = λ k d below. note_both A B C both_of (get_or f.params k d) (v.params k d below) (w.params k d below);
+      result = result_both A B C both_of f.result v.result w.result;
+      body = expr_both f.body v.body w.body;
+    }
 
-  pub program_has_both : (p : ProgramTree) (i : ℕ) → ProgramHas A A' p i → ProgramHas B B' p i → ProgramHas C C' p i
-  program_has_both p i v w = record {
-    records = λ k d below. λ m t inside. type_both A B C both_of (get_or (field_types (get_or p.records k d)) m t) (v.records k d below m t inside) (w.records k d below m t inside);
-    functions = λ j f low at. function_both f (v.functions j f low at) (w.functions j f low at);
-  }
+    pub program_has_both : (p : ProgramTree) (i : ℕ) → ProgramHas A A' p i → ProgramHas B B' p i → ProgramHas C C' p i
+    program_has_both p i v w = record {
+      records = λ k d below. λ m t inside. type_both A B C both_of (get_or (field_types (get_or p.records k d)) m t) (v.records k d below m t inside) (w.records k d below m t inside);
+      functions = λ j f low at. function_both f (v.functions j f low at) (w.functions j f low at);
+    }
 
 -- ---- formed literals are closed
 literal_closed : (bases : ℕ) (c : Frac) (n : UnitNote) → IsLiteral bases c n → UnitNoteHas IsClosed n
