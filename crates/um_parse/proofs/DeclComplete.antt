@@ -212,10 +212,10 @@ first_behind (q ∷ ps) r tokens result mid rest s t e = passes (mark symbol.Lef
 first_behind [] (Some t) tokens result mid rest s u e = passes (mark symbol.Colon) tokens u.0 (subst (λ w. First (mark symbol.Colon) w u.0) (sym s) u.1) refl
 first_behind [] None tokens result mid rest s u e = passes equal tokens rest (subst (λ w. First equal w rest) (sym (s ∙ u)) e) refl
 
--- parameters, result and `=` are read behind the name as behind unit parameters
-same_token : (x y : Token) (xs ys : List Token) → x ∷ xs ≡ y ∷ ys → x ≡ y
-same_token x y xs ys e = cc
+pub same_head : (x y : Token) (xs ys : List Token) → x ∷ xs ≡ y ∷ ys → x ≡ y
+same_head x y xs ys e = cc
 
+-- parameters, result and `=` are read behind the name as behind unit parameters
 unparametered : (recursive : Bool) (at : ℕ) (x : List ℕ) (new : DeclState) (tokens rest : List Token) → FirstPasses tokens → Expects (Params (started recursive at x []) []) ≢ new
     → Yields decl_step (Expects (Params (started recursive at x []) [])) tokens new rest → Yields decl_step (Expects (FunctionVars recursive at x)) tokens new rest
 unparametered recursive at x new tokens rest f apart y = alike y.0 y.1 y.2
@@ -223,7 +223,7 @@ unparametered recursive at x new tokens rest f apart y = alike y.0 y.1 y.2
     alike : (read : List Token) → tokens ≡ read ++ rest → runs decl_step (Expects (Params (started recursive at x []) [])) read ≡ new → Yields decl_step (Expects (FunctionVars recursive at x)) tokens new rest
     alike [] parts ends = absurd (apart ends)
     alike (t ∷ ts) parts ends =
-        let same : f.0 ≡ t = same_token f.0 t f.1 (ts ++ rest) (sym f.2 ∙ parts) in
+        let same : f.0 ≡ t = same_head f.0 t f.1 (ts ++ rest) (sym f.2 ∙ parts) in
         let free : is_no_less (expr_token t.kind) ≡ true = ap (λ (w : Token). is_no_less (expr_token w.kind)) (sym same) ∙ f.3 in
         (t ∷ ts, parts, ap (λ w. runs decl_step w ts) (vars_alike recursive at x (expr_token t.kind) t.start t.glued t.kind free) ∙ ends)
 

@@ -96,10 +96,7 @@ decl_first : (d : DeclSyntax) (tokens rest : List Token) → DeclSpells d tokens
 decl_first (base_syntax at x) tokens rest s = let a = s.2.3 in (a.0, s.2.0, a.2, ap begins_decl a.1)
 decl_first (short_syntax at x u) tokens rest s = let a = s.4.3 in (a.0, s.4.0, a.2, ap begins_decl a.1)
 decl_first (record_decl_syntax at x vs fs) tokens rest s = let a = s.6 in (a.0, s.0, a.2, ap begins_decl a.1)
-decl_first (function_syntax f) tokens rest s = let a = s.6 in (a.0, s.0, a.2, ap begins_decl a.1)
-
-same_head : (x y : Token) (xs ys : List Token) → x ∷ xs ≡ y ∷ ys → x ≡ y
-same_head x y xs ys e = cc
+decl_first (function_syntax f) tokens rest s = let a = s.7 in (a.0, s.0, a.2, ap begins_decl a.1)
 
 -- behind a declaration the next begins as at the start
 next_alike : (decls : List DeclSyntax) (b : Bool) (d : DeclSyntax) (token : Token) → DeclFits d → begins_decl (expr_token token.kind) ≡ true
