@@ -24,7 +24,7 @@ use Rattle.um_parse.specs.ProgramStates.{start}
 use Rattle.um_expr.proofs.ExprTokenKinds.{begins_decl, decl_is_foreign}
 use Rattle.um_expr.proofs.ExprEnds.{opened, last_atom}
 use Rattle.um_expr.proofs.ExprAtEnd.{at_end}
-use Rattle.um_parse.proofs.DeclComplete.{decl_into, decl_finds, decl_yields}
+use Rattle.um_parse.proofs.DeclComplete.{decl_into, decl_finds, decl_yields, same_head}
 
 -- ---- what begins a declaration ends the one before it
 
