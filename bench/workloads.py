@@ -72,6 +72,19 @@ def items(count):
     return "let items = [%s]\n" % "; ".join(str(k) for k in range(count))
 
 
+def literals(count):
+    """A list of literals whose unit is an abbreviation of 100 measures."""
+    measures = ["m%d" % k for k in range(100)]
+    text = "".join("[<Measure>] type %s\n" % measure for measure in measures)
+    return text + "[<Measure>] type A = %s\nlet k = [%s]\n" % (" ".join(measures), "; ".join(["1<A>"] * count))
+
+
+def nested(units):
+    """Unit texts in as many brackets as may be."""
+    unit = "(" * 399 + "m" + ")" * 399
+    return "".join("[<Measure>] type a%d = %s\n" % (k, unit) for k in range(units))
+
+
 Workload = namedtuple("Workload", "name words text sizes")
 
 # A new command is a line here: its name in the table, the words, the text, and a small and a large size.
@@ -82,6 +95,8 @@ WORKLOADS = [
     Workload("wide records and functions", "types", wide, (100, 400)),
     Workload("a list of zeros", "types", zeros, (475, 1900)),
     Workload("a chain of 1,560 slots", "types", chain, (97, 390)),
+    Workload("literals of a long unit", "types", literals, (1000, 4000)),
     Workload("sums and products", "fmt", sums, (475, 1900)),
     Workload("a list of numbers", "fmt", items, (4750, 19000)),
+    Workload("units in brackets", "fmt", nested, (20, 80)),
 ]
