@@ -1,0 +1,102 @@
+"""The texts that programs are measured on, each made for a size."""
+import os
+import re
+from collections import namedtuple
+
+VEHICLE = os.path.join(os.path.dirname(os.path.abspath(__file__)), "..", "examples", "vehicle.um")
+DECLARED = re.compile(r"(?:type|let rec|let) ([A-Za-z]+)|[{;] ([a-z]+):")
+
+
+def copies(count):
+    """The vehicle's model so many times, each with names of its own."""
+    with open(VEHICLE) as file:
+        model = file.read()
+    names = {name for pair in DECLARED.findall(model) for name in pair if name}
+    name = re.compile(r"\b(%s)\b" % "|".join(sorted(names)))
+    return "".join(name.sub(r"\g<1>%d" % copy, model) for copy in range(count))
+
+
+def products(functions):
+    """Functions of 25 products each, over names of ordinary length."""
+    factors = " * ".join(["starting_speed", "elapsed_duration"] * 13)
+    head = "let travelled%04d (starting_speed: num<_>) (elapsed_duration: num<_>) = "
+    return "".join(head % number + factors + "\n" for number in range(functions))
+
+
+def zeros(slots):
+    """One function with a list of zeros, each with a unit of its own to be found."""
+    return "let zeros = [%s]\n" % "; ".join(["0<_>"] * slots)
+
+
+def chain(records):
+    """One function with four slots a record, whose equations each change all slots that were solved before."""
+    units = ["p", "q", "r", "s"]
+    text = "type R<%s> = { %s }\n" % (
+        ", ".join("[<Measure>] '" + unit for unit in units), "; ".join("%s: num<'%s>" % (unit, unit) for unit in units))
+    text += "let open = { %s }\n" % "; ".join(unit + " = 0<_>" for unit in units)
+    slots = ["r%d.%s" % (record, unit) for record in range(records) for unit in units]
+    lets = "".join("let r%d = open in " % record for record in range(records))
+    equations = "; ".join("%s < %s" % pair for pair in reversed(list(zip(slots, slots[1:]))))
+    return text + "let chain = %s[%s]\n" % (lets, equations)
+
+
+def small(functions):
+    """Many functions of one line, each of which calls the one before it."""
+    text = "[<Measure>] type m\nlet f0 (x: num<_>) = x * 2<m>\n"
+    return text + "".join("let f%d (x: num<_>) = f%d x / 3<m>\n" % (k, k - 1) for k in range(1, functions))
+
+
+def wide(functions):
+    """Records of 32 fields and 4 unit parameters, each with a function of 16 parameters that makes one."""
+    units = ["a", "b", "c", "d"]
+    parameters = " ".join("(x%d: num<_>)" % k for k in range(16))
+    text = ""
+    for number in range(functions):
+        fields = ["f%d_%d" % (number, k) for k in range(32)]
+        declared = "; ".join("%s: num<'%s>" % (field, units[k % 4]) for k, field in enumerate(fields))
+        parts = "; ".join("%s = x%d" % (field, k % 16) for k, field in enumerate(fields))
+        text += "type R%d<%s> = { %s }\n" % (number, ", ".join("[<Measure>] '" + unit for unit in units), declared)
+        text += "let w%d %s = { %s }\n" % (number, parameters, parts)
+    return text
+
+
+def sums(functions):
+    """Sums and products of short names and numbers, a token every three bytes or four."""
+    terms = " + ".join(["speed * time", "2.5 / length", "(speed - 10)"] * 11)
+    head = "let sum%d (speed: num) (time: num) (length: num) = "
+    return "".join(head % number + terms + "\n" for number in range(functions))
+
+
+def items(count):
+    """A list of so many numbers."""
+    return "let items = [%s]\n" % "; ".join(str(k) for k in range(count))
+
+
+def literals(count):
+    """A list of literals whose unit is an abbreviation of 100 measures."""
+    measures = ["m%d" % k for k in range(100)]
+    text = "".join("[<Measure>] type %s\n" % measure for measure in measures)
+    return text + "[<Measure>] type A = %s\nlet k = [%s]\n" % (" ".join(measures), "; ".join(["1<A>"] * count))
+
+
+def nested(units):
+    """Unit texts in as many brackets as may be."""
+    unit = "(" * 399 + "m" + ")" * 399
+    return "".join("[<Measure>] type a%d = %s\n" % (k, unit) for k in range(units))
+
+
+Workload = namedtuple("Workload", "name words text sizes")
+
+# A new command is a line here: its name in the table, the words, the text, and a small and a large size.
+WORKLOADS = [
+    Workload("copies of a model", "types", copies, (82, 330)),
+    Workload("functions of 25 products", "types", products, (475, 1900)),
+    Workload("small functions", "types", small, (500, 2000)),
+    Workload("wide records and functions", "types", wide, (100, 400)),
+    Workload("a list of zeros", "types", zeros, (475, 1900)),
+    Workload("a chain of 1,560 slots", "types", chain, (97, 390)),
+    Workload("literals of a long unit", "types", literals, (1000, 4000)),
+    Workload("sums and products", "fmt", sums, (475, 1900)),
+    Workload("a list of numbers", "fmt", items, (4750, 19000)),
+    Workload("units in brackets", "fmt", nested, (20, 80)),
+]
