@@ -102,9 +102,7 @@ fn generalised_type(
 {
     match ty {
         Ty::Bool => Ok(Ty::Bool),
-        Ty::Num(unit) => Ok(Ty::Num(generalised_unit(
-            alloc, bases, parameters, slots, unit,
-        )?)),
+        Ty::Num(unit) => Ok(Ty::Num(generalised_unit(alloc, bases, parameters, slots, unit)?)),
         Ty::List(item) => Ok(Ty::List(Box::new(
             alloc,
             generalised_type(alloc, bases, parameters, slots, item)?,
