@@ -99,12 +99,14 @@ module _ (p : ProgramTree) (formed : IsFormed p) where
     }
 
     without_units : judge (length p.bases) p.records schemes i function ≡ has_no_typing row at → IsFirstWithoutUnits p i row at
+    unfolding first_untyped
     without_units is =
         let closed = formed_literals_are_closed p i formed i function (omega arith) declared in
         let none = judged_untyped_have_none p schemes i function declared closed (have_schemes p i schemes before) row at is in
         (first_untyped none.0 none.2, none.1)
 
     less_general : judge (length p.bases) p.records schemes i function ≡ not_general row at → IsFirstNotGeneral p i row at
+    unfolding first_untyped
     less_general is =
         let closed = formed_literals_are_closed p i formed i function (omega arith) declared in
         let none = judged_not_general_have_none p schemes i function declared closed (have_schemes p i schemes before) row at is in

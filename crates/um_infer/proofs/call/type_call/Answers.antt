@@ -1,9 +1,13 @@
+use Rattle.std.proofs.Common.{refl}
 use Rattle.um_tree.specs.ProgramTree.{program_tree, scheme_tree}
 use Rattle.um_tree.specs.ValueTree.{input_trees}
 use Rattle.um_infer.specs.Answers.{scheme_trees}
 use Rattle.um_infer.proofs.SchemeLists.{item_at}
 use Rattle.um_infer.proofs.CallTypes.{judged_call_types, call_refused, refused_call}
 use Rattle.um_infer.proofs.call.type_call.Goals as goal
+
+pub returns-in-Ok-clause-typed : goal.returns-in-Ok-clause-typed
+returns-in-Ok-clause-typed c = λ f declared. (scheme_tree c.in-Ok.field-0, c.in-Ok.ensures f declared, refl)
 
 pub returns-in-Ok-clause-types : goal.returns-in-Ok-clause-types
 returns-in-Ok-clause-types c =

@@ -1,4 +1,4 @@
-use Rattle.std.proofs.Common.{◌≡◌, ◌+◌, ◌<◌, map, ap, ◌∙◌, subst, sym, arith}
+use Rattle.std.proofs.Common.{◌+◌, ◌<◌, map, ap, ◌∙◌, subst, sym, arith}
 use Rattle.std.specs.Prelude.{All}
 use Rattle.std.proofs.lemmas.List.Elements.{All-weaker}
 use Rattle.std.proofs.lemmas.Result.{err_from_is_err_and}
@@ -10,7 +10,8 @@ use Rattle.um_elim.specs.Solution.{rigid_units}
 use Rattle.um_rows.specs.Answers.{rows_signature}
 use Rattle.um_rows.specs.FirstUnsolvable.{solve}
 use Rattle.um_rows.specs.Generalised.{generalised_unit}
-use Rattle.um_infer.specs.Forming.{IsSolutionOf}
+use Rattle.um_rows.specs.Judgement.{by_rows}
+use Rattle.um_infer.specs.Forming.{IsSolutionOf, IsRefusal}
 use Rattle.um_infer.proofs.FormingSteps.{puts_below, formed_is_judged, past_is_judged}
 use Rattle.um_infer.proofs.GeneralSteps.{types_stay}
 use Rattle.um_infer.proofs.forming.formed_scheme.Goals as goal
@@ -38,6 +39,12 @@ numbered_scheme-requires-clause-variables c =
     let made = c.in_ok-items.ensures ∙ ap (λ us. map (moved (generalised_unit c.args.bases c.args.parameters n)) (map type_tree us)) c.deref-2.ensures.value in
     All-weaker (λ k. k < n + c.args.parameters) (λ k. k < 4294967295) (λ k h. omega (arith, h, few)) (variables (map type_tree c.in_ok-items.items.items))
     (subst (λ us. All (λ k. k < n + c.args.parameters) (variables us)) (sym made) stays)
+
+pub returns-in_err-solver : goal.returns-in_err-solver
+returns-in_err-solver c =
+    let sig = rows_signature c.args.rows.now in
+    let p = err_from_is_err_and c.from_residual.result c.from_residual.ensures.1 in
+    rw (p.1, p.2) (subst (λ rs. IsRefusal (by_rows c.args.bases c.args.parameters c.args.rows.now.slots c.args.at sig rs) c.in_err-solver.field-0.0) c.deref.ensures.value (c.in_err-solver.ensures c.args.at sig))
 
 pub returns-in_err-types : goal.returns-in_err-types
 returns-in_err-types c =

@@ -32,13 +32,13 @@ pub formed_scheme-requires-clause-parameters : goal.formed_scheme-requires-claus
 formed_scheme-requires-clause-parameters c =
     let p = program_tree c.args.shaped.now in let schemes = scheme_trees c.args.schemes.now in
     let w = item_at p.functions c.args.i c.requires.declared in
-    parameters_within (length p.bases) p.records schemes c.args.i w.0 c.in_ok-equations.equations (c.in_ok-equations.ensures.equations w.0 w.1) c.head_of.result.0 (c.head_of.ensures w.0 w.1).0
+    parameters_within (length p.bases) p.records schemes c.args.i w.0 c.in_ok-equations.equations (c.in_ok-equations.ensures.equations w.0 w.1) c.head_of-parameters.result.0 (c.head_of-parameters.ensures w.0 w.1).0
 
 pub formed_scheme-requires-clause-bases : goal.formed_scheme-requires-clause-bases
 formed_scheme-requires-clause-bases c =
     let p = program_tree c.args.shaped.now in let schemes = scheme_trees c.args.schemes.now in
     let w = item_at p.functions c.args.i c.requires.declared in
-    let within = parameters_within (length p.bases) p.records schemes c.args.i w.0 c.in_ok-equations.equations (c.in_ok-equations.ensures.equations w.0 w.1) c.head_of.result.0 (c.head_of.ensures w.0 w.1).0 in
+    let within = parameters_within (length p.bases) p.records schemes c.args.i w.0 c.in_ok-equations.equations (c.in_ok-equations.ensures.equations w.0 w.1) c.head_of-parameters.result.0 (c.head_of-parameters.ensures w.0 w.1).0 in
     let slots = few_slots (length p.bases) p.records schemes c.args.i w.0 c.in_ok-equations.equations (c.in_ok-equations.ensures.equations w.0 w.1) in
     let few = c.base_count.ensures.few in
     omega (arith, few, within, slots)
@@ -46,7 +46,7 @@ formed_scheme-requires-clause-bases c =
 pub returns : goal.returns
 returns c = λ f declared.
     let p = program_tree c.args.shaped.now in let schemes = scheme_trees c.args.schemes.now in
-    solved_is_judged (length p.bases) p.records schemes c.args.i f c.in_ok-equations.equations (c.in_ok-equations.ensures.equations f declared) c.base_count.result c.head_of.result.0 c.head_of.result.1 c.formed_scheme.result c.base_count.ensures.count (c.head_of.ensures f declared).0 (c.head_of.ensures f declared).1 c.formed_scheme.ensures
+    solved_is_judged (length p.bases) p.records schemes c.args.i f c.in_ok-equations.equations (c.in_ok-equations.ensures.equations f declared) c.base_count.result c.head_of-parameters.result.0 c.head_of-parameters.result.1 c.formed_scheme.result c.base_count.ensures.count (c.head_of-parameters.ensures f declared).0 (c.head_of-parameters.ensures f declared).1 c.formed_scheme.ensures
 
 pub returns-in_err-equations : goal.returns-in_err-equations
 returns-in_err-equations c = λ f declared.
