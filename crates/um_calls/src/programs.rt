@@ -9,6 +9,7 @@ ghost use Rattle.um_names.specs.Resolution.{resolved_program};
 ghost use Rattle.um_infer.specs.Answers.{IsInferred, SaysOfTypings};
 
 use std::alloc::Global;
+use std::process::Abort;
 use std::test::Fail;
 use um_frac::Frac;
 use um_infer::{infer, type_call};
@@ -58,7 +59,11 @@ fn shaped_program(alloc: Global, text: &str) -> Option<Shaped> {
 }
 
 // A unit text and a signature text with the names of the program.
-fn names_are_read(rt: &HostRuntime, program: &Program, shorts: &Abbreviations) -> Result<(), Fail>
+fn names_are_read(
+    rt: &(impl Abort + AllocGlobal),
+    program: &Program,
+    shorts: &Abbreviations,
+) -> Result<(), Fail>
     requires formed { IsFormed (program_tree program.now) }
 {
     let alloc = rt.alloc();
@@ -70,7 +75,10 @@ fn names_are_read(rt: &HostRuntime, program: &Program, shorts: &Abbreviations) -
         assert!(rt; false);
         return Ok(());
     };
-    assert_eq!(rt; unit_text(alloc, &unit, &program.bases)?.as_slice(), b"m^2/s".as_slice());
+    assert_eq!(rt;
+        unit_text(alloc, &unit, &program.bases)?.as_slice(),
+        b"m^2/s".as_slice()
+    );
 
     let tokens = lex(alloc, "P<'a> -> num<'a/v>")?;
     let raw = parse_types(alloc, tokens.as_slice(), 18)?;
@@ -80,13 +88,23 @@ fn names_are_read(rt: &HostRuntime, program: &Program, shorts: &Abbreviations) -
         assert!(rt; false);
         return Ok(());
     };
-    assert_eq!(rt; type_text(alloc, first, program)?.as_slice(), b"P<'a>".as_slice());
-    assert_eq!(rt; type_text(alloc, second, program)?.as_slice(), b"num<s 'a/m>".as_slice());
+    assert_eq!(rt;
+        type_text(alloc, first, program)?.as_slice(),
+        b"P<'a>".as_slice()
+    );
+    assert_eq!(rt;
+        type_text(alloc, second, program)?.as_slice(),
+        b"num<s 'a/m>".as_slice()
+    );
     Ok(())
 }
 
 // The abbreviation of the program, and texts with its names.
-fn program_has_names(rt: &HostRuntime, raw: &RawProgram, program: &Program) -> Result<(), Fail>
+fn program_has_names(
+    rt: &(impl Abort + AllocGlobal),
+    raw: &RawProgram,
+    program: &Program,
+) -> Result<(), Fail>
     requires given { resolved_program (program_syntax raw.now) ≡ Ok (program_tree program.now) }
     requires formed { IsFormed (program_tree program.now) }
 {
@@ -97,12 +115,15 @@ fn program_has_names(rt: &HostRuntime, raw: &RawProgram, program: &Program) -> R
         return Ok(());
     };
     assert_eq!(rt; short.name.as_slice(), b"v".as_slice());
-    assert_eq!(rt; unit_text(alloc, &short.unit, &program.bases)?.as_slice(), b"m/s".as_slice());
+    assert_eq!(rt;
+        unit_text(alloc, &short.unit, &program.bases)?.as_slice(),
+        b"m/s".as_slice()
+    );
     names_are_read(rt, program, &shorts)
 }
 
 // The layout of the raw program, and its names.
-fn text_is_known(rt: &HostRuntime, raw: &RawProgram) -> Result<(), Fail>
+fn text_is_known(rt: &(impl Abort + AllocGlobal), raw: &RawProgram) -> Result<(), Fail>
     requires readable { IsReadable (program_syntax raw.now) }
 {
     let alloc = rt.alloc();
@@ -147,7 +168,12 @@ fn shapes(rt: HostRuntime) -> Result<(), Fail> {
 }
 
 // The equations are rows at these places, with these units over slots.
-fn are_rows(rt: &HostRuntime, program: &Program, found: &[Row], want: &[(u32, &str)]) -> Result<(), Fail> {
+fn are_rows(
+    rt: &(impl Abort + AllocGlobal),
+    program: &Program,
+    found: &[Row],
+    want: &[(u32, &str)],
+) -> Result<(), Fail> {
     assert_eq!(rt; found.len(), want.len());
     for (row, (at, unit)) in found.iter().zip(want) {
         assert_eq!(rt; row.at, *at);
@@ -170,7 +196,11 @@ fn arguments(alloc: Global) -> Result<Inputs, NoMemory>
 }
 
 // A call of the second function: its type, and its rows of parameters against arguments.
-fn call_is_typed(rt: &HostRuntime, shaped: &Shaped, schemes: &Schemes) -> Result<(), Fail>
+fn call_is_typed(
+    rt: &(impl Abort + AllocGlobal),
+    shaped: &Shaped,
+    schemes: &Schemes,
+) -> Result<(), Fail>
     requires function { 1 < length (program_tree shaped.now).functions }
     requires bases { 0 < length (program_tree shaped.now).bases }
     requires inferred { IsInferred (program_tree shaped.now) (Ok schemes.now) }
@@ -179,13 +209,21 @@ fn call_is_typed(rt: &HostRuntime, shaped: &Shaped, schemes: &Schemes) -> Result
     let alloc = rt.alloc();
     let args = arguments(alloc)?;
     let ty = type_call(alloc, shaped, schemes, 1, &args)?;
-    assert_eq!(rt; type_text(alloc, &ty, shaped.program())?.as_slice(), b"num<m/s>".as_slice());
+    assert_eq!(rt;
+        type_text(alloc, &ty, shaped.program())?.as_slice(),
+        b"num<m/s>".as_slice()
+    );
     let equations = call_rows(alloc, shaped, schemes, 1, &args)?;
-    are_rows(rt, shaped.program(), &equations.list.items, &[(0, "'a/m"), (0, "'a/'b")])
+    are_rows(
+        rt,
+        shaped.program(),
+        &equations.list.items,
+        &[(0, "'a/m"), (0, "'a/'b")],
+    )
 }
 
 // The scheme of the second function, and its row at the difference.
-fn schemes_are_found(rt: &HostRuntime, shaped: &Shaped) -> Result<(), Fail> {
+fn schemes_are_found(rt: &(impl Abort + AllocGlobal), shaped: &Shaped) -> Result<(), Fail> {
     let alloc = rt.alloc();
     let program = shaped.program();
     assert_eq!(rt; program.bases.as_slice().len(), 2);
@@ -199,7 +237,10 @@ fn schemes_are_found(rt: &HostRuntime, shaped: &Shaped) -> Result<(), Fail> {
         return Ok(());
     };
     let text = scheme_text(alloc, &function.name, scheme, program)?;
-    assert_eq!(rt; text.as_slice(), b"speed : num<'a> -> num<'a> -> num<'a/s>".as_slice());
+    assert_eq!(rt;
+        text.as_slice(),
+        b"speed : num<'a> -> num<'a> -> num<'a/s>".as_slice()
+    );
     let equations = rows(alloc, shaped, 1, &schemes)?;
     are_rows(rt, program, &equations.list.items, &[(213, "'a/'b")])?;
     call_is_typed(rt, shaped, &schemes)

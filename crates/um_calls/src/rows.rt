@@ -67,6 +67,8 @@ fn numbers(rt: HostRuntime) -> Result<(), Fail> {
     let Numbered { types, vars } = renumber(alloc, Types { items })?;
     assert_eq!(rt; vars, 2);
     let want = [power(A, 2), power(B, 1)];
-    assert!(rt; matches!(types.items.as_slice(), [Ty::Num(unit)] if unit.terms() == want.as_slice()));
+    assert!(rt;
+        matches!(types.items.as_slice(), [Ty::Num(unit)] if unit.terms() == want.as_slice())
+    );
     Ok(())
 }
