@@ -31,23 +31,15 @@ fn lists(rt: HostRuntime) -> Result<(), Fail> {
     assert!(rt; store.holds(list));
     let longer = store.cons(item, list)?.ok_or("no list")?;
     assert!(rt; store.holds(longer));
-    assert_eq!(rt;
-        truths(alloc, &store, longer)?.as_slice(),
-        [true, false, true].as_slice()
-    );
-    assert!(rt;
-        matches!(
-            store.split(longer),
-            Some(ListCase::Items(Word::Bool(true), _))
-        )
-    );
+    let found = truths(alloc, &store, longer)?;
+    assert_eq!(rt; found.as_slice(), [true, false, true].as_slice());
+    let split = store.split(longer);
+    assert!(rt; matches!(split, Some(ListCase::Items(Word::Bool(true), _))));
     assert!(rt; matches!(store.split(Word::Nil), Some(ListCase::Empty)));
     assert!(rt; store.split(item).is_none());
     assert!(rt; store.holds(list));
-    assert_eq!(rt;
-        truths(alloc, &store, list)?.as_slice(),
-        [false, true].as_slice()
-    );
+    let found = truths(alloc, &store, list)?;
+    assert_eq!(rt; found.as_slice(), [false, true].as_slice());
     Ok(())
 }
 
@@ -65,9 +57,7 @@ fn records(rt: HostRuntime) -> Result<(), Fail> {
     assert!(rt; matches!(words.as_slice(), [Word::Bool(true), Word::Bool(false)]));
     let list = store.put(alloc, &Value::List(Values { items }))?;
     assert!(rt; store.holds(list));
-    assert_eq!(rt;
-        truths(alloc, &store, list)?.as_slice(),
-        [true, false].as_slice()
-    );
+    let found = truths(alloc, &store, list)?;
+    assert_eq!(rt; found.as_slice(), [true, false].as_slice());
     Ok(())
 }

@@ -30,6 +30,13 @@ const TEXT: &str = "\
     let first (x: num<v>) (l: bool list) (r: P<m>) = r.p / x\n\
     let speed (x: num<_>) (y: num<_>) = (x - y) / 2<s>\n";
 
+// That the text, if it comes, is this one.
+macro_rules! assert_text {
+    ($rt:expr; $text:expr, $want:expr) => {
+        assert_eq!($rt; $text?.as_slice(), $want.as_bytes())
+    };
+}
+
 // The raw program of a text, if it is one.
 #[tactic(auto, using(um_readable::proofs::TextBytes::tokens_within_bytes, um_readable::proofs::TextBytes::readable_program))]
 fn raw_program(alloc: Global, text: &str) -> Option<RawProgram>
@@ -75,27 +82,16 @@ fn names_are_read(
         assert!(rt; false);
         return Ok(());
     };
-    assert_eq!(rt;
-        unit_text(alloc, &unit, &program.bases)?.as_slice(),
-        b"m^2/s".as_slice()
-    );
+    assert_text!(rt; unit_text(alloc, &unit, &program.bases), "m^2/s");
 
     let tokens = lex(alloc, "P<'a> -> num<'a/v>")?;
     let raw = parse_types(alloc, tokens.as_slice(), 18)?;
     let (types, variables) = types_of(alloc, program, shorts, &raw)?;
     assert_eq!(rt; variables, 1);
-    let [first, second] = types.items.as_slice() else {
-        assert!(rt; false);
-        return Ok(());
-    };
-    assert_eq!(rt;
-        type_text(alloc, first, program)?.as_slice(),
-        b"P<'a>".as_slice()
-    );
-    assert_eq!(rt;
-        type_text(alloc, second, program)?.as_slice(),
-        b"num<s 'a/m>".as_slice()
-    );
+    let types = types.items.as_slice();
+    assert_eq!(rt; types.len(), 2);
+    assert_text!(rt; type_text(alloc, &types[0], program), "P<'a>");
+    assert_text!(rt; type_text(alloc, &types[1], program), "num<s 'a/m>");
     Ok(())
 }
 
@@ -110,15 +106,10 @@ fn program_has_names(
 {
     let alloc = rt.alloc();
     let shorts = abbreviations(alloc, raw, program)?;
-    let [short] = shorts.as_slice() else {
-        assert!(rt; false);
-        return Ok(());
-    };
-    assert_eq!(rt; short.name.as_slice(), b"v".as_slice());
-    assert_eq!(rt;
-        unit_text(alloc, &short.unit, &program.bases)?.as_slice(),
-        b"m/s".as_slice()
-    );
+    let found = shorts.as_slice();
+    assert_eq!(rt; found.len(), 1);
+    assert_eq!(rt; found[0].name.as_slice(), b"v".as_slice());
+    assert_text!(rt; unit_text(alloc, &found[0].unit, &program.bases), "m/s");
     names_are_read(rt, program, &shorts)
 }
 
@@ -127,7 +118,7 @@ fn text_is_known(rt: &(impl Abort + AllocGlobal), raw: &RawProgram) -> Result<()
     requires readable { IsReadable (program_syntax raw.now) }
 {
     let alloc = rt.alloc();
-    assert_eq!(rt; program_text(alloc, raw)?.as_slice(), TEXT.as_bytes());
+    assert_text!(rt; program_text(alloc, raw), TEXT);
     let program = resolve(alloc, raw)?;
     let named = program_has_names(rt, raw, &program);
     drop(program);
@@ -177,8 +168,7 @@ fn are_rows(
     assert_eq!(rt; found.len(), want.len());
     for (row, (at, unit)) in found.iter().zip(want) {
         assert_eq!(rt; row.at, *at);
-        let text = unit_text(rt.alloc(), &row.unit, &program.bases)?;
-        assert_eq!(rt; text.as_slice(), unit.as_bytes());
+        assert_text!(rt; unit_text(rt.alloc(), &row.unit, &program.bases), unit);
     }
     Ok(())
 }
@@ -209,17 +199,10 @@ fn call_is_typed(
     let alloc = rt.alloc();
     let args = arguments(alloc)?;
     let ty = type_call(alloc, shaped, schemes, 1, &args)?;
-    assert_eq!(rt;
-        type_text(alloc, &ty, shaped.program())?.as_slice(),
-        b"num<m/s>".as_slice()
-    );
+    assert_text!(rt; type_text(alloc, &ty, shaped.program()), "num<m/s>");
     let equations = call_rows(alloc, shaped, schemes, 1, &args)?;
-    are_rows(
-        rt,
-        shaped.program(),
-        &equations.list.items,
-        &[(0, "'a/m"), (0, "'a/'b")],
-    )
+    let (program, found) = (shaped.program(), &equations.list.items);
+    are_rows(rt, program, found, &[(0, "'a/m"), (0, "'a/'b")])
 }
 
 // The scheme of the second function, and its row at the difference.
@@ -227,20 +210,12 @@ fn schemes_are_found(rt: &(impl Abort + AllocGlobal), shaped: &Shaped) -> Result
     let alloc = rt.alloc();
     let program = shaped.program();
     assert_eq!(rt; program.bases.as_slice().len(), 2);
-    let [_, function] = program.functions.items.as_slice() else {
-        assert!(rt; false);
-        return Ok(());
-    };
+    let functions = program.functions.items.as_slice();
+    assert_eq!(rt; functions.len(), 2);
     let schemes = infer(alloc, shaped)?;
-    let [_, scheme] = schemes.items.as_slice() else {
-        assert!(rt; false);
-        return Ok(());
-    };
-    let text = scheme_text(alloc, &function.name, scheme, program)?;
-    assert_eq!(rt;
-        text.as_slice(),
-        b"speed : num<'a> -> num<'a> -> num<'a/s>".as_slice()
-    );
+    assert_eq!(rt; schemes.items.len(), 2);
+    let text = scheme_text(alloc, &functions[1].name, &schemes.items[1], program);
+    assert_text!(rt; text, "speed : num<'a> -> num<'a> -> num<'a/s>");
     let equations = rows(alloc, shaped, 1, &schemes)?;
     are_rows(rt, program, &equations.list.items, &[(213, "'a/'b")])?;
     call_is_typed(rt, shaped, &schemes)

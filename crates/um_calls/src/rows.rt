@@ -44,7 +44,7 @@ fn unit_below(alloc: Global, terms: &[Term], limit: u32) -> Result<Unit, UnitSto
     Ok(unit)
 }
 
-// a^2 = b^3
+// The row a^2 = b^3, and the numbers of two variables.
 #[test]
 fn rows(rt: HostRuntime) -> Result<(), Fail> {
     let alloc = rt.alloc();
@@ -56,19 +56,12 @@ fn rows(rt: HostRuntime) -> Result<(), Fail> {
     let put = put_in_type(alloc, &[row], &found)?;
     let want = [power(A, -4), power(B, 6)];
     assert!(rt; matches!(&put, Ty::Num(unit) if unit.terms() == want.as_slice()));
-    Ok(())
-}
 
-#[test]
-fn numbers(rt: HostRuntime) -> Result<(), Fail> {
-    let alloc = rt.alloc();
     let unit = unit_below(alloc, &[power(Atom::Var(9), 1), power(Atom::Var(5), 2)], 10)?;
     let items = vec![in alloc; Ty::Num(unit)]?;
     let Numbered { types, vars } = renumber(alloc, Types { items })?;
     assert_eq!(rt; vars, 2);
-    let want = [power(A, 2), power(B, 1)];
-    assert!(rt;
-        matches!(types.items.as_slice(), [Ty::Num(unit)] if unit.terms() == want.as_slice())
-    );
+    let (types, want) = (types.items.as_slice(), [power(A, 2), power(B, 1)]);
+    assert!(rt; matches!(types, [Ty::Num(unit)] if unit.terms() == want.as_slice()));
     Ok(())
 }

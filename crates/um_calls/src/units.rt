@@ -47,11 +47,8 @@ fn powers(rt: HostRuntime) -> Result<(), Fail> {
         (0, 1, 0, "1"),
     ] {
         let power = Frac::of_parts(n, d).ok_or("no number")?.pow(k)?;
-        assert_eq!(rt;
-            number_text(alloc, power)?.as_slice(),
-            want.as_bytes(),
-            "{want}"
-        );
+        let text = number_text(alloc, power)?;
+        assert_eq!(rt; text.as_slice(), want.as_bytes(), "{want}");
     }
     assert!(rt; matches!(Frac::zero().pow(-1), Err(Trap::DivZero)));
     Ok(())
