@@ -12,6 +12,7 @@ use Rattle.um_tree.specs.declared.note.UnitNote.TheVariants.{Hole, Written}
 use Rattle.um_tree.specs.declared.value.Input.{the_lemmas}
 use Rattle.um_tree.specs.Formed.{BasesBelow, AreFormedInputs}
 use Rattle.um_tree.specs.ValueTree.{InputTrees, number_input, no_inputs, more_inputs, input_trees}
+use Rattle.um_tree.specs.declared.value.Inputs.{Inputs}
 use Rattle.um_calls.proofs.programs.arguments.Goals as goal
 
 first_below : (n : ℕ) → 0 < n → BasesBelow n (atom (Base 0))
@@ -27,4 +28,7 @@ are_formed : (a b : Frac) (u : PowerMap) (n : ℕ) → u ≡ atom (Base 0) → n
 are_formed a b u n is none l = ((subst IsClosed (sym is) (IsClosed-base 0), subst (BasesBelow n) (sym is) (first_below n l)), (none, tt))
 
 pub returns : goal.returns
-returns c = ?
+returns c = λ bases some.
+    let args : Inputs = record { items = c.in_ok-from_array.field-0 } in
+    let seen : input_trees args ≡ two_inputs c.one.result c.in_ok-metre.metre c.zero.result = search (rules, the_lemmas) in
+    subst (AreFormedInputs bases) (sym seen) (are_formed c.one.result c.zero.result c.in_ok-metre.metre bases c.in_ok-metre.ensures.exact c.zero.ensures.num some)
