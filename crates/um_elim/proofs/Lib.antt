@@ -22,4 +22,4 @@ pub mod IndexLaws
 pub mod HeldSlots
 pub mod IndexTurn
 pub mod TurnKept
-pub mod OwnIndex
+pub mod FirstIndex

@@ -1,14 +1,14 @@
 -- The elimination brings no variable into the units of the slots that isn't below a number that those before were below.
-use Rattle.std.proofs.Common.{◌≡◌, ℕ, zero, suc, ◌+◌, ◌<◌, ◌&&◌, Option, Some, None, List, [], ◌∷◌, map, length, ℤ, pos, negsuc, nat_abs, refl, sym, ap, ◌∙◌, subst, arith}
+use Rattle.std.proofs.Common.{◌≡◌, ℕ, zero, suc, ◌+◌, ◌<◌, nat_lt, ◌&&◌, Option, Some, None, List, [], ◌∷◌, map, length, ℤ, pos, negsuc, nat_abs, refl, sym, ap, ◌∙◌, subst, arith}
 use Rattle.std.specs.Prelude.{◌==◌, All}
 use Rattle.std.specs.List.{list_all, flat_map}
 use Rattle.std.proofs.lemmas.List.Elements.{All-nil, All-cons, All-head, All-tail, All-append}
 use Rattle.std.proofs.lemmas.List.FromFn.{get_or-map-range_with_len}
-use Rattle.um_units.specs.declared.Atom.TheVariants.{Var}
+use Rattle.um_units.specs.declared.Atom.TheVariants.{Base, Var}
 use Rattle.um_units.specs.PowerMap.{PowerMap, one, atom, mul, replace, nth}
 use Rattle.um_units.specs.Variables.{VariablesBelow}
 use Rattle.um_units.specs.Range.{fits}
-use Rattle.um_units.proofs.Variables.{IsClosed-one, VariablesBelow-closed, VariablesBelow-more, VariablesBelow-variable, VariablesBelow-mul, VariablesBelow-inv, VariablesBelow-replace, VariablesBelow-replace_nth, variables_below-from_VariablesBelow}
+use Rattle.um_units.proofs.Variables.{IsClosed-one, IsClosed-base, VariablesBelow-closed, VariablesBelow-more, VariablesBelow-variable, VariablesBelow-mul, VariablesBelow-inv, VariablesBelow-replace, VariablesBelow-replace_nth, variables_below-from_VariablesBelow}
 use Rattle.um_tree.specs.TypeTree.{TypeTree, bool_type, num_type, list_type, record_type}
 use Rattle.um_tree.specs.Typing.{put}
 use Rattle.um_tree.specs.Scheme.{unit_variables, type_variables}
@@ -16,11 +16,11 @@ use Rattle.um_elim.specs.declared.pivot.Pivot.{Pivot}
 use Rattle.um_elim.specs.Pivot.{pivot, least_power, has_other, has_base}
 use Rattle.um_elim.specs.Turn.{substitute, quotients, turn, inverted_if_negative}
 use Rattle.um_elim.specs.Elimination.{Elimination, Solved, NoSolution, Range, is_empty, ended, after_turn, turn_at, turns, eliminate}
-use Rattle.um_elim.specs.Solution.{own_variables}
+use Rattle.um_elim.specs.Solution.{own_variables, rigid_unit, rigid_units}
 use Rattle.um_elim.proofs.Cases.{on_test}
 use Rattle.um_elim.proofs.PivotLaws.{is_pivot}
 use Rattle.um_elim.proofs.TurnLaws.{less, less-zero, power_of-quotients}
-use Rattle.um_elim.proofs.Slots.{length-own}
+use Rattle.um_elim.proofs.Slots.{length-own, length-rigid}
 use Rattle.um_elim.proofs.RenamedUnits.{held-member}
 use Rattle.um_elim.proofs.GrowingOrder.{All-front, All-back, All-member, All-from_below}
 
@@ -98,16 +98,24 @@ eliminate_below n us row slots all =
 pub solved_below : (us : List PowerMap) (row : PowerMap) (new : List PowerMap) → VariablesBelow (length us) row → eliminate us row ≡ Solved new → (n : ℕ) → All (VariablesBelow n) us → All (VariablesBelow n) new
 solved_below us row new slots e n all = subst (SolvedBelow n) e (eliminate_below n us row slots all)
 
+pub all_rigid_below : (bases parameters slots : ℕ) → All (VariablesBelow slots) (rigid_units bases parameters slots)
+all_rigid_below bases parameters slots k d h =
+    let low : k < slots = omega (arith, h, length-rigid bases parameters slots) in
+    subst (VariablesBelow slots) (sym (get_or-map-range_with_len (rigid_unit bases parameters) 0 slots k k d low (omega arith)))
+    (on_test (nat_lt k parameters)
+    (λ t. rw t (VariablesBelow-closed slots (atom (Base (bases + k))) (IsClosed-base (bases + k))))
+    (λ t. rw t (own_below slots k low)))
+
 pub all_own_below : (slots : ℕ) → All (VariablesBelow slots) (own_variables slots)
 all_own_below slots k d h =
     let low : k < slots = omega (arith, h, length-own slots) in
     subst (VariablesBelow slots) (sym (get_or-map-range_with_len (λ i. atom (Var i)) 0 slots k k d low (omega arith))) (own_below slots k low)
 
 -- ---- a type with units put in
-unit_all : (n : ℕ) (u : PowerMap) → VariablesBelow n u → All (λ k. k < n) (unit_variables u)
+pub unit_all : (n : ℕ) (u : PowerMap) → VariablesBelow n u → All (λ k. k < n) (unit_variables u)
 unit_all n u below = All-from_below n u.terms (variables_below-from_VariablesBelow n u below)
 
-unit_below : (n : ℕ) (u : PowerMap) → All (λ k. k < n) (unit_variables u) → VariablesBelow n u
+pub unit_below : (n : ℕ) (u : PowerMap) → All (λ k. k < n) (unit_variables u) → VariablesBelow n u
 unit_below n u all k held = All-member (λ i. i < n) (unit_variables u) k all (held-member u k held)
 
 module _ (n : ℕ) (units : List PowerMap) (all : All (VariablesBelow n) units) where

@@ -1,6 +1,6 @@
 //! The solver: it takes rows one by one and keeps their most general solution.
 
-ghost use Rattle.std.specs.Prelude.{◌≡◌, ◌≤◌, [], ◌∷◌, length, map, All, IfOk, OnOk, MatchResult};
+ghost use Rattle.std.specs.Prelude.{◌≡◌, ◌≤◌, ◌<◌, ◌+◌, ◌^◌, nat_lt, if◌then◌else◌, [], ◌∷◌, length, map, All, IfOk, OnOk, MatchResult};
 ghost use Rattle.std.specs.List.{range_with_len};
 ghost use Rattle.um_elim.specs.Index.{IsIndex};
 ghost use Rattle.um_units.specs.Variables.{VariablesBelow};
@@ -9,14 +9,14 @@ ghost use Rattle.um_elim.specs.Application.{IsApplied, VariablesAreBelow};
 ghost use Rattle.um_elim.specs.Adding.{IsAdded, HasInstances, SolvesRows, VariablesStayBelow};
 ghost use Rattle.um_elim.specs.Elimination.{Solved, eliminate};
 ghost use Rattle.um_elim.specs.Instances.{SolvesExactly};
-ghost use Rattle.um_elim.specs.Solution.{fresh, own_variables};
+ghost use Rattle.um_elim.specs.Solution.{fresh, rigid, rigid_unit, rigid_units, parameter_rows};
 ghost use Rattle.um_elim.specs.Steps.{StopsAs};
 
 use crate::ElimStop;
 use crate::application::put_in_type;
 use crate::index::SlotList;
 use crate::turn::{Step, take_turn};
-use std::alloc::Global;
+use std::alloc::{AllocError, Global};
 use std::marker::Model;
 use um_tree::Ty;
 use um_units::{Atom, NoMemory, Unit};
@@ -52,8 +52,26 @@ impl Solver {
         ensures rows { IfOk result (λ solver. SolvesExactly slots [] solver.units) }
         ensures variables { IfOk result (λ solver. All (VariablesBelow slots) solver.units) }
     {
-        let units = own_units(alloc, slots)?;
-        let index = own_index(alloc, slots)?;
+        Solver::with_parameters(alloc, slots, 0, 0)
+    }
+
+    /// A solver without rows whose first slots are those of unit parameters: the unit of slot k below `parameters` is the
+    /// base unit `bases + k`, and that of each other slot its own variable.
+    pub fn with_parameters(
+        alloc: Global,
+        slots: u32,
+        bases: u32,
+        parameters: u32,
+    ) -> Result<Solver, NoMemory>
+        requires slots { slots ≤ 2000 }
+        requires parameters { parameters ≤ slots }
+        requires bases { bases + parameters < 2 ^ 32 }
+        ensures rigid { IfOk result (λ solver. solver ≡ rigid bases parameters slots) }
+        ensures rows { IfOk result (λ solver. SolvesExactly slots (parameter_rows bases parameters) solver.units) }
+        ensures variables { IfOk result (λ solver. All (VariablesBelow slots) solver.units) }
+    {
+        let units = first_units(alloc, slots, bases, parameters)?;
+        let index = first_index(alloc, slots, parameters)?;
         Ok(Solver {
             units,
             index,
@@ -98,26 +116,52 @@ impl Solver {
     }
 }
 
-/// The slots' own variables.
-fn own_units(alloc: Global, slots: u32) -> Result<Vec<Unit>, NoMemory>
-    ensures { IfOk result (λ units. units.items ≡ own_variables slots) }
+/// The base units of the parameters, and the other slots' own variables.
+fn first_units(
+    alloc: Global,
+    slots: u32,
+    bases: u32,
+    parameters: u32,
+) -> Result<Vec<Unit>, NoMemory>
+    requires { bases + parameters < 2 ^ 32 }
+    ensures { IfOk result (λ units. units.items ≡ rigid_units bases parameters slots) }
 {
     let mut units = Vec::new(alloc);
     for slot in 0..slots {
-        units.push(Unit::atom(alloc, Atom::Var(slot))?)?;
+        units.push(first_unit(alloc, slot, bases, parameters)?)?;
     }
     Ok(units)
 }
 
-/// Each variable stands in the unit of its own slot.
-fn own_index(alloc: Global, slots: u32) -> Result<Vec<SlotList>, NoMemory>
-    ensures { IfOk result (λ index. index.items ≡ map (λ k. k ∷ []) (range_with_len 0 slots)) }
+fn first_unit(alloc: Global, slot: u32, bases: u32, parameters: u32) -> Result<Unit, NoMemory>
+    requires { bases + parameters < 2 ^ 32 }
+    ensures { IfOk result (λ unit. unit ≡ rigid_unit bases parameters slot) }
+{
+    if slot < parameters {
+        return Unit::atom(alloc, Atom::Base(bases + slot));
+    }
+    Unit::atom(alloc, Atom::Var(slot))
+}
+
+/// Each variable but the parameters' stands in the unit of its own slot.
+fn first_index(alloc: Global, slots: u32, parameters: u32) -> Result<Vec<SlotList>, NoMemory>
+    ensures { IfOk result (λ index. index.items ≡ map (λ k. if nat_lt k parameters then [] else k ∷ []) (range_with_len 0 slots)) }
 {
     let mut index = Vec::new(alloc);
     for slot in 0..slots {
-        index.push(SlotList::single(alloc, slot)?)?;
+        index.push(first_holders(alloc, slot, parameters)?)?;
     }
     Ok(index)
+}
+
+/// The slots that hold the slot's variable.
+fn first_holders(alloc: Global, slot: u32, parameters: u32) -> Result<SlotList, AllocError>
+    ensures { IfOk result (λ list. list ≡ (if nat_lt slot parameters then [] else slot ∷ [])) }
+{
+    if slot < parameters {
+        return Ok(SlotList::empty(alloc));
+    }
+    SlotList::single(alloc, slot)
 }
 
 /// The elimination of a row, which changes the units of the slots.

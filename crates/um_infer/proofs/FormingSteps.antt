@@ -1,6 +1,6 @@
 -- A solution put for the slots of types.
 -- Source: Kennedy (1996): a substitution applied to a type.
-use Rattle.std.proofs.Common.{◌≡◌, ℕ, ◌<◌, Bool, true, false, ◌&&◌, cond, List, [], ◌∷◌, ◌++◌, length, get_or, map, Err, refl, sym, ap, ◌∙◌}
+use Rattle.std.proofs.Common.{◌≡◌, ℕ, ◌<◌, Bool, true, false, ◌&&◌, cond, List, [], ◌∷◌, ◌++◌, length, get_or, map, refl, sym, ap, ◌∙◌}
 use Rattle.std.specs.Prelude.{All}
 use Rattle.std.specs.List.{list_all}
 use Rattle.std.proofs.lemmas.List.Folds.{list_all-append, list_all-map, list_all_at}
@@ -12,19 +12,23 @@ use Rattle.um_tree.specs.declared.types.Ty.{Ty}
 use Rattle.um_tree.specs.TypeTree.{TypeTree, type_tree}
 use Rattle.um_tree.specs.ProgramTree.{Signature, SchemeTree}
 use Rattle.um_tree.specs.Scheme.{signature_types, type_variables, variables}
-use Rattle.um_tree.specs.Typing.{put, put_signature}
+use Rattle.um_tree.specs.Typing.{put, put_signature, moved, moved_signature}
 use Rattle.um_elim.specs.Application.{type_fits}
 use Rattle.um_elim.specs.Numbering.{by_place, renumbered, variable_order}
+use Rattle.um_elim.specs.Solution.{rigid_units}
 use Rattle.um_elim.proofs.GrowingOrder.{All-front, All-back}
 use Rattle.um_elim.proofs.VariablesKept.{put_below}
-use Rattle.um_rows.specs.FirstUnsolvable.{Solving, solved}
-use Rattle.um_rows.specs.Judgement.{has_scheme, passes_range, signature_fits, numbered_scheme, by_solving}
+use Rattle.um_rows.specs.declared.row.Row.{Row}
+use Rattle.um_rows.specs.FirstUnsolvable.{solved, solve}
+use Rattle.um_rows.specs.Generalised.{generalised_unit, generalised}
+use Rattle.um_rows.specs.Judgement.{has_scheme, passes_range, signature_fits, numbered_scheme, by_solving, by_rows}
 use Rattle.um_infer.specs.declared.refusal.Refusal.{Refusal}
 use Rattle.um_infer.specs.declared.refusal.Refusal.TheVariants as refusal
-use Rattle.um_infer.specs.Forming.{RefusesUnless, RefusesRows, IsAnswer}
+use Rattle.um_infer.specs.Forming.{RefusesUnless, IsRefusal}
 
 pub refuses_both : (at : ℕ) (a b : Bool) (r : Refusal) → (a ≡ false → b ≡ false) → RefusesUnless at a r → RefusesUnless at b r
 refuses_both at a b (refusal.Units k) false_too h = h
+refuses_both at a b (refusal.NotGeneral k) false_too h = h
 refuses_both at a b (refusal.PowerRange k) false_too h = (false_too h.0, h.1)
 refuses_both at a b refusal.Slots false_too h = h
 refuses_both at a b refusal.NoMemory false_too h = h
@@ -97,26 +101,35 @@ scheme_numbered g ts s types renamed count =
     let vars : length (variable_order (signature_types g)) ≡ s.vars = ap (λ us. length (variable_order us)) (sym types) ∙ sym count in
     λ i. record { signature = signature i; vars = vars i }
 
--- the most general solution put for the slots of a signature, in range
-pub formed_is_judged : (at : ℕ) (g : Signature) (us : List PowerMap) (end : Solving) (ts : List TypeTree) (s : SchemeTree) → end ≡ solved us → ts ≡ map (put (nth us)) (signature_types g) → list_all type_fits ts ≡ true →
-    signature_types s.signature ≡ renumbered ts → s.vars ≡ length (variable_order ts) → by_solving at g end ≡ has_scheme s
-formed_is_judged at g us end ts s is types fit renamed count =
-    let h = put_signature (nth us) g in
-    let same : ts ≡ signature_types h = types ∙ sym (types-put (nth us) g) in
-    let inside : signature_fits h ≡ true = ap (list_all type_fits) (sym same) ∙ fit in
-    ap (by_solving at g) is ∙ ap (λ b. cond b (has_scheme (numbered_scheme h)) (passes_range at)) inside ∙ ap has_scheme (scheme_numbered h ts s same renamed count)
+types-moved : (change : PowerMap → PowerMap) (g : Signature) → signature_types (moved_signature change g) ≡ map (moved change) (signature_types g)
+types-moved change g = sym (map-append (moved change) g.params (g.result ∷ []))
 
--- or out of range
-pub past_is_judged : (at : ℕ) (g : Signature) (us : List PowerMap) (end : Solving) (r : Refusal) → end ≡ solved us → RefusesUnless at (list_all type_fits (map (put (nth us)) (signature_types g))) r → IsAnswer (by_solving at g end) (Err r)
-past_is_judged at g us end (refusal.Units k) is h = absurd h
-past_is_judged at g us end (refusal.PowerRange k) is h =
-    let outside : signature_fits (put_signature (nth us) g) ≡ false = ap (list_all type_fits) (types-put (nth us) g) ∙ h.0 in
-    rw h.1 (ap (by_solving at g) is ∙ ap (λ b. cond b (has_scheme (numbered_scheme (put_signature (nth us) g))) (passes_range at)) outside)
-past_is_judged at g us end refusal.Slots is h = absurd h
-past_is_judged at g us end refusal.NoMemory is h = tt
+module _ (bases parameters slots at : ℕ) (g : Signature) (rows : List Row) (us : List PowerMap) (is : solve 0 rows (rigid_units bases parameters slots) ≡ solved us) where
+  abbrev solution : Signature
+  solution = put_signature (nth us) g
 
-pub refused_is_judged : (at : ℕ) (g : Signature) (end : Solving) (r : Refusal) → RefusesRows end r → IsAnswer (by_solving at g end) (Err r)
-refused_is_judged at g end (refusal.Units k) h = (h.0, ap (by_solving at g) h.1)
-refused_is_judged at g end (refusal.PowerRange k) h = ap (by_solving at g) h
-refused_is_judged at g end refusal.Slots h = absurd h
-refused_is_judged at g end refusal.NoMemory h = tt
+  abbrev scheme : SchemeTree
+  scheme = numbered_scheme (generalised bases parameters slots solution)
+
+  judged_by : (b : Bool) → signature_fits solution ≡ b → by_rows bases parameters slots at g rows ≡ cond b (has_scheme scheme) (passes_range at)
+  judged_by b e = ap (by_solving bases parameters slots at g rows) is ∙ ap (λ t. cond t (has_scheme scheme) (passes_range at)) e
+
+  -- the most general solution put for the slots of a signature, in range, with the unit parameters as variables
+  pub formed_is_judged : (ts made : List TypeTree) (s : SchemeTree) → ts ≡ map (put (nth us)) (signature_types g) → list_all type_fits ts ≡ true → made ≡ map (moved (generalised_unit bases parameters slots)) ts →
+      signature_types s.signature ≡ renumbered made → s.vars ≡ length (variable_order made) → by_rows bases parameters slots at g rows ≡ has_scheme s
+  formed_is_judged ts made s types fit changed renamed count =
+      let same : ts ≡ signature_types solution = types ∙ sym (types-put (nth us) g) in
+      let inside : signature_fits solution ≡ true = ap (list_all type_fits) (sym same) ∙ fit in
+      let general : made ≡ signature_types (generalised bases parameters slots solution) =
+      changed ∙ ap (map (moved (generalised_unit bases parameters slots))) same ∙ sym (types-moved (generalised_unit bases parameters slots) solution) in
+      judged_by true inside ∙ ap has_scheme (scheme_numbered (generalised bases parameters slots solution) made s general renamed count)
+
+  -- or out of range
+  pub past_is_judged : (r : Refusal) → RefusesUnless at (list_all type_fits (map (put (nth us)) (signature_types g))) r → IsRefusal (by_rows bases parameters slots at g rows) r
+  past_is_judged (refusal.Units k) h = absurd h
+  past_is_judged (refusal.NotGeneral k) h = absurd h
+  past_is_judged (refusal.PowerRange k) h =
+      let outside : signature_fits solution ≡ false = ap (list_all type_fits) (types-put (nth us) g) ∙ h.0 in
+      rw h.1 (judged_by false outside)
+  past_is_judged refusal.Slots h = absurd h
+  past_is_judged refusal.NoMemory h = tt

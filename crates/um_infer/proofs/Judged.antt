@@ -8,7 +8,6 @@ use Rattle.um_units.specs.Variables.{VariablesBelow}
 use Rattle.um_tree.specs.declared.program.Scheme.{Scheme}
 use Rattle.um_tree.specs.ProgramTree.{RecordTree, FunctionTree, ProgramTree, SchemeTree}
 use Rattle.um_tree.specs.Scheme.{signature_types, variables}
-use Rattle.um_elim.specs.Solution.{own_variables}
 use Rattle.um_rows.specs.declared.row.Row.{Row}
 use Rattle.um_rows.specs.declared.row.Rows.{Rows}
 use Rattle.um_rows.specs.declared.row.RowStop.{RowStop}
@@ -16,11 +15,12 @@ use Rattle.um_rows.specs.declared.row.RowStop.TheVariants as rows_stop
 use Rattle.um_rows.specs.Steps.{rows_of, first_past}
 use Rattle.um_rows.specs.Slots.{slot_count, slot_equations}
 use Rattle.um_rows.specs.Solutions.{function_rows, slot_signature, HaveSchemes}
-use Rattle.um_rows.specs.FirstUnsolvable.{solve}
-use Rattle.um_rows.specs.Judgement.{Judgement, too_many_slots, by_solving, by_range, judge}
-use Rattle.um_rows.specs.Answers.{AreEquations, StopsFor, HaveVariablesBelow}
+use Rattle.um_rows.specs.Keys.{text_keys}
+use Rattle.um_rows.specs.Judgement.{Judgement, too_many_slots, by_rows, by_range, judge}
+use Rattle.um_rows.specs.Answers.{rows_signature, AreEquations, StopsFor, HaveVariablesBelow}
+use Rattle.um_rows.proofs.ParameterSlots.{parameters_have_slots}
 use Rattle.um_infer.specs.declared.refusal.Refusal.{Refusal}
-use Rattle.um_infer.specs.Forming.{rows_signature, IsAnswer}
+use Rattle.um_infer.specs.Forming.{IsAnswer}
 use Rattle.um_infer.specs.Refusals.{refusal_of}
 use Rattle.um_infer.proofs.ManySlots.{many_slots_are_counted}
 
@@ -28,19 +28,19 @@ all_before_map : {X Y : Type 0} (P : X → Type 0) (f : Y → X) (ys : List Y) �
 all_before_map P f [] h = All-nil (λ y. P (f y))
 all_before_map P f (y ∷ ys) h = All-cons (λ y. P (f y)) y ys (All-head P (f y) (map f ys) h) (all_before_map P f ys (All-tail P (f y) (map f ys) h))
 
-module _ (records : List RecordTree) (schemes : List SchemeTree) (i : ℕ) (f : FunctionTree) where
-  abbrev by_rows : Judgement
-  by_rows = by_solving f.at (slot_signature records schemes i f) (solve 0 (rows_of (slot_equations records schemes i f).steps) (own_variables (slot_count records schemes i f)))
+module _ (bases : ℕ) (records : List RecordTree) (schemes : List SchemeTree) (i : ℕ) (f : FunctionTree) where
+  abbrev by_own_rows : Judgement
+  by_own_rows = by_rows bases f.units (slot_count records schemes i f) f.at (slot_signature records schemes i f) (rows_of (slot_equations records schemes i f).steps)
 
-  within : slot_count records schemes i f ≤ 2000 → judge records schemes i f ≡ by_range (first_past (slot_equations records schemes i f).steps) by_rows
+  within : slot_count records schemes i f ≤ 2000 → judge bases records schemes i f ≡ by_range (first_past (slot_equations records schemes i f).steps) by_own_rows
   within few =
       let test : leb (slot_count records schemes i f) 2000 ≡ true = grind (arith, nat_tests, few) in
-      ap (λ b. cond b (by_range (first_past (slot_equations records schemes i f).steps) by_rows) too_many_slots) test
+      ap (λ b. cond b (by_range (first_past (slot_equations records schemes i f).steps) by_own_rows) too_many_slots) test
 
   -- the rows' refusal
-  pub stopped : (stop : RowStop) → StopsFor records schemes i f stop → IsAnswer (judge records schemes i f) (Err (refusal_of stop))
-  stopped rows_stop.Slots h = (many_slots_are_counted records schemes i f).1 h
-  stopped (rows_stop.Range at) h = within h.0 ∙ ap (λ o. by_range o by_rows) h.1
+  pub stopped : (stop : RowStop) → StopsFor records schemes i f stop → IsAnswer (judge bases records schemes i f) (Err (refusal_of stop))
+  stopped rows_stop.Slots h = (many_slots_are_counted bases records schemes i f).1 h
+  stopped (rows_stop.Range at) h = within h.0 ∙ ap (λ o. by_range o by_own_rows) h.1
   stopped rows_stop.NoMemory h = tt
 
   module _ (r : Rows) (h : AreEquations records schemes i f r) where
@@ -61,17 +61,27 @@ module _ (records : List RecordTree) (schemes : List SchemeTree) (i : ℕ) (f : 
         subst (λ n. All (λ k. k < n) (variables (signature_types (rows_signature r)))) (sym h.slots)
         (subst (λ g. All (λ k. k < slot_count records schemes i f) (variables (signature_types g))) (sym same_signature) low)
 
-    judged_by_rows : judge records schemes i f ≡ by_solving f.at (rows_signature r) (solve 0 r.list.items.items (own_variables r.slots))
-    judged_by_rows =
-        within h.few ∙ ap (λ o. by_range o by_rows) h.in_range
-        ∙ ap (λ g. by_solving f.at g (solve 0 (rows_of (slot_equations records schemes i f).steps) (own_variables (slot_count records schemes i f)))) (sym same_signature)
-        ∙ ap (λ rs. by_solving f.at (rows_signature r) (solve 0 rs (own_variables (slot_count records schemes i f)))) (sym h.list)
-        ∙ ap (λ n. by_solving f.at (rows_signature r) (solve 0 r.list.items.items (own_variables n))) (sym h.slots)
+    -- the unit parameters have slots
+    pub parameters_within : (parameters : ℕ) → parameters ≡ f.units → parameters ≤ r.slots
+    parameters_within parameters is =
+        let own = parameters_have_slots f.units (text_keys records schemes i f) in
+        let slots : r.slots ≡ slot_count records schemes i f = h.slots in
+        omega (arith, own, slots, is)
 
-    pub solved_is_judged : (at : ℕ) (answer : Result Scheme Refusal) → at ≡ f.at → IsAnswer (by_solving at (rows_signature r) (solve 0 r.list.items.items (own_variables r.slots))) answer → IsAnswer (judge records schemes i f) answer
-    solved_is_judged at answer place is =
+    judged_by_rows : judge bases records schemes i f ≡ by_rows bases f.units r.slots f.at (rows_signature r) r.list.items.items
+    judged_by_rows =
+        within h.few ∙ ap (λ o. by_range o by_own_rows) h.in_range
+        ∙ ap (λ g. by_rows bases f.units (slot_count records schemes i f) f.at g (rows_of (slot_equations records schemes i f).steps)) (sym same_signature)
+        ∙ ap (λ rs. by_rows bases f.units (slot_count records schemes i f) f.at (rows_signature r) rs) (sym h.list)
+        ∙ ap (λ n. by_rows bases f.units n f.at (rows_signature r) r.list.items.items) (sym h.slots)
+
+    pub solved_is_judged : (b parameters at : ℕ) (answer : Result Scheme Refusal) → b ≡ bases → parameters ≡ f.units → at ≡ f.at →
+        IsAnswer (by_rows b parameters r.slots at (rows_signature r) r.list.items.items) answer → IsAnswer (judge bases records schemes i f) answer
+    solved_is_judged b parameters at answer base_units count place is =
         subst (λ j. IsAnswer j answer) (sym judged_by_rows)
-        (subst (λ k. IsAnswer (by_solving k (rows_signature r) (solve 0 r.list.items.items (own_variables r.slots))) answer) place is)
+        (subst (λ n. IsAnswer (by_rows n f.units r.slots f.at (rows_signature r) r.list.items.items) answer) base_units
+        (subst (λ n. IsAnswer (by_rows b n r.slots f.at (rows_signature r) r.list.items.items) answer) count
+        (subst (λ k. IsAnswer (by_rows b parameters r.slots k (rows_signature r) r.list.items.items) answer) place is)))
 
 -- the schemes before hold their own variables alone
 pub own_variables_alone : (p : ProgramTree) (schemes : List SchemeTree) (i : ℕ) → HaveSchemes p schemes i → HaveVariablesBelow i schemes

@@ -7,6 +7,7 @@ pub mod CallTypes
 pub mod AnswerLaws
 mod SolvingSteps
 mod FormingSteps
+mod GeneralSteps
 mod Judged
 mod ProgramSteps
 mod Examples

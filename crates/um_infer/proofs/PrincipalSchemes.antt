@@ -1,6 +1,6 @@
 -- Principal schemes of the first functions: what the equations of the next function ask for, and one scheme more.
 -- Source: Kennedy (1996), on principal schemes.
-use Rattle.std.proofs.Common.{◌≡◌, ℕ, suc, ◌<◌, inl, inr, List, [], ◌∷◌, ◌++◌, Some, slice_get, refl, sym, ◌∙◌, subst, arith}
+use Rattle.std.proofs.Common.{◌≡◌, ℕ, suc, ◌<◌, inl, inr, List, [], ◌∷◌, ◌++◌, Some, length, slice_get, refl, sym, ◌∙◌, subst, arith}
 use Rattle.std.proofs.lemmas.List.{length-append}
 use Rattle.um_units.specs.PowerMap.{one}
 use Rattle.um_tree.specs.ProgramTree.{FunctionTree, ProgramTree, SchemeTree}
@@ -34,7 +34,7 @@ module _ (p : ProgramTree) (n : ℕ) (schemes : List SchemeTree) (h : ArePrincip
       (g, ((h.principal j w.0 w.1).instances g).1 ((λ k. one), refl))
 
   -- the next function's scheme, behind the others
-  pub one_more : (f : FunctionTree) (s : SchemeTree) → slice_get p.functions n ≡ Some f → LiteralsAreClosed f.body → judge p.records schemes n f ≡ has_scheme s → ArePrincipal p (suc n) (schemes ++ s ∷ [])
+  pub one_more : (f : FunctionTree) (s : SchemeTree) → slice_get p.functions n ≡ Some f → LiteralsAreClosed f.body → judge (length p.bases) p.records schemes n f ≡ has_scheme s → ArePrincipal p (suc n) (schemes ++ s ∷ [])
   one_more f s declared closed is =
       let right = judged_schemes_are_principal p schemes n f declared closed have_schemes s is in
       let count = h.count in

@@ -12,8 +12,8 @@ module _ (p : ProgramTree) where
   -- function i, after those before it
   pub after_before : (i : ℕ) (j : Judgement) (h : IsJudged p i j) → infer_first p (suc i) ≡ with_judgement h.schemes i j
   after_before i j h =
-      ap (λ r. and_then r (λ schemes. with_function p.records schemes i (slice_get p.functions i))) h.before
-      ∙ ap (with_function p.records h.schemes i) h.declared
+      ap (λ r. and_then r (λ schemes. with_function (length p.bases) p.records schemes i (slice_get p.functions i))) h.before
+      ∙ ap (with_function (length p.bases) p.records h.schemes i) h.declared
       ∙ ap (with_judgement h.schemes i) h.judged
 
   -- nothing comes after it
@@ -26,7 +26,7 @@ module _ (p : ProgramTree) where
       (λ e. let same : i ≡ n = grind (arith, nat_tests) in subst (λ m. infer_first p (suc m) ≡ r) same is)
       (λ e.
       let less : i < n = grind (arith, nat_tests) in
-      let next = λ (schemes : List SchemeTree). with_function p.records schemes n (slice_get p.functions n) in
+      let next = λ (schemes : List SchemeTree). with_function (length p.bases) p.records schemes n (slice_get p.functions n) in
       ap (λ q. and_then q next) (stays i r final is n less) ∙ final next)
 
   pub stops : (i : ℕ) (j : Judgement) (h : IsJudged p i j) → ((next : List SchemeTree → Inference) → and_then (with_judgement h.schemes i j) next ≡ with_judgement h.schemes i j) → infer p ≡ with_judgement h.schemes i j

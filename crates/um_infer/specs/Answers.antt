@@ -13,8 +13,9 @@ use Rattle.um_infer.specs.declared.stop.InferStop.{InferStop}
 use Rattle.um_infer.specs.declared.stop.InferStop.TheVariants as stop
 use Rattle.um_infer.specs.declared.stop.CallStop.{CallStop}
 use Rattle.um_infer.specs.declared.stop.CallStop.TheVariants as call_stop
-use Rattle.um_infer.specs.Inference.{all_schemes, stops_at_slots, stops_at_range, stops_at_units, infer}
-use Rattle.um_infer.specs.Schemes.{ArePrincipal, IsFirstUntyped, IsJudged}
+use Rattle.um_infer.specs.Inference.{all_schemes, stops_at_slots, stops_at_range, stops_at_units}
+use Rattle.um_infer.specs.Inference.{stops_at_not_general, infer}
+use Rattle.um_infer.specs.Schemes.{ArePrincipal, IsFirstWithoutUnits, IsFirstNotGeneral, IsJudged}
 use Rattle.um_infer.specs.CallJudgement.{judge_call}
 
 -- the schemes as pure records, in order
@@ -27,6 +28,7 @@ scheme_trees schemes = map scheme_tree schemes.items.items
 abbrev pub IsInferred : ProgramTree → Result Schemes InferStop → Type 0
 IsInferred p (Ok schemes) = infer p ≡ all_schemes (scheme_trees schemes)
 IsInferred p (Err (stop.Units i at)) = (row : ℕ) × (infer p ≡ stops_at_units i row at)
+IsInferred p (Err (stop.NotGeneral i at)) = (row : ℕ) × (infer p ≡ stops_at_not_general i row at)
 IsInferred p (Err (stop.PowerRange i at)) = infer p ≡ stops_at_range i at
 IsInferred p (Err (stop.Slots i)) = infer p ≡ stops_at_slots i
 IsInferred p (Err stop.NoMemory) = Unit {0}
@@ -35,7 +37,8 @@ IsInferred p (Err stop.NoMemory) = Unit {0}
 -- typing, or it is the first that passes a limit
 abbrev pub SaysOfTypings : ProgramTree → Result Schemes InferStop → Type 0
 SaysOfTypings p (Ok schemes) = ArePrincipal p (length p.functions) (scheme_trees schemes)
-SaysOfTypings p (Err (stop.Units i at)) = (row : ℕ) × IsFirstUntyped p i row at
+SaysOfTypings p (Err (stop.Units i at)) = (row : ℕ) × IsFirstWithoutUnits p i row at
+SaysOfTypings p (Err (stop.NotGeneral i at)) = (row : ℕ) × IsFirstNotGeneral p i row at
 SaysOfTypings p (Err (stop.PowerRange i at)) = IsJudged p i (passes_range at)
 SaysOfTypings p (Err (stop.Slots i)) = IsJudged p i too_many_slots
 SaysOfTypings p (Err stop.NoMemory) = Unit {0}

@@ -8,4 +8,5 @@ use Rattle.um_rows.specs.CallEquations.{call_function}
 
 -- the judgement of the call of function k, which is f, on the inputs. The result of its scheme is the type of the call
 abbrev pub judge_call : ProgramTree → List SchemeTree → ℕ → FunctionTree → InputTrees → Judgement
-judge_call p schemes k f inputs = judge p.records schemes (length p.functions) (call_function p.records k f inputs)
+judge_call p schemes k f inputs =
+    judge (length p.bases) p.records schemes (length p.functions) (call_function p.records k f inputs)

@@ -1,15 +1,16 @@
 -- What the inference of a program comes to. The definitions do not rest on this.
 -- Source: Kennedy (1996): a typable function has a principal scheme, and the inference finds it.
-use Rattle.std.specs.Prelude.{◌≡◌, ◌↔◌, ℕ, ◌<◌, List, length, Some, slice_get}
+use Rattle.std.specs.Prelude.{◌≡◌, ◌↔◌, ◌⊎◌, ℕ, ◌<◌, List, length, Some, slice_get}
 use Rattle.um_tree.specs.TypeTree.{TypeTree}
 use Rattle.um_tree.specs.ProgramTree.{RecordTree, FunctionTree, ProgramTree, SchemeTree}
 use Rattle.um_tree.specs.ValueTree.{InputTrees}
 use Rattle.um_tree.specs.InputType.{IsResultOfCall, IsTypeOfCall}
 use Rattle.um_tree.specs.Formed.{IsFormed, AreFormedInputs}
 use Rattle.um_rows.specs.Slots.{slot_count}
-use Rattle.um_rows.specs.Judgement.{has_scheme, too_many_slots, passes_range, has_no_typing, judge}
-use Rattle.um_infer.specs.Inference.{Inference, all_schemes, stops_at_slots, stops_at_range, stops_at_units, infer}
-use Rattle.um_infer.specs.Schemes.{ArePrincipal, AreTyped, IsFirstUntyped, IsJudged}
+use Rattle.um_rows.specs.Judgement.{has_scheme, too_many_slots, passes_range, has_no_typing, not_general, judge}
+use Rattle.um_infer.specs.Inference.{Inference, all_schemes, stops_at_slots, stops_at_range, stops_at_units}
+use Rattle.um_infer.specs.Inference.{stops_at_not_general, infer}
+use Rattle.um_infer.specs.Schemes.{ArePrincipal, AreTyped, IsFirstWithoutUnits, IsFirstNotGeneral, IsJudged}
 use Rattle.um_infer.specs.CallJudgement.{judge_call}
 
 -- ---- schemes
@@ -26,6 +27,7 @@ IsLimited (all_schemes schemes) = ⊥
 IsLimited (stops_at_slots i) = Unit {0}
 IsLimited (stops_at_range i at) = Unit {0}
 IsLimited (stops_at_units i row at) = ⊥
+IsLimited (stops_at_not_general i row at) = ⊥
 
 abbrev pub GivesSchemes : Inference → Type 0
 GivesSchemes r = (schemes : List SchemeTree) × (r ≡ all_schemes schemes)
@@ -38,17 +40,24 @@ SchemesAreGivenToTyped =
 
 -- ---- stops
 
--- a stop for units is at the first function without a typing, at its first unsolvable row
+-- a stop for units is at the first function without a typing, at its first unsolvable row, and no units satisfy the
+-- rows up to it
 abbrev pub UnitsStopAtFirstUntyped : Type 0
 UnitsStopAtFirstUntyped =
     (p : ProgramTree) → IsFormed p → (i row at : ℕ) →
-    infer p ≡ stops_at_units i row at → IsFirstUntyped p i row at
+    infer p ≡ stops_at_units i row at → IsFirstWithoutUnits p i row at
+
+-- a stop for want of generality is there too, but some units satisfy these rows
+abbrev pub NotGeneralStopsAtFirstUntyped : Type 0
+NotGeneralStopsAtFirstUntyped =
+    (p : ProgramTree) → IsFormed p → (i row at : ℕ) →
+    infer p ≡ stops_at_not_general i row at → IsFirstNotGeneral p i row at
 
 -- so a program whose every function has a typing stops for slots or range alone
 abbrev pub TypedStopForLimits : Type 0
 TypedStopForLimits =
     (p : ProgramTree) → IsFormed p → AreTyped p (length p.functions) →
-    (i row at : ℕ) → infer p ≡ stops_at_units i row at → ⊥
+    (i row at : ℕ) → (infer p ≡ stops_at_units i row at) ⊎ (infer p ≡ stops_at_not_general i row at) → ⊥
 
 -- each stop comes exactly where a function is judged so, and all before it have their schemes
 abbrev pub SlotStopsAreExact : Type 0
@@ -62,11 +71,15 @@ abbrev pub UnitStopsAreExact : Type 0
 UnitStopsAreExact =
     (p : ProgramTree) (i row at : ℕ) → infer p ≡ stops_at_units i row at ↔ IsJudged p i (has_no_typing row at)
 
+abbrev pub NotGeneralStopsAreExact : Type 0
+NotGeneralStopsAreExact =
+    (p : ProgramTree) (i row at : ℕ) → infer p ≡ stops_at_not_general i row at ↔ IsJudged p i (not_general row at)
+
 -- too many slots are more than 2,000
 abbrev pub ManySlotsAreCounted : Type 0
 ManySlotsAreCounted =
-    (records : List RecordTree) (schemes : List SchemeTree) (i : ℕ) (f : FunctionTree) →
-    judge records schemes i f ≡ too_many_slots ↔ (2000 < slot_count records schemes i f)
+    (bases : ℕ) (records : List RecordTree) (schemes : List SchemeTree) (i : ℕ) (f : FunctionTree) →
+    judge bases records schemes i f ≡ too_many_slots ↔ (2000 < slot_count records schemes i f)
 
 -- ---- calls, where the schemes of all functions are given
 

@@ -17,12 +17,15 @@ refusal_of rows.NoMemory = refusal.NoMemory
 
 abbrev pub stop_of : ℕ → Refusal → InferStop
 stop_of i (refusal.Units at) = program.Units i at
+stop_of i (refusal.NotGeneral at) = program.NotGeneral i at
 stop_of i (refusal.PowerRange at) = program.PowerRange i at
 stop_of i refusal.Slots = program.Slots i
 stop_of i refusal.NoMemory = program.NoMemory
 
+-- a call, which has no unit parameters, is never refused as not general
 abbrev pub call_stop_of : Refusal → CallStop
 call_stop_of (refusal.Units at) = call.Units
+call_stop_of (refusal.NotGeneral at) = call.Units
 call_stop_of (refusal.PowerRange at) = call.PowerRange
 call_stop_of refusal.Slots = call.Slots
 call_stop_of refusal.NoMemory = call.NoMemory

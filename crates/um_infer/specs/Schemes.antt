@@ -4,9 +4,7 @@ use Rattle.std.specs.Prelude.{◌≡◌, ℕ, ◌<◌, List, length, Some, slice
 use Rattle.um_tree.specs.ProgramTree.{FunctionTree, ProgramTree, Signature, SchemeTree}
 use Rattle.um_tree.specs.Typing.{Typing}
 use Rattle.um_tree.specs.Scheme.{IsPrincipal, IsNumberedScheme}
-use Rattle.um_rows.specs.Steps.{rows_of}
-use Rattle.um_rows.specs.Slots.{slot_count, slot_equations}
-use Rattle.um_rows.specs.FirstUnsolvable.{IsFirstUnsolvable}
+use Rattle.um_rows.specs.Laws.{IsFirstRow, AreSolvableUpTo}
 use Rattle.um_rows.specs.Judgement.{Judgement, judge}
 use Rattle.um_infer.specs.Inference.{all_schemes, infer_first}
 
@@ -30,9 +28,16 @@ pub record IsFirstUntyped (p : ProgramTree) (i row at : ℕ) : Type 0 where
   pub untyped : (g : Signature) → Typing p i g → ⊥
   pub schemes : List SchemeTree
   pub principal : ArePrincipal p i schemes
-  pub first_row :
-      IsFirstUnsolvable (slot_count p.records schemes i function)
-      (rows_of (slot_equations p.records schemes i function).steps) row at
+  pub first_row : IsFirstRow p schemes i function row at
+
+-- no units satisfy the rows up to that one
+abbrev pub IsFirstWithoutUnits : ProgramTree → ℕ → ℕ → ℕ → Type 0
+IsFirstWithoutUnits p i row at =
+    (h : IsFirstUntyped p i row at) × (AreSolvableUpTo p h.schemes i h.function row → ⊥)
+
+-- some units do, but none where each unit parameter is a unit of its own
+abbrev pub IsFirstNotGeneral : ProgramTree → ℕ → ℕ → ℕ → Type 0
+IsFirstNotGeneral p i row at = (h : IsFirstUntyped p i row at) × AreSolvableUpTo p h.schemes i h.function row
 
 -- all functions before function i have schemes, and given these it is judged so
 pub record IsJudged (p : ProgramTree) (i : ℕ) (judgement : Judgement) : Type 0 where
@@ -40,4 +45,4 @@ pub record IsJudged (p : ProgramTree) (i : ℕ) (judgement : Judgement) : Type 0
   pub declared : slice_get p.functions i ≡ Some function
   pub schemes : List SchemeTree
   pub before : infer_first p i ≡ all_schemes schemes
-  pub judged : judge p.records schemes i function ≡ judgement
+  pub judged : judge (length p.bases) p.records schemes i function ≡ judgement

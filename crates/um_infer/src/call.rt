@@ -11,7 +11,7 @@ ghost use Rattle.um_infer.specs.Refusals.{call_stop_of};
 
 use crate::CallStop;
 use crate::forming::formed_scheme;
-use crate::program::function_count;
+use crate::program::{base_count, function_count};
 use crate::refusal::Refusal;
 use std::alloc::Global;
 use um_rows::call_rows;
@@ -20,7 +20,8 @@ use um_tree::{Inputs, Scheme, Schemes, Ty};
 
 /// The type of the call of function `f` with the arguments, given the schemes that `infer` answered for the program.
 ///
-/// The call is seen as the body of one more function without parameters, behind all others, and judged like a function:
+/// The call is seen as the body of one more function without parameters, behind all others, and judged like a function,
+/// which is always general:
 /// Slots, PowerRange and Units come in the order of `infer`. Units comes exactly where no typing of the function has
 /// parameters of the arguments' types and neither Slots nor PowerRange came before.
 pub fn type_call(
@@ -64,14 +65,15 @@ fn call_scheme(
     ensures { (function : FunctionTree) → slice_get (program_tree shaped.now).functions f ≡ Some function → IsAnswer (judge_call (program_tree shaped.now) (scheme_trees schemes.now) f function (input_trees args.now)) result }
 {
     let equations = call_rows(alloc, shaped, schemes, f, args)?;
-    formed_scheme(alloc, &equations, 0)
+    formed_scheme(alloc, &equations, base_count(shaped), 0, 0)
 }
 
+/// The refusal of a call, which is never that it isn't general.
 fn call_stop_of(refusal: Refusal) -> CallStop
     ensures { result ≡ call_stop_of refusal }
 {
     match refusal {
-        Refusal::Units { at: _ } => CallStop::Units,
+        Refusal::Units { at: _ } | Refusal::NotGeneral { at: _ } => CallStop::Units,
         Refusal::PowerRange { at: _ } => CallStop::PowerRange,
         Refusal::Slots => CallStop::Slots,
         Refusal::NoMemory => CallStop::NoMemory,

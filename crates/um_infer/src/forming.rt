@@ -1,5 +1,5 @@
 //! The scheme of a function from its equations.
-ghost use Rattle.std.specs.Prelude.{◌≡◌, ◌<◌, ◌≤◌, All, IfOk, MatchResult, IsTrue, IsFalse, false, length, map, [], ◌∷◌, ◌++◌};
+ghost use Rattle.std.specs.Prelude.{◌≡◌, ◌<◌, ◌≤◌, ◌+◌, ◌^◌, All, IfOk, MatchResult, IsTrue, false, length, map};
 ghost use Rattle.std.specs.List.{list_all};
 ghost use Rattle.um_units.specs.PowerMap.{nth};
 ghost use Rattle.um_units.specs.Variables.{VariablesBelow};
@@ -9,30 +9,40 @@ ghost use Rattle.um_tree.specs.Typing.{put};
 ghost use Rattle.um_tree.specs.Scheme.{signature_types, variables};
 ghost use Rattle.um_elim.specs.Application.{type_fits};
 ghost use Rattle.um_elim.specs.Numbering.{renumbered, variable_order};
-ghost use Rattle.um_elim.specs.Solution.{own_variables};
 ghost use Rattle.um_rows.specs.declared.row.Row.{Row};
-ghost use Rattle.um_rows.specs.FirstUnsolvable.{solve};
-ghost use Rattle.um_rows.specs.Judgement.{by_solving};
-ghost use Rattle.um_infer.specs.Forming.{rows_signature, IsAnswer, RefusesUnless};
+ghost use Rattle.um_rows.specs.Answers.{rows_signature};
+ghost use Rattle.um_rows.specs.Judgement.{by_rows};
+ghost use Rattle.um_infer.specs.Forming.{IsAnswer, RefusesUnless};
 
+use crate::general::generalised_types;
 use crate::refusal::Refusal;
-use crate::solving::solve_rows;
+use crate::solving::rigid_solver;
 use std::alloc::{AllocError, Global};
 use um_elim::{ElimStop, Numbered, Solver, renumber};
 use um_rows::{Row, Rows};
 use um_tree::{Scheme, Ty, Types};
 
-/// The formed scheme: the rows are solved one by one, the solution is put for the slots of the types, and their variables
-/// are numbered. A power of these types that passes the range is refused at the place `at`.
-pub(crate) fn formed_scheme(alloc: Global, rows: &Rows, at: u32) -> Result<Scheme, Refusal>
+/// The formed scheme of a function of a program with so many base units: the rows are solved one by one, where each unit
+/// parameter is a unit of its own, the solution is put for the slots of the types, unit parameters become variables, and all
+/// variables are numbered. A power of these types that passes the range is refused at the place `at`.
+pub(crate) fn formed_scheme(
+    alloc: Global,
+    rows: &Rows,
+    bases: u32,
+    parameters: u32,
+    at: u32,
+) -> Result<Scheme, Refusal>
     requires few { rows.now.slots ≤ 2000 }
+    requires parameters { parameters ≤ rows.now.slots }
+    requires bases { bases + parameters < 2 ^ 32 }
     requires rows { All (λ (row : Row). VariablesBelow rows.now.slots row.unit) rows.now.list.items.items }
     requires types { All (λ k. k < rows.now.slots) (variables (signature_types (rows_signature rows.now))) }
-    ensures { IsAnswer (by_solving at (rows_signature rows.now) (solve 0 rows.now.list.items.items (own_variables rows.now.slots))) result }
+    ensures { IsAnswer (by_rows bases parameters rows.now.slots at (rows_signature rows.now) rows.now.list.items.items) result }
 {
-    let solver = solve_rows(alloc, rows.slots, &rows.list.items)?;
+    let solver = rigid_solver(alloc, rows.slots, bases, parameters, &rows.list.items)?;
     let types = solved_types(alloc, &solver, rows, at)?;
-    Ok(numbered_scheme(alloc, types)?)
+    let items = generalised_types(alloc, bases, parameters, rows.slots, &types.items)?;
+    Ok(numbered_scheme(alloc, Types { items })?)
 }
 
 /// The types with the solution put for their slots, the result's last.

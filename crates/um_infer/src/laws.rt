@@ -3,10 +3,12 @@ ghost use Rattle.um_infer.specs.Laws.{
   GivenSchemesArePrincipal,
   SchemesAreGivenToTyped,
   UnitsStopAtFirstUntyped,
+  NotGeneralStopsAtFirstUntyped,
   TypedStopForLimits,
   SlotStopsAreExact,
   RangeStopsAreExact,
   UnitStopsAreExact,
+  NotGeneralStopsAreExact,
   ManySlotsAreCounted,
   JudgedCallTypes,
   JudgedCallRefusals,
@@ -22,9 +24,12 @@ pub fn schemes()
 {}
 
 /// A stop for units is at the first function without a typing, at its first unsolvable row given the principal schemes of
-/// those before it. So a program whose every function has a typing stops for slots or range alone.
+/// those before it, and no units satisfy the rows up to it. A stop for want of generality is there too, where some units do,
+/// but none with each unit parameter as a unit of its own. So a program whose every function has a typing stops for slots or
+/// range alone.
 pub fn refusals()
     ensures untyped { UnitsStopAtFirstUntyped }
+    ensures not_general { NotGeneralStopsAtFirstUntyped }
     ensures typed { TypedStopForLimits }
 {}
 
@@ -33,6 +38,7 @@ pub fn stops()
     ensures slots { SlotStopsAreExact }
     ensures range { RangeStopsAreExact }
     ensures units { UnitStopsAreExact }
+    ensures not_general { NotGeneralStopsAreExact }
     ensures counted { ManySlotsAreCounted }
 {}
 

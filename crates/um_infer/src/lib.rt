@@ -7,6 +7,7 @@
 
 mod call;
 mod forming;
+mod general;
 pub mod laws;
 mod program;
 mod refusal;

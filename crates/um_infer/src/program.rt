@@ -1,6 +1,6 @@
 //! The schemes of a program.
-ghost use Rattle.std.specs.Prelude.{◌≡◌, ◌<◌, length, map, slice_get, Some, IfErr};
-ghost use Rattle.um_tree.specs.ProgramTree.{FunctionTree, program_tree, scheme_tree};
+ghost use Rattle.std.specs.Prelude.{◌≡◌, ◌<◌, ◌≤◌, length, slice_get, Some};
+ghost use Rattle.um_tree.specs.ProgramTree.{FunctionTree, program_tree};
 ghost use Rattle.um_tree.specs.Formed.{IsFormed};
 ghost use Rattle.um_rows.specs.Judgement.{judge};
 ghost use Rattle.um_rows.specs.Solutions.{HaveSchemes};
@@ -20,10 +20,11 @@ use um_tree::{Scheme, Schemes};
 ///
 /// The functions are taken in order, each with the schemes of those before it. Of one function it comes first that it has
 /// more than 2,000 slots, then that a power of its equations passes the range, then its rows one by one, and then that a
-/// power of its scheme passes the range, at its name. A row that no units satisfy together with those before it is Units,
-/// and a power that passes the range while a row is added is PowerRange, both at the row's place. The instances of each
-/// scheme are exactly the function's typings, and its variables are numbered in the order of their first occurrence
-/// (Kennedy 1996; the order and the limits are this project's own).
+/// power of its scheme passes the range, at its name. Each unit parameter is a unit of its own (F# specification, Units Of
+/// Measure). A row that no units satisfy then together with those before it is NotGeneral where some units do with the unit
+/// parameters as unknown units, and else Units, and a power that passes the range while a row is added is PowerRange, all at
+/// the row's place. The instances of each scheme are exactly the function's typings, and its variables are numbered in the
+/// order of their first occurrence (Kennedy 1996; the order and the limits are this project's own).
 pub fn infer(alloc: Global, shaped: &Shaped) -> Result<Schemes, InferStop>
     ensures inferred { IsInferred (program_tree shaped.now) result }
     ensures typings { SaysOfTypings (program_tree shaped.now) result }
@@ -51,10 +52,11 @@ fn function_scheme(
 ) -> Result<Scheme, Refusal>
     requires declared { i < length (program_tree shaped.now).functions }
     requires before { HaveSchemes (program_tree shaped.now) (scheme_trees schemes.now) i }
-    ensures { (f : FunctionTree) → slice_get (program_tree shaped.now).functions i ≡ Some f → IsAnswer (judge (program_tree shaped.now).records (scheme_trees schemes.now) i f) result }
+    ensures { (f : FunctionTree) → slice_get (program_tree shaped.now).functions i ≡ Some f → IsAnswer (judge (length (program_tree shaped.now).bases) (program_tree shaped.now).records (scheme_trees schemes.now) i f) result }
 {
     let equations = rows(alloc, shaped, i, schemes)?;
-    formed_scheme(alloc, &equations, place_of(shaped, i))
+    let (parameters, at) = head_of(shaped, i);
+    formed_scheme(alloc, &equations, base_count(shaped), parameters, at)
 }
 
 /// How many functions the program has, which is formed.
@@ -65,12 +67,21 @@ pub(crate) fn function_count(shaped: &Shaped) -> u32
     shaped.program().functions.items.len() as u32
 }
 
-/// The place of the name of function `i`.
-fn place_of(shaped: &Shaped, i: u32) -> u32
+/// How many unit parameters function `i` has, and the place of its name.
+fn head_of(shaped: &Shaped, i: u32) -> (u32, u32)
     requires { i < length (program_tree shaped.now).functions }
-    ensures { (f : FunctionTree) → slice_get (program_tree shaped.now).functions i ≡ Some f → result ≡ f.at }
+    ensures { (f : FunctionTree) → slice_get (program_tree shaped.now).functions i ≡ Some f → (result.0 ≡ f.units) × (result.1 ≡ f.at) }
 {
-    shaped.program().functions.items[i as usize].at
+    let function = &shaped.program().functions.items[i as usize];
+    (function.units, function.at)
+}
+
+/// How many base units the program declares.
+pub(crate) fn base_count(shaped: &Shaped) -> u32
+    ensures count { result ≡ length (program_tree shaped.now).bases }
+    ensures few { result ≤ 16777216 }
+{
+    shaped.program().bases.as_slice().len() as u32
 }
 
 /// The refusal of function `i` as the program's.
@@ -79,6 +90,7 @@ fn stop_of(i: u32, refusal: Refusal) -> InferStop
 {
     match refusal {
         Refusal::Units { at } => InferStop::Units { function: i, at },
+        Refusal::NotGeneral { at } => InferStop::NotGeneral { function: i, at },
         Refusal::PowerRange { at } => InferStop::PowerRange { function: i, at },
         Refusal::Slots => InferStop::Slots { function: i },
         Refusal::NoMemory => InferStop::NoMemory,

@@ -6,8 +6,10 @@ use um_rows::RowStop;
 /// Why a function or a call has no scheme, with its place as a byte offset.
 #[derive(Clone, Copy)]
 pub(crate) enum Refusal {
-    /// Its first row that no units satisfy.
+    /// Its first row that no units satisfy together with those before it.
     Units { at: u32 },
+    /// Its first row that some units satisfy, but none where each unit parameter is a unit of its own.
+    NotGeneral { at: u32 },
     /// A power that passes the range.
     PowerRange { at: u32 },
     /// It has more than 2,000 slots.

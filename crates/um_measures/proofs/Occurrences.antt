@@ -1,5 +1,5 @@
 -- First occurrences in the parts of a list.
-use Rattle.std.proofs.Common.{◌≡◌, ℕ, Bool, true, false, cond, List, [], ◌∷◌, ◌++◌, refl, ap, sym, ◌∙◌}
+use Rattle.std.proofs.Common.{◌≡◌, ℕ, ◌≤◌, Bool, true, false, cond, List, [], ◌∷◌, ◌++◌, length, refl, ap, sym, ◌∙◌, arith, length-append}
 use Rattle.um_measures.specs.Known.{is_among}
 use Rattle.um_measures.specs.Variables.{first_occurrences}
 
@@ -17,3 +17,12 @@ both_occur a b c xs ys e f = rw occurrences_append (rw (← e) f)
 
 pub occur_next : (total names new whole xs ys : List (List ℕ)) → total ≡ first_occurrences names whole → whole ≡ xs ++ ys → new ≡ first_occurrences names xs → total ≡ first_occurrences new ys
 occur_next total names new whole xs ys e w h = e ∙ ap (first_occurrences names) w ∙ occurrences_append names xs ys ∙ ap (λ (ns : List (List ℕ)). first_occurrences ns ys) (sym h)
+
+-- those that are there stay
+pub occurrences_grow : (before xs : List (List ℕ)) → length before ≤ length (first_occurrences before xs)
+occurrences_grow before [] = omega arith
+occurrences_grow before (x ∷ xs) = by (is_among before x) (occurrences_grow before xs) (occurrences_grow (before ++ x ∷ []) xs) where
+  by : (b : Bool) → length before ≤ length (first_occurrences before xs) → length (before ++ x ∷ []) ≤ length (first_occurrences (before ++ x ∷ []) xs)
+      → length before ≤ length (cond b (first_occurrences before xs) (first_occurrences (before ++ x ∷ []) xs))
+  by true h k = h
+  by false h k = let more = length-append before (x ∷ []) in omega (arith, more, k)

@@ -1,5 +1,7 @@
--- The unit variables of a function, numbered by their first occurrence in the text of its notes.
--- Source: this project's own; F# generalizes over the measure variables of a function's annotations too.
+-- The unit variables of a function: its unit parameters, and then the others by their first occurrence in the text of
+-- its notes.
+-- Source: the F# specification, chapter Units Of Measure, for explicit parameters; that each variable of a function's
+-- notes is known, and its number, are this project's own.
 use Rattle.std.specs.Prelude.{ℕ, cond, List, [], ◌∷◌, ◌++◌, Option, Some, None}
 use Rattle.std.specs.List.{flat_map}
 use Rattle.um_tree.specs.RawTree.{UnitSyntax, UnitSyntaxes, one_syntax, measure_syntax, variable_syntax, power_syntax}
@@ -82,7 +84,7 @@ abbrev pub result_variables : Option TypeSyntax → List (List ℕ)
 result_variables None = []
 result_variables (Some t) = type_variables t
 
--- of a function: its parameters, its result, its body
+-- of a function's notes: its parameters, its result, its body
 abbrev pub occurring : FunctionSyntax → List (List ℕ)
 occurring f = flat_map (λ p. type_variables p.type) f.params ++ result_variables f.result ++ expr_variables f.body
 
@@ -92,6 +94,6 @@ first_occurrences before [] = before
 first_occurrences before (x ∷ xs) =
     cond (is_among before x) (first_occurrences before xs) (first_occurrences (before ++ x ∷ []) xs)
 
--- the named variables of a function, in the order of their numbers
-abbrev pub named_variables : FunctionSyntax → List (List ℕ)
-named_variables f = first_occurrences [] (occurring f)
+-- the named variables of a function with these unit parameters, in the order of their numbers
+abbrev pub named_variables : List (List ℕ) → FunctionSyntax → List (List ℕ)
+named_variables unit_params f = first_occurrences unit_params (occurring f)

@@ -1,4 +1,4 @@
-//! The unit variables of a function's notes, numbered by their first occurrence.
+//! The unit variables of a function, numbered behind its unit parameters by their first occurrence in its notes.
 
 ghost use Rattle.std.specs.Prelude.{◌≡◌, [], OnOk, IfOk, map};
 ghost use Rattle.std.specs.List.{flat_map};
@@ -149,13 +149,19 @@ fn in_params(names: &mut NameTable, alloc: Global, params: &[RawParam]) -> Resul
     Ok(())
 }
 
-/// The unit variables that a function's notes name, in the order of their numbers: each once, by its first occurrence in
-/// the parameters, the result and the body. A number's unit is no note of the function.
+/// The named unit variables of a function, in the order of their numbers: its unit parameters, and behind them each other
+/// one that its notes name, once, by its first occurrence in the parameters, the result and the body. A number's unit is
+/// no note of the function. Fails for want of memory alone, or where there are 2^32 - 1 names. Unit parameters of
+/// functions are the F# specification's, Units Of Measure.
 #[tactic(auto, using(crate::proofs::Occurrences::both_occur))]
-pub fn named_variables(alloc: Global, function: &RawFunction) -> Result<NameTable, AllocError>
-    ensures { IfOk result (λ names. names ≡ named_variables (whole_function_syntax function.now)) }
+pub fn named_variables(
+    alloc: Global,
+    unit_params: NameTable,
+    function: &RawFunction,
+) -> Result<NameTable, AllocError>
+    ensures { IfOk result (λ names. names ≡ named_variables unit_params (whole_function_syntax function.now)) }
 {
-    let mut names = NameTable::new(alloc);
+    let mut names = unit_params;
     in_params(&mut names, alloc, &function.params.items)?;
     if let Some(ty) = &function.result {
         add_type_variables(&mut names, alloc, ty)?;

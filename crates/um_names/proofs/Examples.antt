@@ -1,14 +1,14 @@
 -- Small program texts, on which the resolution is tried.
-use Rattle.std.proofs.Common.{◌≡◌, refl, ℕ, ◌≤◌, true, false, List, [], ◌∷◌, ◌++◌, pos, negsuc, codes, map, Option, Some, None, Ok, Err, arith}
+use Rattle.std.proofs.Common.{◌≡◌, refl, ℕ, ◌≤◌, ◌+◌, true, false, List, [], ◌∷◌, ◌++◌, pos, negsuc, codes, map, Option, Some, None, Ok, Err, arith}
 use Rattle.std.proofs.lemmas.Int.{ints}
 use Rattle.um_frac.specs.declared.number.Frac.{Frac}
 use Rattle.um_frac.proofs.Gcd.{gcd-one}
-use Rattle.um_units.specs.declared.Atom.TheVariants.{Base}
+use Rattle.um_units.specs.declared.Atom.TheVariants.{Base, Var}
 use Rattle.um_units.specs.PowerMap.{PowerMap, product, one, atom, mul, inv, pow}
 use Rattle.um_tree.specs.declared.note.UnitNote.TheVariants.{Written}
 use Rattle.um_tree.specs.TypeTree.{num_note}
 use Rattle.um_tree.specs.ExprTree.{ExprTree, truth, local}
-use Rattle.um_tree.specs.RawTree.{UnitSyntax, measure_syntax, variable_syntax, power_syntax, side_syntax, over_syntax, no_units, more_units, TypeSyntax, num_syntax, bool_syntax, record_syntax, hole_syntax, unit_note_syntax, ExprSyntax, truth_syntax, number_syntax, name_syntax, call_syntax, match_syntax, fields_syntax, field_syntax, no_exprs, more_exprs, no_fields, more_fields, ParamSyntax, DeclSyntax, base_syntax, short_syntax, record_decl_syntax, function_syntax}
+use Rattle.um_tree.specs.RawTree.{UnitSyntax, measure_syntax, variable_syntax, power_syntax, side_syntax, over_syntax, no_units, more_units, TypeSyntax, num_syntax, bool_syntax, record_syntax, hole_syntax, unit_note_syntax, ExprSyntax, truth_syntax, number_syntax, name_syntax, call_syntax, match_syntax, fields_syntax, field_syntax, no_exprs, more_exprs, no_fields, more_fields, VarSyntax, ParamSyntax, DeclSyntax, base_syntax, short_syntax, record_decl_syntax, function_syntax}
 use Rattle.um_tree.specs.ProgramTree.{FunctionTree}
 use Rattle.um_measures.specs.Faults.{Fault, unknown, twice, wrong_count, hole, range, Found}
 use Rattle.um_measures.specs.Known.{Known}
@@ -26,9 +26,12 @@ functions_of (Err f) = []
 abbrev whole : (n : ℕ) → n ≤ 1000000 → Frac
 whole n low = record { num = pos n; den = pos 1; positive = omega (arith, ints); den_fits = omega (arith, ints); above = omega (arith, ints); num_fits = omega (arith, ints, low); lowest = gcd-one n }
 
--- a function of this name at a place, without recursion and without a result type
+-- a function of this name at a place with these unit parameters, without recursion and without a result type
+abbrev general : ℕ → List ℕ → List VarSyntax → List ParamSyntax → ExprSyntax → DeclSyntax
+general at x us ps e = function_syntax (record { at = at; name = x; recursive = false; units = us; params = ps; result = None; body = e })
+
 abbrev plain : ℕ → List ℕ → List ParamSyntax → ExprSyntax → DeclSyntax
-plain at x ps e = function_syntax (record { at = at; name = x; recursive = false; params = ps; result = None; body = e })
+plain at x ps e = general at x [] ps e
 
 abbrev param : ℕ → List ℕ → TypeSyntax → ParamSyntax
 param at x t = record { binder = record { at = at; name = Some x }; type = t }
@@ -50,7 +53,7 @@ pushes = prelude ++ plain 94 (codes "push") (param 100 (codes "f") (num_syntax (
 abbrev newton : PowerMap
 newton = mul (mul (mul one (atom (Base 2))) (atom (Base 0))) (inv (pow (atom (Base 1)) (pos 2)))
 
-pushes_resolved : functions_of (resolution pushes) ≡ record { name = codes "push"; at = 94; recursive = false; params = num_note (Written newton) ∷ []; named = 0; result = None; body = local 113 0 } ∷ []
+pushes_resolved : functions_of (resolution pushes) ≡ record { name = codes "push"; at = 94; recursive = false; units = 0; params = num_note (Written newton) ∷ []; named = 0; result = None; body = local 113 0 } ∷ []
 unfolding product
 pushes_resolved = refl
 
@@ -153,3 +156,29 @@ bound_once = refl
 
 empty_arm_first : resolution (plain 4 (codes "k") [] (matched (name_syntax 27 (codes "q"))) ∷ []) ≡ Err (unknown 27)
 empty_arm_first = refl
+
+-- let f<[<Measure>] 'u, [<Measure>] 'v> (x: num<'w>) (y: num<'v>) = x: the unit parameters have the first numbers, also
+-- one that no note names
+abbrev parameter : ℕ → List ℕ → VarSyntax
+parameter at x = record { at = at; name = x }
+
+abbrev number_of_unit : ℕ → List ℕ → TypeSyntax
+number_of_unit at x = num_syntax (Some (unit_note_syntax at (variable_syntax at x)))
+
+abbrev numbered : List DeclSyntax
+numbered =
+    general 4 (codes "f") (parameter 18 (codes "u") ∷ parameter 34 (codes "v") ∷ []) (param 39 (codes "x") (number_of_unit 46 (codes "w")) ∷ param 52 (codes "y") (number_of_unit 59 (codes "v")) ∷ []) (name_syntax 66 (codes "x"))
+    ∷ []
+
+parameters_first : functions_of (resolution numbered) ≡ record { name = codes "f"; at = 4; recursive = false; units = 2; params = num_note (Written (atom (Var 2))) ∷ num_note (Written (atom (Var 1))) ∷ []; named = 3; result = None; body = local 66 0 } ∷ []
+parameters_first = refl
+
+-- let f<[<Measure>] 'u, [<Measure>] 'u> (x: q) = x: at the later one, before the parameters and behind the name
+abbrev repeated : ℕ → DeclSyntax
+repeated start = general (start + 4) (codes "f") (parameter (start + 18) (codes "u") ∷ parameter (start + 34) (codes "u") ∷ []) (param (start + 39) (codes "x") (record_syntax (start + 42) (codes "q") []) ∷ []) (name_syntax (start + 47) (codes "x"))
+
+repeated_unit_parameter : resolution (repeated 0 ∷ []) ≡ Err (twice 34)
+repeated_unit_parameter = refl
+
+name_before_unit_parameters : resolution (plain 4 (codes "f") [] (truth_syntax 8 true) ∷ repeated 13 ∷ []) ≡ Err (twice 17)
+name_before_unit_parameters = refl

@@ -12,7 +12,7 @@ use Rattle.um_measures.specs.Faults.{and_then, unless_taken}
 use Rattle.um_measures.specs.Known.{Known, nothing, is_among, is_taken, short_names, record_names, function_names, names_of_fields, field_names}
 use Rattle.um_names.specs.TypeNames.{resolved_type, written_type}
 use Rattle.um_names.specs.Resolution.{resolved_parameters, resolved_field_decls, resolved_record_decl, with_base, with_short, with_record}
-use Rattle.um_names.specs.Readable.{AreReadFieldDecls, IsReadRecord}
+use Rattle.um_names.specs.Readable.{greatest_height, AreReadFieldDecls, IsReadRecord}
 use Rattle.um_names.proofs.FormedUnits.{AreClosedIn, closed_none, closed_more, closed_last}
 use Rattle.um_names.proofs.FormedTypes.{then_found, type_in, type_written, height_written, earlier_written}
 use Rattle.um_names.proofs.FormedNames.{AreFresh, neither, absent_append, fresh_inserted, names-append, names-one, names-none}
@@ -92,7 +92,8 @@ short_sound known x u s h = record {
 
 -- ---- records
 
-parameters-count : (before : List (List ℕ)) (vs : List VarSyntax) (names : List (List ℕ)) → resolved_parameters before vs ≡ Ok names → length names ≡ length before + length vs
+-- there are as many unit parameters as the text has
+pub parameters-count : (before : List (List ℕ)) (vs : List VarSyntax) (names : List (List ℕ)) → resolved_parameters before vs ≡ Ok names → length names ≡ length before + length vs
 parameters-count before [] names e = let same : before ≡ names = cc e in ap length (sym same) ∙ omega arith
 parameters-count before (v ∷ vs) names e =
     let w = then_found (unless_taken (is_among before v.name) v.at) (λ _. resolved_parameters (before ++ v.name ∷ []) vs) names e in
@@ -106,7 +107,7 @@ names_in fs = map (λ g. g.name) fs
 module _ (known : Known) (variables : List (List ℕ)) (s : IsSound known) where
   abbrev IsField : FieldTree → Type 0
   IsField f =
-      IsTypeIn (length known.program.bases) (length variables) known.program.records f.type × NamesEarlier (length known.program.records) f.type × (type_tree_height f.type ≤ 400)
+      IsTypeIn (length known.program.bases) (length variables) known.program.records f.type × NamesEarlier (length known.program.records) f.type × (type_tree_height f.type ≤ greatest_height)
 
   record AreFields (fs : List FieldTree) (n : ℕ) : Type 0 where
     pub each : All IsField fs

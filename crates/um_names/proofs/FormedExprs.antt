@@ -23,7 +23,7 @@ use Rattle.um_measures.specs.UnitNames.{resolved_unit}
 use Rattle.um_names.specs.TypeNames.{resolved_type}
 use Rattle.um_measures.specs.Scopes.{Scope, local_of, same_binding}
 use Rattle.um_names.specs.ExprNames.{callable_of, named, called, same_names, field_or, field_of, if_same_names, with_all_fields, record_of, length_of, field_text_names, known_fields, found_record, resolved_fields, found_field, is_zero, resolved_literal, resolved_expr, resolved_exprs, resolved_parts}
-use Rattle.um_names.specs.Readable.{IsReadExpr, AreReadExprs, AreReadFields}
+use Rattle.um_names.specs.Readable.{greatest_height, IsReadExpr, AreReadExprs, AreReadFields}
 use Rattle.um_measures.proofs.NameLists.{number_of-below}
 use Rattle.um_measures.proofs.Scopes.{local_below}
 use Rattle.um_names.proofs.FormedUnits.{AreClosedIn, measure_in, resolved_unit_in, in_one}
@@ -164,7 +164,7 @@ module _ (known : Known) (variables : List (List ℕ)) (callables : List Callabl
           let same : call at (w.0) none ≡ e = cc (w.2) in
           subst (λ z. IsGood (length scope) z 1 1) same ((calls x 0 at w.0 w.1, tt), omega arith, omega arith)
 
-    nil_in : (at : ℕ) (n : ℕ) (m : NoteTree) (k : ℕ) → k ≤ 400 → IsNoteTreeIn (length known.program.bases) (length variables) known.program.records m → note_tree_height m ≤ k → IsGood n (nil at m) 3 1
+    nil_in : (at : ℕ) (n : ℕ) (m : NoteTree) (k : ℕ) → k ≤ greatest_height → IsNoteTreeIn (length known.program.bases) (length variables) known.program.records m → note_tree_height m ≤ k → IsGood n (nil at m) 3 1
     nil_in at n m k l h low = ((subst (λ v. IsNoteTreeIn (length known.program.bases) v known.program.records m) (sym count_named) h, omega (arith, low, l)), omega arith, omega arith)
 
     mutual

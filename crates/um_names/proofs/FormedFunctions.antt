@@ -11,26 +11,28 @@ use Rattle.um_tree.specs.ProgramTree.{FunctionTree}
 use Rattle.um_tree.specs.Formed.{AreNames, IsNoteTreeIn, MayCall, ResultFormed, IsFormedIn, IsFormedFunction}
 use Rattle.um_tree.specs.RawTree.{TypeSyntax, ParamSyntax, FunctionSyntax}
 use Rattle.um_names.specs.declared.callable.Callable.{Callable}
-use Rattle.um_measures.specs.Faults.{and_then, unless_taken, wrong_count}
+use Rattle.um_measures.specs.Faults.{and_then, wrong_count}
 use Rattle.um_measures.specs.Known.{Known, number_of, is_among, function_names}
 use Rattle.um_names.specs.TypeNames.{resolved_type}
-use Rattle.um_measures.specs.Variables.{named_variables}
+use Rattle.um_measures.specs.Variables.{occurring, named_variables}
 use Rattle.um_measures.specs.Scopes.{Scope}
 use Rattle.um_names.specs.ExprNames.{callable_of, numbered_function, with_arguments, resolved_expr}
-use Rattle.um_names.specs.Resolution.{unless_repeated, resolved_params, resolved_result, callable, callables, scope_of, resolved_function, with_function}
-use Rattle.um_names.specs.Readable.{AreReadParams, IsReadResult, IsReadFunction}
+use Rattle.um_names.specs.Resolution.{resolved_parameters, unless_repeated, resolved_params, resolved_result, callable, callables, scope_of, resolved_function, with_function}
+use Rattle.um_names.specs.Readable.{greatest_height, AreReadParams, IsReadResult, IsReadFunction}
 use Rattle.um_names.proofs.CallableNames.{slice_get-prefix, slice_get-last}
 use Rattle.um_names.proofs.FormedTypes.{then_found, type_in, slice_get-below, same_count}
 use Rattle.um_names.proofs.FormedExprs.{expr_in}
 use Rattle.um_names.proofs.FormedNames.{AreFresh, fresh_inserted, names-append, names-one}
 use Rattle.um_names.proofs.FormedMore.{function_more, record_more, extends_function, slice_get-split}
-use Rattle.um_names.proofs.FormedDecls.{IsSound, not_taken}
+use Rattle.um_names.proofs.FormedDecls.{IsSound, not_taken, parameters-count}
+use Rattle.um_names.proofs.Wholes.{its_name, with_its_name, with_unit_params, with_params, with_result}
+use Rattle.um_measures.proofs.Occurrences.{occurrences_grow}
 
 module _ (known : Known) (variables : List (List ℕ)) (s : IsSound known) where
   abbrev IsNote : NoteTree → Type 0
-  IsNote n = IsNoteTreeIn (length known.program.bases) (length variables) known.program.records n × (note_tree_height n ≤ 400)
+  IsNote n = IsNoteTreeIn (length known.program.bases) (length variables) known.program.records n × (note_tree_height n ≤ greatest_height)
 
-  note_sound : (t : TypeSyntax) (n : NoteTree) → type_height t ≤ 400 → resolved_type known variables true t ≡ Ok n → IsNote n
+  note_sound : (t : TypeSyntax) (n : NoteTree) → type_height t ≤ greatest_height → resolved_type known variables true t ≡ Ok n → IsNote n
   note_sound t n low e = let w = type_in known variables true s.closed t n e in (w.0, omega (arith, w.1, low))
 
   params_sound : (before : Scope) (ps : List ParamSyntax) (ns : List NoteTree) → AreReadParams ps → resolved_params known variables before ps ≡ Ok ns → All IsNote ns × (length ns ≡ length ps)
@@ -104,24 +106,26 @@ scope-count : (f : FunctionSyntax) → length (scope_of f) ≡ length f.params
 scope-count f = length-map f.params (λ p. p.binder.name)
 
 module _ (known : Known) (f : FunctionSyntax) (s : IsSound known) (r : IsReadFunction f) where
-  abbrev built : List NoteTree → Option NoteTree → ExprTree → FunctionTree
-  built params result body = record { name = f.name; at = f.at; recursive = f.recursive; params = params; named = length (named_variables f); result = result; body = body }
+  abbrev built : List (List ℕ) → List NoteTree → Option NoteTree → ExprTree → FunctionTree
+  built us params result body = record { name = f.name; at = f.at; recursive = f.recursive; units = length us; params = params; named = length (named_variables us f); result = result; body = body }
 
-  result_formed : (g : FunctionTree) (o : Option NoteTree) → g.named ≡ length (named_variables f) → IsResult known (named_variables f) s o → ResultFormed (with_function known g).program g o
-  result_formed g None e h = tt
-  result_formed g (Some n) e h = (subst (λ v. IsNoteTreeIn (length known.program.bases) v known.program.records n) (sym e) h.0, h.1)
+  result_formed : (variables : List (List ℕ)) (g : FunctionTree) (o : Option NoteTree) → g.named ≡ length variables → IsResult known variables s o → ResultFormed (with_function known g).program g o
+  result_formed variables g None e h = tt
+  result_formed variables g (Some n) e h = (subst (λ v. IsNoteTreeIn (length known.program.bases) v known.program.records n) (sym e) h.0, h.1)
 
-  function_here : (params : List NoteTree) (result : Option NoteTree) (body : ExprTree) → resolved_params known (named_variables f) [] f.params ≡ Ok params → resolved_result known (named_variables f) f.result ≡ Ok result
-      → resolved_expr known (named_variables f) (callables known f) (scope_of f) f.body ≡ Ok body → IsFormedFunction (with_function known (built params result body)).program (length known.program.functions) (built params result body)
-  function_here params result body p q b =
-      let g = built params result body in
-      let ps = params_sound known (named_variables f) s [] f.params params r.params p in
-      let rs = result_sound known (named_variables f) s f.result result r.result q in
-      let bs = expr_in known (named_variables f) (callables known f) s.closed (known.program.functions ++ g ∷ []) (length known.program.functions) g refl (may_call known f g refl ps.1) f.body (scope_of f) body r.body b in
+  function_here : (us : List (List ℕ)) (params : List NoteTree) (result : Option NoteTree) (body : ExprTree) → resolved_parameters [] f.units ≡ Ok us → resolved_params known (named_variables us f) [] f.params ≡ Ok params → resolved_result known (named_variables us f) f.result ≡ Ok result
+      → resolved_expr known (named_variables us f) (callables known f) (scope_of f) f.body ≡ Ok body → IsFormedFunction (with_function known (built us params result body)).program (length known.program.functions) (built us params result body)
+  function_here us params result body u p q b =
+      let g = built us params result body in
+      let ps = params_sound known (named_variables us f) s [] f.params params r.params p in
+      let rs = result_sound known (named_variables us f) s f.result result r.result q in
+      let bs = expr_in known (named_variables us f) (callables known f) s.closed (known.program.functions ++ g ∷ []) (length known.program.functions) g refl (may_call known f g refl ps.1) f.body (scope_of f) body r.body b in
       record {
         few_params = (let m = ps.1 in let l = r.few_params in omega (arith, m, l));
+        few_units = (let m = parameters-count [] f.units us u in let l = r.few_units in omega (arith, m, l));
+        units = occurrences_grow us (occurring f);
         params = ps.0;
-        result = result_formed g result refl rs.0;
+        result = result_formed (named_variables us f) g result refl rs.0;
         noted = λ h. rs.1 (r.noted h);
         body = subst (λ n. IsFormedIn (with_function known g).program (length known.program.functions) g n body) (scope-count f ∙ sym ps.1) bs.0;
         height = (let h = bs.1 in let l = r.height in omega (arith, h, l));
@@ -130,14 +134,14 @@ module _ (known : Known) (f : FunctionSyntax) (s : IsSound known) (r : IsReadFun
 
   pub function_sound : (g : FunctionTree) → resolved_function known f ≡ Ok g → IsSound (with_function known g)
   function_sound g e =
-      let variables = named_variables f in
-      let a = then_found (unless_taken (is_among (function_names known.program.functions) f.name) f.at)
-      (λ _. and_then (resolved_params known variables [] f.params) (λ params. and_then (resolved_result known variables f.result) (λ result. and_then (resolved_expr known variables (callables known f) (scope_of f) f.body) (λ body. Ok (built params result body))))) g e in
-      let b = then_found (resolved_params known variables [] f.params) (λ params. and_then (resolved_result known variables f.result) (λ result. and_then (resolved_expr known variables (callables known f) (scope_of f) f.body) (λ body. Ok (built params result body)))) g a.2 in
-      let c = then_found (resolved_result known variables f.result) (λ result. and_then (resolved_expr known variables (callables known f) (scope_of f) f.body) (λ body. Ok (built (b.0) result body))) g b.2 in
-      let d = then_found (resolved_expr known variables (callables known f) (scope_of f) f.body) (λ body. Ok (built (b.0) (c.0) body)) g c.2 in
-      let same : built (b.0) (c.0) (d.0) ≡ g = cc (d.2) in
-      along (built (b.0) (c.0) (d.0)) same (whole (built (b.0) (c.0) (d.0)) (refl {a = f.name}) (not_taken (is_among (function_names known.program.functions) f.name) f.at a.0 a.1) (function_here b.0 c.0 d.0 b.1 c.1 d.1))
+      let a = then_found (its_name known f) (with_its_name known f) g e in
+      let u = then_found (resolved_parameters [] f.units) (with_unit_params known f) g a.2 in
+      let b = then_found (resolved_params known (named_variables (u.0) f) [] f.params) (with_params known f u.0) g u.2 in
+      let c = then_found (resolved_result known (named_variables (u.0) f) f.result) (with_result known f u.0 b.0) g b.2 in
+      let d = then_found (resolved_expr known (named_variables (u.0) f) (callables known f) (scope_of f) f.body) (λ body. Ok (built (u.0) (b.0) (c.0) body)) g c.2 in
+      let z = built (u.0) (b.0) (c.0) (d.0) in
+      let same : z ≡ g = cc (d.2) in
+      along z same (whole z (refl {a = f.name}) (not_taken (is_among (function_names known.program.functions) f.name) f.at a.0 a.1) (function_here u.0 b.0 c.0 d.0 u.1 b.1 c.1 d.1))
     where
       along : (z : FunctionTree) → z ≡ g → IsSound (with_function known z) → IsSound (with_function known g)
       along z is h = subst (λ y. IsSound (with_function known y)) is h

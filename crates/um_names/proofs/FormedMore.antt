@@ -75,6 +75,8 @@ module _ (p q : ProgramTree) (extends : Extends p q) where
     pub function_more : IsFormedFunction p i f → IsFormedFunction q i f
     function_more h = record {
       few_params = h.few_params;
+      few_units = h.few_units;
+      units = h.units;
       params = λ k d l. (note_tree_more f.named (get_or f.params k d) (h.params k d l).0, (h.params k d l).1);
       result = result_more f.result h.result;
       noted = h.noted;

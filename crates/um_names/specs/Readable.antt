@@ -69,6 +69,7 @@ IsReadResult (Some t) = type_height t ≤ greatest_height
 
 pub record IsReadFunction (f : FunctionSyntax) : Type 0 where
   pub name : IsNameBytes f.name
+  pub few_units : length f.units ≤ 4
   pub few_params : length f.params ≤ 16
   pub params : AreReadParams f.params
   pub result : IsReadResult f.result

@@ -16,13 +16,15 @@ use Rattle.um_measures.specs.Scopes.{Scope, is_repeated}
 use Rattle.um_names.specs.ExprNames.{resolved_expr}
 use Rattle.um_names.specs.declared.callable.Callable.{Callable}
 
--- ---- a record
+-- ---- unit parameters of a record or a function
 
--- its unit parameters, each once, behind those before
+-- each once, behind those before
 abbrev pub resolved_parameters : List (List ℕ) → List VarSyntax → Found (List (List ℕ))
 resolved_parameters before [] = Ok before
 resolved_parameters before (v ∷ vs) =
     and_then (unless_taken (is_among before v.name) v.at) (λ _. resolved_parameters (before ++ v.name ∷ []) vs)
+
+-- ---- a record
 
 -- its fields, each with a name that is new among all fields, behind those before
 abbrev pub resolved_field_decls : Known → List (List ℕ) → List FieldTree → List FieldDeclSyntax → Found (List FieldTree)
@@ -69,10 +71,12 @@ callables known f =
 abbrev pub scope_of : FunctionSyntax → Scope
 scope_of f = map (λ p. p.binder.name) f.params
 
+-- its name, its unit parameters, its parameters, its result, its body
 abbrev pub resolved_function : Known → FunctionSyntax → Found FunctionTree
 resolved_function known f =
-    let variables = named_variables f in
     and_then (unless_taken (is_among (function_names known.program.functions) f.name) f.at) (λ _.
+    and_then (resolved_parameters [] f.units) (λ unit_params.
+    let variables = named_variables unit_params f in
     and_then (resolved_params known variables [] f.params) (λ params.
     and_then (resolved_result known variables f.result) (λ result.
     and_then (resolved_expr known variables (callables known f) (scope_of f) f.body) (λ body.
@@ -80,11 +84,12 @@ resolved_function known f =
       name = f.name;
       at = f.at;
       recursive = f.recursive;
+      units = length unit_params;
       params = params;
       named = length variables;
       result = result;
       body = body;
-    })))))
+    }))))))
 
 -- ---- declarations
 

@@ -70,7 +70,7 @@ fn itself(alloc: Global, raw: &RawFunction) -> Result<Option<Callable>, AllocErr
     }))
 }
 
-/// A function: its name, its parameters, its result, its body.
+/// A function: its name, its unit parameters, its parameters, its result, its body.
 fn function(alloc: Global, tables: &Tables, raw: &RawFunction) -> Result<Function, NameStop>
     requires { AreTables tables.now }
     ensures exact { IfOk result (λ f. resolved_function (known_of tables.now) (whole_function_syntax raw.now) ≡ Ok (function_tree f)) }
@@ -79,7 +79,9 @@ fn function(alloc: Global, tables: &Tables, raw: &RawFunction) -> Result<Functio
     if tables.function_names.has(raw.name.as_slice()) {
         return Err(NameStop::Twice { at: raw.at });
     }
-    let variables = named_variables(alloc, raw)?;
+    let unit_params = unit_parameters(alloc, &raw.units.items)?;
+    let units = unit_params.count();
+    let variables = named_variables(alloc, unit_params, raw)?;
     let Parameters { notes, mut scope } = params(alloc, tables, &variables, &raw.params.items)?;
     let result = result_note(alloc, tables, &variables, &raw.result)?;
     let named = variables.count();
@@ -90,6 +92,7 @@ fn function(alloc: Global, tables: &Tables, raw: &RawFunction) -> Result<Functio
         name: copied(alloc, &raw.name)?,
         at: raw.at,
         recursive: raw.recursive,
+        units,
         params: Notes { items: notes },
         named,
         result,

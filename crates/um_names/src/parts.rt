@@ -16,7 +16,7 @@ use std::alloc::Global;
 use um_measures::{NameStop, NameTable, Scope};
 use um_tree::{Note, RawParam, RawType, RawVar};
 
-/// The unit parameters of a record, each once, in the order of their numbers.
+/// The unit parameters of a record or a function, each once, in the order of their numbers.
 pub fn unit_parameters(alloc: Global, raw: &[RawVar]) -> Result<NameTable, NameStop>
     ensures exact { IfOk result (λ names. resolved_parameters [] (map var_syntax raw.now) ≡ Ok names) }
     ensures faults { IfErr result (IsFirst (resolved_parameters [] (map var_syntax raw.now))) }

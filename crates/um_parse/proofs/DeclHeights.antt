@@ -1,8 +1,8 @@
 -- The least height of a declaration that the tokens begin: it is that of the completion, no token lowers it, and what is found has it.
-use Rattle.std.proofs.Common.{◌≡◌, ◌≢◌, ℕ, ◌≤◌, max, List, [], ◌∷◌, ◌++◌, Bool, true, false, Option, Some, None, refl, sym, ap, ◌∙◌, arith}
+use Rattle.std.proofs.Common.{◌≡◌, ◌≢◌, ℕ, ◌≤◌, max, List, [], ◌∷◌, ◌++◌, Bool, true, false, Option, Some, None, refl, sym, ap, subst, ◌∙◌, arith}
 use Rattle.um_syntax.specs.declared.token.Token.{Token}
 use Rattle.um_tree.specs.declared.expression.Sign.TheVariants as compare
-use Rattle.um_tree.specs.RawTree.{UnitSyntax, TypeSyntax, bool_syntax, BinderSyntax, ExprSyntax, VarSyntax, FieldDeclSyntax, ParamSyntax, DeclSyntax, base_syntax, short_syntax, record_decl_syntax, function_syntax}
+use Rattle.um_tree.specs.RawTree.{UnitSyntax, TypeSyntax, bool_syntax, BinderSyntax, ExprSyntax, VarSyntax, FieldDeclSyntax, ParamSyntax, DeclSyntax, base_syntax, short_syntax, record_decl_syntax}
 use Rattle.um_types.specs.UnitMachine.{State as UnitState, Need as NeedUnit, Have as HaveUnit, Raised, Lowered, Refused as NoUnit, finish as unit_finish}
 use Rattle.um_types.specs.UnitLeast.{least}
 use Rattle.um_types.specs.TypeHeights.{whole_height}
@@ -21,10 +21,10 @@ use Rattle.um_expr.specs.ExprMachine.{State, Need, Have, HavePower, Greater, Ins
 use Rattle.um_expr.specs.ExprLeast.{whole_least}
 use Rattle.um_parse.specs.ProgramHeights.{fields_height, params_height, result_height, decl_height}
 use Rattle.um_parse.specs.ProgramLeast.{expected_least, decl_least}
-use Rattle.um_parse.specs.DeclMachine.{DeclExpected, DeclBegin, AttributeWord, AttributeGreater, AttributeClose, MeasureType, MeasureName, RecordName, RecordVars, VarBegin, VarWord, VarGreater, VarClose, VarName, VarEnd, RecordEqual, RecordBrace, FieldName, FieldColon, LetName, RecName, Params, ParamBinder, ParamColon, DeclState, Expects, HaveBase, InShort, HaveRecord, InField, InParam, InResult, InBody, NoDecl, body_begins, take_expected, base_after, field_ends, param_ends, result_ends, short_goes, field_goes, param_goes, result_goes, body_goes, decl_step, short_found, body_found, decl_finish}
+use Rattle.um_parse.specs.DeclMachine.{FunctionStart, VarOwner, OfRecord, OfFunction, started, behind_vars, body_begins_if, take_params, function_from, DeclExpected, DeclBegin, AttributeWord, AttributeGreater, AttributeClose, MeasureType, MeasureName, RecordName, RecordVars, VarBegin, VarWord, VarGreater, VarClose, VarName, VarEnd, RecordEqual, RecordBrace, FieldName, FieldColon, LetName, RecName, FunctionVars, Params, ParamBinder, ParamColon, DeclState, Expects, HaveBase, InShort, HaveRecord, InField, InParam, InResult, InBody, NoDecl, body_begins, take_expected, base_after, field_ends, param_ends, result_ends, short_goes, field_goes, param_goes, result_goes, body_goes, decl_step, short_found, body_found, decl_finish}
 use Rattle.um_expr.proofs.ExprHeights.{expr_completed_height, expr_up, expr_found_height}
 use Rattle.um_parse.proofs.DeclPrefixes.{DeclSpellsPrefix}
-use Rattle.um_parse.proofs.DeclCompletions.{expected_completed, decl_completed}
+use Rattle.um_parse.proofs.DeclCompletions.{unnamed_var, owner_with, expected_completed, decl_completed}
 
 fields_last : (fs : List FieldDeclSyntax) (f : FieldDeclSyntax) → fields_height (fs ++ f ∷ []) ≡ max (fields_height fs) (whole_height f.type)
 fields_last [] f = omega arith
@@ -36,6 +36,10 @@ params_last (q ∷ qs) p = let e = params_last qs p in omega (arith, e)
 
 -- ---- the completion
 
+owner_height : (owner : VarOwner) (vs : List VarSyntax) → decl_height (owner_with owner vs) ≡ 1
+owner_height (OfRecord at x) vs = omega arith
+owner_height (OfFunction recursive at x) vs = omega arith
+
 expected_height : (expected : DeclExpected) → decl_height (expected_completed expected) ≡ expected_least expected
 expected_height DeclBegin = refl
 expected_height AttributeWord = refl
@@ -45,21 +49,22 @@ expected_height MeasureType = refl
 expected_height MeasureName = refl
 expected_height RecordName = omega arith
 expected_height (RecordVars at x) = omega arith
-expected_height (VarBegin at x vs) = omega arith
-expected_height (VarWord at x vs) = omega arith
-expected_height (VarGreater at x vs) = omega arith
-expected_height (VarClose at x vs) = omega arith
-expected_height (VarName at x vs) = omega arith
-expected_height (VarEnd at x vs) = omega arith
+expected_height (VarBegin owner vs) = owner_height owner (vs ++ unnamed_var ∷ [])
+expected_height (VarWord owner vs) = owner_height owner (vs ++ unnamed_var ∷ [])
+expected_height (VarGreater owner vs) = owner_height owner (vs ++ unnamed_var ∷ [])
+expected_height (VarClose owner vs) = owner_height owner (vs ++ unnamed_var ∷ [])
+expected_height (VarName owner vs) = owner_height owner (vs ++ unnamed_var ∷ [])
+expected_height (VarEnd owner vs) = owner_height owner vs
 expected_height (RecordEqual at x vs) = omega arith
 expected_height (RecordBrace at x vs) = omega arith
 expected_height (FieldName at x vs fs) = let e = fields_last fs (record { at = 0; name = []; type = bool_syntax }) in omega (arith, e)
 expected_height (FieldColon at x vs fs place y) = let e = fields_last fs (record { at = place; name = y; type = bool_syntax }) in omega (arith, e)
 expected_height LetName = omega arith
 expected_height RecName = omega arith
-expected_height (Params recursive at x ps) = omega arith
-expected_height (ParamBinder recursive at x ps) = let e = params_last ps (record { binder = record { at = 0; name = None }; type = bool_syntax }) in omega (arith, e)
-expected_height (ParamColon recursive at x ps b) = let e = params_last ps (record { binder = b; type = bool_syntax }) in omega (arith, e)
+expected_height (FunctionVars recursive at x) = omega arith
+expected_height (Params head ps) = omega arith
+expected_height (ParamBinder head ps) = let e = params_last ps (record { binder = record { at = 0; name = None }; type = bool_syntax }) in omega (arith, e)
+expected_height (ParamColon head ps b) = let e = params_last ps (record { binder = b; type = bool_syntax }) in omega (arith, e)
 
 pub decl_completed_height : (st : DeclState) (tokens rest : List Token) → DeclSpellsPrefix st tokens rest → st ≢ NoDecl → decl_height (decl_completed st) ≡ decl_least st
 decl_completed_height (Expects expected) tokens rest h ok = expected_height expected
@@ -70,14 +75,14 @@ decl_completed_height (InField at x vs fs place y s) tokens rest h ok =
     let e = fields_last fs (record { at = place; name = y; type = type_completed s }) in
     let t : whole_height (type_completed s) ≡ type_least s = type_completed_height s h.3 rest h.8 h.10 in
     omega (arith, e, t)
-decl_completed_height (InParam recursive at x ps b s) tokens rest h ok =
+decl_completed_height (InParam head ps b s) tokens rest h ok =
     let e = params_last ps (record { binder = b; type = type_completed s }) in
     let t : whole_height (type_completed s) ≡ type_least s = type_completed_height s h.3 rest h.8 h.10 in
     omega (arith, e, t)
-decl_completed_height (InResult recursive at x ps s) tokens rest h ok =
+decl_completed_height (InResult head ps s) tokens rest h ok =
     let t : whole_height (type_completed s) ≡ type_least s = type_completed_height s h.1 rest h.4 h.6 in
     omega (arith, t)
-decl_completed_height (InBody recursive at x ps r e) tokens rest h ok =
+decl_completed_height (InBody head ps r e) tokens rest h ok =
     let t = expr_completed_height e h.2 rest h.6 h.9 in
     omega (arith, t)
 decl_completed_height NoDecl tokens rest h ok = absurd (ok refl)
@@ -91,13 +96,34 @@ Above n (HaveBase at x) = n ≤ decl_least (HaveBase at x)
 Above n (InShort at x u) = n ≤ decl_least (InShort at x u)
 Above n (HaveRecord at x vs fs) = n ≤ decl_least (HaveRecord at x vs fs)
 Above n (InField at x vs fs place y s) = n ≤ decl_least (InField at x vs fs place y s)
-Above n (InParam recursive at x ps b s) = n ≤ decl_least (InParam recursive at x ps b s)
-Above n (InResult recursive at x ps s) = n ≤ decl_least (InResult recursive at x ps s)
-Above n (InBody recursive at x ps r e) = n ≤ decl_least (InBody recursive at x ps r e)
+Above n (InParam head ps b s) = n ≤ decl_least (InParam head ps b s)
+Above n (InResult head ps s) = n ≤ decl_least (InResult head ps s)
+Above n (InBody head ps r e) = n ≤ decl_least (InBody head ps r e)
 
-body_up : (recursive : Bool) (at : ℕ) (x : List ℕ) (ps : List ParamSyntax) → Above (max (params_height ps) 1) (body_begins recursive at x ps)
-body_up true at x ps = tt
-body_up false at x ps = omega arith
+body_up : (head : FunctionStart) (ps : List ParamSyntax) → Above (max (params_height ps) 1) (body_begins head ps)
+body_up head ps = by (head.recursive)
+  where
+    by : (b : Bool) → Above (max (params_height ps) 1) (body_begins_if b head ps)
+    by true = tt
+    by false = omega arith
+
+take_params_up : (head : FunctionStart) (ps : List ParamSyntax) (what : ExprToken) → Above (max (params_height ps) 1) (take_params head ps what)
+take_params_up head ps (mark symbol.LeftParen) = omega arith
+take_params_up head ps (mark symbol.Colon) = omega arith
+take_params_up head ps (operator (between.Compare compare.Eq)) = body_up head ps
+take_params_up head ps _ = tt
+
+-- behind the name of a function
+named_up : (recursive : Bool) (at : ℕ) (x : List ℕ) (what : ExprToken) → Above 1 (take_params (started recursive at x []) [] what)
+named_up recursive at x what = subst (λ n. Above n (take_params (started recursive at x []) [] what)) least_is (take_params_up (started recursive at x []) [] what)
+  where
+    least_is : max (params_height []) 1 ≡ 1
+    least_is = omega arith
+
+-- a record without fields, or a function without parameters
+vars_up : (owner : VarOwner) (vs : List VarSyntax) → Above 1 (Expects (behind_vars owner vs))
+vars_up (OfRecord at x) vs = omega arith
+vars_up (OfFunction recursive at x) vs = omega arith
 
 expected_up : (expected : DeclExpected) (what : ExprToken) (at : ℕ) → Above (expected_least expected) (take_expected expected what at)
 expected_up DeclBegin (mark symbol.AttributeOpen) at = omega arith
@@ -111,13 +137,13 @@ expected_up MeasureName (name x) at = omega arith
 expected_up RecordName (name x) at = omega arith
 expected_up (RecordVars p x) (operator (between.Compare compare.Lt)) at = omega arith
 expected_up (RecordVars p x) (operator (between.Compare compare.Eq)) at = omega arith
-expected_up (VarBegin p x vs) (mark symbol.AttributeOpen) at = omega arith
-expected_up (VarWord p x vs) (word keyword.Measure) at = omega arith
-expected_up (VarGreater p x vs) (operator (between.Compare compare.Gt)) at = omega arith
-expected_up (VarClose p x vs) (mark symbol.RightBracket) at = omega arith
-expected_up (VarName p x vs) (variable v) at = omega arith
-expected_up (VarEnd p x vs) (mark symbol.Comma) at = omega arith
-expected_up (VarEnd p x vs) (operator (between.Compare compare.Gt)) at = omega arith
+expected_up (VarBegin owner vs) (mark symbol.AttributeOpen) at = omega arith
+expected_up (VarWord owner vs) (word keyword.Measure) at = omega arith
+expected_up (VarGreater owner vs) (operator (between.Compare compare.Gt)) at = omega arith
+expected_up (VarClose owner vs) (mark symbol.RightBracket) at = omega arith
+expected_up (VarName owner vs) (variable v) at = omega arith
+expected_up (VarEnd owner vs) (mark symbol.Comma) at = omega arith
+expected_up (VarEnd owner vs) (operator (between.Compare compare.Gt)) at = vars_up owner vs
 expected_up (RecordEqual p x vs) (operator (between.Compare compare.Eq)) at = omega arith
 expected_up (RecordBrace p x vs) (mark symbol.LeftBrace) at = omega arith
 expected_up (FieldName p x vs fs) (name y) at = omega arith
@@ -125,12 +151,12 @@ expected_up (FieldColon p x vs fs place y) (mark symbol.Colon) at = omega arith
 expected_up LetName (word keyword.Rec) at = omega arith
 expected_up LetName (name x) at = omega arith
 expected_up RecName (name x) at = omega arith
-expected_up (Params recursive p x ps) (mark symbol.LeftParen) at = omega arith
-expected_up (Params recursive p x ps) (mark symbol.Colon) at = omega arith
-expected_up (Params recursive p x ps) (operator (between.Compare compare.Eq)) at = body_up recursive p x ps
-expected_up (ParamBinder recursive p x ps) (name y) at = omega arith
-expected_up (ParamBinder recursive p x ps) hole at = omega arith
-expected_up (ParamColon recursive p x ps b) (mark symbol.Colon) at = omega arith
+expected_up (FunctionVars recursive p x) (operator (between.Compare compare.Lt)) at = omega arith
+expected_up (FunctionVars recursive p x) what at = named_up recursive p x what
+expected_up (Params head ps) what at = take_params_up head ps what
+expected_up (ParamBinder head ps) (name y) at = omega arith
+expected_up (ParamBinder head ps) hole at = omega arith
+expected_up (ParamColon head ps b) (mark symbol.Colon) at = omega arith
 expected_up _ _ at = tt
 
 base_up : (at : ℕ) (x : List ℕ) (what : ExprToken) → Above 0 (base_after at x what)
@@ -156,20 +182,20 @@ field_end_up at x vs fs place y s (Some t) (mark symbol.RightBrace) e =
     omega (arith, same, last)
 field_end_up at x vs fs place y s _ _ e = tt
 
-param_end_up : (recursive : Bool) (at : ℕ) (x : List ℕ) (ps : List ParamSyntax) (b : BinderSyntax) (s : TypeState) (found : Option TypeSyntax) (what : ExprToken) → type_finish s ≡ found
-    → Above (max (params_height ps) (max (type_least s) 1)) (param_ends recursive at x ps b found what)
-param_end_up recursive at x ps b s (Some t) (mark symbol.RightParen) e =
+param_end_up : (head : FunctionStart) (ps : List ParamSyntax) (b : BinderSyntax) (s : TypeState) (found : Option TypeSyntax) (what : ExprToken) → type_finish s ≡ found
+    → Above (max (params_height ps) (max (type_least s) 1)) (param_ends head ps b found what)
+param_end_up head ps b s (Some t) (mark symbol.RightParen) e =
     let same = type_found_height s t e in
     let last = params_last ps (record { binder = b; type = t }) in
     omega (arith, same, last)
-param_end_up recursive at x ps b s _ _ e = tt
+param_end_up head ps b s _ _ e = tt
 
-result_end_up : (recursive : Bool) (at : ℕ) (x : List ℕ) (ps : List ParamSyntax) (s : TypeState) (found : Option TypeSyntax) (what : ExprToken) → type_finish s ≡ found
-    → Above (max (params_height ps) (max (type_least s) 1)) (result_ends recursive at x ps found what)
-result_end_up recursive at x ps s (Some t) (operator (between.Compare compare.Eq)) e =
+result_end_up : (head : FunctionStart) (ps : List ParamSyntax) (s : TypeState) (found : Option TypeSyntax) (what : ExprToken) → type_finish s ≡ found
+    → Above (max (params_height ps) (max (type_least s) 1)) (result_ends head ps found what)
+result_end_up head ps s (Some t) (operator (between.Compare compare.Eq)) e =
     let same = type_found_height s t e in
     omega (arith, same)
-result_end_up recursive at x ps s _ _ e = tt
+result_end_up head ps s _ _ e = tt
 
 field_up : (at : ℕ) (x : List ℕ) (vs : List VarSyntax) (fs : List FieldDeclSyntax) (place : ℕ) (y : List ℕ) (low : ℕ) (s : TypeState) (over : DeclState) → (s ≢ NoType → low ≤ type_least s)
     → Above (max (fields_height fs) low) over → Above (max (fields_height fs) low) (field_goes at x vs fs place y s over)
@@ -178,30 +204,30 @@ field_up at x vs fs place y low (HaveType depth t) over up h = let le = up (λ e
 field_up at x vs fs place y low (InTypeNote depth owner n) over up h = let le = up (λ e. cc) in omega (arith, le)
 field_up at x vs fs place y low NoType over up h = h
 
-param_up : (recursive : Bool) (at : ℕ) (x : List ℕ) (ps : List ParamSyntax) (b : BinderSyntax) (low : ℕ) (s : TypeState) (over : DeclState) → (s ≢ NoType → low ≤ type_least s)
-    → Above (max (params_height ps) (max low 1)) over → Above (max (params_height ps) (max low 1)) (param_goes recursive at x ps b s over)
-param_up recursive at x ps b low (NeedType depth) over up h = let le = up (λ e. cc) in omega (arith, le)
-param_up recursive at x ps b low (HaveType depth t) over up h = let le = up (λ e. cc) in omega (arith, le)
-param_up recursive at x ps b low (InTypeNote depth owner n) over up h = let le = up (λ e. cc) in omega (arith, le)
-param_up recursive at x ps b low NoType over up h = h
+param_up : (head : FunctionStart) (ps : List ParamSyntax) (b : BinderSyntax) (low : ℕ) (s : TypeState) (over : DeclState) → (s ≢ NoType → low ≤ type_least s)
+    → Above (max (params_height ps) (max low 1)) over → Above (max (params_height ps) (max low 1)) (param_goes head ps b s over)
+param_up head ps b low (NeedType depth) over up h = let le = up (λ e. cc) in omega (arith, le)
+param_up head ps b low (HaveType depth t) over up h = let le = up (λ e. cc) in omega (arith, le)
+param_up head ps b low (InTypeNote depth owner n) over up h = let le = up (λ e. cc) in omega (arith, le)
+param_up head ps b low NoType over up h = h
 
-result_up : (recursive : Bool) (at : ℕ) (x : List ℕ) (ps : List ParamSyntax) (low : ℕ) (s : TypeState) (over : DeclState) → (s ≢ NoType → low ≤ type_least s)
-    → Above (max (params_height ps) (max low 1)) over → Above (max (params_height ps) (max low 1)) (result_goes recursive at x ps s over)
-result_up recursive at x ps low (NeedType depth) over up h = let le = up (λ e. cc) in omega (arith, le)
-result_up recursive at x ps low (HaveType depth t) over up h = let le = up (λ e. cc) in omega (arith, le)
-result_up recursive at x ps low (InTypeNote depth owner n) over up h = let le = up (λ e. cc) in omega (arith, le)
-result_up recursive at x ps low NoType over up h = h
+result_up : (head : FunctionStart) (ps : List ParamSyntax) (low : ℕ) (s : TypeState) (over : DeclState) → (s ≢ NoType → low ≤ type_least s)
+    → Above (max (params_height ps) (max low 1)) over → Above (max (params_height ps) (max low 1)) (result_goes head ps s over)
+result_up head ps low (NeedType depth) over up h = let le = up (λ e. cc) in omega (arith, le)
+result_up head ps low (HaveType depth t) over up h = let le = up (λ e. cc) in omega (arith, le)
+result_up head ps low (InTypeNote depth owner n) over up h = let le = up (λ e. cc) in omega (arith, le)
+result_up head ps low NoType over up h = h
 
-in_body_up : (recursive : Bool) (at : ℕ) (x : List ℕ) (ps : List ParamSyntax) (r : Option TypeSyntax) (low : ℕ) (e : State) → (e ≢ Refused → low ≤ whole_least e)
-    → Above (max (params_height ps) (max (result_height r) low)) (body_goes recursive at x ps r e)
-in_body_up recursive at x ps r low (Need frames) up = let le = up (λ h. cc) in omega (arith, le)
-in_body_up recursive at x ps r low (Have frames t) up = let le = up (λ h. cc) in omega (arith, le)
-in_body_up recursive at x ps r low (HavePower frames t) up = let le = up (λ h. cc) in omega (arith, le)
-in_body_up recursive at x ps r low (Greater frames p l) up = let le = up (λ h. cc) in omega (arith, le)
-in_body_up recursive at x ps r low (Inside frames p) up = let le = up (λ h. cc) in omega (arith, le)
-in_body_up recursive at x ps r low (InNote frames p c n) up = let le = up (λ h. cc) in omega (arith, le)
-in_body_up recursive at x ps r low (InType frames p n) up = let le = up (λ h. cc) in omega (arith, le)
-in_body_up recursive at x ps r low Refused up = tt
+in_body_up : (head : FunctionStart) (ps : List ParamSyntax) (r : Option TypeSyntax) (low : ℕ) (e : State) → (e ≢ Refused → low ≤ whole_least e)
+    → Above (max (params_height ps) (max (result_height r) low)) (body_goes head ps r e)
+in_body_up head ps r low (Need frames) up = let le = up (λ h. cc) in omega (arith, le)
+in_body_up head ps r low (Have frames t) up = let le = up (λ h. cc) in omega (arith, le)
+in_body_up head ps r low (HavePower frames t) up = let le = up (λ h. cc) in omega (arith, le)
+in_body_up head ps r low (Greater frames p l) up = let le = up (λ h. cc) in omega (arith, le)
+in_body_up head ps r low (Inside frames p) up = let le = up (λ h. cc) in omega (arith, le)
+in_body_up head ps r low (InNote frames p c n) up = let le = up (λ h. cc) in omega (arith, le)
+in_body_up head ps r low (InType frames p n) up = let le = up (λ h. cc) in omega (arith, le)
+in_body_up head ps r low Refused up = tt
 
 decl_above : (st : DeclState) (x : Token) → Above (decl_least st) (decl_step st x)
 decl_above (Expects expected) x = expected_up expected (expr_token x.kind) x.start
@@ -211,13 +237,13 @@ decl_above (HaveRecord at y vs fs) x = tt
 decl_above (InField at y vs fs place z s) x =
     field_up at y vs fs place z (type_least s) (type_step s x) (field_ends at y vs fs place z (type_finish s) (expr_token x.kind)) (λ goes. type_up s x goes)
     (field_end_up at y vs fs place z s (type_finish s) (expr_token x.kind) refl)
-decl_above (InParam recursive at y ps b s) x =
-    param_up recursive at y ps b (type_least s) (type_step s x) (param_ends recursive at y ps b (type_finish s) (expr_token x.kind)) (λ goes. type_up s x goes)
-    (param_end_up recursive at y ps b s (type_finish s) (expr_token x.kind) refl)
-decl_above (InResult recursive at y ps s) x =
-    result_up recursive at y ps (type_least s) (type_step s x) (result_ends recursive at y ps (type_finish s) (expr_token x.kind)) (λ goes. type_up s x goes)
-    (result_end_up recursive at y ps s (type_finish s) (expr_token x.kind) refl)
-decl_above (InBody recursive at y ps r e) x = in_body_up recursive at y ps r (whole_least e) (step e x) (λ goes. expr_up e x goes)
+decl_above (InParam head ps b s) x =
+    param_up head ps b (type_least s) (type_step s x) (param_ends head ps b (type_finish s) (expr_token x.kind)) (λ goes. type_up s x goes)
+    (param_end_up head ps b s (type_finish s) (expr_token x.kind) refl)
+decl_above (InResult head ps s) x =
+    result_up head ps (type_least s) (type_step s x) (result_ends head ps (type_finish s) (expr_token x.kind)) (λ goes. type_up s x goes)
+    (result_end_up head ps s (type_finish s) (expr_token x.kind) refl)
+decl_above (InBody head ps r e) x = in_body_up head ps r (whole_least e) (step e x) (λ goes. expr_up e x goes)
 decl_above NoDecl x = tt
 
 above_least : (n : ℕ) (st : DeclState) → st ≢ NoDecl → Above n st → n ≤ decl_least st
@@ -226,9 +252,9 @@ above_least n (HaveBase at x) ok h = h
 above_least n (InShort at x u) ok h = h
 above_least n (HaveRecord at x vs fs) ok h = h
 above_least n (InField at x vs fs place y s) ok h = h
-above_least n (InParam recursive at x ps b s) ok h = h
-above_least n (InResult recursive at x ps s) ok h = h
-above_least n (InBody recursive at x ps r e) ok h = h
+above_least n (InParam head ps b s) ok h = h
+above_least n (InResult head ps s) ok h = h
+above_least n (InBody head ps r e) ok h = h
 above_least n NoDecl ok h = absurd (ok refl)
 
 pub decl_up : (st : DeclState) (x : Token) → decl_step st x ≢ NoDecl → decl_least st ≤ decl_least (decl_step st x)
@@ -240,20 +266,20 @@ short_height : (at : ℕ) (x : List ℕ) (u : UnitState) (o : Option UnitSyntax)
 short_height at x u (Some t) d f e = let same : short_syntax at x t ≡ d = cc in ap decl_height (sym same) ∙ found_height u t f
 short_height at x u None d f e = absurd cc
 
-body_height : (recursive : Bool) (at : ℕ) (x : List ℕ) (ps : List ParamSyntax) (r : Option TypeSyntax) (e : State) (o : Option ExprSyntax) (d : DeclSyntax) → finish e ≡ o → body_found recursive at x ps r o ≡ Some d
+body_height : (head : FunctionStart) (ps : List ParamSyntax) (r : Option TypeSyntax) (e : State) (o : Option ExprSyntax) (d : DeclSyntax) → finish e ≡ o → body_found head ps r o ≡ Some d
     → decl_height d ≡ max (params_height ps) (max (result_height r) (whole_least e))
-body_height recursive at x ps r e (Some t) d f h =
-    let same : function_syntax (record { at = at; name = x; recursive = recursive; params = ps; result = r; body = t }) ≡ d = cc in
+body_height head ps r e (Some t) d f h =
+    let same : function_from head ps r t ≡ d = cc in
     ap decl_height (sym same) ∙ ap (λ n. max (params_height ps) (max (result_height r) n)) (expr_found_height e t f)
-body_height recursive at x ps r e None d f h = absurd cc
+body_height head ps r e None d f h = absurd cc
 
 pub decl_found_height : (st : DeclState) (d : DeclSyntax) → decl_finish st ≡ Some d → decl_height d ≡ decl_least st
 decl_found_height (HaveBase at x) d e = let same : base_syntax at x ≡ d = cc in ap decl_height (sym same)
 decl_found_height (InShort at x u) d e = short_height at x u (unit_finish u) d refl e
 decl_found_height (HaveRecord at x vs fs) d e = let same : record_decl_syntax at x vs fs ≡ d = cc in ap decl_height (sym same)
-decl_found_height (InBody recursive at x ps r b) d e = body_height recursive at x ps r b (finish b) d refl e
+decl_found_height (InBody head ps r b) d e = body_height head ps r b (finish b) d refl e
 decl_found_height (Expects expected) d e = absurd cc
 decl_found_height (InField at x vs fs place y s) d e = absurd cc
-decl_found_height (InParam recursive at x ps b s) d e = absurd cc
-decl_found_height (InResult recursive at x ps s) d e = absurd cc
+decl_found_height (InParam head ps b s) d e = absurd cc
+decl_found_height (InResult head ps s) d e = absurd cc
 decl_found_height NoDecl d e = absurd cc

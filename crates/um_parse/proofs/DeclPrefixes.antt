@@ -13,7 +13,7 @@ use Rattle.um_expr.specs.ExprTokens.{equal, less, greater}
 use Rattle.um_expr.specs.ExprGrammar.{First, FirstAt, BinderSpells}
 use Rattle.um_expr.specs.ExprMachine.{Refused}
 use Rattle.um_parse.specs.DeclGrammar.{Attribute, VarSpells, MoreVars, VarsSpell, FieldDeclSpells, MoreFieldDecls, FieldDeclsSpell, ParamSpells, ParamsSpell, ResultSpells, RecSpells, DeclSpells, FieldDeclsFit, ParamsFit, ResultFits}
-use Rattle.um_parse.specs.DeclMachine.{DeclExpected, DeclBegin, AttributeWord, AttributeGreater, AttributeClose, MeasureType, MeasureName, RecordName, RecordVars, VarBegin, VarWord, VarGreater, VarClose, VarName, VarEnd, RecordEqual, RecordBrace, FieldName, FieldColon, LetName, RecName, Params, ParamBinder, ParamColon, DeclState, Expects, HaveBase, InShort, HaveRecord, InField, InParam, InResult, InBody, NoDecl}
+use Rattle.um_parse.specs.DeclMachine.{FunctionStart, VarOwner, OfRecord, OfFunction, DeclExpected, DeclBegin, AttributeWord, AttributeGreater, AttributeClose, MeasureType, MeasureName, RecordName, RecordVars, VarBegin, VarWord, VarGreater, VarClose, VarName, VarEnd, RecordEqual, RecordBrace, FieldName, FieldColon, LetName, RecName, FunctionVars, Params, ParamBinder, ParamColon, DeclState, Expects, HaveBase, InShort, HaveRecord, InField, InParam, InResult, InBody, NoDecl}
 use Rattle.um_expr.proofs.ExprPrefixes.{SpellsPrefix}
 
 -- each unit parameter with the comma behind it; at least one, with commas between them
@@ -30,12 +30,23 @@ abbrev pub FieldsRead : List FieldDeclSyntax → List Token → List Token → T
 FieldsRead [] tokens rest = tokens ≡ rest
 FieldsRead (f ∷ fs) tokens rest = (mid next : List Token) × FieldDeclSpells f tokens mid × First (mark symbol.Semicolon) mid next × FieldsRead fs next rest
 
--- `type` and a name; up to the unit parameters; up to `{`
+-- `type` and a name
 abbrev pub RecordHead : ℕ → List ℕ → List Token → List Token → Type 0
 RecordHead at x tokens rest = (named : List Token) × First (word keyword.Type) tokens named × FirstAt (name x) at named rest
 
-abbrev pub VarsOpen : ℕ → List ℕ → List VarSyntax → List Token → List Token → Type 0
-VarsOpen at x vs tokens rest = (sign vars : List Token) × RecordHead at x tokens sign × First less sign vars × VarsRead vs vars rest
+-- `let`, `rec` or not, and a name
+abbrev pub FunctionNamed : Bool → ℕ → List ℕ → List Token → List Token → Type 0
+FunctionNamed recursive at x tokens rest =
+    (behind named : List Token) × First (word keyword.Let) tokens behind × RecSpells recursive behind named × FirstAt (name x) at named rest
+
+-- a record or a function up to its name
+abbrev pub OwnerReads : VarOwner → List Token → List Token → Type 0
+OwnerReads (OfRecord at x) tokens rest = RecordHead at x tokens rest
+OwnerReads (OfFunction recursive at x) tokens rest = FunctionNamed recursive at x tokens rest
+
+-- up to a unit parameter; a record up to `{`
+abbrev pub VarsOpen : VarOwner → List VarSyntax → List Token → List Token → Type 0
+VarsOpen owner vs tokens rest = (sign vars : List Token) × OwnerReads owner tokens sign × First less sign vars × VarsRead vs vars rest
 
 abbrev pub RecordOpens : ℕ → List ℕ → List VarSyntax → List Token → List Token → Type 0
 RecordOpens at x vs tokens rest = (vars sign brace : List Token) × RecordHead at x tokens vars × VarsSpell vs vars sign × First equal sign brace × First (mark symbol.LeftBrace) brace rest
@@ -44,10 +55,10 @@ RecordOpens at x vs tokens rest = (vars sign brace : List Token) × RecordHead a
 abbrev pub MeasureReads : ℕ → List ℕ → List Token → List Token → Type 0
 MeasureReads at x tokens rest = (behind named : List Token) × Attribute tokens behind × First (word keyword.Type) behind named × FirstAt (name x) at named rest
 
--- `let`, `rec` or not, a name and parameters
-abbrev pub FunctionHead : Bool → ℕ → List ℕ → List ParamSyntax → List Token → List Token → Type 0
-FunctionHead recursive at x ps tokens rest =
-    (behind named params : List Token) × First (word keyword.Let) tokens behind × RecSpells recursive behind named × FirstAt (name x) at named params × ParamsSpell ps params rest
+-- `let`, `rec` or not, a name, unit parameters and parameters
+abbrev pub FunctionHead : FunctionStart → List ParamSyntax → List Token → List Token → Type 0
+FunctionHead head ps tokens rest =
+    (units params : List Token) × FunctionNamed head.recursive head.at head.name tokens units × VarsSpell head.units units params × ParamsSpell ps params rest
 
 abbrev pub ExpectedReads : DeclExpected → List Token → List Token → Type 0
 ExpectedReads DeclBegin tokens rest = tokens ≡ rest
@@ -58,29 +69,30 @@ ExpectedReads MeasureType tokens rest = Attribute tokens rest
 ExpectedReads MeasureName tokens rest = (a : List Token) × Attribute tokens a × First (word keyword.Type) a rest
 ExpectedReads RecordName tokens rest = First (word keyword.Type) tokens rest
 ExpectedReads (RecordVars at x) tokens rest = RecordHead at x tokens rest
-ExpectedReads (VarBegin at x vs) tokens rest = VarsOpen at x vs tokens rest
-ExpectedReads (VarWord at x vs) tokens rest = (c : List Token) × VarsOpen at x vs tokens c × First (mark symbol.AttributeOpen) c rest
-ExpectedReads (VarGreater at x vs) tokens rest = (c d : List Token) × VarsOpen at x vs tokens c × First (mark symbol.AttributeOpen) c d × First (word keyword.Measure) d rest
-ExpectedReads (VarClose at x vs) tokens rest =
-    (c d e : List Token) × VarsOpen at x vs tokens c × First (mark symbol.AttributeOpen) c d × First (word keyword.Measure) d e × First greater e rest
-ExpectedReads (VarName at x vs) tokens rest = (c : List Token) × VarsOpen at x vs tokens c × Attribute c rest
-ExpectedReads (VarEnd at x vs) tokens rest = (sign vars : List Token) × RecordHead at x tokens sign × First less sign vars × VarsBetween vs vars rest
+ExpectedReads (VarBegin owner vs) tokens rest = VarsOpen owner vs tokens rest
+ExpectedReads (VarWord owner vs) tokens rest = (c : List Token) × VarsOpen owner vs tokens c × First (mark symbol.AttributeOpen) c rest
+ExpectedReads (VarGreater owner vs) tokens rest = (c d : List Token) × VarsOpen owner vs tokens c × First (mark symbol.AttributeOpen) c d × First (word keyword.Measure) d rest
+ExpectedReads (VarClose owner vs) tokens rest =
+    (c d e : List Token) × VarsOpen owner vs tokens c × First (mark symbol.AttributeOpen) c d × First (word keyword.Measure) d e × First greater e rest
+ExpectedReads (VarName owner vs) tokens rest = (c : List Token) × VarsOpen owner vs tokens c × Attribute c rest
+ExpectedReads (VarEnd owner vs) tokens rest = (sign vars : List Token) × OwnerReads owner tokens sign × First less sign vars × VarsBetween vs vars rest
 ExpectedReads (RecordEqual at x vs) tokens rest = (vars : List Token) × RecordHead at x tokens vars × VarsSpell vs vars rest
 ExpectedReads (RecordBrace at x vs) tokens rest = (vars sign : List Token) × RecordHead at x tokens vars × VarsSpell vs vars sign × First equal sign rest
 ExpectedReads (FieldName at x vs fs) tokens rest = (fields : List Token) × RecordOpens at x vs tokens fields × FieldsRead fs fields rest
 ExpectedReads (FieldColon at x vs fs place y) tokens rest = (fields named : List Token) × RecordOpens at x vs tokens fields × FieldsRead fs fields named × FirstAt (name y) place named rest
 ExpectedReads LetName tokens rest = First (word keyword.Let) tokens rest
 ExpectedReads RecName tokens rest = (a : List Token) × First (word keyword.Let) tokens a × First (word keyword.Rec) a rest
-ExpectedReads (Params recursive at x ps) tokens rest = FunctionHead recursive at x ps tokens rest
-ExpectedReads (ParamBinder recursive at x ps) tokens rest = (d : List Token) × FunctionHead recursive at x ps tokens d × First (mark symbol.LeftParen) d rest
-ExpectedReads (ParamColon recursive at x ps b) tokens rest = (d e : List Token) × FunctionHead recursive at x ps tokens d × First (mark symbol.LeftParen) d e × BinderSpells b e rest
+ExpectedReads (FunctionVars recursive at x) tokens rest = FunctionNamed recursive at x tokens rest
+ExpectedReads (Params head ps) tokens rest = FunctionHead head ps tokens rest
+ExpectedReads (ParamBinder head ps) tokens rest = (d : List Token) × FunctionHead head ps tokens d × First (mark symbol.LeftParen) d rest
+ExpectedReads (ParamColon head ps b) tokens rest = (d e : List Token) × FunctionHead head ps tokens d × First (mark symbol.LeftParen) d e × BinderSpells b e rest
 
 abbrev pub ExpectedFits : DeclExpected → Type 0
 ExpectedFits (FieldName at x vs fs) = FieldDeclsFit fs
 ExpectedFits (FieldColon at x vs fs place y) = FieldDeclsFit fs
-ExpectedFits (Params recursive at x ps) = ParamsFit ps
-ExpectedFits (ParamBinder recursive at x ps) = ParamsFit ps
-ExpectedFits (ParamColon recursive at x ps b) = ParamsFit ps
+ExpectedFits (Params head ps) = ParamsFit ps
+ExpectedFits (ParamBinder head ps) = ParamsFit ps
+ExpectedFits (ParamColon head ps b) = ParamsFit ps
 ExpectedFits _ = Unit {0}
 
 -- the tokens up to the rest are those of the state, and what stands in it fits
@@ -93,13 +105,13 @@ DeclSpellsPrefix (HaveRecord at x vs fs) tokens rest = DeclSpells (record_decl_s
 DeclSpellsPrefix (InField at x vs fs place y s) tokens rest =
     (fields named colon next : List Token) × RecordOpens at x vs tokens fields × FieldsRead fs fields named × FirstAt (name y) place named colon × First (mark symbol.Colon) colon next
     × TypeSpellsPrefix s next rest × FieldDeclsFit fs × (s ≢ NoType)
-DeclSpellsPrefix (InParam recursive at x ps b s) tokens rest =
-    (d e colon next : List Token) × FunctionHead recursive at x ps tokens d × First (mark symbol.LeftParen) d e × BinderSpells b e colon × First (mark symbol.Colon) colon next
+DeclSpellsPrefix (InParam head ps b s) tokens rest =
+    (d e colon next : List Token) × FunctionHead head ps tokens d × First (mark symbol.LeftParen) d e × BinderSpells b e colon × First (mark symbol.Colon) colon next
     × TypeSpellsPrefix s next rest × ParamsFit ps × (s ≢ NoType)
-DeclSpellsPrefix (InResult recursive at x ps s) tokens rest =
-    (d next : List Token) × FunctionHead recursive at x ps tokens d × First (mark symbol.Colon) d next × TypeSpellsPrefix s next rest × ParamsFit ps × (s ≢ NoType)
-DeclSpellsPrefix (InBody recursive at x ps r e) tokens rest =
-    (d sign next : List Token) × FunctionHead recursive at x ps tokens d × ResultSpells r d sign × First equal sign next × SpellsPrefix e next rest × ParamsFit ps × ResultFits recursive r × (e ≢ Refused)
+DeclSpellsPrefix (InResult head ps s) tokens rest =
+    (d next : List Token) × FunctionHead head ps tokens d × First (mark symbol.Colon) d next × TypeSpellsPrefix s next rest × ParamsFit ps × (s ≢ NoType)
+DeclSpellsPrefix (InBody head ps r e) tokens rest =
+    (d sign next : List Token) × FunctionHead head ps tokens d × ResultSpells r d sign × First equal sign next × SpellsPrefix e next rest × ParamsFit ps × ResultFits head.recursive r × (e ≢ Refused)
 DeclSpellsPrefix NoDecl tokens rest = Unit {0}
 
 -- ---- one part more
@@ -150,6 +162,6 @@ params_fit [] p h fits = (fits, tt)
 params_fit (q ∷ qs) p h fits = (h.0, params_fit qs p h.1 fits)
 
 -- the head with one parameter more
-pub head_last : (recursive : Bool) (at : ℕ) (x : List ℕ) (ps : List ParamSyntax) (p : ParamSyntax) (tokens mid rest : List Token) → FunctionHead recursive at x ps tokens mid → ParamSpells p mid rest
-    → FunctionHead recursive at x (ps ++ p ∷ []) tokens rest
-head_last recursive at x ps p tokens mid rest h s = (h.0, h.1, h.2, h.3, h.4, h.5, params_last ps p h.2 mid rest h.6 s)
+pub head_last : (head : FunctionStart) (ps : List ParamSyntax) (p : ParamSyntax) (tokens mid rest : List Token) → FunctionHead head ps tokens mid → ParamSpells p mid rest
+    → FunctionHead head (ps ++ p ∷ []) tokens rest
+head_last head ps p tokens mid rest h s = (h.0, h.1, h.2, h.3, params_last ps p h.1 mid rest h.4 s)

@@ -11,7 +11,7 @@ use Rattle.um_parse.specs.ProgramHeights.{decl_height}
 use Rattle.um_parse.specs.ProgramLeast.{expected_least, decl_least}
 use Rattle.um_parse.specs.DeclViews.{view_measure, view_var, view_expected}
 use Rattle.um_parse.specs.DeclTakes.{reader_state, DeclTakes}
-use Rattle.um_parse.specs.declared.decl_prefix.RecordHead.{RecordHead}
+use Rattle.um_parse.specs.declared.decl_prefix.VarsPrefix.{VarsPrefix}
 use Rattle.um_parse.specs.declared.decl_reader.DeclStep.{DeclStep}
 use Rattle.um_parse.specs.declared.decl_prefix.MeasureExpected.{MeasureExpected}
 use Rattle.um_parse.specs.declared.decl_prefix.MeasureExpected.TheVariants as measure
@@ -32,7 +32,7 @@ measure_low measure.Close = omega arith
 measure_low measure.Type = omega arith
 measure_low measure.Name = omega arith
 
-var_low : (h : RecordHead) (v : VarExpected) → expected_least (view_var h v) ≤ greatest_height
+var_low : (h : VarsPrefix) (v : VarExpected) → expected_least (view_var h v) ≤ greatest_height
 var_low h var.Begin = omega arith
 var_low h var.Word = omega arith
 var_low h var.Greater = omega arith
@@ -52,6 +52,7 @@ expected_low (expected.FieldName f) = omega (arith, f.low)
 expected_low (expected.FieldColon f p y) = omega (arith, f.low)
 expected_low expected.LetName = omega arith
 expected_low expected.RecName = omega arith
+expected_low (expected.FunctionVars recursive at x) = omega arith
 expected_low (expected.Params f) = omega (arith, f.low)
 expected_low (expected.ParamBinder f) = omega (arith, f.low)
 expected_low (expected.ParamColon f b) = omega (arith, f.low)

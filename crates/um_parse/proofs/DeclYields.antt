@@ -23,7 +23,7 @@ use Rattle.um_expr.specs.ExprTokens.{expr_token, greater}
 use Rattle.um_expr.specs.ExprGrammar.{First, FirstAt, bound, BinderSpells, Spells, Fits}
 use Rattle.um_expr.specs.ExprMachine.{State, Need, Have, HavePower, Greater, Inside, InNote, InType, Refused, step}
 use Rattle.um_parse.specs.DeclGrammar.{Attribute}
-use Rattle.um_parse.specs.DeclMachine.{DeclState, InShort, InField, InParam, InResult, InBody, short_goes, field_goes, param_goes, result_goes, body_goes, field_ends, param_ends, result_ends, decl_act, decl_step}
+use Rattle.um_parse.specs.DeclMachine.{FunctionStart, DeclState, InShort, InField, InParam, InResult, InBody, short_goes, field_goes, param_goes, result_goes, body_goes, field_ends, param_ends, result_ends, decl_act, decl_step}
 use Rattle.um_expr.proofs.ExprEnds.{opened, last_atom}
 use Rattle.um_expr.proofs.ExprAtEnd.{at_end}
 use Rattle.um_expr.proofs.ExprLaws.{expr_reaches}
@@ -80,11 +80,11 @@ pub yields_unit : (at : ℕ) (x : List ℕ) (u : UnitSyntax) (tokens rest : List
 yields_unit at x u tokens rest s fits =
     let r = unit_reaches u tokens rest s fits in (r.0, r.1, lift unit_step NoUnit (λ t. refl) decl_step (λ w. InShort at x w) (short_inside at x) r.0 (NeedUnit []) (unit_into [] u) r.2 r.3)
 
-body_inside : (recursive : Bool) (at : ℕ) (x : List ℕ) (ps : List ParamSyntax) (r : Option TypeSyntax) (e new : State) (token : Token) → step e token ≡ new → new ≢ Refused
-    → decl_step (InBody recursive at x ps r e) token ≡ InBody recursive at x ps r new
-body_inside recursive at x ps r e new token same ok = ap (body_goes recursive at x ps r) same ∙ body_on new ok
+body_inside : (head : FunctionStart) (ps : List ParamSyntax) (r : Option TypeSyntax) (e new : State) (token : Token) → step e token ≡ new → new ≢ Refused
+    → decl_step (InBody head ps r e) token ≡ InBody head ps r new
+body_inside head ps r e new token same ok = ap (body_goes head ps r) same ∙ body_on new ok
   where
-    body_on : (w : State) → w ≢ Refused → body_goes recursive at x ps r w ≡ InBody recursive at x ps r w
+    body_on : (w : State) → w ≢ Refused → body_goes head ps r w ≡ InBody head ps r w
     body_on (Need frames) h = refl
     body_on (Have frames t) h = refl
     body_on (HavePower frames t) h = refl
@@ -94,11 +94,11 @@ body_inside recursive at x ps r e new token same ok = ap (body_goes recursive at
     body_on (InType frames p n) h = refl
     body_on Refused h = absurd (h refl)
 
-pub yields_body : (recursive : Bool) (at : ℕ) (x : List ℕ) (ps : List ParamSyntax) (r : Option TypeSyntax) (e : ExprSyntax) (tokens rest : List Token) → Spells e tokens rest → Fits e
-    → (b : Bool) × Yields decl_step (InBody recursive at x ps r (Need [])) tokens (InBody recursive at x ps r (at_end b (opened [] e) (last_atom e))) rest
-yields_body recursive at x ps r e tokens rest s fits =
+pub yields_body : (head : FunctionStart) (ps : List ParamSyntax) (r : Option TypeSyntax) (e : ExprSyntax) (tokens rest : List Token) → Spells e tokens rest → Fits e
+    → (b : Bool) × Yields decl_step (InBody head ps r (Need [])) tokens (InBody head ps r (at_end b (opened [] e) (last_atom e))) rest
+yields_body head ps r e tokens rest s fits =
     let p = expr_reaches e tokens rest s fits in
-    (p.2, (p.0, p.1, lift step Refused (λ t. refl) decl_step (λ w. InBody recursive at x ps r w) (body_inside recursive at x ps r) p.0 (Need []) (at_end p.2 (opened [] e) (last_atom e)) p.3 p.4))
+    (p.2, (p.0, p.1, lift step Refused (λ t. refl) decl_step (λ w. InBody head ps r w) (body_inside head ps r) p.0 (Need []) (at_end p.2 (opened [] e) (last_atom e)) p.3 p.4))
 
 -- the machine of types goes on inside
 pub field_inside : (at : ℕ) (x : List ℕ) (vs : List VarSyntax) (fs : List FieldDeclSyntax) (place : ℕ) (y : List ℕ) (s new : TypeState) (token : Token) → type_step s token ≡ new → new ≢ NoType
@@ -111,21 +111,21 @@ field_inside at x vs fs place y s new token e ok = ap (λ w. field_goes at x vs 
     field_on (InTypeNote depth owner n) h = refl
     field_on NoType h = absurd (h refl)
 
-pub param_inside : (recursive : Bool) (at : ℕ) (x : List ℕ) (ps : List ParamSyntax) (b : BinderSyntax) (s new : TypeState) (token : Token) → type_step s token ≡ new → new ≢ NoType
-    → decl_step (InParam recursive at x ps b s) token ≡ InParam recursive at x ps b new
-param_inside recursive at x ps b s new token e ok = ap (λ w. param_goes recursive at x ps b w (param_ends recursive at x ps b (type_finish s) (expr_token token.kind))) e ∙ param_on new ok
+pub param_inside : (head : FunctionStart) (ps : List ParamSyntax) (b : BinderSyntax) (s new : TypeState) (token : Token) → type_step s token ≡ new → new ≢ NoType
+    → decl_step (InParam head ps b s) token ≡ InParam head ps b new
+param_inside head ps b s new token e ok = ap (λ w. param_goes head ps b w (param_ends head ps b (type_finish s) (expr_token token.kind))) e ∙ param_on new ok
   where
-    param_on : (w : TypeState) → w ≢ NoType → param_goes recursive at x ps b w (param_ends recursive at x ps b (type_finish s) (expr_token token.kind)) ≡ InParam recursive at x ps b w
+    param_on : (w : TypeState) → w ≢ NoType → param_goes head ps b w (param_ends head ps b (type_finish s) (expr_token token.kind)) ≡ InParam head ps b w
     param_on (NeedType depth) h = refl
     param_on (HaveType depth t) h = refl
     param_on (InTypeNote depth owner n) h = refl
     param_on NoType h = absurd (h refl)
 
-pub result_inside : (recursive : Bool) (at : ℕ) (x : List ℕ) (ps : List ParamSyntax) (s new : TypeState) (token : Token) → type_step s token ≡ new → new ≢ NoType
-    → decl_step (InResult recursive at x ps s) token ≡ InResult recursive at x ps new
-result_inside recursive at x ps s new token e ok = ap (λ w. result_goes recursive at x ps w (result_ends recursive at x ps (type_finish s) (expr_token token.kind))) e ∙ result_on new ok
+pub result_inside : (head : FunctionStart) (ps : List ParamSyntax) (s new : TypeState) (token : Token) → type_step s token ≡ new → new ≢ NoType
+    → decl_step (InResult head ps s) token ≡ InResult head ps new
+result_inside head ps s new token e ok = ap (λ w. result_goes head ps w (result_ends head ps (type_finish s) (expr_token token.kind))) e ∙ result_on new ok
   where
-    result_on : (w : TypeState) → w ≢ NoType → result_goes recursive at x ps w (result_ends recursive at x ps (type_finish s) (expr_token token.kind)) ≡ InResult recursive at x ps w
+    result_on : (w : TypeState) → w ≢ NoType → result_goes head ps w (result_ends head ps (type_finish s) (expr_token token.kind)) ≡ InResult head ps w
     result_on (NeedType depth) h = refl
     result_on (HaveType depth t) h = refl
     result_on (InTypeNote depth owner n) h = refl

@@ -47,11 +47,16 @@ none_passed before (record_decl_syntax at x vs fs) e =
     no_height_if (nat_lt most_fields (length fs)) limit.Fields (cond (nat_lt most_unit_parameters (length vs)) (Some limit.UnitParameters) None) (λ h. cc)
     (no_height_if (nat_lt most_unit_parameters (length vs)) limit.UnitParameters None (λ h. cc) (λ h. cc)) e
 none_passed before (function_syntax f) e =
-    no_height_if (nat_lt most_functions (before + 1)) limit.Functions
-    (cond (nat_lt most_parameters (length f.params)) (Some limit.Parameters) (cond (nat_lt most_nodes (expr_nodes f.body)) (Some limit.Nodes) None)) (λ h. cc)
+    let nodes : Option LimitKind = cond (nat_lt most_nodes (expr_nodes f.body)) (Some limit.Nodes) None in
+    let units : Option LimitKind = cond (nat_lt most_unit_parameters (length f.units)) (Some limit.UnitParameters) nodes in
+    let params : Option LimitKind = cond (nat_lt most_parameters (length f.params)) (Some limit.Parameters) units in
+    no_height_if (nat_lt most_functions (before + 1)) limit.Functions params (λ h. cc)
     (
-    no_height_if (nat_lt most_parameters (length f.params)) limit.Parameters (cond (nat_lt most_nodes (expr_nodes f.body)) (Some limit.Nodes) None) (λ h. cc)
+    no_height_if (nat_lt most_parameters (length f.params)) limit.Parameters units (λ h. cc)
+    (
+    no_height_if (nat_lt most_unit_parameters (length f.units)) limit.UnitParameters nodes (λ h. cc)
     (no_height_if (nat_lt most_nodes (expr_nodes f.body)) limit.Nodes None (λ h. cc) (λ h. cc))
+    )
     ) e
 
 first_none : (o : Option LimitKind) (place at : ℕ) (later : Type 0) → o ≢ a_height → (later → ⊥) → FirstPassed o place limit.Height at later → ⊥

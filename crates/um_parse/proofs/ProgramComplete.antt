@@ -18,7 +18,7 @@ use Rattle.um_expr.specs.declared.token.ExprToken.TheVariants.{Word as word, Mar
 use Rattle.um_expr.specs.ExprTokens.{expr_token}
 use Rattle.um_expr.specs.ExprMachine.{Frame, Refused, act}
 use Rattle.um_parse.specs.DeclGrammar.{DeclSpells, DeclsSpell, DeclFits, DeclsFit, IsProgram}
-use Rattle.um_parse.specs.DeclMachine.{DeclBegin, DeclState, Expects, HaveBase, InShort, HaveRecord, InField, InParam, InResult, InBody, NoDecl, base_after, short_goes, body_goes, decl_step, decl_finish, ProgramState, InProgram, NoProgram, program_goes, next_decl, program_step, program_found, program_finish}
+use Rattle.um_parse.specs.DeclMachine.{start_of, DeclBegin, DeclState, Expects, HaveBase, InShort, HaveRecord, InField, InParam, InResult, InBody, NoDecl, base_after, short_goes, body_goes, decl_step, decl_finish, ProgramState, InProgram, NoProgram, program_goes, next_decl, program_step, program_found, program_finish}
 use Rattle.um_parse.specs.ProgramStops.{Begins}
 use Rattle.um_parse.specs.ProgramStates.{start}
 use Rattle.um_expr.proofs.ExprTokenKinds.{begins_decl, decl_is_foreign}
@@ -49,7 +49,7 @@ decl_stops b (short_syntax at x u) token h =
     ap (short_goes at x) (foreign_refused (unit_into [] u) (unit_token token.kind) token.start (decl_is_foreign token.kind h))
 decl_stops b (record_decl_syntax at x vs fs) token h = refl
 decl_stops b (function_syntax f) token h =
-    ap (body_goes f.recursive f.at f.name f.params f.result) (expr_stops b (opened [] f.body) (last_atom f.body) (expr_token token.kind) token.start token.glued token.kind h)
+    ap (body_goes (start_of f) f.params f.result) (expr_stops b (opened [] f.body) (last_atom f.body) (expr_token token.kind) token.start token.glued token.kind h)
 
 -- ---- declarations one behind the other
 
@@ -59,9 +59,9 @@ goes_on decls (HaveBase at x) over ok = refl
 goes_on decls (InShort at x u) over ok = refl
 goes_on decls (HaveRecord at x vs fs) over ok = refl
 goes_on decls (InField at x vs fs place y s) over ok = refl
-goes_on decls (InParam recursive at x ps b s) over ok = refl
-goes_on decls (InResult recursive at x ps s) over ok = refl
-goes_on decls (InBody recursive at x ps r e) over ok = refl
+goes_on decls (InParam head ps b s) over ok = refl
+goes_on decls (InResult head ps s) over ok = refl
+goes_on decls (InBody head ps r e) over ok = refl
 goes_on decls NoDecl over ok = absurd (ok refl)
 
 decl_inside : (decls : List DeclSyntax) (d new : DeclState) (token : Token) → decl_step d token ≡ new → new ≢ NoDecl → program_step (InProgram decls d) token ≡ InProgram decls new

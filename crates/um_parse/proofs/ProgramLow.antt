@@ -41,9 +41,9 @@ goes_up decls low (HaveBase at x) over ok up next = up (λ e. cc)
 goes_up decls low (InShort at x u) over ok up next = up (λ e. cc)
 goes_up decls low (HaveRecord at x vs fs) over ok up next = up (λ e. cc)
 goes_up decls low (InField at x vs fs place y s) over ok up next = up (λ e. cc)
-goes_up decls low (InParam recursive at x ps b s) over ok up next = up (λ e. cc)
-goes_up decls low (InResult recursive at x ps s) over ok up next = up (λ e. cc)
-goes_up decls low (InBody recursive at x ps r e) over ok up next = up (λ e. cc)
+goes_up decls low (InParam head ps b s) over ok up next = up (λ e. cc)
+goes_up decls low (InResult head ps s) over ok up next = up (λ e. cc)
+goes_up decls low (InBody head ps r e) over ok up next = up (λ e. cc)
 goes_up decls low NoDecl over ok up next = next ok
 
 next_up : (decls : List DeclSyntax) (d : DeclState) (found : Option DeclSyntax) (begun : DeclState) → decl_finish d ≡ found → next_decl decls found begun ≢ NoProgram
@@ -85,10 +85,10 @@ found_height (InProgram decls (Expects DeclBegin)) ds e = let same : decls ≡ d
 found_height (InProgram decls (HaveBase at x)) ds e = found_last decls (HaveBase at x) (decl_finish (HaveBase at x)) ds refl e
 found_height (InProgram decls (InShort at x u)) ds e = found_last decls (InShort at x u) (decl_finish (InShort at x u)) ds refl e
 found_height (InProgram decls (HaveRecord at x vs fs)) ds e = found_last decls (HaveRecord at x vs fs) (decl_finish (HaveRecord at x vs fs)) ds refl e
-found_height (InProgram decls (InBody recursive at x ps r b)) ds e = found_last decls (InBody recursive at x ps r b) (decl_finish (InBody recursive at x ps r b)) ds refl e
+found_height (InProgram decls (InBody head ps r b)) ds e = found_last decls (InBody head ps r b) (decl_finish (InBody head ps r b)) ds refl e
 found_height (InProgram decls (InField at x vs fs place y s)) ds e = absurd cc
-found_height (InProgram decls (InParam recursive at x ps b s)) ds e = absurd cc
-found_height (InProgram decls (InResult recursive at x ps s)) ds e = absurd cc
+found_height (InProgram decls (InParam head ps b s)) ds e = absurd cc
+found_height (InProgram decls (InResult head ps s)) ds e = absurd cc
 found_height (InProgram decls NoDecl) ds e = absurd cc
 found_height (InProgram decls (Expects _)) ds e = absurd cc
 found_height NoProgram ds e = absurd cc

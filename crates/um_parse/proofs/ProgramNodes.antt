@@ -4,7 +4,7 @@ use Rattle.std.proofs.lemmas.List.{length-append}
 use Rattle.um_syntax.specs.declared.token.Token.{Token}
 use Rattle.um_tree.specs.declared.expression.Sign.{Sign}
 use Rattle.um_tree.specs.declared.expression.Sign.TheVariants as compare
-use Rattle.um_tree.specs.RawTree.{NoteSyntax, TypeSyntax, BinderSyntax, ExprSyntax, ExprSyntaxes, FieldSyntaxes, truth_syntax, number_syntax, name_syntax, call_syntax, negate_syntax, not_syntax, pown_syntax, arith_syntax, compare_syntax, and_syntax, or_syntax, if_syntax, let_syntax, match_syntax, nil_syntax, list_syntax, cons_syntax, fields_syntax, field_syntax, bracket_expr_syntax, no_exprs, more_exprs, no_fields, more_fields, ParamSyntax, DeclSyntax, base_syntax, short_syntax, record_decl_syntax, function_syntax}
+use Rattle.um_tree.specs.RawTree.{VarSyntax, NoteSyntax, TypeSyntax, BinderSyntax, ExprSyntax, ExprSyntaxes, FieldSyntaxes, truth_syntax, number_syntax, name_syntax, call_syntax, negate_syntax, not_syntax, pown_syntax, arith_syntax, compare_syntax, and_syntax, or_syntax, if_syntax, let_syntax, match_syntax, nil_syntax, list_syntax, cons_syntax, fields_syntax, field_syntax, bracket_expr_syntax, no_exprs, more_exprs, no_fields, more_fields, ParamSyntax, DeclSyntax, base_syntax, short_syntax, record_decl_syntax, function_syntax}
 use Rattle.um_tree.specs.Heights.{expr_nodes, all_expr_nodes, all_field_nodes}
 use Rattle.um_types.specs.TypeGrammar.{NoteSpells, NoteFits, TypeSpells, TypeFits}
 use Rattle.um_types.proofs.NoteComplete.{note_reaches}
@@ -16,7 +16,7 @@ use Rattle.um_expr.specs.declared.infix.Infix.TheVariants as between
 use Rattle.um_expr.specs.declared.token.ExprToken.{ExprToken}
 use Rattle.um_expr.specs.declared.token.ExprToken.TheVariants.{Word as word, Mark as mark}
 use Rattle.um_expr.specs.ExprGrammar.{First, FirstAt, FirstGlued, InfixAt, PowerSpells, WrittenNote, EmptyArm, FullArm, Spells, AllSpell, ItemsSpell, MoreItems, FieldsSpell, MoreFields, NoteFitsIn, Fits, AreAtoms, AllFit, FieldsFit}
-use Rattle.um_parse.specs.DeclGrammar.{ParamsSpell, ResultSpells, RecSpells, DeclSpells, DeclsSpell, ParamsFit, ResultFits, DeclFits, DeclsFit, IsProgram}
+use Rattle.um_parse.specs.DeclGrammar.{Attribute, VarSpells, MoreVars, VarsSpell, ParamsSpell, ResultSpells, RecSpells, DeclSpells, DeclsSpell, ParamsFit, ResultFits, DeclFits, DeclsFit, IsProgram}
 use Rattle.um_parse.specs.ProgramNodes.{decl_nodes, program_nodes}
 use Rattle.um_parse.proofs.DeclComplete.{decl_yields}
 
@@ -256,6 +256,37 @@ rec_less : (recursive : Bool) (tokens rest : List Token) → RecSpells recursive
 rec_less false tokens rest s = let e : length tokens ≡ length rest = ap length s in omega (arith, e)
 rec_less true tokens rest s = let e = first_less _ tokens rest s in omega (arith, e)
 
+attribute_less : (tokens rest : List Token) → Attribute tokens rest → length rest ≤ length tokens
+attribute_less tokens rest s =
+    let a = first_less _ tokens s.0 s.3 in
+    let b = first_less _ s.0 s.1 s.4 in
+    let c = first_less _ s.1 s.2 s.5 in
+    let d = first_less _ s.2 rest s.6 in
+    omega (arith, a, b, c, d)
+
+var_less : (v : VarSyntax) (tokens rest : List Token) → VarSpells v tokens rest → length rest ≤ length tokens
+var_less v tokens rest s =
+    let a = attribute_less tokens s.0 s.1 in
+    let b = at_less _ v.at s.0 rest s.2 in
+    omega (arith, a, b)
+
+more_vars_less : (vs : List VarSyntax) (tokens rest : List Token) → MoreVars vs tokens rest → length rest ≤ length tokens
+more_vars_less [] tokens rest s = let e : length tokens ≡ length rest = ap length s in omega (arith, e)
+more_vars_less (v ∷ vs) tokens rest s =
+    let a = first_less _ tokens s.0 s.2 in
+    let b = var_less v s.0 s.1 s.3 in
+    let c = more_vars_less vs s.1 rest s.4 in
+    omega (arith, a, b, c)
+
+vars_less : (vs : List VarSyntax) (tokens rest : List Token) → VarsSpell vs tokens rest → length rest ≤ length tokens
+vars_less [] tokens rest s = let e : length tokens ≡ length rest = ap length s in omega (arith, e)
+vars_less (v ∷ vs) tokens rest s =
+    let a = first_less _ tokens s.0 s.3 in
+    let b = var_less v s.0 s.1 s.4 in
+    let c = more_vars_less vs s.1 s.2 s.5 in
+    let d = first_less _ s.2 rest s.6 in
+    omega (arith, a, b, c, d)
+
 other_less : (d : DeclSyntax) (tokens rest : List Token) → DeclSpells d tokens rest → DeclFits d → length rest ≤ length tokens
 other_less d tokens rest s fits = let p = decl_yields d tokens rest s fits in let y = p.1 in no_longer y.0 tokens rest y.1
 
@@ -264,14 +295,15 @@ decl_fits (base_syntax at x) tokens rest s fits = let e = other_less (base_synta
 decl_fits (short_syntax at x u) tokens rest s fits = let e = other_less (short_syntax at x u) tokens rest s fits in omega (arith, e)
 decl_fits (record_decl_syntax at x vs fs) tokens rest s fits = let e = other_less (record_decl_syntax at x vs fs) tokens rest s fits in omega (arith, e)
 decl_fits (function_syntax f) tokens rest s fits =
-    let a = first_less _ tokens s.0 s.6 in
-    let b = rec_less f.recursive s.0 s.1 s.7 in
-    let c = at_less _ f.at s.1 s.2 s.8 in
-    let d = params_less f.params s.2 s.3 s.9 fits.0 in
-    let e = result_less f.recursive f.result s.3 s.4 s.10 fits.1 in
-    let g = first_less _ s.4 s.5 s.11 in
-    let h = fits_nodes f.body s.5 rest s.12 fits.2 in
-    omega (arith, a, b, c, d, e, g, h)
+    let a = first_less _ tokens s.0 s.7 in
+    let b = rec_less f.recursive s.0 s.1 s.8 in
+    let c = at_less _ f.at s.1 s.2 s.9 in
+    let v = vars_less f.units s.2 s.3 s.10 in
+    let d = params_less f.params s.3 s.4 s.11 fits.0 in
+    let e = result_less f.recursive f.result s.4 s.5 s.12 fits.1 in
+    let g = first_less _ s.5 s.6 s.13 in
+    let h = fits_nodes f.body s.6 rest s.14 fits.2 in
+    omega (arith, a, b, c, v, d, e, g, h)
 
 decls_fit : (ds : List DeclSyntax) (tokens rest : List Token) → DeclsSpell ds tokens rest → DeclsFit ds → program_nodes ds + length rest ≤ length tokens
 decls_fit [] tokens rest s fits = let e : length tokens ≡ length rest = ap length s in omega (arith, e)

@@ -31,9 +31,9 @@ goes_sound decls (HaveBase at x) over tokens mid rest s f h o = (mid, s, f, h, �
 goes_sound decls (InShort at x u) over tokens mid rest s f h o = (mid, s, f, h, λ e. cc)
 goes_sound decls (HaveRecord at x vs fs) over tokens mid rest s f h o = (mid, s, f, h, λ e. cc)
 goes_sound decls (InField at x vs fs place y t) over tokens mid rest s f h o = (mid, s, f, h, λ e. cc)
-goes_sound decls (InParam recursive at x ps b t) over tokens mid rest s f h o = (mid, s, f, h, λ e. cc)
-goes_sound decls (InResult recursive at x ps t) over tokens mid rest s f h o = (mid, s, f, h, λ e. cc)
-goes_sound decls (InBody recursive at x ps r t) over tokens mid rest s f h o = (mid, s, f, h, λ e. cc)
+goes_sound decls (InParam head ps b t) over tokens mid rest s f h o = (mid, s, f, h, λ e. cc)
+goes_sound decls (InResult head ps t) over tokens mid rest s f h o = (mid, s, f, h, λ e. cc)
+goes_sound decls (InBody head ps r t) over tokens mid rest s f h o = (mid, s, f, h, λ e. cc)
 goes_sound decls NoDecl over tokens mid rest s f h o = o
 
 next_sound : (decls : List DeclSyntax) (d : DeclState) (found : Option DeclSyntax) (x : Token) (tokens mid rest : List Token) → DeclsSpell decls tokens mid → DeclsFit decls → DeclSpellsPrefix d mid (x ∷ rest)
@@ -109,10 +109,10 @@ program_is (InProgram decls (Expects DeclBegin)) ds tokens rest h e =
 program_is (InProgram decls (HaveBase at x)) ds tokens rest h e = decls_found decls (HaveBase at x) ds tokens rest h e
 program_is (InProgram decls (InShort at x u)) ds tokens rest h e = decls_found decls (InShort at x u) ds tokens rest h e
 program_is (InProgram decls (HaveRecord at x vs fs)) ds tokens rest h e = decls_found decls (HaveRecord at x vs fs) ds tokens rest h e
-program_is (InProgram decls (InBody recursive at x ps r b)) ds tokens rest h e = decls_found decls (InBody recursive at x ps r b) ds tokens rest h e
+program_is (InProgram decls (InBody head ps r b)) ds tokens rest h e = decls_found decls (InBody head ps r b) ds tokens rest h e
 program_is (InProgram decls (InField at x vs fs place y s)) ds tokens rest h e = absurd cc
-program_is (InProgram decls (InParam recursive at x ps b s)) ds tokens rest h e = absurd cc
-program_is (InProgram decls (InResult recursive at x ps s)) ds tokens rest h e = absurd cc
+program_is (InProgram decls (InParam head ps b s)) ds tokens rest h e = absurd cc
+program_is (InProgram decls (InResult head ps s)) ds tokens rest h e = absurd cc
 program_is (InProgram decls NoDecl) ds tokens rest h e = absurd cc
 program_is (InProgram decls (Expects _)) ds tokens rest h e = absurd cc
 program_is NoProgram ds tokens rest h e = absurd cc

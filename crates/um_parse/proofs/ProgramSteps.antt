@@ -7,7 +7,7 @@ use Rattle.um_tree.specs.RawTree.{DeclSyntax, decl_syntax}
 use Rattle.um_types.specs.Machines.{runs}
 use Rattle.um_types.proofs.Reaching.{runs_append}
 use Rattle.um_types.specs.UnitStops.{greatest_height}
-use Rattle.um_parse.specs.DeclMachine.{DeclBegin, AttributeWord, AttributeGreater, AttributeClose, MeasureType, MeasureName, RecordName, RecordVars, VarBegin, VarWord, VarGreater, VarClose, VarName, VarEnd, RecordEqual, RecordBrace, FieldName, FieldColon, LetName, RecName, Params, ParamBinder, ParamColon, DeclState, Expects, HaveBase, InShort, HaveRecord, InField, InParam, InResult, InBody, NoDecl, decl_finish, ProgramState, InProgram, NoProgram, program_goes, program_step, program_found, program_finish}
+use Rattle.um_parse.specs.DeclMachine.{DeclBegin, AttributeWord, AttributeGreater, AttributeClose, MeasureType, MeasureName, RecordName, RecordVars, VarBegin, VarWord, VarGreater, VarClose, VarName, VarEnd, RecordEqual, RecordBrace, FieldName, FieldColon, LetName, RecName, FunctionVars, Params, ParamBinder, ParamColon, DeclState, Expects, HaveBase, InShort, HaveRecord, InField, InParam, InResult, InBody, NoDecl, decl_finish, ProgramState, InProgram, NoProgram, program_goes, program_step, program_found, program_finish}
 use Rattle.um_parse.specs.ProgramHeights.{decl_height, program_height}
 use Rattle.um_parse.specs.ProgramLeast.{decl_least, program_least}
 use Rattle.um_parse.specs.ProgramStates.{start, state_at, IsReadTo}
@@ -23,9 +23,9 @@ program_on decls (HaveBase at x) ended ok = refl
 program_on decls (InShort at x u) ended ok = refl
 program_on decls (HaveRecord at x vs fs) ended ok = refl
 program_on decls (InField at x vs fs place y s) ended ok = refl
-program_on decls (InParam recursive at x ps b s) ended ok = refl
-program_on decls (InResult recursive at x ps s) ended ok = refl
-program_on decls (InBody recursive at x ps r e) ended ok = refl
+program_on decls (InParam head ps b s) ended ok = refl
+program_on decls (InResult head ps s) ended ok = refl
+program_on decls (InBody head ps r e) ended ok = refl
 program_on decls NoDecl ended ok = absurd (ok refl)
 
 -- the declaration goes on
@@ -78,28 +78,29 @@ found_with decls (Expects MeasureType) later = refl
 found_with decls (Expects MeasureName) later = refl
 found_with decls (Expects RecordName) later = refl
 found_with decls (Expects (RecordVars at x)) later = refl
-found_with decls (Expects (VarBegin at x vs)) later = refl
-found_with decls (Expects (VarWord at x vs)) later = refl
-found_with decls (Expects (VarGreater at x vs)) later = refl
-found_with decls (Expects (VarClose at x vs)) later = refl
-found_with decls (Expects (VarName at x vs)) later = refl
-found_with decls (Expects (VarEnd at x vs)) later = refl
+found_with decls (Expects (VarBegin owner vs)) later = refl
+found_with decls (Expects (VarWord owner vs)) later = refl
+found_with decls (Expects (VarGreater owner vs)) later = refl
+found_with decls (Expects (VarClose owner vs)) later = refl
+found_with decls (Expects (VarName owner vs)) later = refl
+found_with decls (Expects (VarEnd owner vs)) later = refl
 found_with decls (Expects (RecordEqual at x vs)) later = refl
 found_with decls (Expects (RecordBrace at x vs)) later = refl
 found_with decls (Expects (FieldName at x vs fs)) later = refl
 found_with decls (Expects (FieldColon at x vs fs p y)) later = refl
 found_with decls (Expects LetName) later = refl
 found_with decls (Expects RecName) later = refl
-found_with decls (Expects (Params recursive at x ps)) later = refl
-found_with decls (Expects (ParamBinder recursive at x ps)) later = refl
-found_with decls (Expects (ParamColon recursive at x ps b)) later = refl
+found_with decls (Expects (FunctionVars recursive at x)) later = refl
+found_with decls (Expects (Params head ps)) later = refl
+found_with decls (Expects (ParamBinder head ps)) later = refl
+found_with decls (Expects (ParamColon head ps b)) later = refl
 found_with decls (HaveBase at x) later = refl
 found_with decls (InShort at x u) later = refl
 found_with decls (HaveRecord at x vs fs) later = refl
 found_with decls (InField at x vs fs p y s) later = refl
-found_with decls (InParam recursive at x ps b s) later = refl
-found_with decls (InResult recursive at x ps s) later = refl
-found_with decls (InBody recursive at x ps r e) later = refl
+found_with decls (InParam head ps b s) later = refl
+found_with decls (InResult head ps s) later = refl
+found_with decls (InBody head ps r e) later = refl
 found_with decls NoDecl later = refl
 
 pub reader_found : (decls : List RawDecl) (reader : DeclReader) → at_start (reader_state reader) ≡ false → program_finish (program_state decls reader) ≡ program_found (map decl_syntax decls) (decl_finish (reader_state reader))

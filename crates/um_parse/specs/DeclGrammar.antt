@@ -3,7 +3,8 @@
 --   attribute = "[<" "Measure" ">" "]"
 --   decl      = attribute "type" Name [ "=" unit ]
 --             | "type" Name [ "<" parameter { "," parameter } ">" ] "=" "{" field { ";" field } "}"
---             | "let" [ "rec" ] Name { "(" binder ":" type ")" } [ ":" type ] "=" expr
+--             | "let" [ "rec" ] Name [ "<" parameter { "," parameter } ">" ] { "(" binder ":" type ")" }
+--               [ ":" type ] "=" expr
 --   parameter = attribute Var
 --   field     = Name ":" type
 -- A function with "rec" has a result type.
@@ -36,7 +37,7 @@ MoreVars [] tokens rest = tokens ≡ rest
 MoreVars (v ∷ vs) tokens rest =
     (next mid : List Token) × First (mark symbol.Comma) tokens next × VarSpells v next mid × MoreVars vs mid rest
 
--- the unit parameters of a record in angle brackets, or nothing where there are none
+-- unit parameters in angle brackets, or nothing where there are none
 abbrev pub VarsSpell : List VarSyntax → List Token → List Token → Type 0
 VarsSpell [] tokens rest = tokens ≡ rest
 VarsSpell (v ∷ vs) tokens rest =
@@ -81,8 +82,8 @@ RecSpells true tokens rest = First (word keyword.Rec) tokens rest
 
 abbrev pub FunctionSpells : FunctionSyntax → List Token → List Token → Type 0
 FunctionSpells f tokens rest =
-    (behind named params result sign body : List Token) × First (word keyword.Let) tokens behind
-    × RecSpells f.recursive behind named × FirstAt (name f.name) f.at named params
+    (behind named units params result sign body : List Token) × First (word keyword.Let) tokens behind
+    × RecSpells f.recursive behind named × FirstAt (name f.name) f.at named units × VarsSpell f.units units params
     × ParamsSpell f.params params result × ResultSpells f.result result sign × First equal sign body
     × Spells f.body body rest
 

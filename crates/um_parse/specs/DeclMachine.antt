@@ -8,7 +8,7 @@ use Rattle.um_syntax.specs.declared.token.Kind.{Kind}
 use Rattle.um_tree.specs.declared.expression.Sign.TheVariants as compare
 use Rattle.um_tree.specs.RawTree.{UnitSyntax, TypeSyntax, BinderSyntax, ExprSyntax, VarSyntax, FieldDeclSyntax}
 use Rattle.um_tree.specs.RawTree.{ParamSyntax, DeclSyntax, base_syntax, short_syntax, record_decl_syntax}
-use Rattle.um_tree.specs.RawTree.{function_syntax}
+use Rattle.um_tree.specs.RawTree.{FunctionSyntax, function_syntax}
 use Rattle.um_types.specs.UnitTokens.{unit_token}
 use Rattle.um_types.specs.UnitMachine.{State as UnitState, Need as NeedUnit, Refused as NoUnit, act as unit_act}
 use Rattle.um_types.specs.UnitMachine.{finish as unit_finish}
@@ -21,6 +21,21 @@ use Rattle.um_expr.specs.declared.token.ExprToken.TheVariants.{Name as name, Var
 use Rattle.um_expr.specs.declared.token.ExprToken.TheVariants.{Operator as operator, Word as word, Mark as mark}
 use Rattle.um_expr.specs.ExprTokens.{expr_token}
 use Rattle.um_expr.specs.ExprMachine.{State, Need, Refused, act, finish}
+
+-- a function up to its parameters
+pub record FunctionStart : Type 0 where
+  pub at : ℕ
+  pub name : List ℕ
+  pub recursive : Bool
+  pub units : List VarSyntax
+
+abbrev pub start_of : FunctionSyntax → FunctionStart
+start_of f = record { at = f.at; name = f.name; recursive = f.recursive; units = f.units }
+
+-- whose unit parameters are read: a record's, or a function's, with its name at its place
+pub data VarOwner : Type 0 where
+  OfRecord : (at : ℕ) (x : List ℕ) → VarOwner
+  OfFunction : (recursive : Bool) (at : ℕ) (x : List ℕ) → VarOwner
 
 -- a place inside a run of tokens that is fixed
 pub data DeclExpected : Type 0 where
@@ -35,24 +50,25 @@ pub data DeclExpected : Type 0 where
   RecordName : DeclExpected
   RecordVars : (at : ℕ) (x : List ℕ) → DeclExpected
   -- behind `<` or `,` and these parameters; `[<`; `Measure`; `>`; `]`; behind a parameter
-  VarBegin : (at : ℕ) (x : List ℕ) (vs : List VarSyntax) → DeclExpected
-  VarWord : (at : ℕ) (x : List ℕ) (vs : List VarSyntax) → DeclExpected
-  VarGreater : (at : ℕ) (x : List ℕ) (vs : List VarSyntax) → DeclExpected
-  VarClose : (at : ℕ) (x : List ℕ) (vs : List VarSyntax) → DeclExpected
-  VarName : (at : ℕ) (x : List ℕ) (vs : List VarSyntax) → DeclExpected
-  VarEnd : (at : ℕ) (x : List ℕ) (vs : List VarSyntax) → DeclExpected
+  VarBegin : (owner : VarOwner) (vs : List VarSyntax) → DeclExpected
+  VarWord : (owner : VarOwner) (vs : List VarSyntax) → DeclExpected
+  VarGreater : (owner : VarOwner) (vs : List VarSyntax) → DeclExpected
+  VarClose : (owner : VarOwner) (vs : List VarSyntax) → DeclExpected
+  VarName : (owner : VarOwner) (vs : List VarSyntax) → DeclExpected
+  VarEnd : (owner : VarOwner) (vs : List VarSyntax) → DeclExpected
   -- behind the parameters; `=`; `{` or `;` and these fields; behind a field's name
   RecordEqual : (at : ℕ) (x : List ℕ) (vs : List VarSyntax) → DeclExpected
   RecordBrace : (at : ℕ) (x : List ℕ) (vs : List VarSyntax) → DeclExpected
   FieldName : (at : ℕ) (x : List ℕ) (vs : List VarSyntax) (fs : List FieldDeclSyntax) → DeclExpected
   FieldColon : (at : ℕ) (x : List ℕ) (vs : List VarSyntax) (fs : List FieldDeclSyntax) (place : ℕ) (y : List ℕ)
       → DeclExpected
-  -- behind `let`; `rec`; the name and these parameters; `(`; behind the binder
+  -- behind `let`; `rec`; the name; the unit parameters and these parameters; `(`; behind the binder
   LetName : DeclExpected
   RecName : DeclExpected
-  Params : (recursive : Bool) (at : ℕ) (x : List ℕ) (ps : List ParamSyntax) → DeclExpected
-  ParamBinder : (recursive : Bool) (at : ℕ) (x : List ℕ) (ps : List ParamSyntax) → DeclExpected
-  ParamColon : (recursive : Bool) (at : ℕ) (x : List ℕ) (ps : List ParamSyntax) (b : BinderSyntax) → DeclExpected
+  FunctionVars : (recursive : Bool) (at : ℕ) (x : List ℕ) → DeclExpected
+  Params : (head : FunctionStart) (ps : List ParamSyntax) → DeclExpected
+  ParamBinder : (head : FunctionStart) (ps : List ParamSyntax) → DeclExpected
+  ParamColon : (head : FunctionStart) (ps : List ParamSyntax) (b : BinderSyntax) → DeclExpected
 
 pub data DeclState : Type 0 where
   Expects : (expected : DeclExpected) → DeclState
@@ -64,17 +80,36 @@ pub data DeclState : Type 0 where
   InField : (at : ℕ) (x : List ℕ) (vs : List VarSyntax) (fs : List FieldDeclSyntax) (place : ℕ) (y : List ℕ)
       (s : TypeState)
       → DeclState
-  InParam : (recursive : Bool) (at : ℕ) (x : List ℕ) (ps : List ParamSyntax) (b : BinderSyntax) (s : TypeState)
+  InParam : (head : FunctionStart) (ps : List ParamSyntax) (b : BinderSyntax) (s : TypeState)
       → DeclState
-  InResult : (recursive : Bool) (at : ℕ) (x : List ℕ) (ps : List ParamSyntax) (s : TypeState) → DeclState
-  InBody : (recursive : Bool) (at : ℕ) (x : List ℕ) (ps : List ParamSyntax) (result : Option TypeSyntax) (e : State)
+  InResult : (head : FunctionStart) (ps : List ParamSyntax) (s : TypeState) → DeclState
+  InBody : (head : FunctionStart) (ps : List ParamSyntax) (result : Option TypeSyntax) (e : State)
       → DeclState
   NoDecl : DeclState
 
+-- a function up to its parameters, by its parts
+abbrev pub started : Bool → ℕ → List ℕ → List VarSyntax → FunctionStart
+started recursive at x vs = record { at = at; name = x; recursive = recursive; units = vs }
+
+-- behind the `>` of unit parameters
+abbrev pub behind_vars : VarOwner → List VarSyntax → DeclExpected
+behind_vars (OfRecord at x) vs = RecordEqual at x vs
+behind_vars (OfFunction recursive at x) vs = Params (started recursive at x vs) []
+
 -- `=` behind the parameters: a function with `rec` has a result type
-abbrev pub body_begins : Bool → ℕ → List ℕ → List ParamSyntax → DeclState
-body_begins true at x ps = NoDecl
-body_begins false at x ps = InBody false at x ps None (Need [])
+abbrev pub body_begins_if : Bool → FunctionStart → List ParamSyntax → DeclState
+body_begins_if true head ps = NoDecl
+body_begins_if false head ps = InBody head ps None (Need [])
+
+abbrev pub body_begins : FunctionStart → List ParamSyntax → DeclState
+body_begins head ps = body_begins_if head.recursive head ps
+
+-- behind the parameters of a function, or its name
+abbrev pub take_params : FunctionStart → List ParamSyntax → ExprToken → DeclState
+take_params head ps (mark symbol.LeftParen) = Expects (ParamBinder head ps)
+take_params head ps (mark symbol.Colon) = InResult head ps (NeedType 0)
+take_params head ps (operator (between.Compare compare.Eq)) = body_begins head ps
+take_params head ps _ = NoDecl
 
 abbrev pub take_expected : DeclExpected → ExprToken → ℕ → DeclState
 take_expected DeclBegin (mark symbol.AttributeOpen) p = Expects AttributeWord
@@ -86,30 +121,31 @@ take_expected AttributeClose (mark symbol.RightBracket) p = Expects MeasureType
 take_expected MeasureType (word keyword.Type) p = Expects MeasureName
 take_expected MeasureName (name x) p = HaveBase p x
 take_expected RecordName (name x) p = Expects (RecordVars p x)
-take_expected (RecordVars at x) (operator (between.Compare compare.Lt)) p = Expects (VarBegin at x [])
+take_expected (RecordVars at x) (operator (between.Compare compare.Lt)) p = Expects (VarBegin (OfRecord at x) [])
 take_expected (RecordVars at x) (operator (between.Compare compare.Eq)) p = Expects (RecordBrace at x [])
-take_expected (VarBegin at x vs) (mark symbol.AttributeOpen) p = Expects (VarWord at x vs)
-take_expected (VarWord at x vs) (word keyword.Measure) p = Expects (VarGreater at x vs)
-take_expected (VarGreater at x vs) (operator (between.Compare compare.Gt)) p = Expects (VarClose at x vs)
-take_expected (VarClose at x vs) (mark symbol.RightBracket) p = Expects (VarName at x vs)
-take_expected (VarName at x vs) (variable v) p = Expects (VarEnd at x (vs ++ (record { at = p; name = v }) ∷ []))
-take_expected (VarEnd at x vs) (mark symbol.Comma) p = Expects (VarBegin at x vs)
-take_expected (VarEnd at x vs) (operator (between.Compare compare.Gt)) p = Expects (RecordEqual at x vs)
+take_expected (VarBegin owner vs) (mark symbol.AttributeOpen) p = Expects (VarWord owner vs)
+take_expected (VarWord owner vs) (word keyword.Measure) p = Expects (VarGreater owner vs)
+take_expected (VarGreater owner vs) (operator (between.Compare compare.Gt)) p = Expects (VarClose owner vs)
+take_expected (VarClose owner vs) (mark symbol.RightBracket) p = Expects (VarName owner vs)
+take_expected (VarName owner vs) (variable v) p = Expects (VarEnd owner (vs ++ (record { at = p; name = v }) ∷ []))
+take_expected (VarEnd owner vs) (mark symbol.Comma) p = Expects (VarBegin owner vs)
+take_expected (VarEnd owner vs) (operator (between.Compare compare.Gt)) p = Expects (behind_vars owner vs)
 take_expected (RecordEqual at x vs) (operator (between.Compare compare.Eq)) p = Expects (RecordBrace at x vs)
 take_expected (RecordBrace at x vs) (mark symbol.LeftBrace) p = Expects (FieldName at x vs [])
 take_expected (FieldName at x vs fs) (name y) p = Expects (FieldColon at x vs fs p y)
 take_expected (FieldColon at x vs fs place y) (mark symbol.Colon) p = InField at x vs fs place y (NeedType 0)
 take_expected LetName (word keyword.Rec) p = Expects RecName
-take_expected LetName (name x) p = Expects (Params false p x [])
-take_expected RecName (name x) p = Expects (Params true p x [])
-take_expected (Params recursive at x ps) (mark symbol.LeftParen) p = Expects (ParamBinder recursive at x ps)
-take_expected (Params recursive at x ps) (mark symbol.Colon) p = InResult recursive at x ps (NeedType 0)
-take_expected (Params recursive at x ps) (operator (between.Compare compare.Eq)) p = body_begins recursive at x ps
-take_expected (ParamBinder recursive at x ps) (name y) p =
-    Expects (ParamColon recursive at x ps (record { at = p; name = Some y }))
-take_expected (ParamBinder recursive at x ps) hole p =
-    Expects (ParamColon recursive at x ps (record { at = p; name = None }))
-take_expected (ParamColon recursive at x ps b) (mark symbol.Colon) p = InParam recursive at x ps b (NeedType 0)
+take_expected LetName (name x) p = Expects (FunctionVars false p x)
+take_expected RecName (name x) p = Expects (FunctionVars true p x)
+take_expected (FunctionVars recursive at x) (operator (between.Compare compare.Lt)) p =
+    Expects (VarBegin (OfFunction recursive at x) [])
+take_expected (FunctionVars recursive at x) w p = take_params (started recursive at x []) [] w
+take_expected (Params head ps) w p = take_params head ps w
+take_expected (ParamBinder head ps) (name y) p =
+    Expects (ParamColon head ps (record { at = p; name = Some y }))
+take_expected (ParamBinder head ps) hole p =
+    Expects (ParamColon head ps (record { at = p; name = None }))
+take_expected (ParamColon head ps b) (mark symbol.Colon) p = InParam head ps b (NeedType 0)
 take_expected _ _ p = NoDecl
 
 -- `=` behind the name of a measure
@@ -131,14 +167,14 @@ field_ends at x vs fs place y (Some t) (mark symbol.Semicolon) =
 field_ends at x vs fs place y (Some t) (mark symbol.RightBrace) = HaveRecord at x vs (with_field_decl fs place y t)
 field_ends at x vs fs place y _ _ = NoDecl
 
-abbrev pub param_ends : Bool → ℕ → List ℕ → List ParamSyntax → BinderSyntax → Option TypeSyntax → ExprToken → DeclState
-param_ends recursive at x ps b (Some t) (mark symbol.RightParen) = Expects (Params recursive at x (with_param ps b t))
-param_ends recursive at x ps b _ _ = NoDecl
+abbrev pub param_ends : FunctionStart → List ParamSyntax → BinderSyntax → Option TypeSyntax → ExprToken → DeclState
+param_ends head ps b (Some t) (mark symbol.RightParen) = Expects (Params head (with_param ps b t))
+param_ends head ps b _ _ = NoDecl
 
-abbrev pub result_ends : Bool → ℕ → List ℕ → List ParamSyntax → Option TypeSyntax → ExprToken → DeclState
-result_ends recursive at x ps (Some t) (operator (between.Compare compare.Eq)) =
-    InBody recursive at x ps (Some t) (Need [])
-result_ends recursive at x ps _ _ = NoDecl
+abbrev pub result_ends : FunctionStart → List ParamSyntax → Option TypeSyntax → ExprToken → DeclState
+result_ends head ps (Some t) (operator (between.Compare compare.Eq)) =
+    InBody head ps (Some t) (Need [])
+result_ends head ps _ _ = NoDecl
 
 -- the machine inside goes on, or not
 abbrev pub short_goes : ℕ → List ℕ → UnitState → DeclState
@@ -150,17 +186,17 @@ abbrev pub field_goes : ℕ → List ℕ → List VarSyntax → List FieldDeclSy
 field_goes at x vs fs place y NoType ended = ended
 field_goes at x vs fs place y s ended = InField at x vs fs place y s
 
-abbrev pub param_goes : Bool → ℕ → List ℕ → List ParamSyntax → BinderSyntax → TypeState → DeclState → DeclState
-param_goes recursive at x ps b NoType ended = ended
-param_goes recursive at x ps b s ended = InParam recursive at x ps b s
+abbrev pub param_goes : FunctionStart → List ParamSyntax → BinderSyntax → TypeState → DeclState → DeclState
+param_goes head ps b NoType ended = ended
+param_goes head ps b s ended = InParam head ps b s
 
-abbrev pub result_goes : Bool → ℕ → List ℕ → List ParamSyntax → TypeState → DeclState → DeclState
-result_goes recursive at x ps NoType ended = ended
-result_goes recursive at x ps s ended = InResult recursive at x ps s
+abbrev pub result_goes : FunctionStart → List ParamSyntax → TypeState → DeclState → DeclState
+result_goes head ps NoType ended = ended
+result_goes head ps s ended = InResult head ps s
 
-abbrev pub body_goes : Bool → ℕ → List ℕ → List ParamSyntax → Option TypeSyntax → State → DeclState
-body_goes recursive at x ps r Refused = NoDecl
-body_goes recursive at x ps r e = InBody recursive at x ps r e
+abbrev pub body_goes : FunctionStart → List ParamSyntax → Option TypeSyntax → State → DeclState
+body_goes head ps r Refused = NoDecl
+body_goes head ps r e = InBody head ps r e
 
 -- one token more
 abbrev pub decl_act : DeclState → ExprToken → ℕ → Bool → Kind → DeclState
@@ -170,11 +206,11 @@ decl_act (InShort at x u) w p glued k = short_goes at x (unit_act u (unit_token 
 decl_act (HaveRecord at x vs fs) w p glued k = NoDecl
 decl_act (InField at x vs fs place y s) w p glued k =
     field_goes at x vs fs place y (type_act s k p) (field_ends at x vs fs place y (type_finish s) w)
-decl_act (InParam recursive at x ps b s) w p glued k =
-    param_goes recursive at x ps b (type_act s k p) (param_ends recursive at x ps b (type_finish s) w)
-decl_act (InResult recursive at x ps s) w p glued k =
-    result_goes recursive at x ps (type_act s k p) (result_ends recursive at x ps (type_finish s) w)
-decl_act (InBody recursive at x ps r e) w p glued k = body_goes recursive at x ps r (act e w p glued k)
+decl_act (InParam head ps b s) w p glued k =
+    param_goes head ps b (type_act s k p) (param_ends head ps b (type_finish s) w)
+decl_act (InResult head ps s) w p glued k =
+    result_goes head ps (type_act s k p) (result_ends head ps (type_finish s) w)
+decl_act (InBody head ps r e) w p glued k = body_goes head ps r (act e w p glued k)
 decl_act NoDecl w p glued k = NoDecl
 
 abbrev pub decl_step : DeclState → Token → DeclState
@@ -185,16 +221,28 @@ abbrev pub short_found : ℕ → List ℕ → Option UnitSyntax → Option DeclS
 short_found at x None = None
 short_found at x (Some u) = Some (short_syntax at x u)
 
-abbrev pub body_found : Bool → ℕ → List ℕ → List ParamSyntax → Option TypeSyntax → Option ExprSyntax → Option DeclSyntax
-body_found recursive at x ps r None = None
-body_found recursive at x ps r (Some e) =
-    Some (function_syntax (record { at = at; name = x; recursive = recursive; params = ps; result = r; body = e }))
+abbrev pub function_from : FunctionStart → List ParamSyntax → Option TypeSyntax → ExprSyntax → DeclSyntax
+function_from head ps r e =
+    function_syntax (record {
+      at = head.at;
+      name = head.name;
+      recursive = head.recursive;
+      units = head.units;
+      params = ps;
+      result = r;
+      body = e;
+    })
+
+abbrev pub body_found : FunctionStart → List ParamSyntax → Option TypeSyntax → Option ExprSyntax → Option DeclSyntax
+body_found head ps r None = None
+body_found head ps r (Some e) =
+    Some (function_from head ps r e)
 
 abbrev pub decl_finish : DeclState → Option DeclSyntax
 decl_finish (HaveBase at x) = Some (base_syntax at x)
 decl_finish (InShort at x u) = short_found at x (unit_finish u)
 decl_finish (HaveRecord at x vs fs) = Some (record_decl_syntax at x vs fs)
-decl_finish (InBody recursive at x ps r e) = body_found recursive at x ps r (finish e)
+decl_finish (InBody head ps r e) = body_found head ps r (finish e)
 decl_finish _ = None
 
 -- declarations, and the one that is read

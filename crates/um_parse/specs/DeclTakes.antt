@@ -9,7 +9,7 @@ use Rattle.um_parse.specs.DeclMachine.{DeclState, Expects, HaveBase, InShort, Ha
 use Rattle.um_parse.specs.DeclMachine.{InBody, NoDecl}
 use Rattle.um_parse.specs.ProgramLeast.{decl_least}
 use Rattle.um_expr.specs.ExprTakes.{expr_state}
-use Rattle.um_parse.specs.DeclViews.{head_vars, read_fields, read_params, view_expected}
+use Rattle.um_parse.specs.DeclViews.{head_vars, read_fields, start_in, read_params, view_expected}
 use Rattle.um_parse.specs.declared.decl_reader.DeclReader.{DeclReader}
 use Rattle.um_parse.specs.declared.decl_reader.DeclReader.TheVariants as reader
 use Rattle.um_parse.specs.declared.decl_reader.DeclStep.{DeclStep}
@@ -23,10 +23,10 @@ reader_state (reader.Short s) = InShort s.at s.name (unit_state s.unit)
 reader_state (reader.Record f) = HaveRecord f.head.at f.head.name (head_vars f.head) (read_fields f)
 reader_state (reader.Field f p y t) =
     InField f.head.at f.head.name (head_vars f.head) (read_fields f) p y (type_state t)
-reader_state (reader.Param f b t) = InParam f.recursive f.at f.name (read_params f) (binder_syntax b) (type_state t)
-reader_state (reader.Result f t) = InResult f.recursive f.at f.name (read_params f) (type_state t)
+reader_state (reader.Param f b t) = InParam (start_in f) (read_params f) (binder_syntax b) (type_state t)
+reader_state (reader.Result f t) = InResult (start_in f) (read_params f) (type_state t)
 reader_state (reader.Body h e) =
-    InBody h.prefix.recursive h.prefix.at h.prefix.name (read_params h.prefix) (written_type h.result) (expr_state e)
+    InBody (start_in h.prefix) (read_params h.prefix) (written_type h.result) (expr_state e)
 
 -- The next state; or that it is too high; or, where the token is refused, the declaration before it, if one stands
 -- there.

@@ -1,6 +1,6 @@
 -- What was read of a declaration, without where it lies in memory.
 -- Source: this project's own.
-use Rattle.std.specs.Prelude.{List, [], map, Option, Some, None}
+use Rattle.std.specs.Prelude.{ℕ, List, [], map, Option, Some, None}
 use Rattle.um_tree.specs.RawTree.{VarSyntax, FieldDeclSyntax, ParamSyntax, var_syntax, field_decl_syntax}
 use Rattle.um_tree.specs.RawTree.{param_syntax, binder_syntax, written_type}
 use Rattle.um_types.specs.UnitMachine.{Need as NeedUnit}
@@ -11,9 +11,12 @@ use Rattle.um_parse.specs.DeclMachine.{MeasureType, MeasureName, RecordName, Rec
 use Rattle.um_parse.specs.DeclMachine.{VarGreater, VarClose, VarName, VarEnd, RecordEqual, RecordBrace, FieldName}
 use Rattle.um_parse.specs.DeclMachine.{FieldColon, LetName, RecName, Params, ParamBinder, ParamColon, DeclState}
 use Rattle.um_parse.specs.DeclMachine.{Expects, HaveBase, InShort, HaveRecord, InField, InParam, InResult, InBody}
-use Rattle.um_parse.specs.DeclMachine.{NoDecl}
+use Rattle.um_parse.specs.DeclMachine.{NoDecl, FunctionVars, FunctionStart, VarOwner, OfRecord, OfFunction}
 use Rattle.um_parse.specs.declared.decl_prefix.RecordHead.{RecordHead}
 use Rattle.um_parse.specs.declared.decl_prefix.RecordPrefix.{RecordPrefix}
+use Rattle.um_parse.specs.declared.decl_prefix.Owner.{Owner}
+use Rattle.um_parse.specs.declared.decl_prefix.Owner.TheVariants as owner
+use Rattle.um_parse.specs.declared.decl_prefix.VarsPrefix.{VarsPrefix}
 use Rattle.um_parse.specs.declared.decl_prefix.FunctionPrefix.{FunctionPrefix}
 use Rattle.um_parse.specs.declared.decl_prefix.MeasureExpected.{MeasureExpected}
 use Rattle.um_parse.specs.declared.decl_prefix.MeasureExpected.TheVariants as measure
@@ -30,6 +33,11 @@ head_vars h = map var_syntax h.vars.items.items
 abbrev pub read_fields : RecordPrefix → List FieldDeclSyntax
 read_fields f = map field_decl_syntax f.fields.items.items
 
+-- a function up to its parameters
+abbrev pub start_in : FunctionPrefix → FunctionStart
+start_in f =
+    record { at = f.at; name = f.name; recursive = f.recursive; units = map var_syntax f.units.items.items }
+
 abbrev pub read_params : FunctionPrefix → List ParamSyntax
 read_params f = map param_syntax f.params.items.items
 
@@ -40,29 +48,38 @@ view_measure measure.Close = AttributeClose
 view_measure measure.Type = MeasureType
 view_measure measure.Name = MeasureName
 
-abbrev pub view_var : RecordHead → VarExpected → DeclExpected
-view_var h var.Begin = VarBegin h.at h.name (head_vars h)
-view_var h var.Word = VarWord h.at h.name (head_vars h)
-view_var h var.Greater = VarGreater h.at h.name (head_vars h)
-view_var h var.Close = VarClose h.at h.name (head_vars h)
-view_var h var.Name = VarName h.at h.name (head_vars h)
-view_var h var.End = VarEnd h.at h.name (head_vars h)
+-- whose unit parameters are read, and those that were read
+abbrev pub owner_in : Owner → ℕ → List ℕ → VarOwner
+owner_in owner.Record at x = OfRecord at x
+owner_in (owner.Function recursive) at x = OfFunction recursive at x
+
+abbrev pub read_vars : VarsPrefix → List VarSyntax
+read_vars v = map var_syntax v.vars.items.items
+
+abbrev pub view_var : VarsPrefix → VarExpected → DeclExpected
+view_var v var.Begin = VarBegin (owner_in v.owner v.at v.name) (read_vars v)
+view_var v var.Word = VarWord (owner_in v.owner v.at v.name) (read_vars v)
+view_var v var.Greater = VarGreater (owner_in v.owner v.at v.name) (read_vars v)
+view_var v var.Close = VarClose (owner_in v.owner v.at v.name) (read_vars v)
+view_var v var.Name = VarName (owner_in v.owner v.at v.name) (read_vars v)
+view_var v var.End = VarEnd (owner_in v.owner v.at v.name) (read_vars v)
 
 abbrev pub view_expected : ExpectedToken → DeclExpected
 view_expected expected.Begin = DeclBegin
 view_expected (expected.Measure m) = view_measure m
 view_expected expected.RecordName = RecordName
 view_expected (expected.RecordVars at x) = RecordVars at x
-view_expected (expected.Var h v) = view_var h v
+view_expected (expected.Var p v) = view_var p v
 view_expected (expected.RecordEqual h) = RecordEqual h.at h.name (head_vars h)
 view_expected (expected.RecordBrace h) = RecordBrace h.at h.name (head_vars h)
 view_expected (expected.FieldName f) = FieldName f.head.at f.head.name (head_vars f.head) (read_fields f)
 view_expected (expected.FieldColon f p y) = FieldColon f.head.at f.head.name (head_vars f.head) (read_fields f) p y
 view_expected expected.LetName = LetName
 view_expected expected.RecName = RecName
-view_expected (expected.Params f) = Params f.recursive f.at f.name (read_params f)
-view_expected (expected.ParamBinder f) = ParamBinder f.recursive f.at f.name (read_params f)
-view_expected (expected.ParamColon f b) = ParamColon f.recursive f.at f.name (read_params f) (binder_syntax b)
+view_expected (expected.FunctionVars recursive at x) = FunctionVars recursive at x
+view_expected (expected.Params f) = Params (start_in f) (read_params f)
+view_expected (expected.ParamBinder f) = ParamBinder (start_in f) (read_params f)
+view_expected (expected.ParamColon f b) = ParamColon (start_in f) (read_params f) (binder_syntax b)
 
 abbrev pub next_state : Next → DeclState
 next_state (next.At p) = Expects (view_expected p)
@@ -70,10 +87,10 @@ next_state (next.Base at x) = HaveBase at x
 next_state (next.Short at x) = InShort at x (NeedUnit [])
 next_state (next.Record f) = HaveRecord f.head.at f.head.name (head_vars f.head) (read_fields f)
 next_state (next.Field f p y) = InField f.head.at f.head.name (head_vars f.head) (read_fields f) p y (NeedType 0)
-next_state (next.Param f b) = InParam f.recursive f.at f.name (read_params f) (binder_syntax b) (NeedType 0)
-next_state (next.Result f) = InResult f.recursive f.at f.name (read_params f) (NeedType 0)
+next_state (next.Param f b) = InParam (start_in f) (read_params f) (binder_syntax b) (NeedType 0)
+next_state (next.Result f) = InResult (start_in f) (read_params f) (NeedType 0)
 next_state (next.Body h) =
-    InBody h.prefix.recursive h.prefix.at h.prefix.name (read_params h.prefix) (written_type h.result) (Need [])
+    InBody (start_in h.prefix) (read_params h.prefix) (written_type h.result) (Need [])
 
 -- what follows, or nothing where the token is refused
 abbrev pub reached : Option Next → DeclState

@@ -20,9 +20,9 @@ expected_least MeasureType = 0
 expected_least MeasureName = 0
 expected_least (FieldName at x vs fs) = max (fields_height fs) 1
 expected_least (FieldColon at x vs fs place y) = max (fields_height fs) 1
-expected_least (Params recursive at x ps) = max (params_height ps) 1
-expected_least (ParamBinder recursive at x ps) = max (params_height ps) 1
-expected_least (ParamColon recursive at x ps b) = max (params_height ps) 1
+expected_least (Params head ps) = max (params_height ps) 1
+expected_least (ParamBinder head ps) = max (params_height ps) 1
+expected_least (ParamColon head ps b) = max (params_height ps) 1
 expected_least _ = 1
 
 abbrev pub decl_least : DeclState → ℕ
@@ -31,9 +31,9 @@ decl_least (HaveBase at x) = 0
 decl_least (InShort at x u) = least u
 decl_least (HaveRecord at x vs fs) = fields_height fs
 decl_least (InField at x vs fs place y s) = max (fields_height fs) (type_least s)
-decl_least (InParam recursive at x ps b s) = max (params_height ps) (max (type_least s) 1)
-decl_least (InResult recursive at x ps s) = max (params_height ps) (max (type_least s) 1)
-decl_least (InBody recursive at x ps r e) = max (params_height ps) (max (result_height r) (whole_least e))
+decl_least (InParam head ps b s) = max (params_height ps) (max (type_least s) 1)
+decl_least (InResult head ps s) = max (params_height ps) (max (type_least s) 1)
+decl_least (InBody head ps r e) = max (params_height ps) (max (result_height r) (whole_least e))
 decl_least NoDecl = 0
 
 abbrev pub program_least : ProgramState → ℕ

@@ -45,7 +45,8 @@ passed_limit before (record_decl_syntax at x vs fs) =
 passed_limit before (function_syntax f) =
     cond (nat_lt most_functions (before + 1)) (Some limit.Functions)
     (cond (nat_lt most_parameters (length f.params)) (Some limit.Parameters)
-    (cond (nat_lt most_nodes (expr_nodes f.body)) (Some limit.Nodes) None))
+    (cond (nat_lt most_unit_parameters (length f.units)) (Some limit.UnitParameters)
+    (cond (nat_lt most_nodes (expr_nodes f.body)) (Some limit.Nodes) None)))
 
 -- no declaration passes a limit
 abbrev pub WithinLimits : ℕ → List DeclSyntax → Type 0

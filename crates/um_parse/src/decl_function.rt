@@ -3,55 +3,81 @@ ghost use Rattle.std.specs.Prelude.{◌≡◌, ◌≤◌, [], IfOk, IfSome, Some
 ghost use Rattle.um_tree.specs.RawTree.{binder_syntax, type_syntax};
 ghost use Rattle.um_types.specs.TypeHeights.{whole_height};
 ghost use Rattle.um_types.specs.UnitStops.{greatest_height};
-ghost use Rattle.um_parse.specs.DeclMachine.{LetName, RecName, Params, ParamBinder, ParamColon, Expects, take_expected, body_begins, param_ends, result_ends, with_param};
-ghost use Rattle.um_parse.specs.DeclViews.{read_params, next_state, reached};
+ghost use Rattle.um_parse.specs.DeclMachine.{LetName, RecName, FunctionVars, ParamBinder, ParamColon, started, take_expected, take_params, body_begins, param_ends, result_ends, with_param};
+ghost use Rattle.um_parse.specs.DeclViews.{start_in, read_params, reached};
 
 use crate::decl_measure::refuse;
-use crate::decl_prefix::{DeclExpected, FunctionHead, FunctionPrefix, Next};
+use crate::decl_prefix::{DeclExpected, FunctionHead, FunctionPrefix, Next, Owner, VarExpected};
+use crate::decl_vars::vars_begin;
 use std::alloc::{AllocError, Global};
 use um_expr::{ExprToken, Infix};
 use um_syntax::{Keyword, Symbol};
-use um_tree::{Binder, Name, RawParam, RawParams, RawType, Sign};
-
-// Behind the name of a function, at its place.
-fn named(alloc: Global, recursive: bool, at: u32, name: Name) -> Next
-    ensures { next_state result ≡ Expects (Params recursive at name []) }
-{
-    let params = RawParams {
-        items: Vec::new(alloc),
-    };
-    Next::At(DeclExpected::Params(FunctionPrefix {
-        recursive,
-        at,
-        name,
-        params,
-    }))
-}
+use um_tree::{Binder, Name, RawParam, RawParams, RawType, RawVars, Sign};
 
 /// The token behind `let`.
-pub fn let_name(alloc: Global, kind: ExprToken, p: u32) -> Option<Next>
+pub fn let_name(kind: ExprToken, p: u32) -> Option<Next>
     ensures { reached result ≡ take_expected LetName kind p }
 {
     match kind {
         ExprToken::Word(Keyword::Rec) => Some(Next::At(DeclExpected::RecName)),
-        ExprToken::Name(name) => Some(named(alloc, false, p, name)),
+        ExprToken::Name(name) => Some(Next::At(DeclExpected::FunctionVars(false, p, name))),
         other => refuse(other),
     }
 }
 
 /// The token behind `let` and `rec`.
-pub fn rec_name(alloc: Global, kind: ExprToken, p: u32) -> Option<Next>
+pub fn rec_name(kind: ExprToken, p: u32) -> Option<Next>
     ensures { reached result ≡ take_expected RecName kind p }
 {
     match kind {
-        ExprToken::Name(name) => Some(named(alloc, true, p, name)),
+        ExprToken::Name(name) => Some(Next::At(DeclExpected::FunctionVars(true, p, name))),
         other => refuse(other),
+    }
+}
+
+// A function without unit parameters, behind its name, at its place.
+fn plain_start(alloc: Global, recursive: bool, at: u32, name: Name) -> FunctionPrefix
+    ensures start { start_in result ≡ started recursive at name [] }
+    ensures params { read_params result ≡ [] }
+{
+    let units = RawVars {
+        items: Vec::new(alloc),
+    };
+    let params = RawParams {
+        items: Vec::new(alloc),
+    };
+    FunctionPrefix {
+        recursive,
+        at,
+        name,
+        units,
+        params,
+    }
+}
+
+/// The token behind the name of a function, at its place.
+pub fn function_vars(
+    alloc: Global,
+    recursive: bool,
+    at: u32,
+    name: Name,
+    kind: ExprToken,
+    p: u32,
+) -> Option<Next>
+    ensures { reached result ≡ take_expected (FunctionVars recursive at name) kind p }
+{
+    match kind {
+        ExprToken::Operator(Infix::Compare(Sign::Lt)) => {
+            let prefix = vars_begin(alloc, Owner::Function(recursive), at, name);
+            Some(Next::At(DeclExpected::Var(prefix, VarExpected::Begin)))
+        }
+        other => take_params(plain_start(alloc, recursive, at, name), other),
     }
 }
 
 // `=` behind the parameters: a function with `rec` has a result type.
 fn body_begins(prefix: FunctionPrefix) -> Option<Next>
-    ensures { reached result ≡ body_begins prefix.recursive prefix.at prefix.name (read_params prefix) }
+    ensures { reached result ≡ body_begins (start_in prefix) (read_params prefix) }
 {
     if prefix.recursive {
         return None;
@@ -62,9 +88,9 @@ fn body_begins(prefix: FunctionPrefix) -> Option<Next>
     }))
 }
 
-/// The token behind the name of a function or a parameter.
-pub fn take_params(prefix: FunctionPrefix, kind: ExprToken, p: u32) -> Option<Next>
-    ensures { reached result ≡ take_expected (Params prefix.recursive prefix.at prefix.name (read_params prefix)) kind p }
+/// The token behind the parameters of a function, or its name.
+pub fn take_params(prefix: FunctionPrefix, kind: ExprToken) -> Option<Next>
+    ensures { reached result ≡ take_params (start_in prefix) (read_params prefix) kind }
 {
     match kind {
         ExprToken::Mark(Symbol::LeftParen) => Some(Next::At(DeclExpected::ParamBinder(prefix))),
@@ -76,7 +102,7 @@ pub fn take_params(prefix: FunctionPrefix, kind: ExprToken, p: u32) -> Option<Ne
 
 /// The token behind the `(` of a parameter.
 pub fn param_binder(prefix: FunctionPrefix, kind: ExprToken, p: u32) -> Option<Next>
-    ensures { reached result ≡ take_expected (ParamBinder prefix.recursive prefix.at prefix.name (read_params prefix)) kind p }
+    ensures { reached result ≡ take_expected (ParamBinder (start_in prefix) (read_params prefix)) kind p }
 {
     match kind {
         ExprToken::Name(name) => {
@@ -96,7 +122,7 @@ pub fn param_binder(prefix: FunctionPrefix, kind: ExprToken, p: u32) -> Option<N
 
 /// The token behind the name of a parameter.
 pub fn param_colon(prefix: FunctionPrefix, binder: Binder, kind: ExprToken, p: u32) -> Option<Next>
-    ensures { reached result ≡ take_expected (ParamColon prefix.recursive prefix.at prefix.name (read_params prefix) (binder_syntax binder)) kind p }
+    ensures { reached result ≡ take_expected (ParamColon (start_in prefix) (read_params prefix) (binder_syntax binder)) kind p }
 {
     match kind {
         ExprToken::Mark(Symbol::Colon) => Some(Next::Param(prefix, binder)),
@@ -111,15 +137,14 @@ fn with_param(
     ty: RawType,
 ) -> Result<FunctionPrefix, AllocError>
     requires { whole_height (type_syntax ty) ≤ greatest_height }
-    ensures recursive { IfOk result (λ f. f.recursive ≡ prefix.recursive) }
-    ensures at { IfOk result (λ f. f.at ≡ prefix.at) }
-    ensures name { IfOk result (λ f. f.name ≡ prefix.name) }
+    ensures start { IfOk result (λ f. start_in f ≡ start_in prefix) }
     ensures params { IfOk result (λ f. read_params f ≡ with_param (read_params prefix) (binder_syntax binder) (type_syntax ty)) }
 {
     let FunctionPrefix {
         recursive,
         at,
         name,
+        units,
         mut params,
     } = prefix;
     params.items.push(RawParam { binder, ty })?;
@@ -127,6 +152,7 @@ fn with_param(
         recursive,
         at,
         name,
+        units,
         params,
     })
 }
@@ -139,7 +165,7 @@ fn param_typed(
     kind: ExprToken,
 ) -> Result<Option<Next>, AllocError>
     requires { whole_height (type_syntax ty) ≤ greatest_height }
-    ensures { IfOk result (λ o. reached o ≡ param_ends prefix.recursive prefix.at prefix.name (read_params prefix) (binder_syntax binder) (Some (type_syntax ty)) kind) }
+    ensures { IfOk result (λ o. reached o ≡ param_ends (start_in prefix) (read_params prefix) (binder_syntax binder) (Some (type_syntax ty)) kind) }
 {
     match kind {
         ExprToken::Mark(Symbol::RightParen) => {
@@ -158,7 +184,7 @@ pub fn param_ends(
     kind: ExprToken,
 ) -> Result<Option<Next>, AllocError>
     requires { IfSome found (λ t. whole_height (type_syntax t) ≤ greatest_height) }
-    ensures { IfOk result (λ o. reached o ≡ param_ends prefix.recursive prefix.at prefix.name (read_params prefix) (binder_syntax binder) (option_map type_syntax found) kind) }
+    ensures { IfOk result (λ o. reached o ≡ param_ends (start_in prefix) (read_params prefix) (binder_syntax binder) (option_map type_syntax found) kind) }
 {
     match found {
         Some(ty) => param_typed(prefix, binder, ty, kind),
@@ -169,7 +195,7 @@ pub fn param_ends(
 // The token behind the result type.
 fn result_typed(prefix: FunctionPrefix, ty: RawType, kind: ExprToken) -> Option<Next>
     requires { whole_height (type_syntax ty) ≤ greatest_height }
-    ensures { reached result ≡ result_ends prefix.recursive prefix.at prefix.name (read_params prefix) (Some (type_syntax ty)) kind }
+    ensures { reached result ≡ result_ends (start_in prefix) (read_params prefix) (Some (type_syntax ty)) kind }
 {
     match kind {
         ExprToken::Operator(Infix::Compare(Sign::Eq)) => Some(Next::Body(FunctionHead {
@@ -183,7 +209,7 @@ fn result_typed(prefix: FunctionPrefix, ty: RawType, kind: ExprToken) -> Option<
 /// The token that the result type has refused, behind the type before it, if one stands there.
 pub fn result_ends(prefix: FunctionPrefix, found: Option<RawType>, kind: ExprToken) -> Option<Next>
     requires { IfSome found (λ t. whole_height (type_syntax t) ≤ greatest_height) }
-    ensures { reached result ≡ result_ends prefix.recursive prefix.at prefix.name (read_params prefix) (option_map type_syntax found) kind }
+    ensures { reached result ≡ result_ends (start_in prefix) (read_params prefix) (option_map type_syntax found) kind }
 {
     match found {
         Some(ty) => result_typed(prefix, ty, kind),

@@ -22,12 +22,29 @@ pub struct RecordPrefix {
     ghost low: { fields_height (map field_decl_syntax fields.items.items) ≤ greatest_height },
 }
 
-/// A function's name, at its place, and the parameters that were read. No text in them is too high.
+/// Whose unit parameters are read: a record's, or those of a function, with `rec` or not.
+#[derive(Clone, Copy)]
+pub enum Owner {
+    Record,
+    Function(bool),
+}
+
+/// The name of a record or a function, at its place, and the unit parameters that were read.
+#[derive(Drop)]
+pub struct VarsPrefix {
+    pub owner: Owner,
+    pub at: u32,
+    pub name: Name,
+    pub vars: RawVars,
+}
+
+/// A function's name, at its place, its unit parameters, and the parameters that were read. No text in them is too high.
 #[derive(Drop)]
 pub struct FunctionPrefix {
     pub recursive: bool,
     pub at: u32,
     pub name: Name,
+    pub units: RawVars,
     pub params: RawParams,
     ghost low: { params_height (map param_syntax params.items.items) ≤ greatest_height },
 }
@@ -51,7 +68,7 @@ pub enum MeasureExpected {
     Name,
 }
 
-/// The token that is expected among the unit parameters of a record.
+/// The token that is expected among unit parameters.
 #[derive(Clone, Copy)]
 pub enum VarExpected {
     /// Behind `<` or `,`; `[<`; `Measure`; `>`; `]`; a parameter
@@ -71,15 +88,16 @@ pub enum DeclExpected {
     /// Behind `type`; behind the name, at its place
     RecordName,
     RecordVars(u32, Name),
-    Var(RecordHead, VarExpected),
+    Var(VarsPrefix, VarExpected),
     /// Behind the parameters; `=`; `{` or `;` and these fields; a field's name, at its place
     RecordEqual(RecordHead),
     RecordBrace(RecordHead),
     FieldName(RecordPrefix),
     FieldColon(RecordPrefix, u32, Name),
-    /// Behind `let`; `rec`; the name and these parameters; `(`; the binder
+    /// Behind `let`; `rec`; the name, at its place; the unit parameters and these parameters; `(`; the binder
     LetName,
     RecName,
+    FunctionVars(bool, u32, Name),
     Params(FunctionPrefix),
     ParamBinder(FunctionPrefix),
     ParamColon(FunctionPrefix, Binder),

@@ -4,15 +4,15 @@ ghost use Rattle.um_tree.specs.RawTree.{type_syntax};
 ghost use Rattle.um_types.specs.TypeHeights.{whole_height};
 ghost use Rattle.um_types.specs.UnitStops.{greatest_height};
 ghost use Rattle.um_parse.specs.DeclMachine.{RecordName, RecordVars, RecordEqual, RecordBrace, FieldName, FieldColon, take_expected, field_ends, with_field_decl};
-ghost use Rattle.um_parse.specs.DeclViews.{head_vars, read_fields, view_var, reached};
-ghost use Rattle.um_parse.specs.declared.decl_prefix.VarExpected.TheVariants as var;
+ghost use Rattle.um_parse.specs.DeclViews.{head_vars, read_fields, reached};
 
 use crate::decl_measure::refuse;
-use crate::decl_prefix::{DeclExpected, Next, RecordHead, RecordPrefix, VarExpected};
+use crate::decl_prefix::{DeclExpected, Next, Owner, RecordHead, RecordPrefix, VarExpected};
+use crate::decl_vars::vars_begin;
 use std::alloc::{AllocError, Global};
 use um_expr::{ExprToken, Infix};
-use um_syntax::{Keyword, Symbol};
-use um_tree::{Name, RawFieldDecl, RawFieldDecls, RawType, RawVar, RawVars, Sign};
+use um_syntax::Symbol;
+use um_tree::{Name, RawFieldDecl, RawFieldDecls, RawType, RawVars, Sign};
 
 // A record without unit parameters.
 fn plain_head(alloc: Global, at: u32, name: Name) -> RecordHead
@@ -42,76 +42,14 @@ pub fn record_vars(alloc: Global, at: u32, name: Name, kind: ExprToken, p: u32) 
 {
     match kind {
         ExprToken::Operator(Infix::Compare(Sign::Lt)) => {
-            let head = plain_head(alloc, at, name);
-            Some(Next::At(DeclExpected::Var(head, VarExpected::Begin)))
+            let prefix = vars_begin(alloc, Owner::Record, at, name);
+            Some(Next::At(DeclExpected::Var(prefix, VarExpected::Begin)))
         }
         ExprToken::Operator(Infix::Compare(Sign::Eq)) => {
             let head = plain_head(alloc, at, name);
             Some(Next::At(DeclExpected::RecordBrace(head)))
         }
         other => refuse(other),
-    }
-}
-
-// The name of a unit parameter.
-fn var_name(head: RecordHead, kind: ExprToken, p: u32) -> Result<Option<Next>, AllocError>
-    ensures { IfOk result (λ o. reached o ≡ take_expected (view_var head var.Name) kind p) }
-{
-    match kind {
-        ExprToken::Variable(var) => {
-            let RecordHead { at, name, mut vars } = head;
-            vars.items.push(RawVar { at: p, name: var })?;
-            let head = RecordHead { at, name, vars };
-            Ok(Some(Next::At(DeclExpected::Var(head, VarExpected::End))))
-        }
-        other => Ok(refuse(other)),
-    }
-}
-
-// The token behind a unit parameter.
-fn var_end(head: RecordHead, kind: ExprToken, p: u32) -> Option<Next>
-    ensures { reached result ≡ take_expected (view_var head var.End) kind p }
-{
-    match kind {
-        ExprToken::Mark(Symbol::Comma) => Some(Next::At(DeclExpected::Var(
-            head,
-            VarExpected::Begin,
-        ))),
-        ExprToken::Operator(Infix::Compare(Sign::Gt)) => Some(Next::At(DeclExpected::RecordEqual(
-            head,
-        ))),
-        other => refuse(other),
-    }
-}
-
-/// One token among the unit parameters of a record.
-pub fn take_var(
-    head: RecordHead,
-    expected: VarExpected,
-    kind: ExprToken,
-    p: u32,
-) -> Result<Option<Next>, AllocError>
-    ensures { IfOk result (λ o. reached o ≡ take_expected (view_var head expected) kind p) }
-{
-    match (expected, kind) {
-        (VarExpected::Begin, ExprToken::Mark(Symbol::AttributeOpen)) => {
-            Ok(Some(Next::At(DeclExpected::Var(head, VarExpected::Word))))
-        }
-        (VarExpected::Word, ExprToken::Word(Keyword::Measure)) => {
-            Ok(Some(Next::At(DeclExpected::Var(head, VarExpected::Greater))))
-        }
-        (VarExpected::Greater, ExprToken::Operator(Infix::Compare(Sign::Gt))) => {
-            Ok(Some(Next::At(DeclExpected::Var(head, VarExpected::Close))))
-        }
-        (VarExpected::Close, ExprToken::Mark(Symbol::RightBracket)) => {
-            Ok(Some(Next::At(DeclExpected::Var(head, VarExpected::Name))))
-        }
-        (VarExpected::Name, kind) => var_name(head, kind, p),
-        (VarExpected::End, kind) => Ok(var_end(head, kind, p)),
-        (
-            VarExpected::Begin | VarExpected::Word | VarExpected::Greater | VarExpected::Close,
-            other,
-        ) => { Ok(refuse(other)) }
     }
 }
 

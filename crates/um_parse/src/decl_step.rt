@@ -2,21 +2,22 @@
 ghost use Rattle.std.specs.Prelude.{◌≡◌, IfOk, None, Some, option_map};
 ghost use Rattle.um_tree.specs.RawTree.{base_syntax, unit_syntax, expr_syntax, decl_syntax, record_decl_syntax, written_type};
 ghost use Rattle.um_parse.specs.DeclMachine.{NoDecl, take_expected, base_after, short_found, body_found, decl_step, decl_finish};
-ghost use Rattle.um_parse.specs.DeclViews.{head_vars, read_fields, read_params, view_expected, next_state, reached};
+ghost use Rattle.um_parse.specs.DeclViews.{head_vars, read_fields, start_in, read_params, view_expected, next_state, reached};
 ghost use Rattle.um_parse.specs.DeclTakes.{reader_state, DeclTakes};
 ghost use Rattle.um_expr.specs.ExprTokens.{expr_token};
 ghost use Rattle.um_parse.specs.declared.decl_reader.DeclReader.TheVariants as reader;
 
 use crate::decl_function::{
-    let_name, param_binder, param_colon, param_ends, rec_name, result_ends, take_params,
+    function_vars, let_name, param_binder, param_colon, param_ends, rec_name, result_ends,
+    take_params,
 };
 use crate::decl_measure::{begin, take_measure};
 use crate::decl_prefix::{DeclExpected, FunctionHead, FunctionPrefix, Next, RecordPrefix};
 use crate::decl_reader::{DeclReader, DeclStep, ShortPrefix};
 use crate::decl_record::{
     field_colon, field_ends, field_name, record_brace, record_equal, record_name, record_vars,
-    take_var,
 };
+use crate::decl_vars::take_var;
 use std::alloc::{AllocError, Global};
 use um_expr::{ExprReader, ExprStep, ExprToken, Infix};
 use um_syntax::Token;
@@ -66,14 +67,17 @@ fn next_at(
         DeclExpected::Measure(expected) => Ok(take_measure(expected, kind, p)),
         DeclExpected::RecordName => Ok(record_name(kind, p)),
         DeclExpected::RecordVars(at, name) => Ok(record_vars(alloc, at, name, kind, p)),
-        DeclExpected::Var(head, expected) => take_var(head, expected, kind, p),
+        DeclExpected::Var(prefix, expected) => take_var(alloc, prefix, expected, kind, p),
         DeclExpected::RecordEqual(head) => Ok(record_equal(head, kind, p)),
         DeclExpected::RecordBrace(head) => Ok(record_brace(alloc, head, kind, p)),
         DeclExpected::FieldName(prefix) => Ok(field_name(prefix, kind, p)),
         DeclExpected::FieldColon(prefix, at, name) => Ok(field_colon(prefix, at, name, kind, p)),
-        DeclExpected::LetName => Ok(let_name(alloc, kind, p)),
-        DeclExpected::RecName => Ok(rec_name(alloc, kind, p)),
-        DeclExpected::Params(prefix) => Ok(take_params(prefix, kind, p)),
+        DeclExpected::LetName => Ok(let_name(kind, p)),
+        DeclExpected::RecName => Ok(rec_name(kind, p)),
+        DeclExpected::FunctionVars(recursive, at, name) => {
+            Ok(function_vars(alloc, recursive, at, name, kind, p))
+        }
+        DeclExpected::Params(prefix) => Ok(take_params(prefix, kind)),
         DeclExpected::ParamBinder(prefix) => Ok(param_binder(prefix, kind, p)),
         DeclExpected::ParamColon(prefix, binder) => Ok(param_colon(prefix, binder, kind, p)),
     }
@@ -199,7 +203,7 @@ fn take_result(
 
 // A function, where its body was found.
 fn body_found(head: FunctionHead, found: Option<RawExpr>) -> Option<RawDecl>
-    ensures { option_map decl_syntax result ≡ body_found head.prefix.recursive head.prefix.at head.prefix.name (read_params head.prefix) (written_type head.result) (option_map expr_syntax found) }
+    ensures { option_map decl_syntax result ≡ body_found (start_in head.prefix) (read_params head.prefix) (written_type head.result) (option_map expr_syntax found) }
 {
     let body = match found {
         Some(body) => body,
@@ -210,12 +214,14 @@ fn body_found(head: FunctionHead, found: Option<RawExpr>) -> Option<RawDecl>
         recursive,
         at,
         name,
+        units,
         params,
     } = prefix;
     Some(RawDecl::Function(RawFunction {
         at,
         name,
         recursive,
+        units,
         params,
         result,
         body,

@@ -7,6 +7,7 @@ mod decl_prefix;
 mod decl_reader;
 mod decl_record;
 mod decl_step;
+mod decl_vars;
 pub mod laws;
 mod limits;
 mod program_loop;

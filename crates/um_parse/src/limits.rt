@@ -49,6 +49,8 @@ fn function_limit(before: usize, function: &RawFunction) -> Option<LimitKind>
         Some(LimitKind::Functions)
     } else if function.params.items.len() > MOST_PARAMETERS {
         Some(LimitKind::Parameters)
+    } else if function.units.items.len() > MOST_UNIT_PARAMETERS {
+        Some(LimitKind::UnitParameters)
     } else if nodes(&function.body) > MOST_NODES {
         Some(LimitKind::Nodes)
     } else {

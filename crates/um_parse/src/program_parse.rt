@@ -13,8 +13,8 @@ use um_types::{LimitKind, ParseStop, place};
 /// The program that the tokens are, as it is written. `end` is the length of the text in bytes.
 ///
 /// The height of a program is the greatest of the heights of its expressions, type texts and unit texts, each by itself. The
-/// other limits are 2,000 functions, 16 parameters of a function, 32 fields and 4 unit parameters of a record, and 20,000 nodes
-/// of a body. The grammar is that of F# for the forms that this language has.
+/// other limits are 2,000 functions, 16 parameters of a function, 32 fields of a record, 4 unit parameters of a record or a
+/// function, and 20,000 nodes of a body. The grammar is that of F# for the forms that this language has.
 ///
 /// # Errors
 ///

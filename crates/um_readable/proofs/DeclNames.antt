@@ -99,7 +99,7 @@ decl_named (record_decl_syntax at x vs fs) tokens rest s fits h =
     let in_braces = named_rest s.2 s.4 (thence (first_leaves _ s.2 s.3 s.9) (first_leaves _ s.3 s.4 s.10)) behind_vars in
     (name_at x at s.0 s.1 s.7 named, fields_named fs s.4 s.5 s.11 fits in_braces)
 decl_named (function_syntax f) tokens rest s fits h =
-    name_at f.name f.at s.1 s.2 s.8 (named_rest tokens s.1 (thence (first_leaves _ tokens s.0 s.6) (rec_leaves f.recursive s.0 s.1 s.7)) h)
+    name_at f.name f.at s.1 s.2 s.9 (named_rest tokens s.1 (thence (first_leaves _ tokens s.0 s.7) (rec_leaves f.recursive s.0 s.1 s.8)) h)
 
 pub decls_named : (ds : List DeclSyntax) (tokens rest : List Token) → DeclsSpell ds tokens rest → DeclsFit ds → AllNamed tokens → DeclsNamed ds
 decls_named [] tokens rest s fits h = tt

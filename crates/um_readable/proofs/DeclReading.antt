@@ -93,14 +93,17 @@ decl_leaves (record_decl_syntax at x vs fs) tokens rest s fits =
     )
     )
 decl_leaves (function_syntax f) tokens rest s fits =
-    first_and_more _ tokens s.0 rest s.6
+    first_and_more _ tokens s.0 rest s.7
     (
-    thence (rec_leaves f.recursive s.0 s.1 s.7)
+    thence (rec_leaves f.recursive s.0 s.1 s.8)
     (
-    thence (at_leaves _ f.at s.1 s.2 s.8)
+    thence (at_leaves _ f.at s.1 s.2 s.9)
     (
-    thence (params_leave f.params s.2 s.3 s.9 fits.0)
-    (thence (result_leaves f.recursive f.result s.3 s.4 s.10 fits.1) (thence (first_leaves _ s.4 s.5 s.11) (expr_leaves f.body s.5 rest s.12 fits.2)))
+    thence (vars_leave f.units s.2 s.3 s.10)
+    (
+    thence (params_leave f.params s.3 s.4 s.11 fits.0)
+    (thence (result_leaves f.recursive f.result s.4 s.5 s.12 fits.1) (thence (first_leaves _ s.5 s.6 s.13) (expr_leaves f.body s.6 rest s.14 fits.2)))
+    )
     )
     )
     )

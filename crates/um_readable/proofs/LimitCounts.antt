@@ -17,12 +17,19 @@ record_limits before at x vs fs e =
     let units = not_passed (nat_lt 4 (length vs)) limit.UnitParameters None fields.1 in
     (ltb-false 32 (length fs) fields.0, ltb-false 4 (length vs) units.0)
 
-pub function_limits : (before : ℕ) (f : FunctionSyntax) → passed_limit before (function_syntax f) ≡ None → (before + 1 ≤ 2000) × (length f.params ≤ 16) × (expr_nodes f.body ≤ 20000)
+pub function_limits : (before : ℕ) (f : FunctionSyntax) → passed_limit before (function_syntax f) ≡ None → (before + 1 ≤ 2000) × (length f.params ≤ 16) × (length f.units ≤ 4) × (expr_nodes f.body ≤ 20000)
 function_limits before f e =
-    let functions = not_passed (nat_lt 2000 (before + 1)) limit.Functions (cond (nat_lt 16 (length f.params)) (Some limit.Parameters) (cond (nat_lt 20000 (expr_nodes f.body)) (Some limit.Nodes) None)) e in
-    let parameters = not_passed (nat_lt 16 (length f.params)) limit.Parameters (cond (nat_lt 20000 (expr_nodes f.body)) (Some limit.Nodes) None) functions.1 in
-    let nodes = not_passed (nat_lt 20000 (expr_nodes f.body)) limit.Nodes None parameters.1 in
-    (ltb-false 2000 (before + 1) functions.0, ltb-false 16 (length f.params) parameters.0, ltb-false 20000 (expr_nodes f.body) nodes.0)
+    let many_nodes : Option LimitKind = cond (nat_lt 20000 (expr_nodes f.body)) (Some limit.Nodes) None in
+    let many_units : Option LimitKind = cond (nat_lt 4 (length f.units)) (Some limit.UnitParameters) many_nodes in
+    let functions = not_passed (nat_lt 2000 (before + 1)) limit.Functions (cond (nat_lt 16 (length f.params)) (Some limit.Parameters) many_units) e in
+    let parameters = not_passed (nat_lt 16 (length f.params)) limit.Parameters many_units functions.1 in
+    let units = not_passed (nat_lt 4 (length f.units)) limit.UnitParameters many_nodes parameters.1 in
+    let nodes = not_passed (nat_lt 20000 (expr_nodes f.body)) limit.Nodes None units.1 in (
+      ltb-false 2000 (before + 1) functions.0,
+      ltb-false 16 (length f.params) parameters.0,
+      ltb-false 4 (length f.units) units.0,
+      ltb-false 20000 (expr_nodes f.body) nodes.0,
+    )
 
 -- with those before
 functions_within : (ds : List DeclSyntax) (before : ℕ) → before ≤ 2000 → WithinLimits before ds → before + functions_in ds ≤ 2000

@@ -58,13 +58,14 @@ decl_readable (function_syntax f) before tokens rest s fits named low small =
     let behind = right_low (params_height f.params) (max (result_height f.result) (whole_expr_height f.body)) low in
     let body = right_low (result_height f.result) (whole_expr_height f.body) behind in record {
       name = named;
+      few_units = few.2;
       few_params = few.1;
       params = params_readable f.params (left_low (params_height f.params) (max (result_height f.result) (whole_expr_height f.body)) low);
       result = result_readable f.result (left_low (result_height f.result) (whole_expr_height f.body) behind);
       noted = noted f.recursive f.result fits.1;
-      body = expr_readable f.body s.5 rest s.12 (right_low (expr_height f.body) (notes_in f.body) body);
+      body = expr_readable f.body s.6 rest s.14 (right_low (expr_height f.body) (notes_in f.body) body);
       height = left_low (expr_height f.body) (notes_in f.body) body;
-      nodes = few.2;
+      nodes = few.3;
     }
 
 decls_readable : (ds : List DeclSyntax) (before : ℕ) (tokens rest : List Token) → DeclsSpell ds tokens rest → DeclsFit ds → DeclsNamed ds → program_height ds ≤ greatest_height → WithinLimits before ds → AreReadDecls ds

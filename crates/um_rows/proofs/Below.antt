@@ -20,7 +20,7 @@ use Rattle.um_rows.specs.Holes.{unit_holes, note_holes, notes_holes, Callee, kno
 use Rattle.um_rows.specs.Rules.{Derived, item, call_rule, negate_rule, not_rule, pown_rule, truths_rule, arith_rule, compare_rule, if_rule, split_rule, list_rule, cons_rule, record_rule, field_rule, formed}
 use Rattle.um_rows.specs.Derivation.{first_units, noted_unit, noted_units, noted_type, noted_types, offered, derive, derive_all}
 use Rattle.um_rows.specs.Equations.{callee, head_holes, noted_result, result_rows, own_signature, head_steps, equations}
-use Rattle.um_rows.specs.Keys.{Key, hole, name, hole_keys, unit_keys, units_keys, note_keys, notes_keys, result_keys, expr_keys, exprs_keys, function_keys}
+use Rattle.um_rows.specs.Keys.{Key, hole, name, hole_keys, unit_keys, units_keys, name_keys, note_keys, notes_keys, result_keys, expr_keys, exprs_keys, function_keys}
 use Rattle.um_rows.proofs.Variables.{TypeBelow, TypesBelow, SignatureBelow, StepsBelow, CalleeBelow}
 use Rattle.um_rows.proofs.BelowRules.{put_below, types_put_below, first_units_below, types_below-append, steps_below-append, against_below, DerivedBelow, after_below, formed_below, item_below, number_below, local_below, OfferBelow, call_below, negate_below, not_below, pown_below, truths_below, arith_below, compare_below, if_below, split_below, nil_below, list_below, cons_below, record_below, field_rule_below}
 
@@ -236,8 +236,9 @@ module _ (limit : ℕ) (holes names : ℕ → PowerMap) where
       let head = notes_keys 0 f.params in
       let last = result_keys n f.result in
       let own = expr_keys records (callee schemes i f) (head_holes f) f.body in
-      let rest = keys_back head (last ++ own) h in
-      let ps = notes_below 0 f.params (keys_front head (last ++ own) h) in
+      let text = keys_back (name_keys 0 f.units) (head ++ (last ++ own)) h in
+      let rest = keys_back head (last ++ own) text in
+      let ps = notes_below 0 f.params (keys_front head (last ++ own) text) in
       let r = result_below n f.result (keys_front last own rest) in
       let body = derive holes names records (own_signature holes names f) (callee schemes i f) (head_holes f) params f.body in
       let b = derived_below records (own_signature holes names f) (ps, r) (callee schemes i f) low (head_holes f) params f.body ps (keys_back last own rest) in (

@@ -38,9 +38,9 @@ use Rattle.um_rows.proofs.OfferLaws.{all_below}
 use Rattle.um_rows.proofs.PushLaws.{first_of, first_past-append, rows_of-append}
 use Rattle.um_rows.proofs.SameDerivation.{KeysAlike, same_equations}
 
--- ---- slots of three stretches of keys
-pub slots_all : (a b c : List Key) (s t u v : Slots) (x y : Unit {0}) (r : Result (Unit {0}) RowStop) → HaveSlots a s t (Ok x) → HaveSlots b t u (Ok y) → HaveSlots c u v r → HaveSlots (a ++ (b ++ c)) s v r
-slots_all a b c s t u v x y r h k l = slots_both a (b ++ c) s t v x r h (slots_both b c t u v y r k l)
+-- ---- slots of four stretches of keys
+pub slots_all : (a b c d : List Key) (s t u v w : Slots) (x y z : Unit {0}) (r : Result (Unit {0}) RowStop) → HaveSlots a s t (Ok x) → HaveSlots b t u (Ok y) → HaveSlots c u v (Ok z) → HaveSlots d v w r → HaveSlots (a ++ (b ++ (c ++ d))) s w r
+slots_all a b c d s t u v w x y z r h k l m = slots_both a (b ++ (c ++ d)) s t w x r h (slots_both b (c ++ d) t u w y r k (slots_both c d u v w z r l m))
 
 -- ---- what the table says of the keys
 hole_of : Key → ℕ
@@ -110,9 +110,9 @@ rows_of-types at [] = refl
 rows_of-types at (t ∷ ts) = rows_of-types at ts
 
 -- ---- all together
-module _ (records : List Record) (schemes : List Scheme) (number at : ℕ) (recursive : Bool) (params : List NoteTree) (note : Option NoteTree) (body : ExprTree) (closed : AreClosedBefore number schemes) where
+module _ (records : List Record) (schemes : List Scheme) (number at : ℕ) (recursive : Bool) (units : ℕ) (params : List NoteTree) (note : Option NoteTree) (body : ExprTree) (closed : AreClosedBefore number schemes) where
   abbrev pub fn : FunctionTree
-  fn = described at recursive params note body
+  fn = described at recursive units params note body
 
   abbrev keys : List Key
   keys = function_keys (map record_tree records) (map scheme_tree schemes) number fn

@@ -10,8 +10,8 @@ use Rattle.um_units.specs.PowerMap.{PowerMap, product, one, atom}
 use Rattle.um_tree.specs.declared.note.UnitNote.TheVariants.{Hole, Written}
 use Rattle.um_tree.specs.declared.expression.Arith.TheVariants.{Add, Mul}
 use Rattle.um_tree.specs.declared.expression.Sign.TheVariants.{Lt}
-use Rattle.um_tree.specs.TypeTree.{TypeTree, bool_type, num_type, list_type, record_type, bool_note, num_note, list_note, record_note}
-use Rattle.um_tree.specs.ExprTree.{number, local, call, pown, arith as arith_tree, compare, both, if, split, nil, cons, record_expr, field, none, more}
+use Rattle.um_tree.specs.TypeTree.{TypeTree, bool_type, num_type, list_type, record_type, NoteTree, bool_note, num_note, list_note, record_note}
+use Rattle.um_tree.specs.ExprTree.{ExprTree, number, local, call, pown, arith as arith_tree, compare, both, if, split, nil, cons, record_expr, field, none, more}
 use Rattle.um_tree.specs.ProgramTree.{RecordTree, FunctionTree, SchemeTree}
 use Rattle.um_tree.proofs.ExamplePrograms.{zero_number, one_number, plain, rec_function, marked}
 use Rattle.um_rows.specs.declared.row.Row.{Row}
@@ -19,7 +19,7 @@ use Rattle.um_rows.specs.Steps.{Step, rows_of, first_past}
 use Rattle.um_elim.proofs.Cases.{on_test}
 use Rattle.um_rows.specs.Keys.{hole, hole_keys}
 use Rattle.um_rows.specs.Slots.{same_key, slot_order, slot_count, slot_equations}
-use Rattle.um_rows.specs.Judgement.{Judgement, has_scheme, too_many_slots, passes_range, has_no_typing, judge}
+use Rattle.um_rows.specs.Judgement.{Judgement, has_scheme, too_many_slots, passes_range, has_no_typing, not_general, judge}
 use Rattle.um_rows.specs.CallEquations.{call_function}
 use Rattle.um_tree.specs.ValueTree.{InputTree, InputTrees, number_input, list_input, no_inputs, more_inputs}
 
@@ -165,29 +165,31 @@ data ShownJudgement : Type 0 where
   slots : ShownJudgement
   range : ℕ → ShownJudgement
   units : ℕ → ℕ → ShownJudgement
+  less_general : ℕ → ℕ → ShownJudgement
 
 abbrev shown_judgement : Judgement → ShownJudgement
 shown_judgement (has_scheme s) = scheme (map shown s.signature.params) (shown s.signature.result) s.vars
 shown_judgement too_many_slots = slots
 shown_judgement (passes_range at) = range at
 shown_judgement (has_no_typing k at) = units k at
+shown_judgement (not_general k at) = less_general k at
 
 -- num</'a^3> -> num</'a^2> -> bool
-squares_under_cubes_judged : shown_judgement (judge [] [] 0 squares_under_cubes) ≡ scheme (num (term (Var 0) (negsuc 2) ∷ []) ∷ num (term (Var 0) (negsuc 1) ∷ []) ∷ []) bool 1
+squares_under_cubes_judged : shown_judgement (judge 2 [] [] 0 squares_under_cubes) ≡ scheme (num (term (Var 0) (negsuc 2) ∷ []) ∷ num (term (Var 0) (negsuc 1) ∷ []) ∷ []) bool 1
 unfolding product
 squares_under_cubes_judged = refl
 
 -- num<'a> list -> num<'a>
-sum_judged : shown_judgement (judge [] [] 0 sum) ≡ scheme (list (num (own 0)) ∷ []) (num (own 0)) 1
+sum_judged : shown_judgement (judge 2 [] [] 0 sum) ≡ scheme (list (num (own 0)) ∷ []) (num (own 0)) 1
 unfolding product
 sum_judged = refl
 
 -- let h (x: num<_>) = x * x < 1<m^3>: no half powers
-half_powers_judged : shown_judgement (judge [] [] 0 (plain (num_note Hole ∷ []) (compare 4 Lt (arith_tree 2 Mul (local 1 0) (local 3 0)) (number 5 one_number (Written (product (term (Base 0) (pos 3) ∷ []))))))) ≡ units 0 4
+half_powers_judged : shown_judgement (judge 2 [] [] 0 (plain (num_note Hole ∷ []) (compare 4 Lt (arith_tree 2 Mul (local 1 0) (local 3 0)) (number 5 one_number (Written (product (term (Base 0) (pos 3) ∷ []))))))) ≡ units 0 4
 unfolding product
 half_powers_judged = refl
 
-past_the_range_judged : shown_judgement (judge [] [] 0 past_the_range) ≡ range 2
+past_the_range_judged : shown_judgement (judge 2 [] [] 0 past_the_range) ≡ range 2
 unfolding product
 past_the_range_judged = refl
 
@@ -196,7 +198,7 @@ abbrev sum_scheme : SchemeTree
 sum_scheme = record { signature = record { params = list_type (num_type (atom (Var 0))) ∷ []; result = num_type (atom (Var 0)) }; vars = 1 }
 
 abbrev call_of_sum : InputTrees → ShownJudgement
-call_of_sum is = shown_judgement (judge [] (sum_scheme ∷ []) 1 (call_function [] 0 sum (more_inputs (list_input is) no_inputs)))
+call_of_sum is = shown_judgement (judge 2 [] (sum_scheme ∷ []) 1 (call_function [] 0 sum (more_inputs (list_input is) no_inputs)))
 
 abbrev one_of : ℕ → InputTree
 one_of k = number_input one_number (Written (atom (Base k)))
@@ -251,7 +253,7 @@ past_while_added =
     plain (num_note Hole ∷ num_note (Written (product (term (Var 0) (pos 2147483647) ∷ []))) ∷ num_note Hole ∷ [])
     (both 4 (compare 2 Lt (local 1 0) (local 3 1)) (compare 8 Lt (arith_tree 6 Mul (local 5 0) (local 7 0)) (local 9 2)))
 
-added_past : shown_judgement (judge [] [] 0 past_while_added) ≡ range 8
+added_past : shown_judgement (judge 2 [] [] 0 past_while_added) ≡ range 8
 unfolding product
 added_past = refl
 
@@ -262,13 +264,13 @@ square_scheme = record { signature = record { params = num_type (atom (Var 0)) �
 abbrev far : FunctionTree
 far = record (plain (num_note (Written (product (term (Base 0) (pos 2147483647) ∷ []))) ∷ []) (call 8 0 (more (local 9 0) none))) { at = 7 }
 
-applied_past : shown_judgement (judge [] (square_scheme ∷ []) 1 far) ≡ range 7
+applied_past : shown_judgement (judge 2 [] (square_scheme ∷ []) 1 far) ≡ range 7
 unfolding product
 applied_past = refl
 
 -- let k (x: num<m^2147483647>) (y: num<m^-2147483647>) = x < y: a closed row past the range is no unsolvable row
 closed_past :
-    shown_judgement (judge [] [] 0 (plain (num_note (Written (product (term (Base 0) (pos 2147483647) ∷ []))) ∷ num_note (Written (product (term (Base 0) (negsuc 2147483646) ∷ []))) ∷ []) (compare 2 Lt (local 1 0) (local 3 1)))) ≡ range 2
+    shown_judgement (judge 2 [] [] 0 (plain (num_note (Written (product (term (Base 0) (pos 2147483647) ∷ []))) ∷ num_note (Written (product (term (Base 0) (negsuc 2147483646) ∷ []))) ∷ []) (compare 2 Lt (local 1 0) (local 3 1)))) ≡ range 2
 unfolding product
 closed_past = refl
 
@@ -291,19 +293,53 @@ unfolding product
 no_power_equations = refl
 
 -- num<'a> -> num<'a^3>
-cube_judged : shown_judgement (judge [] [] 0 (power (pos 3))) ≡ scheme (num (own 0) ∷ []) (num (term (Var 0) (pos 3) ∷ [])) 1
+cube_judged : shown_judgement (judge 2 [] [] 0 (power (pos 3))) ≡ scheme (num (own 0) ∷ []) (num (term (Var 0) (pos 3) ∷ [])) 1
 unfolding product
 cube_judged = refl
 
 -- let far (x: num<_>) = pown (pown x 2147483647) 2: the outer power is past the range, at its place
-powers_past_judged : shown_judgement (judge [] [] 0 (plain (num_note Hole ∷ []) (pown 1 (pown 2 (local 3 0) (pos 2147483647)) (pos 2)))) ≡ range 1
+powers_past_judged : shown_judgement (judge 2 [] [] 0 (plain (num_note Hole ∷ []) (pown 1 (pown 2 (local 3 0) (pos 2147483647)) (pos 2)))) ≡ range 1
 unfolding product
 powers_past_judged = refl
 
 -- let back (x: num<_>) = pown (pown x 2147483647) (-1): -2147483647 is in range
-powers_kept_judged : shown_judgement (judge [] [] 0 (plain (num_note Hole ∷ []) (pown 1 (pown 2 (local 3 0) (pos 2147483647)) (negsuc 0)))) ≡ scheme (num (own 0) ∷ []) (num (term (Var 0) (negsuc 2147483646) ∷ [])) 1
+powers_kept_judged : shown_judgement (judge 2 [] [] 0 (plain (num_note Hole ∷ []) (pown 1 (pown 2 (local 3 0) (pos 2147483647)) (negsuc 0)))) ≡ scheme (num (own 0) ∷ []) (num (term (Var 0) (negsuc 2147483646) ∷ [])) 1
 unfolding product
 powers_kept_judged = refl
+
+-- ---- unit parameters, behind two base units
+-- a function with one
+abbrev with_parameter : List NoteTree → ExprTree → FunctionTree
+with_parameter notes e = record (plain notes e) { units = 1; named = 1 }
+
+-- let h<'u> (x: num<_>) (y: num<'u>) = y < x: the parameter has the first slot
+parameter_first :
+    summary [] [] 0 (with_parameter (num_note Hole ∷ num_note (Written (atom (Var 0))) ∷ []) (compare 2 Lt (local 1 1) (local 3 0)))
+    ≡ record { slots = 2; rows = (2, term (Var 0) (pos 1) ∷ term (Var 1) (negsuc 0) ∷ []) ∷ []; params = num (own 1) ∷ num (own 0) ∷ []; result = bool }
+unfolding product
+parameter_first = refl
+
+-- let k<'u> (x: num<_>) = x: also where it doesn't occur
+parameter_unused : summary [] [] 0 (with_parameter (num_note Hole ∷ []) (local 1 0)) ≡ record { slots = 2; rows = []; params = num (own 1) ∷ []; result = num (own 1) }
+unfolding product
+parameter_unused = refl
+
+-- let g<'u> (x: num<'u>) (y: num<_>) = x + y: num<'a> -> num<'a> -> num<'a>
+parameter_judged :
+    shown_judgement (judge 2 [] [] 0 (with_parameter (num_note (Written (atom (Var 0))) ∷ num_note Hole ∷ []) (arith_tree 2 Add (local 1 0) (local 3 1)))) ≡ scheme (num (own 0) ∷ num (own 0) ∷ []) (num (own 0)) 1
+unfolding product
+parameter_judged = refl
+
+-- let f<'u> (x: num<'u>) = x + 1<m>: metres would do, but the parameter is a unit of its own
+parameter_fixed : shown_judgement (judge 2 [] [] 0 (with_parameter (num_note (Written (atom (Var 0))) ∷ []) (arith_tree 2 Add (local 1 0) (number 3 one_number (Written (atom (Base 0))))))) ≡ less_general 0 2
+unfolding product
+parameter_fixed = refl
+
+-- let h<'u> (x: num<'u>) = x * x < 1<m^3>: no unit would do
+parameter_untyped :
+    shown_judgement (judge 2 [] [] 0 (with_parameter (num_note (Written (atom (Var 0))) ∷ []) (compare 4 Lt (arith_tree 2 Mul (local 1 0) (local 3 0)) (number 5 one_number (Written (product (term (Base 0) (pos 3) ∷ []))))))) ≡ units 0 4
+unfolding product
+parameter_untyped = refl
 
 -- ---- the limit of slots
 keep : (k n m : ℕ) → k < n → filter (λ j. not (same_key j (hole k))) (hole_keys n m) ≡ hole_keys n m
@@ -332,21 +368,21 @@ call_slots : (n : ℕ) → slot_count [] (wide n ∷ []) 1 one_call ≡ n
 unfolding product
 call_slots n = ap (λ ks. length (slot_order ks)) (append-nil (hole_keys 0 n)) ∙ ap length (order-holes 0 n) ∙ length-holes 0 n
 
-few_slots : (n : ℕ) → n ≤ 2000 → judge [] (wide n ∷ []) 1 one_call ≡ has_scheme (wide 0)
+few_slots : (n : ℕ) → n ≤ 2000 → judge 2 [] (wide n ∷ []) 1 one_call ≡ has_scheme (wide 0)
 unfolding product
 few_slots n h = on_test (leb (slot_count [] (wide n ∷ []) 1 one_call) 2000)
     (λ e. ap (λ b. cond b (has_scheme (wide 0)) too_many_slots) e)
     (λ e. absurd (let count = call_slots n in let past : 2000 < slot_count [] (wide n ∷ []) 1 one_call = grind (arith, nat_tests) in omega (arith, count, past, h)))
 
-many_slots : (n : ℕ) → 2000 < n → judge [] (wide n ∷ []) 1 one_call ≡ too_many_slots
+many_slots : (n : ℕ) → 2000 < n → judge 2 [] (wide n ∷ []) 1 one_call ≡ too_many_slots
 unfolding product
 many_slots n h = on_test (leb (slot_count [] (wide n ∷ []) 1 one_call) 2000)
     (λ e. absurd (let count = call_slots n in let few : slot_count [] (wide n ∷ []) 1 one_call ≤ 2000 = grind (arith, nat_tests) in omega (arith, count, few, h)))
     (λ e. ap (λ b. cond b (has_scheme (wide 0)) too_many_slots) e)
 
 -- 2,000 slots are few, and 2,001 are too many
-at_the_limit : judge [] (wide 2000 ∷ []) 1 one_call ≡ has_scheme (wide 0)
+at_the_limit : judge 2 [] (wide 2000 ∷ []) 1 one_call ≡ has_scheme (wide 0)
 at_the_limit = few_slots 2000 (lit≤ tt)
 
-past_the_limit : judge [] (wide 2001 ∷ []) 1 one_call ≡ too_many_slots
+past_the_limit : judge 2 [] (wide 2001 ∷ []) 1 one_call ≡ too_many_slots
 past_the_limit = many_slots 2001 (lit< tt)

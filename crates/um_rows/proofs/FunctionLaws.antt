@@ -6,7 +6,7 @@ use Rattle.std.proofs.lemmas.Bool.Decides.{nat_tests}
 use Rattle.um_units.specs.PowerMap.{PowerMap, replace}
 use Rattle.um_tree.specs.TypeTree.{TypeTree, bool_type, NoteTree}
 use Rattle.um_tree.specs.ProgramTree.{RecordTree, FunctionTree, Signature, SchemeTree}
-use Rattle.um_tree.specs.Typing.{put, put_signature, Matches, TypesMatch, ResultMatches, Earlier, MayRecur, Calls, IsTypingOf, Typed}
+use Rattle.um_tree.specs.Typing.{put, put_signature, Matches, TypesMatch, ResultMatches, Earlier, MayRecur, Calls, IsLooseTypingOf, Typed}
 use Rattle.um_tree.specs.Scheme.{IsInstance}
 use Rattle.um_elim.proofs.Cases.{on_test}
 use Rattle.um_tree.specs.Laws.{LiteralsAreClosed}
@@ -102,13 +102,13 @@ module _ (earlier : Earlier) (schemes : List SchemeTree) (i : ℕ) (fit : AllFit
 
   -- ---- where each literal's unit is closed
   module _ (closed : LiteralsAreClosed f.body) where
-    pub body_typed : (records : List RecordTree) (sig : Signature) (h : IsTypingOf records earlier i f sig) → Typed records (Calls earlier i f sig) h.choice sig.params (put_literals h.choice f.body) sig.result
+    pub body_typed : (records : List RecordTree) (sig : Signature) (h : IsLooseTypingOf records earlier i f sig) → Typed records (Calls earlier i f sig) h.choice sig.params (put_literals h.choice f.body) sig.result
     body_typed records sig h = subst (λ e. Typed records (Calls earlier i f sig) h.choice sig.params e sig.result) (sym (same_literals h.choice f.body closed)) h.body
 
-    abbrev body_used : (records : List RecordTree) (sig : Signature) → IsTypingOf records earlier i f sig → ℕ → PowerMap
+    abbrev body_used : (records : List RecordTree) (sig : Signature) → IsLooseTypingOf records earlier i f sig → ℕ → PowerMap
     body_used records sig h = used h.choice records (own_sig f sig) (callee schemes i f) (Calls earlier i f sig) (own_opens sig) sig.params f.body sig.result (body_typed records sig h)
 
-    abbrev pub function_used : (records : List RecordTree) (sig : Signature) → IsTypingOf records earlier i f sig → ℕ → PowerMap
+    abbrev pub function_used : (records : List RecordTree) (sig : Signature) → IsLooseTypingOf records earlier i f sig → ℕ → PowerMap
     function_used records sig h =
         then_units (notes_holes f.params) (notes_used h.choice f.params sig.params h.params)
         (then_units (result_holes f.result) (result_used h.choice f.result sig.result h.result) (body_used records sig h))
@@ -129,9 +129,11 @@ module _ (earlier : Earlier) (schemes : List SchemeTree) (i : ℕ) (fit : AllFit
         own_result_sound at t n None h m = absurd (cc m)
         own_result_sound at t n (Some k) h m = same_from_rows v at t (noted_type holes names n k) h
 
+        abbrev given : Signature
+        given = record { params = map (put v) (equations holes names records schemes i f).params; result = put v (equations holes names records schemes i f).result }
+
         -- units that make each row 1 give a typing, whose choice is what they put for the named variables
-        pub function_sound : Holds v (equations holes names records schemes i f).steps →
-            IsTypingOf records earlier i f (record { params = map (put v) (equations holes names records schemes i f).params; result = put v (equations holes names records schemes i f).result })
+        pub function_sound : Holds v (equations holes names records schemes i f).steps → (h : IsLooseTypingOf records earlier i f given) × ((k : ℕ) → h.choice k ≡ replace v (names k))
         function_sound all =
             let n = notes_holes f.params in
             let params = noted_types holes names 0 f.params in
@@ -140,14 +142,16 @@ module _ (earlier : Earlier) (schemes : List SchemeTree) (i : ℕ) (fit : AllFit
             let h = Holds-back v (head_steps holes names f) (body.steps ++ result_rows holes names f.at body.type n f.result) all in
             let last = Holds-back v body.steps (result_rows holes names f.at body.type n f.result) h in
             let sig : Signature = record { params = map (put v) params; result = put v body.type } in
-            let own = λ (m : MayRecur f). let e = own_result_sound f.at body.type n f.result last m.noted in let same : sig ≡ put_signature v self = λ i. record { params = map (put v) params; result = e i } in same in
-            record {
-              choice = λ k. replace v (names k);
-              params = params_sound 0 f.params;
-              result = result_sound f.at body.type n f.result last;
-              body = subst (λ e. Typed records (Calls earlier i f sig) (λ k. replace v (names k)) sig.params e sig.result) (same_literals (λ k. replace v (names k)) f.body closed)
-                  (sound v holes names records self (callee schemes i f) (Calls earlier i f sig) (closes (put_signature v self) sig own) (head_holes f) params f.body (Holds-front v body.steps (result_rows holes names f.at body.type n f.result) h));
-            }
+            let own = λ (m : MayRecur f). let e = own_result_sound f.at body.type n f.result last m.noted in let same : sig ≡ put_signature v self = λ i. record { params = map (put v) params; result = e i } in same in (
+              record {
+                choice = λ k. replace v (names k);
+                params = params_sound 0 f.params;
+                result = result_sound f.at body.type n f.result last;
+                body = subst (λ e. Typed records (Calls earlier i f sig) (λ k. replace v (names k)) sig.params e sig.result) (same_literals (λ k. replace v (names k)) f.body closed)
+                    (sound v holes names records self (callee schemes i f) (Calls earlier i f sig) (closes (put_signature v self) sig own) (head_holes f) params f.body (Holds-front v body.steps (result_rows holes names f.at body.type n f.result) h));
+              },
+              λ k. refl,
+            )
 
       -- ---- complete
       module _ (v choice : ℕ → PowerMap) (same : (k : ℕ) → replace v (names k) ≡ choice k) where
@@ -170,7 +174,7 @@ module _ (earlier : Earlier) (schemes : List SchemeTree) (i : ℕ) (fit : AllFit
         rows_complete at b n (Some m) t e k = rows-same v at b (noted_type holes names n m) (e ∙ sym k)
 
       -- a typing comes from units that give its holes and its named variables what it uses
-      pub function_complete : (sig : Signature) (h : IsTypingOf records earlier i f sig) (v : ℕ → PowerMap) → ((k : ℕ) → replace v (holes k) ≡ function_used records sig h k) → ((k : ℕ) → replace v (names k) ≡ h.choice k) →
+      pub function_complete : (sig : Signature) (h : IsLooseTypingOf records earlier i f sig) (v : ℕ → PowerMap) → ((k : ℕ) → replace v (holes k) ≡ function_used records sig h k) → ((k : ℕ) → replace v (names k) ≡ h.choice k) →
           Holds v (equations holes names records schemes i f).steps × (sig ≡ record { params = map (put v) (equations holes names records schemes i f).params; result = put v (equations holes names records schemes i f).result })
       function_complete sig h v units same =
           let c = callee schemes i f in

@@ -1,5 +1,5 @@
 -- Inputs as expressions have exactly the types of the inputs.
-use Rattle.std.proofs.Common.{◌≡◌, ℕ, suc, List, [], ◌∷◌, map, length, replicate, get_or, Some, slice_get, refl, sym, ap, ◌∙◌, subst}
+use Rattle.std.proofs.Common.{◌≡◌, ℕ, zero, suc, List, [], ◌∷◌, map, length, replicate, get_or, Some, slice_get, refl, sym, ap, ◌∙◌, subst}
 use Rattle.std.specs.Prelude.{All}
 use Rattle.std.proofs.lemmas.List.{length-map}
 use Rattle.std.proofs.lemmas.List.Elements.{All-head, All-tail}
@@ -11,7 +11,7 @@ use Rattle.um_tree.specs.declared.note.UnitNote.TheVariants.{Hole, Written}
 use Rattle.um_tree.specs.TypeTree.{TypeTree, bool_type, num_type, list_type, record_type, NoteTree, bool_note, num_note, list_note, record_note, ShapeTree, bool_shape, num_shape, list_shape, record_shape}
 use Rattle.um_tree.specs.ValueTree.{InputTree, InputTrees, truth_input, number_input, list_input, record_input, no_inputs, more_inputs}
 use Rattle.um_tree.specs.ProgramTree.{RecordTree, Signature}
-use Rattle.um_tree.specs.Typing.{put, unit_at, field_types, UnitsMatch, Matches, TypesMatch, EachIs, Typed, AllTyped}
+use Rattle.um_tree.specs.Typing.{put, moved, unit_at, field_types, UnitsMatch, Matches, TypesMatch, EachIs, Typed, AllTyped}
 use Rattle.um_tree.specs.ExprTree.{ExprTrees, none, more}
 use Rattle.um_tree.specs.Laws.{UnitNoteHas, NoteHas, ExprsHave, LiteralsAreClosed}
 use Rattle.um_tree.specs.Shapes.{type_shape, note_shape}
@@ -64,6 +64,22 @@ notes_are_open bases vars records choice other (n ∷ ns) ts w m = (
   notes_are_open bases vars records choice other ns m.1 (All-tail (IsNoteTreeIn bases vars records) n ns w) m.3,
   m.4,
 )
+
+-- units that are changed leave the shape
+units_moved : (choice : ℕ → PowerMap) (change : PowerMap → PowerMap) (n : ℕ) (us : List PowerMap) → UnitsMatch choice (replicate n Hole) us → UnitsMatch choice (replicate n Hole) (map change us)
+units_moved choice change zero us m = ap (map change) m
+units_moved choice change (suc n) us m = (change m.0, map change m.1, tt, units_moved choice change n m.1 m.3, ap (map change) m.4)
+
+open_moved : (records : List RecordTree) (choice : ℕ → PowerMap) (change : PowerMap → PowerMap) (s : ShapeTree) (t : TypeTree) → Matches choice (open_note records s) t → Matches choice (open_note records s) (moved change t)
+open_moved records choice change bool_shape t m = ap (moved change) m
+open_moved records choice change num_shape t m = (change m.0, tt, ap (moved change) m.2)
+open_moved records choice change (list_shape s) t m = (moved change m.0, open_moved records choice change s m.0 m.1, ap (moved change) m.2)
+open_moved records choice change (record_shape r) t m = (map change m.0, units_moved choice change (record_holes (slice_get records r)) m.0 m.1, ap (moved change) m.2)
+
+pub types_open_moved : (records : List RecordTree) (choice : ℕ → PowerMap) (change : PowerMap → PowerMap) (ss : List ShapeTree) (ts : List TypeTree) → TypesAreOpen records choice ss ts → TypesAreOpen records choice ss (map (moved change) ts)
+types_open_moved records choice change [] ts m = ap (map (moved change)) m
+types_open_moved records choice change (s ∷ ss) ts m =
+    (moved change m.0, map (moved change) m.1, open_moved records choice change s m.0 m.2, types_open_moved records choice change ss m.1 m.3, ap (map (moved change)) m.4)
 
 fields_are_open : (bases vars : ℕ) (records : List RecordTree) (s choice : ℕ → PowerMap) (ts : List TypeTree) → All (IsTypeIn bases vars records) ts → TypesAreOpen records choice (map type_shape ts) (map (put s) ts)
 fields_are_open bases vars records s choice [] w = refl

@@ -63,10 +63,10 @@ has-order k (x ∷ xs) =
     either false b = refl
 
 -- ---- how the order grows
-abbrev added : List Key → List Key → List Key
+abbrev pub added : List Key → List Key → List Key
 added ks xs = filter (λ j. not (has_slot ks j)) (slot_order xs)
 
-grown : (ks xs : List Key) → with_keys ks xs ≡ ks ++ added ks xs
+pub grown : (ks xs : List Key) → with_keys ks xs ≡ ks ++ added ks xs
 grown ks [] = sym (append-nil ks)
 grown ks (x ∷ xs) =
     elim (has_slot ks x) as (λ b. has_slot ks x ≡ b → with_keys (cond b ks (ks ++ x ∷ [])) xs ≡ ks ++ cond (not b) (x ∷ rest) rest) [

@@ -15,12 +15,15 @@ pub mod Below
 pub mod KeyOrder
 pub mod TableLaws
 pub mod SlotLaws
+pub mod ParameterSlots
 pub mod FunctionLaws
 mod VariableLists
 pub mod Solved
 pub mod SolvingLaws
 pub mod NumberedSchemes
+pub mod GeneralisedUnits
 pub mod JudgementLaws
+pub mod GeneralLaws
 mod InputTexts
 pub mod CallLaws
 pub mod PushLaws

@@ -31,10 +31,10 @@ module _ (p : Program) (formed : IsFormed (program_tree p)) (schemes : List Sche
   only g e = let same : Some (function_tree f) ≡ Some g = sym found ∙ e in cc same
 
   abbrev made : FunctionTree
-  made = described 0 false [] None body
+  made = described 0 false 0 [] None body
 
   made_is : made ≡ call_function (program_tree p).records k (function_tree f) inputs
-  made_is = ap (described 0 false [] None) body_is
+  made_is = ap (described 0 false 0 [] None) body_is
 
   pub rows_of_call : (r : Rows) → AreEquations (program_tree p).records schemes n made r → AreCallRowsOf (program_tree p) schemes k inputs r
   rows_of_call r h g e =

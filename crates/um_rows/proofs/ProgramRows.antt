@@ -1,9 +1,9 @@
 -- What is known of a formed program, as the code of the equations asks for it, and what its equations say.
-use Rattle.std.proofs.Common.{◌≡◌, ℕ, List, [], ◌∷◌, map, length, get_or, Some, Ok, Err, slice_get, sym, ◌∙◌, subst, arith}
+use Rattle.std.proofs.Common.{◌≡◌, ◌↔◌, ℕ, List, [], ◌∷◌, map, length, get_or, Some, Ok, Err, slice_get, sym, ◌∙◌, subst, arith}
 use Rattle.std.specs.Prelude.{All, Result, MatchResult, IfOk, IfErr}
 use Rattle.std.proofs.lemmas.List.{get_or_default}
 use Rattle.std.proofs.lemmas.List.Elements.{All-nil, All-cons, All-head, All-tail}
-use Rattle.um_units.specs.PowerMap.{nth}
+use Rattle.um_units.specs.PowerMap.{PowerMap, nth}
 use Rattle.um_units.specs.Variables.{VariablesBelow}
 use Rattle.um_units.specs.Solutions.{IsJointSolution}
 use Rattle.um_tree.specs.declared.note.Note.{Note}
@@ -15,24 +15,25 @@ use Rattle.um_tree.specs.declared.program.Function.{Function}
 use Rattle.um_tree.specs.declared.program.Program.{Program}
 use Rattle.um_tree.specs.TypeTree.{TypeTree, bool_type, num_type, list_type, record_type, type_tree, note_tree}
 use Rattle.um_tree.specs.ExprTree.{expr_tree}
-use Rattle.um_tree.specs.ProgramTree.{RecordTree, FieldTree, FunctionTree, ProgramTree, SchemeTree, field_tree, record_tree, function_tree, result_tree, program_tree, scheme_tree}
-use Rattle.um_tree.specs.Typing.{put_signature}
+use Rattle.um_tree.specs.ProgramTree.{RecordTree, FieldTree, FunctionTree, ProgramTree, Signature, SchemeTree, field_tree, record_tree, function_tree, result_tree, program_tree, scheme_tree}
+use Rattle.um_tree.specs.Typing.{put_signature, IsLooseTypingOf, IsRigidTypingOf, typings_below}
 use Rattle.um_tree.specs.Laws.{TypeHas}
 use Rattle.um_tree.specs.Formed.{IsTypeIn, IsFieldType, IsFormed}
 use Rattle.um_tree.proofs.WrittenUnits.{formed_literals_are_closed}
+use Rattle.um_rows.specs.declared.row.Row.{Row}
 use Rattle.um_rows.specs.declared.row.Rows.{Rows}
 use Rattle.um_rows.specs.declared.row.RowStop.{RowStop}
 use Rattle.um_rows.specs.declared.row.RowStop.TheVariants as stop
 use Rattle.um_tree.proofs.Moved.{slice_get_moved}
 use Rattle.um_rows.specs.Steps.{rows_of, units_of}
 use Rattle.um_rows.specs.Slots.{slot_count, slot_equations}
-use Rattle.um_rows.specs.Solutions.{IsSolved}
+use Rattle.um_rows.specs.Solutions.{slot_signature, HaveSchemes}
 use Rattle.um_rows.specs.Body.{AreClosedBefore, IsClosedRecord}
-use Rattle.um_rows.specs.Answers.{AreEquations, StopsFor, AreRowsOf, RowsStopFor, HaveVariablesBelow, IsGivenBy, TypingsAreSolutionsOf, described}
+use Rattle.um_rows.specs.Answers.{AreEquations, StopsFor, AreRowsOf, RowsStopFor, HaveVariablesBelow, rows_signature, IsGivenBy, IsRigidlyGivenBy, TypingsAreSolutionsOf, described}
 use Rattle.um_rows.proofs.Variables.{TypesBelow}
 use Rattle.um_rows.proofs.VariableLists.{signature_below_from}
 use Rattle.um_rows.proofs.NodeLaws.{mapped_found}
-use Rattle.um_rows.proofs.Solved.{typings_are_solutions}
+use Rattle.um_rows.proofs.Solved.{loose_typings_are_solutions, rigid_typings_are_solutions}
 
 -- ---- schemes
 all_from : (n : ℕ) (ts : List Ty) → TypesBelow n (map type_tree ts) → All (λ t. TypeHas (VariablesBelow n) (type_tree t)) ts
@@ -69,13 +70,13 @@ closed_records p formed r d l =
 -- ---- what the code of the equations answers of a function with these notes
 abbrev pub IsAnswer : List Record → List SchemeTree → ℕ → Function → List Note → Result Rows RowStop → Type 0
 IsAnswer records schemes i f params r =
-    MatchResult r (AreEquations (map record_tree records) schemes i (described f.at f.recursive (map note_tree params) (result_tree f.result) (expr_tree f.body)))
-    (StopsFor (map record_tree records) schemes i (described f.at f.recursive (map note_tree params) (result_tree f.result) (expr_tree f.body)))
+    MatchResult r (AreEquations (map record_tree records) schemes i (described f.at f.recursive f.units (map note_tree params) (result_tree f.result) (expr_tree f.body)))
+    (StopsFor (map record_tree records) schemes i (described f.at f.recursive f.units (map note_tree params) (result_tree f.result) (expr_tree f.body)))
 
 -- ---- a function of the program
 module _ (p : Program) (formed : IsFormed (program_tree p)) (schemes : List SchemeTree) (i : ℕ) (f : Function) (there : slice_get p.functions.items.items i ≡ Some f) where
   abbrev parts : FunctionTree
-  parts = described f.at f.recursive (map note_tree f.params.items.items) (result_tree f.result) (expr_tree f.body)
+  parts = described f.at f.recursive f.units (map note_tree f.params.items.items) (result_tree f.result) (expr_tree f.body)
 
   found : slice_get (program_tree p).functions i ≡ Some (function_tree f)
   found = slice_get_moved function_tree p.functions.items.items i f there
@@ -94,24 +95,44 @@ module _ (p : Program) (formed : IsFormed (program_tree p)) (schemes : List Sche
   pub stops_of_function : (x : RowStop) → StopsFor (program_tree p).records schemes i parts x → RowsStopFor (program_tree p) schemes i x
   stops_of_function x h g e = subst (λ y. StopsFor (program_tree p).records schemes i y x) (only g e) (stops_with x h)
 
-  pub typings_of_function : (r : Rows) → AreEquations (program_tree p).records schemes i parts r → TypingsAreSolutionsOf (program_tree p) schemes i r
-  typings_of_function r h have g =
-      let both = typings_are_solutions (program_tree p) schemes i (function_tree f) found (formed_literals_are_closed (program_tree p) i formed i (function_tree f) (omega arith) found) have g in
-      ((λ t. given (both.0 t)), (λ w. both.1 (solved w)))
-    where
-      given : IsSolved (program_tree p).records schemes i (function_tree f) g → IsGivenBy r g
-      given w = (
-        w.0,
-        subst (λ n. IsJointSolution n (units_of r.list.items.items) w.0) (sym h.slots) (subst (λ rs. IsJointSolution (slot_count (program_tree p).records schemes i (function_tree f)) (units_of rs) w.0) (sym h.list) w.1),
-        w.2 ∙ (λ j. put_signature (nth w.0) (record { params = sym h.params j; result = sym h.result j })),
-      )
+  -- ---- solutions of the definition's rows are those of the code's
+  module _ (r : Rows) (h : AreEquations (program_tree p).records schemes i parts r) where
+    abbrev IsJoint : ℕ → List Row → List PowerMap → Type 0
+    IsJoint n rs units = IsJointSolution n (units_of rs) units
 
-      solved : IsGivenBy r g → IsSolved (program_tree p).records schemes i (function_tree f) g
-      solved w = (
-        w.0,
-        subst (λ n. IsJointSolution n (units_of (rows_of (slot_equations (program_tree p).records schemes i (function_tree f)).steps)) w.0) h.slots (subst (λ rs. IsJointSolution r.slots (units_of rs) w.0) h.list w.1),
-        w.2 ∙ (λ j. put_signature (nth w.0) (record { params = h.params j; result = h.result j })),
-      )
+    given : (units : List PowerMap) → IsJoint (slot_count (program_tree p).records schemes i (function_tree f)) (rows_of (slot_equations (program_tree p).records schemes i (function_tree f)).steps) units → IsJoint r.slots r.list.items.items units
+    given units w =
+        subst (λ n. IsJoint n r.list.items.items units) (sym h.slots) (subst (λ rs. IsJoint (slot_count (program_tree p).records schemes i (function_tree f)) rs units) (sym h.list) w)
+
+    found_joint : (units : List PowerMap) → IsJoint r.slots r.list.items.items units → IsJoint (slot_count (program_tree p).records schemes i (function_tree f)) (rows_of (slot_equations (program_tree p).records schemes i (function_tree f)).steps) units
+    found_joint units w =
+        subst (λ n. IsJoint n (rows_of (slot_equations (program_tree p).records schemes i (function_tree f)).steps) units) h.slots (subst (λ rs. IsJoint r.slots rs units) h.list w)
+
+    same_types : (units : List PowerMap) → put_signature (nth units) (slot_signature (program_tree p).records schemes i (function_tree f)) ≡ put_signature (nth units) (rows_signature r)
+    same_types units = λ j. put_signature (nth units) (record { params = sym h.params j; result = sym h.result j })
+
+    abbrev AreRight : Signature → FunctionTree → Type 0
+    AreRight s x =
+        (IsLooseTypingOf (program_tree p).records (typings_below (program_tree p) i) i x s ↔ IsGivenBy r s)
+        × (IsRigidTypingOf (length (program_tree p).bases) (program_tree p).records (typings_below (program_tree p) i) i x s ↔ IsRigidlyGivenBy (length (program_tree p).bases) x.units r s)
+
+    own_typings : HaveSchemes (program_tree p) schemes i → (s : Signature) → AreRight s (function_tree f)
+    own_typings have s =
+        let closed = formed_literals_are_closed (program_tree p) i formed i (function_tree f) (omega arith) found in
+        let loose = loose_typings_are_solutions (program_tree p) schemes i (function_tree f) closed have s in
+        let rigid = rigid_typings_are_solutions (program_tree p) schemes i (function_tree f) closed have s in (
+          (
+            (λ t. let w = loose.0 t in (w.0, given w.0 w.1, w.2 ∙ same_types w.0)),
+            (λ w. loose.1 (w.0, found_joint w.0 w.1, w.2 ∙ sym (same_types w.0))),
+          ),
+          (
+            (λ t. let w = rigid.0 t in (w.0, given w.0 w.1, w.2, w.3 ∙ same_types w.0)),
+            (λ w. rigid.1 (w.0, found_joint w.0 w.1, w.2, w.3 ∙ sym (same_types w.0))),
+          ),
+        )
+
+    pub typings_of_function : TypingsAreSolutionsOf (program_tree p) schemes i r
+    typings_of_function g e have s = subst (AreRight s) (only g e) (own_typings have s)
 
   -- ---- by the answer
   pub rows_ok : (r : Result Rows RowStop) → IsAnswer p.records.items.items schemes i f f.params.items.items r → IfOk r (AreRowsOf (program_tree p) schemes i)

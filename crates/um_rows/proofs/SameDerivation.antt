@@ -18,7 +18,7 @@ use Rattle.um_rows.specs.Holes.{unit_holes, note_holes, notes_holes, Callee, kno
 use Rattle.um_rows.specs.Rules.{Derived, after, formed, item, number_rule, call_rule, negate_rule, not_rule, pown_rule, truths_rule, arith_rule, compare_rule, if_rule, split_rule, nil_rule, list_rule, cons_rule, record_rule, field_rule}
 use Rattle.um_rows.specs.Derivation.{first_units, noted_unit, noted_units, noted_type, noted_types, offered, derive, derive_all}
 use Rattle.um_rows.specs.Equations.{callee, head_holes, noted_result, result_rows, own_signature, equations}
-use Rattle.um_rows.specs.Keys.{Key, hole, name, hole_keys, unit_keys, units_keys, note_keys, notes_keys, result_keys, expr_keys, exprs_keys, function_keys}
+use Rattle.um_rows.specs.Keys.{Key, hole, name, hole_keys, unit_keys, units_keys, name_keys, note_keys, notes_keys, result_keys, expr_keys, exprs_keys, function_keys}
 use Rattle.um_rows.proofs.Variables.{CalleeBelow, signature_put_alike_below}
 
 module _ (f g m q : ℕ → PowerMap) where
@@ -188,8 +188,9 @@ module _ (f g m q : ℕ → PowerMap) where
       let head = notes_keys 0 fn.params in
       let result = result_keys (notes_holes fn.params) fn.result in
       let body = expr_keys records (callee schemes i fn) (head_holes fn) fn.body in
-      let behind = alike_back head (result ++ body) k in
-      let params = same_types 0 fn.params (alike_front head (result ++ body) k) in
+      let text = alike_back (name_keys 0 fn.units) (head ++ (result ++ body)) k in
+      let behind = alike_back head (result ++ body) text in
+      let params = same_types 0 fn.params (alike_front head (result ++ body) text) in
       let noted = alike_front result body behind in
       let own : own_signature f m fn ≡ own_signature g q fn = λ j. record { params = params j; result = same_result (notes_holes fn.params) fn.result noted j } in
       let whole : derive f m records (own_signature f m fn) (callee schemes i fn) (head_holes fn) (noted_types f m 0 fn.params) fn.body ≡ derive g q records (own_signature g q fn) (callee schemes i fn) (head_holes fn) (noted_types g q 0 fn.params) fn.body =

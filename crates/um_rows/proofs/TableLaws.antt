@@ -1,5 +1,5 @@
 -- Slots that are given one by one: one more hole, one more name, and keys behind keys.
-use Rattle.std.proofs.Common.{◌≡◌, ◌≢◌, ℕ, zero, suc, ◌+◌, ◌<◌, ◌≤◌, ◌⊎◌, inl, inr, false, ◌||◌, cond, eqb, ltb, List, [], ◌∷◌, ◌++◌, length, get_or, take, drop, map, take-append-drop, Some, None, Ok, Err, refl, sym, ap, ◌∙◌, subst, arith}
+use Rattle.std.proofs.Common.{◌≡◌, ◌≢◌, ℕ, zero, suc, ◌+◌, ◌-◌, ◌<◌, ◌≤◌, ◌⊎◌, inl, inr, false, ◌||◌, cond, eqb, ltb, List, [], ◌∷◌, ◌++◌, length, get_or, take, drop, map, take-append-drop, Some, None, Ok, Err, refl, sym, ap, ◌∙◌, subst, arith}
 use Rattle.std.specs.Prelude.{IsTrue, Result, is_some}
 use Rattle.std.proofs.lemmas.Bool.Decides.{nat_tests}
 use Rattle.std.proofs.lemmas.Bool.{eqb-true, eq-eqb, false_from_ne_true}
@@ -14,7 +14,7 @@ use Rattle.um_elim.proofs.Cases.{on_test}
 use Rattle.um_rows.specs.declared.row.RowStop.{RowStop}
 use Rattle.um_rows.specs.declared.row.RowStop.TheVariants as stop
 use Rattle.um_rows.specs.declared.slots.Slots.{Slots}
-use Rattle.um_rows.specs.Keys.{Key, hole, name}
+use Rattle.um_rows.specs.Keys.{Key, hole, name, name_keys}
 use Rattle.um_rows.specs.Slots.{same_key, has_slot, place}
 use Rattle.um_rows.specs.Slotting.{with_keys, found_slot, IsTable, StopsSlots, HaveSlots}
 use Rattle.um_rows.proofs.KeyOrder.{same_key-own, with_more, length-with_more, place-append, place-last}
@@ -181,3 +181,24 @@ module _ (vars : Term → List ℕ) (terms : List Term) (i : ℕ) (d : Term) (h 
       subst (λ ks. HaveSlots ks old new (Err e)) (sym named_all)
       (slots_stop (map name (flat_map vars (take (i + 1) terms))) (map name (flat_map vars (drop (i + 1) terms))) old new e
       (subst (λ ks. HaveSlots ks old new (Err e)) (sym named_more) (slots_both (map name (flat_map vars (take i terms))) (map name (vars term)) old now new tt (Err e) was k)))
+
+-- ---- the first names, one after another
+names_split : (m n k : ℕ) → name_keys m (n + k) ≡ name_keys m n ++ name_keys (m + n) k
+names_split m zero k = (let none : 0 + k ≡ k = omega arith in ap (name_keys m) none) ∙ (let same : m ≡ m + 0 = omega arith in ap (λ j. name_keys j k) same)
+names_split m (suc n) k =
+    (let one_more : suc n + k ≡ suc (n + k) = omega arith in ap (name_keys m) one_more)
+    ∙ ap (λ ks. name m ∷ ks) (names_split (suc m) n k ∙ (let same : suc m + n ≡ m + suc n = omega arith in ap (λ j. name_keys (suc m) n ++ name_keys j k) same))
+
+first_names : (n k : ℕ) → name_keys 0 (n + k) ≡ name_keys 0 n ++ name_keys n k
+first_names n k = names_split 0 n k ∙ (let same : 0 + n ≡ n = omega arith in ap (λ j. name_keys 0 n ++ name_keys j k) same)
+
+module _ (k : ℕ) (old now : Slots) (was : HaveSlots (name_keys 0 k) old now (Ok tt)) (new : Slots) where
+  pub first_names_next : HaveSlots (name k ∷ []) now new (Ok tt) → HaveSlots (name_keys 0 (k + 1)) old new (Ok tt)
+  first_names_next next = subst (λ ks. HaveSlots ks old new (Ok tt)) (sym (first_names k 1)) (slots_both (name_keys 0 k) (name k ∷ []) old now new tt (Ok tt) was next)
+
+  pub first_names_stop : (many : ℕ) → k < many → (e : RowStop) → HaveSlots (name k ∷ []) now new (Err e) → HaveSlots (name_keys 0 many) old new (Err e)
+  first_names_stop many low e next =
+      let whole : many ≡ (k + 1) + (many - (k + 1)) = omega (arith, low) in
+      subst (λ ks. HaveSlots ks old new (Err e)) (sym (ap (name_keys 0) whole ∙ first_names (k + 1) (many - (k + 1))))
+      (slots_stop (name_keys 0 (k + 1)) (name_keys (k + 1) (many - (k + 1))) old new e
+      (subst (λ ks. HaveSlots ks old new (Err e)) (sym (first_names k 1)) (slots_both (name_keys 0 k) (name k ∷ []) old now new tt (Err e) was next)))

@@ -8,7 +8,7 @@ use Rattle.um_tree.specs.declared.note.UnitNote.{UnitNote}
 use Rattle.um_tree.specs.TypeTree.{TypeTree, bool_type, num_type, list_type, record_type, NoteTree, bool_note, num_note, list_note, record_note, ShapeTree, bool_shape, num_shape, list_shape, record_shape}
 use Rattle.um_tree.specs.ExprTree.{ExprTree, ExprTrees, truth, number, local, call, negate, not_expr, pown, arith as arith_tree, compare, both, either, if, bind, split, nil, list_expr, cons, record_expr, field, none, more}
 use Rattle.um_tree.specs.ProgramTree.{RecordTree, FunctionTree, ProgramTree, Signature, SchemeTree}
-use Rattle.um_tree.specs.Typing.{put, put_signature, unit_at, field_types, UnitsMatch, Matches, TypesMatch, ResultMatches, Typed, AllTyped, Earlier, Calls, IsTypingOf, TypingAt, typings_below, Typing}
+use Rattle.um_tree.specs.Typing.{put, put_signature, unit_at, field_types, UnitsMatch, Matches, TypesMatch, ResultMatches, Typed, AllTyped, Earlier, Calls, moved, IsLooseTypingOf, IsTypingOf, TypingAt, typings_below, Typing}
 use Rattle.um_tree.specs.Shapes.{type_shape, ShapeSignature, FunctionShape}
 use Rattle.um_tree.specs.Laws.{signature_shape}
 use Rattle.um_tree.specs.Formed.{IsNoteTreeIn, IsFormedIn, AllFormedIn, IsFormedNote, ResultFormed, IsFormedFunction, IsFormed}
@@ -68,6 +68,20 @@ module _ (records : List RecordTree) where
   are_put_back s (t ∷ ts) (r ∷ rs) h = (is_put_back s t r h.0, are_put_back s ts rs h.1)
   are_put_back s [] (r ∷ rs) h = absurd h
   are_put_back s (t ∷ ts) [] h = absurd h
+
+  -- units that are changed leave the shape
+  is_moved : (change : PowerMap → PowerMap) (t : TypeTree) (r : ShapeTree) → IsOfShape records t r → IsOfShape records (moved change t) r
+  is_moved change bool_type bool_shape h = tt
+  is_moved change (num_type u) num_shape h = tt
+  is_moved change (list_type t) (list_shape r) h = is_moved change t r h
+  is_moved change (record_type q us) (record_shape r) h = (h.0, (h.1.0, h.1.1, length-map us change ∙ h.1.2))
+  is_moved change t r h = absurd h
+
+  are_moved : (change : PowerMap → PowerMap) (ts : List TypeTree) (rs : List ShapeTree) → AreOfShapes records ts rs → AreOfShapes records (map (moved change) ts) rs
+  are_moved change [] [] h = tt
+  are_moved change (t ∷ ts) (r ∷ rs) h = (is_moved change t r h.0, are_moved change ts rs h.1)
+  are_moved change [] (r ∷ rs) h = absurd h
+  are_moved change (t ∷ ts) [] h = absurd h
 
 -- ---- notes
 units_match_length : (choice : ℕ → PowerMap) (ns : List UnitNote) (us : List PowerMap) → UnitsMatch choice ns us → length us ≡ length ns
@@ -142,23 +156,31 @@ module _ (p : ProgramTree) (well : IsFormed p) where
   result_has f choice (Some n) t m w h = matches_has (length p.bases) f.named p.records choice n t w.0 h
 
   module _ (earlier : Earlier) (before : (j : ℕ) (g : Signature) → earlier j g → SignatureHas g) (i : ℕ) where
-    call_has : (f : FunctionTree) (g : Signature) → IsFormedFunction p i f → IsTypingOf p.records earlier i f g → (j : ℕ) (c : Signature) → Calls earlier i f g j c → Has c.result
+    call_has : (f : FunctionTree) (g : Signature) → IsFormedFunction p i f → IsLooseTypingOf p.records earlier i f g → (j : ℕ) (c : Signature) → Calls earlier i f g j c → Has c.result
     call_has f g w h j c (inl k) = (before j c k.1).1
     call_has f g w h j c (inr k) = subst (λ (s : Signature). Has s.result) (sym k.2) (result_has f h.choice f.result g.result k.1.noted w.result h.result)
 
-    typing_has : (f : FunctionTree) (g : Signature) → IsFormedFunction p i f → IsTypingOf p.records earlier i f g → SignatureHas g
-    typing_has f g w h =
+    loose_has : (f : FunctionTree) (g : Signature) → IsFormedFunction p i f → IsLooseTypingOf p.records earlier i f g → SignatureHas g
+    loose_has f g w h =
         let params = params_have f h.choice f.params g.params w.params h.params in
         (params, has i f (Calls earlier i f g) h.choice (call_has f g w h) (length f.params) g.params f.body g.result params w.body h.body)
 
-    typing_at_has : (o : Option FunctionTree) (g : Signature) → slice_get p.functions i ≡ o → TypingAt p.records earlier i o g → SignatureHas g
+    typing_has : (f : FunctionTree) (g : Signature) → IsFormedFunction p i f → IsTypingOf (length p.bases) p.records earlier i f g → SignatureHas g
+    typing_has f g w h =
+        let own = loose_has f h.signature w h.typing.loose in
+        subst SignatureHas (sym h.given) (
+          (own.0.0, are_moved p.records h.change h.signature.params own.0.0 own.0.1),
+          (own.1.0, is_moved p.records h.change h.signature.result own.1.0 own.1.1),
+        )
+
+    typing_at_has : (o : Option FunctionTree) (g : Signature) → slice_get p.functions i ≡ o → TypingAt (length p.bases) p.records earlier i o g → SignatureHas g
     typing_at_has None g e h = absurd h
     typing_at_has (Some f) g e h = typing_has f g (well.functions i f e) h
 
   below_has : (n j : ℕ) (g : Signature) → typings_below p n j g → SignatureHas g
   below_has zero j g h = absurd h
   below_has (suc n) j g h =
-      elim (nat_eq j n) as (λ b. cond b (TypingAt p.records (typings_below p n) n (slice_get p.functions n) g) (typings_below p n j g) → SignatureHas g) [
+      elim (nat_eq j n) as (λ b. cond b (TypingAt (length p.bases) p.records (typings_below p n) n (slice_get p.functions n) g) (typings_below p n j g) → SignatureHas g) [
         | true ↦ λ h. typing_at_has (typings_below p n) (below_has n) n (slice_get p.functions n) g refl h
         | false ↦ λ h. below_has n j g h
       ] h

@@ -1,11 +1,12 @@
 -- The variables of types and steps.
-use Rattle.std.proofs.Common.{◌≡◌, ℕ, ◌<◌, List, [], ◌∷◌, map, refl, ap, sym, ◌∙◌}
+use Rattle.std.proofs.Common.{◌≡◌, ℕ, ◌<◌, List, [], ◌∷◌, map, length, refl, ap, sym, ◌∙◌}
 use Rattle.std.specs.Prelude.{All}
-use Rattle.std.proofs.lemmas.List.Elements.{All-head, All-tail}
+use Rattle.std.proofs.lemmas.List.Elements.{All-nil, All-cons, All-head, All-tail}
 use Rattle.um_units.specs.declared.Atom.TheVariants.{Base}
-use Rattle.um_units.specs.PowerMap.{PowerMap, replace, atom}
+use Rattle.um_units.specs.PowerMap.{PowerMap, replace, nth, atom}
 use Rattle.um_units.specs.Variables.{VariablesBelow}
 use Rattle.um_units.proofs.Replacement.{replace_alike}
+use Rattle.um_units.proofs.Variables.{VariablesBelow-replace_nth}
 use Rattle.um_tree.specs.TypeTree.{TypeTree, bool_type, num_type, list_type, record_type}
 use Rattle.um_tree.specs.ProgramTree.{Signature}
 use Rattle.um_tree.specs.Typing.{put, put_signature}
@@ -67,3 +68,25 @@ module _ (n : ℕ) (s t : ℕ → PowerMap) (alike : (k : ℕ) → k < n → s k
   Holds_alike_below (row_at at u ∷ ss) low h = (sym (replace_alike_below u low.0) ∙ h.0, Holds_alike_below ss low.1 h.1)
   Holds_alike_below (wrong_shape_at at ∷ ss) low h = (sym (replace_alike_below (atom (Base 0)) low.0) ∙ h.0, Holds_alike_below ss low.1 h.1)
   Holds_alike_below (type_at at type ∷ ss) low h = Holds_alike_below ss low.1 h
+
+-- ---- units that hold variables below n, put in for variables that have one
+module _ (n : ℕ) (us : List PowerMap) (all : All (VariablesBelow n) us) where
+  units_put_below : (vs : List PowerMap) → All (VariablesBelow (length us)) vs → All (VariablesBelow n) (map (replace (nth us)) vs)
+  units_put_below [] low = All-nil (VariablesBelow n)
+  units_put_below (v ∷ vs) low =
+      All-cons (VariablesBelow n) (replace (nth us) v) (map (replace (nth us)) vs)
+      (VariablesBelow-replace_nth n us v all (All-head (VariablesBelow (length us)) v vs low))
+      (units_put_below vs (All-tail (VariablesBelow (length us)) v vs low))
+
+  type_put_below : (t : TypeTree) → TypeBelow (length us) t → TypeBelow n (put (nth us) t)
+  type_put_below bool_type low = tt
+  type_put_below (num_type u) low = VariablesBelow-replace_nth n us u all low
+  type_put_below (list_type t) low = type_put_below t low
+  type_put_below (record_type r vs) low = units_put_below vs low
+
+  types_put_below : (ts : List TypeTree) → TypesBelow (length us) ts → TypesBelow n (map (put (nth us)) ts)
+  types_put_below [] low = tt
+  types_put_below (t ∷ ts) low = (type_put_below t low.0, types_put_below ts low.1)
+
+  pub signature_put_below : (g : Signature) → SignatureBelow (length us) g → SignatureBelow n (put_signature (nth us) g)
+  signature_put_below g low = (types_put_below g.params low.0, type_put_below g.result low.1)

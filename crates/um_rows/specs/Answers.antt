@@ -7,7 +7,7 @@ use Rattle.um_tree.specs.TypeTree.{TypeTree, NoteTree, type_tree, type_trees}
 use Rattle.um_tree.specs.ExprTree.{ExprTree}
 use Rattle.um_tree.specs.ValueTree.{InputTrees}
 use Rattle.um_tree.specs.ProgramTree.{RecordTree, FunctionTree, ProgramTree, Signature, SchemeTree}
-use Rattle.um_tree.specs.Typing.{put_signature, Typing}
+use Rattle.um_tree.specs.Typing.{put_signature, IsLooseTypingOf, IsRigidTypingOf, typings_below}
 use Rattle.um_tree.specs.InputType.{IsResultOfCall}
 use Rattle.um_tree.specs.Scheme.{variables, signature_types}
 use Rattle.um_rows.specs.declared.row.Rows.{Rows}
@@ -15,7 +15,7 @@ use Rattle.um_rows.specs.declared.row.RowStop.{RowStop}
 use Rattle.um_rows.specs.declared.row.RowStop.TheVariants as stop
 use Rattle.um_rows.specs.Steps.{rows_of, units_of, first_past}
 use Rattle.um_rows.specs.Slots.{slot_count, slot_equations}
-use Rattle.um_rows.specs.Solutions.{HaveSchemes}
+use Rattle.um_rows.specs.Solutions.{IsRigid, HaveSchemes}
 use Rattle.um_rows.specs.CallEquations.{call_function}
 
 -- these are the equations: there are no more than 2,000 slots, and no power passes the range
@@ -51,18 +51,46 @@ CallRowsStopFor p schemes k inputs e = (f : FunctionTree) → slice_get p.functi
 abbrev pub HaveVariablesBelow : ℕ → List SchemeTree → Type 0
 HaveVariablesBelow i schemes = (j : ℕ) (s : SchemeTree) → j < i → slice_get schemes j ≡ Some s → All (λ k. k < s.vars) (variables (signature_types s.signature))
 
--- ---- a signature is a typing of function i exactly where some joint solution of the rows gives it: where the instances of each
--- scheme before are exactly the function's typings
-abbrev pub IsGivenBy : Rows → Signature → Type 0
-IsGivenBy r g = (units : List PowerMap) × IsJointSolution r.slots (units_of r.list.items.items) units × (g ≡ put_signature (nth units) (record { params = type_trees r.params; result = type_tree r.result }))
+-- ---- where the instances of each scheme before are exactly the function's typings
 
+-- the types of the parameters and of the body, over slots
+abbrev pub rows_signature : Rows → Signature
+rows_signature r = record { params = type_trees r.params; result = type_tree r.result }
+
+-- some joint solution of the rows gives the signature
+abbrev pub IsGivenBy : Rows → Signature → Type 0
+IsGivenBy r g =
+    (units : List PowerMap) × IsJointSolution r.slots (units_of r.list.items.items) units
+    × (g ≡ put_signature (nth units) (rows_signature r))
+
+-- and so does some rigid one
+abbrev pub IsRigidlyGivenBy : ℕ → ℕ → Rows → Signature → Type 0
+IsRigidlyGivenBy bases parameters r g =
+    (units : List PowerMap) × IsJointSolution r.slots (units_of r.list.items.items) units × IsRigid bases parameters units
+    × (g ≡ put_signature (nth units) (rows_signature r))
+
+-- a signature is a loose typing of function i exactly where some joint solution gives it, and a rigid typing exactly
+-- where some rigid one does
 abbrev pub TypingsAreSolutionsOf : ProgramTree → List SchemeTree → ℕ → Rows → Type 0
-TypingsAreSolutionsOf p schemes i r = HaveSchemes p schemes i → (g : Signature) → Typing p i g ↔ IsGivenBy r g
+TypingsAreSolutionsOf p schemes i r =
+    (f : FunctionTree) → slice_get p.functions i ≡ Some f → HaveSchemes p schemes i → (g : Signature) →
+    (IsLooseTypingOf p.records (typings_below p i) i f g ↔ IsGivenBy r g)
+    × (IsRigidTypingOf (length p.bases) p.records (typings_below p i) i f g
+    ↔ IsRigidlyGivenBy (length p.bases) f.units r g)
 
 -- so it is of the results of a call
 abbrev pub ResultsAreSolutionsOf : ProgramTree → List SchemeTree → ℕ → InputTrees → Rows → Type 0
 ResultsAreSolutionsOf p schemes k inputs r = HaveSchemes p schemes (length p.functions) → (t : TypeTree) → IsResultOfCall p k inputs t ↔ IsGivenBy r (record { params = []; result = t })
 
 -- ---- a function without a name
-abbrev pub described : ℕ → Bool → List NoteTree → Option NoteTree → ExprTree → FunctionTree
-described at recursive params note body = record { name = []; at = at; recursive = recursive; params = params; named = 0; result = note; body = body }
+abbrev pub described : ℕ → Bool → ℕ → List NoteTree → Option NoteTree → ExprTree → FunctionTree
+described at recursive units params note body = record {
+  name = [];
+  at = at;
+  recursive = recursive;
+  units = units;
+  params = params;
+  named = 0;
+  result = note;
+  body = body;
+}

@@ -17,7 +17,7 @@ use Rattle.um_rows.specs.Steps.{Step, rows_of, first_past}
 use Rattle.um_rows.specs.Against.{against}
 use Rattle.um_rows.specs.Holes.{Callee, notes_holes, result_holes, expr_holes, exprs_holes}
 use Rattle.um_rows.specs.Rules.{Derived}
-use Rattle.um_rows.specs.Keys.{Key, notes_keys, result_keys, expr_keys}
+use Rattle.um_rows.specs.Keys.{Key, name_keys, notes_keys, result_keys, expr_keys}
 use Rattle.um_rows.specs.Equations.{callee_of, noted_result}
 use Rattle.um_rows.specs.Derivation.{noted_types, offered, derive}
 use Rattle.um_rows.specs.Walk.{Walked, AllWalked, walk, walk_all}
@@ -69,8 +69,11 @@ noted_rows at t s None = []
 noted_rows at t s (Some m) = against at t s
 
 -- the keys of the whole function
-abbrev pub whole_keys : List RecordTree → (ℕ → Callee) → List NoteTree → Option NoteTree → ExprTree → List Key
-whole_keys records callee params note e = notes_keys 0 params ++ (result_keys (notes_holes params) note ++ expr_keys records callee (notes_holes params + result_holes note) e)
+abbrev pub whole_keys : List RecordTree → (ℕ → Callee) → ℕ → List NoteTree → Option NoteTree → ExprTree → List Key
+whole_keys records callee units params note e =
+    let n = notes_holes params in
+    name_keys 0 units
+    ++ (notes_keys 0 params ++ (result_keys n note ++ expr_keys records callee (n + result_holes note) e))
 
 -- the derivation of the body, and all steps behind the head
 abbrev pub body_derived : List Record → List Scheme → Context → ℕ → ExprTree → Derived

@@ -57,6 +57,7 @@ call_function records k f inputs = record {
   name = [];
   at = 0;
   recursive = false;
+  units = 0;
   params = [];
   named = 0;
   result = None;

@@ -1,4 +1,5 @@
--- What asks for a slot in a function, in the order of its text: its holes, and its named variables wherever they occur.
+-- What asks for a slot in a function: first its unit parameters, then in the order of its text its holes, and its named
+-- variables wherever they occur.
 -- Source: Kennedy (1996): the unknowns of the equations. Their order is this project's own.
 use Rattle.std.specs.Prelude.{ℕ, zero, suc, ◌+◌, List, [], ◌∷◌, ◌++◌, map, Option, Some, None, slice_get}
 use Rattle.um_tree.specs.declared.note.UnitNote.{UnitNote}
@@ -21,6 +22,11 @@ pub data Key : Type 0 where
 abbrev pub hole_keys : ℕ → ℕ → List Key
 hole_keys n zero = []
 hole_keys n (suc m) = hole n ∷ hole_keys (suc n) m
+
+-- m named variables from n on
+abbrev pub name_keys : ℕ → ℕ → List Key
+name_keys n zero = []
+name_keys n (suc m) = name n ∷ name_keys (suc n) m
 
 -- ---- the keys of notes and expressions whose holes are numbered from n on, in the order of the text, a node before its
 -- parts. The named variables of one unit come by their numbers
@@ -74,6 +80,11 @@ module _ (records : List RecordTree) (callee : ℕ → Callee) where
     exprs_keys n none = []
     exprs_keys n (more e es) = expr_keys n e ++ exprs_keys (n + expr_holes records callee e) es
 
-abbrev pub function_keys : List RecordTree → List SchemeTree → ℕ → FunctionTree → List Key
-function_keys records schemes i f =
+-- the keys of what is written: notes and body
+abbrev pub text_keys : List RecordTree → List SchemeTree → ℕ → FunctionTree → List Key
+text_keys records schemes i f =
     notes_keys 0 f.params ++ (result_keys (notes_holes f.params) f.result ++ expr_keys records (callee schemes i f) (head_holes f) f.body)
+
+-- those of the unit parameters, which are the first named variables, come before
+abbrev pub function_keys : List RecordTree → List SchemeTree → ℕ → FunctionTree → List Key
+function_keys records schemes i f = name_keys 0 f.units ++ text_keys records schemes i f

@@ -14,6 +14,7 @@ pub mod Pushed
 pub mod Walk
 pub mod Reached
 pub mod Body
+pub mod Generalised
 pub mod Judgement
 pub mod RightShapes
 pub mod CallEquations

@@ -24,7 +24,7 @@ use crate::context::Context;
 use crate::noted::{note_holes, noted_type};
 use crate::progress::Progress;
 use crate::row::{Row, RowList, RowStop, Rows};
-use crate::slots::{Slots, expr_slots, note_slots, notes_slots};
+use crate::slots::{Slots, expr_slots, names_slots, note_slots, notes_slots};
 use crate::types::copied;
 use crate::walk::derive;
 use std::alloc::{AllocError, Global};
@@ -50,23 +50,25 @@ struct Numbering {
     head: usize,
 }
 
-/// Gives slots to the holes and the named variables of a function.
+/// Gives slots to the unit parameters of a function, and then to its holes and its other named variables.
 fn number_holes(
     alloc: Global,
     records: &[Record],
     schemes: &[Scheme],
     number: u32,
     recurs: bool,
+    units: u32,
     params: &[Note],
     note: &Option<Note>,
     body: &Expr,
 ) -> Result<Numbering, RowStop>
-    ensures slots { MatchResult result (λ n. IsTable (with_keys [] (whole_keys (map record_tree records.now) (callee_of (map scheme_tree schemes.now) number recurs) (map note_tree params.now) (result_tree note.now) (expr_tree body.now))) n.slots) (StopsSlots (with_keys [] (whole_keys (map record_tree records.now) (callee_of (map scheme_tree schemes.now) number recurs) (map note_tree params.now) (result_tree note.now) (expr_tree body.now)))) }
+    ensures slots { MatchResult result (λ n. IsTable (with_keys [] (whole_keys (map record_tree records.now) (callee_of (map scheme_tree schemes.now) number recurs) units (map note_tree params.now) (result_tree note.now) (expr_tree body.now))) n.slots) (StopsSlots (with_keys [] (whole_keys (map record_tree records.now) (callee_of (map scheme_tree schemes.now) number recurs) units (map note_tree params.now) (result_tree note.now) (expr_tree body.now)))) }
     ensures params { IfOk result (λ n. n.params ≡ holes_of_notes (map note_tree params.now)) }
     ensures head { IfOk result (λ n. n.head ≡ holes_of_notes (map note_tree params.now) + holes_of_result (result_tree note.now)) }
     ensures counted { IfOk result (λ n. length n.slots.holes.items ≡ holes_of_notes (map note_tree params.now) + holes_of_result (result_tree note.now) + expr_holes (map record_tree records.now) (callee_of (map scheme_tree schemes.now) number recurs) (expr_tree body.now)) }
 {
     let mut slots = Slots::new(alloc);
+    names_slots(units, &mut slots)?;
     notes_slots(alloc, params, &mut slots)?;
     let params = slots.holes.len();
     result_slots(alloc, note, &mut slots)?;
@@ -254,7 +256,8 @@ fn may_recur(recursive: bool, note: &Option<Note>) -> bool
     recursive && note.is_some()
 }
 
-/// The equations of the function of this number with these parameters, this note of its result and this body.
+/// The equations of the function of this number with so many unit parameters, these parameters, this note of its result and
+/// this body.
 pub(crate) fn equations(
     alloc: Global,
     records: &[Record],
@@ -262,20 +265,23 @@ pub(crate) fn equations(
     number: u32,
     at: u32,
     recursive: bool,
+    units: u32,
     params: &[Note],
     note: &Option<Note>,
     body: &Expr,
 ) -> Result<Rows, RowStop>
     requires schemes { AreClosedBefore number schemes.now }
     requires records { All IsClosedRecord records.now }
-    ensures { MatchResult result (AreEquations (map record_tree records.now) (map scheme_tree schemes.now) number (described at recursive (map note_tree params.now) (result_tree note.now) (expr_tree body.now))) (StopsFor (map record_tree records.now) (map scheme_tree schemes.now) number (described at recursive (map note_tree params.now) (result_tree note.now) (expr_tree body.now))) }
+    ensures { MatchResult result (AreEquations (map record_tree records.now) (map scheme_tree schemes.now) number (described at recursive units (map note_tree params.now) (result_tree note.now) (expr_tree body.now))) (StopsFor (map record_tree records.now) (map scheme_tree schemes.now) number (described at recursive units (map note_tree params.now) (result_tree note.now) (expr_tree body.now))) }
 {
     let recurs = may_recur(recursive, note);
     let Numbering {
         slots,
         params: first,
         head,
-    } = number_holes(alloc, records, schemes, number, recurs, params, note, body)?;
+    } = number_holes(
+        alloc, records, schemes, number, recurs, units, params, note, body,
+    )?;
     let Slots {
         count,
         holes,

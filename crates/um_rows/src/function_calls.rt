@@ -45,6 +45,7 @@ pub fn call_rows(
         number,
         0,
         false,
+        0,
         &[],
         &None,
         &body,

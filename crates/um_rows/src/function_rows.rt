@@ -1,8 +1,7 @@
 //! The equations of a function of a program.
 
-ghost use Rattle.std.specs.Prelude.{◌≡◌, ◌↔◌, ◌<◌, IfOk, IfErr, length, map};
-ghost use Rattle.um_tree.specs.ProgramTree.{Signature, program_tree, scheme_tree};
-ghost use Rattle.um_tree.specs.Typing.{Typing};
+ghost use Rattle.std.specs.Prelude.{◌≡◌, ◌<◌, IfOk, IfErr, length, map};
+ghost use Rattle.um_tree.specs.ProgramTree.{program_tree, scheme_tree};
 ghost use Rattle.um_rows.specs.Answers.{AreRowsOf, RowsStopFor, HaveVariablesBelow, TypingsAreSolutionsOf};
 
 use crate::equations::equations;
@@ -16,7 +15,8 @@ use um_tree::Schemes;
 /// The rows come in the order of the walk: those of a node after those of its parts, and at last the body against the note of
 /// the result (Kennedy 1996). Slots comes exactly where there are more than 2,000; else Range comes exactly where a power
 /// passes -2147483647..2147483647, at the first such node or row. Where each scheme's instances are exactly the typings of its
-/// function, the typings of function i are exactly what the joint solutions of the rows give.
+/// function, the loose typings of function i are exactly what the joint solutions of the rows give, and its rigid typings what
+/// those give in which slot k of each unit parameter k has the base unit `bases + k`.
 pub fn rows(alloc: Global, shaped: &Shaped, i: u32, schemes: &Schemes) -> Result<Rows, RowStop>
     requires function { i < length (program_tree shaped.now).functions }
     requires schemes { HaveVariablesBelow i (map scheme_tree schemes.now.items.items) }
@@ -33,6 +33,7 @@ pub fn rows(alloc: Global, shaped: &Shaped, i: u32, schemes: &Schemes) -> Result
         i,
         function.at,
         function.recursive,
+        function.units,
         &function.params.items,
         &function.result,
         &function.body,

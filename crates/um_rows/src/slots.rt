@@ -1,4 +1,5 @@
-//! Slots: each hole and each named variable of a function has one, in the order of first occurrence.
+//! Slots: each unit parameter of a function has one, and then each hole and each other named variable, in the order of first
+//! occurrence.
 
 ghost use Rattle.std.specs.Prelude.{◌≡◌, ◌≢◌, ◌+◌, ◌<◌, ◌≤◌, ℕ, [], ◌∷◌, ◌++◌, IfOk, IfErr, OnOk, None, Some, length, map, slice_set, slice_index_or};
 ghost use Rattle.std.specs.List.{flat_map};
@@ -11,7 +12,7 @@ ghost use Rattle.um_tree.specs.Scheme.{atom_variables};
 ghost use Rattle.um_rows.specs.declared.row.RowStop.TheVariants as stop;
 ghost use Rattle.um_rows.specs.Holes.{unit_holes, units_holes, note_holes, notes_holes, expr_holes, exprs_holes};
 ghost use Rattle.um_rows.specs.Equations.{callee_of};
-ghost use Rattle.um_rows.specs.Keys.{hole, name, hole_keys, unit_keys, units_keys, note_keys, notes_keys, expr_keys, exprs_keys};
+ghost use Rattle.um_rows.specs.Keys.{hole, name, hole_keys, name_keys, unit_keys, units_keys, note_keys, notes_keys, expr_keys, exprs_keys};
 ghost use Rattle.um_rows.specs.Slotting.{IsTable, HaveSlots};
 
 use crate::calls::called_holes;
@@ -124,6 +125,17 @@ fn set_slot(names: &mut Vec<Option<u32>>, k: usize, slot: u32) -> Result<(), All
 {
     grow(names, k)?;
     names[k] = Some(slot);
+    Ok(())
+}
+
+/// The first named variables, so many, in order: those of the unit parameters.
+pub(crate) fn names_slots(many: u32, slots: &mut Slots) -> Result<(), RowStop>
+    ensures slots { HaveSlots (name_keys 0 many) slots.old slots.new result }
+    ensures counted { OnOk result (length slots.new.holes.items ≡ length slots.old.holes.items) }
+{
+    for k in 0..many {
+        slots.add_name(k)?;
+    }
     Ok(())
 }
 

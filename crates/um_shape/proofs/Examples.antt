@@ -17,10 +17,10 @@ abbrev plain_num : NoteTree
 plain_num = num_note (Written one)
 
 abbrev function : ℕ → List NoteTree → Option NoteTree → ExprTree → FunctionTree
-function at params result body = record { name = []; at = at; recursive = false; params = params; named = 0; result = result; body = body }
+function at params result body = record { name = []; at = at; recursive = false; units = 0; params = params; named = 0; result = result; body = body }
 
 abbrev recursive_function : ℕ → List NoteTree → NoteTree → ExprTree → FunctionTree
-recursive_function at params result body = record { name = []; at = at; recursive = true; params = params; named = 0; result = Some result; body = body }
+recursive_function at params result body = record { name = []; at = at; recursive = true; units = 0; params = params; named = 0; result = Some result; body = body }
 
 abbrev of_functions : List FunctionTree → ProgramTree
 of_functions fs = record { bases = []; records = []; functions = fs }

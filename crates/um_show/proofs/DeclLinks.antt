@@ -104,18 +104,18 @@ rec_behind true tokens rest s h = (first_good tokens rest s.0 s.2 h).1
 
 function_links : (f : FunctionSyntax) (tokens rest : List Token) → FunctionSpells f tokens rest → DeclFits (function_syntax f) → AllGood tokens → Linked (fresh false false) (decl_pieces (function_syntax f)) full rest
 function_links f tokens rest s fits h =
-    let b = first_good s.1 s.2 s.8.0 s.8.3 (rec_behind f.recursive s.0 s.1 s.7 (first_good tokens s.0 s.6.0 s.6.2 h).1) in
-    let p = params_links f.params s.2 s.3 s.9 fits.0 b.1 in let t = result_links f.recursive f.result s.3 s.4 s.10 fits.1 p.good in
-    let e = expr_links f.body s.5 rest s.12 fits.2 (first_good s.4 s.5 s.11.0 s.11.2 t.good).1 false in
-    let body = space ∷ equal ∷ space ∷ expr_pieces f.body in
+    let b = first_good s.1 s.2 s.9.0 s.9.3 (rec_behind f.recursive s.0 s.1 s.8 (first_good tokens s.0 s.7.0 s.7.2 h).1) in
+    let v = vars_links f.units s.2 s.3 s.10 b.1 in
+    let p = params_links f.params s.3 s.4 s.11 fits.0 v.good in let t = result_links f.recursive f.result s.4 s.5 s.12 fits.1 p.good in
+    let e = expr_links f.body s.6 rest s.14 fits.2 (first_good s.5 s.6 s.13.0 s.13.2 t.good).1 false in
+    let params = flat_map param_pieces f.params in let body = space ∷ equal ∷ space ∷ expr_pieces f.body in
+    let behind = result_pieces f.result ++ body in
     let typed = joined (result_pieces f.result) body full full full t.chain (spaced_equal (expr_pieces f.body) e.chain) in
-    let whole = joined (flat_map param_pieces f.params) (result_pieces f.result ++ body) full full full p.chain typed in
-    let head = let_word ∷ space ∷ rec_pieces f.recursive in let named = name f.name ∷ flat_map param_pieces f.params in
-    let all = rec_step f.recursive (named ++ (result_pieces f.result ++ body)) (name_good s.8.0.kind f.name s.8.1 b.0, refl, whole) in
-    record {
-      chain = regroup (head ++ named) (result_pieces f.result) body (fresh false false) full (regroup head named (result_pieces f.result ++ body) (fresh false false) full (tt, refl, (tt, refl, all)));
-      good = e.good;
-    }
+    let taken = joined params behind full full full p.chain typed in let whole = joined (var_list_pieces f.units) (params ++ behind) full full full v.chain taken in
+    let head = let_word ∷ space ∷ rec_pieces f.recursive in let named = name f.name ∷ var_list_pieces f.units in
+    let all = rec_step f.recursive (named ++ (params ++ behind)) (name_good s.9.0.kind f.name s.9.1 b.0, refl, whole) in
+    let begun = regroup (head ++ named) params behind (fresh false false) full (regroup head named (params ++ behind) (fresh false false) full (tt, refl, (tt, refl, all))) in
+    record { chain = regroup ((head ++ named) ++ params) (result_pieces f.result) body (fresh false false) full begun; good = e.good }
 
 -- ---- declarations
 

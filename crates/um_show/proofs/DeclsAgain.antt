@@ -2,7 +2,7 @@
 use Rattle.std.proofs.Common.{◌≡◌, Bool, true, false, List, [], ◌∷◌, ◌++◌, Option, Some, None, map, refl, sym, ap, ◌∙◌, subst}
 use Rattle.std.specs.List.{flat_map, join_by}
 use Rattle.um_syntax.specs.declared.token.Token.{Token}
-use Rattle.um_tree.specs.RawTree.{TypeSyntax, VarSyntax, FieldDeclSyntax, ParamSyntax, FunctionSyntax, DeclSyntax, base_syntax, short_syntax, record_decl_syntax, function_syntax}
+use Rattle.um_tree.specs.RawTree.{TypeSyntax, ExprSyntax, VarSyntax, FieldDeclSyntax, ParamSyntax, FunctionSyntax, DeclSyntax, base_syntax, short_syntax, record_decl_syntax, function_syntax}
 use Rattle.um_types.specs.TypeGrammar.{TypeFits}
 use Rattle.um_expr.specs.ExprTokens.{expr_token}
 use Rattle.um_parse.specs.DeclGrammar.{Attribute, VarSpells, MoreVars, VarsSpell, FieldDeclSpells, MoreFieldDecls, FieldDeclsSpell, ParamSpells, ParamsSpell, ResultSpells, RecSpells, DeclSpells, DeclsSpell, FieldDeclsFit, ParamsFit, ResultFits, DeclFits, DeclsFit, IsProgram}
@@ -153,16 +153,22 @@ pub record DeclAgain (d : DeclSyntax) (tokens rest : List Token) : Type 0 where
   pub fits : DeclFits again
   pub same : bare_decl again ≡ bare_decl d
 
+-- a function without places, by its parts
+abbrev bare_parts : FunctionSyntax → List VarSyntax → List ParamSyntax → Option TypeSyntax → ExprSyntax → DeclSyntax
+bare_parts f vs ps r e = function_syntax (record { at = 0; name = f.name; recursive = f.recursive; units = vs; params = ps; result = r; body = e })
+
 function_again : (f : FunctionSyntax) → DeclFits (function_syntax f) → (old end : List Token) → DeclSpells (function_syntax f) old end → (g : Bool) (tokens : List Token) (h : Bool) (rest : List Token) → PiecesSpell (function_pieces f) g tokens h rest → DeclAgain (function_syntax f) tokens rest
 function_again f fit old end q g tokens h rest s =
-    let head = (let_word ∷ space ∷ rec_pieces f.recursive) ++ name f.name ∷ flat_map param_pieces f.params in
-    let b = both (head ++ result_pieces f.result) (space ∷ equal ∷ space ∷ expr_pieces f.body) g tokens h rest s in
-    let c = both head (result_pieces f.result) g tokens b.flag b.next b.here in
-    let d = both (let_word ∷ space ∷ rec_pieces f.recursive) (name f.name ∷ flat_map param_pieces f.params) g tokens c.flag c.next c.here in
+    let start = let_word ∷ space ∷ rec_pieces f.recursive in let named = name f.name ∷ var_list_pieces f.units in let params = flat_map param_pieces f.params in
+    let b = both (((start ++ named) ++ params) ++ result_pieces f.result) (space ∷ equal ∷ space ∷ expr_pieces f.body) g tokens h rest s in
+    let c = both ((start ++ named) ++ params) (result_pieces f.result) g tokens b.flag b.next b.here in
+    let k = both (start ++ named) params g tokens c.flag c.next c.here in let d = both start named g tokens k.flag k.next k.here in
     let l = led let_word (rec_pieces f.recursive) g tokens d.flag d.next d.here in let ol = l.here in let n = d.later in let on = n.here in
-    let ps = params_again f.params fit.0 n.flag n.next c.flag c.next n.later in let t = result_again f.recursive f.result fit.1 c.flag c.next b.flag b.next c.later in
-    let e = spaced equal (expr_pieces f.body) b.flag b.next h rest b.later in let oe = e.here in let x = expr_again f.body fit.2 q.5 end q.12 false e.next h rest e.later in
-    record { again = function_syntax (record { at = on.token.start; name = f.name; recursive = f.recursive; params = ps.again; result = t.again; body = x.again }); spelled = (l.next, d.next, n.next, c.next, b.next, e.next, (ol.token, ap expr_token ol.kind, ol.first), rec_again f.recursive false l.next d.flag d.next l.later, (on.token, ap expr_token on.kind, refl, on.first), ps.spelled, t.spelled, (oe.token, ap expr_token oe.kind, oe.first), x.spelled); fits = (ps.fits, t.fits, x.fits); same = ap (λ y. function_syntax (record { at = 0; name = f.name; recursive = f.recursive; params = y; result = bare_result t.again; body = bare_expr x.again })) ps.same ∙ ap (λ y. function_syntax (record { at = 0; name = f.name; recursive = f.recursive; params = map bare_param f.params; result = y; body = bare_expr x.again })) t.same ∙ ap (λ y. function_syntax (record { at = 0; name = f.name; recursive = f.recursive; params = map bare_param f.params; result = bare_result f.result; body = y })) x.same }
+    let vs = vars_again f.units n.flag n.next k.flag k.next n.later in
+    let ps = params_again f.params fit.0 k.flag k.next c.flag c.next k.later in let t = result_again f.recursive f.result fit.1 c.flag c.next b.flag b.next c.later in
+    let e = spaced equal (expr_pieces f.body) b.flag b.next h rest b.later in let oe = e.here in let x = expr_again f.body fit.2 q.6 end q.14 false e.next h rest e.later in
+    let units = map bare_var f.units in let bare = map bare_param f.params in
+    record { again = function_syntax (record { at = on.token.start; name = f.name; recursive = f.recursive; units = vs.again; params = ps.again; result = t.again; body = x.again }); spelled = (l.next, d.next, n.next, k.next, c.next, b.next, e.next, (ol.token, ap expr_token ol.kind, ol.first), rec_again f.recursive false l.next d.flag d.next l.later, (on.token, ap expr_token on.kind, refl, on.first), vs.spelled, ps.spelled, t.spelled, (oe.token, ap expr_token oe.kind, oe.first), x.spelled); fits = (ps.fits, t.fits, x.fits); same = ap (λ y. bare_parts f y (map bare_param ps.again) (bare_result t.again) (bare_expr x.again)) vs.same ∙ ap (λ y. bare_parts f units y (bare_result t.again) (bare_expr x.again)) ps.same ∙ ap (λ y. bare_parts f units bare y (bare_expr x.again)) t.same ∙ ap (bare_parts f units bare (bare_result f.result)) x.same }
 
 pub decl_again : (d : DeclSyntax) → DeclFits d → (old end : List Token) → DeclSpells d old end → (g : Bool) (tokens : List Token) (h : Bool) (rest : List Token) → PiecesSpell (decl_pieces d) g tokens h rest → DeclAgain d tokens rest
 decl_again (base_syntax at x) fit old end q g tokens h rest s =

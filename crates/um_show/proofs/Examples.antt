@@ -28,7 +28,7 @@ unbound = record { at = 0; name = None }
 
 -- let k = BODY
 abbrev constant : ExprSyntax → List DeclSyntax
-constant e = function_syntax (record { at = 0; name = codes "k"; recursive = false; params = []; result = None; body = e }) ∷ []
+constant e = function_syntax (record { at = 0; name = codes "k"; recursive = false; units = []; params = []; result = None; body = e }) ∷ []
 
 measures : layout (base_syntax 0 (codes "m") ∷ short_syntax 0 (codes "A") (over_syntax (times_syntax (side_syntax (more_units m (more_units s no_units))) (bracket_syntax 0 m)) s) ∷ []) ≡ codes "[<Measure>] type m\n[<Measure>] type A = m s*(m)/s\n"
 measures = refl
@@ -45,8 +45,11 @@ records = refl
 abbrev units : TypeSyntax
 units = record_syntax 0 (codes "R") (unit_note_syntax 0 m ∷ unit_note_syntax 0 (inverse_syntax 0 (side_syntax (more_units s (more_units m no_units)))) ∷ [])
 
-functions : layout (function_syntax (record { at = 0; name = codes "f"; recursive = true; params = record { binder = bound (codes "x"); type = num_syntax None } ∷ record { binder = unbound; type = num_syntax (Some (hole_syntax 0)) } ∷ []; result = Some (list_type_syntax units); body = nil_syntax 0 (list_type_syntax units) }) ∷ []) ≡ codes "let rec f (x: num) (_: num<_>) : R<m, /s m> list = ([] : R<m, /s m> list)\n"
+functions : layout (function_syntax (record { at = 0; name = codes "f"; recursive = true; units = []; params = record { binder = bound (codes "x"); type = num_syntax None } ∷ record { binder = unbound; type = num_syntax (Some (hole_syntax 0)) } ∷ []; result = Some (list_type_syntax units); body = nil_syntax 0 (list_type_syntax units) }) ∷ []) ≡ codes "let rec f (x: num) (_: num<_>) : R<m, /s m> list = ([] : R<m, /s m> list)\n"
 functions = refl
+
+parameters : layout (function_syntax (record { at = 0; name = codes "f"; recursive = false; units = record { at = 0; name = codes "u" } ∷ record { at = 0; name = codes "v" } ∷ []; params = record { binder = bound (codes "x"); type = quotient } ∷ []; result = None; body = x }) ∷ function_syntax (record { at = 0; name = codes "g"; recursive = true; units = record { at = 0; name = codes "u" } ∷ []; params = []; result = Some (num_syntax (Some (unit_note_syntax 0 u))); body = name_syntax 0 (codes "g") }) ∷ []) ≡ codes "let f<[<Measure>] 'u, [<Measure>] 'v> (x: num<'u/'v>) = x\nlet rec g<[<Measure>] 'u> : num<'u> = g\n"
+parameters = refl
 
 arms : layout (constant (match_syntax 0 x y (bound (codes "a")) unbound (let_syntax 0 (bound (codes "b")) (list_syntax 0 (more_exprs x (more_exprs y no_exprs))) (fields_syntax 0 (more_fields 0 (codes "f") x (more_fields 0 (codes "g") (cons_syntax 0 x y) no_fields)))))) ≡ codes "let k = match x with [] -> y | a :: _ -> let b = [x; y] in { f = x; g = x :: y }\n"
 arms = refl

@@ -3,6 +3,7 @@
 --   [<Measure>] type A            [<Measure>] type A = UNIT
 --   type R<[<Measure>] 'u, [<Measure>] 'v> = { f: TYPE; g: TYPE }     type R = { f: TYPE }
 --   let f (x: TYPE) (y: TYPE) : TYPE = EXPR                           let rec f (x: TYPE) : TYPE = EXPR
+--   let f<[<Measure>] 'u, [<Measure>] 'v> (x: TYPE) = EXPR
 --   expressions: let x = A in B, if A then B else C, match A with [] -> B | x :: y -> C, A + B, -A, not A, pown A 3,
 --                pown A (-2), f A B, A.f, (A), ([] : TYPE), [A; B], { f = A; g = B }, true, false, 5r2<UNIT>
 --   types: num, num<UNIT>, bool, R, R<UNIT, UNIT>, T list, (T)
@@ -197,8 +198,8 @@ rec_pieces true = rec_word ∷ space ∷ []
 
 abbrev pub function_pieces : FunctionSyntax → List Piece
 function_pieces f =
-    let_word ∷ space ∷ rec_pieces f.recursive ++ name f.name ∷ flat_map param_pieces f.params
-    ++ result_pieces f.result ++ space ∷ equal ∷ space ∷ expr_pieces f.body
+    let_word ∷ space ∷ rec_pieces f.recursive ++ name f.name ∷ var_list_pieces f.units
+    ++ flat_map param_pieces f.params ++ result_pieces f.result ++ space ∷ equal ∷ space ∷ expr_pieces f.body
 
 abbrev pub decl_pieces : DeclSyntax → List Piece
 decl_pieces (base_syntax at x) = attribute_pieces ++ space ∷ type_word ∷ space ∷ name x ∷ []

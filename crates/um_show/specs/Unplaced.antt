@@ -96,6 +96,7 @@ bare_function f = record {
   at = 0;
   name = f.name;
   recursive = f.recursive;
+  units = map bare_var f.units;
   params = map bare_param f.params;
   result = bare_result f.result;
   body = bare_expr f.body;

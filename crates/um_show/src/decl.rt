@@ -133,6 +133,7 @@ fn push_function(text: &mut Vec<u8>, function: &RawFunction) -> Result<(), Alloc
     text.extend_from_slice(b"let ")?;
     push_rec(text, function.recursive)?;
     push_name(text, &function.name)?;
+    push_vars(text, &function.units.items)?;
     push_params(text, &function.params.items)?;
     push_result(text, &function.result)?;
     text.extend_from_slice(b" = ")?;

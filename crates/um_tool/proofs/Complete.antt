@@ -27,7 +27,7 @@ use Rattle.um_shape.specs.declared.stop.ShapeStop.{ShapeStop}
 use Rattle.um_shape.specs.declared.stop.ShapeStop.TheVariants as shape_stop
 use Rattle.um_shape.specs.FirstFault.{first_fault}
 use Rattle.um_shape.specs.ShapedProgram.{IsRefusal}
-use Rattle.um_infer.specs.Inference.{Inference, all_schemes, stops_at_slots, stops_at_range, stops_at_units, infer}
+use Rattle.um_infer.specs.Inference.{Inference, all_schemes, stops_at_slots, stops_at_range, stops_at_units, stops_at_not_general, infer}
 use Rattle.um_infer.specs.Schemes.{AreTyped}
 use Rattle.um_infer.specs.Laws.{IsLimited}
 use Rattle.um_infer.proofs.InferenceLaws.{schemes_are_given_to_typed}
@@ -100,6 +100,7 @@ inferred_done bytes p (all_schemes others) text status h answer = answer.1
 inferred_done bytes p (stops_at_slots i) text status h answer = absurd (cc h.1)
 inferred_done bytes p (stops_at_range i at) text status h answer = absurd (cc h.1)
 inferred_done bytes p (stops_at_units i row at) text status h answer = absurd (cc h.1)
+inferred_done bytes p (stops_at_not_general i row at) text status h answer = absurd (cc h.1)
 
 by_order_done : (order : Order) (asked : Asked) (p : ProgramTree) (text : List ℕ) (status : Status) → (schemes : List SchemeTree) × (infer p ≡ all_schemes schemes) → ByOrder order asked p (infer p) text status → status ≡ Done
 by_order_done Types asked p text status h answer = inferred_done asked.bytes p (infer p) text status h answer

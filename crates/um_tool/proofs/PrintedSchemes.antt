@@ -22,19 +22,20 @@ use Rattle.um_shape.specs.declared.stop.ShapeStop.TheVariants as shape_stop
 use Rattle.um_shape.specs.FirstFault.{first_fault}
 use Rattle.um_tool.specs.declared.order.Order.TheVariants.{Types}
 use Rattle.um_tool.specs.declared.status.Status.{Status}
-use Rattle.um_tool.specs.declared.status.Status.TheVariants.{Done, TooLong, Utf8, Lexical, Syntax, Limit, Names, Shape, Units, PowerRange}
-use Rattle.um_infer.specs.Inference.{Inference, all_schemes, stops_at_slots, stops_at_range, stops_at_units, infer}
-use Rattle.um_infer.specs.Schemes.{ArePrincipal, IsFirstUntyped}
-use Rattle.um_infer.proofs.InferenceLaws.{given_schemes_are_principal, units_stop_at_first_untyped}
+use Rattle.um_tool.specs.declared.status.Status.TheVariants.{Done, TooLong, Utf8, Lexical, Syntax, Limit, Names, Shape, Units, PowerRange, NotGeneral}
+use Rattle.um_infer.specs.Inference.{Inference, all_schemes, stops_at_slots, stops_at_range, stops_at_units, stops_at_not_general, infer}
+use Rattle.um_infer.specs.Schemes.{ArePrincipal, IsFirstWithoutUnits, IsFirstNotGeneral}
+use Rattle.um_infer.proofs.InferenceLaws.{given_schemes_are_principal, units_stop_at_first_untyped, not_general_stops_at_first_untyped}
 use Rattle.um_tool.specs.SchemeLines.{scheme_lines}
-use Rattle.um_tool.specs.Refusals.{IsTextReply, IsParseReply, IsNameReply, IsShapeReply, placed, units_label}
+use Rattle.um_tool.specs.Refusals.{IsTextReply, IsParseReply, IsNameReply, IsShapeReply, placed, units_label, not_general_label}
 use Rattle.um_tool.specs.Answer.{Answer, OrderAnswer, LengthAnswer, TokensAnswer, GrammarAnswer, ProgramAnswer, NamesAnswer, ShapesAnswer, SchemesAnswer, InferenceAnswer, Asked}
-use Rattle.um_tool.specs.Laws.{SpellsProgram, TypesAnswers, PrintedTypesArePrincipalSchemes, UnitsNameTheFirstUntyped}
+use Rattle.um_tool.specs.Laws.{SpellsProgram, TypesAnswers, PrintedTypesArePrincipalSchemes, UnitsNameTheFirstUntyped, NotGeneralNamesTheFirstUntyped}
 
 -- the statuses that no step before the types answers
 abbrev comes_last : Status → Bool
 comes_last Done = true
 comes_last Units = true
+comes_last NotGeneral = true
 comes_last status = false
 
 -- the program that the bytes spell, and what its inference is answered
@@ -136,6 +137,7 @@ schemes_printed bytes p formed (all_schemes schemes) text is answer = (schemes, 
 schemes_printed bytes p formed (stops_at_slots i) text is answer = absurd (cc answer.2.1)
 schemes_printed bytes p formed (stops_at_range i at) text is answer = absurd (cc answer.2.1)
 schemes_printed bytes p formed (stops_at_units i row at) text is answer = absurd (cc answer.2.1)
+schemes_printed bytes p formed (stops_at_not_general i row at) text is answer = absurd (cc answer.2.1)
 
 pub printed_types_are_principal_schemes : PrintedTypesArePrincipalSchemes
 printed_types_are_principal_schemes bytes text answer =
@@ -145,14 +147,29 @@ printed_types_are_principal_schemes bytes text answer =
 pub one_function : (p : ProgramTree) (i : ℕ) (f g : FunctionTree) → slice_get p.functions i ≡ Some f → slice_get p.functions i ≡ Some g → f ≡ g
 one_function p i f g a b = let e : Some f ≡ Some g = sym a ∙ b in cc e
 
-untyped_named : (bytes : List ℕ) (p : ProgramTree) → IsFormed p → (inferred : Inference) (text : List ℕ) → infer p ≡ inferred → InferenceAnswer bytes p inferred text Units → (i row at : ℕ) × (untyped : IsFirstUntyped p i row at) × (text ≡ placed (units_label untyped.function.name) bytes at)
+untyped_named : (bytes : List ℕ) (p : ProgramTree) → IsFormed p → (inferred : Inference) (text : List ℕ) → infer p ≡ inferred → InferenceAnswer bytes p inferred text Units → (i row at : ℕ) × (untyped : IsFirstWithoutUnits p i row at) × (text ≡ placed (units_label untyped.0.function.name) bytes at)
 untyped_named bytes p formed (all_schemes schemes) text is answer = absurd (cc answer.1)
 untyped_named bytes p formed (stops_at_slots i) text is answer = absurd (cc answer.2.1)
 untyped_named bytes p formed (stops_at_range i at) text is answer = absurd (cc answer.2.1)
+untyped_named bytes p formed (stops_at_not_general i row at) text is answer = absurd (cc answer.2.1)
 untyped_named bytes p formed (stops_at_units i row at) text is (f, declared, reply) =
     let u = units_stop_at_first_untyped p formed i row at is in
-    (i, row, at, u, reply.0 ∙ ap (λ g. placed (units_label g.name) bytes at) (one_function p i f u.function declared u.declared))
+    (i, row, at, u, reply.0 ∙ ap (λ g. placed (units_label g.name) bytes at) (one_function p i f u.0.function declared u.0.declared))
 
 pub units_name_the_first_untyped : UnitsNameTheFirstUntyped
 units_name_the_first_untyped bytes text answer =
     let r = reached bytes text Units refl answer in (r.0, r.1, untyped_named bytes r.0 r.2 (infer r.0) text refl r.3)
+
+less_general_named : (bytes : List ℕ) (p : ProgramTree) → IsFormed p → (inferred : Inference) (text : List ℕ) → infer p ≡ inferred → InferenceAnswer bytes p inferred text NotGeneral
+    → (i row at : ℕ) × (untyped : IsFirstNotGeneral p i row at) × (text ≡ placed (not_general_label untyped.0.function.name) bytes at)
+less_general_named bytes p formed (all_schemes schemes) text is answer = absurd (cc answer.1)
+less_general_named bytes p formed (stops_at_slots i) text is answer = absurd (cc answer.2.1)
+less_general_named bytes p formed (stops_at_range i at) text is answer = absurd (cc answer.2.1)
+less_general_named bytes p formed (stops_at_units i row at) text is answer = absurd (cc answer.2.1)
+less_general_named bytes p formed (stops_at_not_general i row at) text is (f, declared, reply) =
+    let u = not_general_stops_at_first_untyped p formed i row at is in
+    (i, row, at, u, reply.0 ∙ ap (λ g. placed (not_general_label g.name) bytes at) (one_function p i f u.0.function declared u.0.declared))
+
+pub not_general_names_the_first_untyped : NotGeneralNamesTheFirstUntyped
+not_general_names_the_first_untyped bytes text answer =
+    let r = reached bytes text NotGeneral refl answer in (r.0, r.1, less_general_named bytes r.0 r.2 (infer r.0) text refl r.3)

@@ -16,7 +16,7 @@ use Rattle.um_tool.specs.declared.status.Status.{Status}
 use Rattle.um_tool.specs.declared.status.Status.TheVariants.{Usage, ReadFault, WriteFault, NoMemory}
 use Rattle.um_tool.specs.declared.order.Order.{Order}
 use Rattle.um_tool.specs.declared.order.Order.TheVariants.{Types, Fmt}
-use Rattle.um_infer.specs.Inference.{Inference, all_schemes, stops_at_slots, stops_at_range, stops_at_units, infer}
+use Rattle.um_infer.specs.Inference.{Inference, all_schemes, stops_at_slots, stops_at_range, stops_at_units, stops_at_not_general, infer}
 use Rattle.um_tool.specs.Answer.{Asked, Answer, OrderAnswer, LengthAnswer, TokensAnswer, GrammarAnswer, ProgramAnswer, ByLayout, NamesAnswer, ShapesAnswer, SchemesAnswer, ByOrder, InferenceAnswer}
 use Rattle.um_tool.specs.Orders.{order_of}
 use Rattle.um_tool.specs.Steps.{IsReply, line}
@@ -33,6 +33,7 @@ inference_status bytes p (all_schemes schemes) text status answer = rw answer.1 
 inference_status bytes p (stops_at_slots i) text status answer = rw answer.2.1 refl
 inference_status bytes p (stops_at_range i at) text status answer = rw answer.2.1 refl
 inference_status bytes p (stops_at_units i row at) text status answer = rw answer.2.1 refl
+inference_status bytes p (stops_at_not_general i row at) text status answer = rw answer.2.1 refl
 
 by_order_status : (order : Order) (asked : Asked) (p : ProgramTree) (inferred : Inference) (text : List ℕ) (status : Status) → ByOrder order asked p inferred text status → IsTrue (is_answered status)
 by_order_status Types asked p inferred text status answer = inference_status asked.bytes p inferred text status answer

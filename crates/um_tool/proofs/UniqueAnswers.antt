@@ -26,7 +26,7 @@ use Rattle.um_shape.specs.FirstFault.{ShapeFault, wrong_shape, too_deep, first_f
 use Rattle.um_shape.specs.ShapedProgram.{IsRefusal}
 use Rattle.um_tree.specs.RawTree.{DeclSyntax}
 use Rattle.um_tree.specs.ProgramTree.{FunctionTree, ProgramTree}
-use Rattle.um_infer.specs.Inference.{Inference, all_schemes, stops_at_slots, stops_at_range, stops_at_units, infer}
+use Rattle.um_infer.specs.Inference.{Inference, all_schemes, stops_at_slots, stops_at_range, stops_at_units, stops_at_not_general, infer}
 use Rattle.um_types.specs.declared.parse.LimitKind.TheVariants as limit
 use Rattle.um_tool.specs.declared.order.Order.{Order}
 use Rattle.um_tool.specs.declared.order.Order.TheVariants.{Types, Fmt}
@@ -144,6 +144,7 @@ module _ (one_answer : ParsesAreUnique) (text other : List ℕ) (status another 
   inference_one bytes p (stops_at_slots i) a b = of_one_function p i _ _ (λ f x y. (x.0 ∙ sym y.0, x.1 ∙ sym y.1)) a b
   inference_one bytes p (stops_at_range i at) a b = of_one_function p i _ _ (λ f x y. (x.0 ∙ sym y.0, x.1 ∙ sym y.1)) a b
   inference_one bytes p (stops_at_units i row at) a b = of_one_function p i _ _ (λ f x y. (x.0 ∙ sym y.0, x.1 ∙ sym y.1)) a b
+  inference_one bytes p (stops_at_not_general i row at) a b = of_one_function p i _ _ (λ f x y. (x.0 ∙ sym y.0, x.1 ∙ sym y.1)) a b
 
   by_order_one : (order : Order) (asked : Asked) (p : ProgramTree) → ByOrder order asked p (infer p) text status → ByOrder order asked p (infer p) other another → (text ≡ other) × (status ≡ another)
   by_order_one Types asked p a b = inference_one asked.bytes p (infer p) a b

@@ -19,10 +19,10 @@ use Rattle.um_names.specs.Resolution.{resolved_program}
 use Rattle.um_shape.specs.declared.stop.ShapeStop.{ShapeStop}
 use Rattle.um_shape.specs.FirstFault.{first_fault}
 use Rattle.um_shape.specs.ShapedProgram.{IsRefusal}
-use Rattle.um_infer.specs.Inference.{Inference, all_schemes, stops_at_slots, stops_at_range, stops_at_units, infer}
+use Rattle.um_infer.specs.Inference.{Inference, all_schemes, stops_at_slots, stops_at_range, stops_at_units, stops_at_not_general, infer}
 use Rattle.um_show.specs.Layout.{layout}
 use Rattle.um_tool.specs.Orders.{order_of, NamesUnbuilt}
-use Rattle.um_tool.specs.Refusals.{IsTextReply, IsParseReply, IsNameReply, IsShapeReply, IsSlotsReply, IsRangeReply, IsUnitsReply}
+use Rattle.um_tool.specs.Refusals.{IsTextReply, IsParseReply, IsNameReply, IsShapeReply, IsSlotsReply, IsRangeReply, IsUnitsReply, IsNotGeneralReply}
 use Rattle.um_tool.specs.SchemeLines.{scheme_lines}
 use Rattle.um_tool.specs.Steps.{line, IsReply, Cases}
 
@@ -47,6 +47,8 @@ InferenceAnswer bytes p (all_schemes schemes) text status = IsReply text status 
 InferenceAnswer bytes p (stops_at_slots i) text status = OfFunction p i (λ f. IsSlotsReply bytes f.at text status)
 InferenceAnswer bytes p (stops_at_range i at) text status = OfFunction p i (λ f. IsRangeReply bytes f.name at text status)
 InferenceAnswer bytes p (stops_at_units i row at) text status = OfFunction p i (λ f. IsUnitsReply bytes f.name at text status)
+InferenceAnswer bytes p (stops_at_not_general i row at) text status =
+    OfFunction p i (λ f. IsNotGeneralReply bytes f.name at text status)
 
 -- what the order asks of the program's schemes; `fmt` was answered before
 abbrev pub ByOrder : Order → Asked → ProgramTree → Inference → List ℕ → Status → Type 0

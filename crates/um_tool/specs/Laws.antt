@@ -12,11 +12,11 @@ use Rattle.um_tree.specs.ProgramTree.{ProgramTree, SchemeTree}
 use Rattle.um_parse.specs.Parsed.{IsRead}
 use Rattle.um_names.specs.Resolution.{resolved_program}
 use Rattle.um_shape.specs.FirstFault.{first_fault}
-use Rattle.um_infer.specs.Schemes.{ArePrincipal, IsFirstUntyped}
+use Rattle.um_infer.specs.Schemes.{ArePrincipal, IsFirstWithoutUnits, IsFirstNotGeneral}
 use Rattle.um_tool.specs.declared.status.Status.{Status}
-use Rattle.um_tool.specs.declared.status.Status.TheVariants.{Done, Units}
+use Rattle.um_tool.specs.declared.status.Status.TheVariants.{Done, Units, NotGeneral}
 use Rattle.um_tool.specs.Places.{line_of, column_of, place_text}
-use Rattle.um_tool.specs.Refusals.{placed, units_label}
+use Rattle.um_tool.specs.Refusals.{placed, units_label, not_general_label}
 use Rattle.um_tool.specs.SchemeLines.{scheme_lines}
 use Rattle.um_tool.specs.Answer.{Answer}
 
@@ -57,12 +57,22 @@ PrintedTypesArePrincipalSchemes =
     (p : ProgramTree) × SpellsProgram bytes p
     × ((schemes : List SchemeTree) × ArePrincipal p (length p.functions) schemes × (text ≡ scheme_lines p p.functions schemes))
 
--- The function that it names with the status of units is the first of the program without a typing.
+-- The function that it names with the status of units is the first of the program without a typing, and no units satisfy
+-- its equations up to the one at the place.
 abbrev pub UnitsNameTheFirstUntyped : Type 0
 UnitsNameTheFirstUntyped =
     (bytes text : List ℕ) → TypesAnswers bytes text Units →
     (p : ProgramTree) × SpellsProgram bytes p
-    × ((i row at : ℕ) × (untyped : IsFirstUntyped p i row at) × (text ≡ placed (units_label untyped.function.name) bytes at))
+    × ((i row at : ℕ) × (untyped : IsFirstWithoutUnits p i row at)
+    × (text ≡ placed (units_label untyped.0.function.name) bytes at))
+
+-- The function that it names as not general is the first without a typing too, but some units satisfy these equations.
+abbrev pub NotGeneralNamesTheFirstUntyped : Type 0
+NotGeneralNamesTheFirstUntyped =
+    (bytes text : List ℕ) → TypesAnswers bytes text NotGeneral →
+    (p : ProgramTree) × SpellsProgram bytes p
+    × ((i row at : ℕ) × (untyped : IsFirstNotGeneral p i row at)
+    × (text ≡ placed (not_general_label untyped.0.function.name) bytes at))
 
 -- ---- the answer to words and bytes is one
 abbrev pub AnswersAreUnique : Type 0

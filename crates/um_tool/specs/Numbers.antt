@@ -2,7 +2,7 @@
 -- Source: this project's own numbers.
 use Rattle.std.specs.Prelude.{ℕ}
 use Rattle.um_tool.specs.declared.status.Status.{Status}
-use Rattle.um_tool.specs.declared.status.Status.TheVariants.{Done, Usage, TooLong, Utf8, Lexical, Syntax, Limit, Names, Shape, Units, PowerRange, Input, Trap, BudgetEnd, ScaleRange, ReadFault, WriteFault, NoMemory, NotBuilt}
+use Rattle.um_tool.specs.declared.status.Status.TheVariants.{Done, Usage, TooLong, Utf8, Lexical, Syntax, Limit, Names, Shape, Units, PowerRange, Input, Trap, BudgetEnd, ScaleRange, ReadFault, WriteFault, NoMemory, NotBuilt, NotGeneral}
 
 abbrev pub number_of : Status → ℕ
 number_of Done = 0
@@ -24,3 +24,4 @@ number_of ReadFault = 15
 number_of WriteFault = 16
 number_of NoMemory = 17
 number_of NotBuilt = 18
+number_of NotGeneral = 19

@@ -12,7 +12,7 @@ use Rattle.um_measures.specs.declared.stop.NameStop.TheVariants as name_stop
 use Rattle.um_shape.specs.declared.stop.ShapeStop.{ShapeStop}
 use Rattle.um_shape.specs.declared.stop.ShapeStop.TheVariants as shape_stop
 use Rattle.um_tool.specs.declared.status.Status.{Status}
-use Rattle.um_tool.specs.declared.status.Status.TheVariants.{Utf8, Lexical, Syntax, Limit, Names, Shape, Units, PowerRange}
+use Rattle.um_tool.specs.declared.status.Status.TheVariants.{Utf8, Lexical, Syntax, Limit, Names, Shape, Units, PowerRange, NotGeneral}
 use Rattle.um_tool.specs.Places.{place_text}
 use Rattle.um_tool.specs.Steps.{line, IsReply}
 
@@ -70,6 +70,13 @@ units_label name = codes "error 9: units of " ++ name ++ codes " at "
 
 abbrev pub IsUnitsReply : List ℕ → List ℕ → ℕ → List ℕ → Status → Type 0
 IsUnitsReply bytes name at text status = IsReply text status (placed (units_label name) bytes at) Units
+
+-- some units satisfy its equations up to the one at the place, but none with its unit parameters as units of their own
+abbrev pub not_general_label : List ℕ → List ℕ
+not_general_label name = codes "error 19: not general in " ++ name ++ codes " at "
+
+abbrev pub IsNotGeneralReply : List ℕ → List ℕ → ℕ → List ℕ → Status → Type 0
+IsNotGeneralReply bytes name at text status = IsReply text status (placed (not_general_label name) bytes at) NotGeneral
 
 -- a power passes the range there
 abbrev pub range_label : List ℕ → List ℕ

@@ -14,8 +14,8 @@ ghost use Rattle.um_infer.specs.Inference.{infer};
 use crate::asked::Asked;
 use crate::reading::Text;
 use crate::refusal::{
-    reply_line, reply_to_names, reply_to_range, reply_to_shapes, reply_to_slots, reply_to_text,
-    reply_to_tokens, reply_to_units,
+    reply_line, reply_to_names, reply_to_not_general, reply_to_range, reply_to_shapes,
+    reply_to_slots, reply_to_text, reply_to_tokens, reply_to_units,
 };
 use crate::schemes::schemes_text;
 use crate::{Order, Status, Words};
@@ -156,6 +156,9 @@ fn answer_types(alloc: Global, bytes: &[u8], shaped: &Shaped) -> Result<Reply, A
         }),
         Err(InferStop::Units { function, at }) => {
             reply_to_units(alloc, bytes, &function_at(program, function).name, at)
+        }
+        Err(InferStop::NotGeneral { function, at }) => {
+            reply_to_not_general(alloc, bytes, &function_at(program, function).name, at)
         }
         Err(InferStop::PowerRange { function, at }) => {
             reply_to_range(alloc, bytes, &function_at(program, function).name, at)

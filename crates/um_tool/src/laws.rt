@@ -1,12 +1,14 @@
 //! Laws of answers and report lines. A call does nothing: what it ensures is the law.
 ghost use Rattle.um_tool.specs.Laws.{LinesAgree, ColumnsAgree, PlacesArePrinted};
-ghost use Rattle.um_tool.specs.Laws.{PrintedTypesArePrincipalSchemes, UnitsNameTheFirstUntyped, AnswersAreUnique};
+ghost use Rattle.um_tool.specs.Laws.{PrintedTypesArePrincipalSchemes, UnitsNameTheFirstUntyped, NotGeneralNamesTheFirstUntyped, AnswersAreUnique};
 
 /// What `types` printed with status 0 on some bytes are the principal schemes of the program that they spell, a line for
-/// each function in order; what it printed with the status of units names the first function without a typing.
+/// each function in order; what it printed with the status of units, or of a function that is not general, names the
+/// first function without a typing, and says whether some units satisfy its equations.
 pub fn printed_types()
     ensures schemes { PrintedTypesArePrincipalSchemes }
     ensures refusal { UnitsNameTheFirstUntyped }
+    ensures not_general { NotGeneralNamesTheFirstUntyped }
 {}
 
 /// The place of a report line, which is counted on bytes, is the line and the column that

@@ -1,6 +1,6 @@
 // The lines of refusals.
 ghost use Rattle.std.specs.Prelude.{◌≡◌, ◌++◌, IfOk, codes};
-ghost use Rattle.um_tool.specs.Refusals.{IsTextReply, IsParseReply, IsNameReply, IsShapeReply, IsUnitsReply, IsRangeReply, IsSlotsReply, limit_label as label_of_limit, placed};
+ghost use Rattle.um_tool.specs.Refusals.{IsTextReply, IsParseReply, IsNameReply, IsShapeReply, IsUnitsReply, IsNotGeneralReply, IsRangeReply, IsSlotsReply, limit_label as label_of_limit, placed};
 ghost use Rattle.um_tool.specs.Steps.{IsReply, line};
 
 use crate::Status;
@@ -163,6 +163,19 @@ pub(crate) fn reply_to_units(
 {
     let label = label_with(alloc, b"error 9: units of ", name)?;
     reply_labelled(label, bytes, at, Status::Units)
+}
+
+/// The refusal of a function of this name that is less general than its unit parameters say.
+pub(crate) fn reply_to_not_general(
+    alloc: Global,
+    bytes: &[u8],
+    name: &Name,
+    at: u32,
+) -> Result<Reply, AllocError>
+    ensures { IfOk result (λ reply. IsNotGeneralReply bytes.now name.now at reply.text.items reply.status) }
+{
+    let label = label_with(alloc, b"error 19: not general in ", name)?;
+    reply_labelled(label, bytes, at, Status::NotGeneral)
 }
 
 /// The refusal of a function of this name that forms a power past the range.

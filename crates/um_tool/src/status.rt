@@ -30,6 +30,8 @@ pub enum Status {
     NoMemory,
     /// The words or the text hold a form that isn't built yet.
     NotBuilt,
+    /// A function is less general than its unit parameters say.
+    NotGeneral,
 }
 
 impl Status {
@@ -57,6 +59,7 @@ impl Status {
             Status::WriteFault => 16,
             Status::NoMemory => 17,
             Status::NotBuilt => 18,
+            Status::NotGeneral => 19,
         }
     }
 }

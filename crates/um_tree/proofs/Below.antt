@@ -1,5 +1,5 @@
 -- The typings and the shapes of a function do not depend on how many functions come after it.
-use Rattle.std.proofs.Common.{◌≡◌, refl, ap, subst, sym, ℕ, zero, suc, ◌<◌, true, false, cond, nat_eq, slice_get, arith}
+use Rattle.std.proofs.Common.{◌≡◌, refl, ap, subst, sym, ℕ, zero, suc, ◌<◌, true, false, cond, nat_eq, length, slice_get, arith}
 use Rattle.std.proofs.lemmas.Bool.Decides.{nat_tests}
 use Rattle.um_tree.specs.ProgramTree.{ProgramTree, Signature}
 use Rattle.um_tree.specs.Typing.{TypingAt, typings_below, Typing}
@@ -9,8 +9,8 @@ use Rattle.um_tree.specs.Laws.{EarlierTypings, EarlierShapesAre}
 pub typings_below-is : (p : ProgramTree) (n j : ℕ) (g : Signature) → j < n → typings_below p n j g ≡ Typing p j g
 typings_below-is p zero j g h = absurd (omega arith)
 typings_below-is p (suc n) j g h =
-    elim (nat_eq j n) as (λ b. nat_eq j n ≡ b → cond b (TypingAt p.records (typings_below p n) n (slice_get p.functions n) g) (typings_below p n j g) ≡ Typing p j g) [
-      | true ↦ λ e. let same : n ≡ j = grind (arith, nat_tests) in ap (λ (m : ℕ). TypingAt p.records (typings_below p m) m (slice_get p.functions m) g) same
+    elim (nat_eq j n) as (λ b. nat_eq j n ≡ b → cond b (TypingAt (length p.bases) p.records (typings_below p n) n (slice_get p.functions n) g) (typings_below p n j g) ≡ Typing p j g) [
+      | true ↦ λ e. let same : n ≡ j = grind (arith, nat_tests) in ap (λ (m : ℕ). TypingAt (length p.bases) p.records (typings_below p m) m (slice_get p.functions m) g) same
       | false ↦ λ e. typings_below-is p n j g (grind (arith, nat_tests))
     ] refl
 

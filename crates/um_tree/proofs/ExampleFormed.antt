@@ -155,6 +155,7 @@ sum_of_fields = record {
   name = codes "f";
   at = 0;
   recursive = false;
+  units = 0;
   params = record_note 0 (Written (atom (Var 0)) ∷ []) ∷ [];
   named = 1;
   result = None;
@@ -169,6 +170,7 @@ other_nodes = record {
   name = codes "g";
   at = 0;
   recursive = true;
+  units = 0;
   params = list_note (num_note (Written one)) ∷ num_note Hole ∷ [];
   named = 0;
   result = Some (num_note Hole);
@@ -198,6 +200,8 @@ point_formed = record {
 sum_formed : IsFormedFunction formed 0 sum_of_fields
 sum_formed = record {
   few_params = lit≤ tt;
+  few_units = lit≤ tt;
+  units = lit≤ tt;
   params = one_item (IsFormedNote formed sum_of_fields) _ (((point, refl, refl), one_item (IsNoteIn 2 1) _ (variable_in 2)), lit≤ tt);
   result = tt;
   noted = λ e. absurd (cc e);
@@ -216,6 +220,8 @@ metre_below (suc k) h = let other : (suc k == 0) ≡ false = grind (arith, nat_t
 others_formed : IsFormedFunction formed 1 other_nodes
 others_formed = record {
   few_params = lit≤ tt;
+  few_units = lit≤ tt;
+  units = lit≤ tt;
   params = two_items (IsFormedNote formed other_nodes) _ _ (one_in 2 0, lit≤ tt) (tt, lit≤ tt);
   result = (tt, lit≤ tt);
   noted = λ e. refl;
@@ -319,7 +325,7 @@ abbrev number_field : List ℕ → FieldTree
 number_field name = record { name = name; type = num_type one }
 
 abbrev named_function : List ℕ → FunctionTree
-named_function name = record { name = name; at = 0; recursive = false; params = []; named = 0; result = None; body = unit_one }
+named_function name = record { name = name; at = 0; recursive = false; units = 0; params = []; named = 0; result = None; body = unit_one }
 
 word_as_base : IsFormed (with_records (codes "let" ∷ []) []) → ⊥
 word_as_base w = no_word_name (w.names 0 _ refl)
@@ -406,7 +412,7 @@ unknown_base_in_result : IsFormedFunction (with_functions []) 0 (rec_function []
 unknown_base_in_result w = base_needed 0 refl w.result.0.0
 
 -- a `rec` function has a note of its result
-no_result_note : IsFormedFunction (with_functions []) 0 (record { name = []; at = 0; recursive = true; params = []; named = 0; result = None; body = unit_one }) → ⊥
+no_result_note : IsFormedFunction (with_functions []) 0 (record { name = []; at = 0; recursive = true; units = 0; params = []; named = 0; result = None; body = unit_one }) → ⊥
 no_result_note w = absurd (cc (w.noted refl))
 
 -- ---- bodies, in function i = 1 of the formed program, which has one parameter and doesn't call itself

@@ -42,10 +42,10 @@ kilogram = atom (Base 2)
 
 -- a function without a name that does not call itself and has no result note
 abbrev pub plain : List NoteTree → ExprTree → FunctionTree
-plain ns e = record { name = []; at = 0; recursive = false; params = ns; named = 0; result = None; body = e }
+plain ns e = record { name = []; at = 0; recursive = false; units = 0; params = ns; named = 0; result = None; body = e }
 
 abbrev pub rec_function : List NoteTree → NoteTree → ExprTree → FunctionTree
-rec_function ns n e = record { name = []; at = 0; recursive = true; params = ns; named = 0; result = Some n; body = e }
+rec_function ns n e = record { name = []; at = 0; recursive = true; units = 0; params = ns; named = 0; result = Some n; body = e }
 
 abbrev pub with_functions : List FunctionTree → ProgramTree
 with_functions fs = record { bases = []; records = []; functions = fs }

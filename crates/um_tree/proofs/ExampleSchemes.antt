@@ -10,7 +10,8 @@ use Rattle.um_tree.specs.Typing.{put_signature, Typing}
 use Rattle.um_tree.specs.Scheme.{IsPrincipal, IsInstance, IsNumberedScheme}
 use Rattle.um_tree.proofs.Numbered.{numbered_below}
 use Rattle.um_tree.proofs.ExamplePrograms.{identity, zeros, squares, sum}
-use Rattle.um_tree.proofs.ExampleTypings.{signature, variable, signature_is, same_number, same_some, same_item, second_of, identity_typed, zero_typed, squares_typed, sum_typed}
+use Rattle.um_units.proofs.Variables.{IsClosed-one}
+use Rattle.um_tree.proofs.ExampleTypings.{Chosen, choice_of, signature, variable, signature_is, same_number, same_some, same_item, second_of, identity_typed, zero_typed, squares_typed, sum_typed}
 
 -- ---- let id (x: num<_>) = x has num<'a> -> num<'a>
 abbrev identity_scheme : SchemeTree
@@ -18,9 +19,10 @@ identity_scheme = record { signature = signature (num_type (variable 0) ∷ []) 
 
 identity_instance : (g : Signature) → Typing identity 0 g → IsInstance identity_scheme g
 identity_instance g m =
-    let u = m.params.2.0 in
-    let params : g.params ≡ num_type u ∷ [] = m.params.4 ∙ ap (λ s. s ∷ m.params.1) m.params.2.2 ∙ ap (λ r. num_type u ∷ r) m.params.3 in
-    let result : g.result ≡ num_type u = sym (same_some _ _ (ap (λ ts. slice_get ts 0) (sym params) ∙ m.body)) in
+    let l = choice_of identity 0 _ refl tt m in
+    let u = l.params.2.0 in
+    let params : g.params ≡ num_type u ∷ [] = l.params.4 ∙ ap (λ s. s ∷ l.params.1) l.params.2.2 ∙ ap (λ r. num_type u ∷ r) l.params.3 in
+    let result : g.result ≡ num_type u = sym (same_some _ _ (ap (λ ts. slice_get ts 0) (sym params) ∙ l.body)) in
     let same = ap (λ v. signature (num_type v ∷ []) (num_type v)) (replace-variable (λ k. u) 0) in
     (λ k. u, signature_is g _ _ params result ∙ sym same)
 
@@ -45,8 +47,9 @@ zero_scheme = record { signature = signature [] (num_type (variable 0)); vars = 
 
 zero_instance : (g : Signature) → Typing zeros 0 g → IsInstance zero_scheme g
 zero_instance g m =
-    let u = m.body.0 in
-    (λ k. u, signature_is g _ _ m.params m.body.2 ∙ sym (ap (λ v. signature [] (num_type v)) (replace-variable (λ k. u) 0)))
+    let l = choice_of zeros 0 _ refl tt m in
+    let u = l.body.0 in
+    (λ k. u, signature_is g _ _ l.params l.body.2 ∙ sym (ap (λ v. signature [] (num_type v)) (replace-variable (λ k. u) 0)))
 
 zero_numbered : IsNumberedScheme zero_scheme
 unfolding product
@@ -64,11 +67,12 @@ sum_scheme = record { signature = signature (list_type (num_type (variable 0)) �
 
 sum_instance : (g : Signature) → Typing sum 0 g → IsInstance sum_scheme g
 sum_instance g m =
-    let u = m.params.2.1.0 in
-    let params : g.params ≡ list_type (num_type u) ∷ [] = m.params.4 ∙ ap (λ s. s ∷ m.params.1) (m.params.2.2 ∙ ap list_type m.params.2.1.2) ∙ ap (λ r. list_type (num_type u) ∷ r) m.params.3 in
-    let item : num_type u ≡ m.body.0 = same_item _ _ (same_some _ _ (ap (λ ts. slice_get ts 0) (sym params) ∙ m.body.1)) in
-    let head : m.body.0 ≡ num_type m.body.3.0 = same_some _ _ (ap (λ ts. slice_get (ts ++ m.body.0 ∷ list_type m.body.0 ∷ []) 1) (sym params) ∙ m.body.3.3) in
-    let result : g.result ≡ num_type u = m.body.3.6 ∙ ap num_type m.body.3.5.1 ∙ sym (item ∙ head) in
+    let l = choice_of sum 0 _ refl (tt, tt, (tt, (tt, tt))) m in
+    let u = l.params.2.1.0 in
+    let params : g.params ≡ list_type (num_type u) ∷ [] = l.params.4 ∙ ap (λ s. s ∷ l.params.1) (l.params.2.2 ∙ ap list_type l.params.2.1.2) ∙ ap (λ r. list_type (num_type u) ∷ r) l.params.3 in
+    let item : num_type u ≡ l.body.0 = same_item _ _ (same_some _ _ (ap (λ ts. slice_get ts 0) (sym params) ∙ l.body.1)) in
+    let head : l.body.0 ≡ num_type l.body.3.0 = same_some _ _ (ap (λ ts. slice_get (ts ++ l.body.0 ∷ list_type l.body.0 ∷ []) 1) (sym params) ∙ l.body.3.3) in
+    let result : g.result ≡ num_type u = l.body.3.6 ∙ ap num_type l.body.3.5.1 ∙ sym (item ∙ head) in
     let same = ap (λ v. signature (list_type (num_type v) ∷ []) (num_type v)) (replace-variable (λ k. u) 0) in
     (λ k. u, signature_is g _ _ params result ∙ sym same)
 
@@ -90,7 +94,7 @@ squares_scheme = record { signature = signature (num_type one ∷ num_type one �
 square_is_one : (u : PowerMap) → mul u u ≡ u → u ≡ one
 square_is_one u e = mul_cancel u u one (e ∙ sym (mul-one u))
 
-module _ (g : Signature) (m : Typing squares 0 g) where
+module _ (g : Signature) (m : Chosen squares 0 g) where
   abbrev unit : PowerMap
   unit = m.params.3.2.0
 
@@ -128,7 +132,7 @@ squares_principal : IsPrincipal squares 0 squares_scheme
 squares_principal = record {
   below = numbered_below squares_scheme squares_numbered;
   instances = λ g. (
-    λ m. (λ k. one, squares_only g m ∙ sym (squares_at (λ k. one))),
+    λ m. (λ k. one, squares_only g (choice_of squares 0 g refl ((tt, IsClosed-one), tt, ((tt, IsClosed-one), ((tt, tt), tt))) m) ∙ sym (squares_at (λ k. one))),
     λ m. subst (Typing squares 0) (sym (m.1 ∙ squares_at m.0)) squares_typed,
   );
 }

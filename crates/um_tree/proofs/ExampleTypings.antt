@@ -1,5 +1,5 @@
 -- Typings of small programs: each has the scheme that is expected, and an instance of another is refused.
-use Rattle.std.proofs.Common.{◌≡◌, refl, sym, ap, subst, ◌∙◌, inl, inr, ℕ, zero, suc, List, [], ◌∷◌, pos, negsuc, Some, slice_get, length, arith}
+use Rattle.std.proofs.Common.{◌≡◌, refl, sym, ap, subst, ◌∙◌, inl, inr, ℕ, zero, suc, List, [], ◌∷◌, pos, negsuc, Option, Some, None, slice_get, length, arith}
 use Rattle.um_units.specs.declared.Atom.{Atom}
 use Rattle.um_units.specs.declared.Atom.TheVariants.{Base, Var}
 use Rattle.um_units.specs.PowerMap.{PowerMap, product, power_of, one, atom, mul, inv, replace}
@@ -8,8 +8,11 @@ use Rattle.um_units.proofs.Replacement.{replace-one, replace-mul, replace-inv, r
 use Rattle.um_tree.specs.declared.note.UnitNote.TheVariants.{Hole, Written}
 use Rattle.um_tree.specs.TypeTree.{TypeTree, bool_type, num_type, list_type, record_type, num_note}
 use Rattle.um_tree.specs.ExprTree.{number}
-use Rattle.um_tree.specs.ProgramTree.{ProgramTree, Signature, SchemeTree}
-use Rattle.um_tree.specs.Typing.{put_signature, UnitsMatch, TypesMatch, Typing}
+use Rattle.um_tree.specs.ProgramTree.{FunctionTree, ProgramTree, Signature, SchemeTree}
+use Rattle.um_tree.specs.Typing.{put_signature, UnitsMatch, TypesMatch, IsLooseTypingOf, TypingAt, typings_below, Typing}
+use Rattle.um_tree.specs.Laws.{LiteralsAreClosed}
+use Rattle.um_tree.proofs.TypingsMoved.{typing_of_loose, loose_of_typing}
+use Rattle.um_units.proofs.Variables.{IsClosed-one, IsClosed-base, IsClosed-mul, IsClosed-inv}
 use Rattle.um_tree.specs.Scheme.{IsInstance, IsPrincipal, IsNumberedScheme}
 use Rattle.um_tree.proofs.Numbered.{numbered_below}
 use Rattle.um_tree.proofs.ExamplePrograms.{one_number, plain, with_functions, metre, second, kilogram, newton, marked, area_of_metres, area, identity, zeros, squares, sum, weights, make, pick}
@@ -19,6 +22,37 @@ signature ts t = record { params = ts; result = t }
 
 abbrev pub variable : ℕ → PowerMap
 variable k = atom (Var k)
+
+-- what is chosen for a function without unit parameters
+abbrev pub ChosenAt : ProgramTree → ℕ → Option FunctionTree → Signature → Type 0
+ChosenAt p i None g = ⊥
+ChosenAt p i (Some f) g = IsLooseTypingOf p.records (typings_below p i) i f g
+
+abbrev pub Chosen : ProgramTree → ℕ → Signature → Type 0
+Chosen p i g = ChosenAt p i (slice_get p.functions i) g
+
+abbrev pub units_at : Option FunctionTree → ℕ
+units_at None = 0
+units_at (Some f) = f.units
+
+abbrev pub ClosedAt : Option FunctionTree → Type 0
+ClosedAt None = Unit {0}
+ClosedAt (Some f) = LiteralsAreClosed f.body
+
+by_choice_at : (p : ProgramTree) (i : ℕ) (o : Option FunctionTree) (g : Signature) → units_at o ≡ 0 → ChosenAt p i o g → TypingAt (length p.bases) p.records (typings_below p i) i o g
+by_choice_at p i None g none m = m
+by_choice_at p i (Some f) g none m = typing_of_loose p i f none g m
+
+choice_at : (p : ProgramTree) (i : ℕ) (o : Option FunctionTree) (g : Signature) → units_at o ≡ 0 → ClosedAt o → TypingAt (length p.bases) p.records (typings_below p i) i o g → ChosenAt p i o g
+choice_at p i None g none closed m = m
+choice_at p i (Some f) g none closed m = loose_of_typing p i f none closed g m
+
+-- such a choice is a typing, and each typing comes from one
+pub by_choice : (p : ProgramTree) (i : ℕ) (g : Signature) → units_at (slice_get p.functions i) ≡ 0 → Chosen p i g → Typing p i g
+by_choice p i g none m = by_choice_at p i (slice_get p.functions i) g none m
+
+pub choice_of : (p : ProgramTree) (i : ℕ) (g : Signature) → units_at (slice_get p.functions i) ≡ 0 → ClosedAt (slice_get p.functions i) → Typing p i g → Chosen p i g
+choice_of p i g none closed m = choice_at p i (slice_get p.functions i) g none closed m
 
 pub signature_is : (g : Signature) (ts : List TypeTree) (t : TypeTree) → g.params ≡ ts → g.result ≡ t → g ≡ signature ts t
 signature_is g ts t e f = ap (λ xs. signature xs g.result) e ∙ ap (signature ts) f
@@ -39,28 +73,29 @@ metre_apart = apart metre second (Base 0) 1 0 refl refl (λ e. absurd (omega (ar
 
 -- ---- let area (x: num<m>) (y: num<m>) = x * y has the type num<m> -> num<m> -> num<m^2> alone
 metres_typed : Typing area_of_metres 0 (signature (num_type metre ∷ num_type metre ∷ []) (num_type (mul metre metre)))
-metres_typed = record {
+metres_typed = by_choice area_of_metres 0 _ refl (record {
   choice = λ k. one;
   params = (num_type metre, num_type metre ∷ [], (metre, sym (replace-base _ 0), refl), (num_type metre, [], (metre, sym (replace-base _ 0), refl), refl, refl), refl);
   result = tt;
   body = (metre, metre, mul metre metre, refl, refl, refl, refl);
-}
+})
 
 seconds_refused : (t : TypeTree) → Typing area_of_metres 0 (signature (num_type metre ∷ num_type second ∷ []) t) → ⊥
 seconds_refused t m =
-    let unit : m.params.3.2.0 ≡ metre = m.params.3.2.1 ∙ replace-base m.choice 0 in
-    let rest : num_type second ∷ [] ≡ m.params.1 = cc m.params.4 in
-    let item : num_type second ≡ m.params.3.0 = cc (rest ∙ m.params.3.4) in
-    metre_apart (sym (same_number _ _ (item ∙ m.params.3.2.2) ∙ unit))
+    let l = choice_of area_of_metres 0 _ refl (tt, tt) m in
+    let unit : l.params.3.2.0 ≡ metre = l.params.3.2.1 ∙ replace-base l.choice 0 in
+    let rest : num_type second ∷ [] ≡ l.params.1 = cc l.params.4 in
+    let item : num_type second ≡ l.params.3.0 = cc (rest ∙ l.params.3.4) in
+    metre_apart (sym (same_number _ _ (item ∙ l.params.3.2.2) ∙ unit))
 
 -- ---- let area (x: num<_>) (y: num<_>) = x * y
 area_typed : (u v : PowerMap) → Typing area 0 (signature (num_type u ∷ num_type v ∷ []) (num_type (mul u v)))
-area_typed u v = record {
+area_typed u v = by_choice area 0 _ refl (record {
   choice = λ k. one;
   params = (num_type u, num_type v ∷ [], (u, tt, refl), (num_type v, [], (v, tt, refl), refl, refl), refl);
   result = tt;
   body = (u, v, mul u v, refl, refl, refl, refl);
-}
+})
 
 two_holes : (choice : ℕ → PowerMap) (ts : List TypeTree) → TypesMatch choice (num_note Hole ∷ num_note Hole ∷ []) ts → (u : PowerMap) × ((v : PowerMap) × (ts ≡ num_type u ∷ num_type v ∷ []))
 two_holes choice ts m =
@@ -92,14 +127,15 @@ area_principal = record { below = numbered_below area_scheme area_numbered; inst
   where
     there : (g : Signature) → Typing area 0 g → IsInstance area_scheme g
     there g m =
-        let found = two_holes m.choice g.params m.params in
+        let l = choice_of area 0 _ refl (tt, tt) m in
+        let found = two_holes l.choice g.params l.params in
         let u = found.0 in
         let v = found.1.0 in
         let params = found.1.1 in
-        let left : u ≡ m.body.0 = same_number _ _ (same_some _ _ (ap (λ ts. slice_get ts 0) (sym params) ∙ m.body.3)) in
-        let right : v ≡ m.body.1 = same_number _ _ (same_some _ _ (ap (λ ts. slice_get ts 1) (sym params) ∙ m.body.4)) in
-        let unit = m.body.5 ∙ ap (λ x. mul x m.body.1) (sym left) ∙ ap (mul u) (sym right) in
-        (pair_at u v, signature_is g _ _ params (m.body.6 ∙ ap num_type unit) ∙ sym (area_instance u v))
+        let left : u ≡ l.body.0 = same_number _ _ (same_some _ _ (ap (λ ts. slice_get ts 0) (sym params) ∙ l.body.3)) in
+        let right : v ≡ l.body.1 = same_number _ _ (same_some _ _ (ap (λ ts. slice_get ts 1) (sym params) ∙ l.body.4)) in
+        let unit = l.body.5 ∙ ap (λ x. mul x l.body.1) (sym left) ∙ ap (mul u) (sym right) in
+        (pair_at u v, signature_is g _ _ params (l.body.6 ∙ ap num_type unit) ∙ sym (area_instance u v))
 
     back : (g : Signature) → IsInstance area_scheme g → Typing area 0 g
     back g m =
@@ -111,46 +147,51 @@ area_principal = record { below = numbered_below area_scheme area_numbered; inst
 area_refused : Typing area 0 (signature (num_type (variable 0) ∷ num_type (variable 1) ∷ []) (num_type (variable 0))) → ⊥
 unfolding product
 area_refused m =
-    let left : variable 0 ≡ m.body.0 = same_number _ _ (same_some _ _ m.body.3) in
-    let right : variable 1 ≡ m.body.1 = same_number _ _ (same_some _ _ m.body.4) in
-    let unit : variable 0 ≡ mul (variable 0) (variable 1) = same_number _ _ m.body.6 ∙ m.body.5 ∙ ap (λ x. mul x m.body.1) (sym left) ∙ ap (mul (variable 0)) (sym right) in
+    let l = choice_of area 0 _ refl (tt, tt) m in
+    let left : variable 0 ≡ l.body.0 = same_number _ _ (same_some _ _ l.body.3) in
+    let right : variable 1 ≡ l.body.1 = same_number _ _ (same_some _ _ l.body.4) in
+    let unit : variable 0 ≡ mul (variable 0) (variable 1) = same_number _ _ l.body.6 ∙ l.body.5 ∙ ap (λ x. mul x l.body.1) (sym left) ∙ ap (mul (variable 0)) (sym right) in
     apart (variable 0) (mul (variable 0) (variable 1)) (Var 1) 0 1 refl refl (λ e. absurd (omega (arith, e))) unit
 
 -- ---- let id (x: num<_>) = x
 pub identity_typed : (u : PowerMap) → Typing identity 0 (signature (num_type u ∷ []) (num_type u))
-identity_typed u = record { choice = λ k. one; params = (num_type u, [], (u, tt, refl), refl, refl); result = tt; body = refl }
+identity_typed u = by_choice identity 0 _ refl (record { choice = λ k. one; params = (num_type u, [], (u, tt, refl), refl, refl); result = tt; body = refl })
 
 identity_refused : Typing identity 0 (signature (num_type metre ∷ []) (num_type second)) → ⊥
-identity_refused m = metre_apart (same_number _ _ (same_some _ _ m.body))
+identity_refused m =
+    let l = choice_of identity 0 _ refl tt m in
+    metre_apart (same_number _ _ (same_some _ _ l.body))
 
 -- ---- let z = 0<_> has each num<'a>, and let w = 0<_> * 0<_> each num<'a 'b>
 pub zero_typed : (u : PowerMap) → Typing zeros 0 (signature [] (num_type u))
-zero_typed u = record { choice = λ k. one; params = refl; result = tt; body = (u, refl, refl) }
+zero_typed u = by_choice zeros 0 _ refl (record { choice = λ k. one; params = refl; result = tt; body = (u, refl, refl) })
 
 zeros_typed : (u v : PowerMap) → Typing zeros 1 (signature [] (num_type (mul u v)))
-zeros_typed u v = record { choice = λ k. one; params = refl; result = tt; body = (u, v, mul u v, (u, refl, refl), (v, refl, refl), refl, refl) }
+zeros_typed u v = by_choice zeros 1 _ refl (record { choice = λ k. one; params = refl; result = tt; body = (u, v, mul u v, (u, refl, refl), (v, refl, refl), refl, refl) })
 
 zero_refused : Typing zeros 0 (signature [] bool_type) → ⊥
-zero_refused m = absurd (cc m.body.2)
+zero_refused m =
+    let l = choice_of zeros 0 _ refl tt m in
+    absurd (cc l.body.2)
 
 -- ---- a literal has its unit as it stands, whatever is chosen for the function's variables: a program with an open one is
 -- not formed
 abbrev open_literal : ProgramTree
 open_literal = with_functions (plain [] (number 0 one_number (Written (variable 0))) ∷ [])
 
-open_literal_typed : (choice : ℕ → PowerMap) → Typing open_literal 0 (signature [] (num_type (variable 0)))
+open_literal_typed : (choice : ℕ → PowerMap) → Chosen open_literal 0 (signature [] (num_type (variable 0)))
 open_literal_typed choice = record { choice = choice; params = refl; result = tt; body = (variable 0, refl, refl) }
 
 variable_apart : metre ≡ variable 0 → ⊥
 unfolding product
 variable_apart = apart metre (variable 0) (Base 0) 1 0 refl refl (λ e. absurd (omega (arith, e)))
 
-open_literal_refused : Typing open_literal 0 (signature [] (num_type metre)) → ⊥
+open_literal_refused : Chosen open_literal 0 (signature [] (num_type metre)) → ⊥
 open_literal_refused m = variable_apart (same_number _ _ m.body.2 ∙ m.body.1)
 
 -- ---- let rec f (n: num) (x: num<_>) : num<_> = if n < 1 then x else f (n - 1) (x * x) has num -> num -> num alone
 pub squares_typed : Typing squares 0 (signature (num_type one ∷ num_type one ∷ []) (num_type one))
-squares_typed = record {
+squares_typed = by_choice squares 0 _ refl (record {
   choice = λ k. one;
   params = (num_type one, num_type one ∷ [], (one, sym (replace-one _), refl), (num_type one, [], (one, tt, refl), refl, refl), refl);
   result = (one, tt, refl);
@@ -169,11 +210,11 @@ squares_typed = record {
       inr (refl, record { recursive = refl; noted = refl }, refl),
     ),
   );
-}
+})
 
 -- ---- let rec sum (l: num<_> list) : num<_> = match l with [] -> 0<_> | x :: r -> x + sum r
 pub sum_typed : (u : PowerMap) → Typing sum 0 (signature (list_type (num_type u) ∷ []) (num_type u))
-sum_typed u = record {
+sum_typed u = by_choice sum 0 _ refl (record {
   choice = λ k. one;
   params = (list_type (num_type u), [], (num_type u, (u, tt, refl), refl), refl, refl);
   result = (u, tt, refl);
@@ -183,25 +224,26 @@ sum_typed u = record {
     (u, refl, refl),
     (u, u, u, refl, (list_type (num_type u) ∷ [], (list_type (num_type u), [], refl, refl, refl), inr (refl, record { recursive = refl; noted = refl }, refl)), (refl, refl), refl),
   );
-}
+})
 
 pub same_item : (s t : TypeTree) → list_type s ≡ list_type t → s ≡ t
 same_item s t e = cc e
 
 sum_refused : Typing sum 0 (signature (list_type (num_type metre) ∷ []) (num_type second)) → ⊥
 sum_refused m =
-    let item : num_type metre ≡ m.body.0 = same_item _ _ (same_some _ _ m.body.1) in
-    let head : m.body.0 ≡ num_type m.body.3.0 = same_some _ _ m.body.3.3 in
-    let total : second ≡ m.body.3.2 = same_number _ _ m.body.3.6 in
-    metre_apart (same_number _ _ (item ∙ head) ∙ sym (total ∙ m.body.3.5.1))
+    let l = choice_of sum 0 _ refl (tt, tt, (tt, (tt, tt))) m in
+    let item : num_type metre ≡ l.body.0 = same_item _ _ (same_some _ _ l.body.1) in
+    let head : l.body.0 ≡ num_type l.body.3.0 = same_some _ _ l.body.3.3 in
+    let total : second ≡ l.body.3.2 = same_number _ _ l.body.3.6 in
+    metre_apart (same_number _ _ (item ∙ head) ∙ sym (total ∙ l.body.3.5.1))
 
 -- num -> num<m> -> num<m> is none of f: its own call squares the unit
 pub second_of : (ts rest more : List TypeTree) (s t u v : TypeTree) → ts ≡ s ∷ rest → rest ≡ t ∷ more → ts ≡ u ∷ v ∷ [] → t ≡ v
 second_of ts rest more s t u v e f g = same_some _ _ (ap (λ xs. slice_get xs 1) (sym (e ∙ ap (λ r. s ∷ r) f) ∙ g))
 
-squares_refused : Typing squares 0 (signature (num_type one ∷ num_type metre ∷ []) (num_type metre)) → ⊥
+squares_not_chosen : Chosen squares 0 (signature (num_type one ∷ num_type metre ∷ []) (num_type metre)) → ⊥
 unfolding product
-squares_refused m = elim m.body.2.2 as (λ x. ⊥) [ inl a ↦ absurd (omega (arith, a.0)) | inr a ↦ at_own a.2 ]
+squares_not_chosen m = elim m.body.2.2 as (λ x. ⊥) [ inl a ↦ absurd (omega (arith, a.0)) | inr a ↦ at_own a.2 ]
   where
     at_own : signature m.body.2.0 (num_type metre) ≡ signature (num_type one ∷ num_type metre ∷ []) (num_type metre) → ⊥
     at_own e =
@@ -213,6 +255,9 @@ squares_refused m = elim m.body.2.2 as (λ x. ⊥) [ inl a ↦ absurd (omega (ar
         let right : metre ≡ product_typed.1 = same_number _ _ (same_some _ _ product_typed.4) in
         let whole : mul metre metre ≡ metre = ap (λ x. mul x metre) left ∙ ap (mul product_typed.0) right ∙ sym product_typed.5 ∙ unit in
         apart (mul metre metre) metre (Base 0) 2 1 refl refl (λ n. absurd (omega (arith, n))) whole
+
+squares_refused : Typing squares 0 (signature (num_type one ∷ num_type metre ∷ []) (num_type metre)) → ⊥
+squares_refused m = squares_not_chosen (choice_of squares 0 _ refl ((tt, IsClosed-one), tt, ((tt, IsClosed-one), ((tt, tt), tt))) m)
 
 -- ---- let weight (k: num<kg>) = k * 9<m/s^2>, let push (f: num<kg m/s^2>) = f, let lift (k: num<kg>) = push (weight k)
 closed_per_second : (s : ℕ → PowerMap) → replace s (inv (mul second second)) ≡ inv (mul second second)
@@ -229,18 +274,18 @@ abbrev gravity : PowerMap
 gravity = mul metre (inv (mul second second))
 
 weight_typed : Typing weights 0 (signature (num_type kilogram ∷ []) (num_type newton))
-weight_typed = record {
+weight_typed = by_choice weights 0 _ refl (record {
   choice = λ k. one;
   params = (num_type kilogram, [], (kilogram, sym (replace-base _ 2), refl), refl, refl);
   result = tt;
   body = (kilogram, gravity, newton, refl, (gravity, refl, refl), mul_assoc kilogram metre (inv (mul second second)), refl);
-}
+})
 
 push_typed : Typing weights 1 (signature (num_type newton ∷ []) (num_type newton))
-push_typed = record { choice = λ k. one; params = (num_type newton, [], (newton, sym (closed_newton _), refl), refl, refl); result = tt; body = refl }
+push_typed = by_choice weights 1 _ refl (record { choice = λ k. one; params = (num_type newton, [], (newton, sym (closed_newton _), refl), refl, refl); result = tt; body = refl })
 
 lift_typed : Typing weights 2 (signature (num_type kilogram ∷ []) (num_type newton))
-lift_typed = record {
+lift_typed = by_choice weights 2 _ refl (record {
   choice = λ k. one;
   params = (num_type kilogram, [], (kilogram, sym (replace-base _ 2), refl), refl, refl);
   result = tt;
@@ -249,7 +294,7 @@ lift_typed = record {
     (num_type newton, [], (num_type kilogram ∷ [], (num_type kilogram, [], refl, refl, refl), inl (omega arith, weight_typed)), refl, refl),
     inl (omega arith, push_typed),
   );
-}
+})
 
 one_param : (u v : PowerMap) (s : TypeTree) (rest : List TypeTree) → num_type u ∷ [] ≡ s ∷ rest → s ≡ num_type v → u ≡ v
 one_param u v s rest e f = let item : num_type u ≡ s = cc e in same_number u v (item ∙ f)
@@ -259,35 +304,39 @@ unfolding product
 kilogram_apart = apart metre kilogram (Base 0) 1 0 refl refl (λ e. absurd (omega (arith, e)))
 
 lift_refused : (t : TypeTree) → Typing weights 2 (signature (num_type metre ∷ []) t) → ⊥
-lift_refused t m = kilogram_apart (one_param metre m.params.2.0 m.params.0 m.params.1 m.params.4 m.params.2.2 ∙ m.params.2.1 ∙ replace-base m.choice 2)
+lift_refused t m =
+    let l = choice_of weights 2 _ refl ((tt, tt), tt) m in
+    kilogram_apart (one_param metre l.params.2.0 l.params.0 l.params.1 l.params.4 l.params.2.2 ∙ l.params.2.1 ∙ replace-base l.choice 2)
 
 -- ---- type V<[<Measure>] 'u> = { x: num } and let mk = { x = 1 }: each V<'a>
 make_typed : (u : PowerMap) → Typing make 0 (signature [] (record_type 0 (u ∷ [])))
-make_typed u = record {
+make_typed u = by_choice make 0 _ refl (record {
   choice = λ k. one;
   params = refl;
   result = tt;
   body = (u ∷ [], marked, record { declared = refl; units = refl }, (num_type one, [], (one, refl, refl), refl, ap (λ v. num_type v ∷ []) (replace-one _)), refl);
-}
+})
 
 -- a record has as many units as are declared
 make_refused : Typing make 0 (signature [] (record_type 0 [])) → ⊥
 make_refused m =
-    let units : [] ≡ m.body.0 = cc m.body.4 in
-    let declared : marked ≡ m.body.1 = cc m.body.2.declared in
-    absurd (omega (arith, ap (λ d. d.units) declared, m.body.2.units, ap length units))
+    let l = choice_of make 0 _ refl (IsClosed-one, tt) m in
+    let units : [] ≡ l.body.0 = cc l.body.4 in
+    let declared : marked ≡ l.body.1 = cc l.body.2.declared in
+    absurd (omega (arith, ap (λ d. d.units) declared, l.body.2.units, ap length units))
 
 -- ---- let pick (b: bool) (p: V<m>) (q: V<s>) = if b then p else q has no type: the arms have two units
 pick_refused : (g : Signature) → Typing pick 0 g → ⊥
 pick_refused g m =
-    let after = m.params.3 in
+    let l = choice_of pick 0 _ refl (tt, tt, tt) m in
+    let after = l.params.3 in
     let last = after.3 in
-    let params : g.params ≡ m.params.0 ∷ after.0 ∷ last.0 ∷ last.1 = m.params.4 ∙ ap (λ r. m.params.0 ∷ r) (after.4 ∙ ap (λ r. after.0 ∷ r) last.4) in
-    let left : after.0 ≡ g.result = same_some _ _ (ap (λ ts. slice_get ts 1) (sym params) ∙ m.body.1) in
-    let right : last.0 ≡ g.result = same_some _ _ (ap (λ ts. slice_get ts 2) (sym params) ∙ m.body.2) in
+    let params : g.params ≡ l.params.0 ∷ after.0 ∷ last.0 ∷ last.1 = l.params.4 ∙ ap (λ r. l.params.0 ∷ r) (after.4 ∙ ap (λ r. after.0 ∷ r) last.4) in
+    let left : after.0 ≡ g.result = same_some _ _ (ap (λ ts. slice_get ts 1) (sym params) ∙ l.body.1) in
+    let right : last.0 ≡ g.result = same_some _ _ (ap (λ ts. slice_get ts 2) (sym params) ∙ l.body.2) in
     let units : after.2.0 ≡ last.2.0 = same_units _ _ (sym after.2.2 ∙ left ∙ sym right ∙ last.2.2) in
-    let p = unit_of m.choice metre after.2.0 (replace-base m.choice 0) after.2.1 in
-    let q = unit_of m.choice second last.2.0 (replace-base m.choice 1) last.2.1 in
+    let p = unit_of l.choice metre after.2.0 (replace-base l.choice 0) after.2.1 in
+    let q = unit_of l.choice second last.2.0 (replace-base l.choice 1) last.2.1 in
     let all : metre ∷ [] ≡ second ∷ [] = sym p ∙ units ∙ q in
     metre_apart (cc all)
   where

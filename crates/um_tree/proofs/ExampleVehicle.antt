@@ -20,7 +20,9 @@ use Rattle.um_tree.specs.ValueTree.{ValueTree, list_value, record_value, values_
 use Rattle.um_tree.specs.Meaning.{Outcome}
 use Rattle.um_tree.specs.Typing.{unit_at, Typing}
 use Rattle.um_tree.proofs.ExamplePrograms.{whole, zero_number, one_number, metre, second, kilogram, plain, rec_function}
-use Rattle.um_tree.proofs.ExampleTypings.{signature, variable, same_number, same_some, apart, metre_apart, same_item}
+use Rattle.um_units.specs.Variables.{IsClosed}
+use Rattle.um_units.proofs.Variables.{IsClosed-one, IsClosed-base, IsClosed-mul, IsClosed-inv}
+use Rattle.um_tree.proofs.ExampleTypings.{Chosen, by_choice, choice_of, signature, variable, same_number, same_some, apart, metre_apart, same_item}
 use Rattle.um_tree.proofs.ExampleShown.{value_shown, end_shown, number_shown, plain_record, whole_number, in_plain_order, shown, number_of}
 
 abbrev foot : PowerMap
@@ -63,6 +65,7 @@ vehicle = record {
         name = [];
         at = 0;
         recursive = false;
+        units = 0;
         params = num_note (Written kilogram) ∷ num_note (Written speed) ∷ [];
         named = 0;
         result = Some (num_note (Written joule));
@@ -76,7 +79,7 @@ vehicle = record {
 
 -- ---- total : num<'a> list -> num<'a>
 total_typed : (u : PowerMap) → Typing vehicle 0 (signature (list_type (num_type u) ∷ []) (num_type u))
-total_typed u = record {
+total_typed u = by_choice vehicle 0 _ refl (record {
   choice = λ k. one;
   params = (list_type (num_type u), [], (num_type u, (u, tt, refl), refl), refl, refl);
   result = (u, tt, refl);
@@ -86,21 +89,22 @@ total_typed u = record {
     (u, refl, refl),
     (u, u, u, refl, (list_type (num_type u) ∷ [], (list_type (num_type u), [], refl, refl, refl), inr (refl, record { recursive = refl; noted = refl }, refl)), (refl, refl), refl),
   );
-}
+})
 
 same_unit_of_total : (u v : PowerMap) → Typing vehicle 0 (signature (list_type (num_type u) ∷ []) (num_type v)) → u ≡ v
 same_unit_of_total u v m =
-    let item : num_type u ≡ m.body.0 = same_item _ _ (same_some _ _ m.body.1) in
-    let head : m.body.0 ≡ num_type m.body.3.0 = same_some _ _ m.body.3.3 in
-    let sum : v ≡ m.body.3.2 = same_number _ _ m.body.3.6 in
-    same_number _ _ (item ∙ head) ∙ sym (sum ∙ m.body.3.5.1)
+    let l = choice_of vehicle 0 _ refl (tt, tt, (tt, (tt, tt))) m in
+    let item : num_type u ≡ l.body.0 = same_item _ _ (same_some _ _ l.body.1) in
+    let head : l.body.0 ≡ num_type l.body.3.0 = same_some _ _ l.body.3.3 in
+    let sum : v ≡ l.body.3.2 = same_number _ _ l.body.3.6 in
+    same_number _ _ (item ∙ head) ∙ sym (sum ∙ l.body.3.5.1)
 
 total_refused : Typing vehicle 0 (signature (list_type (num_type metre) ∷ []) (num_type second)) → ⊥
 total_refused m = metre_apart (same_unit_of_total metre second m)
 
 -- ---- count : num<'a> list -> num
 count_typed : (u : PowerMap) → Typing vehicle 1 (signature (list_type (num_type u) ∷ []) (num_type one))
-count_typed u = record {
+count_typed u = by_choice vehicle 1 _ refl (record {
   choice = λ k. one;
   params = (list_type (num_type u), [], (num_type u, (u, tt, refl), refl), refl, refl);
   result = (one, sym (replace-one _), refl);
@@ -110,21 +114,23 @@ count_typed u = record {
     (one, refl, refl),
     (one, one, one, (one, refl, refl), (list_type (num_type u) ∷ [], (list_type (num_type u), [], refl, refl, refl), inr (refl, record { recursive = refl; noted = refl }, refl)), (refl, refl), refl),
   );
-}
+})
 
 one_apart : metre ≡ one → ⊥
 unfolding product
 one_apart = apart metre one (Base 0) 1 0 refl refl (λ e. absurd (omega (arith, e)))
 
 unit_of_count : (ts : List TypeTree) (u : PowerMap) → Typing vehicle 1 (signature ts (num_type u)) → u ≡ one
-unit_of_count ts u m = same_number _ _ m.result.2 ∙ m.result.1 ∙ replace-one m.choice
+unit_of_count ts u m =
+    let l = choice_of vehicle 1 _ refl (tt, IsClosed-one, (IsClosed-one, (tt, tt))) m in
+    same_number _ _ l.result.2 ∙ l.result.1 ∙ replace-one l.choice
 
 count_refused : (u : PowerMap) → Typing vehicle 1 (signature (list_type (num_type u) ∷ []) (num_type metre)) → ⊥
 count_refused u m = one_apart (unit_of_count (list_type (num_type u) ∷ []) metre m)
 
 -- ---- mean : num<'a> list -> num<'a>
 mean_typed : (u : PowerMap) → Typing vehicle 2 (signature (list_type (num_type u) ∷ []) (num_type u))
-mean_typed u = record {
+mean_typed u = by_choice vehicle 2 _ refl (record {
   choice = λ k. one;
   params = (list_type (num_type u), [], (num_type u, (u, tt, refl), refl), refl, refl);
   result = tt;
@@ -137,12 +143,12 @@ mean_typed u = record {
     sym (ap (mul u) inv-one ∙ mul-one u),
     refl,
   );
-}
+})
 
 one_item : (u : PowerMap) (ts rest : List TypeTree) (t : TypeTree) → Some (list_type (num_type u)) ≡ Some t → ts ≡ t ∷ rest → rest ≡ [] → ts ≡ list_type (num_type u) ∷ []
 one_item u ts rest t e f g = f ∙ ap (λ s. s ∷ rest) (sym (same_some _ _ e)) ∙ ap (λ r. list_type (num_type u) ∷ r) g
 
-module _ (m : Typing vehicle 2 (signature (list_type (num_type metre) ∷ []) (num_type second))) where
+module _ (m : Chosen vehicle 2 (signature (list_type (num_type metre) ∷ []) (num_type second))) where
   total_at : metre ≡ m.body.0
   total_at =
       let call = m.body.3 in
@@ -160,10 +166,13 @@ module _ (m : Typing vehicle 2 (signature (list_type (num_type metre) ∷ []) (n
         | inr a ↦ absurd (omega (arith, a.0))
       ]
 
-  mean_refused : ⊥
-  mean_refused =
+  mean_not_chosen : ⊥
+  mean_not_chosen =
       let unit : second ≡ mul m.body.0 (inv m.body.1) = same_number _ _ m.body.6 ∙ m.body.5 in
       metre_apart (sym (unit ∙ ap (λ v. mul m.body.0 (inv v)) count_at ∙ ap (mul m.body.0) inv-one ∙ mul-one m.body.0 ∙ sym total_at))
+
+mean_refused : Typing vehicle 2 (signature (list_type (num_type metre) ∷ []) (num_type second)) → ⊥
+mean_refused m = mean_not_chosen (choice_of vehicle 2 _ refl ((tt, tt), (tt, tt)) m)
 
 -- ---- kinetic : num<kg> -> num<m/s> -> num<kg m^2/s^2>
 closed_speed : (s : ℕ → PowerMap) → replace s speed ≡ speed
@@ -183,19 +192,21 @@ closed_joule s =
     ∙ kinetic_unit
 
 kinetic_typed : Typing vehicle 3 (signature (num_type kilogram ∷ num_type speed ∷ []) (num_type joule))
-kinetic_typed = record {
+kinetic_typed = by_choice vehicle 3 _ refl (record {
   choice = λ k. one;
   params = (num_type kilogram, num_type speed ∷ [], (kilogram, sym (replace-base _ 2), refl), (num_type speed, [], (speed, sym (closed_speed _), refl), refl, refl), refl);
   result = (joule, sym (closed_joule _), refl);
   body = (mul (mul kilogram speed) speed, one, joule, (mul kilogram speed, speed, mul (mul kilogram speed) speed, (kilogram, speed, mul kilogram speed, refl, refl, refl, refl), refl, refl, refl), (one, refl, refl), sym kinetic_unit, refl);
-}
+})
 
 joule_apart : joule ≡ kilogram → ⊥
 unfolding product
 joule_apart = apart joule kilogram (Base 0) 2 0 refl refl (λ e. absurd (omega (arith, e)))
 
 kinetic_refused : (ts : List TypeTree) → Typing vehicle 3 (signature ts (num_type kilogram)) → ⊥
-kinetic_refused ts m = joule_apart (sym (same_number _ _ m.result.2 ∙ m.result.1 ∙ closed_joule m.choice))
+kinetic_refused ts m =
+    let l = choice_of vehicle 3 _ refl (((tt, tt), tt), IsClosed-one) m in
+    joule_apart (sym (same_number _ _ l.result.2 ∙ l.result.1 ∙ closed_joule l.choice))
 
 -- ---- metres : num<ft> -> num<m>
 metres_unit : mul foot (per metre foot) ≡ metre
@@ -203,12 +214,15 @@ unfolding product
 metres_unit = same_from_terms _ _ refl
 
 metres_typed : Typing vehicle 4 (signature (num_type foot ∷ []) (num_type metre))
-metres_typed = record {
+metres_typed = by_choice vehicle 4 _ refl (record {
   choice = λ k. one;
   params = (num_type foot, [], (foot, sym (replace-base _ 3), refl), refl, refl);
   result = tt;
   body = (foot, per metre foot, metre, refl, (per metre foot, refl, refl), sym metres_unit, refl);
-}
+})
+
+closed_rate : IsClosed (per metre foot)
+closed_rate = IsClosed-mul metre (inv foot) (IsClosed-base 0) (IsClosed-inv foot (IsClosed-base 3))
 
 foot_apart : metre ≡ foot → ⊥
 unfolding product
@@ -218,7 +232,9 @@ same_head : (u v : PowerMap) (s : TypeTree) (rest : List TypeTree) → num_type 
 same_head u v s rest e f = let item : num_type u ≡ s = cc e in same_number u v (item ∙ f)
 
 metres_refused : (t : TypeTree) → Typing vehicle 4 (signature (num_type metre ∷ []) t) → ⊥
-metres_refused t m = foot_apart (same_head metre m.params.2.0 m.params.0 m.params.1 m.params.4 m.params.2.2 ∙ m.params.2.1 ∙ replace-base m.choice 3)
+metres_refused t m =
+    let l = choice_of vehicle 4 _ refl (tt, closed_rate) m in
+    foot_apart (same_head metre l.params.2.0 l.params.0 l.params.1 l.params.4 l.params.2.2 ∙ l.params.2.1 ∙ replace-base l.choice 3)
 
 -- ---- move : Body<'a> -> num<s> -> Body<'a>
 abbrev with_unit : PowerMap → ℕ → PowerMap
@@ -237,7 +253,7 @@ way : (u : PowerMap) → u ≡ mul (per u second) second
 way u = sym (mul_assoc u (inv second) second ∙ ap (mul u) (mul_comm (inv second) second ∙ mul-inv second) ∙ mul-one u)
 
 move_typed : (u : PowerMap) → Typing vehicle 5 (signature (record_type 0 (u ∷ []) ∷ num_type second ∷ []) (record_type 0 (u ∷ [])))
-move_typed u = record {
+move_typed u = by_choice vehicle 5 _ refl (record {
   choice = λ k. one;
   params = (record_type 0 (u ∷ []), num_type second ∷ [], (u ∷ [], (u, [], tt, refl, refl), refl), (num_type second, [], (second, sym (replace-base _ 1), refl), refl, refl), refl);
   result = tt;
@@ -270,14 +286,15 @@ move_typed u = record {
     ),
     refl,
   );
-}
+})
 
 move_refused : (t : TypeTree) → Typing vehicle 5 (signature (record_type 0 (metre ∷ []) ∷ num_type metre ∷ []) t) → ⊥
 move_refused t m =
-    let unit : m.params.3.2.0 ≡ second = m.params.3.2.1 ∙ replace-base m.choice 1 in
-    let rest : num_type metre ∷ [] ≡ m.params.1 = cc m.params.4 in
-    let item : num_type metre ≡ m.params.3.0 = cc (rest ∙ m.params.3.4) in
-    metre_apart (same_number _ _ (item ∙ m.params.3.2.2) ∙ unit)
+    let l = choice_of vehicle 5 _ refl ((tt, (tt, tt)), (tt, tt)) m in
+    let unit : l.params.3.2.0 ≡ second = l.params.3.2.1 ∙ replace-base l.choice 1 in
+    let rest : num_type metre ∷ [] ≡ l.params.1 = cc l.params.4 in
+    let item : num_type metre ≡ l.params.3.0 = cc (rest ∙ l.params.3.4) in
+    metre_apart (same_number _ _ (item ∙ l.params.3.2.2) ∙ unit)
 
 -- ---- how calls end
 abbrev numbers : List ValueTree → ValueTree

@@ -11,7 +11,8 @@ use Rattle.um_units.proofs.Weights.{weigh-product, weigh_alike}
 use Rattle.um_units.proofs.Equality.{same_unit, product-of_terms}
 use Rattle.um_units.proofs.Group.{weight-atom, weight-mul, weight-pow, mul-one, mul-inv, mul_cancel, pow-zero, pow-one, pow-+ℤ, pow-pow, power_of-one, power_of-mul, power_of-pow}
 use Rattle.um_units.proofs.Replacement.{weight-replace, power_of-replace, weight_held}
-use Rattle.um_tree.specs.Laws.{IsHomomorphism, Leaves}
+use Rattle.um_tree.specs.Typing.{IsHomomorphism}
+use Rattle.um_tree.specs.Laws.{Leaves}
 
 pow-suc : (u : PowerMap) (n : ℕ) → pow u (pos (suc n)) ≡ mul u (pow u (pos n))
 pow-suc u n =

@@ -5,8 +5,10 @@ pub mod Equations
 pub mod Growth
 pub mod Homomorphisms
 pub mod Below
+pub mod Instantiations
 pub mod Moved
 pub mod WrittenUnits
+pub mod TypingsMoved
 pub mod Numbered
 pub mod TypingLaws
 pub mod ShapeLaws
@@ -19,3 +21,4 @@ mod ExampleRuns
 mod ExampleVehicle
 pub mod ExampleTypings
 pub mod ExampleSchemes
+mod ExampleParameters

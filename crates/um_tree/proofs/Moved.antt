@@ -12,8 +12,8 @@ use Rattle.um_tree.specs.declared.expression.Arith.TheVariants.{Add, Sub, Mul, D
 use Rattle.um_tree.specs.TypeTree.{TypeTree, bool_type, num_type, list_type, record_type, NoteTree, bool_note, num_note, list_note, record_note}
 use Rattle.um_tree.specs.ExprTree.{ExprTree, ExprTrees, truth, number, local, call, negate, not_expr, pown, arith as arith_tree, compare, both, either, if, bind, split, nil, list_expr, cons, record_expr, field, none, more}
 use Rattle.um_tree.specs.ProgramTree.{RecordTree, FunctionTree, ProgramTree, Signature}
-use Rattle.um_tree.specs.Typing.{put, unit_at, UnitMatches, UnitsMatch, Matches, TypesMatch, ResultMatches, ArithUnit, LiteralUnit, EachIs, field_types, IsRecordAt, Typed, AllTyped, Earlier, Calls, IsTypingOf, TypingAt, typings_below, Typing}
-use Rattle.um_tree.specs.Laws.{UnitNoteHas, NoteHas, TypeHas, ExprHas, ExprsHave, ResultHas, FunctionHas, ProgramHas, moved, moved_signature, IsHomomorphism, Leaves, Fixes}
+use Rattle.um_tree.specs.Typing.{put, unit_at, UnitMatches, UnitsMatch, Matches, TypesMatch, ResultMatches, ArithUnit, LiteralUnit, EachIs, field_types, moved, moved_signature, IsHomomorphism, IsRecordAt, Typed, AllTyped, Earlier, Calls, IsLooseTypingOf}
+use Rattle.um_tree.specs.Laws.{UnitNoteHas, NoteHas, TypeHas, ExprHas, ExprsHave, ResultHas, FunctionHas, Leaves, Fixes}
 use Rattle.um_tree.proofs.Homomorphisms.{h-one, h-inv, h-pow, h-replace}
 
 -- ---- lists
@@ -145,28 +145,14 @@ module _ (h : PowerMap → PowerMap) (h-mul : IsHomomorphism h) where
       calls_stay f self j g (inl m) = inl (m.0, stays j g m.1)
       calls_stay f self j g (inr m) = inr (m.0, m.1, ap (moved_signature h) m.2)
 
-      typing_of : (f : FunctionTree) (g : Signature) → FunctionHas (Leaves h) (Fixes h) f → IsTypingOf records earlier i f g → IsTypingOf records earlier i f (moved_signature h g)
-      typing_of f g w m = record {
-        choice = λ k. h (m.choice k);
-        params = types_match m.choice f.params g.params w.params m.params;
-        result = result_matches m.choice f.result g.result w.result m.result;
-        body = typed (Calls earlier i f g) (Calls earlier i f (moved_signature h g)) (calls_stay f g) m.choice g.params f.body g.result w.body m.body;
-      }
-
-      pub typing_at : (o : Option FunctionTree) → ((f : FunctionTree) → o ≡ Some f → FunctionHas (Leaves h) (Fixes h) f) → (g : Signature) → TypingAt records earlier i o g → TypingAt records earlier i o (moved_signature h g)
-      typing_at None w g m = m
-      typing_at (Some f) w g m = typing_of f g (w f refl) m
-
-  -- ---- a program, up to function i
-  module _ (p : ProgramTree) (i : ℕ) (left : ProgramHas (Leaves h) (Fixes h) p i) where
-    below_moved : (n : ℕ) → n ≤ i → (j : ℕ) (g : Signature) → typings_below p n j g → typings_below p n j (moved_signature h g)
-    below_moved zero low j g m = m
-    below_moved (suc n) low j g m =
-        elim (nat_eq j n) as (λ b. cond b (TypingAt p.records (typings_below p n) n (slice_get p.functions n) g) (typings_below p n j g) → cond b (TypingAt p.records (typings_below p n) n (slice_get p.functions n) (moved_signature h g)) (typings_below p n j (moved_signature h g))) [
-          | true ↦ λ m. typing_at p.records left.records (typings_below p n) (below_moved n (omega arith)) n (slice_get p.functions n) (λ f. left.functions n f (omega arith)) g m
-          | false ↦ λ m. below_moved n (omega arith) j g m
-        ] m
-
-    pub typing_moved : (g : Signature) → Typing p i g → Typing p i (moved_signature h g)
-    typing_moved g m =
-        typing_at p.records left.records (typings_below p i) (below_moved i (omega arith)) i (slice_get p.functions i) (λ f. left.functions i f (omega arith)) g m
+      -- the units that it chooses are changed
+      pub typing_of : (f : FunctionTree) (g : Signature) → FunctionHas (Leaves h) (Fixes h) f → (m : IsLooseTypingOf records earlier i f g) → (n : IsLooseTypingOf records earlier i f (moved_signature h g)) × ((k : ℕ) → n.choice k ≡ h (m.choice k))
+      typing_of f g w m = (
+        record {
+          choice = λ k. h (m.choice k);
+          params = types_match m.choice f.params g.params w.params m.params;
+          result = result_matches m.choice f.result g.result w.result m.result;
+          body = typed (Calls earlier i f g) (Calls earlier i f (moved_signature h g)) (calls_stay f g) m.choice g.params f.body g.result w.body m.body;
+        },
+        λ k. refl,
+      )

@@ -1,11 +1,11 @@
 -- A typed expression has the shape of its type, and a typed function the shapes of its types.
-use Rattle.std.proofs.Common.{◌≡◌, refl, sym, ap, subst, ◌∙◌, ℕ, zero, suc, List, [], ◌∷◌, ◌++◌, map, Option, Some, None, slice_get, inl, inr, cond, nat_eq, true, false}
+use Rattle.std.proofs.Common.{◌≡◌, refl, sym, ap, subst, ◌∙◌, ℕ, zero, suc, List, [], ◌∷◌, ◌++◌, map, Option, Some, None, slice_get, length, inl, inr, cond, nat_eq, true, false}
 use Rattle.std.proofs.lemmas.List.{map-append}
 use Rattle.um_units.specs.PowerMap.{PowerMap}
 use Rattle.um_tree.specs.TypeTree.{TypeTree, bool_type, num_type, list_type, record_type, NoteTree, bool_note, num_note, list_note, record_note, ShapeTree, list_shape}
 use Rattle.um_tree.specs.ExprTree.{ExprTree, ExprTrees, truth, number, local, call, negate, not_expr, pown, arith as arith_tree, compare, both, either, if, bind, split, nil, list_expr, cons, record_expr, field, none, more}
 use Rattle.um_tree.specs.ProgramTree.{RecordTree, FunctionTree, ProgramTree, Signature}
-use Rattle.um_tree.specs.Typing.{put, unit_at, Matches, TypesMatch, ResultMatches, EachIs, field_types, Typed, AllTyped, Earlier, Calls, IsTypingOf, TypingAt, typings_below}
+use Rattle.um_tree.specs.Typing.{put, unit_at, Matches, TypesMatch, ResultMatches, EachIs, field_types, Typed, AllTyped, moved, moved_signature, Earlier, Calls, IsLooseTypingOf, IsTypingOf, TypingAt, typings_below}
 use Rattle.um_tree.specs.Shapes.{type_shape, note_shape, ShapeSignature, EachShapeIs, HasShape, AllHaveShapes, EarlierShapes, CallShapes, ResultShape, IsShapeOf, ShapeAt, shapes_below}
 use Rattle.um_tree.specs.Laws.{signature_shape, TypedHasShape, TypedExpressionHasShape}
 use Rattle.um_tree.proofs.Moved.{slice_get_moved}
@@ -20,6 +20,22 @@ shape-put s (record_type r us) = refl
 shapes-put : (s : ℕ → PowerMap) (ts : List TypeTree) → map type_shape (map (put s) ts) ≡ map type_shape ts
 shapes-put s [] = refl
 shapes-put s (t ∷ ts) = ap (λ x. x ∷ map type_shape (map (put s) ts)) (shape-put s t) ∙ ap (λ xs. type_shape t ∷ xs) (shapes-put s ts)
+
+-- so does each change of units
+shape-moved : (h : PowerMap → PowerMap) (t : TypeTree) → type_shape (moved h t) ≡ type_shape t
+shape-moved h bool_type = refl
+shape-moved h (num_type u) = refl
+shape-moved h (list_type t) = ap list_shape (shape-moved h t)
+shape-moved h (record_type r us) = refl
+
+shapes-moved : (h : PowerMap → PowerMap) (ts : List TypeTree) → map type_shape (map (moved h) ts) ≡ map type_shape ts
+shapes-moved h [] = refl
+shapes-moved h (t ∷ ts) = ap (λ x. x ∷ map type_shape (map (moved h) ts)) (shape-moved h t) ∙ ap (λ xs. type_shape t ∷ xs) (shapes-moved h ts)
+
+signature_shape-moved : (h : PowerMap → PowerMap) (g : Signature) → signature_shape (moved_signature h g) ≡ signature_shape g
+signature_shape-moved h g =
+    ap (λ ss. record { params = ss; result = type_shape (moved h g.result) }) (shapes-moved h g.params)
+    ∙ ap (λ s. record { params = map type_shape g.params; result = s }) (shape-moved h g.result)
 
 -- a type that matches a note has its shape
 shape-matches : (choice : ℕ → PowerMap) (n : NoteTree) (t : TypeTree) → Matches choice n t → type_shape t ≡ note_shape n
@@ -76,27 +92,28 @@ module _ (records : List RecordTree) (earlier : Earlier) (shapes : EarlierShapes
   call_shapes f self j g (inl m) = inl (m.0, change j g m.1)
   call_shapes f self j g (inr m) = inr (m.0, m.1, ap signature_shape m.2)
 
-  shape_of : (f : FunctionTree) (g : Signature) → IsTypingOf records earlier i f g → IsShapeOf records shapes i f (signature_shape g)
+  shape_of : (f : FunctionTree) (g : Signature) → IsLooseTypingOf records earlier i f g → IsShapeOf records shapes i f (signature_shape g)
   shape_of f g m = record {
     params = shapes-match m.choice f.params g.params m.params;
     result = result-shape m.choice f.result g.result m.result;
     body = has_shape records (Calls earlier i f g) (CallShapes shapes i f (signature_shape g)) (call_shapes f g) m.choice g.params f.body g.result m.body;
   }
 
-  shape_at : (o : Option FunctionTree) (g : Signature) → TypingAt records earlier i o g → ShapeAt records shapes i o (signature_shape g)
-  shape_at None g m = m
-  shape_at (Some f) g m = shape_of f g m
+  shape_at : (bases : ℕ) (o : Option FunctionTree) (g : Signature) → TypingAt bases records earlier i o g → ShapeAt records shapes i o (signature_shape g)
+  shape_at bases None g m = m
+  shape_at bases (Some f) g m =
+      subst (IsShapeOf records shapes i f) (sym (ap signature_shape m.given ∙ signature_shape-moved m.change m.signature)) (shape_of f m.signature m.typing.loose)
 
 below_shape : (p : ProgramTree) (n j : ℕ) (g : Signature) → typings_below p n j g → shapes_below p n j (signature_shape g)
 below_shape p zero j g m = m
 below_shape p (suc n) j g m =
-    elim (nat_eq j n) as (λ b. cond b (TypingAt p.records (typings_below p n) n (slice_get p.functions n) g) (typings_below p n j g) → cond b (ShapeAt p.records (shapes_below p n) n (slice_get p.functions n) (signature_shape g)) (shapes_below p n j (signature_shape g))) [
-      | true ↦ λ m. shape_at p.records (typings_below p n) (shapes_below p n) (below_shape p n) n (slice_get p.functions n) g m
+    elim (nat_eq j n) as (λ b. cond b (TypingAt (length p.bases) p.records (typings_below p n) n (slice_get p.functions n) g) (typings_below p n j g) → cond b (ShapeAt p.records (shapes_below p n) n (slice_get p.functions n) (signature_shape g)) (shapes_below p n j (signature_shape g))) [
+      | true ↦ λ m. shape_at p.records (typings_below p n) (shapes_below p n) (below_shape p n) n (length p.bases) (slice_get p.functions n) g m
       | false ↦ λ m. below_shape p n j g m
     ] m
 
 pub typed_has_shape : TypedHasShape
-typed_has_shape p i g m = shape_at p.records (typings_below p i) (shapes_below p i) (below_shape p i) i (slice_get p.functions i) g m
+typed_has_shape p i g m = shape_at p.records (typings_below p i) (shapes_below p i) (below_shape p i) i (length p.bases) (slice_get p.functions i) g m
 
 pub typed_expression_has_shape : TypedExpressionHasShape
 typed_expression_has_shape p i f self choice vars e t m =

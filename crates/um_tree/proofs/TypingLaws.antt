@@ -1,14 +1,13 @@
 -- What is typed and at which units.
-use Rattle.std.proofs.Common.{◌≡◌, refl, sym, ap, subst, ◌∙◌, ℕ, List, [], ◌∷◌, map}
+use Rattle.std.proofs.Common.{◌≡◌, refl, sym, ap, subst, ◌∙◌, ℕ, List, [], ◌∷◌, map, length}
 use Rattle.um_units.specs.PowerMap.{PowerMap, one, replace}
 use Rattle.um_units.proofs.Replacement.{replace-mul, replace-base, replace-closed}
 use Rattle.um_tree.specs.TypeTree.{TypeTree, bool_type, num_type, list_type, record_type}
-use Rattle.um_tree.specs.ProgramTree.{Signature}
-use Rattle.um_tree.specs.Typing.{put, put_signature, Typing}
-use Rattle.um_tree.specs.Laws.{moved, moved_signature, Leaves, Fixes, TypedIn, ClosedUnitsAreFixed, ReplacementsKeepTypings, HomomorphismsKeepTypings, SumHasOneUnit, DifferenceHasOneUnit, ComparisonHasOneUnit, ZeroHasEveryUnit, NumberHasItsUnit}
+use Rattle.um_tree.specs.ProgramTree.{FunctionTree, ProgramTree, Signature}
+use Rattle.um_tree.specs.Typing.{put, put_signature, moved, moved_signature, IsLooseTypingOf, IsTypingOf, TypingAt, typings_below, Typing}
+use Rattle.um_tree.specs.Laws.{LiteralsAreClosed, TypedIn, TypingsWithoutParameters, ClosedUnitsAreFixed, ReplacementsKeepTypings, HomomorphismsKeepTypings, SumHasOneUnit, DifferenceHasOneUnit, ComparisonHasOneUnit, ZeroHasEveryUnit, NumberHasItsUnit}
 use Rattle.um_tree.proofs.Homomorphisms.{h-replace}
-use Rattle.um_tree.proofs.Moved.{typing_moved}
-use Rattle.um_tree.proofs.WrittenUnits.{program_has}
+use Rattle.um_tree.proofs.TypingsMoved.{typing_moved, typing_put, loose_of_typing, typing_of_loose}
 
 -- ---- changes of units
 put-moved : (s : ℕ → PowerMap) (t : TypeTree) → moved (replace s) t ≡ put s t
@@ -21,17 +20,22 @@ puts-moved : (s : ℕ → PowerMap) (ts : List TypeTree) → map (moved (replace
 puts-moved s [] = refl
 puts-moved s (t ∷ ts) = ap (λ x. x ∷ map (moved (replace s)) ts) (put-moved s t) ∙ ap (λ xs. put s t ∷ xs) (puts-moved s ts)
 
-signature-moved : (s : ℕ → PowerMap) (g : Signature) → moved_signature (replace s) g ≡ put_signature s g
+pub signature-moved : (s : ℕ → PowerMap) (g : Signature) → moved_signature (replace s) g ≡ put_signature s g
 signature-moved s g =
     ap (λ ts. record { params = ts; result = moved (replace s) g.result }) (puts-moved s g.params) ∙ ap (λ t. record { params = map (put s) g.params; result = t }) (put-moved s g.result)
 
 pub homomorphisms_keep_typings : HomomorphismsKeepTypings
-homomorphisms_keep_typings p i g h h-mul left m = typing_moved h h-mul p i left g m
+homomorphisms_keep_typings p i g h declared h-mul left m = typing_moved p i declared h h-mul left g m
 
 pub replacements_keep_typings : ReplacementsKeepTypings
-replacements_keep_typings p i g units closed m =
-    let left = program_has (Leaves (replace units)) (Fixes (replace units)) (λ u k e. replace-base units k) (replace-closed units) p i closed in
-    subst (Typing p i) (signature-moved units g) (typing_moved (replace units) (replace-mul units) p i left g m)
+replacements_keep_typings p i g units m = subst (Typing p i) (signature-moved units g) (typing_put p i units g m)
+
+pub typings_without_parameters : TypingsWithoutParameters
+typings_without_parameters p i f g at none closed =
+    let same : Typing p i g ≡ IsTypingOf (length p.bases) p.records (typings_below p i) i f g = ap (λ o. TypingAt (length p.bases) p.records (typings_below p i) i o g) at in (
+      λ m. loose_of_typing p i f none closed g (subst (λ (X : Type 0). X) same m),
+      λ m. subst (λ (X : Type 0). X) (sym same) (typing_of_loose p i f none g m),
+    )
 
 pub closed_units_are_fixed : ClosedUnitsAreFixed
 closed_units_are_fixed h u h-mul left closed =

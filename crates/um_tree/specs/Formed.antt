@@ -178,6 +178,8 @@ ResultFormed p f (Some n) = IsFormedNote p f n
 -- function i of the program
 pub record IsFormedFunction (p : ProgramTree) (i : ℕ) (f : FunctionTree) : Type 0 where
   pub few_params : length f.params ≤ 16
+  pub few_units : f.units ≤ 4
+  pub units : f.units ≤ f.named
   pub params : All (IsFormedNote p f) f.params
   pub result : ResultFormed p f f.result
   pub noted : IsTrue f.recursive → IsSome f.result

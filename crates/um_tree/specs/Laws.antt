@@ -1,7 +1,7 @@
 -- What the definitions come to: how typings, literals, budgets and shapes behave. The definitions do not rest on this.
 -- Source: Kennedy 1996: typings are closed under replacements of units for variables; Kennedy 1997: a homomorphism of
 -- units moves them, and only 0 has every unit. The laws of budgets and shapes are this project's own.
-use Rattle.std.specs.Prelude.{◌≡◌, ◌≢◌, ◌↔◌, ◌<◌, ◌≤◌, ◌+◌, ℕ, All, List, map, pos, slice_get, Option, Some, None}
+use Rattle.std.specs.Prelude.{◌≡◌, ◌≢◌, ◌↔◌, ◌<◌, ◌≤◌, ◌+◌, ℕ, All, List, length, map, pos, slice_get, Option, Some, None}
 use Rattle.um_units.specs.declared.Atom.TheVariants.{Base}
 use Rattle.um_units.specs.PowerMap.{PowerMap, mul, atom, power_of}
 use Rattle.um_units.specs.Variables.{IsClosed}
@@ -20,10 +20,11 @@ use Rattle.um_tree.specs.ExprTree.{both, either, if, bind, split, nil, list_expr
 use Rattle.um_tree.specs.ExprTree.{more}
 use Rattle.um_tree.specs.ValueTree.{ValueTree}
 use Rattle.um_tree.specs.ProgramTree.{FunctionTree, ProgramTree, Signature, SchemeTree}
-use Rattle.um_tree.specs.Typing.{put_signature, field_types, Typed, Calls, typings_below, Typing}
+use Rattle.um_tree.specs.Typing.{put_signature, moved_signature, IsHomomorphism, field_types, Typed, Calls, IsLooseTypingOf}
+use Rattle.um_tree.specs.Typing.{typings_below, Typing}
 use Rattle.um_tree.specs.Meaning.{gives, stops, trap, Means, Outcome}
 use Rattle.um_tree.specs.Shapes.{type_shape, ShapeSignature, HasShape, CallShapes, shapes_below, FunctionShape}
-use Rattle.um_tree.specs.Formed.{IsFormed}
+use Rattle.um_tree.specs.Formed.{BasesBelow, IsFormed}
 use Rattle.um_tree.specs.Scheme.{variables, signature_types, IsNumberedScheme}
 
 -- ---- the units that a program writes
@@ -92,6 +93,15 @@ module _ (InNote InLiteral : PowerMap → Type 0) where
 abbrev pub LiteralsAreClosed : ExprTree → Type 0
 LiteralsAreClosed e = ExprHas (λ u. Unit {0}) IsClosed e
 
+-- each unit that the program writes up to function i is over declared base units, and that of a literal is closed
+abbrev pub WritesDeclaredUnits : ProgramTree → ℕ → Type 0
+WritesDeclaredUnits p i =
+    ProgramHas (BasesBelow (length p.bases)) (λ u. IsClosed u × BasesBelow (length p.bases) u) p i
+
+-- a formed program's units are such
+abbrev pub FormedUnitsAreDeclared : Type 0
+FormedUnitsAreDeclared = (p : ProgramTree) (i : ℕ) → IsFormed p → WritesDeclaredUnits p i
+
 -- so it is in each function up to i
 abbrev pub LiteralsAreClosedUpTo : ProgramTree → ℕ → Type 0
 LiteralsAreClosedUpTo p i =
@@ -120,19 +130,6 @@ NumberedSchemesAreOverTheirVariables =
 
 -- ---- typings under a change of units
 
--- the type with each unit changed
-abbrev pub moved : (PowerMap → PowerMap) → TypeTree → TypeTree
-moved h bool_type = bool_type
-moved h (num_type u) = num_type (h u)
-moved h (list_type t) = list_type (moved h t)
-moved h (record_type r us) = record_type r (map h us)
-
-abbrev pub moved_signature : (PowerMap → PowerMap) → Signature → Signature
-moved_signature h g = record { params = map (moved h) g.params; result = moved h g.result }
-
-abbrev pub IsHomomorphism : (PowerMap → PowerMap) → Type 0
-IsHomomorphism h = (u v : PowerMap) → h (mul u v) ≡ mul (h u) (h v)
-
 -- it leaves each base unit that the unit holds
 abbrev pub Leaves : (PowerMap → PowerMap) → PowerMap → Type 0
 Leaves h u = (k : ℕ) → power_of u (Base k) ≢ pos 0 → h (atom (Base k)) ≡ atom (Base k)
@@ -150,14 +147,22 @@ ClosedUnitsAreFixed =
 abbrev pub ReplacementsKeepTypings : Type 0
 ReplacementsKeepTypings =
     (p : ProgramTree) (i : ℕ) (g : Signature) (units : ℕ → PowerMap) →
-    LiteralsAreClosedUpTo p i → Typing p i g → Typing p i (put_signature units g)
+    Typing p i g → Typing p i (put_signature units g)
 
 -- and under each homomorphism that leaves the base units of the notes and fields up to the function, and the units of
--- its literals
+-- its literals, where what is written are units over declared base units
 abbrev pub HomomorphismsKeepTypings : Type 0
 HomomorphismsKeepTypings =
     (p : ProgramTree) (i : ℕ) (g : Signature) (h : PowerMap → PowerMap) →
-    IsHomomorphism h → ProgramHas (Leaves h) (Fixes h) p i → Typing p i g → Typing p i (moved_signature h g)
+    WritesDeclaredUnits p i → IsHomomorphism h → ProgramHas (Leaves h) (Fixes h) p i →
+    Typing p i g → Typing p i (moved_signature h g)
+
+-- the typings of a function without unit parameters, whose literals are closed as those before it, are those that some
+-- choice of units gives
+abbrev pub TypingsWithoutParameters : Type 0
+TypingsWithoutParameters =
+    (p : ProgramTree) (i : ℕ) (f : FunctionTree) (g : Signature) → slice_get p.functions i ≡ Some f → f.units ≡ 0 →
+    LiteralsAreClosed f.body → Typing p i g ↔ IsLooseTypingOf p.records (typings_below p i) i f g
 
 -- ---- sums, comparisons and literals
 

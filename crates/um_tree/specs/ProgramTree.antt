@@ -21,11 +21,12 @@ pub record RecordTree : Type 0 where
   pub units : ℕ
   pub fields : List FieldTree
 
--- a function: in its notes variable k is its k-th named variable
+-- a function: in its notes variable k is its k-th named variable, and the first of them are its unit parameters
 pub record FunctionTree : Type 0 where
   pub name : List ℕ
   pub at : ℕ
   pub recursive : Bool
+  pub units : ℕ
   pub params : List NoteTree
   pub named : ℕ
   pub result : Option NoteTree
@@ -61,6 +62,7 @@ function_tree f = record {
   name = f.name;
   at = f.at;
   recursive = f.recursive;
+  units = f.units;
   params = note_trees f.params;
   named = f.named;
   result = result_tree f.result;

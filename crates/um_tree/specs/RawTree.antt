@@ -222,6 +222,7 @@ pub record FunctionSyntax : Type 0 where
   pub at : ℕ
   pub name : List ℕ
   pub recursive : Bool
+  pub units : List VarSyntax
   pub params : List ParamSyntax
   pub result : Option TypeSyntax
   pub body : ExprSyntax
@@ -251,6 +252,7 @@ whole_function_syntax f = record {
   at = f.at;
   name = f.name;
   recursive = f.recursive;
+  units = map var_syntax f.units.items.items;
   params = map param_syntax f.params.items.items;
   result = written_type f.result;
   body = expr_syntax f.body;

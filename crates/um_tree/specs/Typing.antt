@@ -2,9 +2,10 @@
 -- Source: the declarative typing rules of Kennedy 1996, with ML's rule for recursion (a recursive use has one type,
 -- an earlier function is used at any instance); the notation of measures is that of the F# specification.
 -- There are no equations, slots, substitutions or schemes here, and no order in which anything is found.
-use Rattle.std.specs.Prelude.{◌≡◌, ℕ, zero, suc, ◌<◌, ◌⊎◌, IsTrue, IsSome, cond, nat_eq, List, [], ◌∷◌, ◌++◌, map}
+use Rattle.std.specs.Prelude.{◌≡◌, ℕ, zero, suc, ◌+◌, ◌<◌, ◌≤◌, ◌⊎◌, IsTrue, IsSome, cond, nat_eq, List, [], ◌∷◌, ◌++◌, map}
 use Rattle.std.specs.Prelude.{length, get_or, slice_get, pos, Option, Some, None}
-use Rattle.um_units.specs.PowerMap.{PowerMap, one, mul, inv, pow, replace}
+use Rattle.um_units.specs.declared.Atom.TheVariants.{Base}
+use Rattle.um_units.specs.PowerMap.{PowerMap, one, atom, mul, inv, pow, replace}
 use Rattle.um_frac.specs.declared.number.Frac.{Frac}
 use Rattle.um_frac.specs.Fraction.{numerator}
 use Rattle.um_tree.specs.TypeTree.{TypeTree, bool_type, num_type, list_type, record_type, NoteTree, bool_note}
@@ -27,6 +28,20 @@ put s (record_type r us) = record_type r (map (replace s) us)
 
 abbrev pub put_signature : (ℕ → PowerMap) → Signature → Signature
 put_signature s g = record { params = map (put s) g.params; result = put s g.result }
+
+-- the type with each unit changed
+abbrev pub moved : (PowerMap → PowerMap) → TypeTree → TypeTree
+moved h bool_type = bool_type
+moved h (num_type u) = num_type (h u)
+moved h (list_type t) = list_type (moved h t)
+moved h (record_type r us) = record_type r (map h us)
+
+abbrev pub moved_signature : (PowerMap → PowerMap) → Signature → Signature
+moved_signature h g = record { params = map (moved h) g.params; result = moved h g.result }
+
+-- the change respects products
+abbrev pub IsHomomorphism : (PowerMap → PowerMap) → Type 0
+IsHomomorphism h = (u v : PowerMap) → h (mul u v) ≡ mul (h u) (h v)
 
 -- the k-th of some units
 abbrev pub unit_at : List PowerMap → ℕ → PowerMap
@@ -142,26 +157,54 @@ pub record MayRecur (f : FunctionTree) : Type 0 where
 abbrev pub Calls : Earlier → ℕ → FunctionTree → Signature → ℕ → Signature → Type 0
 Calls earlier i f self j g = ((j < i) × earlier j g) ⊎ ((j ≡ i) × MayRecur f × (g ≡ self))
 
--- some choice of units for the named variables gives the notes their types and the body the result's
-pub record IsTypingOf (records : List RecordTree) (earlier : Earlier) (i : ℕ) (f : FunctionTree) (g : Signature)
+-- some choice of units for the named variables, the unit parameters among them, gives the notes their types and the
+-- body the result's
+pub record IsLooseTypingOf (records : List RecordTree) (earlier : Earlier) (i : ℕ) (f : FunctionTree) (g : Signature)
     : Type 0 where
   pub choice : ℕ → PowerMap
   pub params : TypesMatch choice f.params g.params
   pub result : ResultMatches choice f.result g.result
   pub body : Typed records (Calls earlier i f g) choice g.params f.body g.result
 
-abbrev pub TypingAt : List RecordTree → Earlier → ℕ → Option FunctionTree → Signature → Type 0
-TypingAt records earlier i None g = ⊥
-TypingAt records earlier i (Some f) g = IsTypingOf records earlier i f g
+-- the base unit behind the declared ones that stands for unit parameter k in the function's own typing
+abbrev pub parameter_unit : ℕ → ℕ → PowerMap
+parameter_unit bases k = atom (Base (bases + k))
+
+-- each unit parameter is a unit of its own, which no other unit is equal to
+pub record IsRigidTypingOf
+    (bases : ℕ) (records : List RecordTree) (earlier : Earlier) (i : ℕ) (f : FunctionTree) (g : Signature)
+    : Type 0 where
+  pub loose : IsLooseTypingOf records earlier i f g
+  pub rigid : (k : ℕ) → k < f.units → loose.choice k ≡ parameter_unit bases k
+
+-- the change of units puts any units for the variables and for the units of so many unit parameters, all at once: it
+-- leaves each other base unit
+pub record IsInstantiation (bases parameters : ℕ) (h : PowerMap → PowerMap) : Type 0 where
+  pub homomorphism : IsHomomorphism h
+  pub others : (k : ℕ) → ((k < bases) ⊎ (bases + parameters ≤ k)) → h (atom (Base k)) ≡ atom (Base k)
+
+-- a typing is what a rigid typing gives when any units are put for its variables and its unit parameters
+pub record IsTypingOf
+    (bases : ℕ) (records : List RecordTree) (earlier : Earlier) (i : ℕ) (f : FunctionTree) (g : Signature)
+    : Type 0 where
+  pub signature : Signature
+  pub typing : IsRigidTypingOf bases records earlier i f signature
+  pub change : PowerMap → PowerMap
+  pub instantiates : IsInstantiation bases f.units change
+  pub given : g ≡ moved_signature change signature
+
+abbrev pub TypingAt : ℕ → List RecordTree → Earlier → ℕ → Option FunctionTree → Signature → Type 0
+TypingAt bases records earlier i None g = ⊥
+TypingAt bases records earlier i (Some f) g = IsTypingOf bases records earlier i f g
 
 -- the typings of the functions below a number
 abbrev pub typings_below : ProgramTree → ℕ → Earlier
 typings_below p zero j g = ⊥
 typings_below p (suc n) j g =
     cond (nat_eq j n)
-    (TypingAt p.records (typings_below p n) n (slice_get p.functions n) g)
+    (TypingAt (length p.bases) p.records (typings_below p n) n (slice_get p.functions n) g)
     (typings_below p n j g)
 
 -- the signature is a typing of function i of the program
 abbrev pub Typing : ProgramTree → ℕ → Signature → Type 0
-Typing p i g = TypingAt p.records (typings_below p i) i (slice_get p.functions i) g
+Typing p i g = TypingAt (length p.bases) p.records (typings_below p i) i (slice_get p.functions i) g

@@ -4,9 +4,11 @@ ghost use Rattle.um_tree.specs.Laws.{
   EarlierTypings,
   EarlierShapesAre,
   FormedLiteralsAreClosed,
+  FormedUnitsAreDeclared,
   NumberedSchemesAreOverTheirVariables,
   ClosedUnitsAreFixed,
   ReplacementsKeepTypings,
+  TypingsWithoutParameters,
   HomomorphismsKeepTypings,
   SumHasOneUnit,
   DifferenceHasOneUnit,
@@ -44,9 +46,15 @@ pub fn changes_of_units()
     ensures closed { ClosedUnitsAreFixed }
 {}
 
-/// The literals of a formed program have closed units or holes.
+/// The literals of a formed program have closed units or holes, and each unit that it writes is over its base units.
 pub fn literals_of_formed_programs()
-    ensures { FormedLiteralsAreClosed }
+    ensures closed { FormedLiteralsAreClosed }
+    ensures declared { FormedUnitsAreDeclared }
+{}
+
+/// The typings of a function without unit parameters are those that some choice of units for its named variables gives.
+pub fn typings_without_parameters()
+    ensures { TypingsWithoutParameters }
 {}
 
 /// The types of a numbered scheme are over the scheme's own variables.

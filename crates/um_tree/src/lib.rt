@@ -15,7 +15,7 @@ pub use expression::{Arith, Expr, Exprs, Node, Sign};
 pub use laws::{
     budgets_of_calls, budgets_of_expressions, changes_of_units, earlier_functions, equal_units,
     equations_of_meaning, literals_of_formed_programs, numbered_schemes, shapes_of_types,
-    units_of_literals,
+    typings_without_parameters, units_of_literals,
 };
 pub use name::{Name, Names};
 pub use note::{Note, Notes, UnitNote, UnitNotes};

@@ -40,6 +40,8 @@ pub struct Function {
     pub at: u32,
     /// It is known in its own body
     pub recursive: bool,
+    /// The number of its unit parameters, which are its first named unit variables
+    pub units: u32,
     pub params: Notes,
     /// The number of its named unit variables
     pub named: u32,

@@ -189,6 +189,7 @@ pub struct RawFunction {
     pub at: u32,
     pub name: Name,
     pub recursive: bool,
+    pub units: RawVars,
     pub params: RawParams,
     pub result: Option<RawType>,
     pub body: RawExpr,

@@ -10,19 +10,41 @@ use Rattle.um_units.specs.declared.Term.{Term}
 use Rattle.um_units.specs.Atoms.{same_atom}
 use Rattle.um_units.specs.Terms.{weigh, indicator, power_in, is_zero, is_normal}
 use Rattle.um_units.specs.NormalForm.{head_nonzero, head_before_all, tail_normal, same_atom-eq}
-use Rattle.um_units.specs.PowerMap.{PowerMap, product, weight, power_of, one, atom, mul, scale, pow, inv, image, images, replace, nth}
+use Rattle.um_units.specs.PowerMap.{PowerMap, product, weight, power_of, one, atom, mul, scale, pow, inv, image, images_of, images, extension, replace, nth}
 use Rattle.um_units.specs.Variables.{IsClosed, VariablesBelow}
 use Rattle.um_units.proofs.Weights.{weigh-product, weigh-++, weigh_alike}
 use Rattle.um_units.proofs.Equality.{same_unit, same_product, power_in-before_all, power_in-head, power_in-tail}
 use Rattle.um_units.proofs.Group.{weigh-scale, weight-one, weight-atom, weight-mul, weight-pow}
 
 -- ---- a linear functional at a replaced unit
+weigh-images_of : (f : Atom → ℤ) (g : Atom → PowerMap) (ts : List Term) → weigh f (images_of g ts) ≡ weigh (λ x. weight f (g x)) ts
+weigh-images_of f g [] = refl
+weigh-images_of f g (t ∷ ts) =
+    weigh-++ f (map (scale t.power) (g t.atom).terms) (images_of g ts)
+    ∙ ap (λ n. n +ℤ weigh f (images_of g ts)) (weigh-scale f t.power (g t.atom).terms)
+    ∙ ap (λ n. t.power *ℤ weight f (g t.atom) +ℤ n) (weigh-images_of f g ts)
+
 pub weigh-images : (f : Atom → ℤ) (s : ℕ → PowerMap) (ts : List Term) → weigh f (images s ts) ≡ weigh (λ x. weight f (image s x)) ts
-weigh-images f s [] = refl
-weigh-images f s (t ∷ ts) =
-    weigh-++ f (map (scale t.power) (image s t.atom).terms) (images s ts)
-    ∙ ap (λ n. n +ℤ weigh f (images s ts)) (weigh-scale f t.power (image s t.atom).terms)
-    ∙ ap (λ n. t.power *ℤ weight f (image s t.atom) +ℤ n) (weigh-images f s ts)
+weigh-images f s ts = weigh-images_of f (image s) ts
+
+-- ---- a homomorphism that is given at the atoms
+weight-extension : (f : Atom → ℤ) (g : Atom → PowerMap) (u : PowerMap) → weight f (extension g u) ≡ weight (λ x. weight f (g x)) u
+weight-extension f g u = weigh-product f (images_of g u.terms) ∙ weigh-images_of f g u.terms
+
+pub extension-mul : (g : Atom → PowerMap) (u v : PowerMap) → extension g (mul u v) ≡ mul (extension g u) (extension g v)
+extension-mul g u v =
+    same_unit _ _ (λ x. omega (
+      arith,
+      ints,
+      weight-extension (indicator x) g (mul u v),
+      weight-mul (λ y. power_of (g y) x) u v,
+      weight-mul (indicator x) (extension g u) (extension g v),
+      weight-extension (indicator x) g u,
+      weight-extension (indicator x) g v,
+    ))
+
+pub extension-atom : (g : Atom → PowerMap) (x : Atom) → extension g (atom x) ≡ g x
+extension-atom g y = same_unit _ _ (λ x. weight-extension (indicator x) g (atom y) ∙ weight-atom (λ z. power_of (g z) x) y)
 
 pub weight-replace : (f : Atom → ℤ) (s : ℕ → PowerMap) (u : PowerMap) → weight f (replace s u) ≡ weight (λ x. weight f (image s x)) u
 weight-replace f s u = weigh-product f (images s u.terms) ∙ weigh-images f s u.terms

@@ -56,9 +56,16 @@ abbrev pub image : (ℕ → PowerMap) → Atom → PowerMap
 image s (Base n) = atom (Base n)
 image s (Var k) = s k
 
--- what is put for each term, to the term's power, one after another
+-- what is put for each term, to the term's power, one after another, where f x is put for the atom x
+abbrev pub images_of : (Atom → PowerMap) → List Term → List Term
+images_of f = flat_map (λ t. map (scale t.power) (f t.atom).terms)
+
 abbrev pub images : (ℕ → PowerMap) → List Term → List Term
-images s = flat_map (λ t. map (scale t.power) (image s t.atom).terms)
+images s = images_of (image s)
+
+-- the unit in which f x is put for each atom x
+abbrev pub extension : (Atom → PowerMap) → PowerMap → PowerMap
+extension f u = product (images_of f u.terms)
 
 -- the unit in which s k is put for each variable k
 abbrev pub replace : (ℕ → PowerMap) → PowerMap → PowerMap

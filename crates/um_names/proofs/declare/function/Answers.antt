@@ -1,11 +1,12 @@
 use Rattle.std.proofs.Common.{◌≡◌, ℕ, List, [], false, map, sym, ap, ◌∙◌, subst, Ok}
 use Rattle.um_tree.specs.declared.raw.RawParam.{RawParam}
+use Rattle.um_tree.specs.declared.raw.RawVar.{RawVar}
 use Rattle.um_tree.specs.TypeTree.{note_tree}
 use Rattle.um_tree.specs.ExprTree.{expr_tree}
 use Rattle.um_tree.specs.ProgramTree.{result_tree}
-use Rattle.um_tree.specs.RawTree.{param_syntax, whole_function_syntax}
+use Rattle.um_tree.specs.RawTree.{var_syntax, param_syntax, whole_function_syntax}
 use Rattle.um_measures.specs.Known.{is_among, function_names}
-use Rattle.um_names.specs.Resolution.{resolved_params, scope_of}
+use Rattle.um_names.specs.Resolution.{resolved_parameters, resolved_params, scope_of}
 use Rattle.um_names.specs.Tables.{known_of, own_callable}
 use Rattle.um_names.proofs.Wholes.{function_is}
 use Rattle.um_names.proofs.declare.function.Goals as goal
@@ -16,7 +17,9 @@ returns-clause-exact c =
     let f = whole_function_syntax c.args.raw.now in
     let taken = c.has.ensures ∙ ap (is_among c.args.tables.now.function_names) c.as_slice.ensures ∙ ap (λ (ns : List (List ℕ)). is_among ns f.name) c.requires.functions in
     let new : is_among (function_names k.program.functions) f.name ≡ false = sym taken ∙ c.if-has.false in
-    let params = subst (λ (ps : List RawParam). resolved_params k c.in_ok-variables.variables [] (map param_syntax ps) ≡ Ok (map note_tree c.in_ok-notes.field-0.notes.items)) c.deref.ensures.value c.in_ok-notes.ensures.exact in
-    let scope : c.in_ok-notes.field-0.scope ≡ scope_of f = c.in_ok-notes.ensures.scope ∙ ap (λ (ps : List RawParam). map (λ q. q.binder.name) (map param_syntax ps)) c.deref.ensures.value in
-    function_is k f c.in_ok-copied.field-0 c.count-named.result c.in_ok-variables.variables (map note_tree c.in_ok-notes.field-0.notes.items) (result_tree c.in_ok-result.result) (own_callable c.in_ok-own.own) c.in_ok-notes.field-0.scope (expr_tree c.in_ok-body.body)
-    c.in_ok-copied.ensures c.count-named.ensures new c.in_ok-variables.ensures params c.in_ok-result.ensures.exact c.in_ok-own.ensures scope c.in_ok-body.ensures.exact
+    let us = c.in_ok-unit_params.unit_params in
+    let units = subst (λ (vs : List RawVar). resolved_parameters [] (map var_syntax vs) ≡ Ok us) c.deref.ensures.value c.in_ok-unit_params.ensures.exact in
+    let params = subst (λ (ps : List RawParam). resolved_params k c.in_ok-variables.variables [] (map param_syntax ps) ≡ Ok (map note_tree c.in_ok-notes.field-0.notes.items)) c.deref-2.ensures.value c.in_ok-notes.ensures.exact in
+    let scope : c.in_ok-notes.field-0.scope ≡ scope_of f = c.in_ok-notes.ensures.scope ∙ ap (λ (ps : List RawParam). map (λ q. q.binder.name) (map param_syntax ps)) c.deref-2.ensures.value in
+    function_is k f c.in_ok-copied.field-0 c.count-units.result c.count-named.result us c.in_ok-variables.variables (map note_tree c.in_ok-notes.field-0.notes.items) (result_tree c.in_ok-result.result) (own_callable c.in_ok-own.own) c.in_ok-notes.field-0.scope
+    (expr_tree c.in_ok-body.body) c.in_ok-copied.ensures c.count-units.ensures c.count-named.ensures new units c.in_ok-variables.ensures params c.in_ok-result.ensures.exact c.in_ok-own.ensures scope c.in_ok-body.ensures.exact

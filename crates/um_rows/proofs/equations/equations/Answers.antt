@@ -26,8 +26,8 @@ returns-in_err-slots c =
     let body = expr_tree c.args.body.now in
     let recurs = c.may_recur-recurs.ensures in
     let err = c.in_err-slots.field-0.0 in
-    let here = subst (λ r. StopsSlots (with_keys [] (whole_keys (map record_tree records) (callee_of (map scheme_tree schemes) c.args.number r) params note body)) err) recurs c.in_err-slots.ensures.slots in
-    let stops : StopsFor (map record_tree records) (map scheme_tree schemes) c.args.number (described c.args.at c.args.recursive params note body) err = too_many records schemes c.args.number c.args.at c.args.recursive params note body c.requires.schemes err here in
+    let here = subst (λ r. StopsSlots (with_keys [] (whole_keys (map record_tree records) (callee_of (map scheme_tree schemes) c.args.number r) c.args.units params note body)) err) recurs c.in_err-slots.ensures.slots in
+    let stops : StopsFor (map record_tree records) (map scheme_tree schemes) c.args.number (described c.args.at c.args.recursive c.args.units params note body) err = too_many records schemes c.args.number c.args.at c.args.recursive c.args.units params note body c.requires.schemes err here in
     search (rules, stops)
 
 pub body_rows-requires-clause-variables : goal.body_rows-requires-clause-variables
@@ -39,8 +39,8 @@ body_rows-requires-clause-variables c =
     let body = expr_tree c.args.body.now in
     let recurs = c.may_recur-recurs.ensures in
     let t = c.in_ok-slots.field-0.slots in
-    let had : IsTable (with_keys [] (whole_keys (map record_tree records) (callee_of (map scheme_tree schemes) c.args.number c.may_recur-recurs.result) params note body)) t = search rules in
-    let is = subst (λ r. IsTable (with_keys [] (whole_keys (map record_tree records) (callee_of (map scheme_tree schemes) c.args.number r) params note body)) t) recurs had in
+    let had : IsTable (with_keys [] (whole_keys (map record_tree records) (callee_of (map scheme_tree schemes) c.args.number c.may_recur-recurs.result) c.args.units params note body)) t = search rules in
+    let is = subst (λ r. IsTable (with_keys [] (whole_keys (map record_tree records) (callee_of (map scheme_tree schemes) c.args.number r) c.args.units params note body)) t) recurs had in
     subst AreVariables (sym c.in-Ok.ensures.exact.holes_are) (holes_are_variables _ t is)
 
 pub returns-in-Err-Range : goal.returns-in-Err-Range
@@ -52,14 +52,14 @@ returns-in-Err-Range c =
     let body = expr_tree c.args.body.now in
     let recurs = c.may_recur-recurs.ensures in
     let t = c.in_ok-slots.field-0.slots in
-    let had : IsTable (with_keys [] (whole_keys (map record_tree records) (callee_of (map scheme_tree schemes) c.args.number c.may_recur-recurs.result) params note body)) t = search rules in
-    let is = subst (λ r. IsTable (with_keys [] (whole_keys (map record_tree records) (callee_of (map scheme_tree schemes) c.args.number r) params note body)) t) recurs had in
+    let had : IsTable (with_keys [] (whole_keys (map record_tree records) (callee_of (map scheme_tree schemes) c.args.number c.may_recur-recurs.result) c.args.units params note body)) t = search rules in
+    let is = subst (λ r. IsTable (with_keys [] (whole_keys (map record_tree records) (callee_of (map scheme_tree schemes) c.args.number r) c.args.units params note body)) t) recurs had in
     let named : c.in_ok-names.names.items ≡ map name_unit t.names.items = c.in_ok-names.ensures ∙ ap (map name_unit) c.deref.ensures.value in
     let first = c.in_ok-slots.ensures.params in
     let bad : list_all type_fits (noted_types (nth t.holes.items) (nth c.in_ok-names.names.items) 0 params ++ noted_result (nth t.holes.items) (nth c.in_ok-names.names.items) c.in_ok-slots.field-0.params note ∷ []) ≡ false = rw c.in-Err-Range.field-0-is at c.in-Err-Range.ensures.range in
     let here = subst (λ (ns : List PowerMap). list_all type_fits (noted_types (nth t.holes.items) (nth ns) 0 params ++ noted_result (nth t.holes.items) (nth ns) c.in_ok-slots.field-0.params note ∷ []) ≡ false) named bad in
     let there = subst (λ (k : ℕ). list_all type_fits (noted_types (nth t.holes.items) (nth (map name_unit t.names.items)) 0 params ++ noted_result (nth t.holes.items) (nth (map name_unit t.names.items)) k note ∷ []) ≡ false) first here in
-    head_past records schemes c.args.number c.args.at c.args.recursive params note body c.requires.schemes t is there
+    head_past records schemes c.args.number c.args.at c.args.recursive c.args.units params note body c.requires.schemes t is there
 
 pub returns-in-Ok : goal.returns-in-Ok
 returns-in-Ok c =
@@ -70,8 +70,8 @@ returns-in-Ok c =
     let body = expr_tree c.args.body.now in
     let recurs = c.may_recur-recurs.ensures in
     let t = c.in_ok-slots.field-0.slots in
-    let had : IsTable (with_keys [] (whole_keys (map record_tree records) (callee_of (map scheme_tree schemes) c.args.number c.may_recur-recurs.result) params note body)) t = search rules in
-    let is = subst (λ r. IsTable (with_keys [] (whole_keys (map record_tree records) (callee_of (map scheme_tree schemes) c.args.number r) params note body)) t) recurs had in
+    let had : IsTable (with_keys [] (whole_keys (map record_tree records) (callee_of (map scheme_tree schemes) c.args.number c.may_recur-recurs.result) c.args.units params note body)) t = search rules in
+    let is = subst (λ r. IsTable (with_keys [] (whole_keys (map record_tree records) (callee_of (map scheme_tree schemes) c.args.number r) c.args.units params note body)) t) recurs had in
     let named : c.in_ok-names.names.items ≡ map name_unit t.names.items = c.in_ok-names.ensures ∙ ap (map name_unit) c.deref.ensures.value in
     let first = c.in_ok-slots.ensures.params in
     let context = c.in-Ok.context in
@@ -82,4 +82,4 @@ returns-in-Ok c =
     let found = subst (λ (ns : List PowerMap). IsContextOf c.args.number c.may_recur-recurs.result t.holes.items ns params note context) named c.in-Ok.ensures.exact in
     let exact = subst (λ (r : Bool). IsContextOf c.args.number r t.holes.items (map name_unit t.names.items) params note context) recurs found in
     let ended = subst (λ (k : ℕ). MatchResult c.body_rows.result (AreBodyRows (body_steps records schemes context k c.args.at note body) (body_derived records schemes context k body) (map type_tree context.params.items) t.count) (StopsPast (first_past (body_steps records schemes context k c.args.at note body)))) head c.body_rows.ensures in
-    body_right records schemes c.args.number c.args.at c.args.recursive params note body c.requires.schemes t is context fit exact c.body_rows.result ended
+    body_right records schemes c.args.number c.args.at c.args.recursive c.args.units params note body c.requires.schemes t is context fit exact c.body_rows.result ended

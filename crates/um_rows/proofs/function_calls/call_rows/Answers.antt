@@ -57,8 +57,8 @@ returns-clause-equations c =
     ∙ ap (λ ss. input_texts (program_tree q).records (map shape_tree ss) inputs) c.deref-3.ensures.value ∙ ap (λ ss. input_texts (program_tree q).records ss inputs) shapes_are in
     let body = expr_tree c.call_of-body.result in
     let body_is : body ≡ call 0 k (input_texts (program_tree q).records (map note_shape (map note_tree f.params.items.items)) inputs) = c.call_of-body.ensures ∙ ap (call 0 k) items_are in
-    let answer = subst (λ ss. MatchResult c.equations.result (AreEquations (program_tree q).records (map scheme_tree ss) n (described 0 false [] None body)) (StopsFor (program_tree q).records (map scheme_tree ss) n (described 0 false [] None body))) c.deref-5.ensures.value
-    (subst (λ rs. MatchResult c.equations.result (AreEquations (map record_tree rs) (map scheme_tree c.deref-5.result.now) n (described 0 false [] None body)) (StopsFor (map record_tree rs) (map scheme_tree c.deref-5.result.now) n (described 0 false [] None body))) c.deref-4.ensures.value c.equations.ensures) in
+    let answer = subst (λ ss. MatchResult c.equations.result (AreEquations (program_tree q).records (map scheme_tree ss) n (described 0 false 0 [] None body)) (StopsFor (program_tree q).records (map scheme_tree ss) n (described 0 false 0 [] None body))) c.deref-5.ensures.value
+    (subst (λ rs. MatchResult c.equations.result (AreEquations (map record_tree rs) (map scheme_tree c.deref-5.result.now) n (described 0 false 0 [] None body)) (StopsFor (map record_tree rs) (map scheme_tree c.deref-5.result.now) n (described 0 false 0 [] None body))) c.deref-4.ensures.value c.equations.ensures) in
     subst (λ (x : Program). IfOk c.equations.result (AreCallRowsOf (program_tree x) (map scheme_tree schemes) k inputs)) same (calls_ok q formed (map scheme_tree schemes) k f there inputs n count body body_is c.equations.result answer)
 
 pub returns-clause-stops : goal.returns-clause-stops
@@ -84,8 +84,8 @@ returns-clause-stops c =
     ∙ ap (λ ss. input_texts (program_tree q).records (map shape_tree ss) inputs) c.deref-3.ensures.value ∙ ap (λ ss. input_texts (program_tree q).records ss inputs) shapes_are in
     let body = expr_tree c.call_of-body.result in
     let body_is : body ≡ call 0 k (input_texts (program_tree q).records (map note_shape (map note_tree f.params.items.items)) inputs) = c.call_of-body.ensures ∙ ap (call 0 k) items_are in
-    let answer = subst (λ ss. MatchResult c.equations.result (AreEquations (program_tree q).records (map scheme_tree ss) n (described 0 false [] None body)) (StopsFor (program_tree q).records (map scheme_tree ss) n (described 0 false [] None body))) c.deref-5.ensures.value
-    (subst (λ rs. MatchResult c.equations.result (AreEquations (map record_tree rs) (map scheme_tree c.deref-5.result.now) n (described 0 false [] None body)) (StopsFor (map record_tree rs) (map scheme_tree c.deref-5.result.now) n (described 0 false [] None body))) c.deref-4.ensures.value c.equations.ensures) in
+    let answer = subst (λ ss. MatchResult c.equations.result (AreEquations (program_tree q).records (map scheme_tree ss) n (described 0 false 0 [] None body)) (StopsFor (program_tree q).records (map scheme_tree ss) n (described 0 false 0 [] None body))) c.deref-5.ensures.value
+    (subst (λ rs. MatchResult c.equations.result (AreEquations (map record_tree rs) (map scheme_tree c.deref-5.result.now) n (described 0 false 0 [] None body)) (StopsFor (map record_tree rs) (map scheme_tree c.deref-5.result.now) n (described 0 false 0 [] None body))) c.deref-4.ensures.value c.equations.ensures) in
     subst (λ (x : Program). IfErr c.equations.result (CallRowsStopFor (program_tree x) (map scheme_tree schemes) k inputs)) same (calls_err q formed (map scheme_tree schemes) k f there inputs n count body body_is c.equations.result answer)
 
 pub returns-clause-results : goal.returns-clause-results
@@ -111,6 +111,6 @@ returns-clause-results c =
     ∙ ap (λ ss. input_texts (program_tree q).records (map shape_tree ss) inputs) c.deref-3.ensures.value ∙ ap (λ ss. input_texts (program_tree q).records ss inputs) shapes_are in
     let body = expr_tree c.call_of-body.result in
     let body_is : body ≡ call 0 k (input_texts (program_tree q).records (map note_shape (map note_tree f.params.items.items)) inputs) = c.call_of-body.ensures ∙ ap (call 0 k) items_are in
-    let answer = subst (λ ss. MatchResult c.equations.result (AreEquations (program_tree q).records (map scheme_tree ss) n (described 0 false [] None body)) (StopsFor (program_tree q).records (map scheme_tree ss) n (described 0 false [] None body))) c.deref-5.ensures.value
-    (subst (λ rs. MatchResult c.equations.result (AreEquations (map record_tree rs) (map scheme_tree c.deref-5.result.now) n (described 0 false [] None body)) (StopsFor (map record_tree rs) (map scheme_tree c.deref-5.result.now) n (described 0 false [] None body))) c.deref-4.ensures.value c.equations.ensures) in
+    let answer = subst (λ ss. MatchResult c.equations.result (AreEquations (program_tree q).records (map scheme_tree ss) n (described 0 false 0 [] None body)) (StopsFor (program_tree q).records (map scheme_tree ss) n (described 0 false 0 [] None body))) c.deref-5.ensures.value
+    (subst (λ rs. MatchResult c.equations.result (AreEquations (map record_tree rs) (map scheme_tree c.deref-5.result.now) n (described 0 false 0 [] None body)) (StopsFor (map record_tree rs) (map scheme_tree c.deref-5.result.now) n (described 0 false 0 [] None body))) c.deref-4.ensures.value c.equations.ensures) in
     subst (λ (x : Program). IfOk c.equations.result (ResultsAreSolutionsOf (program_tree x) (map scheme_tree schemes) k inputs)) same (calls_results q formed (map scheme_tree schemes) k f there inputs n count body body_is (subst (λ (x : Program). AreFormedInputs (length (program_tree x).bases) inputs) (sym same) c.requires.inputs) c.equations.result answer)

@@ -1,17 +1,1 @@
-use Rattle.std.proofs.Common.{[], sym, subst}
-use Rattle.std.specs.Prelude.{All}
-use Rattle.um_units.specs.Variables.{VariablesBelow}
-use Rattle.um_elim.specs.Instances.{SolvesExactly}
-use Rattle.um_elim.proofs.Slots.{own_is_general}
-use Rattle.um_elim.proofs.VariablesKept.{all_own_below}
-use Rattle.um_elim.proofs.OwnIndex.{own_is_index}
 use Rattle.um_elim.proofs.solver.Solver.new.Goals as goal
-
-pub returns-clause-rows : goal.returns-clause-rows
-returns-clause-rows c = subst (SolvesExactly c.args.slots []) (sym c.in_ok-units.ensures) (own_is_general c.args.slots)
-
-pub returns-clause-variables : goal.returns-clause-variables
-returns-clause-variables c = subst (All (VariablesBelow c.args.slots)) (sym c.in_ok-units.ensures) (all_own_below c.args.slots)
-
-pub invariant_of-result : goal.invariant_of-result
-invariant_of-result c = λ _. rw (c.in_ok-units.ensures, c.in_ok-index.ensures) (own_is_index c.args.slots)

@@ -1,0 +1,16 @@
+use Rattle.std.proofs.Common.{subst}
+use Rattle.um_elim.specs.Solution.{own_variables}
+use Rattle.um_rows.specs.FirstUnsolvable.{solve}
+use Rattle.um_rows.specs.Judgement.{by_slots}
+use Rattle.um_infer.specs.Forming.{IsRefusal}
+use Rattle.um_infer.proofs.SolvingSteps.{refused_for_row}
+use Rattle.um_infer.proofs.solving.rigid_solver.Goals as goal
+
+pub returns-in-Err-NoSolution : goal.returns-in-Err-NoSolution
+returns-in-Err-NoSolution c =
+    let slots = c.args.slots in
+    let k = c.in-Err-NoSolution.row in
+    let at = c.in-Err-NoSolution.at in
+    let r = c.row_refusal.result in
+    let here = subst (λ rs. IsRefusal (by_slots k at (solve 0 rs (own_variables slots))) r) c.up_to.ensures (c.row_refusal.ensures k) in
+    refused_for_row c.args.bases c.args.parameters slots c.args.rows.now r k at c.in-Err-NoSolution.ensures here
