@@ -101,6 +101,10 @@ fn quiet_runs(rt: HostRuntime) -> Result<(), Fail> {
         ("let f (x: num) = x", Status::Done),
         ("let f (x: num) = y", Status::Names),
         ("let f (x: num) = x + true", Status::Shape),
+        (
+            "let f<[<Measure>] 'u> (x: num<'u>) = x + 1",
+            Status::NotGeneral,
+        ),
         ("let", Status::Syntax),
     ] {
         let status = status_of(alloc, &words, text.as_bytes().to_vec(alloc)?);

@@ -27,7 +27,7 @@ const TEXT: &str = "\
     [<Measure>] type s\n\
     [<Measure>] type v = m/s\n\
     type P<[<Measure>] 'u> = { p: num<'u>; q: bool list }\n\
-    let first (x: num<v>) (l: bool list) (r: P<m>) = r.p / x\n\
+    let first<[<Measure>] 'u> (x: num<v>) (l: bool list) (r: P<'u>) = r.p / x\n\
     let speed (x: num<_>) (y: num<_>) = (x - y) / 2<s>\n";
 
 // That the text, if it comes, is this one.
@@ -205,7 +205,7 @@ fn call_is_typed(
     are_rows(rt, program, found, &[(0, "'a/m"), (0, "'a/'b")])
 }
 
-// The scheme of the second function, and its row at the difference.
+// The schemes of the functions, and the second one's row at the difference.
 fn schemes_are_found(rt: &(impl Abort + AllocGlobal), shaped: &Shaped) -> Result<(), Fail> {
     let alloc = rt.alloc();
     let program = shaped.program();
@@ -214,10 +214,12 @@ fn schemes_are_found(rt: &(impl Abort + AllocGlobal), shaped: &Shaped) -> Result
     assert_eq!(rt; functions.len(), 2);
     let schemes = infer(alloc, shaped)?;
     assert_eq!(rt; schemes.items.len(), 2);
+    let text = scheme_text(alloc, &functions[0].name, &schemes.items[0], program);
+    assert_text!(rt; text, "first : num<m/s> -> bool list -> P<'a> -> num<s 'a/m>");
     let text = scheme_text(alloc, &functions[1].name, &schemes.items[1], program);
     assert_text!(rt; text, "speed : num<'a> -> num<'a> -> num<'a/s>");
     let equations = rows(alloc, shaped, 1, &schemes)?;
-    are_rows(rt, program, &equations.list.items, &[(213, "'a/'b")])?;
+    are_rows(rt, program, &equations.list.items, &[(230, "'a/'b")])?;
     call_is_typed(rt, shaped, &schemes)
 }
 

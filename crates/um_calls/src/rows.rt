@@ -44,7 +44,7 @@ fn unit_below(alloc: Global, terms: &[Term], limit: u32) -> Result<Unit, UnitSto
     Ok(unit)
 }
 
-// The row a^2 = b^3, and the numbers of two variables.
+// The row a^2 = b^3, a slot of a unit parameter, and the numbers of two variables.
 #[test]
 fn rows(rt: HostRuntime) -> Result<(), Fail> {
     let alloc = rt.alloc();
@@ -56,6 +56,11 @@ fn rows(rt: HostRuntime) -> Result<(), Fail> {
     let put = put_in_type(alloc, &[row], &found)?;
     let want = [power(A, -4), power(B, 6)];
     assert!(rt; matches!(&put, Ty::Num(unit) if unit.terms() == want.as_slice()));
+
+    let solver = Solver::with_parameters(alloc, 2, 3, 1)?;
+    let found = solver.apply(alloc, &put)?;
+    let want = [power(Atom::Base(3), -4), power(B, 6)];
+    assert!(rt; matches!(&found, Ty::Num(unit) if unit.terms() == want.as_slice()));
 
     let unit = unit_below(alloc, &[power(Atom::Var(9), 1), power(Atom::Var(5), 2)], 10)?;
     let items = vec![in alloc; Ty::Num(unit)]?;
