@@ -29,6 +29,6 @@ are_formed a b u n is none l = ((subst IsClosed (sym is) (IsClosed-base 0), subs
 
 pub returns : goal.returns
 returns c = λ bases some.
-    let args : Inputs = record { items = c.in_ok-from_array.field-0 } in
+    let args : Inputs = record { items = c.in_ok-vec.field-0 } in
     let seen : input_trees args ≡ two_inputs c.one.result c.in_ok-metre.metre c.zero.result = search (rules, the_lemmas) in
     subst (AreFormedInputs bases) (sym seen) (are_formed c.one.result c.zero.result c.in_ok-metre.metre bases c.in_ok-metre.ensures.exact c.zero.ensures.num some)
