@@ -157,11 +157,22 @@ impl Lexer {
         ensures fed { OnOk result (self.new.fed ≡ self.old.fed + length piece.now) }
     {
         let (front, rest) = piece.split_at(valid);
-        match str::from_utf8(front) {
-            Ok(text) => self.take_text(text)?,
-            Err(_) => self.take_bytes(front)?,
-        }
+        self.take_front(front)?;
         self.take_bytes(rest)
+    }
+
+    // Takes bytes that are characters behind those that were fed.
+    fn take_front(&mut self, front: &[u8]) -> Result<(), AllocError>
+        requires room { self.old.fed + length front.now ≤ 1048576 }
+        requires readable { IsReadable self.old.fault }
+        requires whole { self.old.held ≡ 0 }
+        ensures stands { OnOk result ((bytes : List ℕ) → Stands self.old bytes → Stands self.new (bytes ++ front.now)) }
+        ensures fed { OnOk result (self.new.fed ≡ self.old.fed + length front.now) }
+    {
+        match str::from_utf8(front) {
+            Ok(text) => self.take_text(text),
+            Err(_) => self.take_bytes(front),
+        }
     }
 
     // Takes the characters of a text behind those that were read.
