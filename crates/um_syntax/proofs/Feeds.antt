@@ -18,8 +18,7 @@ use Rattle.um_syntax.specs.Gap.{IsLine, nothing, closed}
 use Rattle.um_syntax.specs.Lexing.{HasTokens}
 use Rattle.um_syntax.specs.Machine.{Scan, scan_start, takes, double_symbol, close, ends_in_digit, followed, at_state, taken, step, steps, ended, tokens_of}
 use Rattle.um_syntax.specs.Scanning.{Stops}
-use Rattle.um_syntax.specs.declared.feed.Lexer.{Lexer}
-use Rattle.um_syntax.specs.Feeding.{Stands, EndsLine, CountsTokens, CountsLines, is_readable, IsReadable, text_stop, HasScanned, HasBehind}
+use Rattle.um_syntax.specs.Feeding.{EndsLine, CountsTokens, CountsLines, is_readable, IsReadable, text_stop, HasScanned, HasBehind}
 use Rattle.um_syntax.specs.Decoding.{char_len, NoWhole, NoChar}
 use Rattle.um_syntax.proofs.Closing.{snoc_same}
 use Rattle.um_syntax.proofs.DecodedChars.{no_whole}
@@ -247,12 +246,6 @@ text_stands bytes cs tail text utf8 e none =
     ∙ ap (λ x. encodes cs ++ x) (sym (encodes-chars text utf8))
     ∙ sym (encodes-append cs (chars text))
     ∙ sym (append_nil (encodes (cs ++ chars text)))
-
--- bytes are taken in two parts
-pub parts_stand : {T E : Type 0} (r : Result T E) (old mid new : Lexer) (front rest piece : List ℕ) → front ++ rest ≡ piece → ((bytes : List ℕ) → Stands old bytes → Stands mid (bytes ++ front))
-    → OnOk r ((bytes : List ℕ) → Stands mid bytes → Stands new (bytes ++ rest)) → OnOk r ((bytes : List ℕ) → Stands old bytes → Stands new (bytes ++ piece))
-parts_stand (Ok x) old mid new front rest piece e p q = λ bytes h. subst (λ w. Stands new w) (append_assoc bytes front rest ∙ ap (λ w. bytes ++ w) e) (q (bytes ++ front) (p bytes h))
-parts_stand (Err x) old mid new front rest piece e p q = tt
 
 pub both_ok : {T E P Q R : Type 0} (r : Result T E) → OnOk r P → OnOk r Q → (P → Q → R) → OnOk r R
 both_ok (Ok x) p q f = f p q
