@@ -1,8 +1,8 @@
 -- A lexer that is fed goes on standing for what it was fed.
 use Rattle.std.proofs.Common.{◌≡◌, ◌≢◌, ℕ, ◌+◌, ◌/◌, ◌%◌, ◌<◌, ◌≤◌, Bool, true, false, cond, ◌&&◌, ◌||◌, eqb, List, [], ◌∷◌, ◌++◌, length, take, Option, None, Some, is_some, Result, Ok, Err, OnOk, is_err, get_or, refl, sym, ap, subst, ◌∙◌, arith, append_assoc, ◌⊎◌, inl, inr, ⊎_elim, lit<, length-append}
 use Rattle.std.proofs.lemmas.Bool.{false≢true, eqb-true, cases_lt, lt-ltb, le-ltb}
-use Rattle.std.proofs.lemmas.Str.{encodes-append, encode_same, encode_ascii, chars-encodes, encodes_same}
-use Rattle.std.specs.Str.{chars}
+use Rattle.std.proofs.lemmas.Str.{encodes-append, encode_same, encode_ascii, chars-encodes, encodes-chars, encodes_same}
+use Rattle.std.specs.Str.{chars, IsUtf8}
 use lib.Utf8.{encode, encodes, scalar, scalars, next}
 use Rattle.unicode_ident.proofs.IdentLemmas.{is_xid_continue-ascii}
 use Rattle.um_syntax.specs.declared.vocabulary.Symbol.{Symbol}
@@ -238,6 +238,14 @@ whole-read bytes cs tail held_bytes b c e held whole =
     ∙ ap (λ x. encodes cs ++ x) (sym held ∙ whole ∙ sym (append_nil (encode c)))
     ∙ sym (encodes-append cs (c ∷ []))
     ∙ sym (append_nil (encodes (cs ++ c ∷ [])))
+
+-- a text is read, where no character has begun
+pub text_stands : (bytes cs tail text : List ℕ) → IsUtf8 text → bytes ≡ encodes cs ++ tail → tail ≡ [] → bytes ++ text ≡ encodes (cs ++ chars text) ++ []
+text_stands bytes cs tail text utf8 e none =
+    ap (λ x. x ++ text) (e ∙ ap (λ x. encodes cs ++ x) none ∙ append_nil (encodes cs))
+    ∙ ap (λ x. encodes cs ++ x) (sym (encodes-chars text utf8))
+    ∙ sym (encodes-append cs (chars text))
+    ∙ sym (append_nil (encodes (cs ++ chars text)))
 
 pub both_ok : {T E P Q R : Type 0} (r : Result T E) → OnOk r P → OnOk r Q → (P → Q → R) → OnOk r R
 both_ok (Ok x) p q f = f p q

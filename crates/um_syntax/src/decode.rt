@@ -15,8 +15,8 @@ pub enum Decoded {
     Broken,
 }
 
-// How many bytes a character has that begins with the byte, or 0 where none does.
-fn char_len(first: u8) -> usize
+/// How many bytes a character has that begins with the byte, or 0 where none does.
+pub fn char_len(first: u8) -> usize
     ensures { result ≡ char_len first }
 {
     match first {

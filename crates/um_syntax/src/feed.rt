@@ -4,10 +4,11 @@ ghost use Rattle.std.specs.Char.{len_utf8};
 ghost use Rattle.um_syntax.specs.Decoding.{char_len};
 ghost use Rattle.um_syntax.specs.Machine.{PendingFits, PendingFits-prop};
 
-use crate::decode::{Decoded, decode_char};
+use crate::decode::{Decoded, char_len, decode_char};
 use crate::scanner::Scanner;
 use crate::token::{LexStop, NoMemory, TextStop, Tokens};
 use std::alloc::{AllocError, Global};
+use std::str;
 
 /// A lexer that is fed the bytes of a text in pieces, cut anywhere.
 ///
@@ -69,13 +70,13 @@ impl Lexer {
         if matches!(self.fault, Some(TextStop::NoMemory)) {
             return Err(AllocError);
         }
-        for byte in piece {
-            if self.take_byte(*byte).is_err() {
+        match self.take_piece(piece) {
+            Ok(()) => Ok(self.counted),
+            Err(error) => {
                 self.fault = Some(TextStop::NoMemory);
-                return Err(AllocError);
+                Err(error)
             }
         }
-        Ok(self.counted)
     }
 
     /// The tokens of the text that was fed.
@@ -106,6 +107,101 @@ impl Lexer {
         Lexer::is_readable(self.fault) && self.held > 0
     }
 
+    // Takes bytes behind those that were fed: what ends a character that has begun, and then the others.
+    fn take_piece(&mut self, piece: &[u8]) -> Result<(), AllocError>
+        requires { self.old.fed + length piece.now ≤ 1048576 }
+        ensures stands { OnOk result ((bytes : List ℕ) → Stands self.old bytes → Stands self.new (bytes ++ piece.now)) }
+        ensures fed { OnOk result (self.new.fed ≡ self.old.fed + length piece.now) }
+    {
+        let missing = self.missing();
+        if missing < piece.len() {
+            let (end, rest) = piece.split_at(missing);
+            self.take_bytes(end)?;
+            self.take_chars(rest)
+        } else {
+            self.take_bytes(piece)
+        }
+    }
+
+    // How many bytes are missing of a character that has begun.
+    fn missing(&self) -> usize {
+        if self.held > 0 {
+            char_len(self.partial[0]).saturating_sub(self.held)
+        } else {
+            0
+        }
+    }
+
+    // Takes bytes behind those that were fed: the characters at their front at once, and what is left one by one.
+    fn take_chars(&mut self, piece: &[u8]) -> Result<(), AllocError>
+        requires { self.old.fed + length piece.now ≤ 1048576 }
+        ensures stands { OnOk result ((bytes : List ℕ) → Stands self.old bytes → Stands self.new (bytes ++ piece.now)) }
+        ensures fed { OnOk result (self.new.fed ≡ self.old.fed + length piece.now) }
+    {
+        if self.held > 0 || !Lexer::is_readable(self.fault) {
+            return self.take_bytes(piece);
+        }
+        match str::from_utf8(piece) {
+            Ok(text) => self.take_text(text),
+            Err(error) => self.take_parts(piece, error.valid_up_to()),
+        }
+    }
+
+    // Takes bytes behind those that were fed, where so many of them are characters.
+    fn take_parts(&mut self, piece: &[u8], valid: usize) -> Result<(), AllocError>
+        requires room { self.old.fed + length piece.now ≤ 1048576 }
+        requires readable { IsReadable self.old.fault }
+        requires whole { self.old.held ≡ 0 }
+        requires within { valid ≤ length piece.now }
+        ensures stands { OnOk result ((bytes : List ℕ) → Stands self.old bytes → Stands self.new (bytes ++ piece.now)) }
+        ensures fed { OnOk result (self.new.fed ≡ self.old.fed + length piece.now) }
+    {
+        let (front, rest) = piece.split_at(valid);
+        self.take_front(front)?;
+        self.take_bytes(rest)
+    }
+
+    // Takes bytes that are characters behind those that were fed.
+    fn take_front(&mut self, front: &[u8]) -> Result<(), AllocError>
+        requires room { self.old.fed + length front.now ≤ 1048576 }
+        requires readable { IsReadable self.old.fault }
+        requires whole { self.old.held ≡ 0 }
+        ensures stands { OnOk result ((bytes : List ℕ) → Stands self.old bytes → Stands self.new (bytes ++ front.now)) }
+        ensures fed { OnOk result (self.new.fed ≡ self.old.fed + length front.now) }
+    {
+        match str::from_utf8(front) {
+            Ok(text) => self.take_text(text),
+            Err(_) => self.take_bytes(front),
+        }
+    }
+
+    // Takes the characters of a text behind those that were read.
+    fn take_text(&mut self, text: &str) -> Result<(), AllocError>
+        requires room { self.old.fed + length text.now ≤ 1048576 }
+        requires readable { IsReadable self.old.fault }
+        requires whole { self.old.held ≡ 0 }
+        ensures stands { OnOk result ((bytes : List ℕ) → Stands self.old bytes → Stands self.new (bytes ++ text.now)) }
+        ensures fed { OnOk result (self.new.fed ≡ self.old.fed + length text.now) }
+    {
+        self.fed += text.len() as u32;
+        for c in text.chars() {
+            self.take_char(c)?;
+        }
+        Ok(())
+    }
+
+    // Takes bytes behind those that were fed, one by one.
+    fn take_bytes(&mut self, piece: &[u8]) -> Result<(), AllocError>
+        requires { self.old.fed + length piece.now ≤ 1048576 }
+        ensures stands { OnOk result ((bytes : List ℕ) → Stands self.old bytes → Stands self.new (bytes ++ piece.now)) }
+        ensures fed { OnOk result (self.new.fed ≡ self.old.fed + length piece.now) }
+    {
+        for byte in piece {
+            self.take_byte(*byte)?;
+        }
+        Ok(())
+    }
+
     // Takes a character behind those that were read.
     fn take_char(&mut self, c: char) -> Result<(), AllocError>
         requires readable { IsReadable self.old.fault }
@@ -114,6 +210,7 @@ impl Lexer {
         ensures read { OnOk result ((cs : List ℕ) → HasRead self.old cs → HasRead self.new (cs ++ c ∷ [])) }
         ensures readable { OnOk result (IsReadable self.new.fault) }
         ensures whole { self.new.held ≡ 0 }
+        ensures place { self.new.valid ≡ self.old.valid + len_utf8 c }
         ensures fed { self.new.fed ≡ self.old.fed }
     {
         self.valid += c.len_utf8() as u32;

@@ -1,6 +1,6 @@
 use Rattle.std.proofs.Common.{◌≡◌, ◌+◌, ◌++◌, List, ℕ, take}
 use Rattle.um_syntax.specs.Feeding.{Stands}
-use Rattle.um_syntax.proofs.feed.Lexer.feed.Given as goal
+use Rattle.um_syntax.proofs.feed.Lexer.take_bytes.Given as goal
 
 abbrev pub invariant-loop-byte : goal.invariant-loop-byte
 invariant-loop-byte l = record {
