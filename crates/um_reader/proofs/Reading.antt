@@ -3,7 +3,7 @@
 use Rattle.std.proofs.Common.{◌≡◌, ◌≢◌, ℕ, ◌≤◌, ◌<◌, List, [], ◌∷◌, ◌++◌, Option, Some, None, sym, ap, subst, ◌∙◌, arith}
 use Rattle.um_reader.specs.Texts.{BeginsText, BeginsTextWithin, IsUnambiguous, IsTreeOf}
 use Rattle.um_reader.specs.Machine.{Machine, runs, reached, IsReaderOf}
-use Rattle.um_reader.specs.Takes.{Takes}
+use Rattle.um_reader.specs.Takes.{Gives, Takes}
 use Rattle.um_reader.specs.Readers.{HasTaken, EndsAs, TokenTells, ReadsTexts}
 use Rattle.um_reader.specs.declared.taken.Taken.{Taken}
 use Rattle.um_reader.specs.declared.taken.Taken.TheVariants as taken
@@ -18,6 +18,13 @@ some_same t u e = cc
 -- the state after one token more
 pub one_more : {S T A : Type 0} → (m : Machine S T A) → (read : List T) (token : T) → m.step (reached m read) token ≡ reached m (read ++ token ∷ [])
 one_more m read token = sym (runs_append m.step read (token ∷ []) m.start)
+
+-- the same of states that end alike, where the next state is written in two ways
+pub gives_as : {S T A : Type 0} → (m : Machine S T A) → (limit : ℕ) (old other next same : S) (given : Taken) (new : S) → m.finish old ≡ m.finish other → next ≡ same → Gives m limit old next given new
+    → Gives m limit other same given new
+gives_as m limit old other next same taken.Goes new ends e g = (g.0 ∙ e, g.1, g.2)
+gives_as m limit old other next same taken.Stops new ends e g = (sym e ∙ g.0, g.1 ∙ ends)
+gives_as m limit old other next same taken.High new ends e g = ((λ h. g.0 (e ∙ h)), subst (λ s. limit < m.least s) e g.1)
 
 module _ {S T A : Type 0} {m : Machine S T A} {Is : List T → A → Type 0} {height : A → ℕ} (law : IsReaderOf m Is height) where
   -- the grammar is unambiguous

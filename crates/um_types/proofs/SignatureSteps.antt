@@ -15,7 +15,7 @@ use Rattle.um_types.specs.SignatureMachine.{SignatureState, InType, NoSignature,
 use Rattle.um_types.specs.SignatureReads.{signature_state, SignatureTakes, SignatureIsRead}
 use Rattle.um_types.specs.declared.type_reader.TypeReader.{TypeReader}
 use Rattle.um_types.specs.declared.signature.SignatureStep.TheVariants as step
-use Rattle.um_types.proofs.Reaching.{runs_append}
+use Rattle.um_reader.proofs.Reaching.{runs_append}
 
 pub texts_last : (earlier : List RawType) (t : RawType) → map type_syntax (earlier ++ t ∷ []) ≡ map type_syntax earlier ++ type_syntax t ∷ []
 texts_last [] t = refl

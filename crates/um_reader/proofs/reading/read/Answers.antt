@@ -21,28 +21,28 @@ loop-i-preserved g c =
     let r = g.R.Reader in
     let x = c.index-tokens-i.result in
     let same : get_or c.args.tokens.now c.loop-i.i x ≡ x = search (rules, c.index-tokens-i.is) in
-    let t = subst (λ (t : Taken). Takes r.machine r.limit (r.state c.loop-i.reader) x t (r.state c.take.new.self)) c.in-Goes.is c.in_ok-take.ensures.taken in
-    goes r.machine r.limit c.args.tokens.now c.loop-i.i x (r.state c.loop-i.reader) (r.state c.take.new.self) c.loop-i-test.true same c.loop-i.invariant t
+    let t = subst (λ (t : Taken). Takes r.machine r.limit (r.state_in c.loop-i.reader) x t (r.state_in c.take.new.self)) c.in-Goes.is c.in_ok-take.ensures.taken in
+    goes r.machine r.limit c.args.tokens.now c.loop-i.i x (r.state_in c.loop-i.reader) (r.state_in c.take.new.self) c.loop-i-test.true same c.loop-i.invariant t
 
 pub returns-in-High : goal.returns-in-High
 returns-in-High g c =
     let r = g.R.Reader in
     let x = c.index-tokens-i.result in
     let same : get_or c.args.tokens.now c.loop-i.i x ≡ x = search (rules, c.index-tokens-i.is) in
-    let t = subst (λ (t : Taken). Takes r.machine r.limit (r.state c.loop-i.reader) x t (r.state c.take.new.self)) c.in-High.is c.in_ok-take.ensures.taken in
-    too_high r.machine r.limit c.args.tokens.now c.loop-i.i x (r.state c.loop-i.reader) (r.state c.take.new.self) c.loop-i-test.true same c.loop-i.invariant t
+    let t = subst (λ (t : Taken). Takes r.machine r.limit (r.state_in c.loop-i.reader) x t (r.state_in c.take.new.self)) c.in-High.is c.in_ok-take.ensures.taken in
+    too_high r.machine r.limit c.args.tokens.now c.loop-i.i x (r.state_in c.loop-i.reader) (r.state_in c.take.new.self) c.loop-i-test.true same c.loop-i.invariant t
 
 pub returns-in-Stops : goal.returns-in-Stops
 returns-in-Stops g c =
     let r = g.R.Reader in
     let x = c.index-tokens-i.result in
     let same : get_or c.args.tokens.now c.loop-i.i x ≡ x = search (rules, c.index-tokens-i.is) in
-    let t = subst (λ (t : Taken). Takes r.machine r.limit (r.state c.loop-i.reader) x t (r.state c.take.new.self)) c.in-Stops.is c.in_ok-take.ensures.taken in
+    let t = subst (λ (t : Taken). Takes r.machine r.limit (r.state_in c.loop-i.reader) x t (r.state_in c.take.new.self)) c.in-Stops.is c.in_ok-take.ensures.taken in
     subst (λ w. RunTo r.machine r.limit r.view c.args.tokens.now w) (sym c.ended_at.ensures)
-    (stops r.machine r.limit c.args.tokens.now r.view c.loop-i.i x (r.state c.loop-i.reader) (r.state c.take.new.self) c.in_ok-finish.field-0 c.loop-i-test.true same c.loop-i.invariant t c.in_ok-finish.ensures.found)
+    (stops r.machine r.limit c.args.tokens.now r.view c.loop-i.i x (r.state_in c.loop-i.reader) (r.state_in c.take.new.self) c.in_ok-finish.field-0 c.loop-i-test.true same c.loop-i.invariant t c.in_ok-finish.ensures.found)
 
 pub returns : goal.returns
 returns g c =
     let r = g.R.Reader in
     subst (λ w. RunTo r.machine r.limit r.view c.args.tokens.now w) (sym c.ended_at-2.ensures)
-    (at_end r.machine r.limit c.args.tokens.now r.view c.loop-i.i (r.state c.loop-i.reader) c.in_ok-finish-2.field-0 c.loop-i-test.false c.loop-i.invariant c.in_ok-finish-2.ensures.found)
+    (at_end r.machine r.limit c.args.tokens.now r.view c.loop-i.i (r.state_in c.loop-i.reader) c.in_ok-finish-2.field-0 c.loop-i-test.false c.loop-i.invariant c.in_ok-finish-2.ensures.found)
