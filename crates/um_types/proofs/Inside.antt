@@ -13,12 +13,13 @@ use Rattle.um_types.specs.UnitStops.{greatest_height}
 use Rattle.um_types.specs.TypeHeights.{whole_height, all_height}
 use Rattle.um_types.specs.UnitMachine.{State, unit_step}
 use Rattle.um_types.specs.UnitLeast.{machine_of_units}
-use Rattle.um_types.specs.NoteMachine.{NoteState, NeedNote, HaveHole, InUnit, NoNote, unit_goes, note_step, noted, note_finish, note_least, machine_of_notes}
+use Rattle.um_types.specs.NoteMachine.{NoteState, InUnit, unit_goes, note_step, noted, note_finish, note_least, machine_of_notes}
 use Rattle.um_types.specs.TypeMachine.{Owner, TypeState, NeedType, HaveType, InNote, NoType, note_ends, note_goes, own_act, type_step, type_finish, type_least, machine_of_types}
 use Rattle.um_types.specs.TypeView.{IsLow}
 use Rattle.um_types.specs.SignatureMachine.{SignatureState, InType, NoSignature, type_ends, type_goes, typed, signature_least, machine_of_signatures}
 use Rattle.um_types.proofs.NoteComplete.{in_unit, unit_goes_on}
 use Rattle.um_types.proofs.NoteLaws.{note_found_height}
+use Rattle.um_types.proofs.TypeComplete.{note_goes_on}
 use Rattle.um_types.proofs.SignatureLaws.{in_type, type_goes_on}
 
 -- ---- a unit text in a note
@@ -33,12 +34,6 @@ note_takes at old new token taken.High t =
     ((λ h. in_unit at (unit_step old token) (sym e ∙ h)), subst (λ s. greatest_height < note_least s) (sym e) t.1)
 
 -- ---- a note in a type
-
-note_goes_on : (depth : ℕ) (owner : Owner) (n : NoteState) (ended : TypeState) → n ≢ NoNote → note_goes depth owner n ended ≡ InNote depth owner n
-note_goes_on depth owner NeedNote ended ok = refl
-note_goes_on depth owner (HaveHole at) ended ok = refl
-note_goes_on depth owner (InUnit at u) ended ok = refl
-note_goes_on depth owner NoNote ended ok = absurd (ok refl)
 
 in_note : (depth : ℕ) (owner : Owner) (n : NoteState) → InNote depth owner n ≢ NoType
 in_note depth owner n e = cc

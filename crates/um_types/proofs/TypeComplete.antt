@@ -59,7 +59,7 @@ ends_with depth owner n what new tokens rest fits f other step ok =
 
 -- ---- notes
 
-note_goes_on : (depth : ℕ) (owner : Owner) (n : NoteState) (ended : TypeState) → n ≢ NoNote → note_goes depth owner n ended ≡ InNote depth owner n
+pub note_goes_on : (depth : ℕ) (owner : Owner) (n : NoteState) (ended : TypeState) → n ≢ NoNote → note_goes depth owner n ended ≡ InNote depth owner n
 note_goes_on depth owner NeedNote ended ok = refl
 note_goes_on depth owner (HaveHole at) ended ok = refl
 note_goes_on depth owner (InUnit at u) ended ok = refl
