@@ -12,7 +12,7 @@ use Rattle.um_reader.specs.RunTo.{IsRead, IsRefused, IsHigh, RunTo, RunAll}
 use Rattle.um_reader.specs.declared.reading.ReadStop.{ReadStop}
 use Rattle.um_reader.specs.declared.reading.ReadStop.TheVariants as stop
 use Rattle.um_reader.proofs.Texts.{begins_before, begins_front, within_before, within_front, within_whole}
-use Rattle.um_reader.proofs.Reading.{none_some, unambiguous, begins_text, begins_within, begins_none, none_within}
+use Rattle.um_reader.proofs.Readers.{none_some, unambiguous, begins_text, begins_within, begins_none, none_within}
 
 module _ {S T A : Type 0} {m : Machine S T A} {Is : List T → A → Type 0} {height : A → ℕ} (law : IsReaderOf m Is height) (limit : ℕ) (tokens : List T) where
   stops : (k : ℕ) → IsRead m limit tokens k → IsRefused m tokens k → StopsAt Is tokens k

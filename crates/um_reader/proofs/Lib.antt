@@ -1,5 +1,5 @@
 pub mod Reaching
 pub mod Texts
-pub mod Reading
+pub mod Readers
 pub mod Answers
 mod Loop

@@ -8,7 +8,7 @@ use Rattle.um_reader.specs.RunTo.{IsRead, IsRefused, IsHigh, RunTo, RunAll, ende
 use Rattle.um_reader.specs.declared.reading.ReadStop.{ReadStop}
 use Rattle.um_reader.specs.declared.reading.ReadStop.TheVariants as stop
 use Rattle.um_reader.specs.declared.taken.Taken.TheVariants as taken
-use Rattle.um_reader.proofs.Reading.{one_more}
+use Rattle.um_reader.proofs.Readers.{one_more}
 
 -- the first tokens are read within the limit, and this is the state
 abbrev pub Stands : {S T A : Type 0} → Machine S T A → ℕ → List T → ℕ → S → Type 0

@@ -8,7 +8,7 @@ use Rattle.um_tree.specs.RawTree.{NoteSyntax, TypeSyntax, type_syntax}
 use Rattle.um_reader.specs.Takes.{Gives, Takes}
 use Rattle.um_reader.specs.declared.taken.Taken.{Taken}
 use Rattle.um_reader.specs.declared.taken.Taken.TheVariants as taken
-use Rattle.um_reader.proofs.Reading.{gives_as}
+use Rattle.um_reader.proofs.Readers.{gives_as}
 use Rattle.um_types.specs.UnitStops.{greatest_height}
 use Rattle.um_types.specs.TypeHeights.{whole_height, all_height}
 use Rattle.um_types.specs.UnitMachine.{State, unit_step}

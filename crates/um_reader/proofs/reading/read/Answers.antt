@@ -1,4 +1,4 @@
-use Rattle.std.proofs.Common.{rules, ◌≡◌, arith, sym, subst, refl, get_or}
+use Rattle.std.proofs.Common.{rules, ◌≡◌, ◌≤◌, arith, sym, subst, refl, get_or}
 use Rattle.um_reader.specs.Takes.{Takes}
 use Rattle.um_reader.specs.RunTo.{RunTo}
 use Rattle.um_reader.specs.declared.taken.Taken.{Taken}
@@ -14,7 +14,7 @@ loop-i-init g c =
 pub take-requires : goal.take-requires
 take-requires g c =
     let r = g.R.Reader in
-    subst (λ s. r.machine.least s ≤ r.limit) (sym c.loop-i.invariant.1) c.loop-i.invariant.0.2
+    record { low = subst (λ s. r.machine.least s ≤ r.limit) (sym c.loop-i.invariant.1) c.loop-i.invariant.0.2 }
 
 pub loop-i-preserved : goal.loop-i-preserved
 loop-i-preserved g c =
@@ -39,10 +39,10 @@ returns-in-Stops g c =
     let same : get_or c.args.tokens.now c.loop-i.i x ≡ x = search (rules, c.index-tokens-i.is) in
     let t = subst (λ (t : Taken). Takes r.machine r.limit (r.state_in c.loop-i.reader) x t (r.state_in c.take.new.self)) c.in-Stops.is c.in_ok-take.ensures.taken in
     subst (λ w. RunTo r.machine r.limit r.view c.args.tokens.now w) (sym c.ended_at.ensures)
-    (stops r.machine r.limit c.args.tokens.now r.view c.loop-i.i x (r.state_in c.loop-i.reader) (r.state_in c.take.new.self) c.in_ok-finish.field-0 c.loop-i-test.true same c.loop-i.invariant t c.in_ok-finish.ensures.found)
+    (stops r.machine r.limit c.args.tokens.now r.view c.loop-i.i x (r.state_in c.loop-i.reader) (r.state_in c.take.new.self) c.in_ok-finish-in-Stops.field-0 c.loop-i-test.true same c.loop-i.invariant t c.in_ok-finish-in-Stops.ensures.found)
 
 pub returns : goal.returns
 returns g c =
     let r = g.R.Reader in
     subst (λ w. RunTo r.machine r.limit r.view c.args.tokens.now w) (sym c.ended_at-2.ensures)
-    (at_end r.machine r.limit c.args.tokens.now r.view c.loop-i.i (r.state_in c.loop-i.reader) c.in_ok-finish-2.field-0 c.loop-i-test.false c.loop-i.invariant c.in_ok-finish-2.ensures.found)
+    (at_end r.machine r.limit c.args.tokens.now r.view c.loop-i.i (r.state_in c.loop-i.reader) c.in_ok-finish.field-0 c.loop-i-test.false c.loop-i.invariant c.in_ok-finish.ensures.found)

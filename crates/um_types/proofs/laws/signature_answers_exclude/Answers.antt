@@ -1,4 +1,4 @@
-use Rattle.um_reader.proofs.Reading.{unambiguous}
+use Rattle.um_reader.proofs.Readers.{unambiguous}
 use Rattle.um_reader.proofs.Answers.{one_answer}
 use Rattle.um_types.specs.UnitStops.{greatest_height}
 use Rattle.um_types.specs.TypeHeights.{all_height}

@@ -1,5 +1,5 @@
 use Rattle.um_tree.specs.Heights.{unit_height}
-use Rattle.um_reader.proofs.Reading.{unambiguous}
+use Rattle.um_reader.proofs.Readers.{unambiguous}
 use Rattle.um_reader.proofs.Answers.{one_reading}
 use Rattle.um_types.specs.UnitStops.{greatest_height}
 use Rattle.um_types.specs.UnitGrammar.{IsUnit}
