@@ -1,18 +1,18 @@
 -- What reading answers, by the grammar: the exact places, and that no two answers stand together. Published: crates above
 -- use it.
-use Rattle.std.proofs.Common.{◌≡◌, ℕ, ◌+◌, ◌≤◌, ◌<◌, List, length, take, Some, None, sym, subst, ◌∙◌, arith, inl, inr}
+use Rattle.std.proofs.Common.{◌≡◌, ℕ, ◌+◌, ◌≤◌, List, length, take, None, sym, subst, ◌∙◌, arith, inl, inr}
 use Rattle.std.specs.Prelude.{Result, Ok, Err}
 use Rattle.std.proofs.lemmas.Bool.{cases_lt}
 use Rattle.std.proofs.lemmas.List.{take_all}
 use Rattle.um_reader.specs.Texts.{BeginsTextWithin, IsUnambiguous}
-use Rattle.um_reader.specs.Stops.{StopsAt, Reads, Misread, Fails, HighAt, HasOneReading, HasOneAnswer}
+use Rattle.um_reader.specs.Stops.{StopsAt, Reads, Fails, HighAt, HasOneReading, HasOneAnswer}
 use Rattle.um_reader.specs.ReadTo.{ReadTo, ReadAll}
 use Rattle.um_reader.specs.Machine.{Machine, reached, IsReaderOf}
 use Rattle.um_reader.specs.RunTo.{IsRead, IsRefused, IsHigh, RunTo, RunAll}
 use Rattle.um_reader.specs.declared.reading.ReadStop.{ReadStop}
 use Rattle.um_reader.specs.declared.reading.ReadStop.TheVariants as stop
 use Rattle.um_reader.proofs.Texts.{begins_before, begins_front, within_before, within_front, within_whole}
-use Rattle.um_reader.proofs.Readers.{none_some, unambiguous, begins_text, begins_within, begins_none, none_within}
+use Rattle.um_reader.proofs.Readers.{none_some, begins_text, begins_within, begins_none, none_within}
 
 module _ {S T A : Type 0} {m : Machine S T A} {Is : List T → A → Type 0} {height : A → ℕ} (law : IsReaderOf m Is height) (limit : ℕ) (tokens : List T) where
   stops : (k : ℕ) → IsRead m limit tokens k → IsRefused m tokens k → StopsAt Is tokens k
@@ -103,9 +103,9 @@ module _ {T A : Type 0} (Is : List T → A → Type 0) (height : A → ℕ) (lim
   failure_before j k f g =
       elim (cases_lt k j) [
         | inl lt ↦
-          let within = f.within in
-          let b = f.before in
-          absurd (g.through (omega (arith, within)) (begins_before Is tokens (k + 1) j (omega arith) (b.0, b.1, b.2)))
+            let within = f.within in
+            let b = f.before in
+            absurd (g.through (omega (arith, within)) (begins_before Is tokens (k + 1) j (omega arith) (b.0, b.1, b.2)))
         | inr le ↦ le
       ]
 

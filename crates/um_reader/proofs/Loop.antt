@@ -1,12 +1,10 @@
 -- One turn of the loop over the tokens, and its end.
 use Rattle.std.proofs.Common.{◌≡◌, ℕ, ◌+◌, ◌≤◌, ◌<◌, List, [], ◌∷◌, ◌++◌, length, take, get_or, Option, Some, None, sym, ap, subst, ◌∙◌, arith}
 use Rattle.std.proofs.lemmas.List.{take_more}
-use Rattle.std.specs.Prelude.{option_map, Ok, Err}
+use Rattle.std.specs.Prelude.{option_map}
 use Rattle.um_reader.specs.Machine.{Machine, reached}
 use Rattle.um_reader.specs.Takes.{Takes}
-use Rattle.um_reader.specs.RunTo.{IsRead, IsRefused, IsHigh, RunTo, RunAll, ended_at}
-use Rattle.um_reader.specs.declared.reading.ReadStop.{ReadStop}
-use Rattle.um_reader.specs.declared.reading.ReadStop.TheVariants as stop
+use Rattle.um_reader.specs.RunTo.{IsRead, IsRefused, IsHigh, RunTo, ended_at}
 use Rattle.um_reader.specs.declared.taken.Taken.TheVariants as taken
 use Rattle.um_reader.proofs.Readers.{one_more}
 
@@ -44,20 +42,3 @@ module _ {S T A : Type 0} (m : Machine S T A) (limit : ℕ) (tokens : List T) wh
       let within = s.0.0 in
       let all : i ≡ length tokens = omega (arith, within, le) in
       subst (λ k. RunTo m limit view tokens (ended_at found k)) all (ends view i found s.0 (λ below. absurd (omega (arith, below, le))) (is ∙ ap m.finish s.1))
-
--- ---- all tokens
-
-module _ {S T A R : Type 0} (m : Machine S T A) (limit : ℕ) (view : R → A) (tokens : List T) where
-  pub all_read : (tree : R) (k : ℕ) → length tokens ≤ k → RunTo m limit view tokens (Ok (tree, k)) → RunAll m limit view tokens (Ok tree)
-  all_read tree k le r =
-      let within = r.0.0 in
-      let all : k ≡ length tokens = omega (arith, within, le) in
-      subst (λ n. IsRead m limit tokens n × (m.finish (reached m (take n tokens)) ≡ Some (view tree))) all (r.0, r.2)
-
-  pub cut_short : (tree : R) (k : ℕ) → k < length tokens → RunTo m limit view tokens (Ok (tree, k)) → RunAll m limit view tokens (Err (stop.Syntax k))
-  cut_short tree k lt r = (r.0, r.1, (λ e. absurd (omega (arith, lt, e))))
-
-  pub stopped : (e : ReadStop) → RunTo m limit view tokens (Err e) → RunAll m limit view tokens (Err e)
-  stopped (stop.Syntax k) r = (r.0, r.1, (λ e. r.2))
-  stopped (stop.High k) r = r
-  stopped stop.NoMemory r = tt

@@ -4,7 +4,7 @@ use Rattle.std.proofs.Common.{◌≡◌, ◌≢◌, ℕ, ◌≤◌, ◌<◌, Lis
 use Rattle.um_reader.specs.Texts.{BeginsText, BeginsTextWithin, IsUnambiguous, IsTreeOf}
 use Rattle.um_reader.specs.Machine.{Machine, runs, reached, IsReaderOf}
 use Rattle.um_reader.specs.Takes.{Gives, Takes}
-use Rattle.um_reader.specs.Readers.{HasTaken, EndsAs, TokenTells, ReadsTexts}
+use Rattle.um_reader.specs.Readers.{HasTaken, TokenTells, ReadsTexts}
 use Rattle.um_reader.specs.declared.taken.Taken.{Taken}
 use Rattle.um_reader.specs.declared.taken.Taken.TheVariants as taken
 use Rattle.um_reader.proofs.Reaching.{runs_append, runs_refused}

@@ -54,10 +54,7 @@ pub fn read<R: Reader + Drop>(
 }
 
 /// Reads all tokens.
-pub fn read_all<R: Reader + Drop>(
-    alloc: Global,
-    tokens: &[R::Token],
-) -> Result<R::Tree, ReadStop>
+pub fn read_all<R: Reader + Drop>(alloc: Global, tokens: &[R::Token]) -> Result<R::Tree, ReadStop>
     ensures { RunAll R.machine R.limit R.view tokens.now result }
 {
     let (tree, stop) = read::<R>(alloc, tokens)?;

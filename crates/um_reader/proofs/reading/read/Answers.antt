@@ -1,15 +1,9 @@
-use Rattle.std.proofs.Common.{rules, ◌≡◌, ◌≤◌, arith, sym, subst, refl, get_or}
-use Rattle.um_reader.specs.Takes.{Takes}
-use Rattle.um_reader.specs.RunTo.{RunTo}
-use Rattle.um_reader.specs.declared.taken.Taken.{Taken}
+use Rattle.std.proofs.Common.{rules, ◌≡◌, ◌≤◌, arith, sym, subst, get_or}
 use Rattle.um_reader.proofs.Loop.{goes, too_high, stops, at_end}
 use Rattle.um_reader.proofs.reading.read.Goals as goal
 
 pub loop-i-init : goal.loop-i-init
-loop-i-init g c =
-    let r = g.R.Reader in
-    let start = c.new-reader.ensures.start in
-    ((omega arith, g.met.R.Reader.starts, g.met.R.Reader.starts_low), start)
+loop-i-init g c = ((omega arith, g.met.R.Reader.starts, g.met.R.Reader.starts_low), c.new-reader.ensures.start)
 
 pub take-requires : goal.take-requires
 take-requires g c =
@@ -21,28 +15,29 @@ loop-i-preserved g c =
     let r = g.R.Reader in
     let x = c.index-tokens-i.result in
     let same : get_or c.args.tokens.now c.loop-i.i x ≡ x = search (rules, c.index-tokens-i.is) in
-    let t = subst (λ (t : Taken). Takes r.machine r.limit (r.state_in c.loop-i.reader) x t (r.state_in c.take.new.self)) c.in-Goes.is c.in_ok-take.ensures.taken in
-    goes r.machine r.limit c.args.tokens.now c.loop-i.i x (r.state_in c.loop-i.reader) (r.state_in c.take.new.self) c.loop-i-test.true same c.loop-i.invariant t
+    let given = rw c.in-Goes.is at c.in_ok-take.ensures.taken in
+    goes r.machine r.limit c.args.tokens.now c.loop-i.i x (r.state_in c.loop-i.reader) (r.state_in c.take.new.self) c.loop-i-test.true same c.loop-i.invariant given
 
 pub returns-in-High : goal.returns-in-High
 returns-in-High g c =
     let r = g.R.Reader in
     let x = c.index-tokens-i.result in
     let same : get_or c.args.tokens.now c.loop-i.i x ≡ x = search (rules, c.index-tokens-i.is) in
-    let t = subst (λ (t : Taken). Takes r.machine r.limit (r.state_in c.loop-i.reader) x t (r.state_in c.take.new.self)) c.in-High.is c.in_ok-take.ensures.taken in
-    too_high r.machine r.limit c.args.tokens.now c.loop-i.i x (r.state_in c.loop-i.reader) (r.state_in c.take.new.self) c.loop-i-test.true same c.loop-i.invariant t
+    let given = rw c.in-High.is at c.in_ok-take.ensures.taken in
+    too_high r.machine r.limit c.args.tokens.now c.loop-i.i x (r.state_in c.loop-i.reader) (r.state_in c.take.new.self) c.loop-i-test.true same c.loop-i.invariant given
 
 pub returns-in-Stops : goal.returns-in-Stops
 returns-in-Stops g c =
     let r = g.R.Reader in
     let x = c.index-tokens-i.result in
+    let found = c.in_ok-finish-in-Stops in
     let same : get_or c.args.tokens.now c.loop-i.i x ≡ x = search (rules, c.index-tokens-i.is) in
-    let t = subst (λ (t : Taken). Takes r.machine r.limit (r.state_in c.loop-i.reader) x t (r.state_in c.take.new.self)) c.in-Stops.is c.in_ok-take.ensures.taken in
-    subst (λ w. RunTo r.machine r.limit r.view c.args.tokens.now w) (sym c.ended_at.ensures)
-    (stops r.machine r.limit c.args.tokens.now r.view c.loop-i.i x (r.state_in c.loop-i.reader) (r.state_in c.take.new.self) c.in_ok-finish-in-Stops.field-0 c.loop-i-test.true same c.loop-i.invariant t c.in_ok-finish-in-Stops.ensures.found)
+    let given = rw c.in-Stops.is at c.in_ok-take.ensures.taken in
+    rw c.ended_at.ensures
+    (stops r.machine r.limit c.args.tokens.now r.view c.loop-i.i x (r.state_in c.loop-i.reader) (r.state_in c.take.new.self) found.field-0 c.loop-i-test.true same c.loop-i.invariant given found.ensures.found)
 
 pub returns : goal.returns
 returns g c =
     let r = g.R.Reader in
-    subst (λ w. RunTo r.machine r.limit r.view c.args.tokens.now w) (sym c.ended_at-2.ensures)
+    rw c.ended_at-2.ensures
     (at_end r.machine r.limit c.args.tokens.now r.view c.loop-i.i (r.state_in c.loop-i.reader) c.in_ok-finish.field-0 c.loop-i-test.false c.loop-i.invariant c.in_ok-finish.ensures.found)
