@@ -8,4 +8,4 @@ pub mod Laws
 -- is read of a word and of a cell.
 pub mod Formed
 pub mod Holding
-pub mod Readers
+pub mod Reading

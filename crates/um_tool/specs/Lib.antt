@@ -3,7 +3,7 @@ pub mod Orders
 pub mod Steps
 pub mod Places
 pub mod Refusals
-pub mod Readers
+pub mod Reading
 pub mod SchemeLines
 pub mod Answer
 pub mod Asking
