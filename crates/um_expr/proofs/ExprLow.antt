@@ -3,9 +3,9 @@ use Rattle.std.proofs.Common.{◌≡◌, ◌≢◌, ℕ, ◌+◌, ◌<◌, ◌�
 use Rattle.std.specs.Prelude.{nat_lt}
 use Rattle.std.proofs.lemmas.Bool.{cases_lt, lt-ltb, le-ltb}
 use Rattle.um_types.specs.UnitCount.{counted}
-use Rattle.um_types.specs.NoteTakes.{note_state}
+use Rattle.um_types.specs.NoteView.{note_state}
 use Rattle.um_types.specs.NoteMachine.{note_least}
-use Rattle.um_types.specs.TypeTakes.{type_state}
+use Rattle.um_types.specs.TypeView.{type_state}
 use Rattle.um_types.specs.TypeMachine.{type_least}
 use Rattle.um_types.specs.UnitStops.{greatest_height}
 use Rattle.um_expr.specs.declared.frame.Frame.{Frame as Open}

@@ -3,9 +3,9 @@ use Rattle.std.proofs.Common.{◌≡◌, ◌≢◌, ◌≤◌, List, [], ◌++�
 use Rattle.std.proofs.lemmas.List.{append-nil}
 use Rattle.um_syntax.specs.declared.token.Token.{Token}
 use Rattle.um_tree.specs.RawTree.{ExprSyntax}
-use Rattle.um_types.specs.Machines.{runs}
+use Rattle.um_reader.specs.Machine.{runs}
 use Rattle.um_types.specs.UnitStops.{greatest_height}
-use Rattle.um_types.proofs.Readers.{IsReaderOf, unambiguous, found_tree, goes_tells, high_tells, stops_tells}
+use Rattle.um_reader.proofs.Readers.{IsReaderOf, unambiguous, found_tree, goes_tells, high_tells, stops_tells}
 use Rattle.um_expr.specs.declared.reader.ExprStep.TheVariants as expr
 use Rattle.um_expr.specs.ExprGrammar.{IsExpr}
 use Rattle.um_expr.specs.ExprHeights.{whole_expr_height}

@@ -5,8 +5,8 @@ use Rattle.std.specs.Prelude.{None, option_map}
 use Rattle.um_tree.specs.RawTree.{ExprSyntax, binder_syntax}
 use Rattle.um_tree.specs.Heights.{expr_height}
 use Rattle.um_types.specs.UnitStops.{greatest_height}
-use Rattle.um_types.specs.NoteTakes.{note_state}
-use Rattle.um_types.specs.TypeTakes.{type_state}
+use Rattle.um_types.specs.NoteView.{note_state}
+use Rattle.um_types.specs.TypeView.{type_state}
 use Rattle.um_expr.specs.declared.operand.Operand.{Operand}
 use Rattle.um_expr.specs.declared.frame.Frame.{Frame as Open}
 use Rattle.um_expr.specs.declared.focus.Expected.{Expected as ExpectedToken}

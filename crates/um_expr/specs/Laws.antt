@@ -5,8 +5,8 @@ use Rattle.std.specs.Prelude.{◌≡◌, List, [], ◌∷◌, ◌++◌, Option, 
 use Rattle.um_syntax.specs.declared.token.Token.{Token}
 use Rattle.um_tree.specs.declared.raw.RawExpr.{RawExpr}
 use Rattle.um_tree.specs.RawTree.{expr_syntax}
-use Rattle.um_types.specs.Machines.{runs}
-use Rattle.um_types.specs.Prefixes.{BeginsText, BeginsTextWithin, IsUnambiguous, IsTreeOf}
+use Rattle.um_reader.specs.Machine.{runs}
+use Rattle.um_reader.specs.Texts.{BeginsText, BeginsTextWithin, IsUnambiguous, IsTreeOf}
 use Rattle.um_types.specs.UnitStops.{greatest_height}
 use Rattle.um_expr.specs.declared.reader.ExprReader.{ExprReader}
 use Rattle.um_expr.specs.declared.reader.ExprStep.{ExprStep}

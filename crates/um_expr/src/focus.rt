@@ -2,7 +2,7 @@
 ghost use Rattle.std.specs.Prelude.{◌≤◌};
 ghost use Rattle.um_types.specs.UnitStops.{greatest_height};
 ghost use Rattle.um_types.specs.NoteMachine.{note_least};
-ghost use Rattle.um_types.specs.NoteTakes.{note_state};
+ghost use Rattle.um_types.specs.NoteView.{note_state};
 
 use crate::operand::Operand;
 use crate::operands::ReadFields;

@@ -4,15 +4,15 @@ use Rattle.std.proofs.lemmas.List.{append-nil}
 use Rattle.um_syntax.specs.declared.token.Token.{Token}
 use Rattle.um_syntax.specs.declared.token.Kind.{Kind}
 use Rattle.um_tree.specs.RawTree.{ExprSyntax, DeclSyntax, base_syntax, short_syntax, record_decl_syntax, function_syntax}
-use Rattle.um_types.specs.Machines.{runs}
-use Rattle.um_types.proofs.Reaching.{runs_append, runs_refused, lift}
+use Rattle.um_reader.specs.Machine.{runs}
+use Rattle.um_reader.proofs.Reaching.{runs_append, runs_refused, lift}
 use Rattle.um_types.proofs.UnitComplete.{into as unit_into}
 use Rattle.um_types.specs.UnitTokens.{unit_token}
 use Rattle.um_types.proofs.ForeignTokens.{foreign_refused}
 use Rattle.um_syntax.specs.declared.vocabulary.Keyword.TheVariants as keyword
 use Rattle.um_syntax.specs.declared.vocabulary.Symbol.TheVariants as symbol
-use Rattle.um_types.specs.Machines.{Yields}
-use Rattle.um_types.proofs.Reaching.{yields_then}
+use Rattle.um_reader.specs.Machine.{Yields}
+use Rattle.um_reader.proofs.Reaching.{yields_then}
 use Rattle.um_expr.specs.declared.token.ExprToken.{ExprToken}
 use Rattle.um_expr.specs.declared.token.ExprToken.TheVariants.{Word as word, Mark as mark}
 use Rattle.um_expr.specs.ExprTokens.{expr_token}

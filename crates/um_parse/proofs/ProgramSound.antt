@@ -3,7 +3,7 @@ use Rattle.std.proofs.Common.{◌≡◌, ◌≢◌, List, [], ◌∷◌, ◌++�
 use Rattle.std.proofs.lemmas.List.{append-nil}
 use Rattle.um_syntax.specs.declared.token.Token.{Token}
 use Rattle.um_tree.specs.RawTree.{DeclSyntax}
-use Rattle.um_types.specs.Machines.{runs}
+use Rattle.um_reader.specs.Machine.{runs}
 use Rattle.um_parse.specs.DeclGrammar.{DeclSpells, DeclsSpell, DeclFits, DeclsFit, IsProgram}
 use Rattle.um_parse.specs.DeclMachine.{DeclBegin, DeclState, Expects, HaveBase, InShort, HaveRecord, InField, InParam, InResult, InBody, NoDecl, decl_step, decl_finish, ProgramState, InProgram, NoProgram, program_goes, next_decl, program_step, program_found, program_finish}
 use Rattle.um_parse.specs.ProgramStops.{Begins}

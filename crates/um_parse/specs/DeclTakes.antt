@@ -3,8 +3,8 @@
 use Rattle.std.specs.Prelude.{◌≡◌, ◌≢◌, ◌<◌, Option, option_map}
 use Rattle.um_tree.specs.RawTree.{DeclSyntax, decl_syntax, binder_syntax, written_type}
 use Rattle.um_types.specs.UnitStops.{greatest_height}
-use Rattle.um_types.specs.UnitTakes.{unit_state}
-use Rattle.um_types.specs.TypeTakes.{type_state}
+use Rattle.um_types.specs.UnitView.{unit_state}
+use Rattle.um_types.specs.TypeView.{type_state}
 use Rattle.um_parse.specs.DeclMachine.{DeclState, Expects, HaveBase, InShort, HaveRecord, InField, InParam, InResult}
 use Rattle.um_parse.specs.DeclMachine.{InBody, NoDecl}
 use Rattle.um_parse.specs.ProgramLeast.{decl_least}

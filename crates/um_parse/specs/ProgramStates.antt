@@ -1,7 +1,7 @@
 -- The states of the machine of programs after the first tokens.
 use Rattle.std.specs.Prelude.{◌≢◌, ℕ, ◌≤◌, List, [], length, take}
 use Rattle.um_syntax.specs.declared.token.Token.{Token}
-use Rattle.um_types.specs.Machines.{runs}
+use Rattle.um_reader.specs.Machine.{runs}
 use Rattle.um_types.specs.UnitStops.{greatest_height}
 use Rattle.um_parse.specs.DeclMachine.{DeclBegin, Expects, ProgramState, InProgram, NoProgram, program_step}
 use Rattle.um_parse.specs.ProgramLeast.{program_least}

@@ -2,7 +2,7 @@
 ghost use Rattle.std.specs.Prelude.{◌≤◌};
 ghost use Rattle.um_types.specs.UnitLeast.{least};
 ghost use Rattle.um_types.specs.UnitStops.{greatest_height};
-ghost use Rattle.um_types.specs.UnitTakes.{unit_state};
+ghost use Rattle.um_types.specs.UnitView.{unit_state};
 
 use crate::decl_prefix::{DeclExpected, FunctionHead, FunctionPrefix, RecordPrefix};
 use um_expr::ExprReader;

@@ -1,7 +1,7 @@
 use Rattle.std.proofs.Common.{ap, sym, subst, ◌∙◌, arith, option_map}
 use Rattle.um_tree.specs.RawTree.{note_syntax}
 use Rattle.um_types.specs.NoteMachine.{note_act, note_finish}
-use Rattle.um_types.specs.NoteTakes.{note_state, NoteTakes}
+use Rattle.um_types.specs.NoteView.{note_state, NoteTakes}
 use Rattle.um_types.specs.declared.note_reader.NoteStep.{NoteStep}
 use Rattle.um_types.proofs.NoteLaws.{note_found_height}
 use Rattle.um_expr.specs.ExprTokens.{expr_token}

@@ -1,6 +1,6 @@
 use Rattle.std.proofs.Common.{subst}
 use Rattle.um_types.specs.TypeMachine.{type_act, type_finish}
-use Rattle.um_types.specs.TypeTakes.{type_state, TypeTakes}
+use Rattle.um_types.specs.TypeView.{type_state, TypeTakes}
 use Rattle.um_types.specs.declared.type_reader.TypeStep.{TypeStep}
 use Rattle.um_expr.specs.ExprTokens.{expr_token}
 use Rattle.um_expr.specs.ExprMachine.{type_ends}
