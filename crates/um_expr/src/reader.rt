@@ -1,12 +1,13 @@
 // An expression that is read one token at a time.
-ghost use Rattle.std.specs.Prelude.{◌≡◌, ◌≤◌, [], IfOk, option_map};
+ghost use Rattle.std.specs.Prelude.{◌≡◌, ◌≢◌, ◌+◌, ◌≤◌, ◌↔◌, [], IsTrue, nat_lt, IfOk, None, option_map};
 ghost use Rattle.um_tree.specs.RawTree.{expr_syntax};
 ghost use Rattle.um_reader.specs.Takes.{Gives, Takes};
 ghost use Rattle.um_types.specs.UnitStops.{greatest_height};
-ghost use Rattle.um_expr.specs.ExprMachine.{Need, own_step, finish};
+ghost use Rattle.um_expr.specs.ExprMachine.{State, Need, own_step, finish};
 ghost use Rattle.um_expr.specs.ExprLeast.{whole_least, machine_of_expressions};
 ghost use Rattle.um_expr.specs.ExprOperands.{operand_expr};
-ghost use Rattle.um_expr.specs.ExprStates.{expr_state, stopped, IsLow};
+ghost use Rattle.um_expr.specs.ExprStack.{frames_of};
+ghost use Rattle.um_expr.specs.ExprStates.{state_of, inner_state, expr_state, IsLow, Simulates};
 
 use crate::ending::whole;
 use crate::focus::{Expected, Focus, Step};
@@ -47,6 +48,13 @@ fn tree_of(operand: Option<Operand>) -> Option<RawExpr>
         Some(operand) => Some(operand.tree),
         None => None,
     }
+}
+
+fn no_expr(focus: Focus) -> Option<RawExpr>
+    ensures { result ≡ None }
+{
+    drop(focus);
+    None
 }
 
 impl ExprReader {
@@ -106,7 +114,9 @@ impl ExprReader {
     }
 
     // What a step gives.
-    fn go(&mut self, alloc: Global, given: Step) -> Taken {
+    fn go(&mut self, alloc: Global, given: Step) -> Taken
+        ensures { (old next : State) → Simulates (finish old) (frames_of self.old.frames) given next → Gives machine_of_expressions greatest_height old next result (expr_state self.new) }
+    {
         match given {
             Step::Goes(focus) => self.put(focus, Inner::Nothing),
             Step::Note(at, value) => {
@@ -130,7 +140,11 @@ impl ExprReader {
 
     // What stands inside the frames. A note needs as much height as an operand that is wanted, and a type as the colon
     // before it.
-    fn put(&mut self, focus: Focus, inner: Inner) -> Taken {
+    fn put(&mut self, focus: Focus, inner: Inner) -> Taken
+        ensures state { expr_state self.new ≡ inner_state (frames_of self.old.frames) focus inner }
+        ensures low { IsTrue (nat_lt (whole_least (state_of (frames_of self.old.frames) focus)) (greatest_height + 1)) ↔ (result ≡ Taken.Goes) }
+        ensures high { result ≢ Taken.Stops }
+    {
         drop(mem::replace(&mut self.focus, focus));
         drop(mem::replace(&mut self.inner, inner));
         if is_low(&self.frames, &self.focus) {
@@ -149,14 +163,16 @@ impl ExprReader {
             focus,
             inner,
         } = self;
-        match (inner, focus) {
-            (Inner::Nothing, Focus::Read(operand) | Focus::Power(operand)) => {
-                Ok(tree_of(whole(alloc, &mut frames, operand)?))
-            }
-            (inner, focus) => {
-                drop(inner);
-                drop(focus);
-                Ok(None)
+        match inner {
+            Inner::Nothing => match focus {
+                Focus::Read(operand) | Focus::Power(operand) => {
+                    Ok(tree_of(whole(alloc, &mut frames, operand)?))
+                }
+                other => Ok(no_expr(other)),
+            },
+            other => {
+                drop(other);
+                Ok(no_expr(focus))
             }
         }
     }

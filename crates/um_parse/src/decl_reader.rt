@@ -3,9 +3,10 @@ ghost use Rattle.std.specs.Prelude.{◌≡◌, ◌≤◌, IfOk, IfSome, None, op
 ghost use Rattle.um_tree.specs.RawTree.{unit_syntax, expr_syntax, decl_syntax, record_decl_syntax, written_type};
 ghost use Rattle.um_reader.specs.Takes.{Gives, Takes};
 ghost use Rattle.um_types.specs.UnitStops.{greatest_height};
-ghost use Rattle.um_parse.specs.DeclMachine.{Expects, HaveBase, DeclBegin, take_expected, base_after, short_found, body_found, own_step, decl_finish};
+ghost use Rattle.um_parse.specs.DeclMachine.{Expects, DeclBegin, take_expected, short_found, body_found, own_step, decl_finish};
 ghost use Rattle.um_parse.specs.ProgramLeast.{decl_least, machine_of_declarations};
-ghost use Rattle.um_parse.specs.DeclViews.{head_vars, read_fields, start_in, read_params, view_expected, next_state, reached, reader_state, IsLow};
+ghost use Rattle.um_parse.specs.DeclViews.{head_vars, read_fields, start_in, read_params, view_expected, next_state, reached};
+ghost use Rattle.um_parse.specs.DeclTakes.{reader_state, IsLow};
 
 use crate::decl_function::{
     function_vars, let_name, param_binder, param_colon, param_ends, rec_name, result_ends,

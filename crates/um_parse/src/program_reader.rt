@@ -34,9 +34,34 @@ impl ProgramReader {
 }
 
 impl Reader for ProgramReader {
+    ghost use Rattle.std.specs.Prelude.{◌≡◌, ◌≤◌, IfOk, List, option_map};
+    ghost use Rattle.std.proofs.Common.{arith};
+    ghost use Rattle.um_tree.specs.RawTree.{DeclSyntax, program_syntax};
+    ghost use Rattle.um_reader.specs.Takes.{Takes};
+    ghost use Rattle.um_types.specs.UnitStops.{greatest_height};
+    ghost use Rattle.um_parse.specs.DeclMachine.{ProgramState, program_finish};
+    ghost use Rattle.um_parse.specs.ProgramLeast.{program_least, machine_of_programs};
+    ghost use Rattle.um_parse.specs.DeclTakes.{program_state};
+
     type Token = Token;
 
     type Tree = RawProgram;
+
+    ghost States = { ProgramState };
+
+    ghost Syntax = { List DeclSyntax };
+
+    ghost machine = { machine_of_programs };
+
+    ghost limit = { greatest_height };
+
+    ghost state_in = { program_state };
+
+    ghost view = { program_syntax };
+
+    ghost starts = { λ e. Prim.cc };
+
+    ghost starts_low = { Prim.omega arith };
 
     fn new(alloc: Global) -> ProgramReader {
         ProgramReader {
