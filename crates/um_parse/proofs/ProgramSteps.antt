@@ -54,19 +54,6 @@ pub decl_texts_last : (decls : List RawDecl) (d : RawDecl) → map decl_syntax (
 decl_texts_last [] d = refl
 decl_texts_last (c ∷ decls) d = ap (λ ds. decl_syntax c ∷ ds) (decl_texts_last decls d)
 
--- ---- the loop
-
-pub one_more : (tokens : List Token) (i : ℕ) (token : Token) (st : ProgramState) → i < length tokens → get_or tokens i token ≡ token → st ≡ state_at tokens i → program_step st token ≡ state_at tokens (i + 1)
-one_more tokens i token st lt same e =
-    ap (λ s. program_step s token) e
-    ∙ sym (ap (λ ts. runs program_step start ts) (take_more tokens i token lt ∙ ap (λ t. take i tokens ++ t ∷ []) same) ∙ runs_append program_step (take i tokens) (token ∷ []) start)
-
-pub program_on_reader : (decls : List RawDecl) (reader : DeclReader) → program_state decls reader ≢ NoProgram
-program_on_reader decls reader e = cc
-
-pub is_read_to : (tokens : List Token) (i : ℕ) (decls : List RawDecl) (reader : DeclReader) → i ≤ length tokens → program_state decls reader ≡ state_at tokens i → program_least (state_at tokens i) ≤ greatest_height → IsReadTo tokens i
-is_read_to tokens i decls reader le e low = (le, (λ h. program_on_reader decls reader (e ∙ h)), low)
-
 -- ---- the end
 
 found_with : (decls : List DeclSyntax) (d : DeclState) → at_start d ≡ false → program_finish (InProgram decls d) ≡ program_found decls (decl_finish d)

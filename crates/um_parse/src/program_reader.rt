@@ -14,22 +14,35 @@ pub struct ProgramReader {
 }
 
 impl ProgramReader {
-    // A token that the last declaration has refused.
-    fn next_decl(&mut self, alloc: Global, token: &Token) -> Result<Taken, AllocError> {
-        if self.last.is_at_start() {
-            return Ok(Taken::Stops);
+    // The first token of a declaration.
+    fn begin(&mut self, alloc: Global, token: &Token) -> Result<Taken, AllocError> {
+        match self.last.take(alloc, token)? {
+            Taken::Goes => Ok(Taken::Goes),
+            Taken::Stops => {
+                self.put(DeclReader::new());
+                Ok(Taken::Stops)
+            }
+            Taken::High => Ok(Taken::High),
         }
+    }
+
+    // The token that the last declaration has refused.
+    fn next_decl(&mut self, alloc: Global, token: &Token) -> Result<Taken, AllocError> {
         let last = mem::replace(&mut self.last, DeclReader::new());
         match last.finish(alloc)? {
             Some(decl) => {
                 self.decls.push(decl)?;
-                self.last.take(alloc, token)
+                self.begin(alloc, token)
             }
             None => {
-                drop(mem::replace(&mut self.last, DeclReader::nothing()));
+                self.put(DeclReader::nothing());
                 Ok(Taken::Stops)
             }
         }
+    }
+
+    fn put(&mut self, last: DeclReader) {
+        drop(mem::replace(&mut self.last, last));
     }
 }
 
@@ -71,6 +84,9 @@ impl Reader for ProgramReader {
     }
 
     fn take(&mut self, alloc: Global, token: &Token) -> Result<Taken, AllocError> {
+        if self.last.is_at_start() {
+            return self.begin(alloc, token);
+        }
         match self.last.take(alloc, token)? {
             Taken::Goes => Ok(Taken::Goes),
             Taken::Stops => self.next_decl(alloc, token),
