@@ -54,7 +54,10 @@ impl NoteReader {
         match &mut self.focus {
             NoteFocus::Empty => self.take_first(alloc, token),
             NoteFocus::Hole(_) => Ok(Taken::Stops),
-            NoteFocus::Unit(_, unit) => unit.take(alloc, token),
+            NoteFocus::Unit(_, unit) => {
+                let taken = unit.take(alloc, token)?;
+                Ok(taken)
+            }
         }
     }
 
