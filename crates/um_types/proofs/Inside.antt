@@ -35,8 +35,11 @@ note_takes at old new token taken.High t =
 
 -- ---- a note in a type
 
-in_note : (depth : ℕ) (owner : Owner) (n : NoteState) → InNote depth owner n ≢ NoType
+pub in_note : (depth : ℕ) (owner : Owner) (n : NoteState) → InNote depth owner n ≢ NoType
 in_note depth owner n e = cc
+
+pub have_type : (depth : ℕ) (t : TypeSyntax) → HaveType depth t ≢ NoType
+have_type depth t e = cc
 
 module _ (depth : ℕ) (owner : Owner) (old : NoteState) (token : Token) where
   abbrev ended : TypeState
