@@ -12,5 +12,5 @@ take_own-requires-in-Stops c =
     let old = c.args.self.now in
     let low = subst (λ (f : TypeFocus). type_least (type_focus_state old.depth f) ≤ greatest_height) c.in-Note.is c.requires.low in
     record {
-      low = note_low old.depth (view_owner c.in-Note.field-0) (note_state c.in-Note.note) c.args.token.now (note_state c.take.new.self) low (rw c.in-Stops.is at c.in_ok-take-in-Note.ensures.taken);
+      low = note_low old.depth (view_owner c.in-Note.field-0) (note_state c.in-Note.note) (note_state c.take.new.self) c.args.token.now low (rw c.in-Stops.is at c.in_ok-take-in-Note.ensures.taken);
     }
