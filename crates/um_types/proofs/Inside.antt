@@ -6,7 +6,7 @@ use Rattle.um_syntax.specs.declared.token.Kind.TheVariants as kind
 use Rattle.um_syntax.specs.declared.vocabulary.Symbol.TheVariants as symbol
 use Rattle.um_tree.specs.declared.raw.RawNote.{RawNote}
 use Rattle.um_tree.specs.declared.raw.RawType.{RawType}
-use Rattle.um_tree.specs.RawTree.{NoteSyntax, TypeSyntax, note_syntax, type_syntax}
+use Rattle.um_tree.specs.RawTree.{TypeSyntax, note_syntax, type_syntax}
 use Rattle.um_reader.specs.Takes.{Gives, Takes}
 use Rattle.um_reader.specs.declared.taken.Taken.TheVariants as taken
 use Rattle.um_types.specs.UnitStops.{greatest_height}

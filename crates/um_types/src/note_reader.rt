@@ -71,11 +71,8 @@ impl NoteReader {
                 self.put(NoteFocus::Hole(token.start));
                 Ok(Taken::Goes)
             }
-            Kind::Name(_)
-            | Kind::Var(_)
-            | Kind::Number { .. }
-            | Kind::Word(_)
-            | Kind::Sign(_) => self.take_unit(alloc, token),
+            Kind::Name(_) | Kind::Var(_) | Kind::Number { .. } | Kind::Word(_) | Kind::Sign(_) =>
+                self.take_unit(alloc, token),
         }
     }
 

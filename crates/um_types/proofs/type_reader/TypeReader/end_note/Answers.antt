@@ -20,9 +20,8 @@ returns-in_ok-operand-in-Sign-Greater c =
     let greater : c.args.token.now.kind ≡ kind.Sign symbol.Greater = search rules in
     let is : new ≡ HaveType depth (owned owner n) = c.give.ensures.state ∙ ap (λ t. HaveType depth t) c.in_ok-operand-in-Sign-Greater.ensures in
     let e = owned_height owner n in
-    subst (λ (t : Taken). Gives machine_of_types greatest_height (NeedType depth) (note_end depth owner n c.args.token.now.kind) t new) (sym c.give.ensures.goes)
-    (
-    is ∙ sym (ap (note_end depth owner n) greater),
-    (λ h. have_type depth (owned owner n) (sym is ∙ h)),
-    omega (arith, c.requires.low, ap type_least is, e.0, e.1),
+    subst (λ (t : Taken). Gives machine_of_types greatest_height (NeedType depth) (note_end depth owner n c.args.token.now.kind) t new) (sym c.give.ensures.goes) (
+      is ∙ sym (ap (note_end depth owner n) greater),
+      (λ h. have_type depth (owned owner n) (sym is ∙ h)),
+      omega (arith, c.requires.low, ap type_least is, e.0, e.1),
     )
