@@ -2,8 +2,8 @@
 pub mod Texts
 pub mod Stops
 pub mod ReadTo
--- What mirrors the code: machines, what one token gives, what the loop gives. `Readers` says by the grammar alone what a
--- reader's clauses come to.
+-- What mirrors the code: machines, what one token gives, what the loop gives. `Readers` says by the grammar alone what
+-- a reader's clauses come to.
 pub mod Machine
 pub mod Takes
 pub mod Readers

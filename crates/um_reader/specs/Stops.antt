@@ -42,7 +42,8 @@ module _ {T A : Type 0} (Is : List T → A → Type 0) (height : A → ℕ) (lim
 module _ {T A : Type 0} (Is : List T → A → Type 0) (height : A → ℕ) (limit : ℕ) (tokens : List T) where
   -- no two answers on what stands up to the stop stand together
   pub record HasOneReading : Type 0 where
-    pub one_text : (j k : ℕ) (t u : A) → Reads Is height limit tokens j t → Reads Is height limit tokens k u → (j ≡ k) × (t ≡ u)
+    pub one_text : (j k : ℕ) (t u : A) → Reads Is height limit tokens j t → Reads Is height limit tokens k u
+        → (j ≡ k) × (t ≡ u)
     pub one_misread : (j k : ℕ) → Misread Is height limit tokens j → Misread Is height limit tokens k → j ≡ k
     pub one_high : (j k : ℕ) → HighAt Is height limit tokens j → HighAt Is height limit tokens k → j ≡ k
     pub text_or_misread : (j k : ℕ) (t : A) → Reads Is height limit tokens j t → Misread Is height limit tokens k → ⊥

@@ -14,6 +14,5 @@ pub mod TypeComplete
 pub mod TypeSound
 pub mod TypeLaws
 mod SignatureLaws
-mod TypeNotes
 mod ReaderLaws
 mod Inside

@@ -54,7 +54,10 @@ impl NoteReader {
         match &mut self.focus {
             NoteFocus::Empty => self.take_first(alloc, token),
             NoteFocus::Hole(_) => Ok(Taken::Stops),
-            NoteFocus::Unit(_, unit) => unit.take(alloc, token),
+            NoteFocus::Unit(_, unit) => {
+                let taken = unit.take(alloc, token)?;
+                Ok(taken)
+            }
         }
     }
 
@@ -68,11 +71,8 @@ impl NoteReader {
                 self.put(NoteFocus::Hole(token.start));
                 Ok(Taken::Goes)
             }
-            Kind::Name(_)
-            | Kind::Var(_)
-            | Kind::Number { .. }
-            | Kind::Word(_)
-            | Kind::Sign(_) => self.take_unit(alloc, token),
+            Kind::Name(_) | Kind::Var(_) | Kind::Number { .. } | Kind::Word(_) | Kind::Sign(_) =>
+                self.take_unit(alloc, token),
         }
     }
 

@@ -217,12 +217,7 @@ impl TypeReader {
     }
 
     // The token behind a note.
-    fn end_note(
-        &mut self,
-        owner: Owner,
-        note: RawNote,
-        token: &Token,
-    ) -> Result<Taken, AllocError>
+    fn end_note(&mut self, owner: Owner, note: RawNote, token: &Token) -> Result<Taken, AllocError>
         requires wanted { self.old.focus ≡ TypeFocus.Empty }
         requires low { max (self.old.depth + 1) (max (owner_height (view_owner owner)) (note_height (note_syntax note))) ≤ greatest_height }
         ensures { IfOk result (λ t. Gives machine_of_types greatest_height (NeedType self.old.depth) (note_end self.old.depth (view_owner owner) (note_syntax note) token.now.kind) t (type_state self.new)) }
