@@ -4,7 +4,7 @@ use Rattle.um_syntax.specs.declared.token.Token.{Token}
 use Rattle.um_syntax.specs.declared.token.Kind.{Kind}
 use Rattle.um_tree.specs.declared.expression.Sign.TheVariants as compare
 use Rattle.um_tree.specs.RawTree.{ExprSyntax}
-use Rattle.um_types.specs.Machines.{Yields}
+use Rattle.um_reader.specs.Machine.{Yields}
 use Rattle.um_expr.specs.declared.infix.Infix.TheVariants as between
 use Rattle.um_expr.specs.declared.token.ExprToken.{ExprToken}
 use Rattle.um_expr.specs.declared.token.ExprToken.TheVariants.{Operator as operator}

@@ -9,8 +9,8 @@ use Rattle.um_tree.specs.declared.expression.Sign.TheVariants as compare
 use Rattle.um_tree.specs.RawTree.{NoteSyntax, BinderSyntax, ExprSyntax, number_syntax}
 use Rattle.um_types.specs.NoteMachine.{NeedNote}
 use Rattle.um_types.proofs.NoteComplete.{note_into}
-use Rattle.um_types.specs.Machines.{Yields}
-use Rattle.um_types.proofs.Reaching.{yields_here, yields_then}
+use Rattle.um_reader.specs.Machine.{Yields}
+use Rattle.um_reader.proofs.Reaching.{yields_here, yields_then}
 use Rattle.um_expr.specs.declared.infix.Infix.{Infix}
 use Rattle.um_expr.specs.declared.infix.Infix.TheVariants as between
 use Rattle.um_expr.specs.declared.token.ExprToken.TheVariants.{Name as name, Hole as hole, Operator as operator}

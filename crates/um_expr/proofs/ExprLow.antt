@@ -3,10 +3,6 @@ use Rattle.std.proofs.Common.{◌≡◌, ◌≢◌, ℕ, ◌+◌, ◌<◌, ◌�
 use Rattle.std.specs.Prelude.{nat_lt}
 use Rattle.std.proofs.lemmas.Bool.{cases_lt, lt-ltb, le-ltb}
 use Rattle.um_types.specs.UnitCount.{counted}
-use Rattle.um_types.specs.NoteTakes.{note_state}
-use Rattle.um_types.specs.NoteMachine.{note_least}
-use Rattle.um_types.specs.TypeTakes.{type_state}
-use Rattle.um_types.specs.TypeMachine.{type_least}
 use Rattle.um_types.specs.UnitStops.{greatest_height}
 use Rattle.um_expr.specs.declared.frame.Frame.{Frame as Open}
 use Rattle.um_expr.specs.declared.frame.Frame.TheVariants as open_at
@@ -71,8 +67,6 @@ notes_low entries (focus.Read t) = entries_low (reverse entries) (notes_in (oper
 notes_low entries (focus.Power t) = entries_low (reverse entries) (notes_in (operand_expr t)) t.low
 notes_low entries (focus.Greater at left) = entries_low (reverse entries) (notes_in (operand_expr left)) left.low
 notes_low entries (focus.Inside p) = entries_low (reverse entries) (expected_notes (view_expected p)) (expected_low p)
-notes_low entries (focus.Note n) = entries_low (reverse entries) (note_least (note_state n.note)) n.low
-notes_low entries (focus.Type at t) = entries_low (reverse entries) (type_least (type_state t)) t.low
 
 least_focus : (frames : List Frame) (h : Focus) → expr_least (state_of frames h) ≡ least_over frames (focus_height h)
 least_focus frames focus.Wanted = refl
@@ -80,8 +74,6 @@ least_focus frames (focus.Read t) = refl
 least_focus frames (focus.Power t) = refl
 least_focus frames (focus.Greater at left) = refl
 least_focus frames (focus.Inside p) = refl
-least_focus frames (focus.Note n) = refl
-least_focus frames (focus.Type at t) = refl
 
 less : (n : ℕ) → n < (greatest_height + 1) → nat_lt n (greatest_height + 1) ≡ true
 less n low = rw lt-ltb refl
@@ -124,5 +116,3 @@ goes_on frames (focus.Read t) e = absurd cc
 goes_on frames (focus.Power t) e = absurd cc
 goes_on frames (focus.Greater at left) e = absurd cc
 goes_on frames (focus.Inside p) e = absurd cc
-goes_on frames (focus.Note n) e = absurd cc
-goes_on frames (focus.Type at t) e = absurd cc

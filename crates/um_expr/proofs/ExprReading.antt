@@ -1,18 +1,13 @@
--- The reader of expressions reads the grammar.
-use Rattle.std.proofs.Common.{◌≡◌, ◌≢◌, ◌≤◌, List, [], ◌++◌, Some, refl, sym, ap, subst, ◌∙◌}
+-- The machine of expressions reads the grammar.
+use Rattle.std.proofs.Common.{◌≡◌, ◌≢◌, List, [], ◌++◌, Some, refl, sym, subst}
 use Rattle.std.proofs.lemmas.List.{append-nil}
 use Rattle.um_syntax.specs.declared.token.Token.{Token}
 use Rattle.um_tree.specs.RawTree.{ExprSyntax}
-use Rattle.um_types.specs.Machines.{runs}
-use Rattle.um_types.specs.UnitStops.{greatest_height}
-use Rattle.um_types.proofs.Readers.{IsReaderOf, unambiguous, found_tree, goes_tells, high_tells, stops_tells}
-use Rattle.um_expr.specs.declared.reader.ExprStep.TheVariants as expr
+use Rattle.um_reader.specs.Machine.{runs, IsReaderOf}
 use Rattle.um_expr.specs.ExprGrammar.{IsExpr}
 use Rattle.um_expr.specs.ExprHeights.{whole_expr_height}
 use Rattle.um_expr.specs.ExprMachine.{State, Need, Refused, step, finish}
-use Rattle.um_expr.specs.ExprLeast.{whole_least}
-use Rattle.um_expr.specs.ExprTakes.{expr_state}
-use Rattle.um_expr.specs.Laws.{ExpressionsAreUnambiguous, ExprReaderTells, ExprReaderFinds}
+use Rattle.um_expr.specs.ExprLeast.{whole_least, machine_of_expressions}
 use Rattle.um_expr.proofs.ExprPrefixes.{SpellsPrefix}
 use Rattle.um_expr.proofs.ExprSound.{spells_prefix, expr_found}
 use Rattle.um_expr.proofs.ExprCompletions.{expr_ending, expr_completed, expr_can_end}
@@ -33,29 +28,5 @@ expr_ends tokens ok =
     let p = expr_can_end st (tokens ++ more) [] (subst (λ w. SpellsPrefix st (tokens ++ more) w) (sym (append-nil more)) h) ok in
     (more, expr_completed st, record { spelled = p.0; fits = p.1 }, expr_completed_height st (tokens ++ more) more h ok)
 
-pub expr_reader : IsReaderOf State ExprSyntax step Refused (Need []) finish whole_least IsExpr whole_expr_height
-expr_reader = record {
-  stays = λ token. refl;
-  nothing = refl;
-  finds = expr_is_found;
-  found = expr_is;
-  completed = expr_ends;
-  up = expr_up;
-  same_height = expr_found_height;
-}
-
-pub one_expr : ExpressionsAreUnambiguous
-one_expr = unambiguous step Refused (Need []) finish whole_least IsExpr whole_expr_height expr_reader
-
-pub expr_tells : ExprReaderTells
-expr_tells reader read token (expr.Goes next) has t =
-    goes_tells step Refused (Need []) finish whole_least IsExpr whole_expr_height expr_reader (expr_state reader) (expr_state next) read token greatest_height has t.0
-    (λ h. t.1 (t.0 ∙ h)) (subst (λ s. whole_least s ≤ greatest_height) t.0 t.2)
-expr_tells reader read token expr.High has t =
-    high_tells step Refused (Need []) finish whole_least IsExpr whole_expr_height expr_reader (expr_state reader) read token greatest_height has t.0 t.1
-expr_tells reader read token (expr.Stops found) has t =
-    stops_tells step Refused (Need []) finish whole_least IsExpr whole_expr_height expr_reader (expr_state reader) read token _ has t.0 t.1
-
-pub expr_finds_tree : ExprReaderFinds
-expr_finds_tree reader read found has e =
-    found_tree step Refused (Need []) finish whole_least IsExpr whole_expr_height expr_reader read _ (e ∙ ap finish has)
+pub exprs_read : IsReaderOf machine_of_expressions IsExpr whole_expr_height
+exprs_read = record { stays = λ token. refl; nothing = refl; finds = expr_is_found; found = expr_is; completed = expr_ends; up = expr_up; same_height = expr_found_height }

@@ -12,7 +12,7 @@ use Rattle.um_types.specs.TypeMachine.{NeedType}
 use Rattle.um_types.specs.TypeGrammar.{TypeFits}
 use Rattle.um_syntax.specs.declared.vocabulary.Keyword.TheVariants as keyword
 use Rattle.um_syntax.specs.declared.vocabulary.Symbol.TheVariants as symbol
-use Rattle.um_types.specs.Machines.{Yields}
+use Rattle.um_reader.specs.Machine.{Yields}
 use Rattle.um_expr.specs.declared.infix.Infix.{Infix}
 use Rattle.um_expr.specs.declared.infix.Infix.TheVariants as between
 use Rattle.um_expr.specs.declared.token.ExprToken.TheVariants.{Name as name, Number as number, Truth as truth, Operator as operator, Word as word, Mark as mark}

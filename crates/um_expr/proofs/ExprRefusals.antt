@@ -1,21 +1,15 @@
 -- What the machine does where a test of the code fails.
 use Rattle.std.proofs.Common.{◌≡◌, ◌≢◌, ℕ, ◌<◌, ◌≤◌, max, List, [], ◌∷◌, Option, None, option_map, refl, sym, ap, ◌∙◌, arith, inl, inr}
 use Rattle.std.proofs.lemmas.Bool.{cases_lt, lt-ltb, le-ltb}
-use Rattle.um_frac.specs.declared.number.Frac.{Frac}
 use Rattle.um_tree.specs.RawTree.{ExprSyntax}
 use Rattle.um_tree.specs.declared.expression.Arith.TheVariants as arith_sign
-use Rattle.um_types.specs.NoteMachine.{NoteState, NeedNote, HaveHole, InUnit, NoNote, note_least}
-use Rattle.um_types.specs.TypeMachine.{TypeState, NeedType, HaveType, NoType, type_least}
-use Rattle.um_types.specs.TypeMachine.{InNote as InTypeNote}
-use Rattle.um_types.specs.UnitStops.{greatest_height}
 use Rattle.um_expr.specs.declared.infix.Infix.{Infix}
 use Rattle.um_expr.specs.declared.infix.Infix.TheVariants as between
 use Rattle.um_expr.specs.declared.operand.Operand.{Operand}
 use Rattle.um_expr.specs.declared.focus.Step.TheVariants as step
 use Rattle.um_expr.specs.Ranks.{infix_rank, left_limit}
 use Rattle.um_expr.specs.ExprOperands.{operand_expr}
-use Rattle.um_expr.specs.ExprMachine.{Frame, own_rank, plug, top_bound, State, Have, InNote, InType, Refused, reduce, infix_after, greater_after, whole, finish, note_goes, type_goes}
-use Rattle.um_expr.specs.ExprLeast.{notes_side, notes_over, whole_least}
+use Rattle.um_expr.specs.ExprMachine.{Frame, own_rank, plug, top_bound, Have, Refused, reduce, infix_after, greater_after, whole, finish}
 use Rattle.um_expr.specs.ExprStates.{Simulates}
 
 -- frames that are ended up to a lower rank first are ended alike
@@ -40,29 +34,6 @@ reduce_twice limit (frame ∷ frames) now t u le e =
 found_alike : (limit : ℕ) (frames now : List Frame) (t u : ExprSyntax) → limit ≤ 9 → Have now u ≡ reduce limit frames t → finish (Have now u) ≡ finish (Have frames t)
 found_alike limit frames now t u le e = ap whole (reduce_twice limit frames now t u le e)
 
--- a note goes on; a type
-note_goes_on : (frames : List Frame) (at : ℕ) (c : Frac) (n : NoteState) (ended : State) → n ≢ NoNote → note_goes frames at c n ended ≡ InNote frames at c n
-note_goes_on frames at c NoNote ended ok = absurd (ok refl)
-note_goes_on frames at c NeedNote ended ok = refl
-note_goes_on frames at c (HaveHole p) ended ok = refl
-note_goes_on frames at c (InUnit p u) ended ok = refl
-
-type_goes_on : (frames : List Frame) (at : ℕ) (s : TypeState) (ended : State) → s ≢ NoType → type_goes frames at s ended ≡ InType frames at s
-type_goes_on frames at NoType ended ok = absurd (ok refl)
-type_goes_on frames at (NeedType d) ended ok = refl
-type_goes_on frames at (HaveType d t) ended ok = refl
-type_goes_on frames at (InTypeNote d o n) ended ok = refl
-
-notes_above : (frames : List Frame) (m : ℕ) → m ≤ notes_over frames m
-notes_above [] m = omega arith
-notes_above (frame ∷ frames) m = let e = notes_above frames (max (notes_side frame) m) in omega (arith, e)
-
-note_too_high : (frames : List Frame) (at : ℕ) (c : Frac) (n : NoteState) → greatest_height < note_least n → greatest_height < whole_least (InNote frames at c n)
-note_too_high frames at c n high = omega (arith, high, notes_above frames (note_least n))
-
-type_too_high : (frames : List Frame) (at : ℕ) (s : TypeState) → greatest_height < type_least s → greatest_height < whole_least (InType frames at s)
-type_too_high frames at s high = omega (arith, high, notes_above frames (type_least s))
-
 pub limit_low : (sign : Infix) → left_limit sign ≤ 9
 limit_low between.Or = omega arith
 limit_low between.And = omega arith
@@ -85,13 +56,3 @@ pub greater_refused : (at : ℕ) (frames now new : List Frame) (t u : ExprSyntax
 greater_refused at frames now new t u o e high found =
     let no : greater_after at (Have now u) ≡ Refused = rw le-ltb refl in
     (ap (greater_after at) (sym e) ∙ no, found ∙ found_alike 5 frames now t u (omega arith) e)
-
-pub note_high : (frames : List Frame) (at : ℕ) (c : Frac) (n : NoteState) (ended : State) → n ≢ NoNote → greatest_height < note_least n → Simulates None frames step.High (note_goes frames at c n ended)
-note_high frames at c n ended ok high =
-    let e = note_goes_on frames at c n ended ok in
-    ((λ h. let f : InNote frames at c n ≡ Refused = sym e ∙ h in absurd cc), omega (arith, note_too_high frames at c n high, ap whole_least e))
-
-pub type_high : (frames : List Frame) (at : ℕ) (s : TypeState) (ended : State) → s ≢ NoType → greatest_height < type_least s → Simulates None frames step.High (type_goes frames at s ended)
-type_high frames at s ended ok high =
-    let e = type_goes_on frames at s ended ok in
-    ((λ h. let f : InType frames at s ≡ Refused = sym e ∙ h in absurd cc), omega (arith, type_too_high frames at s high, ap whole_least e))

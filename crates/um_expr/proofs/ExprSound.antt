@@ -6,7 +6,7 @@ use Rattle.um_syntax.specs.declared.token.Token.{Token}
 use Rattle.um_tree.specs.declared.expression.Sign.TheVariants as compare
 use Rattle.um_tree.specs.declared.expression.Arith.TheVariants as arith_of
 use Rattle.um_tree.specs.RawTree.{NoteSyntax, TypeSyntax, ExprSyntax, truth_syntax, number_syntax, name_syntax, call_syntax, negate_syntax, not_syntax, pown_syntax, arith_syntax, compare_syntax, and_syntax, or_syntax, if_syntax, let_syntax, match_syntax, nil_syntax, list_syntax, cons_syntax, fields_syntax, field_syntax, bracket_expr_syntax, exprs_in_order, fields_in_order}
-use Rattle.um_types.specs.Machines.{runs}
+use Rattle.um_reader.specs.Machine.{runs}
 use Rattle.um_types.specs.UnitTokens.{unit_token}
 use Rattle.um_types.specs.UnitMachine.{State as UnitState, power_in}
 use Rattle.um_types.specs.NoteMachine.{NoteState, NeedNote, HaveHole, InUnit, NoNote, note_step, note_finish}

@@ -4,20 +4,20 @@ use Rattle.um_frac.specs.declared.number.Frac.{Frac}
 use Rattle.um_syntax.specs.declared.token.Token.{Token}
 use Rattle.um_syntax.specs.declared.token.Kind.{Kind}
 use Rattle.um_tree.specs.RawTree.{NoteSyntax, TypeSyntax, number_syntax, nil_syntax}
-use Rattle.um_types.specs.Machines.{runs}
+use Rattle.um_reader.specs.Machine.{runs}
 use Rattle.um_types.specs.TypeGrammar.{NoteSpells, NoteFits, TypeSpells, TypeFits}
 use Rattle.um_types.specs.NoteMachine.{NoteState, NeedNote, HaveHole, InUnit, NoNote, note_step, note_finish}
 use Rattle.um_types.specs.TypeMachine.{TypeState, NeedType, HaveType, NoType, type_after, type_step, type_finish}
 use Rattle.um_types.specs.TypeMachine.{InNote as InTypeNote}
 use Rattle.um_types.specs.UnitTokens.{unit_token}
 use Rattle.um_types.proofs.ForeignTokens.{is_foreign}
-use Rattle.um_types.proofs.Reaching.{runs_append, lift}
+use Rattle.um_reader.proofs.Reaching.{runs_append, lift}
 use Rattle.um_types.proofs.NoteComplete.{note_into, note_reaches, note_finds, note_stops}
 use Rattle.um_types.proofs.TypeComplete.{type_reaches}
 use Rattle.um_syntax.specs.declared.vocabulary.Keyword.TheVariants as keyword
 use Rattle.um_syntax.specs.declared.vocabulary.Symbol.TheVariants as symbol
-use Rattle.um_types.specs.Machines.{Yields}
-use Rattle.um_types.proofs.Reaching.{yields_then}
+use Rattle.um_reader.specs.Machine.{Yields}
+use Rattle.um_reader.proofs.Reaching.{yields_then}
 use Rattle.um_expr.specs.declared.token.ExprToken.{ExprToken}
 use Rattle.um_expr.specs.declared.token.ExprToken.TheVariants.{Word as word, Mark as mark}
 use Rattle.um_expr.specs.ExprTokens.{expr_token, greater}

@@ -17,3 +17,4 @@ mod ExprStackLaws
 mod ExprLow
 mod ExprRefusals
 mod ExprExamples
+mod ExprInside

@@ -3,7 +3,9 @@
 -- A part that is missing counts 1.
 -- Source: this project's own.
 use Rattle.std.specs.Prelude.{ℕ, ◌+◌, max, List, [], ◌∷◌}
-use Rattle.um_tree.specs.RawTree.{exprs_in_order, fields_in_order}
+use Rattle.um_syntax.specs.declared.token.Token.{Token}
+use Rattle.um_reader.specs.Machine.{Machine}
+use Rattle.um_tree.specs.RawTree.{ExprSyntax, exprs_in_order, fields_in_order}
 use Rattle.um_tree.specs.Heights.{expr_height, tallest_expr, tallest_field}
 use Rattle.um_types.specs.NoteMachine.{note_least}
 use Rattle.um_types.specs.TypeMachine.{type_least}
@@ -12,7 +14,7 @@ use Rattle.um_expr.specs.ExprMachine.{InMatched, InEmptyArm, InFullArm, InNegate
 use Rattle.um_expr.specs.ExprMachine.{Expected, LetBinder, LetEqual, FieldName, FieldEqual, DotName, ArmBegin}
 use Rattle.um_expr.specs.ExprMachine.{ArmOpen, ArmClose, ArmArrow, HeadBinder, HeadCons, TailBinder, TailArrow}
 use Rattle.um_expr.specs.ExprMachine.{NilColon, PownMinus, PownDigits, PownClose, State, Need, Have, HavePower}
-use Rattle.um_expr.specs.ExprMachine.{Greater, Inside, InNote, InType, Refused}
+use Rattle.um_expr.specs.ExprMachine.{Greater, Inside, InNote, InType, Refused, step, finish}
 use Rattle.um_expr.specs.ExprHeights.{notes_in, notes_in_all, notes_in_fields}
 
 -- the height of a frame's other parts
@@ -124,3 +126,8 @@ notes_least Refused = 0
 -- the least that the greatest of all heights in the expression is
 abbrev pub whole_least : State → ℕ
 whole_least st = max (expr_least st) (notes_least st)
+
+-- the machine of expressions
+abbrev pub machine_of_expressions : Machine State Token ExprSyntax
+machine_of_expressions =
+    record { start = Need []; refused = Refused; step = step; finish = finish; least = whole_least }

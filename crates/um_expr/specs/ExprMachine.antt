@@ -386,6 +386,12 @@ act Refused token at glued k = Refused
 abbrev pub step : State → Token → State
 step state token = act state (expr_token token.kind) token.start token.glued token.kind
 
+-- one token more, which the note or the type has refused, if one has begun
+abbrev pub own_step : State → Token → State
+own_step (InNote frames place c n) token = note_ends frames place c (note_finish n) (expr_token token.kind)
+own_step (InType frames place s) token = type_ends frames place (type_finish s) (expr_token token.kind)
+own_step st token = step st token
+
 -- the expression where all is read
 abbrev pub whole : State → Option ExprSyntax
 whole (Have [] t) = Some t

@@ -1,12 +1,15 @@
 -- What is at focus, without where it lies in memory, and what a step gives.
 -- Source: this project's own.
-use Rattle.std.specs.Prelude.{◌≡◌, ◌≢◌, ℕ, ◌+◌, ◌<◌, Bool, true, false, max, nat_lt, List, [], ◌∷◌, Option, Some}
+use Rattle.std.specs.Prelude.{◌≡◌, ℕ, ◌+◌, ◌≤◌, Bool, true, false, max, nat_lt, List, [], ◌∷◌, Option, Some}
 use Rattle.std.specs.Prelude.{None, option_map}
-use Rattle.um_tree.specs.RawTree.{ExprSyntax, binder_syntax}
+use Rattle.um_tree.specs.RawTree.{NoteSyntax, TypeSyntax, ExprSyntax, binder_syntax}
 use Rattle.um_tree.specs.Heights.{expr_height}
 use Rattle.um_types.specs.UnitStops.{greatest_height}
-use Rattle.um_types.specs.NoteTakes.{note_state}
-use Rattle.um_types.specs.TypeTakes.{type_state}
+use Rattle.um_types.specs.TypeHeights.{note_height, whole_height}
+use Rattle.um_types.specs.NoteMachine.{NeedNote, note_finish}
+use Rattle.um_types.specs.NoteView.{note_state}
+use Rattle.um_types.specs.TypeMachine.{NeedType, type_finish}
+use Rattle.um_types.specs.TypeView.{type_state}
 use Rattle.um_expr.specs.declared.operand.Operand.{Operand}
 use Rattle.um_expr.specs.declared.frame.Frame.{Frame as Open}
 use Rattle.um_expr.specs.declared.focus.Expected.{Expected as ExpectedToken}
@@ -20,9 +23,12 @@ use Rattle.um_expr.specs.ExprMachine.{ArmBegin, ArmOpen, ArmClose, ArmArrow, Hea
 use Rattle.um_expr.specs.ExprMachine.{TailArrow, NilColon, PownMinus, PownDigits, PownClose, State, Need, Have}
 use Rattle.um_expr.specs.ExprMachine.{HavePower, Greater, Inside, InNote, InType}
 use Rattle.um_expr.specs.ExprMachine.{Refused, argument, own_rank, top_rank}
-use Rattle.um_expr.specs.ExprLeast.{expected_least, whole_least}
+use Rattle.um_expr.specs.ExprLeast.{expected_least}
 use Rattle.um_expr.specs.ExprOperands.{operand_expr, read_fields}
-use Rattle.um_expr.specs.ExprFrames.{view_frame, is_call}
+use Rattle.um_expr.specs.ExprFrames.{view_frame, is_call, stack}
+use Rattle.um_expr.specs.declared.reader.ExprReader.{ExprReader}
+use Rattle.um_expr.specs.declared.reader.Inner.{Inner}
+use Rattle.um_expr.specs.declared.reader.Inner.TheVariants as inner
 
 abbrev pub view_expected : ExpectedToken → Expected
 view_expected (expected.LetBinder at) = LetBinder at
@@ -50,8 +56,22 @@ state_of frames (focus.Read t) = Have frames (operand_expr t)
 state_of frames (focus.Power t) = HavePower frames (operand_expr t)
 state_of frames (focus.Greater at left) = Greater frames at (operand_expr left)
 state_of frames (focus.Inside p) = Inside frames (view_expected p)
-state_of frames (focus.Note n) = InNote frames n.at n.value (note_state n.note)
-state_of frames (focus.Type at t) = InType frames at (type_state t)
+
+-- the state of frames, of what stands inside them, and of the note or the type there
+abbrev pub inner_state : List Frame → Focus → Inner → State
+inner_state frames now inner.Nothing = state_of frames now
+inner_state frames now (inner.Note at c n) = InNote frames at c (note_state n)
+inner_state frames now (inner.Type at t) = InType frames at (type_state t)
+
+-- the state of a reader
+abbrev pub expr_state : ExprReader → State
+expr_state r = inner_state (stack r.frames.entries.items) r.focus r.inner
+
+-- what the note or the type is that ends here, if one has begun, isn't too high
+abbrev pub IsLow : State → Type 0
+IsLow (InNote frames at c n) = (m : NoteSyntax) → note_finish n ≡ Some m → note_height m ≤ greatest_height
+IsLow (InType frames at s) = (t : TypeSyntax) → type_finish s ≡ Some t → whole_height t ≤ greatest_height
+IsLow st = Unit {0}
 
 -- the height of what is at focus; what is missing counts 1
 abbrev pub focus_height : Focus → ℕ
@@ -60,14 +80,12 @@ focus_height (focus.Read t) = expr_height (operand_expr t)
 focus_height (focus.Power t) = expr_height (operand_expr t)
 focus_height (focus.Greater at left) = max (expr_height (operand_expr left)) 1 + 1
 focus_height (focus.Inside p) = expected_least (view_expected p)
-focus_height (focus.Note n) = 1
-focus_height (focus.Type at t) = 3
 
--- What a step gives: the next state; or that a unit text or type text is too high in it; or, where the token is
--- refused, the expression before it, if one is whole there.
+-- What a step gives: the next state; or, where the token is refused, the expression before it, if one is whole there.
 abbrev pub Simulates : Option ExprSyntax → List Frame → Step → State → Type 0
 Simulates found frames (step.Goes now) new = new ≡ state_of frames now
-Simulates found frames step.High new = (new ≢ Refused) × (greatest_height < whole_least new)
+Simulates found frames (step.Note at c) new = new ≡ InNote frames at c NeedNote
+Simulates found frames (step.Type at) new = new ≡ InType frames at (NeedType 0)
 Simulates found frames (step.Stops t) new = (new ≡ Refused) × (option_map operand_expr t ≡ found)
 
 -- the innermost frame was taken off if it needs no token to end up to this rank

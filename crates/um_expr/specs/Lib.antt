@@ -11,6 +11,5 @@ pub mod ExprOperands
 pub mod ExprFrames
 pub mod ExprStack
 pub mod ExprStates
-pub mod ExprTakes
 -- what is promised of the reader by the grammar alone
 pub mod Laws

@@ -22,7 +22,7 @@ use crate::token::ExprToken;
 use std::alloc::{AllocError, Global};
 use um_syntax::{Symbol, Token};
 use um_tree::{Arith, Binder, Name, Sign};
-use um_types::{TypeReader, written_power};
+use um_types::written_power;
 
 // A token that can't stand here behind this operand. A value that holds a tree goes by a call: its drop would else be written
 // out, and proved, in each caller.
@@ -298,7 +298,7 @@ fn nil_colon(frames: &Frames, at: u32, kind: ExprToken, token: &Token) -> Step
     ensures { Simulates None (frames_of frames.now) result (inside (frames_of frames.now) (NilColon at) kind token.now.start (power_in (unit_token token.now.kind))) }
 {
     match kind {
-        ExprToken::Mark(Symbol::Colon) => Step::Goes(Focus::Type(at, TypeReader::new())),
+        ExprToken::Mark(Symbol::Colon) => Step::Type(at),
         other => refuse_token(other),
     }
 }

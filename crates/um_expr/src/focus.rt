@@ -1,14 +1,8 @@
 // What stands inside the open frames, and what a token gives.
-ghost use Rattle.std.specs.Prelude.{◌≤◌};
-ghost use Rattle.um_types.specs.UnitStops.{greatest_height};
-ghost use Rattle.um_types.specs.NoteMachine.{note_least};
-ghost use Rattle.um_types.specs.NoteTakes.{note_state};
-
 use crate::operand::Operand;
 use crate::operands::ReadFields;
 use um_frac::Frac;
 use um_tree::{Binder, Name};
-use um_types::{NoteReader, TypeReader};
 
 /// The token that is expected inside a run of tokens that is fixed. The first number of each is the place of the form.
 #[derive(Drop)]
@@ -39,15 +33,6 @@ pub enum Expected {
     PownClose(u32, Operand, i32),
 }
 
-/// A number, at its place, and its note that has begun, within the height.
-#[derive(Drop)]
-pub struct Noted {
-    pub at: u32,
-    pub value: Frac,
-    pub note: NoteReader,
-    ghost low: { note_least (note_state note) ≤ greatest_height },
-}
-
 /// What stands inside the innermost frame.
 #[derive(Drop)]
 pub enum Focus {
@@ -60,17 +45,14 @@ pub enum Focus {
     /// What stands before `>`, at its place: a `=` directly behind it belongs to the sign
     Greater(u32, Operand),
     Inside(Expected),
-    /// In the note of a number
-    Note(Noted),
-    /// In the type of an empty list, at the list's place
-    Type(u32, TypeReader),
 }
 
-/// A token goes on; or a unit text or type text becomes too high through it; or the expression stops before it, and this is
-/// what was read, if it is whole.
+/// A token goes on; or the note of a number begins behind it, or the type of an empty list, at the place of each; or the
+/// expression stops before it, and this is what was read, if it is whole.
 #[derive(Drop)]
 pub enum Step {
     Goes(Focus),
-    High,
+    Note(u32, Frac),
+    Type(u32),
     Stops(Option<Operand>),
 }

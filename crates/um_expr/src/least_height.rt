@@ -61,8 +61,6 @@ fn focus_height(focus: &Focus) -> u32
         Focus::Power(operand) => operand.height,
         Focus::Greater(_, left) => above(left),
         Focus::Inside(place) => expected_height(place),
-        Focus::Note(_) => 1,
-        Focus::Type(_, _) => 3,
     }
 }
 

@@ -24,5 +24,5 @@ mod step;
 mod token;
 
 pub use infix::Infix;
-pub use reader::{ExprReader, ExprStep};
+pub use reader::ExprReader;
 pub use token::ExprToken;

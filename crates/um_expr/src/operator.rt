@@ -9,7 +9,7 @@ ghost use Rattle.um_expr.specs.ExprStack.{frames_of};
 ghost use Rattle.um_expr.specs.ExprStates.{Simulates};
 
 use crate::ending::{ended, whole};
-use crate::focus::{Focus, Noted, Step};
+use crate::focus::{Focus, Step};
 use crate::frame::Frame;
 use crate::frames::Frames;
 use crate::infix::Infix;
@@ -17,7 +17,6 @@ use crate::node::composite;
 use crate::operand::Operand;
 use std::alloc::{AllocError, Global};
 use um_tree::{RawExpr, RawNode, Sign};
-use um_types::NoteReader;
 
 // A sign between two operands.
 fn infix_after(
@@ -63,11 +62,7 @@ fn note_opens(frames: &Frames, operand: Operand, sign_at: u32) -> Step
     let Operand { tree, .. } = operand;
     let RawExpr { at, node } = tree;
     match node {
-        RawNode::Num(value, None) => Step::Goes(Focus::Note(Noted {
-            at,
-            value,
-            note: NoteReader::new(),
-        })),
+        RawNode::Num(value, None) => Step::Note(at, value),
         RawNode::Num(_, Some(_)) | RawNode::Name(_) | RawNode::Pow(_, _) | composite!() =>
             Step::Stops(None),
     }

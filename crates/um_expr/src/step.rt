@@ -1,17 +1,12 @@
 // One token more, whatever is in focus.
-ghost use Rattle.std.specs.Prelude.{◌≡◌, ◌≤◌, IfOk, None, Some, cond};
+ghost use Rattle.std.specs.Prelude.{◌≡◌, ◌≤◌, IfOk, IfSome, None, cond, option_map};
 ghost use Rattle.um_tree.specs.RawTree.{note_syntax, type_syntax};
 ghost use Rattle.um_types.specs.TypeHeights.{note_height, whole_height};
 ghost use Rattle.um_types.specs.UnitStops.{greatest_height};
 ghost use Rattle.um_types.specs.UnitTokens.{unit_token};
 ghost use Rattle.um_types.specs.UnitMachine.{power_in};
-ghost use Rattle.um_types.specs.NoteMachine.{note_act, note_finish};
-ghost use Rattle.um_types.specs.NoteTakes.{note_state};
-ghost use Rattle.um_types.specs.TypeMachine.{type_act, type_finish};
-ghost use Rattle.um_types.specs.TypeTakes.{type_state};
-ghost use Rattle.um_expr.specs.ExprTokens.{expr_token};
 ghost use Rattle.um_expr.specs.ExprKinds.{is_power};
-ghost use Rattle.um_expr.specs.ExprMachine.{Have, Inside, DotName, Refused, finish, mark_after, after, power_after, note_ends, type_ends, note_goes, type_goes, step};
+ghost use Rattle.um_expr.specs.ExprMachine.{Have, Inside, DotName, Refused, finish, mark_after, after, power_after, note_ends, type_ends, step};
 ghost use Rattle.um_expr.specs.ExprOperands.{operand_expr};
 ghost use Rattle.um_expr.specs.ExprStack.{frames_of};
 ghost use Rattle.um_expr.specs.ExprStates.{state_of, Simulates};
@@ -21,7 +16,7 @@ use crate::begin::{after_greater, begin, refuse_token};
 use crate::closing::{end_by_mark, end_by_word};
 use crate::ending::whole;
 use crate::expected::inside;
-use crate::focus::{Expected, Focus, Noted, Step};
+use crate::focus::{Expected, Focus, Step};
 use crate::frames::Frames;
 use crate::infix::Infix;
 use crate::operand::Operand;
@@ -32,7 +27,6 @@ use std::alloc::{AllocError, Global};
 use um_frac::Frac;
 use um_syntax::{Symbol, Token};
 use um_tree::{RawNote, RawType, Sign};
-use um_types::{NoteStep, TypeReader, TypeStep};
 
 // `.`, which no whole power has behind it
 fn field_after(
@@ -118,63 +112,34 @@ fn power_after(
 }
 
 // The token that the note of a number has refused.
-fn note_ends(frames: &Frames, at: u32, value: Frac, note: RawNote, kind: ExprToken) -> Step
-    requires { note_height (note_syntax note) ≤ greatest_height }
-    ensures { Simulates None (frames_of frames.now) result (note_ends (frames_of frames.now) at value (Some (note_syntax note)) kind) }
+pub fn note_ends(frames: &Frames, at: u32, value: Frac, note: Option<RawNote>, kind: ExprToken) -> Step
+    requires { IfSome note (λ n. note_height (note_syntax n) ≤ greatest_height) }
+    ensures { Simulates None (frames_of frames.now) result (note_ends (frames_of frames.now) at value (option_map note_syntax note) kind) }
 {
-    match kind {
-        ExprToken::Operator(Infix::Compare(Sign::Gt)) => {
+    match (note, kind) {
+        (Some(note), ExprToken::Operator(Infix::Compare(Sign::Gt))) => {
             Step::Goes(Focus::Read(Operand::number(at, value, Some(note))))
         }
-        other => refuse_token(other),
+        (note, other) => {
+            drop(note);
+            refuse_token(other)
+        }
     }
 }
 
 // The token that the type of an empty list has refused.
-fn type_ends(frames: &Frames, at: u32, ty: RawType, kind: ExprToken) -> Step
-    requires { whole_height (type_syntax ty) ≤ greatest_height }
-    ensures { Simulates None (frames_of frames.now) result (type_ends (frames_of frames.now) at (Some (type_syntax ty)) kind) }
+pub fn type_ends(frames: &Frames, at: u32, ty: Option<RawType>, kind: ExprToken) -> Step
+    requires { IfSome ty (λ t. whole_height (type_syntax t) ≤ greatest_height) }
+    ensures { Simulates None (frames_of frames.now) result (type_ends (frames_of frames.now) at (option_map type_syntax ty) kind) }
 {
-    match kind {
-        ExprToken::Mark(Symbol::RightParen) => Step::Goes(Focus::Read(Operand::nil(at, ty))),
-        other => refuse_token(other),
-    }
-}
-
-// One token in the note of a number.
-fn in_note(alloc: Global, frames: &Frames, noted: Noted, token: &Token) -> Result<Step, AllocError>
-    ensures { IfOk result (λ s. Simulates None (frames_of frames.now) s (note_goes (frames_of frames.now) noted.at noted.value (note_act (note_state noted.note) token.now.kind token.now.start) (note_ends (frames_of frames.now) noted.at noted.value (note_finish (note_state noted.note)) (expr_token token.now.kind)))) }
-{
-    let Noted { at, value, note } = noted;
-    match note.take(alloc, token)? {
-        NoteStep::Goes(note) => Ok(Step::Goes(Focus::Note(Noted { at, value, note }))),
-        NoteStep::High => Ok(Step::High),
-        NoteStep::Stops(Some(note)) => {
-            let kind = ExprToken::of_kind(alloc, &token.kind)?;
-            Ok(note_ends(frames, at, value, note, kind))
+    match (ty, kind) {
+        (Some(ty), ExprToken::Mark(Symbol::RightParen)) => {
+            Step::Goes(Focus::Read(Operand::nil(at, ty)))
         }
-        NoteStep::Stops(None) => Ok(Step::Stops(None)),
-    }
-}
-
-// One token in the type of an empty list.
-fn in_type(
-    alloc: Global,
-    frames: &Frames,
-    at: u32,
-    ty: TypeReader,
-    token: &Token,
-) -> Result<Step, AllocError>
-    ensures { IfOk result (λ s. Simulates None (frames_of frames.now) s (type_goes (frames_of frames.now) at (type_act (type_state ty) token.now.kind token.now.start) (type_ends (frames_of frames.now) at (type_finish (type_state ty)) (expr_token token.now.kind)))) }
-{
-    match ty.take(alloc, token)? {
-        TypeStep::Goes(ty) => Ok(Step::Goes(Focus::Type(at, ty))),
-        TypeStep::High => Ok(Step::High),
-        TypeStep::Stops(Some(ty)) => {
-            let kind = ExprToken::of_kind(alloc, &token.kind)?;
-            Ok(type_ends(frames, at, ty, kind))
+        (ty, other) => {
+            drop(ty);
+            refuse_token(other)
         }
-        TypeStep::Stops(None) => Ok(Step::Stops(None)),
     }
 }
 
@@ -208,7 +173,5 @@ pub fn step(
             let kind = ExprToken::of_kind(alloc, &token.kind)?;
             inside(alloc, frames, place, kind, token)
         }
-        Focus::Note(noted) => in_note(alloc, frames, noted, token),
-        Focus::Type(at, ty) => in_type(alloc, frames, at, ty, token),
     }
 }

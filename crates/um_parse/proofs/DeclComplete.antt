@@ -11,8 +11,8 @@ use Rattle.um_types.proofs.UnitComplete.{into as unit_into}
 use Rattle.um_types.proofs.UnitNested.{unit_finds}
 use Rattle.um_syntax.specs.declared.vocabulary.Keyword.TheVariants as keyword
 use Rattle.um_syntax.specs.declared.vocabulary.Symbol.TheVariants as symbol
-use Rattle.um_types.specs.Machines.{runs, Yields}
-use Rattle.um_types.proofs.Reaching.{yields_here, yields_as}
+use Rattle.um_reader.specs.Machine.{runs, Yields}
+use Rattle.um_reader.proofs.Reaching.{yields_here, yields_as}
 use Rattle.um_tree.specs.declared.expression.Sign.TheVariants as compare
 use Rattle.um_expr.specs.declared.infix.Infix.TheVariants as between
 use Rattle.um_expr.specs.declared.token.ExprToken.{ExprToken}

@@ -8,8 +8,7 @@ use Rattle.um_types.specs.UnitLeast.{least}
 use Rattle.um_types.specs.TypeHeights.{whole_height}
 use Rattle.um_types.specs.TypeMachine.{TypeState, NeedType, HaveType, NoType, type_step, type_finish, type_least}
 use Rattle.um_types.specs.TypeMachine.{InNote as InTypeNote}
-use Rattle.um_types.proofs.UnitHeights.{completed_height, run_up, found_height}
-use Rattle.um_types.proofs.UnitNested.{unit_step}
+use Rattle.um_types.proofs.UnitHeights.{completed_height, unit_up, found_height}
 use Rattle.um_types.proofs.TypeLaws.{type_completed, type_completed_height, type_up, type_found_height}
 use Rattle.um_syntax.specs.declared.vocabulary.Keyword.TheVariants as keyword
 use Rattle.um_syntax.specs.declared.vocabulary.Symbol.TheVariants as symbol
@@ -232,7 +231,7 @@ in_body_up head ps r low Refused up = tt
 decl_above : (st : DeclState) (x : Token) → Above (decl_least st) (decl_step st x)
 decl_above (Expects expected) x = expected_up expected (expr_token x.kind) x.start
 decl_above (HaveBase at y) x = base_up at y (expr_token x.kind)
-decl_above (InShort at y u) x = short_up at (least u) y (unit_step u x) (λ goes. run_up (x ∷ []) u goes)
+decl_above (InShort at y u) x = short_up at (least u) y (unit_step u x) (λ goes. unit_up u x goes)
 decl_above (HaveRecord at y vs fs) x = tt
 decl_above (InField at y vs fs place z s) x =
     field_up at y vs fs place z (type_least s) (type_step s x) (field_ends at y vs fs place z (type_finish s) (expr_token x.kind)) (λ goes. type_up s x goes)

@@ -7,9 +7,8 @@ use Rattle.um_types.specs.UnitGrammar.{Spells as UnitSpells, IsUnit}
 use Rattle.um_types.specs.UnitMachine.{State as UnitState, Need as NeedUnit, Have as HaveUnit, Raised, Lowered, Refused as NoUnit, run as unit_run, finish as unit_finish}
 use Rattle.um_types.specs.TypeMachine.{TypeState, NeedType, HaveType, NoType, type_step, type_finish}
 use Rattle.um_types.specs.TypeMachine.{InNote as InTypeNote}
-use Rattle.um_types.proofs.UnitLaws.{run_append, found}
+use Rattle.um_types.proofs.UnitLaws.{found}
 use Rattle.um_types.proofs.UnitCut.{unit_before}
-use Rattle.um_types.proofs.UnitNested.{unit_step}
 use Rattle.um_types.proofs.TypeSound.{TypeSpellsPrefix, type_sound, type_found}
 use Rattle.um_syntax.specs.declared.vocabulary.Keyword.TheVariants as keyword
 use Rattle.um_syntax.specs.declared.vocabulary.Symbol.TheVariants as symbol
@@ -175,7 +174,7 @@ pub decl_sound : (st : DeclState) (x : Token) (tokens rest : List Token) → Dec
 decl_sound (Expects expected) x tokens rest h = expected_sound expected (expr_token x.kind) x.start tokens (x ∷ rest) rest h (x, refl, refl, refl)
 decl_sound (HaveBase at y) x tokens rest h = base_sound at y (expr_token x.kind) tokens (x ∷ rest) rest h (x, refl, refl)
 decl_sound (InShort at y u) x tokens rest h =
-    short_sound at y (unit_step u x) tokens h.0 h.1 (h.2 ++ x ∷ []) rest h.3 h.4 (h.5 ∙ sym (append_assoc h.2 (x ∷ []) rest)) (run_append h.2 (x ∷ []) (NeedUnit []) ∙ ap (λ s. unit_step s x) h.6)
+    short_sound at y (unit_step u x) tokens h.0 h.1 (h.2 ++ x ∷ []) rest h.3 h.4 (h.5 ∙ sym (append_assoc h.2 (x ∷ []) rest)) (runs_append unit_step h.2 (x ∷ []) (NeedUnit []) ∙ ap (λ s. unit_step s x) h.6)
 decl_sound (HaveRecord at y vs fs) x tokens rest h = tt
 decl_sound (InField at y vs fs place z s) x tokens rest h =
     field_goes_sound at y vs fs place z (type_step s x) (field_ends at y vs fs place z (type_finish s) (expr_token x.kind)) tokens h.0 h.1 h.2 h.3 rest h.4 h.5 h.6 h.7 (type_sound s x h.3 rest h.8) h.9

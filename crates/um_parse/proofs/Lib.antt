@@ -8,7 +8,6 @@ mod DeclCompletions
 mod ProgramSound
 mod DeclHeights
 mod ProgramLow
-mod ProgramWhole
 mod ProgramExact
 mod ProgramNodes
 mod LimitLaws

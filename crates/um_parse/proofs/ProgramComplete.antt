@@ -4,23 +4,21 @@ use Rattle.std.proofs.lemmas.List.{append-nil}
 use Rattle.um_syntax.specs.declared.token.Token.{Token}
 use Rattle.um_syntax.specs.declared.token.Kind.{Kind}
 use Rattle.um_tree.specs.RawTree.{ExprSyntax, DeclSyntax, base_syntax, short_syntax, record_decl_syntax, function_syntax}
-use Rattle.um_types.specs.Machines.{runs}
-use Rattle.um_types.proofs.Reaching.{runs_append, runs_refused, lift}
+use Rattle.um_reader.specs.Machine.{runs}
+use Rattle.um_reader.proofs.Reaching.{runs_append, lift}
 use Rattle.um_types.proofs.UnitComplete.{into as unit_into}
 use Rattle.um_types.specs.UnitTokens.{unit_token}
 use Rattle.um_types.proofs.ForeignTokens.{foreign_refused}
 use Rattle.um_syntax.specs.declared.vocabulary.Keyword.TheVariants as keyword
 use Rattle.um_syntax.specs.declared.vocabulary.Symbol.TheVariants as symbol
-use Rattle.um_types.specs.Machines.{Yields}
-use Rattle.um_types.proofs.Reaching.{yields_then}
+use Rattle.um_reader.specs.Machine.{Yields}
+use Rattle.um_reader.proofs.Reaching.{yields_then}
 use Rattle.um_expr.specs.declared.token.ExprToken.{ExprToken}
 use Rattle.um_expr.specs.declared.token.ExprToken.TheVariants.{Word as word, Mark as mark}
 use Rattle.um_expr.specs.ExprTokens.{expr_token}
 use Rattle.um_expr.specs.ExprMachine.{Frame, Refused, act}
 use Rattle.um_parse.specs.DeclGrammar.{DeclSpells, DeclsSpell, DeclFits, DeclsFit, IsProgram}
 use Rattle.um_parse.specs.DeclMachine.{start_of, DeclBegin, DeclState, Expects, HaveBase, InShort, HaveRecord, InField, InParam, InResult, InBody, NoDecl, base_after, short_goes, body_goes, decl_step, decl_finish, ProgramState, InProgram, NoProgram, program_goes, next_decl, program_step, program_found, program_finish}
-use Rattle.um_parse.specs.ProgramStops.{Begins}
-use Rattle.um_parse.specs.ProgramStates.{start}
 use Rattle.um_expr.proofs.ExprTokenKinds.{begins_decl, decl_is_foreign}
 use Rattle.um_expr.proofs.ExprEnds.{opened, last_atom}
 use Rattle.um_expr.proofs.ExprAtEnd.{at_end}
@@ -164,27 +162,16 @@ pub program_finds : (b : Bool) (ds : List DeclSyntax) → DeclsFit ds → progra
 program_finds b [] fits = refl
 program_finds b (d ∷ ds) fits = finds_all ds b d [] fits
 
-pub reads_as : (ds : List DeclSyntax) (tokens : List Token) → IsProgram tokens ds → (b : Bool) × (runs program_step start tokens ≡ program_into b [] ds)
+pub reads_as : (ds : List DeclSyntax) (tokens : List Token) → IsProgram tokens ds → (b : Bool) × (runs program_step (InProgram [] (Expects DeclBegin)) tokens ≡ program_into b [] ds)
 reads_as ds tokens p =
     let r = program_leads ds tokens [] p.spelled p.fits in
     let y = r.1 in
-    (r.0, ap (runs program_step start) (y.1 ∙ append-nil y.0) ∙ y.2)
+    (r.0, ap (runs program_step (InProgram [] (Expects DeclBegin))) (y.1 ∙ append-nil y.0) ∙ y.2)
 
 -- a program is found
-pub finds : (tokens : List Token) (ds : List DeclSyntax) → IsProgram tokens ds → program_finish (runs program_step start tokens) ≡ Some ds
+pub finds : (tokens : List Token) (ds : List DeclSyntax) → IsProgram tokens ds → program_finish (runs program_step (InProgram [] (Expects DeclBegin)) tokens) ≡ Some ds
 finds tokens ds p = let r = reads_as ds tokens p in ap program_finish r.1 ∙ program_finds r.0 ds p.fits
 
 -- one program per list of tokens
 pub one_program : (tokens : List Token) (ds es : List DeclSyntax) → IsProgram tokens ds → IsProgram tokens es → ds ≡ es
 one_program tokens ds es p q = let e : Some ds ≡ Some es = sym (finds tokens ds p) ∙ finds tokens es q in cc
-
-abbrev no_program : Option (List DeclSyntax)
-no_program = None
-
--- what is refused begins no program
-pub none_begins : (tokens : List Token) → runs program_step start tokens ≡ NoProgram → Begins tokens → ⊥
-none_begins tokens e b =
-    let refused : runs program_step start (tokens ++ b.0) ≡ NoProgram
-    = runs_append program_step tokens b.0 start ∙ ap (λ s. runs program_step s b.0) e ∙ runs_refused program_step NoProgram (λ t. refl) b.0 in
-    let bad : no_program ≡ Some b.1 = sym (ap program_finish refused) ∙ finds (tokens ++ b.0) b.1 b.2 in
-    absurd cc

@@ -1,8 +1,6 @@
 -- No two answers of `parse` stand together: a program within the limits, the place of a refusal, and that of a limit.
 use Rattle.std.proofs.Common.{◌≡◌, ◌≢◌, ℕ, ◌+◌, ◌≤◌, ◌<◌, List, [], ◌∷◌, ◌++◌, length, take, drop, Option, Some, None, Result, Ok, Err}
 use Rattle.std.proofs.Common.{refl, sym, ap, subst, ◌∙◌, append_assoc, arith, inl, inr, ◌⊎◌}
-use Rattle.std.proofs.lemmas.Bool.{cases_lt}
-use Rattle.std.proofs.lemmas.List.{take-append-drop, take-take}
 use Rattle.um_syntax.specs.declared.token.Token.{Token}
 use Rattle.um_tree.specs.declared.raw.RawProgram.{RawProgram}
 use Rattle.um_tree.specs.RawTree.{DeclSyntax, program_syntax}
@@ -14,70 +12,15 @@ use Rattle.um_types.specs.declared.parse.ParseStop.TheVariants as stop
 use Rattle.um_parse.specs.DeclGrammar.{IsProgram}
 use Rattle.um_parse.specs.ProgramHeights.{program_height}
 use Rattle.um_parse.specs.ProgramLimits.{functions_in, name_place, passed_limit, WithinLimits, FirstPassed, PassesAt}
-use Rattle.um_parse.specs.ProgramStops.{Begins, BeginsWithin, StopsAt, HighAt}
+use Rattle.um_parse.specs.ProgramStops.{StopsAt, HighAt}
+use Rattle.um_reader.specs.Stops.{HasOneAnswer}
+use Rattle.um_reader.proofs.Answers.{one_answer as one_place}
 use Rattle.um_parse.specs.Parsed.{IsRead, IsLarge, LimitAt}
 use Rattle.um_parse.specs.Laws.{AnswersAreUnique}
 use Rattle.um_parse.proofs.ProgramComplete.{one_program}
 
--- fewer tokens, and then the others
-fewer : (tokens more : List Token) (m n : ℕ) → m ≤ n → take n tokens ++ more ≡ take m tokens ++ (drop m (take n tokens) ++ more)
-fewer tokens more m n le =
-    ap (λ w. w ++ more) (sym (take-append-drop m (take n tokens)))
-    ∙ append_assoc (take m (take n tokens)) (drop m (take n tokens)) more
-    ∙ ap (λ w. w ++ (drop m (take n tokens) ++ more)) (take-take m n tokens le)
-
--- what more tokens begin, fewer begin
-begins_before : (tokens : List Token) (m n : ℕ) → m ≤ n → Begins (take n tokens) → Begins (take m tokens)
-begins_before tokens m n le b = (drop m (take n tokens) ++ b.0, b.1, subst (λ w. IsProgram w b.1) (fewer tokens b.0 m n le) b.2)
-
-within_before : (tokens : List Token) (m n height : ℕ) → m ≤ n → BeginsWithin height (take n tokens) → BeginsWithin height (take m tokens)
-within_before tokens m n height le b = (drop m (take n tokens) ++ b.0, b.1, subst (λ w. IsProgram w b.1) (fewer tokens b.0 m n le) b.2, b.3)
-
-begins_front : (tokens : List Token) (ds : List DeclSyntax) (k : ℕ) → IsProgram tokens ds → Begins (take k tokens)
-begins_front tokens ds k p = (drop k tokens, ds, subst (λ w. IsProgram w ds) (sym (take-append-drop k tokens)) p)
-
-within_front : (tokens : List Token) (ds : List DeclSyntax) (k height : ℕ) → IsProgram tokens ds → program_height ds ≤ height → BeginsWithin height (take k tokens)
-within_front tokens ds k height p low = (drop k tokens, ds, subst (λ w. IsProgram w ds) (sym (take-append-drop k tokens)) p, low)
-
--- a program is refused nowhere
-read_or_stops : (tokens : List Token) (ds : List DeclSyntax) (k : ℕ) → IsProgram tokens ds → StopsAt tokens k → ⊥
-read_or_stops tokens ds k p s =
-    elim (cases_lt k (length tokens)) [
-      | inl lt ↦ s.through lt (begins_front tokens ds (k + 1) p)
-      | inr le ↦ let within = s.within in s.none (omega (arith, within)) ds p
-    ]
-
-read_or_high : (tokens : List Token) (ds : List DeclSyntax) (k : ℕ) → IsProgram tokens ds → program_height ds ≤ greatest_height → HighAt tokens k → ⊥
-read_or_high tokens ds k p low h = h.none (within_front tokens ds (k + 1) greatest_height p low)
-
--- a refusal and a height too great never come together
-stops_or_high : (tokens : List Token) (k j : ℕ) → StopsAt tokens k → HighAt tokens j → ⊥
-stops_or_high tokens k j s h =
-    elim (cases_lt j k) [
-      | inl lt ↦ h.none (within_before tokens (j + 1) k greatest_height (omega arith) s.before)
-      | inr le ↦ let below = h.within in s.through (omega (arith, below)) (begins_before tokens (k + 1) (j + 1) (omega arith) h.through)
-    ]
-
--- and each has one place
-first_stop : (tokens : List Token) (k j : ℕ) → StopsAt tokens k → StopsAt tokens j → k ≤ j
-first_stop tokens k j s g =
-    elim (cases_lt j k) [
-      | inl lt ↦ let within = s.within in absurd (g.through (omega (arith, within)) (begins_before tokens (j + 1) k (omega arith) (s.before.0, s.before.1, s.before.2)))
-      | inr le ↦ le
-    ]
-
-first_high : (tokens : List Token) (k j : ℕ) → HighAt tokens k → HighAt tokens j → k ≤ j
-first_high tokens k j s g =
-    elim (cases_lt j k) [
-      | inl lt ↦ absurd (g.none (within_before tokens (j + 1) k greatest_height (omega arith) s.before))
-      | inr le ↦ le
-    ]
-
-one_stop : (tokens : List Token) (k j : ℕ) → StopsAt tokens k → StopsAt tokens j → k ≡ j
-one_stop tokens k j s g = omega (arith, first_stop tokens k j s g, first_stop tokens j k g s)
-
-one_high : (tokens : List Token) (k j : ℕ) → HighAt tokens k → HighAt tokens j → k ≡ j
-one_high tokens k j s g = omega (arith, first_high tokens k j s g, first_high tokens j k g s)
+exact : (tokens : List Token) → HasOneAnswer IsProgram program_height greatest_height tokens
+exact tokens = one_place IsProgram program_height greatest_height tokens one_program
 
 -- ---- the limits besides the height
 
@@ -124,30 +67,30 @@ passed tokens end limit.Height at h = inl (refl, h)
 passed tokens end _ at h = inr h
 
 read_or_passed : (tokens : List Token) (end : ℕ) (ds : List DeclSyntax) (kind : LimitKind) (at : ℕ) → IsRead tokens ds → Passed tokens end kind at → ⊥
-read_or_passed tokens end ds kind at r (inl h) = read_or_high tokens ds h.1.0 r.is r.low h.1.2
+read_or_passed tokens end ds kind at r (inl h) = (exact tokens).text_or_high ds h.1.0 r.is r.low h.1.2
 read_or_passed tokens end ds kind at r (inr l) = read_or_large tokens ds kind at r l
 
 stops_or_passed : (tokens : List Token) (end k : ℕ) (kind : LimitKind) (at : ℕ) → StopsAt tokens k → Passed tokens end kind at → ⊥
-stops_or_passed tokens end k kind at s (inl h) = stops_or_high tokens k h.1.0 s h.1.2
-stops_or_passed tokens end k kind at s (inr l) = read_or_stops tokens l.ds k l.is s
+stops_or_passed tokens end k kind at s (inl h) = (exact tokens).failure_or_high k h.1.0 s h.1.2
+stops_or_passed tokens end k kind at s (inr l) = (exact tokens).text_or_failure l.ds k l.is s
 
 one_limit : (tokens : List Token) (end : ℕ) (kind other : LimitKind) (at there : ℕ) → Passed tokens end kind at → Passed tokens end other there → (kind ≡ other) × (at ≡ there)
 one_limit tokens end kind other at there (inl h) (inl g) =
-    (h.0 ∙ sym g.0, h.1.1 ∙ ap (λ k. place_of tokens k end) (one_high tokens h.1.0 g.1.0 h.1.2 g.1.2) ∙ sym g.1.1)
+    (h.0 ∙ sym g.0, h.1.1 ∙ ap (λ k. place_of tokens k end) ((exact tokens).one_high h.1.0 g.1.0 h.1.2 g.1.2) ∙ sym g.1.1)
 one_limit tokens end kind other at there (inr l) (inr m) = one_large tokens kind other at there l m
-one_limit tokens end kind other at there (inl h) (inr m) = absurd (read_or_high tokens m.ds h.1.0 m.is m.low h.1.2)
-one_limit tokens end kind other at there (inr l) (inl g) = absurd (read_or_high tokens l.ds g.1.0 l.is l.low g.1.2)
+one_limit tokens end kind other at there (inl h) (inr m) = absurd ((exact tokens).text_or_high m.ds h.1.0 m.is m.low h.1.2)
+one_limit tokens end kind other at there (inr l) (inl g) = absurd ((exact tokens).text_or_high l.ds g.1.0 l.is l.low g.1.2)
 
 pub one_answer : AnswersAreUnique
 one_answer tokens end (Err stop.NoMemory) other p q = tt
 one_answer tokens end (Ok a) (Ok b) p q = one_program tokens (program_syntax a) (program_syntax b) p.is q.is
 one_answer tokens end (Ok a) (Err stop.NoMemory) p q = tt
-one_answer tokens end (Ok a) (Err (stop.Syntax at)) p q = read_or_stops tokens (program_syntax a) q.0 p.is q.2
+one_answer tokens end (Ok a) (Err (stop.Syntax at)) p q = (exact tokens).text_or_failure (program_syntax a) q.0 p.is q.2
 one_answer tokens end (Ok a) (Err (stop.Limit kind at)) p q = read_or_passed tokens end (program_syntax a) kind at p (passed tokens end kind at q)
-one_answer tokens end (Err (stop.Syntax at)) (Ok b) p q = read_or_stops tokens (program_syntax b) p.0 q.is p.2
+one_answer tokens end (Err (stop.Syntax at)) (Ok b) p q = (exact tokens).text_or_failure (program_syntax b) p.0 q.is p.2
 one_answer tokens end (Err (stop.Syntax at)) (Err stop.NoMemory) p q = tt
 one_answer tokens end (Err (stop.Syntax at)) (Err (stop.Syntax there)) p q =
-    p.1 ∙ ap (λ k. place_of tokens k end) (one_stop tokens p.0 q.0 p.2 q.2) ∙ sym q.1
+    p.1 ∙ ap (λ k. place_of tokens k end) ((exact tokens).one_failure p.0 q.0 p.2 q.2) ∙ sym q.1
 one_answer tokens end (Err (stop.Syntax at)) (Err (stop.Limit kind there)) p q = stops_or_passed tokens end p.0 kind there p.2 (passed tokens end kind there q)
 one_answer tokens end (Err (stop.Limit kind at)) (Ok b) p q = read_or_passed tokens end (program_syntax b) kind at q (passed tokens end kind at p)
 one_answer tokens end (Err (stop.Limit kind at)) (Err stop.NoMemory) p q = tt

@@ -2,18 +2,15 @@
 use Rattle.std.proofs.Common.{◌≡◌, ◌≢◌, ℕ, ◌≤◌, max, List, [], ◌∷◌, ◌++◌, Option, Some, None, refl, sym, ap, ◌∙◌, arith}
 use Rattle.um_syntax.specs.declared.token.Token.{Token}
 use Rattle.um_tree.specs.RawTree.{DeclSyntax}
-use Rattle.um_types.specs.Machines.{runs}
-use Rattle.um_types.proofs.Reaching.{runs_append, runs_refused}
+use Rattle.um_reader.specs.Machine.{reached, IsReaderOf}
 use Rattle.um_parse.specs.DeclGrammar.{IsProgram}
 use Rattle.um_parse.specs.DeclMachine.{DeclBegin, DeclState, Expects, HaveBase, InShort, HaveRecord, InField, InParam, InResult, InBody, NoDecl, decl_step, decl_finish, ProgramState, InProgram, NoProgram, program_goes, next_decl, program_step, program_found, program_finish}
 use Rattle.um_parse.specs.ProgramHeights.{decl_height, program_height}
-use Rattle.um_parse.specs.ProgramLeast.{decl_least, program_least}
-use Rattle.um_parse.specs.ProgramStates.{start}
-use Rattle.um_parse.specs.ProgramStops.{BeginsWithin}
+use Rattle.um_parse.specs.ProgramLeast.{decl_least, program_least, machine_of_programs}
 use Rattle.um_parse.proofs.DeclCompletions.{decl_completed}
 use Rattle.um_parse.proofs.DeclHeights.{decl_completed_height, decl_up, decl_found_height}
-use Rattle.um_parse.proofs.ProgramComplete.{program_into, program_finds, reads_as}
-use Rattle.um_parse.proofs.ProgramSound.{ProgramSpellsPrefix, spells_prefix, program_ending, program_completed, can_go_on}
+use Rattle.um_parse.proofs.ProgramComplete.{finds}
+use Rattle.um_parse.proofs.ProgramSound.{ProgramSpellsPrefix, spells_prefix, program_ending, program_completed, can_go_on, found}
 
 height_last : (decls : List DeclSyntax) (d : DeclSyntax) → program_height (decls ++ d ∷ []) ≡ max (program_height decls) (decl_height d)
 height_last [] d = omega arith
@@ -25,12 +22,6 @@ completed_height (InProgram decls d) tokens rest h ok =
     let same = decl_completed_height d h.0 rest h.3 h.4 in
     omega (arith, last, same)
 completed_height NoProgram tokens rest h ok = absurd (ok refl)
-
--- a program of the least height begins so
-pub begins_within : (read : List Token) (limit : ℕ) → runs program_step start read ≢ NoProgram → program_least (runs program_step start read) ≤ limit → BeginsWithin limit read
-begins_within read limit ok le =
-    let st : ProgramState = runs program_step start read in
-    (program_ending st, program_completed st, can_go_on read ok, omega (arith, le, completed_height st (read ++ program_ending st) (program_ending st) (spells_prefix read (program_ending st)) ok))
 
 -- ---- a token never lowers it
 
@@ -63,13 +54,6 @@ step_up (InProgram decls d) x ok =
     further goes = let up = decl_up d x goes in omega (arith, up)
 step_up NoProgram x ok = absurd (ok refl)
 
-run_up : (tokens : List Token) (st : ProgramState) → runs program_step st tokens ≢ NoProgram → program_least st ≤ program_least (runs program_step st tokens)
-run_up [] st ok = omega arith
-run_up (x ∷ tokens) st ok =
-    let next : ProgramState = program_step st x in
-    let goes : next ≢ NoProgram = λ e. ok (ap (λ s. runs program_step s tokens) e ∙ runs_refused program_step NoProgram (λ t. refl) tokens) in
-    omega (arith, step_up st x goes, run_up tokens next ok)
-
 -- ---- what is found has it
 
 found_last : (decls : List DeclSyntax) (d : DeclState) (o : Option DeclSyntax) (ds : List DeclSyntax) → decl_finish d ≡ o → program_found decls o ≡ Some ds → program_height ds ≡ max (program_height decls) (decl_least d)
@@ -80,7 +64,7 @@ found_last decls d (Some c) ds e f =
     ap program_height (sym same) ∙ omega (arith, last, low)
 found_last decls d None ds e f = absurd cc
 
-pub found_height : (st : ProgramState) (ds : List DeclSyntax) → program_finish st ≡ Some ds → program_height ds ≡ program_least st
+found_height : (st : ProgramState) (ds : List DeclSyntax) → program_finish st ≡ Some ds → program_height ds ≡ program_least st
 found_height (InProgram decls (Expects DeclBegin)) ds e = let same : decls ≡ ds = cc in ap program_height (sym same) ∙ omega arith
 found_height (InProgram decls (HaveBase at x)) ds e = found_last decls (HaveBase at x) (decl_finish (HaveBase at x)) ds refl e
 found_height (InProgram decls (InShort at x u)) ds e = found_last decls (InShort at x u) (decl_finish (InShort at x u)) ds refl e
@@ -93,16 +77,13 @@ found_height (InProgram decls NoDecl) ds e = absurd cc
 found_height (InProgram decls (Expects _)) ds e = absurd cc
 found_height NoProgram ds e = absurd cc
 
-abbrev nothing : Option (List DeclSyntax)
-nothing = None
+-- ---- the machine reads programs
 
--- no program that the tokens begin is lower
-pub none_lower : (tokens more : List Token) (ds : List DeclSyntax) → IsProgram (tokens ++ more) ds → program_least (runs program_step start tokens) ≤ program_height ds
-none_lower tokens more ds p =
-    let r = reads_as ds (tokens ++ more) p in
-    let to : ProgramState = program_into r.0 [] ds in
-    let e : runs program_step (runs program_step start tokens) more ≡ to = sym (runs_append program_step tokens more start) ∙ r.1 in
-    let finds : program_finish to ≡ Some ds = program_finds r.0 ds p.fits in
-    let ok : runs program_step (runs program_step start tokens) more ≢ NoProgram = λ h. absurd (let bad : nothing ≡ Some ds = ap program_finish (sym h ∙ e) ∙ finds in cc) in
-    let up : program_least (runs program_step start tokens) ≤ program_least (runs program_step (runs program_step start tokens) more) = run_up more (runs program_step start tokens) ok in
-    omega (arith, up, ap program_least e, found_height to ds finds)
+program_ends : (tokens : List Token) → reached machine_of_programs tokens ≢ NoProgram
+    → (more : List Token) × (ds : List DeclSyntax) × IsProgram (tokens ++ more) ds × (program_height ds ≡ program_least (reached machine_of_programs tokens))
+program_ends tokens ok =
+    let st : ProgramState = reached machine_of_programs tokens in
+    (program_ending st, program_completed st, can_go_on tokens ok, completed_height st (tokens ++ program_ending st) (program_ending st) (spells_prefix tokens (program_ending st)) ok)
+
+pub programs_read : IsReaderOf machine_of_programs IsProgram program_height
+programs_read = record { stays = λ token. refl; nothing = refl; finds = finds; found = found; completed = program_ends; up = step_up; same_height = found_height }

@@ -3,14 +3,13 @@ use Rattle.std.proofs.Common.{◌≡◌, ◌≢◌, List, [], ◌∷◌, ◌++�
 use Rattle.std.proofs.lemmas.List.{append-nil}
 use Rattle.um_syntax.specs.declared.token.Token.{Token}
 use Rattle.um_tree.specs.RawTree.{DeclSyntax}
-use Rattle.um_types.specs.Machines.{runs}
+use Rattle.um_reader.specs.Machine.{runs}
+use Rattle.um_reader.proofs.Reaching.{runs_sound}
 use Rattle.um_parse.specs.DeclGrammar.{DeclSpells, DeclsSpell, DeclFits, DeclsFit, IsProgram}
 use Rattle.um_parse.specs.DeclMachine.{DeclBegin, DeclState, Expects, HaveBase, InShort, HaveRecord, InField, InParam, InResult, InBody, NoDecl, decl_step, decl_finish, ProgramState, InProgram, NoProgram, program_goes, next_decl, program_step, program_found, program_finish}
-use Rattle.um_parse.specs.ProgramStops.{Begins}
 use Rattle.um_parse.proofs.DeclPrefixes.{DeclSpellsPrefix}
 use Rattle.um_parse.proofs.DeclSound.{decl_sound, decl_found}
 use Rattle.um_parse.proofs.DeclCompletions.{decl_ending, decl_completed, decl_can_end}
-use Rattle.um_parse.specs.ProgramStates.{start}
 
 abbrev pub ProgramSpellsPrefix : ProgramState → List Token → List Token → Type 0
 ProgramSpellsPrefix (InProgram decls d) tokens rest = (mid : List Token) × DeclsSpell decls tokens mid × DeclsFit decls × DeclSpellsPrefix d mid rest × (d ≢ NoDecl)
@@ -51,15 +50,12 @@ program_sound (InProgram decls d) x tokens rest h =
     (next_sound decls d (decl_finish d) x tokens h.0 rest h.1 h.2 h.3 refl)
 program_sound NoProgram x tokens rest h = tt
 
-runs_sound : (read : List Token) (st : ProgramState) (tokens rest : List Token) → ProgramSpellsPrefix st tokens (read ++ rest) → ProgramSpellsPrefix (runs program_step st read) tokens rest
-runs_sound [] st tokens rest h = h
-runs_sound (x ∷ read) st tokens rest h = runs_sound read (program_step st x) tokens rest (program_sound st x tokens (read ++ rest) h)
 
 begin_on : Expects DeclBegin ≢ NoDecl
 begin_on e = cc
 
-pub spells_prefix : (read rest : List Token) → ProgramSpellsPrefix (runs program_step start read) (read ++ rest) rest
-spells_prefix read rest = runs_sound read start (read ++ rest) rest (read ++ rest, refl, tt, (refl, tt), begin_on)
+pub spells_prefix : (read rest : List Token) → ProgramSpellsPrefix (runs program_step (InProgram [] (Expects DeclBegin)) read) (read ++ rest) rest
+spells_prefix read rest = runs_sound program_step ProgramSpellsPrefix program_sound read (InProgram [] (Expects DeclBegin)) (read ++ rest) rest (read ++ rest, refl, tt, (refl, tt), begin_on)
 
 -- ---- what can follow
 
@@ -78,16 +74,13 @@ program_can_end (InProgram decls d) tokens rest h ok =
 program_can_end NoProgram tokens rest h ok = absurd (ok refl)
 
 -- what isn't refused can be completed to a program
-pub can_go_on : (read : List Token) → runs program_step start read ≢ NoProgram
-    → IsProgram (read ++ program_ending (runs program_step start read)) (program_completed (runs program_step start read))
+pub can_go_on : (read : List Token) → runs program_step (InProgram [] (Expects DeclBegin)) read ≢ NoProgram
+    → IsProgram (read ++ program_ending (runs program_step (InProgram [] (Expects DeclBegin)) read)) (program_completed (runs program_step (InProgram [] (Expects DeclBegin)) read))
 can_go_on read ok =
-    let st : ProgramState = runs program_step start read in
+    let st : ProgramState = runs program_step (InProgram [] (Expects DeclBegin)) read in
     let more : List Token = program_ending st in
     let p = program_can_end st (read ++ more) [] (subst (λ w. ProgramSpellsPrefix st (read ++ more) w) (sym (append-nil more)) (spells_prefix read more)) ok in
     record { spelled = p.0; fits = p.1 }
-
-pub begins : (read : List Token) → runs program_step start read ≢ NoProgram → Begins read
-begins read ok = (program_ending (runs program_step start read), program_completed (runs program_step start read), can_go_on read ok)
 
 -- ---- what is found
 
@@ -118,7 +111,7 @@ program_is (InProgram decls (Expects _)) ds tokens rest h e = absurd cc
 program_is NoProgram ds tokens rest h e = absurd cc
 
 -- what is found is a program
-pub found : (tokens : List Token) (ds : List DeclSyntax) → program_finish (runs program_step start tokens) ≡ Some ds → IsProgram tokens ds
+pub found : (tokens : List Token) (ds : List DeclSyntax) → program_finish (runs program_step (InProgram [] (Expects DeclBegin)) tokens) ≡ Some ds → IsProgram tokens ds
 found tokens ds e =
-    let p = program_is (runs program_step start tokens) ds tokens [] (subst (λ w. ProgramSpellsPrefix (runs program_step start tokens) w []) (append-nil tokens) (spells_prefix tokens [])) e in
+    let p = program_is (runs program_step (InProgram [] (Expects DeclBegin)) tokens) ds tokens [] (subst (λ w. ProgramSpellsPrefix (runs program_step (InProgram [] (Expects DeclBegin)) tokens) w []) (append-nil tokens) (spells_prefix tokens [])) e in
     record { spelled = p.0; fits = p.1 }

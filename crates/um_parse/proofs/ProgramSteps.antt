@@ -4,8 +4,8 @@ use Rattle.std.proofs.lemmas.List.{take_more}
 use Rattle.um_syntax.specs.declared.token.Token.{Token}
 use Rattle.um_tree.specs.declared.raw.RawDecl.{RawDecl}
 use Rattle.um_tree.specs.RawTree.{DeclSyntax, decl_syntax}
-use Rattle.um_types.specs.Machines.{runs}
-use Rattle.um_types.proofs.Reaching.{runs_append}
+use Rattle.um_reader.specs.Machine.{runs}
+use Rattle.um_reader.proofs.Reaching.{runs_append}
 use Rattle.um_types.specs.UnitStops.{greatest_height}
 use Rattle.um_parse.specs.DeclMachine.{DeclBegin, AttributeWord, AttributeGreater, AttributeClose, MeasureType, MeasureName, RecordName, RecordVars, VarBegin, VarWord, VarGreater, VarClose, VarName, VarEnd, RecordEqual, RecordBrace, FieldName, FieldColon, LetName, RecName, FunctionVars, Params, ParamBinder, ParamColon, DeclState, Expects, HaveBase, InShort, HaveRecord, InField, InParam, InResult, InBody, NoDecl, decl_finish, ProgramState, InProgram, NoProgram, program_goes, program_step, program_found, program_finish}
 use Rattle.um_parse.specs.ProgramHeights.{decl_height, program_height}
@@ -53,19 +53,6 @@ decls_last (c ∷ decls) d = let e = decls_last decls d in omega (arith, e)
 pub decl_texts_last : (decls : List RawDecl) (d : RawDecl) → map decl_syntax (decls ++ d ∷ []) ≡ map decl_syntax decls ++ decl_syntax d ∷ []
 decl_texts_last [] d = refl
 decl_texts_last (c ∷ decls) d = ap (λ ds. decl_syntax c ∷ ds) (decl_texts_last decls d)
-
--- ---- the loop
-
-pub one_more : (tokens : List Token) (i : ℕ) (token : Token) (st : ProgramState) → i < length tokens → get_or tokens i token ≡ token → st ≡ state_at tokens i → program_step st token ≡ state_at tokens (i + 1)
-one_more tokens i token st lt same e =
-    ap (λ s. program_step s token) e
-    ∙ sym (ap (λ ts. runs program_step start ts) (take_more tokens i token lt ∙ ap (λ t. take i tokens ++ t ∷ []) same) ∙ runs_append program_step (take i tokens) (token ∷ []) start)
-
-pub program_on_reader : (decls : List RawDecl) (reader : DeclReader) → program_state decls reader ≢ NoProgram
-program_on_reader decls reader e = cc
-
-pub is_read_to : (tokens : List Token) (i : ℕ) (decls : List RawDecl) (reader : DeclReader) → i ≤ length tokens → program_state decls reader ≡ state_at tokens i → program_least (state_at tokens i) ≤ greatest_height → IsReadTo tokens i
-is_read_to tokens i decls reader le e low = (le, (λ h. program_on_reader decls reader (e ∙ h)), low)
 
 -- ---- the end
 

@@ -216,6 +216,14 @@ decl_act NoDecl w p glued k = NoDecl
 abbrev pub decl_step : DeclState → Token → DeclState
 decl_step state token = decl_act state (expr_token token.kind) token.start token.glued token.kind
 
+-- one token more, which the type has refused, if one has begun
+abbrev pub own_step : DeclState → Token → DeclState
+own_step (InField at x vs fs place y s) token =
+    field_ends at x vs fs place y (type_finish s) (expr_token token.kind)
+own_step (InParam head ps b s) token = param_ends head ps b (type_finish s) (expr_token token.kind)
+own_step (InResult head ps s) token = result_ends head ps (type_finish s) (expr_token token.kind)
+own_step st token = decl_step st token
+
 -- the declaration where all is read
 abbrev pub short_found : ℕ → List ℕ → Option UnitSyntax → Option DeclSyntax
 short_found at x None = None

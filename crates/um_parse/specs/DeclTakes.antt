@@ -1,25 +1,25 @@
--- What one token more gives while a declaration is read.
+-- The states of readers of declarations and of programs.
 -- Source: this project's own.
-use Rattle.std.specs.Prelude.{◌≡◌, ◌≢◌, ◌<◌, Option, option_map}
-use Rattle.um_tree.specs.RawTree.{DeclSyntax, decl_syntax, binder_syntax, written_type}
+use Rattle.std.specs.Prelude.{◌≡◌, ◌≤◌, map, Some}
+use Rattle.um_tree.specs.RawTree.{TypeSyntax, decl_syntax, binder_syntax, written_type}
 use Rattle.um_types.specs.UnitStops.{greatest_height}
-use Rattle.um_types.specs.UnitTakes.{unit_state}
-use Rattle.um_types.specs.TypeTakes.{type_state}
+use Rattle.um_types.specs.UnitView.{unit_state}
+use Rattle.um_types.specs.TypeView.{type_state}
+use Rattle.um_types.specs.TypeHeights.{whole_height}
+use Rattle.um_types.specs.TypeMachine.{type_finish}
+use Rattle.um_expr.specs.ExprStates.{expr_state}
 use Rattle.um_parse.specs.DeclMachine.{DeclState, Expects, HaveBase, InShort, HaveRecord, InField, InParam, InResult}
-use Rattle.um_parse.specs.DeclMachine.{InBody, NoDecl}
-use Rattle.um_parse.specs.ProgramLeast.{decl_least}
-use Rattle.um_expr.specs.ExprTakes.{expr_state}
+use Rattle.um_parse.specs.DeclMachine.{InBody, ProgramState, InProgram}
 use Rattle.um_parse.specs.DeclViews.{head_vars, read_fields, start_in, read_params, view_expected}
 use Rattle.um_parse.specs.declared.decl_reader.DeclReader.{DeclReader}
 use Rattle.um_parse.specs.declared.decl_reader.DeclReader.TheVariants as reader
-use Rattle.um_parse.specs.declared.decl_reader.DeclStep.{DeclStep}
-use Rattle.um_parse.specs.declared.decl_reader.DeclStep.TheVariants as step
+use Rattle.um_parse.specs.declared.program_reader.ProgramReader.{ProgramReader}
 
--- the state of a reader
+-- the state of a reader of a declaration
 abbrev pub reader_state : DeclReader → DeclState
 reader_state (reader.At p) = Expects (view_expected p)
 reader_state (reader.Base at x) = HaveBase at x
-reader_state (reader.Short s) = InShort s.at s.name (unit_state s.unit)
+reader_state (reader.Short at x u) = InShort at x (unit_state u)
 reader_state (reader.Record f) = HaveRecord f.head.at f.head.name (head_vars f.head) (read_fields f)
 reader_state (reader.Field f p y t) =
     InField f.head.at f.head.name (head_vars f.head) (read_fields f) p y (type_state t)
@@ -28,9 +28,13 @@ reader_state (reader.Result f t) = InResult (start_in f) (read_params f) (type_s
 reader_state (reader.Body h e) =
     InBody (start_in h.prefix) (read_params h.prefix) (written_type h.result) (expr_state e)
 
--- The next state; or that it is too high; or, where the token is refused, the declaration before it, if one stands
--- there.
-abbrev pub DeclTakes : Option DeclSyntax → DeclState → DeclStep → Type 0
-DeclTakes found new (step.Goes r) = new ≡ reader_state r
-DeclTakes found new step.High = (new ≢ NoDecl) × (greatest_height < decl_least new)
-DeclTakes found new (step.Stops t) = (new ≡ NoDecl) × (option_map decl_syntax t ≡ found)
+-- what the type is that ends here, if one has begun, isn't too high
+abbrev pub IsLow : DeclState → Type 0
+IsLow (InField at x vs fs place y s) = (t : TypeSyntax) → type_finish s ≡ Some t → whole_height t ≤ greatest_height
+IsLow (InParam head ps b s) = (t : TypeSyntax) → type_finish s ≡ Some t → whole_height t ≤ greatest_height
+IsLow (InResult head ps s) = (t : TypeSyntax) → type_finish s ≡ Some t → whole_height t ≤ greatest_height
+IsLow st = Unit {0}
+
+-- the state of a reader of a program
+abbrev pub program_state : ProgramReader → ProgramState
+program_state r = InProgram (map decl_syntax r.decls.items) (reader_state r.last)

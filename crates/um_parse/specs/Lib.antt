@@ -10,7 +10,5 @@ pub mod DeclMachine
 pub mod DeclViews
 pub mod DeclTakes
 pub mod ProgramLeast
-pub mod ProgramStates
-pub mod ProgramReads
 pub mod ProgramNodes
 pub mod LimitsPassed

@@ -1,6 +1,9 @@
 -- The least height of a program that begins with what was read; a part that is missing counts 1.
 -- Source: this project's own.
-use Rattle.std.specs.Prelude.{ℕ, max}
+use Rattle.std.specs.Prelude.{ℕ, max, List, []}
+use Rattle.um_syntax.specs.declared.token.Token.{Token}
+use Rattle.um_reader.specs.Machine.{Machine}
+use Rattle.um_tree.specs.RawTree.{DeclSyntax}
 use Rattle.um_types.specs.UnitLeast.{least}
 use Rattle.um_types.specs.TypeMachine.{type_least}
 use Rattle.um_expr.specs.ExprLeast.{whole_least}
@@ -9,6 +12,7 @@ use Rattle.um_parse.specs.DeclMachine.{DeclExpected, DeclBegin, AttributeWord, A
 use Rattle.um_parse.specs.DeclMachine.{MeasureType, MeasureName, FieldName, FieldColon, Params, ParamBinder}
 use Rattle.um_parse.specs.DeclMachine.{ParamColon, DeclState, Expects, HaveBase, InShort, HaveRecord, InField}
 use Rattle.um_parse.specs.DeclMachine.{InParam, InResult, InBody, NoDecl, ProgramState, InProgram, NoProgram}
+use Rattle.um_parse.specs.DeclMachine.{decl_step, decl_finish, program_step, program_finish}
 
 -- a measure has no height; a record has a field, and a function a body
 abbrev pub expected_least : DeclExpected → ℕ
@@ -39,3 +43,18 @@ decl_least NoDecl = 0
 abbrev pub program_least : ProgramState → ℕ
 program_least (InProgram decls d) = max (program_height decls) (decl_least d)
 program_least NoProgram = 0
+
+-- the machine of declarations; of programs
+abbrev pub machine_of_declarations : Machine DeclState Token DeclSyntax
+machine_of_declarations =
+    record { start = Expects DeclBegin; refused = NoDecl; step = decl_step; finish = decl_finish; least = decl_least }
+
+abbrev pub machine_of_programs : Machine ProgramState Token (List DeclSyntax)
+machine_of_programs =
+    record {
+      start = InProgram [] (Expects DeclBegin);
+      refused = NoProgram;
+      step = program_step;
+      finish = program_finish;
+      least = program_least;
+    }

@@ -1,30 +1,38 @@
 // A declaration that is read one token at a time.
-ghost use Rattle.std.specs.Prelude.{◌≤◌};
-ghost use Rattle.um_types.specs.UnitLeast.{least};
+ghost use Rattle.std.specs.Prelude.{◌≡◌, ◌≤◌, IfOk, IfSome, None, option_map};
+ghost use Rattle.um_tree.specs.RawTree.{unit_syntax, expr_syntax, decl_syntax, record_decl_syntax, written_type};
+ghost use Rattle.um_reader.specs.Takes.{Gives, Takes};
 ghost use Rattle.um_types.specs.UnitStops.{greatest_height};
-ghost use Rattle.um_types.specs.UnitTakes.{unit_state};
+ghost use Rattle.um_parse.specs.DeclMachine.{Expects, DeclBegin, take_expected, short_found, body_found, own_step, decl_finish};
+ghost use Rattle.um_parse.specs.ProgramLeast.{decl_least, machine_of_declarations};
+ghost use Rattle.um_parse.specs.DeclViews.{head_vars, read_fields, start_in, read_params, view_expected, next_state, reached};
+ghost use Rattle.um_parse.specs.DeclTakes.{reader_state, IsLow};
 
-use crate::decl_prefix::{DeclExpected, FunctionHead, FunctionPrefix, RecordPrefix};
-use um_expr::ExprReader;
-use um_tree::{Binder, Name, RawDecl};
+use crate::decl_function::{
+    function_vars, let_name, param_binder, param_colon, param_ends, rec_name, result_ends,
+    take_params,
+};
+use crate::decl_measure::{base_after, begin, take_measure};
+use crate::decl_prefix::{DeclExpected, FunctionHead, FunctionPrefix, Next, RecordPrefix};
+use crate::decl_record::{
+    field_colon, field_ends, field_name, record_brace, record_equal, record_name, record_vars,
+};
+use crate::decl_vars::take_var;
+use std::alloc::{AllocError, Global};
+use std::mem;
+use um_expr::{ExprReader, ExprToken};
+use um_reader::{Reader, Taken};
+use um_syntax::Token;
+use um_tree::{Binder, Name, RawDecl, RawExpr, RawFunction, RawUnit};
 use um_types::{TypeReader, UnitReader};
 
-/// A measure, at its name, and its unit text that has begun, within the height.
-#[derive(Drop)]
-pub struct ShortPrefix {
-    pub at: u32,
-    pub name: Name,
-    pub unit: UnitReader,
-    ghost low: { least (unit_state unit) ≤ greatest_height },
-}
-
-/// A declaration that has begun, within the heights.
+/// A declaration that has begun.
 #[derive(Drop)]
 pub enum DeclReader {
     At(DeclExpected),
-    /// A measure, at its name, that may be whole
+    /// A measure, at its name, that may be whole; in its unit text
     Base(u32, Name),
-    Short(ShortPrefix),
+    Short(u32, Name, UnitReader),
     /// A whole record
     Record(RecordPrefix),
     /// In the type of a field, at its name; of a parameter; of a result; in a body
@@ -34,10 +42,225 @@ pub enum DeclReader {
     Body(FunctionHead, ExprReader),
 }
 
-/// What a token gives: the reader goes on; the tokens through it begin a declaration and none in which no height is above 400; or they begin none, and this is the declaration before it, if one stands there.
-#[derive(Drop)]
-pub enum DeclStep {
-    Goes(DeclReader),
-    High,
-    Stops(Option<RawDecl>),
+// The reader of what follows.
+fn reader_of(alloc: Global, next: Next) -> DeclReader
+    ensures { reader_state result ≡ next_state next }
+{
+    match next {
+        Next::At(expected) => DeclReader::At(expected),
+        Next::Base(at, name) => DeclReader::Base(at, name),
+        Next::Short(at, name) => DeclReader::Short(at, name, UnitReader::new(alloc)),
+        Next::Record(prefix) => DeclReader::Record(prefix),
+        Next::Field(prefix, at, name) => DeclReader::Field(prefix, at, name, TypeReader::new()),
+        Next::Param(prefix, binder) => DeclReader::Param(prefix, binder, TypeReader::new()),
+        Next::Result(prefix) => DeclReader::Result(prefix, TypeReader::new()),
+        Next::Body(head) => DeclReader::Body(head, ExprReader::new(alloc)),
+    }
+}
+
+// What follows a place.
+fn next_at(
+    alloc: Global,
+    expected: DeclExpected,
+    kind: ExprToken,
+    p: u32,
+) -> Result<Option<Next>, AllocError>
+    ensures { IfOk result (λ o. reached o ≡ take_expected (view_expected expected) kind p) }
+{
+    match expected {
+        DeclExpected::Begin => Ok(begin(kind, p)),
+        DeclExpected::Measure(expected) => Ok(take_measure(expected, kind, p)),
+        DeclExpected::RecordName => Ok(record_name(kind, p)),
+        DeclExpected::RecordVars(at, name) => Ok(record_vars(alloc, at, name, kind, p)),
+        DeclExpected::Var(prefix, expected) => take_var(alloc, prefix, expected, kind, p),
+        DeclExpected::RecordEqual(head) => Ok(record_equal(head, kind, p)),
+        DeclExpected::RecordBrace(head) => Ok(record_brace(alloc, head, kind, p)),
+        DeclExpected::FieldName(prefix) => Ok(field_name(prefix, kind, p)),
+        DeclExpected::FieldColon(prefix, at, name) => Ok(field_colon(prefix, at, name, kind, p)),
+        DeclExpected::LetName => Ok(let_name(kind, p)),
+        DeclExpected::RecName => Ok(rec_name(kind, p)),
+        DeclExpected::FunctionVars(recursive, at, name) => {
+            Ok(function_vars(alloc, recursive, at, name, kind, p))
+        }
+        DeclExpected::Params(prefix) => Ok(take_params(prefix, kind)),
+        DeclExpected::ParamBinder(prefix) => Ok(param_binder(prefix, kind, p)),
+        DeclExpected::ParamColon(prefix, binder) => Ok(param_colon(prefix, binder, kind, p)),
+    }
+}
+
+// An abbreviation, where its unit text was found.
+fn short_found(at: u32, name: Name, found: Option<RawUnit>) -> Option<RawDecl>
+    ensures { option_map decl_syntax result ≡ short_found at name (option_map unit_syntax found) }
+{
+    match found {
+        Some(unit) => Some(RawDecl::Short(at, name, unit)),
+        None => None,
+    }
+}
+
+// A function, where its body was found.
+fn body_found(head: FunctionHead, found: Option<RawExpr>) -> Option<RawDecl>
+    ensures { option_map decl_syntax result ≡ body_found (start_in head.prefix) (read_params head.prefix) (written_type head.result) (option_map expr_syntax found) }
+{
+    let body = match found {
+        Some(body) => body,
+        None => return None,
+    };
+    let FunctionHead { prefix, result } = head;
+    let FunctionPrefix {
+        recursive,
+        at,
+        name,
+        units,
+        params,
+    } = prefix;
+    Some(RawDecl::Function(RawFunction {
+        at,
+        name,
+        recursive,
+        units,
+        params,
+        result,
+        body,
+    }))
+}
+
+// A whole record.
+fn record_found(prefix: RecordPrefix) -> RawDecl
+    ensures { decl_syntax result ≡ record_decl_syntax prefix.head.at prefix.head.name (head_vars prefix.head) (read_fields prefix) }
+{
+    let RecordPrefix { head, fields } = prefix;
+    RawDecl::Record(head.at, head.name, head.vars, fields)
+}
+
+impl DeclReader {
+    /// No token was read yet.
+    pub fn new() -> DeclReader
+        ensures start { reader_state result ≡ Expects DeclBegin }
+    {
+        DeclReader::At(DeclExpected::Begin)
+    }
+
+    /// A declaration that nothing ends.
+    pub fn nothing() -> DeclReader
+        ensures { decl_finish (reader_state result) ≡ None }
+    {
+        DeclReader::At(DeclExpected::LetName)
+    }
+
+    /// One token more.
+    pub fn take(&mut self, alloc: Global, token: &Token) -> Result<Taken, AllocError>
+        requires low { decl_least (reader_state self.old) ≤ greatest_height }
+        ensures taken { IfOk result (λ t. Takes machine_of_declarations greatest_height (reader_state self.old) token.now t (reader_state self.new)) }
+    {
+        match self {
+            DeclReader::Body(_, body) => body.take(alloc, token),
+            DeclReader::Short(_, _, unit) => unit.take(alloc, token),
+            DeclReader::Record(_) => Ok(Taken::Stops),
+            DeclReader::At(_) => self.take_own(alloc, token),
+            DeclReader::Base(_, _) => self.take_own(alloc, token),
+            DeclReader::Field(_, _, _, ty) => match ty.take(alloc, token)? {
+                Taken::Goes => Ok(Taken::Goes),
+                Taken::Stops => self.take_own(alloc, token),
+                Taken::High => Ok(Taken::High),
+            },
+            DeclReader::Param(_, _, ty) => match ty.take(alloc, token)? {
+                Taken::Goes => Ok(Taken::Goes),
+                Taken::Stops => self.take_own(alloc, token),
+                Taken::High => Ok(Taken::High),
+            },
+            DeclReader::Result(_, ty) => match ty.take(alloc, token)? {
+                Taken::Goes => Ok(Taken::Goes),
+                Taken::Stops => self.take_own(alloc, token),
+                Taken::High => Ok(Taken::High),
+            },
+        }
+    }
+
+    // One token more, which the type has refused, if one has begun.
+    fn take_own(&mut self, alloc: Global, token: &Token) -> Result<Taken, AllocError>
+        requires low { IsLow (reader_state self.old) }
+        ensures { IfOk result (λ t. Gives machine_of_declarations greatest_height (reader_state self.old) (own_step (reader_state self.old) token.now) t (reader_state self.new)) }
+    {
+        let kind = ExprToken::of_kind(alloc, &token.kind)?;
+        if self.is_at_start() {
+            return Ok(match begin(kind, token.start) {
+                Some(next) => self.go(alloc, next),
+                None => Taken::Stops,
+            });
+        }
+        // Where the token is refused, nothing that ends is left.
+        match mem::replace(self, DeclReader::At(DeclExpected::LetName)) {
+            DeclReader::Base(at, name) => Ok(self.behind_base(alloc, at, name, kind)),
+            DeclReader::At(expected) => {
+                let next = next_at(alloc, expected, kind, token.start)?;
+                Ok(self.follow(alloc, next))
+            }
+            DeclReader::Field(prefix, at, name, ty) => {
+                let next = field_ends(prefix, at, name, ty.finish(), kind)?;
+                Ok(self.follow(alloc, next))
+            }
+            DeclReader::Param(prefix, binder, ty) => {
+                let next = param_ends(prefix, binder, ty.finish(), kind)?;
+                Ok(self.follow(alloc, next))
+            }
+            DeclReader::Result(prefix, ty) => {
+                let next = result_ends(prefix, ty.finish(), kind);
+                Ok(self.follow(alloc, next))
+            }
+            other => {
+                drop(kind);
+                drop(mem::replace(self, other));
+                Ok(Taken::Stops)
+            }
+        }
+    }
+
+    // The token behind the name of a measure, at its place.
+    fn behind_base(&mut self, alloc: Global, at: u32, name: Name, kind: ExprToken) -> Taken {
+        if base_after(kind) {
+            self.go(alloc, Next::Short(at, name))
+        } else {
+            drop(mem::replace(self, DeclReader::Base(at, name)));
+            Taken::Stops
+        }
+    }
+
+    // What follows is read, or the token is refused.
+    fn follow(&mut self, alloc: Global, next: Option<Next>) -> Taken {
+        match next {
+            Some(next) => self.go(alloc, next),
+            None => Taken::Stops,
+        }
+    }
+
+    // What follows is read.
+    fn go(&mut self, alloc: Global, next: Next) -> Taken {
+        drop(mem::replace(self, reader_of(alloc, next)));
+        Taken::Goes
+    }
+
+    /// Whether no token was read.
+    pub fn is_at_start(&self) -> bool {
+        match self {
+            DeclReader::At(DeclExpected::Begin) => true,
+            _ => false,
+        }
+    }
+
+    /// The declaration where all is read, if it is one.
+    pub fn finish(self, alloc: Global) -> Result<Option<RawDecl>, AllocError>
+        ensures found { IfOk result (λ o. option_map decl_syntax o ≡ decl_finish (reader_state self)) }
+    {
+        match self {
+            DeclReader::Base(at, name) => Ok(Some(RawDecl::Base(at, name))),
+            DeclReader::Short(at, name, unit) => Ok(short_found(at, name, unit.finish(alloc)?)),
+            DeclReader::Record(prefix) => Ok(Some(record_found(prefix))),
+            DeclReader::Body(head, body) => Ok(body_found(head, body.finish(alloc)?)),
+            other => {
+                drop(other);
+                Ok(None)
+            }
+        }
+    }
 }

@@ -6,12 +6,11 @@ mod decl_measure;
 mod decl_prefix;
 mod decl_reader;
 mod decl_record;
-mod decl_step;
 mod decl_vars;
 pub mod laws;
 mod limits;
-mod program_loop;
 mod program_parse;
+mod program_reader;
 
 pub use program_parse::parse;
 pub use um_types::{LimitKind, ParseStop, parse_types, parse_unit};

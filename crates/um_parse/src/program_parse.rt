@@ -1,11 +1,11 @@
 // Parsing a program, with the places of its refusals in the text.
 ghost use Rattle.std.specs.Prelude.{◌≤◌, length};
-ghost use Rattle.um_parse.specs.ProgramReads.{ProgramAnswers};
 ghost use Rattle.um_parse.specs.Parsed.{Parsed};
 
 use crate::limits::first_passed;
-use crate::program_loop::{ProgramStop, read_program};
+use crate::program_reader::ProgramReader;
 use std::alloc::Global;
+use um_reader::{ReadStop, read_all};
 use um_syntax::Token;
 use um_tree::RawProgram;
 use um_types::{LimitKind, ParseStop, place};
@@ -29,20 +29,20 @@ pub fn parse(alloc: Global, tokens: &[Token], end: u32) -> Result<RawProgram, Pa
     requires text { length tokens.now ≤ end }
     ensures parsed { Parsed tokens.now end result }
 {
-    let program = match read_program(alloc, tokens) {
+    let program = match read_all::<ProgramReader>(alloc, tokens) {
         Ok(program) => program,
-        Err(ProgramStop::Syntax(k)) => {
+        Err(ReadStop::Syntax(k)) => {
             return Err(ParseStop::Syntax {
                 at: place(tokens, k, end),
             });
         }
-        Err(ProgramStop::High(k)) => {
+        Err(ReadStop::High(k)) => {
             return Err(ParseStop::Limit {
                 kind: LimitKind::Height,
                 at: place(tokens, k, end),
             });
         }
-        Err(ProgramStop::NoMemory) => return Err(ParseStop::NoMemory),
+        Err(ReadStop::NoMemory) => return Err(ParseStop::NoMemory),
     };
     match first_passed(&program.items) {
         Some(passed) => Err(ParseStop::Limit {

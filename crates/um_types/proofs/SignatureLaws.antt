@@ -8,12 +8,12 @@ use Rattle.um_syntax.specs.declared.vocabulary.Symbol.TheVariants as symbol
 use Rattle.um_tree.specs.RawTree.{TypeSyntax}
 use Rattle.um_types.specs.TypeGrammar.{FirstSign, TypeSpells, TypeFits}
 use Rattle.um_types.specs.TypeHeights.{whole_height, all_height}
-use Rattle.um_types.specs.SignatureGrammar.{TypesSpell, TypesFit, IsSignature, BeginsSignature, BeginsSignatureWithin}
-use Rattle.um_types.specs.Machines.{runs, Reaches}
+use Rattle.um_types.specs.SignatureGrammar.{TypesSpell, TypesFit, IsSignature}
+use Rattle.um_reader.specs.Machine.{Reaches, IsReaderOf}
 use Rattle.um_types.specs.NoteMachine.{NoteState}
 use Rattle.um_types.specs.TypeMachine.{Owner, TypeState, NeedType, HaveType, InNote, NoType, type_after, type_step, type_finish}
-use Rattle.um_types.specs.SignatureMachine.{SignatureState, InType, NoSignature, type_end, type_ends, type_goes, signature_step, typed, signature_finish, signature_least, start, read_all}
-use Rattle.um_types.proofs.Reaching.{runs_append, runs_refused, reaches_one, reaches_then, reaches_inside, reaches_all}
+use Rattle.um_types.specs.SignatureMachine.{SignatureState, InType, NoSignature, type_end, type_ends, type_goes, signature_step, typed, signature_finish, signature_least, start, machine_of_signatures, read_all}
+use Rattle.um_reader.proofs.Reaching.{reaches_one, reaches_then, reaches_inside, reaches_all, runs_sound}
 use Rattle.um_types.proofs.TypeComplete.{type_reaches}
 use Rattle.um_types.proofs.TypeSound.{TypeSpellsPrefix, type_sound, type_found}
 use Rattle.um_types.proofs.TypeLaws.{type_ending, type_completed, type_can_end, type_completed_height, type_up, type_found_height}
@@ -28,10 +28,10 @@ abbrev signature_into : List TypeSyntax → TypeSyntax → List TypeSyntax → S
 signature_into earlier t [] = InType earlier (HaveType 0 t)
 signature_into earlier t (u ∷ us) = signature_into (earlier ++ t ∷ []) u us
 
-in_type : (earlier : List TypeSyntax) (s : TypeState) → InType earlier s ≢ NoSignature
+pub in_type : (earlier : List TypeSyntax) (s : TypeState) → InType earlier s ≢ NoSignature
 in_type earlier s e = cc
 
-type_goes_on : (earlier : List TypeSyntax) (s : TypeState) (ended : SignatureState) → s ≢ NoType → type_goes earlier s ended ≡ InType earlier s
+pub type_goes_on : (earlier : List TypeSyntax) (s : TypeState) (ended : SignatureState) → s ≢ NoType → type_goes earlier s ended ≡ InType earlier s
 type_goes_on earlier (NeedType depth) ended ok = refl
 type_goes_on earlier (HaveType depth t) ended ok = refl
 type_goes_on earlier (InNote depth owner n) ended ok = refl
@@ -70,29 +70,10 @@ into_finds [] t earlier = refl
 into_finds (u ∷ us) t earlier = into_finds us u (earlier ++ t ∷ []) ∙ ap (λ w. Some w) (append_assoc earlier (t ∷ []) (u ∷ us))
 
 -- a signature text is read as it
-pub finds_signature : (tokens : List Token) (ts : List TypeSyntax) → IsSignature tokens ts → signature_finish (read_all tokens) ≡ Some ts
+finds_signature : (tokens : List Token) (ts : List TypeSyntax) → IsSignature tokens ts → signature_finish (read_all tokens) ≡ Some ts
 finds_signature tokens [] p = absurd p.spelled
 finds_signature tokens (t ∷ ts) p =
     ap signature_finish (reaches_all signature_step NoSignature start (signature_into [] t ts) tokens (types_reach ts t [] tokens [] p.spelled p.fits)) ∙ into_finds ts t []
-
-pub one_signature : (tokens : List Token) (ts us : List TypeSyntax) → IsSignature tokens ts → IsSignature tokens us → ts ≡ us
-one_signature tokens ts us p q = let e : Some ts ≡ Some us = sym (finds_signature tokens ts p) ∙ finds_signature tokens us q in cc
-
-abbrev no_types : Option (List TypeSyntax)
-no_types = None
-
-read_more : (tokens more : List Token) → read_all (tokens ++ more) ≡ runs signature_step (read_all tokens) more
-read_more tokens more = runs_append signature_step tokens more start
-
-refused_stays : (tokens : List Token) → runs signature_step NoSignature tokens ≡ NoSignature
-refused_stays tokens = runs_refused signature_step NoSignature (λ x. refl) tokens
-
--- what was refused begins no signature text
-pub none_begins_signature : (tokens : List Token) → read_all tokens ≡ NoSignature → BeginsSignature tokens → ⊥
-none_begins_signature tokens e b =
-    let gone : read_all (tokens ++ b.0) ≡ NoSignature = read_more tokens b.0 ∙ ap (λ s. runs signature_step s b.0) e ∙ refused_stays b.0 in
-    let bad : no_types ≡ Some b.1 = sym (ap signature_finish gone) ∙ finds_signature (tokens ++ b.0) b.1 b.2 in
-    cc
 
 -- ---- what was read stands
 
@@ -153,12 +134,8 @@ signature_sound (InType earlier s) x tokens rest h =
     (ends_sound earlier s (type_finish s) x tokens rest h refl)
 signature_sound NoSignature x tokens rest h = tt
 
-run_sound : (read : List Token) (st : SignatureState) (tokens rest : List Token) → SignatureSpellsPrefix st tokens (read ++ rest) → SignatureSpellsPrefix (runs signature_step st read) tokens rest
-run_sound [] st tokens rest h = h
-run_sound (x ∷ read) st tokens rest h = run_sound read (signature_step st x) tokens rest (signature_sound st x tokens (read ++ rest) h)
-
 spells_prefix : (read rest : List Token) → SignatureSpellsPrefix (read_all read) (read ++ rest) rest
-spells_prefix read rest = run_sound read start (read ++ rest) rest (read ++ rest, refl, tt, refl, need_is 0)
+spells_prefix read rest = runs_sound signature_step SignatureSpellsPrefix signature_sound read start (read ++ rest) rest (read ++ rest, refl, tt, refl, need_is 0)
 
 typed_is : (earlier : List TypeSyntax) (o : Option TypeSyntax) (ts : List TypeSyntax) → typed earlier o ≡ Some ts → (t : TypeSyntax) × (o ≡ Some t) × (earlier ++ t ∷ [] ≡ ts)
 typed_is earlier (Some t) ts e = (t, refl, cc)
@@ -172,7 +149,7 @@ is_signature (InType earlier s) ts tokens h e =
 is_signature NoSignature ts tokens h e = absurd cc
 
 -- what is found is a signature text
-pub found_signature : (tokens : List Token) (ts : List TypeSyntax) → signature_finish (read_all tokens) ≡ Some ts → IsSignature tokens ts
+found_signature : (tokens : List Token) (ts : List TypeSyntax) → signature_finish (read_all tokens) ≡ Some ts → IsSignature tokens ts
 found_signature tokens ts e = is_signature (read_all tokens) ts tokens (subst (λ w. SignatureSpellsPrefix (read_all tokens) w []) (append-nil tokens) (spells_prefix tokens [])) e
 
 -- ---- what can follow
@@ -191,9 +168,6 @@ can_end (InType earlier s) tokens h ok =
     record { spelled = types_last earlier (type_completed s) tokens h.0 [] h.1 p.0; fits = fits_last earlier (type_completed s) h.2 p.1 }
 can_end NoSignature tokens h ok = absurd (ok refl)
 
-pub begins_signature : (read : List Token) → read_all read ≢ NoSignature → BeginsSignature read
-begins_signature read ok = (ending (read_all read), completed (read_all read), can_end (read_all read) (read ++ ending (read_all read)) (spells_prefix read (ending (read_all read))) ok)
-
 -- ---- the least height
 
 all_height_last : (earlier : List TypeSyntax) (t : TypeSyntax) → all_height (earlier ++ t ∷ []) ≡ max (all_height earlier) (whole_height t)
@@ -204,16 +178,6 @@ completed_height : (st : SignatureState) (tokens rest : List Token) → Signatur
 completed_height (InType earlier s) tokens rest h ok =
     let e = all_height_last earlier (type_completed s) in let same = type_completed_height s h.0 rest h.3 h.4 in omega (arith, e, same)
 completed_height NoSignature tokens rest h ok = absurd (ok refl)
-
--- a signature text of the least height begins so
-pub begins_signature_within : (read : List Token) (limit : ℕ) → read_all read ≢ NoSignature → signature_least (read_all read) ≤ limit → BeginsSignatureWithin limit read
-begins_signature_within read limit ok le =
-    let same = completed_height (read_all read) (read ++ ending (read_all read)) (ending (read_all read)) (spells_prefix read (ending (read_all read))) ok in (
-      ending (read_all read),
-      completed (read_all read),
-      can_end (read_all read) (read ++ ending (read_all read)) (spells_prefix read (ending (read_all read))) ok,
-      omega (arith, le, same),
-    )
 
 end_up : (earlier : List TypeSyntax) (t : TypeSyntax) (what : Kind) → type_end earlier t what ≢ NoSignature → max (all_height earlier) (whole_height t) ≤ signature_least (type_end earlier t what)
 end_up earlier t (kind.Sign symbol.Arrow) ok = let e = all_height_last earlier t in omega (arith, e)
@@ -241,15 +205,8 @@ signature_up (InType earlier s) x ok =
     (λ ends. ends_up earlier s (type_finish s) x.kind refl ends)
 signature_up NoSignature x ok = absurd (ok refl)
 
-run_up : (tokens : List Token) (st : SignatureState) → runs signature_step st tokens ≢ NoSignature → signature_least st ≤ signature_least (runs signature_step st tokens)
-run_up [] st ok = omega arith
-run_up (x ∷ tokens) st ok =
-    let next : SignatureState = signature_step st x in
-    let goes : next ≢ NoSignature = λ e. ok (ap (λ s. runs signature_step s tokens) e ∙ refused_stays tokens) in
-    omega (arith, signature_up st x goes, run_up tokens next ok)
-
 -- what is found has it
-pub signature_found_height : (st : SignatureState) (ts : List TypeSyntax) → signature_finish st ≡ Some ts → all_height ts ≡ signature_least st
+signature_found_height : (st : SignatureState) (ts : List TypeSyntax) → signature_finish st ≡ Some ts → all_height ts ≡ signature_least st
 signature_found_height (InType earlier s) ts e =
     let w = typed_is earlier (type_finish s) ts e in
     let same = type_found_height s w.0 w.1 in
@@ -257,9 +214,21 @@ signature_found_height (InType earlier s) ts e =
     ap all_height (sym w.2) ∙ omega (arith, same, last)
 signature_found_height NoSignature ts e = absurd cc
 
--- no signature text that the tokens begin is lower
-pub none_lower_signature : (tokens more : List Token) (ts : List TypeSyntax) → IsSignature (tokens ++ more) ts → signature_least (read_all tokens) ≤ all_height ts
-none_lower_signature tokens more ts p =
-    let e : signature_finish (runs signature_step (read_all tokens) more) ≡ Some ts = ap signature_finish (sym (read_more tokens more)) ∙ finds_signature (tokens ++ more) ts p in
-    let ok : runs signature_step (read_all tokens) more ≢ NoSignature = λ h. let bad : no_types ≡ Some ts = sym (ap signature_finish h) ∙ e in cc in
-    omega (arith, run_up more (read_all tokens) ok, signature_found_height (runs signature_step (read_all tokens) more) ts e)
+-- ---- the machine reads signature texts
+
+ends : (tokens : List Token) → read_all tokens ≢ NoSignature → (more : List Token) × (ts : List TypeSyntax) × IsSignature (tokens ++ more) ts × (all_height ts ≡ signature_least (read_all tokens))
+ends tokens ok =
+    let st = read_all tokens in
+    let prefix = spells_prefix tokens (ending st) in
+    (ending st, completed st, can_end st (tokens ++ ending st) prefix ok, completed_height st (tokens ++ ending st) (ending st) prefix ok)
+
+pub signatures_read : IsReaderOf machine_of_signatures IsSignature all_height
+signatures_read = record {
+  stays = λ token. refl;
+  nothing = refl;
+  finds = finds_signature;
+  found = found_signature;
+  completed = ends;
+  up = signature_up;
+  same_height = signature_found_height;
+}

@@ -9,10 +9,10 @@ use Rattle.um_syntax.specs.declared.vocabulary.Symbol.TheVariants as symbol
 use Rattle.um_tree.specs.RawTree.{NoteSyntax, TypeSyntax, bool_syntax, num_syntax, record_syntax, list_type_syntax, bracket_type_syntax}
 use Rattle.um_types.specs.UnitTokens.{unit_token}
 use Rattle.um_types.specs.TypeGrammar.{FirstKind, FirstSign, NoteSpells, NotesSpell, AngledSpell, TypeSpells, NoteFits, NotesFit, TypeFits, at_most_one}
-use Rattle.um_types.specs.Machines.{Reaches}
+use Rattle.um_reader.specs.Machine.{Reaches}
 use Rattle.um_types.specs.NoteMachine.{NoteState, NeedNote, HaveHole, InUnit, NoNote, note_step, note_finish}
 use Rattle.um_types.specs.TypeMachine.{Owner, OfNum, OfName, TypeState, NeedType, HaveType, InNote, NoType, type_begin, type_after, note_end, note_ends, note_goes, type_act, type_step}
-use Rattle.um_types.proofs.Reaching.{reaches_one, reaches_then, reaches_inside}
+use Rattle.um_reader.proofs.Reaching.{reaches_one, reaches_then, reaches_inside}
 use Rattle.um_types.proofs.ForeignTokens.{is_foreign}
 use Rattle.um_types.proofs.NoteComplete.{note_into, note_reaches, note_finds, note_stops}
 
@@ -59,7 +59,7 @@ ends_with depth owner n what new tokens rest fits f other step ok =
 
 -- ---- notes
 
-note_goes_on : (depth : ℕ) (owner : Owner) (n : NoteState) (ended : TypeState) → n ≢ NoNote → note_goes depth owner n ended ≡ InNote depth owner n
+pub note_goes_on : (depth : ℕ) (owner : Owner) (n : NoteState) (ended : TypeState) → n ≢ NoNote → note_goes depth owner n ended ≡ InNote depth owner n
 note_goes_on depth owner NeedNote ended ok = refl
 note_goes_on depth owner (HaveHole at) ended ok = refl
 note_goes_on depth owner (InUnit at u) ended ok = refl

@@ -1,15 +1,13 @@
--- The least height of a unit text that the tokens begin: it is reached, and none is lower.
+-- The least height of a unit text that the tokens begin: it is reached, no token lowers it, and what is found has it.
 use Rattle.std.proofs.Common.{◌≡◌, ◌≢◌, ℕ, ◌+◌, ◌≤◌, max, List, [], ◌∷◌, ◌++◌, cond, Bool, true, false, Some, refl, sym, ap, subst, ◌∙◌, arith}
 use Rattle.um_syntax.specs.declared.token.Token.{Token}
 use Rattle.um_tree.specs.RawTree.{UnitSyntax, one_syntax, measure_syntax, variable_syntax, power_syntax, side_syntax, times_syntax, over_syntax, inverse_syntax, bracket_syntax, units_in_order}
 use Rattle.um_tree.specs.Heights.{unit_height, tallest_unit}
 use Rattle.um_types.specs.UnitTokens.{UnitToken, sign, measure, variable, number, unit_token}
 use Rattle.um_syntax.specs.declared.vocabulary.Symbol.TheVariants as symbol
-use Rattle.um_types.specs.UnitGrammar.{IsUnit, BeginsWithin}
-use Rattle.um_types.specs.UnitMachine.{Frame, InBracket, InInverse, InTimes, InOver, InSide, State, Need, Have, Raised, Lowered, Refused, opens, reduce, juxtapose, begin, times_after, over_after, close_after, raise, after, raised, lowered, act, run, whole, finish}
+use Rattle.um_types.specs.UnitMachine.{Frame, InBracket, InInverse, InTimes, InOver, InSide, State, Need, Have, Raised, Lowered, Refused, opens, reduce, juxtapose, begin, times_after, over_after, close_after, raise, after, raised, lowered, act, whole, unit_step, finish}
 use Rattle.um_types.specs.UnitLeast.{side, least_over, least}
-use Rattle.um_types.proofs.UnitComplete.{into, red, red_into, IsAtOperand, into_operand}
-use Rattle.um_types.proofs.UnitLaws.{filled, all_filled, ending_of, completed, can_go_on, run_append, run_refused, reads_as}
+use Rattle.um_types.proofs.UnitLaws.{filled, all_filled, completed}
 
 tallest_last : (earlier : List UnitSyntax) (t : UnitSyntax) → tallest_unit (units_in_order (earlier ++ t ∷ [])) ≡ max (tallest_unit (units_in_order earlier)) (unit_height t)
 tallest_last [] t = omega arith
@@ -32,13 +30,6 @@ completed_height (Have frames t) ok = height_all_filled frames t
 completed_height (Raised frames t) ok = height_all_filled frames (power_syntax t _)
 completed_height (Lowered frames t) ok = height_all_filled frames (power_syntax t _)
 completed_height Refused ok = absurd (ok refl)
-
--- a unit text of the least height begins so
-pub begins_within : (read : List Token) (limit : ℕ) → run (Need []) read ≢ Refused → least (run (Need []) read) ≤ limit → BeginsWithin limit read
-begins_within read limit ok le =
-    (ending_of (run (Need []) read), completed (run (Need []) read), can_go_on read ok, omega (arith, le, completed_height (run (Need []) read) ok))
-
--- ---- a token never lowers it
 
 least_up : (frames : List Frame) (h k : ℕ) → h ≤ k → least_over frames h ≤ least_over frames k
 least_up [] h k le = le
@@ -171,35 +162,9 @@ above_least n (Raised frames t) ok h = h
 above_least n (Lowered frames t) ok h = h
 above_least n Refused ok h = absurd (ok refl)
 
-pub run_up : (tokens : List Token) (st : State) → run st tokens ≢ Refused → least st ≤ least (run st tokens)
-run_up [] st ok = omega arith
-run_up (token ∷ tokens) st ok =
-    let next : State = act st (unit_token token.kind) token.start in
-    let goes : next ≢ Refused = λ e. ok (ap (λ s. run s tokens) e ∙ run_refused tokens) in
-    omega (arith, above_least (least st) next goes (act_up st (unit_token token.kind) token.start), run_up tokens next ok)
-
-operand_least : (st : State) → IsAtOperand st → least (red st) ≡ least st
-operand_least (Have frames t) h = reduce_least frames t
-operand_least (Need frames) h = absurd h
-operand_least (Raised frames t) h = absurd h
-operand_least (Lowered frames t) h = absurd h
-operand_least Refused h = absurd h
-
-operand_reads : (st : State) → IsAtOperand st → st ≢ Refused
-operand_reads (Have frames t) h e = cc
-operand_reads (Need frames) h e = absurd h
-operand_reads (Raised frames t) h e = absurd h
-operand_reads (Lowered frames t) h e = absurd h
-operand_reads Refused h e = absurd h
-
--- no unit text that the tokens begin is lower
-pub none_lower : (tokens more : List Token) (t : UnitSyntax) → IsUnit (tokens ++ more) t → least (run (Need []) tokens) ≤ unit_height t
-none_lower tokens more t p =
-    let focus = into_operand t [] p.fits in
-    let e : run (run (Need []) tokens) more ≡ into [] t = sym (run_append tokens more (Need [])) ∙ reads_as t (tokens ++ more) p in
-    let up : least (run (Need []) tokens) ≤ least (run (run (Need []) tokens) more) = run_up more (run (Need []) tokens) (λ h. operand_reads (into [] t) focus (sym e ∙ h)) in
-    let same : least (into [] t) ≡ unit_height t = sym (operand_least (into [] t) focus) ∙ ap least (red_into t [] p.fits) in
-    omega (arith, up, ap least e, same)
+-- a token never lowers it
+pub unit_up : (st : State) (x : Token) → unit_step st x ≢ Refused → least st ≤ least (unit_step st x)
+unit_up st x ok = above_least (least st) (unit_step st x) ok (act_up st (unit_token x.kind) x.start)
 
 -- what is found has the least height
 pub found_height : (st : State) (t : UnitSyntax) → finish st ≡ Some t → unit_height t ≡ least st

@@ -1,4 +1,4 @@
--- What isn't refused can be completed, what is refused begins no unit text, and there is one unit text per list of tokens.
+-- What isn't refused can be completed; a unit text is read as it, and what is found is one.
 use Rattle.std.proofs.Common.{◌≡◌, ◌≢◌, ◌≤◌, pos, List, [], ◌∷◌, ◌++◌, true, false, Some, refl, sym, ap, subst, ◌∙◌, arith, inl, inr}
 use Rattle.std.specs.Prelude.{neg_ℤ}
 use Rattle.std.proofs.lemmas.List.{append-nil}
@@ -9,10 +9,9 @@ use Rattle.um_syntax.specs.declared.token.Token.{Token}
 use Rattle.um_syntax.specs.declared.token.Kind.TheVariants as kind
 use Rattle.um_syntax.specs.declared.vocabulary.Symbol.TheVariants as symbol
 use Rattle.um_tree.specs.RawTree.{UnitSyntax, measure_syntax, power_syntax, side_syntax, times_syntax, over_syntax, inverse_syntax, bracket_syntax, units_in_order}
-use Rattle.um_types.specs.UnitTokens.{unit_token}
-use Rattle.um_types.specs.UnitGrammar.{Spells, rank, Fits, IsUnit, Begins}
-use Rattle.um_types.specs.UnitMachine.{Frame, InBracket, InInverse, InTimes, InOver, InSide, State, Need, Have, Raised, Lowered, Refused, top_limit, act, run, whole, finish}
-use Rattle.um_types.proofs.UnitComplete.{into, red, red_into, rank_low, complete, IsAtOperand, into_operand}
+use Rattle.um_types.specs.UnitGrammar.{Spells, rank, Fits, IsUnit}
+use Rattle.um_types.specs.UnitMachine.{Frame, InBracket, InInverse, InTimes, InOver, InSide, State, Need, Have, Raised, Lowered, Refused, top_limit, run, whole, finish}
+use Rattle.um_types.proofs.UnitComplete.{into, red, red_into, rank_low, complete}
 use Rattle.um_types.proofs.UnitSound.{Opened, FramesFit, SpellsPrefix, limit_low, side_fits, spells_last, spells_prefix, is_unit}
 
 pub lowest_zero : gcd 0 1 ≡ 1
@@ -91,32 +90,8 @@ can_end Refused tokens h ok = absurd (ok refl)
 pub can_go_on : (read : List Token) → run (Need []) read ≢ Refused → IsUnit (read ++ ending_of (run (Need []) read)) (completed (run (Need []) read))
 can_go_on read ok = can_end (run (Need []) read) (read ++ ending_of (run (Need []) read)) (spells_prefix read (ending_of (run (Need []) read))) ok
 
-pub begins : (read : List Token) → run (Need []) read ≢ Refused → Begins read
-begins read ok = (ending_of (run (Need []) read), completed (run (Need []) read), can_go_on read ok)
-
-pub run_append : (tokens more : List Token) (st : State) → run st (tokens ++ more) ≡ run (run st tokens) more
-run_append [] more st = refl
-run_append (token ∷ tokens) more st = run_append tokens more (act st (unit_token token.kind) token.start)
-
-pub run_refused : (tokens : List Token) → run Refused tokens ≡ Refused
-run_refused [] = refl
-run_refused (token ∷ tokens) = run_refused tokens
-
-operand_goes_on : (st : State) → IsAtOperand st → st ≢ Refused
-operand_goes_on (Have frames t) h e = cc
-operand_goes_on (Need frames) h e = absurd h
-operand_goes_on (Raised frames t) h e = absurd h
-operand_goes_on (Lowered frames t) h e = absurd h
-operand_goes_on Refused h e = absurd h
-
 pub reads_as : (t : UnitSyntax) (tokens : List Token) → IsUnit tokens t → run (Need []) tokens ≡ into [] t
 reads_as t tokens p = complete t [] tokens [] p.spelled p.fits (rank_low t)
-
--- what was refused begins no unit text
-pub none_begins : (tokens : List Token) → run (Need []) tokens ≡ Refused → Begins tokens → ⊥
-none_begins tokens e b =
-    operand_goes_on (into [] b.1) (into_operand b.1 [] b.2.fits)
-    (sym (reads_as b.1 (tokens ++ b.0) b.2) ∙ run_append tokens b.0 (Need []) ∙ ap (λ s. run s b.0) e ∙ run_refused b.0)
 
 pub finish_red : (st : State) → finish st ≡ whole (red st)
 finish_red (Need frames) = refl
@@ -128,10 +103,6 @@ finish_red Refused = refl
 -- a unit text is read as it
 pub finds : (tokens : List Token) (t : UnitSyntax) → IsUnit tokens t → finish (run (Need []) tokens) ≡ Some t
 finds tokens t p = ap finish (reads_as t tokens p) ∙ finish_red (into [] t) ∙ ap whole (red_into t [] p.fits)
-
--- one unit text per list of tokens
-pub one_unit : (tokens : List Token) (t u : UnitSyntax) → IsUnit tokens t → IsUnit tokens u → t ≡ u
-one_unit tokens t u p q = let e : Some t ≡ Some u = sym (finds tokens t p) ∙ finds tokens u q in cc
 
 -- what is found is a unit text
 pub found : (tokens : List Token) (t : UnitSyntax) → finish (run (Need []) tokens) ≡ Some t → IsUnit tokens t

@@ -1,23 +1,14 @@
 -- The laws of unit texts for a reader that holds the machine of units inside: what is read stands up to a rest that may be anything.
-use Rattle.std.proofs.Common.{◌≡◌, ◌≢◌, ◌≤◌, List, [], ◌∷◌, ◌++◌, Option, Some, None, refl, sym, ap, subst, ◌∙◌, append_assoc}
+use Rattle.std.proofs.Common.{◌≡◌, ◌≢◌, List, [], ◌∷◌, ◌++◌, Option, Some, None, refl, sym, ap, subst, ◌∙◌, append_assoc}
 use Rattle.um_syntax.specs.declared.token.Token.{Token}
 use Rattle.um_tree.specs.RawTree.{UnitSyntax}
-use Rattle.um_types.specs.UnitTokens.{unit_token}
 use Rattle.um_types.specs.UnitGrammar.{Spells, Fits, IsUnit}
-use Rattle.um_types.specs.UnitMachine.{State, Need, Refused, act, run, whole, finish}
-use Rattle.um_types.specs.UnitLeast.{least}
-use Rattle.um_types.specs.Machines.{runs, Reaches}
+use Rattle.um_types.specs.UnitMachine.{State, Need, Refused, run, whole, unit_step, finish}
+use Rattle.um_reader.specs.Machine.{Reaches}
+use Rattle.um_reader.proofs.Reaching.{runs_append}
 use Rattle.um_types.proofs.UnitComplete.{into, red_into}
-use Rattle.um_types.proofs.UnitLaws.{ending_of, completed, can_go_on, run_append, reads_as, found, finish_red}
-use Rattle.um_types.proofs.UnitHeights.{run_up}
+use Rattle.um_types.proofs.UnitLaws.{ending_of, completed, can_go_on, reads_as, found, finish_red}
 use Rattle.um_types.proofs.UnitCut.{cut_unit, unit_before}
-
-abbrev pub unit_step : State → Token → State
-unit_step state token = act state (unit_token token.kind) token.start
-
-pub runs_unit : (tokens : List Token) (state : State) → runs unit_step state tokens ≡ run state tokens
-runs_unit [] state = refl
-runs_unit (token ∷ tokens) state = runs_unit tokens (unit_step state token)
 
 -- what was read is found
 pub unit_finds : (u : UnitSyntax) → Fits u → finish (into [] u) ≡ Some u
@@ -32,7 +23,7 @@ into_goes_on u fits h = let bad : no_unit ≡ Some u = sym (ap finish h) ∙ uni
 -- what a unit text spells is read as it
 pub unit_reaches : (u : UnitSyntax) (tokens rest : List Token) → Spells u tokens rest → Fits u → Reaches unit_step Refused (Need []) tokens (into [] u) rest
 unit_reaches u tokens rest s fits =
-    let c = cut_unit u tokens rest s fits in (c.0, c.1, runs_unit c.0 (Need []) ∙ reads_as u c.0 c.2, into_goes_on u fits)
+    let c = cut_unit u tokens rest s fits in (c.0, c.1, reads_as u c.0 c.2, into_goes_on u fits)
 
 -- the tokens up to the rest are those of the state, which hasn't refused
 abbrev pub UnitSpellsPrefix : State → List Token → List Token → Type 0
@@ -44,7 +35,7 @@ unit_begins tokens = ([], refl, refl, (λ e. cc))
 -- the token that is read goes over to the state
 pub unit_sound : (u : State) (x : Token) (tokens rest : List Token) → UnitSpellsPrefix u tokens (x ∷ rest) → unit_step u x ≢ Refused → UnitSpellsPrefix (unit_step u x) tokens rest
 unit_sound u x tokens rest h ok =
-    (h.0 ++ x ∷ [], h.1 ∙ sym (append_assoc h.0 (x ∷ []) rest), run_append h.0 (x ∷ []) (Need []) ∙ ap (λ s. unit_step s x) h.2, ok)
+    (h.0 ++ x ∷ [], h.1 ∙ sym (append_assoc h.0 (x ∷ []) rest), runs_append unit_step h.0 (x ∷ []) (Need []) ∙ ap (λ s. unit_step s x) h.2, ok)
 
 -- what is found is a unit text
 pub unit_found : (u : State) (t : UnitSyntax) (tokens rest : List Token) → UnitSpellsPrefix u tokens rest → finish u ≡ Some t → Spells t tokens rest × Fits t
@@ -58,7 +49,3 @@ unit_can_end u tokens rest h =
     let p : IsUnit (h.0 ++ ending_of u) (completed u) = subst (λ s. IsUnit (h.0 ++ ending_of s) (completed s)) h.2 (can_go_on h.0 run_ok) in
     let parts : tokens ≡ (h.0 ++ ending_of u) ++ rest = h.1 ∙ sym (append_assoc h.0 (ending_of u) rest) in
     (subst (λ s. Spells (completed u) s rest) (sym parts) (unit_before (completed u) (h.0 ++ ending_of u) rest p), p.fits)
-
--- a token never lowers the least height
-pub unit_up : (u : State) (x : Token) → unit_step u x ≢ Refused → least u ≤ least (unit_step u x)
-unit_up u x ok = run_up (x ∷ []) u ok

@@ -7,23 +7,16 @@ pub mod TypeGrammar
 pub mod TypeHeights
 pub mod SignatureGrammar
 pub mod SignatureParsed
-pub mod Prefixes
 pub mod Laws
 -- What mirrors the code: the machines that read token by token, and the readers by the machines' states. The clauses of
 -- the readers rest on these; `Laws` says by the grammars alone what they come to.
-pub mod Machines
 pub mod UnitMachine
 pub mod UnitLeast
 pub mod UnitCount
 pub mod UnitView
-pub mod UnitStates
-pub mod UnitReads
-pub mod UnitAnswer
-pub mod UnitTakes
 pub mod NoteMachine
-pub mod NoteTakes
+pub mod NoteView
 pub mod TypeMachine
 pub mod TypeView
-pub mod TypeTakes
 pub mod SignatureMachine
-pub mod SignatureReads
+pub mod SignatureView

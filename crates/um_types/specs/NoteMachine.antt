@@ -4,6 +4,7 @@ use Rattle.std.specs.Prelude.{ℕ, [], Option, Some, None}
 use Rattle.um_syntax.specs.declared.token.Token.{Token}
 use Rattle.um_syntax.specs.declared.token.Kind.{Kind}
 use Rattle.um_syntax.specs.declared.token.Kind.TheVariants as kind
+use Rattle.um_reader.specs.Machine.{Machine}
 use Rattle.um_tree.specs.RawTree.{UnitSyntax, NoteSyntax, hole_syntax, unit_note_syntax}
 use Rattle.um_types.specs.UnitTokens.{unit_token}
 use Rattle.um_types.specs.UnitMachine.{State, Need, Have, Raised, Lowered, Refused, act, finish}
@@ -61,3 +62,8 @@ note_least NeedNote = 0
 note_least (HaveHole at) = 0
 note_least (InUnit at u) = least u
 note_least NoNote = 0
+
+-- the machine of notes
+abbrev pub machine_of_notes : Machine NoteState Token NoteSyntax
+machine_of_notes =
+    record { start = NeedNote; refused = NoNote; step = note_step; finish = note_finish; least = note_least }

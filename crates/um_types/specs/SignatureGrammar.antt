@@ -1,9 +1,10 @@
 -- The grammar of signature texts: types with `->` between them, at least one.
 -- Source: the notation of function types in ML (Kennedy 1996, chapter 2); that a signature is a list of types is this
 -- project's own.
-use Rattle.std.specs.Prelude.{◌≡◌, ℕ, ◌+◌, ◌≤◌, ◌<◌, List, [], ◌∷◌, ◌++◌, length, take}
+use Rattle.std.specs.Prelude.{ℕ, List, [], ◌∷◌}
 use Rattle.um_syntax.specs.declared.token.Token.{Token}
 use Rattle.um_tree.specs.RawTree.{TypeSyntax}
+use Rattle.um_reader.specs.Stops.{Fails, HighAt}
 use Rattle.um_types.specs.UnitStops.{greatest_height}
 use Rattle.um_types.specs.TypeGrammar.{FirstSign, TypeSpells, TypeFits}
 use Rattle.um_types.specs.TypeHeights.{all_height}
@@ -26,26 +27,11 @@ pub record IsSignature (tokens : List Token) (ts : List TypeSyntax) : Type 0 whe
   pub spelled : TypesSpell ts tokens []
   pub fits : TypesFit ts
 
--- the tokens begin a signature text
-abbrev pub BeginsSignature : List Token → Type 0
-BeginsSignature tokens = (more : List Token) × (ts : List TypeSyntax) × IsSignature (tokens ++ more) ts
-
--- the tokens begin a signature text in which no type text and no unit text is higher
-abbrev pub BeginsSignatureWithin : ℕ → List Token → Type 0
-BeginsSignatureWithin height tokens =
-    (more : List Token) × (ts : List TypeSyntax) × IsSignature (tokens ++ more) ts × (all_height ts ≤ height)
-
 -- the first token through which the tokens begin no signature text, or the end of tokens that are none; no token
 -- before it makes them too high
-pub record SignatureFails (tokens : List Token) (k : ℕ) : Type 0 where
-  pub within : k ≤ length tokens
-  pub before : BeginsSignatureWithin greatest_height (take k tokens)
-  pub through : k < length tokens → BeginsSignature (take (k + 1) tokens) → ⊥
-  pub none : k ≡ length tokens → (ts : List TypeSyntax) → IsSignature tokens ts → ⊥
+abbrev pub SignatureFails : List Token → ℕ → Type 0
+SignatureFails tokens k = Fails IsSignature all_height greatest_height tokens k
 
 -- the first token through which the tokens begin a signature text and none within the heights
-pub record SignatureHighAt (tokens : List Token) (k : ℕ) : Type 0 where
-  pub within : k < length tokens
-  pub before : BeginsSignatureWithin greatest_height (take k tokens)
-  pub through : BeginsSignature (take (k + 1) tokens)
-  pub none : BeginsSignatureWithin greatest_height (take (k + 1) tokens) → ⊥
+abbrev pub SignatureHighAt : List Token → ℕ → Type 0
+SignatureHighAt tokens k = HighAt IsSignature all_height greatest_height tokens k

@@ -5,9 +5,9 @@ use Rattle.um_syntax.specs.declared.token.Token.{Token}
 use Rattle.um_syntax.specs.declared.token.Kind.{Kind}
 use Rattle.um_syntax.specs.declared.token.Kind.TheVariants as kind
 use Rattle.um_syntax.specs.declared.vocabulary.Symbol.TheVariants as symbol
+use Rattle.um_reader.specs.Machine.{Machine, reached}
 use Rattle.um_tree.specs.RawTree.{TypeSyntax}
 use Rattle.um_types.specs.TypeHeights.{all_height}
-use Rattle.um_types.specs.Machines.{runs}
 use Rattle.um_types.specs.TypeMachine.{TypeState, NeedType, HaveType, InNote, NoType, type_act, type_finish, type_least}
 
 -- a type text behind these
@@ -57,6 +57,17 @@ signature_least NoSignature = 0
 abbrev pub start : SignatureState
 start = InType [] (NeedType 0)
 
+-- the machine of signature texts
+abbrev pub machine_of_signatures : Machine SignatureState Token (List TypeSyntax)
+machine_of_signatures =
+    record {
+      start = start;
+      refused = NoSignature;
+      step = signature_step;
+      finish = signature_finish;
+      least = signature_least;
+    }
+
 -- the state after these tokens
 abbrev pub read_all : List Token → SignatureState
-read_all tokens = runs signature_step start tokens
+read_all tokens = reached machine_of_signatures tokens

@@ -8,6 +8,7 @@ use Rattle.um_syntax.specs.declared.token.Kind.{Kind}
 use Rattle.um_syntax.specs.declared.token.Kind.TheVariants as kind
 use Rattle.um_syntax.specs.declared.vocabulary.Keyword.TheVariants as keyword
 use Rattle.um_syntax.specs.declared.vocabulary.Symbol.TheVariants as symbol
+use Rattle.um_reader.specs.Machine.{Machine}
 use Rattle.um_tree.specs.RawTree.{NoteSyntax, TypeSyntax, bool_syntax, num_syntax, record_syntax, list_type_syntax, bracket_type_syntax}
 use Rattle.um_tree.specs.Heights.{type_height}
 use Rattle.um_types.specs.TypeHeights.{notes_height, units_height}
@@ -97,6 +98,13 @@ type_act NoType k at = NoType
 abbrev pub type_step : TypeState → Token → TypeState
 type_step state token = type_act state token.kind token.start
 
+-- one token more, which the note has refused, if one has begun
+abbrev pub own_act : TypeState → Kind → ℕ → TypeState
+own_act (NeedType depth) k at = type_begin depth k at
+own_act (HaveType depth t) k at = type_after depth t k
+own_act (InNote depth owner n) k at = note_ends depth owner (note_finish n) k
+own_act NoType k at = NoType
+
 -- the type text where all is read
 abbrev pub type_finish : TypeState → Option TypeSyntax
 type_finish (HaveType zero t) = Some t
@@ -115,3 +123,8 @@ type_least (NeedType depth) = depth + 1
 type_least (HaveType depth t) = max (type_height t + depth) (units_height t)
 type_least (InNote depth owner n) = max (depth + 1) (max (owner_height owner) (note_least n))
 type_least NoType = 0
+
+-- the machine of type texts
+abbrev pub machine_of_types : Machine TypeState Token TypeSyntax
+machine_of_types =
+    record { start = NeedType 0; refused = NoType; step = type_step; finish = type_finish; least = type_least }

@@ -5,10 +5,9 @@
 --   atom  = Name | Var | "1" | "(" unit ")"
 -- Source: the F# specification, chapter Units Of Measure, for the forms of unit texts, without `_` and rational powers. How
 -- tightly the signs of units bind is this project's own.
-use Rattle.std.specs.Prelude.{◌≡◌, ℕ, ◌≤◌, ℤ, pos, neg_ℤ, Bool, true, ◌⊎◌, List, [], ◌∷◌, ◌++◌, Option, Some}
+use Rattle.std.specs.Prelude.{◌≡◌, ℕ, ◌≤◌, ℤ, pos, neg_ℤ, Bool, true, ◌⊎◌, List, [], ◌∷◌, Option, Some}
 use Rattle.um_syntax.specs.declared.token.Token.{Token}
 use Rattle.um_tree.specs.RawTree.{UnitSyntax, UnitSyntaxes, one_syntax, measure_syntax, variable_syntax, power_syntax, side_syntax, times_syntax, over_syntax, inverse_syntax, bracket_syntax, no_units, more_units}
-use Rattle.um_tree.specs.Heights.{unit_height}
 use Rattle.um_types.specs.UnitTokens.{UnitToken, sign, measure, variable, number, unit_token}
 use Rattle.um_syntax.specs.declared.vocabulary.Symbol.TheVariants as symbol
 
@@ -95,12 +94,3 @@ abbrev mutual
 pub record IsUnit (tokens : List Token) (u : UnitSyntax) : Type 0 where
   pub spelled : Spells u tokens []
   pub fits : Fits u
-
--- the tokens begin a unit text
-abbrev pub Begins : List Token → Type 0
-Begins tokens = (more : List Token) × (u : UnitSyntax) × IsUnit (tokens ++ more) u
-
--- the tokens begin a unit text of at most this height
-abbrev pub BeginsWithin : ℕ → List Token → Type 0
-BeginsWithin height tokens =
-    (more : List Token) × (u : UnitSyntax) × IsUnit (tokens ++ more) u × (unit_height u ≤ height)

@@ -1,9 +1,11 @@
 -- The least height of a unit text that begins with what was read.
 -- Source: this project's own.
 use Rattle.std.specs.Prelude.{ℕ, ◌+◌, max, List, [], ◌∷◌}
-use Rattle.um_tree.specs.RawTree.{units_in_order}
+use Rattle.um_syntax.specs.declared.token.Token.{Token}
+use Rattle.um_reader.specs.Machine.{Machine}
+use Rattle.um_tree.specs.RawTree.{UnitSyntax, units_in_order}
 use Rattle.um_tree.specs.Heights.{unit_height, tallest_unit}
-use Rattle.um_types.specs.UnitMachine.{Frame, InBracket, InInverse, InTimes, InOver, InSide, State, Need, Have, Raised, Lowered, Refused}
+use Rattle.um_types.specs.UnitMachine.{Frame, InBracket, InInverse, InTimes, InOver, InSide, State, Need, Have, Raised, Lowered, Refused, unit_step, finish}
 
 -- the height of a frame's own parts
 abbrev pub side : Frame → ℕ
@@ -24,3 +26,7 @@ least (Have frames t) = least_over frames (unit_height t)
 least (Raised frames t) = least_over frames (unit_height t + 1)
 least (Lowered frames t) = least_over frames (unit_height t + 1)
 least Refused = 0
+
+-- the machine of unit texts
+abbrev pub machine_of_units : Machine State Token UnitSyntax
+machine_of_units = record { start = Need []; refused = Refused; step = unit_step; finish = finish; least = least }

@@ -2,6 +2,7 @@
 -- Source: operator precedence with a stack, as in Knuth, Fundamental Algorithms, 2.2.1; this project's own states.
 use Rattle.std.specs.Prelude.{ℕ, pos, neg_ℤ, Bool, true, false, cond, List, [], ◌∷◌, ◌++◌, Option, Some, None}
 use Rattle.um_syntax.specs.declared.token.Token.{Token}
+use Rattle.um_reader.specs.Machine.{runs}
 use Rattle.um_tree.specs.RawTree.{UnitSyntax, one_syntax, measure_syntax, variable_syntax, power_syntax, side_syntax, times_syntax, over_syntax, inverse_syntax, bracket_syntax, units_in_order}
 use Rattle.um_types.specs.UnitTokens.{UnitToken, sign, measure, variable, number, other, unit_token}
 use Rattle.um_syntax.specs.declared.vocabulary.Symbol.TheVariants as symbol
@@ -135,9 +136,11 @@ act (Raised frames base) token at = raised frames base token
 act (Lowered frames base) token at = lowered frames base token
 act Refused token at = Refused
 
+abbrev pub unit_step : State → Token → State
+unit_step state token = act state (unit_token token.kind) token.start
+
 abbrev pub run : State → List Token → State
-run state [] = state
-run state (token ∷ tokens) = run (act state (unit_token token.kind) token.start) tokens
+run state tokens = runs unit_step state tokens
 
 -- the unit text where all is read
 abbrev pub whole : State → Option UnitSyntax

@@ -10,6 +10,7 @@ use Rattle.um_types.specs.declared.unit_frame.Focus.{Focus}
 use Rattle.um_types.specs.declared.unit_frame.Focus.TheVariants as focus
 use Rattle.um_types.specs.declared.unit_frame.Step.{Step}
 use Rattle.um_types.specs.declared.unit_frame.Step.TheVariants as step
+use Rattle.um_types.specs.declared.unit_reader.UnitReader.{UnitReader}
 use Rattle.um_types.specs.UnitMachine.{Frame, InBracket, InInverse, InTimes, InOver, InSide, State, Need, Have, Raised, Lowered, Refused, finish}
 
 abbrev pub operand_syntax : Operand → UnitSyntax
@@ -34,6 +35,10 @@ state_of frames focus.Empty = Need (stack frames)
 state_of frames (focus.Full t) = Have (stack frames) (operand_syntax t)
 state_of frames (focus.Raised t) = Raised (stack frames) (operand_syntax t)
 state_of frames (focus.Lowered t) = Lowered (stack frames) (operand_syntax t)
+
+-- the state of a reader
+abbrev pub unit_state : UnitReader → State
+unit_state r = state_of r.frames.items r.focus
 
 -- the innermost frame was taken off
 abbrev pub Taken : List Frame → Option Open → List Frame → Type 0

@@ -1,26 +1,6 @@
 //! Laws of the texts that this crate reads and of its readers, by the grammars alone. A call does nothing: what it ensures
 //! is the law.
-ghost use Rattle.um_types.specs.Laws.{UnitTextsAreUnambiguous, NotesAreUnambiguous, TypeTextsAreUnambiguous, SignatureTextsAreUnambiguous, UnitAnswersExclude, SignatureAnswersExclude, UnitReaderTells, UnitReaderFinds, NoteReaderTells, NoteReaderFinds, TypeReaderTells, TypeReaderFinds};
-
-/// No two unit texts have the same tokens.
-pub fn unit_texts_are_unambiguous()
-    ensures { UnitTextsAreUnambiguous }
-{}
-
-/// No two notes have the same tokens.
-pub fn notes_are_unambiguous()
-    ensures { NotesAreUnambiguous }
-{}
-
-/// No two type texts have the same tokens.
-pub fn type_texts_are_unambiguous()
-    ensures { TypeTextsAreUnambiguous }
-{}
-
-/// No two signature texts have the same tokens.
-pub fn signature_texts_are_unambiguous()
-    ensures { SignatureTextsAreUnambiguous }
-{}
+ghost use Rattle.um_types.specs.Laws.{UnitAnswersExclude, SignatureAnswersExclude, UnitReaderReads, NoteReaderReads, TypeReaderReads, SignatureReaderReads};
 
 /// At most one answer of [`crate::parse_unit`] fits the tokens, want of memory aside.
 pub fn unit_answers_exclude()
@@ -32,34 +12,27 @@ pub fn signature_answers_exclude()
     ensures { SignatureAnswersExclude }
 {}
 
-/// What [`crate::UnitReader::take`] answers to a token, by the grammar of unit texts: the reader goes on, and the tokens
-/// through it begin a unit text within the height; or they begin unit texts, but none within the height; or they begin
-/// none, and what was found is the unit text of the tokens before it, if they are one.
-pub fn unit_reader_tells()
-    ensures { UnitReaderTells }
+/// The reader of unit texts reads their grammar.
+///
+/// No two unit texts have the same tokens. What [`crate::UnitReader`]'s `take` answers to a token tells that the tokens
+/// through it begin a unit text within the height, and the reader goes on; or that they begin none, and the reader still
+/// ends as before the token; or that they begin unit texts, but none within the height. What its `finish` answers is the unit
+/// text of the tokens that were taken, or that they are none.
+pub fn unit_reader_reads()
+    ensures { UnitReaderReads }
 {}
 
-/// What [`crate::UnitReader::finish`] answers: the unit text of the tokens that were taken, if they are one.
-pub fn unit_reader_finds()
-    ensures { UnitReaderFinds }
+/// The reader of notes reads their grammar, as in [`unit_reader_reads`].
+pub fn note_reader_reads()
+    ensures { NoteReaderReads }
 {}
 
-/// What [`crate::NoteReader::take`] answers to a token, by the grammar of notes, as in [`unit_reader_tells`].
-pub fn note_reader_tells()
-    ensures { NoteReaderTells }
+/// The reader of type texts reads their grammar, as in [`unit_reader_reads`].
+pub fn type_reader_reads()
+    ensures { TypeReaderReads }
 {}
 
-/// What [`crate::NoteReader::finish`] answers: the note of the tokens that were taken, if they are one.
-pub fn note_reader_finds()
-    ensures { NoteReaderFinds }
-{}
-
-/// What [`crate::TypeReader::take`] answers to a token, by the grammar of type texts, as in [`unit_reader_tells`].
-pub fn type_reader_tells()
-    ensures { TypeReaderTells }
-{}
-
-/// What [`crate::TypeReader::finish`] answers: the type text of the tokens that were taken, if they are one.
-pub fn type_reader_finds()
-    ensures { TypeReaderFinds }
+/// The reader of signature texts reads their grammar, as in [`unit_reader_reads`].
+pub fn signature_reader_reads()
+    ensures { SignatureReaderReads }
 {}

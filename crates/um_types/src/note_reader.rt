@@ -1,12 +1,16 @@
 // A note that is read one token at a time: `_`, or a unit text.
-ghost use Rattle.std.specs.Prelude.{◌≡◌, IfOk, option_map};
+ghost use Rattle.std.specs.Prelude.{◌≡◌, [], IfOk, option_map};
 ghost use Rattle.um_tree.specs.RawTree.{note_syntax, unit_syntax};
-ghost use Rattle.um_types.specs.NoteMachine.{NeedNote, InUnit, note_begin, note_act, noted, note_finish};
-ghost use Rattle.um_types.specs.UnitTakes.{unit_state};
-ghost use Rattle.um_types.specs.NoteTakes.{note_state, NoteTakes};
+ghost use Rattle.um_reader.specs.Takes.{Takes};
+ghost use Rattle.um_types.specs.UnitStops.{greatest_height};
+ghost use Rattle.um_types.specs.UnitMachine.{Need};
+ghost use Rattle.um_types.specs.NoteMachine.{NeedNote, InUnit, noted, note_finish, machine_of_notes};
+ghost use Rattle.um_types.specs.NoteView.{note_state};
 
-use crate::unit_reader::{UnitReader, UnitStep};
+use crate::unit_reader::UnitReader;
 use std::alloc::{AllocError, Global};
+use std::mem;
+use um_reader::{Reader, Taken};
 use um_syntax::{Kind, Token};
 use um_tree::{RawNote, RawUnit};
 
@@ -24,52 +28,12 @@ pub struct NoteReader {
     focus: NoteFocus,
 }
 
-/// What a token gives: the reader goes on; the tokens through it begin a note and none with a unit text of height at most 400; or they begin none, and this is the note before it, if one stands there.
-#[derive(Drop)]
-pub enum NoteStep {
-    Goes(NoteReader),
-    High,
-    Stops(Option<RawNote>),
-}
-
 fn note_of(at: u32, unit: Option<RawUnit>) -> Option<RawNote>
     ensures { option_map note_syntax result ≡ noted at (option_map unit_syntax unit) }
 {
     match unit {
         Some(unit) => Some(RawNote::Unit(at, unit)),
         None => None,
-    }
-}
-
-// One token more of a unit text that has begun at this place.
-fn take_unit(
-    alloc: Global,
-    at: u32,
-    unit: UnitReader,
-    token: &Token,
-) -> Result<NoteStep, AllocError>
-    ensures { IfOk result (λ s. NoteTakes (InUnit at (unit_state unit)) (note_act (InUnit at (unit_state unit)) token.now.kind token.now.start) s) }
-{
-    match unit.take(alloc, token)? {
-        UnitStep::Goes(unit) => Ok(NoteStep::Goes(NoteReader {
-            focus: NoteFocus::Unit(at, unit),
-        })),
-        UnitStep::High => Ok(NoteStep::High),
-        UnitStep::Stops(unit) => Ok(NoteStep::Stops(note_of(at, unit))),
-    }
-}
-
-// The first token of a note.
-fn take_first(alloc: Global, token: &Token) -> Result<NoteStep, AllocError>
-    ensures { IfOk result (λ s. NoteTakes NeedNote (note_begin token.now.kind token.now.start) s) }
-{
-    match &token.kind {
-        Kind::Hole => Ok(NoteStep::Goes(NoteReader {
-            focus: NoteFocus::Hole(token.start),
-        })),
-        Kind::Name(_) | Kind::Var(_) | Kind::Number { .. } | Kind::Word(_) | Kind::Sign(_) => {
-            take_unit(alloc, token.start, UnitReader::new(alloc), token)
-        }
     }
 }
 
@@ -84,14 +48,56 @@ impl NoteReader {
     }
 
     /// One token more.
-    pub fn take(self, alloc: Global, token: &Token) -> Result<NoteStep, AllocError>
-        ensures taken { IfOk result (λ s. NoteTakes (note_state self) (note_act (note_state self) token.now.kind token.now.start) s) }
+    pub fn take(&mut self, alloc: Global, token: &Token) -> Result<Taken, AllocError>
+        ensures taken { IfOk result (λ t. Takes machine_of_notes greatest_height (note_state self.old) token.now t (note_state self.new)) }
     {
-        match self.focus {
-            NoteFocus::Empty => take_first(alloc, token),
-            NoteFocus::Hole(at) => Ok(NoteStep::Stops(Some(RawNote::Hole(at)))),
-            NoteFocus::Unit(at, unit) => take_unit(alloc, at, unit, token),
+        match &mut self.focus {
+            NoteFocus::Empty => self.take_first(alloc, token),
+            NoteFocus::Hole(_) => Ok(Taken::Stops),
+            NoteFocus::Unit(_, unit) => {
+                let taken = unit.take(alloc, token)?;
+                Ok(taken)
+            }
         }
+    }
+
+    // The first token.
+    fn take_first(&mut self, alloc: Global, token: &Token) -> Result<Taken, AllocError>
+        requires { note_state self.old ≡ NeedNote }
+        ensures { IfOk result (λ t. Takes machine_of_notes greatest_height NeedNote token.now t (note_state self.new)) }
+    {
+        match &token.kind {
+            Kind::Hole => {
+                self.put(NoteFocus::Hole(token.start));
+                Ok(Taken::Goes)
+            }
+            Kind::Name(_) | Kind::Var(_) | Kind::Number { .. } | Kind::Word(_) | Kind::Sign(_) =>
+                self.take_unit(alloc, token),
+        }
+    }
+
+    // The first token of what is a unit text, if it is any note.
+    fn take_unit(&mut self, alloc: Global, token: &Token) -> Result<Taken, AllocError>
+        ensures { IfOk result (λ t. Takes machine_of_notes greatest_height (InUnit token.now.start (Need [])) token.now t (note_state self.new)) }
+    {
+        let mut unit = UnitReader::new(alloc);
+        match unit.take(alloc, token) {
+            Ok(taken) => {
+                self.put(NoteFocus::Unit(token.start, unit));
+                Ok(taken)
+            }
+            Err(error) => {
+                drop(unit);
+                Err(error)
+            }
+        }
+    }
+
+    // What was read.
+    fn put(&mut self, focus: NoteFocus)
+        ensures { self.new.focus ≡ focus }
+    {
+        drop(mem::replace(&mut self.focus, focus));
     }
 
     /// The note where all is read, if it is one.

@@ -1,13 +1,21 @@
 // What the grammar reads, with its places in the text.
 ghost use Rattle.std.specs.Prelude.{◌≤◌, length};
+ghost use Rattle.um_tree.specs.RawTree.{unit_syntax, type_syntaxes};
+ghost use Rattle.um_tree.specs.Heights.{unit_height};
+ghost use Rattle.um_reader.specs.ReadTo.{ReadTo, ReadAll};
+ghost use Rattle.um_types.specs.UnitGrammar.{IsUnit};
+ghost use Rattle.um_types.specs.UnitStops.{greatest_height};
+ghost use Rattle.um_types.specs.TypeHeights.{all_height};
+ghost use Rattle.um_types.specs.SignatureGrammar.{IsSignature};
 ghost use Rattle.um_types.specs.UnitParsed.{Parsed};
 ghost use Rattle.um_types.specs.SignatureParsed.{SignatureParsed};
 
 use crate::places::place;
-use crate::signature::{SignatureStop, read_signature};
-use crate::unit::{UnitStop, read_unit};
+use crate::signature_reader::SignatureReader;
+use crate::unit_reader::UnitReader;
 use std::alloc::Global;
 use thiserror::Error;
+use um_reader::{ReadStop, read, read_all};
 use um_syntax::Token;
 use um_tree::{RawTypes, RawUnit};
 
@@ -35,6 +43,20 @@ pub enum ParseStop {
     NoMemory,
 }
 
+// The unit text up to the stop, and the number of the stop.
+fn read_unit(alloc: Global, tokens: &[Token]) -> Result<(RawUnit, usize), ReadStop>
+    ensures { ReadTo IsUnit unit_height greatest_height unit_syntax tokens.now result }
+{
+    read::<UnitReader>(alloc, tokens)
+}
+
+// The types of a signature text.
+fn read_signature(alloc: Global, tokens: &[Token]) -> Result<RawTypes, ReadStop>
+    ensures { ReadAll IsSignature all_height greatest_height type_syntaxes tokens.now result }
+{
+    read_all::<SignatureReader>(alloc, tokens)
+}
+
 /// The unit text that begins at the token of number `from`, and the number of its stop, counted from 0.
 ///
 /// The stop is the first token such that the tokens through it begin no unit text, or the end. `end` is the length of the text.
@@ -51,14 +73,14 @@ pub fn parse_unit(
     let rest = &tokens[from as usize..];
     match read_unit(alloc, rest) {
         Ok((unit, k)) => Ok((unit, (from as usize + k) as u32)),
-        Err(UnitStop::Syntax(k)) => Err(ParseStop::Syntax {
+        Err(ReadStop::Syntax(k)) => Err(ParseStop::Syntax {
             at: place(rest, k, end),
         }),
-        Err(UnitStop::High(k)) => Err(ParseStop::Limit {
+        Err(ReadStop::High(k)) => Err(ParseStop::Limit {
             kind: LimitKind::Height,
             at: place(rest, k, end),
         }),
-        Err(UnitStop::NoMemory) => Err(ParseStop::NoMemory),
+        Err(ReadStop::NoMemory) => Err(ParseStop::NoMemory),
     }
 }
 
@@ -80,13 +102,13 @@ pub fn parse_types(alloc: Global, tokens: &[Token], end: u32) -> Result<RawTypes
 {
     match read_signature(alloc, tokens) {
         Ok(types) => Ok(types),
-        Err(SignatureStop::Syntax(k)) => Err(ParseStop::Syntax {
+        Err(ReadStop::Syntax(k)) => Err(ParseStop::Syntax {
             at: place(tokens, k, end),
         }),
-        Err(SignatureStop::High(k)) => Err(ParseStop::Limit {
+        Err(ReadStop::High(k)) => Err(ParseStop::Limit {
             kind: LimitKind::Height,
             at: place(tokens, k, end),
         }),
-        Err(SignatureStop::NoMemory) => Err(ParseStop::NoMemory),
+        Err(ReadStop::NoMemory) => Err(ParseStop::NoMemory),
     }
 }

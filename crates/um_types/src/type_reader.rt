@@ -1,24 +1,269 @@
 // A type text that is read one token at a time.
-ghost use Rattle.std.specs.Prelude.{◌≤◌};
+ghost use Rattle.std.specs.Prelude.{◌≡◌, suc, ◌+◌, ◌≤◌, IfOk, max, option_map};
+ghost use Rattle.um_tree.specs.RawTree.{list_type_syntax, note_syntax, type_syntax};
+ghost use Rattle.um_reader.specs.Takes.{Gives, Takes};
 ghost use Rattle.um_types.specs.UnitStops.{greatest_height};
-ghost use Rattle.um_types.specs.TypeMachine.{type_least};
-ghost use Rattle.um_types.specs.TypeView.{type_focus_state};
+ghost use Rattle.um_types.specs.TypeHeights.{note_height};
+ghost use Rattle.um_types.specs.NoteMachine.{NeedNote};
+ghost use Rattle.um_types.specs.TypeMachine.{NeedType, HaveType, InNote, type_begin, type_after, close_bracket, open_angle, next_note, note_end, own_act, type_finish, type_least, owner_height, machine_of_types};
+ghost use Rattle.um_types.specs.TypeView.{operand_type, view_owner, type_state, IsLow};
+ghost use Rattle.um_types.specs.NoteView.{note_state};
 
-use crate::type_operand::TypeFocus;
-use um_tree::RawType;
+use crate::height::GREATEST_HEIGHT;
+use crate::note_reader::NoteReader;
+use crate::type_operand::{Owner, TypeFocus, TypeOperand};
+use std::alloc::{AllocError, Global};
+use std::mem;
+use um_reader::Taken;
+use um_syntax::{Keyword, Kind, Symbol, Token};
+use um_tree::{RawNote, RawType};
 
-/// A type text that has begun: the number of open brackets, and what is at hand. A type text within the heights begins so.
+/// A type text that has begun: the number of open brackets, and what is at hand.
 #[derive(Drop)]
 pub struct TypeReader {
-    pub(crate) depth: u32,
-    pub(crate) focus: TypeFocus,
-    ghost low: { type_least (type_focus_state depth focus) ≤ greatest_height },
+    depth: u32,
+    focus: TypeFocus,
 }
 
-/// What a token gives: the reader goes on; the tokens through it begin a type text and none in which no height is above 400; or they begin none, and this is the type text before it, if one stands there.
-#[derive(Drop)]
-pub enum TypeStep {
-    Goes(TypeReader),
-    High,
-    Stops(Option<RawType>),
+// The type text where all is read, if no bracket is open.
+fn whole(depth: u32, operand: TypeOperand) -> Option<RawType>
+    ensures { option_map type_syntax result ≡ type_finish (HaveType depth (operand_type operand)) }
+{
+    if depth == 0 { Some(operand.ty) } else { None }
+}
+
+impl TypeReader {
+    /// No token was read yet.
+    pub fn new() -> TypeReader
+        ensures start { type_state result ≡ NeedType 0 }
+    {
+        TypeReader {
+            depth: 0,
+            focus: TypeFocus::Empty,
+        }
+    }
+
+    /// One token more.
+    pub fn take(&mut self, alloc: Global, token: &Token) -> Result<Taken, AllocError>
+        requires low { type_least (type_state self.old) ≤ greatest_height }
+        ensures taken { IfOk result (λ t. Takes machine_of_types greatest_height (type_state self.old) token.now t (type_state self.new)) }
+    {
+        match &mut self.focus {
+            TypeFocus::Empty => self.take_own(alloc, token),
+            TypeFocus::Full(_) => self.take_own(alloc, token),
+            TypeFocus::Note(_, note) => match note.take(alloc, token)? {
+                Taken::Goes => Ok(Taken::Goes),
+                Taken::Stops => self.take_own(alloc, token),
+                Taken::High => Ok(Taken::High),
+            },
+        }
+    }
+
+    // One token more, which the note has refused, if one has begun.
+    fn take_own(&mut self, alloc: Global, token: &Token) -> Result<Taken, AllocError>
+        requires low { IsLow (type_state self.old) }
+        ensures { IfOk result (λ t. Gives machine_of_types greatest_height (type_state self.old) (own_act (type_state self.old) token.now.kind token.now.start) t (type_state self.new)) }
+    {
+        match mem::replace(&mut self.focus, TypeFocus::Empty) {
+            TypeFocus::Empty => self.take_first(alloc, token),
+            TypeFocus::Full(operand) => self.take_after(alloc, operand, token),
+            TypeFocus::Note(owner, note) => self.take_behind(alloc, owner, note, token),
+        }
+    }
+
+    // What is at hand.
+    fn put(&mut self, focus: TypeFocus)
+        ensures focus { self.new.focus ≡ focus }
+        ensures depth { self.new.depth ≡ self.old.depth }
+    {
+        drop(mem::replace(&mut self.focus, focus));
+    }
+
+    // A type is at hand.
+    fn give(&mut self, operand: TypeOperand) -> Taken
+        ensures goes { result ≡ Taken.Goes }
+        ensures state { type_state self.new ≡ HaveType self.old.depth (operand_type operand) }
+    {
+        self.put(TypeFocus::Full(operand));
+        Taken::Goes
+    }
+
+    // A type stays at hand where the token is refused.
+    fn keep(&mut self, operand: TypeOperand) -> Taken
+        ensures stops { result ≡ Taken.Stops }
+        ensures state { type_state self.new ≡ HaveType self.old.depth (operand_type operand) }
+    {
+        self.put(TypeFocus::Full(operand));
+        Taken::Stops
+    }
+
+    // One token where a type is wanted.
+    fn take_first(&mut self, alloc: Global, token: &Token) -> Result<Taken, AllocError>
+        requires wanted { self.old.focus ≡ TypeFocus.Empty }
+        requires low { self.old.depth + 1 ≤ greatest_height }
+        ensures { IfOk result (λ t. Gives machine_of_types greatest_height (NeedType self.old.depth) (type_begin self.old.depth token.now.kind token.now.start) t (type_state self.new)) }
+    {
+        match &token.kind {
+            Kind::Name(letters) => {
+                let operand = TypeOperand::named(alloc, token.start, letters)?;
+                Ok(self.give(operand))
+            }
+            Kind::Word(Keyword::Num) => Ok(self.give(TypeOperand::num())),
+            Kind::Word(Keyword::Bool) => Ok(self.give(TypeOperand::bool())),
+            Kind::Sign(Symbol::LeftParen) => Ok(self.open_bracket()),
+            _ => Ok(Taken::Stops),
+        }
+    }
+
+    // An opening bracket.
+    fn open_bracket(&mut self) -> Taken
+        requires wanted { self.old.focus ≡ TypeFocus.Empty }
+        requires low { self.old.depth + 1 ≤ greatest_height }
+        ensures { Gives machine_of_types greatest_height (NeedType self.old.depth) (NeedType (suc self.old.depth)) result (type_state self.new) }
+    {
+        let depth = self.depth + 1;
+        if depth < GREATEST_HEIGHT {
+            self.depth = depth;
+            Taken::Goes
+        } else {
+            Taken::High
+        }
+    }
+
+    // One token behind a type.
+    fn take_after(
+        &mut self,
+        alloc: Global,
+        operand: TypeOperand,
+        token: &Token,
+    ) -> Result<Taken, AllocError>
+        requires { type_least (HaveType self.old.depth (operand_type operand)) ≤ greatest_height }
+        ensures { IfOk result (λ t. Gives machine_of_types greatest_height (HaveType self.old.depth (operand_type operand)) (type_after self.old.depth (operand_type operand) token.now.kind) t (type_state self.new)) }
+    {
+        match &token.kind {
+            Kind::Word(Keyword::List) => self.list_after(alloc, operand),
+            Kind::Sign(Symbol::RightParen) => self.close_bracket(alloc, operand),
+            Kind::Sign(Symbol::Less) => Ok(self.open_angle(operand)),
+            _ => Ok(self.keep(operand)),
+        }
+    }
+
+    // `list` behind a type.
+    fn list_after(&mut self, alloc: Global, operand: TypeOperand) -> Result<Taken, AllocError>
+        requires { type_least (HaveType self.old.depth (operand_type operand)) ≤ greatest_height }
+        ensures { IfOk result (λ t. Gives machine_of_types greatest_height (HaveType self.old.depth (operand_type operand)) (HaveType self.old.depth (list_type_syntax (operand_type operand))) t (type_state self.new)) }
+    {
+        if operand.height + self.depth < GREATEST_HEIGHT {
+            let list = operand.list(alloc)?;
+            Ok(self.give(list))
+        } else {
+            drop(operand);
+            Ok(Taken::High)
+        }
+    }
+
+    // A closing bracket behind a type.
+    fn close_bracket(&mut self, alloc: Global, operand: TypeOperand) -> Result<Taken, AllocError>
+        requires { type_least (HaveType self.old.depth (operand_type operand)) ≤ greatest_height }
+        ensures { IfOk result (λ t. Gives machine_of_types greatest_height (HaveType self.old.depth (operand_type operand)) (close_bracket self.old.depth (operand_type operand)) t (type_state self.new)) }
+    {
+        if self.depth == 0 {
+            Ok(self.keep(operand))
+        } else {
+            let bracketed = operand.bracket(alloc)?;
+            self.depth -= 1;
+            Ok(self.give(bracketed))
+        }
+    }
+
+    // An opening angle bracket behind a type.
+    fn open_angle(&mut self, operand: TypeOperand) -> Taken
+        requires { type_least (HaveType self.old.depth (operand_type operand)) ≤ greatest_height }
+        ensures { Gives machine_of_types greatest_height (HaveType self.old.depth (operand_type operand)) (open_angle self.old.depth (operand_type operand)) result (type_state self.new) }
+    {
+        let TypeOperand { ty, height } = operand;
+        match Owner::of_type(ty) {
+            Ok(owner) => {
+                self.put(TypeFocus::Note(owner, NoteReader::new()));
+                Taken::Goes
+            }
+            Err(ty) => self.keep(TypeOperand { ty, height }),
+        }
+    }
+
+    // The token that a note has refused.
+    fn take_behind(
+        &mut self,
+        alloc: Global,
+        owner: Owner,
+        note: NoteReader,
+        token: &Token,
+    ) -> Result<Taken, AllocError>
+        requires wanted { self.old.focus ≡ TypeFocus.Empty }
+        requires low { IsLow (InNote self.old.depth (view_owner owner) (note_state note)) }
+        ensures { IfOk result (λ t. Gives machine_of_types greatest_height (InNote self.old.depth (view_owner owner) (note_state note)) (own_act (InNote self.old.depth (view_owner owner) (note_state note)) token.now.kind token.now.start) t (type_state self.new)) }
+    {
+        match note.finish(alloc) {
+            Ok(Some(note)) => self.end_note(owner, note, token),
+            Ok(None) => {
+                drop(owner);
+                Ok(Taken::Stops)
+            }
+            Err(error) => {
+                drop(owner);
+                Err(error)
+            }
+        }
+    }
+
+    // The token behind a note.
+    fn end_note(&mut self, owner: Owner, note: RawNote, token: &Token) -> Result<Taken, AllocError>
+        requires wanted { self.old.focus ≡ TypeFocus.Empty }
+        requires low { max (self.old.depth + 1) (max (owner_height (view_owner owner)) (note_height (note_syntax note))) ≤ greatest_height }
+        ensures { IfOk result (λ t. Gives machine_of_types greatest_height (NeedType self.old.depth) (note_end self.old.depth (view_owner owner) (note_syntax note) token.now.kind) t (type_state self.new)) }
+    {
+        match &token.kind {
+            Kind::Sign(Symbol::Greater) => {
+                let operand = owner.owned(note)?;
+                Ok(self.give(operand))
+            }
+            Kind::Sign(Symbol::Comma) => self.next_note(owner, note),
+            _ => {
+                drop(owner);
+                drop(note);
+                Ok(Taken::Stops)
+            }
+        }
+    }
+
+    // A comma behind a note.
+    fn next_note(&mut self, owner: Owner, note: RawNote) -> Result<Taken, AllocError>
+        requires wanted { self.old.focus ≡ TypeFocus.Empty }
+        requires low { max (self.old.depth + 1) (max (owner_height (view_owner owner)) (note_height (note_syntax note))) ≤ greatest_height }
+        ensures { IfOk result (λ t. Gives machine_of_types greatest_height (NeedType self.old.depth) (next_note self.old.depth (view_owner owner) (note_syntax note)) t (type_state self.new)) }
+    {
+        match owner {
+            Owner::Num => {
+                drop(note);
+                Ok(Taken::Stops)
+            }
+            Owner::Name(at, name, mut earlier) => {
+                earlier.items.push(note)?;
+                let owner = Owner::Name(at, name, earlier);
+                self.put(TypeFocus::Note(owner, NoteReader::new()));
+                Ok(Taken::Goes)
+            }
+        }
+    }
+
+    /// The type text where all is read, if it is one.
+    pub fn finish(self) -> Option<RawType>
+        ensures found { option_map type_syntax result ≡ type_finish (type_state self) }
+    {
+        let TypeReader { depth, focus } = self;
+        match focus {
+            TypeFocus::Full(operand) => whole(depth, operand),
+            TypeFocus::Empty | TypeFocus::Note(_, _) => None,
+        }
+    }
 }

@@ -1,32 +1,23 @@
 // A unit text that is read one token at a time, so that readers of longer texts can hold it.
-ghost use Rattle.std.specs.Prelude.{◌≡◌, [], IfOk, option_map};
+ghost use Rattle.std.specs.Prelude.{◌≡◌, option_map};
 ghost use Rattle.um_tree.specs.RawTree.{unit_syntax};
-ghost use Rattle.um_types.specs.UnitTokens.{unit_token};
-ghost use Rattle.um_types.specs.UnitMachine.{Need, act, finish};
 ghost use Rattle.um_types.specs.UnitView.{operand_syntax};
-ghost use Rattle.um_types.specs.UnitTakes.{unit_state, UnitTakes};
 
 use crate::unit_frame::{Focus, Frame, Step};
 use crate::unit_least::is_low;
 use crate::unit_machine::{finish, step};
 use crate::unit_operand::Operand;
 use std::alloc::{AllocError, Global};
+use std::mem;
+use um_reader::{Reader, Taken};
 use um_syntax::Token;
 use um_tree::RawUnit;
 
-/// A unit text that has begun.
+/// A unit text that has begun: what is open around the next part, and what is at hand.
 #[derive(Drop)]
 pub struct UnitReader {
     frames: Vec<Frame>,
     focus: Focus,
-}
-
-/// What a token gives: the reader goes on; the tokens through it begin a unit text and none of height at most 400; or they begin none, and this is the unit text before it, if one stands there.
-#[derive(Drop)]
-pub enum UnitStep {
-    Goes(UnitReader),
-    High,
-    Stops(Option<RawUnit>),
 }
 
 fn unit_of(operand: Option<Operand>) -> Option<RawUnit>
@@ -39,33 +30,73 @@ fn unit_of(operand: Option<Operand>) -> Option<RawUnit>
 }
 
 impl UnitReader {
-    /// No token was read yet.
-    pub fn new(alloc: Global) -> UnitReader
-        ensures start { unit_state result ≡ Need [] }
+    // What is at hand.
+    fn put(&mut self, focus: Focus)
+        ensures focus { self.new.focus ≡ focus }
+        ensures frames { self.new.frames.items ≡ self.old.frames.items }
     {
+        drop(mem::replace(&mut self.focus, focus));
+    }
+}
+
+impl Reader for UnitReader {
+    ghost use Rattle.std.specs.Prelude.{◌≡◌, IfOk, option_map};
+    ghost use Rattle.std.proofs.Common.{arith};
+    ghost use Rattle.um_tree.specs.RawTree.{UnitSyntax, unit_syntax};
+    ghost use Rattle.um_reader.specs.Takes.{Takes};
+    ghost use Rattle.um_types.specs.UnitStops.{greatest_height};
+    ghost use Rattle.um_types.specs.UnitMachine.{State, finish};
+    ghost use Rattle.um_types.specs.UnitLeast.{machine_of_units};
+    ghost use Rattle.um_types.specs.UnitView.{unit_state};
+
+    type Token = Token;
+
+    type Tree = RawUnit;
+
+    ghost States = { State };
+
+    ghost Syntax = { UnitSyntax };
+
+    ghost machine = { machine_of_units };
+
+    ghost limit = { greatest_height };
+
+    ghost state_in = { unit_state };
+
+    ghost view = { unit_syntax };
+
+    ghost starts = { λ e. Prim.cc };
+
+    ghost starts_low = { Prim.omega arith };
+
+    fn new(alloc: Global) -> UnitReader {
         UnitReader {
             frames: Vec::new(alloc),
             focus: Focus::Empty,
         }
     }
 
-    /// One token more.
-    pub fn take(self, alloc: Global, token: &Token) -> Result<UnitStep, AllocError>
-        ensures taken { IfOk result (λ s. UnitTakes (unit_state self) (act (unit_state self) (unit_token token.now.kind) token.now.start) s) }
+    fn take(&mut self, alloc: Global, token: &Token) -> Result<Taken, AllocError>
+        ensures taken { IfOk result (λ t. Takes machine_of_units greatest_height (unit_state self.old) token.now t (unit_state self.new)) }
     {
-        let UnitReader { mut frames, focus } = self;
-        match step(alloc, &mut frames, focus, token)? {
-            Step::Goes(focus) => Ok(if is_low(&frames, &focus) {
-                UnitStep::Goes(UnitReader { frames, focus })
-            } else {
-                UnitStep::High
-            }),
-            Step::Stops(focus) => Ok(UnitStep::Stops(unit_of(finish(alloc, &mut frames, focus)?))),
+        let focus = mem::replace(&mut self.focus, Focus::Empty);
+        match step(alloc, &mut self.frames, focus, token)? {
+            Step::Goes(focus) => {
+                self.put(focus);
+                Ok(if is_low(&self.frames, &self.focus) {
+                    Taken::Goes
+                } else {
+                    Taken::High
+                })
+            }
+            Step::Stops(focus) => {
+                self.put(focus);
+                Ok(Taken::Stops)
+            }
         }
     }
 
-    /// The unit text where all is read, if it is one.
-    pub fn finish(self, alloc: Global) -> Result<Option<RawUnit>, AllocError>
+    fn finish(self, alloc: Global) -> Result<Option<RawUnit>, AllocError>
         ensures found { IfOk result (λ o. option_map unit_syntax o ≡ finish (unit_state self)) }
     {
         let UnitReader { mut frames, focus } = self;

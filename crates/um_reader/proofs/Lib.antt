@@ -1,0 +1,5 @@
+pub mod Reaching
+pub mod Texts
+pub mod Readers
+pub mod Answers
+mod Loop

@@ -1,0 +1,66 @@
+// The loop over the tokens.
+ghost use Rattle.std.specs.Prelude.{◌≡◌};
+ghost use Rattle.um_reader.specs.RunTo.{RunTo, RunAll, ended_at};
+ghost use Rattle.um_reader.specs.declared.reading.ReadStop.TheVariants.{NoMemory};
+
+use crate::reader::Reader;
+use crate::taken::Taken;
+use std::alloc::{AllocError, Global};
+
+/// Why tokens are not read. The numbers of tokens count from 0; that of the end is the number of tokens.
+#[derive(Clone, Copy, Debug)]
+pub enum ReadStop {
+    /// Up to this token, which is refused, or up to the end stands no text.
+    Syntax(usize),
+    /// The tokens through this one begin texts, but none within the height.
+    High(usize),
+    NoMemory,
+}
+
+impl From<AllocError> for ReadStop {
+    ghost from_gives = { λ _ e. e ≡ NoMemory };
+
+    fn from(_e: AllocError) -> ReadStop {
+        ReadStop::NoMemory
+    }
+}
+
+// The tree up to this token, or that there is none.
+fn ended_at<A>(found: Option<A>, k: usize) -> Result<(A, usize), ReadStop>
+    ensures { result ≡ ended_at found k }
+{
+    match found {
+        Some(tree) => Ok((tree, k)),
+        None => Err(ReadStop::Syntax(k)),
+    }
+}
+
+/// Reads up to the stop: the first token that is refused, or the end. Gives the tree up to it, and its number.
+pub fn read<R: Reader + Drop>(
+    alloc: Global,
+    tokens: &[R::Token],
+) -> Result<(R::Tree, usize), ReadStop>
+    ensures { RunTo R.machine R.limit R.view tokens.now result }
+{
+    let mut reader = R::new(alloc);
+    for (i, token) in tokens.iter().enumerate() {
+        match reader.take(alloc, token)? {
+            Taken::Goes => {}
+            Taken::Stops => return ended_at(reader.finish(alloc)?, i),
+            Taken::High => return Err(ReadStop::High(i)),
+        }
+    }
+    ended_at(reader.finish(alloc)?, tokens.len())
+}
+
+/// Reads all tokens.
+pub fn read_all<R: Reader + Drop>(alloc: Global, tokens: &[R::Token]) -> Result<R::Tree, ReadStop>
+    ensures { RunAll R.machine R.limit R.view tokens.now result }
+{
+    let (tree, stop) = read::<R>(alloc, tokens)?;
+    if stop < tokens.len() {
+        drop(tree);
+        return Err(ReadStop::Syntax(stop));
+    }
+    Ok(tree)
+}

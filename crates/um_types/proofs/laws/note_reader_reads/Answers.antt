@@ -1,0 +1,7 @@
+use Rattle.um_reader.proofs.Readers.{reads_texts}
+use Rattle.um_types.specs.UnitStops.{greatest_height}
+use Rattle.um_types.proofs.ReaderLaws.{notes_read}
+use Rattle.um_types.proofs.laws.note_reader_reads.Goals as goal
+
+pub returns : goal.returns
+returns c = reads_texts notes_read greatest_height

@@ -1,0 +1,16 @@
+-- What was read of a note, without where it lies in memory.
+-- Source: this project's own.
+use Rattle.um_types.specs.UnitView.{unit_state}
+use Rattle.um_types.specs.NoteMachine.{NoteState, NeedNote, HaveHole, InUnit}
+use Rattle.um_types.specs.declared.note_reader.NoteFocus.{NoteFocus}
+use Rattle.um_types.specs.declared.note_reader.NoteFocus.TheVariants as focus
+use Rattle.um_types.specs.declared.note_reader.NoteReader.{NoteReader}
+
+abbrev pub note_focus_state : NoteFocus → NoteState
+note_focus_state focus.Empty = NeedNote
+note_focus_state (focus.Hole at) = HaveHole at
+note_focus_state (focus.Unit at u) = InUnit at (unit_state u)
+
+-- the state of a reader
+abbrev pub note_state : NoteReader → NoteState
+note_state r = note_focus_state r.focus
