@@ -6,19 +6,31 @@ use Rattle.std.proofs.lemmas.Int.{ints}
 use Rattle.std.proofs.lemmas.List.Concat.{flat_map-append}
 use Rattle.std.proofs.lemmas.List.{take-append-drop}
 use Rattle.um_units.specs.declared.Term.{Term}
-use Rattle.um_units.specs.Terms.{indicator, power_in, is_zero, is_normal}
+use Rattle.um_units.specs.Terms.{indicator, power_in, is_zero, is_normal, normal_form}
 use Rattle.um_units.specs.NormalForm.{head_nonzero, head_before_all, tail_normal, cons_normal}
 use Rattle.um_units.specs.PowerMap.{PowerMap, product, mul, scale, pow, image, images}
 use Rattle.um_units.specs.Range.{in_range, all_in_range, IsKept}
 use Rattle.um_units.proofs.Weights.{zero_is, weigh-product, weigh-++}
 use Rattle.um_units.proofs.Equality.{product-of_terms, product-terms, same_product}
-use Rattle.um_units.proofs.Group.{pow-one}
 use Rattle.um_units.proofs.Nonzero.{before_all-scale}
 
+product-append : (ts us ls rs : List Term) → ls ≡ (product ts).terms → rs ≡ (product us).terms → product (ls ++ rs) ≡ product (ts ++ us)
+product-append ts us ls rs e f =
+    same_product (ls ++ rs) (ts ++ us) (λ x. weigh-++ (indicator x) ls rs
+    ∙ ap (λ n. n +ℤ power_in rs x) (ap (λ vs. power_in vs x) e ∙ weigh-product (indicator x) ts)
+    ∙ ap (λ n. power_in ts x +ℤ n) (ap (λ vs. power_in vs x) f ∙ weigh-product (indicator x) us)
+    ∙ sym (weigh-++ (indicator x) ts us))
+
 -- the terms of a unit and of another's power, multiplied
-pub product-mul_pow : (u v : PowerMap) (k : ℤ) (ts us vs : List Term) → ts ≡ (pow u (pos 1)).terms → us ≡ (pow v k).terms → vs ≡ (product (ts ++ us)).terms → product vs ≡ mul u (pow v k)
-product-mul_pow u v k ts us vs e f g =
-    ap product g ∙ product-of_terms (product (ts ++ us)) ∙ ap (λ ws. product (ws ++ us)) (e ∙ ap (λ (w : PowerMap). w.terms) (pow-one u)) ∙ ap (λ ws. product (u.terms ++ ws)) f
+pub terms-mul_pow : (u v : PowerMap) (k z : ℤ) (ts us : List Term) → ts ≡ u.terms → us ≡ v.terms → z ≡ k → normal_form (ts ++ map (scale z) us) ≡ (mul u (pow v k)).terms
+terms-mul_pow u v k z ts us e f g =
+    sym (product-terms (ts ++ map (scale z) us))
+    ∙ ap (λ (w : PowerMap). w.terms) (ap (λ vs. product (vs ++ map (scale z) us)) e ∙ ap (λ vs. product (u.terms ++ map (scale z) vs)) f ∙ ap (λ n. product (u.terms ++ map (scale n) v.terms)) g
+    ∙ sym (product-append u.terms (map (scale k) v.terms) u.terms (pow v k).terms (ap (λ (w : PowerMap). w.terms) (sym (product-of_terms u))) refl))
+
+-- a list of terms that are those of a unit
+pub product-terms_of : (u : PowerMap) (ts : List Term) → ts ≡ u.terms → product ts ≡ u
+product-terms_of u ts e = ap product e ∙ product-of_terms u
 
 -- ---- each power negated
 negated_zero : (z : ℤ) → is_zero z ≡ false → is_zero (negsuc 0 *ℤ z) ≡ false
@@ -42,13 +54,6 @@ pub kept-inverted : (ts : List Term) → IsKept ts → IsKept (map (scale (negsu
 kept-inverted ts kept = record { normal = normal-inverted ts kept.normal; fit = in_range-inverted ts kept.fit }
 
 -- ---- images
-pub product-append : (ts us ls rs : List Term) → ls ≡ (product ts).terms → rs ≡ (product us).terms → product (ls ++ rs) ≡ product (ts ++ us)
-product-append ts us ls rs e f =
-    same_product (ls ++ rs) (ts ++ us) (λ x. weigh-++ (indicator x) ls rs
-    ∙ ap (λ n. n +ℤ power_in rs x) (ap (λ vs. power_in vs x) e ∙ weigh-product (indicator x) ts)
-    ∙ ap (λ n. power_in ts x +ℤ n) (ap (λ vs. power_in vs x) f ∙ weigh-product (indicator x) us)
-    ∙ sym (weigh-++ (indicator x) ts us))
-
 -- the halves of the terms
 pub product-halves : (s : ℕ → PowerMap) (ts front back ls rs : List Term) (n : ℕ) → front ≡ take n ts → back ≡ drop n ts → ls ≡ (product (images s front)).terms → rs ≡ (product (images s back)).terms →
     product (ls ++ rs) ≡ product (images s ts)

@@ -1,5 +1,5 @@
 -- Units whose powers are in range.
-use Rattle.std.proofs.Common.{◌≡◌, inl, inr, ◌<◌, ◌≤◌, true, false, List, [], ◌∷◌, ℤ, pos, neg_ℤ, nat_abs, refl, sym, ap, ◌∙◌, subst, arith}
+use Rattle.std.proofs.Common.{◌≡◌, inl, inr, ◌<◌, ◌≤◌, Bool, true, false, List, [], ◌∷◌, ℤ, pos, neg_ℤ, nat_abs, refl, sym, ap, ◌∙◌, subst, arith}
 use Rattle.std.specs.Prelude.{IsTrue, IsFalse}
 use Rattle.std.proofs.lemmas.Bool.{and_parts, and_cases, leb-true, leb-false, true_from_ne_false, false_from_ne_true}
 use Rattle.std.proofs.lemmas.Int.{ints}
@@ -9,7 +9,9 @@ use Rattle.um_units.specs.Atoms.{same_atom}
 use Rattle.um_units.specs.Terms.{indicator, power_in, is_normal}
 use Rattle.um_units.specs.NormalForm.{head_before_all, tail_normal, same_atom-eq}
 use Rattle.um_units.specs.PowerMap.{PowerMap, product, power_of, one, atom, inv}
-use Rattle.um_units.specs.Range.{in_range, all_in_range, fits, IsKept}
+use Rattle.um_units.specs.declared.UnitStop.{UnitStop}
+use Rattle.um_units.specs.declared.UnitStop.TheVariants.{Range, NoMemory}
+use Rattle.um_units.specs.Range.{in_range, all_in_range, fits, IsKept, IsStopUnless}
 use Rattle.um_units.proofs.Equality.{product-normal, power_in-before_all, power_in-head, power_in-tail}
 use Rattle.um_units.proofs.Group.{weight-one, weight-inv, terms-atom}
 
@@ -71,3 +73,9 @@ fits-kept ts u kept e = subst (λ v. IsTrue (fits v)) e (fits-product ts kept)
 
 pub terms-kept : (ts : List Term) (u : PowerMap) → IsKept ts → product ts ≡ u → ts ≡ u.terms
 terms-kept ts u kept e = sym (product-normal ts kept.normal) ∙ ap (λ (v : PowerMap). v.terms) e
+
+-- ---- stops
+-- why a call stopped is why another does, where its test fails with the other's
+pub stop_further : (b d : Bool) (stop : UnitStop) → (IsFalse b → IsFalse d) → IsStopUnless b stop → IsStopUnless d stop
+stop_further b d Range f h = f h
+stop_further b d NoMemory f h = h

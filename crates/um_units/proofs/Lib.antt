@@ -9,4 +9,6 @@ pub mod Solutions
 mod AtomOrder
 mod Nonzero
 mod MergeLemmas
+mod WideMerge
+mod PowerMerge
 mod ComputedTerms

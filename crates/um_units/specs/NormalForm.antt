@@ -67,7 +67,7 @@ pub before_all-unless_zero : (x : Atom) (t : Term) (ts : List Term) →
 before_all-unless_zero x t ts h k =
     cond_both (is_zero t.power) ts (t ∷ ts) (λ us. IsTrue (is_before_all x us)) (λ e. k) (λ e. and_from _ _ h k)
 
-before_all-times_term : (x : Atom) (t : Term) (ts : List Term) →
+pub before_all-times_term : (x : Atom) (t : Term) (ts : List Term) →
     IsTrue (is_before x t.atom) → IsTrue (is_before_all x ts) → IsTrue (is_before_all x (times_term t ts))
 before_all-times_term x t [] h k = before_all-unless_zero x t [] h k
 before_all-times_term x t (s ∷ ts) h k =

@@ -20,6 +20,7 @@ use std::marker::Model;
 use thiserror::Error;
 
 mod images;
+mod merge;
 mod wide;
 
 use wide::WideTerm;
@@ -179,10 +180,8 @@ impl Unit {
         ensures exact { IfOk result (λ unit. unit ≡ mul self.now (pow other.now k)) }
         ensures range { RangeUnless result (fits (mul self.now (pow other.now k))) }
     {
-        let left = wide::scaled(alloc, &self.terms, 1)?;
-        let right = wide::scaled(alloc, &other.terms, k)?;
-        let sum = wide::merged(alloc, &left, &right)?;
-        Unit::of_sum(alloc, &sum)
+        let terms = merge::times_power(alloc, &self.terms, &other.terms, k)?;
+        Ok(Unit { terms })
     }
 
     /// The inverse: each power is negated. The range is symmetric, so that no power leaves it.
@@ -201,8 +200,8 @@ impl Unit {
         ensures exact { IfOk result (λ unit. unit ≡ pow self.now k) }
         ensures range { RangeUnless result (fits (pow self.now k)) }
     {
-        let sum = wide::scaled(alloc, &self.terms, k)?;
-        Unit::of_sum(alloc, &sum)
+        let one = Unit::one(alloc);
+        one.mul_pow(alloc, self, k)
     }
 
     /// The unit with `by[k]` put for each variable k. Base units stay, and so does a variable that has no unit in `by`.

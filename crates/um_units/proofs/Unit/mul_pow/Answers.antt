@@ -1,25 +1,33 @@
-use Rattle.std.proofs.Common.{◌≡◌, ◌∙◌, ap, subst, map, pos, w32}
+use Rattle.std.proofs.Common.{◌++◌, ◌∙◌, ap, sym, map, to_z, of_z, w32}
 use Rattle.std.proofs.lemmas.Int.{to_z-of_z}
-use Rattle.std.specs.Prelude.{IfOk}
-use Rattle.um_units.specs.PowerMap.{mul, pow, product, scale}
-use Rattle.um_units.specs.Range.{fits, RangeUnless}
-use Rattle.um_units.specs.Wide.{as_terms}
-use Rattle.um_units.proofs.ComputedTerms.{product-mul_pow}
-use Rattle.um_units.proofs.InRange.{terms-kept}
+use Rattle.std.proofs.lemmas.Result.{err_from_is_err_and}
+use Rattle.um_units.specs.PowerMap.{mul, pow, scale}
+use Rattle.um_units.specs.Range.{all_in_range}
+use Rattle.um_units.proofs.ComputedTerms.{terms-mul_pow, product-terms_of}
+use Rattle.um_units.proofs.InRange.{terms-kept, stop_further}
+use Rattle.um_units.proofs.PowerMerge.{kept_normal_form}
 use Rattle.um_units.proofs.Unit.mul_pow.Goals as goal
 
-exact : (c : goal.After-drop-left-2) → product (as_terms c.deref-5.result.now) ≡ mul c.args.self.now (pow c.args.other.now c.args.k)
-exact c =
+pub returns-in_err-terms-clause-range : goal.returns-in_err-terms-clause-range
+returns-in_err-terms-clause-range c =
     let u = terms-kept c.self.inside.terms.items c.args.self.now c.self.invariant c.self.view_is in
     let v = terms-kept c.other.inside.terms.items c.args.other.now c.other.invariant c.other.view_is in
-    product-mul_pow c.args.self.now c.args.other.now c.args.k (as_terms c.deref-3.result.now) (as_terms c.deref-4.result.now) (as_terms c.deref-5.result.now)
-    (ap as_terms c.deref-3.ensures.value ∙ c.in_ok-left.ensures.power ∙ ap (λ ts. (product (map (scale (pos 1)) ts)).terms) (c.deref.ensures.value ∙ u))
-    (ap as_terms c.deref-4.ensures.value ∙ c.in_ok-right.ensures.power ∙ ap (λ z. (product (map (scale z) c.deref-2.result.now)).terms) (to_z-of_z w32 c.args.k c.ranges.k)
-    ∙ ap (λ ts. (product (map (scale c.args.k) ts)).terms) (c.deref-2.ensures.value ∙ v))
-    (ap as_terms c.deref-5.ensures.value ∙ c.in_ok-sum.ensures.product)
+    let whole = terms-mul_pow c.args.self.now c.args.other.now c.args.k _ _ _ (c.deref.ensures.value ∙ u) (c.deref-2.ensures.value ∙ v) (to_z-of_z w32 c.args.k c.ranges.k) in
+    let p = err_from_is_err_and c.from_residual.result c.from_residual.ensures.1 in
+    rw (p.1, p.2) (stop_further _ _ c.in_err-terms.field-0.0 (λ h. ap all_in_range (sym whole) ∙ h) c.in_err-terms.ensures.range)
+
+pub invariant_of-result : goal.invariant_of-result
+invariant_of-result c = kept_normal_form (c.deref.result.now ++ map (scale (to_z w32 (of_z w32 c.args.k))) c.deref-2.result.now) c.in_ok-terms.terms.items c.in_ok-terms.ensures.product c.in_ok-terms.ensures.range
 
 pub returns-clause-exact : goal.returns-clause-exact
-returns-clause-exact c = subst (λ u. IfOk c.of_sum.result (λ unit. unit ≡ u)) (exact c) c.of_sum.ensures.exact
+returns-clause-exact c =
+    let u = terms-kept c.self.inside.terms.items c.args.self.now c.self.invariant c.self.view_is in
+    let v = terms-kept c.other.inside.terms.items c.args.other.now c.other.invariant c.other.view_is in
+    product-terms_of (mul c.args.self.now (pow c.args.other.now c.args.k)) c.in_ok-terms.terms.items
+    (c.in_ok-terms.ensures.product ∙ terms-mul_pow c.args.self.now c.args.other.now c.args.k _ _ _ (c.deref.ensures.value ∙ u) (c.deref-2.ensures.value ∙ v) (to_z-of_z w32 c.args.k c.ranges.k))
 
 pub returns-clause-range : goal.returns-clause-range
-returns-clause-range c = subst (λ u. RangeUnless c.of_sum.result (fits u)) (exact c) c.of_sum.ensures.range
+returns-clause-range c =
+    let u = terms-kept c.self.inside.terms.items c.args.self.now c.self.invariant c.self.view_is in
+    let v = terms-kept c.other.inside.terms.items c.args.other.now c.other.invariant c.other.view_is in
+    ap all_in_range (sym (terms-mul_pow c.args.self.now c.args.other.now c.args.k _ _ _ (c.deref.ensures.value ∙ u) (c.deref-2.ensures.value ∙ v) (to_z-of_z w32 c.args.k c.ranges.k))) ∙ c.in_ok-terms.ensures.range
