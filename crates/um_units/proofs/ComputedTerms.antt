@@ -1,17 +1,24 @@
 -- What the lists of terms that the code computes stand for.
 use Rattle.std.proofs.Common.{◌≡◌, ℕ, ◌<◌, ◌+ℤ◌, length, take, drop, true, false, List, [], ◌∷◌, ◌++◌, map, ℤ, pos, negsuc, ◌*ℤ◌, nat_abs, refl, sym, ap, ◌∙◌, arith}
 use Rattle.std.specs.Prelude.{IsTrue, nat_le}
-use Rattle.std.proofs.lemmas.Bool.{and_parts, and_from, false_from_ne_true}
+use Rattle.std.proofs.lemmas.Bool.{and_parts, and_from, false_from_ne_true, ltb-true}
 use Rattle.std.proofs.lemmas.Int.{ints}
 use Rattle.std.proofs.lemmas.List.Concat.{flat_map-append}
-use Rattle.std.proofs.lemmas.List.{take-append-drop}
+use Rattle.std.proofs.lemmas.List.{take-append-drop, append-nil}
+use Rattle.std.proofs.lemmas.List.Folds.{list_all-append}
+use Rattle.um_units.specs.declared.Atom.{Atom}
+use Rattle.um_units.specs.declared.Atom.TheVariants.{Base, Var}
 use Rattle.um_units.specs.declared.Term.{Term}
-use Rattle.um_units.specs.Terms.{indicator, power_in, is_zero, is_normal, normal_form}
+use Rattle.um_units.specs.Atoms.{is_before}
+use Rattle.um_units.specs.Terms.{indicator, power_in, is_zero, is_before_all, is_normal, normal_form}
 use Rattle.um_units.specs.NormalForm.{head_nonzero, head_before_all, tail_normal, cons_normal}
-use Rattle.um_units.specs.PowerMap.{PowerMap, product, mul, scale, pow, image, images}
+use Rattle.um_units.specs.PowerMap.{PowerMap, product, atom, mul, scale, pow, image, images, replace}
 use Rattle.um_units.specs.Range.{in_range, all_in_range, IsKept}
 use Rattle.um_units.proofs.Weights.{zero_is, weigh-product, weigh-++}
 use Rattle.um_units.proofs.Equality.{product-of_terms, product-terms, same_product}
+use Rattle.um_units.specs.Variables.{atom_below, variables_below}
+use Rattle.um_units.proofs.Replacement.{images-same, replace-closed}
+use Rattle.um_units.proofs.Variables.{IsClosed-below_zero, VariablesBelow-from_terms}
 use Rattle.um_units.proofs.Nonzero.{before_all-scale}
 
 product-append : (ts us ls rs : List Term) → ls ≡ (product ts).terms → rs ≡ (product us).terms → product (ls ++ rs) ≡ product (ts ++ us)
@@ -65,3 +72,44 @@ product-halves s ts front back ls rs n e f g h =
 pub images-none : (s : ℕ → PowerMap) (ts : List Term) → length ts < 1 → [] ≡ (product (images s ts)).terms
 images-none s [] h = sym (product-terms [])
 images-none s (t ∷ ts) h = absurd (omega arith)
+
+-- ---- base units in front
+pub normal_front : (ts us : List Term) → IsTrue (is_normal (ts ++ us)) → IsTrue (is_normal ts)
+normal_front [] us n = refl
+normal_front (t ∷ ts) us n =
+    cons_normal t ts (head_nonzero t (ts ++ us) n)
+    (and_parts (is_before_all t.atom ts) (is_before_all t.atom us) (sym (list_all-append (λ s. is_before t.atom s.atom) ts us) ∙ head_before_all t (ts ++ us) n)).0
+    (normal_front ts us (tail_normal t (ts ++ us) n))
+
+-- base units alone
+pub replace-base_units : (s : ℕ → PowerMap) (u : PowerMap) (front back : List Term) → front ++ back ≡ u.terms → IsTrue (variables_below 0 front) → back ≡ [] → replace s u ≡ u
+replace-base_units s u front back e h f =
+    replace-closed s u (IsClosed-below_zero u (VariablesBelow-from_terms 0 u (ap (variables_below 0) (sym e ∙ ap (λ ts. front ++ ts) f ∙ append-nil front) ∙ h)))
+
+scale-one : (ts : List Term) → map (scale (pos 1)) ts ≡ ts
+scale-one [] = refl
+scale-one (t ∷ ts) = λ i. record { atom = t.atom; power = same t.power i } ∷ scale-one ts i
+  where
+    same : (z : ℤ) → pos 1 *ℤ z ≡ z
+    same z = omega (arith, ints)
+
+images-closed : (s : ℕ → PowerMap) (ts : List Term) → IsTrue (variables_below 0 ts) → product (images s ts) ≡ product ts
+images-closed s ts h = ap product (alike ts h) ∙ images-same ts
+  where
+    at : (x : Atom) → IsTrue (atom_below 0 x) → image s x ≡ image (λ k. atom (Var k)) x
+    at (Base n) h = refl
+    at (Var k) h = absurd (let l = ltb-true k 0 h in omega (arith, l))
+
+    alike : (ts : List Term) → IsTrue (variables_below 0 ts) → images s ts ≡ images (λ k. atom (Var k)) ts
+    alike [] h = refl
+    alike (t ∷ ts) h =
+        let p = and_parts (atom_below 0 t.atom) (variables_below 0 ts) h in
+        ap (λ us. map (scale t.power) (image s t.atom).terms ++ us) (alike ts p.1)
+        ∙ ap (λ (u : PowerMap). map (scale t.power) u.terms ++ images (λ k. atom (Var k)) ts) (at t.atom p.0)
+
+-- base units, and what is put for the other terms
+pub product-parts : (s : ℕ → PowerMap) (front back ls rs : List Term) → IsTrue (variables_below 0 front) → ls ≡ (product (map (scale (pos 1)) front)).terms → rs ≡ (product (images s back)).terms →
+    product (ls ++ rs) ≡ product (images s (front ++ back))
+product-parts s front back ls rs h e f =
+    product-append (images s front) (images s back) ls rs (e ∙ ap (λ (u : PowerMap). u.terms) (ap product (scale-one front) ∙ sym (images-closed s front h))) f
+    ∙ ap product (sym (flat_map-append (λ t. map (scale t.power) (image s t.atom).terms) front back))

@@ -1,7 +1,9 @@
 //! Products of many terms, and of what a replacement puts for them.
 
-ghost use Rattle.std.specs.Prelude.{◌*◌, ◌^◌, ◌≤◌, IfOk, length};
+ghost use Rattle.std.specs.Prelude.{◌≡◌, ◌++◌, ◌*◌, ◌^◌, ◌≤◌, IfOk, IsTrue, length};
 ghost use Rattle.um_units.specs.PowerMap.{atom, product, pow, image, images, nth};
+ghost use Rattle.um_units.specs.Terms.{is_normal};
+ghost use Rattle.um_units.specs.Variables.{variables_below};
 ghost use Rattle.um_units.specs.Wide.{AreTermsOf, greatest};
 
 use crate::wide::{self, WideTerm};
@@ -52,4 +54,36 @@ pub fn product(alloc: Global, terms: &[Term], by: &[Unit]) -> Result<Vec<WideTer
             wide::merged(alloc, &left, &right)
         }
     }
+}
+
+/// The base units in front of the terms, and the other terms.
+pub fn parted(terms: &[Term]) -> (&[Term], &[Term])
+    ensures parts { result.0.now ++ result.1.now ≡ terms.now }
+    ensures closed { IsTrue (variables_below 0 result.0.now) }
+{
+    for (i, term) in terms.iter().enumerate() {
+        if let Atom::Var(_) = term.atom {
+            return terms.split_at(i);
+        }
+    }
+    (terms, &[])
+}
+
+/// The product of base units in order and of what `by` puts for the other terms' atoms, to their powers.
+pub fn times_product(
+    alloc: Global,
+    base_units: &[Term],
+    others: &[Term],
+    by: &[Unit],
+) -> Result<Vec<WideTerm>, AllocError>
+    requires normal { IsTrue (is_normal base_units.now) }
+    requires closed { IsTrue (variables_below 0 base_units.now) }
+    ensures { IfOk result (λ v. AreTermsOf v.items (product (images (nth by.now) (base_units.now ++ others.now)))) }
+{
+    let put = product(alloc, others, by)?;
+    if base_units.is_empty() {
+        return Ok(put);
+    }
+    let kept = wide::scaled(alloc, base_units, 1)?;
+    wide::merged(alloc, &kept, &put)
 }

@@ -207,12 +207,16 @@ impl Unit {
     /// The unit with `by[k]` put for each variable k. Base units stay, and so does a variable that has no unit in `by`.
     ///
     /// Range comes exactly where a power of the result is out of range, however large powers are on the way. It takes
-    /// about n log m steps for a unit of m terms for which n terms are put in.
+    /// about n log m steps for m variables for which n terms are put in, and one for each base unit.
     pub fn replace(&self, alloc: Global, by: &[Unit]) -> Result<Unit, UnitStop>
         ensures exact { IfOk result (λ unit. unit ≡ replace (nth by.now) self.now) }
         ensures range { RangeUnless result (fits (replace (nth by.now) self.now)) }
     {
-        let sum = images::product(alloc, &self.terms, by)?;
+        let (base_units, others) = images::parted(&self.terms);
+        if others.is_empty() {
+            return Ok(self.copy(alloc)?);
+        }
+        let sum = images::times_product(alloc, base_units, others, by)?;
         Unit::of_sum(alloc, &sum)
     }
 
