@@ -3,7 +3,7 @@
 -- units moves them, and only 0 has every unit. The laws of budgets and shapes are this project's own.
 use Rattle.std.specs.Prelude.{◌≡◌, ◌≢◌, ◌↔◌, ◌<◌, ◌≤◌, ◌+◌, ℕ, All, List, length, map, pos, slice_get, Option, Some, None}
 use Rattle.um_units.specs.declared.Atom.TheVariants.{Base}
-use Rattle.um_units.specs.PowerMap.{PowerMap, mul, atom, power_of}
+use Rattle.um_units.specs.PowerMap.{PowerMap, atom, power_of}
 use Rattle.um_units.specs.Variables.{IsClosed}
 use Rattle.um_frac.specs.declared.number.Frac.{Frac}
 use Rattle.um_frac.specs.declared.number.Trap.{Trap}
