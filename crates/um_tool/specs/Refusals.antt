@@ -1,6 +1,8 @@
--- The report lines of refusals of a text, each with its place.
+-- The report lines of refusals of a text, each with its place but those of a source that isn't read.
 -- Source: this project's own.
 use Rattle.std.specs.Prelude.{ℕ, List, ◌++◌, codes}
+use Rattle.um_wire.specs.declared.read.ReadStop.{ReadStop}
+use Rattle.um_wire.specs.declared.read.ReadStop.TheVariants as read_stop
 use Rattle.um_syntax.specs.declared.token.TextStop.{TextStop}
 use Rattle.um_syntax.specs.declared.token.TextStop.TheVariants as text_stop
 use Rattle.um_types.specs.declared.parse.LimitKind.{LimitKind}
@@ -12,13 +14,19 @@ use Rattle.um_measures.specs.declared.stop.NameStop.TheVariants as name_stop
 use Rattle.um_shape.specs.declared.stop.ShapeStop.{ShapeStop}
 use Rattle.um_shape.specs.declared.stop.ShapeStop.TheVariants as shape_stop
 use Rattle.um_tool.specs.declared.status.Status.{Status}
-use Rattle.um_tool.specs.declared.status.Status.TheVariants.{Utf8, Lexical, Syntax, Limit, Names, Shape, Units, PowerRange, NotGeneral}
+use Rattle.um_tool.specs.declared.status.Status.TheVariants.{TooLong, ReadFault, Utf8, Lexical, Syntax, Limit, Names, Shape, Units, PowerRange, NotGeneral}
 use Rattle.um_tool.specs.Places.{place_text}
 use Rattle.um_tool.specs.Steps.{line, IsReply}
 
 -- the label and the place
 abbrev pub placed : List ℕ → List ℕ → ℕ → List ℕ
 placed label bytes at = line (label ++ place_text bytes at)
+
+-- the line and the status of a source that isn't read; want of memory has none
+abbrev pub IsReadReply : ReadStop → List ℕ → Status → Type 0
+IsReadReply read_stop.TooLong text status = IsReply text status (line (codes "error 2: text too long")) TooLong
+IsReadReply read_stop.Failed text status = IsReply text status (line (codes "error 15: read")) ReadFault
+IsReadReply read_stop.NoMemory text status = ⊥
 
 -- the line and the status of a refusal of the text; want of memory has none
 abbrev pub IsTextReply : List ℕ → TextStop → List ℕ → Status → Type 0

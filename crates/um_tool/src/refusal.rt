@@ -1,6 +1,6 @@
 // The lines of refusals.
 ghost use Rattle.std.specs.Prelude.{◌≡◌, ◌++◌, IfOk, codes};
-ghost use Rattle.um_tool.specs.Refusals.{IsTextReply, IsParseReply, IsNameReply, IsShapeReply, IsUnitsReply, IsNotGeneralReply, IsRangeReply, IsSlotsReply, limit_label as label_of_limit, placed};
+ghost use Rattle.um_tool.specs.Refusals.{IsReadReply, IsTextReply, IsParseReply, IsNameReply, IsShapeReply, IsUnitsReply, IsNotGeneralReply, IsRangeReply, IsSlotsReply, limit_label as label_of_limit, placed};
 ghost use Rattle.um_tool.specs.Steps.{IsReply, line};
 
 use crate::Status;
@@ -12,6 +12,7 @@ use um_parse::{LimitKind, ParseStop};
 use um_shape::ShapeStop;
 use um_syntax::TextStop;
 use um_tree::Name;
+use um_wire::ReadStop;
 
 /// A reply of one line.
 pub(crate) fn reply_line(alloc: Global, text: &str, status: Status) -> Result<Reply, AllocError>
@@ -36,6 +37,17 @@ fn reply_at(
     ensures { IfOk result (λ reply. IsReply reply.text.items reply.status (placed label.now bytes.now at) status) }
 {
     reply_labelled(label.as_bytes().to_vec(alloc)?, bytes, at, status)
+}
+
+/// The refusal of what the source has left, which was not read.
+pub(crate) fn reply_to_unread(alloc: Global, stop: ReadStop) -> Result<Reply, AllocError>
+    ensures { IfOk result (λ reply. IsReadReply stop reply.text.items reply.status) }
+{
+    match stop {
+        ReadStop::TooLong => reply_line(alloc, "error 2: text too long", Status::TooLong),
+        ReadStop::Failed => reply_line(alloc, "error 15: read", Status::ReadFault),
+        ReadStop::NoMemory => Err(AllocError),
+    }
 }
 
 /// The refusal of a text that has no tokens.
