@@ -181,7 +181,8 @@ functions_found records known (f ∷ fs) =
 -- a record is no taller than 400
 abbrev pub record_found : List RecordShape → RecordTree → Result RecordShape ShapeFault
 record_found earlier d =
-    cond (nat_le (declared_shape earlier d).height greatest_height) (Ok (declared_shape earlier d)) (Err (too_deep d.at))
+    cond (nat_le (declared_shape earlier d).height greatest_height) (Ok (declared_shape earlier d))
+    (Err (too_deep d.at))
 
 abbrev pub records_found : List RecordShape → List RecordTree → Result (List RecordShape) ShapeFault
 records_found earlier [] = Ok earlier

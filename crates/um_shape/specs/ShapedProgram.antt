@@ -35,4 +35,5 @@ IsResultShape p i s =
 -- the shape is no taller than 400, through the fields of the program's records
 abbrev pub IsLowShape : ProgramTree → ShapeTree → Type 0
 IsLowShape p s =
-    (records : List RecordShape) × (records_found [] p.records ≡ Ok records) × (shape_height records s ≤ greatest_height)
+    (records : List RecordShape) × (records_found [] p.records ≡ Ok records)
+    × (shape_height records s ≤ greatest_height)

@@ -21,10 +21,12 @@ use Rattle.um_names.specs.Resolution.{resolved_program}
 use Rattle.um_shape.specs.declared.stop.ShapeStop.{ShapeStop}
 use Rattle.um_shape.specs.FirstFault.{first_fault}
 use Rattle.um_shape.specs.ShapedProgram.{IsRefusal}
-use Rattle.um_infer.specs.Inference.{Inference, all_schemes, stops_at_slots, stops_at_range, stops_at_units, stops_at_not_general, infer}
+use Rattle.um_infer.specs.Inference.{Inference, all_schemes, stops_at_slots, stops_at_range, stops_at_units}
+use Rattle.um_infer.specs.Inference.{stops_at_not_general, infer}
 use Rattle.um_show.specs.Layout.{layout}
 use Rattle.um_tool.specs.Orders.{order_of, intake_of, NamesUnbuilt}
-use Rattle.um_tool.specs.Refusals.{IsTextReply, IsParseReply, IsNameReply, IsShapeReply, IsSlotsReply, IsRangeReply, IsUnitsReply, IsNotGeneralReply}
+use Rattle.um_tool.specs.Refusals.{IsTextReply, IsParseReply, IsNameReply, IsShapeReply, IsSlotsReply, IsRangeReply}
+use Rattle.um_tool.specs.Refusals.{IsUnitsReply, IsNotGeneralReply}
 use Rattle.um_tool.specs.SchemeLines.{scheme_lines}
 use Rattle.um_tool.specs.Steps.{line, IsReply, Cases}
 
@@ -45,10 +47,13 @@ OfFunction p i Says = (f : FunctionTree) × (slice_get p.functions i ≡ Some f)
 
 -- the lines of the schemes, or the refusal of the first function without one
 abbrev pub InferenceAnswer : List ℕ → ProgramTree → Inference → List ℕ → Status → Type 0
-InferenceAnswer bytes p (all_schemes schemes) text status = IsReply text status (scheme_lines p p.functions schemes) Done
+InferenceAnswer bytes p (all_schemes schemes) text status =
+    IsReply text status (scheme_lines p p.functions schemes) Done
 InferenceAnswer bytes p (stops_at_slots i) text status = OfFunction p i (λ f. IsSlotsReply bytes f.at text status)
-InferenceAnswer bytes p (stops_at_range i at) text status = OfFunction p i (λ f. IsRangeReply bytes f.name at text status)
-InferenceAnswer bytes p (stops_at_units i row at) text status = OfFunction p i (λ f. IsUnitsReply bytes f.name at text status)
+InferenceAnswer bytes p (stops_at_range i at) text status =
+    OfFunction p i (λ f. IsRangeReply bytes f.name at text status)
+InferenceAnswer bytes p (stops_at_units i row at) text status =
+    OfFunction p i (λ f. IsUnitsReply bytes f.name at text status)
 InferenceAnswer bytes p (stops_at_not_general i row at) text status =
     OfFunction p i (λ f. IsNotGeneralReply bytes f.name at text status)
 

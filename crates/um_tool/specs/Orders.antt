@@ -11,7 +11,8 @@ use Rattle.um_tool.specs.declared.order.Intake.TheVariants.{Text}
 abbrev pub is_unbuilt : List ℕ → Bool
 is_unbuilt word =
     bytes_eq word (codes "code") || bytes_eq word (codes "run") || bytes_eq word (codes "steps")
-    || bytes_eq word (codes "eval") || bytes_eq word (codes "rescale") || bytes_eq word (codes "twin") || bytes_eq word (codes "big")
+    || bytes_eq word (codes "eval") || bytes_eq word (codes "rescale") || bytes_eq word (codes "twin")
+    || bytes_eq word (codes "big")
 
 -- the first word is such a command; whatever follows it isn't looked at
 abbrev pub NamesUnbuilt : List (List ℕ) → Type 0
@@ -20,7 +21,8 @@ NamesUnbuilt (word ∷ words) = IsTrue (is_unbuilt word)
 
 -- the order that the words name, where they have one of the forms
 abbrev pub order_of : List (List ℕ) → Option Order
-order_of (word ∷ []) = if bytes_eq word (codes "types") then Some Types else if bytes_eq word (codes "fmt") then Some Fmt else None
+order_of (word ∷ []) =
+    if bytes_eq word (codes "types") then Some Types else if bytes_eq word (codes "fmt") then Some Fmt else None
 order_of words = None
 
 -- what an order takes from the source

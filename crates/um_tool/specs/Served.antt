@@ -45,7 +45,8 @@ pub record WroteAll (Planned : List ℕ → Status → Type 0) (old new : Option
   pub written : Appends old new text
 
 -- a first part of the planned text was written, and the sink's count rose
-pub record WrotePart (Planned : List ℕ → Status → Type 0) (old new : Option (List ℕ)) (before now : ℕ) (status : Status) : Type 0 where
+pub record WrotePart
+    (Planned : List ℕ → Status → Type 0) (old new : Option (List ℕ)) (before now : ℕ) (status : Status) : Type 0 where
   pub text : List ℕ
   pub meant : Status
   pub planned : Planned text meant
