@@ -1,6 +1,5 @@
 -- What a lexer that is fed in pieces answers, by the definitions of tokens, and what it stands for, by the scanner's states.
-use Rattle.std.specs.Prelude.{◌≡◌, ℕ, ◌⊎◌, Bool, true, false, List, [], ◌∷◌, ◌++◌, length, take, Option, None, Some}
-use Rattle.std.specs.Prelude.{Result, Ok, Err}
+use Rattle.std.specs.Prelude.{◌≡◌, ℕ, ◌⊎◌, Bool, true, false, List, [], ◌∷◌, ◌++◌, length, take, Option, None, Some, Result, Ok, Err}
 use Rattle.std.specs.Str.{chars, IsUtf8, IsValidUpTo, encode_utf8_all, all_scalars}
 use Rattle.um_syntax.specs.declared.token.Token.{Token}
 use Rattle.um_syntax.specs.declared.token.LexStop.{LexStop}
@@ -21,8 +20,7 @@ EndsLine xs = (xs ≡ []) ⊎ ((before : List ℕ) × (xs ≡ before ++ 10 ∷ [
 -- Of the longest prefix of the bytes that is empty or ends with a line feed: where it has tokens, they are so many.
 abbrev pub CountsTokens : List ℕ → ℕ → Type 0
 CountsTokens bytes count =
-    (prefix rest : List ℕ) (tokens : List Token) → bytes ≡ prefix ++ rest → EndsLine prefix → IsLine rest
-    → IsUtf8 prefix
+    (prefix rest : List ℕ) (tokens : List Token) → bytes ≡ prefix ++ rest → EndsLine prefix → IsLine rest → IsUtf8 prefix
     → HasTokens (chars prefix) tokens → count ≡ length tokens
 
 -- What the text of the bytes has: tokens, or its leftmost fault; bytes that aren't UTF-8 have none.

@@ -1,7 +1,6 @@
 -- The tokens of a text, or its leftmost refusal (this project's own).
 -- A text is its list of characters. Places are byte offsets in UTF-8.
-use Rattle.std.specs.Prelude.{◌≡◌, ◌≢◌, ℕ, ◌+◌, ◌-◌, Bool, true, false, cond, ◌==◌, ◌||◌, ◌&&◌, ◌⊎◌, List, [], ◌∷◌}
-use Rattle.std.specs.Prelude.{◌++◌, length, slice_get, Option, None, Some}
+use Rattle.std.specs.Prelude.{◌≡◌, ◌≢◌, ℕ, ◌+◌, ◌-◌, Bool, true, false, cond, ◌==◌, ◌||◌, ◌&&◌, ◌⊎◌, List, [], ◌∷◌, ◌++◌, length, slice_get, Option, None, Some}
 use Rattle.std.specs.Char.{len_utf8}
 use Rattle.unicode_ident.specs.Ident.{is_xid_continue}
 use Rattle.um_syntax.specs.declared.token.Kind.{Kind}

@@ -1,9 +1,7 @@
 -- The machine that reads a text character by character. The definitions of tokens and refusals don't rest on it; that
 -- it
 -- gives them is proved.
-use Rattle.std.specs.Prelude.{ℕ, ◌+◌, ◌≤◌, ◌-◌, ◌*◌, ◌^◌, Bool, true, false, cond, ◌==◌, ◌||◌, ◌&&◌, nat_lt, nat_le}
-use Rattle.std.specs.Prelude.{List, [], ◌∷◌, ◌++◌, length, take, drop, pos, Option, None, Some, is_some, option_map}
-use Rattle.std.specs.Prelude.{Result, Ok, Err}
+use Rattle.std.specs.Prelude.{ℕ, ◌+◌, ◌≤◌, ◌-◌, ◌*◌, ◌^◌, Bool, true, false, cond, ◌==◌, ◌||◌, ◌&&◌, nat_lt, nat_le, List, [], ◌∷◌, ◌++◌, length, take, drop, pos, Option, None, Some, is_some, option_map, Result, Ok, Err}
 use Rattle.std.specs.Coded.{×_prop, Unit-prop, le_prop}
 use Rattle.std.specs.Char.{is_ascii_digit, len_utf8, encode_utf8}
 use Rattle.std.specs.Str.{bytes_eq}
@@ -246,8 +244,7 @@ abbrev pub begun : Scan → ℕ → ℕ → Result Scan LexStop
 begun s c next =
     cond (is_space c) (Ok (at_state s next s.letters pending.Free))
     (cond (starts_name c) (Ok (at_state s next (s.letters ++ encode_utf8 c) (pending.Identifier s.at)))
-    (cond (is_ascii_digit c) (Ok (at_state s next s.letters
-    (pending.Number s.at next part.Whole (first_figures (c - 48)))))
+    (cond (is_ascii_digit c) (Ok (at_state s next s.letters (pending.Number s.at next part.Whole (first_figures (c - 48)))))
     (cond (c == 39) (Ok (at_state s next s.letters (pending.Quote s.at)))
     (cond (is_some (single_symbol c) || c == 38) (Ok (at_state s next s.letters (pending.Symbol s.at c)))
     (Err (BadChar s.at))))))

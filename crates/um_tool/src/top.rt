@@ -53,9 +53,11 @@ pub fn serve<S: Source, K: Sink>(
 fn reply_to<S: Source>(alloc: Global, words: &Words, source: &mut S) -> Result<Reply, AllocError>
     ensures planned { IfOk result (λ reply. IsPlanned words.now (S.left source.old)
         (S.faults source.old) (S.faults source.new) reply.text.items reply.status) }
-    ensures read_fault { IfOk result (λ reply. reply.status ≡ Status.ReadFault → Rose (S.faults source.old) (S.faults source.new)) }
+    ensures read_fault { IfOk result (λ reply. reply.status ≡ Status.ReadFault
+        → Rose (S.faults source.old) (S.faults source.new)) }
     ensures not_write_fault { IfOk result (λ reply. reply.status ≢ Status.WriteFault) }
-    ensures complete { IfOk result (λ reply. IsUndisturbed words.now (S.left source.old) (S.faults source.old) (S.faults source.new)
+    ensures complete { IfOk result (λ reply. IsUndisturbed words.now (S.left source.old) (S.faults source.old)
+        (S.faults source.new)
         → reply.status ≡ Status.Done) }
     ensures unread { (Reads words.now → ⊥) → source.new ≡ source.old }
 {
