@@ -174,7 +174,7 @@ intake_done Nothing order words bytes text status ok answer = absurd ok
 intake_done Text order words bytes text status ok answer =
     let long : 1048576 < length bytes → ⊥ = λ h. omega (arith, ok.short) in
     tokens_done order words bytes ok.tokens ok.raw text status ok.short ok.lexed ok.read ok.goes_through (passed long answer)
-intake_done (Bytes limit) order words bytes text status ok answer = absurd ok
+intake_done (Bytes most) order words bytes text status ok answer = absurd ok
 
 pub Answer-complete : (words : List (List ℕ)) (bytes text : List ℕ) (status : Status) → IsComplete words bytes → Answer words bytes text status → status ≡ Done
 unfolding Answer OrderAnswer

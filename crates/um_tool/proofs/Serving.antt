@@ -51,7 +51,7 @@ order_planned words left before now order intake bytes text status asks told ans
 unbuilt_answer : (intake : Intake) (order : Order) (words : List (List ℕ)) (bytes text : List ℕ) (status : Status) → (intake ≢ Text) → IsNotBuilt text status → IntakeAnswer intake order words bytes text status
 unbuilt_answer Nothing order words bytes text status other reply = reply
 unbuilt_answer Text order words bytes text status other reply = absurd (other refl)
-unbuilt_answer (Bytes limit) order words bytes text status other reply = reply
+unbuilt_answer (Bytes most) order words bytes text status other reply = reply
 
 pub unbuilt_order_planned : (words : List (List ℕ)) (left : Option (List ℕ)) (before now : ℕ) (order : Order) (intake : Intake) (text : List ℕ) (status : Status) → AsksFor words order intake → (intake ≢ Text) → IsNotBuilt text status → IsPlanned words left before now text status
 unbuilt_order_planned words left before now order intake text status asks other reply =

@@ -107,7 +107,7 @@ LengthAnswer-status order words bytes text status (inr (short, answer)) = Tokens
 intake_status : (intake : Intake) (order : Order) (words : List (List ℕ)) (bytes text : List ℕ) (status : Status) → IntakeAnswer intake order words bytes text status → IsTrue (is_answered status)
 intake_status Nothing order words bytes text status reply = rw reply.1 refl
 intake_status Text order words bytes text status answer = LengthAnswer-status order words bytes text status answer
-intake_status (Bytes limit) order words bytes text status reply = rw reply.1 refl
+intake_status (Bytes most) order words bytes text status reply = rw reply.1 refl
 
 ordered_status : (order : Option Order) (words : List (List ℕ)) (bytes text : List ℕ) (status : Status) → MatchOption order (IsReply text status (line (codes "error 1: usage")) Usage) (λ o. IntakeAnswer (intake_of o) o words bytes text status) → IsTrue (is_answered status)
 ordered_status None words bytes text status reply = rw reply.1 refl

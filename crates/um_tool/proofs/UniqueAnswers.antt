@@ -219,7 +219,7 @@ module _ (one_answer : ParsesAreUnique) (text other : List ℕ) (status another 
   intake_one : (intake : Intake) (order : Order) (words : List (List ℕ)) (bytes : List ℕ) → IntakeAnswer intake order words bytes text status → IntakeAnswer intake order words bytes other another → (text ≡ other) × (status ≡ another)
   intake_one Nothing order words bytes a b = (a.0 ∙ sym b.0, a.1 ∙ sym b.1)
   intake_one Text order words bytes a b = length_one order words bytes a b
-  intake_one (Bytes limit) order words bytes a b = (a.0 ∙ sym b.0, a.1 ∙ sym b.1)
+  intake_one (Bytes most) order words bytes a b = (a.0 ∙ sym b.0, a.1 ∙ sym b.1)
 
   ordered_one : (order : Option Order) (words : List (List ℕ)) (bytes : List ℕ) → MatchOption order (IsReply text status (line (codes "error 1: usage")) Usage) (λ o. IntakeAnswer (intake_of o) o words bytes text status)
       → MatchOption order (IsReply other another (line (codes "error 1: usage")) Usage) (λ o. IntakeAnswer (intake_of o) o words bytes other another) → (text ≡ other) × (status ≡ another)
