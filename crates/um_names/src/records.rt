@@ -29,9 +29,7 @@ fn with_field(
 ) -> Result<FieldTable, AllocError>
     requires counts { length table.names ≡ length table.numbers.items }
     ensures counts { IfOk result (λ t. length t.names ≡ length t.numbers.items) }
-    ensures fields { IfOk result (λ t. (x : List ℕ)
-        → numbered_field t.numbers.items (number_of t.names x)
-        ≡ field_else (numbered_field table.numbers.items (number_of table.names x)) (field_if x name.now number)) }
+    ensures fields { IfOk result (λ t. (x : List ℕ) → numbered_field t.numbers.items (number_of t.names x) ≡ field_else (numbered_field table.numbers.items (number_of table.names x)) (field_if x name.now number)) }
 {
     if table.names.has(name) {
         return Ok(table);
@@ -54,10 +52,7 @@ fn with_fields(
 ) -> Result<FieldTable, AllocError>
     requires counts { length table.names ≡ length table.numbers.items }
     ensures counts { IfOk result (λ t. length t.names ≡ length t.numbers.items) }
-    ensures fields { IfOk result (λ t. (x : List ℕ)
-        → numbered_field t.numbers.items (number_of t.names x)
-        ≡ field_else (numbered_field table.numbers.items (number_of table.names x))
-        (field_at record_number (number_of (map (λ f. f.name) (map field_tree fields.now)) x))) }
+    ensures fields { IfOk result (λ t. (x : List ℕ) → numbered_field t.numbers.items (number_of t.names x) ≡ field_else (numbered_field table.numbers.items (number_of table.names x)) (field_at record_number (number_of (map (λ f. f.name) (map field_tree fields.now)) x))) }
 {
     if fields.len() >= u32::MAX as usize {
         return Err(AllocError);
