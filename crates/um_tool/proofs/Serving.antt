@@ -1,5 +1,5 @@
 -- What is planned, by the steps of the answer.
-use Rattle.std.proofs.Common.{◌≡◌, ◌≢◌, ℕ, ◌<◌, ◌≤◌, List, [], length, None, Some, Result, Ok, Err, IfOk, IsTrue, codes, sym, ◌∙◌, refl, inl, inr, arith}
+use Rattle.std.proofs.Common.{◌≡◌, ℕ, ◌<◌, ◌≤◌, List, [], length, None, Some, Result, Ok, Err, IfOk, IsTrue, codes, sym, ◌∙◌, refl, inl, inr, arith}
 use Rattle.std.specs.Prelude.{IsErrOf}
 use Rattle.std.specs.declared.option.Option.{Option}
 use Rattle.um_wire.specs.Faults.{Rose}
@@ -8,7 +8,7 @@ use Rattle.um_wire.specs.declared.read.ReadStop.{ReadStop}
 use Rattle.um_wire.specs.declared.read.ReadStop.TheVariants.{TooLong as TooLongToRead, Failed as ReadFailed, NoMemory as OutOfMemory}
 use Rattle.um_tool.specs.declared.order.Order.{Order}
 use Rattle.um_tool.specs.declared.order.Intake.{Intake}
-use Rattle.um_tool.specs.declared.order.Intake.TheVariants.{Nothing, Text, Bytes}
+use Rattle.um_tool.specs.declared.order.Intake.TheVariants.{Text}
 use Rattle.um_tool.specs.declared.status.Status.{Status}
 use Rattle.um_tool.specs.declared.status.Status.TheVariants.{Usage, ReadFault, WriteFault}
 use Rattle.um_tool.specs.Answer.{Answer, OrderAnswer, IntakeAnswer, LengthAnswer, TokensAnswer, IsNotBuilt}
@@ -46,17 +46,6 @@ pub order_planned : (words : List (List ℕ)) (left : Option (List ℕ)) (before
 unfolding Answer OrderAnswer
 order_planned words left before now order intake bytes text status asks told answer =
     inl (bytes, told, inr (asks.built, rw asks.ordered (rw asks.takes answer)))
-
--- an order that takes nothing, or bytes that are no text, isn't built
-unbuilt_answer : (intake : Intake) (order : Order) (words : List (List ℕ)) (bytes text : List ℕ) (status : Status) → (intake ≢ Text) → IsNotBuilt text status → IntakeAnswer intake order words bytes text status
-unbuilt_answer Nothing order words bytes text status other reply = reply
-unbuilt_answer Text order words bytes text status other reply = absurd (other refl)
-unbuilt_answer (Bytes most) order words bytes text status other reply = reply
-
-pub unbuilt_order_planned : (words : List (List ℕ)) (left : Option (List ℕ)) (before now : ℕ) (order : Order) (intake : Intake) (text : List ℕ) (status : Status) → AsksFor words order intake → (intake ≢ Text) → IsNotBuilt text status → IsPlanned words left before now text status
-unbuilt_order_planned words left before now order intake text status asks other reply =
-    let told = some_told left in
-    order_planned words left before now order intake told.0 text status asks told.1 (unbuilt_answer intake order words told.0 text status other reply)
 
 pub text_planned : (words : List (List ℕ)) (left : Option (List ℕ)) (before now : ℕ) (order : Order) (bytes text : List ℕ) (status : Status) → AsksFor words order Text → Tells left bytes → length bytes ≤ 1048576 → TokensAnswer order words bytes text status → IsPlanned words left before now text status
 unfolding LengthAnswer
