@@ -63,7 +63,8 @@ pub(crate) fn part_word(cell: Option<Cell>) -> Option<Word>
 
 // The cells of a record behind the others. On want of memory the cells are as they were.
 pub(crate) fn push_record(cells: &mut Vec<Cell>, parts: &[Word]) -> Result<(), NoMemory>
-    ensures ok { OnOk result (cells.new.items ≡ cells.old.items ++ Cell.Record (length parts.now) ∷ map Cell.Part parts.now) }
+    ensures ok { OnOk result (cells.new.items ≡ cells.old.items ++ Cell.Record (length parts.now)
+        ∷ map Cell.Part parts.now) }
     ensures same { OnErr result (cells.new.items ≡ cells.old.items) }
 {
     let n = cells.len();
@@ -77,7 +78,8 @@ pub(crate) fn push_record(cells: &mut Vec<Cell>, parts: &[Word]) -> Result<(), N
 }
 
 fn push_each(cells: &mut Vec<Cell>, parts: &[Word]) -> Result<(), NoMemory>
-    ensures ok { OnOk result (cells.new.items ≡ cells.old.items ++ Cell.Record (length parts.now) ∷ map Cell.Part parts.now) }
+    ensures ok { OnOk result (cells.new.items ≡ cells.old.items ++ Cell.Record (length parts.now)
+        ∷ map Cell.Part parts.now) }
     ensures before { take (length cells.old.items) cells.new.items ≡ cells.old.items }
 {
     cells.push(Cell::Record(parts.len()))?;

@@ -61,7 +61,8 @@ impl Store {
     #[cycle(get)]
     fn parts_of(&self, alloc: Global, n: usize) -> Result<Vec<Value>, NoMemory>
         requires { IsTrue (is_record (slice_get self.now.cells.items n)) }
-        ensures { IfOk result (λ vs. (slice_get self.now.cells.items n ≡ Some (Record (length vs.items))) × PartsFrom self.now.cells.items (n + 1) (values_in_order (map value_tree vs.items))) }
+        ensures { IfOk result (λ vs. (slice_get self.now.cells.items n ≡ Some (Record (length vs.items)))
+            × PartsFrom self.now.cells.items (n + 1) (values_in_order (map value_tree vs.items))) }
     {
         let mut parts = Vec::new(alloc);
         let count = self.count_at(n);

@@ -57,7 +57,8 @@ impl Store {
         requires item { HasValue self.old item }
         requires list { HasValue self.old list }
         ensures keeps { Keeps self.old self.new }
-        ensures gives { (v u : ValueTree) → DenotesIn self.old item v → DenotesIn self.old list u → GivesIfOk self.new (longer v u) result }
+        ensures gives { (v u : ValueTree) → DenotesIn self.old item v → DenotesIn self.old list u
+            → GivesIfOk self.new (longer v u) result }
         ensures one_cell { IfOk result (λ given. OnSome given (cell_count self.new ≡ cell_count self.old + 1)) }
         ensures no_list { IfOk result (λ given. given ≡ None → cell_count self.new ≡ cell_count self.old) }
         ensures no_memory { OnErr result (cell_count self.new ≡ cell_count self.old) }
@@ -75,7 +76,8 @@ impl Store {
     pub fn make_list(&mut self, items: &[Word]) -> Result<Word, NoMemory>
         requires { HaveValues self.old items.now }
         ensures keeps { Keeps self.old self.new }
-        ensures denotes { IfOk result (λ w. (vs : List ValueTree) → AllDenote self.old items.now vs → DenotesIn self.new w (list_value (values_in_order vs))) }
+        ensures denotes { IfOk result (λ w. (vs : List ValueTree) → AllDenote self.old items.now vs
+            → DenotesIn self.new w (list_value (values_in_order vs))) }
         ensures cells { OnOk result (cell_count self.new ≡ cell_count self.old + length items.now) }
     {
         let mut first = None;
@@ -92,7 +94,8 @@ impl Store {
     pub fn make_record(&mut self, record_number: u32, parts: &[Word]) -> Result<Word, NoMemory>
         requires { HaveValues self.old parts.now }
         ensures keeps { Keeps self.old self.new }
-        ensures denotes { IfOk result (λ w. (vs : List ValueTree) → AllDenote self.old parts.now vs → DenotesIn self.new w (record_value record_number (values_in_order vs))) }
+        ensures denotes { IfOk result (λ w. (vs : List ValueTree) → AllDenote self.old parts.now vs
+            → DenotesIn self.new w (record_value record_number (values_in_order vs))) }
         ensures cells { OnOk result (cell_count self.new ≡ cell_count self.old + length parts.now + 1) }
         ensures no_memory { OnErr result (cell_count self.new ≡ cell_count self.old) }
     {
@@ -132,7 +135,8 @@ impl Store {
 
     // The part of this place of the record whose first cell this is.
     fn part(&self, n: usize, place: usize) -> Option<Word>
-        ensures { (vs : ValueTrees) → slice_get self.now.cells.items n ≡ Some (Record (number_of vs)) → PartsFrom self.now.cells.items (n + 1) vs → Gives self.now (value_at vs place) result }
+        ensures { (vs : ValueTrees) → slice_get self.now.cells.items n ≡ Some (Record (number_of vs))
+            → PartsFrom self.now.cells.items (n + 1) vs → Gives self.now (value_at vs place) result }
     {
         let count = self.parts_at(n)?;
         if place >= count {
@@ -176,7 +180,8 @@ impl Store {
         requires item { IsTrue (holds self.old.cells.items item) }
         requires next { IsTrue (holds self.old.cells.items (list_from next)) }
         ensures keeps { Keeps self.old self.new }
-        ensures list { IfOk result (λ n. (v : ValueTree) (vs : ValueTrees) → DenotesIn self.old item v → ListFrom self.old.cells.items next vs → ListFrom self.new.cells.items (Some n) (more_values v vs)) }
+        ensures list { IfOk result (λ n. (v : ValueTree) (vs : ValueTrees) → DenotesIn self.old item v
+            → ListFrom self.old.cells.items next vs → ListFrom self.new.cells.items (Some n) (more_values v vs)) }
         ensures holds { IfOk result (λ n. IsTrue (holds self.new.cells.items (list_from (Some n)))) }
         ensures one_cell { OnOk result (cell_count self.new ≡ cell_count self.old + 1) }
         ensures no_memory { OnErr result (cell_count self.new ≡ cell_count self.old) }

@@ -8,6 +8,7 @@ use Rattle.std.proofs.lemmas.List.Folds.{list_any-append, list_any_at}
 use Rattle.um_elim.specs.Numbering.{first_occurrences, place}
 use Rattle.um_elim.specs.Order.{with_variable, with_variables}
 use Rattle.um_elim.proofs.Cases.{on_test}
+use Rattle.um_elim.proofs.Filters.{filter_twice, filter-all}
 
 -- the number stands in the list
 abbrev pub member : ℕ → List ℕ → Bool
@@ -30,22 +31,6 @@ member-back k xs ys h = list_any-append (eqb k) xs ys ∙ ap (λ b. member k xs 
     either false = refl
 
 -- ---- filters
-filter_twice : (p q r : ℕ → Bool) → ((j : ℕ) → r j ≡ (q j && p j)) → (xs : List ℕ) → filter p (filter q xs) ≡ filter r xs
-filter_twice p q r same [] = refl
-filter_twice p q r same (x ∷ xs) =
-    elim (q x) as (λ b. q x ≡ b → filter p (cond b (x ∷ filter q xs) (filter q xs)) ≡ cond (r x) (x ∷ filter r xs) (filter r xs)) [
-      | true ↦ λ e.
-          let s : r x ≡ p x = same x ∙ ap (λ b. b && p x) e in
-          ap (λ l. cond (p x) (x ∷ l) l) (filter_twice p q r same xs) ∙ ap (λ b. cond b (x ∷ filter r xs) (filter r xs)) (sym s)
-      | false ↦ λ e.
-          let s : r x ≡ false = same x ∙ ap (λ b. b && p x) e in
-          filter_twice p q r same xs ∙ ap (λ b. cond b (x ∷ filter r xs) (filter r xs)) (sym s)
-    ] refl
-
-filter-all : (xs : List ℕ) → filter (λ j. true) xs ≡ xs
-filter-all [] = refl
-filter-all (x ∷ xs) = ap (λ l. x ∷ l) (filter-all xs)
-
 pub member-filter : (p : ℕ → Bool) (k : ℕ) (xs : List ℕ) → member k (filter p xs) ≡ (p k && member k xs)
 member-filter p k [] = elim (p k) as (λ b. false ≡ (b && false)) [ true ↦ refl | false ↦ refl ]
 member-filter p k (x ∷ xs) =

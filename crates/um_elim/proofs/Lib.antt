@@ -1,4 +1,5 @@
 pub mod Cases
+pub mod Filters
 pub mod Shear
 pub mod PivotLaws
 pub mod TurnLaws

@@ -7,7 +7,7 @@ pub mod Solution
 pub mod Adding
 pub mod Application
 pub mod Numbering
--- The code's.
+-- What mirrors the code.
 pub mod Stops
 pub mod Steps
 pub mod Order

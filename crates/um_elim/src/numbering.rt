@@ -157,7 +157,8 @@ fn renamed_type(alloc: Global, order: &mut Order, ty: &Ty) -> Result<Ty, AllocEr
 fn renamed_types(alloc: Global, order: &mut Order, types: &[Ty]) -> Result<Vec<Ty>, AllocError>
     requires { All (λ k. k < 4294967295) (variables (map type_tree types.now)) }
     ensures order { OnOk result (order.new ≡ with_variables order.old (variables (map type_tree types.now))) }
-    ensures renamed { IfOk result (λ v. map type_tree v.items ≡ map (put (by_place order.new)) (map type_tree types.now)) }
+    ensures renamed { IfOk result (λ v. map type_tree v.items
+        ≡ map (put (by_place order.new)) (map type_tree types.now)) }
 {
     let mut items = Vec::new(alloc);
     for ty in types {

@@ -145,7 +145,8 @@ fn first_unit(alloc: Global, slot: u32, bases: u32, parameters: u32) -> Result<U
 
 /// Each variable but the parameters' stands in the unit of its own slot.
 fn first_index(alloc: Global, slots: u32, parameters: u32) -> Result<Vec<SlotList>, NoMemory>
-    ensures { IfOk result (λ index. index.items ≡ map (λ k. if nat_lt k parameters then [] else k ∷ []) (range_with_len 0 slots)) }
+    ensures { IfOk result (λ index. index.items
+        ≡ map (λ k. if nat_lt k parameters then [] else k ∷ []) (range_with_len 0 slots)) }
 {
     let mut index = Vec::new(alloc);
     for slot in 0..slots {
@@ -173,7 +174,8 @@ fn eliminate_row(
 ) -> Result<(), ElimStop>
     requires indexed { IsIndex units.old.items index.old.items }
     requires variables { VariablesBelow (length units.old.items) row.now }
-    ensures outcome { MatchResult result (λ _. eliminate units.old.items row.now ≡ Solved units.new.items) (StopsAs (eliminate units.old.items row.now)) }
+    ensures outcome { MatchResult result (λ _. eliminate units.old.items row.now ≡ Solved units.new.items)
+        (StopsAs (eliminate units.old.items row.now)) }
     ensures slots { length units.new.items ≡ length units.old.items }
     ensures indexed { OnOk result (IsIndex units.new.items index.new.items) }
 {

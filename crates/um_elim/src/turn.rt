@@ -37,7 +37,8 @@ pub fn take_turn(
 ) -> Result<Step, ElimStop>
     requires indexed { IsIndex units.old.items index.old.items }
     requires variables { VariablesBelow (length units.old.items) r.now }
-    ensures outcome { MatchResult result (IsTurn units.old.items r.now units.new.items) (StopsTurn units.old.items r.now) }
+    ensures outcome { MatchResult result (IsTurn units.old.items r.now units.new.items)
+        (StopsTurn units.old.items r.now) }
     ensures slots { length units.new.items ≡ length units.old.items }
     ensures indexed { OnOk result (IsIndex units.new.items index.new.items) }
     ensures variables { IfOk result (RemainderBelow (length units.old.items)) }

@@ -1,7 +1,10 @@
+-- What a reader must trust, in reading order: the functions judged in order, what their schemes promise, calls.
 pub mod Inference
 pub mod Schemes
 pub mod CallJudgement
+-- What the definitions come to: statements, each proved as the contract of a function of src/laws.rt.
 pub mod Laws
 pub mod Answers
+-- What mirrors the code: what a refusal becomes, and the steps from rows to a scheme.
 pub mod Refusals
 pub mod Forming

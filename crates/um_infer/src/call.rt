@@ -62,7 +62,9 @@ fn call_scheme(
     requires function { f < length (program_tree shaped.now).functions }
     requires inferred { infer (program_tree shaped.now) ≡ all_schemes (scheme_trees schemes.now) }
     requires inputs { AreFormedInputs (length (program_tree shaped.now).bases) (input_trees args.now) }
-    ensures { (function : FunctionTree) → slice_get (program_tree shaped.now).functions f ≡ Some function → IsAnswer (judge_call (program_tree shaped.now) (scheme_trees schemes.now) f function (input_trees args.now)) result }
+    ensures { (function : FunctionTree) → slice_get (program_tree shaped.now).functions f ≡ Some function
+        → IsAnswer (judge_call (program_tree shaped.now) (scheme_trees schemes.now) f function
+        (input_trees args.now)) result }
 {
     let equations = call_rows(alloc, shaped, schemes, f, args)?;
     formed_scheme(alloc, &equations, base_count(shaped), 0, 0)

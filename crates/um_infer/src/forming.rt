@@ -37,7 +37,8 @@ pub(crate) fn formed_scheme(
     requires bases { bases + parameters < 2 ^ 32 }
     requires rows { All (λ (row : Row). VariablesBelow rows.now.slots row.unit) rows.now.list.items.items }
     requires types { All (λ k. k < rows.now.slots) (variables (signature_types (rows_signature rows.now))) }
-    ensures { IsAnswer (by_rows bases parameters rows.now.slots at (rows_signature rows.now) rows.now.list.items.items) result }
+    ensures { IsAnswer (by_rows bases parameters rows.now.slots at
+        (rows_signature rows.now) rows.now.list.items.items) result }
 {
     let solver = rigid_solver(alloc, rows.slots, bases, parameters, &rows.list.items)?;
     let types = solved_types(alloc, &solver, rows, at)?;
@@ -48,8 +49,11 @@ pub(crate) fn formed_scheme(
 /// The types with the solution put for their slots, the result's last.
 fn solved_types(alloc: Global, solver: &Solver, rows: &Rows, at: u32) -> Result<Types, Refusal>
     requires { solver.now.spent ≡ false }
-    ensures solved { IfOk result (λ types. type_trees types ≡ map (put (nth solver.now.units)) (signature_types (rows_signature rows.now))) }
-    ensures range { MatchResult result (λ types. IsTrue (list_all type_fits (type_trees types))) (RefusesUnless at (list_all type_fits (map (put (nth solver.now.units)) (signature_types (rows_signature rows.now))))) }
+    ensures solved { IfOk result (λ types. type_trees types
+        ≡ map (put (nth solver.now.units)) (signature_types (rows_signature rows.now))) }
+    ensures range { MatchResult result (λ types. IsTrue (list_all type_fits (type_trees types)))
+        (RefusesUnless at (list_all type_fits (map (put (nth solver.now.units))
+        (signature_types (rows_signature rows.now))))) }
 {
     let mut items = solved_params(alloc, solver, &rows.params.items, at)?;
     items.push(solved_type(alloc, solver, &rows.result, at)?)?;
@@ -58,8 +62,10 @@ fn solved_types(alloc: Global, solver: &Solver, rows: &Rows, at: u32) -> Result<
 
 fn solved_params(alloc: Global, solver: &Solver, params: &[Ty], at: u32) -> Result<Vec<Ty>, Refusal>
     requires { solver.now.spent ≡ false }
-    ensures solved { IfOk result (λ items. map type_tree items.items ≡ map (put (nth solver.now.units)) (map type_tree params.now)) }
-    ensures range { MatchResult result (λ items. IsTrue (list_all type_fits (map type_tree items.items))) (RefusesUnless at (list_all type_fits (map (put (nth solver.now.units)) (map type_tree params.now)))) }
+    ensures solved { IfOk result (λ items. map type_tree items.items
+        ≡ map (put (nth solver.now.units)) (map type_tree params.now)) }
+    ensures range { MatchResult result (λ items. IsTrue (list_all type_fits (map type_tree items.items)))
+        (RefusesUnless at (list_all type_fits (map (put (nth solver.now.units)) (map type_tree params.now)))) }
 {
     let mut items = Vec::new(alloc);
     for ty in params {
@@ -71,7 +77,8 @@ fn solved_params(alloc: Global, solver: &Solver, params: &[Ty], at: u32) -> Resu
 fn solved_type(alloc: Global, solver: &Solver, ty: &Ty, at: u32) -> Result<Ty, Refusal>
     requires { solver.now.spent ≡ false }
     ensures solved { IfOk result (λ t. type_tree t ≡ put (nth solver.now.units) (type_tree ty.now)) }
-    ensures range { MatchResult result (λ t. IsTrue (type_fits (type_tree t))) (RefusesUnless at (type_fits (put (nth solver.now.units) (type_tree ty.now)))) }
+    ensures range { MatchResult result (λ t. IsTrue (type_fits (type_tree t)))
+        (RefusesUnless at (type_fits (put (nth solver.now.units) (type_tree ty.now)))) }
 {
     match solver.apply(alloc, ty) {
         Ok(solved) => Ok(solved),
@@ -85,7 +92,8 @@ fn solved_type(alloc: Global, solver: &Solver, ty: &Ty, at: u32) -> Result<Ty, R
 fn numbered_scheme(alloc: Global, types: Types) -> Result<Scheme, AllocError>
     requires some { 0 < length types.items.items }
     requires variables { All (λ k. k < 4294967295) (variables (type_trees types)) }
-    ensures types { IfOk result (λ scheme. signature_types (scheme_tree scheme).signature ≡ renumbered (type_trees types)) }
+    ensures types { IfOk result (λ scheme. signature_types (scheme_tree scheme).signature
+        ≡ renumbered (type_trees types)) }
     ensures vars { IfOk result (λ scheme. scheme.vars ≡ length (variable_order (type_trees types))) }
 {
     let Numbered { mut types, vars } = renumber(alloc, types)?;

@@ -125,7 +125,8 @@ pub(crate) fn generalised_types(
     requires bases { bases + parameters < 2 ^ 32 }
     requires slots { slots + parameters < 2 ^ 32 }
     requires variables { All (λ k. k < slots) (variables (map type_tree types.now)) }
-    ensures { IfOk result (λ v. map type_tree v.items ≡ map (moved (unit_in_place bases parameters slots)) (map type_tree types.now)) }
+    ensures { IfOk result (λ v. map type_tree v.items
+        ≡ map (moved (unit_in_place bases parameters slots)) (map type_tree types.now)) }
 {
     let mut items = Vec::new(alloc);
     for ty in types {

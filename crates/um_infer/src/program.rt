@@ -52,7 +52,9 @@ fn function_scheme(
 ) -> Result<Scheme, Refusal>
     requires declared { i < length (program_tree shaped.now).functions }
     requires before { HaveSchemes (program_tree shaped.now) (scheme_trees schemes.now) i }
-    ensures { (f : FunctionTree) → slice_get (program_tree shaped.now).functions i ≡ Some f → IsAnswer (judge (length (program_tree shaped.now).bases) (program_tree shaped.now).records (scheme_trees schemes.now) i f) result }
+    ensures { (f : FunctionTree) → slice_get (program_tree shaped.now).functions i ≡ Some f
+        → IsAnswer (judge (length (program_tree shaped.now).bases) (program_tree shaped.now).records
+        (scheme_trees schemes.now) i f) result }
 {
     let equations = rows(alloc, shaped, i, schemes)?;
     let (parameters, at) = head_of(shaped, i);
@@ -70,7 +72,8 @@ pub(crate) fn function_count(shaped: &Shaped) -> u32
 /// How many unit parameters function `i` has, and the place of its name.
 fn head_of(shaped: &Shaped, i: u32) -> (u32, u32)
     requires { i < length (program_tree shaped.now).functions }
-    ensures { (f : FunctionTree) → slice_get (program_tree shaped.now).functions i ≡ Some f → (result.0 ≡ f.units) × (result.1 ≡ f.at) }
+    ensures { (f : FunctionTree) → slice_get (program_tree shaped.now).functions i ≡ Some f → (result.0 ≡ f.units)
+        × (result.1 ≡ f.at) }
 {
     let function = &shaped.program().functions.items[i as usize];
     (function.units, function.at)

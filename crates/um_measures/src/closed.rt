@@ -39,7 +39,8 @@ fn with_base(
     name: &Name,
     number: u32,
 ) -> Result<Measures, AllocError>
-    ensures { IfOk result (λ more. (x : List ℕ) → short_unit more x ≡ short_unit (measures ++ record { name = name.now; unit = atom (Base number) } ∷ []) x) }
+    ensures { IfOk result (λ more. (x : List ℕ)
+        → short_unit more x ≡ short_unit (measures ++ record { name = name.now; unit = atom (Base number) } ∷ []) x) }
 {
     let unit = Unit::atom(alloc, Atom::Base(number))?;
     measures.with(alloc, name.as_slice(), unit)
@@ -63,7 +64,8 @@ fn with_abbreviations(
     bases: Measures,
     shorts: &[Abbreviation],
 ) -> Result<Measures, AllocError>
-    ensures { IfOk result (λ measures. (x : List ℕ) → short_unit measures x ≡ first_of_both (short_unit bases x) (short_unit shorts.now x)) }
+    ensures { IfOk result (λ measures. (x : List ℕ)
+        → short_unit measures x ≡ first_of_both (short_unit bases x) (short_unit shorts.now x)) }
 {
     let mut measures = bases;
     for i in 0..shorts.len() {
@@ -84,8 +86,10 @@ pub fn closed_unit(
     abbreviations: &Abbreviations,
     raw: &RawUnit,
 ) -> Result<UnitNote, NameStop>
-    ensures exact { IfOk result (λ note. closed_note (program_tree program.now) abbreviations.now (unit_syntax raw.now) ≡ Ok note) }
-    ensures faults { IfErr result (IsFirst (closed_note (program_tree program.now) abbreviations.now (unit_syntax raw.now))) }
+    ensures exact { IfOk result (λ note. closed_note (program_tree program.now) abbreviations.now
+        (unit_syntax raw.now) ≡ Ok note) }
+    ensures faults { IfErr result (IsFirst (closed_note (program_tree program.now) abbreviations.now
+        (unit_syntax raw.now))) }
 {
     let bases = base_measures(alloc, program.bases.as_slice())?;
     let measures = with_abbreviations(alloc, bases, abbreviations.as_slice())?;

@@ -65,7 +65,8 @@ impl Measures {
 
     /// These measures and behind them one more, which is hidden where its name is known. Fails for want of memory alone.
     pub fn with(self, alloc: Global, name: &[u8], unit: Unit) -> Result<Measures, AllocError>
-        ensures { IfOk result (λ measures. (x : List ℕ) → short_unit measures x ≡ short_unit (self ++ record { name = name.now; unit = unit } ∷ []) x) }
+        ensures { IfOk result (λ measures. (x : List ℕ)
+            → short_unit measures x ≡ short_unit (self ++ record { name = name.now; unit = unit } ∷ []) x) }
     {
         if self.names.has(name) {
             return Ok(self);

@@ -68,7 +68,8 @@ pub fn first_unknown(measures: &Measures, variables: &NameTable, raw: &RawUnit) 
 
 #[cycle(unknown)]
 fn unknown_among(measures: &Measures, variables: &NameTable, units: &[RawUnit]) -> Option<u32>
-    ensures { result ≡ unknown_among (short_unit measures.now) variables.now (units_in_order (map unit_syntax units.now)) }
+    ensures { result ≡ unknown_among (short_unit measures.now) variables.now
+        (units_in_order (map unit_syntax units.now)) }
 {
     for i in 0..units.len() {
         if let Some(at) = first_unknown(measures, variables, &units[i]) {
@@ -144,8 +145,10 @@ fn product(
     variables: &NameTable,
     units: &[RawUnit],
 ) -> Result<Unit, UnitStop>
-    ensures exact { IfOk result (λ unit. unit ≡ product_of (short_unit measures.now) variables.now one (units_in_order (map unit_syntax units.now))) }
-    ensures range { RangeUnless result (products_fit (short_unit measures.now) variables.now one (units_in_order (map unit_syntax units.now))) }
+    ensures exact { IfOk result (λ unit. unit
+        ≡ product_of (short_unit measures.now) variables.now one (units_in_order (map unit_syntax units.now))) }
+    ensures range { RangeUnless result (products_fit (short_unit measures.now) variables.now one
+        (units_in_order (map unit_syntax units.now))) }
 {
     let mut running = RunningProduct::new(alloc);
     for i in 0..units.len() {
@@ -166,8 +169,10 @@ pub fn resolved_unit(
     variables: &NameTable,
     raw: &RawUnit,
 ) -> Result<Unit, NameStop>
-    ensures exact { IfOk result (λ unit. resolved_unit (short_unit measures.now) variables.now (unit_syntax raw.now) ≡ Ok unit) }
-    ensures faults { IfErr result (IsFirst (resolved_unit (short_unit measures.now) variables.now (unit_syntax raw.now))) }
+    ensures exact { IfOk result (λ unit. resolved_unit (short_unit measures.now) variables.now
+        (unit_syntax raw.now) ≡ Ok unit) }
+    ensures faults { IfErr result (IsFirst (resolved_unit (short_unit measures.now) variables.now
+        (unit_syntax raw.now))) }
 {
     if let Some(at) = first_unknown(measures, variables, raw) {
         return Err(NameStop::Unknown { at });

@@ -32,7 +32,8 @@ fn in_unit(names: &mut NameTable, alloc: Global, raw: &RawUnit) -> Result<(), Al
 #[cycle(unit_variables)]
 #[tactic(auto, using(crate::proofs::Occurrences::both_occur, crate::proofs::Occurrences::occurrences_append))]
 fn in_units(names: &mut NameTable, alloc: Global, units: &[RawUnit]) -> Result<(), AllocError>
-    ensures { OnOk result (names.new ≡ first_occurrences names.old (all_unit_variables (units_in_order (map unit_syntax units.now)))) }
+    ensures { OnOk result (names.new ≡ first_occurrences names.old
+        (all_unit_variables (units_in_order (map unit_syntax units.now)))) }
 {
     for i in 0..units.len() {
         in_unit(names, alloc, &units[i])?;
@@ -112,7 +113,8 @@ fn in_expr(names: &mut NameTable, alloc: Global, e: &RawExpr) -> Result<(), Allo
 #[cycle(expr_variables)]
 #[tactic(auto, using(crate::proofs::Occurrences::both_occur, crate::proofs::Occurrences::occurrences_append))]
 fn in_exprs(names: &mut NameTable, alloc: Global, items: &[RawExpr]) -> Result<(), AllocError>
-    ensures { OnOk result (names.new ≡ first_occurrences names.old (exprs_variables (exprs_in_order (map expr_syntax items.now)))) }
+    ensures { OnOk result (names.new ≡ first_occurrences names.old
+        (exprs_variables (exprs_in_order (map expr_syntax items.now)))) }
 {
     for i in 0..items.len() {
         in_expr(names, alloc, &items[i])?;
@@ -123,7 +125,8 @@ fn in_exprs(names: &mut NameTable, alloc: Global, items: &[RawExpr]) -> Result<(
 #[cycle(expr_variables)]
 #[tactic(auto, using(crate::proofs::Occurrences::both_occur, crate::proofs::Occurrences::occurrences_append))]
 fn in_fields(names: &mut NameTable, alloc: Global, fields: &[RawField]) -> Result<(), AllocError>
-    ensures { OnOk result (names.new ≡ first_occurrences names.old (fields_variables (fields_in_order (map field_part fields.now)))) }
+    ensures { OnOk result (names.new ≡ first_occurrences names.old
+        (fields_variables (fields_in_order (map field_part fields.now)))) }
 {
     for i in 0..fields.len() {
         in_field(names, alloc, &fields[i])?;
@@ -141,7 +144,8 @@ fn in_field(names: &mut NameTable, alloc: Global, field: &RawField) -> Result<()
 
 #[tactic(auto, using(crate::proofs::Occurrences::both_occur, crate::proofs::Occurrences::occurrences_append))]
 fn in_params(names: &mut NameTable, alloc: Global, params: &[RawParam]) -> Result<(), AllocError>
-    ensures { OnOk result (names.new ≡ first_occurrences names.old (flat_map (λ p. type_variables p.type) (map param_syntax params.now))) }
+    ensures { OnOk result (names.new ≡ first_occurrences names.old
+        (flat_map (λ p. type_variables p.type) (map param_syntax params.now))) }
 {
     for param in params {
         add_type_variables(names, alloc, &param.ty)?;

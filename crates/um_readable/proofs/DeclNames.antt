@@ -10,7 +10,7 @@ use Rattle.um_syntax.specs.declared.vocabulary.Keyword.TheVariants as keyword
 use Rattle.um_syntax.specs.declared.vocabulary.Symbol.{Symbol}
 use Rattle.um_syntax.specs.declared.vocabulary.Symbol.TheVariants as symbol
 use Rattle.um_expr.specs.declared.token.ExprToken.{ExprToken}
-use Rattle.um_expr.specs.declared.token.ExprToken.TheVariants.{Name as name, Variable as variable, Number as number, Truth as truth, Hole as hole, Operator as operator, Word as word, Mark as mark}
+use Rattle.um_expr.specs.declared.token.ExprToken.TheVariants.{Name as name}
 use Rattle.um_expr.specs.ExprTokens.{expr_token, keyword_token, symbol_token}
 use Rattle.um_expr.specs.ExprGrammar.{FirstAt}
 use Rattle.um_parse.specs.DeclGrammar.{MoreFieldDecls, FieldDeclsSpell, DeclSpells, DeclsSpell, FieldDeclsFit, DeclFits, DeclsFit}

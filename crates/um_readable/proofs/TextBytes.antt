@@ -1,5 +1,5 @@
 -- Texts as bytes: a text has no more tokens than bytes, and what is read from one can be resolved.
-use Rattle.std.proofs.Common.{◌≡◌, ap, ℕ, ◌≤◌, List, length, arith}
+use Rattle.std.proofs.Common.{ap, ℕ, ◌≤◌, List, length, arith}
 use Rattle.std.specs.Str.{chars, IsUtf8}
 use Rattle.std.proofs.lemmas.Str.{encodes-chars, length-le-encodes}
 use Rattle.um_syntax.specs.declared.token.Token.{Token}

@@ -20,7 +20,7 @@ use Rattle.um_rows.proofs.TypesAgainst.{rows-types_same}
 use Rattle.um_elim.proofs.RenamedUnits.{put-put, puts-put}
 use Rattle.um_rows.proofs.PutTypes.{first_units-are}
 use Rattle.um_rows.proofs.Variables.{CalleeBelow, put_alike_below, types_put_alike_below}
-use Rattle.um_rows.proofs.CompleteRules.{Gives, after_gives, formed_gives, item_complete, zero_complete, local_complete, negate_complete, not_complete, pown_complete, truths_complete, arith_complete, compare_complete, if_complete, split_complete, nil_complete, list_complete, cons_complete, record_complete, field_complete}
+use Rattle.um_rows.proofs.CompleteRules.{HasTypeAt, after_gives, formed_gives, item_complete, zero_complete, local_complete, negate_complete, not_complete, pown_complete, truths_complete, arith_complete, compare_complete, if_complete, split_complete, nil_complete, list_complete, cons_complete, record_complete, field_complete}
 use Rattle.um_rows.proofs.Callees.{Offers}
 use Rattle.um_rows.proofs.Used.{then_units, Agrees, agrees_first, agrees_second, agrees_at, units_used, note_used, offer_used, used, all_used}
 
@@ -57,7 +57,7 @@ module _ (v holes names choice : ℕ → PowerMap) (same : (k : ℕ) → replace
   note_complete n (list_note m) t h a = ap list_type (note_complete n m h.0 h.1 a) ∙ sym h.2
   note_complete n (record_note r ms) t h a = ap (record_type r) (units_complete n ms h.0 h.1 a) ∙ sym h.2
 
-  literal_complete : (at n : ℕ) (c : Frac) (m : UnitNote) (u : PowerMap) → LiteralUnit c (put_literal choice m) u → HolesAre n (unit_holes m) (λ _. u) → Gives v (number_rule at c m (noted_unit holes names n m)) (num_type u)
+  literal_complete : (at n : ℕ) (c : Frac) (m : UnitNote) (u : PowerMap) → LiteralUnit c (put_literal choice m) u → HolesAre n (unit_holes m) (λ _. u) → HasTypeAt v (number_rule at c m (noted_unit holes names n m)) (num_type u)
   literal_complete at n c Hole u h a = formed_gives v at (asks_zero at c Hole) (num_type (holes n)) (num_type u) (ap num_type (agrees_at (λ k. replace v (holes k)) n u a)) (zero_complete v at c h)
   literal_complete at n c (Written w) u h a = formed_gives v at [] (num_type (replace names w)) (num_type u) (ap num_type (written_complete w ∙ sym h)) tt
 
@@ -65,7 +65,7 @@ module _ (v holes names choice : ℕ → PowerMap) (same : (k : ℕ) → replace
       (calls : ℕ → Signature → Type 0) (opens : (j : ℕ) (g : Signature) → calls j g → Offers own (callee j) g) where
     -- ---- calls
     call_complete : (at n : ℕ) (c : Callee) (types ts : List TypeTree) (t : TypeTree) → CalleeBelow c → map (put v) types ≡ ts → (h : Offers own c (record { params = ts; result = t })) →
-        HolesAre n (callee_holes c) (offer_used choice records own callee calls opens c (record { params = ts; result = t }) h) → Gives v (call_rule at (offered holes names records self callee n c) types) t
+        HolesAre n (callee_holes c) (offer_used choice records own callee calls opens c (record { params = ts; result = t }) h) → HasTypeAt v (call_rule at (offered holes names records self callee n c) types) t
     call_complete at n (known_by s) types ts t low e h a =
         let agree = λ (k : ℕ) (l : k < s.vars). a k l in
         let ps = puts-put (λ k. holes (n + k)) v s.signature.params ∙ types_put_alike_below s.vars (λ k. replace v (holes (n + k))) h.0 agree s.signature.params low.0 in
@@ -95,7 +95,7 @@ module _ (v holes names choice : ℕ → PowerMap) (same : (k : ℕ) → replace
     wider vars vs others ts e f = map-append (put v) vars others ∙ (λ i. e i ++ f i)
 
     mutual
-      pub complete : (n : ℕ) (vars vs : List TypeTree) → map (put v) vars ≡ vs → (e : ExprTree) (t : TypeTree) (h : Typed records calls choice vs (put_literals choice e) t) → HolesAre n (holes_in e) (from vs e t h) → Gives v (at_number n vars e) t
+      pub complete : (n : ℕ) (vars vs : List TypeTree) → map (put v) vars ≡ vs → (e : ExprTree) (t : TypeTree) (h : Typed records calls choice vs (put_literals choice e) t) → HolesAre n (holes_in e) (from vs e t h) → HasTypeAt v (at_number n vars e) t
       complete n vars vs ev (truth at b) t h a = (sym h, tt)
       complete n vars vs ev (number at c m) t h a = let x = literal_complete at n c m h.0 h.1 a in (x.0 ∙ sym h.2, x.1)
       complete n vars vs ev (local at k) t h a = local_complete v at k vars t (ap (λ us. slice_get us k) ev ∙ h)

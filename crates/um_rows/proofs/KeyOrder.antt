@@ -5,6 +5,7 @@ use Rattle.std.proofs.lemmas.Bool.{eqb-true, eq-eqb}
 use Rattle.std.proofs.lemmas.List.{append-nil, append_assoc, length-append}
 use Rattle.std.proofs.lemmas.List.Folds.{list_any-append}
 use Rattle.um_elim.proofs.Cases.{on_test}
+use Rattle.um_elim.proofs.Filters.{filter_twice, filter-all}
 use Rattle.um_rows.specs.Keys.{Key, hole, name}
 use Rattle.um_rows.specs.Slots.{same_key, slot_order, has_slot, place}
 use Rattle.um_rows.specs.Slotting.{with_key, with_keys}
@@ -20,22 +21,6 @@ same_key-own (hole k) = eq-eqb k k refl
 same_key-own (name k) = eq-eqb k k refl
 
 -- ---- filters
-filter_twice : (p q r : Key → Bool) → ((j : Key) → r j ≡ (q j && p j)) → (xs : List Key) → filter p (filter q xs) ≡ filter r xs
-filter_twice p q r same [] = refl
-filter_twice p q r same (x ∷ xs) =
-    elim (q x) as (λ b. q x ≡ b → filter p (cond b (x ∷ filter q xs) (filter q xs)) ≡ cond (r x) (x ∷ filter r xs) (filter r xs)) [
-      | true ↦ λ e.
-          let s : r x ≡ p x = same x ∙ ap (λ b. b && p x) e in
-          ap (λ l. cond (p x) (x ∷ l) l) (filter_twice p q r same xs) ∙ ap (λ b. cond b (x ∷ filter r xs) (filter r xs)) (sym s)
-      | false ↦ λ e.
-          let s : r x ≡ false = same x ∙ ap (λ b. b && p x) e in
-          filter_twice p q r same xs ∙ ap (λ b. cond b (x ∷ filter r xs) (filter r xs)) (sym s)
-    ] refl
-
-filter-all : (xs : List Key) → filter (λ j. true) xs ≡ xs
-filter-all [] = refl
-filter-all (x ∷ xs) = ap (λ l. x ∷ l) (filter-all xs)
-
 has-filter : (p : Key → Bool) (k : Key) (xs : List Key) → has_slot (filter p xs) k ≡ (p k && has_slot xs k)
 has-filter p k [] = elim (p k) as (λ b. false ≡ (b && false)) [ true ↦ refl | false ↦ refl ]
 has-filter p k (x ∷ xs) =

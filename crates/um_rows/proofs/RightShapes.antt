@@ -1,13 +1,12 @@
 -- A function that has its shapes forms no step for a wrong shape.
-use Rattle.std.proofs.Common.{◌≡◌, ℕ, ℤ, zero, suc, ◌+◌, ◌<◌, Bool, true, false, cond, eqb, ltb, ◌&&◌, inl, inr, List, [], ◌∷◌, ◌++◌, map, length, pos, Option, Some, None, slice_get, refl, sym, ap, ◌∙◌, subst, arith}
-use Rattle.std.specs.Prelude.{◌==◌, IsSome}
+use Rattle.std.proofs.Common.{◌≡◌, ℕ, ℤ, zero, suc, ◌+◌, ◌<◌, true, false, cond, eqb, ltb, ◌&&◌, inl, inr, List, [], ◌∷◌, ◌++◌, map, length, Option, Some, None, slice_get, refl, sym, ap, ◌∙◌, subst, arith}
+use Rattle.std.specs.Prelude.{IsSome}
 use Rattle.std.proofs.lemmas.Bool.{eq-eqb, lt-ltb, and_from}
 use Rattle.std.proofs.lemmas.Bool.Decides.{nat_tests}
 use Rattle.std.proofs.lemmas.List.{length-map}
 use Rattle.std.proofs.lemmas.List.Elements.{All-head, All-tail}
 use Rattle.std.specs.Prelude.{All}
 use Rattle.um_frac.specs.declared.number.Frac.{Frac}
-use Rattle.um_frac.specs.Fraction.{numerator}
 use Rattle.um_units.specs.Terms.{is_zero}
 use Rattle.um_units.specs.PowerMap.{PowerMap, mul, pow, inv, replace}
 use Rattle.um_tree.specs.declared.note.UnitNote.{UnitNote}
@@ -17,9 +16,9 @@ use Rattle.um_tree.specs.declared.expression.Arith.TheVariants.{Add, Sub, Mul, D
 use Rattle.um_tree.specs.TypeTree.{TypeTree, bool_type, num_type, list_type, record_type, NoteTree, bool_note, num_note, list_note, record_note, ShapeTree, bool_shape, num_shape, list_shape, record_shape}
 use Rattle.um_tree.specs.ExprTree.{ExprTree, ExprTrees, truth, number, local, call, negate, not_expr, pown, arith as arith_tree, compare, both, either, if, bind, split, nil, list_expr, cons, record_expr, field, none, more}
 use Rattle.um_tree.specs.ProgramTree.{FieldTree, RecordTree, FunctionTree, ProgramTree, Signature, SchemeTree}
-use Rattle.um_tree.specs.Typing.{put, unit_at, field_types, MayRecur}
+use Rattle.um_tree.specs.Typing.{put, unit_at, field_types}
 use Rattle.um_tree.specs.Shapes.{type_shape, note_shape, ShapeSignature, EachShapeIs, HasShape, AllHaveShapes, CallShapes, ResultShape, shapes_below, FunctionShape}
-use Rattle.um_tree.specs.Formed.{TakesUnits, IsTypeIn, IsNoteTreeIn, IsLiteral, IsFieldType, IsFormedIn, AllFormedIn, IsFormedRecord, IsFormedNote, ResultFormed, IsFormed}
+use Rattle.um_tree.specs.Formed.{TakesUnits, IsTypeIn, IsNoteTreeIn, IsLiteral, IsFieldType, IsFormedIn, AllFormedIn, IsFormedNote, ResultFormed, IsFormed}
 use Rattle.um_tree.proofs.Below.{earlier_shapes_are}
 use Rattle.um_shape.proofs.SoundProgram.{its_shapes}
 use Rattle.um_rows.specs.Steps.{Step, row_at, wrong_shape_at, type_at, types_at}

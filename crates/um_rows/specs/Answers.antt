@@ -19,7 +19,8 @@ use Rattle.um_rows.specs.Solutions.{IsRigid, HaveSchemes}
 use Rattle.um_rows.specs.CallEquations.{call_function}
 
 -- these are the equations: there are no more than 2,000 slots, and no power passes the range
-pub record AreEquations (records : List RecordTree) (schemes : List SchemeTree) (i : ℕ) (f : FunctionTree) (r : Rows) : Type 0 where
+pub record AreEquations (records : List RecordTree) (schemes : List SchemeTree) (i : ℕ) (f : FunctionTree) (r : Rows)
+    : Type 0 where
   pub few : slot_count records schemes i f ≤ 2000
   pub in_range : first_past (slot_equations records schemes i f).steps ≡ None
   pub slots : r.slots ≡ slot_count records schemes i f
@@ -30,7 +31,8 @@ pub record AreEquations (records : List RecordTree) (schemes : List SchemeTree) 
 -- there are none, for this cause. The number of slots is looked at first
 abbrev pub StopsFor : List RecordTree → List SchemeTree → ℕ → FunctionTree → RowStop → Type 0
 StopsFor records schemes i f stop.Slots = 2000 < slot_count records schemes i f
-StopsFor records schemes i f (stop.Range at) = (slot_count records schemes i f ≤ 2000) × (first_past (slot_equations records schemes i f).steps ≡ Some at)
+StopsFor records schemes i f (stop.Range at) =
+    (slot_count records schemes i f ≤ 2000) × (first_past (slot_equations records schemes i f).steps ≡ Some at)
 StopsFor records schemes i f stop.NoMemory = Unit {0}
 
 -- ---- of function i
@@ -42,14 +44,20 @@ RowsStopFor p schemes i e = (f : FunctionTree) → slice_get p.functions i ≡ S
 
 -- ---- of a call of function k
 abbrev pub AreCallRowsOf : ProgramTree → List SchemeTree → ℕ → InputTrees → Rows → Type 0
-AreCallRowsOf p schemes k inputs r = (f : FunctionTree) → slice_get p.functions k ≡ Some f → AreEquations p.records schemes (length p.functions) (call_function p.records k f inputs) r
+AreCallRowsOf p schemes k inputs r =
+    (f : FunctionTree) → slice_get p.functions k ≡ Some f
+    → AreEquations p.records schemes (length p.functions) (call_function p.records k f inputs) r
 
 abbrev pub CallRowsStopFor : ProgramTree → List SchemeTree → ℕ → InputTrees → RowStop → Type 0
-CallRowsStopFor p schemes k inputs e = (f : FunctionTree) → slice_get p.functions k ≡ Some f → StopsFor p.records schemes (length p.functions) (call_function p.records k f inputs) e
+CallRowsStopFor p schemes k inputs e =
+    (f : FunctionTree) → slice_get p.functions k ≡ Some f
+    → StopsFor p.records schemes (length p.functions) (call_function p.records k f inputs) e
 
 -- ---- what is asked of the schemes of the functions before function i: each is over its own variables
 abbrev pub HaveVariablesBelow : ℕ → List SchemeTree → Type 0
-HaveVariablesBelow i schemes = (j : ℕ) (s : SchemeTree) → j < i → slice_get schemes j ≡ Some s → All (λ k. k < s.vars) (variables (signature_types s.signature))
+HaveVariablesBelow i schemes =
+    (j : ℕ) (s : SchemeTree) → j < i → slice_get schemes j ≡ Some s
+    → All (λ k. k < s.vars) (variables (signature_types s.signature))
 
 -- ---- where the instances of each scheme before are exactly the function's typings
 
@@ -66,7 +74,8 @@ IsGivenBy r g =
 -- and so does some rigid one
 abbrev pub IsRigidlyGivenBy : ℕ → ℕ → Rows → Signature → Type 0
 IsRigidlyGivenBy bases parameters r g =
-    (units : List PowerMap) × IsJointSolution r.slots (units_of r.list.items.items) units × IsRigid bases parameters units
+    (units : List PowerMap) × IsJointSolution r.slots (units_of r.list.items.items) units
+    × IsRigid bases parameters units
     × (g ≡ put_signature (nth units) (rows_signature r))
 
 -- a signature is a loose typing of function i exactly where some joint solution gives it, and a rigid typing exactly
@@ -80,7 +89,9 @@ TypingsAreSolutionsOf p schemes i r =
 
 -- so it is of the results of a call
 abbrev pub ResultsAreSolutionsOf : ProgramTree → List SchemeTree → ℕ → InputTrees → Rows → Type 0
-ResultsAreSolutionsOf p schemes k inputs r = HaveSchemes p schemes (length p.functions) → (t : TypeTree) → IsResultOfCall p k inputs t ↔ IsGivenBy r (record { params = []; result = t })
+ResultsAreSolutionsOf p schemes k inputs r =
+    HaveSchemes p schemes (length p.functions) → (t : TypeTree) → IsResultOfCall p k inputs t
+    ↔ IsGivenBy r (record { params = []; result = t })
 
 -- ---- a function without a name
 abbrev pub described : ℕ → Bool → ℕ → List NoteTree → Option NoteTree → ExprTree → FunctionTree

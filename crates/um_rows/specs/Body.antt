@@ -1,6 +1,7 @@
 -- What the code knows of a body, as the derivation sees it.
 -- Source: this project's own.
-use Rattle.std.specs.Prelude.{◌≡◌, ℕ, ◌+◌, ◌<◌, Bool, All, List, [], ◌++◌, length, map, slice_index_or, Option, Some, None, Result}
+use Rattle.std.specs.Prelude.{◌≡◌, ℕ, ◌+◌, ◌<◌, Bool, All, List, [], ◌++◌, length, map, slice_index_or, Option, Some}
+use Rattle.std.specs.Prelude.{None, Result}
 use Rattle.um_units.specs.PowerMap.{PowerMap, nth}
 use Rattle.um_units.specs.Variables.{VariablesBelow}
 use Rattle.um_tree.specs.declared.program.FieldDecl.{FieldDecl}
@@ -32,13 +33,18 @@ called schemes c j = callee_of (map scheme_tree schemes) c.number c.recurs j
 
 -- and what it is used at, where its holes are numbered from n on
 abbrev pub offer : List Record → List Scheme → Context → ℕ → ℕ → Option Signature
-offer records schemes c n j = offered (nth c.holes.items) (nth c.names.items) (map record_tree records) (noted_signature c) (called schemes c) n (called schemes c j)
+offer records schemes c n j =
+    offered (nth c.holes.items) (nth c.names.items) (map record_tree records) (noted_signature c) (called schemes c) n
+    (called schemes c j)
 
 abbrev pub body_walk : List Record → List Scheme → Context → List Row → ℕ → List TypeTree → ExprTree → Result Walked ℕ
-body_walk records schemes c = walk (nth c.holes.items) (nth c.names.items) (map record_tree records) (noted_signature c) (called schemes c)
+body_walk records schemes c =
+    walk (nth c.holes.items) (nth c.names.items) (map record_tree records) (noted_signature c) (called schemes c)
 
-abbrev pub body_walk_all : List Record → List Scheme → Context → List Row → ℕ → List TypeTree → ExprTrees → Result AllWalked ℕ
-body_walk_all records schemes c = walk_all (nth c.holes.items) (nth c.names.items) (map record_tree records) (noted_signature c) (called schemes c)
+abbrev pub body_walk_all : List Record → List Scheme → Context → List Row → ℕ → List TypeTree → ExprTrees
+    → Result AllWalked ℕ
+body_walk_all records schemes c =
+    walk_all (nth c.holes.items) (nth c.names.items) (map record_tree records) (noted_signature c) (called schemes c)
 
 abbrev pub body_holes : List Record → List Scheme → Context → ExprTree → ℕ
 body_holes records schemes c = expr_holes (map record_tree records) (called schemes c)
@@ -53,7 +59,8 @@ pub record IsClosedScheme (s : Scheme) : Type 0 where
 
 -- so it is of the schemes of the functions before function i
 abbrev pub AreClosedBefore : ℕ → List Scheme → Type 0
-AreClosedBefore i schemes = (j : ℕ) (d : Scheme) → j < i → j < length schemes → IsClosedScheme (slice_index_or schemes j d)
+AreClosedBefore i schemes =
+    (j : ℕ) (d : Scheme) → j < i → j < length schemes → IsClosedScheme (slice_index_or schemes j d)
 
 -- the types of some fields
 abbrev pub declared_types : List FieldDecl → List TypeTree
@@ -77,7 +84,9 @@ whole_keys records callee units params note e =
 
 -- the derivation of the body, and all steps behind the head
 abbrev pub body_derived : List Record → List Scheme → Context → ℕ → ExprTree → Derived
-body_derived records schemes c n e = derive (nth c.holes.items) (nth c.names.items) (map record_tree records) (noted_signature c) (called schemes c) n (map type_tree c.params.items) e
+body_derived records schemes c n e =
+    derive (nth c.holes.items) (nth c.names.items) (map record_tree records) (noted_signature c) (called schemes c) n
+    (map type_tree c.params.items) e
 
 abbrev pub body_steps : List Record → List Scheme → Context → ℕ → ℕ → Option NoteTree → ExprTree → List Step
 body_steps records schemes c n at note e =
@@ -85,7 +94,9 @@ body_steps records schemes c n at note e =
     d.steps ++ noted_rows at d.type (type_tree c.result) note
 
 -- the context is that of a function with these notes
-pub record IsContextOf (number : ℕ) (recurs : Bool) (holes names : List PowerMap) (params : List NoteTree) (note : Option NoteTree) (c : Context) : Type 0 where
+pub record IsContextOf
+    (number : ℕ) (recurs : Bool) (holes names : List PowerMap) (params : List NoteTree) (note : Option NoteTree) (c : Context)
+    : Type 0 where
   pub number_is : c.number ≡ number
   pub recurs_is : c.recurs ≡ recurs
   pub holes_are : c.holes.items ≡ holes

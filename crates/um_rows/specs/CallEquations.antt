@@ -2,9 +2,11 @@
 -- Source: this project's own; the rules are those of Kennedy (1996) for a use of an earlier function.
 use Rattle.std.specs.Prelude.{ℕ, false, List, [], ◌∷◌, map, replicate, slice_get, Option, Some, None}
 use Rattle.um_tree.specs.declared.note.UnitNote.TheVariants.{Hole}
-use Rattle.um_tree.specs.TypeTree.{NoteTree, bool_note, num_note, list_note, record_note, ShapeTree, bool_shape, num_shape, list_shape, record_shape}
+use Rattle.um_tree.specs.TypeTree.{NoteTree, bool_note, num_note, list_note, record_note, ShapeTree, bool_shape}
+use Rattle.um_tree.specs.TypeTree.{num_shape, list_shape, record_shape}
 use Rattle.um_tree.specs.ExprTree.{ExprTree, ExprTrees, truth, number, call, nil, list_expr, record_expr, none, more}
-use Rattle.um_tree.specs.ValueTree.{InputTree, InputTrees, truth_input, number_input, list_input, record_input, no_inputs, more_inputs}
+use Rattle.um_tree.specs.ValueTree.{InputTree, InputTrees, truth_input, number_input, list_input, record_input}
+use Rattle.um_tree.specs.ValueTree.{no_inputs, more_inputs}
 use Rattle.um_tree.specs.ProgramTree.{RecordTree, FunctionTree}
 use Rattle.um_tree.specs.Typing.{field_types}
 use Rattle.um_tree.specs.Shapes.{type_shape, note_shape}

@@ -5,14 +5,18 @@ use Rattle.std.specs.Prelude.{ℕ, zero, suc, ◌+◌, List, [], ◌∷◌, ◌+
 use Rattle.um_units.specs.PowerMap.{PowerMap, replace}
 use Rattle.um_tree.specs.declared.note.UnitNote.{UnitNote}
 use Rattle.um_tree.specs.declared.note.UnitNote.TheVariants.{Hole, Written}
-use Rattle.um_tree.specs.TypeTree.{TypeTree, bool_type, num_type, list_type, record_type, NoteTree, bool_note, num_note, list_note, record_note}
+use Rattle.um_tree.specs.TypeTree.{TypeTree, bool_type, num_type, list_type, record_type, NoteTree, bool_note, num_note}
+use Rattle.um_tree.specs.TypeTree.{list_note, record_note}
 use Rattle.um_tree.specs.ExprTree.{ExprTree, ExprTrees, truth, number, local, call, negate, not_expr, pown, arith}
 use Rattle.um_tree.specs.ExprTree.{compare, both, either, if, bind, split, nil, list_expr, cons, record_expr, field}
 use Rattle.um_tree.specs.ExprTree.{none, more}
 use Rattle.um_tree.specs.ProgramTree.{RecordTree, Signature}
 use Rattle.um_tree.specs.Typing.{put_signature}
-use Rattle.um_rows.specs.Holes.{unit_holes, note_holes, Callee, known_by, itself, nobody, callee_holes, record_holes, expr_holes}
-use Rattle.um_rows.specs.Rules.{Derived, AllDerived, after, formed, item, number_rule, local_rule, call_rule, negate_rule, not_rule, pown_rule, truths_rule, arith_rule, compare_rule, if_rule, split_rule, nil_rule, list_rule, cons_rule, record_rule, field_rule}
+use Rattle.um_rows.specs.Holes.{unit_holes, note_holes, Callee, known_by, itself, nobody, callee_holes, record_holes}
+use Rattle.um_rows.specs.Holes.{expr_holes}
+use Rattle.um_rows.specs.Rules.{Derived, AllDerived, after, formed, item, number_rule, local_rule, call_rule}
+use Rattle.um_rows.specs.Rules.{negate_rule, not_rule, pown_rule, truths_rule, arith_rule, compare_rule, if_rule}
+use Rattle.um_rows.specs.Rules.{split_rule, nil_rule, list_rule, cons_rule, record_rule, field_rule}
 
 -- the units f 0, f 1 and so on up to f (m - 1)
 abbrev pub first_units : ℕ → (ℕ → PowerMap) → List PowerMap
@@ -93,7 +97,8 @@ module _ (holes names : ℕ → PowerMap) where
       derive n vars (split at l a b) =
           let z = derive n vars l in
           let x = derive (n + expr_holes records callee l) vars a in
-          let y = derive (n + expr_holes records callee l + expr_holes records callee a) (vars ++ item z.type ∷ z.type ∷ []) b in
+          let y = derive (n + expr_holes records callee l + expr_holes records callee a)
+              (vars ++ item z.type ∷ z.type ∷ []) b in
           after (z.steps ++ (x.steps ++ y.steps)) (split_rule at z.type x.type y.type)
       derive n vars (nil at m) = nil_rule at (noted_type n m)
       derive n vars (list_expr at es) =

@@ -1,6 +1,7 @@
 -- The equations of a function, given the schemes of the functions before it.
 -- Source: Kennedy (1996): a recursive use has one type, an earlier function is used at any instance of its scheme.
-use Rattle.std.specs.Prelude.{ℕ, ◌+◌, nat_lt, ◌==◌, ◌&&◌, Bool, if◌then◌else◌, is_some, List, [], ◌∷◌, ◌++◌, Option, Some, None, slice_get}
+use Rattle.std.specs.Prelude.{ℕ, ◌+◌, nat_lt, ◌==◌, ◌&&◌, Bool, if◌then◌else◌, is_some, List, [], ◌∷◌, ◌++◌, Option}
+use Rattle.std.specs.Prelude.{Some, None, slice_get}
 use Rattle.um_units.specs.PowerMap.{PowerMap}
 use Rattle.um_tree.specs.TypeTree.{TypeTree, bool_type, NoteTree}
 use Rattle.um_tree.specs.ProgramTree.{RecordTree, FunctionTree, Signature, SchemeTree}
@@ -20,7 +21,8 @@ abbrev pub may_recur : FunctionTree → Bool
 may_recur f = f.recursive && is_some f.result
 
 abbrev pub callee_of : List SchemeTree → ℕ → Bool → ℕ → Callee
-callee_of schemes i recurs j = if nat_lt j i then known_function (slice_get schemes j) else if j == i && recurs then itself else nobody
+callee_of schemes i recurs j =
+    if nat_lt j i then known_function (slice_get schemes j) else if j == i && recurs then itself else nobody
 
 abbrev pub callee : List SchemeTree → ℕ → FunctionTree → ℕ → Callee
 callee schemes i f = callee_of schemes i (may_recur f)
@@ -31,7 +33,8 @@ abbrev pub head_holes : FunctionTree → ℕ
 head_holes f = notes_holes f.params + result_holes f.result
 
 abbrev pub function_holes : List RecordTree → List SchemeTree → ℕ → FunctionTree → ℕ
-function_holes records schemes i f = notes_holes f.params + (result_holes f.result + expr_holes records (callee schemes i f) f.body)
+function_holes records schemes i f =
+    notes_holes f.params + (result_holes f.result + expr_holes records (callee schemes i f) f.body)
 
 -- ---- the equations
 
@@ -55,7 +58,8 @@ module _ (holes names : ℕ → PowerMap) where
 
   -- what calls of the function itself are used at
   abbrev pub own_signature : FunctionTree → Signature
-  own_signature f = record { params = noted_types holes names 0 f.params; result = noted_result (notes_holes f.params) f.result }
+  own_signature f =
+      record { params = noted_types holes names 0 f.params; result = noted_result (notes_holes f.params) f.result }
 
   -- the types of the parameters and of the result's note, at the function's name
   abbrev pub head_steps : FunctionTree → List Step

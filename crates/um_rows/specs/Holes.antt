@@ -1,6 +1,6 @@
 -- How many units are left open: in notes, and in an expression.
--- Source: F# specification, Units Of Measure, on `_`; Kennedy (1996): each use of an earlier function is a new instance of
--- its scheme. That a record's units are left open where its value is written is this project's own.
+-- Source: F# specification, Units Of Measure, on `_`; Kennedy (1996): each use of an earlier function is a new instance
+-- of its scheme. That a record's units are left open where its value is written is this project's own.
 use Rattle.std.specs.Prelude.{ℕ, ◌+◌, List, [], ◌∷◌, Option, Some, None, slice_get}
 use Rattle.um_tree.specs.declared.note.UnitNote.{UnitNote}
 use Rattle.um_tree.specs.declared.note.UnitNote.TheVariants.{Hole, Written}

@@ -1,7 +1,7 @@
--- What a function is answered, given the schemes of the functions before it: its scheme, or the first reason against one.
--- Source: Kennedy (1996): a typable function has a principal scheme, which a most general unifier of its equations gives.
--- That a function is refused where it is less general than its unit parameters say is the F# specification's, Units Of
--- Measure. The limit of slots and the range of powers are this project's own.
+-- What a function is answered, given the schemes of those before it: its scheme, or the first reason against one.
+-- Source: Kennedy (1996): a typable function has a principal scheme, which a most general unifier of its equations
+-- gives. That a function is refused where it is less general than its unit parameters say is the F# specification's,
+-- Units Of Measure. The limit of slots and the range of powers are this project's own.
 use Rattle.std.specs.Prelude.{ℕ, nat_le, if◌then◌else◌, Bool, List, length, Option, Some, None}
 use Rattle.std.specs.List.{list_all}
 use Rattle.um_units.specs.PowerMap.{nth}
@@ -20,7 +20,9 @@ use Rattle.um_rows.specs.Generalised.{generalised}
 
 -- the variables of the signature are numbered by their first occurrence, and the scheme holds these
 abbrev pub numbered_scheme : Signature → SchemeTree
-numbered_scheme g = let order = variable_order (signature_types g) in record { signature = put_signature (by_place order) g; vars = length order }
+numbered_scheme g =
+    let order = variable_order (signature_types g) in
+    record { signature = put_signature (by_place order) g; vars = length order }
 
 abbrev pub signature_fits : Signature → Bool
 signature_fits g = list_all type_fits (signature_types g)

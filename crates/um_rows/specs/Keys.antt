@@ -28,8 +28,8 @@ abbrev pub name_keys : ℕ → ℕ → List Key
 name_keys n zero = []
 name_keys n (suc m) = name n ∷ name_keys (suc n) m
 
--- ---- the keys of notes and expressions whose holes are numbered from n on, in the order of the text, a node before its
--- parts. The named variables of one unit come by their numbers
+-- ---- the keys of notes and expressions whose holes are numbered from n on, in the order of the text, a node before
+-- its parts. The named variables of one unit come by their numbers
 
 abbrev pub unit_keys : ℕ → UnitNote → List Key
 unit_keys n Hole = hole n ∷ []
@@ -67,13 +67,18 @@ module _ (records : List RecordTree) (callee : ℕ → Callee) where
     expr_keys n (compare at sign a b) = expr_keys n a ++ expr_keys (n + expr_holes records callee a) b
     expr_keys n (both at a b) = expr_keys n a ++ expr_keys (n + expr_holes records callee a) b
     expr_keys n (either at a b) = expr_keys n a ++ expr_keys (n + expr_holes records callee a) b
-    expr_keys n (if at c a b) = expr_keys n c ++ (expr_keys (n + expr_holes records callee c) a ++ expr_keys (n + expr_holes records callee c + expr_holes records callee a) b)
+    expr_keys n (if at c a b) =
+        expr_keys n c ++ (expr_keys (n + expr_holes records callee c) a
+        ++ expr_keys (n + expr_holes records callee c + expr_holes records callee a) b)
     expr_keys n (bind at a b) = expr_keys n a ++ expr_keys (n + expr_holes records callee a) b
-    expr_keys n (split at l a b) = expr_keys n l ++ (expr_keys (n + expr_holes records callee l) a ++ expr_keys (n + expr_holes records callee l + expr_holes records callee a) b)
+    expr_keys n (split at l a b) =
+        expr_keys n l ++ (expr_keys (n + expr_holes records callee l) a
+        ++ expr_keys (n + expr_holes records callee l + expr_holes records callee a) b)
     expr_keys n (nil at m) = note_keys n m
     expr_keys n (list_expr at es) = exprs_keys n es
     expr_keys n (cons at a b) = expr_keys n a ++ expr_keys (n + expr_holes records callee a) b
-    expr_keys n (record_expr at r es) = hole_keys n (record_holes (slice_get records r)) ++ exprs_keys (n + record_holes (slice_get records r)) es
+    expr_keys n (record_expr at r es) =
+        hole_keys n (record_holes (slice_get records r)) ++ exprs_keys (n + record_holes (slice_get records r)) es
     expr_keys n (field at r k a) = expr_keys n a
 
     pub exprs_keys : ℕ → ExprTrees → List Key
@@ -83,7 +88,8 @@ module _ (records : List RecordTree) (callee : ℕ → Callee) where
 -- the keys of what is written: notes and body
 abbrev pub text_keys : List RecordTree → List SchemeTree → ℕ → FunctionTree → List Key
 text_keys records schemes i f =
-    notes_keys 0 f.params ++ (result_keys (notes_holes f.params) f.result ++ expr_keys records (callee schemes i f) (head_holes f) f.body)
+    notes_keys 0 f.params ++ (result_keys (notes_holes f.params) f.result
+    ++ expr_keys records (callee schemes i f) (head_holes f) f.body)
 
 -- those of the unit parameters, which are the first named variables, come before
 abbrev pub function_keys : List RecordTree → List SchemeTree → ℕ → FunctionTree → List Key

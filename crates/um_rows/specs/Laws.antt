@@ -53,7 +53,8 @@ TypesHoldSlots =
 -- the scheme that a function is judged to have is numbered, and its instances are exactly the function's typings
 abbrev pub JudgedSchemesArePrincipal : Type 0
 JudgedSchemesArePrincipal =
-    (p : ProgramTree) (schemes : List SchemeTree) (i : ℕ) (f : FunctionTree) → slice_get p.functions i ≡ Some f → LiteralsAreClosed f.body → HaveSchemes p schemes i →
+    (p : ProgramTree) (schemes : List SchemeTree) (i : ℕ) (f : FunctionTree) → slice_get p.functions i ≡ Some f
+    → LiteralsAreClosed f.body → HaveSchemes p schemes i →
     (s : SchemeTree) → judge (length p.bases) p.records schemes i f ≡ has_scheme s →
     IsPrincipal p i s × IsNumberedScheme s
 
@@ -73,7 +74,8 @@ AreSolvableUpTo p schemes i f k =
 -- to it, and the function has no typing
 abbrev pub JudgedUntypedHaveNone : Type 0
 JudgedUntypedHaveNone =
-    (p : ProgramTree) (schemes : List SchemeTree) (i : ℕ) (f : FunctionTree) → slice_get p.functions i ≡ Some f → LiteralsAreClosed f.body → HaveSchemes p schemes i →
+    (p : ProgramTree) (schemes : List SchemeTree) (i : ℕ) (f : FunctionTree) → slice_get p.functions i ≡ Some f
+    → LiteralsAreClosed f.body → HaveSchemes p schemes i →
     (k at : ℕ) → judge (length p.bases) p.records schemes i f ≡ has_no_typing k at →
     IsFirstRow p schemes i f k at × (AreSolvableUpTo p schemes i f k → ⊥) × ((g : Signature) → Typing p i g → ⊥)
 
@@ -97,13 +99,19 @@ GeneralWithoutParameters =
 -- a type is a result of the call of function k on the inputs exactly where some joint solution of the call's rows gives it
 abbrev pub CallResultsAreSolutions : Type 0
 CallResultsAreSolutions =
-    (p : ProgramTree) (schemes : List SchemeTree) (k : ℕ) (f : FunctionTree) (inputs : InputTrees) → IsFormed p → HaveSchemes p schemes (length p.functions) → slice_get p.functions k ≡ Some f → AreFormedInputs (length p.bases) inputs →
-    (t : TypeTree) → IsResultOfCall p k inputs t ↔ IsSolved p.records schemes (length p.functions) (call_function p.records k f inputs) (record { params = []; result = t })
+    (p : ProgramTree) (schemes : List SchemeTree) (k : ℕ) (f : FunctionTree) (inputs : InputTrees) → IsFormed p
+    → HaveSchemes p schemes (length p.functions) → slice_get p.functions k ≡ Some f
+    → AreFormedInputs (length p.bases) inputs →
+    (t : TypeTree) → IsResultOfCall p k inputs t
+    ↔ IsSolved p.records schemes (length p.functions) (call_function p.records k f inputs)
+    (record { params = []; result = t })
 
 -- the type that a call is judged to have is a type of the call
 abbrev pub JudgedCallsHaveTheirType : Type 0
 JudgedCallsHaveTheirType =
-    (p : ProgramTree) (schemes : List SchemeTree) (k : ℕ) (f : FunctionTree) (inputs : InputTrees) → IsFormed p → HaveSchemes p schemes (length p.functions) → slice_get p.functions k ≡ Some f → AreFormedInputs (length p.bases) inputs →
+    (p : ProgramTree) (schemes : List SchemeTree) (k : ℕ) (f : FunctionTree) (inputs : InputTrees) → IsFormed p
+    → HaveSchemes p schemes (length p.functions) → slice_get p.functions k ≡ Some f
+    → AreFormedInputs (length p.bases) inputs →
     (s : SchemeTree) →
     judge (length p.bases) p.records schemes (length p.functions) (call_function p.records k f inputs) ≡ has_scheme s →
     IsTypeOfCall p k inputs s.signature.result
@@ -111,7 +119,9 @@ JudgedCallsHaveTheirType =
 -- and a call that is judged to have none has no result
 abbrev pub JudgedUntypedCallsHaveNone : Type 0
 JudgedUntypedCallsHaveNone =
-    (p : ProgramTree) (schemes : List SchemeTree) (k : ℕ) (f : FunctionTree) (inputs : InputTrees) → IsFormed p → HaveSchemes p schemes (length p.functions) → slice_get p.functions k ≡ Some f → AreFormedInputs (length p.bases) inputs →
+    (p : ProgramTree) (schemes : List SchemeTree) (k : ℕ) (f : FunctionTree) (inputs : InputTrees) → IsFormed p
+    → HaveSchemes p schemes (length p.functions) → slice_get p.functions k ≡ Some f
+    → AreFormedInputs (length p.bases) inputs →
     (row at : ℕ) →
     judge (length p.bases) p.records schemes (length p.functions) (call_function p.records k f inputs)
     ≡ has_no_typing row at → (t : TypeTree) → IsResultOfCall p k inputs t → ⊥

@@ -1,3 +1,5 @@
+-- What a reader must trust, in reading order: rows, the rules of nodes, the equations of a function, slots, solutions,
+-- what a function is answered.
 pub mod Steps
 pub mod Against
 pub mod Holes
@@ -6,17 +8,19 @@ pub mod Derivation
 pub mod Equations
 pub mod Keys
 pub mod Slots
-pub mod Slotting
 pub mod Solutions
 pub mod FirstUnsolvable
-pub mod SlotUnits
-pub mod Pushed
-pub mod Walk
-pub mod Reached
-pub mod Body
 pub mod Generalised
 pub mod Judgement
 pub mod RightShapes
 pub mod CallEquations
 pub mod Answers
+-- What the definitions come to: statements, each proved as the contract of a function of src/laws.rt.
 pub mod Laws
+-- What mirrors the code: slots given one by one, rows pushed for steps, the derivation as it is walked.
+pub mod Slotting
+pub mod SlotUnits
+pub mod Pushed
+pub mod Walk
+pub mod Reached
+pub mod Body

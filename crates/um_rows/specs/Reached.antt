@@ -16,8 +16,10 @@ StopsAs m stop.NoMemory = Unit {0}
 
 -- the type and the progress are those of the walk, or its end is named
 abbrev pub IsReached : Result Walked ℕ → Progress → Result Ty RowStop → Type 0
-IsReached m new r = MatchResult r (λ ty. m ≡ Ok (record { type = type_tree ty; rows = new.rows.items; holes = new.holes })) (StopsAs m)
+IsReached m new r =
+    MatchResult r (λ ty. m ≡ Ok (record { type = type_tree ty; rows = new.rows.items; holes = new.holes })) (StopsAs m)
 
 -- the same of expressions one after another
 abbrev pub AreReached : {A : Type 0} → (A → List TypeTree) → Result AllWalked ℕ → Progress → Result A RowStop → Type 0
-AreReached view m new r = MatchResult r (λ ts. m ≡ Ok (record { types = view ts; rows = new.rows.items; holes = new.holes })) (StopsAs m)
+AreReached view m new r =
+    MatchResult r (λ ts. m ≡ Ok (record { types = view ts; rows = new.rows.items; holes = new.holes })) (StopsAs m)

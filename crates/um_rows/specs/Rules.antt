@@ -1,6 +1,6 @@
 -- What the typing rule of each node gives over the types of its parts: the node's rows, and then its type.
--- Source: Kennedy (1996): sums and comparisons need equal units, products and quotients have the product and the quotient
--- of the units; F# specification, Units Of Measure. Which of two equal types stands for both is this project's own.
+-- Source: Kennedy (1996): sums and comparisons need equal units, products and quotients have the product and the
+-- quotient of the units; F# specification, Units Of Measure. Which of two equal types stands for both is this project's own.
 use Rattle.std.specs.Prelude.{ℕ, Bool, true, ◌==◌, List, [], ◌∷◌, ◌++◌, map, length, if◌then◌else◌, slice_get, Option}
 use Rattle.std.specs.Prelude.{Some, None, ℤ}
 use Rattle.um_frac.specs.declared.number.Frac.{Frac}
@@ -124,7 +124,8 @@ cons_rule at s t = mismatch at
 
 -- a value of record r at these units: declared type against part, field by field
 abbrev pub record_rule : ℕ → ℕ → List PowerMap → Option RecordTree → List TypeTree → Derived
-record_rule at r us (Some d) ts = formed at (types_against at (map (put (unit_at us)) (field_types d)) ts) (record_type r us)
+record_rule at r us (Some d) ts =
+    formed at (types_against at (map (put (unit_at us)) (field_types d)) ts) (record_type r us)
 record_rule at r us None ts = mismatch at
 
 -- a field of a value of a record at these units: it is of the record that is asked for, and takes as many units

@@ -1,7 +1,7 @@
 -- The slots of a function: those of its unit parameters are the first, so that parameter k has slot k, and then come
 -- its holes and its other named variables, by their first occurrence.
--- Source: Kennedy (1996): the unknowns of the equations. Their order is this project's own; it decides which of the schemes
--- with the same instances is printed.
+-- Source: Kennedy (1996): the unknowns of the equations. Their order is this project's own; it decides which of the
+-- schemes with the same instances is printed.
 use Rattle.std.specs.Prelude.{ℕ, ◌+◌, ◌*◌, nat_eq, not, Bool, false, if◌then◌else◌, List, [], ◌∷◌, length, filter}
 use Rattle.std.specs.List.{list_any, position_or_len}
 use Rattle.um_units.specs.declared.Atom.TheVariants.{Var}

@@ -1,6 +1,7 @@
 -- Slots that are given to keys one by one, as the code gives them.
 -- Source: this project's own; want of memory may come in place of every answer, and no public clause rests on it.
-use Rattle.std.specs.Prelude.{◌≡◌, ◌<◌, ◌≤◌, ℕ, false, if◌then◌else◌, IsTrue, List, [], ◌∷◌, ◌++◌, length, slice_index_or, Option, Some, None, Result, MatchResult}
+use Rattle.std.specs.Prelude.{◌≡◌, ◌<◌, ◌≤◌, ℕ, false, if◌then◌else◌, IsTrue, List, [], ◌∷◌, ◌++◌, length}
+use Rattle.std.specs.Prelude.{slice_index_or, Option, Some, None, Result, MatchResult}
 use Rattle.um_units.specs.declared.Atom.TheVariants.{Var}
 use Rattle.um_units.specs.PowerMap.{PowerMap, one, atom, nth}
 use Rattle.um_rows.specs.declared.row.RowStop.{RowStop}
@@ -25,7 +26,8 @@ found_slot order k = if has_slot order k then Some (place order k) else None
 pub record IsTable (order : List Key) (t : Slots) : Type 0 where
   pub count : t.count ≡ length order
   pub few : length order ≤ 2000
-  pub holes : (k : ℕ) → k < length t.holes.items → IsTrue (has_slot order (hole k)) × (nth t.holes.items k ≡ atom (Var (place order (hole k))))
+  pub holes : (k : ℕ) → k < length t.holes.items → IsTrue (has_slot order (hole k))
+      × (nth t.holes.items k ≡ atom (Var (place order (hole k))))
   pub later : (k : ℕ) → length t.holes.items ≤ k → has_slot order (hole k) ≡ false
   pub names : (k : ℕ) → slice_index_or t.names.items k None ≡ found_slot order (name k)
 
@@ -37,7 +39,9 @@ StopsSlots order stop.NoMemory = Unit {0}
 
 -- the keys have slots, or there are too many
 abbrev pub HaveSlots : List Key → Slots → Slots → Result (Unit {0}) RowStop → Type 0
-HaveSlots keys old new r = (order : List Key) → IsTable order old → MatchResult r (λ _. IsTable (with_keys order keys) new) (StopsSlots (with_keys order keys))
+HaveSlots keys old new r =
+    (order : List Key) → IsTable order old → MatchResult r
+    (λ _. IsTable (with_keys order keys) new) (StopsSlots (with_keys order keys))
 
 -- the unit of a named variable: its slot's variable, if it has one
 abbrev pub name_unit : Option ℕ → PowerMap

@@ -16,15 +16,19 @@ function_rows records schemes i f = row_units (slot_equations records schemes i 
 
 -- the types of its parameters and of its body, over slots
 abbrev pub slot_signature : List RecordTree → List SchemeTree → ℕ → FunctionTree → Signature
-slot_signature records schemes i f = let e = slot_equations records schemes i f in record { params = e.params; result = e.result }
+slot_signature records schemes i f =
+    let e = slot_equations records schemes i f in record { params = e.params; result = e.result }
 
 -- one unit for each slot, such that each row is 1
 abbrev pub IsSolution : List RecordTree → List SchemeTree → ℕ → FunctionTree → List PowerMap → Type 0
-IsSolution records schemes i f units = IsJointSolution (slot_count records schemes i f) (function_rows records schemes i f) units
+IsSolution records schemes i f units =
+    IsJointSolution (slot_count records schemes i f) (function_rows records schemes i f) units
 
 -- some joint solution, put for the slots, gives the signature
 abbrev pub IsSolved : List RecordTree → List SchemeTree → ℕ → FunctionTree → Signature → Type 0
-IsSolved records schemes i f g = (units : List PowerMap) × IsSolution records schemes i f units × (g ≡ put_signature (nth units) (slot_signature records schemes i f))
+IsSolved records schemes i f g =
+    (units : List PowerMap) × IsSolution records schemes i f units
+    × (g ≡ put_signature (nth units) (slot_signature records schemes i f))
 
 -- ---- unit parameters as units of their own
 

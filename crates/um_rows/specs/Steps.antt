@@ -1,6 +1,6 @@
 -- What the typing rules form for a function over its slots, one after another: rows, and the types of its nodes.
--- Source: Kennedy (1996): the inference of units asks for equations between units, in the free abelian group. Their order
--- and their places are this project's own.
+-- Source: Kennedy (1996): the inference of units asks for equations between units, in the free abelian group. Their
+-- order and their places are this project's own.
 use Rattle.std.specs.Prelude.{ℕ, if◌then◌else◌, List, [], ◌∷◌, map, Option, Some, None}
 use Rattle.um_units.specs.declared.Atom.TheVariants.{Base}
 use Rattle.um_units.specs.PowerMap.{PowerMap, atom}

@@ -1,5 +1,5 @@
--- The derivation node by node, as the code makes it: the rows so far and the holes so far are carried along, and the first
--- step that passes the range ends it.
+-- The derivation node by node, as the code makes it: the rows so far and the holes so far are carried along, and the
+-- first step that passes the range ends it.
 -- Source: this project's own; it is the derivation of the equations again, and no public clause rests on it.
 use Rattle.std.specs.Prelude.{ℕ, ◌+◌, List, [], ◌∷◌, ◌++◌, Option, Some, None, Result, Ok, Err, slice_get}
 use Rattle.um_units.specs.PowerMap.{PowerMap}
@@ -11,7 +11,9 @@ use Rattle.um_tree.specs.ProgramTree.{RecordTree, Signature}
 use Rattle.um_rows.specs.declared.row.Row.{Row}
 use Rattle.um_rows.specs.Steps.{first_past, rows_of}
 use Rattle.um_rows.specs.Holes.{unit_holes, note_holes, Callee, callee_holes, record_holes}
-use Rattle.um_rows.specs.Rules.{Derived, formed, item, number_rule, local_rule, call_rule, negate_rule, not_rule, pown_rule, truths_rule, arith_rule, compare_rule, if_rule, split_rule, nil_rule, list_rule, cons_rule, record_rule, field_rule}
+use Rattle.um_rows.specs.Rules.{Derived, formed, item, number_rule, local_rule, call_rule, negate_rule, not_rule}
+use Rattle.um_rows.specs.Rules.{pown_rule, truths_rule, arith_rule, compare_rule, if_rule, split_rule, nil_rule}
+use Rattle.um_rows.specs.Rules.{list_rule, cons_rule, record_rule, field_rule}
 use Rattle.um_rows.specs.Derivation.{first_units, noted_unit, noted_type, offered}
 
 -- the type of the last node, and where the walk stands
@@ -45,27 +47,48 @@ module _ (holes names : ℕ → PowerMap) (records : List RecordTree) (self : Si
     walk rows n vars (number at c m) = node rows (n + unit_holes m) (number_rule at c m (noted_unit holes names n m))
     walk rows n vars (local at k) = node rows n (local_rule at (slice_get vars k))
     walk rows n vars (call at j es) =
-        then (walk_all rows (n + callee_holes (callee j)) vars es) (λ w. node w.rows w.holes (call_rule at (offered holes names records self callee n (callee j)) w.types))
+        then (walk_all rows (n + callee_holes (callee j)) vars es)
+        (λ w. node w.rows w.holes (call_rule at (offered holes names records self callee n (callee j)) w.types))
     walk rows n vars (negate at a) = then (walk rows n vars a) (λ x. node x.rows x.holes (negate_rule at x.type))
     walk rows n vars (not_expr at a) = then (walk rows n vars a) (λ x. node x.rows x.holes (not_rule at x.type))
     walk rows n vars (pown at a k) = then (walk rows n vars a) (λ x. node x.rows x.holes (pown_rule at k x.type))
-    walk rows n vars (arith at op a b) = then (walk rows n vars a) (λ x. then (walk x.rows x.holes vars b) (λ y. node y.rows y.holes (arith_rule at op x.type y.type)))
-    walk rows n vars (compare at sign a b) = then (walk rows n vars a) (λ x. then (walk x.rows x.holes vars b) (λ y. node y.rows y.holes (compare_rule at x.type y.type)))
-    walk rows n vars (both at a b) = then (walk rows n vars a) (λ x. then (walk x.rows x.holes vars b) (λ y. node y.rows y.holes (truths_rule at x.type y.type)))
-    walk rows n vars (either at a b) = then (walk rows n vars a) (λ x. then (walk x.rows x.holes vars b) (λ y. node y.rows y.holes (truths_rule at x.type y.type)))
+    walk rows n vars (arith at op a b) =
+        then (walk rows n vars a) (λ x. then (walk x.rows x.holes vars b)
+        (λ y. node y.rows y.holes (arith_rule at op x.type y.type)))
+    walk rows n vars (compare at sign a b) =
+        then (walk rows n vars a) (λ x. then (walk x.rows x.holes vars b)
+        (λ y. node y.rows y.holes (compare_rule at x.type y.type)))
+    walk rows n vars (both at a b) =
+        then (walk rows n vars a) (λ x. then (walk x.rows x.holes vars b)
+        (λ y. node y.rows y.holes (truths_rule at x.type y.type)))
+    walk rows n vars (either at a b) =
+        then (walk rows n vars a) (λ x. then (walk x.rows x.holes vars b)
+        (λ y. node y.rows y.holes (truths_rule at x.type y.type)))
     walk rows n vars (if at c a b) =
-        then (walk rows n vars c) (λ z. then (walk z.rows z.holes vars a) (λ x. then (walk x.rows x.holes vars b) (λ y. node y.rows y.holes (if_rule at z.type x.type y.type))))
-    walk rows n vars (bind at a b) = then (walk rows n vars a) (λ x. then (walk x.rows x.holes (vars ++ x.type ∷ []) b) (λ y. node y.rows y.holes (formed at [] y.type)))
+        then (walk rows n vars c) (λ z. then (walk z.rows z.holes vars a)
+        (λ x. then (walk x.rows x.holes vars b) (λ y. node y.rows y.holes (if_rule at z.type x.type y.type))))
+    walk rows n vars (bind at a b) =
+        then (walk rows n vars a) (λ x. then (walk x.rows x.holes (vars ++ x.type ∷ []) b)
+        (λ y. node y.rows y.holes (formed at [] y.type)))
     walk rows n vars (split at l a b) =
-        then (walk rows n vars l) (λ z. then (walk z.rows z.holes vars a) (λ x. then (walk x.rows x.holes (vars ++ item z.type ∷ z.type ∷ []) b) (λ y. node y.rows y.holes (split_rule at z.type x.type y.type))))
+        then (walk rows n vars l) (λ z. then (walk z.rows z.holes vars a)
+        (λ x. then (walk x.rows x.holes (vars ++ item z.type ∷ z.type ∷ []) b)
+        (λ y. node y.rows y.holes (split_rule at z.type x.type y.type))))
     walk rows n vars (nil at m) = node rows (n + note_holes m) (nil_rule at (noted_type holes names n m))
-    walk rows n vars (list_expr at es) = then (walk_all rows n vars es) (λ w. node w.rows w.holes (list_rule at w.types))
-    walk rows n vars (cons at a b) = then (walk rows n vars a) (λ x. then (walk x.rows x.holes vars b) (λ y. node y.rows y.holes (cons_rule at x.type y.type)))
+    walk rows n vars (list_expr at es) =
+        then (walk_all rows n vars es) (λ w. node w.rows w.holes (list_rule at w.types))
+    walk rows n vars (cons at a b) =
+        then (walk rows n vars a) (λ x. then (walk x.rows x.holes vars b)
+        (λ y. node y.rows y.holes (cons_rule at x.type y.type)))
     walk rows n vars (record_expr at r es) =
         let m = record_holes (slice_get records r) in
-        then (walk_all rows (n + m) vars es) (λ w. node w.rows w.holes (record_rule at r (first_units m (λ k. holes (n + k))) (slice_get records r) w.types))
-    walk rows n vars (field at r k a) = then (walk rows n vars a) (λ x. node x.rows x.holes (field_rule at r k (slice_get records r) x.type))
+        then (walk_all rows (n + m) vars es) (λ w.
+        node w.rows w.holes (record_rule at r (first_units m (λ k. holes (n + k))) (slice_get records r) w.types))
+    walk rows n vars (field at r k a) =
+        then (walk rows n vars a) (λ x. node x.rows x.holes (field_rule at r k (slice_get records r) x.type))
 
     pub walk_all : List Row → ℕ → List TypeTree → ExprTrees → Result AllWalked ℕ
     walk_all rows n vars none = Ok (record { types = []; rows = rows; holes = n })
-    walk_all rows n vars (more e es) = then (walk rows n vars e) (λ x. then (walk_all x.rows x.holes vars es) (λ w. Ok (record { types = x.type ∷ w.types; rows = w.rows; holes = w.holes })))
+    walk_all rows n vars (more e es) =
+        then (walk rows n vars e) (λ x. then (walk_all x.rows x.holes vars es)
+        (λ w. Ok (record { types = x.type ∷ w.types; rows = w.rows; holes = w.holes })))

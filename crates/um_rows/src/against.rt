@@ -72,7 +72,8 @@ pub(crate) fn against(
     right: &Ty,
     rows: &mut Vec<Row>,
 ) -> Result<(), RowStop>
-    ensures { ArePushed (against_steps at (type_tree left.now) (type_tree right.now)) rows.old.items rows.new.items result }
+    ensures { ArePushed (against_steps at (type_tree left.now) (type_tree right.now)) rows.old.items
+        rows.new.items result }
 {
     match (left, right) {
         (Ty::Bool, Ty::Bool) => Ok(()),
@@ -98,7 +99,8 @@ pub(crate) fn types_against(
     right: &[Ty],
     rows: &mut Vec<Row>,
 ) -> Result<(), RowStop>
-    ensures { ArePushed (types_against_steps at (map type_tree left.now) (map type_tree right.now)) rows.old.items rows.new.items result }
+    ensures { ArePushed (types_against_steps at (map type_tree left.now) (map type_tree right.now)) rows.old.items
+        rows.new.items result }
 {
     match left {
         [] => match right {
@@ -123,7 +125,8 @@ pub(crate) fn against_each(
     others: &[Ty],
     rows: &mut Vec<Row>,
 ) -> Result<(), RowStop>
-    ensures { ArePushed (against_each_steps at (type_tree left.now) (map type_tree others.now)) rows.old.items rows.new.items result }
+    ensures { ArePushed (against_each_steps at (type_tree left.now) (map type_tree others.now)) rows.old.items
+        rows.new.items result }
 {
     for t in others {
         against(alloc, at, left, t, rows)?;

@@ -49,7 +49,8 @@ fn arguments_against(
 ) -> Result<(), RowStop>
     requires variables { AreVariables by.now }
     requires below { All (λ t. TypeHas (VariablesBelow (length by.now)) (type_tree t)) params.now }
-    ensures { ArePushed (types_against_steps at (map (put (nth by.now)) (map type_tree params.now)) (map type_tree arguments.now)) rows.old.items rows.new.items result }
+    ensures { ArePushed (types_against_steps at (map (put (nth by.now)) (map type_tree params.now))
+        (map type_tree arguments.now)) rows.old.items rows.new.items result }
 {
     match params {
         [] => match arguments {
@@ -100,7 +101,9 @@ fn scheme_call(
     requires variables { AreVariables by.now }
     requires many { length by.now ≡ scheme.now.vars }
     requires closed { IsClosedScheme scheme.now }
-    ensures reached { IsReached (node progress.old.rows.items progress.old.holes (call_rule at (Some (put_signature (nth by.now) (scheme_tree scheme.now).signature)) (map type_tree arguments.now))) progress.new result }
+    ensures reached { IsReached (node progress.old.rows.items progress.old.holes
+        (call_rule at (Some (put_signature (nth by.now) (scheme_tree scheme.now).signature))
+        (map type_tree arguments.now))) progress.new result }
     ensures fits { IfOk result (λ ty. IsTrue (type_fits (type_tree ty))) }
 {
     arguments_against(
@@ -124,7 +127,8 @@ fn own_call(
     arguments: &[Ty],
     progress: &mut Progress,
 ) -> Result<Ty, RowStop>
-    ensures reached { IsReached (node progress.old.rows.items progress.old.holes (call_rule at (Some (noted_signature context.now)) (map type_tree arguments.now))) progress.new result }
+    ensures reached { IsReached (node progress.old.rows.items progress.old.holes
+        (call_rule at (Some (noted_signature context.now)) (map type_tree arguments.now))) progress.new result }
     ensures fits { IfOk result (λ ty. IsTrue (type_fits (type_tree ty))) }
 {
     types_against(alloc, at, &context.params, arguments, &mut progress.rows)?;
@@ -146,7 +150,10 @@ pub(crate) fn call(
     requires variables { AreVariables context.now.holes.items }
     requires closed { AreClosedBefore context.now.number schemes.now }
     requires room { first + callee_holes (called schemes.now context.now j) ≤ length context.now.holes.items }
-    ensures reached { (records : List Record) → IsReached (node progress.old.rows.items progress.old.holes (call_rule at (offer records schemes.now context.now first j) (map type_tree arguments.now))) progress.new result }
+    ensures reached { (records : List Record)
+        → IsReached (node progress.old.rows.items progress.old.holes
+        (call_rule at (offer records schemes.now context.now first j) (map type_tree arguments.now)))
+        progress.new result }
     ensures fits { IfOk result (λ ty. IsTrue (type_fits (type_tree ty))) }
 {
     if j < context.number {

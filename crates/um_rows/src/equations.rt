@@ -33,8 +33,10 @@ use um_units::{Atom, Unit, UnitStop};
 
 /// The slots of the result's note.
 fn result_slots(alloc: Global, note: &Option<Note>, slots: &mut Slots) -> Result<(), RowStop>
-    ensures slots { HaveSlots (result_keys (length slots.old.holes.items) (result_tree note.now)) slots.old slots.new result }
-    ensures counted { OnOk result (length slots.new.holes.items ≡ length slots.old.holes.items + holes_of_result (result_tree note.now)) }
+    ensures slots { HaveSlots (result_keys (length slots.old.holes.items) (result_tree note.now)) slots.old
+        slots.new result }
+    ensures counted { OnOk result (length slots.new.holes.items ≡ length slots.old.holes.items
+        + holes_of_result (result_tree note.now)) }
 {
     match note {
         Some(note) => note_slots(alloc, note, slots),
@@ -62,10 +64,20 @@ fn number_holes(
     note: &Option<Note>,
     body: &Expr,
 ) -> Result<Numbering, RowStop>
-    ensures slots { MatchResult result (λ n. IsTable (with_keys [] (whole_keys (map record_tree records.now) (callee_of (map scheme_tree schemes.now) number recurs) units (map note_tree params.now) (result_tree note.now) (expr_tree body.now))) n.slots) (StopsSlots (with_keys [] (whole_keys (map record_tree records.now) (callee_of (map scheme_tree schemes.now) number recurs) units (map note_tree params.now) (result_tree note.now) (expr_tree body.now)))) }
+    ensures slots { MatchResult result (λ n. IsTable
+        (with_keys [] (whole_keys (map record_tree records.now)
+        (callee_of (map scheme_tree schemes.now) number recurs) units (map note_tree params.now) (result_tree note.now)
+        (expr_tree body.now))) n.slots) (StopsSlots
+        (with_keys [] (whole_keys (map record_tree records.now)
+        (callee_of (map scheme_tree schemes.now) number recurs) units (map note_tree params.now) (result_tree note.now)
+        (expr_tree body.now)))) }
     ensures params { IfOk result (λ n. n.params ≡ holes_of_notes (map note_tree params.now)) }
-    ensures head { IfOk result (λ n. n.head ≡ holes_of_notes (map note_tree params.now) + holes_of_result (result_tree note.now)) }
-    ensures counted { IfOk result (λ n. length n.slots.holes.items ≡ holes_of_notes (map note_tree params.now) + holes_of_result (result_tree note.now) + expr_holes (map record_tree records.now) (callee_of (map scheme_tree schemes.now) number recurs) (expr_tree body.now)) }
+    ensures head { IfOk result (λ n. n.head ≡ holes_of_notes (map note_tree params.now)
+        + holes_of_result (result_tree note.now)) }
+    ensures counted { IfOk result (λ n. length n.slots.holes.items ≡ holes_of_notes (map note_tree params.now)
+        + holes_of_result (result_tree note.now)
+        + expr_holes (map record_tree records.now) (callee_of (map scheme_tree schemes.now) number recurs)
+        (expr_tree body.now)) }
 {
     let mut slots = Slots::new(alloc);
     names_slots(units, &mut slots)?;
@@ -110,8 +122,10 @@ fn push_types(
     types: &mut Vec<Ty>,
 ) -> Result<(), UnitStop>
     requires room { n + holes_of_notes (map note_tree notes.now) ≤ length context.now.holes.items }
-    ensures exact { OnOk result (map type_tree types.new.items ≡ map type_tree types.old.items ++ noted_types (nth context.now.holes.items) (nth context.now.names.items) n (map note_tree notes.now)) }
-    ensures range { RangeUnless result (list_all type_fits (noted_types (nth context.now.holes.items) (nth context.now.names.items) n (map note_tree notes.now))) }
+    ensures exact { OnOk result (map type_tree types.new.items ≡ map type_tree types.old.items
+        ++ noted_types (nth context.now.holes.items) (nth context.now.names.items) n (map note_tree notes.now)) }
+    ensures range { RangeUnless result (list_all type_fits
+        (noted_types (nth context.now.holes.items) (nth context.now.names.items) n (map note_tree notes.now))) }
 {
     match notes {
         [] => Ok(()),
@@ -130,8 +144,10 @@ fn result_type(
     note: &Option<Note>,
 ) -> Result<Ty, UnitStop>
     requires room { n + holes_of_result (result_tree note.now) ≤ length context.now.holes.items }
-    ensures exact { IfOk result (λ t. type_tree t ≡ result_noted (nth context.now.holes.items) (nth context.now.names.items) n (result_tree note.now)) }
-    ensures range { RangeUnless result (type_fits (result_noted (nth context.now.holes.items) (nth context.now.names.items) n (result_tree note.now))) }
+    ensures exact { IfOk result (λ t. type_tree t
+        ≡ result_noted (nth context.now.holes.items) (nth context.now.names.items) n (result_tree note.now)) }
+    ensures range { RangeUnless result (type_fits
+        (result_noted (nth context.now.holes.items) (nth context.now.names.items) n (result_tree note.now))) }
 {
     match note {
         Some(note) => noted_type(alloc, context, n, note),
@@ -151,9 +167,13 @@ fn context_of(
     note: &Option<Note>,
 ) -> Result<Context, UnitStop>
     requires first { first ≡ holes_of_notes (map note_tree params.now) }
-    requires room { holes_of_notes (map note_tree params.now) + holes_of_result (result_tree note.now) ≤ length holes.items }
-    ensures exact { IfOk result (IsContextOf number recurs holes.items names.items (map note_tree params.now) (result_tree note.now)) }
-    ensures range { RangeUnless result (list_all type_fits (noted_types (nth holes.items) (nth names.items) 0 (map note_tree params.now) ++ result_noted (nth holes.items) (nth names.items) first (result_tree note.now) ∷ [])) }
+    requires room { holes_of_notes (map note_tree params.now) + holes_of_result (result_tree note.now)
+        ≤ length holes.items }
+    ensures exact { IfOk result (IsContextOf number recurs holes.items names.items (map note_tree params.now)
+        (result_tree note.now)) }
+    ensures range { RangeUnless result (list_all type_fits
+        (noted_types (nth holes.items) (nth names.items) 0 (map note_tree params.now)
+        ++ result_noted (nth holes.items) (nth names.items) first (result_tree note.now) ∷ [])) }
 {
     let mut context = Context {
         number,
@@ -191,7 +211,8 @@ fn note_against(
     note: &Option<Note>,
     rows: &mut Vec<Row>,
 ) -> Result<(), RowStop>
-    ensures { ArePushed (noted_rows at (type_tree ty.now) (type_tree noted.now) (result_tree note.now)) rows.old.items rows.new.items result }
+    ensures { ArePushed (noted_rows at (type_tree ty.now) (type_tree noted.now) (result_tree note.now)) rows.old.items
+        rows.new.items result }
 {
     match note {
         Some(_) => against(alloc, at, ty, noted, rows),
@@ -214,8 +235,14 @@ fn body_rows(
     requires variables { AreVariables context.now.holes.items }
     requires schemes { AreClosedBefore context.now.number schemes.now }
     requires records { All IsClosedRecord records.now }
-    requires room { head + body_holes records.now schemes.now context.now (expr_tree body.now) ≤ length context.now.holes.items }
-    ensures { MatchResult result (AreBodyRows (body_steps records.now schemes.now context.now head at (result_tree note.now) (expr_tree body.now)) (body_derived records.now schemes.now context.now head (expr_tree body.now)) (map type_tree context.now.params.items) slots) (StopsPast (first_past (body_steps records.now schemes.now context.now head at (result_tree note.now) (expr_tree body.now)))) }
+    requires room { head + body_holes records.now schemes.now context.now (expr_tree body.now)
+        ≤ length context.now.holes.items }
+    ensures { MatchResult result (AreBodyRows
+        (body_steps records.now schemes.now context.now head at (result_tree note.now) (expr_tree body.now))
+        (body_derived records.now schemes.now context.now head (expr_tree body.now))
+        (map type_tree context.now.params.items) slots)
+        (StopsPast (first_past (body_steps records.now schemes.now context.now head at (result_tree note.now)
+        (expr_tree body.now)))) }
 {
     let mut scope = copied_types(alloc, &context.params)?;
     let mut progress = Progress {
@@ -272,7 +299,10 @@ pub(crate) fn equations(
 ) -> Result<Rows, RowStop>
     requires schemes { AreClosedBefore number schemes.now }
     requires records { All IsClosedRecord records.now }
-    ensures { MatchResult result (AreEquations (map record_tree records.now) (map scheme_tree schemes.now) number (described at recursive units (map note_tree params.now) (result_tree note.now) (expr_tree body.now))) (StopsFor (map record_tree records.now) (map scheme_tree schemes.now) number (described at recursive units (map note_tree params.now) (result_tree note.now) (expr_tree body.now))) }
+    ensures { MatchResult result (AreEquations (map record_tree records.now) (map scheme_tree schemes.now) number
+        (described at recursive units (map note_tree params.now) (result_tree note.now) (expr_tree body.now)))
+        (StopsFor (map record_tree records.now) (map scheme_tree schemes.now) number
+        (described at recursive units (map note_tree params.now) (result_tree note.now) (expr_tree body.now))) }
 {
     let recurs = may_recur(recursive, note);
     let Numbering {

@@ -27,10 +27,14 @@ pub fn call_rows(
 ) -> Result<Rows, RowStop>
     requires function { f < length (program_tree shaped.now).functions }
     requires inputs { AreFormedInputs (length (program_tree shaped.now).bases) (input_trees args.now) }
-    requires schemes { HaveVariablesBelow (length (program_tree shaped.now).functions) (map scheme_tree schemes.now.items.items) }
-    ensures equations { IfOk result (AreCallRowsOf (program_tree shaped.now) (map scheme_tree schemes.now.items.items) f (input_trees args.now)) }
-    ensures stops { IfErr result (CallRowsStopFor (program_tree shaped.now) (map scheme_tree schemes.now.items.items) f (input_trees args.now)) }
-    ensures results { IfOk result (ResultsAreSolutionsOf (program_tree shaped.now) (map scheme_tree schemes.now.items.items) f (input_trees args.now)) }
+    requires schemes { HaveVariablesBelow (length (program_tree shaped.now).functions)
+        (map scheme_tree schemes.now.items.items) }
+    ensures equations { IfOk result (AreCallRowsOf (program_tree shaped.now) (map scheme_tree schemes.now.items.items) f
+        (input_trees args.now)) }
+    ensures stops { IfErr result (CallRowsStopFor (program_tree shaped.now) (map scheme_tree schemes.now.items.items) f
+        (input_trees args.now)) }
+    ensures results { IfOk result (ResultsAreSolutionsOf (program_tree shaped.now)
+        (map scheme_tree schemes.now.items.items) f (input_trees args.now)) }
 {
     let program = shaped.program();
     let function = &program.functions.items[f as usize];

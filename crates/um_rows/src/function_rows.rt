@@ -22,7 +22,8 @@ pub fn rows(alloc: Global, shaped: &Shaped, i: u32, schemes: &Schemes) -> Result
     requires schemes { HaveVariablesBelow i (map scheme_tree schemes.now.items.items) }
     ensures equations { IfOk result (AreRowsOf (program_tree shaped.now) (map scheme_tree schemes.now.items.items) i) }
     ensures stops { IfErr result (RowsStopFor (program_tree shaped.now) (map scheme_tree schemes.now.items.items) i) }
-    ensures typings { IfOk result (TypingsAreSolutionsOf (program_tree shaped.now) (map scheme_tree schemes.now.items.items) i) }
+    ensures typings { IfOk result (TypingsAreSolutionsOf (program_tree shaped.now)
+        (map scheme_tree schemes.now.items.items) i) }
 {
     let program = shaped.program();
     let function = &program.functions.items[i as usize];

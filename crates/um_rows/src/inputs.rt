@@ -73,7 +73,8 @@ fn field_shapes(alloc: Global, declared: &Record) -> Result<Vec<Shape>, AllocErr
 
 /// The shapes of the fields of record r, if there is one.
 fn shapes_of(alloc: Global, records: &[Record], r: u32) -> Result<Vec<Shape>, AllocError>
-    ensures { IfOk result (λ shapes. map shape_tree shapes.items ≡ shapes_of_fields (slice_get (map record_tree records.now) r)) }
+    ensures { IfOk result (λ shapes. map shape_tree shapes.items
+        ≡ shapes_of_fields (slice_get (map record_tree records.now) r)) }
 {
     match records.get(r as usize) {
         Some(declared) => field_shapes(alloc, declared),
@@ -132,7 +133,8 @@ fn input_expr(
     input: &Input,
     shape: &Shape,
 ) -> Result<Expr, AllocError>
-    ensures { IfOk result (λ e. expr_tree e ≡ input_text (map record_tree records.now) (shape_tree shape.now) (input_tree input.now)) }
+    ensures { IfOk result (λ e. expr_tree e ≡ input_text (map record_tree records.now) (shape_tree shape.now)
+        (input_tree input.now)) }
 {
     match input {
         Input::Bool(b) => Ok(Expr {
@@ -180,7 +182,9 @@ fn item_exprs(
     inputs: &[Input],
     shape: &Shape,
 ) -> Result<Vec<Expr>, AllocError>
-    ensures { IfOk result (λ es. in_order (map expr_tree es.items) ≡ item_texts (map record_tree records.now) (shape_tree shape.now) (inputs_in_order (map input_tree inputs.now))) }
+    ensures { IfOk result (λ es. in_order (map expr_tree es.items)
+        ≡ item_texts (map record_tree records.now) (shape_tree shape.now)
+        (inputs_in_order (map input_tree inputs.now))) }
 {
     let mut items = Vec::new(alloc);
     for i in 0..inputs.len() {
@@ -197,7 +201,9 @@ fn input_exprs(
     inputs: &[Input],
     shapes: &[Shape],
 ) -> Result<Vec<Expr>, AllocError>
-    ensures { IfOk result (λ es. in_order (map expr_tree es.items) ≡ input_texts (map record_tree records.now) (map shape_tree shapes.now) (inputs_in_order (map input_tree inputs.now))) }
+    ensures { IfOk result (λ es. in_order (map expr_tree es.items)
+        ≡ input_texts (map record_tree records.now) (map shape_tree shapes.now)
+        (inputs_in_order (map input_tree inputs.now))) }
 {
     let mut items = Vec::new(alloc);
     for i in 0..inputs.len() {
@@ -214,7 +220,8 @@ pub(crate) fn exprs_of(
     inputs: &Inputs,
     shapes: &[Shape],
 ) -> Result<Vec<Expr>, AllocError>
-    ensures { IfOk result (λ es. in_order (map expr_tree es.items) ≡ input_texts (map record_tree records.now) (map shape_tree shapes.now) (input_trees inputs.now)) }
+    ensures { IfOk result (λ es. in_order (map expr_tree es.items)
+        ≡ input_texts (map record_tree records.now) (map shape_tree shapes.now) (input_trees inputs.now)) }
 {
     input_exprs(alloc, records, &inputs.items, shapes)
 }

@@ -31,7 +31,9 @@ pub(crate) fn number(
     progress: &mut Progress,
 ) -> Result<Ty, RowStop>
     requires room { progress.old.holes + holes_of_unit note.now ≤ length context.now.holes.items }
-    ensures reached { IsReached (node progress.old.rows.items (progress.old.holes + holes_of_unit note.now) (number_rule at value note.now (unit_noted (nth context.now.holes.items) (nth context.now.names.items) progress.old.holes note.now))) progress.new result }
+    ensures reached { IsReached (node progress.old.rows.items (progress.old.holes + holes_of_unit note.now)
+        (number_rule at value note.now (unit_noted (nth context.now.holes.items)
+        (nth context.now.names.items) progress.old.holes note.now))) progress.new result }
     ensures fits { IfOk result (λ ty. IsTrue (type_fits (type_tree ty))) }
 {
     match noted_unit(alloc, context, progress.holes, note) {
@@ -54,7 +56,9 @@ pub(crate) fn nil(
     progress: &mut Progress,
 ) -> Result<Ty, RowStop>
     requires room { progress.old.holes + holes_of_note (note_tree note.now) ≤ length context.now.holes.items }
-    ensures reached { IsReached (node progress.old.rows.items (progress.old.holes + holes_of_note (note_tree note.now)) (nil_rule at (type_noted (nth context.now.holes.items) (nth context.now.names.items) progress.old.holes (note_tree note.now)))) progress.new result }
+    ensures reached { IsReached (node progress.old.rows.items (progress.old.holes + holes_of_note (note_tree note.now))
+        (nil_rule at (type_noted (nth context.now.holes.items) (nth context.now.names.items) progress.old.holes
+        (note_tree note.now)))) progress.new result }
     ensures fits { IfOk result (λ ty. IsTrue (type_fits (type_tree ty))) }
 {
     match noted_type(alloc, context, progress.holes, note) {

@@ -32,8 +32,10 @@ pub(crate) fn noted_unit(
     note: &UnitNote,
 ) -> Result<Unit, UnitStop>
     requires room { n + holes_of_unit note.now ≤ length context.now.holes.items }
-    ensures exact { IfOk result (λ u. u ≡ unit_noted (nth context.now.holes.items) (nth context.now.names.items) n note.now) }
-    ensures range { RangeUnless result (fits (unit_noted (nth context.now.holes.items) (nth context.now.names.items) n note.now)) }
+    ensures exact { IfOk result (λ u. u ≡ unit_noted (nth context.now.holes.items)
+        (nth context.now.names.items) n note.now) }
+    ensures range { RangeUnless result (fits (unit_noted (nth context.now.holes.items)
+        (nth context.now.names.items) n note.now)) }
 {
     match note {
         UnitNote::Hole => Ok(context.holes[n].copy(alloc)?),
@@ -74,8 +76,10 @@ fn push_noted(
     units: &mut Vec<Unit>,
 ) -> Result<(), UnitStop>
     requires room { n + holes_of_units notes.now ≤ length context.now.holes.items }
-    ensures exact { OnOk result (units.new.items ≡ units.old.items ++ units_noted (nth context.now.holes.items) (nth context.now.names.items) n notes.now) }
-    ensures range { RangeUnless result (list_all fits (units_noted (nth context.now.holes.items) (nth context.now.names.items) n notes.now)) }
+    ensures exact { OnOk result (units.new.items ≡ units.old.items
+        ++ units_noted (nth context.now.holes.items) (nth context.now.names.items) n notes.now) }
+    ensures range { RangeUnless result (list_all fits
+        (units_noted (nth context.now.holes.items) (nth context.now.names.items) n notes.now)) }
 {
     match notes {
         [] => Ok(()),
@@ -94,8 +98,10 @@ pub(crate) fn noted_type(
     note: &Note,
 ) -> Result<Ty, UnitStop>
     requires room { n + holes_of_note (note_tree note.now) ≤ length context.now.holes.items }
-    ensures exact { IfOk result (λ t. type_tree t ≡ type_noted (nth context.now.holes.items) (nth context.now.names.items) n (note_tree note.now)) }
-    ensures range { RangeUnless result (type_fits (type_noted (nth context.now.holes.items) (nth context.now.names.items) n (note_tree note.now))) }
+    ensures exact { IfOk result (λ t. type_tree t
+        ≡ type_noted (nth context.now.holes.items) (nth context.now.names.items) n (note_tree note.now)) }
+    ensures range { RangeUnless result (type_fits
+        (type_noted (nth context.now.holes.items) (nth context.now.names.items) n (note_tree note.now))) }
 {
     match note {
         Note::Bool => Ok(Ty::Bool),

@@ -43,7 +43,8 @@ fn fields_against(
 ) -> Result<(), RowStop>
     requires variables { AreVariables by.now }
     requires below { All (λ (f : FieldDecl). TypeHas (VariablesBelow (length by.now)) (type_tree f.ty)) fields.now }
-    ensures { ArePushed (types_against_steps at (map (put (nth by.now)) (declared_types fields.now)) (map type_tree parts.now)) rows.old.items rows.new.items result }
+    ensures { ArePushed (types_against_steps at (map (put (nth by.now)) (declared_types fields.now))
+        (map type_tree parts.now)) rows.old.items rows.new.items result }
 {
     match fields {
         [] => match parts {
@@ -73,7 +74,8 @@ fn parts_against(
     requires variables { AreVariables by.now }
     requires many { length by.now ≡ record.now.units }
     requires closed { IsClosedRecord record.now }
-    ensures { ArePushed (types_against_steps at (map (put (unit_at by.now)) (field_types (record_tree record.now))) (map type_tree parts.now)) rows.old.items rows.new.items result }
+    ensures { ArePushed (types_against_steps at (map (put (unit_at by.now)) (field_types (record_tree record.now)))
+        (map type_tree parts.now)) rows.old.items rows.new.items result }
 {
     fields_against(alloc, at, by, &record.fields.items, parts, rows)
 }
@@ -92,7 +94,8 @@ fn record_of(
     requires variables { AreVariables by.now }
     requires many { length by.now ≡ record.now.units }
     requires closed { IsClosedRecord record.now }
-    ensures reached { IsReached (node progress.old.rows.items progress.old.holes (record_rule at r by.now (Some (record_tree record.now)) (map type_tree parts.now))) progress.new result }
+    ensures reached { IsReached (node progress.old.rows.items progress.old.holes
+        (record_rule at r by.now (Some (record_tree record.now)) (map type_tree parts.now))) progress.new result }
     ensures fits { IfOk result (λ ty. IsTrue (type_fits (type_tree ty))) }
 {
     parts_against(alloc, at, by, record, parts, &mut progress.rows)?;
@@ -110,7 +113,8 @@ fn declared(
     progress: &mut Progress,
 ) -> Result<Ty, RowStop>
     requires below { TypeHas (VariablesBelow (length units.now)) (type_tree field.now.ty) }
-    ensures reached { IsReached (node progress.old.rows.items progress.old.holes (declared_rule at units.now true (Some (type_tree field.now.ty)))) progress.new result }
+    ensures reached { IsReached (node progress.old.rows.items progress.old.holes
+        (declared_rule at units.now true (Some (type_tree field.now.ty)))) progress.new result }
     ensures fits { IfOk result (λ ty. IsTrue (type_fits (type_tree ty))) }
 {
     match put_in_type(alloc, units, &field.ty) {
@@ -144,7 +148,10 @@ pub(crate) fn record(
     requires variables { AreVariables context.now.holes.items }
     requires closed { All IsClosedRecord records.now }
     requires room { first + record_holes (slice_get (map record_tree records.now) r) ≤ length context.now.holes.items }
-    ensures reached { IsReached (node progress.old.rows.items progress.old.holes (record_rule at r (first_units (record_holes (slice_get (map record_tree records.now) r)) (λ k. nth context.now.holes.items (first + k))) (slice_get (map record_tree records.now) r) (map type_tree parts.now))) progress.new result }
+    ensures reached { IsReached (node progress.old.rows.items progress.old.holes
+        (record_rule at r (first_units (record_holes (slice_get (map record_tree records.now) r))
+        (λ k. nth context.now.holes.items (first + k))) (slice_get (map record_tree records.now) r)
+        (map type_tree parts.now))) progress.new result }
     ensures fits { IfOk result (λ ty. IsTrue (type_fits (type_tree ty))) }
 {
     match records.get(r as usize) {
@@ -166,7 +173,8 @@ fn field_of(
     progress: &mut Progress,
 ) -> Result<Ty, RowStop>
     requires closed { IsClosedRecord record.now }
-    ensures reached { IsReached (node progress.old.rows.items progress.old.holes (found_rule at k units.now true (Some (record_tree record.now)))) progress.new result }
+    ensures reached { IsReached (node progress.old.rows.items progress.old.holes
+        (found_rule at k units.now true (Some (record_tree record.now)))) progress.new result }
     ensures fits { IfOk result (λ ty. IsTrue (type_fits (type_tree ty))) }
 {
     if units.len() != record.units as usize {
@@ -189,7 +197,8 @@ pub(crate) fn field(
     progress: &mut Progress,
 ) -> Result<Ty, RowStop>
     requires closed { All IsClosedRecord records.now }
-    ensures reached { IsReached (node progress.old.rows.items progress.old.holes (field_rule at r k (slice_get (map record_tree records.now) r) (type_tree part.now))) progress.new result }
+    ensures reached { IsReached (node progress.old.rows.items progress.old.holes
+        (field_rule at r k (slice_get (map record_tree records.now) r) (type_tree part.now))) progress.new result }
     ensures fits { IfOk result (λ ty. IsTrue (type_fits (type_tree ty))) }
 {
     match part {

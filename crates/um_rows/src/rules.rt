@@ -56,7 +56,8 @@ pub(crate) fn local(
     k: u32,
     progress: &mut Progress,
 ) -> Result<Ty, RowStop>
-    ensures reached { IsReached (node progress.old.rows.items progress.old.holes (local_rule at (slice_get (map type_tree scope.now) k))) progress.new result }
+    ensures reached { IsReached (node progress.old.rows.items progress.old.holes
+        (local_rule at (slice_get (map type_tree scope.now) k))) progress.new result }
     ensures fits { IfOk result (λ ty. IsTrue (type_fits (type_tree ty))) }
 {
     match scope.get(k as usize) {
@@ -73,7 +74,8 @@ pub(crate) fn negate(
     progress: &mut Progress,
 ) -> Result<Ty, RowStop>
     requires fits { IsTrue (type_fits (type_tree part)) }
-    ensures reached { IsReached (node progress.old.rows.items progress.old.holes (negate_rule at (type_tree part))) progress.new result }
+    ensures reached { IsReached (node progress.old.rows.items progress.old.holes (negate_rule at (type_tree part)))
+        progress.new result }
     ensures fits { IfOk result (λ ty. IsTrue (type_fits (type_tree ty))) }
 {
     match part {
@@ -85,7 +87,8 @@ pub(crate) fn negate(
 /// `not`
 #[tactic(auto, using(crate::proofs::NodeLaws::node_formed, crate::proofs::NodeLaws::node_stops))]
 pub(crate) fn not(alloc: Global, at: u32, part: &Ty, progress: &mut Progress) -> Result<Ty, RowStop>
-    ensures reached { IsReached (node progress.old.rows.items progress.old.holes (not_rule at (type_tree part.now))) progress.new result }
+    ensures reached { IsReached (node progress.old.rows.items progress.old.holes (not_rule at (type_tree part.now)))
+        progress.new result }
     ensures fits { IfOk result (λ ty. IsTrue (type_fits (type_tree ty))) }
 {
     ask_bool(alloc, at, part, &mut progress.rows)?;
@@ -101,7 +104,8 @@ pub(crate) fn pown(
     k: i32,
     progress: &mut Progress,
 ) -> Result<Ty, RowStop>
-    ensures reached { IsReached (node progress.old.rows.items progress.old.holes (pown_rule at k (type_tree part))) progress.new result }
+    ensures reached { IsReached (node progress.old.rows.items progress.old.holes (pown_rule at k (type_tree part)))
+        progress.new result }
     ensures fits { IfOk result (λ ty. IsTrue (type_fits (type_tree ty))) }
 {
     match part {
@@ -123,7 +127,8 @@ pub(crate) fn truths(
     right: &Ty,
     progress: &mut Progress,
 ) -> Result<Ty, RowStop>
-    ensures reached { IsReached (node progress.old.rows.items progress.old.holes (truths_rule at (type_tree left.now) (type_tree right.now))) progress.new result }
+    ensures reached { IsReached (node progress.old.rows.items progress.old.holes
+        (truths_rule at (type_tree left.now) (type_tree right.now))) progress.new result }
     ensures fits { IfOk result (λ ty. IsTrue (type_fits (type_tree ty))) }
 {
     ask_bool(alloc, at, left, &mut progress.rows)?;
@@ -142,7 +147,8 @@ fn units(
     progress: &mut Progress,
 ) -> Result<Ty, RowStop>
     requires fits { IsTrue (fits left) }
-    ensures reached { IsReached (node progress.old.rows.items progress.old.holes (units_rule at op left right.now)) progress.new result }
+    ensures reached { IsReached (node progress.old.rows.items progress.old.holes (units_rule at op left right.now))
+        progress.new result }
     ensures fits { IfOk result (λ ty. IsTrue (type_fits (type_tree ty))) }
 {
     match op {
@@ -173,7 +179,8 @@ pub(crate) fn arith(
     progress: &mut Progress,
 ) -> Result<Ty, RowStop>
     requires fits { IsTrue (type_fits (type_tree left)) }
-    ensures reached { IsReached (node progress.old.rows.items progress.old.holes (arith_rule at op (type_tree left) (type_tree right.now))) progress.new result }
+    ensures reached { IsReached (node progress.old.rows.items progress.old.holes
+        (arith_rule at op (type_tree left) (type_tree right.now))) progress.new result }
     ensures fits { IfOk result (λ ty. IsTrue (type_fits (type_tree ty))) }
 {
     match (left, right) {
@@ -191,7 +198,8 @@ pub(crate) fn compare(
     right: &Ty,
     progress: &mut Progress,
 ) -> Result<Ty, RowStop>
-    ensures reached { IsReached (node progress.old.rows.items progress.old.holes (compare_rule at (type_tree left.now) (type_tree right.now))) progress.new result }
+    ensures reached { IsReached (node progress.old.rows.items progress.old.holes
+        (compare_rule at (type_tree left.now) (type_tree right.now))) progress.new result }
     ensures fits { IfOk result (λ ty. IsTrue (type_fits (type_tree ty))) }
 {
     match (left, right) {
@@ -214,7 +222,8 @@ pub(crate) fn condition(
     progress: &mut Progress,
 ) -> Result<Ty, RowStop>
     requires fits { IsTrue (type_fits (type_tree first)) }
-    ensures reached { IsReached (node progress.old.rows.items progress.old.holes (if_rule at (type_tree test.now) (type_tree first) (type_tree second.now))) progress.new result }
+    ensures reached { IsReached (node progress.old.rows.items progress.old.holes
+        (if_rule at (type_tree test.now) (type_tree first) (type_tree second.now))) progress.new result }
     ensures fits { IfOk result (λ ty. IsTrue (type_fits (type_tree ty))) }
 {
     ask_bool(alloc, at, test, &mut progress.rows)?;
@@ -233,7 +242,8 @@ pub(crate) fn split(
     progress: &mut Progress,
 ) -> Result<Ty, RowStop>
     requires fits { IsTrue (type_fits (type_tree empty)) }
-    ensures reached { IsReached (node progress.old.rows.items progress.old.holes (split_rule at (type_tree list.now) (type_tree empty) (type_tree full.now))) progress.new result }
+    ensures reached { IsReached (node progress.old.rows.items progress.old.holes
+        (split_rule at (type_tree list.now) (type_tree empty) (type_tree full.now))) progress.new result }
     ensures fits { IfOk result (λ ty. IsTrue (type_fits (type_tree ty))) }
 {
     ask_list(alloc, at, list, &mut progress.rows)?;
@@ -245,7 +255,8 @@ pub(crate) fn split(
 #[tactic(auto, using(crate::proofs::NodeLaws::node_formed, crate::proofs::NodeLaws::node_stops, crate::proofs::PushLaws::stops_front, crate::proofs::PushLaws::stops_back, crate::proofs::PushLaws::behind_then))]
 pub(crate) fn nil(alloc: Global, at: u32, ty: Ty, progress: &mut Progress) -> Result<Ty, RowStop>
     requires fits { IsTrue (type_fits (type_tree ty)) }
-    ensures reached { IsReached (node progress.old.rows.items progress.old.holes (nil_rule at (type_tree ty))) progress.new result }
+    ensures reached { IsReached (node progress.old.rows.items progress.old.holes (nil_rule at (type_tree ty)))
+        progress.new result }
     ensures fits { IfOk result (λ ty. IsTrue (type_fits (type_tree ty))) }
 {
     ask_list(alloc, at, &ty, &mut progress.rows)?;
@@ -262,7 +273,8 @@ pub(crate) fn cons(
     progress: &mut Progress,
 ) -> Result<Ty, RowStop>
     requires fits { IsTrue (type_fits (type_tree tail)) }
-    ensures reached { IsReached (node progress.old.rows.items progress.old.holes (cons_rule at (type_tree head.now) (type_tree tail))) progress.new result }
+    ensures reached { IsReached (node progress.old.rows.items progress.old.holes
+        (cons_rule at (type_tree head.now) (type_tree tail))) progress.new result }
     ensures fits { IfOk result (λ ty. IsTrue (type_fits (type_tree ty))) }
 {
     match tail {
@@ -283,7 +295,8 @@ fn list_from(
     others: &[Ty],
     progress: &mut Progress,
 ) -> Result<Ty, RowStop>
-    ensures reached { IsReached (node progress.old.rows.items progress.old.holes (list_rule at (type_tree first.now ∷ map type_tree others.now))) progress.new result }
+    ensures reached { IsReached (node progress.old.rows.items progress.old.holes
+        (list_rule at (type_tree first.now ∷ map type_tree others.now))) progress.new result }
     ensures fits { IfOk result (λ ty. IsTrue (type_fits (type_tree ty))) }
 {
     against_each(alloc, at, first, others, &mut progress.rows)?;
@@ -298,7 +311,8 @@ pub(crate) fn list(
     items: &[Ty],
     progress: &mut Progress,
 ) -> Result<Ty, RowStop>
-    ensures reached { IsReached (node progress.old.rows.items progress.old.holes (list_rule at (map type_tree items.now))) progress.new result }
+    ensures reached { IsReached (node progress.old.rows.items progress.old.holes
+        (list_rule at (map type_tree items.now))) progress.new result }
     ensures fits { IfOk result (λ ty. IsTrue (type_fits (type_tree ty))) }
 {
     match items {
@@ -318,7 +332,8 @@ pub(crate) fn number(
     progress: &mut Progress,
 ) -> Result<Ty, RowStop>
     requires fits { IsTrue (fits unit) }
-    ensures reached { IsReached (node progress.old.rows.items progress.old.holes (number_rule at value note.now unit)) progress.new result }
+    ensures reached { IsReached (node progress.old.rows.items progress.old.holes (number_rule at value note.now unit))
+        progress.new result }
     ensures fits { IfOk result (λ ty. IsTrue (type_fits (type_tree ty))) }
 {
     match note {
@@ -334,7 +349,8 @@ pub(crate) fn number(
 #[tactic(auto, using(crate::proofs::NodeLaws::node_formed))]
 pub(crate) fn whole(at: u32, ty: Ty, progress: &mut Progress) -> Result<Ty, RowStop>
     requires fits { IsTrue (type_fits (type_tree ty)) }
-    ensures reached { IsReached (node progress.old.rows.items progress.old.holes (formed at [] (type_tree ty))) progress.new result }
+    ensures reached { IsReached (node progress.old.rows.items progress.old.holes (formed at [] (type_tree ty)))
+        progress.new result }
     ensures fits { IfOk result (λ ty. IsTrue (type_fits (type_tree ty))) }
 {
     Ok(ty)

@@ -121,7 +121,8 @@ fn grow(names: &mut Vec<Option<u32>>, k: usize) -> Result<(), AllocError>
 /// Notes the slot of the named variable k.
 fn set_slot(names: &mut Vec<Option<u32>>, k: usize, slot: u32) -> Result<(), AllocError>
     ensures own { OnOk result (slice_index_or names.new.items k None ≡ Some slot) }
-    ensures others { OnOk result ((j : ℕ) → j ≢ k → slice_index_or names.new.items j None ≡ slice_index_or names.old.items j None) }
+    ensures others { OnOk result ((j : ℕ) → j ≢ k
+        → slice_index_or names.new.items j None ≡ slice_index_or names.old.items j None) }
 {
     grow(names, k)?;
     names[k] = Some(slot);
@@ -188,7 +189,8 @@ fn units_slots(alloc: Global, notes: &[UnitNote], slots: &mut Slots) -> Result<(
 /// The holes and the named variables of a note.
 pub(crate) fn note_slots(alloc: Global, note: &Note, slots: &mut Slots) -> Result<(), RowStop>
     ensures slots { HaveSlots (note_keys (length slots.old.holes.items) (note_tree note.now)) slots.old slots.new result }
-    ensures counted { OnOk result (length slots.new.holes.items ≡ length slots.old.holes.items + note_holes (note_tree note.now)) }
+    ensures counted { OnOk result (length slots.new.holes.items ≡ length slots.old.holes.items
+        + note_holes (note_tree note.now)) }
 {
     match note {
         Note::Bool => Ok(()),
@@ -200,8 +202,10 @@ pub(crate) fn note_slots(alloc: Global, note: &Note, slots: &mut Slots) -> Resul
 
 /// The holes and the named variables of some notes.
 pub(crate) fn notes_slots(alloc: Global, notes: &[Note], slots: &mut Slots) -> Result<(), RowStop>
-    ensures slots { HaveSlots (notes_keys (length slots.old.holes.items) (map note_tree notes.now)) slots.old slots.new result }
-    ensures counted { OnOk result (length slots.new.holes.items ≡ length slots.old.holes.items + notes_holes (map note_tree notes.now)) }
+    ensures slots { HaveSlots (notes_keys (length slots.old.holes.items) (map note_tree notes.now)) slots.old
+        slots.new result }
+    ensures counted { OnOk result (length slots.new.holes.items ≡ length slots.old.holes.items
+        + notes_holes (map note_tree notes.now)) }
 {
     match notes {
         [] => Ok(()),
@@ -223,8 +227,12 @@ pub(crate) fn expr_slots(
     e: &Expr,
     slots: &mut Slots,
 ) -> Result<(), RowStop>
-    ensures slots { HaveSlots (expr_keys (map record_tree records.now) (callee_of (map scheme_tree schemes.now) number recurs) (length slots.old.holes.items) (expr_tree e.now)) slots.old slots.new result }
-    ensures counted { OnOk result (length slots.new.holes.items ≡ length slots.old.holes.items + expr_holes (map record_tree records.now) (callee_of (map scheme_tree schemes.now) number recurs) (expr_tree e.now)) }
+    ensures slots { HaveSlots (expr_keys (map record_tree records.now)
+        (callee_of (map scheme_tree schemes.now) number recurs) (length slots.old.holes.items) (expr_tree e.now))
+        slots.old slots.new result }
+    ensures counted { OnOk result (length slots.new.holes.items ≡ length slots.old.holes.items
+        + expr_holes (map record_tree records.now) (callee_of (map scheme_tree schemes.now) number recurs)
+        (expr_tree e.now)) }
 {
     match &e.node {
         Node::Bool(_) | Node::Local(_) => Ok(()),
@@ -301,8 +309,12 @@ fn exprs_slots(
     parts: &[Expr],
     slots: &mut Slots,
 ) -> Result<(), RowStop>
-    ensures slots { HaveSlots (exprs_keys (map record_tree records.now) (callee_of (map scheme_tree schemes.now) number recurs) (length slots.old.holes.items) (in_order (map expr_tree parts.now))) slots.old slots.new result }
-    ensures counted { OnOk result (length slots.new.holes.items ≡ length slots.old.holes.items + exprs_holes (map record_tree records.now) (callee_of (map scheme_tree schemes.now) number recurs) (in_order (map expr_tree parts.now))) }
+    ensures slots { HaveSlots (exprs_keys (map record_tree records.now)
+        (callee_of (map scheme_tree schemes.now) number recurs) (length slots.old.holes.items)
+        (in_order (map expr_tree parts.now))) slots.old slots.new result }
+    ensures counted { OnOk result (length slots.new.holes.items ≡ length slots.old.holes.items
+        + exprs_holes (map record_tree records.now) (callee_of (map scheme_tree schemes.now) number recurs)
+        (in_order (map expr_tree parts.now))) }
 {
     for i in 0..parts.len() {
         expr_slots(alloc, records, schemes, number, recurs, &parts[i], slots)?;

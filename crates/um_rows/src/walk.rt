@@ -43,8 +43,10 @@ pub(crate) fn derive(
     requires variables { AreVariables context.now.holes.items }
     requires schemes { AreClosedBefore context.now.number schemes.now }
     requires records { All IsClosedRecord records.now }
-    requires room { progress.old.holes + body_holes records.now schemes.now context.now (expr_tree e.now) ≤ length context.now.holes.items }
-    ensures reached { IsReached (body_walk records.now schemes.now context.now progress.old.rows.items progress.old.holes (map type_tree scope.old.items) (expr_tree e.now)) progress.new result }
+    requires room { progress.old.holes + body_holes records.now schemes.now context.now (expr_tree e.now)
+        ≤ length context.now.holes.items }
+    ensures reached { IsReached (body_walk records.now schemes.now context.now progress.old.rows.items
+        progress.old.holes (map type_tree scope.old.items) (expr_tree e.now)) progress.new result }
     ensures fits { IfOk result (λ ty. IsTrue (type_fits (type_tree ty))) }
     ensures scope { IfOk result (λ _. scope.new.items ≡ scope.old.items) }
 {
@@ -177,8 +179,11 @@ fn derive_all(
     requires variables { AreVariables context.now.holes.items }
     requires schemes { AreClosedBefore context.now.number schemes.now }
     requires records { All IsClosedRecord records.now }
-    requires room { progress.old.holes + bodies_holes records.now schemes.now context.now (in_order (map expr_tree parts.now)) ≤ length context.now.holes.items }
-    ensures reached { AreReached (λ types. map type_tree types.items) (body_walk_all records.now schemes.now context.now progress.old.rows.items progress.old.holes (map type_tree scope.old.items) (in_order (map expr_tree parts.now))) progress.new result }
+    requires room { progress.old.holes + bodies_holes records.now schemes.now context.now
+        (in_order (map expr_tree parts.now)) ≤ length context.now.holes.items }
+    ensures reached { AreReached (λ types. map type_tree types.items)
+        (body_walk_all records.now schemes.now context.now progress.old.rows.items progress.old.holes
+        (map type_tree scope.old.items) (in_order (map expr_tree parts.now))) progress.new result }
     ensures scope { IfOk result (λ _. scope.new.items ≡ scope.old.items) }
 {
     let mut types = Vec::new(alloc);

@@ -7,6 +7,7 @@ use Rattle.um_tree.specs.ExprTree.{ExprTree, ExprTrees, truth, number, local, ca
 use Rattle.um_tree.specs.ProgramTree.{RecordTree, FunctionTree, ProgramTree}
 use Rattle.um_tree.specs.Typing.{field_types, MayRecur}
 use Rattle.um_tree.specs.Shapes.{type_shape, note_shape, ShapeSignature, EachShapeIs, HasShape, AllHaveShapes, CallShapes, ResultShape, IsShapeOf, shapes_below, FunctionShape, IsShaped}
+use Rattle.um_tree.specs.Heights.{greatest_height}
 use Rattle.um_shape.specs.RecordShapes.{RecordShape, shape_height, tallest, declared_shape}
 use Rattle.um_shape.specs.FirstFault.{ShapeFault, wrong_shape, too_deep, then, same_shape, same_shapes, all_same, where_true, of_list, of_call, of_record, of_field, at_node, found, all_found, own_shapes, noted_shapes, fits_result, function_found, functions_found, records_found, program_found, fault_of}
 use Rattle.um_shape.specs.Laws.{FaultlessIsShaped, RefusedHasNoShapes}
@@ -26,7 +27,7 @@ deep_then m go x y (inl e) k = subst (λ m. FoundOrDeep (then m go) y) (sym e) k
 deep_then m go x y (inr e) k = inr (e.0, ap (λ m. then m go) e.1)
 
 deep_node : (records : List RecordShape) (at : ℕ) (o : Option ShapeTree) (s : ShapeTree) → o ≡ Some s → FoundOrDeep (at_node records at o) s
-deep_node records at o s e = subst (λ o. FoundOrDeep (at_node records at o) s) (sym e) (by_height (nat_le (shape_height records s) 400)) where
+deep_node records at o s e = subst (λ o. FoundOrDeep (at_node records at o) s) (sym e) (by_height (nat_le (shape_height records s) greatest_height)) where
   by_height : (b : Bool) → FoundOrDeep (cond b (Ok s) (Err (too_deep at))) s
   by_height true = inl refl
   by_height false = inr (at, refl)
@@ -135,7 +136,7 @@ module _ (p : ProgramTree) (records : List RecordShape) (alike : Alike p.records
       ap (λ ys. slice_get (known ++ ys) j) (own_known f g x.1 m.params m.result) ∙ ap (λ k. slice_get (known ++ g ∷ []) k) (x.0 ∙ sym n) ∙ at_place known g [] ∙ ap Some (sym x.2)
 
   function_complete : (i : ℕ) (known : List ShapeSignature) (f : FunctionTree) (g : ShapeSignature) → length known ≡ i → Hold p records alike known → IsShapeOf p.records (shapes_below p i) i f g → FoundOrDeep (function_found records known f) g
-  function_complete i known f g n w m = low (nat_le (tallest records (map note_shape f.params)) 400) where
+  function_complete i known f g n w m = low (nat_le (tallest records (map note_shape f.params)) greatest_height) where
     last : FoundOrDeep (cond (fits_result f.result g.result) (Ok (record { params = map note_shape f.params; result = g.result })) (Err (wrong_shape f.at))) g
     last =
         inl (ap (λ b. cond b (Ok (record { params = map note_shape f.params; result = g.result })) (Err (wrong_shape f.at))) (fits_true f.result g.result m.result) ∙ ap (λ ps. Ok (record { params = ps; result = g.result })) (sym m.params))
@@ -184,7 +185,7 @@ by_height s at go false h = inr (at, refl)
 
 records_end : (earlier : List RecordShape) (ds : List RecordTree) → RecordsEnd (records_found earlier ds)
 records_end earlier [] = inl (earlier, refl)
-records_end earlier (d ∷ ds) = by_height (declared_shape earlier d) d.at _ (nat_le (declared_shape earlier d).height 400) (records_end (earlier ++ declared_shape earlier d ∷ []) ds)
+records_end earlier (d ∷ ds) = by_height (declared_shape earlier d) d.at _ (nat_le (declared_shape earlier d).height greatest_height) (records_end (earlier ++ declared_shape earlier d ∷ []) ds)
 
 shaped_is_found : (p : ProgramTree) → IsShaped p → SomeOrDeep (program_found p)
 shaped_is_found p shaped = by_records (records_end [] p.records) where

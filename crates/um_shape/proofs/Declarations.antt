@@ -6,6 +6,7 @@ use Rattle.um_tree.specs.TypeTree.{ShapeTree}
 use Rattle.um_tree.specs.ProgramTree.{RecordTree, FunctionTree}
 use Rattle.um_tree.specs.Typing.{field_types}
 use Rattle.um_tree.specs.Shapes.{type_shape, note_shape, ShapeSignature}
+use Rattle.um_tree.specs.Heights.{greatest_height}
 use Rattle.um_shape.specs.RecordShapes.{RecordShape, tallest}
 use Rattle.um_shape.specs.FirstFault.{ShapeFault, wrong_shape, too_deep, then, found, own_shapes, fits_result, function_found, record_found}
 use Rattle.um_shape.specs.declared.stop.ShapeStop.{ShapeStop}
@@ -20,22 +21,22 @@ pub mapped_twice : {X Y Z : Type 0} (g : Y → Z) (f : X → Y) (xs : List X) �
 mapped_twice g f [] = refl
 mapped_twice g f (x ∷ xs) = ap (λ ys. g (f x) ∷ ys) (mapped_twice g f xs)
 
-low_is : (m : ℕ) → m ≤ 400 → nat_le m 400 ≡ true
+low_is : (m : ℕ) → m ≤ greatest_height → nat_le m greatest_height ≡ true
 low_is m h = grind (arith, nat_tests)
 
-high_is : (m : ℕ) → 400 < m → nat_le m 400 ≡ false
+high_is : (m : ℕ) → greatest_height < m → nat_le m greatest_height ≡ false
 high_is m h = grind (arith, nat_tests)
 
 module _ (earlier : List RecordShape) (d : RecordTree) (fields : List ShapeTree) (same : fields ≡ map type_shape (field_types d)) where
   -- the record with these shapes of its fields
   abbrev pub with_fields : List ShapeTree → Result RecordShape ShapeFault
-  with_fields ss = cond (nat_le (tallest earlier ss + 1) 400) (Ok (record { fields = ss; height = tallest earlier ss + 1 })) (Err (too_deep d.at))
+  with_fields ss = cond (nat_le (tallest earlier ss + 1) greatest_height) (Ok (record { fields = ss; height = tallest earlier ss + 1 })) (Err (too_deep d.at))
 
-  pub record_deep : 400 ≤ tallest earlier fields → record_found earlier d ≡ Err (too_deep d.at)
+  pub record_deep : greatest_height ≤ tallest earlier fields → record_found earlier d ≡ Err (too_deep d.at)
   record_deep h =
       ap with_fields (sym same) ∙ ap (λ b. cond b (Ok (record { fields = fields; height = tallest earlier fields + 1 })) (Err (too_deep d.at))) (high_is (tallest earlier fields + 1) (omega (arith, h)))
 
-  pub record_fine : tallest earlier fields < 400 → record_found earlier d ≡ Ok (record { fields = fields; height = tallest earlier fields + 1 })
+  pub record_fine : tallest earlier fields < greatest_height → record_found earlier d ≡ Ok (record { fields = fields; height = tallest earlier fields + 1 })
   record_fine h =
       ap with_fields (sym same) ∙ ap (λ b. cond b (Ok (record { fields = fields; height = tallest earlier fields + 1 })) (Err (too_deep d.at))) (low_is (tallest earlier fields + 1) (omega (arith, h)))
 
@@ -47,21 +48,21 @@ module _ (records : List RecordShape) (known : List ShapeSignature) (f : Functio
   body ps = found records (known ++ own_shapes f) ps f.body
 
   abbrev pub with_params : List ShapeTree → Result ShapeSignature ShapeFault
-  with_params ps = cond (nat_le (tallest records ps) 400) (then (body ps) (ends ps)) (Err (too_deep f.at))
+  with_params ps = cond (nat_le (tallest records ps) greatest_height) (then (body ps) (ends ps)) (Err (too_deep f.at))
 
-  pub function_deep : 400 < tallest records params → function_found records known f ≡ Err (too_deep f.at)
+  pub function_deep : greatest_height < tallest records params → function_found records known f ≡ Err (too_deep f.at)
   function_deep h = ap with_params (sym same) ∙ ap (λ b. cond b (then (body params) (ends params)) (Err (too_deep f.at))) (high_is (tallest records params) h)
 
-  looks : tallest records params ≤ 400 → function_found records known f ≡ then (body params) (ends params)
+  looks : tallest records params ≤ greatest_height → function_found records known f ≡ then (body params) (ends params)
   looks h = ap with_params (sym same) ∙ ap (λ b. cond b (then (body params) (ends params)) (Err (too_deep f.at))) (low_is (tallest records params) h)
 
-  pub function_stops : (s : ShapeStop) → tallest records params ≤ 400 → StopsAs (body params) s → StopsAs (function_found records known f) s
+  pub function_stops : (s : ShapeStop) → tallest records params ≤ greatest_height → StopsAs (body params) s → StopsAs (function_found records known f) s
   function_stops s h k = subst (λ m. StopsAs m s) (sym (looks h)) (stops_first (body params) (ends params) s k)
 
-  pub function_other : (s : ShapeTree) → tallest records params ≤ 400 → body params ≡ Ok s → fits_result f.result s ≡ false → function_found records known f ≡ Err (wrong_shape f.at)
+  pub function_other : (s : ShapeTree) → tallest records params ≤ greatest_height → body params ≡ Ok s → fits_result f.result s ≡ false → function_found records known f ≡ Err (wrong_shape f.at)
   function_other s h k e =
       looks h ∙ ap (λ m. then m (ends params)) k ∙ ap (λ b. cond b (Ok (record { params = params; result = s })) (Err (wrong_shape f.at))) e
 
-  pub function_fine : (s : ShapeTree) → tallest records params ≤ 400 → body params ≡ Ok s → fits_result f.result s ≡ true → function_found records known f ≡ Ok (record { params = params; result = s })
+  pub function_fine : (s : ShapeTree) → tallest records params ≤ greatest_height → body params ≡ Ok s → fits_result f.result s ≡ true → function_found records known f ≡ Ok (record { params = params; result = s })
   function_fine s h k e =
       looks h ∙ ap (λ m. then m (ends params)) k ∙ ap (λ b. cond b (Ok (record { params = params; result = s })) (Err (wrong_shape f.at))) e

@@ -5,24 +5,25 @@ use Rattle.um_tree.specs.TypeTree.{ShapeTree, bool_shape, num_shape, list_shape}
 use Rattle.um_tree.specs.ExprTree.{ExprTree, truth, number, local, call, negate, not_expr, pown, arith as arith_tree, compare, both, either, if, bind, split, nil, list_expr, cons, record_expr, field}
 use Rattle.um_tree.specs.ProgramTree.{FunctionTree, ProgramTree}
 use Rattle.um_tree.specs.Shapes.{note_shape, ShapeSignature}
+use Rattle.um_tree.specs.Heights.{greatest_height}
 use Rattle.um_shape.specs.RecordShapes.{RecordShape, shape_height, tallest}
 use Rattle.um_shape.specs.FirstFault.{wrong_shape, too_deep, then, same_shape, where_true, of_numbers, of_truths, of_arms, of_condition, of_list, of_items, of_head, of_call, of_record, of_field, at_node, item_of, found, all_found, own_shapes, fits_result, function_found, functions_found, records_found, program_found}
 use Rattle.um_shape.specs.ShapedProgram.{IsLowShape}
 use Rattle.um_shape.proofs.Sound.{then_ok}
 use Rattle.um_shape.proofs.SoundProgram.{in_either, only_one, nothing_at, function_ok}
 
-low_node : (records : List RecordShape) (at : ℕ) (o : Option ShapeTree) (s : ShapeTree) → at_node records at o ≡ Ok s → shape_height records s ≤ 400
+low_node : (records : List RecordShape) (at : ℕ) (o : Option ShapeTree) (s : ShapeTree) → at_node records at o ≡ Ok s → shape_height records s ≤ greatest_height
 low_node records at None s e = absurd cc
-low_node records at (Some t) s e = by_test (nat_le (shape_height records t) 400) refl e where
-  by_test : (b : Bool) → nat_le (shape_height records t) 400 ≡ b → cond b (Ok t) (Err (too_deep at)) ≡ Ok s → shape_height records s ≤ 400
+low_node records at (Some t) s e = by_test (nat_le (shape_height records t) greatest_height) refl e where
+  by_test : (b : Bool) → nat_le (shape_height records t) greatest_height ≡ b → cond b (Ok t) (Err (too_deep at)) ≡ Ok s → shape_height records s ≤ greatest_height
   by_test true h e =
       let same : t ≡ s = cc in
-      let low : shape_height records t ≤ 400 = grind (arith, nat_tests) in
-      subst (λ x. shape_height records x ≤ 400) same low
+      let low : shape_height records t ≤ greatest_height = grind (arith, nat_tests) in
+      subst (λ x. shape_height records x ≤ greatest_height) same low
   by_test false h e = absurd cc
 
 module _ (records : List RecordShape) (callees : List ShapeSignature) where
-  pub low_found : (vars : List ShapeTree) (e : ExprTree) (s : ShapeTree) → found records callees vars e ≡ Ok s → shape_height records s ≤ 400
+  pub low_found : (vars : List ShapeTree) (e : ExprTree) (s : ShapeTree) → found records callees vars e ≡ Ok s → shape_height records s ≤ greatest_height
   low_found vars (truth at b) s e = low_node records at (Some bool_shape) s e
   low_found vars (number at c n) s e = low_node records at (Some num_shape) s e
   low_found vars (local at k) s e = low_node records at (slice_get vars k) s e
@@ -72,12 +73,12 @@ module _ (records : List RecordShape) (callees : List ShapeSignature) where
 
 -- the parameters and the result are no taller than 400
 record LowShapes (records : List RecordShape) (g : ShapeSignature) : Type 0 where
-  params : tallest records g.params ≤ 400
-  result : shape_height records g.result ≤ 400
+  params : tallest records g.params ≤ greatest_height
+  result : shape_height records g.result ≤ greatest_height
 
-low_params : (records : List RecordShape) (known : List ShapeSignature) (f : FunctionTree) (g : ShapeSignature) → function_found records known f ≡ Ok g → tallest records (map note_shape f.params) ≤ 400
-low_params records known f g e = by_test (nat_le (tallest records (map note_shape f.params)) 400) refl e where
-  by_test : (b : Bool) → nat_le (tallest records (map note_shape f.params)) 400 ≡ b → cond b (then (found records (known ++ own_shapes f) (map note_shape f.params) f.body) (λ s. cond (fits_result f.result s) (Ok (record { params = map note_shape f.params; result = s })) (Err (wrong_shape f.at)))) (Err (too_deep f.at)) ≡ Ok g → tallest records (map note_shape f.params) ≤ 400
+low_params : (records : List RecordShape) (known : List ShapeSignature) (f : FunctionTree) (g : ShapeSignature) → function_found records known f ≡ Ok g → tallest records (map note_shape f.params) ≤ greatest_height
+low_params records known f g e = by_test (nat_le (tallest records (map note_shape f.params)) greatest_height) refl e where
+  by_test : (b : Bool) → nat_le (tallest records (map note_shape f.params)) greatest_height ≡ b → cond b (then (found records (known ++ own_shapes f) (map note_shape f.params) f.body) (λ s. cond (fits_result f.result s) (Ok (record { params = map note_shape f.params; result = s })) (Err (wrong_shape f.at)))) (Err (too_deep f.at)) ≡ Ok g → tallest records (map note_shape f.params) ≤ greatest_height
   by_test true h e = grind (arith, nat_tests)
   by_test false h e = absurd cc
 

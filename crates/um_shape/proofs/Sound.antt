@@ -5,6 +5,7 @@ use Rattle.um_tree.specs.ExprTree.{ExprTree, ExprTrees, truth, number, local, ca
 use Rattle.um_tree.specs.ProgramTree.{RecordTree}
 use Rattle.um_tree.specs.Typing.{field_types}
 use Rattle.um_tree.specs.Shapes.{type_shape, note_shape, ShapeSignature, EachShapeIs, HasShape, AllHaveShapes}
+use Rattle.um_tree.specs.Heights.{greatest_height}
 use Rattle.um_shape.specs.RecordShapes.{RecordShape, shape_height}
 use Rattle.um_shape.specs.FirstFault.{ShapeFault, too_deep, then, same_shape, same_shapes, all_same, where_true, of_list, of_items, of_call, of_record, of_field, item_of, at_node, found, all_found}
 use Rattle.um_shape.proofs.SameShape.{same_shape-is}
@@ -23,7 +24,7 @@ and_true false b e = absurd cc
 -- the shape at a node is its rule's
 pub node_ok : (records : List RecordShape) (at : ℕ) (o : Option ShapeTree) (s : ShapeTree) → at_node records at o ≡ Ok s → o ≡ Some s
 node_ok records at None s e = absurd cc
-node_ok records at (Some t) s e = ap Some (low (nat_le (shape_height records t) 400) e) where
+node_ok records at (Some t) s e = ap Some (low (nat_le (shape_height records t) greatest_height) e) where
   low : (b : Bool) → cond b (Ok t) (Err (too_deep at)) ≡ Ok s → t ≡ s
   low true e = cc
   low false e = absurd cc

@@ -6,6 +6,7 @@ use Rattle.um_tree.specs.TypeTree.{ShapeTree, bool_shape, NoteTree}
 use Rattle.um_tree.specs.ProgramTree.{RecordTree, FunctionTree, ProgramTree}
 use Rattle.um_tree.specs.Typing.{field_types}
 use Rattle.um_tree.specs.Shapes.{type_shape, note_shape, ShapeSignature, CallShapes, ResultShape, IsShapeOf, ShapeAt, shapes_below, FunctionShape, IsShaped}
+use Rattle.um_tree.specs.Heights.{greatest_height}
 use Rattle.um_shape.specs.RecordShapes.{RecordShape, tallest, declared_shape}
 use Rattle.um_shape.specs.FirstFault.{ShapeFault, wrong_shape, too_deep, then, found, own_shapes, noted_shapes, fits_result, function_found, functions_found, record_found, records_found, program_found}
 use Rattle.um_shape.specs.ShapedProgram.{HasParam, IsParamShape, IsResultShape}
@@ -22,7 +23,7 @@ alike_more [] (y ∷ ss) d s w e = absurd w
 alike_more (x ∷ ds) [] d s w e = absurd w
 
 record_ok : (earlier : List RecordShape) (d : RecordTree) (s : RecordShape) → record_found earlier d ≡ Ok s → s.fields ≡ map type_shape (field_types d)
-record_ok earlier d s e = low (nat_le (declared_shape earlier d).height 400) e where
+record_ok earlier d s e = low (nat_le (declared_shape earlier d).height greatest_height) e where
   low : (b : Bool) → cond b (Ok (declared_shape earlier d)) (Err (too_deep d.at)) ≡ Ok s → s.fields ≡ map type_shape (field_types d)
   low true e = let h : declared_shape earlier d ≡ s = cc in ap (λ x. x.fields) (sym h)
   low false e = absurd cc
@@ -85,7 +86,7 @@ abbrev FunctionOk : List RecordShape → List ShapeSignature → FunctionTree �
 FunctionOk records known f g = (s : ShapeTree) × (found records (known ++ own_shapes f) (map note_shape f.params) f.body ≡ Ok s) × (fits_result f.result s ≡ true) × (g ≡ record { params = map note_shape f.params; result = s })
 
 pub function_ok : (records : List RecordShape) (known : List ShapeSignature) (f : FunctionTree) (g : ShapeSignature) → function_found records known f ≡ Ok g → FunctionOk records known f g
-function_ok records known f g e = low (nat_le (tallest records (map note_shape f.params)) 400) e where
+function_ok records known f g e = low (nat_le (tallest records (map note_shape f.params)) greatest_height) e where
   ends : (s : ShapeTree) (b : Bool) → fits_result f.result s ≡ b → found records (known ++ own_shapes f) (map note_shape f.params) f.body ≡ Ok s → cond b (Ok (record { params = map note_shape f.params; result = s })) (Err (wrong_shape f.at)) ≡ Ok g → FunctionOk records known f g
   ends s true h w e = (s, w, h, ok_is (Ok (record { params = map note_shape f.params; result = s })) (record { params = map note_shape f.params; result = s }) g refl e)
   ends s false h w e = absurd cc

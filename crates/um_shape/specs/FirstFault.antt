@@ -10,6 +10,7 @@ use Rattle.um_tree.specs.ExprTree.{compare, both, either, if, bind, split, nil, 
 use Rattle.um_tree.specs.ExprTree.{none, more}
 use Rattle.um_tree.specs.ProgramTree.{RecordTree, FunctionTree, ProgramTree}
 use Rattle.um_tree.specs.Shapes.{note_shape, ShapeSignature}
+use Rattle.um_tree.specs.Heights.{greatest_height}
 use Rattle.um_shape.specs.RecordShapes.{RecordShape, shape_height, tallest, declared_shape}
 
 -- a fault at its place: no rule gives a shape, or the shape is taller than 400
@@ -99,7 +100,7 @@ item_of at s = Err (wrong_shape at)
 -- at one node the rule is looked at first, and then the height
 abbrev pub at_node : List RecordShape → ℕ → Option ShapeTree → Result ShapeTree ShapeFault
 at_node records at None = Err (wrong_shape at)
-at_node records at (Some s) = cond (nat_le (shape_height records s) 400) (Ok s) (Err (too_deep at))
+at_node records at (Some s) = cond (nat_le (shape_height records s) greatest_height) (Ok s) (Err (too_deep at))
 
 -- the records, and the functions that may be called
 module _ (records : List RecordShape) (callees : List ShapeSignature) where
@@ -164,7 +165,7 @@ fits_result (Some n) s = same_shape s (note_shape n)
 abbrev pub function_found : List RecordShape → List ShapeSignature → FunctionTree → Result ShapeSignature ShapeFault
 function_found records known f =
     cond
-    (nat_le (tallest records (map note_shape f.params)) 400)
+    (nat_le (tallest records (map note_shape f.params)) greatest_height)
     (then (found records (known ++ own_shapes f) (map note_shape f.params) f.body) (λ s.
     cond (fits_result f.result s)
     (Ok (record { params = map note_shape f.params; result = s }))
@@ -180,7 +181,8 @@ functions_found records known (f ∷ fs) =
 -- a record is no taller than 400
 abbrev pub record_found : List RecordShape → RecordTree → Result RecordShape ShapeFault
 record_found earlier d =
-    cond (nat_le (declared_shape earlier d).height 400) (Ok (declared_shape earlier d)) (Err (too_deep d.at))
+    cond (nat_le (declared_shape earlier d).height greatest_height) (Ok (declared_shape earlier d))
+    (Err (too_deep d.at))
 
 abbrev pub records_found : List RecordShape → List RecordTree → Result (List RecordShape) ShapeFault
 records_found earlier [] = Ok earlier

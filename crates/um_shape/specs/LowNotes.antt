@@ -3,6 +3,7 @@
 use Rattle.std.specs.Prelude.{◌≤◌, All, Option, Some, None}
 use Rattle.um_tree.specs.TypeTree.{NoteTree}
 use Rattle.um_tree.specs.ProgramTree.{RecordTree, FunctionTree}
+use Rattle.um_tree.specs.Heights.{greatest_height}
 use Rattle.um_tree.specs.TreeHeights.{type_tree_height, note_tree_height}
 use Rattle.um_tree.specs.ExprTree.{ExprTree, ExprTrees, truth, number, local, call, negate, not_expr, pown, arith}
 use Rattle.um_tree.specs.ExprTree.{compare, both, either, if, bind, split, nil, list_expr, cons, record_expr, field}
@@ -24,7 +25,7 @@ abbrev mutual
   HasLowNotes (if at c a b) = HasLowNotes c × HasLowNotes a × HasLowNotes b
   HasLowNotes (bind at a b) = HasLowNotes a × HasLowNotes b
   HasLowNotes (split at l a b) = HasLowNotes l × HasLowNotes a × HasLowNotes b
-  HasLowNotes (nil at n) = note_tree_height n ≤ 400
+  HasLowNotes (nil at n) = note_tree_height n ≤ greatest_height
   HasLowNotes (list_expr at es) = HaveLowNotes es
   HasLowNotes (cons at a b) = HasLowNotes a × HasLowNotes b
   HasLowNotes (record_expr at r es) = HaveLowNotes es
@@ -35,13 +36,13 @@ abbrev mutual
   HaveLowNotes (more e es) = HasLowNotes e × HaveLowNotes es
 
 abbrev pub HasLowFields : RecordTree → Type 0
-HasLowFields d = All (λ f. type_tree_height f.type ≤ 400) d.fields
+HasLowFields d = All (λ f. type_tree_height f.type ≤ greatest_height) d.fields
 
 abbrev pub HasLowResult : Option NoteTree → Type 0
 HasLowResult None = Unit {0}
-HasLowResult (Some n) = note_tree_height n ≤ 400
+HasLowResult (Some n) = note_tree_height n ≤ greatest_height
 
 pub record IsLow (f : FunctionTree) : Type 0 where
-  pub params : All (λ n. note_tree_height n ≤ 400) f.params
+  pub params : All (λ n. note_tree_height n ≤ greatest_height) f.params
   pub result : HasLowResult f.result
   pub body : HasLowNotes f.body

@@ -5,6 +5,7 @@ use Rattle.std.specs.Prelude.{◌≡◌, ◌<◌, ◌≤◌, ℕ, List, [], leng
 use Rattle.um_tree.specs.TypeTree.{ShapeTree}
 use Rattle.um_tree.specs.ProgramTree.{FunctionTree, ProgramTree}
 use Rattle.um_tree.specs.Shapes.{note_shape, FunctionShape}
+use Rattle.um_tree.specs.Heights.{greatest_height}
 use Rattle.um_shape.specs.declared.stop.ShapeStop.{ShapeStop}
 use Rattle.um_shape.specs.declared.stop.ShapeStop.TheVariants as stop
 use Rattle.um_shape.specs.FirstFault.{ShapeFault, wrong_shape, too_deep, records_found}
@@ -34,4 +35,5 @@ IsResultShape p i s =
 -- the shape is no taller than 400, through the fields of the program's records
 abbrev pub IsLowShape : ProgramTree → ShapeTree → Type 0
 IsLowShape p s =
-    (records : List RecordShape) × (records_found [] p.records ≡ Ok records) × (shape_height records s ≤ 400)
+    (records : List RecordShape) × (records_found [] p.records ≡ Ok records)
+    × (shape_height records s ≤ greatest_height)

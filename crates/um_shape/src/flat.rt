@@ -1,5 +1,6 @@
 //! A shape as a number of lists round an item, so that it is copied and compared at once.
 ghost use Rattle.std.specs.Prelude.{◌≡◌, ◌<◌, ◌≤◌, ◌+◌, IfOk};
+ghost use Rattle.um_tree.specs.Heights.{greatest_height};
 
 use std::alloc::Global;
 use um_tree::{Note, Shape, Ty};
@@ -35,7 +36,7 @@ impl Item {
 pub(crate) struct FlatShape {
     pub(crate) lists: u32,
     pub(crate) item: Item,
-    ghost low: { lists < 400 },
+    ghost low: { lists < greatest_height },
 }
 
 impl FlatShape {
@@ -95,7 +96,7 @@ impl FlatShape {
 
     /// The shape of a note.
     pub(crate) fn of_note(note: &Note) -> FlatShape
-        requires low { note_tree_height (note_tree note.now) ≤ 400 }
+        requires low { note_tree_height (note_tree note.now) ≤ greatest_height }
         ensures shape { flat_shape result ≡ note_shape (note_tree note.now) }
         ensures lists { result.lists + 1 ≡ note_tree_height (note_tree note.now) }
     {
@@ -115,7 +116,7 @@ impl FlatShape {
 
     /// The shape of a type.
     pub(crate) fn of_type(ty: &Ty) -> FlatShape
-        requires low { type_tree_height (type_tree ty.now) ≤ 400 }
+        requires low { type_tree_height (type_tree ty.now) ≤ greatest_height }
         ensures shape { flat_shape result ≡ type_shape (type_tree ty.now) }
         ensures lists { result.lists + 1 ≡ type_tree_height (type_tree ty.now) }
     {

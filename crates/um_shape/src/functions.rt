@@ -3,6 +3,7 @@ ghost use Rattle.std.specs.Prelude.{◌≡◌, ◌≤◌, ◌++◌, All, IfOk, M
 ghost use Rattle.std.specs.Option.{option_to_list};
 ghost use Rattle.um_tree.specs.TypeTree.{note_tree};
 ghost use Rattle.um_tree.specs.TreeHeights.{note_tree_height};
+ghost use Rattle.um_tree.specs.Heights.{greatest_height};
 ghost use Rattle.um_tree.specs.ExprTree.{expr_tree};
 ghost use Rattle.um_tree.specs.ProgramTree.{function_tree, result_tree};
 ghost use Rattle.um_tree.specs.Shapes.{note_shape};
@@ -16,10 +17,9 @@ use crate::ShapeStop;
 use crate::body::shape_of;
 use crate::flat::FlatShape;
 use crate::known::{Head, Known};
-use crate::lookup::TALLEST;
 use crate::records::tallest;
 use std::alloc::Global;
-use um_tree::{Function, Note};
+use um_tree::{Function, GREATEST_HEIGHT, Note};
 use um_units::NoMemory;
 
 /// Adds the shapes of the functions in order, or stops at the first fault.
@@ -48,7 +48,7 @@ fn head_of(alloc: Global, known: &mut Known, function: &Function) -> Result<Head
     ensures heads { IfOk result (λ _. known.new.heads.items ≡ known.old.heads.items) }
 {
     let params = note_shapes(alloc, &function.params.items)?;
-    if tallest(&known.records, &params) > TALLEST {
+    if tallest(&known.records, &params) > GREATEST_HEIGHT {
         return Err(ShapeStop::Depth { at: function.at });
     }
     let result = body_shape(alloc, known, &params, function)?;
@@ -122,7 +122,7 @@ fn fits_result(note: &Option<Note>, shape: FlatShape) -> bool
 
 /// The shapes of the notes.
 fn note_shapes(alloc: Global, notes: &[Note]) -> Result<Vec<FlatShape>, NoMemory>
-    requires low { All (λ n. note_tree_height (note_tree n) ≤ 400) notes.now }
+    requires low { All (λ n. note_tree_height (note_tree n) ≤ greatest_height) notes.now }
     ensures { IfOk result (λ shapes. flat_shapes shapes.items ≡ map (λ n. note_shape (note_tree n)) notes.now) }
 {
     let mut shapes = Vec::new(alloc);

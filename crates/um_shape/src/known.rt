@@ -1,5 +1,6 @@
 //! What is known while a body is looked at: the records, and the functions that may be called.
 ghost use Rattle.std.specs.Prelude.{◌≤◌};
+ghost use Rattle.um_tree.specs.Heights.{greatest_height};
 
 use crate::flat::FlatShape;
 
@@ -9,7 +10,7 @@ pub(crate) struct KnownRecord {
     pub(crate) fields: Vec<FlatShape>,
     pub(crate) height: u32,
     ghost high: { 1 ≤ height },
-    ghost low: { height ≤ 400 },
+    ghost low: { height ≤ greatest_height },
 }
 
 /// The shapes of a function's parameters and of its result.

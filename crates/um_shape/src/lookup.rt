@@ -1,6 +1,7 @@
 //! What is found at a node, from what is known of the records and functions that it names.
 ghost use Rattle.std.specs.Prelude.{◌≡◌, ◌<◌, ◌≤◌, slice_get};
 ghost use Rattle.std.specs.Option.{option_map};
+ghost use Rattle.um_tree.specs.Heights.{greatest_height};
 ghost use Rattle.um_shape.specs.RecordShapes.{shape_height};
 ghost use Rattle.um_shape.specs.FirstFault.{at_node, same_shapes, all_same, of_items, of_call, of_record, of_field};
 ghost use Rattle.um_shape.specs.FlatShapes.{item_shape, flat_shape, flat_shapes, known_records, heads_shapes};
@@ -9,15 +10,13 @@ ghost use Rattle.um_shape.specs.Stops.{IsFound};
 use crate::ShapeStop;
 use crate::flat::{FlatShape, Item};
 use crate::known::{Known, KnownRecord};
-
-/// The greatest height of a shape.
-pub(crate) const TALLEST: u32 = 400;
+use um_tree::GREATEST_HEIGHT;
 
 /// The height of an item over these records.
 fn item_height(records: &[KnownRecord], item: Item) -> u32
     ensures height { result ≡ shape_height (known_records records.now) (item_shape item) }
     ensures some { 1 ≤ result }
-    ensures low { result ≤ 400 }
+    ensures low { result ≤ greatest_height }
 {
     match item {
         Item::Bool | Item::Num => 1,
@@ -73,7 +72,7 @@ impl Known {
         let Some(shape) = rule else {
             return Err(ShapeStop::Shape { at });
         };
-        if height(&self.records, shape) > TALLEST {
+        if height(&self.records, shape) > GREATEST_HEIGHT {
             return Err(ShapeStop::Depth { at });
         }
         Ok(shape)
@@ -90,7 +89,7 @@ impl Known {
         if !all_same(*first, rest) {
             return Err(ShapeStop::Shape { at });
         }
-        if height(&self.records, *first) >= TALLEST {
+        if height(&self.records, *first) >= GREATEST_HEIGHT {
             return Err(ShapeStop::Depth { at });
         }
         Ok(FlatShape {

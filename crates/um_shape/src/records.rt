@@ -2,6 +2,7 @@
 ghost use Rattle.std.specs.Prelude.{◌≡◌, ◌≤◌, [], All, IfOk, MatchResult, Ok, map};
 ghost use Rattle.um_tree.specs.TypeTree.{type_tree};
 ghost use Rattle.um_tree.specs.TreeHeights.{type_tree_height};
+ghost use Rattle.um_tree.specs.Heights.{greatest_height};
 ghost use Rattle.um_tree.specs.ProgramTree.{record_tree};
 ghost use Rattle.um_tree.specs.Shapes.{type_shape};
 ghost use Rattle.um_shape.specs.LowNotes.{HasLowFields};
@@ -13,9 +14,9 @@ ghost use Rattle.um_shape.specs.Stops.{StopsAs};
 use crate::ShapeStop;
 use crate::flat::FlatShape;
 use crate::known::KnownRecord;
-use crate::lookup::{TALLEST, height};
+use crate::lookup::height;
 use std::alloc::Global;
-use um_tree::{FieldDecl, Record};
+use um_tree::{FieldDecl, GREATEST_HEIGHT, Record};
 use um_units::NoMemory;
 
 /// The records in order, or Depth at the first that is too tall.
@@ -46,7 +47,7 @@ fn known_record(
 {
     let fields = field_shapes(alloc, &declared.fields.items)?;
     let top = tallest(earlier, &fields);
-    if top >= TALLEST {
+    if top >= GREATEST_HEIGHT {
         return Err(ShapeStop::Depth { at: declared.at });
     }
     Ok(KnownRecord {
@@ -68,7 +69,7 @@ pub(crate) fn tallest(records: &[KnownRecord], shapes: &[FlatShape]) -> u32
 
 /// The shapes of the fields' types.
 fn field_shapes(alloc: Global, fields: &[FieldDecl]) -> Result<Vec<FlatShape>, NoMemory>
-    requires low { All (λ f. type_tree_height (type_tree f.ty) ≤ 400) fields.now }
+    requires low { All (λ f. type_tree_height (type_tree f.ty) ≤ greatest_height) fields.now }
     ensures { IfOk result (λ shapes. flat_shapes shapes.items ≡ map (λ f. type_shape (type_tree f.ty)) fields.now) }
 {
     let mut shapes = Vec::new(alloc);

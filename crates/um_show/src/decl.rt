@@ -70,7 +70,8 @@ fn push_record(
     vars: &[RawVar],
     fields: &[RawFieldDecl],
 ) -> Result<(), AllocError>
-    ensures { OnOk result (text.new.items ≡ text.old.items ++ record_decl_text name.now (map var_syntax vars.now) (map field_decl_syntax fields.now)) }
+    ensures { OnOk result (text.new.items ≡ text.old.items
+        ++ record_decl_text name.now (map var_syntax vars.now) (map field_decl_syntax fields.now)) }
 {
     text.extend_from_slice(b"type ")?;
     push_name(text, name)?;
@@ -128,7 +129,8 @@ fn push_field_decl(text: &mut Vec<u8>, field: &RawFieldDecl) -> Result<(), Alloc
 
 /// Adds a function.
 fn push_function(text: &mut Vec<u8>, function: &RawFunction) -> Result<(), AllocError>
-    ensures { OnOk result (text.new.items ≡ text.old.items ++ text_of (function_pieces (whole_function_syntax function.now))) }
+    ensures { OnOk result (text.new.items ≡ text.old.items
+        ++ text_of (function_pieces (whole_function_syntax function.now))) }
 {
     text.extend_from_slice(b"let ")?;
     push_rec(text, function.recursive)?;
@@ -150,7 +152,8 @@ fn push_rec(text: &mut Vec<u8>, recursive: bool) -> Result<(), AllocError>
 }
 
 fn push_params(text: &mut Vec<u8>, params: &[RawParam]) -> Result<(), AllocError>
-    ensures { OnOk result (text.new.items ≡ text.old.items ++ text_of (flat_map param_pieces (map param_syntax params.now))) }
+    ensures { OnOk result (text.new.items ≡ text.old.items
+        ++ text_of (flat_map param_pieces (map param_syntax params.now))) }
 {
     for param in params {
         push_param(text, param)?;

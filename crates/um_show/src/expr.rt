@@ -197,7 +197,8 @@ fn push_bracketed(text: &mut Vec<u8>, a: &RawExpr) -> Result<(), AllocError>
 /// Adds expressions, a space before each.
 #[cycle(push_expr)]
 fn push_arguments(text: &mut Vec<u8>, items: &[RawExpr]) -> Result<(), AllocError>
-    ensures { OnOk result (text.new.items ≡ text.old.items ++ text_of (argument_pieces (exprs_in_order (map expr_syntax items.now)))) }
+    ensures { OnOk result (text.new.items ≡ text.old.items
+        ++ text_of (argument_pieces (exprs_in_order (map expr_syntax items.now)))) }
 {
     for i in 0..items.len() {
         text.push(b' ')?;
@@ -209,7 +210,8 @@ fn push_arguments(text: &mut Vec<u8>, items: &[RawExpr]) -> Result<(), AllocErro
 /// Adds expressions, `; ` between each two.
 #[cycle(push_expr)]
 fn push_items(text: &mut Vec<u8>, items: &[RawExpr]) -> Result<(), AllocError>
-    ensures { OnOk result (text.new.items ≡ text.old.items ++ text_of (item_pieces (exprs_in_order (map expr_syntax items.now)))) }
+    ensures { OnOk result (text.new.items ≡ text.old.items
+        ++ text_of (item_pieces (exprs_in_order (map expr_syntax items.now)))) }
 {
     for i in 0..items.len() {
         push_gap(text, i, b"; ")?;
@@ -221,7 +223,8 @@ fn push_items(text: &mut Vec<u8>, items: &[RawExpr]) -> Result<(), AllocError>
 /// Adds fields, `; ` between each two.
 #[cycle(push_expr)]
 fn push_fields(text: &mut Vec<u8>, fields: &[RawField]) -> Result<(), AllocError>
-    ensures { OnOk result (text.new.items ≡ text.old.items ++ text_of (field_pieces (fields_in_order (map field_part fields.now)))) }
+    ensures { OnOk result (text.new.items ≡ text.old.items
+        ++ text_of (field_pieces (fields_in_order (map field_part fields.now)))) }
 {
     for i in 0..fields.len() {
         push_gap(text, i, b"; ")?;

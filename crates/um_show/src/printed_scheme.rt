@@ -19,7 +19,8 @@ pub fn scheme_text(
     scheme: &Scheme,
     program: &Program,
 ) -> Result<Vec<u8>, NoMemory>
-    ensures { IfOk result (λ text. text.items ≡ scheme_text (program_tree program.now) name.now (scheme_tree scheme.now)) }
+    ensures { IfOk result (λ text. text.items
+        ≡ scheme_text (program_tree program.now) name.now (scheme_tree scheme.now)) }
 {
     let mut text = name.as_slice().to_vec(alloc)?;
     text.extend_from_slice(b" : ")?;
@@ -35,7 +36,8 @@ fn push_params(
     program: &Program,
     params: &[Ty],
 ) -> Result<(), AllocError>
-    ensures { OnOk result (text.new.items ≡ text.old.items ++ flat_map (λ t. type_text (program_tree program.now) t ++ codes " -> ") (map type_tree params.now)) }
+    ensures { OnOk result (text.new.items ≡ text.old.items
+        ++ flat_map (λ t. type_text (program_tree program.now) t ++ codes " -> ") (map type_tree params.now)) }
 {
     for ty in params {
         push_type(alloc, text, program, ty)?;

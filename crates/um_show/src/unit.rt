@@ -49,7 +49,8 @@ pub(crate) fn push_unit(text: &mut Vec<u8>, unit: &RawUnit) -> Result<(), AllocE
 /// Adds unit texts, a space between each two.
 #[cycle(push_unit)]
 fn push_side(text: &mut Vec<u8>, units: &[RawUnit]) -> Result<(), AllocError>
-    ensures { OnOk result (text.new.items ≡ text.old.items ++ text_of (side_pieces (units_in_order (map unit_syntax units.now)))) }
+    ensures { OnOk result (text.new.items ≡ text.old.items
+        ++ text_of (side_pieces (units_in_order (map unit_syntax units.now)))) }
 {
     for i in 0..units.len() {
         push_gap(text, i, b" ")?;

@@ -1,5 +1,5 @@
 -- Where every step goes through, the answer is done.
-use Rattle.std.proofs.Common.{◌≡◌, sym, subst, ℕ, ◌+◌, ◌<◌, ◌≤◌, ◌⊎◌, List, [], ◌∷◌, length, take, drop, None, Ok, Err, ◌∙◌, inl, inr, arith}
+use Rattle.std.proofs.Common.{◌≡◌, sym, subst, ℕ, ◌+◌, ◌<◌, ◌≤◌, ◌⊎◌, List, [], ◌∷◌, length, drop, None, Ok, Err, ◌∙◌, inl, inr, arith}
 use Rattle.std.specs.declared.option.Option.{Option}
 use Rattle.std.specs.Str.{chars, IsUtf8, IsValidUpTo}
 use Rattle.std.proofs.lemmas.Bool.{cases_lt}
@@ -43,10 +43,13 @@ use Rattle.um_tool.specs.declared.order.Order.{Order}
 use Rattle.um_tool.specs.declared.status.Status.{Status}
 use Rattle.um_tool.specs.declared.status.Status.TheVariants.{Done}
 use Rattle.um_tool.specs.declared.order.Order.TheVariants.{Types, Fmt}
-use Rattle.um_tool.specs.Answer.{Asked, Answer, OrderAnswer, LengthAnswer, TokensAnswer, GrammarAnswer, ProgramAnswer, ByLayout, NamesAnswer, ShapesAnswer, SchemesAnswer, ByOrder, InferenceAnswer}
+use Rattle.um_tool.specs.declared.order.Intake.{Intake}
+use Rattle.um_tool.specs.declared.order.Intake.TheVariants.{Nothing, Text, Bytes}
+use Rattle.um_tool.specs.Answer.{Asked, Answer, OrderAnswer, IntakeAnswer, LengthAnswer, TokensAnswer, GrammarAnswer, ProgramAnswer, ByLayout, NamesAnswer, ShapesAnswer, SchemesAnswer, ByOrder, InferenceAnswer}
+use Rattle.um_tool.specs.Orders.{intake_of}
 use Rattle.um_tool.specs.Refusals.{IsTextReply, IsParseReply, IsNameReply, IsShapeReply}
 use Rattle.um_tool.specs.Steps.{Cases}
-use Rattle.um_tool.specs.Served.{IsPlanned, IsComplete, EachIsTyped, IsTyped, GoesThrough, IsUndisturbed}
+use Rattle.um_tool.specs.Served.{IsPlanned, IsTakenComplete, IsComplete, EachIsTyped, IsTyped, GoesThrough, IsUndisturbed}
 
 -- what follows a case that doesn't apply
 pub passed : {P Q R : Type 0} → (P → ⊥) → Cases P Q R → R
@@ -165,13 +168,21 @@ tokens_done order words bytes tokens ds text status short lexed read goes (inl (
     grammar_done order words bytes others ds text status readable (subst (λ ts. IsRead ts ds) (sym same) read) goes answer
 tokens_done order words bytes tokens ds text status short lexed read goes (inr (stop, refused, reply)) = absurd (text_not_refused bytes tokens stop text status lexed refused reply)
 
-pub Answer-complete : (words : List (List ℕ)) (bytes text : List ℕ) (status : Status) → IsComplete words bytes → Answer words bytes text status → status ≡ Done
-unfolding Answer OrderAnswer LengthAnswer
-Answer-complete words bytes text status ok answer =
+intake_done : (intake : Intake) (order : Order) (words : List (List ℕ)) (bytes text : List ℕ) (status : Status) → IsTakenComplete intake order bytes → IntakeAnswer intake order words bytes text status → status ≡ Done
+unfolding LengthAnswer
+intake_done Nothing order words bytes text status ok answer = absurd ok
+intake_done Text order words bytes text status ok answer =
     let long : 1048576 < length bytes → ⊥ = λ h. omega (arith, ok.short) in
-    let order : OrderAnswer words bytes text status = passed ok.built answer in
-    let steps : LengthAnswer ok.order words bytes text status = rw ok.ordered at order in
-    tokens_done ok.order words bytes ok.tokens ok.raw text status ok.short ok.lexed ok.read ok.goes_through (passed long steps)
+    tokens_done order words bytes ok.tokens ok.raw text status ok.short ok.lexed ok.read ok.goes_through (passed long answer)
+intake_done (Bytes most) order words bytes text status ok answer = absurd ok
+
+pub Answer-complete : (words : List (List ℕ)) (bytes text : List ℕ) (status : Status) → IsComplete words bytes → Answer words bytes text status → status ≡ Done
+unfolding Answer OrderAnswer
+Answer-complete words bytes text status ok answer =
+    let ordered : OrderAnswer words bytes text status = passed ok.asks.built answer in
+    let given : IntakeAnswer (intake_of ok.order) ok.order words bytes text status = rw ok.asks.ordered at ordered in
+    let taken : IntakeAnswer ok.intake ok.order words bytes text status = rw ok.asks.takes at given in
+    intake_done ok.intake ok.order words bytes text status ok.taken taken
 
 pub planned_complete : (words : List (List ℕ)) (left : Option (List ℕ)) (before now : ℕ) (text : List ℕ) (status : Status) → IsPlanned words left before now text status → IsUndisturbed words left before now → status ≡ Done
 planned_complete words left before now text status (inl (bytes, told, answer)) ok =

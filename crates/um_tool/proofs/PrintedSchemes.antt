@@ -19,7 +19,6 @@ use Rattle.um_names.proofs.FormedPrograms.{resolution_formed}
 use Rattle.um_readable.proofs.TextBytes.{readable_program}
 use Rattle.um_shape.specs.declared.stop.ShapeStop.{ShapeStop}
 use Rattle.um_shape.specs.declared.stop.ShapeStop.TheVariants as shape_stop
-use Rattle.um_shape.specs.FirstFault.{first_fault}
 use Rattle.um_tool.specs.declared.order.Order.TheVariants.{Types}
 use Rattle.um_tool.specs.declared.status.Status.{Status}
 use Rattle.um_tool.specs.declared.status.Status.TheVariants.{Done, TooLong, Utf8, Lexical, Syntax, Limit, Names, Shape, Units, PowerRange, NotGeneral}

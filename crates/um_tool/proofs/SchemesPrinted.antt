@@ -1,5 +1,5 @@
 -- The lines of schemes, one more line at a time.
-use Rattle.std.proofs.Common.{◌≡◌, ℕ, List, [], ◌∷◌, ◌++◌, length, refl, sym, ap, ◌∙◌, append_assoc, arith}
+use Rattle.std.proofs.Common.{◌≡◌, List, [], ◌∷◌, ◌++◌, length, sym, ap, ◌∙◌, append_assoc, arith}
 use Rattle.std.proofs.lemmas.List.{append-nil}
 use Rattle.um_tree.specs.ProgramTree.{FunctionTree, ProgramTree, SchemeTree}
 use Rattle.um_show.specs.SchemeText.{scheme_text}

@@ -1,15 +1,21 @@
 -- What is planned, by the steps of the answer.
 use Rattle.std.proofs.Common.{◌≡◌, ℕ, ◌<◌, ◌≤◌, List, [], length, None, Some, Result, Ok, Err, IfOk, IsTrue, codes, sym, ◌∙◌, refl, inl, inr, arith}
+use Rattle.std.specs.Prelude.{IsErrOf}
 use Rattle.std.specs.declared.option.Option.{Option}
 use Rattle.um_wire.specs.Faults.{Rose}
-use Rattle.um_wire.specs.Bytes.{Tells, AppendsPrefix}
+use Rattle.um_wire.specs.Bytes.{Tells, TellsMoreThan, AppendsPrefix}
+use Rattle.um_wire.specs.declared.read.ReadStop.{ReadStop}
+use Rattle.um_wire.specs.declared.read.ReadStop.TheVariants.{TooLong as TooLongToRead, Failed as ReadFailed, NoMemory as OutOfMemory}
 use Rattle.um_tool.specs.declared.order.Order.{Order}
+use Rattle.um_tool.specs.declared.order.Intake.{Intake}
+use Rattle.um_tool.specs.declared.order.Intake.TheVariants.{Text}
 use Rattle.um_tool.specs.declared.status.Status.{Status}
-use Rattle.um_tool.specs.declared.status.Status.TheVariants.{Usage, TooLong, ReadFault, WriteFault}
-use Rattle.um_tool.specs.Answer.{Answer, OrderAnswer, LengthAnswer, TokensAnswer, IsNotBuilt}
+use Rattle.um_tool.specs.declared.status.Status.TheVariants.{Usage, ReadFault, WriteFault}
+use Rattle.um_tool.specs.Answer.{Answer, OrderAnswer, IntakeAnswer, LengthAnswer, TokensAnswer, IsNotBuilt}
+use Rattle.um_tool.specs.Refusals.{IsReadReply}
 use Rattle.um_tool.specs.Steps.{IsReply, line}
-use Rattle.um_tool.specs.Orders.{order_of, NamesUnbuilt}
-use Rattle.um_tool.specs.Served.{IsPlanned, Serves}
+use Rattle.um_tool.specs.Orders.{order_of, NamesUnbuilt, AsksFor}
+use Rattle.um_tool.specs.Served.{IsPlanned, Reads, Serves}
 use Rattle.um_tool.proofs.Statuses.{is_answered, Answer-status}
 
 -- some bytes that the source may have left
@@ -34,18 +40,31 @@ usage_planned words left before now text status built none reply =
     let told = some_told left in
     inl (told.0, told.1, inr (built, rw (← none) reply))
 
-pub text_planned : (words : List (List ℕ)) (left : Option (List ℕ)) (before now : ℕ) (order : Order) (bytes text : List ℕ) (status : Status) → (NamesUnbuilt words → ⊥) → Some order ≡ order_of words → Tells left bytes → length bytes ≤ 1048576 → TokensAnswer order words bytes text status → IsPlanned words left before now text status
-unfolding Answer OrderAnswer LengthAnswer
-text_planned words left before now order bytes text status built is told short answer =
+-- ---- an order, by what it takes from the source
+
+pub order_planned : (words : List (List ℕ)) (left : Option (List ℕ)) (before now : ℕ) (order : Order) (intake : Intake) (bytes text : List ℕ) (status : Status) → AsksFor words order intake → Tells left bytes → IntakeAnswer intake order words bytes text status → IsPlanned words left before now text status
+unfolding Answer OrderAnswer
+order_planned words left before now order intake bytes text status asks told answer =
+    inl (bytes, told, inr (asks.built, rw asks.ordered (rw asks.takes answer)))
+
+pub text_planned : (words : List (List ℕ)) (left : Option (List ℕ)) (before now : ℕ) (order : Order) (bytes text : List ℕ) (status : Status) → AsksFor words order Text → Tells left bytes → length bytes ≤ 1048576 → TokensAnswer order words bytes text status → IsPlanned words left before now text status
+unfolding LengthAnswer
+text_planned words left before now order bytes text status asks told short answer =
     let past : 1048576 < length bytes → ⊥ = λ h. omega arith in
-    inl (bytes, told, inr (built, rw (← is) (inr (past, answer))))
+    order_planned words left before now order Text bytes text status asks told (inr (past, answer))
 
-pub long_planned : (words : List (List ℕ)) (left : Option (List ℕ)) (before now : ℕ) (order : Order) (bytes text : List ℕ) (status : Status) → (NamesUnbuilt words → ⊥) → Some order ≡ order_of words → Tells left bytes → 1048576 < length bytes → IsReply text status (line (codes "error 2: text too long")) TooLong → IsPlanned words left before now text status
-unfolding Answer OrderAnswer LengthAnswer
-long_planned words left before now order bytes text status built is told past reply = inl (bytes, told, inr (built, rw (← is) (inl (past, reply))))
+-- words that ask for a text read
+pub text_reads : (words : List (List ℕ)) (order : Order) → AsksFor words order Text → Reads words
+text_reads words order asks = record { order = order; intake = Text; asks = asks; some = λ is. cc is }
 
-pub failed_planned : (words : List (List ℕ)) (left : Option (List ℕ)) (before now : ℕ) (order : Order) (text : List ℕ) (status : Status) → (NamesUnbuilt words → ⊥) → Some order ≡ order_of words → Rose before now → IsReply text status (line (codes "error 15: read")) ReadFault → IsPlanned words left before now text status
-failed_planned words left before now order text status built is rose reply = inr (reply, record { built = built; ordered = rw (← is) refl }, rose)
+pub unread_planned : {T : Type 0} (result : Result T ReadStop) (stop : ReadStop) (words : List (List ℕ)) (left : Option (List ℕ)) (before now : ℕ) (order : Order) (text : List ℕ) (status : Status) → AsksFor words order Text → result ≡ Err stop
+    → (IsErrOf result TooLongToRead → TellsMoreThan 1048576 left) → (IsErrOf result ReadFailed → Rose before now) → IsReadReply stop text status → IsPlanned words left before now text status
+unfolding LengthAnswer
+unread_planned result TooLongToRead words left before now order text status asks is long rose reply =
+    let more = long is in
+    order_planned words left before now order Text more.bytes text status asks more.told (inl (more.more, reply))
+unread_planned result ReadFailed words left before now order text status asks is long rose reply = inr (reply, text_reads words order asks, rose is)
+unread_planned result OutOfMemory words left before now order text status asks is long rose reply = absurd reply
 
 -- what is planned with the status of a failed read has its cause
 pub planned_read_fault : (words : List (List ℕ)) (left : Option (List ℕ)) (before now : ℕ) (text : List ℕ) (status : Status) → IsPlanned words left before now text status → status ≡ ReadFault → Rose before now

@@ -16,9 +16,11 @@ use Rattle.um_tool.specs.declared.status.Status.{Status}
 use Rattle.um_tool.specs.declared.status.Status.TheVariants.{Usage, ReadFault, WriteFault, NoMemory}
 use Rattle.um_tool.specs.declared.order.Order.{Order}
 use Rattle.um_tool.specs.declared.order.Order.TheVariants.{Types, Fmt}
+use Rattle.um_tool.specs.declared.order.Intake.{Intake}
+use Rattle.um_tool.specs.declared.order.Intake.TheVariants.{Nothing, Text, Bytes}
 use Rattle.um_infer.specs.Inference.{Inference, all_schemes, stops_at_slots, stops_at_range, stops_at_units, stops_at_not_general, infer}
-use Rattle.um_tool.specs.Answer.{Asked, Answer, OrderAnswer, LengthAnswer, TokensAnswer, GrammarAnswer, ProgramAnswer, ByLayout, NamesAnswer, ShapesAnswer, SchemesAnswer, ByOrder, InferenceAnswer}
-use Rattle.um_tool.specs.Orders.{order_of}
+use Rattle.um_tool.specs.Answer.{Asked, Answer, OrderAnswer, IntakeAnswer, LengthAnswer, TokensAnswer, GrammarAnswer, ProgramAnswer, ByLayout, NamesAnswer, ShapesAnswer, SchemesAnswer, ByOrder, InferenceAnswer}
+use Rattle.um_tool.specs.Orders.{order_of, intake_of}
 use Rattle.um_tool.specs.Steps.{IsReply, line}
 
 -- it is none of the faults'
@@ -102,9 +104,14 @@ unfolding LengthAnswer
 LengthAnswer-status order words bytes text status (inl (long, reply)) = rw reply.1 refl
 LengthAnswer-status order words bytes text status (inr (short, answer)) = TokensAnswer-status order words bytes text status answer
 
-ordered_status : (order : Option Order) (words : List (List ℕ)) (bytes text : List ℕ) (status : Status) → MatchOption order (IsReply text status (line (codes "error 1: usage")) Usage) (λ o. LengthAnswer o words bytes text status) → IsTrue (is_answered status)
+intake_status : (intake : Intake) (order : Order) (words : List (List ℕ)) (bytes text : List ℕ) (status : Status) → IntakeAnswer intake order words bytes text status → IsTrue (is_answered status)
+intake_status Nothing order words bytes text status reply = rw reply.1 refl
+intake_status Text order words bytes text status answer = LengthAnswer-status order words bytes text status answer
+intake_status (Bytes most) order words bytes text status reply = rw reply.1 refl
+
+ordered_status : (order : Option Order) (words : List (List ℕ)) (bytes text : List ℕ) (status : Status) → MatchOption order (IsReply text status (line (codes "error 1: usage")) Usage) (λ o. IntakeAnswer (intake_of o) o words bytes text status) → IsTrue (is_answered status)
 ordered_status None words bytes text status reply = rw reply.1 refl
-ordered_status (Some order) words bytes text status answer = LengthAnswer-status order words bytes text status answer
+ordered_status (Some order) words bytes text status answer = intake_status (intake_of order) order words bytes text status answer
 
 OrderAnswer-status : (words : List (List ℕ)) (bytes text : List ℕ) (status : Status) → OrderAnswer words bytes text status → IsTrue (is_answered status)
 unfolding OrderAnswer

@@ -1,5 +1,5 @@
 -- The answer to words and bytes is one.
-use Rattle.std.proofs.Common.{◌≡◌, ℕ, ◌<◌, ◌≤◌, ◌⊎◌, List, [], ◌∷◌, length, slice_get, Result, Ok, Err, Some, None, MatchOption, codes, inl, inr, refl, ap, sym, subst, ◌∙◌, arith}
+use Rattle.std.proofs.Common.{◌≡◌, ℕ, ◌<◌, ◌≤◌, ◌⊎◌, List, [], length, Ok, Err, Some, None, MatchOption, codes, inl, inr, sym, subst, ◌∙◌, arith}
 use Rattle.std.specs.declared.option.Option.{Option}
 use Rattle.std.specs.Str.{chars, IsUtf8, IsValidUpTo}
 use Rattle.std.proofs.lemmas.Bool.{cases_lt}
@@ -13,7 +13,6 @@ use Rattle.um_syntax.specs.Feeding.{IsTextAnswer}
 use Rattle.um_syntax.proofs.Whole.{unique_tokens, unique_fault}
 use Rattle.um_types.specs.declared.parse.ParseStop.{ParseStop}
 use Rattle.um_types.specs.declared.parse.ParseStop.TheVariants as parse_stop
-use Rattle.um_parse.specs.Parsed.{IsRead, Parsed}
 use Rattle.um_parse.specs.Laws.{AreSameAnswer, AnswersAreUnique as ParsesAreUnique}
 use Rattle.um_measures.specs.declared.stop.NameStop.{NameStop}
 use Rattle.um_measures.specs.declared.stop.NameStop.TheVariants as name_stop
@@ -24,18 +23,19 @@ use Rattle.um_shape.specs.declared.stop.ShapeStop.{ShapeStop}
 use Rattle.um_shape.specs.declared.stop.ShapeStop.TheVariants as shape_stop
 use Rattle.um_shape.specs.FirstFault.{ShapeFault, wrong_shape, too_deep, first_fault}
 use Rattle.um_shape.specs.ShapedProgram.{IsRefusal}
-use Rattle.um_tree.specs.RawTree.{DeclSyntax}
 use Rattle.um_tree.specs.ProgramTree.{FunctionTree, ProgramTree}
 use Rattle.um_infer.specs.Inference.{Inference, all_schemes, stops_at_slots, stops_at_range, stops_at_units, stops_at_not_general, infer}
 use Rattle.um_types.specs.declared.parse.LimitKind.TheVariants as limit
 use Rattle.um_tool.specs.declared.order.Order.{Order}
 use Rattle.um_tool.specs.declared.order.Order.TheVariants.{Types, Fmt}
+use Rattle.um_tool.specs.declared.order.Intake.{Intake}
+use Rattle.um_tool.specs.declared.order.Intake.TheVariants.{Nothing, Text, Bytes}
 use Rattle.um_tool.specs.declared.status.Status.{Status}
-use Rattle.um_tool.specs.declared.status.Status.TheVariants.{Done, Usage, Utf8, Lexical, Limit, Names, PowerRange, Shape}
+use Rattle.um_tool.specs.declared.status.Status.TheVariants.{Usage, Utf8, Lexical, Limit, Names, PowerRange, Shape}
 use Rattle.um_tool.specs.Steps.{line, IsReply}
-use Rattle.um_tool.specs.Orders.{order_of}
+use Rattle.um_tool.specs.Orders.{order_of, intake_of}
 use Rattle.um_tool.specs.Refusals.{placed, limit_label, IsTextReply, IsParseReply, IsNameReply, IsShapeReply}
-use Rattle.um_tool.specs.Answer.{Asked, Answer, OrderAnswer, LengthAnswer, TokensAnswer, GrammarAnswer, ProgramAnswer, ByLayout, NamesAnswer, ShapesAnswer, SchemesAnswer, ByOrder, InferenceAnswer, OfFunction}
+use Rattle.um_tool.specs.Answer.{Asked, Answer, OrderAnswer, IntakeAnswer, LengthAnswer, TokensAnswer, GrammarAnswer, ProgramAnswer, ByLayout, NamesAnswer, ShapesAnswer, SchemesAnswer, ByOrder, InferenceAnswer, OfFunction}
 use Rattle.um_tool.specs.Laws.{AnswersAreUnique}
 use Rattle.um_tool.proofs.Complete.{not_utf8, text_not_refused, program_not_refused, not_refused, not_faulty}
 use Rattle.um_tool.proofs.PrintedSchemes.{one_function}
@@ -216,10 +216,15 @@ module _ (one_answer : ParsesAreUnique) (text other : List ℕ) (status another 
   length_one order words bytes (inr (short, a)) (inl (long, b)) = absurd (short long)
   length_one order words bytes (inr (short, a)) (inr (also, b)) = tokens_one order words bytes a b
 
-  ordered_one : (order : Option Order) (words : List (List ℕ)) (bytes : List ℕ) → MatchOption order (IsReply text status (line (codes "error 1: usage")) Usage) (λ o. LengthAnswer o words bytes text status)
-      → MatchOption order (IsReply other another (line (codes "error 1: usage")) Usage) (λ o. LengthAnswer o words bytes other another) → (text ≡ other) × (status ≡ another)
+  intake_one : (intake : Intake) (order : Order) (words : List (List ℕ)) (bytes : List ℕ) → IntakeAnswer intake order words bytes text status → IntakeAnswer intake order words bytes other another → (text ≡ other) × (status ≡ another)
+  intake_one Nothing order words bytes a b = (a.0 ∙ sym b.0, a.1 ∙ sym b.1)
+  intake_one Text order words bytes a b = length_one order words bytes a b
+  intake_one (Bytes most) order words bytes a b = (a.0 ∙ sym b.0, a.1 ∙ sym b.1)
+
+  ordered_one : (order : Option Order) (words : List (List ℕ)) (bytes : List ℕ) → MatchOption order (IsReply text status (line (codes "error 1: usage")) Usage) (λ o. IntakeAnswer (intake_of o) o words bytes text status)
+      → MatchOption order (IsReply other another (line (codes "error 1: usage")) Usage) (λ o. IntakeAnswer (intake_of o) o words bytes other another) → (text ≡ other) × (status ≡ another)
   ordered_one None words bytes a b = (a.0 ∙ sym b.0, a.1 ∙ sym b.1)
-  ordered_one (Some order) words bytes a b = length_one order words bytes a b
+  ordered_one (Some order) words bytes a b = intake_one (intake_of order) order words bytes a b
 
   order_one : (words : List (List ℕ)) (bytes : List ℕ) → OrderAnswer words bytes text status → OrderAnswer words bytes other another → (text ≡ other) × (status ≡ another)
   unfolding OrderAnswer

@@ -4,6 +4,8 @@
 use Rattle.std.specs.Prelude.{ℕ, ◌<◌, ◌≡◌, ◌⊎◌, List, length, codes, slice_get, MatchOption, Some, None, Ok, Err}
 use Rattle.um_tool.specs.declared.order.Order.{Order}
 use Rattle.um_tool.specs.declared.order.Order.TheVariants.{Types, Fmt}
+use Rattle.um_tool.specs.declared.order.Intake.{Intake}
+use Rattle.um_tool.specs.declared.order.Intake.TheVariants.{Nothing, Text, Bytes}
 use Rattle.um_tool.specs.declared.status.Status.{Status}
 use Rattle.um_tool.specs.declared.status.Status.TheVariants.{Done, Usage, TooLong, NotBuilt}
 use Rattle.um_syntax.specs.declared.token.Token.{Token}
@@ -19,10 +21,12 @@ use Rattle.um_names.specs.Resolution.{resolved_program}
 use Rattle.um_shape.specs.declared.stop.ShapeStop.{ShapeStop}
 use Rattle.um_shape.specs.FirstFault.{first_fault}
 use Rattle.um_shape.specs.ShapedProgram.{IsRefusal}
-use Rattle.um_infer.specs.Inference.{Inference, all_schemes, stops_at_slots, stops_at_range, stops_at_units, stops_at_not_general, infer}
+use Rattle.um_infer.specs.Inference.{Inference, all_schemes, stops_at_slots, stops_at_range, stops_at_units}
+use Rattle.um_infer.specs.Inference.{stops_at_not_general, infer}
 use Rattle.um_show.specs.Layout.{layout}
-use Rattle.um_tool.specs.Orders.{order_of, NamesUnbuilt}
-use Rattle.um_tool.specs.Refusals.{IsTextReply, IsParseReply, IsNameReply, IsShapeReply, IsSlotsReply, IsRangeReply, IsUnitsReply, IsNotGeneralReply}
+use Rattle.um_tool.specs.Orders.{order_of, intake_of, NamesUnbuilt}
+use Rattle.um_tool.specs.Refusals.{IsTextReply, IsParseReply, IsNameReply, IsShapeReply, IsSlotsReply, IsRangeReply}
+use Rattle.um_tool.specs.Refusals.{IsUnitsReply, IsNotGeneralReply}
 use Rattle.um_tool.specs.SchemeLines.{scheme_lines}
 use Rattle.um_tool.specs.Steps.{line, IsReply, Cases}
 
@@ -43,10 +47,13 @@ OfFunction p i Says = (f : FunctionTree) × (slice_get p.functions i ≡ Some f)
 
 -- the lines of the schemes, or the refusal of the first function without one
 abbrev pub InferenceAnswer : List ℕ → ProgramTree → Inference → List ℕ → Status → Type 0
-InferenceAnswer bytes p (all_schemes schemes) text status = IsReply text status (scheme_lines p p.functions schemes) Done
+InferenceAnswer bytes p (all_schemes schemes) text status =
+    IsReply text status (scheme_lines p p.functions schemes) Done
 InferenceAnswer bytes p (stops_at_slots i) text status = OfFunction p i (λ f. IsSlotsReply bytes f.at text status)
-InferenceAnswer bytes p (stops_at_range i at) text status = OfFunction p i (λ f. IsRangeReply bytes f.name at text status)
-InferenceAnswer bytes p (stops_at_units i row at) text status = OfFunction p i (λ f. IsUnitsReply bytes f.name at text status)
+InferenceAnswer bytes p (stops_at_range i at) text status =
+    OfFunction p i (λ f. IsRangeReply bytes f.name at text status)
+InferenceAnswer bytes p (stops_at_units i row at) text status =
+    OfFunction p i (λ f. IsUnitsReply bytes f.name at text status)
 InferenceAnswer bytes p (stops_at_not_general i row at) text status =
     OfFunction p i (λ f. IsNotGeneralReply bytes f.name at text status)
 
@@ -98,11 +105,17 @@ LengthAnswer order words bytes text status = Cases (1048576 < length bytes)
     (IsReply text status (line (codes "error 2: text too long")) TooLong)
     (TokensAnswer order words bytes text status)
 
+-- by what the order takes from the source; no order that takes nothing, or bytes that are no text, is built yet
+abbrev pub IntakeAnswer : Intake → Order → List (List ℕ) → List ℕ → List ℕ → Status → Type 0
+IntakeAnswer Nothing order words bytes text status = IsNotBuilt text status
+IntakeAnswer Text order words bytes text status = LengthAnswer order words bytes text status
+IntakeAnswer (Bytes limit) order words bytes text status = IsNotBuilt text status
+
 -- the words name an order
 unfoldable pub OrderAnswer : List (List ℕ) → List ℕ → List ℕ → Status → Type 0
 OrderAnswer words bytes text status = MatchOption (order_of words)
     (IsReply text status (line (codes "error 1: usage")) Usage)
-    (λ order. LengthAnswer order words bytes text status)
+    (λ order. IntakeAnswer (intake_of order) order words bytes text status)
 
 -- the first word is no command that isn't built yet
 unfoldable pub Answer : List (List ℕ) → List ℕ → List ℕ → Status → Type 0

@@ -4,4 +4,5 @@ use Rattle.um_tool.specs.declared.asked.Asked.{Asked as AskedCode}
 use Rattle.um_tool.specs.Answer.{Asked}
 
 abbrev pub asked_of : AskedCode → Asked
-asked_of asked = record { order = asked.order; words = asked.words.now; bytes = asked.bytes.now; raw = program_syntax asked.raw.now }
+asked_of asked =
+    record { order = asked.order; words = asked.words.now; bytes = asked.bytes.now; raw = program_syntax asked.raw.now }

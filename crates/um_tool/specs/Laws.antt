@@ -1,6 +1,6 @@
 -- What report lines and answers say, in the subject's words.
--- Source: UTF-8 (RFC 3629), in which one byte begins each character and every other byte of it lies in 128..191; principal
--- schemes and typings are Kennedy's (1996).
+-- Source: UTF-8 (RFC 3629), in which one byte begins each character and every other byte of it lies in 128..191;
+-- principal schemes and typings are Kennedy's (1996).
 use Rattle.std.specs.Prelude.{ℕ, ◌≡◌, List, [], ◌∷◌, ◌++◌, length, codes, take, None, Ok}
 use Rattle.std.specs.Fmt.{decimal}
 use Rattle.std.specs.Str.{IsUtf8}
@@ -38,7 +38,8 @@ PlacesArePrinted =
 
 -- ---- what `types` prints
 
--- The bytes are a text whose tokens are a program within the limits; its names stand for this program, and it has no shape fault.
+-- The bytes are a text whose tokens are a program within the limits; its names stand for this program, and it has no
+-- shape fault.
 pub record SpellsProgram (bytes : List ℕ) (p : ProgramTree) : Type 0 where
   pub tokens : List Token
   pub lexed : IsTextAnswer bytes (Ok tokens)
@@ -55,10 +56,11 @@ abbrev pub PrintedTypesArePrincipalSchemes : Type 0
 PrintedTypesArePrincipalSchemes =
     (bytes text : List ℕ) → TypesAnswers bytes text Done →
     (p : ProgramTree) × SpellsProgram bytes p
-    × ((schemes : List SchemeTree) × ArePrincipal p (length p.functions) schemes × (text ≡ scheme_lines p p.functions schemes))
+    × ((schemes : List SchemeTree) × ArePrincipal p (length p.functions) schemes
+    × (text ≡ scheme_lines p p.functions schemes))
 
--- The function that it names with the status of units is the first of the program without a typing, and no units satisfy
--- its equations up to the one at the place.
+-- The function that it names with the status of units is the first of the program without a typing, and no units
+-- satisfy its equations up to the one at the place.
 abbrev pub UnitsNameTheFirstUntyped : Type 0
 UnitsNameTheFirstUntyped =
     (bytes text : List ℕ) → TypesAnswers bytes text Units →

@@ -2,7 +2,10 @@
 -- Source: this project's own numbers.
 use Rattle.std.specs.Prelude.{ℕ}
 use Rattle.um_tool.specs.declared.status.Status.{Status}
-use Rattle.um_tool.specs.declared.status.Status.TheVariants.{Done, Usage, TooLong, Utf8, Lexical, Syntax, Limit, Names, Shape, Units, PowerRange, Input, Trap, BudgetEnd, ScaleRange, ReadFault, WriteFault, NoMemory, NotBuilt, NotGeneral}
+use Rattle.um_tool.specs.declared.status.Status.TheVariants.{Done, Usage, TooLong, Utf8, Lexical, Syntax, Limit, Names}
+use Rattle.um_tool.specs.declared.status.Status.TheVariants.{Shape, Units, PowerRange, Input, Trap, BudgetEnd}
+use Rattle.um_tool.specs.declared.status.Status.TheVariants.{ScaleRange, ReadFault, WriteFault, NoMemory, NotBuilt}
+use Rattle.um_tool.specs.declared.status.Status.TheVariants.{NotGeneral}
 
 abbrev pub number_of : Status → ℕ
 number_of Done = 0

@@ -1,6 +1,6 @@
 -- What a run of the program writes, and with which status it ends.
 -- Source: this project's own.
-use Rattle.std.specs.Prelude.{◌≡◌, ◌≤◌, ◌⊎◌, ℕ, List, length, codes, IsSome, Some, None, slice_get, Option, Ok}
+use Rattle.std.specs.Prelude.{◌≡◌, ◌≢◌, ◌≤◌, ◌⊎◌, ℕ, List, length, codes, Some, None, slice_get, Option, Ok}
 use Rattle.std.specs.Io.KnownBytes.{Appends, Keeps}
 use Rattle.um_wire.specs.Faults.{Rose}
 use Rattle.um_wire.specs.Bytes.{Tells, AppendsPrefix}
@@ -16,16 +16,20 @@ use Rattle.um_infer.specs.Inference.{infer}
 use Rattle.um_infer.specs.Laws.{IsLimited}
 use Rattle.um_tool.specs.declared.order.Order.{Order}
 use Rattle.um_tool.specs.declared.order.Order.TheVariants.{Types, Fmt}
+use Rattle.um_tool.specs.declared.order.Intake.{Intake}
+use Rattle.um_tool.specs.declared.order.Intake.TheVariants.{Nothing, Text, Bytes}
 use Rattle.um_tool.specs.declared.status.Status.{Status}
 use Rattle.um_tool.specs.declared.status.Status.TheVariants.{ReadFault, WriteFault, NoMemory}
 use Rattle.um_tool.specs.Answer.{Answer}
-use Rattle.um_tool.specs.Orders.{order_of, NamesUnbuilt}
+use Rattle.um_tool.specs.Orders.{AsksFor}
 use Rattle.um_tool.specs.Steps.{IsReply, line}
 
--- the words are read, and then the source
+-- the words name an order that takes something from the source
 pub record Reads (words : List (List ℕ)) : Type 0 where
-  pub built : NamesUnbuilt words → ⊥
-  pub ordered : IsSome (order_of words)
+  pub order : Order
+  pub intake : Intake
+  pub asks : AsksFor words order intake
+  pub some : intake ≢ Nothing
 
 -- the text and the status that a run is about to give: the answer to the bytes left,
 -- or the line on a failed read, only where the words ask for a read and the source's count rose
@@ -41,7 +45,8 @@ pub record WroteAll (Planned : List ℕ → Status → Type 0) (old new : Option
   pub written : Appends old new text
 
 -- a first part of the planned text was written, and the sink's count rose
-pub record WrotePart (Planned : List ℕ → Status → Type 0) (old new : Option (List ℕ)) (before now : ℕ) (status : Status) : Type 0 where
+pub record WrotePart
+    (Planned : List ℕ → Status → Type 0) (old new : Option (List ℕ)) (before now : ℕ) (status : Status) : Type 0 where
   pub text : List ℕ
   pub meant : Status
   pub planned : Planned text meant
@@ -75,17 +80,27 @@ abbrev pub GoesThrough : Order → List DeclSyntax → Type 0
 GoesThrough Types raw = IsTyped raw
 GoesThrough Fmt raw = Unit {0}
 
--- the text is a program within the limits, and every step of the answer goes through
-pub record IsComplete (words : List (List ℕ)) (bytes : List ℕ) : Type 0 where
-  pub built : NamesUnbuilt words → ⊥
-  pub order : Order
-  pub ordered : order_of words ≡ Some order
+-- the text is a program within the limits, and each step behind the grammar goes through
+pub record IsTextComplete (order : Order) (bytes : List ℕ) : Type 0 where
   pub short : length bytes ≤ 1048576
   pub tokens : List Token
   pub lexed : IsTextAnswer bytes (Ok tokens)
   pub raw : List DeclSyntax
   pub read : IsRead tokens raw
   pub goes_through : GoesThrough order raw
+
+-- by what the order takes from the source; no order that takes nothing, or bytes that are no text, is built yet
+abbrev pub IsTakenComplete : Intake → Order → List ℕ → Type 0
+IsTakenComplete Nothing order bytes = ⊥
+IsTakenComplete Text order bytes = IsTextComplete order bytes
+IsTakenComplete (Bytes limit) order bytes = ⊥
+
+-- the words name an order, and every step of the answer goes through
+pub record IsComplete (words : List (List ℕ)) (bytes : List ℕ) : Type 0 where
+  pub order : Order
+  pub intake : Intake
+  pub asks : AsksFor words order intake
+  pub taken : IsTakenComplete intake order bytes
 
 -- the source's bytes go through, and it met no fault
 pub record IsUndisturbed (words : List (List ℕ)) (left : Option (List ℕ)) (before now : ℕ) : Type 0 where

@@ -115,7 +115,8 @@ fn answer_names(alloc: Global, asked: &Asked) -> Result<Reply, AllocError>
 #[tactic(auto, unfolding(crate::specs::Answer::ShapesAnswer))]
 fn answer_shapes(alloc: Global, asked: &Asked, program: Program) -> Result<Reply, AllocError>
     requires formed { IsFormed (program_tree program) }
-    ensures { IfOk result (λ reply. ShapesAnswer (asked_of asked.now) (program_tree program) reply.text.items reply.status) }
+    ensures { IfOk result (λ reply. ShapesAnswer (asked_of asked.now)
+        (program_tree program) reply.text.items reply.status) }
 {
     match shape(alloc, program) {
         Ok(shaped) => answer_schemes(alloc, asked, &shaped),
@@ -126,7 +127,8 @@ fn answer_shapes(alloc: Global, asked: &Asked, program: Program) -> Result<Reply
 /// The answer to a program whose shapes are right.
 #[tactic(auto, unfolding(crate::specs::Answer::SchemesAnswer))]
 fn answer_schemes(alloc: Global, asked: &Asked, shaped: &Shaped) -> Result<Reply, AllocError>
-    ensures { IfOk result (λ reply. SchemesAnswer (asked_of asked.now) (program_tree shaped.now) reply.text.items reply.status) }
+    ensures { IfOk result (λ reply. SchemesAnswer (asked_of asked.now)
+        (program_tree shaped.now) reply.text.items reply.status) }
 {
     match asked.order {
         Order::Types => answer_types(alloc, asked.bytes, shaped),
@@ -136,7 +138,8 @@ fn answer_schemes(alloc: Global, asked: &Asked, shaped: &Shaped) -> Result<Reply
 
 /// The layout of the program.
 fn reply_layout(alloc: Global, asked: &Asked) -> Result<Reply, AllocError>
-    ensures { IfOk result (λ reply. IsReply reply.text.items reply.status (layout (program_syntax asked.now.raw.now)) Status.Done) }
+    ensures { IfOk result (λ reply. IsReply reply.text.items reply.status
+        (layout (program_syntax asked.now.raw.now)) Status.Done) }
 {
     Ok(Reply {
         text: program_text(alloc, asked.raw)?,
@@ -146,7 +149,8 @@ fn reply_layout(alloc: Global, asked: &Asked) -> Result<Reply, AllocError>
 
 /// The schemes of the functions, or the first function without one.
 fn answer_types(alloc: Global, bytes: &[u8], shaped: &Shaped) -> Result<Reply, AllocError>
-    ensures { IfOk result (λ reply. InferenceAnswer bytes.now (program_tree shaped.now) (infer (program_tree shaped.now)) reply.text.items reply.status) }
+    ensures { IfOk result (λ reply. InferenceAnswer bytes.now (program_tree shaped.now)
+        (infer (program_tree shaped.now)) reply.text.items reply.status) }
 {
     let program = shaped.program();
     match infer(alloc, shaped) {

@@ -1,6 +1,6 @@
 // What the words ask for.
 ghost use Rattle.std.specs.Prelude.{◌≡◌, ◌↔◌, IsTrue};
-ghost use Rattle.um_tool.specs.Orders.{order_of as order_named, is_unbuilt as unbuilt, NamesUnbuilt};
+ghost use Rattle.um_tool.specs.Orders.{order_of as order_named, intake_of, is_unbuilt as unbuilt, NamesUnbuilt};
 
 use crate::Words;
 
@@ -11,6 +11,28 @@ pub enum Order {
     Types,
     /// Print the program in its layout.
     Fmt,
+}
+
+/// What an order takes from the source.
+#[derive(Clone, Copy)]
+pub(crate) enum Intake {
+    /// Nothing: the source stays as it was.
+    Nothing,
+    /// A text of at most 1,048,576 bytes, with its tokens.
+    Text,
+    /// At most so many bytes, as they are.
+    Bytes { limit: usize },
+}
+
+impl Order {
+    /// What it takes from the source.
+    pub(crate) fn intake(self) -> Intake
+        ensures { result ≡ intake_of self }
+    {
+        match self {
+            Order::Types | Order::Fmt => Intake::Text,
+        }
+    }
 }
 
 /// The order that the words name, or nothing where they have none of the forms.

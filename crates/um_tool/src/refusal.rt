@@ -1,6 +1,6 @@
 // The lines of refusals.
 ghost use Rattle.std.specs.Prelude.{◌≡◌, ◌++◌, IfOk, codes};
-ghost use Rattle.um_tool.specs.Refusals.{IsTextReply, IsParseReply, IsNameReply, IsShapeReply, IsUnitsReply, IsNotGeneralReply, IsRangeReply, IsSlotsReply, limit_label as label_of_limit, placed};
+ghost use Rattle.um_tool.specs.Refusals.{IsReadReply, IsTextReply, IsParseReply, IsNameReply, IsShapeReply, IsUnitsReply, IsNotGeneralReply, IsRangeReply, IsSlotsReply, limit_label as label_of_limit, placed};
 ghost use Rattle.um_tool.specs.Steps.{IsReply, line};
 
 use crate::Status;
@@ -12,6 +12,7 @@ use um_parse::{LimitKind, ParseStop};
 use um_shape::ShapeStop;
 use um_syntax::TextStop;
 use um_tree::Name;
+use um_wire::ReadStop;
 
 /// A reply of one line.
 pub(crate) fn reply_line(alloc: Global, text: &str, status: Status) -> Result<Reply, AllocError>
@@ -36,6 +37,17 @@ fn reply_at(
     ensures { IfOk result (λ reply. IsReply reply.text.items reply.status (placed label.now bytes.now at) status) }
 {
     reply_labelled(label.as_bytes().to_vec(alloc)?, bytes, at, status)
+}
+
+/// The refusal of what the source has left, which was not read.
+pub(crate) fn reply_to_unread(alloc: Global, stop: ReadStop) -> Result<Reply, AllocError>
+    ensures { IfOk result (λ reply. IsReadReply stop reply.text.items reply.status) }
+{
+    match stop {
+        ReadStop::TooLong => reply_line(alloc, "error 2: text too long", Status::TooLong),
+        ReadStop::Failed => reply_line(alloc, "error 15: read", Status::ReadFault),
+        ReadStop::NoMemory => Err(AllocError),
+    }
 }
 
 /// The refusal of a text that has no tokens.
@@ -161,8 +173,7 @@ pub(crate) fn reply_to_units(
 ) -> Result<Reply, AllocError>
     ensures { IfOk result (λ reply. IsUnitsReply bytes.now name.now at reply.text.items reply.status) }
 {
-    let label = label_with(alloc, b"error 9: units of ", name)?;
-    reply_labelled(label, bytes, at, Status::Units)
+    reply_named(alloc, b"error 9: units of ", name, bytes, at, Status::Units)
 }
 
 /// The refusal of a function of this name that is less general than its unit parameters say.
@@ -174,8 +185,7 @@ pub(crate) fn reply_to_not_general(
 ) -> Result<Reply, AllocError>
     ensures { IfOk result (λ reply. IsNotGeneralReply bytes.now name.now at reply.text.items reply.status) }
 {
-    let label = label_with(alloc, b"error 19: not general in ", name)?;
-    reply_labelled(label, bytes, at, Status::NotGeneral)
+    reply_named(alloc, b"error 19: not general in ", name, bytes, at, Status::NotGeneral)
 }
 
 /// The refusal of a function of this name that forms a power past the range.
@@ -187,8 +197,7 @@ pub(crate) fn reply_to_range(
 ) -> Result<Reply, AllocError>
     ensures { IfOk result (λ reply. IsRangeReply bytes.now name.now at reply.text.items reply.status) }
 {
-    let label = label_with(alloc, b"error 10: power range of ", name)?;
-    reply_labelled(label, bytes, at, Status::PowerRange)
+    reply_named(alloc, b"error 10: power range of ", name, bytes, at, Status::PowerRange)
 }
 
 /// The refusal of a function, whose name stands at the place, that has too many slots.
@@ -204,14 +213,22 @@ pub(crate) fn reply_to_slots(alloc: Global, bytes: &[u8], at: u32) -> Result<Rep
     )
 }
 
-// A label that holds a name, up to the place.
-fn label_with(alloc: Global, before: &[u8], name: &Name) -> Result<Vec<u8>, AllocError>
-    ensures { IfOk result (λ label. label.items ≡ before.now ++ name.now ++ codes " at ") }
+// A reply of one line that holds a name and ends with a place.
+fn reply_named(
+    alloc: Global,
+    before: &[u8],
+    name: &Name,
+    bytes: &[u8],
+    at: u32,
+    status: Status,
+) -> Result<Reply, AllocError>
+    ensures { IfOk result (λ reply. IsReply reply.text.items reply.status
+        (placed (before.now ++ name.now ++ codes " at ") bytes.now at) status) }
 {
     let mut label = before.to_vec(alloc)?;
     label.extend_from_slice(name.as_slice())?;
     label.extend_from_slice(b" at ")?;
-    Ok(label)
+    reply_labelled(label, bytes, at, status)
 }
 
 // The label, a place and the end of the line.

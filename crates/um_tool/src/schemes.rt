@@ -15,7 +15,8 @@ pub(crate) fn schemes_text(
     schemes: &Schemes,
 ) -> Result<Vec<u8>, AllocError>
     requires count { length schemes.now.items.items ≡ length (program_tree program.now).functions }
-    ensures { IfOk result (λ text. text.items ≡ scheme_lines (program_tree program.now) (program_tree program.now).functions (scheme_trees schemes.now)) }
+    ensures { IfOk result (λ text. text.items
+        ≡ scheme_lines (program_tree program.now) (program_tree program.now).functions (scheme_trees schemes.now)) }
 {
     let mut text = Vec::new(alloc);
     let functions: &[Function] = &program.functions.items;

@@ -1,15 +1,16 @@
 // The top call.
-ghost use Rattle.std.specs.Prelude.{◌≡◌, ◌≢◌, IfOk};
+ghost use Rattle.std.specs.Prelude.{◌≡◌, ◌≢◌, IfOk, Some};
 ghost use Rattle.um_wire.specs.Faults.{Rose};
+ghost use Rattle.um_tool.specs.Orders.{order_of as order_named, intake_of, AsksFor};
 ghost use Rattle.um_tool.specs.Served.{IsPlanned, IsUndisturbed, Reads, Serves};
 
 use crate::answer::{Reply, answer_text, not_built};
-use crate::order::names_unbuilt;
+use crate::order::{Intake, names_unbuilt};
 use crate::reading::Reading;
-use crate::refusal::reply_line;
-use crate::{Status, Words, order_of};
+use crate::refusal::{reply_line, reply_to_unread};
+use crate::{Order, Status, Words, order_of};
 use std::alloc::{AllocError, Global};
-use um_wire::{Failed, ReadStop, Sink, Source, read_into, write_all};
+use um_wire::{Failed, Sink, Source, read_into, write_all};
 
 /// The longest text that is read, in bytes.
 const TEXT_LIMIT: usize = 1_048_576;
@@ -52,9 +53,11 @@ pub fn serve<S: Source, K: Sink>(
 fn reply_to<S: Source>(alloc: Global, words: &Words, source: &mut S) -> Result<Reply, AllocError>
     ensures planned { IfOk result (λ reply. IsPlanned words.now (S.left source.old)
         (S.faults source.old) (S.faults source.new) reply.text.items reply.status) }
-    ensures read_fault { IfOk result (λ reply. reply.status ≡ Status.ReadFault → Rose (S.faults source.old) (S.faults source.new)) }
+    ensures read_fault { IfOk result (λ reply. reply.status ≡ Status.ReadFault
+        → Rose (S.faults source.old) (S.faults source.new)) }
     ensures not_write_fault { IfOk result (λ reply. reply.status ≢ Status.WriteFault) }
-    ensures complete { IfOk result (λ reply. IsUndisturbed words.now (S.left source.old) (S.faults source.old) (S.faults source.new)
+    ensures complete { IfOk result (λ reply. IsUndisturbed words.now (S.left source.old) (S.faults source.old)
+        (S.faults source.new)
         → reply.status ≡ Status.Done) }
     ensures unread { (Reads words.now → ⊥) → source.new ≡ source.old }
 {
@@ -63,16 +66,43 @@ fn reply_to<S: Source>(alloc: Global, words: &Words, source: &mut S) -> Result<R
     }
     match order_of(words) {
         None => reply_line(alloc, "error 1: usage", Status::Usage),
-        Some(order) => {
-            let mut reading = Reading::new(alloc);
-            match read_into(source, TEXT_LIMIT, &mut reading) {
-                Ok(()) => answer_text(alloc, order, words, reading.into_text()?),
-                Err(ReadStop::TooLong) => {
-                    reply_line(alloc, "error 2: text too long", Status::TooLong)
-                }
-                Err(ReadStop::Failed) => reply_line(alloc, "error 15: read", Status::ReadFault),
-                Err(ReadStop::NoMemory) => Err(AllocError),
-            }
-        }
+        Some(order) => reply_to_order(alloc, order, words, source),
+    }
+}
+
+/// What the run is about to write where the words name this order.
+fn reply_to_order<S: Source>(
+    alloc: Global,
+    order: Order,
+    words: &Words,
+    source: &mut S,
+) -> Result<Reply, AllocError>
+    requires asks { AsksFor words.now order (intake_of order) }
+    ensures planned { IfOk result (λ reply. IsPlanned words.now (S.left source.old)
+        (S.faults source.old) (S.faults source.new) reply.text.items reply.status) }
+    ensures unread { (Reads words.now → ⊥) → source.new ≡ source.old }
+{
+    match order.intake() {
+        Intake::Text => reply_to_source(alloc, order, words, source),
+        // No such order is built yet.
+        Intake::Nothing | Intake::Bytes { .. } => not_built(alloc),
+    }
+}
+
+/// What the run is about to write where the order takes a text.
+fn reply_to_source<S: Source>(
+    alloc: Global,
+    order: Order,
+    words: &Words,
+    source: &mut S,
+) -> Result<Reply, AllocError>
+    requires asks { AsksFor words.now order Intake.Text }
+    ensures { IfOk result (λ reply. IsPlanned words.now (S.left source.old)
+        (S.faults source.old) (S.faults source.new) reply.text.items reply.status) }
+{
+    let mut reading = Reading::new(alloc);
+    match read_into(source, TEXT_LIMIT, &mut reading) {
+        Ok(()) => answer_text(alloc, order, words, reading.into_text()?),
+        Err(stop) => reply_to_unread(alloc, stop),
     }
 }

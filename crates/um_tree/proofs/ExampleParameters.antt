@@ -1,8 +1,8 @@
 -- Typings of functions with unit parameters: a parameter is no other unit in the body, and every unit to a caller.
-use Rattle.std.proofs.Common.{◌≡◌, refl, sym, ap, subst, ◌∙◌, inl, inr, ℕ, zero, suc, ◌<◌, ◌≤◌, ◌+◌, ◌⊎◌, false, List, [], ◌∷◌, None, slice_get, codes, arith}
+use Rattle.std.proofs.Common.{◌≡◌, refl, sym, ap, ◌∙◌, inl, inr, ℕ, zero, suc, ◌<◌, ◌≤◌, ◌+◌, ◌⊎◌, false, List, [], ◌∷◌, None, slice_get, codes, arith}
 use Rattle.um_units.specs.declared.Atom.{Atom}
 use Rattle.um_units.specs.declared.Atom.TheVariants.{Base, Var}
-use Rattle.um_units.specs.PowerMap.{PowerMap, product, one, atom, extension}
+use Rattle.um_units.specs.PowerMap.{PowerMap, product, atom, extension}
 use Rattle.um_units.proofs.Replacement.{replace-variable, extension-mul, extension-atom}
 use Rattle.um_tree.specs.declared.note.UnitNote.TheVariants.{Hole, Written}
 use Rattle.um_tree.specs.declared.expression.Arith.TheVariants.{Add}

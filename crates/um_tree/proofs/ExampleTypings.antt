@@ -12,7 +12,7 @@ use Rattle.um_tree.specs.ProgramTree.{FunctionTree, ProgramTree, Signature, Sche
 use Rattle.um_tree.specs.Typing.{put_signature, UnitsMatch, TypesMatch, IsLooseTypingOf, TypingAt, typings_below, Typing}
 use Rattle.um_tree.specs.Laws.{LiteralsAreClosed}
 use Rattle.um_tree.proofs.TypingsMoved.{typing_of_loose, loose_of_typing}
-use Rattle.um_units.proofs.Variables.{IsClosed-one, IsClosed-base, IsClosed-mul, IsClosed-inv}
+use Rattle.um_units.proofs.Variables.{IsClosed-one}
 use Rattle.um_tree.specs.Scheme.{IsInstance, IsPrincipal, IsNumberedScheme}
 use Rattle.um_tree.proofs.Numbered.{numbered_below}
 use Rattle.um_tree.proofs.ExamplePrograms.{one_number, plain, with_functions, metre, second, kilogram, newton, marked, area_of_metres, area, identity, zeros, squares, sum, weights, make, pick}

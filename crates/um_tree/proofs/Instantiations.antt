@@ -1,18 +1,14 @@
 -- Changes of units one after another, and how a change of a function's units goes through its unit parameters.
-use Rattle.std.proofs.Common.{◌≡◌, ◌≢◌, refl, sym, ap, ◌∙◌, inl, inr, ℕ, ◌+◌, ◌-◌, ◌<◌, ◌≤◌, ◌⊎◌, Bool, true, false, cond, nat_lt, nat_le, ◌&&◌, if◌then◌else◌, List, [], ◌∷◌, map, pos, arith}
+use Rattle.std.proofs.Common.{◌≡◌, ◌≢◌, refl, sym, ap, ◌∙◌, inl, inr, ℕ, ◌+◌, ◌-◌, ◌<◌, ◌≤◌, ◌⊎◌, Bool, true, false, nat_lt, nat_le, ◌&&◌, if◌then◌else◌, List, [], ◌∷◌, map, pos, arith}
 use Rattle.std.proofs.lemmas.Bool.Decides.{nat_tests}
 use Rattle.um_units.specs.declared.Atom.{Atom}
 use Rattle.um_units.specs.declared.Atom.TheVariants.{Base, Var}
-use Rattle.um_units.specs.PowerMap.{PowerMap, power_of, atom, mul, extension}
-use Rattle.um_units.specs.Variables.{IsClosed}
+use Rattle.um_units.specs.PowerMap.{PowerMap, power_of, atom, extension}
 use Rattle.um_units.proofs.Equality.{same_unit}
-use Rattle.um_units.proofs.Weights.{weigh_alike}
 use Rattle.um_units.proofs.Replacement.{weight_held, extension-mul, extension-atom}
 use Rattle.um_tree.specs.TypeTree.{TypeTree, bool_type, num_type, list_type, record_type}
 use Rattle.um_tree.specs.ProgramTree.{Signature}
 use Rattle.um_tree.specs.Typing.{moved, moved_signature, IsHomomorphism, IsInstantiation}
-use Rattle.um_tree.specs.Formed.{BasesBelow}
-use Rattle.um_tree.specs.Laws.{Leaves, Fixes}
 use Rattle.um_tree.proofs.Homomorphisms.{power_of-h}
 
 -- ---- one change after another

@@ -1,5 +1,5 @@
 -- A typing stays one where each unit is changed by a homomorphism that leaves what is written.
-use Rattle.std.proofs.Common.{◌≡◌, refl, ap, subst, ◌∙◌, ℕ, zero, suc, ◌≤◌, List, [], ◌∷◌, ◌++◌, map, get_or, Option, Some, None, slice_get, inl, inr, cond, nat_eq, true, false, arith}
+use Rattle.std.proofs.Common.{◌≡◌, refl, ap, subst, ◌∙◌, ℕ, zero, suc, List, [], ◌∷◌, ◌++◌, map, get_or, Option, Some, None, slice_get, inl, inr, arith}
 use Rattle.std.specs.Prelude.{All}
 use Rattle.std.proofs.lemmas.List.{map-append, length-map}
 use Rattle.um_units.specs.PowerMap.{PowerMap, one, mul, inv, replace}
@@ -11,7 +11,7 @@ use Rattle.um_tree.specs.declared.expression.Arith.{Arith}
 use Rattle.um_tree.specs.declared.expression.Arith.TheVariants.{Add, Sub, Mul, Div}
 use Rattle.um_tree.specs.TypeTree.{TypeTree, bool_type, num_type, list_type, record_type, NoteTree, bool_note, num_note, list_note, record_note}
 use Rattle.um_tree.specs.ExprTree.{ExprTree, ExprTrees, truth, number, local, call, negate, not_expr, pown, arith as arith_tree, compare, both, either, if, bind, split, nil, list_expr, cons, record_expr, field, none, more}
-use Rattle.um_tree.specs.ProgramTree.{RecordTree, FunctionTree, ProgramTree, Signature}
+use Rattle.um_tree.specs.ProgramTree.{RecordTree, FunctionTree, Signature}
 use Rattle.um_tree.specs.Typing.{put, unit_at, UnitMatches, UnitsMatch, Matches, TypesMatch, ResultMatches, ArithUnit, LiteralUnit, EachIs, field_types, moved, moved_signature, IsHomomorphism, IsRecordAt, Typed, AllTyped, Earlier, Calls, IsLooseTypingOf}
 use Rattle.um_tree.specs.Laws.{UnitNoteHas, NoteHas, TypeHas, ExprHas, ExprsHave, ResultHas, FunctionHas, Leaves, Fixes}
 use Rattle.um_tree.proofs.Homomorphisms.{h-one, h-inv, h-pow, h-replace}

@@ -5,7 +5,7 @@ use Rattle.um_units.specs.PowerMap.{PowerMap}
 use Rattle.um_tree.specs.TypeTree.{TypeTree, bool_type, num_type, list_type, record_type, NoteTree, bool_note, num_note, list_note, record_note, ShapeTree, list_shape}
 use Rattle.um_tree.specs.ExprTree.{ExprTree, ExprTrees, truth, number, local, call, negate, not_expr, pown, arith as arith_tree, compare, both, either, if, bind, split, nil, list_expr, cons, record_expr, field, none, more}
 use Rattle.um_tree.specs.ProgramTree.{RecordTree, FunctionTree, ProgramTree, Signature}
-use Rattle.um_tree.specs.Typing.{put, unit_at, Matches, TypesMatch, ResultMatches, EachIs, field_types, Typed, AllTyped, moved, moved_signature, Earlier, Calls, IsLooseTypingOf, IsTypingOf, TypingAt, typings_below}
+use Rattle.um_tree.specs.Typing.{put, unit_at, Matches, TypesMatch, ResultMatches, EachIs, field_types, Typed, AllTyped, moved, moved_signature, Earlier, Calls, IsLooseTypingOf, TypingAt, typings_below}
 use Rattle.um_tree.specs.Shapes.{type_shape, note_shape, ShapeSignature, EachShapeIs, HasShape, AllHaveShapes, EarlierShapes, CallShapes, ResultShape, IsShapeOf, ShapeAt, shapes_below}
 use Rattle.um_tree.specs.Laws.{signature_shape, TypedHasShape, TypedExpressionHasShape}
 use Rattle.um_tree.proofs.Moved.{slice_get_moved}

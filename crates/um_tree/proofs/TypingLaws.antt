@@ -1,11 +1,11 @@
 -- What is typed and at which units.
 use Rattle.std.proofs.Common.{◌≡◌, refl, sym, ap, subst, ◌∙◌, ℕ, List, [], ◌∷◌, map, length}
 use Rattle.um_units.specs.PowerMap.{PowerMap, one, replace}
-use Rattle.um_units.proofs.Replacement.{replace-mul, replace-base, replace-closed}
+use Rattle.um_units.proofs.Replacement.{replace-closed}
 use Rattle.um_tree.specs.TypeTree.{TypeTree, bool_type, num_type, list_type, record_type}
-use Rattle.um_tree.specs.ProgramTree.{FunctionTree, ProgramTree, Signature}
-use Rattle.um_tree.specs.Typing.{put, put_signature, moved, moved_signature, IsLooseTypingOf, IsTypingOf, TypingAt, typings_below, Typing}
-use Rattle.um_tree.specs.Laws.{LiteralsAreClosed, TypedIn, TypingsWithoutParameters, ClosedUnitsAreFixed, ReplacementsKeepTypings, HomomorphismsKeepTypings, SumHasOneUnit, DifferenceHasOneUnit, ComparisonHasOneUnit, ZeroHasEveryUnit, NumberHasItsUnit}
+use Rattle.um_tree.specs.ProgramTree.{Signature}
+use Rattle.um_tree.specs.Typing.{put, put_signature, moved, moved_signature, IsTypingOf, TypingAt, typings_below, Typing}
+use Rattle.um_tree.specs.Laws.{TypedIn, TypingsWithoutParameters, ClosedUnitsAreFixed, ReplacementsKeepTypings, HomomorphismsKeepTypings, SumHasOneUnit, DifferenceHasOneUnit, ComparisonHasOneUnit, ZeroHasEveryUnit, NumberHasItsUnit}
 use Rattle.um_tree.proofs.Homomorphisms.{h-replace}
 use Rattle.um_tree.proofs.TypingsMoved.{typing_moved, typing_put, loose_of_typing, typing_of_loose}
 

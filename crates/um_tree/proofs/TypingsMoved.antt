@@ -7,9 +7,9 @@ use Rattle.um_units.specs.PowerMap.{PowerMap, atom, power_of, extension, replace
 use Rattle.um_units.specs.Variables.{IsClosed}
 use Rattle.um_units.proofs.Replacement.{replace-mul, replace-base, replace-closed, replace-same, extension-mul}
 use Rattle.um_tree.specs.ProgramTree.{RecordTree, FunctionTree, ProgramTree, Signature}
-use Rattle.um_tree.specs.Typing.{field_types, moved_signature, IsHomomorphism, Earlier, parameter_unit, IsLooseTypingOf, IsRigidTypingOf, IsInstantiation, IsTypingOf, TypingAt, typings_below, Typing}
+use Rattle.um_tree.specs.Typing.{moved_signature, IsHomomorphism, Earlier, IsLooseTypingOf, IsInstantiation, IsTypingOf, TypingAt, typings_below, Typing}
 use Rattle.um_tree.specs.Formed.{BasesBelow}
-use Rattle.um_tree.specs.Laws.{TypeHas, FunctionHas, ProgramHas, Leaves, Fixes, LiteralsAreClosed, WritesDeclaredUnits}
+use Rattle.um_tree.specs.Laws.{ProgramHas, Leaves, Fixes, LiteralsAreClosed, WritesDeclaredUnits}
 use Rattle.um_tree.proofs.Homomorphisms.{h-replace}
 use Rattle.um_tree.proofs.Instantiations.{signature_alike, signature_twice, signature_left, alike_where_held, after-mul, named, named-declared, rigid_change, rigid_change-mul, rigid_change-declared, rigid_change-parameter, instantiation, instantiation-is, same_change}
 use Rattle.um_tree.proofs.Moved.{typing_of}

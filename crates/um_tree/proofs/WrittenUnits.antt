@@ -13,7 +13,7 @@ use Rattle.um_tree.specs.ExprTree.{ExprTree, ExprTrees, truth, number, local, ca
 use Rattle.um_tree.specs.ProgramTree.{RecordTree, FunctionTree, ProgramTree}
 use Rattle.um_tree.specs.Typing.{field_types}
 use Rattle.um_tree.specs.Formed.{BasesBelow, IsNoteIn, IsTypeIn, IsNoteTreeIn, IsLiteral, IsFormedIn, AllFormedIn, ResultFormed}
-use Rattle.um_tree.specs.Laws.{UnitNoteHas, NoteHas, ResultHas, TypeHas, ExprHas, ExprsHave, FunctionHas, ProgramHas, LiteralsAreClosed, LiteralsAreClosedUpTo, FormedLiteralsAreClosed, FormedUnitsAreDeclared}
+use Rattle.um_tree.specs.Laws.{UnitNoteHas, NoteHas, ResultHas, TypeHas, ExprHas, ExprsHave, FunctionHas, ProgramHas, LiteralsAreClosed, FormedLiteralsAreClosed, FormedUnitsAreDeclared}
 
 -- ---- what each unit has, notes and fields have
 module _ (Has : PowerMap → Type 0) (has : (u : PowerMap) → Has u) where

@@ -20,6 +20,7 @@ use Rattle.um_tree.specs.ExprTree.{none, more}
 use Rattle.um_tree.specs.ValueTree.{InputTree, InputTrees, truth_input, number_input, list_input, record_input}
 use Rattle.um_tree.specs.ValueTree.{no_inputs, more_inputs}
 use Rattle.um_tree.specs.ProgramTree.{RecordTree, FunctionTree, ProgramTree}
+use Rattle.um_tree.specs.Heights.{greatest_height}
 use Rattle.um_tree.specs.TreeHeights.{type_tree_height, note_tree_height, tree_height, tree_nodes}
 
 -- ---- names
@@ -136,7 +137,7 @@ module _ (p : ProgramTree) (i : ℕ) (f : FunctionTree) where
     IsFormedIn n (bind at a b) = IsFormedIn n a × IsFormedIn (n + 1) b
     IsFormedIn n (split at l a b) = IsFormedIn n l × IsFormedIn n a × IsFormedIn (n + 2) b
     IsFormedIn n (nil at note) =
-        IsNoteTreeIn (length p.bases) f.named p.records note × (note_tree_height note ≤ 400)
+        IsNoteTreeIn (length p.bases) f.named p.records note × (note_tree_height note ≤ greatest_height)
     IsFormedIn n (list_expr at es) = (0 < count es) × AllFormedIn n es
     IsFormedIn n (cons at a b) = IsFormedIn n a × IsFormedIn n b
     IsFormedIn n (record_expr at r es) = HasFields p r (count es) × AllFormedIn n es
@@ -158,7 +159,7 @@ NamesEarlier r (record_type q us) = q < r
 -- the type of a field of record r, which takes so many units: the field names earlier records alone
 abbrev pub IsFieldType : ProgramTree → ℕ → ℕ → TypeTree → Type 0
 IsFieldType p r units t =
-    IsTypeIn (length p.bases) units p.records t × NamesEarlier r t × (type_tree_height t ≤ 400)
+    IsTypeIn (length p.bases) units p.records t × NamesEarlier r t × (type_tree_height t ≤ greatest_height)
 
 -- record r of the program
 pub record IsFormedRecord (p : ProgramTree) (r : ℕ) (d : RecordTree) : Type 0 where
@@ -169,7 +170,7 @@ pub record IsFormedRecord (p : ProgramTree) (r : ℕ) (d : RecordTree) : Type 0 
 
 -- a note of the function
 abbrev pub IsFormedNote : ProgramTree → FunctionTree → NoteTree → Type 0
-IsFormedNote p f n = IsNoteTreeIn (length p.bases) f.named p.records n × (note_tree_height n ≤ 400)
+IsFormedNote p f n = IsNoteTreeIn (length p.bases) f.named p.records n × (note_tree_height n ≤ greatest_height)
 
 abbrev pub ResultFormed : ProgramTree → FunctionTree → Option NoteTree → Type 0
 ResultFormed p f None = Unit {0}
@@ -184,7 +185,7 @@ pub record IsFormedFunction (p : ProgramTree) (i : ℕ) (f : FunctionTree) : Typ
   pub result : ResultFormed p f f.result
   pub noted : IsTrue f.recursive → IsSome f.result
   pub body : IsFormedIn p i f (length f.params) f.body
-  pub height : tree_height f.body ≤ 400
+  pub height : tree_height f.body ≤ greatest_height
   pub nodes : tree_nodes f.body ≤ 20000
 
 abbrev pub field_names : List RecordTree → List (List ℕ)

@@ -11,6 +11,10 @@ use Rattle.um_tree.specs.RawTree.{compare_syntax, and_syntax, or_syntax, if_synt
 use Rattle.um_tree.specs.RawTree.{nil_syntax, list_syntax, cons_syntax, fields_syntax, field_syntax}
 use Rattle.um_tree.specs.RawTree.{bracket_expr_syntax, no_exprs, more_exprs, no_fields, more_fields}
 
+-- the greatest height of a unit text, a type text, an expression, a type and a shape
+abbrev pub greatest_height : ℕ
+greatest_height = 400
+
 -- the height of a unit text
 abbrev mutual
   pub unit_height : UnitSyntax → ℕ

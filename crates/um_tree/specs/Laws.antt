@@ -1,9 +1,10 @@
 -- What the definitions come to: how typings, literals, budgets and shapes behave. The definitions do not rest on this.
 -- Source: Kennedy 1996: typings are closed under replacements of units for variables; Kennedy 1997: a homomorphism of
 -- units moves them, and only 0 has every unit. The laws of budgets and shapes are this project's own.
-use Rattle.std.specs.Prelude.{◌≡◌, ◌≢◌, ◌↔◌, ◌<◌, ◌≤◌, ◌+◌, ℕ, All, List, length, map, pos, slice_get, Option, Some, None}
+use Rattle.std.specs.Prelude.{◌≡◌, ◌≢◌, ◌↔◌, ◌<◌, ◌≤◌, ◌+◌, ℕ, All, List, length, map, pos, slice_get, Option, Some}
+use Rattle.std.specs.Prelude.{None}
 use Rattle.um_units.specs.declared.Atom.TheVariants.{Base}
-use Rattle.um_units.specs.PowerMap.{PowerMap, mul, atom, power_of}
+use Rattle.um_units.specs.PowerMap.{PowerMap, atom, power_of}
 use Rattle.um_units.specs.Variables.{IsClosed}
 use Rattle.um_frac.specs.declared.number.Frac.{Frac}
 use Rattle.um_frac.specs.declared.number.Trap.{Trap}
@@ -15,12 +16,14 @@ use Rattle.um_tree.specs.declared.expression.Arith.TheVariants.{Add, Sub}
 use Rattle.um_tree.specs.declared.expression.Sign.{Sign}
 use Rattle.um_tree.specs.TypeTree.{TypeTree, bool_type, num_type, list_type, record_type, NoteTree, bool_note}
 use Rattle.um_tree.specs.TypeTree.{num_note, list_note, record_note}
-use Rattle.um_tree.specs.ExprTree.{ExprTree, ExprTrees, truth, number, local, call, negate, not_expr, pown, arith, compare}
+use Rattle.um_tree.specs.ExprTree.{ExprTree, ExprTrees, truth, number, local, call, negate, not_expr, pown, arith}
+use Rattle.um_tree.specs.ExprTree.{compare}
 use Rattle.um_tree.specs.ExprTree.{both, either, if, bind, split, nil, list_expr, cons, record_expr, field, none}
 use Rattle.um_tree.specs.ExprTree.{more}
 use Rattle.um_tree.specs.ValueTree.{ValueTree}
 use Rattle.um_tree.specs.ProgramTree.{FunctionTree, ProgramTree, Signature, SchemeTree}
-use Rattle.um_tree.specs.Typing.{put_signature, moved_signature, IsHomomorphism, field_types, Typed, Calls, IsLooseTypingOf}
+use Rattle.um_tree.specs.Typing.{put_signature, moved_signature, IsHomomorphism, field_types, Typed, Calls}
+use Rattle.um_tree.specs.Typing.{IsLooseTypingOf}
 use Rattle.um_tree.specs.Typing.{typings_below, Typing}
 use Rattle.um_tree.specs.Meaning.{gives, stops, trap, Means, Outcome}
 use Rattle.um_tree.specs.Shapes.{type_shape, ShapeSignature, HasShape, CallShapes, shapes_below, FunctionShape}

@@ -2,7 +2,8 @@
 -- Source: the declarative typing rules of Kennedy 1996, with ML's rule for recursion (a recursive use has one type,
 -- an earlier function is used at any instance); the notation of measures is that of the F# specification.
 -- There are no equations, slots, substitutions or schemes here, and no order in which anything is found.
-use Rattle.std.specs.Prelude.{◌≡◌, ℕ, zero, suc, ◌+◌, ◌<◌, ◌≤◌, ◌⊎◌, IsTrue, IsSome, cond, nat_eq, List, [], ◌∷◌, ◌++◌, map}
+use Rattle.std.specs.Prelude.{◌≡◌, ℕ, zero, suc, ◌+◌, ◌<◌, ◌≤◌, ◌⊎◌, IsTrue, IsSome, cond, nat_eq, List, [], ◌∷◌, ◌++◌}
+use Rattle.std.specs.Prelude.{map}
 use Rattle.std.specs.Prelude.{length, get_or, slice_get, pos, Option, Some, None}
 use Rattle.um_units.specs.declared.Atom.TheVariants.{Base}
 use Rattle.um_units.specs.PowerMap.{PowerMap, one, atom, mul, inv, pow, replace}

@@ -27,6 +27,6 @@ pub use raw::{
     RawFunction, RawNode, RawNote, RawNotes, RawParam, RawParams, RawProgram, RawType, RawTypes,
     RawUnit, RawUnits, RawVar, RawVars,
 };
-pub use size::{height, nodes};
+pub use size::{GREATEST_HEIGHT, height, nodes};
 pub use types::{Shape, Ty, Types};
 pub use value::{Input, Inputs, Outcome, Value, Values, copy_value, value_of};

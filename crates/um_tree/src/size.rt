@@ -1,19 +1,22 @@
 // The height and the number of nodes of an expression as it is written.
 ghost use Rattle.std.specs.Prelude.{◌≡◌, ◌≤◌, ◌<◌, ◌^◌, map};
 ghost use Rattle.um_tree.specs.RawTree.{expr_syntax, exprs_in_order, field_part, fields_in_order};
-ghost use Rattle.um_tree.specs.Heights.{expr_height, tallest_expr, tallest_field};
+ghost use Rattle.um_tree.specs.Heights.{greatest_height, expr_height, tallest_expr, tallest_field};
 ghost use Rattle.um_tree.specs.Heights.{expr_nodes, all_expr_nodes, all_field_nodes};
 
 use crate::{RawExpr, RawField, RawNode};
 
+/// The greatest height of a unit text, a type text, an expression, a type and a shape.
+pub const GREATEST_HEIGHT: u32 = 400;
+
 /// The height of an expression: 1 where it has no parts, else one more than its highest part.
 ///
 /// Brackets count one; `([] : T)` has the height 3; units and types in it are not counted. The expression is no higher
-/// than 400.
+/// than [`GREATEST_HEIGHT`].
 /// The rule is this project's own.
 #[cycle(height)]
 pub fn height(e: &RawExpr) -> u32
-    requires low { expr_height (expr_syntax e.now) ≤ 400 }
+    requires low { expr_height (expr_syntax e.now) ≤ greatest_height }
     ensures { result ≡ expr_height (expr_syntax e.now) }
 {
     match &e.node {
@@ -39,7 +42,7 @@ pub fn height(e: &RawExpr) -> u32
 
 #[cycle(height)]
 fn tallest(items: &[RawExpr]) -> u32
-    requires low { tallest_expr (exprs_in_order (map expr_syntax items.now)) ≤ 400 }
+    requires low { tallest_expr (exprs_in_order (map expr_syntax items.now)) ≤ greatest_height }
     ensures { result ≡ tallest_expr (exprs_in_order (map expr_syntax items.now)) }
 {
     let mut top: u32 = 0;
@@ -51,7 +54,7 @@ fn tallest(items: &[RawExpr]) -> u32
 
 #[cycle(height)]
 fn tallest_part(fields: &[RawField]) -> u32
-    requires low { tallest_field (fields_in_order (map field_part fields.now)) ≤ 400 }
+    requires low { tallest_field (fields_in_order (map field_part fields.now)) ≤ greatest_height }
     ensures { result ≡ tallest_field (fields_in_order (map field_part fields.now)) }
 {
     let mut top: u32 = 0;
@@ -63,7 +66,7 @@ fn tallest_part(fields: &[RawField]) -> u32
 
 #[cycle(height)]
 fn part_height(field: &RawField) -> u32
-    requires low { expr_height (field_part field.now).part ≤ 400 }
+    requires low { expr_height (field_part field.now).part ≤ greatest_height }
     ensures { result ≡ expr_height (field_part field.now).part }
 {
     height(&field.value)

@@ -1,4 +1,4 @@
-use Rattle.std.proofs.Common.{subst, ◌≤◌, length, arith}
+use Rattle.std.proofs.Common.{subst, arith}
 use Rattle.um_tree.specs.RawTree.{program_syntax}
 use Rattle.um_parse.specs.Parsed.{IsRead}
 use Rattle.um_readable.proofs.TextBytes.{readable_program}

@@ -1,4 +1,4 @@
-use Rattle.std.proofs.Common.{◌≡◌, ◌<◌, ◌≤◌, ◌+◌, ◌++◌, [], ◌∷◌, codes, refl, sym, ap, ◌∙◌, append_assoc, rules, map, length, take, get_or, arith}
+use Rattle.std.proofs.Common.{◌≡◌, ◌<◌, ◌≤◌, ◌+◌, ◌++◌, [], ◌∷◌, codes, sym, ap, ◌∙◌, append_assoc, rules, map, length, take, get_or, arith}
 use Rattle.std.proofs.lemmas.List.{take_more, take_all, length-map, length-take-le, map-append}
 use Rattle.um_tree.specs.declared.program.Function.{Function}
 use Rattle.um_tree.specs.ProgramTree.{program_tree, function_tree, scheme_tree}

@@ -1,1 +1,0 @@
-use Rattle.um_elim.proofs.solver.Solver.new.Goals as goal
