@@ -50,12 +50,7 @@ fn add_base(alloc: Global, tables: &mut Tables, name: &Name) -> Result<(), Alloc
     Ok(tables.bases.push(name)?)
 }
 
-fn add_short(
-    alloc: Global,
-    tables: &mut Tables,
-    name: &Name,
-    unit: Unit,
-) -> Result<(), AllocError>
+fn add_short(alloc: Global, tables: &mut Tables, name: &Name, unit: Unit) -> Result<(), AllocError>
     requires tables { AreTables tables.old }
     ensures tables { OnOk result (AreTables tables.new) }
     ensures known { OnOk result (known_of tables.new ≡ with_short (known_of tables.old) name.now unit) }
@@ -66,11 +61,7 @@ fn add_short(
     Ok(tables.shorts.push(Abbreviation { name, unit })?)
 }
 
-fn add_function(
-    alloc: Global,
-    tables: &mut Tables,
-    function: Function,
-) -> Result<(), AllocError>
+fn add_function(alloc: Global, tables: &mut Tables, function: Function) -> Result<(), AllocError>
     requires tables { AreTables tables.old }
     requires new { is_among (function_names (known_of tables.old).program.functions) function.name ≡ false }
     ensures tables { OnOk result (AreTables tables.new) }
