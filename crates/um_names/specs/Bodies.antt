@@ -1,13 +1,13 @@
 -- Mirrors the code: expressions in the body of a function, by what the code knows there.
 -- Source: this project's own.
-use Rattle.std.specs.Prelude.{List}
+use Rattle.std.specs.Prelude.{List, [], ◌∷◌, ◌++◌, Ok}
 use Rattle.um_tree.specs.ExprTree.{ExprTree, ExprTrees}
-use Rattle.um_tree.specs.RawTree.{ExprSyntax, ExprSyntaxes, FieldSyntaxes}
+use Rattle.um_tree.specs.RawTree.{BinderSyntax, ExprSyntax, ExprSyntaxes, FieldSyntaxes}
 use Rattle.um_names.specs.declared.known.Tables.{Tables}
 use Rattle.um_names.specs.declared.callable.Callable.{Callable}
 use Rattle.um_names.specs.declared.expr.Body.{Body}
-use Rattle.um_measures.specs.Faults.{Found}
-use Rattle.um_measures.specs.Scopes.{Scope}
+use Rattle.um_measures.specs.Faults.{Found, and_then, unless_taken}
+use Rattle.um_measures.specs.Scopes.{Scope, same_binding}
 use Rattle.um_names.specs.ExprNames.{resolved_expr, resolved_exprs, resolved_parts}
 use Rattle.um_names.specs.Tables.{known_of, callables_in}
 
@@ -22,3 +22,13 @@ resolved_all_in t b scope es = resolved_exprs (known_of t) b.variables (callable
 
 abbrev pub resolved_parts_in : Tables → Body → Scope → FieldSyntaxes → Found ExprTrees
 resolved_parts_in t b scope fs = resolved_parts (known_of t) b.variables (callables_of t b) scope fs
+
+-- one expression and then another
+abbrev pub found_both : Found ExprTree → Found ExprTree → Found (ExprTree × ExprTree)
+found_both first second = and_then first (λ e. and_then second (λ f. Ok (e, f)))
+
+-- the arm of a list with a head, whose two variables have two names
+abbrev pub resolved_arm : Tables → Body → Scope → BinderSyntax → BinderSyntax → ExprSyntax → Found ExprTree
+resolved_arm t b scope x y e =
+    and_then (unless_taken (same_binding x.name y.name) y.at) (λ _.
+    resolved_in t b (scope ++ x.name ∷ y.name ∷ []) e)

@@ -1,14 +1,15 @@
 //! What a declaration adds to the tables.
 
-ghost use Rattle.std.specs.Prelude.{◌≡◌, false, IfOk};
+ghost use Rattle.std.specs.Prelude.{◌≡◌, ℕ, false, List, [], ◌∷◌, ◌++◌, IfOk, OnOk};
 ghost use Rattle.um_tree.specs.ProgramTree.{function_tree};
-ghost use Rattle.um_measures.specs.Known.{is_taken, is_among, function_names};
+ghost use Rattle.um_measures.specs.Known.{is_taken, is_among, short_unit, function_names};
 ghost use Rattle.um_names.specs.Resolution.{with_base, with_short, with_function};
 ghost use Rattle.um_names.specs.Tables.{AreTables, known_of};
 
 use crate::known::Tables;
 use std::alloc::{AllocError, Global};
-use um_measures::Abbreviation;
+use std::mem;
+use um_measures::{Abbreviation, Measures};
 use um_tree::{Function, Name};
 use um_units::{Atom, Unit};
 
@@ -18,6 +19,63 @@ pub fn copied(alloc: Global, name: &Name) -> Result<Name, AllocError>
     Ok(Name::from_vec(Vec::from_slice(alloc, name.as_slice())?))
 }
 
+// One more measure, behind those before.
+fn add_measure(
+    alloc: Global,
+    measures: &mut Measures,
+    name: &Name,
+    unit: Unit,
+) -> Result<(), AllocError>
+    ensures { OnOk result ((x : List ℕ)
+        → short_unit measures.new x ≡ short_unit (measures.old ++ record { name = name.now; unit = unit } ∷ []) x) }
+{
+    let before = mem::replace(measures, Measures::new(alloc));
+    let more = before.with(alloc, name.as_slice(), unit)?;
+    drop(mem::replace(measures, more));
+    Ok(())
+}
+
+fn add_base(alloc: Global, tables: &mut Tables, name: &Name) -> Result<(), AllocError>
+    requires tables { AreTables tables.old }
+    requires new { is_taken (known_of tables.old) name.now ≡ false }
+    ensures tables { OnOk result (AreTables tables.new) }
+    ensures known { OnOk result (known_of tables.new ≡ with_base (known_of tables.old) name.now) }
+{
+    if tables.bases.len() >= u32::MAX as usize {
+        return Err(AllocError);
+    }
+    let unit = Unit::atom(alloc, Atom::Base(tables.bases.len() as u32))?;
+    add_measure(alloc, &mut tables.measures, name, unit)?;
+    let name = copied(alloc, name)?;
+    Ok(tables.bases.push(name)?)
+}
+
+fn add_short(alloc: Global, tables: &mut Tables, name: &Name, unit: Unit) -> Result<(), AllocError>
+    requires tables { AreTables tables.old }
+    ensures tables { OnOk result (AreTables tables.new) }
+    ensures known { OnOk result (known_of tables.new ≡ with_short (known_of tables.old) name.now unit) }
+{
+    let measure = unit.copy(alloc)?;
+    add_measure(alloc, &mut tables.measures, name, measure)?;
+    let name = copied(alloc, name)?;
+    Ok(tables.shorts.push(Abbreviation { name, unit })?)
+}
+
+fn add_function(alloc: Global, tables: &mut Tables, function: Function) -> Result<(), AllocError>
+    requires tables { AreTables tables.old }
+    requires new { is_among (function_names (known_of tables.old).program.functions) function.name ≡ false }
+    ensures tables { OnOk result (AreTables tables.new) }
+    ensures known { OnOk result (known_of tables.new ≡ with_function (known_of tables.old) (function_tree function)) }
+{
+    match tables.function_names.add(alloc, function.name.as_slice()) {
+        Ok(()) => Ok(tables.functions.push(function)?),
+        Err(error) => {
+            drop(function);
+            Err(error)
+        }
+    }
+}
+
 /// With one more base unit, whose name is new.
 pub fn with_base(alloc: Global, tables: Tables, name: &Name) -> Result<Tables, AllocError>
     requires tables { AreTables tables }
@@ -25,23 +83,14 @@ pub fn with_base(alloc: Global, tables: Tables, name: &Name) -> Result<Tables, A
     ensures tables { IfOk result AreTables }
     ensures known { IfOk result (λ t. known_of t ≡ with_base (known_of tables) name.now) }
 {
-    if tables.bases.len() >= u32::MAX as usize {
-        return Err(AllocError);
+    let mut tables = tables;
+    match add_base(alloc, &mut tables, name) {
+        Ok(()) => Ok(tables),
+        Err(error) => {
+            drop(tables);
+            Err(error)
+        }
     }
-    let unit = Unit::atom(alloc, Atom::Base(tables.bases.len() as u32))?;
-    let mut bases = tables.bases;
-    bases.push(copied(alloc, name)?)?;
-    Ok(Tables {
-        measures: tables.measures.with(alloc, name.as_slice(), unit)?,
-        bases,
-        shorts: tables.shorts,
-        record_names: tables.record_names,
-        records: tables.records,
-        fields: tables.fields,
-        field_numbers: tables.field_numbers,
-        function_names: tables.function_names,
-        functions: tables.functions,
-    })
 }
 
 /// With one more abbreviation.
@@ -55,23 +104,14 @@ pub fn with_short(
     ensures tables { IfOk result AreTables }
     ensures known { IfOk result (λ t. known_of t ≡ with_short (known_of tables) name.now unit) }
 {
-    let measure = unit.copy(alloc)?;
-    let mut shorts = tables.shorts;
-    shorts.push(Abbreviation {
-        name: copied(alloc, name)?,
-        unit,
-    })?;
-    Ok(Tables {
-        measures: tables.measures.with(alloc, name.as_slice(), measure)?,
-        bases: tables.bases,
-        shorts,
-        record_names: tables.record_names,
-        records: tables.records,
-        fields: tables.fields,
-        field_numbers: tables.field_numbers,
-        function_names: tables.function_names,
-        functions: tables.functions,
-    })
+    let mut tables = tables;
+    match add_short(alloc, &mut tables, name, unit) {
+        Ok(()) => Ok(tables),
+        Err(error) => {
+            drop(tables);
+            Err(error)
+        }
+    }
 }
 
 /// With one more function, whose name is new.
@@ -85,19 +125,12 @@ pub fn with_function(
     ensures tables { IfOk result AreTables }
     ensures known { IfOk result (λ t. known_of t ≡ with_function (known_of tables) (function_tree function)) }
 {
-    let mut function_names = tables.function_names;
-    function_names.add(alloc, function.name.as_slice())?;
-    let mut functions = tables.functions;
-    functions.push(function)?;
-    Ok(Tables {
-        measures: tables.measures,
-        bases: tables.bases,
-        shorts: tables.shorts,
-        record_names: tables.record_names,
-        records: tables.records,
-        fields: tables.fields,
-        field_numbers: tables.field_numbers,
-        function_names,
-        functions,
-    })
+    let mut tables = tables;
+    match add_function(alloc, &mut tables, function) {
+        Ok(()) => Ok(tables),
+        Err(error) => {
+            drop(tables);
+            Err(error)
+        }
+    }
 }

@@ -108,6 +108,7 @@ fn declare_base(alloc: Global, tables: Tables, at: u32, name: &Name) -> Result<T
     ensures faults { IfErr result (IsFirst (resolved_decl (known_of tables) (base_syntax at name.now))) }
 {
     if is_taken(&tables, name.as_slice()) {
+        drop(tables);
         return Err(NameStop::Twice { at });
     }
     Ok(with_base(alloc, tables, name)?)
@@ -127,10 +128,16 @@ fn declare_short(
     ensures faults { IfErr result (IsFirst (resolved_decl (known_of tables) (short_syntax at name.now (unit_syntax unit.now)))) }
 {
     if is_taken(&tables, name.as_slice()) {
+        drop(tables);
         return Err(NameStop::Twice { at });
     }
-    let unit = tables.unit(alloc, &NameTable::new(alloc), unit)?;
-    Ok(with_short(alloc, tables, name, unit)?)
+    match tables.unit(alloc, &NameTable::new(alloc), unit) {
+        Ok(unit) => Ok(with_short(alloc, tables, name, unit)?),
+        Err(stop) => {
+            drop(tables);
+            Err(stop)
+        }
+    }
 }
 
 /// The tables behind a declaration.

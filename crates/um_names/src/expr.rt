@@ -8,7 +8,7 @@ ghost use Rattle.um_tree.specs.RawTree.{if_syntax, let_syntax, match_syntax, fie
 ghost use Rattle.um_measures.specs.Scopes.{same_binding, local_of};
 ghost use Rattle.um_names.specs.ExprNames.{resolved_literal, resolved_nil, resolved_fields, known_fields, found_field, field_of, length_of, named, called};
 ghost use Rattle.um_measures.specs.Faults.{unless_taken};
-ghost use Rattle.um_names.specs.Bodies.{resolved_in, resolved_all_in, resolved_parts_in, callables_of};
+ghost use Rattle.um_names.specs.Bodies.{resolved_in, resolved_all_in, resolved_parts_in, resolved_arm, found_both, callables_of};
 ghost use Rattle.um_measures.specs.Stops.{IsFirst};
 ghost use Rattle.um_names.specs.Tables.{AreTables, known_of};
 
@@ -255,6 +255,36 @@ fn boxed(
     Ok(Box::new(alloc, e)?)
 }
 
+/// Two expressions in one scope, the first before the second.
+#[cycle(expr)]
+fn two(
+    alloc: Global,
+    tables: &Tables,
+    body: &Body,
+    scope: &mut Scope,
+    a: &RawExpr,
+    b: &RawExpr,
+) -> Result<(Box<Expr>, Box<Expr>), NameStop>
+    requires { AreTables tables.now }
+    ensures first { IfOk result (λ parts.
+        resolved_in tables.now body.now scope.old (expr_syntax a.now) ≡ Ok (expr_tree parts.0.value)) }
+    ensures second { IfOk result (λ parts.
+        resolved_in tables.now body.now scope.old (expr_syntax b.now) ≡ Ok (expr_tree parts.1.value)) }
+    ensures faults { IfErr result (IsFirst
+        (found_both (resolved_in tables.now body.now scope.old (expr_syntax a.now))
+        (resolved_in tables.now body.now scope.old (expr_syntax b.now)))) }
+    ensures scope { OnOk result (scope.new ≡ scope.old) }
+{
+    let first = boxed(alloc, tables, body, scope, a)?;
+    match boxed(alloc, tables, body, scope, b) {
+        Ok(second) => Ok((first, second)),
+        Err(stop) => {
+            drop(first);
+            Err(stop)
+        }
+    }
+}
+
 /// A call: the function and the count come before the arguments.
 #[cycle(expr)]
 fn call_expr(
@@ -297,10 +327,7 @@ fn arith_expr(
         (arith_syntax at op (expr_syntax a.now) (expr_syntax b.now)))) }
     ensures scope { OnOk result (scope.new ≡ scope.old) }
 {
-    let left = expr(alloc, tables, body, scope, a)?;
-    let right = expr(alloc, tables, body, scope, b)?;
-    let left = Box::new(alloc, left)?;
-    let right = Box::new(alloc, right)?;
+    let (left, right) = two(alloc, tables, body, scope, a, b)?;
     located(at, Node::Arith(op, left, right))
 }
 
@@ -323,10 +350,7 @@ fn compare_expr(
         (compare_syntax at sign (expr_syntax a.now) (expr_syntax b.now)))) }
     ensures scope { OnOk result (scope.new ≡ scope.old) }
 {
-    let left = expr(alloc, tables, body, scope, a)?;
-    let right = expr(alloc, tables, body, scope, b)?;
-    let left = Box::new(alloc, left)?;
-    let right = Box::new(alloc, right)?;
+    let (left, right) = two(alloc, tables, body, scope, a, b)?;
     located(at, Node::Compare(sign, left, right))
 }
 
@@ -347,10 +371,7 @@ fn and_expr(
         (and_syntax at (expr_syntax a.now) (expr_syntax b.now)))) }
     ensures scope { OnOk result (scope.new ≡ scope.old) }
 {
-    let left = expr(alloc, tables, body, scope, a)?;
-    let right = expr(alloc, tables, body, scope, b)?;
-    let left = Box::new(alloc, left)?;
-    let right = Box::new(alloc, right)?;
+    let (left, right) = two(alloc, tables, body, scope, a, b)?;
     located(at, Node::And(left, right))
 }
 
@@ -371,10 +392,7 @@ fn or_expr(
         (or_syntax at (expr_syntax a.now) (expr_syntax b.now)))) }
     ensures scope { OnOk result (scope.new ≡ scope.old) }
 {
-    let left = expr(alloc, tables, body, scope, a)?;
-    let right = expr(alloc, tables, body, scope, b)?;
-    let left = Box::new(alloc, left)?;
-    let right = Box::new(alloc, right)?;
+    let (left, right) = two(alloc, tables, body, scope, a, b)?;
     located(at, Node::Or(left, right))
 }
 
@@ -396,10 +414,7 @@ fn cons_expr(
         (cons_syntax at (expr_syntax a.now) (expr_syntax b.now)))) }
     ensures scope { OnOk result (scope.new ≡ scope.old) }
 {
-    let head = expr(alloc, tables, body, scope, a)?;
-    let tail = expr(alloc, tables, body, scope, b)?;
-    let head = Box::new(alloc, head)?;
-    let tail = Box::new(alloc, tail)?;
+    let (head, tail) = two(alloc, tables, body, scope, a, b)?;
     located(at, Node::Cons(head, tail))
 }
 
@@ -422,13 +437,38 @@ fn if_expr(
         (if_syntax at (expr_syntax c.now) (expr_syntax a.now) (expr_syntax b.now)))) }
     ensures scope { OnOk result (scope.new ≡ scope.old) }
 {
-    let condition = expr(alloc, tables, body, scope, c)?;
-    let yes = expr(alloc, tables, body, scope, a)?;
-    let no = expr(alloc, tables, body, scope, b)?;
-    let condition = Box::new(alloc, condition)?;
-    let yes = Box::new(alloc, yes)?;
-    let no = Box::new(alloc, no)?;
-    located(at, Node::If(condition, yes, no))
+    let condition = boxed(alloc, tables, body, scope, c)?;
+    match two(alloc, tables, body, scope, a, b) {
+        Ok((yes, no)) => located(at, Node::If(condition, yes, no)),
+        Err(stop) => {
+            drop(condition);
+            Err(stop)
+        }
+    }
+}
+
+/// What follows a `let`, with one more variable in scope.
+#[cycle(expr)]
+fn rest_expr(
+    alloc: Global,
+    tables: &Tables,
+    body: &Body,
+    scope: &mut Scope,
+    x: &Binder,
+    b: &RawExpr,
+) -> Result<Box<Expr>, NameStop>
+    requires { AreTables tables.now }
+    ensures exact { IfOk result (λ r. resolved_in tables.now body.now
+        (scope.old ++ (binder_syntax x.now).name ∷ []) (expr_syntax b.now) ≡ Ok (expr_tree r.value)) }
+    ensures faults { IfErr result (IsFirst (resolved_in tables.now body.now
+        (scope.old ++ (binder_syntax x.now).name ∷ []) (expr_syntax b.now))) }
+    ensures scope { OnOk result (scope.new ≡ scope.old) }
+{
+    let count = scope.count();
+    scope.push(alloc, x)?;
+    let rest = boxed(alloc, tables, body, scope, b)?;
+    scope.cut(count);
+    Ok(rest)
 }
 
 /// The second part has one more variable.
@@ -450,14 +490,41 @@ fn let_expr(
         (let_syntax at (binder_syntax x.now) (expr_syntax a.now) (expr_syntax b.now)))) }
     ensures scope { OnOk result (scope.new ≡ scope.old) }
 {
-    let value = expr(alloc, tables, body, scope, a)?;
+    let value = boxed(alloc, tables, body, scope, a)?;
+    match rest_expr(alloc, tables, body, scope, x, b) {
+        Ok(rest) => located(at, Node::Let(value, rest)),
+        Err(stop) => {
+            drop(value);
+            Err(stop)
+        }
+    }
+}
+
+/// The arm of a list with a head: its two variables have two names, and are in scope.
+#[cycle(expr)]
+fn full_arm(
+    alloc: Global,
+    tables: &Tables,
+    body: &Body,
+    scope: &mut Scope,
+    x: &Binder,
+    y: &Binder,
+    b: &RawExpr,
+) -> Result<Box<Expr>, NameStop>
+    requires { AreTables tables.now }
+    ensures exact { IfOk result (λ r. resolved_arm tables.now body.now scope.old
+        (binder_syntax x.now) (binder_syntax y.now) (expr_syntax b.now) ≡ Ok (expr_tree r.value)) }
+    ensures faults { IfErr result (IsFirst (resolved_arm tables.now body.now scope.old
+        (binder_syntax x.now) (binder_syntax y.now) (expr_syntax b.now))) }
+    ensures scope { OnOk result (scope.new ≡ scope.old) }
+{
+    distinct(x, y)?;
     let count = scope.count();
     scope.push(alloc, x)?;
-    let rest = expr(alloc, tables, body, scope, b)?;
+    scope.push(alloc, y)?;
+    let full = boxed(alloc, tables, body, scope, b)?;
     scope.cut(count);
-    let value = Box::new(alloc, value)?;
-    let rest = Box::new(alloc, rest)?;
-    located(at, Node::Let(value, rest))
+    Ok(full)
 }
 
 /// The last part has two more variables, head and tail.
@@ -481,18 +548,15 @@ fn match_expr(
         (match_syntax at (expr_syntax l.now) (expr_syntax a.now) (binder_syntax x.now) (binder_syntax y.now) (expr_syntax b.now)))) }
     ensures scope { OnOk result (scope.new ≡ scope.old) }
 {
-    let list = expr(alloc, tables, body, scope, l)?;
-    let empty = expr(alloc, tables, body, scope, a)?;
-    distinct(x, y)?;
-    let count = scope.count();
-    scope.push(alloc, x)?;
-    scope.push(alloc, y)?;
-    let full = expr(alloc, tables, body, scope, b)?;
-    scope.cut(count);
-    let list = Box::new(alloc, list)?;
-    let empty = Box::new(alloc, empty)?;
-    let full = Box::new(alloc, full)?;
-    located(at, Node::Match(list, empty, full))
+    let (list, empty) = two(alloc, tables, body, scope, l, a)?;
+    match full_arm(alloc, tables, body, scope, x, y, b) {
+        Ok(full) => located(at, Node::Match(list, empty, full)),
+        Err(stop) => {
+            drop(list);
+            drop(empty);
+            Err(stop)
+        }
+    }
 }
 
 #[cycle(expr)]

@@ -1,10 +1,11 @@
 //! What a type text beside a program may name.
 
-ghost use Rattle.std.specs.Prelude.{◌≡◌, [], IfOk, map};
+ghost use Rattle.std.specs.Prelude.{◌≡◌, false, [], IfOk, map};
 ghost use Rattle.um_tree.specs.Formed.{AreDistinct, IsFormed};
 ghost use Rattle.um_tree.specs.ProgramTree.{record_tree, program_tree};
 ghost use Rattle.um_names.specs.Heads.{head_of, only_bases, with_shorts, with_heads, heads};
-ghost use Rattle.um_measures.specs.Known.{record_names};
+ghost use Rattle.um_measures.specs.Known.{is_among, record_names};
+ghost use Rattle.um_names.specs.Resolution.{with_short, with_record};
 ghost use Rattle.um_names.specs.Tables.{AreTables, known_of};
 
 use crate::adding::{copied, with_base, with_short};
@@ -27,6 +28,21 @@ fn base_tables(alloc: Global, names: &[Name]) -> Result<Tables, AllocError>
     Ok(tables)
 }
 
+/// With a copy of this abbreviation.
+fn with_copy(alloc: Global, tables: Tables, short: &Abbreviation) -> Result<Tables, AllocError>
+    requires tables { AreTables tables }
+    ensures tables { IfOk result AreTables }
+    ensures known { IfOk result (λ t. known_of t ≡ with_short (known_of tables) short.now.name short.now.unit) }
+{
+    match short.unit.copy(alloc) {
+        Ok(unit) => with_short(alloc, tables, &short.name, unit),
+        Err(error) => {
+            drop(tables);
+            Err(error)
+        }
+    }
+}
+
 /// With these abbreviations.
 fn with_shorts(alloc: Global, tables: Tables, shorts: &[Abbreviation]) -> Result<Tables, AllocError>
     requires tables { AreTables tables }
@@ -35,8 +51,7 @@ fn with_shorts(alloc: Global, tables: Tables, shorts: &[Abbreviation]) -> Result
 {
     let mut all = tables;
     for i in 0..shorts.len() {
-        let unit = shorts[i].unit.copy(alloc)?;
-        all = with_short(alloc, all, &shorts[i].name, unit)?;
+        all = with_copy(alloc, all, &shorts[i])?;
     }
     Ok(all)
 }
@@ -55,6 +70,22 @@ fn head(alloc: Global, whole: &Record) -> Result<Record, AllocError>
     })
 }
 
+/// With the head of this record, whose name is new.
+fn with_head(alloc: Global, tables: Tables, whole: &Record) -> Result<Tables, AllocError>
+    requires tables { AreTables tables }
+    requires new { is_among (record_names (known_of tables).program.records) whole.now.name ≡ false }
+    ensures tables { IfOk result AreTables }
+    ensures known { IfOk result (λ t. known_of t ≡ with_record (known_of tables) (head_of (record_tree whole.now))) }
+{
+    match head(alloc, whole) {
+        Ok(record) => with_record(alloc, tables, record),
+        Err(error) => {
+            drop(tables);
+            Err(error)
+        }
+    }
+}
+
 /// With the heads of these records.
 fn with_heads(alloc: Global, tables: Tables, records: &[Record]) -> Result<Tables, AllocError>
     requires tables { AreTables tables }
@@ -65,8 +96,7 @@ fn with_heads(alloc: Global, tables: Tables, records: &[Record]) -> Result<Table
 {
     let mut all = tables;
     for i in 0..records.len() {
-        let record = head(alloc, &records[i])?;
-        all = with_record(alloc, all, record)?;
+        all = with_head(alloc, all, &records[i])?;
     }
     Ok(all)
 }

@@ -18,44 +18,65 @@ invariant-field_values-loop-i l = record {
   scope : l.scope ≡ l.fn.scope;
 }
 
+-- Twice the size of what is read, and how many calls a function is away from one with a smaller part.
+
+abbrev pub decreases-expr : goal.decreases-expr
+decreases-expr l = the_size l.e.now + the_size l.e.now
+
 abbrev pub decreases-boxed : goal.decreases-boxed
-decreases-boxed l = the_size l.e.now + 1
+decreases-boxed l = the_size l.e.now + the_size l.e.now + 1
+
+abbrev pub decreases-two : goal.decreases-two
+decreases-two l = max (the_size l.a.now) (the_size l.b.now) + max (the_size l.a.now) (the_size l.b.now) + 2
+
+abbrev pub decreases-rest_expr : goal.decreases-rest_expr
+decreases-rest_expr l = the_size l.b.now + the_size l.b.now + 2
+
+abbrev pub decreases-full_arm : goal.decreases-full_arm
+decreases-full_arm l = the_size l.b.now + the_size l.b.now + 2
 
 abbrev pub decreases-field_expr : goal.decreases-field_expr
-decreases-field_expr l = the_size l.a.now + 1
+decreases-field_expr l = the_size l.a.now + the_size l.a.now + 1
 
 abbrev pub decreases-arith_expr : goal.decreases-arith_expr
-decreases-arith_expr l = max (the_size l.a.now) (the_size l.b.now) + 1
+decreases-arith_expr l = max (the_size l.a.now) (the_size l.b.now) + max (the_size l.a.now) (the_size l.b.now) + 3
 
 abbrev pub decreases-compare_expr : goal.decreases-compare_expr
-decreases-compare_expr l = max (the_size l.a.now) (the_size l.b.now) + 1
+decreases-compare_expr l = max (the_size l.a.now) (the_size l.b.now) + max (the_size l.a.now) (the_size l.b.now) + 3
 
 abbrev pub decreases-and_expr : goal.decreases-and_expr
-decreases-and_expr l = max (the_size l.a.now) (the_size l.b.now) + 1
+decreases-and_expr l = max (the_size l.a.now) (the_size l.b.now) + max (the_size l.a.now) (the_size l.b.now) + 3
 
 abbrev pub decreases-or_expr : goal.decreases-or_expr
-decreases-or_expr l = max (the_size l.a.now) (the_size l.b.now) + 1
+decreases-or_expr l = max (the_size l.a.now) (the_size l.b.now) + max (the_size l.a.now) (the_size l.b.now) + 3
 
 abbrev pub decreases-cons_expr : goal.decreases-cons_expr
-decreases-cons_expr l = max (the_size l.a.now) (the_size l.b.now) + 1
-
-abbrev pub decreases-if_expr : goal.decreases-if_expr
-decreases-if_expr l = max (the_size l.c.now) (max (the_size l.a.now) (the_size l.b.now)) + 1
+decreases-cons_expr l = max (the_size l.a.now) (the_size l.b.now) + max (the_size l.a.now) (the_size l.b.now) + 3
 
 abbrev pub decreases-let_expr : goal.decreases-let_expr
-decreases-let_expr l = max (the_size l.a.now) (the_size l.b.now) + 1
+decreases-let_expr l = max (the_size l.a.now) (the_size l.b.now) + max (the_size l.a.now) (the_size l.b.now) + 3
+
+abbrev pub decreases-if_expr : goal.decreases-if_expr
+decreases-if_expr l =
+    let size = max (the_size l.c.now) (max (the_size l.a.now) (the_size l.b.now)) in
+    size + size + 3
 
 abbrev pub decreases-match_expr : goal.decreases-match_expr
-decreases-match_expr l = max (the_size l.l.now) (max (the_size l.a.now) (the_size l.b.now)) + 1
+decreases-match_expr l =
+    let size = max (the_size l.l.now) (max (the_size l.a.now) (the_size l.b.now)) in
+    size + size + 3
 
 abbrev pub decreases-exprs : goal.decreases-exprs
-decreases-exprs l = goal.size-exprs l + 1
+decreases-exprs l = goal.size-exprs l + goal.size-exprs l + 1
 
 abbrev pub decreases-call_expr : goal.decreases-call_expr
-decreases-call_expr l = goal.size-call_expr l + 2
+decreases-call_expr l = goal.size-call_expr l + goal.size-call_expr l + 2
 
 abbrev pub decreases-field_values : goal.decreases-field_values
-decreases-field_values l = goal.size-field_values l + 1
+decreases-field_values l = goal.size-field_values l + goal.size-field_values l + 1
 
 abbrev pub decreases-record_expr : goal.decreases-record_expr
-decreases-record_expr l = goal.size-record_expr l + 2
+decreases-record_expr l = goal.size-record_expr l + goal.size-record_expr l + 2
+
+abbrev pub decreases-field_value : goal.decreases-field_value
+decreases-field_value l = goal.size-field_value l + goal.size-field_value l
