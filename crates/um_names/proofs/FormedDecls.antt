@@ -8,11 +8,12 @@ use Rattle.um_tree.specs.TreeHeights.{type_tree_height}
 use Rattle.um_tree.specs.ProgramTree.{FieldTree, RecordTree, FunctionTree}
 use Rattle.um_tree.specs.Formed.{IsNameBytes, AreNames, IsUnitIn, IsTypeIn, NamesEarlier, IsFormedRecord, IsFormedFunction}
 use Rattle.um_tree.specs.RawTree.{VarSyntax, FieldDeclSyntax}
+use Rattle.um_tree.specs.Heights.{greatest_height}
 use Rattle.um_measures.specs.Faults.{and_then, unless_taken}
 use Rattle.um_measures.specs.Known.{Known, nothing, is_among, is_taken, short_names, record_names, function_names, names_of_fields, field_names}
 use Rattle.um_names.specs.TypeNames.{resolved_type, written_type}
 use Rattle.um_names.specs.Resolution.{resolved_parameters, resolved_field_decls, resolved_record_decl, with_base, with_short, with_record}
-use Rattle.um_names.specs.Readable.{greatest_height, AreReadFieldDecls, IsReadRecord}
+use Rattle.um_names.specs.Readable.{AreReadFieldDecls, IsReadRecord}
 use Rattle.um_names.proofs.FormedUnits.{AreClosedIn, closed_none, closed_more, closed_last}
 use Rattle.um_names.proofs.FormedTypes.{then_found, type_in, type_written, height_written, earlier_written}
 use Rattle.um_names.proofs.FormedNames.{AreFresh, neither, absent_append, fresh_inserted, names-append, names-one, names-none}

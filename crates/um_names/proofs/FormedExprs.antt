@@ -10,7 +10,7 @@ use Rattle.um_units.proofs.Variables.{IsClosed-one, IsClosed-below_zero}
 use Rattle.um_tree.specs.declared.note.UnitNote.TheVariants as note
 use Rattle.um_tree.specs.TypeTree.{NoteTree}
 use Rattle.um_tree.specs.TreeHeights.{note_tree_height, tree_height, tallest_tree, tree_nodes, all_tree_nodes}
-use Rattle.um_tree.specs.Heights.{type_height, expr_height, tallest_expr, tallest_field, expr_nodes, all_expr_nodes, all_field_nodes}
+use Rattle.um_tree.specs.Heights.{greatest_height, type_height, expr_height, tallest_expr, tallest_field, expr_nodes, all_expr_nodes, all_field_nodes}
 use Rattle.um_tree.specs.ExprTree.{ExprTree, ExprTrees, truth, number, local, call, negate, not_expr, pown, arith as arith_tree, compare, both, either, if, bind, split, nil, list_expr, cons, record_expr, field, none, more}
 use Rattle.um_tree.specs.ProgramTree.{RecordTree, FunctionTree, ProgramTree}
 use Rattle.um_tree.specs.Formed.{IsNoteTreeIn, count, MayCall, HasFields, IsFormedIn, AllFormedIn}
@@ -23,7 +23,7 @@ use Rattle.um_measures.specs.UnitNames.{resolved_unit}
 use Rattle.um_names.specs.TypeNames.{resolved_type}
 use Rattle.um_measures.specs.Scopes.{Scope, local_of, same_binding}
 use Rattle.um_names.specs.ExprNames.{callable_of, named, called, same_names, field_or, field_of, if_same_names, with_all_fields, record_of, length_of, field_text_names, known_fields, found_record, resolved_fields, found_field, is_zero, resolved_literal, resolved_expr, resolved_exprs, resolved_parts}
-use Rattle.um_names.specs.Readable.{greatest_height, IsReadExpr, AreReadExprs, AreReadFields}
+use Rattle.um_names.specs.Readable.{IsReadExpr, AreReadExprs, AreReadFields}
 use Rattle.um_measures.proofs.NameLists.{number_of-below}
 use Rattle.um_measures.proofs.Scopes.{local_below}
 use Rattle.um_names.proofs.FormedUnits.{AreClosedIn, measure_in, resolved_unit_in, in_one}

@@ -5,7 +5,7 @@ use Rattle.std.proofs.lemmas.List.{map-append, length-map}
 use Rattle.std.proofs.lemmas.List.Elements.{All-nil, All-cons}
 use Rattle.um_tree.specs.TypeTree.{NoteTree}
 use Rattle.um_tree.specs.TreeHeights.{note_tree_height}
-use Rattle.um_tree.specs.Heights.{type_height}
+use Rattle.um_tree.specs.Heights.{greatest_height, type_height}
 use Rattle.um_tree.specs.ExprTree.{ExprTree}
 use Rattle.um_tree.specs.ProgramTree.{FunctionTree}
 use Rattle.um_tree.specs.Formed.{AreNames, IsNoteTreeIn, MayCall, ResultFormed, IsFormedIn, IsFormedFunction}
@@ -18,7 +18,7 @@ use Rattle.um_measures.specs.Variables.{occurring, named_variables}
 use Rattle.um_measures.specs.Scopes.{Scope}
 use Rattle.um_names.specs.ExprNames.{callable_of, numbered_function, with_arguments, resolved_expr}
 use Rattle.um_names.specs.Resolution.{resolved_parameters, unless_repeated, resolved_params, resolved_result, callable, callables, scope_of, resolved_function, with_function}
-use Rattle.um_names.specs.Readable.{greatest_height, AreReadParams, IsReadResult, IsReadFunction}
+use Rattle.um_names.specs.Readable.{AreReadParams, IsReadResult, IsReadFunction}
 use Rattle.um_names.proofs.CallableNames.{slice_get-prefix, slice_get-last}
 use Rattle.um_names.proofs.FormedTypes.{then_found, type_in, slice_get-below, same_count}
 use Rattle.um_names.proofs.FormedExprs.{expr_in}

@@ -2,7 +2,7 @@
 -- Source: this project's own limits; names by Unicode Standard Annex 31.
 use Rattle.std.specs.Prelude.{ℕ, ◌<◌, ◌≤◌, ◌+◌, IsTrue, IsSome, List, [], ◌∷◌, length, Option, Some, None}
 use Rattle.um_tree.specs.Formed.{IsNameBytes}
-use Rattle.um_tree.specs.Heights.{type_height, expr_height, expr_nodes}
+use Rattle.um_tree.specs.Heights.{greatest_height, type_height, expr_height, expr_nodes}
 use Rattle.um_tree.specs.RawTree.{TypeSyntax, ExprSyntax, ExprSyntaxes, FieldSyntaxes, truth_syntax, number_syntax}
 use Rattle.um_tree.specs.RawTree.{name_syntax, call_syntax, negate_syntax, not_syntax, pown_syntax, arith_syntax}
 use Rattle.um_tree.specs.RawTree.{compare_syntax, and_syntax, or_syntax, if_syntax, let_syntax, match_syntax}
@@ -11,10 +11,6 @@ use Rattle.um_tree.specs.RawTree.{bracket_expr_syntax, no_exprs, more_exprs, no_
 use Rattle.um_tree.specs.RawTree.{FieldDeclSyntax, ParamSyntax, FunctionSyntax, DeclSyntax, base_syntax}
 use Rattle.um_tree.specs.RawTree.{short_syntax, record_decl_syntax, function_syntax}
 use Rattle.um_names.specs.ExprNames.{length_of}
-
--- no type text and no expression that is read is taller
-abbrev pub greatest_height : ℕ
-greatest_height = 400
 
 -- a list text has an item, and a type text is low
 abbrev mutual

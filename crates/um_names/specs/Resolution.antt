@@ -30,7 +30,8 @@ resolved_parameters before (v ∷ vs) =
 abbrev pub resolved_field_decls : Known → List (List ℕ) → List FieldTree → List FieldDeclSyntax → Found (List FieldTree)
 resolved_field_decls known variables before [] = Ok before
 resolved_field_decls known variables before (f ∷ fs) =
-    and_then (unless_taken (is_among (field_names known.program.records) f.name || is_among (map (λ g. g.name) before) f.name)
+    and_then (unless_taken (is_among (field_names known.program.records) f.name
+    || is_among (map (λ g. g.name) before) f.name)
     f.at) (λ _.
     and_then (resolved_type known variables false f.type) (λ n.
     resolved_field_decls known variables (before ++ record { name = f.name; type = written_type n } ∷ []) fs))

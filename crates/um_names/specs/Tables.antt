@@ -1,4 +1,4 @@
--- Mirrors the code: what its tables hold: the declarations so far, and for each space of names those that are taken in it.
+-- Mirrors the code: what its tables hold: the declarations so far, and the names that are taken in each space of names.
 -- Source: this project's own.
 use Rattle.std.specs.Prelude.{◌≡◌, ℕ, List, [], ◌∷◌, ◌++◌, map, length, cond, ◌==◌, Ok, Err, slice_get, Option, Some}
 use Rattle.std.specs.Prelude.{None}

@@ -41,8 +41,10 @@ fn record_decl(
     fields: &[RawFieldDecl],
 ) -> Result<Record, NameStop>
     requires { AreTables tables.now }
-    ensures exact { IfOk result (λ d. resolved_record_decl (known_of tables.now) at name.now (map var_syntax vars.now) (map field_decl_syntax fields.now) ≡ Ok (record_tree d)) }
-    ensures faults { IfErr result (IsFirst (resolved_record_decl (known_of tables.now) at name.now (map var_syntax vars.now) (map field_decl_syntax fields.now))) }
+    ensures exact { IfOk result (λ d. resolved_record_decl (known_of tables.now) at name.now (map var_syntax vars.now)
+        (map field_decl_syntax fields.now) ≡ Ok (record_tree d)) }
+    ensures faults { IfErr result (IsFirst (resolved_record_decl (known_of tables.now) at name.now
+        (map var_syntax vars.now) (map field_decl_syntax fields.now))) }
 {
     if is_taken(tables, name.as_slice()) {
         return Err(NameStop::Twice { at });
@@ -73,7 +75,8 @@ fn itself(alloc: Global, raw: &RawFunction) -> Result<Option<Callable>, AllocErr
 /// A function: its name, its unit parameters, its parameters, its result, its body.
 fn function(alloc: Global, tables: &Tables, raw: &RawFunction) -> Result<Function, NameStop>
     requires { AreTables tables.now }
-    ensures exact { IfOk result (λ f. resolved_function (known_of tables.now) (whole_function_syntax raw.now) ≡ Ok (function_tree f)) }
+    ensures exact { IfOk result (λ f. resolved_function (known_of tables.now) (whole_function_syntax raw.now)
+        ≡ Ok (function_tree f)) }
     ensures faults { IfErr result (IsFirst (resolved_function (known_of tables.now) (whole_function_syntax raw.now))) }
 {
     if tables.function_names.has(raw.name.as_slice()) {
@@ -124,8 +127,10 @@ fn declare_short(
 ) -> Result<Tables, NameStop>
     requires { AreTables tables }
     ensures tables { IfOk result AreTables }
-    ensures exact { IfOk result (λ t. resolved_decl (known_of tables) (short_syntax at name.now (unit_syntax unit.now)) ≡ Ok (known_of t)) }
-    ensures faults { IfErr result (IsFirst (resolved_decl (known_of tables) (short_syntax at name.now (unit_syntax unit.now)))) }
+    ensures exact { IfOk result (λ t. resolved_decl (known_of tables) (short_syntax at name.now (unit_syntax unit.now))
+        ≡ Ok (known_of t)) }
+    ensures faults { IfErr result (IsFirst (resolved_decl (known_of tables)
+        (short_syntax at name.now (unit_syntax unit.now)))) }
 {
     if is_taken(&tables, name.as_slice()) {
         drop(tables);

@@ -34,7 +34,8 @@ fn literal(
     note: &Option<RawNote>,
 ) -> Result<Expr, NameStop>
     requires { AreTables tables.now }
-    ensures exact { IfOk result (λ e. resolved_literal (known_of tables.now) at number (written_note note.now) ≡ Ok (expr_tree e)) }
+    ensures exact { IfOk result (λ e. resolved_literal (known_of tables.now) at number (written_note note.now)
+        ≡ Ok (expr_tree e)) }
     ensures faults { IfErr result (IsFirst (resolved_literal (known_of tables.now) at number (written_note note.now))) }
 {
     let unit = match note {
@@ -69,8 +70,10 @@ fn name_alone(
     name: &Name,
 ) -> Result<Expr, NameStop>
     requires { AreTables tables.now }
-    ensures exact { IfOk result (λ e. named (callables_of tables.now body.now) (local_of scope.now name.now) name.now at ≡ Ok (expr_tree e)) }
-    ensures faults { IfErr result (IsFirst (named (callables_of tables.now body.now) (local_of scope.now name.now) name.now at)) }
+    ensures exact { IfOk result (λ e. named (callables_of tables.now body.now) (local_of scope.now name.now) name.now at
+        ≡ Ok (expr_tree e)) }
+    ensures faults { IfErr result (IsFirst (named (callables_of tables.now body.now)
+        (local_of scope.now name.now) name.now at)) }
 {
     let node = match scope.local(name.as_slice()) {
         Some(k) => Node::Local(k),
@@ -93,8 +96,10 @@ fn called(
     arguments: usize,
 ) -> Result<u32, NameStop>
     requires { AreTables tables.now }
-    ensures exact { IfOk result (λ j. called (callables_of tables.now body.now) (local_of scope.now name.now) name.now arguments at ≡ Ok j) }
-    ensures faults { IfErr result (IsFirst (called (callables_of tables.now body.now) (local_of scope.now name.now) name.now arguments at)) }
+    ensures exact { IfOk result (λ j. called (callables_of tables.now body.now)
+        (local_of scope.now name.now) name.now arguments at ≡ Ok j) }
+    ensures faults { IfErr result (IsFirst (called (callables_of tables.now body.now)
+        (local_of scope.now name.now) name.now arguments at)) }
 {
     match scope.local(name.as_slice()) {
         Some(_) => Err(NameStop::WrongCount { at }),
@@ -105,8 +110,10 @@ fn called(
 /// The field that is accessed.
 fn accessed(tables: &Tables, name: &Name, place: u32) -> Result<FieldNumber, NameStop>
     requires { AreTables tables.now }
-    ensures exact { IfOk result (λ f. found_field (field_of (known_of tables.now).program.records name.now) place ≡ Ok f) }
-    ensures faults { IfErr result (IsFirst (found_field (field_of (known_of tables.now).program.records name.now) place)) }
+    ensures exact { IfOk result (λ f. found_field
+        (field_of (known_of tables.now).program.records name.now) place ≡ Ok f) }
+    ensures faults { IfErr result (IsFirst (found_field
+        (field_of (known_of tables.now).program.records name.now) place)) }
 {
     match tables.field(name.as_slice()) {
         Some(field) => Ok(field),
@@ -128,8 +135,10 @@ fn distinct(head: &Binder, tail: &Binder) -> Result<(), NameStop>
 /// The record of which these are, in order, all the fields.
 fn record_of(tables: &Tables, fields: &[RawField], at: u32) -> Result<u32, NameStop>
     requires { AreTables tables.now }
-    ensures exact { IfOk result (λ r. resolved_fields (known_of tables.now).program.records (fields_in_order (map field_part fields.now)) at ≡ Ok r) }
-    ensures faults { IfErr result (IsFirst (resolved_fields (known_of tables.now).program.records (fields_in_order (map field_part fields.now)) at)) }
+    ensures exact { IfOk result (λ r. resolved_fields (known_of tables.now).program.records
+        (fields_in_order (map field_part fields.now)) at ≡ Ok r) }
+    ensures faults { IfErr result (IsFirst (resolved_fields (known_of tables.now).program.records
+        (fields_in_order (map field_part fields.now)) at)) }
 {
     known_fields(tables, fields)?;
     let [first, ..] = fields else {
@@ -154,8 +163,10 @@ fn arity(items: &[RawExpr]) -> usize
 /// Each of these fields is one of some record.
 fn known_fields(tables: &Tables, fields: &[RawField]) -> Result<(), NameStop>
     requires { AreTables tables.now }
-    ensures exact { IfOk result (λ done. known_fields (known_of tables.now).program.records (fields_in_order (map field_part fields.now)) ≡ Ok done) }
-    ensures faults { IfErr result (IsFirst (known_fields (known_of tables.now).program.records (fields_in_order (map field_part fields.now)))) }
+    ensures exact { IfOk result (λ done. known_fields (known_of tables.now).program.records
+        (fields_in_order (map field_part fields.now)) ≡ Ok done) }
+    ensures faults { IfErr result (IsFirst (known_fields (known_of tables.now).program.records
+        (fields_in_order (map field_part fields.now)))) }
 {
     for field in fields {
         if tables.field(field.name.as_slice()).is_none() {
@@ -298,7 +309,8 @@ fn call_expr(
 ) -> Result<Expr, NameStop>
     requires { AreTables tables.now }
     ensures exact { IfOk result (λ r.
-        resolved_in tables.now body.now scope.old (call_syntax at name.now (exprs_in_order (map expr_syntax items.now))) ≡ Ok (expr_tree r)) }
+        resolved_in tables.now body.now scope.old (call_syntax at name.now (exprs_in_order (map expr_syntax items.now)))
+        ≡ Ok (expr_tree r)) }
     ensures faults { IfErr result (IsFirst
         (resolved_in tables.now body.now scope.old (call_syntax at name.now (exprs_in_order (map expr_syntax items.now))))) }
     ensures scope { OnOk result (scope.new ≡ scope.old) }
@@ -543,7 +555,8 @@ fn match_expr(
 ) -> Result<Expr, NameStop>
     requires { AreTables tables.now }
     ensures exact { IfOk result (λ r. resolved_in tables.now body.now scope.old
-        (match_syntax at (expr_syntax l.now) (expr_syntax a.now) (binder_syntax x.now) (binder_syntax y.now) (expr_syntax b.now)) ≡ Ok (expr_tree r)) }
+        (match_syntax at (expr_syntax l.now) (expr_syntax a.now) (binder_syntax x.now) (binder_syntax y.now)
+        (expr_syntax b.now)) ≡ Ok (expr_tree r)) }
     ensures faults { IfErr result (IsFirst (resolved_in tables.now body.now scope.old
         (match_syntax at (expr_syntax l.now) (expr_syntax a.now) (binder_syntax x.now) (binder_syntax y.now) (expr_syntax b.now)))) }
     ensures scope { OnOk result (scope.new ≡ scope.old) }
@@ -568,8 +581,10 @@ fn exprs(
     items: &[RawExpr],
 ) -> Result<Vec<Expr>, NameStop>
     requires { AreTables tables.now }
-    ensures exact { IfOk result (λ es. resolved_all_in tables.now body.now scope.old (exprs_in_order (map expr_syntax items.now)) ≡ Ok (in_order (map expr_tree es.items))) }
-    ensures faults { IfErr result (IsFirst (resolved_all_in tables.now body.now scope.old (exprs_in_order (map expr_syntax items.now)))) }
+    ensures exact { IfOk result (λ es. resolved_all_in tables.now body.now scope.old
+        (exprs_in_order (map expr_syntax items.now)) ≡ Ok (in_order (map expr_tree es.items))) }
+    ensures faults { IfErr result (IsFirst (resolved_all_in tables.now body.now scope.old
+        (exprs_in_order (map expr_syntax items.now)))) }
     ensures scope { OnOk result (scope.new ≡ scope.old) }
 {
     let mut es = Vec::new(alloc);
@@ -588,8 +603,10 @@ fn field_values(
     fields: &[RawField],
 ) -> Result<Vec<Expr>, NameStop>
     requires { AreTables tables.now }
-    ensures exact { IfOk result (λ es. resolved_parts_in tables.now body.now scope.old (fields_in_order (map field_part fields.now)) ≡ Ok (in_order (map expr_tree es.items))) }
-    ensures faults { IfErr result (IsFirst (resolved_parts_in tables.now body.now scope.old (fields_in_order (map field_part fields.now)))) }
+    ensures exact { IfOk result (λ es. resolved_parts_in tables.now body.now scope.old
+        (fields_in_order (map field_part fields.now)) ≡ Ok (in_order (map expr_tree es.items))) }
+    ensures faults { IfErr result (IsFirst (resolved_parts_in tables.now body.now scope.old
+        (fields_in_order (map field_part fields.now)))) }
     ensures scope { OnOk result (scope.new ≡ scope.old) }
 {
     let mut es = Vec::new(alloc);
@@ -608,7 +625,8 @@ fn field_value(
     field: &RawField,
 ) -> Result<Expr, NameStop>
     requires { AreTables tables.now }
-    ensures exact { IfOk result (λ r. resolved_in tables.now body.now scope.old (field_part field.now).part ≡ Ok (expr_tree r)) }
+    ensures exact { IfOk result (λ r. resolved_in tables.now body.now scope.old (field_part field.now).part
+        ≡ Ok (expr_tree r)) }
     ensures faults { IfErr result (IsFirst (resolved_in tables.now body.now scope.old (field_part field.now).part)) }
     ensures scope { OnOk result (scope.new ≡ scope.old) }
 {
@@ -626,7 +644,8 @@ fn record_expr(
 ) -> Result<Expr, NameStop>
     requires { AreTables tables.now }
     ensures exact { IfOk result (λ r.
-        resolved_in tables.now body.now scope.old (fields_syntax at (fields_in_order (map field_part fields.now))) ≡ Ok (expr_tree r)) }
+        resolved_in tables.now body.now scope.old (fields_syntax at (fields_in_order (map field_part fields.now)))
+        ≡ Ok (expr_tree r)) }
     ensures faults { IfErr result (IsFirst
         (resolved_in tables.now body.now scope.old (fields_syntax at (fields_in_order (map field_part fields.now))))) }
     ensures scope { OnOk result (scope.new ≡ scope.old) }
@@ -649,7 +668,8 @@ fn field_expr(
 ) -> Result<Expr, NameStop>
     requires { AreTables tables.now }
     ensures exact { IfOk result (λ r.
-        resolved_in tables.now body.now scope.old (field_syntax at place name.now (expr_syntax a.now)) ≡ Ok (expr_tree r)) }
+        resolved_in tables.now body.now scope.old (field_syntax at place name.now (expr_syntax a.now))
+        ≡ Ok (expr_tree r)) }
     ensures faults { IfErr result (IsFirst
         (resolved_in tables.now body.now scope.old (field_syntax at place name.now (expr_syntax a.now)))) }
     ensures scope { OnOk result (scope.new ≡ scope.old) }

@@ -25,8 +25,10 @@ fn field_decl(
     raw: &RawFieldDecl,
 ) -> Result<FieldDecl, NameStop>
     requires { AreTables tables.now }
-    ensures exact { IfOk result (λ f. resolved_field_decl (known_of tables.now) variables.now own.now (field_decl_syntax raw.now) ≡ Ok (field_tree f)) }
-    ensures faults { IfErr result (IsFirst (resolved_field_decl (known_of tables.now) variables.now own.now (field_decl_syntax raw.now))) }
+    ensures exact { IfOk result (λ f. resolved_field_decl (known_of tables.now) variables.now own.now
+        (field_decl_syntax raw.now) ≡ Ok (field_tree f)) }
+    ensures faults { IfErr result (IsFirst (resolved_field_decl (known_of tables.now) variables.now own.now
+        (field_decl_syntax raw.now))) }
 {
     if tables.field(raw.name.as_slice()).is_some() || own.has(raw.name.as_slice()) {
         return Err(NameStop::Twice { at: raw.at });
@@ -47,8 +49,10 @@ pub fn field_decls(
     raw: &[RawFieldDecl],
 ) -> Result<Vec<FieldDecl>, NameStop>
     requires { AreTables tables.now }
-    ensures exact { IfOk result (λ fs. resolved_field_decls (known_of tables.now) variables.now [] (map field_decl_syntax raw.now) ≡ Ok (map field_tree fs.items)) }
-    ensures faults { IfErr result (IsFirst (resolved_field_decls (known_of tables.now) variables.now [] (map field_decl_syntax raw.now))) }
+    ensures exact { IfOk result (λ fs. resolved_field_decls (known_of tables.now) variables.now []
+        (map field_decl_syntax raw.now) ≡ Ok (map field_tree fs.items)) }
+    ensures faults { IfErr result (IsFirst (resolved_field_decls (known_of tables.now) variables.now []
+        (map field_decl_syntax raw.now))) }
 {
     let mut own = NameTable::new(alloc);
     let mut fields = Vec::new(alloc);

@@ -61,8 +61,10 @@ impl Tables {
         raw: &RawUnit,
     ) -> Result<Unit, NameStop>
         requires { AreTables self.now }
-        ensures exact { IfOk result (λ unit. resolved_unit (measure_unit (known_of self.now)) variables.now (unit_syntax raw.now) ≡ Ok unit) }
-        ensures faults { IfErr result (IsFirst (resolved_unit (measure_unit (known_of self.now)) variables.now (unit_syntax raw.now))) }
+        ensures exact { IfOk result (λ unit. resolved_unit (measure_unit (known_of self.now)) variables.now
+            (unit_syntax raw.now) ≡ Ok unit) }
+        ensures faults { IfErr result (IsFirst (resolved_unit (measure_unit (known_of self.now)) variables.now
+            (unit_syntax raw.now))) }
     {
         resolved_unit(alloc, &self.measures, variables, raw)
     }
@@ -108,8 +110,10 @@ impl Tables {
         at: u32,
     ) -> Result<u32, NameStop>
         requires { AreTables self.now }
-        ensures exact { IfOk result (λ j. callable_of (callables_in (known_of self.now) own.now) name.now arguments at ≡ Ok j) }
-        ensures faults { IfErr result (IsFirst (callable_of (callables_in (known_of self.now) own.now) name.now arguments at)) }
+        ensures exact { IfOk result (λ j. callable_of
+            (callables_in (known_of self.now) own.now) name.now arguments at ≡ Ok j) }
+        ensures faults { IfErr result (IsFirst (callable_of
+            (callables_in (known_of self.now) own.now) name.now arguments at)) }
     {
         match self.function_names.number(name) {
             Some(j) => counted(
@@ -124,7 +128,8 @@ impl Tables {
 
     /// Whether these are, in order, all the fields of the record of this number.
     pub fn has_fields(&self, number: u32, fields: &[RawField]) -> bool
-        ensures { result ≡ is_some (if_same_names (slice_get (known_of self.now).program.records number) number (map (λ f. f.name) (map field_part fields.now))) }
+        ensures { result ≡ is_some (if_same_names (slice_get (known_of self.now).program.records number) number
+            (map (λ f. f.name) (map field_part fields.now))) }
     {
         match self.records.get(number as usize) {
             Some(d) => same_names(&d.fields.items, fields),
@@ -134,7 +139,8 @@ impl Tables {
 }
 
 fn same_names(decls: &[FieldDecl], fields: &[RawField]) -> bool
-    ensures { result ≡ same_names (map (λ d. d.name) (map field_tree decls.now)) (map (λ f. f.name) (map field_part fields.now)) }
+    ensures { result ≡ same_names (map (λ d. d.name) (map field_tree decls.now))
+        (map (λ f. f.name) (map field_part fields.now)) }
 {
     if decls.len() != fields.len() {
         return false;

@@ -40,8 +40,10 @@ pub fn param(
     raw: &RawParam,
 ) -> Result<Note, NameStop>
     requires { AreTables tables.now }
-    ensures exact { IfOk result (λ n. and_then (unless_repeated scope.old (binder_syntax raw.now.binder)) (λ _. resolved_type (known_of tables.now) variables.now true (type_syntax raw.now.ty)) ≡ Ok (note_tree n)) }
-    ensures faults { IfErr result (IsFirst (and_then (unless_repeated scope.old (binder_syntax raw.now.binder)) (λ _. resolved_type (known_of tables.now) variables.now true (type_syntax raw.now.ty)))) }
+    ensures exact { IfOk result (λ n. and_then (unless_repeated scope.old (binder_syntax raw.now.binder))
+        (λ _. resolved_type (known_of tables.now) variables.now true (type_syntax raw.now.ty)) ≡ Ok (note_tree n)) }
+    ensures faults { IfErr result (IsFirst (and_then (unless_repeated scope.old (binder_syntax raw.now.binder))
+        (λ _. resolved_type (known_of tables.now) variables.now true (type_syntax raw.now.ty)))) }
     ensures scope { OnOk result (scope.new ≡ scope.old ++ raw.now.binder.name ∷ []) }
 {
     if scope.repeats(&raw.binder) {
@@ -59,7 +61,8 @@ pub fn result_note(
     raw: &Option<RawType>,
 ) -> Result<Option<Note>, NameStop>
     requires { AreTables tables.now }
-    ensures exact { IfOk result (λ n. resolved_result (known_of tables.now) variables.now (written_type raw.now) ≡ Ok (result_tree n)) }
+    ensures exact { IfOk result (λ n. resolved_result (known_of tables.now) variables.now (written_type raw.now)
+        ≡ Ok (result_tree n)) }
     ensures faults { IfErr result (IsFirst (resolved_result (known_of tables.now) variables.now (written_type raw.now))) }
 {
     match raw {

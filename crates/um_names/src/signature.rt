@@ -28,8 +28,10 @@ pub fn params(
     raw: &[RawParam],
 ) -> Result<Parameters, NameStop>
     requires { AreTables tables.now }
-    ensures exact { IfOk result (λ p. resolved_params (known_of tables.now) variables.now [] (map param_syntax raw.now) ≡ Ok (map note_tree p.notes.items)) }
-    ensures faults { IfErr result (IsFirst (resolved_params (known_of tables.now) variables.now [] (map param_syntax raw.now))) }
+    ensures exact { IfOk result (λ p. resolved_params (known_of tables.now) variables.now [] (map param_syntax raw.now)
+        ≡ Ok (map note_tree p.notes.items)) }
+    ensures faults { IfErr result (IsFirst (resolved_params (known_of tables.now) variables.now []
+        (map param_syntax raw.now))) }
     ensures scope { IfOk result (λ p. p.scope ≡ map (λ q. q.binder.name) (map param_syntax raw.now)) }
 {
     let mut scope = Scope::new(alloc);

@@ -36,8 +36,10 @@ fn note_names(tables: &Tables, variables: &NameTable, raw: &RawNote) -> Result<(
 /// Note by note.
 fn all_note_names(tables: &Tables, variables: &NameTable, raw: &[RawNote]) -> Result<(), NameStop>
     requires { AreTables tables.now }
-    ensures exact { IfOk result (λ done. all_note_names (known_of tables.now) variables.now (map note_syntax raw.now) ≡ Ok done) }
-    ensures faults { IfErr result (IsFirst (all_note_names (known_of tables.now) variables.now (map note_syntax raw.now))) }
+    ensures exact { IfOk result (λ done. all_note_names (known_of tables.now) variables.now
+        (map note_syntax raw.now) ≡ Ok done) }
+    ensures faults { IfErr result (IsFirst (all_note_names (known_of tables.now) variables.now
+        (map note_syntax raw.now))) }
 {
     for text in raw {
         note_names(tables, variables, text)?;
@@ -65,8 +67,10 @@ fn type_names(tables: &Tables, variables: &NameTable, raw: &RawType) -> Result<(
 /// Type by type.
 fn all_type_names(tables: &Tables, variables: &NameTable, raw: &[RawType]) -> Result<(), NameStop>
     requires { AreTables tables.now }
-    ensures exact { IfOk result (λ done. all_type_names (known_of tables.now) variables.now (map type_syntax raw.now) ≡ Ok done) }
-    ensures faults { IfErr result (IsFirst (all_type_names (known_of tables.now) variables.now (map type_syntax raw.now))) }
+    ensures exact { IfOk result (λ done. all_type_names (known_of tables.now) variables.now
+        (map type_syntax raw.now) ≡ Ok done) }
+    ensures faults { IfErr result (IsFirst (all_type_names (known_of tables.now) variables.now
+        (map type_syntax raw.now))) }
 {
     for text in raw {
         type_names(tables, variables, text)?;
@@ -94,8 +98,10 @@ fn types(
     raw: &[RawType],
 ) -> Result<Vec<Ty>, NameStop>
     requires { AreTables tables.now }
-    ensures exact { IfOk result (λ types. resolved_types (known_of tables.now) variables.now (map type_syntax raw.now) ≡ Ok (map type_tree types.items)) }
-    ensures faults { IfErr result (IsFirst (resolved_types (known_of tables.now) variables.now (map type_syntax raw.now))) }
+    ensures exact { IfOk result (λ types. resolved_types (known_of tables.now) variables.now (map type_syntax raw.now)
+        ≡ Ok (map type_tree types.items)) }
+    ensures faults { IfErr result (IsFirst (resolved_types (known_of tables.now) variables.now
+        (map type_syntax raw.now))) }
 {
     let mut types = Vec::new(alloc);
     for text in raw {
@@ -112,7 +118,8 @@ fn type_of(
     raw: &RawType,
 ) -> Result<Ty, NameStop>
     requires { AreTables tables.now }
-    ensures exact { IfOk result (λ ty. one_type (known_of tables.now) variables.now (type_syntax raw.now) ≡ Ok (type_tree ty)) }
+    ensures exact { IfOk result (λ ty. one_type (known_of tables.now) variables.now (type_syntax raw.now)
+        ≡ Ok (type_tree ty)) }
     ensures faults { IfErr result (IsFirst (one_type (known_of tables.now) variables.now (type_syntax raw.now))) }
 {
     let note = note(alloc, tables, variables, false, raw)?;
@@ -122,7 +129,8 @@ fn type_of(
 /// The types of type texts and the number of their unit variables, with these tables.
 fn signature(alloc: Global, tables: &Tables, raw: &[RawType]) -> Result<(Types, u32), NameStop>
     requires { AreTables tables.now }
-    ensures exact { IfOk result (λ found. resolved_signature (known_of tables.now) (map type_syntax raw.now) ≡ Ok (record { types = type_trees found.0; vars = found.1 })) }
+    ensures exact { IfOk result (λ found. resolved_signature (known_of tables.now) (map type_syntax raw.now)
+        ≡ Ok (record { types = type_trees found.0; vars = found.1 })) }
     ensures faults { IfErr result (IsFirst (resolved_signature (known_of tables.now) (map type_syntax raw.now))) }
 {
     let variables = signature_variables(alloc, raw)?;
@@ -144,8 +152,10 @@ pub fn types_of(
     raw: &RawTypes,
 ) -> Result<(Types, u32), NameStop>
     requires formed { IsFormed (program_tree program.now) }
-    ensures exact { IfOk result (λ found. resolved_signature (given (program_tree program.now) abbreviations.now) (type_syntaxes raw.now) ≡ Ok (record { types = type_trees found.0; vars = found.1 })) }
-    ensures faults { IfErr result (IsFirst (resolved_signature (given (program_tree program.now) abbreviations.now) (type_syntaxes raw.now))) }
+    ensures exact { IfOk result (λ found. resolved_signature (given (program_tree program.now) abbreviations.now)
+        (type_syntaxes raw.now) ≡ Ok (record { types = type_trees found.0; vars = found.1 })) }
+    ensures faults { IfErr result (IsFirst (resolved_signature (given (program_tree program.now) abbreviations.now)
+        (type_syntaxes raw.now))) }
 {
     let tables = heads(alloc, program, abbreviations)?;
     signature(alloc, &tables, &raw.items)

@@ -23,8 +23,10 @@ fn unit_note(
     raw: &RawNote,
 ) -> Result<UnitNote, NameStop>
     requires { AreTables tables.now }
-    ensures exact { IfOk result (λ note. resolved_note (known_of tables.now) variables.now holes (note_syntax raw.now) ≡ Ok note) }
-    ensures faults { IfErr result (IsFirst (resolved_note (known_of tables.now) variables.now holes (note_syntax raw.now))) }
+    ensures exact { IfOk result (λ note. resolved_note (known_of tables.now) variables.now holes
+        (note_syntax raw.now) ≡ Ok note) }
+    ensures faults { IfErr result (IsFirst (resolved_note (known_of tables.now) variables.now holes
+        (note_syntax raw.now))) }
 {
     match raw {
         RawNote::Hole(at) => hole(holes, *at),
@@ -52,8 +54,10 @@ fn unit_notes(
     raw: &[RawNote],
 ) -> Result<UnitNotes, NameStop>
     requires { AreTables tables.now }
-    ensures exact { IfOk result (λ notes. resolved_notes (known_of tables.now) variables.now holes (map note_syntax raw.now) ≡ Ok notes.items.items) }
-    ensures faults { IfErr result (IsFirst (resolved_notes (known_of tables.now) variables.now holes (map note_syntax raw.now))) }
+    ensures exact { IfOk result (λ notes. resolved_notes (known_of tables.now) variables.now holes
+        (map note_syntax raw.now) ≡ Ok notes.items.items) }
+    ensures faults { IfErr result (IsFirst (resolved_notes (known_of tables.now) variables.now holes
+        (map note_syntax raw.now))) }
 {
     let mut items = Vec::new(alloc);
     for text in raw {
@@ -71,8 +75,10 @@ fn number(
     raw: &Option<RawNote>,
 ) -> Result<UnitNote, NameStop>
     requires { AreTables tables.now }
-    ensures exact { IfOk result (λ note. resolved_number (known_of tables.now) variables.now holes (written_note raw.now) ≡ Ok note) }
-    ensures faults { IfErr result (IsFirst (resolved_number (known_of tables.now) variables.now holes (written_note raw.now))) }
+    ensures exact { IfOk result (λ note. resolved_number (known_of tables.now) variables.now holes
+        (written_note raw.now) ≡ Ok note) }
+    ensures faults { IfErr result (IsFirst (resolved_number (known_of tables.now) variables.now holes
+        (written_note raw.now))) }
 {
     match raw {
         None => Ok(UnitNote::Written(Unit::one(alloc))),
@@ -89,8 +95,10 @@ pub fn note(
     raw: &RawType,
 ) -> Result<Note, NameStop>
     requires { AreTables tables.now }
-    ensures exact { IfOk result (λ note. resolved_type (known_of tables.now) variables.now holes (type_syntax raw.now) ≡ Ok (note_tree note)) }
-    ensures faults { IfErr result (IsFirst (resolved_type (known_of tables.now) variables.now holes (type_syntax raw.now))) }
+    ensures exact { IfOk result (λ note. resolved_type (known_of tables.now) variables.now holes (type_syntax raw.now)
+        ≡ Ok (note_tree note)) }
+    ensures faults { IfErr result (IsFirst (resolved_type (known_of tables.now) variables.now holes
+        (type_syntax raw.now))) }
 {
     match raw {
         RawType::Bool => Ok(Note::Bool),
