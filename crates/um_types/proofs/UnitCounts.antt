@@ -1,28 +1,22 @@
--- The walk over the open frames, from the innermost out.
-use Rattle.std.proofs.Common.{◌≡◌, ℕ, ◌+◌, ◌<◌, ◌≤◌, min, max, List, [], ◌∷◌, ◌++◌, length, take, get_or, map, false, refl, sym, ap, ◌∙◌, arith, inl, inr}
+-- The least height over the open frames, from the parts in them and from what is at hand.
+use Rattle.std.proofs.Common.{◌≡◌, ℕ, ◌+◌, ◌≤◌, min, max, List, [], ◌∷◌, length, false, refl, sym, ap, ◌∙◌, arith, inl, inr}
 use Rattle.std.specs.Prelude.{nat_lt}
 use Rattle.std.proofs.lemmas.Bool.{cases_lt, le-ltb}
-use Rattle.std.proofs.lemmas.List.{reverse-append, take_more}
 use Rattle.um_types.specs.UnitStops.{greatest_height}
-use Rattle.um_types.specs.declared.unit_frame.Frame.{Frame as Open}
 use Rattle.um_types.specs.declared.unit_frame.Focus.{Focus}
 use Rattle.um_types.specs.declared.unit_frame.Focus.TheVariants as focus
+use Rattle.um_types.specs.declared.unit_frames.Frames.{Frames}
+use Rattle.um_types.specs.UnitMachine.{Frame}
 use Rattle.um_types.specs.UnitLeast.{side, least_over, least}
 use Rattle.um_types.specs.UnitCount.{counted}
-use Rattle.um_types.specs.UnitView.{view_frame, stack, state_of, focus_height}
-use Rattle.um_types.proofs.UnitEnds.{least_counted}
+use Rattle.um_types.specs.UnitFrames.{base}
+use Rattle.um_types.specs.UnitView.{frames_of, state_of, focus_height}
 
-stack_push : (frames : List Open) (frame : Open) → stack (frames ++ frame ∷ []) ≡ view_frame frame ∷ stack frames
-stack_push frames frame = ap (map view_frame) (reverse-append frames (frame ∷ []))
+over_base : (frames : List Frame) (h : ℕ) → least_over frames h ≡ max (base frames) (h + length frames)
+over_base [] h = omega arith
+over_base (frame ∷ frames) h = let e = over_base frames (max (side frame) h + 1) in omega (arith, e)
 
--- one frame further out
-pub one_out : (items : List Open) (i : ℕ) (d : Open) (h next : ℕ) → i < length items → next ≡ counted (max (counted (side (view_frame (get_or items i d)))) h + 1)
-    → counted (least_over (stack (take i items)) next) ≡ counted (least_over (stack (take (i + 1) items)) h)
-one_out items i d h next lt e =
-    least_counted (stack (take i items)) next (max (side (view_frame (get_or items i d))) h + 1) (omega (arith, e))
-    ∙ sym (ap (λ fs. counted (least_over fs h)) (ap stack (take_more items i d lt) ∙ stack_push (take i items) (get_or items i d)))
-
-least_focus : (frames : List Open) (operand : Focus) → least (state_of frames operand) ≡ least_over (stack frames) (focus_height operand)
+least_focus : (frames : Frames) (operand : Focus) → least (state_of frames operand) ≡ least_over (frames_of frames) (focus_height operand)
 least_focus frames focus.Empty = refl
 least_focus frames (focus.Full t) = refl
 least_focus frames (focus.Raised t) = refl
@@ -38,8 +32,13 @@ cut_low n =
     high_is : (n : ℕ) → (greatest_height + 1) ≤ n → nat_lt n (greatest_height + 1) ≡ false
     high_is n high = rw le-ltb refl
 
+counted_least : (height own sum result at_hand parts count : ℕ) → height ≡ counted at_hand → own ≡ counted parts → sum ≡ counted (height + counted count) → result ≡ max own sum → result ≡ counted (max parts (at_hand + count))
+counted_least height own sum result at_hand parts count p q r s = omega (arith, p, q, r, s)
+
 -- what is counted decides
-pub low_same : (frames : List Open) (operand : Focus) (h result : ℕ) → h ≡ counted (focus_height operand) → result ≡ counted (least_over (stack frames) h) → nat_lt result (greatest_height + 1) ≡ nat_lt (least (state_of frames operand)) (greatest_height + 1)
-low_same frames operand h result e f =
-    let g : counted (least_over (stack frames) h) ≡ counted (least_over (stack frames) (focus_height operand)) = least_counted (stack frames) h (focus_height operand) (omega (arith, e)) in
-    ap (λ n. nat_lt n (greatest_height + 1)) (f ∙ g ∙ ap counted (sym (least_focus frames operand))) ∙ cut_low (least (state_of frames operand))
+pub low_same : (frames : Frames) (operand : Focus) (height sum own result : ℕ) → height ≡ counted (focus_height operand) → own ≡ counted (base (frames_of frames)) → sum ≡ counted (height + counted (length (frames_of frames)))
+    → result ≡ max own sum → nat_lt result (greatest_height + 1) ≡ nat_lt (least (state_of frames operand)) (greatest_height + 1)
+low_same frames operand height sum own result p q r s =
+    ap (λ n. nat_lt n (greatest_height + 1)) (counted_least height own sum result (focus_height operand) (base (frames_of frames)) (length (frames_of frames)) p q r s
+    ∙ ap counted (sym (least_focus frames operand ∙ over_base (frames_of frames) (focus_height operand))))
+    ∙ cut_low (least (state_of frames operand))

@@ -1,9 +1,7 @@
--- What is left where all ends up to the innermost brackets, and how heights are counted over frames.
-use Rattle.std.proofs.Common.{◌≡◌, ℕ, ◌+◌, max, List, [], ◌∷◌, ◌++◌, true, refl, sym, ap, ◌∙◌, arith, inl, inr, ◌⊎◌}
+-- What is left where all ends up to the innermost brackets.
+use Rattle.std.proofs.Common.{◌≡◌, List, [], ◌∷◌, ◌++◌, true, refl, sym, ap, ◌∙◌, inl, inr, ◌⊎◌}
 use Rattle.um_tree.specs.RawTree.{UnitSyntax, side_syntax, times_syntax, over_syntax, inverse_syntax, units_in_order}
 use Rattle.um_types.specs.UnitMachine.{Frame, InBracket, InInverse, InTimes, InOver, InSide, Have, Refused, reduce, opens, close_after, whole}
-use Rattle.um_types.specs.UnitLeast.{side, least_over}
-use Rattle.um_types.specs.UnitCount.{counted}
 use Rattle.um_types.specs.UnitView.{ends_itself}
 
 -- nothing that needs no token to end is left open
@@ -26,11 +24,6 @@ opens_stays (InSide earlier ∷ frames) u e = absurd cc
 -- once all has ended, nothing more ends
 pub reduced_stays : (old : List Frame) (t : UnitSyntax) (frames : List Frame) (u : UnitSyntax) → Have frames u ≡ reduce old t → reduce frames u ≡ reduce old t
 reduced_stays old t frames u e = opens_stays frames u (reduced_opens old t frames u e) ∙ e
-
--- what is counted is enough
-pub least_counted : (frames : List Frame) (h k : ℕ) → counted h ≡ counted k → counted (least_over frames h) ≡ counted (least_over frames k)
-least_counted [] h k e = e
-least_counted (frame ∷ frames) h k e = least_counted frames (max (side frame) h + 1) (max (side frame) k + 1) (omega (arith, e))
 
 both_none : (fs : List Frame) → opens fs ≡ true → ends_itself fs ≡ true → ⊥
 both_none [] a b = absurd cc

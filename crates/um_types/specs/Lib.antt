@@ -13,6 +13,7 @@ pub mod Laws
 pub mod UnitMachine
 pub mod UnitLeast
 pub mod UnitCount
+pub mod UnitFrames
 pub mod UnitView
 pub mod NoteMachine
 pub mod NoteView

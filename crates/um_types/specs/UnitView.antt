@@ -1,52 +1,32 @@
 -- What is open and at hand, without where it lies in memory.
-use Rattle.std.specs.Prelude.{◌≡◌, ℕ, ◌+◌, ◌⊎◌, Bool, true, false, List, [], ◌∷◌, map, reverse, Option, Some, None}
-use Rattle.um_tree.specs.RawTree.{UnitSyntax, unit_syntax}
+use Rattle.std.specs.Prelude.{◌≡◌, ℕ, ◌+◌, ◌⊎◌, Bool, true, false, List, [], ◌∷◌, Option, Some, None}
 use Rattle.um_tree.specs.Heights.{unit_height}
-use Rattle.um_types.specs.declared.unit_operand.Operand.{Operand}
-use Rattle.um_types.specs.declared.unit_operand.Operands.{Operands}
 use Rattle.um_types.specs.declared.unit_frame.Frame.{Frame as Open}
-use Rattle.um_types.specs.declared.unit_frame.Frame.TheVariants as open_at
 use Rattle.um_types.specs.declared.unit_frame.Focus.{Focus}
 use Rattle.um_types.specs.declared.unit_frame.Focus.TheVariants as focus
 use Rattle.um_types.specs.declared.unit_frame.Step.{Step}
 use Rattle.um_types.specs.declared.unit_frame.Step.TheVariants as step
+use Rattle.um_types.specs.declared.unit_frames.Frames.{Frames}
 use Rattle.um_types.specs.declared.unit_reader.UnitReader.{UnitReader}
 use Rattle.um_types.specs.UnitMachine.{Frame, InBracket, InInverse, InTimes, InOver, InSide, State, Need, Have, Raised, Lowered, Refused, finish}
-
-abbrev pub operand_syntax : Operand → UnitSyntax
-operand_syntax p = unit_syntax p.unit
-
-abbrev pub operands_syntax : Operands → List UnitSyntax
-operands_syntax f = map unit_syntax f.units.items
-
-abbrev pub view_frame : Open → Frame
-view_frame (open_at.InBracket at) = InBracket at
-view_frame (open_at.InInverse at) = InInverse at
-view_frame (open_at.InTimes left) = InTimes (operand_syntax left)
-view_frame (open_at.InOver left) = InOver (operand_syntax left)
-view_frame (open_at.InSide earlier) = InSide (operands_syntax earlier)
+use Rattle.um_types.specs.UnitFrames.{operand_syntax, view_frame, stack}
 
 -- the frames from the innermost out
-abbrev pub stack : List Open → List Frame
-stack frames = map view_frame (reverse frames)
+abbrev pub frames_of : Frames → List Frame
+frames_of frames = stack frames.entries.items
 
-abbrev pub state_of : List Open → Focus → State
-state_of frames focus.Empty = Need (stack frames)
-state_of frames (focus.Full t) = Have (stack frames) (operand_syntax t)
-state_of frames (focus.Raised t) = Raised (stack frames) (operand_syntax t)
-state_of frames (focus.Lowered t) = Lowered (stack frames) (operand_syntax t)
+abbrev pub state_of : Frames → Focus → State
+state_of frames focus.Empty = Need (frames_of frames)
+state_of frames (focus.Full t) = Have (frames_of frames) (operand_syntax t)
+state_of frames (focus.Raised t) = Raised (frames_of frames) (operand_syntax t)
+state_of frames (focus.Lowered t) = Lowered (frames_of frames) (operand_syntax t)
 
 -- the state of a reader
 abbrev pub unit_state : UnitReader → State
-unit_state r = state_of r.frames.items r.focus
-
--- the innermost frame was taken off
-abbrev pub Taken : List Frame → Option Open → List Frame → Type 0
-Taken old None new = (old ≡ []) × (new ≡ [])
-Taken old (Some frame) new = old ≡ view_frame frame ∷ new
+unit_state r = state_of r.frames r.focus
 
 -- what a step gives: the next state, or, at a refused token, a state that ends as the one before
-abbrev pub Simulates : State → List Open → Step → State → Type 0
+abbrev pub Simulates : State → Frames → Step → State → Type 0
 Simulates old frames (step.Goes now) state = state ≡ state_of frames now
 Simulates old frames (step.Stops now) state = (state ≡ Refused) × (finish (state_of frames now) ≡ finish old)
 

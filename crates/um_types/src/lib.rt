@@ -11,6 +11,7 @@ mod signature_reader;
 mod type_operand;
 mod type_reader;
 mod unit_frame;
+mod unit_frames;
 mod unit_least;
 mod unit_machine;
 mod unit_operand;

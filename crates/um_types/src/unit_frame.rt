@@ -1,9 +1,9 @@
 // What is open around the next part of a unit text, and what is at hand.
-ghost use Rattle.std.specs.Prelude.{◌≡◌, ◌<◌, ◌∷◌, IfOk, IfSome, OnOk, vec_len};
+ghost use Rattle.std.specs.Prelude.{◌≡◌, IfOk};
 ghost use Rattle.um_types.specs.UnitMachine.{plug};
 ghost use Rattle.um_types.specs.UnitLeast.{side};
 ghost use Rattle.um_types.specs.UnitCount.{counted};
-ghost use Rattle.um_types.specs.UnitView.{operand_syntax, view_frame, stack, Taken};
+ghost use Rattle.um_types.specs.UnitFrames.{operand_syntax, view_frame};
 
 use crate::unit_operand::{Operand, Operands};
 use std::alloc::{AllocError, Global};
@@ -16,6 +16,13 @@ pub enum Frame {
     InTimes(Operand),
     InOver(Operand),
     InSide(Operands),
+}
+
+/// An open frame, and the least height that the parts in it and in the frames around it ask for, counted.
+#[derive(Drop)]
+pub struct Entry {
+    pub frame: Frame,
+    pub least: u32,
 }
 
 /// What is at hand beside the frames: nothing, an atom or a power, or an atom with `^`, or with `^` and `-`.
@@ -60,18 +67,4 @@ impl Frame {
             Frame::InSide(earlier) => Ok(earlier.with(last)?.whole()),
         }
     }
-}
-
-pub fn push_frame(frames: &mut Vec<Frame>, frame: Frame) -> Result<(), AllocError>
-    ensures { OnOk result (stack frames.new.items ≡ view_frame frame ∷ stack frames.old.items) }
-{
-    frames.push(frame)?;
-    Ok(())
-}
-
-pub fn pop_frame(frames: &mut Vec<Frame>) -> Option<Frame>
-    ensures state { Taken (stack frames.old.items) result (stack frames.new.items) }
-    ensures shorter { IfSome result (λ _. vec_len frames.new < vec_len frames.old) }
-{
-    frames.pop()
 }

@@ -1,10 +1,12 @@
 // Reading a unit text token by token.
-ghost use Rattle.std.specs.Prelude.{◌≡◌, ◌<◌, ◌∷◌, IfOk, IfSome, OnOk, Some, None, option_map, vec_len, pos, neg_ℤ};
+ghost use Rattle.std.specs.Prelude.{◌≡◌, ◌<◌, IfOk, IfSome, OnOk, Some, None, option_map, vec_len, pos, neg_ℤ};
 ghost use Rattle.um_types.specs.UnitTokens.{unit_token, power_of};
 ghost use Rattle.um_types.specs.UnitMachine.{Need, sign_after, Have, Raised, Lowered, reduce, juxtapose, begin, raised, lowered, close_after, opens, after, act, finish, atom_of, power_in, is_atom};
-ghost use Rattle.um_types.specs.UnitView.{operand_syntax, stack, state_of, Simulates, Ended, Unbracketed, ends_itself};
+ghost use Rattle.um_types.specs.UnitFrames.{operand_syntax};
+ghost use Rattle.um_types.specs.UnitView.{frames_of, state_of, Simulates, Ended, Unbracketed, ends_itself};
 
-use crate::unit_frame::{Focus, Frame, Step, pop_frame, push_frame};
+use crate::unit_frame::{Focus, Frame, Step};
+use crate::unit_frames::Frames;
 use crate::unit_operand::{Operand, Operands};
 use std::alloc::{AllocError, Global};
 use um_frac::Frac;
@@ -15,31 +17,33 @@ use um_tree::RawUnit;
 const GREATEST_POWER: i64 = 2147483647;
 
 // Whether the innermost frame needs no token to end.
-fn ends_itself(frames: &Vec<Frame>) -> bool
-    ensures { result ≡ ends_itself (stack frames.now.items) }
+fn ends_itself(frames: &Frames) -> bool
+    ensures { result ≡ ends_itself (frames_of frames.now) }
 {
-    match frames.last() {
-        Some(Frame::InBracket(_)) => false,
-        Some(_) => true,
+    match frames.entries.last() {
+        Some(entry) => match &entry.frame {
+            Frame::InBracket(_) => false,
+            _ => true,
+        },
         None => false,
     }
 }
 
 // Takes off the innermost frame if it needs no token to end.
-fn pop_ended(frames: &mut Vec<Frame>) -> Option<Frame>
-    ensures state { Ended (stack frames.old.items) result (stack frames.new.items) }
-    ensures shorter { IfSome result (λ _. vec_len frames.new < vec_len frames.old) }
+fn pop_ended(frames: &mut Frames) -> Option<Frame>
+    ensures state { Ended (frames_of frames.old) result (frames_of frames.new) }
+    ensures shorter { IfSome result (λ _. vec_len frames.new.entries < vec_len frames.old.entries) }
 {
     if ends_itself(frames) {
-        pop_frame(frames)
+        frames.pop()
     } else {
         None
     }
 }
 
 // Ends all frames up to the innermost brackets.
-fn ended(alloc: Global, frames: &mut Vec<Frame>, operand: Operand) -> Result<Operand, AllocError>
-    ensures { IfOk result (λ t. Have (stack frames.new.items) (operand_syntax t) ≡ reduce (stack frames.old.items) (operand_syntax operand)) }
+fn ended(alloc: Global, frames: &mut Frames, operand: Operand) -> Result<Operand, AllocError>
+    ensures { IfOk result (λ t. Have (frames_of frames.new) (operand_syntax t) ≡ reduce (frames_of frames.old) (operand_syntax operand)) }
 {
     let mut operand = operand;
     while let Some(frame) = pop_ended(frames) {
@@ -49,29 +53,31 @@ fn ended(alloc: Global, frames: &mut Vec<Frame>, operand: Operand) -> Result<Ope
 }
 
 // Whether a unit text begins here.
-fn opens(frames: &Vec<Frame>) -> bool
-    ensures { result ≡ opens (stack frames.now.items) }
+fn opens(frames: &Frames) -> bool
+    ensures { result ≡ opens (frames_of frames.now) }
 {
-    match frames.last() {
-        Some(Frame::InBracket(_)) => true,
-        Some(_) => false,
+    match frames.entries.last() {
+        Some(entry) => match &entry.frame {
+            Frame::InBracket(_) => true,
+            _ => false,
+        },
         None => true,
     }
 }
 
 // The unit at hand goes into a juxtaposition.
-fn juxtapose(alloc: Global, frames: &mut Vec<Frame>, operand: Operand) -> Result<(), AllocError>
-    ensures { OnOk result (stack frames.new.items ≡ juxtapose (stack frames.old.items) (operand_syntax operand)) }
+fn juxtapose(alloc: Global, frames: &mut Frames, operand: Operand) -> Result<(), AllocError>
+    ensures { OnOk result (frames_of frames.new ≡ juxtapose (frames_of frames.old) (operand_syntax operand)) }
 {
-    let earlier = match pop_frame(frames) {
+    let earlier = match frames.pop() {
         Some(Frame::InSide(earlier)) => earlier,
         Some(other) => {
-            push_frame(frames, other)?;
+            frames.push(other)?;
             Operands::empty(alloc)
         }
         None => Operands::empty(alloc),
     };
-    push_frame(frames, Frame::InSide(earlier.with(operand)?))
+    frames.push(Frame::InSide(earlier.with(operand)?))
 }
 
 // The power that a number writes.
@@ -109,20 +115,20 @@ pub fn written_power(kind: &Kind) -> Option<i32>
 }
 
 // One token where an atom is wanted.
-fn step_empty(alloc: Global, frames: &mut Vec<Frame>, token: &Token) -> Result<Step, AllocError>
-    ensures { IfOk result (λ s. Simulates (Need (stack frames.old.items)) frames.new.items s (begin (stack frames.old.items) (unit_token token.now.kind) token.now.start)) }
+fn step_empty(alloc: Global, frames: &mut Frames, token: &Token) -> Result<Step, AllocError>
+    ensures { IfOk result (λ s. Simulates (Need (frames_of frames.old)) frames.new s (begin (frames_of frames.old) (unit_token token.now.kind) token.now.start)) }
 {
     if let Some(atom) = atom(alloc, &token.kind, token.start)? {
         return Ok(Step::Goes(Focus::Full(atom)));
     }
     match &token.kind {
         Kind::Sign(Symbol::LeftParen) => {
-            push_frame(frames, Frame::InBracket(token.start))?;
+            frames.push(Frame::InBracket(token.start))?;
             Ok(Step::Goes(Focus::Empty))
         }
         Kind::Sign(Symbol::Slash) => {
             if opens(frames) {
-                push_frame(frames, Frame::InInverse(token.start))?;
+                frames.push(Frame::InInverse(token.start))?;
                 Ok(Step::Goes(Focus::Empty))
             } else {
                 Ok(Step::Stops(Focus::Empty))
@@ -135,11 +141,11 @@ fn step_empty(alloc: Global, frames: &mut Vec<Frame>, token: &Token) -> Result<S
 // One token behind `^`.
 fn step_raised(
     alloc: Global,
-    frames: &Vec<Frame>,
+    frames: &Frames,
     base: Operand,
     token: &Token,
 ) -> Result<Step, AllocError>
-    ensures { IfOk result (λ s. Simulates (Raised (stack frames.now.items) (operand_syntax base)) frames.now.items s (raised (stack frames.now.items) (operand_syntax base) (unit_token token.now.kind))) }
+    ensures { IfOk result (λ s. Simulates (Raised (frames_of frames.now) (operand_syntax base)) frames.now s (raised (frames_of frames.now) (operand_syntax base) (unit_token token.now.kind))) }
 {
     if let Some(power) = written_power(&token.kind) {
         return Ok(Step::Goes(Focus::Full(base.power(alloc, power)?)));
@@ -153,11 +159,11 @@ fn step_raised(
 // One token behind `^` and `-`.
 fn step_lowered(
     alloc: Global,
-    frames: &Vec<Frame>,
+    frames: &Frames,
     base: Operand,
     token: &Token,
 ) -> Result<Step, AllocError>
-    ensures { IfOk result (λ s. Simulates (Lowered (stack frames.now.items) (operand_syntax base)) frames.now.items s (lowered (stack frames.now.items) (operand_syntax base) (unit_token token.now.kind))) }
+    ensures { IfOk result (λ s. Simulates (Lowered (frames_of frames.now) (operand_syntax base)) frames.now s (lowered (frames_of frames.now) (operand_syntax base) (unit_token token.now.kind))) }
 {
     match written_power(&token.kind) {
         Some(power) => Ok(Step::Goes(Focus::Full(base.power(alloc, -power)?))),
@@ -166,10 +172,10 @@ fn step_lowered(
 }
 
 // The place of the innermost frame, if it is brackets, which are taken off.
-fn pop_bracket(frames: &mut Vec<Frame>) -> Option<u32>
-    ensures { Unbracketed (stack frames.old.items) result (stack frames.new.items) }
+fn pop_bracket(frames: &mut Frames) -> Option<u32>
+    ensures { Unbracketed (frames_of frames.old) result (frames_of frames.new) }
 {
-    match pop_frame(frames) {
+    match frames.pop() {
         Some(Frame::InBracket(at)) => Some(at),
         Some(_) => None,
         None => None,
@@ -177,8 +183,8 @@ fn pop_bracket(frames: &mut Vec<Frame>) -> Option<u32>
 }
 
 // Brackets close behind the unit at hand, if any are open.
-fn close_after(alloc: Global, frames: &mut Vec<Frame>, operand: Operand) -> Result<Step, AllocError>
-    ensures { IfOk result (λ s. Simulates (Have (stack frames.old.items) (operand_syntax operand)) frames.new.items s (close_after (reduce (stack frames.old.items) (operand_syntax operand)))) }
+fn close_after(alloc: Global, frames: &mut Frames, operand: Operand) -> Result<Step, AllocError>
+    ensures { IfOk result (λ s. Simulates (Have (frames_of frames.old) (operand_syntax operand)) frames.new s (close_after (reduce (frames_of frames.old) (operand_syntax operand)))) }
 {
     let inner = ended(alloc, frames, operand)?;
     match pop_bracket(frames) {
@@ -200,32 +206,29 @@ fn is_atom(operand: &Operand) -> bool
 // `*` or `/` behind the unit at hand.
 fn after_sign(
     alloc: Global,
-    frames: &mut Vec<Frame>,
+    frames: &mut Frames,
     operand: Operand,
     over: bool,
 ) -> Result<Step, AllocError>
-    ensures { IfOk result (λ s. Simulates (Have (stack frames.old.items) (operand_syntax operand)) frames.new.items s (sign_after over (reduce (stack frames.old.items) (operand_syntax operand)))) }
+    ensures { IfOk result (λ s. Simulates (Have (frames_of frames.old) (operand_syntax operand)) frames.new s (sign_after over (reduce (frames_of frames.old) (operand_syntax operand)))) }
 {
     let left = ended(alloc, frames, operand)?;
-    push_frame(
-        frames,
-        if over {
-            Frame::InOver(left)
-        } else {
-            Frame::InTimes(left)
-        },
-    )?;
+    frames.push(if over {
+        Frame::InOver(left)
+    } else {
+        Frame::InTimes(left)
+    })?;
     Ok(Step::Goes(Focus::Empty))
 }
 
 // One token behind an atom or a power.
 fn step_full(
     alloc: Global,
-    frames: &mut Vec<Frame>,
+    frames: &mut Frames,
     operand: Operand,
     token: &Token,
 ) -> Result<Step, AllocError>
-    ensures { IfOk result (λ s. Simulates (Have (stack frames.old.items) (operand_syntax operand)) frames.new.items s (after (stack frames.old.items) (operand_syntax operand) (unit_token token.now.kind) token.now.start)) }
+    ensures { IfOk result (λ s. Simulates (Have (frames_of frames.old) (operand_syntax operand)) frames.new s (after (frames_of frames.old) (operand_syntax operand) (unit_token token.now.kind) token.now.start)) }
 {
     if let Some(atom) = atom(alloc, &token.kind, token.start)? {
         juxtapose(alloc, frames, operand)?;
@@ -234,7 +237,7 @@ fn step_full(
     match &token.kind {
         Kind::Sign(Symbol::LeftParen) => {
             juxtapose(alloc, frames, operand)?;
-            push_frame(frames, Frame::InBracket(token.start))?;
+            frames.push(Frame::InBracket(token.start))?;
             Ok(Step::Goes(Focus::Empty))
         }
         Kind::Sign(Symbol::RightParen) => close_after(alloc, frames, operand),
@@ -252,11 +255,11 @@ fn step_full(
 /// One token more.
 pub fn step(
     alloc: Global,
-    frames: &mut Vec<Frame>,
+    frames: &mut Frames,
     focus: Focus,
     token: &Token,
 ) -> Result<Step, AllocError>
-    ensures { IfOk result (λ s. Simulates (state_of frames.old.items focus) frames.new.items s (act (state_of frames.old.items focus) (unit_token token.now.kind) token.now.start)) }
+    ensures { IfOk result (λ s. Simulates (state_of frames.old focus) frames.new s (act (state_of frames.old focus) (unit_token token.now.kind) token.now.start)) }
 {
     match focus {
         Focus::Empty => step_empty(alloc, frames, token),
@@ -284,15 +287,15 @@ fn no_whole(open: Option<Frame>, operand: Operand) -> Option<Operand>
 /// The unit text where all is read.
 pub fn finish(
     alloc: Global,
-    frames: &mut Vec<Frame>,
+    frames: &mut Frames,
     focus: Focus,
 ) -> Result<Option<Operand>, AllocError>
-    ensures { IfOk result (λ o. option_map operand_syntax o ≡ finish (state_of frames.old.items focus)) }
+    ensures { IfOk result (λ o. option_map operand_syntax o ≡ finish (state_of frames.old focus)) }
 {
     match focus {
         Focus::Full(operand) => {
             let operand = ended(alloc, frames, operand)?;
-            match pop_frame(frames) {
+            match frames.pop() {
                 None => Ok(Some(operand)),
                 open => Ok(no_whole(open, operand)),
             }

@@ -27,7 +27,7 @@ pub struct Operands {
 }
 
 impl Operand {
-    ghost use Rattle.um_types.specs.UnitView.{operand_syntax};
+    ghost use Rattle.um_types.specs.UnitFrames.{operand_syntax};
 
     /// `1`
     pub fn one(at: u32) -> Operand
@@ -123,7 +123,7 @@ impl Operand {
 }
 
 impl Operands {
-    ghost use Rattle.um_types.specs.UnitView.{operand_syntax, operands_syntax};
+    ghost use Rattle.um_types.specs.UnitFrames.{operand_syntax, operands_syntax};
 
     /// A juxtaposition begins.
     pub fn empty(alloc: Global) -> Operands

@@ -1,9 +1,10 @@
 // A unit text that is read one token at a time, so that readers of longer texts can hold it.
 ghost use Rattle.std.specs.Prelude.{◌≡◌, option_map};
 ghost use Rattle.um_tree.specs.RawTree.{unit_syntax};
-ghost use Rattle.um_types.specs.UnitView.{operand_syntax};
+ghost use Rattle.um_types.specs.UnitFrames.{operand_syntax};
 
-use crate::unit_frame::{Focus, Frame, Step};
+use crate::unit_frame::{Focus, Step};
+use crate::unit_frames::Frames;
 use crate::unit_least::is_low;
 use crate::unit_machine::{finish, step};
 use crate::unit_operand::Operand;
@@ -16,7 +17,7 @@ use um_tree::RawUnit;
 /// A unit text that has begun: what is open around the next part, and what is at hand.
 #[derive(Drop)]
 pub struct UnitReader {
-    frames: Vec<Frame>,
+    frames: Frames,
     focus: Focus,
 }
 
@@ -33,7 +34,7 @@ impl UnitReader {
     // What is at hand.
     fn put(&mut self, focus: Focus)
         ensures focus { self.new.focus ≡ focus }
-        ensures frames { self.new.frames.items ≡ self.old.frames.items }
+        ensures frames { self.new.frames ≡ self.old.frames }
     {
         drop(mem::replace(&mut self.focus, focus));
     }
@@ -71,7 +72,7 @@ impl Reader for UnitReader {
 
     fn new(alloc: Global) -> UnitReader {
         UnitReader {
-            frames: Vec::new(alloc),
+            frames: Frames::new(alloc),
             focus: Focus::Empty,
         }
     }
