@@ -1,0 +1,5 @@
+mod Completing
+mod Outcomes
+mod Lookup
+mod Starting
+mod Resuming
