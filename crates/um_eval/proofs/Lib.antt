@@ -3,3 +3,5 @@ mod Outcomes
 mod Lookup
 mod Starting
 mod Resuming
+mod Running
+mod Ending

@@ -13,7 +13,7 @@ use Rattle.um_cells.specs.declared.store.Store.{Store}
 use Rattle.um_cells.specs.declared.word.Word.{Word}
 use Rattle.um_cells.specs.declared.word.Word.TheVariants.{Bool as Truth}
 use Rattle.um_cells.specs.declared.word.ListCase.TheVariants.{Empty, Items}
-use Rattle.um_cells.specs.Stores.{DenotesIn, AllDenote, Keeps}
+use Rattle.um_cells.specs.Stores.{DenotesIn, AllDenote, HasValue, Keeps}
 use Rattle.um_cells.specs.Operations.{TakenApart}
 use Rattle.um_cells.proofs.Denoting.{retained_each, DenoteEach-append, length-DenoteEach}
 use Rattle.um_eval.specs.declared.next.Stop.{Stop as CodeStop}
@@ -213,12 +213,24 @@ module _ (fs : List FunctionTree) (s : Store) (scope : List Word) (b : ℕ) (fra
        omega (arith, l))
 
   -- ---- operations of two parts
+  pub left_value : (op : Binary) (x w : Word) (n : ℕ) → Leads fs s scope b (frame.Right op x ∷ frames) (Give w) out n → HasValue s x
+  left_value op x w n ((vars, u, d, y, (v, z, h)), l) = (v, z)
+
+  pub right_value : (op : Binary) (x w : Word) (n : ℕ) → Leads fs s scope b (frame.Right op x ∷ frames) (Give w) out n → HasValue s w
+  right_value op x w n ((vars, u, d, y, h), l) = (u, y)
+
   pub right_leads : (t : Store) (op : Binary) (x w : Word) (r : Result Word CodeStop) (n : ℕ) → Keeps s t → ((v u : ValueTree) → DenotesIn s x v → DenotesIn s w u → IsDone t (operated op v u) r) → Leads fs s scope b (frame.Right op x ∷ frames) (Give w) out (n + 1) → Leads fs t scope b frames (settled r) out n
   right_leads t op x w r n k done ((vars, u, d, y, (v, z, h)), l) =
       done_leads fs t scope b frames out vars (operated op v u) r n (retained_each s.cells.items t.cells.items k scope vars d) (done v u z y)
       (completes_kept fs s t k frames vars (with_budget (operated op v u) b) out h) (omega (arith, l))
 
   -- ---- calls
+  -- the value of the body is the call's, for the caller whose variables these words are
+  pub returned_leads : (w : Word) (f : Frame) (callers : List Word) (n : ℕ) → ((vars : List ValueTree) (m : Out ValueTree) → Completes fs s (f ∷ frames) vars m out → (vs : List ValueTree) × AllDenote s callers vs × Completes fs s frames vs m out) → frame_steps f ≡ 1 → Leads fs s scope b (f ∷ frames) (Give w) out (n + 1) → Leads fs s callers b frames (Give w) out n
+  returned_leads w f callers n inside one ((vars, v, d, x, k), l) =
+      let (vs, p, h) = inside vars (gives v b) k in
+      ((vs, v, p, x, h), omega (arith, l, one))
+
   module _ (j : ℕ) (words : List Word) (n : ℕ) where
     stop_leads : (r : CodeStop) → ((vars vs : List ValueTree) → AllDenote s words vs → Outcome fs j vs b ≡ stops (stop_of r)) → AllCollected fs s scope b frames (collection.Call j) words out n → Leads fs s scope b frames (next.Stop r) out n
     stop_leads r is (vars, vs, d, p, h, l) =
