@@ -1,10 +1,10 @@
 -- What an evaluator comes to: the outcome of what is to be done next, inside its frames.
 -- Source: this project's own.
-use Rattle.std.specs.Prelude.{◌≡◌, ◌<◌, ◌+◌, ℕ, List, [], ◌∷◌, ◌++◌, reverse, slice_get}
-use Rattle.um_tree.specs.ValueTree.{ValueTree}
+use Rattle.std.specs.Prelude.{◌≡◌, ◌<◌, ◌+◌, ℕ, List, [], ◌∷◌, ◌++◌, reverse, slice_get, Option}
+use Rattle.um_tree.specs.ValueTree.{ValueTree, OutcomeTree}
 use Rattle.um_tree.specs.ExprTree.{ExprTrees, expr_tree}
 use Rattle.um_tree.specs.ProgramTree.{FunctionTree}
-use Rattle.um_tree.specs.Meaning.{Out, gives, stops, then, found, Means, AllMean}
+use Rattle.um_tree.specs.Meaning.{Out, gives, stops, then, found, Means, AllMean, Outcome, end_of}
 use Rattle.um_cells.specs.declared.store.Store.{Store}
 use Rattle.um_cells.specs.declared.word.Word.{Word}
 use Rattle.um_cells.specs.Stores.{DenotesIn, AllDenote}
@@ -80,6 +80,10 @@ abbrev pub IsCollected : List FunctionTree → Evaluator → Collection → List
 IsCollected fs m c words out n = AllCollected fs m.store m.scope.items m.budget (frames_of m) c words out n
 
 -- the run ended with the outcome
-abbrev pub EndsWith : Evaluator → End → Out ValueTree → Type 0
-EndsWith m (end.Value w) out = (v : ValueTree) × (b : ℕ) × DenotesIn m.store w v × (gives v b ≡ out)
-EndsWith m (end.Stop r) out = stops (stop_of r) ≡ out
+abbrev pub EndsWith : Store → End → Out ValueTree → Type 0
+EndsWith s (end.Value w) out = (v : ValueTree) × (b : ℕ) × DenotesIn s w v × (gives v b ≡ out)
+EndsWith s (end.Stop r) out = stops (stop_of r) ≡ out
+
+-- how a call ends; nothing where a shape is wrong
+abbrev pub end_of_call : List FunctionTree → ℕ → List ValueTree → ℕ → Option OutcomeTree
+end_of_call fs j vs b = end_of (Outcome fs j vs b)

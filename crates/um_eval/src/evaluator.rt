@@ -41,7 +41,7 @@ impl<'a> Evaluator<'a> {
         first: Next<'a>,
     ) -> Result<End, NoMemory>
         requires { (out : Out ValueTree) × (n : ℕ) × LeadsTo (map function_tree functions.now) self.old first out n }
-        ensures { (out : Out ValueTree) (n : ℕ) → LeadsTo (map function_tree functions.now) self.old first.entry out n → IfOk result (λ end. EndsWith self.new end out) }
+        ensures { (out : Out ValueTree) (n : ℕ) → LeadsTo (map function_tree functions.now) self.old first.entry out n → IfOk result (λ end. EndsWith self.new.store end out) }
     {
         let mut next = first;
         loop {
