@@ -6,8 +6,7 @@ use Rattle.um_tree.specs.ValueTree.{ValueTree, values_in_order, value_outcome}
 use Rattle.um_tree.specs.ProgramTree.{ProgramTree}
 use Rattle.um_tree.specs.Meaning.{Stop, wrong, Out, stops, end_of, outcome_of_call}
 use Rattle.um_tree.specs.InputType.{ValuesHave}
-use Rattle.um_tree.specs.Shapes.{IsShaped}
-use Rattle.um_shape.proofs.SoundProgram.{its_shapes}
+use Rattle.um_tree.specs.Shapes.{IsShaped, IsShapeOf, ShapeAt, shapes_below}
 use Rattle.um_shape.proofs.NeverWrong.{calls_are_never_wrong}
 use Rattle.um_cells.specs.declared.store.Store.{Store}
 use Rattle.um_cells.specs.declared.word.Word.{Word}
@@ -31,5 +30,5 @@ wrong_ends out e some = false≢true (subst (λ o. IsSome (end_of o)) (sym e) so
 pub allowed_calls_end : (p : ProgramTree) (f b : ℕ) (vs : List ValueTree) → IsShaped p → AreArgumentsOf p f vs → IsSome (outcome_of_call p f vs b)
 allowed_calls_end p f b vs shaped (g, there, have) =
     let (signature, its) = shaped f g there in
-    let params = (its_shapes p f g signature there its).params in
-    calls_are_never_wrong p f signature vs b its (subst (λ ss. ValuesHave p.records (values_in_order vs) ss) (sym params) have)
+    let shapes : IsShapeOf p.records (shapes_below p f) f g signature = subst (λ o. ShapeAt p.records (shapes_below p f) f o signature) there its in
+    calls_are_never_wrong p f signature vs b its (subst (λ ss. ValuesHave p.records (values_in_order vs) ss) (sym shapes.params) have)

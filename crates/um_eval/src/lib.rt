@@ -4,6 +4,7 @@
 //! host's stack.
 #![tactic(auto)]
 
+mod call;
 mod evaluator;
 mod frame;
 mod next;

@@ -3,7 +3,7 @@ use Rattle.um_tree.specs.ProgramTree.{function_tree}
 use Rattle.um_tree.specs.Meaning.{Outcome}
 use Rattle.um_eval.specs.Work.{steps_left}
 use Rattle.um_eval.proofs.Running.{called}
-use Rattle.um_eval.proofs.runner.run_call.Goals as goal
+use Rattle.um_eval.proofs.call.run_call.Goals as goal
 
 pub run-requires : goal.run-requires
 run-requires c =
