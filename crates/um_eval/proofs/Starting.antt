@@ -1,5 +1,5 @@
 -- The first step of each expression.
-use Rattle.std.proofs.Common.{◌≡◌, refl, sym, ap, ◌∙◌, subst, ℕ, ◌+◌, ◌<◌, List, [], ◌∷◌, ◌++◌, arith, Bor, Some, None, slice_get, ℤ}
+use Rattle.std.proofs.Common.{◌≡◌, refl, sym, ap, ◌∙◌, subst, ℕ, ◌+◌, ◌*◌, ◌<◌, List, [], ◌∷◌, ◌++◌, arith, Bor, Some, None, slice_get, ℤ}
 use Rattle.std.specs.Prelude.{Bool}
 use Rattle.um_frac.specs.declared.number.Frac.{Frac}
 use Rattle.um_tree.specs.declared.note.UnitNote.{UnitNote}
@@ -24,21 +24,18 @@ use Rattle.um_eval.specs.declared.frame.Collection.TheVariants as collection
 use Rattle.um_eval.specs.declared.frame.Frame.{Frame}
 use Rattle.um_eval.specs.declared.frame.Frame.TheVariants as frame
 use Rattle.um_eval.specs.Frames.{collected, Completes}
-use Rattle.um_eval.specs.Work.{steps, steps_of_each, frame_steps, steps_left}
+use Rattle.um_eval.specs.Work.{steps, steps_of_each, frame_steps, frames_steps, most_steps, steps_left}
 use Rattle.um_eval.specs.Progress.{Leads, Collecting}
 
 one_less : (b f k x t n : ℕ) → b + f + t < n + 1 → x + k < t → b + (k + f) + x < n
 one_less b f k x t n l m = omega (arith, l, m)
-
-none_left : (b f t n : ℕ) → b + f + t < n + 1 → 0 < t → b + f + 0 < n
-none_left b f t n l m = omega (arith, l, m)
 
 module _ (fs : List FunctionTree) (s : Store) (scope : List Word) (b : ℕ) (frames : List Frame) (out : Out ValueTree) (n : ℕ) where
   -- a frame is opened for the first part
   begun : (f : Frame) (e x : Bor Expr) (t : ExprTree) → expr_tree e.now ≡ t → steps (expr_tree x.now) + frame_steps f < steps t → ((vars : List ValueTree) → Completes fs s frames vars (Means fs vars t b) out → Completes fs s (f ∷ frames) vars (Means fs vars (expr_tree x.now) b) out) → Leads fs s scope b frames (Evaluate e) out (n + 1) → Leads fs s scope b (f ∷ frames) (Evaluate x) out n
   begun f e x t is less go ((vars, d, h), l) =
       let left : steps_left fs b frames (steps t) < n + 1 = subst (λ u. steps_left fs b frames (steps u) < n + 1) is l in
-      ((vars, d, go vars (subst (λ u. Completes fs s frames vars (Means fs vars u b) out) is h)), one_less _ _ _ _ _ n left less)
+      ((vars, d, go vars (subst (λ u. Completes fs s frames vars (Means fs vars u b) out) is h)), one_less (b * most_steps fs) (frames_steps frames) (frame_steps f) (steps (expr_tree x.now)) (steps t) n left less)
 
   -- the outcome by its equation
   by_equation : (vars : List ValueTree) (m o : Out ValueTree) → m ≡ o → Completes fs s frames vars m out → Completes fs s frames vars o out
@@ -81,17 +78,20 @@ module _ (fs : List FunctionTree) (s : Store) (scope : List Word) (b : ℕ) (fra
   matched_begun at e l x y is h = begun (frame.Matched x y) e l (split at (expr_tree l.now) (expr_tree x.now) (expr_tree y.now)) is (omega arith) (λ vars k. by_equation vars _ _ (Means-split fs vars at (expr_tree l.now) (expr_tree x.now) (expr_tree y.now) b) k) h
 
   -- a value is there at once
+  at_once : (e : Bor Expr) → steps (expr_tree e.now) ≡ 1 → steps_left fs b frames (steps (expr_tree e.now)) < n + 1 → steps_left fs b frames 0 < n
+  at_once e one l = omega (arith, l, one)
+
   pub truth_given : (at : ℕ) (x : Bool) (e : Bor Expr) → expr_tree e.now ≡ truth at x → Leads fs s scope b frames (Evaluate e) out (n + 1) → Leads fs s scope b frames (Give (Truth x)) out n
   truth_given at x e is ((vars, d, h), l) =
-      ((vars, truth_value x, d, refl, by_equation vars _ _ (ap (λ u. Means fs vars u b) is ∙ Means-truth fs vars at x b) h), none_left _ _ _ n (subst (λ u. steps_left fs b frames (steps u) < n + 1) is l) (omega arith))
+      ((vars, truth_value x, d, refl, by_equation vars _ _ (ap (λ u. Means fs vars u b) is ∙ Means-truth fs vars at x b) h), at_once e (ap steps is) l)
 
   pub number_given : (at : ℕ) (x : Frac) (note : UnitNote) (e : Bor Expr) → expr_tree e.now ≡ number at x note → Leads fs s scope b frames (Evaluate e) out (n + 1) → Leads fs s scope b frames (Give (Number x)) out n
   number_given at x note e is ((vars, d, h), l) =
-      ((vars, number_value x, d, refl, by_equation vars _ _ (ap (λ u. Means fs vars u b) is ∙ Means-number fs vars at x note b) h), none_left _ _ _ n (subst (λ u. steps_left fs b frames (steps u) < n + 1) is l) (omega arith))
+      ((vars, number_value x, d, refl, by_equation vars _ _ (ap (λ u. Means fs vars u b) is ∙ Means-number fs vars at x note b) h), at_once e (ap steps is) l)
 
   pub nil_given : (at : ℕ) (note : NoteTree) (e : Bor Expr) → expr_tree e.now ≡ nil at note → Leads fs s scope b frames (Evaluate e) out (n + 1) → Leads fs s scope b frames (Give Nil) out n
   nil_given at note e is ((vars, d, h), l) =
-      ((vars, list_value no_values, d, (None, refl, refl), by_equation vars _ _ (ap (λ u. Means fs vars u b) is ∙ Means-nil fs vars at note b) h), none_left _ _ _ n (subst (λ u. steps_left fs b frames (steps u) < n + 1) is l) (omega arith))
+      ((vars, list_value no_values, d, (None, refl, refl), by_equation vars _ _ (ap (λ u. Means fs vars u b) is ∙ Means-nil fs vars at note b) h), at_once e (ap steps is) l)
 
   -- parts are collected, none so far
   collection_begun : (c : Collection) (e : Bor Expr) (t : ExprTree) (rest : ExprTrees) (done : List Word) → expr_tree e.now ≡ t → steps t ≡ steps_of_each rest + 2 → done ≡ [] → ((vars : List ValueTree) → Means fs vars t b ≡ then (AllMean fs vars rest b) (λ us d. collected fs c us d)) → Leads fs s scope b frames (Evaluate e) out (n + 1) → Collecting fs s scope b frames c rest done out n
@@ -112,4 +112,4 @@ module _ (fs : List FunctionTree) (s : Store) (scope : List Word) (b : ℕ) (fra
   -- a variable is looked up
   pub local_begun : (at k : ℕ) (e : Bor Expr) → expr_tree e.now ≡ local at k → Leads fs s scope b frames (Evaluate e) out (n + 1) → (vars : List ValueTree) × AllDenote s scope vars × Completes fs s frames vars (found (slice_get vars k) b) out × (steps_left fs b frames 0 < n)
   local_begun at k e is ((vars, d, h), l) =
-      (vars, d, by_equation vars _ _ (ap (λ u. Means fs vars u b) is ∙ Means-local fs vars at k b) h, none_left _ _ _ n (subst (λ u. steps_left fs b frames (steps u) < n + 1) is l) (omega arith))
+      (vars, d, by_equation vars _ _ (ap (λ u. Means fs vars u b) is ∙ Means-local fs vars at k b) h, at_once e (ap steps is) l)

@@ -1,4 +1,5 @@
-use Rattle.std.proofs.Common.{◌≡◌, map, ap, ◌∙◌, IfOk-weaker}
+use Rattle.std.proofs.Common.{◌≡◌, map, ap, ◌∙◌}
+use Rattle.std.proofs.lemmas.Result.{IfOk-weaker}
 use Rattle.um_tree.specs.ValueTree.{value_tree, outcome_tree}
 use Rattle.um_tree.specs.ProgramTree.{function_tree, program_tree}
 use Rattle.um_eval.proofs.Ending.{right_call, call_ends}
