@@ -2,7 +2,7 @@
 use Rattle.std.proofs.Common.{◌≡◌, sym, ap, ◌∙◌, subst, ℕ, List, Some, map}
 use Rattle.std.specs.Prelude.{IsSome}
 use Rattle.std.proofs.lemmas.Bool.{false≢true}
-use Rattle.um_tree.specs.ValueTree.{ValueTree, values_in_order, OutcomeTree, value_outcome}
+use Rattle.um_tree.specs.ValueTree.{ValueTree, values_in_order, value_outcome}
 use Rattle.um_tree.specs.ProgramTree.{FunctionTree, ProgramTree}
 use Rattle.um_tree.specs.Meaning.{Stop, wrong, Out, stops, end_of, outcome_of_call}
 use Rattle.um_tree.specs.InputType.{ValuesHave}
@@ -39,6 +39,3 @@ module _ (p : ProgramTree) (fs : List FunctionTree) (s : Store) (words : List Wo
   right_call shaped allowed vs d =
       subst (λ us. IsSome (end_of_call fs f us b)) (one_value_each s.cells.items words args vs there d)
       (subst (λ gs. IsSome (end_of_call gs f args b)) (sym same) (allowed_calls_end p f b args shaped allowed))
-
-  pub call_ends : (outcome : OutcomeTree) → ((vs : List ValueTree) → AllDenote s words vs → end_of_call fs f vs b ≡ Some outcome) → outcome_of_call p f args b ≡ Some outcome
-  call_ends outcome ends = ap (λ gs. end_of_call gs f args b) (sym same) ∙ ends args there

@@ -37,7 +37,7 @@ pub(crate) fn run_call(
 ) -> Result<Outcome, NoMemory>
     requires words { HaveValues store words.items }
     requires right { (vs : List ValueTree) → AllDenote store words.items vs → IsSome (end_of_call (map function_tree functions.now) f vs budget) }
-    ensures { IfOk result (λ outcome. (vs : List ValueTree) → AllDenote store.entry words.items vs → end_of_call (map function_tree functions.now) f vs budget ≡ Some (outcome_tree outcome)) }
+    ensures { (vs : List ValueTree) → AllDenote store words.items vs → IfOk result (λ outcome. end_of_call (map function_tree functions.now) f vs budget ≡ Some (outcome_tree outcome)) }
 {
     let mut evaluator = Evaluator {
         store,

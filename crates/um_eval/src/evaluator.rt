@@ -196,7 +196,7 @@ impl<'a> Evaluator<'a> {
         word: Word,
     ) -> Result<Next<'a>, NoMemory>
         requires { (out : Out ValueTree) × (n : ℕ) × Within (map function_tree functions.now) self.old (Item c rest done ∷ frames_of self.old) (Give word) out n }
-        ensures { (out : Out ValueTree) (n : ℕ) → Within (map function_tree functions.now) self.old (Item c rest.entry done.entry ∷ frames_of self.old) (Give word) out (n + 1) → IfOk result (λ next. LeadsTo (map function_tree functions.now) self.new next out n) }
+        ensures { (out : Out ValueTree) (n : ℕ) → Within (map function_tree functions.now) self.old (Item c rest.entry done ∷ frames_of self.old) (Give word) out (n + 1) → IfOk result (λ next. LeadsTo (map function_tree functions.now) self.new next out n) }
     {
         let mut words = done;
         words.push(word)?;

@@ -10,5 +10,5 @@ get-requires c =
     let (out, h, some) = c.requires in
     value_is_there c.args.store.now c.in-Value.word out (subst (λ e. EndsWith c.args.store.now e out) c.in-Value.is h)
 
-pub returns-in-Value : goal.returns-in-Value
-returns-in-Value c = λ out h. value_ends c.args.store.now c.in-Value.word out (value_tree c.in_ok-get.field-0) (subst (λ e. EndsWith c.args.store.now e out) c.in-Value.is h) c.in_ok-get.ensures
+pub returns-in_ok-get-in-Value : goal.returns-in_ok-get-in-Value
+returns-in_ok-get-in-Value c = λ out h. value_ends c.args.store.now c.in-Value.word out (value_tree c.in_ok-get-in-Value.field-0) (subst (λ e. EndsWith c.args.store.now e out) c.in-Value.is h) c.in_ok-get-in-Value.ensures

@@ -9,13 +9,13 @@ use Rattle.um_eval.specs.Progress.{Leads, frames_of}
 use Rattle.um_eval.proofs.Resuming.{other_count_leads, no_budget_leads, body_leads}
 use Rattle.um_eval.proofs.evaluator.Evaluator.enter_declared.Goals as goal
 
-pub returns-then-words-function : goal.returns-then-words-function
-returns-then-words-function c = λ fs j out n e h.
+pub returns-then-len : goal.returns-then-len
+returns-then-len c = λ fs j out n e h.
     let m = c.args.self.now in
     let f = function_tree c.args.function.now in
     let words : c.len.result ≡ length c.args.words.items = search rules in
     let asked : c.len-2.result ≡ length f.params = omega (arith, length-map c.args.function.now.params.items.items note_tree, c.len-2.ensures, c.args.function.now.params.items.ok.0) in
-    other_count_leads fs m.store m.scope.items m.budget (frames_of m) out j c.args.words.items n f e (λ same. c.if-words-function.true (words ∙ same ∙ sym asked)) h
+    other_count_leads fs m.store m.scope.items m.budget (frames_of m) out j c.args.words.items n f e (λ same. c.if-len.true (words ∙ same ∙ sym asked)) h
 
 pub returns-then-self-eq0 : goal.returns-then-self-eq0
 returns-then-self-eq0 c = λ fs j out n e h.
@@ -23,7 +23,7 @@ returns-then-self-eq0 c = λ fs j out n e h.
     let f = function_tree c.args.function.now in
     let words : c.len.result ≡ length c.args.words.items = search rules in
     let asked : c.len-2.result ≡ length f.params = omega (arith, length-map c.args.function.now.params.items.items note_tree, c.len-2.ensures, c.args.function.now.params.items.ok.0) in
-    no_budget_leads fs m.store m.scope.items m.budget (frames_of m) out j c.args.words.items n f e (sym words ∙ c.if-words-function.false ∙ asked) c.if-self-eq0.true h
+    no_budget_leads fs m.store m.scope.items m.budget (frames_of m) out j c.args.words.items n f e (sym words ∙ c.if-len.false ∙ asked) c.if-self-eq0.true h
 
 pub returns : goal.returns
 returns c = λ fs j out n e h.
@@ -34,5 +34,5 @@ returns c = λ fs j out n e h.
     let inside = Body c.replace-callers.result in
     c.begin.ensures fs out n
     (subst (λ v. Leads fs m.store v.items (m.budget - 1) (inside ∷ frames_of m) (Evaluate _) out n) (sym c.replace-callers.ensures.after)
-    (body_leads fs m.store m.scope.items m.budget (frames_of m) out j c.args.words.items n f _ inside e (sym words ∙ c.if-words-function.false ∙ asked) refl (omega arith)
+    (body_leads fs m.store m.scope.items m.budget (frames_of m) out j c.args.words.items n f _ inside e (sym words ∙ c.if-len.false ∙ asked) refl (omega arith)
     (λ vars callers o d k. (callers, subst (λ v. AllDenote m.store v.items callers) (sym c.replace-callers.ensures.value) d, k)) refl h))

@@ -1,10 +1,13 @@
-use Rattle.std.proofs.Common.{rules, ◌≡◌, ◌+◌, map}
+use Rattle.std.proofs.Common.{rules, ◌≡◌, ◌∷◌, ◌+◌, sym, subst, map, w32, SFits}
+use Rattle.std.proofs.lemmas.Int.{to_z-of_z}
 use Rattle.um_tree.specs.ExprTree.{truth, number, local, call, negate, not_expr, pown, arith, compare, both, either, if, bind, split, nil, list_expr, cons, record_expr, field, expr_tree, in_order}
 use Rattle.um_tree.specs.TypeTree.{note_tree}
 use Rattle.um_tree.specs.ProgramTree.{function_tree}
 use Rattle.um_tree.specs.declared.expression.Expr.{the_lemmas}
 use Rattle.um_eval.specs.declared.next.Next.TheVariants.{Evaluate}
-use Rattle.um_eval.specs.Progress.{frames_of}
+use Rattle.um_eval.specs.declared.frame.Unary.TheVariants.{Power}
+use Rattle.um_eval.specs.declared.frame.Frame.TheVariants.{Operand}
+use Rattle.um_eval.specs.Progress.{Within, frames_of}
 use Rattle.um_eval.proofs.Resuming.{later}
 use Rattle.um_eval.proofs.Starting.{truth_given, number_given, nil_given, local_begun, call_begun, list_begun, record_begun, negate_begun, not_begun, power_begun, field_begun, arith_begun, compare_begun, cons_begun, and_begun, or_begun, test_begun, bound_begun, matched_begun}
 use Rattle.um_eval.proofs.evaluator.Evaluator.evaluate.Goals as goal
@@ -113,8 +116,13 @@ returns-in-Pow c = λ out n h.
     let m = c.args.self.now in
     let fs = map function_tree c.args.functions.now in
     let e = c.args.e.now in
-    let seen : expr_tree e ≡ pown e.at (expr_tree c.deref-in-Pow.result.now) c.in-Pow.k = search (rules, the_lemmas) in
-    c.begin-in-Pow.ensures fs out n (power_begun fs m.store m.scope.items m.budget (frames_of m) out n e.at c.in-Pow.k c.args.e c.deref-in-Pow.result seen h)
+    let x = c.deref-in-Pow.result in
+    let k = c.in-Pow.k in
+    let seen : expr_tree e ≡ pown e.at (expr_tree x.now) k = search (rules, the_lemmas) in
+    let fits : SFits w32 k = search rules in
+    c.begin-in-Pow.ensures fs out n
+    (subst (λ i. Within fs m (Operand (Power i) ∷ frames_of m) (Evaluate x) out n) (sym (to_z-of_z w32 k fits))
+    (power_begun fs m.store m.scope.items m.budget (frames_of m) out n e.at k c.args.e x seen h))
 
 pub returns-in-Field : goal.returns-in-Field
 returns-in-Field c = λ out n h.

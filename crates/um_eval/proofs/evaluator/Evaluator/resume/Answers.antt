@@ -41,8 +41,8 @@ operate-requires-clause-right c =
     let at = subst (λ f. Within fs m (f ∷ frames_of m) (Give w) out (n)) c.in-Right.is h in
     right_value fs m.store m.scope.items m.budget (frames_of m) out c.in-Right.op c.in-Right.x w n at
 
-pub returns-in-Right : goal.returns-in-Right
-returns-in-Right c = λ out n h.
+pub returns-in_ok-operate-in-Right : goal.returns-in_ok-operate-in-Right
+returns-in_ok-operate-in-Right c = λ out n h.
     let m = c.args.self.now in
     let fs = map function_tree c.args.functions.now in
     let w = c.args.word in
