@@ -4,7 +4,7 @@ use Rattle.um_tree.specs.ValueTree.{ValueTree}
 use Rattle.um_tree.specs.ProgramTree.{FunctionTree}
 use Rattle.um_tree.specs.Meaning.{Stop, Out, stops}
 use Rattle.um_cells.specs.declared.store.Store.{Store}
-use Rattle.um_cells.specs.Stores.{AllDenote, Keeps}
+use Rattle.um_cells.specs.Stores.{Keeps}
 use Rattle.um_cells.proofs.Denoting.{retained_each}
 use Rattle.um_eval.specs.declared.frame.Frame.{Frame}
 use Rattle.um_eval.specs.declared.frame.Frame.TheVariants as frame

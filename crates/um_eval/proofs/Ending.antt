@@ -1,10 +1,10 @@
 -- How a call ends: as the program's meaning has it, and never with a wrong shape.
-use Rattle.std.proofs.Common.{◌≡◌, sym, ap, ◌∙◌, subst, ℕ, List, Some, map}
+use Rattle.std.proofs.Common.{◌≡◌, sym, ap, ◌∙◌, subst, ℕ, List, Some}
 use Rattle.std.specs.Prelude.{IsSome}
 use Rattle.std.proofs.lemmas.Bool.{false≢true}
 use Rattle.um_tree.specs.ValueTree.{ValueTree, values_in_order, value_outcome}
 use Rattle.um_tree.specs.ProgramTree.{FunctionTree, ProgramTree}
-use Rattle.um_tree.specs.Meaning.{Stop, wrong, Out, stops, end_of, outcome_of_call}
+use Rattle.um_tree.specs.Meaning.{wrong, Out, stops, end_of, outcome_of_call}
 use Rattle.um_tree.specs.InputType.{ValuesHave}
 use Rattle.um_tree.specs.Shapes.{IsShaped, IsShapeOf, ShapeAt, shapes_below}
 use Rattle.um_shape.proofs.NeverWrong.{calls_are_never_wrong}
@@ -13,7 +13,6 @@ use Rattle.um_cells.specs.declared.word.Word.{Word}
 use Rattle.um_cells.specs.Stores.{DenotesIn, AllDenote, HasValue}
 use Rattle.um_cells.proofs.Denoting.{one_value, one_value_each}
 use Rattle.um_runner.specs.Arguments.{AreArgumentsOf}
-use Rattle.um_eval.specs.declared.next.End.{End}
 use Rattle.um_eval.specs.declared.next.End.TheVariants as end
 use Rattle.um_eval.specs.Progress.{EndsWith, end_of_call}
 

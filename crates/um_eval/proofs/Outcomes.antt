@@ -1,10 +1,7 @@
 -- Outcomes one after another, and values in order.
-use Rattle.std.proofs.Common.{◌≡◌, refl, sym, ap, ◌∙◌, subst, ℕ, zero, suc, ◌+◌, ◌-◌, ◌<◌, List, [], ◌∷◌, ◌++◌, length, take, append_assoc, arith, Option, Some, None, slice_get, Result, Ok, Err}
-use Rattle.std.specs.Prelude.{Bool, true, false}
-use Rattle.um_frac.specs.declared.number.Frac.{Frac}
-use Rattle.um_tree.specs.ValueTree.{ValueTree, ValueTrees, truth_value, number_value, list_value, record_value, no_values, more_values}
-use Rattle.um_tree.specs.ProgramTree.{FunctionTree}
-use Rattle.um_tree.specs.Meaning.{Stop, wrong, Out, gives, stops, then, choose, spend}
+use Rattle.std.proofs.Common.{◌≡◌, refl, sym, ap, ◌∙◌, ℕ, zero, suc, ◌-◌, ◌<◌, List, [], ◌∷◌, ◌++◌, length, take, append_assoc, arith}
+use Rattle.um_tree.specs.ValueTree.{ValueTree}
+use Rattle.um_tree.specs.Meaning.{Out, gives, stops, then, spend}
 
 -- the first item, and then the others
 others_added : {A B : Type 0} (q : Out (List A)) (v : A) (vs : List A) (g : List A → ℕ → Out B) → then (then q (λ us d. gives (v ∷ us) d)) (λ us d. g (vs ++ us) d) ≡ then q (λ us d. g (vs ++ v ∷ us) d)

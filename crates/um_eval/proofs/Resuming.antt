@@ -1,13 +1,11 @@
 -- What follows when a frame is handed the value of the expression inside it.
 use Rattle.std.proofs.Common.{◌≡◌, refl, sym, ap, ◌∙◌, subst, ℕ, zero, suc, ◌+◌, ◌-◌, ◌*◌, ◌<◌, List, [], ◌∷◌, ◌++◌, map, length, take, append_assoc, arith, Bor, Option, Some, None, slice_get, Result, Ok, Err}
 use Rattle.std.specs.Prelude.{Bool, true, false}
-use Rattle.std.proofs.lemmas.List.{length-map}
 use Rattle.um_tree.specs.declared.expression.Expr.{Expr}
-use Rattle.um_tree.specs.ValueTree.{ValueTree, truth_value, number_value, list_value, record_value, no_values, more_values, values_in_order}
-use Rattle.um_tree.specs.ExprTree.{ExprTree, ExprTrees, none, more, expr_tree, in_order}
+use Rattle.um_tree.specs.ValueTree.{ValueTree, truth_value, number_value, list_value, record_value, no_values, more_values}
+use Rattle.um_tree.specs.ExprTree.{none, more, expr_tree, in_order}
 use Rattle.um_tree.specs.ProgramTree.{FunctionTree}
-use Rattle.um_tree.specs.Meaning.{Stop, budget_end, wrong, Out, gives, stops, then, spend, found, with_budget, choose, on_list, Means, AllMean, Outcome}
-use Rattle.um_tree.specs.MeaningEquations.{DeclaredCallsMeanTheirBody, OtherCallsAreWrong, UndeclaredCallsAreWrong}
+use Rattle.um_tree.specs.Meaning.{Stop, wrong, Out, gives, stops, then, spend, with_budget, choose, on_list, Means, AllMean, Outcome}
 use Rattle.um_tree.proofs.Equations.{AllMean-none, AllMean-more, declared_calls_mean_their_body, other_calls_are_wrong, undeclared_calls_are_wrong}
 use Rattle.um_cells.specs.declared.store.Store.{Store}
 use Rattle.um_cells.specs.declared.word.Word.{Word}

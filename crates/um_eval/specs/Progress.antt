@@ -1,6 +1,6 @@
 -- What an evaluator comes to: the outcome of what is to be done next, inside its frames.
 -- Source: this project's own.
-use Rattle.std.specs.Prelude.{◌≡◌, ◌<◌, ◌+◌, ℕ, List, [], ◌∷◌, ◌++◌, reverse, slice_get, Option}
+use Rattle.std.specs.Prelude.{◌≡◌, ◌<◌, ◌+◌, ℕ, List, ◌++◌, reverse, slice_get, Option}
 use Rattle.um_tree.specs.ValueTree.{ValueTree, OutcomeTree}
 use Rattle.um_tree.specs.ExprTree.{ExprTrees, expr_tree}
 use Rattle.um_tree.specs.ProgramTree.{FunctionTree}

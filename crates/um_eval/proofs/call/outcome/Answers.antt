@@ -1,8 +1,7 @@
-use Rattle.std.proofs.Common.{◌≡◌, subst, sym, ap}
+use Rattle.std.proofs.Common.{subst}
 use Rattle.um_tree.specs.ValueTree.{value_tree}
-use Rattle.um_tree.specs.Meaning.{end_of}
 use Rattle.um_eval.specs.Progress.{EndsWith}
-use Rattle.um_eval.proofs.Ending.{value_is_there, value_ends, wrong_ends}
+use Rattle.um_eval.proofs.Ending.{value_is_there, value_ends}
 use Rattle.um_eval.proofs.call.outcome.Goals as goal
 
 pub get-requires : goal.get-requires

@@ -1,4 +1,4 @@
-use Rattle.std.proofs.Common.{◌≡◌, ◌+◌, [], ap, map, reverse}
+use Rattle.std.proofs.Common.{◌+◌, ap, map, reverse}
 use Rattle.um_tree.specs.ProgramTree.{function_tree}
 use Rattle.um_tree.specs.Meaning.{Outcome}
 use Rattle.um_eval.specs.Work.{steps_left}

@@ -1,7 +1,7 @@
-use Rattle.std.proofs.Common.{rules, ◌≡◌, sym, ap, ◌∙◌, subst, ◌∷◌, [], reverse}
+use Rattle.std.proofs.Common.{sym, ap, ◌∙◌, subst, ◌∷◌, [], reverse}
 use Rattle.std.proofs.lemmas.List.{reverse-append}
 use Rattle.um_eval.specs.declared.next.Next.TheVariants.{Evaluate}
-use Rattle.um_eval.specs.Progress.{Within, frames_of}
+use Rattle.um_eval.specs.Progress.{Within}
 use Rattle.um_eval.proofs.evaluator.Evaluator.begin.Goals as goal
 
 pub returns : goal.returns

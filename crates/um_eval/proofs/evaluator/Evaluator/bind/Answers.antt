@@ -1,4 +1,4 @@
-use Rattle.std.proofs.Common.{◌≡◌, ◌∙◌}
+use Rattle.std.proofs.Common.{◌∙◌}
 use Rattle.um_eval.specs.Progress.{frames_of}
 use Rattle.um_eval.proofs.Resuming.{bound_leads}
 use Rattle.um_eval.proofs.evaluator.Evaluator.bind.Goals as goal

@@ -1,4 +1,4 @@
-use Rattle.std.proofs.Common.{◌≡◌, ◌∷◌, [], refl, map, subst}
+use Rattle.std.proofs.Common.{refl, map, subst}
 use Rattle.std.proofs.lemmas.List.{nil_from_length}
 use Rattle.um_tree.specs.ExprTree.{expr_tree, in_order}
 use Rattle.um_tree.specs.ProgramTree.{function_tree}

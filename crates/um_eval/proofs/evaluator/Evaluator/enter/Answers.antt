@@ -1,4 +1,4 @@
-use Rattle.std.proofs.Common.{◌≡◌, map}
+use Rattle.std.proofs.Common.{map}
 use Rattle.um_tree.specs.ProgramTree.{function_tree}
 use Rattle.um_eval.specs.Progress.{frames_of}
 use Rattle.um_eval.proofs.Lookup.{mapped_found, mapped_past}

@@ -1,5 +1,6 @@
-use Rattle.std.proofs.Common.{◌≡◌, ◌<◌, ◌-◌, ◌∷◌, ◌∙◌, sym, ap, subst, refl, map, length, arith, rules}
+use Rattle.std.proofs.Common.{◌≡◌, ◌-◌, ◌∷◌, ◌∙◌, sym, subst, refl, length, arith, rules, Bor}
 use Rattle.std.proofs.lemmas.List.{length-map}
+use Rattle.um_tree.specs.declared.expression.Expr.{Expr}
 use Rattle.um_tree.specs.TypeTree.{note_tree}
 use Rattle.um_tree.specs.ProgramTree.{function_tree}
 use Rattle.um_cells.specs.Stores.{AllDenote}
@@ -32,7 +33,8 @@ returns c = λ fs j out n e h.
     let words : c.len.result ≡ length c.args.words.items = search rules in
     let asked : c.len-2.result ≡ length f.params = omega (arith, length-map c.args.function.now.params.items.items note_tree, c.len-2.ensures, c.args.function.now.params.items.ok.0) in
     let inside = Body c.replace-callers.result in
+    let body : Bor Expr = record { ref_ptr = c.args.function.ref_ptr; now = c.args.function.now.body } in
     c.begin.ensures fs out n
-    (subst (λ v. Leads fs m.store v.items (m.budget - 1) (inside ∷ frames_of m) (Evaluate _) out n) (sym c.replace-callers.ensures.after)
-    (body_leads fs m.store m.scope.items m.budget (frames_of m) out j c.args.words.items n f _ inside e (sym words ∙ c.if-len.false ∙ asked) refl (omega arith)
+    (subst (λ v. Leads fs m.store v.items (m.budget - 1) (inside ∷ frames_of m) (Evaluate body) out n) (sym c.replace-callers.ensures.after)
+    (body_leads fs m.store m.scope.items m.budget (frames_of m) out j c.args.words.items n f body inside e (sym words ∙ c.if-len.false ∙ asked) refl (omega arith)
     (λ vars callers o d k. (callers, subst (λ v. AllDenote m.store v.items callers) (sym c.replace-callers.ensures.value) d, k)) refl h))

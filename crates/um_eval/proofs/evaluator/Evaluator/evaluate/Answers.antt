@@ -1,4 +1,4 @@
-use Rattle.std.proofs.Common.{rules, ◌≡◌, ◌∷◌, ◌+◌, sym, subst, map, w32, SFits}
+use Rattle.std.proofs.Common.{rules, ◌≡◌, ◌∷◌, sym, subst, map, w32, SFits}
 use Rattle.std.proofs.lemmas.Int.{to_z-of_z}
 use Rattle.um_tree.specs.ExprTree.{truth, number, local, call, negate, not_expr, pown, arith, compare, both, either, if, bind, split, nil, list_expr, cons, record_expr, field, expr_tree, in_order}
 use Rattle.um_tree.specs.TypeTree.{note_tree}

@@ -1,4 +1,4 @@
-use Rattle.std.proofs.Common.{rules, ◌≡◌, refl, sym, subst, map}
+use Rattle.std.proofs.Common.{refl, sym, subst, map}
 use Rattle.um_tree.specs.ValueTree.{list_value, record_value, values_in_order}
 use Rattle.um_tree.specs.ProgramTree.{function_tree}
 use Rattle.um_cells.specs.Stores.{AllDenote}

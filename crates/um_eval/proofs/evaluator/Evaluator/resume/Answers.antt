@@ -1,4 +1,4 @@
-use Rattle.std.proofs.Common.{◌≡◌, ◌∷◌, ◌+◌, sym, subst, refl, map}
+use Rattle.std.proofs.Common.{◌∷◌, ◌+◌, sym, subst, refl, map}
 use Rattle.um_tree.specs.ProgramTree.{function_tree}
 use Rattle.um_eval.specs.declared.next.Next.TheVariants.{Give}
 use Rattle.um_eval.specs.declared.frame.Frame.TheVariants as frame

@@ -1,4 +1,4 @@
-use Rattle.std.proofs.Common.{◌≡◌, ◌∷◌, ◌+◌, ◌∙◌, ℕ, [], ap, subst, sym, map, reverse}
+use Rattle.std.proofs.Common.{◌∷◌, ◌+◌, ◌∙◌, [], ap, subst, sym, map, reverse}
 use Rattle.std.proofs.lemmas.List.{reverse-append, nil_from_length}
 use Rattle.um_tree.specs.ProgramTree.{function_tree}
 use Rattle.um_eval.specs.declared.next.Next.TheVariants.{Give}

@@ -1,4 +1,4 @@
-use Rattle.std.proofs.Common.{rules, ◌≡◌, sym, ap, ◌∙◌, subst, Some, None, slice_get}
+use Rattle.std.proofs.Common.{subst}
 use Rattle.um_tree.specs.Meaning.{found, wrong}
 use Rattle.um_eval.specs.Progress.{frames_of}
 use Rattle.um_eval.specs.Frames.{Completes}
