@@ -121,10 +121,14 @@ module _ (fs : List FunctionTree) (s : Store) (scope : List Word) (b : ℕ) (fra
 
     pub bound_leads : (y : Bor Expr) (inner : List Word) (k : ℕ) → inner ≡ scope ++ w ∷ [] → k ≡ length scope → Leads fs s scope b (frame.Bound y ∷ frames) (Give w) out (n + 1) → Leads fs s inner b (frame.Inner k ∷ frames) (Evaluate y) out n
     bound_leads y inner k e m ((vars, v, d, x, h), l) =
-        let many : k ≡ length vars = m ∙ sym (length-DenoteEach s.cells.items scope vars d) in
-        ((vars ++ v ∷ [], one_more s scope inner vars w v e d x,
-          subst (λ us. Completes fs s frames us (Means fs (vars ++ v ∷ []) (expr_tree y.now) b) out) (sym (outside vars (v ∷ []) k many)) h),
-         omega (arith, l))
+        let many : k ≡ length vars = m ∙ sym (length-DenoteEach s.cells.items scope vars d) in (
+          (
+            vars ++ v ∷ [],
+            one_more s scope inner vars w v e d x,
+            subst (λ us. Completes fs s frames us (Means fs (vars ++ v ∷ []) (expr_tree y.now) b) out) (sym (outside vars (v ∷ []) k many)) h,
+          ),
+          omega (arith, l),
+        )
 
     pub inner_leads : (k : ℕ) (cut : List Word) → cut ≡ take k scope → Leads fs s scope b (frame.Inner k ∷ frames) (Give w) out (n + 1) → Leads fs s cut b frames (Give w) out n
     inner_leads k cut e ((vars, v, d, x, h), l) =
@@ -168,47 +172,64 @@ module _ (fs : List FunctionTree) (s : Store) (scope : List Word) (b : ℕ) (fra
     items_leads f o pushed inner k e g m apart ((vars, v, d, p, h), l) =
         let many : k ≡ length vars = m ∙ sym (length-DenoteEach s.cells.items scope vars d) in
         let (u, us, df, dr, is) = with_items v f o (Means fs vars (expr_tree x.now)) (λ h t. Means fs (vars ++ h ∷ t ∷ []) (expr_tree y.now)) (apart v p) in
-        let all : inner ≡ scope ++ f ∷ o ∷ [] = g ∙ ap (λ ws. ws ++ o ∷ []) e ∙ append_assoc scope (f ∷ []) (o ∷ []) in
-        ((vars ++ u ∷ us ∷ [],
-          subst (λ ws. AllDenote s ws (vars ++ u ∷ us ∷ [])) (sym all) (DenoteEach-append s.cells.items scope (f ∷ o ∷ []) vars (u ∷ us ∷ []) d (df, (dr, tt))),
-          subst (λ zs. Completes fs s frames zs (Means fs (vars ++ u ∷ us ∷ []) (expr_tree y.now) b) out) (sym (outside vars (u ∷ us ∷ []) k many))
-          (subst (λ z. Completes fs s frames vars z out) is h)),
-         omega (arith, l))
+        let all : inner ≡ scope ++ f ∷ o ∷ [] = g ∙ ap (λ ws. ws ++ o ∷ []) e ∙ append_assoc scope (f ∷ []) (o ∷ []) in (
+          (
+            vars ++ u ∷ us ∷ [],
+            subst (λ ws. AllDenote s ws (vars ++ u ∷ us ∷ [])) (sym all) (DenoteEach-append s.cells.items scope (f ∷ o ∷ []) vars (u ∷ us ∷ []) d (df, (dr, tt))),
+            subst (λ zs. Completes fs s frames zs (Means fs (vars ++ u ∷ us ∷ []) (expr_tree y.now) b) out) (sym (outside vars (u ∷ us ∷ []) k many))
+                (subst (λ z. Completes fs s frames vars z out) is h),
+          ),
+          omega (arith, l),
+        )
 
   -- ---- collections
   module _ (c : Collection) (n : ℕ) where
     -- the value of an item is there
     pub item_there : (w : Word) (f : Frame) (rest : Bor (List Expr)) (done words : List Word) → ((vars : List ValueTree) (m : Out ValueTree) → Completes fs s (f ∷ frames) vars m out → (vs : List ValueTree) × AllDenote s done vs × Completes fs s frames vars (then m (λ v b. then (AllMean fs vars (in_order (map expr_tree rest.now)) b) (λ us d. collected fs c (vs ++ v ∷ us) d))) out) → frame_steps f ≡ steps_of_each (in_order (map expr_tree rest.now)) + 2 → words ≡ done ++ w ∷ [] → Leads fs s scope b (f ∷ frames) (Give w) out (n + 1) → Collecting fs s scope b frames c (in_order (map expr_tree rest.now)) words out n
     item_there w f rest done words inside many e ((vars, v, d, x, k), l) =
-        let (vs, p, h) = inside vars (gives v b) k in
-        (vars, vs ++ v ∷ [], d, one_more s done words vs w v e p x,
-         subst (λ o. Completes fs s frames vars o out) (item_moves (AllMean fs vars (in_order (map expr_tree rest.now)) b) v vs (collected fs c)) h,
-         omega (arith, l, many))
+        let (vs, p, h) = inside vars (gives v b) k in (
+          vars,
+          vs ++ v ∷ [],
+          d,
+          one_more s done words vs w v e p x,
+          subst (λ o. Completes fs s frames vars o out) (item_moves (AllMean fs vars (in_order (map expr_tree rest.now)) b) v vs (collected fs c)) h,
+          omega (arith, l, many),
+        )
 
     -- the next item is evaluated
     pub next_item : (f : Frame) (item : Bor Expr) (behind : List Expr) (done : List Word) → ((vars vs : List ValueTree) (m : Out ValueTree) → AllDenote s done vs → Completes fs s frames vars (then m (λ v b. then (AllMean fs vars (in_order (map expr_tree behind)) b) (λ us d. collected fs c (vs ++ v ∷ us) d))) out → Completes fs s (f ∷ frames) vars m out) → frame_steps f ≡ steps_of_each (in_order (map expr_tree behind)) + 2 → Collecting fs s scope b frames c (more (expr_tree item.now) (in_order (map expr_tree behind))) done out n → Leads fs s scope b (f ∷ frames) (Evaluate item) out n
     next_item f item behind done close many (vars, vs, d, p, h, l) =
         let others = in_order (map expr_tree behind) in
         let first : Completes fs s frames vars (then (Means fs vars (expr_tree item.now) b) (λ v b. then (AllMean fs vars others b) (λ us d. collected fs c (vs ++ v ∷ us) d))) out =
-            subst (λ o. Completes fs s frames vars o out)
-            (ap (λ q. then q (λ us d. collected fs c (vs ++ us) d)) (AllMean-more fs vars (expr_tree item.now) others b)
-             ∙ first_added (Means fs vars (expr_tree item.now) b) (AllMean fs vars others) vs (collected fs c)) h in
+        subst (λ o. Completes fs s frames vars o out)
+        (ap (λ q. then q (λ us d. collected fs c (vs ++ us) d)) (AllMean-more fs vars (expr_tree item.now) others b)
+        ∙ first_added (Means fs vars (expr_tree item.now) b) (AllMean fs vars others) vs (collected fs c)) h in
         ((vars, d, close vars vs (Means fs vars (expr_tree item.now) b) p first), omega (arith, l, many))
 
     -- no item is left
     pub all_there : (done : List Word) → Collecting fs s scope b frames c none done out n → AllCollected fs s scope b frames c done out n
-    all_there done (vars, vs, d, p, h, l) =
-        (vars, vs, d, p,
-         subst (λ o. Completes fs s frames vars o out)
-         (ap (λ q. then q (λ us d. collected fs c (vs ++ us) d)) (AllMean-none fs vars b) ∙ ap (λ us. collected fs c us b) (append_none vs)) h,
-         omega (arith, l))
+    all_there done (vars, vs, d, p, h, l) = (
+      vars,
+      vs,
+      d,
+      p,
+      subst (λ o. Completes fs s frames vars o out)
+          (ap (λ q. then q (λ us d. collected fs c (vs ++ us) d)) (AllMean-none fs vars b) ∙ ap (λ us. collected fs c us b) (append_none vs)) h,
+      omega (arith, l),
+    )
 
   -- what is collected is made
   pub made_leads : (t : Store) (c : Collection) (words : List Word) (w : Word) (value : List ValueTree → ValueTree) (n : ℕ) → Keeps s t → ((vs : List ValueTree) → AllDenote s words vs → DenotesIn t w (value vs)) → ((vs : List ValueTree) → collected fs c vs b ≡ gives (value vs) b) → AllCollected fs s scope b frames c words out n → Leads fs t scope b frames (Give w) out n
-  made_leads t c words w value n k den is (vars, vs, d, p, h, l) =
-      ((vars, value vs, retained_each s.cells.items t.cells.items k scope vars d, den vs p,
-        completes_kept fs s t k frames vars (gives (value vs) b) out (subst (λ o. Completes fs s frames vars o out) (is vs) h)),
-       omega (arith, l))
+  made_leads t c words w value n k den is (vars, vs, d, p, h, l) = (
+    (
+      vars,
+      value vs,
+      retained_each s.cells.items t.cells.items k scope vars d,
+      den vs p,
+      completes_kept fs s t k frames vars (gives (value vs) b) out (subst (λ o. Completes fs s frames vars o out) (is vs) h),
+    ),
+    omega (arith, l),
+  )
 
   -- ---- operations of two parts
   pub left_value : (op : Binary) (x w : Word) (n : ℕ) → Leads fs s scope b (frame.Right op x ∷ frames) (Give w) out n → HasValue s x
@@ -246,10 +267,11 @@ module _ (fs : List FunctionTree) (s : Store) (scope : List Word) (b : ℕ) (fra
     pub body_leads : (f : FunctionTree) (body : Bor Expr) (fr : Frame) → slice_get fs j ≡ Some f → length words ≡ length f.params → expr_tree body.now ≡ f.body → 0 < b → ((vars callers : List ValueTree) (m : Out ValueTree) → AllDenote s scope callers → Completes fs s frames callers m out → Completes fs s (fr ∷ frames) vars m out) → frame_steps fr ≡ 1 → AllCollected fs s scope b frames (collection.Call j) words out n → Leads fs s words (b - 1) (fr ∷ frames) (Evaluate body) out n
     body_leads f body fr e same is some close one (vars, vs, d, p, h, l) =
         let means : Outcome fs j vs b ≡ Means fs vs (expr_tree body.now) (b - 1) =
-            declared_calls_mean_their_body fs j vs f b e (length-DenoteEach s.cells.items words vs p ∙ same) ∙ spent b (Means fs vs f.body) some ∙ ap (λ t. Means fs vs t (b - 1)) (sym is) in
+        declared_calls_mean_their_body fs j vs f b e (length-DenoteEach s.cells.items words vs p ∙ same) ∙ spent b (Means fs vs f.body) some ∙ ap (λ t. Means fs vs t (b - 1)) (sym is) in
         let most : steps f.body < most_steps fs + 1 = most_holds fs j f e in
         let size : steps (expr_tree body.now) ≡ steps f.body = ap steps is in
-        let whole : b ≡ (b - 1) + 1 = omega (arith, some) in
-        ((vs, p, close vs vars (Means fs vs (expr_tree body.now) (b - 1)) d (subst (λ o. Completes fs s frames vars o out) means h)),
-         call_falls (b - 1) (most_steps fs) (frames_steps frames) (frame_steps fr) (steps (expr_tree body.now)) n (omega (arith, most, size)) one
-         (subst (λ k. k * most_steps fs + frames_steps frames + 1 < n) whole l))
+        let whole : b ≡ (b - 1) + 1 = omega (arith, some) in (
+          (vs, p, close vs vars (Means fs vs (expr_tree body.now) (b - 1)) d (subst (λ o. Completes fs s frames vars o out) means h)),
+          call_falls (b - 1) (most_steps fs) (frames_steps frames) (frame_steps fr) (steps (expr_tree body.now)) n (omega (arith, most, size)) one
+              (subst (λ k. k * most_steps fs + frames_steps frames + 1 < n) whole l),
+        )

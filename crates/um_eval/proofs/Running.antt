@@ -46,7 +46,11 @@ given_ends fs s scope b frames w out n e h = ended (subst (λ fr. Leads fs s sco
 
 -- a call without frames comes to the outcome
 pub called : (fs : List FunctionTree) (s : Store) (scope : List Word) (b : ℕ) (frames : List Frame) (j : ℕ) (words : List Word) (vs : List ValueTree) → scope ≡ [] → frames ≡ [] → AllDenote s words vs → AllCollected fs s scope b frames (collection.Call j) words (Outcome fs j vs b) (steps_left fs b frames 1 + 1)
-called fs s scope b frames j words vs e g d =
-    ([], vs, subst (λ ws. AllDenote s ws []) (sym e) tt, d,
-     subst (λ fr. Completes fs s fr [] (collected fs (collection.Call j) vs b) (Outcome fs j vs b)) (sym g) refl,
-     omega arith)
+called fs s scope b frames j words vs e g d = (
+  [],
+  vs,
+  subst (λ ws. AllDenote s ws []) (sym e) tt,
+  d,
+  subst (λ fr. Completes fs s fr [] (collected fs (collection.Call j) vs b) (Outcome fs j vs b)) (sym g) refl,
+  omega arith,
+)

@@ -16,7 +16,6 @@ pub struct TreeRunner<'a> {
 
 impl<'a> Model for TreeRunner<'a> {
     ghost use Rattle.um_tree.specs.declared.program.Program.{Program};
-
     ghost use Rattle.um_tree.specs.contracts.program.Program.{the_row};
 
     ghost Value = { Program };
