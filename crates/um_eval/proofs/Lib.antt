@@ -1,0 +1,7 @@
+mod Completing
+mod Outcomes
+mod Lookup
+mod Starting
+mod Resuming
+mod Running
+mod Ending

@@ -1,0 +1,55 @@
+//! Frames: where in the tree the expression stands that is evaluated, and what is still to be done with its value.
+use um_cells::Word;
+use um_tree::{Arith, Expr, Sign};
+
+/// The operations of one part.
+#[derive(Clone, Copy)]
+pub(crate) enum Unary {
+    Negate,
+    Not,
+    Power(i32),
+    /// The record's number and the field's
+    Field(u32, u32),
+}
+
+/// The operations of two parts that are both evaluated.
+#[derive(Clone, Copy)]
+pub(crate) enum Binary {
+    Arith(Arith),
+    Compare(Sign),
+    Cons,
+}
+
+/// What is made of some values in order.
+#[derive(Clone, Copy)]
+pub(crate) enum Collection {
+    List,
+    /// A value of the record of this number
+    Rec(u32),
+    /// A call of the function of this number
+    Call(u32),
+}
+
+/// Where the expression stands that is evaluated.
+#[derive(Drop)]
+pub(crate) enum Frame<'a> {
+    Operand(Unary),
+    /// The second part is still to be evaluated
+    Left(Binary, &'a Expr),
+    /// The first part's value
+    Right(Binary, Word),
+    LeftOfAnd(&'a Expr),
+    LeftOfOr(&'a Expr),
+    /// The two arms of an `if`
+    Test(&'a Expr, &'a Expr),
+    /// The second part of a `let`
+    Bound(&'a Expr),
+    /// The two arms of a `match`
+    Matched(&'a Expr, &'a Expr),
+    /// Behind a binder: how many variables there are outside
+    Inner(usize),
+    /// The items behind it, and the values of those before it
+    Item(Collection, &'a [Expr], Vec<Word>),
+    /// The body of a function: the caller's variables
+    Body(Vec<Word>),
+}

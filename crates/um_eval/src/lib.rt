@@ -1,0 +1,14 @@
+//! The tree runner: evaluates the resolved tree of a shaped program.
+//!
+//! What is still to be done stands in frames on a vector, so that neither calls nor the depth of the tree use the
+//! host's stack.
+#![tactic(auto)]
+
+mod call;
+mod evaluator;
+mod frame;
+mod next;
+mod operations;
+mod runner;
+
+pub use runner::TreeRunner;

@@ -1,0 +1,52 @@
+//! The tree runner.
+use crate::call::{put_arguments, run_call};
+use std::alloc::Global;
+use std::marker::Model;
+use um_cells::Store;
+use um_runner::Runner;
+use um_shape::Shaped;
+use um_tree::{Outcome, Values};
+use um_units::NoMemory;
+
+/// Runs the functions of a shaped program by its resolved tree. Contracts see the program.
+#[derive(Drop)]
+pub struct TreeRunner<'a> {
+    shaped: &'a Shaped,
+}
+
+impl<'a> Model for TreeRunner<'a> {
+    ghost use Rattle.um_tree.specs.declared.program.Program.{Program};
+    ghost use Rattle.um_tree.specs.contracts.program.Program.{the_row};
+
+    ghost Value = { Program };
+
+    ghost coded = { the_row.coded };
+
+    ghost view = { λ r. r.shaped.now };
+}
+
+impl<'a> TreeRunner<'a> {
+    ghost use Rattle.std.specs.Prelude.{◌≡◌};
+
+    /// A runner of the program. Takes no memory.
+    pub fn new(shaped: &'a Shaped) -> TreeRunner<'a>
+        ensures { result ≡ shaped.now }
+    {
+        TreeRunner { shaped }
+    }
+}
+
+impl<'a> Runner for TreeRunner<'a> {
+    ghost use Rattle.um_tree.specs.ProgramTree.{program_tree};
+
+    ghost program = { λ r. program_tree r };
+
+    /// Evaluates the body of the function. Lists and records stand in cells of a store, so a variable is copied at
+    /// once.
+    fn call(&self, alloc: Global, f: u32, args: Values, budget: u64) -> Result<Outcome, NoMemory> {
+        let functions = &self.shaped.program().functions.items;
+        let mut store = Store::new(alloc);
+        let words = put_arguments(alloc, &mut store, args)?;
+        run_call(alloc, functions, store, f, words, budget)
+    }
+}
