@@ -14,7 +14,7 @@ ghost use Rattle.um_rows.specs.Answers.{rows_signature};
 ghost use Rattle.um_rows.specs.Judgement.{by_rows};
 ghost use Rattle.um_infer.specs.Forming.{IsAnswer, RefusesUnless};
 
-use crate::general::generalised_types;
+use crate::general::general_types;
 use crate::refusal::Refusal;
 use crate::solving::rigid_solver;
 use std::alloc::{AllocError, Global};
@@ -42,8 +42,8 @@ pub(crate) fn formed_scheme(
 {
     let solver = rigid_solver(alloc, rows.slots, bases, parameters, &rows.list.items)?;
     let types = solved_types(alloc, &solver, rows, at)?;
-    let items = generalised_types(alloc, bases, parameters, rows.slots, &types.items)?;
-    Ok(numbered_scheme(alloc, Types { items })?)
+    let general = general_types(alloc, bases, parameters, rows.slots, types)?;
+    Ok(numbered_scheme(alloc, general)?)
 }
 
 /// The types with the solution put for their slots, the result's last.

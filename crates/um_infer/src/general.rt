@@ -3,13 +3,13 @@
 
 ghost use Rattle.std.specs.Prelude.{◌≡◌, ◌<◌, ◌+◌, ◌^◌, All, IfOk, map};
 ghost use Rattle.std.specs.List.{flat_map};
-ghost use Rattle.um_tree.specs.TypeTree.{type_tree};
+ghost use Rattle.um_tree.specs.TypeTree.{type_tree, type_trees};
 ghost use Rattle.um_tree.specs.Typing.{moved};
 ghost use Rattle.um_tree.specs.Scheme.{unit_variables, type_variables, variables};
 ghost use Rattle.um_rows.specs.Generalised.{generalised_atom as atom_in_place, generalised_term, generalised_unit as unit_in_place};
 
 use std::alloc::{AllocError, Global};
-use um_tree::Ty;
+use um_tree::{Ty, Types};
 use um_units::{Atom, Term, Unit, UnitStop, Units};
 
 fn generalised_atom(bases: u32, parameters: u32, slots: u32, atom: Atom) -> Atom
@@ -114,8 +114,7 @@ fn generalised_type(
     }
 }
 
-/// The types with the unit parameters as variables. No power changes.
-pub(crate) fn generalised_types(
+fn generalised_types(
     alloc: Global,
     bases: u32,
     parameters: u32,
@@ -133,4 +132,26 @@ pub(crate) fn generalised_types(
         items.push(generalised_type(alloc, bases, parameters, slots, ty)?)?;
     }
     Ok(items)
+}
+
+/// The types with the unit parameters as variables, and as they are where there are none. No power changes.
+pub(crate) fn general_types(
+    alloc: Global,
+    bases: u32,
+    parameters: u32,
+    slots: u32,
+    types: Types,
+) -> Result<Types, AllocError>
+    requires bases { bases + parameters < 2 ^ 32 }
+    requires slots { slots + parameters < 2 ^ 32 }
+    requires variables { All (λ k. k < slots) (variables (type_trees types)) }
+    ensures { IfOk result (λ made. type_trees made
+        ≡ map (moved (unit_in_place bases parameters slots)) (type_trees types)) }
+{
+    if parameters == 0 {
+        return Ok(types);
+    }
+    let items = generalised_types(alloc, bases, parameters, slots, &types.items);
+    drop(types);
+    Ok(Types { items: items? })
 }

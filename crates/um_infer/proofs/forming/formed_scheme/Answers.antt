@@ -1,15 +1,13 @@
-use Rattle.std.proofs.Common.{◌+◌, ◌<◌, map, ap, ◌∙◌, subst, sym, arith}
+use Rattle.std.proofs.Common.{◌+◌, ◌<◌, ap, ◌∙◌, subst, sym, arith}
 use Rattle.std.specs.Prelude.{All}
 use Rattle.std.proofs.lemmas.List.Elements.{All-weaker}
 use Rattle.std.proofs.lemmas.Result.{err_from_is_err_and}
-use Rattle.um_tree.specs.TypeTree.{type_tree, type_trees}
+use Rattle.um_tree.specs.TypeTree.{type_trees}
 use Rattle.um_tree.specs.ProgramTree.{scheme_tree}
-use Rattle.um_tree.specs.Typing.{moved}
 use Rattle.um_tree.specs.Scheme.{signature_types, variables}
 use Rattle.um_elim.specs.Solution.{rigid_units}
 use Rattle.um_rows.specs.Answers.{rows_signature}
 use Rattle.um_rows.specs.FirstUnsolvable.{solve}
-use Rattle.um_rows.specs.Generalised.{generalised_unit}
 use Rattle.um_rows.specs.Judgement.{by_rows}
 use Rattle.um_infer.specs.Forming.{IsSolutionOf, IsRefusal}
 use Rattle.um_infer.proofs.FormingSteps.{puts_below, formed_is_judged, past_is_judged}
@@ -19,13 +17,13 @@ use Rattle.um_infer.proofs.forming.formed_scheme.Goals as goal
 pub rigid_solver-requires-clause-variables : goal.rigid_solver-requires-clause-variables
 rigid_solver-requires-clause-variables c = rw c.deref.ensures.value c.requires.rows
 
-pub generalised_types-requires-clause-variables : goal.generalised_types-requires-clause-variables
-generalised_types-requires-clause-variables c =
+pub general_types-requires-clause-variables : goal.general_types-requires-clause-variables
+general_types-requires-clause-variables c =
     let n = c.args.rows.now.slots in
     let solution : IsSolutionOf n (rigid_units c.args.bases c.args.parameters n) c.deref.result.now c.in_ok-solver.solver = c.in_ok-solver.ensures in
     let ts = signature_types (rows_signature c.args.rows.now) in
     let low = puts_below n c.in_ok-solver.solver.units solution.below ts (subst (λ m. All (λ k. k < m) (variables ts)) (sym solution.count) c.requires.types) in
-    subst (λ us. All (λ k. k < n) (variables (map type_tree us))) (sym c.deref-2.ensures.value) (subst (λ us. All (λ k. k < n) (variables us)) (sym c.in_ok-types.ensures.solved) low)
+    subst (λ us. All (λ k. k < n) (variables us)) (sym c.in_ok-types.ensures.solved) low
 
 pub numbered_scheme-requires-clause-variables : goal.numbered_scheme-requires-clause-variables
 numbered_scheme-requires-clause-variables c =
@@ -36,9 +34,8 @@ numbered_scheme-requires-clause-variables c =
     let low = puts_below n c.in_ok-solver.solver.units solution.below ts (subst (λ m. All (λ k. k < m) (variables ts)) (sym solution.count) c.requires.types) in
     let here = subst (λ us. All (λ k. k < n) (variables us)) (sym c.in_ok-types.ensures.solved) low in
     let stays = types_stay c.args.bases c.args.parameters n (type_trees c.in_ok-types.types) here in
-    let made = c.in_ok-items.ensures ∙ ap (λ us. map (moved (generalised_unit c.args.bases c.args.parameters n)) (map type_tree us)) c.deref-2.ensures.value in
-    All-weaker (λ k. k < n + c.args.parameters) (λ k. k < 4294967295) (λ k h. omega (arith, h, few)) (variables (map type_tree c.in_ok-items.items.items))
-    (subst (λ us. All (λ k. k < n + c.args.parameters) (variables us)) (sym made) stays)
+    All-weaker (λ k. k < n + c.args.parameters) (λ k. k < 4294967295) (λ k h. omega (arith, h, few)) (variables (type_trees c.in_ok-general.general))
+    (subst (λ us. All (λ k. k < n + c.args.parameters) (variables us)) (sym c.in_ok-general.ensures) stays)
 
 pub returns-in_err-solver : goal.returns-in_err-solver
 returns-in_err-solver c =
@@ -60,6 +57,5 @@ returns c =
     let solution : IsSolutionOf n (rigid_units c.args.bases c.args.parameters n) c.deref.result.now c.in_ok-solver.solver = c.in_ok-solver.ensures in
     let rows = c.args.rows.now.list.items.items in
     let solves = ap (λ rs. solve 0 rs (rigid_units c.args.bases c.args.parameters n)) (sym c.deref.ensures.value) ∙ solution.solves in
-    let made = c.in_ok-items.ensures ∙ ap (λ us. map (moved (generalised_unit c.args.bases c.args.parameters n)) (map type_tree us)) c.deref-2.ensures.value in
-    formed_is_judged c.args.bases c.args.parameters n c.args.at (rows_signature c.args.rows.now) rows c.in_ok-solver.solver.units solves (type_trees c.in_ok-types.types) (map type_tree c.in_ok-items.items.items) (scheme_tree c.in_ok-numbered_scheme.field-0)
-    c.in_ok-types.ensures.solved c.in_ok-types.ensures.range made c.in_ok-numbered_scheme.ensures.types c.in_ok-numbered_scheme.ensures.vars
+    formed_is_judged c.args.bases c.args.parameters n c.args.at (rows_signature c.args.rows.now) rows c.in_ok-solver.solver.units solves (type_trees c.in_ok-types.types) (type_trees c.in_ok-general.general) (scheme_tree c.in_ok-numbered_scheme.field-0)
+    c.in_ok-types.ensures.solved c.in_ok-types.ensures.range c.in_ok-general.ensures c.in_ok-numbered_scheme.ensures.types c.in_ok-numbered_scheme.ensures.vars
