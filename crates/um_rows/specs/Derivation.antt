@@ -98,7 +98,7 @@ module _ (holes names : ℕ → PowerMap) where
           let z = derive n vars l in
           let x = derive (n + expr_holes records callee l) vars a in
           let y = derive (n + expr_holes records callee l + expr_holes records callee a)
-              (vars ++ item z.type ∷ z.type ∷ []) b in
+          (vars ++ item z.type ∷ z.type ∷ []) b in
           after (z.steps ++ (x.steps ++ y.steps)) (split_rule at z.type x.type y.type)
       derive n vars (nil at m) = nil_rule at (noted_type n m)
       derive n vars (list_expr at es) =

@@ -185,7 +185,14 @@ pub(crate) fn reply_to_not_general(
 ) -> Result<Reply, AllocError>
     ensures { IfOk result (λ reply. IsNotGeneralReply bytes.now name.now at reply.text.items reply.status) }
 {
-    reply_named(alloc, b"error 19: not general in ", name, bytes, at, Status::NotGeneral)
+    reply_named(
+        alloc,
+        b"error 19: not general in ",
+        name,
+        bytes,
+        at,
+        Status::NotGeneral,
+    )
 }
 
 /// The refusal of a function of this name that forms a power past the range.
@@ -197,7 +204,14 @@ pub(crate) fn reply_to_range(
 ) -> Result<Reply, AllocError>
     ensures { IfOk result (λ reply. IsRangeReply bytes.now name.now at reply.text.items reply.status) }
 {
-    reply_named(alloc, b"error 10: power range of ", name, bytes, at, Status::PowerRange)
+    reply_named(
+        alloc,
+        b"error 10: power range of ",
+        name,
+        bytes,
+        at,
+        Status::PowerRange,
+    )
 }
 
 /// The refusal of a function, whose name stands at the place, that has too many slots.
