@@ -11,5 +11,6 @@ mod ProgramLow
 mod ProgramExact
 mod ProgramNodes
 mod LimitLaws
+mod Inside
 mod DeclTaken
 mod ProgramSteps

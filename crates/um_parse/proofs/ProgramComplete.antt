@@ -62,7 +62,7 @@ goes_on decls (InResult head ps s) over ok = refl
 goes_on decls (InBody head ps r e) over ok = refl
 goes_on decls NoDecl over ok = absurd (ok refl)
 
-decl_inside : (decls : List DeclSyntax) (d new : DeclState) (token : Token) → decl_step d token ≡ new → new ≢ NoDecl → program_step (InProgram decls d) token ≡ InProgram decls new
+pub decl_inside : (decls : List DeclSyntax) (d new : DeclState) (token : Token) → decl_step d token ≡ new → new ≢ NoDecl → program_step (InProgram decls d) token ≡ InProgram decls new
 decl_inside decls d new token e ok =
     let over : ProgramState = next_decl decls (decl_finish d) (decl_step (Expects DeclBegin) token) in
     ap (λ w. program_goes decls w over) e ∙ goes_on decls new over ok
