@@ -3,7 +3,7 @@ use Rattle.std.proofs.Common.{◌≡◌, ◌≢◌, ℕ, ◌≤◌, max, List, [
 use Rattle.um_syntax.specs.declared.token.Token.{Token}
 use Rattle.um_tree.specs.declared.expression.Sign.TheVariants as compare
 use Rattle.um_tree.specs.RawTree.{UnitSyntax, TypeSyntax, bool_syntax, BinderSyntax, ExprSyntax, VarSyntax, FieldDeclSyntax, ParamSyntax, DeclSyntax, base_syntax, short_syntax, record_decl_syntax}
-use Rattle.um_types.specs.UnitMachine.{State as UnitState, Need as NeedUnit, Have as HaveUnit, Raised, Lowered, Refused as NoUnit, finish as unit_finish}
+use Rattle.um_types.specs.UnitMachine.{State as UnitState, Need as NeedUnit, Have as HaveUnit, Raised, Lowered, Refused as NoUnit, unit_step, finish as unit_finish}
 use Rattle.um_types.specs.UnitLeast.{least}
 use Rattle.um_types.specs.TypeHeights.{whole_height}
 use Rattle.um_types.specs.TypeMachine.{TypeState, NeedType, HaveType, NoType, type_step, type_finish, type_least}

@@ -5,11 +5,11 @@ use Rattle.um_syntax.specs.declared.token.Kind.{Kind}
 use Rattle.um_tree.specs.RawTree.{UnitSyntax, TypeSyntax, BinderSyntax, ExprSyntax, VarSyntax, FieldDeclSyntax, ParamSyntax}
 use Rattle.um_reader.specs.Machine.{runs}
 use Rattle.um_types.specs.UnitGrammar.{Spells as UnitSpells, Fits as UnitFits}
-use Rattle.um_types.specs.UnitMachine.{State as UnitState, Need as NeedUnit, Have as HaveUnit, Raised, Lowered, Refused as NoUnit}
+use Rattle.um_types.specs.UnitMachine.{State as UnitState, Need as NeedUnit, Have as HaveUnit, Raised, Lowered, Refused as NoUnit, unit_step}
 use Rattle.um_types.specs.TypeGrammar.{TypeSpells, TypeFits}
 use Rattle.um_types.specs.TypeMachine.{TypeState, NeedType, HaveType, NoType, type_step, type_finish}
 use Rattle.um_types.specs.TypeMachine.{InNote as InTypeNote}
-use Rattle.um_reader.proofs.Reaching.{runs_append, lift}
+use Rattle.um_reader.proofs.Reaching.{lift}
 use Rattle.um_types.proofs.UnitComplete.{into as unit_into}
 use Rattle.um_types.proofs.UnitNested.{unit_reaches}
 use Rattle.um_types.proofs.TypeComplete.{type_reaches}
