@@ -34,35 +34,21 @@ use Rattle.um_parse.proofs.Inside.{IsInside, takes_inside}
 
 measure_low : (m : MeasureExpected) → expected_least (view_measure m) ≤ greatest_height
 measure_low measure.Word = omega arith
-measure_low measure.Greater = omega arith
-measure_low measure.Close = omega arith
-measure_low measure.Type = omega arith
-measure_low measure.Name = omega arith
+measure_low _ = omega arith
 
 var_low : (h : VarsPrefix) (v : VarExpected) → expected_least (view_var h v) ≤ greatest_height
 var_low h var.Begin = omega arith
-var_low h var.Word = omega arith
-var_low h var.Greater = omega arith
-var_low h var.Close = omega arith
-var_low h var.Name = omega arith
-var_low h var.End = omega arith
+var_low h _ = omega arith
 
 expected_low : (p : ExpectedToken) → expected_least (view_expected p) ≤ greatest_height
-expected_low expected.Begin = omega arith
 expected_low (expected.Measure m) = measure_low m
-expected_low expected.RecordName = omega arith
-expected_low (expected.RecordVars at x) = omega arith
 expected_low (expected.Var h v) = var_low h v
-expected_low (expected.RecordEqual h) = omega arith
-expected_low (expected.RecordBrace h) = omega arith
 expected_low (expected.FieldName f) = omega (arith, f.low)
 expected_low (expected.FieldColon f p y) = omega (arith, f.low)
-expected_low expected.LetName = omega arith
-expected_low expected.RecName = omega arith
-expected_low (expected.FunctionVars recursive at x) = omega arith
 expected_low (expected.Params f) = omega (arith, f.low)
 expected_low (expected.ParamBinder f) = omega (arith, f.low)
 expected_low (expected.ParamColon f b) = omega (arith, f.low)
+expected_low _ = omega arith
 
 -- what follows a token stands within the heights
 pub next_low : (n : Next) → decl_least (next_state n) ≤ greatest_height
@@ -76,12 +62,7 @@ next_low (next.Body h) = omega (arith, h.prefix.low, h.low)
 
 pub next_goes : (n : Next) → next_state n ≢ NoDecl
 next_goes (next.At p) e = cc
-next_goes (next.Base at x) e = cc
-next_goes (next.Record f) e = cc
-next_goes (next.Field f p y) e = cc
-next_goes (next.Param f b) e = cc
-next_goes (next.Result f) e = cc
-next_goes (next.Body h) e = cc
+next_goes _ e = cc
 
 -- ---- a unit text and a body
 

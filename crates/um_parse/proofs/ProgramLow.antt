@@ -5,7 +5,7 @@ use Rattle.um_tree.specs.RawTree.{DeclSyntax}
 use Rattle.um_reader.specs.Machine.{reached, IsReaderOf}
 use Rattle.um_reader.proofs.Readers.{none_some}
 use Rattle.um_parse.specs.DeclGrammar.{IsProgram}
-use Rattle.um_parse.specs.DeclMachine.{DeclBegin, DeclState, Expects, HaveBase, InShort, HaveRecord, InField, InParam, InResult, InBody, NoDecl, decl_step, decl_finish, ProgramState, InProgram, NoProgram, program_goes, next_decl, program_step, program_finish}
+use Rattle.um_parse.specs.DeclMachine.{DeclBegin, DeclState, Expects, NoDecl, decl_step, decl_finish, ProgramState, InProgram, NoProgram, program_goes, next_decl, program_step, program_finish}
 use Rattle.um_parse.specs.ProgramHeights.{decl_height, program_height}
 use Rattle.um_parse.specs.ProgramLeast.{decl_least, program_least, machine_of_programs}
 use Rattle.um_parse.proofs.DeclCompletions.{decl_completed}
@@ -28,15 +28,8 @@ completed_height NoProgram tokens rest h ok = absurd (ok refl)
 
 goes_up : (decls : List DeclSyntax) (low : ℕ) (new : DeclState) (over : ProgramState) → program_goes decls new over ≢ NoProgram → (new ≢ NoDecl → low ≤ max (program_height decls) (decl_least new))
     → (over ≢ NoProgram → low ≤ program_least over) → low ≤ program_least (program_goes decls new over)
-goes_up decls low (Expects expected) over ok up next = up (λ e. cc)
-goes_up decls low (HaveBase at x) over ok up next = up (λ e. cc)
-goes_up decls low (InShort at x u) over ok up next = up (λ e. cc)
-goes_up decls low (HaveRecord at x vs fs) over ok up next = up (λ e. cc)
-goes_up decls low (InField at x vs fs place y s) over ok up next = up (λ e. cc)
-goes_up decls low (InParam head ps b s) over ok up next = up (λ e. cc)
-goes_up decls low (InResult head ps s) over ok up next = up (λ e. cc)
-goes_up decls low (InBody head ps r e) over ok up next = up (λ e. cc)
 goes_up decls low NoDecl over ok up next = next ok
+goes_up decls low _ over ok up next = up (λ e. cc)
 
 next_up : (decls : List DeclSyntax) (d : DeclState) (found : Option DeclSyntax) (begun : DeclState) → decl_finish d ≡ found → next_decl decls found begun ≢ NoProgram
     → program_least (InProgram decls d) ≤ program_least (next_decl decls found begun)

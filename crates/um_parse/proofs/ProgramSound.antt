@@ -7,7 +7,7 @@ use Rattle.um_reader.specs.Machine.{runs}
 use Rattle.um_reader.proofs.Reaching.{runs_sound}
 use Rattle.um_reader.proofs.Readers.{none_some, some_same}
 use Rattle.um_parse.specs.DeclGrammar.{DeclSpells, DeclsSpell, DeclFits, DeclsFit, IsProgram}
-use Rattle.um_parse.specs.DeclMachine.{DeclBegin, DeclState, Expects, HaveBase, InShort, HaveRecord, InField, InParam, InResult, InBody, NoDecl, decl_step, decl_finish, ProgramState, InProgram, NoProgram, program_goes, next_decl, program_step, at_start, program_found, program_finish}
+use Rattle.um_parse.specs.DeclMachine.{DeclBegin, DeclState, Expects, NoDecl, decl_step, decl_finish, ProgramState, InProgram, NoProgram, program_goes, next_decl, program_step, at_start, program_found, program_finish}
 use Rattle.um_parse.proofs.DeclPrefixes.{DeclSpellsPrefix}
 use Rattle.um_parse.proofs.DeclSound.{decl_sound, decl_found}
 use Rattle.um_parse.proofs.DeclCompletions.{decl_ending, decl_completed, decl_can_end}
@@ -26,15 +26,8 @@ decls_fit (c ∷ decls) d h fits = (h.0, decls_fit decls d h.1 fits)
 
 goes_sound : (decls : List DeclSyntax) (d : DeclState) (over : ProgramState) (tokens mid rest : List Token) → DeclsSpell decls tokens mid → DeclsFit decls → DeclSpellsPrefix d mid rest
     → ProgramSpellsPrefix over tokens rest → ProgramSpellsPrefix (program_goes decls d over) tokens rest
-goes_sound decls (Expects expected) over tokens mid rest s f h o = (mid, s, f, h, λ e. cc)
-goes_sound decls (HaveBase at x) over tokens mid rest s f h o = (mid, s, f, h, λ e. cc)
-goes_sound decls (InShort at x u) over tokens mid rest s f h o = (mid, s, f, h, λ e. cc)
-goes_sound decls (HaveRecord at x vs fs) over tokens mid rest s f h o = (mid, s, f, h, λ e. cc)
-goes_sound decls (InField at x vs fs place y t) over tokens mid rest s f h o = (mid, s, f, h, λ e. cc)
-goes_sound decls (InParam head ps b t) over tokens mid rest s f h o = (mid, s, f, h, λ e. cc)
-goes_sound decls (InResult head ps t) over tokens mid rest s f h o = (mid, s, f, h, λ e. cc)
-goes_sound decls (InBody head ps r t) over tokens mid rest s f h o = (mid, s, f, h, λ e. cc)
 goes_sound decls NoDecl over tokens mid rest s f h o = o
+goes_sound decls _ over tokens mid rest s f h o = (mid, s, f, h, λ e. cc)
 
 next_sound : (decls : List DeclSyntax) (d : DeclState) (found : Option DeclSyntax) (x : Token) (tokens mid rest : List Token) → DeclsSpell decls tokens mid → DeclsFit decls → DeclSpellsPrefix d mid (x ∷ rest)
     → decl_finish d ≡ found → ProgramSpellsPrefix (next_decl decls found (decl_step (Expects DeclBegin) x)) tokens rest
