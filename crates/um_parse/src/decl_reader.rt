@@ -191,6 +191,7 @@ impl DeclReader {
     }
 
     // One token more, which what is read inside has refused, if anything is.
+    #[inline(never)]
     fn take_own(&mut self, alloc: Global, token: &Token) -> Result<Taken, AllocError>
         requires low { IsLow (reader_state self.old) }
         ensures { IfOk result (λ t. Gives machine_of_declarations greatest_height (reader_state self.old) (own_step (reader_state self.old) token.now) t (reader_state self.new)) }

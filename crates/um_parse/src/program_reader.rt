@@ -61,6 +61,7 @@ impl ProgramReader {
     }
 
     // The token that the last declaration has refused: the next begins with it, if that one is whole.
+    #[inline(never)]
     fn next_decl(&mut self, alloc: Global, token: &Token) -> Result<Taken, AllocError>
         requires decls { program_height (map decl_syntax self.old.decls.items) ≤ greatest_height }
         requires last { (d : DeclSyntax) → decl_finish (reader_state self.old.last) ≡ Some d → decl_height d ≤ greatest_height }
