@@ -1,7 +1,8 @@
 -- One token more of a declaration, told by what the machine inside gives; what follows is within the heights.
-use Rattle.std.proofs.Common.{◌≡◌, ◌≢◌, ℕ, ◌≤◌, List, Option, Some, refl, sym, ap, ◌∙◌, arith}
+use Rattle.std.proofs.Common.{◌≡◌, ◌≢◌, ℕ, ◌≤◌, List, Option, Some, None, IfSome, option_map, refl, sym, ap, ◌∙◌, arith}
 use Rattle.um_syntax.specs.declared.token.Token.{Token}
-use Rattle.um_tree.specs.RawTree.{TypeSyntax, BinderSyntax, VarSyntax, FieldDeclSyntax, ParamSyntax}
+use Rattle.um_tree.specs.declared.raw.RawType.{RawType}
+use Rattle.um_tree.specs.RawTree.{TypeSyntax, BinderSyntax, VarSyntax, FieldDeclSyntax, ParamSyntax, type_syntax}
 use Rattle.um_reader.specs.Takes.{Gives, Takes}
 use Rattle.um_reader.specs.declared.taken.Taken.{Taken}
 use Rattle.um_reader.specs.declared.taken.Taken.TheVariants as taken
@@ -98,6 +99,11 @@ type_low is old mid token low t found e =
     let same = type_found_height old found (sym t.1 ∙ e) in
     let above = is.up old in
     omega (arith, low, same, above)
+
+pub found_low : (s : TypeState) (found : Option RawType) → option_map type_syntax found ≡ type_finish s → ((t : TypeSyntax) → type_finish s ≡ Some t → whole_height t ≤ greatest_height)
+    → IfSome found (λ t. whole_height (type_syntax t) ≤ greatest_height)
+found_low s None e low = tt
+found_low s (Some t) e low = low (type_syntax t) (sym e)
 
 -- and the token is looked at again
 module _ (old mid : TypeState) (token : Token) (given : Taken) (new : DeclState) (t : Takes machine_of_types greatest_height old token taken.Stops mid) where
