@@ -5,12 +5,13 @@ use Rattle.um_reader.specs.Takes.{Takes}
 use Rattle.um_reader.specs.declared.taken.Taken.{Taken}
 use Rattle.um_reader.specs.declared.taken.Taken.TheVariants as taken
 
--- while the machine inside goes on, so does the one around it; what stands around it isn't lower, and keeps its height
-pub record IsInside {U O T A B : Type 0} (m : Machine U T A) (n : Machine O T B) (limit : ℕ) (inside : U → O) : Type 0 where
-  pub goes : (s new : U) (token : T) → m.step s token ≡ new → new ≢ m.refused → n.step (inside s) token ≡ inside new
-  pub on : (s : U) → inside s ≢ n.refused
-  pub up : (s : U) → m.least s ≤ n.least (inside s)
-  pub low : (s new : U) → n.least (inside s) ≤ limit → m.least new ≤ limit → n.least (inside new) ≤ limit
+module _ {U O T A B : Type 0} (m : Machine U T A) (n : Machine O T B) (limit : ℕ) (inside : U → O) where
+  -- while the machine inside goes on, so does the one around it; what stands around it isn't lower, and keeps its height
+  pub record IsInside : Type 0 where
+    pub goes : (s new : U) (token : T) → m.step s token ≡ new → new ≢ m.refused → n.step (inside s) token ≡ inside new
+    pub on : (s : U) → inside s ≢ n.refused
+    pub up : (s : U) → m.least s ≤ n.least (inside s)
+    pub low : (s new : U) → n.least (inside s) ≤ limit → m.least new ≤ limit → n.least (inside new) ≤ limit
 
 module _ {U O T A B : Type 0} {m : Machine U T A} {n : Machine O T B} {limit : ℕ} {inside : U → O} (is : IsInside m n limit inside) (old : U) (token : T) where
   pub goes_inside : (new : U) → n.least (inside old) ≤ limit → Takes m limit old token taken.Goes new → Takes n limit (inside old) token taken.Goes (inside new)
