@@ -11,6 +11,5 @@ mod ProgramLow
 mod ProgramExact
 mod ProgramNodes
 mod LimitLaws
-mod Inside
 mod DeclTaken
 mod ProgramSteps

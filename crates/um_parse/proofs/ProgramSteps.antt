@@ -1,5 +1,5 @@
--- One token more of a program, told by what its last declaration gives.
-use Rattle.std.proofs.Common.{◌≡◌, ◌≤◌, true, false, cond, List, [], ◌∷◌, ◌++◌, map, Option, Some, None, refl, sym, ap, ◌∙◌, arith}
+-- The token that the last declaration of a program has refused, told by what the next declaration gives.
+use Rattle.std.proofs.Common.{◌≡◌, ◌≤◌, List, [], ◌∷◌, ◌++◌, map, Option, Some, sym, ap, ◌∙◌, arith}
 use Rattle.std.proofs.lemmas.List.{map-append}
 use Rattle.um_syntax.specs.declared.token.Token.{Token}
 use Rattle.um_tree.specs.declared.raw.RawDecl.{RawDecl}
@@ -9,59 +9,16 @@ use Rattle.um_reader.specs.declared.taken.Taken.{Taken}
 use Rattle.um_reader.specs.declared.taken.Taken.TheVariants as taken
 use Rattle.um_reader.proofs.Readers.{gives_as}
 use Rattle.um_types.specs.UnitStops.{greatest_height}
-use Rattle.um_parse.specs.DeclMachine.{DeclBegin, DeclState, Expects, NoDecl, decl_step, decl_finish, ProgramState, InProgram, NoProgram, program_goes, next_decl, program_step, at_start, program_found, program_finish}
+use Rattle.um_parse.specs.DeclMachine.{DeclBegin, DeclState, Expects, decl_step, decl_finish, ProgramState, InProgram, NoProgram, program_goes, next_decl, program_step, program_found, program_finish}
 use Rattle.um_parse.specs.ProgramHeights.{decl_height, program_height}
 use Rattle.um_parse.specs.ProgramLeast.{decl_least, program_least, machine_of_declarations, machine_of_programs}
-use Rattle.um_parse.proofs.Inside.{IsInside}
 use Rattle.um_parse.proofs.DeclHeights.{decl_found_height}
-use Rattle.um_parse.proofs.ProgramComplete.{decl_inside}
-use Rattle.um_parse.proofs.ProgramSound.{start_is}
 use Rattle.um_parse.proofs.ProgramLow.{height_last}
-
-pub decl_in : (decls : List DeclSyntax) → IsInside machine_of_declarations machine_of_programs greatest_height (λ d. InProgram decls d)
-decl_in decls = record { goes = decl_inside decls; on = λ d e. cc; up = λ d. omega arith; low = λ d e low le. omega (arith, low, le) }
-
--- ---- the first token of a declaration
-
-pub begin_stops : (decls : List DeclSyntax) (old mid new : DeclState) (token : Token) → at_start old ≡ true → Takes machine_of_declarations greatest_height old token taken.Stops mid → new ≡ Expects DeclBegin
-    → Takes machine_of_programs greatest_height (InProgram decls old) token taken.Stops (InProgram decls new)
-begin_stops decls old mid new token here t begun =
-    let old_is : old ≡ Expects DeclBegin = start_is old here in
-    let next : DeclState = decl_step (Expects DeclBegin) token in (
-      ap (λ d. program_goes decls d (next_decl decls (decl_finish old) next)) t.0 ∙ ap (λ d. next_decl decls (decl_finish d) next) old_is,
-      ap (λ d. program_finish (InProgram decls d)) (begun ∙ sym old_is),
-    )
-
--- ---- the token that a declaration has refused
 
 -- the declaration before it isn't too high
 pub last_low : (decls : List DeclSyntax) (old mid : DeclState) (token : Token) → program_least (InProgram decls old) ≤ greatest_height → Takes machine_of_declarations greatest_height old token taken.Stops mid
     → (d : DeclSyntax) → decl_finish mid ≡ Some d → decl_height d ≤ greatest_height
 last_low decls old mid token low t d e = let same = decl_found_height old d (sym t.1 ∙ e) in omega (arith, low, same)
-
--- what the next declaration gives is what the program gives
-pub decl_stops : (decls : List DeclSyntax) (old mid : DeclState) (token : Token) (given : Taken) (new : ProgramState) → at_start old ≡ false → Takes machine_of_declarations greatest_height old token taken.Stops mid
-    → ((st : ProgramState) → program_finish st ≡ program_found decls (decl_finish mid)
-        → Gives machine_of_programs greatest_height st (next_decl decls (decl_finish mid) (decl_step (Expects DeclBegin) token)) given new)
-    → Takes machine_of_programs greatest_height (InProgram decls old) token given new
-decl_stops decls old mid token given new later t next =
-    let st : ProgramState = InProgram decls old in
-    let begun : DeclState = decl_step (Expects DeclBegin) token in
-    let whole : program_finish st ≡ program_found decls (decl_finish mid) =
-    ap (λ b. cond b (Some decls) (program_found decls (decl_finish old))) later ∙ ap (program_found decls) (sym t.1)
-    in
-    let e : next_decl decls (decl_finish mid) begun ≡ program_step st token =
-    ap (λ o. next_decl decls o begun) t.1 ∙ sym (ap (λ d. program_goes decls d (next_decl decls (decl_finish old) begun)) t.0)
-    in
-    gives_as machine_of_programs greatest_height st st (next_decl decls (decl_finish mid) begun) (program_step st token) given new refl e (next st whole)
-
--- nothing ends there
-pub none_ends : (decls : List DeclSyntax) (s begun : DeclState) (found : Option DeclSyntax) → s ≡ NoDecl → found ≡ None → (st : ProgramState) → program_finish st ≡ program_found decls found
-    → Gives machine_of_programs greatest_height st (next_decl decls found begun) taken.Stops (InProgram decls s)
-none_ends decls s begun found gone is st whole = (
-  ap (λ o. next_decl decls o begun) is,
-  ap (λ d. program_finish (InProgram decls d)) gone ∙ sym (ap (program_found decls) is) ∙ sym whole,
-)
 
 -- a declaration ends there, and stands behind the others
 module _ (earlier new : List RawDecl) (d : RawDecl) (s : DeclState) (pushed : new ≡ earlier ++ d ∷ []) (begun : s ≡ Expects DeclBegin) where
