@@ -340,12 +340,6 @@ owner_fits (OfRecord at x) vs = (tt, tt)
 owner_fits (OfFunction recursive at x) vs = (tt, tt, tt)
 
 expected_fits : (expected : DeclExpected) → ExpectedFits expected → DeclFits (expected_completed expected)
-expected_fits DeclBegin f = tt
-expected_fits AttributeWord f = tt
-expected_fits AttributeGreater f = tt
-expected_fits AttributeClose f = tt
-expected_fits MeasureType f = tt
-expected_fits MeasureName f = tt
 expected_fits RecordName f = (tt, tt)
 expected_fits (RecordVars at x) f = (tt, tt)
 expected_fits (VarBegin owner vs) f = owner_fits owner (vs ++ unnamed_var ∷ [])
@@ -364,6 +358,7 @@ expected_fits (FunctionVars recursive at x) f = (tt, tt, tt)
 expected_fits (Params head ps) f = (f, tt, tt)
 expected_fits (ParamBinder head ps) f = (params_fit ps (param_of unnamed) f tt, tt, tt)
 expected_fits (ParamColon head ps b) f = (params_fit ps (param_of b) f tt, tt, tt)
+expected_fits _ f = tt
 
 -- what isn't refused can be completed
 pub decl_can_end : (st : DeclState) (tokens rest : List Token) → DeclSpellsPrefix st tokens (decl_ending st ++ rest) → st ≢ NoDecl → DeclSpells (decl_completed st) tokens rest × DeclFits (decl_completed st)

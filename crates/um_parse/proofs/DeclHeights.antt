@@ -3,11 +3,10 @@ use Rattle.std.proofs.Common.{◌≡◌, ◌≢◌, ℕ, ◌≤◌, max, List, [
 use Rattle.um_syntax.specs.declared.token.Token.{Token}
 use Rattle.um_tree.specs.declared.expression.Sign.TheVariants as compare
 use Rattle.um_tree.specs.RawTree.{UnitSyntax, TypeSyntax, bool_syntax, BinderSyntax, ExprSyntax, VarSyntax, FieldDeclSyntax, ParamSyntax, DeclSyntax, base_syntax, short_syntax, record_decl_syntax}
-use Rattle.um_types.specs.UnitMachine.{State as UnitState, Need as NeedUnit, Have as HaveUnit, Raised, Lowered, Refused as NoUnit, finish as unit_finish}
+use Rattle.um_types.specs.UnitMachine.{State as UnitState, Refused as NoUnit, unit_step, finish as unit_finish}
 use Rattle.um_types.specs.UnitLeast.{least}
 use Rattle.um_types.specs.TypeHeights.{whole_height}
-use Rattle.um_types.specs.TypeMachine.{TypeState, NeedType, HaveType, NoType, type_step, type_finish, type_least}
-use Rattle.um_types.specs.TypeMachine.{InNote as InTypeNote}
+use Rattle.um_types.specs.TypeMachine.{TypeState, NoType, type_step, type_finish, type_least}
 use Rattle.um_types.proofs.UnitHeights.{completed_height, unit_up, found_height}
 use Rattle.um_types.proofs.TypeLaws.{type_completed, type_completed_height, type_up, type_found_height}
 use Rattle.um_syntax.specs.declared.vocabulary.Keyword.TheVariants as keyword
@@ -16,7 +15,7 @@ use Rattle.um_expr.specs.declared.infix.Infix.TheVariants as between
 use Rattle.um_expr.specs.declared.token.ExprToken.{ExprToken}
 use Rattle.um_expr.specs.declared.token.ExprToken.TheVariants.{Name as name, Variable as variable, Hole as hole, Operator as operator, Word as word, Mark as mark}
 use Rattle.um_expr.specs.ExprTokens.{expr_token}
-use Rattle.um_expr.specs.ExprMachine.{State, Need, Have, HavePower, Greater, Inside, InNote, InType, Refused, step, finish}
+use Rattle.um_expr.specs.ExprMachine.{State, Refused, step, finish}
 use Rattle.um_expr.specs.ExprLeast.{whole_least}
 use Rattle.um_parse.specs.ProgramHeights.{fields_height, params_height, result_height, decl_height}
 use Rattle.um_parse.specs.ProgramLeast.{expected_least, decl_least}
@@ -40,30 +39,17 @@ owner_height (OfRecord at x) vs = omega arith
 owner_height (OfFunction recursive at x) vs = omega arith
 
 expected_height : (expected : DeclExpected) → decl_height (expected_completed expected) ≡ expected_least expected
-expected_height DeclBegin = refl
-expected_height AttributeWord = refl
-expected_height AttributeGreater = refl
-expected_height AttributeClose = refl
-expected_height MeasureType = refl
-expected_height MeasureName = refl
-expected_height RecordName = omega arith
-expected_height (RecordVars at x) = omega arith
 expected_height (VarBegin owner vs) = owner_height owner (vs ++ unnamed_var ∷ [])
 expected_height (VarWord owner vs) = owner_height owner (vs ++ unnamed_var ∷ [])
 expected_height (VarGreater owner vs) = owner_height owner (vs ++ unnamed_var ∷ [])
 expected_height (VarClose owner vs) = owner_height owner (vs ++ unnamed_var ∷ [])
 expected_height (VarName owner vs) = owner_height owner (vs ++ unnamed_var ∷ [])
 expected_height (VarEnd owner vs) = owner_height owner vs
-expected_height (RecordEqual at x vs) = omega arith
-expected_height (RecordBrace at x vs) = omega arith
 expected_height (FieldName at x vs fs) = let e = fields_last fs (record { at = 0; name = []; type = bool_syntax }) in omega (arith, e)
 expected_height (FieldColon at x vs fs place y) = let e = fields_last fs (record { at = place; name = y; type = bool_syntax }) in omega (arith, e)
-expected_height LetName = omega arith
-expected_height RecName = omega arith
-expected_height (FunctionVars recursive at x) = omega arith
-expected_height (Params head ps) = omega arith
 expected_height (ParamBinder head ps) = let e = params_last ps (record { binder = record { at = 0; name = None }; type = bool_syntax }) in omega (arith, e)
 expected_height (ParamColon head ps b) = let e = params_last ps (record { binder = b; type = bool_syntax }) in omega (arith, e)
+expected_height _ = omega arith
 
 pub decl_completed_height : (st : DeclState) (tokens rest : List Token) → DeclSpellsPrefix st tokens rest → st ≢ NoDecl → decl_height (decl_completed st) ≡ decl_least st
 decl_completed_height (Expects expected) tokens rest h ok = expected_height expected
@@ -90,14 +76,7 @@ decl_completed_height NoDecl tokens rest h ok = absurd (ok refl)
 
 abbrev Above : ℕ → DeclState → Type 0
 Above n NoDecl = Unit {0}
-Above n (Expects expected) = n ≤ decl_least (Expects expected)
-Above n (HaveBase at x) = n ≤ decl_least (HaveBase at x)
-Above n (InShort at x u) = n ≤ decl_least (InShort at x u)
-Above n (HaveRecord at x vs fs) = n ≤ decl_least (HaveRecord at x vs fs)
-Above n (InField at x vs fs place y s) = n ≤ decl_least (InField at x vs fs place y s)
-Above n (InParam head ps b s) = n ≤ decl_least (InParam head ps b s)
-Above n (InResult head ps s) = n ≤ decl_least (InResult head ps s)
-Above n (InBody head ps r e) = n ≤ decl_least (InBody head ps r e)
+Above n st = n ≤ decl_least st
 
 body_up : (head : FunctionStart) (ps : List ParamSyntax) → Above (max (params_height ps) 1) (body_begins head ps)
 body_up head ps = by (head.recursive)
@@ -163,11 +142,8 @@ base_up at x (operator (between.Compare compare.Eq)) = omega arith
 base_up at x _ = tt
 
 short_up : (at n : ℕ) (x : List ℕ) (u : UnitState) → (u ≢ NoUnit → n ≤ least u) → Above n (short_goes at x u)
-short_up at n x (NeedUnit frames) up = up (λ e. cc)
-short_up at n x (HaveUnit frames t) up = up (λ e. cc)
-short_up at n x (Raised frames t) up = up (λ e. cc)
-short_up at n x (Lowered frames t) up = up (λ e. cc)
 short_up at n x NoUnit up = tt
+short_up at n x _ up = up (λ e. cc)
 
 field_end_up : (at : ℕ) (x : List ℕ) (vs : List VarSyntax) (fs : List FieldDeclSyntax) (place : ℕ) (y : List ℕ) (s : TypeState) (found : Option TypeSyntax) (what : ExprToken) → type_finish s ≡ found
     → Above (max (fields_height fs) (type_least s)) (field_ends at x vs fs place y found what)
@@ -198,35 +174,23 @@ result_end_up head ps s _ _ e = tt
 
 field_up : (at : ℕ) (x : List ℕ) (vs : List VarSyntax) (fs : List FieldDeclSyntax) (place : ℕ) (y : List ℕ) (low : ℕ) (s : TypeState) (over : DeclState) → (s ≢ NoType → low ≤ type_least s)
     → Above (max (fields_height fs) low) over → Above (max (fields_height fs) low) (field_goes at x vs fs place y s over)
-field_up at x vs fs place y low (NeedType depth) over up h = let le = up (λ e. cc) in omega (arith, le)
-field_up at x vs fs place y low (HaveType depth t) over up h = let le = up (λ e. cc) in omega (arith, le)
-field_up at x vs fs place y low (InTypeNote depth owner n) over up h = let le = up (λ e. cc) in omega (arith, le)
 field_up at x vs fs place y low NoType over up h = h
+field_up at x vs fs place y low _ over up h = let le = up (λ e. cc) in omega (arith, le)
 
 param_up : (head : FunctionStart) (ps : List ParamSyntax) (b : BinderSyntax) (low : ℕ) (s : TypeState) (over : DeclState) → (s ≢ NoType → low ≤ type_least s)
     → Above (max (params_height ps) (max low 1)) over → Above (max (params_height ps) (max low 1)) (param_goes head ps b s over)
-param_up head ps b low (NeedType depth) over up h = let le = up (λ e. cc) in omega (arith, le)
-param_up head ps b low (HaveType depth t) over up h = let le = up (λ e. cc) in omega (arith, le)
-param_up head ps b low (InTypeNote depth owner n) over up h = let le = up (λ e. cc) in omega (arith, le)
 param_up head ps b low NoType over up h = h
+param_up head ps b low _ over up h = let le = up (λ e. cc) in omega (arith, le)
 
 result_up : (head : FunctionStart) (ps : List ParamSyntax) (low : ℕ) (s : TypeState) (over : DeclState) → (s ≢ NoType → low ≤ type_least s)
     → Above (max (params_height ps) (max low 1)) over → Above (max (params_height ps) (max low 1)) (result_goes head ps s over)
-result_up head ps low (NeedType depth) over up h = let le = up (λ e. cc) in omega (arith, le)
-result_up head ps low (HaveType depth t) over up h = let le = up (λ e. cc) in omega (arith, le)
-result_up head ps low (InTypeNote depth owner n) over up h = let le = up (λ e. cc) in omega (arith, le)
 result_up head ps low NoType over up h = h
+result_up head ps low _ over up h = let le = up (λ e. cc) in omega (arith, le)
 
 in_body_up : (head : FunctionStart) (ps : List ParamSyntax) (r : Option TypeSyntax) (low : ℕ) (e : State) → (e ≢ Refused → low ≤ whole_least e)
     → Above (max (params_height ps) (max (result_height r) low)) (body_goes head ps r e)
-in_body_up head ps r low (Need frames) up = let le = up (λ h. cc) in omega (arith, le)
-in_body_up head ps r low (Have frames t) up = let le = up (λ h. cc) in omega (arith, le)
-in_body_up head ps r low (HavePower frames t) up = let le = up (λ h. cc) in omega (arith, le)
-in_body_up head ps r low (Greater frames p l) up = let le = up (λ h. cc) in omega (arith, le)
-in_body_up head ps r low (Inside frames p) up = let le = up (λ h. cc) in omega (arith, le)
-in_body_up head ps r low (InNote frames p c n) up = let le = up (λ h. cc) in omega (arith, le)
-in_body_up head ps r low (InType frames p n) up = let le = up (λ h. cc) in omega (arith, le)
 in_body_up head ps r low Refused up = tt
+in_body_up head ps r low _ up = let le = up (λ h. cc) in omega (arith, le)
 
 decl_above : (st : DeclState) (x : Token) → Above (decl_least st) (decl_step st x)
 decl_above (Expects expected) x = expected_up expected (expr_token x.kind) x.start
@@ -246,15 +210,8 @@ decl_above (InBody head ps r e) x = in_body_up head ps r (whole_least e) (step e
 decl_above NoDecl x = tt
 
 above_least : (n : ℕ) (st : DeclState) → st ≢ NoDecl → Above n st → n ≤ decl_least st
-above_least n (Expects expected) ok h = h
-above_least n (HaveBase at x) ok h = h
-above_least n (InShort at x u) ok h = h
-above_least n (HaveRecord at x vs fs) ok h = h
-above_least n (InField at x vs fs place y s) ok h = h
-above_least n (InParam head ps b s) ok h = h
-above_least n (InResult head ps s) ok h = h
-above_least n (InBody head ps r e) ok h = h
 above_least n NoDecl ok h = absurd (ok refl)
+above_least n _ ok h = h
 
 pub decl_up : (st : DeclState) (x : Token) → decl_step st x ≢ NoDecl → decl_least st ≤ decl_least (decl_step st x)
 decl_up st x ok = above_least (decl_least st) (decl_step st x) ok (decl_above st x)
@@ -277,8 +234,4 @@ decl_found_height (HaveBase at x) d e = let same : base_syntax at x ≡ d = cc i
 decl_found_height (InShort at x u) d e = short_height at x u (unit_finish u) d refl e
 decl_found_height (HaveRecord at x vs fs) d e = let same : record_decl_syntax at x vs fs ≡ d = cc in ap decl_height (sym same)
 decl_found_height (InBody head ps r b) d e = body_height head ps r b (finish b) d refl e
-decl_found_height (Expects expected) d e = absurd cc
-decl_found_height (InField at x vs fs place y s) d e = absurd cc
-decl_found_height (InParam head ps b s) d e = absurd cc
-decl_found_height (InResult head ps s) d e = absurd cc
-decl_found_height NoDecl d e = absurd cc
+decl_found_height _ d e = absurd cc

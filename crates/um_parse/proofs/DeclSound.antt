@@ -4,9 +4,9 @@ use Rattle.um_syntax.specs.declared.token.Token.{Token}
 use Rattle.um_tree.specs.declared.expression.Sign.TheVariants as compare
 use Rattle.um_tree.specs.RawTree.{UnitSyntax, TypeSyntax, BinderSyntax, ExprSyntax, VarSyntax, FieldDeclSyntax, ParamSyntax, DeclSyntax, base_syntax, short_syntax, record_decl_syntax}
 use Rattle.um_types.specs.UnitGrammar.{Spells as UnitSpells, IsUnit}
-use Rattle.um_types.specs.UnitMachine.{State as UnitState, Need as NeedUnit, Have as HaveUnit, Raised, Lowered, Refused as NoUnit, run as unit_run, finish as unit_finish}
-use Rattle.um_types.specs.TypeMachine.{TypeState, NeedType, HaveType, NoType, type_step, type_finish}
-use Rattle.um_types.specs.TypeMachine.{InNote as InTypeNote}
+use Rattle.um_types.specs.UnitMachine.{State as UnitState, Need as NeedUnit, Refused as NoUnit, unit_step, run as unit_run, finish as unit_finish}
+use Rattle.um_types.specs.TypeMachine.{TypeState, NeedType, NoType, type_step, type_finish}
+use Rattle.um_reader.proofs.Reaching.{runs_append}
 use Rattle.um_types.proofs.UnitLaws.{found}
 use Rattle.um_types.proofs.UnitCut.{unit_before}
 use Rattle.um_types.proofs.TypeSound.{TypeSpellsPrefix, type_sound, type_found}
@@ -17,7 +17,7 @@ use Rattle.um_expr.specs.declared.token.ExprToken.{ExprToken}
 use Rattle.um_expr.specs.declared.token.ExprToken.TheVariants.{Name as name, Variable as variable, Hole as hole, Operator as operator, Word as word, Mark as mark}
 use Rattle.um_expr.specs.ExprTokens.{expr_token, equal}
 use Rattle.um_expr.specs.ExprGrammar.{First, FirstAt, BinderSpells}
-use Rattle.um_expr.specs.ExprMachine.{State, Need, Have, HavePower, Greater, Inside, InNote, InType, Refused, step, finish}
+use Rattle.um_expr.specs.ExprMachine.{State, Need, Refused, step, finish}
 use Rattle.um_parse.specs.DeclGrammar.{VarsSpell, DeclSpells, ResultSpells, ParamsFit, ResultFits, FieldDeclsFit, DeclFits}
 use Rattle.um_parse.specs.DeclMachine.{FunctionStart, VarOwner, OfRecord, OfFunction, started, behind_vars, body_begins_if, take_params, function_from, DeclExpected, DeclBegin, AttributeWord, AttributeGreater, AttributeClose, MeasureType, MeasureName, RecordName, RecordVars, VarBegin, VarWord, VarGreater, VarClose, VarName, VarEnd, RecordEqual, RecordBrace, FieldName, FieldColon, LetName, RecName, FunctionVars, Params, ParamBinder, ParamColon, DeclState, Expects, HaveBase, InShort, HaveRecord, InField, InParam, InResult, InBody, NoDecl, body_begins, take_expected, base_after, field_ends, param_ends, result_ends, short_goes, field_goes, param_goes, result_goes, body_goes, decl_step, short_found, body_found, decl_finish}
 use Rattle.um_expr.proofs.ExprPrefixes.{SpellsPrefix}
@@ -101,11 +101,8 @@ base_sound at x _ tokens mid rest h s = tt
 
 short_sound : (at : ℕ) (x : List ℕ) (u : UnitState) (tokens sign next read rest : List Token) → MeasureReads at x tokens sign → First equal sign next → next ≡ read ++ rest → unit_run (NeedUnit []) read ≡ u
     → DeclSpellsPrefix (short_goes at x u) tokens rest
-short_sound at x (NeedUnit frames) tokens sign next read rest m e p r = (sign, next, read, m, e, p, r, λ h. cc)
-short_sound at x (HaveUnit frames t) tokens sign next read rest m e p r = (sign, next, read, m, e, p, r, λ h. cc)
-short_sound at x (Raised frames t) tokens sign next read rest m e p r = (sign, next, read, m, e, p, r, λ h. cc)
-short_sound at x (Lowered frames t) tokens sign next read rest m e p r = (sign, next, read, m, e, p, r, λ h. cc)
 short_sound at x NoUnit tokens sign next read rest m e p r = tt
+short_sound at x _ tokens sign next read rest m e p r = (sign, next, read, m, e, p, r, λ h. cc)
 
 field_end_sound : (at : ℕ) (x : List ℕ) (vs : List VarSyntax) (fs : List FieldDeclSyntax) (place : ℕ) (y : List ℕ) (s : TypeState) (found : Option TypeSyntax) (what : ExprToken) (tokens mid rest : List Token)
     → DeclSpellsPrefix (InField at x vs fs place y s) tokens mid → First what mid rest → type_finish s ≡ found → DeclSpellsPrefix (field_ends at x vs fs place y found what) tokens rest
@@ -138,36 +135,24 @@ result_end_sound head ps s _ _ tokens mid rest h n e = tt
 field_goes_sound : (at : ℕ) (x : List ℕ) (vs : List VarSyntax) (fs : List FieldDeclSyntax) (place : ℕ) (y : List ℕ) (s : TypeState) (over : DeclState) (tokens fields named colon next rest : List Token)
     → RecordOpens at x vs tokens fields → FieldsRead fs fields named → FirstAt (name y) place named colon → First (mark symbol.Colon) colon next → TypeSpellsPrefix s next rest → FieldDeclsFit fs
     → DeclSpellsPrefix over tokens rest → DeclSpellsPrefix (field_goes at x vs fs place y s over) tokens rest
-field_goes_sound at x vs fs place y (NeedType depth) over tokens fields named colon next rest o r n c s f h = (fields, named, colon, next, o, r, n, c, s, f, λ e. cc)
-field_goes_sound at x vs fs place y (HaveType depth t) over tokens fields named colon next rest o r n c s f h = (fields, named, colon, next, o, r, n, c, s, f, λ e. cc)
-field_goes_sound at x vs fs place y (InTypeNote depth owner w) over tokens fields named colon next rest o r n c s f h = (fields, named, colon, next, o, r, n, c, s, f, λ e. cc)
 field_goes_sound at x vs fs place y NoType over tokens fields named colon next rest o r n c s f h = h
+field_goes_sound at x vs fs place y _ over tokens fields named colon next rest o r n c s f h = (fields, named, colon, next, o, r, n, c, s, f, λ e. cc)
 
 param_goes_sound : (head : FunctionStart) (ps : List ParamSyntax) (b : BinderSyntax) (s : TypeState) (over : DeclState) (tokens d e colon next rest : List Token)
     → FunctionHead head ps tokens d → First (mark symbol.LeftParen) d e → BinderSpells b e colon → First (mark symbol.Colon) colon next → TypeSpellsPrefix s next rest → ParamsFit ps
     → DeclSpellsPrefix over tokens rest → DeclSpellsPrefix (param_goes head ps b s over) tokens rest
-param_goes_sound head ps b (NeedType depth) over tokens d e colon next rest o r n c s f h = (d, e, colon, next, o, r, n, c, s, f, λ h. cc)
-param_goes_sound head ps b (HaveType depth t) over tokens d e colon next rest o r n c s f h = (d, e, colon, next, o, r, n, c, s, f, λ h. cc)
-param_goes_sound head ps b (InTypeNote depth owner w) over tokens d e colon next rest o r n c s f h = (d, e, colon, next, o, r, n, c, s, f, λ h. cc)
 param_goes_sound head ps b NoType over tokens d e colon next rest o r n c s f h = h
+param_goes_sound head ps b _ over tokens d e colon next rest o r n c s f h = (d, e, colon, next, o, r, n, c, s, f, λ h. cc)
 
 result_goes_sound : (head : FunctionStart) (ps : List ParamSyntax) (s : TypeState) (over : DeclState) (tokens d next rest : List Token) → FunctionHead head ps tokens d
     → First (mark symbol.Colon) d next → TypeSpellsPrefix s next rest → ParamsFit ps → DeclSpellsPrefix over tokens rest → DeclSpellsPrefix (result_goes head ps s over) tokens rest
-result_goes_sound head ps (NeedType depth) over tokens d next rest o c s f h = (d, next, o, c, s, f, λ e. cc)
-result_goes_sound head ps (HaveType depth t) over tokens d next rest o c s f h = (d, next, o, c, s, f, λ e. cc)
-result_goes_sound head ps (InTypeNote depth owner w) over tokens d next rest o c s f h = (d, next, o, c, s, f, λ e. cc)
 result_goes_sound head ps NoType over tokens d next rest o c s f h = h
+result_goes_sound head ps _ over tokens d next rest o c s f h = (d, next, o, c, s, f, λ e. cc)
 
 body_sound : (head : FunctionStart) (ps : List ParamSyntax) (r : Option TypeSyntax) (e : State) (tokens d sign next rest : List Token) → FunctionHead head ps tokens d
     → ResultSpells r d sign → First equal sign next → SpellsPrefix e next rest → ParamsFit ps → ResultFits head.recursive r → DeclSpellsPrefix (body_goes head ps r e) tokens rest
-body_sound head ps r (Need frames) tokens d sign next rest o w q s f g = (d, sign, next, o, w, q, s, f, g, λ h. cc)
-body_sound head ps r (Have frames t) tokens d sign next rest o w q s f g = (d, sign, next, o, w, q, s, f, g, λ h. cc)
-body_sound head ps r (HavePower frames t) tokens d sign next rest o w q s f g = (d, sign, next, o, w, q, s, f, g, λ h. cc)
-body_sound head ps r (Greater frames p l) tokens d sign next rest o w q s f g = (d, sign, next, o, w, q, s, f, g, λ h. cc)
-body_sound head ps r (Inside frames p) tokens d sign next rest o w q s f g = (d, sign, next, o, w, q, s, f, g, λ h. cc)
-body_sound head ps r (InNote frames p c n) tokens d sign next rest o w q s f g = (d, sign, next, o, w, q, s, f, g, λ h. cc)
-body_sound head ps r (InType frames p n) tokens d sign next rest o w q s f g = (d, sign, next, o, w, q, s, f, g, λ h. cc)
 body_sound head ps r Refused tokens d sign next rest o w q s f g = tt
+body_sound head ps r _ tokens d sign next rest o w q s f g = (d, sign, next, o, w, q, s, f, g, λ h. cc)
 
 -- the token that is read goes over to the state
 pub decl_sound : (st : DeclState) (x : Token) (tokens rest : List Token) → DeclSpellsPrefix st tokens (x ∷ rest) → DeclSpellsPrefix (decl_step st x) tokens rest
@@ -214,8 +199,4 @@ decl_found (InBody head ps r e) d tokens rest h same =
     let p = expr_found e w.0 h.2 rest h.6 w.1 in
     let f = h.3 in
     subst (λ t. DeclSpells t tokens rest × DeclFits t) w.2 ((f.2.0, f.2.1, f.0, f.1, h.0, h.1, h.2, f.2.2, f.2.3, f.2.4, f.3, f.4, h.4, h.5, p.0), (h.7, h.8, p.1))
-decl_found (Expects expected) d tokens rest h e = absurd cc
-decl_found (InField at x vs fs place y s) d tokens rest h e = absurd cc
-decl_found (InParam head ps b s) d tokens rest h e = absurd cc
-decl_found (InResult head ps s) d tokens rest h e = absurd cc
-decl_found NoDecl d tokens rest h e = absurd cc
+decl_found _ d tokens rest h e = absurd cc

@@ -3,25 +3,22 @@ use Rattle.std.proofs.Common.{◌≡◌, ◌≢◌, ℕ, List, [], ◌∷◌, �
 use Rattle.um_syntax.specs.declared.token.Token.{Token}
 use Rattle.um_syntax.specs.declared.token.Kind.{Kind}
 use Rattle.um_tree.specs.RawTree.{UnitSyntax, TypeSyntax, BinderSyntax, ExprSyntax, VarSyntax, FieldDeclSyntax, ParamSyntax}
-use Rattle.um_reader.specs.Machine.{runs}
+use Rattle.um_reader.specs.Machine.{Yields}
 use Rattle.um_types.specs.UnitGrammar.{Spells as UnitSpells, Fits as UnitFits}
-use Rattle.um_types.specs.UnitMachine.{State as UnitState, Need as NeedUnit, Have as HaveUnit, Raised, Lowered, Refused as NoUnit}
+use Rattle.um_types.specs.UnitMachine.{State as UnitState, Need as NeedUnit, Refused as NoUnit, unit_step}
 use Rattle.um_types.specs.TypeGrammar.{TypeSpells, TypeFits}
 use Rattle.um_types.specs.TypeMachine.{TypeState, NeedType, HaveType, NoType, type_step, type_finish}
-use Rattle.um_types.specs.TypeMachine.{InNote as InTypeNote}
-use Rattle.um_reader.proofs.Reaching.{runs_append, lift}
+use Rattle.um_reader.proofs.Reaching.{yields_then, lift}
 use Rattle.um_types.proofs.UnitComplete.{into as unit_into}
 use Rattle.um_types.proofs.UnitNested.{unit_reaches}
 use Rattle.um_types.proofs.TypeComplete.{type_reaches}
 use Rattle.um_syntax.specs.declared.vocabulary.Keyword.TheVariants as keyword
 use Rattle.um_syntax.specs.declared.vocabulary.Symbol.TheVariants as symbol
-use Rattle.um_reader.specs.Machine.{Yields}
-use Rattle.um_reader.proofs.Reaching.{yields_then}
 use Rattle.um_expr.specs.declared.token.ExprToken.{ExprToken}
 use Rattle.um_expr.specs.declared.token.ExprToken.TheVariants.{Name as name, Hole as hole, Word as word, Mark as mark}
 use Rattle.um_expr.specs.ExprTokens.{expr_token, greater}
 use Rattle.um_expr.specs.ExprGrammar.{First, FirstAt, bound, BinderSpells, Spells, Fits}
-use Rattle.um_expr.specs.ExprMachine.{State, Need, Have, HavePower, Greater, Inside, InNote, InType, Refused, step}
+use Rattle.um_expr.specs.ExprMachine.{State, Need, Refused, step}
 use Rattle.um_parse.specs.DeclGrammar.{Attribute}
 use Rattle.um_parse.specs.DeclMachine.{FunctionStart, DeclState, InShort, InField, InParam, InResult, InBody, short_goes, field_goes, param_goes, result_goes, body_goes, field_ends, param_ends, result_ends, decl_act, decl_step}
 use Rattle.um_expr.proofs.ExprEnds.{opened, last_atom}
@@ -70,11 +67,8 @@ short_inside : (at : ℕ) (x : List ℕ) (u new : UnitState) (token : Token) →
 short_inside at x u new token e ok = ap (short_goes at x) e ∙ short_on new ok
   where
     short_on : (w : UnitState) → w ≢ NoUnit → short_goes at x w ≡ InShort at x w
-    short_on (NeedUnit frames) h = refl
-    short_on (HaveUnit frames t) h = refl
-    short_on (Raised frames t) h = refl
-    short_on (Lowered frames t) h = refl
     short_on NoUnit h = absurd (h refl)
+    short_on _ h = refl
 
 pub yields_unit : (at : ℕ) (x : List ℕ) (u : UnitSyntax) (tokens rest : List Token) → UnitSpells u tokens rest → UnitFits u → Yields decl_step (InShort at x (NeedUnit [])) tokens (InShort at x (unit_into [] u)) rest
 yields_unit at x u tokens rest s fits =
@@ -85,14 +79,8 @@ body_inside : (head : FunctionStart) (ps : List ParamSyntax) (r : Option TypeSyn
 body_inside head ps r e new token same ok = ap (body_goes head ps r) same ∙ body_on new ok
   where
     body_on : (w : State) → w ≢ Refused → body_goes head ps r w ≡ InBody head ps r w
-    body_on (Need frames) h = refl
-    body_on (Have frames t) h = refl
-    body_on (HavePower frames t) h = refl
-    body_on (Greater frames p l) h = refl
-    body_on (Inside frames p) h = refl
-    body_on (InNote frames p c n) h = refl
-    body_on (InType frames p n) h = refl
     body_on Refused h = absurd (h refl)
+    body_on _ h = refl
 
 pub yields_body : (head : FunctionStart) (ps : List ParamSyntax) (r : Option TypeSyntax) (e : ExprSyntax) (tokens rest : List Token) → Spells e tokens rest → Fits e
     → (b : Bool) × Yields decl_step (InBody head ps r (Need [])) tokens (InBody head ps r (at_end b (opened [] e) (last_atom e))) rest
@@ -106,27 +94,21 @@ pub field_inside : (at : ℕ) (x : List ℕ) (vs : List VarSyntax) (fs : List Fi
 field_inside at x vs fs place y s new token e ok = ap (λ w. field_goes at x vs fs place y w (field_ends at x vs fs place y (type_finish s) (expr_token token.kind))) e ∙ field_on new ok
   where
     field_on : (w : TypeState) → w ≢ NoType → field_goes at x vs fs place y w (field_ends at x vs fs place y (type_finish s) (expr_token token.kind)) ≡ InField at x vs fs place y w
-    field_on (NeedType depth) h = refl
-    field_on (HaveType depth t) h = refl
-    field_on (InTypeNote depth owner n) h = refl
     field_on NoType h = absurd (h refl)
+    field_on _ h = refl
 
 pub param_inside : (head : FunctionStart) (ps : List ParamSyntax) (b : BinderSyntax) (s new : TypeState) (token : Token) → type_step s token ≡ new → new ≢ NoType
     → decl_step (InParam head ps b s) token ≡ InParam head ps b new
 param_inside head ps b s new token e ok = ap (λ w. param_goes head ps b w (param_ends head ps b (type_finish s) (expr_token token.kind))) e ∙ param_on new ok
   where
     param_on : (w : TypeState) → w ≢ NoType → param_goes head ps b w (param_ends head ps b (type_finish s) (expr_token token.kind)) ≡ InParam head ps b w
-    param_on (NeedType depth) h = refl
-    param_on (HaveType depth t) h = refl
-    param_on (InTypeNote depth owner n) h = refl
     param_on NoType h = absurd (h refl)
+    param_on _ h = refl
 
 pub result_inside : (head : FunctionStart) (ps : List ParamSyntax) (s new : TypeState) (token : Token) → type_step s token ≡ new → new ≢ NoType
     → decl_step (InResult head ps s) token ≡ InResult head ps new
 result_inside head ps s new token e ok = ap (λ w. result_goes head ps w (result_ends head ps (type_finish s) (expr_token token.kind))) e ∙ result_on new ok
   where
     result_on : (w : TypeState) → w ≢ NoType → result_goes head ps w (result_ends head ps (type_finish s) (expr_token token.kind)) ≡ InResult head ps w
-    result_on (NeedType depth) h = refl
-    result_on (HaveType depth t) h = refl
-    result_on (InTypeNote depth owner n) h = refl
     result_on NoType h = absurd (h refl)
+    result_on _ h = refl

@@ -4,21 +4,19 @@ use Rattle.std.proofs.lemmas.List.{append-nil}
 use Rattle.um_syntax.specs.declared.token.Token.{Token}
 use Rattle.um_syntax.specs.declared.token.Kind.{Kind}
 use Rattle.um_tree.specs.RawTree.{ExprSyntax, DeclSyntax, base_syntax, short_syntax, record_decl_syntax, function_syntax}
-use Rattle.um_reader.specs.Machine.{runs}
-use Rattle.um_reader.proofs.Reaching.{runs_append, lift}
+use Rattle.um_reader.specs.Machine.{runs, Yields}
+use Rattle.um_reader.proofs.Reaching.{yields_then, lift}
 use Rattle.um_types.proofs.UnitComplete.{into as unit_into}
 use Rattle.um_types.specs.UnitTokens.{unit_token}
 use Rattle.um_types.proofs.ForeignTokens.{foreign_refused}
 use Rattle.um_syntax.specs.declared.vocabulary.Keyword.TheVariants as keyword
 use Rattle.um_syntax.specs.declared.vocabulary.Symbol.TheVariants as symbol
-use Rattle.um_reader.specs.Machine.{Yields}
-use Rattle.um_reader.proofs.Reaching.{yields_then}
 use Rattle.um_expr.specs.declared.token.ExprToken.{ExprToken}
 use Rattle.um_expr.specs.declared.token.ExprToken.TheVariants.{Word as word, Mark as mark}
 use Rattle.um_expr.specs.ExprTokens.{expr_token}
 use Rattle.um_expr.specs.ExprMachine.{Frame, Refused, act}
 use Rattle.um_parse.specs.DeclGrammar.{DeclSpells, DeclsSpell, DeclFits, DeclsFit, IsProgram}
-use Rattle.um_parse.specs.DeclMachine.{start_of, DeclBegin, DeclState, Expects, HaveBase, InShort, HaveRecord, InField, InParam, InResult, InBody, NoDecl, base_after, short_goes, body_goes, decl_step, decl_finish, ProgramState, InProgram, NoProgram, program_goes, next_decl, program_step, program_found, program_finish}
+use Rattle.um_parse.specs.DeclMachine.{start_of, DeclBegin, DeclState, Expects, NoDecl, base_after, short_goes, body_goes, decl_step, decl_finish, ProgramState, InProgram, NoProgram, program_goes, next_decl, program_step, program_found, program_finish}
 use Rattle.um_expr.proofs.ExprTokenKinds.{begins_decl, decl_is_foreign}
 use Rattle.um_expr.proofs.ExprEnds.{opened, last_atom}
 use Rattle.um_expr.proofs.ExprAtEnd.{at_end}
@@ -52,32 +50,21 @@ decl_stops b (function_syntax f) token h =
 -- ---- declarations one behind the other
 
 goes_on : (decls : List DeclSyntax) (new : DeclState) (over : ProgramState) → new ≢ NoDecl → program_goes decls new over ≡ InProgram decls new
-goes_on decls (Expects expected) over ok = refl
-goes_on decls (HaveBase at x) over ok = refl
-goes_on decls (InShort at x u) over ok = refl
-goes_on decls (HaveRecord at x vs fs) over ok = refl
-goes_on decls (InField at x vs fs place y s) over ok = refl
-goes_on decls (InParam head ps b s) over ok = refl
-goes_on decls (InResult head ps s) over ok = refl
-goes_on decls (InBody head ps r e) over ok = refl
 goes_on decls NoDecl over ok = absurd (ok refl)
+goes_on decls _ over ok = refl
 
-decl_inside : (decls : List DeclSyntax) (d new : DeclState) (token : Token) → decl_step d token ≡ new → new ≢ NoDecl → program_step (InProgram decls d) token ≡ InProgram decls new
+pub decl_inside : (decls : List DeclSyntax) (d new : DeclState) (token : Token) → decl_step d token ≡ new → new ≢ NoDecl → program_step (InProgram decls d) token ≡ InProgram decls new
 decl_inside decls d new token e ok =
     let over : ProgramState = next_decl decls (decl_finish d) (decl_step (Expects DeclBegin) token) in
     ap (λ w. program_goes decls w over) e ∙ goes_on decls new over ok
 
 into_on : (b : Bool) (d : DeclSyntax) → decl_into b d ≢ NoDecl
 into_on b (base_syntax at x) e = cc
-into_on b (short_syntax at x u) e = cc
-into_on b (record_decl_syntax at x vs fs) e = cc
-into_on b (function_syntax f) e = cc
+into_on b _ e = cc
 
 begin_apart : (b : Bool) (d : DeclSyntax) → Expects DeclBegin ≢ decl_into b d
 begin_apart b (base_syntax at x) e = cc
-begin_apart b (short_syntax at x u) e = cc
-begin_apart b (record_decl_syntax at x vs fs) e = cc
-begin_apart b (function_syntax f) e = cc
+begin_apart b _ e = cc
 
 -- a declaration is read
 yields_decl : (decls : List DeclSyntax) (d : DeclSyntax) (tokens rest : List Token) → DeclSpells d tokens rest → DeclFits d
@@ -150,9 +137,7 @@ program_leads (d ∷ ds) tokens rest s fits =
 
 found_one : (decls : List DeclSyntax) (b : Bool) (d : DeclSyntax) → program_finish (InProgram decls (decl_into b d)) ≡ program_found decls (decl_finish (decl_into b d))
 found_one decls b (base_syntax at x) = refl
-found_one decls b (short_syntax at x u) = refl
-found_one decls b (record_decl_syntax at x vs fs) = refl
-found_one decls b (function_syntax f) = refl
+found_one decls b _ = refl
 
 finds_all : (ds : List DeclSyntax) (b : Bool) (d : DeclSyntax) (decls : List DeclSyntax) → DeclsFit (d ∷ ds) → program_finish (program_into b decls (d ∷ ds)) ≡ Some (decls ++ d ∷ ds)
 finds_all [] b d decls fits = found_one decls b d ∙ ap (program_found decls) (decl_finds b d fits.0)

@@ -1,18 +1,19 @@
 -- The least height of a program that the tokens begin: it is reached, and none is lower.
-use Rattle.std.proofs.Common.{◌≡◌, ◌≢◌, ℕ, ◌≤◌, max, List, [], ◌∷◌, ◌++◌, Option, Some, None, refl, sym, ap, ◌∙◌, arith}
+use Rattle.std.proofs.Common.{◌≡◌, ◌≢◌, ℕ, ◌≤◌, max, List, [], ◌∷◌, ◌++◌, Option, Some, None, refl, sym, ap, ◌∙◌, inl, inr, arith}
 use Rattle.um_syntax.specs.declared.token.Token.{Token}
 use Rattle.um_tree.specs.RawTree.{DeclSyntax}
 use Rattle.um_reader.specs.Machine.{reached, IsReaderOf}
+use Rattle.um_reader.proofs.Readers.{none_some}
 use Rattle.um_parse.specs.DeclGrammar.{IsProgram}
-use Rattle.um_parse.specs.DeclMachine.{DeclBegin, DeclState, Expects, HaveBase, InShort, HaveRecord, InField, InParam, InResult, InBody, NoDecl, decl_step, decl_finish, ProgramState, InProgram, NoProgram, program_goes, next_decl, program_step, program_found, program_finish}
+use Rattle.um_parse.specs.DeclMachine.{DeclBegin, DeclState, Expects, NoDecl, decl_step, decl_finish, ProgramState, InProgram, NoProgram, program_goes, next_decl, program_step, program_finish}
 use Rattle.um_parse.specs.ProgramHeights.{decl_height, program_height}
 use Rattle.um_parse.specs.ProgramLeast.{decl_least, program_least, machine_of_programs}
 use Rattle.um_parse.proofs.DeclCompletions.{decl_completed}
 use Rattle.um_parse.proofs.DeclHeights.{decl_completed_height, decl_up, decl_found_height}
 use Rattle.um_parse.proofs.ProgramComplete.{finds}
-use Rattle.um_parse.proofs.ProgramSound.{ProgramSpellsPrefix, spells_prefix, program_ending, program_completed, can_go_on, found}
+use Rattle.um_parse.proofs.ProgramSound.{ProgramSpellsPrefix, spells_prefix, program_ending, program_completed, can_go_on, found_is, found}
 
-height_last : (decls : List DeclSyntax) (d : DeclSyntax) → program_height (decls ++ d ∷ []) ≡ max (program_height decls) (decl_height d)
+pub height_last : (decls : List DeclSyntax) (d : DeclSyntax) → program_height (decls ++ d ∷ []) ≡ max (program_height decls) (decl_height d)
 height_last [] d = omega arith
 height_last (c ∷ decls) d = let e = height_last decls d in omega (arith, e)
 
@@ -27,15 +28,8 @@ completed_height NoProgram tokens rest h ok = absurd (ok refl)
 
 goes_up : (decls : List DeclSyntax) (low : ℕ) (new : DeclState) (over : ProgramState) → program_goes decls new over ≢ NoProgram → (new ≢ NoDecl → low ≤ max (program_height decls) (decl_least new))
     → (over ≢ NoProgram → low ≤ program_least over) → low ≤ program_least (program_goes decls new over)
-goes_up decls low (Expects expected) over ok up next = up (λ e. cc)
-goes_up decls low (HaveBase at x) over ok up next = up (λ e. cc)
-goes_up decls low (InShort at x u) over ok up next = up (λ e. cc)
-goes_up decls low (HaveRecord at x vs fs) over ok up next = up (λ e. cc)
-goes_up decls low (InField at x vs fs place y s) over ok up next = up (λ e. cc)
-goes_up decls low (InParam head ps b s) over ok up next = up (λ e. cc)
-goes_up decls low (InResult head ps s) over ok up next = up (λ e. cc)
-goes_up decls low (InBody head ps r e) over ok up next = up (λ e. cc)
 goes_up decls low NoDecl over ok up next = next ok
+goes_up decls low _ over ok up next = up (λ e. cc)
 
 next_up : (decls : List DeclSyntax) (d : DeclState) (found : Option DeclSyntax) (begun : DeclState) → decl_finish d ≡ found → next_decl decls found begun ≢ NoProgram
     → program_least (InProgram decls d) ≤ program_least (next_decl decls found begun)
@@ -56,26 +50,16 @@ step_up NoProgram x ok = absurd (ok refl)
 
 -- ---- what is found has it
 
-found_last : (decls : List DeclSyntax) (d : DeclState) (o : Option DeclSyntax) (ds : List DeclSyntax) → decl_finish d ≡ o → program_found decls o ≡ Some ds → program_height ds ≡ max (program_height decls) (decl_least d)
-found_last decls d (Some c) ds e f =
-    let same : decls ++ c ∷ [] ≡ ds = cc in
-    let last = height_last decls c in
-    let low = decl_found_height d c e in
-    ap program_height (sym same) ∙ omega (arith, last, low)
-found_last decls d None ds e f = absurd cc
-
 found_height : (st : ProgramState) (ds : List DeclSyntax) → program_finish st ≡ Some ds → program_height ds ≡ program_least st
-found_height (InProgram decls (Expects DeclBegin)) ds e = let same : decls ≡ ds = cc in ap program_height (sym same) ∙ omega arith
-found_height (InProgram decls (HaveBase at x)) ds e = found_last decls (HaveBase at x) (decl_finish (HaveBase at x)) ds refl e
-found_height (InProgram decls (InShort at x u)) ds e = found_last decls (InShort at x u) (decl_finish (InShort at x u)) ds refl e
-found_height (InProgram decls (HaveRecord at x vs fs)) ds e = found_last decls (HaveRecord at x vs fs) (decl_finish (HaveRecord at x vs fs)) ds refl e
-found_height (InProgram decls (InBody head ps r b)) ds e = found_last decls (InBody head ps r b) (decl_finish (InBody head ps r b)) ds refl e
-found_height (InProgram decls (InField at x vs fs place y s)) ds e = absurd cc
-found_height (InProgram decls (InParam head ps b s)) ds e = absurd cc
-found_height (InProgram decls (InResult head ps s)) ds e = absurd cc
-found_height (InProgram decls NoDecl) ds e = absurd cc
-found_height (InProgram decls (Expects _)) ds e = absurd cc
-found_height NoProgram ds e = absurd cc
+found_height (InProgram decls d) ds e =
+    elim (found_is decls d ds e) [
+      | inl w ↦ let least = ap decl_least w.0 in ap program_height (sym w.1) ∙ omega (arith, least)
+      | inr w ↦
+          let last = height_last decls w.0 in
+          let low = decl_found_height d w.0 w.1 in
+          ap program_height (sym w.2) ∙ omega (arith, last, low)
+    ]
+found_height NoProgram ds e = absurd (none_some ds e)
 
 -- ---- the machine reads programs
 

@@ -4,7 +4,7 @@ use Rattle.std.proofs.lemmas.List.{length-append}
 use Rattle.um_syntax.specs.declared.token.Token.{Token}
 use Rattle.um_tree.specs.declared.expression.Sign.{Sign}
 use Rattle.um_tree.specs.declared.expression.Sign.TheVariants as compare
-use Rattle.um_tree.specs.RawTree.{VarSyntax, NoteSyntax, TypeSyntax, BinderSyntax, ExprSyntax, ExprSyntaxes, FieldSyntaxes, truth_syntax, number_syntax, name_syntax, call_syntax, negate_syntax, not_syntax, pown_syntax, arith_syntax, compare_syntax, and_syntax, or_syntax, if_syntax, let_syntax, match_syntax, nil_syntax, list_syntax, cons_syntax, fields_syntax, field_syntax, bracket_expr_syntax, no_exprs, more_exprs, no_fields, more_fields, ParamSyntax, DeclSyntax, base_syntax, short_syntax, record_decl_syntax, function_syntax}
+use Rattle.um_tree.specs.RawTree.{VarSyntax, NoteSyntax, TypeSyntax, BinderSyntax, ExprSyntax, ExprSyntaxes, FieldSyntaxes, truth_syntax, number_syntax, name_syntax, call_syntax, negate_syntax, not_syntax, pown_syntax, arith_syntax, compare_syntax, and_syntax, or_syntax, if_syntax, let_syntax, match_syntax, nil_syntax, list_syntax, cons_syntax, fields_syntax, field_syntax, bracket_expr_syntax, no_exprs, more_exprs, no_fields, more_fields, ParamSyntax, DeclSyntax, function_syntax}
 use Rattle.um_tree.specs.Heights.{expr_nodes, all_expr_nodes, all_field_nodes}
 use Rattle.um_types.specs.TypeGrammar.{NoteSpells, NoteFits, TypeSpells, TypeFits}
 use Rattle.um_types.proofs.NoteComplete.{note_reaches}
@@ -55,17 +55,11 @@ compare_less compare.Ge left at tokens rest s =
     let a = at_less _ at tokens s.0 s.1 in
     let b = glued_less _ s.0 rest s.2 in
     omega (arith, a, b)
-compare_less compare.Le left at tokens rest s = let e = at_less _ at tokens rest s in omega (arith, e)
-compare_less compare.Eq left at tokens rest s = let e = at_less _ at tokens rest s in omega (arith, e)
-compare_less compare.Ne left at tokens rest s = let e = at_less _ at tokens rest s in omega (arith, e)
-compare_less compare.Gt left at tokens rest s = let e = at_less _ at tokens rest s in omega (arith, e)
+compare_less _ left at tokens rest s = let e = at_less _ at tokens rest s in omega (arith, e)
 
 infix_less : (sign : Infix) (left : List Token) (at : ℕ) (tokens rest : List Token) → InfixAt sign left at tokens rest → length rest + 1 ≤ length tokens
 infix_less (between.Compare sign) left at tokens rest s = compare_less sign left at tokens rest s
-infix_less between.Or left at tokens rest s = let e = at_less _ at tokens rest s in omega (arith, e)
-infix_less between.And left at tokens rest s = let e = at_less _ at tokens rest s in omega (arith, e)
-infix_less between.Cons left at tokens rest s = let e = at_less _ at tokens rest s in omega (arith, e)
-infix_less (between.Arith op) left at tokens rest s = let e = at_less _ at tokens rest s in omega (arith, e)
+infix_less _ left at tokens rest s = let e = at_less _ at tokens rest s in omega (arith, e)
 
 empty_arm_less : (tokens rest : List Token) → EmptyArm tokens rest → length rest ≤ length tokens
 empty_arm_less tokens rest s =
@@ -291,9 +285,6 @@ other_less : (d : DeclSyntax) (tokens rest : List Token) → DeclSpells d tokens
 other_less d tokens rest s fits = let p = decl_yields d tokens rest s fits in let y = p.1 in no_longer y.0 tokens rest y.1
 
 decl_fits : (d : DeclSyntax) (tokens rest : List Token) → DeclSpells d tokens rest → DeclFits d → decl_nodes d + length rest ≤ length tokens
-decl_fits (base_syntax at x) tokens rest s fits = let e = other_less (base_syntax at x) tokens rest s fits in omega (arith, e)
-decl_fits (short_syntax at x u) tokens rest s fits = let e = other_less (short_syntax at x u) tokens rest s fits in omega (arith, e)
-decl_fits (record_decl_syntax at x vs fs) tokens rest s fits = let e = other_less (record_decl_syntax at x vs fs) tokens rest s fits in omega (arith, e)
 decl_fits (function_syntax f) tokens rest s fits =
     let a = first_less _ tokens s.0 s.7 in
     let b = rec_less f.recursive s.0 s.1 s.8 in
@@ -304,6 +295,7 @@ decl_fits (function_syntax f) tokens rest s fits =
     let g = first_less _ s.5 s.6 s.13 in
     let h = fits_nodes f.body s.6 rest s.14 fits.2 in
     omega (arith, a, b, c, v, d, e, g, h)
+decl_fits d tokens rest s fits = let e = other_less d tokens rest s fits in omega (arith, e)
 
 decls_fit : (ds : List DeclSyntax) (tokens rest : List Token) → DeclsSpell ds tokens rest → DeclsFit ds → program_nodes ds + length rest ≤ length tokens
 decls_fit [] tokens rest s fits = let e : length tokens ≡ length rest = ap length s in omega (arith, e)

@@ -1,12 +1,13 @@
 -- The tokens of a program that were read are those of the state; what isn't refused begins a program; what is found is one.
-use Rattle.std.proofs.Common.{◌≡◌, ◌≢◌, List, [], ◌∷◌, ◌++◌, Option, Some, None, refl, sym, subst}
+use Rattle.std.proofs.Common.{◌≡◌, ◌≢◌, ◌⊎◌, Bool, true, false, cond, List, [], ◌∷◌, ◌++◌, Option, Some, None, refl, sym, subst, inl, inr}
 use Rattle.std.proofs.lemmas.List.{append-nil}
 use Rattle.um_syntax.specs.declared.token.Token.{Token}
 use Rattle.um_tree.specs.RawTree.{DeclSyntax}
 use Rattle.um_reader.specs.Machine.{runs}
 use Rattle.um_reader.proofs.Reaching.{runs_sound}
+use Rattle.um_reader.proofs.Readers.{none_some, some_same}
 use Rattle.um_parse.specs.DeclGrammar.{DeclSpells, DeclsSpell, DeclFits, DeclsFit, IsProgram}
-use Rattle.um_parse.specs.DeclMachine.{DeclBegin, DeclState, Expects, HaveBase, InShort, HaveRecord, InField, InParam, InResult, InBody, NoDecl, decl_step, decl_finish, ProgramState, InProgram, NoProgram, program_goes, next_decl, program_step, program_found, program_finish}
+use Rattle.um_parse.specs.DeclMachine.{DeclBegin, DeclState, Expects, NoDecl, decl_step, decl_finish, ProgramState, InProgram, NoProgram, program_goes, next_decl, program_step, at_start, program_found, program_finish}
 use Rattle.um_parse.proofs.DeclPrefixes.{DeclSpellsPrefix}
 use Rattle.um_parse.proofs.DeclSound.{decl_sound, decl_found}
 use Rattle.um_parse.proofs.DeclCompletions.{decl_ending, decl_completed, decl_can_end}
@@ -25,15 +26,8 @@ decls_fit (c ∷ decls) d h fits = (h.0, decls_fit decls d h.1 fits)
 
 goes_sound : (decls : List DeclSyntax) (d : DeclState) (over : ProgramState) (tokens mid rest : List Token) → DeclsSpell decls tokens mid → DeclsFit decls → DeclSpellsPrefix d mid rest
     → ProgramSpellsPrefix over tokens rest → ProgramSpellsPrefix (program_goes decls d over) tokens rest
-goes_sound decls (Expects expected) over tokens mid rest s f h o = (mid, s, f, h, λ e. cc)
-goes_sound decls (HaveBase at x) over tokens mid rest s f h o = (mid, s, f, h, λ e. cc)
-goes_sound decls (InShort at x u) over tokens mid rest s f h o = (mid, s, f, h, λ e. cc)
-goes_sound decls (HaveRecord at x vs fs) over tokens mid rest s f h o = (mid, s, f, h, λ e. cc)
-goes_sound decls (InField at x vs fs place y t) over tokens mid rest s f h o = (mid, s, f, h, λ e. cc)
-goes_sound decls (InParam head ps b t) over tokens mid rest s f h o = (mid, s, f, h, λ e. cc)
-goes_sound decls (InResult head ps t) over tokens mid rest s f h o = (mid, s, f, h, λ e. cc)
-goes_sound decls (InBody head ps r t) over tokens mid rest s f h o = (mid, s, f, h, λ e. cc)
 goes_sound decls NoDecl over tokens mid rest s f h o = o
+goes_sound decls _ over tokens mid rest s f h o = (mid, s, f, h, λ e. cc)
 
 next_sound : (decls : List DeclSyntax) (d : DeclState) (found : Option DeclSyntax) (x : Token) (tokens mid rest : List Token) → DeclsSpell decls tokens mid → DeclsFit decls → DeclSpellsPrefix d mid (x ∷ rest)
     → decl_finish d ≡ found → ProgramSpellsPrefix (next_decl decls found (decl_step (Expects DeclBegin) x)) tokens rest
@@ -49,7 +43,6 @@ program_sound (InProgram decls d) x tokens rest h =
     goes_sound decls (decl_step d x) (next_decl decls (decl_finish d) (decl_step (Expects DeclBegin) x)) tokens h.0 rest h.1 h.2 (decl_sound d x h.0 rest h.3)
     (next_sound decls d (decl_finish d) x tokens h.0 rest h.1 h.2 h.3 refl)
 program_sound NoProgram x tokens rest h = tt
-
 
 begin_on : Expects DeclBegin ≢ NoDecl
 begin_on e = cc
@@ -84,31 +77,35 @@ can_go_on read ok =
 
 -- ---- what is found
 
-found_is : (decls : List DeclSyntax) (o : Option DeclSyntax) (ds : List DeclSyntax) → program_found decls o ≡ Some ds → (d : DeclSyntax) × (o ≡ Some d) × (decls ++ d ∷ [] ≡ ds)
-found_is decls (Some d) ds e = (d, refl, cc)
-found_is decls None ds e = absurd cc
+pub start_is : (d : DeclState) → at_start d ≡ true → d ≡ Expects DeclBegin
+start_is (Expects DeclBegin) here = refl
+start_is _ here = absurd cc
 
-decls_found : (decls : List DeclSyntax) (d : DeclState) (ds : List DeclSyntax) (tokens rest : List Token) → ProgramSpellsPrefix (InProgram decls d) tokens rest → program_found decls (decl_finish d) ≡ Some ds
-    → DeclsSpell ds tokens rest × DeclsFit ds
-decls_found decls d ds tokens rest h e =
-    let w = found_is decls (decl_finish d) ds e in
-    let p = decl_found d w.0 h.0 rest h.3 w.1 in
-    subst (λ cs. DeclsSpell cs tokens rest × DeclsFit cs) w.2 (decls_last decls w.0 tokens h.0 rest h.1 p.0, decls_fit decls w.0 h.2 p.1)
+-- no declaration has begun, or the last one is found
+pub found_is : (decls : List DeclSyntax) (d : DeclState) (ds : List DeclSyntax) → program_finish (InProgram decls d) ≡ Some ds
+    → ((d ≡ Expects DeclBegin) × (decls ≡ ds)) ⊎ ((c : DeclSyntax) × (decl_finish d ≡ Some c) × (decls ++ c ∷ [] ≡ ds))
+found_is decls d ds e = by (at_start d) refl e
+  where
+    last : (o : Option DeclSyntax) → decl_finish d ≡ o → program_found decls o ≡ Some ds → (c : DeclSyntax) × (decl_finish d ≡ Some c) × (decls ++ c ∷ [] ≡ ds)
+    last (Some c) is f = (c, is, some_same (decls ++ c ∷ []) ds f)
+    last None is f = absurd (none_some ds f)
+
+    by : (b : Bool) → at_start d ≡ b → cond b (Some decls) (program_found decls (decl_finish d)) ≡ Some ds
+        → ((d ≡ Expects DeclBegin) × (decls ≡ ds)) ⊎ ((c : DeclSyntax) × (decl_finish d ≡ Some c) × (decls ++ c ∷ [] ≡ ds))
+    by true here f = inl (start_is d here, some_same decls ds f)
+    by false later f = inr (last (decl_finish d) refl f)
 
 program_is : (st : ProgramState) (ds : List DeclSyntax) (tokens rest : List Token) → ProgramSpellsPrefix st tokens rest → program_finish st ≡ Some ds → DeclsSpell ds tokens rest × DeclsFit ds
-program_is (InProgram decls (Expects DeclBegin)) ds tokens rest h e =
-    let same : decls ≡ ds = cc in
-    subst (λ cs. DeclsSpell cs tokens rest × DeclsFit cs) same (subst (λ w. DeclsSpell decls tokens w) h.3.0 h.1, h.2)
-program_is (InProgram decls (HaveBase at x)) ds tokens rest h e = decls_found decls (HaveBase at x) ds tokens rest h e
-program_is (InProgram decls (InShort at x u)) ds tokens rest h e = decls_found decls (InShort at x u) ds tokens rest h e
-program_is (InProgram decls (HaveRecord at x vs fs)) ds tokens rest h e = decls_found decls (HaveRecord at x vs fs) ds tokens rest h e
-program_is (InProgram decls (InBody head ps r b)) ds tokens rest h e = decls_found decls (InBody head ps r b) ds tokens rest h e
-program_is (InProgram decls (InField at x vs fs place y s)) ds tokens rest h e = absurd cc
-program_is (InProgram decls (InParam head ps b s)) ds tokens rest h e = absurd cc
-program_is (InProgram decls (InResult head ps s)) ds tokens rest h e = absurd cc
-program_is (InProgram decls NoDecl) ds tokens rest h e = absurd cc
-program_is (InProgram decls (Expects _)) ds tokens rest h e = absurd cc
-program_is NoProgram ds tokens rest h e = absurd cc
+program_is (InProgram decls d) ds tokens rest h e =
+    elim (found_is decls d ds e) [
+      | inl w ↦
+          let here : DeclSpellsPrefix (Expects DeclBegin) h.0 rest = subst (λ s. DeclSpellsPrefix s h.0 rest) w.0 h.3 in
+          subst (λ cs. DeclsSpell cs tokens rest × DeclsFit cs) w.1 (subst (λ r. DeclsSpell decls tokens r) here.0 h.1, h.2)
+      | inr w ↦
+          let p = decl_found d w.0 h.0 rest h.3 w.1 in
+          subst (λ cs. DeclsSpell cs tokens rest × DeclsFit cs) w.2 (decls_last decls w.0 tokens h.0 rest h.1 p.0, decls_fit decls w.0 h.2 p.1)
+    ]
+program_is NoProgram ds tokens rest h e = absurd (none_some ds e)
 
 -- what is found is a program
 pub found : (tokens : List Token) (ds : List DeclSyntax) → program_finish (runs program_step (InProgram [] (Expects DeclBegin)) tokens) ≡ Some ds → IsProgram tokens ds

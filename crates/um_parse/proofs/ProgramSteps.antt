@@ -1,101 +1,48 @@
--- One token more of a program, told by the declarations that were read.
-use Rattle.std.proofs.Common.{◌≡◌, ◌≢◌, ℕ, ◌+◌, ◌≤◌, ◌<◌, max, true, false, List, [], ◌∷◌, ◌++◌, length, take, get_or, map, Some, refl, sym, ap, ◌∙◌, arith}
-use Rattle.std.proofs.lemmas.List.{take_more}
+-- The token that the last declaration of a program has refused, told by what the next declaration gives.
+use Rattle.std.proofs.Common.{◌≡◌, ◌≤◌, List, [], ◌∷◌, ◌++◌, map, Option, Some, sym, ap, ◌∙◌, arith}
+use Rattle.std.proofs.lemmas.List.{map-append}
 use Rattle.um_syntax.specs.declared.token.Token.{Token}
 use Rattle.um_tree.specs.declared.raw.RawDecl.{RawDecl}
 use Rattle.um_tree.specs.RawTree.{DeclSyntax, decl_syntax}
-use Rattle.um_reader.specs.Machine.{runs}
-use Rattle.um_reader.proofs.Reaching.{runs_append}
+use Rattle.um_reader.specs.Takes.{Gives, Takes}
+use Rattle.um_reader.specs.declared.taken.Taken.{Taken}
+use Rattle.um_reader.specs.declared.taken.Taken.TheVariants as taken
+use Rattle.um_reader.proofs.Readers.{gives_as}
 use Rattle.um_types.specs.UnitStops.{greatest_height}
-use Rattle.um_parse.specs.DeclMachine.{DeclBegin, AttributeWord, AttributeGreater, AttributeClose, MeasureType, MeasureName, RecordName, RecordVars, VarBegin, VarWord, VarGreater, VarClose, VarName, VarEnd, RecordEqual, RecordBrace, FieldName, FieldColon, LetName, RecName, FunctionVars, Params, ParamBinder, ParamColon, DeclState, Expects, HaveBase, InShort, HaveRecord, InField, InParam, InResult, InBody, NoDecl, decl_finish, ProgramState, InProgram, NoProgram, program_goes, program_step, program_found, program_finish}
+use Rattle.um_parse.specs.DeclMachine.{DeclBegin, DeclState, Expects, decl_step, decl_finish, ProgramState, InProgram, NoProgram, program_goes, next_decl, program_step, program_found, program_finish}
 use Rattle.um_parse.specs.ProgramHeights.{decl_height, program_height}
-use Rattle.um_parse.specs.ProgramLeast.{decl_least, program_least}
-use Rattle.um_parse.specs.ProgramStates.{start, state_at, IsReadTo}
-use Rattle.um_parse.specs.DeclTakes.{reader_state}
-use Rattle.um_parse.specs.ProgramReads.{program_state, ProgramTakes, at_start}
-use Rattle.um_parse.specs.declared.decl_reader.DeclReader.{DeclReader}
-use Rattle.um_parse.specs.declared.program_loop.ProgramStep.TheVariants as step
-use Rattle.um_parse.proofs.DeclTaken.{reader_low, reader_goes}
+use Rattle.um_parse.specs.ProgramLeast.{decl_least, program_least, machine_of_declarations, machine_of_programs}
+use Rattle.um_parse.proofs.DeclHeights.{decl_found_height}
+use Rattle.um_parse.proofs.ProgramLow.{height_last}
 
-program_on : (decls : List DeclSyntax) (d : DeclState) (ended : ProgramState) → d ≢ NoDecl → program_goes decls d ended ≡ InProgram decls d
-program_on decls (Expects expected) ended ok = refl
-program_on decls (HaveBase at x) ended ok = refl
-program_on decls (InShort at x u) ended ok = refl
-program_on decls (HaveRecord at x vs fs) ended ok = refl
-program_on decls (InField at x vs fs place y s) ended ok = refl
-program_on decls (InParam head ps b s) ended ok = refl
-program_on decls (InResult head ps s) ended ok = refl
-program_on decls (InBody head ps r e) ended ok = refl
-program_on decls NoDecl ended ok = absurd (ok refl)
+-- the declaration before it isn't too high
+pub last_low : (decls : List DeclSyntax) (old mid : DeclState) (token : Token) → program_least (InProgram decls old) ≤ greatest_height → Takes machine_of_declarations greatest_height old token taken.Stops mid
+    → (d : DeclSyntax) → decl_finish mid ≡ Some d → decl_height d ≤ greatest_height
+last_low decls old mid token low t d e = let same = decl_found_height old d (sym t.1 ∙ e) in omega (arith, low, same)
 
--- the declaration goes on
-pub goes_in : (decls : List RawDecl) (d : DeclState) (ended : ProgramState) (r : DeclReader) → d ≡ reader_state r → program_height (map decl_syntax decls) ≤ greatest_height
-    → ProgramTakes (program_goes (map decl_syntax decls) d ended) decls (step.Goes r)
-goes_in decls d ended r e low =
-    let same : program_goes (map decl_syntax decls) d ended ≡ program_state decls r =
-    ap (λ s. program_goes (map decl_syntax decls) s ended) e ∙ program_on (map decl_syntax decls) (reader_state r) ended (reader_goes r)
-    in
-    let least = ap program_least same in
-    (same, omega (arith, least, low, reader_low r))
+-- a declaration ends there, and stands behind the others
+module _ (earlier new : List RawDecl) (d : RawDecl) (s : DeclState) (pushed : new ≡ earlier ++ d ∷ []) (begun : s ≡ Expects DeclBegin) where
+  one_more : map decl_syntax new ≡ map decl_syntax earlier ++ decl_syntax d ∷ []
+  one_more = ap (map decl_syntax) pushed ∙ map-append decl_syntax earlier (d ∷ [])
 
--- it is too high
-pub high_in : (decls : List RawDecl) (d : DeclState) (ended : ProgramState) → d ≢ NoDecl → greatest_height < decl_least d → ProgramTakes (program_goes (map decl_syntax decls) d ended) decls step.High
-high_in decls d ended ok high =
-    let same : program_goes (map decl_syntax decls) d ended ≡ InProgram (map decl_syntax decls) d = program_on (map decl_syntax decls) d ended ok in
-    let least = ap program_least same in
-    ((λ h. let bad : InProgram (map decl_syntax decls) d ≡ NoProgram = sym same ∙ h in cc), omega (arith, least, high))
+  pub more_low : program_height (map decl_syntax earlier) ≤ greatest_height → decl_height (decl_syntax d) ≤ greatest_height → program_least (InProgram (map decl_syntax new) s) ≤ greatest_height
+  more_low low high =
+      let last = height_last (map decl_syntax earlier) (decl_syntax d) in
+      let heights = ap program_height one_more in
+      let least = ap decl_least begun in
+      omega (arith, low, high, last, heights, least)
 
--- the heights with a declaration more
-pub decls_last : (decls : List RawDecl) (d : RawDecl) → program_height (map decl_syntax (decls ++ d ∷ [])) ≡ max (program_height (map decl_syntax decls)) (decl_height (decl_syntax d))
-decls_last [] d = omega arith
-decls_last (c ∷ decls) d = let e = decls_last decls d in omega (arith, e)
-
-pub decl_texts_last : (decls : List RawDecl) (d : RawDecl) → map decl_syntax (decls ++ d ∷ []) ≡ map decl_syntax decls ++ decl_syntax d ∷ []
-decl_texts_last [] d = refl
-decl_texts_last (c ∷ decls) d = ap (λ ds. decl_syntax c ∷ ds) (decl_texts_last decls d)
-
--- ---- the end
-
-found_with : (decls : List DeclSyntax) (d : DeclState) → at_start d ≡ false → program_finish (InProgram decls d) ≡ program_found decls (decl_finish d)
-found_with decls (Expects DeclBegin) later = absurd cc
-found_with decls (Expects AttributeWord) later = refl
-found_with decls (Expects AttributeGreater) later = refl
-found_with decls (Expects AttributeClose) later = refl
-found_with decls (Expects MeasureType) later = refl
-found_with decls (Expects MeasureName) later = refl
-found_with decls (Expects RecordName) later = refl
-found_with decls (Expects (RecordVars at x)) later = refl
-found_with decls (Expects (VarBegin owner vs)) later = refl
-found_with decls (Expects (VarWord owner vs)) later = refl
-found_with decls (Expects (VarGreater owner vs)) later = refl
-found_with decls (Expects (VarClose owner vs)) later = refl
-found_with decls (Expects (VarName owner vs)) later = refl
-found_with decls (Expects (VarEnd owner vs)) later = refl
-found_with decls (Expects (RecordEqual at x vs)) later = refl
-found_with decls (Expects (RecordBrace at x vs)) later = refl
-found_with decls (Expects (FieldName at x vs fs)) later = refl
-found_with decls (Expects (FieldColon at x vs fs p y)) later = refl
-found_with decls (Expects LetName) later = refl
-found_with decls (Expects RecName) later = refl
-found_with decls (Expects (FunctionVars recursive at x)) later = refl
-found_with decls (Expects (Params head ps)) later = refl
-found_with decls (Expects (ParamBinder head ps)) later = refl
-found_with decls (Expects (ParamColon head ps b)) later = refl
-found_with decls (HaveBase at x) later = refl
-found_with decls (InShort at x u) later = refl
-found_with decls (HaveRecord at x vs fs) later = refl
-found_with decls (InField at x vs fs p y s) later = refl
-found_with decls (InParam head ps b s) later = refl
-found_with decls (InResult head ps s) later = refl
-found_with decls (InBody head ps r e) later = refl
-found_with decls NoDecl later = refl
-
-pub reader_found : (decls : List RawDecl) (reader : DeclReader) → at_start (reader_state reader) ≡ false → program_finish (program_state decls reader) ≡ program_found (map decl_syntax decls) (decl_finish (reader_state reader))
-reader_found decls reader later = found_with (map decl_syntax decls) (reader_state reader) later
-
-start_finish : (decls : List DeclSyntax) (d : DeclState) → at_start d ≡ true → program_finish (InProgram decls d) ≡ Some decls
-start_finish decls (Expects DeclBegin) here = refl
-start_finish decls _ here = absurd cc
-
-pub start_found : (decls : List RawDecl) (reader : DeclReader) → at_start (reader_state reader) ≡ true → program_finish (program_state decls reader) ≡ Some (map decl_syntax decls)
-start_found decls reader here = start_finish (map decl_syntax decls) (reader_state reader) here
+  pub one_ends : (found : Option DeclSyntax) (token : Token) (given : Taken) (last : ProgramState) → found ≡ Some (decl_syntax d)
+      → Takes machine_of_programs greatest_height (InProgram (map decl_syntax new) s) token given last → (st : ProgramState) → program_finish st ≡ program_found (map decl_syntax earlier) found
+      → Gives machine_of_programs greatest_height st (next_decl (map decl_syntax earlier) found (decl_step (Expects DeclBegin) token)) given last
+  one_ends found token given last is t st whole =
+      let texts : List DeclSyntax = map decl_syntax new in
+      let others : List DeclSyntax = map decl_syntax earlier in
+      let next : DeclState = decl_step (Expects DeclBegin) token in
+      let ends : program_finish (InProgram texts s) ≡ program_finish st =
+      ap (λ x. program_finish (InProgram texts x)) begun ∙ ap (λ ds. Some ds) one_more ∙ ap (program_found others) (sym is) ∙ sym whole
+      in
+      let e : program_step (InProgram texts s) token ≡ next_decl others found next =
+      ap (λ x. program_step (InProgram texts x) token) begun ∙ ap (λ ds. program_goes ds next NoProgram) one_more ∙ ap (λ o. next_decl others o next) (sym is)
+      in
+      gives_as machine_of_programs greatest_height (InProgram texts s) st (program_step (InProgram texts s) token) (next_decl others found next) given last ends e t

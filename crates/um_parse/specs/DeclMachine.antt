@@ -1,8 +1,7 @@
 -- Reading declarations token by token, with the machines of units, types and expressions inside. A token that a
--- machine inside
--- refuses ends what it has read, and is looked at again; one that a declaration refuses begins the next.
+-- machine inside refuses ends what it has read, and is looked at again; one that a declaration refuses begins the next.
 -- Source: this project's own.
-use Rattle.std.specs.Prelude.{ℕ, Bool, true, false, List, [], ◌∷◌, ◌++◌, Option, Some, None}
+use Rattle.std.specs.Prelude.{ℕ, Bool, true, false, cond, List, [], ◌∷◌, ◌++◌, Option, Some, None}
 use Rattle.um_syntax.specs.declared.token.Token.{Token}
 use Rattle.um_syntax.specs.declared.token.Kind.{Kind}
 use Rattle.um_tree.specs.declared.expression.Sign.TheVariants as compare
@@ -216,13 +215,15 @@ decl_act NoDecl w p glued k = NoDecl
 abbrev pub decl_step : DeclState → Token → DeclState
 decl_step state token = decl_act state (expr_token token.kind) token.start token.glued token.kind
 
--- one token more, which the type has refused, if one has begun
+-- one token more, which what is read inside has refused, if anything is
 abbrev pub own_step : DeclState → Token → DeclState
+own_step (Expects expected) token = take_expected expected (expr_token token.kind) token.start
+own_step (HaveBase at x) token = base_after at x (expr_token token.kind)
 own_step (InField at x vs fs place y s) token =
     field_ends at x vs fs place y (type_finish s) (expr_token token.kind)
 own_step (InParam head ps b s) token = param_ends head ps b (type_finish s) (expr_token token.kind)
 own_step (InResult head ps s) token = result_ends head ps (type_finish s) (expr_token token.kind)
-own_step st token = decl_step st token
+own_step _ token = NoDecl
 
 -- the declaration where all is read
 abbrev pub short_found : ℕ → List ℕ → Option UnitSyntax → Option DeclSyntax
@@ -273,12 +274,16 @@ program_step (InProgram decls d) token =
     program_goes decls (decl_step d token) (next_decl decls (decl_finish d) (decl_step (Expects DeclBegin) token))
 program_step NoProgram token = NoProgram
 
+-- whether no token of a declaration was read
+abbrev pub at_start : DeclState → Bool
+at_start (Expects DeclBegin) = true
+at_start _ = false
+
 -- the program where all is read
 abbrev pub program_found : List DeclSyntax → Option DeclSyntax → Option (List DeclSyntax)
 program_found decls None = None
 program_found decls (Some d) = Some (decls ++ d ∷ [])
 
 abbrev pub program_finish : ProgramState → Option (List DeclSyntax)
-program_finish (InProgram decls (Expects DeclBegin)) = Some decls
-program_finish (InProgram decls d) = program_found decls (decl_finish d)
+program_finish (InProgram decls d) = cond (at_start d) (Some decls) (program_found decls (decl_finish d))
 program_finish NoProgram = None

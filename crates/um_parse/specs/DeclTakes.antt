@@ -9,7 +9,7 @@ use Rattle.um_types.specs.TypeHeights.{whole_height}
 use Rattle.um_types.specs.TypeMachine.{type_finish}
 use Rattle.um_expr.specs.ExprStates.{expr_state}
 use Rattle.um_parse.specs.DeclMachine.{DeclState, Expects, HaveBase, InShort, HaveRecord, InField, InParam, InResult}
-use Rattle.um_parse.specs.DeclMachine.{InBody, ProgramState, InProgram}
+use Rattle.um_parse.specs.DeclMachine.{InBody, NoDecl, ProgramState, InProgram}
 use Rattle.um_parse.specs.DeclViews.{head_vars, read_fields, start_in, read_params, view_expected}
 use Rattle.um_parse.specs.declared.decl_reader.DeclReader.{DeclReader}
 use Rattle.um_parse.specs.declared.decl_reader.DeclReader.TheVariants as reader
@@ -17,6 +17,7 @@ use Rattle.um_parse.specs.declared.program_reader.ProgramReader.{ProgramReader}
 
 -- the state of a reader of a declaration
 abbrev pub reader_state : DeclReader → DeclState
+reader_state reader.Nothing = NoDecl
 reader_state (reader.At p) = Expects (view_expected p)
 reader_state (reader.Base at x) = HaveBase at x
 reader_state (reader.Short at x u) = InShort at x (unit_state u)

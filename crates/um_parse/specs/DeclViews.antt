@@ -3,14 +3,13 @@
 use Rattle.std.specs.Prelude.{ℕ, List, [], map, Option, Some, None}
 use Rattle.um_tree.specs.RawTree.{VarSyntax, FieldDeclSyntax, ParamSyntax, var_syntax, field_decl_syntax}
 use Rattle.um_tree.specs.RawTree.{param_syntax, binder_syntax, written_type}
-use Rattle.um_types.specs.UnitMachine.{Need as NeedUnit}
 use Rattle.um_types.specs.TypeMachine.{NeedType}
 use Rattle.um_expr.specs.ExprMachine.{Need}
 use Rattle.um_parse.specs.DeclMachine.{DeclExpected, DeclBegin, AttributeWord, AttributeGreater, AttributeClose}
 use Rattle.um_parse.specs.DeclMachine.{MeasureType, MeasureName, RecordName, RecordVars, VarBegin, VarWord}
 use Rattle.um_parse.specs.DeclMachine.{VarGreater, VarClose, VarName, VarEnd, RecordEqual, RecordBrace, FieldName}
 use Rattle.um_parse.specs.DeclMachine.{FieldColon, LetName, RecName, Params, ParamBinder, ParamColon, DeclState}
-use Rattle.um_parse.specs.DeclMachine.{Expects, HaveBase, InShort, HaveRecord, InField, InParam, InResult, InBody}
+use Rattle.um_parse.specs.DeclMachine.{Expects, HaveBase, HaveRecord, InField, InParam, InResult, InBody}
 use Rattle.um_parse.specs.DeclMachine.{NoDecl, FunctionVars, FunctionStart, VarOwner, OfRecord, OfFunction}
 use Rattle.um_parse.specs.declared.decl_prefix.RecordHead.{RecordHead}
 use Rattle.um_parse.specs.declared.decl_prefix.RecordPrefix.{RecordPrefix}
@@ -84,7 +83,6 @@ view_expected (expected.ParamColon f b) = ParamColon (start_in f) (read_params f
 abbrev pub next_state : Next → DeclState
 next_state (next.At p) = Expects (view_expected p)
 next_state (next.Base at x) = HaveBase at x
-next_state (next.Short at x) = InShort at x (NeedUnit [])
 next_state (next.Record f) = HaveRecord f.head.at f.head.name (head_vars f.head) (read_fields f)
 next_state (next.Field f p y) = InField f.head.at f.head.name (head_vars f.head) (read_fields f) p y (NeedType 0)
 next_state (next.Param f b) = InParam (start_in f) (read_params f) (binder_syntax b) (NeedType 0)

@@ -16,17 +16,6 @@ pub fn refuse(kind: ExprToken) -> Option<Next>
     None
 }
 
-/// Whether the token is the `=` of an abbreviation.
-pub fn base_after(kind: ExprToken) -> bool {
-    match kind {
-        ExprToken::Operator(Infix::Compare(Sign::Eq)) => true,
-        other => {
-            drop(other);
-            false
-        }
-    }
-}
-
 /// The first token of a declaration.
 pub fn begin(kind: ExprToken, p: u32) -> Option<Next>
     ensures { reached result ≡ take_expected DeclBegin kind p }

@@ -103,13 +103,12 @@ pub enum DeclExpected {
     ParamColon(FunctionPrefix, Binder),
 }
 
-/// What follows a token that a declaration takes: a place; a measure, at its name, that may be whole; its unit text;
-/// a whole record; the type of a field, of a parameter, of a result; a body.
+/// What follows a token that a declaration takes: a place; a measure, at its name, that may be whole; a whole record; the
+/// type of a field, of a parameter, of a result; a body.
 #[derive(Drop)]
 pub enum Next {
     At(DeclExpected),
     Base(u32, Name),
-    Short(u32, Name),
     Record(RecordPrefix),
     Field(RecordPrefix, u32, Name),
     Param(FunctionPrefix, Binder),

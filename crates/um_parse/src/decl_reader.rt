@@ -1,9 +1,9 @@
 // A declaration that is read one token at a time.
-ghost use Rattle.std.specs.Prelude.{◌≡◌, ◌≤◌, IfOk, IfSome, None, option_map};
+ghost use Rattle.std.specs.Prelude.{◌≡◌, ◌≤◌, IfOk, None, option_map};
 ghost use Rattle.um_tree.specs.RawTree.{unit_syntax, expr_syntax, decl_syntax, record_decl_syntax, written_type};
 ghost use Rattle.um_reader.specs.Takes.{Gives, Takes};
 ghost use Rattle.um_types.specs.UnitStops.{greatest_height};
-ghost use Rattle.um_parse.specs.DeclMachine.{Expects, DeclBegin, take_expected, short_found, body_found, own_step, decl_finish};
+ghost use Rattle.um_parse.specs.DeclMachine.{Expects, DeclBegin, HaveBase, NoDecl, take_expected, base_after, short_found, body_found, own_step, decl_finish, at_start};
 ghost use Rattle.um_parse.specs.ProgramLeast.{decl_least, machine_of_declarations};
 ghost use Rattle.um_parse.specs.DeclViews.{head_vars, read_fields, start_in, read_params, view_expected, next_state, reached};
 ghost use Rattle.um_parse.specs.DeclTakes.{reader_state, IsLow};
@@ -12,7 +12,7 @@ use crate::decl_function::{
     function_vars, let_name, param_binder, param_colon, param_ends, rec_name, result_ends,
     take_params,
 };
-use crate::decl_measure::{base_after, begin, take_measure};
+use crate::decl_measure::{begin, take_measure};
 use crate::decl_prefix::{DeclExpected, FunctionHead, FunctionPrefix, Next, RecordPrefix};
 use crate::decl_record::{
     field_colon, field_ends, field_name, record_brace, record_equal, record_name, record_vars,
@@ -20,15 +20,17 @@ use crate::decl_record::{
 use crate::decl_vars::take_var;
 use std::alloc::{AllocError, Global};
 use std::mem;
-use um_expr::{ExprReader, ExprToken};
+use um_expr::{ExprReader, ExprToken, Infix};
 use um_reader::{Reader, Taken};
 use um_syntax::Token;
-use um_tree::{Binder, Name, RawDecl, RawExpr, RawFunction, RawUnit};
+use um_tree::{Binder, Name, RawDecl, RawExpr, RawFunction, RawUnit, Sign};
 use um_types::{TypeReader, UnitReader};
 
 /// A declaration that has begun.
 #[derive(Drop)]
 pub enum DeclReader {
+    /// What was read has refused a token, and nothing ends there
+    Nothing,
     At(DeclExpected),
     /// A measure, at its name, that may be whole; in its unit text
     Base(u32, Name),
@@ -49,7 +51,6 @@ fn reader_of(alloc: Global, next: Next) -> DeclReader
     match next {
         Next::At(expected) => DeclReader::At(expected),
         Next::Base(at, name) => DeclReader::Base(at, name),
-        Next::Short(at, name) => DeclReader::Short(at, name, UnitReader::new(alloc)),
         Next::Record(prefix) => DeclReader::Record(prefix),
         Next::Field(prefix, at, name) => DeclReader::Field(prefix, at, name, TypeReader::new()),
         Next::Param(prefix, binder) => DeclReader::Param(prefix, binder, TypeReader::new()),
@@ -133,6 +134,14 @@ fn record_found(prefix: RecordPrefix) -> RawDecl
     RawDecl::Record(head.at, head.name, head.vars, fields)
 }
 
+// No declaration ends here.
+fn unfinished(reader: DeclReader) -> Option<RawDecl>
+    ensures { result ≡ None }
+{
+    drop(reader);
+    None
+}
+
 impl DeclReader {
     /// No token was read yet.
     pub fn new() -> DeclReader
@@ -141,11 +150,14 @@ impl DeclReader {
         DeclReader::At(DeclExpected::Begin)
     }
 
-    /// A declaration that nothing ends.
-    pub fn nothing() -> DeclReader
-        ensures { decl_finish (reader_state result) ≡ None }
+    /// Whether no token was read.
+    pub fn is_at_start(&self) -> bool
+        ensures { result ≡ at_start (reader_state self.now) }
     {
-        DeclReader::At(DeclExpected::LetName)
+        match self {
+            DeclReader::At(DeclExpected::Begin) => true,
+            _ => false,
+        }
     }
 
     /// One token more.
@@ -156,6 +168,7 @@ impl DeclReader {
         match self {
             DeclReader::Body(_, body) => body.take(alloc, token),
             DeclReader::Short(_, _, unit) => unit.take(alloc, token),
+            DeclReader::Nothing => Ok(Taken::Stops),
             DeclReader::Record(_) => Ok(Taken::Stops),
             DeclReader::At(_) => self.take_own(alloc, token),
             DeclReader::Base(_, _) => self.take_own(alloc, token),
@@ -177,25 +190,19 @@ impl DeclReader {
         }
     }
 
-    // One token more, which the type has refused, if one has begun.
+    // One token more, which what is read inside has refused, if anything is.
+    #[inline(never)]
     fn take_own(&mut self, alloc: Global, token: &Token) -> Result<Taken, AllocError>
         requires low { IsLow (reader_state self.old) }
         ensures { IfOk result (λ t. Gives machine_of_declarations greatest_height (reader_state self.old) (own_step (reader_state self.old) token.now) t (reader_state self.new)) }
     {
         let kind = ExprToken::of_kind(alloc, &token.kind)?;
-        if self.is_at_start() {
-            return Ok(match begin(kind, token.start) {
-                Some(next) => self.go(alloc, next),
-                None => Taken::Stops,
-            });
-        }
-        // Where the token is refused, nothing that ends is left.
-        match mem::replace(self, DeclReader::At(DeclExpected::LetName)) {
-            DeclReader::Base(at, name) => Ok(self.behind_base(alloc, at, name, kind)),
+        match mem::replace(self, DeclReader::Nothing) {
             DeclReader::At(expected) => {
                 let next = next_at(alloc, expected, kind, token.start)?;
                 Ok(self.follow(alloc, next))
             }
+            DeclReader::Base(at, name) => Ok(self.behind_base(alloc, at, name, kind)),
             DeclReader::Field(prefix, at, name, ty) => {
                 let next = field_ends(prefix, at, name, ty.finish(), kind)?;
                 Ok(self.follow(alloc, next))
@@ -208,43 +215,55 @@ impl DeclReader {
                 let next = result_ends(prefix, ty.finish(), kind);
                 Ok(self.follow(alloc, next))
             }
-            other => {
-                drop(kind);
-                drop(mem::replace(self, other));
-                Ok(Taken::Stops)
+            DeclReader::Nothing => Ok(self.stay(DeclReader::Nothing, kind)),
+            DeclReader::Short(at, name, unit) => {
+                Ok(self.stay(DeclReader::Short(at, name, unit), kind))
             }
+            DeclReader::Record(prefix) => Ok(self.stay(DeclReader::Record(prefix), kind)),
+            DeclReader::Body(head, body) => Ok(self.stay(DeclReader::Body(head, body), kind)),
         }
     }
 
-    // The token behind the name of a measure, at its place.
-    fn behind_base(&mut self, alloc: Global, at: u32, name: Name, kind: ExprToken) -> Taken {
-        if base_after(kind) {
-            self.go(alloc, Next::Short(at, name))
-        } else {
-            drop(mem::replace(self, DeclReader::Base(at, name)));
-            Taken::Stops
-        }
+    // What is read from here on.
+    fn put(&mut self, reader: DeclReader)
+        ensures { self.new ≡ reader }
+    {
+        drop(mem::replace(self, reader));
     }
 
-    // What follows is read, or the token is refused.
-    fn follow(&mut self, alloc: Global, next: Option<Next>) -> Taken {
+    // The token is refused, and the reader ends as before it.
+    fn stay(&mut self, reader: DeclReader, kind: ExprToken) -> Taken
+        ensures { Gives machine_of_declarations greatest_height (reader_state reader) NoDecl result (reader_state self.new) }
+    {
+        drop(kind);
+        self.put(reader);
+        Taken::Stops
+    }
+
+    // What follows is read, or the token is refused, where nothing ends.
+    fn follow(&mut self, alloc: Global, next: Option<Next>) -> Taken
+        requires nothing { reader_state self.old ≡ NoDecl }
+        ensures { Gives machine_of_declarations greatest_height NoDecl (reached next) result (reader_state self.new) }
+    {
         match next {
-            Some(next) => self.go(alloc, next),
+            Some(next) => {
+                self.put(reader_of(alloc, next));
+                Taken::Goes
+            }
             None => Taken::Stops,
         }
     }
 
-    // What follows is read.
-    fn go(&mut self, alloc: Global, next: Next) -> Taken {
-        drop(mem::replace(self, reader_of(alloc, next)));
-        Taken::Goes
-    }
-
-    /// Whether no token was read.
-    pub fn is_at_start(&self) -> bool {
-        match self {
-            DeclReader::At(DeclExpected::Begin) => true,
-            _ => false,
+    // The token behind the name of a measure, at its place.
+    fn behind_base(&mut self, alloc: Global, at: u32, name: Name, kind: ExprToken) -> Taken
+        ensures { Gives machine_of_declarations greatest_height (HaveBase at name) (base_after at name kind) result (reader_state self.new) }
+    {
+        match kind {
+            ExprToken::Operator(Infix::Compare(Sign::Eq)) => {
+                self.put(DeclReader::Short(at, name, UnitReader::new(alloc)));
+                Taken::Goes
+            }
+            other => self.stay(DeclReader::Base(at, name), other),
         }
     }
 
@@ -257,10 +276,15 @@ impl DeclReader {
             DeclReader::Short(at, name, unit) => Ok(short_found(at, name, unit.finish(alloc)?)),
             DeclReader::Record(prefix) => Ok(Some(record_found(prefix))),
             DeclReader::Body(head, body) => Ok(body_found(head, body.finish(alloc)?)),
-            other => {
-                drop(other);
-                Ok(None)
+            DeclReader::Nothing => Ok(None),
+            DeclReader::At(expected) => Ok(unfinished(DeclReader::At(expected))),
+            DeclReader::Field(prefix, at, name, ty) => {
+                Ok(unfinished(DeclReader::Field(prefix, at, name, ty)))
             }
+            DeclReader::Param(prefix, binder, ty) => {
+                Ok(unfinished(DeclReader::Param(prefix, binder, ty)))
+            }
+            DeclReader::Result(prefix, ty) => Ok(unfinished(DeclReader::Result(prefix, ty))),
         }
     }
 }

@@ -1,5 +1,10 @@
 // Parsing a program, with the places of its refusals in the text.
 ghost use Rattle.std.specs.Prelude.{◌≤◌, length};
+ghost use Rattle.um_tree.specs.RawTree.{program_syntax};
+ghost use Rattle.um_reader.specs.ReadTo.{ReadAll};
+ghost use Rattle.um_types.specs.UnitStops.{greatest_height};
+ghost use Rattle.um_parse.specs.DeclGrammar.{IsProgram};
+ghost use Rattle.um_parse.specs.ProgramHeights.{program_height};
 ghost use Rattle.um_parse.specs.Parsed.{Parsed};
 
 use crate::limits::first_passed;
@@ -9,6 +14,13 @@ use um_reader::{ReadStop, read_all};
 use um_syntax::Token;
 use um_tree::RawProgram;
 use um_types::{LimitKind, ParseStop, place};
+
+// The program that the tokens are, whatever its other limits.
+fn read_program(alloc: Global, tokens: &[Token]) -> Result<RawProgram, ReadStop>
+    ensures { ReadAll IsProgram program_height greatest_height program_syntax tokens.now result }
+{
+    read_all::<ProgramReader>(alloc, tokens)
+}
 
 /// The program that the tokens are, as it is written. `end` is the length of the text in bytes.
 ///
@@ -29,7 +41,7 @@ pub fn parse(alloc: Global, tokens: &[Token], end: u32) -> Result<RawProgram, Pa
     requires text { length tokens.now ≤ end }
     ensures parsed { Parsed tokens.now end result }
 {
-    let program = match read_all::<ProgramReader>(alloc, tokens) {
+    let program = match read_program(alloc, tokens) {
         Ok(program) => program,
         Err(ReadStop::Syntax(k)) => {
             return Err(ParseStop::Syntax {

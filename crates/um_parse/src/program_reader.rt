@@ -1,4 +1,8 @@
 // A program that is read one token at a time.
+ghost use Rattle.std.specs.Prelude.{◌≡◌, ◌≤◌, IfOk, Some, map, option_map};
+ghost use Rattle.um_tree.specs.RawTree.{decl_syntax, program_syntax};
+ghost use Rattle.um_parse.specs.DeclMachine.{program_found};
+
 use crate::decl_reader::DeclReader;
 use std::alloc::{AllocError, Global};
 use std::mem;
@@ -13,21 +17,56 @@ pub struct ProgramReader {
     last: DeclReader,
 }
 
+// The program, with the last declaration, if one was found.
+fn with_last(decls: Vec<RawDecl>, last: Option<RawDecl>) -> Result<Option<RawProgram>, AllocError>
+    ensures { IfOk result (λ o. option_map program_syntax o ≡ program_found (map decl_syntax decls.items) (option_map decl_syntax last)) }
+{
+    let mut items = decls;
+    match last {
+        Some(decl) => {
+            items.push(decl)?;
+            Ok(Some(RawProgram { items }))
+        }
+        None => {
+            drop(items);
+            Ok(None)
+        }
+    }
+}
+
 impl ProgramReader {
+    ghost use Rattle.std.specs.Prelude.{true};
+    ghost use Rattle.um_tree.specs.RawTree.{DeclSyntax};
+    ghost use Rattle.um_reader.specs.Takes.{Gives, Takes};
+    ghost use Rattle.um_types.specs.UnitStops.{greatest_height};
+    ghost use Rattle.um_parse.specs.DeclMachine.{DeclBegin, Expects, ProgramState, decl_step, decl_finish, next_decl, at_start, program_finish};
+    ghost use Rattle.um_parse.specs.ProgramHeights.{decl_height, program_height};
+    ghost use Rattle.um_parse.specs.ProgramLeast.{program_least, machine_of_programs};
+    ghost use Rattle.um_parse.specs.DeclTakes.{reader_state, program_state};
+
     // The first token of a declaration.
-    fn begin(&mut self, alloc: Global, token: &Token) -> Result<Taken, AllocError> {
+    fn begin(&mut self, alloc: Global, token: &Token) -> Result<Taken, AllocError>
+        requires start { at_start (reader_state self.old.last) ≡ true }
+        requires low { program_least (program_state self.old) ≤ greatest_height }
+        ensures { IfOk result (λ t. Takes machine_of_programs greatest_height (program_state self.old) token.now t (program_state self.new)) }
+    {
         match self.last.take(alloc, token)? {
             Taken::Goes => Ok(Taken::Goes),
             Taken::Stops => {
-                self.put(DeclReader::new());
+                drop(mem::replace(&mut self.last, DeclReader::new()));
                 Ok(Taken::Stops)
             }
             Taken::High => Ok(Taken::High),
         }
     }
 
-    // The token that the last declaration has refused.
-    fn next_decl(&mut self, alloc: Global, token: &Token) -> Result<Taken, AllocError> {
+    // The token that the last declaration has refused: the next begins with it, if that one is whole.
+    #[inline(never)]
+    fn next_decl(&mut self, alloc: Global, token: &Token) -> Result<Taken, AllocError>
+        requires decls { program_height (map decl_syntax self.old.decls.items) ≤ greatest_height }
+        requires last { (d : DeclSyntax) → decl_finish (reader_state self.old.last) ≡ Some d → decl_height d ≤ greatest_height }
+        ensures { IfOk result (λ t. (old : ProgramState) → program_finish old ≡ program_found (map decl_syntax self.old.decls.items) (decl_finish (reader_state self.old.last)) → Gives machine_of_programs greatest_height old (next_decl (map decl_syntax self.old.decls.items) (decl_finish (reader_state self.old.last)) (decl_step (Expects DeclBegin) token.now)) t (program_state self.new)) }
+    {
         let last = mem::replace(&mut self.last, DeclReader::new());
         match last.finish(alloc)? {
             Some(decl) => {
@@ -35,14 +74,10 @@ impl ProgramReader {
                 self.begin(alloc, token)
             }
             None => {
-                self.put(DeclReader::nothing());
+                drop(mem::replace(&mut self.last, DeclReader::Nothing));
                 Ok(Taken::Stops)
             }
         }
-    }
-
-    fn put(&mut self, last: DeclReader) {
-        drop(mem::replace(&mut self.last, last));
     }
 }
 
@@ -83,7 +118,10 @@ impl Reader for ProgramReader {
         }
     }
 
-    fn take(&mut self, alloc: Global, token: &Token) -> Result<Taken, AllocError> {
+    fn take(&mut self, alloc: Global, token: &Token) -> Result<Taken, AllocError>
+        requires low { program_least (program_state self.old) ≤ greatest_height }
+        ensures taken { IfOk result (λ t. Takes machine_of_programs greatest_height (program_state self.old) token.now t (program_state self.new)) }
+    {
         if self.last.is_at_start() {
             return self.begin(alloc, token);
         }
@@ -94,19 +132,19 @@ impl Reader for ProgramReader {
         }
     }
 
-    fn finish(self, alloc: Global) -> Result<Option<RawProgram>, AllocError> {
-        let ProgramReader { mut decls, last } = self;
+    fn finish(self, alloc: Global) -> Result<Option<RawProgram>, AllocError>
+        ensures found { IfOk result (λ o. option_map program_syntax o ≡ program_finish (program_state self)) }
+    {
+        let ProgramReader { decls, last } = self;
         if last.is_at_start() {
+            drop(last);
             return Ok(Some(RawProgram { items: decls }));
         }
-        match last.finish(alloc)? {
-            Some(decl) => {
-                decls.push(decl)?;
-                Ok(Some(RawProgram { items: decls }))
-            }
-            None => {
+        match last.finish(alloc) {
+            Ok(found) => with_last(decls, found),
+            Err(error) => {
                 drop(decls);
-                Ok(None)
+                Err(error)
             }
         }
     }
