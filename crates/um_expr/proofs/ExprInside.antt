@@ -143,12 +143,12 @@ module _ (frames : List Frame) (at : ℕ) (old : TypeState) (token : Token) wher
 
 pub note_if_low : (found : Option RawNote) (n : NoteState) → ((m : NoteSyntax) → note_finish n ≡ Some m → note_height m ≤ greatest_height) → option_map note_syntax found ≡ note_finish n
     → IfSome found (λ m. note_height (note_syntax m) ≤ greatest_height)
-note_if_low None n low e = cc
+note_if_low None n low e = tt
 note_if_low (Some m) n low e = low (note_syntax m) (sym e)
 
 pub type_if_low : (found : Option RawType) (s : TypeState) → ((t : TypeSyntax) → type_finish s ≡ Some t → whole_height t ≤ greatest_height) → option_map type_syntax found ≡ type_finish s
     → IfSome found (λ t. whole_height (type_syntax t) ≤ greatest_height)
-type_if_low None s low e = cc
+type_if_low None s low e = tt
 type_if_low (Some t) s low e = low (type_syntax t) (sym e)
 
 -- where no note and no type has begun, a token is one of the expression

@@ -7,7 +7,7 @@ ghost use Rattle.um_types.specs.UnitTokens.{unit_token};
 ghost use Rattle.um_types.specs.UnitMachine.{power_in};
 ghost use Rattle.um_expr.specs.declared.focus.Step.TheVariants.{Stops};
 ghost use Rattle.um_expr.specs.ExprKinds.{is_power};
-ghost use Rattle.um_expr.specs.ExprMachine.{Have, Inside, DotName, Refused, finish, mark_after, after, power_after, note_ends, type_ends, step};
+ghost use Rattle.um_expr.specs.ExprMachine.{Have, Inside, DotName, Refused, finish, mark_after, after, power_after, note_ends, type_ends, act, step};
 ghost use Rattle.um_expr.specs.ExprOperands.{operand_expr};
 ghost use Rattle.um_expr.specs.ExprStack.{frames_of};
 ghost use Rattle.um_expr.specs.ExprStates.{state_of, Simulates};
@@ -180,6 +180,27 @@ pub fn type_ends(frames: &Frames, at: u32, ty: Option<RawType>, kind: ExprToken)
     }
 }
 
+// One token more, and what it is to expressions.
+fn act(
+    alloc: Global,
+    frames: &mut Frames,
+    focus: Focus,
+    kind: ExprToken,
+    token: &Token,
+) -> Result<Step, AllocError>
+    ensures { IfOk result (λ s. Simulates (finish (state_of (frames_of frames.old) focus)) (frames_of frames.new) s (act (state_of (frames_of frames.old) focus) kind token.now.start token.now.glued token.now.kind)) }
+{
+    match focus {
+        Focus::Wanted => begin(alloc, frames, kind, token.start),
+        Focus::Read(operand) => after(alloc, frames, operand, kind, token),
+        Focus::Power(operand) => power_after(alloc, frames, operand, kind, token),
+        Focus::Greater(at, left) => {
+            after_greater(alloc, frames, at, left, kind, token.start, token.glued)
+        }
+        Focus::Inside(place) => inside(alloc, frames, place, kind, token),
+    }
+}
+
 /// One token more.
 pub fn step(
     alloc: Global,
@@ -189,26 +210,11 @@ pub fn step(
 ) -> Result<Step, AllocError>
     ensures { IfOk result (λ s. Simulates (finish (state_of (frames_of frames.old) focus)) (frames_of frames.new) s (step (state_of (frames_of frames.old) focus) token.now)) }
 {
-    match focus {
-        Focus::Wanted => {
-            let kind = ExprToken::of_kind(alloc, &token.kind)?;
-            begin(alloc, frames, kind, token.start)
-        }
-        Focus::Read(operand) => {
-            let kind = ExprToken::of_kind(alloc, &token.kind)?;
-            after(alloc, frames, operand, kind, token)
-        }
-        Focus::Power(operand) => {
-            let kind = ExprToken::of_kind(alloc, &token.kind)?;
-            power_after(alloc, frames, operand, kind, token)
-        }
-        Focus::Greater(at, left) => {
-            let kind = ExprToken::of_kind(alloc, &token.kind)?;
-            after_greater(alloc, frames, at, left, kind, token.start, token.glued)
-        }
-        Focus::Inside(place) => {
-            let kind = ExprToken::of_kind(alloc, &token.kind)?;
-            inside(alloc, frames, place, kind, token)
+    match ExprToken::of_kind(alloc, &token.kind) {
+        Ok(kind) => act(alloc, frames, focus, kind, token),
+        Err(error) => {
+            drop(focus);
+            Err(error)
         }
     }
 }
