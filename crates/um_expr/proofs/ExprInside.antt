@@ -179,15 +179,13 @@ module _ (frames : List Frame) (old next new : State) (told : Taken) where
       → Simulates (finish old) frames (given.Goes now) next → Gives machine_of_expressions greatest_height old next told new
   goes_in now is e s = by_height old next new (whole_least (state_of frames now)) told (is ∙ sym s) (λ h. goes_on frames now (sym s ∙ h)) (ap whole_least (sym s)) e
 
-  pub note_begins_in : (at : ℕ) (c : Frac) (n : NoteState) → n ≡ NeedNote → new ≡ InNote frames at c n → told ≡ cond (nat_lt (whole_least (Need frames)) (greatest_height + 1)) taken.Goes taken.High
+  pub note_begins_in : (at : ℕ) (c : Frac) → new ≡ InNote frames at c NeedNote → told ≡ cond (nat_lt (whole_least (Need frames)) (greatest_height + 1)) taken.Goes taken.High
       → Simulates (finish old) frames (given.Note at c) next → Gives machine_of_expressions greatest_height old next told new
-  note_begins_in at c n begun is e s =
-      by_height old next new (whole_least (Need frames)) told (is ∙ ap (InNote frames at c) begun ∙ sym s) (λ h. in_note frames at c NeedNote (sym s ∙ h)) (ap whole_least (sym s)) e
+  note_begins_in at c is e s = by_height old next new (whole_least (Need frames)) told (is ∙ sym s) (λ h. in_note frames at c NeedNote (sym s ∙ h)) (ap whole_least (sym s)) e
 
-  pub type_begins_in : (at : ℕ) (t : TypeState) → t ≡ NeedType 0 → new ≡ InType frames at t → told ≡ cond (nat_lt (whole_least (Inside frames (NilColon at))) (greatest_height + 1)) taken.Goes taken.High
+  pub type_begins_in : (at : ℕ) → new ≡ InType frames at (NeedType 0) → told ≡ cond (nat_lt (whole_least (Inside frames (NilColon at))) (greatest_height + 1)) taken.Goes taken.High
       → Simulates (finish old) frames (given.Type at) next → Gives machine_of_expressions greatest_height old next told new
-  type_begins_in at t begun is e s =
-      by_height old next new (whole_least (Inside frames (NilColon at))) told (is ∙ ap (InType frames at) begun ∙ sym s) (λ h. in_type frames at (NeedType 0) (sym s ∙ h)) (ap whole_least (sym s)) e
+  type_begins_in at is e s = by_height old next new (whole_least (Inside frames (NilColon at))) told (is ∙ sym s) (λ h. in_type frames at (NeedType 0) (sym s ∙ h)) (ap whole_least (sym s)) e
 
   pub stops_in : (found : Option Operand) → told ≡ taken.Stops → finish new ≡ option_map operand_expr found → Simulates (finish old) frames (given.Stops found) next
       → Gives machine_of_expressions greatest_height old next told new

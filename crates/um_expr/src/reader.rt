@@ -3,9 +3,11 @@ ghost use Rattle.std.specs.Prelude.{◌≡◌, ◌+◌, ◌≤◌, [], cond, nat
 ghost use Rattle.um_tree.specs.RawTree.{expr_syntax};
 ghost use Rattle.um_reader.specs.Takes.{Gives, Takes};
 ghost use Rattle.um_types.specs.UnitStops.{greatest_height};
+ghost use Rattle.um_types.specs.NoteMachine.{NeedNote};
 ghost use Rattle.um_types.specs.NoteView.{note_state};
+ghost use Rattle.um_types.specs.TypeMachine.{NeedType};
 ghost use Rattle.um_types.specs.TypeView.{type_state};
-ghost use Rattle.um_expr.specs.ExprMachine.{State, Need, Have, InNote, InType, own_step, finish};
+ghost use Rattle.um_expr.specs.ExprMachine.{NilColon, State, Need, Have, Inside, InNote, InType, own_step, finish};
 ghost use Rattle.um_expr.specs.ExprLeast.{whole_least, machine_of_expressions};
 ghost use Rattle.um_expr.specs.ExprOperands.{operand_expr};
 ghost use Rattle.um_expr.specs.ExprStack.{frames_of};
@@ -137,6 +139,7 @@ impl ExprReader {
     }
 
     // The token that the note or the type has refused, if one has begun.
+    #[inline(never)]
     fn take_behind(&mut self, alloc: Global, token: &Token) -> Result<Taken, AllocError>
         requires low { IsLow (expr_state self.old) }
         ensures { IfOk result (λ t. Gives machine_of_expressions greatest_height (expr_state self.old) (own_step (expr_state self.old) token.now) t (expr_state self.new)) }
@@ -206,13 +209,8 @@ impl ExprReader {
     {
         match given {
             Step::Goes(focus) => self.put(focus),
-            Step::Note(at, value) => {
-                self.begin(Focus::Wanted, Inner::Note(at, value, NoteReader::new()))
-            }
-            Step::Type(at) => {
-                let colon = Focus::Inside(Expected::NilColon(at));
-                self.begin(colon, Inner::Type(at, TypeReader::new()))
-            }
+            Step::Note(at, value) => self.begin_note(at, value),
+            Step::Type(at) => self.begin_type(at),
             Step::Stops(found) => self.stop(alloc, found),
         }
     }
@@ -230,16 +228,30 @@ impl ExprReader {
         }
     }
 
-    // A note or a type begins. A note needs as much height as an operand that is wanted, and a type as the colon before it.
-    fn begin(&mut self, focus: Focus, inner: Inner) -> Taken
-        ensures state { expr_state self.new ≡ inner_state (frames_of self.old.frames) focus inner }
-        ensures low { result ≡ cond (nat_lt (whole_least (state_of (frames_of self.old.frames) focus)) (greatest_height + 1)) Taken.Goes Taken.High }
+    // The note of a number begins. It needs as much height as an operand that is wanted.
+    #[inline(never)]
+    fn begin_note(&mut self, at: u32, value: Frac) -> Taken
+        ensures state { expr_state self.new ≡ InNote (frames_of self.old.frames) at value NeedNote }
+        ensures low { result ≡ cond (nat_lt (whole_least (Need (frames_of self.old.frames))) (greatest_height + 1)) Taken.Goes Taken.High }
     {
+        let inner = Inner::Note(at, value, NoteReader::new());
         drop(mem::replace(&mut self.inner, inner));
-        self.put(focus)
+        self.put(Focus::Wanted)
+    }
+
+    // The type of an empty list begins. It needs as much height as the colon before it.
+    #[inline(never)]
+    fn begin_type(&mut self, at: u32) -> Taken
+        ensures state { expr_state self.new ≡ InType (frames_of self.old.frames) at (NeedType 0) }
+        ensures low { result ≡ cond (nat_lt (whole_least (Inside (frames_of self.old.frames) (NilColon at))) (greatest_height + 1)) Taken.Goes Taken.High }
+    {
+        let inner = Inner::Type(at, TypeReader::new());
+        drop(mem::replace(&mut self.inner, inner));
+        self.put(Focus::Inside(Expected::NilColon(at)))
     }
 
     // The expression stops, and this is what was read.
+    #[inline(never)]
     fn stop(&mut self, alloc: Global, found: Option<Operand>) -> Taken
         requires nothing { self.old.inner ≡ Inner.Nothing }
         ensures stops { result ≡ Taken.Stops }
