@@ -75,10 +75,10 @@ least_focus frames (focus.Power t) = refl
 least_focus frames (focus.Greater at left) = refl
 least_focus frames (focus.Inside p) = refl
 
-pub less : (n : ℕ) → n < (greatest_height + 1) → nat_lt n (greatest_height + 1) ≡ true
+less : (n : ℕ) → n < (greatest_height + 1) → nat_lt n (greatest_height + 1) ≡ true
 less n low = rw lt-ltb refl
 
-pub not_less : (n : ℕ) → (greatest_height + 1) ≤ n → nat_lt n (greatest_height + 1) ≡ false
+not_less : (n : ℕ) → (greatest_height + 1) ≤ n → nat_lt n (greatest_height + 1) ≡ false
 not_less n high = rw le-ltb refl
 
 -- what is counted decides
