@@ -1,21 +1,17 @@
--- One token more of a note or a type in an expression, told by what its reader gives; and what a step gives.
-use Rattle.std.proofs.Common.{◌≡◌, ◌≢◌, ℕ, ◌+◌, ◌≤◌, ◌<◌, max, List, [], ◌∷◌, Some, refl, sym, ap, ◌∙◌, arith}
+-- One token more of a note or a type in an expression, told by what its reader gives.
+use Rattle.std.proofs.Common.{◌≡◌, ◌≢◌, ℕ, ◌≤◌, max, List, [], ◌∷◌, refl, sym, ap, ◌∙◌, arith}
 use Rattle.um_frac.specs.declared.number.Frac.{Frac}
 use Rattle.um_syntax.specs.declared.token.Token.{Token}
-use Rattle.um_tree.specs.RawTree.{NoteSyntax, TypeSyntax}
-use Rattle.um_reader.specs.Takes.{Gives, Takes}
-use Rattle.um_reader.specs.declared.taken.Taken.{Taken}
+use Rattle.um_reader.specs.Takes.{Takes}
 use Rattle.um_reader.specs.declared.taken.Taken.TheVariants as taken
-use Rattle.um_reader.proofs.Readers.{gives_as}
 use Rattle.um_types.specs.UnitStops.{greatest_height}
-use Rattle.um_types.specs.TypeHeights.{note_height, whole_height}
 use Rattle.um_types.specs.NoteMachine.{NoteState, NeedNote, HaveHole, InUnit, NoNote, note_step, note_finish, note_least, machine_of_notes}
 use Rattle.um_types.specs.TypeMachine.{TypeState, NeedType, HaveType, NoType, type_step, type_finish, type_least, machine_of_types}
 use Rattle.um_types.specs.TypeMachine.{InNote as InTypeNote}
 use Rattle.um_types.proofs.NoteLaws.{note_found_height}
 use Rattle.um_types.proofs.TypeLaws.{type_found_height}
 use Rattle.um_expr.specs.ExprTokens.{expr_token}
-use Rattle.um_expr.specs.ExprMachine.{Frame, State, InNote, InType, Refused, note_ends, type_ends, note_goes, type_goes, own_step, step}
+use Rattle.um_expr.specs.ExprMachine.{Frame, State, InNote, InType, Refused, note_ends, type_ends, note_goes, type_goes, step}
 use Rattle.um_expr.specs.ExprLeast.{notes_side, notes_over, whole_least, machine_of_expressions}
 use Rattle.um_expr.specs.ExprStates.{IsLow}
 
@@ -73,15 +69,6 @@ module _ (frames : List Frame) (at : ℕ) (c : Frac) (old : NoteState) (token : 
       let least = ap whole_least e in
       ((λ h. in_note frames at c (note_step old token) (sym e ∙ h)), omega (arith, high, above, least))
 
-  pub note_stops_in : (mid : NoteState) (given : Taken) (new : State) → Takes machine_of_notes greatest_height old token taken.Stops mid
-      → Gives machine_of_expressions greatest_height (InNote frames at c mid) (own_step (InNote frames at c mid) token) given new
-      → Takes machine_of_expressions greatest_height (InNote frames at c old) token given new
-  note_stops_in mid given new t h =
-      let e : own_step (InNote frames at c mid) token ≡ step (InNote frames at c old) token =
-      ap (λ found. note_ends frames at c found (expr_token token.kind)) t.1 ∙ sym (ap (λ n. note_goes frames at c n note_ended) t.0)
-      in
-      gives_as machine_of_expressions greatest_height (InNote frames at c mid) (InNote frames at c old) (own_step (InNote frames at c mid) token) (step (InNote frames at c old) token) given new refl e h
-
   pub note_low : (mid : NoteState) → whole_least (InNote frames at c old) ≤ greatest_height → Takes machine_of_notes greatest_height old token taken.Stops mid → IsLow (InNote frames at c mid)
   note_low mid low t = λ m e.
       let same = note_found_height old m (sym t.1 ∙ e) in
@@ -113,15 +100,6 @@ module _ (frames : List Frame) (at : ℕ) (old : TypeState) (token : Token) wher
       let above = notes_above frames (type_least (type_step old token)) in
       let least = ap whole_least e in
       ((λ h. in_type frames at (type_step old token) (sym e ∙ h)), omega (arith, high, above, least))
-
-  pub type_stops_in : (mid : TypeState) (given : Taken) (new : State) → Takes machine_of_types greatest_height old token taken.Stops mid
-      → Gives machine_of_expressions greatest_height (InType frames at mid) (own_step (InType frames at mid) token) given new
-      → Takes machine_of_expressions greatest_height (InType frames at old) token given new
-  type_stops_in mid given new t h =
-      let e : own_step (InType frames at mid) token ≡ step (InType frames at old) token =
-      ap (λ found. type_ends frames at found (expr_token token.kind)) t.1 ∙ sym (ap (λ s. type_goes frames at s type_ended) t.0)
-      in
-      gives_as machine_of_expressions greatest_height (InType frames at mid) (InType frames at old) (own_step (InType frames at mid) token) (step (InType frames at old) token) given new refl e h
 
   pub type_is_low : (mid : TypeState) → whole_least (InType frames at old) ≤ greatest_height → Takes machine_of_types greatest_height old token taken.Stops mid → IsLow (InType frames at mid)
   type_is_low mid low t = λ m e.

@@ -1,5 +1,5 @@
 // One token where an operand is wanted.
-ghost use Rattle.std.specs.Prelude.{◌≡◌, ◌∷◌, IfOk, None};
+ghost use Rattle.std.specs.Prelude.{◌≡◌, ◌==◌, ◌∷◌, IfOk, None, vec_len};
 ghost use Rattle.um_expr.specs.declared.focus.Step.TheVariants.{Stops};
 ghost use Rattle.um_expr.specs.declared.token.ExprToken.TheVariants.{Operator as operator, Word as word, Mark as mark};
 ghost use Rattle.um_expr.specs.ExprMachine.{Need, Greater, if_may, empty_list, begin, after_greater};
@@ -53,6 +53,15 @@ pub fn refuse_token(kind: ExprToken) -> Step
     Step::Stops(None)
 }
 
+// Whether no items were read.
+fn no_items(before: Operands) -> bool
+    ensures { result ≡ (vec_len before.items == 0) }
+{
+    let none = before.items.is_empty();
+    drop(before);
+    none
+}
+
 // Behind `[` `]`: the brackets around the list were just opened.
 fn colon_wanted(frames: &mut Frames) -> Step
     ensures { Simulates None (frames_of frames.new) result (bracket_empty (frames_of frames.old)) }
@@ -70,7 +79,7 @@ fn empty_list(frames: &mut Frames) -> Step
 {
     match frames.pop() {
         Some(Frame::InItem(_, before)) => {
-            if before.items.is_empty() {
+            if no_items(before) {
                 colon_wanted(frames)
             } else {
                 Step::Stops(None)

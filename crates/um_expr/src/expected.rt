@@ -41,6 +41,14 @@ fn refuse_behind_both(kind: ExprToken, list: Operand, empty: Operand) -> Step
     refuse_behind(kind, list)
 }
 
+// The same behind these fields.
+fn refuse_behind_fields(kind: ExprToken, before: ReadFields) -> Step
+    ensures { result ≡ Stops None }
+{
+    drop(before);
+    refuse_token(kind)
+}
+
 // Behind `let`
 fn let_binder(frames: &Frames, at: u32, kind: ExprToken, token: &Token) -> Step
     ensures { Simulates None (frames_of frames.now) result (inside (frames_of frames.now) (LetBinder at) kind token.now.start (power_in (unit_token token.now.kind))) }
@@ -91,7 +99,7 @@ fn field_name(frames: &Frames, at: u32, before: ReadFields, kind: ExprToken, tok
             token.start,
             name,
         ))),
-        other => refuse_token(other),
+        other => refuse_behind_fields(other, before),
     }
 }
 
@@ -111,7 +119,7 @@ fn field_equal(
         ExprToken::Operator(Infix::Compare(Sign::Eq)) => {
             opened(frames, Frame::InField(at, before, place, name))
         }
-        other => Ok(refuse_token(other)),
+        other => Ok(refuse_behind_fields(other, before)),
     }
 }
 

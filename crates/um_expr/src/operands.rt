@@ -32,6 +32,20 @@ pub struct ReadFields {
     ghost low: { notes_in_fields (fields_in_order (map field_part items.items)) ≤ greatest_height },
 }
 
+// The items, with one more.
+fn added<T: Drop>(items: Vec<T>, last: T) -> Result<Vec<T>, AllocError>
+    ensures { IfOk result (λ xs. xs.items ≡ items.items ++ last ∷ []) }
+{
+    let mut items = items;
+    match items.push(last) {
+        Ok(()) => Ok(items),
+        Err(refused) => {
+            drop(items);
+            Err(AllocError::from(refused))
+        }
+    }
+}
+
 impl Operands {
     ghost use Rattle.um_expr.specs.ExprOperands.{operand_expr, operand_exprs};
 
@@ -49,12 +63,12 @@ impl Operands {
     pub fn with(self, last: Operand) -> Result<Operands, AllocError>
         ensures { IfOk result (λ f. operand_exprs f ≡ operand_exprs self ++ operand_expr last ∷ []) }
     {
-        let Operands { mut items, height } = self;
+        let Operands { items, height } = self;
         let Operand {
             tree,
             height: last_height,
         } = last;
-        items.push(tree)?;
+        let items = added(items, tree)?;
         Ok(Operands {
             items,
             height: higher(height, last_height),
@@ -107,16 +121,17 @@ impl ReadFields {
     pub fn with(self, at: u32, name: Name, last: Operand) -> Result<ReadFields, AllocError>
         ensures { IfOk result (λ f. read_fields f ≡ with_field (read_fields self) at name (operand_expr last)) }
     {
-        let ReadFields { mut items, height } = self;
+        let ReadFields { items, height } = self;
         let Operand {
             tree,
             height: last_height,
         } = last;
-        items.push(RawField {
+        let field = RawField {
             at,
             name,
             value: tree,
-        })?;
+        };
+        let items = added(items, field)?;
         Ok(ReadFields {
             items,
             height: higher(height, last_height),

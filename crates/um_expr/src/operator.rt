@@ -16,7 +16,7 @@ use crate::infix::Infix;
 use crate::node::composite;
 use crate::operand::Operand;
 use std::alloc::{AllocError, Global};
-use um_tree::{RawExpr, RawNode, Sign};
+use um_tree::{RawNode, Sign};
 
 // A sign between two operands.
 fn infix_after(
@@ -55,14 +55,12 @@ fn greater_after(
 }
 
 // `<` right behind a number
-fn note_opens(frames: &Frames, operand: Operand, sign_at: u32) -> Step
-    requires { is_plain_number (operand_expr operand) ≡ true }
-    ensures { Simulates (finish (Have (frames_of frames.now) (operand_expr operand))) (frames_of frames.now) result (less_after (frames_of frames.now) (operand_expr operand) true sign_at) }
+fn note_opens(frames: &Frames, operand: &Operand, sign_at: u32) -> Step
+    requires { is_plain_number (operand_expr operand.now) ≡ true }
+    ensures { Simulates (finish (Have (frames_of frames.now) (operand_expr operand.now))) (frames_of frames.now) result (less_after (frames_of frames.now) (operand_expr operand.now) true sign_at) }
 {
-    let Operand { tree, .. } = operand;
-    let RawExpr { at, node } = tree;
-    match node {
-        RawNode::Num(value, None) => Step::Note(at, value),
+    match &operand.tree.node {
+        RawNode::Num(value, None) => Step::Note(operand.tree.at, *value),
         RawNode::Num(_, Some(_)) | RawNode::Name(_) | RawNode::Pow(_, _) | composite!() =>
             Step::Stops(None),
     }
@@ -79,7 +77,9 @@ fn less_after(
     ensures { IfOk result (λ s. Simulates (finish (Have (frames_of frames.old) (operand_expr operand))) (frames_of frames.new) s (less_after (frames_of frames.old) (operand_expr operand) glued at)) }
 {
     if glued && operand.is_plain_number() {
-        Ok(note_opens(frames, operand, at))
+        let given = note_opens(frames, &operand, at);
+        drop(operand);
+        Ok(given)
     } else {
         infix_after(alloc, frames, operand, Infix::Compare(Sign::Lt), at)
     }

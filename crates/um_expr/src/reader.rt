@@ -1,9 +1,13 @@
 // An expression that is read one token at a time.
-ghost use Rattle.std.specs.Prelude.{◌≡◌, ◌≢◌, ◌+◌, ◌≤◌, ◌↔◌, [], IsTrue, nat_lt, IfOk, None, option_map};
+ghost use Rattle.std.specs.Prelude.{◌≡◌, ◌+◌, ◌≤◌, [], cond, nat_lt, IfOk, None, option_map};
 ghost use Rattle.um_tree.specs.RawTree.{expr_syntax};
 ghost use Rattle.um_reader.specs.Takes.{Gives, Takes};
 ghost use Rattle.um_types.specs.UnitStops.{greatest_height};
-ghost use Rattle.um_expr.specs.ExprMachine.{State, Need, own_step, finish};
+ghost use Rattle.um_types.specs.NoteMachine.{NeedNote};
+ghost use Rattle.um_types.specs.NoteView.{note_state};
+ghost use Rattle.um_types.specs.TypeMachine.{NeedType};
+ghost use Rattle.um_types.specs.TypeView.{type_state};
+ghost use Rattle.um_expr.specs.ExprMachine.{NilColon, State, Need, Have, Inside, InNote, InType, own_step, finish};
 ghost use Rattle.um_expr.specs.ExprLeast.{whole_least, machine_of_expressions};
 ghost use Rattle.um_expr.specs.ExprOperands.{operand_expr};
 ghost use Rattle.um_expr.specs.ExprStack.{frames_of};
@@ -50,11 +54,46 @@ fn tree_of(operand: Option<Operand>) -> Option<RawExpr>
     }
 }
 
-fn no_expr(focus: Focus) -> Option<RawExpr>
+// What ends as this expression, where no frame is open.
+fn focus_on(found: Option<Operand>) -> Focus
+    ensures { finish (state_of [] result) ≡ option_map operand_expr found }
+{
+    match found {
+        Some(operand) => Focus::Read(operand),
+        None => Focus::Wanted,
+    }
+}
+
+// The expression where all is read behind an atom.
+fn whole_tree(
+    alloc: Global,
+    frames: Frames,
+    operand: Operand,
+) -> Result<Option<RawExpr>, AllocError>
+    ensures { IfOk result (λ o. option_map expr_syntax o ≡ finish (Have (frames_of frames) (operand_expr operand))) }
+{
+    let mut frames = frames;
+    let found = whole(alloc, &mut frames, operand);
+    drop(frames);
+    Ok(tree_of(found?))
+}
+
+fn no_tree(frames: Frames, focus: Focus) -> Option<RawExpr>
     ensures { result ≡ None }
 {
+    drop(frames);
     drop(focus);
     None
+}
+
+// The expression where all is read and no note and no type has begun.
+fn finished(alloc: Global, frames: Frames, focus: Focus) -> Result<Option<RawExpr>, AllocError>
+    ensures { IfOk result (λ o. option_map expr_syntax o ≡ finish (state_of (frames_of frames) focus)) }
+{
+    match focus {
+        Focus::Read(operand) | Focus::Power(operand) => whole_tree(alloc, frames, operand),
+        other => Ok(no_tree(frames, other)),
+    }
 }
 
 impl ExprReader {
@@ -78,75 +117,110 @@ impl ExprReader {
             Inner::Nothing => self.take_own(alloc, token),
             Inner::Note(_, _, note) => match note.take(alloc, token)? {
                 Taken::Goes => Ok(Taken::Goes),
-                Taken::Stops => self.take_own(alloc, token),
+                Taken::Stops => self.take_behind(alloc, token),
                 Taken::High => Ok(Taken::High),
             },
             Inner::Type(_, ty) => match ty.take(alloc, token)? {
                 Taken::Goes => Ok(Taken::Goes),
-                Taken::Stops => self.take_own(alloc, token),
+                Taken::Stops => self.take_behind(alloc, token),
                 Taken::High => Ok(Taken::High),
             },
         }
     }
 
-    // One token more, which the note or the type has refused, if one has begun.
+    // One token more, where no note and no type has begun.
     fn take_own(&mut self, alloc: Global, token: &Token) -> Result<Taken, AllocError>
+        requires nothing { self.old.inner ≡ Inner.Nothing }
+        ensures { IfOk result (λ t. Takes machine_of_expressions greatest_height (state_of (frames_of self.old.frames) self.old.focus) token.now t (expr_state self.new)) }
+    {
+        let focus = mem::replace(&mut self.focus, Focus::Wanted);
+        let given = step(alloc, &mut self.frames, focus, token)?;
+        Ok(self.go(alloc, given))
+    }
+
+    // The token that the note or the type has refused, if one has begun.
+    #[inline(never)]
+    fn take_behind(&mut self, alloc: Global, token: &Token) -> Result<Taken, AllocError>
         requires low { IsLow (expr_state self.old) }
         ensures { IfOk result (λ t. Gives machine_of_expressions greatest_height (expr_state self.old) (own_step (expr_state self.old) token.now) t (expr_state self.new)) }
     {
         match mem::replace(&mut self.inner, Inner::Nothing) {
-            Inner::Nothing => {
-                let focus = mem::replace(&mut self.focus, Focus::Wanted);
-                let given = step(alloc, &mut self.frames, focus, token)?;
+            Inner::Nothing => self.take_own(alloc, token),
+            Inner::Note(at, value, note) => self.end_note(alloc, at, value, note, token),
+            Inner::Type(at, ty) => self.end_type(alloc, at, ty, token),
+        }
+    }
+
+    // The token that the note of a number has refused.
+    fn end_note(
+        &mut self,
+        alloc: Global,
+        at: u32,
+        value: Frac,
+        note: NoteReader,
+        token: &Token,
+    ) -> Result<Taken, AllocError>
+        requires nothing { self.old.inner ≡ Inner.Nothing }
+        requires low { IsLow (InNote (frames_of self.old.frames) at value (note_state note)) }
+        ensures { IfOk result (λ t. Gives machine_of_expressions greatest_height (InNote (frames_of self.old.frames) at value (note_state note)) (own_step (InNote (frames_of self.old.frames) at value (note_state note)) token.now) t (expr_state self.new)) }
+    {
+        let note = note.finish(alloc)?;
+        match ExprToken::of_kind(alloc, &token.kind) {
+            Ok(kind) => {
+                let given = note_ends(&self.frames, at, value, note, kind);
                 Ok(self.go(alloc, given))
             }
-            Inner::Note(at, value, note) => {
-                let kind = ExprToken::of_kind(alloc, &token.kind)?;
-                let given = note_ends(&self.frames, at, value, note.finish(alloc)?, kind);
+            Err(error) => {
+                drop(note);
+                Err(error)
+            }
+        }
+    }
+
+    // The token that the type of an empty list has refused.
+    fn end_type(
+        &mut self,
+        alloc: Global,
+        at: u32,
+        ty: TypeReader,
+        token: &Token,
+    ) -> Result<Taken, AllocError>
+        requires nothing { self.old.inner ≡ Inner.Nothing }
+        requires low { IsLow (InType (frames_of self.old.frames) at (type_state ty)) }
+        ensures { IfOk result (λ t. Gives machine_of_expressions greatest_height (InType (frames_of self.old.frames) at (type_state ty)) (own_step (InType (frames_of self.old.frames) at (type_state ty)) token.now) t (expr_state self.new)) }
+    {
+        let ty = ty.finish();
+        match ExprToken::of_kind(alloc, &token.kind) {
+            Ok(kind) => {
+                let given = type_ends(&self.frames, at, ty, kind);
                 Ok(self.go(alloc, given))
             }
-            Inner::Type(at, ty) => {
-                let kind = ExprToken::of_kind(alloc, &token.kind)?;
-                let given = type_ends(&self.frames, at, ty.finish(), kind);
-                Ok(self.go(alloc, given))
+            Err(error) => {
+                drop(ty);
+                Err(error)
             }
         }
     }
 
     // What a step gives.
     fn go(&mut self, alloc: Global, given: Step) -> Taken
+        requires nothing { self.old.inner ≡ Inner.Nothing }
         ensures { (old next : State) → Simulates (finish old) (frames_of self.old.frames) given next → Gives machine_of_expressions greatest_height old next result (expr_state self.new) }
     {
         match given {
-            Step::Goes(focus) => self.put(focus, Inner::Nothing),
-            Step::Note(at, value) => {
-                self.put(Focus::Wanted, Inner::Note(at, value, NoteReader::new()))
-            }
-            Step::Type(at) => {
-                let colon = Focus::Inside(Expected::NilColon(at));
-                self.put(colon, Inner::Type(at, TypeReader::new()))
-            }
-            Step::Stops(found) => {
-                drop(mem::replace(&mut self.frames, Frames::new(alloc)));
-                let focus = match found {
-                    Some(operand) => Focus::Read(operand),
-                    None => Focus::Wanted,
-                };
-                drop(mem::replace(&mut self.focus, focus));
-                Taken::Stops
-            }
+            Step::Goes(focus) => self.put(focus),
+            Step::Note(at, value) => self.begin_note(at, value),
+            Step::Type(at) => self.begin_type(at),
+            Step::Stops(found) => self.stop(alloc, found),
         }
     }
 
-    // What stands inside the frames. A note needs as much height as an operand that is wanted, and a type as the colon
-    // before it.
-    fn put(&mut self, focus: Focus, inner: Inner) -> Taken
-        ensures state { expr_state self.new ≡ inner_state (frames_of self.old.frames) focus inner }
-        ensures low { IsTrue (nat_lt (whole_least (state_of (frames_of self.old.frames) focus)) (greatest_height + 1)) ↔ (result ≡ Taken.Goes) }
-        ensures high { result ≢ Taken.Stops }
+    // What stands inside the frames, and whether an expression within the heights begins so.
+    fn put(&mut self, focus: Focus) -> Taken
+        ensures state { expr_state self.new ≡ inner_state (frames_of self.old.frames) focus self.old.inner }
+        ensures low { result ≡ cond (nat_lt (whole_least (state_of (frames_of self.old.frames) focus)) (greatest_height + 1)) Taken.Goes Taken.High }
     {
         drop(mem::replace(&mut self.focus, focus));
-        drop(mem::replace(&mut self.inner, inner));
         if is_low(&self.frames, &self.focus) {
             Taken::Goes
         } else {
@@ -154,25 +228,58 @@ impl ExprReader {
         }
     }
 
+    // The note of a number begins. It needs as much height as an operand that is wanted.
+    #[inline(never)]
+    fn begin_note(&mut self, at: u32, value: Frac) -> Taken
+        ensures state { expr_state self.new ≡ InNote (frames_of self.old.frames) at value NeedNote }
+        ensures low { result ≡ cond (nat_lt (whole_least (Need (frames_of self.old.frames))) (greatest_height + 1)) Taken.Goes Taken.High }
+    {
+        let inner = Inner::Note(at, value, NoteReader::new());
+        drop(mem::replace(&mut self.inner, inner));
+        self.put(Focus::Wanted)
+    }
+
+    // The type of an empty list begins. It needs as much height as the colon before it.
+    #[inline(never)]
+    fn begin_type(&mut self, at: u32) -> Taken
+        ensures state { expr_state self.new ≡ InType (frames_of self.old.frames) at (NeedType 0) }
+        ensures low { result ≡ cond (nat_lt (whole_least (Inside (frames_of self.old.frames) (NilColon at))) (greatest_height + 1)) Taken.Goes Taken.High }
+    {
+        let inner = Inner::Type(at, TypeReader::new());
+        drop(mem::replace(&mut self.inner, inner));
+        self.put(Focus::Inside(Expected::NilColon(at)))
+    }
+
+    // The expression stops, and this is what was read.
+    #[inline(never)]
+    fn stop(&mut self, alloc: Global, found: Option<Operand>) -> Taken
+        requires nothing { self.old.inner ≡ Inner.Nothing }
+        ensures stops { result ≡ Taken.Stops }
+        ensures found { finish (expr_state self.new) ≡ option_map operand_expr found }
+    {
+        drop(mem::replace(&mut self.frames, Frames::new(alloc)));
+        drop(mem::replace(&mut self.focus, focus_on(found)));
+        Taken::Stops
+    }
+
     /// The expression where all is read, if it is one.
     pub fn finish(self, alloc: Global) -> Result<Option<RawExpr>, AllocError>
         ensures found { IfOk result (λ o. option_map expr_syntax o ≡ finish (expr_state self)) }
     {
         let ExprReader {
-            mut frames,
+            frames,
             focus,
             inner,
         } = self;
         match inner {
-            Inner::Nothing => match focus {
-                Focus::Read(operand) | Focus::Power(operand) => {
-                    Ok(tree_of(whole(alloc, &mut frames, operand)?))
-                }
-                other => Ok(no_expr(other)),
-            },
-            other => {
-                drop(other);
-                Ok(no_expr(focus))
+            Inner::Nothing => finished(alloc, frames, focus),
+            Inner::Note(_, _, note) => {
+                drop(note);
+                Ok(no_tree(frames, focus))
+            }
+            Inner::Type(_, ty) => {
+                drop(ty);
+                Ok(no_tree(frames, focus))
             }
         }
     }

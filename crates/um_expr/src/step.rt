@@ -1,12 +1,13 @@
 // One token more, whatever is in focus.
-ghost use Rattle.std.specs.Prelude.{◌≡◌, ◌≤◌, IfOk, IfSome, None, cond, option_map};
+ghost use Rattle.std.specs.Prelude.{◌≡◌, ◌≤◌, IfOk, IfSome, None, Some, cond, option_map};
 ghost use Rattle.um_tree.specs.RawTree.{note_syntax, type_syntax};
 ghost use Rattle.um_types.specs.TypeHeights.{note_height, whole_height};
 ghost use Rattle.um_types.specs.UnitStops.{greatest_height};
 ghost use Rattle.um_types.specs.UnitTokens.{unit_token};
 ghost use Rattle.um_types.specs.UnitMachine.{power_in};
+ghost use Rattle.um_expr.specs.declared.focus.Step.TheVariants.{Stops};
 ghost use Rattle.um_expr.specs.ExprKinds.{is_power};
-ghost use Rattle.um_expr.specs.ExprMachine.{Have, Inside, DotName, Refused, finish, mark_after, after, power_after, note_ends, type_ends, step};
+ghost use Rattle.um_expr.specs.ExprMachine.{Have, Inside, DotName, Refused, finish, mark_after, after, power_after, note_ends, type_ends, act, step};
 ghost use Rattle.um_expr.specs.ExprOperands.{operand_expr};
 ghost use Rattle.um_expr.specs.ExprStack.{frames_of};
 ghost use Rattle.um_expr.specs.ExprStates.{state_of, Simulates};
@@ -111,35 +112,92 @@ fn power_after(
     }
 }
 
-// The token that the note of a number has refused.
-pub fn note_ends(frames: &Frames, at: u32, value: Frac, note: Option<RawNote>, kind: ExprToken) -> Step
-    requires { IfSome note (λ n. note_height (note_syntax n) ≤ greatest_height) }
-    ensures { Simulates None (frames_of frames.now) result (note_ends (frames_of frames.now) at value (option_map note_syntax note) kind) }
+// A note behind which the number isn't whole.
+fn refuse_note(kind: ExprToken, note: RawNote) -> Step
+    ensures { result ≡ Stops None }
 {
-    match (note, kind) {
-        (Some(note), ExprToken::Operator(Infix::Compare(Sign::Gt))) => {
+    drop(note);
+    refuse_token(kind)
+}
+
+// A type behind which the empty list isn't whole.
+fn refuse_type(kind: ExprToken, ty: RawType) -> Step
+    ensures { result ≡ Stops None }
+{
+    drop(ty);
+    refuse_token(kind)
+}
+
+// The token behind the note of a number.
+fn note_end(frames: &Frames, at: u32, value: Frac, note: RawNote, kind: ExprToken) -> Step
+    requires { note_height (note_syntax note) ≤ greatest_height }
+    ensures { Simulates None (frames_of frames.now) result (note_ends (frames_of frames.now) at value (Some (note_syntax note)) kind) }
+{
+    match kind {
+        ExprToken::Operator(Infix::Compare(Sign::Gt)) => {
             Step::Goes(Focus::Read(Operand::number(at, value, Some(note))))
         }
-        (note, other) => {
-            drop(note);
-            refuse_token(other)
-        }
+        other => refuse_note(other, note),
     }
 }
 
-// The token that the type of an empty list has refused.
+// The token behind the type of an empty list.
+fn type_end(frames: &Frames, at: u32, ty: RawType, kind: ExprToken) -> Step
+    requires { whole_height (type_syntax ty) ≤ greatest_height }
+    ensures { Simulates None (frames_of frames.now) result (type_ends (frames_of frames.now) at (Some (type_syntax ty)) kind) }
+{
+    match kind {
+        ExprToken::Mark(Symbol::RightParen) => Step::Goes(Focus::Read(Operand::nil(at, ty))),
+        other => refuse_type(other, ty),
+    }
+}
+
+/// The token that the note of a number has refused.
+pub fn note_ends(
+    frames: &Frames,
+    at: u32,
+    value: Frac,
+    note: Option<RawNote>,
+    kind: ExprToken,
+) -> Step
+    requires { IfSome note (λ n. note_height (note_syntax n) ≤ greatest_height) }
+    ensures { Simulates None (frames_of frames.now) result (note_ends (frames_of frames.now) at value (option_map note_syntax note) kind) }
+{
+    match note {
+        Some(note) => note_end(frames, at, value, note, kind),
+        None => refuse_token(kind),
+    }
+}
+
+/// The token that the type of an empty list has refused.
 pub fn type_ends(frames: &Frames, at: u32, ty: Option<RawType>, kind: ExprToken) -> Step
     requires { IfSome ty (λ t. whole_height (type_syntax t) ≤ greatest_height) }
     ensures { Simulates None (frames_of frames.now) result (type_ends (frames_of frames.now) at (option_map type_syntax ty) kind) }
 {
-    match (ty, kind) {
-        (Some(ty), ExprToken::Mark(Symbol::RightParen)) => {
-            Step::Goes(Focus::Read(Operand::nil(at, ty)))
+    match ty {
+        Some(ty) => type_end(frames, at, ty, kind),
+        None => refuse_token(kind),
+    }
+}
+
+// One token more, and what it is to expressions.
+fn act(
+    alloc: Global,
+    frames: &mut Frames,
+    focus: Focus,
+    kind: ExprToken,
+    token: &Token,
+) -> Result<Step, AllocError>
+    ensures { IfOk result (λ s. Simulates (finish (state_of (frames_of frames.old) focus)) (frames_of frames.new) s (act (state_of (frames_of frames.old) focus) kind token.now.start token.now.glued token.now.kind)) }
+{
+    match focus {
+        Focus::Wanted => begin(alloc, frames, kind, token.start),
+        Focus::Read(operand) => after(alloc, frames, operand, kind, token),
+        Focus::Power(operand) => power_after(alloc, frames, operand, kind, token),
+        Focus::Greater(at, left) => {
+            after_greater(alloc, frames, at, left, kind, token.start, token.glued)
         }
-        (ty, other) => {
-            drop(ty);
-            refuse_token(other)
-        }
+        Focus::Inside(place) => inside(alloc, frames, place, kind, token),
     }
 }
 
@@ -152,26 +210,11 @@ pub fn step(
 ) -> Result<Step, AllocError>
     ensures { IfOk result (λ s. Simulates (finish (state_of (frames_of frames.old) focus)) (frames_of frames.new) s (step (state_of (frames_of frames.old) focus) token.now)) }
 {
-    match focus {
-        Focus::Wanted => {
-            let kind = ExprToken::of_kind(alloc, &token.kind)?;
-            begin(alloc, frames, kind, token.start)
-        }
-        Focus::Read(operand) => {
-            let kind = ExprToken::of_kind(alloc, &token.kind)?;
-            after(alloc, frames, operand, kind, token)
-        }
-        Focus::Power(operand) => {
-            let kind = ExprToken::of_kind(alloc, &token.kind)?;
-            power_after(alloc, frames, operand, kind, token)
-        }
-        Focus::Greater(at, left) => {
-            let kind = ExprToken::of_kind(alloc, &token.kind)?;
-            after_greater(alloc, frames, at, left, kind, token.start, token.glued)
-        }
-        Focus::Inside(place) => {
-            let kind = ExprToken::of_kind(alloc, &token.kind)?;
-            inside(alloc, frames, place, kind, token)
+    match ExprToken::of_kind(alloc, &token.kind) {
+        Ok(kind) => act(alloc, frames, focus, kind, token),
+        Err(error) => {
+            drop(focus);
+            Err(error)
         }
     }
 }

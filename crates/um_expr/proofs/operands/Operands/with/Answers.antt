@@ -9,6 +9,6 @@ pub invariant_of-result : goal.invariant_of-result
 invariant_of-result c =
     let more = items_more c.args.self.items.items c.args.last.tree in
     record {
-      exact = omega (arith, c.higher.ensures, c.args.self.exact, c.args.last.exact, more.0, ap (λ w. tallest_expr (exprs_in_order (map expr_syntax w))) c.in_ok-push.ensures.items);
-      low = omega (arith, c.args.self.low, c.args.last.low, more.1, ap (λ w. notes_in_all (exprs_in_order (map expr_syntax w))) c.in_ok-push.ensures.items);
+      exact = omega (arith, c.higher.ensures, c.args.self.exact, c.args.last.exact, more.0, ap (λ w. tallest_expr (exprs_in_order (map expr_syntax w))) c.in_ok-items.ensures);
+      low = omega (arith, c.args.self.low, c.args.last.low, more.1, ap (λ w. notes_in_all (exprs_in_order (map expr_syntax w))) c.in_ok-items.ensures);
     }

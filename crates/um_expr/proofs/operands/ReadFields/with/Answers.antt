@@ -21,7 +21,7 @@ invariant_of-result c =
             c.args.last.exact,
             more.0,
             ap (λ (p : FieldPart). expr_height p.part) seen,
-            ap (λ w. tallest_field (fields_in_order (map field_part w))) c.in_ok-push.ensures.items,
+            ap (λ w. tallest_field (fields_in_order (map field_part w))) c.in_ok-items.ensures,
           );
       low =
           omega (
@@ -30,7 +30,7 @@ invariant_of-result c =
             c.args.last.low,
             more.1,
             ap (λ (p : FieldPart). notes_in p.part) seen,
-            ap (λ w. notes_in_fields (fields_in_order (map field_part w))) c.in_ok-push.ensures.items,
+            ap (λ w. notes_in_fields (fields_in_order (map field_part w))) c.in_ok-items.ensures,
           );
     }
 
@@ -39,4 +39,4 @@ returns c =
     let f : RawField = roll-RawField (record { at = c.args.at; name = c.args.name; value = c.args.last.tree }) in
     let part : FieldPart = record { at = c.args.at; name = c.args.name; part = expr_syntax c.args.last.tree } in
     let seen : field_part f ≡ part = search (rules, the_lemmas) in
-    ap (map field_part) c.in_ok-push.ensures.items ∙ fields_put c.args.self.items.items f part seen
+    ap (map field_part) c.in_ok-items.ensures ∙ fields_put c.args.self.items.items f part seen
