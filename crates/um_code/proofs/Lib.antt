@@ -1,0 +1,3 @@
+mod AddedLines
+mod OpTexts
+mod Examples

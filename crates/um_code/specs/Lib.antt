@@ -1,0 +1,2 @@
+-- What is trusted: how code is printed.
+pub mod Listing

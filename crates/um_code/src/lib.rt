@@ -1,0 +1,8 @@
+//! The code of a program as a text. Its instructions and their machine are those of `um_machine`.
+#![tactic(auto)]
+
+mod lines;
+mod operand;
+
+pub use lines::listing;
+pub use um_machine::{Code, Entries, Entry, Op, Operand, Ops};

@@ -1,0 +1,11 @@
+pub mod Stands
+pub mod Simulation
+pub mod LaidOut
+pub mod EndsAsMeant
+mod Sizes
+pub mod Forwards
+mod Emitted
+mod EachEmitted
+mod EachFunction
+mod Places
+mod Examples

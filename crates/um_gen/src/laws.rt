@@ -1,0 +1,9 @@
+//! The laws of generated code, as contracts of functions that do nothing. A crate above cites the law that it needs.
+ghost use Rattle.um_gen.specs.Laws.{CodeEndsAsMeant, OutcomesAreReached};
+
+/// The run of a program's code ends as the meaning of its call does, with a value, a trap or the budget's end, at every
+/// budget; no step before is stuck. Where a function has its shapes and the values those of its parameters, it so ends.
+pub fn runs_of_code()
+    ensures meant { CodeEndsAsMeant }
+    ensures reached { OutcomesAreReached }
+{}
