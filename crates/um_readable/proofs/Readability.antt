@@ -3,14 +3,14 @@ use Rattle.std.proofs.Common.{◌≡◌, ℕ, ◌+◌, ◌<◌, ◌≤◌, max, 
 use Rattle.um_syntax.specs.declared.token.Token.{Token}
 use Rattle.um_syntax.specs.Lexing.{HasTokens}
 use Rattle.um_tree.specs.RawTree.{TypeSyntax, FieldDeclSyntax, ParamSyntax, DeclSyntax, base_syntax, short_syntax, record_decl_syntax, function_syntax}
-use Rattle.um_tree.specs.Heights.{expr_height}
+use Rattle.um_tree.specs.Heights.{greatest_height, expr_height}
 use Rattle.um_types.specs.TypeHeights.{whole_height}
 use Rattle.um_parse.specs.DeclGrammar.{FieldDeclsSpell, DeclSpells, DeclsSpell, ResultFits, DeclFits, DeclsFit}
 use Rattle.um_parse.specs.ProgramHeights.{fields_height, params_height, result_height, decl_height, program_height}
 use Rattle.um_expr.specs.ExprHeights.{notes_in, whole_expr_height}
 use Rattle.um_parse.specs.ProgramLimits.{functions_in as functions_among, passed_limit, WithinLimits}
 use Rattle.um_parse.specs.Parsed.{IsRead}
-use Rattle.um_names.specs.Readable.{greatest_height, AreReadFieldDecls, AreReadParams, IsReadResult, IsReadDecl, AreReadDecls, IsReadable}
+use Rattle.um_names.specs.Readable.{AreReadFieldDecls, AreReadParams, IsReadResult, IsReadDecl, AreReadDecls, IsReadable}
 use Rattle.um_readable.proofs.TokenCounts.{tokens_within}
 use Rattle.um_readable.proofs.NameTokens.{tokens_named}
 use Rattle.um_readable.proofs.DeclReading.{few_decls}
