@@ -7,7 +7,7 @@ use Rattle.um_expr.proofs.operands.Operands.with.Goals as goal
 
 pub invariant_of-result : goal.invariant_of-result
 invariant_of-result c =
-    let more = items_more c.args.self.items.items c.args.last.tree in
+    let more = items_more c.args.self.items.items c.args.last.tree.value in
     record {
       exact = omega (arith, c.higher.ensures, c.args.self.exact, c.args.last.exact, more.0, ap (λ w. tallest_expr (exprs_in_order (map expr_syntax w))) c.in_ok-items.ensures);
       low = omega (arith, c.args.self.low, c.args.last.low, more.1, ap (λ w. notes_in_all (exprs_in_order (map expr_syntax w))) c.in_ok-items.ensures);

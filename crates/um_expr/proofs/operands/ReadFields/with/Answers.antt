@@ -8,8 +8,8 @@ use Rattle.um_expr.proofs.operands.ReadFields.with.Goals as goal
 
 pub invariant_of-result : goal.invariant_of-result
 invariant_of-result c =
-    let f : RawField = roll-RawField (record { at = c.args.at; name = c.args.name; value = c.args.last.tree }) in
-    let part : FieldPart = record { at = c.args.at; name = c.args.name; part = expr_syntax c.args.last.tree } in
+    let f : RawField = roll-RawField (record { at = c.args.at; name = c.args.name; value = c.args.last.tree.value }) in
+    let part : FieldPart = record { at = c.args.at; name = c.args.name; part = expr_syntax c.args.last.tree.value } in
     let seen : field_part f ≡ part = search (rules, the_lemmas) in
     let more = fields_more c.args.self.items.items f in
     record {
@@ -36,7 +36,7 @@ invariant_of-result c =
 
 pub returns : goal.returns
 returns c =
-    let f : RawField = roll-RawField (record { at = c.args.at; name = c.args.name; value = c.args.last.tree }) in
-    let part : FieldPart = record { at = c.args.at; name = c.args.name; part = expr_syntax c.args.last.tree } in
+    let f : RawField = roll-RawField (record { at = c.args.at; name = c.args.name; value = c.args.last.tree.value }) in
+    let part : FieldPart = record { at = c.args.at; name = c.args.name; part = expr_syntax c.args.last.tree.value } in
     let seen : field_part f ≡ part = search (rules, the_lemmas) in
     ap (map field_part) c.in_ok-items.ensures ∙ fields_put c.args.self.items.items f part seen
