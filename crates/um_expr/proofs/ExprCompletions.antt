@@ -1,5 +1,5 @@
 -- What an expression that was begun can be completed to: the least tokens that end what is open.
-use Rattle.std.proofs.Common.{◌≢◌, ℕ, pos, neg_ℤ, ◌<◌, List, [], ◌∷◌, ◌++◌, true, false, Some, None, refl, sym, subst, append_assoc, arith, inl, inr}
+use Rattle.std.proofs.Common.{◌≢◌, pos, neg_ℤ, ◌<◌, List, [], ◌∷◌, ◌++◌, true, false, Some, None, refl, sym, subst, append_assoc, arith, inl, inr}
 use Rattle.um_syntax.specs.declared.token.Token.{Token}
 use Rattle.um_syntax.specs.declared.token.Kind.{Kind}
 use Rattle.um_syntax.specs.declared.token.Kind.TheVariants as kind

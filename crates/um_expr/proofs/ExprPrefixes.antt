@@ -1,5 +1,5 @@
 -- The tokens of what is open and at focus: what a state says of the tokens that were read.
-use Rattle.std.proofs.Common.{◌≡◌, ◌≢◌, ℕ, ℤ, pos, neg_ℤ, ◌≤◌, ◌<◌, List, [], ◌∷◌, ◌++◌, true, Some, refl, sym, subst, ◌∙◌, arith, inl, inr, ◌⊎◌}
+use Rattle.std.proofs.Common.{◌≡◌, ◌≢◌, ℕ, pos, neg_ℤ, ◌≤◌, ◌<◌, List, [], ◌∷◌, ◌++◌, true, refl, sym, subst, arith, inl, inr, ◌⊎◌}
 use Rattle.std.proofs.lemmas.Bool.{cases_lt, lt-ltb, le-ltb}
 use Rattle.um_syntax.specs.declared.token.Token.{Token}
 use Rattle.um_tree.specs.RawTree.{pown_syntax, BinderSyntax, ExprSyntax, FieldPart, exprs_in_order, fields_in_order}

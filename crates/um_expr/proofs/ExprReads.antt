@@ -1,5 +1,5 @@
 -- What an expression spells is read as it: the whole grammar.
-use Rattle.std.proofs.Common.{◌≡◌, ℕ, ℤ, pos, neg_ℤ, ◌≤◌, ◌<◌, List, [], ◌∷◌, ◌++◌, Bool, true, false, cond, Option, Some, None, refl, sym, ap, subst, ◌∙◌, arith, inl, inr, ◌⊎◌}
+use Rattle.std.proofs.Common.{◌≡◌, ℕ, ℤ, pos, neg_ℤ, ◌<◌, List, [], ◌∷◌, ◌++◌, true, false, cond, Option, Some, None, refl, sym, ap, subst, ◌∙◌, arith, inl, inr, ◌⊎◌}
 use Rattle.um_frac.specs.declared.number.Frac.{Frac}
 use Rattle.std.proofs.lemmas.Bool.{lt-ltb}
 use Rattle.um_syntax.specs.declared.token.Token.{Token}
@@ -13,19 +13,18 @@ use Rattle.um_types.specs.TypeGrammar.{TypeFits}
 use Rattle.um_syntax.specs.declared.vocabulary.Keyword.TheVariants as keyword
 use Rattle.um_syntax.specs.declared.vocabulary.Symbol.TheVariants as symbol
 use Rattle.um_reader.specs.Machine.{Yields}
-use Rattle.um_expr.specs.declared.infix.Infix.{Infix}
 use Rattle.um_expr.specs.declared.infix.Infix.TheVariants as between
 use Rattle.um_expr.specs.declared.token.ExprToken.TheVariants.{Name as name, Number as number, Truth as truth, Operator as operator, Word as word, Mark as mark}
 use Rattle.um_expr.specs.ExprTokens.{equal, minus, double_colon}
 use Rattle.um_expr.specs.ExprGrammar.{First, FirstAt, AfterNumber, WrittenNote, EmptyArm, FullArm, NilSpells, FirstPower, PowerSpells, Spells, AllSpell, MoreItems, MoreFields, rank, Fits, AreAtoms, AllFit, FieldsFit}
 use Rattle.um_expr.specs.ExprMachine.{Frame, InBracket, InItem, InField, InValue, InBody, InTest, InThen, InElse, InMatched, InEmptyArm, InFullArm, InNegate, InNot, InPown, InRight, InArgument, top_bound, with_field, LetBinder, LetEqual, FieldName, FieldEqual, DotName, ArmBegin, ArmOpen, ArmClose, ArmArrow, HeadBinder, HeadCons, TailBinder, TailArrow, NilColon, PownMinus, PownDigits, PownClose, State, Need, Have, HavePower, Inside, InType, Refused, act, argument, inside, pown_after, with_after, bar_after, close_after, list_after, record_after, semi_after, in_after, then_after, else_after, step}
-use Rattle.um_expr.proofs.ExprEnds.{opened_call, last_argument, opened, last_atom, atom_opened, atom_last, rank_low, arith_low, put, put_last, order_last, put_fields, put_field_last, field_order_last, ends_whole}
+use Rattle.um_expr.proofs.ExprEnds.{opened_call, last_argument, last_atom, atom_opened, atom_last, rank_low, arith_low, put, put_last, order_last, put_fields, put_field_last, field_order_last, ends_whole}
 use Rattle.um_expr.proofs.ExprYields.{thence, yields_first, yields_at, yields_alike, yields_type, yields_type_end}
 use Rattle.um_expr.specs.ExprKinds.{is_power, is_plain_number, begins_atom}
 use Rattle.um_expr.specs.declared.token.ExprToken.{ExprToken}
 use Rattle.um_syntax.specs.declared.token.Kind.TheVariants as kind
 use Rattle.um_expr.specs.ExprTokens.{expr_token}
-use Rattle.um_expr.proofs.ExprAtEnd.{at_end, number_last, ReadsTo, Reads, after_more, reads_then, plain_end, need_apart, is_less, end_alike, ends_first, ends_at}
+use Rattle.um_expr.proofs.ExprAtEnd.{at_end, ReadsTo, Reads, reads_then, plain_end, need_apart, is_less, end_alike, ends_first, ends_at}
 use Rattle.um_expr.proofs.ExprFirsts.{first_atom, atom_alike}
 use Rattle.um_expr.proofs.ExprComplete.{may, sign_ends, compare_ends, yields_binder, yields_written}
 

@@ -1,5 +1,5 @@
 -- Reading in parts: from one state the tokens up to the rest lead to another.
-use Rattle.std.proofs.Common.{◌≡◌, ◌≢◌, ℕ, List, [], ◌∷◌, ◌++◌, Bool, true, Some, refl, sym, ap, ◌∙◌, append_assoc}
+use Rattle.std.proofs.Common.{◌≡◌, ◌≢◌, ℕ, List, [], ◌∷◌, ◌++◌, Bool, true, Some, refl, sym, ap, ◌∙◌}
 use Rattle.um_frac.specs.declared.number.Frac.{Frac}
 use Rattle.um_syntax.specs.declared.token.Token.{Token}
 use Rattle.um_syntax.specs.declared.token.Kind.{Kind}
@@ -11,15 +11,14 @@ use Rattle.um_types.specs.TypeMachine.{TypeState, NeedType, HaveType, NoType, ty
 use Rattle.um_types.specs.TypeMachine.{InNote as InTypeNote}
 use Rattle.um_types.specs.UnitTokens.{unit_token}
 use Rattle.um_types.proofs.ForeignTokens.{is_foreign}
-use Rattle.um_reader.proofs.Reaching.{runs_append, lift}
+use Rattle.um_reader.proofs.Reaching.{lift}
 use Rattle.um_types.proofs.NoteComplete.{note_into, note_reaches, note_finds, note_stops}
 use Rattle.um_types.proofs.TypeComplete.{type_reaches}
-use Rattle.um_syntax.specs.declared.vocabulary.Keyword.TheVariants as keyword
 use Rattle.um_syntax.specs.declared.vocabulary.Symbol.TheVariants as symbol
 use Rattle.um_reader.specs.Machine.{Yields}
 use Rattle.um_reader.proofs.Reaching.{yields_then}
 use Rattle.um_expr.specs.declared.token.ExprToken.{ExprToken}
-use Rattle.um_expr.specs.declared.token.ExprToken.TheVariants.{Word as word, Mark as mark}
+use Rattle.um_expr.specs.declared.token.ExprToken.TheVariants.{Mark as mark}
 use Rattle.um_expr.specs.ExprTokens.{expr_token, greater}
 use Rattle.um_expr.specs.ExprGrammar.{First, FirstAt, FirstGlued}
 use Rattle.um_expr.specs.ExprMachine.{Frame, State, Have, InNote, InType, note_ends, type_ends, note_goes, type_goes, act, step}

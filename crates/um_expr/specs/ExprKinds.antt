@@ -3,11 +3,10 @@
 -- Source: this project's own.
 use Rattle.std.specs.Prelude.{Bool, true, false, None}
 use Rattle.um_tree.specs.RawTree.{ExprSyntax, name_syntax, number_syntax, pown_syntax}
-use Rattle.um_syntax.specs.declared.vocabulary.Keyword.TheVariants as keyword
 use Rattle.um_syntax.specs.declared.vocabulary.Symbol.TheVariants as symbol
 use Rattle.um_expr.specs.declared.token.ExprToken.{ExprToken}
 use Rattle.um_expr.specs.declared.token.ExprToken.TheVariants.{Name as name, Number as number, Truth as truth}
-use Rattle.um_expr.specs.declared.token.ExprToken.TheVariants.{Word as word, Mark as mark}
+use Rattle.um_expr.specs.declared.token.ExprToken.TheVariants.{Mark as mark}
 
 abbrev pub is_name : ExprSyntax → Bool
 is_name (name_syntax at x) = true

@@ -7,7 +7,7 @@ use Rattle.um_expr.specs.declared.operands.Operands.{Operands}
 use Rattle.um_expr.specs.declared.operands.ReadFields.{ReadFields}
 
 abbrev pub operand_expr : Operand → ExprSyntax
-operand_expr p = expr_syntax p.tree
+operand_expr p = expr_syntax p.tree.value
 
 abbrev pub operand_exprs : Operands → List ExprSyntax
 operand_exprs f = map expr_syntax f.items.items

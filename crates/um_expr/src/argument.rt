@@ -17,7 +17,8 @@ use crate::operand::Operand;
 use crate::operands::Operands;
 use crate::token::ExprToken;
 use std::alloc::{AllocError, Global};
-use um_tree::{RawExpr, RawNode};
+use std::mem;
+use um_tree::{Name, RawNode};
 
 // Whether the innermost frame is a call.
 fn in_call(frames: &Frames) -> bool
@@ -68,11 +69,18 @@ fn first_argument(alloc: Global, frames: &mut Frames, operand: Operand) -> Resul
     requires may { 1 < top_bound (frames_of frames.old) }
     ensures { OnOk result (argument (frames_of frames.old) (operand_expr operand) ≡ Some (frames_of frames.new)) }
 {
-    let Operand { tree, .. } = operand;
-    let RawExpr { at, node } = tree;
-    match node {
-        RawNode::Name(name) => frames.push(Frame::InArgument(at, name, Operands::empty(alloc))),
-        RawNode::Num(_, _) | RawNode::Pow(_, _) | composite!() => Ok(()),
+    let Operand { mut tree, .. } = operand;
+    let at = tree.at;
+    match &mut tree.node {
+        RawNode::Name(name) => {
+            let name = mem::replace(name, Name::from_vec(Vec::new(alloc)));
+            drop(tree);
+            frames.push(Frame::InArgument(at, name, Operands::empty(alloc)))
+        }
+        RawNode::Num(_, _) | RawNode::Pow(_, _) | composite!() => {
+            drop(tree);
+            Ok(())
+        }
     }
 }
 

@@ -149,9 +149,13 @@ pub fn begin(
     ensures { IfOk result (λ s. Simulates None (frames_of frames.new) s (begin (frames_of frames.old) kind at)) }
 {
     match kind {
-        ExprToken::Name(name) => Ok(Step::Goes(Focus::Read(Operand::name(at, name)))),
-        ExprToken::Number(value) => Ok(Step::Goes(Focus::Read(Operand::number(at, value, None)))),
-        ExprToken::Truth(value) => Ok(Step::Goes(Focus::Read(Operand::truth(at, value)))),
+        ExprToken::Name(name) => Ok(Step::Goes(Focus::Read(Operand::name(alloc, at, name)?))),
+        ExprToken::Number(value) => {
+            Ok(Step::Goes(Focus::Read(Operand::number(alloc, at, value, None)?)))
+        },
+        ExprToken::Truth(value) => {
+            Ok(Step::Goes(Focus::Read(Operand::truth(alloc, at, value)?)))
+        },
         ExprToken::Mark(symbol) => begin_mark(alloc, frames, symbol, at),
         ExprToken::Word(keyword) => begin_word(frames, keyword, at),
         ExprToken::Operator(sign) => begin_operator(frames, sign, at),

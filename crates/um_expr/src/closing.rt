@@ -36,23 +36,36 @@ fn close(alloc: Global, frames: &Frames, frame: Frame, inner: Operand) -> Result
 }
 
 // `]`
-fn close_list(frames: &Frames, frame: Frame, inner: Operand) -> Result<Step, AllocError>
+fn close_list(
+    alloc: Global,
+    frames: &Frames,
+    frame: Frame,
+    inner: Operand,
+) -> Result<Step, AllocError>
     ensures { IfOk result (λ s. Simulates None (frames_of frames.now) s (list_after (Have (view_frame frame ∷ frames_of frames.now) (operand_expr inner)))) }
 {
     match frame {
-        Frame::InItem(at, before) => Ok(Step::Goes(Focus::Read(before.with(inner)?.list(at)))),
+        Frame::InItem(at, before) => {
+            let items = before.with(inner)?;
+            Ok(Step::Goes(Focus::Read(items.list(alloc, at)?)))
+        }
         other => Ok(refuse(other, inner)),
     }
 }
 
 // `}`
-fn close_record(frames: &Frames, frame: Frame, inner: Operand) -> Result<Step, AllocError>
+fn close_record(
+    alloc: Global,
+    frames: &Frames,
+    frame: Frame,
+    inner: Operand,
+) -> Result<Step, AllocError>
     ensures { IfOk result (λ s. Simulates None (frames_of frames.now) s (record_after (Have (view_frame frame ∷ frames_of frames.now) (operand_expr inner)))) }
 {
     match frame {
         Frame::InField(at, before, place, name) => {
             let fields = before.with(place, name, inner)?;
-            Ok(Step::Goes(Focus::Read(fields.whole(at))))
+            Ok(Step::Goes(Focus::Read(fields.whole(alloc, at)?)))
         }
         other => Ok(refuse(other, inner)),
     }
@@ -136,8 +149,8 @@ fn end_frame_by_mark(
 {
     match symbol {
         Symbol::RightParen => close(alloc, frames, frame, inner),
-        Symbol::RightBracket => close_list(frames, frame, inner),
-        Symbol::RightBrace => close_record(frames, frame, inner),
+        Symbol::RightBracket => close_list(alloc, frames, frame, inner),
+        Symbol::RightBrace => close_record(alloc, frames, frame, inner),
         Symbol::Semicolon => semicolon(frames, frame, inner),
         Symbol::Bar => Ok(full_arm(frames, frame, inner)),
         _ => Ok(refuse(frame, inner)),

@@ -143,7 +143,7 @@ impl Frame {
             Frame::InNegate(at) => last.negate(alloc, at),
             Frame::InNot(at) => last.not(alloc, at),
             Frame::InRight(at, sign, left) => left.infix(alloc, at, sign, last),
-            Frame::InArgument(at, name, before) => Ok(before.with(last)?.call(at, name)),
+            Frame::InArgument(at, name, before) => before.with(last)?.call(alloc, at, name),
             other => Ok(unframed(other, last)),
         }
     }

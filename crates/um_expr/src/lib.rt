@@ -3,7 +3,6 @@
 
 mod argument;
 mod begin;
-mod boxes;
 mod closing;
 mod ending;
 mod expected;

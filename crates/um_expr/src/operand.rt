@@ -8,7 +8,6 @@ ghost use Rattle.um_types.specs.UnitStops.{greatest_height};
 ghost use Rattle.um_expr.specs.ExprHeights.{notes_in, written_height};
 ghost use Rattle.um_expr.specs.Ranks.{infix_text};
 
-use crate::boxes::{boxed_three, boxed_two};
 use crate::infix::Infix;
 use crate::node::composite;
 use std::alloc::{AllocError, Global};
@@ -16,57 +15,58 @@ use um_frac::Frac;
 use um_tree::{Binder, Name, RawExpr, RawNode, RawNote, RawType};
 use um_types::{higher, one_higher};
 
-/// An expression and its height, counted. No unit text or type text in it is too high.
+/// An expression and its height, counted. No unit text or type text in it is too high. The tree is in a box, as the node
+/// around it holds it: an operand is handed on at little cost.
 #[derive(Drop)]
 pub struct Operand {
-    pub tree: RawExpr,
+    pub tree: Box<RawExpr>,
     pub height: u32,
-    ghost exact: { height ≡ counted (expr_height (expr_syntax tree)) },
-    ghost low: { notes_in (expr_syntax tree) ≤ greatest_height },
+    ghost exact: { height ≡ counted (expr_height (expr_syntax tree.value)) },
+    ghost low: { notes_in (expr_syntax tree.value) ≤ greatest_height },
 }
 
 impl Operand {
     ghost use Rattle.um_expr.specs.ExprKinds.{is_name, is_plain_number, is_power};
     ghost use Rattle.um_expr.specs.ExprOperands.{operand_expr};
 
-    /// `true` or `false`
-    pub fn truth(at: u32, value: bool) -> Operand
-        ensures { operand_expr result ≡ truth_syntax at value }
+    /// The tree, whose height is this, counted
+    pub fn of_tree(alloc: Global, tree: RawExpr, height: u32) -> Result<Operand, AllocError>
+        requires exact { height ≡ counted (expr_height (expr_syntax tree)) }
+        requires low { notes_in (expr_syntax tree) ≤ greatest_height }
+        ensures { IfOk result (λ p. operand_expr p ≡ expr_syntax tree) }
     {
-        Operand {
-            tree: RawExpr {
-                at,
-                node: RawNode::Bool(value),
-            },
-            height: 1,
-        }
+        let tree = Box::new(alloc, tree)?;
+        Ok(Operand { tree, height })
+    }
+
+    /// `true` or `false`
+    pub fn truth(alloc: Global, at: u32, value: bool) -> Result<Operand, AllocError>
+        ensures { IfOk result (λ p. operand_expr p ≡ truth_syntax at value) }
+    {
+        let node = RawNode::Bool(value);
+        Operand::of_tree(alloc, RawExpr { at, node }, 1)
     }
 
     /// A number, with its note if it has one
-    pub fn number(at: u32, value: Frac, note: Option<RawNote>) -> Operand
+    pub fn number(
+        alloc: Global,
+        at: u32,
+        value: Frac,
+        note: Option<RawNote>,
+    ) -> Result<Operand, AllocError>
         requires { written_height (written_note note) ≤ greatest_height }
-        ensures { operand_expr result ≡ number_syntax at value (written_note note) }
+        ensures { IfOk result (λ p. operand_expr p ≡ number_syntax at value (written_note note)) }
     {
-        Operand {
-            tree: RawExpr {
-                at,
-                node: RawNode::Num(value, note),
-            },
-            height: 1,
-        }
+        let node = RawNode::Num(value, note);
+        Operand::of_tree(alloc, RawExpr { at, node }, 1)
     }
 
     /// A name
-    pub fn name(at: u32, name: Name) -> Operand
-        ensures { operand_expr result ≡ name_syntax at name }
+    pub fn name(alloc: Global, at: u32, name: Name) -> Result<Operand, AllocError>
+        ensures { IfOk result (λ p. operand_expr p ≡ name_syntax at name) }
     {
-        Operand {
-            tree: RawExpr {
-                at,
-                node: RawNode::Name(name),
-            },
-            height: 1,
-        }
+        let node = RawNode::Name(name);
+        Operand::of_tree(alloc, RawExpr { at, node }, 1)
     }
 
     /// `-e`
@@ -74,11 +74,8 @@ impl Operand {
         ensures { IfOk result (λ p. operand_expr p ≡ negate_syntax at (operand_expr self)) }
     {
         let Operand { tree, height } = self;
-        let node = RawNode::Neg(Box::new(alloc, tree)?);
-        Ok(Operand {
-            tree: RawExpr { at, node },
-            height: one_higher(height),
-        })
+        let node = RawNode::Neg(tree);
+        Operand::of_tree(alloc, RawExpr { at, node }, one_higher(height))
     }
 
     /// `not e`
@@ -86,11 +83,8 @@ impl Operand {
         ensures { IfOk result (λ p. operand_expr p ≡ not_syntax at (operand_expr self)) }
     {
         let Operand { tree, height } = self;
-        let node = RawNode::Not(Box::new(alloc, tree)?);
-        Ok(Operand {
-            tree: RawExpr { at, node },
-            height: one_higher(height),
-        })
+        let node = RawNode::Not(tree);
+        Operand::of_tree(alloc, RawExpr { at, node }, one_higher(height))
     }
 
     /// `pown e k`
@@ -98,11 +92,8 @@ impl Operand {
         ensures { IfOk result (λ p. operand_expr p ≡ pown_syntax at (operand_expr self) k) }
     {
         let Operand { tree, height } = self;
-        let node = RawNode::Pow(Box::new(alloc, tree)?, k);
-        Ok(Operand {
-            tree: RawExpr { at, node },
-            height: one_higher(height),
-        })
+        let node = RawNode::Pow(tree, k);
+        Operand::of_tree(alloc, RawExpr { at, node }, one_higher(height))
     }
 
     /// `(e)`
@@ -110,11 +101,8 @@ impl Operand {
         ensures { IfOk result (λ p. operand_expr p ≡ bracket_expr_syntax at (operand_expr self)) }
     {
         let Operand { tree, height } = self;
-        let node = RawNode::Bracket(Box::new(alloc, tree)?);
-        Ok(Operand {
-            tree: RawExpr { at, node },
-            height: one_higher(height),
-        })
+        let node = RawNode::Bracket(tree);
+        Operand::of_tree(alloc, RawExpr { at, node }, one_higher(height))
     }
 
     /// `e.x`, with the place of the field's name
@@ -128,11 +116,8 @@ impl Operand {
         ensures { IfOk result (λ p. operand_expr p ≡ field_syntax at place name (operand_expr self)) }
     {
         let Operand { tree, height } = self;
-        let node = RawNode::Field(place, name, Box::new(alloc, tree)?);
-        Ok(Operand {
-            tree: RawExpr { at, node },
-            height: one_higher(height),
-        })
+        let node = RawNode::Field(place, name, tree);
+        Operand::of_tree(alloc, RawExpr { at, node }, one_higher(height))
     }
 
     /// A sign with both operands
@@ -147,18 +132,29 @@ impl Operand {
     {
         let Operand { tree, height } = self;
         let height = one_higher(higher(height, right.height));
-        let (left, right) = boxed_two(alloc, tree, right.tree)?;
-        let node = match sign {
-            Infix::Or => RawNode::Or(left, right),
-            Infix::And => RawNode::And(left, right),
-            Infix::Compare(sign) => RawNode::Compare(sign, left, right),
-            Infix::Cons => RawNode::Cons(left, right),
-            Infix::Arith(op) => RawNode::Arith(op, left, right),
-        };
-        Ok(Operand {
-            tree: RawExpr { at, node },
-            height,
-        })
+        let right = right.tree;
+        match sign {
+            Infix::Or => {
+                let node = RawNode::Or(tree, right);
+                Operand::of_tree(alloc, RawExpr { at, node }, height)
+            }
+            Infix::And => {
+                let node = RawNode::And(tree, right);
+                Operand::of_tree(alloc, RawExpr { at, node }, height)
+            }
+            Infix::Compare(sign) => {
+                let node = RawNode::Compare(sign, tree, right);
+                Operand::of_tree(alloc, RawExpr { at, node }, height)
+            }
+            Infix::Cons => {
+                let node = RawNode::Cons(tree, right);
+                Operand::of_tree(alloc, RawExpr { at, node }, height)
+            }
+            Infix::Arith(op) => {
+                let node = RawNode::Arith(op, tree, right);
+                Operand::of_tree(alloc, RawExpr { at, node }, height)
+            }
+        }
     }
 
     /// `let x = self in body`
@@ -173,12 +169,8 @@ impl Operand {
     {
         let Operand { tree, height } = self;
         let height = one_higher(higher(height, body.height));
-        let (value, body) = boxed_two(alloc, tree, body.tree)?;
-        let node = RawNode::Let(x, value, body);
-        Ok(Operand {
-            tree: RawExpr { at, node },
-            height,
-        })
+        let node = RawNode::Let(x, tree, body.tree);
+        Operand::of_tree(alloc, RawExpr { at, node }, height)
     }
 
     /// `if self then one else other`
@@ -193,12 +185,8 @@ impl Operand {
     {
         let Operand { tree, height } = self;
         let height = one_higher(higher(height, higher(one.height, other.height)));
-        let (test, one, other) = boxed_three(alloc, tree, one.tree, other.tree)?;
-        let node = RawNode::If(test, one, other);
-        Ok(Operand {
-            tree: RawExpr { at, node },
-            height,
-        })
+        let node = RawNode::If(tree, one.tree, other.tree);
+        Operand::of_tree(alloc, RawExpr { at, node }, height)
     }
 
     /// `match self with [] -> empty | head :: tail -> full`
@@ -215,26 +203,17 @@ impl Operand {
     {
         let Operand { tree, height } = self;
         let height = one_higher(higher(height, higher(empty.height, full.height)));
-        let (list, empty, full) = boxed_three(alloc, tree, empty.tree, full.tree)?;
-        let node = RawNode::Match(list, empty, head, tail, full);
-        Ok(Operand {
-            tree: RawExpr { at, node },
-            height,
-        })
+        let node = RawNode::Match(tree, empty.tree, head, tail, full.tree);
+        Operand::of_tree(alloc, RawExpr { at, node }, height)
     }
 
     /// `([] : T)`
-    pub fn nil(at: u32, ty: RawType) -> Operand
+    pub fn nil(alloc: Global, at: u32, ty: RawType) -> Result<Operand, AllocError>
         requires { whole_height (type_syntax ty) ≤ greatest_height }
-        ensures { operand_expr result ≡ nil_syntax at (type_syntax ty) }
+        ensures { IfOk result (λ p. operand_expr p ≡ nil_syntax at (type_syntax ty)) }
     {
-        Operand {
-            tree: RawExpr {
-                at,
-                node: RawNode::Nil(ty),
-            },
-            height: 3,
-        }
+        let node = RawNode::Nil(ty);
+        Operand::of_tree(alloc, RawExpr { at, node }, 3)
     }
 
     /// Whether it is a name without arguments.

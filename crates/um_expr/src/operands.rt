@@ -68,7 +68,7 @@ impl Operands {
             tree,
             height: last_height,
         } = last;
-        let items = added(items, tree)?;
+        let items = added(items, Box::into_inner(tree))?;
         Ok(Operands {
             items,
             height: higher(height, last_height),
@@ -76,31 +76,21 @@ impl Operands {
     }
 
     /// The call of a name with these arguments
-    pub fn call(self, at: u32, name: Name) -> Operand
-        ensures { operand_expr result ≡ call_syntax at name (exprs_in_order (operand_exprs self)) }
+    pub fn call(self, alloc: Global, at: u32, name: Name) -> Result<Operand, AllocError>
+        ensures { IfOk result (λ p. operand_expr p ≡ call_syntax at name (exprs_in_order (operand_exprs self))) }
     {
         let Operands { items, height } = self;
-        Operand {
-            tree: RawExpr {
-                at,
-                node: RawNode::Call(name, RawExprs { items }),
-            },
-            height: one_higher(height),
-        }
+        let node = RawNode::Call(name, RawExprs { items });
+        Operand::of_tree(alloc, RawExpr { at, node }, one_higher(height))
     }
 
     /// The list of these items
-    pub fn list(self, at: u32) -> Operand
-        ensures { operand_expr result ≡ list_syntax at (exprs_in_order (operand_exprs self)) }
+    pub fn list(self, alloc: Global, at: u32) -> Result<Operand, AllocError>
+        ensures { IfOk result (λ p. operand_expr p ≡ list_syntax at (exprs_in_order (operand_exprs self))) }
     {
         let Operands { items, height } = self;
-        Operand {
-            tree: RawExpr {
-                at,
-                node: RawNode::List(RawExprs { items }),
-            },
-            height: one_higher(height),
-        }
+        let node = RawNode::List(RawExprs { items });
+        Operand::of_tree(alloc, RawExpr { at, node }, one_higher(height))
     }
 }
 
@@ -129,7 +119,7 @@ impl ReadFields {
         let field = RawField {
             at,
             name,
-            value: tree,
+            value: Box::into_inner(tree),
         };
         let items = added(items, field)?;
         Ok(ReadFields {
@@ -139,16 +129,11 @@ impl ReadFields {
     }
 
     /// The record text with these fields
-    pub fn whole(self, at: u32) -> Operand
-        ensures { operand_expr result ≡ fields_syntax at (fields_in_order (read_fields self)) }
+    pub fn whole(self, alloc: Global, at: u32) -> Result<Operand, AllocError>
+        ensures { IfOk result (λ p. operand_expr p ≡ fields_syntax at (fields_in_order (read_fields self))) }
     {
         let ReadFields { items, height } = self;
-        Operand {
-            tree: RawExpr {
-                at,
-                node: RawNode::Rec(RawFields { items }),
-            },
-            height: one_higher(height),
-        }
+        let node = RawNode::Rec(RawFields { items });
+        Operand::of_tree(alloc, RawExpr { at, node }, one_higher(height))
     }
 }

@@ -49,7 +49,7 @@ fn tree_of(operand: Option<Operand>) -> Option<RawExpr>
     ensures { option_map expr_syntax result ≡ option_map operand_expr operand }
 {
     match operand {
-        Some(operand) => Some(operand.tree),
+        Some(operand) => Some(Box::into_inner(operand.tree)),
         None => None,
     }
 }
@@ -167,7 +167,7 @@ impl ExprReader {
         let note = note.finish(alloc)?;
         match ExprToken::of_kind(alloc, &token.kind) {
             Ok(kind) => {
-                let given = note_ends(&self.frames, at, value, note, kind);
+                let given = note_ends(alloc, &self.frames, at, value, note, kind)?;
                 Ok(self.go(alloc, given))
             }
             Err(error) => {
@@ -192,7 +192,7 @@ impl ExprReader {
         let ty = ty.finish();
         match ExprToken::of_kind(alloc, &token.kind) {
             Ok(kind) => {
-                let given = type_ends(&self.frames, at, ty, kind);
+                let given = type_ends(alloc, &self.frames, at, ty, kind)?;
                 Ok(self.go(alloc, given))
             }
             Err(error) => {

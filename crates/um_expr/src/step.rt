@@ -129,54 +129,77 @@ fn refuse_type(kind: ExprToken, ty: RawType) -> Step
 }
 
 // The token behind the note of a number.
-fn note_end(frames: &Frames, at: u32, value: Frac, note: RawNote, kind: ExprToken) -> Step
+fn note_end(
+    alloc: Global,
+    frames: &Frames,
+    at: u32,
+    value: Frac,
+    note: RawNote,
+    kind: ExprToken,
+) -> Result<Step, AllocError>
     requires { note_height (note_syntax note) ≤ greatest_height }
-    ensures { Simulates None (frames_of frames.now) result (note_ends (frames_of frames.now) at value (Some (note_syntax note)) kind) }
+    ensures { IfOk result (λ s. Simulates None (frames_of frames.now) s (note_ends (frames_of frames.now) at value (Some (note_syntax note)) kind)) }
 {
     match kind {
         ExprToken::Operator(Infix::Compare(Sign::Gt)) => {
-            Step::Goes(Focus::Read(Operand::number(at, value, Some(note))))
+            let number = Operand::number(alloc, at, value, Some(note))?;
+            Ok(Step::Goes(Focus::Read(number)))
         }
-        other => refuse_note(other, note),
+        other => Ok(refuse_note(other, note)),
     }
 }
 
 // The token behind the type of an empty list.
-fn type_end(frames: &Frames, at: u32, ty: RawType, kind: ExprToken) -> Step
+fn type_end(
+    alloc: Global,
+    frames: &Frames,
+    at: u32,
+    ty: RawType,
+    kind: ExprToken,
+) -> Result<Step, AllocError>
     requires { whole_height (type_syntax ty) ≤ greatest_height }
-    ensures { Simulates None (frames_of frames.now) result (type_ends (frames_of frames.now) at (Some (type_syntax ty)) kind) }
+    ensures { IfOk result (λ s. Simulates None (frames_of frames.now) s (type_ends (frames_of frames.now) at (Some (type_syntax ty)) kind)) }
 {
     match kind {
-        ExprToken::Mark(Symbol::RightParen) => Step::Goes(Focus::Read(Operand::nil(at, ty))),
-        other => refuse_type(other, ty),
+        ExprToken::Mark(Symbol::RightParen) => {
+            Ok(Step::Goes(Focus::Read(Operand::nil(alloc, at, ty)?)))
+        }
+        other => Ok(refuse_type(other, ty)),
     }
 }
 
 /// The token that the note of a number has refused.
 pub fn note_ends(
+    alloc: Global,
     frames: &Frames,
     at: u32,
     value: Frac,
     note: Option<RawNote>,
     kind: ExprToken,
-) -> Step
+) -> Result<Step, AllocError>
     requires { IfSome note (λ n. note_height (note_syntax n) ≤ greatest_height) }
-    ensures { Simulates None (frames_of frames.now) result (note_ends (frames_of frames.now) at value (option_map note_syntax note) kind) }
+    ensures { IfOk result (λ s. Simulates None (frames_of frames.now) s (note_ends (frames_of frames.now) at value (option_map note_syntax note) kind)) }
 {
     match note {
-        Some(note) => note_end(frames, at, value, note, kind),
-        None => refuse_token(kind),
+        Some(note) => note_end(alloc, frames, at, value, note, kind),
+        None => Ok(refuse_token(kind)),
     }
 }
 
 /// The token that the type of an empty list has refused.
-pub fn type_ends(frames: &Frames, at: u32, ty: Option<RawType>, kind: ExprToken) -> Step
+pub fn type_ends(
+    alloc: Global,
+    frames: &Frames,
+    at: u32,
+    ty: Option<RawType>,
+    kind: ExprToken,
+) -> Result<Step, AllocError>
     requires { IfSome ty (λ t. whole_height (type_syntax t) ≤ greatest_height) }
-    ensures { Simulates None (frames_of frames.now) result (type_ends (frames_of frames.now) at (option_map type_syntax ty) kind) }
+    ensures { IfOk result (λ s. Simulates None (frames_of frames.now) s (type_ends (frames_of frames.now) at (option_map type_syntax ty) kind)) }
 {
     match ty {
-        Some(ty) => type_end(frames, at, ty, kind),
-        None => refuse_token(kind),
+        Some(ty) => type_end(alloc, frames, at, ty, kind),
+        None => Ok(refuse_token(kind)),
     }
 }
 
