@@ -6,5 +6,7 @@ pub mod ValueNames
 pub mod ValueStops
 pub mod InputRead
 -- What mirrors the code: the machine that reads token by token, and the reader by the machine's states.
+pub mod RangeStops
+pub mod ReadingParts
 pub mod ValueMachine
 pub mod ValueView
