@@ -1,0 +1,12 @@
+mod NotesRead
+pub mod ValueFrom
+pub mod ValueGoes
+pub mod ValueBack
+pub mod ValueHeights
+pub mod ValueTexts
+pub mod ValueEnds
+pub mod ValueLaws
+mod ValueLoop
+mod ValueMoves
+mod ValueParts
+mod RawLoops
