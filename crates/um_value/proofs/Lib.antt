@@ -10,3 +10,6 @@ mod ValueLoop
 mod ValueMoves
 mod ValueParts
 mod RawLoops
+mod InputLoops
+pub mod ValueShapes
+mod Examples

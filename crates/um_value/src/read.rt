@@ -1,13 +1,10 @@
 // Arguments as a user writes them.
-ghost use Rattle.std.specs.Prelude.{◌≡◌, ◌≤◌, ℕ, List, length, None, Some, IfOk, IfErr};
-ghost use Rattle.std.specs.Str.{chars};
-ghost use Rattle.um_syntax.specs.Lexing.{HasTokens, HasFault};
+ghost use Rattle.std.specs.Prelude.{◌≡◌, ◌≤◌, ℕ, List, length};
 ghost use Rattle.um_tree.specs.Formed.{IsFormed};
 ghost use Rattle.um_tree.specs.TypeTree.{shape_tree};
 ghost use Rattle.um_tree.specs.ProgramTree.{program_tree};
-ghost use Rattle.um_measures.specs.Known.{measure_unit};
+ghost use Rattle.um_measures.specs.Known.{short_unit, measure_unit};
 ghost use Rattle.um_measures.specs.ClosedUnits.{given};
-ghost use Rattle.um_types.specs.UnitStops.{greatest_height};
 ghost use Rattle.um_value.specs.ValueSyntax.{value_syntax};
 ghost use Rattle.um_value.specs.ValueGrammar.{IsShapeIn};
 ghost use Rattle.um_value.specs.InputRead.{IsInputOf};
@@ -20,7 +17,7 @@ use crate::raw::RawValue;
 use crate::reading::read_raw;
 use crate::stop::InputStop;
 use std::alloc::Global;
-use um_measures::Abbreviations;
+use um_measures::{Abbreviations, Measures};
 use um_reader::ReadStop;
 use um_syntax::{LexStop, Token, Tokens, lex};
 use um_tree::{Input, Program, Shape};
@@ -65,6 +62,20 @@ fn raw_of(
 }
 
 // The input of a value text: its names first, and then its ranges.
+fn checked_input(
+    alloc: Global,
+    measures: &Measures,
+    raw: &RawValue,
+) -> Result<Input, InputStop>
+    ensures { IsNamed (short_unit measures.now) (value_syntax raw.now) result }
+{
+    match name_fault(alloc, measures, raw) {
+        Some(at) => Err(InputStop::Names { at }),
+        None => input_of(alloc, measures, raw),
+    }
+}
+
+// The same, with the measures of the program and the abbreviations.
 fn named_input(
     alloc: Global,
     program: &Program,
@@ -74,10 +85,9 @@ fn named_input(
     ensures { IsNamed (measure_unit (given (program_tree program.now) abbreviations.now)) (value_syntax raw.now) result }
 {
     let measures = measures_of(alloc, program, abbreviations)?;
-    match name_fault(alloc, &measures, raw) {
-        Some(at) => Err(InputStop::Names { at }),
-        None => input_of(alloc, &measures, raw),
-    }
+    let input = checked_input(alloc, &measures, raw);
+    drop(measures);
+    input
 }
 
 /// The input of a shape that a text is.
@@ -110,7 +120,9 @@ pub fn read_value(
     ensures exact { IsInputOf (given (program_tree program.now) abbreviations.now) (shape_tree shape.now) text.now result }
 {
     let tokens = tokens_of(alloc, text)?;
-    let raw = raw_of(alloc, program, shape, tokens.as_slice(), text.len() as u32)?;
+    let read = raw_of(alloc, program, shape, tokens.as_slice(), text.len() as u32);
+    drop(tokens);
+    let raw = read?;
     let input = named_input(alloc, program, abbreviations, &raw);
     drop(raw);
     input

@@ -1,6 +1,5 @@
 // A value text of a shape that is read one token at a time.
 ghost use Rattle.std.specs.Prelude.{◌≡◌, ◌≤◌, ◌∷◌, ◌++◌, [], None, Some, IfOk, map, slice_get, option_map};
-ghost use Rattle.um_syntax.specs.declared.token.Kind.TheVariants as kind;
 ghost use Rattle.um_tree.specs.RawTree.{note_syntax};
 ghost use Rattle.um_tree.specs.TypeTree.{shape_tree};
 ghost use Rattle.um_tree.specs.ProgramTree.{record_tree, field_tree};
@@ -32,7 +31,9 @@ pub(crate) struct ValueReader<'a> {
 fn whole<'a>(frames: Vec<Frame<'a>>, value: RawValue) -> Option<RawValue>
     ensures { option_map value_syntax result ≡ whole (stack frames.items) (value_syntax value) }
 {
-    if frames.is_empty() {
+    let done = frames.is_empty();
+    drop(frames);
+    if done {
         Some(value)
     } else {
         drop(value);
@@ -281,7 +282,7 @@ impl<'a> ValueReader<'a> {
     // `<` behind a number
     fn take_angle(&mut self, literal: Literal, glued: bool) -> Taken
         requires wanted { self.old.focus ≡ Focus.Negative }
-        ensures { Moves (whole (stack self.old.frames.items) (raw_number literal.at literal.negative literal.value None)) (counted (stack self.old.frames.items) literal.at literal.negative literal.value (kind.Sign Symbol.Less) glued) result (value_state self.new) }
+        ensures { Moves (whole (stack self.old.frames.items) (raw_number literal.at literal.negative literal.value None)) (counted (stack self.old.frames.items) literal.at literal.negative literal.value (Kind.Sign Symbol.Less) glued) result (value_state self.new) }
     {
         if glued {
             self.go(Focus::InNote(literal, NoteReader::new()))

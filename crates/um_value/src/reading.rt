@@ -2,7 +2,7 @@
 ghost use Rattle.um_tree.specs.Formed.{IsFormed};
 ghost use Rattle.um_tree.specs.TypeTree.{shape_tree};
 ghost use Rattle.um_tree.specs.ProgramTree.{record_tree, program_tree};
-ghost use Rattle.std.specs.Prelude.{map};
+ghost use Rattle.std.specs.Prelude.{◌≡◌, Err, map};
 ghost use Rattle.um_reader.specs.RunTo.{RunAll};
 ghost use Rattle.um_reader.specs.ReadTo.{ReadAll};
 ghost use Rattle.um_types.specs.UnitStops.{greatest_height};
@@ -17,6 +17,14 @@ use um_reader::{ReadStop, Taken};
 use um_syntax::Token;
 use um_tree::{Program, Record, Shape};
 
+// Nothing more is read.
+fn stopped<'a>(reader: ValueReader<'a>, stop: ReadStop) -> Result<RawValue, ReadStop>
+    ensures { result ≡ Err stop }
+{
+    drop(reader);
+    Err(stop)
+}
+
 // Reads all tokens.
 fn run<'a>(
     alloc: Global,
@@ -28,10 +36,11 @@ fn run<'a>(
 {
     let mut reader = ValueReader::new(alloc, shape);
     for (i, token) in tokens.iter().enumerate() {
-        match reader.take(alloc, records, token)? {
-            Taken::Goes => {}
-            Taken::Stops => return Err(ReadStop::Syntax(i)),
-            Taken::High => return Err(ReadStop::High(i)),
+        match reader.take(alloc, records, token) {
+            Ok(Taken::Goes) => {}
+            Ok(Taken::Stops) => return stopped(reader, ReadStop::Syntax(i)),
+            Ok(Taken::High) => return stopped(reader, ReadStop::High(i)),
+            Err(_) => return stopped(reader, ReadStop::NoMemory),
         }
     }
     match reader.finish() {
