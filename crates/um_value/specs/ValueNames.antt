@@ -15,10 +15,6 @@ use Rattle.um_measures.specs.Faults.{Fault, unknown, twice, wrong_count, hole, r
 use Rattle.um_measures.specs.UnitNames.{or_else, unless, unknown_in, unit_of, resolved_unit}
 use Rattle.um_value.specs.ValueSyntax.{ValueSyntax, ValueSyntaxes, raw_truth, raw_number, raw_list, raw_record, raw_none, raw_more}
 
--- the number with its sign
-abbrev pub signed_number : Bool → Frac → Frac
-signed_number negative value = cond negative (negation_of value) value
-
 abbrev pub is_zero : Frac → Bool
 is_zero c = int_eq (numerator c) (pos 0)
 
@@ -34,6 +30,10 @@ abbrev pub fault_in : {A : Type 0} → Found A → Option ℕ
 fault_in (Ok x) = None
 fault_in (Err f) = Some (place_of_fault f)
 
+-- the number with its sign
+abbrev pub signed_number : Bool → Frac → Frac
+signed_number negative value = cond negative (negation_of value) value
+
 -- what measures stand for; no unit variable is known
 module _ (measures : List ℕ → Option PowerMap) where
   -- the place of the first measure or variable that isn't known, or of a number other than 0 with `<_>`
@@ -45,7 +45,7 @@ module _ (measures : List ℕ → Option PowerMap) where
   abbrev mutual
     pub name_fault : ValueSyntax → Option ℕ
     name_fault (raw_truth b) = None
-    name_fault (raw_number at negative value n) = note_fault at (signed_number negative value) n
+    name_fault (raw_number at negative value n) = note_fault at value n
     name_fault (raw_list vs) = name_fault_among vs
     name_fault (raw_record r vs) = name_fault_among vs
 

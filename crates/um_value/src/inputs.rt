@@ -7,13 +7,13 @@ ghost use Rattle.um_measures.specs.Faults.{Found};
 ghost use Rattle.um_measures.specs.Known.{short_unit};
 ghost use Rattle.um_measures.specs.Stops.{IsFirst};
 ghost use Rattle.um_value.specs.ValueSyntax.{raws_in_order, value_syntax, value_syntaxes};
-ghost use Rattle.um_value.specs.ValueNames.{fault_in, note_range_fault, range_fault, range_fault_among, unit_note_of, input_of, inputs_of};
+ghost use Rattle.um_value.specs.ValueNames.{signed_number, fault_in, note_range_fault, range_fault, range_fault_among, unit_note_of, input_of, inputs_of};
 ghost use Rattle.um_value.specs.RangeStops.{IsRangeAt};
 
-use crate::names::signed_number;
 use crate::raw::{RawValue, RawValues};
 use crate::stop::InputStop;
 use std::alloc::Global;
+use um_frac::Frac;
 use um_measures::{Measures, NameStop, NameTable, resolved_unit};
 use um_tree::{Input, Inputs, RawNote, RawUnit, UnitNote};
 use um_units::Unit;
@@ -65,6 +65,13 @@ fn each_input_of(
         inputs.push(input_of(alloc, measures, &raws[i])?)?;
     }
     Ok(inputs)
+}
+
+// The number with its sign.
+fn signed_number(negative: bool, value: Frac) -> Frac
+    ensures { result ≡ signed_number negative value }
+{
+    if negative { value.neg() } else { value }
 }
 
 // The note of a number: 1 where none is written.

@@ -3,20 +3,13 @@ ghost use Rattle.std.specs.Prelude.{◌≡◌, map};
 ghost use Rattle.um_tree.specs.RawTree.{written_note};
 ghost use Rattle.um_measures.specs.Known.{short_unit};
 ghost use Rattle.um_value.specs.ValueSyntax.{raws_in_order, value_syntax};
-ghost use Rattle.um_value.specs.ValueNames.{signed_number, note_fault, name_fault, name_fault_among};
+ghost use Rattle.um_value.specs.ValueNames.{note_fault, name_fault, name_fault_among};
 
 use crate::raw::RawValue;
 use std::alloc::Global;
 use um_frac::Frac;
 use um_measures::{Measures, NameTable, first_unknown};
 use um_tree::RawNote;
-
-/// The number with its sign.
-pub(crate) fn signed_number(negative: bool, value: Frac) -> Frac
-    ensures { result ≡ signed_number negative value }
-{
-    if negative { value.neg() } else { value }
-}
 
 /// The place of the first measure or variable that isn't known, or of a number other than 0 with `<_>`.
 #[cycle(name_fault)]
@@ -25,9 +18,7 @@ pub(crate) fn name_fault(alloc: Global, measures: &Measures, raw: &RawValue) -> 
 {
     match raw {
         RawValue::Bool(_) => None,
-        RawValue::Num(at, negative, value, note) => {
-            note_fault(alloc, measures, *at, signed_number(*negative, *value), note)
-        }
+        RawValue::Num(at, _, value, note) => note_fault(alloc, measures, *at, *value, note),
         RawValue::List(values) => name_fault_among(alloc, measures, &values.items),
         RawValue::Rec(_, values) => name_fault_among(alloc, measures, &values.items),
     }
