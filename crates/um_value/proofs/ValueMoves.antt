@@ -17,6 +17,9 @@ use Rattle.um_value.proofs.ValueHeights.{own_same}
 abbrev pub IsOwn : List RecordTree → ValueState → Token → Type 0
 IsOwn records st x = value_step records st x ≡ own_act records st x.kind x.start x.glued
 
+in_note : (frames : List Frame) (at : ℕ) (negative : Bool) (value : Frac) (n : NoteState) → InNote frames at negative value n ≢ NoValue
+in_note frames at negative value n e = cc
+
 module _ (records : List RecordTree) where
   pub own_takes : (old : ValueState) (x : Token) (given : Taken) (new : ValueState) → IsOwn records old x → value_least old ≤ greatest_height
       → Moves (value_finish old) (own_act records old x.kind x.start x.glued) given new → ValueTakes records old x given new
@@ -40,7 +43,7 @@ module _ (records : List RecordTree) where
       let ended : ValueState = note_ends frames at negative value (note_finish old) x.kind in
       let on : note_goes frames at negative value (note_step old x) ended ≡ InNote frames at negative value new = ap (λ m. note_goes frames at negative value m ended) (sym t.0) ∙ note_goes_on frames at negative value new ended t.1 in
       let high = t.2 in
-      λ s. (sym on, (λ e. cc), omega (arith, low, high))
+      λ s. (sym on, in_note frames at negative value new, omega (arith, low, high))
 
   -- the note is too high
   pub note_too_high : (frames : List Frame) (at : ℕ) (negative : Bool) (value : Frac) (old new : NoteState) (x : Token) (after : ValueState) → Takes machine_of_notes greatest_height old x taken.High new
@@ -51,9 +54,6 @@ module _ (records : List RecordTree) where
       let least = ap value_least on in
       let high = t.1 in
       λ s. ((λ e. in_note frames at negative value (note_step old x) (sym on ∙ e)), omega (arith, least, high))
-    where
-      in_note : (frames : List Frame) (at : ℕ) (negative : Bool) (value : Frac) (n : NoteState) → InNote frames at negative value n ≢ NoValue
-      in_note frames at negative value n e = cc
 
   -- the note has refused the token: what the rest of the state does is what the whole does
   pub note_stops : (frames : List Frame) (at : ℕ) (negative : Bool) (value : Frac) (old mid : NoteState) (x : Token) (given : Taken) (new : ValueState) → value_least (InNote frames at negative value old) ≤ greatest_height
