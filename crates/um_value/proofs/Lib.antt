@@ -12,4 +12,5 @@ mod ValueParts
 mod RawLoops
 mod InputLoops
 pub mod ValueShapes
+pub mod ValueFormed
 mod Examples

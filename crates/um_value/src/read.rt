@@ -1,9 +1,12 @@
 // Arguments as a user writes them.
-ghost use Rattle.std.specs.Prelude.{◌≡◌, ◌≤◌, ℕ, List, length};
-ghost use Rattle.um_tree.specs.Formed.{IsFormed};
+ghost use Rattle.std.specs.Prelude.{◌≡◌, ◌≤◌, ℕ, List, All, IfOk, length};
+ghost use Rattle.um_tree.specs.Formed.{IsFormed, IsUnitIn, IsFormedInput};
+ghost use Rattle.um_tree.specs.InputType.{ValueHas};
+ghost use Rattle.um_tree.specs.ValueTree.{input_tree, without_units};
 ghost use Rattle.um_tree.specs.TypeTree.{shape_tree};
 ghost use Rattle.um_tree.specs.ProgramTree.{program_tree};
 ghost use Rattle.um_measures.specs.Known.{short_unit, measure_unit};
+ghost use Rattle.um_measures.specs.declared.abbreviation.Abbreviation.{Abbreviation};
 ghost use Rattle.um_measures.specs.ClosedUnits.{given};
 ghost use Rattle.um_value.specs.ValueSyntax.{value_syntax};
 ghost use Rattle.um_value.specs.ValueGrammar.{IsShapeIn};
@@ -118,6 +121,8 @@ pub fn read_value(
     requires formed { IsFormed (program_tree program.now) }
     requires shape { IsShapeIn (program_tree program.now).records (shape_tree shape.now) }
     ensures exact { IsInputOf (given (program_tree program.now) abbreviations.now) (shape_tree shape.now) text.now result }
+    ensures shaped { IfOk result (λ input. ValueHas (program_tree program.now).records (without_units (input_tree input)) (shape_tree shape.now)) }
+    ensures formed { All (λ (short : Abbreviation). IsUnitIn (length program.now.bases) 0 short.unit) abbreviations.now → IfOk result (λ input. IsFormedInput (length program.now.bases) (input_tree input)) }
 {
     let tokens = tokens_of(alloc, text)?;
     let read = raw_of(alloc, program, shape, tokens.as_slice(), text.len() as u32);
