@@ -1,6 +1,8 @@
 -- The input of a value text without faults is formed.
-use Rattle.std.proofs.Common.{◌≡◌, ℕ, Bool, true, false, cond, List, [], ◌∷◌, length, pos, Option, Some, None, refl, sym, ap, subst, ◌∙◌, Ok, Err}
-use Rattle.std.specs.Prelude.{neg_ℤ}
+use Rattle.std.proofs.Common.{◌≡◌, ℕ, Bool, true, false, cond, List, [], ◌∷◌, ◌++◌, length, pos, Option, Some, None, refl, sym, ap, subst, ◌∙◌, append_assoc, Ok, Err}
+use Rattle.std.specs.Prelude.{All, neg_ℤ}
+use Rattle.std.proofs.lemmas.List.{append-nil}
+use Rattle.std.proofs.lemmas.List.Elements.{All-head, All-tail}
 use Rattle.std.proofs.lemmas.Bool.Decides.{Decides-int_eq}
 use Rattle.um_frac.specs.declared.number.Frac.{Frac}
 use Rattle.um_frac.specs.Fraction.{numerator}
@@ -10,9 +12,11 @@ use Rattle.um_units.specs.Variables.{IsClosed}
 use Rattle.um_units.proofs.Variables.{IsClosed-one, IsClosed-below_zero}
 use Rattle.um_tree.specs.RawTree.{UnitSyntax, NoteSyntax, hole_syntax, unit_note_syntax}
 use Rattle.um_tree.specs.Formed.{BasesBelow, IsUnitIn, IsLiteral, IsFormedInput, AreFormedInputs}
+use Rattle.um_measures.specs.declared.abbreviation.Abbreviation.{Abbreviation}
 use Rattle.um_measures.specs.Faults.{range, Found}
+use Rattle.um_measures.specs.Known.{Known, measure_unit}
 use Rattle.um_measures.specs.UnitNames.{first_place, or_else, or_one, unless, unknown_in, unit_of, parts_fit, ranged, resolved_unit}
-use Rattle.um_names.proofs.FormedUnits.{in_one, resolved_unit_in}
+use Rattle.um_names.proofs.FormedUnits.{in_one, AreClosedIn, closed_last, closed_none, measure_in, resolved_unit_in}
 use Rattle.um_value.specs.ValueSyntax.{ValueSyntax, ValueSyntaxes, raw_truth, raw_number, raw_list, raw_record, raw_none, raw_more}
 use Rattle.um_value.specs.ValueNames.{signed_number, is_zero, fault_in, note_fault, name_fault, name_fault_among, note_range_fault, range_fault, range_fault_among, unit_note_of, input_of, inputs_of}
 
@@ -65,3 +69,14 @@ module _ (measures : List ℕ → Option PowerMap) (n : ℕ) (closed : (x : List
         let a = or_none (name_fault measures v) (name_fault_among measures vs) names in
         let b = or_none (range_fault measures v) (range_fault_among measures vs) ranges in
         (input_formed v a.0 b.0, inputs_formed vs a.1 b.1)
+
+-- ---- the units of measures
+
+all_closed : (n : ℕ) (front rest : List Abbreviation) → AreClosedIn n front → All (λ (s : Abbreviation). IsUnitIn n 0 s.unit) rest → AreClosedIn n (front ++ rest)
+all_closed n front [] h all = subst (λ ss. AreClosedIn n ss) (sym (append-nil front)) h
+all_closed n front (s ∷ rest) h all =
+    let more = closed_last n front s h (All-head (λ (t : Abbreviation). IsUnitIn n 0 t.unit) s rest all) in
+    subst (λ ss. AreClosedIn n ss) (append_assoc front (s ∷ []) rest) (all_closed n (front ++ s ∷ []) rest more (All-tail (λ (t : Abbreviation). IsUnitIn n 0 t.unit) s rest all))
+
+pub measures_closed : (known : Known) → All (λ (s : Abbreviation). IsUnitIn (length known.program.bases) 0 s.unit) known.shorts → (x : List ℕ) → IsUnitIn (length known.program.bases) 0 (or_one (measure_unit known x))
+measures_closed known all x = let n = length known.program.bases in measure_in known x (all_closed n [] known.shorts (closed_none n) all)
