@@ -1,5 +1,6 @@
 // The input that a value text stands for.
-ghost use Rattle.std.specs.Prelude.{◌≡◌, None, IfOk, IfErr, map};
+ghost use Rattle.std.specs.Prelude.{◌≡◌, ◌∷◌, ◌++◌, [], None, IfOk, IfErr, map};
+ghost use Rattle.um_value.specs.declared.stop.InputStop.TheVariants.{NoMemory};
 ghost use Rattle.um_units.specs.PowerMap.{PowerMap};
 ghost use Rattle.um_tree.specs.RawTree.{written_note};
 ghost use Rattle.um_tree.specs.ValueTree.{input_tree, input_trees, inputs_in_order};
@@ -62,9 +63,25 @@ fn each_input_of(
 {
     let mut inputs = Vec::new(alloc);
     for i in 0..raws.len() {
-        inputs.push(input_of(alloc, measures, &raws[i])?)?;
+        inputs = match input_of(alloc, measures, &raws[i]) {
+            Ok(input) => with_input(inputs, input)?,
+            Err(stop) => {
+                drop(inputs);
+                return Err(stop);
+            }
+        };
     }
     Ok(inputs)
+}
+
+// These inputs, and one more.
+fn with_input(earlier: Vec<Input>, last: Input) -> Result<Vec<Input>, InputStop>
+    ensures exact { IfOk result (λ all. map input_tree all.items ≡ map input_tree earlier.items ++ input_tree last ∷ []) }
+    ensures memory { IfErr result (λ stop. stop ≡ NoMemory) }
+{
+    let mut all = earlier;
+    all.push(last)?;
+    Ok(all)
 }
 
 // The number with its sign.

@@ -34,8 +34,13 @@ fn with_base(
 ) -> Result<Measures, AllocError>
     ensures { IfOk result (λ more. (x : List ℕ) → short_unit more x ≡ short_unit (measures ++ record { name = name.now; unit = atom (Base number) } ∷ []) x) }
 {
-    let unit = Unit::atom(alloc, Atom::Base(number))?;
-    measures.with(alloc, name.as_slice(), unit)
+    match Unit::atom(alloc, Atom::Base(number)) {
+        Ok(unit) => measures.with(alloc, name.as_slice(), unit),
+        Err(error) => {
+            drop(measures);
+            Err(error)
+        }
+    }
 }
 
 // These measures, and behind them the abbreviation.
@@ -46,8 +51,13 @@ fn with_abbreviation(
 ) -> Result<Measures, AllocError>
     ensures { IfOk result (λ more. (x : List ℕ) → short_unit more x ≡ short_unit (measures ++ short.now ∷ []) x) }
 {
-    let unit = short.unit.copy(alloc)?;
-    measures.with(alloc, short.name.as_slice(), unit)
+    match short.unit.copy(alloc) {
+        Ok(unit) => measures.with(alloc, short.name.as_slice(), unit),
+        Err(error) => {
+            drop(measures);
+            Err(error)
+        }
+    }
 }
 
 // These measures, and behind them the abbreviations.
