@@ -9,7 +9,11 @@ use Rattle.um_reader.specs.declared.taken.Taken.TheVariants as taken
 use Rattle.um_types.specs.UnitStops.{greatest_height}
 use Rattle.um_types.specs.NoteMachine.{NoteState, NoNote, note_step, note_finish, note_least, machine_of_notes}
 use Rattle.um_value.specs.ValueMachine.{Frame, ValueState, InNote, NoValue, note_ends, note_goes, own_act, value_act, value_step, value_finish, frames_height, value_least}
-use Rattle.um_value.specs.ValueView.{Moves, ValueTakes}
+use Rattle.um_types.specs.declared.note_reader.NoteReader.{NoteReader}
+use Rattle.um_value.specs.declared.frame.Literal.{Literal}
+use Rattle.um_value.specs.declared.frame.Focus.{Focus}
+use Rattle.um_value.specs.declared.frame.Focus.TheVariants as focus
+use Rattle.um_value.specs.ValueView.{state_of, Moves, ValueTakes}
 use Rattle.um_value.proofs.ValueFrom.{note_goes_on}
 use Rattle.um_value.proofs.ValueHeights.{own_same}
 
@@ -63,3 +67,15 @@ module _ (records : List RecordTree) where
   note_stops frames at negative value old mid x given new low t m =
       own_takes (InNote frames at negative value old) x given new (note_has_refused frames at negative value old x t.0) low
       (subst (λ o. Moves None (note_ends frames at negative value o x.kind) given new) t.1 m)
+
+  -- ---- where no note has begun
+
+  pub no_note : (frames : List Frame) (f : Focus) (x : Token) → ((c : Literal) (n : NoteReader) → f ≡ focus.InNote c n → ⊥) → IsOwn records (state_of frames f) x
+  no_note frames (focus.Need w) x h = refl
+  no_note frames (focus.Begun w) x h = refl
+  no_note frames focus.Negative x h = refl
+  no_note frames (focus.Counted c) x h = refl
+  no_note frames (focus.InNote c n) x h = absurd (h c n refl)
+  no_note frames (focus.Name f) x h = refl
+  no_note frames (focus.Equal w) x h = refl
+  no_note frames (focus.Full v) x h = refl

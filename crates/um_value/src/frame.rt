@@ -65,7 +65,7 @@ impl Literal {
 }
 
 pub(crate) fn push_frame<'a>(frames: &mut Vec<Frame<'a>>, frame: Frame<'a>) -> Result<(), AllocError>
-    ensures { OnOk result (stack frames.new.items ≡ view_frame frame ∷ stack frames.old.items) }
+    ensures { OnOk result (stack frames.new.items ≡ view_frame frame.entry ∷ stack frames.old.items) }
 {
     frames.push(frame)?;
     Ok(())

@@ -29,7 +29,7 @@ pub(crate) struct ValueReader<'a> {
 
 // The value where all is read, if nothing is open.
 fn whole<'a>(frames: Vec<Frame<'a>>, value: RawValue) -> Option<RawValue>
-    ensures { option_map value_syntax result ≡ whole (stack frames.items) (value_syntax value) }
+    ensures { option_map value_syntax result ≡ whole (stack frames.entry.items) (value_syntax value) }
 {
     let done = frames.is_empty();
     drop(frames);
@@ -68,12 +68,7 @@ impl<'a> ValueReader<'a> {
                 Taken::Stops => self.take_own(alloc, records, token),
                 Taken::High => Ok(Taken::High),
             },
-            Focus::Need(_) | Focus::Begun(_) | Focus::Negative | Focus::Counted(_) => {
-                self.take_own(alloc, records, token)
-            }
-            Focus::Name(_) | Focus::Equal(_) | Focus::Full(_) => {
-                self.take_own(alloc, records, token)
-            }
+            _ => self.take_own(alloc, records, token),
         }
     }
 
@@ -100,7 +95,7 @@ impl<'a> ValueReader<'a> {
 
     // What is at hand.
     fn put(&mut self, focus: Focus<'a>)
-        ensures focus { self.new.focus ≡ focus }
+        ensures focus { self.new.focus ≡ focus.entry }
         ensures frames { self.new.frames.items ≡ self.old.frames.items }
     {
         drop(mem::replace(&mut self.focus, focus));
@@ -109,7 +104,7 @@ impl<'a> ValueReader<'a> {
     // The reading goes on.
     fn go(&mut self, focus: Focus<'a>) -> Taken
         ensures goes { result ≡ Taken.Goes }
-        ensures state { value_state self.new ≡ state_of (stack self.old.frames.items) focus }
+        ensures state { value_state self.new ≡ state_of (stack self.old.frames.items) focus.entry }
     {
         self.put(focus);
         Taken::Goes
@@ -132,7 +127,7 @@ impl<'a> ValueReader<'a> {
         token: &Token,
     ) -> Result<Taken, AllocError>
         requires wanted { self.old.focus ≡ Focus.Negative }
-        ensures { IfOk result (λ t. Moves None (begin (map record_tree records.now) (stack self.old.frames.items) (wanted_shape wanted) token.now.kind token.now.start) t (value_state self.new)) }
+        ensures { IfOk result (λ t. Moves None (begin (map record_tree records.now) (stack self.old.frames.items) (wanted_shape wanted.entry) token.now.kind token.now.start) t (value_state self.new)) }
     {
         match wanted.sort() {
             Sort::Truth => Ok(self.take_truth(token)),
@@ -185,7 +180,7 @@ impl<'a> ValueReader<'a> {
 
     fn take_list(&mut self, item: Wanted<'a>, token: &Token) -> Taken
         requires wanted { self.old.focus ≡ Focus.Negative }
-        ensures { Moves None (list_begin (stack self.old.frames.items) (wanted_shape item) token.now.kind) result (value_state self.new) }
+        ensures { Moves None (list_begin (stack self.old.frames.items) (wanted_shape item.entry) token.now.kind) result (value_state self.new) }
     {
         match &token.kind {
             Kind::Sign(Symbol::LeftBracket) => self.go(Focus::Begun(item)),
@@ -254,7 +249,7 @@ impl<'a> ValueReader<'a> {
         token: &Token,
     ) -> Result<Taken, AllocError>
         requires wanted { self.old.focus ≡ Focus.Negative }
-        ensures { IfOk result (λ t. Moves None (begun (map record_tree records.now) (stack self.old.frames.items) (wanted_shape item) token.now.kind token.now.start) t (value_state self.new)) }
+        ensures { IfOk result (λ t. Moves None (begun (map record_tree records.now) (stack self.old.frames.items) (wanted_shape item.entry) token.now.kind token.now.start) t (value_state self.new)) }
     {
         match &token.kind {
             Kind::Sign(Symbol::RightBracket) => {
@@ -343,7 +338,7 @@ impl<'a> ValueReader<'a> {
     // One token behind a field's name.
     fn take_equal(&mut self, wanted: Wanted<'a>, token: &Token) -> Taken
         requires wanted { self.old.focus ≡ Focus.Negative }
-        ensures { Moves None (equal_act (stack self.old.frames.items) (wanted_shape wanted) token.now.kind) result (value_state self.new) }
+        ensures { Moves None (equal_act (stack self.old.frames.items) (wanted_shape wanted.entry) token.now.kind) result (value_state self.new) }
     {
         match &token.kind {
             Kind::Sign(Symbol::Equal) => self.go(Focus::Need(wanted)),
@@ -380,7 +375,7 @@ impl<'a> ValueReader<'a> {
         token: &Token,
     ) -> Result<Taken, AllocError>
         requires wanted { self.old.focus ≡ Focus.Negative }
-        ensures { IfOk result (λ t. Moves None (item_end (stack self.old.frames.items) (wanted_shape item) (map value_syntax items.items) token.now.kind) t (value_state self.new)) }
+        ensures { IfOk result (λ t. Moves None (item_end (stack self.old.frames.items) (wanted_shape item.entry) (map value_syntax items.items) token.now.kind) t (value_state self.new)) }
     {
         match &token.kind {
             Kind::Sign(Symbol::Semicolon) => {
@@ -454,7 +449,7 @@ impl<'a> ValueReader<'a> {
 
     /// The value where all is read, if it is one.
     pub(crate) fn finish(self) -> Option<RawValue>
-        ensures found { option_map value_syntax result ≡ value_finish (value_state self) }
+        ensures found { option_map value_syntax result ≡ value_finish (value_state self.entry) }
     {
         let ValueReader { frames, focus } = self;
         match focus {

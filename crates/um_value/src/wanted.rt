@@ -1,5 +1,7 @@
 // The shape of the value that is wanted next.
 ghost use Rattle.std.specs.Prelude.{◌≡◌};
+ghost use Rattle.um_tree.specs.TypeTree.{shape_tree, type_tree};
+ghost use Rattle.um_tree.specs.Shapes.{type_shape};
 ghost use Rattle.um_value.specs.ValueView.{wanted_shape, sort_shape};
 
 use um_tree::{Shape, Ty};
@@ -22,7 +24,7 @@ pub(crate) enum Sort<'a> {
 
 impl<'a> Wanted<'a> {
     pub(crate) fn sort(self) -> Sort<'a>
-        ensures { sort_shape result ≡ wanted_shape self }
+        ensures { sort_shape result ≡ wanted_shape self.entry }
     {
         match self {
             Wanted::OfShape(shape) => shape_sort(shape),
@@ -32,7 +34,7 @@ impl<'a> Wanted<'a> {
 }
 
 fn shape_sort<'a>(shape: &'a Shape) -> Sort<'a>
-    ensures { sort_shape result ≡ wanted_shape (Wanted.OfShape shape) }
+    ensures { sort_shape result ≡ shape_tree shape.now }
 {
     match shape {
         Shape::Bool => Sort::Truth,
@@ -43,7 +45,7 @@ fn shape_sort<'a>(shape: &'a Shape) -> Sort<'a>
 }
 
 fn type_sort<'a>(ty: &'a Ty) -> Sort<'a>
-    ensures { sort_shape result ≡ wanted_shape (Wanted.OfType ty) }
+    ensures { sort_shape result ≡ type_shape (type_tree ty.now) }
 {
     match ty {
         Ty::Bool => Sort::Truth,
