@@ -1,10 +1,9 @@
 -- What `read_value` answers: the input of a value text, or the first fault of its tokens, its shape, its names, its ranges.
 -- Source: this project's own.
-use Rattle.std.specs.Prelude.{◌≡◌, ℕ, ◌≤◌, List, length, Option, Some, None, Result, Ok, Err}
+use Rattle.std.specs.Prelude.{◌≡◌, ℕ, ◌≤◌, ◌⊎◌, List, length, Option, Some, None, Result, Ok, Err}
 use Rattle.std.specs.Str.{chars}
 use Rattle.um_syntax.specs.declared.token.Token.{Token}
-use Rattle.um_syntax.specs.declared.token.LexStop.{LexStop}
-use Rattle.um_syntax.specs.declared.token.LexStop.TheVariants.{BadChar, NumberRange, PowerText, NoMemory}
+use Rattle.um_syntax.specs.declared.token.LexStop.TheVariants.{BadChar, NumberRange, PowerText}
 use Rattle.um_syntax.specs.Lexing.{HasTokens, HasFault}
 use Rattle.um_tree.specs.TypeTree.{ShapeTree}
 use Rattle.um_tree.specs.ValueTree.{input_tree}
@@ -18,12 +17,9 @@ use Rattle.um_value.specs.ValueGrammar.{IsValueText, value_height}
 use Rattle.um_value.specs.ValueNames.{name_fault, range_fault, input_of}
 use Rattle.um_value.specs.ValueStops.{StopsAtValue}
 
--- where a text without tokens has its fault
-abbrev pub IsFaultAt : ℕ → LexStop → Type 0
-IsFaultAt at (BadChar place) = at ≡ place
-IsFaultAt at (NumberRange place) = at ≡ place
-IsFaultAt at (PowerText place) = at ≡ place
-IsFaultAt at NoMemory = ⊥
+-- the characters have their fault at this place: no token stands there, or a number or a power breaks its rule
+abbrev pub HasFaultAt : List ℕ → ℕ → Type 0
+HasFaultAt chars at = HasFault chars (BadChar at) ⊎ (HasFault chars (NumberRange at) ⊎ HasFault chars (PowerText at))
 
 -- the bytes are this value text of the shape
 pub record HasValueText (known : Known) (s : ShapeTree) (text : List ℕ) (v : ValueSyntax) : Type 0 where
@@ -44,7 +40,7 @@ abbrev pub IsInputOf : Known → ShapeTree → List ℕ → Result Input InputSt
 IsInputOf known s text (Ok input) =
     (v : ValueSyntax) × HasValueText known s text v × (name_fault (measure_unit known) v ≡ None)
     × (range_fault (measure_unit known) v ≡ None) × (input_tree input ≡ input_of (measure_unit known) v)
-IsInputOf known s text (Err (stop.Text at)) = (fault : LexStop) × HasFault (chars text) fault × IsFaultAt at fault
+IsInputOf known s text (Err (stop.Text at)) = HasFaultAt (chars text) at
 IsInputOf known s text (Err (stop.Shape at)) = HasNoValueText known s text at
 IsInputOf known s text (Err (stop.Names at)) =
     (v : ValueSyntax) × HasValueText known s text v × (name_fault (measure_unit known) v ≡ Some at)

@@ -3,8 +3,7 @@
 use Rattle.std.specs.Prelude.{◌≡◌, ℕ, ◌≤◌, List, Option, Some, None, Result, Ok, Err}
 use Rattle.std.specs.Str.{chars}
 use Rattle.um_syntax.specs.declared.token.Token.{Token}
-use Rattle.um_syntax.specs.declared.token.LexStop.{LexStop}
-use Rattle.um_syntax.specs.Lexing.{HasTokens, HasFault}
+use Rattle.um_syntax.specs.Lexing.{HasTokens}
 use Rattle.um_units.specs.PowerMap.{PowerMap}
 use Rattle.um_tree.specs.TypeTree.{ShapeTree}
 use Rattle.um_tree.specs.ProgramTree.{RecordTree}
@@ -18,12 +17,12 @@ use Rattle.um_value.specs.ValueSyntax.{ValueSyntax, value_syntax}
 use Rattle.um_value.specs.ValueGrammar.{IsValueText, value_height}
 use Rattle.um_value.specs.ValueNames.{name_fault, range_fault, input_of}
 use Rattle.um_value.specs.ValueStops.{StopsAtValue}
-use Rattle.um_value.specs.InputRead.{IsFaultAt}
+use Rattle.um_value.specs.InputRead.{HasFaultAt}
 
 -- the tokens of the text
 abbrev pub IsLexed : List ℕ → Result (List Token) InputStop → Type 0
 IsLexed text (Ok tokens) = HasTokens (chars text) tokens
-IsLexed text (Err (stop.Text at)) = (fault : LexStop) × HasFault (chars text) fault × IsFaultAt at fault
+IsLexed text (Err (stop.Text at)) = HasFaultAt (chars text) at
 IsLexed text (Err (stop.Shape at)) = ⊥
 IsLexed text (Err (stop.Names at)) = ⊥
 IsLexed text (Err (stop.PowerRange at)) = ⊥

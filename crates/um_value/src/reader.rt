@@ -60,7 +60,7 @@ impl<'a> ValueReader<'a> {
         token: &Token,
     ) -> Result<Taken, AllocError>
         requires low { value_least (value_state self.old) ≤ greatest_height }
-        ensures taken { IfOk result (λ t. ValueTakes (map record_tree records.now) (value_state self.old) token.now t (value_state self.new)) }
+        ensures { IfOk result (λ t. ValueTakes (map record_tree records.now) (value_state self.old) token.now t (value_state self.new)) }
     {
         match &mut self.focus {
             Focus::InNote(_, note) => match note.take(alloc, token)? {

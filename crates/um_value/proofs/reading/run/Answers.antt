@@ -20,7 +20,7 @@ loop-i-preserved c =
     let m = machine_of_values (map record_tree c.args.records.now) s in
     let x = c.index-tokens-i.result in
     let same : get_or c.args.tokens.now c.loop-i.i x ≡ x = search (rules, c.index-tokens-i.is) in
-    let given = rw c.in-Goes.is at c.in_ok-take.ensures.taken in
+    let given = c.in-Ok-Goes.ensures in
     goes m greatest_height c.args.tokens.now c.loop-i.i x (value_state c.loop-i.reader) (value_state c.take.new.self) c.loop-i-test.true same c.loop-i.invariant (given s)
 
 pub returns-in-Stops : goal.returns-in-Stops
@@ -29,7 +29,7 @@ returns-in-Stops c =
     let m = machine_of_values (map record_tree c.args.records.now) s in
     let x = c.index-tokens-i.result in
     let same : get_or c.args.tokens.now c.loop-i.i x ≡ x = search (rules, c.index-tokens-i.is) in
-    let given = rw c.in-Stops.is at c.in_ok-take.ensures.taken in
+    let given = c.in-Ok-Stops.ensures in
     stops m greatest_height c.args.tokens.now value_syntax c.loop-i.i x (value_state c.loop-i.reader) (value_state c.take.new.self) c.loop-i-test.true same c.loop-i.invariant (given s)
 
 pub returns-in-High : goal.returns-in-High
@@ -38,5 +38,5 @@ returns-in-High c =
     let m = machine_of_values (map record_tree c.args.records.now) s in
     let x = c.index-tokens-i.result in
     let same : get_or c.args.tokens.now c.loop-i.i x ≡ x = search (rules, c.index-tokens-i.is) in
-    let given = rw c.in-High.is at c.in_ok-take.ensures.taken in
+    let given = c.in-Ok-High.ensures in
     too_high m greatest_height c.args.tokens.now value_syntax c.loop-i.i x (value_state c.loop-i.reader) (value_state c.take.new.self) c.loop-i-test.true same c.loop-i.invariant (given s)
