@@ -19,7 +19,7 @@ use Rattle.um_value.specs.ValueStops.{StopsAtValue}
 
 -- the characters have their fault at this place: no token stands there, or a number or a power breaks its rule
 abbrev pub HasFaultAt : List ℕ → ℕ → Type 0
-HasFaultAt chars at = HasFault chars (BadChar at) ⊎ (HasFault chars (NumberRange at) ⊎ HasFault chars (PowerText at))
+HasFaultAt cs at = HasFault cs (BadChar at) ⊎ (HasFault cs (NumberRange at) ⊎ HasFault cs (PowerText at))
 
 -- the bytes are this value text of the shape
 pub record HasValueText (known : Known) (s : ShapeTree) (text : List ℕ) (v : ValueSyntax) : Type 0 where
