@@ -5,6 +5,7 @@ pub mod ValueGrammar
 pub mod ValueNames
 pub mod ValueStops
 pub mod InputRead
+pub mod Laws
 -- What mirrors the code: the machine that reads token by token, and the reader by the machine's states.
 pub mod RangeStops
 pub mod ReadingParts

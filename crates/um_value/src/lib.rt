@@ -6,6 +6,7 @@
 
 mod frame;
 mod inputs;
+pub mod laws;
 mod measures;
 mod names;
 mod raw;
