@@ -199,7 +199,7 @@ module _ (records : List RecordTree) where
   at_end (Counted frames at negative value) u (None, rest, e, c) =
       closed frames (raw_number at negative value None) u (subst (λ y. Closes records frames (raw_number at negative value None) y u) (sym e) c)
   at_end (Counted frames at negative value) u (Some n, rest, w, c) = absurd (no_first w.3.0 w.0 w.3.3)
-  at_end (InNote frames at negative value note) u (inside, last, rest, n, e, found, f, c) = absurd (nothing_behind inside last f.0 rest (e ∙ ap (λ w. inside ++ w) f.2))
+  at_end (InNote frames at negative value note) u (inside, last, rest, n, e, found, f, c) = absurd (nothing_behind inside f.0 rest (e ∙ ap (λ w. inside ++ w) f.2))
   at_end (NeedName frames f) u (v, mid, p, c) = absurd (no_first p.2.0 p.0 p.2.2)
   at_end (NeedEqual frames s) u (v, next, mid, f, p, c) = absurd (no_first f.0 next f.2)
   at_end (Have frames v) u h = closed frames v u h
