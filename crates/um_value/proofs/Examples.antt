@@ -16,7 +16,7 @@ use Rattle.um_value.specs.ValueGrammar.{IsValueText}
 use Rattle.um_value.specs.ValueNames.{name_fault, range_fault}
 use Rattle.um_value.specs.ValueMachine.{NoValue, value_finish, machine_of_values}
 
-one_number : Frac
+abbrev one_number : Frac
 one_number = record { num = pos 1; den = pos 1; positive = omega (arith, ints); den_fits = omega (arith, ints); above = omega (arith, ints); num_fits = omega (arith, ints); lowest = gcd-one 1 }
 
 abbrev token : Kind → ℕ → Bool → Token

@@ -1,5 +1,5 @@
 -- Inputs that are made one after another.
-use Rattle.std.proofs.Common.{◌≡◌, List, [], ◌∷◌, ◌++◌, refl, ap}
+use Rattle.std.proofs.Common.{◌≡◌, List, [], ◌∷◌, ◌++◌, refl, sym, ap, ◌∙◌}
 use Rattle.um_tree.specs.ValueTree.{InputTree, InputTrees, no_inputs, more_inputs, inputs_in_order}
 
 -- these, and then the others
@@ -14,3 +14,8 @@ behind_none (i ∷ is) = ap (more_inputs i) (behind_none is)
 pub behind_one : (is : List InputTree) (i : InputTree) (rest : InputTrees) → inputs_behind (is ++ i ∷ []) rest ≡ inputs_behind is (more_inputs i rest)
 behind_one [] i rest = refl
 behind_one (j ∷ is) i rest = ap (more_inputs j) (behind_one is i rest)
+
+-- one more input
+pub input_made : (whole rest : InputTrees) (old new : List InputTree) (i j : InputTree) → whole ≡ inputs_behind old (more_inputs j rest) → i ≡ j → new ≡ old ++ i ∷ [] → whole ≡ inputs_behind new rest
+input_made whole rest old new i j so_far same pushed =
+    so_far ∙ sym (behind_one old j rest) ∙ ap (λ (k : InputTree). inputs_behind (old ++ k ∷ []) rest) (sym same) ∙ ap (λ (is : List InputTree). inputs_behind is rest) (sym pushed)

@@ -8,7 +8,8 @@ use Rattle.um_reader.specs.declared.taken.Taken.{Taken}
 use Rattle.um_reader.specs.declared.taken.Taken.TheVariants as taken
 use Rattle.um_types.specs.UnitStops.{greatest_height}
 use Rattle.um_types.specs.NoteMachine.{NoteState, NoNote, note_step, note_finish, note_least, machine_of_notes}
-use Rattle.um_value.specs.ValueMachine.{Frame, ValueState, InNote, NoValue, note_ends, note_goes, own_act, value_act, value_step, value_finish, frames_height, value_least}
+use Rattle.um_value.specs.ValueSyntax.{ValueSyntax}
+use Rattle.um_value.specs.ValueMachine.{Frame, ValueState, InNote, Have, NoValue, note_ends, note_goes, own_act, value_act, value_step, value_finish, frames_height, value_least}
 use Rattle.um_types.specs.declared.note_reader.NoteReader.{NoteReader}
 use Rattle.um_value.specs.declared.frame.Literal.{Literal}
 use Rattle.um_value.specs.declared.frame.Focus.{Focus}
@@ -23,6 +24,13 @@ IsOwn records st x = value_step records st x ≡ own_act records st x.kind x.sta
 
 in_note : (frames : List Frame) (at : ℕ) (negative : Bool) (value : Frac) (n : NoteState) → InNote frames at negative value n ≢ NoValue
 in_note frames at negative value n e = cc
+
+in_have : (frames : List Frame) (v : ValueSyntax) → Have frames v ≢ NoValue
+in_have frames v e = cc
+
+-- a value is at hand
+pub value_given : (frames : List Frame) (v : ValueSyntax) (next new : ValueState) (given : Taken) → given ≡ taken.Goes → new ≡ Have frames v → next ≡ Have frames v → Moves None next given new
+value_given frames v next new given goes is e = subst (λ (g : Taken). Moves None next g new) (sym goes) (is ∙ sym e, (λ h. in_have frames v (sym is ∙ h)))
 
 module _ (records : List RecordTree) where
   pub own_takes : (old : ValueState) (x : Token) (given : Taken) (new : ValueState) → IsOwn records old x → value_least old ≤ greatest_height

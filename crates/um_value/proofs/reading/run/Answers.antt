@@ -20,23 +20,25 @@ loop-i-preserved c =
     let m = machine_of_values (map record_tree c.args.records.now) s in
     let x = c.index-tokens-i.result in
     let same : get_or c.args.tokens.now c.loop-i.i x ≡ x = search (rules, c.index-tokens-i.is) in
-    let given = c.in-Ok-Goes.ensures in
+    let given = rw c.in-Ok-Goes.field-0-is at c.in-Ok-Goes.ensures in
     goes m greatest_height c.args.tokens.now c.loop-i.i x (value_state c.loop-i.reader) (value_state c.take.new.self) c.loop-i-test.true same c.loop-i.invariant (given s)
 
-pub returns-in-Stops : goal.returns-in-Stops
-returns-in-Stops c =
+pub returns-in-Ok-Stops : goal.returns-in-Ok-Stops
+returns-in-Ok-Stops c =
     let s = shape_tree c.args.shape.now in
     let m = machine_of_values (map record_tree c.args.records.now) s in
     let x = c.index-tokens-i.result in
     let same : get_or c.args.tokens.now c.loop-i.i x ≡ x = search (rules, c.index-tokens-i.is) in
-    let given = c.in-Ok-Stops.ensures in
-    stops m greatest_height c.args.tokens.now value_syntax c.loop-i.i x (value_state c.loop-i.reader) (value_state c.take.new.self) c.loop-i-test.true same c.loop-i.invariant (given s)
+    let given = rw c.in-Ok-Stops.field-0-is at c.in-Ok-Stops.ensures in
+    rw c.stopped.ensures
+    (stops m greatest_height c.args.tokens.now value_syntax c.loop-i.i x (value_state c.loop-i.reader) (value_state c.take.new.self) c.loop-i-test.true same c.loop-i.invariant (given s))
 
-pub returns-in-High : goal.returns-in-High
-returns-in-High c =
+pub returns-in-Ok-High : goal.returns-in-Ok-High
+returns-in-Ok-High c =
     let s = shape_tree c.args.shape.now in
     let m = machine_of_values (map record_tree c.args.records.now) s in
     let x = c.index-tokens-i.result in
     let same : get_or c.args.tokens.now c.loop-i.i x ≡ x = search (rules, c.index-tokens-i.is) in
-    let given = c.in-Ok-High.ensures in
-    too_high m greatest_height c.args.tokens.now value_syntax c.loop-i.i x (value_state c.loop-i.reader) (value_state c.take.new.self) c.loop-i-test.true same c.loop-i.invariant (given s)
+    let given = rw c.in-Ok-High.field-0-is at c.in-Ok-High.ensures in
+    rw c.stopped-in-Ok-High.ensures
+    (too_high m greatest_height c.args.tokens.now value_syntax c.loop-i.i x (value_state c.loop-i.reader) (value_state c.take.new.self) c.loop-i-test.true same c.loop-i.invariant (given s))
