@@ -13,7 +13,7 @@ use Rattle.um_tree.specs.TypeTree.{num_shape, list_shape}
 use Rattle.um_reader.specs.Machine.{reached}
 use Rattle.um_value.specs.ValueSyntax.{raw_number, raw_list, raw_none, raw_more}
 use Rattle.um_value.specs.ValueGrammar.{IsValueText}
-use Rattle.um_value.specs.ValueNames.{name_fault, range_fault}
+use Rattle.um_value.specs.ValueNames.{name_fault}
 use Rattle.um_value.specs.ValueMachine.{NoValue, value_finish, machine_of_values}
 
 abbrev one_number : Frac

@@ -1,5 +1,5 @@
 -- What the tokens behind a state have to be so that the whole is a value: the rest of what is open.
-use Rattle.std.proofs.Common.{◌≡◌, ◌≢◌, ℕ, Bool, true, false, List, [], ◌∷◌, ◌++◌, Option, Some, None, refl, sym, ap, ◌∙◌}
+use Rattle.std.proofs.Common.{◌≡◌, ◌≢◌, ℕ, Bool, true, List, [], ◌∷◌, ◌++◌, Option, Some, refl, ap, ◌∙◌}
 use Rattle.um_frac.specs.declared.number.Frac.{Frac}
 use Rattle.um_syntax.specs.declared.token.Token.{Token}
 use Rattle.um_syntax.specs.declared.token.Kind.{Kind}
@@ -11,7 +11,7 @@ use Rattle.um_tree.specs.Shapes.{type_shape}
 use Rattle.um_reader.specs.Machine.{runs}
 use Rattle.um_types.specs.TypeGrammar.{FirstKind, FirstSign}
 use Rattle.um_types.specs.NoteMachine.{NoteState, NeedNote, HaveHole, InUnit, NoNote, note_step, note_finish}
-use Rattle.um_value.specs.ValueSyntax.{ValueSyntax, ValueSyntaxes, raw_number, raw_list, raw_record, raw_none, raw_more, behind}
+use Rattle.um_value.specs.ValueSyntax.{ValueSyntax, ValueSyntaxes, raw_number, raw_list, raw_record, raw_more, behind}
 use Rattle.um_value.specs.ValueGrammar.{FirstNumber, FirstGlued, WrittenSpells, PlainSpells, NamedSpells, Spells, ItemsSpell, MoreItemsSpell, MoreFieldsSpell}
 use Rattle.um_value.specs.ValueMachine.{Frame, InList, InRecord, ValueState, Need, Begun, Negative, Counted, InNote, NeedName, NeedEqual, Have, NoValue, note_goes}
 

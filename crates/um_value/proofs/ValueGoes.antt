@@ -15,10 +15,10 @@ use Rattle.um_tree.specs.Shapes.{type_shape}
 use Rattle.um_reader.specs.Machine.{runs}
 use Rattle.um_reader.proofs.Reaching.{runs_refused}
 use Rattle.um_reader.proofs.Readers.{none_some}
-use Rattle.um_types.specs.TypeGrammar.{FirstKind, FirstSign}
+use Rattle.um_types.specs.TypeGrammar.{FirstSign}
 use Rattle.um_types.specs.NoteMachine.{NoteState, NeedNote, NoNote, note_act, note_step, note_finish}
 use Rattle.um_value.specs.ValueSyntax.{ValueSyntax, ValueSyntaxes, raw_truth, raw_number, raw_list, raw_record, raw_none, raw_more, behind}
-use Rattle.um_value.specs.ValueGrammar.{FirstNumber, WrittenSpells, PlainSpells, NamedSpells, Spells, ItemsSpell, MoreItemsSpell, FieldsSpell, MoreFieldsSpell}
+use Rattle.um_value.specs.ValueGrammar.{WrittenSpells, PlainSpells, NamedSpells, Spells, ItemsSpell, FieldsSpell}
 use Rattle.um_value.specs.ValueMachine.{Frame, InList, InRecord, ValueState, Need, Begun, Negative, Counted, InNote, NeedName, NeedEqual, Have, NoValue, truth_begin, number_begin, list_begin, open_fields, open_record, record_begin, begin, begun, negative_act, named, equal_act, item_end, next_end, last_end, ended, counted, note_end, note_ends, note_goes, value_step, whole, value_finish}
 use Rattle.um_value.proofs.NotesRead.{note_is_found, greater_refused}
 use Rattle.um_value.proofs.ValueFrom.{Closes, From, no_first, nothing_behind, same_head, same_tail, first_kind, first_number, first_glued, behind_last, note_goes_on}

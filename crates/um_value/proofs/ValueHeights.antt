@@ -14,7 +14,7 @@ use Rattle.um_tree.specs.Shapes.{type_shape}
 use Rattle.um_reader.proofs.Readers.{none_some, some_same}
 use Rattle.um_types.specs.NoteMachine.{NoteState, NeedNote, HaveHole, InUnit, NoNote, note_step, note_finish, note_least}
 use Rattle.um_types.proofs.NoteLaws.{note_up, note_found_height}
-use Rattle.um_value.specs.ValueSyntax.{ValueSyntax, ValueSyntaxes, raw_number, raw_list, raw_record, raw_none, behind, raws_in_order}
+use Rattle.um_value.specs.ValueSyntax.{ValueSyntax, ValueSyntaxes, raw_number, raw_none, behind, raws_in_order}
 use Rattle.um_value.specs.ValueGrammar.{value_height, raws_height}
 use Rattle.um_value.specs.ValueMachine.{Frame, InList, InRecord, ValueState, Need, Begun, Negative, Counted, InNote, NeedName, NeedEqual, Have, NoValue, truth_begin, number_begin, list_begin, open_fields, open_record, record_begin, begin, begun, negative_act, named, equal_act, item_end, next_end, last_end, ended, counted, note_end, note_ends, note_goes, own_act, value_step, whole, value_finish, earlier_height, frames_height, value_least}
 

@@ -1,10 +1,10 @@
 -- One turn of the loop over the tokens of a value text, and its end.
 use Rattle.std.proofs.Common.{◌≡◌, ℕ, ◌+◌, ◌≤◌, ◌<◌, List, [], ◌∷◌, ◌++◌, length, take, get_or, Option, Some, None, sym, ap, subst, ◌∙◌, arith}
-use Rattle.std.specs.Prelude.{option_map, Err, Ok}
+use Rattle.std.specs.Prelude.{Err, Ok}
 use Rattle.std.proofs.lemmas.List.{take_more}
 use Rattle.um_reader.specs.Machine.{Machine, reached}
 use Rattle.um_reader.specs.Takes.{Takes}
-use Rattle.um_reader.specs.RunTo.{IsRead, IsHigh, RunAll}
+use Rattle.um_reader.specs.RunTo.{IsRead, RunAll}
 use Rattle.um_reader.specs.declared.reading.ReadStop.TheVariants as stop
 use Rattle.um_reader.specs.declared.taken.Taken.TheVariants as taken
 use Rattle.um_reader.proofs.Readers.{one_more}

@@ -1,5 +1,5 @@
 -- What one token gives, from the next state: heights aside, and with them.
-use Rattle.std.proofs.Common.{◌≡◌, ◌≢◌, ℕ, ◌≤◌, Bool, List, Option, None, refl, sym, ap, subst, ◌∙◌, arith}
+use Rattle.std.proofs.Common.{◌≡◌, ◌≢◌, ℕ, ◌≤◌, Bool, List, None, refl, sym, ap, subst, ◌∙◌, arith}
 use Rattle.um_frac.specs.declared.number.Frac.{Frac}
 use Rattle.um_syntax.specs.declared.token.Token.{Token}
 use Rattle.um_tree.specs.ProgramTree.{RecordTree}
@@ -7,9 +7,9 @@ use Rattle.um_reader.specs.Takes.{Takes}
 use Rattle.um_reader.specs.declared.taken.Taken.{Taken}
 use Rattle.um_reader.specs.declared.taken.Taken.TheVariants as taken
 use Rattle.um_types.specs.UnitStops.{greatest_height}
-use Rattle.um_types.specs.NoteMachine.{NoteState, NoNote, note_step, note_finish, note_least, machine_of_notes}
+use Rattle.um_types.specs.NoteMachine.{NoteState, NoNote, note_step, note_finish, machine_of_notes}
 use Rattle.um_value.specs.ValueSyntax.{ValueSyntax}
-use Rattle.um_value.specs.ValueMachine.{Frame, ValueState, InNote, Have, NoValue, note_ends, note_goes, own_act, value_act, value_step, value_finish, frames_height, value_least}
+use Rattle.um_value.specs.ValueMachine.{Frame, ValueState, InNote, Have, NoValue, note_ends, note_goes, own_act, value_step, value_finish, value_least}
 use Rattle.um_types.specs.declared.note_reader.NoteReader.{NoteReader}
 use Rattle.um_value.specs.declared.frame.Literal.{Literal}
 use Rattle.um_value.specs.declared.frame.Focus.{Focus}

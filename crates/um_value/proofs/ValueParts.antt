@@ -1,5 +1,5 @@
 -- What the parts of `read_value` come to.
-use Rattle.std.proofs.Common.{◌≡◌, ℕ, ◌≤◌, List, [], length, Option, Some, None, refl, sym, ap, subst, ◌∙◌, arith, Ok, Err}
+use Rattle.std.proofs.Common.{◌≡◌, ℕ, List, [], length, Option, sym, subst, arith, Ok, Err}
 use Rattle.std.specs.Prelude.{All, IfOk, Result}
 use Rattle.um_syntax.specs.declared.token.Token.{Token}
 use Rattle.um_tree.specs.declared.value.Input.{Input}
@@ -13,9 +13,8 @@ use Rattle.um_measures.specs.Known.{Known, measure_unit}
 use Rattle.um_reader.specs.Stops.{Fails, HighAt}
 use Rattle.um_types.specs.UnitStops.{greatest_height}
 use Rattle.um_units.specs.PowerMap.{PowerMap}
-use Rattle.um_value.specs.ValueSyntax.{ValueSyntax, value_syntax}
+use Rattle.um_value.specs.ValueSyntax.{value_syntax}
 use Rattle.um_value.specs.ValueGrammar.{IsValueText, value_height}
-use Rattle.um_value.specs.ValueNames.{name_fault, range_fault, input_of}
 use Rattle.um_value.specs.ValueStops.{StopsAtValue}
 use Rattle.um_value.specs.InputRead.{HasValueText, IsInputOf}
 use Rattle.um_value.specs.ReadingParts.{IsLexed, IsRawOf, IsNamed}

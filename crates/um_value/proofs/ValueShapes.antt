@@ -1,5 +1,5 @@
 -- The value of a value text has its shape.
-use Rattle.std.proofs.Common.{◌≡◌, ℕ, List, [], ◌∷◌, map, Option, refl}
+use Rattle.std.proofs.Common.{ℕ, List, [], ◌∷◌, map, Option, refl}
 use Rattle.um_units.specs.PowerMap.{PowerMap}
 use Rattle.um_syntax.specs.declared.token.Token.{Token}
 use Rattle.um_tree.specs.TypeTree.{ShapeTree}

@@ -1,11 +1,10 @@
 -- Each shape of a formed program has a value text without notes.
-use Rattle.std.proofs.Common.{◌≡◌, ℕ, zero, suc, ◌<◌, ◌+◌, max, Bool, true, false, List, [], ◌∷◌, ◌++◌, length, pos, slice_get, Option, Some, None, refl, sym, ap, subst, ◌∙◌, append_assoc, arith}
+use Rattle.std.proofs.Common.{◌≡◌, ℕ, zero, suc, ◌<◌, max, true, false, List, [], ◌∷◌, ◌++◌, length, pos, slice_get, Some, None, refl, sym, ap, subst, append_assoc, arith}
 use Rattle.std.specs.Prelude.{All}
 use Rattle.std.proofs.lemmas.Int.{ints}
 use Rattle.std.proofs.lemmas.List.Elements.{All-head, All-tail}
 use Rattle.um_frac.specs.declared.number.Frac.{Frac}
 use Rattle.um_frac.proofs.Gcd.{gcd-one}
-use Rattle.um_units.specs.PowerMap.{PowerMap}
 use Rattle.um_syntax.specs.declared.token.Token.{Token}
 use Rattle.um_syntax.specs.declared.token.Kind.{Kind}
 use Rattle.um_syntax.specs.declared.token.Kind.TheVariants as kind

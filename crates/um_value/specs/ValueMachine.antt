@@ -1,7 +1,7 @@
 -- Reading a value text of a shape token by token, with the machine of notes inside.
 -- Where the note inside refuses a token, it ends, and the token is looked at again.
 -- Source: this project's own.
-use Rattle.std.specs.Prelude.{◌≡◌, ℕ, max, Bool, true, false, cond, List, [], ◌∷◌, ◌++◌, slice_get, Option, Some, None}
+use Rattle.std.specs.Prelude.{ℕ, max, Bool, true, false, cond, List, [], ◌∷◌, ◌++◌, slice_get, Option, Some, None}
 use Rattle.std.specs.Str.{bytes_eq}
 use Rattle.um_frac.specs.declared.number.Frac.{Frac}
 use Rattle.um_syntax.specs.declared.token.Token.{Token}

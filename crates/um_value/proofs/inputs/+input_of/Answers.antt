@@ -1,5 +1,4 @@
 use Rattle.std.proofs.Common.{◌≡◌, ◌+◌, map, sym, ap, ◌∙◌}
-use Rattle.std.specs.Prelude.{Option}
 use Rattle.um_tree.specs.ValueTree.{input_tree}
 use Rattle.um_measures.specs.Known.{short_unit}
 use Rattle.um_measures.specs.UnitNames.{or_else}

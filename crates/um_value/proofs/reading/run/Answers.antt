@@ -1,11 +1,11 @@
-use Rattle.std.proofs.Common.{rules, ◌≡◌, ◌≤◌, arith, sym, subst, map, get_or, ◌∙◌}
+use Rattle.std.proofs.Common.{rules, ◌≡◌, ◌≤◌, arith, sym, subst, map, get_or}
 use Rattle.um_tree.specs.TypeTree.{shape_tree}
 use Rattle.um_tree.specs.ProgramTree.{record_tree}
 use Rattle.um_types.specs.UnitStops.{greatest_height}
 use Rattle.um_value.specs.ValueSyntax.{value_syntax}
 use Rattle.um_value.specs.ValueMachine.{value_least, machine_of_values}
 use Rattle.um_value.specs.ValueView.{value_state}
-use Rattle.um_value.proofs.ValueLoop.{goes, too_high, stops, all_read, none_read}
+use Rattle.um_value.proofs.ValueLoop.{goes, too_high, stops}
 use Rattle.um_value.proofs.reading.run.Goals as goal
 
 pub loop-i-init : goal.loop-i-init
