@@ -3,7 +3,7 @@
 use Rattle.std.specs.Prelude.{ℕ, Bool, true, false, ◌&&◌, List, [], ◌∷◌, ◌++◌, codes, map, slice_get, Option, Some, None}
 use Rattle.um_frac.specs.declared.number.Frac.{Frac}
 use Rattle.um_units.specs.declared.Term.{Term}
-use Rattle.um_units.specs.PowerMap.{PowerMap, one, nth}
+use Rattle.um_units.specs.PowerMap.{PowerMap, nth}
 use Rattle.um_units.specs.Variables.{variables_below}
 use Rattle.um_tree.specs.TypeTree.{TypeTree, bool_type, num_type, list_type, record_type}
 use Rattle.um_tree.specs.ProgramTree.{FieldTree, RecordTree, ProgramTree}
@@ -15,12 +15,6 @@ use Rattle.um_show.specs.NumberText.{number_text}
 use Rattle.um_show.specs.UnitText.{unit_text}
 
 -- ---- what a type is to a value; for values of its shape alone
-
-abbrev pub unit_in : TypeTree → PowerMap
-unit_in bool_type = one
-unit_in (num_type u) = u
-unit_in (list_type t) = one
-unit_in (record_type r us) = one
 
 abbrev pub item_in : TypeTree → TypeTree
 item_in bool_type = bool_type
@@ -54,9 +48,12 @@ suffix_text unit closed [] = []
 suffix_text unit true (t ∷ ts) = codes "<" ++ unit ++ codes ">"
 suffix_text unit false (t ∷ ts) = codes "<_>"
 
--- a number at its unit
-abbrev pub number_text_at : List (List ℕ) → Frac → PowerMap → List ℕ
-number_text_at bases c u = number_text c ++ suffix_text (unit_text bases u) (variables_below 0 u.terms) u.terms
+-- what stands behind a number of this type
+abbrev pub suffix_at : List (List ℕ) → TypeTree → List ℕ
+suffix_at bases bool_type = []
+suffix_at bases (num_type u) = suffix_text (unit_text bases u) (variables_below 0 u.terms) u.terms
+suffix_at bases (list_type t) = []
+suffix_at bases (record_type r us) = []
 
 abbrev pub separator : List ℕ
 separator = codes "; "
@@ -65,7 +62,7 @@ module _ (p : ProgramTree) where
   abbrev mutual
     pub value_text : ValueTree → TypeTree → List ℕ
     value_text (truth_value b) t = truth_text b
-    value_text (number_value c) t = number_text_at p.bases c (unit_in t)
+    value_text (number_value c) t = number_text c ++ suffix_at p.bases t
     value_text (list_value vs) t = codes "[" ++ items_text [] vs (item_in t) ++ codes "]"
     value_text (record_value r vs) t =
         codes "{ " ++ fields_text [] vs (fields_in (slice_get p.records r) (units_in t)) ++ codes " }"

@@ -8,8 +8,9 @@ ghost use Rattle.um_tree.specs.ProgramTree.{field_tree, record_tree, program_tre
 ghost use Rattle.um_tree.specs.Typing.{put};
 ghost use Rattle.um_tree.specs.ValueTree.{value_tree, values_in_order};
 ghost use Rattle.um_elim.specs.Application.{type_fits};
+ghost use Rattle.um_show.specs.NumberText.{number_text};
 ghost use Rattle.um_show.specs.UnitText.{unit_text};
-ghost use Rattle.um_show.specs.ValueText.{unit_in, item_in, units_in, field_at, fields_in, truth_text, suffix_text, number_text_at, value_text, items_text, fields_text, parts_fit, items_fit, fields_fit};
+ghost use Rattle.um_show.specs.ValueText.{item_in, units_in, field_at, fields_in, truth_text, suffix_text, suffix_at, value_text, items_text, fields_text, parts_fit, items_fit, fields_fit};
 
 use crate::number::push_number;
 use crate::printed_unit::push_unit;
@@ -143,7 +144,7 @@ fn push_truth(text: &mut Vec<u8>, b: bool) -> Result<(), AllocError>
     }
 }
 
-/// Adds the text of a number at a number type.
+/// Adds the text of a number at a type.
 fn push_number_at(
     alloc: Global,
     text: &mut Vec<u8>,
@@ -151,12 +152,26 @@ fn push_number_at(
     c: Frac,
     ty: &Ty,
 ) -> Result<(), AllocError>
-    ensures { OnOk result (text.new.items ≡ text.old.items ++ number_text_at bases.now c (unit_in (type_tree ty.now))) }
+    ensures { OnOk result (text.new.items ≡ text.old.items ++ (number_text c ++ suffix_at bases.now (type_tree ty.now))) }
 {
     push_number(text, c)?;
+    push_suffix_at(alloc, text, bases, ty)
+}
+
+/// Adds what stands behind a number of this type.
+fn push_suffix_at(
+    alloc: Global,
+    text: &mut Vec<u8>,
+    bases: &[Name],
+    ty: &Ty,
+) -> Result<(), AllocError>
+    ensures { OnOk result (text.new.items ≡ text.old.items ++ suffix_at bases.now (type_tree ty.now)) }
+{
     match ty {
         Ty::Num(unit) => push_suffix(alloc, text, bases, unit),
-        Ty::Bool | Ty::List(_) | Ty::Rec(_, _) => Ok(()),
+        Ty::Bool => Ok(()),
+        Ty::List(_) => Ok(()),
+        Ty::Rec(_, _) => Ok(()),
     }
 }
 
