@@ -68,11 +68,11 @@ pub fields_from_more : (us : List PowerMap) (xs : List FieldDecl) (i : ℕ) (x :
 fields_from_more us xs i x e =
     ap (λ (ys : List FieldDecl). map (field_at us) (map field_tree ys)) (drop_more xs i x (slice_get_within xs i x e) ∙ ap (λ (y : FieldDecl). y ∷ drop (i + 1) xs) (get_or_from_slice_get xs i x x e))
 
-pub fields_from-end : (us : List PowerMap) (xs : List FieldDecl) (i : ℕ) → slice_get xs i ≡ None → fields_from us xs i ≡ []
-fields_from-end us [] zero e = refl
-fields_from-end us [] (suc i) e = refl
-fields_from-end us (x ∷ xs) zero e = absurd cc
-fields_from-end us (x ∷ xs) (suc i) e = fields_from-end us xs i e
+pub fields_from-end : (us : List PowerMap) (xs : List FieldDecl) (i : ℕ) → length xs ≤ i → fields_from us xs i ≡ []
+fields_from-end us [] zero h = refl
+fields_from-end us [] (suc i) h = refl
+fields_from-end us (x ∷ xs) zero h = absurd (omega (arith, h))
+fields_from-end us (x ∷ xs) (suc i) h = fields_from-end us xs i (omega (arith, h))
 
 -- ---- ranges of the parts, one after another
 
