@@ -23,3 +23,4 @@ pub mod ReadBack
 mod RisingLists
 pub mod UnitOrder
 mod JoinedTexts
+mod ValueTexts

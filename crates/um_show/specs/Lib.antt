@@ -1,7 +1,8 @@
--- What a reader must trust: the texts of numbers, units, types and schemes, and the layout of programs.
+-- What a reader must trust: the texts of numbers, units, types and schemes, of values, and the layout of programs.
 pub mod NumberText
 pub mod UnitText
 pub mod SchemeText
+pub mod ValueText
 pub mod Pieces
 pub mod Layout
 pub mod Unplaced

@@ -1,4 +1,4 @@
-//! Printed texts: of numbers, of units, types and schemes, and of programs in their layout.
+//! Printed texts: of numbers, of units, types and schemes, of values, and of programs in their layout.
 #![tactic(auto)]
 
 mod decl;
@@ -11,9 +11,11 @@ mod printed_unit;
 mod text;
 mod types;
 mod unit;
+mod value;
 
 pub use decl::program_text;
 pub use number::number_text;
 pub use printed_scheme::scheme_text;
 pub use printed_type::type_text;
 pub use printed_unit::unit_text;
+pub use value::value_text;

@@ -1,0 +1,8 @@
+//! Laws of value texts, by the grammar alone. A call does nothing: what it ensures is the law.
+ghost use Rattle.um_value.specs.Laws.{ValueAnswersExclude};
+
+/// At most one answer on what tokens are fits them, want of memory aside: at a shape over a formed program's records no two
+/// value texts have the same tokens, and no refusal stands beside a value text or at two places.
+pub fn value_answers_exclude()
+    ensures { ValueAnswersExclude }
+{}
