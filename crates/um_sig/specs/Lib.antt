@@ -8,3 +8,4 @@ pub mod Reading
 pub mod Laws
 -- The code's.
 pub mod Steps
+pub mod ReadingSteps
