@@ -1,0 +1,94 @@
+-- The row of two units: what the code makes of their terms, which variables it holds, and when units satisfy it.
+-- Source: Kennedy (1996): two units are equal where their quotient is 1.
+use Rattle.std.proofs.Common.{◌≡◌, ℕ, ◌+◌, ◌<◌, List, [], ◌∷◌, ◌++◌, map, length, get_or, ℤ, negsuc, ◌+ℤ◌, ◌*ℤ◌, refl, sym, ap, ◌∙◌}
+use Rattle.std.specs.Prelude.{All}
+use Rattle.std.specs.List.{flat_map}
+use Rattle.std.proofs.lemmas.List.Elements.{All-nil, All-cons, All-head}
+use Rattle.std.proofs.lemmas.Simd.{map-map}
+use Rattle.um_units.specs.declared.Atom.{Atom}
+use Rattle.um_units.specs.declared.Atom.TheVariants.{Base, Var}
+use Rattle.um_units.specs.declared.Term.{Term}
+use Rattle.um_units.specs.Terms.{weigh, indicator}
+use Rattle.um_units.specs.PowerMap.{PowerMap, product, weight, one, mul, inv, scale, image, replace}
+use Rattle.um_units.specs.Variables.{IsClosed, VariablesBelow}
+use Rattle.um_units.proofs.Equality.{same_unit}
+use Rattle.um_units.proofs.Weights.{weigh-product, weigh-++, weigh_alike}
+use Rattle.um_units.proofs.Group.{weigh-scale, weight-atom, weight-mul, weight-pow, quotient-same, same_from_quotient}
+use Rattle.um_units.proofs.Replacement.{weight-replace, replace-mul, replace-inv, replace-closed}
+use Rattle.um_units.proofs.Variables.{IsClosed-base, IsClosed-replace, VariablesBelow-closed, VariablesBelow-mul, VariablesBelow-inv}
+use Rattle.um_tree.specs.TypeTree.{TypeTree, bool_type, num_type, list_type, record_type}
+use Rattle.um_tree.specs.Typing.{parameter_unit}
+use Rattle.um_tree.specs.Scheme.{atom_variables, unit_variables, type_variables, variables}
+use Rattle.um_elim.proofs.GrowingOrder.{All-front, All-back, All-at}
+use Rattle.um_elim.proofs.VariablesKept.{unit_below}
+use Rattle.um_sig.specs.Matching.{fixed, unit_row, unit_rows, type_rows, matching_rows}
+use Rattle.um_sig.specs.Steps.{fixed_atom, inverse_term, HasRoom, HaveRoom}
+
+module _ (bases : ℕ) where
+  -- ---- the terms
+  abbrev in_place : Term → Term
+  in_place t = record { atom = fixed_atom bases t.atom; power = t.power }
+
+  weigh-in_place : (f : Atom → ℤ) (ts : List Term) → weigh f (map in_place ts) ≡ weigh (λ x. f (fixed_atom bases x)) ts
+  weigh-in_place f [] = refl
+  weigh-in_place f (t ∷ ts) = ap (λ n. t.power *ℤ f (fixed_atom bases t.atom) +ℤ n) (weigh-in_place f ts)
+
+  at_atom : (f : Atom → ℤ) (x : Atom) → f (fixed_atom bases x) ≡ weight f (image (parameter_unit bases) x)
+  at_atom f (Base n) = sym (weight-atom f (Base n))
+  at_atom f (Var k) = sym (weight-atom f (Base (bases + k)))
+
+  weigh-inverse : (f : Atom → ℤ) (v : PowerMap) → weigh f (map (inverse_term bases) v.terms) ≡ negsuc 0 *ℤ weight f (fixed bases v)
+  weigh-inverse f v =
+      ap (weigh f) (sym (map-map (scale (negsuc 0)) in_place v.terms))
+      ∙ weigh-scale f (negsuc 0) (map in_place v.terms)
+      ∙ ap (λ n. negsuc 0 *ℤ n) (weigh-in_place f v.terms ∙ weigh_alike _ _ (at_atom f) v.terms ∙ sym (weight-replace f (parameter_unit bases) v))
+
+  pub product-row : (u v : PowerMap) → product (u.terms ++ map (inverse_term bases) v.terms) ≡ unit_row bases u v
+  product-row u v =
+      same_unit _ _ (λ x. weigh-product (indicator x) (u.terms ++ map (inverse_term bases) v.terms)
+      ∙ weigh-++ (indicator x) u.terms (map (inverse_term bases) v.terms)
+      ∙ ap (λ n. weigh (indicator x) u.terms +ℤ n) (weigh-inverse (indicator x) v ∙ sym (weight-pow (indicator x) (fixed bases v) (negsuc 0)))
+      ∙ sym (weight-mul (indicator x) u (inv (fixed bases v))))
+
+  -- ---- room for the signature's variables
+  atom_room : (x : Atom) → HaveRoom bases (atom_variables x) → HasRoom bases x
+  atom_room (Base n) h = tt
+  atom_room (Var k) h = All-head (λ j. bases + j < 4294967296) k [] h
+
+  pub terms_room : (v : PowerMap) → HaveRoom bases (unit_variables v) → All (λ (t : Term). HasRoom bases t.atom) v.terms
+  terms_room v h = λ i d l. atom_room (get_or v.terms i d).atom (All-at (λ j. bases + j < 4294967296) (λ (t : Term). atom_variables t.atom) v.terms i d l h)
+
+  -- ---- the variables
+  pub fixed_closed : (v : PowerMap) → IsClosed (fixed bases v)
+  fixed_closed v = IsClosed-replace (parameter_unit bases) v (λ j held. IsClosed-base (bases + j))
+
+  pub row_below : (n : ℕ) (u v : PowerMap) → VariablesBelow n u → VariablesBelow n (unit_row bases u v)
+  row_below n u v h = VariablesBelow-mul n u (inv (fixed bases v)) h (VariablesBelow-inv n (fixed bases v) (VariablesBelow-closed n (fixed bases v) (fixed_closed v)))
+
+  unit_rows_below : (n : ℕ) (us vs : List PowerMap) → All (λ k. k < n) (flat_map unit_variables us) → All (VariablesBelow n) (unit_rows bases us vs)
+  unit_rows_below n [] [] h = All-nil (VariablesBelow n)
+  unit_rows_below n [] (v ∷ vs) h = All-nil (VariablesBelow n)
+  unit_rows_below n (u ∷ us) [] h = All-nil (VariablesBelow n)
+  unit_rows_below n (u ∷ us) (v ∷ vs) h =
+      All-cons (VariablesBelow n) (unit_row bases u v) (unit_rows bases us vs)
+      (row_below n u v (unit_below n u (All-front (λ k. k < n) (unit_variables u) (flat_map unit_variables us) h)))
+      (unit_rows_below n us vs (All-back (λ k. k < n) (unit_variables u) (flat_map unit_variables us) h))
+
+  pub type_rows_below : (n : ℕ) (s t : TypeTree) → All (λ k. k < n) (type_variables s) → All (VariablesBelow n) (type_rows bases s t)
+  type_rows_below n (num_type u) (num_type v) h =
+      All-cons (VariablesBelow n) (unit_row bases u v) [] (row_below n u v (unit_below n u h)) (All-nil (VariablesBelow n))
+  type_rows_below n (list_type s) (list_type t) h = type_rows_below n s t h
+  type_rows_below n (record_type r us) (record_type q vs) h = unit_rows_below n us vs h
+  type_rows_below n s t h = All-nil (VariablesBelow n)
+
+  -- ---- what satisfies it
+  row_put : (s : ℕ → PowerMap) (u v : PowerMap) → replace s (unit_row bases u v) ≡ mul (replace s u) (inv (fixed bases v))
+  row_put s u v =
+      replace-mul s u (inv (fixed bases v))
+      ∙ ap (mul (replace s u)) (replace-inv s (fixed bases v) ∙ ap inv (replace-closed s (fixed bases v) (fixed_closed v)))
+
+  pub same_from_row : (s : ℕ → PowerMap) (u v : PowerMap) → replace s (unit_row bases u v) ≡ one → replace s u ≡ fixed bases v
+  same_from_row s u v e = same_from_quotient (replace s u) (fixed bases v) (sym (row_put s u v) ∙ e)
+
+  pub row_from_same : (s : ℕ → PowerMap) (u v : PowerMap) → replace s u ≡ fixed bases v → replace s (unit_row bases u v) ≡ one
+  row_from_same s u v e = row_put s u v ∙ quotient-same (replace s u) (fixed bases v) e
