@@ -64,7 +64,8 @@ module _ (bases : ℕ) (own types : List TypeTree) where
     pub first_unmatched : (i : ℕ) → match_types bases vars own types ≡ unmatched i → IsFirstUnmatched bases own types i
     first_unmatched i e =
         let w = right (unmatched i) e in
-        let number : i ≡ w.0 = w.1 in
+        let counted : i ≡ 0 + w.0 = w.1 in
+        let number : i ≡ w.0 = omega (arith, counted) in
         record {
           before = subst (λ n. AreMatched bases n own types) (sym number) (matched_from_solvable bases vars w.0 own types alike w.2);
           through = λ h.
