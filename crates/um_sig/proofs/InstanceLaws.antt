@@ -1,22 +1,19 @@
 -- What an answer says of the signature's instances.
 -- Source: Kennedy (1996): matching is sound and complete.
 use Rattle.std.proofs.Common.{◌≡◌, ℕ, suc, ◌+◌, ◌<◌, add-one, List, [], map, take, refl, sym, ap, ◌∙◌, subst, arith}
-use Rattle.std.specs.Prelude.{All, Result, Ok, Err}
+use Rattle.std.specs.Prelude.{All, Ok, Err}
 use Rattle.std.proofs.lemmas.List.{take-map}
 use Rattle.um_units.specs.PowerMap.{PowerMap, nth}
 use Rattle.um_units.specs.Solutions.{IsSolvable}
 use Rattle.um_units.proofs.Solutions.{IsInstance_refl}
 use Rattle.um_tree.specs.TypeTree.{TypeTree}
-use Rattle.um_tree.specs.ProgramTree.{SchemeTree}
 use Rattle.um_tree.specs.Typing.{put, moved, parameter_unit}
 use Rattle.um_tree.specs.Scheme.{variables}
 use Rattle.um_elim.specs.Numbering.{IsInstanceOf}
-use Rattle.um_sig.specs.declared.stop.SigStop.{SigStop}
 use Rattle.um_sig.specs.declared.stop.SigStop.TheVariants as stop
 use Rattle.um_sig.specs.Form.{AreAlike, IsFirstDifference}
 use Rattle.um_sig.specs.Matching.{fixed_type, matching_rows, Matching, matched, unmatched, match_types}
 use Rattle.um_sig.specs.Instances.{scheme_types, HasAllInstances, AreOverBases, AreMatched, IsFirstUnmatched}
-use Rattle.um_sig.specs.Answers.{IsConformed, SaysOfInstances}
 use Rattle.um_sig.specs.Laws.{AnswersSayWhatInstancesAre}
 use Rattle.um_sig.proofs.FormLaws.{alike_everywhere}
 use Rattle.um_sig.proofs.MatchedTypes.{alike_from_same, same_from_rows, rows_below, matched_from_solvable, solvable_from_matched}

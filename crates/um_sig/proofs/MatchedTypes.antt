@@ -1,7 +1,7 @@
 -- The rows of types of the same forms are satisfied exactly by the units that make the scheme's types the signature's, whose
 -- variables are units of their own.
 -- Source: Kennedy (1996): two types are equal where their units are.
-use Rattle.std.proofs.Common.{◌≡◌, ℕ, zero, suc, ◌+◌, ◌<◌, List, [], ◌∷◌, ◌++◌, map, length, take, refl, sym, ap, ◌∙◌, subst, arith}
+use Rattle.std.proofs.Common.{◌≡◌, ℕ, zero, suc, ◌<◌, List, [], ◌∷◌, map, length, take, refl, sym, ap, ◌∙◌, arith}
 use Rattle.std.specs.Prelude.{All}
 use Rattle.std.specs.List.{range_with_len}
 use Rattle.std.proofs.lemmas.List.{take-map}
@@ -10,13 +10,12 @@ use Rattle.std.proofs.lemmas.List.FromFn.{get_or-map-range_with_len, length-map-
 use Rattle.um_units.specs.declared.Atom.TheVariants.{Var}
 use Rattle.um_units.specs.PowerMap.{PowerMap, one, atom, replace, nth}
 use Rattle.um_units.specs.Variables.{VariablesBelow}
-use Rattle.um_units.specs.Solutions.{Solves, IsJointSolution, IsSolvable}
+use Rattle.um_units.specs.Solutions.{Solves, IsSolvable}
 use Rattle.um_units.proofs.Replacement.{replace_alike}
 use Rattle.um_units.proofs.Solutions.{Solves-nil, Solves-append, Solves-front, Solves-back}
 use Rattle.um_tree.specs.TypeTree.{TypeTree, bool_type, num_type, list_type, record_type}
 use Rattle.um_tree.specs.Typing.{put}
 use Rattle.um_tree.specs.Scheme.{type_variables, variables}
-use Rattle.um_elim.specs.Numbering.{IsInstanceOf}
 use Rattle.um_elim.proofs.GrowingOrder.{All-front, All-back}
 use Rattle.um_sig.specs.Form.{form, AreAlike}
 use Rattle.um_sig.specs.Matching.{fixed, fixed_type, unit_row, unit_rows, type_rows, matching_rows}

@@ -1,12 +1,12 @@
 -- Units and types that are matched one after another, as the loops go on.
 -- Source: Kennedy (1996), unification in the free abelian group, equation by equation.
-use Rattle.std.proofs.Common.{◌≡◌, ℕ, suc, ◌+◌, add-one, ◌<◌, ◌≤◌, List, [], ◌∷◌, length, drop, get_or, false, refl, sym, ap, ◌∙◌, subst, arith}
-use Rattle.std.specs.Prelude.{Result, Ok, Err, Some, slice_get}
+use Rattle.std.proofs.Common.{◌≡◌, ℕ, ◌+◌, add-one, ◌<◌, ◌≤◌, List, [], ◌∷◌, length, drop, get_or, false, refl, sym, ap, ◌∙◌}
+use Rattle.std.specs.Prelude.{Ok, Err, Some, slice_get}
 use Rattle.std.proofs.lemmas.List.{drop_more, drop_all}
 use Rattle.um_units.specs.PowerMap.{PowerMap}
 use Rattle.um_tree.specs.TypeTree.{TypeTree}
 use Rattle.um_elim.specs.Elimination.{Elimination, Solved, NoSolution, Range, on_solved}
-use Rattle.um_elim.specs.Solution.{Solution, own_variables, fresh}
+use Rattle.um_elim.specs.Solution.{Solution, fresh}
 use Rattle.um_elim.specs.declared.stop.ElimStop.{ElimStop}
 use Rattle.um_elim.specs.declared.stop.ElimStop.TheVariants as elimination
 use Rattle.um_elim.proofs.Slots.{length-own}

@@ -1,8 +1,7 @@
 -- Nothing is declared in a signature text, so nothing is declared twice.
-use Rattle.std.proofs.Common.{◌≡◌, ℕ, Bool, true, false, cond, List, [], ◌∷◌, length, ap, subst}
+use Rattle.std.proofs.Common.{◌≡◌, ℕ, Bool, true, false, cond, List, [], ◌∷◌, length, ap}
 use Rattle.std.specs.Prelude.{◌==◌, Option, Some, None, Ok, Err, slice_get}
-use Rattle.um_units.specs.PowerMap.{PowerMap}
-use Rattle.um_tree.specs.TypeTree.{TypeTree, num_note, list_note, record_note}
+use Rattle.um_tree.specs.TypeTree.{num_note, list_note, record_note}
 use Rattle.um_tree.specs.ProgramTree.{RecordTree}
 use Rattle.um_tree.specs.declared.note.UnitNote.TheVariants as note
 use Rattle.um_tree.specs.RawTree.{UnitSyntax, NoteSyntax, hole_syntax, unit_note_syntax, TypeSyntax, bool_syntax, num_syntax, record_syntax, list_type_syntax, bracket_type_syntax}

@@ -1,6 +1,6 @@
 -- The row of two units: what the code makes of their terms, which variables it holds, and when units satisfy it.
 -- Source: Kennedy (1996): two units are equal where their quotient is 1.
-use Rattle.std.proofs.Common.{◌≡◌, ℕ, ◌+◌, ◌<◌, List, [], ◌∷◌, ◌++◌, map, length, get_or, ℤ, negsuc, ◌+ℤ◌, ◌*ℤ◌, refl, sym, ap, ◌∙◌}
+use Rattle.std.proofs.Common.{◌≡◌, ℕ, ◌+◌, ◌<◌, List, [], ◌∷◌, ◌++◌, map, get_or, ℤ, negsuc, ◌+ℤ◌, ◌*ℤ◌, refl, sym, ap, ◌∙◌}
 use Rattle.std.specs.Prelude.{All}
 use Rattle.std.specs.List.{flat_map}
 use Rattle.std.proofs.lemmas.List.Elements.{All-nil, All-cons, All-head}
@@ -16,12 +16,12 @@ use Rattle.um_units.proofs.Weights.{weigh-product, weigh-++, weigh_alike}
 use Rattle.um_units.proofs.Group.{weigh-scale, weight-atom, weight-mul, weight-pow, quotient-same, same_from_quotient}
 use Rattle.um_units.proofs.Replacement.{weight-replace, replace-mul, replace-inv, replace-closed}
 use Rattle.um_units.proofs.Variables.{IsClosed-base, IsClosed-replace, VariablesBelow-closed, VariablesBelow-mul, VariablesBelow-inv}
-use Rattle.um_tree.specs.TypeTree.{TypeTree, bool_type, num_type, list_type, record_type}
+use Rattle.um_tree.specs.TypeTree.{TypeTree, num_type, list_type, record_type}
 use Rattle.um_tree.specs.Typing.{parameter_unit}
 use Rattle.um_tree.specs.Scheme.{atom_variables, unit_variables, type_variables, variables}
 use Rattle.um_elim.proofs.GrowingOrder.{All-front, All-back, All-at}
 use Rattle.um_elim.proofs.VariablesKept.{unit_below}
-use Rattle.um_sig.specs.Matching.{fixed, unit_row, unit_rows, type_rows, matching_rows}
+use Rattle.um_sig.specs.Matching.{fixed, unit_row, unit_rows, type_rows}
 use Rattle.um_sig.specs.Steps.{fixed_atom, inverse_term, HasRoom, HaveRoom}
 
 module _ (bases : ℕ) where

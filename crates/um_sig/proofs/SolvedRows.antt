@@ -1,7 +1,7 @@
 -- Rows that are eliminated one after another leave exactly their joint solutions, up to the first type whose rows have none
 -- with those before.
 -- Source: Kennedy (1996), unification in the free abelian group, equation by equation.
-use Rattle.std.proofs.Common.{◌≡◌, ℕ, zero, suc, ◌+◌, true, false, List, [], ◌∷◌, ◌++◌, length, take, refl, sym, ap, ◌∙◌, subst, arith}
+use Rattle.std.proofs.Common.{◌≡◌, ℕ, suc, ◌+◌, List, [], ◌∷◌, ◌++◌, length, take, refl, sym, ap, subst, arith}
 use Rattle.std.specs.Prelude.{All}
 use Rattle.std.proofs.lemmas.List.{append-nil, append_assoc}
 use Rattle.std.proofs.lemmas.List.Elements.{All-nil, All-cons, All-head, All-tail}
@@ -17,7 +17,7 @@ use Rattle.um_elim.specs.Solution.{own_variables}
 use Rattle.um_elim.proofs.Cases.{on_test}
 use Rattle.um_elim.proofs.Rows.{solved_is_most_general, refused_is_unsatisfiable, exactly-more, unsolvable-more}
 use Rattle.um_elim.proofs.Slots.{own_is_general}
-use Rattle.um_sig.specs.Matching.{type_rows, matching_rows, eliminate_row, eliminate_each, Matching, matched, unmatched, out_of_range, after_type, match_from, match_types}
+use Rattle.um_sig.specs.Matching.{type_rows, matching_rows, eliminate_each, Matching, matched, unmatched, out_of_range, after_type, match_from, match_types}
 
 -- ---- rows
 solvable_so_far : (n : ℕ) (done us : List PowerMap) → SolvesExactly n done us → IsSolvable n done

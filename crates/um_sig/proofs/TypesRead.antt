@@ -1,14 +1,13 @@
 -- Types that the code reads, as places in lists of trees.
 use Rattle.std.proofs.Common.{◌≡◌, ℕ, zero, suc, ◌+◌, ◌<◌, ◌≤◌, List, [], ◌∷◌, ◌++◌, map, length, get_or, drop, slice_get, Some, refl, sym, ap, ◌∙◌, subst, arith}
 use Rattle.std.specs.Prelude.{All, option_map}
-use Rattle.std.specs.List.{flat_map}
 use Rattle.std.proofs.lemmas.List.{length-map, length_push, drop_more}
 use Rattle.std.proofs.lemmas.Option.{same_Some, slice_get-map, slice_get_read, slice_get_within, get_or_from_slice_get}
 use Rattle.um_tree.specs.declared.types.Ty.{Ty}
 use Rattle.um_tree.specs.TypeTree.{TypeTree, type_tree}
 use Rattle.um_tree.specs.Scheme.{type_variables, variables}
 use Rattle.um_elim.proofs.GrowingOrder.{All-at}
-use Rattle.um_sig.specs.Form.{form, form_at, AreAlike}
+use Rattle.um_sig.specs.Form.{form, AreAlike}
 
 -- ---- places in lists
 pub slice_get-front : {A : Type 0} (xs ys : List A) (i : ℕ) (x : A) → slice_get xs i ≡ Some x → slice_get (xs ++ ys) i ≡ Some x

@@ -1,8 +1,8 @@
 -- What an answer says of the typings of a function, whose scheme it is.
 -- Source: Kennedy (1996): a function's scheme has exactly its typings as instances; Kennedy (1997): a homomorphism of units
 -- that leaves what is declared keeps typings.
-use Rattle.std.proofs.Common.{◌≡◌, ℕ, ◌+◌, List, [], ◌∷◌, ◌++◌, map, length, refl, sym, ap, ◌∙◌, subst}
-use Rattle.std.specs.Prelude.{Result, Ok, Err}
+use Rattle.std.proofs.Common.{◌≡◌, ℕ, ◌+◌, List, [], ◌∷◌, map, length, refl, sym, ap, ◌∙◌, subst}
+use Rattle.std.specs.Prelude.{Ok, Err}
 use Rattle.std.proofs.lemmas.List.{map-append}
 use Rattle.um_units.specs.PowerMap.{PowerMap}
 use Rattle.um_units.specs.Variables.{IsClosed}
@@ -11,11 +11,10 @@ use Rattle.um_tree.specs.ProgramTree.{ProgramTree, Signature, SchemeTree}
 use Rattle.um_tree.specs.Typing.{put, put_signature, moved, moved_signature, parameter_unit, Typing}
 use Rattle.um_tree.specs.Scheme.{signature_types, IsPrincipal}
 use Rattle.um_tree.specs.Formed.{BasesBelow, IsFormed}
-use Rattle.um_tree.specs.Laws.{ProgramHas, Leaves, Fixes, WritesDeclaredUnits}
+use Rattle.um_tree.specs.Laws.{ProgramHas, Leaves, Fixes}
 use Rattle.um_tree.proofs.TypingLaws.{homomorphisms_keep_typings, closed_units_are_fixed}
 use Rattle.um_tree.proofs.WrittenUnits.{program_has_both, formed_units_are_declared}
 use Rattle.um_elim.specs.Numbering.{IsInstanceOf}
-use Rattle.um_sig.specs.declared.stop.SigStop.{SigStop}
 use Rattle.um_sig.specs.declared.stop.SigStop.TheVariants as stop
 use Rattle.um_sig.specs.Matching.{fixed_type}
 use Rattle.um_sig.specs.Instances.{scheme_types, AreTypesOfTyping, AreAllTypings, AreOverBases}

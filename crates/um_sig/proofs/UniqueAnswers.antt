@@ -2,13 +2,12 @@
 use Rattle.std.proofs.Common.{◌≡◌, ℕ, ◌⊎◌, inl, inr, List, refl, sym, ap, ◌∙◌}
 use Rattle.std.specs.Prelude.{Result, Ok, Err}
 use Rattle.um_tree.specs.TypeTree.{TypeTree}
-use Rattle.um_tree.specs.ProgramTree.{SchemeTree}
 use Rattle.um_sig.specs.declared.stop.SigStop.{SigStop}
 use Rattle.um_sig.specs.declared.stop.SigStop.TheVariants as stop
 use Rattle.um_sig.specs.Form.{AreAlike, IsFirstDifference}
 use Rattle.um_sig.specs.Matching.{Matching, match_types}
 use Rattle.um_sig.specs.Instances.{scheme_types}
-use Rattle.um_sig.specs.Answers.{IsMatching, IsConformed}
+use Rattle.um_sig.specs.Answers.{IsMatching}
 use Rattle.um_sig.specs.Laws.{AnswersAreUnique}
 use Rattle.um_sig.proofs.FormLaws.{alike_everywhere, one_difference}
 

@@ -6,7 +6,7 @@
 use Rattle.std.specs.Prelude.{ℕ, suc, if◌then◌else◌, List, [], ◌∷◌, ◌++◌}
 use Rattle.um_units.specs.PowerMap.{PowerMap, mul, inv, replace}
 use Rattle.um_units.specs.Range.{fits}
-use Rattle.um_tree.specs.TypeTree.{TypeTree, bool_type, num_type, list_type, record_type}
+use Rattle.um_tree.specs.TypeTree.{TypeTree, num_type, list_type, record_type}
 use Rattle.um_tree.specs.Typing.{parameter_unit, put}
 use Rattle.um_elim.specs.Elimination.{Elimination, Solved, NoSolution, Range, eliminate, on_solved}
 use Rattle.um_elim.specs.Solution.{own_variables}

@@ -1,9 +1,8 @@
-use Rattle.std.proofs.Common.{map, ap, ◌++◌, ◌∙◌, subst, sym}
+use Rattle.std.proofs.Common.{subst, sym}
 use Rattle.std.specs.Prelude.{All}
 use Rattle.um_units.specs.declared.Term.{Term}
-use Rattle.um_units.specs.PowerMap.{product}
-use Rattle.um_sig.specs.Steps.{HasRoom, inverse_term}
-use Rattle.um_sig.proofs.RowLaws.{product-row, terms_room}
+use Rattle.um_sig.specs.Steps.{HasRoom}
+use Rattle.um_sig.proofs.RowLaws.{terms_room}
 use Rattle.um_sig.proofs.row.unit_row.Goals as goal
 
 pub row_terms-requires-clause-room : goal.row_terms-requires-clause-room
