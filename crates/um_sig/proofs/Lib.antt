@@ -9,4 +9,5 @@ pub mod TypingLaws
 pub mod UniqueAnswers
 pub mod MatchingSteps
 pub mod NeverTwice
+pub mod SignaturesIn
 mod Examples

@@ -1,6 +1,6 @@
 -- The row of two units: what the code makes of their terms, which variables it holds, and when units satisfy it.
 -- Source: Kennedy (1996): two units are equal where their quotient is 1.
-use Rattle.std.proofs.Common.{◌≡◌, ℕ, ◌+◌, ◌<◌, List, [], ◌∷◌, ◌++◌, map, get_or, ℤ, negsuc, ◌+ℤ◌, ◌*ℤ◌, refl, sym, ap, ◌∙◌}
+use Rattle.std.proofs.Common.{◌≡◌, ℕ, ◌+◌, ◌<◌, ◌^◌, List, [], ◌∷◌, ◌++◌, map, get_or, ℤ, negsuc, ◌+ℤ◌, ◌*ℤ◌, refl, sym, ap, ◌∙◌}
 use Rattle.std.specs.Prelude.{All}
 use Rattle.std.specs.List.{flat_map}
 use Rattle.std.proofs.lemmas.List.Elements.{All-nil, All-cons, All-head}
@@ -53,10 +53,10 @@ module _ (bases : ℕ) where
   -- ---- room for the signature's variables
   atom_room : (x : Atom) → HaveRoom bases (atom_variables x) → HasRoom bases x
   atom_room (Base n) h = tt
-  atom_room (Var k) h = All-head (λ j. bases + j < 4294967296) k [] h
+  atom_room (Var k) h = All-head (λ j. bases + j < 2 ^ 32) k [] h
 
   pub terms_room : (v : PowerMap) → HaveRoom bases (unit_variables v) → All (λ (t : Term). HasRoom bases t.atom) v.terms
-  terms_room v h = λ i d l. atom_room (get_or v.terms i d).atom (All-at (λ j. bases + j < 4294967296) (λ (t : Term). atom_variables t.atom) v.terms i d l h)
+  terms_room v h = λ i d l. atom_room (get_or v.terms i d).atom (All-at (λ j. bases + j < 2 ^ 32) (λ (t : Term). atom_variables t.atom) v.terms i d l h)
 
   -- ---- the variables
   pub fixed_closed : (v : PowerMap) → IsClosed (fixed bases v)

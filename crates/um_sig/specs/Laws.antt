@@ -2,9 +2,9 @@
 -- Source: Kennedy (1996): matching is sound and complete, and a function's scheme has exactly its typings as instances.
 use Rattle.std.specs.Prelude.{◌≡◌, ◌⊎◌, ◌<◌, ℕ, All, List, length, Result, Err}
 use Rattle.um_tree.specs.TypeTree.{TypeTree}
-use Rattle.um_tree.specs.ProgramTree.{ProgramTree, SchemeTree}
+use Rattle.um_tree.specs.ProgramTree.{RecordTree, ProgramTree, SchemeTree}
 use Rattle.um_tree.specs.Scheme.{IsPrincipal, variables}
-use Rattle.um_tree.specs.Formed.{IsFormed}
+use Rattle.um_tree.specs.Formed.{IsTypeIn, IsFormed}
 use Rattle.um_sig.specs.declared.stop.SigStop.{SigStop}
 use Rattle.um_sig.specs.declared.stop.SigStop.TheVariants as stop
 use Rattle.um_sig.specs.Instances.{scheme_types, AreOverBases}
@@ -29,6 +29,12 @@ AnswersSayWhatTypingsAre =
     (p : ProgramTree) (i : ℕ) (s : SchemeTree) (types : List TypeTree) (r : Result (Unit {0}) SigStop) →
     IsFormed p → IsPrincipal p i s → AreOverBases (length p.bases) types →
     IsConformed (length p.bases) s types r → SaysOfTypings p i types r
+
+-- types over declared base units, so many variables and declared records meet what is asked of a signature
+abbrev pub FormedSignaturesAreOverTheirVariables : Type 0
+FormedSignaturesAreOverTheirVariables =
+    (bases vars : ℕ) (records : List RecordTree) (types : List TypeTree) → All (IsTypeIn bases vars records) types →
+    All (λ k. k < vars) (variables types) × AreOverBases bases types
 
 -- no two answers but want of memory stand together
 abbrev pub AnswersAreUnique : Type 0

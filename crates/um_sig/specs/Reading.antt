@@ -1,13 +1,14 @@
 -- What reading a signature text answers.
 -- Source: this project's own. A text is its list of characters, and places are byte offsets. Each fault is looked for only
 -- where none before it is found; want of memory may come in place of every answer.
-use Rattle.std.specs.Prelude.{◌≡◌, ◌≤◌, ◌⊎◌, ℕ, List, Result, Ok, Err}
+use Rattle.std.specs.Prelude.{◌≡◌, ◌≤◌, ◌⊎◌, ℕ, All, List, length, Result, Ok, Err}
 use Rattle.um_syntax.specs.declared.token.Token.{Token}
 use Rattle.um_syntax.specs.declared.token.LexStop.TheVariants.{BadChar, NumberRange, PowerText}
 use Rattle.um_syntax.specs.Lexing.{HasTokens, HasFault}
 use Rattle.um_tree.specs.TypeTree.{type_trees}
 use Rattle.um_tree.specs.ProgramTree.{ProgramTree}
 use Rattle.um_tree.specs.RawTree.{TypeSyntax}
+use Rattle.um_tree.specs.Formed.{IsUnitIn, IsTypeIn}
 use Rattle.um_types.specs.UnitStops.{greatest_height, place_of}
 use Rattle.um_types.specs.TypeHeights.{all_height}
 use Rattle.um_types.specs.SignatureGrammar.{IsSignature, SignatureFails, SignatureHighAt}
@@ -54,3 +55,13 @@ IsRead p shorts chars end (Err (stop.Names at)) =
 IsRead p shorts chars end (Err (stop.PowerRange at)) =
     (ts : List TypeSyntax) × AreTypes chars ts × (resolved_signature (given p shorts) ts ≡ Err (range at))
 IsRead p shorts chars end (Err stop.NoMemory) = Unit {0}
+
+-- ---- what is read
+
+-- the units of abbreviations are closed, and over the declared base units
+abbrev pub AreClosedUnits : ℕ → List Abbreviation → Type 0
+AreClosedUnits bases shorts = All (λ (a : Abbreviation). IsUnitIn bases 0 a.unit) shorts
+
+-- the types are over the declared base units, the signature's variables and the declared records
+abbrev pub IsSignatureIn : ProgramTree → Signature → Type 0
+IsSignatureIn p s = All (IsTypeIn (length p.bases) s.vars p.records) (type_trees s.types)

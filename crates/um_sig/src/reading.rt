@@ -1,13 +1,13 @@
 //! The signature of a text.
 
-ghost use Rattle.std.specs.Prelude.{◌≡◌, ◌≤◌, length};
+ghost use Rattle.std.specs.Prelude.{◌≤◌, length, IfOk};
 ghost use Rattle.std.specs.Str.{chars};
 ghost use Rattle.um_tree.specs.ProgramTree.{program_tree};
 ghost use Rattle.um_tree.specs.RawTree.{type_syntaxes};
 ghost use Rattle.um_tree.specs.Formed.{IsFormed};
 ghost use Rattle.um_measures.specs.ClosedUnits.{given};
 ghost use Rattle.um_names.specs.SignatureNames.{resolved_signature};
-ghost use Rattle.um_sig.specs.Reading.{IsRead};
+ghost use Rattle.um_sig.specs.Reading.{IsRead, AreClosedUnits, IsSignatureIn};
 ghost use Rattle.um_sig.specs.ReadingSteps.{AreTokens, IsParsed, IsNamed};
 
 use crate::signature::Signature;
@@ -73,7 +73,8 @@ fn named(
 /// The signature of a text: types with `->` between two of them, the result's last, as in `num<'a> -> num<m> -> bool`.
 ///
 /// Measures and records are those of the program and the abbreviations. Each unit variable is known, and variables are
-/// numbered by first occurrence.
+/// numbered by first occurrence. Where the units of the abbreviations are closed, the types are over the declared base units,
+/// these variables and the declared records.
 ///
 /// # Errors
 ///
@@ -95,6 +96,7 @@ pub fn read_signature(
     requires short { length text.now ≤ 1048576 }
     requires formed { IsFormed (program_tree program.now) }
     ensures read { IsRead (program_tree program.now) abbreviations.now (chars text.now) (length text.now) result }
+    ensures formed { AreClosedUnits (length (program_tree program.now).bases) abbreviations.now → IfOk result (IsSignatureIn (program_tree program.now)) }
 {
     let tokens = tokens_of(alloc, text)?;
     let raw = parsed(alloc, tokens, text.len() as u32)?;
