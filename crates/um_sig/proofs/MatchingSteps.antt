@@ -1,11 +1,16 @@
 -- Units and types that are matched one after another, as the loops go on.
 -- Source: Kennedy (1996), unification in the free abelian group, equation by equation.
-use Rattle.std.proofs.Common.{◌≡◌, ℕ, ◌+◌, add-one, ◌<◌, ◌≤◌, List, [], ◌∷◌, length, drop, get_or, false, refl, sym, ap, ◌∙◌}
-use Rattle.std.specs.Prelude.{Ok, Err, Some, slice_get}
+use Rattle.std.proofs.Common.{◌≡◌, ℕ, ◌+◌, add-one, ◌<◌, ◌≤◌, List, [], ◌∷◌, length, drop, get_or, true, false, if◌then◌else◌, refl, sym, ap, ◌∙◌}
+use Rattle.std.specs.Prelude.{Result, Ok, Err, Some, slice_get}
 use Rattle.std.proofs.lemmas.List.{drop_more, drop_all}
+use Rattle.um_units.specs.declared.UnitStop.{UnitStop}
+use Rattle.um_units.specs.declared.UnitStop.TheVariants as unit_stop
 use Rattle.um_units.specs.PowerMap.{PowerMap}
+use Rattle.um_units.specs.Range.{fits, IsStopUnless}
 use Rattle.um_tree.specs.TypeTree.{TypeTree}
-use Rattle.um_elim.specs.Elimination.{Elimination, Solved, NoSolution, Range, on_solved}
+use Rattle.um_elim.specs.Adding.{IsAdded}
+use Rattle.um_elim.specs.Elimination.{Elimination, Solved, NoSolution, Range, eliminate, on_solved}
+use Rattle.um_elim.specs.Stops.{stop_of}
 use Rattle.um_elim.specs.Solution.{Solution, fresh}
 use Rattle.um_elim.specs.declared.stop.ElimStop.{ElimStop}
 use Rattle.um_elim.specs.declared.stop.ElimStop.TheVariants as elimination
@@ -26,8 +31,23 @@ single us row = at (eliminate_row us row)
     at NoSolution = refl
     at Range = refl
 
-pub single_eliminated : (us : List PowerMap) (row : PowerMap) (o : Elimination) → eliminate_row us row ≡ o → eliminate_each us (row ∷ []) ≡ o
-single_eliminated us row o e = single us row ∙ e
+-- in range it is eliminated, and else refused
+within : (us : List PowerMap) (row : PowerMap) (o : Elimination) → fits row ≡ true → eliminate us row ≡ o → eliminate_each us (row ∷ []) ≡ o
+within us row o f e = single us row ∙ ap (λ b. if b then eliminate us row else Range) f ∙ e
+
+past : (us : List PowerMap) (row : PowerMap) → fits row ≡ false → eliminate_each us (row ∷ []) ≡ Range
+past us row f = single us row ∙ ap (λ b. if b then eliminate us row else Range) f
+
+pub row_refused : (old new : Solution) (row : PowerMap) (e : UnitStop) → IsStopUnless (fits row) e → AreEliminated (row ∷ []) old new (Err (stop_of e))
+row_refused old new row unit_stop.Range f = past old.units row f
+row_refused old new row unit_stop.NoMemory f = tt
+
+pub row_added : (old new : Solution) (row : PowerMap) (r : Result (Unit {0}) ElimStop) → old.spent ≡ false → fits row ≡ true → IsAdded old row new r → length new.units ≡ length old.units → AreEliminated (row ∷ []) old new r
+row_added old new row (Ok x) unspent f w same = (within old.units row (Solved new.units) f w.1, w.2, same)
+row_added old new row (Err elimination.NoSolution) unspent f w same = within old.units row NoSolution f w.1
+row_added old new row (Err elimination.Range) unspent f w same = within old.units row Range f w.1
+row_added old new row (Err elimination.Spent) unspent f w same = let spent : old.spent ≡ true = w.0 in cc
+row_added old new row (Err elimination.NoMemory) unspent f w same = tt
 
 -- ---- unit by unit
 module _ (bases : ℕ) (us vs : List PowerMap) where

@@ -61,7 +61,7 @@ fn match_type(
     other: &Ty,
 ) -> Result<(), ElimStop>
     requires unspent { solver.old.spent ≡ false }
-    requires form { form (type_tree own.now) ≡ form (type_tree other.now) }
+    requires alike { form (type_tree own.now) ≡ form (type_tree other.now) }
     requires variables { All (λ k. k < length solver.old.units) (type_variables (type_tree own.now)) }
     requires room { HaveRoom bases (type_variables (type_tree other.now)) }
     ensures { AreEliminated (type_rows bases (type_tree own.now) (type_tree other.now)) solver.old solver.new result }
@@ -86,7 +86,7 @@ pub(crate) fn match_type_at(
     other: &Ty,
 ) -> Result<(), SigStop>
     requires unspent { solver.old.spent ≡ false }
-    requires form { form (type_tree own.now) ≡ form (type_tree other.now) }
+    requires alike { form (type_tree own.now) ≡ form (type_tree other.now) }
     requires variables { All (λ k. k < length solver.old.units) (type_variables (type_tree own.now)) }
     requires room { HaveRoom bases (type_variables (type_tree other.now)) }
     ensures { IsTypeMatched index (type_rows bases (type_tree own.now) (type_tree other.now)) solver.old solver.new result }
