@@ -6,7 +6,7 @@
 //! the refusals and the range of powers are this project's own.
 #![tactic(auto)]
 
-mod conform;
+mod conformity;
 mod form;
 pub mod laws;
 mod matching;
@@ -15,7 +15,7 @@ mod row;
 mod signature;
 mod stop;
 
-pub use conform::conform;
+pub use conformity::conform;
 pub use reading::read_signature;
 pub use signature::Signature;
 pub use stop::{SigStop, SigText};

@@ -5,7 +5,7 @@ use Rattle.um_tree.specs.ProgramTree.{scheme_tree}
 use Rattle.um_sig.specs.Instances.{scheme_types}
 use Rattle.um_sig.proofs.TypesRead.{type_read}
 use Rattle.um_sig.proofs.MatchingSteps.{no_type_matched, type_refused}
-use Rattle.um_sig.proofs.conform.match_types.Goals as goal
+use Rattle.um_sig.proofs.conformity.match_types.Goals as goal
 
 pub loop-i-init : goal.loop-i-init
 loop-i-init c =
