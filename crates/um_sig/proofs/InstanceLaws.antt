@@ -1,19 +1,22 @@
 -- What an answer says of the signature's instances.
 -- Source: Kennedy (1996): matching is sound and complete.
 use Rattle.std.proofs.Common.{◌≡◌, ℕ, suc, ◌+◌, ◌<◌, add-one, List, [], map, take, refl, sym, ap, ◌∙◌, subst, arith}
-use Rattle.std.specs.Prelude.{All, Ok, Err}
+use Rattle.std.specs.Prelude.{All, Result, Ok, Err}
 use Rattle.std.proofs.lemmas.List.{take-map}
 use Rattle.um_units.specs.PowerMap.{PowerMap, nth}
 use Rattle.um_units.specs.Solutions.{IsSolvable}
 use Rattle.um_units.proofs.Solutions.{IsInstance_refl}
 use Rattle.um_tree.specs.TypeTree.{TypeTree}
+use Rattle.um_tree.specs.ProgramTree.{SchemeTree}
 use Rattle.um_tree.specs.Typing.{put, moved, parameter_unit}
 use Rattle.um_tree.specs.Scheme.{variables}
 use Rattle.um_elim.specs.Numbering.{IsInstanceOf}
+use Rattle.um_sig.specs.declared.stop.SigStop.{SigStop}
 use Rattle.um_sig.specs.declared.stop.SigStop.TheVariants as stop
 use Rattle.um_sig.specs.Form.{AreAlike, IsFirstDifference}
 use Rattle.um_sig.specs.Matching.{fixed_type, matching_rows, Matching, matched, unmatched, match_types}
 use Rattle.um_sig.specs.Instances.{scheme_types, HasAllInstances, AreOverBases, AreMatched, IsFirstUnmatched}
+use Rattle.um_sig.specs.Answers.{IsMatching, IsConformed}
 use Rattle.um_sig.specs.Laws.{AnswersSayWhatInstancesAre}
 use Rattle.um_sig.proofs.FormLaws.{alike_everywhere}
 use Rattle.um_sig.proofs.MatchedTypes.{alike_from_same, same_from_rows, rows_below, matched_from_solvable, solvable_from_matched}
@@ -69,6 +72,15 @@ module _ (bases : ℕ) (own types : List TypeTree) where
               w.3 (subst (λ n. IsSolvable vars (matching_rows bases (take n own) (take n types))) (add-one i ∙ ap suc number)
               (solvable_from_matched bases vars (i + 1) own types over h));
         }
+
+-- types of the same forms are answered as their matching ends
+pub conformed_from_matching : (bases : ℕ) (s : SchemeTree) (types : List TypeTree) (r : Result (Unit {0}) SigStop) → AreAlike (scheme_types s) types →
+    IsMatching (match_types bases s.vars (scheme_types s) types) r → IsConformed bases s types r
+conformed_from_matching bases s types (Ok x) alike is = (alike, is)
+conformed_from_matching bases s types (Err (stop.Form i)) alike is = absurd is
+conformed_from_matching bases s types (Err (stop.Units i)) alike is = (alike, is)
+conformed_from_matching bases s types (Err (stop.Range i)) alike is = (alike, is)
+conformed_from_matching bases s types (Err stop.NoMemory) alike is = tt
 
 pub answers_say_what_instances_are : AnswersSayWhatInstancesAre
 answers_say_what_instances_are bases s types (Ok x) over low_own low is =

@@ -1,8 +1,9 @@
 -- The row of two units: what the code makes of their terms, which variables it holds, and when units satisfy it.
 -- Source: Kennedy (1996): two units are equal where their quotient is 1.
-use Rattle.std.proofs.Common.{◌≡◌, ℕ, ◌+◌, ◌<◌, ◌^◌, List, [], ◌∷◌, ◌++◌, map, get_or, ℤ, negsuc, ◌+ℤ◌, ◌*ℤ◌, refl, sym, ap, ◌∙◌}
+use Rattle.std.proofs.Common.{◌≡◌, ℕ, ◌+◌, ◌<◌, ◌^◌, List, [], ◌∷◌, ◌++◌, length, take, map, get_or, ℤ, negsuc, ◌+ℤ◌, ◌*ℤ◌, refl, sym, ap, ◌∙◌}
 use Rattle.std.specs.Prelude.{All}
 use Rattle.std.specs.List.{flat_map}
+use Rattle.std.proofs.lemmas.List.{append_assoc, map_more}
 use Rattle.std.proofs.lemmas.List.Elements.{All-nil, All-cons, All-head}
 use Rattle.std.proofs.lemmas.Simd.{map-map}
 use Rattle.um_units.specs.declared.Atom.{Atom}
@@ -49,6 +50,16 @@ module _ (bases : ℕ) where
       ∙ weigh-++ (indicator x) u.terms (map (inverse_term bases) v.terms)
       ∙ ap (λ n. weigh (indicator x) u.terms +ℤ n) (weigh-inverse (indicator x) v ∙ sym (weight-pow (indicator x) (fixed bases v) (negsuc 0)))
       ∙ sym (weight-mul (indicator x) u (inv (fixed bases v))))
+
+  -- one more term
+  pub terms_more : (own other : List Term) (i : ℕ) (d : Term) (out new : List Term) (v : Term) → i < length other → out ≡ own ++ map (inverse_term bases) (take i other) → new ≡ out ++ v ∷ [] →
+      v ≡ inverse_term bases (get_or other i d) → new ≡ own ++ map (inverse_term bases) (take (i + 1) other)
+  terms_more own other i d out new v l is pushed same =
+      pushed
+      ∙ ap (λ ts. ts ++ v ∷ []) is
+      ∙ append_assoc own (map (inverse_term bases) (take i other)) (v ∷ [])
+      ∙ ap (λ t. own ++ (map (inverse_term bases) (take i other) ++ t ∷ [])) same
+      ∙ ap (λ ts. own ++ ts) (sym (map_more (inverse_term bases) other i d l))
 
   -- ---- room for the signature's variables
   atom_room : (x : Atom) → HaveRoom bases (atom_variables x) → HasRoom bases x

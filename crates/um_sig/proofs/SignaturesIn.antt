@@ -1,7 +1,8 @@
 -- The types of a signature that is read are over the declared base units, their own variables and the declared records.
-use Rattle.std.proofs.Common.{◌≡◌, ℕ, ◌<◌, false, List, [], ◌∷◌, length, map, get_or, subst}
+use Rattle.std.proofs.Common.{◌≡◌, ℕ, ◌<◌, false, List, [], ◌∷◌, ◌++◌, length, map, get_or, subst}
 use Rattle.std.specs.Prelude.{All, Result, Ok, Err, IfOk}
 use Rattle.std.specs.List.{flat_map}
+use Rattle.std.proofs.lemmas.List.{append-nil, append_assoc}
 use Rattle.std.proofs.lemmas.List.Elements.{All-nil, All-cons, All-head, All-tail, All-append}
 use Rattle.um_units.specs.PowerMap.{PowerMap}
 use Rattle.um_tree.specs.TypeTree.{TypeTree, NoteTree, bool_type, num_type, list_type, record_type}
@@ -17,14 +18,15 @@ use Rattle.um_measures.specs.Faults.{and_then}
 use Rattle.um_measures.specs.Known.{Known}
 use Rattle.um_names.specs.TypeNames.{resolved_type, written_type}
 use Rattle.um_names.specs.SignatureNames.{SignatureTypes, all_type_names, one_type, resolved_types, signature_variables, resolved_signature}
-use Rattle.um_names.proofs.FormedUnits.{AreClosedIn}
+use Rattle.um_names.proofs.FormedUnits.{AreClosedIn, closed_last, closed_none}
 use Rattle.um_names.proofs.FormedTypes.{then_found, type_in, type_written}
 use Rattle.um_sig.specs.declared.signature.Signature.{Signature}
 use Rattle.um_sig.specs.declared.stop.SigText.{SigText}
 use Rattle.um_sig.specs.declared.stop.SigText.TheVariants as stop
 use Rattle.um_sig.specs.Instances.{AreOverBases}
 use Rattle.um_sig.specs.Laws.{FormedSignaturesAreOverTheirVariables}
-use Rattle.um_sig.specs.Reading.{AreClosedUnits, IsSignatureIn, IsRead}
+use Rattle.um_sig.specs.Reading.{signature_types_of, AreClosedUnits, IsSignatureIn}
+use Rattle.um_sig.specs.ReadingSteps.{IsNamed}
 
 -- ---- what such types hold
 module _ (n m : ℕ) (records : List RecordTree) where
@@ -61,10 +63,16 @@ pub formed_signatures_are_over_their_variables : FormedSignaturesAreOverTheirVar
 formed_signatures_are_over_their_variables bases vars records types h = (types_over bases vars records types h, types_over_bases bases vars records types h)
 
 -- ---- what is read
+closed_behind : (n : ℕ) (done ss : List Abbreviation) → AreClosedIn n done → AreClosedUnits n ss → AreClosedIn n (done ++ ss)
+closed_behind n done [] closed h = subst (AreClosedIn n) (sym (append-nil done)) closed
+closed_behind n done (s ∷ ss) closed h =
+    subst (AreClosedIn n) (append_assoc done (s ∷ []) ss)
+    (closed_behind n (done ++ s ∷ []) ss
+    (closed_last n done s closed (All-head (λ (a : Abbreviation). IsUnitIn n 0 a.unit) s ss h))
+    (All-tail (λ (a : Abbreviation). IsUnitIn n 0 a.unit) s ss h))
+
 closed_units : (n : ℕ) (ss : List Abbreviation) → AreClosedUnits n ss → AreClosedIn n ss
-unfolding AreClosedIn
-closed_units n [] h = tt
-closed_units n (s ∷ ss) h = (All-head (λ (a : Abbreviation). IsUnitIn n 0 a.unit) s ss h, closed_units n ss (All-tail (λ (a : Abbreviation). IsUnitIn n 0 a.unit) s ss h))
+closed_units n ss h = closed_behind n [] ss (closed_none n) h
 
 module _ (known : Known) (variables : List (List ℕ)) (closed : AreClosedIn (length known.program.bases) known.shorts) where
   abbrev Has : TypeTree → Type 0
@@ -95,6 +103,7 @@ signature_in known closed texts s e =
     let same : found z.0 ≡ s = cc (z.2) in
     subst (λ (q : SignatureTypes). All (IsTypeIn (length known.program.bases) q.vars known.program.records) q.types) same (each_in known names closed texts z.0 z.1)
 
-pub read_in : (p : ProgramTree) (shorts : List Abbreviation) (chars : List ℕ) (end : ℕ) (r : Result Signature SigText) → AreClosedUnits (length p.bases) shorts → IsRead p shorts chars end r → IfOk r (IsSignatureIn p)
-read_in p shorts chars end (Ok s) closed is = signature_in (given p shorts) (closed_units (length p.bases) shorts closed) is.0 _ is.2
-read_in p shorts chars end (Err e) closed is = tt
+pub named_in : (p : ProgramTree) (shorts : List Abbreviation) (texts : List TypeSyntax) (r : Result Signature SigText) → AreClosedUnits (length p.bases) shorts →
+    IsNamed (resolved_signature (given p shorts) texts) r → IfOk r (IsSignatureIn p)
+named_in p shorts texts (Ok s) closed is = signature_in (given p shorts) (closed_units (length p.bases) shorts closed) texts (signature_types_of s) is
+named_in p shorts texts (Err e) closed is = tt

@@ -31,7 +31,7 @@ one_by_one n us done (row ∷ rows) below exact =
     (λ t. rw t tt)
   where
     h : VariablesBelow (length us) row
-    h = subst (λ m. VariablesBelow m row) (sym (solvable_so_far n done us exact).1.per_slot) (All-head (VariablesBelow n) row rows below)
+    h = subst (λ m. VariablesBelow m row) (sym ((exact us).0 (IsInstance_refl us)).per_slot) (All-head (VariablesBelow n) row rows below)
 
     split : (done ++ row ∷ []) ++ rows ≡ done ++ row ∷ rows
     split = append_assoc done (row ∷ []) rows
@@ -46,10 +46,6 @@ one_by_one n us done (row ∷ rows) below exact =
 
 -- ---- types
 module _ (bases n : ℕ) where
-  -- the rows of the first j types, behind others
-  abbrev through : ℕ → List PowerMap → List TypeTree → List TypeTree → List PowerMap
-  through j done ss ts = done ++ matching_rows bases (take j ss) (take j ts)
-
   -- what types end with, numbered from k on, behind rows whose joint solutions the units give
   abbrev pub IsRightFrom : ℕ → List PowerMap → List TypeTree → List TypeTree → Matching → Type 0
   IsRightFrom k done ss ts (matched us) = SolvesExactly n (done ++ matching_rows bases ss ts) us
