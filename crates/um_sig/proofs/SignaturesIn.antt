@@ -1,5 +1,5 @@
 -- The types of a signature that is read are over the declared base units, their own variables and the declared records.
-use Rattle.std.proofs.Common.{◌≡◌, ℕ, ◌<◌, false, List, [], ◌∷◌, ◌++◌, length, map, get_or, subst}
+use Rattle.std.proofs.Common.{sym, ◌≡◌, ℕ, ◌<◌, false, List, [], ◌∷◌, ◌++◌, length, map, get_or, subst}
 use Rattle.std.specs.Prelude.{All, Result, Ok, Err, IfOk}
 use Rattle.std.specs.List.{flat_map}
 use Rattle.std.proofs.lemmas.List.{append-nil, append_assoc}
