@@ -1,9 +1,12 @@
 -- The row of two units: what the code makes of their terms, which variables it holds, and when units satisfy it.
 -- Source: Kennedy (1996): two units are equal where their quotient is 1.
-use Rattle.std.proofs.Common.{◌≡◌, ℕ, ◌+◌, ◌<◌, ◌^◌, List, [], ◌∷◌, ◌++◌, length, take, map, get_or, ℤ, negsuc, ◌+ℤ◌, ◌*ℤ◌, refl, sym, ap, ◌∙◌}
-use Rattle.std.specs.Prelude.{All}
+use Rattle.std.proofs.Common.{◌≡◌, ℕ, zero, suc, ◌+◌, ◌<◌, ◌≤◌, ◌^◌, List, [], ◌∷◌, ◌++◌, length, take, map, get_or, ℤ, pos, negsuc, ◌+ℤ◌, ◌-ℤ◌, ◌*ℤ◌, nat_abs, FitsSigned, w32, arith, refl, sym, ap, ◌∙◌}
+use Rattle.std.specs.Prelude.{All, IsTrue}
 use Rattle.std.specs.List.{flat_map}
 use Rattle.std.proofs.lemmas.List.{append_assoc, map_more}
+use Rattle.std.proofs.lemmas.Bool.{leb-true}
+use Rattle.std.proofs.lemmas.Int.{fits_signed_from_abs}
+use Rattle.std.proofs.lemmas.List.Folds.{list_all_at}
 use Rattle.std.proofs.lemmas.List.Elements.{All-nil, All-cons, All-head}
 use Rattle.std.proofs.lemmas.Simd.{map-map}
 use Rattle.um_units.specs.declared.Atom.{Atom}
@@ -12,6 +15,7 @@ use Rattle.um_units.specs.declared.Term.{Term}
 use Rattle.um_units.specs.Terms.{weigh, indicator}
 use Rattle.um_units.specs.PowerMap.{PowerMap, product, weight, one, mul, inv, scale, image, replace}
 use Rattle.um_units.specs.Variables.{IsClosed, VariablesBelow}
+use Rattle.um_units.specs.Range.{in_range, all_in_range}
 use Rattle.um_units.proofs.Equality.{same_unit}
 use Rattle.um_units.proofs.Weights.{weigh-product, weigh-++, weigh_alike}
 use Rattle.um_units.proofs.Group.{weigh-scale, weight-atom, weight-mul, weight-pow, quotient-same, same_from_quotient}
@@ -20,10 +24,24 @@ use Rattle.um_units.proofs.Variables.{IsClosed-base, IsClosed-replace, Variables
 use Rattle.um_tree.specs.TypeTree.{TypeTree, num_type, list_type, record_type}
 use Rattle.um_tree.specs.Typing.{parameter_unit}
 use Rattle.um_tree.specs.Scheme.{atom_variables, unit_variables, type_variables, variables}
+use Rattle.um_elim.proofs.Cases.{on_test}
 use Rattle.um_elim.proofs.GrowingOrder.{All-front, All-back, All-at}
 use Rattle.um_elim.proofs.VariablesKept.{unit_below}
 use Rattle.um_sig.specs.Matching.{fixed, unit_row, unit_rows, type_rows}
 use Rattle.um_sig.specs.Steps.{fixed_atom, inverse_term, HasRoom, HaveRoom}
+
+-- ---- powers in range can be negated
+by_size : (z : ℤ) → nat_abs z ≤ 2147483647 → FitsSigned w32 (pos 0 -ℤ z)
+by_size (pos zero) h = fits_signed_from_abs w32 (pos 0 -ℤ pos 0) (omega arith)
+by_size (pos (suc n)) h = fits_signed_from_abs w32 (pos 0 -ℤ pos (suc n)) (omega (arith, h))
+by_size (negsuc n) h = fits_signed_from_abs w32 (pos 0 -ℤ negsuc n) (omega (arith, h))
+
+pub negated_fits : (ts : List Term) (i : ℕ) (d : Term) → i < length ts → IsTrue (all_in_range ts) → FitsSigned w32 (pos 0 -ℤ (get_or ts i d).power)
+negated_fits ts i d l h =
+    by_size (get_or ts i d).power
+    (on_test (in_range (get_or ts i d).power)
+    (λ e. leb-true (nat_abs (get_or ts i d).power) 2147483647 e)
+    (λ e. let none = list_all_at (λ (t : Term). in_range t.power) ts i d l e in absurd (cc)))
 
 module _ (bases : ℕ) where
   -- ---- the terms

@@ -52,14 +52,12 @@ fn named(
     alloc: Global,
     program: &Program,
     abbreviations: &Abbreviations,
-    raw: RawTypes,
+    raw: &RawTypes,
 ) -> Result<Signature, SigText>
     requires formed { IsFormed (program_tree program.now) }
-    ensures { IsNamed (resolved_signature (given (program_tree program.now) abbreviations.now) (type_syntaxes raw)) result }
+    ensures { IsNamed (resolved_signature (given (program_tree program.now) abbreviations.now) (type_syntaxes raw.now)) result }
 {
-    let found = types_of(alloc, program, abbreviations, &raw);
-    drop(raw);
-    match found {
+    match types_of(alloc, program, abbreviations, raw) {
         Ok((types, vars)) => Ok(Signature { types, vars }),
         Err(NameStop::Unknown { at }) => Err(SigText::Names { at }),
         Err(NameStop::WrongCount { at }) => Err(SigText::Names { at }),
@@ -100,5 +98,7 @@ pub fn read_signature(
 {
     let tokens = tokens_of(alloc, text)?;
     let raw = parsed(alloc, tokens, text.len() as u32)?;
-    named(alloc, program, abbreviations, raw)
+    let signature = named(alloc, program, abbreviations, &raw);
+    drop(raw);
+    signature
 }
