@@ -5,7 +5,7 @@ use Rattle.std.specs.Prelude.{All, IsTrue}
 use Rattle.std.specs.List.{flat_map}
 use Rattle.std.proofs.lemmas.List.{append_assoc, map_more}
 use Rattle.std.proofs.lemmas.Bool.{leb-true}
-use Rattle.std.proofs.lemmas.Int.{fits_signed_from_abs}
+use Rattle.std.proofs.lemmas.Int.{ints, fits_signed_from_abs}
 use Rattle.std.proofs.lemmas.List.Folds.{list_all_at}
 use Rattle.std.proofs.lemmas.List.Elements.{All-nil, All-cons, All-head}
 use Rattle.std.proofs.lemmas.Simd.{map-map}
@@ -31,10 +31,13 @@ use Rattle.um_sig.specs.Matching.{fixed, unit_row, unit_rows, type_rows}
 use Rattle.um_sig.specs.Steps.{fixed_atom, inverse_term, HasRoom, HaveRoom}
 
 -- ---- powers in range can be negated
+same_size : (z : ℤ) → nat_abs (pos 0 -ℤ z) ≡ nat_abs z
+same_size (pos zero) = let e : pos 0 -ℤ pos 0 ≡ pos 0 = omega (arith, ints) in ap nat_abs e
+same_size (pos (suc n)) = let e : pos 0 -ℤ pos (suc n) ≡ negsuc n = omega (arith, ints) in ap nat_abs e
+same_size (negsuc n) = let e : pos 0 -ℤ negsuc n ≡ pos (suc n) = omega (arith, ints) in ap nat_abs e
+
 by_size : (z : ℤ) → nat_abs z ≤ 2147483647 → FitsSigned w32 (pos 0 -ℤ z)
-by_size (pos zero) h = fits_signed_from_abs w32 (pos 0 -ℤ pos 0) (omega arith)
-by_size (pos (suc n)) h = fits_signed_from_abs w32 (pos 0 -ℤ pos (suc n)) (omega (arith, h))
-by_size (negsuc n) h = fits_signed_from_abs w32 (pos 0 -ℤ negsuc n) (omega (arith, h))
+by_size z h = fits_signed_from_abs w32 (pos 0 -ℤ z) (omega (arith, h, same_size z))
 
 pub negated_fits : (ts : List Term) (i : ℕ) (d : Term) → i < length ts → IsTrue (all_in_range ts) → FitsSigned w32 (pos 0 -ℤ (get_or ts i d).power)
 negated_fits ts i d l h =
