@@ -53,8 +53,8 @@ abbrev pub eliminate_each : List PowerMap → List PowerMap → Elimination
 eliminate_each us [] = Solved us
 eliminate_each us (row ∷ rows) = on_solved (eliminate_row us row) (λ vs. eliminate_each vs rows)
 
--- what the rows end with: units for the scheme's variables; or the index, counted from 0, of the type that has the first
--- row without a solution, or the first that passes the range
+-- what the rows end with: units for the scheme's variables; or the index, counted from 0, of the type that has the
+-- first row without a solution, or the first that passes the range
 pub data Matching : Type 0 where
   matched : List PowerMap → Matching
   unmatched : ℕ → Matching
