@@ -1,0 +1,13 @@
+pub mod FormLaws
+pub mod TypesRead
+pub mod RowLaws
+pub mod MatchedTypes
+pub mod SolvedRows
+pub mod FixedSignatures
+pub mod InstanceLaws
+pub mod TypingLaws
+pub mod UniqueAnswers
+pub mod MatchingSteps
+pub mod NeverTwice
+pub mod SignaturesIn
+mod Examples

@@ -1,0 +1,7 @@
+use Rattle.um_tree.specs.ProgramTree.{program_tree}
+use Rattle.um_tree.specs.RawTree.{type_syntaxes}
+use Rattle.um_sig.proofs.SignaturesIn.{named_in}
+use Rattle.um_sig.proofs.reading.read_signature.Goals as goal
+
+pub returns-clause-formed : goal.returns-clause-formed
+returns-clause-formed c = λ closed. named_in (program_tree c.args.program.now) c.args.abbreviations.now (type_syntaxes c.in_ok-raw.raw) c.named-signature.result closed c.named-signature.ensures

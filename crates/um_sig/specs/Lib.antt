@@ -1,0 +1,11 @@
+-- What a reader must trust, in the order in which it is to be read.
+pub mod Form
+pub mod Matching
+pub mod Instances
+pub mod Answers
+pub mod Reading
+-- What these definitions come to: statements, each proved as the contract of a function of src/laws.rt.
+pub mod Laws
+-- The code's.
+pub mod Steps
+pub mod ReadingSteps

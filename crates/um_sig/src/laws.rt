@@ -1,0 +1,29 @@
+//! The laws of matching, as contracts of functions that do nothing. A crate above cites the law that it needs.
+ghost use Rattle.um_sig.specs.Laws.{
+  AnswersSayWhatInstancesAre,
+  AnswersSayWhatTypingsAre,
+  FormedSignaturesAreOverTheirVariables,
+  AnswersAreUnique,
+};
+
+/// Where a signature is accepted its instances are all instances of the scheme. Where it is refused for its form or its units
+/// they aren't, and units match the types before the index that is named, but none match those through it.
+pub fn instances()
+    ensures { AnswersSayWhatInstancesAre }
+{}
+
+/// Where a signature is accepted for a function's scheme in a formed program its instances are all typings of the function.
+/// Where it is refused for its form or its units they aren't.
+pub fn typings()
+    ensures { AnswersSayWhatTypingsAre }
+{}
+
+/// A signature that was read is over its variables, and its types over the declared base units.
+pub fn signatures()
+    ensures { FormedSignaturesAreOverTheirVariables }
+{}
+
+/// There is one answer, unless memory is wanting.
+pub fn answers()
+    ensures { AnswersAreUnique }
+{}
