@@ -10,4 +10,6 @@ pub mod UniqueAnswers
 pub mod MatchingSteps
 pub mod NeverTwice
 pub mod SignaturesIn
+pub mod UniqueReadings
+pub mod ClosedAbbreviations
 mod Examples
