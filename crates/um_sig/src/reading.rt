@@ -98,6 +98,7 @@ pub fn read_signature(
     ensures read { IsRead (program_tree program.now) abbreviations.now (chars text.now) (length text.now) result }
     ensures formed { AreClosedUnits (length (program_tree program.now).bases) abbreviations.now
         → IfOk result (IsSignatureIn (program_tree program.now)) }
+    ensures few { IfOk result (λ signature. signature.vars ≤ 1048576) }
 {
     let tokens = tokens_of(alloc, text)?;
     let raw = parsed(alloc, tokens, text.len() as u32)?;
