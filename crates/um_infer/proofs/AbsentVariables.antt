@@ -169,8 +169,8 @@ module _ (k : ℕ) where
     behind_lacks : k < slots → (m : ℕ) → Lacks k (in_place (Base m))
     behind_lacks below m =
         on_test (is_parameter bases parameters slots m)
-        (λ t. rw t (other_lacks (slots + (m - bases)) (λ e. absurd (omega (arith, e, below)))))
-        (λ t. rw t (IsClosed-base m k))
+        (λ t. ap (λ b. power_of (atom (cond b (Var (slots + (m - bases))) (Base m))) (Var k)) t ∙ other_lacks (slots + (m - bases)) (λ e. absurd (omega (arith, e, below))))
+        (λ t. ap (λ b. power_of (atom (cond b (Var (slots + (m - bases))) (Base m))) (Var k)) t ∙ IsClosed-base m k)
 
     -- and they become variables behind the slots
     pub general_lacks : k < slots → (u : PowerMap) → Lacks k u → Lacks k (generalised_unit bases parameters slots u)

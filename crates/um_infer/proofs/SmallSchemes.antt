@@ -63,11 +63,11 @@ module _ (p : ℕ) where
   apart x [] l past h = tt
   apart x (y ∷ ys) l past h =
       on_test (eqb x y)
-      (λ e. absurd (let f : not (eqb x y || member x ys) ≡ false = ap (λ b. not (b || member x ys)) e in cc))
+      (λ e. let f : not (eqb x y || member x ys) ≡ false = ap (λ b. not (b || member x ys)) e in absurd (cc (sym f ∙ h)))
       (λ e.
       let g : p ≤ y = All-head (λ j. p ≤ j) y ys past in
       let rest : IsTrue (not (member x ys)) = sym (ap (λ b. not (b || member x ys)) e) ∙ h in
-      (ne_eqb (x - p) (y - p) (λ q. let same : x ≡ y = omega (arith, q, l, g) in let t = eq-eqb x y same in cc), apart x ys l (All-tail (λ j. p ≤ j) y ys past) rest))
+      (ne_eqb (x - p) (y - p) (λ q. let same : x ≡ y = omega (arith, q, l, g) in let t = eq-eqb x y same in absurd (cc (sym t ∙ e))), apart x ys l (All-tail (λ j. p ≤ j) y ys past) rest))
 
   distinct_shifted : (xs : List ℕ) → Past xs → IsTrue (distinct xs) → IsDistinct eqb (map shift xs)
   unfolding IsDistinct
@@ -170,7 +170,7 @@ module _ (bases parameters slots at : ℕ) (within : parameters ≤ slots) (g : 
       let solution = put_signature (nth us) g in
       let scheme = numbered_scheme (generalised bases parameters slots solution) in
       let long : length us ≡ slots = ((right.0 us).0 (IsInstance_refl us)).per_slot in
-      let lacking = λ k l. solved_lack k slots rows (rigid_units bases parameters slots) us (length-rigid bases parameters slots) low (rigid_lack k bases parameters slots l) is in
+      let lacking : (k : ℕ) → k < parameters → All (Lacks k) us = λ k l. solved_lack k slots rows (rigid_units bases parameters slots) us (length-rigid bases parameters slots) low (rigid_lack k bases parameters slots l) is in
       let few = solution_small bases parameters slots within us long lacking right.1 g own in
       on_test (signature_fits solution)
       (λ e. subst (λ b. IsSmall slots (length g.params) (cond b (has_scheme scheme) (passes_range at))) (sym e) (few, as_many us))
