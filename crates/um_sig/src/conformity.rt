@@ -1,6 +1,6 @@
 //! Whether a function may be used at a signature.
 
-ghost use Rattle.std.specs.Prelude.{◌≡◌, ◌+◌, ◌<◌, ◌≤◌, nat_le, All, length, map};
+ghost use Rattle.std.specs.Prelude.{◌≡◌, ◌+◌, ◌<◌, ◌≤◌, All, length, map};
 ghost use Rattle.um_tree.specs.ProgramTree.{scheme_tree};
 ghost use Rattle.um_tree.specs.TypeTree.{type_tree, type_trees};
 ghost use Rattle.um_tree.specs.Scheme.{variables};
@@ -37,13 +37,6 @@ fn match_types(alloc: Global, scheme: &Scheme, types: &[Ty], bases: u32) -> Resu
     Ok(())
 }
 
-/// Whether the numbers behind the base units are enough for so many variables.
-fn has_room(bases: u32, vars: u32) -> bool
-    ensures { result ≡ nat_le (bases + vars) 4294967295 }
-{
-    u64::from(bases) + u64::from(vars) <= u64::from(u32::MAX)
-}
-
 /// Whether a function with this scheme may be used at the signature: Ok exactly where each instance of the signature is
 /// an instance of the scheme and no power passes the range on the way.
 ///
@@ -60,7 +53,7 @@ fn has_room(bases: u32, vars: u32) -> bool
 /// - Else at the first unit that stops: `Range` where a power passes the range while its equation is formed and solved,
 ///   and `Units` where no units in place of the scheme's variables make all units up to it equal. The index is that of
 ///   its type.
-/// - `NoMemory` may come with any arguments, and comes where base units and variables number more than 4294967295.
+/// - `NoMemory` may come with any arguments.
 pub fn conform(
     alloc: Global,
     scheme: &Scheme,
@@ -70,15 +63,13 @@ pub fn conform(
     requires scheme { IsOverItsVariables (scheme_tree scheme.now) }
     requires few { scheme.now.vars ≤ 2000 }
     requires signature { All (λ k. k < signature.now.vars) (variables (type_trees signature.now.types)) }
+    requires bases { bases + signature.now.vars ≤ 4294967295 }
     requires params { length scheme.now.params.items.items < 4294967295 }
     ensures conformed { IsConformed bases (scheme_tree scheme.now) (type_trees signature.now.types) result }
     ensures instances { AreOverBases bases (scheme_types (scheme_tree scheme.now))
         → AreOverBases bases (type_trees signature.now.types)
         → SaysOfInstances bases (scheme_types (scheme_tree scheme.now)) (type_trees signature.now.types) result }
 {
-    if !has_room(bases, signature.vars) {
-        return Err(SigStop::NoMemory);
-    }
     let types = &signature.types.items;
     match first_difference(scheme, types) {
         Some(index) => Err(SigStop::Form { index }),
