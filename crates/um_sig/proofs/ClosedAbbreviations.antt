@@ -1,5 +1,5 @@
 -- The abbreviations of a program text are closed units, over its declared base units.
-use Rattle.std.proofs.Common.{◌≡◌, ℕ, List, [], ◌∷◌, ◌++◌, length, sym, ap, ◌∙◌, subst, arith, Ok, length-append}
+use Rattle.std.proofs.Common.{◌≡◌, ℕ, List, [], ◌∷◌, ◌++◌, length, get_or, sym, ap, ◌∙◌, subst, arith, Ok, length-append}
 use Rattle.std.specs.Prelude.{All}
 use Rattle.std.proofs.lemmas.List.Elements.{All-nil, All-cons, All-append}
 use Rattle.um_units.specs.PowerMap.{PowerMap}
@@ -28,7 +28,7 @@ closed_behind_one known (base_syntax at x) after h e =
     let w = then_found (unless_taken (is_taken known x) at) (λ _. Ok (with_base known x)) after e in
     let same : with_base known x ≡ after = cc (w.2) in
     let longer = length-append known.program.bases (x ∷ []) in
-    subst IsClosed same (λ k d l. in_more (length known.program.bases) (length (known.program.bases ++ x ∷ [])) 0 _ (omega (arith, longer)) (h k d l))
+    subst IsClosed same (λ k d l. in_more (length known.program.bases) 0 (length (known.program.bases ++ x ∷ [])) (get_or known.shorts k d).unit (omega (arith, longer)) (h k d l))
 closed_behind_one known (short_syntax at x u) after h e =
     let n = length known.program.bases in
     let Closed : Abbreviation → Type 0 = λ a. IsUnitIn n 0 a.unit in

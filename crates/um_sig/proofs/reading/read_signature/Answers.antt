@@ -1,5 +1,6 @@
 use Rattle.um_tree.specs.ProgramTree.{program_tree}
 use Rattle.um_tree.specs.RawTree.{type_syntaxes}
+use Rattle.um_measures.specs.ClosedUnits.{given}
 use Rattle.um_sig.proofs.SignaturesIn.{named_in}
 use Rattle.um_sig.proofs.FewVariables.{named_few}
 use Rattle.um_sig.proofs.reading.read_signature.Goals as goal
