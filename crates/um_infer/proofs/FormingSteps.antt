@@ -90,7 +90,7 @@ same_last (z ∷ xs) (w ∷ ys) x y e =
 same_signature : (g h : Signature) → signature_types g ≡ signature_types h → g ≡ h
 same_signature g h e = let both = same_last g.params h.params g.result h.result e in λ i. record { params = both.0 i; result = both.1 i }
 
-types-put : (s : ℕ → PowerMap) (g : Signature) → signature_types (put_signature s g) ≡ map (put s) (signature_types g)
+pub types-put : (s : ℕ → PowerMap) (g : Signature) → signature_types (put_signature s g) ≡ map (put s) (signature_types g)
 types-put s g = sym (map-append (put s) g.params (g.result ∷ []))
 
 -- the renumbered types with their count are the numbered scheme
@@ -101,7 +101,7 @@ scheme_numbered g ts s types renamed count =
     let vars : length (variable_order (signature_types g)) ≡ s.vars = ap (λ us. length (variable_order us)) (sym types) ∙ sym count in
     λ i. record { signature = signature i; vars = vars i }
 
-types-moved : (change : PowerMap → PowerMap) (g : Signature) → signature_types (moved_signature change g) ≡ map (moved change) (signature_types g)
+pub types-moved : (change : PowerMap → PowerMap) (g : Signature) → signature_types (moved_signature change g) ≡ map (moved change) (signature_types g)
 types-moved change g = sym (map-append (moved change) g.params (g.result ∷ []))
 
 module _ (bases parameters slots at : ℕ) (g : Signature) (rows : List Row) (us : List PowerMap) (is : solve 0 rows (rigid_units bases parameters slots) ≡ solved us) where

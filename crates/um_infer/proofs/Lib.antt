@@ -8,6 +8,8 @@ pub mod AnswerLaws
 mod SolvingSteps
 mod FormingSteps
 mod GeneralSteps
+mod AbsentVariables
+pub mod SmallSchemes
 mod Judged
 mod ProgramSteps
 mod Examples

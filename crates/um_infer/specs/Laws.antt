@@ -1,6 +1,6 @@
 -- What the inference of a program comes to. The definitions do not rest on this.
 -- Source: Kennedy (1996): a typable function has a principal scheme, and the inference finds it.
-use Rattle.std.specs.Prelude.{◌≡◌, ◌↔◌, ◌⊎◌, ℕ, ◌<◌, List, length, Some, slice_get}
+use Rattle.std.specs.Prelude.{◌≡◌, ◌↔◌, ◌⊎◌, ℕ, ◌<◌, ◌≤◌, List, length, Some, slice_get}
 use Rattle.um_tree.specs.TypeTree.{TypeTree}
 use Rattle.um_tree.specs.ProgramTree.{RecordTree, FunctionTree, ProgramTree, SchemeTree}
 use Rattle.um_tree.specs.ValueTree.{InputTrees}
@@ -20,6 +20,16 @@ abbrev pub GivenSchemesArePrincipal : Type 0
 GivenSchemesArePrincipal =
     (p : ProgramTree) → IsFormed p → (schemes : List SchemeTree) →
     infer p ≡ all_schemes schemes → ArePrincipal p (length p.functions) schemes
+
+-- a scheme of at most 2,000 variables and 16 parameters
+abbrev pub IsSmallScheme : SchemeTree → Type 0
+IsSmallScheme s = (s.vars ≤ 2000) × (length s.signature.params ≤ 16)
+
+-- each scheme that a formed program is given is so small
+abbrev pub GivenSchemesAreSmall : Type 0
+GivenSchemesAreSmall =
+    (p : ProgramTree) → IsFormed p → (schemes : List SchemeTree) → infer p ≡ all_schemes schemes →
+    (i : ℕ) (s : SchemeTree) → slice_get schemes i ≡ Some s → IsSmallScheme s
 
 -- a function has too many slots or passes the range, where those before have their schemes
 abbrev pub IsLimited : Inference → Type 0

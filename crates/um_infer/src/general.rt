@@ -1,12 +1,13 @@
-//! Unit parameters as variables: behind `bases` base units and over `slots` slots the base unit `bases + k` of parameter k
-//! becomes the variable `slots + k`.
+//! Unit parameters as variables: behind `bases` base units and over `slots` slots the base unit `bases + k` of
+//! parameter k becomes the variable `slots + k`.
 
 ghost use Rattle.std.specs.Prelude.{◌≡◌, ◌<◌, ◌+◌, ◌^◌, All, IfOk, map};
 ghost use Rattle.std.specs.List.{flat_map};
 ghost use Rattle.um_tree.specs.TypeTree.{type_tree, type_trees};
 ghost use Rattle.um_tree.specs.Typing.{moved};
 ghost use Rattle.um_tree.specs.Scheme.{unit_variables, type_variables, variables};
-ghost use Rattle.um_rows.specs.Generalised.{generalised_atom as atom_in_place, generalised_term, generalised_unit as unit_in_place};
+ghost use Rattle.um_rows.specs.Generalised.{generalised_atom as atom_in_place, generalised_term};
+ghost use Rattle.um_rows.specs.Generalised.{generalised_unit as unit_in_place};
 
 use std::alloc::{AllocError, Global};
 use um_tree::{Ty, Types};

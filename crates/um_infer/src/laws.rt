@@ -2,6 +2,7 @@
 ghost use Rattle.um_infer.specs.Laws.{
   GivenSchemesArePrincipal,
   SchemesAreGivenToTyped,
+  GivenSchemesAreSmall,
   UnitsStopAtFirstUntyped,
   NotGeneralStopsAtFirstUntyped,
   TypedStopForLimits,
@@ -15,18 +16,19 @@ ghost use Rattle.um_infer.specs.Laws.{
 };
 ghost use Rattle.um_infer.specs.Answers.{InferredAnswersAreRight};
 
-/// The schemes that are given are as many as the functions, numbered, and the instances of each are exactly the typings of
-/// its function. They are given exactly where every function has a typing and no function has too many slots or passes the
-/// range of powers.
+/// The schemes that are given are as many as the functions, numbered, and the instances of each are exactly the typings
+/// of its function. They are given exactly where every function has a typing and no function has too many slots or
+/// passes the range of powers. Each has at most 2,000 variables and 16 parameters.
 pub fn schemes()
     ensures principal { GivenSchemesArePrincipal }
     ensures exact { SchemesAreGivenToTyped }
+    ensures small { GivenSchemesAreSmall }
 {}
 
-/// A stop for units is at the first function without a typing, at its first unsolvable row given the principal schemes of
-/// those before it, and no units satisfy the rows up to it. A stop for want of generality is there too, where some units do,
-/// but none with each unit parameter as a unit of its own. So a program whose every function has a typing stops for slots or
-/// range alone.
+/// A stop for units is at the first function without a typing, at its first unsolvable row given the principal schemes
+/// of those before it, and no units satisfy the rows up to it. A stop for want of generality is there too, where some
+/// units do, but none with each unit parameter as a unit of its own. So a program whose every function has a typing
+/// stops for slots or range alone.
 pub fn refusals()
     ensures untyped { UnitsStopAtFirstUntyped }
     ensures not_general { NotGeneralStopsAtFirstUntyped }
@@ -42,8 +44,8 @@ pub fn stops()
     ensures counted { ManySlotsAreCounted }
 {}
 
-/// Where the schemes of all functions are given, the type that a call is judged to have is a type of the call, and a call
-/// that is judged to have none has no result.
+/// Where the schemes of all functions are given, the type that a call is judged to have is a type of the call, and a
+/// call that is judged to have none has no result.
 pub fn calls()
     ensures types { JudgedCallTypes }
     ensures refusals { JudgedCallRefusals }

@@ -1,8 +1,8 @@
 //! The schemes of a program's functions, or its first function without one.
 //!
-//! Functions are taken in order, each with the schemes of those before it (Kennedy, Programming Languages and Dimensions,
-//! 1996: a program's principal schemes). The limit of slots, the range of powers and the place of a refusal are this
-//! project's own.
+//! Functions are taken in order, each with the schemes of those before it (Kennedy, Programming Languages and
+//! Dimensions, 1996: a program's principal schemes). The limit of slots, the range of powers and the place of a refusal
+//! are this project's own.
 #![tactic(auto)]
 
 mod call;

@@ -18,13 +18,14 @@ use um_tree::{Scheme, Schemes};
 
 /// The schemes of the program's functions, or the first function that has none.
 ///
-/// The functions are taken in order, each with the schemes of those before it. Of one function it comes first that it has
-/// more than 2,000 slots, then that a power of its equations passes the range, then its rows one by one, and then that a
-/// power of its scheme passes the range, at its name. Each unit parameter is a unit of its own (F# specification, Units Of
-/// Measure). A row that no units satisfy then together with those before it is NotGeneral where some units do with the unit
-/// parameters as unknown units, and else Units, and a power that passes the range while a row is added is PowerRange, all at
-/// the row's place. The instances of each scheme are exactly the function's typings, and its variables are numbered in the
-/// order of their first occurrence (Kennedy 1996; the order and the limits are this project's own).
+/// The functions are taken in order, each with the schemes of those before it. Of one function it comes first that it
+/// has more than 2,000 slots, then that a power of its equations passes the range, then its rows one by one, and then
+/// that a power of its scheme passes the range, at its name. Each unit parameter is a unit of its own (F#
+/// specification, Units Of Measure). A row that no units satisfy then together with those before it is NotGeneral where
+/// some units do with the unit parameters as unknown units, and else Units, and a power that passes the range while a
+/// row is added is PowerRange, all at the row's place. The instances of each scheme are exactly the function's typings,
+/// and its variables are numbered in the order of their first occurrence (Kennedy 1996; the order and the limits are
+/// this project's own).
 pub fn infer(alloc: Global, shaped: &Shaped) -> Result<Schemes, InferStop>
     ensures inferred { IsInferred (program_tree shaped.now) result }
     ensures typings { SaysOfTypings (program_tree shaped.now) result }

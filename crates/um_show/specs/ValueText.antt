@@ -1,6 +1,7 @@
 -- How a value is printed at a type, and whether the types of its parts have their powers in range.
 -- Source: this project's own texts; the units are in the notation of the F# specification, Units Of Measure.
-use Rattle.std.specs.Prelude.{ℕ, Bool, true, false, ◌&&◌, List, [], ◌∷◌, ◌++◌, codes, map, slice_get, Option, Some, None}
+use Rattle.std.specs.Prelude.{ℕ, Bool, true, false, ◌&&◌, List, [], ◌∷◌, ◌++◌, codes, map, slice_get, Option, Some}
+use Rattle.std.specs.Prelude.{None}
 use Rattle.um_frac.specs.declared.number.Frac.{Frac}
 use Rattle.um_units.specs.declared.Term.{Term}
 use Rattle.um_units.specs.PowerMap.{PowerMap, nth}
@@ -79,8 +80,8 @@ module _ (p : ProgramTree) where
     fields_text gap (more_values v vs) (f ∷ fs) =
         gap ++ f.name ++ codes " = " ++ value_text v f.type ++ fields_text separator vs fs
 
-  -- The types of the parts have their powers in range: those of the fields, with the record's units put in, at each depth.
-  -- The items of a list have a type that its own type holds.
+  -- The types of the parts have their powers in range: those of the fields, with the record's units put in, at each
+  -- depth. The items of a list have a type that its own type holds.
   abbrev mutual
     pub parts_fit : ValueTree → TypeTree → Bool
     parts_fit (truth_value b) t = true

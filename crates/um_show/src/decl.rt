@@ -1,10 +1,12 @@
 // The texts of declarations and programs.
 ghost use Rattle.std.specs.Prelude.{◌≡◌, ◌++◌, IfOk, OnOk, map};
 ghost use Rattle.std.specs.List.{flat_map, join_by};
-ghost use Rattle.um_tree.specs.RawTree.{var_syntax, field_decl_syntax, param_syntax, written_type, whole_function_syntax, decl_syntax};
+ghost use Rattle.um_tree.specs.RawTree.{var_syntax, field_decl_syntax, param_syntax, written_type};
+ghost use Rattle.um_tree.specs.RawTree.{whole_function_syntax, decl_syntax};
 ghost use Rattle.um_tree.specs.RawTree.{program_syntax};
 ghost use Rattle.um_show.specs.Pieces.{text_of};
-ghost use Rattle.um_show.specs.Layout.{var_pieces, var_list_pieces, field_decl_pieces, param_pieces, result_pieces, rec_pieces, function_pieces, decl_pieces, line_pieces, layout};
+ghost use Rattle.um_show.specs.Layout.{var_pieces, var_list_pieces, field_decl_pieces, param_pieces, result_pieces};
+ghost use Rattle.um_show.specs.Layout.{rec_pieces, function_pieces, decl_pieces, line_pieces, layout};
 ghost use Rattle.um_show.specs.Lists.{field_decls_text, record_decl_text};
 
 use crate::expr::push_expr;
@@ -17,7 +19,8 @@ use um_units::NoMemory;
 
 /// The text of a program in its layout: one declaration a line, with a line feed behind each.
 ///
-/// Comments and places are not in the tree, so they are dropped. `NoMemory` is its one error. The layout is this project's own.
+/// Comments and places are not in the tree, so they are dropped. `NoMemory` is its one error. The layout is this
+/// project's own.
 pub fn program_text(alloc: Global, raw: &RawProgram) -> Result<Vec<u8>, NoMemory>
     ensures { IfOk result (λ text. text.items ≡ layout (program_syntax raw.now)) }
 {
@@ -120,7 +123,8 @@ fn push_field_decls(text: &mut Vec<u8>, fields: &[RawFieldDecl]) -> Result<(), A
 }
 
 fn push_field_decl(text: &mut Vec<u8>, field: &RawFieldDecl) -> Result<(), AllocError>
-    ensures { OnOk result (text.new.items ≡ text.old.items ++ text_of (field_decl_pieces (field_decl_syntax field.now))) }
+    ensures { OnOk result (text.new.items ≡ text.old.items
+        ++ text_of (field_decl_pieces (field_decl_syntax field.now))) }
 {
     push_name(text, &field.name)?;
     text.extend_from_slice(b": ")?;

@@ -1,10 +1,13 @@
 // The texts of expressions.
 ghost use Rattle.std.specs.Prelude.{◌≡◌, ◌++◌, ◌∷◌, [], OnOk, map};
-ghost use Rattle.um_tree.specs.RawTree.{written_note, type_syntax, binder_syntax, expr_syntax, exprs_in_order, field_part};
-ghost use Rattle.um_tree.specs.RawTree.{fields_in_order, number_syntax, call_syntax, pown_syntax, if_syntax, let_syntax, match_syntax};
+ghost use Rattle.um_tree.specs.RawTree.{written_note, type_syntax, binder_syntax, expr_syntax, exprs_in_order};
+ghost use Rattle.um_tree.specs.RawTree.{field_part};
+ghost use Rattle.um_tree.specs.RawTree.{fields_in_order, number_syntax, call_syntax, pown_syntax, if_syntax};
+ghost use Rattle.um_tree.specs.RawTree.{let_syntax, match_syntax};
 ghost use Rattle.um_tree.specs.RawTree.{nil_syntax, list_syntax, fields_syntax, field_syntax, bracket_expr_syntax};
 ghost use Rattle.um_show.specs.Pieces.{text_of, piece_text};
-ghost use Rattle.um_show.specs.Layout.{truth_piece, binder_piece, arith_piece, compare_pieces, expr_pieces, argument_pieces, item_pieces, field_pieces};
+ghost use Rattle.um_show.specs.Layout.{truth_piece, binder_piece, arith_piece, compare_pieces, expr_pieces};
+ghost use Rattle.um_show.specs.Layout.{argument_pieces, item_pieces, field_pieces};
 ghost use Rattle.um_show.specs.Lists.{spaced_text, let_text, arms_text, part_text};
 
 use crate::number::{push_number, push_whole_power};

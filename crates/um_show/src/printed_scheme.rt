@@ -10,7 +10,8 @@ use std::alloc::{AllocError, Global};
 use um_tree::{Name, Program, Scheme, Ty};
 use um_units::NoMemory;
 
-/// The text of a function's scheme: the name, ` : `, and the types of the parameters and the result with ` -> ` between.
+/// The text of a function's scheme: the name, ` : `, and the types of the parameters and the result with ` -> `
+/// between.
 ///
 /// `NoMemory` is its one error. The form is this project's own.
 pub fn scheme_text(

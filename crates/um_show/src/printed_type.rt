@@ -10,8 +10,8 @@ use std::alloc::{AllocError, Global};
 use um_tree::{Name, Program, Record, Ty};
 use um_units::{NoMemory, Unit};
 
-/// The text of a type over the base units and records of the program: `bool`, `num` with its unit where that isn't 1, the item's
-/// type and `list`, a record's name with its units in angle brackets.
+/// The text of a type over the base units and records of the program: `bool`, `num` with its unit where that isn't 1,
+/// the item's type and `list`, a record's name with its units in angle brackets.
 ///
 /// `NoMemory` is its one error. The form is this project's own.
 pub fn type_text(alloc: Global, ty: &Ty, program: &Program) -> Result<Vec<u8>, NoMemory>

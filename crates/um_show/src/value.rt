@@ -10,7 +10,8 @@ ghost use Rattle.um_tree.specs.ValueTree.{value_tree, values_in_order};
 ghost use Rattle.um_elim.specs.Application.{type_fits};
 ghost use Rattle.um_show.specs.NumberText.{number_text};
 ghost use Rattle.um_show.specs.UnitText.{unit_text};
-ghost use Rattle.um_show.specs.ValueText.{item_in, units_in, field_at, fields_in, truth_text, suffix_text, suffix_at, value_text, items_text, fields_text, parts_fit, items_fit, fields_fit};
+ghost use Rattle.um_show.specs.ValueText.{item_in, units_in, field_at, fields_in, truth_text, suffix_text, suffix_at};
+ghost use Rattle.um_show.specs.ValueText.{value_text, items_text, fields_text, parts_fit, items_fit, fields_fit};
 
 use crate::number::push_number;
 use crate::printed_unit::push_unit;
@@ -21,19 +22,22 @@ use um_frac::Frac;
 use um_tree::{FieldDecl, Name, Program, Record, Ty, Value};
 use um_units::{Atom, Unit, UnitStop};
 
-/// The text of a value at a type: `true`, `false`; a number, and directly behind it its unit in angle brackets, nothing at
-/// the unit 1, `<_>` at a unit with a variable; `[A; B]`; `{ f = A; g = B }`, the fields in the order of declaration.
+/// The text of a value at a type: `true`, `false`; a number, and directly behind it its unit in angle brackets, nothing
+/// at the unit 1, `<_>` at a unit with a variable; `[A; B]`; `{ f = A; g = B }`, the fields in the order of
+/// declaration.
 ///
-/// The value has the type's shape, over the records of the program. Range comes exactly where the type of a field of a part,
-/// with the record's units put in, has a power outside -2147483647..2147483647. The form is this project's own.
+/// The value has the type's shape, over the records of the program. Range comes exactly where the type of a field of a
+/// part, with the record's units put in, has a power outside -2147483647..2147483647. The form is this project's own.
 pub fn value_text(
     alloc: Global,
     value: &Value,
     ty: &Ty,
     program: &Program,
 ) -> Result<Vec<u8>, UnitStop>
-    ensures exact { IfOk result (λ text. text.items ≡ value_text (program_tree program.now) (value_tree value.now) (type_tree ty.now)) }
-    ensures range { RangeUnless result (parts_fit (program_tree program.now) (value_tree value.now) (type_tree ty.now)) }
+    ensures exact { IfOk result (λ text. text.items ≡ value_text (program_tree program.now) (value_tree value.now)
+        (type_tree ty.now)) }
+    ensures range { RangeUnless result (parts_fit (program_tree program.now) (value_tree value.now)
+        (type_tree ty.now)) }
 {
     let mut text = Vec::new(alloc);
     push_value(alloc, &mut text, program, value, ty)?;
@@ -49,8 +53,10 @@ fn push_value(
     value: &Value,
     ty: &Ty,
 ) -> Result<(), UnitStop>
-    ensures exact { OnOk result (text.new.items ≡ text.old.items ++ value_text (program_tree program.now) (value_tree value.now) (type_tree ty.now)) }
-    ensures range { RangeUnless result (parts_fit (program_tree program.now) (value_tree value.now) (type_tree ty.now)) }
+    ensures exact { OnOk result (text.new.items ≡ text.old.items
+        ++ value_text (program_tree program.now) (value_tree value.now) (type_tree ty.now)) }
+    ensures range { RangeUnless result (parts_fit (program_tree program.now) (value_tree value.now)
+        (type_tree ty.now)) }
 {
     match value {
         Value::Bool(b) => Ok(push_truth(text, *b)?),
@@ -78,8 +84,11 @@ fn push_items(
     values: &[Value],
     ty: &Ty,
 ) -> Result<(), UnitStop>
-    ensures exact { OnOk result (text.new.items ≡ text.old.items ++ items_text (program_tree program.now) [] (values_in_order (map value_tree values.now)) (item_in (type_tree ty.now))) }
-    ensures range { RangeUnless result (items_fit (program_tree program.now) (values_in_order (map value_tree values.now)) (item_in (type_tree ty.now))) }
+    ensures exact { OnOk result (text.new.items ≡ text.old.items
+        ++ items_text (program_tree program.now) [] (values_in_order (map value_tree values.now))
+        (item_in (type_tree ty.now))) }
+    ensures range { RangeUnless result (items_fit (program_tree program.now)
+        (values_in_order (map value_tree values.now)) (item_in (type_tree ty.now))) }
 {
     let truth = Ty::Bool;
     let item = item_of(ty, &truth);
@@ -100,8 +109,11 @@ fn push_fields(
     fields: &[FieldDecl],
     units: &[Unit],
 ) -> Result<(), UnitStop>
-    ensures exact { OnOk result (text.new.items ≡ text.old.items ++ fields_text (program_tree program.now) [] (values_in_order (map value_tree values.now)) (map (field_at units.now) (map field_tree fields.now))) }
-    ensures range { RangeUnless result (fields_fit (program_tree program.now) (values_in_order (map value_tree values.now)) (map (field_at units.now) (map field_tree fields.now))) }
+    ensures exact { OnOk result (text.new.items ≡ text.old.items
+        ++ fields_text (program_tree program.now) [] (values_in_order (map value_tree values.now))
+        (map (field_at units.now) (map field_tree fields.now))) }
+    ensures range { RangeUnless result (fields_fit (program_tree program.now)
+        (values_in_order (map value_tree values.now)) (map (field_at units.now) (map field_tree fields.now))) }
 {
     for i in 0..values.len() {
         let Some(field) = fields.get(i) else {
@@ -125,8 +137,11 @@ fn push_part(
     declared: &Ty,
     units: &[Unit],
 ) -> Result<(), UnitStop>
-    ensures exact { OnOk result (text.new.items ≡ text.old.items ++ value_text (program_tree program.now) (value_tree value.now) (put (nth units.now) (type_tree declared.now))) }
-    ensures range { RangeUnless result (type_fits (put (nth units.now) (type_tree declared.now)) && parts_fit (program_tree program.now) (value_tree value.now) (put (nth units.now) (type_tree declared.now))) }
+    ensures exact { OnOk result (text.new.items ≡ text.old.items
+        ++ value_text (program_tree program.now) (value_tree value.now)
+        (put (nth units.now) (type_tree declared.now))) }
+    ensures range { RangeUnless result (type_fits (put (nth units.now) (type_tree declared.now))
+        && parts_fit (program_tree program.now) (value_tree value.now) (put (nth units.now) (type_tree declared.now))) }
 {
     let ty = put_in_type(alloc, units, declared)?;
     let done = push_value(alloc, text, program, value, &ty);
@@ -152,7 +167,8 @@ fn push_number_at(
     c: Frac,
     ty: &Ty,
 ) -> Result<(), AllocError>
-    ensures { OnOk result (text.new.items ≡ text.old.items ++ (number_text c ++ suffix_at bases.now (type_tree ty.now))) }
+    ensures { OnOk result (text.new.items ≡ text.old.items
+        ++ (number_text c ++ suffix_at bases.now (type_tree ty.now))) }
 {
     push_number(text, c)?;
     push_suffix_at(alloc, text, bases, ty)
@@ -182,7 +198,8 @@ fn push_suffix(
     bases: &[Name],
     unit: &Unit,
 ) -> Result<(), AllocError>
-    ensures { OnOk result (text.new.items ≡ text.old.items ++ suffix_text (unit_text bases.now unit.now) (variables_below 0 unit.now.terms) unit.now.terms) }
+    ensures { OnOk result (text.new.items ≡ text.old.items
+        ++ suffix_text (unit_text bases.now unit.now) (variables_below 0 unit.now.terms) unit.now.terms) }
 {
     if unit.terms().is_empty() {
         return Ok(());
@@ -229,7 +246,8 @@ fn units_of(ty: &Ty) -> &[Unit]
 
 /// The fields of the record of this number.
 fn fields_of(records: &[Record], r: u32) -> &[FieldDecl]
-    ensures { (us : List PowerMap) → map (field_at us) (map field_tree result.now) ≡ fields_in (slice_get (map record_tree records.now) r) us }
+    ensures { (us : List PowerMap) → map (field_at us) (map field_tree result.now)
+        ≡ fields_in (slice_get (map record_tree records.now) r) us }
 {
     match records.get(r as usize) {
         Some(declared) => &declared.fields.items,

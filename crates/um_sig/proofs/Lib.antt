@@ -10,4 +10,7 @@ pub mod UniqueAnswers
 pub mod MatchingSteps
 pub mod NeverTwice
 pub mod SignaturesIn
+mod FewVariables
+pub mod UniqueReadings
+pub mod ClosedAbbreviations
 mod Examples

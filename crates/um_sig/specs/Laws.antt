@@ -1,14 +1,21 @@
--- What the matching of a signature comes to. The definitions do not rest on this.
+-- What the reading and the matching of a signature come to. The definitions do not rest on this.
 -- Source: Kennedy (1996): matching is sound and complete, and a function's scheme has exactly its typings as instances.
-use Rattle.std.specs.Prelude.{◌≡◌, ◌⊎◌, ◌<◌, ℕ, All, List, length, Result, Err}
+use Rattle.std.specs.Prelude.{◌≡◌, ◌⊎◌, ◌<◌, ℕ, All, List, length, Result, Ok, Err}
 use Rattle.um_tree.specs.TypeTree.{TypeTree}
 use Rattle.um_tree.specs.ProgramTree.{RecordTree, ProgramTree, SchemeTree}
 use Rattle.um_tree.specs.Scheme.{IsPrincipal, variables}
 use Rattle.um_tree.specs.Formed.{IsTypeIn, IsFormed}
+use Rattle.um_tree.specs.RawTree.{DeclSyntax}
+use Rattle.um_measures.specs.declared.abbreviation.Abbreviation.{Abbreviation}
+use Rattle.um_names.specs.Resolution.{resolved_program, resolved_abbreviations}
+use Rattle.um_sig.specs.declared.signature.Signature.{Signature}
+use Rattle.um_sig.specs.declared.stop.SigText.{SigText}
+use Rattle.um_sig.specs.declared.stop.SigText.TheVariants as text_stop
 use Rattle.um_sig.specs.declared.stop.SigStop.{SigStop}
 use Rattle.um_sig.specs.declared.stop.SigStop.TheVariants as stop
 use Rattle.um_sig.specs.Instances.{scheme_types, AreOverBases}
 use Rattle.um_sig.specs.Answers.{IsConformed, SaysOfInstances, SaysOfTypings}
+use Rattle.um_sig.specs.Reading.{signature_types_of, IsRead, AreClosedUnits}
 
 -- the scheme is over its own variables alone
 abbrev pub IsOverItsVariables : SchemeTree → Type 0
@@ -42,3 +49,25 @@ AnswersAreUnique =
     (bases : ℕ) (s : SchemeTree) (types : List TypeTree) (r q : Result (Unit {0}) SigStop) →
     IsConformed bases s types r → IsConformed bases s types q →
     (r ≡ q) ⊎ ((r ≡ Err stop.NoMemory) ⊎ (q ≡ Err stop.NoMemory))
+
+-- ---- what is read
+
+-- both answers are the same signature, or the same refusal at the same place, but for want of memory
+abbrev pub AreSameReading : Result Signature SigText → Result Signature SigText → Type 0
+AreSameReading (Ok s) (Ok t) = signature_types_of s ≡ signature_types_of t
+AreSameReading (Err text_stop.NoMemory) other = Unit {0}
+AreSameReading one (Err text_stop.NoMemory) = Unit {0}
+AreSameReading (Err e) (Err f) = e ≡ f
+AreSameReading one other = ⊥
+
+-- the text alone decides what `read_signature` answers, beside a program with its abbreviations
+abbrev pub ReadingsAreUnique : Type 0
+ReadingsAreUnique =
+    (p : ProgramTree) (shorts : List Abbreviation) (chars : List ℕ) (end : ℕ) (one other : Result Signature SigText) →
+    IsRead p shorts chars end one → IsRead p shorts chars end other → AreSameReading one other
+
+-- the abbreviations of a program text are closed units, over its declared base units
+abbrev pub AbbreviationsAreClosed : Type 0
+AbbreviationsAreClosed =
+    (ds : List DeclSyntax) (p : ProgramTree) (shorts : List Abbreviation) → resolved_program ds ≡ Ok p →
+    resolved_abbreviations ds ≡ Ok shorts → AreClosedUnits (length p.bases) shorts

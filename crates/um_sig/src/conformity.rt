@@ -23,10 +23,11 @@ use um_tree::{Scheme, Ty};
 fn match_types(alloc: Global, scheme: &Scheme, types: &[Ty], bases: u32) -> Result<(), SigStop>
     requires alike { AreAlike (scheme_types (scheme_tree scheme.now)) (map type_tree types.now) }
     requires few { scheme.now.vars ≤ 2000 }
-    requires short { length types.now < 4294967295 }
+    requires params { length scheme.now.params.items.items < 4294967295 }
     requires variables { IsOverItsVariables (scheme_tree scheme.now) }
     requires room { HaveRoom bases (variables (map type_tree types.now)) }
-    ensures { IsMatching (matching_of bases scheme.now.vars (scheme_types (scheme_tree scheme.now)) (map type_tree types.now)) result }
+    ensures { IsMatching (matching_of bases scheme.now.vars (scheme_types (scheme_tree scheme.now))
+        (map type_tree types.now)) result }
 {
     let mut solver = Solver::new(alloc, scheme.vars)?;
     for i in 0..types.len() {
@@ -36,20 +37,22 @@ fn match_types(alloc: Global, scheme: &Scheme, types: &[Ty], bases: u32) -> Resu
     Ok(())
 }
 
-/// Whether a function with this scheme may be used at the signature: Ok exactly where each instance of the signature is an
-/// instance of the scheme and no power passes the range on the way.
+/// Whether a function with this scheme may be used at the signature: Ok exactly where each instance of the signature is
+/// an instance of the scheme and no power passes the range on the way.
 ///
-/// The scheme's variables are below its `vars`, which is at most 2,000, and the signature's below its own. `bases` is the
-/// number of declared base units; behind them each of the signature's variables is taken for a base unit of its own. The
-/// types are matched from left to right, the result's last, and each from left to right unit by unit (Kennedy, Programming
-/// Languages and Dimensions, 1996: matching in the free abelian group; the order and the range are this project's own).
+/// The scheme's variables are below its `vars`, which is at most 2,000, and the signature's below its own. `bases` is
+/// the number of declared base units; behind them each of the signature's variables is taken for a base unit of its
+/// own. The types are matched from left to right, the result's last, and each from left to right unit by unit (Kennedy,
+/// Programming Languages and Dimensions, 1996: matching in the free abelian group; the order and the range are this
+/// project's own).
 ///
 /// # Errors
 ///
-/// - `Form` at the first index where one of scheme and signature has a type and the other none, or the two types differ in
-///   more than their units.
-/// - Else at the first unit that stops: `Range` where a power passes the range while its equation is formed and solved, and
-///   `Units` where no units in place of the scheme's variables make all units up to it equal. The index is that of its type.
+/// - `Form` at the first index where one of scheme and signature has a type and the other none, or the two types differ
+///   in more than their units.
+/// - Else at the first unit that stops: `Range` where a power passes the range while its equation is formed and solved,
+///   and `Units` where no units in place of the scheme's variables make all units up to it equal. The index is that of
+///   its type.
 /// - `NoMemory` may come with any arguments.
 pub fn conform(
     alloc: Global,
@@ -62,9 +65,10 @@ pub fn conform(
     requires signature { All (λ k. k < signature.now.vars) (variables (type_trees signature.now.types)) }
     requires bases { bases + signature.now.vars ≤ 4294967295 }
     requires params { length scheme.now.params.items.items < 4294967295 }
-    requires types { length signature.now.types.items.items < 4294967295 }
     ensures conformed { IsConformed bases (scheme_tree scheme.now) (type_trees signature.now.types) result }
-    ensures instances { AreOverBases bases (scheme_types (scheme_tree scheme.now)) → AreOverBases bases (type_trees signature.now.types) → SaysOfInstances bases (scheme_types (scheme_tree scheme.now)) (type_trees signature.now.types) result }
+    ensures instances { AreOverBases bases (scheme_types (scheme_tree scheme.now))
+        → AreOverBases bases (type_trees signature.now.types)
+        → SaysOfInstances bases (scheme_types (scheme_tree scheme.now)) (type_trees signature.now.types) result }
 {
     let types = &signature.types.items;
     match first_difference(scheme, types) {

@@ -54,7 +54,6 @@ fn alike_at(own: &Ty, types: &[Ty], i: usize) -> bool
 /// The first index at which one of scheme and signature has a type and the other none, or both have types of two forms.
 pub(crate) fn first_difference(scheme: &Scheme, types: &[Ty]) -> Option<u32>
     requires params { length scheme.now.params.items.items < 4294967295 }
-    requires types { length types.now < 4294967295 }
     ensures { IsDifference (scheme_types (scheme_tree scheme.now)) (map type_tree types.now) result }
 {
     let count = scheme.params.items.len() + 1;

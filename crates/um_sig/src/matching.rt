@@ -89,7 +89,8 @@ pub(crate) fn match_type_at(
     requires alike { form (type_tree own.now) ≡ form (type_tree other.now) }
     requires variables { All (λ k. k < length solver.old.units) (type_variables (type_tree own.now)) }
     requires room { HaveRoom bases (type_variables (type_tree other.now)) }
-    ensures { IsTypeMatched index (type_rows bases (type_tree own.now) (type_tree other.now)) solver.old solver.new result }
+    ensures { IsTypeMatched index (type_rows bases (type_tree own.now) (type_tree other.now)) solver.old solver.new
+        result }
 {
     match match_type(alloc, solver, bases, own, other) {
         Ok(()) => Ok(()),

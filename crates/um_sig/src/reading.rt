@@ -55,7 +55,8 @@ fn named(
     raw: &RawTypes,
 ) -> Result<Signature, SigText>
     requires formed { IsFormed (program_tree program.now) }
-    ensures { IsNamed (resolved_signature (given (program_tree program.now) abbreviations.now) (type_syntaxes raw.now)) result }
+    ensures { IsNamed (resolved_signature (given (program_tree program.now) abbreviations.now) (type_syntaxes raw.now))
+        result }
 {
     match types_of(alloc, program, abbreviations, raw) {
         Ok((types, vars)) => Ok(Signature { types, vars }),
@@ -71,20 +72,21 @@ fn named(
 /// The signature of a text: types with `->` between two of them, the result's last, as in `num<'a> -> num<m> -> bool`.
 ///
 /// Measures and records are those of the program and the abbreviations. Each unit variable is known, and variables are
-/// numbered by first occurrence. Where the units of the abbreviations are closed, the types are over the declared base units,
-/// these variables and the declared records.
+/// numbered by first occurrence. Where the units of the abbreviations are closed, the types are over the declared base
+/// units, these variables and the declared records.
 ///
 /// # Errors
 ///
 /// The first of these that there is; `NoMemory` may come with any text.
 ///
 /// - `Text` at the leftmost character or number of which no token can be made.
-/// - `Syntax` at the first token through which the tokens begin no signature text, or at the text's end; `Height` at the
-///   first token through which no signature text begins in which each type and each unit text, by itself, is at most 400
-///   high. The one further left is answered.
-/// - `Names` at the first measure or record that isn't known, name of a record with another number of units than declared,
-///   or `_`.
-/// - `PowerRange` at the first token of the first unit text of which a part has a power outside -2147483647..2147483647.
+/// - `Syntax` at the first token through which the tokens begin no signature text, or at the text's end; `Height` at
+///   the first token through which no signature text begins in which each type and each unit text, by itself, is at
+///   most 400 high. The one further left is answered.
+/// - `Names` at the first measure or record that isn't known, name of a record with another number of units than
+///   declared, or `_`.
+/// - `PowerRange` at the first token of the first unit text of which a part has a power outside
+///   -2147483647..2147483647.
 pub fn read_signature(
     alloc: Global,
     text: &str,
@@ -94,7 +96,9 @@ pub fn read_signature(
     requires short { length text.now ≤ 1048576 }
     requires formed { IsFormed (program_tree program.now) }
     ensures read { IsRead (program_tree program.now) abbreviations.now (chars text.now) (length text.now) result }
-    ensures formed { AreClosedUnits (length (program_tree program.now).bases) abbreviations.now → IfOk result (IsSignatureIn (program_tree program.now)) }
+    ensures formed { AreClosedUnits (length (program_tree program.now).bases) abbreviations.now
+        → IfOk result (IsSignatureIn (program_tree program.now)) }
+    ensures few { IfOk result (λ signature. signature.vars ≤ 1048576) }
 {
     let tokens = tokens_of(alloc, text)?;
     let raw = parsed(alloc, tokens, text.len() as u32)?;

@@ -21,8 +21,8 @@ fn fixed_atom(bases: u32, atom: Atom) -> Atom
     }
 }
 
-/// The terms of the scheme's unit, and then those of the signature's with their powers negated and variable k as the base
-/// unit `bases + k`.
+/// The terms of the scheme's unit, and then those of the signature's with their powers negated and variable k as the
+/// base unit `bases + k`.
 fn row_terms(
     alloc: Global,
     bases: u32,

@@ -26,8 +26,8 @@ pub enum SigText {
     NoMemory,
 }
 
-/// Why a function doesn't conform to a signature, or isn't found to. An index is that of a type of the signature or of the
-/// scheme, the result's last, counted from 0.
+/// Why a function doesn't conform to a signature, or isn't found to. An index is that of a type of the signature or of
+/// the scheme, the result's last, counted from 0.
 #[derive(Clone, Copy, Debug, PartialEq, Eq, Error)]
 pub enum SigStop {
     /// The types at the index differ in more than their units, or one of the two has no type there.

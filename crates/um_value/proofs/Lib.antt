@@ -6,6 +6,7 @@ pub mod ValueHeights
 pub mod ValueTexts
 pub mod ValueEnds
 pub mod ValueLaws
+pub mod UniqueInputs
 mod ValueLoop
 mod ValueMoves
 mod ValueParts

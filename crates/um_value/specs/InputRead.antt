@@ -1,4 +1,5 @@
--- What `read_value` answers: the input of a value text, or the first fault of its tokens, its shape, its names, its ranges.
+-- What `read_value` answers: the input of a value text, or the first fault of its tokens, its shape, its names, its
+-- ranges.
 -- Source: this project's own.
 use Rattle.std.specs.Prelude.{◌≡◌, ℕ, ◌≤◌, ◌⊎◌, List, length, Some, None, Result, Ok, Err}
 use Rattle.std.specs.Str.{chars}

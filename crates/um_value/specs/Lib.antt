@@ -1,5 +1,5 @@
--- To be trusted, in reading order: what a value text is, the grammar, its names and ranges, the place where it ends, what
--- `read_value` answers.
+-- To be trusted, in reading order: what a value text is, the grammar, its names and ranges, the place where it ends,
+-- what `read_value` answers.
 pub mod ValueSyntax
 pub mod ValueGrammar
 pub mod ValueNames

@@ -17,7 +17,8 @@ use Rattle.um_tree.specs.ProgramTree.{FieldTree, RecordTree}
 use Rattle.um_tree.specs.Shapes.{type_shape}
 use Rattle.um_types.specs.TypeGrammar.{FirstKind, FirstSign, FirstWord, IsNote}
 use Rattle.um_types.specs.TypeHeights.{note_height}
-use Rattle.um_value.specs.ValueSyntax.{ValueSyntax, ValueSyntaxes, raw_truth, raw_number, raw_list, raw_record, raw_none, raw_more}
+use Rattle.um_value.specs.ValueSyntax.{ValueSyntax, ValueSyntaxes, raw_truth, raw_number, raw_list, raw_record}
+use Rattle.um_value.specs.ValueSyntax.{raw_none, raw_more}
 
 abbrev pub truth_word : Bool → Keyword
 truth_word true = keyword.True

@@ -15,7 +15,8 @@ use Rattle.um_tree.specs.TypeTree.{ShapeTree, bool_shape, num_shape, list_shape,
 use Rattle.um_tree.specs.ProgramTree.{FieldTree, RecordTree}
 use Rattle.um_tree.specs.Shapes.{type_shape}
 use Rattle.um_types.specs.NoteMachine.{NoteState, NeedNote, HaveHole, InUnit, NoNote, note_act, note_finish, note_least}
-use Rattle.um_value.specs.ValueSyntax.{ValueSyntax, raw_truth, raw_number, raw_list, raw_record, raw_none, raws_in_order}
+use Rattle.um_value.specs.ValueSyntax.{ValueSyntax, raw_truth, raw_number, raw_list, raw_record, raw_none}
+use Rattle.um_value.specs.ValueSyntax.{raws_in_order}
 use Rattle.um_value.specs.ValueGrammar.{value_height}
 
 -- what is open: a list with the items before; a record with the parts before and the fields behind

@@ -10,10 +10,12 @@ use Rattle.um_frac.specs.Arithmetic.{negation_of}
 use Rattle.um_tree.specs.declared.note.UnitNote.{UnitNote}
 use Rattle.um_tree.specs.declared.note.UnitNote.TheVariants.{Hole, Written}
 use Rattle.um_tree.specs.RawTree.{NoteSyntax, hole_syntax, unit_note_syntax}
-use Rattle.um_tree.specs.ValueTree.{InputTree, InputTrees, truth_input, number_input, list_input, record_input, no_inputs, more_inputs}
+use Rattle.um_tree.specs.ValueTree.{InputTree, InputTrees, truth_input, number_input, list_input, record_input}
+use Rattle.um_tree.specs.ValueTree.{no_inputs, more_inputs}
 use Rattle.um_measures.specs.Faults.{Fault, unknown, twice, wrong_count, hole, range, Found}
 use Rattle.um_measures.specs.UnitNames.{or_else, unless, unknown_in, unit_of, resolved_unit}
-use Rattle.um_value.specs.ValueSyntax.{ValueSyntax, ValueSyntaxes, raw_truth, raw_number, raw_list, raw_record, raw_none, raw_more}
+use Rattle.um_value.specs.ValueSyntax.{ValueSyntax, ValueSyntaxes, raw_truth, raw_number, raw_list, raw_record}
+use Rattle.um_value.specs.ValueSyntax.{raw_none, raw_more}
 
 abbrev pub is_zero : Frac → Bool
 is_zero c = int_eq (numerator c) (pos 0)

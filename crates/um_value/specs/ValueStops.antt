@@ -19,4 +19,5 @@ pub record StopsAtValue (records : List RecordTree) (s : ShapeTree) (tokens : Li
   pub within : k ≤ length tokens
   pub before : BeginsValue records s (take k tokens)
   pub through : k < length tokens → BeginsValue records s (take (k + 1) tokens) → ⊥
-  pub none : k ≡ length tokens → (v : ValueSyntax) → IsValueText records s tokens v → value_height v ≤ greatest_height → ⊥
+  pub none : k ≡ length tokens → (v : ValueSyntax) → IsValueText records s tokens v
+      → value_height v ≤ greatest_height → ⊥

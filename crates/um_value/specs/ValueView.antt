@@ -11,7 +11,8 @@ use Rattle.um_tree.specs.Shapes.{type_shape}
 use Rattle.um_types.specs.UnitStops.{greatest_height}
 use Rattle.um_types.specs.NoteView.{note_state}
 use Rattle.um_value.specs.ValueSyntax.{ValueSyntax, value_syntax}
-use Rattle.um_value.specs.ValueMachine.{Frame, InList, InRecord, ValueState, Need, Begun, Negative, Counted, InNote, NeedName, NeedEqual, Have, NoValue, value_finish, machine_of_values}
+use Rattle.um_value.specs.ValueMachine.{Frame, InList, InRecord, ValueState, Need, Begun, Negative, Counted, InNote}
+use Rattle.um_value.specs.ValueMachine.{NeedName, NeedEqual, Have, NoValue, value_finish, machine_of_values}
 use Rattle.um_value.specs.declared.wanted.Wanted.{Wanted}
 use Rattle.um_value.specs.declared.wanted.Wanted.TheVariants as wanted
 use Rattle.um_value.specs.declared.wanted.Sort.{Sort}

@@ -79,7 +79,8 @@ pub(crate) fn pop_frame<'a>(frames: &mut Vec<Frame<'a>>) -> Option<Frame<'a>>
 
 /// These values, and one more
 pub(crate) fn with(earlier: Vec<RawValue>, last: RawValue) -> Result<Vec<RawValue>, AllocError>
-    ensures { IfOk result (λ all. map value_syntax all.items ≡ map value_syntax earlier.items ++ value_syntax last ∷ []) }
+    ensures { IfOk result (λ all. map value_syntax all.items
+        ≡ map value_syntax earlier.items ++ value_syntax last ∷ []) }
 {
     let mut all = earlier;
     all.push(last)?;

@@ -8,7 +8,8 @@ ghost use Rattle.um_measures.specs.Faults.{Found};
 ghost use Rattle.um_measures.specs.Known.{short_unit};
 ghost use Rattle.um_measures.specs.Stops.{IsFirst};
 ghost use Rattle.um_value.specs.ValueSyntax.{raws_in_order, value_syntax, value_syntaxes};
-ghost use Rattle.um_value.specs.ValueNames.{signed_number, fault_in, note_range_fault, range_fault, range_fault_among, unit_note_of, input_of, inputs_of};
+ghost use Rattle.um_value.specs.ValueNames.{signed_number, fault_in, note_range_fault, range_fault, range_fault_among};
+ghost use Rattle.um_value.specs.ValueNames.{unit_note_of, input_of, inputs_of};
 ghost use Rattle.um_value.specs.RangeStops.{IsRangeAt};
 
 use crate::raw::{RawValue, RawValues};
@@ -27,7 +28,8 @@ pub(crate) fn input_of(
     raw: &RawValue,
 ) -> Result<Input, InputStop>
     ensures ok { IfOk result (λ _. range_fault (short_unit measures.now) (value_syntax raw.now) ≡ None) }
-    ensures exact { IfOk result (λ input. input_tree input ≡ input_of (short_unit measures.now) (value_syntax raw.now)) }
+    ensures exact { IfOk result (λ input. input_tree input
+        ≡ input_of (short_unit measures.now) (value_syntax raw.now)) }
     ensures faults { IfErr result (IsRangeAt (range_fault (short_unit measures.now) (value_syntax raw.now))) }
 {
     match raw {
@@ -44,7 +46,8 @@ pub(crate) fn input_of(
 #[cycle(input_of)]
 fn inputs_of(alloc: Global, measures: &Measures, raws: &RawValues) -> Result<Inputs, InputStop>
     ensures ok { IfOk result (λ _. range_fault_among (short_unit measures.now) (value_syntaxes raws.now) ≡ None) }
-    ensures exact { IfOk result (λ inputs. input_trees inputs ≡ inputs_of (short_unit measures.now) (value_syntaxes raws.now)) }
+    ensures exact { IfOk result (λ inputs. input_trees inputs
+        ≡ inputs_of (short_unit measures.now) (value_syntaxes raws.now)) }
     ensures faults { IfErr result (IsRangeAt (range_fault_among (short_unit measures.now) (value_syntaxes raws.now))) }
 {
     let items = each_input_of(alloc, measures, &raws.items)?;
@@ -57,9 +60,12 @@ fn each_input_of(
     measures: &Measures,
     raws: &[RawValue],
 ) -> Result<Vec<Input>, InputStop>
-    ensures ok { IfOk result (λ _. range_fault_among (short_unit measures.now) (raws_in_order (map value_syntax raws.now)) ≡ None) }
-    ensures exact { IfOk result (λ inputs. inputs_in_order (map input_tree inputs.items) ≡ inputs_of (short_unit measures.now) (raws_in_order (map value_syntax raws.now))) }
-    ensures faults { IfErr result (IsRangeAt (range_fault_among (short_unit measures.now) (raws_in_order (map value_syntax raws.now)))) }
+    ensures ok { IfOk result (λ _. range_fault_among (short_unit measures.now)
+        (raws_in_order (map value_syntax raws.now)) ≡ None) }
+    ensures exact { IfOk result (λ inputs. inputs_in_order (map input_tree inputs.items)
+        ≡ inputs_of (short_unit measures.now) (raws_in_order (map value_syntax raws.now))) }
+    ensures faults { IfErr result (IsRangeAt (range_fault_among (short_unit measures.now)
+        (raws_in_order (map value_syntax raws.now)))) }
 {
     let mut inputs = Vec::new(alloc);
     for i in 0..raws.len() {
@@ -76,7 +82,8 @@ fn each_input_of(
 
 // These inputs, and one more.
 fn with_input(earlier: Vec<Input>, last: Input) -> Result<Vec<Input>, InputStop>
-    ensures exact { IfOk result (λ all. map input_tree all.items ≡ map input_tree earlier.items ++ input_tree last ∷ []) }
+    ensures exact { IfOk result (λ all. map input_tree all.items
+        ≡ map input_tree earlier.items ++ input_tree last ∷ []) }
     ensures memory { IfErr result (λ stop. stop ≡ NoMemory) }
 {
     let mut all = earlier;

@@ -1,7 +1,7 @@
 //! Values as a user writes them: the text of an argument, read at the shape of a parameter.
 //!
-//! [`read_value`] cuts the text into tokens, reads them one at a time by the grammar of the shape, looks its names up and
-//! then its ranges. `specs/` has the grammar as a relation and the whole answer ([`InputStop`] has the refusals).
+//! [`read_value`] cuts the text into tokens, reads them one at a time by the grammar of the shape, looks its names up
+//! and then its ranges. `specs/` has the grammar as a relation and the whole answer ([`InputStop`] has the refusals).
 #![tactic(auto)]
 
 mod frame;

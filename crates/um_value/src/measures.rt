@@ -32,7 +32,8 @@ fn with_base(
     name: &Name,
     number: u32,
 ) -> Result<Measures, AllocError>
-    ensures { IfOk result (λ more. (x : List ℕ) → short_unit more x ≡ short_unit (measures ++ record { name = name.now; unit = atom (Base number) } ∷ []) x) }
+    ensures { IfOk result (λ more. (x : List ℕ) → short_unit more x
+        ≡ short_unit (measures ++ record { name = name.now; unit = atom (Base number) } ∷ []) x) }
 {
     match Unit::atom(alloc, Atom::Base(number)) {
         Ok(unit) => measures.with(alloc, name.as_slice(), unit),
@@ -66,7 +67,8 @@ fn with_abbreviations(
     bases: Measures,
     shorts: &[Abbreviation],
 ) -> Result<Measures, AllocError>
-    ensures { IfOk result (λ measures. (x : List ℕ) → short_unit measures x ≡ first_of_both (short_unit bases x) (short_unit shorts.now x)) }
+    ensures { IfOk result (λ measures. (x : List ℕ) → short_unit measures x
+        ≡ first_of_both (short_unit bases x) (short_unit shorts.now x)) }
 {
     let mut measures = bases;
     for i in 0..shorts.len() {
@@ -81,7 +83,8 @@ pub(crate) fn measures_of(
     program: &Program,
     abbreviations: &Abbreviations,
 ) -> Result<Measures, AllocError>
-    ensures { IfOk result (λ measures. (x : List ℕ) → short_unit measures x ≡ measure_unit (given (program_tree program.now) abbreviations.now) x) }
+    ensures { IfOk result (λ measures. (x : List ℕ) → short_unit measures x
+        ≡ measure_unit (given (program_tree program.now) abbreviations.now) x) }
 {
     let bases = base_measures(alloc, program.bases.as_slice())?;
     with_abbreviations(alloc, bases, abbreviations.as_slice())

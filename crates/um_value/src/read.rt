@@ -85,7 +85,8 @@ fn named_input(
     abbreviations: &Abbreviations,
     raw: &RawValue,
 ) -> Result<Input, InputStop>
-    ensures { IsNamed (measure_unit (given (program_tree program.now) abbreviations.now)) (value_syntax raw.now) result }
+    ensures { IsNamed (measure_unit (given (program_tree program.now) abbreviations.now)) (value_syntax raw.now)
+        result }
 {
     let measures = measures_of(alloc, program, abbreviations)?;
     let input = checked_input(alloc, &measures, raw);
@@ -95,19 +96,20 @@ fn named_input(
 
 /// The input of a shape that a text is.
 ///
-/// A value text is, at `bool`, `true` or `false`; at `num` an optional `-`, a number, and optionally, directly behind it,
-/// `<`, a unit text or `_`, and `>`; at a list `[`, items separated by `;`, `]`, with no item allowed; at a record `{`, its
-/// fields in the order of declaration as `f = A` separated by `;`, `}`. A number without a unit has the unit 1. Measures
-/// stand for the first of their name among the program's base units and then the abbreviations. The notes are those of
-/// F#'s measure annotations; the other forms are this project's own. Places are byte offsets.
+/// A value text is, at `bool`, `true` or `false`; at `num` an optional `-`, a number, and optionally, directly behind
+/// it, `<`, a unit text or `_`, and `>`; at a list `[`, items separated by `;`, `]`, with no item allowed; at a record
+/// `{`, its fields in the order of declaration as `f = A` separated by `;`, `}`. A number without a unit is
+/// dimensionless. Measures stand for the first of their name among the program's base units and then the abbreviations.
+/// The notes are those of F#'s measure annotations (F# specification, Units Of Measure); the other forms are this
+/// project's own. Places are byte offsets.
 ///
 /// # Errors
 ///
 /// In this order; `NoMemory` may come with any text.
 ///
 /// - `Text` at the leftmost place where the text has no tokens.
-/// - `Shape` at the first token after which no value text of the shape continues whose unit texts are at most 400 high, or at
-///   the text's end.
+/// - `Shape` at the first token after which no value text of the shape continues whose unit texts are at most 400 high,
+///   or at the text's end.
 /// - `Names` at the first measure that isn't known, or number other than 0 with `<_>`; no unit variable is known.
 /// - `PowerRange` at the first unit text of which some part has a power outside -2147483647..2147483647.
 pub fn read_value(
@@ -120,9 +122,12 @@ pub fn read_value(
     requires short { length text.now ≤ 1048576 }
     requires formed { IsFormed (program_tree program.now) }
     requires shape { IsShapeIn (program_tree program.now).records (shape_tree shape.now) }
-    ensures exact { IsInputOf (given (program_tree program.now) abbreviations.now) (shape_tree shape.now) text.now result }
-    ensures shaped { IfOk result (λ input. ValueHas (program_tree program.now).records (without_units (input_tree input)) (shape_tree shape.now)) }
-    ensures formed { All (λ (short : Abbreviation). IsUnitIn (length program.now.bases) 0 short.unit) abbreviations.now → IfOk result (λ input. IsFormedInput (length program.now.bases) (input_tree input)) }
+    ensures exact { IsInputOf (given (program_tree program.now) abbreviations.now) (shape_tree shape.now) text.now
+        result }
+    ensures shaped { IfOk result (λ input. ValueHas (program_tree program.now).records
+        (without_units (input_tree input)) (shape_tree shape.now)) }
+    ensures formed { All (λ (short : Abbreviation). IsUnitIn (length program.now.bases) 0 short.unit) abbreviations.now
+        → IfOk result (λ input. IsFormedInput (length program.now.bases) (input_tree input)) }
 {
     let tokens = tokens_of(alloc, text)?;
     let read = raw_of(alloc, program, shape, tokens.as_slice(), text.len() as u32);

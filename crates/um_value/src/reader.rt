@@ -7,7 +7,10 @@ ghost use Rattle.um_types.specs.UnitStops.{greatest_height};
 ghost use Rattle.um_types.specs.NoteMachine.{note_finish};
 ghost use Rattle.um_types.specs.NoteView.{note_state};
 ghost use Rattle.um_value.specs.ValueSyntax.{raw_number, raw_list, raw_record, raws_in_order, value_syntax};
-ghost use Rattle.um_value.specs.ValueMachine.{Need, Have, truth_begin, number_begin, list_begin, record_begin, open_record, open_fields, begin, begun, negative_act, named, equal_act, item_end, next_end, last_end, field_end, ended, counted, note_end, note_ends, own_act, whole, value_finish, value_least};
+ghost use Rattle.um_value.specs.ValueMachine.{Need, Have, truth_begin, number_begin, list_begin, record_begin};
+ghost use Rattle.um_value.specs.ValueMachine.{open_record, open_fields, begin, begun, negative_act, named, equal_act};
+ghost use Rattle.um_value.specs.ValueMachine.{item_end, next_end, last_end, field_end, ended, counted, note_end};
+ghost use Rattle.um_value.specs.ValueMachine.{note_ends, own_act, whole, value_finish, value_least};
 ghost use Rattle.um_value.specs.ValueView.{wanted_shape, stack, state_of, value_state, Moves, ValueTakes};
 
 use crate::frame::{Focus, Frame, Literal, pop_frame, push_frame, with};
@@ -60,7 +63,8 @@ impl<'a> ValueReader<'a> {
         token: &Token,
     ) -> Result<Taken, AllocError>
         requires low { value_least (value_state self.old) ≤ greatest_height }
-        ensures { IfOk result (λ t. ValueTakes (map record_tree records.now) (value_state self.old) token.now t (value_state self.new)) }
+        ensures { IfOk result (λ t. ValueTakes (map record_tree records.now) (value_state self.old) token.now t
+            (value_state self.new)) }
     {
         match &mut self.focus {
             Focus::InNote(_, note) => match note.take(alloc, token)? {
@@ -79,7 +83,9 @@ impl<'a> ValueReader<'a> {
         records: &'a [Record],
         token: &Token,
     ) -> Result<Taken, AllocError>
-        ensures { IfOk result (λ t. Moves (value_finish (value_state self.old)) (own_act (map record_tree records.now) (value_state self.old) token.now.kind token.now.start token.now.glued) t (value_state self.new)) }
+        ensures { IfOk result (λ t. Moves (value_finish (value_state self.old))
+            (own_act (map record_tree records.now) (value_state self.old) token.now.kind token.now.start
+            token.now.glued) t (value_state self.new)) }
     {
         match mem::replace(&mut self.focus, Focus::Negative) {
             Focus::Need(wanted) => self.take_first(alloc, records, wanted, token),
@@ -127,7 +133,8 @@ impl<'a> ValueReader<'a> {
         token: &Token,
     ) -> Result<Taken, AllocError>
         requires wanted { self.old.focus ≡ Focus.Negative }
-        ensures { IfOk result (λ t. Moves None (begin (map record_tree records.now) (stack self.old.frames.items) (wanted_shape wanted.entry) token.now.kind token.now.start) t (value_state self.new)) }
+        ensures { IfOk result (λ t. Moves None (begin (map record_tree records.now) (stack self.old.frames.items)
+            (wanted_shape wanted.entry) token.now.kind token.now.start) t (value_state self.new)) }
     {
         match wanted.sort() {
             Sort::Truth => Ok(self.take_truth(token)),
@@ -150,7 +157,8 @@ impl<'a> ValueReader<'a> {
 
     fn take_number(&mut self, token: &Token) -> Taken
         requires wanted { self.old.focus ≡ Focus.Negative }
-        ensures { Moves None (number_begin (stack self.old.frames.items) token.now.kind token.now.start) result (value_state self.new) }
+        ensures { Moves None (number_begin (stack self.old.frames.items) token.now.kind token.now.start) result
+            (value_state self.new) }
     {
         match &token.kind {
             Kind::Number { value, .. } => self.go(Focus::Counted(Literal {
@@ -166,7 +174,8 @@ impl<'a> ValueReader<'a> {
     // The number behind `-`.
     fn take_digits(&mut self, token: &Token) -> Taken
         requires wanted { self.old.focus ≡ Focus.Negative }
-        ensures { Moves None (negative_act (stack self.old.frames.items) token.now.kind token.now.start) result (value_state self.new) }
+        ensures { Moves None (negative_act (stack self.old.frames.items) token.now.kind token.now.start) result
+            (value_state self.new) }
     {
         match &token.kind {
             Kind::Number { value, .. } => self.go(Focus::Counted(Literal {
@@ -180,7 +189,8 @@ impl<'a> ValueReader<'a> {
 
     fn take_list(&mut self, item: Wanted<'a>, token: &Token) -> Taken
         requires wanted { self.old.focus ≡ Focus.Negative }
-        ensures { Moves None (list_begin (stack self.old.frames.items) (wanted_shape item.entry) token.now.kind) result (value_state self.new) }
+        ensures { Moves None (list_begin (stack self.old.frames.items) (wanted_shape item.entry) token.now.kind) result
+            (value_state self.new) }
     {
         match &token.kind {
             Kind::Sign(Symbol::LeftBracket) => self.go(Focus::Begun(item)),
@@ -196,7 +206,8 @@ impl<'a> ValueReader<'a> {
         token: &Token,
     ) -> Result<Taken, AllocError>
         requires wanted { self.old.focus ≡ Focus.Negative }
-        ensures { IfOk result (λ t. Moves None (record_begin (stack self.old.frames.items) r (slice_get (map record_tree records.now) r) token.now.kind) t (value_state self.new)) }
+        ensures { IfOk result (λ t. Moves None (record_begin (stack self.old.frames.items) r
+            (slice_get (map record_tree records.now) r) token.now.kind) t (value_state self.new)) }
     {
         match &token.kind {
             Kind::Sign(Symbol::LeftBrace) => self.open_record(alloc, records, r),
@@ -212,7 +223,8 @@ impl<'a> ValueReader<'a> {
         r: u32,
     ) -> Result<Taken, AllocError>
         requires wanted { self.old.focus ≡ Focus.Negative }
-        ensures { IfOk result (λ t. Moves None (open_record (stack self.old.frames.items) r (slice_get (map record_tree records.now) r)) t (value_state self.new)) }
+        ensures { IfOk result (λ t. Moves None (open_record (stack self.old.frames.items) r
+            (slice_get (map record_tree records.now) r)) t (value_state self.new)) }
     {
         match records.get(r as usize) {
             Some(declared) => self.open_fields(alloc, r, &declared.fields.items),
@@ -228,7 +240,8 @@ impl<'a> ValueReader<'a> {
         fields: &'a [FieldDecl],
     ) -> Result<Taken, AllocError>
         requires wanted { self.old.focus ≡ Focus.Negative }
-        ensures { IfOk result (λ t. Moves None (open_fields (stack self.old.frames.items) r (map field_tree fields.now)) t (value_state self.new)) }
+        ensures { IfOk result (λ t. Moves None (open_fields (stack self.old.frames.items) r (map field_tree fields.now))
+            t (value_state self.new)) }
     {
         match fields.split_first() {
             Some((field, rest)) => {
@@ -249,7 +262,8 @@ impl<'a> ValueReader<'a> {
         token: &Token,
     ) -> Result<Taken, AllocError>
         requires wanted { self.old.focus ≡ Focus.Negative }
-        ensures { IfOk result (λ t. Moves None (begun (map record_tree records.now) (stack self.old.frames.items) (wanted_shape item.entry) token.now.kind token.now.start) t (value_state self.new)) }
+        ensures { IfOk result (λ t. Moves None (begun (map record_tree records.now) (stack self.old.frames.items)
+            (wanted_shape item.entry) token.now.kind token.now.start) t (value_state self.new)) }
     {
         match &token.kind {
             Kind::Sign(Symbol::RightBracket) => {
@@ -266,7 +280,10 @@ impl<'a> ValueReader<'a> {
     // One token behind a number.
     fn take_counted(&mut self, literal: Literal, token: &Token) -> Result<Taken, AllocError>
         requires wanted { self.old.focus ≡ Focus.Negative }
-        ensures { IfOk result (λ t. Moves (whole (stack self.old.frames.items) (raw_number literal.at literal.negative literal.value None)) (counted (stack self.old.frames.items) literal.at literal.negative literal.value token.now.kind token.now.glued) t (value_state self.new)) }
+        ensures { IfOk result (λ t. Moves (whole (stack self.old.frames.items)
+            (raw_number literal.at literal.negative literal.value None))
+            (counted (stack self.old.frames.items) literal.at literal.negative literal.value token.now.kind
+            token.now.glued) t (value_state self.new)) }
     {
         match &token.kind {
             Kind::Sign(Symbol::Less) => Ok(self.take_angle(literal, token.glued)),
@@ -277,7 +294,10 @@ impl<'a> ValueReader<'a> {
     // `<` behind a number
     fn take_angle(&mut self, literal: Literal, glued: bool) -> Taken
         requires wanted { self.old.focus ≡ Focus.Negative }
-        ensures { Moves (whole (stack self.old.frames.items) (raw_number literal.at literal.negative literal.value None)) (counted (stack self.old.frames.items) literal.at literal.negative literal.value (Kind.Sign Symbol.Less) glued) result (value_state self.new) }
+        ensures { Moves (whole (stack self.old.frames.items)
+            (raw_number literal.at literal.negative literal.value None))
+            (counted (stack self.old.frames.items) literal.at literal.negative literal.value (Kind.Sign Symbol.Less)
+            glued) result (value_state self.new) }
     {
         if glued {
             self.go(Focus::InNote(literal, NoteReader::new()))
@@ -296,7 +316,8 @@ impl<'a> ValueReader<'a> {
         token: &Token,
     ) -> Result<Taken, AllocError>
         requires wanted { self.old.focus ≡ Focus.Negative }
-        ensures { IfOk result (λ t. Moves None (note_ends (stack self.old.frames.items) literal.at literal.negative literal.value (note_finish (note_state note)) token.now.kind) t (value_state self.new)) }
+        ensures { IfOk result (λ t. Moves None (note_ends (stack self.old.frames.items) literal.at literal.negative
+            literal.value (note_finish (note_state note)) token.now.kind) t (value_state self.new)) }
     {
         match note.finish(alloc)? {
             Some(note) => Ok(self.end_note(literal, note, token)),
@@ -307,7 +328,8 @@ impl<'a> ValueReader<'a> {
     // The token behind a note.
     fn end_note(&mut self, literal: Literal, note: RawNote, token: &Token) -> Taken
         requires wanted { self.old.focus ≡ Focus.Negative }
-        ensures { Moves None (note_end (stack self.old.frames.items) literal.at literal.negative literal.value (note_syntax note) token.now.kind) result (value_state self.new) }
+        ensures { Moves None (note_end (stack self.old.frames.items) literal.at literal.negative literal.value
+            (note_syntax note) token.now.kind) result (value_state self.new) }
     {
         match &token.kind {
             Kind::Sign(Symbol::Greater) => self.give(literal.noted(note)),
@@ -321,7 +343,8 @@ impl<'a> ValueReader<'a> {
     // One token where the field's name is wanted.
     fn take_name(&mut self, field: &'a FieldDecl, token: &Token) -> Taken
         requires wanted { self.old.focus ≡ Focus.Negative }
-        ensures { Moves None (named (stack self.old.frames.items) (field_tree field.now) token.now.kind) result (value_state self.new) }
+        ensures { Moves None (named (stack self.old.frames.items) (field_tree field.now) token.now.kind) result
+            (value_state self.new) }
     {
         match &token.kind {
             Kind::Name(letters) => {
@@ -338,7 +361,8 @@ impl<'a> ValueReader<'a> {
     // One token behind a field's name.
     fn take_equal(&mut self, wanted: Wanted<'a>, token: &Token) -> Taken
         requires wanted { self.old.focus ≡ Focus.Negative }
-        ensures { Moves None (equal_act (stack self.old.frames.items) (wanted_shape wanted.entry) token.now.kind) result (value_state self.new) }
+        ensures { Moves None (equal_act (stack self.old.frames.items) (wanted_shape wanted.entry) token.now.kind) result
+            (value_state self.new) }
     {
         match &token.kind {
             Kind::Sign(Symbol::Equal) => self.go(Focus::Need(wanted)),
@@ -349,7 +373,8 @@ impl<'a> ValueReader<'a> {
     // One token behind a value.
     fn take_end(&mut self, value: RawValue, token: &Token) -> Result<Taken, AllocError>
         requires wanted { self.old.focus ≡ Focus.Negative }
-        ensures { IfOk result (λ t. Moves (whole (stack self.old.frames.items) (value_syntax value)) (ended (stack self.old.frames.items) (value_syntax value) token.now.kind) t (value_state self.new)) }
+        ensures { IfOk result (λ t. Moves (whole (stack self.old.frames.items) (value_syntax value))
+            (ended (stack self.old.frames.items) (value_syntax value) token.now.kind) t (value_state self.new)) }
     {
         match pop_frame(&mut self.frames) {
             Some(Frame::InList(item, earlier)) => {
@@ -375,7 +400,8 @@ impl<'a> ValueReader<'a> {
         token: &Token,
     ) -> Result<Taken, AllocError>
         requires wanted { self.old.focus ≡ Focus.Negative }
-        ensures { IfOk result (λ t. Moves None (item_end (stack self.old.frames.items) (wanted_shape item.entry) (map value_syntax items.items) token.now.kind) t (value_state self.new)) }
+        ensures { IfOk result (λ t. Moves None (item_end (stack self.old.frames.items) (wanted_shape item.entry)
+            (map value_syntax items.items) token.now.kind) t (value_state self.new)) }
     {
         match &token.kind {
             Kind::Sign(Symbol::Semicolon) => {
@@ -399,7 +425,8 @@ impl<'a> ValueReader<'a> {
         token: &Token,
     ) -> Result<Taken, AllocError>
         requires wanted { self.old.focus ≡ Focus.Negative }
-        ensures { IfOk result (λ t. Moves None (field_end (stack self.old.frames.items) r (map value_syntax parts.items) (map field_tree fields.now) token.now.kind) t (value_state self.new)) }
+        ensures { IfOk result (λ t. Moves None (field_end (stack self.old.frames.items) r (map value_syntax parts.items)
+            (map field_tree fields.now) token.now.kind) t (value_state self.new)) }
     {
         match fields.split_first() {
             Some((field, rest)) => self.next_field(r, parts, field, rest, token),
@@ -417,7 +444,8 @@ impl<'a> ValueReader<'a> {
         token: &Token,
     ) -> Result<Taken, AllocError>
         requires wanted { self.old.focus ≡ Focus.Negative }
-        ensures { IfOk result (λ t. Moves None (next_end (stack self.old.frames.items) r (map value_syntax parts.items) (field_tree field.now) (map field_tree rest.now) token.now.kind) t (value_state self.new)) }
+        ensures { IfOk result (λ t. Moves None (next_end (stack self.old.frames.items) r (map value_syntax parts.items)
+            (field_tree field.now) (map field_tree rest.now) token.now.kind) t (value_state self.new)) }
     {
         match &token.kind {
             Kind::Sign(Symbol::Semicolon) => {
@@ -434,7 +462,8 @@ impl<'a> ValueReader<'a> {
     // The token behind all parts of a record.
     fn last_field(&mut self, r: u32, parts: Vec<RawValue>, token: &Token) -> Taken
         requires wanted { self.old.focus ≡ Focus.Negative }
-        ensures { Moves None (last_end (stack self.old.frames.items) r (map value_syntax parts.items) token.now.kind) result (value_state self.new) }
+        ensures { Moves None (last_end (stack self.old.frames.items) r (map value_syntax parts.items) token.now.kind)
+            result (value_state self.new) }
     {
         match &token.kind {
             Kind::Sign(Symbol::RightBrace) => {

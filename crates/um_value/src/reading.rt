@@ -32,7 +32,8 @@ fn run<'a>(
     shape: &'a Shape,
     tokens: &[Token],
 ) -> Result<RawValue, ReadStop>
-    ensures { RunAll (machine_of_values (map record_tree records.now) (shape_tree shape.now)) greatest_height value_syntax tokens.now result }
+    ensures { RunAll (machine_of_values (map record_tree records.now) (shape_tree shape.now)) greatest_height
+        value_syntax tokens.now result }
 {
     let mut reader = ValueReader::new(alloc, shape);
     for (i, token) in tokens.iter().enumerate() {
@@ -58,7 +59,8 @@ pub(crate) fn read_raw(
 ) -> Result<RawValue, ReadStop>
     requires formed { IsFormed (program_tree program.now) }
     requires shape { IsShapeIn (program_tree program.now).records (shape_tree shape.now) }
-    ensures { ReadAll (IsValueText (program_tree program.now).records (shape_tree shape.now)) value_height greatest_height value_syntax tokens.now result }
+    ensures { ReadAll (IsValueText (program_tree program.now).records (shape_tree shape.now)) value_height
+        greatest_height value_syntax tokens.now result }
 {
     run(alloc, &program.records.items, shape, tokens)
 }
