@@ -1,5 +1,5 @@
 -- What a machine shows, before and after a step.
-use Rattle.std.proofs.Common.{◌≡◌, refl, sym, ap, ◌∙◌, subst, ℕ, zero, suc, ◌+◌, ◌-◌, List, [], Some, Result, Ok, Err, Option, None, slice_get, arith}
+use Rattle.std.proofs.Common.{rules, ◌≡◌, refl, sym, ap, ◌∙◌, subst, ℕ, zero, suc, ◌+◌, ◌-◌, List, [], Some, Result, Ok, Err, Option, None, slice_get, arith}
 use Rattle.std.specs.Prelude.{IsTrue}
 use Rattle.um_tree.specs.ValueTree.{ValueTree, OutcomeTree, value_outcome}
 use Rattle.um_cells.specs.declared.store.Store.{Store}
@@ -27,7 +27,11 @@ shows_start code f args zero m p h = (end.BudgetEnd, p, refl)
 shows_start code f args (suc b) m p (e, found, is_in, same) =
     let less : suc b - 1 ≡ b = omega arith in
     let first : going (first_state f e args b) ≡ going (state_of m.run args) = ap (λ n. going (first_state f e args n)) (sym less) ∙ ap going (sym same) in
-    subst (λ r. Shows code m r) (sym (ap (starts code f args (suc b)) found)) (p, (args, is_in, ap (λ n. first_state f e args n) (sym less) ∙ sym same))
+    subst (λ r. Shows code m r) (sym (ap (starts code f args (suc b)) found)) (p, args, is_in, ap (λ n. first_state f e args n) (sym less) ∙ sym same)
+
+pub first_holds : (store : Store) (b : ℕ) (p : Phase) → p ≡ first_phase b → IsTrue (phase_holds store p)
+first_holds store zero p h = subst (λ x. IsTrue (phase_holds store x)) (sym h) (search rules)
+first_holds store (suc b) p h = subst (λ x. IsTrue (phase_holds store x)) (sym h) (search rules)
 
 -- the state of a machine that goes on
 pub shown_state : (code : Code) (m : Machine) (r : Step) → m.phase ≡ phase.Going → Shows code m r → (s : State) × (r ≡ going s) × Shows code m (going s)
@@ -58,3 +62,6 @@ end_value store w h = value_of_word store.cells.items store.formed w h
 
 pub end_read : (store : Store) (w : Word) (v : ValueTree) (o : OutcomeTree) → DenotesIn store w v → IsEnd store (end.Value w) o → o ≡ value_outcome v
 end_read store w v o d (u, k, e) = e ∙ ap value_outcome (one_value store.cells.items w u v k d)
+
+pub shown_by : (code : Code) (m : Machine) (r t : Step) → r ≡ t → Shows code m t → Shows code m r
+shown_by code m r t e h = subst (λ x. Shows code m x) (sym e) h

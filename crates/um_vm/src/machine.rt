@@ -28,7 +28,7 @@ impl<'a> Machine<'a> {
     ghost use Rattle.um_tree.specs.ValueTree.{OutcomeTree, value_tree, outcome_tree};
     ghost use Rattle.um_machine.specs.declared.code.Code.{Code};
     ghost use Rattle.um_machine.specs.Machine.{State, Step, going, done, starts, next, step};
-    ghost use Rattle.um_vm.specs.declared.phase.Phase.TheVariants.{Going};
+    ghost use Rattle.um_vm.specs.declared.phase.Phase.TheVariants.{Going, Ended};
     ghost use Rattle.um_vm.specs.Phases.{IsEnd, end_holds};
     ghost use Rattle.um_vm.specs.Showing.{Shows, HasFailed, IsAnswer, IsCallOf};
 
@@ -131,8 +131,7 @@ impl<'a> Machine<'a> {
 
     fn answer_end(&mut self, end: End) -> Result<Step, NoMemory>
         requires { IsTrue (end_holds self.old.run.stack.store end) }
-        ensures same { IfOk result (λ answer. self.new ≡ self.old) }
-        ensures ended { IfOk result (λ answer. (o : OutcomeTree) → IsEnd self.old.run.stack.store end o → IsAnswer answer (done o)) }
+        ensures shows { (code : Code) (o : OutcomeTree) → self.old.phase ≡ Ended end → Shows code self.old (done o) → IfOk result (λ answer. IsAnswer answer (done o) × Shows code self.new (done o)) }
         ensures no_memory { OnErr result (HasFailed self.new) }
     {
         match self.outcome(end) {
