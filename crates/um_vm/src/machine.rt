@@ -27,7 +27,7 @@ impl<'a> Machine<'a> {
     ghost use Rattle.std.specs.Prelude.{◌≡◌, ◌-◌, List, length, map, slice_get, IfOk, OnOk, OnErr, IsErr};
     ghost use Rattle.um_tree.specs.ValueTree.{OutcomeTree, value_tree, outcome_tree};
     ghost use Rattle.um_machine.specs.declared.code.Code.{Code};
-    ghost use Rattle.um_machine.specs.Machine.{State, Step, going, done, starts, next, step};
+    ghost use Rattle.um_machine.specs.Machine.{State, Step as MachineStep, going, done, starts, next, step};
     ghost use Rattle.um_vm.specs.declared.phase.Phase.TheVariants.{Going, Ended};
     ghost use Rattle.um_vm.specs.Phases.{IsEnd, end_holds};
     ghost use Rattle.um_vm.specs.Showing.{Shows, HasFailed, IsAnswer, IsCallOf};
@@ -61,7 +61,7 @@ impl<'a> Machine<'a> {
     /// or has ended answers the same at each further step, or `NoMemory`, which is the one error and is answered from
     /// then on.
     pub fn step(&mut self) -> Result<Step, NoMemory>
-        ensures refines { (code : Code) (r : Step) → Shows code self.old r → IfOk result (λ answer. IsAnswer answer (next r (step code)) × Shows code self.new (next r (step code))) }
+        ensures refines { (code : Code) (r : MachineStep) → Shows code self.old r → IfOk result (λ answer. IsAnswer answer (next r (step code)) × Shows code self.new (next r (step code))) }
         ensures failed { HasFailed self.old → IsErr result }
         ensures no_memory { OnErr result (HasFailed self.new) }
     {
@@ -73,7 +73,7 @@ impl<'a> Machine<'a> {
 
     // One step of a machine that goes on.
     fn advance(&mut self) -> Result<(), NoMemory>
-        ensures refines { (code : Code) (r : Step) → Shows code self.old r → OnOk result (Shows code self.new (next r (step code))) }
+        ensures refines { (code : Code) (r : MachineStep) → Shows code self.old r → OnOk result (Shows code self.new (next r (step code))) }
         ensures failed { HasFailed self.old → IsErr result }
         ensures no_memory { OnErr result (HasFailed self.new) }
     {
@@ -118,7 +118,7 @@ impl<'a> Machine<'a> {
 
     // What a step answers.
     fn answer(&mut self) -> Result<Step, NoMemory>
-        ensures shows { (code : Code) (r : Step) → Shows code self.old r → IfOk result (λ answer. IsAnswer answer r × Shows code self.new r) }
+        ensures shows { (code : Code) (r : MachineStep) → Shows code self.old r → IfOk result (λ answer. IsAnswer answer r × Shows code self.new r) }
         ensures no_memory { OnErr result (HasFailed self.new) }
     {
         match self.phase {

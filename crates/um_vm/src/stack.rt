@@ -17,9 +17,9 @@ pub(crate) struct Stack {
 }
 
 impl Stack {
-    ghost use Rattle.std.specs.Prelude.{◌≡◌, ◌+◌, ◌<◌, ◌≤◌, List, [], ◌∷◌, ◌++◌, Ok, Some, length, map, take, drop, slice_get, IfOk, OnOk, MatchOption};
+    ghost use Rattle.std.specs.Prelude.{◌≡◌, ◌+◌, ◌<◌, ◌≤◌, List, [], ◌∷◌, ◌++◌, Result, Ok, Some, length, map, take, drop, slice_get, IfOk, OnOk, MatchOption};
     ghost use Rattle.um_tree.specs.ValueTree.{ValueTree, list_value, record_value, value_tree, values_in_order};
-    ghost use Rattle.um_tree.specs.Meaning.{Stop, longer};
+    ghost use Rattle.um_tree.specs.Meaning.{Stop as MeaningStop, longer};
     ghost use Rattle.um_cells.specs.Stores.{DenotesIn, HasValue};
     ghost use Rattle.um_vm.specs.Words.{IsDone};
     ghost use Rattle.um_vm.specs.Carrying.{Carries};
@@ -112,8 +112,8 @@ impl Stack {
     /// What an operation gave in place of the words from the place on.
     pub(crate) fn put(&mut self, at: usize, done: Result<Word, Stop>) -> Result<(), Stop>
         requires place { at ≤ length self.old.words.items }
-        requires value { (r : Result ValueTree Stop) × IsDone self.old.store r done }
-        ensures { (vs : List ValueTree) (r : Result ValueTree Stop) → Carries self.old vs → IsDone self.old.store r done → Placed self.new (take at vs) r result }
+        requires value { (r : Result ValueTree MeaningStop) × IsDone self.old.store r done }
+        ensures { (vs : List ValueTree) (r : Result ValueTree MeaningStop) → Carries self.old vs → IsDone self.old.store r done → Placed self.new (take at vs) r result }
     {
         match done {
             Ok(word) => self.settle(at, word),

@@ -6,8 +6,8 @@ use Rattle.um_vm.proofs.Settled.{value_held}
 use Rattle.um_vm.proofs.Acted.{one_taken, one_missing, same_step}
 use Rattle.um_vm.proofs.run.Run.apply.Goals as goal
 
-pub put-requires-clause-value : goal.put-requires-clause-value
-put-requires-clause-value c =
+pub put-done-requires-clause-value : goal.put-done-requires-clause-value
+put-done-requires-clause-value c =
     let stack = c.args.self.now.stack in
     let (v, d) = value_held stack c.in-Some.at c.in-Some.y c.in-Some.ensures.2 in
     (applied c.args.op v, c.apply-value.ensures v d)

@@ -7,8 +7,8 @@ use Rattle.um_vm.proofs.Settled.{value_held}
 use Rattle.um_vm.proofs.Acted.{two_taken, two_missing, same_step}
 use Rattle.um_vm.proofs.run.Run.compare.Goals as goal
 
-pub put-requires-clause-value : goal.put-requires-clause-value
-put-requires-clause-value c =
+pub put-done-requires-clause-value : goal.put-done-requires-clause-value
+put-done-requires-clause-value c =
     let stack = c.args.self.now.stack in
     let (v, d) = value_held stack c.in-Some.at c.in-Some.x c.in-Some.ensures.2 in
     let (u, k) = value_held stack _ c.in-Some.y c.in-Some.ensures.3 in

@@ -6,11 +6,11 @@ use Rattle.um_vm.proofs.Settled.{value_held}
 use Rattle.um_vm.proofs.Acted.{two_taken, two_missing, same_step}
 use Rattle.um_vm.proofs.run.Run.cons.Goals as goal
 
-pub cons-requires-clause-item : goal.cons-requires-clause-item
-cons-requires-clause-item c = value_held c.args.self.now.stack c.in-Some.at c.in-Some.x c.in-Some.ensures.2
+pub cons-done-requires-clause-item : goal.cons-done-requires-clause-item
+cons-done-requires-clause-item c = value_held c.args.self.now.stack c.in-Some.at c.in-Some.x c.in-Some.ensures.2
 
-pub cons-requires-clause-list : goal.cons-requires-clause-list
-cons-requires-clause-list c = value_held c.args.self.now.stack _ c.in-Some.y c.in-Some.ensures.3
+pub cons-done-requires-clause-list : goal.cons-done-requires-clause-list
+cons-done-requires-clause-list c = value_held c.args.self.now.stack _ c.in-Some.y c.in-Some.ensures.3
 
 pub returns-in-Some-clause-step : goal.returns-in-Some-clause-step
 returns-in-Some-clause-step c = λ code vs h.

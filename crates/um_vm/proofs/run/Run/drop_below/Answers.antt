@@ -4,9 +4,9 @@ use Rattle.um_vm.specs.Going.{state_of}
 use Rattle.um_vm.proofs.Acted.{slid, not_slid, same_step}
 use Rattle.um_vm.proofs.run.Run.drop_below.Goals as goal
 
-pub returns-then-at-self-base-count-clause-step : goal.returns-then-at-self-base-count-clause-step
-returns-then-at-self-base-count-clause-step c = λ code vs v h d.
-    not_slid c.args.self.now vs h.1 code c.args.at c.args.count v c.requires.base c.if-at-self-base-count.true c.requires.place
+pub returns-then-at-self-clause-step : goal.returns-then-at-self-clause-step
+returns-then-at-self-clause-step c = λ code vs v h d.
+    not_slid c.args.self.now vs h.1 code c.args.at c.args.count v c.requires.base c.if-at-self.true c.requires.place
 
 pub returns-clause-step : goal.returns-clause-step
 returns-clause-step c = λ code vs v h d.

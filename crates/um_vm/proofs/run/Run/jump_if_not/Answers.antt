@@ -8,8 +8,8 @@ pub returns-in-Some-clause-step : goal.returns-in-Some-clause-step
 returns-in-Some-clause-step c = λ code vs h.
     let m = c.args.self.now in
     let (v, d, e) = one_taken m vs h.1 (λ low y. by_truth y (goes code (state_of m vs) low (m.at + 1)) (goes code (state_of m vs) low c.args.t)) c.in-Some.at c.in-Some.y c.in-Some.ensures.0 c.in-Some.ensures.1 c.in-Some.ensures.2 in
-    same_step code c.branch.new.self _ (by_truth v (goes code (state_of m vs) (take c.in-Some.at vs) (m.at + 1)) (goes code (state_of m vs) (take c.in-Some.at vs) c.args.t)) c.branch.result e
-    (c.branch.ensures.step code vs v h (c.truth.ensures m.stack.store v d))
+    same_step code c.branch-self.new.self _ (by_truth v (goes code (state_of m vs) (take c.in-Some.at vs) (m.at + 1)) (goes code (state_of m vs) (take c.in-Some.at vs) c.args.t)) c.branch-self.result e
+    (c.branch-self.ensures.step code vs v h (c.truth.ensures m.stack.store v d))
 
 pub returns-in-None-clause-step : goal.returns-in-None-clause-step
 returns-in-None-clause-step c = λ code vs h.

@@ -17,7 +17,7 @@ invariant_of-self c = record { held = hold_kept c.args.self.now.store.cells.item
 pub settle-requires-clause-value : goal.settle-requires-clause-value
 settle-requires-clause-value c =
     let (vs, h) = values_held c.args.self.now c.args.at _ (take_rest c.deref.result.now c.args.at ∙ ap (drop c.args.at) c.deref.ensures.value) in
-    (_, c.in-Ok.ensures.denotes vs h)
+    (record_value c.args.record_number (values_in_order vs), c.in-Ok.ensures.denotes vs h)
 
 pub returns-in-Ok : goal.returns-in-Ok
 returns-in-Ok c = λ vs h.
