@@ -138,9 +138,7 @@ impl Store {
     pub fn part_of(&self, place: usize, word: Word) -> Option<Word>
         ensures { (v : ValueTree) → DenotesIn self.now word v → Gives self.now (part_of place v) result }
     {
-        let Word::Rec(_, n) = word else {
-            return None
-        };
+        let Word::Rec(_, n) = word else { return None };
         self.part(n, place)
     }
 

@@ -1,23 +1,21 @@
 -- What a machine shows, before and after a step.
-use Rattle.std.proofs.Common.{rules, ◌≡◌, refl, sym, ap, ◌∙◌, subst, ℕ, zero, suc, ◌+◌, ◌-◌, List, [], Some, Result, Ok, Err, Option, None, slice_get, arith}
+use Rattle.std.proofs.Common.{rules, ◌≡◌, refl, sym, ap, ◌∙◌, subst, ℕ, zero, suc, ◌-◌, List, slice_get, arith}
 use Rattle.std.specs.Prelude.{IsTrue}
 use Rattle.um_tree.specs.ValueTree.{ValueTree, OutcomeTree, value_outcome}
 use Rattle.um_cells.specs.declared.store.Store.{Store}
 use Rattle.um_cells.specs.declared.word.Word.{Word}
 use Rattle.um_cells.specs.Stores.{DenotesIn, HasValue}
-use Rattle.um_cells.specs.Holding.{HoldsIn}
 use Rattle.um_cells.proofs.WellFormed.{value_of_word}
 use Rattle.um_cells.proofs.Denoting.{one_value}
-use Rattle.um_machine.specs.declared.code.Entry.{Entry}
 use Rattle.um_machine.specs.declared.code.Code.{Code}
-use Rattle.um_machine.specs.Machine.{State, Step, going, done, stuck, starts, next, step}
+use Rattle.um_machine.specs.Machine.{State, Step, going, done, stuck, starts}
 use Rattle.um_vm.specs.declared.phase.End.{End}
 use Rattle.um_vm.specs.declared.phase.End.TheVariants as end
 use Rattle.um_vm.specs.declared.phase.Phase.{Phase}
 use Rattle.um_vm.specs.declared.phase.Phase.TheVariants as phase
 use Rattle.um_vm.specs.declared.run.Run.{Run}
 use Rattle.um_vm.specs.declared.machine.Machine.{Machine}
-use Rattle.um_vm.specs.Going.{state_of, IsIn, first_state, IsBegun}
+use Rattle.um_vm.specs.Going.{state_of, first_state, IsBegun}
 use Rattle.um_vm.specs.Phases.{IsEnd, first_phase, end_holds, phase_holds}
 use Rattle.um_vm.specs.Showing.{ShowsIn, Shows}
 

@@ -34,7 +34,8 @@ pub(crate) fn run_call(
     requires call { IsCallOf code.now f (length args.items.items) }
     requires generated { (fs : List FunctionTree) × (code.now ≡ program_code fs) }
     requires ends { (o : OutcomeTree) × EndsWith code.now f (map value_tree args.items.items) budget o }
-    ensures { IfOk result (λ counted. CountsSteps code.now f (map value_tree args.items.items) budget (outcome_tree counted.outcome) counted.steps) }
+    ensures { IfOk result (λ counted. CountsSteps code.now f (map value_tree args.items.items) budget
+        (outcome_tree counted.outcome) counted.steps) }
 {
     let mut machine = Machine::start(alloc, code, f, args, budget)?;
     let mut steps: u64 = 0;
@@ -60,7 +61,8 @@ fn one_more(steps: u64) -> u64
 
 fn finish(machine: &Machine, end: End, steps: u64) -> Result<CountedOutcome, NoMemory>
     requires { IsTrue (end_holds machine.now.run.stack.store end) }
-    ensures { (o : OutcomeTree) → IsEnd machine.now.run.stack.store end o → IfOk result (λ counted. (o ≡ outcome_tree counted.outcome) × (counted.steps ≡ steps)) }
+    ensures { (o : OutcomeTree) → IsEnd machine.now.run.stack.store end o
+        → IfOk result (λ counted. (o ≡ outcome_tree counted.outcome) × (counted.steps ≡ steps)) }
 {
     match machine.outcome(end) {
         Ok(outcome) => Ok(CountedOutcome { outcome, steps }),

@@ -1,7 +1,7 @@
 //! The machine that runs the code of a program, over values in shared cells, and the runner by code.
 //!
-//! A machine's steps are those of the definition in `um_machine`. What is still to be done stands in frames on a vector,
-//! so that neither calls nor the length of lists use the host's stack.
+//! A machine's steps are those of the definition in `um_machine`. The functions that wait stand in frames on a vector, so
+//! that neither calls nor the length of lists use the host's stack.
 #![tactic(auto)]
 
 mod counting;

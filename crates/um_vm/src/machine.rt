@@ -13,8 +13,8 @@ use um_units::NoMemory;
 
 /// A machine that runs code: a stack of words over shared cells, and the functions that were called.
 ///
-/// Its states are those of the machine's definition in `um_machine`, over values; `Shows` says in which one it is. Lists
-/// and records stand in cells, so a variable is copied at once and a list shares its tail.
+/// Its states are those of the machine's definition in `um_machine`, over values; `Shows` says in which one it is.
+/// Lists and records stand in cells, so a variable is copied at once and a list shares its tail.
 #[derive(Drop)]
 pub struct Machine<'a> {
     alloc: Global,
@@ -45,7 +45,8 @@ impl<'a> Machine<'a> {
         budget: u64,
     ) -> Result<Machine<'a>, NoMemory>
         requires { IsCallOf code.now f (length args.items.items) }
-        ensures { IfOk result (λ machine. Shows code.now machine (starts code.now f (map value_tree args.items.items) budget (slice_get code.now.entries f))) }
+        ensures { IfOk result (λ machine. Shows code.now machine
+            (starts code.now f (map value_tree args.items.items) budget (slice_get code.now.entries f))) }
     {
         let run = Run::new(alloc, code, f, args, budget.saturating_sub(1))?;
         Ok(Machine {
@@ -61,7 +62,8 @@ impl<'a> Machine<'a> {
     /// or has ended answers the same at each further step, or `NoMemory`, which is the one error and is answered from
     /// then on.
     pub fn step(&mut self) -> Result<Step, NoMemory>
-        ensures refines { (code : Code) (r : MachineStep) → Shows code self.old r → IfOk result (λ answer. IsAnswer answer (next r (step code)) × Shows code self.new (next r (step code))) }
+        ensures refines { (code : Code) (r : MachineStep) → Shows code self.old r
+            → IfOk result (λ answer. IsAnswer answer (next r (step code)) × Shows code self.new (next r (step code))) }
         ensures failed { HasFailed self.old → IsErr result }
         ensures no_memory { OnErr result (HasFailed self.new) }
     {
@@ -73,7 +75,8 @@ impl<'a> Machine<'a> {
 
     // One step of a machine that goes on.
     fn advance(&mut self) -> Result<(), NoMemory>
-        ensures refines { (code : Code) (r : MachineStep) → Shows code self.old r → OnOk result (Shows code self.new (next r (step code))) }
+        ensures refines { (code : Code) (r : MachineStep) → Shows code self.old r
+            → OnOk result (Shows code self.new (next r (step code))) }
         ensures failed { HasFailed self.old → IsErr result }
         ensures no_memory { OnErr result (HasFailed self.new) }
     {
@@ -88,7 +91,8 @@ impl<'a> Machine<'a> {
     /// One step. The machine goes on.
     pub(crate) fn go_on(&mut self) -> Result<(), NoMemory>
         requires { self.old.phase ≡ Going }
-        ensures refines { (code : Code) (s : State) → Shows code self.old (going s) → OnOk result (Shows code self.new (step code s)) }
+        ensures refines { (code : Code) (s : State) → Shows code self.old (going s)
+            → OnOk result (Shows code self.new (step code s)) }
         ensures no_memory { OnErr result (HasFailed self.new) }
     {
         match self.run.step() {
@@ -118,7 +122,8 @@ impl<'a> Machine<'a> {
 
     // What a step answers.
     fn answer(&mut self) -> Result<Step, NoMemory>
-        ensures shows { (code : Code) (r : MachineStep) → Shows code self.old r → IfOk result (λ answer. IsAnswer answer r × Shows code self.new r) }
+        ensures shows { (code : Code) (r : MachineStep) → Shows code self.old r
+            → IfOk result (λ answer. IsAnswer answer r × Shows code self.new r) }
         ensures no_memory { OnErr result (HasFailed self.new) }
     {
         match self.phase {
@@ -131,7 +136,8 @@ impl<'a> Machine<'a> {
 
     fn answer_end(&mut self, end: End) -> Result<Step, NoMemory>
         requires { IsTrue (end_holds self.old.run.stack.store end) }
-        ensures shows { (code : Code) (o : OutcomeTree) → self.old.phase ≡ Ended end → Shows code self.old (done o) → IfOk result (λ answer. IsAnswer answer (done o) × Shows code self.new (done o)) }
+        ensures shows { (code : Code) (o : OutcomeTree) → self.old.phase ≡ Ended end → Shows code self.old (done o)
+            → IfOk result (λ answer. IsAnswer answer (done o) × Shows code self.new (done o)) }
         ensures no_memory { OnErr result (HasFailed self.new) }
     {
         match self.outcome(end) {
@@ -146,7 +152,8 @@ impl<'a> Machine<'a> {
     /// The outcome of a run with this end.
     pub(crate) fn outcome(&self, end: End) -> Result<Outcome, NoMemory>
         requires { IsTrue (end_holds self.now.run.stack.store end) }
-        ensures { (o : OutcomeTree) → IsEnd self.now.run.stack.store end o → IfOk result (λ outcome. o ≡ outcome_tree outcome) }
+        ensures { (o : OutcomeTree) → IsEnd self.now.run.stack.store end o
+            → IfOk result (λ outcome. o ≡ outcome_tree outcome) }
     {
         match end {
             End::Value(word) => match self.run.stack.store.get(self.alloc, word) {

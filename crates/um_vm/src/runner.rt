@@ -69,8 +69,10 @@ impl<'a> CodeRunner<'a> {
         budget: u64,
     ) -> Result<CountedOutcome, NoMemory>
         requires { AreArgumentsOf (program_tree self.now) f (map value_tree args.items.items) }
-        ensures outcome { IfOk result (λ counted. outcome_of_call (program_tree self.now) f (map value_tree args.items.items) budget ≡ Some (outcome_tree counted.outcome)) }
-        ensures steps { IfOk result (λ counted. CountsSteps (program_code (program_tree self.now).functions) f (map value_tree args.items.items) budget (outcome_tree counted.outcome) counted.steps) }
+        ensures outcome { IfOk result (λ counted. outcome_of_call (program_tree self.now) f
+            (map value_tree args.items.items) budget ≡ Some (outcome_tree counted.outcome)) }
+        ensures steps { IfOk result (λ counted. CountsSteps (program_code (program_tree self.now).functions) f
+            (map value_tree args.items.items) budget (outcome_tree counted.outcome) counted.steps) }
     {
         run_call(alloc, self.code, f, args, budget)
     }

@@ -43,7 +43,8 @@ impl Stack {
 
     /// Where the topmost `count` words begin, if so many stand above the base.
     pub(crate) fn place_of(&self, base: usize, count: usize) -> Option<usize>
-        ensures { MatchOption result (length self.now.words.items < base + count) (λ at. (base ≤ at) × (at + count ≡ length self.now.words.items)) }
+        ensures { MatchOption result (length self.now.words.items < base + count)
+            (λ at. (base ≤ at) × (at + count ≡ length self.now.words.items)) }
     {
         if self.words.len() < base {
             return None;
@@ -56,7 +57,9 @@ impl Stack {
 
     /// The topmost word and its place, if it stands above the base.
     pub(crate) fn one(&self, base: usize) -> Option<(usize, Word)>
-        ensures { MatchOption result (length self.now.words.items < base + 1) (λ r. (base ≤ r.0) × (r.0 + 1 ≡ length self.now.words.items) × (slice_get self.now.words.items r.0 ≡ Some r.1)) }
+        ensures { MatchOption result (length self.now.words.items < base + 1)
+            (λ r. (base ≤ r.0) × (r.0 + 1 ≡ length self.now.words.items)
+            × (slice_get self.now.words.items r.0 ≡ Some r.1)) }
     {
         if self.words.len() <= base {
             return None;
@@ -67,7 +70,10 @@ impl Stack {
 
     /// The two topmost words and the place of the lower one, if they stand above the base.
     pub(crate) fn two(&self, base: usize) -> Option<(usize, Word, Word)>
-        ensures { MatchOption result (length self.now.words.items < base + 2) (λ r. (base ≤ r.0) × (r.0 + 2 ≡ length self.now.words.items) × (slice_get self.now.words.items r.0 ≡ Some r.1) × (slice_get self.now.words.items (r.0 + 1) ≡ Some r.2)) }
+        ensures { MatchOption result (length self.now.words.items < base + 2)
+            (λ r. (base ≤ r.0) × (r.0 + 2 ≡ length self.now.words.items)
+            × (slice_get self.now.words.items r.0 ≡ Some r.1)
+            × (slice_get self.now.words.items (r.0 + 1) ≡ Some r.2)) }
     {
         if self.words.len() <= base {
             return None;
@@ -89,7 +95,8 @@ impl Stack {
     /// One word more.
     pub(crate) fn push(&mut self, word: Word) -> Result<(), Stop>
         requires { HasValue self.old.store word }
-        ensures { (vs : List ValueTree) (v : ValueTree) → Carries self.old vs → DenotesIn self.old.store word v → Placed self.new vs (Ok v) result }
+        ensures { (vs : List ValueTree) (v : ValueTree) → Carries self.old vs → DenotesIn self.old.store word v
+            → Placed self.new vs (Ok v) result }
     {
         match self.words.push(word) {
             Ok(()) => Ok(()),
@@ -101,7 +108,8 @@ impl Stack {
     pub(crate) fn settle(&mut self, at: usize, word: Word) -> Result<(), Stop>
         requires place { at ≤ length self.old.words.items }
         requires value { HasValue self.old.store word }
-        ensures { (vs : List ValueTree) (v : ValueTree) → Carries self.old vs → DenotesIn self.old.store word v → Placed self.new (take at vs) (Ok v) result }
+        ensures { (vs : List ValueTree) (v : ValueTree) → Carries self.old vs → DenotesIn self.old.store word v
+            → Placed self.new (take at vs) (Ok v) result }
     {
         match settle(&mut self.words, at, word) {
             Ok(()) => Ok(()),
@@ -113,7 +121,8 @@ impl Stack {
     pub(crate) fn put(&mut self, at: usize, done: Result<Word, Stop>) -> Result<(), Stop>
         requires place { at ≤ length self.old.words.items }
         requires value { (r : Result ValueTree MeaningStop) × IsDone self.old.store r done }
-        ensures { (vs : List ValueTree) (r : Result ValueTree MeaningStop) → Carries self.old vs → IsDone self.old.store r done → Placed self.new (take at vs) r result }
+        ensures { (vs : List ValueTree) (r : Result ValueTree MeaningStop) → Carries self.old vs
+            → IsDone self.old.store r done → Placed self.new (take at vs) r result }
     {
         match done {
             Ok(word) => self.settle(at, word),
@@ -122,11 +131,17 @@ impl Stack {
     }
 
     /// Two words in place of the topmost.
-    pub(crate) fn settle_two(&mut self, at: usize, first: Word, second: Word) -> Result<(), NoMemory>
+    pub(crate) fn settle_two(
+        &mut self,
+        at: usize,
+        first: Word,
+        second: Word,
+    ) -> Result<(), NoMemory>
         requires place { at + 1 ≡ length self.old.words.items }
         requires first { HasValue self.old.store first }
         requires second { HasValue self.old.store second }
-        ensures { (vs : List ValueTree) (v u : ValueTree) → Carries self.old vs → DenotesIn self.old.store first v → DenotesIn self.old.store second u → OnOk result (Carries self.new (take at vs ++ v ∷ u ∷ [])) }
+        ensures { (vs : List ValueTree) (v u : ValueTree) → Carries self.old vs → DenotesIn self.old.store first v
+            → DenotesIn self.old.store second u → OnOk result (Carries self.new (take at vs ++ v ∷ u ∷ [])) }
     {
         settle_two(&mut self.words, at, first, second)
     }
@@ -136,7 +151,8 @@ impl Stack {
         requires place { at ≤ length self.old.words.items }
         requires item { HasValue self.old.store x }
         requires list { HasValue self.old.store y }
-        ensures { (vs : List ValueTree) (v u : ValueTree) → Carries self.old vs → DenotesIn self.old.store x v → DenotesIn self.old.store y u → Placed self.new (take at vs) (longer v u) result }
+        ensures { (vs : List ValueTree) (v u : ValueTree) → Carries self.old vs → DenotesIn self.old.store x v
+            → DenotesIn self.old.store y u → Placed self.new (take at vs) (longer v u) result }
     {
         match self.store.cons(x, y) {
             Ok(Some(word)) => self.settle(at, word),
@@ -148,7 +164,8 @@ impl Stack {
     /// The list of the words from the place on, in their place.
     pub(crate) fn make_list(&mut self, at: usize) -> Result<(), Stop>
         requires { at ≤ length self.old.words.items }
-        ensures { (vs : List ValueTree) → Carries self.old vs → Placed self.new (take at vs) (Ok (list_value (values_in_order (drop at vs)))) result }
+        ensures { (vs : List ValueTree) → Carries self.old vs
+            → Placed self.new (take at vs) (Ok (list_value (values_in_order (drop at vs)))) result }
     {
         match self.store.make_list(&self.words[at..]) {
             Ok(word) => self.settle(at, word),
@@ -159,7 +176,8 @@ impl Stack {
     /// The record of this number of the words from the place on, in their place.
     pub(crate) fn make_record(&mut self, at: usize, record_number: u32) -> Result<(), Stop>
         requires { at ≤ length self.old.words.items }
-        ensures { (vs : List ValueTree) → Carries self.old vs → Placed self.new (take at vs) (Ok (record_value record_number (values_in_order (drop at vs)))) result }
+        ensures { (vs : List ValueTree) → Carries self.old vs
+            → Placed self.new (take at vs) (Ok (record_value record_number (values_in_order (drop at vs)))) result }
     {
         match self.store.make_record(record_number, &self.words[at..]) {
             Ok(word) => self.settle(at, word),

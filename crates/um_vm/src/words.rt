@@ -25,7 +25,11 @@ pub(crate) fn put_values(
 pub(crate) fn item<T: Copy>(items: &[T], k: usize) -> Option<T>
     ensures { result ≡ slice_get items.now k }
 {
-    if k < items.len() { Some(items[k]) } else { None }
+    if k < items.len() {
+        Some(items[k])
+    } else {
+        None
+    }
 }
 
 /// The word that stands `k` words above the base.

@@ -2,7 +2,7 @@ use Rattle.std.proofs.Common.{sym, ap, subst, ◌∙◌}
 use Rattle.std.specs.Prelude.{OnOk}
 use Rattle.um_machine.specs.Machine.{next, step}
 use Rattle.um_vm.specs.Showing.{Shows}
-use Rattle.um_vm.proofs.Shown.{shown_state, shown_end, shown_stuck, shown_not_failed}
+use Rattle.um_vm.proofs.Shown.{shown_state, shown_end, shown_stuck}
 use Rattle.um_vm.proofs.machine.Machine.advance.Goals as goal
 
 pub returns-in-Going-clause-refines : goal.returns-in-Going-clause-refines

@@ -2,7 +2,7 @@ use Rattle.std.proofs.Common.{sym, subst}
 use Rattle.std.specs.Prelude.{IfOk, IsTrue}
 use Rattle.um_vm.specs.Phases.{phase_holds}
 use Rattle.um_vm.specs.Showing.{Shows, IsAnswer}
-use Rattle.um_vm.proofs.Shown.{shown_state, shown_end, shown_stuck, shown_not_failed}
+use Rattle.um_vm.proofs.Shown.{shown_state, shown_end, shown_stuck}
 use Rattle.um_vm.proofs.machine.Machine.answer.Goals as goal
 
 pub answer_end-requires : goal.answer_end-requires

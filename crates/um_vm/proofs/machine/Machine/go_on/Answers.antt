@@ -1,4 +1,4 @@
-use Rattle.std.proofs.Common.{◌∙◌, ap, refl, subst, Some, None, Ok, Err}
+use Rattle.std.proofs.Common.{◌∙◌, ap, refl, subst, Ok, Err}
 use Rattle.um_machine.specs.Machine.{step}
 use Rattle.um_vm.specs.declared.phase.End.TheVariants as end
 use Rattle.um_vm.specs.declared.phase.Phase.TheVariants as phase

@@ -1,4 +1,3 @@
-use Rattle.std.specs.Prelude.{OnOk}
 use Rattle.um_machine.specs.Machine.{next, step}
 use Rattle.um_vm.proofs.machine.Machine.step.Goals as goal
 

@@ -1,4 +1,4 @@
-use Rattle.std.proofs.Common.{◌+◌, ◌≡◌, ◌∙◌, ap, true, false, Some, None, take}
+use Rattle.std.proofs.Common.{◌+◌, ◌≡◌, ◌∙◌, ap, true, false, Some, take}
 use Rattle.um_machine.specs.Machine.{goes}
 use Rattle.um_vm.specs.Words.{truth_in}
 use Rattle.um_vm.specs.Going.{state_of}

@@ -1,4 +1,4 @@
-use Rattle.std.proofs.Common.{ℕ, ◌+◌, ◌∙◌, ap, length, take, arith}
+use Rattle.std.proofs.Common.{ℕ, ◌+◌, ◌∙◌, ap, length, arith}
 use Rattle.um_machine.specs.Stack.{on_found}
 use Rattle.um_machine.specs.Machine.{stuck, op_at, arrive, spends, begun}
 use Rattle.um_vm.specs.Going.{state_of}

@@ -1,5 +1,4 @@
 use Rattle.std.proofs.Common.{take}
-use Rattle.um_tree.specs.ValueTree.{ValueTree}
 use Rattle.um_tree.specs.Meaning.{compared}
 use Rattle.um_machine.specs.Machine.{after, pushes}
 use Rattle.um_vm.specs.Going.{state_of}

@@ -1,7 +1,7 @@
 use Rattle.std.proofs.Common.{ℕ, ◌+◌, ◌-◌, ◌∙◌, Option, Some, None, ap, arith}
 use Rattle.um_machine.specs.declared.op.Op.{Op}
 use Rattle.um_machine.specs.Stack.{on_found}
-use Rattle.um_machine.specs.Machine.{stuck, op_at, arrive, spends, begun}
+use Rattle.um_machine.specs.Machine.{stuck, op_at, arrive, begun}
 use Rattle.um_vm.specs.Going.{state_of}
 use Rattle.um_vm.proofs.Acted.{op_of_run, spends_none, spends_one, same_step}
 use Rattle.um_vm.proofs.run.Run.enter.Goals as goal

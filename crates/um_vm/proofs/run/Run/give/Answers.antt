@@ -2,7 +2,7 @@ use Rattle.std.proofs.Common.{◌∙◌, ◌++◌, ◌∷◌, [], ap, sym, map, 
 use Rattle.std.proofs.lemmas.List.{nil_from_length}
 use Rattle.um_cells.proofs.WellFormed.{holds_from_value}
 use Rattle.um_machine.specs.Machine.{arrive, returns}
-use Rattle.um_vm.specs.Going.{frame_of, state_of, returned}
+use Rattle.um_vm.specs.Going.{frame_of, state_of}
 use Rattle.um_vm.proofs.Taken.{take_less}
 use Rattle.um_vm.proofs.Acted.{callers_pushed, same_step}
 use Rattle.um_vm.proofs.run.Run.give.Goals as goal

@@ -1,4 +1,4 @@
-use Rattle.std.proofs.Common.{◌+◌, ◌∙◌, ap, sym}
+use Rattle.std.proofs.Common.{◌+◌, ap, sym}
 use Rattle.um_machine.specs.Stack.{on_found}
 use Rattle.um_machine.specs.Machine.{stuck, pushes}
 use Rattle.um_vm.specs.Going.{state_of}

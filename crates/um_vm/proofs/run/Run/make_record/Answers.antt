@@ -1,4 +1,4 @@
-use Rattle.std.proofs.Common.{◌++◌, ◌∷◌, [], Ok, take, drop}
+use Rattle.std.proofs.Common.{Ok, take, drop}
 use Rattle.um_tree.specs.ValueTree.{record_value, values_in_order}
 use Rattle.um_machine.specs.Machine.{pushes}
 use Rattle.um_vm.specs.Going.{state_of}

@@ -1,4 +1,4 @@
-use Rattle.std.proofs.Common.{Some, None}
+use Rattle.std.proofs.Common.{Some}
 use Rattle.um_vm.proofs.Acted.{entry_of_run, returns_nowhere}
 use Rattle.um_vm.proofs.run.Run.resume.Goals as goal
 

@@ -1,6 +1,5 @@
-use Rattle.std.proofs.Common.{◌++◌, ◌∷◌, [], Ok, Err, subst, take}
+use Rattle.std.proofs.Common.{◌++◌, ◌∷◌, [], take}
 use Rattle.um_machine.specs.Machine.{arrive}
-use Rattle.um_vm.specs.Placing.{Placed}
 use Rattle.um_vm.specs.Going.{returned}
 use Rattle.um_vm.proofs.Settled.{value_placed}
 use Rattle.um_vm.proofs.Acted.{not_stopped}

@@ -1,4 +1,4 @@
-use Rattle.std.proofs.Common.{ap, subst, ◌++◌, ◌∷◌, [], Ok, Err}
+use Rattle.std.proofs.Common.{ap, subst, ◌++◌, ◌∷◌, []}
 use Rattle.um_machine.specs.Machine.{after, pushes}
 use Rattle.um_vm.specs.Going.{state_of}
 use Rattle.um_vm.specs.Placing.{Placed}

@@ -1,8 +1,6 @@
 use Rattle.um_machine.specs.Machine.{act}
 use Rattle.um_vm.specs.Going.{state_of}
 use Rattle.um_vm.proofs.Acted.{acts, acts_nowhere, same_step}
-use Rattle.um_machine.specs.Machine.{stuck}
-use Rattle.std.proofs.Common.{◌∙◌}
 use Rattle.um_vm.proofs.run.Run.step.Goals as goal
 
 pub returns-in-Some-clause-step : goal.returns-in-Some-clause-step

@@ -1,4 +1,4 @@
-use Rattle.std.proofs.Common.{rules, ◌≡◌, ◌+◌, ◌++◌, ◌∷◌, [], Some, None, subst, take}
+use Rattle.std.proofs.Common.{rules, ◌≡◌, ◌+◌, ◌++◌, ◌∷◌, [], Some, subst, take}
 use Rattle.um_cells.specs.declared.word.ListCase.TheVariants.{Empty, Items}
 use Rattle.um_cells.specs.Operations.{TakenApart}
 use Rattle.um_machine.specs.Machine.{stuck, goes}

@@ -1,4 +1,4 @@
-use Rattle.std.proofs.Common.{subst, Ok, Some, None, take}
+use Rattle.std.proofs.Common.{subst, take}
 use Rattle.um_tree.specs.Meaning.{longer}
 use Rattle.um_cells.specs.Operations.{Gives}
 use Rattle.um_cells.proofs.Denoting.{retained_each}

@@ -1,4 +1,4 @@
-use Rattle.std.proofs.Common.{subst, Ok, Err, take}
+use Rattle.std.proofs.Common.{subst, take}
 use Rattle.um_vm.specs.Words.{IsDone}
 use Rattle.um_vm.proofs.Settled.{done_value, stop_placed, placed_as}
 use Rattle.um_vm.proofs.stack.Stack.put.Goals as goal
