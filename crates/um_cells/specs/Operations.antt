@@ -1,9 +1,9 @@
 -- What an operation on words gives, beside what it gives on the values that they denote.
 -- Source: this project's own.
-use Rattle.std.specs.Prelude.{◌≡◌, Option, Some, None, Result, Ok, Err}
+use Rattle.std.specs.Prelude.{◌≡◌, ℕ, Option, Some, None, Result, Ok, Err}
 use Rattle.um_tree.specs.ValueTree.{ValueTree, truth_value, number_value, list_value, record_value}
 use Rattle.um_tree.specs.ValueTree.{no_values, more_values}
-use Rattle.um_tree.specs.Meaning.{Stop, wrong}
+use Rattle.um_tree.specs.Meaning.{Stop, wrong, value_at}
 use Rattle.um_cells.specs.declared.store.Store.{Store}
 use Rattle.um_cells.specs.declared.word.Word.{Word}
 use Rattle.um_cells.specs.declared.word.ListCase.{ListCase}
@@ -20,6 +20,11 @@ Gives store (Err stop) None = stop ≡ wrong
 abbrev pub GivesIfOk : {E : Type 0} → Store → Result ValueTree Stop → Result (Option Word) E → Type 0
 GivesIfOk store value (Ok given) = Gives store value given
 GivesIfOk store value (Err e) = Unit {0}
+
+-- the part of this place of a value of any record
+abbrev pub part_of : ℕ → ValueTree → Result ValueTree Stop
+part_of k (record_value r vs) = value_at vs k
+part_of k v = Err wrong
 
 -- a list is taken apart, as the two arms of a match have it: it is empty, or it has a first item and the others
 abbrev pub TakenApart : Store → ValueTree → Option ListCase → Type 0

@@ -23,7 +23,7 @@ impl Store {
     ghost use Rattle.um_cells.specs.Denotes.{ListFrom, PartsFrom, list_from, number_of};
     ghost use Rattle.um_cells.specs.declared.cell.Cell.TheVariants.{Record};
     ghost use Rattle.um_cells.specs.Stores.{DenotesIn, AllDenote, HasValue, HaveValues, Keeps, cell_count};
-    ghost use Rattle.um_cells.specs.Operations.{Gives, GivesIfOk, TakenApart};
+    ghost use Rattle.um_cells.specs.Operations.{Gives, GivesIfOk, TakenApart, part_of};
     ghost use Rattle.um_cells.specs.Formed.{holds};
     ghost use Rattle.um_cells.specs.Reading.{part_count};
 
@@ -130,6 +130,15 @@ impl Store {
         if number != record_number {
             return None;
         }
+        self.part(n, place)
+    }
+
+    /// The part of this place, counted from 0, of a value of any record. `None` exactly where the word's value is no
+    /// record or has no such part. It adds no cell.
+    pub fn part_of(&self, place: usize, word: Word) -> Option<Word>
+        ensures { (v : ValueTree) → DenotesIn self.now word v → Gives self.now (part_of place v) result }
+    {
+        let Word::Rec(_, n) = word else { return None };
         self.part(n, place)
     }
 

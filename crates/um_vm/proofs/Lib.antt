@@ -1,0 +1,5 @@
+mod Taken
+mod Settled
+mod Acted
+mod Shown
+mod Counted

@@ -1,0 +1,15 @@
+use Rattle.std.proofs.Common.{◌-◌, Ok, take, arith}
+use Rattle.um_machine.specs.Machine.{pushes}
+use Rattle.um_vm.specs.Going.{state_of}
+use Rattle.um_vm.proofs.Acted.{slid, not_slid, same_step}
+use Rattle.um_vm.proofs.run.Run.drop_below.Goals as goal
+
+pub returns-then-at-self-clause-step : goal.returns-then-at-self-clause-step
+returns-then-at-self-clause-step c = λ code vs v h d.
+    not_slid c.args.self.now vs h.1 code c.args.at c.args.count v c.requires.base c.if-at-self.true c.requires.place
+
+pub returns-clause-step : goal.returns-clause-step
+returns-clause-step c = λ code vs v h d.
+    let m = c.args.self.now in
+    same_step code c.settle.new.self _ (pushes code (state_of m vs) (take (c.args.at - c.args.count) vs) v) c.settle.result (slid m vs h.1 code c.args.at c.args.count v (omega arith) c.requires.place)
+    (c.settle.ensures.step code vs (take (c.args.at - c.args.count) vs) (Ok v) h.0 (c.settle-done.ensures vs v h.1 d))

@@ -1,0 +1,187 @@
+//! Words on a stack, over the cells that they name.
+ghost use Rattle.um_cells.specs.Holding.{AllHold};
+
+use crate::stop::Stop;
+use crate::words::{put_values, settle, settle_two, word_above};
+use std::alloc::Global;
+use um_cells::{Store, Word};
+use um_tree::Values;
+use um_units::NoMemory;
+
+/// A stack of words, the top last, and the cells that they name.
+#[derive(Drop)]
+pub(crate) struct Stack {
+    pub(crate) store: Store,
+    pub(crate) words: Vec<Word>,
+    ghost held: { AllHold store words.items },
+}
+
+impl Stack {
+    ghost use Rattle.std.specs.Prelude.{◌≡◌, ◌+◌, ◌<◌, ◌≤◌, List, [], ◌∷◌, ◌++◌, Result, Ok, Some, length, map, take, drop, slice_get, IfOk, OnOk, MatchOption};
+    ghost use Rattle.um_tree.specs.ValueTree.{ValueTree, list_value, record_value, value_tree, values_in_order};
+    ghost use Rattle.um_tree.specs.Meaning.{Stop as MeaningStop, longer};
+    ghost use Rattle.um_cells.specs.Stores.{DenotesIn, HasValue};
+    ghost use Rattle.um_vm.specs.Words.{IsDone};
+    ghost use Rattle.um_vm.specs.Carrying.{Carries};
+    ghost use Rattle.um_vm.specs.Placing.{Placed};
+
+    /// A stack of words that denote the values.
+    pub(crate) fn new(alloc: Global, values: Values) -> Result<Stack, NoMemory>
+        ensures { IfOk result (λ stack. Carries stack (map value_tree values.items.items)) }
+    {
+        let mut store = Store::new(alloc);
+        let words = put_values(alloc, &mut store, values)?;
+        Ok(Stack { store, words })
+    }
+
+    /// The word that stands `k` words above the base.
+    pub(crate) fn word_at(&self, base: usize, k: usize) -> Option<Word>
+        ensures { result ≡ slice_get self.now.words.items (base + k) }
+    {
+        word_above(&self.words, base, k)
+    }
+
+    /// Where the topmost `count` words begin, if so many stand above the base.
+    pub(crate) fn place_of(&self, base: usize, count: usize) -> Option<usize>
+        ensures { MatchOption result (length self.now.words.items < base + count)
+            (λ at. (base ≤ at) × (at + count ≡ length self.now.words.items)) }
+    {
+        if self.words.len() < base {
+            return None;
+        }
+        if self.words.len() - base < count {
+            return None;
+        }
+        Some(self.words.len() - count)
+    }
+
+    /// The topmost word and its place, if it stands above the base.
+    pub(crate) fn one(&self, base: usize) -> Option<(usize, Word)>
+        ensures { MatchOption result (length self.now.words.items < base + 1)
+            (λ r. (base ≤ r.0) × (r.0 + 1 ≡ length self.now.words.items)
+            × (slice_get self.now.words.items r.0 ≡ Some r.1)) }
+    {
+        if self.words.len() <= base {
+            return None;
+        }
+        let at = self.words.len() - 1;
+        Some((at, self.words[at]))
+    }
+
+    /// The two topmost words and the place of the lower one, if they stand above the base.
+    pub(crate) fn two(&self, base: usize) -> Option<(usize, Word, Word)>
+        ensures { MatchOption result (length self.now.words.items < base + 2)
+            (λ r. (base ≤ r.0) × (r.0 + 2 ≡ length self.now.words.items)
+            × (slice_get self.now.words.items r.0 ≡ Some r.1)
+            × (slice_get self.now.words.items (r.0 + 1) ≡ Some r.2)) }
+    {
+        if self.words.len() <= base {
+            return None;
+        }
+        if self.words.len() - base < 2 {
+            return None;
+        }
+        let at = self.words.len() - 2;
+        Some((at, self.words[at], self.words[at + 1]))
+    }
+
+    /// The words from the place on go.
+    pub(crate) fn cut(&mut self, at: usize)
+        ensures { (vs : List ValueTree) → Carries self.old vs → Carries self.new (take at vs) }
+    {
+        self.words.truncate(at);
+    }
+
+    /// One word more.
+    pub(crate) fn push(&mut self, word: Word) -> Result<(), Stop>
+        requires { HasValue self.old.store word }
+        ensures { (vs : List ValueTree) (v : ValueTree) → Carries self.old vs → DenotesIn self.old.store word v
+            → Placed self.new vs (Ok v) result }
+    {
+        match self.words.push(word) {
+            Ok(()) => Ok(()),
+            Err(_) => Err(Stop::NoMemory),
+        }
+    }
+
+    /// The word in place of those from the place on.
+    pub(crate) fn settle(&mut self, at: usize, word: Word) -> Result<(), Stop>
+        requires place { at ≤ length self.old.words.items }
+        requires value { HasValue self.old.store word }
+        ensures { (vs : List ValueTree) (v : ValueTree) → Carries self.old vs → DenotesIn self.old.store word v
+            → Placed self.new (take at vs) (Ok v) result }
+    {
+        match settle(&mut self.words, at, word) {
+            Ok(()) => Ok(()),
+            Err(_) => Err(Stop::NoMemory),
+        }
+    }
+
+    /// What an operation gave in place of the words from the place on.
+    pub(crate) fn put(&mut self, at: usize, done: Result<Word, Stop>) -> Result<(), Stop>
+        requires place { at ≤ length self.old.words.items }
+        requires value { (r : Result ValueTree MeaningStop) × IsDone self.old.store r done }
+        ensures { (vs : List ValueTree) (r : Result ValueTree MeaningStop) → Carries self.old vs
+            → IsDone self.old.store r done → Placed self.new (take at vs) r result }
+    {
+        match done {
+            Ok(word) => self.settle(at, word),
+            Err(stop) => Err(stop),
+        }
+    }
+
+    /// Two words in place of the topmost.
+    pub(crate) fn settle_two(
+        &mut self,
+        at: usize,
+        first: Word,
+        second: Word,
+    ) -> Result<(), NoMemory>
+        requires place { at + 1 ≡ length self.old.words.items }
+        requires first { HasValue self.old.store first }
+        requires second { HasValue self.old.store second }
+        ensures { (vs : List ValueTree) (v u : ValueTree) → Carries self.old vs → DenotesIn self.old.store first v
+            → DenotesIn self.old.store second u → OnOk result (Carries self.new (take at vs ++ v ∷ u ∷ [])) }
+    {
+        settle_two(&mut self.words, at, first, second)
+    }
+
+    /// The list `y` with `x` in front, in place of the words from the place on.
+    pub(crate) fn cons(&mut self, at: usize, x: Word, y: Word) -> Result<(), Stop>
+        requires place { at ≤ length self.old.words.items }
+        requires item { HasValue self.old.store x }
+        requires list { HasValue self.old.store y }
+        ensures { (vs : List ValueTree) (v u : ValueTree) → Carries self.old vs → DenotesIn self.old.store x v
+            → DenotesIn self.old.store y u → Placed self.new (take at vs) (longer v u) result }
+    {
+        match self.store.cons(x, y) {
+            Ok(Some(word)) => self.settle(at, word),
+            Ok(None) => Err(Stop::Stuck),
+            Err(_) => Err(Stop::NoMemory),
+        }
+    }
+
+    /// The list of the words from the place on, in their place.
+    pub(crate) fn make_list(&mut self, at: usize) -> Result<(), Stop>
+        requires { at ≤ length self.old.words.items }
+        ensures { (vs : List ValueTree) → Carries self.old vs
+            → Placed self.new (take at vs) (Ok (list_value (values_in_order (drop at vs)))) result }
+    {
+        match self.store.make_list(&self.words[at..]) {
+            Ok(word) => self.settle(at, word),
+            Err(_) => Err(Stop::NoMemory),
+        }
+    }
+
+    /// The record of this number of the words from the place on, in their place.
+    pub(crate) fn make_record(&mut self, at: usize, record_number: u32) -> Result<(), Stop>
+        requires { at ≤ length self.old.words.items }
+        ensures { (vs : List ValueTree) → Carries self.old vs
+            → Placed self.new (take at vs) (Ok (record_value record_number (values_in_order (drop at vs)))) result }
+    {
+        match self.store.make_record(record_number, &self.words[at..]) {
+            Ok(word) => self.settle(at, word),
+            Err(_) => Err(Stop::NoMemory),
+        }
+    }
+}

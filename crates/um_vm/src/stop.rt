@@ -1,0 +1,12 @@
+//! Why a step doesn't go on.
+use um_frac::Trap;
+
+/// Why a step doesn't go on.
+#[derive(Clone, Copy)]
+pub(crate) enum Stop {
+    Trap(Trap),
+    BudgetEnd,
+    /// No instruction applies
+    Stuck,
+    NoMemory,
+}

@@ -1,0 +1,78 @@
+//! Words in a vector, as the stack has them.
+ghost use Rattle.std.specs.Prelude.{◌≡◌, ◌+◌, ◌≤◌, [], ◌∷◌, ◌++◌, length, map, take, slice_get, IfOk, OnOk, OnErr};
+ghost use Rattle.um_tree.specs.ValueTree.{value_tree};
+ghost use Rattle.um_cells.specs.Stores.{AllDenote};
+
+use std::alloc::Global;
+use um_cells::{Store, Word};
+use um_tree::Values;
+use um_units::NoMemory;
+
+/// Words that denote the values.
+pub(crate) fn put_values(
+    alloc: Global,
+    store: &mut Store,
+    values: Values,
+) -> Result<Vec<Word>, NoMemory>
+    ensures { IfOk result (λ words. AllDenote store.new words.items (map value_tree values.items.items)) }
+{
+    let words = store.put_each(alloc, &values.items);
+    drop(values);
+    words
+}
+
+/// The item of this place.
+pub(crate) fn item<T: Copy>(items: &[T], k: usize) -> Option<T>
+    ensures { result ≡ slice_get items.now k }
+{
+    if k < items.len() {
+        Some(items[k])
+    } else {
+        None
+    }
+}
+
+/// The word that stands `k` words above the base.
+pub(crate) fn word_above(words: &Vec<Word>, base: usize, k: usize) -> Option<Word>
+    ensures { result ≡ slice_get words.now.items (base + k) }
+{
+    if words.len() < base {
+        return None;
+    }
+    if k < words.len() - base {
+        Some(words[base + k])
+    } else {
+        None
+    }
+}
+
+/// The word in place of those from the place on. On want of memory the words are as they were.
+pub(crate) fn settle(words: &mut Vec<Word>, at: usize, word: Word) -> Result<(), NoMemory>
+    requires { at ≤ length words.old.items }
+    ensures ok { OnOk result (words.new.items ≡ take at words.old.items ++ word ∷ []) }
+    ensures same { OnErr result (words.new.items ≡ words.old.items) }
+{
+    if at < words.len() {
+        words.truncate(at + 1);
+        words[at] = word;
+        return Ok(());
+    }
+    words.push(word)?;
+    Ok(())
+}
+
+/// Two words in place of the topmost. On want of memory the words are as they were.
+pub(crate) fn settle_two(
+    words: &mut Vec<Word>,
+    at: usize,
+    first: Word,
+    second: Word,
+) -> Result<(), NoMemory>
+    requires { at + 1 ≡ length words.old.items }
+    ensures ok { OnOk result (words.new.items ≡ take at words.old.items ++ first ∷ second ∷ []) }
+    ensures same { OnErr result (words.new.items ≡ words.old.items) }
+{
+    words.push(second)?;
+    words[at] = first;
+    Ok(())
+}
