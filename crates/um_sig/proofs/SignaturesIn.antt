@@ -71,7 +71,7 @@ closed_behind n done (s ∷ ss) closed h =
     (closed_last n done s closed (All-head (λ (a : Abbreviation). IsUnitIn n 0 a.unit) s ss h))
     (All-tail (λ (a : Abbreviation). IsUnitIn n 0 a.unit) s ss h))
 
-pub closed_units : (n : ℕ) (ss : List Abbreviation) → AreClosedUnits n ss → AreClosedIn n ss
+closed_units : (n : ℕ) (ss : List Abbreviation) → AreClosedUnits n ss → AreClosedIn n ss
 closed_units n ss h = closed_behind n [] ss (closed_none n) h
 
 module _ (known : Known) (variables : List (List ℕ)) (closed : AreClosedIn (length known.program.bases) known.shorts) where
