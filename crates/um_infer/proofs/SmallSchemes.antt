@@ -1,5 +1,5 @@
 -- The schemes that are given have few variables and few parameters.
-use Rattle.std.proofs.Common.{◌≡◌, ℕ, zero, suc, ◌+◌, ◌-◌, ◌<◌, ◌≤◌, true, false, not, ◌&&◌, ◌||◌, cond, eqb, leb, inl, inr, Option, Some, None, List, [], ◌∷◌, ◌++◌, length, map, slice_get, refl, sym, ap, ◌∙◌, subst, arith}
+use Rattle.std.proofs.Common.{◌≡◌, ℕ, zero, suc, ◌+◌, ◌-◌, ◌<◌, ◌≤◌, false, not, ◌||◌, cond, eqb, leb, inl, inr, Option, Some, None, List, [], ◌∷◌, length, map, slice_get, refl, sym, ap, ◌∙◌, subst, arith}
 use Rattle.std.specs.Prelude.{IsTrue, All}
 use Rattle.std.specs.List.{flat_map, AllByRecursion, IsDistinct}
 use Rattle.std.proofs.lemmas.Bool.{cases_lt, and_parts, eq-eqb, ne_eqb}
@@ -10,12 +10,11 @@ use Rattle.um_units.specs.PowerMap.{PowerMap, replace, nth}
 use Rattle.um_units.specs.Variables.{VariablesBelow}
 use Rattle.um_units.proofs.Solutions.{IsInstance_refl}
 use Rattle.um_tree.specs.TypeTree.{TypeTree, NoteTree, bool_type, num_type, list_type, record_type}
-use Rattle.um_tree.specs.ProgramTree.{RecordTree, FunctionTree, ProgramTree, Signature, SchemeTree}
-use Rattle.um_tree.specs.Typing.{put, put_signature, moved, moved_signature}
+use Rattle.um_tree.specs.ProgramTree.{FunctionTree, ProgramTree, Signature, SchemeTree}
+use Rattle.um_tree.specs.Typing.{put, put_signature, moved}
 use Rattle.um_tree.specs.Scheme.{unit_variables, type_variables, variables, signature_types}
 use Rattle.um_tree.specs.Formed.{IsFormed}
-use Rattle.um_elim.specs.Instances.{SolvesExactly}
-use Rattle.um_elim.specs.Numbering.{first_occurrences, variable_order, by_place}
+use Rattle.um_elim.specs.Numbering.{variable_order, by_place}
 use Rattle.um_elim.specs.Solution.{own_variables, rigid_units, parameter_rows}
 use Rattle.um_elim.proofs.Cases.{on_test}
 use Rattle.um_elim.proofs.Slots.{length-rigid}
@@ -36,7 +35,7 @@ use Rattle.um_rows.specs.Judgement.{numbered_scheme, signature_fits, Judgement, 
 use Rattle.um_rows.proofs.ParameterSlots.{parameters_have_slots}
 use Rattle.um_rows.proofs.SolvingLaws.{IsRightFor, solve_rigidly}
 use Rattle.um_rows.proofs.Solved.{rows_hold_slots, types_hold_slots}
-use Rattle.um_infer.specs.Inference.{Inference, all_schemes, stops_at_slots, stops_at_range, stops_at_units, stops_at_not_general, with_judgement, with_function, and_then, infer_first, infer}
+use Rattle.um_infer.specs.Inference.{Inference, all_schemes, stops_at_slots, stops_at_range, stops_at_units, stops_at_not_general, with_judgement, with_function, and_then, infer_first}
 use Rattle.um_infer.specs.Schemes.{ArePrincipal}
 use Rattle.um_infer.specs.Laws.{IsSmallScheme, GivenSchemesAreSmall}
 use Rattle.um_infer.proofs.SchemeLists.{item_at, item_or_last}

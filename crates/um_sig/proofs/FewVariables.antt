@@ -1,6 +1,6 @@
 -- A signature text has no more unit variables than characters: each time that one stands in it is a token, and each token has
 -- a character of its own.
-use Rattle.std.proofs.Common.{◌≡◌, ℕ, ◌+◌, ◌≤◌, Bool, true, false, cond, ◌==◌, inl, inr, Option, Some, None, ℤ, List, [], ◌∷◌, ◌++◌, length, length-append, ap, subst, ◌∙◌, arith, Ok, Err}
+use Rattle.std.proofs.Common.{◌≡◌, ℕ, ◌+◌, ◌≤◌, Bool, true, false, cond, ◌==◌, inl, inr, Option, Some, None, ℤ, List, [], ◌∷◌, ◌++◌, length, length-append, ap, arith, Ok, Err}
 use Rattle.std.specs.Prelude.{Result, IfOk}
 use Rattle.std.specs.List.{flat_map}
 use Rattle.std.specs.Str.{chars, IsUtf8}

@@ -34,9 +34,9 @@ module _ (bases : ℕ) (own types : List TypeTree) where
       let change = unfixed bases is.0 in (
         λ k. change (has.0 k),
         is.1
-        ∙ sym (types_unfixed bases is.0 (parameter_unit bases) is.0 (unfixed-parameter bases is.0) types low)
-        ∙ ap (map (moved change)) has.1
-        ∙ types_unfixed bases is.0 has.0 (λ k. change (has.0 k)) (λ k. refl) own low_own,
+            ∙ sym (types_unfixed bases is.0 (parameter_unit bases) is.0 (unfixed-parameter bases is.0) types low)
+            ∙ ap (map (moved change)) has.1
+            ∙ types_unfixed bases is.0 has.0 (λ k. change (has.0 k)) (λ k. refl) own low_own,
       )
 
   -- so its first types are matched too

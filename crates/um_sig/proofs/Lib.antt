@@ -12,5 +12,4 @@ pub mod NeverTwice
 pub mod SignaturesIn
 mod FewVariables
 pub mod UniqueReadings
-pub mod ClosedAbbreviations
 mod Examples

@@ -17,7 +17,7 @@ use Rattle.um_elim.specs.declared.stop.ElimStop.TheVariants as elimination
 use Rattle.um_elim.proofs.Slots.{length-own}
 use Rattle.um_sig.specs.declared.stop.SigStop.{SigStop}
 use Rattle.um_sig.specs.declared.stop.SigStop.TheVariants as stop
-use Rattle.um_sig.specs.Matching.{unit_row, unit_rows, type_rows, eliminate_row, eliminate_each, Matching, matched, unmatched, out_of_range, after_type, match_from, match_types}
+use Rattle.um_sig.specs.Matching.{unit_row, unit_rows, type_rows, eliminate_row, eliminate_each, matched, unmatched, out_of_range, after_type, match_from, match_types}
 use Rattle.um_sig.specs.Answers.{IsMatching}
 use Rattle.um_sig.specs.Steps.{AreEliminated, RefusesType, IsTypeMatched}
 use Rattle.um_sig.proofs.TypesRead.{drop_is}

@@ -5,7 +5,7 @@ use Rattle.um_tree.specs.TypeTree.{num_note, list_note, record_note}
 use Rattle.um_tree.specs.ProgramTree.{RecordTree}
 use Rattle.um_tree.specs.declared.note.UnitNote.TheVariants as note
 use Rattle.um_tree.specs.RawTree.{UnitSyntax, NoteSyntax, hole_syntax, unit_note_syntax, TypeSyntax, bool_syntax, num_syntax, record_syntax, list_type_syntax, bracket_type_syntax}
-use Rattle.um_measures.specs.Faults.{Fault, twice, unknown, wrong_count, range, Found, and_then, each}
+use Rattle.um_measures.specs.Faults.{Fault, twice, wrong_count, range, Found, and_then, each}
 use Rattle.um_measures.specs.Known.{Known, number_of, record_names, measure_unit}
 use Rattle.um_measures.specs.UnitNames.{first_place, unknown_in, unit_of, parts_fit, ranged, resolved_unit}
 use Rattle.um_names.specs.TypeNames.{counted, declared_record, resolved_record, resolved_note, resolved_notes, resolved_number, resolved_type, written_type}

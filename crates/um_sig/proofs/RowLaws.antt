@@ -23,7 +23,7 @@ use Rattle.um_units.proofs.Replacement.{weight-replace, replace-mul, replace-inv
 use Rattle.um_units.proofs.Variables.{IsClosed-base, IsClosed-replace, VariablesBelow-closed, VariablesBelow-mul, VariablesBelow-inv}
 use Rattle.um_tree.specs.TypeTree.{TypeTree, num_type, list_type, record_type}
 use Rattle.um_tree.specs.Typing.{parameter_unit}
-use Rattle.um_tree.specs.Scheme.{atom_variables, unit_variables, type_variables, variables}
+use Rattle.um_tree.specs.Scheme.{atom_variables, unit_variables, type_variables}
 use Rattle.um_elim.proofs.Cases.{on_test}
 use Rattle.um_elim.proofs.GrowingOrder.{All-front, All-back, All-at}
 use Rattle.um_elim.proofs.VariablesKept.{unit_below}

@@ -1,5 +1,5 @@
 -- The types of a signature that is read are over the declared base units, their own variables and the declared records.
-use Rattle.std.proofs.Common.{sym, ◌≡◌, ℕ, ◌<◌, false, List, [], ◌∷◌, ◌++◌, length, map, get_or, subst}
+use Rattle.std.proofs.Common.{sym, ◌≡◌, ℕ, ◌<◌, false, List, [], ◌∷◌, ◌++◌, length, get_or, subst}
 use Rattle.std.specs.Prelude.{All, Result, Ok, Err, IfOk}
 use Rattle.std.specs.List.{flat_map}
 use Rattle.std.proofs.lemmas.List.{append-nil, append_assoc}
@@ -22,7 +22,6 @@ use Rattle.um_names.proofs.FormedUnits.{AreClosedIn, closed_last, closed_none}
 use Rattle.um_names.proofs.FormedTypes.{then_found, type_in, type_written}
 use Rattle.um_sig.specs.declared.signature.Signature.{Signature}
 use Rattle.um_sig.specs.declared.stop.SigText.{SigText}
-use Rattle.um_sig.specs.declared.stop.SigText.TheVariants as stop
 use Rattle.um_sig.specs.Instances.{AreOverBases}
 use Rattle.um_sig.specs.Laws.{FormedSignaturesAreOverTheirVariables}
 use Rattle.um_sig.specs.Reading.{signature_types_of, AreClosedUnits, IsSignatureIn}
@@ -71,7 +70,7 @@ closed_behind n done (s ∷ ss) closed h =
     (closed_last n done s closed (All-head (λ (a : Abbreviation). IsUnitIn n 0 a.unit) s ss h))
     (All-tail (λ (a : Abbreviation). IsUnitIn n 0 a.unit) s ss h))
 
-pub closed_units : (n : ℕ) (ss : List Abbreviation) → AreClosedUnits n ss → AreClosedIn n ss
+closed_units : (n : ℕ) (ss : List Abbreviation) → AreClosedUnits n ss → AreClosedIn n ss
 closed_units n ss h = closed_behind n [] ss (closed_none n) h
 
 module _ (known : Known) (variables : List (List ℕ)) (closed : AreClosedIn (length known.program.bases) known.shorts) where

@@ -65,8 +65,8 @@ module _ (p : ProgramTree) (i : ℕ) (s : SchemeTree) (types : List TypeTree) (p
     instance_typed = (
       moved_signature change fixed_signature,
       types_moved change fixed_signature
-      ∙ ap (map (moved change)) (types_put has.0 s.signature ∙ sym has.1)
-      ∙ types_unfixed b units (parameter_unit b) units (unfixed-parameter b units) types low,
+          ∙ ap (map (moved change)) (types_put has.0 s.signature ∙ sym has.1)
+          ∙ types_unfixed b units (parameter_unit b) units (unfixed-parameter b units) types low,
       typed,
     )
 

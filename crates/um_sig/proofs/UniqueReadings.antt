@@ -1,5 +1,5 @@
 -- A signature text has one answer, memory aside.
-use Rattle.std.proofs.Common.{◌≡◌, ℕ, inl, inr, List, length, refl, sym, ap, ◌∙◌, subst}
+use Rattle.std.proofs.Common.{◌≡◌, ℕ, inl, inr, List, refl, sym, ap, ◌∙◌, subst}
 use Rattle.std.specs.Prelude.{Result, Ok, Err}
 use Rattle.um_syntax.specs.declared.token.Token.{Token}
 use Rattle.um_syntax.specs.declared.token.LexStop.{LexStop}

@@ -5,9 +5,7 @@ use Rattle.um_tree.specs.TypeTree.{TypeTree}
 use Rattle.um_tree.specs.ProgramTree.{RecordTree, ProgramTree, SchemeTree}
 use Rattle.um_tree.specs.Scheme.{IsPrincipal, variables}
 use Rattle.um_tree.specs.Formed.{IsTypeIn, IsFormed}
-use Rattle.um_tree.specs.RawTree.{DeclSyntax}
 use Rattle.um_measures.specs.declared.abbreviation.Abbreviation.{Abbreviation}
-use Rattle.um_names.specs.Resolution.{resolved_program, resolved_abbreviations}
 use Rattle.um_sig.specs.declared.signature.Signature.{Signature}
 use Rattle.um_sig.specs.declared.stop.SigText.{SigText}
 use Rattle.um_sig.specs.declared.stop.SigText.TheVariants as text_stop
@@ -15,7 +13,7 @@ use Rattle.um_sig.specs.declared.stop.SigStop.{SigStop}
 use Rattle.um_sig.specs.declared.stop.SigStop.TheVariants as stop
 use Rattle.um_sig.specs.Instances.{scheme_types, AreOverBases}
 use Rattle.um_sig.specs.Answers.{IsConformed, SaysOfInstances, SaysOfTypings}
-use Rattle.um_sig.specs.Reading.{signature_types_of, IsRead, AreClosedUnits}
+use Rattle.um_sig.specs.Reading.{signature_types_of, IsRead}
 
 -- the scheme is over its own variables alone
 abbrev pub IsOverItsVariables : SchemeTree → Type 0
@@ -65,9 +63,3 @@ abbrev pub ReadingsAreUnique : Type 0
 ReadingsAreUnique =
     (p : ProgramTree) (shorts : List Abbreviation) (chars : List ℕ) (end : ℕ) (one other : Result Signature SigText) →
     IsRead p shorts chars end one → IsRead p shorts chars end other → AreSameReading one other
-
--- the abbreviations of a program text are closed units, over its declared base units
-abbrev pub AbbreviationsAreClosed : Type 0
-AbbreviationsAreClosed =
-    (ds : List DeclSyntax) (p : ProgramTree) (shorts : List Abbreviation) → resolved_program ds ≡ Ok p →
-    resolved_abbreviations ds ≡ Ok shorts → AreClosedUnits (length p.bases) shorts

@@ -1,6 +1,6 @@
 //! The laws of reading and matching, as contracts of functions that do nothing. A crate above cites the law that it needs.
 ghost use Rattle.um_sig.specs.Laws.{AnswersSayWhatInstancesAre, AnswersSayWhatTypingsAre, AnswersAreUnique};
-ghost use Rattle.um_sig.specs.Laws.{FormedSignaturesAreOverTheirVariables, ReadingsAreUnique, AbbreviationsAreClosed};
+ghost use Rattle.um_sig.specs.Laws.{FormedSignaturesAreOverTheirVariables, ReadingsAreUnique};
 
 /// Where a signature is accepted its instances are all instances of the scheme. Where it is refused for its form or its
 /// units they aren't, and units match the types before the index that is named, but none match those through it.
@@ -30,9 +30,3 @@ pub fn readings()
 {
     um_types::laws::signature_answers_exclude();
 }
-
-/// The abbreviations of a program text, which its unit texts in signatures may name, are closed units over its declared
-/// base units.
-pub fn abbreviations()
-    ensures { AbbreviationsAreClosed }
-{}

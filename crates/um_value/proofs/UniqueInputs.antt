@@ -1,6 +1,6 @@
 -- The text of an argument has one answer, memory aside.
-use Rattle.std.proofs.Common.{◌≡◌, ℕ, ◌+◌, ◌<◌, ◌≤◌, inl, inr, List, length, refl, sym, ap, ◌∙◌, subst, arith, Ok, Err}
-use Rattle.std.specs.Prelude.{Option, Some, None, Result}
+use Rattle.std.proofs.Common.{◌≡◌, ℕ, ◌+◌, ◌≤◌, inl, inr, List, length, refl, sym, ap, ◌∙◌, subst, arith, Ok, Err}
+use Rattle.std.specs.Prelude.{Option, Result}
 use Rattle.std.specs.Str.{chars}
 use Rattle.std.proofs.lemmas.Bool.{cases_lt}
 use Rattle.std.proofs.lemmas.Option.{same_Some}
@@ -76,13 +76,13 @@ module _ (records : List RecordTree) (s : ShapeTree) (tokens : List Token) where
 -- ---- the text
 
 module _ (known : Known) (s : ShapeTree) (text : List ℕ) where
-  fault_or_value : (at : ℕ) (v : ValueSyntax) → HasFaultAt (chars text) at → HasValueText known s text v → ⊥
+  pub fault_or_value : (at : ℕ) (v : ValueSyntax) → HasFaultAt (chars text) at → HasValueText known s text v → ⊥
   fault_or_value at v a b = fault_or_tokens (chars text) at b.tokens a b.lexed
 
   fault_or_none : (at other : ℕ) → HasFaultAt (chars text) at → HasNoValueText known s text other → ⊥
   fault_or_none at other a b = fault_or_tokens (chars text) at b.tokens a b.lexed
 
-  value_or_none : (v : ValueSyntax) (at : ℕ) → HasValueText known s text v → HasNoValueText known s text at → ⊥
+  pub value_or_none : (v : ValueSyntax) (at : ℕ) → HasValueText known s text v → HasNoValueText known s text at → ⊥
   value_or_none v at a b =
       let same = unique_tokens (chars text) b.tokens a.tokens b.lexed a.lexed in
       value_or_stop known.program.records s a.tokens v b.k a.is a.low (subst (λ ts. StopsAtValue known.program.records s ts b.k) same b.stops)
@@ -97,7 +97,7 @@ module _ (known : Known) (s : ShapeTree) (text : List ℕ) where
     abbrev measures : List ℕ → Option PowerMap
     measures = measure_unit known
 
-    one_value : (v u : ValueSyntax) → HasValueText known s text v → HasValueText known s text u → v ≡ u
+    pub one_value : (v u : ValueSyntax) → HasValueText known s text v → HasValueText known s text u → v ≡ u
     one_value v u a b =
         let same = unique_tokens (chars text) b.tokens a.tokens b.lexed a.lexed in
         unambiguous (values_read known.program formed s over) a.tokens v u a.is (subst (λ ts. IsValueText known.program.records s ts u) same b.is)

@@ -64,7 +64,10 @@ impl Literal {
     }
 }
 
-pub(crate) fn push_frame<'a>(frames: &mut Vec<Frame<'a>>, frame: Frame<'a>) -> Result<(), AllocError>
+pub(crate) fn push_frame<'a>(
+    frames: &mut Vec<Frame<'a>>,
+    frame: Frame<'a>,
+) -> Result<(), AllocError>
     ensures { OnOk result (stack frames.new.items ≡ view_frame frame.entry ∷ stack frames.old.items) }
 {
     frames.push(frame)?;

@@ -48,13 +48,7 @@ fn note_fault(
 {
     match note {
         None => None,
-        Some(RawNote::Hole(_)) => {
-            if number.num() == 0 {
-                None
-            } else {
-                Some(at)
-            }
-        }
+        Some(RawNote::Hole(_)) => { if number.num() == 0 { None } else { Some(at) } }
         Some(RawNote::Unit(_, unit)) => first_unknown(measures, &NameTable::new(alloc), unit),
     }
 }

@@ -65,11 +65,7 @@ fn raw_of(
 }
 
 // The input of a value text: its names first, and then its ranges.
-fn checked_input(
-    alloc: Global,
-    measures: &Measures,
-    raw: &RawValue,
-) -> Result<Input, InputStop>
+fn checked_input(alloc: Global, measures: &Measures, raw: &RawValue) -> Result<Input, InputStop>
     ensures { IsNamed (short_unit measures.now) (value_syntax raw.now) result }
 {
     match name_fault(alloc, measures, raw) {
