@@ -69,8 +69,9 @@ RefusedCallsHaveNoResult =
 abbrev pub FittingCallsAreCalls : Type 0
 FittingCallsAreCalls =
     (p : ProgramTree) (shorts : List Abbreviation) (schemes : List SchemeTree) (name : List ℕ) (texts : List (List ℕ)) →
-    AreKnown p shorts schemes → FitsTyping p shorts schemes name texts →
-    (call : CallTree) × IsCallOf p shorts schemes name texts (Ok call)
+    AreKnown p shorts schemes → (h : FitsTyping p shorts schemes name texts) →
+    (t : TypeTree)
+    × IsCallOf p shorts schemes name texts (Ok (record { function = h.number; inputs = h.inputs; type = t }))
 
 -- no two answers but want of memory stand together
 abbrev pub CallsAreUnique : Type 0
