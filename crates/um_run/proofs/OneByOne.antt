@@ -1,9 +1,11 @@
 -- Arguments read one by one: the first of them, and then one more.
-use Rattle.std.proofs.Common.{◌≡◌, ℕ, zero, suc, ◌+◌, ◌<◌, ◌≤◌, List, [], ◌∷◌, ◌++◌, take, length, Some, slice_get, refl, sym, ap, subst, add-one, Err}
+use Rattle.std.proofs.Common.{◌≡◌, ℕ, zero, suc, ◌+◌, ◌<◌, ◌≤◌, List, [], ◌∷◌, ◌++◌, take, map, get_or, length, Some, slice_get, refl, sym, ap, subst, add-one, arith, Err}
 use Rattle.std.specs.Prelude.{◌≢◌}
 use Rattle.std.proofs.lemmas.List.{take_all}
+use Rattle.std.proofs.lemmas.Option.{slice_get_read}
 use Rattle.um_tree.specs.TypeTree.{ShapeTree}
 use Rattle.um_tree.specs.ValueTree.{InputTree}
+use Rattle.um_tree.proofs.Moved.{slice_get_moved}
 use Rattle.um_measures.specs.Known.{Known}
 use Rattle.um_value.specs.declared.stop.InputStop.{InputStop}
 use Rattle.um_value.specs.declared.stop.InputStop.TheVariants as input_stop
@@ -27,6 +29,10 @@ get_before [] (suc n) k l = refl
 get_before (x ∷ xs) zero k l = absurd (omega (arith, l))
 get_before (x ∷ xs) (suc n) zero l = refl
 get_before (x ∷ xs) (suc n) (suc k) l = get_before xs n k (omega (arith, l))
+
+-- an item as it is shown
+pub shown_at : {A B : Type 0} (f : A → B) (xs : List A) (k : ℕ) (x : A) → k < length xs → x ≡ get_or xs k x → slice_get (map f xs) k ≡ Some (f x)
+shown_at f xs k x below there = slice_get_moved f xs k x (slice_get_read xs (length xs) k x refl below there)
 
 module _ (known : Known) where
   inputs_more : (shapes : List ShapeTree) (texts : List (List ℕ)) (inputs : List InputTree) (s : ShapeTree) (text : List ℕ) (input : InputTree) → AreInputs known shapes texts inputs → IsInput known s text input
