@@ -1,5 +1,5 @@
 -- What the parts of `read_call` come to.
-use Rattle.std.proofs.Common.{◌≡◌, ℕ, ◌<◌, ◌≤◌, List, length, map, Some, slice_get, refl, sym, ap, subst, ◌∙◌, Ok, Err, rules}
+use Rattle.std.proofs.Common.{◌≡◌, ℕ, ◌<◌, ◌≤◌, List, length, map, Some, slice_get, refl, sym, ap, subst, ◌∙◌, Ok, Err, rules, arith}
 use Rattle.std.specs.Prelude.{◌≢◌, IfOk, Result}
 use Rattle.std.proofs.lemmas.List.{length-map}
 use Rattle.std.proofs.lemmas.Option.{same_Some, slice_get_within}
@@ -15,6 +15,8 @@ use Rattle.um_tree.specs.TypeTree.{bool_note, num_note, list_note, record_note}
 use Rattle.um_tree.proofs.Moved.{All_at, slice_get_moved}
 use Rattle.um_measures.specs.declared.abbreviation.Abbreviation.{Abbreviation}
 use Rattle.um_measures.specs.ClosedUnits.{given}
+use Rattle.um_measures.specs.Known.{number_of, function_names}
+use Rattle.um_measures.proofs.NameLists.{number_of-below}
 use Rattle.um_rows.specs.Judgement.{Judgement}
 use Rattle.um_shape.specs.ShapedProgram.{HasParam, IsParamShape}
 use Rattle.um_value.specs.ValueGrammar.{IsShapeIn}
@@ -27,7 +29,7 @@ use Rattle.um_run.specs.declared.call.Call.{Call}
 use Rattle.um_run.specs.declared.call.CallRefusal.{CallRefusal}
 use Rattle.um_run.specs.declared.call.CallRefusal.TheVariants as refusal
 use Rattle.um_run.specs.Calls.{CallTree, AreInputs, parameter_shapes, IsNamed, IsJudgedCall, IsCallTo, IsCallOf, call_tree, call_answer}
-use Rattle.um_run.specs.Reading.{AreArgumentsRead, call_refusal}
+use Rattle.um_run.specs.Reading.{TakesArguments, AreArgumentsRead, call_refusal}
 use Rattle.um_run.specs.Laws.{AreKnown, IsTypedCall}
 use Rattle.um_run.proofs.CallLaws.{calls_are_typed}
 
@@ -53,7 +55,25 @@ parameter_in p formed k f declared i s is =
 pub param_shape_in : (p : ProgramTree) → IsFormed p → (k i : ℕ) (s : ShapeTree) → HasParam p k i → IsParamShape p k i s → IsShapeIn p.records s
 param_shape_in p formed k i s has is = parameter_in p formed k has.0 has.1 i s (is has.0 has.1)
 
+-- the shape of a parameter, where there is an argument for each
+pub shape_at : (p : ProgramTree) (k n : ℕ) → TakesArguments p k n → (f : FunctionTree) → slice_get p.functions k ≡ Some f → (i : ℕ) → i < n → (s : ShapeTree) × (slice_get (parameter_shapes f) i ≡ Some s)
+shape_at p k n count f declared i below =
+    let same = same_Some count.0 f (sym count.1 ∙ declared) in
+    let many : n ≡ length f.params = count.2 ∙ ap (λ (g : FunctionTree). length g.params) same in
+    let shown = length-map f.params note_shape in
+    item_at (parameter_shapes f) i (omega (arith, below, many, shown))
+
 -- ---- the call
+
+-- the function of a name
+pub named_below : (p : ProgramTree) (name : List ℕ) (k : ℕ) → Some k ≡ number_of (function_names p.functions) name → k < length p.functions
+named_below p name k e =
+    let below = number_of-below name (function_names p.functions) k (sym e) in
+    let shown = length-map p.functions (λ (f : FunctionTree). f.name) in
+    omega (arith, below, shown)
+
+pub named_function : (p : ProgramTree) (name : List ℕ) (k : ℕ) → Some k ≡ number_of (function_names p.functions) name → (f : FunctionTree) × IsNamed p name k f
+named_function p name k e = let w = item_at p.functions k (named_below p name k e) in (w.0, record { number = sym e; declared = w.1 })
 
 pub in_order : (inputs : Inputs) → input_trees inputs ≡ inputs_in_order (map input_tree inputs.items.items)
 in_order inputs = search (rules, the_lemmas)
