@@ -1,5 +1,5 @@
 -- What calls come to: a call is typed, what is refused for units has no result, and where the arguments fit there is a call.
-use Rattle.std.proofs.Common.{◌≡◌, ℕ, List, length, map, Some, slice_get, refl, sym, subst, Ok, Err}
+use Rattle.std.proofs.Common.{◌≡◌, ℕ, List, length, Some, slice_get, refl, sym, subst, Ok}
 use Rattle.um_tree.specs.TypeTree.{TypeTree}
 use Rattle.um_tree.specs.ValueTree.{InputTree, inputs_in_order}
 use Rattle.um_tree.specs.ProgramTree.{FunctionTree, ProgramTree, SchemeTree}
@@ -9,7 +9,7 @@ use Rattle.um_measures.specs.ClosedUnits.{given}
 use Rattle.um_rows.specs.Judgement.{Judgement, has_scheme, too_many_slots, passes_range, has_no_typing, not_general}
 use Rattle.um_infer.specs.CallJudgement.{judge_call}
 use Rattle.um_infer.proofs.CallTypes.{judged_call_types, judged_call_refusals, call_is_general}
-use Rattle.um_run.specs.Calls.{CallTree, AreInputs, parameter_shapes, IsNamed, IsCallOf}
+use Rattle.um_run.specs.Calls.{AreInputs, parameter_shapes, IsCallOf}
 use Rattle.um_run.specs.Laws.{AreKnown, IsTypedCall, FitsTyping, CallsAreTyped, RefusedCallsHaveNoResult, FittingCallsAreCalls}
 use Rattle.um_run.proofs.Inputs.{values_have, inputs_formed}
 

@@ -1,12 +1,12 @@
 -- What the parts of `read_call` come to.
-use Rattle.std.proofs.Common.{◌≡◌, ℕ, ◌<◌, ◌≤◌, List, length, map, Some, slice_get, refl, sym, ap, subst, ◌∙◌, Ok, Err, rules, arith}
-use Rattle.std.specs.Prelude.{◌≢◌, IfOk, Result}
+use Rattle.std.proofs.Common.{◌≡◌, ℕ, ◌<◌, List, length, map, Some, slice_get, sym, ap, subst, ◌∙◌, Ok, Err, rules, arith}
+use Rattle.std.specs.Prelude.{IfOk, Result}
 use Rattle.std.proofs.lemmas.List.{length-map}
 use Rattle.std.proofs.lemmas.Option.{same_Some, slice_get_within}
 use Rattle.um_tree.specs.declared.types.Ty.{Ty}
 use Rattle.um_tree.specs.declared.value.Input.{the_lemmas}
 use Rattle.um_tree.specs.declared.value.Inputs.{Inputs}
-use Rattle.um_tree.specs.TypeTree.{TypeTree, type_tree, ShapeTree, NoteTree}
+use Rattle.um_tree.specs.TypeTree.{TypeTree, ShapeTree, NoteTree}
 use Rattle.um_tree.specs.ValueTree.{InputTree, InputTrees, input_tree, input_trees, inputs_in_order}
 use Rattle.um_tree.specs.ProgramTree.{RecordTree, FunctionTree, ProgramTree, SchemeTree}
 use Rattle.um_tree.specs.Shapes.{note_shape}

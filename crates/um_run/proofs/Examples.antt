@@ -1,5 +1,5 @@
 -- Calls on which the definitions are tried.
-use Rattle.std.proofs.Common.{◌≡◌, ℕ, ◌+◌, Bool, true, false, List, [], ◌∷◌, codes, pos, Some, refl, sym, ap, ◌∙◌, arith, Ok, Err}
+use Rattle.std.proofs.Common.{◌≡◌, ℕ, ◌+◌, Bool, true, false, List, [], ◌∷◌, codes, pos, refl, ap, ◌∙◌, arith, Ok, Err}
 use Rattle.std.specs.Str.{chars}
 use Rattle.um_units.specs.declared.Atom.TheVariants.{Var}
 use Rattle.um_units.specs.declared.Term.{Term}
@@ -9,14 +9,13 @@ use Rattle.um_syntax.specs.declared.token.Kind.{Kind}
 use Rattle.um_syntax.specs.declared.token.Kind.TheVariants as kind
 use Rattle.um_syntax.specs.declared.vocabulary.Symbol.{Symbol}
 use Rattle.um_syntax.specs.declared.vocabulary.Symbol.TheVariants as symbol
-use Rattle.um_syntax.proofs.Whole.{tokens_from}
+use Rattle.um_syntax.specs.Lexing.{HasTokens}
 use Rattle.um_tree.specs.declared.note.UnitNote.TheVariants.{Hole}
 use Rattle.um_tree.specs.TypeTree.{TypeTree, bool_type, num_type, list_type, record_type, NoteTree, num_note, list_note, num_shape, list_shape}
 use Rattle.um_tree.specs.ExprTree.{truth, local}
 use Rattle.um_tree.specs.ValueTree.{InputTree, list_input, no_inputs, inputs_in_order}
 use Rattle.um_tree.specs.ProgramTree.{FunctionTree, ProgramTree, SchemeTree}
 use Rattle.um_tree.proofs.ExamplePrograms.{plain}
-use Rattle.um_measures.specs.Known.{Known}
 use Rattle.um_measures.specs.ClosedUnits.{given}
 use Rattle.um_value.specs.declared.stop.InputStop.TheVariants as input_stop
 use Rattle.um_value.specs.ValueSyntax.{ValueSyntax, raw_truth, raw_number, raw_list, raw_record, raw_none}
@@ -59,26 +58,6 @@ schemes_in (stops_at_not_general i row at) = []
 abbrev schemes : List SchemeTree
 schemes = schemes_in (infer program)
 
--- ---- arguments
-
-abbrev empty : InputTree
-empty = list_input no_inputs
-
-empty_is_input : IsInput (given program []) (list_shape num_shape) (codes "[]") empty
-empty_is_input =
-    (
-      raw_list raw_none,
-      record {
-        tokens = left ∷ right 1 true ∷ [];
-        lexed = tokens_from (chars (codes "[]")) (left ∷ right 1 true ∷ []) refl;
-        is = (num_shape, right 1 true ∷ [], refl, (left, refl, refl), (right 1 true, refl, refl));
-        low = omega arith;
-      },
-      refl,
-      refl,
-      refl,
-    )
-
 -- no list begins with `]`
 no_list : (more : List Token) (v : ValueSyntax) → IsValueText [] (list_shape num_shape) (right 0 false ∷ more) v → ⊥
 no_list more (raw_truth b) h = absurd (cc h.0)
@@ -89,10 +68,10 @@ no_list more (raw_list vs) h =
     absurd (cc other)
 no_list more (raw_record r vs) h = absurd (cc h.2)
 
--- ---- calls
-
 keep_is_named : IsNamed program (codes "keep") 1 keep
 keep_is_named = record { number = refl; declared = refl }
+
+-- ---- calls that are refused before an argument is read
 
 no_function : IsCallOf program [] schemes (codes "kept") (codes "[]" ∷ codes "[]" ∷ []) (Err refusal.NoFunction)
 no_function = refl
@@ -100,52 +79,69 @@ no_function = refl
 one_missing : IsCallOf program [] schemes (codes "keep") (codes "[]" ∷ []) (Err refusal.WrongCount)
 one_missing = (1, keep, keep_is_named, λ e. omega (arith, e))
 
--- the second argument is refused at its first token
-second_refused : IsCallOf program [] schemes (codes "keep") (codes "[]" ∷ codes "]" ∷ []) (Err (refusal.Argument 1 (input_stop.Shape 0)))
-second_refused =
-    (
-      1,
-      keep,
-      keep_is_named,
-      (
-        refl,
-        record {
-          before = empty ∷ [];
-          read = (empty_is_input, tt);
-          shape = list_shape num_shape;
-          has_shape = refl;
-          text = codes "]";
-          has_text = refl;
-          refused = record {
-            tokens = right 0 false ∷ [];
-            lexed = tokens_from (chars (codes "]")) (right 0 false ∷ []) refl;
-            k = 0;
-            place = refl;
-            stops = record {
-              within = omega arith;
-              before = (left ∷ right 1 true ∷ [], raw_list raw_none, (num_shape, right 1 true ∷ [], refl, (left, refl, refl), (right 1 true, refl, refl)), omega arith);
-              through = λ lt b. no_list b.0 b.1 b.2;
-              none = λ e. absurd (omega (arith, e));
-            };
-          };
-          cause = λ e. absurd (cc e);
-        },
-      ),
-    )
+-- ---- calls, given the tokens of the two texts
+
+abbrev empty : InputTree
+empty = list_input no_inputs
 
 abbrev judged : Judgement
 judged = judge_call program schemes 1 keep (inputs_in_order (empty ∷ empty ∷ []))
 
+abbrev nowhere : SchemeTree
+nowhere = record { signature = record { params = []; result = bool_type }; vars = 0 }
+
 abbrev scheme_in : Judgement → SchemeTree
 scheme_in (has_scheme s) = s
-scheme_in too_many_slots = record { signature = record { params = []; result = bool_type }; vars = 0 }
-scheme_in (passes_range at) = record { signature = record { params = []; result = bool_type }; vars = 0 }
-scheme_in (has_no_typing row at) = record { signature = record { params = []; result = bool_type }; vars = 0 }
-scheme_in (not_general row at) = record { signature = record { params = []; result = bool_type }; vars = 0 }
+scheme_in too_many_slots = nowhere
+scheme_in (passes_range at) = nowhere
+scheme_in (has_no_typing row at) = nowhere
+scheme_in (not_general row at) = nowhere
 
-kept : IsCallOf program [] schemes (codes "keep") (codes "[]" ∷ codes "[]" ∷ []) (Ok (record { function = 1; inputs = empty ∷ empty ∷ []; type = (scheme_in judged).signature.result }))
-unfolding product
-kept = (1, keep, keep_is_named, (empty ∷ empty ∷ [], (empty_is_input, (empty_is_input, tt)), (scheme_in judged, refl, refl)))
+module _ (brackets : HasTokens (chars (codes "[]")) (left ∷ right 1 true ∷ [])) (bracket : HasTokens (chars (codes "]")) (right 0 false ∷ [])) where
+  empty_is_input : IsInput (given program []) (list_shape num_shape) (codes "[]") empty
+  empty_is_input = (
+    raw_list raw_none,
+    record { tokens = left ∷ right 1 true ∷ []; lexed = brackets; is = (num_shape, right 1 true ∷ [], refl, (left, refl, refl), (right 1 true, refl, refl)); low = omega arith },
+    refl,
+    refl,
+    refl,
+  )
+
+  -- the second argument is refused, at its first token
+  second_refused : IsCallOf program [] schemes (codes "keep") (codes "[]" ∷ codes "]" ∷ []) (Err (refusal.Argument 1 (input_stop.Shape 0)))
+  second_refused = (
+    1,
+    keep,
+    keep_is_named,
+    (
+      refl,
+      record {
+        before = empty ∷ [];
+        read = (empty_is_input, tt);
+        shape = list_shape num_shape;
+        has_shape = refl;
+        text = codes "]";
+        has_text = refl;
+        refused = record {
+          tokens = right 0 false ∷ [];
+          lexed = bracket;
+          k = 0;
+          place = refl;
+          stops = record {
+            within = omega arith;
+            before = (left ∷ right 1 true ∷ [], raw_list raw_none, (num_shape, right 1 true ∷ [], refl, (left, refl, refl), (right 1 true, refl, refl)), omega arith);
+            through = λ lt b. no_list b.0 b.1 b.2;
+            none = λ e. absurd (omega (arith, e));
+          };
+        };
+        cause = λ e. absurd (cc e);
+      },
+    ),
+  )
+
+  kept : IsCallOf program [] schemes (codes "keep") (codes "[]" ∷ codes "[]" ∷ []) (Ok (record { function = 1; inputs = empty ∷ empty ∷ []; type = (scheme_in judged).signature.result }))
+  unfolding product
+  kept = (1, keep, keep_is_named, (empty ∷ empty ∷ [], (empty_is_input, (empty_is_input, tt)), (scheme_in judged, refl, refl)))
 
 -- its type is num<'a> list
 abbrev item_terms : TypeTree → List Term

@@ -1,5 +1,5 @@
 -- Words have one answer, memory aside.
-use Rattle.std.proofs.Common.{◌≡◌, ◌⊎◌, inl, inr, ℕ, zero, suc, ◌<◌, ◌≤◌, List, [], ◌∷◌, take, map, length, Some, None, slice_get, refl, sym, ap, subst, ◌∙◌, arith, Ok, Err}
+use Rattle.std.proofs.Common.{◌≡◌, ◌⊎◌, inl, inr, ℕ, suc, ◌≤◌, List, [], ◌∷◌, take, length, Some, None, slice_get, refl, sym, ap, subst, ◌∙◌, arith, Ok, Err}
 use Rattle.std.specs.Prelude.{◌≢◌, Result}
 use Rattle.std.proofs.lemmas.Bool.{cases_lt}
 use Rattle.std.proofs.lemmas.List.{length-map}
@@ -23,7 +23,7 @@ use Rattle.um_value.proofs.UniqueInputs.{fault_or_value, value_or_none, one_valu
 use Rattle.um_infer.specs.CallJudgement.{judge_call}
 use Rattle.um_run.specs.declared.call.CallRefusal.{CallRefusal}
 use Rattle.um_run.specs.declared.call.CallRefusal.TheVariants as refusal
-use Rattle.um_run.specs.Calls.{CallTree, IsInput, AreInputs, IsFirstRefused, parameter_shapes, IsNamed, IsJudgedCall, IsCallTo, IsCallOf}
+use Rattle.um_run.specs.Calls.{CallTree, IsInput, AreInputs, IsFirstRefused, parameter_shapes, IsNamed, IsCallTo, IsCallOf}
 use Rattle.um_run.specs.Laws.{CallsAreUnique}
 use Rattle.um_run.proofs.Inputs.{same_count, input_at}
 use Rattle.um_run.proofs.OneByOne.{get_before}
@@ -84,7 +84,7 @@ module _ (known : Known) (formed : IsFormed known.program) where
         elim (cases_lt k j) [
           | inl lt ↦
               let i =
-                  input_at known (take j shapes) (take j texts) a.before k b.shape b.text a.read (get_before shapes j k lt ∙ b.has_shape) (get_before texts j k lt ∙ b.has_text) in
+              input_at known (take j shapes) (take j texts) a.before k b.shape b.text a.read (get_before shapes j k lt ∙ b.has_shape) (get_before texts j k lt ∙ b.has_text) in
               absurd (input_or_refused b.shape b.text (over k b.shape b.has_shape) i.0 f i.1 b.cause b.refused)
           | inr le ↦ le
         ]

@@ -1,7 +1,8 @@
 -- A call by its words: the name of a function, and a text for each argument.
--- Source: this project's own. Each refusal comes only where none before it does; want of memory may come in place of every
--- answer.
-use Rattle.std.specs.Prelude.{◌≡◌, ◌≢◌, ℕ, All, List, [], ◌∷◌, length, map, take, slice_get, Some, None, Result, Ok, Err}
+-- Source: this project's own. Each refusal comes only where none before it does; want of memory may come in place of
+-- every answer.
+use Rattle.std.specs.Prelude.{◌≡◌, ◌≢◌, ℕ, All, List, [], ◌∷◌, length, map, take, slice_get, Some, None, Result}
+use Rattle.std.specs.Prelude.{Ok, Err}
 use Rattle.um_tree.specs.TypeTree.{TypeTree, type_tree, ShapeTree}
 use Rattle.um_tree.specs.ValueTree.{ValueTree, InputTree, input_tree, inputs_in_order, without_units}
 use Rattle.um_tree.specs.ProgramTree.{FunctionTree, ProgramTree, SchemeTree}
@@ -86,8 +87,8 @@ IsJudgedCall j k inputs (Err refusal.Slots) = j ≡ too_many_slots
 IsJudgedCall j k inputs (Err refusal.NoMemory) = Unit {0}
 
 module _ (p : ProgramTree) (shorts : List Abbreviation) (schemes : List SchemeTree) where
-  -- the call of function k, which is f, on the inputs that the texts are; or it takes another number of arguments, or an
-  -- argument is refused
+  -- the call of function k, which is f, on the inputs that the texts are; or it takes another number of arguments, or
+  -- an argument is refused
   abbrev pub IsCallTo : ℕ → FunctionTree → List (List ℕ) → Result CallTree CallRefusal → Type 0
   IsCallTo k f texts (Err refusal.NoFunction) = ⊥
   IsCallTo k f texts (Err refusal.WrongCount) = length texts ≢ length f.params

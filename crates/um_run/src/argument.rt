@@ -1,5 +1,5 @@
 //! Arguments, read at the shapes of a function's parameters.
-ghost use Rattle.std.specs.Prelude.{◌≡◌, ◌≢◌, ◌≤◌, ℕ, All, List, length, map, slice_get, string_bytes, Some};
+ghost use Rattle.std.specs.Prelude.{◌≡◌, ◌≤◌, ℕ, All, List, length, map, slice_get, string_bytes, Some};
 ghost use Rattle.um_tree.specs.TypeTree.{ShapeTree};
 ghost use Rattle.um_tree.specs.ValueTree.{input_tree};
 ghost use Rattle.um_tree.specs.ProgramTree.{FunctionTree, program_tree};
@@ -34,7 +34,15 @@ pub(crate) fn read_arguments(
     let mut items = Vec::new(alloc);
     for k in 0..texts.len() {
         let text = texts[k].as_str();
-        match add_argument(alloc, shaped, abbreviations, function, k as u32, text, &mut items) {
+        match add_argument(
+            alloc,
+            shaped,
+            abbreviations,
+            function,
+            k as u32,
+            text,
+            &mut items,
+        ) {
             Ok(()) => {}
             Err(refusal) => {
                 drop(items);

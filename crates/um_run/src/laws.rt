@@ -1,8 +1,10 @@
 //! Laws of calls, by their definition alone. A call does nothing: what it ensures is the law.
-ghost use Rattle.um_run.specs.Laws.{CallsAreTyped, RefusedCallsHaveNoResult, FittingCallsAreCalls, CallsAreUnique, AbbreviationsAreClosed};
+ghost use Rattle.um_run.specs.Laws.{CallsAreTyped, RefusedCallsHaveNoResult, FittingCallsAreCalls};
+ghost use Rattle.um_run.specs.Laws.{CallsAreUnique, AbbreviationsAreClosed};
 
-/// A call runs on values of its function's parameters, and its type is a type of the call; words that are refused for their
-/// units have no result. Where the arguments fit a typing, and no limit of slots or powers is passed, there is a call.
+/// A call runs on values of its function's parameters, and its type is a type of the call; words that are refused for
+/// their units have no result. Where the arguments fit a typing, and no limit of slots or powers is passed, there is a
+/// call.
 pub fn calls()
     ensures typed { CallsAreTyped }
     ensures refused { RefusedCallsHaveNoResult }

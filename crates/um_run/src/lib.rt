@@ -1,7 +1,7 @@
 //! Calls as a user writes them: the name of a function and a text for each argument.
 //!
-//! [`read_call`] looks the function up, reads each text at the shape of its parameter, and types the call. `specs/` has the
-//! whole answer as a relation ([`CallRefusal`] has the refusals). Nothing is run here.
+//! [`read_call`] looks the function up, reads each text at the shape of its parameter, and types the call. `specs/` has
+//! the whole answer as a relation ([`CallRefusal`] has the refusals). Nothing is run here.
 #![tactic(auto)]
 
 mod argument;

@@ -19,13 +19,13 @@ use um_measures::Abbreviations;
 use um_shape::Shaped;
 use um_tree::{Inputs, Schemes};
 
-/// The call of the function of this name with the arguments that the texts are, given the schemes that `infer` answered for
-/// the program, and its abbreviations.
+/// The call of the function of this name with the arguments that the texts are, given the schemes that `infer` answered
+/// for the program, and its abbreviations.
 ///
-/// Each text is read at the shape of its parameter (`um_value::read_value` has the forms and the places), and the call is
-/// typed as one more function behind all others (`um_infer::type_call`). The instances of its type are exactly the results
-/// of the typings of the function that the arguments fit (Kennedy 1996). Each text is at most 1,048,576 bytes long, and the
-/// abbreviations' units are closed, over declared base units.
+/// Each text is read at the shape of its parameter (`um_value::read_value` has the forms and the places), and the call
+/// is typed as one more function behind all others (`um_infer::type_call`). The instances of its type are exactly the
+/// results of the typings of the function that the arguments fit (Kennedy 1996). Each text is at most 1,048,576 bytes
+/// long, and the abbreviations' units are closed, over declared base units.
 ///
 /// # Errors
 ///

@@ -6,8 +6,8 @@ use std::alloc::Global;
 use um_tree::{Input, Inputs, Value, Values, value_of};
 use um_units::NoMemory;
 
-/// The inputs without their units, in order: the values on which a function is run. It takes memory for them, and `NoMemory`
-/// is its one error.
+/// The inputs without their units, in order: the values on which a function is run. It takes memory for them, and
+/// `NoMemory` is its one error.
 pub fn argument_values(alloc: Global, inputs: &Inputs) -> Result<Values, NoMemory>
     ensures { IfOk result (λ values. map value_tree values.items.items
         ≡ map without_units (map input_tree inputs.now.items.items)) }

@@ -3,7 +3,6 @@ use Rattle.std.proofs.lemmas.Option.{same_Some}
 use Rattle.um_tree.specs.declared.program.Program.{Program}
 use Rattle.um_tree.specs.TypeTree.{ShapeTree, shape_tree}
 use Rattle.um_tree.specs.ProgramTree.{program_tree}
-use Rattle.um_tree.specs.Formed.{IsFormed}
 use Rattle.um_measures.specs.ClosedUnits.{given}
 use Rattle.um_value.specs.ValueGrammar.{IsShapeIn}
 use Rattle.um_value.specs.InputRead.{IsInputOf}
