@@ -2,7 +2,6 @@
 -- Source: this project's own texts; the units are in the notation of the F# specification, Units Of Measure.
 use Rattle.std.specs.Prelude.{ℕ, Bool, true, false, ◌&&◌, List, [], ◌∷◌, ◌++◌, codes, map, slice_get, Option, Some}
 use Rattle.std.specs.Prelude.{None}
-use Rattle.um_frac.specs.declared.number.Frac.{Frac}
 use Rattle.um_units.specs.declared.Term.{Term}
 use Rattle.um_units.specs.PowerMap.{PowerMap, nth}
 use Rattle.um_units.specs.Variables.{variables_below}
