@@ -1,0 +1,10 @@
+//! Code images, and when one is verified: a run of its functions is then never stuck.
+//!
+//! The rules of instructions stand in `specs/`, over shapes in place of values; the machine is that of `um_machine`.
+#![tactic(auto)]
+
+mod image;
+mod laws;
+
+pub use image::{Head, Heads, Image, Shapes};
+pub use laws::{joins_of_shapes, runs_of_verified_images};
