@@ -1,7 +1,9 @@
 pub mod Fits
+pub mod Joins
 pub mod Arrived
 pub mod Bodies
-pub mod Operations
-pub mod Sound
-pub mod Stacked
-pub mod Ends
+mod Operations
+mod Sound
+mod Stacked
+mod Forward
+mod Ends

@@ -390,7 +390,7 @@ module _ (image : ImageTree) (matched : Match image.code.entries image.heads) (o
     runs_safe zero s h = h
     runs_safe (suc n) s h = next_safe (step code s) (runs code n) (step_safe s h) (λ t g. runs_safe n t g)
 
-    starts_safe : (f : ℕ) (e : Body) (x : Entry) → slice_get view.bodies f ≡ Some e → x.start ≡ e.start → e.result ≡ outer → (args : List ValueTree) → HaveAll args e.params → (b : ℕ) → SafeStep (starts code f args b (Some x))
+    pub starts_safe : (f : ℕ) (e : Body) (x : Entry) → slice_get view.bodies f ≡ Some e → x.start ≡ e.start → e.result ≡ outer → (args : List ValueTree) → HaveAll args e.params → (b : ℕ) → SafeStep (starts code f args b (Some x))
     starts_safe f e x s i r args h zero = tt
     starts_safe f e x s i r args h (suc b) =
         let last : Waits [] f 0 [] = λ y q v k. subst (λ (t : StackShape). Is v t) (ap (λ (o : Body). o.result) (same_body y e (sym q ∙ s)) ∙ r) k in

@@ -1,0 +1,92 @@
+-- Runs of verified images end, and are never stuck.
+use Rattle.std.proofs.Common.{◌≡◌, ◌≢◌, refl, sym, subst, ap, ◌∙◌, ℕ, zero, suc, ◌+◌, ◌<◌, ◌≤◌, List, [], ◌∷◌, length, map, Option, Some, None, slice_get, arith}
+use Rattle.std.proofs.lemmas.Option.{slice_get_within}
+use Rattle.um_tree.specs.ValueTree.{ValueTree, OutcomeTree, value_outcome, trap_outcome, budget_outcome}
+use Rattle.um_tree.specs.InputType.{ValueHas}
+use Rattle.um_machine.specs.declared.op.Op.{Op}
+use Rattle.um_machine.specs.declared.code.Entry.{Entry}
+use Rattle.um_machine.specs.declared.code.Code.{Code}
+use Rattle.um_machine.specs.Machine.{State, Step, going, done, stuck, step, next, runs, starts, Runs, EndsWith}
+use Rattle.um_machine.proofs.Ends.{never_stuck_from}
+use Rattle.um_machine.proofs.Rank.{Forward, rank, Falls, step_falls}
+use Rattle.um_verify.specs.StackShape.{StackShape, on_stack}
+use Rattle.um_verify.specs.ImageTree.{HeadTree, ImageTree}
+use Rattle.um_verify.specs.Rules.{Body, body_of, view_of}
+use Rattle.um_verify.specs.Verified.{IsVerified}
+use Rattle.um_verify.specs.Laws.{OutcomeHas, IsCall, NeverStuck, RunsEnd}
+use Rattle.um_verify.proofs.Bodies.{body_at, head_of}
+use Rattle.um_verify.proofs.Sound.{Good, SafeStep, step_safe, starts_safe, whole_safe, not_stuck, value_has}
+use Rattle.um_verify.proofs.Stacked.{all_stacked, has_unstacked}
+use Rattle.um_verify.proofs.Forward.{code_forward}
+
+-- a function of a verified image has an instruction
+filled : (image : ImageTree) → IsVerified image → (f : ℕ) (b : Body) → slice_get (view_of image).bodies f ≡ Some b → b.start < b.end
+filled image verified f b s =
+    let h = head_of image.code.entries image.heads f b s in
+    let some = (((verified.heads (length image.records + f)).function_holds) f h.0 refl h.2).some_instruction h.1 h.3 in
+    subst (λ (x : Body). x.start < x.end) h.4 some
+
+module _ (image : ImageTree) (f : ℕ) (head : HeadTree) (vs : List ValueTree) (b : ℕ) (verified : IsVerified image) (call : IsCall image f head vs) where
+  abbrev outer : StackShape
+  outer = on_stack head.result
+
+  abbrev Safe : Step → Type 0
+  Safe r = SafeStep image verified.form.entries outer r
+
+  run_safe : (n : ℕ) → Safe (Runs image.code f vs b n)
+  run_safe n =
+      let e = body_at image.code.entries image.heads verified.form.entries f head call.listed in
+      whole_safe image verified.form.entries outer (filled image verified) verified.code f (body_of e.0 head) e.2 refl vs (all_stacked image.records vs head.params call.values) b n
+
+  pub run_not_stuck : (n : ℕ) → Runs image.code f vs b n ≢ stuck
+  run_not_stuck n = not_stuck image verified.form.entries outer (Runs image.code f vs b n) (run_safe n)
+
+  forward : (a : ℕ) (i : Op) → slice_get image.code.ops a ≡ Some i → Forward a i
+  forward a i s =
+      code_forward image verified.form.entries verified.form.follow verified.code a i (slice_get_within image.code.ops a i s) s
+
+  abbrev Ending : Step → Type 0
+  Ending r = (o : OutcomeTree) × (n : ℕ) × (next r (runs image.code n) ≡ done o)
+
+  abbrev l : ℕ
+  l = length image.code.ops
+
+  -- a state whose rank is below k ends
+  mutual
+    state_ends : (k : ℕ) (s : State) → Good image verified.form.entries outer s → rank l s < k → Ending (going s)
+    state_ends zero s g h = absurd (omega arith)
+    state_ends (suc k) s g h =
+        let r = step_ends k (step image.code s) (rank l s) (step_safe image verified.form.entries outer (filled image verified) verified.code s g) (step_falls image.code forward s) (omega arith) in
+        (r.0, suc r.1, r.2)
+
+    step_ends : (k : ℕ) (r : Step) (m : ℕ) → Safe r → Falls image.code l m r → m ≤ k → Ending r
+    step_ends k (going t) m g h w = state_ends k t g (omega arith)
+    step_ends k (done o) m g h w = (o, 0, refl)
+    step_ends k stuck m g h w = absurd g
+
+  start_ends : (r : Step) → Safe r → Ending r
+  start_ends (going s) g = state_ends (suc (rank l s)) s g (omega arith)
+  start_ends (done o) g = (o, 0, refl)
+  start_ends stuck g = absurd g
+
+  next_none : (r : Step) → next r (runs image.code 0) ≡ r
+  next_none (going s) = refl
+  next_none (done o) = refl
+  next_none stuck = refl
+
+  outcome_has : (o : OutcomeTree) (r : Step) → Safe r → r ≡ done o → OutcomeHas image.records o head.result
+  outcome_has (value_outcome v) r g e = has_unstacked image.records v head.result (value_has image verified.form.entries outer r g v e)
+  outcome_has (trap_outcome t) r g e = tt
+  outcome_has budget_outcome r g e = tt
+
+  pub run_ends : (o : OutcomeTree) × EndsWith image.code f vs b o × OutcomeHas image.records o head.result
+  run_ends =
+      let first = starts image.code f vs b (slice_get image.code.entries f) in
+      let e = start_ends first (subst Safe (next_none first) (run_safe 0)) in
+      (e.0, (e.1, e.2, λ m h. run_not_stuck m), outcome_has e.0 (Runs image.code f vs b e.1) (run_safe e.1) e.2)
+
+pub never_stuck : NeverStuck
+never_stuck image f head vs b n verified call = run_not_stuck image f head vs b verified call n
+
+pub runs_end : RunsEnd
+runs_end image f head vs b verified call = run_ends image f head vs b verified call

@@ -1,0 +1,8 @@
+use Rattle.um_verify.proofs.Ends.{never_stuck, runs_end}
+use Rattle.um_verify.proofs.laws.runs_of_verified_images.Goals as goal
+
+pub returns-clause-never_stuck : goal.returns-clause-never_stuck
+returns-clause-never_stuck c = never_stuck
+
+pub returns-clause-end : goal.returns-clause-end
+returns-clause-end c = runs_end
