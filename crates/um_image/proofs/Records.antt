@@ -93,3 +93,33 @@ text_lower rs h (record_shape r) = known (slice_get rs r) refl where
   known : (o : Option RecordShape) → slice_get rs r ≡ o → declared_height (slice_get [] r) ≤ declared_height o
   known None e = let n = nothing r in omega arith
   known (Some d) e = let n = nothing r in let k = h r d e in omega arith
+
+pub take_plain : (n : ℕ) (ds : List RecordTree) → take n (map plain_record ds) ≡ map plain_record (take n ds)
+take_plain zero ds = refl
+take_plain (suc n) [] = refl
+take_plain (suc n) (d ∷ ds) = ap (λ (xs : List RecordTree). plain_record d ∷ xs) (take_plain n ds)
+
+-- what is below the tallest of some
+pub below_tallest : (rs : List RecordShape) (ss : List ShapeTree) (k : ℕ) (s : ShapeTree) → slice_get ss k ≡ Some s → shape_height rs s ≤ tallest rs ss
+below_tallest rs [] zero s e = absurd cc
+below_tallest rs [] (suc k) s e = absurd cc
+below_tallest rs (t ∷ ss) zero s e = let same : t ≡ s = cc in subst (λ (x : ShapeTree). shape_height rs x ≤ tallest rs (t ∷ ss)) same (omega arith)
+below_tallest rs (t ∷ ss) (suc k) s e = let l = below_tallest rs ss k s e in omega arith
+
+-- a field of record r is low over the records before
+pub low_field : (ds : List RecordTree) (earlier rs : List RecordShape) → records_found earlier ds ≡ Ok rs → (r : ℕ) (x : RecordTree) → slice_get ds r ≡ Some x → (k : ℕ) (f : FieldTree) → slice_get x.fields k ≡ Some f → shape_height (and_shapes earlier (take r ds)) (type_shape f.type) ≤ greatest_height
+low_field [] earlier rs e zero x s k f u = absurd cc
+low_field [] earlier rs e (suc r) x s k f u = absurd cc
+low_field (d ∷ ds) earlier rs e zero x s k f u =
+    let h = then_ok (record_found earlier d) _ rs e in
+    let is = record_is earlier d h.0 h.1 in
+    let same : d ≡ x = cc in
+    let high : h.0.height ≤ greatest_height = is.1 in
+    let whole : tallest earlier (map type_shape (field_types d)) + 1 ≡ h.0.height = ap (λ (y : RecordShape). y.height) is.0 in
+    let shapes : tallest earlier (map type_shape (field_types d)) ≡ tallest earlier (map type_shape (field_types x)) = ap (λ (y : RecordTree). tallest earlier (map type_shape (field_types y))) same in
+    let there : slice_get (map type_shape (field_types x)) k ≡ Some (type_shape f.type) = slice_get-map type_shape (field_types x) k ∙ ap (option_map type_shape) (slice_get-map (λ (g : FieldTree). g.type) x.fields k ∙ ap (option_map (λ (g : FieldTree). g.type)) u) in
+    let l = below_tallest earlier (map type_shape (field_types x)) k (type_shape f.type) there in
+    omega arith
+low_field (d ∷ ds) earlier rs e (suc r) x s k f u =
+    let h = then_ok (record_found earlier d) _ rs e in
+    subst (λ (y : RecordShape). shape_height (and_shapes (earlier ++ y ∷ []) (take r ds)) (type_shape f.type) ≤ greatest_height) (sym (record_is earlier d h.0 h.1).0) (low_field ds (earlier ++ h.0 ∷ []) rs h.2 r x s k f u)
