@@ -51,18 +51,20 @@ module _ (image : ImageTree) (f : ℕ) (head : HeadTree) (vs : List ValueTree) (
   abbrev l : ℕ
   l = length image.code.ops
 
-  -- a state whose rank is below k ends
-  mutual
-    state_ends : (k : ℕ) (s : State) → Good image verified.form.entries outer s → rank l s < k → Ending (going s)
-    state_ends zero s g h = absurd (omega arith)
-    state_ends (suc k) s g h =
-        let r = step_ends k (step image.code s) (rank l s) (step_safe image verified.form.entries outer (filled image verified) verified.code s g) (step_falls image.code forward s) (omega arith) in
-        (r.0, suc r.1, r.2)
+  abbrev EndBelow : ℕ → Type 0
+  EndBelow k = (s : State) → Good image verified.form.entries outer s → rank l s < k → Ending (going s)
 
-    step_ends : (k : ℕ) (r : Step) (m : ℕ) → Safe r → Falls image.code l m r → m ≤ k → Ending r
-    step_ends k (going t) m g h w = state_ends k t g (omega arith)
-    step_ends k (done o) m g h w = (o, 0, refl)
-    step_ends k stuck m g h w = absurd g
+  step_ends : (k : ℕ) → EndBelow k → (r : Step) (m : ℕ) → Safe r → Falls image.code l m r → m ≤ k → Ending r
+  step_ends k ih (going t) m g h w = ih t g (omega arith)
+  step_ends k ih (done o) m g h w = (o, 0, refl)
+  step_ends k ih stuck m g h w = absurd g
+
+  -- a state whose rank is below k ends
+  state_ends : (k : ℕ) → EndBelow k
+  state_ends zero s g h = absurd (omega arith)
+  state_ends (suc k) s g h =
+      let r = step_ends k (state_ends k) (step image.code s) (rank l s) (step_safe image verified.form.entries outer (filled image verified) verified.code s g) (step_falls image.code forward s) (omega arith) in
+      (r.0, suc r.1, r.2)
 
   start_ends : (r : Step) → Safe r → Ending r
   start_ends (going s) g = state_ends (suc (rank l s)) s g (omega arith)

@@ -25,7 +25,7 @@ module _ (fields : List (List StackShape)) where
     HasIt (truth_value b) bool = Unit {0}
     HasIt (number_value c) num = Unit {0}
     HasIt (list_value vs) (list s) = EachHas vs s
-    HasIt (record_value r vs) (made q) = (q ≡ r) × ((ss : List StackShape) × (slice_get fields r ≡ Some ss) × FieldsHave vs ss)
+    HasIt (record_value r vs) (made q) = (q ≡ r) × (ss : List StackShape) × (slice_get fields r ≡ Some ss) × FieldsHave vs ss
     HasIt v s = ⊥
 
     pub EachHas : ValueTrees → StackShape → Type 0

@@ -88,10 +88,10 @@ Stands es hs k = (f : ℕ) × (b : Body) × (slice_get (bodies_of es hs) f ≡ S
 
 pub covered : (es : List Entry) (hs : List HeadTree) → Match es hs → (a z k : ℕ) → Follow a es z → a ≤ k → k < z → Stands es hs k
 covered [] [] m a z k w lo hi = absurd (omega arith)
-covered (e ∷ es) (h ∷ hs) m a z k w lo hi = by_end (cases_lt k e.end) where
-  by_end : (k < e.end) ⊎ (e.end ≤ k) → Stands (e ∷ es) (h ∷ hs) k
-  by_end (inl c) = let start = w.0 in (0, body_of e h, refl, omega arith, c)
-  by_end (inr c) = let r = covered es hs m.1 e.end z k w.2 c hi in (suc r.0, r.1, r.2, r.3, r.4)
+covered (e ∷ es) (h ∷ hs) m a z k w lo hi = by_end (λ c. covered es hs m.1 e.end z k w.2 c hi) (cases_lt k e.end) where
+  by_end : ((e.end ≤ k) → Stands es hs k) → (k < e.end) ⊎ (e.end ≤ k) → Stands (e ∷ es) (h ∷ hs) k
+  by_end rest (inl c) = let start = w.0 in (0, body_of e h, refl, omega arith, c)
+  by_end rest (inr c) = let r = rest c in (suc r.0, r.1, r.2, r.3, r.4)
 covered [] (h ∷ hs) m a z k w lo hi = absurd m
 covered (e ∷ es) [] m a z k w lo hi = absurd m
 

@@ -1,9 +1,10 @@
 pub mod Fits
 pub mod Joins
-pub mod Arrived
+mod Arrived
 pub mod Bodies
 mod Operations
 mod Sound
 mod Stacked
 mod Forward
 mod Ends
+mod Examples
