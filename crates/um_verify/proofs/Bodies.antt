@@ -1,12 +1,11 @@
 -- The functions that the rules look at are the entries of the code.
-use Rattle.std.proofs.Common.{◌≡◌, refl, sym, ap, ◌∙◌, ℕ, zero, suc, ◌+◌, ◌<◌, ◌≤◌, Bool, cond, List, [], ◌∷◌, length, map, Option, Some, None, slice_get, arith}
+use Rattle.std.proofs.Common.{◌≡◌, refl, sym, ap, ◌∙◌, ℕ, zero, suc, ◌<◌, ◌≤◌, Bool, cond, List, [], ◌∷◌, length, map, Option, Some, None, slice_get, arith}
 use Rattle.std.specs.Prelude.{nat_lt}
 use Rattle.std.proofs.lemmas.List.{length-map}
 use Rattle.std.proofs.lemmas.Bool.{le-leb, lt-ltb}
-use Rattle.um_machine.specs.declared.op.Op.{Op}
 use Rattle.um_machine.specs.declared.code.Entry.{Entry}
 use Rattle.um_machine.specs.Machine.{op_at, op_within}
-use Rattle.um_verify.specs.StackShape.{StackShape, on_stack}
+use Rattle.um_verify.specs.StackShape.{on_stack}
 use Rattle.um_verify.specs.ImageTree.{HeadTree, ImageTree, Match}
 use Rattle.um_verify.specs.Rules.{Body, body_of, bodies_of, view_of}
 

@@ -1,13 +1,9 @@
 -- Runs of verified images end, and are never stuck.
-use Rattle.std.proofs.Common.{◌≡◌, ◌≢◌, refl, sym, subst, ap, ◌∙◌, ℕ, zero, suc, ◌+◌, ◌<◌, ◌≤◌, List, [], ◌∷◌, length, map, Option, Some, None, slice_get, arith}
+use Rattle.std.proofs.Common.{◌≡◌, ◌≢◌, refl, subst, ℕ, zero, suc, ◌+◌, ◌<◌, ◌≤◌, List, length, Some, slice_get, arith}
 use Rattle.std.proofs.lemmas.Option.{slice_get_within}
 use Rattle.um_tree.specs.ValueTree.{ValueTree, OutcomeTree, value_outcome, trap_outcome, budget_outcome}
-use Rattle.um_tree.specs.InputType.{ValueHas}
 use Rattle.um_machine.specs.declared.op.Op.{Op}
-use Rattle.um_machine.specs.declared.code.Entry.{Entry}
-use Rattle.um_machine.specs.declared.code.Code.{Code}
 use Rattle.um_machine.specs.Machine.{State, Step, going, done, stuck, step, next, runs, starts, Runs, EndsWith}
-use Rattle.um_machine.proofs.Ends.{never_stuck_from}
 use Rattle.um_machine.proofs.Rank.{Forward, rank, Falls, step_falls}
 use Rattle.um_verify.specs.StackShape.{StackShape, on_stack}
 use Rattle.um_verify.specs.ImageTree.{HeadTree, ImageTree}
@@ -15,7 +11,7 @@ use Rattle.um_verify.specs.Rules.{Body, body_of, view_of}
 use Rattle.um_verify.specs.Verified.{IsVerified}
 use Rattle.um_verify.specs.Laws.{OutcomeHas, IsCall, NeverStuck, RunsEnd}
 use Rattle.um_verify.proofs.Bodies.{body_at, head_of}
-use Rattle.um_verify.proofs.Sound.{Good, SafeStep, step_safe, starts_safe, whole_safe, not_stuck, value_has}
+use Rattle.um_verify.proofs.Sound.{Good, SafeStep, step_safe, whole_safe, not_stuck, value_has}
 use Rattle.um_verify.proofs.Stacked.{all_stacked, has_unstacked}
 use Rattle.um_verify.proofs.Forward.{code_forward}
 

@@ -1,11 +1,11 @@
 -- Small views, and what their rules pass on, by computation.
-use Rattle.std.proofs.Common.{◌≡◌, refl, ℕ, true, false, pos, List, [], ◌∷◌, Some, None}
+use Rattle.std.proofs.Common.{◌≡◌, refl, true, false, pos, List, [], ◌∷◌, Some, None}
 use Rattle.um_tree.proofs.ExamplePrograms.{one_number}
 use Rattle.um_machine.specs.declared.op.Op.{Op}
 use Rattle.um_machine.specs.declared.op.Op.TheVariants.{PushNum, PushBool, Load, Add, Not, Lt, Jump, JumpIfNot, MakeList, Cons, Split, MakeRec, Field, Slide, Call, Ret, Pow}
 use Rattle.um_machine.specs.Stack.{takes}
 use Rattle.um_verify.specs.StackShape.{StackShape, void, bool, num, list, made, fits, join, join_all, join_items}
-use Rattle.um_verify.specs.Rules.{Body, View, Sent, Flow, fails, passes, to, rule}
+use Rattle.um_verify.specs.Rules.{Body, View, Flow, fails, passes, to, rule}
 use Rattle.um_verify.specs.Verified.{nobody, clash, arrived, met, flow}
 
 -- ---- shapes

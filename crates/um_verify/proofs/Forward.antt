@@ -1,16 +1,16 @@
 -- The jumps of verified code go forward.
-use Rattle.std.proofs.Common.{◌≡◌, refl, sym, subst, ap, ◌∙◌, ℕ, zero, suc, ◌+◌, ◌-◌, ◌<◌, ◌≤◌, ◌⊎◌, inl, inr, Bool, true, false, cond, List, [], ◌∷◌, ◌++◌, length, take, drop, Option, Some, None, slice_get, arith}
+use Rattle.std.proofs.Common.{◌≡◌, refl, subst, ℕ, suc, ◌+◌, ◌-◌, ◌<◌, ◌≤◌, ◌⊎◌, inl, inr, Bool, true, false, cond, List, [], ◌∷◌, ◌++◌, length, take, drop, Option, Some, slice_get, arith}
 use Rattle.std.specs.Prelude.{nat_le}
 use Rattle.std.proofs.lemmas.Bool.{cases_lt}
 use Rattle.um_machine.specs.declared.op.Op.{Op}
 use Rattle.um_machine.specs.declared.op.Op.TheVariants.{PushNum, PushBool, Load, Add, Sub, Mul, Div, Neg, Not, Lt, Le, Eq, Jump, JumpIfNot, MakeList, Cons, Split, MakeRec, Field, Slide, Call, Ret, Pow}
 use Rattle.um_machine.specs.declared.code.Entry.{Entry}
-use Rattle.um_machine.specs.Stack.{takes, on_one, on_found}
+use Rattle.um_machine.specs.Stack.{takes, on_one}
 use Rattle.um_machine.proofs.Rank.{Forward}
 use Rattle.um_verify.specs.StackShape.{StackShape, void, bool, num, list, made, fits}
 use Rattle.um_verify.specs.ImageTree.{HeadTree, ImageTree, Match, Follow}
-use Rattle.um_verify.specs.Rules.{Body, View, body_of, bodies_of, view_of, Sent, Flow, fails, passes, need, to, on_list_shape, rule, inside, low_states, forwards}
-use Rattle.um_verify.specs.Verified.{Met, nobody, clash, arrived, passed, met, flow, Passes, CodeHolds}
+use Rattle.um_verify.specs.Rules.{Body, View, body_of, bodies_of, view_of, Sent, Flow, fails, passes, need, on_list_shape, rule, inside, low_states, forwards}
+use Rattle.um_verify.specs.Verified.{Met, nobody, clash, arrived, passed, met, Passes, CodeHolds}
 use Rattle.um_verify.proofs.Arrived.{Among, among_inside}
 
 module _ (view : View) (e : Body) (a : ℕ) where

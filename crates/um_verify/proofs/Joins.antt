@@ -1,5 +1,5 @@
 -- The join of two shapes is the least that both fit.
-use Rattle.std.proofs.Common.{◌≡◌, refl, sym, subst, ap, ◌∙◌, ℕ, Bool, true, false, cond, Option, Some, None, arith}
+use Rattle.std.proofs.Common.{◌≡◌, refl, sym, subst, ap, ◌∙◌, ℕ, Bool, true, false, cond, Option, Some, None}
 use Rattle.std.specs.Prelude.{option_map, nat_eq}
 use Rattle.um_verify.specs.StackShape.{StackShape, void, bool, num, list, made, fits, join}
 use Rattle.um_verify.specs.Laws.{JoinIsLeast, NoJoinNoBound}

@@ -5,10 +5,10 @@ use Rattle.um_frac.specs.declared.number.Trap.{Trap}
 use Rattle.um_frac.specs.Arithmetic.{whole_power_of}
 use Rattle.um_tree.specs.declared.expression.Arith.{Arith}
 use Rattle.um_tree.specs.declared.expression.Sign.{Sign}
-use Rattle.um_tree.specs.ValueTree.{ValueTree, ValueTrees, truth_value, number_value, list_value, record_value, no_values, more_values}
+use Rattle.um_tree.specs.ValueTree.{ValueTree, ValueTrees, truth_value, number_value, list_value, no_values, more_values}
 use Rattle.um_tree.specs.Meaning.{Stop, trap, budget_end, wrong, number_result, arithmetic, calculated, compared, negated, raised, not_of, longer, value_at}
 use Rattle.um_verify.specs.StackShape.{StackShape, bool, num, list}
-use Rattle.um_verify.proofs.Fits.{HasIt, EachHas, FieldsHave}
+use Rattle.um_verify.proofs.Fits.{HasIt, FieldsHave}
 
 module _ (fields : List (List StackShape)) where
   -- it isn't wrong, and a value has the shape

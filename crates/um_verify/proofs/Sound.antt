@@ -5,25 +5,24 @@ use Rattle.std.proofs.Math.Seq.{take-append_seam, drop-append_seam}
 use Rattle.std.proofs.lemmas.List.{take-append-drop}
 use Rattle.std.proofs.lemmas.Bool.{le-leb}
 use Rattle.std.proofs.lemmas.Bool.Decides.{nat_tests}
-use Rattle.um_frac.specs.declared.number.Trap.{Trap}
 use Rattle.um_tree.specs.declared.expression.Arith.TheVariants as arith_of
 use Rattle.um_tree.specs.declared.expression.Sign.TheVariants as sign
-use Rattle.um_tree.specs.ValueTree.{ValueTree, ValueTrees, truth_value, number_value, list_value, record_value, no_values, more_values, values_in_order, OutcomeTree, value_outcome, trap_outcome, budget_outcome}
+use Rattle.um_tree.specs.ValueTree.{ValueTree, ValueTrees, truth_value, number_value, list_value, record_value, no_values, more_values, values_in_order, value_outcome, trap_outcome, budget_outcome}
 use Rattle.um_tree.specs.Meaning.{Stop, trap, budget_end, wrong, calculated, compared, negated, not_of, raised, longer, value_at}
 use Rattle.um_machine.specs.declared.op.Op.{Op}
 use Rattle.um_machine.specs.declared.op.Op.TheVariants.{PushNum, PushBool, Load, Add, Sub, Mul, Div, Neg, Not, Lt, Le, Eq, Jump, JumpIfNot, MakeList, Cons, Split, MakeRec, Field, Slide, Call, Ret, Pow}
 use Rattle.um_machine.specs.declared.code.Entry.{Entry}
 use Rattle.um_machine.specs.declared.code.Code.{Code}
 use Rattle.um_machine.specs.Stack.{takes, on_one, on_two, on_found}
-use Rattle.um_machine.specs.Machine.{Frame, State, Step, going, done, stuck, op_at, arrive, goes, pushes, after, part_of, by_truth, by_list, takes_one, takes_two, gathers, spends, begun, enters, returns, act, step, next, runs, starts, Runs}
+use Rattle.um_machine.specs.Machine.{Frame, State, Step, going, done, stuck, op_at, arrive, pushes, after, part_of, by_truth, by_list, takes_one, takes_two, gathers, spends, begun, enters, returns, act, step, next, runs, starts, Runs}
 use Rattle.um_verify.specs.StackShape.{StackShape, void, bool, num, list, made, fits, join, fit_all, join_items}
 use Rattle.um_verify.specs.ImageTree.{ImageTree, Match}
 use Rattle.um_verify.specs.Rules.{Body, View, view_of, Sent, Flow, fails, passes, need, to, on_list_shape, on_record_shape, fields_of, fit_one, fit_two, rule, inside, low_states, forwards}
 use Rattle.um_verify.specs.Verified.{Met, nobody, clash, arrived, passed, met, flow, Passes, CodeHolds}
-use Rattle.um_verify.proofs.Fits.{IfSome, HasIt, EachHas, FieldsHave, Have, Below, each_below, none_void, fits_below, join_left, join_right, fit_below, items_joined, fields_have, same_length, have_both, have_take, have_drop, equal_numbers}
+use Rattle.um_verify.proofs.Fits.{IfSome, HasIt, FieldsHave, Have, Below, each_below, none_void, fits_below, join_left, join_right, fit_below, items_joined, fields_have, same_length, have_both, have_take, have_drop, equal_numbers}
 use Rattle.um_verify.proofs.Arrived.{Among, Holds, Opens, passed_on}
-use Rattle.um_verify.proofs.Bodies.{EntryIs, entry_of, op_in_body}
-use Rattle.um_verify.proofs.Operations.{Gives, calculated_gives, compared_gives, negated_gives, raised_gives, not_gives, longer_gives, part_gives}
+use Rattle.um_verify.proofs.Bodies.{entry_of, op_in_body}
+use Rattle.um_verify.proofs.Operations.{Gives, calculated_gives, compared_gives, negated_gives, raised_gives, not_gives, part_gives}
 
 same_body : (x y : Body) → Some x ≡ Some y → x ≡ y
 same_body x y h = cc

@@ -1,6 +1,6 @@
 -- What verified images come to.
 -- Source: this project's own.
-use Rattle.std.specs.Prelude.{◌≡◌, ◌≢◌, ℕ, true, List, Option, Some, None, slice_get}
+use Rattle.std.specs.Prelude.{◌≡◌, ◌≢◌, ℕ, true, List, Some, None, slice_get}
 use Rattle.um_tree.specs.ValueTree.{ValueTree, values_in_order, OutcomeTree, value_outcome, trap_outcome, budget_outcome}
 use Rattle.um_tree.specs.ProgramTree.{RecordTree}
 use Rattle.um_tree.specs.TypeTree.{ShapeTree}
