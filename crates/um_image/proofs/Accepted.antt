@@ -375,15 +375,17 @@ module _ (p : ProgramTree) (formed : IsFormed p) (short : HasShortNames p) (gs :
   same_signature xs k g h e u = let w : Some g ≡ Some h = sym e ∙ u in cc
 
   found_at : (k : ℕ) (f : FunctionTree) → slice_get p.functions k ≡ Some f → IsFound rs gs k f
-  found_at k f e = each_found rs [] gs p.functions rs_found.2 k f e
+  found_at k f e = let here : 0 + k ≡ k = omega arith in subst (λ (n : ℕ). IsFound rs gs n f) here (each_found rs [] gs p.functions rs_found.2 k f e)
 
   found_place : (k : ℕ) (f : FunctionTree) (x : IsFound rs gs k f) → slice_get gs k ≡ Some x.g
   found_place k f x =
       begins_get (x.before ++ x.g ∷ []) gs k x.g x.begins (ap (slice_get (x.before ++ x.g ∷ [])) (sym x.count) ∙ at_place x.before x.g [])
 
-  results_below : (n j : ℕ) (g : ShapeSignature) → j < n → slice_get gs j ≡ Some g → Below g.result
-  results_below zero j g l e = absurd (omega arith)
-  results_below (suc n) j g l e = which (cases_lt j n) where
+  abbrev ResultsBelow : ℕ → Type 0
+  ResultsBelow n = (j : ℕ) (g : ShapeSignature) → j < n → slice_get gs j ≡ Some g → Below g.result
+
+  one_more_below : (n : ℕ) → ResultsBelow n → ResultsBelow (suc n)
+  one_more_below n earlier j g l e = which (cases_lt j n) where
     functions_there : (xs : List FunctionTree) (j : ℕ) → j < length xs → (f : FunctionTree) × (slice_get xs j ≡ Some f)
     functions_there [] j l = absurd (omega arith)
     functions_there (x ∷ xs) zero l = (x, refl)
@@ -394,7 +396,7 @@ module _ (p : ProgramTree) (formed : IsFormed p) (short : HasShortNames p) (gs :
       part_of_it : ((m < length x.before) × (slice_get x.before m ≡ Some c)) ⊎ ((k : ℕ) × (m ≡ length x.before + k) × (slice_get (own_shapes f) k ≡ Some c)) → Below c.result
       part_of_it (inl w) =
           let count = x.count in
-          results_below n m c (omega arith) (begins_get x.before gs m c (x.g ∷ x.begins.0, sym (append_assoc x.before (x.g ∷ []) x.begins.0) ∙ x.begins.1) w.1)
+          earlier m c (omega arith) (begins_get x.before gs m c (x.g ∷ x.begins.0, sym (append_assoc x.before (x.g ∷ []) x.begins.0) ∙ x.begins.1) w.1)
       part_of_it (inr w) = own_below j f h w.0 c w.2
 
     here : (f : FunctionTree) → slice_get p.functions j ≡ Some f → n ≤ j → Below g.result
@@ -406,12 +408,16 @@ module _ (p : ProgramTree) (formed : IsFormed p) (short : HasShortNames p) (gs :
         subst (λ (y : ShapeSignature). Below y.result) (sym o.3 ∙ same) s
 
     which : (j < n) ⊎ (n ≤ j) → Below g.result
-    which (inl c) = results_below n j g c e
+    which (inl c) = earlier j g c e
     which (inr c) =
         let within = slice_get_within gs j g e in
         let count = (found_are_shapes p gs ok).1 in
         let f = functions_there p.functions j (omega arith) in
         here f.0 f.1 c
+
+  results_below : (n : ℕ) → ResultsBelow n
+  results_below zero j g l e = absurd (omega arith)
+  results_below (suc n) j g l e = one_more_below n (results_below n) j g l e
 
   function_holds : (k : ℕ) (h : HeadTree) → slice_get image.heads k ≡ Some h → FunctionHolds image k h
   function_holds k h u =

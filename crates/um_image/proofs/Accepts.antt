@@ -159,6 +159,10 @@ module _ (code : Code) (f : ℕ) (view : View) (e : Body) (same_ops : view.ops �
   low_top vars x s u w h same fw st lst =
       low_more view.heights positive st w lst (low_fitting view.heights positive w (on_stack u) fw (subst (λ (t : ShapeTree). IsLow view.heights positive (on_stack t)) same (low_shape vars x s h)))
 
+  -- a part whose shape is known under another name
+  as_shape : (a z : ℕ) (st : List StackShape) (s t : ShapeTree) → s ≡ t → T a z st s → T a z st t
+  as_shape a z st s t same x = subst (T a z st) same x
+
   -- from a on stand the instructions, and from there on this state has arrived
   mutual
     pub through : (x : ExprTree) (vars : List ShapeTree) (ps : List ℕ) (d a z : ℕ) (st : List StackShape) (s : ShapeTree) → found view.heights callees vars x ≡ Ok s → Row_of a (expr_code x ps d a) → z ≡ a + expr_size x → PlacesFit st ps vars → d ≡ length st → e.start ≤ a → Arrives a st → LowSt st → Q a z → z < e.end → T a z st s
@@ -183,28 +187,28 @@ module _ (code : Code) (f : ℕ) (view : View) (e : Body) (same_ops : view.ops �
         let r = where_true_is (same_shape k.0 num_shape) num_shape s (node_ok view.heights at _ s k.2) in
         let l : ℕ = a + expr_size x in
         let size = some_code x in
-        let y = part_through x vars ps d a l st k.0 num_shape k.1 (same_shape-is k.0 num_shape r.0) (in_front code f a (expr_code x ps d a) (Neg ∷ []) h) refl pf dl lo m lst (λ t c i. quiet t c (omega arith)) (omega arith) in
+        let y = as_shape a l st k.0 num_shape (same_shape-is k.0 num_shape r.0) (through x vars ps d a l st k.0 k.1 (in_front code f a (expr_code x ps d a) (Neg ∷ []) h) refl pf dl lo m lst (λ t c i. quiet t c (omega arith)) (omega arith)) in
         at_end view e positive a z (l + 1) st (on_stack s) (omega arith) (unary a l Neg st num_shape num_shape s lo (omega arith) y (quiet l (omega arith) (omega arith)) (after_code code f x ps d a l (Neg ∷ []) h refl).0 (λ xs. refl) r.1 lst (low_shape vars (negate at x) s w) (omega arith))
     through (not_expr at x) vars ps d a z st s w h q pf dl lo m lst quiet end =
         let k = then_ok (found view.heights callees vars x) _ s w in
         let r = where_true_is (same_shape k.0 bool_shape) bool_shape s (node_ok view.heights at _ s k.2) in
         let l : ℕ = a + expr_size x in
         let size = some_code x in
-        let y = part_through x vars ps d a l st k.0 bool_shape k.1 (same_shape-is k.0 bool_shape r.0) (in_front code f a (expr_code x ps d a) (Not ∷ []) h) refl pf dl lo m lst (λ t c i. quiet t c (omega arith)) (omega arith) in
+        let y = as_shape a l st k.0 bool_shape (same_shape-is k.0 bool_shape r.0) (through x vars ps d a l st k.0 k.1 (in_front code f a (expr_code x ps d a) (Not ∷ []) h) refl pf dl lo m lst (λ t c i. quiet t c (omega arith)) (omega arith)) in
         at_end view e positive a z (l + 1) st (on_stack s) (omega arith) (unary a l Not st bool_shape bool_shape s lo (omega arith) y (quiet l (omega arith) (omega arith)) (after_code code f x ps d a l (Not ∷ []) h refl).0 (λ xs. refl) r.1 lst (low_shape vars (not_expr at x) s w) (omega arith))
     through (pown at x i) vars ps d a z st s w h q pf dl lo m lst quiet end =
         let k = then_ok (found view.heights callees vars x) _ s w in
         let r = where_true_is (same_shape k.0 num_shape) num_shape s (node_ok view.heights at _ s k.2) in
         let l : ℕ = a + expr_size x in
         let size = some_code x in
-        let y = part_through x vars ps d a l st k.0 num_shape k.1 (same_shape-is k.0 num_shape r.0) (in_front code f a (expr_code x ps d a) (Pow i ∷ []) h) refl pf dl lo m lst (λ t c i. quiet t c (omega arith)) (omega arith) in
+        let y = as_shape a l st k.0 num_shape (same_shape-is k.0 num_shape r.0) (through x vars ps d a l st k.0 k.1 (in_front code f a (expr_code x ps d a) (Pow i ∷ []) h) refl pf dl lo m lst (λ t c i. quiet t c (omega arith)) (omega arith)) in
         at_end view e positive a z (l + 1) st (on_stack s) (omega arith) (unary a l (Pow i) st num_shape num_shape s lo (omega arith) y (quiet l (omega arith) (omega arith)) (after_code code f x ps d a l (Pow i ∷ []) h refl).0 (λ xs. refl) r.1 lst (low_shape vars (pown at x i) s w) (omega arith))
     through (field at r i x) vars ps d a z st s w h q pf dl lo m lst quiet end =
         let k = then_ok (found view.heights callees vars x) _ s w in
         let g = field_found (slice_get view.heights r) r i k.0 s (node_ok view.heights at _ s k.2) in
         let l : ℕ = a + expr_size x in
         let size = some_code x in
-        let y = part_through x vars ps d a l st k.0 (record_shape r) k.1 g.2 (in_front code f a (expr_code x ps d a) (Field i ∷ []) h) refl pf dl lo m lst (λ t c i. quiet t c (omega arith)) (omega arith) in
+        let y = as_shape a l st k.0 (record_shape r) g.2 (through x vars ps d a l st k.0 k.1 (in_front code f a (expr_code x ps d a) (Field i ∷ []) h) refl pf dl lo m lst (λ t c i. quiet t c (omega arith)) (omega arith)) in
         at_end view e positive a z (l + 1) st (on_stack s) (omega arith) (single view e positive a l (Field i) st (made r) (on_stack s) lo (omega arith) y (quiet l (omega arith) (omega arith)) (has l (Field i) (after_code code f x ps d a l (Field i ∷ []) h refl).0) (λ v fv. field_rule view e l r i st v g.0.fields s (recorded r g.0 g.1) g.3 fv) lst (low_shape vars (field at r i x) s w) (omega arith))
     through (arith_tree at op x y) vars ps d a z st s w h q pf dl lo m lst quiet end =
         let k = then_ok (found view.heights callees vars x) _ s w in
@@ -215,7 +219,7 @@ module _ (code : Code) (f : ℕ) (view : View) (e : Body) (same_ops : view.ops �
         let size_x = some_code x in
         let size_y = some_code y in
         let second = after_code code f x ps d a n (expr_code y ps (d + 1) n ++ arith_op op ∷ []) h refl in
-        let p = two_parts x y vars vars ps ps d a n l st k.0 o.0 num_shape num_shape k.1 (same_shape-is k.0 num_shape r.0) o.1 (same_shape-is o.0 num_shape r.1) (in_front code f a (expr_code x ps d a) (expr_code y ps (d + 1) n ++ arith_op op ∷ []) h) (in_front code f n (expr_code y ps (d + 1) n) (arith_op op ∷ []) second) refl refl pf (λ v fv. places_keep st (v ∷ []) ps vars pf) dl lo m lst (λ t c i. quiet t c (omega arith)) (omega arith) in
+        let p = pair_of view e positive a n l st (on_stack num_shape) (on_stack num_shape) lo (omega arith) (omega arith) (λ t c i. quiet t c (omega arith)) (as_shape a n st k.0 num_shape (same_shape-is k.0 num_shape r.0) (through x vars ps d a n st k.0 k.1 (in_front code f a (expr_code x ps d a) (expr_code y ps (d + 1) n ++ arith_op op ∷ []) h) refl pf dl lo m lst (λ t c i. quiet t c (omega arith)) (omega arith))) (λ w fw mw qw. as_shape n l (st ++ w ∷ []) o.0 num_shape (same_shape-is o.0 num_shape r.1) (through y vars ps (d + 1) n l (st ++ w ∷ []) o.0 o.1 (in_front code f n (expr_code y ps (d + 1) n) (arith_op op ∷ []) second) refl (places_keep st (w ∷ []) ps vars pf) (longer st w d dl) (omega arith) mw (low_top vars x k.0 num_shape w k.1 (same_shape-is k.0 num_shape r.0) fw st lst) (λ t c i. qw t c (omega arith)) (omega arith))) in
         at_end view e positive a z (l + 1) st (on_stack s) (omega arith) (arith_through op a l st s lo (omega arith) p (after_code code f y ps (d + 1) n l (arith_op op ∷ []) second refl).0 r.2 lst (low_shape vars (arith_tree at op x y) s w) (omega arith))
     through (compare at g x y) vars ps d a z st s w h q pf dl lo m lst quiet end =
         let k = then_ok (found view.heights callees vars x) _ s w in
@@ -227,7 +231,7 @@ module _ (code : Code) (f : ℕ) (view : View) (e : Body) (same_ops : view.ops �
         let size_y = some_code y in
         let size_g = some_sign g in
         let second = after_code code f x ps d a n (expr_code y ps (d + 1) n ++ sign_ops g) h refl in
-        let p = two_parts x y vars vars ps ps d a n l st k.0 o.0 num_shape num_shape k.1 (same_shape-is k.0 num_shape r.0) o.1 (same_shape-is o.0 num_shape r.1) (in_front code f a (expr_code x ps d a) (expr_code y ps (d + 1) n ++ sign_ops g) h) (in_front code f n (expr_code y ps (d + 1) n) (sign_ops g) second) refl refl pf (λ v fv. places_keep st (v ∷ []) ps vars pf) dl lo m lst (λ t c i. quiet t c (omega arith)) (omega arith) in
+        let p = pair_of view e positive a n l st (on_stack num_shape) (on_stack num_shape) lo (omega arith) (omega arith) (λ t c i. quiet t c (omega arith)) (as_shape a n st k.0 num_shape (same_shape-is k.0 num_shape r.0) (through x vars ps d a n st k.0 k.1 (in_front code f a (expr_code x ps d a) (expr_code y ps (d + 1) n ++ sign_ops g) h) refl pf dl lo m lst (λ t c i. quiet t c (omega arith)) (omega arith))) (λ w fw mw qw. as_shape n l (st ++ w ∷ []) o.0 num_shape (same_shape-is o.0 num_shape r.1) (through y vars ps (d + 1) n l (st ++ w ∷ []) o.0 o.1 (in_front code f n (expr_code y ps (d + 1) n) (sign_ops g) second) refl (places_keep st (w ∷ []) ps vars pf) (longer st w d dl) (omega arith) mw (low_top vars x k.0 num_shape w k.1 (same_shape-is k.0 num_shape r.0) fw st lst) (λ t c i. qw t c (omega arith)) (omega arith))) in
         sign_through g a l z st s lo (omega arith) (omega arith) p (after_code code f y ps (d + 1) n l (sign_ops g) second refl) r.2 (λ c. quiet (l + 1) (omega arith) c) lst low_bool (low_shape vars (compare at g x y) s w) end
     through (both at x y) vars ps d a z st s w h q pf dl lo m lst quiet end =
         let k = then_ok (found view.heights callees vars x) _ s w in
@@ -241,9 +245,9 @@ module _ (code : Code) (f : ℕ) (view : View) (e : Body) (same_ops : view.ops �
         let second = after_code code f x ps d a n (JumpIfNot (l + 1) ∷ (expr_code y ps d (n + 1) ++ Jump (l + 1 + 1) ∷ PushBool false ∷ [])) h refl in
         let last = after_code code f y ps d (n + 1) l (Jump (l + 1 + 1) ∷ PushBool false ∷ []) second.1 refl in
         let zz : l + 1 + 1 ≡ z = omega arith in
-        let c = part_through x vars ps d a n st k.0 bool_shape k.1 (same_shape-is k.0 bool_shape r.0) (in_front code f a (expr_code x ps d a) (JumpIfNot (l + 1) ∷ (expr_code y ps d (n + 1) ++ Jump (l + 1 + 1) ∷ PushBool false ∷ [])) h) refl pf dl lo m lst (λ t c i. quiet t c (omega arith)) (omega arith) in
+        let c = as_shape a n st k.0 bool_shape (same_shape-is k.0 bool_shape r.0) (through x vars ps d a n st k.0 k.1 (in_front code f a (expr_code x ps d a) (JumpIfNot (l + 1) ∷ (expr_code y ps d (n + 1) ++ Jump (l + 1 + 1) ∷ PushBool false ∷ [])) h) refl pf dl lo m lst (λ t c i. quiet t c (omega arith)) (omega arith)) in
         branch view e positive a n l z st (on_stack s) lo (omega arith) (omega arith) (omega arith) end quiet c (has n (JumpIfNot (l + 1)) second.0) (subst (λ (t : ℕ). slice_get view.ops l ≡ Some (Jump t)) zz (has l (Jump (l + 1 + 1)) last.0)) lst low
-        (λ mx qx nx. part_through y vars ps d (n + 1) l st o.0 s o.1 (same_shape-is o.0 bool_shape r.1 ∙ r.2) (in_front code f (n + 1) (expr_code y ps d (n + 1)) (Jump (l + 1 + 1) ∷ PushBool false ∷ []) second.1) refl pf dl (omega arith) mx lst qx (omega arith))
+        (λ mx qx nx. as_shape (n + 1) l st o.0 s (same_shape-is o.0 bool_shape r.1 ∙ r.2) (through y vars ps d (n + 1) l st o.0 o.1 (in_front code f (n + 1) (expr_code y ps d (n + 1)) (Jump (l + 1 + 1) ∷ PushBool false ∷ []) second.1) refl pf dl (omega arith) mx lst qx (omega arith)))
         (λ my qy. at_end view e positive (l + 1) z (l + 1 + 1) st (on_stack s) (sym zz) (leaf view e positive (l + 1) (PushBool false) st bool (on_stack s) (omega arith) (has (l + 1) (PushBool false) last.1.0) my refl (subst (λ (t : ShapeTree). fits bool (on_stack t) ≡ true) r.2 refl) lst low (omega arith)))
     through (either at x y) vars ps d a z st s w h q pf dl lo m lst quiet end =
         let k = then_ok (found view.heights callees vars x) _ s w in
@@ -257,10 +261,10 @@ module _ (code : Code) (f : ℕ) (view : View) (e : Body) (same_ops : view.ops �
         let second = after_code code f x ps d a n (JumpIfNot (n + 3) ∷ PushBool true ∷ Jump (n + 3 + expr_size y) ∷ expr_code y ps d (n + 3)) h refl in
         let zz : n + 3 + expr_size y ≡ z = omega arith in
         let three : n + 3 ≡ l + 1 = omega arith in
-        let c = part_through x vars ps d a n st k.0 bool_shape k.1 (same_shape-is k.0 bool_shape r.0) (in_front code f a (expr_code x ps d a) (JumpIfNot (n + 3) ∷ PushBool true ∷ Jump (n + 3 + expr_size y) ∷ expr_code y ps d (n + 3)) h) refl pf dl lo m lst (λ t c i. quiet t c (omega arith)) (omega arith) in
+        let c = as_shape a n st k.0 bool_shape (same_shape-is k.0 bool_shape r.0) (through x vars ps d a n st k.0 k.1 (in_front code f a (expr_code x ps d a) (JumpIfNot (n + 3) ∷ PushBool true ∷ Jump (n + 3 + expr_size y) ∷ expr_code y ps d (n + 3)) h) refl pf dl lo m lst (λ t c i. quiet t c (omega arith)) (omega arith)) in
         branch view e positive a n l z st (on_stack s) lo (omega arith) (omega arith) (omega arith) end quiet c (subst (λ (t : ℕ). slice_get view.ops n ≡ Some (JumpIfNot t)) three (has n (JumpIfNot (n + 3)) second.0)) (subst (λ (t : ℕ). slice_get view.ops l ≡ Some (Jump t)) zz (has l (Jump (n + 3 + expr_size y)) second.1.1.0)) lst low
         (λ mx qx nx. leaf view e positive (n + 1) (PushBool true) st bool (on_stack s) (omega arith) (has (n + 1) (PushBool true) second.1.0) mx refl (subst (λ (t : ShapeTree). fits bool (on_stack t) ≡ true) r.2 refl) lst low (omega arith))
-        (λ my qy. part_through y vars ps d (l + 1) z st o.0 s o.1 (same_shape-is o.0 bool_shape r.1 ∙ r.2) (subst (λ (t : ℕ). Row_of t (expr_code y ps d t)) three second.1.1.1) (omega arith) pf dl (omega arith) my lst qy end)
+        (λ my qy. as_shape (l + 1) z st o.0 s (same_shape-is o.0 bool_shape r.1 ∙ r.2) (through y vars ps d (l + 1) z st o.0 o.1 (subst (λ (t : ℕ). Row_of (l + 1) (expr_code y ps d t)) three second.1.1.1) (omega arith) pf dl (omega arith) my lst qy end))
     through (if at c x y) vars ps d a z st s w h q pf dl lo m lst quiet end =
         let k = then_ok (found view.heights callees vars c) _ s w in
         let o = then_ok (found view.heights callees vars x) _ s k.2 in
@@ -275,10 +279,10 @@ module _ (code : Code) (f : ℕ) (view : View) (e : Body) (same_ops : view.ops �
         let second = after_code code f c ps d a n (JumpIfNot (l + 1) ∷ (expr_code x ps d (n + 1) ++ Jump (l + 1 + expr_size y) ∷ expr_code y ps d (l + 1))) h refl in
         let last = after_code code f x ps d (n + 1) l (Jump (l + 1 + expr_size y) ∷ expr_code y ps d (l + 1)) second.1 refl in
         let zz : l + 1 + expr_size y ≡ z = omega arith in
-        let t = part_through c vars ps d a n st k.0 bool_shape k.1 (same_shape-is k.0 bool_shape r.0) (in_front code f a (expr_code c ps d a) (JumpIfNot (l + 1) ∷ (expr_code x ps d (n + 1) ++ Jump (l + 1 + expr_size y) ∷ expr_code y ps d (l + 1))) h) refl pf dl lo m lst (λ t c i. quiet t c (omega arith)) (omega arith) in
+        let t = as_shape a n st k.0 bool_shape (same_shape-is k.0 bool_shape r.0) (through c vars ps d a n st k.0 k.1 (in_front code f a (expr_code c ps d a) (JumpIfNot (l + 1) ∷ (expr_code x ps d (n + 1) ++ Jump (l + 1 + expr_size y) ∷ expr_code y ps d (l + 1))) h) refl pf dl lo m lst (λ t c i. quiet t c (omega arith)) (omega arith)) in
         branch view e positive a n l z st (on_stack s) lo (omega arith) (omega arith) (omega arith) end quiet t (has n (JumpIfNot (l + 1)) second.0) (subst (λ (t : ℕ). slice_get view.ops l ≡ Some (Jump t)) zz (has l (Jump (l + 1 + expr_size y)) last.0)) lst low
-        (λ mx qx nx. part_through x vars ps d (n + 1) l st o.0 s o.1 r.2 (in_front code f (n + 1) (expr_code x ps d (n + 1)) (Jump (l + 1 + expr_size y) ∷ expr_code y ps d (l + 1)) second.1) refl pf dl (omega arith) mx lst qx (omega arith))
-        (λ my qy. part_through y vars ps d (l + 1) z st u.0 s u.1 (same_shape-is u.0 o.0 r.1 ∙ r.2) last.1 (omega arith) pf dl (omega arith) my lst qy end)
+        (λ mx qx nx. as_shape (n + 1) l st o.0 s r.2 (through x vars ps d (n + 1) l st o.0 o.1 (in_front code f (n + 1) (expr_code x ps d (n + 1)) (Jump (l + 1 + expr_size y) ∷ expr_code y ps d (l + 1)) second.1) refl pf dl (omega arith) mx lst qx (omega arith)))
+        (λ my qy. as_shape (l + 1) z st u.0 s (same_shape-is u.0 o.0 r.1 ∙ r.2) (through y vars ps d (l + 1) z st u.0 u.1 last.1 (omega arith) pf dl (omega arith) my lst qy end))
     through (bind at x y) vars ps d a z st s w h q pf dl lo m lst quiet end =
         let k = then_ok (found view.heights callees vars x) _ s w in
         let o = then_ok (found view.heights callees (vars ++ k.0 ∷ []) y) _ s k.2 in
@@ -288,7 +292,7 @@ module _ (code : Code) (f : ℕ) (view : View) (e : Body) (same_ops : view.ops �
         let size_x = some_code x in
         let size_y = some_code y in
         let second = after_code code f x ps d a n (expr_code y (ps ++ d ∷ []) (d + 1) n ++ Slide 1 ∷ []) h refl in
-        let p = two_parts x y vars (vars ++ k.0 ∷ []) ps (ps ++ d ∷ []) d a n l st k.0 o.0 k.0 s k.1 refl o.1 same (in_front code f a (expr_code x ps d a) (expr_code y (ps ++ d ∷ []) (d + 1) n ++ Slide 1 ∷ []) h) (in_front code f n (expr_code y (ps ++ d ∷ []) (d + 1) n) (Slide 1 ∷ []) second) refl refl pf (λ v fv. places_push st v k.0 ps vars d dl fv pf) dl lo m lst (λ t c i. quiet t c (omega arith)) (omega arith) in
+        let p = pair_of view e positive a n l st (on_stack k.0) (on_stack s) lo (omega arith) (omega arith) (λ t c i. quiet t c (omega arith)) (as_shape a n st k.0 k.0 refl (through x vars ps d a n st k.0 k.1 (in_front code f a (expr_code x ps d a) (expr_code y (ps ++ d ∷ []) (d + 1) n ++ Slide 1 ∷ []) h) refl pf dl lo m lst (λ t c i. quiet t c (omega arith)) (omega arith))) (λ w fw mw qw. as_shape n l (st ++ w ∷ []) o.0 s same (through y (vars ++ k.0 ∷ []) (ps ++ d ∷ []) (d + 1) n l (st ++ w ∷ []) o.0 o.1 (in_front code f n (expr_code y (ps ++ d ∷ []) (d + 1) n) (Slide 1 ∷ []) second) refl (places_push st w k.0 ps vars d dl fw pf) (longer st w d dl) (omega arith) mw (low_top vars x k.0 k.0 w k.1 refl fw st lst) (λ t c i. qw t c (omega arith)) (omega arith))) in
         at_end view e positive a z (l + 1) st (on_stack s) (omega arith) (double view e positive a l (Slide 1) st (on_stack k.0) (on_stack s) (on_stack s) lo (omega arith) p (has l (Slide 1) (after_code code f y (ps ++ d ∷ []) (d + 1) n l (Slide 1 ∷ []) second refl).0) (λ v u fv fu. (u, slide_rule view e l st v u, fu)) lst (low_shape vars (bind at x y) s w) (omega arith))
     through (split at l x y) vars ps d a z st s w h q pf dl lo m lst quiet end =
         let k = then_ok (found view.heights callees vars l) _ s w in
@@ -308,10 +312,10 @@ module _ (code : Code) (f : ℕ) (view : View) (e : Body) (same_ops : view.ops �
         let last = after_code code f y (ps ++ d ∷ (d + 1) ∷ []) (d + 2) (n + 1) j (Slide 2 ∷ Jump (j + 2 + expr_size x) ∷ expr_code x ps d (j + 2)) second.1 refl in
         let zz : j + 2 + expr_size x ≡ z = omega arith in
         let two : j + 2 ≡ j + 1 + 1 = omega arith in
-        let t = part_through l vars ps d a n st k.0 (list_shape i.0) k.1 is_list (in_front code f a (expr_code l ps d a) (Split (j + 2) ∷ (expr_code y (ps ++ d ∷ (d + 1) ∷ []) (d + 2) (n + 1) ++ Slide 2 ∷ Jump (j + 2 + expr_size x) ∷ expr_code x ps d (j + 2))) h) refl pf dl lo m lst (λ t c i. quiet t c (omega arith)) (omega arith) in
+        let t = as_shape a n st k.0 (list_shape i.0) is_list (through l vars ps d a n st k.0 k.1 (in_front code f a (expr_code l ps d a) (Split (j + 2) ∷ (expr_code y (ps ++ d ∷ (d + 1) ∷ []) (d + 2) (n + 1) ++ Slide 2 ∷ Jump (j + 2 + expr_size x) ∷ expr_code x ps d (j + 2))) h) refl pf dl lo m lst (λ t c i. quiet t c (omega arith)) (omega arith)) in
         part view e positive a n j z st (on_stack i.0) (on_stack s) lo (omega arith) (omega arith) (omega arith) end quiet t (subst (λ (t : ℕ). slice_get view.ops n ≡ Some (Split t)) two (has n (Split (j + 2)) second.0)) (has j (Slide 2) last.0) (subst (λ (t : ℕ). slice_get view.ops (j + 1) ≡ Some (Jump t)) zz (has (j + 1) (Jump (j + 2 + expr_size x)) last.1.0)) lst low_l low
-        (λ v g fv fg low_vg mx qx. part_through y (vars ++ i.0 ∷ list_shape i.0 ∷ []) (ps ++ d ∷ (d + 1) ∷ []) (d + 2) (n + 1) j (st ++ v ∷ g ∷ []) u.0 s u.1 (same_shape-is u.0 o.0 r.0 ∙ r.1) (in_front code f (n + 1) (expr_code y (ps ++ d ∷ (d + 1) ∷ []) (d + 2) (n + 1)) (Slide 2 ∷ Jump (j + 2 + expr_size x) ∷ expr_code x ps d (j + 2)) second.1) refl (places_two st v g i.0 ps vars d dl fv fg pf) (longer_two st v g d dl) (omega arith) mx low_vg qx (omega arith))
-        (λ my qy. part_through x vars ps d (j + 1 + 1) z st o.0 s o.1 r.1 (subst (λ (t : ℕ). Row_of t (expr_code x ps d t)) two (subst (λ (t : ℕ). Row_of t (expr_code x ps d (j + 2))) (sym two) last.1.1)) (omega arith) pf dl (omega arith) my lst qy end)
+        (λ v g fv fg low_vg mx qx. as_shape (n + 1) j (st ++ v ∷ g ∷ []) u.0 s (same_shape-is u.0 o.0 r.0 ∙ r.1) (through y (vars ++ i.0 ∷ list_shape i.0 ∷ []) (ps ++ d ∷ (d + 1) ∷ []) (d + 2) (n + 1) j (st ++ v ∷ g ∷ []) u.0 u.1 (in_front code f (n + 1) (expr_code y (ps ++ d ∷ (d + 1) ∷ []) (d + 2) (n + 1)) (Slide 2 ∷ Jump (j + 2 + expr_size x) ∷ expr_code x ps d (j + 2)) second.1) refl (places_two st v g i.0 ps vars d dl fv fg pf) (longer_two st v g d dl) (omega arith) mx low_vg qx (omega arith)))
+        (λ my qy. as_shape (j + 1 + 1) z st o.0 s r.1 (through x vars ps d (j + 1 + 1) z st o.0 o.1 (subst (λ (t : ℕ). Row_of t (expr_code x ps d t)) two (subst (λ (t : ℕ). Row_of t (expr_code x ps d (j + 2))) (sym two) last.1.1)) (omega arith) pf dl (omega arith) my lst qy end))
     through (nil at note) vars ps d a z st s w h q pf dl lo m lst quiet end =
         let u = list_found (note_shape note) s (node_ok view.heights at (of_list (note_shape note)) s w) in
         at_end view e positive a z (a + 1) st (on_stack s) q (leaf view e positive a (MakeList 0) st (list void) (on_stack s) lo (has a (MakeList 0) h.0) m (nil_rule view e a st) (subst (λ (t : ShapeTree). fits (list void) (on_stack t) ≡ true) (sym u.1) refl) lst (low_shape vars (nil at note) s w) (omega arith))
@@ -331,7 +335,7 @@ module _ (code : Code) (f : ℕ) (view : View) (e : Body) (same_ops : view.ops �
         let size_x = some_code x in
         let size_y = some_code y in
         let second = after_code code f x ps d a n (expr_code y ps (d + 1) n ++ Cons ∷ []) h refl in
-        let p = two_parts x y vars vars ps ps d a n l st k.0 o.0 k.0 (list_shape k.0) k.1 refl o.1 (same_shape-is o.0 (list_shape k.0) r.0) (in_front code f a (expr_code x ps d a) (expr_code y ps (d + 1) n ++ Cons ∷ []) h) (in_front code f n (expr_code y ps (d + 1) n) (Cons ∷ []) second) refl refl pf (λ v fv. places_keep st (v ∷ []) ps vars pf) dl lo m lst (λ t c i. quiet t c (omega arith)) (omega arith) in
+        let p = pair_of view e positive a n l st (on_stack k.0) (on_stack (list_shape k.0)) lo (omega arith) (omega arith) (λ t c i. quiet t c (omega arith)) (as_shape a n st k.0 k.0 refl (through x vars ps d a n st k.0 k.1 (in_front code f a (expr_code x ps d a) (expr_code y ps (d + 1) n ++ Cons ∷ []) h) refl pf dl lo m lst (λ t c i. quiet t c (omega arith)) (omega arith))) (λ w fw mw qw. as_shape n l (st ++ w ∷ []) o.0 (list_shape k.0) (same_shape-is o.0 (list_shape k.0) r.0) (through y vars ps (d + 1) n l (st ++ w ∷ []) o.0 o.1 (in_front code f n (expr_code y ps (d + 1) n) (Cons ∷ []) second) refl (places_keep st (w ∷ []) ps vars pf) (longer st w d dl) (omega arith) mw (low_top vars x k.0 k.0 w k.1 refl fw st lst) (λ t c i. qw t c (omega arith)) (omega arith))) in
         at_end view e positive a z (l + 1) st (on_stack s) (omega arith) (of_shape view e positive a (l + 1) st (list (on_stack k.0)) (on_stack s) (ap on_stack same) (double view e positive a l Cons st (on_stack k.0) (list (on_stack k.0)) (list (on_stack k.0)) lo (omega arith) p (has l Cons (after_code code f y ps (d + 1) n l (Cons ∷ []) second refl).0) (cons_rule view e l st (on_stack k.0)) lst (subst (λ (t : ShapeTree). IsLow view.heights positive (on_stack t)) (sym same) (low_shape vars (cons at x y) s w)) (omega arith)))
     through (record_expr at r es) vars ps d a z st s w h q pf dl lo m lst quiet end =
         let k = then_ok (all_found view.heights callees vars es) _ s w in
@@ -339,17 +343,6 @@ module _ (code : Code) (f : ℕ) (view : View) (e : Body) (same_ops : view.ops �
         let l : ℕ = a + all_size es in
         let x = row es vars ps d a l st k.0 k.1 (in_front code f a (all_code es ps d a) (MakeRec r (count es) ∷ []) h) refl pf dl lo m lst (λ t c r. quiet t c (omega arith)) (omega arith) in
         at_end view e positive a z (l + 1) st (on_stack s) (omega arith) (row_ends view e positive (count es) a l (MakeRec r (count es)) st k.0 (on_stack s) lo (omega arith) x (has l (MakeRec r (count es)) (after_row es ps d a l (MakeRec r (count es) ∷ []) h refl).0) (λ ws fw n. (made r, record_rule view e l r (count es) st ws g.0.fields (recorded r g.0 g.1) (subst (FitEach ws) g.2 fw) n, subst (λ (t : ShapeTree). fits (made r) (on_stack t) ≡ true) g.3 (fits_self (made r)))) lst (low_shape vars (record_expr at r es) s w) (omega arith))
-
-    -- a part whose shape is known under another name
-    part_through : (x : ExprTree) (vars : List ShapeTree) (ps : List ℕ) (d a z : ℕ) (st : List StackShape) (s t : ShapeTree) → found view.heights callees vars x ≡ Ok s → s ≡ t → Row_of a (expr_code x ps d a) → z ≡ a + expr_size x → PlacesFit st ps vars → d ≡ length st → e.start ≤ a → Arrives a st → LowSt st → Q a z → z < e.end → T a z st t
-    part_through x vars ps d a z st s t w same h q pf dl lo m lst quiet end =
-        subst (T a z st) same (through x vars ps d a z st s w h q pf dl lo m lst quiet end)
-
-    two_parts : (x y : ExprTree) (vars more : List ShapeTree) (ps qs : List ℕ) (d a n l : ℕ) (st : List StackShape) (s t u v : ShapeTree) → found view.heights callees vars x ≡ Ok s → s ≡ u → found view.heights callees more y ≡ Ok t → t ≡ v → Row_of a (expr_code x ps d a) → Row_of n (expr_code y qs (d + 1) n) → n ≡ a + expr_size x → l ≡ n + expr_size y → PlacesFit st ps vars → ((w : StackShape) → fits w (on_stack u) ≡ true → PlacesFit (st ++ w ∷ []) qs more) → d ≡ length st → e.start ≤ a → Arrives a st → LowSt st → Q a (l + 1) → l < e.end → Pair view e positive a l st (on_stack u) (on_stack v)
-    two_parts x y vars more ps qs d a n l st s t u v wx su wy tv hx hy qn ql pf pg dl lo m lst quiet end =
-        let size_x = some_code x in
-        let size_y = some_code y in
-        pair_of view e positive a n l st (on_stack u) (on_stack v) lo (omega arith) (omega arith) quiet (part_through x vars ps d a n st s u wx su hx qn pf dl lo m lst (λ t c i. quiet t c (omega arith)) (omega arith)) (λ w fw mw qw. part_through y more qs (d + 1) n l (st ++ w ∷ []) t v wy tv hy ql (pg w fw) (longer st w d dl) (omega arith) mw (low_top vars x s u w wx su fw st lst) (λ t c i. qw t c (omega arith)) end)
 
     row : (es : ExprTrees) (vars : List ShapeTree) (ps : List ℕ) (d a z : ℕ) (st : List StackShape) (ss : List ShapeTree) → all_found view.heights callees vars es ≡ Ok ss → Row_of a (all_code es ps d a) → z ≡ a + all_size es → PlacesFit st ps vars → d ≡ length st → e.start ≤ a → Arrives a st → LowSt st → Q a (z + 1) → z < e.end → Row view e positive (count es) a z st ss
     row none vars ps d a z st ss w h q pf dl lo m lst quiet end =

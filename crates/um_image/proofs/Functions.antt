@@ -74,14 +74,11 @@ own_is f s m c fits e = by_recursive f.recursive e where
 -- each function that may be called has its shapes
 pub callee_is : (gs before : List ShapeSignature) (f : FunctionTree) (s : ShapeTree) → fits_result f.result s ≡ true → Begins (before ++ record { params = map note_shape f.params; result = s } ∷ []) gs → (j : ℕ) (c : ShapeSignature) → slice_get (before ++ own_shapes f) j ≡ Some c → slice_get gs j ≡ Some c
 callee_is gs before f s fits begins j c e = which (in_either before (own_shapes f) j c e) where
-  abbrev self : ShapeSignature
-  self = record { params = map note_shape f.params; result = s }
-
   which : ((j < length before) × (slice_get before j ≡ Some c)) ⊎ ((m : ℕ) × (j ≡ length before + m) × (slice_get (own_shapes f) m ≡ Some c)) → slice_get gs j ≡ Some c
   which (inl w) =
-      begins_get before gs j c (self ∷ begins.0, sym (append_assoc before (self ∷ []) begins.0) ∙ begins.1) w.1
+      begins_get before gs j c (record { params = map note_shape f.params; result = s } ∷ begins.0, sym (append_assoc before (record { params = map note_shape f.params; result = s } ∷ []) begins.0) ∙ begins.1) w.1
   which (inr w) =
       let o = own_is f s w.0 c fits w.2 in
       let zero_m = o.0 in
       let place : j ≡ length before = omega arith in
-      begins_get (before ++ self ∷ []) gs j c begins (ap (slice_get (before ++ self ∷ [])) place ∙ at_place before self [] ∙ ap Some o.1)
+      begins_get (before ++ record { params = map note_shape f.params; result = s } ∷ []) gs j c begins (ap (slice_get (before ++ record { params = map note_shape f.params; result = s } ∷ [])) place ∙ at_place before (record { params = map note_shape f.params; result = s }) [] ∙ ap Some o.1)

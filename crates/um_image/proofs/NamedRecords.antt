@@ -100,7 +100,7 @@ module _ (p : ProgramTree) (i : ℕ) (f : FunctionTree) (records : List RecordSh
     names_found (nil at note) n vars s w v e = listed (note_shape note) s (note_names p (length p.bases) f.named note w.0) (node_ok records at (of_list (note_shape note)) s e)
       where
         listed : (s t : ShapeTree) → Below s → of_list s ≡ Some t → Below t
-        listed (list_shape u) t h e = below_as (list_shape u) t cc h
+        listed (list_shape u) t h e = below_as (list_shape u) t (some_is (list_shape u) t e) h
         listed bool_shape t h e = absurd cc
         listed num_shape t h e = absurd cc
         listed (record_shape r) t h e = absurd cc

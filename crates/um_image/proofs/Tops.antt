@@ -200,12 +200,20 @@ module _ (records : List RecordShape) (positive : (r : ℕ) (d : RecordShape) �
   low_is : (s : StackShape) → IsLow s → nat_le (stack_height records s) greatest_height ≡ true
   low_is s h = le-leb (stack_height records s) greatest_height h
 
+  cond_test : (a b : Bool) → cond a b false ≡ true → a ≡ true
+  cond_test true b h = refl
+  cond_test false b h = absurd cc
+
+  cond_rest : (a b : Bool) → cond a b false ≡ true → b ≡ true
+  cond_rest true b h = h
+  cond_rest false b h = absurd cc
+
   pub low_more : (st : List StackShape) (s : StackShape) → Low st → IsLow s → Low (st ++ s ∷ [])
   low_more [] s h k = ap (λ (b : Bool). cond b true false) (low_is s k)
-  low_more (x ∷ st) s h k = by_test (nat_le (stack_height records x) greatest_height) refl h where
-    by_test : (b : Bool) → nat_le (stack_height records x) greatest_height ≡ b → cond b (low_state records st) false ≡ true → Low ((x ∷ st) ++ s ∷ [])
-    by_test true e h = ap (λ (b : Bool). cond b (low_state records (st ++ s ∷ [])) false) e ∙ low_more st s h k
-    by_test false e h = absurd cc
+  low_more (x ∷ st) s h k =
+      let first : nat_le (stack_height records x) greatest_height ≡ true = cond_test (nat_le (stack_height records x) greatest_height) (low_state records st) h in
+      let rest : low_state records st ≡ true = cond_rest (nat_le (stack_height records x) greatest_height) (low_state records st) h in
+      ap (λ (b : Bool). cond b (low_state records (st ++ s ∷ [])) false) first ∙ low_more st s rest k
 
   pub low_sent : (u : ℕ) (st : List StackShape) (ps : List Sent) → Low st → low_states records ps ≡ true → low_states records (record { to = u; state = st } ∷ ps) ≡ true
   low_sent u st ps h k = ap (λ (b : Bool). cond b (low_states records ps) false) h ∙ k
