@@ -1,38 +1,36 @@
 -- The image of a shaped program with its generated code is verified.
-use Rattle.std.proofs.Common.{◌≡◌, ◌≢◌, refl, sym, subst, ap, ◌∙◌, ℕ, zero, suc, ◌+◌, ◌*◌, ◌-◌, ◌<◌, ◌≤◌, ◌^◌, max, Bool, true, false, cond, nat_le, ◌⊎◌, inl, inr, List, [], ◌∷◌, ◌++◌, length, map, take, All, Option, Some, None, slice_get, Result, Ok, Err, arith, append_assoc, length-append}
+use Rattle.std.proofs.Common.{◌≡◌, refl, sym, subst, ap, ◌∙◌, ℕ, zero, suc, ◌+◌, ◌*◌, ◌<◌, ◌≤◌, ◌^◌, Bool, true, false, cond, ◌⊎◌, inl, inr, List, [], ◌∷◌, ◌++◌, length, map, take, All, Option, Some, None, slice_get, Result, Ok, Err, arith, append_assoc, length-append}
 use Rattle.std.specs.Prelude.{option_map}
 use Rattle.std.proofs.lemmas.List.{length-map}
 use Rattle.std.proofs.lemmas.Option.{slice_get-map, slice_get_within}
 use Rattle.std.proofs.lemmas.Bool.{cases_lt}
-use Rattle.um_units.specs.PowerMap.{one}
-use Rattle.um_tree.specs.TypeTree.{TypeTree, bool_type, num_type, list_type, record_type, ShapeTree, bool_shape, num_shape, list_shape, record_shape, NoteTree}
+use Rattle.um_tree.specs.TypeTree.{TypeTree, bool_type, num_type, list_type, record_type, ShapeTree, NoteTree}
 use Rattle.um_tree.specs.ProgramTree.{FieldTree, RecordTree, FunctionTree, ProgramTree}
 use Rattle.um_tree.specs.Typing.{field_types}
 use Rattle.um_tree.specs.Shapes.{type_shape, note_shape, ShapeSignature, FunctionShape}
-use Rattle.um_tree.specs.Formed.{IsNameBytes, AreNames, AreDistinct, NamesEarlier, IsFieldType, IsFormedNote, ResultFormed, field_names, IsFormed, IsFormedRecord, IsFormedFunction}
+use Rattle.um_tree.specs.Formed.{IsNameBytes, AreDistinct, NamesEarlier, IsFieldType, IsFormedNote, ResultFormed, field_names, IsFormed}
 use Rattle.um_tree.specs.Heights.{greatest_height}
 use Rattle.um_tree.specs.TreeHeights.{type_tree_height}
 use Rattle.um_shape.specs.RecordShapes.{RecordShape, shape_height, tallest}
-use Rattle.um_shape.specs.FirstFault.{ShapeFault, then, records_found, found, noted_shapes, own_shapes, functions_found, program_found, fault_of, first_fault}
+use Rattle.um_shape.specs.FirstFault.{ShapeFault, records_found, found, noted_shapes, own_shapes, functions_found, program_found, fault_of, first_fault}
 use Rattle.um_shape.proofs.Sound.{then_ok, Alike, alike_at}
 use Rattle.um_shape.proofs.SoundProgram.{records_alike, in_either, only_one, nothing_at, function_ok, at_place, found_are_shapes, its_shapes}
 use Rattle.um_shape.proofs.Unique.{shapes_are_unique}
 use Rattle.um_shape.proofs.LowShapes.{low_param, low_result_shape}
 use Rattle.um_shape.specs.ShapedProgram.{IsLowShape}
-use Rattle.um_machine.specs.declared.op.Op.{Op}
 use Rattle.um_machine.specs.declared.code.Entry.{Entry}
 use Rattle.um_machine.specs.declared.code.Code.{Code}
-use Rattle.um_gen.specs.ProgramCode.{expr_size, function_code, function_entry, functions_code, functions_entries, program_code}
+use Rattle.um_gen.specs.ProgramCode.{expr_size, function_code, functions_code, functions_entries, program_code}
 use Rattle.um_gen.proofs.Stands.{InRow}
-use Rattle.um_gen.proofs.LaidOut.{Located, located, rows, length_function}
+use Rattle.um_gen.proofs.LaidOut.{located, rows, length_function}
 use Rattle.um_gen.proofs.Sizes.{few}
-use Rattle.um_verify.specs.StackShape.{StackShape, on_stack}
+use Rattle.um_verify.specs.StackShape.{on_stack}
 use Rattle.um_verify.specs.ImageTree.{HeadTree, ImageTree, IsPlainType, IsPlainField, IsPlainRecord, IsLowText, IsPlainHead, Follow, Match, HasForm}
 use Rattle.um_verify.specs.Heads.{record_shapes, RecordHolds, NamesBelow, IsShapeIn, FunctionHolds, HeadHolds}
-use Rattle.um_verify.specs.Rules.{Body, View, body_of, bodies_of, view_of}
+use Rattle.um_verify.specs.Rules.{body_of, view_of}
 use Rattle.um_verify.specs.Verified.{BodyHolds, CodeHolds, IsVerified}
 use Rattle.um_verify.proofs.Bodies.{body_at, head_of}
-use Rattle.um_image.specs.ProgramImage.{plain_type, plain_field, plain_record, IsHeadOf, IsImageOf}
+use Rattle.um_image.specs.ProgramImage.{plain_type, plain_field, plain_record, IsImageOf}
 use Rattle.um_image.specs.Laws.{HasShortNames, GeneratedIsVerified}
 use Rattle.um_image.proofs.Records.{plain_shape, plain_and_shapes, take_plain, low_field, found_shapes, high_shapes, no_shapes, fields_recorded, text_lower}
 use Rattle.um_image.proofs.Functions.{Begins, begins_get, IsFound, each_found, low_params, callee_is}

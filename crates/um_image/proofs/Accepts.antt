@@ -1,5 +1,5 @@
 -- The code of an expression that has a shape passes the rules, and leaves one value whose shape fits it.
-use Rattle.std.proofs.Common.{◌≡◌, ◌≢◌, refl, sym, subst, ap, ◌∙◌, ℕ, zero, suc, ◌+◌, ◌-◌, ◌<◌, ◌≤◌, Bool, true, false, List, [], ◌∷◌, ◌++◌, length, map, Option, Some, None, Ok, slice_get, arith, length-append}
+use Rattle.std.proofs.Common.{◌≡◌, refl, sym, subst, ap, ◌∙◌, ℕ, ◌+◌, ◌<◌, ◌≤◌, true, false, List, [], ◌∷◌, ◌++◌, length, map, Some, Ok, slice_get, arith, length-append}
 use Rattle.std.specs.Prelude.{get_or}
 use Rattle.um_tree.specs.declared.expression.Arith.{Arith}
 use Rattle.um_tree.specs.declared.expression.Arith.TheVariants as arith_of
@@ -9,22 +9,21 @@ use Rattle.um_tree.specs.TypeTree.{ShapeTree, bool_shape, num_shape, list_shape,
 use Rattle.um_tree.specs.ExprTree.{ExprTree, ExprTrees, truth, number, local, call, negate, not_expr, pown, arith as arith_tree, compare, both, either, if, bind, split, nil, list_expr, cons, record_expr, field, none, more}
 use Rattle.um_tree.specs.Shapes.{note_shape, ShapeSignature, EachShapeIs}
 use Rattle.um_tree.specs.Formed.{count}
-use Rattle.um_tree.specs.Heights.{greatest_height}
-use Rattle.um_shape.specs.RecordShapes.{RecordShape, shape_height}
-use Rattle.um_shape.specs.FirstFault.{then, same_shape, where_true, of_list, of_items, of_call, of_record, of_field, item_of, at_node, found, all_found}
+use Rattle.um_shape.specs.RecordShapes.{RecordShape}
+use Rattle.um_shape.specs.FirstFault.{same_shape, of_list, of_items, of_call, of_record, item_of, found, all_found}
 use Rattle.um_shape.proofs.SameShape.{same_shape-is}
 use Rattle.um_shape.proofs.Sound.{then_ok, node_ok, where_true_is, asked, item_is}
 use Rattle.um_shape.proofs.LowShapes.{low_found}
 use Rattle.um_machine.specs.declared.op.Op.{Op}
-use Rattle.um_machine.specs.declared.op.Op.TheVariants.{PushNum, PushBool, Load, Add, Sub, Mul, Div, Neg, Not, Lt, Le, Eq, Jump, JumpIfNot, MakeList, Cons, Split, MakeRec, Field, Slide, Call, Ret, Pow}
+use Rattle.um_machine.specs.declared.op.Op.TheVariants.{PushNum, PushBool, Load, Add, Sub, Mul, Div, Neg, Not, Lt, Le, Eq, Jump, JumpIfNot, MakeList, Cons, Split, MakeRec, Field, Slide, Call, Pow}
 use Rattle.um_machine.specs.declared.code.Code.{Code}
 use Rattle.um_machine.specs.Machine.{op_at}
 use Rattle.um_machine.proofs.Rank.{op_is}
 use Rattle.um_gen.specs.ProgramCode.{arith_op, sign_ops, expr_size, all_size, expr_code, all_code}
 use Rattle.um_gen.proofs.Stands.{InRow, in_front, in_back, after_code, length_all}
-use Rattle.um_verify.specs.StackShape.{StackShape, void, bool, num, list, made, on_stack, fits, stack_height}
-use Rattle.um_verify.specs.Rules.{Body, View, fit_one, fit_two, rule, to}
-use Rattle.um_verify.specs.Verified.{Met, nobody, arrived, met}
+use Rattle.um_verify.specs.StackShape.{StackShape, void, bool, num, list, made, on_stack, fits}
+use Rattle.um_verify.specs.Rules.{Body, View, fit_one, fit_two, rule}
+use Rattle.um_verify.specs.Verified.{nobody, arrived}
 use Rattle.um_verify.proofs.Joins.{fits_self}
 use Rattle.um_image.proofs.Tops.{AllFit, FitEach, PlacesFit, places_get, places_keep, places_push, places_two, on_stack_height, Low, IsLow, low_fitting, low_more}
 use Rattle.um_image.proofs.Passing.{M, Quiet, Through, at_end, of_shape, leaf, single, Pair, pair_of, double, Row, no_row, more_row, row_ends, branch, part}

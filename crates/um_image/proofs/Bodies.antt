@@ -1,14 +1,13 @@
 -- The code of a function that has its shapes passes the rules.
-use Rattle.std.proofs.Common.{◌≡◌, ◌≢◌, refl, sym, subst, ap, ◌∙◌, ℕ, zero, suc, ◌+◌, ◌-◌, ◌<◌, ◌≤◌, max, Bool, true, false, cond, nat_le, List, [], ◌∷◌, ◌++◌, length, map, Some, Ok, slice_get, arith, append_assoc, append-nil, length-append}
-use Rattle.std.specs.Prelude.{nat_eq}
+use Rattle.std.proofs.Common.{◌≡◌, ◌≢◌, refl, subst, ap, ◌∙◌, ℕ, zero, suc, ◌+◌, ◌-◌, ◌<◌, ◌≤◌, Bool, true, false, cond, List, [], ◌∷◌, ◌++◌, length, map, Some, Ok, slice_get, arith, append_assoc, length-append}
 use Rattle.std.specs.List.{range_with_len}
 use Rattle.std.proofs.lemmas.List.{length-map}
 use Rattle.std.proofs.lemmas.Bool.{le-leb}
-use Rattle.um_tree.specs.TypeTree.{ShapeTree, NoteTree}
+use Rattle.um_tree.specs.TypeTree.{ShapeTree}
 use Rattle.um_tree.specs.ProgramTree.{FunctionTree}
 use Rattle.um_tree.specs.Shapes.{note_shape, ShapeSignature}
 use Rattle.um_tree.specs.Heights.{greatest_height}
-use Rattle.um_shape.specs.RecordShapes.{RecordShape, shape_height, tallest}
+use Rattle.um_shape.specs.RecordShapes.{RecordShape, tallest}
 use Rattle.um_shape.specs.FirstFault.{found}
 use Rattle.um_machine.specs.declared.op.Op.{Op}
 use Rattle.um_machine.specs.declared.op.Op.TheVariants.{Ret}
@@ -19,11 +18,11 @@ use Rattle.um_gen.specs.ProgramCode.{expr_size, expr_code, parameter_places, fun
 use Rattle.um_gen.proofs.Stands.{InRow, in_front, after_code}
 use Rattle.um_verify.specs.StackShape.{StackShape, on_stack, fits, stack_height}
 use Rattle.um_verify.specs.Rules.{Body, View, passes, low_state}
-use Rattle.um_verify.specs.Verified.{Met, nobody, arrived, met, flow, Passes, BodyHolds}
+use Rattle.um_verify.specs.Verified.{nobody, arrived, met, flow, Passes, BodyHolds}
 use Rattle.um_verify.proofs.Fits.{equal_numbers}
 use Rattle.um_verify.proofs.Joins.{fits_self}
-use Rattle.um_image.proofs.Tops.{apart, PlacesFit, on_stack_height, Low}
-use Rattle.um_image.proofs.Passing.{M, F, Quiet, Through, top_of, flow_is, passes_is, both_hold}
+use Rattle.um_image.proofs.Tops.{apart, PlacesFit, on_stack_height}
+use Rattle.um_image.proofs.Passing.{M, F, top_of, flow_is, passes_is, both_hold}
 use Rattle.um_image.proofs.NodeRules.{ret_rule}
 use Rattle.um_image.proofs.Accepts.{Known, Recorded, Positive, through, some_code}
 

@@ -1,12 +1,12 @@
 -- The functions of a program that has no fault: what is found of each, with the shapes of those before.
-use Rattle.std.proofs.Common.{◌≡◌, refl, sym, subst, ap, ◌∙◌, ℕ, zero, suc, ◌+◌, ◌<◌, ◌≤◌, ◌⊎◌, inl, inr, Bool, true, false, cond, nat_le, List, [], ◌∷◌, ◌++◌, length, map, Option, Some, None, slice_get, Result, Ok, Err, arith, append_assoc, append-nil, length-append}
+use Rattle.std.proofs.Common.{◌≡◌, refl, sym, subst, ap, ◌∙◌, ℕ, zero, suc, ◌+◌, ◌<◌, ◌≤◌, ◌⊎◌, inl, inr, Bool, true, false, cond, nat_le, List, [], ◌∷◌, ◌++◌, length, map, Option, Some, None, slice_get, Ok, Err, arith, append_assoc, append-nil, length-append}
 use Rattle.std.proofs.lemmas.Bool.Decides.{nat_tests}
 use Rattle.um_tree.specs.TypeTree.{ShapeTree, NoteTree}
 use Rattle.um_tree.specs.ProgramTree.{FunctionTree}
 use Rattle.um_tree.specs.Shapes.{note_shape, ShapeSignature}
 use Rattle.um_tree.specs.Heights.{greatest_height}
 use Rattle.um_shape.specs.RecordShapes.{RecordShape, tallest}
-use Rattle.um_shape.specs.FirstFault.{too_deep, wrong_shape, then, found, same_shape, noted_shapes, own_shapes, fits_result, function_found, functions_found}
+use Rattle.um_shape.specs.FirstFault.{too_deep, wrong_shape, then, found, noted_shapes, own_shapes, fits_result, function_found, functions_found}
 use Rattle.um_shape.proofs.SameShape.{same_shape-is}
 use Rattle.um_shape.proofs.Sound.{then_ok}
 use Rattle.um_shape.proofs.SoundProgram.{in_either, only_one, nothing_at, at_place}

@@ -1,17 +1,15 @@
 -- The shape that is found of an expression names records of the program.
-use Rattle.std.proofs.Common.{◌≡◌, refl, sym, subst, ap, ◌∙◌, ℕ, zero, suc, ◌+◌, ◌<◌, ◌≤◌, ◌⊎◌, inl, inr, List, [], ◌∷◌, ◌++◌, length, map, Option, Some, None, Ok, slice_get, arith}
-use Rattle.std.specs.Prelude.{option_map}
-use Rattle.std.proofs.lemmas.Option.{slice_get_within, slice_get-map}
+use Rattle.std.proofs.Common.{◌≡◌, subst, ap, ◌∙◌, ℕ, ◌+◌, ◌<◌, ◌⊎◌, inl, inr, List, [], ◌∷◌, ◌++◌, length, Some, Ok, slice_get, arith}
+use Rattle.std.proofs.lemmas.Option.{slice_get_within}
 use Rattle.um_tree.specs.TypeTree.{TypeTree, bool_type, num_type, list_type, record_type, NoteTree, bool_note, num_note, list_note, record_note, ShapeTree, bool_shape, num_shape, list_shape, record_shape}
 use Rattle.um_tree.specs.ExprTree.{ExprTree, ExprTrees, truth, number, local, call, negate, not_expr, pown, arith as arith_tree, compare, both, either, if, bind, split, nil, list_expr, cons, record_expr, field, none, more}
-use Rattle.um_tree.specs.ProgramTree.{FunctionTree, ProgramTree, RecordTree}
+use Rattle.um_tree.specs.ProgramTree.{FunctionTree, ProgramTree}
 use Rattle.um_tree.specs.Formed.{IsNoteTreeIn, IsTypeIn, IsFormedIn, AllFormedIn}
-use Rattle.um_tree.specs.Shapes.{type_shape, note_shape, ShapeSignature, EachShapeIs}
+use Rattle.um_tree.specs.Shapes.{type_shape, note_shape, ShapeSignature}
 use Rattle.um_shape.specs.RecordShapes.{RecordShape}
-use Rattle.um_shape.specs.FirstFault.{same_shape, where_true, of_list, of_items, of_call, of_record, of_field, of_condition, of_arms, of_head, of_numbers, of_truths, item_of, found, all_found}
-use Rattle.um_shape.proofs.SameShape.{same_shape-is}
-use Rattle.um_shape.proofs.Sound.{then_ok, node_ok, where_true_is, asked, item_is}
-use Rattle.um_shape.proofs.SoundProgram.{in_either, only_one, nothing_at}
+use Rattle.um_shape.specs.FirstFault.{same_shape, of_list, of_items, of_call, of_record, of_field, item_of, found, all_found}
+use Rattle.um_shape.proofs.Sound.{then_ok, node_ok, where_true_is, asked}
+use Rattle.um_shape.proofs.SoundProgram.{in_either, only_one}
 use Rattle.um_verify.specs.Heads.{NamesBelow}
 use Rattle.um_image.proofs.NodeShapes.{items_found, call_found, record_found, field_found}
 

@@ -1,9 +1,9 @@
 -- Names that are taken once among many are taken once among the first of them.
-use Rattle.std.proofs.Common.{◌≡◌, refl, sym, subst, ap, ◌∙◌, ℕ, zero, suc, ◌+◌, ◌<◌, ◌≤◌, List, [], ◌∷◌, ◌++◌, length, map, take, All, get_or, Option, Some, None, slice_get, arith, append_assoc, length-append}
+use Rattle.std.proofs.Common.{◌≡◌, refl, sym, subst, ap, ◌∙◌, ℕ, zero, suc, ◌+◌, List, [], ◌∷◌, ◌++◌, length, map, take, All, get_or, Some, slice_get, arith, append_assoc}
 use Rattle.std.specs.Prelude.{option_map}
 use Rattle.std.proofs.lemmas.Option.{slice_get-map, slice_get-get_or, slice_get_within, get_or_from_slice_get}
 use Rattle.um_tree.specs.ProgramTree.{FieldTree, RecordTree}
-use Rattle.um_tree.specs.Formed.{IsNameBytes, AreNames, AreDistinct, field_names}
+use Rattle.um_tree.specs.Formed.{AreDistinct, field_names}
 use Rattle.um_image.specs.ProgramImage.{plain_field, plain_record}
 
 -- what stands among the first stands among all

@@ -1,9 +1,8 @@
 -- What the rules of instructions pass on, where the top of the state fits.
-use Rattle.std.proofs.Common.{◌≡◌, refl, sym, subst, ap, ◌∙◌, ℕ, zero, suc, ◌+◌, Bool, true, false, cond, List, [], ◌∷◌, ◌++◌, length, map, Option, Some, None, slice_get, arith, append_assoc, append-nil}
+use Rattle.std.proofs.Common.{◌≡◌, refl, sym, ap, ◌∙◌, ℕ, zero, suc, ◌+◌, Bool, true, List, [], ◌∷◌, ◌++◌, length, map, Option, Some, slice_get, arith, append_assoc, append-nil}
 use Rattle.std.specs.Prelude.{nat_eq}
 use Rattle.std.proofs.lemmas.List.{length-map}
-use Rattle.um_tree.specs.TypeTree.{ShapeTree, list_shape, record_shape}
-use Rattle.um_shape.specs.RecordShapes.{RecordShape}
+use Rattle.um_tree.specs.TypeTree.{ShapeTree}
 use Rattle.um_machine.specs.declared.op.Op.TheVariants.{Load, MakeList, Cons, MakeRec, Field, Slide, Call, Ret}
 use Rattle.um_machine.specs.Stack.{takes, on_one, on_two, on_found}
 use Rattle.um_verify.specs.StackShape.{StackShape, void, bool, num, list, made, on_stack, fits, join, join_items, fit_all}

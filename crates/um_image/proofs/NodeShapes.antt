@@ -1,9 +1,9 @@
 -- The shapes of an expression's parts, where one is found of it.
-use Rattle.std.proofs.Common.{◌≡◌, refl, sym, subst, ap, ◌∙◌, ℕ, Bool, true, false, cond, List, [], ◌∷◌, Option, Some, None, slice_get, Result, Ok, Err}
+use Rattle.std.proofs.Common.{◌≡◌, refl, ℕ, Bool, true, false, cond, List, [], ◌∷◌, Option, Some, None, slice_get}
 use Rattle.um_tree.specs.TypeTree.{ShapeTree, bool_shape, num_shape, list_shape, record_shape}
 use Rattle.um_tree.specs.Shapes.{ShapeSignature, EachShapeIs}
 use Rattle.um_shape.specs.RecordShapes.{RecordShape}
-use Rattle.um_shape.specs.FirstFault.{same_shape, same_shapes, all_same, where_true, of_list, of_items, of_call, of_record, of_field}
+use Rattle.um_shape.specs.FirstFault.{same_shape, same_shapes, all_same, of_list, of_items, of_call, of_record, of_field}
 use Rattle.um_shape.proofs.SameShape.{same_shape-is}
 use Rattle.um_shape.proofs.Sound.{where_true_is, same_shapes-is, all_same-each}
 

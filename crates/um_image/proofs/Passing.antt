@@ -1,19 +1,17 @@
 -- What the code of an expression makes of what has arrived, address by address.
-use Rattle.std.proofs.Common.{◌≡◌, ◌≢◌, refl, sym, subst, ap, ◌∙◌, ℕ, zero, suc, ◌+◌, ◌-◌, ◌<◌, ◌≤◌, Bool, true, false, cond, List, [], ◌∷◌, ◌++◌, length, map, Option, Some, None, slice_get, arith, ◌⊎◌, inl, inr, append_assoc, append-nil, length-append}
-use Rattle.std.specs.Prelude.{nat_eq, nat_lt}
+use Rattle.std.proofs.Common.{◌≡◌, ◌≢◌, refl, sym, subst, ap, ◌∙◌, ℕ, suc, ◌+◌, ◌-◌, ◌<◌, ◌≤◌, Bool, true, false, cond, List, [], ◌∷◌, ◌++◌, length, Option, Some, slice_get, arith, ◌⊎◌, inl, inr, append_assoc, append-nil}
+use Rattle.std.specs.Prelude.{nat_lt}
 use Rattle.std.proofs.lemmas.Bool.{cases_lt}
 use Rattle.um_tree.specs.TypeTree.{ShapeTree}
 use Rattle.um_tree.specs.Heights.{greatest_height}
 use Rattle.um_shape.specs.RecordShapes.{RecordShape}
 use Rattle.um_machine.specs.declared.op.Op.{Op}
-use Rattle.um_machine.specs.declared.op.Op.TheVariants.{Load, Not, Jump, JumpIfNot, MakeList, Cons, Split, MakeRec, Field, Slide, Call, Ret}
-use Rattle.um_machine.specs.Stack.{takes, on_one, on_two, on_found}
-use Rattle.um_verify.specs.StackShape.{StackShape, void, bool, num, list, made, on_stack, fits, join, join_items, fit_all, stack_height}
-use Rattle.um_verify.specs.Rules.{Body, View, Sent, Flow, fails, passes, need, to, on_list_shape, on_record_shape, fields_of, fit_one, fit_two, rule, inside, low_states, forwards}
+use Rattle.um_machine.specs.declared.op.Op.TheVariants.{Jump, JumpIfNot, Split, Slide}
+use Rattle.um_machine.specs.Stack.{takes, on_one}
+use Rattle.um_verify.specs.StackShape.{StackShape, void, bool, num, list, made, on_stack, fits, stack_height}
+use Rattle.um_verify.specs.Rules.{Body, View, Sent, Flow, fails, passes, need, to, on_list_shape, rule, inside, low_states, forwards}
 use Rattle.um_verify.specs.Verified.{Met, nobody, arrived, merge, passed, gather, sends, met, flow, Passes}
-use Rattle.um_verify.proofs.Fits.{same_number, equal_numbers}
-use Rattle.um_verify.proofs.Joins.{joins_below}
-use Rattle.um_image.proofs.Tops.{is_below, merges, AllFit, Tops, all_fit, merges_top, items_below, gather_hit, gather_miss, takes_from, FitEach, Low, IsLow, low_fitting, low_more, low_sent}
+use Rattle.um_image.proofs.Tops.{is_below, merges, Tops, all_fit, merges_top, gather_hit, gather_miss, takes_from, FitEach, Low, IsLow, low_fitting, low_more, low_sent}
 
 module _ (view : View) (e : Body) (positive : (r : ℕ) (d : RecordShape) → slice_get view.heights r ≡ Some d → 1 ≤ d.height) where
   -- what has arrived at t before address a, and what address a passes on

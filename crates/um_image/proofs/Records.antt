@@ -1,5 +1,5 @@
 -- The records of a program's image: their fields on the stack, and their heights.
-use Rattle.std.proofs.Common.{◌≡◌, refl, sym, subst, ap, ◌∙◌, ℕ, zero, suc, ◌+◌, ◌<◌, ◌≤◌, ◌⊎◌, inl, inr, max, Bool, true, false, cond, nat_le, List, [], ◌∷◌, ◌++◌, length, map, take, Option, Some, None, slice_get, Result, Ok, Err, arith}
+use Rattle.std.proofs.Common.{◌≡◌, refl, sym, subst, ap, ◌∙◌, ℕ, zero, suc, ◌+◌, ◌<◌, ◌≤◌, ◌⊎◌, inl, inr, Bool, true, false, cond, nat_le, List, [], ◌∷◌, ◌++◌, length, map, take, Option, Some, None, slice_get, Ok, Err, arith}
 use Rattle.std.specs.Prelude.{option_map}
 use Rattle.std.proofs.lemmas.Option.{slice_get-map}
 use Rattle.std.proofs.lemmas.Bool.Decides.{nat_tests}
@@ -9,11 +9,11 @@ use Rattle.um_tree.specs.Typing.{field_types}
 use Rattle.um_tree.specs.Shapes.{type_shape}
 use Rattle.um_tree.specs.Heights.{greatest_height}
 use Rattle.um_shape.specs.RecordShapes.{RecordShape, declared_height, shape_height, tallest, declared_shape}
-use Rattle.um_shape.specs.FirstFault.{ShapeFault, too_deep, record_found, records_found}
+use Rattle.um_shape.specs.FirstFault.{too_deep, record_found, records_found}
 use Rattle.um_shape.proofs.Sound.{then_ok, Alike, alike_at}
 use Rattle.um_shape.proofs.SoundProgram.{in_either, only_one, nothing_at}
-use Rattle.um_verify.specs.StackShape.{StackShape, on_stack}
-use Rattle.um_verify.specs.Heads.{and_shapes, record_shapes}
+use Rattle.um_verify.specs.StackShape.{on_stack}
+use Rattle.um_verify.specs.Heads.{and_shapes}
 use Rattle.um_verify.specs.Rules.{fields_on_stack}
 use Rattle.um_image.specs.ProgramImage.{plain_type, plain_field, plain_record}
 

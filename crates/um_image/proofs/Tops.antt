@@ -12,7 +12,7 @@ use Rattle.um_verify.specs.StackShape.{StackShape, void, bool, num, list, made, 
 use Rattle.um_verify.specs.Rules.{Sent, Flow, fails, low_state, low_states}
 use Rattle.um_verify.specs.Verified.{Met, nobody, arrived, joined, merge, gather}
 use Rattle.um_verify.proofs.Fits.{equal_numbers, same_number}
-use Rattle.um_verify.proofs.Joins.{fits_self, joins_below}
+use Rattle.um_verify.proofs.Joins.{joins_below}
 
 pub is_below : (m n : ℕ) → m < n → nat_lt m n ≡ true
 is_below m n h = grind (arith, nat_tests)

@@ -1,8 +1,8 @@
 -- The bytes of an image. A number stands with its most significant byte first.
 -- Source: this project's own form.
-use Rattle.std.specs.Prelude.{ℕ, ◌-◌, cond, List, [], ◌∷◌, ◌++◌, length, map, take, drop, codes}
+use Rattle.std.specs.Prelude.{ℕ, ◌-◌, cond, List, [], ◌∷◌, ◌++◌, length, take, drop, codes}
 use Rattle.std.specs.List.{flat_map}
-use Rattle.std.specs.Int.{w32, w64, of_z, to_be_bytes}
+use Rattle.std.specs.Int.{w32, w64, cast_unsigned, to_be_bytes}
 use Rattle.um_frac.specs.Fraction.{numerator, denominator}
 use Rattle.um_tree.specs.TypeTree.{ShapeTree, bool_shape, num_shape, list_shape, record_shape}
 use Rattle.um_tree.specs.ProgramTree.{FieldTree, RecordTree}
@@ -68,12 +68,12 @@ op_number (Pow k) = 22
 -- a fraction is its numerator and its denominator, eight bytes each
 abbrev pub operand_bytes : Operand → List ℕ
 operand_bytes (operand.Num c) =
-    to_be_bytes w64 (of_z w64 (numerator c)) ++ to_be_bytes w64 (of_z w64 (denominator c))
+    to_be_bytes w64 (cast_unsigned w64 (numerator c)) ++ to_be_bytes w64 (cast_unsigned w64 (denominator c))
 operand_bytes (operand.Bool b) = cond b 1 0 ∷ []
 operand_bytes (operand.Count n) = four_bytes n
 operand_bytes (operand.Record r) = four_bytes r
 operand_bytes (operand.Function f) = four_bytes f
-operand_bytes (operand.Power k) = to_be_bytes w32 (of_z w32 k)
+operand_bytes (operand.Power k) = to_be_bytes w32 (cast_unsigned w32 k)
 
 abbrev pub op_bytes : Op → List ℕ
 op_bytes i = op_number i ∷ flat_map operand_bytes (op_operands i)

@@ -1,7 +1,7 @@
 -- What the image of a program comes to.
 -- Source: this project's own.
 use Rattle.std.specs.Prelude.{◌≡◌, ◌<◌, ◌^◌, ℕ, All, List, length, None}
-use Rattle.um_tree.specs.ProgramTree.{RecordTree, ProgramTree}
+use Rattle.um_tree.specs.ProgramTree.{ProgramTree}
 use Rattle.um_tree.specs.Formed.{IsFormed}
 use Rattle.um_shape.specs.FirstFault.{first_fault}
 use Rattle.um_gen.specs.ProgramCode.{program_code}

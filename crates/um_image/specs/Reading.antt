@@ -1,10 +1,10 @@
--- How an image is read from bytes, item by item, and where the bytes are refused. That what is read has these bytes, and
--- that the bytes of an image read as it, stands in Laws.
+-- How an image is read from bytes, item by item, and where the bytes are refused. That what is read has these bytes,
+-- and that the bytes of an image read as it, stands in Laws.
 -- Source: this project's own form.
-use Rattle.std.specs.Prelude.{ℕ, zero, suc, ◌+◌, Bool, true, false, cond, nat_eq, nat_le, List, [], ◌∷◌, ◌++◌, length, map}
-use Rattle.std.specs.Prelude.{take, drop, codes, slice_get, Option, Some, None, ℤ}
+use Rattle.std.specs.Prelude.{ℕ, zero, suc, ◌+◌, Bool, true, false, cond, nat_eq, nat_le, List, [], ◌∷◌, length, map}
+use Rattle.std.specs.Prelude.{take, drop, codes, slice_get, Option, Some, None}
 use Rattle.std.specs.List.{flat_map}
-use Rattle.std.specs.Int.{w32, w64, to_z, from_be_bytes}
+use Rattle.std.specs.Int.{w32, w64, cast_signed, from_be_bytes}
 use Rattle.um_frac.specs.declared.number.Frac.{Frac}
 use Rattle.um_frac.specs.Fraction.{fraction}
 use Rattle.um_units.specs.PowerMap.{one}
@@ -50,8 +50,8 @@ where_true b x = cond b (Some x) None
 
 abbrev pub same_bytes : List ℕ → List ℕ → Bool
 same_bytes [] [] = true
-same_bytes (a ∷ as) (b ∷ bs) = cond (nat_eq a b) (same_bytes as bs) false
-same_bytes as bs = false
+same_bytes (x ∷ xs) (y ∷ ys) = cond (nat_eq x y) (same_bytes xs ys) false
+same_bytes xs ys = false
 
 abbrev pub read_letters : List ℕ → Read (List ℕ)
 read_letters bytes = item 4 (λ four. where_true (same_bytes four (codes "UMI1")) four) bytes
@@ -105,7 +105,7 @@ read_record bytes =
 
 abbrev pub of_sixteen : List ℕ → Option Frac
 of_sixteen bytes =
-    fraction (to_z w64 (from_be_bytes w64 (take 8 bytes))) (to_z w64 (from_be_bytes w64 (drop 8 bytes)))
+    fraction (cast_signed w64 (from_be_bytes w64 (take 8 bytes))) (cast_signed w64 (from_be_bytes w64 (drop 8 bytes)))
 
 abbrev pub of_one : List ℕ → Option Bool
 of_one [] = None
@@ -127,7 +127,7 @@ operands_read =
     ∷ alone Eq ∷ with_number Jump ∷ with_number JumpIfNot ∷ with_number MakeList ∷ alone Cons ∷ with_number Split
     ∷ (λ bytes. then (read_number bytes) (λ r rest. with_number (MakeRec r) rest))
     ∷ with_number Field ∷ with_number Slide ∷ with_number Call ∷ alone Ret
-    ∷ (λ bytes. then (item 4 (λ four. Some (to_z w32 (from_be_bytes w32 four))) bytes) (λ k rest. got (Pow k) rest))
+    ∷ (λ bytes. then (item 4 (λ four. Some (cast_signed w32 (from_be_bytes w32 four))) bytes) (λ k rest. got (Pow k) rest))
     ∷ []
 
 abbrev pub by_number : Option (List ℕ → Read Op) → List ℕ → List ℕ → Read Op
