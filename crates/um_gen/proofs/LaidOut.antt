@@ -23,28 +23,28 @@ module _ (code : Code) (j : ℕ) (e : Entry) (is_entry : slice_get code.entries 
   within a lo hi =
       ap (λ en. op_within code.ops en a) is_entry ∙ ap (λ t. cond t (cond (nat_lt a e.end) (slice_get code.ops a) None) None) (le-leb e.start a lo) ∙ ap (λ t. cond t (slice_get code.ops a) None) (lt-ltb a e.end hi)
 
-  rows : (is pre post : List Op) (a : ℕ) → code.ops ≡ pre ++ (is ++ post) → a ≡ length pre → e.start ≤ a → a + length is ≤ e.end → InRow code j a is
+  pub rows : (is pre post : List Op) (a : ℕ) → code.ops ≡ pre ++ (is ++ post) → a ≡ length pre → e.start ≤ a → a + length is ≤ e.end → InRow code j a is
   rows [] pre post a s n lo hi = tt
   rows (i ∷ is) pre post a s n lo hi =
       (within a lo (omega arith) ∙ ap (λ l. slice_get l a) s ∙ get_here pre (is ++ post) i a n, rows is (pre ++ i ∷ []) post (a + 1) (s ∙ sym (append_assoc pre (i ∷ []) (is ++ post))) (omega (arith, length-append pre (i ∷ []))) (omega arith) (omega arith))
 
 -- where a function's code stands among all
-record Located (fs : List FunctionTree) (pre : List Op) (a j : ℕ) (g : FunctionTree) : Type 0 where
-  entry : Entry
-  before : List Op
-  behind : List Op
-  listed : slice_get (functions_entries fs a) j ≡ Some entry
-  params : entry.params ≡ length g.params
-  ends : entry.end ≡ entry.start + expr_size g.body + 1
-  ops : pre ++ functions_code fs a ≡ before ++ (function_code g entry.start ++ behind)
-  starts : entry.start ≡ length before
+pub record Located (fs : List FunctionTree) (pre : List Op) (a j : ℕ) (g : FunctionTree) : Type 0 where
+  pub entry : Entry
+  pub before : List Op
+  pub behind : List Op
+  pub listed : slice_get (functions_entries fs a) j ≡ Some entry
+  pub params : entry.params ≡ length g.params
+  pub ends : entry.end ≡ entry.start + expr_size g.body + 1
+  pub ops : pre ++ functions_code fs a ≡ before ++ (function_code g entry.start ++ behind)
+  pub starts : entry.start ≡ length before
 
 pub length_function : (g : FunctionTree) (a : ℕ) → length (function_code g a) ≡ expr_size g.body + 1
 length_function g a =
     let body = expr_code g.body (parameter_places g) (length g.params) a in
     omega (arith, length-append body (Ret ∷ []), length_code g.body (parameter_places g) (length g.params) a)
 
-located : (fs : List FunctionTree) (pre : List Op) (a j : ℕ) (g : FunctionTree) → a ≡ length pre → slice_get fs j ≡ Some g → Located fs pre a j g
+pub located : (fs : List FunctionTree) (pre : List Op) (a j : ℕ) (g : FunctionTree) → a ≡ length pre → slice_get fs j ≡ Some g → Located fs pre a j g
 located [] pre a zero g n h = absurd cc
 located [] pre a (suc j) g n h = absurd cc
 located (f ∷ fs) pre a zero g n h =

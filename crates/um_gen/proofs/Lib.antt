@@ -2,7 +2,7 @@ pub mod Stands
 pub mod Simulation
 pub mod LaidOut
 pub mod EndsAsMeant
-mod Sizes
+pub mod Sizes
 pub mod Forwards
 mod Emitted
 mod EachEmitted

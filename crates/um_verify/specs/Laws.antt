@@ -1,7 +1,8 @@
 -- What verified images come to.
 -- Source: this project's own.
 use Rattle.std.specs.Prelude.{◌≡◌, ◌≢◌, ℕ, true, List, Some, None, slice_get}
-use Rattle.um_tree.specs.ValueTree.{ValueTree, values_in_order, OutcomeTree, value_outcome, trap_outcome, budget_outcome}
+use Rattle.um_tree.specs.ValueTree.{ValueTree, values_in_order, OutcomeTree, value_outcome, trap_outcome}
+use Rattle.um_tree.specs.ValueTree.{budget_outcome}
 use Rattle.um_tree.specs.ProgramTree.{RecordTree}
 use Rattle.um_tree.specs.TypeTree.{ShapeTree}
 use Rattle.um_tree.specs.InputType.{ValueHas, ValuesHave}

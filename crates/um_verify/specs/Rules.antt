@@ -1,4 +1,4 @@
--- The rules of instructions over shapes: what each needs of the state that arrives at it, and which states it passes on.
+-- The rules of instructions over shapes: what each needs of the state that arrives at it, and what it passes on.
 -- Source: X. Leroy, Java bytecode verification: algorithms and formalizations, 2003. The instructions and the limit of
 -- heights are this project's own.
 use Rattle.std.specs.Prelude.{ℕ, ◌+◌, Bool, true, false, cond, nat_eq, nat_lt, nat_le, List, [], ◌∷◌, ◌++◌, length, map}
@@ -14,8 +14,8 @@ use Rattle.um_machine.specs.declared.op.Op.TheVariants.{Eq, Jump, JumpIfNot, Mak
 use Rattle.um_machine.specs.declared.op.Op.TheVariants.{Slide, Call, Ret, Pow}
 use Rattle.um_machine.specs.declared.code.Entry.{Entry}
 use Rattle.um_machine.specs.Stack.{takes, on_one, on_two, on_found}
-use Rattle.um_verify.specs.StackShape.{StackShape, void, bool, num, list, made, on_stack, fits, join, fit_all, join_items}
-use Rattle.um_verify.specs.StackShape.{stack_height}
+use Rattle.um_verify.specs.StackShape.{StackShape, void, bool, num, list, made, on_stack, fits, join, fit_all}
+use Rattle.um_verify.specs.StackShape.{join_items, stack_height}
 use Rattle.um_verify.specs.ImageTree.{HeadTree, ImageTree}
 use Rattle.um_verify.specs.Heads.{record_shapes}
 

@@ -1,6 +1,6 @@
 -- The shapes of what stands on a stack, when one fits another, and what several have in common.
--- Source: X. Leroy, Java bytecode verification: algorithms and formalizations, 2003 (states of types that meet where ways
--- of a code join). The shapes are this project's own.
+-- Source: X. Leroy, Java bytecode verification: algorithms and formalizations, 2003 (states of types that meet where
+-- ways of a code join). The shapes are this project's own.
 use Rattle.std.specs.Prelude.{ℕ, Bool, true, false, cond, nat_eq, ◌+◌, List, [], ◌∷◌, Option, Some, None, option_map}
 use Rattle.std.specs.Prelude.{slice_get}
 use Rattle.um_tree.specs.TypeTree.{ShapeTree, bool_shape, num_shape, list_shape, record_shape}

@@ -1,6 +1,6 @@
 -- Verified images: what arrives at each address of a function, and that the rule of each address holds.
--- Source: X. Leroy, Java bytecode verification: algorithms and formalizations, 2003; all jumps go forward, so there is no
--- fixed point to find.
+-- Source: X. Leroy, Java bytecode verification: algorithms and formalizations, 2003; all jumps go forward, so there is
+-- no fixed point to find.
 use Rattle.std.specs.Prelude.{◌≡◌, ◌<◌, ℕ, zero, suc, ◌+◌, cond, nat_eq, List, [], ◌∷◌, Option, Some, None, slice_get}
 use Rattle.um_machine.specs.declared.op.Op.{Op}
 use Rattle.um_verify.specs.StackShape.{StackShape, join_all}

@@ -1,8 +1,8 @@
 //! The laws of verified images, as contracts of functions that do nothing. A crate above cites the law that it needs.
 ghost use Rattle.um_verify.specs.Laws.{NeverStuck, RunsEnd, JoinIsLeast, NoJoinNoBound};
 
-/// A run of a verified image from a call at values of its parameters' shapes is never stuck, and it ends, at each budget,
-/// with a value of the result's shape, a trap or the end of the budget.
+/// A run of a verified image from a call at values of its parameters' shapes is never stuck, and it ends, at each
+/// budget, with a value of the result's shape, a trap or the end of the budget.
 pub fn runs_of_verified_images()
     ensures never_stuck { NeverStuck }
     ensures end { RunsEnd }

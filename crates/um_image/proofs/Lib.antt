@@ -1,0 +1,11 @@
+mod Tops
+mod Passing
+mod NodeRules
+mod NodeShapes
+mod Accepts
+mod Bodies
+mod Records
+mod Functions
+mod Names
+mod NamedRecords
+mod Accepted
