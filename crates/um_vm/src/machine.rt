@@ -29,7 +29,8 @@ impl<'a> Machine<'a> {
     ghost use Rattle.um_machine.specs.declared.code.Code.{Code};
     ghost use Rattle.um_machine.specs.Machine.{State, Step as MachineStep, going, done, starts, next, step};
     ghost use Rattle.um_vm.specs.declared.phase.Phase.TheVariants.{Going, Ended};
-    ghost use Rattle.um_vm.specs.Phases.{IsEnd, end_holds};
+    ghost use Rattle.um_vm.specs.Ends.{IsEnd};
+    ghost use Rattle.um_vm.specs.Phases.{end_holds};
     ghost use Rattle.um_vm.specs.Showing.{Shows, HasFailed, IsAnswer, IsCallOf};
 
     /// A machine at the start of a call of function `f` of the code on the arguments, in the order of its parameters.
