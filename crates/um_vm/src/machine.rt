@@ -3,7 +3,7 @@ ghost use Rattle.std.specs.Prelude.{IsTrue};
 ghost use Rattle.um_vm.specs.Phases.{phase_holds};
 
 use crate::phase::{End, Phase, first_phase};
-use crate::run::Run;
+use crate::run::{Progress, Run};
 use crate::step::Step;
 use crate::stop::Stop;
 use std::alloc::{AllocError, Global};
@@ -97,9 +97,9 @@ impl<'a> Machine<'a> {
         ensures no_memory { OnErr result (HasFailed self.new) }
     {
         match self.run.step() {
-            Ok(None) => Ok(()),
-            Ok(Some(word)) => {
-                self.phase = Phase::Ended(End::Value(word));
+            Ok(Progress::Going) => Ok(()),
+            Ok(Progress::Returned) => {
+                self.phase = Phase::Ended(End::Value(self.run.stack.top()));
                 Ok(())
             }
             Err(Stop::Trap(trap)) => {
