@@ -3,3 +3,4 @@ mod Settled
 mod Acted
 mod Shown
 mod Counted
+mod Examples

@@ -15,8 +15,10 @@ use Rattle.um_vm.specs.declared.phase.Phase.{Phase}
 use Rattle.um_vm.specs.declared.phase.Phase.TheVariants as phase
 use Rattle.um_vm.specs.declared.run.Run.{Run}
 use Rattle.um_vm.specs.declared.machine.Machine.{Machine}
-use Rattle.um_vm.specs.Going.{state_of, first_state, IsBegun}
-use Rattle.um_vm.specs.Phases.{IsEnd, first_phase, end_holds, phase_holds}
+use Rattle.um_vm.specs.Going.{state_of}
+use Rattle.um_vm.specs.Ends.{IsEnd}
+use Rattle.um_vm.specs.Stepping.{first_state, IsBegun}
+use Rattle.um_vm.specs.Phases.{first_phase, end_holds, phase_holds}
 use Rattle.um_vm.specs.Showing.{ShowsIn, Shows}
 
 -- a machine at the start of a call

@@ -1,10 +1,14 @@
 -- What is trusted: in which state a machine is, what its steps answer, and how they are counted.
 pub mod Carrying
 pub mod Going
-pub mod Phases
+pub mod Ends
 pub mod Showing
 pub mod Counting
--- What mirrors the code: what an operation gives, what it leaves on the stack, and what a step of a run comes to.
+-- What the definitions come to: a statement, proved as the contract of a function of src/laws.rt.
+pub mod Laws
+-- What mirrors the code: what an operation gives, what it leaves on the stack, what a step of a run comes to, and how
+-- far a machine is.
 pub mod Words
 pub mod Placing
 pub mod Stepping
+pub mod Phases

@@ -4,7 +4,8 @@ ghost use Rattle.um_tree.specs.ValueTree.{OutcomeTree, value_tree, outcome_tree}
 ghost use Rattle.um_tree.specs.ProgramTree.{FunctionTree};
 ghost use Rattle.um_machine.specs.Machine.{EndsWith};
 ghost use Rattle.um_gen.specs.ProgramCode.{program_code};
-ghost use Rattle.um_vm.specs.Phases.{IsEnd, end_holds};
+ghost use Rattle.um_vm.specs.Ends.{IsEnd};
+ghost use Rattle.um_vm.specs.Phases.{end_holds};
 ghost use Rattle.um_vm.specs.Showing.{IsCallOf};
 ghost use Rattle.um_vm.specs.Counting.{CountsSteps};
 

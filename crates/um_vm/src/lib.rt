@@ -5,6 +5,7 @@
 #![tactic(auto)]
 
 mod counting;
+mod laws;
 mod machine;
 mod operations;
 mod phase;
@@ -16,6 +17,7 @@ mod stop;
 mod words;
 
 pub use counting::CountedOutcome;
+pub use laws::counted_calls;
 pub use machine::Machine;
 pub use runner::CodeRunner;
 pub use step::Step;

@@ -3,7 +3,7 @@ ghost use Rattle.std.specs.Prelude.{IsTrue};
 ghost use Rattle.um_vm.specs.Phases.{phase_holds};
 
 use crate::phase::{End, Phase, first_phase};
-use crate::run::Run;
+use crate::run::{Progress, Run};
 use crate::step::Step;
 use crate::stop::Stop;
 use std::alloc::{AllocError, Global};
@@ -29,7 +29,8 @@ impl<'a> Machine<'a> {
     ghost use Rattle.um_machine.specs.declared.code.Code.{Code};
     ghost use Rattle.um_machine.specs.Machine.{State, Step as MachineStep, going, done, starts, next, step};
     ghost use Rattle.um_vm.specs.declared.phase.Phase.TheVariants.{Going, Ended};
-    ghost use Rattle.um_vm.specs.Phases.{IsEnd, end_holds};
+    ghost use Rattle.um_vm.specs.Ends.{IsEnd};
+    ghost use Rattle.um_vm.specs.Phases.{end_holds};
     ghost use Rattle.um_vm.specs.Showing.{Shows, HasFailed, IsAnswer, IsCallOf};
 
     /// A machine at the start of a call of function `f` of the code on the arguments, in the order of its parameters.
@@ -96,9 +97,9 @@ impl<'a> Machine<'a> {
         ensures no_memory { OnErr result (HasFailed self.new) }
     {
         match self.run.step() {
-            Ok(None) => Ok(()),
-            Ok(Some(word)) => {
-                self.phase = Phase::Ended(End::Value(word));
+            Ok(Progress::Going) => Ok(()),
+            Ok(Progress::Returned) => {
+                self.phase = Phase::Ended(End::Value(self.run.stack.top()));
                 Ok(())
             }
             Err(Stop::Trap(trap)) => {

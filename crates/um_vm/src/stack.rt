@@ -17,10 +17,11 @@ pub(crate) struct Stack {
 }
 
 impl Stack {
-    ghost use Rattle.std.specs.Prelude.{◌≡◌, ◌+◌, ◌<◌, ◌≤◌, List, [], ◌∷◌, ◌++◌, Result, Ok, Some, length, map, take, drop, slice_get, IfOk, OnOk, MatchOption};
+    ghost use Rattle.std.specs.Prelude.{◌≡◌, ◌+◌, ◌-◌, ◌<◌, ◌≤◌, List, [], ◌∷◌, ◌++◌, Result, Ok, Some, length, map, take, drop, slice_get, IfOk, OnOk, MatchOption};
     ghost use Rattle.um_tree.specs.ValueTree.{ValueTree, list_value, record_value, value_tree, values_in_order};
     ghost use Rattle.um_tree.specs.Meaning.{Stop as MeaningStop, longer};
     ghost use Rattle.um_cells.specs.Stores.{DenotesIn, HasValue};
+    ghost use Rattle.um_cells.specs.Holding.{HoldsIn};
     ghost use Rattle.um_vm.specs.Words.{IsDone};
     ghost use Rattle.um_vm.specs.Carrying.{Carries};
     ghost use Rattle.um_vm.specs.Placing.{Placed};
@@ -83,6 +84,16 @@ impl Stack {
         }
         let at = self.words.len() - 2;
         Some((at, self.words[at], self.words[at + 1]))
+    }
+
+    /// The topmost word.
+    pub(crate) fn top(&self) -> Word
+        requires { 0 < length self.now.words.items }
+        ensures holds { HoldsIn self.now.store result }
+        ensures value { (vs : List ValueTree) (v : ValueTree) → Carries self.now vs
+            → slice_get vs (length vs - 1) ≡ Some v → DenotesIn self.now.store result v }
+    {
+        self.words[self.words.len() - 1]
     }
 
     /// The words from the place on go.

@@ -3,23 +3,27 @@ use Rattle.um_machine.specs.Machine.{step}
 use Rattle.um_vm.specs.declared.phase.End.TheVariants as end
 use Rattle.um_vm.specs.declared.phase.Phase.TheVariants as phase
 use Rattle.um_vm.specs.Going.{state_of}
-use Rattle.um_vm.specs.Stepping.{IsStep}
+use Rattle.um_vm.specs.Stepping.{IsStep, TopIsThere}
 use Rattle.um_vm.proofs.Shown.{shown_by}
 use Rattle.um_vm.proofs.machine.Machine.go_on.Goals as goal
 
-pub returns-in-Ok-None-clause-refines : goal.returns-in-Ok-None-clause-refines
-returns-in-Ok-None-clause-refines c = λ code s h.
+pub returns-in-Ok-Going-clause-refines : goal.returns-in-Ok-Going-clause-refines
+returns-in-Ok-Going-clause-refines c = λ code s h.
     let m = c.args.self.now in
     let (p, vs, is_in, is) = h in
-    let (ws, now_in, e) = subst (λ x. IsStep code (step code (state_of m.run vs)) (Ok x) c.step.new.self) c.in-Ok-None.field-0-is (c.in-Ok-None.ensures.step code vs is_in) in
+    let (ws, now_in, e) = subst (λ x. IsStep code (step code (state_of m.run vs)) (Ok x) c.step.new.self) c.in-Ok-Going.field-0-is (c.in-Ok-Going.ensures.step code vs is_in) in
     shown_by code c.step.new.self m.phase _ _ (ap (step code) is ∙ e) (p, ws, now_in, refl)
 
-pub returns-in-Ok-Some-clause-refines : goal.returns-in-Ok-Some-clause-refines
-returns-in-Ok-Some-clause-refines c = λ code s h.
+pub returns-in-Ok-Returned-clause-refines : goal.returns-in-Ok-Returned-clause-refines
+returns-in-Ok-Returned-clause-refines c = λ code s h.
     let m = c.args.self.now in
     let (p, vs, is_in, is) = h in
-    let (v, d, e) = subst (λ x. IsStep code (step code (state_of m.run vs)) (Ok x) c.step.new.self) c.in-Ok-Some.field-0-is (c.in-Ok-Some.ensures.step code vs is_in) in
-    shown_by code c.step.new.self (phase.Ended (end.Value c.in-Ok-Some.word)) _ _ (ap (step code) is ∙ e) (end.Value c.in-Ok-Some.word, refl, (v, d, refl))
+    let (ws, v, carries, top, e) = subst (λ x. IsStep code (step code (state_of m.run vs)) (Ok x) c.step.new.self) c.in-Ok-Returned.field-0-is (c.in-Ok-Returned.ensures.step code vs is_in) in
+    let word = c.top.result in
+    shown_by code c.step.new.self (phase.Ended (end.Value word)) _ _ (ap (step code) is ∙ e) (end.Value word, refl, (v, c.top.ensures.value ws v carries top, refl))
+
+pub top-requires : goal.top-requires
+top-requires c = subst (λ x. TopIsThere c.step.new.self (Ok x)) c.in-Ok-Returned.field-0-is c.in-Ok-Returned.ensures.top
 
 pub returns-in-Err-Trap-clause-refines : goal.returns-in-Err-Trap-clause-refines
 returns-in-Err-Trap-clause-refines c = λ code s h.

@@ -1,7 +1,8 @@
 use Rattle.std.proofs.Common.{subst}
 use Rattle.std.specs.Prelude.{IsTrue}
 use Rattle.um_tree.specs.ValueTree.{value_tree}
-use Rattle.um_vm.specs.Phases.{IsEnd, end_holds}
+use Rattle.um_vm.specs.Ends.{IsEnd}
+use Rattle.um_vm.specs.Phases.{end_holds}
 use Rattle.um_vm.proofs.Shown.{end_value, end_read}
 use Rattle.um_vm.proofs.machine.Machine.outcome.Goals as goal
 

@@ -1,10 +1,9 @@
 use Rattle.std.proofs.Common.{◌∙◌, ◌++◌, ◌∷◌, [], ap, sym, map, reverse, take}
 use Rattle.std.proofs.lemmas.List.{nil_from_length}
-use Rattle.um_cells.proofs.WellFormed.{holds_from_value}
 use Rattle.um_machine.specs.Machine.{arrive, returns}
 use Rattle.um_vm.specs.Going.{frame_of, state_of}
 use Rattle.um_vm.proofs.Taken.{take_less}
-use Rattle.um_vm.proofs.Acted.{callers_pushed, same_step}
+use Rattle.um_vm.proofs.Acted.{callers_pushed, same_step, top_value}
 use Rattle.um_vm.proofs.run.Run.give.Goals as goal
 
 pub returns-in-Some-clause-step : goal.returns-in-Some-clause-step
@@ -21,7 +20,4 @@ pub returns-in-None-clause-step : goal.returns-in-None-clause-step
 returns-in-None-clause-step c = λ code vs v h d.
     let m = c.args.self.now in
     let empty = nil_from_length m.callers.items (sym m.callers.ok.0 ∙ c.in-None.ensures.cases.0) in
-    (v, d, ap (λ fs. returns code (state_of m vs) v (take m.running.base (take c.args.at vs)) (map frame_of (reverse fs))) empty)
-
-pub returns-in-None-clause-held : goal.returns-in-None-clause-held
-returns-in-None-clause-held c = holds_from_value c.args.self.now.stack.store.cells.items c.args.y c.requires.value.0 c.requires.value.1
+    (vs, v, h.1, top_value m vs h.1 c.args.at c.args.y v c.requires.place c.requires.word d, ap (λ fs. returns code (state_of m vs) v (take m.running.base (take c.args.at vs)) (map frame_of (reverse fs))) empty)

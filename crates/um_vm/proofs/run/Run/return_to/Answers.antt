@@ -1,6 +1,6 @@
 use Rattle.std.proofs.Common.{◌++◌, ◌∷◌, [], take}
 use Rattle.um_machine.specs.Machine.{arrive}
-use Rattle.um_vm.specs.Going.{returned}
+use Rattle.um_vm.specs.Stepping.{returned}
 use Rattle.um_vm.proofs.Settled.{value_placed}
 use Rattle.um_vm.proofs.Acted.{not_stopped}
 use Rattle.um_vm.proofs.run.Run.return_to.Goals as goal

@@ -1,0 +1,5 @@
+use Rattle.um_vm.proofs.Counted.{counted_once}
+use Rattle.um_vm.proofs.laws.counted_calls.Goals as goal
+
+pub returns : goal.returns
+returns c = counted_once
