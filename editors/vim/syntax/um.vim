@@ -33,7 +33,7 @@ syntax match umUnitHole contained "\<_\>"
 syntax match umUnitOperator contained "[*/(),]"
 syntax match umPower contained "\^\_s*-\=\_s*\d\+"
 syntax match umPower contained "\<1\>"
-syntax region umUnits contained matchgroup=umDelimiter start="<" end=">" contains=@umUnit
+syntax region umUnits contained matchgroup=umDelimiter start="<[=>]\@!" end=">" contains=@umUnit
 syntax match umNumber "\<\d\+\%([.r]\d\+\)\=\>" nextgroup=umUnits
 
 " Types: from a colon to the sign that ends them.
