@@ -106,8 +106,8 @@ let walk (n: num) = total (build n ([] : num list)) 0
 
 Workload = namedtuple("Workload", "name words text sizes")
 
-# A new command is a line here: its name in the table, the words, where {} stands for the size, the text, and a small and
-# a large size.
+# A new command is a line here: its name in the table, the words, where {} stands for the size, the text, and a small
+# and a large size.
 WORKLOADS = [
     Workload("copies of a model", "types", copies, (82, 330)),
     Workload("functions of 25 products", "types", products, (475, 1900)),
