@@ -85,9 +85,29 @@ def nested(units):
     return "".join("[<Measure>] type a%d = %s\n" % (k, unit) for k in range(units))
 
 
+def conditions(count):
+    """One function of ten nodes a condition."""
+    condition = "if x < 1 then x * 2 else y + 3"
+    return "let conditions (x: num) (y: num) = [%s]\n" % "; ".join([condition] * count)
+
+
+def calls(_):
+    """A function that does nothing but call itself and count; the size is its argument."""
+    return "let rec fib (n: num) : num = if n < 2 then n else fib (n - 1) + fib (n - 2)\n"
+
+
+def walks(_):
+    """A list is built and its items are added up; the size is how many it has."""
+    return """let rec build (n: num) (l: num list) : num list = if n < 1 then l else build (n - 1) (n :: l)
+let rec total (l: num list) (sum: num) : num = match l with [] -> sum | x :: r -> total r (sum + x)
+let walk (n: num) = total (build n ([] : num list)) 0
+"""
+
+
 Workload = namedtuple("Workload", "name words text sizes")
 
-# A new command is a line here: its name in the table, the words, the text, and a small and a large size.
+# A new command is a line here: its name in the table, the words, where {} stands for the size, the text, and a small
+# and a large size.
 WORKLOADS = [
     Workload("copies of a model", "types", copies, (82, 330)),
     Workload("functions of 25 products", "types", products, (475, 1900)),
@@ -99,4 +119,11 @@ WORKLOADS = [
     Workload("sums and products", "fmt", sums, (475, 1900)),
     Workload("a list of numbers", "fmt", items, (4750, 19000)),
     Workload("units in brackets", "fmt", nested, (20, 80)),
+    Workload("one function of 20,000 nodes", "code", conditions, (499, 1999)),
+    Workload("small functions", "code", small, (500, 2000)),
+    Workload("fib", "run 10000000 fib {}", calls, (24, 29)),
+    Workload("a list built and walked", "run 10000000 walk {}", walks, (50000, 200000)),
+    Workload("fib", "steps 10000000 fib {}", calls, (19, 24)),
+    Workload("fib", "eval 10000000 fib {}", calls, (19, 24)),
+    Workload("a list built and walked", "eval 10000000 walk {}", walks, (50000, 200000)),
 ]
