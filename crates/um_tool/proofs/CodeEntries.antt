@@ -1,5 +1,5 @@
 -- The entries of a program's code: one for each function, each within the instructions.
-use Rattle.std.proofs.Common.{◌≡◌, ℕ, ◌+◌, ◌≤◌, List, [], ◌∷◌, length, length-append, refl, ap, arith}
+use Rattle.std.proofs.Common.{◌≡◌, ℕ, suc, ◌+◌, ◌≤◌, List, [], ◌∷◌, length, length-append, refl, ap, arith}
 use Rattle.std.specs.Prelude.{All}
 use Rattle.std.proofs.lemmas.List.Elements.{All-nil, All-cons}
 use Rattle.um_tree.specs.ProgramTree.{FunctionTree}
@@ -9,7 +9,7 @@ use Rattle.um_gen.proofs.LaidOut.{length_function}
 
 entries_counted : (fs : List FunctionTree) (a : ℕ) → length (functions_entries fs a) ≡ length fs
 entries_counted [] a = refl
-entries_counted (f ∷ fs) a = ap (λ n. n + 1) (entries_counted fs (a + expr_size f.body + 1))
+entries_counted (f ∷ fs) a = ap suc (entries_counted fs (a + expr_size f.body + 1))
 
 abbrev IsWithin : ℕ → Entry → Type 0
 IsWithin n e = (e.start ≤ e.end) × (e.end ≤ n)
