@@ -71,7 +71,7 @@ shape_refusal bytes (shape_stop.Shape at) text status reply last = refuted statu
 shape_refusal bytes (shape_stop.Depth at) text status reply last = refuted status Limit reply.1 refl last
 shape_refusal bytes shape_stop.NoMemory text status reply last = reply
 
-within : (n : ℕ) → (1048576 < n → ⊥) → n ≤ 1048576
+pub within : (n : ℕ) → (1048576 < n → ⊥) → n ≤ 1048576
 within n short = by (cases_lt 1048576 n)
   where
     by : (1048576 < n) ⊎ (n ≤ 1048576) → n ≤ 1048576

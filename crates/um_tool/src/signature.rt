@@ -40,7 +40,7 @@ pub(crate) fn answer_conform(
     ensures { IfOk result (λ reply. ConformAnswer (asked_of asked.now) (program_tree shaped.now)
         (scheme_trees schemes.now) reply.text.items reply.status) }
 {
-    match function_named(shaped, asked.words.word(1)) {
+    match function_named(shaped.program(), asked.words.word(1)) {
         Some(function) => answer_signature(alloc, asked, shaped, schemes, function),
         None => reply_to_unnamed(alloc),
     }
