@@ -1,6 +1,7 @@
 -- What answers to `code`, to calls and to signatures say, in the subject's words.
 -- Source: principal schemes and typings are Kennedy's (1996); the rest is this project's own.
-use Rattle.std.specs.Prelude.{ℕ, ◌≡◌, ◌⊎◌, Bool, true, false, IsTrue, List, [], ◌∷◌, ◌++◌, length, chars, codes, Some, Ok}
+use Rattle.std.specs.Prelude.{ℕ, ◌≡◌, ◌⊎◌, Bool, true, false, IsTrue, List, [], ◌∷◌, ◌++◌, length, chars, codes, Some}
+use Rattle.std.specs.Prelude.{Ok}
 use Rattle.um_tree.specs.TypeTree.{type_trees}
 use Rattle.um_tree.specs.ValueTree.{OutcomeTree}
 use Rattle.um_tree.specs.ProgramTree.{ProgramTree, SchemeTree}

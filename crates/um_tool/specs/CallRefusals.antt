@@ -13,7 +13,8 @@ use Rattle.um_sig.specs.declared.stop.SigText.TheVariants as sig_text
 use Rattle.um_sig.specs.declared.stop.SigStop.{SigStop}
 use Rattle.um_sig.specs.declared.stop.SigStop.TheVariants as sig_stop
 use Rattle.um_tool.specs.declared.status.Status.{Status}
-use Rattle.um_tool.specs.declared.status.Status.TheVariants.{Done, Limit, PowerRange, Input, Trap as Trapped, NotConform}
+use Rattle.um_tool.specs.declared.status.Status.TheVariants.{Done, Limit, PowerRange, Input, NotConform}
+use Rattle.um_tool.specs.declared.status.Status.TheVariants.{Trap as Trapped}
 use Rattle.um_tool.specs.Places.{position_of}
 use Rattle.um_tool.specs.Steps.{line, IsReply}
 
@@ -60,7 +61,8 @@ IsCallReply texts (refusal.Argument index stop) text status =
 IsCallReply texts refusal.Units text status =
     IsInputReply text status (line (codes "error 11: units of the arguments"))
 IsCallReply texts refusal.PowerRange text status = IsCallRangeReply text status
-IsCallReply texts refusal.Slots text status = IsReply text status (line (codes "error 6: limit slots in the call")) Limit
+IsCallReply texts refusal.Slots text status =
+    IsReply text status (line (codes "error 6: limit slots in the call")) Limit
 IsCallReply texts refusal.NoMemory text status = ⊥
 
 -- the line of a call that ended with a trap

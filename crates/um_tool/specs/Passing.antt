@@ -61,8 +61,9 @@ pub record HasTypings (words : List (List ℕ)) (raw : List DeclSyntax) (p : Pro
   pub read : IsRead p shorts (chars (signature_text words)) (length (signature_text words)) (Ok signature)
   pub typings : AreAllTypings p number (type_trees signature.types)
   pub in_range :
-      (schemes : List SchemeTree) (s : SchemeTree) (i : ℕ) → infer p ≡ all_schemes schemes →
-      slice_get schemes number ≡ Some s → IsConformed (length p.bases) s (type_trees signature.types) (Err (Range i)) → ⊥
+      (schemes : List SchemeTree) (s : SchemeTree) (i : ℕ) →
+      infer p ≡ all_schemes schemes → slice_get schemes number ≡ Some s →
+      IsConformed (length p.bases) s (type_trees signature.types) (Err (Range i)) → ⊥
 
 -- what an order asks of a program whose functions have typings
 abbrev pub PassesOn : Order → List (List ℕ) → List DeclSyntax → ProgramTree → Type 0

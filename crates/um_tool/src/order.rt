@@ -51,8 +51,8 @@ impl Order {
 
 /// The order that the words name, or nothing where they have none of the forms. Takes no memory.
 ///
-/// The forms are `types`, `code`, `fmt`, `eval BUDGET NAME ARG*` and `conform NAME TYPE`. A budget is one to eight digits
-/// of value at most 10,000,000, and each word is at most 1,048,576 bytes long.
+/// The forms are `types`, `code`, `fmt`, `conform NAME TYPE` and `eval BUDGET NAME ARG*`. A budget is one to eight
+/// digits of value at most 10,000,000, and each word is at most 1,048,576 bytes long.
 pub fn order_of(words: &Words) -> Option<Order>
     ensures { result ≡ order_named words.now }
 {
