@@ -11,7 +11,7 @@ entries_counted : (fs : List FunctionTree) (a : ℕ) → length (functions_entri
 entries_counted [] a = refl
 entries_counted (f ∷ fs) a = ap suc (entries_counted fs (a + expr_size f.body + 1))
 
-abbrev IsWithin : ℕ → Entry → Type 0
+abbrev pub IsWithin : ℕ → Entry → Type 0
 IsWithin n e = (e.start ≤ e.end) × (e.end ≤ n)
 
 entries_within : (fs : List FunctionTree) (a n : ℕ) → a + length (functions_code fs a) ≤ n → All (IsWithin n) (functions_entries fs a)

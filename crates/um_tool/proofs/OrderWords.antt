@@ -1,10 +1,12 @@
 -- What words are that name an order.
-use Rattle.std.proofs.Common.{◌≡◌, ℕ, zero, suc, ◌+◌, ◌<◌, ◌≤◌, Bool, true, false, ◌&&◌, if◌then◌else◌, List, [], ◌∷◌, length, drop, get_or, codes, All, Some, None, refl, sym, ap, subst, ◌∙◌, arith}
-use Rattle.std.specs.Prelude.{Option, nat_le, slice_get}
+use Rattle.std.proofs.Common.{◌≡◌, ℕ, ◌<◌, ◌≤◌, Bool, true, false, ◌&&◌, IsTrue, if◌then◌else◌, List, [], ◌∷◌, length, drop, get_or, codes, All, Some, None, Result, Ok, refl, sym, ap, subst, ◌∙◌, arith}
+use Rattle.std.specs.Prelude.{Option, nat_lt, nat_le, slice_get}
+use Rattle.std.specs.Char.{is_ascii_digit}
 use Rattle.std.specs.List.{list_all}
-use Rattle.std.specs.Str.{bytes_eq}
-use Rattle.std.specs.Str.Parse.{digits_value}
+use Rattle.std.specs.Str.{bytes_eq, all_ascii_digits}
+use Rattle.std.specs.Str.Parse.{digits_value, ParsesUnsigned}
 use Rattle.std.proofs.lemmas.Bool.{leb-true}
+use Rattle.std.proofs.lemmas.Str.Parse.{numerals_by_value, tells_all_ascii_digits, digits_value_short, parse_gives}
 use Rattle.std.proofs.lemmas.List.Elements.{All-nil, All-cons}
 use Rattle.um_tool.specs.declared.order.Order.{Order}
 use Rattle.um_tool.specs.declared.order.Order.TheVariants.{Types, Code, Fmt, Eval, Conform}
@@ -34,16 +36,20 @@ all_short (w ∷ ws) e =
 pub short_words : (words : List (List ℕ)) (o : Order) → order_of words ≡ Some o → All IsShort words
 short_words words o e = all_short words (named_by_count words o e).0
 
--- ---- the forms by the count of words
-pub none_of_two : (words : List (List ℕ)) → length words ≡ 2 → order_by_count words ≡ None
-none_of_two [] e = refl
-none_of_two (w ∷ []) e = absurd (omega (arith, e))
-none_of_two (w ∷ v ∷ []) e = refl
-none_of_two (w ∷ v ∷ u ∷ ws) e = absurd (omega (arith, e))
+pub none_of_long : (words : List (List ℕ)) → list_all is_short words ≡ false → order_of words ≡ None
+unfolding order_of
+none_of_long words e = ap (λ t. if t then order_by_count words else None) e
 
-pub none_of_none : (words : List (List ℕ)) → length words ≡ 0 → order_by_count words ≡ None
-none_of_none [] e = refl
-none_of_none (w ∷ ws) e = absurd (omega (arith, e))
+pub by_count : (words : List (List ℕ)) → list_all is_short words ≡ true → order_of words ≡ order_by_count words
+unfolding order_of
+by_count words e = ap (λ t. if t then order_by_count words else None) e
+
+-- ---- the forms by the count of words
+pub none_of_few : (words : List (List ℕ)) → (length words ≡ 1 → ⊥) → length words < 3 → order_by_count words ≡ None
+none_of_few [] more few = refl
+none_of_few (w ∷ []) more few = absurd (more refl)
+none_of_few (w ∷ v ∷ []) more few = refl
+none_of_few (w ∷ v ∷ u ∷ ws) more few = absurd (omega (arith, few))
 
 pub alone_of_one : (words : List (List ℕ)) (w : List ℕ) → length words ≡ 1 → slice_get words 0 ≡ Some w → order_by_count words ≡ order_alone w
 alone_of_one [] w e h = absurd (omega (arith, e))
@@ -113,3 +119,24 @@ conform_by_count (w ∷ v ∷ u ∷ ws) e = omega arith
 
 pub conform_words : (words : List (List ℕ)) → order_of words ≡ Some Conform → 3 ≤ length words
 conform_words words e = conform_by_count words (named_by_count words Conform e).1
+
+-- ---- digits
+
+abbrev AreDigits : List ℕ → Type 0
+AreDigits ds = all_ascii_digits ds ≡ true
+
+digits_are : (ds : List ℕ) → list_all is_ascii_digit ds ≡ all_ascii_digits ds
+digits_are [] = refl
+digits_are (d ∷ ds) = ap (λ b. is_ascii_digit d && b) (digits_are ds)
+
+-- few digits are read as their value
+pub few_digits_parsed : {E : Type 0} (word : List ℕ) (r : Result ℕ E) → IsTrue (is_budget word) → ParsesUnsigned 64 10 word r → r ≡ Ok (digits_value 10 word)
+few_digits_parsed word r few parses =
+    let parts = both (nat_lt 0 (length word) && nat_le (length word) 8) (list_all is_ascii_digit word) few in
+    let counts = both (nat_lt 0 (length word)) (nat_le (length word) 8) parts.0 in
+    let own = numerals_by_value AreDigits tells_all_ascii_digits in
+    let digits : AreDigits word = sym (digits_are word) ∙ parts.1 in
+    let some : 0 < length word = leb-true 1 (length word) counts.0 in
+    let short : length word ≤ 8 = leb-true (length word) 8 counts.1 in
+    let small = digits_value_short own word 8 digits short in
+    parse_gives own 64 word r parses digits some (omega (arith, small))

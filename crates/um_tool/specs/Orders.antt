@@ -3,7 +3,8 @@
 use Rattle.std.specs.Prelude.{◌≡◌, ℕ, Bool, ◌&&◌, ◌||◌, IsTrue, List, [], ◌∷◌, length, Option, Some, None, codes}
 use Rattle.std.specs.Prelude.{nat_le, nat_lt, if◌then◌else◌}
 use Rattle.std.specs.List.{list_all}
-use Rattle.std.specs.Str.{bytes_eq, all_ascii_digits}
+use Rattle.std.specs.Char.{is_ascii_digit}
+use Rattle.std.specs.Str.{bytes_eq}
 use Rattle.std.specs.Str.Parse.{digits_value}
 use Rattle.um_tool.specs.declared.order.Order.{Order}
 use Rattle.um_tool.specs.declared.order.Order.TheVariants.{Types, Code, Fmt, Eval, Conform}
@@ -29,7 +30,7 @@ is_short word = nat_le (length word) 1048576
 
 -- one to eight digits
 abbrev pub is_budget : List ℕ → Bool
-is_budget word = nat_lt 0 (length word) && nat_le (length word) 8 && all_ascii_digits word
+is_budget word = nat_lt 0 (length word) && nat_le (length word) 8 && list_all is_ascii_digit word
 
 -- and their value is at most 10,000,000
 abbrev pub budget_of : List ℕ → Option ℕ

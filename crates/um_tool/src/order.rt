@@ -1,5 +1,7 @@
 // What the words ask for.
 ghost use Rattle.std.specs.Prelude.{◌≡◌, ◌<◌, ◌↔◌, [], IsTrue, length, drop, get_or};
+ghost use Rattle.std.specs.Char.{is_ascii_digit};
+ghost use Rattle.std.specs.List.{list_all};
 ghost use Rattle.std.specs.Str.Parse.{digits_value};
 ghost use Rattle.um_tool.specs.Orders.{order_of as order_named, order_alone as alone, longer_order as longer};
 ghost use Rattle.um_tool.specs.Orders.{call_order as call_named, budget_of as budget_in, is_budget as are_few_digits};
@@ -59,11 +61,13 @@ pub fn order_of(words: &Words) -> Option<Order>
     if !words.are_short() {
         return None;
     }
-    match words.len() {
-        0 | 2 => None,
-        1 => order_alone(words.word(0)),
-        _ => longer_order(words),
+    if words.len() == 1 {
+        return order_alone(words.word(0));
     }
+    if words.len() < 3 {
+        return None;
+    }
+    longer_order(words)
 }
 
 /// The order of a command of one word.
@@ -119,7 +123,13 @@ fn budget_of(word: &str) -> Option<u64>
 fn is_budget(word: &str) -> bool
     ensures { result ≡ are_few_digits word.now }
 {
-    !word.is_empty() && word.len() <= 8 && word.as_bytes().iter().all(|byte| byte.is_ascii_digit())
+    !word.is_empty() && word.len() <= 8 && has_digits_alone(word)
+}
+
+fn has_digits_alone(word: &str) -> bool
+    ensures { result ≡ list_all is_ascii_digit word.now }
+{
+    word.as_bytes().iter().all(|byte| byte.is_ascii_digit())
 }
 
 /// The number that one to eight digits write.
