@@ -18,9 +18,15 @@ use Rattle.um_sig.specs.declared.stop.SigStop.TheVariants as sig_stop
 use Rattle.um_sig.specs.Reading.{signature_types_of, IsRead, AreClosedUnits, IsSignatureIn}
 use Rattle.um_sig.specs.Answers.{IsConformed}
 use Rattle.um_sig.specs.Instances.{AreOverBases, AreAllTypings}
-use Rattle.um_sig.specs.Laws.{AreSameReading}
+use Rattle.um_sig.specs.Laws.{AreSameReading, ReadingsAreUnique}
 use Rattle.um_sig.proofs.SignaturesIn.{named_in, formed_signatures_are_over_their_variables}
 use Rattle.um_sig.proofs.TypingLaws.{answers_say_what_typings_are}
+use Rattle.um_reader.proofs.Readers.{unambiguous}
+use Rattle.um_reader.proofs.Answers.{one_answer}
+use Rattle.um_types.specs.UnitStops.{greatest_height}
+use Rattle.um_types.specs.TypeHeights.{all_height}
+use Rattle.um_types.specs.SignatureGrammar.{IsSignature}
+use Rattle.um_types.proofs.SignatureLaws.{signatures_read}
 use Rattle.um_sig.proofs.UniqueReadings.{readings_are_unique}
 use Rattle.um_tool.specs.declared.status.Status.{Status}
 use Rattle.um_tool.specs.declared.status.Status.TheVariants.{Done}
@@ -28,6 +34,10 @@ use Rattle.um_tool.specs.Asked.{Asked, held_name, signature_text}
 use Rattle.um_tool.specs.CallRefusals.{IsUnnamedReply, IsSignatureReply, IsConformReply}
 use Rattle.um_tool.specs.ConformAnswer.{ConformAnswer, SignatureAnswer, ReadAnswer, BySignature, MatchingAnswer}
 use Rattle.um_tool.specs.Passing.{HasTypings}
+
+-- a signature text has one reading
+pub one_reading : ReadingsAreUnique
+one_reading = readings_are_unique (λ tokens. one_answer IsSignature all_height greatest_height tokens (unambiguous signatures_read))
 
 -- the types of a signature that was read are over the declared base units
 pub read_over_bases : (p : ProgramTree) (shorts : List Abbreviation) (word : List ℕ) (signature : ReadSignature) → AreClosedUnits (length p.bases) shorts → IsRead p shorts (chars word) (length word) (Ok signature)
@@ -80,7 +90,7 @@ module _ (asked : Asked) (p : ProgramTree) (schemes : List SchemeTree) (text : L
       let same_shorts : shorts ≡ h.shorts = cc both_shorts in
       let here = subst (λ ss. IsRead p ss (chars word) (length word) r) same_shorts read in
       read_done asked.words p schemes h.number text status h.signature r
-      (readings_are_unique p h.shorts (chars word) (length word) (Ok h.signature) r h.read here) matching_done answer
+      (one_reading p h.shorts (chars word) (length word) (Ok h.signature) r h.read here) matching_done answer
 
   pub conform_done : ConformAnswer asked p schemes text status → status ≡ Done
   unfolding ConformAnswer

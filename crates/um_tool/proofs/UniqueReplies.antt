@@ -23,13 +23,12 @@ use Rattle.um_sig.specs.Reading.{IsRead}
 use Rattle.um_sig.specs.Answers.{IsConformed}
 use Rattle.um_sig.specs.Laws.{AreSameReading}
 use Rattle.um_sig.proofs.UniqueAnswers.{answers_are_unique}
-use Rattle.um_sig.proofs.UniqueReadings.{readings_are_unique}
 use Rattle.um_tool.specs.declared.status.Status.{Status}
 use Rattle.um_tool.specs.Asked.{Asked, called_name, argument_texts, held_name, signature_text}
 use Rattle.um_tool.specs.CallRefusals.{IsArgumentReply, IsCallReply, IsUnnamedReply, IsSignatureReply, IsConformReply}
 use Rattle.um_tool.specs.CallAnswer.{CallAnswer, BesideAnswer, ByCall, RunAnswer, IsOutcomeReply}
 use Rattle.um_tool.specs.ConformAnswer.{ConformAnswer, SignatureAnswer, ReadAnswer, BySignature, MatchingAnswer}
-use Rattle.um_tool.proofs.ConformsDone.{types_of_readings}
+use Rattle.um_tool.proofs.ConformsDone.{types_of_readings, one_reading}
 
 module _ (text other : List ℕ) (status another : Status) where
   abbrev AreSame : Type 0
@@ -136,7 +135,7 @@ module _ (text other : List ℕ) (status another : Status) where
   read_one : (k : ℕ) (words : List (List ℕ)) (p : ProgramTree) (shorts : List Abbreviation) (schemes : List SchemeTree) → ReadAnswer k words p shorts schemes text status → ReadAnswer k words p shorts schemes other another → AreSame
   unfolding ReadAnswer
   read_one k words p shorts schemes (r, read, a) (q, also, b) =
-      let word = signature_text words in by_signature_one k words p schemes r q (readings_are_unique p shorts (chars word) (length word) r q read also) a b
+      let word = signature_text words in by_signature_one k words p schemes r q (one_reading p shorts (chars word) (length word) r q read also) a b
 
   signature_one : (k : ℕ) (asked : Asked) (p : ProgramTree) (schemes : List SchemeTree) → SignatureAnswer k asked p schemes text status → SignatureAnswer k asked p schemes other another → AreSame
   unfolding SignatureAnswer

@@ -22,9 +22,6 @@ use um_shape::Shaped;
 use um_sig::{Signature, conform, read_signature};
 use um_tree::Schemes;
 
-/// A bound of the unit variables of a signature: its text has no more bytes.
-const VARIABLE_LIMIT: u32 = 1_048_576;
-
 /// The answer to `conform`, given the schemes of all functions.
 #[tactic(auto, unfolding(crate::specs::ConformAnswer::ConformAnswer))]
 pub(crate) fn answer_conform(
@@ -108,6 +105,7 @@ fn answer_held(
     requires function { function < length (program_tree shaped.now).functions }
     requires inferred { infer (program_tree shaped.now) ≡ all_schemes (scheme_trees schemes.now) }
     requires signature { IsSignatureIn (program_tree shaped.now) signature }
+    requires few { signature.vars ≤ 1048576 }
     ensures { IfOk result (λ reply. MatchingAnswer function name.now (program_tree shaped.now)
         (scheme_trees schemes.now) (type_trees signature.types) reply.text.items reply.status) }
 {
@@ -129,12 +127,10 @@ fn answer_matching(
     requires function { function < length (program_tree shaped.now).functions }
     requires inferred { infer (program_tree shaped.now) ≡ all_schemes (scheme_trees schemes.now) }
     requires signature { IsSignatureIn (program_tree shaped.now) signature.now }
+    requires few { signature.now.vars ≤ 1048576 }
     ensures { IfOk result (λ reply. MatchingAnswer function name.now (program_tree shaped.now)
         (scheme_trees schemes.now) (type_trees signature.now.types) reply.text.items reply.status) }
 {
-    if signature.vars > VARIABLE_LIMIT {
-        return Err(AllocError);
-    }
     let bases = shaped.program().bases.as_slice().len() as u32;
     let scheme = &schemes.items[function as usize];
     reply_to_matching(alloc, name, conform(alloc, scheme, signature, bases))
