@@ -41,19 +41,27 @@ module _ (budget : ℕ) (words : List (List ℕ)) (p : ProgramTree) (text : List
   answered_done r call (inr (inl wrong)) done answer = absurd (cc wrong)
   answered_done r call (inr (inr wanting)) done answer = absurd (subst (λ q. ByCall budget (argument_texts words) p q text status) wanting answer)
 
+module _ (budget : ℕ) (words : List (List ℕ)) (raw : List DeclSyntax) (p : ProgramTree) (schemes : List SchemeTree) (text : List ℕ) (status : Status) where
+  -- beside the abbreviations and the schemes that stand in what is asked
+  beside_done : (shorts : List Abbreviation) → IsFormed p → resolved_program raw ≡ Ok p → infer p ≡ all_schemes schemes → (g : GivesValue budget words raw p) → resolved_abbreviations raw ≡ Ok shorts
+      → BesideAnswer budget words p shorts schemes text status → status ≡ Done
+  unfolding BesideAnswer
+  beside_done shorts formed resolved inferred g abbreviated (r, named, answer) =
+      let name = called_name words in let texts = argument_texts words in
+      let both_shorts : Ok shorts ≡ Ok g.shorts = sym abbreviated ∙ g.abbreviated in
+      let same_shorts : shorts ≡ g.shorts = cc both_shorts in
+      let both_schemes : all_schemes schemes ≡ all_schemes g.schemes = sym inferred ∙ g.inferred in
+      let same_schemes : schemes ≡ g.schemes = cc both_schemes in
+      let known : AreKnown p g.shorts g.schemes = record { formed = formed; inferred = g.inferred; closed = abbreviations_are_closed raw p g.shorts resolved g.abbreviated } in
+      let fitting = fitting_calls_are_calls p g.shorts g.schemes name texts known g.fits in
+      let call : CallTree = record { function = g.fits.number; inputs = g.fits.inputs; type = fitting.0 } in
+      let here : IsCallOf p g.shorts g.schemes name texts r = subst (λ ss. IsCallOf p g.shorts ss name texts r) same_schemes (subst (λ ss. IsCallOf p ss schemes name texts r) same_shorts named) in
+      answered_done budget words p text status r call
+      (calls_are_unique p g.shorts g.schemes name texts formed (Ok call) r fitting.1 here)
+      (run_done budget words p raw g call text status fitting.1 g.gives) answer
+
 pub call_done : (budget : ℕ) (asked : Asked) (p : ProgramTree) (schemes : List SchemeTree) (text : List ℕ) (status : Status) → IsFormed p → resolved_program asked.raw ≡ Ok p → infer p ≡ all_schemes schemes
     → GivesValue budget asked.words asked.raw p → CallAnswer budget asked p schemes text status → status ≡ Done
-unfolding CallAnswer BesideAnswer
-call_done budget asked p schemes text status formed resolved inferred g (shorts, abbreviated, r, named, answer) =
-    let name = called_name asked.words in let texts = argument_texts asked.words in
-    let both_shorts : Ok shorts ≡ Ok g.shorts = sym abbreviated ∙ g.abbreviated in
-    let same_shorts : shorts ≡ g.shorts = cc both_shorts in
-    let both_schemes : all_schemes schemes ≡ all_schemes g.schemes = sym inferred ∙ g.inferred in
-    let same_schemes : schemes ≡ g.schemes = cc both_schemes in
-    let known : AreKnown p g.shorts g.schemes = record { formed = formed; inferred = g.inferred; closed = abbreviations_are_closed asked.raw p g.shorts resolved g.abbreviated } in
-    let fitting = fitting_calls_are_calls p g.shorts g.schemes name texts known g.fits in
-    let call : CallTree = record { function = g.fits.number; inputs = g.fits.inputs; type = fitting.0 } in
-    let here : IsCallOf p g.shorts g.schemes name texts r = subst (λ ss. IsCallOf p g.shorts ss name texts r) same_schemes (subst (λ ss. IsCallOf p ss schemes name texts r) same_shorts named) in
-    answered_done budget asked.words p text status r call
-    (calls_are_unique p g.shorts g.schemes name texts formed (Ok call) r fitting.1 here)
-    (run_done budget asked.words p asked.raw g call text status fitting.1 g.gives) answer
+unfolding CallAnswer
+call_done budget asked p schemes text status formed resolved inferred g (shorts, abbreviated, answer) =
+    beside_done budget asked.words asked.raw p schemes text status shorts formed resolved inferred g abbreviated answer

@@ -105,10 +105,15 @@ module _ (budget : ℕ) (words : List (List ℕ)) (bytes text : List ℕ) (statu
       }
   call_meant p spelled schemes shorts (Err refused) formed inferred abbreviated named reply = absurd (call_refusal (argument_texts words) refused text status reply ends)
 
+  beside_meant : (p : ProgramTree) (spelled : SpellsProgram bytes p) (schemes : List SchemeTree) (shorts : List Abbreviation) → IsFormed p → infer p ≡ all_schemes schemes → resolved_abbreviations spelled.raw ≡ Ok shorts
+      → BesideAnswer budget words p shorts schemes text status → IsMeantCall budget words bytes text status
+  unfolding BesideAnswer
+  beside_meant p spelled schemes shorts formed inferred abbreviated (r, named, answer) = call_meant p spelled schemes shorts r formed inferred abbreviated named answer
+
   typed_meant : (p : ProgramTree) (spelled : SpellsProgram bytes p) (inferred : Inference) → IsFormed p → infer p ≡ inferred
       → InferenceAnswer (record { order = Eval budget; words = words; bytes = bytes; raw = spelled.raw }) p inferred text status → IsMeantCall budget words bytes text status
-  unfolding TypedAnswer CallAnswer BesideAnswer
-  typed_meant p spelled (all_schemes schemes) formed is (shorts, abbreviated, r, named, answer) = call_meant p spelled schemes shorts r formed is abbreviated named answer
+  unfolding TypedAnswer CallAnswer
+  typed_meant p spelled (all_schemes schemes) formed is (shorts, abbreviated, answer) = beside_meant p spelled schemes shorts formed is abbreviated answer
   typed_meant p spelled (stops_at_slots i) formed is answer = absurd (refuted ends_a_call status Limit answer.2.1 refl ends)
   typed_meant p spelled (stops_at_range i at) formed is answer = absurd (refuted ends_a_call status PowerRange answer.2.1 refl ends)
   typed_meant p spelled (stops_at_units i row at) formed is answer = absurd (refuted ends_a_call status Units answer.2.1 refl ends)
@@ -138,7 +143,7 @@ module _ (words : List (List ℕ)) (bytes text : List ℕ) (status : Status) (ve
   signature_says : (p : ProgramTree) (spelled : SpellsProgram bytes p) (schemes : List SchemeTree) (shorts : List Abbreviation) (k : ℕ) (r : Result ReadSignature SigText) → IsFormed p → infer p ≡ all_schemes schemes → resolved_abbreviations spelled.raw ≡ Ok shorts
       → number_of (function_names p.functions) (held_name words) ≡ Some k → IsRead p shorts (chars (signature_text words)) (length (signature_text words)) r → BySignature k words p schemes r text status → IsVerdict words bytes text status
   unfolding MatchingAnswer
-  signature_says p spelled schemes shorts k (Ok signature) formed inferred abbreviated named read (s, given, r, conformed, reply) =
+  signature_says p spelled schemes shorts k (Ok signature) formed inferred abbreviated named read (s, given, matched) =
       let closed = abbreviations_are_closed spelled.raw p shorts spelled.resolved abbreviated in
       let principal = given_schemes_are_principal p formed schemes inferred in
       record {
@@ -150,15 +155,20 @@ module _ (words : List (List ℕ)) (bytes text : List ℕ) (status : Status) (ve
         named = named;
         signature = signature;
         read = read;
-        verdict = matched_says p k (type_trees signature.types) s r formed (principal.principal k s given) (read_over_bases p shorts (signature_text words) signature closed read) conformed reply;
+        verdict = matched_says p k (type_trees signature.types) s matched.0 formed (principal.principal k s given) (read_over_bases p shorts (signature_text words) signature closed read) matched.1 matched.2;
       }
   signature_says p spelled schemes shorts k (Err stop) formed inferred abbreviated named read reply = absurd (signature_refusal (signature_text words) stop text status reply verdict)
 
+  reading_says : (p : ProgramTree) (spelled : SpellsProgram bytes p) (schemes : List SchemeTree) (shorts : List Abbreviation) (k : ℕ) → IsFormed p → infer p ≡ all_schemes schemes → resolved_abbreviations spelled.raw ≡ Ok shorts
+      → number_of (function_names p.functions) (held_name words) ≡ Some k → ReadAnswer k words p shorts schemes text status → IsVerdict words bytes text status
+  unfolding ReadAnswer
+  reading_says p spelled schemes shorts k formed inferred abbreviated named (r, read, answer) = signature_says p spelled schemes shorts k r formed inferred abbreviated named read answer
+
   name_says : (p : ProgramTree) (spelled : SpellsProgram bytes p) (schemes : List SchemeTree) (named : Option ℕ) → IsFormed p → infer p ≡ all_schemes schemes → number_of (function_names p.functions) (held_name words) ≡ named
       → MatchOption named (IsUnnamedReply text status) (λ k. SignatureAnswer k (record { order = Conform; words = words; bytes = bytes; raw = spelled.raw }) p schemes text status) → IsVerdict words bytes text status
-  unfolding SignatureAnswer ReadAnswer
+  unfolding SignatureAnswer
   name_says p spelled schemes None formed inferred named reply = absurd (refuted is_verdict status Input reply.1 refl verdict)
-  name_says p spelled schemes (Some k) formed inferred named (shorts, abbreviated, r, read, answer) = signature_says p spelled schemes shorts k r formed inferred abbreviated named read answer
+  name_says p spelled schemes (Some k) formed inferred named (shorts, abbreviated, answer) = reading_says p spelled schemes shorts k formed inferred abbreviated named answer
 
   typed_says : (p : ProgramTree) (spelled : SpellsProgram bytes p) (inferred : Inference) → IsFormed p → infer p ≡ inferred
       → InferenceAnswer (record { order = Conform; words = words; bytes = bytes; raw = spelled.raw }) p inferred text status → IsVerdict words bytes text status

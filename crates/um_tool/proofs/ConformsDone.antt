@@ -21,23 +21,12 @@ use Rattle.um_sig.specs.Instances.{AreOverBases, AreAllTypings}
 use Rattle.um_sig.specs.Laws.{AreSameReading, ReadingsAreUnique}
 use Rattle.um_sig.proofs.SignaturesIn.{named_in, formed_signatures_are_over_their_variables}
 use Rattle.um_sig.proofs.TypingLaws.{answers_say_what_typings_are}
-use Rattle.um_reader.proofs.Readers.{unambiguous}
-use Rattle.um_reader.proofs.Answers.{one_answer}
-use Rattle.um_types.specs.UnitStops.{greatest_height}
-use Rattle.um_types.specs.TypeHeights.{all_height}
-use Rattle.um_types.specs.SignatureGrammar.{IsSignature}
-use Rattle.um_types.proofs.SignatureLaws.{signatures_read}
-use Rattle.um_sig.proofs.UniqueReadings.{readings_are_unique}
 use Rattle.um_tool.specs.declared.status.Status.{Status}
 use Rattle.um_tool.specs.declared.status.Status.TheVariants.{Done}
 use Rattle.um_tool.specs.Asked.{Asked, held_name, signature_text}
 use Rattle.um_tool.specs.CallRefusals.{IsUnnamedReply, IsSignatureReply, IsConformReply}
 use Rattle.um_tool.specs.ConformAnswer.{ConformAnswer, SignatureAnswer, ReadAnswer, BySignature, MatchingAnswer}
 use Rattle.um_tool.specs.Passing.{HasTypings}
-
--- a signature text has one reading
-pub one_reading : ReadingsAreUnique
-one_reading = readings_are_unique (λ tokens. one_answer IsSignature all_height greatest_height tokens (unambiguous signatures_read))
 
 -- the types of a signature that was read are over the declared base units
 pub read_over_bases : (p : ProgramTree) (shorts : List Abbreviation) (word : List ℕ) (signature : ReadSignature) → AreClosedUnits (length p.bases) shorts → IsRead p shorts (chars word) (length word) (Ok signature)
@@ -71,26 +60,31 @@ module _ (words : List (List ℕ)) (p : ProgramTree) (schemes : List SchemeTree)
   read_done signature (Err (sig_text.PowerRange at)) same done reply = absurd same
   read_done signature (Err sig_text.NoMemory) same done reply = absurd reply
 
-module _ (asked : Asked) (p : ProgramTree) (schemes : List SchemeTree) (text : List ℕ) (status : Status) (formed : IsFormed p) (resolved : resolved_program asked.raw ≡ Ok p) (inferred : infer p ≡ all_schemes schemes) (h : HasTypings asked.words asked.raw p) where
+module _ (one_reading : ReadingsAreUnique) (asked : Asked) (p : ProgramTree) (schemes : List SchemeTree) (text : List ℕ) (status : Status) (formed : IsFormed p) (resolved : resolved_program asked.raw ≡ Ok p) (inferred : infer p ≡ all_schemes schemes) (h : HasTypings asked.words asked.raw p) where
   closed : AreClosedUnits (length p.bases) h.shorts
   closed = abbreviations_are_closed asked.raw p h.shorts resolved h.abbreviated
 
   matching_done : MatchingAnswer h.number (held_name asked.words) p schemes (type_trees h.signature.types) text status → status ≡ Done
   unfolding MatchingAnswer
-  matching_done (s, given, r, conformed, reply) =
+  matching_done (s, given, matched) =
       let principal = given_schemes_are_principal p formed schemes inferred in
-      matched_done asked.words p schemes h.number text status (type_trees h.signature.types) s r formed (principal.principal h.number s given)
-      (read_over_bases p h.shorts (signature_text asked.words) h.signature closed h.read) h.typings (λ i. h.in_range schemes s i inferred given) conformed reply
+      matched_done asked.words p schemes h.number text status (type_trees h.signature.types) s matched.0 formed (principal.principal h.number s given)
+      (read_over_bases p h.shorts (signature_text asked.words) h.signature closed h.read) h.typings (λ i. h.in_range schemes s i inferred given) matched.1 matched.2
 
-  signature_done : SignatureAnswer h.number asked p schemes text status → status ≡ Done
-  unfolding SignatureAnswer ReadAnswer
-  signature_done (shorts, abbreviated, r, read, answer) =
+  reading_done : (shorts : List Abbreviation) → shorts ≡ h.shorts → ReadAnswer h.number asked.words p shorts schemes text status → status ≡ Done
+  unfolding ReadAnswer
+  reading_done shorts same_shorts (r, read, answer) =
       let word = signature_text asked.words in
-      let both_shorts : Ok shorts ≡ Ok h.shorts = sym abbreviated ∙ h.abbreviated in
-      let same_shorts : shorts ≡ h.shorts = cc both_shorts in
       let here = subst (λ ss. IsRead p ss (chars word) (length word) r) same_shorts read in
       read_done asked.words p schemes h.number text status h.signature r
       (one_reading p h.shorts (chars word) (length word) (Ok h.signature) r h.read here) matching_done answer
+
+  signature_done : SignatureAnswer h.number asked p schemes text status → status ≡ Done
+  unfolding SignatureAnswer
+  signature_done (shorts, abbreviated, answer) =
+      let both_shorts : Ok shorts ≡ Ok h.shorts = sym abbreviated ∙ h.abbreviated in
+      let same_shorts : shorts ≡ h.shorts = cc both_shorts in
+      reading_done shorts same_shorts answer
 
   pub conform_done : ConformAnswer asked p schemes text status → status ≡ Done
   unfolding ConformAnswer

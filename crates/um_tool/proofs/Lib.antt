@@ -12,3 +12,5 @@ pub mod UniqueReplies
 pub mod UniqueAnswers
 pub mod SchemesPrinted
 pub mod CodeEntries
+pub mod AskedWords
+pub mod SchemesGiven

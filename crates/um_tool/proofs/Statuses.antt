@@ -13,6 +13,7 @@ use Rattle.um_shape.specs.declared.stop.ShapeStop.TheVariants as shape_stop
 use Rattle.um_tree.specs.TypeTree.{TypeTree}
 use Rattle.um_tree.specs.ValueTree.{OutcomeTree, value_outcome, trap_outcome, budget_outcome}
 use Rattle.um_tree.specs.ProgramTree.{ProgramTree, SchemeTree}
+use Rattle.um_measures.specs.declared.abbreviation.Abbreviation.{Abbreviation}
 use Rattle.um_measures.specs.Known.{number_of, function_names}
 use Rattle.um_value.specs.declared.stop.InputStop.{InputStop}
 use Rattle.um_value.specs.declared.stop.InputStop.TheVariants as input_stop
@@ -76,9 +77,13 @@ unfolding RunAnswer
 by_call_status budget texts p (Ok call) text status (o, meant, reply) = outcome_reply p call.type o text status reply
 by_call_status budget texts p (Err refused) text status reply = call_reply texts refused text status reply
 
+BesideAnswer-status : (budget : ℕ) (words : List (List ℕ)) (p : ProgramTree) (shorts : List Abbreviation) (schemes : List SchemeTree) (text : List ℕ) (status : Status) → BesideAnswer budget words p shorts schemes text status → IsTrue (is_answered status)
+unfolding BesideAnswer
+BesideAnswer-status budget words p shorts schemes text status (r, named, answer) = by_call_status budget (argument_texts words) p r text status answer
+
 CallAnswer-status : (budget : ℕ) (asked : Asked) (p : ProgramTree) (schemes : List SchemeTree) (text : List ℕ) (status : Status) → CallAnswer budget asked p schemes text status → IsTrue (is_answered status)
-unfolding CallAnswer BesideAnswer
-CallAnswer-status budget asked p schemes text status (shorts, abbreviated, r, named, answer) = by_call_status budget (argument_texts asked.words) p r text status answer
+unfolding CallAnswer
+CallAnswer-status budget asked p schemes text status (shorts, abbreviated, answer) = BesideAnswer-status budget asked.words p shorts schemes text status answer
 
 signature_reply : (word : List ℕ) (stop : SigText) (text : List ℕ) (status : Status) → IsSignatureReply word stop text status → IsTrue (is_answered status)
 signature_reply word (sig_text.Text at) text status reply = rw reply.1 refl
@@ -97,13 +102,17 @@ conform_reply name (Err sig_stop.NoMemory) text status reply = absurd reply
 
 by_signature_status : (k : ℕ) (words : List (List ℕ)) (p : ProgramTree) (schemes : List SchemeTree) (r : Result ReadSignature SigText) (text : List ℕ) (status : Status) → BySignature k words p schemes r text status → IsTrue (is_answered status)
 unfolding MatchingAnswer
-by_signature_status k words p schemes (Ok signature) text status (s, given, r, conformed, reply) = conform_reply (held_name words) r text status reply
+by_signature_status k words p schemes (Ok signature) text status (s, given, matched) = conform_reply (held_name words) matched.0 text status matched.2
 by_signature_status k words p schemes (Err stop) text status reply = signature_reply (signature_text words) stop text status reply
 
+ReadAnswer-status : (k : ℕ) (words : List (List ℕ)) (p : ProgramTree) (shorts : List Abbreviation) (schemes : List SchemeTree) (text : List ℕ) (status : Status) → ReadAnswer k words p shorts schemes text status → IsTrue (is_answered status)
+unfolding ReadAnswer
+ReadAnswer-status k words p shorts schemes text status (r, read, answer) = by_signature_status k words p schemes r text status answer
+
 by_name_status : (named : Option ℕ) (asked : Asked) (p : ProgramTree) (schemes : List SchemeTree) (text : List ℕ) (status : Status) → MatchOption named (IsUnnamedReply text status) (λ k. SignatureAnswer k asked p schemes text status) → IsTrue (is_answered status)
-unfolding SignatureAnswer ReadAnswer
+unfolding SignatureAnswer
 by_name_status None asked p schemes text status reply = rw reply.1 refl
-by_name_status (Some k) asked p schemes text status (shorts, abbreviated, r, read, answer) = by_signature_status k asked.words p schemes r text status answer
+by_name_status (Some k) asked p schemes text status (shorts, abbreviated, answer) = ReadAnswer-status k asked.words p shorts schemes text status answer
 
 ConformAnswer-status : (asked : Asked) (p : ProgramTree) (schemes : List SchemeTree) (text : List ℕ) (status : Status) → ConformAnswer asked p schemes text status → IsTrue (is_answered status)
 unfolding ConformAnswer

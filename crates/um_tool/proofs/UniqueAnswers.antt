@@ -41,6 +41,7 @@ use Rattle.um_tool.specs.Orders.{order_of, intake_of}
 use Rattle.um_tool.specs.Refusals.{placed, limit_label, IsTextReply, IsParseReply, IsNameReply, IsShapeReply}
 use Rattle.um_tool.specs.Asked.{Asked}
 use Rattle.um_tool.specs.Answer.{Answer, OrderAnswer, IntakeAnswer, LengthAnswer, TokensAnswer, GrammarAnswer, ProgramAnswer, ByLayout, NamesAnswer, ShapesAnswer, SchemesAnswer, TypedAnswer, ByOrder, InferenceAnswer, OfFunction}
+use Rattle.um_sig.specs.Laws.{ReadingsAreUnique}
 use Rattle.um_tool.specs.Laws.{AnswersAreUnique}
 use Rattle.um_tool.proofs.Complete.{not_utf8, text_not_refused, program_not_refused, not_refused, not_faulty}
 use Rattle.um_tool.proofs.Reached.{within}
@@ -110,7 +111,7 @@ module _ (bytes text : List ℕ) (status : Status) where
   text_told (text_stop.PowerText at) is reply = inr (lex_stop.PowerText at, is.0, is.1, reply)
   text_told text_stop.NoMemory is reply = absurd reply
 
-module _ (one_answer : ParsesAreUnique) (text other : List ℕ) (status another : Status) where
+module _ (one_answer : ParsesAreUnique) (one_reading : ReadingsAreUnique) (text other : List ℕ) (status another : Status) where
   -- ---- a refusal of the characters is one
   longest_valid : (bytes : List ℕ) (at place : ℕ) → IsValidUpTo bytes at → IsValidUpTo bytes place → at ≡ place
   longest_valid bytes at place a b = by (cases_lt at place) (cases_lt place at)
@@ -151,7 +152,7 @@ module _ (one_answer : ParsesAreUnique) (text other : List ℕ) (status another 
   by_order_one Code asked p schemes formed a b = (a.0 ∙ sym b.0, a.1 ∙ sym b.1)
   by_order_one Fmt asked p schemes formed a b = (a.0 ∙ sym b.0, a.1 ∙ sym b.1)
   by_order_one (Eval budget) asked p schemes formed a b = call_one text other status another budget asked p schemes formed a b
-  by_order_one Conform asked p schemes formed a b = conform_one text other status another asked p schemes a b
+  by_order_one Conform asked p schemes formed a b = conform_one text other status another one_reading asked p schemes a b
 
   inference_one : (asked : Asked) (p : ProgramTree) (inferred : Inference) → IsFormed p → InferenceAnswer asked p inferred text status → InferenceAnswer asked p inferred other another → (text ≡ other) × (status ≡ another)
   unfolding TypedAnswer
@@ -244,10 +245,10 @@ module _ (one_answer : ParsesAreUnique) (text other : List ℕ) (status another 
   unfolding OrderAnswer
   order_one words bytes a b = ordered_one (order_of words) words bytes a b
 
--- where `parse` has one answer to each list of tokens
-pub answers_are_one : ParsesAreUnique → AnswersAreUnique
+-- where `parse` has one answer to each list of tokens, and the text of a signature one reading
+pub answers_are_one : ParsesAreUnique → ReadingsAreUnique → AnswersAreUnique
 unfolding Answer
-answers_are_one one words bytes text other status another (inl (unbuilt, a)) (inl (also, b)) = (a.0 ∙ sym b.0, a.1 ∙ sym b.1)
-answers_are_one one words bytes text other status another (inl (unbuilt, a)) (inr (built, b)) = absurd (built unbuilt)
-answers_are_one one words bytes text other status another (inr (built, a)) (inl (unbuilt, b)) = absurd (built unbuilt)
-answers_are_one one words bytes text other status another (inr (built, a)) (inr (also, b)) = order_one one text other status another words bytes a b
+answers_are_one one one_reading words bytes text other status another (inl (unbuilt, a)) (inl (also, b)) = (a.0 ∙ sym b.0, a.1 ∙ sym b.1)
+answers_are_one one one_reading words bytes text other status another (inl (unbuilt, a)) (inr (built, b)) = absurd (built unbuilt)
+answers_are_one one one_reading words bytes text other status another (inr (built, a)) (inl (unbuilt, b)) = absurd (built unbuilt)
+answers_are_one one one_reading words bytes text other status another (inr (built, a)) (inr (also, b)) = order_one one one_reading text other status another words bytes a b

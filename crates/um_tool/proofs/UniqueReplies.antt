@@ -21,14 +21,14 @@ use Rattle.um_sig.specs.declared.stop.SigStop.{SigStop}
 use Rattle.um_sig.specs.declared.stop.SigStop.TheVariants as sig_stop
 use Rattle.um_sig.specs.Reading.{IsRead}
 use Rattle.um_sig.specs.Answers.{IsConformed}
-use Rattle.um_sig.specs.Laws.{AreSameReading}
+use Rattle.um_sig.specs.Laws.{AreSameReading, ReadingsAreUnique}
 use Rattle.um_sig.proofs.UniqueAnswers.{answers_are_unique}
 use Rattle.um_tool.specs.declared.status.Status.{Status}
 use Rattle.um_tool.specs.Asked.{Asked, called_name, argument_texts, held_name, signature_text}
 use Rattle.um_tool.specs.CallRefusals.{IsArgumentReply, IsCallReply, IsUnnamedReply, IsSignatureReply, IsConformReply}
 use Rattle.um_tool.specs.CallAnswer.{CallAnswer, BesideAnswer, ByCall, RunAnswer, IsOutcomeReply}
 use Rattle.um_tool.specs.ConformAnswer.{ConformAnswer, SignatureAnswer, ReadAnswer, BySignature, MatchingAnswer}
-use Rattle.um_tool.proofs.ConformsDone.{types_of_readings, one_reading}
+use Rattle.um_tool.proofs.ConformsDone.{types_of_readings}
 
 module _ (text other : List ℕ) (status another : Status) where
   abbrev AreSame : Type 0
@@ -104,16 +104,18 @@ module _ (text other : List ℕ) (status another : Status) where
       beside_one budget asked.words p ss schemes formed (subst (λ x. BesideAnswer budget asked.words p x schemes text status) same a) b
 
   -- ---- signatures
+  conforms_one : (name : List ℕ) (r q : Result (Unit {0}) SigStop) → (r ≡ q) ⊎ ((r ≡ Err sig_stop.NoMemory) ⊎ (q ≡ Err sig_stop.NoMemory))
+      → IsConformReply name r text status → IsConformReply name q other another → AreSame
+  conforms_one name r q (inl one) a b = one_conform_reply name q (subst (λ x. IsConformReply name x text status) one a) b
+  conforms_one name r q (inr (inl wanting)) a b = absurd (subst (λ x. IsConformReply name x text status) wanting a)
+  conforms_one name r q (inr (inr wanting)) a b = absurd (subst (λ x. IsConformReply name x other another) wanting b)
+
   matching_one : (k : ℕ) (name : List ℕ) (p : ProgramTree) (schemes : List SchemeTree) (types : List TypeTree) → MatchingAnswer k name p schemes types text status → MatchingAnswer k name p schemes types other another → AreSame
   unfolding MatchingAnswer
-  matching_one k name p schemes types (s, given, r, conformed, a) (t, found, q, also, b) =
+  matching_one k name p schemes types (s, given, a) (t, found, b) =
       let both : Some s ≡ Some t = sym given ∙ found in let same : s ≡ t = cc both in
-      by (answers_are_unique (length p.bases) t types r q (subst (λ x. IsConformed (length p.bases) x types r) same conformed) also)
-    where
-      by : (r ≡ q) ⊎ ((r ≡ Err sig_stop.NoMemory) ⊎ (q ≡ Err sig_stop.NoMemory)) → AreSame
-      by (inl one) = one_conform_reply name q (subst (λ x. IsConformReply name x text status) one a) b
-      by (inr (inl wanting)) = absurd (subst (λ x. IsConformReply name x text status) wanting a)
-      by (inr (inr wanting)) = absurd (subst (λ x. IsConformReply name x other another) wanting b)
+      let one = answers_are_unique (length p.bases) t types a.0 b.0 (subst (λ x. IsConformed (length p.bases) x types a.0) same a.1) b.1 in
+      conforms_one name a.0 b.0 one a.2 b.2
 
   -- two refusals of one text are one
   same_refusal : (word : List ℕ) (e f : SigText) → AreSameReading (Err e) (Err f) → IsSignatureReply word e text status → IsSignatureReply word f other another → e ≡ f
@@ -132,22 +134,22 @@ module _ (text other : List ℕ) (status another : Status) where
   by_signature_one k words p schemes (Err sig_text.NoMemory) (Ok t) same a b = absurd a
   by_signature_one k words p schemes (Err e) (Ok t) same a b = absurd same
 
-  read_one : (k : ℕ) (words : List (List ℕ)) (p : ProgramTree) (shorts : List Abbreviation) (schemes : List SchemeTree) → ReadAnswer k words p shorts schemes text status → ReadAnswer k words p shorts schemes other another → AreSame
+  read_one : ReadingsAreUnique → (k : ℕ) (words : List (List ℕ)) (p : ProgramTree) (shorts : List Abbreviation) (schemes : List SchemeTree) → ReadAnswer k words p shorts schemes text status → ReadAnswer k words p shorts schemes other another → AreSame
   unfolding ReadAnswer
-  read_one k words p shorts schemes (r, read, a) (q, also, b) =
+  read_one one_reading k words p shorts schemes (r, read, a) (q, also, b) =
       let word = signature_text words in by_signature_one k words p schemes r q (one_reading p shorts (chars word) (length word) r q read also) a b
 
-  signature_one : (k : ℕ) (asked : Asked) (p : ProgramTree) (schemes : List SchemeTree) → SignatureAnswer k asked p schemes text status → SignatureAnswer k asked p schemes other another → AreSame
+  signature_one : ReadingsAreUnique → (k : ℕ) (asked : Asked) (p : ProgramTree) (schemes : List SchemeTree) → SignatureAnswer k asked p schemes text status → SignatureAnswer k asked p schemes other another → AreSame
   unfolding SignatureAnswer
-  signature_one k asked p schemes (shorts, abbreviated, a) (ss, also, b) =
+  signature_one one_reading k asked p schemes (shorts, abbreviated, a) (ss, also, b) =
       let both : Ok shorts ≡ Ok ss = sym abbreviated ∙ also in let same : shorts ≡ ss = cc both in
-      read_one k asked.words p ss schemes (subst (λ x. ReadAnswer k asked.words p x schemes text status) same a) b
+      read_one one_reading k asked.words p ss schemes (subst (λ x. ReadAnswer k asked.words p x schemes text status) same a) b
 
-  by_name_one : (named : Option ℕ) (asked : Asked) (p : ProgramTree) (schemes : List SchemeTree) → MatchOption named (IsUnnamedReply text status) (λ k. SignatureAnswer k asked p schemes text status)
+  by_name_one : ReadingsAreUnique → (named : Option ℕ) (asked : Asked) (p : ProgramTree) (schemes : List SchemeTree) → MatchOption named (IsUnnamedReply text status) (λ k. SignatureAnswer k asked p schemes text status)
       → MatchOption named (IsUnnamedReply other another) (λ k. SignatureAnswer k asked p schemes other another) → AreSame
-  by_name_one None asked p schemes a b = (a.0 ∙ sym b.0, a.1 ∙ sym b.1)
-  by_name_one (Some k) asked p schemes a b = signature_one k asked p schemes a b
+  by_name_one one_reading None asked p schemes a b = (a.0 ∙ sym b.0, a.1 ∙ sym b.1)
+  by_name_one one_reading (Some k) asked p schemes a b = signature_one one_reading k asked p schemes a b
 
-  pub conform_one : (asked : Asked) (p : ProgramTree) (schemes : List SchemeTree) → ConformAnswer asked p schemes text status → ConformAnswer asked p schemes other another → AreSame
+  pub conform_one : ReadingsAreUnique → (asked : Asked) (p : ProgramTree) (schemes : List SchemeTree) → ConformAnswer asked p schemes text status → ConformAnswer asked p schemes other another → AreSame
   unfolding ConformAnswer
-  conform_one asked p schemes a b = by_name_one (number_of (function_names p.functions) (held_name asked.words)) asked p schemes a b
+  conform_one one_reading asked p schemes a b = by_name_one one_reading (number_of (function_names p.functions) (held_name asked.words)) asked p schemes a b

@@ -1,5 +1,5 @@
 // The lines of refused calls and signatures, and of a function that is held to a signature.
-ghost use Rattle.std.specs.Prelude.{◌≡◌, ◌<◌, ◌++◌, IfOk, OnOk, codes, decimal, length, map, string_bytes};
+ghost use Rattle.std.specs.Prelude.{◌≡◌, ◌<◌, ◌+◌, ◌++◌, IfOk, OnOk, codes, decimal, length, map, string_bytes};
 ghost use Rattle.um_tool.specs.CallRefusals.{positioned, argument_label, IsArgumentReply, IsCallReply, IsCallRangeReply};
 ghost use Rattle.um_tool.specs.CallRefusals.{IsUnnamedReply, IsTrapReply, signature_label, IsSignatureReply};
 ghost use Rattle.um_tool.specs.CallRefusals.{difference_line, IsConformReply};

@@ -3,6 +3,7 @@ ghost use Rattle.std.specs.Prelude.{◌≡◌, ◌<◌, ◌≤◌, ℕ, All, Lis
 ghost use Rattle.um_tree.specs.TypeTree.{type_trees};
 ghost use Rattle.um_tree.specs.ProgramTree.{program_tree};
 ghost use Rattle.um_tree.specs.RawTree.{program_syntax};
+ghost use Rattle.um_tree.specs.Formed.{IsFormed};
 ghost use Rattle.um_names.specs.Resolution.{resolved_program};
 ghost use Rattle.um_infer.specs.Answers.{scheme_trees};
 ghost use Rattle.um_infer.specs.Inference.{all_schemes, infer};
@@ -131,7 +132,16 @@ fn answer_matching(
     ensures { IfOk result (λ reply. MatchingAnswer function name.now (program_tree shaped.now)
         (scheme_trees schemes.now) (type_trees signature.now.types) reply.text.items reply.status) }
 {
-    let bases = shaped.program().bases.as_slice().len() as u32;
+    let bases = base_count(shaped);
     let scheme = &schemes.items[function as usize];
     reply_to_matching(alloc, name, conform(alloc, scheme, signature, bases))
+}
+
+/// How many base units the program declares.
+fn base_count(shaped: &Shaped) -> u32
+    ensures count { result ≡ length (program_tree shaped.now).bases }
+    ensures few { result ≤ 16777216 }
+    ensures formed { IsFormed (program_tree shaped.now) }
+{
+    shaped.program().bases.as_slice().len() as u32
 }
