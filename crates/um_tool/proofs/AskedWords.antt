@@ -1,5 +1,5 @@
 -- The words of an order as the code reads them.
-use Rattle.std.proofs.Common.{◌≡◌, ℕ, List, [], length, drop, get_or, chars, slice_get, Some, Result, sym, ap, subst, ◌∙◌}
+use Rattle.std.proofs.Common.{◌≡◌, ℕ, List, [], length, drop, chars, slice_get, Some, Result, sym, subst}
 use Rattle.std.proofs.lemmas.Option.{get_or_from_slice_get}
 use Rattle.um_tree.specs.ProgramTree.{ProgramTree, SchemeTree}
 use Rattle.um_measures.specs.declared.abbreviation.Abbreviation.{Abbreviation}

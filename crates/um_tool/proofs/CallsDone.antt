@@ -1,14 +1,13 @@
 -- A call whose arguments fit a typing, and whose meaning gives a value that can be printed, is done.
-use Rattle.std.proofs.Common.{◌≡◌, ◌⊎◌, ℕ, IsTrue, List, map, Result, Ok, Err, Some, inl, inr, refl, sym, ap, subst, ◌∙◌}
+use Rattle.std.proofs.Common.{◌≡◌, ◌⊎◌, ℕ, List, Result, Ok, Err, Some, inl, inr, sym, subst, ◌∙◌}
 use Rattle.um_tree.specs.RawTree.{DeclSyntax}
-use Rattle.um_tree.specs.ValueTree.{OutcomeTree, value_outcome, without_units}
+use Rattle.um_tree.specs.ValueTree.{value_outcome}
 use Rattle.um_tree.specs.ProgramTree.{ProgramTree, SchemeTree}
 use Rattle.um_tree.specs.Formed.{IsFormed}
 use Rattle.um_tree.specs.Meaning.{outcome_of_call}
 use Rattle.um_measures.specs.declared.abbreviation.Abbreviation.{Abbreviation}
 use Rattle.um_names.specs.Resolution.{resolved_program, resolved_abbreviations}
 use Rattle.um_infer.specs.Inference.{all_schemes, infer}
-use Rattle.um_show.specs.ValueText.{parts_fit}
 use Rattle.um_run.specs.declared.call.CallRefusal.{CallRefusal}
 use Rattle.um_run.specs.declared.call.CallRefusal.TheVariants.{NoMemory}
 use Rattle.um_run.specs.Calls.{CallTree, call_values, IsCallOf}

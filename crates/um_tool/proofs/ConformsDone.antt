@@ -1,5 +1,5 @@
 -- A function each of whose signature's instances is a typing of it conforms, where no power passes the range.
-use Rattle.std.proofs.Common.{◌≡◌, ℕ, List, length, chars, slice_get, Result, Ok, Err, Some, MatchOption, sym, ap, subst, ◌∙◌}
+use Rattle.std.proofs.Common.{◌≡◌, ℕ, List, length, chars, Result, Ok, Err, Some, MatchOption, sym, ap, subst, ◌∙◌}
 use Rattle.um_tree.specs.TypeTree.{TypeTree, type_trees}
 use Rattle.um_tree.specs.ProgramTree.{ProgramTree, SchemeTree}
 use Rattle.um_tree.specs.Formed.{IsFormed}
@@ -15,7 +15,7 @@ use Rattle.um_sig.specs.declared.stop.SigText.{SigText}
 use Rattle.um_sig.specs.declared.stop.SigText.TheVariants as sig_text
 use Rattle.um_sig.specs.declared.stop.SigStop.{SigStop}
 use Rattle.um_sig.specs.declared.stop.SigStop.TheVariants as sig_stop
-use Rattle.um_sig.specs.Reading.{signature_types_of, IsRead, AreClosedUnits, IsSignatureIn}
+use Rattle.um_sig.specs.Reading.{IsRead, AreClosedUnits}
 use Rattle.um_sig.specs.Answers.{IsConformed}
 use Rattle.um_sig.specs.Instances.{AreOverBases, AreAllTypings}
 use Rattle.um_sig.specs.Laws.{AreSameReading, ReadingsAreUnique}
@@ -24,7 +24,7 @@ use Rattle.um_sig.proofs.TypingLaws.{answers_say_what_typings_are}
 use Rattle.um_tool.specs.declared.status.Status.{Status}
 use Rattle.um_tool.specs.declared.status.Status.TheVariants.{Done}
 use Rattle.um_tool.specs.Asked.{Asked, held_name, signature_text}
-use Rattle.um_tool.specs.CallRefusals.{IsUnnamedReply, IsSignatureReply, IsConformReply}
+use Rattle.um_tool.specs.CallRefusals.{IsUnnamedReply, IsConformReply}
 use Rattle.um_tool.specs.ConformAnswer.{ConformAnswer, SignatureAnswer, ReadAnswer, BySignature, MatchingAnswer}
 use Rattle.um_tool.specs.Passing.{HasTypings}
 

@@ -2,8 +2,7 @@
 -- Source: this project's own.
 use Rattle.std.specs.Prelude.{ℕ, ◌<◌}
 use Rattle.um_run.specs.declared.call.CallRefusal.{CallRefusal}
-use Rattle.um_run.specs.declared.call.CallRefusal.TheVariants.{NoFunction, WrongCount, Argument, Units, PowerRange}
-use Rattle.um_run.specs.declared.call.CallRefusal.TheVariants.{Slots, NoMemory}
+use Rattle.um_run.specs.declared.call.CallRefusal.TheVariants.{Argument}
 
 -- of so many texts, the one that a refusal names is there
 abbrev pub NamesText : ℕ → CallRefusal → Type 0

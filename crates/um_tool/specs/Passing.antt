@@ -22,7 +22,7 @@ use Rattle.um_sig.specs.Reading.{IsRead}
 use Rattle.um_sig.specs.Answers.{IsConformed}
 use Rattle.um_sig.specs.Instances.{AreAllTypings}
 use Rattle.um_tool.specs.declared.order.Order.{Order}
-use Rattle.um_tool.specs.declared.order.Order.TheVariants.{Types, Code, Fmt, Eval, Conform}
+use Rattle.um_tool.specs.declared.order.Order.TheVariants.{Fmt, Eval, Conform}
 use Rattle.um_tool.specs.Asked.{called_name, argument_texts, held_name, signature_text}
 
 abbrev pub EachIsTyped : ProgramTree → Type 0

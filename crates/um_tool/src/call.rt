@@ -79,12 +79,7 @@ fn answer_beside(
 }
 
 /// The answer to a call that has a type.
-fn answer_run(
-    alloc: Global,
-    budget: u64,
-    shaped: &Shaped,
-    call: Call,
-) -> Result<Reply, AllocError>
+fn answer_run(alloc: Global, budget: u64, shaped: &Shaped, call: Call) -> Result<Reply, AllocError>
     requires arguments { AreArgumentsOf (program_tree shaped.now) call.function (call_values (call_tree call)) }
     requires budget { budget ≤ 10000000 }
     ensures { IfOk result (λ reply. RunAnswer budget (program_tree shaped.now) (call_tree call)
@@ -115,12 +110,7 @@ fn reply_to_run(
 }
 
 /// The outcome of the call, by the program's tree.
-fn evaluate(
-    alloc: Global,
-    budget: u64,
-    shaped: &Shaped,
-    call: &Call,
-) -> Result<Outcome, AllocError>
+fn evaluate(alloc: Global, budget: u64, shaped: &Shaped, call: &Call) -> Result<Outcome, AllocError>
     requires arguments { AreArgumentsOf (program_tree shaped.now) call.now.function (call_values (call_tree call.now)) }
     requires budget { budget ≤ 10000000 }
     ensures { IfOk result (λ outcome. outcome_of_call (program_tree shaped.now) call.now.function

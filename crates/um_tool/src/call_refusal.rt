@@ -57,11 +57,7 @@ pub(crate) fn reply_to_call(
             reply_line(alloc, "error 11: units of the arguments", Status::Input)
         }
         CallRefusal::PowerRange => reply_to_call_range(alloc),
-        CallRefusal::Slots => reply_line(
-            alloc,
-            "error 6: limit slots in the call",
-            Status::Limit,
-        ),
+        CallRefusal::Slots => reply_line(alloc, "error 6: limit slots in the call", Status::Limit),
         CallRefusal::NoMemory => Err(AllocError),
     }
 }
@@ -132,12 +128,7 @@ pub(crate) fn reply_to_signature(
 }
 
 // A reply of one line that says what is wrong with the text of a signature, and a position in it.
-fn reply_in_signature(
-    alloc: Global,
-    word: &str,
-    fault: &[u8],
-    at: u32,
-) -> Result<Reply, AllocError>
+fn reply_in_signature(alloc: Global, word: &str, fault: &[u8], at: u32) -> Result<Reply, AllocError>
     ensures { IfOk result (λ reply. IsReply reply.text.items reply.status
         (positioned (signature_label fault.now) word.now at) Status.Input) }
 {

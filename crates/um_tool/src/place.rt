@@ -19,7 +19,11 @@ pub(crate) fn push_place(text: &mut Vec<u8>, bytes: &[u8], at: u32) -> Result<()
 pub(crate) fn push_position(text: &mut Vec<u8>, word: &[u8], at: u32) -> Result<(), AllocError>
     ensures { OnOk result (text.new.items ≡ text.old.items ++ decimal (position_behind (take at word.now))) }
 {
-    text.extend_from_slice(itoa::Buffer::new().format(position_of(before(word, at))).as_bytes())
+    text.extend_from_slice(
+        itoa::Buffer::new()
+            .format(position_of(before(word, at)))
+            .as_bytes(),
+    )
 }
 
 /// The bytes before a place.

@@ -87,9 +87,7 @@ fn answer_read(
 {
     let text = words.word(2);
     match read_signature(alloc, text, shaped.program(), shorts) {
-        Ok(signature) => {
-            answer_held(alloc, words.word(1), shaped, schemes, function, signature)
-        }
+        Ok(signature) => { answer_held(alloc, words.word(1), shaped, schemes, function, signature) }
         Err(stop) => reply_to_signature(alloc, text, stop),
     }
 }

@@ -1,5 +1,4 @@
 use Rattle.std.proofs.Common.{Some, ap, ◌∙◌}
-use Rattle.um_tool.specs.declared.order.Order.TheVariants.{Eval, Conform}
 use Rattle.um_tool.proofs.OrderWords.{short_words, call_words, conform_words}
 use Rattle.um_tool.proofs.answer.answer_typed.Goals as goal
 

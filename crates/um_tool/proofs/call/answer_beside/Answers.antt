@@ -3,7 +3,6 @@ use Rattle.std.proofs.lemmas.Result.{IfOk-weaker}
 use Rattle.um_tree.specs.ProgramTree.{program_tree}
 use Rattle.um_infer.specs.Answers.{scheme_trees}
 use Rattle.um_run.specs.Calls.{call_tree}
-use Rattle.um_tool.specs.Asked.{argument_texts}
 use Rattle.um_tool.specs.CallRefusals.{IsCallReply}
 use Rattle.um_tool.specs.CallAnswer.{BesideAnswer, RunAnswer}
 use Rattle.um_tool.proofs.AskedWords.{call_of_words}

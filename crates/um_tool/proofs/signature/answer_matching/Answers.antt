@@ -1,4 +1,4 @@
-use Rattle.std.proofs.Common.{◌≡◌, ◌<◌, length, get_or, slice_get, Some, rules, arith}
+use Rattle.std.proofs.Common.{◌≡◌, ◌<◌, length, get_or, slice_get, Some, subst, rules, arith}
 use Rattle.std.proofs.lemmas.Result.{IfOk-weaker}
 use Rattle.std.proofs.lemmas.List.{length-map}
 use Rattle.um_tree.specs.TypeTree.{type_tree, type_trees}
@@ -7,6 +7,7 @@ use Rattle.um_infer.specs.Answers.{scheme_trees}
 use Rattle.um_infer.proofs.InferenceLaws.{given_schemes_are_principal}
 use Rattle.um_infer.proofs.SmallSchemes.{given_schemes_are_small}
 use Rattle.um_sig.proofs.SignaturesIn.{formed_signatures_are_over_their_variables}
+use Rattle.um_sig.specs.Answers.{IsConformed}
 use Rattle.um_tool.specs.CallRefusals.{IsConformReply}
 use Rattle.um_tool.specs.ConformAnswer.{MatchingAnswer}
 use Rattle.um_tool.proofs.SchemesGiven.{as_many_schemes, scheme_at}
@@ -61,7 +62,9 @@ returns c =
     let below : c.args.function < length ss = omega (arith, many, c.requires.function) in
     let found : s ≡ get_or ss c.args.function s = search rules in
     let at : slice_get (scheme_trees c.args.schemes.now) c.args.function ≡ Some (scheme_tree s) = scheme_at ss c.args.function s below found in
+    let types = type_trees c.args.signature.now.types in
+    let conformed = subst (λ n. IsConformed n (scheme_tree s) types c.conform.result) c.base_count-bases.ensures.count c.conform.ensures.conformed in
     IfOk-weaker c.reply_to_matching.result (λ reply. IsConformReply c.args.name.now c.conform.result reply.text.items reply.status)
-    (λ reply. MatchingAnswer c.args.function c.args.name.now p (scheme_trees c.args.schemes.now) (type_trees c.args.signature.now.types) reply.text.items reply.status)
-    (λ reply says. (scheme_tree s, at, c.conform.result, c.conform.ensures.conformed, says))
+    (λ reply. MatchingAnswer c.args.function c.args.name.now p (scheme_trees c.args.schemes.now) types reply.text.items reply.status)
+    (λ reply says. (scheme_tree s, at, (c.conform.result, conformed, says)))
     c.reply_to_matching.ensures

@@ -6,7 +6,6 @@ use Rattle.um_tree.specs.TypeTree.{type_trees}
 use Rattle.um_tree.specs.ProgramTree.{program_tree}
 use Rattle.um_infer.specs.Answers.{scheme_trees}
 use Rattle.um_sig.specs.Reading.{AreClosedUnits, IsSignatureIn}
-use Rattle.um_tool.specs.Asked.{held_name, signature_text}
 use Rattle.um_tool.specs.CallRefusals.{IsSignatureReply}
 use Rattle.um_tool.specs.ConformAnswer.{ReadAnswer, MatchingAnswer}
 use Rattle.um_tool.proofs.AskedWords.{reading_of_words}
