@@ -1,5 +1,5 @@
 -- Where every step goes through, the answer is done.
-use Rattle.std.proofs.Common.{◌≡◌, sym, subst, ℕ, ◌+◌, ◌<◌, ◌≤◌, ◌⊎◌, List, [], ◌∷◌, length, drop, None, Ok, Err, ◌∙◌, inl, inr, arith}
+use Rattle.std.proofs.Common.{◌≡◌, refl, sym, subst, ℕ, ◌+◌, ◌<◌, ◌≤◌, ◌⊎◌, List, [], ◌∷◌, length, drop, None, Ok, Err, ◌∙◌, inl, inr, arith}
 use Rattle.std.specs.declared.option.Option.{Option}
 use Rattle.std.specs.Str.{chars, IsUtf8, IsValidUpTo}
 use Rattle.std.proofs.lemmas.Bool.{cases_lt}
@@ -42,14 +42,19 @@ use Rattle.um_parse.specs.Parsed.{IsRead, LimitAt, Parsed}
 use Rattle.um_tool.specs.declared.order.Order.{Order}
 use Rattle.um_tool.specs.declared.status.Status.{Status}
 use Rattle.um_tool.specs.declared.status.Status.TheVariants.{Done}
-use Rattle.um_tool.specs.declared.order.Order.TheVariants.{Types, Fmt}
+use Rattle.um_tool.specs.declared.order.Order.TheVariants.{Types, Code, Fmt, Eval, Conform}
 use Rattle.um_tool.specs.declared.order.Intake.{Intake}
 use Rattle.um_tool.specs.declared.order.Intake.TheVariants.{Nothing, Text, Bytes}
-use Rattle.um_tool.specs.Answer.{Asked, Answer, OrderAnswer, IntakeAnswer, LengthAnswer, TokensAnswer, GrammarAnswer, ProgramAnswer, ByLayout, NamesAnswer, ShapesAnswer, SchemesAnswer, ByOrder, InferenceAnswer}
+use Rattle.um_tool.specs.Asked.{Asked}
+use Rattle.um_tool.specs.Answer.{Answer, OrderAnswer, IntakeAnswer, LengthAnswer, TokensAnswer, GrammarAnswer, ProgramAnswer, ByLayout, NamesAnswer, ShapesAnswer, SchemesAnswer, TypedAnswer, ByOrder, InferenceAnswer}
+use Rattle.um_tool.specs.Passing.{EachIsTyped, IsTyped, PassesOn, GoesThrough}
 use Rattle.um_tool.specs.Orders.{intake_of}
 use Rattle.um_tool.specs.Refusals.{IsTextReply, IsParseReply, IsNameReply, IsShapeReply}
 use Rattle.um_tool.specs.Steps.{Cases}
-use Rattle.um_tool.specs.Served.{IsPlanned, IsTakenComplete, IsComplete, EachIsTyped, IsTyped, GoesThrough, IsUndisturbed}
+use Rattle.um_tool.specs.Served.{IsPlanned, IsTakenComplete, IsComplete, IsUndisturbed}
+use Rattle.um_sig.specs.Laws.{ReadingsAreUnique}
+use Rattle.um_tool.proofs.CallsDone.{call_done}
+use Rattle.um_tool.proofs.ConformsDone.{conform_done}
 
 -- what follows a case that doesn't apply
 pub passed : {P Q R : Type 0} → (P → ⊥) → Cases P Q R → R
@@ -95,37 +100,12 @@ program_not_refused tokens ds end (parse_stop.Syntax at) bytes text status read 
 program_not_refused tokens ds end (parse_stop.Limit kind at) bytes text status read refused reply = not_limited tokens ds end kind at read refused
 program_not_refused tokens ds end parse_stop.NoMemory bytes text status read refused reply = reply
 
--- ---- each step in turn
-
--- a program whose functions are typed and pass no limit has its schemes
-inferred_done : (bytes : List ℕ) (p : ProgramTree) (inferred : Inference) (text : List ℕ) (status : Status) → (schemes : List SchemeTree) × (inferred ≡ all_schemes schemes) → InferenceAnswer bytes p inferred text status → status ≡ Done
-inferred_done bytes p (all_schemes others) text status h answer = answer.1
-inferred_done bytes p (stops_at_slots i) text status h answer = absurd (cc h.1)
-inferred_done bytes p (stops_at_range i at) text status h answer = absurd (cc h.1)
-inferred_done bytes p (stops_at_units i row at) text status h answer = absurd (cc h.1)
-inferred_done bytes p (stops_at_not_general i row at) text status h answer = absurd (cc h.1)
-
-by_order_done : (order : Order) (asked : Asked) (p : ProgramTree) (text : List ℕ) (status : Status) → (schemes : List SchemeTree) × (infer p ≡ all_schemes schemes) → ByOrder order asked p (infer p) text status → status ≡ Done
-by_order_done Types asked p text status h answer = inferred_done asked.bytes p (infer p) text status h answer
-by_order_done Fmt asked p text status h reply = reply.1
-
-all_typed : (p : ProgramTree) → EachIsTyped p → AreTyped p (length p.functions)
-all_typed p typed i below = let f = item_at p.functions i below in typed i f.0 f.1
-
-schemes_done : (asked : Asked) (p : ProgramTree) (text : List ℕ) (status : Status) → IsFormed p → EachIsTyped p → (IsLimited (infer p) → ⊥) → SchemesAnswer asked p text status → status ≡ Done
-unfolding SchemesAnswer
-schemes_done asked p text status formed typed unlimited answer =
-    by_order_done asked.order asked p text status ((schemes_are_given_to_typed p formed).1 (all_typed p typed, unlimited)) answer
+-- ---- nor are its shapes, or its names
 
 pub not_refused : (p : ProgramTree) (stop : ShapeStop) (bytes text : List ℕ) (status : Status) → first_fault p ≡ None → IsRefusal (first_fault p) stop → IsShapeReply bytes stop text status → ⊥
 not_refused p (shape_stop.Shape at) bytes text status none some reply = cc (sym none ∙ some)
 not_refused p (shape_stop.Depth at) bytes text status none some reply = cc (sym none ∙ some)
 not_refused p shape_stop.NoMemory bytes text status none some reply = reply
-
-shapes_done : (asked : Asked) (p : ProgramTree) (text : List ℕ) (status : Status) → IsFormed p → first_fault p ≡ None → EachIsTyped p → (IsLimited (infer p) → ⊥) → ShapesAnswer asked p text status → status ≡ Done
-unfolding ShapesAnswer
-shapes_done asked p text status formed faultless typed unlimited (inl (none, answer)) = schemes_done asked p text status formed typed unlimited answer
-shapes_done asked p text status formed faultless typed unlimited (inr (stop, refused, reply)) = absurd (not_refused p stop asked.bytes text status faultless refused reply)
 
 pub not_faulty : (raw : List DeclSyntax) (p : ProgramTree) (stop : NameStop) (bytes text : List ℕ) (status : Status) → resolved_program raw ≡ Ok p → IsFirst (resolved_program raw) stop → IsNameReply bytes stop text status → ⊥
 not_faulty raw p (name_stop.Unknown at) bytes text status ok err reply = cc (sym ok ∙ err)
@@ -135,57 +115,102 @@ not_faulty raw p (name_stop.Hole at) bytes text status ok err reply = cc (sym ok
 not_faulty raw p (name_stop.Range at) bytes text status ok err reply = cc (sym ok ∙ err)
 not_faulty raw p name_stop.NoMemory bytes text status ok err reply = reply
 
-names_done : (asked : Asked) (text : List ℕ) (status : Status) → IsReadable asked.raw → IsTyped asked.raw → NamesAnswer asked text status → status ≡ Done
-unfolding NamesAnswer
-names_done asked text status readable typed (inl (p, resolved, answer)) =
-    let ok : Ok p ≡ Ok typed.program = sym resolved ∙ typed.resolved in
-    let same : p ≡ typed.program = cc ok in
-    let formed = resolution_formed asked.raw typed.program readable typed.resolved in
-    shapes_done asked typed.program text status formed typed.faultless typed.typed typed.unlimited (subst (λ q. ShapesAnswer asked q text status) same answer)
-names_done asked text status readable typed (inr (stop, refused, reply)) =
-    absurd (not_faulty asked.raw typed.program stop asked.bytes text status typed.resolved refused reply)
+-- ---- each step in turn
 
-by_layout_done : (order : Order) (asked : Asked) (text : List ℕ) (status : Status) → IsReadable asked.raw → GoesThrough order asked.raw → ByLayout order asked text status → status ≡ Done
-by_layout_done Fmt asked text status readable goes reply = reply.1
-by_layout_done Types asked text status readable goes answer = names_done asked text status readable goes answer
+-- where the schemes are given, what an order asks beside them
+abbrev IsGiven : Inference → Type 0
+IsGiven inferred = (schemes : List SchemeTree) × (inferred ≡ all_schemes schemes)
 
-program_done : (asked : Asked) (text : List ℕ) (status : Status) → IsReadable asked.raw → GoesThrough asked.order asked.raw → ProgramAnswer asked text status → status ≡ Done
-unfolding ProgramAnswer
-program_done asked text status readable goes answer = by_layout_done asked.order asked text status readable goes answer
+all_typed : (p : ProgramTree) → EachIsTyped p → AreTyped p (length p.functions)
+all_typed p typed i below = let f = item_at p.functions i below in typed i f.0 f.1
 
-grammar_done : (order : Order) (words : List (List ℕ)) (bytes : List ℕ) (tokens : List Token) (ds : List DeclSyntax) (text : List ℕ) (status : Status) → IsReadable ds → IsRead tokens ds → GoesThrough order ds → GrammarAnswer order words bytes tokens text status → status ≡ Done
-unfolding GrammarAnswer
-grammar_done order words bytes tokens ds text status readable read goes (inl (raw, is, answer)) =
-    program_done (record { order = order; words = words; bytes = bytes; raw = raw }) text status
-    (subst IsReadable (is.only ds read.is) readable) (subst (GoesThrough order) (is.only ds read.is) goes) answer
-grammar_done order words bytes tokens ds text status readable read goes (inr (stop, refused, reply)) = absurd (program_not_refused tokens ds (length bytes) stop bytes text status read refused reply)
+module _ (one_reading : ReadingsAreUnique) where
+  by_order_done : (order : Order) (asked : Asked) (p : ProgramTree) (schemes : List SchemeTree) (text : List ℕ) (status : Status) → IsFormed p → resolved_program asked.raw ≡ Ok p → infer p ≡ all_schemes schemes
+      → PassesOn order asked.words asked.raw p → ByOrder order asked p schemes text status → status ≡ Done
+  by_order_done Types asked p schemes text status formed resolved inferred passes reply = reply.1
+  by_order_done Code asked p schemes text status formed resolved inferred passes reply = reply.1
+  by_order_done Fmt asked p schemes text status formed resolved inferred passes reply = reply.1
+  by_order_done (Eval budget) asked p schemes text status formed resolved inferred passes answer = call_done budget asked p schemes text status formed resolved inferred passes answer
+  by_order_done Conform asked p schemes text status formed resolved inferred passes answer = conform_done one_reading asked p schemes text status formed resolved inferred passes answer
 
-tokens_done : (order : Order) (words : List (List ℕ)) (bytes : List ℕ) (tokens : List Token) (ds : List DeclSyntax) (text : List ℕ) (status : Status) → length bytes ≤ 1048576 → IsTextAnswer bytes (Ok tokens) → IsRead tokens ds → GoesThrough order ds → TokensAnswer order words bytes text status → status ≡ Done
-unfolding TokensAnswer
-tokens_done order words bytes tokens ds text status short lexed read goes (inl (others, is, answer)) =
-    let same : others ≡ tokens = unique_tokens (chars bytes) others tokens is.1 lexed.1 in
-    let readable = readable_program bytes tokens ds lexed.0 short lexed.1 read in
-    grammar_done order words bytes others ds text status readable (subst (λ ts. IsRead ts ds) (sym same) read) goes answer
-tokens_done order words bytes tokens ds text status short lexed read goes (inr (stop, refused, reply)) = absurd (text_not_refused bytes tokens stop text status lexed refused reply)
+  -- a program whose functions are typed and pass no limit has its schemes
+  inferred_done : (asked : Asked) (p : ProgramTree) (inferred : Inference) (text : List ℕ) (status : Status) → IsFormed p → resolved_program asked.raw ≡ Ok p → infer p ≡ inferred → IsGiven inferred
+      → PassesOn asked.order asked.words asked.raw p → InferenceAnswer asked p inferred text status → status ≡ Done
+  unfolding TypedAnswer
+  inferred_done asked p (all_schemes schemes) text status formed resolved is h passes answer = by_order_done asked.order asked p schemes text status formed resolved is passes answer
+  inferred_done asked p (stops_at_slots i) text status formed resolved is h passes answer = absurd (cc h.1)
+  inferred_done asked p (stops_at_range i at) text status formed resolved is h passes answer = absurd (cc h.1)
+  inferred_done asked p (stops_at_units i row at) text status formed resolved is h passes answer = absurd (cc h.1)
+  inferred_done asked p (stops_at_not_general i row at) text status formed resolved is h passes answer = absurd (cc h.1)
 
-intake_done : (intake : Intake) (order : Order) (words : List (List ℕ)) (bytes text : List ℕ) (status : Status) → IsTakenComplete intake order bytes → IntakeAnswer intake order words bytes text status → status ≡ Done
-unfolding LengthAnswer
-intake_done Nothing order words bytes text status ok answer = absurd ok
-intake_done Text order words bytes text status ok answer =
-    let long : 1048576 < length bytes → ⊥ = λ h. omega (arith, ok.short) in
-    tokens_done order words bytes ok.tokens ok.raw text status ok.short ok.lexed ok.read ok.goes_through (passed long answer)
-intake_done (Bytes most) order words bytes text status ok answer = absurd ok
+  schemes_done : (asked : Asked) (p : ProgramTree) (text : List ℕ) (status : Status) → IsFormed p → resolved_program asked.raw ≡ Ok p → EachIsTyped p → (IsLimited (infer p) → ⊥)
+      → PassesOn asked.order asked.words asked.raw p → SchemesAnswer asked p text status → status ≡ Done
+  unfolding SchemesAnswer
+  schemes_done asked p text status formed resolved typed unlimited passes answer =
+      inferred_done asked p (infer p) text status formed resolved refl ((schemes_are_given_to_typed p formed).1 (all_typed p typed, unlimited)) passes answer
 
-pub Answer-complete : (words : List (List ℕ)) (bytes text : List ℕ) (status : Status) → IsComplete words bytes → Answer words bytes text status → status ≡ Done
-unfolding Answer OrderAnswer
-Answer-complete words bytes text status ok answer =
-    let ordered : OrderAnswer words bytes text status = passed ok.asks.built answer in
-    let given : IntakeAnswer (intake_of ok.order) ok.order words bytes text status = rw ok.asks.ordered at ordered in
-    let taken : IntakeAnswer ok.intake ok.order words bytes text status = rw ok.asks.takes at given in
-    intake_done ok.intake ok.order words bytes text status ok.taken taken
+  shapes_done : (asked : Asked) (p : ProgramTree) (text : List ℕ) (status : Status) → IsFormed p → resolved_program asked.raw ≡ Ok p → first_fault p ≡ None → EachIsTyped p → (IsLimited (infer p) → ⊥)
+      → PassesOn asked.order asked.words asked.raw p → ShapesAnswer asked p text status → status ≡ Done
+  unfolding ShapesAnswer
+  shapes_done asked p text status formed resolved faultless typed unlimited passes (inl (none, answer)) = schemes_done asked p text status formed resolved typed unlimited passes answer
+  shapes_done asked p text status formed resolved faultless typed unlimited passes (inr (stop, refused, reply)) = absurd (not_refused p stop asked.bytes text status faultless refused reply)
 
-pub planned_complete : (words : List (List ℕ)) (left : Option (List ℕ)) (before now : ℕ) (text : List ℕ) (status : Status) → IsPlanned words left before now text status → IsUndisturbed words left before now → status ≡ Done
-planned_complete words left before now text status (inl (bytes, told, answer)) ok =
-    let same : ok.bytes ≡ bytes = rw ok.told at told in
-    Answer-complete words ok.bytes text status ok.complete (rw same answer)
-planned_complete words left before now text status (inr (reply, reads, rose)) ok = absurd (ok.calm rose)
+  names_done : (asked : Asked) (text : List ℕ) (status : Status) → IsReadable asked.raw → (typed : IsTyped asked.raw) → PassesOn asked.order asked.words asked.raw typed.program → NamesAnswer asked text status → status ≡ Done
+  unfolding NamesAnswer
+  names_done asked text status readable typed passes (inl (p, resolved, answer)) =
+      let ok : Ok p ≡ Ok typed.program = sym resolved ∙ typed.resolved in
+      let same : p ≡ typed.program = cc ok in
+      let formed = resolution_formed asked.raw typed.program readable typed.resolved in
+      shapes_done asked typed.program text status formed typed.resolved typed.faultless typed.typed typed.unlimited passes (subst (λ q. ShapesAnswer asked q text status) same answer)
+  names_done asked text status readable typed passes (inr (stop, refused, reply)) =
+      absurd (not_faulty asked.raw typed.program stop asked.bytes text status typed.resolved refused reply)
+
+  by_layout_done : (order : Order) (words : List (List ℕ)) (bytes : List ℕ) (raw : List DeclSyntax) (text : List ℕ) (status : Status) → IsReadable raw → GoesThrough order words raw
+      → ByLayout order (record { order = order; words = words; bytes = bytes; raw = raw }) text status → status ≡ Done
+  by_layout_done Fmt words bytes raw text status readable goes reply = reply.1
+  by_layout_done Types words bytes raw text status readable (typed, passes) answer = names_done (record { order = Types; words = words; bytes = bytes; raw = raw }) text status readable typed passes answer
+  by_layout_done Code words bytes raw text status readable (typed, passes) answer = names_done (record { order = Code; words = words; bytes = bytes; raw = raw }) text status readable typed passes answer
+  by_layout_done (Eval budget) words bytes raw text status readable (typed, passes) answer = names_done (record { order = Eval budget; words = words; bytes = bytes; raw = raw }) text status readable typed passes answer
+  by_layout_done Conform words bytes raw text status readable (typed, passes) answer = names_done (record { order = Conform; words = words; bytes = bytes; raw = raw }) text status readable typed passes answer
+
+  program_done : (order : Order) (words : List (List ℕ)) (bytes : List ℕ) (raw : List DeclSyntax) (text : List ℕ) (status : Status) → IsReadable raw → GoesThrough order words raw
+      → ProgramAnswer (record { order = order; words = words; bytes = bytes; raw = raw }) text status → status ≡ Done
+  unfolding ProgramAnswer
+  program_done order words bytes raw text status readable goes answer = by_layout_done order words bytes raw text status readable goes answer
+
+  grammar_done : (order : Order) (words : List (List ℕ)) (bytes : List ℕ) (tokens : List Token) (ds : List DeclSyntax) (text : List ℕ) (status : Status) → IsReadable ds → IsRead tokens ds → GoesThrough order words ds → GrammarAnswer order words bytes tokens text status → status ≡ Done
+  unfolding GrammarAnswer
+  grammar_done order words bytes tokens ds text status readable read goes (inl (raw, is, answer)) =
+      program_done order words bytes raw text status
+      (subst IsReadable (is.only ds read.is) readable) (subst (GoesThrough order words) (is.only ds read.is) goes) answer
+  grammar_done order words bytes tokens ds text status readable read goes (inr (stop, refused, reply)) = absurd (program_not_refused tokens ds (length bytes) stop bytes text status read refused reply)
+
+  tokens_done : (order : Order) (words : List (List ℕ)) (bytes : List ℕ) (tokens : List Token) (ds : List DeclSyntax) (text : List ℕ) (status : Status) → length bytes ≤ 1048576 → IsTextAnswer bytes (Ok tokens) → IsRead tokens ds → GoesThrough order words ds → TokensAnswer order words bytes text status → status ≡ Done
+  unfolding TokensAnswer
+  tokens_done order words bytes tokens ds text status short lexed read goes (inl (others, is, answer)) =
+      let same : others ≡ tokens = unique_tokens (chars bytes) others tokens is.1 lexed.1 in
+      let readable = readable_program bytes tokens ds lexed.0 short lexed.1 read in
+      grammar_done order words bytes others ds text status readable (subst (λ ts. IsRead ts ds) (sym same) read) goes answer
+  tokens_done order words bytes tokens ds text status short lexed read goes (inr (stop, refused, reply)) = absurd (text_not_refused bytes tokens stop text status lexed refused reply)
+
+  intake_done : (intake : Intake) (order : Order) (words : List (List ℕ)) (bytes text : List ℕ) (status : Status) → IsTakenComplete intake order words bytes → IntakeAnswer intake order words bytes text status → status ≡ Done
+  unfolding LengthAnswer
+  intake_done Nothing order words bytes text status ok answer = absurd ok
+  intake_done Text order words bytes text status ok answer =
+      let long : 1048576 < length bytes → ⊥ = λ h. omega (arith, ok.short) in
+      tokens_done order words bytes ok.tokens ok.raw text status ok.short ok.lexed ok.read ok.goes_through (passed long answer)
+  intake_done (Bytes most) order words bytes text status ok answer = absurd ok
+
+  pub Answer-complete : (words : List (List ℕ)) (bytes text : List ℕ) (status : Status) → IsComplete words bytes → Answer words bytes text status → status ≡ Done
+  unfolding Answer OrderAnswer
+  Answer-complete words bytes text status ok answer =
+      let ordered : OrderAnswer words bytes text status = passed ok.asks.built answer in
+      let given : IntakeAnswer (intake_of ok.order) ok.order words bytes text status = rw ok.asks.ordered at ordered in
+      let taken : IntakeAnswer ok.intake ok.order words bytes text status = rw ok.asks.takes at given in
+      intake_done ok.intake ok.order words bytes text status ok.taken taken
+
+  pub planned_complete : (words : List (List ℕ)) (left : Option (List ℕ)) (before now : ℕ) (text : List ℕ) (status : Status) → IsPlanned words left before now text status → IsUndisturbed words left before now → status ≡ Done
+  planned_complete words left before now text status (inl (bytes, told, answer)) ok =
+      let same : ok.bytes ≡ bytes = rw ok.told at told in
+      Answer-complete words ok.bytes text status ok.complete (rw same answer)
+  planned_complete words left before now text status (inr (reply, reads, rose)) ok = absurd (ok.calm rose)

@@ -1,7 +1,16 @@
 pub mod Statuses
 pub mod Serving
+pub mod OrderWords
+pub mod CallsDone
+pub mod ConformsDone
 pub mod Complete
 pub mod PlaceLaws
+pub mod Reached
 pub mod PrintedSchemes
+pub mod CallsMeant
+pub mod UniqueReplies
 pub mod UniqueAnswers
 pub mod SchemesPrinted
+pub mod CodeEntries
+pub mod AskedWords
+pub mod SchemesGiven

@@ -23,11 +23,15 @@ use Rattle.um_shape.specs.declared.stop.ShapeStop.{ShapeStop}
 use Rattle.um_shape.specs.declared.stop.ShapeStop.TheVariants as shape_stop
 use Rattle.um_shape.specs.FirstFault.{ShapeFault, wrong_shape, too_deep, first_fault}
 use Rattle.um_shape.specs.ShapedProgram.{IsRefusal}
-use Rattle.um_tree.specs.ProgramTree.{FunctionTree, ProgramTree}
+use Rattle.um_tree.specs.ProgramTree.{FunctionTree, ProgramTree, SchemeTree}
+use Rattle.um_tree.specs.Formed.{IsFormed}
+use Rattle.um_names.specs.Readable.{IsReadable}
+use Rattle.um_names.proofs.FormedPrograms.{resolution_formed}
+use Rattle.um_readable.proofs.TextBytes.{readable_program}
 use Rattle.um_infer.specs.Inference.{Inference, all_schemes, stops_at_slots, stops_at_range, stops_at_units, stops_at_not_general, infer}
 use Rattle.um_types.specs.declared.parse.LimitKind.TheVariants as limit
 use Rattle.um_tool.specs.declared.order.Order.{Order}
-use Rattle.um_tool.specs.declared.order.Order.TheVariants.{Types, Fmt}
+use Rattle.um_tool.specs.declared.order.Order.TheVariants.{Types, Code, Fmt, Eval, Conform}
 use Rattle.um_tool.specs.declared.order.Intake.{Intake}
 use Rattle.um_tool.specs.declared.order.Intake.TheVariants.{Nothing, Text, Bytes}
 use Rattle.um_tool.specs.declared.status.Status.{Status}
@@ -35,10 +39,14 @@ use Rattle.um_tool.specs.declared.status.Status.TheVariants.{Usage, Utf8, Lexica
 use Rattle.um_tool.specs.Steps.{line, IsReply}
 use Rattle.um_tool.specs.Orders.{order_of, intake_of}
 use Rattle.um_tool.specs.Refusals.{placed, limit_label, IsTextReply, IsParseReply, IsNameReply, IsShapeReply}
-use Rattle.um_tool.specs.Answer.{Asked, Answer, OrderAnswer, IntakeAnswer, LengthAnswer, TokensAnswer, GrammarAnswer, ProgramAnswer, ByLayout, NamesAnswer, ShapesAnswer, SchemesAnswer, ByOrder, InferenceAnswer, OfFunction}
+use Rattle.um_tool.specs.Asked.{Asked}
+use Rattle.um_tool.specs.Answer.{Answer, OrderAnswer, IntakeAnswer, LengthAnswer, TokensAnswer, GrammarAnswer, ProgramAnswer, ByLayout, NamesAnswer, ShapesAnswer, SchemesAnswer, TypedAnswer, ByOrder, InferenceAnswer, OfFunction}
+use Rattle.um_sig.specs.Laws.{ReadingsAreUnique}
 use Rattle.um_tool.specs.Laws.{AnswersAreUnique}
 use Rattle.um_tool.proofs.Complete.{not_utf8, text_not_refused, program_not_refused, not_refused, not_faulty}
+use Rattle.um_tool.proofs.Reached.{within}
 use Rattle.um_tool.proofs.PrintedSchemes.{one_function}
+use Rattle.um_tool.proofs.UniqueReplies.{call_one, conform_one}
 
 one_reply : (text other wanted : List ℕ) (status another meant : Status) → IsReply text status wanted meant → IsReply other another wanted meant → (text ≡ other) × (status ≡ another)
 one_reply text other wanted status another meant a b = (a.0 ∙ sym b.0, a.1 ∙ sym b.1)
@@ -103,7 +111,7 @@ module _ (bytes text : List ℕ) (status : Status) where
   text_told (text_stop.PowerText at) is reply = inr (lex_stop.PowerText at, is.0, is.1, reply)
   text_told text_stop.NoMemory is reply = absurd reply
 
-module _ (one_answer : ParsesAreUnique) (text other : List ℕ) (status another : Status) where
+module _ (one_answer : ParsesAreUnique) (one_reading : ReadingsAreUnique) (text other : List ℕ) (status another : Status) where
   -- ---- a refusal of the characters is one
   longest_valid : (bytes : List ℕ) (at place : ℕ) → IsValidUpTo bytes at → IsValidUpTo bytes place → at ≡ place
   longest_valid bytes at place a b = by (cases_lt at place) (cases_lt place at)
@@ -139,20 +147,24 @@ module _ (one_answer : ParsesAreUnique) (text other : List ℕ) (status another 
   of_one_function : (p : ProgramTree) (i : ℕ) (Says Tells : FunctionTree → Type 0) → ((f : FunctionTree) → Says f → Tells f → (text ≡ other) × (status ≡ another)) → OfFunction p i Says → OfFunction p i Tells → (text ≡ other) × (status ≡ another)
   of_one_function p i Says Tells one (f, declared, a) (g, is, b) = one g (subst Says (one_function p i f g declared is) a) b
 
-  inference_one : (bytes : List ℕ) (p : ProgramTree) (inferred : Inference) → InferenceAnswer bytes p inferred text status → InferenceAnswer bytes p inferred other another → (text ≡ other) × (status ≡ another)
-  inference_one bytes p (all_schemes schemes) a b = (a.0 ∙ sym b.0, a.1 ∙ sym b.1)
-  inference_one bytes p (stops_at_slots i) a b = of_one_function p i _ _ (λ f x y. (x.0 ∙ sym y.0, x.1 ∙ sym y.1)) a b
-  inference_one bytes p (stops_at_range i at) a b = of_one_function p i _ _ (λ f x y. (x.0 ∙ sym y.0, x.1 ∙ sym y.1)) a b
-  inference_one bytes p (stops_at_units i row at) a b = of_one_function p i _ _ (λ f x y. (x.0 ∙ sym y.0, x.1 ∙ sym y.1)) a b
-  inference_one bytes p (stops_at_not_general i row at) a b = of_one_function p i _ _ (λ f x y. (x.0 ∙ sym y.0, x.1 ∙ sym y.1)) a b
+  by_order_one : (order : Order) (asked : Asked) (p : ProgramTree) (schemes : List SchemeTree) → IsFormed p → ByOrder order asked p schemes text status → ByOrder order asked p schemes other another → (text ≡ other) × (status ≡ another)
+  by_order_one Types asked p schemes formed a b = (a.0 ∙ sym b.0, a.1 ∙ sym b.1)
+  by_order_one Code asked p schemes formed a b = (a.0 ∙ sym b.0, a.1 ∙ sym b.1)
+  by_order_one Fmt asked p schemes formed a b = (a.0 ∙ sym b.0, a.1 ∙ sym b.1)
+  by_order_one (Eval budget) asked p schemes formed a b = call_one text other status another budget asked p schemes formed a b
+  by_order_one Conform asked p schemes formed a b = conform_one text other status another one_reading asked p schemes a b
 
-  by_order_one : (order : Order) (asked : Asked) (p : ProgramTree) → ByOrder order asked p (infer p) text status → ByOrder order asked p (infer p) other another → (text ≡ other) × (status ≡ another)
-  by_order_one Types asked p a b = inference_one asked.bytes p (infer p) a b
-  by_order_one Fmt asked p a b = (a.0 ∙ sym b.0, a.1 ∙ sym b.1)
+  inference_one : (asked : Asked) (p : ProgramTree) (inferred : Inference) → IsFormed p → InferenceAnswer asked p inferred text status → InferenceAnswer asked p inferred other another → (text ≡ other) × (status ≡ another)
+  unfolding TypedAnswer
+  inference_one asked p (all_schemes schemes) formed a b = by_order_one asked.order asked p schemes formed a b
+  inference_one asked p (stops_at_slots i) formed a b = of_one_function p i _ _ (λ f x y. (x.0 ∙ sym y.0, x.1 ∙ sym y.1)) a b
+  inference_one asked p (stops_at_range i at) formed a b = of_one_function p i _ _ (λ f x y. (x.0 ∙ sym y.0, x.1 ∙ sym y.1)) a b
+  inference_one asked p (stops_at_units i row at) formed a b = of_one_function p i _ _ (λ f x y. (x.0 ∙ sym y.0, x.1 ∙ sym y.1)) a b
+  inference_one asked p (stops_at_not_general i row at) formed a b = of_one_function p i _ _ (λ f x y. (x.0 ∙ sym y.0, x.1 ∙ sym y.1)) a b
 
-  schemes_one : (asked : Asked) (p : ProgramTree) → SchemesAnswer asked p text status → SchemesAnswer asked p other another → (text ≡ other) × (status ≡ another)
+  schemes_one : (asked : Asked) (p : ProgramTree) → IsFormed p → SchemesAnswer asked p text status → SchemesAnswer asked p other another → (text ≡ other) × (status ≡ another)
   unfolding SchemesAnswer
-  schemes_one asked p a b = by_order_one asked.order asked p a b
+  schemes_one asked p formed a b = inference_one asked p (infer p) formed a b
 
   one_shape_refusal : (bytes : List ℕ) (found : Option ShapeFault) (stop sort : ShapeStop) → IsRefusal found stop → IsShapeReply bytes stop text status → IsRefusal found sort → IsShapeReply bytes sort other another → (text ≡ other) × (status ≡ another)
   one_shape_refusal bytes found stop sort is a also b =
@@ -160,12 +172,12 @@ module _ (one_answer : ParsesAreUnique) (text other : List ℕ) (status another 
       let e : Some x.0 ≡ Some y.0 = sym x.1 ∙ y.1 in let same : x.0 ≡ y.0 = cc e in
       let c = subst (λ f. IsReply text status (shape_line bytes text status f) (shape_status bytes text status f)) same x.2 in (c.0 ∙ sym y.2.0, c.1 ∙ sym y.2.1)
 
-  shapes_one : (asked : Asked) (p : ProgramTree) → ShapesAnswer asked p text status → ShapesAnswer asked p other another → (text ≡ other) × (status ≡ another)
+  shapes_one : (asked : Asked) (p : ProgramTree) → IsFormed p → ShapesAnswer asked p text status → ShapesAnswer asked p other another → (text ≡ other) × (status ≡ another)
   unfolding ShapesAnswer
-  shapes_one asked p (inl (faultless, a)) (inl (also, b)) = schemes_one asked p a b
-  shapes_one asked p (inl (faultless, a)) (inr (stop, refused, reply)) = absurd (not_refused p stop asked.bytes other another faultless refused reply)
-  shapes_one asked p (inr (stop, refused, reply)) (inl (faultless, b)) = absurd (not_refused p stop asked.bytes text status faultless refused reply)
-  shapes_one asked p (inr (stop, refused, reply)) (inr (sort, also, told)) = one_shape_refusal asked.bytes (first_fault p) stop sort refused reply also told
+  shapes_one asked p formed (inl (faultless, a)) (inl (also, b)) = schemes_one asked p formed a b
+  shapes_one asked p formed (inl (faultless, a)) (inr (stop, refused, reply)) = absurd (not_refused p stop asked.bytes other another faultless refused reply)
+  shapes_one asked p formed (inr (stop, refused, reply)) (inl (faultless, b)) = absurd (not_refused p stop asked.bytes text status faultless refused reply)
+  shapes_one asked p formed (inr (stop, refused, reply)) (inr (sort, also, told)) = one_shape_refusal asked.bytes (first_fault p) stop sort refused reply also told
 
   one_name_refusal : (bytes : List ℕ) (found : Found ProgramTree) (stop sort : NameStop) → IsFirst found stop → IsNameReply bytes stop text status → IsFirst found sort → IsNameReply bytes sort other another → (text ≡ other) × (status ≡ another)
   one_name_refusal bytes found stop sort is a also b =
@@ -173,40 +185,43 @@ module _ (one_answer : ParsesAreUnique) (text other : List ℕ) (status another 
       let e : Err x.0 ≡ Err y.0 = sym x.1 ∙ y.1 in let same : x.0 ≡ y.0 = cc e in
       let c = subst (λ f. IsReply text status (name_line bytes text status f) (name_status bytes text status f)) same x.2 in (c.0 ∙ sym y.2.0, c.1 ∙ sym y.2.1)
 
-  names_one : (asked : Asked) → NamesAnswer asked text status → NamesAnswer asked other another → (text ≡ other) × (status ≡ another)
+  names_one : (asked : Asked) → IsReadable asked.raw → NamesAnswer asked text status → NamesAnswer asked other another → (text ≡ other) × (status ≡ another)
   unfolding NamesAnswer
-  names_one asked (inl (p, resolved, a)) (inl (q, is, b)) =
+  names_one asked readable (inl (p, resolved, a)) (inl (q, is, b)) =
       let e : Ok p ≡ Ok q = sym resolved ∙ is in let same : p ≡ q = cc e in
-      shapes_one asked q (subst (λ r. ShapesAnswer asked r text status) same a) b
-  names_one asked (inl (p, resolved, a)) (inr (stop, refused, reply)) = absurd (not_faulty asked.raw p stop asked.bytes other another resolved refused reply)
-  names_one asked (inr (stop, refused, reply)) (inl (q, is, b)) = absurd (not_faulty asked.raw q stop asked.bytes text status is refused reply)
-  names_one asked (inr (stop, refused, reply)) (inr (sort, also, told)) = one_name_refusal asked.bytes (resolved_program asked.raw) stop sort refused reply also told
+      shapes_one asked q (resolution_formed asked.raw q readable is) (subst (λ r. ShapesAnswer asked r text status) same a) b
+  names_one asked readable (inl (p, resolved, a)) (inr (stop, refused, reply)) = absurd (not_faulty asked.raw p stop asked.bytes other another resolved refused reply)
+  names_one asked readable (inr (stop, refused, reply)) (inl (q, is, b)) = absurd (not_faulty asked.raw q stop asked.bytes text status is refused reply)
+  names_one asked readable (inr (stop, refused, reply)) (inr (sort, also, told)) = one_name_refusal asked.bytes (resolved_program asked.raw) stop sort refused reply also told
 
-  by_layout_one : (order : Order) (asked : Asked) → ByLayout order asked text status → ByLayout order asked other another → (text ≡ other) × (status ≡ another)
-  by_layout_one Fmt asked a b = (a.0 ∙ sym b.0, a.1 ∙ sym b.1)
-  by_layout_one Types asked a b = names_one asked a b
+  by_layout_one : (order : Order) (asked : Asked) → IsReadable asked.raw → ByLayout order asked text status → ByLayout order asked other another → (text ≡ other) × (status ≡ another)
+  by_layout_one Fmt asked readable a b = (a.0 ∙ sym b.0, a.1 ∙ sym b.1)
+  by_layout_one Types asked readable a b = names_one asked readable a b
+  by_layout_one Code asked readable a b = names_one asked readable a b
+  by_layout_one (Eval budget) asked readable a b = names_one asked readable a b
+  by_layout_one Conform asked readable a b = names_one asked readable a b
 
-  program_one : (asked : Asked) → ProgramAnswer asked text status → ProgramAnswer asked other another → (text ≡ other) × (status ≡ another)
+  program_one : (asked : Asked) → IsReadable asked.raw → ProgramAnswer asked text status → ProgramAnswer asked other another → (text ≡ other) × (status ≡ another)
   unfolding ProgramAnswer
-  program_one asked a b = by_layout_one asked.order asked a b
+  program_one asked readable a b = by_layout_one asked.order asked readable a b
 
-  grammar_one : (order : Order) (words : List (List ℕ)) (bytes : List ℕ) (tokens : List Token) → GrammarAnswer order words bytes tokens text status → GrammarAnswer order words bytes tokens other another → (text ≡ other) × (status ≡ another)
+  grammar_one : (order : Order) (words : List (List ℕ)) (bytes : List ℕ) (tokens : List Token) → length bytes ≤ 1048576 → IsTextAnswer bytes (Ok tokens) → GrammarAnswer order words bytes tokens text status → GrammarAnswer order words bytes tokens other another → (text ≡ other) × (status ≡ another)
   unfolding GrammarAnswer
-  grammar_one order words bytes tokens (inl (raw, read, a)) (inl (ds, is, b)) =
-      program_one (record { order = order; words = words; bytes = bytes; raw = ds })
+  grammar_one order words bytes tokens short lexed (inl (raw, read, a)) (inl (ds, is, b)) =
+      program_one (record { order = order; words = words; bytes = bytes; raw = ds }) (readable_program bytes tokens ds lexed.0 short lexed.1 is)
       (subst (λ es. ProgramAnswer (record { order = order; words = words; bytes = bytes; raw = es }) text status) (is.only raw read.is) a) b
-  grammar_one order words bytes tokens (inl (raw, read, a)) (inr (stop, refused, reply)) = absurd (program_not_refused tokens raw (length bytes) stop bytes other another read refused reply)
-  grammar_one order words bytes tokens (inr (stop, refused, reply)) (inl (ds, is, b)) = absurd (program_not_refused tokens ds (length bytes) stop bytes text status is refused reply)
-  grammar_one order words bytes tokens (inr (stop, refused, reply)) (inr (sort, also, told)) =
+  grammar_one order words bytes tokens short lexed (inl (raw, read, a)) (inr (stop, refused, reply)) = absurd (program_not_refused tokens raw (length bytes) stop bytes other another read refused reply)
+  grammar_one order words bytes tokens short lexed (inr (stop, refused, reply)) (inl (ds, is, b)) = absurd (program_not_refused tokens ds (length bytes) stop bytes text status is refused reply)
+  grammar_one order words bytes tokens short lexed (inr (stop, refused, reply)) (inr (sort, also, told)) =
       one_parse_refusal bytes stop sort (one_answer tokens (length bytes) (Err stop) (Err sort) refused also) reply told
 
-  tokens_one : (order : Order) (words : List (List ℕ)) (bytes : List ℕ) → TokensAnswer order words bytes text status → TokensAnswer order words bytes other another → (text ≡ other) × (status ≡ another)
+  tokens_one : (order : Order) (words : List (List ℕ)) (bytes : List ℕ) → length bytes ≤ 1048576 → TokensAnswer order words bytes text status → TokensAnswer order words bytes other another → (text ≡ other) × (status ≡ another)
   unfolding TokensAnswer
-  tokens_one order words bytes (inl (tokens, lexed, a)) (inl (ts, is, b)) =
-      grammar_one order words bytes ts (subst (λ us. GrammarAnswer order words bytes us text status) (unique_tokens (chars bytes) tokens ts lexed.1 is.1) a) b
-  tokens_one order words bytes (inl (tokens, lexed, a)) (inr (stop, refused, reply)) = absurd (text_not_refused bytes tokens stop other another lexed refused reply)
-  tokens_one order words bytes (inr (stop, refused, reply)) (inl (ts, is, b)) = absurd (text_not_refused bytes ts stop text status is refused reply)
-  tokens_one order words bytes (inr (stop, refused, reply)) (inr (sort, also, told)) =
+  tokens_one order words bytes short (inl (tokens, lexed, a)) (inl (ts, is, b)) =
+      grammar_one order words bytes ts short is (subst (λ us. GrammarAnswer order words bytes us text status) (unique_tokens (chars bytes) tokens ts lexed.1 is.1) a) b
+  tokens_one order words bytes short (inl (tokens, lexed, a)) (inr (stop, refused, reply)) = absurd (text_not_refused bytes tokens stop other another lexed refused reply)
+  tokens_one order words bytes short (inr (stop, refused, reply)) (inl (ts, is, b)) = absurd (text_not_refused bytes ts stop text status is refused reply)
+  tokens_one order words bytes short (inr (stop, refused, reply)) (inr (sort, also, told)) =
       one_text_refusal bytes (text_told bytes text status stop refused reply) (text_told bytes other another sort also told)
 
   length_one : (order : Order) (words : List (List ℕ)) (bytes : List ℕ) → LengthAnswer order words bytes text status → LengthAnswer order words bytes other another → (text ≡ other) × (status ≡ another)
@@ -214,7 +229,7 @@ module _ (one_answer : ParsesAreUnique) (text other : List ℕ) (status another 
   length_one order words bytes (inl (long, a)) (inl (also, b)) = (a.0 ∙ sym b.0, a.1 ∙ sym b.1)
   length_one order words bytes (inl (long, a)) (inr (short, b)) = absurd (short long)
   length_one order words bytes (inr (short, a)) (inl (long, b)) = absurd (short long)
-  length_one order words bytes (inr (short, a)) (inr (also, b)) = tokens_one order words bytes a b
+  length_one order words bytes (inr (short, a)) (inr (also, b)) = tokens_one order words bytes (within (length bytes) short) a b
 
   intake_one : (intake : Intake) (order : Order) (words : List (List ℕ)) (bytes : List ℕ) → IntakeAnswer intake order words bytes text status → IntakeAnswer intake order words bytes other another → (text ≡ other) × (status ≡ another)
   intake_one Nothing order words bytes a b = (a.0 ∙ sym b.0, a.1 ∙ sym b.1)
@@ -230,10 +245,10 @@ module _ (one_answer : ParsesAreUnique) (text other : List ℕ) (status another 
   unfolding OrderAnswer
   order_one words bytes a b = ordered_one (order_of words) words bytes a b
 
--- where `parse` has one answer to each list of tokens
-pub answers_are_one : ParsesAreUnique → AnswersAreUnique
+-- where `parse` has one answer to each list of tokens, and the text of a signature one reading
+pub answers_are_one : ParsesAreUnique → ReadingsAreUnique → AnswersAreUnique
 unfolding Answer
-answers_are_one one words bytes text other status another (inl (unbuilt, a)) (inl (also, b)) = (a.0 ∙ sym b.0, a.1 ∙ sym b.1)
-answers_are_one one words bytes text other status another (inl (unbuilt, a)) (inr (built, b)) = absurd (built unbuilt)
-answers_are_one one words bytes text other status another (inr (built, a)) (inl (unbuilt, b)) = absurd (built unbuilt)
-answers_are_one one words bytes text other status another (inr (built, a)) (inr (also, b)) = order_one one text other status another words bytes a b
+answers_are_one one one_reading words bytes text other status another (inl (unbuilt, a)) (inl (also, b)) = (a.0 ∙ sym b.0, a.1 ∙ sym b.1)
+answers_are_one one one_reading words bytes text other status another (inl (unbuilt, a)) (inr (built, b)) = absurd (built unbuilt)
+answers_are_one one one_reading words bytes text other status another (inr (built, a)) (inl (unbuilt, b)) = absurd (built unbuilt)
+answers_are_one one one_reading words bytes text other status another (inr (built, a)) (inr (also, b)) = order_one one one_reading text other status another words bytes a b

@@ -3,7 +3,7 @@
 -- Source: this project's own.
 use Rattle.std.specs.Prelude.{ℕ, ◌<◌, ◌≡◌, ◌⊎◌, List, length, codes, slice_get, MatchOption, Some, None, Ok, Err}
 use Rattle.um_tool.specs.declared.order.Order.{Order}
-use Rattle.um_tool.specs.declared.order.Order.TheVariants.{Types, Fmt}
+use Rattle.um_tool.specs.declared.order.Order.TheVariants.{Types, Code, Fmt, Eval, Conform}
 use Rattle.um_tool.specs.declared.order.Intake.{Intake}
 use Rattle.um_tool.specs.declared.order.Intake.TheVariants.{Nothing, Text, Bytes}
 use Rattle.um_tool.specs.declared.status.Status.{Status}
@@ -13,7 +13,7 @@ use Rattle.um_syntax.specs.declared.token.TextStop.{TextStop}
 use Rattle.um_syntax.specs.Feeding.{IsTextAnswer}
 use Rattle.um_types.specs.declared.parse.ParseStop.{ParseStop}
 use Rattle.um_tree.specs.RawTree.{DeclSyntax}
-use Rattle.um_tree.specs.ProgramTree.{FunctionTree, ProgramTree}
+use Rattle.um_tree.specs.ProgramTree.{FunctionTree, ProgramTree, SchemeTree}
 use Rattle.um_parse.specs.Parsed.{IsRead, Parsed}
 use Rattle.um_measures.specs.declared.stop.NameStop.{NameStop}
 use Rattle.um_measures.specs.Stops.{IsFirst}
@@ -24,18 +24,16 @@ use Rattle.um_shape.specs.ShapedProgram.{IsRefusal}
 use Rattle.um_infer.specs.Inference.{Inference, all_schemes, stops_at_slots, stops_at_range, stops_at_units}
 use Rattle.um_infer.specs.Inference.{stops_at_not_general, infer}
 use Rattle.um_show.specs.Layout.{layout}
+use Rattle.um_gen.specs.ProgramCode.{program_code}
+use Rattle.um_code.specs.Listing.{listing_text}
+use Rattle.um_tool.specs.Asked.{Asked}
+use Rattle.um_tool.specs.CallAnswer.{CallAnswer}
+use Rattle.um_tool.specs.ConformAnswer.{ConformAnswer}
 use Rattle.um_tool.specs.Orders.{order_of, intake_of, NamesUnbuilt}
 use Rattle.um_tool.specs.Refusals.{IsTextReply, IsParseReply, IsNameReply, IsShapeReply, IsSlotsReply, IsRangeReply}
 use Rattle.um_tool.specs.Refusals.{IsUnitsReply, IsNotGeneralReply}
 use Rattle.um_tool.specs.SchemeLines.{scheme_lines}
 use Rattle.um_tool.specs.Steps.{line, IsReply, Cases}
-
--- what is asked of a program: the order and its words, the bytes of the text, and the program as it is written
-pub record Asked : Type 0 where
-  pub order : Order
-  pub words : List (List ℕ)
-  pub bytes : List ℕ
-  pub raw : List DeclSyntax
 
 -- the form isn't built yet
 abbrev pub IsNotBuilt : List ℕ → Status → Type 0
@@ -45,26 +43,32 @@ IsNotBuilt text status = IsReply text status (line (codes "error 18: not built")
 abbrev pub OfFunction : ProgramTree → ℕ → (FunctionTree → Type 0) → Type 0
 OfFunction p i Says = (f : FunctionTree) × (slice_get p.functions i ≡ Some f) × Says f
 
--- the lines of the schemes, or the refusal of the first function without one
-abbrev pub InferenceAnswer : List ℕ → ProgramTree → Inference → List ℕ → Status → Type 0
-InferenceAnswer bytes p (all_schemes schemes) text status =
-    IsReply text status (scheme_lines p p.functions schemes) Done
-InferenceAnswer bytes p (stops_at_slots i) text status = OfFunction p i (λ f. IsSlotsReply bytes f.at text status)
-InferenceAnswer bytes p (stops_at_range i at) text status =
-    OfFunction p i (λ f. IsRangeReply bytes f.name at text status)
-InferenceAnswer bytes p (stops_at_units i row at) text status =
-    OfFunction p i (λ f. IsUnitsReply bytes f.name at text status)
-InferenceAnswer bytes p (stops_at_not_general i row at) text status =
-    OfFunction p i (λ f. IsNotGeneralReply bytes f.name at text status)
+-- what the order asks of the functions' schemes; `fmt` was answered before
+abbrev pub ByOrder : Order → Asked → ProgramTree → List SchemeTree → List ℕ → Status → Type 0
+ByOrder Types asked p schemes text status = IsReply text status (scheme_lines p p.functions schemes) Done
+ByOrder Code asked p schemes text status = IsReply text status (listing_text p (program_code p.functions)) Done
+ByOrder Fmt asked p schemes text status = IsReply text status (layout asked.raw) Done
+ByOrder (Eval budget) asked p schemes text status = CallAnswer budget asked p schemes text status
+ByOrder Conform asked p schemes text status = ConformAnswer asked p schemes text status
 
--- what the order asks of the program's schemes; `fmt` was answered before
-abbrev pub ByOrder : Order → Asked → ProgramTree → Inference → List ℕ → Status → Type 0
-ByOrder Types asked p inferred text status = InferenceAnswer asked.bytes p inferred text status
-ByOrder Fmt asked p inferred text status = IsReply text status (layout asked.raw) Done
+unfoldable pub TypedAnswer : Asked → ProgramTree → List SchemeTree → List ℕ → Status → Type 0
+TypedAnswer asked p schemes text status = ByOrder asked.order asked p schemes text status
+
+-- what is asked of the schemes of all functions, or the refusal of the first function without one
+abbrev pub InferenceAnswer : Asked → ProgramTree → Inference → List ℕ → Status → Type 0
+InferenceAnswer asked p (all_schemes schemes) text status = TypedAnswer asked p schemes text status
+InferenceAnswer asked p (stops_at_slots i) text status =
+    OfFunction p i (λ f. IsSlotsReply asked.bytes f.at text status)
+InferenceAnswer asked p (stops_at_range i at) text status =
+    OfFunction p i (λ f. IsRangeReply asked.bytes f.name at text status)
+InferenceAnswer asked p (stops_at_units i row at) text status =
+    OfFunction p i (λ f. IsUnitsReply asked.bytes f.name at text status)
+InferenceAnswer asked p (stops_at_not_general i row at) text status =
+    OfFunction p i (λ f. IsNotGeneralReply asked.bytes f.name at text status)
 
 -- the schemes of the functions, one after another
 unfoldable pub SchemesAnswer : Asked → ProgramTree → List ℕ → Status → Type 0
-SchemesAnswer asked p text status = ByOrder asked.order asked p (infer p) text status
+SchemesAnswer asked p text status = InferenceAnswer asked p (infer p) text status
 
 -- the program with its shapes, or its first shape fault
 unfoldable pub ShapesAnswer : Asked → ProgramTree → List ℕ → Status → Type 0
@@ -81,7 +85,7 @@ NamesAnswer asked text status =
 -- the layout of the program, or what is asked of what its names stand for
 abbrev pub ByLayout : Order → Asked → List ℕ → Status → Type 0
 ByLayout Fmt asked text status = IsReply text status (layout asked.raw) Done
-ByLayout Types asked text status = NamesAnswer asked text status
+ByLayout order asked text status = NamesAnswer asked text status
 
 unfoldable pub ProgramAnswer : Asked → List ℕ → Status → Type 0
 ProgramAnswer asked text status = ByLayout asked.order asked text status

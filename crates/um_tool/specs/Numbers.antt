@@ -5,7 +5,7 @@ use Rattle.um_tool.specs.declared.status.Status.{Status}
 use Rattle.um_tool.specs.declared.status.Status.TheVariants.{Done, Usage, TooLong, Utf8, Lexical, Syntax, Limit, Names}
 use Rattle.um_tool.specs.declared.status.Status.TheVariants.{Shape, Units, PowerRange, Input, Trap, BudgetEnd}
 use Rattle.um_tool.specs.declared.status.Status.TheVariants.{ScaleRange, ReadFault, WriteFault, NoMemory, NotBuilt}
-use Rattle.um_tool.specs.declared.status.Status.TheVariants.{NotGeneral}
+use Rattle.um_tool.specs.declared.status.Status.TheVariants.{NotGeneral, NotConform}
 
 abbrev pub number_of : Status → ℕ
 number_of Done = 0
@@ -28,3 +28,4 @@ number_of WriteFault = 16
 number_of NoMemory = 17
 number_of NotBuilt = 18
 number_of NotGeneral = 19
+number_of NotConform = 20

@@ -1,27 +1,21 @@
 -- What a run of the program writes, and with which status it ends.
 -- Source: this project's own.
-use Rattle.std.specs.Prelude.{◌≡◌, ◌≢◌, ◌≤◌, ◌⊎◌, ℕ, List, length, codes, Some, None, slice_get, Option, Ok}
+use Rattle.std.specs.Prelude.{◌≡◌, ◌≢◌, ◌≤◌, ◌⊎◌, ℕ, List, length, codes, Some, Option, Ok}
 use Rattle.std.specs.Io.KnownBytes.{Appends, Keeps}
 use Rattle.um_wire.specs.Faults.{Rose}
 use Rattle.um_wire.specs.Bytes.{Tells, AppendsPrefix}
-use Rattle.um_tree.specs.ProgramTree.{FunctionTree, ProgramTree, Signature}
-use Rattle.um_tree.specs.Typing.{Typing}
 use Rattle.um_syntax.specs.declared.token.Token.{Token}
 use Rattle.um_syntax.specs.Feeding.{IsTextAnswer}
 use Rattle.um_tree.specs.RawTree.{DeclSyntax}
 use Rattle.um_parse.specs.Parsed.{IsRead}
-use Rattle.um_names.specs.Resolution.{resolved_program}
-use Rattle.um_shape.specs.FirstFault.{first_fault}
-use Rattle.um_infer.specs.Inference.{infer}
-use Rattle.um_infer.specs.Laws.{IsLimited}
 use Rattle.um_tool.specs.declared.order.Order.{Order}
-use Rattle.um_tool.specs.declared.order.Order.TheVariants.{Types, Fmt}
 use Rattle.um_tool.specs.declared.order.Intake.{Intake}
 use Rattle.um_tool.specs.declared.order.Intake.TheVariants.{Nothing, Text, Bytes}
 use Rattle.um_tool.specs.declared.status.Status.{Status}
 use Rattle.um_tool.specs.declared.status.Status.TheVariants.{ReadFault, WriteFault, NoMemory}
 use Rattle.um_tool.specs.Answer.{Answer}
 use Rattle.um_tool.specs.Orders.{AsksFor}
+use Rattle.um_tool.specs.Passing.{GoesThrough}
 use Rattle.um_tool.specs.Steps.{IsReply, line}
 
 -- the words name an order that takes something from the source
@@ -64,43 +58,27 @@ abbrev pub Serves : (List ℕ → Status → Type 0) → Option (List ℕ) → O
 Serves Planned old new before now status =
     WroteAll Planned old new status ⊎ WrotePart Planned old new before now status ⊎ WroteNothing old new status
 
-abbrev pub EachIsTyped : ProgramTree → Type 0
-EachIsTyped p = (i : ℕ) (f : FunctionTree) → slice_get p.functions i ≡ Some f → (g : Signature) × Typing p i g
-
--- the names are known, the shapes are right, each function has a typing, and no limit of slots or powers is passed
-pub record IsTyped (raw : List DeclSyntax) : Type 0 where
-  pub program : ProgramTree
-  pub resolved : resolved_program raw ≡ Ok program
-  pub faultless : first_fault program ≡ None
-  pub typed : EachIsTyped program
-  pub unlimited : IsLimited (infer program) → ⊥
-
--- each step behind the grammar goes through
-abbrev pub GoesThrough : Order → List DeclSyntax → Type 0
-GoesThrough Types raw = IsTyped raw
-GoesThrough Fmt raw = Unit {0}
-
 -- the text is a program within the limits, and each step behind the grammar goes through
-pub record IsTextComplete (order : Order) (bytes : List ℕ) : Type 0 where
+pub record IsTextComplete (order : Order) (words : List (List ℕ)) (bytes : List ℕ) : Type 0 where
   pub short : length bytes ≤ 1048576
   pub tokens : List Token
   pub lexed : IsTextAnswer bytes (Ok tokens)
   pub raw : List DeclSyntax
   pub read : IsRead tokens raw
-  pub goes_through : GoesThrough order raw
+  pub goes_through : GoesThrough order words raw
 
 -- by what the order takes from the source; no order that takes nothing, or bytes that are no text, is built yet
-abbrev pub IsTakenComplete : Intake → Order → List ℕ → Type 0
-IsTakenComplete Nothing order bytes = ⊥
-IsTakenComplete Text order bytes = IsTextComplete order bytes
-IsTakenComplete (Bytes limit) order bytes = ⊥
+abbrev pub IsTakenComplete : Intake → Order → List (List ℕ) → List ℕ → Type 0
+IsTakenComplete Nothing order words bytes = ⊥
+IsTakenComplete Text order words bytes = IsTextComplete order words bytes
+IsTakenComplete (Bytes limit) order words bytes = ⊥
 
 -- the words name an order, and every step of the answer goes through
 pub record IsComplete (words : List (List ℕ)) (bytes : List ℕ) : Type 0 where
   pub order : Order
   pub intake : Intake
   pub asks : AsksFor words order intake
-  pub taken : IsTakenComplete intake order bytes
+  pub taken : IsTakenComplete intake order words bytes
 
 -- the source's bytes go through, and it met no fault
 pub record IsUndisturbed (words : List (List ℕ)) (left : Option (List ℕ)) (before now : ℕ) : Type 0 where

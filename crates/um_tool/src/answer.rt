@@ -1,7 +1,10 @@
 // The steps of an answer, each by its definition.
 ghost use Rattle.std.specs.Prelude.{◌<◌, ◌≤◌, ◌≡◌, length, slice_get, IfOk, Ok, Some};
-ghost use Rattle.um_tool.specs.Answer.{TokensAnswer, GrammarAnswer, ProgramAnswer, NamesAnswer, ShapesAnswer, SchemesAnswer, InferenceAnswer, IsNotBuilt};
+ghost use Rattle.um_tool.specs.Answer.{TokensAnswer, GrammarAnswer, ProgramAnswer, NamesAnswer, ShapesAnswer};
+ghost use Rattle.um_tool.specs.Answer.{SchemesAnswer, TypedAnswer, IsNotBuilt};
 ghost use Rattle.um_tool.specs.Asking.{asked_of};
+ghost use Rattle.um_tool.specs.Orders.{order_of};
+ghost use Rattle.um_tool.specs.SchemeLines.{scheme_lines};
 ghost use Rattle.um_tool.specs.Steps.{IsReply};
 ghost use Rattle.um_show.specs.Layout.{layout};
 ghost use Rattle.um_syntax.specs.Feeding.{IsTextAnswer};
@@ -9,24 +12,32 @@ ghost use Rattle.um_tree.specs.RawTree.{program_syntax};
 ghost use Rattle.um_tree.specs.ProgramTree.{program_tree, function_tree};
 ghost use Rattle.um_tree.specs.Formed.{IsFormed};
 ghost use Rattle.um_names.specs.Readable.{IsReadable};
-ghost use Rattle.um_infer.specs.Inference.{infer};
+ghost use Rattle.um_names.specs.Resolution.{resolved_program};
+ghost use Rattle.um_infer.specs.Answers.{scheme_trees};
+ghost use Rattle.um_infer.specs.Inference.{all_schemes, infer};
+ghost use Rattle.um_gen.specs.ProgramCode.{program_code};
+ghost use Rattle.um_code.specs.Listing.{listing_text};
 
 use crate::asked::Asked;
+use crate::call::answer_call;
 use crate::reading::Text;
 use crate::refusal::{
     reply_line, reply_to_names, reply_to_not_general, reply_to_range, reply_to_shapes,
     reply_to_slots, reply_to_text, reply_to_tokens, reply_to_units,
 };
 use crate::schemes::schemes_text;
+use crate::signature::answer_conform;
 use crate::{Order, Status, Words};
 use std::alloc::{AllocError, Global};
+use um_code::listing;
+use um_gen::generate;
 use um_infer::{InferStop, infer};
 use um_names::resolve;
 use um_parse::parse;
 use um_shape::{Shaped, shape};
 use um_show::program_text;
 use um_syntax::Tokens;
-use um_tree::{Function, Program};
+use um_tree::{Function, Program, Schemes};
 
 /// What a run is about to write, and the status that it then ends with.
 #[derive(Drop)]
@@ -49,6 +60,7 @@ pub(crate) fn answer_text(
     words: &Words,
     text: Text,
 ) -> Result<Reply, AllocError>
+    requires ordered { order_of words.now ≡ Some order }
     requires tokens { IsTextAnswer text.bytes.items text.tokens }
     requires short { length text.bytes.items ≤ 1048576 }
     ensures { IfOk result (λ reply. TokensAnswer order words.now text.bytes.items reply.text.items reply.status) }
@@ -69,6 +81,7 @@ fn answer_tokens(
     bytes: &[u8],
     tokens: &Tokens,
 ) -> Result<Reply, AllocError>
+    requires ordered { order_of words.now ≡ Some order }
     requires tokens { IsTextAnswer bytes.now (Ok tokens.now) }
     requires short { length bytes.now ≤ 1048576 }
     ensures { IfOk result (λ reply. GrammarAnswer order words.now bytes.now tokens.now reply.text.items reply.status) }
@@ -90,18 +103,22 @@ fn answer_tokens(
 /// The answer to a program as it is written.
 #[tactic(auto, unfolding(crate::specs::Answer::ProgramAnswer))]
 fn answer_program(alloc: Global, asked: &Asked) -> Result<Reply, AllocError>
+    requires ordered { order_of asked.now.words.now ≡ Some asked.now.order }
     requires readable { IsReadable (program_syntax asked.now.raw.now) }
     ensures { IfOk result (λ reply. ProgramAnswer (asked_of asked.now) reply.text.items reply.status) }
 {
     match asked.order {
         Order::Fmt => reply_layout(alloc, asked),
-        Order::Types => answer_names(alloc, asked),
+        Order::Types | Order::Code | Order::Eval { .. } | Order::Conform => {
+            answer_names(alloc, asked)
+        }
     }
 }
 
 /// The answer to a program whose names are looked up.
 #[tactic(auto, unfolding(crate::specs::Answer::NamesAnswer))]
 fn answer_names(alloc: Global, asked: &Asked) -> Result<Reply, AllocError>
+    requires ordered { order_of asked.now.words.now ≡ Some asked.now.order }
     requires readable { IsReadable (program_syntax asked.now.raw.now) }
     ensures { IfOk result (λ reply. NamesAnswer (asked_of asked.now) reply.text.items reply.status) }
 {
@@ -114,6 +131,8 @@ fn answer_names(alloc: Global, asked: &Asked) -> Result<Reply, AllocError>
 /// The answer to a program whose names are known.
 #[tactic(auto, unfolding(crate::specs::Answer::ShapesAnswer))]
 fn answer_shapes(alloc: Global, asked: &Asked, program: Program) -> Result<Reply, AllocError>
+    requires ordered { order_of asked.now.words.now ≡ Some asked.now.order }
+    requires resolved { resolved_program (program_syntax asked.now.raw.now) ≡ Ok (program_tree program) }
     requires formed { IsFormed (program_tree program) }
     ensures { IfOk result (λ reply. ShapesAnswer (asked_of asked.now)
         (program_tree program) reply.text.items reply.status) }
@@ -124,40 +143,18 @@ fn answer_shapes(alloc: Global, asked: &Asked, program: Program) -> Result<Reply
     }
 }
 
-/// The answer to a program whose shapes are right.
+/// The answer to a program whose shapes are right: the first function without a scheme is refused.
 #[tactic(auto, unfolding(crate::specs::Answer::SchemesAnswer))]
 fn answer_schemes(alloc: Global, asked: &Asked, shaped: &Shaped) -> Result<Reply, AllocError>
+    requires ordered { order_of asked.now.words.now ≡ Some asked.now.order }
+    requires resolved { resolved_program (program_syntax asked.now.raw.now) ≡ Ok (program_tree shaped.now) }
     ensures { IfOk result (λ reply. SchemesAnswer (asked_of asked.now)
         (program_tree shaped.now) reply.text.items reply.status) }
 {
-    match asked.order {
-        Order::Types => answer_types(alloc, asked.bytes, shaped),
-        Order::Fmt => reply_layout(alloc, asked),
-    }
-}
-
-/// The layout of the program.
-fn reply_layout(alloc: Global, asked: &Asked) -> Result<Reply, AllocError>
-    ensures { IfOk result (λ reply. IsReply reply.text.items reply.status
-        (layout (program_syntax asked.now.raw.now)) Status.Done) }
-{
-    Ok(Reply {
-        text: program_text(alloc, asked.raw)?,
-        status: Status::Done,
-    })
-}
-
-/// The schemes of the functions, or the first function without one.
-fn answer_types(alloc: Global, bytes: &[u8], shaped: &Shaped) -> Result<Reply, AllocError>
-    ensures { IfOk result (λ reply. InferenceAnswer bytes.now (program_tree shaped.now)
-        (infer (program_tree shaped.now)) reply.text.items reply.status) }
-{
     let program = shaped.program();
+    let bytes = asked.bytes;
     match infer(alloc, shaped) {
-        Ok(schemes) => Ok(Reply {
-            text: schemes_text(alloc, program, &schemes)?,
-            status: Status::Done,
-        }),
+        Ok(schemes) => answer_inferred(alloc, asked, shaped, schemes),
         Err(InferStop::Units { function, at }) => {
             reply_to_units(alloc, bytes, &function_at(program, function).name, at)
         }
@@ -172,6 +169,83 @@ fn answer_types(alloc: Global, bytes: &[u8], shaped: &Shaped) -> Result<Reply, A
         }
         Err(InferStop::NoMemory) => Err(AllocError),
     }
+}
+
+/// The answer to a program with its schemes.
+fn answer_inferred(
+    alloc: Global,
+    asked: &Asked,
+    shaped: &Shaped,
+    schemes: Schemes,
+) -> Result<Reply, AllocError>
+    requires ordered { order_of asked.now.words.now ≡ Some asked.now.order }
+    requires resolved { resolved_program (program_syntax asked.now.raw.now) ≡ Ok (program_tree shaped.now) }
+    requires inferred { infer (program_tree shaped.now) ≡ all_schemes (scheme_trees schemes) }
+    ensures { IfOk result (λ reply. TypedAnswer (asked_of asked.now)
+        (program_tree shaped.now) (scheme_trees schemes) reply.text.items reply.status) }
+{
+    let answer = answer_typed(alloc, asked, shaped, &schemes);
+    drop(schemes);
+    answer
+}
+
+/// The answer to a program each of whose functions has a scheme.
+#[tactic(auto, unfolding(crate::specs::Answer::TypedAnswer))]
+fn answer_typed(
+    alloc: Global,
+    asked: &Asked,
+    shaped: &Shaped,
+    schemes: &Schemes,
+) -> Result<Reply, AllocError>
+    requires ordered { order_of asked.now.words.now ≡ Some asked.now.order }
+    requires resolved { resolved_program (program_syntax asked.now.raw.now) ≡ Ok (program_tree shaped.now) }
+    requires inferred { infer (program_tree shaped.now) ≡ all_schemes (scheme_trees schemes.now) }
+    ensures { IfOk result (λ reply. TypedAnswer (asked_of asked.now)
+        (program_tree shaped.now) (scheme_trees schemes.now) reply.text.items reply.status) }
+{
+    match asked.order {
+        Order::Types => reply_schemes(alloc, shaped, schemes),
+        Order::Code => reply_code(alloc, shaped),
+        Order::Fmt => reply_layout(alloc, asked),
+        Order::Eval { budget } => answer_call(alloc, budget, asked, shaped, schemes),
+        Order::Conform => answer_conform(alloc, asked, shaped, schemes),
+    }
+}
+
+/// The schemes of the functions.
+fn reply_schemes(alloc: Global, shaped: &Shaped, schemes: &Schemes) -> Result<Reply, AllocError>
+    requires inferred { infer (program_tree shaped.now) ≡ all_schemes (scheme_trees schemes.now) }
+    ensures { IfOk result (λ reply. IsReply reply.text.items reply.status
+        (scheme_lines (program_tree shaped.now) (program_tree shaped.now).functions (scheme_trees schemes.now))
+        Status.Done) }
+{
+    Ok(Reply {
+        text: schemes_text(alloc, shaped.program(), schemes)?,
+        status: Status::Done,
+    })
+}
+
+/// The listing of the program's code.
+fn reply_code(alloc: Global, shaped: &Shaped) -> Result<Reply, AllocError>
+    ensures { IfOk result (λ reply. IsReply reply.text.items reply.status
+        (listing_text (program_tree shaped.now) (program_code (program_tree shaped.now).functions)) Status.Done) }
+{
+    let code = generate(alloc, shaped)?;
+    Ok(Reply {
+        text: listing(alloc, &code, shaped.program())?,
+        status: Status::Done,
+    })
+}
+
+/// The layout of the program.
+fn reply_layout(alloc: Global, asked: &Asked) -> Result<Reply, AllocError>
+    ensures { IfOk result (λ reply. IsReply reply.text.items reply.status
+        (layout (program_syntax asked.now.raw.now)) Status.Done) }
+{
+    Ok(Reply {
+        text: program_text(alloc, asked.raw)?,
+        status: Status::Done,
+    })
 }
 
 /// The function of this number.

@@ -1,14 +1,33 @@
 //! Laws of answers and report lines. A call does nothing: what it ensures is the law.
 ghost use Rattle.um_tool.specs.Laws.{LinesAgree, ColumnsAgree, PlacesArePrinted};
-ghost use Rattle.um_tool.specs.Laws.{PrintedTypesArePrincipalSchemes, UnitsNameTheFirstUntyped, NotGeneralNamesTheFirstUntyped, AnswersAreUnique};
+ghost use Rattle.um_tool.specs.Laws.{PrintedTypesArePrincipalSchemes, UnitsNameTheFirstUntyped};
+ghost use Rattle.um_tool.specs.Laws.{NotGeneralNamesTheFirstUntyped, AnswersAreUnique};
+ghost use Rattle.um_tool.specs.CallLaws.{PrintedCodeIsTheProgramsCode, EndedCallsAreMeant, VerdictsSayWhatTypingsAre};
 
-/// What `types` printed with status 0 on some bytes are the principal schemes of the program that they spell, a line for
-/// each function in order; what it printed with the status of units, or of a function that is not general, names the
-/// first function without a typing, and says whether some units satisfy its equations.
+/// What `types` printed with status 0 on some bytes are the principal schemes of the program that they spell, a line
+/// for each function in order; what it printed with the status of units, or of a function that is not general, names
+/// the first function without a typing, and says whether some units satisfy its equations.
 pub fn printed_types()
     ensures schemes { PrintedTypesArePrincipalSchemes }
     ensures refusal { UnitsNameTheFirstUntyped }
     ensures not_general { NotGeneralNamesTheFirstUntyped }
+{}
+
+/// What `code` printed with status 0 on some bytes is the listing of the code of the program that they spell.
+pub fn printed_code()
+    ensures { PrintedCodeIsTheProgramsCode }
+{}
+
+/// What a call of a function was answered with the status of a value, of a trap or of the budget's end is the outcome
+/// of its meaning at the budget; a value is printed at a type of the call.
+pub fn ended_calls()
+    ensures { EndedCallsAreMeant }
+{}
+
+/// A function conforms to a signature where each instance of the signature is a typing of it, and where it is refused
+/// for its form or its units not each is.
+pub fn verdicts()
+    ensures { VerdictsSayWhatTypingsAre }
 {}
 
 /// The place of a report line, which is counted on bytes, is the line and the column that
@@ -24,4 +43,5 @@ pub fn answers_are_unique()
     ensures { AnswersAreUnique }
 {
     um_parse::laws::answers_are_unique();
+    um_sig::laws::readings();
 }

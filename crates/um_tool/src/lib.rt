@@ -3,6 +3,8 @@
 
 mod answer;
 mod asked;
+mod call;
+mod call_refusal;
 pub mod laws;
 mod order;
 mod place;
@@ -10,6 +12,7 @@ mod quiet;
 mod reading;
 mod refusal;
 mod schemes;
+mod signature;
 mod status;
 mod top;
 mod words;

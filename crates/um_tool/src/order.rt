@@ -1,16 +1,30 @@
 // What the words ask for.
-ghost use Rattle.std.specs.Prelude.{◌≡◌, ◌↔◌, IsTrue};
-ghost use Rattle.um_tool.specs.Orders.{order_of as order_named, intake_of, is_unbuilt as unbuilt, NamesUnbuilt};
+ghost use Rattle.std.specs.Prelude.{◌≡◌, ◌<◌, ◌↔◌, [], IsTrue, length, drop, get_or};
+ghost use Rattle.std.specs.Char.{is_ascii_digit};
+ghost use Rattle.std.specs.List.{list_all};
+ghost use Rattle.std.specs.Str.Parse.{digits_value};
+ghost use Rattle.um_tool.specs.Orders.{order_of as order_named, order_alone as alone, longer_order as longer};
+ghost use Rattle.um_tool.specs.Orders.{call_order as call_named, budget_of as budget_in, is_budget as are_few_digits};
+ghost use Rattle.um_tool.specs.Orders.{intake_of, is_unbuilt as unbuilt, NamesUnbuilt};
 
 use crate::Words;
+
+/// The greatest budget of calls.
+const GREATEST_BUDGET: u64 = 10_000_000;
 
 /// What a run is asked to do.
 #[derive(Clone, Copy, PartialEq, Eq, Debug)]
 pub enum Order {
     /// Print the scheme of each function.
     Types,
+    /// Print the listing of the program's code.
+    Code,
     /// Print the program in its layout.
     Fmt,
+    /// Call a function by the program's tree, with at most so many calls, and print its value.
+    Eval { budget: u64 },
+    /// Say whether a function may be used at a signature.
+    Conform,
 }
 
 /// What an order takes from the source.
@@ -30,22 +44,102 @@ impl Order {
         ensures { result ≡ intake_of self }
     {
         match self {
-            Order::Types | Order::Fmt => Intake::Text,
+            Order::Types | Order::Code | Order::Fmt | Order::Eval { .. } | Order::Conform => {
+                Intake::Text
+            }
         }
     }
 }
 
-/// The order that the words name, or nothing where they have none of the forms.
+/// The order that the words name, or nothing where they have none of the forms. Takes no memory.
+///
+/// The forms are `types`, `code`, `fmt`, `conform NAME TYPE` and `eval BUDGET NAME ARG*`. A budget is one to eight
+/// digits of value at most 10,000,000, and each word is at most 1,048,576 bytes long.
 pub fn order_of(words: &Words) -> Option<Order>
     ensures { result ≡ order_named words.now }
 {
-    if words.len() != 1 {
+    if !words.are_short() {
         return None;
     }
-    match words.word(0) {
+    if words.len() == 1 {
+        return order_alone(words.word(0));
+    }
+    if words.len() < 3 {
+        return None;
+    }
+    longer_order(words)
+}
+
+/// The order of a command of one word.
+fn order_alone(word: &str) -> Option<Order>
+    ensures { result ≡ alone word.now }
+{
+    match word {
         "types" => Some(Order::Types),
+        "code" => Some(Order::Code),
         "fmt" => Some(Order::Fmt),
         _ => None,
+    }
+}
+
+/// The order of three words or more.
+fn longer_order(words: &Words) -> Option<Order>
+    requires { 2 < length words.now }
+    ensures { result ≡ longer (get_or words.now 0 []) (get_or words.now 1 []) (drop 3 words.now) }
+{
+    if words.len() == 3 && words.word(0) == "conform" {
+        return Some(Order::Conform);
+    }
+    call_order(words.word(0), budget_of(words.word(1)))
+}
+
+/// The order that calls a function, by its first word and the budget.
+fn call_order(word: &str, budget: Option<u64>) -> Option<Order>
+    ensures { result ≡ call_named word.now budget }
+{
+    let budget = budget?;
+    match word {
+        "eval" => Some(Order::Eval { budget }),
+        _ => None,
+    }
+}
+
+/// The budget that a word states, where it is one to eight digits of value at most 10,000,000.
+fn budget_of(word: &str) -> Option<u64>
+    ensures { result ≡ budget_in word.now }
+{
+    if !is_budget(word) {
+        return None;
+    }
+    let budget = value_of(word);
+    if budget <= GREATEST_BUDGET {
+        Some(budget)
+    } else {
+        None
+    }
+}
+
+/// Whether the word is one to eight digits.
+fn is_budget(word: &str) -> bool
+    ensures { result ≡ are_few_digits word.now }
+{
+    !word.is_empty() && word.len() <= 8 && has_digits_alone(word)
+}
+
+fn has_digits_alone(word: &str) -> bool
+    ensures { result ≡ list_all is_ascii_digit word.now }
+{
+    word.as_bytes().iter().all(|byte| byte.is_ascii_digit())
+}
+
+/// The number that one to eight digits write.
+fn value_of(digits: &str) -> u64
+    requires { IsTrue (are_few_digits digits.now) }
+    ensures { result ≡ digits_value 10 digits.now }
+{
+    match u64::from_str_radix(digits, 10) {
+        Ok(value) => value,
+        Err(_) => unreachable!(),
     }
 }
 
@@ -59,8 +153,5 @@ pub fn names_unbuilt(words: &Words) -> bool
 fn is_unbuilt(word: &str) -> bool
     ensures { result ≡ unbuilt word.now }
 {
-    matches!(
-        word,
-        "code" | "run" | "steps" | "eval" | "rescale" | "twin" | "big"
-    )
+    matches!(word, "run" | "steps" | "rescale" | "twin" | "big")
 }

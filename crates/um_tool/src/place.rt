@@ -1,6 +1,7 @@
-// Lines and columns.
-ghost use Rattle.std.specs.Prelude.{◌≡◌, ◌++◌, OnOk, take, length};
-ghost use Rattle.um_tool.specs.Places.{line_of as line_behind, column_of as column_behind, place_text, begins_character as begins};
+// Lines and columns, and positions in a word.
+ghost use Rattle.std.specs.Prelude.{◌≡◌, ◌++◌, OnOk, decimal, take, length};
+ghost use Rattle.um_tool.specs.Places.{line_of as line_behind, column_of as column_behind, position_of as position_behind};
+ghost use Rattle.um_tool.specs.Places.{place_text, begins_character as begins};
 
 use std::alloc::AllocError;
 
@@ -12,6 +13,17 @@ pub(crate) fn push_place(text: &mut Vec<u8>, bytes: &[u8], at: u32) -> Result<()
     text.extend_from_slice(itoa::Buffer::new().format(line_of(before)).as_bytes())?;
     text.push(b':')?;
     text.extend_from_slice(itoa::Buffer::new().format(column_of(before)).as_bytes())
+}
+
+/// Adds the position of a byte offset in a word.
+pub(crate) fn push_position(text: &mut Vec<u8>, word: &[u8], at: u32) -> Result<(), AllocError>
+    ensures { OnOk result (text.new.items ≡ text.old.items ++ decimal (position_behind (take at word.now))) }
+{
+    text.extend_from_slice(
+        itoa::Buffer::new()
+            .format(position_of(before(word, at)))
+            .as_bytes(),
+    )
 }
 
 /// The bytes before a place.
@@ -51,6 +63,19 @@ fn column_of(before: &[u8]) -> u64
         }
     }
     column
+}
+
+/// The position of the place behind these bytes of a word.
+fn position_of(before: &[u8]) -> u64
+    ensures { result ≡ position_behind before.now }
+{
+    let mut position = 1;
+    for byte in before {
+        if begins_character(*byte) {
+            position += 1;
+        }
+    }
+    position
 }
 
 fn begins_character(byte: u8) -> bool

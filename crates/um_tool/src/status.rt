@@ -32,6 +32,8 @@ pub enum Status {
     NotBuilt,
     /// A function is less general than its unit parameters say.
     NotGeneral,
+    /// A function can't be used at a signature.
+    NotConform,
 }
 
 impl Status {
@@ -60,6 +62,7 @@ impl Status {
             Status::NoMemory => 17,
             Status::NotBuilt => 18,
             Status::NotGeneral => 19,
+            Status::NotConform => 20,
         }
     }
 }

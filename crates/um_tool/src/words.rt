@@ -4,6 +4,9 @@ ghost use Rattle.std.specs.Prelude.{◌≡◌, ◌<◌, ◌++◌, [], ◌∷◌,
 use std::alloc::{AllocError, Global};
 use std::marker::Model;
 
+/// The longest word of a form, in bytes.
+const WORD_LIMIT: usize = 1_048_576;
+
 /// The words after the program's name, in order; contracts see the list of their bytes.
 #[derive(Drop)]
 pub struct Words {
@@ -19,6 +22,10 @@ impl Model for Words {
 }
 
 impl Words {
+    ghost use Rattle.std.specs.Prelude.{◌≤◌, drop, map, string_bytes};
+    ghost use Rattle.std.specs.List.{list_all};
+    ghost use Rattle.um_tool.specs.Orders.{is_short};
+
     /// No words.
     pub fn new(alloc: Global) -> Words
         ensures { result ≡ [] }
@@ -51,5 +58,20 @@ impl Words {
         ensures { slice_get self.now k ≡ Some result.now }
     {
         self.items[k].as_str()
+    }
+
+    /// The words behind the first k.
+    pub(crate) fn after(&self, k: usize) -> &[String]
+        requires { k ≤ length self.now }
+        ensures { map string_bytes result.now ≡ drop k self.now }
+    {
+        &self.items[k..]
+    }
+
+    /// Whether each is at most 1,048,576 bytes long.
+    pub(crate) fn are_short(&self) -> bool
+        ensures { result ≡ list_all is_short self.now }
+    {
+        self.items.iter().all(|word| word.len() <= WORD_LIMIT)
     }
 }

@@ -2,4 +2,4 @@ use Rattle.um_tool.proofs.UniqueAnswers.{answers_are_one}
 use Rattle.um_tool.proofs.laws.answers_are_unique.Goals as goal
 
 pub returns : goal.returns
-returns c = answers_are_one c.answers_are_unique.ensures
+returns c = answers_are_one c.answers_are_unique.ensures c.readings.ensures

@@ -1,0 +1,185 @@
+-- What answers to calls and to signatures say of the program that the bytes spell.
+use Rattle.std.proofs.Common.{◌≡◌, ◌⊎◌, ℕ, Bool, false, IsTrue, List, ◌++◌, codes, length, chars, get_or, Result, Ok, Err, Some, None, MatchOption, [], inl, inr, refl, sym, subst, ◌∙◌}
+use Rattle.std.specs.declared.option.Option.{Option}
+use Rattle.um_tree.specs.TypeTree.{TypeTree, type_trees}
+use Rattle.um_tree.specs.ProgramTree.{ProgramTree, SchemeTree}
+use Rattle.um_tree.specs.Formed.{IsFormed}
+use Rattle.um_tree.specs.Scheme.{IsPrincipal}
+use Rattle.um_measures.specs.declared.abbreviation.Abbreviation.{Abbreviation}
+use Rattle.um_measures.specs.Known.{number_of, function_names}
+use Rattle.um_names.specs.Resolution.{resolved_abbreviations}
+use Rattle.um_value.specs.declared.stop.InputStop.{InputStop}
+use Rattle.um_value.specs.declared.stop.InputStop.TheVariants as input_stop
+use Rattle.um_infer.specs.Inference.{Inference, all_schemes, stops_at_slots, stops_at_range, stops_at_units, stops_at_not_general, infer}
+use Rattle.um_infer.proofs.InferenceLaws.{given_schemes_are_principal}
+use Rattle.um_run.specs.declared.call.CallRefusal.{CallRefusal}
+use Rattle.um_run.specs.declared.call.CallRefusal.TheVariants as refusal
+use Rattle.um_run.specs.Calls.{CallTree, IsCallOf}
+use Rattle.um_run.specs.Laws.{AreKnown}
+use Rattle.um_run.proofs.CallLaws.{calls_are_typed}
+use Rattle.um_run.proofs.ClosedAbbreviations.{abbreviations_are_closed}
+use Rattle.um_sig.specs.declared.signature.Signature.{Signature as ReadSignature}
+use Rattle.um_sig.specs.declared.stop.SigText.{SigText}
+use Rattle.um_sig.specs.declared.stop.SigText.TheVariants as sig_text
+use Rattle.um_sig.specs.declared.stop.SigStop.{SigStop}
+use Rattle.um_sig.specs.declared.stop.SigStop.TheVariants as sig_stop
+use Rattle.um_sig.specs.Reading.{IsRead}
+use Rattle.um_sig.specs.Answers.{IsConformed}
+use Rattle.um_sig.specs.Instances.{AreOverBases, AreAllTypings}
+use Rattle.um_sig.proofs.TypingLaws.{answers_say_what_typings_are}
+use Rattle.um_tool.specs.declared.order.Order.TheVariants.{Eval, Conform}
+use Rattle.um_tool.specs.declared.status.Status.{Status}
+use Rattle.um_tool.specs.declared.status.Status.TheVariants.{Done, Limit, Units, PowerRange, Input, Trap, BudgetEnd, NotGeneral, NotConform}
+use Rattle.um_tool.specs.Asked.{called_name, argument_texts, held_name, signature_text}
+use Rattle.um_tool.specs.CallRefusals.{IsArgumentReply, IsCallReply, IsUnnamedReply, IsSignatureReply, IsConformReply}
+use Rattle.um_tool.specs.CallAnswer.{CallAnswer, BesideAnswer, ByCall, RunAnswer}
+use Rattle.um_tool.specs.ConformAnswer.{ConformAnswer, SignatureAnswer, ReadAnswer, BySignature, MatchingAnswer}
+use Rattle.um_tool.specs.Answer.{TypedAnswer, InferenceAnswer}
+use Rattle.um_tool.specs.Steps.{line}
+use Rattle.um_tool.specs.Laws.{SpellsProgram}
+use Rattle.um_tool.specs.CallLaws.{ends_a_call, IsMeantCall, EndedCallsAreMeant, is_verdict, IsVerdict, VerdictsSayWhatTypingsAre}
+use Rattle.um_tool.proofs.Reached.{comes_last, reached}
+use Rattle.um_tool.proofs.ConformsDone.{read_over_bases}
+
+-- ---- no refusal has a status that ends a call, and none that is a verdict
+
+refuted : (test : Status → Bool) (status wanted : Status) → status ≡ wanted → test wanted ≡ false → IsTrue (test status) → ⊥
+refuted test status wanted e none last = cc (sym none ∙ subst (λ s. IsTrue (test s)) e last)
+
+last_of_calls : (status : Status) → IsTrue (ends_a_call status) → IsTrue (comes_last status)
+last_of_calls Done ends = refl
+last_of_calls Trap ends = refl
+last_of_calls BudgetEnd ends = refl
+last_of_calls status ends = absurd cc
+
+last_of_verdicts : (status : Status) → IsTrue (is_verdict status) → IsTrue (comes_last status)
+last_of_verdicts Done verdict = refl
+last_of_verdicts NotConform verdict = refl
+last_of_verdicts status verdict = absurd cc
+
+argument_refusal : (index : ℕ) (word : List ℕ) (stop : InputStop) (text : List ℕ) (status : Status) → IsArgumentReply index word stop text status → IsTrue (ends_a_call status) → ⊥
+argument_refusal index word (input_stop.Text at) text status reply ends = refuted ends_a_call status Input reply.1 refl ends
+argument_refusal index word (input_stop.Shape at) text status reply ends = refuted ends_a_call status Input reply.1 refl ends
+argument_refusal index word (input_stop.Names at) text status reply ends = refuted ends_a_call status Input reply.1 refl ends
+argument_refusal index word (input_stop.PowerRange at) text status reply ends = refuted ends_a_call status Input reply.1 refl ends
+argument_refusal index word input_stop.NoMemory text status reply ends = reply
+
+call_refusal : (texts : List (List ℕ)) (refused : CallRefusal) (text : List ℕ) (status : Status) → IsCallReply texts refused text status → IsTrue (ends_a_call status) → ⊥
+call_refusal texts refusal.NoFunction text status reply ends = refuted ends_a_call status Input reply.1 refl ends
+call_refusal texts refusal.WrongCount text status reply ends = refuted ends_a_call status Input reply.1 refl ends
+call_refusal texts (refusal.Argument index stop) text status reply ends = argument_refusal index (get_or texts index []) stop text status reply ends
+call_refusal texts refusal.Units text status reply ends = refuted ends_a_call status Input reply.1 refl ends
+call_refusal texts refusal.PowerRange text status reply ends = refuted ends_a_call status PowerRange reply.1 refl ends
+call_refusal texts refusal.Slots text status reply ends = refuted ends_a_call status Limit reply.1 refl ends
+call_refusal texts refusal.NoMemory text status reply ends = reply
+
+signature_refusal : (word : List ℕ) (stop : SigText) (text : List ℕ) (status : Status) → IsSignatureReply word stop text status → IsTrue (is_verdict status) → ⊥
+signature_refusal word (sig_text.Text at) text status reply verdict = refuted is_verdict status Input reply.1 refl verdict
+signature_refusal word (sig_text.Syntax at) text status reply verdict = refuted is_verdict status Input reply.1 refl verdict
+signature_refusal word (sig_text.Height at) text status reply verdict = refuted is_verdict status Input reply.1 refl verdict
+signature_refusal word (sig_text.Names at) text status reply verdict = refuted is_verdict status Input reply.1 refl verdict
+signature_refusal word (sig_text.PowerRange at) text status reply verdict = refuted is_verdict status Input reply.1 refl verdict
+signature_refusal word sig_text.NoMemory text status reply verdict = reply
+
+-- ---- calls
+
+module _ (budget : ℕ) (words : List (List ℕ)) (bytes text : List ℕ) (status : Status) (ends : IsTrue (ends_a_call status)) where
+  call_meant : (p : ProgramTree) (spelled : SpellsProgram bytes p) (schemes : List SchemeTree) (shorts : List Abbreviation) (r : Result CallTree CallRefusal) → IsFormed p → infer p ≡ all_schemes schemes → resolved_abbreviations spelled.raw ≡ Ok shorts
+      → IsCallOf p shorts schemes (called_name words) (argument_texts words) r → ByCall budget (argument_texts words) p r text status → IsMeantCall budget words bytes text status
+  unfolding RunAnswer
+  call_meant p spelled schemes shorts (Ok call) formed inferred abbreviated named (o, meant, printed) =
+      let known : AreKnown p shorts schemes = record { formed = formed; inferred = inferred; closed = abbreviations_are_closed spelled.raw p shorts spelled.resolved abbreviated } in
+      record {
+        program = p;
+        spelled = spelled;
+        shorts = shorts;
+        abbreviated = abbreviated;
+        schemes = schemes;
+        principal = given_schemes_are_principal p formed schemes inferred;
+        call = call;
+        named = named;
+        typed = calls_are_typed p shorts schemes (called_name words) (argument_texts words) known call named;
+        outcome = o;
+        meant = meant;
+        printed = printed;
+      }
+  call_meant p spelled schemes shorts (Err refused) formed inferred abbreviated named reply = absurd (call_refusal (argument_texts words) refused text status reply ends)
+
+  beside_meant : (p : ProgramTree) (spelled : SpellsProgram bytes p) (schemes : List SchemeTree) (shorts : List Abbreviation) → IsFormed p → infer p ≡ all_schemes schemes → resolved_abbreviations spelled.raw ≡ Ok shorts
+      → BesideAnswer budget words p shorts schemes text status → IsMeantCall budget words bytes text status
+  unfolding BesideAnswer
+  beside_meant p spelled schemes shorts formed inferred abbreviated (r, named, answer) = call_meant p spelled schemes shorts r formed inferred abbreviated named answer
+
+  typed_meant : (p : ProgramTree) (spelled : SpellsProgram bytes p) (inferred : Inference) → IsFormed p → infer p ≡ inferred
+      → InferenceAnswer (record { order = Eval budget; words = words; bytes = bytes; raw = spelled.raw }) p inferred text status → IsMeantCall budget words bytes text status
+  unfolding TypedAnswer CallAnswer
+  typed_meant p spelled (all_schemes schemes) formed is (shorts, abbreviated, answer) = beside_meant p spelled schemes shorts formed is abbreviated answer
+  typed_meant p spelled (stops_at_slots i) formed is answer = absurd (refuted ends_a_call status Limit answer.2.1 refl ends)
+  typed_meant p spelled (stops_at_range i at) formed is answer = absurd (refuted ends_a_call status PowerRange answer.2.1 refl ends)
+  typed_meant p spelled (stops_at_units i row at) formed is answer = absurd (refuted ends_a_call status Units answer.2.1 refl ends)
+  typed_meant p spelled (stops_at_not_general i row at) formed is answer = absurd (refuted ends_a_call status NotGeneral answer.2.1 refl ends)
+
+pub ended_calls_are_meant : EndedCallsAreMeant
+ended_calls_are_meant budget words bytes text status ordered answer ends =
+    let r = reached (Eval budget) words bytes text status (last_of_calls status ends) (λ raw a. a) ordered refl answer in
+    typed_meant budget words bytes text status ends r.0 r.1 (infer r.0) r.2 refl r.3
+
+-- ---- signatures
+
+module _ (words : List (List ℕ)) (bytes text : List ℕ) (status : Status) (verdict : IsTrue (is_verdict status)) where
+  abbrev Says : ProgramTree → ℕ → List TypeTree → Type 0
+  Says p k types =
+      ((status ≡ Done) × AreAllTypings p k types × (text ≡ line (held_name words ++ codes " conforms")))
+      ⊎ ((status ≡ NotConform) × (AreAllTypings p k types → ⊥))
+
+  matched_says : (p : ProgramTree) (k : ℕ) (types : List TypeTree) (s : SchemeTree) (r : Result (Unit {0}) SigStop) → IsFormed p → IsPrincipal p k s → AreOverBases (length p.bases) types
+      → IsConformed (length p.bases) s types r → IsConformReply (held_name words) r text status → Says p k types
+  matched_says p k types s (Ok done) formed principal over conformed reply = inl (reply.1, answers_say_what_typings_are p k s types (Ok done) formed principal over conformed, reply.0)
+  matched_says p k types s (Err (sig_stop.Form i)) formed principal over conformed reply = inr (reply.1, answers_say_what_typings_are p k s types (Err (sig_stop.Form i)) formed principal over conformed)
+  matched_says p k types s (Err (sig_stop.Units i)) formed principal over conformed reply = inr (reply.1, answers_say_what_typings_are p k s types (Err (sig_stop.Units i)) formed principal over conformed)
+  matched_says p k types s (Err (sig_stop.Range i)) formed principal over conformed reply = absurd (refuted is_verdict status PowerRange reply.1 refl verdict)
+  matched_says p k types s (Err sig_stop.NoMemory) formed principal over conformed reply = absurd reply
+
+  signature_says : (p : ProgramTree) (spelled : SpellsProgram bytes p) (schemes : List SchemeTree) (shorts : List Abbreviation) (k : ℕ) (r : Result ReadSignature SigText) → IsFormed p → infer p ≡ all_schemes schemes → resolved_abbreviations spelled.raw ≡ Ok shorts
+      → number_of (function_names p.functions) (held_name words) ≡ Some k → IsRead p shorts (chars (signature_text words)) (length (signature_text words)) r → BySignature k words p schemes r text status → IsVerdict words bytes text status
+  unfolding MatchingAnswer
+  signature_says p spelled schemes shorts k (Ok signature) formed inferred abbreviated named read (s, given, matched) =
+      let closed = abbreviations_are_closed spelled.raw p shorts spelled.resolved abbreviated in
+      let principal = given_schemes_are_principal p formed schemes inferred in
+      record {
+        program = p;
+        spelled = spelled;
+        shorts = shorts;
+        abbreviated = abbreviated;
+        number = k;
+        named = named;
+        signature = signature;
+        read = read;
+        verdict = matched_says p k (type_trees signature.types) s matched.0 formed (principal.principal k s given) (read_over_bases p shorts (signature_text words) signature closed read) matched.1 matched.2;
+      }
+  signature_says p spelled schemes shorts k (Err stop) formed inferred abbreviated named read reply = absurd (signature_refusal (signature_text words) stop text status reply verdict)
+
+  reading_says : (p : ProgramTree) (spelled : SpellsProgram bytes p) (schemes : List SchemeTree) (shorts : List Abbreviation) (k : ℕ) → IsFormed p → infer p ≡ all_schemes schemes → resolved_abbreviations spelled.raw ≡ Ok shorts
+      → number_of (function_names p.functions) (held_name words) ≡ Some k → ReadAnswer k words p shorts schemes text status → IsVerdict words bytes text status
+  unfolding ReadAnswer
+  reading_says p spelled schemes shorts k formed inferred abbreviated named (r, read, answer) = signature_says p spelled schemes shorts k r formed inferred abbreviated named read answer
+
+  name_says : (p : ProgramTree) (spelled : SpellsProgram bytes p) (schemes : List SchemeTree) (named : Option ℕ) → IsFormed p → infer p ≡ all_schemes schemes → number_of (function_names p.functions) (held_name words) ≡ named
+      → MatchOption named (IsUnnamedReply text status) (λ k. SignatureAnswer k (record { order = Conform; words = words; bytes = bytes; raw = spelled.raw }) p schemes text status) → IsVerdict words bytes text status
+  unfolding SignatureAnswer
+  name_says p spelled schemes None formed inferred named reply = absurd (refuted is_verdict status Input reply.1 refl verdict)
+  name_says p spelled schemes (Some k) formed inferred named (shorts, abbreviated, answer) = reading_says p spelled schemes shorts k formed inferred abbreviated named answer
+
+  typed_says : (p : ProgramTree) (spelled : SpellsProgram bytes p) (inferred : Inference) → IsFormed p → infer p ≡ inferred
+      → InferenceAnswer (record { order = Conform; words = words; bytes = bytes; raw = spelled.raw }) p inferred text status → IsVerdict words bytes text status
+  unfolding TypedAnswer ConformAnswer
+  typed_says p spelled (all_schemes schemes) formed is answer = name_says p spelled schemes (number_of (function_names p.functions) (held_name words)) formed is refl answer
+  typed_says p spelled (stops_at_slots i) formed is answer = absurd (refuted is_verdict status Limit answer.2.1 refl verdict)
+  typed_says p spelled (stops_at_range i at) formed is answer = absurd (refuted is_verdict status PowerRange answer.2.1 refl verdict)
+  typed_says p spelled (stops_at_units i row at) formed is answer = absurd (refuted is_verdict status Units answer.2.1 refl verdict)
+  typed_says p spelled (stops_at_not_general i row at) formed is answer = absurd (refuted is_verdict status NotGeneral answer.2.1 refl verdict)
+
+pub verdicts_say_what_typings_are : VerdictsSayWhatTypingsAre
+verdicts_say_what_typings_are words bytes text status ordered answer verdict =
+    let r = reached Conform words bytes text status (last_of_verdicts status verdict) (λ raw a. a) ordered refl answer in
+    typed_says words bytes text status verdict r.0 r.1 (infer r.0) r.2 refl r.3

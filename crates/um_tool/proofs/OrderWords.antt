@@ -1,0 +1,142 @@
+-- What words are that name an order.
+use Rattle.std.proofs.Common.{◌≡◌, ℕ, ◌<◌, ◌≤◌, Bool, true, false, ◌&&◌, IsTrue, if◌then◌else◌, List, [], ◌∷◌, length, drop, get_or, codes, All, Some, None, Result, Ok, refl, sym, ap, subst, ◌∙◌, arith}
+use Rattle.std.specs.Prelude.{Option, nat_lt, nat_le, slice_get}
+use Rattle.std.specs.Char.{is_ascii_digit}
+use Rattle.std.specs.List.{list_all}
+use Rattle.std.specs.Str.{bytes_eq, all_ascii_digits}
+use Rattle.std.specs.Str.Parse.{digits_value, ParsesUnsigned}
+use Rattle.std.proofs.lemmas.Bool.{leb-true}
+use Rattle.std.proofs.lemmas.Str.Parse.{numerals_by_value, tells_all_ascii_digits, digits_value_short, parse_gives}
+use Rattle.std.proofs.lemmas.List.Elements.{All-nil, All-cons}
+use Rattle.um_tool.specs.declared.order.Order.{Order}
+use Rattle.um_tool.specs.declared.order.Order.TheVariants.{Types, Code, Fmt, Eval, Conform}
+use Rattle.um_tool.specs.Orders.{is_short, is_budget, budget_of, order_alone, call_order, longer_order, order_by_count, order_of}
+
+pub both : (a b : Bool) → (a && b) ≡ true → (a ≡ true) × (b ≡ true)
+both true b e = (refl, e)
+both false b e = absurd cc
+
+-- ---- each word is short, and the words have the form of their count
+named_by_count : (words : List (List ℕ)) (o : Order) → order_of words ≡ Some o → (list_all is_short words ≡ true) × (order_by_count words ≡ Some o)
+unfolding order_of
+named_by_count words o e = by (list_all is_short words) refl e where
+  by : (t : Bool) → list_all is_short words ≡ t → (if t then order_by_count words else None) ≡ Some o → (list_all is_short words ≡ true) × (order_by_count words ≡ Some o)
+  by true s named = (s, named)
+  by false s named = absurd (cc named)
+
+abbrev IsShort : List ℕ → Type 0
+IsShort word = length word ≤ 1048576
+
+all_short : (words : List (List ℕ)) → list_all is_short words ≡ true → All IsShort words
+all_short [] e = All-nil IsShort
+all_short (w ∷ ws) e =
+    let h = both (is_short w) (list_all is_short ws) e in
+    All-cons IsShort w ws (leb-true (length w) 1048576 h.0) (all_short ws h.1)
+
+pub short_words : (words : List (List ℕ)) (o : Order) → order_of words ≡ Some o → All IsShort words
+short_words words o e = all_short words (named_by_count words o e).0
+
+pub none_of_long : (words : List (List ℕ)) → list_all is_short words ≡ false → order_of words ≡ None
+unfolding order_of
+none_of_long words e = ap (λ t. if t then order_by_count words else None) e
+
+pub by_count : (words : List (List ℕ)) → list_all is_short words ≡ true → order_of words ≡ order_by_count words
+unfolding order_of
+by_count words e = ap (λ t. if t then order_by_count words else None) e
+
+-- ---- the forms by the count of words
+pub none_of_few : (words : List (List ℕ)) → (length words ≡ 1 → ⊥) → length words < 3 → order_by_count words ≡ None
+none_of_few [] more few = refl
+none_of_few (w ∷ []) more few = absurd (more refl)
+none_of_few (w ∷ v ∷ []) more few = refl
+none_of_few (w ∷ v ∷ u ∷ ws) more few = absurd (omega (arith, few))
+
+pub alone_of_one : (words : List (List ℕ)) (w : List ℕ) → length words ≡ 1 → slice_get words 0 ≡ Some w → order_by_count words ≡ order_alone w
+alone_of_one [] w e h = absurd (omega (arith, e))
+alone_of_one (x ∷ []) w e h = let same : x ≡ w = cc h in ap order_alone same
+alone_of_one (x ∷ y ∷ ws) w e h = absurd (omega (arith, e))
+
+pub longer_of_more : (words : List (List ℕ)) → 2 < length words → order_by_count words ≡ longer_order (get_or words 0 []) (get_or words 1 []) (drop 3 words)
+longer_of_more [] l = absurd (omega (arith, l))
+longer_of_more (w ∷ []) l = absurd (omega (arith, l))
+longer_of_more (w ∷ v ∷ []) l = absurd (omega (arith, l))
+longer_of_more (w ∷ v ∷ u ∷ ws) l = refl
+
+-- ---- a call has a function's name, and a budget within its limit
+within_limit : (word : List ℕ) (n : ℕ) → budget_of word ≡ Some n → n ≤ 10000000
+within_limit word n e = by (is_budget word && nat_le (digits_value 10 word) 10000000) refl e where
+  by : (t : Bool) → (is_budget word && nat_le (digits_value 10 word) 10000000) ≡ t → (if t then Some (digits_value 10 word) else None) ≡ Some n → n ≤ 10000000
+  by true s named =
+      let same : digits_value 10 word ≡ n = cc named in
+      subst (λ k. k ≤ 10000000) same (leb-true (digits_value 10 word) 10000000 (both (is_budget word) (nat_le (digits_value 10 word) 10000000) s).1)
+  by false s named = absurd (cc named)
+
+called_within : (word : List ℕ) (o : Option ℕ) (b : ℕ) → ((n : ℕ) → o ≡ Some n → n ≤ 10000000) → call_order word o ≡ Some (Eval b) → b ≤ 10000000
+called_within word None b within e = absurd (cc e)
+called_within word (Some n) b within e = by (bytes_eq word (codes "eval")) e where
+  by : (t : Bool) → (if t then Some (Eval n) else None) ≡ Some (Eval b) → b ≤ 10000000
+  by true named = let same : n ≡ b = cc named in subst (λ k. k ≤ 10000000) same (within n refl)
+  by false named = absurd (cc named)
+
+alone_calls_nothing : (word : List ℕ) (b : ℕ) → order_alone word ≡ Some (Eval b) → ⊥
+alone_calls_nothing word b e = by (bytes_eq word (codes "types")) (bytes_eq word (codes "code")) (bytes_eq word (codes "fmt")) e where
+  by : (s t u : Bool) → (if s then Some Types else if t then Some Code else if u then Some Fmt else None) ≡ Some (Eval b) → ⊥
+  by true t u named = cc named
+  by false true u named = cc named
+  by false false true named = cc named
+  by false false false named = cc named
+
+longer_within : (word second : List ℕ) (more : List (List ℕ)) (b : ℕ) → longer_order word second more ≡ Some (Eval b) → b ≤ 10000000
+longer_within word second [] b e = by (bytes_eq word (codes "conform")) e where
+  by : (t : Bool) → (if t then Some Conform else call_order word (budget_of second)) ≡ Some (Eval b) → b ≤ 10000000
+  by true named = absurd (cc named)
+  by false named = called_within word (budget_of second) b (within_limit second) named
+longer_within word second (w ∷ ws) b e = called_within word (budget_of second) b (within_limit second) e
+
+call_by_count : (words : List (List ℕ)) (b : ℕ) → order_by_count words ≡ Some (Eval b) → (3 ≤ length words) × (b ≤ 10000000)
+call_by_count [] b e = absurd (cc e)
+call_by_count (w ∷ []) b e = absurd (alone_calls_nothing w b e)
+call_by_count (w ∷ v ∷ []) b e = absurd (cc e)
+call_by_count (w ∷ v ∷ u ∷ ws) b e = (omega arith, longer_within w v ws b e)
+
+pub call_words : (words : List (List ℕ)) (b : ℕ) → order_of words ≡ Some (Eval b) → (3 ≤ length words) × (b ≤ 10000000)
+call_words words b e = call_by_count words b (named_by_count words (Eval b) e).1
+
+-- ---- a function that is held to a signature has its name and its text
+alone_holds_nothing : (word : List ℕ) → order_alone word ≡ Some Conform → ⊥
+alone_holds_nothing word e = by (bytes_eq word (codes "types")) (bytes_eq word (codes "code")) (bytes_eq word (codes "fmt")) e where
+  by : (s t u : Bool) → (if s then Some Types else if t then Some Code else if u then Some Fmt else None) ≡ Some Conform → ⊥
+  by true t u named = cc named
+  by false true u named = cc named
+  by false false true named = cc named
+  by false false false named = cc named
+
+conform_by_count : (words : List (List ℕ)) → order_by_count words ≡ Some Conform → 3 ≤ length words
+conform_by_count [] e = absurd (cc e)
+conform_by_count (w ∷ []) e = absurd (alone_holds_nothing w e)
+conform_by_count (w ∷ v ∷ []) e = absurd (cc e)
+conform_by_count (w ∷ v ∷ u ∷ ws) e = omega arith
+
+pub conform_words : (words : List (List ℕ)) → order_of words ≡ Some Conform → 3 ≤ length words
+conform_words words e = conform_by_count words (named_by_count words Conform e).1
+
+-- ---- digits
+
+abbrev AreDigits : List ℕ → Type 0
+AreDigits ds = all_ascii_digits ds ≡ true
+
+digits_are : (ds : List ℕ) → list_all is_ascii_digit ds ≡ all_ascii_digits ds
+digits_are [] = refl
+digits_are (d ∷ ds) = ap (λ b. is_ascii_digit d && b) (digits_are ds)
+
+-- few digits are read as their value
+pub few_digits_parsed : {E : Type 0} (word : List ℕ) (r : Result ℕ E) → IsTrue (is_budget word) → ParsesUnsigned 64 10 word r → r ≡ Ok (digits_value 10 word)
+few_digits_parsed word r few parses =
+    let parts = both (nat_lt 0 (length word) && nat_le (length word) 8) (list_all is_ascii_digit word) few in
+    let counts = both (nat_lt 0 (length word)) (nat_le (length word) 8) parts.0 in
+    let own = numerals_by_value AreDigits tells_all_ascii_digits in
+    let digits : AreDigits word = sym (digits_are word) ∙ parts.1 in
+    let some : 0 < length word = leb-true 1 (length word) counts.0 in
+    let short : length word ≤ 8 = leb-true (length word) 8 counts.1 in
+    let small = digits_value_short own word 8 digits short in
+    parse_gives own 64 word r parses digits some (omega (arith, small))

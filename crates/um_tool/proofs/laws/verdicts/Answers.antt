@@ -1,0 +1,5 @@
+use Rattle.um_tool.proofs.CallsMeant.{verdicts_say_what_typings_are}
+use Rattle.um_tool.proofs.laws.verdicts.Goals as goal
+
+pub returns : goal.returns
+returns c = verdicts_say_what_typings_are

@@ -1,0 +1,96 @@
+-- What answers to `code`, to calls and to signatures say, in the subject's words.
+-- Source: principal schemes and typings are Kennedy's (1996); the rest is this project's own.
+use Rattle.std.specs.Prelude.{ℕ, ◌≡◌, ◌⊎◌, Bool, true, false, IsTrue, List, [], ◌∷◌, ◌++◌, length, chars, codes, Some}
+use Rattle.std.specs.Prelude.{Ok}
+use Rattle.um_tree.specs.TypeTree.{type_trees}
+use Rattle.um_tree.specs.ValueTree.{OutcomeTree}
+use Rattle.um_tree.specs.ProgramTree.{ProgramTree, SchemeTree}
+use Rattle.um_tree.specs.Meaning.{outcome_of_call}
+use Rattle.um_measures.specs.declared.abbreviation.Abbreviation.{Abbreviation}
+use Rattle.um_measures.specs.Known.{number_of, function_names}
+use Rattle.um_names.specs.Resolution.{resolved_abbreviations}
+use Rattle.um_infer.specs.Schemes.{ArePrincipal}
+use Rattle.um_gen.specs.ProgramCode.{program_code}
+use Rattle.um_code.specs.Listing.{listing_text}
+use Rattle.um_run.specs.Calls.{CallTree, call_values, IsCallOf}
+use Rattle.um_run.specs.Laws.{IsTypedCall}
+use Rattle.um_sig.specs.declared.signature.Signature.{Signature}
+use Rattle.um_sig.specs.Reading.{IsRead}
+use Rattle.um_sig.specs.Instances.{AreAllTypings}
+use Rattle.um_tool.specs.declared.order.Order.TheVariants.{Eval, Conform}
+use Rattle.um_tool.specs.declared.status.Status.{Status}
+use Rattle.um_tool.specs.declared.status.Status.TheVariants.{Done, Trap, BudgetEnd, NotConform}
+use Rattle.um_tool.specs.Asked.{called_name, argument_texts, held_name, signature_text}
+use Rattle.um_tool.specs.CallAnswer.{IsOutcomeReply}
+use Rattle.um_tool.specs.Orders.{order_of}
+use Rattle.um_tool.specs.Answer.{Answer}
+use Rattle.um_tool.specs.Steps.{line}
+use Rattle.um_tool.specs.Laws.{SpellsProgram}
+
+-- What `code` prints with status 0 is the listing of the code of the program that the bytes spell.
+abbrev pub PrintedCodeIsTheProgramsCode : Type 0
+PrintedCodeIsTheProgramsCode =
+    (bytes text : List ℕ) → Answer (codes "code" ∷ []) bytes text Done →
+    (p : ProgramTree) × SpellsProgram bytes p × (text ≡ listing_text p (program_code p.functions))
+
+-- ---- calls
+
+-- a call ended: with a value, with a trap, or with the budget's end
+abbrev pub ends_a_call : Status → Bool
+ends_a_call Done = true
+ends_a_call Trap = true
+ends_a_call BudgetEnd = true
+ends_a_call status = false
+
+-- The words name a call in the program that the bytes spell, given its principal schemes; the call has a type, and the
+-- text and the status are those of its meaning's outcome at the budget.
+pub record IsMeantCall (budget : ℕ) (words : List (List ℕ)) (bytes text : List ℕ) (status : Status) : Type 0 where
+  pub program : ProgramTree
+  pub spelled : SpellsProgram bytes program
+  pub shorts : List Abbreviation
+  pub abbreviated : resolved_abbreviations spelled.raw ≡ Ok shorts
+  pub schemes : List SchemeTree
+  pub principal : ArePrincipal program (length program.functions) schemes
+  pub call : CallTree
+  pub named : IsCallOf program shorts schemes (called_name words) (argument_texts words) (Ok call)
+  pub typed : IsTypedCall program call
+  pub outcome : OutcomeTree
+  pub meant : outcome_of_call program call.function (call_values call) budget ≡ Some outcome
+  pub printed : IsOutcomeReply program call.type outcome text status
+
+-- A call that is answered with such a status ended as its meaning has it.
+abbrev pub EndedCallsAreMeant : Type 0
+EndedCallsAreMeant =
+    (budget : ℕ) (words : List (List ℕ)) (bytes text : List ℕ) (status : Status) →
+    order_of words ≡ Some (Eval budget) → Answer words bytes text status → IsTrue (ends_a_call status) →
+    IsMeantCall budget words bytes text status
+
+-- ---- signatures
+
+-- a function conforms, or it doesn't for its form or its units
+abbrev pub is_verdict : Status → Bool
+is_verdict Done = true
+is_verdict NotConform = true
+is_verdict status = false
+
+-- The words name a function of the program that the bytes spell, and a signature. With status 0 each instance of the
+-- signature is a typing of the function, and otherwise not each is.
+pub record IsVerdict (words : List (List ℕ)) (bytes text : List ℕ) (status : Status) : Type 0 where
+  pub program : ProgramTree
+  pub spelled : SpellsProgram bytes program
+  pub shorts : List Abbreviation
+  pub abbreviated : resolved_abbreviations spelled.raw ≡ Ok shorts
+  pub number : ℕ
+  pub named : number_of (function_names program.functions) (held_name words) ≡ Some number
+  pub signature : Signature
+  pub read : IsRead program shorts (chars (signature_text words)) (length (signature_text words)) (Ok signature)
+  pub verdict :
+      ((status ≡ Done) × AreAllTypings program number (type_trees signature.types)
+      × (text ≡ line (held_name words ++ codes " conforms")))
+      ⊎ ((status ≡ NotConform) × (AreAllTypings program number (type_trees signature.types) → ⊥))
+
+abbrev pub VerdictsSayWhatTypingsAre : Type 0
+VerdictsSayWhatTypingsAre =
+    (words : List (List ℕ)) (bytes text : List ℕ) (status : Status) →
+    order_of words ≡ Some Conform → Answer words bytes text status → IsTrue (is_verdict status) →
+    IsVerdict words bytes text status
