@@ -48,7 +48,7 @@ AreSteps way.Counted budget p call o steps =
 unfoldable pub RunAnswer : Way → ℕ → ProgramTree → CallTree → List ℕ → Status → Type 0
 RunAnswer way budget p call text status =
     (o : OutcomeTree) × (outcome_of_call p call.function (call_values call) budget ≡ Some o)
-    × ((steps : Option ℕ) × AreSteps way budget p call o steps × IsOutcomeReply p call.type o steps text status)
+    × (steps : Option ℕ) × AreSteps way budget p call o steps × IsOutcomeReply p call.type o steps text status
 
 -- the call, or its refusal
 abbrev pub ByCall : Way → ℕ → List (List ℕ) → ProgramTree → Result CallTree CallRefusal → List ℕ → Status → Type 0
