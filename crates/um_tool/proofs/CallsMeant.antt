@@ -118,7 +118,7 @@ module _ (way : Way) (budget : ℕ) (words : List (List ℕ)) (bytes text : List
   named_meant p spelled schemes shorts formed inferred abbreviated (r, named, answer) = call_meant p spelled schemes shorts r formed inferred abbreviated named answer
 
   -- an order that calls is answered as its call
-  asked_with : Order → List DeclSyntax → Asked
+  abbrev asked_with : Order → List DeclSyntax → Asked
   asked_with order raw = record { order = order; words = words; bytes = bytes; raw = raw }
 
   beside_meant : (order : Order) (p : ProgramTree) (spelled : SpellsProgram bytes p) (schemes : List SchemeTree) → IsFormed p → infer p ≡ all_schemes schemes
@@ -127,7 +127,7 @@ module _ (way : Way) (budget : ℕ) (words : List (List ℕ)) (bytes text : List
   beside_meant order p spelled schemes formed is (shorts, abbreviated, answer) = named_meant p spelled schemes shorts formed is abbreviated answer
 
   call_answer : (order : Order) (raw : List DeclSyntax) (p : ProgramTree) (schemes : List SchemeTree) → IsCall order way budget → TypedAnswer (asked_with order raw) p schemes text status → CallAnswer way budget (asked_with order raw) p schemes text status
-  unfolding TypedAnswer
+  unfolding TypedAnswer CallAnswer
   call_answer (Run n) raw p schemes (w, same) answer = subst (λ b. CallAnswer way b (asked_with (Run n) raw) p schemes text status) same (subst (λ v. CallAnswer v n (asked_with (Run n) raw) p schemes text status) (sym w) answer)
   call_answer (Steps n) raw p schemes (w, same) answer = subst (λ b. CallAnswer way b (asked_with (Steps n) raw) p schemes text status) same (subst (λ v. CallAnswer v n (asked_with (Steps n) raw) p schemes text status) (sym w) answer)
   call_answer (Eval n) raw p schemes (w, same) answer = subst (λ b. CallAnswer way b (asked_with (Eval n) raw) p schemes text status) same (subst (λ v. CallAnswer v n (asked_with (Eval n) raw) p schemes text status) (sym w) answer)

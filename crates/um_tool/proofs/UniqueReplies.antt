@@ -1,5 +1,5 @@
 -- The answer to a call, and that to a signature, is one.
-use Rattle.std.proofs.Common.{◌≡◌, ◌⊎◌, ℕ, List, [], length, chars, get_or, Result, Ok, Err, Some, None, MatchOption, inl, inr, sym, subst, ◌∙◌}
+use Rattle.std.proofs.Common.{◌≡◌, ◌⊎◌, ℕ, ◌<◌, ◌≤◌, min, List, [], length, chars, get_or, Result, Ok, Err, Some, None, MatchOption, inl, inr, sym, ap, subst, ◌∙◌, arith}
 use Rattle.std.specs.declared.option.Option.{Option}
 use Rattle.std.proofs.lemmas.Bool.{cases_lt}
 use Rattle.um_tree.specs.TypeTree.{TypeTree, type_trees}
@@ -12,7 +12,7 @@ use Rattle.um_value.specs.declared.stop.InputStop.{InputStop}
 use Rattle.um_value.specs.declared.stop.InputStop.TheVariants as input_stop
 use Rattle.um_run.specs.declared.call.CallRefusal.{CallRefusal}
 use Rattle.um_run.specs.declared.call.CallRefusal.TheVariants as refusal
-use Rattle.um_run.specs.Calls.{CallTree}
+use Rattle.um_run.specs.Calls.{CallTree, call_values}
 use Rattle.um_run.proofs.UniqueCalls.{calls_are_unique}
 use Rattle.um_sig.specs.declared.signature.Signature.{Signature as ReadSignature}
 use Rattle.um_sig.specs.declared.stop.SigText.{SigText}

@@ -210,7 +210,12 @@ fn run_counted(
     let code = generate(alloc, shaped)?;
     let values = argument_values(alloc, &call.inputs)?;
     let runner = CodeRunner::new(shaped, &code);
-    let CountedOutcome { outcome, steps } = runner.count_steps(alloc, call.function, values, budget)?;
+    let CountedOutcome { outcome, steps } = runner.count_steps(
+        alloc,
+        call.function,
+        values,
+        budget,
+    )?;
     Ok(Ended {
         outcome,
         steps: Some(steps),
@@ -275,7 +280,7 @@ fn push_steps(text: &mut Vec<u8>, steps: Option<u64>) -> Result<(), AllocError>
         Some(steps) => {
             text.extend_from_slice(b"steps ")?;
             text.extend_from_slice(itoa::Buffer::new().format(steps).as_bytes())?;
-            text.push(b'\n')
+            text.extend_from_slice(b"\n")
         }
     }
 }
