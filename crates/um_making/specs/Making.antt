@@ -1,0 +1,72 @@
+-- What the making of a certificate keeps from row to row, and how it follows the turns of the elimination.
+-- Source: this project's own, after Kennedy (1996): a most general unifier is kept with a way back from it.
+use Rattle.std.specs.Prelude.{◌≡◌, ℕ, ◌<◌, if◌then◌else◌, List, [], ◌∷◌, map, length, ℤ, pos}
+use Rattle.std.proofs.Common.{neg_ℤ}
+use Rattle.um_units.specs.declared.Atom.{Atom}
+use Rattle.um_units.specs.declared.Atom.TheVariants.{Base, Var}
+use Rattle.um_units.specs.Atoms.{same_atom}
+use Rattle.um_units.specs.PowerMap.{PowerMap, product, power_of, one, atom, mul, inv, pow, replace, nth, extension}
+use Rattle.um_check.specs.declared.certificate.Part.{Part}
+use Rattle.um_check.specs.Refutation.{IsApart}
+use Rattle.um_turns.specs.Turns.{Turn, signed}
+
+-- ---- the way back: a unit for each atom. Powers of rows are units over the variables that are the rows' numbers
+
+-- up to the divisor each slot goes to its unit and back, but for the rows to the powers in its parts
+pub record IsKept
+    (rows solution : List PowerMap) (back : Atom → PowerMap) (divisor : ℤ) (parts : ℕ → PowerMap) : Type 0 where
+  pub by_rows : (j : ℕ) → j < length solution →
+      pow (mul (extension back (nth solution j)) (inv (atom (Var j)))) divisor ≡ replace (nth rows) (parts j)
+
+-- ---- turns
+
+-- inverted as often as the turns invert
+abbrev pub signed_by : List Turn → PowerMap → PowerMap
+signed_by [] u = u
+signed_by (t ∷ ts) u = signed_by ts (signed t.inverted u)
+
+-- where x times w is put for x, what x goes back to is divided by what w goes back to
+abbrev pub divided_back : ℕ → PowerMap → (Atom → PowerMap) → Atom → PowerMap
+divided_back m w back y = if same_atom (Var m) y then mul (back y) (inv (extension back w)) else back y
+
+abbrev pub back_after : List Turn → (Atom → PowerMap) → Atom → PowerMap
+back_after [] back = back
+back_after (t ∷ ts) back = back_after ts (divided_back t.variable t.by back)
+
+-- ---- the end of row k
+
+abbrev pub at_slot : (ℕ → PowerMap) → Atom → PowerMap
+at_slot parts (Base n) = one
+at_slot parts (Var j) = parts j
+
+-- the rows' powers that the row itself goes back to: over its slots its powers times their parts, and the divisor at k
+abbrev pub total : (ℕ → PowerMap) → PowerMap → ℕ → ℤ → PowerMap
+total parts row k divisor = mul (extension (at_slot parts) row) (pow (atom (Var k)) divisor)
+
+-- the parts where the turns left x^p and x becomes 1: p times those before, less e times t, where e is x's power in the
+-- slot's unit
+abbrev pub parts_after : ℕ → ℕ → PowerMap → List PowerMap → (ℕ → PowerMap) → ℕ → PowerMap
+parts_after m p t solution parts j = mul (pow (parts j) (pos p)) (pow t (neg_ℤ (power_of (nth solution j) (Var m))))
+
+-- ---- what is made of all rows
+
+-- a way back from the units, which leaves base units
+pub record IsMade (rows solution : List PowerMap) : Type 0 where
+  pub back : Atom → PowerMap
+  pub divisor : ℕ
+  pub positive : 0 < divisor
+  pub bases : (n : ℕ) → back (Base n) ≡ atom (Base n)
+  pub parts : ℕ → PowerMap
+  pub kept : IsKept rows solution back (pos divisor) parts
+
+-- a product of rows that can't become 1
+pub record IsNoMade (rows : List PowerMap) : Type 0 where
+  pub last : ℕ
+  pub inside : last < length rows
+  pub modulus : ℤ
+  pub exponents_made : PowerMap
+  pub apart : IsApart modulus (replace (nth rows) exponents_made)
+
+-- a certificate's parts as a unit over the rows' numbers
+abbrev pub exponents : List Part → PowerMap
+exponents ps = product (map (λ p. record { atom = Var p.row; power = p.times }) ps)

@@ -1,0 +1,7 @@
+//! How certificates are made: what the making keeps beside the elimination of rows, and that it goes through.
+//!
+//! A way back is kept with the most general solution (Kennedy, Programming Languages and Dimensions, 1996, on unification in
+//! the free abelian group). How it follows the turns of the elimination is this project's own.
+#![tactic(auto)]
+
+pub mod laws;
