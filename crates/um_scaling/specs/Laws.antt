@@ -1,6 +1,6 @@
 -- What rescaling comes to. The definitions do not rest on this.
--- Source: Kennedy (1997), the scaling theorem: related arguments give related results. That a number at an open unit is 0 is
--- its use on a rescaling of one variable.
+-- Source: Kennedy (1997), the scaling theorem: related arguments give related results. That a number at an open unit
+-- is 0 is its use on a rescaling of one variable.
 use Rattle.std.specs.Prelude.{◌≡◌, ℕ, List, length, ℤ, Some}
 use Rattle.um_units.specs.PowerMap.{PowerMap, mul, pow}
 use Rattle.um_tree.specs.TypeTree.{TypeTree}
@@ -32,9 +32,10 @@ FactorsArePowers =
 
 -- ---- scaling
 
--- For each formed program, each function and each typing of it, each positive rescaling of all base units and variables, the
--- program rescaled, arguments of which the second are the first ones rescaled at the typing's parameter types, and each
--- budget: the second outcome is the first one rescaled at the typing's result, unless one of them overflows.
+-- For each formed program, each function and each typing of it, each positive rescaling of all base units and
+-- variables, the program rescaled, arguments of which the second are the first ones rescaled at the typing's
+-- parameter types, and each budget: the second outcome is the first one rescaled at the typing's result, unless one
+-- of them overflows.
 abbrev pub ScalingLaw : Type 0
 ScalingLaw =
     (p q : ProgramTree) (r : Rescaling) (f : ℕ) (g : Signature) (vs ws : List ValueTree) (b : ℕ) (o o' : OutcomeTree) →

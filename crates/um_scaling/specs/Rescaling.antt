@@ -1,5 +1,5 @@
--- A rescaling gives each base unit and each unit variable a positive factor; the factor of a unit is the product of these to
--- the unit's powers.
+-- A rescaling gives each base unit and each unit variable a positive factor; the factor of a unit is the product of
+-- these to the unit's powers.
 -- Source: Kennedy (1997). That a factor is a pair of whole numbers is this project's own.
 use Rattle.std.specs.Prelude.{◌≡◌, ℕ, suc, ◌*◌, ◌^◌, ◌<◌, List, [], ◌∷◌, ℤ, pos, negsuc, ◌*ℤ◌}
 use Rattle.um_frac.specs.declared.number.Frac.{Frac}

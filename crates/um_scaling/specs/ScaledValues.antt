@@ -39,8 +39,8 @@ module _ (records : List RecordTree) (r : Rescaling) where
   AllScaled (v ∷ vs) (t ∷ ts) (w ∷ ws) = Scaled v t w × AllScaled vs ts ws
   AllScaled vs ts ws = ⊥
 
-  -- both use the budget up, or both divide by 0, or both give values, at the type and the second rescaled; nothing is said
-  -- where one overflows
+  -- both use the budget up, or both divide by 0, or both give values, at the type and the second rescaled; nothing is
+  -- said where one overflows
   abbrev pub OutcomesScaled : OutcomeTree → TypeTree → OutcomeTree → Type 0
   OutcomesScaled (trap_outcome Overflow) t o = Unit {0}
   OutcomesScaled o t (trap_outcome Overflow) = Unit {0}

@@ -9,9 +9,9 @@ ghost use Rattle.um_scaling.specs.Laws.{
   FreeZerosOfCalls,
 };
 
-/// A program that is another one rescaled ends its calls as that one does, on arguments that are rescaled too and at every
-/// budget: both use the budget up, or both divide by 0, or both give values, and the second value is the first one
-/// rescaled. Nothing is said where one of the two overflows.
+/// A program that is another one rescaled ends its calls as that one does, on arguments that are rescaled too and at
+/// every budget: both use the budget up, or both divide by 0, or both give values, and the second value is the first
+/// one rescaled. Nothing is said where one of the two overflows.
 pub fn scaling()
     ensures { ScalingLaw }
 {}
