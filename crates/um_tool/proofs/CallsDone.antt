@@ -15,35 +15,36 @@ use Rattle.um_run.specs.Laws.{AreKnown}
 use Rattle.um_run.proofs.CallLaws.{fitting_calls_are_calls}
 use Rattle.um_run.proofs.UniqueCalls.{calls_are_unique}
 use Rattle.um_run.proofs.ClosedAbbreviations.{abbreviations_are_closed}
+use Rattle.um_tool.specs.declared.way.Way.{Way}
 use Rattle.um_tool.specs.declared.status.Status.{Status}
 use Rattle.um_tool.specs.declared.status.Status.TheVariants.{Done}
 use Rattle.um_tool.specs.Asked.{Asked, called_name, argument_texts}
 use Rattle.um_tool.specs.CallAnswer.{CallAnswer, BesideAnswer, ByCall, RunAnswer, IsValueReply, IsOutcomeReply}
 use Rattle.um_tool.specs.Passing.{GivesValue}
 
-run_done : (budget : ℕ) (words : List (List ℕ)) (p : ProgramTree) (raw : List DeclSyntax) (g : GivesValue budget words raw p) (call : CallTree) (text : List ℕ) (status : Status) → IsCallOf p g.shorts g.schemes (called_name words) (argument_texts words) (Ok call)
-    → outcome_of_call p call.function (call_values call) budget ≡ Some (value_outcome g.value) → RunAnswer budget p call text status → status ≡ Done
+run_done : (way : Way) (budget : ℕ) (words : List (List ℕ)) (p : ProgramTree) (raw : List DeclSyntax) (g : GivesValue budget words raw p) (call : CallTree) (text : List ℕ) (status : Status) → IsCallOf p g.shorts g.schemes (called_name words) (argument_texts words) (Ok call)
+    → outcome_of_call p call.function (call_values call) budget ≡ Some (value_outcome g.value) → RunAnswer way budget p call text status → status ≡ Done
 unfolding RunAnswer
-run_done budget words p raw g call text status named meant (o, ended, reply) =
+run_done way budget words p raw g call text status named meant (o, ended, steps, counted, reply) =
     let both : Some o ≡ Some (value_outcome g.value) = sym ended ∙ meant in
     let same : o ≡ value_outcome g.value = cc both in
-    printed (subst (λ e. IsOutcomeReply p call.type e text status) same reply)
+    printed (subst (λ e. IsOutcomeReply p call.type e steps text status) same reply)
   where
-    printed : IsValueReply p call.type g.value text status → status ≡ Done
+    printed : IsValueReply p call.type g.value steps text status → status ≡ Done
     printed (inl (fits, line)) = line.1
     printed (inr (unfit, line)) = absurd (unfit (g.in_range call named))
 
-module _ (budget : ℕ) (words : List (List ℕ)) (p : ProgramTree) (text : List ℕ) (status : Status) where
+module _ (way : Way) (budget : ℕ) (words : List (List ℕ)) (p : ProgramTree) (text : List ℕ) (status : Status) where
   answered_done : (r : Result CallTree CallRefusal) (call : CallTree) → (Ok call ≡ r) ⊎ ((Ok call ≡ Err NoMemory) ⊎ (r ≡ Err NoMemory))
-      → (RunAnswer budget p call text status → status ≡ Done) → ByCall budget (argument_texts words) p r text status → status ≡ Done
-  answered_done r call (inl same) done answer = done (subst (λ q. ByCall budget (argument_texts words) p q text status) (sym same) answer)
+      → (RunAnswer way budget p call text status → status ≡ Done) → ByCall way budget (argument_texts words) p r text status → status ≡ Done
+  answered_done r call (inl same) done answer = done (subst (λ q. ByCall way budget (argument_texts words) p q text status) (sym same) answer)
   answered_done r call (inr (inl wrong)) done answer = absurd (cc wrong)
-  answered_done r call (inr (inr wanting)) done answer = absurd (subst (λ q. ByCall budget (argument_texts words) p q text status) wanting answer)
+  answered_done r call (inr (inr wanting)) done answer = absurd (subst (λ q. ByCall way budget (argument_texts words) p q text status) wanting answer)
 
-module _ (budget : ℕ) (words : List (List ℕ)) (raw : List DeclSyntax) (p : ProgramTree) (schemes : List SchemeTree) (text : List ℕ) (status : Status) where
+module _ (way : Way) (budget : ℕ) (words : List (List ℕ)) (raw : List DeclSyntax) (p : ProgramTree) (schemes : List SchemeTree) (text : List ℕ) (status : Status) where
   -- beside the abbreviations and the schemes that stand in what is asked
   beside_done : (shorts : List Abbreviation) → IsFormed p → resolved_program raw ≡ Ok p → infer p ≡ all_schemes schemes → (g : GivesValue budget words raw p) → resolved_abbreviations raw ≡ Ok shorts
-      → BesideAnswer budget words p shorts schemes text status → status ≡ Done
+      → BesideAnswer way budget words p shorts schemes text status → status ≡ Done
   unfolding BesideAnswer
   beside_done shorts formed resolved inferred g abbreviated (r, named, answer) =
       let name = called_name words in let texts = argument_texts words in
@@ -55,12 +56,12 @@ module _ (budget : ℕ) (words : List (List ℕ)) (raw : List DeclSyntax) (p : P
       let fitting = fitting_calls_are_calls p g.shorts g.schemes name texts known g.fits in
       let call : CallTree = record { function = g.fits.number; inputs = g.fits.inputs; type = fitting.0 } in
       let here : IsCallOf p g.shorts g.schemes name texts r = subst (λ ss. IsCallOf p g.shorts ss name texts r) same_schemes (subst (λ ss. IsCallOf p ss schemes name texts r) same_shorts named) in
-      answered_done budget words p text status r call
+      answered_done way budget words p text status r call
       (calls_are_unique p g.shorts g.schemes name texts formed (Ok call) r fitting.1 here)
-      (run_done budget words p raw g call text status fitting.1 g.gives) answer
+      (run_done way budget words p raw g call text status fitting.1 g.gives) answer
 
-pub call_done : (budget : ℕ) (asked : Asked) (p : ProgramTree) (schemes : List SchemeTree) (text : List ℕ) (status : Status) → IsFormed p → resolved_program asked.raw ≡ Ok p → infer p ≡ all_schemes schemes
-    → GivesValue budget asked.words asked.raw p → CallAnswer budget asked p schemes text status → status ≡ Done
+pub call_done : (way : Way) (budget : ℕ) (asked : Asked) (p : ProgramTree) (schemes : List SchemeTree) (text : List ℕ) (status : Status) → IsFormed p → resolved_program asked.raw ≡ Ok p → infer p ≡ all_schemes schemes
+    → GivesValue budget asked.words asked.raw p → CallAnswer way budget asked p schemes text status → status ≡ Done
 unfolding CallAnswer
-call_done budget asked p schemes text status formed resolved inferred g (shorts, abbreviated, answer) =
-    beside_done budget asked.words asked.raw p schemes text status shorts formed resolved inferred g abbreviated answer
+call_done way budget asked p schemes text status formed resolved inferred g (shorts, abbreviated, answer) =
+    beside_done way budget asked.words asked.raw p schemes text status shorts formed resolved inferred g abbreviated answer

@@ -27,17 +27,22 @@ use Rattle.um_sig.specs.Reading.{IsRead}
 use Rattle.um_sig.specs.Answers.{IsConformed}
 use Rattle.um_sig.specs.Instances.{AreOverBases, AreAllTypings}
 use Rattle.um_sig.proofs.TypingLaws.{answers_say_what_typings_are}
-use Rattle.um_tool.specs.declared.order.Order.TheVariants.{Eval, Conform}
+use Rattle.um_tool.specs.declared.order.Order.{Order}
+use Rattle.um_tool.specs.declared.order.Order.TheVariants.{Run, Steps, Eval, Conform}
+use Rattle.um_tool.specs.declared.order.Intake.TheVariants.{Text}
+use Rattle.um_tool.specs.declared.way.Way.{Way}
+use Rattle.um_tree.specs.RawTree.{DeclSyntax}
 use Rattle.um_tool.specs.declared.status.Status.{Status}
 use Rattle.um_tool.specs.declared.status.Status.TheVariants.{Done, Limit, Units, PowerRange, Input, Trap, BudgetEnd, NotGeneral, NotConform}
-use Rattle.um_tool.specs.Asked.{called_name, argument_texts, held_name, signature_text}
+use Rattle.um_tool.specs.Asked.{Asked, called_name, argument_texts, held_name, signature_text}
 use Rattle.um_tool.specs.CallRefusals.{IsArgumentReply, IsCallReply, IsUnnamedReply, IsSignatureReply, IsConformReply}
 use Rattle.um_tool.specs.CallAnswer.{CallAnswer, BesideAnswer, ByCall, RunAnswer}
 use Rattle.um_tool.specs.ConformAnswer.{ConformAnswer, SignatureAnswer, ReadAnswer, BySignature, MatchingAnswer}
-use Rattle.um_tool.specs.Answer.{TypedAnswer, InferenceAnswer}
+use Rattle.um_tool.specs.Orders.{intake_of}
+use Rattle.um_tool.specs.Answer.{ByLayout, NamesAnswer, TypedAnswer, InferenceAnswer}
 use Rattle.um_tool.specs.Steps.{line}
 use Rattle.um_tool.specs.Laws.{SpellsProgram}
-use Rattle.um_tool.specs.CallLaws.{ends_a_call, IsMeantCall, EndedCallsAreMeant, is_verdict, IsVerdict, VerdictsSayWhatTypingsAre}
+use Rattle.um_tool.specs.CallLaws.{IsCall, ends_a_call, IsMeantCall, EndedCallsAreMeant, is_verdict, IsVerdict, VerdictsSayWhatTypingsAre}
 use Rattle.um_tool.proofs.Reached.{comes_last, reached}
 use Rattle.um_tool.proofs.ConformsDone.{read_over_bases}
 
@@ -83,11 +88,11 @@ signature_refusal word sig_text.NoMemory text status reply verdict = reply
 
 -- ---- calls
 
-module _ (budget : ℕ) (words : List (List ℕ)) (bytes text : List ℕ) (status : Status) (ends : IsTrue (ends_a_call status)) where
+module _ (way : Way) (budget : ℕ) (words : List (List ℕ)) (bytes text : List ℕ) (status : Status) (ends : IsTrue (ends_a_call status)) where
   call_meant : (p : ProgramTree) (spelled : SpellsProgram bytes p) (schemes : List SchemeTree) (shorts : List Abbreviation) (r : Result CallTree CallRefusal) → IsFormed p → infer p ≡ all_schemes schemes → resolved_abbreviations spelled.raw ≡ Ok shorts
-      → IsCallOf p shorts schemes (called_name words) (argument_texts words) r → ByCall budget (argument_texts words) p r text status → IsMeantCall budget words bytes text status
+      → IsCallOf p shorts schemes (called_name words) (argument_texts words) r → ByCall way budget (argument_texts words) p r text status → IsMeantCall way budget words bytes text status
   unfolding RunAnswer
-  call_meant p spelled schemes shorts (Ok call) formed inferred abbreviated named (o, meant, printed) =
+  call_meant p spelled schemes shorts (Ok call) formed inferred abbreviated named (o, meant, steps, counted, printed) =
       let known : AreKnown p shorts schemes = record { formed = formed; inferred = inferred; closed = abbreviations_are_closed spelled.raw p shorts spelled.resolved abbreviated } in
       record {
         program = p;
@@ -101,28 +106,58 @@ module _ (budget : ℕ) (words : List (List ℕ)) (bytes text : List ℕ) (statu
         typed = calls_are_typed p shorts schemes (called_name words) (argument_texts words) known call named;
         outcome = o;
         meant = meant;
+        steps = steps;
+        counted = counted;
         printed = printed;
       }
   call_meant p spelled schemes shorts (Err refused) formed inferred abbreviated named reply = absurd (call_refusal (argument_texts words) refused text status reply ends)
 
-  beside_meant : (p : ProgramTree) (spelled : SpellsProgram bytes p) (schemes : List SchemeTree) (shorts : List Abbreviation) → IsFormed p → infer p ≡ all_schemes schemes → resolved_abbreviations spelled.raw ≡ Ok shorts
-      → BesideAnswer budget words p shorts schemes text status → IsMeantCall budget words bytes text status
+  named_meant : (p : ProgramTree) (spelled : SpellsProgram bytes p) (schemes : List SchemeTree) (shorts : List Abbreviation) → IsFormed p → infer p ≡ all_schemes schemes → resolved_abbreviations spelled.raw ≡ Ok shorts
+      → BesideAnswer way budget words p shorts schemes text status → IsMeantCall way budget words bytes text status
   unfolding BesideAnswer
-  beside_meant p spelled schemes shorts formed inferred abbreviated (r, named, answer) = call_meant p spelled schemes shorts r formed inferred abbreviated named answer
+  named_meant p spelled schemes shorts formed inferred abbreviated (r, named, answer) = call_meant p spelled schemes shorts r formed inferred abbreviated named answer
 
-  typed_meant : (p : ProgramTree) (spelled : SpellsProgram bytes p) (inferred : Inference) → IsFormed p → infer p ≡ inferred
-      → InferenceAnswer (record { order = Eval budget; words = words; bytes = bytes; raw = spelled.raw }) p inferred text status → IsMeantCall budget words bytes text status
+  -- an order that calls is answered as its call
+  abbrev asked_with : Order → List DeclSyntax → Asked
+  asked_with order raw = record { order = order; words = words; bytes = bytes; raw = raw }
+
+  beside_meant : (order : Order) (p : ProgramTree) (spelled : SpellsProgram bytes p) (schemes : List SchemeTree) → IsFormed p → infer p ≡ all_schemes schemes
+      → CallAnswer way budget (asked_with order spelled.raw) p schemes text status → IsMeantCall way budget words bytes text status
+  unfolding CallAnswer
+  beside_meant order p spelled schemes formed is (shorts, abbreviated, answer) = named_meant p spelled schemes shorts formed is abbreviated answer
+
+  call_answer : (order : Order) (raw : List DeclSyntax) (p : ProgramTree) (schemes : List SchemeTree) → IsCall order way budget → TypedAnswer (asked_with order raw) p schemes text status → CallAnswer way budget (asked_with order raw) p schemes text status
   unfolding TypedAnswer CallAnswer
-  typed_meant p spelled (all_schemes schemes) formed is (shorts, abbreviated, answer) = beside_meant p spelled schemes shorts formed is abbreviated answer
-  typed_meant p spelled (stops_at_slots i) formed is answer = absurd (refuted ends_a_call status Limit answer.2.1 refl ends)
-  typed_meant p spelled (stops_at_range i at) formed is answer = absurd (refuted ends_a_call status PowerRange answer.2.1 refl ends)
-  typed_meant p spelled (stops_at_units i row at) formed is answer = absurd (refuted ends_a_call status Units answer.2.1 refl ends)
-  typed_meant p spelled (stops_at_not_general i row at) formed is answer = absurd (refuted ends_a_call status NotGeneral answer.2.1 refl ends)
+  call_answer (Run n) raw p schemes (w, same) answer = subst (λ b. CallAnswer way b (asked_with (Run n) raw) p schemes text status) same (subst (λ v. CallAnswer v n (asked_with (Run n) raw) p schemes text status) (sym w) answer)
+  call_answer (Steps n) raw p schemes (w, same) answer = subst (λ b. CallAnswer way b (asked_with (Steps n) raw) p schemes text status) same (subst (λ v. CallAnswer v n (asked_with (Steps n) raw) p schemes text status) (sym w) answer)
+  call_answer (Eval n) raw p schemes (w, same) answer = subst (λ b. CallAnswer way b (asked_with (Eval n) raw) p schemes text status) same (subst (λ v. CallAnswer v n (asked_with (Eval n) raw) p schemes text status) (sym w) answer)
+  call_answer order raw p schemes c answer = absurd c
+
+  typed_meant : (order : Order) (p : ProgramTree) (spelled : SpellsProgram bytes p) (inferred : Inference) → IsCall order way budget → IsFormed p → infer p ≡ inferred
+      → InferenceAnswer (asked_with order spelled.raw) p inferred text status → IsMeantCall way budget words bytes text status
+  typed_meant order p spelled (all_schemes schemes) c formed is answer = beside_meant order p spelled schemes formed is (call_answer order spelled.raw p schemes c answer)
+  typed_meant order p spelled (stops_at_slots i) c formed is answer = absurd (refuted ends_a_call status Limit answer.2.1 refl ends)
+  typed_meant order p spelled (stops_at_range i at) c formed is answer = absurd (refuted ends_a_call status PowerRange answer.2.1 refl ends)
+  typed_meant order p spelled (stops_at_units i row at) c formed is answer = absurd (refuted ends_a_call status Units answer.2.1 refl ends)
+  typed_meant order p spelled (stops_at_not_general i row at) c formed is answer = absurd (refuted ends_a_call status NotGeneral answer.2.1 refl ends)
+
+-- the names are looked up before a call, and it takes a text
+looks_up : (order : Order) (w : Way) (budget : ℕ) (asked : Asked) (text : List ℕ) (status : Status) → IsCall order w budget → ByLayout order asked text status → NamesAnswer asked text status
+looks_up (Run n) w budget asked text status c answer = answer
+looks_up (Steps n) w budget asked text status c answer = answer
+looks_up (Eval n) w budget asked text status c answer = answer
+looks_up order w budget asked text status c answer = absurd c
+
+takes_text : (order : Order) (w : Way) (budget : ℕ) → IsCall order w budget → intake_of order ≡ Text
+takes_text (Run n) w budget c = refl
+takes_text (Steps n) w budget c = refl
+takes_text (Eval n) w budget c = refl
+takes_text order w budget c = absurd c
 
 pub ended_calls_are_meant : EndedCallsAreMeant
-ended_calls_are_meant budget words bytes text status ordered answer ends =
-    let r = reached (Eval budget) words bytes text status (last_of_calls status ends) (λ raw a. a) ordered refl answer in
-    typed_meant budget words bytes text status ends r.0 r.1 (infer r.0) r.2 refl r.3
+ended_calls_are_meant order w budget words bytes text status c ordered answer ends =
+    let r = reached order words bytes text status (last_of_calls status ends) (λ raw a. looks_up order w budget (record { order = order; words = words; bytes = bytes; raw = raw }) text status c a) ordered (takes_text order w budget c) answer in
+    typed_meant w budget words bytes text status ends order r.0 r.1 (infer r.0) c r.2 refl r.3
 
 -- ---- signatures
 

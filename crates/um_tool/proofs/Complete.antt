@@ -39,10 +39,11 @@ use Rattle.um_parse.specs.ProgramHeights.{program_height}
 use Rattle.um_parse.specs.ProgramLimits.{WithinLimits, PassesAt, functions_in}
 use Rattle.um_parse.specs.ProgramStops.{StopsAt, HighAt}
 use Rattle.um_parse.specs.Parsed.{IsRead, LimitAt, Parsed}
+use Rattle.um_tool.specs.declared.way.Way.TheVariants as way
 use Rattle.um_tool.specs.declared.order.Order.{Order}
 use Rattle.um_tool.specs.declared.status.Status.{Status}
 use Rattle.um_tool.specs.declared.status.Status.TheVariants.{Done}
-use Rattle.um_tool.specs.declared.order.Order.TheVariants.{Types, Code, Fmt, Eval, Conform}
+use Rattle.um_tool.specs.declared.order.Order.TheVariants.{Types, Code, Fmt, Run, Steps, Eval, Conform}
 use Rattle.um_tool.specs.declared.order.Intake.{Intake}
 use Rattle.um_tool.specs.declared.order.Intake.TheVariants.{Nothing, Text, Bytes}
 use Rattle.um_tool.specs.Asked.{Asked}
@@ -130,7 +131,9 @@ module _ (one_reading : ReadingsAreUnique) where
   by_order_done Types asked p schemes text status formed resolved inferred passes reply = reply.1
   by_order_done Code asked p schemes text status formed resolved inferred passes reply = reply.1
   by_order_done Fmt asked p schemes text status formed resolved inferred passes reply = reply.1
-  by_order_done (Eval budget) asked p schemes text status formed resolved inferred passes answer = call_done budget asked p schemes text status formed resolved inferred passes answer
+  by_order_done (Run budget) asked p schemes text status formed resolved inferred passes answer = call_done way.Code budget asked p schemes text status formed resolved inferred passes answer
+  by_order_done (Steps budget) asked p schemes text status formed resolved inferred passes answer = call_done way.Counted budget asked p schemes text status formed resolved inferred passes answer
+  by_order_done (Eval budget) asked p schemes text status formed resolved inferred passes answer = call_done way.Tree budget asked p schemes text status formed resolved inferred passes answer
   by_order_done Conform asked p schemes text status formed resolved inferred passes answer = conform_done one_reading asked p schemes text status formed resolved inferred passes answer
 
   -- a program whose functions are typed and pass no limit has its schemes
@@ -170,6 +173,8 @@ module _ (one_reading : ReadingsAreUnique) where
   by_layout_done Fmt words bytes raw text status readable goes reply = reply.1
   by_layout_done Types words bytes raw text status readable (typed, passes) answer = names_done (record { order = Types; words = words; bytes = bytes; raw = raw }) text status readable typed passes answer
   by_layout_done Code words bytes raw text status readable (typed, passes) answer = names_done (record { order = Code; words = words; bytes = bytes; raw = raw }) text status readable typed passes answer
+  by_layout_done (Run budget) words bytes raw text status readable (typed, passes) answer = names_done (record { order = Run budget; words = words; bytes = bytes; raw = raw }) text status readable typed passes answer
+  by_layout_done (Steps budget) words bytes raw text status readable (typed, passes) answer = names_done (record { order = Steps budget; words = words; bytes = bytes; raw = raw }) text status readable typed passes answer
   by_layout_done (Eval budget) words bytes raw text status readable (typed, passes) answer = names_done (record { order = Eval budget; words = words; bytes = bytes; raw = raw }) text status readable typed passes answer
   by_layout_done Conform words bytes raw text status readable (typed, passes) answer = names_done (record { order = Conform; words = words; bytes = bytes; raw = raw }) text status readable typed passes answer
 

@@ -9,7 +9,7 @@ use Rattle.std.proofs.lemmas.Bool.{leb-true}
 use Rattle.std.proofs.lemmas.Str.Parse.{numerals_by_value, tells_all_ascii_digits, digits_value_short, parse_gives}
 use Rattle.std.proofs.lemmas.List.Elements.{All-nil, All-cons}
 use Rattle.um_tool.specs.declared.order.Order.{Order}
-use Rattle.um_tool.specs.declared.order.Order.TheVariants.{Types, Code, Fmt, Eval, Conform}
+use Rattle.um_tool.specs.declared.order.Order.TheVariants.{Types, Code, Fmt, Run, Steps, Eval, Conform}
 use Rattle.um_tool.specs.Orders.{is_short, is_budget, budget_of, order_alone, call_order, longer_order, order_by_count, order_of}
 
 pub both : (a b : Bool) → (a && b) ≡ true → (a ≡ true) × (b ≡ true)
@@ -71,36 +71,45 @@ within_limit word n e = by (is_budget word && nat_le (digits_value 10 word) 1000
       subst (λ k. k ≤ 10000000) same (leb-true (digits_value 10 word) 10000000 (both (is_budget word) (nat_le (digits_value 10 word) 10000000) s).1)
   by false s named = absurd (cc named)
 
-called_within : (word : List ℕ) (o : Option ℕ) (b : ℕ) → ((n : ℕ) → o ≡ Some n → n ≤ 10000000) → call_order word o ≡ Some (Eval b) → b ≤ 10000000
-called_within word None b within e = absurd (cc e)
-called_within word (Some n) b within e = by (bytes_eq word (codes "eval")) e where
-  by : (t : Bool) → (if t then Some (Eval n) else None) ≡ Some (Eval b) → b ≤ 10000000
-  by true named = let same : n ≡ b = cc named in subst (λ k. k ≤ 10000000) same (within n refl)
-  by false named = absurd (cc named)
+-- the orders that call a function, with their budgets
+abbrev pub calls : Order → ℕ → Type 0
+calls (Run n) b = n ≡ b
+calls (Steps n) b = n ≡ b
+calls (Eval n) b = n ≡ b
+calls o b = ⊥
 
-alone_calls_nothing : (word : List ℕ) (b : ℕ) → order_alone word ≡ Some (Eval b) → ⊥
-alone_calls_nothing word b e = by (bytes_eq word (codes "types")) (bytes_eq word (codes "code")) (bytes_eq word (codes "fmt")) e where
-  by : (s t u : Bool) → (if s then Some Types else if t then Some Code else if u then Some Fmt else None) ≡ Some (Eval b) → ⊥
-  by true t u named = cc named
-  by false true u named = cc named
-  by false false true named = cc named
+called_within : (word : List ℕ) (limit : Option ℕ) (o : Order) (b : ℕ) → ((n : ℕ) → limit ≡ Some n → n ≤ 10000000) → calls o b → call_order word limit ≡ Some o → b ≤ 10000000
+called_within word None o b within c e = absurd (cc e)
+called_within word (Some n) o b within c e = by (bytes_eq word (codes "run")) (bytes_eq word (codes "steps")) (bytes_eq word (codes "eval")) e where
+  by : (s t u : Bool) → (if s then Some (Run n) else if t then Some (Steps n) else if u then Some (Eval n) else None) ≡ Some o → b ≤ 10000000
+  by true t u named = let same : Run n ≡ o = cc named in let c2 : n ≡ b = subst (λ q. calls q b) (sym same) c in subst (λ k. k ≤ 10000000) c2 (within n refl)
+  by false true u named = let same : Steps n ≡ o = cc named in let c2 : n ≡ b = subst (λ q. calls q b) (sym same) c in subst (λ k. k ≤ 10000000) c2 (within n refl)
+  by false false true named = let same : Eval n ≡ o = cc named in let c2 : n ≡ b = subst (λ q. calls q b) (sym same) c in subst (λ k. k ≤ 10000000) c2 (within n refl)
+  by false false false named = absurd (cc named)
+
+alone_calls_nothing : (word : List ℕ) (o : Order) (b : ℕ) → calls o b → order_alone word ≡ Some o → ⊥
+alone_calls_nothing word o b c e = by (bytes_eq word (codes "types")) (bytes_eq word (codes "code")) (bytes_eq word (codes "fmt")) e where
+  by : (s t u : Bool) → (if s then Some Types else if t then Some Code else if u then Some Fmt else None) ≡ Some o → ⊥
+  by true t u named = let same : Types ≡ o = cc named in subst (λ q. calls q b) (sym same) c
+  by false true u named = let same : Code ≡ o = cc named in subst (λ q. calls q b) (sym same) c
+  by false false true named = let same : Fmt ≡ o = cc named in subst (λ q. calls q b) (sym same) c
   by false false false named = cc named
 
-longer_within : (word second : List ℕ) (more : List (List ℕ)) (b : ℕ) → longer_order word second more ≡ Some (Eval b) → b ≤ 10000000
-longer_within word second [] b e = by (bytes_eq word (codes "conform")) e where
-  by : (t : Bool) → (if t then Some Conform else call_order word (budget_of second)) ≡ Some (Eval b) → b ≤ 10000000
-  by true named = absurd (cc named)
-  by false named = called_within word (budget_of second) b (within_limit second) named
-longer_within word second (w ∷ ws) b e = called_within word (budget_of second) b (within_limit second) e
+longer_within : (word second : List ℕ) (more : List (List ℕ)) (o : Order) (b : ℕ) → calls o b → longer_order word second more ≡ Some o → b ≤ 10000000
+longer_within word second [] o b c e = by (bytes_eq word (codes "conform")) e where
+  by : (t : Bool) → (if t then Some Conform else call_order word (budget_of second)) ≡ Some o → b ≤ 10000000
+  by true named = let same : Conform ≡ o = cc named in absurd (subst (λ q. calls q b) (sym same) c)
+  by false named = called_within word (budget_of second) o b (within_limit second) c named
+longer_within word second (w ∷ ws) o b c e = called_within word (budget_of second) o b (within_limit second) c e
 
-call_by_count : (words : List (List ℕ)) (b : ℕ) → order_by_count words ≡ Some (Eval b) → (3 ≤ length words) × (b ≤ 10000000)
-call_by_count [] b e = absurd (cc e)
-call_by_count (w ∷ []) b e = absurd (alone_calls_nothing w b e)
-call_by_count (w ∷ v ∷ []) b e = absurd (cc e)
-call_by_count (w ∷ v ∷ u ∷ ws) b e = (omega arith, longer_within w v ws b e)
+call_by_count : (words : List (List ℕ)) (o : Order) (b : ℕ) → calls o b → order_by_count words ≡ Some o → (3 ≤ length words) × (b ≤ 10000000)
+call_by_count [] o b c e = absurd (cc e)
+call_by_count (w ∷ []) o b c e = absurd (alone_calls_nothing w o b c e)
+call_by_count (w ∷ v ∷ []) o b c e = absurd (cc e)
+call_by_count (w ∷ v ∷ u ∷ ws) o b c e = (omega arith, longer_within w v ws o b c e)
 
-pub call_words : (words : List (List ℕ)) (b : ℕ) → order_of words ≡ Some (Eval b) → (3 ≤ length words) × (b ≤ 10000000)
-call_words words b e = call_by_count words b (named_by_count words (Eval b) e).1
+pub call_words : (words : List (List ℕ)) (o : Order) (b : ℕ) → calls o b → order_of words ≡ Some o → (3 ≤ length words) × (b ≤ 10000000)
+call_words words o b c e = call_by_count words o b c (named_by_count words o e).1
 
 -- ---- a function that is held to a signature has its name and its text
 alone_holds_nothing : (word : List ℕ) → order_alone word ≡ Some Conform → ⊥

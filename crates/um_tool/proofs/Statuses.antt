@@ -31,8 +31,10 @@ use Rattle.um_tool.specs.CallAnswer.{CallAnswer, BesideAnswer, ByCall, RunAnswer
 use Rattle.um_tool.specs.ConformAnswer.{ConformAnswer, SignatureAnswer, ReadAnswer, BySignature, MatchingAnswer}
 use Rattle.um_tool.specs.declared.status.Status.{Status}
 use Rattle.um_tool.specs.declared.status.Status.TheVariants.{Usage, ReadFault, WriteFault, NoMemory}
+use Rattle.um_tool.specs.declared.way.Way.{Way}
+use Rattle.um_tool.specs.declared.way.Way.TheVariants as way
 use Rattle.um_tool.specs.declared.order.Order.{Order}
-use Rattle.um_tool.specs.declared.order.Order.TheVariants.{Types, Code, Fmt, Eval, Conform}
+use Rattle.um_tool.specs.declared.order.Order.TheVariants.{Types, Code, Fmt, Run, Steps, Eval, Conform}
 use Rattle.um_tool.specs.declared.order.Intake.{Intake}
 use Rattle.um_tool.specs.declared.order.Intake.TheVariants.{Nothing, Text, Bytes}
 use Rattle.um_infer.specs.Inference.{Inference, all_schemes, stops_at_slots, stops_at_range, stops_at_units, stops_at_not_general, infer}
@@ -66,24 +68,24 @@ call_reply texts refusal.PowerRange text status reply = rw reply.1 refl
 call_reply texts refusal.Slots text status reply = rw reply.1 refl
 call_reply texts refusal.NoMemory text status reply = absurd reply
 
-outcome_reply : (p : ProgramTree) (t : TypeTree) (o : OutcomeTree) (text : List ℕ) (status : Status) → IsOutcomeReply p t o text status → IsTrue (is_answered status)
-outcome_reply p t (value_outcome v) text status (inl (fits, reply)) = rw reply.1 refl
-outcome_reply p t (value_outcome v) text status (inr (unfit, reply)) = rw reply.1 refl
-outcome_reply p t (trap_outcome why) text status reply = rw reply.1 refl
-outcome_reply p t budget_outcome text status reply = rw reply.1 refl
+outcome_reply : (p : ProgramTree) (t : TypeTree) (o : OutcomeTree) (steps : Option ℕ) (text : List ℕ) (status : Status) → IsOutcomeReply p t o steps text status → IsTrue (is_answered status)
+outcome_reply p t (value_outcome v) steps text status (inl (fits, reply)) = rw reply.1 refl
+outcome_reply p t (value_outcome v) steps text status (inr (unfit, reply)) = rw reply.1 refl
+outcome_reply p t (trap_outcome why) steps text status reply = rw reply.1 refl
+outcome_reply p t budget_outcome steps text status reply = rw reply.1 refl
 
-by_call_status : (budget : ℕ) (texts : List (List ℕ)) (p : ProgramTree) (r : Result CallTree CallRefusal) (text : List ℕ) (status : Status) → ByCall budget texts p r text status → IsTrue (is_answered status)
+by_call_status : (way : Way) (budget : ℕ) (texts : List (List ℕ)) (p : ProgramTree) (r : Result CallTree CallRefusal) (text : List ℕ) (status : Status) → ByCall way budget texts p r text status → IsTrue (is_answered status)
 unfolding RunAnswer
-by_call_status budget texts p (Ok call) text status (o, meant, reply) = outcome_reply p call.type o text status reply
-by_call_status budget texts p (Err refused) text status reply = call_reply texts refused text status reply
+by_call_status way budget texts p (Ok call) text status (o, meant, steps, counted, reply) = outcome_reply p call.type o steps text status reply
+by_call_status way budget texts p (Err refused) text status reply = call_reply texts refused text status reply
 
-BesideAnswer-status : (budget : ℕ) (words : List (List ℕ)) (p : ProgramTree) (shorts : List Abbreviation) (schemes : List SchemeTree) (text : List ℕ) (status : Status) → BesideAnswer budget words p shorts schemes text status → IsTrue (is_answered status)
+BesideAnswer-status : (way : Way) (budget : ℕ) (words : List (List ℕ)) (p : ProgramTree) (shorts : List Abbreviation) (schemes : List SchemeTree) (text : List ℕ) (status : Status) → BesideAnswer way budget words p shorts schemes text status → IsTrue (is_answered status)
 unfolding BesideAnswer
-BesideAnswer-status budget words p shorts schemes text status (r, named, answer) = by_call_status budget (argument_texts words) p r text status answer
+BesideAnswer-status way budget words p shorts schemes text status (r, named, answer) = by_call_status way budget (argument_texts words) p r text status answer
 
-CallAnswer-status : (budget : ℕ) (asked : Asked) (p : ProgramTree) (schemes : List SchemeTree) (text : List ℕ) (status : Status) → CallAnswer budget asked p schemes text status → IsTrue (is_answered status)
+CallAnswer-status : (way : Way) (budget : ℕ) (asked : Asked) (p : ProgramTree) (schemes : List SchemeTree) (text : List ℕ) (status : Status) → CallAnswer way budget asked p schemes text status → IsTrue (is_answered status)
 unfolding CallAnswer
-CallAnswer-status budget asked p schemes text status (shorts, abbreviated, answer) = BesideAnswer-status budget asked.words p shorts schemes text status answer
+CallAnswer-status way budget asked p schemes text status (shorts, abbreviated, answer) = BesideAnswer-status way budget asked.words p shorts schemes text status answer
 
 signature_reply : (word : List ℕ) (stop : SigText) (text : List ℕ) (status : Status) → IsSignatureReply word stop text status → IsTrue (is_answered status)
 signature_reply word (sig_text.Text at) text status reply = rw reply.1 refl
@@ -124,7 +126,9 @@ by_order_status : (order : Order) (asked : Asked) (p : ProgramTree) (schemes : L
 by_order_status Types asked p schemes text status reply = rw reply.1 refl
 by_order_status Code asked p schemes text status reply = rw reply.1 refl
 by_order_status Fmt asked p schemes text status reply = rw reply.1 refl
-by_order_status (Eval budget) asked p schemes text status answer = CallAnswer-status budget asked p schemes text status answer
+by_order_status (Run budget) asked p schemes text status answer = CallAnswer-status way.Code budget asked p schemes text status answer
+by_order_status (Steps budget) asked p schemes text status answer = CallAnswer-status way.Counted budget asked p schemes text status answer
+by_order_status (Eval budget) asked p schemes text status answer = CallAnswer-status way.Tree budget asked p schemes text status answer
 by_order_status Conform asked p schemes text status answer = ConformAnswer-status asked p schemes text status answer
 
 inference_status : (asked : Asked) (p : ProgramTree) (inferred : Inference) (text : List ℕ) (status : Status) → InferenceAnswer asked p inferred text status → IsTrue (is_answered status)
@@ -166,6 +170,8 @@ by_layout_status : (order : Order) (asked : Asked) (text : List ℕ) (status : S
 by_layout_status Fmt asked text status reply = rw reply.1 refl
 by_layout_status Types asked text status answer = NamesAnswer-status asked text status answer
 by_layout_status Code asked text status answer = NamesAnswer-status asked text status answer
+by_layout_status (Run budget) asked text status answer = NamesAnswer-status asked text status answer
+by_layout_status (Steps budget) asked text status answer = NamesAnswer-status asked text status answer
 by_layout_status (Eval budget) asked text status answer = NamesAnswer-status asked text status answer
 by_layout_status Conform asked text status answer = NamesAnswer-status asked text status answer
 

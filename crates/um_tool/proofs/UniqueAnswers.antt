@@ -30,8 +30,9 @@ use Rattle.um_names.proofs.FormedPrograms.{resolution_formed}
 use Rattle.um_readable.proofs.TextBytes.{readable_program}
 use Rattle.um_infer.specs.Inference.{Inference, all_schemes, stops_at_slots, stops_at_range, stops_at_units, stops_at_not_general, infer}
 use Rattle.um_types.specs.declared.parse.LimitKind.TheVariants as limit
+use Rattle.um_tool.specs.declared.way.Way.TheVariants as way
 use Rattle.um_tool.specs.declared.order.Order.{Order}
-use Rattle.um_tool.specs.declared.order.Order.TheVariants.{Types, Code, Fmt, Eval, Conform}
+use Rattle.um_tool.specs.declared.order.Order.TheVariants.{Types, Code, Fmt, Run, Steps, Eval, Conform}
 use Rattle.um_tool.specs.declared.order.Intake.{Intake}
 use Rattle.um_tool.specs.declared.order.Intake.TheVariants.{Nothing, Text, Bytes}
 use Rattle.um_tool.specs.declared.status.Status.{Status}
@@ -151,7 +152,9 @@ module _ (one_answer : ParsesAreUnique) (one_reading : ReadingsAreUnique) (text 
   by_order_one Types asked p schemes formed a b = (a.0 ∙ sym b.0, a.1 ∙ sym b.1)
   by_order_one Code asked p schemes formed a b = (a.0 ∙ sym b.0, a.1 ∙ sym b.1)
   by_order_one Fmt asked p schemes formed a b = (a.0 ∙ sym b.0, a.1 ∙ sym b.1)
-  by_order_one (Eval budget) asked p schemes formed a b = call_one text other status another budget asked p schemes formed a b
+  by_order_one (Run budget) asked p schemes formed a b = call_one text other status another way.Code budget asked p schemes formed a b
+  by_order_one (Steps budget) asked p schemes formed a b = call_one text other status another way.Counted budget asked p schemes formed a b
+  by_order_one (Eval budget) asked p schemes formed a b = call_one text other status another way.Tree budget asked p schemes formed a b
   by_order_one Conform asked p schemes formed a b = conform_one text other status another one_reading asked p schemes a b
 
   inference_one : (asked : Asked) (p : ProgramTree) (inferred : Inference) → IsFormed p → InferenceAnswer asked p inferred text status → InferenceAnswer asked p inferred other another → (text ≡ other) × (status ≡ another)
@@ -198,6 +201,8 @@ module _ (one_answer : ParsesAreUnique) (one_reading : ReadingsAreUnique) (text 
   by_layout_one Fmt asked readable a b = (a.0 ∙ sym b.0, a.1 ∙ sym b.1)
   by_layout_one Types asked readable a b = names_one asked readable a b
   by_layout_one Code asked readable a b = names_one asked readable a b
+  by_layout_one (Run budget) asked readable a b = names_one asked readable a b
+  by_layout_one (Steps budget) asked readable a b = names_one asked readable a b
   by_layout_one (Eval budget) asked readable a b = names_one asked readable a b
   by_layout_one Conform asked readable a b = names_one asked readable a b
 

@@ -1,8 +1,9 @@
 -- The answer to a call, and that to a signature, is one.
-use Rattle.std.proofs.Common.{◌≡◌, ◌⊎◌, ℕ, List, [], length, chars, get_or, Result, Ok, Err, Some, None, MatchOption, inl, inr, sym, subst, ◌∙◌}
+use Rattle.std.proofs.Common.{◌≡◌, ◌⊎◌, ℕ, ◌<◌, ◌≤◌, min, List, [], length, chars, get_or, Result, Ok, Err, Some, None, MatchOption, inl, inr, sym, ap, subst, ◌∙◌, arith}
 use Rattle.std.specs.declared.option.Option.{Option}
+use Rattle.std.proofs.lemmas.Bool.{cases_lt}
 use Rattle.um_tree.specs.TypeTree.{TypeTree, type_trees}
-use Rattle.um_tree.specs.ValueTree.{OutcomeTree, value_outcome, trap_outcome, budget_outcome}
+use Rattle.um_tree.specs.ValueTree.{ValueTree, OutcomeTree, value_outcome, trap_outcome, budget_outcome}
 use Rattle.um_tree.specs.ProgramTree.{ProgramTree, SchemeTree}
 use Rattle.um_tree.specs.Formed.{IsFormed}
 use Rattle.um_measures.specs.declared.abbreviation.Abbreviation.{Abbreviation}
@@ -11,7 +12,7 @@ use Rattle.um_value.specs.declared.stop.InputStop.{InputStop}
 use Rattle.um_value.specs.declared.stop.InputStop.TheVariants as input_stop
 use Rattle.um_run.specs.declared.call.CallRefusal.{CallRefusal}
 use Rattle.um_run.specs.declared.call.CallRefusal.TheVariants as refusal
-use Rattle.um_run.specs.Calls.{CallTree}
+use Rattle.um_run.specs.Calls.{CallTree, call_values}
 use Rattle.um_run.proofs.UniqueCalls.{calls_are_unique}
 use Rattle.um_sig.specs.declared.signature.Signature.{Signature as ReadSignature}
 use Rattle.um_sig.specs.declared.stop.SigText.{SigText}
@@ -21,12 +22,36 @@ use Rattle.um_sig.specs.declared.stop.SigStop.TheVariants as sig_stop
 use Rattle.um_sig.specs.Answers.{IsConformed}
 use Rattle.um_sig.specs.Laws.{AreSameReading, ReadingsAreUnique}
 use Rattle.um_sig.proofs.UniqueAnswers.{answers_are_unique}
+use Rattle.um_machine.specs.declared.code.Code.{Code}
+use Rattle.um_gen.specs.ProgramCode.{program_code}
+use Rattle.um_vm.specs.Counting.{EndsAfter}
+use Rattle.um_tool.specs.declared.way.Way.{Way}
+use Rattle.um_tool.specs.declared.way.Way.TheVariants as way
 use Rattle.um_tool.specs.declared.status.Status.{Status}
 use Rattle.um_tool.specs.Asked.{Asked, called_name, argument_texts, held_name, signature_text}
 use Rattle.um_tool.specs.CallRefusals.{IsArgumentReply, IsCallReply, IsUnnamedReply, IsSignatureReply, IsConformReply}
-use Rattle.um_tool.specs.CallAnswer.{CallAnswer, BesideAnswer, ByCall, RunAnswer, IsOutcomeReply}
+use Rattle.um_tool.specs.CallAnswer.{CallAnswer, BesideAnswer, ByCall, RunAnswer, AreSteps, IsOutcomeReply}
 use Rattle.um_tool.specs.ConformAnswer.{ConformAnswer, SignatureAnswer, ReadAnswer, BySignature, MatchingAnswer}
 use Rattle.um_tool.proofs.ConformsDone.{types_of_readings}
+
+-- ---- the least number of steps is one
+not_before : (code : Code) (f : ℕ) (vs : List ValueTree) (b n m : ℕ) (o : OutcomeTree) → EndsAfter code f vs b n o → EndsAfter code f vs b m o → m < n → ⊥
+not_before code f vs b n m o first second before = first.1 m o before second.0
+
+one_end : (code : Code) (f : ℕ) (vs : List ValueTree) (b n m : ℕ) (o : OutcomeTree) → EndsAfter code f vs b n o → EndsAfter code f vs b m o → n ≡ m
+one_end code f vs b n m o first second = by (cases_lt n m) (cases_lt m n)
+  where
+    by : (n < m) ⊎ (m ≤ n) → (m < n) ⊎ (n ≤ m) → n ≡ m
+    by (inl before) more = absurd (not_before code f vs b m n o second first before)
+    by (inr behind) (inl before) = absurd (not_before code f vs b n m o first second before)
+    by (inr behind) (inr same) = omega (arith, behind, same)
+
+one_count : (way : Way) (budget : ℕ) (p : ProgramTree) (call : CallTree) (o : OutcomeTree) (steps more : Option ℕ) → AreSteps way budget p call o steps → AreSteps way budget p call o more → steps ≡ more
+one_count way.Tree budget p call o steps more a b = a ∙ sym b
+one_count way.Code budget p call o steps more a b = a ∙ sym b
+one_count way.Counted budget p call o steps more (k, a, shown) (j, b, told) =
+    let one = one_end (program_code p.functions) call.function (call_values call) budget a.0 b.0 o a.1 b.1 in
+    shown ∙ ap Some (a.2 ∙ ap (λ n. min n 18446744073709551615) one ∙ sym b.2) ∙ sym told
 
 module _ (text other : List ℕ) (status another : Status) where
   abbrev AreSame : Type 0
@@ -65,41 +90,43 @@ module _ (text other : List ℕ) (status another : Status) where
   one_conform_reply name (Err sig_stop.NoMemory) a b = absurd a
 
   -- ---- one outcome has one line
-  one_outcome_reply : (p : ProgramTree) (t : TypeTree) (o : OutcomeTree) → IsOutcomeReply p t o text status → IsOutcomeReply p t o other another → AreSame
-  one_outcome_reply p t (value_outcome v) (inl (fits, a)) (inl (also, b)) = (a.0 ∙ sym b.0, a.1 ∙ sym b.1)
-  one_outcome_reply p t (value_outcome v) (inl (fits, a)) (inr (unfit, b)) = absurd (unfit fits)
-  one_outcome_reply p t (value_outcome v) (inr (unfit, a)) (inl (fits, b)) = absurd (unfit fits)
-  one_outcome_reply p t (value_outcome v) (inr (unfit, a)) (inr (also, b)) = (a.0 ∙ sym b.0, a.1 ∙ sym b.1)
-  one_outcome_reply p t (trap_outcome why) a b = (a.0 ∙ sym b.0, a.1 ∙ sym b.1)
-  one_outcome_reply p t budget_outcome a b = (a.0 ∙ sym b.0, a.1 ∙ sym b.1)
+  one_outcome_reply : (p : ProgramTree) (t : TypeTree) (o : OutcomeTree) (steps : Option ℕ) → IsOutcomeReply p t o steps text status → IsOutcomeReply p t o steps other another → AreSame
+  one_outcome_reply p t (value_outcome v) steps (inl (fits, a)) (inl (also, b)) = (a.0 ∙ sym b.0, a.1 ∙ sym b.1)
+  one_outcome_reply p t (value_outcome v) steps (inl (fits, a)) (inr (unfit, b)) = absurd (unfit fits)
+  one_outcome_reply p t (value_outcome v) steps (inr (unfit, a)) (inl (fits, b)) = absurd (unfit fits)
+  one_outcome_reply p t (value_outcome v) steps (inr (unfit, a)) (inr (also, b)) = (a.0 ∙ sym b.0, a.1 ∙ sym b.1)
+  one_outcome_reply p t (trap_outcome why) steps a b = (a.0 ∙ sym b.0, a.1 ∙ sym b.1)
+  one_outcome_reply p t budget_outcome steps a b = (a.0 ∙ sym b.0, a.1 ∙ sym b.1)
 
-  run_one : (budget : ℕ) (p : ProgramTree) (call : CallTree) → RunAnswer budget p call text status → RunAnswer budget p call other another → AreSame
+  run_one : (way : Way) (budget : ℕ) (p : ProgramTree) (call : CallTree) → RunAnswer way budget p call text status → RunAnswer way budget p call other another → AreSame
   unfolding RunAnswer
-  run_one budget p call (o, meant, a) (e, also, b) =
+  run_one way budget p call (o, meant, steps, counted, a) (e, also, more, recounted, b) =
       let both : Some o ≡ Some e = sym meant ∙ also in let same : o ≡ e = cc both in
-      one_outcome_reply p call.type e (subst (λ x. IsOutcomeReply p call.type x text status) same a) b
+      let one = one_count way budget p call e steps more (subst (λ x. AreSteps way budget p call x steps) same counted) recounted in
+      let here = subst (λ x. IsOutcomeReply p call.type x steps text status) same a in
+      one_outcome_reply p call.type e more (subst (λ n. IsOutcomeReply p call.type e n text status) one here) b
 
   -- ---- calls
-  by_call_one : (budget : ℕ) (texts : List (List ℕ)) (p : ProgramTree) (r : Result CallTree CallRefusal) → ByCall budget texts p r text status → ByCall budget texts p r other another → AreSame
-  by_call_one budget texts p (Ok call) a b = run_one budget p call a b
-  by_call_one budget texts p (Err refused) a b = one_call_reply texts refused a b
+  by_call_one : (way : Way) (budget : ℕ) (texts : List (List ℕ)) (p : ProgramTree) (r : Result CallTree CallRefusal) → ByCall way budget texts p r text status → ByCall way budget texts p r other another → AreSame
+  by_call_one way budget texts p (Ok call) a b = run_one way budget p call a b
+  by_call_one way budget texts p (Err refused) a b = one_call_reply texts refused a b
 
-  calls_one : (budget : ℕ) (texts : List (List ℕ)) (p : ProgramTree) (r q : Result CallTree CallRefusal) → (r ≡ q) ⊎ ((r ≡ Err refusal.NoMemory) ⊎ (q ≡ Err refusal.NoMemory))
-      → ByCall budget texts p r text status → ByCall budget texts p q other another → AreSame
-  calls_one budget texts p r q (inl same) a b = by_call_one budget texts p q (subst (λ x. ByCall budget texts p x text status) same a) b
-  calls_one budget texts p r q (inr (inl wanting)) a b = absurd (subst (λ x. ByCall budget texts p x text status) wanting a)
-  calls_one budget texts p r q (inr (inr wanting)) a b = absurd (subst (λ x. ByCall budget texts p x other another) wanting b)
+  calls_one : (way : Way) (budget : ℕ) (texts : List (List ℕ)) (p : ProgramTree) (r q : Result CallTree CallRefusal) → (r ≡ q) ⊎ ((r ≡ Err refusal.NoMemory) ⊎ (q ≡ Err refusal.NoMemory))
+      → ByCall way budget texts p r text status → ByCall way budget texts p q other another → AreSame
+  calls_one way budget texts p r q (inl same) a b = by_call_one way budget texts p q (subst (λ x. ByCall way budget texts p x text status) same a) b
+  calls_one way budget texts p r q (inr (inl wanting)) a b = absurd (subst (λ x. ByCall way budget texts p x text status) wanting a)
+  calls_one way budget texts p r q (inr (inr wanting)) a b = absurd (subst (λ x. ByCall way budget texts p x other another) wanting b)
 
-  beside_one : (budget : ℕ) (words : List (List ℕ)) (p : ProgramTree) (shorts : List Abbreviation) (schemes : List SchemeTree) → IsFormed p → BesideAnswer budget words p shorts schemes text status → BesideAnswer budget words p shorts schemes other another → AreSame
+  beside_one : (way : Way) (budget : ℕ) (words : List (List ℕ)) (p : ProgramTree) (shorts : List Abbreviation) (schemes : List SchemeTree) → IsFormed p → BesideAnswer way budget words p shorts schemes text status → BesideAnswer way budget words p shorts schemes other another → AreSame
   unfolding BesideAnswer
-  beside_one budget words p shorts schemes formed (r, named, a) (q, also, b) =
-      calls_one budget (argument_texts words) p r q (calls_are_unique p shorts schemes (called_name words) (argument_texts words) formed r q named also) a b
+  beside_one way budget words p shorts schemes formed (r, named, a) (q, also, b) =
+      calls_one way budget (argument_texts words) p r q (calls_are_unique p shorts schemes (called_name words) (argument_texts words) formed r q named also) a b
 
-  pub call_one : (budget : ℕ) (asked : Asked) (p : ProgramTree) (schemes : List SchemeTree) → IsFormed p → CallAnswer budget asked p schemes text status → CallAnswer budget asked p schemes other another → AreSame
+  pub call_one : (way : Way) (budget : ℕ) (asked : Asked) (p : ProgramTree) (schemes : List SchemeTree) → IsFormed p → CallAnswer way budget asked p schemes text status → CallAnswer way budget asked p schemes other another → AreSame
   unfolding CallAnswer
-  call_one budget asked p schemes formed (shorts, abbreviated, a) (ss, also, b) =
+  call_one way budget asked p schemes formed (shorts, abbreviated, a) (ss, also, b) =
       let both : Ok shorts ≡ Ok ss = sym abbreviated ∙ also in let same : shorts ≡ ss = cc both in
-      beside_one budget asked.words p ss schemes formed (subst (λ x. BesideAnswer budget asked.words p x schemes text status) same a) b
+      beside_one way budget asked.words p ss schemes formed (subst (λ x. BesideAnswer way budget asked.words p x schemes text status) same a) b
 
   -- ---- signatures
   conforms_one : (name : List ℕ) (r q : Result (Unit {0}) SigStop) → (r ≡ q) ⊎ ((r ≡ Err sig_stop.NoMemory) ⊎ (q ≡ Err sig_stop.NoMemory))

@@ -3,9 +3,10 @@
 -- Source: this project's own.
 use Rattle.std.specs.Prelude.{ℕ, ◌<◌, ◌≡◌, ◌⊎◌, List, length, codes, slice_get, MatchOption, Some, None, Ok, Err}
 use Rattle.um_tool.specs.declared.order.Order.{Order}
-use Rattle.um_tool.specs.declared.order.Order.TheVariants.{Types, Code, Fmt, Eval, Conform}
+use Rattle.um_tool.specs.declared.order.Order.TheVariants.{Types, Code, Fmt, Run, Steps, Eval, Conform}
 use Rattle.um_tool.specs.declared.order.Intake.{Intake}
 use Rattle.um_tool.specs.declared.order.Intake.TheVariants.{Nothing, Text, Bytes}
+use Rattle.um_tool.specs.declared.way.Way.TheVariants as way
 use Rattle.um_tool.specs.declared.status.Status.{Status}
 use Rattle.um_tool.specs.declared.status.Status.TheVariants.{Done, Usage, TooLong, NotBuilt}
 use Rattle.um_syntax.specs.declared.token.Token.{Token}
@@ -48,7 +49,9 @@ abbrev pub ByOrder : Order → Asked → ProgramTree → List SchemeTree → Lis
 ByOrder Types asked p schemes text status = IsReply text status (scheme_lines p p.functions schemes) Done
 ByOrder Code asked p schemes text status = IsReply text status (listing_text p (program_code p.functions)) Done
 ByOrder Fmt asked p schemes text status = IsReply text status (layout asked.raw) Done
-ByOrder (Eval budget) asked p schemes text status = CallAnswer budget asked p schemes text status
+ByOrder (Run budget) asked p schemes text status = CallAnswer way.Code budget asked p schemes text status
+ByOrder (Steps budget) asked p schemes text status = CallAnswer way.Counted budget asked p schemes text status
+ByOrder (Eval budget) asked p schemes text status = CallAnswer way.Tree budget asked p schemes text status
 ByOrder Conform asked p schemes text status = ConformAnswer asked p schemes text status
 
 unfoldable pub TypedAnswer : Asked → ProgramTree → List SchemeTree → List ℕ → Status → Type 0

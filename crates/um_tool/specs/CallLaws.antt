@@ -1,7 +1,7 @@
 -- What answers to `code`, to calls and to signatures say, in the subject's words.
 -- Source: principal schemes and typings are Kennedy's (1996); the rest is this project's own.
 use Rattle.std.specs.Prelude.{ℕ, ◌≡◌, ◌⊎◌, Bool, true, false, IsTrue, List, [], ◌∷◌, ◌++◌, length, chars, codes, Some}
-use Rattle.std.specs.Prelude.{Ok}
+use Rattle.std.specs.Prelude.{Ok, Option}
 use Rattle.um_tree.specs.TypeTree.{type_trees}
 use Rattle.um_tree.specs.ValueTree.{OutcomeTree}
 use Rattle.um_tree.specs.ProgramTree.{ProgramTree, SchemeTree}
@@ -17,11 +17,14 @@ use Rattle.um_run.specs.Laws.{IsTypedCall}
 use Rattle.um_sig.specs.declared.signature.Signature.{Signature}
 use Rattle.um_sig.specs.Reading.{IsRead}
 use Rattle.um_sig.specs.Instances.{AreAllTypings}
-use Rattle.um_tool.specs.declared.order.Order.TheVariants.{Eval, Conform}
+use Rattle.um_tool.specs.declared.order.Order.{Order}
+use Rattle.um_tool.specs.declared.order.Order.TheVariants.{Run, Steps, Eval, Conform}
+use Rattle.um_tool.specs.declared.way.Way.{Way}
+use Rattle.um_tool.specs.declared.way.Way.TheVariants as way
 use Rattle.um_tool.specs.declared.status.Status.{Status}
 use Rattle.um_tool.specs.declared.status.Status.TheVariants.{Done, Trap, BudgetEnd, NotConform}
 use Rattle.um_tool.specs.Asked.{called_name, argument_texts, held_name, signature_text}
-use Rattle.um_tool.specs.CallAnswer.{IsOutcomeReply}
+use Rattle.um_tool.specs.CallAnswer.{AreSteps, IsOutcomeReply}
 use Rattle.um_tool.specs.Orders.{order_of}
 use Rattle.um_tool.specs.Answer.{Answer}
 use Rattle.um_tool.specs.Steps.{line}
@@ -35,6 +38,13 @@ PrintedCodeIsTheProgramsCode =
 
 -- ---- calls
 
+-- the order calls a function, in this way and at this budget
+abbrev pub IsCall : Order → Way → ℕ → Type 0
+IsCall (Run n) w budget = (w ≡ way.Code) × (n ≡ budget)
+IsCall (Steps n) w budget = (w ≡ way.Counted) × (n ≡ budget)
+IsCall (Eval n) w budget = (w ≡ way.Tree) × (n ≡ budget)
+IsCall order w budget = ⊥
+
 -- a call ended: with a value, with a trap, or with the budget's end
 abbrev pub ends_a_call : Status → Bool
 ends_a_call Done = true
@@ -43,8 +53,10 @@ ends_a_call BudgetEnd = true
 ends_a_call status = false
 
 -- The words name a call in the program that the bytes spell, given its principal schemes; the call has a type, and the
--- text and the status are those of its meaning's outcome at the budget.
-pub record IsMeantCall (budget : ℕ) (words : List (List ℕ)) (bytes text : List ℕ) (status : Status) : Type 0 where
+-- text and the status are those of its meaning's outcome at the budget, with the steps of the code's run where they are
+-- counted.
+pub record IsMeantCall
+    (way : Way) (budget : ℕ) (words : List (List ℕ)) (bytes text : List ℕ) (status : Status) : Type 0 where
   pub program : ProgramTree
   pub spelled : SpellsProgram bytes program
   pub shorts : List Abbreviation
@@ -56,14 +68,16 @@ pub record IsMeantCall (budget : ℕ) (words : List (List ℕ)) (bytes text : Li
   pub typed : IsTypedCall program call
   pub outcome : OutcomeTree
   pub meant : outcome_of_call program call.function (call_values call) budget ≡ Some outcome
-  pub printed : IsOutcomeReply program call.type outcome text status
+  pub steps : Option ℕ
+  pub counted : AreSteps way budget program call outcome steps
+  pub printed : IsOutcomeReply program call.type outcome steps text status
 
 -- A call that is answered with such a status ended as its meaning has it.
 abbrev pub EndedCallsAreMeant : Type 0
 EndedCallsAreMeant =
-    (budget : ℕ) (words : List (List ℕ)) (bytes text : List ℕ) (status : Status) →
-    order_of words ≡ Some (Eval budget) → Answer words bytes text status → IsTrue (ends_a_call status) →
-    IsMeantCall budget words bytes text status
+    (order : Order) (w : Way) (budget : ℕ) (words : List (List ℕ)) (bytes text : List ℕ) (status : Status) →
+    IsCall order w budget → order_of words ≡ Some order → Answer words bytes text status →
+    IsTrue (ends_a_call status) → IsMeantCall w budget words bytes text status
 
 -- ---- signatures
 

@@ -7,15 +7,14 @@ use Rattle.std.specs.Char.{is_ascii_digit}
 use Rattle.std.specs.Str.{bytes_eq}
 use Rattle.std.specs.Str.Parse.{digits_value}
 use Rattle.um_tool.specs.declared.order.Order.{Order}
-use Rattle.um_tool.specs.declared.order.Order.TheVariants.{Types, Code, Fmt, Eval, Conform}
+use Rattle.um_tool.specs.declared.order.Order.TheVariants.{Types, Code, Fmt, Run, Steps, Eval, Conform}
 use Rattle.um_tool.specs.declared.order.Intake.{Intake}
 use Rattle.um_tool.specs.declared.order.Intake.TheVariants.{Text}
 
 -- a command that isn't built yet
 abbrev pub is_unbuilt : List ℕ → Bool
 is_unbuilt word =
-    bytes_eq word (codes "run") || bytes_eq word (codes "steps") || bytes_eq word (codes "rescale")
-    || bytes_eq word (codes "twin") || bytes_eq word (codes "big")
+    bytes_eq word (codes "rescale") || bytes_eq word (codes "twin") || bytes_eq word (codes "big")
 
 -- the first word is such a command; whatever follows it isn't looked at
 abbrev pub NamesUnbuilt : List (List ℕ) → Type 0
@@ -49,7 +48,10 @@ order_alone word =
 -- COMMAND BUDGET NAME ARG*, by its first word and the budget
 abbrev pub call_order : List ℕ → Option ℕ → Option Order
 call_order word None = None
-call_order word (Some budget) = if bytes_eq word (codes "eval") then Some (Eval budget) else None
+call_order word (Some budget) =
+    if bytes_eq word (codes "run") then Some (Run budget)
+    else if bytes_eq word (codes "steps") then Some (Steps budget)
+    else if bytes_eq word (codes "eval") then Some (Eval budget) else None
 
 -- or conform NAME TYPE, where no word stands behind the third
 abbrev pub longer_order : List ℕ → List ℕ → List (List ℕ) → Option Order
@@ -72,6 +74,8 @@ abbrev pub intake_of : Order → Intake
 intake_of Types = Text
 intake_of Code = Text
 intake_of Fmt = Text
+intake_of (Run budget) = Text
+intake_of (Steps budget) = Text
 intake_of (Eval budget) = Text
 intake_of Conform = Text
 

@@ -22,7 +22,7 @@ use Rattle.um_sig.specs.Reading.{IsRead}
 use Rattle.um_sig.specs.Answers.{IsConformed}
 use Rattle.um_sig.specs.Instances.{AreAllTypings}
 use Rattle.um_tool.specs.declared.order.Order.{Order}
-use Rattle.um_tool.specs.declared.order.Order.TheVariants.{Fmt, Eval, Conform}
+use Rattle.um_tool.specs.declared.order.Order.TheVariants.{Fmt, Run, Steps, Eval, Conform}
 use Rattle.um_tool.specs.Asked.{called_name, argument_texts, held_name, signature_text}
 
 abbrev pub EachIsTyped : ProgramTree → Type 0
@@ -67,6 +67,8 @@ pub record HasTypings (words : List (List ℕ)) (raw : List DeclSyntax) (p : Pro
 
 -- what an order asks of a program whose functions have typings
 abbrev pub PassesOn : Order → List (List ℕ) → List DeclSyntax → ProgramTree → Type 0
+PassesOn (Run budget) words raw p = GivesValue budget words raw p
+PassesOn (Steps budget) words raw p = GivesValue budget words raw p
 PassesOn (Eval budget) words raw p = GivesValue budget words raw p
 PassesOn Conform words raw p = HasTypings words raw p
 PassesOn order words raw p = Unit {0}

@@ -27,6 +27,7 @@ use crate::refusal::{
 };
 use crate::schemes::schemes_text;
 use crate::signature::answer_conform;
+use crate::way::Way;
 use crate::{Order, Status, Words};
 use std::alloc::{AllocError, Global};
 use um_code::listing;
@@ -109,9 +110,12 @@ fn answer_program(alloc: Global, asked: &Asked) -> Result<Reply, AllocError>
 {
     match asked.order {
         Order::Fmt => reply_layout(alloc, asked),
-        Order::Types | Order::Code | Order::Eval { .. } | Order::Conform => {
-            answer_names(alloc, asked)
-        }
+        Order::Types
+        | Order::Code
+        | Order::Run { .. }
+        | Order::Steps { .. }
+        | Order::Eval { .. }
+        | Order::Conform => answer_names(alloc, asked),
     }
 }
 
@@ -207,7 +211,11 @@ fn answer_typed(
         Order::Types => reply_schemes(alloc, shaped, schemes),
         Order::Code => reply_code(alloc, shaped),
         Order::Fmt => reply_layout(alloc, asked),
-        Order::Eval { budget } => answer_call(alloc, budget, asked, shaped, schemes),
+        Order::Run { budget } => answer_call(alloc, Way::Code, budget, asked, shaped, schemes),
+        Order::Steps { budget } => {
+            answer_call(alloc, Way::Counted, budget, asked, shaped, schemes)
+        }
+        Order::Eval { budget } => answer_call(alloc, Way::Tree, budget, asked, shaped, schemes),
         Order::Conform => answer_conform(alloc, asked, shaped, schemes),
     }
 }

@@ -15,6 +15,7 @@ mod schemes;
 mod signature;
 mod status;
 mod top;
+mod way;
 mod words;
 
 pub use order::{Order, order_of};

@@ -21,6 +21,10 @@ pub enum Order {
     Code,
     /// Print the program in its layout.
     Fmt,
+    /// Call a function by the program's code, with at most so many calls, and print its value.
+    Run { budget: u64 },
+    /// The same, and then print the number of steps that the machine made.
+    Steps { budget: u64 },
     /// Call a function by the program's tree, with at most so many calls, and print its value.
     Eval { budget: u64 },
     /// Say whether a function may be used at a signature.
@@ -44,17 +48,21 @@ impl Order {
         ensures { result ≡ intake_of self }
     {
         match self {
-            Order::Types | Order::Code | Order::Fmt | Order::Eval { .. } | Order::Conform => {
-                Intake::Text
-            }
+            Order::Types
+            | Order::Code
+            | Order::Fmt
+            | Order::Run { .. }
+            | Order::Steps { .. }
+            | Order::Eval { .. }
+            | Order::Conform => Intake::Text,
         }
     }
 }
 
 /// The order that the words name, or nothing where they have none of the forms. Takes no memory.
 ///
-/// The forms are `types`, `code`, `fmt`, `conform NAME TYPE` and `eval BUDGET NAME ARG*`. A budget is one to eight
-/// digits of value at most 10,000,000, and each word is at most 1,048,576 bytes long.
+/// The forms are `types`, `code`, `fmt`, `conform NAME TYPE`, and `run`, `steps` or `eval` with BUDGET NAME ARG*. A
+/// budget is one to eight digits of value at most 10,000,000, and each word is at most 1,048,576 bytes long.
 pub fn order_of(words: &Words) -> Option<Order>
     ensures { result ≡ order_named words.now }
 {
@@ -99,6 +107,8 @@ fn call_order(word: &str, budget: Option<u64>) -> Option<Order>
 {
     let budget = budget?;
     match word {
+        "run" => Some(Order::Run { budget }),
+        "steps" => Some(Order::Steps { budget }),
         "eval" => Some(Order::Eval { budget }),
         _ => None,
     }
@@ -153,5 +163,5 @@ pub fn names_unbuilt(words: &Words) -> bool
 fn is_unbuilt(word: &str) -> bool
     ensures { result ≡ unbuilt word.now }
 {
-    matches!(word, "run" | "steps" | "rescale" | "twin" | "big")
+    matches!(word, "rescale" | "twin" | "big")
 }
