@@ -1,5 +1,5 @@
 // The text of a large program.
-ghost use Rattle.std.specs.Prelude.{◌≡◌, ◌≤◌, ◌<◌, ◌++◌, codes, IfOk, OnOk};
+ghost use Rattle.std.specs.Prelude.{◌≡◌, ◌≤◌, ◌<◌, ◌++◌, length, IfOk, OnOk};
 ghost use Rattle.std.specs.Fmt.{decimal};
 ghost use Rattle.um_big.specs.BigText.{big_text as program_text, function_line, body_text, later_body, call_text};
 
@@ -8,12 +8,14 @@ use std::alloc::{AllocError, Global};
 /// The text of a program of `n` functions `g0`, `g1` and so on, each of two parameters and, but for the first two, made
 /// of one or two functions before it; `n` lies in 1 to 2,000.
 ///
-/// The powers of its units grow with `n`. The time is linear in `n`, and want of memory is the one error. The program is
-/// this project's own.
+/// The powers of its units grow with `n`. The text has at most 1,048,576 bytes and is made in time linear in `n`, and want
+/// of memory is the one error. The program is this project's own.
+#[tactic(auto, using(crate::proofs::Lengths::text_fits))]
 pub fn big_text(alloc: Global, n: u32) -> Result<Vec<u8>, AllocError>
     requires some { 1 ≤ n }
     requires few { n ≤ 2000 }
-    ensures { IfOk result (λ text. text.items ≡ program_text n) }
+    ensures exact { IfOk result (λ text. text.items ≡ program_text n) }
+    ensures fits { IfOk result (λ text. length text.items ≤ 1048576) }
 {
     let mut text = b"[<Measure>] type m\n[<Measure>] type s\n".to_vec(alloc)?;
     for k in 0..n {
