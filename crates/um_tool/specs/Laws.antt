@@ -51,7 +51,8 @@ pub record SpellsProgram (bytes : List ℕ) (p : ProgramTree) : Type 0 where
 abbrev pub TypesAnswers : List ℕ → List ℕ → Status → Type 0
 TypesAnswers bytes text status = Answer (codes "types" ∷ []) bytes text status
 
--- What `types` prints with status 0 are the principal schemes of the program that the bytes spell, a line for each function.
+-- What `types` prints with status 0 are the principal schemes of the program that the bytes spell, a line for each
+-- function.
 abbrev pub PrintedTypesArePrincipalSchemes : Type 0
 PrintedTypesArePrincipalSchemes =
     (bytes text : List ℕ) → TypesAnswers bytes text Done →

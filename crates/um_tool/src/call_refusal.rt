@@ -1,7 +1,8 @@
 // The lines of refused calls and signatures, and of a function that is held to a signature.
 ghost use Rattle.std.specs.Prelude.{◌≡◌, ◌<◌, ◌+◌, ◌++◌, IfOk, OnOk, codes, decimal, length, map, string_bytes};
-ghost use Rattle.um_tool.specs.CallRefusals.{positioned, argument_label, IsArgumentReply, IsCallReply, IsCallRangeReply};
-ghost use Rattle.um_tool.specs.CallRefusals.{IsUnnamedReply, IsTrapReply, signature_label, IsSignatureReply};
+ghost use Rattle.um_tool.specs.CallRefusals.{positioned, argument_label, IsArgumentReply, IsCallReply};
+ghost use Rattle.um_tool.specs.CallRefusals.{IsCallRangeReply, IsUnnamedReply, IsTrapReply, signature_label};
+ghost use Rattle.um_tool.specs.CallRefusals.{IsSignatureReply};
 ghost use Rattle.um_tool.specs.CallRefusals.{difference_line, IsConformReply};
 ghost use Rattle.um_tool.specs.Calling.{NamesText};
 ghost use Rattle.um_tool.specs.Steps.{IsReply, line};

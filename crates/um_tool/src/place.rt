@@ -1,7 +1,7 @@
 // Lines and columns, and positions in a word.
 ghost use Rattle.std.specs.Prelude.{◌≡◌, ◌++◌, OnOk, decimal, take, length};
-ghost use Rattle.um_tool.specs.Places.{line_of as line_behind, column_of as column_behind, position_of as position_behind};
-ghost use Rattle.um_tool.specs.Places.{place_text, begins_character as begins};
+ghost use Rattle.um_tool.specs.Places.{line_of as line_behind, column_of as column_behind, place_text};
+ghost use Rattle.um_tool.specs.Places.{position_of as position_behind, begins_character as begins};
 
 use std::alloc::AllocError;
 

@@ -1,6 +1,8 @@
 // The lines of refusals.
 ghost use Rattle.std.specs.Prelude.{◌≡◌, ◌++◌, IfOk, codes};
-ghost use Rattle.um_tool.specs.Refusals.{IsReadReply, IsTextReply, IsParseReply, IsNameReply, IsShapeReply, IsUnitsReply, IsNotGeneralReply, IsRangeReply, IsSlotsReply, limit_label as label_of_limit, placed};
+ghost use Rattle.um_tool.specs.Refusals.{IsReadReply, IsTextReply, IsParseReply, IsNameReply, IsShapeReply};
+ghost use Rattle.um_tool.specs.Refusals.{IsUnitsReply, IsNotGeneralReply, IsRangeReply, IsSlotsReply, placed};
+ghost use Rattle.um_tool.specs.Refusals.{limit_label as label_of_limit};
 ghost use Rattle.um_tool.specs.Steps.{IsReply, line};
 
 use crate::Status;

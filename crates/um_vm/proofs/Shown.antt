@@ -6,7 +6,7 @@ use Rattle.um_cells.specs.declared.store.Store.{Store}
 use Rattle.um_cells.specs.declared.word.Word.{Word}
 use Rattle.um_cells.specs.Stores.{DenotesIn, HasValue}
 use Rattle.um_cells.proofs.WellFormed.{value_of_word}
-use Rattle.um_cells.proofs.Denoting.{one_value}
+use Rattle.um_cells.proofs.Denoting.{one_value, one_value_each}
 use Rattle.um_machine.specs.declared.code.Code.{Code}
 use Rattle.um_machine.specs.Machine.{State, Step, going, done, stuck, starts}
 use Rattle.um_vm.specs.declared.phase.End.{End}
@@ -19,6 +19,7 @@ use Rattle.um_vm.specs.Going.{state_of}
 use Rattle.um_vm.specs.Ends.{IsEnd}
 use Rattle.um_vm.specs.Stepping.{first_state, IsBegun}
 use Rattle.um_vm.specs.Phases.{first_phase, end_holds, phase_holds}
+use Rattle.um_vm.specs.Laws.{MachinesShowOneStep}
 use Rattle.um_vm.specs.Showing.{ShowsIn, Shows}
 
 -- a machine at the start of a call
@@ -65,3 +66,25 @@ end_read store w v o d (u, k, e) = e ∙ ap value_outcome (one_value store.cells
 
 pub shown_by : (code : Code) (m : Run) (p : Phase) (r t : Step) → r ≡ t → ShowsIn code m p t → ShowsIn code m p r
 shown_by code m p r t e h = subst (λ x. ShowsIn code m p x) (sym e) h
+
+one_outcome : (store : Store) (e : End) (o p : OutcomeTree) → IsEnd store e o → IsEnd store e p → o ≡ p
+one_outcome store (end.Value w) o p (v, d, h) (u, k, g) =
+    h ∙ ap value_outcome (one_value store.cells.items w v u d k) ∙ sym g
+one_outcome store (end.Trap t) o p h k = h ∙ sym k
+one_outcome store end.BudgetEnd o p h k = h ∙ sym k
+
+pub one_shown : MachinesShowOneStep
+one_shown code m (going s) (going t) (p, vs, (on, h), e) (q, us, (same_on, k), g) =
+    let s = m.run.stack in
+    let same = one_value_each s.store.cells.items s.words.items vs us h k in
+    ap going (e ∙ ap (state_of m.run) same ∙ sym g)
+one_shown code m (going s) (done o) (p, vs, x, e) (f, q, k) = absurd cc
+one_shown code m (going s) stuck (p, vs, x, e) q = absurd cc
+one_shown code m (done o) (going t) (e, p, h) (q, us, x, g) = absurd cc
+one_shown code m (done o) (done u) (e, p, h) (f, q, k) =
+    let same : f ≡ e = cc in
+    ap done (one_outcome m.run.stack.store e o u h (subst (λ x. IsEnd m.run.stack.store x u) same k))
+one_shown code m (done o) stuck (e, p, h) q = absurd cc
+one_shown code m stuck (going t) p (q, us, x, g) = absurd cc
+one_shown code m stuck (done o) p (e, q, h) = absurd cc
+one_shown code m stuck stuck p q = refl

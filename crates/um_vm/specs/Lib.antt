@@ -4,7 +4,7 @@ pub mod Going
 pub mod Ends
 pub mod Showing
 pub mod Counting
--- What the definitions come to: a statement, proved as the contract of a function of src/laws.rt.
+-- What the definitions come to: statements, each proved as the contract of a function of src/laws.rt.
 pub mod Laws
 -- What mirrors the code: what an operation gives, what it leaves on the stack, what a step of a run comes to, and how
 -- far a machine is.

@@ -1,7 +1,7 @@
 //! The machine that runs the code of a program, over values in shared cells, and the runner by code.
 //!
-//! A machine's steps are those of the definition in `um_machine`. The functions that wait stand in frames on a vector, so
-//! that neither calls nor the length of lists use the host's stack.
+//! A machine's steps are those of the definition in `um_machine`. The functions that wait stand in frames on a vector,
+//! so that neither calls nor the length of lists use the host's stack.
 #![tactic(auto)]
 
 mod counting;
@@ -17,7 +17,7 @@ mod stop;
 mod words;
 
 pub use counting::CountedOutcome;
-pub use laws::counted_calls;
+pub use laws::{counted_calls, shown_steps};
 pub use machine::Machine;
 pub use runner::CodeRunner;
 pub use step::Step;
