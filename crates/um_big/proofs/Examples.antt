@@ -1,7 +1,7 @@
 -- Texts of small programs. Digits aren't computed here: tests print numbers.
 use Rattle.std.proofs.Common.{◌≡◌, refl, ℕ, List, ◌++◌, codes}
 use Rattle.std.specs.Fmt.{decimal}
-use Rattle.um_big.specs.BigText.{body_text, function_line, big_text}
+use Rattle.um_big.specs.BigText.{body_text, big_text}
 
 abbrev measures : List ℕ
 measures = codes "[<Measure>] type m\n[<Measure>] type s\n"
@@ -19,9 +19,9 @@ two = refl
 five :
     big_text 5
     ≡ measures ++ line 0 (codes "x / y") ++ line 1 (codes "x * x * y")
-        ++ line 2 (codes "g" ++ decimal 1 ++ codes " x y" ++ codes " / " ++ (codes "g" ++ decimal 1 ++ codes " x y"))
-        ++ line 3 (codes "g" ++ decimal 1 ++ codes " x y" ++ codes " * " ++ (codes "g" ++ decimal 1 ++ codes " y x"))
-        ++ line 4 (codes "g" ++ decimal 3 ++ codes " x y" ++ codes " + 0<_>")
+    ++ line 2 (codes "g" ++ decimal 1 ++ codes " x y" ++ codes " / " ++ (codes "g" ++ decimal 1 ++ codes " x y"))
+    ++ line 3 (codes "g" ++ decimal 1 ++ codes " x y" ++ codes " * " ++ (codes "g" ++ decimal 1 ++ codes " y x"))
+    ++ line 4 (codes "g" ++ decimal 3 ++ codes " x y" ++ codes " + 0<_>")
 five = refl
 
 -- where a half, a third and the number before differ

@@ -32,7 +32,8 @@ fn push_function(text: &mut Vec<u8>, k: u32) -> Result<(), AllocError>
     push_number(text, k)?;
     text.extend_from_slice(b" (x: num<_>) (y: num<_>) = ")?;
     push_body(text, k)?;
-    text.extend_from_slice(b"\n")
+    text.push(b'\n')?;
+    Ok(())
 }
 
 /// Adds the body of function k.

@@ -5,6 +5,7 @@ use Rattle.std.specs.List.{IsDistinct, list_any}
 use Rattle.std.specs.Set.{distinct_count}
 use Rattle.std.specs.Str.{bytes_eq}
 use Rattle.std.proofs.lemmas.Cmp.{nat_list_eq_equiv}
+use Rattle.std.proofs.lemmas.Slice.Eq.{bytes_eq-Decides}
 use Rattle.std.proofs.lemmas.List.Folds.{list_any-append}
 use Rattle.std.proofs.lemmas.Map.Keys.{IsDistinct-push}
 use Rattle.std.proofs.lemmas.Map.Made.{length-from_keys}
@@ -22,31 +23,21 @@ none_held = record { once = tt; same = λ q. refl }
 equal_bytes : IsEquivalence bytes_eq
 equal_bytes = nat_list_eq_equiv
 
--- a test that is passed already is passed by no more with one that is the same
+or_true : (b : Bool) → (b || true) ≡ true
+or_true true = refl
+or_true false = refl
+
+or_false : (b : Bool) → (b || false) ≡ b
+or_false true = refl
+or_false false = refl
+
+-- a text that is kept already changes nothing
 kept_already : (kept texts : List (List ℕ)) (t q : List ℕ) → is_among kept t ≡ true → is_among kept q ≡ is_among texts q → is_among kept q ≡ (is_among texts q || (bytes_eq q t || false))
 kept_already kept texts t q there same = by (bytes_eq q t) refl
   where
     by : (b : Bool) → bytes_eq q t ≡ b → is_among kept q ≡ (is_among texts q || (b || false))
-    by true e = held ∙ sym (or_true (is_among texts q))
-      where
-        held : is_among kept q ≡ true
-        held = alike kept q t e ∙ there
-        alike : (xs : List (List ℕ)) (x y : List ℕ) → bytes_eq x y ≡ true → is_among xs x ≡ is_among xs y
-        alike [] x y e = refl
-        alike (z ∷ xs) x y e = (λ i. test i || alike xs x y e i)
-          where
-            test : bytes_eq x z ≡ bytes_eq y z
-            test = equal_bytes.symm x z ∙ ap (λ b. b) (sides x y z e)
-            sides : (x y z : List ℕ) → bytes_eq x y ≡ true → bytes_eq z x ≡ bytes_eq y z
-            sides x y z e = equal_bytes.symm z x ∙ equal_bytes.congr x y z e
-        or_true : (b : Bool) → (b || true) ≡ true
-        or_true true = refl
-        or_true false = refl
+    by true e = ap (is_among kept) ((bytes_eq-Decides q t).0 e) ∙ there ∙ sym (or_true (is_among texts q))
     by false e = same ∙ sym (or_false (is_among texts q))
-      where
-        or_false : (b : Bool) → (b || false) ≡ b
-        or_false true = refl
-        or_false false = refl
 
 pub one_more_held : (kept texts : List (List ℕ)) (t : List ℕ) → HoldsOnce kept texts → HoldsOnce (cond (is_among kept t) kept (kept ++ t ∷ [])) (texts ++ t ∷ [])
 one_more_held kept texts t h = by (is_among kept t) refl

@@ -1,5 +1,4 @@
 use Rattle.std.proofs.Common.{◌++◌, codes}
-use Rattle.std.proofs.lemmas.Result.{on_ok_weaker}
 use Rattle.std.specs.Fmt.{decimal}
 use Rattle.um_big.specs.BigText.{body_text}
 use Rattle.um_big.proofs.AddedTexts.{more_added}
@@ -12,6 +11,4 @@ returns c =
     let number = more_added before one (decimal k) c.extend_from_slice.new.self.items c.push_number.new.text.items c.in_ok-extend_from_slice.ensures.items c.in_ok-push_number.ensures in
     let parameters = more_added before two (codes " (x: num<_>) (y: num<_>) = ") c.push_number.new.text.items c.extend_from_slice-2.new.self.items number c.in_ok-extend_from_slice-2.ensures.items in
     let body = more_added before three (body_text k) c.extend_from_slice-2.new.self.items c.push_body.new.text.items parameters c.in_ok-push_body.ensures in
-    on_ok_weaker c.extend_from_slice-3.result
-    (λ v ended. more_added before four (codes "\n") c.push_body.new.text.items c.extend_from_slice-3.new.self.items body ended)
-    c.extend_from_slice-3.ensures.items
+    more_added before four (codes "\n") c.push_body.new.text.items c.push.new.self.items body c.in_ok-push.ensures.items
