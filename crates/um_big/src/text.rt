@@ -8,8 +8,8 @@ use std::alloc::{AllocError, Global};
 /// The text of a program of `n` functions `g0`, `g1` and so on, each of two parameters and, but for the first two, made
 /// of one or two functions before it; `n` lies in 1 to 2,000.
 ///
-/// The powers of its units grow with `n`. The text has at most 1,048,576 bytes and is made in time linear in `n`, and want
-/// of memory is the one error. The program is this project's own.
+/// The powers of its units grow with `n`. The text has at most 1,048,576 bytes, and its time is linear in `n`. Want of
+/// memory is the one error. The program is this project's own.
 #[tactic(auto, using(crate::proofs::Lengths::text_fits))]
 pub fn big_text(alloc: Global, n: u32) -> Result<Vec<u8>, AllocError>
     requires some { 1 ≤ n }
