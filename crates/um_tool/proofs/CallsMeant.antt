@@ -1,8 +1,10 @@
 -- What answers to calls and to signatures say of the program that the bytes spell.
-use Rattle.std.proofs.Common.{◌≡◌, ◌⊎◌, ℕ, Bool, false, IsTrue, List, ◌++◌, codes, length, chars, get_or, Result, Ok, Err, Some, None, MatchOption, [], inl, inr, refl, sym, subst, ◌∙◌}
+use Rattle.std.proofs.Common.{◌≡◌, ◌⊎◌, ℕ, Bool, false, IsTrue, List, ◌∷◌, ◌++◌, codes, map, length, chars, get_or, Result, Ok, Err, Some, None, MatchOption, [], inl, inr, refl, sym, ap, subst, ◌∙◌}
 use Rattle.std.specs.declared.option.Option.{Option}
 use Rattle.um_tree.specs.TypeTree.{TypeTree, type_trees}
+use Rattle.um_tree.specs.ValueTree.{InputTree, values_in_order, more_values, inputs_in_order, without_units, without_units_each}
 use Rattle.um_tree.specs.ProgramTree.{ProgramTree, SchemeTree}
+use Rattle.um_tree.specs.Meaning.{outcome_of_call}
 use Rattle.um_tree.specs.Formed.{IsFormed}
 use Rattle.um_tree.specs.Scheme.{IsPrincipal}
 use Rattle.um_measures.specs.declared.abbreviation.Abbreviation.{Abbreviation}
@@ -14,10 +16,11 @@ use Rattle.um_infer.specs.Inference.{Inference, all_schemes, stops_at_slots, sto
 use Rattle.um_infer.proofs.InferenceLaws.{given_schemes_are_principal}
 use Rattle.um_run.specs.declared.call.CallRefusal.{CallRefusal}
 use Rattle.um_run.specs.declared.call.CallRefusal.TheVariants as refusal
-use Rattle.um_run.specs.Calls.{CallTree, IsCallOf}
+use Rattle.um_run.specs.Calls.{CallTree, call_values, IsCallOf}
 use Rattle.um_run.specs.Laws.{AreKnown}
 use Rattle.um_run.proofs.CallLaws.{calls_are_typed}
 use Rattle.um_run.proofs.ClosedAbbreviations.{abbreviations_are_closed}
+use Rattle.um_scaling.proofs.FreeZeroLaws.{free_zeros_of_calls}
 use Rattle.um_sig.specs.declared.signature.Signature.{Signature as ReadSignature}
 use Rattle.um_sig.specs.declared.stop.SigText.{SigText}
 use Rattle.um_sig.specs.declared.stop.SigText.TheVariants as sig_text
@@ -88,12 +91,17 @@ signature_refusal word sig_text.NoMemory text status reply verdict = reply
 
 -- ---- calls
 
+in_order : (inputs : List InputTree) → values_in_order (map without_units inputs) ≡ without_units_each (inputs_in_order inputs)
+in_order [] = refl
+in_order (input ∷ inputs) = ap (more_values (without_units input)) (in_order inputs)
+
 module _ (way : Way) (budget : ℕ) (words : List (List ℕ)) (bytes text : List ℕ) (status : Status) (ends : IsTrue (ends_a_call status)) where
   call_meant : (p : ProgramTree) (spelled : SpellsProgram bytes p) (schemes : List SchemeTree) (shorts : List Abbreviation) (r : Result CallTree CallRefusal) → IsFormed p → infer p ≡ all_schemes schemes → resolved_abbreviations spelled.raw ≡ Ok shorts
       → IsCallOf p shorts schemes (called_name words) (argument_texts words) r → ByCall way budget (argument_texts words) p r text status → IsMeantCall way budget words bytes text status
   unfolding RunAnswer
   call_meant p spelled schemes shorts (Ok call) formed inferred abbreviated named (o, meant, steps, counted, printed) =
       let known : AreKnown p shorts schemes = record { formed = formed; inferred = inferred; closed = abbreviations_are_closed spelled.raw p shorts spelled.resolved abbreviated } in
+      let typed = calls_are_typed p shorts schemes (called_name words) (argument_texts words) known call named in
       record {
         program = p;
         spelled = spelled;
@@ -103,9 +111,10 @@ module _ (way : Way) (budget : ℕ) (words : List (List ℕ)) (bytes text : List
         principal = given_schemes_are_principal p formed schemes inferred;
         call = call;
         named = named;
-        typed = calls_are_typed p shorts schemes (called_name words) (argument_texts words) known call named;
+        typed = typed;
         outcome = o;
         meant = meant;
+        free_zeros = λ v is. free_zeros_of_calls p call.function (inputs_in_order call.inputs) (call_values call) call.type budget v formed typed.inputs (in_order call.inputs) typed.type (subst (λ out. outcome_of_call p call.function (call_values call) budget ≡ Some out) is meant);
         steps = steps;
         counted = counted;
         printed = printed;

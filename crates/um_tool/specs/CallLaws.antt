@@ -3,9 +3,10 @@
 use Rattle.std.specs.Prelude.{ℕ, ◌≡◌, ◌⊎◌, Bool, true, false, IsTrue, List, [], ◌∷◌, ◌++◌, length, chars, codes, Some}
 use Rattle.std.specs.Prelude.{Ok, Option}
 use Rattle.um_tree.specs.TypeTree.{type_trees}
-use Rattle.um_tree.specs.ValueTree.{OutcomeTree}
+use Rattle.um_tree.specs.ValueTree.{ValueTree, OutcomeTree, value_outcome}
 use Rattle.um_tree.specs.ProgramTree.{ProgramTree, SchemeTree}
 use Rattle.um_tree.specs.Meaning.{outcome_of_call}
+use Rattle.um_scaling.specs.FreeNumbers.{IsFreeZero}
 use Rattle.um_measures.specs.declared.abbreviation.Abbreviation.{Abbreviation}
 use Rattle.um_measures.specs.Known.{number_of, function_names}
 use Rattle.um_names.specs.Resolution.{resolved_abbreviations}
@@ -54,7 +55,7 @@ ends_a_call status = false
 
 -- The words name a call in the program that the bytes spell, given its principal schemes; the call has a type, and the
 -- text and the status are those of its meaning's outcome at the budget, with the steps of the code's run where they are
--- counted.
+-- counted. A number of its value is 0 where its unit isn't closed.
 pub record IsMeantCall
     (way : Way) (budget : ℕ) (words : List (List ℕ)) (bytes text : List ℕ) (status : Status) : Type 0 where
   pub program : ProgramTree
@@ -68,6 +69,7 @@ pub record IsMeantCall
   pub typed : IsTypedCall program call
   pub outcome : OutcomeTree
   pub meant : outcome_of_call program call.function (call_values call) budget ≡ Some outcome
+  pub free_zeros : (v : ValueTree) → outcome ≡ value_outcome v → IsFreeZero program.records v call.type
   pub steps : Option ℕ
   pub counted : AreSteps way budget program call outcome steps
   pub printed : IsOutcomeReply program call.type outcome steps text status

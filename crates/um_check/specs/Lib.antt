@@ -1,0 +1,9 @@
+-- What a reader must trust, in the order in which it is to be read.
+pub mod Combination
+pub mod Validity
+pub mod Refutation
+-- What these definitions come to: statements, each proved as the contract of a function of src/laws.rt.
+pub mod Laws
+-- The code's.
+pub mod PartCode
+pub mod Tests

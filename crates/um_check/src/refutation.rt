@@ -1,0 +1,161 @@
+//! The check of a No.
+
+ghost use Rattle.std.specs.Prelude.{◌≡◌, ◌↔◌, ◌+ℤ◌, ◌+◌, ◌^◌, ◌<◌, ◌≤◌, ◌-◌, ◌≤ℤ◌, nat_abs, pos, IfOk, IsTrue, length};
+ghost use Rattle.std.specs.List.{list_all, list_any};
+ghost use Rattle.um_units.specs.PowerMap.{replace};
+ghost use Rattle.um_wide.specs.Room.{IsWithin};
+ghost use Rattle.um_wide.specs.WideTerms.{as_terms};
+ghost use Rattle.um_elim.specs.Solution.{rigid_unit};
+ghost use Rattle.um_rows.specs.Steps.{units_of};
+ghost use Rattle.um_check.specs.Refutation.{IsApart, IsValidNo, HasNone, fixed_slots};
+ghost use Rattle.um_check.specs.Tests.{is_free, divides, total, rigid_power, slots_divided, is_left};
+
+use crate::No;
+use crate::combination::{names_below, product_of_rows};
+use std::alloc::Global;
+use um_rows::{Row, Rows};
+use um_units::{Atom, NoMemory};
+use um_wide::{WideTerm, WideUnit};
+
+/// Whether the atom is the variable of a slot that no unit parameter has.
+fn is_free(parameters: u32, atom: Atom) -> bool
+    ensures { result ≡ is_free parameters atom }
+{
+    match atom {
+        Atom::Base(_) => false,
+        Atom::Var(k) => k >= parameters,
+    }
+}
+
+/// Whether the power is a multiple of the modulus.
+fn divided(modulus: i64, power: i128) -> bool
+    requires { pos 2 ≤ℤ modulus }
+    ensures { result ≡ divides modulus power }
+{
+    power.rem_euclid(i128::from(modulus)) == 0
+}
+
+fn sum(left: i128, right: i128) -> i128
+    requires left { nat_abs left ≤ 2 ^ 126 - 1 }
+    requires right { nat_abs right ≤ 2 ^ 126 - 1 }
+    ensures { result ≡ left +ℤ right }
+{
+    left + right
+}
+
+/// The power of a unit parameter, which is a variable and a base unit at once.
+fn parameter_power(product: &WideUnit, bases: u32, k: u32) -> i128
+    requires { IsWithin (2 ^ 126 - 1) product.now }
+    ensures { result ≡ total bases product.now k }
+{
+    let own = product.power_of(Atom::Var(k));
+    let other = product.base_power(u64::from(bases) + u64::from(k));
+    sum(own, other)
+}
+
+/// The power of the term's atom where each unit parameter is a base unit of its own.
+fn rigid_power(product: &WideUnit, bases: u32, parameters: u32, term: WideTerm) -> i128
+    requires { IsWithin (2 ^ 126 - 1) product.now }
+    ensures { result ≡ rigid_power bases parameters product.now term.atom term.power }
+{
+    match term.atom {
+        Atom::Var(k) => {
+            if k < parameters {
+                return parameter_power(product, bases, k);
+            }
+            term.power
+        }
+        Atom::Base(n) => {
+            if n >= bases && n - bases < parameters {
+                return parameter_power(product, bases, n - bases);
+            }
+            term.power
+        }
+    }
+}
+
+/// Whether each slot's power is a multiple of the modulus, but for those of unit parameters.
+fn slots_are_divided(terms: &[WideTerm], parameters: u32, modulus: i64) -> bool
+    requires { pos 2 ≤ℤ modulus }
+    ensures { result ≡ slots_divided modulus parameters terms.now }
+{
+    terms.iter().all(|term| !is_free(parameters, term.atom) || divided(modulus, term.power))
+}
+
+fn is_left(product: &WideUnit, bases: u32, parameters: u32, modulus: i64, term: WideTerm) -> bool
+    requires room { IsWithin (2 ^ 126 - 1) product.now }
+    requires proper { pos 2 ≤ℤ modulus }
+    ensures { result ≡ is_left modulus bases parameters product.now term }
+{
+    !is_free(parameters, term.atom)
+        && !divided(modulus, rigid_power(product, bases, parameters, term))
+}
+
+/// Whether some base unit's power isn't, where each unit parameter is a base unit of its own.
+fn base_unit_is_left(
+    terms: &[WideTerm],
+    product: &WideUnit,
+    bases: u32,
+    parameters: u32,
+    modulus: i64,
+) -> bool
+    requires room { IsWithin (2 ^ 126 - 1) product.now }
+    requires proper { pos 2 ≤ℤ modulus }
+    ensures { result ≡ list_any (is_left modulus bases parameters product.now) terms.now }
+{
+    terms
+        .iter()
+        .any(|term| is_left(product, bases, parameters, modulus, *term))
+}
+
+/// Whether the product of rows can't become 1, where each unit parameter is a base unit of its own.
+fn is_apart(product: &WideUnit, bases: u32, parameters: u32, modulus: i64) -> bool
+    requires room { IsWithin (2 ^ 126 - 1) product.now }
+    requires proper { pos 2 ≤ℤ modulus }
+    ensures { IsTrue result ↔ IsApart modulus (replace (rigid_unit bases parameters) product.now) }
+{
+    let terms = product.terms();
+    slots_are_divided(terms, parameters, modulus)
+        && base_unit_is_left(terms, product, bases, parameters, modulus)
+}
+
+/// How many slots are base units of their own.
+fn fixed_slots(loose: bool, parameters: u32) -> u32
+    ensures { result ≡ fixed_slots loose parameters }
+{
+    if loose { 0 } else { parameters }
+}
+
+/// Whether the certificate is valid for the rows of a function that has so many unit parameters, in a program with so many
+/// base units. Then the rows up to the last that it names have no joint solution, or where it isn't loose none in which each
+/// unit parameter is a unit of its own.
+///
+/// It adds up the rows' powers, at 128 bits, and eliminates nothing: about n log n steps for n terms of the named rows.
+pub fn check_no(
+    alloc: Global,
+    rows: &Rows,
+    units: u32,
+    bases: u32,
+    cert: &No,
+) -> Result<bool, NoMemory>
+    requires few { length cert.now.parts ≤ 4294967295 }
+    ensures exact { IfOk result (λ b. IsTrue b ↔ IsValidNo bases units (units_of rows.now.list.items.items) cert.now) }
+    ensures refutes { IfOk result (λ b. IsTrue b
+        → HasNone cert.now.loose bases units (units_of rows.now.list.items.items) cert.now.last) }
+{
+    let list: &[Row] = &rows.list.items;
+    let parts = cert.parts.as_slice();
+    if cert.modulus < 2 {
+        return Ok(false);
+    }
+    if cert.last as usize >= list.len() {
+        return Ok(false);
+    }
+    if !names_below(parts, cert.last as usize + 1) {
+        return Ok(false);
+    }
+    let product = product_of_rows(alloc, list, parts)?;
+    let fixed = fixed_slots(cert.loose, units);
+    let apart = is_apart(&product, bases, fixed, cert.modulus);
+    Ok(apart)
+}
