@@ -4,6 +4,7 @@ pub mod OrderWords
 pub mod CallsDone
 pub mod BigAnswers
 pub mod DifferentTexts
+pub mod LastCall
 pub mod ConformsDone
 pub mod Complete
 pub mod PlaceLaws

@@ -1,8 +1,9 @@
 // The answer about a generated program.
 ghost use Rattle.std.specs.Prelude.{◌≡◌, ◌≤◌, ◌<◌, ◌-◌, ◌++◌, [], IfOk, OnOk, Ok, slice_get, decimal};
-ghost use Rattle.um_tree.specs.ProgramTree.{program_tree};
+ghost use Rattle.um_tree.specs.ProgramTree.{program_tree, function_tree, scheme_tree};
 ghost use Rattle.um_tree.specs.RawTree.{program_syntax};
 ghost use Rattle.um_names.specs.Resolution.{resolved_program};
+ghost use Rattle.um_show.specs.SchemeText.{scheme_text as text_of_scheme};
 ghost use Rattle.um_infer.specs.Answers.{scheme_trees};
 ghost use Rattle.um_infer.specs.Inference.{all_schemes, infer};
 ghost use Rattle.um_tool.specs.Asking.{asked_of};
@@ -139,6 +140,20 @@ fn push_scheme(
     let Some(scheme) = schemes.get(k as usize) else {
         return Ok(());
     };
+    push_scheme_line(alloc, text, program, function, scheme)
+}
+
+/// Adds the line of a function with its scheme.
+fn push_scheme_line(
+    alloc: Global,
+    text: &mut Vec<u8>,
+    program: &Program,
+    function: &Function,
+    scheme: &Scheme,
+) -> Result<(), AllocError>
+    ensures { OnOk result (text.new.items ≡ text.old.items
+        ++ line (text_of_scheme (program_tree program.now) (function_tree function.now).name (scheme_tree scheme.now))) }
+{
     let one = scheme_text(alloc, &function.name, scheme, program)?;
     text.extend_from_slice(&one)?;
     text.extend_from_slice(b"\n")
