@@ -1,7 +1,7 @@
 -- Texts, each kept once, and how many they are.
 use Rattle.std.proofs.Common.{◌≡◌, ℕ, Bool, true, false, cond, ◌||◌, List, [], ◌∷◌, ◌++◌, length, refl, sym, ap, ◌∙◌}
 use Rattle.std.specs.Cmp.{IsEquivalence}
-use Rattle.std.specs.List.{IsDistinct, list_any}
+use Rattle.std.specs.List.{IsDistinct}
 use Rattle.std.specs.Set.{distinct_count}
 use Rattle.std.specs.Str.{bytes_eq}
 use Rattle.std.proofs.lemmas.Cmp.{nat_list_eq_equiv}
@@ -44,6 +44,7 @@ one_more_held kept texts t h = by (is_among kept t) refl
   where
     more : (q : List ℕ) → is_among (texts ++ t ∷ []) q ≡ (is_among texts q || (bytes_eq q t || false))
     more q = list_any-append (bytes_eq q) texts (t ∷ [])
+
     by : (b : Bool) → is_among kept t ≡ b → HoldsOnce (cond b kept (kept ++ t ∷ [])) (texts ++ t ∷ [])
     by true there = record { once = h.once; same = λ q. kept_already kept texts t q there (h.same q) ∙ sym (more q) }
     by false new = record {

@@ -58,7 +58,7 @@ text_planned words left before now order bytes text status asks told short answe
 pub generated_planned : (words : List (List ℕ)) (left : Option (List ℕ)) (before now : ℕ) (order : Order) (n : ℕ) (text : List ℕ) (status : Status) → AsksFor words order (intake_of order) → intake_of order ≡ Generated n → TokensAnswer order words (big_text n) text status → IsPlanned words left before now text status
 generated_planned words left before now order n text status asks takes answer =
     let told = some_told left in
-    let generated = record { built = asks.built; ordered = asks.ordered; takes = takes } in
+    let generated : AsksFor words order (Generated n) = record { built = asks.built; ordered = asks.ordered; takes = takes } in
     order_planned words left before now order (Generated n) told.0 text status generated told.1 answer
 
 -- words that ask for a text read

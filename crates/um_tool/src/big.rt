@@ -1,5 +1,5 @@
 // The answer about a generated program.
-ghost use Rattle.std.specs.Prelude.{◌≡◌, ◌≤◌, ◌<◌, ◌-◌, ◌++◌, [], IfOk, OnOk, Ok, slice_get, decimal};
+ghost use Rattle.std.specs.Prelude.{◌≡◌, ◌≤◌, ◌<◌, ◌-◌, ◌++◌, IfOk, OnOk, Ok, slice_get, decimal};
 ghost use Rattle.um_tree.specs.ProgramTree.{program_tree, function_tree, scheme_tree};
 ghost use Rattle.um_tree.specs.RawTree.{program_syntax};
 ghost use Rattle.um_names.specs.Resolution.{resolved_program};
@@ -83,7 +83,11 @@ fn reply_lines(
 {
     let mut text = Vec::new(alloc);
     push_count(&mut text, b"functions ", functions)?;
-    push_count(&mut text, b"schemes ", different_schemes(alloc, program, schemes)?)?;
+    push_count(
+        &mut text,
+        b"schemes ",
+        different_schemes(alloc, program, schemes)?,
+    )?;
     text.extend_from_slice(b"last ")?;
     push_scheme(alloc, &mut text, program, schemes, functions - 1)?;
     text.extend_from_slice(b"run ")?;
@@ -104,11 +108,7 @@ fn push_count(text: &mut Vec<u8>, label: &[u8], count: u32) -> Result<(), AllocE
 }
 
 /// How many different texts the schemes have, names left out.
-fn different_schemes(
-    alloc: Global,
-    program: &Program,
-    schemes: &Schemes,
-) -> Result<u32, AllocError>
+fn different_schemes(alloc: Global, program: &Program, schemes: &Schemes) -> Result<u32, AllocError>
     ensures { IfOk result (λ n. n ≡ different (program_tree program.now) (scheme_trees schemes.now)) }
 {
     let unnamed = Name::from_vec(Vec::new(alloc));

@@ -37,7 +37,7 @@ pub answer_conform-requires-clause-short : goal.answer_conform-requires-clause-s
 answer_conform-requires-clause-short c = short_words c.args.asked.now.words.now c.args.asked.now.order c.requires.ordered
 
 pub answer_big-requires-clause-some : goal.answer_big-requires-clause-some
-answer_big-requires-clause-some c = (big_words c.args.asked.now.words.now c.in-Big.field-0 (c.requires.ordered ∙ ap Some c.in-Big.is)).0
+answer_big-requires-clause-some c = (big_words c.args.asked.now.words.now c.in-Big.functions (c.requires.ordered ∙ ap Some c.in-Big.is)).0
 
 pub answer_big-requires-clause-few : goal.answer_big-requires-clause-few
-answer_big-requires-clause-few c = (big_words c.args.asked.now.words.now c.in-Big.field-0 (c.requires.ordered ∙ ap Some c.in-Big.is)).1
+answer_big-requires-clause-few c = (big_words c.args.asked.now.words.now c.in-Big.functions (c.requires.ordered ∙ ap Some c.in-Big.is)).1

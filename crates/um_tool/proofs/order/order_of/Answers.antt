@@ -13,7 +13,7 @@ returns-then-len-eq1 c =
 pub returns-then-len-eq2 : goal.returns-then-len-eq2
 returns-then-len-eq2 c =
     let short = sym c.are_short.ensures ∙ c.if-not-are_short.false in
-    c.order_of_two.ensures ∙ sym (by_count c.args.words.now short ∙ pair_of_two c.args.words.now c.word-2.result.now c.word-3.result.now (sym c.len-2.ensures ∙ c.if-len-eq2.true) c.word-2.ensures c.word-3.ensures)
+    c.order_of_two.ensures ∙ sym (by_count c.args.words.now short ∙ pair_of_two c.args.words.now c.word-then-len-eq2.result.now c.word-then-len-eq2-2.result.now (sym c.len-2.ensures ∙ c.if-len-eq2.true) c.word-then-len-eq2.ensures c.word-then-len-eq2-2.ensures)
 
 pub returns-then-len-lt3 : goal.returns-then-len-lt3
 returns-then-len-lt3 c =
