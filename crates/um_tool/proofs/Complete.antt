@@ -43,9 +43,9 @@ use Rattle.um_tool.specs.declared.way.Way.TheVariants as way
 use Rattle.um_tool.specs.declared.order.Order.{Order}
 use Rattle.um_tool.specs.declared.status.Status.{Status}
 use Rattle.um_tool.specs.declared.status.Status.TheVariants.{Done}
-use Rattle.um_tool.specs.declared.order.Order.TheVariants.{Types, Code, Fmt, Run, Steps, Eval, Conform}
+use Rattle.um_tool.specs.declared.order.Order.TheVariants.{Types, Code, Fmt, Run, Steps, Eval, Conform, Big}
 use Rattle.um_tool.specs.declared.order.Intake.{Intake}
-use Rattle.um_tool.specs.declared.order.Intake.TheVariants.{Nothing, Text, Bytes}
+use Rattle.um_tool.specs.declared.order.Intake.TheVariants.{Generated, Text, Bytes}
 use Rattle.um_tool.specs.Asked.{Asked}
 use Rattle.um_tool.specs.Answer.{Answer, OrderAnswer, IntakeAnswer, LengthAnswer, TokensAnswer, GrammarAnswer, ProgramAnswer, ByLayout, NamesAnswer, ShapesAnswer, SchemesAnswer, TypedAnswer, ByOrder, InferenceAnswer}
 use Rattle.um_tool.specs.Passing.{EachIsTyped, IsTyped, PassesOn, GoesThrough}
@@ -54,7 +54,9 @@ use Rattle.um_tool.specs.Refusals.{IsTextReply, IsParseReply, IsNameReply, IsSha
 use Rattle.um_tool.specs.Steps.{Cases}
 use Rattle.um_tool.specs.Served.{IsPlanned, IsTakenComplete, IsComplete, IsUndisturbed}
 use Rattle.um_sig.specs.Laws.{ReadingsAreUnique}
+use Rattle.um_big.specs.BigText.{big_text}
 use Rattle.um_tool.proofs.CallsDone.{call_done}
+use Rattle.um_tool.proofs.BigAnswers.{big_done}
 use Rattle.um_tool.proofs.ConformsDone.{conform_done}
 
 -- what follows a case that doesn't apply
@@ -135,6 +137,7 @@ module _ (one_reading : ReadingsAreUnique) where
   by_order_done (Steps budget) asked p schemes text status formed resolved inferred passes answer = call_done way.Counted budget asked p schemes text status formed resolved inferred passes answer
   by_order_done (Eval budget) asked p schemes text status formed resolved inferred passes answer = call_done way.Tree budget asked p schemes text status formed resolved inferred passes answer
   by_order_done Conform asked p schemes text status formed resolved inferred passes answer = conform_done one_reading asked p schemes text status formed resolved inferred passes answer
+  by_order_done (Big n) asked p schemes text status formed resolved inferred passes answer = big_done n asked p schemes text status formed resolved inferred passes answer
 
   -- a program whose functions are typed and pass no limit has its schemes
   inferred_done : (asked : Asked) (p : ProgramTree) (inferred : Inference) (text : List ℕ) (status : Status) → IsFormed p → resolved_program asked.raw ≡ Ok p → infer p ≡ inferred → IsGiven inferred
@@ -177,6 +180,7 @@ module _ (one_reading : ReadingsAreUnique) where
   by_layout_done (Steps budget) words bytes raw text status readable (typed, passes) answer = names_done (record { order = Steps budget; words = words; bytes = bytes; raw = raw }) text status readable typed passes answer
   by_layout_done (Eval budget) words bytes raw text status readable (typed, passes) answer = names_done (record { order = Eval budget; words = words; bytes = bytes; raw = raw }) text status readable typed passes answer
   by_layout_done Conform words bytes raw text status readable (typed, passes) answer = names_done (record { order = Conform; words = words; bytes = bytes; raw = raw }) text status readable typed passes answer
+  by_layout_done (Big n) words bytes raw text status readable (typed, passes) answer = names_done (record { order = Big n; words = words; bytes = bytes; raw = raw }) text status readable typed passes answer
 
   program_done : (order : Order) (words : List (List ℕ)) (bytes : List ℕ) (raw : List DeclSyntax) (text : List ℕ) (status : Status) → IsReadable raw → GoesThrough order words raw
       → ProgramAnswer (record { order = order; words = words; bytes = bytes; raw = raw }) text status → status ≡ Done
@@ -200,7 +204,7 @@ module _ (one_reading : ReadingsAreUnique) where
 
   intake_done : (intake : Intake) (order : Order) (words : List (List ℕ)) (bytes text : List ℕ) (status : Status) → IsTakenComplete intake order words bytes → IntakeAnswer intake order words bytes text status → status ≡ Done
   unfolding LengthAnswer
-  intake_done Nothing order words bytes text status ok answer = absurd ok
+  intake_done (Generated n) order words bytes text status ok answer = tokens_done order words (big_text n) ok.tokens ok.raw text status ok.short ok.lexed ok.read ok.goes_through answer
   intake_done Text order words bytes text status ok answer =
       let long : 1048576 < length bytes → ⊥ = λ h. omega (arith, ok.short) in
       tokens_done order words bytes ok.tokens ok.raw text status ok.short ok.lexed ok.read ok.goes_through (passed long answer)

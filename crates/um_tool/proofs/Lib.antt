@@ -2,6 +2,9 @@ pub mod Statuses
 pub mod Serving
 pub mod OrderWords
 pub mod CallsDone
+pub mod BigAnswers
+pub mod DifferentTexts
+pub mod LastCall
 pub mod ConformsDone
 pub mod Complete
 pub mod PlaceLaws

@@ -9,8 +9,9 @@ use Rattle.std.proofs.lemmas.Bool.{leb-true}
 use Rattle.std.proofs.lemmas.Str.Parse.{numerals_by_value, tells_all_ascii_digits, digits_value_short, parse_gives}
 use Rattle.std.proofs.lemmas.List.Elements.{All-nil, All-cons}
 use Rattle.um_tool.specs.declared.order.Order.{Order}
-use Rattle.um_tool.specs.declared.order.Order.TheVariants.{Types, Code, Fmt, Run, Steps, Eval, Conform}
-use Rattle.um_tool.specs.Orders.{is_short, is_budget, budget_of, order_alone, call_order, longer_order, order_by_count, order_of}
+use Rattle.um_tool.specs.declared.order.Order.TheVariants.{Types, Code, Fmt, Run, Steps, Eval, Conform, Big}
+use Rattle.um_tool.specs.declared.order.Intake.TheVariants.{Generated}
+use Rattle.um_tool.specs.Orders.{is_short, is_budget, budget_of, is_count, count_of, big_order, order_of_two, order_alone, call_order, longer_order, order_by_count, order_of, intake_of}
 
 pub both : (a b : Bool) → (a && b) ≡ true → (a ≡ true) × (b ≡ true)
 both true b e = (refl, e)
@@ -45,16 +46,22 @@ unfolding order_of
 by_count words e = ap (λ t. if t then order_by_count words else None) e
 
 -- ---- the forms by the count of words
-pub none_of_few : (words : List (List ℕ)) → (length words ≡ 1 → ⊥) → length words < 3 → order_by_count words ≡ None
-none_of_few [] more few = refl
-none_of_few (w ∷ []) more few = absurd (more refl)
-none_of_few (w ∷ v ∷ []) more few = refl
-none_of_few (w ∷ v ∷ u ∷ ws) more few = absurd (omega (arith, few))
+pub none_of_few : (words : List (List ℕ)) → (length words ≡ 1 → ⊥) → (length words ≡ 2 → ⊥) → length words < 3 → order_by_count words ≡ None
+none_of_few [] more other few = refl
+none_of_few (w ∷ []) more other few = absurd (more refl)
+none_of_few (w ∷ v ∷ []) more other few = absurd (other refl)
+none_of_few (w ∷ v ∷ u ∷ ws) more other few = absurd (omega (arith, few))
 
 pub alone_of_one : (words : List (List ℕ)) (w : List ℕ) → length words ≡ 1 → slice_get words 0 ≡ Some w → order_by_count words ≡ order_alone w
 alone_of_one [] w e h = absurd (omega (arith, e))
 alone_of_one (x ∷ []) w e h = let same : x ≡ w = cc h in ap order_alone same
 alone_of_one (x ∷ y ∷ ws) w e h = absurd (omega (arith, e))
+
+pub pair_of_two : (words : List (List ℕ)) (w v : List ℕ) → length words ≡ 2 → slice_get words 0 ≡ Some w → slice_get words 1 ≡ Some v → order_by_count words ≡ order_of_two w v
+pair_of_two [] w v e first second = absurd (omega (arith, e))
+pair_of_two (x ∷ []) w v e first second = absurd (omega (arith, e))
+pair_of_two (x ∷ y ∷ []) w v e first second = let same : x ≡ w = cc first in let other : y ≡ v = cc second in (λ i. order_of_two (same i) (other i))
+pair_of_two (x ∷ y ∷ z ∷ ws) w v e first second = absurd (omega (arith, e))
 
 pub longer_of_more : (words : List (List ℕ)) → 2 < length words → order_by_count words ≡ longer_order (get_or words 0 []) (get_or words 1 []) (drop 3 words)
 longer_of_more [] l = absurd (omega (arith, l))
@@ -95,6 +102,14 @@ alone_calls_nothing word o b c e = by (bytes_eq word (codes "types")) (bytes_eq 
   by false false true named = let same : Fmt ≡ o = cc named in subst (λ q. calls q b) (sym same) c
   by false false false named = cc named
 
+-- two words call nothing, and hold no function to a signature
+two_name_big : (word second : List ℕ) (o : Order) → order_of_two word second ≡ Some o → (n : ℕ) × (o ≡ Big n) × (count_of second ≡ Some n)
+two_name_big word second o e = by (bytes_eq word (codes "big")) (count_of second) refl e where
+  by : (t : Bool) (count : Option ℕ) → count_of second ≡ count → (if t then big_order count else None) ≡ Some o → (n : ℕ) × (o ≡ Big n) × (count_of second ≡ Some n)
+  by true (Some n) is named = let same : Big n ≡ o = cc named in (n, sym same, is)
+  by true None is named = absurd (cc named)
+  by false count is named = absurd (cc named)
+
 longer_within : (word second : List ℕ) (more : List (List ℕ)) (o : Order) (b : ℕ) → calls o b → longer_order word second more ≡ Some o → b ≤ 10000000
 longer_within word second [] o b c e = by (bytes_eq word (codes "conform")) e where
   by : (t : Bool) → (if t then Some Conform else call_order word (budget_of second)) ≡ Some o → b ≤ 10000000
@@ -105,7 +120,7 @@ longer_within word second (w ∷ ws) o b c e = called_within word (budget_of sec
 call_by_count : (words : List (List ℕ)) (o : Order) (b : ℕ) → calls o b → order_by_count words ≡ Some o → (3 ≤ length words) × (b ≤ 10000000)
 call_by_count [] o b c e = absurd (cc e)
 call_by_count (w ∷ []) o b c e = absurd (alone_calls_nothing w o b c e)
-call_by_count (w ∷ v ∷ []) o b c e = absurd (cc e)
+call_by_count (w ∷ v ∷ []) o b c e = let big = two_name_big w v o e in absurd (subst (λ q. calls q b) big.1 c)
 call_by_count (w ∷ v ∷ u ∷ ws) o b c e = (omega arith, longer_within w v ws o b c e)
 
 pub call_words : (words : List (List ℕ)) (o : Order) (b : ℕ) → calls o b → order_of words ≡ Some o → (3 ≤ length words) × (b ≤ 10000000)
@@ -123,11 +138,67 @@ alone_holds_nothing word e = by (bytes_eq word (codes "types")) (bytes_eq word (
 conform_by_count : (words : List (List ℕ)) → order_by_count words ≡ Some Conform → 3 ≤ length words
 conform_by_count [] e = absurd (cc e)
 conform_by_count (w ∷ []) e = absurd (alone_holds_nothing w e)
-conform_by_count (w ∷ v ∷ []) e = absurd (cc e)
+conform_by_count (w ∷ v ∷ []) e = let big = two_name_big w v Conform e in let no : Conform ≡ Big big.0 = big.1 in absurd (cc no)
 conform_by_count (w ∷ v ∷ u ∷ ws) e = omega arith
 
 pub conform_words : (words : List (List ℕ)) → order_of words ≡ Some Conform → 3 ≤ length words
 conform_words words e = conform_by_count words (named_by_count words Conform e).1
+
+-- ---- a generated program has few functions
+count_within : (word : List ℕ) (n : ℕ) → count_of word ≡ Some n → (1 ≤ n) × (n ≤ 2000)
+count_within word n e = by (is_budget word && is_count word) refl e where
+  by : (t : Bool) → (is_budget word && is_count word) ≡ t → (if t then Some (digits_value 10 word) else None) ≡ Some n → (1 ≤ n) × (n ≤ 2000)
+  by true s named =
+      let same : digits_value 10 word ≡ n = cc named in
+      let bounds = both (nat_le (length word) 4 && nat_le 1 (digits_value 10 word)) (nat_le (digits_value 10 word) 2000) (both (is_budget word) (is_count word) s).1 in
+      let least = both (nat_le (length word) 4) (nat_le 1 (digits_value 10 word)) bounds.0 in
+      (subst (λ k. 1 ≤ k) same (leb-true 1 (digits_value 10 word) least.1), subst (λ k. k ≤ 2000) same (leb-true (digits_value 10 word) 2000 bounds.1))
+  by false s named = absurd (cc named)
+
+alone_is_text : (word : List ℕ) (n : ℕ) → order_alone word ≡ Some (Big n) → ⊥
+alone_is_text word n e = by (bytes_eq word (codes "types")) (bytes_eq word (codes "code")) (bytes_eq word (codes "fmt")) e where
+  by : (s t u : Bool) → (if s then Some Types else if t then Some Code else if u then Some Fmt else None) ≡ Some (Big n) → ⊥
+  by true t u named = cc named
+  by false true u named = cc named
+  by false false true named = cc named
+  by false false false named = cc named
+
+call_is_text : (word : List ℕ) (limit : Option ℕ) (n : ℕ) → call_order word limit ≡ Some (Big n) → ⊥
+call_is_text word None n e = cc e
+call_is_text word (Some b) n e = by (bytes_eq word (codes "run")) (bytes_eq word (codes "steps")) (bytes_eq word (codes "eval")) e where
+  by : (s t u : Bool) → (if s then Some (Run b) else if t then Some (Steps b) else if u then Some (Eval b) else None) ≡ Some (Big n) → ⊥
+  by true t u named = cc named
+  by false true u named = cc named
+  by false false true named = cc named
+  by false false false named = cc named
+
+longer_is_text : (word second : List ℕ) (more : List (List ℕ)) (n : ℕ) → longer_order word second more ≡ Some (Big n) → ⊥
+longer_is_text word second [] n e = by (bytes_eq word (codes "conform")) e where
+  by : (t : Bool) → (if t then Some Conform else call_order word (budget_of second)) ≡ Some (Big n) → ⊥
+  by true named = cc named
+  by false named = call_is_text word (budget_of second) n named
+longer_is_text word second (w ∷ ws) n e = call_is_text word (budget_of second) n e
+
+big_by_count : (words : List (List ℕ)) (n : ℕ) → order_by_count words ≡ Some (Big n) → (1 ≤ n) × (n ≤ 2000)
+big_by_count [] n e = absurd (cc e)
+big_by_count (w ∷ []) n e = absurd (alone_is_text w n e)
+big_by_count (w ∷ v ∷ []) n e =
+    let big = two_name_big w v (Big n) e in let same : n ≡ big.0 = cc big.1 in
+    count_within v n (big.2 ∙ ap Some (sym same))
+big_by_count (w ∷ v ∷ u ∷ ws) n e = absurd (longer_is_text w v ws n e)
+
+pub big_words : (words : List (List ℕ)) (n : ℕ) → order_of words ≡ Some (Big n) → (1 ≤ n) × (n ≤ 2000)
+big_words words n e = big_by_count words n (named_by_count words (Big n) e).1
+
+pub generated_count : (words : List (List ℕ)) (o : Order) (n : ℕ) → order_of words ≡ Some o → intake_of o ≡ Generated n → (1 ≤ n) × (n ≤ 2000)
+generated_count words (Big k) n e takes = let same : k ≡ n = cc takes in big_words words n (e ∙ ap (λ j. Some (Big j)) same)
+generated_count words Types n e takes = absurd (cc takes)
+generated_count words Code n e takes = absurd (cc takes)
+generated_count words Fmt n e takes = absurd (cc takes)
+generated_count words (Run b) n e takes = absurd (cc takes)
+generated_count words (Steps b) n e takes = absurd (cc takes)
+generated_count words (Eval b) n e takes = absurd (cc takes)
+generated_count words Conform n e takes = absurd (cc takes)
 
 -- ---- digits
 

@@ -8,13 +8,14 @@ use Rattle.um_wire.specs.declared.read.ReadStop.{ReadStop}
 use Rattle.um_wire.specs.declared.read.ReadStop.TheVariants.{TooLong as TooLongToRead, Failed as ReadFailed, NoMemory as OutOfMemory}
 use Rattle.um_tool.specs.declared.order.Order.{Order}
 use Rattle.um_tool.specs.declared.order.Intake.{Intake}
-use Rattle.um_tool.specs.declared.order.Intake.TheVariants.{Text}
+use Rattle.um_tool.specs.declared.order.Intake.TheVariants.{Generated, Text}
 use Rattle.um_tool.specs.declared.status.Status.{Status}
 use Rattle.um_tool.specs.declared.status.Status.TheVariants.{Usage, ReadFault, WriteFault}
 use Rattle.um_tool.specs.Answer.{Answer, OrderAnswer, IntakeAnswer, LengthAnswer, TokensAnswer, IsNotBuilt}
 use Rattle.um_tool.specs.Refusals.{IsReadReply}
 use Rattle.um_tool.specs.Steps.{IsReply, line}
-use Rattle.um_tool.specs.Orders.{order_of, NamesUnbuilt, AsksFor}
+use Rattle.um_big.specs.BigText.{big_text}
+use Rattle.um_tool.specs.Orders.{order_of, intake_of, NamesUnbuilt, AsksFor}
 use Rattle.um_tool.specs.Served.{IsPlanned, Reads, Serves}
 use Rattle.um_tool.proofs.Statuses.{is_answered, Answer-status}
 
@@ -53,9 +54,16 @@ text_planned words left before now order bytes text status asks told short answe
     let past : 1048576 < length bytes → ⊥ = λ h. omega arith in
     order_planned words left before now order Text bytes text status asks told (inr (past, answer))
 
+-- a generated text is answered as if it had been read
+pub generated_planned : (words : List (List ℕ)) (left : Option (List ℕ)) (before now : ℕ) (order : Order) (n : ℕ) (text : List ℕ) (status : Status) → AsksFor words order (intake_of order) → intake_of order ≡ Generated n → TokensAnswer order words (big_text n) text status → IsPlanned words left before now text status
+generated_planned words left before now order n text status asks takes answer =
+    let told = some_told left in
+    let generated : AsksFor words order (Generated n) = record { built = asks.built; ordered = asks.ordered; takes = takes } in
+    order_planned words left before now order (Generated n) told.0 text status generated told.1 answer
+
 -- words that ask for a text read
 pub text_reads : (words : List (List ℕ)) (order : Order) → AsksFor words order Text → Reads words
-text_reads words order asks = record { order = order; intake = Text; asks = asks; some = λ is. cc is }
+text_reads words order asks = record { order = order; intake = Text; asks = asks; some = tt }
 
 pub unread_planned : {T : Type 0} (result : Result T ReadStop) (stop : ReadStop) (words : List (List ℕ)) (left : Option (List ℕ)) (before now : ℕ) (order : Order) (text : List ℕ) (status : Status) → AsksFor words order Text → result ≡ Err stop
     → (IsErrOf result TooLongToRead → TellsMoreThan 1048576 left) → (IsErrOf result ReadFailed → Rose before now) → IsReadReply stop text status → IsPlanned words left before now text status

@@ -1,5 +1,5 @@
 -- Which statuses an answer may have: none of the faults'.
-use Rattle.std.proofs.Common.{ℕ, List, [], Bool, true, false, IsTrue, None, Some, Result, Ok, Err, MatchOption, get_or, codes, refl, inl, inr}
+use Rattle.std.proofs.Common.{ℕ, ◌-◌, List, [], Bool, true, false, IsTrue, None, Some, Result, Ok, Err, MatchOption, get_or, codes, refl, inl, inr}
 use Rattle.std.specs.declared.option.Option.{Option}
 use Rattle.um_syntax.specs.declared.token.Token.{Token}
 use Rattle.um_syntax.specs.declared.token.TextStop.{TextStop}
@@ -34,11 +34,13 @@ use Rattle.um_tool.specs.declared.status.Status.TheVariants.{Usage, ReadFault, W
 use Rattle.um_tool.specs.declared.way.Way.{Way}
 use Rattle.um_tool.specs.declared.way.Way.TheVariants as way
 use Rattle.um_tool.specs.declared.order.Order.{Order}
-use Rattle.um_tool.specs.declared.order.Order.TheVariants.{Types, Code, Fmt, Run, Steps, Eval, Conform}
+use Rattle.um_tool.specs.declared.order.Order.TheVariants.{Types, Code, Fmt, Run, Steps, Eval, Conform, Big}
 use Rattle.um_tool.specs.declared.order.Intake.{Intake}
-use Rattle.um_tool.specs.declared.order.Intake.TheVariants.{Nothing, Text, Bytes}
+use Rattle.um_tool.specs.declared.order.Intake.TheVariants.{Generated, Text, Bytes}
 use Rattle.um_infer.specs.Inference.{Inference, all_schemes, stops_at_slots, stops_at_range, stops_at_units, stops_at_not_general, infer}
+use Rattle.um_big.specs.BigText.{big_text}
 use Rattle.um_tool.specs.Asked.{Asked, argument_texts, held_name, signature_text}
+use Rattle.um_tool.specs.BigAnswer.{BigAnswer, asked_by, last_call}
 use Rattle.um_tool.specs.Answer.{Answer, OrderAnswer, IntakeAnswer, LengthAnswer, TokensAnswer, GrammarAnswer, ProgramAnswer, ByLayout, NamesAnswer, ShapesAnswer, SchemesAnswer, TypedAnswer, ByOrder, InferenceAnswer}
 use Rattle.um_tool.specs.Orders.{order_of, intake_of}
 use Rattle.um_tool.specs.Steps.{IsReply, line}
@@ -87,6 +89,10 @@ CallAnswer-status : (way : Way) (budget : ℕ) (asked : Asked) (p : ProgramTree)
 unfolding CallAnswer
 CallAnswer-status way budget asked p schemes text status (shorts, abbreviated, answer) = BesideAnswer-status way budget asked.words p shorts schemes text status answer
 
+BigAnswer-status : (n : ℕ) (asked : Asked) (p : ProgramTree) (schemes : List SchemeTree) (text : List ℕ) (status : Status) → BigAnswer n asked p schemes text status → IsTrue (is_answered status)
+unfolding BigAnswer
+BigAnswer-status n asked p schemes text status (run, answer, told) = CallAnswer-status way.Code 10000000 (asked_by asked (last_call (n - 1))) p schemes run status answer
+
 signature_reply : (word : List ℕ) (stop : SigText) (text : List ℕ) (status : Status) → IsSignatureReply word stop text status → IsTrue (is_answered status)
 signature_reply word (sig_text.Text at) text status reply = rw reply.1 refl
 signature_reply word (sig_text.Syntax at) text status reply = rw reply.1 refl
@@ -130,6 +136,7 @@ by_order_status (Run budget) asked p schemes text status answer = CallAnswer-sta
 by_order_status (Steps budget) asked p schemes text status answer = CallAnswer-status way.Counted budget asked p schemes text status answer
 by_order_status (Eval budget) asked p schemes text status answer = CallAnswer-status way.Tree budget asked p schemes text status answer
 by_order_status Conform asked p schemes text status answer = ConformAnswer-status asked p schemes text status answer
+by_order_status (Big n) asked p schemes text status answer = BigAnswer-status n asked p schemes text status answer
 
 inference_status : (asked : Asked) (p : ProgramTree) (inferred : Inference) (text : List ℕ) (status : Status) → InferenceAnswer asked p inferred text status → IsTrue (is_answered status)
 unfolding TypedAnswer
@@ -174,6 +181,7 @@ by_layout_status (Run budget) asked text status answer = NamesAnswer-status aske
 by_layout_status (Steps budget) asked text status answer = NamesAnswer-status asked text status answer
 by_layout_status (Eval budget) asked text status answer = NamesAnswer-status asked text status answer
 by_layout_status Conform asked text status answer = NamesAnswer-status asked text status answer
+by_layout_status (Big n) asked text status answer = NamesAnswer-status asked text status answer
 
 ProgramAnswer-status : (asked : Asked) (text : List ℕ) (status : Status) → ProgramAnswer asked text status → IsTrue (is_answered status)
 unfolding ProgramAnswer
@@ -208,7 +216,7 @@ LengthAnswer-status order words bytes text status (inl (long, reply)) = rw reply
 LengthAnswer-status order words bytes text status (inr (short, answer)) = TokensAnswer-status order words bytes text status answer
 
 intake_status : (intake : Intake) (order : Order) (words : List (List ℕ)) (bytes text : List ℕ) (status : Status) → IntakeAnswer intake order words bytes text status → IsTrue (is_answered status)
-intake_status Nothing order words bytes text status reply = rw reply.1 refl
+intake_status (Generated n) order words bytes text status answer = TokensAnswer-status order words (big_text n) text status answer
 intake_status Text order words bytes text status answer = LengthAnswer-status order words bytes text status answer
 intake_status (Bytes most) order words bytes text status reply = rw reply.1 refl
 

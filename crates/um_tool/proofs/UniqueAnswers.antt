@@ -1,5 +1,5 @@
 -- The answer to words and bytes is one.
-use Rattle.std.proofs.Common.{◌≡◌, ℕ, ◌<◌, ◌≤◌, ◌⊎◌, List, [], length, Ok, Err, Some, None, MatchOption, codes, inl, inr, sym, subst, ◌∙◌, arith}
+use Rattle.std.proofs.Common.{◌≡◌, ℕ, ◌<◌, ◌≤◌, ◌⊎◌, List, [], length, Ok, Err, Some, None, MatchOption, codes, refl, inl, inr, sym, subst, ◌∙◌, arith}
 use Rattle.std.specs.declared.option.Option.{Option}
 use Rattle.std.specs.Str.{chars, IsUtf8, IsValidUpTo}
 use Rattle.std.proofs.lemmas.Bool.{cases_lt}
@@ -32,9 +32,9 @@ use Rattle.um_infer.specs.Inference.{Inference, all_schemes, stops_at_slots, sto
 use Rattle.um_types.specs.declared.parse.LimitKind.TheVariants as limit
 use Rattle.um_tool.specs.declared.way.Way.TheVariants as way
 use Rattle.um_tool.specs.declared.order.Order.{Order}
-use Rattle.um_tool.specs.declared.order.Order.TheVariants.{Types, Code, Fmt, Run, Steps, Eval, Conform}
+use Rattle.um_tool.specs.declared.order.Order.TheVariants.{Types, Code, Fmt, Run, Steps, Eval, Conform, Big}
 use Rattle.um_tool.specs.declared.order.Intake.{Intake}
-use Rattle.um_tool.specs.declared.order.Intake.TheVariants.{Nothing, Text, Bytes}
+use Rattle.um_tool.specs.declared.order.Intake.TheVariants.{Generated, Text, Bytes}
 use Rattle.um_tool.specs.declared.status.Status.{Status}
 use Rattle.um_tool.specs.declared.status.Status.TheVariants.{Usage, Utf8, Lexical, Limit, Names, PowerRange, Shape}
 use Rattle.um_tool.specs.Steps.{line, IsReply}
@@ -47,7 +47,11 @@ use Rattle.um_tool.specs.Laws.{AnswersAreUnique}
 use Rattle.um_tool.proofs.Complete.{not_utf8, text_not_refused, program_not_refused, not_refused, not_faulty}
 use Rattle.um_tool.proofs.Reached.{within}
 use Rattle.um_tool.proofs.PrintedSchemes.{one_function}
+use Rattle.um_big.specs.BigText.{big_text}
+use Rattle.um_big.proofs.Lengths.{text_fits}
+use Rattle.um_tool.proofs.OrderWords.{generated_count}
 use Rattle.um_tool.proofs.UniqueReplies.{call_one, conform_one}
+use Rattle.um_tool.proofs.BigAnswers.{big_one}
 
 one_reply : (text other wanted : List ℕ) (status another meant : Status) → IsReply text status wanted meant → IsReply other another wanted meant → (text ≡ other) × (status ≡ another)
 one_reply text other wanted status another meant a b = (a.0 ∙ sym b.0, a.1 ∙ sym b.1)
@@ -156,6 +160,7 @@ module _ (one_answer : ParsesAreUnique) (one_reading : ReadingsAreUnique) (text 
   by_order_one (Steps budget) asked p schemes formed a b = call_one text other status another way.Counted budget asked p schemes formed a b
   by_order_one (Eval budget) asked p schemes formed a b = call_one text other status another way.Tree budget asked p schemes formed a b
   by_order_one Conform asked p schemes formed a b = conform_one text other status another one_reading asked p schemes a b
+  by_order_one (Big n) asked p schemes formed a b = big_one text other status another n asked p schemes formed a b
 
   inference_one : (asked : Asked) (p : ProgramTree) (inferred : Inference) → IsFormed p → InferenceAnswer asked p inferred text status → InferenceAnswer asked p inferred other another → (text ≡ other) × (status ≡ another)
   unfolding TypedAnswer
@@ -205,6 +210,7 @@ module _ (one_answer : ParsesAreUnique) (one_reading : ReadingsAreUnique) (text 
   by_layout_one (Steps budget) asked readable a b = names_one asked readable a b
   by_layout_one (Eval budget) asked readable a b = names_one asked readable a b
   by_layout_one Conform asked readable a b = names_one asked readable a b
+  by_layout_one (Big n) asked readable a b = names_one asked readable a b
 
   program_one : (asked : Asked) → IsReadable asked.raw → ProgramAnswer asked text status → ProgramAnswer asked other another → (text ≡ other) × (status ≡ another)
   unfolding ProgramAnswer
@@ -236,19 +242,19 @@ module _ (one_answer : ParsesAreUnique) (one_reading : ReadingsAreUnique) (text 
   length_one order words bytes (inr (short, a)) (inl (long, b)) = absurd (short long)
   length_one order words bytes (inr (short, a)) (inr (also, b)) = tokens_one order words bytes (within (length bytes) short) a b
 
-  intake_one : (intake : Intake) (order : Order) (words : List (List ℕ)) (bytes : List ℕ) → IntakeAnswer intake order words bytes text status → IntakeAnswer intake order words bytes other another → (text ≡ other) × (status ≡ another)
-  intake_one Nothing order words bytes a b = (a.0 ∙ sym b.0, a.1 ∙ sym b.1)
-  intake_one Text order words bytes a b = length_one order words bytes a b
-  intake_one (Bytes most) order words bytes a b = (a.0 ∙ sym b.0, a.1 ∙ sym b.1)
+  intake_one : (intake : Intake) (order : Order) (words : List (List ℕ)) (bytes : List ℕ) → order_of words ≡ Some order → intake_of order ≡ intake → IntakeAnswer intake order words bytes text status → IntakeAnswer intake order words bytes other another → (text ≡ other) × (status ≡ another)
+  intake_one (Generated n) order words bytes ordered takes a b = tokens_one order words (big_text n) (text_fits n (generated_count words order n ordered takes).1) a b
+  intake_one Text order words bytes ordered takes a b = length_one order words bytes a b
+  intake_one (Bytes most) order words bytes ordered takes a b = (a.0 ∙ sym b.0, a.1 ∙ sym b.1)
 
-  ordered_one : (order : Option Order) (words : List (List ℕ)) (bytes : List ℕ) → MatchOption order (IsReply text status (line (codes "error 1: usage")) Usage) (λ o. IntakeAnswer (intake_of o) o words bytes text status)
+  ordered_one : (order : Option Order) (words : List (List ℕ)) (bytes : List ℕ) → order_of words ≡ order → MatchOption order (IsReply text status (line (codes "error 1: usage")) Usage) (λ o. IntakeAnswer (intake_of o) o words bytes text status)
       → MatchOption order (IsReply other another (line (codes "error 1: usage")) Usage) (λ o. IntakeAnswer (intake_of o) o words bytes other another) → (text ≡ other) × (status ≡ another)
-  ordered_one None words bytes a b = (a.0 ∙ sym b.0, a.1 ∙ sym b.1)
-  ordered_one (Some order) words bytes a b = intake_one (intake_of order) order words bytes a b
+  ordered_one None words bytes is a b = (a.0 ∙ sym b.0, a.1 ∙ sym b.1)
+  ordered_one (Some order) words bytes is a b = intake_one (intake_of order) order words bytes is refl a b
 
   order_one : (words : List (List ℕ)) (bytes : List ℕ) → OrderAnswer words bytes text status → OrderAnswer words bytes other another → (text ≡ other) × (status ≡ another)
   unfolding OrderAnswer
-  order_one words bytes a b = ordered_one (order_of words) words bytes a b
+  order_one words bytes a b = ordered_one (order_of words) words bytes refl a b
 
 -- where `parse` has one answer to each list of tokens, and the text of a signature one reading
 pub answers_are_one : ParsesAreUnique → ReadingsAreUnique → AnswersAreUnique

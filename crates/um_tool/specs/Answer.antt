@@ -3,9 +3,9 @@
 -- Source: this project's own.
 use Rattle.std.specs.Prelude.{ℕ, ◌<◌, ◌≡◌, ◌⊎◌, List, length, codes, slice_get, MatchOption, Some, None, Ok, Err}
 use Rattle.um_tool.specs.declared.order.Order.{Order}
-use Rattle.um_tool.specs.declared.order.Order.TheVariants.{Types, Code, Fmt, Run, Steps, Eval, Conform}
+use Rattle.um_tool.specs.declared.order.Order.TheVariants.{Types, Code, Fmt, Run, Steps, Eval, Conform, Big}
 use Rattle.um_tool.specs.declared.order.Intake.{Intake}
-use Rattle.um_tool.specs.declared.order.Intake.TheVariants.{Nothing, Text, Bytes}
+use Rattle.um_tool.specs.declared.order.Intake.TheVariants.{Generated, Text, Bytes}
 use Rattle.um_tool.specs.declared.way.Way.TheVariants as way
 use Rattle.um_tool.specs.declared.status.Status.{Status}
 use Rattle.um_tool.specs.declared.status.Status.TheVariants.{Done, Usage, TooLong, NotBuilt}
@@ -27,7 +27,9 @@ use Rattle.um_infer.specs.Inference.{stops_at_not_general, infer}
 use Rattle.um_show.specs.Layout.{layout}
 use Rattle.um_gen.specs.ProgramCode.{program_code}
 use Rattle.um_code.specs.Listing.{listing_text}
+use Rattle.um_big.specs.BigText.{big_text}
 use Rattle.um_tool.specs.Asked.{Asked}
+use Rattle.um_tool.specs.BigAnswer.{BigAnswer}
 use Rattle.um_tool.specs.CallAnswer.{CallAnswer}
 use Rattle.um_tool.specs.ConformAnswer.{ConformAnswer}
 use Rattle.um_tool.specs.Orders.{order_of, intake_of, NamesUnbuilt}
@@ -53,6 +55,7 @@ ByOrder (Run budget) asked p schemes text status = CallAnswer way.Code budget as
 ByOrder (Steps budget) asked p schemes text status = CallAnswer way.Counted budget asked p schemes text status
 ByOrder (Eval budget) asked p schemes text status = CallAnswer way.Tree budget asked p schemes text status
 ByOrder Conform asked p schemes text status = ConformAnswer asked p schemes text status
+ByOrder (Big n) asked p schemes text status = BigAnswer n asked p schemes text status
 
 unfoldable pub TypedAnswer : Asked → ProgramTree → List SchemeTree → List ℕ → Status → Type 0
 TypedAnswer asked p schemes text status = ByOrder asked.order asked p schemes text status
@@ -112,9 +115,10 @@ LengthAnswer order words bytes text status = Cases (1048576 < length bytes)
     (IsReply text status (line (codes "error 2: text too long")) TooLong)
     (TokensAnswer order words bytes text status)
 
--- by what the order takes from the source; no order that takes nothing, or bytes that are no text, is built yet
+-- by what the order takes from the source: a generated text stands for what it would have read; no order that takes
+-- bytes that are no text is built yet
 abbrev pub IntakeAnswer : Intake → Order → List (List ℕ) → List ℕ → List ℕ → Status → Type 0
-IntakeAnswer Nothing order words bytes text status = IsNotBuilt text status
+IntakeAnswer (Generated n) order words bytes text status = TokensAnswer order words (big_text n) text status
 IntakeAnswer Text order words bytes text status = LengthAnswer order words bytes text status
 IntakeAnswer (Bytes limit) order words bytes text status = IsNotBuilt text status
 

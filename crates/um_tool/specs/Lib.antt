@@ -9,6 +9,7 @@ pub mod CallRefusals
 pub mod SchemeLines
 pub mod CallAnswer
 pub mod ConformAnswer
+pub mod BigAnswer
 pub mod Answer
 pub mod Passing
 pub mod Served

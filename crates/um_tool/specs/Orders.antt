@@ -7,14 +7,14 @@ use Rattle.std.specs.Char.{is_ascii_digit}
 use Rattle.std.specs.Str.{bytes_eq}
 use Rattle.std.specs.Str.Parse.{digits_value}
 use Rattle.um_tool.specs.declared.order.Order.{Order}
-use Rattle.um_tool.specs.declared.order.Order.TheVariants.{Types, Code, Fmt, Run, Steps, Eval, Conform}
+use Rattle.um_tool.specs.declared.order.Order.TheVariants.{Types, Code, Fmt, Run, Steps, Eval, Conform, Big}
 use Rattle.um_tool.specs.declared.order.Intake.{Intake}
-use Rattle.um_tool.specs.declared.order.Intake.TheVariants.{Text}
+use Rattle.um_tool.specs.declared.order.Intake.TheVariants.{Generated, Text}
 
 -- a command that isn't built yet
 abbrev pub is_unbuilt : List ℕ → Bool
 is_unbuilt word =
-    bytes_eq word (codes "rescale") || bytes_eq word (codes "twin") || bytes_eq word (codes "big")
+    bytes_eq word (codes "rescale") || bytes_eq word (codes "twin")
 
 -- the first word is such a command; whatever follows it isn't looked at
 abbrev pub NamesUnbuilt : List (List ℕ) → Type 0
@@ -36,6 +36,14 @@ abbrev pub budget_of : List ℕ → Option ℕ
 budget_of word =
     if is_budget word && nat_le (digits_value 10 word) 10000000 then Some (digits_value 10 word) else None
 
+-- one to four digits of value 1 to 2,000: the number of functions of a generated program
+abbrev pub is_count : List ℕ → Bool
+is_count word =
+    nat_le (length word) 4 && nat_le 1 (digits_value 10 word) && nat_le (digits_value 10 word) 2000
+
+abbrev pub count_of : List ℕ → Option ℕ
+count_of word = if is_budget word && is_count word then Some (digits_value 10 word) else None
+
 -- ---- the forms
 
 -- a command of one word
@@ -44,6 +52,15 @@ order_alone word =
     if bytes_eq word (codes "types") then Some Types
     else if bytes_eq word (codes "code") then Some Code
     else if bytes_eq word (codes "fmt") then Some Fmt else None
+
+-- big N, by the number of functions
+abbrev pub big_order : Option ℕ → Option Order
+big_order None = None
+big_order (Some n) = Some (Big n)
+
+-- a command of two words
+abbrev pub order_of_two : List ℕ → List ℕ → Option Order
+order_of_two word second = if bytes_eq word (codes "big") then big_order (count_of second) else None
 
 -- COMMAND BUDGET NAME ARG*, by its first word and the budget
 abbrev pub call_order : List ℕ → Option ℕ → Option Order
@@ -62,7 +79,7 @@ longer_order word second (fourth ∷ more) = call_order word (budget_of second)
 abbrev pub order_by_count : List (List ℕ) → Option Order
 order_by_count [] = None
 order_by_count (word ∷ []) = order_alone word
-order_by_count (word ∷ second ∷ []) = None
+order_by_count (word ∷ second ∷ []) = order_of_two word second
 order_by_count (word ∷ second ∷ third ∷ more) = longer_order word second more
 
 -- the order that the words name, where they have one of the forms and each is short enough
@@ -78,6 +95,7 @@ intake_of (Run budget) = Text
 intake_of (Steps budget) = Text
 intake_of (Eval budget) = Text
 intake_of Conform = Text
+intake_of (Big n) = Generated n
 
 -- the words name an order that takes this
 pub record AsksFor (words : List (List ℕ)) (order : Order) (intake : Intake) : Type 0 where

@@ -1,6 +1,6 @@
 -- What is asked of a program and of the words, so that every step of the answer behind the grammar goes through.
 -- Source: this project's own.
-use Rattle.std.specs.Prelude.{ℕ, ◌≡◌, IsTrue, List, length, map, chars, slice_get, Some, None, Ok, Err}
+use Rattle.std.specs.Prelude.{ℕ, ◌-◌, ◌≡◌, IsTrue, List, length, map, chars, slice_get, Some, None, Ok, Err}
 use Rattle.um_tree.specs.RawTree.{DeclSyntax}
 use Rattle.um_tree.specs.TypeTree.{type_trees}
 use Rattle.um_tree.specs.ValueTree.{ValueTree, value_outcome, without_units}
@@ -22,8 +22,9 @@ use Rattle.um_sig.specs.Reading.{IsRead}
 use Rattle.um_sig.specs.Answers.{IsConformed}
 use Rattle.um_sig.specs.Instances.{AreAllTypings}
 use Rattle.um_tool.specs.declared.order.Order.{Order}
-use Rattle.um_tool.specs.declared.order.Order.TheVariants.{Fmt, Run, Steps, Eval, Conform}
+use Rattle.um_tool.specs.declared.order.Order.TheVariants.{Fmt, Run, Steps, Eval, Conform, Big}
 use Rattle.um_tool.specs.Asked.{called_name, argument_texts, held_name, signature_text}
+use Rattle.um_tool.specs.BigAnswer.{last_call}
 
 abbrev pub EachIsTyped : ProgramTree → Type 0
 EachIsTyped p = (i : ℕ) (f : FunctionTree) → slice_get p.functions i ≡ Some f → (g : Signature) × Typing p i g
@@ -71,6 +72,7 @@ PassesOn (Run budget) words raw p = GivesValue budget words raw p
 PassesOn (Steps budget) words raw p = GivesValue budget words raw p
 PassesOn (Eval budget) words raw p = GivesValue budget words raw p
 PassesOn Conform words raw p = HasTypings words raw p
+PassesOn (Big n) words raw p = GivesValue 10000000 (last_call (n - 1)) raw p
 PassesOn order words raw p = Unit {0}
 
 -- each step behind the grammar goes through

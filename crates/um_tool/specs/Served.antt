@@ -1,6 +1,6 @@
 -- What a run of the program writes, and with which status it ends.
 -- Source: this project's own.
-use Rattle.std.specs.Prelude.{◌≡◌, ◌≢◌, ◌≤◌, ◌⊎◌, ℕ, List, length, codes, Some, Option, Ok}
+use Rattle.std.specs.Prelude.{◌≡◌, ◌≤◌, ◌⊎◌, ℕ, List, length, codes, Some, Option, Ok}
 use Rattle.std.specs.Io.KnownBytes.{Appends, Keeps}
 use Rattle.um_wire.specs.Faults.{Rose}
 use Rattle.um_wire.specs.Bytes.{Tells, AppendsPrefix}
@@ -8,9 +8,10 @@ use Rattle.um_syntax.specs.declared.token.Token.{Token}
 use Rattle.um_syntax.specs.Feeding.{IsTextAnswer}
 use Rattle.um_tree.specs.RawTree.{DeclSyntax}
 use Rattle.um_parse.specs.Parsed.{IsRead}
+use Rattle.um_big.specs.BigText.{big_text}
 use Rattle.um_tool.specs.declared.order.Order.{Order}
 use Rattle.um_tool.specs.declared.order.Intake.{Intake}
-use Rattle.um_tool.specs.declared.order.Intake.TheVariants.{Nothing, Text, Bytes}
+use Rattle.um_tool.specs.declared.order.Intake.TheVariants.{Generated, Text, Bytes}
 use Rattle.um_tool.specs.declared.status.Status.{Status}
 use Rattle.um_tool.specs.declared.status.Status.TheVariants.{ReadFault, WriteFault, NoMemory}
 use Rattle.um_tool.specs.Answer.{Answer}
@@ -18,12 +19,17 @@ use Rattle.um_tool.specs.Orders.{AsksFor}
 use Rattle.um_tool.specs.Passing.{GoesThrough}
 use Rattle.um_tool.specs.Steps.{IsReply, line}
 
+-- it takes something from the source
+abbrev pub TakesSome : Intake → Type 0
+TakesSome (Generated n) = ⊥
+TakesSome intake = Unit {0}
+
 -- the words name an order that takes something from the source
 pub record Reads (words : List (List ℕ)) : Type 0 where
   pub order : Order
   pub intake : Intake
   pub asks : AsksFor words order intake
-  pub some : intake ≢ Nothing
+  pub some : TakesSome intake
 
 -- the text and the status that a run is about to give: the answer to the bytes left,
 -- or the line on a failed read, only where the words ask for a read and the source's count rose
@@ -67,9 +73,9 @@ pub record IsTextComplete (order : Order) (words : List (List ℕ)) (bytes : Lis
   pub read : IsRead tokens raw
   pub goes_through : GoesThrough order words raw
 
--- by what the order takes from the source; no order that takes nothing, or bytes that are no text, is built yet
+-- by what the order takes from the source; no order that takes bytes that are no text is built yet
 abbrev pub IsTakenComplete : Intake → Order → List (List ℕ) → List ℕ → Type 0
-IsTakenComplete Nothing order words bytes = ⊥
+IsTakenComplete (Generated n) order words bytes = IsTextComplete order words (big_text n)
 IsTakenComplete Text order words bytes = IsTextComplete order words bytes
 IsTakenComplete (Bytes limit) order words bytes = ⊥
 

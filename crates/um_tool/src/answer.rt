@@ -19,6 +19,7 @@ ghost use Rattle.um_gen.specs.ProgramCode.{program_code};
 ghost use Rattle.um_code.specs.Listing.{listing_text};
 
 use crate::asked::Asked;
+use crate::big::answer_big;
 use crate::call::answer_call;
 use crate::reading::Text;
 use crate::refusal::{
@@ -115,7 +116,8 @@ fn answer_program(alloc: Global, asked: &Asked) -> Result<Reply, AllocError>
         | Order::Run { .. }
         | Order::Steps { .. }
         | Order::Eval { .. }
-        | Order::Conform => answer_names(alloc, asked),
+        | Order::Conform
+        | Order::Big(_) => answer_names(alloc, asked),
     }
 }
 
@@ -217,6 +219,7 @@ fn answer_typed(
         }
         Order::Eval { budget } => answer_call(alloc, Way::Tree, budget, asked, shaped, schemes),
         Order::Conform => answer_conform(alloc, asked, shaped, schemes),
+        Order::Big(functions) => answer_big(alloc, functions, asked, shaped, schemes),
     }
 }
 

@@ -3,6 +3,7 @@
 
 mod answer;
 mod asked;
+mod big;
 mod call;
 mod call_refusal;
 pub mod laws;
@@ -22,4 +23,5 @@ pub use order::{Order, order_of};
 pub use quiet::status_of;
 pub use status::Status;
 pub use top::serve;
+pub use um_big::big_text;
 pub use words::Words;

@@ -4,6 +4,7 @@ ghost use Rattle.std.specs.Char.{is_ascii_digit};
 ghost use Rattle.std.specs.List.{list_all};
 ghost use Rattle.std.specs.Str.Parse.{digits_value};
 ghost use Rattle.um_tool.specs.Orders.{order_of as order_named, order_alone as alone, longer_order as longer};
+ghost use Rattle.um_tool.specs.Orders.{order_of_two as of_two, big_order as big_named, count_of as count_in};
 ghost use Rattle.um_tool.specs.Orders.{call_order as call_named, budget_of as budget_in, is_budget as are_few_digits};
 ghost use Rattle.um_tool.specs.Orders.{intake_of, is_unbuilt as unbuilt, NamesUnbuilt};
 
@@ -11,6 +12,9 @@ use crate::Words;
 
 /// The greatest budget of calls.
 const GREATEST_BUDGET: u64 = 10_000_000;
+
+/// The most functions of a generated program.
+const MOST_FUNCTIONS: u64 = 2000;
 
 /// What a run is asked to do.
 #[derive(Clone, Copy, PartialEq, Eq, Debug)]
@@ -29,13 +33,15 @@ pub enum Order {
     Eval { budget: u64 },
     /// Say whether a function may be used at a signature.
     Conform,
+    /// Infer a generated program of so many functions, call its last function, and print four lines about it.
+    Big(u32),
 }
 
 /// What an order takes from the source.
 #[derive(Clone, Copy)]
 pub(crate) enum Intake {
-    /// Nothing: the source stays as it was.
-    Nothing,
+    /// Nothing: the source stays as it was. The text is that of a generated program of so many functions.
+    Generated { functions: u32 },
     /// A text of at most 1,048,576 bytes, with its tokens.
     Text,
     /// At most so many bytes, as they are.
@@ -55,14 +61,16 @@ impl Order {
             | Order::Steps { .. }
             | Order::Eval { .. }
             | Order::Conform => Intake::Text,
+            Order::Big(functions) => Intake::Generated { functions },
         }
     }
 }
 
 /// The order that the words name, or nothing where they have none of the forms. Takes no memory.
 ///
-/// The forms are `types`, `code`, `fmt`, `conform NAME TYPE`, and `run`, `steps` or `eval` with BUDGET NAME ARG*. A
-/// budget is one to eight digits of value at most 10,000,000, and each word is at most 1,048,576 bytes long.
+/// The forms are `types`, `code`, `fmt`, `big N`, `conform NAME TYPE`, and `run`, `steps` or `eval` with BUDGET NAME
+/// ARG*. A budget is one to eight digits of value at most 10,000,000, N is one to four digits of value 1 to 2,000, and
+/// each word is at most 1,048,576 bytes long.
 pub fn order_of(words: &Words) -> Option<Order>
     ensures { result ≡ order_named words.now }
 {
@@ -71,6 +79,9 @@ pub fn order_of(words: &Words) -> Option<Order>
     }
     if words.len() == 1 {
         return order_alone(words.word(0));
+    }
+    if words.len() == 2 {
+        return order_of_two(words.word(0), words.word(1));
     }
     if words.len() < 3 {
         return None;
@@ -88,6 +99,24 @@ fn order_alone(word: &str) -> Option<Order>
         "fmt" => Some(Order::Fmt),
         _ => None,
     }
+}
+
+/// The order of two words.
+fn order_of_two(word: &str, second: &str) -> Option<Order>
+    ensures { result ≡ of_two word.now second.now }
+{
+    match word {
+        "big" => big_order(count_of(second)),
+        _ => None,
+    }
+}
+
+/// The order about a generated program, by its number of functions.
+fn big_order(count: Option<u32>) -> Option<Order>
+    ensures { result ≡ big_named count }
+{
+    let functions = count?;
+    Some(Order::Big(functions))
 }
 
 /// The order of three words or more.
@@ -129,6 +158,21 @@ fn budget_of(word: &str) -> Option<u64>
     }
 }
 
+/// The number of functions that a word states, where it is one to four digits of value 1 to 2,000.
+fn count_of(word: &str) -> Option<u32>
+    ensures { result ≡ count_in word.now }
+{
+    if !is_budget(word) {
+        return None;
+    }
+    let count = value_of(word);
+    if word.len() <= 4 && 1 <= count && count <= MOST_FUNCTIONS {
+        Some(count as u32)
+    } else {
+        None
+    }
+}
+
 /// Whether the word is one to eight digits.
 fn is_budget(word: &str) -> bool
     ensures { result ≡ are_few_digits word.now }
@@ -163,5 +207,5 @@ pub fn names_unbuilt(words: &Words) -> bool
 fn is_unbuilt(word: &str) -> bool
     ensures { result ≡ unbuilt word.now }
 {
-    matches!(word, "rescale" | "twin" | "big")
+    matches!(word, "rescale" | "twin")
 }

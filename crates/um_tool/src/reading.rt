@@ -31,7 +31,7 @@ pub(crate) struct Text {
 }
 
 impl Reading {
-    ghost use Rattle.std.specs.Prelude.{◌≡◌, [], IfOk};
+    ghost use Rattle.std.specs.Prelude.{◌≡◌, ◌≤◌, [], length, IfOk};
     ghost use Rattle.um_syntax.specs.Feeding.{IsTextAnswer};
 
     /// Nothing was read.
@@ -42,6 +42,17 @@ impl Reading {
             bytes: Vec::new(alloc),
             lexer: Some(Lexer::new(alloc)),
         }
+    }
+
+    /// The text of these bytes.
+    pub(crate) fn of_bytes(alloc: Global, bytes: &[u8]) -> Result<Text, AllocError>
+        requires { length bytes.now ≤ 1048576 }
+        ensures bytes { IfOk result (λ text. text.bytes.items ≡ bytes.now) }
+        ensures tokens { IfOk result (λ text. IsTextAnswer bytes.now text.tokens) }
+    {
+        let mut reading = Reading::new(alloc);
+        reading.take(bytes)?;
+        reading.into_text()
     }
 
     /// The text that was read.

@@ -1,6 +1,8 @@
 // The top call.
-ghost use Rattle.std.specs.Prelude.{◌≡◌, ◌≢◌, IfOk, Some};
+ghost use Rattle.std.specs.Prelude.{◌≡◌, ◌≢◌, ◌≤◌, IfOk, Some};
 ghost use Rattle.um_wire.specs.Faults.{Rose};
+ghost use Rattle.um_big.specs.BigText.{big_text as generated};
+ghost use Rattle.um_tool.specs.Answer.{TokensAnswer};
 ghost use Rattle.um_tool.specs.Orders.{order_of as order_named, intake_of, AsksFor};
 ghost use Rattle.um_tool.specs.Served.{IsPlanned, IsUndisturbed, Reads, Serves};
 
@@ -10,6 +12,7 @@ use crate::reading::Reading;
 use crate::refusal::{reply_line, reply_to_unread};
 use crate::{Order, Status, Words, order_of};
 use std::alloc::{AllocError, Global};
+use um_big::big_text;
 use um_wire::{Failed, Sink, Source, read_into, write_all};
 
 /// The longest text that is read, in bytes.
@@ -86,9 +89,29 @@ fn reply_to_order<S: Source>(
 {
     match order.intake() {
         Intake::Text => reply_to_source(alloc, order, words, source),
+        Intake::Generated { functions } => reply_to_generated(alloc, order, words, functions),
         // No such order is built yet.
-        Intake::Nothing | Intake::Bytes { .. } => not_built(alloc),
+        Intake::Bytes { .. } => not_built(alloc),
     }
+}
+
+/// What the run is about to write about a generated program of so many functions.
+fn reply_to_generated(
+    alloc: Global,
+    order: Order,
+    words: &Words,
+    functions: u32,
+) -> Result<Reply, AllocError>
+    requires ordered { order_named words.now ≡ Some order }
+    requires some { 1 ≤ functions }
+    requires few { functions ≤ 2000 }
+    ensures { IfOk result (λ reply. TokensAnswer order words.now (generated functions)
+        reply.text.items reply.status) }
+{
+    let bytes = big_text(alloc, functions)?;
+    let text = Reading::of_bytes(alloc, &bytes);
+    drop(bytes);
+    answer_text(alloc, order, words, text?)
 }
 
 /// What the run is about to write where the order takes a text.

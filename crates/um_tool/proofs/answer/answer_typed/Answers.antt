@@ -1,6 +1,6 @@
 use Rattle.std.proofs.Common.{Some, refl, ap, ◌∙◌}
 use Rattle.um_tool.specs.declared.order.Order.TheVariants.{Run, Steps, Eval}
-use Rattle.um_tool.proofs.OrderWords.{short_words, call_words, conform_words}
+use Rattle.um_tool.proofs.OrderWords.{short_words, call_words, conform_words, big_words}
 use Rattle.um_tool.proofs.answer.answer_typed.Goals as goal
 
 pub answer_call-requires-clause-words : goal.answer_call-requires-clause-words
@@ -35,3 +35,9 @@ answer_conform-requires-clause-words c = conform_words c.args.asked.now.words.no
 
 pub answer_conform-requires-clause-short : goal.answer_conform-requires-clause-short
 answer_conform-requires-clause-short c = short_words c.args.asked.now.words.now c.args.asked.now.order c.requires.ordered
+
+pub answer_big-requires-clause-some : goal.answer_big-requires-clause-some
+answer_big-requires-clause-some c = (big_words c.args.asked.now.words.now c.in-Big.functions (c.requires.ordered ∙ ap Some c.in-Big.is)).0
+
+pub answer_big-requires-clause-few : goal.answer_big-requires-clause-few
+answer_big-requires-clause-few c = (big_words c.args.asked.now.words.now c.in-Big.functions (c.requires.ordered ∙ ap Some c.in-Big.is)).1

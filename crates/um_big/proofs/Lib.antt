@@ -1,0 +1,3 @@
+pub mod Lengths
+mod AddedTexts
+mod Examples

@@ -1,0 +1,2 @@
+-- What is trusted: the text of a large program.
+pub mod BigText
