@@ -9,3 +9,4 @@ mod Functions
 mod Names
 mod NamedRecords
 mod Accepted
+mod Added

@@ -1,6 +1,6 @@
 -- The bytes of an image. A number stands with its most significant byte first.
 -- Source: this project's own form.
-use Rattle.std.specs.Prelude.{ℕ, ◌-◌, cond, List, [], ◌∷◌, ◌++◌, length, take, drop, codes}
+use Rattle.std.specs.Prelude.{ℤ, ℕ, ◌-◌, cond, List, [], ◌∷◌, ◌++◌, length, take, drop, codes}
 use Rattle.std.specs.List.{flat_map}
 use Rattle.std.specs.Int.{w32, w64, cast_unsigned, to_be_bytes}
 use Rattle.um_frac.specs.Fraction.{numerator, denominator}
@@ -20,6 +20,10 @@ use Rattle.um_verify.specs.ImageTree.{HeadTree, ImageTree}
 -- a count, a length or a number of a record, in four bytes
 abbrev pub four_bytes : ℕ → List ℕ
 four_bytes n = to_be_bytes w32 n
+
+-- a signed number in eight bytes
+abbrev pub long_bytes : ℤ → List ℕ
+long_bytes n = to_be_bytes w64 (cast_unsigned w64 n)
 
 -- its length, and its bytes as they are
 abbrev pub name_bytes : List ℕ → List ℕ
@@ -65,10 +69,9 @@ op_number (Call f) = 20
 op_number Ret = 21
 op_number (Pow k) = 22
 
--- a fraction is its numerator and its denominator, eight bytes each
+-- a fraction is its numerator and its denominator
 abbrev pub operand_bytes : Operand → List ℕ
-operand_bytes (operand.Num c) =
-    to_be_bytes w64 (cast_unsigned w64 (numerator c)) ++ to_be_bytes w64 (cast_unsigned w64 (denominator c))
+operand_bytes (operand.Num c) = long_bytes (numerator c) ++ long_bytes (denominator c)
 operand_bytes (operand.Bool b) = cond b 1 0 ∷ []
 operand_bytes (operand.Count n) = four_bytes n
 operand_bytes (operand.Record r) = four_bytes r

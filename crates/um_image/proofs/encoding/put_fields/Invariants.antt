@@ -1,0 +1,7 @@
+use Rattle.um_tree.specs.ProgramTree.{field_tree}
+use Rattle.um_image.specs.Encoding.{field_bytes}
+use Rattle.um_image.proofs.Added.{Left}
+use Rattle.um_image.proofs.encoding.put_fields.Given as goal
+
+abbrev pub invariant-loop-i : goal.invariant-loop-i
+invariant-loop-i l = Left field_bytes field_tree l.fields l.i l.initial.out.items l.out.items
