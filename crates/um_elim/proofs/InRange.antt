@@ -39,7 +39,7 @@ fits-quotients m p r h f = fits_from_powers (quotients m p r) (λ y.
     let i = fits-power_of r f y in omega (arith, z, l, i)))
 
 -- ---- 1 for a variable
-power_of-substitute_one : (m : ℕ) (u : PowerMap) (x : Atom) → same_atom x (Var m) ≡ false → power_of (replace (substitute m one) u) x ≡ power_of u x
+pub power_of-substitute_one : (m : ℕ) (u : PowerMap) (x : Atom) → same_atom x (Var m) ≡ false → power_of (replace (substitute m one) u) x ≡ power_of u x
 power_of-substitute_one m u x e =
     ap (λ s. power_of (replace s u) x) (sym (substitute-one m)) ∙ power_of-multiply m (inv (atom (Var m))) u x
     ∙ ap (λ n. power_of u x +ℤ power_of u (Var m) *ℤ n) (weight-inv (indicator x) (atom (Var m)) ∙ ap neg_ℤ (power_of-other_atom x (Var m) e))

@@ -10,6 +10,7 @@ mod Examples
 pub mod InRange
 mod Changes
 mod TurnSteps
+mod LastTurn
 pub mod Slots
 mod Added
 pub mod JointRows
