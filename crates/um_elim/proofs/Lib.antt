@@ -23,5 +23,6 @@ pub mod Holders
 pub mod IndexLaws
 pub mod HeldSlots
 pub mod IndexTurn
+mod IndexBut
 pub mod TurnKept
 pub mod FirstIndex

@@ -6,7 +6,7 @@ ghost use Rattle.std.specs.Int.{int_div_euclid};
 ghost use Rattle.std.specs.List.{list_all, list_any};
 ghost use Rattle.um_units.specs.Atoms.{same_atom};
 ghost use Rattle.um_units.specs.declared.Atom.TheVariants.{Var};
-ghost use Rattle.um_units.specs.PowerMap.{PowerMap, atom, inv, mul, one, power_of, replace};
+ghost use Rattle.um_units.specs.PowerMap.{PowerMap, one, power_of, replace};
 ghost use Rattle.um_units.specs.Range.{all_in_range, fits, in_range, RangeUnless};
 ghost use Rattle.um_units.specs.declared.UnitStop.TheVariants.{NoMemory};
 ghost use Rattle.um_elim.specs.Pivot.{is_base, is_other};
@@ -18,6 +18,7 @@ ghost use Rattle.um_units.specs.Variables.{VariablesBelow};
 use crate::ElimStop;
 use crate::index::{SlotList, multiply_holders};
 use crate::pivot::pivot_of;
+use crate::replacement::put_in_holders;
 use std::alloc::{AllocError, Global};
 use um_units::{Atom, Term, Unit, UnitStop};
 
@@ -57,44 +58,11 @@ pub fn take_turn(
         multiply_holders(alloc, units, index, pivot.variable, &factor)?;
         return Ok(Step::Again(remainder));
     }
-    put_for_variable(alloc, units, index, pivot.variable, &factor)?;
+    put_in_holders(alloc, units, index, pivot.variable, &factor)?;
     if has_base_unit(remainder.terms()) {
         return Err(ElimStop::NoSolution);
     }
     Ok(Step::Ended)
-}
-
-/// The factor, which doesn't hold variable m, is put for variable m in each unit that holds it.
-fn put_for_variable(
-    alloc: Global,
-    units: &mut Vec<Unit>,
-    index: &mut Vec<SlotList>,
-    m: u32,
-    factor: &Unit,
-) -> Result<(), UnitStop>
-    requires m { m < length units.old.items }
-    requires absent { power_of factor.now (Var m) ≡ pos 0 }
-    requires fits { IsTrue (fits factor.now) }
-    requires indexed { IsIndex units.old.items index.old.items }
-    requires variables { VariablesBelow (length units.old.items) factor.now }
-    ensures exact { OnOk result (units.new.items ≡ map (replace (substitute m factor.now)) units.old.items) }
-    ensures range { RangeUnless result (list_all fits (map (replace (substitute m factor.now)) units.old.items)) }
-    ensures indexed { OnOk result (IsIndex units.new.items index.new.items) }
-    ensures slots { length units.new.items ≡ length units.old.items }
-{
-    let change = over_variable(alloc, factor, m)?;
-    multiply_holders(alloc, units, index, m, &change)
-}
-
-/// The unit, which doesn't hold variable m, divided by variable m.
-fn over_variable(alloc: Global, unit: &Unit, m: u32) -> Result<Unit, UnitStop>
-    requires absent { power_of unit.now (Var m) ≡ pos 0 }
-    requires fits { IsTrue (fits unit.now) }
-    ensures exact { IfOk result (λ u. u ≡ mul unit.now (inv (atom (Var m)))) }
-    ensures memory { IfErr result (λ stop. stop ≡ NoMemory) }
-{
-    let variable = Unit::atom(alloc, Atom::Var(m))?;
-    unit.mul_pow(alloc, &variable, -1)
 }
 
 /// The unit, inverted where the power is negative.

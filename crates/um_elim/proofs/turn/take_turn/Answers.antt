@@ -71,9 +71,9 @@ returns-then-has_other_variable-clause-outcome c =
     let o : has_other p.variable remainder ≡ true = sym (c.has_other_variable.ensures ∙ ap (list_any (λ (t : Term). is_other p.variable t.atom)) c.terms-2.ensures.terms) ∙ c.if-has_other_variable.true in
     ((λ again. turns_again old r p w remainder s fl fs o again ∙ ap (λ us. again us remainder) (sym c.in_ok-multiply_holders.ensures.exact)), least_power-lower old r p w remainder s o)
 
-pub returns-in_err-put_for_variable-clause-outcome : goal.returns-in_err-put_for_variable-clause-outcome
-returns-in_err-put_for_variable-clause-outcome c =
-    let x = err_from_is_err_and c.from_residual-in_err-put_for_variable.result c.from_residual-in_err-put_for_variable.ensures.1 in
+pub returns-in_err-put_in_holders-clause-outcome : goal.returns-in_err-put_in_holders-clause-outcome
+returns-in_err-put_in_holders-clause-outcome c =
+    let x = err_from_is_err_and c.from_residual-in_err-put_in_holders.result c.from_residual-in_err-put_in_holders.ensures.1 in
     let r = c.args.r.now in
     let p = c.in-Some.pivot in
     let f : IsTrue (fits r) = c.terms.ensures.fits in
@@ -83,8 +83,8 @@ returns-in_err-put_for_variable-clause-outcome c =
     let old = c.args.units.now.items in
     let w = c.in_ok-factor.factor in
     let alike = all_fit-alike p.variable w c.in_ok-factor.ensures.absent old c.requires.indexed.fit in
-    let stop = c.in_err-put_for_variable.field-0.0 in
-    rw (x.1, x.2) (slots_stop old r p w c.in_ok-remainder.remainder s stop (subst (λ b. IsStopUnless b stop) alike c.in_err-put_for_variable.ensures.range))
+    let stop = c.in_err-put_in_holders.field-0.0 in
+    rw (x.1, x.2) (slots_stop old r p w c.in_ok-remainder.remainder s stop (subst (λ b. IsStopUnless b stop) alike c.in_err-put_in_holders.ensures.range))
 
 pub returns-then-has_base_unit-clause-outcome : goal.returns-then-has_base_unit-clause-outcome
 returns-then-has_base_unit-clause-outcome c =
@@ -99,7 +99,7 @@ returns-then-has_base_unit-clause-outcome c =
     let remainder = c.in_ok-remainder.remainder in
     let fl : IsTrue (fits remainder) = subst (λ u. IsTrue (fits u)) (sym c.in_ok-remainder.ensures.exact) c.in_ok-remainder.ensures.range in
     let alike = all_fit-alike p.variable w c.in_ok-factor.ensures.absent old c.requires.indexed.fit in
-    let fs : IsTrue (list_all fits (map (replace (multiply p.variable w)) old)) = sym alike ∙ c.in_ok-put_for_variable.ensures.range in
+    let fs : IsTrue (list_all fits (map (replace (multiply p.variable w)) old)) = sym alike ∙ c.in_ok-put_in_holders.ensures.range in
     let o : has_other p.variable remainder ≡ false = sym (c.has_other_variable.ensures ∙ ap (list_any (λ (t : Term). is_other p.variable t.atom)) c.terms-2.ensures.terms) ∙ c.if-has_other_variable.false in
     let b : has_base remainder ≡ true = sym (c.has_base_unit.ensures ∙ ap (list_any (λ (t : Term). is_base t.atom)) c.terms-3.ensures.terms) ∙ c.if-has_base_unit.true in
     turns_unsolvable old r p w remainder s fl fs o b
@@ -117,19 +117,19 @@ returns-clause-outcome c =
     let remainder = c.in_ok-remainder.remainder in
     let fl : IsTrue (fits remainder) = subst (λ u. IsTrue (fits u)) (sym c.in_ok-remainder.ensures.exact) c.in_ok-remainder.ensures.range in
     let alike = all_fit-alike p.variable w c.in_ok-factor.ensures.absent old c.requires.indexed.fit in
-    let fs : IsTrue (list_all fits (map (replace (multiply p.variable w)) old)) = sym alike ∙ c.in_ok-put_for_variable.ensures.range in
+    let fs : IsTrue (list_all fits (map (replace (multiply p.variable w)) old)) = sym alike ∙ c.in_ok-put_in_holders.ensures.range in
     let o : has_other p.variable remainder ≡ false = sym (c.has_other_variable.ensures ∙ ap (list_any (λ (t : Term). is_other p.variable t.atom)) c.terms-2.ensures.terms) ∙ c.if-has_other_variable.false in
     let b : has_base remainder ≡ false = sym (c.has_base_unit.ensures ∙ ap (list_any (λ (t : Term). is_base t.atom)) c.terms-3.ensures.terms) ∙ c.if-has_base_unit.false in
     λ again. turns_solved old r p w remainder s fl fs o b again
-    ∙ ap Solved (one_for_all_multiplied p.variable w c.in_ok-factor.ensures.absent old ∙ sym c.in_ok-put_for_variable.ensures.exact)
+    ∙ ap Solved (one_for_all_multiplied p.variable w c.in_ok-factor.ensures.absent old ∙ sym c.in_ok-put_in_holders.ensures.exact)
 
 pub multiply_holders-requires-clause-m : goal.multiply_holders-requires-clause-m
 multiply_holders-requires-clause-m c =
     let e : pivot c.args.r.now ≡ Some c.in-Some.pivot = sym (c.pivot_of.ensures ∙ ap pivot_of c.terms.ensures.terms) ∙ c.in-Some.is in
     pivot_low _ c.args.r.now c.in-Some.pivot e c.requires.variables
 
-pub put_for_variable-requires-clause-m : goal.put_for_variable-requires-clause-m
-put_for_variable-requires-clause-m c =
+pub put_in_holders-requires-clause-m : goal.put_in_holders-requires-clause-m
+put_in_holders-requires-clause-m c =
     let e : pivot c.args.r.now ≡ Some c.in-Some.pivot = sym (c.pivot_of.ensures ∙ ap pivot_of c.terms.ensures.terms) ∙ c.in-Some.is in
     pivot_low _ c.args.r.now c.in-Some.pivot e c.requires.variables
 
@@ -137,8 +137,8 @@ pub multiply_holders-requires-clause-variables : goal.multiply_holders-requires-
 multiply_holders-requires-clause-variables c =
     factor_below _ c.in-Some.pivot.variable _ _ c.args.r.now c.in_ok-positive.positive c.in_ok-factor.factor c.in_ok-positive.ensures c.in_ok-factor.ensures.exact c.requires.variables
 
-pub put_for_variable-requires-clause-variables : goal.put_for_variable-requires-clause-variables
-put_for_variable-requires-clause-variables c =
+pub put_in_holders-requires-clause-variables : goal.put_in_holders-requires-clause-variables
+put_in_holders-requires-clause-variables c =
     factor_below _ c.in-Some.pivot.variable _ _ c.args.r.now c.in_ok-positive.positive c.in_ok-factor.factor c.in_ok-positive.ensures c.in_ok-factor.ensures.exact c.requires.variables
 
 pub returns-then-has_other_variable-clause-variables : goal.returns-then-has_other_variable-clause-variables
