@@ -10,6 +10,7 @@ use Rattle.um_elim.specs.Index.{holders, IsIndex}
 use Rattle.um_elim.proofs.Changes.{stop_in_list}
 use Rattle.um_elim.proofs.HeldSlots.{changed, changed-push, length-changed_slots, changed_holders, next_unit, next_within, own_default}
 use Rattle.um_elim.proofs.IndexTurn.{not_held}
+use Rattle.um_elim.proofs.LastTurn.{over_variable}
 use Rattle.um_elim.proofs.IndexBut.{index_but, length-but, holders-after}
 use Rattle.um_elim.proofs.replacement.put_in_each.Goals as goal
 
@@ -39,7 +40,7 @@ index_mut-requires c =
     let us = c.args.units.now.items in
     let f = replace (multiply c.args.m c.args.change.now) in
     subst (λ n. c.args.m < n)
-    (sym (length-but c.args.m c.loop-slot.units.items c.loop-slot.index.items c.loop-slot.invariant.indexed ∙ ap length c.loop-slot.invariant.units ∙ length-changed_slots f (take c.loop-slot.slot-index c.deref-slot-items.result.now) us)) c.requires.m
+    (sym (c.loop-slot.index.ok.0 ∙ length-but c.args.m c.loop-slot.units.items c.loop-slot.index.items c.loop-slot.invariant.indexed ∙ ap length c.loop-slot.invariant.units ∙ length-changed_slots f (take c.loop-slot.slot-index c.deref-slot-items.result.now) us)) c.requires.m
 
 pub loop-slot-init : goal.loop-slot-init
 loop-slot-init c = record {
@@ -93,5 +94,7 @@ returns-clause-indexed c =
     let us = c.args.units.now.items in
     let m = c.args.m in
     let w = c.args.factor.now in
-    let none : holders c.loop-slot.units.items m ≡ [] = ap (λ vs. holders vs m) (returns-clause-exact c ∙ ap (λ v. map (replace (multiply m v)) us) c.requires.change) ∙ holders-after m w c.requires.absent us in
-    subst (λ ss. IsIndex c.loop-slot.units.items (set c.loop-slot.index.items m ss)) (none ∙ sym c.empty.ensures) c.loop-slot.invariant.indexed
+    let made : c.loop-slot.units.items ≡ map (replace (multiply m (over_variable m w))) us = returns-clause-exact c ∙ ap (λ v. map (replace (multiply m v)) us) c.requires.change in
+    let none : holders c.loop-slot.units.items m ≡ [] = ap (λ vs. holders vs m) made ∙ holders-after m w c.requires.absent us in
+    let now : [] ≡ c.empty.result = sym c.empty.ensures in
+    subst (λ ss. IsIndex c.loop-slot.units.items (set c.loop-slot.index.items m ss)) (none ∙ now) c.loop-slot.invariant.indexed
