@@ -1,5 +1,5 @@
 -- An index whose list of one variable is out of date, while the variable goes out of one unit after another.
-use Rattle.std.proofs.Common.{◌≡◌, ℕ, suc, ◌<◌, true, false, not, cond, eqb, List, [], ◌∷◌, length, get_or, set, map, ℤ, pos, negsuc, ◌+ℤ◌, ◌*ℤ◌, neg_ℤ, refl, sym, ap, ◌∙◌, subst, arith}
+use Rattle.std.proofs.Common.{◌≡◌, ℕ, suc, ◌<◌, false, not, cond, eqb, List, [], ◌∷◌, length, get_or, set, map, ℤ, pos, negsuc, ◌+ℤ◌, ◌*ℤ◌, neg_ℤ, refl, sym, ap, ◌∙◌, subst, arith}
 use Rattle.std.specs.Prelude.{IsTrue, All}
 use Rattle.std.proofs.lemmas.Bool.{eqb-true, eq-eqb}
 use Rattle.std.proofs.lemmas.Int.{ints}
@@ -13,7 +13,6 @@ use Rattle.um_units.specs.Range.{fits}
 use Rattle.um_units.specs.Variables.{VariablesBelow, variables_below}
 use Rattle.um_units.proofs.Group.{power_of-mul, power_of-inv, power_of-atom, power_of-other_atom}
 use Rattle.um_units.proofs.Variables.{variables_below-from_VariablesBelow}
-use Rattle.um_tree.specs.Scheme.{unit_variables}
 use Rattle.um_elim.specs.Turn.{multiply}
 use Rattle.um_elim.specs.Index.{holds, holders, holders_from, followed_terms, IsIndex}
 use Rattle.um_elim.proofs.Cases.{on_test}

@@ -1,9 +1,9 @@
-use Rattle.std.proofs.Common.{◌≡◌, ◌<◌, [], sym, ap, subst, ◌∙◌, length, get_or, set, take, map, refl}
+use Rattle.std.proofs.Common.{◌≡◌, ◌<◌, List, [], sym, ap, subst, ◌∙◌, length, get_or, set, take, map, refl}
 use Rattle.std.specs.List.{list_all}
 use Rattle.std.proofs.lemmas.Result.{err_from_is_err_and}
 use Rattle.std.proofs.lemmas.List.{get_or_read, take_more, take_all}
 use Rattle.std.proofs.lemmas.List.Sums.{list_all-from_AllPass}
-use Rattle.um_units.specs.PowerMap.{one, replace}
+use Rattle.um_units.specs.PowerMap.{PowerMap, one, replace}
 use Rattle.um_units.specs.Range.{fits, IsStopUnless}
 use Rattle.um_elim.specs.Turn.{multiply}
 use Rattle.um_elim.specs.Index.{holders, IsIndex}
@@ -94,7 +94,8 @@ returns-clause-indexed c =
     let us = c.args.units.now.items in
     let m = c.args.m in
     let w = c.args.factor.now in
-    let made : c.loop-slot.units.items ≡ map (replace (multiply m (over_variable m w))) us = returns-clause-exact c ∙ ap (λ v. map (replace (multiply m v)) us) c.requires.change in
+    let made : c.loop-slot.units.items ≡ map (replace (multiply m (over_variable m w))) us =
+    ◌∙◌ {A = List PowerMap} (returns-clause-exact c) (ap (λ v. map (replace (multiply m v)) us) c.requires.change) in
     let none : holders c.loop-slot.units.items m ≡ [] = ap (λ vs. holders vs m) made ∙ holders-after m w c.requires.absent us in
     let now : [] ≡ c.empty.result = sym c.empty.ensures in
     subst (λ ss. IsIndex c.loop-slot.units.items (set c.loop-slot.index.items m ss)) (none ∙ now) c.loop-slot.invariant.indexed
