@@ -1,22 +1,20 @@
 -- Characters that keep what has begun.
-use Rattle.std.proofs.Common.{◌≡◌, ℕ, zero, suc, ◌+◌, ◌<◌, ◌≤◌, Bool, true, false, not, cond, ◌&&◌, ◌||◌, eqb, List, [], ◌∷◌, ◌++◌, length, take, drop, get_or, Option, None, Some, Result, Ok, Err, refl, sym, ap, subst, ◌∙◌, arith, append_assoc, lit<}
-use Rattle.std.proofs.lemmas.Bool.{false≢true, eqb-true}
+use Rattle.std.proofs.Common.{◌≡◌, ℕ, zero, suc, ◌+◌, ◌<◌, ◌≤◌, true, false, eqb, List, [], ◌∷◌, ◌++◌, length, take, drop, get_or, Option, None, Some, Ok, refl, sym, ap, subst, ◌∙◌, arith, append_assoc}
+use Rattle.std.proofs.lemmas.Bool.{false≢true}
 use Rattle.std.proofs.lemmas.List.{take_more, append-nil, drop-take, take-take, take-append-drop}
 use Rattle.std.proofs.Math.Seq.{take-append_seam}
 use Rattle.std.proofs.lemmas.Str.{encode_ascii, len_utf8_ascii, encodes-IsAscii, chars-IsAscii, scalars-chars, IsUtf8-from_ascii, IsUtf8-take, IsUtf8-past_char, IsCharBoundary-from_take, IsCharBoundary-at_seam, length-encode, chars-append, chars-nil, chars_past_char}
-use Rattle.std.specs.Char.{is_ascii_alphanumeric, len_utf8}
+use Rattle.std.specs.Char.{len_utf8}
 use Rattle.std.specs.Str.{IsAscii, IsUtf8, IsCharBoundary, chars}
-use lib.Utf8.{encode, encodes, scalar, scalars}
-use Rattle.unicode_ident.specs.Ident.{is_xid_continue}
+use lib.Utf8.{encode, scalar, scalars}
 use Rattle.unicode_ident.proofs.IdentLemmas.{is_xid_continue-ascii}
 use Rattle.um_syntax.specs.declared.token.Token.{Token}
-use Rattle.um_syntax.specs.declared.token.LexStop.{LexStop}
 use Rattle.um_syntax.specs.declared.token.TextStop.{TextStop}
 use Rattle.um_syntax.specs.declared.pending.Pending.{Pending}
 use Rattle.um_syntax.specs.declared.pending.Pending.TheVariants as pending
 use Rattle.um_syntax.specs.Gap.{is_space, IsLine}
 use Rattle.um_syntax.specs.Lexing.{size_of}
-use Rattle.um_syntax.specs.Machine.{Scan, scan_start, keeps, AllKept, at_state, step, steps}
+use Rattle.um_syntax.specs.Machine.{Scan, scan_start, keeps, AllKept, step, steps}
 use Rattle.um_syntax.specs.Feeding.{CountsLines, HasScanned}
 use Rattle.um_syntax.proofs.Places.{size_of-encodes}
 use Rattle.um_syntax.proofs.Runs.{steps-append}
@@ -171,7 +169,7 @@ pub chars_on : (text : List ℕ) (at n : ℕ) → IsUtf8 text → IsCharBoundary
 chars_on text at n utf8 boundary =
     sym (chars-append (take at text) (take n (drop at text)) (IsUtf8-take text at utf8 boundary))
     ∙ ap chars (
-        ap (λ l. take at text ++ l) (sym (drop-take at n text))
-        ∙ ap (λ l. l ++ drop at (take (at + n) text)) (sym (take-take at (at + n) text (omega arith)))
-        ∙ take-append-drop at (take (at + n) text)
+    ap (λ l. take at text ++ l) (sym (drop-take at n text))
+    ∙ ap (λ l. l ++ drop at (take (at + n) text)) (sym (take-take at (at + n) text (omega arith)))
+    ∙ take-append-drop at (take (at + n) text)
     )

@@ -201,7 +201,8 @@ impl Lexer {
         requires whole { self.old.held ≡ 0 }
         ensures some { IfOk result (λ n. 0 < n) }
         ensures front { IfOk result (λ n. IsCharBoundary text.now n) }
-        ensures read { IfOk result (λ n. (cs : List ℕ) → HasRead self.old cs → HasRead self.new (cs ++ chars (take n text.now))) }
+        ensures read { IfOk result (λ n. (cs : List ℕ) → HasRead self.old cs
+            → HasRead self.new (cs ++ chars (take n text.now))) }
         ensures readable { OnOk result (IsReadable self.new.fault) }
         ensures whole { self.new.held ≡ 0 }
         ensures place { IfOk result (λ n. self.new.valid ≡ self.old.valid + n) }

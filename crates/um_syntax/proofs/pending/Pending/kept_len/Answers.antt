@@ -1,4 +1,4 @@
-use Rattle.std.proofs.Common.{length, take, arith, sym, ◌∙◌}
+use Rattle.std.proofs.Common.{arith, sym, ◌∙◌}
 use Rattle.um_syntax.proofs.Kept.{kept_more}
 use Rattle.um_syntax.proofs.pending.Pending.kept_len.Goals as goal
 
