@@ -14,5 +14,5 @@ pub mod TypeComplete
 pub mod TypeSound
 pub mod TypeLaws
 mod SignatureLaws
-mod ReaderLaws
+pub mod ReaderLaws
 mod Inside
