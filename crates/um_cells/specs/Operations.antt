@@ -1,14 +1,40 @@
 -- What an operation on words gives, beside what it gives on the values that they denote.
 -- Source: this project's own.
-use Rattle.std.specs.Prelude.{◌≡◌, ℕ, Option, Some, None, Result, Ok, Err}
+use Rattle.std.specs.Prelude.{◌≡◌, ℕ, Bool, Option, Some, None, Result, Ok, Err}
+use Rattle.um_frac.specs.declared.number.Frac.{Frac}
 use Rattle.um_tree.specs.ValueTree.{ValueTree, truth_value, number_value, list_value, record_value}
 use Rattle.um_tree.specs.ValueTree.{no_values, more_values}
-use Rattle.um_tree.specs.Meaning.{Stop, wrong, value_at}
+use Rattle.um_tree.specs.Meaning.{Stop, trap, wrong, value_at}
 use Rattle.um_cells.specs.declared.store.Store.{Store}
 use Rattle.um_cells.specs.declared.word.Word.{Word}
 use Rattle.um_cells.specs.declared.word.ListCase.{ListCase}
 use Rattle.um_cells.specs.declared.word.ListCase.TheVariants.{Empty, Items}
+use Rattle.um_cells.specs.declared.operations.WordOutcome.{WordOutcome}
+use Rattle.um_cells.specs.declared.operations.WordOutcome.TheVariants as outcome
 use Rattle.um_cells.specs.Stores.{DenotesIn}
+
+-- the truth value that a value is, where it is one
+abbrev pub truth_in : ValueTree → Option Bool
+truth_in (truth_value b) = Some b
+truth_in (number_value c) = None
+truth_in (list_value vs) = None
+truth_in (record_value r vs) = None
+
+-- the number that a value is, where it is one
+abbrev pub number_in : ValueTree → Option Frac
+number_in (truth_value b) = None
+number_in (number_value c) = Some c
+number_in (list_value vs) = None
+number_in (record_value r vs) = None
+
+-- the outcome of an operation on words is that on the values: a word of the value, the trap, or a wrong shape
+abbrev pub IsOutcome : Store → Result ValueTree Stop → WordOutcome → Type 0
+IsOutcome store (Ok v) (outcome.Value w) = DenotesIn store w v
+IsOutcome store (Ok v) (outcome.Trap t) = ⊥
+IsOutcome store (Ok v) outcome.Wrong = ⊥
+IsOutcome store (Err stop) (outcome.Value w) = ⊥
+IsOutcome store (Err stop) (outcome.Trap t) = stop ≡ trap t
+IsOutcome store (Err stop) outcome.Wrong = stop ≡ wrong
 
 -- a word is given exactly where the values give a value, and denotes it; none is given where their shapes are wrong
 abbrev pub Gives : Store → Result ValueTree Stop → Option Word → Type 0

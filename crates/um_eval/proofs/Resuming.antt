@@ -12,7 +12,9 @@ use Rattle.um_cells.specs.declared.word.Word.{Word}
 use Rattle.um_cells.specs.declared.word.Word.TheVariants.{Bool as Truth}
 use Rattle.um_cells.specs.declared.word.ListCase.TheVariants.{Empty, Items}
 use Rattle.um_cells.specs.Stores.{DenotesIn, AllDenote, HasValue, Keeps}
-use Rattle.um_cells.specs.Operations.{TakenApart}
+use Rattle.um_cells.specs.declared.operations.WordOutcome.{WordOutcome}
+use Rattle.um_cells.specs.declared.operations.WordOutcome.TheVariants as outcome
+use Rattle.um_cells.specs.Operations.{truth_in, IsOutcome, TakenApart}
 use Rattle.um_cells.proofs.Denoting.{retained_each, DenoteEach-append, length-DenoteEach}
 use Rattle.um_eval.specs.declared.next.Stop.{Stop as CodeStop}
 use Rattle.um_eval.specs.declared.next.Stop.TheVariants as stop
@@ -27,7 +29,6 @@ use Rattle.um_eval.specs.declared.frame.Frame.{Frame}
 use Rattle.um_eval.specs.declared.frame.Frame.TheVariants as frame
 use Rattle.um_eval.specs.Frames.{stop_of, applied, operated, collected, Completes}
 use Rattle.um_eval.specs.Work.{steps, steps_of_each, frame_steps, frames_steps, most_steps, next_steps, steps_left}
-use Rattle.um_eval.specs.Words.{truth_in, IsDone}
 use Rattle.um_eval.specs.Settling.{settled, either}
 use Rattle.um_eval.specs.Progress.{Leads, Collecting, AllCollected}
 use Rattle.um_eval.proofs.Completing.{stopped, completes_kept}
@@ -58,11 +59,13 @@ pub one_more : (s : Store) (ws ns : List Word) (vs : List ValueTree) (w : Word) 
 one_more s ws ns vs w v e h d = subst (λ xs. AllDenote s xs (vs ++ v ∷ [])) (sym e) (DenoteEach-append s.cells.items ws (w ∷ []) vs (v ∷ []) h (d, tt))
 
 -- an operation is done
-pub done_leads : (fs : List FunctionTree) (s : Store) (scope : List Word) (b : ℕ) (frames : List Frame) (out : Out ValueTree) (vars : List ValueTree) (value : Result ValueTree Stop) (r : Result Word CodeStop) (n : ℕ) → AllDenote s scope vars → IsDone s value r → Completes fs s frames vars (with_budget value b) out → steps_left fs b frames 0 < n → Leads fs s scope b frames (settled r) out n
-done_leads fs s scope b frames out vars (Ok v) (Ok w) n d x h l = ((vars, v, d, x, h), l)
-done_leads fs s scope b frames out vars (Ok v) (Err r) n d x h l = absurd x
-done_leads fs s scope b frames out vars (Err r) (Ok w) n d x h l = absurd x
-done_leads fs s scope b frames out vars (Err r) (Err q) n d x h l = (ap stops x ∙ stopped fs s frames vars r out h, l)
+pub done_leads : (fs : List FunctionTree) (s : Store) (scope : List Word) (b : ℕ) (frames : List Frame) (out : Out ValueTree) (vars : List ValueTree) (value : Result ValueTree Stop) (r : WordOutcome) (n : ℕ) → AllDenote s scope vars → IsOutcome s value r → Completes fs s frames vars (with_budget value b) out → steps_left fs b frames 0 < n → Leads fs s scope b frames (settled r) out n
+done_leads fs s scope b frames out vars (Ok v) (outcome.Value w) n d x h l = ((vars, v, d, x, h), l)
+done_leads fs s scope b frames out vars (Ok v) (outcome.Trap t) n d x h l = absurd x
+done_leads fs s scope b frames out vars (Ok v) outcome.Wrong n d x h l = absurd x
+done_leads fs s scope b frames out vars (Err r) (outcome.Value w) n d x h l = absurd x
+done_leads fs s scope b frames out vars (Err r) (outcome.Trap t) n d x h l = (ap stops (sym x) ∙ stopped fs s frames vars r out h, l)
+done_leads fs s scope b frames out vars (Err r) outcome.Wrong n d x h l = (ap stops (sym x) ∙ stopped fs s frames vars r out h, l)
 
 -- a call leaves less to do: the budget falls, and the body has no more steps than the most
 call_falls : (b k f one x n : ℕ) → x < k + 1 → one ≡ 1 → (b + 1) * k + f + 1 < n → b * k + (one + f) + x < n
@@ -92,7 +95,7 @@ module _ (fs : List FunctionTree) (s : Store) (scope : List Word) (b : ℕ) (fra
 
   -- ---- the value w is handed to a frame
   module _ (w : Word) (n : ℕ) where
-    pub operand_leads : (op : Unary) (r : Result Word CodeStop) → ((v : ValueTree) → DenotesIn s w v → IsDone s (applied op v) r) → Leads fs s scope b (frame.Operand op ∷ frames) (Give w) out (n + 1) → Leads fs s scope b frames (settled r) out n
+    pub operand_leads : (op : Unary) (r : WordOutcome) → ((v : ValueTree) → DenotesIn s w v → IsOutcome s (applied op v) r) → Leads fs s scope b (frame.Operand op ∷ frames) (Give w) out (n + 1) → Leads fs s scope b frames (settled r) out n
     operand_leads op r done ((vars, v, d, x, h), l) = done_leads fs s scope b frames out vars (applied op v) r n d (done v x) h (omega (arith, l))
 
     pub left_leads : (op : Binary) (y : Bor Expr) → Leads fs s scope b (frame.Left op y ∷ frames) (Give w) out (n + 1) → Leads fs s scope b (frame.Right op w ∷ frames) (Evaluate y) out n
@@ -238,7 +241,7 @@ module _ (fs : List FunctionTree) (s : Store) (scope : List Word) (b : ℕ) (fra
   pub right_value : (op : Binary) (x w : Word) (n : ℕ) → Leads fs s scope b (frame.Right op x ∷ frames) (Give w) out n → HasValue s w
   right_value op x w n ((vars, u, d, y, h), l) = (u, y)
 
-  pub right_leads : (t : Store) (op : Binary) (x w : Word) (r : Result Word CodeStop) (n : ℕ) → Keeps s t → ((v u : ValueTree) → DenotesIn s x v → DenotesIn s w u → IsDone t (operated op v u) r) → Leads fs s scope b (frame.Right op x ∷ frames) (Give w) out (n + 1) → Leads fs t scope b frames (settled r) out n
+  pub right_leads : (t : Store) (op : Binary) (x w : Word) (r : WordOutcome) (n : ℕ) → Keeps s t → ((v u : ValueTree) → DenotesIn s x v → DenotesIn s w u → IsOutcome t (operated op v u) r) → Leads fs s scope b (frame.Right op x ∷ frames) (Give w) out (n + 1) → Leads fs t scope b frames (settled r) out n
   right_leads t op x w r n k done ((vars, u, d, y, (v, z, h)), l) =
       done_leads fs t scope b frames out vars (operated op v u) r n (retained_each s.cells.items t.cells.items k scope vars d) (done v u z y)
       (completes_kept fs s t k frames vars (with_budget (operated op v u) b) out h) (omega (arith, l))

@@ -4,10 +4,10 @@ ghost use Rattle.um_eval.specs.Settling.{settled, either};
 
 use crate::frame::{Binary, Collection, Frame, Unary};
 use crate::next::{End, Next, Stop};
-use crate::operations::{apply, operate, truth};
+use crate::operations::{apply, operate};
 use std::alloc::Global;
 use std::mem;
-use um_cells::{ListCase, Store, Word};
+use um_cells::{ListCase, Store, Word, WordOutcome, truth};
 use um_tree::{Expr, Function, Node};
 use um_units::NoMemory;
 
@@ -272,12 +272,13 @@ impl<'a> Evaluator<'a> {
     }
 }
 
-fn settled<'a>(done: Result<Word, Stop>) -> Next<'a>
-    ensures { result ≡ settled done }
+fn settled<'a>(outcome: WordOutcome) -> Next<'a>
+    ensures { result ≡ settled outcome }
 {
-    match done {
-        Ok(word) => Next::Give(word),
-        Err(stop) => Next::Stop(stop),
+    match outcome {
+        WordOutcome::Value(word) => Next::Give(word),
+        WordOutcome::Trap(trap) => Next::Stop(Stop::Trap(trap)),
+        WordOutcome::Wrong => Next::Stop(Stop::Wrong),
     }
 }
 

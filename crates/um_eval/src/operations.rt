@@ -1,85 +1,28 @@
-//! The operations on words.
-ghost use Rattle.std.specs.Prelude.{◌≡◌, IfOk};
+//! The operations of frames on words.
+ghost use Rattle.std.specs.Prelude.{IfOk};
 ghost use Rattle.um_tree.specs.ValueTree.{ValueTree};
-ghost use Rattle.um_tree.specs.Meaning.{arithmetic, comparison, calculated, compared, negated, not_of, raised, number_result};
-ghost use Rattle.um_cells.specs.declared.store.Store.{Store};
 ghost use Rattle.um_cells.specs.Stores.{DenotesIn, HasValue, Keeps};
+ghost use Rattle.um_cells.specs.Operations.{IsOutcome};
 ghost use Rattle.um_eval.specs.Frames.{applied, operated};
-ghost use Rattle.um_eval.specs.Words.{truth_in, number_in, IsDone};
 
 use crate::frame::{Binary, Unary};
-use crate::next::Stop;
-use um_cells::{Store, Word};
-use um_frac::{Frac, Trap};
-use um_tree::{Arith, Sign};
+use um_cells::{Store, Word, WordOutcome, calculate, compare, negate, not, raise};
 use um_units::NoMemory;
 
-/// The truth value that the word is, where it is one.
-pub(crate) fn truth(word: Word) -> Option<bool>
-    ensures { (s : Store) (v : ValueTree) → DenotesIn s word v → truth_in v ≡ result }
-{
-    match word {
-        Word::Bool(b) => Some(b),
-        Word::Num(_) => None,
-        Word::Nil => None,
-        Word::List(_) => None,
-        Word::Rec(_, _) => None,
-    }
-}
-
-fn number(word: Word) -> Option<Frac>
-    ensures { (s : Store) (v : ValueTree) → DenotesIn s word v → number_in v ≡ result }
-{
-    match word {
-        Word::Bool(_) => None,
-        Word::Num(c) => Some(c),
-        Word::Nil => None,
-        Word::List(_) => None,
-        Word::Rec(_, _) => None,
-    }
-}
-
 /// The operation of one part.
-pub(crate) fn apply(store: &Store, op: Unary, word: Word) -> Result<Word, Stop>
-    ensures { (v : ValueTree) → DenotesIn store.now word v → IsDone store.now (applied op v) result }
+pub(crate) fn apply(store: &Store, op: Unary, word: Word) -> WordOutcome
+    ensures { (v : ValueTree) → DenotesIn store.now word v → IsOutcome store.now (applied op v) result }
 {
     match op {
         Unary::Negate => negate(word),
         Unary::Not => not(word),
-        Unary::Power(k) => power(word, k),
+        Unary::Power(k) => raise(word, k),
         Unary::Field(r, k) => {
             match store.field(r, k as usize, word) {
-                Some(part) => Ok(part),
-                None => Err(Stop::Wrong),
+                Some(part) => WordOutcome::Value(part),
+                None => WordOutcome::Wrong,
             }
         }
-    }
-}
-
-fn negate(word: Word) -> Result<Word, Stop>
-    ensures { (s : Store) (v : ValueTree) → DenotesIn s word v → IsDone s (negated v) result }
-{
-    match number(word) {
-        Some(c) => Ok(Word::Num(c.neg())),
-        None => Err(Stop::Wrong),
-    }
-}
-
-fn not(word: Word) -> Result<Word, Stop>
-    ensures { (s : Store) (v : ValueTree) → DenotesIn s word v → IsDone s (not_of v) result }
-{
-    match truth(word) {
-        Some(b) => Ok(Word::Bool(!b)),
-        None => Err(Stop::Wrong),
-    }
-}
-
-fn power(word: Word, k: i32) -> Result<Word, Stop>
-    ensures { (s : Store) (v : ValueTree) → DenotesIn s word v → IsDone s (raised k v) result }
-{
-    match number(word) {
-        Some(c) => of_number(c.pow(k)),
-        None => Err(Stop::Wrong),
     }
 }
 
@@ -89,77 +32,21 @@ pub(crate) fn operate(
     op: Binary,
     x: Word,
     y: Word,
-) -> Result<Result<Word, Stop>, NoMemory>
+) -> Result<WordOutcome, NoMemory>
     requires left { HasValue store.old x }
     requires right { HasValue store.old y }
     ensures keeps { Keeps store.old store.new }
-    ensures done { IfOk result (λ r. (v u : ValueTree) → DenotesIn store.old x v → DenotesIn store.old y u → IsDone store.new (operated op v u) r) }
+    ensures done { IfOk result (λ outcome. (v u : ValueTree) → DenotesIn store.old x v → DenotesIn store.old y u
+        → IsOutcome store.new (operated op v u) outcome) }
 {
     match op {
         Binary::Arith(op) => Ok(calculate(op, x, y)),
         Binary::Compare(sign) => Ok(compare(sign, x, y)),
         Binary::Cons => {
             match store.cons(x, y)? {
-                Some(list) => Ok(Ok(list)),
-                None => Ok(Err(Stop::Wrong)),
+                Some(list) => Ok(WordOutcome::Value(list)),
+                None => Ok(WordOutcome::Wrong),
             }
         }
-    }
-}
-
-fn calculate(op: Arith, x: Word, y: Word) -> Result<Word, Stop>
-    ensures { (s : Store) (v u : ValueTree) → DenotesIn s x v → DenotesIn s y u → IsDone s (calculated op v u) result }
-{
-    let Some(a) = number(x) else {
-        return Err(Stop::Wrong)
-    };
-    let Some(b) = number(y) else {
-        return Err(Stop::Wrong)
-    };
-    of_number(arithmetic(op, a, b))
-}
-
-fn compare(sign: Sign, x: Word, y: Word) -> Result<Word, Stop>
-    ensures { (s : Store) (v u : ValueTree) → DenotesIn s x v → DenotesIn s y u → IsDone s (compared sign v u) result }
-{
-    let Some(a) = number(x) else {
-        return Err(Stop::Wrong)
-    };
-    let Some(b) = number(y) else {
-        return Err(Stop::Wrong)
-    };
-    Ok(Word::Bool(comparison(sign, a, b)))
-}
-
-fn arithmetic(op: Arith, a: Frac, b: Frac) -> Result<Frac, Trap>
-    ensures { result ≡ arithmetic op a b }
-{
-    match op {
-        Arith::Add => a.add(b),
-        Arith::Sub => a.sub(b),
-        Arith::Mul => a.mul(b),
-        Arith::Div => a.div(b),
-    }
-}
-
-fn comparison(sign: Sign, a: Frac, b: Frac) -> bool
-    ensures { result ≡ comparison sign a b }
-{
-    match sign {
-        Sign::Lt => a.less(b),
-        Sign::Le => !b.less(a),
-        Sign::Eq => a.same(b),
-        Sign::Gt => b.less(a),
-        Sign::Ge => !a.less(b),
-        Sign::Ne => !a.same(b),
-    }
-}
-
-fn of_number(number: Result<Frac, Trap>) -> Result<Word, Stop>
-    ensures { (s : Store) → IsDone s (number_result number) result }
-{
-    match number {
-        Ok(c) => Ok(Word::Num(c)),
-        Err(trap) => Err(Stop::Trap(trap)),
     }
 }

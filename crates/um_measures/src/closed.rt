@@ -1,12 +1,12 @@
-//! The units of closed unit texts, where a program and its abbreviations are given.
+//! The measures of a program and its abbreviations, and the units of closed unit texts.
 
 ghost use Rattle.std.specs.Prelude.{◌≡◌, ◌∷◌, ◌++◌, [], ℕ, List, Ok, IfOk, IfErr};
 ghost use Rattle.um_units.specs.declared.Atom.TheVariants.{Base};
 ghost use Rattle.um_units.specs.PowerMap.{atom};
 ghost use Rattle.um_tree.specs.ProgramTree.{program_tree};
 ghost use Rattle.um_tree.specs.RawTree.{unit_syntax};
-ghost use Rattle.um_measures.specs.Known.{number_of, short_unit};
-ghost use Rattle.um_measures.specs.ClosedUnits.{base_unit, first_of_both, closed_note};
+ghost use Rattle.um_measures.specs.Known.{number_of, short_unit, measure_unit};
+ghost use Rattle.um_measures.specs.ClosedUnits.{base_unit, first_of_both, given, closed_note};
 ghost use Rattle.um_measures.specs.Stops.{IsFirst};
 
 use crate::abbreviation::{Abbreviation, Abbreviations};
@@ -74,6 +74,23 @@ fn with_abbreviations(
     Ok(measures)
 }
 
+/// The measures of a program and its abbreviations: the base units, and behind them the abbreviations, so that the first
+/// of a name counts.
+///
+/// It takes time for all of them. The one error is that memory is wanting, also where the base units are so many that
+/// no numbers of 32 bits are left for them.
+pub fn measures_of(
+    alloc: Global,
+    program: &Program,
+    abbreviations: &Abbreviations,
+) -> Result<Measures, AllocError>
+    ensures { IfOk result (λ measures. (x : List ℕ)
+        → short_unit measures x ≡ measure_unit (given (program_tree program.now) abbreviations.now) x) }
+{
+    let bases = base_measures(alloc, program.bases.as_slice())?;
+    with_abbreviations(alloc, bases, abbreviations.as_slice())
+}
+
 /// The unit of a text in which no unit variable is known, as a note.
 ///
 /// A measure stands for the first of its name among the program's base units and then the abbreviations. Unknown comes
@@ -91,8 +108,7 @@ pub fn closed_unit(
     ensures faults { IfErr result (IsFirst (closed_note (program_tree program.now) abbreviations.now
         (unit_syntax raw.now))) }
 {
-    let bases = base_measures(alloc, program.bases.as_slice())?;
-    let measures = with_abbreviations(alloc, bases, abbreviations.as_slice())?;
+    let measures = measures_of(alloc, program, abbreviations)?;
     let unit = resolved_unit(alloc, &measures, &NameTable::new(alloc), raw)?;
     Ok(UnitNote::Written(unit))
 }

@@ -12,7 +12,7 @@ mod unit;
 mod variables;
 
 pub use abbreviation::{Abbreviation, Abbreviations};
-pub use closed::closed_unit;
+pub use closed::{closed_unit, measures_of};
 pub use measures::Measures;
 pub use scope::{Scope, same_binding};
 pub use stop::NameStop;

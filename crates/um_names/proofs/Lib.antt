@@ -23,4 +23,5 @@ pub mod FormedPrograms
 pub mod HeadNames
 pub mod NameChecks
 pub mod SignatureHeads
+mod NeverTwice
 pub mod RecordsFound

@@ -5,7 +5,7 @@ use Rattle.um_tree.specs.ExprTree.{ExprTree, ExprTrees}
 use Rattle.um_tree.specs.RawTree.{BinderSyntax, ExprSyntax, ExprSyntaxes, FieldSyntaxes}
 use Rattle.um_names.specs.declared.known.Tables.{Tables}
 use Rattle.um_names.specs.declared.callable.Callable.{Callable}
-use Rattle.um_names.specs.declared.expr.Body.{Body}
+use Rattle.um_names.specs.declared.node.Body.{Body}
 use Rattle.um_measures.specs.Faults.{Found, and_then, unless_taken}
 use Rattle.um_measures.specs.Scopes.{Scope, same_binding}
 use Rattle.um_names.specs.ExprNames.{resolved_expr, resolved_exprs, resolved_parts}

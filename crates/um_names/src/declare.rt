@@ -11,9 +11,10 @@ ghost use Rattle.um_names.specs.Tables.{AreTables, known_of, own_callable};
 
 use crate::adding::{copied, with_base, with_function, with_short};
 use crate::callable::Callable;
-use crate::expr::{Body, expr};
+use crate::expr::expr;
 use crate::fields::field_decls;
 use crate::known::Tables;
+use crate::node::Body;
 use crate::parts::{result_note, unit_parameters};
 use crate::records::with_record;
 use crate::signature::{Parameters, params};

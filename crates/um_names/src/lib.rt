@@ -9,6 +9,7 @@ mod fields;
 mod heads;
 mod known;
 mod laws;
+mod node;
 mod parts;
 mod records;
 mod resolving;

@@ -1,6 +1,6 @@
 //! The types of signature texts.
 
-ghost use Rattle.std.specs.Prelude.{◌≡◌, false, Ok, IfOk, IfErr, map};
+ghost use Rattle.std.specs.Prelude.{◌≡◌, ◌≢◌, ℕ, false, Ok, IfOk, IfErr, map};
 ghost use Rattle.std.specs.List.{flat_map};
 ghost use Rattle.um_tree.specs.Formed.{IsFormed};
 ghost use Rattle.um_tree.specs.ProgramTree.{program_tree};
@@ -8,6 +8,7 @@ ghost use Rattle.um_tree.specs.RawTree.{note_syntax, written_note, type_syntax, 
 ghost use Rattle.um_tree.specs.TypeTree.{type_tree, type_trees};
 ghost use Rattle.um_measures.specs.ClosedUnits.{given};
 ghost use Rattle.um_names.specs.SignatureNames.{SignatureTypes, note_names, all_note_names, number_names, type_names, all_type_names, one_type, resolved_types, signature_variables, resolved_signature};
+ghost use Rattle.um_measures.specs.declared.stop.NameStop.TheVariants.{Twice};
 ghost use Rattle.um_measures.specs.Stops.{IsFirst};
 ghost use Rattle.um_names.specs.Tables.{AreTables, known_of};
 
@@ -141,10 +142,11 @@ fn signature(alloc: Global, tables: &Tables, raw: &[RawType]) -> Result<(Types, 
 
 /// The types of a signature text and the number of their unit variables, which are numbered by first occurrence.
 ///
-/// Measures stand for the first of their name among the program's base units and then the abbreviations. First comes the first fault of the
-/// whole text besides a range, with its place: Unknown at a measure or record that isn't known, WrongCount at the name
-/// of a record with another number of units than declared, Hole at `_`. Else Range comes at the first token of the
-/// first unit text with a part out of range. It takes time linear in the program and the text.
+/// Measures stand for the first of their name among the program's base units and then the abbreviations. First comes
+/// the first fault of the whole text besides a range, with its place: Unknown at a measure or record that isn't known,
+/// WrongCount at the name of a record with another number of units than declared, Hole at `_`. Else Range comes at the
+/// first token of the first unit text with a part out of range. Twice never comes, since a text declares nothing. It
+/// takes time linear in the program and the text.
 pub fn types_of(
     alloc: Global,
     program: &Program,
@@ -156,6 +158,7 @@ pub fn types_of(
         (type_syntaxes raw.now) ≡ Ok (record { types = type_trees found.0; vars = found.1 })) }
     ensures faults { IfErr result (IsFirst (resolved_signature (given (program_tree program.now) abbreviations.now)
         (type_syntaxes raw.now))) }
+    ensures never_twice { IfErr result (λ stop. (at : ℕ) → stop ≢ Twice at) }
 {
     let tables = heads(alloc, program, abbreviations)?;
     signature(alloc, &tables, &raw.items)

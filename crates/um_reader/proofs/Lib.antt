@@ -2,4 +2,4 @@ pub mod Reaching
 pub mod Texts
 pub mod Readers
 pub mod Answers
-mod Loop
+pub mod Loop

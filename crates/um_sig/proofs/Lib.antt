@@ -8,7 +8,6 @@ pub mod InstanceLaws
 pub mod TypingLaws
 pub mod UniqueAnswers
 pub mod MatchingSteps
-pub mod NeverTwice
 pub mod SignaturesIn
 mod FewVariables
 pub mod UniqueReadings

@@ -27,6 +27,4 @@ pub fn answers()
 /// There is one answer of [`crate::read_signature`] to a text, unless memory is wanting.
 pub fn readings()
     ensures { ReadingsAreUnique }
-{
-    um_types::laws::signature_answers_exclude();
-}
+{}

@@ -34,11 +34,11 @@ use Rattle.um_syntax.proofs.Whole.{scanned_complete, unique_tokens}
 pub none_counted : (tokens : List Token) → HasTokens [] tokens → 0 ≡ length tokens
 none_counted tokens h = ap length (unique_tokens [] [] tokens (closed nothing) h)
 
-and_true : (a b : Bool) → a ≡ true → b ≡ true → (a && b) ≡ true
+pub and_true : (a b : Bool) → a ≡ true → b ≡ true → (a && b) ≡ true
 and_true true b e f = f
 and_true false b e f = absurd (false≢true e)
 
-and_parts : (a b : Bool) → (a && b) ≡ true → (a ≡ true) × (b ≡ true)
+pub and_parts : (a b : Bool) → (a && b) ≡ true → (a ≡ true) × (b ≡ true)
 and_parts true b e = (refl, e)
 and_parts false b e = absurd (false≢true e)
 

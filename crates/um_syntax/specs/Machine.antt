@@ -1,9 +1,9 @@
 -- The machine that reads a text character by character. The definitions of tokens and refusals don't rest on it; that
 -- it
 -- gives them is proved.
-use Rattle.std.specs.Prelude.{ℕ, ◌+◌, ◌≤◌, ◌-◌, ◌*◌, ◌^◌, Bool, true, false, cond, ◌==◌, ◌||◌, ◌&&◌, nat_lt, nat_le, List, [], ◌∷◌, ◌++◌, length, take, drop, pos, Option, None, Some, is_some, option_map, Result, Ok, Err}
+use Rattle.std.specs.Prelude.{◌≡◌, ℕ, ◌+◌, ◌≤◌, ◌-◌, ◌*◌, ◌^◌, Bool, true, false, not, cond, ◌==◌, ◌||◌, ◌&&◌, nat_lt, nat_le, List, [], ◌∷◌, ◌++◌, length, take, drop, pos, Option, None, Some, is_some, option_map, Result, Ok, Err}
 use Rattle.std.specs.Coded.{×_prop, Unit-prop, le_prop}
-use Rattle.std.specs.Char.{is_ascii_digit, len_utf8, encode_utf8}
+use Rattle.std.specs.Char.{is_ascii_digit, is_ascii_alphanumeric, len_utf8, encode_utf8}
 use Rattle.std.specs.Str.{bytes_eq}
 use Rattle.unicode_ident.specs.Ident.{is_xid_continue}
 use Rattle.um_frac.specs.Fraction.{reduced}
@@ -214,6 +214,17 @@ takes (pending.Quote start) c = starts_name c
 takes (pending.Variable start last) c = is_xid_continue c
 takes (pending.Number start end p f) c = part_takes p c
 takes (pending.Symbol start first) c = is_some (double_symbol first c) || (first == 47 && c == 47)
+
+-- whether a byte is a character that goes on with what has begun, and changes nothing of it but its letters
+abbrev pub keeps : Pending → ℕ → Bool
+keeps pending.Free b = b == 32 || (b == 9 || b == 13)
+keeps pending.Comment b = nat_lt b 128 && not (b == 10)
+keeps (pending.Identifier start) b = is_ascii_alphanumeric b || b == 95
+keeps _ b = false
+
+abbrev pub AllKept : Pending → List ℕ → Type 0
+AllKept p [] = Unit {0}
+AllKept p (b ∷ bs) = (keeps p b ≡ true) × AllKept p bs
 
 abbrev pub at_state : Scan → ℕ → List ℕ → Pending → Scan
 at_state s at letters p = record { at = at; tokens = s.tokens; letters = letters; pending = p }

@@ -1,8 +1,9 @@
 //! A lexer that is fed the bytes of a text in pieces.
 ghost use Rattle.std.specs.Prelude.{◌≡◌, ◌+◌, ◌&&◌, nat_lt, ◌<◌, ◌≤◌, List, ℕ, ◌++◌, ◌∷◌, [], length, take, slice_index, OnOk, OnErr, IfOk, IsErr};
 ghost use Rattle.std.specs.Char.{len_utf8};
+ghost use Rattle.std.specs.Str.{chars, IsCharBoundary};
 ghost use Rattle.um_syntax.specs.Decoding.{char_len};
-ghost use Rattle.um_syntax.specs.Machine.{PendingFits, PendingFits-prop};
+ghost use Rattle.um_syntax.specs.Machine.{AllKept, PendingFits, PendingFits-prop};
 
 use crate::decode::{Decoded, char_len, decode_char};
 use crate::scanner::Scanner;
@@ -184,10 +185,69 @@ impl Lexer {
         ensures fed { OnOk result (self.new.fed ≡ self.old.fed + length text.now) }
     {
         self.fed += text.len() as u32;
-        for c in text.chars() {
-            self.take_char(c)?;
+        let mut at = 0;
+        while at < text.len() {
+            at += self.take_next(&text[at..])?;
         }
         Ok(())
+    }
+
+    // Takes what stands at the front of a text behind what was read: the characters that keep what has begun, or else
+    // one. Answers how many bytes these are.
+    fn take_next(&mut self, text: &str) -> Result<usize, AllocError>
+        requires some { 0 < length text.now }
+        requires readable { IsReadable self.old.fault }
+        requires room { self.old.valid + length text.now ≤ self.old.fed }
+        requires whole { self.old.held ≡ 0 }
+        ensures some { IfOk result (λ n. 0 < n) }
+        ensures front { IfOk result (λ n. IsCharBoundary text.now n) }
+        ensures read { IfOk result (λ n. (cs : List ℕ) → HasRead self.old cs
+            → HasRead self.new (cs ++ chars (take n text.now))) }
+        ensures readable { OnOk result (IsReadable self.new.fault) }
+        ensures whole { self.new.held ≡ 0 }
+        ensures place { IfOk result (λ n. self.new.valid ≡ self.old.valid + n) }
+        ensures fed { self.new.fed ≡ self.old.fed }
+    {
+        let len = self.kept_len(text);
+        if len > 0 {
+            self.take_kept(&text[..len])?;
+            return Ok(len);
+        }
+        match text.chars().next() {
+            Some(c) => {
+                self.take_char(c)?;
+                Ok(c.len_utf8())
+            }
+            None => unreachable!(),
+        }
+    }
+
+    // How many bytes at the front of the text keep what has begun. None do behind a fault.
+    fn kept_len(&self, text: &str) -> usize
+        ensures within { result ≤ length text.now }
+        ensures kept { AllKept self.now.scanner.pending (take result text.now) }
+        ensures faultless { 0 < result → self.now.fault ≡ None }
+    {
+        match self.fault {
+            Some(_) => 0,
+            None => self.scanner.kept_len(text),
+        }
+    }
+
+    // Takes characters that keep what has begun behind those that were read.
+    fn take_kept(&mut self, text: &str) -> Result<(), AllocError>
+        requires kept { AllKept self.old.scanner.pending text.now }
+        requires faultless { self.old.fault ≡ None }
+        requires room { self.old.valid + length text.now ≤ self.old.fed }
+        requires whole { self.old.held ≡ 0 }
+        ensures read { OnOk result ((cs : List ℕ) → HasRead self.old cs → HasRead self.new (cs ++ text.now)) }
+        ensures faultless { self.new.fault ≡ None }
+        ensures whole { self.new.held ≡ 0 }
+        ensures place { self.new.valid ≡ self.old.valid + length text.now }
+        ensures fed { self.new.fed ≡ self.old.fed }
+    {
+        self.valid += text.len() as u32;
+        self.scanner.scan_kept(text)
     }
 
     // Takes bytes behind those that were fed, one by one.

@@ -1,7 +1,7 @@
 //! What has been read of a token that may go on.
-ghost use Rattle.std.specs.Prelude.{◌≡◌};
+ghost use Rattle.std.specs.Prelude.{◌≡◌, ◌≤◌, length, take};
 ghost use Rattle.um_syntax.specs.Lexeme.{starts_name};
-ghost use Rattle.um_syntax.specs.Machine.{takes, ends_in_digit};
+ghost use Rattle.um_syntax.specs.Machine.{takes, keeps, AllKept, ends_in_digit};
 
 use crate::number::{Figures, Part};
 use crate::vocabulary::double_symbol;
@@ -65,6 +65,30 @@ impl Pending {
             Pending::Symbol { first, .. } => double_symbol(first, c).is_some()
                 || (first == '/' && c == '/'),
         }
+    }
+
+    // Whether the byte is a character that goes on with what has begun, and changes nothing of it but its letters.
+    fn keeps(self, byte: u8) -> bool
+        ensures { result ≡ keeps self byte }
+    {
+        match self {
+            Pending::Free => byte == b' ' || byte == b'\t' || byte == b'\r',
+            Pending::Comment => byte.is_ascii() && byte != b'\n',
+            Pending::Identifier { .. } => byte.is_ascii_alphanumeric() || byte == b'_',
+            _ => false,
+        }
+    }
+
+    // How many bytes at the front keep what has begun.
+    pub fn kept_len(self, bytes: &[u8]) -> usize
+        ensures within { result ≤ length bytes.now }
+        ensures kept { AllKept self (take result bytes.now) }
+    {
+        let mut len = 0;
+        while len < bytes.len() && self.keeps(bytes[len]) {
+            len += 1;
+        }
+        len
     }
 
     // Whether what has begun is a number that has its last digit.

@@ -1,10 +1,10 @@
 //! The machine that reads a text character by character.
-ghost use Rattle.std.specs.Prelude.{◌≡◌, ◌+◌, ◌<◌, ◌≤◌, ◌^◌, length, max, OnOk, IfOk};
+ghost use Rattle.std.specs.Prelude.{◌≡◌, ◌+◌, ◌<◌, ◌≤◌, ◌^◌, length, take, max, OnOk, IfOk};
 ghost use Rattle.std.specs.Char.{len_utf8};
 ghost use Rattle.std.specs.Option.{option_copied};
 ghost use Rattle.um_syntax.specs.Gap.{is_space};
 ghost use Rattle.um_syntax.specs.Lexing.{is_glued, is_power_place, is_caret, is_minus};
-ghost use Rattle.um_syntax.specs.Machine.{scan_start, step, ended, taken, close, begun, pushed, identifier_pushed, variable_pushed, letters_kind, number_taken, FiguresFit, PendingFits};
+ghost use Rattle.um_syntax.specs.Machine.{scan_start, step, steps, AllKept, ended, taken, close, begun, pushed, identifier_pushed, variable_pushed, letters_kind, number_taken, FiguresFit, PendingFits};
 ghost use Rattle.um_syntax.specs.declared.pending.Pending.TheVariants as pending;
 ghost use Rattle.um_syntax.specs.Scanning.{scan_of, Follows, Answers};
 
@@ -299,6 +299,30 @@ impl Scanner {
             return Err(LexStop::BadChar { at: self.at });
         }
         self.begin(c, next)
+    }
+
+    /// How many bytes at the front of the text keep what has begun.
+    pub fn kept_len(&self, text: &str) -> usize
+        ensures within { result ≤ length text.now }
+        ensures kept { AllKept self.now.pending (take result text.now) }
+    {
+        self.pending.kept_len(text.as_bytes())
+    }
+
+    /// Takes characters that keep what has begun, all at once.
+    pub fn scan_kept(&mut self, text: &str) -> Result<(), AllocError>
+        requires kept { AllKept self.old.pending text.now }
+        requires fits { PendingFits self.old.pending }
+        requires room { self.old.at + length text.now < 2 ^ 32 }
+        ensures goes { OnOk result (steps (Ok (scan_of self.old)) text.now ≡ Ok (scan_of self.new)) }
+        ensures fits { PendingFits self.new.pending }
+        ensures place { self.new.at ≡ self.old.at + length text.now }
+    {
+        self.at += text.len() as u32;
+        if let Pending::Identifier { .. } = self.pending {
+            self.letters.push_str(text)?;
+        }
+        Ok(())
     }
 
     /// The tokens of the characters taken, once the text has ended.

@@ -43,5 +43,4 @@ pub fn answers_are_unique()
     ensures { AnswersAreUnique }
 {
     um_parse::laws::answers_are_unique();
-    um_sig::laws::readings();
 }

@@ -67,8 +67,6 @@ fn reply_to<S: Source>(alloc: Global, words: &Words, source: &mut S) -> Result<R
     if names_unbuilt(words) {
         return not_built(alloc);
     }
-    // That the text of a signature has one reading, on which `complete` rests.
-    um_sig::laws::readings();
     match order_of(words) {
         None => reply_line(alloc, "error 1: usage", Status::Usage),
         Some(order) => reply_to_order(alloc, order, words, source),

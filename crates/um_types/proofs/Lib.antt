@@ -13,6 +13,6 @@ pub mod NoteLaws
 pub mod TypeComplete
 pub mod TypeSound
 pub mod TypeLaws
-mod SignatureLaws
-mod ReaderLaws
+pub mod SignatureLaws
+pub mod ReaderLaws
 mod Inside

@@ -9,11 +9,15 @@ use Rattle.um_tree.specs.RawTree.{TypeSyntax}
 use Rattle.um_types.specs.TypeGrammar.{FirstSign, TypeSpells, TypeFits}
 use Rattle.um_types.specs.TypeHeights.{whole_height, all_height}
 use Rattle.um_types.specs.SignatureGrammar.{TypesSpell, TypesFit, IsSignature}
+use Rattle.um_types.specs.UnitStops.{greatest_height}
+use Rattle.um_types.specs.Laws.{SignatureAnswersExclude}
 use Rattle.um_reader.specs.Machine.{Reaches, IsReaderOf}
 use Rattle.um_types.specs.NoteMachine.{NoteState}
 use Rattle.um_types.specs.TypeMachine.{Owner, TypeState, NeedType, HaveType, InNote, NoType, type_after, type_step, type_finish}
 use Rattle.um_types.specs.SignatureMachine.{SignatureState, InType, NoSignature, type_end, type_ends, type_goes, signature_step, typed, signature_finish, signature_least, start, machine_of_signatures, read_all}
 use Rattle.um_reader.proofs.Reaching.{reaches_one, reaches_then, reaches_inside, reaches_all, runs_sound}
+use Rattle.um_reader.proofs.Readers.{unambiguous}
+use Rattle.um_reader.proofs.Answers.{one_answer}
 use Rattle.um_types.proofs.TypeComplete.{type_reaches}
 use Rattle.um_types.proofs.TypeSound.{TypeSpellsPrefix, type_sound, type_found}
 use Rattle.um_types.proofs.TypeLaws.{type_ending, type_completed, type_can_end, type_completed_height, type_up, type_found_height}
@@ -232,3 +236,7 @@ signatures_read = record {
   up = signature_up;
   same_height = signature_found_height;
 }
+
+-- the answers to a signature text exclude one another
+pub signature_answers_exclude : SignatureAnswersExclude
+signature_answers_exclude tokens = one_answer IsSignature all_height greatest_height tokens (unambiguous signatures_read)

@@ -1,4 +1,3 @@
-mod NotesRead
 pub mod ValueFrom
 pub mod ValueGoes
 pub mod ValueBack

@@ -15,10 +15,10 @@ use Rattle.um_tree.specs.Shapes.{type_shape}
 use Rattle.um_reader.specs.Machine.{runs}
 use Rattle.um_reader.proofs.Readers.{none_some, some_same}
 use Rattle.um_types.specs.NoteMachine.{NoteState, NeedNote, HaveHole, InUnit, NoNote, note_step, note_finish}
+use Rattle.um_types.proofs.ReaderLaws.{notes_read}
 use Rattle.um_value.specs.ValueSyntax.{ValueSyntax, ValueSyntaxes, raw_truth, raw_number, raw_list, raw_record, raw_none, raw_more}
 use Rattle.um_value.specs.ValueGrammar.{FieldsSpell}
 use Rattle.um_value.specs.ValueMachine.{Frame, InList, InRecord, ValueState, Need, Begun, Negative, Counted, InNote, NeedName, NeedEqual, Have, NoValue, truth_begin, number_begin, list_begin, open_fields, open_record, record_begin, begin, begun, negative_act, named, equal_act, item_end, next_end, last_end, ended, counted, note_end, note_ends, note_goes, value_step, whole, value_finish}
-use Rattle.um_value.proofs.NotesRead.{found_is_note}
 use Rattle.um_value.proofs.ValueFrom.{Closes, From, behind_last}
 
 module _ (records : List RecordTree) where
@@ -105,7 +105,7 @@ module _ (records : List RecordTree) where
   angle_back : (frames : List Frame) (at : ℕ) (negative : Bool) (value : Frac) (glued : Bool) (x : Token) (tokens : List Token) (u : ValueSyntax) → x.kind ≡ kind.Sign symbol.Less → x.glued ≡ glued
       → From records (cond glued (InNote frames at negative value NeedNote) NoValue) tokens u → From records (Counted frames at negative value) (x ∷ tokens) u
   angle_back frames at negative value true x tokens u e g (inside, last, rest, n, parts, found, f, c) =
-      (Some n, rest, (tokens, inside, last, (x, e, g, refl), parts, found_is_note inside n found, f), c)
+      (Some n, rest, (tokens, inside, last, (x, e, g, refl), parts, notes_read.found inside n found, f), c)
   angle_back frames at negative value false x tokens u e g h = absurd h
 
   plain_back : (frames : List Frame) (at : ℕ) (negative : Bool) (value : Frac) (k : Kind) (x : Token) (tokens : List Token) (u : ValueSyntax) → x.kind ≡ k → From records (ended frames (raw_number at negative value None) k) tokens u

@@ -15,10 +15,10 @@ use Rattle.um_reader.specs.Machine.{runs}
 use Rattle.um_reader.proofs.Reaching.{runs_append}
 use Rattle.um_reader.proofs.Readers.{one_more}
 use Rattle.um_types.specs.NoteMachine.{NoteState, NeedNote, HaveHole, InUnit, NoNote, note_step, note_finish, machine_of_notes}
+use Rattle.um_types.proofs.ReaderLaws.{notes_read}
 use Rattle.um_value.specs.ValueSyntax.{ValueSyntax, raw_number, raw_list, raw_record, raw_none, raw_more, behind}
 use Rattle.um_value.specs.ValueGrammar.{IsShapeIn, value_height}
 use Rattle.um_value.specs.ValueMachine.{Frame, InList, InRecord, ValueState, Need, Begun, Negative, Counted, InNote, NeedName, NeedEqual, Have, NoValue, truth_begin, number_begin, list_begin, open_fields, open_record, record_begin, begin, begun, negative_act, named, equal_act, item_end, next_end, last_end, ended, counted, note_end, note_ends, note_goes, value_step, frames_height, value_least}
-use Rattle.um_value.proofs.NotesRead.{note_is_found, note_ends as note_completes}
 use Rattle.um_value.proofs.ValueFrom.{Closes, From}
 use Rattle.um_value.proofs.ValueHeights.{behind_height}
 use Rattle.um_value.proofs.ValueTexts.{sign_token, name_token, number_token, zero_number, HasText, ShapesIn, FieldsHave, named_spells, MoreFields, more_fields}
@@ -198,9 +198,9 @@ module _ (records : List RecordTree) where
 
     note_ends_so : (frames : List Frame) (at : ℕ) (negative : Bool) (value : Frac) (note : NoteState) → FramesIn frames → NoteBegun note → Completion (InNote frames at negative value note)
     note_ends_so frames at negative value note h b =
-        let e = note_completes b.0 (λ g. b.2 (b.1 ∙ g)) in
+        let e = notes_read.completed b.0 (λ g. b.2 (b.1 ∙ g)) in
         let found : note_finish (runs note_step note e.0) ≡ Some e.1 =
-        ap (λ m. note_finish (runs note_step m e.0)) b.1 ∙ ap note_finish (sym (runs_append note_step b.0 e.0 NeedNote)) ∙ note_is_found (b.0 ++ e.0) e.1 e.2 in
+        ap (λ m. note_finish (runs note_step m e.0)) b.1 ∙ ap note_finish (sym (runs_append note_step b.0 e.0 NeedNote)) ∙ notes_read.finds (b.0 ++ e.0) e.1 e.2 in
         let p = closing frames (raw_number at negative value (Some e.1)) h in
         let same = p.3 in
         let high = e.3 in

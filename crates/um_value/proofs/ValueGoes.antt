@@ -16,12 +16,21 @@ use Rattle.um_reader.specs.Machine.{runs}
 use Rattle.um_reader.proofs.Reaching.{runs_refused}
 use Rattle.um_reader.proofs.Readers.{none_some}
 use Rattle.um_types.specs.TypeGrammar.{FirstSign}
-use Rattle.um_types.specs.NoteMachine.{NoteState, NeedNote, NoNote, note_act, note_step, note_finish}
+use Rattle.um_types.specs.UnitTokens.{sign}
+use Rattle.um_types.specs.NoteMachine.{NoteState, NeedNote, HaveHole, InUnit, NoNote, unit_goes, note_act, note_step, note_finish}
+use Rattle.um_types.proofs.ForeignTokens.{foreign_refused}
+use Rattle.um_types.proofs.ReaderLaws.{notes_read}
 use Rattle.um_value.specs.ValueSyntax.{ValueSyntax, ValueSyntaxes, raw_truth, raw_number, raw_list, raw_record, raw_none, raw_more, behind}
 use Rattle.um_value.specs.ValueGrammar.{WrittenSpells, PlainSpells, NamedSpells, Spells, ItemsSpell, FieldsSpell}
 use Rattle.um_value.specs.ValueMachine.{Frame, InList, InRecord, ValueState, Need, Begun, Negative, Counted, InNote, NeedName, NeedEqual, Have, NoValue, truth_begin, number_begin, list_begin, open_fields, open_record, record_begin, begin, begun, negative_act, named, equal_act, item_end, next_end, last_end, ended, counted, note_end, note_ends, note_goes, value_step, whole, value_finish}
-use Rattle.um_value.proofs.NotesRead.{note_is_found, greater_refused}
 use Rattle.um_value.proofs.ValueFrom.{Closes, From, no_first, nothing_behind, same_head, same_tail, first_kind, first_number, first_glued, behind_last, note_goes_on}
+
+-- `>` stands in no note
+greater_refused : (n : NoteState) (at : ℕ) → note_act n (kind.Sign symbol.Greater) at ≡ NoNote
+greater_refused NeedNote at = refl
+greater_refused (HaveHole place) at = refl
+greater_refused (InUnit place u) at = ap (unit_goes place) (foreign_refused u (sign symbol.Greater) at refl)
+greater_refused NoNote at = refl
 
 pub no_bracket : (records : List RecordTree) (frames : List Frame) (t : ShapeTree) (at : ℕ) → begin records frames t (kind.Sign symbol.RightBracket) at ≡ NoValue
 no_bracket records frames bool_shape at = refl
@@ -155,7 +164,7 @@ module _ (records : List RecordTree) where
   step_goes (Counted frames at negative value) x tokens u (Some n, rest, w, c) =
       let k = first_glued x tokens w.0 w.3 in
       subst (λ what. From records (counted frames at negative value what x.glued) tokens u) (sym k.0)
-      (subst (λ g. From records (cond g (InNote frames at negative value NeedNote) NoValue) tokens u) (sym k.1) (w.1, w.2, rest, n, k.2 ∙ w.4, note_is_found w.1 n w.5, w.6, c))
+      (subst (λ g. From records (cond g (InNote frames at negative value NeedNote) NoValue) tokens u) (sym k.1) (w.1, w.2, rest, n, k.2 ∙ w.4, notes_read.finds w.1 n w.5, w.6, c))
   step_goes (InNote frames at negative value note) x tokens u h = in_note frames at negative value note x tokens u h
   step_goes (NeedName frames f) x tokens u (v, mid, p, c) =
       let k = first_kind (kind.Name f.name) x tokens p.0 p.2 in

@@ -7,7 +7,6 @@
 mod frame;
 mod inputs;
 pub mod laws;
-mod measures;
 mod names;
 mod raw;
 mod read;

@@ -14,13 +14,12 @@ ghost use Rattle.um_value.specs.InputRead.{IsInputOf};
 ghost use Rattle.um_value.specs.ReadingParts.{IsLexed, IsRawOf, IsNamed};
 
 use crate::inputs::input_of;
-use crate::measures::measures_of;
 use crate::names::name_fault;
 use crate::raw::RawValue;
 use crate::reading::read_raw;
 use crate::stop::InputStop;
 use std::alloc::Global;
-use um_measures::{Abbreviations, Measures};
+use um_measures::{Abbreviations, Measures, measures_of};
 use um_reader::ReadStop;
 use um_syntax::{LexStop, Token, Tokens, lex};
 use um_tree::{Input, Program, Shape};

@@ -8,7 +8,7 @@ pub mod Counting
 pub mod Laws
 -- What mirrors the code: what an operation gives, what it leaves on the stack, what a step of a run comes to, and how
 -- far a machine is.
-pub mod Words
+pub mod Applying
 pub mod Placing
 pub mod Stepping
 pub mod Phases

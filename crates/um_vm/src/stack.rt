@@ -4,7 +4,7 @@ ghost use Rattle.um_cells.specs.Holding.{AllHold};
 use crate::stop::Stop;
 use crate::words::{put_values, settle, settle_two, word_above};
 use std::alloc::Global;
-use um_cells::{Store, Word};
+use um_cells::{Store, Word, WordOutcome};
 use um_tree::Values;
 use um_units::NoMemory;
 
@@ -22,7 +22,7 @@ impl Stack {
     ghost use Rattle.um_tree.specs.Meaning.{Stop as MeaningStop, longer};
     ghost use Rattle.um_cells.specs.Stores.{DenotesIn, HasValue};
     ghost use Rattle.um_cells.specs.Holding.{HoldsIn};
-    ghost use Rattle.um_vm.specs.Words.{IsDone};
+    ghost use Rattle.um_cells.specs.Operations.{IsOutcome};
     ghost use Rattle.um_vm.specs.Carrying.{Carries};
     ghost use Rattle.um_vm.specs.Placing.{Placed};
 
@@ -129,15 +129,16 @@ impl Stack {
     }
 
     /// What an operation gave in place of the words from the place on.
-    pub(crate) fn put(&mut self, at: usize, done: Result<Word, Stop>) -> Result<(), Stop>
+    pub(crate) fn put(&mut self, at: usize, outcome: WordOutcome) -> Result<(), Stop>
         requires place { at ≤ length self.old.words.items }
-        requires value { (r : Result ValueTree MeaningStop) × IsDone self.old.store r done }
+        requires value { (r : Result ValueTree MeaningStop) × IsOutcome self.old.store r outcome }
         ensures { (vs : List ValueTree) (r : Result ValueTree MeaningStop) → Carries self.old vs
-            → IsDone self.old.store r done → Placed self.new (take at vs) r result }
+            → IsOutcome self.old.store r outcome → Placed self.new (take at vs) r result }
     {
-        match done {
-            Ok(word) => self.settle(at, word),
-            Err(stop) => Err(stop),
+        match outcome {
+            WordOutcome::Value(word) => self.settle(at, word),
+            WordOutcome::Trap(trap) => Err(Stop::Trap(trap)),
+            WordOutcome::Wrong => Err(Stop::Stuck),
         }
     }
 

@@ -11,6 +11,7 @@ use Rattle.um_names.specs.SignatureNames.{SignatureTypes, resolved_signature}
 use Rattle.um_measures.specs.Stops.{IsFirst}
 use Rattle.um_names.specs.Tables.{known_of}
 use Rattle.um_names.proofs.SignatureHeads.{signature_alike}
+use Rattle.um_names.proofs.NeverTwice.{no_twice, signature_is_never_twice}
 use Rattle.um_names.proofs.signatures.types_of.Goals as goal
 
 pub returns-clause-exact : goal.returns-clause-exact
@@ -32,3 +33,9 @@ returns-clause-faults c =
     let whole : resolved_signature t (map type_syntax c.deref.result.now) ≡ resolved_signature (given p ss) ts =
     ap (λ (rs : List RawType). resolved_signature t (map type_syntax rs)) c.deref.ensures.value ∙ ap (λ (k : Known). resolved_signature k ts) c.in_ok-tables.ensures.known ∙ signature_alike p ss ts in
     subst (λ (r : Found SignatureTypes). IfErr c.signature.result (IsFirst r)) whole c.signature.ensures.faults
+
+pub returns-clause-never_twice : goal.returns-clause-never_twice
+returns-clause-never_twice c =
+    let t = known_of c.in_ok-tables.tables in
+    let ts = map type_syntax c.deref.result.now in
+    no_twice (resolved_signature t ts) c.signature.result (signature_is_never_twice t ts) c.signature.ensures.faults

@@ -1,4 +1,5 @@
 use Rattle.std.proofs.Common.{refl, sym, ◌∙◌}
+use Rattle.um_sig.proofs.UniqueReadings.{readings_are_unique}
 use Rattle.um_tool.specs.Orders.{NamesUnbuilt}
 use Rattle.um_tool.proofs.Serving.{if_ok, unbuilt_planned, usage_planned, planned_read_fault, planned_write_fault}
 use Rattle.um_tool.proofs.Complete.{planned_complete}
@@ -37,5 +38,5 @@ returns-in-Some-clause-not_write_fault g c =
 pub returns-in-Some-clause-complete : goal.returns-in-Some-clause-complete
 returns-in-Some-clause-complete g c =
     if_ok c.reply_to_order.result
-    (λ reply planned undisturbed. planned_complete c.readings.ensures c.args.words.now (g.S.Source.left c.args.source.now) _ _ reply.text.items reply.status planned undisturbed)
+    (λ reply planned undisturbed. planned_complete readings_are_unique c.args.words.now (g.S.Source.left c.args.source.now) _ _ reply.text.items reply.status planned undisturbed)
     c.reply_to_order.ensures.planned

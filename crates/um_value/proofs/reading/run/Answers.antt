@@ -1,11 +1,12 @@
 use Rattle.std.proofs.Common.{rules, ◌≡◌, ◌≤◌, arith, sym, subst, map, get_or}
 use Rattle.um_tree.specs.TypeTree.{shape_tree}
 use Rattle.um_tree.specs.ProgramTree.{record_tree}
+use Rattle.um_reader.proofs.Loop.{goes, too_high}
 use Rattle.um_types.specs.UnitStops.{greatest_height}
 use Rattle.um_value.specs.ValueSyntax.{value_syntax}
 use Rattle.um_value.specs.ValueMachine.{value_least, machine_of_values}
 use Rattle.um_value.specs.ValueView.{value_state}
-use Rattle.um_value.proofs.ValueLoop.{goes, too_high, stops}
+use Rattle.um_value.proofs.ValueLoop.{stops}
 use Rattle.um_value.proofs.reading.run.Goals as goal
 
 pub loop-i-init : goal.loop-i-init
@@ -41,4 +42,4 @@ returns-in-Ok-High c =
     let same : get_or c.args.tokens.now c.loop-i.i x ≡ x = search (rules, c.index-tokens-i.is) in
     let given = rw c.in-Ok-High.field-0-is at c.in-Ok-High.ensures in
     rw c.stopped-in-Ok-High.ensures
-    (too_high m greatest_height c.args.tokens.now value_syntax c.loop-i.i x (value_state c.loop-i.reader) (value_state c.take.new.self) c.loop-i-test.true same c.loop-i.invariant (given s))
+    (too_high m greatest_height c.args.tokens.now c.loop-i.i x (value_state c.loop-i.reader) (value_state c.take.new.self) c.loop-i-test.true same c.loop-i.invariant (given s))

@@ -1,6 +1,6 @@
 use Rattle.std.proofs.Common.{take}
 use Rattle.um_machine.specs.Machine.{after, pushes}
-use Rattle.um_vm.specs.Words.{applied}
+use Rattle.um_vm.specs.Applying.{applied}
 use Rattle.um_vm.specs.Going.{state_of}
 use Rattle.um_vm.proofs.Settled.{value_held}
 use Rattle.um_vm.proofs.Acted.{one_taken, one_missing, same_step}

@@ -1,6 +1,6 @@
 use Rattle.std.proofs.Common.{◌+◌, ◌≡◌, ◌∙◌, ap, true, false, Some, take}
+use Rattle.um_cells.specs.Operations.{truth_in}
 use Rattle.um_machine.specs.Machine.{goes}
-use Rattle.um_vm.specs.Words.{truth_in}
 use Rattle.um_vm.specs.Going.{state_of}
 use Rattle.um_vm.proofs.Acted.{branches, no_branch, same_step}
 use Rattle.um_vm.proofs.run.Run.branch.Goals as goal

@@ -1,10 +1,13 @@
 -- Nothing is declared in a signature text, so nothing is declared twice.
-use Rattle.std.proofs.Common.{◌≡◌, ℕ, Bool, true, false, cond, List, [], ◌∷◌, length, ap}
-use Rattle.std.specs.Prelude.{◌==◌, Option, Some, None, Ok, Err, slice_get}
+use Rattle.std.proofs.Common.{◌≡◌, ◌≢◌, ℕ, Bool, true, false, cond, List, [], ◌∷◌, length, ap, subst}
+use Rattle.std.specs.Prelude.{◌==◌, Option, Some, None, Result, Ok, Err, slice_get, IfErr}
 use Rattle.um_tree.specs.TypeTree.{num_note, list_note, record_note}
 use Rattle.um_tree.specs.ProgramTree.{RecordTree}
 use Rattle.um_tree.specs.declared.note.UnitNote.TheVariants as note
 use Rattle.um_tree.specs.RawTree.{UnitSyntax, NoteSyntax, hole_syntax, unit_note_syntax, TypeSyntax, bool_syntax, num_syntax, record_syntax, list_type_syntax, bracket_type_syntax}
+use Rattle.um_measures.specs.declared.stop.NameStop.{NameStop}
+use Rattle.um_measures.specs.declared.stop.NameStop.TheVariants.{Twice}
+use Rattle.um_measures.specs.Stops.{IsFirst}
 use Rattle.um_measures.specs.Faults.{Fault, twice, wrong_count, range, Found, and_then, each}
 use Rattle.um_measures.specs.Known.{Known, number_of, record_names, measure_unit}
 use Rattle.um_measures.specs.UnitNames.{first_place, unknown_in, unit_of, parts_fit, ranged, resolved_unit}
@@ -102,3 +105,8 @@ signature_is_never_twice known ts =
     (all_type_names_never known variables ts)
     (λ _. then_never (resolved_types known variables ts) (λ types. Ok (let found : SignatureTypes = record { types = types; vars = length variables } in found))
     (each_never (one_type known variables) (one_never known variables) ts) (λ types b e. cc))
+
+-- a first fault that is never that of a second declaration is refused as none
+pub no_twice : {T A : Type 0} → (found : Found A) (r : Result T NameStop) → IsNeverTwice found → IfErr r (IsFirst found) → IfErr r (λ stop. (at : ℕ) → stop ≢ Twice at)
+no_twice found (Ok x) never h = tt
+no_twice found (Err stop) never h = λ at same. never at (subst (IsFirst found) same h)

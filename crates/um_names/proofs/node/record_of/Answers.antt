@@ -6,7 +6,7 @@ use Rattle.um_names.specs.Tables.{known_of}
 use Rattle.um_names.specs.ExprNames.{field_of, found_record}
 use Rattle.um_measures.proofs.Stages.{map_from_more}
 use Rattle.um_names.proofs.FieldNames.{record_text_is, found_number, no_number}
-use Rattle.um_names.proofs.expr.record_of.Goals as goal
+use Rattle.um_names.proofs.node.record_of.Goals as goal
 
 pub returns-clause-exact : goal.returns-clause-exact
 returns-clause-exact c =

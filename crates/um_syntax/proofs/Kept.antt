@@ -1,0 +1,175 @@
+-- Characters that keep what has begun.
+use Rattle.std.proofs.Common.{◌≡◌, ℕ, zero, suc, ◌+◌, ◌<◌, ◌≤◌, true, false, eqb, List, [], ◌∷◌, ◌++◌, length, take, drop, get_or, Option, None, Some, Ok, refl, sym, ap, subst, ◌∙◌, arith, append_assoc}
+use Rattle.std.proofs.lemmas.Bool.{false≢true}
+use Rattle.std.proofs.lemmas.List.{take_more, append-nil, drop-take, take-take, take-append-drop}
+use Rattle.std.proofs.Math.Seq.{take-append_seam}
+use Rattle.std.proofs.lemmas.Str.{encode_ascii, len_utf8_ascii, encodes-IsAscii, chars-IsAscii, scalars-chars, IsUtf8-from_ascii, IsUtf8-take, IsUtf8-past_char, IsCharBoundary-from_take, IsCharBoundary-at_seam, length-encode, chars-append, chars-nil, chars_past_char}
+use Rattle.std.specs.Char.{len_utf8}
+use Rattle.std.specs.Str.{IsAscii, IsUtf8, IsCharBoundary, chars}
+use lib.Utf8.{encode, scalar, scalars}
+use Rattle.unicode_ident.proofs.IdentLemmas.{is_xid_continue-ascii}
+use Rattle.um_syntax.specs.declared.token.Token.{Token}
+use Rattle.um_syntax.specs.declared.token.TextStop.{TextStop}
+use Rattle.um_syntax.specs.declared.pending.Pending.{Pending}
+use Rattle.um_syntax.specs.declared.pending.Pending.TheVariants as pending
+use Rattle.um_syntax.specs.Gap.{is_space, IsLine}
+use Rattle.um_syntax.specs.Lexing.{size_of}
+use Rattle.um_syntax.specs.Machine.{Scan, scan_start, keeps, AllKept, step, steps}
+use Rattle.um_syntax.specs.Feeding.{CountsLines, HasScanned}
+use Rattle.um_syntax.proofs.Places.{size_of-encodes}
+use Rattle.um_syntax.proofs.Runs.{steps-append}
+use Rattle.um_syntax.proofs.Feeds.{and_true, and_parts}
+
+-- a byte that keeps something is ASCII, and no line feed
+keeps_ascii : (p : Pending) (b : ℕ) → keeps p b ≡ true → (b < 128) × (eqb b 10 ≡ false)
+keeps_ascii pending.Free b h = grind arith
+keeps_ascii pending.Comment b h = grind arith
+keeps_ascii (pending.Identifier start) b h = grind arith
+keeps_ascii pending.Start b h = absurd (false≢true h)
+keeps_ascii (pending.Quote start) b h = absurd (false≢true h)
+keeps_ascii (pending.Variable start last) b h = absurd (false≢true h)
+keeps_ascii (pending.Number start end part figures) b h = absurd (false≢true h)
+keeps_ascii (pending.Symbol start first) b h = absurd (false≢true h)
+
+pub kept_ascii : (p : Pending) (bs : List ℕ) → AllKept p bs → IsAscii bs
+kept_ascii p [] h i = omega arith
+kept_ascii p (b ∷ bs) h zero = (keeps_ascii p b h.0).0
+kept_ascii p (b ∷ bs) h (suc i) = kept_ascii p bs h.1 i
+
+kept_line : (p : Pending) (bs : List ℕ) → AllKept p bs → IsLine bs
+kept_line p [] h = tt
+kept_line p (b ∷ bs) h = ((keeps_ascii p b h.0).1, kept_line p bs h.1)
+
+AllKept-snoc : (p : Pending) (bs : List ℕ) (b : ℕ) → AllKept p bs → keeps p b ≡ true → AllKept p (bs ++ b ∷ [])
+AllKept-snoc p [] b h k = (k, tt)
+AllKept-snoc p (a ∷ bs) b h k = (h.0, AllKept-snoc p bs b h.1 k)
+
+pub kept_more : (p : Pending) (bs : List ℕ) (n d : ℕ) → AllKept p (take n bs) → n < length bs → keeps p (get_or bs n d) ≡ true → AllKept p (take (n + 1) bs)
+kept_more p bs n d h l k = subst (AllKept p) (sym (take_more bs n d l)) (AllKept-snoc p (take n bs) (get_or bs n d) h k)
+
+-- the letters with those of the bytes
+abbrev pub kept_letters : Pending → List ℕ → List ℕ
+kept_letters (pending.Identifier start) bs = bs
+kept_letters _ bs = []
+
+abbrev pub scan_with : ℕ → List Token → List ℕ → Pending → Scan
+scan_with at tokens letters p = record { at = at; tokens = tokens; letters = letters; pending = p }
+
+step_identifier : (at : ℕ) (tokens : List Token) (letters : List ℕ) (start b : ℕ) → keeps (pending.Identifier start) b ≡ true
+    → step (scan_with at tokens letters (pending.Identifier start)) b ≡ Ok (scan_with (at + 1) tokens (letters ++ b ∷ []) (pending.Identifier start))
+step_identifier at tokens letters start b h =
+    let low = (keeps_ascii (pending.Identifier start) b h).0 in
+    rw (is_xid_continue-ascii b low ∙ h, len_utf8_ascii b low, encode_ascii b low) refl
+
+step_comment : (at : ℕ) (tokens : List Token) (letters : List ℕ) (b : ℕ) → keeps pending.Comment b ≡ true
+    → step (scan_with at tokens letters pending.Comment) b ≡ Ok (scan_with (at + 1) tokens letters pending.Comment)
+step_comment at tokens letters b h =
+    let k = keeps_ascii pending.Comment b h in
+    rw (len_utf8_ascii b k.0, k.1) refl
+
+step_blank : (at : ℕ) (tokens : List Token) (letters : List ℕ) (b : ℕ) → keeps pending.Free b ≡ true
+    → step (scan_with at tokens letters pending.Free) b ≡ Ok (scan_with (at + 1) tokens letters pending.Free)
+step_blank at tokens letters b h =
+    let low = (keeps_ascii pending.Free b h).0 in
+    let space : is_space b ≡ true = grind arith in
+    rw (space, len_utf8_ascii b low) refl
+
+no_letters : (p : Pending) → kept_letters p [] ≡ []
+no_letters (pending.Identifier start) = refl
+no_letters pending.Comment = refl
+no_letters pending.Free = refl
+no_letters pending.Start = refl
+no_letters (pending.Quote start) = refl
+no_letters (pending.Variable start last) = refl
+no_letters (pending.Number start end part figures) = refl
+no_letters (pending.Symbol start first) = refl
+
+pub no_letters_kept : (p : Pending) (bs : List ℕ) → ((start : ℕ) → p ≡ pending.Identifier start → ⊥) → kept_letters p bs ≡ []
+no_letters_kept (pending.Identifier start) bs none = absurd (none start refl)
+no_letters_kept pending.Comment bs none = refl
+no_letters_kept pending.Free bs none = refl
+no_letters_kept pending.Start bs none = refl
+no_letters_kept (pending.Quote start) bs none = refl
+no_letters_kept (pending.Variable start last) bs none = refl
+no_letters_kept (pending.Number start end part figures) bs none = refl
+no_letters_kept (pending.Symbol start first) bs none = refl
+
+-- the machine after bytes that keep what has begun
+pub steps_kept : (at : ℕ) (tokens : List Token) (letters : List ℕ) (p : Pending) (bs : List ℕ) → AllKept p bs
+    → steps (Ok (scan_with at tokens letters p)) bs ≡ Ok (scan_with (at + length bs) tokens (letters ++ kept_letters p bs) p)
+steps_kept at tokens letters p [] h =
+    let here : at ≡ at + 0 = omega arith in
+    ap (λ l. Ok (scan_with at tokens l p)) (sym (append-nil letters) ∙ ap (λ l. letters ++ l) (sym (no_letters p)))
+    ∙ ap (λ n. Ok (scan_with n tokens (letters ++ kept_letters p []) p)) here
+steps_kept at tokens letters (pending.Identifier start) (b ∷ bs) h =
+    let there : at + 1 + length bs ≡ at + length (b ∷ bs) = omega arith in
+    ap (λ r. steps r bs) (step_identifier at tokens letters start b h.0)
+    ∙ steps_kept (at + 1) tokens (letters ++ b ∷ []) (pending.Identifier start) bs h.1
+    ∙ ap (λ n. Ok (scan_with n tokens ((letters ++ b ∷ []) ++ bs) (pending.Identifier start))) there
+    ∙ ap (λ l. Ok (scan_with (at + length (b ∷ bs)) tokens l (pending.Identifier start))) (append_assoc letters (b ∷ []) bs)
+steps_kept at tokens letters pending.Comment (b ∷ bs) h =
+    let there : at + 1 + length bs ≡ at + length (b ∷ bs) = omega arith in
+    ap (λ r. steps r bs) (step_comment at tokens letters b h.0)
+    ∙ steps_kept (at + 1) tokens letters pending.Comment bs h.1
+    ∙ ap (λ n. Ok (scan_with n tokens (letters ++ []) pending.Comment)) there
+steps_kept at tokens letters pending.Free (b ∷ bs) h =
+    let there : at + 1 + length bs ≡ at + length (b ∷ bs) = omega arith in
+    ap (λ r. steps r bs) (step_blank at tokens letters b h.0)
+    ∙ steps_kept (at + 1) tokens letters pending.Free bs h.1
+    ∙ ap (λ n. Ok (scan_with n tokens (letters ++ []) pending.Free)) there
+steps_kept at tokens letters pending.Start (b ∷ bs) h = absurd (false≢true h.0)
+steps_kept at tokens letters (pending.Quote start) (b ∷ bs) h = absurd (false≢true h.0)
+steps_kept at tokens letters (pending.Variable start last) (b ∷ bs) h = absurd (false≢true h.0)
+steps_kept at tokens letters (pending.Number start end part figures) (b ∷ bs) h = absurd (false≢true h.0)
+steps_kept at tokens letters (pending.Symbol start first) (b ∷ bs) h = absurd (false≢true h.0)
+
+-- what a lexer has read, with such bytes
+scalars-both : (cs ds : List ℕ) → scalars cs ≡ true → scalars ds ≡ true → scalars (cs ++ ds) ≡ true
+scalars-both [] ds e f = f
+scalars-both (c ∷ cs) ds e f = let h = and_parts (scalar c) (scalars cs) e in and_true (scalar c) (scalars (cs ++ ds)) h.0 (scalars-both cs ds h.1 f)
+
+pub scalars_kept : (cs : List ℕ) (p : Pending) (bs : List ℕ) → scalars cs ≡ true → AllKept p bs → scalars (cs ++ bs) ≡ true
+scalars_kept cs p bs e h =
+    let ascii = kept_ascii p bs h in
+    scalars-both cs bs e (ap scalars (sym (chars-IsAscii bs ascii)) ∙ scalars-chars bs (IsUtf8-from_ascii bs ascii))
+
+pub size_of-kept : (p : Pending) (bs : List ℕ) → AllKept p bs → size_of bs ≡ length bs
+size_of-kept p bs h = size_of-encodes bs ∙ ap length (encodes-IsAscii bs (kept_ascii p bs h))
+
+pub scanned_kept : (f : Option TextStop) (scan new : Scan) (cs bs : List ℕ) → f ≡ None → HasScanned f scan cs → steps (Ok scan) bs ≡ Ok new → HasScanned f new (cs ++ bs)
+scanned_kept None scan new cs bs none h e = steps-append (Ok scan_start) cs bs ∙ ap (λ r. steps r bs) h ∙ e
+scanned_kept (Some t) scan new cs bs none h e = absurd (some_none none)
+  where
+    some_none : Some t ≡ None → ⊥
+    some_none e = cc
+
+IsLine-both : (xs ys : List ℕ) → IsLine xs → IsLine ys → IsLine (xs ++ ys)
+IsLine-both [] ys l m = m
+IsLine-both (x ∷ xs) ys l m = (l.0, IsLine-both xs ys l.1 m)
+
+pub counts_kept : (n : ℕ) (cs : List ℕ) (p : Pending) (bs : List ℕ) → AllKept p bs → CountsLines n cs → CountsLines n (cs ++ bs)
+counts_kept n cs p bs h k = (k.0, k.1 ++ bs, ap (λ x. x ++ bs) k.2 ∙ append_assoc k.0 k.1 bs, k.3, IsLine-both k.1 bs k.4 (kept_line p bs h), k.5)
+
+-- where such bytes end, a character does
+pub kept_boundary : (p : Pending) (text : List ℕ) (n : ℕ) → IsUtf8 text → n ≤ length text → AllKept p (take n text) → IsCharBoundary text n
+kept_boundary p text n utf8 within h = IsCharBoundary-from_take text n utf8 within (IsUtf8-from_ascii (take n text) (kept_ascii p (take n text) h))
+
+pub kept_chars : (p : Pending) (bs : List ℕ) → AllKept p bs → chars bs ≡ bs
+kept_chars p bs h = chars-IsAscii bs (kept_ascii p bs h)
+
+-- the character at the front of a text
+pub first_char : (text rest : List ℕ) (c : ℕ) → IsUtf8 text → text ≡ encode c ++ rest → IsCharBoundary text (len_utf8 c) × (chars (take (len_utf8 c) text) ≡ c ∷ [])
+first_char text rest c utf8 e =
+    let boundary = subst (IsCharBoundary text) (length-encode c) (IsCharBoundary-at_seam text (encode c) rest e (IsUtf8-past_char text rest c utf8 e)) in
+    let front = subst (λ n. take n text ≡ encode c) (length-encode c) (ap (take (length (encode c))) e ∙ take-append_seam (encode c) rest) in
+    (boundary, chars_past_char (take (len_utf8 c) text) [] c (IsUtf8-take text (len_utf8 c) utf8 boundary) (front ∙ sym (append-nil (encode c))) ∙ ap (λ l. c ∷ l) chars-nil)
+
+-- the characters of a text up to a place behind another
+pub chars_on : (text : List ℕ) (at n : ℕ) → IsUtf8 text → IsCharBoundary text at → chars (take at text) ++ chars (take n (drop at text)) ≡ chars (take (at + n) text)
+chars_on text at n utf8 boundary =
+    sym (chars-append (take at text) (take n (drop at text)) (IsUtf8-take text at utf8 boundary))
+    ∙ ap chars (
+    ap (λ l. take at text ++ l) (sym (drop-take at n text))
+    ∙ ap (λ l. l ++ drop at (take (at + n) text)) (sym (take-take at (at + n) text (omega arith)))
+    ∙ take-append-drop at (take (at + n) text)
+    )
