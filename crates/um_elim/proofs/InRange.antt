@@ -1,19 +1,17 @@
 -- Powers in range: the quotients of a unit, and a unit in which 1 is put for a variable.
-use Rattle.std.proofs.Common.{◌≡◌, ℕ, ◌<◌, ◌≤◌, false, Some, List, [], ◌∷◌, map, ℤ, pos, negsuc, ◌+ℤ◌, ◌*ℤ◌, neg_ℤ, nat_abs, refl, sym, ap, ◌∙◌, subst, arith, to_z, of_z, w32}
+use Rattle.std.proofs.Common.{◌≡◌, ℕ, ◌<◌, ◌≤◌, false, Some, ℤ, pos, negsuc, ◌+ℤ◌, ◌*ℤ◌, neg_ℤ, nat_abs, refl, sym, ap, ◌∙◌, subst, arith, to_z, of_z, w32}
 use Rattle.std.specs.Prelude.{IsTrue, Bool, Result, Ok, Err, IfErr}
 use Rattle.um_units.specs.declared.UnitStop.{UnitStop}
 use Rattle.um_units.specs.declared.UnitStop.TheVariants.{Range, NoMemory}
 use Rattle.std.specs.Int.{int_div_euclid}
-use Rattle.std.specs.List.{list_all}
 use Rattle.std.proofs.lemmas.Int.{ints}
-use Rattle.std.proofs.lemmas.Bool.{and_parts, and_from}
 use Rattle.um_units.specs.declared.Atom.{Atom}
 use Rattle.um_units.specs.declared.Atom.TheVariants.{Var}
 use Rattle.um_units.specs.Atoms.{same_atom}
 use Rattle.um_units.specs.NormalForm.{same_atom-eq}
 use Rattle.um_units.specs.Terms.{indicator}
 use Rattle.um_units.specs.PowerMap.{PowerMap, power_of, one, atom, inv, replace}
-use Rattle.um_units.specs.Range.{fits, IsStopUnless, RangeUnless}
+use Rattle.um_units.specs.Range.{fits, RangeUnless}
 use Rattle.um_units.proofs.Group.{weight-inv, power_of-atom, power_of-other_atom}
 use Rattle.um_units.proofs.InRange.{fits-power_of, fits_from_powers}
 use Rattle.um_elim.specs.declared.pivot.Pivot.{Pivot}
@@ -39,7 +37,7 @@ fits-quotients m p r h f = fits_from_powers (quotients m p r) (λ y.
     let i = fits-power_of r f y in omega (arith, z, l, i)))
 
 -- ---- 1 for a variable
-power_of-substitute_one : (m : ℕ) (u : PowerMap) (x : Atom) → same_atom x (Var m) ≡ false → power_of (replace (substitute m one) u) x ≡ power_of u x
+pub power_of-substitute_one : (m : ℕ) (u : PowerMap) (x : Atom) → same_atom x (Var m) ≡ false → power_of (replace (substitute m one) u) x ≡ power_of u x
 power_of-substitute_one m u x e =
     ap (λ s. power_of (replace s u) x) (sym (substitute-one m)) ∙ power_of-multiply m (inv (atom (Var m))) u x
     ∙ ap (λ n. power_of u x +ℤ power_of u (Var m) *ℤ n) (weight-inv (indicator x) (atom (Var m)) ∙ ap neg_ℤ (power_of-other_atom x (Var m) e))
@@ -64,10 +62,6 @@ fits-substitute_one m u f = fits_from_powers (replace (substitute m one) u) (λ 
     let z : nat_abs (power_of (replace (substitute m one) u) x) ≡ 0 = ap (λ y. nat_abs (power_of (replace (substitute m one) u) y)) q ∙ ap nat_abs (power_of-substitute_one_same m u) in omega (arith, z))
     (λ e. let z = ap nat_abs (power_of-substitute_one m u x e) in let i = fits-power_of u f x in omega (arith, z, i)))
 
-pub all_fit-substitute_one : (m : ℕ) (us : List PowerMap) → IsTrue (list_all fits us) → IsTrue (list_all fits (map (replace (substitute m one)) us))
-all_fit-substitute_one m [] h = refl
-all_fit-substitute_one m (u ∷ us) h = let p = and_parts (fits u) (list_all fits us) h in and_from _ _ (fits-substitute_one m u p.0) (all_fit-substitute_one m us p.1)
-
 -- ---- the pivot's power
 pub pivot-in_range : (r : PowerMap) (p : Pivot) → IsTrue (fits r) → pivot r ≡ Some p → nat_abs p.power ≤ 2147483647
 pivot-in_range r p f e = subst (λ z. nat_abs z ≤ 2147483647) (is_pivot r p e).is (fits-power_of r f (Var p.variable))
@@ -84,7 +78,3 @@ pub only_memory : {X : Type 0} (r : Result X UnitStop) (b : Bool) → IsTrue b �
 only_memory (Ok x) b h k = tt
 only_memory (Err Range) b h k = cc
 only_memory (Err NoMemory) b h k = refl
-
-pub stops_for_memory : (b : Bool) → IsTrue b → (stop : UnitStop) → IsStopUnless b stop → stop ≡ NoMemory
-stops_for_memory b h Range k = cc
-stops_for_memory b h NoMemory k = refl

@@ -70,28 +70,33 @@ module _ (s : ℕ) (old new : PowerMap) where
       let more = subst (λ n. IsTrue (variables_below n ts)) (sym (length-followed_at index t.atom)) parts.1 in
       at_term t ts index normal k (at_terms ts (followed_at index t.atom s old new) (tail_normal t ts normal) more k) parts.0
 
+-- slot i gets the unit new: the list of a variable that names its holders follows, where the variable stands in the
+-- terms or stays as it was
+pub list_follows : (us : List PowerMap) (index : List (List ℕ)) (i : ℕ) (new : PowerMap) (ts : List Term) →
+    length index ≡ length us → i < length us → IsTrue (is_normal ts) → IsTrue (variables_below (length us) ts) →
+    (k : ℕ) → (member k (term_variables ts) ≡ false → holds k new ≡ holds k (get_or us i one)) → get_or index k [] ≡ holders us k →
+    get_or (followed_terms index ts i (get_or us i one) new) k [] ≡ holders (set us i new) k
+list_follows us index i new ts slots h normal below k same is =
+    let old = get_or us i one in
+    at_terms i old new ts index normal (subst (λ n. IsTrue (variables_below n ts)) (sym slots) below) k
+    ∙ on_test (member k (term_variables ts))
+    (λ e. ap (listed i old new index k) e ∙ ap (λ xs. followed xs i (holds k old) (holds k new)) is ∙ sym (holders_set k us i new h))
+    (λ e. ap (listed i old new index k) e ∙ is ∙ sym (holders_set_same k 0 us i new h (same e)))
+
 -- slot i gets the unit new, which holds the same variables but perhaps those that stand in the terms
 pub index_follows : (us : List PowerMap) (index : List (List ℕ)) (i : ℕ) (new : PowerMap) (ts : List Term) →
     IsIndex us index → i < length us → IsTrue (is_normal ts) → IsTrue (variables_below (length us) ts) →
     ((k : ℕ) → member k (term_variables ts) ≡ false → holds k new ≡ holds k (get_or us i one)) →
     VariablesBelow (length us) new → IsTrue (fits new) →
     IsIndex (set us i new) (followed_terms index ts i (get_or us i one) new)
-index_follows us index i new ts is h normal below same low fit = record {
-  slots = length-followed_terms i old new ts index ∙ is.slots ∙ sym (length-set us i new);
-  exact = λ k l. exact k (subst (λ n. k < n) (length-followed_terms i old new ts index) l);
-  variables = subst (λ n. All (VariablesBelow n) (set us i new)) (sym (length-set us i new)) (All-set (VariablesBelow (length us)) us i new low is.variables);
-  fit = All-set (λ u. IsTrue (fits u)) us i new fit is.fit;
-}
-  where
-    old : PowerMap
-    old = get_or us i one
-
-    exact : (k : ℕ) → k < length index → get_or (followed_terms index ts i old new) k [] ≡ holders (set us i new) k
-    exact k l =
-        at_terms i old new ts index normal (subst (λ n. IsTrue (variables_below n ts)) (sym is.slots) below) k
-        ∙ on_test (member k (term_variables ts))
-        (λ e. ap (listed i old new index k) e ∙ ap (λ xs. followed xs i (holds k old) (holds k new)) (is.exact k l) ∙ sym (holders_set k us i new h))
-        (λ e. ap (listed i old new index k) e ∙ is.exact k l ∙ sym (holders_set_same k 0 us i new h (same k e)))
+index_follows us index i new ts is h normal below same low fit =
+    let old = get_or us i one in
+    record {
+      slots = length-followed_terms i old new ts index ∙ is.slots ∙ sym (length-set us i new);
+      exact = λ k l. list_follows us index i new ts is.slots h normal below k (same k) (is.exact k (subst (λ n. k < n) (length-followed_terms i old new ts index) l));
+      variables = subst (λ n. All (VariablesBelow n) (set us i new)) (sym (length-set us i new)) (All-set (VariablesBelow (length us)) us i new low is.variables);
+      fit = All-set (λ u. IsTrue (fits u)) us i new fit is.fit;
+    }
 
 pub term_below : (n : ℕ) (ts : List Term) (i : ℕ) (d : Term) → i < length ts → IsTrue (variables_below n ts) → IsTrue (atom_below n (get_or ts i d).atom)
 term_below n [] i d h below = absurd (omega (arith, h))

@@ -29,16 +29,24 @@ not_held m w u h = multiply_nothing m w u (zero (power_of u (Var m)) h)
     zero : (z : ℤ) → not (is_zero z) ≡ false → z ≡ pos 0
     zero z e = on_test (is_zero z) (λ t. zero_is z t) (λ f. let g : not (is_zero z) ≡ true = ap not f in cc)
 
--- only the variables of w come or go
-pub held_alike : (m : ℕ) (w u : PowerMap) (k : ℕ) → member k (unit_variables w) ≡ false → holds k (replace (multiply m w) u) ≡ holds k u
-held_alike m w u k h =
-    elim (zero_cases (power_of w (Var k))) [
-      | inl e ↦ ap (λ z. not (is_zero z)) (power_of-multiply m w u (Var k) ∙ ap (λ z. power_of u (Var k) +ℤ power_of u (Var m) *ℤ z) e ∙ nothing (power_of u (Var k)) (power_of u (Var m)))
-      | inr held ↦ absurd (let g = held-member w k held in cc)
-    ]
+-- a variable that doesn't stand in w stays or stays away
+pub held_as_before : (m : ℕ) (w u : PowerMap) (k : ℕ) → power_of w (Var k) ≡ pos 0 → holds k (replace (multiply m w) u) ≡ holds k u
+held_as_before m w u k e =
+    ap (λ z. not (is_zero z)) (power_of-multiply m w u (Var k) ∙ ap (λ z. power_of u (Var k) +ℤ power_of u (Var m) *ℤ z) e ∙ nothing (power_of u (Var k)) (power_of u (Var m)))
   where
     nothing : (a b : ℤ) → a +ℤ b *ℤ pos 0 ≡ a
     nothing a b = omega (arith, ints)
+
+pub not_listed : (w : PowerMap) (k : ℕ) → member k (unit_variables w) ≡ false → power_of w (Var k) ≡ pos 0
+not_listed w k h =
+    elim (zero_cases (power_of w (Var k))) [
+      | inl e ↦ e
+      | inr held ↦ absurd (let g = held-member w k held in cc)
+    ]
+
+-- only the variables of w come or go
+pub held_alike : (m : ℕ) (w u : PowerMap) (k : ℕ) → member k (unit_variables w) ≡ false → holds k (replace (multiply m w) u) ≡ holds k u
+held_alike m w u k h = held_as_before m w u k (not_listed w k h)
 
 pub multiply_stays : (n m : ℕ) (w : PowerMap) → VariablesBelow n w → Stays n (multiply m w)
 multiply_stays n m w below k h =

@@ -10,6 +10,7 @@ mod Examples
 pub mod InRange
 mod Changes
 mod TurnSteps
+mod LastTurn
 pub mod Slots
 mod Added
 pub mod JointRows
@@ -22,5 +23,6 @@ pub mod Holders
 pub mod IndexLaws
 pub mod HeldSlots
 pub mod IndexTurn
+mod IndexBut
 pub mod TurnKept
 pub mod FirstIndex

@@ -1,14 +1,12 @@
 -- The variables of the units of a turn are slots.
 use Rattle.std.proofs.Common.{◌≡◌, ℕ, ◌<◌, Some, ℤ, sym, ◌∙◌, subst}
-use Rattle.um_units.specs.declared.Atom.TheVariants.{Var}
-use Rattle.um_units.specs.PowerMap.{PowerMap, atom, inv, replace}
+use Rattle.um_units.specs.PowerMap.{PowerMap, replace}
 use Rattle.um_units.specs.Variables.{VariablesBelow}
-use Rattle.um_units.proofs.Variables.{VariablesBelow-inv}
 use Rattle.um_elim.specs.declared.pivot.Pivot.{Pivot}
 use Rattle.um_elim.specs.Pivot.{pivot}
 use Rattle.um_elim.specs.Turn.{multiply, quotients, inverted_if_negative}
 use Rattle.um_elim.proofs.PivotLaws.{is_pivot}
-use Rattle.um_elim.proofs.VariablesKept.{own_below, quotients_below, inverted_below, replaced_below}
+use Rattle.um_elim.proofs.VariablesKept.{quotients_below, inverted_below, replaced_below}
 use Rattle.um_elim.proofs.IndexTurn.{multiply_stays}
 
 pub pivot_low : (n : ℕ) (r : PowerMap) (p : Pivot) → pivot r ≡ Some p → VariablesBelow n r → p.variable < n
@@ -20,6 +18,3 @@ factor_below n m p a r up w is made below = subst (VariablesBelow n) (sym made) 
 pub remainder_below : (n m : ℕ) (a : ℤ) (r up w remainder : PowerMap) → up ≡ inverted_if_negative a r → VariablesBelow n w → remainder ≡ replace (multiply m w) up → VariablesBelow n r → VariablesBelow n remainder
 remainder_below n m a r up w remainder is low made below =
     subst (VariablesBelow n) (sym made) (replaced_below n (multiply m w) (multiply_stays n m w low) up (subst (VariablesBelow n) (sym is) (inverted_below n a r below)))
-
-pub inverse_below : (n m : ℕ) (u v : PowerMap) → u ≡ atom (Var m) → v ≡ inv u → m < n → VariablesBelow n v
-inverse_below n m u v is made low = subst (VariablesBelow n) (sym made) (VariablesBelow-inv n u (subst (VariablesBelow n) (sym is) (own_below n m low)))

@@ -1,12 +1,12 @@
 -- A turn, as the code makes it, against the definition.
-use Rattle.std.proofs.Common.{◌≡◌, ℕ, suc, ◌<◌, ◌≤◌, ◌<ℤ◌, to_z, of_z, w32, true, false, cond, ◌&&◌, Some, List, map, ℤ, pos, nat_abs, refl, sym, ap, ◌∙◌, subst, arith}
+use Rattle.std.proofs.Common.{◌≡◌, suc, ◌<◌, ◌≤◌, ◌<ℤ◌, to_z, of_z, w32, true, false, cond, ◌&&◌, Some, List, map, ℤ, pos, nat_abs, refl, sym, ap, ◌∙◌, subst, arith}
 use Rattle.std.specs.Prelude.{IsTrue, IsFalse}
 use Rattle.std.specs.List.{list_all}
 use Rattle.std.proofs.lemmas.Bool.{and_left, and_right, and_from}
 use Rattle.um_units.specs.declared.Atom.TheVariants.{Var}
 use Rattle.um_units.specs.declared.UnitStop.{UnitStop}
 use Rattle.um_units.specs.declared.UnitStop.TheVariants as unit
-use Rattle.um_units.specs.PowerMap.{PowerMap, power_of, one, atom, inv, replace, nth}
+use Rattle.um_units.specs.PowerMap.{PowerMap, power_of, one, replace, nth}
 use Rattle.um_units.specs.Range.{fits, IsStopUnless}
 use Rattle.um_elim.specs.declared.pivot.Pivot.{Pivot}
 use Rattle.um_elim.specs.declared.stop.ElimStop.{ElimStop}
@@ -16,7 +16,6 @@ use Rattle.um_elim.specs.Turn.{substitute, multiply, quotients, turn, inverted_i
 use Rattle.um_elim.specs.Elimination.{Elimination, Solved, NoSolution, Range, ended, after_turn, turn_at, turns, eliminate}
 use Rattle.um_elim.specs.Stops.{stop_of}
 use Rattle.um_elim.specs.Steps.{Turns, StopsTurn, StopsAs}
-use Rattle.um_elim.proofs.Shear.{substitute-one}
 use Rattle.um_elim.proofs.PivotLaws.{is_pivot}
 use Rattle.um_elim.proofs.TurnLaws.{power_of-turn_other, least_power-falls, positive_pivot, positive_size}
 use Rattle.um_elim.proofs.InRange.{kept32, pivot-in_range}
@@ -72,10 +71,6 @@ module _ (old : List PowerMap) (r : PowerMap) (p : Pivot) (factor remainder : Po
       let o' : has_other m (replace (turn m n q) q) ≡ true = sym (ap (has_other m) e) ∙ o in
       let l = least_power-falls m n (replace (turn m n q) q) (power_of-turn_other m n q h at) o' in
       subst (λ a. least_power remainder < size a) (sym s.found) (subst (λ u. least_power u < n) (sym e) l)
-
--- the end puts 1 for the pivot
-pub multiply-inverse : (m : ℕ) (w : PowerMap) → w ≡ inv (atom (Var m)) → multiply m w ≡ substitute m one
-multiply-inverse m w e = ap (multiply m) e ∙ substitute-one m
 
 -- ---- the loop over the turns
 pub first_stops : (us : List PowerMap) (row : PowerMap) (e : UnitStop) → IsStopUnless (fits (replace (nth us) row)) e → StopsAs (eliminate us row) (stop_of e)

@@ -10,6 +10,7 @@ mod application;
 mod index;
 mod numbering;
 mod pivot;
+mod replacement;
 mod solver;
 mod stop;
 mod turn;

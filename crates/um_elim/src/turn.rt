@@ -5,7 +5,8 @@ ghost use Rattle.std.proofs.Common.{neg_ℤ};
 ghost use Rattle.std.specs.Int.{int_div_euclid};
 ghost use Rattle.std.specs.List.{list_all, list_any};
 ghost use Rattle.um_units.specs.Atoms.{same_atom};
-ghost use Rattle.um_units.specs.PowerMap.{PowerMap, one, replace};
+ghost use Rattle.um_units.specs.declared.Atom.TheVariants.{Var};
+ghost use Rattle.um_units.specs.PowerMap.{PowerMap, one, power_of, replace};
 ghost use Rattle.um_units.specs.Range.{all_in_range, fits, in_range, RangeUnless};
 ghost use Rattle.um_units.specs.declared.UnitStop.TheVariants.{NoMemory};
 ghost use Rattle.um_elim.specs.Pivot.{is_base, is_other};
@@ -17,6 +18,7 @@ ghost use Rattle.um_units.specs.Variables.{VariablesBelow};
 use crate::ElimStop;
 use crate::index::{SlotList, multiply_holders};
 use crate::pivot::pivot_of;
+use crate::replacement::put_in_holders;
 use std::alloc::{AllocError, Global};
 use um_units::{Atom, Term, Unit, UnitStop};
 
@@ -52,15 +54,14 @@ pub fn take_turn(
     let positive = inverted_if_negative(alloc, r, pivot.power)?;
     let factor = quotients_of(alloc, &positive, pivot.variable, absolute(pivot.power))?;
     let remainder = multiplied(alloc, &positive, pivot.variable, &factor)?;
-    multiply_holders(alloc, units, index, pivot.variable, &factor)?;
     if has_other_variable(remainder.terms(), pivot.variable) {
+        multiply_holders(alloc, units, index, pivot.variable, &factor)?;
         return Ok(Step::Again(remainder));
     }
+    put_in_holders(alloc, units, index, pivot.variable, &factor)?;
     if has_base_unit(remainder.terms()) {
         return Err(ElimStop::NoSolution);
     }
-    let inverse = Unit::atom(alloc, Atom::Var(pivot.variable))?.inv(alloc)?;
-    multiply_holders(alloc, units, index, pivot.variable, &inverse)?;
     Ok(Step::Ended)
 }
 
@@ -86,6 +87,8 @@ fn absolute(power: i32) -> i32
 fn quotients_of(alloc: Global, unit: &Unit, m: u32, p: i32) -> Result<Unit, UnitStop>
     requires { pos 0 <ℤ p }
     ensures exact { IfOk result (λ u. u ≡ quotients m (nat_abs p) unit.now) }
+    ensures absent { IfOk result (λ u. power_of u (Var m) ≡ pos 0) }
+    ensures fits { IfOk result (λ u. IsTrue (fits u)) }
     ensures memory { IfErr result (λ stop. stop ≡ NoMemory) }
 {
     let terms = negated_quotients(alloc, unit.terms(), m, p)?;

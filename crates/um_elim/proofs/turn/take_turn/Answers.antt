@@ -1,19 +1,18 @@
-use Rattle.std.proofs.Common.{◌≡◌, ◌<◌, ◌∙◌, sym, ap, subst, map, true, false, Some, nat_abs, refl}
+use Rattle.std.proofs.Common.{◌≡◌, ◌∙◌, sym, ap, subst, map, true, false, Some, nat_abs, refl}
 use Rattle.std.specs.Prelude.{IsTrue}
 use Rattle.std.specs.List.{list_all, list_any}
 use Rattle.std.proofs.lemmas.Bool.{le-leb}
 use Rattle.std.proofs.lemmas.Result.{err_from_is_err_and}
 use Rattle.um_units.specs.declared.Term.{Term}
-use Rattle.um_units.specs.PowerMap.{one, inv, replace}
-use Rattle.um_units.specs.Range.{fits}
+use Rattle.um_units.specs.PowerMap.{replace}
+use Rattle.um_units.specs.Range.{fits, IsStopUnless}
 use Rattle.um_elim.specs.Pivot.{pivot, pivot_of, is_other, is_base, has_other, has_base}
-use Rattle.um_elim.specs.Turn.{multiply, substitute}
+use Rattle.um_elim.specs.Turn.{multiply}
 use Rattle.um_elim.specs.Elimination.{Solved}
-use Rattle.um_elim.specs.Stops.{stop_of}
-use Rattle.um_elim.specs.Steps.{StopsTurn}
-use Rattle.um_elim.proofs.InRange.{pivot-in_range, pivot-positive, kept32, all_fit-substitute_one, stops_for_memory}
-use Rattle.um_elim.proofs.TurnSteps.{IsSet, is_set, passed_positive, remainder_stops, slots_stop, turns_again, turns_unsolvable, turns_solved, least_power-lower, multiply-inverse}
-use Rattle.um_elim.proofs.TurnKept.{pivot_low, factor_below, remainder_below, inverse_below}
+use Rattle.um_elim.proofs.InRange.{pivot-in_range, pivot-positive, kept32}
+use Rattle.um_elim.proofs.TurnSteps.{IsSet, is_set, passed_positive, remainder_stops, slots_stop, turns_again, turns_unsolvable, turns_solved, least_power-lower}
+use Rattle.um_elim.proofs.TurnKept.{pivot_low, factor_below, remainder_below}
+use Rattle.um_elim.proofs.LastTurn.{all_fit-alike, one_for_all_multiplied}
 use Rattle.um_elim.proofs.turn.take_turn.Goals as goal
 
 pub absolute-requires : goal.absolute-requires
@@ -72,6 +71,21 @@ returns-then-has_other_variable-clause-outcome c =
     let o : has_other p.variable remainder ≡ true = sym (c.has_other_variable.ensures ∙ ap (list_any (λ (t : Term). is_other p.variable t.atom)) c.terms-2.ensures.terms) ∙ c.if-has_other_variable.true in
     ((λ again. turns_again old r p w remainder s fl fs o again ∙ ap (λ us. again us remainder) (sym c.in_ok-multiply_holders.ensures.exact)), least_power-lower old r p w remainder s o)
 
+pub returns-in_err-put_in_holders-clause-outcome : goal.returns-in_err-put_in_holders-clause-outcome
+returns-in_err-put_in_holders-clause-outcome c =
+    let x = err_from_is_err_and c.from_residual-in_err-put_in_holders.result c.from_residual-in_err-put_in_holders.ensures.1 in
+    let r = c.args.r.now in
+    let p = c.in-Some.pivot in
+    let f : IsTrue (fits r) = c.terms.ensures.fits in
+    let e : pivot r ≡ Some p = sym (c.pivot_of.ensures ∙ ap pivot_of c.terms.ensures.terms) ∙ c.in-Some.is in
+    let s : IsSet r p c.in_ok-factor.factor c.in_ok-remainder.remainder = is_set r p f e c.in_ok-positive.positive c.in_ok-factor.factor c.in_ok-remainder.remainder c.absolute.result
+    c.in_ok-positive.ensures c.absolute.ensures c.in_ok-factor.ensures.exact c.in_ok-remainder.ensures.exact in
+    let old = c.args.units.now.items in
+    let w = c.in_ok-factor.factor in
+    let alike = all_fit-alike p.variable w c.in_ok-factor.ensures.absent old c.requires.indexed.fit in
+    let stop = c.in_err-put_in_holders.field-0.0 in
+    rw (x.1, x.2) (slots_stop old r p w c.in_ok-remainder.remainder s stop (subst (λ b. IsStopUnless b stop) alike c.in_err-put_in_holders.ensures.range))
+
 pub returns-then-has_base_unit-clause-outcome : goal.returns-then-has_base_unit-clause-outcome
 returns-then-has_base_unit-clause-outcome c =
     let r = c.args.r.now in
@@ -84,31 +98,11 @@ returns-then-has_base_unit-clause-outcome c =
     let w = c.in_ok-factor.factor in
     let remainder = c.in_ok-remainder.remainder in
     let fl : IsTrue (fits remainder) = subst (λ u. IsTrue (fits u)) (sym c.in_ok-remainder.ensures.exact) c.in_ok-remainder.ensures.range in
-    let fs : IsTrue (list_all fits (map (replace (multiply p.variable w)) old)) = c.in_ok-multiply_holders.ensures.range in
+    let alike = all_fit-alike p.variable w c.in_ok-factor.ensures.absent old c.requires.indexed.fit in
+    let fs : IsTrue (list_all fits (map (replace (multiply p.variable w)) old)) = sym alike ∙ c.in_ok-put_in_holders.ensures.range in
     let o : has_other p.variable remainder ≡ false = sym (c.has_other_variable.ensures ∙ ap (list_any (λ (t : Term). is_other p.variable t.atom)) c.terms-2.ensures.terms) ∙ c.if-has_other_variable.false in
     let b : has_base remainder ≡ true = sym (c.has_base_unit.ensures ∙ ap (list_any (λ (t : Term). is_base t.atom)) c.terms-3.ensures.terms) ∙ c.if-has_base_unit.true in
     turns_unsolvable old r p w remainder s fl fs o b
-
-pub returns-in_err-multiply_holders-2-clause-outcome : goal.returns-in_err-multiply_holders-2-clause-outcome
-returns-in_err-multiply_holders-2-clause-outcome c =
-    let x = err_from_is_err_and c.from_residual-in_err-multiply_holders-2.result c.from_residual-in_err-multiply_holders-2.ensures.1 in
-    let r = c.args.r.now in
-    let p = c.in-Some.pivot in
-    let f : IsTrue (fits r) = c.terms.ensures.fits in
-    let e : pivot r ≡ Some p = sym (c.pivot_of.ensures ∙ ap pivot_of c.terms.ensures.terms) ∙ c.in-Some.is in
-    let s : IsSet r p c.in_ok-factor.factor c.in_ok-remainder.remainder = is_set r p f e c.in_ok-positive.positive c.in_ok-factor.factor c.in_ok-remainder.remainder c.absolute.result
-    c.in_ok-positive.ensures c.absolute.ensures c.in_ok-factor.ensures.exact c.in_ok-remainder.ensures.exact in
-    let old = c.args.units.now.items in
-    let w = c.in_ok-factor.factor in
-    let remainder = c.in_ok-remainder.remainder in
-    let fl : IsTrue (fits remainder) = subst (λ u. IsTrue (fits u)) (sym c.in_ok-remainder.ensures.exact) c.in_ok-remainder.ensures.range in
-    let fs : IsTrue (list_all fits (map (replace (multiply p.variable w)) old)) = c.in_ok-multiply_holders.ensures.range in
-    let m : multiply p.variable c.in_ok-inverse.inverse ≡ substitute p.variable one = multiply-inverse p.variable c.in_ok-inverse.inverse (c.in_ok-inverse.ensures.exact ∙ ap inv c.in_ok-atom.ensures.exact) in
-    let now : c.multiply_holders.new.units.items ≡ map (replace (multiply p.variable w)) old = c.in_ok-multiply_holders.ensures.exact in
-    let all : IsTrue (list_all fits (map (replace (multiply p.variable c.in_ok-inverse.inverse)) c.multiply_holders.new.units.items)) =
-    rw (m, now) (all_fit-substitute_one p.variable (map (replace (multiply p.variable w)) old) fs) in
-    let z = stops_for_memory _ all c.in_err-multiply_holders-2.field-0.0 c.in_err-multiply_holders-2.ensures.range in
-    rw (x.1, x.2) (subst (λ stop. StopsTurn old r (stop_of stop)) (sym z) tt)
 
 pub returns-clause-outcome : goal.returns-clause-outcome
 returns-clause-outcome c =
@@ -122,16 +116,20 @@ returns-clause-outcome c =
     let w = c.in_ok-factor.factor in
     let remainder = c.in_ok-remainder.remainder in
     let fl : IsTrue (fits remainder) = subst (λ u. IsTrue (fits u)) (sym c.in_ok-remainder.ensures.exact) c.in_ok-remainder.ensures.range in
-    let fs : IsTrue (list_all fits (map (replace (multiply p.variable w)) old)) = c.in_ok-multiply_holders.ensures.range in
+    let alike = all_fit-alike p.variable w c.in_ok-factor.ensures.absent old c.requires.indexed.fit in
+    let fs : IsTrue (list_all fits (map (replace (multiply p.variable w)) old)) = sym alike ∙ c.in_ok-put_in_holders.ensures.range in
     let o : has_other p.variable remainder ≡ false = sym (c.has_other_variable.ensures ∙ ap (list_any (λ (t : Term). is_other p.variable t.atom)) c.terms-2.ensures.terms) ∙ c.if-has_other_variable.false in
     let b : has_base remainder ≡ false = sym (c.has_base_unit.ensures ∙ ap (list_any (λ (t : Term). is_base t.atom)) c.terms-3.ensures.terms) ∙ c.if-has_base_unit.false in
-    let m : multiply p.variable c.in_ok-inverse.inverse ≡ substitute p.variable one = multiply-inverse p.variable c.in_ok-inverse.inverse (c.in_ok-inverse.ensures.exact ∙ ap inv c.in_ok-atom.ensures.exact) in
-    let now : c.multiply_holders.new.units.items ≡ map (replace (multiply p.variable w)) old = c.in_ok-multiply_holders.ensures.exact in
     λ again. turns_solved old r p w remainder s fl fs o b again
-    ∙ ap Solved (sym (c.in_ok-multiply_holders-2.ensures.exact ∙ ap (λ g. map (replace g) c.multiply_holders.new.units.items) m ∙ ap (map (replace (substitute p.variable one))) now))
+    ∙ ap Solved (one_for_all_multiplied p.variable w c.in_ok-factor.ensures.absent old ∙ sym c.in_ok-put_in_holders.ensures.exact)
 
 pub multiply_holders-requires-clause-m : goal.multiply_holders-requires-clause-m
 multiply_holders-requires-clause-m c =
+    let e : pivot c.args.r.now ≡ Some c.in-Some.pivot = sym (c.pivot_of.ensures ∙ ap pivot_of c.terms.ensures.terms) ∙ c.in-Some.is in
+    pivot_low _ c.args.r.now c.in-Some.pivot e c.requires.variables
+
+pub put_in_holders-requires-clause-m : goal.put_in_holders-requires-clause-m
+put_in_holders-requires-clause-m c =
     let e : pivot c.args.r.now ≡ Some c.in-Some.pivot = sym (c.pivot_of.ensures ∙ ap pivot_of c.terms.ensures.terms) ∙ c.in-Some.is in
     pivot_low _ c.args.r.now c.in-Some.pivot e c.requires.variables
 
@@ -139,18 +137,11 @@ pub multiply_holders-requires-clause-variables : goal.multiply_holders-requires-
 multiply_holders-requires-clause-variables c =
     factor_below _ c.in-Some.pivot.variable _ _ c.args.r.now c.in_ok-positive.positive c.in_ok-factor.factor c.in_ok-positive.ensures c.in_ok-factor.ensures.exact c.requires.variables
 
+pub put_in_holders-requires-clause-variables : goal.put_in_holders-requires-clause-variables
+put_in_holders-requires-clause-variables c =
+    factor_below _ c.in-Some.pivot.variable _ _ c.args.r.now c.in_ok-positive.positive c.in_ok-factor.factor c.in_ok-positive.ensures c.in_ok-factor.ensures.exact c.requires.variables
+
 pub returns-then-has_other_variable-clause-variables : goal.returns-then-has_other_variable-clause-variables
 returns-then-has_other_variable-clause-variables c =
     remainder_below _ c.in-Some.pivot.variable _ c.args.r.now c.in_ok-positive.positive c.in_ok-factor.factor c.in_ok-remainder.remainder c.in_ok-positive.ensures
     (factor_below _ c.in-Some.pivot.variable _ _ c.args.r.now c.in_ok-positive.positive c.in_ok-factor.factor c.in_ok-positive.ensures c.in_ok-factor.ensures.exact c.requires.variables) c.in_ok-remainder.ensures.exact c.requires.variables
-
-pub multiply_holders-requires-2-clause-m : goal.multiply_holders-requires-2-clause-m
-multiply_holders-requires-2-clause-m c =
-    let e : pivot c.args.r.now ≡ Some c.in-Some.pivot = sym (c.pivot_of.ensures ∙ ap pivot_of c.terms.ensures.terms) ∙ c.in-Some.is in
-    subst (λ n. c.in-Some.pivot.variable < n) (sym c.multiply_holders.ensures.slots) (pivot_low _ c.args.r.now c.in-Some.pivot e c.requires.variables)
-
-pub multiply_holders-requires-2-clause-variables : goal.multiply_holders-requires-2-clause-variables
-multiply_holders-requires-2-clause-variables c =
-    let e : pivot c.args.r.now ≡ Some c.in-Some.pivot = sym (c.pivot_of.ensures ∙ ap pivot_of c.terms.ensures.terms) ∙ c.in-Some.is in
-    inverse_below _ c.in-Some.pivot.variable c.in_ok-atom.field-0 c.in_ok-inverse.inverse c.in_ok-atom.ensures.exact c.in_ok-inverse.ensures.exact
-    (subst (λ n. c.in-Some.pivot.variable < n) (sym c.multiply_holders.ensures.slots) (pivot_low _ c.args.r.now c.in-Some.pivot e c.requires.variables))

@@ -1,0 +1,107 @@
+//! A unit is put for a variable, which then stands in no slot's unit and leaves the index.
+
+ghost use Rattle.std.specs.Prelude.{◌≡◌, ◌<◌, length, map, pos, set, IfErr, IfOk, OnOk, IsTrue, slice_index_or};
+ghost use Rattle.std.specs.List.{list_all};
+ghost use Rattle.um_units.specs.declared.Atom.TheVariants.{Var};
+ghost use Rattle.um_units.specs.declared.UnitStop.TheVariants.{NoMemory};
+ghost use Rattle.um_units.specs.PowerMap.{PowerMap, atom, inv, mul, one, power_of, replace};
+ghost use Rattle.um_units.specs.Range.{fits, RangeUnless};
+ghost use Rattle.um_units.specs.Variables.{VariablesBelow};
+ghost use Rattle.um_elim.specs.Turn.{multiply, substitute};
+ghost use Rattle.um_elim.specs.Index.{holders, IsIndex};
+
+use crate::index::{SlotList, follow_terms};
+use crate::turn::multiplied;
+use std::alloc::Global;
+use um_units::{Atom, Unit, UnitStop};
+
+/// The unit, which doesn't hold variable m, divided by variable m.
+fn over_variable(alloc: Global, unit: &Unit, m: u32) -> Result<Unit, UnitStop>
+    requires absent { power_of unit.now (Var m) ≡ pos 0 }
+    requires fits { IsTrue (fits unit.now) }
+    ensures exact { IfOk result (λ u. u ≡ mul unit.now (inv (atom (Var m)))) }
+    ensures memory { IfErr result (λ stop. stop ≡ NoMemory) }
+{
+    let variable = Unit::atom(alloc, Atom::Var(m))?;
+    unit.mul_pow(alloc, &variable, -1)
+}
+
+/// The factor is put for variable m in the slot's unit, where `change` is the factor over variable m, and the index
+/// follows but at m.
+fn put_in_slot(
+    alloc: Global,
+    units: &mut Vec<Unit>,
+    index: &mut Vec<SlotList>,
+    slot: u32,
+    m: u32,
+    factor: &Unit,
+    change: &Unit,
+) -> Result<(), UnitStop>
+    requires slot { slot < length units.old.items }
+    requires m { m < length units.old.items }
+    requires change { change.now ≡ mul factor.now (inv (atom (Var m))) }
+    requires indexed { IsIndex units.old.items (set index.old.items m (holders units.old.items m)) }
+    requires variables { VariablesBelow (length units.old.items) factor.now }
+    ensures exact { OnOk result (units.new.items
+        ≡ set units.old.items slot (replace (multiply m change.now) (slice_index_or units.old.items slot one))) }
+    ensures range { RangeUnless result
+        (fits (replace (multiply m change.now) (slice_index_or units.old.items slot one))) }
+    ensures indexed { OnOk result (IsIndex units.new.items (set index.new.items m (holders units.new.items m))) }
+    ensures slots { length units.new.items ≡ length units.old.items }
+{
+    let place = slot as usize;
+    let unit = multiplied(alloc, &units[place], m, change)?;
+    follow_terms(index, factor.terms(), slot, &units[place], &unit)?;
+    units[place] = unit;
+    Ok(())
+}
+
+/// The factor, which doesn't hold variable m, is put for variable m in each unit that holds it, where `change` is the
+/// factor over variable m.
+fn put_in_each(
+    alloc: Global,
+    units: &mut Vec<Unit>,
+    index: &mut Vec<SlotList>,
+    m: u32,
+    factor: &Unit,
+    change: &Unit,
+) -> Result<(), UnitStop>
+    requires m { m < length units.old.items }
+    requires absent { power_of factor.now (Var m) ≡ pos 0 }
+    requires change { change.now ≡ mul factor.now (inv (atom (Var m))) }
+    requires indexed { IsIndex units.old.items index.old.items }
+    requires variables { VariablesBelow (length units.old.items) factor.now }
+    ensures exact { OnOk result (units.new.items ≡ map (replace (multiply m change.now)) units.old.items) }
+    ensures range { RangeUnless result (list_all fits (map (replace (multiply m change.now)) units.old.items)) }
+    ensures indexed { OnOk result (IsIndex units.new.items index.new.items) }
+    ensures slots { length units.new.items ≡ length units.old.items }
+{
+    let slots = index[m as usize].to_vec(alloc)?;
+    for slot in &slots {
+        put_in_slot(alloc, units, index, *slot, m, factor, change)?;
+    }
+    index[m as usize] = SlotList::empty(alloc);
+    Ok(())
+}
+
+/// The factor, which doesn't hold variable m, is put for variable m in each unit that holds it.
+pub fn put_in_holders(
+    alloc: Global,
+    units: &mut Vec<Unit>,
+    index: &mut Vec<SlotList>,
+    m: u32,
+    factor: &Unit,
+) -> Result<(), UnitStop>
+    requires m { m < length units.old.items }
+    requires absent { power_of factor.now (Var m) ≡ pos 0 }
+    requires fits { IsTrue (fits factor.now) }
+    requires indexed { IsIndex units.old.items index.old.items }
+    requires variables { VariablesBelow (length units.old.items) factor.now }
+    ensures exact { OnOk result (units.new.items ≡ map (replace (substitute m factor.now)) units.old.items) }
+    ensures range { RangeUnless result (list_all fits (map (replace (substitute m factor.now)) units.old.items)) }
+    ensures indexed { OnOk result (IsIndex units.new.items index.new.items) }
+    ensures slots { length units.new.items ≡ length units.old.items }
+{
+    let change = over_variable(alloc, factor, m)?;
+    put_in_each(alloc, units, index, m, factor, &change)
+}
