@@ -17,14 +17,10 @@ use Rattle.um_elim.specs.Elimination.{Elimination, Solved, NoSolution, Range, en
 use Rattle.um_elim.specs.Stops.{stop_of}
 use Rattle.um_elim.specs.Steps.{Turns, StopsTurn, StopsAs}
 use Rattle.um_elim.proofs.PivotLaws.{is_pivot}
-use Rattle.um_elim.proofs.TurnLaws.{power_of-turn_other, least_power-falls, positive_pivot, positive_size}
+use Rattle.um_elim.proofs.TurnLaws.{signed_inverted, power_of-turn_other, least_power-falls, positive_pivot, positive_size}
 use Rattle.um_elim.proofs.InRange.{kept32}
 use Rattle.std.proofs.lemmas.Int.{ints}
 use Rattle.um_elim.proofs.Rows.{turns-enough}
-
-pub signed_inverted : (a : ℤ) (r : PowerMap) → signed (is_negative a) r ≡ inverted_if_negative a r
-signed_inverted (pos n) r = refl
-signed_inverted (negsuc n) r = refl
 
 -- what the code has after it made the turn t of r
 pub record IsSet (r : PowerMap) (t : Turn) (remainder : PowerMap) : Type 0 where

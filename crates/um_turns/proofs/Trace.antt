@@ -17,10 +17,9 @@ use Rattle.um_elim.specs.declared.pivot.Pivot.{Pivot}
 use Rattle.um_elim.specs.Pivot.{pivot, size, least_power, has_other, has_base}
 use Rattle.um_elim.specs.Turn.{substitute, turn, inverted_if_negative, signed, is_negative, turn_of}
 use Rattle.um_elim.specs.Elimination.{Solved, NoSolution, Range, is_empty, ended, after_turn, turn_at, turns}
-use Rattle.um_elim.proofs.TurnSteps.{signed_inverted}
 use Rattle.um_elim.proofs.PivotLaws.{is_pivot, no_pivot, some_base, no_other}
 use Rattle.um_turns.proofs.Ends.{only_power}
-use Rattle.um_elim.proofs.TurnLaws.{IsRemainder, power_of-quotients_pivot, power_of-turn_pivot, power_of-turn_other, least_power-falls, positive_pivot, positive_size}
+use Rattle.um_elim.proofs.TurnLaws.{IsRemainder, power_of-quotients_pivot, power_of-turn_pivot, power_of-turn_other, least_power-falls, positive_pivot, positive_size, signed_inverted}
 use Rattle.um_elim.specs.declared.turning.Turn.{Turn}
 use Rattle.um_turns.specs.Turns.{IsShear, unit_after, AreTurnsOf, IsTreated, IsRefusedBy}
 use Rattle.um_turns.specs.Laws.{SolvedRowsFollowTurns, RefusedRowsFollowTurns}
