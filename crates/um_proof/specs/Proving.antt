@@ -42,7 +42,7 @@ module _ (p : ProgramTree) (schemes : List SchemeTree) where
       (length schemes ≡ i) × IsNoOf i c × (c.last ≡ row) × (c.loose ≡ true)
   IsRefusal (stops_at_not_general i row at) (Some c) =
       (length schemes ≡ i) × IsNoOf i c × (c.last ≡ row) × (c.loose ≡ false)
-  IsRefusal inference no = ⊥
+  IsRefusal inference other = ⊥
 
 -- the schemes of the functions up to the first refused, a valid Yes for each, and the No
 pub record AreProofs (p : ProgramTree) (proofs : Proofs) : Type 0 where

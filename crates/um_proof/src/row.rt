@@ -1,6 +1,7 @@
 //! The treatment of one row.
 
-ghost use Rattle.std.specs.Prelude.{◌≡◌, ◌≤◌, ◌<◌, ◌+◌, ◌^◌, ◌*◌, ℕ, false, List, All, length, nat_abs, pos, IfOk, OnOk, MatchResult, IfErr, IsTrue};
+ghost use Rattle.std.specs.Prelude.{◌≡◌, ◌≤◌, ◌<◌, ◌+◌, ◌^◌, ◌*◌, ◌*ℤ◌, List, All, length, nat_abs, pos, slice_index_or, IfOk, MatchResult, IfErr, IsTrue};
+ghost use Rattle.std.specs.Int.Signed.{◌<ℤ◌};
 ghost use Rattle.std.specs.List.{list_any};
 ghost use Rattle.um_units.specs.declared.Atom.TheVariants.{Var};
 ghost use Rattle.um_units.specs.declared.Term.{Term as TermData};
