@@ -1,16 +1,25 @@
 -- The code's: what the parts of a row's treatment answer.
 -- Source: this project's own; no public clause rests on it.
-use Rattle.std.specs.Prelude.{◌≡◌, ◌⊎◌, ℕ, ◌+◌, ◌-◌, ◌<◌, if◌then◌else◌, Bool, true, false, not, List, [], ◌∷◌, length, map, All, slice_index_or, ℤ, pos, nat_abs, ◌*ℤ◌, Option, Some, None, Result, Ok, Err}
+use Rattle.std.specs.Prelude.{◌≡◌, ◌⊎◌, ℕ, ◌+◌, ◌-◌, ◌<◌, if◌then◌else◌, Bool, true, false, not, List, [], ◌∷◌, ◌++◌, length, map, filter, set, All, slice_index_or, ℤ, pos, nat_abs, ◌*ℤ◌, Option, Some, None, Result, Ok, Err}
 use Rattle.std.specs.Int.Signed.{◌<ℤ◌}
+use Rattle.std.specs.List.{list_any, range_with_len}
+use Rattle.um_tree.specs.TypeTree.{TypeTree, num_type}
+use Rattle.um_tree.specs.ProgramTree.{Signature}
+use Rattle.um_tree.specs.Typing.{put}
+use Rattle.um_tree.specs.Scheme.{signature_types}
+use Rattle.um_check.specs.Validity.{returned}
 use Rattle.um_units.specs.declared.Atom.{Atom}
 use Rattle.um_units.specs.declared.Atom.TheVariants.{Base, Var}
 use Rattle.um_units.specs.declared.Term.{Term}
-use Rattle.um_units.specs.PowerMap.{PowerMap, one, atom, mul, pow, nth}
+use Rattle.um_units.specs.PowerMap.{PowerMap, one, atom, mul, inv, pow, power_of, replace, nth}
 use Rattle.um_wide.specs.Room.{IsNarrow}
 use Rattle.um_elim.specs.declared.turning.Turn.{Turn}
+use Rattle.um_elim.specs.Pivot.{has_other}
+use Rattle.um_elim.specs.Turn.{multiply, signed}
+use Rattle.um_elim.specs.Index.{holds}
 use Rattle.um_turns.specs.Turns.{unit_after, AreTurnsOf, IsClosedLeft, IsStuck}
 use Rattle.um_rows.specs.declared.row.Row.{Row}
-use Rattle.um_rows.specs.Generalised.{is_parameter}
+use Rattle.um_rows.specs.Generalised.{is_parameter, generalised_unit}
 use Rattle.um_rows.specs.Steps.{units_of}
 use Rattle.um_proof.specs.declared.kept.Making.{Making}
 use Rattle.um_proof.specs.declared.kept.Head.{Head}
@@ -129,3 +138,57 @@ CarriesInRows h rows stop.NoMemory = Unit {0}
 abbrev pub of_function : ℕ → CertStop → ProveStop
 of_function i (stop.CertRange z) = prove.CertRange i z
 of_function i stop.NoMemory = prove.NoMemory
+
+-- ---- one turn, of what the code keeps
+
+-- what the turn's variable x goes back to after x times w was put for it
+abbrev pub divided_at : Head → List PowerMap → ℕ → PowerMap → PowerMap
+divided_at h bs x w =
+    mul (nth bs x) (inv (replace (nth bs) (generalised_unit h.bases h.parameters h.slots w)))
+
+pub record IsTurned (h : Head) (old new : Making) (x : ℕ) (w : PowerMap) : Type 0 where
+  pub solution : new.solution.items ≡ map (replace (multiply x w)) old.solution.items
+  pub back : new.back.items ≡ set old.back.items x (divided_at h old.back.items x w)
+  pub divisor : new.divisor ≡ old.divisor
+  pub parts : new.parts ≡ old.parts
+
+-- a power of the row, of a slot's unit or of the way back
+abbrev pub CarriesInTurn :
+    Head → List PowerMap → List PowerMap → PowerMap → ℕ → Bool → PowerMap → CertStop → Type 0
+CarriesInTurn h solution bs r x inverted w (stop.CertRange z) =
+    (2147483647 < nat_abs z)
+    × (IsPowerIn z (replace (multiply x w) (signed inverted r))
+    ⊎ ((j : ℕ) × (j < length solution) × IsPowerIn z (replace (multiply x w) (nth solution j)))
+    ⊎ IsPowerIn z (divided_at h bs x w))
+CarriesInTurn h solution bs r x inverted w stop.NoMemory = Unit {0}
+
+-- variable m stands in the unit to a positive power, no other does, and the powers of base units are below m's
+pub record IsLeftAlone (m : ℕ) (r : PowerMap) : Type 0 where
+  pub p : ℕ
+  pub positive : 0 < p
+  pub is : power_of r (Var m) ≡ pos p
+  pub alone : has_other m r ≡ false
+  pub small : (n : ℕ) → (e : ℕ) × (power_of r (Base n) ≡ pos e) × (e < p)
+
+-- ---- the end of a Yes
+
+abbrev pub CarriesReturned : List PowerMap → List PowerMap → CertStop → Type 0
+CarriesReturned solution back (stop.CertRange z) =
+    (j : ℕ) × (j < length solution) × IsPowerIn z (returned solution back j) × (9223372036854775807 < nat_abs z)
+CarriesReturned solution back stop.NoMemory = Unit {0}
+
+-- what is numbered: the types, each variable that the units hold, and the units
+abbrev pub to_number : Signature → List PowerMap → List ℕ → List TypeTree
+to_number g units held =
+    map (put (nth units)) (signature_types g) ++ (map (λ k. num_type (atom (Var k))) held ++ map num_type units)
+
+-- the variables below n that stand in the units
+abbrev pub held_below : ℕ → List PowerMap → List ℕ
+held_below n units = filter (λ k. list_any (holds k) units) (range_with_len 0 n)
+
+-- ---- a No
+
+abbrev pub AreRefused : Head → List Row → ℕ → Refused → Type 0
+AreRefused h rows row refused =
+    (kept : Kept) × (row < length rows) × IsReached (units_of rows) (start h) row kept
+    × IsRefusedAs (units_of rows) kept row refused

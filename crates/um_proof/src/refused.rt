@@ -1,6 +1,18 @@
 //! The making of a No.
 
-ghost use Rattle.std.specs.Prelude.{◌≡◌, ◌≤◌, ◌<◌, ℕ, IfOk, MatchResult};
+ghost use Rattle.std.specs.Prelude.{◌≡◌, ◌↔◌, ◌≤◌, ◌<◌, ◌+◌, ◌^◌, ℕ, true, List, All, pos, IfOk, IfErr, MatchResult, IsTrue};
+ghost use Rattle.um_units.specs.declared.Atom.TheVariants.{Base};
+ghost use Rattle.um_units.specs.PowerMap.{PowerMap, power_of};
+ghost use Rattle.um_units.specs.Variables.{VariablesBelow};
+ghost use Rattle.um_elim.specs.Solution.{own_variables, rigid_units};
+ghost use Rattle.um_wide.specs.Room.{IsNarrow};
+ghost use Rattle.um_rows.specs.declared.row.Row.{Row as RowData};
+ghost use Rattle.um_rows.specs.FirstUnsolvable.{out_of_range, solve, solved, unsolved};
+ghost use Rattle.um_rows.specs.Steps.{units_of};
+ghost use Rattle.um_check.specs.Refutation.{IsValidNo};
+ghost use Rattle.um_making.specs.Making.{exponents};
+ghost use Rattle.um_proof.specs.declared.stop.CertStop.TheVariants.{NoMemory};
+ghost use Rattle.um_proof.specs.Steps.{AreRefused, CarriesInRows};
 ghost use Rattle.um_proof.specs.Answers.{AreFunctionRows, judged, IsRefused, IsNoMade};
 
 use crate::CertStop;
@@ -48,7 +60,15 @@ pub fn make_no(alloc: Global, rows: &Rows, units: u32, bases: u32) -> Result<No,
 }
 
 /// The No of rows that have no solution with the unit parameters as slots like the others.
-fn loose_no(alloc: Global, slots: u32, rows: &[Row]) -> Result<No, CertStop> {
+fn loose_no(alloc: Global, slots: u32, rows: &[Row]) -> Result<No, CertStop>
+    requires few { slots ≤ 2000 }
+    requires rows { All (λ (row : RowData). VariablesBelow slots row.unit) rows.now }
+    requires refused { (row at : ℕ) × (solve 0 rows.now (own_variables slots) ≡ unsolved row at) }
+    ensures exact { (bases parameters : ℕ) → IfOk result (IsValidNo bases parameters (units_of rows.now)) }
+    ensures last { (row at : ℕ) → solve 0 rows.now (own_variables slots) ≡ unsolved row at
+        → IfOk result (λ no. (no.last ≡ row) × (no.loose ≡ true)) }
+    ensures range { IfErr result (CarriesInRows (record { slots = slots; parameters = 0; bases = 0 }) rows.now) }
+{
     let head = Head {
         slots,
         parameters: 0,
@@ -59,7 +79,15 @@ fn loose_no(alloc: Global, slots: u32, rows: &[Row]) -> Result<No, CertStop> {
 }
 
 /// The number of the first row that has no solution together with those before it, and that it has none.
-fn first_refused(alloc: Global, head: Head, rows: &[Row]) -> Result<(u32, Refused), CertStop> {
+fn first_refused(alloc: Global, head: Head, rows: &[Row]) -> Result<(u32, Refused), CertStop>
+    requires few { head.slots ≤ 2000 }
+    requires parameters { head.parameters ≤ head.slots }
+    requires bases { head.bases + head.parameters < 2 ^ 32 }
+    requires rows { All (λ (row : RowData). VariablesBelow head.slots row.unit) rows.now }
+    requires refused { (row at : ℕ)
+        × (solve 0 rows.now (rigid_units head.bases head.parameters head.slots) ≡ unsolved row at) }
+    ensures { MatchResult result (λ r. AreRefused head rows.now r.0 r.1) (CarriesInRows head rows.now) }
+{
     match make_rows(alloc, head, rows)? {
         Treated::Refused { row, refused } => Ok((row, refused)),
         Treated::Made(making) => {
@@ -70,7 +98,13 @@ fn first_refused(alloc: Global, head: Head, rows: &[Row]) -> Result<(u32, Refuse
 }
 
 /// Whether the rows have a joint solution, which passes no range.
-fn have_solution(alloc: Global, slots: u32, rows: &[Row]) -> Result<bool, AllocError> {
+fn have_solution(alloc: Global, slots: u32, rows: &[Row]) -> Result<bool, AllocError>
+    requires few { slots ≤ 2000 }
+    requires rows { All (λ (row : RowData). VariablesBelow slots row.unit) rows.now }
+    requires range { (at : ℕ) → solve 0 rows.now (own_variables slots) ≡ out_of_range at → ⊥ }
+    ensures { IfOk result (λ b. IsTrue b
+        ↔ ((units : List PowerMap) × (solve 0 rows.now (own_variables slots) ≡ solved units))) }
+{
     let mut solver = Solver::new(alloc, slots)?;
     for row in rows {
         match solver.add(alloc, &row.unit) {
@@ -89,7 +123,13 @@ fn have_solution(alloc: Global, slots: u32, rows: &[Row]) -> Result<bool, AllocE
     Ok(true)
 }
 
-fn no_of(alloc: Global, loose: bool, last: u32, refused: Refused) -> Result<No, CertStop> {
+fn no_of(alloc: Global, loose: bool, last: u32, refused: Refused) -> Result<No, CertStop>
+    requires narrow { IsNarrow refused.total }
+    requires rows { (n : ℕ) → power_of refused.total (Base n) ≡ pos 0 }
+    ensures shape { IfOk result (λ no. (no.loose ≡ loose) × (no.last ≡ last) × (no.modulus ≡ refused.modulus)) }
+    ensures parts { IfOk result (λ no. exponents no.parts ≡ refused.total) }
+    ensures memory { IfErr result (λ stop. stop ≡ NoMemory) }
+{
     let made = parts_of(alloc, &refused.total);
     let modulus = refused.modulus;
     drop(refused);

@@ -1,18 +1,19 @@
 //! The treatment of one row.
 
-ghost use Rattle.std.specs.Prelude.{◌≡◌, ◌≤◌, ◌<◌, ◌+◌, ◌^◌, ◌*◌, ◌*ℤ◌, List, All, length, nat_abs, pos, slice_index_or, IfOk, MatchResult, IfErr, IsTrue};
+ghost use Rattle.std.specs.Prelude.{◌≡◌, ◌≤◌, ◌<◌, ◌+◌, ◌^◌, ◌*◌, ◌*ℤ◌, List, All, length, nat_abs, pos, None, slice_index_or, IfOk, OnOk, MatchResult, IfErr, IsTrue};
 ghost use Rattle.std.specs.Int.Signed.{◌<ℤ◌};
 ghost use Rattle.std.specs.List.{list_any};
 ghost use Rattle.um_units.specs.declared.Atom.TheVariants.{Var};
 ghost use Rattle.um_units.specs.declared.Term.{Term as TermData};
 ghost use Rattle.um_units.specs.PowerMap.{PowerMap, one, nth, power_of, product, replace, extension};
 ghost use Rattle.um_units.specs.Variables.{VariablesBelow, variables_below};
-ghost use Rattle.um_elim.specs.Pivot.{is_other};
+ghost use Rattle.um_elim.specs.Pivot.{is_other, pivot};
 ghost use Rattle.um_elim.specs.Turn.{multiply, signed};
 ghost use Rattle.um_wide.specs.Room.{IsNarrow, IsWithin};
 ghost use Rattle.um_making.specs.Making.{at_slot, total};
 ghost use Rattle.um_proof.specs.Making.{Kept};
-ghost use Rattle.um_proof.specs.Steps.{Agrees, CarriesInRow, CarriesNumber, CarriesPower, IsTreated, parts_product};
+ghost use Rattle.um_proof.specs.declared.kept.Head.{Head as HeadData};
+ghost use Rattle.um_proof.specs.Steps.{Agrees, CarriesInRow, CarriesInTurn, CarriesNumber, CarriesPower, IsLeftAlone, IsTreated, IsTurned, IsTurning, parts_product};
 
 use crate::CertStop;
 use crate::kept::{Head, Making, divide_back, end_variable, multiply_all};
@@ -122,7 +123,16 @@ fn make_turn(
     r: &Unit,
     turn: &Turn,
 ) -> Result<Unit, CertStop>
-    ensures { IfOk result (λ left. left ≡ replace (multiply turn.now.variable turn.now.by) (signed turn.now.inverted r.now)) }
+    requires count { length making.old.back.items ≡ head.slots + head.parameters }
+    requires variable { turn.now.variable < head.slots }
+    requires below { VariablesBelow head.slots turn.now.by }
+    requires bases { head.bases + head.parameters < 2 ^ 32 }
+    requires slots { head.slots + head.parameters < 2 ^ 32 }
+    ensures left { IfOk result (λ left. left
+        ≡ replace (multiply turn.now.variable turn.now.by) (signed turn.now.inverted r.now)) }
+    ensures range { IfErr result (CarriesInTurn head making.old.solution.items making.old.back.items r.now
+        turn.now.variable turn.now.inverted turn.now.by) }
+    ensures kept { OnOk result (IsTurned head making.old making.new turn.now.variable turn.now.by) }
 {
     let power = r.power_of(Atom::Var(turn.variable));
     let left = if turn.inverted {
@@ -144,6 +154,12 @@ fn closed_end(
     inverted: bool,
     r: &Unit,
 ) -> Result<Option<Refused>, CertStop>
+    ensures treated { (h : HeadData) (rows : List PowerMap) (kept : Kept) → row.now ≡ nth rows k
+        → IsTurning rows kept k h making.now r.now inverted → pivot r.now ≡ None
+        → IfOk result (IsTreated rows kept k h making.now) }
+    ensures range { (h : HeadData) (rows : List PowerMap) (kept : Kept) → row.now ≡ nth rows k
+        → IsTurning rows kept k h making.now r.now inverted → pivot r.now ≡ None
+        → IfErr result (CarriesInRow rows kept k) }
 {
     let Some(term) = r.terms().first() else {
         return Ok(None);
@@ -169,6 +185,12 @@ fn power_end(
     r: &Unit,
     m: u32,
 ) -> Result<Option<Refused>, CertStop>
+    ensures treated { (h : HeadData) (rows : List PowerMap) (kept : Kept) → row.now ≡ nth rows k
+        → IsTurning rows kept k h making.old r.now inverted → IsLeftAlone m r.now
+        → IfOk result (IsTreated rows kept k h making.new) }
+    ensures range { (h : HeadData) (rows : List PowerMap) (kept : Kept) → row.now ≡ nth rows k
+        → IsTurning rows kept k h making.old r.now inverted → IsLeftAlone m r.now
+        → IfErr result (CarriesInRow rows kept k) }
 {
     let p = r.power_of(Atom::Var(m));
     let total = row_total(alloc, making, row, k, inverted)?;

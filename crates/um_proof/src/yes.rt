@@ -1,7 +1,25 @@
 //! The making of a Yes.
 
-ghost use Rattle.std.specs.Prelude.{◌≡◌, ◌≤◌, ◌<◌, ℕ, IfOk, MatchResult};
-ghost use Rattle.um_tree.specs.ProgramTree.{scheme_tree};
+ghost use Rattle.std.specs.Prelude.{◌≡◌, ◌≤◌, ◌<◌, ◌+◌, ◌^◌, ℕ, nat_eq, if◌then◌else◌, List, [], All, Some, map, take, drop, length, pos, slice_get, slice_index_or, IfOk, MatchResult, IsTrue};
+ghost use Rattle.std.specs.List.{list_all};
+ghost use Rattle.um_units.specs.declared.Atom.TheVariants.{Base, Var};
+ghost use Rattle.um_units.specs.PowerMap.{PowerMap, one, atom, power_of, replace, nth};
+ghost use Rattle.um_units.specs.Variables.{VariablesBelow};
+ghost use Rattle.um_tree.specs.TypeTree.{num_type, type_tree, type_trees};
+ghost use Rattle.um_tree.specs.Typing.{put};
+ghost use Rattle.um_tree.specs.Scheme.{signature_types, variables};
+ghost use Rattle.um_tree.specs.ProgramTree.{SchemeTree, scheme_tree};
+ghost use Rattle.um_elim.specs.Application.{type_fits};
+ghost use Rattle.um_elim.specs.Numbering.{renumbered, variable_order};
+ghost use Rattle.um_wide.specs.Room.{IsNarrow};
+ghost use Rattle.um_rows.specs.Answers.{rows_signature};
+ghost use Rattle.um_rows.specs.Generalised.{generalised_unit as unit_in_place};
+ghost use Rattle.um_rows.specs.Steps.{units_of};
+ghost use Rattle.um_check.specs.Combination.{NamesRowsBelow};
+ghost use Rattle.um_check.specs.Validity.{returned};
+ghost use Rattle.um_making.specs.Making.{exponents};
+ghost use Rattle.um_proof.specs.Making.{Kept, IsReached};
+ghost use Rattle.um_proof.specs.Steps.{Agrees, CarriesReturned, held_below, start, to_number};
 ghost use Rattle.um_rows.specs.Judgement.{has_scheme};
 ghost use Rattle.um_proof.specs.Answers.{AreFunctionRows, judged, IsYesMade};
 
@@ -59,7 +77,14 @@ fn certificate(
     head: Head,
     rows: &Rows,
     making: &Making,
-) -> Result<Yes, CertStop> {
+) -> Result<Yes, CertStop>
+    requires rows { AreFunctionRows head.bases head.parameters rows.now }
+    requires slots { head.slots ≡ rows.now.slots }
+    ensures { (kept : Kept) (at : ℕ) (s : SchemeTree)
+        → IsReached (units_of rows.now.list.items.items) (start head) (length rows.now.list.items.items) kept
+        → Agrees head making.now kept → judged head.bases head.parameters at rows.now ≡ has_scheme s
+        → IsYesMade head.bases head.parameters rows.now s result }
+{
     let rigid = rigid_solution(alloc, head, &making.solution)?;
     let general = general_solution(alloc, head, &making.solution)?;
     let held = held_variables(alloc, head, &general)?;
@@ -80,7 +105,10 @@ fn certificate(
 }
 
 /// With unit parameters the units with 1 put for their variables, and else none.
-fn rigid_solution(alloc: Global, head: Head, solution: &[Unit]) -> Result<Vec<Unit>, NoMemory> {
+fn rigid_solution(alloc: Global, head: Head, solution: &[Unit]) -> Result<Vec<Unit>, NoMemory>
+    ensures { IfOk result (λ units. units.items
+        ≡ (if nat_eq head.parameters 0 then [] else map (replace (λ _. one)) solution.now)) }
+{
     let mut out = Vec::new(alloc);
     if head.parameters == 0 {
         return Ok(out);
@@ -92,7 +120,9 @@ fn rigid_solution(alloc: Global, head: Head, solution: &[Unit]) -> Result<Vec<Un
 }
 
 /// The unit with 1 put for its variables.
-fn closed(alloc: Global, unit: &Unit) -> Result<Unit, AllocError> {
+fn closed(alloc: Global, unit: &Unit) -> Result<Unit, AllocError>
+    ensures { IfOk result (λ made. made ≡ replace (λ _. one) unit.now) }
+{
     let mut terms: Vec<Term> = Vec::new(alloc);
     for term in unit.terms() {
         if let Atom::Base(_) = term.atom {
@@ -107,7 +137,13 @@ fn closed(alloc: Global, unit: &Unit) -> Result<Unit, AllocError> {
 }
 
 /// The units with the variable `slots + k` for the base unit of unit parameter k.
-fn general_solution(alloc: Global, head: Head, solution: &[Unit]) -> Result<Vec<Unit>, NoMemory> {
+fn general_solution(alloc: Global, head: Head, solution: &[Unit]) -> Result<Vec<Unit>, NoMemory>
+    requires bases { head.bases + head.parameters < 2 ^ 32 }
+    requires slots { head.slots + head.parameters < 2 ^ 32 }
+    requires below { All (VariablesBelow head.slots) solution.now }
+    ensures { IfOk result (λ units. units.items
+        ≡ map (unit_in_place head.bases head.parameters head.slots) solution.now) }
+{
     let mut out = Vec::new(alloc);
     for unit in solution {
         let general = generalised_unit(alloc, head.bases, head.parameters, head.slots, unit)?;
@@ -117,7 +153,11 @@ fn general_solution(alloc: Global, head: Head, solution: &[Unit]) -> Result<Vec<
 }
 
 /// The variables that stand in the units, by their numbers.
-fn held_variables(alloc: Global, head: Head, units: &[Unit]) -> Result<Vec<u32>, NoMemory> {
+fn held_variables(alloc: Global, head: Head, units: &[Unit]) -> Result<Vec<u32>, NoMemory>
+    requires slots { head.slots + head.parameters < 2 ^ 32 }
+    requires below { All (VariablesBelow (head.slots + head.parameters)) units.now }
+    ensures { IfOk result (λ held. held.items ≡ held_below (head.slots + head.parameters) units.now) }
+{
     let mut marks: Vec<bool> = Vec::new(alloc);
     for _ in 0..head.slots + head.parameters {
         marks.push(false)?;
@@ -145,7 +185,14 @@ fn numbered_solution(
     rows: &Rows,
     units: &[Unit],
     held: &[u32],
-) -> Result<Numbered, NoMemory> {
+) -> Result<Numbered, NoMemory>
+    requires fits { IsTrue (list_all type_fits (map (put (nth units.now)) (signature_types (rows_signature rows.now)))) }
+    requires variables { All (λ k. k < 4294967295) (variables (to_number (rows_signature rows.now) units.now held.now)) }
+    ensures types { IfOk result (λ n. type_trees n.types
+        ≡ renumbered (to_number (rows_signature rows.now) units.now held.now)) }
+    ensures vars { IfOk result (λ n. n.vars
+        ≡ length (variable_order (to_number (rows_signature rows.now) units.now held.now))) }
+{
     let mut items = Vec::new(alloc);
     for ty in &rows.params.items {
         items.push(put_type(alloc, units, ty)?)?;
@@ -161,7 +208,10 @@ fn numbered_solution(
 }
 
 /// The type with the units put for its variables, which passes no range.
-fn put_type(alloc: Global, units: &[Unit], ty: &Ty) -> Result<Ty, AllocError> {
+fn put_type(alloc: Global, units: &[Unit], ty: &Ty) -> Result<Ty, AllocError>
+    requires { IsTrue (type_fits (put (nth units.now) (type_tree ty.now))) }
+    ensures { IfOk result (λ t. type_tree t ≡ put (nth units.now) (type_tree ty.now)) }
+{
     match put_in_type(alloc, units, ty) {
         Ok(made) => Ok(made),
         Err(UnitStop::NoMemory) => Err(AllocError),
@@ -170,7 +220,11 @@ fn put_type(alloc: Global, units: &[Unit], ty: &Ty) -> Result<Ty, AllocError> {
 }
 
 /// The units of so many of the types, which are all numbers, from a place on.
-fn units_at(alloc: Global, types: &[Ty], from: usize, count: usize) -> Result<Vec<Unit>, NoMemory> {
+fn units_at(alloc: Global, types: &[Ty], from: usize, count: usize) -> Result<Vec<Unit>, NoMemory>
+    requires inside { from + count ≤ length types.now }
+    requires numbers { (us : List PowerMap) × (take count (drop from (map type_tree types.now)) ≡ map num_type us) }
+    ensures { IfOk result (λ units. map num_type units.items ≡ take count (drop from (map type_tree types.now))) }
+{
     let mut out = Vec::new(alloc);
     for i in from..from + count {
         let Ty::Num(unit) = &types[i] else {
@@ -188,7 +242,16 @@ fn back_at(
     first: usize,
     held: &[u32],
     back: &[Unit],
-) -> Result<Vec<Unit>, NoMemory> {
+) -> Result<Vec<Unit>, NoMemory>
+    requires inside { first + length held.now ≤ length numbered.now.types.items.items }
+    requires numbers { (i : ℕ) → i < length held.now → (n : ℕ) × (n < numbered.now.vars)
+        × (slice_get (type_trees numbered.now.types) (first + i) ≡ Some (num_type (atom (Var n)))) }
+    requires held { All (λ k. k < length back.now) held.now }
+    ensures count { IfOk result (λ units. length units.items ≡ numbered.now.vars) }
+    ensures back { IfOk result (λ units. (i n : ℕ) → i < length held.now
+        → slice_get (type_trees numbered.now.types) (first + i) ≡ Some (num_type (atom (Var n)))
+        → nth units.items n ≡ nth back.now (slice_index_or held.now i 0)) }
+{
     let mut out = Vec::new(alloc);
     for _ in 0..numbered.vars {
         out.push(Unit::one(alloc))?;
@@ -206,7 +269,12 @@ fn back_at(
 }
 
 /// Looks whether what each slot goes to and back, over the slot, has powers in 64 bits.
-fn all_return(alloc: Global, solution: &[Unit], back: &[Unit]) -> Result<(), CertStop> {
+fn all_return(alloc: Global, solution: &[Unit], back: &[Unit]) -> Result<(), CertStop>
+    requires { length solution.now ≤ 4294967295 }
+    ensures { MatchResult result
+        (λ _. (j : ℕ) → j < length solution.now → IsNarrow (returned solution.now back.now j))
+        (CarriesReturned solution.now back.now) }
+{
     for j in 0..solution.len() {
         let image = WideUnit::replaced(alloc, &solution[j], back)?;
         let slot = WideUnit::atom_power(alloc, Atom::Var(j as u32), -1)?;
@@ -218,7 +286,12 @@ fn all_return(alloc: Global, solution: &[Unit], back: &[Unit]) -> Result<(), Cer
 }
 
 /// The parts of each slot.
-fn part_lists(alloc: Global, powers: &[WideUnit]) -> Result<PartLists, NoMemory> {
+fn part_lists(alloc: Global, powers: &[WideUnit]) -> Result<PartLists, NoMemory>
+    requires narrow { All IsNarrow powers.now }
+    requires rows { All (λ u. (n : ℕ) → power_of u (Base n) ≡ pos 0) powers.now }
+    ensures exact { IfOk result (λ lists. map exponents lists ≡ powers.now) }
+    ensures named { (n : ℕ) → All (VariablesBelow n) powers.now → IfOk result (All (NamesRowsBelow n)) }
+{
     let mut items: Vec<Parts> = Vec::new(alloc);
     for slot in powers {
         items.push(parts_of(alloc, slot)?)?;
