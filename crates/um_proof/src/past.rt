@@ -1,7 +1,6 @@
 //! Numbers that pass what holds them.
 
-ghost use Rattle.std.specs.Prelude.{◌≡◌, ◌<◌, ℤ, Option, Some, None, nat_abs, pos, MatchResult, IfOk};
-ghost use Rattle.std.specs.Int.Signed.{◌≤ℤ◌};
+ghost use Rattle.std.specs.Prelude.{◌≡◌, ◌<◌, ℤ, Option, Some, None, nat_abs, nat_lt, pos, MatchResult, IfOk};
 ghost use Rattle.um_units.specs.PowerMap.{mul, pow};
 ghost use Rattle.um_wide.specs.Room.{IsNarrow, IsWithin};
 ghost use Rattle.um_proof.specs.Formed.{IsPowerIn};
@@ -12,14 +11,19 @@ use std::alloc::{AllocError, Global};
 use um_units::{Term, Unit, UnitStop};
 use um_wide::WideUnit;
 
+fn is_past(power: i128, limit: i64) -> bool
+    ensures { result ≡ nat_lt (nat_abs limit) (nat_abs power) }
+{
+    power.unsigned_abs() > u128::from(limit.unsigned_abs())
+}
+
 /// The first power of the unit whose absolute value is above the limit.
 pub fn first_past(unit: &WideUnit, limit: i64) -> Option<i128>
-    requires { pos 0 ≤ℤ limit }
     ensures none { result ≡ None → IsWithin (nat_abs limit) unit.now }
     ensures some { (z : ℤ) → result ≡ Some z → IsPowerIn z unit.now × (nat_abs limit < nat_abs z) }
 {
     for term in unit.terms() {
-        if term.power > i128::from(limit) || term.power < -i128::from(limit) {
+        if is_past(term.power, limit) {
             return Some(term.power);
         }
     }

@@ -1,2 +1,0 @@
--- Small makings, by computation of the definitions.
-use Rattle.std.proofs.Common.{◌≡◌, refl}
