@@ -1,8 +1,9 @@
 -- Powers of units against a limit.
-use Rattle.std.proofs.Common.{◌≡◌, ◌≢◌, ℕ, zero, suc, ◌<◌, ◌≤◌, true, false, List, [], ◌∷◌, length, get_or, pos, nat_abs, refl, sym, ap, ◌∙◌, subst, arith}
+use Rattle.std.proofs.Common.{◌≡◌, ◌≢◌, ℕ, zero, suc, ◌<◌, ◌≤◌, true, false, List, [], ◌∷◌, length, get_or, ℤ, pos, negsuc, nat_abs, FitsSigned, w32, refl, sym, ap, ◌∙◌, subst, arith}
 use Rattle.std.specs.Prelude.{Bool, IsTrue, nat_le}
 use Rattle.std.specs.List.{list_all}
-use Rattle.std.proofs.lemmas.Bool.{and_parts, leb-true, le-leb}
+use Rattle.std.proofs.lemmas.Bool.{and_parts, leb-true}
+use Rattle.std.proofs.lemmas.Int.{ints}
 use Rattle.um_units.specs.declared.Atom.{Atom}
 use Rattle.um_units.specs.declared.Term.{Term}
 use Rattle.um_units.specs.Atoms.{same_atom}
@@ -55,3 +56,8 @@ power_at (w ∷ ws) (suc i) d h l =
 
 pub power_held : (ws : List WideTerm) (u : PowerMap) (i : ℕ) (d : WideTerm) → as_terms ws ≡ u.terms → i < length ws → IsPowerIn (get_or ws i d).power u
 power_held ws u i d e l = ((get_or ws i d).atom, subst (λ ts. power_in ts (get_or ws i d).atom ≡ (get_or ws i d).power) e (power_at ws i d (subst (λ ts. IsTrue (is_normal ts)) (sym e) u.normal) l))
+
+-- such a power fits in 32 bits
+pub narrow32 : (z : ℤ) → nat_abs z ≤ 2147483647 → FitsSigned w32 z
+narrow32 (pos n) h = record { sfits = omega (arith, ints, h) }
+narrow32 (negsuc n) h = record { sfits = omega (arith, ints, h) }

@@ -11,6 +11,9 @@ use std::alloc::{AllocError, Global};
 use um_units::{Term, Unit, UnitStop};
 use um_wide::WideUnit;
 
+/// The greatest absolute power of a unit.
+const MAX_POWER: i64 = 2147483647;
+
 fn is_past(power: i128, limit: i64) -> bool
     ensures { result ≡ nat_lt (nat_abs limit) (nat_abs power) }
 {
@@ -45,7 +48,7 @@ pub fn narrowed(unit: WideUnit) -> Result<WideUnit, CertStop>
 pub fn unit_of(alloc: Global, wide: &WideUnit) -> Result<Unit, CertStop>
     ensures { MatchResult result (λ unit. unit ≡ wide.now) (CarriesPower 2147483647 wide.now) }
 {
-    match first_past(wide, i64::from(i32::MAX)) {
+    match first_past(wide, MAX_POWER) {
         None => Ok(narrow_unit(alloc, wide)?),
         Some(number) => Err(CertStop::CertRange { number }),
     }
