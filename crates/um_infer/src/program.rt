@@ -35,11 +35,7 @@ pub fn infer(alloc: Global, shaped: &Shaped) -> Result<Schemes, InferStop>
 }
 
 /// The schemes of the program's first functions, so many of them, or the first of these that has none, as `infer` says.
-pub fn infer_first(
-    alloc: Global,
-    shaped: &Shaped,
-    functions: u32,
-) -> Result<Schemes, InferStop>
+pub fn infer_first(alloc: Global, shaped: &Shaped, functions: u32) -> Result<Schemes, InferStop>
     requires { functions ≤ length (program_tree shaped.now).functions }
     ensures { IsFirstInferred (program_tree shaped.now) functions result }
 {

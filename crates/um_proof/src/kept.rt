@@ -80,12 +80,7 @@ fn first_unit(alloc: Global, head: Head, slot: u32) -> Result<Unit, AllocError>
 }
 
 /// Variable m times w for variable m in each unit.
-pub fn multiply_all(
-    alloc: Global,
-    units: &mut Vec<Unit>,
-    m: u32,
-    w: &Unit,
-) -> Result<(), CertStop>
+pub fn multiply_all(alloc: Global, units: &mut Vec<Unit>, m: u32, w: &Unit) -> Result<(), CertStop>
     ensures exact { OnOk result (units.new.items ≡ map (replace (multiply m w.now)) units.old.items) }
     ensures range { IfErr result (CarriesOneOf 2147483647 (map (replace (multiply m w.now)) units.old.items)) }
 {

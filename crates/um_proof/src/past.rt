@@ -73,13 +73,7 @@ fn narrow_unit(alloc: Global, wide: &WideUnit) -> Result<Unit, AllocError>
 }
 
 /// The unit to the power 1 or -1 times the other's k-th power.
-pub fn times(
-    alloc: Global,
-    unit: &Unit,
-    sign: i64,
-    other: &Unit,
-    k: i32,
-) -> Result<Unit, CertStop>
+pub fn times(alloc: Global, unit: &Unit, sign: i64, other: &Unit, k: i32) -> Result<Unit, CertStop>
     requires { nat_abs sign ≡ 1 }
     ensures { MatchResult result (λ made. made ≡ mul (pow unit.now sign) (pow other.now k))
         (CarriesPower 2147483647 (mul (pow unit.now sign) (pow other.now k))) }

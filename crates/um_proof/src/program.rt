@@ -112,7 +112,10 @@ fn of_function(i: u32, stop: CertStop) -> ProveStop
     ensures { result ≡ of_function i stop }
 {
     match stop {
-        CertStop::CertRange { number } => ProveStop::CertRange { function: i, number },
+        CertStop::CertRange { number } => ProveStop::CertRange {
+            function: i,
+            number,
+        },
         CertStop::NoMemory => ProveStop::NoMemory,
     }
 }

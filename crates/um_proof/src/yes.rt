@@ -72,12 +72,7 @@ pub fn make_yes(
 }
 
 /// The certificate by what is kept after all rows.
-fn certificate(
-    alloc: Global,
-    head: Head,
-    rows: &Rows,
-    making: &Making,
-) -> Result<Yes, CertStop>
+fn certificate(alloc: Global, head: Head, rows: &Rows, making: &Making) -> Result<Yes, CertStop>
     requires rows { AreFunctionRows head.bases head.parameters rows.now }
     requires slots { head.slots ≡ rows.now.slots }
     ensures { (kept : Kept) (at : ℕ) (s : SchemeTree)
@@ -90,7 +85,12 @@ fn certificate(
     let held = held_variables(alloc, head, &general)?;
     let numbered = numbered_solution(alloc, rows, &general, &held)?;
     let first = rows.params.items.len() + 1;
-    let solution = units_at(alloc, &numbered.types.items, first + held.len(), general.len())?;
+    let solution = units_at(
+        alloc,
+        &numbered.types.items,
+        first + held.len(),
+        general.len(),
+    )?;
     let back = back_at(alloc, &numbered, first, &held, &making.back)?;
     all_return(alloc, &solution, &back)?;
     let parts = part_lists(alloc, &making.parts)?;
@@ -260,7 +260,13 @@ fn back_at(
         let Ty::Num(unit) = &numbered.types.items[first + i] else {
             unreachable!()
         };
-        let [Term { atom: Atom::Var(number), power: _ }] = unit.terms() else {
+        let [
+            Term {
+                atom: Atom::Var(number),
+                power: _,
+            },
+        ] = unit.terms()
+        else {
             unreachable!()
         };
         out[*number as usize] = back[held[i] as usize].copy(alloc)?;
