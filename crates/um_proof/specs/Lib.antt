@@ -6,3 +6,4 @@ pub mod Answers
 pub mod Proving
 -- What mirrors the code.
 pub mod Steps
+pub mod ProgramSteps

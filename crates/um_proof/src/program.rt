@@ -1,8 +1,14 @@
 //! The certificates of a program.
 
-ghost use Rattle.std.specs.Prelude.{◌≡◌, ◌<◌, ◌≤◌, length, IfOk, MatchResult};
-ghost use Rattle.um_tree.specs.ProgramTree.{program_tree};
-ghost use Rattle.um_proof.specs.Proving.{IsProved};
+ghost use Rattle.std.specs.Prelude.{◌≡◌, ◌<◌, length, slice_get, Some, IfOk, IfErr};
+ghost use Rattle.um_tree.specs.ProgramTree.{FunctionTree, SchemeTree, program_tree};
+ghost use Rattle.um_rows.specs.Answers.{AreRowsOf};
+ghost use Rattle.um_rows.specs.Solutions.{HaveSchemes};
+ghost use Rattle.um_infer.specs.Answers.{scheme_trees};
+ghost use Rattle.um_infer.specs.Inference.{all_schemes, infer, infer_first};
+ghost use Rattle.um_proof.specs.declared.stop.CertStop.TheVariants.{NoMemory};
+ghost use Rattle.um_proof.specs.Proving.{IsProved, IsRefusal, IsYesOf};
+ghost use Rattle.um_proof.specs.ProgramSteps.{CarriesInFunction, HasRows, IsFirstRefused};
 ghost use Rattle.um_proof.specs.Steps.{of_function};
 
 use crate::{CertStop, Proofs, ProveStop, YesList, make_no, make_yes};
@@ -33,7 +39,10 @@ pub fn prove(alloc: Global, shaped: &Shaped) -> Result<Proofs, ProveStop>
 }
 
 /// The certificates up to function i, which is refused.
-fn refused_proofs(alloc: Global, shaped: &Shaped, i: u32) -> Result<Proofs, ProveStop> {
+fn refused_proofs(alloc: Global, shaped: &Shaped, i: u32) -> Result<Proofs, ProveStop>
+    requires refused { IsFirstRefused (infer (program_tree shaped.now)) i }
+    ensures { IsProved (program_tree shaped.now) result }
+{
     match infer_first(alloc, shaped, i) {
         Ok(schemes) => match refusal_of(alloc, shaped, i, &schemes) {
             Ok(no) => with_yes(alloc, shaped, schemes, Some(no)),
@@ -58,7 +67,12 @@ fn with_yes(
     shaped: &Shaped,
     schemes: Schemes,
     no: Option<No>,
-) -> Result<Proofs, ProveStop> {
+) -> Result<Proofs, ProveStop>
+    requires before { infer_first (program_tree shaped.now) (length schemes.items.items)
+        ≡ all_schemes (scheme_trees schemes) }
+    requires no { IsRefusal (program_tree shaped.now) (scheme_trees schemes) (infer (program_tree shaped.now)) no }
+    ensures { IsProved (program_tree shaped.now) result }
+{
     let mut items: Vec<Yes> = Vec::new(alloc);
     for i in 0..schemes.items.len() {
         match yes_of(alloc, shaped, i as u32, &schemes) {
@@ -79,7 +93,13 @@ fn with_yes(
 }
 
 /// The rows of function i, which has some.
-fn rows_of(alloc: Global, shaped: &Shaped, i: u32, schemes: &Schemes) -> Result<Rows, CertStop> {
+fn rows_of(alloc: Global, shaped: &Shaped, i: u32, schemes: &Schemes) -> Result<Rows, CertStop>
+    requires function { i < length (program_tree shaped.now).functions }
+    requires before { HaveSchemes (program_tree shaped.now) (scheme_trees schemes.now) i }
+    requires limits { HasRows (program_tree shaped.now) (scheme_trees schemes.now) i }
+    ensures equations { IfOk result (AreRowsOf (program_tree shaped.now) (scheme_trees schemes.now) i) }
+    ensures memory { IfErr result (λ stop. stop ≡ NoMemory) }
+{
     match rows(alloc, shaped, i, schemes) {
         Ok(rows) => Ok(rows),
         Err(RowStop::NoMemory) => Err(CertStop::NoMemory),
@@ -87,7 +107,15 @@ fn rows_of(alloc: Global, shaped: &Shaped, i: u32, schemes: &Schemes) -> Result<
     }
 }
 
-fn yes_of(alloc: Global, shaped: &Shaped, i: u32, schemes: &Schemes) -> Result<Yes, CertStop> {
+fn yes_of(alloc: Global, shaped: &Shaped, i: u32, schemes: &Schemes) -> Result<Yes, CertStop>
+    requires inside { i < length schemes.now.items.items }
+    requires inferred { infer_first (program_tree shaped.now) (length schemes.now.items.items)
+        ≡ all_schemes (scheme_trees schemes.now) }
+    ensures valid { (f : FunctionTree) (s : SchemeTree) → slice_get (program_tree shaped.now).functions i ≡ Some f
+        → slice_get (scheme_trees schemes.now) i ≡ Some s
+        → IfOk result (IsYesOf (program_tree shaped.now) (scheme_trees schemes.now) i f s) }
+    ensures range { IfErr result (CarriesInFunction (program_tree shaped.now) i) }
+{
     let equations = rows_of(alloc, shaped, i, schemes)?;
     let program = shaped.program();
     let units = program.functions.items[i as usize].units;
@@ -97,7 +125,13 @@ fn yes_of(alloc: Global, shaped: &Shaped, i: u32, schemes: &Schemes) -> Result<Y
     made
 }
 
-fn refusal_of(alloc: Global, shaped: &Shaped, i: u32, schemes: &Schemes) -> Result<No, CertStop> {
+fn refusal_of(alloc: Global, shaped: &Shaped, i: u32, schemes: &Schemes) -> Result<No, CertStop>
+    requires refused { IsFirstRefused (infer (program_tree shaped.now)) i }
+    requires before { infer_first (program_tree shaped.now) i ≡ all_schemes (scheme_trees schemes.now) }
+    ensures valid { IfOk result (λ no. IsRefusal (program_tree shaped.now) (scheme_trees schemes.now)
+        (infer (program_tree shaped.now)) (Some no)) }
+    ensures range { IfErr result (CarriesInFunction (program_tree shaped.now) i) }
+{
     let equations = rows_of(alloc, shaped, i, schemes)?;
     let program = shaped.program();
     let units = program.functions.items[i as usize].units;
