@@ -1,5 +1,5 @@
 -- Powers of units against a limit.
-use Rattle.std.proofs.Common.{◌≡◌, ◌≢◌, ℕ, zero, suc, ◌<◌, ◌≤◌, true, false, List, [], ◌∷◌, length, get_or, ℤ, pos, negsuc, nat_abs, FitsSigned, w32, refl, sym, ap, ◌∙◌, subst, arith}
+use Rattle.std.proofs.Common.{◌≡◌, ◌≢◌, ℕ, zero, suc, ◌<◌, ◌≤◌, true, false, List, [], ◌∷◌, length, get_or, ℤ, pos, negsuc, nat_abs, ◌-ℤ◌, FitsSigned, w32, refl, sym, ap, ◌∙◌, subst, arith}
 use Rattle.std.specs.Prelude.{Bool, IsTrue, nat_le}
 use Rattle.std.specs.List.{list_all}
 use Rattle.std.proofs.lemmas.Bool.{and_parts, leb-true}
@@ -61,3 +61,6 @@ power_held ws u i d e l = ((get_or ws i d).atom, subst (λ ts. power_in ts (get_
 pub narrow32 : (z : ℤ) → nat_abs z ≤ 2147483647 → FitsSigned w32 z
 narrow32 (pos n) h = record { sfits = omega (arith, ints, h) }
 narrow32 (negsuc n) h = record { sfits = omega (arith, ints, h) }
+
+pub negated32 : (z : ℤ) → nat_abs z ≤ 2147483647 → FitsSigned w32 (pos 0 -ℤ z)
+negated32 z h = narrow32 (pos 0 -ℤ z) (omega (arith, ints, h))
