@@ -1,20 +1,39 @@
 -- The variables of the units of a turn are slots.
-use Rattle.std.proofs.Common.{◌≡◌, ℕ, ◌<◌, Some, ℤ, sym, ◌∙◌, subst}
-use Rattle.um_units.specs.PowerMap.{PowerMap, replace}
+use Rattle.std.proofs.Common.{◌≡◌, ℕ, ◌<◌, Bool, true, false, sym, ◌∙◌, subst, pos, nat_abs}
+use Rattle.um_units.specs.declared.Atom.TheVariants.{Var}
+use Rattle.um_units.specs.PowerMap.{PowerMap, power_of, replace}
 use Rattle.um_units.specs.Variables.{VariablesBelow}
-use Rattle.um_elim.specs.declared.pivot.Pivot.{Pivot}
-use Rattle.um_elim.specs.Pivot.{pivot}
-use Rattle.um_elim.specs.Turn.{multiply, quotients, inverted_if_negative}
+use Rattle.um_units.proofs.Variables.{VariablesBelow-inv}
+use Rattle.um_elim.specs.declared.turning.Turn.{Turn}
+use Rattle.um_elim.specs.Turn.{multiply, inverted_if_negative, signed, IsTurnOf}
 use Rattle.um_elim.proofs.PivotLaws.{is_pivot}
+use Rattle.um_elim.proofs.TurnLaws.{power_of-quotients_pivot}
 use Rattle.um_elim.proofs.VariablesKept.{quotients_below, inverted_below, replaced_below}
 use Rattle.um_elim.proofs.IndexTurn.{multiply_stays}
 
-pub pivot_low : (n : ℕ) (r : PowerMap) (p : Pivot) → pivot r ≡ Some p → VariablesBelow n r → p.variable < n
-pivot_low n r p e below = let found = is_pivot r p e in below p.variable (λ z. found.nonzero (sym found.is ∙ z))
+module _ (n : ℕ) (r : PowerMap) (t : Turn) (is : IsTurnOf r t) where
+  pub turn_low : VariablesBelow n r → t.variable < n
+  turn_low below =
+      let found = is_pivot r is.0 is.1 in
+      subst (λ (x : Turn). x.variable < n) (sym is.2) (below is.0.variable (λ z. found.nonzero (sym found.is ∙ z)))
 
-pub factor_below : (n m p : ℕ) (a : ℤ) (r up w : PowerMap) → up ≡ inverted_if_negative a r → w ≡ quotients m p up → VariablesBelow n r → VariablesBelow n w
-factor_below n m p a r up w is made below = subst (VariablesBelow n) (sym made) (quotients_below n m p up (subst (VariablesBelow n) (sym is) (inverted_below n a r below)))
+  pub factor_below : VariablesBelow n r → VariablesBelow n t.by
+  factor_below below =
+      let p = is.0 in
+      subst (λ (x : Turn). VariablesBelow n x.by) (sym is.2)
+      (quotients_below n p.variable (nat_abs p.power) (inverted_if_negative p.power r) (inverted_below n p.power r below))
 
-pub remainder_below : (n m : ℕ) (a : ℤ) (r up w remainder : PowerMap) → up ≡ inverted_if_negative a r → VariablesBelow n w → remainder ≡ replace (multiply m w) up → VariablesBelow n r → VariablesBelow n remainder
-remainder_below n m a r up w remainder is low made below =
-    subst (VariablesBelow n) (sym made) (replaced_below n (multiply m w) (multiply_stays n m w low) up (subst (VariablesBelow n) (sym is) (inverted_below n a r below)))
+-- the variable of a turn doesn't stand in what it is multiplied by
+pub turn_absent : (r : PowerMap) (t : Turn) → IsTurnOf r t → power_of t.by (Var t.variable) ≡ pos 0
+turn_absent r t is =
+    let p = is.0 in
+    subst (λ (x : Turn). power_of x.by (Var x.variable) ≡ pos 0) (sym is.2)
+    (power_of-quotients_pivot p.variable (nat_abs p.power) (inverted_if_negative p.power r))
+
+signed_below : (n : ℕ) (b : Bool) (r : PowerMap) → VariablesBelow n r → VariablesBelow n (signed b r)
+signed_below n true r below = VariablesBelow-inv n r below
+signed_below n false r below = below
+
+pub remainder_below : (n m : ℕ) (b : Bool) (r w remainder : PowerMap) → VariablesBelow n w → remainder ≡ replace (multiply m w) (signed b r) → VariablesBelow n r → VariablesBelow n remainder
+remainder_below n m b r w remainder low made below =
+    subst (VariablesBelow n) (sym made) (replaced_below n (multiply m w) (multiply_stays n m w low) (signed b r) (signed_below n b r below))

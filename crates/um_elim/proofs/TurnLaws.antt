@@ -18,7 +18,7 @@ use Rattle.um_units.proofs.Group.{weight-inv, inv-one, inv-inv}
 use Rattle.um_units.proofs.Replacement.{replace-inv}
 use Rattle.um_elim.specs.declared.pivot.Pivot.{Pivot}
 use Rattle.um_elim.specs.Pivot.{pivot, size, least_power, has_other}
-use Rattle.um_elim.specs.Turn.{quotients, multiply, turn, inverted_if_negative}
+use Rattle.um_elim.specs.Turn.{quotients, multiply, turn, inverted_if_negative, is_negative, signed}
 use Rattle.um_elim.proofs.Cases.{on_test}
 use Rattle.um_elim.proofs.Shear.{power_of-multiply, power_of-multiply_same, multiply_back}
 use Rattle.um_elim.proofs.PivotLaws.{no_pivot, is_pivot, some_other}
@@ -120,3 +120,8 @@ pub positive_size : (a : ℤ) → a ≢ pos 0 → 0 < nat_abs a
 positive_size (pos zero) n = absurd (n refl)
 positive_size (pos (suc k)) n = omega arith
 positive_size (negsuc k) n = omega arith
+
+-- ---- the sign of a turn
+pub signed_inverted : (a : ℤ) (r : PowerMap) → signed (is_negative a) r ≡ inverted_if_negative a r
+signed_inverted (pos n) r = refl
+signed_inverted (negsuc n) r = refl

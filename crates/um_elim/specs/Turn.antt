@@ -1,13 +1,16 @@
 -- One turn of the elimination: the substitution that brings each other power of a unit below the pivot's.
 -- Source: Kennedy (1996), on unification in the free abelian group: x is replaced by x times the product over the
 -- other atoms y of y to the power of the negated quotient, rounded down, of y's power and x's.
-use Rattle.std.specs.Prelude.{ℕ, ◌==◌, if◌then◌else◌, map, ℤ, pos, negsuc}
+use Rattle.std.specs.Prelude.{◌≡◌, ℕ, ◌==◌, if◌then◌else◌, Bool, true, false, Option, Some, None, map, ℤ, pos, negsuc, nat_abs}
 use Rattle.std.proofs.Common.{neg_ℤ}
 use Rattle.std.specs.Int.{int_div_euclid}
 use Rattle.um_units.specs.declared.Atom.TheVariants.{Var}
 use Rattle.um_units.specs.declared.Term.{Term}
 use Rattle.um_units.specs.Atoms.{same_atom}
 use Rattle.um_units.specs.PowerMap.{PowerMap, product, atom, mul, inv}
+use Rattle.um_elim.specs.declared.pivot.Pivot.{Pivot}
+use Rattle.um_elim.specs.declared.turning.Turn.{Turn}
+use Rattle.um_elim.specs.Pivot.{pivot}
 
 -- w for variable m, and each other variable for itself
 abbrev pub substitute : ℕ → PowerMap → ℕ → PowerMap
@@ -36,3 +39,31 @@ turn m p r = multiply m (quotients m p r)
 abbrev pub inverted_if_negative : ℤ → PowerMap → PowerMap
 inverted_if_negative (pos n) r = r
 inverted_if_negative (negsuc n) r = inv r
+
+-- ---- a turn as data
+
+abbrev pub is_negative : ℤ → Bool
+is_negative (pos n) = false
+is_negative (negsuc n) = true
+
+-- inverted, or as it is
+abbrev pub signed : Bool → PowerMap → PowerMap
+signed true r = inv r
+signed false r = r
+
+-- the turn of r at a pivot
+abbrev pub turn_of : Pivot → PowerMap → Turn
+turn_of p r = record {
+  variable = p.variable;
+  inverted = is_negative p.power;
+  by = quotients p.variable (nat_abs p.power) (inverted_if_negative p.power r);
+}
+
+-- at the pivot of r
+abbrev pub IsTurnOf : PowerMap → Turn → Type 0
+IsTurnOf r t = (p : Pivot) × (pivot r ≡ Some p) × (t ≡ turn_of p r)
+
+-- it is the next one, or there is none where r holds no variable
+abbrev pub IsNextTurn : PowerMap → Option Turn → Type 0
+IsNextTurn r None = pivot r ≡ None
+IsNextTurn r (Some t) = IsTurnOf r t

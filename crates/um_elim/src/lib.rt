@@ -14,8 +14,10 @@ mod replacement;
 mod solver;
 mod stop;
 mod turn;
+mod turning;
 
 pub use application::put_in_type;
 pub use numbering::{Numbered, renumber};
 pub use solver::Solver;
 pub use stop::ElimStop;
+pub use turning::{Turn, next_turn, turned};

@@ -11,7 +11,7 @@ ghost use Rattle.um_elim.specs.Turn.{multiply, substitute};
 ghost use Rattle.um_elim.specs.Index.{holders, IsIndex};
 
 use crate::index::{SlotList, follow_terms};
-use crate::turn::multiplied;
+use crate::turning::multiplied;
 use std::alloc::Global;
 use um_units::{Atom, Unit, UnitStop};
 

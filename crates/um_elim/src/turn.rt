@@ -1,4 +1,4 @@
-//! One turn of the elimination, at the pivot of the unit that a row is turned into.
+//! One turn of the elimination: what it makes of the unit that a row is turned into, and of the units of the slots.
 
 ghost use Rattle.std.specs.Prelude.{◌≡◌, ◌<◌, ◌<ℤ◌, ◌≤◌, length, map, set, pos, nat_abs, IfOk, OnOk, IfErr, MatchResult, IsTrue, slice_index_or};
 ghost use Rattle.std.proofs.Common.{neg_ℤ};
@@ -17,10 +17,10 @@ ghost use Rattle.um_units.specs.Variables.{VariablesBelow};
 
 use crate::ElimStop;
 use crate::index::{SlotList, multiply_holders};
-use crate::pivot::pivot_of;
 use crate::replacement::put_in_holders;
-use std::alloc::{AllocError, Global};
-use um_units::{Atom, Term, Unit, UnitStop};
+use crate::turning::{next_turn, turned};
+use std::alloc::Global;
+use um_units::{Atom, Term, Unit};
 
 /// What is to be done after a turn.
 pub enum Step {
@@ -45,93 +45,22 @@ pub fn take_turn(
     ensures indexed { OnOk result (IsIndex units.new.items index.new.items) }
     ensures variables { IfOk result (RemainderBelow (length units.old.items)) }
 {
-    let Some(pivot) = pivot_of(r.terms()) else {
+    let Some(turn) = next_turn(alloc, r)? else {
         if r.terms().is_empty() {
             return Ok(Step::Ended);
         }
         return Err(ElimStop::NoSolution);
     };
-    let positive = inverted_if_negative(alloc, r, pivot.power)?;
-    let factor = quotients_of(alloc, &positive, pivot.variable, absolute(pivot.power))?;
-    let remainder = multiplied(alloc, &positive, pivot.variable, &factor)?;
-    if has_other_variable(remainder.terms(), pivot.variable) {
-        multiply_holders(alloc, units, index, pivot.variable, &factor)?;
+    let remainder = turned(alloc, r, &turn)?;
+    if has_other_variable(remainder.terms(), turn.variable) {
+        multiply_holders(alloc, units, index, turn.variable, &turn.by)?;
         return Ok(Step::Again(remainder));
     }
-    put_in_holders(alloc, units, index, pivot.variable, &factor)?;
+    put_in_holders(alloc, units, index, turn.variable, &turn.by)?;
     if has_base_unit(remainder.terms()) {
         return Err(ElimStop::NoSolution);
     }
     Ok(Step::Ended)
-}
-
-/// The unit, inverted where the power is negative.
-fn inverted_if_negative(alloc: Global, unit: &Unit, power: i32) -> Result<Unit, AllocError>
-    ensures { IfOk result (λ u. u ≡ inverted_if_negative power unit.now) }
-{
-    if power < 0 {
-        unit.inv(alloc)
-    } else {
-        unit.copy(alloc)
-    }
-}
-
-fn absolute(power: i32) -> i32
-    requires { IsTrue (in_range power) }
-    ensures { result ≡ pos (nat_abs power) }
-{
-    if power < 0 { -power } else { power }
-}
-
-/// The product over the atoms y other than variable m of y to the negated quotient, rounded down, of its power and p.
-fn quotients_of(alloc: Global, unit: &Unit, m: u32, p: i32) -> Result<Unit, UnitStop>
-    requires { pos 0 <ℤ p }
-    ensures exact { IfOk result (λ u. u ≡ quotients m (nat_abs p) unit.now) }
-    ensures absent { IfOk result (λ u. power_of u (Var m) ≡ pos 0) }
-    ensures fits { IfOk result (λ u. IsTrue (fits u)) }
-    ensures memory { IfErr result (λ stop. stop ≡ NoMemory) }
-{
-    let terms = negated_quotients(alloc, unit.terms(), m, p)?;
-    Unit::from_terms(alloc, &terms)
-}
-
-fn negated_quotients(alloc: Global, terms: &[Term], m: u32, p: i32) -> Result<Vec<Term>, UnitStop>
-    requires range { IsTrue (all_in_range terms.now) }
-    requires p { pos 0 <ℤ p }
-    ensures exact { IfOk result (λ v. v.items ≡ map (less_quotient m (nat_abs p)) terms.now) }
-    ensures memory { IfErr result (λ stop. stop ≡ NoMemory) }
-{
-    let mut out = Vec::new(alloc);
-    for term in terms {
-        out.push(negated_quotient(*term, m, p))?;
-    }
-    Ok(out)
-}
-
-/// The negated quotient, rounded down, of the term's power and p, or 0 for variable m.
-fn negated_quotient(term: Term, m: u32, p: i32) -> Term
-    requires range { IsTrue (in_range term.power) }
-    requires p { pos 0 <ℤ p }
-    ensures { result ≡ less_quotient m (nat_abs p) term }
-{
-    let power = if term.atom == Atom::Var(m) {
-        0
-    } else {
-        -term.power.div_euclid(p)
-    };
-    Term {
-        atom: term.atom,
-        power,
-    }
-}
-
-/// The unit with variable m times w put for variable m.
-pub fn multiplied(alloc: Global, unit: &Unit, m: u32, w: &Unit) -> Result<Unit, UnitStop>
-    ensures exact { IfOk result (λ u. u ≡ replace (multiply m w.now) unit.now) }
-    ensures range { RangeUnless result (fits (replace (multiply m w.now) unit.now)) }
-{
-    let power = unit.power_of(Atom::Var(m));
-    unit.mul_pow(alloc, w, power)
 }
 
 /// Whether a variable other than m stands in the terms.

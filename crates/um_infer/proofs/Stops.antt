@@ -29,5 +29,8 @@ module _ (p : ProgramTree) where
       let next = λ (schemes : List SchemeTree). with_function (length p.bases) p.records schemes n (slice_get p.functions n) in
       ap (λ q. and_then q next) (stays i r final is n less) ∙ final next)
 
+  pub stops_first : (n i : ℕ) (j : Judgement) (h : IsJudged p i j) → ((next : List SchemeTree → Inference) → and_then (with_judgement h.schemes i j) next ≡ with_judgement h.schemes i j) → i < n → infer_first p n ≡ with_judgement h.schemes i j
+  stops_first n i j h final l = stays i (with_judgement h.schemes i j) final (after_before i j h) n l
+
   pub stops : (i : ℕ) (j : Judgement) (h : IsJudged p i j) → ((next : List SchemeTree → Inference) → and_then (with_judgement h.schemes i j) next ≡ with_judgement h.schemes i j) → infer p ≡ with_judgement h.schemes i j
-  stops i j h final = stays i (with_judgement h.schemes i j) final (after_before i j h) (length p.functions) (slice_get_within p.functions i h.function h.declared)
+  stops i j h final = stops_first (length p.functions) i j h final (slice_get_within p.functions i h.function h.declared)

@@ -14,7 +14,7 @@ use Rattle.um_infer.specs.declared.stop.InferStop.TheVariants as stop
 use Rattle.um_infer.specs.declared.stop.CallStop.{CallStop}
 use Rattle.um_infer.specs.declared.stop.CallStop.TheVariants as call_stop
 use Rattle.um_infer.specs.Inference.{all_schemes, stops_at_slots, stops_at_range, stops_at_units}
-use Rattle.um_infer.specs.Inference.{stops_at_not_general, infer}
+use Rattle.um_infer.specs.Inference.{stops_at_not_general, infer_first}
 use Rattle.um_infer.specs.Schemes.{ArePrincipal, IsFirstWithoutUnits, IsFirstNotGeneral, IsJudged}
 use Rattle.um_infer.specs.CallJudgement.{judge_call}
 
@@ -24,14 +24,18 @@ scheme_trees schemes = map scheme_tree schemes.items.items
 
 -- ---- a program
 
--- the schemes that its inference gives, or its stop
+-- the schemes that the inference of its first n functions gives, or its stop
+abbrev pub IsFirstInferred : ProgramTree → ℕ → Result Schemes InferStop → Type 0
+IsFirstInferred p n (Ok schemes) = infer_first p n ≡ all_schemes (scheme_trees schemes)
+IsFirstInferred p n (Err (stop.Units i at)) = (row : ℕ) × (infer_first p n ≡ stops_at_units i row at)
+IsFirstInferred p n (Err (stop.NotGeneral i at)) = (row : ℕ) × (infer_first p n ≡ stops_at_not_general i row at)
+IsFirstInferred p n (Err (stop.PowerRange i at)) = infer_first p n ≡ stops_at_range i at
+IsFirstInferred p n (Err (stop.Slots i)) = infer_first p n ≡ stops_at_slots i
+IsFirstInferred p n (Err stop.NoMemory) = Unit {0}
+
+-- and that of all its functions
 abbrev pub IsInferred : ProgramTree → Result Schemes InferStop → Type 0
-IsInferred p (Ok schemes) = infer p ≡ all_schemes (scheme_trees schemes)
-IsInferred p (Err (stop.Units i at)) = (row : ℕ) × (infer p ≡ stops_at_units i row at)
-IsInferred p (Err (stop.NotGeneral i at)) = (row : ℕ) × (infer p ≡ stops_at_not_general i row at)
-IsInferred p (Err (stop.PowerRange i at)) = infer p ≡ stops_at_range i at
-IsInferred p (Err (stop.Slots i)) = infer p ≡ stops_at_slots i
-IsInferred p (Err stop.NoMemory) = Unit {0}
+IsInferred p r = IsFirstInferred p (length p.functions) r
 
 -- what such an answer says of the program's typings: the schemes are principal, or the function is the first without a
 -- typing, or it is the first that passes a limit

@@ -50,7 +50,8 @@ fn generalised_terms(
     Ok(out)
 }
 
-fn generalised_unit(
+/// The unit with the variable `slots + k` for the base unit `bases + k` of each unit parameter k. No power changes.
+pub fn generalised_unit(
     alloc: Global,
     bases: u32,
     parameters: u32,

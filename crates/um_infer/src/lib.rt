@@ -15,5 +15,6 @@ mod solving;
 mod stop;
 
 pub use call::type_call;
-pub use program::infer;
+pub use general::generalised_unit;
+pub use program::{infer, infer_first};
 pub use stop::{CallStop, InferStop};

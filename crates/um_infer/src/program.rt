@@ -4,7 +4,7 @@ ghost use Rattle.um_tree.specs.ProgramTree.{FunctionTree, program_tree};
 ghost use Rattle.um_tree.specs.Formed.{IsFormed};
 ghost use Rattle.um_rows.specs.Judgement.{judge};
 ghost use Rattle.um_rows.specs.Solutions.{HaveSchemes};
-ghost use Rattle.um_infer.specs.Answers.{IsInferred, SaysOfTypings, scheme_trees};
+ghost use Rattle.um_infer.specs.Answers.{IsFirstInferred, IsInferred, SaysOfTypings, scheme_trees};
 ghost use Rattle.um_infer.specs.Forming.{IsAnswer};
 ghost use Rattle.um_infer.specs.Refusals.{stop_of};
 
@@ -31,6 +31,15 @@ pub fn infer(alloc: Global, shaped: &Shaped) -> Result<Schemes, InferStop>
     ensures typings { SaysOfTypings (program_tree shaped.now) result }
 {
     let functions = function_count(shaped);
+    infer_first(alloc, shaped, functions)
+}
+
+/// The schemes of the program's first functions, so many of them, or the first of these that has none, as `infer` says.
+pub fn infer_first(alloc: Global, shaped: &Shaped, functions: u32) -> Result<Schemes, InferStop>
+    requires { functions ≤ length (program_tree shaped.now).functions }
+    ensures { IsFirstInferred (program_tree shaped.now) functions result }
+{
+    prove!(functions <= function_count(shaped));
     let mut schemes = Schemes {
         items: Vec::new(alloc),
     };

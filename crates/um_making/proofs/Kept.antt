@@ -18,7 +18,9 @@ use Rattle.um_units.proofs.Group.{weight-one, weight-atom, weight-mul, weight-po
 use Rattle.um_units.proofs.Replacement.{weight-replace, weight_held, replace-one, replace-mul, replace-pow, nth-map}
 use Rattle.um_elim.specs.Turn.{substitute, multiply}
 use Rattle.um_elim.proofs.Shear.{replace-multiply, substitute-one}
-use Rattle.um_turns.specs.Turns.{Turn, IsShear, signed, unit_after, units_after}
+use Rattle.um_elim.specs.declared.turning.Turn.{Turn}
+use Rattle.um_elim.specs.Turn.{signed}
+use Rattle.um_turns.specs.Turns.{IsShear, unit_after, units_after}
 use Rattle.um_making.specs.Making.{signed_by, divided_back, back_after, IsKept, at_slot, total, parts_after}
 use Rattle.um_units.proofs.Replacement.{extension-mul, extension-atom}
 use Rattle.um_making.proofs.Extensions.{weight-extension, extension-pow, extension-turn}

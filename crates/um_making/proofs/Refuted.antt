@@ -17,7 +17,8 @@ use Rattle.um_units.proofs.Replacement.{weight_held}
 use Rattle.um_elim.proofs.Cases.{on_test}
 use Rattle.um_elim.proofs.Shear.{weight-sum}
 use Rattle.um_check.specs.Refutation.{IsApart}
-use Rattle.um_turns.specs.Turns.{Turn, IsShear, unit_after, IsStuck, IsClosedLeft}
+use Rattle.um_elim.specs.declared.turning.Turn.{Turn}
+use Rattle.um_turns.specs.Turns.{IsShear, unit_after, IsStuck, IsClosedLeft}
 use Rattle.um_making.specs.Making.{signed_by, back_after, IsKept, total}
 use Rattle.um_making.proofs.Extensions.{weight-extension}
 use Rattle.um_making.proofs.Kept.{unit_comes_back, pow-signed_by, replace-signed_by, total_is, back_after-base}

@@ -8,7 +8,8 @@ use Rattle.um_units.specs.Atoms.{same_atom}
 use Rattle.um_units.specs.PowerMap.{PowerMap, product, power_of, one, atom, mul, inv, pow, replace, nth, extension}
 use Rattle.um_check.specs.declared.certificate.Part.{Part}
 use Rattle.um_check.specs.Refutation.{IsApart}
-use Rattle.um_turns.specs.Turns.{Turn, signed}
+use Rattle.um_elim.specs.declared.turning.Turn.{Turn}
+use Rattle.um_elim.specs.Turn.{signed}
 
 -- ---- the way back: a unit for each atom. Powers of rows are units over the variables that are the rows' numbers
 

@@ -4,7 +4,9 @@ use Rattle.um_units.specs.declared.Atom.{Atom}
 use Rattle.um_units.specs.declared.Atom.TheVariants.{Var}
 use Rattle.um_units.specs.declared.Term.{Term}
 use Rattle.um_units.specs.PowerMap.{PowerMap, product, atom}
-use Rattle.um_turns.specs.Turns.{Turn, turn_of, unit_after, units_after}
+use Rattle.um_elim.specs.declared.turning.Turn.{Turn}
+use Rattle.um_elim.specs.Turn.{turn_of}
+use Rattle.um_turns.specs.Turns.{unit_after, units_after}
 
 abbrev power : Atom → ℤ → Term
 power x k = record { atom = x; power = k }

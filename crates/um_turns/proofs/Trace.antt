@@ -15,17 +15,14 @@ use Rattle.um_units.proofs.Equality.{same_unit, power_in-head}
 use Rattle.um_units.proofs.Group.{weight-one}
 use Rattle.um_elim.specs.declared.pivot.Pivot.{Pivot}
 use Rattle.um_elim.specs.Pivot.{pivot, size, least_power, has_other, has_base}
-use Rattle.um_elim.specs.Turn.{substitute, turn, inverted_if_negative}
+use Rattle.um_elim.specs.Turn.{substitute, turn, inverted_if_negative, signed, is_negative, turn_of}
 use Rattle.um_elim.specs.Elimination.{Solved, NoSolution, Range, is_empty, ended, after_turn, turn_at, turns}
 use Rattle.um_elim.proofs.PivotLaws.{is_pivot, no_pivot, some_base, no_other}
 use Rattle.um_turns.proofs.Ends.{only_power}
-use Rattle.um_elim.proofs.TurnLaws.{IsRemainder, power_of-quotients_pivot, power_of-turn_pivot, power_of-turn_other, least_power-falls, positive_pivot, positive_size}
-use Rattle.um_turns.specs.Turns.{Turn, IsShear, signed, unit_after, is_negative, turn_of, AreTurnsOf, IsTreated, IsRefusedBy}
+use Rattle.um_elim.proofs.TurnLaws.{IsRemainder, power_of-quotients_pivot, power_of-turn_pivot, power_of-turn_other, least_power-falls, positive_pivot, positive_size, signed_inverted}
+use Rattle.um_elim.specs.declared.turning.Turn.{Turn}
+use Rattle.um_turns.specs.Turns.{IsShear, unit_after, AreTurnsOf, IsTreated, IsRefusedBy}
 use Rattle.um_turns.specs.Laws.{SolvedRowsFollowTurns, RefusedRowsFollowTurns}
-
-signed_inverted : (a : ℤ) (r : PowerMap) → signed (is_negative a) r ≡ inverted_if_negative a r
-signed_inverted (pos n) r = refl
-signed_inverted (negsuc n) r = refl
 
 empty_one : (r : PowerMap) → is_empty r.terms ≡ true → r ≡ one
 empty_one r f = same_unit _ _ (λ x. ap (λ ts. power_in ts x) (no_terms r.terms f) ∙ sym (weight-one (indicator x)))

@@ -1,42 +1,12 @@
 -- Turns of a unit, what they make of units, and what they leave of the unit.
 -- Source: Kennedy (1996), on unification in the free abelian group: x is replaced by x times a product of the other
--- atoms, which brings their powers below x's. That a turn is data is this project's own.
+-- atoms, which brings their powers below x's. That turns are data is this project's own.
 use Rattle.std.specs.Prelude.{◌==◌, ◌≡◌, ◌≢◌, ◌⊎◌, ℕ, ◌<◌, Bool, true, false, List, [], ◌∷◌, map, All, ℤ, pos, negsuc}
 use Rattle.std.specs.Prelude.{nat_abs, Some}
 use Rattle.um_units.specs.declared.Atom.TheVariants.{Base, Var}
 use Rattle.um_units.specs.PowerMap.{PowerMap, power_of, one, atom, inv, pow, replace}
-use Rattle.um_elim.specs.declared.pivot.Pivot.{Pivot}
-use Rattle.um_elim.specs.Pivot.{pivot}
-use Rattle.um_elim.specs.Turn.{substitute, multiply, quotients, inverted_if_negative}
-
--- a turn: x is the variable, r is inverted first or not, and x times `by` is put for x
-pub record Turn : Type 0 where
-  pub variable : ℕ
-  pub inverted : Bool
-  pub by : PowerMap
-
--- inverted, or as it is
-abbrev pub signed : Bool → PowerMap → PowerMap
-signed true u = inv u
-signed false u = u
-
--- ---- the turn of a unit r
-
-abbrev pub is_negative : ℤ → Bool
-is_negative (pos n) = false
-is_negative (negsuc n) = true
-
--- at a pivot of r: the quotients, rounded down, of the other powers by the pivot's
-abbrev pub turn_of : Pivot → PowerMap → Turn
-turn_of q r = record {
-  variable = q.variable;
-  inverted = is_negative q.power;
-  by = quotients q.variable (nat_abs q.power) (inverted_if_negative q.power r);
-}
-
--- at the pivot of r
-abbrev pub IsTurnOf : PowerMap → Turn → Type 0
-IsTurnOf r t = (q : Pivot) × (pivot r ≡ Some q) × (t ≡ turn_of q r)
+use Rattle.um_elim.specs.declared.turning.Turn.{Turn}
+use Rattle.um_elim.specs.Turn.{substitute, multiply, signed, IsTurnOf}
 
 -- ---- turns one after another
 

@@ -5,7 +5,7 @@ use Rattle.um_units.specs.PowerMap.{mul, pow, replace}
 use Rattle.um_units.specs.Range.{fits, RangeUnless}
 use Rattle.um_elim.specs.Turn.{multiply}
 use Rattle.um_elim.proofs.Shear.{replace-multiply}
-use Rattle.um_elim.proofs.turn.multiplied.Goals as goal
+use Rattle.um_elim.proofs.turning.multiplied.Goals as goal
 
 exact : (c : goal.After-mul_pow) → mul c.args.unit.now (pow c.args.w.now (to_z w32 (of_z w32 c.power_of-power.result))) ≡ replace (multiply c.args.m c.args.w.now) c.args.unit.now
 exact c =

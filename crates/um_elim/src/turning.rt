@@ -1,0 +1,146 @@
+//! The turn that a unit asks for, as data.
+
+ghost use Rattle.std.specs.Prelude.{◌≡◌, ◌<ℤ◌, Some, map, pos, nat_abs, IfOk, IsTrue};
+ghost use Rattle.um_units.specs.declared.Atom.TheVariants.{Var};
+ghost use Rattle.um_units.specs.PowerMap.{power_of, replace};
+ghost use Rattle.um_units.specs.Range.{all_in_range, fits, in_range, RangeUnless};
+ghost use Rattle.um_elim.specs.declared.turning.Turn.{Turn as TurnData};
+ghost use Rattle.um_elim.specs.Pivot.{pivot};
+ghost use Rattle.um_elim.specs.Turn.{is_negative, signed, less_quotient, multiply, quotients, turn_of, IsNextTurn};
+
+use crate::pivot::{Pivot, pivot_of};
+use std::alloc::{AllocError, Global};
+use um_units::{Atom, NoMemory, Term, Unit, UnitStop};
+
+/// A turn of the elimination of a unit: the unit is inverted first or not, and a variable times `by` is put for the
+/// variable.
+#[derive(Drop)]
+pub struct Turn {
+    pub variable: u32,
+    pub inverted: bool,
+    pub by: Unit,
+}
+
+/// The turn that the elimination of the unit takes next, at its pivot: the variable with the least absolute power, and of
+/// equals the one with the greatest number. The unit is inverted where that power is negative, and `by` brings each other
+/// power below it (Kennedy 1996; the choice of the pivot is this project's own). None comes exactly where the unit holds
+/// no variable.
+pub fn next_turn(alloc: Global, unit: &Unit) -> Result<Option<Turn>, NoMemory>
+    ensures next { IfOk result (IsNextTurn unit.now) }
+    ensures fits { IfOk result (λ next. (turn : TurnData) → next ≡ Some turn → IsTrue (fits turn.by)) }
+{
+    match pivot_of(unit.terms()) {
+        None => Ok(None),
+        Some(pivot) => {
+            let turn = turn_at(alloc, unit, pivot)?;
+            Ok(Some(turn))
+        }
+    }
+}
+
+/// The unit after the turn.
+pub fn turned(alloc: Global, unit: &Unit, turn: &Turn) -> Result<Unit, UnitStop>
+    ensures exact { IfOk result (λ u. u
+        ≡ replace (multiply turn.now.variable turn.now.by) (signed turn.now.inverted unit.now)) }
+    ensures range { RangeUnless result
+        (fits (replace (multiply turn.now.variable turn.now.by) (signed turn.now.inverted unit.now))) }
+{
+    if turn.inverted {
+        let inverse = unit.inv(alloc)?;
+        return multiplied(alloc, &inverse, turn.variable, &turn.by);
+    }
+    multiplied(alloc, unit, turn.variable, &turn.by)
+}
+
+/// The turn at the unit's pivot.
+fn turn_at(alloc: Global, unit: &Unit, at: Pivot) -> Result<Turn, AllocError>
+    requires fits { IsTrue (fits unit.now) }
+    requires pivot { pivot unit.now ≡ Some at }
+    ensures turn { IfOk result (λ turn. turn ≡ turn_of at unit.now) }
+    ensures fits { IfOk result (λ turn. IsTrue (fits turn.by)) }
+{
+    let inverted = is_negative(at.power);
+    let positive = signed(alloc, unit, inverted)?;
+    let by = quotients_of(alloc, &positive, at.variable, absolute(at.power))?;
+    Ok(Turn {
+        variable: at.variable,
+        inverted,
+        by,
+    })
+}
+
+fn is_negative(power: i32) -> bool
+    ensures { result ≡ is_negative power }
+{
+    power < 0
+}
+
+/// The unit, inverted or as it is.
+fn signed(alloc: Global, unit: &Unit, inverted: bool) -> Result<Unit, AllocError>
+    ensures { IfOk result (λ u. u ≡ signed inverted unit.now) }
+{
+    if inverted {
+        unit.inv(alloc)
+    } else {
+        unit.copy(alloc)
+    }
+}
+
+fn absolute(power: i32) -> i32
+    requires { IsTrue (in_range power) }
+    ensures { result ≡ pos (nat_abs power) }
+{
+    if power < 0 { -power } else { power }
+}
+
+/// The product over the atoms y other than variable m of y to the negated quotient, rounded down, of its power and p.
+fn quotients_of(alloc: Global, unit: &Unit, m: u32, p: i32) -> Result<Unit, AllocError>
+    requires { pos 0 <ℤ p }
+    ensures exact { IfOk result (λ u. u ≡ quotients m (nat_abs p) unit.now) }
+    ensures fits { IfOk result (λ u. IsTrue (fits u)) }
+{
+    let terms = negated_quotients(alloc, unit.terms(), m, p)?;
+    match Unit::from_terms(alloc, &terms) {
+        Ok(unit) => Ok(unit),
+        Err(UnitStop::NoMemory) => Err(AllocError),
+        Err(UnitStop::Range) => unreachable!(),
+    }
+}
+
+fn negated_quotients(alloc: Global, terms: &[Term], m: u32, p: i32) -> Result<Vec<Term>, AllocError>
+    requires range { IsTrue (all_in_range terms.now) }
+    requires p { pos 0 <ℤ p }
+    ensures exact { IfOk result (λ v. v.items ≡ map (less_quotient m (nat_abs p)) terms.now) }
+{
+    let mut out = Vec::new(alloc);
+    for term in terms {
+        out.push(negated_quotient(*term, m, p))?;
+    }
+    Ok(out)
+}
+
+/// The negated quotient, rounded down, of the term's power and p, or 0 for variable m.
+fn negated_quotient(term: Term, m: u32, p: i32) -> Term
+    requires range { IsTrue (in_range term.power) }
+    requires p { pos 0 <ℤ p }
+    ensures { result ≡ less_quotient m (nat_abs p) term }
+{
+    let power = if term.atom == Atom::Var(m) {
+        0
+    } else {
+        -term.power.div_euclid(p)
+    };
+    Term {
+        atom: term.atom,
+        power,
+    }
+}
+
+/// The unit with variable m times w put for variable m.
+pub fn multiplied(alloc: Global, unit: &Unit, m: u32, w: &Unit) -> Result<Unit, UnitStop>
+    ensures exact { IfOk result (λ u. u ≡ replace (multiply m w.now) unit.now) }
+    ensures range { RangeUnless result (fits (replace (multiply m w.now) unit.now)) }
+{
+    let power = unit.power_of(Atom::Var(m));
+    unit.mul_pow(alloc, w, power)
+}

@@ -1,0 +1,22 @@
+//! Certificates of what inference answers: of each function's scheme, and of the first function's having none.
+//!
+//! Beside the elimination of a function's rows (Kennedy, Programming Languages and Dimensions, 1996, on unification in the
+//! free abelian group) a way back from the solution is kept, and the powers of rows by which each slot comes back. What is
+//! kept, and which numbers it can hold, are this project's own.
+#![tactic(auto)]
+
+mod kept;
+mod made;
+mod past;
+mod program;
+mod proofs;
+mod refused;
+mod row;
+mod stop;
+mod yes;
+
+pub use program::prove;
+pub use proofs::{Proofs, YesList};
+pub use refused::make_no;
+pub use stop::{CertStop, ProveStop};
+pub use yes::make_yes;

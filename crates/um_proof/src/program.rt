@@ -1,0 +1,155 @@
+//! The certificates of a program.
+
+ghost use Rattle.std.specs.Prelude.{◌≡◌, ◌<◌, length, slice_get, Some, IfOk, IfErr};
+ghost use Rattle.um_tree.specs.ProgramTree.{FunctionTree, SchemeTree, program_tree};
+ghost use Rattle.um_rows.specs.Answers.{AreRowsOf};
+ghost use Rattle.um_rows.specs.Solutions.{HaveSchemes};
+ghost use Rattle.um_infer.specs.Answers.{scheme_trees};
+ghost use Rattle.um_infer.specs.Inference.{all_schemes, infer, infer_first};
+ghost use Rattle.um_proof.specs.declared.stop.CertStop.TheVariants.{NoMemory};
+ghost use Rattle.um_proof.specs.Proving.{IsProved, IsRefusal, IsYesOf};
+ghost use Rattle.um_proof.specs.ProgramSteps.{CarriesInFunction, HasRows, IsFirstRefused};
+ghost use Rattle.um_proof.specs.Steps.{of_function};
+
+use crate::{CertStop, Proofs, ProveStop, YesList, make_no, make_yes};
+use std::alloc::Global;
+use um_check::{No, Yes};
+use um_infer::{InferStop, infer, infer_first};
+use um_rows::{RowStop, Rows, rows};
+use um_shape::Shaped;
+use um_tree::Schemes;
+
+/// The schemes of the program's functions and a certificate of each, up to the first function that is refused for Units or
+/// NotGeneral, and a certificate of this refusal.
+///
+/// Slots and PowerRange come exactly where `infer` answers them. Else CertRange comes only where a number that is formed for
+/// the certificate of the function passes what a certificate can hold, and carries the number. Each certificate is valid.
+pub fn prove(alloc: Global, shaped: &Shaped) -> Result<Proofs, ProveStop>
+    ensures { IsProved (program_tree shaped.now) result }
+{
+    match infer(alloc, shaped) {
+        Ok(schemes) => with_yes(alloc, shaped, schemes, None),
+        Err(InferStop::Units { function, at: _ } | InferStop::NotGeneral { function, at: _ }) => {
+            refused_proofs(alloc, shaped, function)
+        }
+        Err(InferStop::PowerRange { function, at }) => Err(ProveStop::PowerRange { function, at }),
+        Err(InferStop::Slots { function }) => Err(ProveStop::Slots { function }),
+        Err(InferStop::NoMemory) => Err(ProveStop::NoMemory),
+    }
+}
+
+/// The certificates up to function i, which is refused.
+fn refused_proofs(alloc: Global, shaped: &Shaped, i: u32) -> Result<Proofs, ProveStop>
+    requires refused { IsFirstRefused (infer (program_tree shaped.now)) i }
+    ensures { IsProved (program_tree shaped.now) result }
+{
+    match infer_first(alloc, shaped, i) {
+        Ok(schemes) => match refusal_of(alloc, shaped, i, &schemes) {
+            Ok(no) => with_yes(alloc, shaped, schemes, Some(no)),
+            Err(stop) => {
+                drop(schemes);
+                Err(of_function(i, stop))
+            }
+        },
+        Err(InferStop::NoMemory) => Err(ProveStop::NoMemory),
+        Err(
+            InferStop::Units { .. }
+            | InferStop::NotGeneral { .. }
+            | InferStop::PowerRange { .. }
+            | InferStop::Slots { .. },
+        ) => unreachable!(),
+    }
+}
+
+/// The certificates of the schemes, and the No.
+fn with_yes(
+    alloc: Global,
+    shaped: &Shaped,
+    schemes: Schemes,
+    no: Option<No>,
+) -> Result<Proofs, ProveStop>
+    requires before { infer_first (program_tree shaped.now) (length schemes.items.items)
+        ≡ all_schemes (scheme_trees schemes) }
+    requires no { IsRefusal (program_tree shaped.now) (scheme_trees schemes) (infer (program_tree shaped.now)) no }
+    ensures { IsProved (program_tree shaped.now) result }
+{
+    let mut items: Vec<Yes> = Vec::new(alloc);
+    for i in 0..schemes.items.len() {
+        match yes_of(alloc, shaped, i as u32, &schemes) {
+            Ok(yes) => items.push(yes)?,
+            Err(stop) => {
+                drop(items);
+                drop(schemes);
+                drop(no);
+                return Err(of_function(i as u32, stop));
+            }
+        }
+    }
+    Ok(Proofs {
+        schemes,
+        yes: YesList { items },
+        no,
+    })
+}
+
+/// The rows of function i, which has some.
+fn rows_of(alloc: Global, shaped: &Shaped, i: u32, schemes: &Schemes) -> Result<Rows, CertStop>
+    requires function { i < length (program_tree shaped.now).functions }
+    requires before { HaveSchemes (program_tree shaped.now) (scheme_trees schemes.now) i }
+    requires limits { HasRows (program_tree shaped.now) (scheme_trees schemes.now) i }
+    ensures equations { IfOk result (AreRowsOf (program_tree shaped.now) (scheme_trees schemes.now) i) }
+    ensures memory { IfErr result (λ stop. stop ≡ NoMemory) }
+{
+    match rows(alloc, shaped, i, schemes) {
+        Ok(rows) => Ok(rows),
+        Err(RowStop::NoMemory) => Err(CertStop::NoMemory),
+        Err(RowStop::Slots | RowStop::Range { at: _ }) => unreachable!(),
+    }
+}
+
+fn yes_of(alloc: Global, shaped: &Shaped, i: u32, schemes: &Schemes) -> Result<Yes, CertStop>
+    requires inside { i < length schemes.now.items.items }
+    requires inferred { infer_first (program_tree shaped.now) (length schemes.now.items.items)
+        ≡ all_schemes (scheme_trees schemes.now) }
+    ensures valid { (f : FunctionTree) (s : SchemeTree) → slice_get (program_tree shaped.now).functions i ≡ Some f
+        → slice_get (scheme_trees schemes.now) i ≡ Some s
+        → IfOk result (IsYesOf (program_tree shaped.now) (scheme_trees schemes.now) i f s) }
+    ensures range { IfErr result (CarriesInFunction (program_tree shaped.now) i) }
+{
+    let equations = rows_of(alloc, shaped, i, schemes)?;
+    let program = shaped.program();
+    let units = program.functions.items[i as usize].units;
+    let bases = program.bases.as_slice().len() as u32;
+    let made = make_yes(alloc, &equations, units, bases, &schemes.items[i as usize]);
+    drop(equations);
+    made
+}
+
+fn refusal_of(alloc: Global, shaped: &Shaped, i: u32, schemes: &Schemes) -> Result<No, CertStop>
+    requires refused { IsFirstRefused (infer (program_tree shaped.now)) i }
+    requires before { infer_first (program_tree shaped.now) i ≡ all_schemes (scheme_trees schemes.now) }
+    ensures valid { IfOk result (λ no. IsRefusal (program_tree shaped.now) (scheme_trees schemes.now)
+        (infer (program_tree shaped.now)) (Some no)) }
+    ensures range { IfErr result (CarriesInFunction (program_tree shaped.now) i) }
+{
+    let equations = rows_of(alloc, shaped, i, schemes)?;
+    let program = shaped.program();
+    let units = program.functions.items[i as usize].units;
+    let bases = program.bases.as_slice().len() as u32;
+    let made = make_no(alloc, &equations, units, bases);
+    drop(equations);
+    made
+}
+
+/// Want of a certificate of function i as the program's.
+fn of_function(i: u32, stop: CertStop) -> ProveStop
+    ensures { result ≡ of_function i stop }
+{
+    match stop {
+        CertStop::CertRange { number } => ProveStop::CertRange {
+            function: i,
+            number,
+        },
+        CertStop::NoMemory => ProveStop::NoMemory,
+    }
+}
