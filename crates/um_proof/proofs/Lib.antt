@@ -1,1 +1,11 @@
 mod Limits
+mod Prefix
+mod General
+mod HeldVariables
+mod Judged
+mod Reached
+mod Solving
+mod Refusals
+mod WayBack
+mod ValidYes
+mod ValidNo

@@ -1,12 +1,7 @@
 -- The code's: what the parts of a row's treatment answer.
 -- Source: this project's own; no public clause rests on it.
-use Rattle.std.specs.Prelude.{◌≡◌, ◌⊎◌, ℕ, ◌+◌, ◌-◌, ◌<◌, if◌then◌else◌, Bool, true, false, not, List, [], ◌∷◌, ◌++◌, length, map, filter, set, All, slice_index_or, ℤ, pos, nat_abs, ◌*ℤ◌, Option, Some, None, Result, Ok, Err}
+use Rattle.std.specs.Prelude.{◌≡◌, ◌⊎◌, ℕ, ◌+◌, ◌-◌, ◌<◌, if◌then◌else◌, Bool, true, false, not, List, [], ◌∷◌, length, map, set, All, slice_index_or, ℤ, pos, nat_abs, ◌*ℤ◌, Option, Some, None, Result, Ok, Err}
 use Rattle.std.specs.Int.Signed.{◌<ℤ◌}
-use Rattle.std.specs.List.{list_any, range_with_len}
-use Rattle.um_tree.specs.TypeTree.{TypeTree, num_type}
-use Rattle.um_tree.specs.ProgramTree.{Signature}
-use Rattle.um_tree.specs.Typing.{put}
-use Rattle.um_tree.specs.Scheme.{signature_types}
 use Rattle.um_check.specs.Validity.{returned}
 use Rattle.um_units.specs.declared.Atom.{Atom}
 use Rattle.um_units.specs.declared.Atom.TheVariants.{Base, Var}
@@ -16,7 +11,6 @@ use Rattle.um_wide.specs.Room.{IsNarrow}
 use Rattle.um_elim.specs.declared.turning.Turn.{Turn}
 use Rattle.um_elim.specs.Pivot.{has_other}
 use Rattle.um_elim.specs.Turn.{multiply, signed}
-use Rattle.um_elim.specs.Index.{holds}
 use Rattle.um_turns.specs.Turns.{unit_after, AreTurnsOf, IsClosedLeft, IsStuck}
 use Rattle.um_rows.specs.declared.row.Row.{Row}
 use Rattle.um_rows.specs.Generalised.{is_parameter, generalised_unit}
@@ -26,8 +20,6 @@ use Rattle.um_proof.specs.declared.kept.Head.{Head}
 use Rattle.um_proof.specs.declared.row.Refused.{Refused}
 use Rattle.um_proof.specs.declared.stop.CertStop.{CertStop}
 use Rattle.um_proof.specs.declared.stop.CertStop.TheVariants as stop
-use Rattle.um_proof.specs.declared.stop.ProveStop.{ProveStop}
-use Rattle.um_proof.specs.declared.stop.ProveStop.TheVariants as prove
 use Rattle.um_proof.specs.declared.made.Treated.{Treated}
 use Rattle.um_proof.specs.declared.made.Treated.TheVariants as treated
 use Rattle.um_making.specs.Making.{at_slot, parts_after}
@@ -67,11 +59,13 @@ pub record Agrees (h : Head) (m : Making) (kept : Kept) : Type 0 where
   pub narrow : All IsNarrow m.parts.items
 
 -- a row is treated: it is made, or a product of rows with this modulus shows that it has no solution
-abbrev pub IsRefusedAs : List PowerMap → Kept → ℕ → Refused → Type 0
-IsRefusedAs rows kept k refused =
-    (ts : List Turn) × AreTurnsOf (row_unit rows kept k) ts
-    × IsModulus rows kept k ts refused.modulus × (refused.total ≡ row_total rows kept k ts)
-    × (IsClosedLeft ts (row_unit rows kept k) ⊎ IsStuck ts (row_unit rows kept k))
+pub record IsRefusedAs (rows : List PowerMap) (kept : Kept) (k : ℕ) (refused : Refused) : Type 0 where
+  pub turns : List Turn
+  pub are : AreTurnsOf (row_unit rows kept k) turns
+  pub modulus : IsModulus rows kept k turns refused.modulus
+  pub total : refused.total ≡ row_total rows kept k turns
+  pub ends : IsClosedLeft turns (row_unit rows kept k) ⊎ IsStuck turns (row_unit rows kept k)
+  pub narrow : IsNarrow refused.total
 
 abbrev pub IsTreated : List PowerMap → Kept → ℕ → Head → Making → Option Refused → Type 0
 IsTreated rows kept k h new None = (next : Kept) × IsRowMade rows kept k next × Agrees h new next
@@ -133,12 +127,6 @@ abbrev pub CarriesInRows : Head → List Row → CertStop → Type 0
 CarriesInRows h rows (stop.CertRange z) = PassesInRows (units_of rows) (start h) z
 CarriesInRows h rows stop.NoMemory = Unit {0}
 
--- ---- the want of a certificate of function i as the program's
-
-abbrev pub of_function : ℕ → CertStop → ProveStop
-of_function i (stop.CertRange z) = prove.CertRange i z
-of_function i stop.NoMemory = prove.NoMemory
-
 -- ---- one turn, of what the code keeps
 
 -- what the turn's variable x goes back to after x times w was put for it
@@ -176,15 +164,6 @@ abbrev pub CarriesReturned : List PowerMap → List PowerMap → CertStop → Ty
 CarriesReturned solution back (stop.CertRange z) =
     (j : ℕ) × (j < length solution) × IsPowerIn z (returned solution back j) × (9223372036854775807 < nat_abs z)
 CarriesReturned solution back stop.NoMemory = Unit {0}
-
--- what is numbered: the types, each variable that the units hold, and the units
-abbrev pub to_number : Signature → List PowerMap → List ℕ → List TypeTree
-to_number g units held =
-    map (put (nth units)) (signature_types g) ++ (map (λ k. num_type (atom (Var k))) held ++ map num_type units)
-
--- the variables below n that stand in the units
-abbrev pub held_below : ℕ → List PowerMap → List ℕ
-held_below n units = filter (λ k. list_any (holds k) units) (range_with_len 0 n)
 
 -- ---- a No
 
