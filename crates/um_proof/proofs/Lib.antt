@@ -2,6 +2,10 @@ mod Limits
 mod Prefix
 mod General
 mod HeldVariables
+mod WayBackSteps
+mod Closed
+mod Declared
+mod OwnRows
 mod Judged
 mod Reached
 mod Solving

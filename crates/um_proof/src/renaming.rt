@@ -1,10 +1,10 @@
 //! The variables of a solution, numbered as a certificate has them, and the way back from them.
 
-ghost use Rattle.std.specs.Prelude.{◌≡◌, ◌≤◌, ◌<◌, ◌+◌, ◌^◌, ℕ, List, [], ◌||◌, ◌++◌, All, false, filter, map, length, slice_index_or, IfOk, OnOk, IsTrue};
+ghost use Rattle.std.specs.Prelude.{◌≡◌, ◌≤◌, ◌<◌, ◌+◌, ◌^◌, ℕ, List, [], ◌||◌, ◌++◌, All, false, filter, map, length, replicate, slice_index_or, IfOk, OnOk, IsTrue};
 ghost use Rattle.std.specs.List.{flat_map, list_all, range_with_len};
 ghost use Rattle.um_units.specs.declared.Atom.TheVariants.{Var};
 ghost use Rattle.um_units.specs.declared.Term.{Term as TermData};
-ghost use Rattle.um_units.specs.PowerMap.{PowerMap, atom, nth};
+ghost use Rattle.um_units.specs.PowerMap.{PowerMap, one, atom, nth};
 ghost use Rattle.um_units.specs.Variables.{VariablesBelow, atom_below, variables_below};
 ghost use Rattle.um_tree.specs.TypeTree.{num_type, type_tree, type_trees};
 ghost use Rattle.um_tree.specs.Typing.{put, put_signature};
@@ -88,8 +88,7 @@ fn held_variables(alloc: Global, count: u32, units: &[Unit]) -> Result<Vec<u32>,
 }
 
 fn no_marks(alloc: Global, count: u32) -> Result<Vec<bool>, AllocError>
-    ensures count { IfOk result (λ marks. length marks.items ≡ count) }
-    ensures none { (k : ℕ) → IfOk result (λ marks. slice_index_or marks.items k false ≡ false) }
+    ensures { IfOk result (λ marks. marks.items ≡ replicate count false) }
 {
     let mut marks = Vec::new(alloc);
     for _ in 0..count {
@@ -302,7 +301,7 @@ fn way_back(
 }
 
 fn ones(alloc: Global, count: u32) -> Result<Vec<Unit>, AllocError>
-    ensures { IfOk result (λ units. length units.items ≡ count) }
+    ensures { IfOk result (λ units. units.items ≡ replicate count one) }
 {
     let mut out = Vec::new(alloc);
     for _ in 0..count {
