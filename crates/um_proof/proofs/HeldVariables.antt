@@ -65,7 +65,7 @@ none_marked zero k = refl
 none_marked (suc n) zero = refl
 none_marked (suc n) (suc k) = none_marked n k
 
-or_none : (b : Bool) → b ≡ (b || false)
+pub or_none : (b : Bool) → b ≡ (b || false)
 or_none true = refl
 or_none false = refl
 

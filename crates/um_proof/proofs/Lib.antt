@@ -4,7 +4,7 @@ mod General
 mod HeldVariables
 mod WayBackSteps
 mod Closed
-mod Declared
+mod DeclaredUnits
 mod OwnRows
 mod Judged
 mod Reached

@@ -1,15 +1,16 @@
 -- The way back from numbered variables, variable by variable, and the parts of the types that are numbered.
-use Rattle.std.proofs.Common.{◌≡◌, ◌≢◌, inl, inr, ℕ, zero, suc, ◌+◌, ◌<◌, ◌≤◌, List, [], ◌∷◌, ◌++◌, map, take, drop, set, length, get_or, refl, sym, ap, ◌∙◌, subst, arith, length-append}
+use Rattle.std.proofs.Common.{◌≡◌, ◌≢◌, inl, inr, ℕ, zero, suc, ◌+◌, ◌-◌, ◌<◌, ◌≤◌, List, [], ◌∷◌, ◌++◌, map, take, drop, set, length, get_or, refl, sym, ap, ◌∙◌, subst, arith, length-append, length-drop}
 use Rattle.std.specs.Prelude.{All, IsTrue}
 use Rattle.std.proofs.lemmas.Bool.{cases_eq}
-use Rattle.std.proofs.lemmas.List.{get_or-map, get_or-set_same, get_or-set_other, length-map}
+use Rattle.std.proofs.lemmas.List.{get_or-map, get_or-set_same, get_or-set_other, length-map, drop_all, take_all}
 use Rattle.std.proofs.lemmas.List.Elements.{All-nil, All-cons, All-head, All-tail, All-take, All-get_or, All-more}
 use Rattle.um_units.specs.declared.Atom.TheVariants.{Var}
-use Rattle.um_units.specs.PowerMap.{PowerMap, atom, nth}
-use Rattle.um_tree.specs.TypeTree.{TypeTree, bool_type, num_type}
+use Rattle.um_units.specs.PowerMap.{PowerMap, one, atom, nth}
+use Rattle.um_tree.specs.declared.types.Ty.{Ty}
+use Rattle.um_tree.specs.TypeTree.{TypeTree, bool_type, num_type, type_tree}
 use Rattle.um_elim.specs.Numbering.{place, by_place}
 use Rattle.um_elim.proofs.FirstOccurrences.{same_place, place-low}
-use Rattle.um_proof.specs.Renaming.{is_listed, ArePlaces, GoBack}
+use Rattle.um_proof.specs.Renaming.{is_listed, AreNumbered, ArePlaces, GoBack}
 
 module _ (order : List ℕ) (back out : List PowerMap) (v : ℕ) (h : IsTrue (is_listed order v)) (low : place order v < length out) where
   abbrev new : List PowerMap
@@ -75,10 +76,9 @@ map_take f (suc n) [] = refl
 map_take f (suc n) (x ∷ xs) = ap (λ ys. f x ∷ ys) (map_take f n xs)
 
 drop_twice : {X : Type 0} (n m : ℕ) (xs : List X) → drop (n + m) xs ≡ drop m (drop n xs)
-drop_twice zero m xs = refl
-drop_twice (suc n) zero [] = refl
-drop_twice (suc n) (suc m) [] = refl
-drop_twice (suc n) m (x ∷ xs) = drop_twice n m xs
+drop_twice zero m xs = let e : 0 + m ≡ m = omega arith in ap (λ k. drop k xs) e
+drop_twice (suc n) m [] = drop_all (suc n + m) [] (omega arith) ∙ sym (drop_all m [] (omega arith))
+drop_twice (suc n) m (x ∷ xs) = let e : suc n + m ≡ suc (n + m) = omega arith in ap (λ k. drop k (x ∷ xs)) e ∙ drop_twice n m xs
 
 module _ {X Y : Type 0} (f : X → Y) (xs : List X) (a b c : List Y) (n m : ℕ) (are : map f xs ≡ a ++ (b ++ c)) (first : length a ≡ n) (second : length b ≡ m) where
   behind : drop n (map f xs) ≡ b ++ c
@@ -94,3 +94,39 @@ module _ {X Y : Type 0} (f : X → Y) (xs : List X) (a b c : List Y) (n m : ℕ)
   long_enough =
       let l = length-map xs f in let k = ap length are in let p = length-append a (b ++ c) in let q = length-append b c in
       omega (arith, l, k, p, q, first, second)
+
+-- ---- types that are all numbers
+pub number_at : (types : List Ty) (units : List PowerMap) (i : ℕ) (ty : Ty) → map type_tree types ≡ map num_type units → i < length types → ty ≡ get_or types i ty → type_tree ty ≡ num_type (get_or units i one)
+number_at types units i ty e h is =
+    let l = ap length e in let m = length-map types type_tree in let k = length-map units num_type in
+    ap type_tree is ∙ sym (get_or-map type_tree types i ty bool_type h) ∙ ap (λ ts. get_or ts i bool_type) e ∙ get_or-map num_type units i one bool_type (omega (arith, h, l, m, k))
+
+pub numbers_long : (types : List Ty) (units : List PowerMap) → map type_tree types ≡ map num_type units → length units ≡ length types
+numbers_long types units e = let l = ap length e in let m = length-map types type_tree in let k = length-map units num_type in omega (arith, l, m, k)
+
+-- the type at a place
+pub place_of : (order held : List ℕ) (places : List Ty) (i : ℕ) (ty : Ty) → ArePlaces order held (map type_tree places) → i < length held → ty ≡ get_or places i ty → type_tree ty ≡ num_type (atom (Var (place order (get_or held i 0))))
+place_of order held places i ty h l is =
+    let many = length-map places type_tree in
+    let same = ap length h.are ∙ length-map held (λ k. num_type (by_place order k)) in
+    place_at order held (map type_tree places) i 0 (type_tree ty) h l (ap type_tree is ∙ sym (get_or-map type_tree places i ty bool_type (omega (arith, l, many, same))))
+
+-- ---- the parts of numbered types
+module _ (first : ℕ) (order held : List ℕ) (units : List PowerMap) (items types : List Ty) (h : AreNumbered first order held units (map type_tree items)) (same : types ≡ items) where
+  are : map type_tree types ≡ h.front ++ (map (λ k. num_type (by_place order k)) held ++ map num_type units)
+  are = ap (map type_tree) same ∙ h.are
+
+  pub numbered_long : first + length held ≤ length types
+  numbered_long = long_enough type_tree types h.front (map (λ k. num_type (by_place order k)) held) (map num_type units) first (length held) are h.few (length-map held (λ k. num_type (by_place order k)))
+
+  pub numbered_units : map type_tree (take (length types - (first + length held)) (drop (first + length held) types)) ≡ map num_type units
+  numbered_units =
+      let l = length-drop (first + length held) types in
+      ap (map type_tree) (take_all (length types - (first + length held)) (drop (first + length held) types) (omega (arith, l)))
+      ∙ last_part type_tree types h.front (map (λ k. num_type (by_place order k)) held) (map num_type units) first (length held) are h.few (length-map held (λ k. num_type (by_place order k)))
+
+  pub numbered_places : (part : List Ty) → part ≡ take (length held) (drop first types) → ArePlaces order held (map type_tree part)
+  numbered_places part e = record {
+    are = ap (map type_tree) e ∙ middle_part type_tree types h.front (map (λ k. num_type (by_place order k)) held) (map num_type units) first (length held) are h.few (length-map held (λ k. num_type (by_place order k)));
+    listed = h.listed;
+  }

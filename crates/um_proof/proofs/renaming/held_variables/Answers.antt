@@ -1,6 +1,7 @@
-use Rattle.std.proofs.Common.{◌≡◌, ◌||◌, false, [], length, take, sym, ap, ◌∙◌, subst, arith}
-use Rattle.std.specs.Prelude.{IsTrue, IfOk, replicate, slice_index_or}
-use Rattle.std.specs.List.{flat_map}
+use Rattle.std.proofs.Common.{◌≡◌, ◌||◌, false, List, [], filter, length, take, sym, ap, ◌∙◌, subst, arith}
+use Rattle.std.specs.Prelude.{Bool, IsTrue, IfOk, replicate, slice_index_or}
+use Rattle.std.specs.List.{flat_map, range_with_len}
+use Rattle.std.proofs.lemmas.Result.{IfOk-weaker}
 use Rattle.std.proofs.lemmas.List.{take_all, length-replicate}
 use Rattle.std.proofs.lemmas.List.Elements.{All-get_or}
 use Rattle.um_units.specs.declared.Term.{Term}
@@ -46,4 +47,5 @@ returns c =
     let past = c.loop-unit-test.false in
     let all : take c.loop-unit.unit-index us ≡ us = take_all c.loop-unit.unit-index us (omega (arith, past)) in
     let so = subst (AreMarked unit_variables (replicate c.args.count false) ms) all c.loop-unit.invariant.marks in
-    ?
+    let numbers = marked_numbers ms c.args.count us c.loop-unit.invariant.count so in
+    IfOk-weaker c.marked.result _ _ (λ held e. e ∙ ap (λ (xs : List Bool). filter (λ k. slice_index_or xs k false) (range_with_len 0 (length xs))) c.deref.ensures.value ∙ numbers) c.marked.ensures
