@@ -5,3 +5,12 @@ mod TurnEnds
 mod Parts
 mod WayBack
 mod RowStops
+mod Reached
+mod Solving
+mod Refusals
+mod Prefix
+mod General
+mod HeldVariables
+mod Judged
+mod ValidYes
+mod ValidNo

@@ -1,10 +1,12 @@
 -- What the makers of certificates answer. Want of memory may come in place of every answer.
 -- Source: Kennedy (1996): rows that a function is given a scheme by have a most general solution, and rows that it is
 -- refused by have none. Which numbers a certificate can hold is this project's own.
-use Rattle.std.specs.Prelude.{◌≡◌, ◌⊎◌, ℕ, suc, ◌+◌, ◌^◌, ◌≤◌, ◌<◌, Bool, true, false, if◌then◌else◌, List, All, take, Result, Ok, Err}
-use Rattle.um_units.specs.PowerMap.{PowerMap}
+use Rattle.std.specs.Prelude.{◌≡◌, ◌⊎◌, ℕ, ◌+◌, ◌^◌, ◌≤◌, ◌<◌, true, false, length, pos, All, Result, Ok, Err}
+use Rattle.um_units.specs.declared.Atom.TheVariants.{Base}
+use Rattle.um_units.specs.PowerMap.{PowerMap, power_of}
 use Rattle.um_units.specs.Variables.{VariablesBelow}
-use Rattle.um_tree.specs.ProgramTree.{Signature, SchemeTree}
+use Rattle.um_tree.specs.ProgramTree.{SchemeTree}
+use Rattle.um_tree.specs.Laws.{TypeHas}
 use Rattle.um_tree.specs.Scheme.{signature_types, variables}
 use Rattle.um_rows.specs.declared.row.Rows.{Rows}
 use Rattle.um_rows.specs.Answers.{rows_signature}
@@ -21,12 +23,19 @@ use Rattle.um_proof.specs.Formed.{PassesInRows, PassesAtEnd}
 
 -- ---- what is asked of the rows of a function with so many unit parameters, as `rows` of um_rows gives them
 
+-- the base unit of no unit parameter, which come behind the declared ones, stands in it
+abbrev pub HoldsNoParameter : ℕ → ℕ → PowerMap → Type 0
+HoldsNoParameter bases parameters u = (i : ℕ) → i < parameters → power_of u (Base (bases + i)) ≡ pos 0
+
 pub record AreFunctionRows (bases parameters : ℕ) (r : Rows) : Type 0 where
   pub few : r.slots ≤ 2000
+  pub number : length r.list.items.items ≤ 4294967295
   pub parameters_within : parameters ≤ r.slots
   pub bases_below : bases + parameters < 2 ^ 32
   pub rows : All (VariablesBelow r.slots) (units_of r.list.items.items)
   pub types : All (λ k. k < r.slots) (variables (signature_types (rows_signature r)))
+  pub declared_rows : All (HoldsNoParameter bases parameters) (units_of r.list.items.items)
+  pub declared_types : All (TypeHas (HoldsNoParameter bases parameters)) (signature_types (rows_signature r))
 
 -- what the rows are judged, where a power of the scheme that passes the range is refused at this place
 abbrev pub judged : ℕ → ℕ → ℕ → Rows → Judgement

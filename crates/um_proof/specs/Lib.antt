@@ -6,4 +6,5 @@ pub mod Answers
 pub mod Proving
 -- What mirrors the code.
 pub mod Steps
+pub mod Renaming
 pub mod ProgramSteps

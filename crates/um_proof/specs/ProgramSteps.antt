@@ -1,19 +1,40 @@
 -- The code's: what is asked and answered of one function of a program.
 -- Source: this project's own; no public clause rests on it.
-use Rattle.std.specs.Prelude.{◌≡◌, ◌⊎◌, ℕ, ◌≤◌, List, None, Some, slice_get}
+use Rattle.std.specs.Prelude.{◌≡◌, ◌⊎◌, ℕ, ◌≤◌, nat_lt, Bool, true, All, List, length, None, Some, slice_get}
+use Rattle.um_units.specs.declared.Atom.{Atom}
+use Rattle.um_units.specs.declared.Atom.TheVariants.{Base, Var}
 use Rattle.um_tree.specs.ProgramTree.{FunctionTree, ProgramTree, SchemeTree}
+use Rattle.um_tree.specs.Formed.{BasesBelow}
+use Rattle.um_tree.specs.Laws.{TypeHas}
+use Rattle.um_tree.specs.Scheme.{signature_types}
+use Rattle.um_rows.specs.declared.row.Rows.{Rows}
+use Rattle.um_rows.specs.Answers.{rows_signature}
 use Rattle.um_rows.specs.Slots.{slot_count, slot_equations}
-use Rattle.um_rows.specs.Steps.{first_past}
+use Rattle.um_rows.specs.Steps.{first_past, units_of}
 use Rattle.um_infer.specs.Inference.{Inference, stops_at_units, stops_at_not_general}
 use Rattle.um_proof.specs.declared.stop.CertStop.{CertStop}
 use Rattle.um_proof.specs.declared.stop.CertStop.TheVariants as stop
-use Rattle.um_proof.specs.Proving.{PassesInFunction}
+use Rattle.um_proof.specs.declared.stop.ProveStop.{ProveStop}
+use Rattle.um_proof.specs.declared.stop.ProveStop.TheVariants as prove
+use Rattle.um_check.specs.declared.certificate.Yes.{Yes}
+use Rattle.um_proof.specs.Proving.{IsYesOf, PassesInFunction}
 
 -- its rows pass no limit
 abbrev pub HasRows : ProgramTree → List SchemeTree → ℕ → Type 0
 HasRows p schemes i =
     (f : FunctionTree) → slice_get p.functions i ≡ Some f →
     (slot_count p.records schemes i f ≤ 2000) × (first_past (slot_equations p.records schemes i f).steps ≡ None)
+
+-- a declared base unit, or a variable
+abbrev pub is_declared : ℕ → Atom → Bool
+is_declared bases (Base n) = nat_lt n bases
+is_declared bases (Var k) = true
+
+-- they are at most 4294967295, and hold declared base units alone, and so do the types
+pub record AreDeclared (bases : ℕ) (r : Rows) : Type 0 where
+  pub number : length r.list.items.items ≤ 4294967295
+  pub rows : All (BasesBelow bases) (units_of r.list.items.items)
+  pub types : All (TypeHas (BasesBelow bases)) (signature_types (rows_signature r))
 
 -- it is the first without a typing
 abbrev pub IsFirstRefused : Inference → ℕ → Type 0
@@ -23,3 +44,20 @@ IsFirstRefused inference i =
 abbrev pub CarriesInFunction : ProgramTree → ℕ → CertStop → Type 0
 CarriesInFunction p i (stop.CertRange z) = PassesInFunction p i z
 CarriesInFunction p i stop.NoMemory = Unit {0}
+
+-- each is valid for the scheme of its function
+abbrev pub AreYesOf : ProgramTree → List SchemeTree → List Yes → Type 0
+AreYesOf p schemes list =
+    (i : ℕ) (f : FunctionTree) (s : SchemeTree) (c : Yes) → slice_get p.functions i ≡ Some f →
+    slice_get schemes i ≡ Some s → slice_get list i ≡ Some c → IsYesOf p schemes i f s c
+
+-- the want of a certificate of function i as the program's
+abbrev pub of_function : ℕ → CertStop → ProveStop
+of_function i (stop.CertRange z) = prove.CertRange i z
+of_function i stop.NoMemory = prove.NoMemory
+
+abbrev pub CarriesInSome : ProgramTree → ProveStop → Type 0
+CarriesInSome p (prove.Slots i) = ⊥
+CarriesInSome p (prove.PowerRange i at) = ⊥
+CarriesInSome p (prove.CertRange i z) = PassesInFunction p i z
+CarriesInSome p prove.NoMemory = Unit {0}

@@ -1,6 +1,6 @@
 -- What `prove` answers. Want of memory may come in place of every answer.
 -- Source: this project's own: certificates of what inference (Kennedy 1996) answers, up to its first refusal.
-use Rattle.std.specs.Prelude.{◌≡◌, ◌⊎◌, ℕ, ◌≤◌, Bool, true, false, List, length, take, ℤ, Option, Some, None, slice_get, Result, Ok, Err}
+use Rattle.std.specs.Prelude.{◌≡◌, ◌⊎◌, ℕ, ◌≤◌, Bool, true, false, List, length, ℤ, Option, Some, None, slice_get, Result, Ok, Err}
 use Rattle.um_units.specs.PowerMap.{PowerMap}
 use Rattle.um_tree.specs.ProgramTree.{FunctionTree, ProgramTree, SchemeTree}
 use Rattle.um_rows.specs.Slots.{slot_count}
@@ -19,17 +19,16 @@ use Rattle.um_proof.specs.Making.{first}
 use Rattle.um_proof.specs.Formed.{PassesInRows, PassesAtEnd}
 
 module _ (p : ProgramTree) (schemes : List SchemeTree) where
-  -- the rows of function i, given the schemes of those before it
+  -- the rows of function i, given the schemes of those before it. They ask for no other
   abbrev pub rows_at : ℕ → FunctionTree → List PowerMap
-  rows_at i f = function_rows p.records (take i schemes) i f
+  rows_at i f = function_rows p.records schemes i f
 
   abbrev pub slots_at : ℕ → FunctionTree → ℕ
-  slots_at i f = slot_count p.records (take i schemes) i f
+  slots_at i f = slot_count p.records schemes i f
 
   abbrev pub IsYesOf : ℕ → FunctionTree → SchemeTree → Yes → Type 0
   IsYesOf i f s c =
-      IsValidYes (length p.bases) f.units (slots_at i f) (rows_at i f)
-      (slot_signature p.records (take i schemes) i f) s c
+      IsValidYes (length p.bases) f.units (slots_at i f) (rows_at i f) (slot_signature p.records schemes i f) s c
 
   abbrev pub IsNoOf : ℕ → No → Type 0
   IsNoOf i c =
@@ -62,8 +61,8 @@ IsWithinLimits inference = Unit {0}
 -- in making the certificate of function i, whose rows come before the first refusal or are refused, the number passes
 abbrev pub PassesInFunction : ProgramTree → ℕ → ℤ → Type 0
 PassesInFunction p i z =
-    (schemes : List SchemeTree) × (f : FunctionTree)
-    × (infer_first p i ≡ all_schemes schemes) × (slice_get p.functions i ≡ Some f)
+    (n : ℕ) × (schemes : List SchemeTree) × (f : FunctionTree)
+    × (i ≤ n) × (infer_first p n ≡ all_schemes schemes) × (slice_get p.functions i ≡ Some f)
     × (PassesInRows (rows_at p schemes i f) (first (length p.bases) f.units (slots_at p schemes i f)) z
     ⊎ PassesAtEnd (rows_at p schemes i f) (first (length p.bases) f.units (slots_at p schemes i f)) z
     ⊎ ((row at : ℕ) × (infer p ≡ stops_at_units i row at)

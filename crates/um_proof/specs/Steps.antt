@@ -1,12 +1,7 @@
 -- The code's: what the parts of a row's treatment answer.
 -- Source: this project's own; no public clause rests on it.
-use Rattle.std.specs.Prelude.{◌≡◌, ◌⊎◌, ℕ, ◌+◌, ◌-◌, ◌<◌, if◌then◌else◌, Bool, true, false, not, List, [], ◌∷◌, ◌++◌, length, map, filter, set, All, slice_index_or, IsTrue, ℤ, pos, negsuc, nat_abs, ◌*ℤ◌, Option, Some, None, Result, Ok, Err}
+use Rattle.std.specs.Prelude.{◌≡◌, ◌⊎◌, ℕ, ◌+◌, ◌-◌, ◌<◌, if◌then◌else◌, Bool, true, false, not, List, [], ◌∷◌, length, map, set, All, slice_index_or, IsTrue, ℤ, pos, negsuc, nat_abs, ◌*ℤ◌, Option, Some, None, Result, Ok, Err}
 use Rattle.std.specs.Int.Signed.{◌<ℤ◌}
-use Rattle.std.specs.List.{list_any, range_with_len}
-use Rattle.um_tree.specs.TypeTree.{TypeTree, num_type}
-use Rattle.um_tree.specs.ProgramTree.{Signature}
-use Rattle.um_tree.specs.Typing.{put}
-use Rattle.um_tree.specs.Scheme.{signature_types}
 use Rattle.um_check.specs.Validity.{returned}
 use Rattle.um_units.specs.declared.Atom.{Atom}
 use Rattle.um_units.specs.declared.Atom.TheVariants.{Base, Var}
@@ -17,7 +12,6 @@ use Rattle.um_wide.specs.Room.{IsNarrow}
 use Rattle.um_elim.specs.declared.turning.Turn.{Turn}
 use Rattle.um_elim.specs.Pivot.{has_other, is_base}
 use Rattle.um_elim.specs.Turn.{multiply, signed}
-use Rattle.um_elim.specs.Index.{holds}
 use Rattle.um_turns.specs.Turns.{unit_after, AreTurnsOf, IsClosedLeft, IsStuck}
 use Rattle.um_rows.specs.declared.row.Row.{Row}
 use Rattle.um_rows.specs.Generalised.{is_parameter, generalised_unit}
@@ -27,8 +21,6 @@ use Rattle.um_proof.specs.declared.kept.Head.{Head}
 use Rattle.um_proof.specs.declared.row.Refused.{Refused}
 use Rattle.um_proof.specs.declared.stop.CertStop.{CertStop}
 use Rattle.um_proof.specs.declared.stop.CertStop.TheVariants as stop
-use Rattle.um_proof.specs.declared.stop.ProveStop.{ProveStop}
-use Rattle.um_proof.specs.declared.stop.ProveStop.TheVariants as prove
 use Rattle.um_proof.specs.declared.made.Treated.{Treated}
 use Rattle.um_proof.specs.declared.made.Treated.TheVariants as treated
 use Rattle.um_making.specs.Making.{at_slot, parts_after}
@@ -152,12 +144,6 @@ abbrev pub CarriesInRows : Head → List Row → CertStop → Type 0
 CarriesInRows h rows (stop.CertRange z) = PassesInRows (units_of rows) (start h) z
 CarriesInRows h rows stop.NoMemory = Unit {0}
 
--- ---- the want of a certificate of function i as the program's
-
-abbrev pub of_function : ℕ → CertStop → ProveStop
-of_function i (stop.CertRange z) = prove.CertRange i z
-of_function i stop.NoMemory = prove.NoMemory
-
 -- ---- one turn, of what the code keeps
 
 -- what the turn's variable x goes back to after x times w was put for it
@@ -195,15 +181,6 @@ abbrev pub CarriesReturned : List PowerMap → List PowerMap → CertStop → Ty
 CarriesReturned solution back (stop.CertRange z) =
     (j : ℕ) × (j < length solution) × IsPowerIn z (returned solution back j) × (9223372036854775807 < nat_abs z)
 CarriesReturned solution back stop.NoMemory = Unit {0}
-
--- what is numbered: the types, each variable that the units hold, and the units
-abbrev pub to_number : Signature → List PowerMap → List ℕ → List TypeTree
-to_number g units held =
-    map (put (nth units)) (signature_types g) ++ (map (λ k. num_type (atom (Var k))) held ++ map num_type units)
-
--- the variables below n that stand in the units
-abbrev pub held_below : ℕ → List PowerMap → List ℕ
-held_below n units = filter (λ k. list_any (holds k) units) (range_with_len 0 n)
 
 -- ---- a No
 

@@ -5,12 +5,14 @@
 //! kept, and which numbers it can hold, are this project's own.
 #![tactic(auto)]
 
+mod declared;
 mod kept;
 mod made;
 mod past;
 mod program;
 mod proofs;
 mod refused;
+mod renaming;
 mod row;
 mod stop;
 mod yes;

@@ -1,16 +1,18 @@
 //! The certificates of a program.
 
-ghost use Rattle.std.specs.Prelude.{◌≡◌, ◌<◌, length, slice_get, Some, IfOk, IfErr};
+ghost use Rattle.std.specs.Prelude.{◌≡◌, ◌<◌, ◌≤◌, [], length, slice_get, Some, IfOk, IfErr, OnOk};
 ghost use Rattle.um_tree.specs.ProgramTree.{FunctionTree, SchemeTree, program_tree};
+ghost use Rattle.um_tree.specs.Formed.{IsFormed};
 ghost use Rattle.um_rows.specs.Answers.{AreRowsOf};
 ghost use Rattle.um_rows.specs.Solutions.{HaveSchemes};
 ghost use Rattle.um_infer.specs.Answers.{scheme_trees};
 ghost use Rattle.um_infer.specs.Inference.{all_schemes, infer, infer_first};
 ghost use Rattle.um_proof.specs.declared.stop.CertStop.TheVariants.{NoMemory};
+ghost use Rattle.um_proof.specs.Answers.{AreFunctionRows};
 ghost use Rattle.um_proof.specs.Proving.{IsProved, IsRefusal, IsYesOf};
-ghost use Rattle.um_proof.specs.ProgramSteps.{CarriesInFunction, HasRows, IsFirstRefused};
-ghost use Rattle.um_proof.specs.Steps.{of_function};
+ghost use Rattle.um_proof.specs.ProgramSteps.{AreYesOf, CarriesInFunction, CarriesInSome, HasRows, IsFirstRefused, of_function};
 
+use crate::declared::are_declared;
 use crate::{CertStop, Proofs, ProveStop, YesList, make_no, make_yes};
 use std::alloc::Global;
 use um_check::{No, Yes};
@@ -19,19 +21,19 @@ use um_rows::{RowStop, Rows, rows};
 use um_shape::Shaped;
 use um_tree::Schemes;
 
-/// The schemes of the program's functions and a certificate of each, up to the first function that is refused for Units or
-/// NotGeneral, and a certificate of this refusal.
+/// The schemes of the program's functions and a certificate of each, up to the first function that is refused for Units
+/// or NotGeneral, and a certificate of this refusal.
 ///
-/// Slots and PowerRange come exactly where `infer` answers them. Else CertRange comes only where a number that is formed for
-/// the certificate of the function passes what a certificate can hold, and carries the number. Each certificate is valid.
+/// Slots and PowerRange come exactly where `infer` answers them. Else CertRange comes only where a number that is
+/// formed for the certificate of the function passes what a certificate can hold, and carries the number. Each
+/// certificate is valid.
 pub fn prove(alloc: Global, shaped: &Shaped) -> Result<Proofs, ProveStop>
     ensures { IsProved (program_tree shaped.now) result }
 {
     match infer(alloc, shaped) {
         Ok(schemes) => with_yes(alloc, shaped, schemes, None),
-        Err(InferStop::Units { function, at: _ } | InferStop::NotGeneral { function, at: _ }) => {
-            refused_proofs(alloc, shaped, function)
-        }
+        Err(InferStop::Units { function, at: _ }) => refused_proofs(alloc, shaped, function),
+        Err(InferStop::NotGeneral { function, at: _ }) => refused_proofs(alloc, shaped, function),
         Err(InferStop::PowerRange { function, at }) => Err(ProveStop::PowerRange { function, at }),
         Err(InferStop::Slots { function }) => Err(ProveStop::Slots { function }),
         Err(InferStop::NoMemory) => Err(ProveStop::NoMemory),
@@ -40,24 +42,36 @@ pub fn prove(alloc: Global, shaped: &Shaped) -> Result<Proofs, ProveStop>
 
 /// The certificates up to function i, which is refused.
 fn refused_proofs(alloc: Global, shaped: &Shaped, i: u32) -> Result<Proofs, ProveStop>
-    requires refused { IsFirstRefused (infer (program_tree shaped.now)) i }
+    requires { IsFirstRefused (infer (program_tree shaped.now)) i }
     ensures { IsProved (program_tree shaped.now) result }
 {
     match infer_first(alloc, shaped, i) {
-        Ok(schemes) => match refusal_of(alloc, shaped, i, &schemes) {
-            Ok(no) => with_yes(alloc, shaped, schemes, Some(no)),
-            Err(stop) => {
-                drop(schemes);
-                Err(of_function(i, stop))
-            }
-        },
+        Ok(schemes) => with_refusal(alloc, shaped, i, schemes),
         Err(InferStop::NoMemory) => Err(ProveStop::NoMemory),
-        Err(
-            InferStop::Units { .. }
-            | InferStop::NotGeneral { .. }
-            | InferStop::PowerRange { .. }
-            | InferStop::Slots { .. },
-        ) => unreachable!(),
+        Err(InferStop::Units { function: _, at: _ }) => unreachable!(),
+        Err(InferStop::NotGeneral { function: _, at: _ }) => unreachable!(),
+        Err(InferStop::PowerRange { function: _, at: _ }) => unreachable!(),
+        Err(InferStop::Slots { function: _ }) => unreachable!(),
+    }
+}
+
+/// The certificates of the schemes, and of the refusal of the function behind theirs.
+fn with_refusal(
+    alloc: Global,
+    shaped: &Shaped,
+    i: u32,
+    schemes: Schemes,
+) -> Result<Proofs, ProveStop>
+    requires refused { IsFirstRefused (infer (program_tree shaped.now)) i }
+    requires before { infer_first (program_tree shaped.now) i ≡ all_schemes (scheme_trees schemes) }
+    ensures { IsProved (program_tree shaped.now) result }
+{
+    match refusal_of(alloc, shaped, i, &schemes) {
+        Ok(no) => with_yes(alloc, shaped, schemes, Some(no)),
+        Err(stop) => {
+            drop(schemes);
+            Err(of_function(i, stop))
+        }
     }
 }
 
@@ -70,56 +84,63 @@ fn with_yes(
 ) -> Result<Proofs, ProveStop>
     requires before { infer_first (program_tree shaped.now) (length schemes.items.items)
         ≡ all_schemes (scheme_trees schemes) }
+    requires few { length schemes.items.items ≤ length (program_tree shaped.now).functions }
     requires no { IsRefusal (program_tree shaped.now) (scheme_trees schemes) (infer (program_tree shaped.now)) no }
     ensures { IsProved (program_tree shaped.now) result }
 {
     let mut items: Vec<Yes> = Vec::new(alloc);
-    for i in 0..schemes.items.len() {
-        match yes_of(alloc, shaped, i as u32, &schemes) {
-            Ok(yes) => items.push(yes)?,
-            Err(stop) => {
-                drop(items);
-                drop(schemes);
-                drop(no);
-                return Err(of_function(i as u32, stop));
-            }
+    match add_yes(alloc, shaped, &schemes, &mut items) {
+        Ok(()) => Ok(Proofs {
+            schemes,
+            yes: YesList { items },
+            no,
+        }),
+        Err(stop) => {
+            drop(items);
+            drop(schemes);
+            drop(no);
+            Err(stop)
         }
     }
-    Ok(Proofs {
-        schemes,
-        yes: YesList { items },
-        no,
-    })
 }
 
-/// The rows of function i, which has some.
-fn rows_of(alloc: Global, shaped: &Shaped, i: u32, schemes: &Schemes) -> Result<Rows, CertStop>
-    requires function { i < length (program_tree shaped.now).functions }
-    requires before { HaveSchemes (program_tree shaped.now) (scheme_trees schemes.now) i }
-    requires limits { HasRows (program_tree shaped.now) (scheme_trees schemes.now) i }
-    ensures equations { IfOk result (AreRowsOf (program_tree shaped.now) (scheme_trees schemes.now) i) }
-    ensures memory { IfErr result (λ stop. stop ≡ NoMemory) }
+/// Adds a Yes for each of the schemes.
+fn add_yes(
+    alloc: Global,
+    shaped: &Shaped,
+    schemes: &Schemes,
+    items: &mut Vec<Yes>,
+) -> Result<(), ProveStop>
+    requires empty { items.old.items ≡ [] }
+    requires before { infer_first (program_tree shaped.now) (length schemes.now.items.items)
+        ≡ all_schemes (scheme_trees schemes.now) }
+    requires few { length schemes.now.items.items ≤ length (program_tree shaped.now).functions }
+    ensures count { OnOk result (length items.new.items ≡ length schemes.now.items.items) }
+    ensures valid { OnOk result (AreYesOf (program_tree shaped.now) (scheme_trees schemes.now) items.new.items) }
+    ensures range { IfErr result (CarriesInSome (program_tree shaped.now)) }
 {
-    match rows(alloc, shaped, i, schemes) {
-        Ok(rows) => Ok(rows),
-        Err(RowStop::NoMemory) => Err(CertStop::NoMemory),
-        Err(RowStop::Slots | RowStop::Range { at: _ }) => unreachable!(),
+    for i in 0..schemes.items.len() {
+        match yes_of(alloc, shaped, i as u32, schemes) {
+            Ok(yes) => items.push(yes)?,
+            Err(stop) => return Err(of_function(i as u32, stop)),
+        }
     }
+    Ok(())
 }
 
 fn yes_of(alloc: Global, shaped: &Shaped, i: u32, schemes: &Schemes) -> Result<Yes, CertStop>
     requires inside { i < length schemes.now.items.items }
-    requires inferred { infer_first (program_tree shaped.now) (length schemes.now.items.items)
+    requires before { infer_first (program_tree shaped.now) (length schemes.now.items.items)
         ≡ all_schemes (scheme_trees schemes.now) }
+    requires few { length schemes.now.items.items ≤ length (program_tree shaped.now).functions }
     ensures valid { (f : FunctionTree) (s : SchemeTree) → slice_get (program_tree shaped.now).functions i ≡ Some f
         → slice_get (scheme_trees schemes.now) i ≡ Some s
         → IfOk result (IsYesOf (program_tree shaped.now) (scheme_trees schemes.now) i f s) }
     ensures range { IfErr result (CarriesInFunction (program_tree shaped.now) i) }
 {
     let equations = rows_of(alloc, shaped, i, schemes)?;
-    let program = shaped.program();
-    let units = program.functions.items[i as usize].units;
-    let bases = program.bases.as_slice().len() as u32;
+    let units = unit_count(shaped, i);
+    let bases = base_count(shaped);
     let made = make_yes(alloc, &equations, units, bases, &schemes.items[i as usize]);
     drop(equations);
     made
@@ -133,12 +154,52 @@ fn refusal_of(alloc: Global, shaped: &Shaped, i: u32, schemes: &Schemes) -> Resu
     ensures range { IfErr result (CarriesInFunction (program_tree shaped.now) i) }
 {
     let equations = rows_of(alloc, shaped, i, schemes)?;
-    let program = shaped.program();
-    let units = program.functions.items[i as usize].units;
-    let bases = program.bases.as_slice().len() as u32;
+    let units = unit_count(shaped, i);
+    let bases = base_count(shaped);
     let made = make_no(alloc, &equations, units, bases);
     drop(equations);
     made
+}
+
+/// The rows of function i, which passes no limit.
+fn rows_of(alloc: Global, shaped: &Shaped, i: u32, schemes: &Schemes) -> Result<Rows, CertStop>
+    requires function { i < length (program_tree shaped.now).functions }
+    requires before { HaveSchemes (program_tree shaped.now) (scheme_trees schemes.now) i }
+    requires limits { HasRows (program_tree shaped.now) (scheme_trees schemes.now) i }
+    ensures equations { IfOk result (AreRowsOf (program_tree shaped.now) (scheme_trees schemes.now) i) }
+    ensures rows { (f : FunctionTree) → slice_get (program_tree shaped.now).functions i ≡ Some f
+        → IfOk result (AreFunctionRows (length (program_tree shaped.now).bases) f.units) }
+    ensures memory { IfErr result (λ stop. stop ≡ NoMemory) }
+{
+    match rows(alloc, shaped, i, schemes) {
+        Ok(rows) => {
+            if are_declared(&rows, base_count(shaped)) {
+                return Ok(rows);
+            }
+            drop(rows);
+            Err(CertStop::NoMemory)
+        }
+        Err(RowStop::NoMemory) => Err(CertStop::NoMemory),
+        Err(RowStop::Slots) => unreachable!(),
+        Err(RowStop::Range { at: _ }) => unreachable!(),
+    }
+}
+
+/// How many unit parameters function i has.
+fn unit_count(shaped: &Shaped, i: u32) -> u32
+    requires { i < length (program_tree shaped.now).functions }
+    ensures { (f : FunctionTree) → slice_get (program_tree shaped.now).functions i ≡ Some f → result ≡ f.units }
+{
+    shaped.program().functions.items[i as usize].units
+}
+
+/// How many base units the program, which is formed, declares.
+fn base_count(shaped: &Shaped) -> u32
+    ensures count { result ≡ length (program_tree shaped.now).bases }
+    ensures few { result ≤ 16777216 }
+    ensures formed { IsFormed (program_tree shaped.now) }
+{
+    shaped.program().bases.as_slice().len() as u32
 }
 
 /// Want of a certificate of function i as the program's.
