@@ -25,11 +25,11 @@ use Rattle.um_making.proofs.Kept.{unit_comes_back, pow-signed_by, replace-signed
 
 -- the product of the rows to the powers t is what comes back of r as the turns leave it, to the divisor
 pub rows_are : (rows solution : List PowerMap) (back : Atom → PowerMap) (divisor : ℤ) (parts : ℕ → PowerMap) (k : ℕ) (ts : List Turn) → IsKept rows solution back divisor parts →
-    VariablesBelow (length solution) (nth rows k) → ((n : ℕ) → back (Base n) ≡ atom (Base n)) → All IsShear ts →
+    VariablesBelow (length solution) (nth rows k) → ((n : ℕ) → power_of (nth rows k) (Base n) ≢ pos 0 → back (Base n) ≡ atom (Base n)) → All IsShear ts →
     replace (nth rows) (signed_by ts (total parts (nth rows k) k divisor)) ≡ pow (extension (back_after ts back) (unit_after ts (replace (nth solution) (nth rows k)))) divisor
 rows_are rows solution back divisor parts k ts kept below bases shears =
     replace-signed_by (nth rows) ts (total parts (nth rows k) k divisor)
-    ∙ ap (signed_by ts) (sym (total_is rows solution back divisor parts k kept below (λ n _. bases n)))
+    ∙ ap (signed_by ts) (sym (total_is rows solution back divisor parts k kept below bases))
     ∙ sym (pow-signed_by ts (extension back (replace (nth solution) (nth rows k))) divisor)
     ∙ ap (λ u. pow u divisor) (sym (unit_comes_back ts (replace (nth solution) (nth rows k)) back shears))
 
@@ -113,10 +113,10 @@ stuck_is_apart rows solution back divisor parts k ts h kept below bases shears s
     after_bases n = back_after-base ts back n ∙ bases n
 
     power : (x : Atom) → power_of (replace (nth rows) (signed_by ts (total parts (nth rows k) k (pos divisor)))) x ≡ pos divisor *ℤ power_of (extension (back_after ts back) (unit_after ts (replace (nth solution) (nth rows k)))) x
-    power x = ap (λ u. power_of u x) (rows_are rows solution back (pos divisor) parts k ts kept below bases shears) ∙ weight-pow (indicator x) (extension (back_after ts back) (unit_after ts (replace (nth solution) (nth rows k)))) (pos divisor)
+    power x = ap (λ u. power_of u x) (rows_are rows solution back (pos divisor) parts k ts kept below (λ n _. bases n) shears) ∙ weight-pow (indicator x) (extension (back_after ts back) (unit_after ts (replace (nth solution) (nth rows k)))) (pos divisor)
 
 -- ---- no variable is left
-no_whole : (d : ℕ) (e q : ℤ) → 0 < d → e ≢ pos 0 → pos d *ℤ e ≡ (pos d *ℤ pos (nat_abs e + 1)) *ℤ q → ⊥
+pub no_whole : (d : ℕ) (e q : ℤ) → 0 < d → e ≢ pos 0 → pos d *ℤ e ≡ (pos d *ℤ pos (nat_abs e + 1)) *ℤ q → ⊥
 no_whole d e q h n same = at e n (pos-*ℤ-zero d (e +ℤ neg_ℤ (pos (nat_abs e + 1) *ℤ q)) h
     (*ℤ-+ℤ (pos d) e (neg_ℤ (pos (nat_abs e + 1) *ℤ q)) ∙ taken (pos d *ℤ e) (pos d *ℤ (pos (nat_abs e + 1) *ℤ q)) (pos d *ℤ neg_ℤ (pos (nat_abs e + 1) *ℤ q)) (same ∙ *ℤ_assoc (pos d) (pos (nat_abs e + 1)) q) (*ℤ-neg_ℤ (pos d) (pos (nat_abs e + 1) *ℤ q))))
   where
@@ -157,4 +157,4 @@ closed_is_apart rows solution back divisor parts k ts h kept below bases shears 
     after_bases n = back_after-base ts back n ∙ bases n
 
     power : (x : Atom) → power_of (replace (nth rows) (signed_by ts (total parts (nth rows k) k (pos divisor)))) x ≡ pos divisor *ℤ power_of (extension (back_after ts back) (unit_after ts (replace (nth solution) (nth rows k)))) x
-    power x = ap (λ u. power_of u x) (rows_are rows solution back (pos divisor) parts k ts kept below bases shears) ∙ weight-pow (indicator x) (extension (back_after ts back) (unit_after ts (replace (nth solution) (nth rows k)))) (pos divisor)
+    power x = ap (λ u. power_of u x) (rows_are rows solution back (pos divisor) parts k ts kept below (λ n _. bases n) shears) ∙ weight-pow (indicator x) (extension (back_after ts back) (unit_after ts (replace (nth solution) (nth rows k)))) (pos divisor)

@@ -1,4 +1,13 @@
 mod Limits
+mod Loops
+mod Turning
+mod TurnEnds
+mod Parts
+mod WayBack
+mod RowStops
+mod Reached
+mod Solving
+mod Refusals
 mod Prefix
 mod General
 mod HeldVariables
@@ -7,9 +16,5 @@ mod Closed
 mod DeclaredUnits
 mod OwnRows
 mod Judged
-mod Reached
-mod Solving
-mod Refusals
-mod WayBack
 mod ValidYes
 mod ValidNo

@@ -1,15 +1,16 @@
 -- The code's: what the parts of a row's treatment answer.
 -- Source: this project's own; no public clause rests on it.
-use Rattle.std.specs.Prelude.{◌≡◌, ◌⊎◌, ℕ, ◌+◌, ◌-◌, ◌<◌, if◌then◌else◌, Bool, true, false, not, List, [], ◌∷◌, length, map, set, All, slice_index_or, ℤ, pos, nat_abs, ◌*ℤ◌, Option, Some, None, Result, Ok, Err}
+use Rattle.std.specs.Prelude.{◌≡◌, ◌⊎◌, ℕ, ◌+◌, ◌-◌, ◌<◌, if◌then◌else◌, Bool, true, false, not, List, [], ◌∷◌, length, map, set, All, slice_index_or, IsTrue, ℤ, pos, negsuc, nat_abs, ◌*ℤ◌, Option, Some, None, Result, Ok, Err}
 use Rattle.std.specs.Int.Signed.{◌<ℤ◌}
 use Rattle.um_check.specs.Validity.{returned}
 use Rattle.um_units.specs.declared.Atom.{Atom}
 use Rattle.um_units.specs.declared.Atom.TheVariants.{Base, Var}
 use Rattle.um_units.specs.declared.Term.{Term}
 use Rattle.um_units.specs.PowerMap.{PowerMap, one, atom, mul, inv, pow, power_of, replace, nth}
+use Rattle.um_units.specs.Variables.{VariablesBelow, atom_below}
 use Rattle.um_wide.specs.Room.{IsNarrow}
 use Rattle.um_elim.specs.declared.turning.Turn.{Turn}
-use Rattle.um_elim.specs.Pivot.{has_other}
+use Rattle.um_elim.specs.Pivot.{has_other, is_base}
 use Rattle.um_elim.specs.Turn.{multiply, signed}
 use Rattle.um_turns.specs.Turns.{unit_after, AreTurnsOf, IsClosedLeft, IsStuck}
 use Rattle.um_rows.specs.declared.row.Row.{Row}
@@ -50,8 +51,9 @@ back_at h bs (Var k) = nth bs k
 pub record Agrees (h : Head) (m : Making) (kept : Kept) : Type 0 where
   pub solution : m.solution.items ≡ kept.solution
   pub count : length m.solution.items ≡ h.slots
+  pub below : All (VariablesBelow h.slots) m.solution.items
   pub back_count : length m.back.items ≡ h.slots + h.parameters
-  pub back : (y : Atom) → kept.back y ≡ back_at h m.back.items y
+  pub back : (y : Atom) → IsTrue (atom_below h.slots y) → kept.back y ≡ back_at h m.back.items y
   pub divisor : m.divisor ≡ kept.divisor
   pub positive : pos 0 <ℤ m.divisor
   pub parts_count : length m.parts.items ≡ h.slots
@@ -105,10 +107,25 @@ CarriesOneOfParts m p t solution old stop.NoMemory = Unit {0}
 
 -- ---- a row's powers of rows, with a sign
 
+abbrev pub sign_of : Bool → ℤ
+sign_of true = negsuc 0
+sign_of false = pos 1
+
+-- how many of the terms are those of variables
+abbrev pub variable_count : List Term → ℕ
+variable_count [] = 0
+variable_count (t ∷ ts) = (if is_base t.atom then 0 else 1) + variable_count ts
+
 abbrev pub parts_product : ℤ → List PowerMap → List Term → PowerMap
 parts_product sign parts [] = one
 parts_product sign parts (t ∷ ts) =
     mul (pow (at_slot (λ j. slice_index_or parts j one) t.atom) (sign *ℤ t.power)) (parts_product sign parts ts)
+
+-- ---- the absolute power of the first term
+
+abbrev pub first_size : List Term → Option ℕ
+first_size [] = None
+first_size (t ∷ ts) = Some (nat_abs t.power)
 
 -- ---- rows one after another
 

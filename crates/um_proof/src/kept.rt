@@ -1,6 +1,6 @@
 //! What the making of a certificate keeps beside the elimination of rows.
 
-ghost use Rattle.std.specs.Prelude.{◌≡◌, ◌≤◌, ◌<◌, ◌+◌, ◌^◌, All, length, map, set, pos, nat_abs, IfOk, OnOk, MatchResult, IfErr};
+ghost use Rattle.std.specs.Prelude.{◌≡◌, ◌≤◌, ◌<◌, ◌+◌, ◌^◌, All, length, map, set, pos, nat_abs, false, IfOk, OnOk, MatchResult, IfErr};
 ghost use Rattle.um_units.specs.declared.Atom.TheVariants.{Var};
 ghost use Rattle.um_units.specs.PowerMap.{PowerMap, one, atom, inv, mul, pow, power_of, replace, nth};
 ghost use Rattle.um_units.specs.Variables.{VariablesBelow};
@@ -135,6 +135,20 @@ fn without(alloc: Global, unit: &Unit, m: u32) -> Result<Unit, AllocError>
     }
 }
 
+/// Variable m becomes 1 in each unit.
+fn end_units(alloc: Global, units: &mut Vec<Unit>, m: u32) -> Result<(), AllocError>
+    ensures { OnOk result (units.new.items ≡ map (replace (substitute m one)) units.old.items) }
+{
+    for j in 0..units.len() {
+        let power = units[j].power_of(Atom::Var(m));
+        if power != 0 {
+            let unit = without(alloc, &units[j], m)?;
+            units[j] = unit;
+        }
+    }
+    Ok(())
+}
+
 /// The powers of rows of one slot where variable m to the power p became 1 and stood in the slot's unit to the power e.
 fn slot_parts(
     alloc: Global,
@@ -153,6 +167,42 @@ fn slot_parts(
     let taken = total.pow(alloc, -i64::from(e))?;
     let sum = scaled.mul(alloc, &taken)?;
     narrowed(sum)
+}
+
+/// Whether the powers of rows of a slot change, in whose unit the variable that became 1 from the power p stood to the power
+/// e.
+fn changes(p: i32, e: i32) -> bool
+    ensures { result ≡ false → (p ≡ pos 1) × (e ≡ pos 0) }
+{
+    p != 1 || e != 0
+}
+
+/// Each slot's powers of rows are p times those before, less those of the row as often as variable m stands in the slot's
+/// unit.
+fn end_parts(
+    alloc: Global,
+    solution: &[Unit],
+    parts: &mut Vec<WideUnit>,
+    m: u32,
+    p: i32,
+    total: &WideUnit,
+) -> Result<(), CertStop>
+    requires count { length parts.old.items ≡ length solution.now }
+    requires narrow { All IsNarrow parts.old.items }
+    requires total { IsNarrow total.now }
+    requires p { pos 0 <ℤ p }
+    ensures parts { OnOk result (ArePartsAfter m (nat_abs p) total.now solution.now parts.old.items parts.new.items) }
+    ensures narrow { OnOk result (All IsNarrow parts.new.items) }
+    ensures range { IfErr result (CarriesOneOfParts m (nat_abs p) total.now solution.now parts.old.items) }
+{
+    for j in 0..solution.len() {
+        let e = solution[j].power_of(Atom::Var(m));
+        if changes(p, e) {
+            let made = slot_parts(alloc, &parts[j], p, total, e)?;
+            parts[j] = made;
+        }
+    }
+    Ok(())
 }
 
 /// Variable m, left to the power p, becomes 1: each slot's powers of rows are p times those before, less those of the row
@@ -174,14 +224,7 @@ pub fn end_variable(
     ensures narrow { OnOk result (All IsNarrow parts.new.items) }
     ensures range { IfErr result (CarriesOneOfParts m (nat_abs p) total.now solution.old.items parts.old.items) }
 {
-    for j in 0..solution.len() {
-        let e = solution[j].power_of(Atom::Var(m));
-        if e != 0 || p != 1 {
-            let made = slot_parts(alloc, &parts[j], p, total, e)?;
-            parts[j] = made;
-            let unit = without(alloc, &solution[j], m)?;
-            solution[j] = unit;
-        }
-    }
+    end_parts(alloc, solution, parts, m, p, total)?;
+    end_units(alloc, solution, m)?;
     Ok(())
 }

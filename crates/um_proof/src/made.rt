@@ -1,6 +1,6 @@
 //! Rows treated one after another.
 
-ghost use Rattle.std.specs.Prelude.{◌≡◌, ◌≤◌, ◌<◌, ◌+◌, ◌^◌, ℕ, All, pos, IfOk, MatchResult};
+ghost use Rattle.std.specs.Prelude.{◌≡◌, ◌≤◌, ◌<◌, ◌+◌, ◌^◌, ℕ, All, length, pos, IfOk, MatchResult};
 ghost use Rattle.um_units.specs.declared.Atom.TheVariants.{Base};
 ghost use Rattle.um_units.specs.PowerMap.{power_of};
 ghost use Rattle.um_units.specs.Variables.{VariablesBelow};
@@ -31,6 +31,7 @@ pub fn make_rows(alloc: Global, head: Head, rows: &[Row]) -> Result<Treated, Cer
     requires parameters { head.parameters ≤ head.slots }
     requires bases { head.bases + head.parameters < 2 ^ 32 }
     requires rows { All (λ (row : RowData). VariablesBelow head.slots row.unit) rows.now }
+    requires number { length rows.now ≤ 4294967295 }
     ensures { MatchResult result (AreMade head rows.now) (CarriesInRows head rows.now) }
 {
     let mut making = first_kept(alloc, head)?;

@@ -1,19 +1,18 @@
 //! The treatment of one row.
 
-ghost use Rattle.std.specs.Prelude.{◌≡◌, ◌≤◌, ◌<◌, ◌+◌, ◌^◌, ◌*◌, ◌*ℤ◌, List, All, length, nat_abs, pos, None, slice_index_or, IfOk, OnOk, MatchResult, IfErr, IsTrue};
+ghost use Rattle.std.specs.Prelude.{◌≡◌, ◌≤◌, ◌<◌, ◌+◌, ◌^◌, ◌*◌, ◌*ℤ◌, not, if◌then◌else◌, List, [], ◌∷◌, All, length, nat_abs, pos, None, slice_index_or, IfOk, OnOk, MatchResult, IfErr, IsTrue};
 ghost use Rattle.std.specs.Int.Signed.{◌<ℤ◌};
 ghost use Rattle.std.specs.List.{list_any};
-ghost use Rattle.um_units.specs.declared.Atom.TheVariants.{Var};
 ghost use Rattle.um_units.specs.declared.Term.{Term as TermData};
-ghost use Rattle.um_units.specs.PowerMap.{PowerMap, one, nth, power_of, product, replace, extension};
-ghost use Rattle.um_units.specs.Variables.{VariablesBelow, variables_below};
-ghost use Rattle.um_elim.specs.Pivot.{is_other, pivot};
+ghost use Rattle.um_units.specs.PowerMap.{PowerMap, one, nth, pow, replace};
+ghost use Rattle.um_units.specs.Variables.{VariablesBelow, atom_below};
+ghost use Rattle.um_elim.specs.Pivot.{is_base, is_other, pivot};
 ghost use Rattle.um_elim.specs.Turn.{multiply, signed};
 ghost use Rattle.um_wide.specs.Room.{IsNarrow, IsWithin};
 ghost use Rattle.um_making.specs.Making.{at_slot, total};
 ghost use Rattle.um_proof.specs.Making.{Kept};
 ghost use Rattle.um_proof.specs.declared.kept.Head.{Head as HeadData};
-ghost use Rattle.um_proof.specs.Steps.{Agrees, CarriesInRow, CarriesInTurn, CarriesNumber, CarriesPower, IsLeftAlone, IsTreated, IsTurned, IsTurning, parts_product};
+ghost use Rattle.um_proof.specs.Steps.{Agrees, CarriesInRow, CarriesInTurn, CarriesNumber, CarriesPower, IsLeftAlone, IsTreated, IsTurned, IsTurning, first_size, parts_product, sign_of, variable_count};
 
 use crate::CertStop;
 use crate::kept::{Head, Making, divide_back, end_variable, multiply_all};
@@ -40,30 +39,62 @@ fn put_in_row(alloc: Global, row: &Unit, solution: &[Unit]) -> Result<Unit, Cert
     unit_of(alloc, &image)
 }
 
-/// The product over the slots of a row of each slot's powers of rows to the slot's power, by halves. A sign other than 1 is -1.
+fn signed_power(inverted: bool, power: i32) -> i64
+    ensures { result ≡ sign_of inverted *ℤ power }
+{
+    if inverted {
+        -i64::from(power)
+    } else {
+        i64::from(power)
+    }
+}
+
+fn signed_divisor(inverted: bool, divisor: i64) -> i64
+    requires { pos 0 <ℤ divisor }
+    ensures { result ≡ sign_of inverted *ℤ divisor }
+{
+    if inverted { -divisor } else { divisor }
+}
+
+/// The powers of rows of the term's slot to the term's power. A base unit has none.
+fn slot_power(
+    alloc: Global,
+    parts: &[WideUnit],
+    term: Term,
+    inverted: bool,
+) -> Result<WideUnit, NoMemory>
+    requires narrow { All IsNarrow parts.now }
+    requires below { IsTrue (atom_below (length parts.now) term.atom) }
+    ensures exact { IfOk result (λ made. made ≡ pow (at_slot (λ j. slice_index_or parts.now j one) term.atom)
+        (sign_of inverted *ℤ term.power)) }
+    ensures room { IfOk result (IsWithin (variable_count (term ∷ []) * (2147483648 * 9223372036854775807))) }
+{
+    match term.atom {
+        Atom::Base(_) => Ok(WideUnit::one(alloc)),
+        Atom::Var(slot) => parts[slot as usize].pow(alloc, signed_power(inverted, term.power)),
+    }
+}
+
+/// The product over the slots of a row of each slot's powers of rows to the slot's power, by halves, with a sign.
 fn product_of_parts(
     alloc: Global,
     parts: &[WideUnit],
     terms: &[Term],
-    sign: i64,
+    inverted: bool,
 ) -> Result<WideUnit, NoMemory>
     requires narrow { All IsNarrow parts.now }
-    requires below { IsTrue (variables_below (length parts.now) terms.now) }
-    requires few { length terms.now ≤ 4294967295 }
-    requires sign { nat_abs sign ≡ 1 }
-    ensures exact { IfOk result (λ made. made ≡ parts_product sign parts.now terms.now) }
-    ensures room { IfOk result (IsWithin (length terms.now * (9223372036854775807 * 2147483647))) }
+    requires below { All (λ (t : TermData). IsTrue (atom_below (length parts.now) t.atom)) terms.now }
+    requires few { variable_count terms.now ≤ 2000 }
+    ensures exact { IfOk result (λ made. made ≡ parts_product (sign_of inverted) parts.now terms.now) }
+    ensures room { IfOk result (IsWithin (variable_count terms.now * (2147483648 * 9223372036854775807))) }
 {
     match terms {
         [] => Ok(WideUnit::one(alloc)),
-        [term] => match term.atom {
-            Atom::Base(_) => Ok(WideUnit::one(alloc)),
-            Atom::Var(slot) => parts[slot as usize].pow(alloc, sign * i64::from(term.power)),
-        },
+        [term] => slot_power(alloc, parts, *term, inverted),
         _ => {
             let (front, back) = terms.split_at(terms.len() / 2);
-            let left = product_of_parts(alloc, parts, front, sign)?;
-            let right = product_of_parts(alloc, parts, back, sign)?;
+            let left = product_of_parts(alloc, parts, front, inverted)?;
+            let right = product_of_parts(alloc, parts, back, inverted)?;
             left.mul(alloc, &right)
         }
     }
@@ -77,6 +108,7 @@ fn row_total(
     k: u32,
     inverted: bool,
 ) -> Result<WideUnit, CertStop>
+    requires few { length making.now.parts.items ≤ 2000 }
     requires narrow { All IsNarrow making.now.parts.items }
     requires below { VariablesBelow (length making.now.parts.items) row.now }
     requires positive { pos 0 <ℤ making.now.divisor }
@@ -85,9 +117,9 @@ fn row_total(
     ensures narrow { MatchResult result IsNarrow (CarriesPower 9223372036854775807
         (signed inverted (total (λ j. slice_index_or making.now.parts.items j one) row.now k making.now.divisor))) }
 {
-    let sign: i64 = if inverted { -1 } else { 1 };
-    let own = WideUnit::atom_power(alloc, Atom::Var(k), i128::from(sign * making.divisor))?;
-    let others = product_of_parts(alloc, &making.parts, row.terms(), sign)?;
+    let number = signed_divisor(inverted, making.divisor);
+    let own = WideUnit::atom_power(alloc, Atom::Var(k), i128::from(number))?;
+    let others = product_of_parts(alloc, &making.parts, row.terms(), inverted)?;
     let sum = others.mul(alloc, &own)?;
     narrowed(sum)
 }
@@ -115,6 +147,43 @@ fn has_other_variable(terms: &[Term], m: u32) -> bool
     })
 }
 
+/// Whether a base unit stands in the terms.
+fn has_base_unit(terms: &[Term]) -> bool
+    ensures { result ≡ list_any (λ (t : TermData). is_base t.atom) terms.now }
+{
+    terms.iter().any(|term| matches!(term.atom, Atom::Base(_)))
+}
+
+/// The absolute power of the first term.
+fn first_size(terms: &[Term]) -> Option<u32>
+    ensures { result ≡ first_size terms.now }
+{
+    match terms {
+        [] => None,
+        [term, ..] => Some(term.power.unsigned_abs()),
+    }
+}
+
+/// Inverted once more, or as it was.
+fn flipped(inverted: bool, again: bool) -> bool
+    ensures { result ≡ (if again then not inverted else inverted) }
+{
+    if again { !inverted } else { inverted }
+}
+
+/// What the turn leaves of the unit.
+fn turned(alloc: Global, r: &Unit, turn: &Turn) -> Result<Unit, CertStop>
+    ensures { MatchResult result
+        (λ left. left ≡ replace (multiply turn.now.variable turn.now.by) (signed turn.now.inverted r.now))
+        (CarriesPower 2147483647 (replace (multiply turn.now.variable turn.now.by) (signed turn.now.inverted r.now))) }
+{
+    let power = r.power_of(Atom::Var(turn.variable));
+    if turn.inverted {
+        return times(alloc, r, -1, &turn.by, -power);
+    }
+    times(alloc, r, 1, &turn.by, power)
+}
+
 /// The turn, of what is left of the row and of what is kept.
 fn make_turn(
     alloc: Global,
@@ -134,12 +203,7 @@ fn make_turn(
         turn.now.variable turn.now.inverted turn.now.by) }
     ensures kept { OnOk result (IsTurned head making.old making.new turn.now.variable turn.now.by) }
 {
-    let power = r.power_of(Atom::Var(turn.variable));
-    let left = if turn.inverted {
-        times(alloc, r, -1, &turn.by, -power)?
-    } else {
-        times(alloc, r, 1, &turn.by, power)?
-    };
+    let left = turned(alloc, r, turn)?;
     multiply_all(alloc, &mut making.solution, turn.variable, &turn.by)?;
     divide_back(alloc, &mut making.back, head, turn)?;
     Ok(left)
@@ -154,6 +218,10 @@ fn closed_end(
     inverted: bool,
     r: &Unit,
 ) -> Result<Option<Refused>, CertStop>
+    requires few { length making.now.parts.items ≤ 2000 }
+    requires narrow { All IsNarrow making.now.parts.items }
+    requires below { VariablesBelow (length making.now.parts.items) row.now }
+    requires positive { pos 0 <ℤ making.now.divisor }
     ensures treated { (h : HeadData) (rows : List PowerMap) (kept : Kept) → row.now ≡ nth rows k
         → IsTurning rows kept k h making.now r.now inverted → pivot r.now ≡ None
         → IfOk result (IsTreated rows kept k h making.now) }
@@ -161,12 +229,11 @@ fn closed_end(
         → IsTurning rows kept k h making.now r.now inverted → pivot r.now ≡ None
         → IfErr result (CarriesInRow rows kept k) }
 {
-    let Some(term) = r.terms().first() else {
+    let Some(size) = first_size(r.terms()) else {
         return Ok(None);
     };
-    let least = i64::from(term.power.unsigned_abs());
     let total = row_total(alloc, making, row, k, inverted)?;
-    match number_times(making.divisor, least + 1) {
+    match number_times(making.divisor, i64::from(size) + 1) {
         Ok(modulus) => Ok(Some(Refused { total, modulus })),
         Err(stop) => {
             drop(total);
@@ -185,17 +252,21 @@ fn power_end(
     r: &Unit,
     m: u32,
 ) -> Result<Option<Refused>, CertStop>
+    requires few { length making.old.parts.items ≤ 2000 }
+    requires narrow { All IsNarrow making.old.parts.items }
+    requires below { VariablesBelow (length making.old.parts.items) row.now }
+    requires positive { pos 0 <ℤ making.old.divisor }
+    requires count { length making.old.parts.items ≡ length making.old.solution.items }
+    requires alone { IsLeftAlone m r.now }
     ensures treated { (h : HeadData) (rows : List PowerMap) (kept : Kept) → row.now ≡ nth rows k
-        → IsTurning rows kept k h making.old r.now inverted → IsLeftAlone m r.now
-        → IfOk result (IsTreated rows kept k h making.new) }
+        → IsTurning rows kept k h making.old r.now inverted → IfOk result (IsTreated rows kept k h making.new) }
     ensures range { (h : HeadData) (rows : List PowerMap) (kept : Kept) → row.now ≡ nth rows k
-        → IsTurning rows kept k h making.old r.now inverted → IsLeftAlone m r.now
-        → IfErr result (CarriesInRow rows kept k) }
+        → IsTurning rows kept k h making.old r.now inverted → IfErr result (CarriesInRow rows kept k) }
 {
     let p = r.power_of(Atom::Var(m));
     let total = row_total(alloc, making, row, k, inverted)?;
     let number = number_times(making.divisor, i64::from(p))?;
-    if r.terms().len() > 1 {
+    if has_base_unit(r.terms()) {
         return Ok(Some(Refused {
             total,
             modulus: number,
@@ -214,9 +285,11 @@ pub fn make_row(
     k: u32,
     row: &Unit,
 ) -> Result<Option<Refused>, CertStop>
-    requires below { VariablesBelow head.slots row.now }
+    requires few { head.slots ≤ 2000 }
     requires parameters { head.parameters ≤ head.slots }
     requires bases { head.bases + head.parameters < 2 ^ 32 }
+    requires below { VariablesBelow head.slots row.now }
+    requires making { (kept : Kept) × Agrees head making.old kept }
     ensures treated { (rows : List PowerMap) (kept : Kept) → row.now ≡ nth rows k → Agrees head making.old kept
         → IfOk result (IsTreated rows kept k head making.new) }
     ensures range { (rows : List PowerMap) (kept : Kept) → row.now ≡ nth rows k → Agrees head making.old kept
@@ -229,7 +302,7 @@ pub fn make_row(
             return closed_end(alloc, making, row, k, inverted, &r);
         };
         r = make_turn(alloc, making, head, &r, &turn)?;
-        inverted = inverted != turn.inverted;
+        inverted = flipped(inverted, turn.inverted);
         if !has_other_variable(r.terms(), turn.variable) {
             return power_end(alloc, making, row, k, inverted, &r, turn.variable);
         }
