@@ -11,6 +11,7 @@ mod Refusals
 mod Prefix
 mod General
 mod HeldVariables
+mod Renamed
 mod WayBackSteps
 mod Closed
 mod DeclaredUnits

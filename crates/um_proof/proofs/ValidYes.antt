@@ -178,7 +178,7 @@ module _ (bases parameters : ℕ) (r : Rows) (asked : AreFunctionRows bases para
           ∙ replace-replace (by_place order) (nth back) u
           ∙ replace_alike (λ k. replace (nth back) (by_place order k)) (nth making.back.items) u (λ k held. replace-variable (nth back) (place order k) ∙ at_variable j k l held)
           ∙ ap (replace (nth making.back.items)) (nth-map in_place units j (subst (λ n. j < n) (sym count) l))
-          ∙ sym (back_is head making.back.items kept.back (nth units j) agrees.back_count agrees.back))
+          ∙ sym (back_is head making.back.items kept.back (nth units j) agrees.back_count agrees.back (All-get_or (VariablesBelow r.slots) units j (atom (Var j)) (subst (λ n. j < n) (sym count) l) below)))
 
       -- a number that passes at the end
       pub end_passes : (e : CertStop) → CarriesReturned renamed back e → IsYesMade bases parameters r s (Err e)
