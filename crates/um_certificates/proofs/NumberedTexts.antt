@@ -15,7 +15,7 @@ pub numbered_more : {X : Type 0} (text : ℕ → X → List ℕ) (xs : List X) (
     new ≡ before ++ numbered text 0 (take (i + 1) xs)
 numbered_more text xs i d before old new h so more =
     more ∙ ap (λ t. t ++ text i (get_or xs i d)) so ∙ append_assoc before (numbered text 0 (take i xs)) (text i (get_or xs i d))
-    ∙ ap (λ t. before ++ t) (sym (ap (numbered text 0) (take_more xs i d h) ∙ numbered-append text 0 i (take i xs) (get_or xs i d) (length-take-le i xs (omega (arith, h)))))
+    ∙ ap (λ t. before ++ t) (sym (ap (numbered text 0) (take_more xs i d h) ∙ numbered-append text 0 i (take i xs) (get_or xs i d) (let l = length-take-le i xs (omega (arith, h)) in omega (arith, l))))
 
 -- all of them
 pub numbered_all : {X : Type 0} (text : ℕ → X → List ℕ) (xs : List X) (n : ℕ) (before now : List ℕ) → length xs ≤ n → now ≡ before ++ numbered text 0 (take n xs) → now ≡ before ++ numbered text 0 xs
@@ -27,3 +27,7 @@ joined text separator first rest xs n old mid new cut all begun grown =
     let others = flat_map (λ x. separator ++ text x) rest in
     grown ∙ ap (λ ys. mid ++ flat_map (λ x. separator ++ text x) ys) (take_all n rest all) ∙ ap (λ s. s ++ others) begun
     ∙ append_assoc old (text first) others ∙ ap (λ ys. old ++ join_by text separator ys) (sym cut)
+
+-- ---- texts that are added one after another
+pub more_added : (before a b text more : List ℕ) → text ≡ before ++ a → more ≡ text ++ b → more ≡ before ++ (a ++ b)
+more_added before a b text more first second = second ∙ ap (λ t. t ++ b) first ∙ append_assoc before a b

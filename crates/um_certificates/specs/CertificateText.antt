@@ -1,7 +1,7 @@
 -- How certificates are printed: a line that names the function and says which kind its certificate is of, and behind
 -- it lines that begin with two spaces.
 -- Source: this project's own; units in the notation of F#.
-use Rattle.std.specs.Prelude.{ℕ, suc, ◌+◌, if◌then◌else◌, List, [], ◌∷◌, ◌++◌, codes, length, map, Option, Some, None, slice_get}
+use Rattle.std.specs.Prelude.{ℕ, suc, ◌+◌, ℤ, Bool, if◌then◌else◌, List, [], ◌∷◌, ◌++◌, codes, length, map, Option, Some, None, slice_get}
 use Rattle.std.specs.Fmt.{decimal, signed_decimal}
 use Rattle.std.specs.List.{join_by, range_with_len}
 use Rattle.um_units.specs.PowerMap.{PowerMap}
@@ -51,19 +51,24 @@ function_name p i = name_of (slice_get p.functions i)
 
 -- ---- certificates, over base units of these names
 
+-- the name, the kind and two numbers
+abbrev pub heading : List ℕ → List ℕ → ℕ → ℤ → List ℕ
+heading name kind n k = name ++ kind ++ decimal n ++ codes " " ++ signed_decimal k ++ codes "\n"
+
 abbrev pub yes_text : List (List ℕ) → List ℕ → Yes → List ℕ
 yes_text bases name c =
-    name ++ codes " yes " ++ decimal c.vars ++ codes " " ++ signed_decimal c.divisor ++ codes "\n"
-    ++ numbered (unit_line (codes "  slot ") bases) 0 c.solution
-    ++ numbered (unit_line (codes "  back ") bases) 0 c.back
-    ++ numbered rows_line 0 c.parts
+    heading name (codes " yes ") c.vars c.divisor ++ numbered (unit_line (codes "  slot ") bases) 0 c.solution
+    ++ numbered (unit_line (codes "  back ") bases) 0 c.back ++ numbered rows_line 0 c.parts
     ++ numbered (unit_line (codes "  rigid ") (with_parameters bases (length c.rigid))) 0 c.rigid
 
--- the rows are counted from 1 in the first line
+-- not general is a function that has a typing, but none where each unit parameter is a unit of its own
+abbrev pub kind_text : Bool → List ℕ
+kind_text loose = if loose then codes " no " else codes " not general "
+
+-- the rows are counted from 1 in the heading
 abbrev pub no_text : List ℕ → No → List ℕ
 no_text name c =
-    name ++ (if c.loose then codes " no " else codes " not general ") ++ decimal (c.last + 1) ++ codes " "
-    ++ signed_decimal c.modulus ++ codes "\n  rows: " ++ parts_text c.parts ++ codes "\n"
+    heading name (kind_text c.loose) (c.last + 1) c.modulus ++ codes "  rows: " ++ parts_text c.parts ++ codes "\n"
 
 -- ---- of a program: of its first functions, and of the refusal of the next
 
@@ -72,5 +77,5 @@ refusal_text p i None = []
 refusal_text p i (Some c) = no_text (function_name p i) c
 
 abbrev pub certificates_text : ProgramTree → List Yes → Option No → List ℕ
-certificates_text p list no =
-    numbered (λ i. yes_text p.bases (function_name p i)) 0 list ++ refusal_text p (length list) no
+certificates_text p list refusal =
+    numbered (λ i. yes_text p.bases (function_name p i)) 0 list ++ refusal_text p (length list) refusal

@@ -1,9 +1,10 @@
 //! The texts of certificates.
 
-ghost use Rattle.std.specs.Prelude.{◌≡◌, ◌++◌, if◌then◌else◌, codes, IfOk, OnOk};
+ghost use Rattle.std.specs.Prelude.{◌≡◌, ◌++◌, IfOk, OnOk};
 ghost use Rattle.um_tree.specs.ProgramTree.{program_tree};
 ghost use Rattle.um_certificates.specs.CertificateText.{certificates_text as text_of_certificates, function_name as name_of_function};
-ghost use Rattle.um_certificates.specs.CertificateText.{no_text as text_of_no, numbered, refusal_text, yes_text as text_of_yes};
+ghost use Rattle.um_certificates.specs.CertificateText.{heading, kind_text as text_of_kind, no_text as text_of_no};
+ghost use Rattle.um_certificates.specs.CertificateText.{numbered, refusal_text, yes_text as text_of_yes};
 
 use crate::lines::{push_integer, push_number, push_parts, push_rows, push_units};
 use crate::names::with_parameters;
@@ -87,16 +88,24 @@ fn push_yes(
 {
     let rigid = cert.rigid.as_slice();
     let names = with_parameters(alloc, bases, rigid.len())?;
-    text.extend_from_slice(name)?;
-    text.extend_from_slice(b" yes ")?;
-    push_number(text, cert.vars as usize)?;
-    text.push(b' ')?;
-    push_integer(text, cert.divisor)?;
-    text.push(b'\n')?;
+    push_heading(text, name, b" yes ", cert.vars as usize, cert.divisor)?;
     push_units(alloc, text, b"  slot ", bases, cert.solution.as_slice())?;
     push_units(alloc, text, b"  back ", bases, cert.back.as_slice())?;
     push_rows(text, cert.parts.as_slice())?;
     push_units(alloc, text, b"  rigid ", &names, rigid)?;
+    Ok(())
+}
+
+/// Adds the line of a name, a kind and two numbers.
+fn push_heading(text: &mut Vec<u8>, name: &[u8], kind: &[u8], n: usize, k: i64) -> Result<(), AllocError>
+    ensures { OnOk result (text.new.items ≡ text.old.items ++ heading name.now kind.now n k) }
+{
+    text.extend_from_slice(name)?;
+    text.extend_from_slice(kind)?;
+    push_number(text, n)?;
+    text.push(b' ')?;
+    push_integer(text, k)?;
+    text.push(b'\n')?;
     Ok(())
 }
 
@@ -114,23 +123,18 @@ pub fn no_text(alloc: Global, name: &Name, cert: &No) -> Result<Vec<u8>, NoMemor
 fn push_no(text: &mut Vec<u8>, name: &[u8], cert: &No) -> Result<(), AllocError>
     ensures { OnOk result (text.new.items ≡ text.old.items ++ text_of_no name.now cert.now) }
 {
-    text.extend_from_slice(name)?;
-    push_kind(text, cert.loose)?;
-    push_number(text, cert.last as usize + 1)?;
-    text.push(b' ')?;
-    push_integer(text, cert.modulus)?;
-    text.extend_from_slice(b"\n  rows: ")?;
+    push_heading(text, name, kind_text(cert.loose), cert.last as usize + 1, cert.modulus)?;
+    text.extend_from_slice(b"  rows: ")?;
     push_parts(text, cert.parts.as_slice())?;
     text.push(b'\n')?;
     Ok(())
 }
 
-fn push_kind(text: &mut Vec<u8>, loose: bool) -> Result<(), AllocError>
-    ensures { OnOk result (text.new.items ≡ text.old.items
-        ++ (if loose then codes " no " else codes " not general ")) }
+fn kind_text(loose: bool) -> &'static [u8]
+    ensures { result.now ≡ text_of_kind loose }
 {
     if loose {
-        return text.extend_from_slice(b" no ");
+        return b" no ";
     }
-    text.extend_from_slice(b" not general ")
+    b" not general "
 }

@@ -18,10 +18,16 @@ use um_units::{Atom, Term, Unit};
 pub fn are_declared(rows: &Rows, bases: u32) -> bool
     ensures { result ≡ true → AreDeclared bases rows.now }
 {
-    rows.list.items.len() <= 4294967295
-        && rows_are_declared(&rows.list.items, bases)
-        && types_are_declared(&rows.params.items, bases)
-        && type_is_declared(&rows.result, bases)
+    if rows.list.items.len() > 4294967295 {
+        return false;
+    }
+    if !rows_are_declared(&rows.list.items, bases) {
+        return false;
+    }
+    if !types_are_declared(&rows.params.items, bases) {
+        return false;
+    }
+    type_is_declared(&rows.result, bases)
 }
 
 fn rows_are_declared(rows: &[Row], bases: u32) -> bool
