@@ -12,6 +12,9 @@ mod Prefix
 mod General
 mod HeldVariables
 mod Renamed
+mod SameEquations
+mod GivenSchemes
+mod FunctionRows
 mod WayBackSteps
 mod Closed
 mod DeclaredUnits
