@@ -15,6 +15,7 @@ mod Renamed
 mod SameEquations
 mod GivenSchemes
 mod FunctionRows
+mod RefusedFunction
 mod WayBackSteps
 mod Closed
 mod DeclaredUnits
