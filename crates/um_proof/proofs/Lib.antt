@@ -16,6 +16,7 @@ mod SameEquations
 mod GivenSchemes
 mod FunctionRows
 mod RefusedFunction
+mod GivenFunction
 mod WayBackSteps
 mod Closed
 mod DeclaredUnits

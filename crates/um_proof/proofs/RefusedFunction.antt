@@ -1,5 +1,6 @@
 -- The first function without a typing: its rows, and what a No of them is of the program.
 use Rattle.std.proofs.Common.{◌≡◌, ◌⊎◌, inl, inr, ℕ, ◌<◌, ◌≤◌, true, false, List, length, ℤ, Some, None, Ok, Err, slice_get, refl, sym, ap, ◌∙◌, subst, arith}
+use Rattle.std.specs.Prelude.{Result, IfOk, IfErr}
 use Rattle.std.proofs.lemmas.Option.{slice_get_within}
 use Rattle.um_units.specs.PowerMap.{PowerMap}
 use Rattle.um_tree.specs.ProgramTree.{FunctionTree, ProgramTree, SchemeTree}
@@ -127,3 +128,14 @@ module _ (p : ProgramTree) (formed : IsFormed p) (i : ℕ) (schemes : List Schem
           | inr w ↦ absurd (cc (sym loosely.2 ∙ w.0))
         ]
     refusal_passes stop.NoMemory h = tt
+
+    -- what the maker answers
+    pub no_valid : (bases units : ℕ) (result : Result No CertStop) → bases ≡ length p.bases → units ≡ f.units → IsNoMade bases units r (judged bases units 0 r) result → IfOk result (λ c. IsRefusal p schemes (infer p) (Some c))
+    no_valid bases units (Ok c) b u h =
+        refusal_is c (subst (λ m. IsNoMade (length p.bases) m r (judged (length p.bases) m 0 r) (Ok c)) u (subst (λ m. IsNoMade m units r (judged m units 0 r) (Ok c)) b h))
+    no_valid bases units (Err e) b u h = tt
+
+    pub no_range : (bases units : ℕ) (result : Result No CertStop) → bases ≡ length p.bases → units ≡ f.units → IsNoMade bases units r (judged bases units 0 r) result → IfErr result (CarriesInFunction p i)
+    no_range bases units (Ok c) b u h = tt
+    no_range bases units (Err e) b u h =
+        refusal_passes e (subst (λ m. IsNoMade (length p.bases) m r (judged (length p.bases) m 0 r) (Err e)) u (subst (λ m. IsNoMade m units r (judged m units 0 r) (Err e)) b h))

@@ -65,8 +65,8 @@ with_parts-requires-clause-rows c =
     let k = c.requires.reached in let j = c.requires.judged in
     parts_closed c.args.bases c.args.units c.args.rows.now c.args.making.now k.0 k.2 (state c.args.bases c.args.units c.args.rows.now c.requires.rows c.args.making.now k.0 k.2 k.1 j.0 j.1 j.2)
 
-pub returns-in-Ok : goal.returns-in-Ok
-returns-in-Ok c = λ at s so.
+pub returns-in_ok-with_parts-in-Ok : goal.returns-in_ok-with_parts-in-Ok
+returns-in_ok-with_parts-in-Ok c = λ at s so.
     let k = c.requires.reached in
     let r = c.args.rows.now in
     let h = head c.args.bases c.args.units r c.requires.rows in
