@@ -17,6 +17,7 @@ mod GivenSchemes
 mod FunctionRows
 mod RefusedFunction
 mod GivenFunction
+mod ProveSteps
 mod WayBackSteps
 mod Closed
 mod DeclaredUnits
