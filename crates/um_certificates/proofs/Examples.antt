@@ -14,7 +14,7 @@ twice_less = record { row = 3; times = negsuc 1 }
 no_typing :
     no_text (codes "h") (record { loose = true; last = 0; modulus = pos 2; parts = once ∷ [] })
     ≡ codes "h no " ++ decimal 1 ++ codes " " ++ signed_decimal (pos 2) ++ codes "\n" ++ codes "  rows: "
-    ++ (decimal 0 ++ codes "*" ++ signed_decimal (pos 1)) ++ codes "\n"
+    ++ parts_text (once ∷ []) ++ codes "\n"
 no_typing = refl
 
 less_general :

@@ -28,7 +28,7 @@ use Rattle.um_proof.proofs.SameEquations.{same_count, same_equations}
 use Rattle.um_proof.proofs.GivenSchemes.{IsGiven, given}
 
 -- a judgement by the count of slots and the equations
-judge_by : ℕ → FunctionTree → ℕ → Equations → Judgement
+abbrev judge_by : ℕ → FunctionTree → ℕ → Equations → Judgement
 judge_by bases f n e =
     cond (leb n 2000) (by_range (first_past e.steps) (by_rows bases f.units n f.at (record { params = e.params; result = e.result }) (rows_of e.steps))) too_many_slots
 
@@ -36,7 +36,7 @@ module _ (p : ProgramTree) (formed : IsFormed p) (n : ℕ) (schemes : List Schem
   pub have : HaveSchemes p schemes i
   have j h = have_schemes p n schemes (first_are_principal p formed n schemes le before) j (omega (arith, h, l))
 
-  is : IsGiven p schemes i s
+  abbrev is : IsGiven p schemes i s
   is = given p formed n schemes i s le before l stands
 
   module _ (f : FunctionTree) (at : slice_get p.functions i ≡ Some f) where

@@ -27,10 +27,10 @@ use Rattle.um_proof.specs.ProgramSteps.{HasRows, IsFirstRefused, CarriesInFuncti
 use Rattle.um_proof.proofs.FunctionRows.{HasJudgement, judged_rows, same_rows, judged_same, moved_refusal}
 
 module _ (p : ProgramTree) (formed : IsFormed p) (i : ℕ) (schemes : List SchemeTree) (before : infer_first p i ≡ all_schemes schemes) (refused : IsFirstRefused (infer p) i) where
-  row : ℕ
+  abbrev row : ℕ
   row = refused.0
 
-  place : ℕ
+  abbrev place : ℕ
   place = refused.1
 
   -- what it is judged, and where the inference stops

@@ -1,4 +1,4 @@
-use Rattle.std.proofs.Common.{◌≡◌, ◌++◌, ap, ◌∙◌, arith}
+use Rattle.std.proofs.Common.{◌++◌, ap, ◌∙◌, arith}
 use Rattle.um_certificates.specs.CertificateText.{unit_line}
 use Rattle.um_certificates.proofs.NumberedTexts.{numbered_more, numbered_all}
 use Rattle.um_certificates.proofs.lines.push_units.Goals as goal

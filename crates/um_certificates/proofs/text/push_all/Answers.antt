@@ -1,4 +1,4 @@
-use Rattle.std.proofs.Common.{◌≡◌, ℕ, List, ◌++◌, ap, ◌∙◌, arith}
+use Rattle.std.proofs.Common.{ℕ, List, ◌++◌, ap, ◌∙◌, arith}
 use Rattle.um_tree.specs.ProgramTree.{program_tree}
 use Rattle.um_check.specs.declared.certificate.Yes.{Yes}
 use Rattle.um_certificates.specs.CertificateText.{function_name, yes_text}

@@ -1,4 +1,4 @@
-use Rattle.std.proofs.Common.{◌≡◌, ◌+◌, ◌++◌, ap, ◌∙◌, to_z, of_z, w64, rules}
+use Rattle.std.proofs.Common.{◌+◌, ◌++◌, ap, ◌∙◌, to_z, of_z, w64, rules}
 use Rattle.std.proofs.lemmas.Int.{to_z-of_z}
 use Rattle.um_certificates.specs.CertificateText.{heading, kind_text, parts_text}
 use Rattle.um_certificates.proofs.NumberedTexts.{more_added}
