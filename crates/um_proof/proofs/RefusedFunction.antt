@@ -6,10 +6,10 @@ use Rattle.um_units.specs.PowerMap.{PowerMap}
 use Rattle.um_tree.specs.ProgramTree.{FunctionTree, ProgramTree, SchemeTree}
 use Rattle.um_tree.specs.Formed.{IsFormed}
 use Rattle.um_rows.specs.declared.row.Rows.{Rows}
-use Rattle.um_rows.specs.Steps.{units_of}
-use Rattle.um_rows.specs.Solutions.{HaveSchemes, function_rows}
-use Rattle.um_rows.specs.Slots.{slot_count}
-use Rattle.um_rows.specs.Judgement.{Judgement, has_no_typing, not_general, judge}
+use Rattle.um_rows.specs.Steps.{units_of, rows_of}
+use Rattle.um_rows.specs.Solutions.{HaveSchemes, function_rows, slot_signature}
+use Rattle.um_rows.specs.Slots.{slot_count, slot_equations}
+use Rattle.um_rows.specs.Judgement.{Judgement, has_no_typing, not_general, judge, by_rows}
 use Rattle.um_rows.specs.Answers.{AreEquations, AreRowsOf}
 use Rattle.um_infer.specs.Inference.{Inference, all_schemes, stops_at_units, stops_at_not_general, infer, infer_first}
 use Rattle.um_infer.specs.Schemes.{ArePrincipal, IsJudged}
@@ -85,13 +85,19 @@ module _ (p : ProgramTree) (formed : IsFormed p) (i : ℕ) (schemes : List Schem
     abbrev asked : Judgement
     asked = judged (length p.bases) f.units 0 r
 
+    moved_to :
+        (j : Judgement) → Stops j
+        → by_rows (length p.bases) f.units (slot_count p.records schemes i f) f.at (slot_signature p.records schemes i f) (rows_of (slot_equations p.records schemes i f).steps) ≡ j
+        → by_rows (length p.bases) f.units (slot_count p.records schemes i f) 0 (slot_signature p.records schemes i f) (rows_of (slot_equations p.records schemes i f).steps) ≡ j
+    moved_to j (inl w) h =
+        moved_refusal (length p.bases) f.units (slot_count p.records schemes i f) f.at 0 (slot_signature p.records schemes i f) (rows_of (slot_equations p.records schemes i f).steps) (has_no_typing row place) tt (h ∙ w.0)
+        ∙ sym w.0
+    moved_to j (inr w) h =
+        moved_refusal (length p.bases) f.units (slot_count p.records schemes i f) f.at 0 (slot_signature p.records schemes i f) (rows_of (slot_equations p.records schemes i f).steps) (not_general row place) tt (h ∙ w.0)
+        ∙ sym w.0
+
     asked_is : asked ≡ stopped.judgement
-    asked_is =
-        judged_same (length p.bases) p.records schemes i f r eqs 0
-        ∙ elim stopped.stops [
-          | inl w ↦ moved_refusal (length p.bases) f.units (slot_count p.records schemes i f) f.at 0 _ _ stopped.judgement (subst _ (sym w.0) tt) (has f at).by
-          | inr w ↦ moved_refusal (length p.bases) f.units (slot_count p.records schemes i f) f.at 0 _ _ stopped.judgement (subst _ (sym w.0) tt) (has f at).by
-        ]
+    asked_is = judged_same (length p.bases) p.records schemes i f r eqs 0 ∙ moved_to stopped.judgement stopped.stops (has f at).by
 
     pub asked_refused : IsRefused asked
     asked_refused = elim stopped.stops [

@@ -1,9 +1,12 @@
-use Rattle.std.proofs.Common.{◌≡◌, ◌<◌, length, sym, ap, ◌∙◌, subst, arith}
-use Rattle.std.proofs.lemmas.List.{length-map}
+use Rattle.std.proofs.Common.{◌≡◌, ◌<◌, length, Some, slice_get, sym, ap, ◌∙◌, subst, arith}
+use Rattle.std.proofs.lemmas.List.{length-map, get_or-map}
+use Rattle.std.proofs.lemmas.Option.{slice_get-get_or}
+use Rattle.std.specs.Prelude.{IfOk}
 use Rattle.um_tree.specs.ProgramTree.{program_tree, scheme_tree}
 use Rattle.um_infer.specs.Answers.{scheme_trees}
 use Rattle.um_infer.proofs.SchemeLists.{item_at}
 use Rattle.um_proof.specs.Answers.{AreFunctionRows, judged}
+use Rattle.um_proof.specs.Proving.{IsYesOf}
 use Rattle.um_proof.proofs.GivenFunction.{have, has_rows, judged_scheme, yes_valid, yes_range}
 use Rattle.um_proof.proofs.program.yes_of.Goals as goal
 
@@ -41,10 +44,53 @@ make_yes-made-requires-clause-rows c =
     (subst (λ u. AreFunctionRows (length (program_tree c.args.shaped.now).bases) u c.in_ok-equations.equations) (sym (c.unit_count-units.ensures d.0 d.1)) (c.in_ok-equations.ensures.rows d.0 d.1))
 
 pub make_yes-made-requires-clause-judged : goal.make_yes-made-requires-clause-judged
-make_yes-made-requires-clause-judged c = ?
+make_yes-made-requires-clause-judged c =
+    let p = program_tree c.args.shaped.now in
+    let ss = scheme_trees c.args.schemes.now in
+    let n = length c.args.schemes.now.items.items in
+    let long = length-map c.args.schemes.now.items.items scheme_tree in
+    let l = c.requires.inside in
+    let fewer = c.requires.few in
+    let item = c.index.result.now in
+    let stands : slice_get ss c.args.i ≡ Some (scheme_tree item) =
+        slice_get-get_or ss c.args.i (scheme_tree item) (subst (λ m. c.args.i < m) (sym long) l)
+        ∙ ap Some (get_or-map c.args.schemes.now.items.items scheme_tree c.args.i item (scheme_tree item) l ∙ ap scheme_tree (sym c.index.ensures)) in
+    let d = item_at p.functions c.args.i (omega (arith, l, fewer)) in
+    (d.0.at,
+    ap (λ b. judged b c.unit_count-units.result d.0.at c.in_ok-equations.equations) c.base_count-bases.ensures.count
+    ∙ ap (λ u. judged (length p.bases) u d.0.at c.in_ok-equations.equations) (c.unit_count-units.ensures d.0 d.1)
+    ∙ judged_scheme p c.base_count-bases.ensures.formed n ss c.requires.few c.requires.before c.args.i l (scheme_tree item) stands d.0 d.1 c.in_ok-equations.equations (c.in_ok-equations.ensures.equations d.0 d.1))
 
 pub returns-clause-valid : goal.returns-clause-valid
-returns-clause-valid c = ?
+returns-clause-valid c f s declared at =
+    let p = program_tree c.args.shaped.now in
+    let ss = scheme_trees c.args.schemes.now in
+    let n = length c.args.schemes.now.items.items in
+    let long = length-map c.args.schemes.now.items.items scheme_tree in
+    let l = c.requires.inside in
+    let fewer = c.requires.few in
+    let item = c.index.result.now in
+    let stands : slice_get ss c.args.i ≡ Some (scheme_tree item) =
+        slice_get-get_or ss c.args.i (scheme_tree item) (subst (λ m. c.args.i < m) (sym long) l)
+        ∙ ap Some (get_or-map c.args.schemes.now.items.items scheme_tree c.args.i item (scheme_tree item) l ∙ ap scheme_tree (sym c.index.ensures)) in
+    let e : Some (scheme_tree item) ≡ Some s = sym stands ∙ at in
+    let same : scheme_tree item ≡ s = cc e in
+    subst (λ t. IfOk c.make_yes-made.result (IsYesOf p ss c.args.i f t)) same
+    (yes_valid p c.base_count-bases.ensures.formed n ss c.requires.few c.requires.before c.args.i l (scheme_tree item) stands f declared c.in_ok-equations.equations (c.in_ok-equations.ensures.equations f declared)
+    c.base_count-bases.result c.unit_count-units.result c.make_yes-made.result c.base_count-bases.ensures.count (c.unit_count-units.ensures f declared) c.make_yes-made.ensures.made)
 
 pub returns-clause-range : goal.returns-clause-range
-returns-clause-range c = ?
+returns-clause-range c =
+    let p = program_tree c.args.shaped.now in
+    let ss = scheme_trees c.args.schemes.now in
+    let n = length c.args.schemes.now.items.items in
+    let long = length-map c.args.schemes.now.items.items scheme_tree in
+    let l = c.requires.inside in
+    let fewer = c.requires.few in
+    let item = c.index.result.now in
+    let stands : slice_get ss c.args.i ≡ Some (scheme_tree item) =
+        slice_get-get_or ss c.args.i (scheme_tree item) (subst (λ m. c.args.i < m) (sym long) l)
+        ∙ ap Some (get_or-map c.args.schemes.now.items.items scheme_tree c.args.i item (scheme_tree item) l ∙ ap scheme_tree (sym c.index.ensures)) in
+    let d = item_at p.functions c.args.i (omega (arith, l, fewer)) in
+    yes_range p c.base_count-bases.ensures.formed n ss c.requires.few c.requires.before c.args.i l (scheme_tree item) stands d.0 d.1 c.in_ok-equations.equations (c.in_ok-equations.ensures.equations d.0 d.1)
+    c.base_count-bases.result c.unit_count-units.result c.make_yes-made.result c.base_count-bases.ensures.count (c.unit_count-units.ensures d.0 d.1) c.make_yes-made.ensures.made
