@@ -1,4 +1,5 @@
 mod Limits
+mod Times
 mod Loops
 mod Turning
 mod TurnEnds

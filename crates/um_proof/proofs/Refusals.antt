@@ -49,7 +49,7 @@ rigid_leaves bases parameters n =
     (λ e. rw e (replace-base (rigid_unit bases parameters) n))
 
 -- ---- a modulus is at least 2
-two_at_least : (d m : ℕ) → 0 < d → 1 < m → pos 2 ≤ℤ pos d *ℤ pos m
+two_at_least : (d m : ℕ) → 0 < d → 1 < m → pos 2 ≤ℤ (pos d *ℤ pos m)
 two_at_least d m h l = whole (d * m) (product d m h l)
   where
     whole : (k : ℕ) → 2 ≤ k → pos 2 ≤ℤ pos k

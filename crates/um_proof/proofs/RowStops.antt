@@ -23,7 +23,7 @@ use Rattle.um_proof.specs.declared.stop.CertStop.{CertStop}
 use Rattle.um_proof.specs.declared.stop.CertStop.TheVariants as stop
 use Rattle.um_proof.specs.Making.{Kept, row_unit, row_total, turned, ended, LeavePower}
 use Rattle.um_proof.specs.Formed.{IsPowerIn, IsModulus, IsNumberOfEnd, IsNumberOfRefusal, HasLeastBase}
-use Rattle.um_proof.specs.Steps.{Agrees, ArePartsAfter, CarriesPower, CarriesNumber, CarriesOneOf, CarriesOneOfParts, CarriesInRow, CarriesInTurn, IsTurning, IsTurned, IsTreated, IsRefusedAs, IsLeftAlone, divided_at, parts_at}
+use Rattle.um_proof.specs.Steps.{Agrees, ArePartsAfter, CarriesPower, CarriesNumber, CarriesRefusal, CarriesOneOf, CarriesOneOfParts, CarriesInRow, CarriesInTurn, IsTurning, IsTurned, IsTreated, IsRefusedAs, IsLeftAlone, divided_at, parts_at}
 use Rattle.um_proof.proofs.Parts.{total_alike}
 use Rattle.um_proof.proofs.Turning.{unit_after-push, units_after-push, back_after-push, turns-push, signed_by-inverted, is_inverted-push}
 use Rattle.um_proof.proofs.TurnEnds.{power_left, stuck_left, FirstBase, closed_left}
@@ -134,27 +134,31 @@ module _ (rows : List PowerMap) (kept : Kept) (k : ℕ) (h : Head) (m : Making) 
       stuck : has_base r ≡ true → (s : IsStuck w.turns (row_unit rows kept k)) × (s.p ≡ alone.p)
       stuck b = stuck_left w.turns (row_unit rows kept k) v r w.left alone b
 
-      pub power_total_stops : (s : CertStop) → CarriesPower 9223372036854775807 (row_total rows kept k w.turns) s → CarriesInRow rows kept k s
+      power_total_stops : (s : CertStop) → CarriesPower 9223372036854775807 (row_total rows kept k w.turns) s → CarriesInRow rows kept k s
       power_total_stops (stop.CertRange z) c =
           inr ((
             w.turns,
             w.are,
-            on_test (has_base r) {IsNumberOfEnd rows kept k w.turns z ⊎ IsNumberOfRefusal rows kept k w.turns z}
+            on_test (has_base r) {P = IsNumberOfEnd rows kept k w.turns z ⊎ IsNumberOfRefusal rows kept k w.turns z}
                 (λ b. let q = stuck b in inr (kept.divisor *ℤ pos q.0.p, inl (q.0, refl), inr c.0))
                 (λ b. inl (v, alone.p, leaves b, inl c.0)),
           ), c.1)
       power_total_stops stop.NoMemory c = tt
 
-      pub power_number_stops : (s : CertStop) → CarriesNumber (kept.divisor *ℤ pos alone.p) s → CarriesInRow rows kept k s
+      power_number_stops : (s : CertStop) → CarriesNumber (kept.divisor *ℤ pos alone.p) s → CarriesInRow rows kept k s
       power_number_stops (stop.CertRange z) c =
           inr ((
             w.turns,
             w.are,
-            on_test (has_base r) {IsNumberOfEnd rows kept k w.turns z ⊎ IsNumberOfRefusal rows kept k w.turns z}
+            on_test (has_base r) {P = IsNumberOfEnd rows kept k w.turns z ⊎ IsNumberOfRefusal rows kept k w.turns z}
                 (λ b. let q = stuck b in inr (kept.divisor *ℤ pos q.0.p, inl (q.0, refl), inl (c.0 ∙ ap (λ n. kept.divisor *ℤ pos n) (sym q.1))))
                 (λ b. inl (v, alone.p, leaves b, inr (inr c.0))),
           ), c.1)
       power_number_stops stop.NoMemory c = tt
+
+      pub power_stops : (s : CertStop) → CarriesRefusal (row_total rows kept k w.turns) (kept.divisor *ℤ pos alone.p) s → CarriesInRow rows kept k s
+      power_stops (stop.CertRange z) c = elim c.0 [ | inl a ↦ power_total_stops (stop.CertRange z) (a, c.1) | inr b ↦ power_number_stops (stop.CertRange z) (b, c.1) ]
+      power_stops stop.NoMemory c = tt
 
       pub end_stops : has_base r ≡ false → (t : PowerMap) → t ≡ row_total rows kept k w.turns → (s : CertStop) → CarriesOneOfParts v alone.p t m.solution.items m.parts.items s → CarriesInRow rows kept k s
       end_stops b t e (stop.CertRange z) c =
@@ -213,13 +217,17 @@ module _ (rows : List PowerMap) (kept : Kept) (k : ℕ) (h : Head) (m : Making) 
             ap (λ n. kept.divisor *ℤ pos (n + 1)) (sym base.size_is ∙ ap (λ u. nat_abs (power_of u (Base base.n))) w.left),
           )
 
-      pub closed_total_stops : (s : CertStop) → CarriesPower 9223372036854775807 (row_total rows kept k w.turns) s → CarriesInRow rows kept k s
+      closed_total_stops : (s : CertStop) → CarriesPower 9223372036854775807 (row_total rows kept k w.turns) s → CarriesInRow rows kept k s
       closed_total_stops (stop.CertRange z) c = inr ((w.turns, w.are, inr (kept.divisor *ℤ pos (size + 1), closed_modulus, inr c.0)), c.1)
       closed_total_stops stop.NoMemory c = tt
 
-      pub closed_number_stops : (s : CertStop) → CarriesNumber (kept.divisor *ℤ pos (size + 1)) s → CarriesInRow rows kept k s
+      closed_number_stops : (s : CertStop) → CarriesNumber (kept.divisor *ℤ pos (size + 1)) s → CarriesInRow rows kept k s
       closed_number_stops (stop.CertRange z) c = inr ((w.turns, w.are, inr (kept.divisor *ℤ pos (size + 1), closed_modulus, inl c.0)), c.1)
       closed_number_stops stop.NoMemory c = tt
+
+      pub closed_stops : (s : CertStop) → CarriesRefusal (row_total rows kept k w.turns) (kept.divisor *ℤ pos (size + 1)) s → CarriesInRow rows kept k s
+      closed_stops (stop.CertRange z) c = elim c.0 [ | inl a ↦ closed_total_stops (stop.CertRange z) (a, c.1) | inr b ↦ closed_number_stops (stop.CertRange z) (b, c.1) ]
+      closed_stops stop.NoMemory c = tt
 
       pub closed_refused : (refused : Refused) → refused.total ≡ row_total rows kept k w.turns → refused.modulus ≡ kept.divisor *ℤ pos (size + 1) → IsNarrow refused.total → IsRefusedAs rows kept k refused
       closed_refused refused e f narrow = record {

@@ -41,7 +41,7 @@ use Rattle.um_proof.proofs.Turning.{all_replaced}
 pub parameter_range : (b p n : ℕ) → is_parameter b p 0 n ≡ true → (b ≤ n) × (n < b + p)
 parameter_range b p n e = let q = and_parts (nat_le b n) (nat_lt n (b + p)) e in (leb-true b n q.0, ltb-true n (b + p) q.1)
 
-pub positive_times : (d : ℤ) (p : ℕ) → pos 0 <ℤ d → 0 < p → pos 0 <ℤ d *ℤ pos p
+pub positive_times : (d : ℤ) (p : ℕ) → pos 0 <ℤ d → 0 < p → pos 0 <ℤ (d *ℤ pos p)
 positive_times (pos n) p h k = whole (n * p) (product n p (omega (arith, ints, h)) k)
   where
     whole : (m : ℕ) → 0 < m → pos 0 <ℤ pos m
@@ -122,7 +122,7 @@ module _ (h : Head) (m : Making) (few : h.parameters ≤ h.slots) (solution : m.
   }
 
 -- ---- after a turn
-pub after_turn : Kept → Turn → Kept
+abbrev pub after_turn : Kept → Turn → Kept
 after_turn kept t = record {
   solution = map (replace (multiply t.variable t.by)) kept.solution;
   back = divided_back t.variable t.by kept.back;
@@ -172,7 +172,7 @@ module _ (h : Head) (old new : Making) (kept : Kept) (t : Turn) (a : Agrees h ol
   }
 
 -- ---- after the end of a variable
-pub after_end : Kept → ℕ → ℕ → PowerMap → Kept
+abbrev pub after_end : Kept → ℕ → ℕ → PowerMap → Kept
 after_end kept m p t = record {
   solution = map (replace (substitute m one)) kept.solution;
   back = kept.back;

@@ -37,6 +37,11 @@ abbrev pub CarriesNumber : ℤ → CertStop → Type 0
 CarriesNumber n (stop.CertRange z) = (z ≡ n) × (9223372036854775807 < nat_abs z)
 CarriesNumber n stop.NoMemory = Unit {0}
 
+-- a power of the unit or the number passes 64 bits, and is carried
+abbrev pub CarriesRefusal : PowerMap → ℤ → CertStop → Type 0
+CarriesRefusal u n (stop.CertRange z) = (IsPowerIn z u ⊎ (z ≡ n)) × (9223372036854775807 < nat_abs z)
+CarriesRefusal u n stop.NoMemory = Unit {0}
+
 -- a power of one of the units does
 abbrev pub CarriesOneOf : ℕ → List PowerMap → CertStop → Type 0
 CarriesOneOf limit us (stop.CertRange z) = (j : ℕ) × (j < length us) × IsPowerIn z (nth us j) × (limit < nat_abs z)

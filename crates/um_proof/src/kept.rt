@@ -1,6 +1,6 @@
 //! What the making of a certificate keeps beside the elimination of rows.
 
-ghost use Rattle.std.specs.Prelude.{◌≡◌, ◌≤◌, ◌<◌, ◌+◌, ◌^◌, All, length, map, set, pos, nat_abs, false, IfOk, OnOk, MatchResult, IfErr};
+ghost use Rattle.std.specs.Prelude.{◌≡◌, ◌≤◌, ◌<◌, ◌+◌, ◌^◌, All, length, map, set, pos, nat_abs, true, IfOk, OnOk, MatchResult, IfErr};
 ghost use Rattle.um_units.specs.declared.Atom.TheVariants.{Var};
 ghost use Rattle.um_units.specs.PowerMap.{PowerMap, one, atom, inv, mul, pow, power_of, replace, nth};
 ghost use Rattle.um_units.specs.Variables.{VariablesBelow};
@@ -86,10 +86,11 @@ pub fn multiply_all(alloc: Global, units: &mut Vec<Unit>, m: u32, w: &Unit) -> R
 {
     for j in 0..units.len() {
         let power = units[j].power_of(Atom::Var(m));
-        if power != 0 {
-            let unit = times(alloc, &units[j], 1, w, power)?;
-            units[j] = unit;
+        if power == 0 {
+            continue;
         }
+        let unit = times(alloc, &units[j], 1, w, power)?;
+        units[j] = unit;
     }
     Ok(())
 }
@@ -141,10 +142,11 @@ fn end_units(alloc: Global, units: &mut Vec<Unit>, m: u32) -> Result<(), AllocEr
 {
     for j in 0..units.len() {
         let power = units[j].power_of(Atom::Var(m));
-        if power != 0 {
-            let unit = without(alloc, &units[j], m)?;
-            units[j] = unit;
+        if power == 0 {
+            continue;
         }
+        let unit = without(alloc, &units[j], m)?;
+        units[j] = unit;
     }
     Ok(())
 }
@@ -169,12 +171,11 @@ fn slot_parts(
     narrowed(sum)
 }
 
-/// Whether the powers of rows of a slot change, in whose unit the variable that became 1 from the power p stood to the power
-/// e.
-fn changes(p: i32, e: i32) -> bool
-    ensures { result ≡ false → (p ≡ pos 1) × (e ≡ pos 0) }
+/// Whether the powers of rows of a slot stay, in whose unit the variable that becomes 1 from the power p stands to the power e.
+fn stays(p: i32, e: i32) -> bool
+    ensures { result ≡ true → (p ≡ pos 1) × (e ≡ pos 0) }
 {
-    p != 1 || e != 0
+    p == 1 && e == 0
 }
 
 /// Each slot's powers of rows are p times those before, less those of the row as often as variable m stands in the slot's
@@ -197,10 +198,11 @@ fn end_parts(
 {
     for j in 0..solution.len() {
         let e = solution[j].power_of(Atom::Var(m));
-        if changes(p, e) {
-            let made = slot_parts(alloc, &parts[j], p, total, e)?;
-            parts[j] = made;
+        if stays(p, e) {
+            continue;
         }
+        let made = slot_parts(alloc, &parts[j], p, total, e)?;
+        parts[j] = made;
     }
     Ok(())
 }
