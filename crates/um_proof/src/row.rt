@@ -215,7 +215,7 @@ fn make_turn(
 }
 
 /// The powers of rows that row k goes back to, and a factor times the divisor.
-fn refusal_of(
+fn row_refusal(
     alloc: Global,
     making: &Making,
     row: &Unit,
@@ -269,7 +269,7 @@ fn closed_end(
         None => Ok(None),
         Some(size) => {
             let factor = i64::from(size) + 1;
-            let refused = refusal_of(alloc, making, row, k, inverted, factor)?;
+            let refused = row_refusal(alloc, making, row, k, inverted, factor)?;
             Ok(Some(refused))
         }
     }
@@ -297,7 +297,7 @@ fn power_end(
         → IsTurning rows kept k h making.old r.now inverted → IfErr result (CarriesInRow rows kept k) }
 {
     let p = r.power_of(Atom::Var(m));
-    let refused = refusal_of(alloc, making, row, k, inverted, i64::from(p))?;
+    let refused = row_refusal(alloc, making, row, k, inverted, i64::from(p))?;
     if has_base_unit(r.terms()) {
         return Ok(Some(refused));
     }

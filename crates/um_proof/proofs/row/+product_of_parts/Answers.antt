@@ -27,18 +27,16 @@ slot_power-requires-clause-below t c =
     All-get_or (λ (x : Term). IsTrue (atom_below (length c.args.parts.now) x.atom)) c.args.terms.now 0 none c.in-len1.len_at_least c.requires.below
 
 pub product_of_parts-requires : goal.product_of_parts-requires
-product_of_parts-requires t c = record {
-  narrow = c.requires.narrow;
-  below = search rules;
-  few = (let k = count-halves c.args.terms.now c.split_at.result.0.now c.split_at.result.1.now (length c.args.terms.now / 2) c.split_at.ensures.front c.split_at.ensures.back in let f = c.requires.few in omega (arith, k, f));
-}
+product_of_parts-requires t c =
+    let k = count-halves c.args.terms.now c.split_at.result.0.now c.split_at.result.1.now (length c.args.terms.now / 2) c.split_at.ensures.front c.split_at.ensures.back in
+    let f = c.requires.few in
+    (search rules, (c.requires.narrow, (search rules, omega (arith, k, f))))
 
 pub product_of_parts-requires-in_default : goal.product_of_parts-requires-in_default
-product_of_parts-requires-in_default t c = record {
-  narrow = c.requires.narrow;
-  below = search rules;
-  few = (let k = count-halves c.args.terms.now c.split_at.result.0.now c.split_at.result.1.now (length c.args.terms.now / 2) c.split_at.ensures.front c.split_at.ensures.back in let f = c.requires.few in omega (arith, k, f));
-}
+product_of_parts-requires-in_default t c =
+    let k = count-halves c.args.terms.now c.split_at.result.0.now c.split_at.result.1.now (length c.args.terms.now / 2) c.split_at.ensures.front c.split_at.ensures.back in
+    let f = c.requires.few in
+    (search rules, (c.requires.narrow, (search rules, omega (arith, k, f))))
 
 pub returns-in-empty-clause-exact : goal.returns-in-empty-clause-exact
 returns-in-empty-clause-exact t c = c.one.ensures.exact ∙ parts-none (sign_of c.args.inverted) c.args.parts.now c.args.terms.now c.in-empty.len_below

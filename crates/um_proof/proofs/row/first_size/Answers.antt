@@ -16,4 +16,4 @@ pub returns-in-len1-up : goal.returns-in-len1-up
 returns-in-len1-up c =
     let p = (get_or c.args.terms.now 0 none).power in
     let f : FitsSigned w32 p = search rules in
-    ap Some (c.unsigned_abs.ensures ∙ ap nat_abs (to_z-of_z w32 p f)) ∙ sym (first_size_at c.args.terms.now none c.in-len1-up.len_at_least)
+    ap Some (c.unsigned_abs.ensures.value ∙ ap nat_abs (to_z-of_z w32 p f)) ∙ sym (first_size_at c.args.terms.now none c.in-len1-up.len_at_least)

@@ -31,11 +31,11 @@ returns-then-inverted-clause-room c =
 
 pub returns-clause-exact : goal.returns-clause-exact
 returns-clause-exact c =
-    let e = c.from.ensures in
+    let e = c.from-2.ensures in
     let f = c.ranges.divisor in
-    subst (λ b. IfOk c.atom_power.result (λ (u : PowerMap). u ≡ pow (atom (Var c.args.k)) (sign_of b *ℤ c.args.divisor))) (sym c.if-inverted.false)
-    (subst (λ (z : ℤ). IfOk c.atom_power.result (λ (u : PowerMap). u ≡ pow (atom (Var c.args.k)) z)) (omega (arith, ints, e, f)) c.atom_power.ensures.exact)
+    subst (λ b. IfOk c.atom_power-2.result (λ (u : PowerMap). u ≡ pow (atom (Var c.args.k)) (sign_of b *ℤ c.args.divisor))) (sym c.if-inverted.false)
+    (subst (λ (z : ℤ). IfOk c.atom_power-2.result (λ (u : PowerMap). u ≡ pow (atom (Var c.args.k)) z)) (omega (arith, ints, e, f)) c.atom_power-2.ensures.exact)
 
 pub returns-clause-room : goal.returns-clause-room
 returns-clause-room c =
-    IfOk-weaker c.atom_power.result _ (IsWithin 9223372036854775808) (λ u e. within c.args.k c.args.inverted c.args.divisor u (abs_64 c.args.divisor c.ranges.divisor) e) (returns-clause-exact c)
+    IfOk-weaker c.atom_power-2.result _ (IsWithin 9223372036854775808) (λ u e. within c.args.k c.args.inverted c.args.divisor u (abs_64 c.args.divisor c.ranges.divisor) e) (returns-clause-exact c)

@@ -38,6 +38,6 @@ returns c =
     let w = c.args.turn.now.by in
     let k = to_z w32 (of_z w32 c.power_of-power.result) in
     let power : k ≡ power_of r (Var m) = to_z-of_z w32 c.power_of-power.result (record { sfits = c.power_of-power.type_inv }) ∙ c.power_of-power.ensures.power in
-    subst (λ (u : PowerMap). MatchResult c.times.result (λ left. left ≡ u) (CarriesPower 2147483647 u))
+    subst (λ (u : PowerMap). MatchResult c.times-2.result (λ left. left ≡ u) (CarriesPower 2147483647 u))
     (times_is false m w r k power ∙ ap (λ b. replace (multiply m w) (signed b r)) (sym c.if-turn.false))
-    c.times.ensures
+    c.times-2.ensures

@@ -8,7 +8,7 @@ use Rattle.um_making.specs.Making.{total}
 use Rattle.um_proof.specs.declared.stop.CertStop.{CertStop}
 use Rattle.um_proof.specs.declared.stop.CertStop.TheVariants as stop
 use Rattle.um_proof.specs.Steps.{CarriesNumber, CarriesPower, CarriesRefusal}
-use Rattle.um_proof.proofs.row.refusal_of.Goals as goal
+use Rattle.um_proof.proofs.row.row_refusal.Goals as goal
 
 total_stops : (u : PowerMap) (n : ℤ) (s : CertStop) → CarriesPower 9223372036854775807 u s → CarriesRefusal u n s
 total_stops u n (stop.CertRange z) c = (inl c.0, c.1)
