@@ -1,4 +1,4 @@
-use Rattle.std.proofs.Common.{◌≡◌, ◌<◌, ◌≤◌, ◌∙◌, true, false, ℤ, pos, nat_abs, ◌*ℤ◌, refl, sym, ap, subst, to_z, of_z, w32, arith}
+use Rattle.std.proofs.Common.{◌≡◌, ◌<◌, ◌≤◌, ◌∙◌, true, false, ℤ, pos, nat_abs, ◌*ℤ◌, refl, sym, ap, subst, to_z, of_z, w32, w64, rules, arith}
 use Rattle.std.specs.Prelude.{slice_index_or}
 use Rattle.std.specs.Int.Signed.{◌<ℤ◌}
 use Rattle.std.specs.List.{list_any}
@@ -101,6 +101,6 @@ returns-clause-treated c = λ h rows kept e w.
     (c.in_ok-refused.ensures.total ∙ total_is_row rows kept k h m r b w row e c.requires.below)
     c.in_ok-end_variable.ensures.solution
     refl
-    (subst (λ (z : ℤ). refused.modulus ≡ m.divisor *ℤ z) (omega (arith, ints, is, low, f)) c.in_ok-refused.ensures.modulus)
+    (to_z-of_z w64 refused.modulus (search rules) ∙ subst (λ (z : ℤ). refused.modulus ≡ m.divisor *ℤ z) (omega (arith, ints, is, low, f)) c.in_ok-refused.ensures.modulus)
     (subst (λ (z : ℤ). ArePartsAfter c.args.m (nat_abs z) refused.total m.solution.items m.parts.items c.end_variable.new.parts.items) exact c.in_ok-end_variable.ensures.parts)
     c.in_ok-end_variable.ensures.narrow

@@ -30,7 +30,7 @@ returns-in-Ok-clause-modulus c =
     let f : FitsSigned w64 d = search rules in
     let e : to_z w64 (of_z w64 d) *ℤ to_z w64 (of_z w64 c.args.factor) ≡ d *ℤ c.args.factor =
     ap (λ z. z *ℤ to_z w64 (of_z w64 c.args.factor)) (to_z-of_z w64 d f) ∙ ap (λ z. d *ℤ z) (to_z-of_z w64 c.args.factor c.ranges.factor) in
-    c.in-Ok.ensures ∙ e
+    to_z-of_z w64 c.in-Ok.modulus (search rules) ∙ c.in-Ok.ensures ∙ e
 
 pub returns-in-Err-clause-range : goal.returns-in-Err-clause-range
 returns-in-Err-clause-range c =
