@@ -35,15 +35,15 @@ use Rattle.um_proof.specs.Answers.{HoldsNoParameter}
 use Rattle.um_proof.proofs.Turning.{turns_are_shears, all_replaced, all_turned_below}
 use Rattle.um_proof.proofs.WayBack.{parameter_range, positive_times, ends_stay}
 
-pub record ReachedState (bases parameters slots : ℕ) (rows : List PowerMap) (k : ℕ) (kept : Kept) : Type 0 where
-  pub kept : IsKept rows kept.solution kept.back kept.divisor kept.parts
-  pub count : length kept.solution ≡ slots
-  pub below : All (VariablesBelow slots) kept.solution
-  pub rigid : (i : ℕ) → i < parameters → nth kept.solution i ≡ atom (Base (bases + i))
-  pub base : (n : ℕ) → kept.back (Base n) ≡ first_back bases parameters (Base n)
-  pub positive : pos 0 <ℤ kept.divisor
-  pub parts_below : (j : ℕ) → VariablesBelow k (kept.parts j)
-  pub parts_closed : (j n : ℕ) → power_of (kept.parts j) (Base n) ≡ pos 0
+pub record ReachedState (bases parameters slots : ℕ) (rows : List PowerMap) (k : ℕ) (state : Kept) : Type 0 where
+  pub kept : IsKept rows state.solution state.back state.divisor state.parts
+  pub count : length state.solution ≡ slots
+  pub below : All (VariablesBelow slots) state.solution
+  pub rigid : (i : ℕ) → i < parameters → nth state.solution i ≡ atom (Base (bases + i))
+  pub base : (n : ℕ) → state.back (Base n) ≡ first_back bases parameters (Base n)
+  pub positive : pos 0 <ℤ state.divisor
+  pub parts_below : (j : ℕ) → VariablesBelow k (state.parts j)
+  pub parts_closed : (j n : ℕ) → power_of (state.parts j) (Base n) ≡ pos 0
 
 -- ---- the base units of a row come back as themselves
 pub back_leaves : (bases parameters : ℕ) (row : PowerMap) → HoldsNoParameter bases parameters row → (n : ℕ) → power_of row (Base n) ≢ pos 0 → first_back bases parameters (Base n) ≡ atom (Base n)

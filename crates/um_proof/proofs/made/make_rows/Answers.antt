@@ -29,8 +29,7 @@ loop-k-init c = (start c.args.head, refl, c.in_ok-making.ensures)
 
 pub make_row-requires-clause-below : goal.make_row-requires-clause-below
 make_row-requires-clause-below c =
-    subst (λ (row : Row). VariablesBelow c.args.head.slots row.unit) (sym c.index-rows-k.is)
-    (All-get_or (λ (row : Row). VariablesBelow c.args.head.slots row.unit) c.args.rows.now c.loop-k.k c.index-rows-k.result c.loop-k-test.true c.requires.rows)
+    All-get_or (λ (row : Row). VariablesBelow c.args.head.slots row.unit) c.args.rows.now c.loop-k.k c.index-rows-k.result c.loop-k-test.true c.requires.rows
 
 pub make_row-requires-clause-making : goal.make_row-requires-clause-making
 make_row-requires-clause-making c = (c.loop-k.invariant.0, c.loop-k.invariant.2)
@@ -41,7 +40,7 @@ returns-in-Ok-Some c =
     let k = c.loop-k.k in
     let l : k < length rows = c.loop-k-test.true in
     let i = c.loop-k.invariant in
-    let here : c.index-rows-k.result.unit ≡ nth (units_of rows) k = sym (get_or-map unit_of rows k c.index-rows-k.result (atom (Var k)) l ∙ ap unit_of (sym c.index-rows-k.is)) in
+    let here = sym (get_or-map unit_of rows k c.index-rows-k.result (atom (Var k)) l) in
     (i.0, l, i.1, rw c.in-Ok-Some.field-0-is at c.in-Ok-Some.ensures.treated (units_of rows) i.0 here i.2)
 
 pub returns-in-Err : goal.returns-in-Err
@@ -50,7 +49,7 @@ returns-in-Err c =
     let k = c.loop-k.k in
     let l : k < length rows = c.loop-k-test.true in
     let i = c.loop-k.invariant in
-    let here : c.index-rows-k.result.unit ≡ nth (units_of rows) k = sym (get_or-map unit_of rows k c.index-rows-k.result (atom (Var k)) l ∙ ap unit_of (sym c.index-rows-k.is)) in
+    let here = sym (get_or-map unit_of rows k c.index-rows-k.result (atom (Var k)) l) in
     row_stops c.args.head rows k i.0 c.in-Err.stop l i.1 (c.in-Err.ensures.range (units_of rows) i.0 here i.2)
 
 pub loop-k-preserved : goal.loop-k-preserved
@@ -59,7 +58,7 @@ loop-k-preserved c =
     let k = c.loop-k.k in
     let l : k < length rows = c.loop-k-test.true in
     let i = c.loop-k.invariant in
-    let here : c.index-rows-k.result.unit ≡ nth (units_of rows) k = sym (get_or-map unit_of rows k c.index-rows-k.result (atom (Var k)) l ∙ ap unit_of (sym c.index-rows-k.is)) in
+    let here = sym (get_or-map unit_of rows k c.index-rows-k.result (atom (Var k)) l) in
     let w = rw c.in-Ok-None.field-0-is at c.in-Ok-None.ensures.treated (units_of rows) i.0 here i.2 in
     (w.0, subst (λ n. IsReached (units_of rows) (start c.args.head) n w.0) (sym (next k)) (i.0, i.1, w.1), w.2)
 

@@ -60,7 +60,7 @@ loop-term-preserved c =
     let low : nat_abs w.power ≤ 9223372036854775807 = subst (λ z. nat_abs z ≤ 9223372036854775807) at.1 (c.requires.narrow at.0) in
     let same : to_z w128 (of_z w128 w.power) ≡ w.power = to_z-of_z w128 w.power (search rules) in
     let kept : to_z w64 (of_z w64 (to_z w128 (of_z w128 w.power))) ≡ w.power = ap (λ z. to_z w64 (of_z w64 z)) same ∙ to_z-of_z w64 w.power (narrow64 w.power low) in
-    ap (map of_part) c.in_ok-push.ensures.items
+    ap (map of_part) c.in_ok-push-in-Var.ensures.items
     ∙ map-append of_part c.loop-term.items.items _
     ∙ ap (λ (ts : List Term). ts ++ record { atom = Var c.in-Var.row; power = to_z w64 (of_z w64 (to_z w128 (of_z w128 w.power))) } ∷ []) c.loop-term.invariant
     ∙ ap (λ (x : Atom). map as_term (take i ws) ++ record { atom = x; power = to_z w64 (of_z w64 (to_z w128 (of_z w128 w.power))) } ∷ []) (sym c.in-Var.is)
