@@ -52,14 +52,14 @@ module _ (bases parameters slots at : ℕ) (g : Signature) (rows : List Row) whe
   -- ---- a refusal: the row, and what the rows up to it come to where unit parameters are slots like the others
   pub record IsRefusedBy (j : Judgement) : Type 0 where
     pub row : ℕ
-    pub at : ℕ
-    pub unsolvable : solve 0 rows (rigid_units bases parameters slots) ≡ unsolved row at
-    pub loosely : ((units : List PowerMap) × (solve 0 (rows_up_to row rows) (own_variables slots) ≡ solved units) × (j ≡ not_general row at))
-        ⊎ ((k place : ℕ) × (solve 0 (rows_up_to row rows) (own_variables slots) ≡ unsolved k place) × (j ≡ has_no_typing row at))
+    pub place : ℕ
+    pub unsolvable : solve 0 rows (rigid_units bases parameters slots) ≡ unsolved row place
+    pub loosely : ((units : List PowerMap) × (solve 0 (rows_up_to row rows) (own_variables slots) ≡ solved units) × (j ≡ not_general row place))
+        ⊎ ((k other : ℕ) × (solve 0 (rows_up_to row rows) (own_variables slots) ≡ unsolved k other) × (j ≡ has_no_typing row place))
 
   refused_slots : (k place : ℕ) (r : Solving) → solve 0 rows start ≡ unsolved k place → solve 0 (rows_up_to k rows) (own_variables slots) ≡ r → IsRefused (by_slots k place r) → IsRefusedBy (by_slots k place r)
-  refused_slots k place (solved us) e f h = record { row = k; at = place; unsolvable = e; loosely = inl (us, f, refl) }
-  refused_slots k place (unsolved j p) e f h = record { row = k; at = place; unsolvable = e; loosely = inr (j, p, f, refl) }
+  refused_slots k place (solved us) e f h = record { row = k; place = place; unsolvable = e; loosely = inl (us, f, refl) }
+  refused_slots k place (unsolved j p) e f h = record { row = k; place = place; unsolvable = e; loosely = inr (j, p, f, refl) }
   refused_slots k place (out_of_range p) e f h = elim h.2 [ | inl w ↦ absurd (cc w) | inr w ↦ absurd (cc w) ]
 
   refused_solution : (us : List PowerMap) → IsRefused (by_solution bases parameters slots at (put_signature (nth us) g)) → ⊥
@@ -99,12 +99,12 @@ after_front : (m n : ℕ) (rows : List Row) (us : List PowerMap) (k at : ℕ) �
 after_front m zero [] us k at e = e
 after_front m (suc n) [] us k at e = e
 after_front m zero (r ∷ rows) us k at e = absurd (cc e)
-after_front m (suc n) (r ∷ rows) us k at e = found (eliminate us r.unit) e
+after_front m (suc n) (r ∷ rows) us k at e = found (eliminate us r.unit) (λ vs. after_front (suc m) n rows vs k at) e
   where
-    found : (o : Elimination) → after_row m r.at o (solve (suc m) (take n rows)) ≡ unsolved k at → after_row m r.at o (solve (suc m) rows) ≡ unsolved k at
-    found (Solved vs) h = after_front (suc m) n rows vs k at h
-    found NoSolution h = h
-    found Range h = h
+    found : (o : Elimination) → ((vs : List PowerMap) → solve (suc m) (take n rows) vs ≡ unsolved k at → solve (suc m) rows vs ≡ unsolved k at) → after_row m r.at o (solve (suc m) (take n rows)) ≡ unsolved k at → after_row m r.at o (solve (suc m) rows) ≡ unsolved k at
+    found (Solved vs) more h = more vs h
+    found NoSolution more h = h
+    found Range more h = h
 
 pub front_unsolved : (rows : List Row) (us : List PowerMap) (last k at : ℕ) → solve 0 (rows_up_to last rows) us ≡ unsolved k at → solve 0 rows us ≡ unsolved k at
 front_unsolved rows us last k at e = after_front 0 (suc last) rows us k at e

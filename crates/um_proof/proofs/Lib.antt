@@ -12,6 +12,14 @@ mod Refusals
 mod Prefix
 mod General
 mod HeldVariables
+mod Renamed
+mod SameEquations
+mod GivenSchemes
+mod FunctionRows
+mod WayBackSteps
+mod Closed
+mod DeclaredUnits
+mod OwnRows
 mod Judged
 mod ValidYes
 mod ValidNo

@@ -81,21 +81,21 @@ module _ (bases parameters : ℕ) (r : Rows) (asked : AreFunctionRows bases para
 
     at_row : by.row ≡ row
     at_row = elim (refused_unsolved bases parameters r.slots r.list.items.items row made.0 refused asked.parameters_within asked.rows made.1 made.2 made.3) [
-      | inl w ↦ let e = w.1 in let f = by.unsolvable in let both : unsolved by.row by.at ≡ unsolved row w.0 = sym f ∙ e in cc both
+      | inl w ↦ let e = w.1 in let f = by.unsolvable in let both : unsolved by.row by.place ≡ unsolved row w.0 = sym f ∙ e in cc both
       | inr w ↦ let e = w.1 in let f = by.unsolvable in absurd (cc (sym e ∙ f))
     ]
 
     -- what the rows up to it come to where unit parameters are slots like the others
-    pub general_end : (us : List PowerMap) → solve 0 (rows_up_to row r.list.items.items) (own_variables r.slots) ≡ solved us → judgement ≡ not_general row by.at
+    pub general_end : (us : List PowerMap) → solve 0 (rows_up_to row r.list.items.items) (own_variables r.slots) ≡ solved us → judgement ≡ not_general row by.place
     general_end us e = elim by.loosely [
-      | inl w ↦ w.2 ∙ ap (λ n. not_general n by.at) at_row
+      | inl w ↦ w.2 ∙ ap (λ n. not_general n by.place) at_row
       | inr w ↦ let f = subst (λ n. solve 0 (rows_up_to n r.list.items.items) (own_variables r.slots) ≡ unsolved w.0 w.1) at_row w.2 in absurd (cc (sym e ∙ f))
     ]
 
-    pub loose_end : (k place : ℕ) → solve 0 (rows_up_to row r.list.items.items) (own_variables r.slots) ≡ unsolved k place → judgement ≡ has_no_typing row by.at
+    pub loose_end : (k place : ℕ) → solve 0 (rows_up_to row r.list.items.items) (own_variables r.slots) ≡ unsolved k place → judgement ≡ has_no_typing row by.place
     loose_end k place e = elim by.loosely [
       | inl w ↦ let f = subst (λ n. solve 0 (rows_up_to n r.list.items.items) (own_variables r.slots) ≡ solved w.0) at_row w.1 in absurd (cc (sym e ∙ f))
-      | inr w ↦ w.3 ∙ ap (λ n. has_no_typing n by.at) at_row
+      | inr w ↦ w.3 ∙ ap (λ n. has_no_typing n by.place) at_row
     ]
 
     pub no_range : (place : ℕ) → solve 0 (rows_up_to row r.list.items.items) (own_variables r.slots) ≡ out_of_range place → ⊥
@@ -105,11 +105,11 @@ module _ (bases parameters : ℕ) (r : Rows) (asked : AreFunctionRows bases para
     ]
 
     -- without unit parameters
-    pub own_end : parameters ≡ 0 → judgement ≡ has_no_typing row by.at
+    pub own_end : parameters ≡ 0 → judgement ≡ has_no_typing row by.place
     own_end none =
-        loose_end by.row by.at
-        (subst (λ n. solve 0 (rows_up_to n r.list.items.items) (own_variables r.slots) ≡ unsolved by.row by.at) at_row
-        (own_unsolved bases r.slots r.list.items.items by.row by.at (ap (λ n. solve 0 r.list.items.items (rigid_units bases n r.slots)) (sym none) ∙ by.unsolvable)))
+        loose_end by.row by.place
+        (subst (λ n. solve 0 (rows_up_to n r.list.items.items) (own_variables r.slots) ≡ unsolved by.row by.place) at_row
+        (own_unsolved bases r.slots r.list.items.items by.row by.place (ap (λ n. solve 0 r.list.items.items (rigid_units bases n r.slots)) (sym none) ∙ by.unsolvable)))
 
     -- the certificate that names the row
     pub own_no : parameters ≡ 0 → (c : No) → c.loose ≡ true → c.last ≡ row → c.modulus ≡ refused.modulus → exponents c.parts ≡ refused.total → NamesRowsBelow (suc row) c.parts → IsValidNo bases parameters rows c × NamesRefusal judgement c
@@ -129,5 +129,5 @@ module _ (bases parameters : ℕ) (r : Rows) (asked : AreFunctionRows bases para
     pub loose_answers : (k place : ℕ) → solve 0 (rows_up_to row r.list.items.items) (own_variables r.slots) ≡ unsolved k place → (result : Result No CertStop) → IfOk result (IsValidNo bases parameters (units_of r.list.items.items)) →
         IfOk result (λ c. c.last ≡ row) → IfOk result (λ c. c.loose ≡ true) → IfErr result (CarriesInRows (record { slots = r.slots; parameters = 0; bases = bases }) r.list.items.items) → IsNoMade bases parameters r judgement result
     loose_answers k place end (Ok c) valid last loose m = (valid, subst (λ j. NamesRefusal j c) (sym (loose_end k place end)) (last, loose))
-    loose_answers k place end (Err (stop.CertRange z)) valid last loose m = inr ((row, by.at, loose_end k place end), m)
+    loose_answers k place end (Err (stop.CertRange z)) valid last loose m = inr ((row, by.place, loose_end k place end), m)
     loose_answers k place end (Err stop.NoMemory) valid last loose m = tt

@@ -1,10 +1,10 @@
 -- What is kept after all rows, with the variables of its solution numbered, is a valid Yes.
-use Rattle.std.proofs.Common.{◌≡◌, ◌≢◌, inl, inr, ℕ, zero, suc, ◌+◌, ◌<◌, ◌≤◌, cond, List, [], ◌∷◌, ◌++◌, map, length, nat_abs, ℤ, pos, Err, refl, sym, ap, ◌∙◌, subst, arith}
+use Rattle.std.proofs.Common.{◌≡◌, ◌≢◌, inl, inr, ℕ, zero, suc, ◌+◌, ◌<◌, ◌≤◌, cond, List, [], ◌∷◌, ◌++◌, map, length, get_or, nat_abs, ℤ, pos, Result, Ok, Err, refl, sym, ap, ◌∙◌, subst, arith}
 use Rattle.std.specs.Prelude.{All, IsTrue, nat_eq, slice_index_or}
 use Rattle.std.specs.Int.Signed.{◌<ℤ◌}
 use Rattle.std.specs.List.{flat_map, list_any}
-use Rattle.std.proofs.lemmas.List.{length-map, get_or-map}
-use Rattle.std.proofs.lemmas.List.Elements.{All-get_or}
+use Rattle.std.proofs.lemmas.List.{length-map, get_or-map, get_or_default}
+use Rattle.std.proofs.lemmas.List.Elements.{All-get_or, All-from_get_or}
 use Rattle.um_units.specs.declared.Atom.TheVariants.{Base, Var}
 use Rattle.um_units.specs.PowerMap.{PowerMap, power_of, one, atom, mul, inv, pow, replace, nth, extension}
 use Rattle.um_units.specs.Variables.{VariablesBelow}
@@ -45,7 +45,7 @@ use Rattle.um_proof.specs.declared.stop.CertStop.TheVariants as stop
 use Rattle.um_proof.specs.Making.{Kept, IsReached, first}
 use Rattle.um_proof.specs.Formed.{IsPowerIn}
 use Rattle.um_proof.specs.Answers.{AreFunctionRows, judged, IsYesMade}
-use Rattle.um_proof.specs.Steps.{Agrees, CarriesInRows, CarriesReturned}
+use Rattle.um_proof.specs.Steps.{Agrees, CarriesInRows, CarriesPower, CarriesReturned}
 use Rattle.um_proof.specs.Renaming.{to_number, held_variables, certificate_order, general_units, GoBack, IsRenamed}
 use Rattle.um_proof.proofs.Prefix.{numbered_in_front}
 use Rattle.um_proof.proofs.General.{general_solution, signature_moved, signature_fits_in_place, all_general_below}
@@ -178,7 +178,7 @@ module _ (bases parameters : ℕ) (r : Rows) (asked : AreFunctionRows bases para
           ∙ replace-replace (by_place order) (nth back) u
           ∙ replace_alike (λ k. replace (nth back) (by_place order k)) (nth making.back.items) u (λ k held. replace-variable (nth back) (place order k) ∙ at_variable j k l held)
           ∙ ap (replace (nth making.back.items)) (nth-map in_place units j (subst (λ n. j < n) (sym count) l))
-          ∙ sym (back_is head making.back.items kept.back (nth units j) agrees.back_count agrees.back))
+          ∙ sym (back_is head making.back.items kept.back (nth units j) agrees.back_count agrees.back (All-get_or (VariablesBelow r.slots) units j (atom (Var j)) (subst (λ n. j < n) (sym count) l) below)))
 
       -- a number that passes at the end
       pub end_passes : (e : CertStop) → CarriesReturned renamed back e → IsYesMade bases parameters r s (Err e)
@@ -234,3 +234,26 @@ module _ (bases parameters : ℕ) (r : Rows) (asked : AreFunctionRows bases para
               (subst (ComesBack r.slots rows renamed back making.divisor) (sym exps) comes_back)));
           general = shows_general bases r.slots parameters rows c.rigid closed rigid (IsJointSolution-replace r.slots rows units (λ _. one) asked.rows joint) closed_rigid;
         }
+
+-- ---- what slots go back to, one after another
+pub returned_carried : (solution back : List PowerMap) (j : ℕ) (unit : PowerMap) (e : CertStop) → j < length solution → unit ≡ get_or solution j unit → CarriesPower 9223372036854775807 (mul (replace (nth back) unit) (inv (atom (Var j)))) e → CarriesReturned solution back e
+returned_carried solution back j unit (stop.CertRange z) l is h =
+    let same : unit ≡ nth solution j = is ∙ get_or_default solution j unit (atom (Var j)) l in
+    (j, l, subst (λ u. IsPowerIn z (mul (replace (nth back) u) (inv (atom (Var j))))) same h.0, h.1)
+returned_carried solution back j unit stop.NoMemory l is h = tt
+
+pub returned_narrow : (solution back : List PowerMap) (j : ℕ) (unit : PowerMap) → j < length solution → unit ≡ get_or solution j unit → IsNarrow (mul (replace (nth back) unit) (inv (atom (Var j)))) → IsNarrow (returned solution back j)
+returned_narrow solution back j unit l is h =
+    let same : unit ≡ nth solution j = is ∙ get_or_default solution j unit (atom (Var j)) l in
+    subst (λ u. IsNarrow (mul (replace (nth back) u) (inv (atom (Var j))))) same h
+
+-- ---- the parts of what is kept
+module _ (bases parameters : ℕ) (r : Rows) (making : Making) (kept : Kept) (agrees : Agrees (record { slots = r.slots; parameters = parameters; bases = bases }) making kept) (state : ReachedState bases parameters r.slots (units_of r.list.items.items) (length r.list.items.items) kept) where
+  same_part : (j : ℕ) → j < length making.parts.items → kept.parts j ≡ get_or making.parts.items j one
+  same_part j l = agrees.parts j (subst (λ n. j < n) agrees.parts_count l)
+
+  pub parts_closed : All (λ u. (n : ℕ) → power_of u (Base n) ≡ pos 0) making.parts.items
+  parts_closed = All-from_get_or (λ u. (n : ℕ) → power_of u (Base n) ≡ pos 0) making.parts.items one (λ j l n. ap (λ u. power_of u (Base n)) (sym (same_part j l)) ∙ state.parts_closed j n)
+
+  pub parts_below : All (VariablesBelow (length r.list.items.items)) making.parts.items
+  parts_below = All-from_get_or (VariablesBelow (length r.list.items.items)) making.parts.items one (λ j l. subst (VariablesBelow (length r.list.items.items)) (same_part j l) (state.parts_below j))

@@ -47,20 +47,21 @@ pub record ArePlaces (order held : List ℕ) (places : List TypeTree) : Type 0 w
 abbrev pub GoBack : List ℕ → List ℕ → List PowerMap → List PowerMap → Type 0
 GoBack order held back new = All (λ k. nth new (place order k) ≡ nth back k) held
 
-module _ (h : Head) (g : Signature) (solution : List PowerMap) where
+module _ (h : Head) (g : Signature) (units : List PowerMap) where
   -- the unit of a parameter is a variable behind the slots'
   abbrev pub general_units : List PowerMap
-  general_units = map (generalised_unit h.bases h.parameters h.slots) solution
+  general_units = map (generalised_unit h.bases h.parameters h.slots) units
 
   abbrev pub held_variables : List ℕ
   held_variables = held_below (h.slots + h.parameters) general_units
 
-  -- the order that numbers the variables: those of the types by their first occurrence, then the others by their numbers
+  -- the order that numbers the variables: those of the types by their first occurrence, then the others by their
+  -- numbers
   abbrev pub certificate_order : List ℕ
   certificate_order = variable_order (to_number g general_units held_variables)
 
-  -- the code's answer
-  pub record IsRenamed (back : List PowerMap) (r : Renaming) : Type 0 where
+  -- the code's answer, where the variables went to these units
+  pub record IsRenamed (way : List PowerMap) (r : Renaming) : Type 0 where
     pub vars : r.vars ≡ length certificate_order
     pub solution : r.solution.items ≡ map (replace (by_place certificate_order)) general_units
-    pub back : GoBack certificate_order held_variables back r.back.items
+    pub back : GoBack certificate_order held_variables way r.back.items

@@ -1,9 +1,10 @@
 //! That the equations of a function are at most 4294967295 and hold declared base units alone, which those of a program
 //! do.
 
-ghost use Rattle.std.specs.Prelude.{◌≡◌, ◌<◌, true, All, map};
+ghost use Rattle.std.specs.Prelude.{◌≡◌, true, All};
 ghost use Rattle.std.specs.List.{list_all};
 ghost use Rattle.um_units.specs.declared.Term.{Term as TermData};
+ghost use Rattle.um_tree.specs.declared.types.Ty.{Ty as TyData};
 ghost use Rattle.um_tree.specs.TypeTree.{type_tree};
 ghost use Rattle.um_tree.specs.Formed.{BasesBelow};
 ghost use Rattle.um_tree.specs.Laws.{TypeHas};
@@ -17,10 +18,16 @@ use um_units::{Atom, Term, Unit};
 pub fn are_declared(rows: &Rows, bases: u32) -> bool
     ensures { result ≡ true → AreDeclared bases rows.now }
 {
-    rows.list.items.len() <= 4294967295
-        && rows_are_declared(&rows.list.items, bases)
-        && types_are_declared(&rows.params.items, bases)
-        && type_is_declared(&rows.result, bases)
+    if rows.list.items.len() > 4294967295 {
+        return false;
+    }
+    if !rows_are_declared(&rows.list.items, bases) {
+        return false;
+    }
+    if !types_are_declared(&rows.params.items, bases) {
+        return false;
+    }
+    type_is_declared(&rows.result, bases)
 }
 
 fn rows_are_declared(rows: &[Row], bases: u32) -> bool
@@ -35,7 +42,7 @@ fn rows_are_declared(rows: &[Row], bases: u32) -> bool
 }
 
 fn types_are_declared(types: &[Ty], bases: u32) -> bool
-    ensures { result ≡ true → All (TypeHas (BasesBelow bases)) (map type_tree types.now) }
+    ensures { result ≡ true → All (λ (ty : TyData). TypeHas (BasesBelow bases) (type_tree ty)) types.now }
 {
     for ty in types {
         if !type_is_declared(ty, bases) {

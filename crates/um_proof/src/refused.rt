@@ -42,7 +42,7 @@ pub fn make_no(alloc: Global, rows: &Rows, units: u32, bases: u32) -> Result<No,
         bases,
     };
     match make_rows(alloc, head, &rows.list.items) {
-        Ok(Treated::Refused { row, refused }) => refusal(alloc, rows, head, row, refused),
+        Ok(Treated::Refused { row, refused }) => refusal(alloc, rows, units, bases, row, refused),
         Ok(Treated::Made(making)) => {
             drop(making);
             unreachable!()
@@ -55,24 +55,25 @@ pub fn make_no(alloc: Global, rows: &Rows, units: u32, bases: u32) -> Result<No,
 fn refusal(
     alloc: Global,
     rows: &Rows,
-    head: Head,
+    units: u32,
+    bases: u32,
     row: u32,
     refused: Refused,
 ) -> Result<No, CertStop>
-    requires rows { AreFunctionRows head.bases head.parameters rows.now }
-    requires slots { head.slots ≡ rows.now.slots }
-    requires judged { IsRefused (judged head.bases head.parameters 0 rows.now) }
-    requires refused { AreRefused head rows.now.list.items.items row refused }
-    ensures { IsNoMade head.bases head.parameters rows.now (judged head.bases head.parameters 0 rows.now) result }
+    requires rows { AreFunctionRows bases units rows.now }
+    requires judged { IsRefused (judged bases units 0 rows.now) }
+    requires refused { AreRefused (record { slots = rows.now.slots; parameters = units; bases = bases })
+        rows.now.list.items.items row refused }
+    ensures { IsNoMade bases units rows.now (judged bases units 0 rows.now) result }
 {
-    if head.parameters == 0 {
+    if units == 0 {
         return no_of(alloc, true, row, refused);
     }
     match have_solution(alloc, rows.slots, up_to(&rows.list.items, row)) {
         Ok(true) => no_of(alloc, false, row, refused),
         Ok(false) => {
             drop(refused);
-            loose_no(alloc, rows.slots, head.bases, &rows.list.items, row)
+            loose_no(alloc, rows.slots, bases, &rows.list.items, row)
         }
         Err(_error) => {
             drop(refused);

@@ -1,10 +1,10 @@
 //! The variables of a solution, numbered as a certificate has them, and the way back from them.
 
-ghost use Rattle.std.specs.Prelude.{◌≡◌, ◌≤◌, ◌<◌, ◌+◌, ◌^◌, ℕ, List, [], ◌||◌, ◌++◌, All, false, filter, map, length, slice_index_or, IfOk, OnOk, IsTrue};
+ghost use Rattle.std.specs.Prelude.{◌≡◌, ◌≤◌, ◌<◌, ◌+◌, ◌^◌, ℕ, List, [], ◌∷◌, if◌then◌else◌, ◌||◌, ◌++◌, All, false, filter, map, length, drop, replicate, set, take, slice_index_or, IfOk, OnOk, IsTrue};
 ghost use Rattle.std.specs.List.{flat_map, list_all, range_with_len};
 ghost use Rattle.um_units.specs.declared.Atom.TheVariants.{Var};
 ghost use Rattle.um_units.specs.declared.Term.{Term as TermData};
-ghost use Rattle.um_units.specs.PowerMap.{PowerMap, atom, nth};
+ghost use Rattle.um_units.specs.PowerMap.{PowerMap, one, atom, nth};
 ghost use Rattle.um_units.specs.Variables.{VariablesBelow, atom_below, variables_below};
 ghost use Rattle.um_tree.specs.TypeTree.{num_type, type_tree, type_trees};
 ghost use Rattle.um_tree.specs.Typing.{put, put_signature};
@@ -88,8 +88,7 @@ fn held_variables(alloc: Global, count: u32, units: &[Unit]) -> Result<Vec<u32>,
 }
 
 fn no_marks(alloc: Global, count: u32) -> Result<Vec<bool>, AllocError>
-    ensures count { IfOk result (λ marks. length marks.items ≡ count) }
-    ensures none { (k : ℕ) → IfOk result (λ marks. slice_index_or marks.items k false ≡ false) }
+    ensures { IfOk result (λ marks. marks.items ≡ replicate count false) }
 {
     let mut marks = Vec::new(alloc);
     for _ in 0..count {
@@ -130,11 +129,18 @@ fn marked(alloc: Global, marks: &[bool]) -> Result<Vec<u32>, AllocError>
 {
     let mut held = Vec::new(alloc);
     for k in 0..marks.len() {
-        if marks[k] {
-            held.push(k as u32)?;
-        }
+        push_marked(&mut held, k as u32, marks[k])?;
     }
     Ok(held)
+}
+
+fn push_marked(held: &mut Vec<u32>, k: u32, is_marked: bool) -> Result<(), AllocError>
+    ensures { OnOk result (held.new.items ≡ held.old.items ++ (if is_marked then k ∷ [] else [])) }
+{
+    if is_marked {
+        held.push(k)?;
+    }
+    Ok(())
 }
 
 // ---- numbering
@@ -247,14 +253,22 @@ fn read_numbered(
         → IfOk result (λ r. GoBack order held.now back.now r.back.items) }
 {
     let types = &numbered.types.items;
-    let behind = first + held.len();
-    let solution = units_of(alloc, &types[behind..])?;
-    let new_back = way_back(alloc, numbered.vars, &types[first..behind], held, back)?;
+    let solution = units_of(alloc, &types[first + held.len()..])?;
+    let places = part_of(types, first, held.len());
+    let new_back = way_back(alloc, numbered.vars, places, held, back)?;
     Ok(Renaming {
         vars: numbered.vars,
         solution,
         back: new_back,
     })
+}
+
+/// So many of the types, from one on.
+fn part_of(types: &[Ty], from: usize, count: usize) -> &[Ty]
+    requires { from + count ≤ length types.now }
+    ensures { result.now ≡ take count (drop from types.now) }
+{
+    &types[from..][..count]
 }
 
 /// The units of the types, which are all numbers.
@@ -296,13 +310,26 @@ fn way_back(
     let mut out = ones(alloc, vars)?;
     for i in 0..held.len() {
         let number = number_of(&places[i]);
-        out[number as usize] = back[held[i] as usize].copy(alloc)?;
+        set_unit(alloc, &mut out, number, &back[held[i] as usize])?;
     }
     Ok(out)
 }
 
+fn set_unit(
+    alloc: Global,
+    units: &mut Vec<Unit>,
+    number: u32,
+    unit: &Unit,
+) -> Result<(), AllocError>
+    requires { number < length units.old.items }
+    ensures { OnOk result (units.new.items ≡ set units.old.items number unit.now) }
+{
+    units[number as usize] = unit.copy(alloc)?;
+    Ok(())
+}
+
 fn ones(alloc: Global, count: u32) -> Result<Vec<Unit>, AllocError>
-    ensures { IfOk result (λ units. length units.items ≡ count) }
+    ensures { IfOk result (λ units. units.items ≡ replicate count one) }
 {
     let mut out = Vec::new(alloc);
     for _ in 0..count {
@@ -327,13 +354,8 @@ fn variable_of(unit: &Unit) -> u32
     requires { (n : ℕ) × (unit.now ≡ atom (Var n)) }
     ensures { (n : ℕ) → unit.now ≡ atom (Var n) → result ≡ n }
 {
-    match unit.terms() {
-        [
-            Term {
-                atom: Atom::Var(number),
-                power: _,
-            },
-        ] => *number,
-        _ => unreachable!(),
+    match unit.terms()[0].atom {
+        Atom::Var(number) => number,
+        Atom::Base(_) => unreachable!(),
     }
 }

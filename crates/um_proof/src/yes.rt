@@ -21,7 +21,7 @@ use crate::CertStop;
 use crate::kept::{Head, Making};
 use crate::made::{Treated, make_rows, parts_of};
 use crate::past::narrowed;
-use crate::renaming::renamed_solution;
+use crate::renaming::{Renaming, renamed_solution};
 use std::alloc::{AllocError, Global};
 use um_check::{PartLists, Parts, Yes};
 use um_rows::Rows;
@@ -51,34 +51,73 @@ pub fn make_yes(
         parameters: units,
         bases,
     };
-    match make_rows(alloc, head, &rows.list.items)? {
-        Treated::Made(making) => {
-            let made = certificate(alloc, head, rows, &making);
+    match make_rows(alloc, head, &rows.list.items) {
+        Ok(Treated::Made(making)) => {
+            let made = certificate(alloc, rows, units, bases, &making);
             drop(making);
             made
         }
-        Treated::Refused { row: _, refused } => {
+        Ok(Treated::Refused { row: _, refused }) => {
             drop(refused);
             unreachable!()
         }
+        Err(stop) => Err(stop),
     }
 }
 
 /// The certificate by what is kept after all rows.
-fn certificate(alloc: Global, head: Head, rows: &Rows, making: &Making) -> Result<Yes, CertStop>
-    requires rows { AreFunctionRows head.bases head.parameters rows.now }
-    requires slots { head.slots ≡ rows.now.slots }
-    requires reached { (kept : Kept)
-        × IsReached (units_of rows.now.list.items.items) (start head) (length rows.now.list.items.items) kept
-        × Agrees head making.now kept }
-    requires judged { (at : ℕ) × (s : SchemeTree) × (judged head.bases head.parameters at rows.now ≡ has_scheme s) }
-    ensures { (at : ℕ) (s : SchemeTree) → judged head.bases head.parameters at rows.now ≡ has_scheme s
-        → IsYesMade head.bases head.parameters rows.now s result }
+fn certificate(
+    alloc: Global,
+    rows: &Rows,
+    units: u32,
+    bases: u32,
+    making: &Making,
+) -> Result<Yes, CertStop>
+    requires rows { AreFunctionRows bases units rows.now }
+    requires reached { (kept : Kept) × IsReached (units_of rows.now.list.items.items)
+        (start (record { slots = rows.now.slots; parameters = units; bases = bases }))
+        (length rows.now.list.items.items) kept
+        × Agrees (record { slots = rows.now.slots; parameters = units; bases = bases }) making.now kept }
+    requires judged { (at : ℕ) × (s : SchemeTree) × (judged bases units at rows.now ≡ has_scheme s) }
+    ensures { (at : ℕ) (s : SchemeTree) → judged bases units at rows.now ≡ has_scheme s
+        → IsYesMade bases units rows.now s result }
 {
+    let head = Head {
+        slots: rows.slots,
+        parameters: units,
+        bases,
+    };
     let renaming = renamed_solution(alloc, head, rows, &making.solution, &making.back)?;
-    all_return(alloc, &renaming.solution, &renaming.back)?;
-    let rigid = rigid_solution(alloc, head, &making.solution)?;
+    match all_return(alloc, &renaming.solution, &renaming.back) {
+        Ok(()) => Ok(with_parts(alloc, units, making, renaming)?),
+        Err(stop) => {
+            drop(renaming);
+            Err(stop)
+        }
+    }
+}
+
+/// The certificate with the renamed solution and its way back.
+fn with_parts(
+    alloc: Global,
+    units: u32,
+    making: &Making,
+    renaming: Renaming,
+) -> Result<Yes, AllocError>
+    requires narrow { All IsNarrow making.now.parts.items }
+    requires rows { All (λ u. (n : ℕ) → power_of u (Base n) ≡ pos 0) making.now.parts.items }
+    ensures vars { IfOk result (λ yes. yes.vars ≡ renaming.vars) }
+    ensures solution { IfOk result (λ yes. yes.solution ≡ renaming.solution.items) }
+    ensures back { IfOk result (λ yes. yes.back ≡ renaming.back.items) }
+    ensures divisor { IfOk result (λ yes. yes.divisor ≡ making.now.divisor) }
+    ensures parts { IfOk result (λ yes. map exponents yes.parts ≡ making.now.parts.items) }
+    ensures named { (n : ℕ) → All (VariablesBelow n) making.now.parts.items
+        → IfOk result (λ yes. All (NamesRowsBelow n) yes.parts) }
+    ensures rigid { IfOk result (λ yes. yes.rigid
+        ≡ (if nat_eq units 0 then [] else map (replace (λ _. one)) making.now.solution.items)) }
+{
     let parts = part_lists(alloc, &making.parts)?;
+    let rigid = rigid_solution(alloc, units, &making.solution)?;
     Ok(Yes {
         vars: renaming.vars,
         solution: Units::from_vec(renaming.solution),
@@ -90,11 +129,11 @@ fn certificate(alloc: Global, head: Head, rows: &Rows, making: &Making) -> Resul
 }
 
 /// With unit parameters the units with 1 put for their variables, and else none.
-fn rigid_solution(alloc: Global, head: Head, solution: &[Unit]) -> Result<Vec<Unit>, NoMemory>
+fn rigid_solution(alloc: Global, parameters: u32, solution: &[Unit]) -> Result<Vec<Unit>, NoMemory>
     ensures { IfOk result (λ units. units.items
-        ≡ (if nat_eq head.parameters 0 then [] else map (replace (λ _. one)) solution.now)) }
+        ≡ (if nat_eq parameters 0 then [] else map (replace (λ _. one)) solution.now)) }
 {
-    if head.parameters == 0 {
+    if parameters == 0 {
         return Ok(Vec::new(alloc));
     }
     closed_units(alloc, solution)
@@ -151,8 +190,10 @@ fn all_return(alloc: Global, solution: &[Unit], back: &[Unit]) -> Result<(), Cer
         (CarriesReturned solution.now back.now) }
 {
     for j in 0..solution.len() {
-        let image = returned_slot(alloc, &solution[j], back, j as u32)?;
-        drop(image);
+        match returned_slot(alloc, &solution[j], back, j as u32) {
+            Ok(image) => drop(image),
+            Err(stop) => return Err(stop),
+        }
     }
     Ok(())
 }

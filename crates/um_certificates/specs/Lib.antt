@@ -1,0 +1,2 @@
+-- What a reader must trust: the lines of a certificate.
+pub mod CertificateText

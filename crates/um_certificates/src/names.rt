@@ -1,0 +1,46 @@
+//! Names of base units.
+
+ghost use Rattle.std.specs.Prelude.{◌≡◌, ◌++◌, map, IfOk, OnOk};
+ghost use Rattle.std.specs.List.{range_with_len};
+ghost use Rattle.um_certificates.specs.CertificateText.{parameter_name as name_of_parameter, with_parameters as names_with_parameters};
+
+use crate::lines::push_number;
+use std::alloc::{AllocError, Global};
+use um_tree::{Name, Names};
+
+/// The names of declared base units, and of those of so many unit parameters.
+pub fn with_parameters(alloc: Global, bases: &Names, count: usize) -> Result<Names, AllocError>
+    ensures { IfOk result (λ names. names ≡ names_with_parameters bases.now count) }
+{
+    let mut items = Vec::new(alloc);
+    push_copies(alloc, &mut items, bases.as_slice())?;
+    push_parameters(alloc, &mut items, count)?;
+    Ok(Names::from_vec(items))
+}
+
+fn push_copies(alloc: Global, items: &mut Vec<Name>, names: &[Name]) -> Result<(), AllocError>
+    ensures { OnOk result (items.new.items ≡ items.old.items ++ names.now) }
+{
+    for name in names {
+        items.push(Name::from_vec(name.as_slice().to_vec(alloc)?))?;
+    }
+    Ok(())
+}
+
+fn push_parameters(alloc: Global, items: &mut Vec<Name>, count: usize) -> Result<(), AllocError>
+    ensures { OnOk result (items.new.items
+        ≡ items.old.items ++ map name_of_parameter (range_with_len 0 count)) }
+{
+    for k in 0..count {
+        items.push(parameter_name(alloc, k)?)?;
+    }
+    Ok(())
+}
+
+fn parameter_name(alloc: Global, k: usize) -> Result<Name, AllocError>
+    ensures { IfOk result (λ name. name ≡ name_of_parameter k) }
+{
+    let mut bytes = b"$".to_vec(alloc)?;
+    push_number(&mut bytes, k)?;
+    Ok(Name::from_vec(bytes))
+}

@@ -1,0 +1,140 @@
+//! The texts of certificates.
+
+ghost use Rattle.std.specs.Prelude.{◌≡◌, ◌++◌, IfOk, OnOk};
+ghost use Rattle.um_tree.specs.ProgramTree.{program_tree};
+ghost use Rattle.um_certificates.specs.CertificateText.{certificates_text as text_of_certificates, function_name as name_of_function};
+ghost use Rattle.um_certificates.specs.CertificateText.{heading, kind_text as text_of_kind, no_text as text_of_no};
+ghost use Rattle.um_certificates.specs.CertificateText.{numbered, refusal_text, yes_text as text_of_yes};
+
+use crate::lines::{push_integer, push_number, push_parts, push_rows, push_units};
+use crate::names::with_parameters;
+use std::alloc::{AllocError, Global};
+use um_check::{No, Yes};
+use um_tree::{Name, Names, Program};
+use um_units::NoMemory;
+
+/// The text of the certificates of a program's first functions, and of the refusal of the next where there is one.
+///
+/// `NoMemory` is its one error. The lines are this project's own, and units are in the notation of F#.
+pub fn certificates_text(
+    alloc: Global,
+    program: &Program,
+    yes: &[Yes],
+    no: &Option<No>,
+) -> Result<Vec<u8>, NoMemory>
+    ensures { IfOk result (λ text. text.items ≡ text_of_certificates (program_tree program.now) yes.now no.now) }
+{
+    let mut text = Vec::new(alloc);
+    push_all(alloc, &mut text, program, yes)?;
+    push_refusal(&mut text, program, yes.len(), no)?;
+    Ok(text)
+}
+
+/// Adds the certificate of each function's scheme.
+fn push_all(
+    alloc: Global,
+    text: &mut Vec<u8>,
+    program: &Program,
+    yes: &[Yes],
+) -> Result<(), AllocError>
+    ensures { OnOk result (text.new.items ≡ text.old.items ++ numbered
+        (λ i. text_of_yes program.now.bases (name_of_function (program_tree program.now) i)) 0 yes.now) }
+{
+    for i in 0..yes.len() {
+        push_yes(alloc, text, function_name(program, i), &program.bases, &yes[i])?;
+    }
+    Ok(())
+}
+
+/// Adds the certificate that function i has no scheme, where there is one.
+fn push_refusal(text: &mut Vec<u8>, program: &Program, i: usize, no: &Option<No>) -> Result<(), AllocError>
+    ensures { OnOk result (text.new.items ≡ text.old.items ++ refusal_text (program_tree program.now) i no.now) }
+{
+    match no {
+        None => Ok(()),
+        Some(cert) => push_no(text, function_name(program, i), cert),
+    }
+}
+
+/// The bytes of the name of function i, none where there is no such function.
+fn function_name(program: &Program, i: usize) -> &[u8]
+    ensures { result.now ≡ name_of_function (program_tree program.now) i }
+{
+    match program.functions.items.get(i) {
+        Some(function) => function.name.as_slice(),
+        None => &[],
+    }
+}
+
+/// The text of the certificate of a function's scheme, over base units of these names.
+///
+/// `NoMemory` is its one error. The lines are this project's own, and units are in the notation of F#.
+pub fn yes_text(alloc: Global, name: &Name, bases: &Names, cert: &Yes) -> Result<Vec<u8>, NoMemory>
+    ensures { IfOk result (λ text. text.items ≡ text_of_yes bases.now name.now cert.now) }
+{
+    let mut text = Vec::new(alloc);
+    push_yes(alloc, &mut text, name.as_slice(), bases, cert)?;
+    Ok(text)
+}
+
+fn push_yes(
+    alloc: Global,
+    text: &mut Vec<u8>,
+    name: &[u8],
+    bases: &Names,
+    cert: &Yes,
+) -> Result<(), AllocError>
+    ensures { OnOk result (text.new.items ≡ text.old.items ++ text_of_yes bases.now name.now cert.now) }
+{
+    let rigid = cert.rigid.as_slice();
+    let names = with_parameters(alloc, bases, rigid.len())?;
+    push_heading(text, name, b" yes ", cert.vars as usize, cert.divisor)?;
+    push_units(alloc, text, b"  slot ", bases, cert.solution.as_slice())?;
+    push_units(alloc, text, b"  back ", bases, cert.back.as_slice())?;
+    push_rows(text, cert.parts.as_slice())?;
+    push_units(alloc, text, b"  rigid ", &names, rigid)?;
+    Ok(())
+}
+
+/// Adds the line of a name, a kind and two numbers.
+fn push_heading(text: &mut Vec<u8>, name: &[u8], kind: &[u8], n: usize, k: i64) -> Result<(), AllocError>
+    ensures { OnOk result (text.new.items ≡ text.old.items ++ heading name.now kind.now n k) }
+{
+    text.extend_from_slice(name)?;
+    text.extend_from_slice(kind)?;
+    push_number(text, n)?;
+    text.push(b' ')?;
+    push_integer(text, k)?;
+    text.push(b'\n')?;
+    Ok(())
+}
+
+/// The text of the certificate that a function has no scheme.
+///
+/// `NoMemory` is its one error. The lines are this project's own.
+pub fn no_text(alloc: Global, name: &Name, cert: &No) -> Result<Vec<u8>, NoMemory>
+    ensures { IfOk result (λ text. text.items ≡ text_of_no name.now cert.now) }
+{
+    let mut text = Vec::new(alloc);
+    push_no(&mut text, name.as_slice(), cert)?;
+    Ok(text)
+}
+
+fn push_no(text: &mut Vec<u8>, name: &[u8], cert: &No) -> Result<(), AllocError>
+    ensures { OnOk result (text.new.items ≡ text.old.items ++ text_of_no name.now cert.now) }
+{
+    push_heading(text, name, kind_text(cert.loose), cert.last as usize + 1, cert.modulus)?;
+    text.extend_from_slice(b"  rows: ")?;
+    push_parts(text, cert.parts.as_slice())?;
+    text.push(b'\n')?;
+    Ok(())
+}
+
+fn kind_text(loose: bool) -> &'static [u8]
+    ensures { result.now ≡ text_of_kind loose }
+{
+    if loose {
+        return b" no ";
+    }
+    b" not general "
+}

@@ -1,0 +1,116 @@
+-- The rows of a function of a program: what the makers ask of them, and what they are judged.
+use Rattle.std.proofs.Common.{◌≡◌, ℕ, ◌+◌, ◌<◌, ◌≤◌, ◌^◌, true, cond, leb, List, [], ◌∷◌, map, length, Option, Some, None, slice_get, refl, sym, ap, ◌∙◌, subst, arith}
+use Rattle.std.specs.Prelude.{All}
+use Rattle.std.proofs.lemmas.Bool.Decides.{nat_tests}
+use Rattle.um_units.specs.PowerMap.{nth}
+use Rattle.um_units.specs.Variables.{VariablesBelow}
+use Rattle.um_tree.specs.ProgramTree.{RecordTree, FunctionTree, ProgramTree, Signature, SchemeTree}
+use Rattle.um_tree.specs.Formed.{IsFormed}
+use Rattle.um_tree.specs.Typing.{put_signature}
+use Rattle.um_tree.specs.Scheme.{signature_types, variables}
+use Rattle.um_elim.specs.Solution.{rigid_units}
+use Rattle.um_elim.proofs.Cases.{on_test}
+use Rattle.um_rows.specs.declared.row.Row.{Row}
+use Rattle.um_rows.specs.declared.row.Rows.{Rows}
+use Rattle.um_rows.specs.Steps.{rows_of, units_of, first_past}
+use Rattle.um_rows.specs.Slots.{slot_count, slot_equations}
+use Rattle.um_rows.specs.Solutions.{function_rows, slot_signature, HaveSchemes}
+use Rattle.um_rows.specs.Keys.{text_keys}
+use Rattle.um_rows.specs.FirstUnsolvable.{Solving, solved, unsolved, out_of_range, solve}
+use Rattle.um_rows.specs.Generalised.{generalised}
+use Rattle.um_rows.specs.Judgement.{Judgement, has_scheme, too_many_slots, passes_range, has_no_typing, not_general, signature_fits, numbered_scheme, by_solving, by_rows, by_range, judge}
+use Rattle.um_rows.specs.Answers.{rows_signature, AreEquations, HaveVariablesBelow}
+use Rattle.um_rows.proofs.ParameterSlots.{parameters_have_slots}
+use Rattle.um_rows.proofs.Solved.{rows_hold_slots, types_hold_slots}
+use Rattle.um_proof.specs.Answers.{AreFunctionRows, judged}
+use Rattle.um_proof.specs.ProgramSteps.{AreDeclared}
+use Rattle.um_proof.proofs.DeclaredUnits.{all_none, types_none}
+
+-- the schemes before hold their own variables alone
+pub own_variables_alone : (p : ProgramTree) (schemes : List SchemeTree) (i : ℕ) → HaveSchemes p schemes i → HaveVariablesBelow i schemes
+own_variables_alone p schemes i have j s l e =
+    let h = have j l in
+    let same : h.scheme ≡ s = (let both : Some h.scheme ≡ Some s = sym h.stands ∙ e in cc both) in
+    subst (λ (t : SchemeTree). All (λ k. k < t.vars) (variables (signature_types t.signature))) same h.principal.below
+
+-- no limit is met
+abbrev pub IsUnlimited : Judgement → Type 0
+IsUnlimited (has_scheme s) = Unit {0}
+IsUnlimited too_many_slots = ⊥
+IsUnlimited (passes_range at) = ⊥
+IsUnlimited (has_no_typing row at) = Unit {0}
+IsUnlimited (not_general row at) = Unit {0}
+
+module _ (bases : ℕ) (records : List RecordTree) (schemes : List SchemeTree) (i : ℕ) (f : FunctionTree) where
+  pub record HasJudgement (j : Judgement) : Type 0 where
+    pub few : slot_count records schemes i f ≤ 2000
+    pub in_range : first_past (slot_equations records schemes i f).steps ≡ None
+    pub by : by_rows bases f.units (slot_count records schemes i f) f.at (slot_signature records schemes i f) (rows_of (slot_equations records schemes i f).steps) ≡ j
+
+  own : Judgement
+  own = by_rows bases f.units (slot_count records schemes i f) f.at (slot_signature records schemes i f) (rows_of (slot_equations records schemes i f).steps)
+
+  in_range_by : (o : Option ℕ) (j : Judgement) → IsUnlimited j → first_past (slot_equations records schemes i f).steps ≡ o → slot_count records schemes i f ≤ 2000 → by_range o own ≡ j → HasJudgement j
+  in_range_by None j free e few h = record { few = few; in_range = e; by = h }
+  in_range_by (Some at) j free e few h = absurd (subst IsUnlimited (sym h) free)
+
+  pub judged_rows : (j : Judgement) → IsUnlimited j → judge bases records schemes i f ≡ j → HasJudgement j
+  judged_rows j free h =
+      let steps = (slot_equations records schemes i f).steps in
+      on_test (leb (slot_count records schemes i f) 2000)
+      (λ e.
+      let few : slot_count records schemes i f ≤ 2000 = grind (arith, nat_tests) in
+      in_range_by (first_past steps) j free refl few (subst (λ b. cond b (by_range (first_past steps) own) too_many_slots ≡ j) e h))
+      (λ e. absurd (subst IsUnlimited (sym (subst (λ b. cond b (by_range (first_past steps) own) too_many_slots ≡ j) e h)) free))
+
+  -- ---- by the equations that the code gives
+  module _ (r : Rows) (h : AreEquations records schemes i f r) where
+    pub same_signature : rows_signature r ≡ slot_signature records schemes i f
+    same_signature = λ k. record { params = h.params k; result = h.result k }
+
+    pub same_rows : units_of r.list.items.items ≡ function_rows records schemes i f
+    same_rows = ap units_of h.list
+
+    pub judged_same : (at : ℕ) → judged bases f.units at r ≡ by_rows bases f.units (slot_count records schemes i f) at (slot_signature records schemes i f) (rows_of (slot_equations records schemes i f).steps)
+    judged_same at =
+        ap (λ n. by_rows bases f.units n at (rows_signature r) r.list.items.items) h.slots
+        ∙ ap (λ g. by_rows bases f.units (slot_count records schemes i f) at g r.list.items.items) same_signature
+        ∙ ap (by_rows bases f.units (slot_count records schemes i f) at (slot_signature records schemes i f)) h.list
+
+-- a refusal is the same wherever a power of the scheme would be refused
+module _ (bases parameters slots at other : ℕ) (g : Signature) (rows : List Row) where
+  abbrev IsRefusal : Judgement → Type 0
+  IsRefusal (has_scheme s) = ⊥
+  IsRefusal too_many_slots = ⊥
+  IsRefusal (passes_range place) = ⊥
+  IsRefusal (has_no_typing row place) = Unit {0}
+  IsRefusal (not_general row place) = Unit {0}
+
+  moved : (r : Solving) (j : Judgement) → IsRefusal j → by_solving bases parameters slots at g rows r ≡ j → by_solving bases parameters slots other g rows r ≡ j
+  moved (solved us) j free h =
+      let solution = put_signature (nth us) g in
+      on_test (signature_fits solution)
+      (λ e. absurd (subst IsRefusal (sym (subst (λ b. cond b (has_scheme (numbered_scheme (generalised bases parameters slots solution))) (passes_range at) ≡ j) e h)) free))
+      (λ e. absurd (subst IsRefusal (sym (subst (λ b. cond b (has_scheme (numbered_scheme (generalised bases parameters slots solution))) (passes_range at) ≡ j) e h)) free))
+  moved (unsolved k place) j free h = h
+  moved (out_of_range place) j free h = absurd (subst IsRefusal (sym h) free)
+
+  pub moved_refusal : (j : Judgement) → IsRefusal j → by_rows bases parameters slots at g rows ≡ j → by_rows bases parameters slots other g rows ≡ j
+  moved_refusal j free h = moved (solve 0 rows (rigid_units bases parameters slots)) j free h
+
+-- what the makers ask
+pub are_function_rows : (p : ProgramTree) (schemes : List SchemeTree) (i : ℕ) (f : FunctionTree) (r : Rows) → IsFormed p → HaveSchemes p schemes i → AreEquations p.records schemes i f r → AreDeclared (length p.bases) r → AreFunctionRows (length p.bases) f.units r
+are_function_rows p schemes i f r formed have h declared = record {
+  few = subst (λ n. n ≤ 2000) (sym h.slots) h.few;
+  number = declared.number;
+  parameters_within = within;
+  bases_below = (let b = formed.few_bases in let s = h.slots in let k = h.few in omega (arith, b, s, k, within));
+  rows = subst (λ n. All (VariablesBelow n) (units_of r.list.items.items)) (sym h.slots) (subst (All (VariablesBelow (slot_count p.records schemes i f))) (sym (ap units_of h.list)) (rows_hold_slots p schemes i f have));
+  types = subst (λ n. All (λ k. k < n) (variables (signature_types (rows_signature r)))) (sym h.slots)
+      (subst (λ g. All (λ k. k < slot_count p.records schemes i f) (variables (signature_types g))) (sym (same_signature (length p.bases) p.records schemes i f r h)) (types_hold_slots p schemes i f have));
+  declared_rows = all_none (length p.bases) f.units (units_of r.list.items.items) declared.rows;
+  declared_types = types_none (length p.bases) f.units (signature_types (rows_signature r)) declared.types;
+}
+  where
+    within : f.units ≤ r.slots
+    within = let o = parameters_have_slots f.units (text_keys p.records schemes i f) in let s = h.slots in omega (arith, o, s)
