@@ -226,10 +226,10 @@ module _ (rows : List PowerMap) (kept : Kept) (k : ℕ) where
   r = row_unit rows kept k
 
   made_left : (next : Kept) → (made : IsRowMade rows kept k next) → IsLeft (unit_after made.0 r)
-  made_left next made = elim made.2 [ | inl h ↦ inl h.0 | inr h ↦ inr (h.0, h.1, (h.2).0, (h.2).1) ]
+  made_left next made = elim made.2 [ inl h ↦ inl h.0 | inr h ↦ inr (h.0, h.1, (h.2).0, (h.2).1) ]
 
   treated_left : (vs : List PowerMap) (t : IsTreated us r vs) → IsLeft (unit_after t.turns r)
-  treated_left vs t = elim t.ends [ | inl h ↦ inl h.left | inr h ↦ inr (h.m, h.p, h.positive, h.left) ]
+  treated_left vs t = elim t.ends [ inl h ↦ inl h.left | inr h ↦ inr (h.m, h.p, h.positive, h.left) ]
 
   same_solution : (next : Kept) (vs : List PowerMap) → IsRowMade rows kept k next → IsTreated us r vs → vs ≡ next.solution
   same_solution next vs made t =
@@ -321,4 +321,4 @@ pub refused_unsolved : (bases parameters slots : ℕ) (rows : List Row) (row : �
     ((at : ℕ) × (solve 0 rows (rigid_units bases parameters slots) ≡ unsolved row at)) ⊎ ((at : ℕ) × (solve 0 rows (rigid_units bases parameters slots) ≡ out_of_range at))
 refused_unsolved bases parameters slots rows row kept refused few low inside h by =
     let w = on_row rows (rigid_units bases parameters slots) row kept.solution NoSolution inside (reached_comes bases parameters slots rows row kept (omega (arith, inside)) h) (refused_eliminates (units_of rows) kept row refused by) in
-    elim w.1 [ | inl e ↦ inl (w.0, e) | inr e ↦ inr e ]
+    elim w.1 [ inl e ↦ inl (w.0, e) | inr e ↦ inr e ]

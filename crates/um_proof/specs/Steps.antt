@@ -50,7 +50,9 @@ CarriesOneOf limit us stop.NoMemory = Unit {0}
 -- what the code keeps: the way back of base unit bases + k of parameter k stands behind those of the slots
 abbrev pub back_at : Head → List PowerMap → Atom → PowerMap
 back_at h bs (Base n) =
-    if is_parameter h.bases h.parameters h.slots n then slice_index_or bs (h.slots + (n - h.bases)) one else atom (Base n)
+    if is_parameter h.bases h.parameters h.slots n
+    then slice_index_or bs (h.slots + (n - h.bases)) one
+    else atom (Base n)
 back_at h bs (Var k) = nth bs k
 
 pub record Agrees (h : Head) (m : Making) (kept : Kept) : Type 0 where

@@ -23,8 +23,8 @@ use um_elim::{Turn, next_turn};
 use um_units::{Atom, NoMemory, Term, Unit};
 use um_wide::WideUnit;
 
-/// That a row has no solution together with those before it: a product of rows by their numbers, and what divides its power
-/// of each slot, and not that of each base unit.
+/// That a row has no solution together with those before it: a product of rows by their numbers, and what divides its
+/// power of each slot, and not that of each base unit.
 #[derive(Drop)]
 pub struct Refused {
     pub total: WideUnit,

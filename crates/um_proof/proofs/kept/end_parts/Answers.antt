@@ -61,7 +61,7 @@ returns-in_err-made-clause-range c =
     let part : c.index.result.now ≡ slice_index_or old j one = get_or_read now j _ here c.index.ensures one ∙ c.loop-j.invariant.rest j (omega arith) in
     let e = c.power_of-e.result in
     let made = made_at solution old m j p (to_z w32 (of_z w32 p)) e (to_z w32 (of_z w32 e)) c.args.total.now c.index.result.now c.index-solution-j.result c.requires.p (to_z-of_z w32 p c.ranges.p) part unit
-        (to_z-of_z w32 e (record { sfits = c.power_of-e.type_inv })) c.power_of-e.ensures.power in
+    (to_z-of_z w32 e (record { sfits = c.power_of-e.type_inv })) c.power_of-e.ensures.power in
     rw (x.1, x.2) (part_stops m (nat_abs p) c.args.total.now solution old j c.in_err-made.field-0.0 inside (subst (λ u. CarriesPower 9223372036854775807 u c.in_err-made.field-0.0) made c.in_err-made.ensures.narrow))
 
 pub loop-j-preserved : goal.loop-j-preserved
@@ -80,7 +80,7 @@ loop-j-preserved c =
     let part : c.index.result.now ≡ slice_index_or old j one = get_or_read now j _ here c.index.ensures one ∙ c.loop-j.invariant.rest j (omega arith) in
     let e = c.power_of-e.result in
     let made = made_at solution old m j p p e (to_z w32 (of_z w32 e)) c.args.total.now c.index.result.now c.index-solution-j.result (subst (λ z. pos 0 <ℤ z) (sym exact) c.requires.p) refl part unit
-        (to_z-of_z w32 e (record { sfits = c.power_of-e.type_inv })) c.power_of-e.ensures.power in
+    (to_z-of_z w32 e (record { sfits = c.power_of-e.type_inv })) c.power_of-e.ensures.power in
     record {
       count = length-set now j c.in_ok-made.made ∙ c.loop-j.invariant.count;
       done = set_done now old j c.in_ok-made.made one (parts_at m (nat_abs p) c.args.total.now solution old) here (c.in_ok-made.ensures.exact ∙ made) c.loop-j.invariant.done;

@@ -11,7 +11,7 @@ mul-requires c =
     let e = abs_32 c.args.e c.ranges.e in
     record {
       room = room-within (2147483648 * 9223372036854775807) (2147483648 * 9223372036854775807) c.in_ok-scaled.scaled c.in_ok-taken.taken
-      (subst (IsWithin (2147483648 * 9223372036854775807)) (sym c.in_ok-scaled.ensures.exact) (within-pow 2147483648 9223372036854775807 c.args.parts.now _ (omega (arith, ints, p)) c.requires.parts))
-      (subst (IsWithin (2147483648 * 9223372036854775807)) (sym c.in_ok-taken.ensures.exact) (within-pow 2147483648 9223372036854775807 c.args.total.now _ (omega (arith, ints, e)) c.requires.total))
-      (omega arith);
+          (subst (IsWithin (2147483648 * 9223372036854775807)) (sym c.in_ok-scaled.ensures.exact) (within-pow 2147483648 9223372036854775807 c.args.parts.now _ (omega (arith, ints, p)) c.requires.parts))
+          (subst (IsWithin (2147483648 * 9223372036854775807)) (sym c.in_ok-taken.ensures.exact) (within-pow 2147483648 9223372036854775807 c.args.total.now _ (omega (arith, ints, e)) c.requires.total))
+          (omega arith);
     }
