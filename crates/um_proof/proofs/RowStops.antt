@@ -1,5 +1,5 @@
 -- The numbers that a row's treatment carries where they pass what holds them.
-use Rattle.std.proofs.Common.{◌≡◌, ◌⊎◌, inl, inr, ℕ, ◌+◌, ◌<◌, Bool, false, true, not, None, List, [], ◌∷◌, ◌++◌, map, length, ℤ, pos, neg_ℤ, nat_abs, ◌*ℤ◌, refl, sym, ap, ◌∙◌, subst, arith}
+use Rattle.std.proofs.Common.{◌≡◌, ◌⊎◌, inl, inr, ℕ, ◌+◌, ◌<◌, Bool, false, true, not, None, List, [], ◌∷◌, ◌++◌, map, length, pos, neg_ℤ, nat_abs, ◌*ℤ◌, refl, sym, ap, ◌∙◌, subst, arith}
 use Rattle.std.specs.Prelude.{All, if◌then◌else◌, slice_index_or}
 use Rattle.std.proofs.lemmas.List.{length-map}
 use Rattle.um_units.specs.declared.Atom.{Atom}

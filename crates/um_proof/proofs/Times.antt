@@ -3,7 +3,7 @@ use Rattle.std.proofs.Common.{◌≡◌, ◌≤◌, ℕ, Bool, true, false, ℤ,
 use Rattle.std.proofs.lemmas.Int.{ints, to_z-of_z}
 use Rattle.um_units.specs.declared.Atom.TheVariants.{Var}
 use Rattle.um_units.specs.PowerMap.{PowerMap, power_of, one, atom, mul, inv, pow, replace}
-use Rattle.um_units.proofs.Group.{pow-one, pow-pow, power_of-inv}
+use Rattle.um_units.proofs.Group.{pow-one, pow-pow}
 use Rattle.um_elim.specs.Turn.{substitute, multiply, signed}
 use Rattle.um_elim.proofs.InRange.{kept32}
 use Rattle.um_elim.proofs.Shear.{replace-multiply, multiply_nothing, substitute-one}

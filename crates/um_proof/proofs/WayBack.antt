@@ -1,17 +1,14 @@
 -- What the code keeps against what is kept: before any row, after a turn and after the end of a variable.
-use Rattle.std.proofs.Common.{◌≡◌, ◌≢◌, inl, inr, ℕ, zero, suc, ◌+◌, ◌-◌, ◌*◌, ◌<◌, ◌≤◌, Bool, true, false, List, [], ◌∷◌, ◌++◌, map, length, get_or, set, replicate, ℤ, pos, negsuc, neg_ℤ, nat_abs, ◌*ℤ◌, refl, sym, ap, ◌∙◌, subst, arith}
-use Rattle.std.specs.Prelude.{◌==◌, IsTrue, All, nat_le, nat_lt, ◌&&◌, if◌then◌else◌, slice_index_or}
+use Rattle.std.proofs.Common.{◌≡◌, ◌≢◌, ℕ, zero, suc, ◌+◌, ◌-◌, ◌*◌, ◌<◌, ◌≤◌, true, List, ◌++◌, map, length, get_or, set, replicate, ℤ, pos, negsuc, neg_ℤ, ◌*ℤ◌, refl, sym, ap, ◌∙◌, subst, arith}
+use Rattle.std.specs.Prelude.{◌==◌, IsTrue, All, nat_le, nat_lt, slice_index_or}
 use Rattle.std.specs.Int.Signed.{◌<ℤ◌}
-use Rattle.std.specs.List.{range_with_len}
-use Rattle.std.proofs.lemmas.Bool.{and_parts, and_from, leb-true, ltb-true, eqb-true, eqb-false, lt-ltb}
+use Rattle.std.proofs.lemmas.Bool.{and_parts, leb-true, ltb-true, eqb-true, eqb-false, lt-ltb}
 use Rattle.std.proofs.lemmas.Int.{ints}
 use Rattle.std.proofs.lemmas.List.{length-map, length-append, length-set, length-replicate, get_or-replicate, get_or-append_right, get_or_append_left, get_or-set_same, get_or-set_other, get_or_default}
 use Rattle.std.proofs.lemmas.List.Elements.{All-replicate}
 use Rattle.std.proofs.lemmas.List.FromFn.{get_or-map-range_with_len}
 use Rattle.um_units.specs.declared.Atom.{Atom}
 use Rattle.um_units.specs.declared.Atom.TheVariants.{Base, Var}
-use Rattle.um_units.specs.Atoms.{same_atom}
-use Rattle.um_units.specs.NormalForm.{same_atom_refl}
 use Rattle.um_units.specs.Terms.{indicator}
 use Rattle.um_units.specs.PowerMap.{PowerMap, weight, power_of, one, atom, mul, inv, pow, image, replace, nth, extension}
 use Rattle.um_units.specs.Variables.{VariablesBelow, atom_below}
@@ -34,7 +31,7 @@ use Rattle.um_making.proofs.Extensions.{weight-extension}
 use Rattle.um_proof.specs.declared.kept.Making.{Making}
 use Rattle.um_proof.specs.declared.kept.Head.{Head}
 use Rattle.um_proof.specs.Making.{Kept, first, first_back}
-use Rattle.um_proof.specs.Steps.{Agrees, ArePartsAfter, IsTurned, back_at, divided_at, parts_at}
+use Rattle.um_proof.specs.Steps.{Agrees, ArePartsAfter, IsTurned, back_at, divided_at}
 use Rattle.um_proof.proofs.Turning.{all_replaced}
 
 -- ---- numbers

@@ -1,7 +1,7 @@
 -- What the making of a certificate keeps, from row to row.
 -- Source: Kennedy (1996), unification in the free abelian group, equation by equation. That a way back and the rows'
 -- powers are kept beside the solution is this project's own.
-use Rattle.std.specs.Prelude.{◌≡◌, ◌⊎◌, ℕ, zero, suc, ◌-◌, ◌<◌, if◌then◌else◌, List, length, map, ℤ, pos, ◌*ℤ◌}
+use Rattle.std.specs.Prelude.{◌≡◌, ◌⊎◌, ℕ, zero, suc, ◌-◌, ◌<◌, if◌then◌else◌, List, map, ℤ, pos, ◌*ℤ◌}
 use Rattle.um_units.specs.declared.Atom.{Atom}
 use Rattle.um_units.specs.declared.Atom.TheVariants.{Base, Var}
 use Rattle.um_units.specs.PowerMap.{PowerMap, one, atom, pow, replace, nth}

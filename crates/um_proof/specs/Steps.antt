@@ -1,6 +1,6 @@
 -- The code's: what the parts of a row's treatment answer.
 -- Source: this project's own; no public clause rests on it.
-use Rattle.std.specs.Prelude.{◌≡◌, ◌⊎◌, ℕ, ◌+◌, ◌-◌, ◌<◌, if◌then◌else◌, Bool, true, false, not, List, [], ◌∷◌, length, map, set, All, slice_index_or, IsTrue, ℤ, pos, negsuc, nat_abs, ◌*ℤ◌, Option, Some, None, Result, Ok, Err}
+use Rattle.std.specs.Prelude.{◌≡◌, ◌⊎◌, ℕ, ◌+◌, ◌-◌, ◌<◌, if◌then◌else◌, Bool, true, false, not, List, [], ◌∷◌, length, map, set, All, slice_index_or, IsTrue, ℤ, pos, negsuc, nat_abs, ◌*ℤ◌, Option, Some, None}
 use Rattle.std.specs.Int.Signed.{◌<ℤ◌}
 use Rattle.um_check.specs.Validity.{returned}
 use Rattle.um_units.specs.declared.Atom.{Atom}

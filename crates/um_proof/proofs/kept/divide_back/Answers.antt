@@ -1,4 +1,4 @@
-use Rattle.std.proofs.Common.{◌≡◌, ◌<◌, ◌∙◌, ℕ, List, pos, sym, ap, subst, length, set, arith}
+use Rattle.std.proofs.Common.{◌≡◌, ◌<◌, ◌∙◌, ℕ, List, pos, ap, subst, length, set, arith}
 use Rattle.std.proofs.lemmas.List.{get_or_read}
 use Rattle.std.proofs.lemmas.Result.{err_from_is_err_and}
 use Rattle.um_units.specs.declared.Atom.TheVariants.{Var}
@@ -7,7 +7,7 @@ use Rattle.um_units.proofs.Group.{pow-one}
 use Rattle.um_units.proofs.Replacement.{replace-inv}
 use Rattle.um_elim.proofs.VariablesKept.{unit_all}
 use Rattle.um_rows.specs.Generalised.{generalised_unit}
-use Rattle.um_proof.specs.Steps.{CarriesPower, divided_at}
+use Rattle.um_proof.specs.Steps.{CarriesPower}
 use Rattle.um_proof.proofs.kept.divide_back.Goals as goal
 
 pub generalised_unit-requires-clause-variables : goal.generalised_unit-requires-clause-variables

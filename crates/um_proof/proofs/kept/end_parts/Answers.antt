@@ -1,5 +1,5 @@
-use Rattle.std.proofs.Common.{◌≡◌, ◌<◌, ◌≤◌, ◌∙◌, ℕ, List, ℤ, pos, negsuc, neg_ℤ, nat_abs, below_more, sym, ap, subst, length, get_or, set, to_z, of_z, w32, refl, arith}
-use Rattle.std.specs.Prelude.{All, slice_index_or}
+use Rattle.std.proofs.Common.{◌≡◌, ◌<◌, ◌∙◌, ℕ, List, ℤ, pos, negsuc, neg_ℤ, nat_abs, below_more, sym, ap, subst, length, to_z, of_z, w32, refl, arith}
+use Rattle.std.specs.Prelude.{slice_index_or}
 use Rattle.std.specs.Int.Signed.{◌<ℤ◌}
 use Rattle.std.proofs.lemmas.Int.{ints, to_z-of_z}
 use Rattle.std.proofs.lemmas.List.{get_or_read, get_or_default, length-set}

@@ -1,8 +1,8 @@
-use Rattle.std.proofs.Common.{◌≡◌, ◌<◌, ◌≤◌, ◌∙◌, sym, ap, subst, length, to_z, of_z, w32, refl}
+use Rattle.std.proofs.Common.{◌≡◌, ◌<◌, ◌≤◌, ◌∙◌, sym, ap, subst, length, to_z, w32, refl}
 use Rattle.std.proofs.lemmas.Int.{to_z-of_z}
 use Rattle.std.proofs.lemmas.List.{get_or_read, length-set}
 use Rattle.um_units.specs.declared.Atom.TheVariants.{Var}
-use Rattle.um_units.specs.PowerMap.{PowerMap, one, atom, power_of, replace, nth}
+use Rattle.um_units.specs.PowerMap.{one, atom, power_of, replace, nth}
 use Rattle.um_elim.specs.Turn.{substitute}
 use Rattle.um_proof.proofs.Loops.{next_is, next_set, next_left, all_set}
 use Rattle.um_proof.proofs.Times.{absent_without}

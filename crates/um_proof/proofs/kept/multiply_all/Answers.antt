@@ -1,9 +1,9 @@
-use Rattle.std.proofs.Common.{◌≡◌, ◌<◌, ◌≤◌, ◌∙◌, false, pos, sym, ap, subst, length, get_or, set, to_z, of_z, w32, refl, arith}
+use Rattle.std.proofs.Common.{◌≡◌, ◌<◌, ◌≤◌, ◌∙◌, false, pos, sym, ap, subst, length, to_z, of_z, w32, refl}
 use Rattle.std.proofs.lemmas.Int.{to_z-of_z}
 use Rattle.std.proofs.lemmas.List.{get_or_read, length-set}
 use Rattle.std.proofs.lemmas.Result.{err_from_is_err_and}
 use Rattle.um_units.specs.declared.Atom.TheVariants.{Var}
-use Rattle.um_units.specs.PowerMap.{PowerMap, atom, mul, pow, power_of, replace, nth}
+use Rattle.um_units.specs.PowerMap.{atom, mul, pow, power_of, replace, nth}
 use Rattle.um_elim.specs.Turn.{multiply}
 use Rattle.um_elim.proofs.Shear.{multiply_nothing}
 use Rattle.um_proof.specs.Steps.{CarriesPower}

@@ -1,6 +1,5 @@
-use Rattle.std.proofs.Common.{◌≡◌, ◌*◌, ◌≤◌, nat_abs, ℤ, w32, FitsSigned, sym, subst, arith, rules}
+use Rattle.std.proofs.Common.{◌*◌, sym, subst, arith}
 use Rattle.std.proofs.lemmas.Int.{ints}
-use Rattle.um_units.specs.PowerMap.{pow}
 use Rattle.um_wide.specs.Room.{IsWithin}
 use Rattle.um_wide.proofs.Rooms.{abs_32, within-pow, room-within}
 use Rattle.um_proof.proofs.kept.slot_parts.Goals as goal

@@ -1,9 +1,8 @@
-use Rattle.std.proofs.Common.{◌≡◌, ◌<◌, ◌≤◌, ◌+◌, ◌∙◌, ℕ, suc, List, length, Some, None, refl, sym, ap, subst, arith}
+use Rattle.std.proofs.Common.{◌≡◌, ◌<◌, ◌+◌, ℕ, suc, List, length, refl, sym, subst, arith}
 use Rattle.std.proofs.lemmas.List.{get_or-map, length-map}
 use Rattle.std.proofs.lemmas.List.Elements.{All-get_or}
-use Rattle.std.proofs.lemmas.Result.{err_from_is_err_and}
 use Rattle.um_units.specs.declared.Atom.TheVariants.{Var}
-use Rattle.um_units.specs.PowerMap.{PowerMap, atom, nth}
+use Rattle.um_units.specs.PowerMap.{PowerMap, atom}
 use Rattle.um_units.specs.Variables.{VariablesBelow}
 use Rattle.um_rows.specs.declared.row.Row.{Row}
 use Rattle.um_rows.specs.Steps.{units_of}
@@ -11,7 +10,7 @@ use Rattle.um_proof.specs.declared.kept.Head.{Head}
 use Rattle.um_proof.specs.declared.stop.CertStop.{CertStop}
 use Rattle.um_proof.specs.declared.stop.CertStop.TheVariants as stop
 use Rattle.um_proof.specs.Making.{Kept, IsReached}
-use Rattle.um_proof.specs.Steps.{Agrees, CarriesInRow, CarriesInRows, start}
+use Rattle.um_proof.specs.Steps.{CarriesInRow, CarriesInRows, start}
 use Rattle.um_proof.proofs.made.make_rows.Goals as goal
 
 abbrev unit_of : Row → PowerMap

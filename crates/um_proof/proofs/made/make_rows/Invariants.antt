@@ -1,4 +1,3 @@
-use Rattle.std.proofs.Common.{ℕ}
 use Rattle.um_rows.specs.Steps.{units_of}
 use Rattle.um_proof.specs.Making.{Kept, IsReached}
 use Rattle.um_proof.specs.Steps.{Agrees, start}

@@ -1,4 +1,4 @@
-use Rattle.std.proofs.Common.{◌≡◌, ◌≢◌, ◌<◌, ◌≤◌, ◌∙◌, ℕ, List, [], ◌∷◌, ◌++◌, map, take, length, get_or, ℤ, pos, negsuc, nat_abs, to_z, of_z, w64, FitsSigned, true, refl, sym, ap, subst, rules, arith}
+use Rattle.std.proofs.Common.{◌≡◌, ◌<◌, ◌≤◌, ◌∙◌, ℕ, List, [], ◌∷◌, ◌++◌, map, take, length, pos, nat_abs, to_z, of_z, w64, FitsSigned, true, sym, ap, subst, rules, arith}
 use Rattle.std.specs.Prelude.{All, slice_index_or}
 use Rattle.std.specs.Int.{w128}
 use Rattle.std.proofs.lemmas.Bool.{ltb-true}
@@ -8,11 +8,11 @@ use Rattle.std.proofs.lemmas.List.Elements.{All-nil, All-cons, All-head, All-tai
 use Rattle.um_units.specs.declared.Atom.{Atom}
 use Rattle.um_units.specs.declared.Atom.TheVariants.{Base, Var}
 use Rattle.um_units.specs.declared.Term.{Term}
-use Rattle.um_units.specs.PowerMap.{PowerMap, power_of, product}
-use Rattle.um_units.specs.Variables.{VariablesBelow, atom_below, variables_below}
+use Rattle.um_units.specs.PowerMap.{power_of, product}
+use Rattle.um_units.specs.Variables.{atom_below}
 use Rattle.um_units.proofs.Equality.{product-of_terms}
 use Rattle.um_wide.specs.declared.WideTerm.{WideTerm}
-use Rattle.um_wide.specs.WideTerms.{as_term, as_terms}
+use Rattle.um_wide.specs.WideTerms.{as_term}
 use Rattle.um_check.specs.declared.certificate.Part.{Part}
 use Rattle.um_check.specs.Combination.{NamesRowsBelow}
 use Rattle.um_proof.specs.Formed.{IsPowerIn}

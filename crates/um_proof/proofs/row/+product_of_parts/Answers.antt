@@ -1,14 +1,14 @@
-use Rattle.std.proofs.Common.{◌≡◌, ◌/◌, ◌+◌, ◌*◌, ◌<◌, ◌≤◌, ℕ, List, [], ◌∷◌, pos, ap, ◌∙◌, sym, subst, length, take, drop, rules, arith, get_or}
-use Rattle.std.specs.Prelude.{IfOk, IsTrue, slice_index_or}
+use Rattle.std.proofs.Common.{◌≡◌, ◌/◌, ◌+◌, ◌*◌, ◌≤◌, ℕ, List, pos, ◌∙◌, sym, subst, length, take, drop, rules, arith}
+use Rattle.std.specs.Prelude.{IfOk, IsTrue}
 use Rattle.std.proofs.lemmas.Result.{IfOk-weaker}
 use Rattle.std.proofs.lemmas.List.Elements.{All-get_or}
 use Rattle.um_units.specs.declared.Atom.TheVariants.{Base}
 use Rattle.um_units.specs.declared.Term.{Term}
-use Rattle.um_units.specs.PowerMap.{PowerMap, one, mul}
+use Rattle.um_units.specs.PowerMap.{PowerMap, mul}
 use Rattle.um_units.specs.Variables.{atom_below}
 use Rattle.um_wide.specs.Room.{IsWithin}
 use Rattle.um_wide.proofs.Rooms.{within-one, within-mul, within-weaker, room-within}
-use Rattle.um_proof.specs.Steps.{sign_of, variable_count, parts_product}
+use Rattle.um_proof.specs.Steps.{sign_of, variable_count}
 use Rattle.um_proof.proofs.Parts.{parts-none, parts-one, parts-halves, count-one, count-halves}
 use Rattle.um_proof.proofs.row.+product_of_parts.Goals as goal
 

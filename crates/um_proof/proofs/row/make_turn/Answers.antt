@@ -1,4 +1,4 @@
-use Rattle.std.proofs.Common.{◌≡◌, ◌<◌, ◌∙◌, inl, inr, ℕ, Bool, List, map, length, nat_abs, sym, ap, subst}
+use Rattle.std.proofs.Common.{◌<◌, inl, inr, ℕ, Bool, List, map, length, subst}
 use Rattle.std.proofs.lemmas.List.{length-map}
 use Rattle.std.proofs.lemmas.Result.{err_from_is_err_and}
 use Rattle.um_units.specs.PowerMap.{PowerMap, replace}

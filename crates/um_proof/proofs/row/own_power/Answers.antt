@@ -1,4 +1,4 @@
-use Rattle.std.proofs.Common.{◌≡◌, ◌≤◌, ◌∙◌, ℕ, true, false, ℤ, negsuc, pos, nat_abs, ◌*ℤ◌, sym, ap, subst, w64, arith}
+use Rattle.std.proofs.Common.{◌≡◌, ◌≤◌, ℕ, true, false, ℤ, nat_abs, ◌*ℤ◌, sym, subst, arith}
 use Rattle.std.specs.Prelude.{IfOk, Bool}
 use Rattle.std.proofs.lemmas.Int.{ints}
 use Rattle.std.proofs.lemmas.Result.{IfOk-weaker}

@@ -1,4 +1,4 @@
-use Rattle.std.proofs.Common.{◌≡◌, ◌<◌, ◌≤◌, ◌∙◌, true, false, ℤ, pos, nat_abs, ◌*ℤ◌, refl, sym, ap, subst, to_z, of_z, w32, w64, rules, arith}
+use Rattle.std.proofs.Common.{◌≡◌, ◌≤◌, ◌∙◌, true, false, ℤ, pos, nat_abs, ◌*ℤ◌, refl, sym, ap, subst, w32, w64, rules, arith}
 use Rattle.std.specs.Prelude.{slice_index_or}
 use Rattle.std.specs.Int.Signed.{◌<ℤ◌}
 use Rattle.std.specs.List.{list_any}

@@ -1,13 +1,13 @@
-use Rattle.std.proofs.Common.{◌≡◌, ◌≤◌, ◌*◌, ◌∙◌, ℤ, pos, ◌*ℤ◌, length, sym, ap, subst, to_z, of_z, w64, FitsSigned, rules, arith}
+use Rattle.std.proofs.Common.{◌≡◌, ◌≤◌, ◌*◌, ◌∙◌, ◌*ℤ◌, length, sym, ap, subst, w64, FitsSigned, rules, arith}
 use Rattle.std.specs.Prelude.{IfOk, IsTrue, All, MatchResult, slice_index_or}
 use Rattle.std.proofs.lemmas.Int.{to_z-of_z}
 use Rattle.um_units.specs.declared.Atom.TheVariants.{Var}
 use Rattle.um_units.specs.declared.Term.{Term}
-use Rattle.um_units.specs.PowerMap.{PowerMap, one, atom, mul, pow}
+use Rattle.um_units.specs.PowerMap.{PowerMap, one, atom, pow}
 use Rattle.um_units.specs.Variables.{atom_below}
 use Rattle.um_elim.specs.Turn.{signed}
-use Rattle.um_wide.specs.Room.{IsWithin, IsNarrow}
-use Rattle.um_wide.proofs.Rooms.{within-weaker, room-within}
+use Rattle.um_wide.specs.Room.{IsNarrow}
+use Rattle.um_wide.proofs.Rooms.{room-within}
 use Rattle.um_making.specs.Making.{total}
 use Rattle.um_proof.specs.Steps.{CarriesPower, sign_of, variable_count, parts_product}
 use Rattle.um_proof.proofs.Parts.{row_below, row_count, row_sum}

@@ -1,18 +1,16 @@
-use Rattle.std.proofs.Common.{◌≡◌, ◌<◌, ◌≤◌, ◌*◌, ◌+◌, ◌∙◌, Bool, true, false, ℤ, pos, negsuc, nat_abs, ◌*ℤ◌, List, [], ◌∷◌, length, sym, ap, subst, to_z, of_z, w32, w64, FitsSigned, rules, arith}
-use Rattle.std.specs.Prelude.{IfOk, IsTrue, All, if◌then◌else◌, slice_index_or}
+use Rattle.std.proofs.Common.{◌≡◌, ◌<◌, ◌*◌, ◌+◌, ◌∙◌, Bool, true, false, ℤ, nat_abs, ◌*ℤ◌, [], ◌∷◌, length, sym, ap, subst, to_z, of_z, w32, w64, FitsSigned, rules, arith}
+use Rattle.std.specs.Prelude.{IfOk, IsTrue, if◌then◌else◌, slice_index_or}
 use Rattle.std.proofs.lemmas.Bool.{ltb-true}
 use Rattle.std.proofs.lemmas.Int.{ints, to_z-of_z}
 use Rattle.std.proofs.lemmas.List.{get_or_default}
 use Rattle.std.proofs.lemmas.List.Elements.{All-get_or}
 use Rattle.std.proofs.lemmas.Result.{IfOk-weaker}
-use Rattle.um_units.specs.declared.Atom.{Atom}
-use Rattle.um_units.specs.declared.Atom.TheVariants.{Base, Var}
 use Rattle.um_units.specs.PowerMap.{PowerMap, one, pow}
 use Rattle.um_units.specs.Variables.{atom_below}
 use Rattle.um_units.proofs.Group.{one-pow}
 use Rattle.um_elim.specs.Pivot.{is_base}
 use Rattle.um_wide.specs.Room.{IsWithin, IsNarrow}
-use Rattle.um_wide.proofs.Rooms.{abs_32, within-one, within-pow, within-weaker}
+use Rattle.um_wide.proofs.Rooms.{abs_32, within-one, within-pow}
 use Rattle.um_making.specs.Making.{at_slot}
 use Rattle.um_proof.specs.Steps.{sign_of, variable_count}
 use Rattle.um_proof.proofs.row.slot_power.Goals as goal

@@ -1,8 +1,8 @@
-use Rattle.std.proofs.Common.{◌≡◌, ◌≤◌, ◌∙◌, true, false, ℤ, pos, negsuc, neg_ℤ, nat_abs, ◌-ℤ◌, sym, ap, subst, to_z, of_z, w32, FitsSigned}
+use Rattle.std.proofs.Common.{◌≡◌, ◌≤◌, ◌∙◌, true, false, ℤ, pos, neg_ℤ, nat_abs, ◌-ℤ◌, sym, ap, subst, to_z, of_z, w32, FitsSigned}
 use Rattle.std.specs.Prelude.{MatchResult}
 use Rattle.std.proofs.lemmas.Int.{to_z-of_z}
 use Rattle.um_units.specs.declared.Atom.TheVariants.{Var}
-use Rattle.um_units.specs.PowerMap.{PowerMap, mul, pow, power_of, replace}
+use Rattle.um_units.specs.PowerMap.{PowerMap, power_of, replace}
 use Rattle.um_units.proofs.Group.{power_of-inv}
 use Rattle.um_units.proofs.InRange.{fits-power_of}
 use Rattle.um_elim.specs.Turn.{multiply, signed}
