@@ -1,6 +1,7 @@
 -- What a judgement by rows says of how they are solved.
 use Rattle.std.proofs.Common.{◌≡◌, ◌⊎◌, inl, inr, ℕ, zero, suc, ◌≤◌, cond, List, [], ◌∷◌, take, refl, sym, ap, ◌∙◌, subst}
 use Rattle.std.specs.Prelude.{IsTrue, All}
+use Rattle.std.proofs.lemmas.List.Elements.{All-nil, All-cons, All-head, All-tail}
 use Rattle.um_units.specs.PowerMap.{PowerMap, nth}
 use Rattle.um_units.specs.Variables.{VariablesBelow}
 use Rattle.um_units.specs.Solutions.{IsJointSolution}
@@ -108,3 +109,8 @@ after_front m (suc n) (r ∷ rows) us k at e = found (eliminate us r.unit) (λ v
 
 pub front_unsolved : (rows : List Row) (us : List PowerMap) (last k at : ℕ) → solve 0 (rows_up_to last rows) us ≡ unsolved k at → solve 0 rows us ≡ unsolved k at
 front_unsolved rows us last k at e = after_front 0 (suc last) rows us k at e
+
+-- ---- rows and their units
+pub rows_low : (n : ℕ) (rows : List Row) → All (VariablesBelow n) (units_of rows) → All (λ (row : Row). VariablesBelow n row.unit) rows
+rows_low n [] low = All-nil (λ (row : Row). VariablesBelow n row.unit)
+rows_low n (r ∷ rows) low = All-cons (λ (row : Row). VariablesBelow n row.unit) r rows (All-head (VariablesBelow n) r.unit (units_of rows) low) (rows_low n rows (All-tail (VariablesBelow n) r.unit (units_of rows) low))

@@ -46,12 +46,6 @@ valid_no bases parameters loose rows row last refused c refuted le inside is_loo
         combined-rigid bases (fixed_slots loose parameters) rows c.parts (more_rows (suc row) (length rows) c.parts (omega (arith, le, inside)) named)
         ∙ ap (replace (rigid_unit bases (fixed_slots loose parameters))) (sym (replace-exponents rows c.parts) ∙ ap (replace (nth rows)) is_total)
 
--- where the makers answer a No, or that there is no memory for one
-pub no_answers : (bases parameters : ℕ) (r : Rows) (j : Judgement) (result : Result No CertStop) → IfOk result (λ c. IsValidNo bases parameters (units_of r.list.items.items) c × NamesRefusal j c) → IfErr result (λ e. e ≡ stop.NoMemory) → IsNoMade bases parameters r j result
-no_answers bases parameters r j (Ok c) h m = h
-no_answers bases parameters r j (Err (stop.CertRange z)) h m = absurd (cc m)
-no_answers bases parameters r j (Err stop.NoMemory) h m = tt
-
 module _ (bases parameters : ℕ) (r : Rows) (asked : AreFunctionRows bases parameters r) where
   abbrev head : Head
   head = record { slots = r.slots; parameters = parameters; bases = bases }
@@ -131,3 +125,16 @@ module _ (bases parameters : ℕ) (r : Rows) (asked : AreFunctionRows bases para
     loose_answers k place end (Ok c) valid last loose m = (valid, subst (λ j. NamesRefusal j c) (sym (loose_end k place end)) (last, loose))
     loose_answers k place end (Err (stop.CertRange z)) valid last loose m = inr ((row, by.place, loose_end k place end), m)
     loose_answers k place end (Err stop.NoMemory) valid last loose m = tt
+
+    -- the makers' answers by what the certificate's making says
+    pub own_answers : parameters ≡ 0 → (result : Result No CertStop) → IfOk result (λ c. c.loose ≡ true) → IfOk result (λ c. c.last ≡ row) → IfOk result (λ c. c.modulus ≡ refused.modulus) → IfOk result (λ c. exponents c.parts ≡ refused.total) →
+        ((n : ℕ) → VariablesBelow n refused.total → IfOk result (λ c. NamesRowsBelow n c.parts)) → IfErr result (λ e. e ≡ stop.NoMemory) → IsNoMade bases parameters r judgement result
+    own_answers none (Ok c) loose last modulus parts named memory = own_no none c loose last modulus parts (named (suc row) refuted.below)
+    own_answers none (Err (stop.CertRange z)) loose last modulus parts named memory = absurd (cc memory)
+    own_answers none (Err stop.NoMemory) loose last modulus parts named memory = tt
+
+    pub general_answers : (us : List PowerMap) → solve 0 (rows_up_to row r.list.items.items) (own_variables r.slots) ≡ solved us → (result : Result No CertStop) → IfOk result (λ c. c.loose ≡ false) → IfOk result (λ c. c.last ≡ row) → IfOk result (λ c. c.modulus ≡ refused.modulus) →
+        IfOk result (λ c. exponents c.parts ≡ refused.total) → ((n : ℕ) → VariablesBelow n refused.total → IfOk result (λ c. NamesRowsBelow n c.parts)) → IfErr result (λ e. e ≡ stop.NoMemory) → IsNoMade bases parameters r judgement result
+    general_answers us end (Ok c) loose last modulus parts named memory = general_no us end c loose last modulus parts (named (suc row) refuted.below)
+    general_answers us end (Err (stop.CertRange z)) loose last modulus parts named memory = absurd (cc memory)
+    general_answers us end (Err stop.NoMemory) loose last modulus parts named memory = tt

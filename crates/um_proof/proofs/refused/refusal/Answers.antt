@@ -1,0 +1,49 @@
+use Rattle.std.proofs.Common.{◌≡◌, suc, sym, ap, ◌∙◌, subst}
+use Rattle.std.specs.Prelude.{All}
+use Rattle.std.proofs.lemmas.List.Elements.{All-take}
+use Rattle.um_units.specs.Variables.{VariablesBelow}
+use Rattle.um_elim.specs.Solution.{own_variables}
+use Rattle.um_rows.specs.declared.row.Row.{Row}
+use Rattle.um_rows.specs.FirstUnsolvable.{solve, rows_up_to}
+use Rattle.um_proof.proofs.Judged.{rows_low}
+use Rattle.um_proof.proofs.ValidNo.{refuted, no_range, own_answers, general_answers, loose_answers}
+use Rattle.um_proof.proofs.refused.refusal.Goals as goal
+
+pub no_of-requires-clause-rows : goal.no_of-requires-clause-rows
+no_of-requires-clause-rows c =
+    let by = refuted c.args.bases c.args.units c.args.rows.now c.requires.rows c.args.row c.args.refused c.requires.refused c.requires.judged in by.closed
+
+pub returns-then-units-eq0 : goal.returns-then-units-eq0
+returns-then-units-eq0 c =
+    let f = c.no_of.ensures in
+    own_answers c.args.bases c.args.units c.args.rows.now c.requires.rows c.args.row c.args.refused c.requires.refused c.requires.judged c.if-units-eq0.true c.no_of.result f.loose f.last f.modulus f.parts f.named f.memory
+
+pub have_solution-requires-clause-rows : goal.have_solution-requires-clause-rows
+have_solution-requires-clause-rows c =
+    let r = c.args.rows.now in
+    let low = λ (row : Row). VariablesBelow r.slots row.unit in
+    subst (All low) (sym (c.up_to.ensures ∙ ap (rows_up_to c.args.row) c.deref.ensures.value)) (All-take low (suc c.args.row) r.list.items.items (rows_low r.slots r.list.items.items c.requires.rows.rows))
+
+pub have_solution-requires-clause-range : goal.have_solution-requires-clause-range
+have_solution-requires-clause-range c = λ at e.
+    let r = c.args.rows.now in
+    no_range c.args.bases c.args.units r c.requires.rows c.args.row c.args.refused c.requires.refused c.requires.judged at
+    (ap (λ rs. solve 0 rs (own_variables r.slots)) (sym (c.up_to.ensures ∙ ap (rows_up_to c.args.row) c.deref.ensures.value)) ∙ e)
+
+pub no_of-requires-in-Ok-true-clause-rows : goal.no_of-requires-in-Ok-true-clause-rows
+no_of-requires-in-Ok-true-clause-rows c =
+    let by = refuted c.args.bases c.args.units c.args.rows.now c.requires.rows c.args.row c.args.refused c.requires.refused c.requires.judged in by.closed
+
+pub loose_no-requires-clause-rows : goal.loose_no-requires-clause-rows
+loose_no-requires-clause-rows c =
+    let r = c.args.rows.now in
+    subst (All (λ (row : Row). VariablesBelow r.slots row.unit)) (sym c.deref-2.ensures.value) (rows_low r.slots r.list.items.items c.requires.rows.rows)
+
+pub loose_no-requires-clause-refused : goal.loose_no-requires-clause-refused
+loose_no-requires-clause-refused c = ?
+
+pub returns-in-Ok-true : goal.returns-in-Ok-true
+returns-in-Ok-true c = ?
+
+pub returns-in-Ok-false : goal.returns-in-Ok-false
+returns-in-Ok-false c = ?
