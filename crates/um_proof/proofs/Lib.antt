@@ -16,6 +16,7 @@ mod Renamed
 mod SameEquations
 mod GivenSchemes
 mod FunctionRows
+mod FunctionAnswers
 mod WayBackSteps
 mod Closed
 mod DeclaredUnits

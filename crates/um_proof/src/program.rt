@@ -138,9 +138,9 @@ fn yes_of(alloc: Global, shaped: &Shaped, i: u32, schemes: &Schemes) -> Result<Y
         → IfOk result (IsYesOf (program_tree shaped.now) (scheme_trees schemes.now) i f s) }
     ensures range { IfErr result (CarriesInFunction (program_tree shaped.now) i) }
 {
+    let bases = base_count(shaped);
     let equations = rows_of(alloc, shaped, i, schemes)?;
     let units = unit_count(shaped, i);
-    let bases = base_count(shaped);
     let made = make_yes(alloc, &equations, units, bases, &schemes.items[i as usize]);
     drop(equations);
     made
@@ -153,9 +153,9 @@ fn refusal_of(alloc: Global, shaped: &Shaped, i: u32, schemes: &Schemes) -> Resu
         (infer (program_tree shaped.now)) (Some no)) }
     ensures range { IfErr result (CarriesInFunction (program_tree shaped.now) i) }
 {
+    let bases = base_count(shaped);
     let equations = rows_of(alloc, shaped, i, schemes)?;
     let units = unit_count(shaped, i);
-    let bases = base_count(shaped);
     let made = make_no(alloc, &equations, units, bases);
     drop(equations);
     made
