@@ -1,1 +1,2 @@
 mod NumberedTexts
+mod Examples

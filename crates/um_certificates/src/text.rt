@@ -41,13 +41,24 @@ fn push_all(
         (λ i. text_of_yes program.now.bases (name_of_function (program_tree program.now) i)) 0 yes.now) }
 {
     for i in 0..yes.len() {
-        push_yes(alloc, text, function_name(program, i), &program.bases, &yes[i])?;
+        push_yes(
+            alloc,
+            text,
+            function_name(program, i),
+            &program.bases,
+            &yes[i],
+        )?;
     }
     Ok(())
 }
 
 /// Adds the certificate that function i has no scheme, where there is one.
-fn push_refusal(text: &mut Vec<u8>, program: &Program, i: usize, no: &Option<No>) -> Result<(), AllocError>
+fn push_refusal(
+    text: &mut Vec<u8>,
+    program: &Program,
+    i: usize,
+    no: &Option<No>,
+) -> Result<(), AllocError>
     ensures { OnOk result (text.new.items ≡ text.old.items ++ refusal_text (program_tree program.now) i no.now) }
 {
     match no {
@@ -97,7 +108,13 @@ fn push_yes(
 }
 
 /// Adds the line of a name, a kind and two numbers.
-fn push_heading(text: &mut Vec<u8>, name: &[u8], kind: &[u8], n: usize, k: i64) -> Result<(), AllocError>
+fn push_heading(
+    text: &mut Vec<u8>,
+    name: &[u8],
+    kind: &[u8],
+    n: usize,
+    k: i64,
+) -> Result<(), AllocError>
     ensures { OnOk result (text.new.items ≡ text.old.items ++ heading name.now kind.now n k) }
 {
     text.extend_from_slice(name)?;
@@ -123,7 +140,13 @@ pub fn no_text(alloc: Global, name: &Name, cert: &No) -> Result<Vec<u8>, NoMemor
 fn push_no(text: &mut Vec<u8>, name: &[u8], cert: &No) -> Result<(), AllocError>
     ensures { OnOk result (text.new.items ≡ text.old.items ++ text_of_no name.now cert.now) }
 {
-    push_heading(text, name, kind_text(cert.loose), cert.last as usize + 1, cert.modulus)?;
+    push_heading(
+        text,
+        name,
+        kind_text(cert.loose),
+        cert.last as usize + 1,
+        cert.modulus,
+    )?;
     text.extend_from_slice(b"  rows: ")?;
     push_parts(text, cert.parts.as_slice())?;
     text.push(b'\n')?;

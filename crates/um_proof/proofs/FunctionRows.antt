@@ -47,7 +47,7 @@ module _ (bases : ℕ) (records : List RecordTree) (schemes : List SchemeTree) (
     pub in_range : first_past (slot_equations records schemes i f).steps ≡ None
     pub by : by_rows bases f.units (slot_count records schemes i f) f.at (slot_signature records schemes i f) (rows_of (slot_equations records schemes i f).steps) ≡ j
 
-  own : Judgement
+  abbrev own : Judgement
   own = by_rows bases f.units (slot_count records schemes i f) f.at (slot_signature records schemes i f) (rows_of (slot_equations records schemes i f).steps)
 
   in_range_by : (o : Option ℕ) (j : Judgement) → IsUnlimited j → first_past (slot_equations records schemes i f).steps ≡ o → slot_count records schemes i f ≤ 2000 → by_range o own ≡ j → HasJudgement j

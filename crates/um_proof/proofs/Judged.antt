@@ -1,5 +1,5 @@
 -- What a judgement by rows says of how they are solved.
-use Rattle.std.proofs.Common.{◌≡◌, ◌⊎◌, inl, inr, ℕ, zero, suc, ◌≤◌, cond, List, [], ◌∷◌, take, refl, sym, ap, ◌∙◌, subst}
+use Rattle.std.proofs.Common.{◌≡◌, ◌⊎◌, inl, inr, ℕ, zero, suc, ◌+◌, ◌<◌, ◌≤◌, cond, List, [], ◌∷◌, take, refl, sym, ap, ◌∙◌, subst, arith}
 use Rattle.std.specs.Prelude.{IsTrue, All}
 use Rattle.std.proofs.lemmas.List.Elements.{All-nil, All-cons, All-head, All-tail}
 use Rattle.um_units.specs.PowerMap.{PowerMap, nth}
@@ -107,6 +107,20 @@ after_front m (suc n) (r ∷ rows) us k at e = found (eliminate us r.unit) (λ v
     found NoSolution more h = h
     found Range more h = h
 
+-- and the row is one of the front
+inside_front : (m n : ℕ) (rows : List Row) (us : List PowerMap) (k at : ℕ) → solve m (take n rows) us ≡ unsolved k at → k < m + n
+inside_front m zero rows us k at e = absurd (cc e)
+inside_front m (suc n) [] us k at e = absurd (cc e)
+inside_front m (suc n) (r ∷ rows) us k at e = found (eliminate us r.unit) (λ vs h. inside_front (suc m) n rows vs k at h) e
+  where
+    found : (o : Elimination) → ((vs : List PowerMap) → solve (suc m) (take n rows) vs ≡ unsolved k at → k < suc m + n) → after_row m r.at o (solve (suc m) (take n rows)) ≡ unsolved k at → k < m + suc n
+    found (Solved vs) more h = let l = more vs h in omega (arith, l)
+    found NoSolution more h = let same : m ≡ k = cc h in omega (arith, same)
+    found Range more h = absurd (cc h)
+
+pub front_inside : (rows : List Row) (us : List PowerMap) (last k at : ℕ) → solve 0 (rows_up_to last rows) us ≡ unsolved k at → k ≤ last
+front_inside rows us last k at e = let l = inside_front 0 (suc last) rows us k at e in omega (arith, l)
+
 pub front_unsolved : (rows : List Row) (us : List PowerMap) (last k at : ℕ) → solve 0 (rows_up_to last rows) us ≡ unsolved k at → solve 0 rows us ≡ unsolved k at
 front_unsolved rows us last k at e = after_front 0 (suc last) rows us k at e
 
@@ -114,3 +128,7 @@ front_unsolved rows us last k at e = after_front 0 (suc last) rows us k at e
 pub rows_low : (n : ℕ) (rows : List Row) → All (VariablesBelow n) (units_of rows) → All (λ (row : Row). VariablesBelow n row.unit) rows
 rows_low n [] low = All-nil (λ (row : Row). VariablesBelow n row.unit)
 rows_low n (r ∷ rows) low = All-cons (λ (row : Row). VariablesBelow n row.unit) r rows (All-head (VariablesBelow n) r.unit (units_of rows) low) (rows_low n rows (All-tail (VariablesBelow n) r.unit (units_of rows) low))
+
+pub units_low : (n : ℕ) (rows : List Row) → All (λ (row : Row). VariablesBelow n row.unit) rows → All (VariablesBelow n) (units_of rows)
+units_low n [] low = All-nil (VariablesBelow n)
+units_low n (r ∷ rows) low = All-cons (VariablesBelow n) r.unit (units_of rows) (All-head (λ (row : Row). VariablesBelow n row.unit) r rows low) (units_low n rows (All-tail (λ (row : Row). VariablesBelow n row.unit) r rows low))

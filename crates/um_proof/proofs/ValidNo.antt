@@ -3,9 +3,11 @@ use Rattle.std.proofs.Common.{◌≡◌, inl, inr, ℕ, suc, ◌<◌, ◌≤◌,
 use Rattle.std.specs.Prelude.{Bool, true, false, All, IfOk, IfErr}
 use Rattle.std.specs.Int.Signed.{◌≤ℤ◌}
 use Rattle.std.proofs.lemmas.List.{length-map}
-use Rattle.um_units.specs.PowerMap.{PowerMap, replace, nth}
+use Rattle.std.proofs.lemmas.List.Elements.{All-from_get_or}
+use Rattle.um_units.specs.PowerMap.{PowerMap, one, replace, nth}
 use Rattle.um_units.specs.Variables.{VariablesBelow}
 use Rattle.um_elim.specs.Solution.{own_variables, rigid_unit, rigid_units}
+use Rattle.um_elim.proofs.Slots.{rigid-own}
 use Rattle.um_rows.specs.declared.row.Row.{Row}
 use Rattle.um_rows.specs.declared.row.Rows.{Rows}
 use Rattle.um_rows.specs.Answers.{rows_signature}
@@ -23,10 +25,11 @@ use Rattle.um_proof.specs.declared.kept.Head.{Head}
 use Rattle.um_proof.specs.declared.row.Refused.{Refused}
 use Rattle.um_proof.specs.declared.stop.CertStop.{CertStop}
 use Rattle.um_proof.specs.declared.stop.CertStop.TheVariants as stop
-use Rattle.um_proof.specs.Answers.{AreFunctionRows, judged, NamesRefusal, IsRefused, IsNoMade}
+use Rattle.um_proof.specs.Answers.{HoldsNoParameter, AreFunctionRows, judged, NamesRefusal, IsRefused, IsNoMade}
 use Rattle.um_proof.specs.Steps.{AreRefused, CarriesInRows}
-use Rattle.um_proof.proofs.Judged.{IsRefusedBy, judged_refused, own_unsolved}
-use Rattle.um_proof.proofs.Solving.{refused_unsolved}
+use Rattle.um_proof.specs.Making.{Kept, IsReached, first}
+use Rattle.um_proof.proofs.Judged.{IsRefusedBy, judged_refused, own_unsolved, front_unsolved, front_inside, units_low}
+use Rattle.um_proof.proofs.Solving.{reached_solved, refused_unsolved}
 use Rattle.um_proof.proofs.Refusals.{RefutedBy, refused_apart}
 
 pub valid_no : (bases parameters : ℕ) (loose : Bool) (rows : List PowerMap) (row last : ℕ) (refused : Refused) (c : No) → RefutedBy bases (fixed_slots loose parameters) rows row refused → row ≤ last → last < length rows →
@@ -63,6 +66,16 @@ module _ (bases parameters : ℕ) (r : Rows) (asked : AreFunctionRows bases para
   rows_pass j (stop.CertRange z) h = inl h
   rows_pass j stop.NoMemory h = tt
 
+  -- rows that are judged to be refused are not made
+  pub never_made : (kept : Kept) → IsRefused judgement → IsReached rows (first bases parameters r.slots) (length r.list.items.items) kept → ⊥
+  never_made kept so reached =
+      let w = judged_refused bases parameters r.slots 0 (rows_signature r) r.list.items.items so in
+      let f = w.unsolvable in
+      elim (reached_solved bases parameters r.slots r.list.items.items kept asked.parameters_within asked.rows reached) [
+        | inl e ↦ cc (sym e ∙ f)
+        | inr u ↦ let e = u.1 in cc (sym e ∙ f)
+      ]
+
   module _ (row : ℕ) (refused : Refused) (made : AreRefused head r.list.items.items row refused) (so : IsRefused judgement) where
     inside : row < length rows
     inside = subst (λ n. row < n) (sym long) made.1
@@ -70,7 +83,7 @@ module _ (bases parameters : ℕ) (r : Rows) (asked : AreFunctionRows bases para
     pub refuted : RefutedBy bases parameters rows row refused
     refuted = refused_apart bases parameters r.slots rows row made.0 refused asked.parameters_within asked.rows asked.declared_rows inside made.2 made.3
 
-    by : IsRefusedBy bases parameters r.slots 0 (rows_signature r) r.list.items.items judgement
+    pub by : IsRefusedBy bases parameters r.slots 0 (rows_signature r) r.list.items.items judgement
     by = judged_refused bases parameters r.slots 0 (rows_signature r) r.list.items.items so
 
     at_row : by.row ≡ row
@@ -138,3 +151,42 @@ module _ (bases parameters : ℕ) (r : Rows) (asked : AreFunctionRows bases para
     general_answers us end (Ok c) loose last modulus parts named memory = general_no us end c loose last modulus parts (named (suc row) refuted.below)
     general_answers us end (Err (stop.CertRange z)) loose last modulus parts named memory = absurd (cc memory)
     general_answers us end (Err stop.NoMemory) loose last modulus parts named memory = tt
+
+-- ---- rows that have no solution up to the last with the unit parameters as slots like the others
+module _ (bases slots : ℕ) (list : List Row) (low : All (λ (row : Row). VariablesBelow slots row.unit) list) (last : ℕ) (inside : last < length list) (unsolvable : (k at : ℕ) × (solve 0 (rows_up_to last list) (own_variables slots) ≡ unsolved k at)) where
+  low_units : All (VariablesBelow slots) (units_of list)
+  low_units = units_low slots list low
+
+  none : All (HoldsNoParameter bases 0) (units_of list)
+  none = All-from_get_or (HoldsNoParameter bases 0) (units_of list) one (λ j l i h. absurd (omega (arith, h)))
+
+  whole : solve 0 list (rigid_units bases 0 slots) ≡ unsolved unsolvable.0 unsolvable.1
+  whole = ap (solve 0 list) (rigid-own bases slots) ∙ front_unsolved list (own_variables slots) last unsolvable.0 unsolvable.1 unsolvable.2
+
+  pub never_made_loosely : (kept : Kept) → IsReached (units_of list) (first bases 0 slots) (length list) kept → ⊥
+  never_made_loosely kept reached =
+      let f = whole in
+      elim (reached_solved bases 0 slots list kept (omega arith) low_units reached) [
+        | inl e ↦ cc (sym e ∙ f)
+        | inr u ↦ let e = u.1 in cc (sym e ∙ f)
+      ]
+
+  module _ (row : ℕ) (refused : Refused) (made : AreRefused (record { slots = slots; parameters = 0; bases = bases }) list row refused) where
+    pub loose_refuted : RefutedBy bases 0 (units_of list) row refused
+    loose_refuted = refused_apart bases 0 slots (units_of list) row made.0 refused (omega arith) low_units none (subst (λ n. row < n) (sym (length-map list (λ (r : Row). r.unit))) made.1) made.2 made.3
+
+    row_is : unsolvable.0 ≡ row
+    row_is =
+        let f = whole in
+        elim (refused_unsolved bases 0 slots list row made.0 refused (omega arith) low_units made.1 made.2 made.3) [
+          | inl u ↦ let e = u.1 in let both : unsolved unsolvable.0 unsolvable.1 ≡ unsolved row u.0 = sym f ∙ e in cc both
+          | inr u ↦ let e = u.1 in absurd (cc (sym e ∙ f))
+        ]
+
+    pub loose_valid : (parameters : ℕ) (result : Result No CertStop) → IfOk result (λ c. c.loose ≡ true) → IfOk result (λ c. c.last ≡ last) → IfOk result (λ c. c.modulus ≡ refused.modulus) → IfOk result (λ c. exponents c.parts ≡ refused.total) →
+        ((n : ℕ) → VariablesBelow n refused.total → IfOk result (λ c. NamesRowsBelow n c.parts)) → IfOk result (IsValidNo bases parameters (units_of list))
+    loose_valid parameters (Ok c) is_loose is_last is_modulus is_total named =
+        let l = front_inside list (own_variables slots) last unsolvable.0 unsolvable.1 unsolvable.2 in
+        let e = row_is in
+        valid_no bases parameters true (units_of list) row last refused c loose_refuted (omega (arith, l, e)) (subst (λ n. last < n) (sym (length-map list (λ (r : Row). r.unit))) inside) is_loose is_last is_modulus is_total (named (suc row) loose_refuted.below)
+    loose_valid parameters (Err e) is_loose is_last is_modulus is_total named = tt

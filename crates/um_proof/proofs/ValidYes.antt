@@ -1,8 +1,9 @@
 -- What is kept after all rows, with the variables of its solution numbered, is a valid Yes.
-use Rattle.std.proofs.Common.{◌≡◌, ◌≢◌, inl, inr, ℕ, zero, suc, ◌+◌, ◌<◌, ◌≤◌, cond, List, [], ◌∷◌, ◌++◌, map, length, get_or, nat_abs, ℤ, pos, Result, Ok, Err, refl, sym, ap, ◌∙◌, subst, arith}
+use Rattle.std.proofs.Common.{◌≡◌, ◌≢◌, inl, inr, ℕ, zero, suc, ◌+◌, ◌<◌, ◌≤◌, false, cond, List, [], ◌∷◌, ◌++◌, map, length, get_or, ℤ, pos, Err, refl, sym, ap, ◌∙◌, subst, arith}
 use Rattle.std.specs.Prelude.{All, IsTrue, nat_eq, slice_index_or}
 use Rattle.std.specs.Int.Signed.{◌<ℤ◌}
 use Rattle.std.specs.List.{flat_map, list_any}
+use Rattle.std.proofs.lemmas.Bool.Decides.{nat_tests}
 use Rattle.std.proofs.lemmas.List.{length-map, get_or-map, get_or_default}
 use Rattle.std.proofs.lemmas.List.Elements.{All-get_or, All-from_get_or}
 use Rattle.um_units.specs.declared.Atom.TheVariants.{Base, Var}
@@ -39,26 +40,29 @@ use Rattle.um_making.specs.Making.{exponents}
 use Rattle.um_making.proofs.Certificates.{replace-exponents}
 use Rattle.um_proof.specs.declared.kept.Head.{Head}
 use Rattle.um_proof.specs.declared.kept.Making.{Making}
-use Rattle.um_proof.specs.declared.renaming.Renaming.{Renaming}
+use Rattle.um_proof.specs.declared.row.Refused.{Refused}
 use Rattle.um_proof.specs.declared.stop.CertStop.{CertStop}
 use Rattle.um_proof.specs.declared.stop.CertStop.TheVariants as stop
 use Rattle.um_proof.specs.Making.{Kept, IsReached, first}
 use Rattle.um_proof.specs.Formed.{IsPowerIn}
 use Rattle.um_proof.specs.Answers.{AreFunctionRows, judged, IsYesMade}
-use Rattle.um_proof.specs.Steps.{Agrees, CarriesInRows, CarriesPower, CarriesReturned}
+use Rattle.um_proof.specs.Steps.{Agrees, AreRefused, CarriesInRows, CarriesPower, CarriesReturned}
 use Rattle.um_proof.specs.Renaming.{to_number, held_variables, certificate_order, general_units, GoBack, IsRenamed}
 use Rattle.um_proof.proofs.Prefix.{numbered_in_front}
 use Rattle.um_proof.proofs.General.{general_solution, signature_moved, signature_fits_in_place, all_general_below}
 use Rattle.um_proof.proofs.HeldVariables.{member_of_unit, member_of_held, in_order, renamed_below}
 use Rattle.um_proof.proofs.Judged.{judged_solved, solution_below, solution_joint}
 use Rattle.um_proof.proofs.Reached.{ReachedState, reached_state}
-use Rattle.um_proof.proofs.Solving.{reached_solved}
+use Rattle.um_proof.proofs.Solving.{reached_solved, refused_unsolved}
 use Rattle.um_proof.proofs.WayBack.{back_is}
 
 -- with unit parameters the closed units, and else none
 shows_general : (bases slots parameters : ℕ) (rows units closed : List PowerMap) → units ≡ cond (nat_eq parameters 0) [] closed → IsJointSolution slots rows closed → IsRigid bases parameters closed → ShowsGeneral bases slots parameters rows units
 shows_general bases slots zero rows units closed e joint rigid = e
-shows_general bases slots (suc n) rows units closed e joint rigid = (subst (IsJointSolution slots rows) (sym e) joint, subst (IsRigid bases (suc n)) (sym e) rigid)
+shows_general bases slots (suc n) rows units closed e joint rigid =
+    let off : nat_eq (suc n) 0 ≡ false = grind (arith, nat_tests) in
+    let same : units ≡ closed = e ∙ ap (λ b. cond b [] closed) off in
+    (subst (IsJointSolution slots rows) (sym same) joint, subst (IsRigid bases (suc n)) (sym same) rigid)
 
 module _ (bases parameters : ℕ) (r : Rows) (asked : AreFunctionRows bases parameters r) where
   abbrev pub head : Head
@@ -86,6 +90,16 @@ module _ (bases parameters : ℕ) (r : Rows) (asked : AreFunctionRows bases para
   pub rows_pass : (s : SchemeTree) (e : CertStop) → CarriesInRows head r.list.items.items e → IsYesMade bases parameters r s (Err e)
   rows_pass s (stop.CertRange z) h = inl h
   rows_pass s stop.NoMemory h = tt
+
+  -- rows that are judged to have a scheme are not refused
+  pub never_refused : (at : ℕ) (s : SchemeTree) (row : ℕ) (refused : Refused) → judged bases parameters at r ≡ has_scheme s → AreRefused head r.list.items.items row refused → ⊥
+  never_refused at s row refused so made =
+      let w = judged_solved bases parameters r.slots at g r.list.items.items s so in
+      let f = w.solves in
+      elim (refused_unsolved bases parameters r.slots r.list.items.items row made.0 refused asked.parameters_within asked.rows made.1 made.2 made.3) [
+        | inl u ↦ let e = u.1 in cc (sym e ∙ f)
+        | inr u ↦ let e = u.1 in cc (sym e ∙ f)
+      ]
 
   module _ (making : Making) (kept : Kept) (agrees : Agrees head making kept) (reached : IsReached rows starts number kept) (at : ℕ) (s : SchemeTree) (so : judged bases parameters at r ≡ has_scheme s) where
     abbrev units : List PowerMap
@@ -184,7 +198,7 @@ module _ (bases parameters : ℕ) (r : Rows) (asked : AreFunctionRows bases para
       pub end_passes : (e : CertStop) → CarriesReturned renamed back e → IsYesMade bases parameters r s (Err e)
       end_passes (stop.CertRange z) h =
           let l : h.0 < r.slots = subst (λ n. h.0 < n) long_renamed h.1 in
-          inr (kept, reached, h.0, subst (λ n. h.0 < n) (sym count) l, subst (IsPowerIn z) (goes_back h.0 l) h.2, h.3)
+          inr (kept, subst (λ n. IsReached rows starts n kept) (sym long) reached, h.0, subst (λ n. h.0 < n) (sym count) l, subst (IsPowerIn z) (goes_back h.0 l) h.2, h.3)
       end_passes stop.NoMemory h = tt
 
       -- ---- all together

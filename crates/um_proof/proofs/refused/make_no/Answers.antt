@@ -1,9 +1,13 @@
-use Rattle.std.proofs.Common.{sym, subst}
+use Rattle.std.proofs.Common.{length, sym, subst}
 use Rattle.std.specs.Prelude.{All}
 use Rattle.um_units.specs.Variables.{VariablesBelow}
 use Rattle.um_rows.specs.declared.row.Row.{Row}
+use Rattle.um_rows.specs.Steps.{units_of}
+use Rattle.um_proof.specs.Answers.{judged}
+use Rattle.um_proof.specs.Making.{IsReached, first}
+use Rattle.um_proof.specs.Steps.{AreRefused, CarriesInRows}
 use Rattle.um_proof.proofs.Judged.{rows_low}
-use Rattle.um_proof.proofs.ValidNo.{rows_pass}
+use Rattle.um_proof.proofs.ValidNo.{rows_pass, never_made}
 use Rattle.um_proof.proofs.refused.make_no.Goals as goal
 
 pub make_rows-requires-clause-rows : goal.make_rows-requires-clause-rows
@@ -12,10 +16,21 @@ make_rows-requires-clause-rows c =
     subst (All (λ (row : Row). VariablesBelow r.slots row.unit)) (sym c.deref.ensures.value) (rows_low r.slots r.list.items.items c.requires.rows.rows)
 
 pub refusal-requires-clause-refused : goal.refusal-requires-clause-refused
-refusal-requires-clause-refused c = ?
+refusal-requires-clause-refused c =
+    let made = rw c.in-Ok-Refused.field-0-is at c.in-Ok-Refused.ensures in
+    subst (λ rs. AreRefused (record { slots = c.args.rows.now.slots; parameters = c.args.units; bases = c.args.bases }) rs c.in-Ok-Refused.row c.in-Ok-Refused.refused) c.deref.ensures.value made
 
 pub unreachable-requires : goal.unreachable-requires
-unreachable-requires c = ?
+unreachable-requires c =
+    let r = c.args.rows.now in
+    let made = rw c.in-Ok-Made.field-0-is at c.in-Ok-Made.ensures in
+    never_made c.args.bases c.args.units r c.requires.rows made.0 c.requires.refused
+    (subst (λ rs. IsReached (units_of rs) (first c.args.bases c.args.units r.slots) (length rs) made.0) c.deref.ensures.value made.1)
 
 pub returns-in-Err : goal.returns-in-Err
-returns-in-Err c = ?
+returns-in-Err c =
+    let r = c.args.rows.now in
+    record {
+      made = rows_pass c.args.bases c.args.units r c.requires.rows (judged c.args.bases c.args.units 0 r) c.in-Err.stop
+          (subst (λ rs. CarriesInRows (record { slots = r.slots; parameters = c.args.units; bases = c.args.bases }) rs c.in-Err.stop) c.deref.ensures.value c.in-Err.ensures);
+    }

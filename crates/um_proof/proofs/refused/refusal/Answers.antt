@@ -1,10 +1,13 @@
 use Rattle.std.proofs.Common.{◌≡◌, suc, sym, ap, ◌∙◌, subst}
-use Rattle.std.specs.Prelude.{All}
+use Rattle.std.specs.Prelude.{All, IfOk, IfErr}
 use Rattle.std.proofs.lemmas.List.Elements.{All-take}
 use Rattle.um_units.specs.Variables.{VariablesBelow}
 use Rattle.um_elim.specs.Solution.{own_variables}
 use Rattle.um_rows.specs.declared.row.Row.{Row}
 use Rattle.um_rows.specs.FirstUnsolvable.{solve, rows_up_to}
+use Rattle.um_rows.specs.Steps.{units_of}
+use Rattle.um_check.specs.Refutation.{IsValidNo}
+use Rattle.um_proof.specs.Steps.{CarriesInRows}
 use Rattle.um_proof.proofs.Judged.{rows_low}
 use Rattle.um_proof.proofs.ValidNo.{refuted, no_range, own_answers, general_answers, loose_answers}
 use Rattle.um_proof.proofs.refused.refusal.Goals as goal
@@ -37,13 +40,28 @@ no_of-requires-in-Ok-true-clause-rows c =
 pub loose_no-requires-clause-rows : goal.loose_no-requires-clause-rows
 loose_no-requires-clause-rows c =
     let r = c.args.rows.now in
-    subst (All (λ (row : Row). VariablesBelow r.slots row.unit)) (sym c.deref-2.ensures.value) (rows_low r.slots r.list.items.items c.requires.rows.rows)
+    subst (All (λ (row : Row). VariablesBelow r.slots row.unit)) (sym c.deref-in-Ok-false.ensures.value) (rows_low r.slots r.list.items.items c.requires.rows.rows)
 
 pub loose_no-requires-clause-refused : goal.loose_no-requires-clause-refused
-loose_no-requires-clause-refused c = ?
+loose_no-requires-clause-refused c =
+    let w = c.in-Ok-false.ensures.unsolved c.in-Ok-false.field-0-test in
+    (w.0, w.1, ap (λ rs. solve 0 rs (own_variables c.args.rows.now.slots)) (ap (rows_up_to c.args.row) (c.deref-in-Ok-false.ensures.value ∙ sym c.deref.ensures.value) ∙ sym c.up_to.ensures) ∙ w.2)
 
 pub returns-in-Ok-true : goal.returns-in-Ok-true
-returns-in-Ok-true c = ?
+returns-in-Ok-true c =
+    let r = c.args.rows.now in
+    let w = c.in-Ok-true.ensures.solved c.in-Ok-true.field-0-test in
+    let f = c.no_of-in-Ok-true.ensures in
+    general_answers c.args.bases c.args.units r c.requires.rows c.args.row c.args.refused c.requires.refused c.requires.judged w.0
+    (ap (λ rs. solve 0 rs (own_variables r.slots)) (sym (c.up_to.ensures ∙ ap (rows_up_to c.args.row) c.deref.ensures.value)) ∙ w.1) c.no_of-in-Ok-true.result f.loose f.last f.modulus f.parts f.named f.memory
 
 pub returns-in-Ok-false : goal.returns-in-Ok-false
-returns-in-Ok-false c = ?
+returns-in-Ok-false c =
+    let r = c.args.rows.now in
+    let w = c.in-Ok-false.ensures.unsolved c.in-Ok-false.field-0-test in
+    let f = c.loose_no.ensures in
+    let list = c.deref-in-Ok-false.ensures.value in
+    loose_answers c.args.bases c.args.units r c.requires.rows c.args.row c.args.refused c.requires.refused c.requires.judged w.0 w.1
+    (ap (λ rs. solve 0 rs (own_variables r.slots)) (sym (c.up_to.ensures ∙ ap (rows_up_to c.args.row) c.deref.ensures.value)) ∙ w.2) c.loose_no.result
+    (subst (λ rs. IfOk c.loose_no.result (IsValidNo c.args.bases c.args.units (units_of rs))) list (f.valid c.args.units)) f.last f.loose
+    (subst (λ rs. IfErr c.loose_no.result (CarriesInRows (record { slots = r.slots; parameters = 0; bases = c.args.bases }) rs)) list f.range)

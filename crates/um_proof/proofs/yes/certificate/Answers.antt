@@ -65,13 +65,13 @@ with_parts-requires-clause-rows c =
     let k = c.requires.reached in let j = c.requires.judged in
     parts_closed c.args.bases c.args.units c.args.rows.now c.args.making.now k.0 k.2 (state c.args.bases c.args.units c.args.rows.now c.requires.rows c.args.making.now k.0 k.2 k.1 j.0 j.1 j.2)
 
-pub returns : goal.returns
-returns c = λ at s so.
+pub returns-in_ok-with_parts-in-Ok : goal.returns-in_ok-with_parts-in-Ok
+returns-in_ok-with_parts-in-Ok c = λ at s so.
     let k = c.requires.reached in
     let r = c.args.rows.now in
     let h = head c.args.bases c.args.units r c.requires.rows in
-    let yes = c.in_ok-with_parts.field-0 in
-    let facts = c.in_ok-with_parts.ensures in
+    let yes = c.in_ok-with_parts-in-Ok.field-0 in
+    let facts = c.in_ok-with_parts-in-Ok.ensures in
     let is : IsRenamed h (rows_signature r) k.0.solution c.args.making.now.back.items c.in_ok-renaming.renaming =
     subst (λ us. IsRenamed h (rows_signature r) us c.args.making.now.back.items c.in_ok-renaming.renaming) (c.deref.ensures.value ∙ k.2.solution)
     (subst (λ bs. IsRenamed h (rows_signature r) c.deref.result.now bs c.in_ok-renaming.renaming) c.deref-2.ensures.value c.in_ok-renaming.ensures) in
