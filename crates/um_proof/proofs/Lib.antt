@@ -1,4 +1,5 @@
 mod Limits
+mod Times
 mod Loops
 mod Turning
 mod TurnEnds
@@ -15,9 +16,7 @@ mod Renamed
 mod SameEquations
 mod GivenSchemes
 mod FunctionRows
-mod RefusedFunction
-mod GivenFunction
-mod ProveSteps
+mod FunctionAnswers
 mod WayBackSteps
 mod Closed
 mod DeclaredUnits

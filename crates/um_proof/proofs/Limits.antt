@@ -1,11 +1,10 @@
 -- Powers of units against a limit.
-use Rattle.std.proofs.Common.{◌≡◌, ◌≢◌, ℕ, zero, suc, ◌<◌, ◌≤◌, true, false, List, [], ◌∷◌, length, get_or, ℤ, pos, negsuc, nat_abs, ◌-ℤ◌, FitsSigned, w32, refl, sym, ap, ◌∙◌, subst, arith}
+use Rattle.std.proofs.Common.{◌≡◌, ◌≢◌, ℕ, zero, suc, ◌<◌, ◌≤◌, true, List, [], ◌∷◌, length, get_or, ℤ, pos, negsuc, nat_abs, ◌-ℤ◌, FitsSigned, w32, w64, sym, ap, ◌∙◌, subst, arith}
 use Rattle.std.specs.Prelude.{Bool, IsTrue, nat_le}
 use Rattle.std.specs.List.{list_all}
 use Rattle.std.proofs.lemmas.Bool.{and_parts, leb-true}
 use Rattle.std.proofs.lemmas.Int.{ints}
 use Rattle.um_units.specs.declared.Atom.{Atom}
-use Rattle.um_units.specs.declared.Term.{Term}
 use Rattle.um_units.specs.Atoms.{same_atom}
 use Rattle.um_units.specs.NormalForm.{same_atom-eq, head_before_all, tail_normal, head_nonzero}
 use Rattle.um_units.specs.Terms.{power_in, is_normal, is_zero}
@@ -64,3 +63,13 @@ narrow32 (negsuc n) h = record { sfits = omega (arith, ints, h) }
 
 pub negated32 : (z : ℤ) → nat_abs z ≤ 2147483647 → FitsSigned w32 (pos 0 -ℤ z)
 negated32 z h = narrow32 (pos 0 -ℤ z) (omega (arith, ints, h))
+
+pub narrow64 : (z : ℤ) → nat_abs z ≤ 9223372036854775807 → FitsSigned w64 z
+narrow64 (pos n) h = record { sfits = omega (arith, ints, h) }
+narrow64 (negsuc n) h = record { sfits = omega (arith, ints, h) }
+
+-- a term's atom has a power
+pub held_at : (ws : List WideTerm) (u : PowerMap) (i : ℕ) (d : WideTerm) → as_terms ws ≡ u.terms → i < length ws → power_of u (get_or ws i d).atom ≢ pos 0
+held_at ws u i d e l z =
+    let h = subst (λ ts. IsTrue (is_normal ts)) (sym e) u.normal in
+    nonzero_at ws i d h l (sym (power_at ws i d h l) ∙ subst (λ ts. power_in ts (get_or ws i d).atom ≡ pos 0) (sym e) z)

@@ -1,5 +1,5 @@
 -- Powers of rows of a whole row: their product over its terms, with a sign, and how much room it takes.
-use Rattle.std.proofs.Common.{◌≡◌, ℕ, ◌+◌, ◌*◌, ◌<◌, ◌≤◌, Bool, true, false, List, [], ◌∷◌, ◌++◌, length, take, drop, get_or, ℤ, pos, negsuc, ◌+ℤ◌, ◌*ℤ◌, refl, sym, ap, ◌∙◌, subst, arith}
+use Rattle.std.proofs.Common.{◌≡◌, ℕ, suc, ◌+◌, ◌<◌, ◌≤◌, Bool, true, false, List, [], ◌∷◌, ◌++◌, length, take, drop, get_or, ℤ, pos, negsuc, ◌+ℤ◌, ◌*ℤ◌, refl, sym, ap, ◌∙◌, subst, arith}
 use Rattle.std.specs.Prelude.{IsTrue, All, slice_index_or, if◌then◌else◌}
 use Rattle.std.proofs.lemmas.Bool.{and_parts, ltb-true}
 use Rattle.std.proofs.lemmas.Int.{ints}
@@ -58,7 +58,7 @@ row_sum b parts row k d ts others own e f g =
 -- only the slots that the row holds count
 pub total_alike : (f g : ℕ → PowerMap) (row : PowerMap) (k : ℕ) (d : ℤ) (n : ℕ) → VariablesBelow n row → ((j : ℕ) → j < n → f j ≡ g j) → total f row k d ≡ total g row k d
 total_alike f g row k d n below same =
-    ap (λ u. mul u (pow (atom (Var k)) d)) (same_unit _ _ (λ x. weight-extension (indicator x) (at_slot f) row ∙ weight_held _ _ row (at x) ∙ sym (weight-extension (indicator x) (at_slot g) row)))
+    ap (λ u. mul u (pow (atom (Var k)) d)) (same_unit (extension (at_slot f) row) (extension (at_slot g) row) (λ x. weight-extension (indicator x) (at_slot f) row ∙ weight_held (λ y. power_of (at_slot f y) x) (λ y. power_of (at_slot g y) x) row (at x) ∙ sym (weight-extension (indicator x) (at_slot g) row)))
   where
     at : (x y : Atom) → (power_of row y ≡ pos 0 → ⊥) → power_of (at_slot f y) x ≡ power_of (at_slot g y) x
     at x (Base m) h = refl
@@ -87,7 +87,10 @@ parts-one sign parts (t ∷ u ∷ ts) d h l = absurd (omega (arith, h))
 
 -- ---- how many variables there are
 pub count-append : (ts us : List Term) → variable_count (ts ++ us) ≡ variable_count ts + variable_count us
-count-append [] us = refl
+count-append [] us = zero_plus (variable_count us)
+  where
+    zero_plus : (n : ℕ) → n ≡ 0 + n
+    zero_plus n = omega arith
 count-append (t ∷ ts) us = moved (if is_base t.atom then 0 else 1) (variable_count (ts ++ us)) (variable_count ts) (variable_count us) (count-append ts us)
   where
     moved : (a w b c : ℕ) → w ≡ b + c → a + w ≡ a + b + c
@@ -106,37 +109,37 @@ count-le : (ts : List Term) → variable_count ts ≤ length ts
 count-le [] = omega arith
 count-le (t ∷ ts) = more (is_base t.atom) (variable_count ts) (length ts) (count-le ts)
   where
-    more : (b : Bool) (m n : ℕ) → m ≤ n → (if b then 0 else 1) + m ≤ n + 1
+    more : (b : Bool) (m n : ℕ) → m ≤ n → (if b then 0 else 1) + m ≤ suc n
     more true m n h = omega (arith, h)
     more false m n h = omega (arith, h)
 
 -- variables rise, so that there are few of them below n
 rising : (n k : ℕ) (ts : List Term) → IsTrue (is_normal ts) → IsTrue (is_before_all (Var k) ts) → IsTrue (variables_below n ts) → k < n → length ts + k < n
 rising n k [] h b l i = omega (arith, i)
-rising n k (t ∷ ts) h b l i = at t.atom refl (and_parts (is_before (Var k) t.atom) (is_before_all (Var k) ts) b).0 (and_parts (atom_below n t.atom) (variables_below n ts) l).0
+rising n k (t ∷ ts) h b l i =
+    at (λ j before low. rising n j ts (tail_normal t ts h) before (and_parts (atom_below n t.atom) (variables_below n ts) l).1 low)
+    t.atom refl (and_parts (is_before (Var k) t.atom) (is_before_all (Var k) ts) b).0 (and_parts (atom_below n t.atom) (variables_below n ts) l).0
   where
-    at : (x : Atom) → t.atom ≡ x → IsTrue (is_before (Var k) x) → IsTrue (atom_below n x) → length (t ∷ ts) + k < n
-    at (Base m) e f g = absurd (cc f)
-    at (Var j) e f g =
+    at : ((j : ℕ) → IsTrue (is_before_all (Var j) ts) → j < n → length ts + j < n) → (x : Atom) → t.atom ≡ x → IsTrue (is_before (Var k) x) → IsTrue (atom_below n x) → length (t ∷ ts) + k < n
+    at rest (Base m) e f g = absurd (cc f)
+    at rest (Var j) e f g =
         let less = ltb-true k j f in
-        let low = ltb-true j n g in
-        let rest = rising n j ts (tail_normal t ts h) (subst (λ y. IsTrue (is_before_all y ts)) e (head_before_all t ts h)) (and_parts (atom_below n t.atom) (variables_below n ts) l).1 low in
-        omega (arith, less, rest)
+        let low = rest j (subst (λ y. IsTrue (is_before_all y ts)) e (head_before_all t ts h)) (ltb-true j n g) in
+        omega (arith, less, low)
 
 pub count_low : (n : ℕ) (ts : List Term) → IsTrue (is_normal ts) → IsTrue (variables_below n ts) → variable_count ts ≤ n
 count_low n [] h l = omega arith
-count_low n (t ∷ ts) h l = at t.atom refl (and_parts (atom_below n t.atom) (variables_below n ts) l).0
+count_low n (t ∷ ts) h l =
+    let p = and_parts (atom_below n t.atom) (variables_below n ts) l in
+    at (count_low n ts (tail_normal t ts h) p.1) p.1 t.atom refl p.0
   where
-    rest : IsTrue (variables_below n ts)
-    rest = (and_parts (atom_below n t.atom) (variables_below n ts) l).1
-
-    at : (x : Atom) → t.atom ≡ x → IsTrue (atom_below n x) → variable_count (t ∷ ts) ≤ n
-    at (Base m) e g = subst (λ y. (if is_base y then 0 else 1) + variable_count ts ≤ n) (sym e) (let low = count_low n ts (tail_normal t ts h) rest in omega (arith, low))
-    at (Var k) e g =
+    at : variable_count ts ≤ n → IsTrue (variables_below n ts) → (x : Atom) → t.atom ≡ x → IsTrue (atom_below n x) → variable_count (t ∷ ts) ≤ n
+    at low below (Base m) e g = subst (λ y. (if is_base y then 0 else 1) + variable_count ts ≤ n) (sym e) (omega (arith, low))
+    at low below (Var k) e g =
         subst (λ y. (if is_base y then 0 else 1) + variable_count ts ≤ n) (sym e)
-        (let low = rising n k ts (tail_normal t ts h) (subst (λ y. IsTrue (is_before_all y ts)) e (head_before_all t ts h)) rest (ltb-true k n g) in
+        (let rest = rising n k ts (tail_normal t ts h) (subst (λ y. IsTrue (is_before_all y ts)) e (head_before_all t ts h)) below (ltb-true k n g) in
         let few = count-le ts in
-        omega (arith, low, few))
+        omega (arith, rest, few))
 
 pub row_count : (n : ℕ) (row : PowerMap) → VariablesBelow n row → variable_count row.terms ≤ n
 row_count n row below = count_low n row.terms row.normal (variables_below-from_VariablesBelow n row below)

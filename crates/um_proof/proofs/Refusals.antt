@@ -49,7 +49,7 @@ rigid_leaves bases parameters n =
     (λ e. rw e (replace-base (rigid_unit bases parameters) n))
 
 -- ---- a modulus is at least 2
-two_at_least : (d m : ℕ) → 0 < d → 1 < m → pos 2 ≤ℤ pos d *ℤ pos m
+two_at_least : (d m : ℕ) → 0 < d → 1 < m → pos 2 ≤ℤ (pos d *ℤ pos m)
 two_at_least d m h l = whole (d * m) (product d m h l)
   where
     whole : (k : ℕ) → 2 ≤ k → pos 2 ≤ℤ pos k
@@ -103,13 +103,13 @@ module _ (bases parameters slots : ℕ) (rows : List PowerMap) (few : parameters
 
 pub refused_apart : (bases parameters slots : ℕ) (rows : List PowerMap) (row : ℕ) (kept : Kept) (refused : Refused) → parameters ≤ slots → All (VariablesBelow slots) rows → All (HoldsNoParameter bases parameters) rows →
     row < length rows → IsReached rows (first bases parameters slots) row kept → IsRefusedAs rows kept row refused → RefutedBy bases parameters rows row refused
-refused_apart bases parameters slots rows row kept refused few low none inside h as =
+refused_apart bases parameters slots rows row kept refused few low none inside h by =
     let s = reached_state bases parameters slots rows few low none row kept (omega (arith, inside)) h in
-    let total = total_of_rows bases parameters slots rows row kept as.turns s in
-    let found = modulus_apart bases parameters slots rows few low none row kept inside s as.turns as.are refused.modulus as.modulus in
+    let total = total_of_rows bases parameters slots rows row kept by.turns s in
+    let found = modulus_apart bases parameters slots rows few low none row kept inside s by.turns by.are refused.modulus by.modulus in
     record {
       proper = found.0;
-      below = subst (VariablesBelow (suc row)) (sym as.total) total.0;
-      closed = λ n. ap (λ u. power_of u (Base n)) as.total ∙ total.1 n;
-      apart = subst (λ u. IsApart refused.modulus (replace (rigid_unit bases parameters) (replace (nth rows) u))) (sym as.total) found.1;
+      below = subst (VariablesBelow (suc row)) (sym by.total) total.0;
+      closed = λ n. ap (λ u. power_of u (Base n)) by.total ∙ total.1 n;
+      apart = subst (λ u. IsApart refused.modulus (replace (rigid_unit bases parameters) (replace (nth rows) u))) (sym by.total) found.1;
     }

@@ -1,5 +1,5 @@
 -- The numbers that a row's treatment carries where they pass what holds them.
-use Rattle.std.proofs.Common.{◌≡◌, ◌⊎◌, inl, inr, ℕ, ◌+◌, ◌<◌, Bool, false, true, not, None, List, [], ◌∷◌, ◌++◌, map, length, ℤ, pos, neg_ℤ, nat_abs, ◌*ℤ◌, refl, sym, ap, ◌∙◌, subst, arith}
+use Rattle.std.proofs.Common.{◌≡◌, ◌⊎◌, inl, inr, ℕ, ◌+◌, ◌<◌, Bool, false, true, not, None, List, [], ◌∷◌, ◌++◌, map, length, pos, neg_ℤ, nat_abs, ◌*ℤ◌, refl, sym, ap, ◌∙◌, subst, arith}
 use Rattle.std.specs.Prelude.{All, if◌then◌else◌, slice_index_or}
 use Rattle.std.proofs.lemmas.List.{length-map}
 use Rattle.um_units.specs.declared.Atom.{Atom}
@@ -23,7 +23,7 @@ use Rattle.um_proof.specs.declared.stop.CertStop.{CertStop}
 use Rattle.um_proof.specs.declared.stop.CertStop.TheVariants as stop
 use Rattle.um_proof.specs.Making.{Kept, row_unit, row_total, turned, ended, LeavePower}
 use Rattle.um_proof.specs.Formed.{IsPowerIn, IsModulus, IsNumberOfEnd, IsNumberOfRefusal, HasLeastBase}
-use Rattle.um_proof.specs.Steps.{Agrees, ArePartsAfter, CarriesPower, CarriesNumber, CarriesOneOf, CarriesOneOfParts, CarriesInRow, CarriesInTurn, IsTurning, IsTurned, IsTreated, IsRefusedAs, IsLeftAlone, divided_at, parts_at}
+use Rattle.um_proof.specs.Steps.{Agrees, ArePartsAfter, CarriesPower, CarriesNumber, CarriesRefusal, CarriesOneOf, CarriesOneOfParts, CarriesInRow, CarriesInTurn, IsTurning, IsTurned, IsTreated, IsRefusedAs, IsLeftAlone, divided_at, parts_at}
 use Rattle.um_proof.proofs.Parts.{total_alike}
 use Rattle.um_proof.proofs.Turning.{unit_after-push, units_after-push, back_after-push, turns-push, signed_by-inverted, is_inverted-push}
 use Rattle.um_proof.proofs.TurnEnds.{power_left, stuck_left, FirstBase, closed_left}
@@ -134,27 +134,37 @@ module _ (rows : List PowerMap) (kept : Kept) (k : ℕ) (h : Head) (m : Making) 
       stuck : has_base r ≡ true → (s : IsStuck w.turns (row_unit rows kept k)) × (s.p ≡ alone.p)
       stuck b = stuck_left w.turns (row_unit rows kept k) v r w.left alone b
 
-      pub power_total_stops : (s : CertStop) → CarriesPower 9223372036854775807 (row_total rows kept k w.turns) s → CarriesInRow rows kept k s
+      power_total_stops : (s : CertStop) → CarriesPower 9223372036854775807 (row_total rows kept k w.turns) s → CarriesInRow rows kept k s
       power_total_stops (stop.CertRange z) c =
-          inr ((
-            w.turns,
-            w.are,
-            on_test (has_base r) {IsNumberOfEnd rows kept k w.turns z ⊎ IsNumberOfRefusal rows kept k w.turns z}
-                (λ b. let q = stuck b in inr (kept.divisor *ℤ pos q.0.p, inl (q.0, refl), inr c.0))
-                (λ b. inl (v, alone.p, leaves b, inl c.0)),
-          ), c.1)
+          inr (
+            (
+              w.turns,
+              w.are,
+              on_test (has_base r) {P = IsNumberOfEnd rows kept k w.turns z ⊎ IsNumberOfRefusal rows kept k w.turns z}
+                  (λ b. let q = stuck b in inr (kept.divisor *ℤ pos q.0.p, inl (q.0, refl), inr c.0))
+                  (λ b. inl (v, alone.p, leaves b, inl c.0)),
+            ),
+            c.1,
+          )
       power_total_stops stop.NoMemory c = tt
 
-      pub power_number_stops : (s : CertStop) → CarriesNumber (kept.divisor *ℤ pos alone.p) s → CarriesInRow rows kept k s
+      power_number_stops : (s : CertStop) → CarriesNumber (kept.divisor *ℤ pos alone.p) s → CarriesInRow rows kept k s
       power_number_stops (stop.CertRange z) c =
-          inr ((
-            w.turns,
-            w.are,
-            on_test (has_base r) {IsNumberOfEnd rows kept k w.turns z ⊎ IsNumberOfRefusal rows kept k w.turns z}
-                (λ b. let q = stuck b in inr (kept.divisor *ℤ pos q.0.p, inl (q.0, refl), inl (c.0 ∙ ap (λ n. kept.divisor *ℤ pos n) (sym q.1))))
-                (λ b. inl (v, alone.p, leaves b, inr (inr c.0))),
-          ), c.1)
+          inr (
+            (
+              w.turns,
+              w.are,
+              on_test (has_base r) {P = IsNumberOfEnd rows kept k w.turns z ⊎ IsNumberOfRefusal rows kept k w.turns z}
+                  (λ b. let q = stuck b in inr (kept.divisor *ℤ pos q.0.p, inl (q.0, refl), inl (c.0 ∙ ap (λ n. kept.divisor *ℤ pos n) (sym q.1))))
+                  (λ b. inl (v, alone.p, leaves b, inr (inr c.0))),
+            ),
+            c.1,
+          )
       power_number_stops stop.NoMemory c = tt
+
+      pub power_stops : (s : CertStop) → CarriesRefusal (row_total rows kept k w.turns) (kept.divisor *ℤ pos alone.p) s → CarriesInRow rows kept k s
+      power_stops (stop.CertRange z) c = elim c.0 [ inl a ↦ power_total_stops (stop.CertRange z) (a, c.1) | inr b ↦ power_number_stops (stop.CertRange z) (b, c.1) ]
+      power_stops stop.NoMemory c = tt
 
       pub end_stops : has_base r ≡ false → (t : PowerMap) → t ≡ row_total rows kept k w.turns → (s : CertStop) → CarriesOneOfParts v alone.p t m.solution.items m.parts.items s → CarriesInRow rows kept k s
       end_stops b t e (stop.CertRange z) c =
@@ -162,24 +172,27 @@ module _ (rows : List PowerMap) (kept : Kept) (k : ℕ) (h : Head) (m : Making) 
           let l = c.1 in
           let slot : j < h.slots = (let n = w.agrees.parts_count in omega (arith, n, l)) in
           let here : j < length m.solution.items = (let n = w.agrees.count in omega (arith, n, slot)) in
-          inr ((
-            w.turns,
-            w.are,
-            inl (
-              v,
-              alone.p,
-              leaves b,
-              inr (inl (
-                j,
-                slot_inside j here,
-                subst (IsPowerIn z)
-                    (ap (λ u. mul (pow u (pos alone.p)) (pow t (neg_ℤ (power_of (nth m.solution.items j) (Var v))))) (sym (w.agrees.parts j slot))
-                    ∙ ap (λ us. mul (pow (kept.parts j) (pos alone.p)) (pow t (neg_ℤ (power_of (nth us j) (Var v))))) w.agrees.solution
-                    ∙ ap (λ u. parts_after v alone.p u (units_after w.turns kept.solution) kept.parts j) e)
-                    c.2,
-              )),
+          inr (
+            (
+              w.turns,
+              w.are,
+              inl (
+                v,
+                alone.p,
+                leaves b,
+                inr (inl (
+                  j,
+                  slot_inside j here,
+                  subst (IsPowerIn z)
+                      (ap (λ u. mul (pow u (pos alone.p)) (pow t (neg_ℤ (power_of (nth m.solution.items j) (Var v))))) (sym (w.agrees.parts j slot))
+                      ∙ ap (λ us. mul (pow (kept.parts j) (pos alone.p)) (pow t (neg_ℤ (power_of (nth us j) (Var v))))) w.agrees.solution
+                      ∙ ap (λ u. parts_after v alone.p u (units_after w.turns kept.solution) kept.parts j) e)
+                      c.2,
+                )),
+              ),
             ),
-          ), c.3)
+            c.3,
+          )
       end_stops b t e stop.NoMemory c = tt
 
       pub power_refused : has_base r ≡ true → (refused : Refused) → refused.total ≡ row_total rows kept k w.turns → refused.modulus ≡ kept.divisor *ℤ pos alone.p → IsNarrow refused.total → IsRefusedAs rows kept k refused
@@ -213,13 +226,17 @@ module _ (rows : List PowerMap) (kept : Kept) (k : ℕ) (h : Head) (m : Making) 
             ap (λ n. kept.divisor *ℤ pos (n + 1)) (sym base.size_is ∙ ap (λ u. nat_abs (power_of u (Base base.n))) w.left),
           )
 
-      pub closed_total_stops : (s : CertStop) → CarriesPower 9223372036854775807 (row_total rows kept k w.turns) s → CarriesInRow rows kept k s
+      closed_total_stops : (s : CertStop) → CarriesPower 9223372036854775807 (row_total rows kept k w.turns) s → CarriesInRow rows kept k s
       closed_total_stops (stop.CertRange z) c = inr ((w.turns, w.are, inr (kept.divisor *ℤ pos (size + 1), closed_modulus, inr c.0)), c.1)
       closed_total_stops stop.NoMemory c = tt
 
-      pub closed_number_stops : (s : CertStop) → CarriesNumber (kept.divisor *ℤ pos (size + 1)) s → CarriesInRow rows kept k s
+      closed_number_stops : (s : CertStop) → CarriesNumber (kept.divisor *ℤ pos (size + 1)) s → CarriesInRow rows kept k s
       closed_number_stops (stop.CertRange z) c = inr ((w.turns, w.are, inr (kept.divisor *ℤ pos (size + 1), closed_modulus, inl c.0)), c.1)
       closed_number_stops stop.NoMemory c = tt
+
+      pub closed_stops : (s : CertStop) → CarriesRefusal (row_total rows kept k w.turns) (kept.divisor *ℤ pos (size + 1)) s → CarriesInRow rows kept k s
+      closed_stops (stop.CertRange z) c = elim c.0 [ inl a ↦ closed_total_stops (stop.CertRange z) (a, c.1) | inr b ↦ closed_number_stops (stop.CertRange z) (b, c.1) ]
+      closed_stops stop.NoMemory c = tt
 
       pub closed_refused : (refused : Refused) → refused.total ≡ row_total rows kept k w.turns → refused.modulus ≡ kept.divisor *ℤ pos (size + 1) → IsNarrow refused.total → IsRefusedAs rows kept k refused
       closed_refused refused e f narrow = record {

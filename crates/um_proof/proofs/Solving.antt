@@ -7,6 +7,7 @@ use Rattle.std.proofs.lemmas.Bool.{eqb-true, eqb-false, ne_eqb}
 use Rattle.std.proofs.lemmas.Int.{ints}
 use Rattle.std.proofs.lemmas.List.{get_or-map, drop_more, drop_all}
 use Rattle.std.proofs.Math.IntN.{*ℤ-zero}
+use Rattle.std.proofs.Math.Nat.{div-eq_of_lt}
 use Rattle.um_units.specs.declared.Atom.{Atom}
 use Rattle.um_units.specs.declared.Atom.TheVariants.{Base, Var}
 use Rattle.um_units.specs.Atoms.{same_atom}
@@ -90,7 +91,7 @@ below_quotient : (m p e : ℕ) (r : PowerMap) (x : Atom) → e < p → power_of 
 below_quotient m p e r x l is = power_of-quotients m p r x ∙ ap (less m p x) is ∙ on_test (same_atom (Var m) x) (λ f. rw f refl) (λ f. rw f (small e p l))
   where
     small : (e p : ℕ) → e < p → neg_ℤ (int_div_euclid (pos e) (pos p)) ≡ pos 0
-    small e p l = omega (arith, ints, l)
+    small e p l = ap (λ n. neg_ℤ (pos n)) (div-eq_of_lt l)
 
 stays : (a b p : ℤ) → b ≡ pos 0 → a +ℤ p *ℤ b ≡ a
 stays a b p e = ap (λ z. a +ℤ p *ℤ z) e ∙ ap (λ z. a +ℤ z) (*ℤ-zero p) ∙ nothing a
@@ -225,10 +226,10 @@ module _ (rows : List PowerMap) (kept : Kept) (k : ℕ) where
   r = row_unit rows kept k
 
   made_left : (next : Kept) → (made : IsRowMade rows kept k next) → IsLeft (unit_after made.0 r)
-  made_left next made = elim made.2 [ | inl h ↦ inl h.0 | inr h ↦ inr (h.0, h.1, (h.2).0, (h.2).1) ]
+  made_left next made = elim made.2 [ inl h ↦ inl h.0 | inr h ↦ inr (h.0, h.1, (h.2).0, (h.2).1) ]
 
   treated_left : (vs : List PowerMap) (t : IsTreated us r vs) → IsLeft (unit_after t.turns r)
-  treated_left vs t = elim t.ends [ | inl h ↦ inl h.left | inr h ↦ inr (h.m, h.p, h.positive, h.left) ]
+  treated_left vs t = elim t.ends [ inl h ↦ inl h.left | inr h ↦ inr (h.m, h.p, h.positive, h.left) ]
 
   same_solution : (next : Kept) (vs : List PowerMap) → IsRowMade rows kept k next → IsTreated us r vs → vs ≡ next.solution
   same_solution next vs made t =
@@ -255,10 +256,10 @@ module _ (rows : List PowerMap) (kept : Kept) (k : ℕ) where
       at Range e = inr e
 
   pub refused_eliminates : (refused : Refused) → IsRefusedAs rows kept k refused → Eliminates us (nth rows k) NoSolution
-  refused_eliminates refused as = at (eliminate us (nth rows k)) refl
+  refused_eliminates refused by = at (eliminate us (nth rows k)) refl
     where
       at : (o : Elimination) → eliminate us (nth rows k) ≡ o → Eliminates us (nth rows k) NoSolution
-      at (Solved vs) e = let t = eliminate_treated us (nth rows k) vs e in absurd (not_both t.turns as.turns r t.are as.are (treated_left vs t) as.ends)
+      at (Solved vs) e = let t = eliminate_treated us (nth rows k) vs e in absurd (not_both t.turns by.turns r t.are by.are (treated_left vs t) by.ends)
       at NoSolution e = inl e
       at Range e = inr e
 
@@ -318,6 +319,6 @@ reached_solved bases parameters slots rows kept few low h =
 pub refused_unsolved : (bases parameters slots : ℕ) (rows : List Row) (row : ℕ) (kept : Kept) (refused : Refused) → parameters ≤ slots → All (VariablesBelow slots) (units_of rows) → row < length rows →
     IsReached (units_of rows) (first bases parameters slots) row kept → IsRefusedAs (units_of rows) kept row refused →
     ((at : ℕ) × (solve 0 rows (rigid_units bases parameters slots) ≡ unsolved row at)) ⊎ ((at : ℕ) × (solve 0 rows (rigid_units bases parameters slots) ≡ out_of_range at))
-refused_unsolved bases parameters slots rows row kept refused few low inside h as =
-    let w = on_row rows (rigid_units bases parameters slots) row kept.solution NoSolution inside (reached_comes bases parameters slots rows row kept (omega (arith, inside)) h) (refused_eliminates (units_of rows) kept row refused as) in
-    elim w.1 [ | inl e ↦ inl (w.0, e) | inr e ↦ inr e ]
+refused_unsolved bases parameters slots rows row kept refused few low inside h by =
+    let w = on_row rows (rigid_units bases parameters slots) row kept.solution NoSolution inside (reached_comes bases parameters slots rows row kept (omega (arith, inside)) h) (refused_eliminates (units_of rows) kept row refused by) in
+    elim w.1 [ inl e ↦ inl (w.0, e) | inr e ↦ inr e ]

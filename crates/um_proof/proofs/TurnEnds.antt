@@ -1,13 +1,13 @@
 -- What one turn leaves of a unit, and the ends of a row: a variable to a power alone, a variable that a base unit's power
 -- isn't divided by, or base units alone.
-use Rattle.std.proofs.Common.{◌≡◌, ◌≢◌, ◌⊎◌, inl, inr, ℕ, zero, suc, ◌+◌, ◌<◌, true, false, Some, None, List, [], ◌∷◌, ℤ, pos, nat_abs, refl, sym, ap, ◌∙◌, subst, arith}
-use Rattle.std.specs.Prelude.{◌==◌, IsTrue}
+use Rattle.std.proofs.Common.{◌≡◌, ◌≢◌, ℕ, ◌<◌, true, false, Some, None, List, [], ◌∷◌, pos, nat_abs, refl, sym, ap, ◌∙◌, subst, arith}
+use Rattle.std.specs.Prelude.{IsTrue}
 use Rattle.std.proofs.lemmas.Bool.{lt-ltb, and_from}
 use Rattle.um_units.specs.declared.Atom.{Atom}
 use Rattle.um_units.specs.declared.Atom.TheVariants.{Base, Var}
 use Rattle.um_units.specs.declared.Term.{Term}
 use Rattle.um_units.specs.Atoms.{same_atom, is_before}
-use Rattle.um_units.specs.Terms.{power_in, is_normal, is_zero, is_before_all}
+use Rattle.um_units.specs.Terms.{power_in, is_normal, is_zero}
 use Rattle.um_units.specs.NormalForm.{head_nonzero, head_before_all, before_all_trans}
 use Rattle.um_units.specs.PowerMap.{PowerMap, power_of, one, atom, pow, replace}
 use Rattle.um_units.proofs.Equality.{same_unit, power_in-head, power_in-before_all}
@@ -16,7 +16,6 @@ use Rattle.um_units.specs.Terms.{indicator}
 use Rattle.um_elim.specs.declared.turning.Turn.{Turn}
 use Rattle.um_elim.specs.Pivot.{pivot, size, least_power, has_other, has_base}
 use Rattle.um_elim.specs.Turn.{multiply, turn, inverted_if_negative, signed, IsTurnOf}
-use Rattle.um_elim.proofs.Cases.{on_test}
 use Rattle.um_elim.proofs.PivotLaws.{is_pivot, no_pivot, some_base, no_other}
 use Rattle.um_elim.proofs.TurnLaws.{IsRemainder, power_of-turn_pivot, power_of-turn_other, least_power-falls, positive_pivot, positive_size, signed_inverted}
 use Rattle.um_turns.specs.Turns.{unit_after, IsStuck, IsClosedLeft}

@@ -1,17 +1,14 @@
 -- What the code keeps against what is kept: before any row, after a turn and after the end of a variable.
-use Rattle.std.proofs.Common.{◌≡◌, ◌≢◌, inl, inr, ℕ, zero, suc, ◌+◌, ◌-◌, ◌*◌, ◌<◌, ◌≤◌, Bool, true, false, List, [], ◌∷◌, ◌++◌, map, length, get_or, set, replicate, ℤ, pos, negsuc, neg_ℤ, nat_abs, ◌*ℤ◌, refl, sym, ap, ◌∙◌, subst, arith}
-use Rattle.std.specs.Prelude.{◌==◌, IsTrue, All, nat_le, nat_lt, ◌&&◌, if◌then◌else◌, slice_index_or}
+use Rattle.std.proofs.Common.{◌≡◌, ◌≢◌, ℕ, zero, suc, ◌+◌, ◌-◌, ◌*◌, ◌<◌, ◌≤◌, true, List, ◌++◌, map, length, get_or, set, replicate, ℤ, pos, negsuc, neg_ℤ, ◌*ℤ◌, refl, sym, ap, ◌∙◌, subst, arith}
+use Rattle.std.specs.Prelude.{◌==◌, IsTrue, All, nat_le, nat_lt, slice_index_or}
 use Rattle.std.specs.Int.Signed.{◌<ℤ◌}
-use Rattle.std.specs.List.{range_with_len}
-use Rattle.std.proofs.lemmas.Bool.{and_parts, and_from, leb-true, ltb-true, eqb-true, eqb-false, lt-ltb}
+use Rattle.std.proofs.lemmas.Bool.{and_parts, leb-true, ltb-true, eqb-true, eqb-false, lt-ltb}
 use Rattle.std.proofs.lemmas.Int.{ints}
 use Rattle.std.proofs.lemmas.List.{length-map, length-append, length-set, length-replicate, get_or-replicate, get_or-append_right, get_or_append_left, get_or-set_same, get_or-set_other, get_or_default}
 use Rattle.std.proofs.lemmas.List.Elements.{All-replicate}
 use Rattle.std.proofs.lemmas.List.FromFn.{get_or-map-range_with_len}
 use Rattle.um_units.specs.declared.Atom.{Atom}
 use Rattle.um_units.specs.declared.Atom.TheVariants.{Base, Var}
-use Rattle.um_units.specs.Atoms.{same_atom}
-use Rattle.um_units.specs.NormalForm.{same_atom_refl}
 use Rattle.um_units.specs.Terms.{indicator}
 use Rattle.um_units.specs.PowerMap.{PowerMap, weight, power_of, one, atom, mul, inv, pow, image, replace, nth, extension}
 use Rattle.um_units.specs.Variables.{VariablesBelow, atom_below}
@@ -34,14 +31,14 @@ use Rattle.um_making.proofs.Extensions.{weight-extension}
 use Rattle.um_proof.specs.declared.kept.Making.{Making}
 use Rattle.um_proof.specs.declared.kept.Head.{Head}
 use Rattle.um_proof.specs.Making.{Kept, first, first_back}
-use Rattle.um_proof.specs.Steps.{Agrees, ArePartsAfter, IsTurned, back_at, divided_at, parts_at}
+use Rattle.um_proof.specs.Steps.{Agrees, ArePartsAfter, IsTurned, back_at, divided_at}
 use Rattle.um_proof.proofs.Turning.{all_replaced}
 
 -- ---- numbers
 pub parameter_range : (b p n : ℕ) → is_parameter b p 0 n ≡ true → (b ≤ n) × (n < b + p)
 parameter_range b p n e = let q = and_parts (nat_le b n) (nat_lt n (b + p)) e in (leb-true b n q.0, ltb-true n (b + p) q.1)
 
-pub positive_times : (d : ℤ) (p : ℕ) → pos 0 <ℤ d → 0 < p → pos 0 <ℤ d *ℤ pos p
+pub positive_times : (d : ℤ) (p : ℕ) → pos 0 <ℤ d → 0 < p → pos 0 <ℤ (d *ℤ pos p)
 positive_times (pos n) p h k = whole (n * p) (product n p (omega (arith, ints, h)) k)
   where
     whole : (m : ℕ) → 0 < m → pos 0 <ℤ pos m
@@ -122,7 +119,7 @@ module _ (h : Head) (m : Making) (few : h.parameters ≤ h.slots) (solution : m.
   }
 
 -- ---- after a turn
-pub after_turn : Kept → Turn → Kept
+abbrev pub after_turn : Kept → Turn → Kept
 after_turn kept t = record {
   solution = map (replace (multiply t.variable t.by)) kept.solution;
   back = divided_back t.variable t.by kept.back;
@@ -172,7 +169,7 @@ module _ (h : Head) (old new : Making) (kept : Kept) (t : Turn) (a : Agrees h ol
   }
 
 -- ---- after the end of a variable
-pub after_end : Kept → ℕ → ℕ → PowerMap → Kept
+abbrev pub after_end : Kept → ℕ → ℕ → PowerMap → Kept
 after_end kept m p t = record {
   solution = map (replace (substitute m one)) kept.solution;
   back = kept.back;

@@ -1,6 +1,6 @@
 -- The numbers that the making of a certificate forms, and those of them that pass what a certificate can hold.
 -- Source: this project's own.
-use Rattle.std.specs.Prelude.{◌≡◌, ◌≢◌, ◌⊎◌, ℕ, suc, ◌+◌, ◌<◌, List, length, All, ℤ, pos, nat_abs, ◌*ℤ◌}
+use Rattle.std.specs.Prelude.{◌≡◌, ◌≢◌, ◌⊎◌, ℕ, ◌+◌, ◌<◌, List, length, ℤ, pos, nat_abs, ◌*ℤ◌}
 use Rattle.um_units.specs.declared.Atom.{Atom}
 use Rattle.um_units.specs.declared.Atom.TheVariants.{Base, Var}
 use Rattle.um_units.specs.PowerMap.{PowerMap, power_of, atom, mul, inv, nth, extension}

@@ -1,7 +1,7 @@
 -- What the making of a certificate keeps, from row to row.
 -- Source: Kennedy (1996), unification in the free abelian group, equation by equation. That a way back and the rows'
 -- powers are kept beside the solution is this project's own.
-use Rattle.std.specs.Prelude.{◌≡◌, ◌⊎◌, ℕ, zero, suc, ◌-◌, ◌<◌, if◌then◌else◌, List, length, map, ℤ, pos, ◌*ℤ◌}
+use Rattle.std.specs.Prelude.{◌≡◌, ◌⊎◌, ℕ, zero, suc, ◌-◌, ◌<◌, if◌then◌else◌, List, map, ℤ, pos, ◌*ℤ◌}
 use Rattle.um_units.specs.declared.Atom.{Atom}
 use Rattle.um_units.specs.declared.Atom.TheVariants.{Base, Var}
 use Rattle.um_units.specs.PowerMap.{PowerMap, one, atom, pow, replace, nth}
@@ -24,7 +24,8 @@ pub record Kept : Type 0 where
 
 -- behind so many declared base units the one of unit parameter k goes back to slot k, and each other atom to itself
 abbrev pub first_back : ℕ → ℕ → Atom → PowerMap
-first_back bases parameters (Base n) = if is_parameter bases parameters 0 n then atom (Var (n - bases)) else atom (Base n)
+first_back bases parameters (Base n) =
+    if is_parameter bases parameters 0 n then atom (Var (n - bases)) else atom (Base n)
 first_back bases parameters (Var k) = atom (Var k)
 
 abbrev pub first : ℕ → ℕ → ℕ → Kept
@@ -72,7 +73,8 @@ module _ (rows : List PowerMap) (kept : Kept) (k : ℕ) where
   abbrev pub IsRowMade : Kept → Type 0
   IsRowMade next =
       (ts : List Turn) × AreTurnsOf row_unit ts
-      × (((unit_after ts row_unit ≡ one) × (next ≡ turned ts)) ⊎ ((m p : ℕ) × LeavePower ts m p × (next ≡ ended ts m p)))
+      × (((unit_after ts row_unit ≡ one) × (next ≡ turned ts))
+      ⊎ ((m p : ℕ) × LeavePower ts m p × (next ≡ ended ts m p)))
 
 -- what is kept after the first rows, from what was kept before any
 abbrev pub IsReached : List PowerMap → Kept → ℕ → Kept → Type 0

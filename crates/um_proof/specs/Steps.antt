@@ -1,6 +1,6 @@
 -- The code's: what the parts of a row's treatment answer.
 -- Source: this project's own; no public clause rests on it.
-use Rattle.std.specs.Prelude.{◌≡◌, ◌⊎◌, ℕ, ◌+◌, ◌-◌, ◌<◌, if◌then◌else◌, Bool, true, false, not, List, [], ◌∷◌, length, map, set, All, slice_index_or, IsTrue, ℤ, pos, negsuc, nat_abs, ◌*ℤ◌, Option, Some, None, Result, Ok, Err}
+use Rattle.std.specs.Prelude.{◌≡◌, ◌⊎◌, ℕ, ◌+◌, ◌-◌, ◌<◌, if◌then◌else◌, Bool, true, false, not, List, [], ◌∷◌, length, map, set, All, slice_index_or, IsTrue, ℤ, pos, negsuc, nat_abs, ◌*ℤ◌, Option, Some, None}
 use Rattle.std.specs.Int.Signed.{◌<ℤ◌}
 use Rattle.um_check.specs.Validity.{returned}
 use Rattle.um_units.specs.declared.Atom.{Atom}
@@ -37,6 +37,11 @@ abbrev pub CarriesNumber : ℤ → CertStop → Type 0
 CarriesNumber n (stop.CertRange z) = (z ≡ n) × (9223372036854775807 < nat_abs z)
 CarriesNumber n stop.NoMemory = Unit {0}
 
+-- a power of the unit or the number passes 64 bits, and is carried
+abbrev pub CarriesRefusal : PowerMap → ℤ → CertStop → Type 0
+CarriesRefusal u n (stop.CertRange z) = (IsPowerIn z u ⊎ (z ≡ n)) × (9223372036854775807 < nat_abs z)
+CarriesRefusal u n stop.NoMemory = Unit {0}
+
 -- a power of one of the units does
 abbrev pub CarriesOneOf : ℕ → List PowerMap → CertStop → Type 0
 CarriesOneOf limit us (stop.CertRange z) = (j : ℕ) × (j < length us) × IsPowerIn z (nth us j) × (limit < nat_abs z)
@@ -45,7 +50,9 @@ CarriesOneOf limit us stop.NoMemory = Unit {0}
 -- what the code keeps: the way back of base unit bases + k of parameter k stands behind those of the slots
 abbrev pub back_at : Head → List PowerMap → Atom → PowerMap
 back_at h bs (Base n) =
-    if is_parameter h.bases h.parameters h.slots n then slice_index_or bs (h.slots + (n - h.bases)) one else atom (Base n)
+    if is_parameter h.bases h.parameters h.slots n
+    then slice_index_or bs (h.slots + (n - h.bases)) one
+    else atom (Base n)
 back_at h bs (Var k) = nth bs k
 
 pub record Agrees (h : Head) (m : Making) (kept : Kept) : Type 0 where

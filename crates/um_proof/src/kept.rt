@@ -1,6 +1,6 @@
 //! What the making of a certificate keeps beside the elimination of rows.
 
-ghost use Rattle.std.specs.Prelude.{◌≡◌, ◌≤◌, ◌<◌, ◌+◌, ◌^◌, All, length, map, set, pos, nat_abs, false, IfOk, OnOk, MatchResult, IfErr};
+ghost use Rattle.std.specs.Prelude.{◌≡◌, ◌≤◌, ◌<◌, ◌+◌, ◌^◌, All, length, map, set, pos, nat_abs, true, IfOk, OnOk, MatchResult, IfErr};
 ghost use Rattle.um_units.specs.declared.Atom.TheVariants.{Var};
 ghost use Rattle.um_units.specs.PowerMap.{PowerMap, one, atom, inv, mul, pow, power_of, replace, nth};
 ghost use Rattle.um_units.specs.Variables.{VariablesBelow};
@@ -21,8 +21,8 @@ use um_infer::generalised_unit;
 use um_units::{Atom, Unit};
 use um_wide::WideUnit;
 
-/// How many slots there are, how many of them are those of unit parameters, which come first, and how many base units are
-/// declared.
+/// How many slots there are, how many of them are those of unit parameters, which come first, and how many base units
+/// are declared.
 #[derive(Clone, Copy)]
 pub struct Head {
     pub slots: u32,
@@ -35,11 +35,12 @@ pub struct Head {
 pub struct Making {
     /// A unit for each slot.
     pub solution: Vec<Unit>,
-    /// For the variable of each slot, and then for the base unit of each unit parameter, the unit over slots that it goes
-    /// back to.
+    /// For the variable of each slot, and then for the base unit of each unit parameter, the unit over slots that it
+    /// goes back to.
     pub back: Vec<Unit>,
     pub divisor: i64,
-    /// For each slot the powers of rows by which it comes back, up to the power `divisor`: a unit over the rows' numbers.
+    /// For each slot the powers of rows by which it comes back, up to the power `divisor`: a unit over the rows'
+    /// numbers.
     pub parts: Vec<WideUnit>,
 }
 
@@ -86,10 +87,11 @@ pub fn multiply_all(alloc: Global, units: &mut Vec<Unit>, m: u32, w: &Unit) -> R
 {
     for j in 0..units.len() {
         let power = units[j].power_of(Atom::Var(m));
-        if power != 0 {
-            let unit = times(alloc, &units[j], 1, w, power)?;
-            units[j] = unit;
+        if power == 0 {
+            continue;
         }
+        let unit = times(alloc, &units[j], 1, w, power)?;
+        units[j] = unit;
     }
     Ok(())
 }
@@ -141,10 +143,11 @@ fn end_units(alloc: Global, units: &mut Vec<Unit>, m: u32) -> Result<(), AllocEr
 {
     for j in 0..units.len() {
         let power = units[j].power_of(Atom::Var(m));
-        if power != 0 {
-            let unit = without(alloc, &units[j], m)?;
-            units[j] = unit;
+        if power == 0 {
+            continue;
         }
+        let unit = without(alloc, &units[j], m)?;
+        units[j] = unit;
     }
     Ok(())
 }
@@ -169,16 +172,16 @@ fn slot_parts(
     narrowed(sum)
 }
 
-/// Whether the powers of rows of a slot change, in whose unit the variable that became 1 from the power p stood to the power
-/// e.
-fn changes(p: i32, e: i32) -> bool
-    ensures { result ≡ false → (p ≡ pos 1) × (e ≡ pos 0) }
+/// Whether the powers of rows of a slot stay, in whose unit the variable that becomes 1 from the power p stands to the
+/// power e.
+fn stays(p: i32, e: i32) -> bool
+    ensures { result ≡ true → (p ≡ pos 1) × (e ≡ pos 0) }
 {
-    p != 1 || e != 0
+    p == 1 && e == 0
 }
 
-/// Each slot's powers of rows are p times those before, less those of the row as often as variable m stands in the slot's
-/// unit.
+/// Each slot's powers of rows are p times those before, less those of the row as often as variable m stands in the
+/// slot's unit.
 fn end_parts(
     alloc: Global,
     solution: &[Unit],
@@ -197,16 +200,17 @@ fn end_parts(
 {
     for j in 0..solution.len() {
         let e = solution[j].power_of(Atom::Var(m));
-        if changes(p, e) {
-            let made = slot_parts(alloc, &parts[j], p, total, e)?;
-            parts[j] = made;
+        if stays(p, e) {
+            continue;
         }
+        let made = slot_parts(alloc, &parts[j], p, total, e)?;
+        parts[j] = made;
     }
     Ok(())
 }
 
-/// Variable m, left to the power p, becomes 1: each slot's powers of rows are p times those before, less those of the row
-/// as often as the variable stands in the slot's unit.
+/// Variable m, left to the power p, becomes 1: each slot's powers of rows are p times those before, less those of the
+/// row as often as the variable stands in the slot's unit.
 pub fn end_variable(
     alloc: Global,
     solution: &mut Vec<Unit>,
@@ -220,7 +224,8 @@ pub fn end_variable(
     requires total { IsNarrow total.now }
     requires p { pos 0 <ℤ p }
     ensures solution { OnOk result (solution.new.items ≡ map (replace (substitute m one)) solution.old.items) }
-    ensures parts { OnOk result (ArePartsAfter m (nat_abs p) total.now solution.old.items parts.old.items parts.new.items) }
+    ensures parts { OnOk result
+        (ArePartsAfter m (nat_abs p) total.now solution.old.items parts.old.items parts.new.items) }
     ensures narrow { OnOk result (All IsNarrow parts.new.items) }
     ensures range { IfErr result (CarriesOneOfParts m (nat_abs p) total.now solution.old.items parts.old.items) }
 {

@@ -63,11 +63,12 @@ pub fn parts_of(alloc: Global, powers: &WideUnit) -> Result<Parts, NoMemory>
 {
     let mut items = Vec::new(alloc);
     for term in powers.terms() {
-        if let Atom::Var(row) = term.atom {
-            items.push(Part {
+        match term.atom {
+            Atom::Var(row) => items.push(Part {
                 row,
                 times: term.power as i64,
-            })?;
+            })?,
+            Atom::Base(_) => unreachable!(),
         }
     }
     Ok(Parts::from_vec(items))

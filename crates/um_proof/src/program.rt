@@ -31,7 +31,7 @@ pub fn prove(alloc: Global, shaped: &Shaped) -> Result<Proofs, ProveStop>
     ensures { IsProved (program_tree shaped.now) result }
 {
     match infer(alloc, shaped) {
-        Ok(schemes) => with_yes(alloc, shaped, schemes, None),
+        Ok(schemes) => with_yes(alloc, shaped, function_count(shaped), schemes, None),
         Err(InferStop::Units { function, at: _ }) => refused_proofs(alloc, shaped, function),
         Err(InferStop::NotGeneral { function, at: _ }) => refused_proofs(alloc, shaped, function),
         Err(InferStop::PowerRange { function, at }) => Err(ProveStop::PowerRange { function, at }),
@@ -67,7 +67,7 @@ fn with_refusal(
     ensures { IsProved (program_tree shaped.now) result }
 {
     match refusal_of(alloc, shaped, i, &schemes) {
-        Ok(no) => with_yes(alloc, shaped, schemes, Some(no)),
+        Ok(no) => with_yes(alloc, shaped, i, schemes, Some(no)),
         Err(stop) => {
             drop(schemes);
             Err(of_function(i, stop))
@@ -79,9 +79,11 @@ fn with_refusal(
 fn with_yes(
     alloc: Global,
     shaped: &Shaped,
+    count: u32,
     schemes: Schemes,
     no: Option<No>,
 ) -> Result<Proofs, ProveStop>
+    requires count { length schemes.items.items ≡ count }
     requires before { infer_first (program_tree shaped.now) (length schemes.items.items)
         ≡ all_schemes (scheme_trees schemes) }
     requires few { length schemes.items.items ≤ length (program_tree shaped.now).functions }
@@ -89,7 +91,7 @@ fn with_yes(
     ensures { IsProved (program_tree shaped.now) result }
 {
     let mut items: Vec<Yes> = Vec::new(alloc);
-    match add_yes(alloc, shaped, &schemes, &mut items) {
+    match add_yes(alloc, shaped, count, &schemes, &mut items) {
         Ok(()) => Ok(Proofs {
             schemes,
             yes: YesList { items },
@@ -108,9 +110,11 @@ fn with_yes(
 fn add_yes(
     alloc: Global,
     shaped: &Shaped,
+    count: u32,
     schemes: &Schemes,
     items: &mut Vec<Yes>,
 ) -> Result<(), ProveStop>
+    requires count { length schemes.now.items.items ≡ count }
     requires empty { items.old.items ≡ [] }
     requires before { infer_first (program_tree shaped.now) (length schemes.now.items.items)
         ≡ all_schemes (scheme_trees schemes.now) }
@@ -119,10 +123,10 @@ fn add_yes(
     ensures valid { OnOk result (AreYesOf (program_tree shaped.now) (scheme_trees schemes.now) items.new.items) }
     ensures range { IfErr result (CarriesInSome (program_tree shaped.now)) }
 {
-    for i in 0..schemes.items.len() {
-        match yes_of(alloc, shaped, i as u32, schemes) {
+    for i in 0..count {
+        match yes_of(alloc, shaped, i, schemes) {
             Ok(yes) => items.push(yes)?,
-            Err(stop) => return Err(of_function(i as u32, stop)),
+            Err(stop) => return Err(of_function(i, stop)),
         }
     }
     Ok(())
@@ -183,6 +187,13 @@ fn rows_of(alloc: Global, shaped: &Shaped, i: u32, schemes: &Schemes) -> Result<
         Err(RowStop::Slots) => unreachable!(),
         Err(RowStop::Range { at: _ }) => unreachable!(),
     }
+}
+
+/// How many functions the program has.
+fn function_count(shaped: &Shaped) -> u32
+    ensures { result ≡ length (program_tree shaped.now).functions }
+{
+    shaped.program().functions.items.len() as u32
 }
 
 /// How many unit parameters function i has.

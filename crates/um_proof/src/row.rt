@@ -3,8 +3,9 @@
 ghost use Rattle.std.specs.Prelude.{◌≡◌, ◌≤◌, ◌<◌, ◌+◌, ◌^◌, ◌*◌, ◌*ℤ◌, not, if◌then◌else◌, List, [], ◌∷◌, All, length, nat_abs, pos, None, slice_index_or, IfOk, OnOk, MatchResult, IfErr, IsTrue};
 ghost use Rattle.std.specs.Int.Signed.{◌<ℤ◌};
 ghost use Rattle.std.specs.List.{list_any};
+ghost use Rattle.um_units.specs.declared.Atom.TheVariants.{Var};
 ghost use Rattle.um_units.specs.declared.Term.{Term as TermData};
-ghost use Rattle.um_units.specs.PowerMap.{PowerMap, one, nth, pow, replace};
+ghost use Rattle.um_units.specs.PowerMap.{PowerMap, one, atom, nth, pow, replace};
 ghost use Rattle.um_units.specs.Variables.{VariablesBelow, atom_below};
 ghost use Rattle.um_elim.specs.Pivot.{is_base, is_other, pivot};
 ghost use Rattle.um_elim.specs.Turn.{multiply, signed};
@@ -12,7 +13,7 @@ ghost use Rattle.um_wide.specs.Room.{IsNarrow, IsWithin};
 ghost use Rattle.um_making.specs.Making.{at_slot, total};
 ghost use Rattle.um_proof.specs.Making.{Kept};
 ghost use Rattle.um_proof.specs.declared.kept.Head.{Head as HeadData};
-ghost use Rattle.um_proof.specs.Steps.{Agrees, CarriesInRow, CarriesInTurn, CarriesNumber, CarriesPower, IsLeftAlone, IsTreated, IsTurned, IsTurning, first_size, parts_product, sign_of, variable_count};
+ghost use Rattle.um_proof.specs.Steps.{Agrees, CarriesInRow, CarriesInTurn, CarriesNumber, CarriesPower, CarriesRefusal, IsLeftAlone, IsTreated, IsTurned, IsTurning, first_size, parts_product, sign_of, variable_count};
 
 use crate::CertStop;
 use crate::kept::{Head, Making, divide_back, end_variable, multiply_all};
@@ -22,8 +23,8 @@ use um_elim::{Turn, next_turn};
 use um_units::{Atom, NoMemory, Term, Unit};
 use um_wide::WideUnit;
 
-/// That a row has no solution together with those before it: a product of rows by their numbers, and what divides its power
-/// of each slot, and not that of each base unit.
+/// That a row has no solution together with those before it: a product of rows by their numbers, and what divides its
+/// power of each slot, and not that of each base unit.
 #[derive(Drop)]
 pub struct Refused {
     pub total: WideUnit,
@@ -49,11 +50,16 @@ fn signed_power(inverted: bool, power: i32) -> i64
     }
 }
 
-fn signed_divisor(inverted: bool, divisor: i64) -> i64
+/// Row k to the power of the divisor, with a sign.
+fn own_power(alloc: Global, k: u32, divisor: i64, inverted: bool) -> Result<WideUnit, NoMemory>
     requires { pos 0 <ℤ divisor }
-    ensures { result ≡ sign_of inverted *ℤ divisor }
+    ensures exact { IfOk result (λ made. made ≡ pow (atom (Var k)) (sign_of inverted *ℤ divisor)) }
+    ensures room { IfOk result (IsWithin 9223372036854775808) }
 {
-    if inverted { -divisor } else { divisor }
+    if inverted {
+        return WideUnit::atom_power(alloc, Atom::Var(k), -i128::from(divisor));
+    }
+    WideUnit::atom_power(alloc, Atom::Var(k), i128::from(divisor))
 }
 
 /// The powers of rows of the term's slot to the term's power. A base unit has none.
@@ -117,8 +123,7 @@ fn row_total(
     ensures narrow { MatchResult result IsNarrow (CarriesPower 9223372036854775807
         (signed inverted (total (λ j. slice_index_or making.now.parts.items j one) row.now k making.now.divisor))) }
 {
-    let number = signed_divisor(inverted, making.divisor);
-    let own = WideUnit::atom_power(alloc, Atom::Var(k), i128::from(number))?;
+    let own = own_power(alloc, k, making.divisor, inverted)?;
     let others = product_of_parts(alloc, &making.parts, row.terms(), inverted)?;
     let sum = others.mul(alloc, &own)?;
     narrowed(sum)
@@ -209,6 +214,38 @@ fn make_turn(
     Ok(left)
 }
 
+/// The powers of rows that row k goes back to, and a factor times the divisor.
+fn row_refusal(
+    alloc: Global,
+    making: &Making,
+    row: &Unit,
+    k: u32,
+    inverted: bool,
+    factor: i64,
+) -> Result<Refused, CertStop>
+    requires few { length making.now.parts.items ≤ 2000 }
+    requires narrow { All IsNarrow making.now.parts.items }
+    requires below { VariablesBelow (length making.now.parts.items) row.now }
+    requires positive { pos 0 <ℤ making.now.divisor }
+    requires factor { (pos 0 <ℤ factor) × (nat_abs factor ≤ 2147483648) }
+    ensures total { IfOk result (λ refused. refused.total
+        ≡ signed inverted (total (λ j. slice_index_or making.now.parts.items j one) row.now k making.now.divisor)) }
+    ensures modulus { IfOk result (λ refused. refused.modulus ≡ making.now.divisor *ℤ factor) }
+    ensures narrow { IfOk result (λ refused. IsNarrow refused.total) }
+    ensures range { IfErr result (CarriesRefusal
+        (signed inverted (total (λ j. slice_index_or making.now.parts.items j one) row.now k making.now.divisor))
+        (making.now.divisor *ℤ factor)) }
+{
+    let total = row_total(alloc, making, row, k, inverted)?;
+    match number_times(making.divisor, factor) {
+        Ok(modulus) => Ok(Refused { total, modulus }),
+        Err(stop) => {
+            drop(total);
+            Err(stop)
+        }
+    }
+}
+
 /// The end of row k, where no variable is left of it.
 fn closed_end(
     alloc: Global,
@@ -222,22 +259,18 @@ fn closed_end(
     requires narrow { All IsNarrow making.now.parts.items }
     requires below { VariablesBelow (length making.now.parts.items) row.now }
     requires positive { pos 0 <ℤ making.now.divisor }
+    requires closed { pivot r.now ≡ None }
     ensures treated { (h : HeadData) (rows : List PowerMap) (kept : Kept) → row.now ≡ nth rows k
-        → IsTurning rows kept k h making.now r.now inverted → pivot r.now ≡ None
-        → IfOk result (IsTreated rows kept k h making.now) }
+        → IsTurning rows kept k h making.now r.now inverted → IfOk result (IsTreated rows kept k h making.now) }
     ensures range { (h : HeadData) (rows : List PowerMap) (kept : Kept) → row.now ≡ nth rows k
-        → IsTurning rows kept k h making.now r.now inverted → pivot r.now ≡ None
-        → IfErr result (CarriesInRow rows kept k) }
+        → IsTurning rows kept k h making.now r.now inverted → IfErr result (CarriesInRow rows kept k) }
 {
-    let Some(size) = first_size(r.terms()) else {
-        return Ok(None);
-    };
-    let total = row_total(alloc, making, row, k, inverted)?;
-    match number_times(making.divisor, i64::from(size) + 1) {
-        Ok(modulus) => Ok(Some(Refused { total, modulus })),
-        Err(stop) => {
-            drop(total);
-            Err(stop)
+    match first_size(r.terms()) {
+        None => Ok(None),
+        Some(size) => {
+            let factor = i64::from(size) + 1;
+            let refused = row_refusal(alloc, making, row, k, inverted, factor)?;
+            Ok(Some(refused))
         }
     }
 }
@@ -264,16 +297,20 @@ fn power_end(
         → IsTurning rows kept k h making.old r.now inverted → IfErr result (CarriesInRow rows kept k) }
 {
     let p = r.power_of(Atom::Var(m));
-    let total = row_total(alloc, making, row, k, inverted)?;
-    let number = number_times(making.divisor, i64::from(p))?;
+    let refused = row_refusal(alloc, making, row, k, inverted, i64::from(p))?;
     if has_base_unit(r.terms()) {
-        return Ok(Some(Refused {
-            total,
-            modulus: number,
-        }));
+        return Ok(Some(refused));
     }
-    end_variable(alloc, &mut making.solution, &mut making.parts, m, p, &total)?;
-    making.divisor = number;
+    end_variable(
+        alloc,
+        &mut making.solution,
+        &mut making.parts,
+        m,
+        p,
+        &refused.total,
+    )?;
+    making.divisor = refused.modulus;
+    drop(refused);
     Ok(None)
 }
 
@@ -298,13 +335,15 @@ pub fn make_row(
     let mut r = put_in_row(alloc, row, &making.solution)?;
     let mut inverted = false;
     loop {
-        let Some(turn) = next_turn(alloc, &r)? else {
-            return closed_end(alloc, making, row, k, inverted, &r);
-        };
-        r = make_turn(alloc, making, head, &r, &turn)?;
-        inverted = flipped(inverted, turn.inverted);
-        if !has_other_variable(r.terms(), turn.variable) {
-            return power_end(alloc, making, row, k, inverted, &r, turn.variable);
+        match next_turn(alloc, &r)? {
+            None => return closed_end(alloc, making, row, k, inverted, &r),
+            Some(turn) => {
+                r = make_turn(alloc, making, head, &r, &turn)?;
+                inverted = flipped(inverted, turn.inverted);
+                if !has_other_variable(r.terms(), turn.variable) {
+                    return power_end(alloc, making, row, k, inverted, &r, turn.variable);
+                }
+            }
         }
     }
 }

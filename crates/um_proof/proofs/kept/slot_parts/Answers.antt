@@ -1,6 +1,5 @@
-use Rattle.std.proofs.Common.{◌≡◌, ◌*◌, ◌≤◌, nat_abs, ℤ, w32, FitsSigned, sym, subst, arith, rules}
+use Rattle.std.proofs.Common.{◌*◌, sym, subst, arith}
 use Rattle.std.proofs.lemmas.Int.{ints}
-use Rattle.um_units.specs.PowerMap.{pow}
 use Rattle.um_wide.specs.Room.{IsWithin}
 use Rattle.um_wide.proofs.Rooms.{abs_32, within-pow, room-within}
 use Rattle.um_proof.proofs.kept.slot_parts.Goals as goal
@@ -11,7 +10,7 @@ mul-requires c =
     let e = abs_32 c.args.e c.ranges.e in
     record {
       room = room-within (2147483648 * 9223372036854775807) (2147483648 * 9223372036854775807) c.in_ok-scaled.scaled c.in_ok-taken.taken
-      (subst (IsWithin (2147483648 * 9223372036854775807)) (sym c.in_ok-scaled.ensures.exact) (within-pow 2147483648 9223372036854775807 c.args.parts.now _ (omega (arith, ints, p)) c.requires.parts))
-      (subst (IsWithin (2147483648 * 9223372036854775807)) (sym c.in_ok-taken.ensures.exact) (within-pow 2147483648 9223372036854775807 c.args.total.now _ (omega (arith, ints, e)) c.requires.total))
-      (omega arith);
+          (subst (IsWithin (2147483648 * 9223372036854775807)) (sym c.in_ok-scaled.ensures.exact) (within-pow 2147483648 9223372036854775807 c.args.parts.now _ (omega (arith, ints, p)) c.requires.parts))
+          (subst (IsWithin (2147483648 * 9223372036854775807)) (sym c.in_ok-taken.ensures.exact) (within-pow 2147483648 9223372036854775807 c.args.total.now _ (omega (arith, ints, e)) c.requires.total))
+          (omega arith);
     }

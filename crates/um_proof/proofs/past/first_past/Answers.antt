@@ -1,8 +1,7 @@
-use Rattle.std.proofs.Common.{◌≡◌, ◌<◌, Some, ℤ, pos, nat_abs, nat_lt, true, slice_index_or, length, to_z, of_z, w64, sym, ap, ◌∙◌, subst, rules, arith}
-use Rattle.std.proofs.lemmas.Int.{ints, to_z-of_z}
+use Rattle.std.proofs.Common.{◌≡◌, ◌<◌, ℤ, pos, nat_abs, nat_lt, true, slice_index_or, length, to_z, of_z, w64, sym, ap, ◌∙◌, subst, rules, arith}
+use Rattle.std.proofs.lemmas.Int.{to_z-of_z}
 use Rattle.std.proofs.lemmas.Bool.{ltb-true}
 use Rattle.std.proofs.lemmas.List.{take_all}
-use Rattle.std.proofs.Math.Seq.{take-length}
 use Rattle.std.specs.Int.{w128}
 use Rattle.std.specs.Prelude.{IsTrue, take}
 use Rattle.std.specs.List.{list_all}

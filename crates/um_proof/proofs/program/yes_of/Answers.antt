@@ -1,13 +1,15 @@
-use Rattle.std.proofs.Common.{◌≡◌, ◌<◌, length, Some, slice_get, sym, ap, ◌∙◌, subst, arith}
-use Rattle.std.proofs.lemmas.List.{length-map, get_or-map}
-use Rattle.std.proofs.lemmas.Option.{slice_get-get_or}
-use Rattle.std.specs.Prelude.{IfOk}
-use Rattle.um_tree.specs.ProgramTree.{program_tree, scheme_tree}
+use Rattle.std.proofs.Common.{◌≡◌, ◌<◌, ◌≤◌, ◌∙◌, ℕ, Some, map, length, slice_get, get_or, refl, sym, ap, subst, arith}
+use Rattle.std.specs.Prelude.{IfOk, IfErr}
+use Rattle.std.specs.Option.{option_map}
+use Rattle.std.proofs.lemmas.List.{get_or_read, length-map}
+use Rattle.std.proofs.lemmas.Option.{slice_get_read, slice_get-map}
+use Rattle.um_tree.specs.declared.program.Scheme.{Scheme}
+use Rattle.um_tree.specs.ProgramTree.{FunctionTree, SchemeTree, program_tree, scheme_tree}
 use Rattle.um_infer.specs.Answers.{scheme_trees}
 use Rattle.um_infer.proofs.SchemeLists.{item_at}
-use Rattle.um_proof.specs.Answers.{AreFunctionRows, judged}
-use Rattle.um_proof.specs.Proving.{IsYesOf}
-use Rattle.um_proof.proofs.GivenFunction.{have, has_rows, judged_scheme, yes_valid, yes_range}
+use Rattle.um_rows.specs.Judgement.{has_scheme}
+use Rattle.um_proof.specs.Answers.{AreFunctionRows, judged, IsYesMade}
+use Rattle.um_proof.proofs.FunctionAnswers.{schemes_until, same_item, scheme_judgement, yes_judged, yes_valid, yes_range}
 use Rattle.um_proof.proofs.program.yes_of.Goals as goal
 
 pub rows_of-requires-clause-function : goal.rows_of-requires-clause-function
@@ -15,82 +17,56 @@ rows_of-requires-clause-function c = let l = c.requires.inside in let f = c.requ
 
 pub rows_of-requires-clause-before : goal.rows_of-requires-clause-before
 rows_of-requires-clause-before c =
-    let p = program_tree c.args.shaped.now in
-    let ss = scheme_trees c.args.schemes.now in
-    let n = length c.args.schemes.now.items.items in
-    let long = length-map c.args.schemes.now.items.items scheme_tree in
     let l = c.requires.inside in
-    let w = item_at ss c.args.i (omega (arith, l, long)) in
-    have p c.base_count-bases.ensures.formed n ss c.requires.few c.requires.before c.args.i l w.0 w.1
+    schemes_until (program_tree c.args.shaped.now) c.base_count-bases.ensures.formed (length c.args.schemes.now.items.items) c.args.i (scheme_trees c.args.schemes.now) c.requires.few (omega (arith, l)) c.requires.before
 
 pub rows_of-requires-clause-limits : goal.rows_of-requires-clause-limits
-rows_of-requires-clause-limits c =
-    let p = program_tree c.args.shaped.now in
-    let ss = scheme_trees c.args.schemes.now in
-    let n = length c.args.schemes.now.items.items in
-    let long = length-map c.args.schemes.now.items.items scheme_tree in
-    let l = c.requires.inside in
-    let w = item_at ss c.args.i (omega (arith, l, long)) in
-    has_rows p c.base_count-bases.ensures.formed n ss c.requires.few c.requires.before c.args.i l w.0 w.1
+rows_of-requires-clause-limits c = λ f e.
+    let w = item_at (scheme_trees c.args.schemes.now) c.args.i (let n = length-map c.args.schemes.now.items.items scheme_tree in let l = c.requires.inside in omega (arith, n, l)) in
+    let h = scheme_judgement (program_tree c.args.shaped.now) c.base_count-bases.ensures.formed (length c.args.schemes.now.items.items) (scheme_trees c.args.schemes.now) c.requires.few c.requires.before c.args.i c.requires.inside f e w.0 w.1 in
+    (h.few, h.in_range)
 
 pub unit_count-units-requires : goal.unit_count-units-requires
 unit_count-units-requires c = let l = c.requires.inside in let f = c.requires.few in omega (arith, l, f)
 
 pub make_yes-made-requires-clause-rows : goal.make_yes-made-requires-clause-rows
 make_yes-made-requires-clause-rows c =
-    let l = c.requires.inside in let f = c.requires.few in
-    let d = item_at (program_tree c.args.shaped.now).functions c.args.i (omega (arith, l, f)) in
-    subst (λ b. AreFunctionRows b c.unit_count-units.result c.in_ok-equations.equations) (sym c.base_count-bases.ensures.count)
-    (subst (λ u. AreFunctionRows (length (program_tree c.args.shaped.now).bases) u c.in_ok-equations.equations) (sym (c.unit_count-units.ensures d.0 d.1)) (c.in_ok-equations.ensures.rows d.0 d.1))
+    let p = program_tree c.args.shaped.now in
+    let w = item_at p.functions c.args.i (let l = c.requires.inside in let f = c.requires.few in omega (arith, l, f)) in
+    subst (λ n. AreFunctionRows c.base_count-bases.result n c.in_ok-equations.equations) (sym (c.unit_count-units.ensures w.0 w.1))
+    (subst (λ n. AreFunctionRows n (w.0).units c.in_ok-equations.equations) (sym c.base_count-bases.ensures.count) (c.in_ok-equations.ensures.rows w.0 w.1))
 
 pub make_yes-made-requires-clause-judged : goal.make_yes-made-requires-clause-judged
 make_yes-made-requires-clause-judged c =
     let p = program_tree c.args.shaped.now in
-    let ss = scheme_trees c.args.schemes.now in
-    let n = length c.args.schemes.now.items.items in
-    let long = length-map c.args.schemes.now.items.items scheme_tree in
-    let l = c.requires.inside in
-    let fewer = c.requires.few in
-    let item = c.index.result.now in
-    let stands : slice_get ss c.args.i ≡ Some (scheme_tree item) =
-        slice_get-get_or ss c.args.i (scheme_tree item) (subst (λ m. c.args.i < m) (sym long) l)
-        ∙ ap Some (get_or-map c.args.schemes.now.items.items scheme_tree c.args.i item (scheme_tree item) l ∙ ap scheme_tree (sym c.index.ensures)) in
-    let d = item_at p.functions c.args.i (omega (arith, l, fewer)) in
-    (d.0.at,
-    ap (λ b. judged b c.unit_count-units.result d.0.at c.in_ok-equations.equations) c.base_count-bases.ensures.count
-    ∙ ap (λ u. judged (length p.bases) u d.0.at c.in_ok-equations.equations) (c.unit_count-units.ensures d.0 d.1)
-    ∙ judged_scheme p c.base_count-bases.ensures.formed n ss c.requires.few c.requires.before c.args.i l (scheme_tree item) stands d.0 d.1 c.in_ok-equations.equations (c.in_ok-equations.ensures.equations d.0 d.1))
+    let w = item_at p.functions c.args.i (let l = c.requires.inside in let f = c.requires.few in omega (arith, l, f)) in
+    let items = c.args.schemes.now.items.items in
+    let there : slice_get (map scheme_tree items) c.args.i ≡ Some (scheme_tree c.index.result.now) = slice_get-map scheme_tree items c.args.i ∙ ap (option_map scheme_tree) (slice_get_read items (length items) c.args.i c.index.result.now refl c.requires.inside c.index.ensures) in
+    let r = c.in_ok-equations.equations in
+    ((w.0).at,
+    subst (λ n. judged c.base_count-bases.result n (w.0).at r ≡ has_scheme (scheme_tree c.index.result.now)) (sym (c.unit_count-units.ensures w.0 w.1))
+    (subst (λ n. judged n (w.0).units (w.0).at r ≡ has_scheme (scheme_tree c.index.result.now)) (sym c.base_count-bases.ensures.count)
+    (yes_judged p c.base_count-bases.ensures.formed (length items) (scheme_trees c.args.schemes.now) c.requires.few c.requires.before c.args.i c.requires.inside w.0 w.1 (scheme_tree c.index.result.now) there r (c.in_ok-equations.ensures.equations w.0 w.1))))
 
 pub returns-clause-valid : goal.returns-clause-valid
-returns-clause-valid c f s declared at =
+returns-clause-valid c = λ f s e at.
     let p = program_tree c.args.shaped.now in
-    let ss = scheme_trees c.args.schemes.now in
-    let n = length c.args.schemes.now.items.items in
-    let long = length-map c.args.schemes.now.items.items scheme_tree in
-    let l = c.requires.inside in
-    let fewer = c.requires.few in
-    let item = c.index.result.now in
-    let stands : slice_get ss c.args.i ≡ Some (scheme_tree item) =
-        slice_get-get_or ss c.args.i (scheme_tree item) (subst (λ m. c.args.i < m) (sym long) l)
-        ∙ ap Some (get_or-map c.args.schemes.now.items.items scheme_tree c.args.i item (scheme_tree item) l ∙ ap scheme_tree (sym c.index.ensures)) in
-    let e : Some (scheme_tree item) ≡ Some s = sym stands ∙ at in
-    let same : scheme_tree item ≡ s = cc e in
-    subst (λ t. IfOk c.make_yes-made.result (IsYesOf p ss c.args.i f t)) same
-    (yes_valid p c.base_count-bases.ensures.formed n ss c.requires.few c.requires.before c.args.i l (scheme_tree item) stands f declared c.in_ok-equations.equations (c.in_ok-equations.ensures.equations f declared)
-    c.base_count-bases.result c.unit_count-units.result c.make_yes-made.result c.base_count-bases.ensures.count (c.unit_count-units.ensures f declared) c.make_yes-made.ensures.made)
+    let items = c.args.schemes.now.items.items in
+    let there : slice_get (map scheme_tree items) c.args.i ≡ Some (scheme_tree c.index.result.now) = slice_get-map scheme_tree items c.args.i ∙ ap (option_map scheme_tree) (slice_get_read items (length items) c.args.i c.index.result.now refl c.requires.inside c.index.ensures) in
+    let same : scheme_tree c.index.result.now ≡ s = same_item (scheme_tree c.index.result.now) s (sym there ∙ at) in
+    let r = c.in_ok-equations.equations in
+    yes_valid p c.base_count-bases.ensures.formed (length items) (scheme_trees c.args.schemes.now) c.requires.few c.requires.before c.args.i c.requires.inside f e s at r (c.in_ok-equations.ensures.equations f e) c.make_yes-made.result
+    (subst (λ t. IsYesMade (length p.bases) f.units r t c.make_yes-made.result) same
+    (subst (λ n. IsYesMade n f.units r (scheme_tree c.index.result.now) c.make_yes-made.result) c.base_count-bases.ensures.count
+    (subst (λ n. IsYesMade c.base_count-bases.result n r (scheme_tree c.index.result.now) c.make_yes-made.result) (c.unit_count-units.ensures f e) c.make_yes-made.ensures.made)))
 
 pub returns-clause-range : goal.returns-clause-range
 returns-clause-range c =
     let p = program_tree c.args.shaped.now in
-    let ss = scheme_trees c.args.schemes.now in
-    let n = length c.args.schemes.now.items.items in
-    let long = length-map c.args.schemes.now.items.items scheme_tree in
-    let l = c.requires.inside in
-    let fewer = c.requires.few in
-    let item = c.index.result.now in
-    let stands : slice_get ss c.args.i ≡ Some (scheme_tree item) =
-        slice_get-get_or ss c.args.i (scheme_tree item) (subst (λ m. c.args.i < m) (sym long) l)
-        ∙ ap Some (get_or-map c.args.schemes.now.items.items scheme_tree c.args.i item (scheme_tree item) l ∙ ap scheme_tree (sym c.index.ensures)) in
-    let d = item_at p.functions c.args.i (omega (arith, l, fewer)) in
-    yes_range p c.base_count-bases.ensures.formed n ss c.requires.few c.requires.before c.args.i l (scheme_tree item) stands d.0 d.1 c.in_ok-equations.equations (c.in_ok-equations.ensures.equations d.0 d.1)
-    c.base_count-bases.result c.unit_count-units.result c.make_yes-made.result c.base_count-bases.ensures.count (c.unit_count-units.ensures d.0 d.1) c.make_yes-made.ensures.made
+    let w = item_at p.functions c.args.i (let l = c.requires.inside in let f = c.requires.few in omega (arith, l, f)) in
+    let items = c.args.schemes.now.items.items in
+    let there : slice_get (map scheme_tree items) c.args.i ≡ Some (scheme_tree c.index.result.now) = slice_get-map scheme_tree items c.args.i ∙ ap (option_map scheme_tree) (slice_get_read items (length items) c.args.i c.index.result.now refl c.requires.inside c.index.ensures) in
+    let r = c.in_ok-equations.equations in
+    yes_range p c.base_count-bases.ensures.formed (length items) (scheme_trees c.args.schemes.now) c.requires.few c.requires.before c.args.i c.requires.inside w.0 w.1 (scheme_tree c.index.result.now) there r (c.in_ok-equations.ensures.equations w.0 w.1) c.make_yes-made.result
+    (subst (λ n. IsYesMade n (w.0).units r (scheme_tree c.index.result.now) c.make_yes-made.result) c.base_count-bases.ensures.count
+    (subst (λ n. IsYesMade c.base_count-bases.result n r (scheme_tree c.index.result.now) c.make_yes-made.result) (c.unit_count-units.ensures w.0 w.1) c.make_yes-made.ensures.made))
