@@ -13,10 +13,10 @@ use Rattle.um_rows.specs.Equations.{Equations, known_function, may_recur, callee
 
 module _ (records : List RecordTree) (i : ℕ) (f : FunctionTree) where
   -- by what its calls go to
-  keys_by : (ℕ → Callee) → List Key
+  abbrev keys_by : (ℕ → Callee) → List Key
   keys_by c = name_keys 0 f.units ++ (notes_keys 0 f.params ++ (result_keys (notes_holes f.params) f.result ++ expr_keys records c (head_holes f) f.body))
 
-  equations_by : List Key → (ℕ → Callee) → Equations
+  abbrev equations_by : List Key → (ℕ → Callee) → Equations
   equations_by keys c =
       let order = slot_order keys in
       let holes : ℕ → PowerMap = λ k. slot_unit order (hole k) in
