@@ -34,7 +34,7 @@ use Rattle.um_proof.proofs.SameEquations.{same_count, same_equations}
 use Rattle.um_proof.proofs.GivenSchemes.{IsGiven, given}
 use Rattle.um_proof.proofs.FunctionRows.{HasJudgement, judged_rows, same_signature, same_rows, judged_same, moved_refusal}
 
-same_item : {X : Type 0} (x y : X) → Some x ≡ Some y → x ≡ y
+pub same_item : {X : Type 0} (x y : X) → Some x ≡ Some y → x ≡ y
 same_item x y e = cc e
 
 -- ---- the schemes of the functions before
@@ -165,14 +165,14 @@ module _ (p : ProgramTree) (i : ℕ) (refused : IsFirstRefused (infer p) i) wher
         no_range (Err stop.NoMemory) m = tt
 
 -- ---- the program
-pub within_limits : (p : ProgramTree) (schemes : List SchemeTree) (r : Inference) (no : Option No) → IsRefusal p schemes r no → IsWithinLimits r
-within_limits p schemes (all_schemes all) no h = tt
+pub within_limits : (p : ProgramTree) (schemes : List SchemeTree) (r : Inference) (c : Option No) → IsRefusal p schemes r c → IsWithinLimits r
+within_limits p schemes (all_schemes all) o h = tt
 within_limits p schemes (stops_at_slots i) None h = absurd h
 within_limits p schemes (stops_at_slots i) (Some c) h = absurd h
 within_limits p schemes (stops_at_range i at) None h = absurd h
 within_limits p schemes (stops_at_range i at) (Some c) h = absurd h
-within_limits p schemes (stops_at_units i row at) no h = tt
-within_limits p schemes (stops_at_not_general i row at) no h = tt
+within_limits p schemes (stops_at_units i row at) o h = tt
+within_limits p schemes (stops_at_not_general i row at) o h = tt
 
 pub some_stops : (p : ProgramTree) → IsWithinLimits (infer p) → (e : ProveStop) → CarriesInSome p e → IsProved p (Err e)
 some_stops p within (prove.Slots i) h = absurd h
