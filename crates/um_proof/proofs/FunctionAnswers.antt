@@ -185,7 +185,7 @@ function_stops p i (stop.CertRange z) h = h
 function_stops p i stop.NoMemory h = tt
 
 pub refused_within : (p : ProgramTree) (i : ℕ) → IsFirstRefused (infer p) i → IsWithinLimits (infer p)
-refused_within p i refused = elim refused.2 [ | inl e ↦ subst IsWithinLimits (sym e) tt | inr e ↦ subst IsWithinLimits (sym e) tt ]
+refused_within p i refused = elim refused.2 [ inl e ↦ subst IsWithinLimits (sym e) tt | inr e ↦ subst IsWithinLimits (sym e) tt ]
 
 -- how many schemes there are before the refusal
 pub refusal_count : (p : ProgramTree) (schemes : List SchemeTree) (i : ℕ) (c : No) → IsFirstRefused (infer p) i → IsRefusal p schemes (infer p) (Some c) → length schemes ≡ i

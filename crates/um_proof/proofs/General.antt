@@ -86,10 +86,12 @@ module _ (bases parameters slots : ℕ) (units : List PowerMap) (count : length 
       let own = All-head (HoldsNoParameter bases parameters) u us none in
       let inside = unit_below slots u (All-front IsSlot (unit_variables u) (flat_map unit_variables us) low) in
       let first = unit_put u own inside in
-      let rest = units_moved us (All-tail (HoldsNoParameter bases parameters) u us none) (All-back IsSlot (unit_variables u) (flat_map unit_variables us) low) in
-      ((λ i. first i ∷ rest.0 i), λ f.
-          let parts = and_parts (fits (replace (nth units) u)) (list_all fits (map (replace (nth units)) us)) f in
-          and_from (fits (replace (nth general) u)) (list_all fits (map (replace (nth general)) us)) (unit_fits u own inside parts.0) (rest.1 parts.1))
+      let rest = units_moved us (All-tail (HoldsNoParameter bases parameters) u us none) (All-back IsSlot (unit_variables u) (flat_map unit_variables us) low) in (
+        (λ i. first i ∷ rest.0 i),
+        λ f.
+            let parts = and_parts (fits (replace (nth units) u)) (list_all fits (map (replace (nth units)) us)) f in
+            and_from (fits (replace (nth general) u)) (list_all fits (map (replace (nth general)) us)) (unit_fits u own inside parts.0) (rest.1 parts.1),
+      )
 
   abbrev IsMoved : TypeTree → Type 0
   IsMoved t = (put (nth general) t ≡ moved in_place (put (nth units) t)) × (IsTrue (type_fits (put (nth units) t)) → IsTrue (type_fits (put (nth general) t)))

@@ -61,19 +61,19 @@ module _ (bases parameters slots at : ℕ) (g : Signature) (rows : List Row) whe
   refused_slots : (k place : ℕ) (r : Solving) → solve 0 rows start ≡ unsolved k place → solve 0 (rows_up_to k rows) (own_variables slots) ≡ r → IsRefused (by_slots k place r) → IsRefusedBy (by_slots k place r)
   refused_slots k place (solved us) e f h = record { row = k; place = place; unsolvable = e; loosely = inl (us, f, refl) }
   refused_slots k place (unsolved j p) e f h = record { row = k; place = place; unsolvable = e; loosely = inr (j, p, f, refl) }
-  refused_slots k place (out_of_range p) e f h = elim h.2 [ | inl w ↦ absurd (cc w) | inr w ↦ absurd (cc w) ]
+  refused_slots k place (out_of_range p) e f h = elim h.2 [ inl w ↦ absurd (cc w) | inr w ↦ absurd (cc w) ]
 
   refused_solution : (us : List PowerMap) → IsRefused (by_solution bases parameters slots at (put_signature (nth us) g)) → ⊥
   refused_solution us h =
       let made = numbered_scheme (generalised bases parameters slots (put_signature (nth us) g)) in
       on_test (signature_fits (put_signature (nth us) g))
-      (λ t. elim (subst (λ b. IsRefused (cond b (has_scheme made) (passes_range at))) t h).2 [ | inl w ↦ cc w | inr w ↦ cc w ])
-      (λ t. elim (subst (λ b. IsRefused (cond b (has_scheme made) (passes_range at))) t h).2 [ | inl w ↦ cc w | inr w ↦ cc w ])
+      (λ t. elim (subst (λ b. IsRefused (cond b (has_scheme made) (passes_range at))) t h).2 [ inl w ↦ cc w | inr w ↦ cc w ])
+      (λ t. elim (subst (λ b. IsRefused (cond b (has_scheme made) (passes_range at))) t h).2 [ inl w ↦ cc w | inr w ↦ cc w ])
 
   refused_by : (r : Solving) → solve 0 rows start ≡ r → IsRefused (by_solving bases parameters slots at g rows r) → IsRefusedBy (by_solving bases parameters slots at g rows r)
   refused_by (solved us) e h = absurd (refused_solution us h)
   refused_by (unsolved k place) e h = refused_slots k place (solve 0 (rows_up_to k rows) (own_variables slots)) e refl h
-  refused_by (out_of_range place) e h = elim h.2 [ | inl w ↦ absurd (cc w) | inr w ↦ absurd (cc w) ]
+  refused_by (out_of_range place) e h = elim h.2 [ inl w ↦ absurd (cc w) | inr w ↦ absurd (cc w) ]
 
   pub judged_refused : IsRefused (by_rows bases parameters slots at g rows) → IsRefusedBy (by_rows bases parameters slots at g rows)
   judged_refused h = refused_by (solve 0 rows start) refl h

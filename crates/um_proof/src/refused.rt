@@ -91,13 +91,7 @@ fn up_to(rows: &[Row], row: u32) -> &[Row]
 }
 
 /// The No of rows that have no solution up to the last with the unit parameters as slots like the others.
-fn loose_no(
-    alloc: Global,
-    slots: u32,
-    bases: u32,
-    rows: &[Row],
-    last: u32,
-) -> Result<No, CertStop>
+fn loose_no(alloc: Global, slots: u32, bases: u32, rows: &[Row], last: u32) -> Result<No, CertStop>
     requires few { slots ≤ 2000 }
     requires number { length rows.now ≤ 4294967295 }
     requires rows { All (λ (row : RowData). VariablesBelow slots row.unit) rows.now }

@@ -189,7 +189,12 @@ fn add_all(
 }
 
 /// Adds the types with the units put for their variables, which pass no range.
-fn add_types(alloc: Global, items: &mut Vec<Ty>, units: &[Unit], types: &[Ty]) -> Result<(), AllocError>
+fn add_types(
+    alloc: Global,
+    items: &mut Vec<Ty>,
+    units: &[Unit],
+    types: &[Ty],
+) -> Result<(), AllocError>
     requires { IsTrue (list_all type_fits (map (put (nth units.now)) (map type_tree types.now))) }
     ensures { OnOk result (map type_tree items.new.items
         ≡ map type_tree items.old.items ++ map (put (nth units.now)) (map type_tree types.now)) }

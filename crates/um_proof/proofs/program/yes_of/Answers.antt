@@ -42,11 +42,12 @@ make_yes-made-requires-clause-judged c =
     let w = item_at p.functions c.args.i (let l = c.requires.inside in let f = c.requires.few in omega (arith, l, f)) in
     let items = c.args.schemes.now.items.items in
     let there : slice_get (map scheme_tree items) c.args.i ≡ Some (scheme_tree c.index.result.now) = slice_get-map scheme_tree items c.args.i ∙ ap (option_map scheme_tree) (slice_get_read items (length items) c.args.i c.index.result.now refl c.requires.inside c.index.ensures) in
-    let r = c.in_ok-equations.equations in
-    ((w.0).at,
-    subst (λ n. judged c.base_count-bases.result n (w.0).at r ≡ has_scheme (scheme_tree c.index.result.now)) (sym (c.unit_count-units.ensures w.0 w.1))
-    (subst (λ n. judged n (w.0).units (w.0).at r ≡ has_scheme (scheme_tree c.index.result.now)) (sym c.base_count-bases.ensures.count)
-    (yes_judged p c.base_count-bases.ensures.formed (length items) (scheme_trees c.args.schemes.now) c.requires.few c.requires.before c.args.i c.requires.inside w.0 w.1 (scheme_tree c.index.result.now) there r (c.in_ok-equations.ensures.equations w.0 w.1))))
+    let r = c.in_ok-equations.equations in (
+      (w.0).at,
+      subst (λ n. judged c.base_count-bases.result n (w.0).at r ≡ has_scheme (scheme_tree c.index.result.now)) (sym (c.unit_count-units.ensures w.0 w.1))
+          (subst (λ n. judged n (w.0).units (w.0).at r ≡ has_scheme (scheme_tree c.index.result.now)) (sym c.base_count-bases.ensures.count)
+          (yes_judged p c.base_count-bases.ensures.formed (length items) (scheme_trees c.args.schemes.now) c.requires.few c.requires.before c.args.i c.requires.inside w.0 w.1 (scheme_tree c.index.result.now) there r (c.in_ok-equations.ensures.equations w.0 w.1))),
+    )
 
 pub returns-clause-valid : goal.returns-clause-valid
 returns-clause-valid c = λ f s e at.

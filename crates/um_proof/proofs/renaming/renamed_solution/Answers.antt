@@ -47,10 +47,13 @@ read_numbered-made-requires-clause-numbered c =
     let held = c.in_ok-held.ensures ∙ ap (held_below n) (c.deref.ensures.value ∙ c.in_ok-general.ensures) in
     let whole : to_number g c.deref-2.result.now c.deref-3.result.now ≡ to_number g general (held_below n general) = ap (λ vs. to_number g vs c.deref-3.result.now) us ∙ ap (to_number g general) (c.deref-3.ensures.value ∙ held) in
     let types : type_trees c.in_ok-numbered.numbered.types ≡ renumbered (to_number g general (held_below n general)) = c.in_ok-numbered.ensures.types ∙ ap renumbered whole in
-    let many = length-map c.args.rows.now.params.items.items type_tree ∙ sym (c.len.ensures ∙ c.args.rows.now.params.items.ok.0) in
-    (order, map (replace (by_place order)) general, sym (c.in_ok-numbered.ensures.vars ∙ ap (λ (ts : List TypeTree). length (variable_order ts)) whole),
-    subst (λ ks. AreNumbered (c.len.result + 1) order ks (map (replace (by_place order)) general) (type_trees c.in_ok-numbered.numbered.types)) (sym (c.deref-4.ensures.value ∙ held))
-    (are_numbered g n c.len.result general (type_trees c.in_ok-numbered.numbered.types) many types))
+    let many = length-map c.args.rows.now.params.items.items type_tree ∙ sym (c.len.ensures ∙ c.args.rows.now.params.items.ok.0) in (
+      order,
+      map (replace (by_place order)) general,
+      sym (c.in_ok-numbered.ensures.vars ∙ ap (λ (ts : List TypeTree). length (variable_order ts)) whole),
+      subst (λ ks. AreNumbered (c.len.result + 1) order ks (map (replace (by_place order)) general) (type_trees c.in_ok-numbered.numbered.types)) (sym (c.deref-4.ensures.value ∙ held))
+          (are_numbered g n c.len.result general (type_trees c.in_ok-numbered.numbered.types) many types),
+    )
 
 pub read_numbered-made-requires-clause-held : goal.read_numbered-made-requires-clause-held
 read_numbered-made-requires-clause-held c =
