@@ -30,24 +30,25 @@ use Rattle.um_sig.specs.Reading.{IsRead}
 use Rattle.um_sig.specs.Answers.{IsConformed}
 use Rattle.um_sig.specs.Instances.{AreOverBases, AreAllTypings}
 use Rattle.um_sig.proofs.TypingLaws.{answers_say_what_typings_are}
-use Rattle.um_tool.specs.declared.order.Order.{Order}
-use Rattle.um_tool.specs.declared.order.Order.TheVariants.{Run, Steps, Eval, Conform}
-use Rattle.um_tool.specs.declared.order.Intake.TheVariants.{Text}
-use Rattle.um_tool.specs.declared.way.Way.{Way}
+use Rattle.um_orders.specs.declared.order.Order.{Order}
+use Rattle.um_orders.specs.declared.order.Order.TheVariants.{Run, Steps, Eval, Conform}
+use Rattle.um_orders.specs.declared.order.Intake.TheVariants.{Text}
+use Rattle.um_answers.specs.declared.way.Way.{Way}
 use Rattle.um_tree.specs.RawTree.{DeclSyntax}
-use Rattle.um_tool.specs.declared.status.Status.{Status}
-use Rattle.um_tool.specs.declared.status.Status.TheVariants.{Done, Limit, Units, PowerRange, Input, Trap, BudgetEnd, NotGeneral, NotConform}
-use Rattle.um_tool.specs.Asked.{Asked, called_name, argument_texts, held_name, signature_text}
-use Rattle.um_tool.specs.CallRefusals.{IsArgumentReply, IsCallReply, IsUnnamedReply, IsSignatureReply, IsConformReply}
-use Rattle.um_tool.specs.CallAnswer.{CallAnswer, BesideAnswer, ByCall, RunAnswer}
-use Rattle.um_tool.specs.ConformAnswer.{ConformAnswer, SignatureAnswer, ReadAnswer, BySignature, MatchingAnswer}
-use Rattle.um_tool.specs.Orders.{intake_of}
-use Rattle.um_tool.specs.Answer.{ByLayout, NamesAnswer, TypedAnswer, InferenceAnswer}
-use Rattle.um_tool.specs.Steps.{line}
+use Rattle.um_orders.specs.declared.status.Status.{Status}
+use Rattle.um_orders.specs.declared.status.Status.TheVariants.{Done, Limit, Units, PowerRange, Input, Trap, BudgetEnd, NotGeneral, NotConform}
+use Rattle.um_answers.specs.Asked.{Asked, called_name, argument_texts, held_name, signature_text}
+use Rattle.um_reports.specs.CallRefusals.{IsArgumentReply, IsCallReply, IsUnnamedReply, IsSignatureReply, IsConformReply}
+use Rattle.um_answers.specs.CallAnswer.{CallAnswer, BesideAnswer, ByCall, RunAnswer}
+use Rattle.um_answers.specs.ConformAnswer.{ConformAnswer, SignatureAnswer, ReadAnswer, BySignature, MatchingAnswer}
+use Rattle.um_orders.specs.Orders.{intake_of}
+use Rattle.um_answers.specs.TypedAnswer.{TypedAnswer}
+use Rattle.um_tool.specs.Answer.{ByLayout, NamesAnswer, InferenceAnswer}
+use Rattle.um_reports.specs.Steps.{line}
 use Rattle.um_tool.specs.Laws.{SpellsProgram}
 use Rattle.um_tool.specs.CallLaws.{IsCall, ends_a_call, IsMeantCall, EndedCallsAreMeant, is_verdict, IsVerdict, VerdictsSayWhatTypingsAre}
 use Rattle.um_tool.proofs.Reached.{comes_last, reached}
-use Rattle.um_tool.proofs.ConformsDone.{read_over_bases}
+use Rattle.um_answers.proofs.ConformsDone.{read_over_bases}
 
 -- ---- no refusal has a status that ends a call, and none that is a verdict
 

@@ -6,16 +6,16 @@ use Rattle.um_wire.specs.Faults.{Rose}
 use Rattle.um_wire.specs.Bytes.{Tells, TellsMoreThan, AppendsPrefix}
 use Rattle.um_wire.specs.declared.read.ReadStop.{ReadStop}
 use Rattle.um_wire.specs.declared.read.ReadStop.TheVariants.{TooLong as TooLongToRead, Failed as ReadFailed, NoMemory as OutOfMemory}
-use Rattle.um_tool.specs.declared.order.Order.{Order}
-use Rattle.um_tool.specs.declared.order.Intake.{Intake}
-use Rattle.um_tool.specs.declared.order.Intake.TheVariants.{Generated, Text}
-use Rattle.um_tool.specs.declared.status.Status.{Status}
-use Rattle.um_tool.specs.declared.status.Status.TheVariants.{Usage, ReadFault, WriteFault}
+use Rattle.um_orders.specs.declared.order.Order.{Order}
+use Rattle.um_orders.specs.declared.order.Intake.{Intake}
+use Rattle.um_orders.specs.declared.order.Intake.TheVariants.{Generated, Text}
+use Rattle.um_orders.specs.declared.status.Status.{Status}
+use Rattle.um_orders.specs.declared.status.Status.TheVariants.{Usage, ReadFault, WriteFault}
 use Rattle.um_tool.specs.Answer.{Answer, OrderAnswer, IntakeAnswer, LengthAnswer, TokensAnswer, IsNotBuilt}
-use Rattle.um_tool.specs.Refusals.{IsReadReply}
-use Rattle.um_tool.specs.Steps.{IsReply, line}
+use Rattle.um_reports.specs.Refusals.{IsReadReply}
+use Rattle.um_reports.specs.Steps.{IsReply, line}
 use Rattle.um_big.specs.BigText.{big_text}
-use Rattle.um_tool.specs.Orders.{order_of, intake_of, NamesUnbuilt, AsksFor}
+use Rattle.um_orders.specs.Orders.{order_of, intake_of, NamesUnbuilt, AsksFor}
 use Rattle.um_tool.specs.Served.{IsPlanned, Reads, Serves}
 use Rattle.um_tool.proofs.Statuses.{is_answered, Answer-status}
 

@@ -9,15 +9,15 @@ use Rattle.um_syntax.specs.Feeding.{IsTextAnswer}
 use Rattle.um_tree.specs.RawTree.{DeclSyntax}
 use Rattle.um_parse.specs.Parsed.{IsRead}
 use Rattle.um_big.specs.BigText.{big_text}
-use Rattle.um_tool.specs.declared.order.Order.{Order}
-use Rattle.um_tool.specs.declared.order.Intake.{Intake}
-use Rattle.um_tool.specs.declared.order.Intake.TheVariants.{Generated, Text, Bytes}
-use Rattle.um_tool.specs.declared.status.Status.{Status}
-use Rattle.um_tool.specs.declared.status.Status.TheVariants.{ReadFault, WriteFault, NoMemory}
+use Rattle.um_orders.specs.declared.order.Order.{Order}
+use Rattle.um_orders.specs.declared.order.Intake.{Intake}
+use Rattle.um_orders.specs.declared.order.Intake.TheVariants.{Generated, Text, Bytes}
+use Rattle.um_orders.specs.declared.status.Status.{Status}
+use Rattle.um_orders.specs.declared.status.Status.TheVariants.{ReadFault, WriteFault, NoMemory}
 use Rattle.um_tool.specs.Answer.{Answer}
-use Rattle.um_tool.specs.Orders.{AsksFor}
+use Rattle.um_orders.specs.Orders.{AsksFor}
 use Rattle.um_tool.specs.Passing.{GoesThrough}
-use Rattle.um_tool.specs.Steps.{IsReply, line}
+use Rattle.um_reports.specs.Steps.{IsReply, line}
 
 -- it takes something from the source
 abbrev pub TakesSome : Intake → Type 0

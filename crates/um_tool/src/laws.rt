@@ -1,5 +1,4 @@
-//! Laws of answers and report lines. A call does nothing: what it ensures is the law.
-ghost use Rattle.um_tool.specs.Laws.{LinesAgree, ColumnsAgree, PlacesArePrinted};
+//! Laws of answers. A call does nothing: what it ensures is the law.
 ghost use Rattle.um_tool.specs.Laws.{PrintedTypesArePrincipalSchemes, UnitsNameTheFirstUntyped};
 ghost use Rattle.um_tool.specs.Laws.{NotGeneralNamesTheFirstUntyped, AnswersAreUnique};
 ghost use Rattle.um_tool.specs.CallLaws.{PrintedCodeIsTheProgramsCode, EndedCallsAreMeant, VerdictsSayWhatTypingsAre};
@@ -28,14 +27,6 @@ pub fn ended_calls()
 /// for its form or its units not each is.
 pub fn verdicts()
     ensures { VerdictsSayWhatTypingsAre }
-{}
-
-/// The place of a report line, which is counted on bytes, is the line and the column that
-/// `um_syntax::line_column` counts on characters, wherever the bytes before the place are UTF-8.
-pub fn places_are_lines_and_columns()
-    ensures line { LinesAgree }
-    ensures column { ColumnsAgree }
-    ensures printed { PlacesArePrinted }
 {}
 
 /// Two texts and statuses that answer the same words and bytes are equal.

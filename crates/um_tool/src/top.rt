@@ -3,16 +3,15 @@ ghost use Rattle.std.specs.Prelude.{◌≡◌, ◌≢◌, ◌≤◌, IfOk, Some}
 ghost use Rattle.um_wire.specs.Faults.{Rose};
 ghost use Rattle.um_big.specs.BigText.{big_text as generated};
 ghost use Rattle.um_tool.specs.Answer.{TokensAnswer};
-ghost use Rattle.um_tool.specs.Orders.{order_of as order_named, intake_of, AsksFor};
+ghost use Rattle.um_orders.specs.Orders.{order_of as order_named, intake_of, AsksFor};
 ghost use Rattle.um_tool.specs.Served.{IsPlanned, IsUndisturbed, Reads, Serves};
 
-use crate::answer::{Reply, answer_text, not_built};
-use crate::order::{Intake, names_unbuilt};
+use crate::answer::{answer_text, not_built};
 use crate::reading::Reading;
-use crate::refusal::{reply_line, reply_to_unread};
-use crate::{Order, Status, Words, order_of};
 use std::alloc::{AllocError, Global};
 use um_big::big_text;
+use um_orders::{Intake, Order, Status, Words, names_unbuilt, order_of};
+use um_reports::{Reply, reply_line, reply_to_unread};
 use um_wire::{Failed, Sink, Source, read_into, write_all};
 
 /// The longest text that is read, in bytes.

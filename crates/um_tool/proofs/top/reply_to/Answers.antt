@@ -1,6 +1,6 @@
 use Rattle.std.proofs.Common.{refl, sym, ◌∙◌}
 use Rattle.um_sig.proofs.UniqueReadings.{readings_are_unique}
-use Rattle.um_tool.specs.Orders.{NamesUnbuilt}
+use Rattle.um_orders.specs.Orders.{NamesUnbuilt}
 use Rattle.um_tool.proofs.Serving.{if_ok, unbuilt_planned, usage_planned, planned_read_fault, planned_write_fault}
 use Rattle.um_tool.proofs.Complete.{planned_complete}
 use Rattle.um_tool.proofs.top.reply_to.Goals as goal

@@ -1,0 +1,13 @@
+mod AskedWords
+mod CodeEntries
+mod DifferentTexts
+mod LastCall
+mod SchemesGiven
+mod SchemesPrinted
+mod CallsDone
+pub mod ConformsDone
+mod UniqueReplies
+mod BigAnswers
+pub mod TypedStatuses
+pub mod TypedDone
+pub mod UniqueTyped

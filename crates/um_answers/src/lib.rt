@@ -1,0 +1,14 @@
+//! What each order asks of a program whose functions have their schemes, and the answer to it.
+#![tactic(auto)]
+
+mod asked;
+mod big;
+mod call;
+mod schemes;
+mod signature;
+mod typed;
+mod way;
+
+pub use asked::Asked;
+pub use typed::{answer_typed, reply_layout};
+pub use way::Way;
