@@ -5,8 +5,8 @@ use Rattle.um_tree.specs.Formed.{IsFormed}
 use Rattle.um_names.specs.Resolution.{resolved_program}
 use Rattle.um_infer.specs.Inference.{all_schemes, infer}
 use Rattle.um_answers.specs.declared.way.Way.TheVariants as way
-use Rattle.um_orders.specs.declared.status.Status.{Status}
-use Rattle.um_orders.specs.declared.status.Status.TheVariants.{Done}
+use Rattle.um_reports.specs.declared.status.Status.{Status}
+use Rattle.um_reports.specs.declared.status.Status.TheVariants.{Done}
 use Rattle.um_answers.specs.Asked.{Asked}
 use Rattle.um_answers.specs.BigAnswer.{BigAnswer, asked_by, last_call, run_told}
 use Rattle.um_answers.specs.Passing.{GivesValue}

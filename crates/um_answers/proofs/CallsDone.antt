@@ -16,8 +16,8 @@ use Rattle.um_run.proofs.CallLaws.{fitting_calls_are_calls}
 use Rattle.um_run.proofs.UniqueCalls.{calls_are_unique}
 use Rattle.um_run.proofs.ClosedAbbreviations.{abbreviations_are_closed}
 use Rattle.um_answers.specs.declared.way.Way.{Way}
-use Rattle.um_orders.specs.declared.status.Status.{Status}
-use Rattle.um_orders.specs.declared.status.Status.TheVariants.{Done}
+use Rattle.um_reports.specs.declared.status.Status.{Status}
+use Rattle.um_reports.specs.declared.status.Status.TheVariants.{Done}
 use Rattle.um_answers.specs.Asked.{Asked, called_name, argument_texts}
 use Rattle.um_answers.specs.CallAnswer.{CallAnswer, BesideAnswer, ByCall, RunAnswer, IsValueReply, IsOutcomeReply}
 use Rattle.um_answers.specs.Passing.{GivesValue}

@@ -21,8 +21,8 @@ use Rattle.um_sig.specs.Instances.{AreOverBases, AreAllTypings}
 use Rattle.um_sig.specs.Laws.{AreSameReading, ReadingsAreUnique}
 use Rattle.um_sig.proofs.SignaturesIn.{named_in, formed_signatures_are_over_their_variables}
 use Rattle.um_sig.proofs.TypingLaws.{answers_say_what_typings_are}
-use Rattle.um_orders.specs.declared.status.Status.{Status}
-use Rattle.um_orders.specs.declared.status.Status.TheVariants.{Done}
+use Rattle.um_reports.specs.declared.status.Status.{Status}
+use Rattle.um_reports.specs.declared.status.Status.TheVariants.{Done}
 use Rattle.um_answers.specs.Asked.{Asked, held_name, signature_text}
 use Rattle.um_reports.specs.CallRefusals.{IsUnnamedReply, IsConformReply}
 use Rattle.um_answers.specs.ConformAnswer.{ConformAnswer, SignatureAnswer, ReadAnswer, BySignature, MatchingAnswer}

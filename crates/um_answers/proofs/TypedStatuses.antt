@@ -13,7 +13,7 @@ use Rattle.um_sig.specs.declared.stop.SigText.{SigText}
 use Rattle.um_reports.specs.CallRefusals.{IsUnnamedReply}
 use Rattle.um_answers.specs.CallAnswer.{CallAnswer, BesideAnswer, ByCall, RunAnswer, IsOutcomeReply}
 use Rattle.um_answers.specs.ConformAnswer.{ConformAnswer, SignatureAnswer, ReadAnswer, BySignature, MatchingAnswer}
-use Rattle.um_orders.specs.declared.status.Status.{Status}
+use Rattle.um_reports.specs.declared.status.Status.{Status}
 use Rattle.um_answers.specs.declared.way.Way.{Way}
 use Rattle.um_answers.specs.declared.way.Way.TheVariants as way
 use Rattle.um_orders.specs.declared.order.Order.{Order}

@@ -27,7 +27,7 @@ use Rattle.um_gen.specs.ProgramCode.{program_code}
 use Rattle.um_vm.specs.Counting.{EndsAfter}
 use Rattle.um_answers.specs.declared.way.Way.{Way}
 use Rattle.um_answers.specs.declared.way.Way.TheVariants as way
-use Rattle.um_orders.specs.declared.status.Status.{Status}
+use Rattle.um_reports.specs.declared.status.Status.{Status}
 use Rattle.um_answers.specs.Asked.{Asked, called_name, argument_texts, held_name, signature_text}
 use Rattle.um_reports.specs.CallRefusals.{IsArgumentReply, IsCallReply, IsUnnamedReply, IsSignatureReply, IsConformReply}
 use Rattle.um_answers.specs.CallAnswer.{CallAnswer, BesideAnswer, ByCall, RunAnswer, AreSteps, IsOutcomeReply}

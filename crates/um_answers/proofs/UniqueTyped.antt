@@ -5,7 +5,7 @@ use Rattle.um_tree.specs.Formed.{IsFormed}
 use Rattle.um_answers.specs.declared.way.Way.TheVariants as way
 use Rattle.um_orders.specs.declared.order.Order.{Order}
 use Rattle.um_orders.specs.declared.order.Order.TheVariants.{Types, Code, Fmt, Run, Steps, Eval, Conform, Big}
-use Rattle.um_orders.specs.declared.status.Status.{Status}
+use Rattle.um_reports.specs.declared.status.Status.{Status}
 use Rattle.um_answers.specs.Asked.{Asked}
 use Rattle.um_answers.specs.TypedAnswer.{TypedAnswer, ByOrder}
 use Rattle.um_sig.specs.Laws.{ReadingsAreUnique}

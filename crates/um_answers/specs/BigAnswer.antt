@@ -7,8 +7,8 @@ use Rattle.std.specs.Str.{bytes_eq}
 use Rattle.um_tree.specs.ProgramTree.{FunctionTree, ProgramTree, SchemeTree}
 use Rattle.um_show.specs.SchemeText.{scheme_text}
 use Rattle.um_answers.specs.declared.way.Way.TheVariants as way
-use Rattle.um_orders.specs.declared.status.Status.{Status}
-use Rattle.um_orders.specs.Numbers.{number_of}
+use Rattle.um_reports.specs.declared.status.Status.{Status}
+use Rattle.um_reports.specs.Numbers.{number_of}
 use Rattle.um_answers.specs.Asked.{Asked}
 use Rattle.um_answers.specs.CallAnswer.{CallAnswer}
 use Rattle.um_reports.specs.Steps.{line}

@@ -14,8 +14,8 @@ use Rattle.um_run.specs.declared.call.CallRefusal.{CallRefusal}
 use Rattle.um_run.specs.Calls.{CallTree, call_values, IsCallOf}
 use Rattle.um_answers.specs.declared.way.Way.{Way}
 use Rattle.um_answers.specs.declared.way.Way.TheVariants as way
-use Rattle.um_orders.specs.declared.status.Status.{Status}
-use Rattle.um_orders.specs.declared.status.Status.TheVariants.{Done, BudgetEnd}
+use Rattle.um_reports.specs.declared.status.Status.{Status}
+use Rattle.um_reports.specs.declared.status.Status.TheVariants.{Done, BudgetEnd}
 use Rattle.um_answers.specs.Asked.{Asked, called_name, argument_texts}
 use Rattle.um_reports.specs.CallRefusals.{IsCallReply, IsCallRangeReply, IsTrapReply}
 use Rattle.um_reports.specs.Steps.{line, IsReply, Cases}

@@ -11,7 +11,7 @@ use Rattle.um_sig.specs.declared.stop.SigText.{SigText}
 use Rattle.um_sig.specs.declared.stop.SigStop.{SigStop}
 use Rattle.um_sig.specs.Reading.{IsRead}
 use Rattle.um_sig.specs.Answers.{IsConformed}
-use Rattle.um_orders.specs.declared.status.Status.{Status}
+use Rattle.um_reports.specs.declared.status.Status.{Status}
 use Rattle.um_answers.specs.Asked.{Asked, held_name, signature_text}
 use Rattle.um_reports.specs.CallRefusals.{IsUnnamedReply, IsSignatureReply, IsConformReply}
 

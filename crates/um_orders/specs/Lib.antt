@@ -1,3 +1,2 @@
--- What a reader must trust, in reading order: statuses and commands.
-pub mod Numbers
+-- What a reader must trust: what words ask for.
 pub mod Orders

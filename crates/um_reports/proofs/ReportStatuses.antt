@@ -18,8 +18,8 @@ use Rattle.um_sig.specs.declared.stop.SigStop.{SigStop}
 use Rattle.um_sig.specs.declared.stop.SigStop.TheVariants as sig_stop
 use Rattle.um_reports.specs.Refusals.{IsTextReply, IsParseReply, IsNameReply, IsShapeReply}
 use Rattle.um_reports.specs.CallRefusals.{IsArgumentReply, IsCallReply, IsSignatureReply, IsConformReply}
-use Rattle.um_orders.specs.declared.status.Status.{Status}
-use Rattle.um_orders.specs.declared.status.Status.TheVariants.{ReadFault, WriteFault, NoMemory}
+use Rattle.um_reports.specs.declared.status.Status.{Status}
+use Rattle.um_reports.specs.declared.status.Status.TheVariants.{ReadFault, WriteFault, NoMemory}
 use Rattle.um_orders.specs.declared.order.Intake.TheVariants.{Text}
 
 -- it is none of the faults'

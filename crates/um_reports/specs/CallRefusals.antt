@@ -12,9 +12,9 @@ use Rattle.um_sig.specs.declared.stop.SigText.{SigText}
 use Rattle.um_sig.specs.declared.stop.SigText.TheVariants as sig_text
 use Rattle.um_sig.specs.declared.stop.SigStop.{SigStop}
 use Rattle.um_sig.specs.declared.stop.SigStop.TheVariants as sig_stop
-use Rattle.um_orders.specs.declared.status.Status.{Status}
-use Rattle.um_orders.specs.declared.status.Status.TheVariants.{Done, Limit, PowerRange, Input, NotConform}
-use Rattle.um_orders.specs.declared.status.Status.TheVariants.{Trap as Trapped}
+use Rattle.um_reports.specs.declared.status.Status.{Status}
+use Rattle.um_reports.specs.declared.status.Status.TheVariants.{Done, Limit, PowerRange, Input, NotConform}
+use Rattle.um_reports.specs.declared.status.Status.TheVariants.{Trap as Trapped}
 use Rattle.um_reports.specs.Places.{position_of}
 use Rattle.um_reports.specs.Steps.{line, IsReply}
 

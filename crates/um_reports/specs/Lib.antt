@@ -1,4 +1,5 @@
--- What a reader must trust, in reading order: lines, places, and the report line of each refusal.
+-- What a reader must trust, in reading order: statuses, lines, places, and the report line of each refusal.
+pub mod Numbers
 pub mod Steps
 pub mod Places
 pub mod Refusals

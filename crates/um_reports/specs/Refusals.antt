@@ -13,9 +13,9 @@ use Rattle.um_measures.specs.declared.stop.NameStop.{NameStop}
 use Rattle.um_measures.specs.declared.stop.NameStop.TheVariants as name_stop
 use Rattle.um_shape.specs.declared.stop.ShapeStop.{ShapeStop}
 use Rattle.um_shape.specs.declared.stop.ShapeStop.TheVariants as shape_stop
-use Rattle.um_orders.specs.declared.status.Status.{Status}
-use Rattle.um_orders.specs.declared.status.Status.TheVariants.{TooLong, ReadFault, Utf8, Lexical, Syntax, Limit, Names}
-use Rattle.um_orders.specs.declared.status.Status.TheVariants.{Shape, Units, PowerRange, NotGeneral}
+use Rattle.um_reports.specs.declared.status.Status.{Status}
+use Rattle.um_reports.specs.declared.status.Status.TheVariants.{TooLong, ReadFault, Utf8, Lexical, Syntax, Limit, Names}
+use Rattle.um_reports.specs.declared.status.Status.TheVariants.{Shape, Units, PowerRange, NotGeneral}
 use Rattle.um_reports.specs.Places.{place_text}
 use Rattle.um_reports.specs.Steps.{line, IsReply}
 

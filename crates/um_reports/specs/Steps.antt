@@ -1,6 +1,6 @@
 -- How the steps of an answer follow each other: the first case that applies decides.
 use Rattle.std.specs.Prelude.{◌≡◌, ◌⊎◌, ℕ, List, ◌++◌, codes}
-use Rattle.um_orders.specs.declared.status.Status.{Status}
+use Rattle.um_reports.specs.declared.status.Status.{Status}
 
 -- these bytes and a line feed
 abbrev pub line : List ℕ → List ℕ

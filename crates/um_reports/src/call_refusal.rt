@@ -7,12 +7,12 @@ ghost use Rattle.um_reports.specs.CallRefusals.{difference_line, IsConformReply}
 ghost use Rattle.um_reports.specs.Calling.{NamesText};
 ghost use Rattle.um_reports.specs.Steps.{IsReply, line};
 
+use crate::Status;
 use crate::place::push_position;
 use crate::refusal::reply_line;
 use crate::reply::Reply;
 use std::alloc::{AllocError, Global};
 use um_frac::Trap;
-use um_orders::Status;
 use um_run::CallRefusal;
 use um_sig::{SigStop, SigText};
 use um_value::InputStop;

@@ -1,4 +1,4 @@
-//! What the program says where it refuses: report lines, with the places that they name.
+//! How a run may end, and what the program says where it refuses: report lines, with the places that they name.
 #![tactic(auto)]
 
 mod call_refusal;
@@ -6,6 +6,7 @@ pub mod laws;
 mod place;
 mod refusal;
 mod reply;
+mod status;
 
 pub use call_refusal::{
     reply_to_call, reply_to_call_range, reply_to_matching, reply_to_signature, reply_to_trap,
@@ -16,3 +17,4 @@ pub use refusal::{
     reply_to_slots, reply_to_text, reply_to_tokens, reply_to_units, reply_to_unread,
 };
 pub use reply::Reply;
+pub use status::Status;

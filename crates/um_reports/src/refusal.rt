@@ -5,11 +5,11 @@ ghost use Rattle.um_reports.specs.Refusals.{IsUnitsReply, IsNotGeneralReply, IsR
 ghost use Rattle.um_reports.specs.Refusals.{limit_label as label_of_limit};
 ghost use Rattle.um_reports.specs.Steps.{IsReply, line};
 
+use crate::Status;
 use crate::place::push_place;
 use crate::reply::Reply;
 use std::alloc::{AllocError, Global};
 use um_measures::NameStop;
-use um_orders::Status;
 use um_shape::ShapeStop;
 use um_syntax::TextStop;
 use um_tree::Name;

@@ -1,5 +1,5 @@
 // What a run is about to write.
-use um_orders::Status;
+use crate::Status;
 
 /// What a run is about to write, and the status that it then ends with.
 #[derive(Drop)]

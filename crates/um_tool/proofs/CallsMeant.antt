@@ -35,8 +35,8 @@ use Rattle.um_orders.specs.declared.order.Order.TheVariants.{Run, Steps, Eval, C
 use Rattle.um_orders.specs.declared.order.Intake.TheVariants.{Text}
 use Rattle.um_answers.specs.declared.way.Way.{Way}
 use Rattle.um_tree.specs.RawTree.{DeclSyntax}
-use Rattle.um_orders.specs.declared.status.Status.{Status}
-use Rattle.um_orders.specs.declared.status.Status.TheVariants.{Done, Limit, Units, PowerRange, Input, Trap, BudgetEnd, NotGeneral, NotConform}
+use Rattle.um_reports.specs.declared.status.Status.{Status}
+use Rattle.um_reports.specs.declared.status.Status.TheVariants.{Done, Limit, Units, PowerRange, Input, Trap, BudgetEnd, NotGeneral, NotConform}
 use Rattle.um_answers.specs.Asked.{Asked, called_name, argument_texts, held_name, signature_text}
 use Rattle.um_reports.specs.CallRefusals.{IsArgumentReply, IsCallReply, IsUnnamedReply, IsSignatureReply, IsConformReply}
 use Rattle.um_answers.specs.CallAnswer.{CallAnswer, BesideAnswer, ByCall, RunAnswer}

@@ -40,8 +40,8 @@ use Rattle.um_parse.specs.ProgramLimits.{WithinLimits, PassesAt, functions_in}
 use Rattle.um_parse.specs.ProgramStops.{StopsAt, HighAt}
 use Rattle.um_parse.specs.Parsed.{IsRead, LimitAt, Parsed}
 use Rattle.um_orders.specs.declared.order.Order.{Order}
-use Rattle.um_orders.specs.declared.status.Status.{Status}
-use Rattle.um_orders.specs.declared.status.Status.TheVariants.{Done}
+use Rattle.um_reports.specs.declared.status.Status.{Status}
+use Rattle.um_reports.specs.declared.status.Status.TheVariants.{Done}
 use Rattle.um_orders.specs.declared.order.Order.TheVariants.{Types, Code, Fmt, Run, Steps, Eval, Conform, Big}
 use Rattle.um_orders.specs.declared.order.Intake.{Intake}
 use Rattle.um_orders.specs.declared.order.Intake.TheVariants.{Generated, Text, Bytes}

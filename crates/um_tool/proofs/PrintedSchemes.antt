@@ -9,7 +9,7 @@ use Rattle.um_infer.proofs.InferenceLaws.{given_schemes_are_principal, units_sto
 use Rattle.um_gen.specs.ProgramCode.{program_code}
 use Rattle.um_code.specs.Listing.{listing_text}
 use Rattle.um_orders.specs.declared.order.Order.TheVariants.{Types, Code}
-use Rattle.um_orders.specs.declared.status.Status.TheVariants.{Done, Units, NotGeneral}
+use Rattle.um_reports.specs.declared.status.Status.TheVariants.{Done, Units, NotGeneral}
 use Rattle.um_answers.specs.SchemeLines.{scheme_lines}
 use Rattle.um_reports.specs.Refusals.{placed, units_label, not_general_label}
 use Rattle.um_answers.specs.Asked.{Asked}

@@ -22,8 +22,8 @@ use Rattle.um_shape.specs.declared.stop.ShapeStop.TheVariants as shape_stop
 use Rattle.um_infer.specs.Inference.{infer}
 use Rattle.um_orders.specs.declared.order.Order.{Order}
 use Rattle.um_orders.specs.declared.order.Intake.TheVariants.{Text}
-use Rattle.um_orders.specs.declared.status.Status.{Status}
-use Rattle.um_orders.specs.declared.status.Status.TheVariants.{Done, TooLong, Utf8, Lexical, Syntax, Limit, Names, Shape, Units, PowerRange, Input, Trap, BudgetEnd, NotBuilt, NotGeneral, NotConform}
+use Rattle.um_reports.specs.declared.status.Status.{Status}
+use Rattle.um_reports.specs.declared.status.Status.TheVariants.{Done, TooLong, Utf8, Lexical, Syntax, Limit, Names, Shape, Units, PowerRange, Input, Trap, BudgetEnd, NotBuilt, NotGeneral, NotConform}
 use Rattle.um_reports.specs.Refusals.{IsTextReply, IsParseReply, IsNameReply, IsShapeReply}
 use Rattle.um_answers.specs.Asked.{Asked}
 use Rattle.um_orders.specs.Orders.{order_of, intake_of}

@@ -9,8 +9,8 @@ use Rattle.um_wire.specs.declared.read.ReadStop.TheVariants.{TooLong as TooLongT
 use Rattle.um_orders.specs.declared.order.Order.{Order}
 use Rattle.um_orders.specs.declared.order.Intake.{Intake}
 use Rattle.um_orders.specs.declared.order.Intake.TheVariants.{Generated, Text}
-use Rattle.um_orders.specs.declared.status.Status.{Status}
-use Rattle.um_orders.specs.declared.status.Status.TheVariants.{Usage, ReadFault, WriteFault}
+use Rattle.um_reports.specs.declared.status.Status.{Status}
+use Rattle.um_reports.specs.declared.status.Status.TheVariants.{Usage, ReadFault, WriteFault}
 use Rattle.um_tool.specs.Answer.{Answer, OrderAnswer, IntakeAnswer, LengthAnswer, TokensAnswer, IsNotBuilt}
 use Rattle.um_reports.specs.Refusals.{IsReadReply}
 use Rattle.um_reports.specs.Steps.{IsReply, line}

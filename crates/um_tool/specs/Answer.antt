@@ -6,8 +6,8 @@ use Rattle.um_orders.specs.declared.order.Order.{Order}
 use Rattle.um_orders.specs.declared.order.Order.TheVariants.{Fmt}
 use Rattle.um_orders.specs.declared.order.Intake.{Intake}
 use Rattle.um_orders.specs.declared.order.Intake.TheVariants.{Generated, Text, Bytes}
-use Rattle.um_orders.specs.declared.status.Status.{Status}
-use Rattle.um_orders.specs.declared.status.Status.TheVariants.{Done, Usage, TooLong, NotBuilt}
+use Rattle.um_reports.specs.declared.status.Status.{Status}
+use Rattle.um_reports.specs.declared.status.Status.TheVariants.{Done, Usage, TooLong, NotBuilt}
 use Rattle.um_syntax.specs.declared.token.Token.{Token}
 use Rattle.um_syntax.specs.declared.token.TextStop.{TextStop}
 use Rattle.um_syntax.specs.Feeding.{IsTextAnswer}

@@ -22,8 +22,8 @@ use Rattle.um_orders.specs.declared.order.Order.{Order}
 use Rattle.um_orders.specs.declared.order.Order.TheVariants.{Run, Steps, Eval, Conform}
 use Rattle.um_answers.specs.declared.way.Way.{Way}
 use Rattle.um_answers.specs.declared.way.Way.TheVariants as way
-use Rattle.um_orders.specs.declared.status.Status.{Status}
-use Rattle.um_orders.specs.declared.status.Status.TheVariants.{Done, Trap, BudgetEnd, NotConform}
+use Rattle.um_reports.specs.declared.status.Status.{Status}
+use Rattle.um_reports.specs.declared.status.Status.TheVariants.{Done, Trap, BudgetEnd, NotConform}
 use Rattle.um_answers.specs.Asked.{called_name, argument_texts, held_name, signature_text}
 use Rattle.um_answers.specs.CallAnswer.{AreSteps, IsOutcomeReply}
 use Rattle.um_orders.specs.Orders.{order_of}

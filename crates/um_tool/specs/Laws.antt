@@ -10,8 +10,8 @@ use Rattle.um_parse.specs.Parsed.{IsRead}
 use Rattle.um_names.specs.Resolution.{resolved_program}
 use Rattle.um_shape.specs.FirstFault.{first_fault}
 use Rattle.um_infer.specs.Schemes.{ArePrincipal, IsFirstWithoutUnits, IsFirstNotGeneral}
-use Rattle.um_orders.specs.declared.status.Status.{Status}
-use Rattle.um_orders.specs.declared.status.Status.TheVariants.{Done, Units, NotGeneral}
+use Rattle.um_reports.specs.declared.status.Status.{Status}
+use Rattle.um_reports.specs.declared.status.Status.TheVariants.{Done, Units, NotGeneral}
 use Rattle.um_reports.specs.Refusals.{placed, units_label, not_general_label}
 use Rattle.um_answers.specs.SchemeLines.{scheme_lines}
 use Rattle.um_tool.specs.Answer.{Answer}

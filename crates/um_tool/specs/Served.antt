@@ -12,8 +12,8 @@ use Rattle.um_big.specs.BigText.{big_text}
 use Rattle.um_orders.specs.declared.order.Order.{Order}
 use Rattle.um_orders.specs.declared.order.Intake.{Intake}
 use Rattle.um_orders.specs.declared.order.Intake.TheVariants.{Generated, Text, Bytes}
-use Rattle.um_orders.specs.declared.status.Status.{Status}
-use Rattle.um_orders.specs.declared.status.Status.TheVariants.{ReadFault, WriteFault, NoMemory}
+use Rattle.um_reports.specs.declared.status.Status.{Status}
+use Rattle.um_reports.specs.declared.status.Status.TheVariants.{ReadFault, WriteFault, NoMemory}
 use Rattle.um_tool.specs.Answer.{Answer}
 use Rattle.um_orders.specs.Orders.{AsksFor}
 use Rattle.um_tool.specs.Passing.{GoesThrough}

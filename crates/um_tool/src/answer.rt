@@ -19,11 +19,11 @@ use std::alloc::{AllocError, Global};
 use um_answers::{Asked, answer_typed, reply_layout};
 use um_infer::{InferStop, infer};
 use um_names::resolve;
-use um_orders::{Order, Status, Words};
+use um_orders::{Order, Words};
 use um_parse::parse;
 use um_reports::{
-    Reply, reply_line, reply_to_names, reply_to_not_general, reply_to_range, reply_to_shapes,
-    reply_to_slots, reply_to_text, reply_to_tokens, reply_to_units,
+    Reply, Status, reply_line, reply_to_names, reply_to_not_general, reply_to_range,
+    reply_to_shapes, reply_to_slots, reply_to_text, reply_to_tokens, reply_to_units,
 };
 use um_shape::{Shaped, shape};
 use um_syntax::Tokens;

@@ -10,4 +10,5 @@ mod top;
 pub use quiet::status_of;
 pub use top::serve;
 pub use um_big::big_text;
-pub use um_orders::{Order, Status, Words, order_of};
+pub use um_orders::{Order, Words, order_of};
+pub use um_reports::Status;

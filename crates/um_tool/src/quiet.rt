@@ -4,7 +4,8 @@ ghost use Rattle.um_tool.specs.Answer.{Answer};
 
 use crate::serve;
 use std::alloc::Global;
-use um_orders::{Status, Words};
+use um_orders::Words;
+use um_reports::Status;
 use um_wire::{QuietSink, QuietSource};
 
 /// The status of a run on these bytes whose answer nobody reads: that of the answer, unless memory was wanting.

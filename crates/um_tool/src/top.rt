@@ -10,8 +10,8 @@ use crate::answer::{answer_text, not_built};
 use crate::reading::Reading;
 use std::alloc::{AllocError, Global};
 use um_big::big_text;
-use um_orders::{Intake, Order, Status, Words, names_unbuilt, order_of};
-use um_reports::{Reply, reply_line, reply_to_unread};
+use um_orders::{Intake, Order, Words, names_unbuilt, order_of};
+use um_reports::{Reply, Status, reply_line, reply_to_unread};
 use um_wire::{Failed, Sink, Source, read_into, write_all};
 
 /// The longest text that is read, in bytes.

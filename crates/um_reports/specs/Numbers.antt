@@ -1,11 +1,11 @@
 -- The exit status of each ending.
 -- Source: this project's own numbers.
 use Rattle.std.specs.Prelude.{ℕ}
-use Rattle.um_orders.specs.declared.status.Status.{Status}
-use Rattle.um_orders.specs.declared.status.Status.TheVariants.{Done, Usage, TooLong, Utf8, Lexical, Syntax, Limit, Names}
-use Rattle.um_orders.specs.declared.status.Status.TheVariants.{Shape, Units, PowerRange, Input, Trap, BudgetEnd}
-use Rattle.um_orders.specs.declared.status.Status.TheVariants.{ScaleRange, ReadFault, WriteFault, NoMemory, NotBuilt}
-use Rattle.um_orders.specs.declared.status.Status.TheVariants.{NotGeneral, NotConform}
+use Rattle.um_reports.specs.declared.status.Status.{Status}
+use Rattle.um_reports.specs.declared.status.Status.TheVariants.{Done, Usage, TooLong, Utf8, Lexical, Syntax, Limit, Names}
+use Rattle.um_reports.specs.declared.status.Status.TheVariants.{Shape, Units, PowerRange, Input, Trap, BudgetEnd}
+use Rattle.um_reports.specs.declared.status.Status.TheVariants.{ScaleRange, ReadFault, WriteFault, NoMemory, NotBuilt}
+use Rattle.um_reports.specs.declared.status.Status.TheVariants.{NotGeneral, NotConform}
 
 abbrev pub number_of : Status → ℕ
 number_of Done = 0

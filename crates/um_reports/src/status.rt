@@ -1,6 +1,6 @@
 // The endings of a run.
 ghost use Rattle.std.specs.Prelude.{◌≡◌};
-ghost use Rattle.um_orders.specs.Numbers.{number_of};
+ghost use Rattle.um_reports.specs.Numbers.{number_of};
 
 /// How a run ended.
 #[derive(Clone, Copy, PartialEq, Eq, Debug)]
