@@ -8,10 +8,11 @@ use Rattle.std.specs.Str.Parse.{digits_value, ParsesUnsigned}
 use Rattle.std.proofs.lemmas.Bool.{leb-true}
 use Rattle.std.proofs.lemmas.Str.Parse.{numerals_by_value, tells_all_ascii_digits, digits_value_short, parse_gives}
 use Rattle.std.proofs.lemmas.List.Elements.{All-nil, All-cons}
+use Rattle.um_sizes.specs.ScaleWords.{is_scales}
 use Rattle.um_orders.specs.declared.order.Order.{Order}
-use Rattle.um_orders.specs.declared.order.Order.TheVariants.{Types, Code, Fmt, Run, Steps, Eval, Conform, Big}
+use Rattle.um_orders.specs.declared.order.Order.TheVariants.{Types, Code, Fmt, Run, Steps, Eval, Conform, Rescale, Twin, Big}
 use Rattle.um_orders.specs.declared.order.Intake.TheVariants.{Generated}
-use Rattle.um_orders.specs.Orders.{is_short, is_budget, budget_of, is_count, count_of, big_order, order_of_two, order_alone, call_order, longer_order, order_by_count, order_of, intake_of}
+use Rattle.um_orders.specs.Orders.{is_short, is_budget, budget_of, is_count, count_of, big_order, rescale_order, order_of_two, order_alone, call_order, order_of_three, twin_order, order_of_many, longer_order, order_by_count, order_of, intake_of}
 
 pub both : (a b : Bool) → (a && b) ≡ true → (a ≡ true) × (b ≡ true)
 both true b e = (refl, e)
@@ -63,13 +64,14 @@ pair_of_two (x ∷ []) w v e first second = absurd (omega (arith, e))
 pair_of_two (x ∷ y ∷ []) w v e first second = let same : x ≡ w = cc first in let other : y ≡ v = cc second in (λ i. order_of_two (same i) (other i))
 pair_of_two (x ∷ y ∷ z ∷ ws) w v e first second = absurd (omega (arith, e))
 
-pub longer_of_more : (words : List (List ℕ)) → 2 < length words → order_by_count words ≡ longer_order (get_or words 0 []) (get_or words 1 []) (drop 3 words)
+pub longer_of_more : (words : List (List ℕ)) → 2 < length words → order_by_count words ≡ longer_order (get_or words 0 []) (get_or words 1 []) (get_or words 2 []) (drop 3 words)
 longer_of_more [] l = absurd (omega (arith, l))
 longer_of_more (w ∷ []) l = absurd (omega (arith, l))
 longer_of_more (w ∷ v ∷ []) l = absurd (omega (arith, l))
 longer_of_more (w ∷ v ∷ u ∷ ws) l = refl
 
--- ---- a call has a function's name, and a budget within its limit
+-- ---- what words are beside the form of their order
+
 within_limit : (word : List ℕ) (n : ℕ) → budget_of word ≡ Some n → n ≤ 10000000
 within_limit word n e = by (is_budget word && nat_le (digits_value 10 word) 10000000) refl e where
   by : (t : Bool) → (is_budget word && nat_le (digits_value 10 word) 10000000) ≡ t → (if t then Some (digits_value 10 word) else None) ≡ Some n → n ≤ 10000000
@@ -78,73 +80,6 @@ within_limit word n e = by (is_budget word && nat_le (digits_value 10 word) 1000
       subst (λ k. k ≤ 10000000) same (leb-true (digits_value 10 word) 10000000 (both (is_budget word) (nat_le (digits_value 10 word) 10000000) s).1)
   by false s named = absurd (cc named)
 
--- the orders that call a function, with their budgets
-abbrev pub calls : Order → ℕ → Type 0
-calls (Run n) b = n ≡ b
-calls (Steps n) b = n ≡ b
-calls (Eval n) b = n ≡ b
-calls o b = ⊥
-
-called_within : (word : List ℕ) (limit : Option ℕ) (o : Order) (b : ℕ) → ((n : ℕ) → limit ≡ Some n → n ≤ 10000000) → calls o b → call_order word limit ≡ Some o → b ≤ 10000000
-called_within word None o b within c e = absurd (cc e)
-called_within word (Some n) o b within c e = by (bytes_eq word (codes "run")) (bytes_eq word (codes "steps")) (bytes_eq word (codes "eval")) e where
-  by : (s t u : Bool) → (if s then Some (Run n) else if t then Some (Steps n) else if u then Some (Eval n) else None) ≡ Some o → b ≤ 10000000
-  by true t u named = let same : Run n ≡ o = cc named in let c2 : n ≡ b = subst (λ q. calls q b) (sym same) c in subst (λ k. k ≤ 10000000) c2 (within n refl)
-  by false true u named = let same : Steps n ≡ o = cc named in let c2 : n ≡ b = subst (λ q. calls q b) (sym same) c in subst (λ k. k ≤ 10000000) c2 (within n refl)
-  by false false true named = let same : Eval n ≡ o = cc named in let c2 : n ≡ b = subst (λ q. calls q b) (sym same) c in subst (λ k. k ≤ 10000000) c2 (within n refl)
-  by false false false named = absurd (cc named)
-
-alone_calls_nothing : (word : List ℕ) (o : Order) (b : ℕ) → calls o b → order_alone word ≡ Some o → ⊥
-alone_calls_nothing word o b c e = by (bytes_eq word (codes "types")) (bytes_eq word (codes "code")) (bytes_eq word (codes "fmt")) e where
-  by : (s t u : Bool) → (if s then Some Types else if t then Some Code else if u then Some Fmt else None) ≡ Some o → ⊥
-  by true t u named = let same : Types ≡ o = cc named in subst (λ q. calls q b) (sym same) c
-  by false true u named = let same : Code ≡ o = cc named in subst (λ q. calls q b) (sym same) c
-  by false false true named = let same : Fmt ≡ o = cc named in subst (λ q. calls q b) (sym same) c
-  by false false false named = cc named
-
--- two words call nothing, and hold no function to a signature
-two_name_big : (word second : List ℕ) (o : Order) → order_of_two word second ≡ Some o → (n : ℕ) × (o ≡ Big n) × (count_of second ≡ Some n)
-two_name_big word second o e = by (bytes_eq word (codes "big")) (count_of second) refl e where
-  by : (t : Bool) (count : Option ℕ) → count_of second ≡ count → (if t then big_order count else None) ≡ Some o → (n : ℕ) × (o ≡ Big n) × (count_of second ≡ Some n)
-  by true (Some n) is named = let same : Big n ≡ o = cc named in (n, sym same, is)
-  by true None is named = absurd (cc named)
-  by false count is named = absurd (cc named)
-
-longer_within : (word second : List ℕ) (more : List (List ℕ)) (o : Order) (b : ℕ) → calls o b → longer_order word second more ≡ Some o → b ≤ 10000000
-longer_within word second [] o b c e = by (bytes_eq word (codes "conform")) e where
-  by : (t : Bool) → (if t then Some Conform else call_order word (budget_of second)) ≡ Some o → b ≤ 10000000
-  by true named = let same : Conform ≡ o = cc named in absurd (subst (λ q. calls q b) (sym same) c)
-  by false named = called_within word (budget_of second) o b (within_limit second) c named
-longer_within word second (w ∷ ws) o b c e = called_within word (budget_of second) o b (within_limit second) c e
-
-call_by_count : (words : List (List ℕ)) (o : Order) (b : ℕ) → calls o b → order_by_count words ≡ Some o → (3 ≤ length words) × (b ≤ 10000000)
-call_by_count [] o b c e = absurd (cc e)
-call_by_count (w ∷ []) o b c e = absurd (alone_calls_nothing w o b c e)
-call_by_count (w ∷ v ∷ []) o b c e = let big = two_name_big w v o e in absurd (subst (λ q. calls q b) big.1 c)
-call_by_count (w ∷ v ∷ u ∷ ws) o b c e = (omega arith, longer_within w v ws o b c e)
-
-pub call_words : (words : List (List ℕ)) (o : Order) (b : ℕ) → calls o b → order_of words ≡ Some o → (3 ≤ length words) × (b ≤ 10000000)
-call_words words o b c e = call_by_count words o b c (named_by_count words o e).1
-
--- ---- a function that is held to a signature has its name and its text
-alone_holds_nothing : (word : List ℕ) → order_alone word ≡ Some Conform → ⊥
-alone_holds_nothing word e = by (bytes_eq word (codes "types")) (bytes_eq word (codes "code")) (bytes_eq word (codes "fmt")) e where
-  by : (s t u : Bool) → (if s then Some Types else if t then Some Code else if u then Some Fmt else None) ≡ Some Conform → ⊥
-  by true t u named = cc named
-  by false true u named = cc named
-  by false false true named = cc named
-  by false false false named = cc named
-
-conform_by_count : (words : List (List ℕ)) → order_by_count words ≡ Some Conform → 3 ≤ length words
-conform_by_count [] e = absurd (cc e)
-conform_by_count (w ∷ []) e = absurd (alone_holds_nothing w e)
-conform_by_count (w ∷ v ∷ []) e = let big = two_name_big w v Conform e in let no : Conform ≡ Big big.0 = big.1 in absurd (cc no)
-conform_by_count (w ∷ v ∷ u ∷ ws) e = omega arith
-
-pub conform_words : (words : List (List ℕ)) → order_of words ≡ Some Conform → 3 ≤ length words
-conform_words words e = conform_by_count words (named_by_count words Conform e).1
-
--- ---- a generated program has few functions
 count_within : (word : List ℕ) (n : ℕ) → count_of word ≡ Some n → (1 ≤ n) × (n ≤ 2000)
 count_within word n e = by (is_budget word && is_count word) refl e where
   by : (t : Bool) → (is_budget word && is_count word) ≡ t → (if t then Some (digits_value 10 word) else None) ≡ Some n → (1 ≤ n) × (n ≤ 2000)
@@ -155,43 +90,79 @@ count_within word n e = by (is_budget word && is_count word) refl e where
       (subst (λ k. 1 ≤ k) same (leb-true 1 (digits_value 10 word) least.1), subst (λ k. k ≤ 2000) same (leb-true (digits_value 10 word) 2000 bounds.1))
   by false s named = absurd (cc named)
 
-alone_is_text : (word : List ℕ) (n : ℕ) → order_alone word ≡ Some (Big n) → ⊥
-alone_is_text word n e = by (bytes_eq word (codes "types")) (bytes_eq word (codes "code")) (bytes_eq word (codes "fmt")) e where
-  by : (s t u : Bool) → (if s then Some Types else if t then Some Code else if u then Some Fmt else None) ≡ Some (Big n) → ⊥
-  by true t u named = cc named
-  by false true u named = cc named
-  by false false true named = cc named
-  by false false false named = cc named
+-- a call has a function's name and a budget within its limit, a generated program has few functions, and a word states
+-- sizes where one shall
+abbrev pub AreWordsOf : List (List ℕ) → Order → Type 0
+AreWordsOf words (Run b) = (3 ≤ length words) × (b ≤ 10000000)
+AreWordsOf words (Steps b) = (3 ≤ length words) × (b ≤ 10000000)
+AreWordsOf words (Eval b) = (3 ≤ length words) × (b ≤ 10000000)
+AreWordsOf words Conform = 3 ≤ length words
+AreWordsOf words Rescale = (2 ≤ length words) × IsTrue (is_scales (get_or words 1 []))
+AreWordsOf words (Twin b) = (4 ≤ length words) × (b ≤ 10000000) × IsTrue (is_scales (get_or words 2 []))
+AreWordsOf words (Big n) = (1 ≤ n) × (n ≤ 2000)
+AreWordsOf words order = Unit {0}
 
-call_is_text : (word : List ℕ) (limit : Option ℕ) (n : ℕ) → call_order word limit ≡ Some (Big n) → ⊥
-call_is_text word None n e = cc e
-call_is_text word (Some b) n e = by (bytes_eq word (codes "run")) (bytes_eq word (codes "steps")) (bytes_eq word (codes "eval")) e where
-  by : (s t u : Bool) → (if s then Some (Run b) else if t then Some (Steps b) else if u then Some (Eval b) else None) ≡ Some (Big n) → ⊥
-  by true t u named = cc named
-  by false true u named = cc named
-  by false false true named = cc named
-  by false false false named = cc named
+words_alone : (word : List ℕ) (o : Order) → order_alone word ≡ Some o → AreWordsOf (word ∷ []) o
+words_alone word o e = by (bytes_eq word (codes "types")) (bytes_eq word (codes "code")) (bytes_eq word (codes "fmt")) e where
+  by : (s t u : Bool) → (if s then Some Types else if t then Some Code else if u then Some Fmt else None) ≡ Some o → AreWordsOf (word ∷ []) o
+  by true t u named = let same : Types ≡ o = cc named in subst (AreWordsOf (word ∷ [])) same tt
+  by false true u named = let same : Code ≡ o = cc named in subst (AreWordsOf (word ∷ [])) same tt
+  by false false true named = let same : Fmt ≡ o = cc named in subst (AreWordsOf (word ∷ [])) same tt
+  by false false false named = absurd (cc named)
 
-longer_is_text : (word second : List ℕ) (more : List (List ℕ)) (n : ℕ) → longer_order word second more ≡ Some (Big n) → ⊥
-longer_is_text word second [] n e = by (bytes_eq word (codes "conform")) e where
-  by : (t : Bool) → (if t then Some Conform else call_order word (budget_of second)) ≡ Some (Big n) → ⊥
-  by true named = cc named
-  by false named = call_is_text word (budget_of second) n named
-longer_is_text word second (w ∷ ws) n e = call_is_text word (budget_of second) n e
+words_of_two : (word second : List ℕ) (o : Order) → order_of_two word second ≡ Some o → AreWordsOf (word ∷ second ∷ []) o
+words_of_two word second o e = by (bytes_eq word (codes "big")) (count_of second) refl (bytes_eq word (codes "rescale")) (is_scales second) refl e where
+  by : (s : Bool) (count : Option ℕ) → count_of second ≡ count → (t stated : Bool) → is_scales second ≡ stated
+      → (if s then big_order count else if t then rescale_order stated else None) ≡ Some o → AreWordsOf (word ∷ second ∷ []) o
+  by true (Some n) is t stated so named = let same : Big n ≡ o = cc named in subst (AreWordsOf (word ∷ second ∷ [])) same (count_within second n is)
+  by true None is t stated so named = absurd (cc named)
+  by false count is true true so named = let same : Rescale ≡ o = cc named in subst (AreWordsOf (word ∷ second ∷ [])) same (omega arith, so)
+  by false count is true false so named = absurd (cc named)
+  by false count is false stated so named = absurd (cc named)
 
-big_by_count : (words : List (List ℕ)) (n : ℕ) → order_by_count words ≡ Some (Big n) → (1 ≤ n) × (n ≤ 2000)
-big_by_count [] n e = absurd (cc e)
-big_by_count (w ∷ []) n e = absurd (alone_is_text w n e)
-big_by_count (w ∷ v ∷ []) n e =
-    let big = two_name_big w v (Big n) e in let same : n ≡ big.0 = cc big.1 in
-    count_within v n (big.2 ∙ ap Some (sym same))
-big_by_count (w ∷ v ∷ u ∷ ws) n e = absurd (longer_is_text w v ws n e)
+words_of_call : (words : List (List ℕ)) (word : List ℕ) (limit : Option ℕ) (o : Order) → 3 ≤ length words → ((n : ℕ) → limit ≡ Some n → n ≤ 10000000) → call_order word limit ≡ Some o → AreWordsOf words o
+words_of_call words word None o many within e = absurd (cc e)
+words_of_call words word (Some n) o many within e = by (bytes_eq word (codes "run")) (bytes_eq word (codes "steps")) (bytes_eq word (codes "eval")) e where
+  by : (s t u : Bool) → (if s then Some (Run n) else if t then Some (Steps n) else if u then Some (Eval n) else None) ≡ Some o → AreWordsOf words o
+  by true t u named = let same : Run n ≡ o = cc named in subst (AreWordsOf words) same (many, within n refl)
+  by false true u named = let same : Steps n ≡ o = cc named in subst (AreWordsOf words) same (many, within n refl)
+  by false false true named = let same : Eval n ≡ o = cc named in subst (AreWordsOf words) same (many, within n refl)
+  by false false false named = absurd (cc named)
 
-pub big_words : (words : List (List ℕ)) (n : ℕ) → order_of words ≡ Some (Big n) → (1 ≤ n) × (n ≤ 2000)
-big_words words n e = big_by_count words n (named_by_count words (Big n) e).1
+words_of_three : (word second third : List ℕ) (o : Order) → order_of_three word (budget_of second) ≡ Some o → AreWordsOf (word ∷ second ∷ third ∷ []) o
+words_of_three word second third o e = by (bytes_eq word (codes "conform")) e where
+  many : 3 ≤ length (word ∷ second ∷ third ∷ [])
+  many = omega arith
+
+  by : (t : Bool) → (if t then Some Conform else call_order word (budget_of second)) ≡ Some o → AreWordsOf (word ∷ second ∷ third ∷ []) o
+  by true named = let same : Conform ≡ o = cc named in subst (AreWordsOf (word ∷ second ∷ third ∷ [])) same many
+  by false named = words_of_call (word ∷ second ∷ third ∷ []) word (budget_of second) o many (within_limit second) named
+
+-- more words than three
+module _ (word second third fourth : List ℕ) (more : List (List ℕ)) where
+  abbrev More : Order → Type 0
+  More o = AreWordsOf (word ∷ second ∷ third ∷ fourth ∷ more) o
+
+  words_of_many : (o : Order) → order_of_many word (budget_of second) (is_scales third) ≡ Some o → More o
+  words_of_many o e = by (bytes_eq word (codes "twin")) (budget_of second) refl (is_scales third) refl e where
+    by : (t : Bool) (limit : Option ℕ) → budget_of second ≡ limit → (stated : Bool) → is_scales third ≡ stated → (if t then twin_order limit stated else call_order word limit) ≡ Some o → More o
+    by true None is stated so named = absurd (cc named)
+    by true (Some n) is true so named = let same : Twin n ≡ o = cc named in subst More same (omega arith, within_limit second n is, so)
+    by true (Some n) is false so named = absurd (cc named)
+    by false limit is stated so named = words_of_call (word ∷ second ∷ third ∷ fourth ∷ more) word limit o (omega arith) (λ n given. within_limit second n (is ∙ given)) named
+
+words_by_count : (words : List (List ℕ)) (o : Order) → order_by_count words ≡ Some o → AreWordsOf words o
+words_by_count [] o e = absurd (cc e)
+words_by_count (w ∷ []) o e = words_alone w o e
+words_by_count (w ∷ v ∷ []) o e = words_of_two w v o e
+words_by_count (w ∷ v ∷ u ∷ []) o e = words_of_three w v u o e
+words_by_count (w ∷ v ∷ u ∷ x ∷ ws) o e = words_of_many w v u x ws o e
+
+pub words_of_order : (words : List (List ℕ)) (o : Order) → order_of words ≡ Some o → AreWordsOf words o
+words_of_order words o e = words_by_count words o (named_by_count words o e).1
 
 pub generated_count : (words : List (List ℕ)) (o : Order) (n : ℕ) → order_of words ≡ Some o → intake_of o ≡ Generated n → (1 ≤ n) × (n ≤ 2000)
-generated_count words (Big k) n e takes = let same : k ≡ n = cc takes in big_words words n (e ∙ ap (λ j. Some (Big j)) same)
+generated_count words (Big k) n e takes = let same : k ≡ n = cc takes in subst (λ j. (1 ≤ j) × (j ≤ 2000)) same (words_of_order words (Big k) e)
 generated_count words Types n e takes = absurd (cc takes)
 generated_count words Code n e takes = absurd (cc takes)
 generated_count words Fmt n e takes = absurd (cc takes)
@@ -199,6 +170,8 @@ generated_count words (Run b) n e takes = absurd (cc takes)
 generated_count words (Steps b) n e takes = absurd (cc takes)
 generated_count words (Eval b) n e takes = absurd (cc takes)
 generated_count words Conform n e takes = absurd (cc takes)
+generated_count words Rescale n e takes = absurd (cc takes)
+generated_count words (Twin b) n e takes = absurd (cc takes)
 
 -- ---- digits
 

@@ -1,25 +1,17 @@
 -- What the words of the command line ask for.
 -- Source: this project's own commands.
-use Rattle.std.specs.Prelude.{◌≡◌, ℕ, Bool, ◌&&◌, ◌||◌, IsTrue, List, [], ◌∷◌, length, Option, Some, None, codes}
+use Rattle.std.specs.Prelude.{◌≡◌, ℕ, Bool, ◌&&◌, List, [], ◌∷◌, length, Option, Some, None, codes}
 use Rattle.std.specs.Prelude.{nat_le, nat_lt, if◌then◌else◌}
 use Rattle.std.specs.List.{list_all}
 use Rattle.std.specs.Char.{is_ascii_digit}
 use Rattle.std.specs.Str.{bytes_eq}
 use Rattle.std.specs.Str.Parse.{digits_value}
+use Rattle.um_sizes.specs.ScaleWords.{is_scales}
 use Rattle.um_orders.specs.declared.order.Order.{Order}
-use Rattle.um_orders.specs.declared.order.Order.TheVariants.{Types, Code, Fmt, Run, Steps, Eval, Conform, Big}
+use Rattle.um_orders.specs.declared.order.Order.TheVariants.{Types, Code, Fmt, Run, Steps, Eval, Conform}
+use Rattle.um_orders.specs.declared.order.Order.TheVariants.{Rescale, Twin, Big}
 use Rattle.um_orders.specs.declared.order.Intake.{Intake}
 use Rattle.um_orders.specs.declared.order.Intake.TheVariants.{Generated, Text}
-
--- a command that isn't built yet
-abbrev pub is_unbuilt : List ℕ → Bool
-is_unbuilt word =
-    bytes_eq word (codes "rescale") || bytes_eq word (codes "twin")
-
--- the first word is such a command; whatever follows it isn't looked at
-abbrev pub NamesUnbuilt : List (List ℕ) → Type 0
-NamesUnbuilt [] = ⊥
-NamesUnbuilt (word ∷ words) = IsTrue (is_unbuilt word)
 
 -- ---- the parts of a form
 
@@ -58,9 +50,15 @@ abbrev pub big_order : Option ℕ → Option Order
 big_order None = None
 big_order (Some n) = Some (Big n)
 
+-- rescale SCALES, where the word states sizes of base units
+abbrev pub rescale_order : Bool → Option Order
+rescale_order stated = if stated then Some Rescale else None
+
 -- a command of two words
 abbrev pub order_of_two : List ℕ → List ℕ → Option Order
-order_of_two word second = if bytes_eq word (codes "big") then big_order (count_of second) else None
+order_of_two word second =
+    if bytes_eq word (codes "big") then big_order (count_of second)
+    else if bytes_eq word (codes "rescale") then rescale_order (is_scales second) else None
 
 -- COMMAND BUDGET NAME ARG*, by its first word and the budget
 abbrev pub call_order : List ℕ → Option ℕ → Option Order
@@ -70,17 +68,29 @@ call_order word (Some budget) =
     else if bytes_eq word (codes "steps") then Some (Steps budget)
     else if bytes_eq word (codes "eval") then Some (Eval budget) else None
 
--- or conform NAME TYPE, where no word stands behind the third
-abbrev pub longer_order : List ℕ → List ℕ → List (List ℕ) → Option Order
-longer_order word second [] =
-    if bytes_eq word (codes "conform") then Some Conform else call_order word (budget_of second)
-longer_order word second (fourth ∷ more) = call_order word (budget_of second)
+-- conform NAME TYPE, or such a command without an ARG
+abbrev pub order_of_three : List ℕ → Option ℕ → Option Order
+order_of_three word budget = if bytes_eq word (codes "conform") then Some Conform else call_order word budget
+
+-- twin BUDGET SCALES NAME ARG*, where the third word states sizes of base units
+abbrev pub twin_order : Option ℕ → Bool → Option Order
+twin_order None stated = None
+twin_order (Some budget) stated = if stated then Some (Twin budget) else None
+
+abbrev pub order_of_many : List ℕ → Option ℕ → Bool → Option Order
+order_of_many word budget stated =
+    if bytes_eq word (codes "twin") then twin_order budget stated else call_order word budget
+
+-- by the first three words and those behind them
+abbrev pub longer_order : List ℕ → List ℕ → List ℕ → List (List ℕ) → Option Order
+longer_order word second third [] = order_of_three word (budget_of second)
+longer_order word second third (fourth ∷ more) = order_of_many word (budget_of second) (is_scales third)
 
 abbrev pub order_by_count : List (List ℕ) → Option Order
 order_by_count [] = None
 order_by_count (word ∷ []) = order_alone word
 order_by_count (word ∷ second ∷ []) = order_of_two word second
-order_by_count (word ∷ second ∷ third ∷ more) = longer_order word second more
+order_by_count (word ∷ second ∷ third ∷ more) = longer_order word second third more
 
 -- the order that the words name, where they have one of the forms and each is short enough
 unfoldable pub order_of : List (List ℕ) → Option Order
@@ -95,10 +105,11 @@ intake_of (Run budget) = Text
 intake_of (Steps budget) = Text
 intake_of (Eval budget) = Text
 intake_of Conform = Text
+intake_of Rescale = Text
+intake_of (Twin budget) = Text
 intake_of (Big n) = Generated n
 
 -- the words name an order that takes this
 pub record AsksFor (words : List (List ℕ)) (order : Order) (intake : Intake) : Type 0 where
-  pub built : NamesUnbuilt words → ⊥
   pub ordered : order_of words ≡ Some order
   pub takes : intake_of order ≡ intake

@@ -4,5 +4,5 @@
 mod order;
 mod words;
 
-pub use order::{Intake, Order, names_unbuilt, order_of};
+pub use order::{Intake, Order, order_of};
 pub use words::Words;

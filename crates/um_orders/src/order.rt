@@ -1,12 +1,15 @@
 // What the words ask for.
-ghost use Rattle.std.specs.Prelude.{◌≡◌, ◌<◌, ◌↔◌, [], IsTrue, length, drop, get_or};
+ghost use Rattle.std.specs.Prelude.{◌≡◌, ◌<◌, [], IsTrue, length, drop, get_or};
 ghost use Rattle.std.specs.Char.{is_ascii_digit};
 ghost use Rattle.std.specs.List.{list_all};
 ghost use Rattle.std.specs.Str.Parse.{digits_value};
 ghost use Rattle.um_orders.specs.Orders.{order_of as order_named, order_alone as alone, longer_order as longer};
+ghost use Rattle.um_sizes.specs.ScaleWords.{is_scales as are_sizes};
 ghost use Rattle.um_orders.specs.Orders.{order_of_two as of_two, big_order as big_named, count_of as count_in};
+ghost use Rattle.um_orders.specs.Orders.{order_of_three as of_three, order_of_many as of_many};
+ghost use Rattle.um_orders.specs.Orders.{rescale_order as rescale_named, twin_order as twin_named};
 ghost use Rattle.um_orders.specs.Orders.{call_order as call_named, budget_of as budget_in, is_budget as are_few_digits};
-ghost use Rattle.um_orders.specs.Orders.{intake_of, is_unbuilt as unbuilt, NamesUnbuilt};
+ghost use Rattle.um_orders.specs.Orders.{intake_of};
 
 use crate::Words;
 
@@ -33,6 +36,10 @@ pub enum Order {
     Eval { budget: u64 },
     /// Say whether a function may be used at a signature.
     Conform,
+    /// Print the program with its literals in other sizes of the base units.
+    Rescale,
+    /// Call a function, with at most so many calls, and again in other sizes of the base units, and print both values.
+    Twin { budget: u64 },
     /// Infer a generated program of so many functions, call its last function, and print four lines about it.
     Big(u32),
 }
@@ -44,8 +51,6 @@ pub enum Intake {
     Generated { functions: u32 },
     /// A text of at most 1,048,576 bytes, with its tokens.
     Text,
-    /// At most so many bytes, as they are.
-    Bytes { limit: usize },
 }
 
 impl Order {
@@ -60,7 +65,9 @@ impl Order {
             | Order::Run { .. }
             | Order::Steps { .. }
             | Order::Eval { .. }
-            | Order::Conform => Intake::Text,
+            | Order::Conform
+            | Order::Rescale
+            | Order::Twin { .. } => Intake::Text,
             Order::Big(functions) => Intake::Generated { functions },
         }
     }
@@ -68,9 +75,10 @@ impl Order {
 
 /// The order that the words name, or nothing where they have none of the forms. Takes no memory.
 ///
-/// The forms are `types`, `code`, `fmt`, `big N`, `conform NAME TYPE`, and `run`, `steps` or `eval` with BUDGET NAME
-/// ARG*. A budget is one to eight digits of value at most 10,000,000, N is one to four digits of value 1 to 2,000, and
-/// each word is at most 1,048,576 bytes long.
+/// The forms are `types`, `code`, `fmt`, `big N`, `rescale SCALES`, `conform NAME TYPE`, `twin BUDGET SCALES NAME ARG*`,
+/// and `run`, `steps` or `eval` with BUDGET NAME ARG*. A budget is one to eight digits of value at most 10,000,000, N is
+/// one to four digits of value 1 to 2,000, SCALES states sizes of base units (`um_sizes::is_scales` says how), and each
+/// word is at most 1,048,576 bytes long.
 pub fn order_of(words: &Words) -> Option<Order>
     ensures { result ≡ order_named words.now }
 {
@@ -81,7 +89,7 @@ pub fn order_of(words: &Words) -> Option<Order>
         return order_alone(words.word(0));
     }
     if words.len() == 2 {
-        return order_of_two(words.word(0), words.word(1));
+        return order_of_two(words.word(0), words.word(1), words.states_sizes(1));
     }
     if words.len() < 3 {
         return None;
@@ -101,12 +109,14 @@ fn order_alone(word: &str) -> Option<Order>
     }
 }
 
-/// The order of two words.
-fn order_of_two(word: &str, second: &str) -> Option<Order>
+/// The order of two words; whether the second one states sizes is told.
+fn order_of_two(word: &str, second: &str, stated: bool) -> Option<Order>
+    requires { stated ≡ are_sizes second.now }
     ensures { result ≡ of_two word.now second.now }
 {
     match word {
         "big" => big_order(count_of(second)),
+        "rescale" => rescale_order(stated),
         _ => None,
     }
 }
@@ -119,15 +129,59 @@ fn big_order(count: Option<u32>) -> Option<Order>
     Some(Order::Big(functions))
 }
 
+/// The order about a text in other sizes, where the word states sizes.
+fn rescale_order(stated: bool) -> Option<Order>
+    ensures { result ≡ rescale_named stated }
+{
+    if stated { Some(Order::Rescale) } else { None }
+}
+
 /// The order of three words or more.
 fn longer_order(words: &Words) -> Option<Order>
     requires { 2 < length words.now }
-    ensures { result ≡ longer (get_or words.now 0 []) (get_or words.now 1 []) (drop 3 words.now) }
+    ensures { result
+        ≡ longer (get_or words.now 0 []) (get_or words.now 1 []) (get_or words.now 2 []) (drop 3 words.now) }
 {
-    if words.len() == 3 && words.word(0) == "conform" {
-        return Some(Order::Conform);
+    if words.len() == 3 {
+        return order_of_three(words.word(0), budget_of(words.word(1)));
     }
-    call_order(words.word(0), budget_of(words.word(1)))
+    order_of_many(
+        words.word(0),
+        budget_of(words.word(1)),
+        words.states_sizes(2),
+    )
+}
+
+/// The order of three words, by the first one and by the budget that the second one may state.
+fn order_of_three(word: &str, budget: Option<u64>) -> Option<Order>
+    ensures { result ≡ of_three word.now budget }
+{
+    match word {
+        "conform" => Some(Order::Conform),
+        _ => call_order(word, budget),
+    }
+}
+
+/// The order of more words; whether the third one states sizes is told.
+fn order_of_many(word: &str, budget: Option<u64>, stated: bool) -> Option<Order>
+    ensures { result ≡ of_many word.now budget stated }
+{
+    match word {
+        "twin" => twin_order(budget, stated),
+        _ => call_order(word, budget),
+    }
+}
+
+/// The order that calls a function twice, where there is a budget and the third word states sizes.
+fn twin_order(budget: Option<u64>, stated: bool) -> Option<Order>
+    ensures { result ≡ twin_named budget stated }
+{
+    let budget = budget?;
+    if stated {
+        Some(Order::Twin { budget })
+    } else {
+        None
+    }
 }
 
 /// The order that calls a function, by its first word and the budget.
@@ -195,17 +249,4 @@ fn value_of(digits: &str) -> u64
         Ok(value) => value,
         Err(_) => unreachable!(),
     }
-}
-
-/// Whether the first word is a command that isn't built yet.
-pub fn names_unbuilt(words: &Words) -> bool
-    ensures { IsTrue result ↔ NamesUnbuilt words.now }
-{
-    words.len() > 0 && is_unbuilt(words.word(0))
-}
-
-fn is_unbuilt(word: &str) -> bool
-    ensures { result ≡ unbuilt word.now }
-{
-    matches!(word, "rescale" | "twin")
 }

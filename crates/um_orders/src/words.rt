@@ -3,6 +3,7 @@ ghost use Rattle.std.specs.Prelude.{◌≡◌, ◌<◌, ◌++◌, [], ◌∷◌,
 
 use std::alloc::{AllocError, Global};
 use std::marker::Model;
+use um_sizes::is_scales;
 
 /// The longest word of a form, in bytes.
 const WORD_LIMIT: usize = 1_048_576;
@@ -11,19 +12,25 @@ const WORD_LIMIT: usize = 1_048_576;
 #[derive(Drop)]
 pub struct Words {
     items: Vec<String>,
+    // Of each, whether it states sizes of base units: that takes memory, and what words ask for shall take none.
+    stating: Vec<bool>,
 }
 
 impl Model for Words {
-    ghost use Rattle.std.specs.Prelude.{ℕ, List, map, string_bytes};
+    ghost use Rattle.std.specs.Prelude.{◌≡◌, ℕ, List, map, string_bytes};
+    ghost use Rattle.um_sizes.specs.ScaleWords.{is_scales};
 
     ghost Value = { List (List ℕ) };
 
     ghost view = { λ w. map string_bytes w.items.items };
+
+    ghost invariant = { λ w. w.stating.items ≡ map is_scales (map string_bytes w.items.items) };
 }
 
 impl Words {
-    ghost use Rattle.std.specs.Prelude.{◌≤◌, drop, map, string_bytes};
+    ghost use Rattle.std.specs.Prelude.{◌≤◌, drop, get_or, map, string_bytes};
     ghost use Rattle.std.specs.List.{list_all};
+    ghost use Rattle.um_sizes.specs.ScaleWords.{is_scales as are_sizes};
     ghost use Rattle.um_orders.specs.Orders.{is_short};
 
     /// No words.
@@ -32,6 +39,7 @@ impl Words {
     {
         Words {
             items: Vec::new(alloc),
+            stating: Vec::new(alloc),
         }
     }
 
@@ -41,8 +49,16 @@ impl Words {
         ensures err { OnErr result (self.new ≡ self.old) }
     {
         let owned = String::from_str(alloc, word)?;
-        self.items.push(owned)?;
-        Ok(())
+        let stated = is_scales(alloc, word)?;
+        let count = self.stating.len();
+        self.stating.push(stated)?;
+        match self.items.push(owned) {
+            Ok(()) => Ok(()),
+            Err(_) => {
+                self.stating.truncate(count);
+                Err(AllocError)
+            }
+        }
     }
 
     /// How many there are.
@@ -66,6 +82,14 @@ impl Words {
         ensures { map string_bytes result.now ≡ drop k self.now }
     {
         &self.items[k..]
+    }
+
+    /// Whether the k-th word states sizes of base units.
+    pub(crate) fn states_sizes(&self, k: usize) -> bool
+        requires { k < length self.now }
+        ensures { result ≡ are_sizes (get_or self.now k []) }
+    {
+        self.stating[k]
     }
 
     /// Whether each is at most 1,048,576 bytes long.

@@ -4,6 +4,7 @@ pub mod Steps
 pub mod Places
 pub mod Refusals
 pub mod CallRefusals
+pub mod ScaleRefusals
 -- What the definitions come to: statements, each proved as the contract of a function of src/laws.rt.
 pub mod Laws
 -- What mirrors the code.

@@ -1,10 +1,10 @@
--- The exit status of each ending.
+-- The exit status of each ending; 18 is none.
 -- Source: this project's own numbers.
 use Rattle.std.specs.Prelude.{ℕ}
 use Rattle.um_reports.specs.declared.status.Status.{Status}
 use Rattle.um_reports.specs.declared.status.Status.TheVariants.{Done, Usage, TooLong, Utf8, Lexical, Syntax, Limit, Names}
 use Rattle.um_reports.specs.declared.status.Status.TheVariants.{Shape, Units, PowerRange, Input, Trap, BudgetEnd}
-use Rattle.um_reports.specs.declared.status.Status.TheVariants.{ScaleRange, ReadFault, WriteFault, NoMemory, NotBuilt}
+use Rattle.um_reports.specs.declared.status.Status.TheVariants.{ScaleRange, ReadFault, WriteFault, NoMemory}
 use Rattle.um_reports.specs.declared.status.Status.TheVariants.{NotGeneral, NotConform}
 
 abbrev pub number_of : Status → ℕ
@@ -26,6 +26,5 @@ number_of ScaleRange = 14
 number_of ReadFault = 15
 number_of WriteFault = 16
 number_of NoMemory = 17
-number_of NotBuilt = 18
 number_of NotGeneral = 19
 number_of NotConform = 20

@@ -198,7 +198,7 @@ fn reply_to_difference(
 }
 
 // Adds the number of what has this index, counted from 0.
-fn push_number(text: &mut Vec<u8>, index: u32) -> Result<(), AllocError>
+pub(crate) fn push_number(text: &mut Vec<u8>, index: u32) -> Result<(), AllocError>
     ensures { OnOk result (text.new.items ≡ text.old.items ++ decimal (index + 1)) }
 {
     text.extend_from_slice(itoa::Buffer::new().format(index as u64 + 1).as_bytes())

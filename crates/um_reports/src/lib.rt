@@ -6,6 +6,7 @@ pub mod laws;
 mod place;
 mod refusal;
 mod reply;
+mod scale_refusal;
 mod status;
 
 pub use call_refusal::{
@@ -17,4 +18,5 @@ pub use refusal::{
     reply_to_slots, reply_to_text, reply_to_tokens, reply_to_units, reply_to_unread,
 };
 pub use reply::Reply;
+pub use scale_refusal::{reply_to_literal, reply_to_misfit, reply_to_no_base, reply_to_run_trap};
 pub use status::Status;

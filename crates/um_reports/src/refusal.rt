@@ -29,7 +29,7 @@ pub fn reply_line(alloc: Global, text: &str, status: Status) -> Result<Reply, Al
 }
 
 /// A reply of one line that ends with a place.
-fn reply_at(
+pub(crate) fn reply_at(
     alloc: Global,
     label: &str,
     bytes: &[u8],

@@ -28,8 +28,6 @@ pub enum Status {
     WriteFault,
     /// Memory was wanting: nothing was written.
     NoMemory,
-    /// The words or the text hold a form that isn't built yet.
-    NotBuilt,
     /// A function is less general than its unit parameters say.
     NotGeneral,
     /// A function can't be used at a signature.
@@ -60,7 +58,6 @@ impl Status {
             Status::ReadFault => 15,
             Status::WriteFault => 16,
             Status::NoMemory => 17,
-            Status::NotBuilt => 18,
             Status::NotGeneral => 19,
             Status::NotConform => 20,
         }

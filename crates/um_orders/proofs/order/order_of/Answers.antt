@@ -1,4 +1,6 @@
-use Rattle.std.proofs.Common.{sym, ◌∙◌, arith}
+use Rattle.std.proofs.Common.{[], sym, ap, ◌∙◌, arith}
+use Rattle.std.proofs.lemmas.Option.{get_or_from_slice_get}
+use Rattle.um_sizes.specs.ScaleWords.{is_scales}
 use Rattle.um_orders.proofs.OrderWords.{none_of_long, by_count, none_of_few, alone_of_one, pair_of_two, longer_of_more}
 use Rattle.um_orders.proofs.order.order_of.Goals as goal
 
@@ -9,6 +11,10 @@ pub returns-then-len-eq1 : goal.returns-then-len-eq1
 returns-then-len-eq1 c =
     let short = sym c.are_short.ensures ∙ c.if-not-are_short.false in
     c.order_alone.ensures ∙ sym (by_count c.args.words.now short ∙ alone_of_one c.args.words.now c.word.result.now (sym c.len.ensures ∙ c.if-len-eq1.true) c.word.ensures)
+
+pub order_of_two-requires : goal.order_of_two-requires
+order_of_two-requires c =
+    c.states_sizes.ensures ∙ ap is_scales (get_or_from_slice_get c.args.words.now 1 c.word-then-len-eq2-2.result.now [] c.word-then-len-eq2-2.ensures)
 
 pub returns-then-len-eq2 : goal.returns-then-len-eq2
 returns-then-len-eq2 c =
