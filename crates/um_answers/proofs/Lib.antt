@@ -8,6 +8,10 @@ mod CallsDone
 pub mod ConformsDone
 mod UniqueReplies
 mod BigAnswers
+mod RescaleAnswers
+mod TwinAnswers
+mod TwinDone
+mod TwinArguments
 pub mod TypedStatuses
 pub mod TypedDone
 pub mod UniqueTyped

@@ -17,11 +17,13 @@ use Rattle.um_reports.specs.declared.status.Status.{Status}
 use Rattle.um_answers.specs.declared.way.Way.{Way}
 use Rattle.um_answers.specs.declared.way.Way.TheVariants as way
 use Rattle.um_orders.specs.declared.order.Order.{Order}
-use Rattle.um_orders.specs.declared.order.Order.TheVariants.{Types, Code, Fmt, Run, Steps, Eval, Conform, Big}
+use Rattle.um_orders.specs.declared.order.Order.TheVariants.{Types, Code, Fmt, Run, Steps, Eval, Conform, Rescale, Twin, Big}
 use Rattle.um_answers.specs.Asked.{Asked, argument_texts, held_name, signature_text}
 use Rattle.um_answers.specs.BigAnswer.{BigAnswer, asked_by, last_call}
 use Rattle.um_answers.specs.TypedAnswer.{TypedAnswer, ByOrder}
 use Rattle.um_reports.proofs.ReportStatuses.{is_answered, call_reply, signature_reply, conform_reply}
+use Rattle.um_answers.proofs.RescaleAnswers.{RescaleAnswer-status}
+use Rattle.um_answers.proofs.TwinAnswers.{TwinAnswer-status}
 
 -- ---- calls and signatures
 
@@ -76,6 +78,8 @@ by_order_status (Run budget) asked p schemes text status answer = CallAnswer-sta
 by_order_status (Steps budget) asked p schemes text status answer = CallAnswer-status way.Counted budget asked p schemes text status answer
 by_order_status (Eval budget) asked p schemes text status answer = CallAnswer-status way.Tree budget asked p schemes text status answer
 by_order_status Conform asked p schemes text status answer = ConformAnswer-status asked p schemes text status answer
+by_order_status Rescale asked p schemes text status answer = RescaleAnswer-status asked p text status answer
+by_order_status (Twin budget) asked p schemes text status answer = TwinAnswer-status text status budget asked p schemes answer
 by_order_status (Big n) asked p schemes text status answer = BigAnswer-status n asked p schemes text status answer
 
 pub TypedAnswer-status : (asked : Asked) (p : ProgramTree) (schemes : List SchemeTree) (text : List ℕ) (status : Status) → TypedAnswer asked p schemes text status → IsTrue (is_answered status)

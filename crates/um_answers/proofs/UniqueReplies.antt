@@ -65,7 +65,7 @@ module _ (text other : List ℕ) (status another : Status) where
   one_argument_reply index word (input_stop.PowerRange at) a b = (a.0 ∙ sym b.0, a.1 ∙ sym b.1)
   one_argument_reply index word input_stop.NoMemory a b = absurd a
 
-  one_call_reply : (texts : List (List ℕ)) (refused : CallRefusal) → IsCallReply texts refused text status → IsCallReply texts refused other another → AreSame
+  pub one_call_reply : (texts : List (List ℕ)) (refused : CallRefusal) → IsCallReply texts refused text status → IsCallReply texts refused other another → AreSame
   one_call_reply texts refusal.NoFunction a b = (a.0 ∙ sym b.0, a.1 ∙ sym b.1)
   one_call_reply texts refusal.WrongCount a b = (a.0 ∙ sym b.0, a.1 ∙ sym b.1)
   one_call_reply texts (refusal.Argument index stop) a b = one_argument_reply index (get_or texts index []) stop a b

@@ -29,3 +29,21 @@ held_name words = get_or words 1 []
 
 abbrev pub signature_text : List (List ℕ) → List ℕ
 signature_text words = get_or words 2 []
+
+-- ---- rescale SCALES
+
+-- the sizes of base units
+abbrev pub rescale_sizes : List (List ℕ) → List ℕ
+rescale_sizes words = get_or words 1 []
+
+-- ---- twin BUDGET SCALES NAME ARG*
+
+abbrev pub twin_sizes : List (List ℕ) → List ℕ
+twin_sizes words = get_or words 2 []
+
+-- the name of the function that is called, and the texts of the arguments
+abbrev pub twin_name : List (List ℕ) → List ℕ
+twin_name words = get_or words 3 []
+
+abbrev pub twin_texts : List (List ℕ) → List (List ℕ)
+twin_texts words = drop 4 words

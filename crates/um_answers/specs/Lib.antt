@@ -4,7 +4,10 @@ pub mod SchemeLines
 pub mod CallAnswer
 pub mod ConformAnswer
 pub mod BigAnswer
+pub mod RescaleAnswer
+pub mod TwinAnswer
 pub mod TypedAnswer
 pub mod Passing
 -- What mirrors the code.
 pub mod Asking
+pub mod Rescaling

@@ -10,15 +10,17 @@ ghost use Rattle.um_gen.specs.ProgramCode.{program_code};
 ghost use Rattle.um_code.specs.Listing.{listing_text};
 ghost use Rattle.um_orders.specs.Orders.{order_of};
 ghost use Rattle.um_reports.specs.Steps.{IsReply};
-ghost use Rattle.um_answers.specs.Asking.{asked_of};
+ghost use Rattle.um_answers.specs.Asking.{asked_of, IsWrittenText};
 ghost use Rattle.um_answers.specs.SchemeLines.{scheme_lines};
 ghost use Rattle.um_answers.specs.TypedAnswer.{TypedAnswer};
 
 use crate::asked::Asked;
 use crate::big::answer_big;
 use crate::call::answer_call;
+use crate::rescale::answer_rescale;
 use crate::schemes::schemes_text;
 use crate::signature::answer_conform;
+use crate::twin::answer_twin;
 use crate::way::Way;
 use std::alloc::{AllocError, Global};
 use um_code::listing;
@@ -29,7 +31,11 @@ use um_shape::Shaped;
 use um_show::program_text;
 use um_tree::Schemes;
 
-/// The answer to a program each of whose functions has a scheme.
+/// The answer about a program each of whose functions has a scheme, as `infer` answered them.
+///
+/// The words name the order, the bytes are the text of the program as it is written, and that is what was resolved and
+/// shaped. `fmt` is answered here too. Want of memory is the one error; each refusal is an answer. The rules are this
+/// project's own.
 #[tactic(auto, unfolding(crate::specs::TypedAnswer::TypedAnswer))]
 pub fn answer_typed(
     alloc: Global,
@@ -38,6 +44,7 @@ pub fn answer_typed(
     schemes: &Schemes,
 ) -> Result<Reply, AllocError>
     requires ordered { order_of asked.now.words.now ≡ Some asked.now.order }
+    requires written { IsWrittenText asked.now.bytes.now }
     requires resolved { resolved_program (program_syntax asked.now.raw.now) ≡ Ok (program_tree shaped.now) }
     requires inferred { infer (program_tree shaped.now) ≡ all_schemes (scheme_trees schemes.now) }
     ensures { IfOk result (λ reply. TypedAnswer (asked_of asked.now)
@@ -53,6 +60,8 @@ pub fn answer_typed(
         }
         Order::Eval { budget } => answer_call(alloc, Way::Tree, budget, asked, shaped, schemes),
         Order::Conform => answer_conform(alloc, asked, shaped, schemes),
+        Order::Rescale => answer_rescale(alloc, asked, shaped),
+        Order::Twin { budget } => answer_twin(alloc, budget, asked, shaped, schemes),
         Order::Big(functions) => answer_big(alloc, functions, asked, shaped, schemes),
     }
 }
@@ -82,7 +91,7 @@ fn reply_code(alloc: Global, shaped: &Shaped) -> Result<Reply, AllocError>
     })
 }
 
-/// The layout of the program.
+/// The layout of the program as it is written. Want of memory is the one error.
 pub fn reply_layout(alloc: Global, asked: &Asked) -> Result<Reply, AllocError>
     ensures { IfOk result (λ reply. IsReply reply.text.items reply.status
         (layout (program_syntax asked.now.raw.now)) Status.Done) }
