@@ -1,14 +1,13 @@
 -- The answer to `twin` is one, and has no status of a fault.
-use Rattle.std.proofs.Common.{◌≡◌, ◌⊎◌, ℕ, List, codes, map, IsTrue, MatchOption, Option, Result, Ok, Err, Some, None, inl, inr, refl, sym, subst, ◌∙◌}
+use Rattle.std.proofs.Common.{◌≡◌, ◌⊎◌, ℕ, List, codes, IsTrue, MatchOption, Option, Result, Ok, Err, Some, None, inl, inr, refl, sym, subst, ◌∙◌}
 use Rattle.um_frac.specs.declared.number.Frac.{Frac}
 use Rattle.um_tree.specs.TypeTree.{TypeTree}
 use Rattle.um_tree.specs.ValueTree.{ValueTree, OutcomeTree, value_outcome, trap_outcome, budget_outcome}
 use Rattle.um_tree.specs.ProgramTree.{ProgramTree, SchemeTree}
 use Rattle.um_tree.specs.Formed.{IsFormed}
-use Rattle.um_tree.specs.Meaning.{outcome_of_call}
 use Rattle.um_measures.specs.declared.abbreviation.Abbreviation.{Abbreviation}
 use Rattle.um_show.specs.ValueText.{value_text}
-use Rattle.um_scale.specs.RescaledLiterals.{misfit_in, rescaled_program}
+use Rattle.um_scale.specs.RescaledLiterals.{misfit_in}
 use Rattle.um_sizes.specs.declared.read.ScalesRefusal.{ScalesRefusal}
 use Rattle.um_sizes.specs.declared.read.ScalesRefusal.TheVariants as scales_refusal
 use Rattle.um_sizes.proofs.UniqueSizes.{scales_are_unique}

@@ -1,17 +1,17 @@
 -- A call that is made twice is done where the sizes and the arguments fit, and both meanings give values that can be
 -- printed.
-use Rattle.std.proofs.Common.{◌≡◌, ◌⊎◌, ℕ, List, IsTrue, map, MatchOption, Option, Result, Ok, Err, Some, None, inl, inr, sym, subst, ◌∙◌}
+use Rattle.std.proofs.Common.{◌≡◌, ◌⊎◌, ℕ, List, MatchOption, Option, Result, Ok, Err, Some, None, inl, inr, sym, subst, ◌∙◌}
 use Rattle.um_frac.specs.declared.number.Frac.{Frac}
 use Rattle.um_tree.specs.RawTree.{DeclSyntax}
-use Rattle.um_tree.specs.ValueTree.{value_outcome, without_units}
+use Rattle.um_tree.specs.ValueTree.{value_outcome}
 use Rattle.um_tree.specs.ProgramTree.{ProgramTree, SchemeTree}
 use Rattle.um_tree.specs.Formed.{IsFormed}
 use Rattle.um_tree.specs.Meaning.{outcome_of_call}
 use Rattle.um_measures.specs.declared.abbreviation.Abbreviation.{Abbreviation}
 use Rattle.um_names.specs.Resolution.{resolved_program, resolved_abbreviations}
 use Rattle.um_infer.specs.Inference.{all_schemes, infer}
-use Rattle.um_show.specs.ValueText.{value_text, parts_fit}
-use Rattle.um_scale.specs.RescaledLiterals.{misfit_in, rescaled_program}
+use Rattle.um_show.specs.ValueText.{value_text}
+use Rattle.um_scale.specs.RescaledLiterals.{rescaled_program}
 use Rattle.um_sizes.specs.declared.read.ScalesRefusal.{ScalesRefusal}
 use Rattle.um_sizes.specs.declared.read.ScalesRefusal.TheVariants as scales_refusal
 use Rattle.um_sizes.proofs.UniqueSizes.{scales_are_unique}

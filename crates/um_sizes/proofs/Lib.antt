@@ -5,4 +5,5 @@ pub mod DigitTexts
 pub mod NameTests
 pub mod BaseNumbers
 pub mod BaseScales
+pub mod UniqueSizes
 mod Examples

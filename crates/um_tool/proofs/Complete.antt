@@ -42,11 +42,11 @@ use Rattle.um_parse.specs.Parsed.{IsRead, LimitAt, Parsed}
 use Rattle.um_orders.specs.declared.order.Order.{Order}
 use Rattle.um_reports.specs.declared.status.Status.{Status}
 use Rattle.um_reports.specs.declared.status.Status.TheVariants.{Done}
-use Rattle.um_orders.specs.declared.order.Order.TheVariants.{Types, Code, Fmt, Run, Steps, Eval, Conform, Big}
+use Rattle.um_orders.specs.declared.order.Order.TheVariants.{Types, Code, Fmt, Run, Steps, Eval, Conform, Rescale, Twin, Big}
 use Rattle.um_orders.specs.declared.order.Intake.{Intake}
-use Rattle.um_orders.specs.declared.order.Intake.TheVariants.{Generated, Text, Bytes}
+use Rattle.um_orders.specs.declared.order.Intake.TheVariants.{Generated, Text}
 use Rattle.um_answers.specs.Asked.{Asked}
-use Rattle.um_tool.specs.Answer.{Answer, OrderAnswer, IntakeAnswer, LengthAnswer, TokensAnswer, GrammarAnswer, ProgramAnswer, ByLayout, NamesAnswer, ShapesAnswer, SchemesAnswer, InferenceAnswer}
+use Rattle.um_tool.specs.Answer.{Answer, IntakeAnswer, LengthAnswer, TokensAnswer, GrammarAnswer, ProgramAnswer, ByLayout, NamesAnswer, ShapesAnswer, SchemesAnswer, InferenceAnswer}
 use Rattle.um_answers.specs.Passing.{PassesOn}
 use Rattle.um_tool.specs.Passing.{EachIsTyped, IsTyped, GoesThrough}
 use Rattle.um_orders.specs.Orders.{intake_of}
@@ -166,6 +166,8 @@ module _ (one_reading : ReadingsAreUnique) where
   by_layout_done (Steps budget) words bytes raw text status readable (typed, passes) answer = names_done (record { order = Steps budget; words = words; bytes = bytes; raw = raw }) text status readable typed passes answer
   by_layout_done (Eval budget) words bytes raw text status readable (typed, passes) answer = names_done (record { order = Eval budget; words = words; bytes = bytes; raw = raw }) text status readable typed passes answer
   by_layout_done Conform words bytes raw text status readable (typed, passes) answer = names_done (record { order = Conform; words = words; bytes = bytes; raw = raw }) text status readable typed passes answer
+  by_layout_done Rescale words bytes raw text status readable (typed, passes) answer = names_done (record { order = Rescale; words = words; bytes = bytes; raw = raw }) text status readable typed passes answer
+  by_layout_done (Twin budget) words bytes raw text status readable (typed, passes) answer = names_done (record { order = Twin budget; words = words; bytes = bytes; raw = raw }) text status readable typed passes answer
   by_layout_done (Big n) words bytes raw text status readable (typed, passes) answer = names_done (record { order = Big n; words = words; bytes = bytes; raw = raw }) text status readable typed passes answer
 
   program_done : (order : Order) (words : List (List ℕ)) (bytes : List ℕ) (raw : List DeclSyntax) (text : List ℕ) (status : Status) → IsReadable raw → GoesThrough order words raw
@@ -194,13 +196,11 @@ module _ (one_reading : ReadingsAreUnique) where
   intake_done Text order words bytes text status ok answer =
       let long : 1048576 < length bytes → ⊥ = λ h. omega (arith, ok.short) in
       tokens_done order words bytes ok.tokens ok.raw text status ok.short ok.lexed ok.read ok.goes_through (passed long answer)
-  intake_done (Bytes most) order words bytes text status ok answer = absurd ok
 
   pub Answer-complete : (words : List (List ℕ)) (bytes text : List ℕ) (status : Status) → IsComplete words bytes → Answer words bytes text status → status ≡ Done
-  unfolding Answer OrderAnswer
+  unfolding Answer
   Answer-complete words bytes text status ok answer =
-      let ordered : OrderAnswer words bytes text status = passed ok.asks.built answer in
-      let given : IntakeAnswer (intake_of ok.order) ok.order words bytes text status = rw ok.asks.ordered at ordered in
+      let given : IntakeAnswer (intake_of ok.order) ok.order words bytes text status = rw ok.asks.ordered at answer in
       let taken : IntakeAnswer ok.intake ok.order words bytes text status = rw ok.asks.takes at given in
       intake_done ok.intake ok.order words bytes text status ok.taken taken
 

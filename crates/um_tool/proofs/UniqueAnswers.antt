@@ -31,16 +31,16 @@ use Rattle.um_readable.proofs.TextBytes.{readable_program}
 use Rattle.um_infer.specs.Inference.{Inference, all_schemes, stops_at_slots, stops_at_range, stops_at_units, stops_at_not_general, infer}
 use Rattle.um_types.specs.declared.parse.LimitKind.TheVariants as limit
 use Rattle.um_orders.specs.declared.order.Order.{Order}
-use Rattle.um_orders.specs.declared.order.Order.TheVariants.{Types, Code, Fmt, Run, Steps, Eval, Conform, Big}
+use Rattle.um_orders.specs.declared.order.Order.TheVariants.{Types, Code, Fmt, Run, Steps, Eval, Conform, Rescale, Twin, Big}
 use Rattle.um_orders.specs.declared.order.Intake.{Intake}
-use Rattle.um_orders.specs.declared.order.Intake.TheVariants.{Generated, Text, Bytes}
+use Rattle.um_orders.specs.declared.order.Intake.TheVariants.{Generated, Text}
 use Rattle.um_reports.specs.declared.status.Status.{Status}
 use Rattle.um_reports.specs.declared.status.Status.TheVariants.{Usage, Utf8, Lexical, Limit, Names, PowerRange, Shape}
 use Rattle.um_reports.specs.Steps.{line, IsReply}
 use Rattle.um_orders.specs.Orders.{order_of, intake_of}
 use Rattle.um_reports.specs.Refusals.{placed, limit_label, IsTextReply, IsParseReply, IsNameReply, IsShapeReply}
 use Rattle.um_answers.specs.Asked.{Asked}
-use Rattle.um_tool.specs.Answer.{Answer, OrderAnswer, IntakeAnswer, LengthAnswer, TokensAnswer, GrammarAnswer, ProgramAnswer, ByLayout, NamesAnswer, ShapesAnswer, SchemesAnswer, InferenceAnswer, OfFunction}
+use Rattle.um_tool.specs.Answer.{Answer, IntakeAnswer, LengthAnswer, TokensAnswer, GrammarAnswer, ProgramAnswer, ByLayout, NamesAnswer, ShapesAnswer, SchemesAnswer, InferenceAnswer, OfFunction}
 use Rattle.um_sig.specs.Laws.{ReadingsAreUnique}
 use Rattle.um_tool.specs.Laws.{AnswersAreUnique}
 use Rattle.um_tool.proofs.Complete.{not_utf8, text_not_refused, program_not_refused, not_refused, not_faulty}
@@ -197,6 +197,8 @@ module _ (one_answer : ParsesAreUnique) (one_reading : ReadingsAreUnique) (text 
   by_layout_one (Steps budget) asked readable a b = names_one asked readable a b
   by_layout_one (Eval budget) asked readable a b = names_one asked readable a b
   by_layout_one Conform asked readable a b = names_one asked readable a b
+  by_layout_one Rescale asked readable a b = names_one asked readable a b
+  by_layout_one (Twin budget) asked readable a b = names_one asked readable a b
   by_layout_one (Big n) asked readable a b = names_one asked readable a b
 
   program_one : (asked : Asked) → IsReadable asked.raw → ProgramAnswer asked text status → ProgramAnswer asked other another → (text ≡ other) × (status ≡ another)
@@ -232,21 +234,13 @@ module _ (one_answer : ParsesAreUnique) (one_reading : ReadingsAreUnique) (text 
   intake_one : (intake : Intake) (order : Order) (words : List (List ℕ)) (bytes : List ℕ) → order_of words ≡ Some order → intake_of order ≡ intake → IntakeAnswer intake order words bytes text status → IntakeAnswer intake order words bytes other another → (text ≡ other) × (status ≡ another)
   intake_one (Generated n) order words bytes ordered takes a b = tokens_one order words (big_text n) (text_fits n (generated_count words order n ordered takes).1) a b
   intake_one Text order words bytes ordered takes a b = length_one order words bytes a b
-  intake_one (Bytes most) order words bytes ordered takes a b = (a.0 ∙ sym b.0, a.1 ∙ sym b.1)
 
   ordered_one : (order : Option Order) (words : List (List ℕ)) (bytes : List ℕ) → order_of words ≡ order → MatchOption order (IsReply text status (line (codes "error 1: usage")) Usage) (λ o. IntakeAnswer (intake_of o) o words bytes text status)
       → MatchOption order (IsReply other another (line (codes "error 1: usage")) Usage) (λ o. IntakeAnswer (intake_of o) o words bytes other another) → (text ≡ other) × (status ≡ another)
   ordered_one None words bytes is a b = (a.0 ∙ sym b.0, a.1 ∙ sym b.1)
   ordered_one (Some order) words bytes is a b = intake_one (intake_of order) order words bytes is refl a b
 
-  order_one : (words : List (List ℕ)) (bytes : List ℕ) → OrderAnswer words bytes text status → OrderAnswer words bytes other another → (text ≡ other) × (status ≡ another)
-  unfolding OrderAnswer
-  order_one words bytes a b = ordered_one (order_of words) words bytes refl a b
-
 -- where `parse` has one answer to each list of tokens, and the text of a signature one reading
 pub answers_are_one : ParsesAreUnique → ReadingsAreUnique → AnswersAreUnique
 unfolding Answer
-answers_are_one one one_reading words bytes text other status another (inl (unbuilt, a)) (inl (also, b)) = (a.0 ∙ sym b.0, a.1 ∙ sym b.1)
-answers_are_one one one_reading words bytes text other status another (inl (unbuilt, a)) (inr (built, b)) = absurd (built unbuilt)
-answers_are_one one one_reading words bytes text other status another (inr (built, a)) (inl (unbuilt, b)) = absurd (built unbuilt)
-answers_are_one one one_reading words bytes text other status another (inr (built, a)) (inr (also, b)) = order_one one one_reading text other status another words bytes a b
+answers_are_one one one_reading words bytes text other status another a b = ordered_one one one_reading text other status another (order_of words) words bytes refl a b

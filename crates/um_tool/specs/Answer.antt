@@ -5,9 +5,9 @@ use Rattle.std.specs.Prelude.{ℕ, ◌<◌, ◌≡◌, ◌⊎◌, List, length, 
 use Rattle.um_orders.specs.declared.order.Order.{Order}
 use Rattle.um_orders.specs.declared.order.Order.TheVariants.{Fmt}
 use Rattle.um_orders.specs.declared.order.Intake.{Intake}
-use Rattle.um_orders.specs.declared.order.Intake.TheVariants.{Generated, Text, Bytes}
+use Rattle.um_orders.specs.declared.order.Intake.TheVariants.{Generated, Text}
 use Rattle.um_reports.specs.declared.status.Status.{Status}
-use Rattle.um_reports.specs.declared.status.Status.TheVariants.{Done, Usage, TooLong, NotBuilt}
+use Rattle.um_reports.specs.declared.status.Status.TheVariants.{Done, Usage, TooLong}
 use Rattle.um_syntax.specs.declared.token.Token.{Token}
 use Rattle.um_syntax.specs.declared.token.TextStop.{TextStop}
 use Rattle.um_syntax.specs.Feeding.{IsTextAnswer}
@@ -27,14 +27,10 @@ use Rattle.um_show.specs.Layout.{layout}
 use Rattle.um_big.specs.BigText.{big_text}
 use Rattle.um_answers.specs.Asked.{Asked}
 use Rattle.um_answers.specs.TypedAnswer.{TypedAnswer}
-use Rattle.um_orders.specs.Orders.{order_of, intake_of, NamesUnbuilt}
+use Rattle.um_orders.specs.Orders.{order_of, intake_of}
 use Rattle.um_reports.specs.Refusals.{IsTextReply, IsParseReply, IsNameReply, IsShapeReply, IsSlotsReply, IsRangeReply}
 use Rattle.um_reports.specs.Refusals.{IsUnitsReply, IsNotGeneralReply}
 use Rattle.um_reports.specs.Steps.{line, IsReply, Cases}
-
--- the form isn't built yet
-abbrev pub IsNotBuilt : List ℕ → Status → Type 0
-IsNotBuilt text status = IsReply text status (line (codes "error 18: not built")) NotBuilt
 
 -- the function of this number, and what is said of it
 abbrev pub OfFunction : ProgramTree → ℕ → (FunctionTree → Type 0) → Type 0
@@ -95,21 +91,13 @@ LengthAnswer order words bytes text status = Cases (1048576 < length bytes)
     (IsReply text status (line (codes "error 2: text too long")) TooLong)
     (TokensAnswer order words bytes text status)
 
--- by what the order takes from the source: a generated text stands for what it would have read; no order that takes
--- bytes that are no text is built yet
+-- by what the order takes from the source: a generated text stands for what it would have read
 abbrev pub IntakeAnswer : Intake → Order → List (List ℕ) → List ℕ → List ℕ → Status → Type 0
 IntakeAnswer (Generated n) order words bytes text status = TokensAnswer order words (big_text n) text status
 IntakeAnswer Text order words bytes text status = LengthAnswer order words bytes text status
-IntakeAnswer (Bytes limit) order words bytes text status = IsNotBuilt text status
 
 -- the words name an order
-unfoldable pub OrderAnswer : List (List ℕ) → List ℕ → List ℕ → Status → Type 0
-OrderAnswer words bytes text status = MatchOption (order_of words)
+unfoldable pub Answer : List (List ℕ) → List ℕ → List ℕ → Status → Type 0
+Answer words bytes text status = MatchOption (order_of words)
     (IsReply text status (line (codes "error 1: usage")) Usage)
     (λ order. IntakeAnswer (intake_of order) order words bytes text status)
-
--- the first word is no command that isn't built yet
-unfoldable pub Answer : List (List ℕ) → List ℕ → List ℕ → Status → Type 0
-Answer words bytes text status = Cases (NamesUnbuilt words)
-    (IsNotBuilt text status)
-    (OrderAnswer words bytes text status)

@@ -1,9 +1,9 @@
 // The steps of an answer, each by its definition.
 ghost use Rattle.std.specs.Prelude.{◌<◌, ◌≤◌, ◌≡◌, length, slice_get, IfOk, Ok, Some};
 ghost use Rattle.um_tool.specs.Answer.{TokensAnswer, GrammarAnswer, ProgramAnswer, NamesAnswer, ShapesAnswer};
-ghost use Rattle.um_tool.specs.Answer.{SchemesAnswer, IsNotBuilt};
+ghost use Rattle.um_tool.specs.Answer.{SchemesAnswer};
 ghost use Rattle.um_answers.specs.TypedAnswer.{TypedAnswer};
-ghost use Rattle.um_answers.specs.Asking.{asked_of};
+ghost use Rattle.um_answers.specs.Asking.{asked_of, IsWrittenText};
 ghost use Rattle.um_orders.specs.Orders.{order_of};
 ghost use Rattle.um_syntax.specs.Feeding.{IsTextAnswer};
 ghost use Rattle.um_tree.specs.RawTree.{program_syntax};
@@ -22,18 +22,12 @@ use um_names::resolve;
 use um_orders::{Order, Words};
 use um_parse::parse;
 use um_reports::{
-    Reply, Status, reply_line, reply_to_names, reply_to_not_general, reply_to_range,
-    reply_to_shapes, reply_to_slots, reply_to_text, reply_to_tokens, reply_to_units,
+    Reply, reply_to_names, reply_to_not_general, reply_to_range, reply_to_shapes,
+    reply_to_slots, reply_to_text, reply_to_tokens, reply_to_units,
 };
 use um_shape::{Shaped, shape};
 use um_syntax::Tokens;
 use um_tree::{Function, Program, Schemes};
-
-pub(crate) fn not_built(alloc: Global) -> Result<Reply, AllocError>
-    ensures { IfOk result (λ reply. IsNotBuilt reply.text.items reply.status) }
-{
-    reply_line(alloc, "error 18: not built", Status::NotBuilt)
-}
 
 /// The answer to a text that is not too long.
 #[tactic(auto, unfolding(crate::specs::Answer::TokensAnswer))]
@@ -87,6 +81,7 @@ fn answer_tokens(
 #[tactic(auto, unfolding(crate::specs::Answer::ProgramAnswer))]
 fn answer_program(alloc: Global, asked: &Asked) -> Result<Reply, AllocError>
     requires ordered { order_of asked.now.words.now ≡ Some asked.now.order }
+    requires written { IsWrittenText asked.now.bytes.now }
     requires readable { IsReadable (program_syntax asked.now.raw.now) }
     ensures { IfOk result (λ reply. ProgramAnswer (asked_of asked.now) reply.text.items reply.status) }
 {
@@ -98,6 +93,8 @@ fn answer_program(alloc: Global, asked: &Asked) -> Result<Reply, AllocError>
         | Order::Steps { .. }
         | Order::Eval { .. }
         | Order::Conform
+        | Order::Rescale
+        | Order::Twin { .. }
         | Order::Big(_) => answer_names(alloc, asked),
     }
 }
@@ -106,6 +103,7 @@ fn answer_program(alloc: Global, asked: &Asked) -> Result<Reply, AllocError>
 #[tactic(auto, unfolding(crate::specs::Answer::NamesAnswer))]
 fn answer_names(alloc: Global, asked: &Asked) -> Result<Reply, AllocError>
     requires ordered { order_of asked.now.words.now ≡ Some asked.now.order }
+    requires written { IsWrittenText asked.now.bytes.now }
     requires readable { IsReadable (program_syntax asked.now.raw.now) }
     ensures { IfOk result (λ reply. NamesAnswer (asked_of asked.now) reply.text.items reply.status) }
 {
@@ -119,6 +117,7 @@ fn answer_names(alloc: Global, asked: &Asked) -> Result<Reply, AllocError>
 #[tactic(auto, unfolding(crate::specs::Answer::ShapesAnswer))]
 fn answer_shapes(alloc: Global, asked: &Asked, program: Program) -> Result<Reply, AllocError>
     requires ordered { order_of asked.now.words.now ≡ Some asked.now.order }
+    requires written { IsWrittenText asked.now.bytes.now }
     requires resolved { resolved_program (program_syntax asked.now.raw.now) ≡ Ok (program_tree program) }
     requires formed { IsFormed (program_tree program) }
     ensures { IfOk result (λ reply. ShapesAnswer (asked_of asked.now)
@@ -134,6 +133,7 @@ fn answer_shapes(alloc: Global, asked: &Asked, program: Program) -> Result<Reply
 #[tactic(auto, unfolding(crate::specs::Answer::SchemesAnswer))]
 fn answer_schemes(alloc: Global, asked: &Asked, shaped: &Shaped) -> Result<Reply, AllocError>
     requires ordered { order_of asked.now.words.now ≡ Some asked.now.order }
+    requires written { IsWrittenText asked.now.bytes.now }
     requires resolved { resolved_program (program_syntax asked.now.raw.now) ≡ Ok (program_tree shaped.now) }
     ensures { IfOk result (λ reply. SchemesAnswer (asked_of asked.now)
         (program_tree shaped.now) reply.text.items reply.status) }
@@ -166,6 +166,7 @@ fn answer_inferred(
     schemes: Schemes,
 ) -> Result<Reply, AllocError>
     requires ordered { order_of asked.now.words.now ≡ Some asked.now.order }
+    requires written { IsWrittenText asked.now.bytes.now }
     requires resolved { resolved_program (program_syntax asked.now.raw.now) ≡ Ok (program_tree shaped.now) }
     requires inferred { infer (program_tree shaped.now) ≡ all_schemes (scheme_trees schemes) }
     ensures { IfOk result (λ reply. TypedAnswer (asked_of asked.now)

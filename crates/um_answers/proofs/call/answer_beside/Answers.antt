@@ -13,7 +13,7 @@ unfolding BesideAnswer
 returns-in-Ok c =
     let words = c.args.words.now in let p = program_tree c.args.shaped.now in let schemes = scheme_trees c.args.schemes.now in
     let call = call_tree c.in-Ok.call in
-    let named = call_of_words words p c.args.shorts.now schemes c.word.result.now (map string_bytes c.after-texts.result.now) (Ok call) c.word.ensures c.after-texts.ensures c.in-Ok.ensures.exact in
+    let named = call_of_words words p c.args.shorts.now schemes 2 c.word.result.now (map string_bytes c.after-texts.result.now) (Ok call) c.word.ensures c.after-texts.ensures c.in-Ok.ensures.exact in
     IfOk-weaker c.answer_run.result (λ reply. RunAnswer c.args.way c.args.budget p call reply.text.items reply.status)
     (λ reply. BesideAnswer c.args.way c.args.budget words p c.args.shorts.now schemes reply.text.items reply.status)
     (λ reply says. (Ok call, named, says))
@@ -24,7 +24,7 @@ unfolding BesideAnswer
 returns-in-Err c =
     let words = c.args.words.now in let p = program_tree c.args.shaped.now in let schemes = scheme_trees c.args.schemes.now in
     let texts = map string_bytes c.after-texts.result.now in let refusal = c.in-Err.refusal in
-    let named = call_of_words words p c.args.shorts.now schemes c.word.result.now texts (Err refusal) c.word.ensures c.after-texts.ensures c.in-Err.ensures.exact in
+    let named = call_of_words words p c.args.shorts.now schemes 2 c.word.result.now texts (Err refusal) c.word.ensures c.after-texts.ensures c.in-Err.ensures.exact in
     IfOk-weaker c.reply_to_call.result (λ reply. IsCallReply texts refusal reply.text.items reply.status)
     (λ reply. BesideAnswer c.args.way c.args.budget words p c.args.shorts.now schemes reply.text.items reply.status)
     (λ reply says. (Err refusal, named, subst (λ ts. IsCallReply ts refusal reply.text.items reply.status) c.after-texts.ensures says))
