@@ -80,8 +80,8 @@ def literals(count):
 
 
 def readings(functions):
-    """Functions of 50 literals with written units."""
-    literals = "; ".join(["1.5<m>; 2<m>; 37<m>; 0.25<m>; 1200<m>"] * 10)
+    """Functions of 60 literals with written units."""
+    literals = "; ".join(["1.5<m>; 2<m>; 37<m>; 0.25<m>; 1200<m>"] * 12)
     text = "[<Measure>] type m\n"
     return text + "".join("let readings%04d = [%s]\n" % (number, literals) for number in range(functions))
 
