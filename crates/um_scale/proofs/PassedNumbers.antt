@@ -15,7 +15,7 @@ use Rattle.um_scale.specs.PassedNumbers.{IsPassed}
 
 -- a position in a list and one behind it
 position_on : {A : Type 0} (test : A → Bool) (xs ys : List A) (k : ℕ) → position_from test k (xs ++ ys) ≡ option_or (position_from test k xs) (position_from test (k + length xs) ys)
-position_on test [] ys k = let same : k ≡ k + length [] = omega arith in ap (λ n. position_from test n ys) same
+position_on test [] ys k = let same : k ≡ k + 0 = omega arith in ap (λ n. position_from test n ys) same
 position_on test (x ∷ xs) ys k =
     let same : k + 1 + length xs ≡ k + length (x ∷ xs) = omega arith in
     let later = position_on test xs ys (k + 1) ∙ ap (λ n. option_or (position_from test (k + 1) xs) (position_from test n ys)) same in

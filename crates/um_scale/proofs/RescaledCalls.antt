@@ -78,8 +78,8 @@ put_same (num_type u) = ap num_type (replace-same u)
 put_same (list_type t) = ap list_type (put_same t)
 put_same (record_type m us) = ap (record_type m) (units_same us)
 
-pub type_is_result : (p : ProgramTree) (f : ℕ) (inputs : InputTrees) (t : TypeTree) → IsTypeOfCall p f inputs t → IsResultOfCall p f inputs t
-type_is_result p f inputs t typed =
+pub type_is_result : (p : ProgramTree) (f : ℕ) (is : InputTrees) (t : TypeTree) → IsTypeOfCall p f is t → IsResultOfCall p f is t
+type_is_result p f is t typed =
     let units : ℕ → PowerMap = λ k. atom (Var k) in
     (typed.instances t).1 (units, sym (put_same t))
 

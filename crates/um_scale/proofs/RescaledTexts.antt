@@ -60,15 +60,15 @@ length-by_place : (table : List (Option Frac)) (ls : List (ℕ × Frac)) → len
 length-by_place table [] = refl
 length-by_place table (l ∷ ls) = length-set (by_place table ls) l.0 (Some l.1) ∙ length-by_place table ls
 
+placed : (table : List (Option Frac)) (ls : List (ℕ × Frac)) (at : ℕ) (c : Frac) (place : ℕ) → place < length table → number_at (by_place table ls) place ≡ option_or (literal_at ls place) (number_at table place) → (b : Bool) → nat_eq place at ≡ b → number_at (set (by_place table ls) at (Some c)) place ≡ option_or (cond b (Some c) (literal_at ls place)) (number_at table place)
+placed table ls at c place below before true e =
+    let here : place ≡ at = eqb-true place at e in
+    get_or-set_at (by_place table ls) at place (Some c) None here (omega (arith, here, length-by_place table ls, below))
+placed table ls at c place below before false e = get_or-set_other (by_place table ls) at place (Some c) None (eqb-false place at e) ∙ before
+
 by_place-at : (table : List (Option Frac)) (ls : List (ℕ × Frac)) (place : ℕ) → place < length table → number_at (by_place table ls) place ≡ option_or (literal_at ls place) (number_at table place)
 by_place-at table [] place below = refl
-by_place-at table (l ∷ ls) place below = placed (nat_eq place l.0) refl
-  where
-    placed : (b : Bool) → nat_eq place l.0 ≡ b → number_at (set (by_place table ls) l.0 (Some l.1)) place ≡ option_or (cond b (Some l.1) (literal_at ls place)) (number_at table place)
-    placed true e =
-        let here : place ≡ l.0 = eqb-true place l.0 e in
-        get_or-set_at (by_place table ls) l.0 place (Some l.1) None here (omega (arith, here, length-by_place table ls, below))
-    placed false e = get_or-set_other (by_place table ls) l.0 place (Some l.1) None (eqb-false place l.0 e) ∙ by_place-at table ls place below
+by_place-at table (l ∷ ls) place below = placed table ls l.0 l.1 place below (by_place-at table ls place below) (nat_eq place l.0) refl
 
 or_none : {A : Type 0} (o : Option A) → option_or o None ≡ o
 or_none None = refl
@@ -77,8 +77,9 @@ or_none (Some x) = refl
 -- a table made so has each literal's number
 pub table_at : (places : ℕ) (ls : List (ℕ × Frac)) (place : ℕ) → place < places → number_at (by_place (replicate places None) ls) place ≡ literal_at ls place
 table_at places ls place below =
-    let many : length (replicate places (None {A = Frac})) ≡ places = length-replicate places None in
-    by_place-at (replicate places None) ls place (omega (arith, many, below))
+    let table : List (Option Frac) = replicate places None in
+    let many : length table ≡ places = length-replicate places None in
+    by_place-at table ls place (omega (arith, many, below))
     ∙ ap (option_or (literal_at ls place)) (get_or-replicate places place None None below)
     ∙ or_none (literal_at ls place)
 
