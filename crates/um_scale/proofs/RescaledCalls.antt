@@ -63,9 +63,12 @@ rescaled_arguments p q r f is js h inputs (g, declared, values) =
     let found = function_at r p.functions q.functions f g h.functions declared in
     let shapes = map note_shape g.params in
     let before = subst (λ (vs : ValueTrees). ValuesHave p.records vs shapes) (values_of is) values in
-    let after = values_have p.records r (inputs_in_order is) (inputs_in_order js) shapes inputs before in
-    (record g { body = found.0 }, found.2, subst (λ (ds : List RecordTree). ValuesHave ds (values_in_order (map without_units js)) shapes) (sym h.records)
-    (subst (λ (vs : ValueTrees). ValuesHave p.records vs shapes) (sym (values_of js)) after))
+    let after = values_have p.records r (inputs_in_order is) (inputs_in_order js) shapes inputs before in (
+      record g { body = found.0 },
+      found.2,
+      subst (λ (ds : List RecordTree). ValuesHave ds (values_in_order (map without_units js)) shapes) (sym h.records)
+          (subst (λ (vs : ValueTrees). ValuesHave p.records vs shapes) (sym (values_of js)) after),
+    )
 
 -- ---- the type of a call is one of its results
 units_same : (us : List PowerMap) → map (λ u. replace (λ k. atom (Var k)) u) us ≡ us

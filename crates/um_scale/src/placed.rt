@@ -114,12 +114,7 @@ fn push_two(found: &mut Vec<(u32, Frac)>, a: &Expr, b: &Expr) -> Result<(), Allo
 }
 
 #[cycle(push_literals)]
-fn push_three(
-    found: &mut Vec<(u32, Frac)>,
-    a: &Expr,
-    b: &Expr,
-    c: &Expr,
-) -> Result<(), AllocError>
+fn push_three(found: &mut Vec<(u32, Frac)>, a: &Expr, b: &Expr, c: &Expr) -> Result<(), AllocError>
     ensures { OnOk result (found.new.items ≡ found.old.items
         ++ (literals (expr_tree a.now) ++ (literals (expr_tree b.now) ++ literals (expr_tree c.now)))) }
 {
