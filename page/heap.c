@@ -6,14 +6,7 @@
  * the module's memory, which grows by whole pages; where it can't grow, a call is told so. A block is
  * aligned to 16 bytes, as is its size. The module runs one call at a time, on one thread.
  */
-typedef unsigned long size;
-typedef unsigned char byte;
-
-/* What a call that tries to get memory answers: the block is there where `ok` isn't 0. */
-struct tried {
-    size ok;
-    byte *block;
-};
+#include "heap.h"
 
 /* What stands in the 16 bytes before a block. */
 struct head {
@@ -22,8 +15,6 @@ struct head {
 };
 
 enum { ALIGN = 16, LEAST = 16, KINDS = 160, PAGE = 65536, GROWTH = 1 << 20 };
-
-extern byte __heap_base;
 
 static struct head *freed[KINDS];
 static byte *fresh;
@@ -118,15 +109,5 @@ struct tried rattle_realloc(byte *block, size kept, size bytes, size align) {
 }
 
 void rattle_dealloc(byte *block) {
-    give(block);
-}
-
-/* Room for what the page hands in and for the answer; 0 where there is none. */
-
-__attribute__((export_name("page_take"))) byte *page_take(size bytes) {
-    return take(bytes);
-}
-
-__attribute__((export_name("page_give"))) void page_give(byte *block) {
     give(block);
 }
