@@ -15,23 +15,6 @@ const COMMANDS = {
   eval: ["BUDGET NAME ARG..", "the value of a call, by the syntax tree"],
 };
 
-// What to ask of the examples: a title, the program, the command and its words. The first is shown first.
-const EXAMPLES = [
-  ["A mean of lengths", "vehicle", "run", '9 mean "[1<m>; 2<m>; 6<m>]"'],
-  ["The types of a small model", "vehicle", "types", ""],
-  ["Feet in metres", "vehicle", "run", "1 metres 10<ft>"],
-  ["A body that moves", "vehicle", "run", '1 move "{ pos = 1<m>; vel = 2<m/s> }" 3<s>'],
-  ["Energy in other sizes of units", "vehicle", "twin", "1 kg=1000,m=100 kinetic 2<kg> 3<m/s>"],
-  ["A mean of anything", "mean", "types", ""],
-  ["An area", "area", "run", "5 area 2<m> 3<m>"],
-  ["The code of an area", "area", "code", ""],
-  ["An abbreviated unit", "weight", "types", ""],
-  ["A library of mechanics", "mechanics", "types", ""],
-  ["A promise that is kept", "mechanics", "conform", 'work "num<N> -> num<m> -> num<J>"'],
-  ["A promise that isn't", "mechanics", "conform", 'work "num<N> -> num<m> -> num<N>"'],
-  ["The centre of weights", "mechanics", "run", '9 centre "[1<m>; 4<m>]" "[2<kg>; 1<kg>]"'],
-];
-
 // The words that a command line has behind its command before the arguments of its call.
 const WORDS_BEFORE_ARGUMENTS = { run: 2, eval: 2, steps: 2, twin: 3 };
 
@@ -171,7 +154,8 @@ const $ = (name) => document.getElementById(name);
 const page = Object.fromEntries(
   ["example", "name", "words", "form", "open", "link", "file", "numbers", "mark", "text", "size", "held", "status", "go",
     "stop", "answer", "time", "said"].map((name) => [name, $(name)]));
-const programs = JSON.parse($("examples").textContent);
+// The texts of the examples by name, and what is asked of them: a heading, the name, the command and its words.
+const { texts, questions } = JSON.parse($("examples").textContent);
 
 let program = null;
 // The bytes of a file that the text field can't hold as they are, until it is edited.
@@ -417,16 +401,29 @@ function commandChosen() {
 }
 
 function exampleChosen() {
-  const example = EXAMPLES[page.example.selectedIndex - 1];
-  if (!example) return;
-  const [, name, command, words] = example;
+  const question = questions[page.example.selectedIndex - 1];
+  if (!question) return;
+  const [, name, command, words] = question;
   lastWords = {};
-  for (const [, other, itsCommand, itsWords] of EXAMPLES.toReversed()) {
-    if (other === name) lastWords[itsCommand] = itsWords;
+  for (const [, itsName, itsCommand, itsWords] of questions.toReversed()) {
+    if (itsName === name) lastWords[itsCommand] = itsWords;
   }
-  setText(programs[name]);
+  setText(texts[name]);
   setCommand(command, words);
   ask();
+}
+
+function listExamples() {
+  page.example.append(new Option("(your own)", ""));
+  for (const [heading, name, command, words] of questions) {
+    let group = page.example.lastElementChild;
+    if (group.label !== heading) {
+      group = document.createElement("optgroup");
+      group.label = heading;
+      page.example.append(group);
+    }
+    group.append(new Option(`${name}: ${command} ${words}`.trimEnd()));
+  }
 }
 
 // ---- links
@@ -488,7 +485,7 @@ function say(text) {
 
 async function begin() {
   page.name.append(...Object.keys(COMMANDS).map((name) => new Option(name)));
-  page.example.append(new Option("(your own)", ""), ...EXAMPLES.map(([title]) => new Option(title)));
+  listExamples();
   page.example.onchange = exampleChosen;
   page.name.onchange = commandChosen;
   page.words.oninput = () => {
