@@ -1,0 +1,5 @@
+mod Nests
+mod Fitting
+mod JoinedStates
+mod Sending
+mod Taken

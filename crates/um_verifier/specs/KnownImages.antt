@@ -1,0 +1,44 @@
+-- What the code keeps of an image: the shapes of its records and functions. This mirrors the code.
+-- Source: this project's own.
+use Rattle.std.specs.Prelude.{ℕ, List, [], ◌∷◌, map}
+use Rattle.um_shape.specs.RecordShapes.{RecordShape}
+use Rattle.um_machine.specs.declared.code.Entry.{Entry}
+use Rattle.um_machine.specs.declared.code.Code.{Code}
+use Rattle.um_verify.specs.StackShape.{StackShape}
+use Rattle.um_verify.specs.Rules.{Body, View, Flow, fails, passes, need, low_states}
+use Rattle.um_verifier.specs.FlatShapes.{flat_shape, flat_shapes}
+use Rattle.um_verifier.specs.declared.known.KnownRecord.{KnownRecord}
+use Rattle.um_verifier.specs.declared.known.KnownHead.{KnownHead}
+use Rattle.um_verifier.specs.declared.known.Known.{Known}
+
+abbrev pub known_fields : Known → List (List StackShape)
+known_fields known = map (λ r. flat_shapes r.fields.items) known.records.items
+
+-- records with these heights; their fields aren't kept here
+abbrev pub known_heights : Known → List RecordShape
+known_heights known = map (λ r. record { fields = []; height = r.height }) known.records.items
+
+abbrev pub known_body : Entry → KnownHead → Body
+known_body e h = record {
+  start = e.start;
+  end = e.end;
+  params = flat_shapes h.params.items;
+  result = flat_shape h.result;
+}
+
+abbrev pub known_bodies : List Entry → List KnownHead → List Body
+known_bodies (e ∷ es) (h ∷ hs) = known_body e h ∷ known_bodies es hs
+known_bodies es hs = []
+
+abbrev pub known_view : Known → Code → View
+known_view known code = record {
+  ops = code.ops;
+  bodies = known_bodies code.entries known.heads.items;
+  fields = known_fields known;
+  heights = known_heights known;
+}
+
+-- what is passed on stays within the limit of heights
+abbrev pub lowered : List RecordShape → Flow → Flow
+lowered heights fails = fails
+lowered heights (passes ps) = need (low_states heights ps) (passes ps)
