@@ -2,4 +2,5 @@ mod Nests
 mod Fitting
 mod JoinedStates
 mod Sending
+mod LowStates
 mod Taken

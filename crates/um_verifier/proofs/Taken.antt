@@ -1,21 +1,22 @@
 -- What is taken from the top of a state, as the code takes it.
-use Rattle.std.proofs.Common.{◌≡◌, refl, sym, ap, ◌∙◌, ℕ, zero, suc, ◌+◌, ◌-◌, ◌<◌, ◌≤◌, Bool, true, false, cond, List, [], ◌∷◌, ◌++◌, length, map, take, drop, Option, Some, None, option_map, slice_get, arith, length-append}
+use Rattle.std.proofs.Common.{◌≡◌, refl, sym, subst, ap, ◌∙◌, ℕ, zero, suc, ◌+◌, ◌-◌, ◌<◌, ◌≤◌, Bool, true, false, cond, List, [], ◌∷◌, ◌++◌, length, map, take, drop, Option, Some, None, option_map, slice_get, ◌&&◌, arith, length-append, length-drop}
 use Rattle.std.specs.Prelude.{nat_le}
 use Rattle.std.proofs.Math.Seq.{take-append_seam, drop-append_seam}
-use Rattle.std.proofs.lemmas.List.{map_push, map-append, length-map}
+use Rattle.std.proofs.lemmas.List.{map-append, length-map, take-append-drop}
 use Rattle.std.proofs.lemmas.Option.{slice_get-map}
 use Rattle.std.proofs.lemmas.Bool.{le-leb}
 use Rattle.std.proofs.lemmas.Bool.Decides.{nat_tests}
 use Rattle.um_machine.specs.Stack.{takes, on_one, on_two, on_found}
-use Rattle.um_machine.specs.declared.op.Op.TheVariants.{Load}
+use Rattle.um_machine.specs.declared.op.Op.TheVariants.{Load, JumpIfNot, Slide, Ret}
 use Rattle.um_machine.specs.declared.code.Code.{Code}
 use Rattle.um_shape.specs.RecordShapes.{RecordShape}
-use Rattle.um_verify.specs.StackShape.{StackShape, fits}
+use Rattle.um_verify.specs.StackShape.{StackShape, bool, fits, stack_height}
 use Rattle.um_verify.specs.Rules.{Body, Flow, fails, passes, need, to, fit_one, fit_two, rule, low_state, low_states}
-use Rattle.um_verifier.specs.FlatShapes.{flat_shape, flat_shapes}
+use Rattle.um_verifier.specs.FlatShapes.{in_lists, flat_shape, flat_shapes}
 use Rattle.um_verifier.specs.KnownImages.{known_heights, known_view, lowered}
 use Rattle.um_verifier.specs.declared.flat.FlatShape.{FlatShape}
 use Rattle.um_verifier.specs.declared.known.Known.{Known}
+use Rattle.um_verifier.proofs.LowStates.{low_front, lowered_both}
 
 below : (m n : ℕ) → m < n → nat_le n m ≡ false
 below m n h = grind (arith, nat_tests)
@@ -79,3 +80,87 @@ module _ (known : Known) (at : ℕ) (xs : List FlatShape) where
   pub load_is : (code : Code) (body : Body) (k : ℕ) (s : FlatShape) → slice_get xs k ≡ Some s → lowered H (to (at + 1) (flat_shapes xs ++ flat_shape s ∷ [])) ≡ lowered H (rule (known_view known code) body at (flat_shapes xs) (Load k))
   load_is code body k s h =
       sym (ap (λ (o : Option StackShape). lowered H (on_found o fails (λ s. to (at + 1) (flat_shapes xs ++ s ∷ [])))) (slice_get-map flat_shape xs k ∙ ap (option_map flat_shape) h))
+
+-- so many of the top
+pub takes_at : (xs : List FlatShape) (n : ℕ) (go : List StackShape → List StackShape → Flow) → n ≤ length xs → takes 0 n (flat_shapes xs) fails go ≡ go (flat_shapes (take (length xs - n) xs)) (flat_shapes (drop (length xs - n) xs))
+takes_at xs n go h =
+    let k : ℕ = length xs - n in
+    let whole : take k xs ++ drop k xs ≡ xs = take-append-drop k xs in
+    let l : length (drop k xs) ≡ length xs - k = length-drop k xs in
+    ap (λ (ys : List FlatShape). takes 0 n (flat_shapes ys) fails go) (sym whole) ∙ takes_parts (take k xs) (drop k xs) n go (omega arith)
+
+module _ (known : Known) (at : ℕ) (xs : List FlatShape) where
+  abbrev G : List RecordShape
+  G = known_heights known
+
+  pub two_none : (asked given : FlatShape) → length xs < 2 → fails ≡ lowered G (fit_two at (flat_shapes xs) (flat_shape asked) (flat_shape given))
+  two_none asked given h =
+      sym (ap (lowered G) (takes_few xs 2 (λ low taken. on_two taken fails (λ x y. need (fits x (flat_shape asked)) (need (fits y (flat_shape asked)) (to (at + 1) (low ++ flat_shape given ∷ []))))) h))
+
+  need_both : (b c : Bool) (flow : Flow) → need (b && c) flow ≡ need b (need c flow)
+  need_both true c flow = refl
+  need_both false c flow = refl
+
+  pub two_is : (low : List FlatShape) (x y asked given : FlatShape) (b : Bool) → xs ≡ low ++ x ∷ y ∷ [] → b ≡ (fits (flat_shape x) (flat_shape asked) && fits (flat_shape y) (flat_shape asked)) → need b (lowered G (to (at + 1) (flat_shapes low ++ flat_shape given ∷ []))) ≡ lowered G (fit_two at (flat_shapes xs) (flat_shape asked) (flat_shape given))
+  two_is low x y asked given b h f =
+      sym (lowered_need G b (to (at + 1) (flat_shapes low ++ flat_shape given ∷ [])))
+      ∙ ap (λ (t : Bool). lowered G (need t (to (at + 1) (flat_shapes low ++ flat_shape given ∷ [])))) f
+      ∙ ap (lowered G) (need_both (fits (flat_shape x) (flat_shape asked)) (fits (flat_shape y) (flat_shape asked)) (to (at + 1) (flat_shapes low ++ flat_shape given ∷ [])))
+      ∙ sym (ap (lowered G) (ap (λ (l : List FlatShape). takes 0 2 (flat_shapes l) fails (λ low taken. on_two taken fails (λ x y. need (fits x (flat_shape asked)) (need (fits y (flat_shape asked)) (to (at + 1) (low ++ flat_shape given ∷ [])))))) h ∙ takes_parts low (x ∷ y ∷ []) 2 (λ low taken. on_two taken fails (λ x y. need (fits x (flat_shape asked)) (need (fits y (flat_shape asked)) (to (at + 1) (low ++ flat_shape given ∷ []))))) refl))
+
+  abbrev forks : ℕ → List StackShape → Flow
+  forks t low = passes (record { to = at + 1; state = low } ∷ record { to = t; state = low } ∷ [])
+
+  module _ (code : Code) (body : Body) where
+    pub unless_none : (t : ℕ) → length xs ≡ 0 → fails ≡ lowered G (rule (known_view known code) body at (flat_shapes xs) (JumpIfNot t))
+    unless_none t h =
+        let few : length xs < 1 = omega arith in
+        sym (ap (lowered G) (takes_few xs 1 (λ low taken. on_one taken fails (λ y. need (fits y bool) (forks t low))) few))
+
+    pub unless_is : (t : ℕ) (low : List FlatShape) (y : FlatShape) (b : Bool) → xs ≡ low ++ y ∷ [] → b ≡ fits (flat_shape y) bool → low_state G (flat_shapes low) ≡ true → need b (forks t (flat_shapes low)) ≡ lowered G (rule (known_view known code) body at (flat_shapes xs) (JumpIfNot t))
+    unless_is t low y b h f l =
+        ap (need b) (sym (lowered_both G (at + 1) t (flat_shapes low) (flat_shapes low) l l))
+        ∙ sym (lowered_need G b (forks t (flat_shapes low)))
+        ∙ ap (λ (c : Bool). lowered G (need c (forks t (flat_shapes low)))) f
+        ∙ sym (ap (lowered G) (takes_top xs low y (λ low taken. on_one taken fails (λ y. need (fits y bool) (forks t low))) h))
+
+    pub ret_none : length xs ≡ 0 → fails ≡ lowered G (rule (known_view known code) body at (flat_shapes xs) Ret)
+    ret_none h =
+        let few : length xs < 1 = omega arith in
+        sym (ap (lowered G) (takes_few xs 1 (λ low taken. on_one taken fails (λ y. need (fits y body.result) (passes []))) few))
+
+    pub ret_is : (low : List FlatShape) (y s : FlatShape) (b : Bool) → xs ≡ low ++ y ∷ [] → body.result ≡ flat_shape s → b ≡ fits (flat_shape y) (flat_shape s) → need b (passes []) ≡ lowered G (rule (known_view known code) body at (flat_shapes xs) Ret)
+    ret_is low y s b h r f =
+        sym (lowered_need G b (passes []))
+        ∙ ap (λ (c : Bool). lowered G (need c (passes []))) (f ∙ ap (fits (flat_shape y)) (sym r))
+        ∙ sym (ap (lowered G) (takes_top xs low y (λ low taken. on_one taken fails (λ y. need (fits y body.result) (passes []))) h))
+
+    pub slide_none : (k : ℕ) → length xs ≡ 0 → fails ≡ lowered G (rule (known_view known code) body at (flat_shapes xs) (Slide k))
+    slide_none k h =
+        let few : length xs < 1 = omega arith in
+        sym (ap (lowered G) (takes_few xs 1 (λ low taken. on_one taken fails (λ y. takes 0 k low fails (λ lower dropped. to (at + 1) (lower ++ y ∷ [])))) few))
+
+    slide_top : (k : ℕ) (low : List FlatShape) (y : FlatShape) → xs ≡ low ++ y ∷ [] → rule (known_view known code) body at (flat_shapes xs) (Slide k) ≡ takes 0 k (flat_shapes low) fails (λ lower dropped. to (at + 1) (lower ++ flat_shape y ∷ []))
+    slide_top k low y h = takes_top xs low y (λ low taken. on_one taken fails (λ y. takes 0 k low fails (λ lower dropped. to (at + 1) (lower ++ y ∷ [])))) h
+
+    pub slide_few : (k : ℕ) (low : List FlatShape) (y : FlatShape) → xs ≡ low ++ y ∷ [] → length low < k → fails ≡ lowered G (rule (known_view known code) body at (flat_shapes xs) (Slide k))
+    slide_few k low y h l =
+        sym (ap (lowered G) (slide_top k low y h ∙ takes_few low k (λ lower dropped. to (at + 1) (lower ++ flat_shape y ∷ [])) l))
+
+    pub slide_is : (k : ℕ) (low lower : List FlatShape) (y : FlatShape) → xs ≡ low ++ y ∷ [] → k ≤ length low → lower ≡ take (length low - k) low → lowered G (to (at + 1) (flat_shapes lower ++ flat_shape y ∷ [])) ≡ lowered G (rule (known_view known code) body at (flat_shapes xs) (Slide k))
+    slide_is k low lower y h l e =
+        ap (λ (ys : List FlatShape). lowered G (to (at + 1) (flat_shapes ys ++ flat_shape y ∷ []))) e
+        ∙ sym (ap (lowered G) (slide_top k low y h ∙ takes_at low k (λ lower dropped. to (at + 1) (lower ++ flat_shape y ∷ [])) l))
+
+-- what is left of a low state is low
+pub low_left : (known : Known) (xs low ts : List FlatShape) → low_state (known_heights known) (flat_shapes xs) ≡ true → xs ≡ low ++ ts → low_state (known_heights known) (flat_shapes low) ≡ true
+low_left known xs low ts h e =
+    low_front (known_heights known) (flat_shapes low) (flat_shapes ts) (subst (λ (st : List StackShape). low_state (known_heights known) st ≡ true) (ap flat_shapes e ∙ map-append flat_shape low ts) h)
+
+pub low_cut : (known : Known) (xs low : List FlatShape) (n : ℕ) → low_state (known_heights known) (flat_shapes xs) ≡ true → low ≡ take n xs → low_state (known_heights known) (flat_shapes low) ≡ true
+low_cut known xs low n h e = low_left known xs low (drop n xs) h (sym (take-append-drop n xs) ∙ ap (λ (ys : List FlatShape). ys ++ drop n xs) (sym e))
+
+-- a height in lists
+pub height_in_lists : (heights : List RecordShape) (n : ℕ) (s : StackShape) → stack_height heights (in_lists n s) ≡ n + stack_height heights s
+height_in_lists heights zero s = omega arith
+height_in_lists heights (suc n) s = let e = height_in_lists heights n s in omega arith

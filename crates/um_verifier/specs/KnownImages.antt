@@ -5,7 +5,7 @@ use Rattle.um_shape.specs.RecordShapes.{RecordShape}
 use Rattle.um_machine.specs.declared.code.Entry.{Entry}
 use Rattle.um_machine.specs.declared.code.Code.{Code}
 use Rattle.um_verify.specs.StackShape.{StackShape}
-use Rattle.um_verify.specs.Rules.{Body, View, Flow, fails, passes, need, low_states}
+use Rattle.um_verify.specs.Rules.{Body, View, Flow, fails, passes, need, inside, low_states}
 use Rattle.um_verifier.specs.FlatShapes.{flat_shape, flat_shapes}
 use Rattle.um_verifier.specs.declared.known.KnownRecord.{KnownRecord}
 use Rattle.um_verifier.specs.declared.known.KnownHead.{KnownHead}
@@ -42,3 +42,8 @@ known_view known code = record {
 abbrev pub lowered : List RecordShape → Flow → Flow
 lowered heights fails = fails
 lowered heights (passes ps) = need (low_states heights ps) (passes ps)
+
+-- and within the function
+abbrev pub stays : ℕ → ℕ → Flow → Flow
+stays a end fails = fails
+stays a end (passes ps) = need (inside a end ps) (passes ps)

@@ -1,7 +1,8 @@
 //! A shape on the stack as a number of lists round an item, so that it is copied and compared at once.
-ghost use Rattle.std.specs.Prelude.{◌≡◌, ◌<◌, option_map};
+ghost use Rattle.std.specs.Prelude.{◌≡◌, ◌<◌, ◌≤◌, ◌+◌, option_map, MatchOption};
 ghost use Rattle.um_tree.specs.Heights.{greatest_height};
-ghost use Rattle.um_verify.specs.StackShape.{fits, join};
+ghost use Rattle.um_verify.specs.StackShape.{StackShape, list, fits, join};
+ghost use Rattle.um_verify.specs.Rules.{Flow, fails, on_list_shape};
 
 /// What stands in the innermost list.
 #[derive(Clone, Copy)]
@@ -81,7 +82,45 @@ pub(crate) struct FlatShape {
 }
 
 impl FlatShape {
-    ghost use Rattle.um_verifier.specs.FlatShapes.{flat_shape};
+    ghost use Rattle.um_verifier.specs.FlatShapes.{item_shape, flat_shape};
+
+    /// The shape of the item alone.
+    pub(crate) fn of(item: Item) -> FlatShape
+        ensures { flat_shape result ≡ item_shape item }
+    {
+        FlatShape { lists: 0, item }
+    }
+
+    /// The shape of a list of such items, where it has fewer than 400 lists.
+    pub(crate) fn list(self) -> Option<FlatShape>
+        ensures { MatchOption result (greatest_height ≤ self.lists + 1) (λ l. flat_shape l ≡ list (flat_shape self)) }
+    {
+        if self.lists >= 399 {
+            return None;
+        }
+        Some(FlatShape {
+            lists: self.lists + 1,
+            item: self.item,
+        })
+    }
+
+    /// The shape of the items of a list of this shape, where it is a list's or that of no value.
+    pub(crate) fn items(self) -> Option<FlatShape>
+        ensures { (go : StackShape → StackShape → Flow) → MatchOption result (on_list_shape (flat_shape self) go ≡ fails) (λ i. on_list_shape (flat_shape self) go ≡ go (flat_shape i) (flat_shape self)) }
+    {
+        if self.lists > 0 {
+            return Some(FlatShape {
+                lists: self.lists - 1,
+                item: self.item,
+            });
+        }
+        match self.item {
+            Item::Void => Some(self),
+            Item::Bool => None,
+            Item::Num => None,
+            Item::Record(_) => None,
+        }
+    }
 
     /// Whether each value of this shape is one of the other.
     pub(crate) fn fits(self, other: FlatShape) -> bool

@@ -1,8 +1,10 @@
 //! The rules of instructions. Each takes the state that arrives at its address, and passes it on: a state is moved, and
 //! copied only where it goes two ways.
-ghost use Rattle.std.specs.Prelude.{◌≡◌, ◌<◌, ◌+◌, ◌++◌, ◌^◌, ◌∷◌, [], IfOk, IsTrue, slice_get, Some};
-ghost use Rattle.um_machine.specs.declared.op.Op.TheVariants.{Load, Jump, JumpIfNot, MakeList, Cons, Split, MakeRec, Field, Slide, Call, Ret};
-ghost use Rattle.um_verify.specs.Rules.{Body, to, fit_one, fit_two, rule};
+ghost use Rattle.std.specs.Prelude.{◌≡◌, ◌<◌, ◌+◌, ◌++◌, ◌^◌, ◌∷◌, ◌&&◌, [], ℕ, IfOk, MatchOption, option_map, length};
+ghost use Rattle.um_machine.specs.declared.op.Op.TheVariants.{Load, JumpIfNot, MakeList, Cons, Slide, Ret};
+ghost use Rattle.um_machine.specs.Stack.{on_found};
+ghost use Rattle.um_verify.specs.StackShape.{list, fits, join_items};
+ghost use Rattle.um_verify.specs.Rules.{Body, fails, to, fit_one, fit_two, rule};
 ghost use Rattle.um_machine.specs.declared.code.Code.{Code};
 ghost use Rattle.um_verifier.specs.FlatShapes.{flat_shape, flat_shapes};
 ghost use Rattle.um_verifier.specs.KnownImages.{known_heights, known_view, lowered};
@@ -47,10 +49,11 @@ pub(crate) fn load(
     requires low { AreLow known.now state.items }
     ensures { (code : Code) (body : Body) → IfOk result (λ f. flow_of f ≡ lowered (known_heights known.now) (rule (known_view known.now code) body at (flat_shapes state.items) (Load k))) }
 {
-    match state.get(k as usize).copied() {
-        None => Ok(Flow::Fails),
-        Some(shape) => pushed(known, state, at, shape),
+    if state.len() <= k as usize {
+        return Ok(Flow::Fails);
     }
+    let shape = state[k as usize];
+    pushed(known, state, at, shape)
 }
 
 /// An instruction on one value, which asks for a shape and gives one.
@@ -75,5 +78,213 @@ pub(crate) fn on_one(
                 Ok(Flow::Fails)
             }
         }
+    }
+}
+
+/// An instruction on two values, which asks for one shape of both and gives one.
+pub(crate) fn on_two(
+    known: &Known,
+    state: Vec<FlatShape>,
+    at: u32,
+    asked: FlatShape,
+    given: FlatShape,
+) -> Result<Flow, AllocError>
+    requires address { at + 1 < 2 ^ 32 }
+    requires low { AreLow known.now state.items }
+    ensures { IfOk result (λ f. flow_of f ≡ lowered (known_heights known.now) (fit_two at (flat_shapes state.items) (flat_shape asked) (flat_shape given))) }
+{
+    let mut low = state;
+    match take_two(&mut low) {
+        None => Ok(Flow::Fails),
+        Some((x, y)) => {
+            if both_fit(x, y, asked) {
+                pushed(known, low, at, given)
+            } else {
+                Ok(Flow::Fails)
+            }
+        }
+    }
+}
+
+/// The two shapes on the top, the deeper first.
+fn take_two(state: &mut Vec<FlatShape>) -> Option<(FlatShape, FlatShape)>
+    ensures { MatchOption result (length state.old.items < 2) (λ p. state.old.items ≡ state.new.items ++ p.0 ∷ p.1 ∷ []) }
+{
+    match state.pop() {
+        None => None,
+        Some(y) => match state.pop() {
+            None => None,
+            Some(x) => Some((x, y)),
+        },
+    }
+}
+
+fn both_fit(x: FlatShape, y: FlatShape, asked: FlatShape) -> bool
+    ensures { result ≡ (fits (flat_shape x) (flat_shape asked) && fits (flat_shape y) (flat_shape asked)) }
+{
+    x.fits(asked) && y.fits(asked)
+}
+
+/// `Jump`
+pub(crate) fn jump(known: &Known, state: Vec<FlatShape>, t: u32) -> Flow
+    requires low { AreLow known.now state.items }
+    ensures { flow_of result ≡ lowered (known_heights known.now) (to t (flat_shapes state.items)) }
+{
+    Flow::Goes(Sent { to: t, state })
+}
+
+fn copied(alloc: Global, state: &[FlatShape]) -> Result<Vec<FlatShape>, AllocError>
+    ensures { IfOk result (λ copy. copy.items ≡ state.now) }
+{
+    state.iter().copied().collect(alloc)
+}
+
+/// `JumpIfNot`
+pub(crate) fn jump_if_not(
+    alloc: Global,
+    known: &Known,
+    state: Vec<FlatShape>,
+    at: u32,
+    t: u32,
+) -> Result<Flow, AllocError>
+    requires address { at + 1 < 2 ^ 32 }
+    requires low { AreLow known.now state.items }
+    ensures { (code : Code) (body : Body) → IfOk result (λ f. flow_of f ≡ lowered (known_heights known.now) (rule (known_view known.now code) body at (flat_shapes state.items) (JumpIfNot t))) }
+{
+    let mut low = state;
+    match low.pop() {
+        None => Ok(Flow::Fails),
+        Some(y) => {
+            if y.fits(FlatShape::of(Item::Bool)) {
+                let other = copied(alloc, &low)?;
+                Ok(Flow::Forks(
+                    Sent {
+                        to: at + 1,
+                        state: low,
+                    },
+                    Sent { to: t, state: other },
+                ))
+            } else {
+                Ok(Flow::Fails)
+            }
+        }
+    }
+}
+
+/// `Ret`
+pub(crate) fn ret(known: &Known, state: Vec<FlatShape>, result_shape: FlatShape) -> Flow
+    ensures { (code : Code) (at : ℕ) (body : Body) → body.result ≡ flat_shape result_shape → flow_of result ≡ lowered (known_heights known.now) (rule (known_view known.now code) body at (flat_shapes state.items) Ret) }
+{
+    let mut low = state;
+    match low.pop() {
+        None => Flow::Fails,
+        Some(y) => {
+            if y.fits(result_shape) {
+                Flow::Ends
+            } else {
+                Flow::Fails
+            }
+        }
+    }
+}
+
+/// `Slide`
+pub(crate) fn slide(
+    known: &Known,
+    state: Vec<FlatShape>,
+    at: u32,
+    k: u32,
+) -> Result<Flow, AllocError>
+    requires address { at + 1 < 2 ^ 32 }
+    requires low { AreLow known.now state.items }
+    ensures { (code : Code) (body : Body) → IfOk result (λ f. flow_of f ≡ lowered (known_heights known.now) (rule (known_view known.now code) body at (flat_shapes state.items) (Slide k))) }
+{
+    let mut low = state;
+    match low.pop() {
+        None => Ok(Flow::Fails),
+        Some(y) => {
+            if low.len() < k as usize {
+                return Ok(Flow::Fails);
+            }
+            low.truncate(low.len() - k as usize);
+            pushed(known, low, at, y)
+        }
+    }
+}
+
+/// `MakeList`
+pub(crate) fn make_list(
+    known: &Known,
+    state: Vec<FlatShape>,
+    at: u32,
+    n: u32,
+) -> Result<Flow, AllocError>
+    requires address { at + 1 < 2 ^ 32 }
+    requires low { AreLow known.now state.items }
+    ensures { (code : Code) (body : Body) → IfOk result (λ f. flow_of f ≡ lowered (known_heights known.now) (rule (known_view known.now code) body at (flat_shapes state.items) (MakeList n))) }
+{
+    if state.len() < n as usize {
+        return Ok(Flow::Fails);
+    }
+    let place = state.len() - n as usize;
+    let item = joined_items(&state[place..]);
+    let mut low = state;
+    low.truncate(place);
+    pushed_list(known, low, at, item)
+}
+
+/// The shape of the items of a list of these, where they have one.
+fn joined_items(shapes: &[FlatShape]) -> Option<FlatShape>
+    ensures { option_map flat_shape result ≡ join_items (flat_shapes shapes.now) }
+{
+    let mut item = FlatShape::of(Item::Void);
+    let mut i = shapes.len();
+    while i > 0 {
+        i -= 1;
+        match shapes[i].join(item) {
+            None => return None,
+            Some(joined) => item = joined,
+        }
+    }
+    Some(item)
+}
+
+/// The state with a list of such items goes to the next address, where there is such an item and the list is low.
+fn pushed_list(
+    known: &Known,
+    state: Vec<FlatShape>,
+    at: u32,
+    item: Option<FlatShape>,
+) -> Result<Flow, AllocError>
+    requires address { at + 1 < 2 ^ 32 }
+    requires low { AreLow known.now state.items }
+    ensures { IfOk result (λ f. flow_of f ≡ lowered (known_heights known.now) (on_found (option_map flat_shape item) fails (λ s. to (at + 1) (flat_shapes state.items ++ list s ∷ [])))) }
+{
+    match item {
+        None => Ok(Flow::Fails),
+        Some(item) => match item.list() {
+            None => Ok(Flow::Fails),
+            Some(list) => pushed(known, state, at, list),
+        },
+    }
+}
+
+/// `Cons`
+pub(crate) fn cons(
+    known: &Known,
+    state: Vec<FlatShape>,
+    at: u32,
+) -> Result<Flow, AllocError>
+    requires address { at + 1 < 2 ^ 32 }
+    requires low { AreLow known.now state.items }
+    ensures { (code : Code) (body : Body) → IfOk result (λ f. flow_of f ≡ lowered (known_heights known.now) (rule (known_view known.now code) body at (flat_shapes state.items) Cons)) }
+{
+    let mut low = state;
+    match take_two(&mut low) {
+        None => Ok(Flow::Fails),
+        Some((x, y)) => match y.items() {
+            None => Ok(Flow::Fails),
+            Some(items) => pushed_list(known, low, at, x.join(items)),
+        },
     }
 }
