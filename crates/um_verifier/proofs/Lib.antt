@@ -4,3 +4,4 @@ mod JoinedStates
 mod Sending
 mod LowStates
 mod Taken
+mod TakenMany

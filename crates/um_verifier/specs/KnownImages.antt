@@ -1,11 +1,13 @@
 -- What the code keeps of an image: the shapes of its records and functions. This mirrors the code.
 -- Source: this project's own.
-use Rattle.std.specs.Prelude.{ℕ, List, [], ◌∷◌, map}
+use Rattle.std.specs.Prelude.{ℕ, ◌+◌, List, [], ◌∷◌, ◌++◌, length, map, slice_get}
 use Rattle.um_shape.specs.RecordShapes.{RecordShape}
 use Rattle.um_machine.specs.declared.code.Entry.{Entry}
 use Rattle.um_machine.specs.declared.code.Code.{Code}
-use Rattle.um_verify.specs.StackShape.{StackShape}
-use Rattle.um_verify.specs.Rules.{Body, View, Flow, fails, passes, need, inside, low_states}
+use Rattle.um_machine.specs.Stack.{takes, on_found}
+use Rattle.um_verify.specs.StackShape.{StackShape, void, fit_all}
+use Rattle.um_verify.specs.Rules.{Body, View, Flow, fails, passes, need, to, on_record_shape, fields_of}
+use Rattle.um_verify.specs.Rules.{inside, low_states}
 use Rattle.um_verifier.specs.FlatShapes.{flat_shape, flat_shapes}
 use Rattle.um_verifier.specs.declared.known.KnownRecord.{KnownRecord}
 use Rattle.um_verifier.specs.declared.known.KnownHead.{KnownHead}
@@ -47,3 +49,13 @@ lowered heights (passes ps) = need (low_states heights ps) (passes ps)
 abbrev pub stays : ℕ → ℕ → Flow → Flow
 stays a end fails = fails
 stays a end (passes ps) = need (inside a end ps) (passes ps)
+
+-- as many shapes as are asked for are taken, which fit them, and one is pushed
+abbrev pub fit_many : ℕ → List StackShape → List StackShape → StackShape → Flow
+fit_many a st asked given =
+    takes 0 (length asked) st fails (λ low taken. need (fit_all taken asked) (to (a + 1) (low ++ given ∷ [])))
+
+-- the shape of a part of a value of a shape
+abbrev pub part_flow : List (List StackShape) → StackShape → ℕ → (StackShape → Flow) → Flow
+part_flow fields s k go =
+    on_record_shape s (go void) (λ r. on_found (slice_get (fields_of (slice_get fields r)) k) fails go)

@@ -1,5 +1,5 @@
 //! What is known of an image's records and functions when its code is looked at.
-ghost use Rattle.std.specs.Prelude.{◌≡◌, ◌≤◌, nat_le};
+ghost use Rattle.std.specs.Prelude.{◌≡◌, ◌≤◌, ◌&&◌, nat_le, option_map, slice_get};
 ghost use Rattle.um_tree.specs.Heights.{greatest_height};
 
 use crate::flat::{FlatShape, Item};
@@ -28,9 +28,11 @@ pub(crate) struct Known {
 }
 
 impl Known {
-    ghost use Rattle.um_verify.specs.StackShape.{stack_height};
+    ghost use Rattle.um_machine.specs.Stack.{on_found};
+    ghost use Rattle.um_verify.specs.StackShape.{StackShape, stack_height};
+    ghost use Rattle.um_verify.specs.Rules.{Flow, fails, fields_of};
     ghost use Rattle.um_verifier.specs.FlatShapes.{item_shape, flat_shape};
-    ghost use Rattle.um_verifier.specs.KnownImages.{known_heights};
+    ghost use Rattle.um_verifier.specs.KnownImages.{known_fields, known_heights, part_flow};
 
     fn item_height(&self, item: Item) -> u32
         ensures height { result ≡ stack_height (known_heights self.now) (item_shape item) }
@@ -53,5 +55,40 @@ impl Known {
         ensures { result ≡ nat_le (stack_height (known_heights self.now) (flat_shape shape)) greatest_height }
     {
         shape.lists + self.item_height(shape.item) <= 400
+    }
+
+    /// Whether both are low.
+    pub(crate) fn are_low(&self, a: FlatShape, b: FlatShape) -> bool
+        ensures { result ≡ (nat_le (stack_height (known_heights self.now) (flat_shape a)) greatest_height && nat_le (stack_height (known_heights self.now) (flat_shape b)) greatest_height) }
+    {
+        self.is_low(a) && self.is_low(b)
+    }
+
+    /// The shape of part `k` of a value of this shape, where it is a record's or that of no value.
+    pub(crate) fn part(&self, shape: FlatShape, k: u32) -> Option<FlatShape>
+        ensures { (go : StackShape → Flow) → part_flow (known_fields self.now) (flat_shape shape) k go ≡ on_found (option_map flat_shape result) fails go }
+    {
+        if shape.lists > 0 {
+            return None;
+        }
+        match shape.item {
+            Item::Void => Some(shape),
+            Item::Bool => None,
+            Item::Num => None,
+            Item::Record(r) => self.field(r, k),
+        }
+    }
+
+    fn field(&self, r: u32, k: u32) -> Option<FlatShape>
+        ensures { option_map flat_shape result ≡ slice_get (fields_of (slice_get (known_fields self.now) r)) k }
+    {
+        if self.records.len() <= r as usize {
+            return None;
+        }
+        let fields: &[FlatShape] = &self.records[r as usize].fields;
+        if fields.len() <= k as usize {
+            return None;
+        }
+        Some(fields[k as usize])
     }
 }

@@ -1,13 +1,13 @@
 //! The rules of instructions. Each takes the state that arrives at its address, and passes it on: a state is moved, and
 //! copied only where it goes two ways.
 ghost use Rattle.std.specs.Prelude.{◌≡◌, ◌<◌, ◌+◌, ◌++◌, ◌^◌, ◌∷◌, ◌&&◌, [], ℕ, IfOk, MatchOption, option_map, length};
-ghost use Rattle.um_machine.specs.declared.op.Op.TheVariants.{Load, JumpIfNot, MakeList, Cons, Slide, Ret};
+ghost use Rattle.um_machine.specs.declared.op.Op.TheVariants.{Load, JumpIfNot, MakeList, Cons, Split, MakeRec, Field, Slide, Call, Ret};
 ghost use Rattle.um_machine.specs.Stack.{on_found};
-ghost use Rattle.um_verify.specs.StackShape.{list, fits, join_items};
+ghost use Rattle.um_verify.specs.StackShape.{list, fits, fit_all, join_items};
 ghost use Rattle.um_verify.specs.Rules.{Body, fails, to, fit_one, fit_two, rule};
 ghost use Rattle.um_machine.specs.declared.code.Code.{Code};
 ghost use Rattle.um_verifier.specs.FlatShapes.{flat_shape, flat_shapes};
-ghost use Rattle.um_verifier.specs.KnownImages.{known_heights, known_view, lowered};
+ghost use Rattle.um_verifier.specs.KnownImages.{known_heights, known_view, lowered, fit_many};
 ghost use Rattle.um_verifier.specs.States.{AreLow};
 ghost use Rattle.um_verifier.specs.Tables.{flow_of};
 
@@ -287,4 +287,140 @@ pub(crate) fn cons(
             Some(items) => pushed_list(known, low, at, x.join(items)),
         },
     }
+}
+
+/// `Split`
+pub(crate) fn split(
+    alloc: Global,
+    known: &Known,
+    state: Vec<FlatShape>,
+    at: u32,
+    t: u32,
+) -> Result<Flow, AllocError>
+    requires address { at + 1 < 2 ^ 32 }
+    requires low { AreLow known.now state.items }
+    ensures { (code : Code) (body : Body) → IfOk result (λ f. flow_of f ≡ lowered (known_heights known.now) (rule (known_view known.now code) body at (flat_shapes state.items) (Split t))) }
+{
+    let mut low = state;
+    match low.pop() {
+        None => Ok(Flow::Fails),
+        Some(y) => match y.items() {
+            None => Ok(Flow::Fails),
+            Some(items) => {
+                if !known.are_low(items, y) {
+                    return Ok(Flow::Fails);
+                }
+                let other = copied(alloc, &low)?;
+                low.push(items)?;
+                low.push(y)?;
+                Ok(Flow::Forks(
+                    Sent { to: t, state: other },
+                    Sent {
+                        to: at + 1,
+                        state: low,
+                    },
+                ))
+            }
+        },
+    }
+}
+
+/// `Field`
+pub(crate) fn field(
+    known: &Known,
+    state: Vec<FlatShape>,
+    at: u32,
+    k: u32,
+) -> Result<Flow, AllocError>
+    requires address { at + 1 < 2 ^ 32 }
+    requires low { AreLow known.now state.items }
+    ensures { (code : Code) (body : Body) → IfOk result (λ f. flow_of f ≡ lowered (known_heights known.now) (rule (known_view known.now code) body at (flat_shapes state.items) (Field k))) }
+{
+    let mut low = state;
+    match low.pop() {
+        None => Ok(Flow::Fails),
+        Some(y) => match known.part(y, k) {
+            None => Ok(Flow::Fails),
+            Some(part) => pushed(known, low, at, part),
+        },
+    }
+}
+
+/// Whether each shape fits that of its place.
+fn fit_all(shapes: &[FlatShape], asked: &[FlatShape]) -> bool
+    ensures { result ≡ fit_all (flat_shapes shapes.now) (flat_shapes asked.now) }
+{
+    if shapes.len() != asked.len() {
+        return false;
+    }
+    for i in 0..shapes.len() {
+        if !shapes[i].fits(asked[i]) {
+            return false;
+        }
+    }
+    true
+}
+
+/// Takes as many shapes as are asked for, where these fit them, and gives one.
+fn on_all(
+    known: &Known,
+    state: Vec<FlatShape>,
+    at: u32,
+    asked: &[FlatShape],
+    given: FlatShape,
+) -> Result<Flow, AllocError>
+    requires address { at + 1 < 2 ^ 32 }
+    requires low { AreLow known.now state.items }
+    ensures { IfOk result (λ f. flow_of f ≡ lowered (known_heights known.now) (fit_many at (flat_shapes state.items) (flat_shapes asked.now) (flat_shape given))) }
+{
+    if state.len() < asked.len() {
+        return Ok(Flow::Fails);
+    }
+    let place = state.len() - asked.len();
+    if !fit_all(&state[place..], asked) {
+        return Ok(Flow::Fails);
+    }
+    let mut low = state;
+    low.truncate(place);
+    pushed(known, low, at, given)
+}
+
+/// `MakeRec`
+pub(crate) fn make_rec(
+    known: &Known,
+    state: Vec<FlatShape>,
+    at: u32,
+    r: u32,
+    n: u32,
+) -> Result<Flow, AllocError>
+    requires address { at + 1 < 2 ^ 32 }
+    requires low { AreLow known.now state.items }
+    ensures { (code : Code) (body : Body) → IfOk result (λ f. flow_of f ≡ lowered (known_heights known.now) (rule (known_view known.now code) body at (flat_shapes state.items) (MakeRec r n))) }
+{
+    if known.records.len() <= r as usize {
+        return Ok(Flow::Fails);
+    }
+    let fields: &[FlatShape] = &known.records[r as usize].fields;
+    if fields.len() != n as usize {
+        return Ok(Flow::Fails);
+    }
+    on_all(known, state, at, fields, FlatShape::of(Item::Record(r)))
+}
+
+/// `Call`
+pub(crate) fn call(
+    known: &Known,
+    state: Vec<FlatShape>,
+    at: u32,
+    f: u32,
+) -> Result<Flow, AllocError>
+    requires address { at + 1 < 2 ^ 32 }
+    requires low { AreLow known.now state.items }
+    ensures { (code : Code) (body : Body) → length code.entries ≡ length known.now.heads.items → IfOk result (λ flow. flow_of flow ≡ lowered (known_heights known.now) (rule (known_view known.now code) body at (flat_shapes state.items) (Call f))) }
+{
+    if known.heads.len() <= f as usize {
+        return Ok(Flow::Fails);
+    }
+    let head = &known.heads[f as usize];
+    on_all(known, state, at, &head.params, head.result)
 }

@@ -15,7 +15,7 @@ pub returns-in_ok-other-in-Some : goal.returns-in_ok-other-in-Some
 returns-in_ok-other-in-Some c = λ code body.
     let low = c.pop.new.self.items in
     let is_low = low_left c.args.known.now c.args.state.items low (c.in-Some.y ∷ []) c.requires.low c.in-Some.ensures.items in
-    ap (λ (us : List FlatShape). passes (record { to = c.args.at + 1; state = flat_shapes low } ∷ record { to = c.args.t; state = flat_shapes us } ∷ [])) c.in_ok-other-in-Some.ensures
+    ap (λ (us : List FlatShape). passes (record { to = c.args.at + 1; state = flat_shapes low } ∷ record { to = c.args.t; state = flat_shapes us } ∷ [])) (c.in_ok-other-in-Some.ensures ∙ c.deref.ensures.value)
     ∙ ap (λ (b : Bool). need b (passes (record { to = c.args.at + 1; state = flat_shapes low } ∷ record { to = c.args.t; state = flat_shapes low } ∷ []))) (sym c.if-fits.true)
     ∙ unless_is c.args.known.now c.args.at c.args.state.items code body c.args.t low c.in-Some.y c.fits.result c.in-Some.ensures.items (c.fits.ensures ∙ ap (fits (flat_shape c.in-Some.y)) c.of.ensures) is_low
 

@@ -9,7 +9,7 @@ returns-then-len-k c = λ code body.
     let past : length c.args.state.items ≤ c.args.k = search rules in
     load_none c.args.known.now c.args.at c.args.state.items code body c.args.k (slice_get_past c.args.state.items c.args.k past)
 
-pub returns-else-len-k : goal.returns-else-len-k
-returns-else-len-k c = λ code body.
+pub returns : goal.returns
+returns c = λ code body.
     let within : c.args.k < length c.args.state.items = search rules in
-    IfOk-weaker c.pushed.result _ _ (λ f e. e ∙ load_is c.args.known.now c.args.at c.args.state.items code body c.args.k c.index-shape.result (slice_get_read c.args.state.items (length c.args.state.items) c.args.k c.index-shape.result refl within c.index-shape.is)) c.pushed.ensures
+    IfOk-weaker c.pushed.result _ _ (λ f e. e ∙ load_is c.args.known.now c.args.at c.args.state.items code body c.args.k c.index-shape.result.now (slice_get_read c.args.state.items (length c.args.state.items) c.args.k c.index-shape.result.now refl within c.index-shape.ensures)) c.pushed.ensures
