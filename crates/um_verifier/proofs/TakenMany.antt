@@ -1,7 +1,7 @@
 -- What is taken by instructions on many values, and on lists and records.
-use Rattle.std.proofs.Common.{◌≡◌, ◌≢◌, refl, sym, subst, ap, ◌∙◌, ℕ, zero, suc, ◌+◌, ◌-◌, ◌<◌, ◌≤◌, Bool, true, false, cond, ◌&&◌, List, [], ◌∷◌, ◌++◌, length, map, take, drop, get_or, Option, Some, None, option_map, slice_get, arith, append_assoc}
+use Rattle.std.proofs.Common.{◌≡◌, ◌≢◌, refl, sym, subst, ap, ◌∙◌, ℕ, zero, suc, ◌+◌, ◌-◌, ◌<◌, ◌≤◌, Bool, true, false, cond, ◌&&◌, List, [], ◌∷◌, ◌++◌, length, map, take, drop, get_or, Option, Some, None, option_map, slice_get, arith, append_assoc, length-drop}
 use Rattle.std.specs.Prelude.{nat_eq, nat_le}
-use Rattle.std.proofs.lemmas.List.{length-map}
+use Rattle.std.proofs.lemmas.List.{length-map, map-append}
 use Rattle.std.proofs.lemmas.Option.{slice_get-map, slice_get_past}
 use Rattle.std.proofs.lemmas.Bool.Decides.{nat_tests}
 use Rattle.um_tree.specs.Heights.{greatest_height}
@@ -41,7 +41,9 @@ items_up (x ∷ xs) (suc i) h = ap (join_with (flat_shape x)) (items_up xs i h)
 items_step : (xs : List FlatShape) (i : ℕ) (x : FlatShape) → i < length xs → x ≡ get_or xs i x → join_items (flat_shapes (drop i xs)) ≡ join_with (flat_shape x) (join_items (flat_shapes (drop (i + 1) xs)))
 items_step [] i x h e = absurd (omega arith)
 items_step (y ∷ xs) zero x h e = ap (λ (z : FlatShape). join_with (flat_shape z) (join_items (flat_shapes xs))) (sym e)
-items_step (y ∷ xs) (suc i) x h e = items_step xs i x (omega arith) e
+items_step (y ∷ xs) (suc i) x h e =
+    let next : suc (i + 1) ≡ suc i + 1 = omega arith in
+    items_step xs i x (omega arith) e ∙ ap (λ (m : ℕ). join_with (flat_shape x) (join_items (flat_shapes (drop m (y ∷ xs))))) next
 
 pub items_none : (xs : List FlatShape) (i j : ℕ) (x item : FlatShape) (o : Option FlatShape) → i + 1 ≡ j → i < length xs → x ≡ get_or xs i x → o ≡ None → option_map flat_shape o ≡ join (flat_shape x) (flat_shape item) → join_items (flat_shapes (drop j xs)) ≡ Some (flat_shape item) → None ≡ join_items (flat_shapes xs)
 items_none xs i j x item o s h e n k inv =
@@ -117,7 +119,7 @@ module _ (known : Known) (at : ℕ) (xs : List FlatShape) where
         ap (λ (q : Option FlatShape). lowered H (on_found (option_map flat_shape q) fails (go_part (flat_shapes low)))) (sym e)
         ∙ sym (ap (lowered H) (takes_top xs low y (λ low taken. on_one taken fails (λ y. part_flow (known_fields known) y k (go_part low))) h ∙ f (go_part (flat_shapes low))))
 
-    abbrev go_split : ℕ → List StackShape → StackShape → StackShape → Flow
+    abbrev pub go_split : ℕ → List StackShape → StackShape → StackShape → Flow
     go_split t low item tail = passes (record { to = t; state = low } ∷ record { to = at + 1; state = low ++ item ∷ tail ∷ [] } ∷ [])
 
     pub split_none : (t : ℕ) → length xs ≡ 0 → fails ≡ lowered H (rule (known_view known code) body at (flat_shapes xs) (Split t))
@@ -176,3 +178,19 @@ body_there (e ∷ es) [] f k n h s = absurd (omega arith)
 
 pub fields_there : (rs : List KnownRecord) (r : ℕ) (k : KnownRecord) → slice_get rs r ≡ Some k → slice_get (map (λ (k : KnownRecord). flat_shapes k.fields.items) rs) r ≡ Some (flat_shapes k.fields.items)
 fields_there rs r k h = slice_get-map (λ (k : KnownRecord). flat_shapes k.fields.items) rs r ∙ ap (option_map (λ (k : KnownRecord). flat_shapes k.fields.items)) h
+
+take_whole : (xs : List FlatShape) (n : ℕ) → length xs ≤ n → take n xs ≡ xs
+take_whole [] zero h = refl
+take_whole [] (suc n) h = refl
+take_whole (x ∷ xs) zero h = absurd (omega arith)
+take_whole (x ∷ xs) (suc n) h = ap (λ (ys : List FlatShape). x ∷ ys) (take_whole xs n (omega arith))
+
+-- the slice of the last k
+pub slice_tail : (xs ys : List FlatShape) (n k : ℕ) → ys ≡ xs → n ≡ length xs → take (length ys - (n - k)) (drop (n - k) ys) ≡ drop (length xs - k) xs
+slice_tail xs ys n k e h =
+    let l : length (drop (n - k) ys) ≡ length ys - (n - k) = length-drop (n - k) ys in
+    take_whole (drop (n - k) ys) (length ys - (n - k)) (omega arith) ∙ (λ i. drop (h i - k) (e i))
+
+pub pushed_two : (a b d : List FlatShape) (i y : FlatShape) → b ≡ a ++ i ∷ [] → d ≡ b ++ y ∷ [] → flat_shapes d ≡ flat_shapes a ++ flat_shape i ∷ flat_shape y ∷ []
+pushed_two a b d i y h k =
+    ap flat_shapes (k ∙ ap (λ (l : List FlatShape). l ++ y ∷ []) h ∙ append_assoc a (i ∷ []) (y ∷ [])) ∙ map-append flat_shape a (i ∷ y ∷ [])

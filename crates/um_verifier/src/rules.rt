@@ -3,10 +3,10 @@
 ghost use Rattle.std.specs.Prelude.{◌≡◌, ◌<◌, ◌+◌, ◌++◌, ◌^◌, ◌∷◌, ◌&&◌, [], ℕ, IfOk, MatchOption, option_map, length};
 ghost use Rattle.um_machine.specs.declared.op.Op.TheVariants.{Load, JumpIfNot, MakeList, Cons, Split, MakeRec, Field, Slide, Call, Ret};
 ghost use Rattle.um_machine.specs.Stack.{on_found};
-ghost use Rattle.um_verify.specs.StackShape.{list, fits, fit_all, join_items};
+ghost use Rattle.um_verify.specs.StackShape.{num, list, fits, fit_all, join_items};
 ghost use Rattle.um_verify.specs.Rules.{Body, fails, to, fit_one, fit_two, rule};
 ghost use Rattle.um_machine.specs.declared.code.Code.{Code};
-ghost use Rattle.um_verifier.specs.FlatShapes.{flat_shape, flat_shapes};
+ghost use Rattle.um_verifier.specs.FlatShapes.{item_shape, flat_shape, flat_shapes};
 ghost use Rattle.um_verifier.specs.KnownImages.{known_heights, known_view, lowered, fit_many};
 ghost use Rattle.um_verifier.specs.States.{AreLow};
 ghost use Rattle.um_verifier.specs.Tables.{flow_of};
@@ -15,6 +15,7 @@ use crate::flat::{FlatShape, Item};
 use crate::known::Known;
 use crate::table::{Flow, Sent};
 use std::alloc::{AllocError, Global};
+use um_machine::Op;
 
 /// The state with one more shape goes to the next address, where the shape is low.
 fn pushed(
@@ -423,4 +424,82 @@ pub(crate) fn call(
     }
     let head = &known.heads[f as usize];
     on_all(known, state, at, &head.params, head.result)
+}
+
+/// The state with the shape of an item goes to the next address.
+fn push_item(
+    known: &Known,
+    state: Vec<FlatShape>,
+    at: u32,
+    item: Item,
+) -> Result<Flow, AllocError>
+    requires address { at + 1 < 2 ^ 32 }
+    requires low { AreLow known.now state.items }
+    ensures { IfOk result (λ f. flow_of f ≡ lowered (known_heights known.now) (to (at + 1) (flat_shapes state.items ++ item_shape item ∷ []))) }
+{
+    pushed(known, state, at, FlatShape::of(item))
+}
+
+/// An instruction that asks for a shape and gives it.
+fn on_item(
+    known: &Known,
+    state: Vec<FlatShape>,
+    at: u32,
+    item: Item,
+) -> Result<Flow, AllocError>
+    requires address { at + 1 < 2 ^ 32 }
+    requires low { AreLow known.now state.items }
+    ensures { IfOk result (λ f. flow_of f ≡ lowered (known_heights known.now) (fit_one at (flat_shapes state.items) (item_shape item) (item_shape item))) }
+{
+    let shape = FlatShape::of(item);
+    on_one(known, state, at, shape, shape)
+}
+
+/// An instruction on two numbers.
+fn on_numbers(
+    known: &Known,
+    state: Vec<FlatShape>,
+    at: u32,
+    given: Item,
+) -> Result<Flow, AllocError>
+    requires address { at + 1 < 2 ^ 32 }
+    requires low { AreLow known.now state.items }
+    ensures { IfOk result (λ f. flow_of f ≡ lowered (known_heights known.now) (fit_two at (flat_shapes state.items) num (item_shape given))) }
+{
+    let number = FlatShape::of(Item::Num);
+    on_two(known, state, at, number, FlatShape::of(given))
+}
+
+/// The rule of the instruction, where this state arrives: what is passed on is low.
+pub(crate) fn rule(
+    alloc: Global,
+    known: &Known,
+    result_shape: FlatShape,
+    state: Vec<FlatShape>,
+    at: u32,
+    op: Op,
+) -> Result<Flow, AllocError>
+    requires address { at + 1 < 2 ^ 32 }
+    requires low { AreLow known.now state.items }
+    ensures { (code : Code) (body : Body) → length code.entries ≡ length known.now.heads.items → body.result ≡ flat_shape result_shape → IfOk result (λ f. flow_of f ≡ lowered (known_heights known.now) (rule (known_view known.now code) body at (flat_shapes state.items) op)) }
+{
+    match op {
+        Op::PushNum(_) => push_item(known, state, at, Item::Num),
+        Op::PushBool(_) => push_item(known, state, at, Item::Bool),
+        Op::Load(k) => load(known, state, at, k),
+        Op::Add | Op::Sub | Op::Mul | Op::Div => on_numbers(known, state, at, Item::Num),
+        Op::Neg | Op::Pow(_) => on_item(known, state, at, Item::Num),
+        Op::Not => on_item(known, state, at, Item::Bool),
+        Op::Lt | Op::Le | Op::Eq => on_numbers(known, state, at, Item::Bool),
+        Op::Jump(t) => Ok(jump(known, state, t)),
+        Op::JumpIfNot(t) => jump_if_not(alloc, known, state, at, t),
+        Op::MakeList(n) => make_list(known, state, at, n),
+        Op::Cons => cons(known, state, at),
+        Op::Split(t) => split(alloc, known, state, at, t),
+        Op::MakeRec(r, n) => make_rec(known, state, at, r, n),
+        Op::Field(k) => field(known, state, at, k),
+        Op::Slide(k) => slide(known, state, at, k),
+        Op::Call(f) => call(known, state, at, f),
+        Op::Ret => Ok(ret(known, state, result_shape)),
+    }
 }
