@@ -3,5 +3,6 @@ mod Fitting
 mod JoinedStates
 mod Sending
 mod LowStates
+mod LowMet
 mod Taken
 mod TakenMany

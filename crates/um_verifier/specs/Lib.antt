@@ -3,3 +3,4 @@ pub mod FlatShapes
 pub mod Tables
 pub mod KnownImages
 pub mod States
+pub mod Bodies

@@ -128,3 +128,13 @@ pub(crate) fn send(
         }
     }
 }
+
+/// What has arrived at a place of the table, taken out of it.
+pub(crate) fn take_met(table: &mut Vec<Met>, place: usize) -> Met
+    requires { place < vec_len table.old }
+    ensures length { vec_len table.new ≡ vec_len table.old }
+    ensures taken { met_of result ≡ met_at table.old.items place }
+    ensures others { (t : ℕ) → t ≢ place → met_at table.new.items t ≡ met_at table.old.items t }
+{
+    std::mem::replace(&mut table[place], Met::Nobody)
+}

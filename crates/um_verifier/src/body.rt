@@ -1,0 +1,61 @@
+//! The rules of a function's instructions, one address after another.
+ghost use Rattle.std.specs.Prelude.{◌≡◌, ◌≤◌, ◌<◌, ◌+◌, ◌-◌, ◌^◌, ℕ, length, slice_get, vec_len, IfOk, MatchOption};
+ghost use Rattle.um_verify.specs.Rules.{Body};
+ghost use Rattle.um_verify.specs.Verified.{nobody, arrived, passed, BodyHolds};
+ghost use Rattle.um_verifier.specs.FlatShapes.{flat_shape, flat_shapes};
+ghost use Rattle.um_verifier.specs.KnownImages.{known_body, known_heights, known_view, stays};
+ghost use Rattle.um_verifier.specs.States.{AreLow, IsLowMet};
+ghost use Rattle.um_verifier.specs.Bodies.{FirstFailure};
+ghost use Rattle.um_verifier.specs.Tables.{met_of, met_at, flow_of, StaysIn};
+
+use crate::flat::FlatShape;
+use crate::known::{Known, KnownHead};
+use crate::rules::rule;
+use crate::table::{Flow, Met, send, take_met};
+use std::alloc::{AllocError, Global};
+use um_machine::{Code, Entry};
+
+/// What is passed on, where it goes to later addresses of the function.
+fn checked(flow: Flow, at: u32, end: u32) -> Flow
+    ensures flow { flow_of result ≡ stays at end (flow_of flow) }
+    ensures stays { StaysIn (at + 1) end result }
+{
+    let stays = match &flow {
+        Flow::Fails => true,
+        Flow::Ends => true,
+        Flow::Goes(p) => at < p.to && p.to < end,
+        Flow::Forks(p, q) => at < p.to && p.to < end && at < q.to && q.to < end,
+    };
+    if stays { flow } else { Flow::Fails }
+}
+
+/// What the instruction at an address of a function passes on, where this has arrived.
+fn pass(
+    alloc: Global,
+    known: &Known,
+    code: &Code,
+    result_shape: FlatShape,
+    at: u32,
+    end: u32,
+    met: Met,
+) -> Result<Flow, AllocError>
+    requires address { at < end }
+    requires low { IsLowMet known.now met }
+    requires count { length code.now.entries ≡ length known.now.heads.items }
+    ensures flow { (body : Body) → body.end ≡ end → body.result ≡ flat_shape result_shape → IfOk result (λ f. flow_of f ≡ passed (known_view known.now code.now) body at (slice_get code.now.ops at) (met_of met)) }
+    ensures stays { IfOk result (λ f. StaysIn (at + 1) end f) }
+{
+    let ops = code.ops.as_slice();
+    if ops.len() <= at as usize {
+        return Ok(Flow::Fails);
+    }
+    let op = ops[at as usize];
+    match met {
+        Met::Nobody => Ok(Flow::Fails),
+        Met::Clash => Ok(Flow::Fails),
+        Met::Arrived(state) => {
+            let flow = rule(alloc, known, result_shape, state, at, op)?;
+            Ok(checked(flow, at, end))
+        }
+    }
+}
