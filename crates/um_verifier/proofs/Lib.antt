@@ -4,5 +4,6 @@ mod JoinedStates
 mod Sending
 mod LowStates
 mod LowMet
+mod Loop
 mod Taken
 mod TakenMany

@@ -59,3 +59,56 @@ fn pass(
         }
     }
 }
+
+/// The table before the first address: the parameters have arrived at it, and nobody elsewhere.
+fn first_table(
+    alloc: Global,
+    params: &[FlatShape],
+    count: u32,
+) -> Result<Vec<Met>, AllocError>
+    requires { 0 < count }
+    ensures length { IfOk result (λ table. vec_len table ≡ count) }
+    ensures first { IfOk result (λ table. met_at table.items 0 ≡ arrived (flat_shapes params.now)) }
+    ensures others { IfOk result (λ table. (t : ℕ) → 0 < t → met_at table.items t ≡ nobody) }
+{
+    let mut table = Vec::new(alloc);
+    let state = params.iter().copied().collect(alloc)?;
+    table.push(Met::Arrived(state))?;
+    for _ in 1..count {
+        table.push(Met::Nobody)?;
+    }
+    Ok(table)
+}
+
+/// Nothing where the rule of each instruction of the function holds, and else the first one whose rule fails.
+pub(crate) fn verify_body(
+    alloc: Global,
+    known: &Known,
+    code: &Code,
+    entry: Entry,
+    head: &KnownHead,
+) -> Result<Option<u32>, AllocError>
+    requires filled { entry.start < entry.end }
+    requires low { AreLow known.now head.now.params.items }
+    requires count { length code.now.entries ≡ length known.now.heads.items }
+    ensures { IfOk result (λ r. MatchOption r (BodyHolds (known_view known.now code.now) (known_body entry head.now)) (λ n. FirstFailure (known_view known.now code.now) (known_body entry head.now) n)) }
+{
+    let mut table = first_table(alloc, &head.params, entry.end - entry.start)?;
+    for n in 0..entry.end - entry.start {
+        let met = take_met(&mut table, n as usize);
+        let flow = pass(
+            alloc,
+            known,
+            code,
+            head.result,
+            entry.start + n,
+            entry.end,
+            met,
+        )?;
+        if flow.has_failed() {
+            return Ok(Some(n));
+        }
+        send(alloc, &mut table, entry.start, flow)?;
+    }
+    Ok(None)
+}
