@@ -5,5 +5,6 @@ mod Sending
 mod LowStates
 mod LowMet
 mod Loop
+mod EachBody
 mod Taken
 mod TakenMany

@@ -1,11 +1,11 @@
 //! The rules of a function's instructions, one address after another.
 ghost use Rattle.std.specs.Prelude.{◌≡◌, ◌≤◌, ◌<◌, ◌+◌, ◌-◌, ◌^◌, ℕ, length, slice_get, vec_len, IfOk, MatchOption};
 ghost use Rattle.um_verify.specs.Rules.{Body};
-ghost use Rattle.um_verify.specs.Verified.{nobody, arrived, passed, BodyHolds};
+ghost use Rattle.um_verify.specs.Verified.{nobody, arrived, passed, BodyHolds, CodeHolds};
 ghost use Rattle.um_verifier.specs.FlatShapes.{flat_shape, flat_shapes};
 ghost use Rattle.um_verifier.specs.KnownImages.{known_body, known_heights, known_view, stays};
 ghost use Rattle.um_verifier.specs.States.{AreLow, IsLowMet};
-ghost use Rattle.um_verifier.specs.Bodies.{FirstFailure};
+ghost use Rattle.um_verifier.specs.Bodies.{FirstFailure, IsFirstAddressOf, AreReady};
 ghost use Rattle.um_verifier.specs.Tables.{met_of, met_at, flow_of, StaysIn};
 
 use crate::flat::FlatShape;
@@ -109,6 +109,26 @@ pub(crate) fn verify_body(
             return Ok(Some(n));
         }
         send(alloc, &mut table, entry.start, flow)?;
+    }
+    Ok(None)
+}
+
+/// Nothing where the rule of each address holds, and else the first address whose rule fails.
+pub(crate) fn verify_code(
+    alloc: Global,
+    known: &Known,
+    code: &Code,
+) -> Result<Option<u32>, AllocError>
+    requires ready { AreReady known.now code.now }
+    ensures { IfOk result (λ r. MatchOption r (CodeHolds (known_view known.now code.now)) (λ a. IsFirstAddressOf (known_view known.now code.now) a)) }
+{
+    let entries = code.entries.as_slice();
+    for f in 0..entries.len() {
+        let entry = entries[f];
+        match verify_body(alloc, known, code, entry, &known.heads[f])? {
+            None => {}
+            Some(n) => return Ok(Some(entry.start + n)),
+        }
     }
     Ok(None)
 }
