@@ -1,14 +1,14 @@
 -- The loop over the functions.
-use Rattle.std.proofs.Common.{◌≡◌, refl, sym, ap, ◌∙◌, subst, ℕ, zero, suc, ◌+◌, ◌<◌, ◌≤◌, ◌⊎◌, inl, inr, All, List, [], ◌∷◌, length, get_or, Option, Some, None, slice_get, arith}
+use Rattle.std.proofs.Common.{◌≡◌, sym, ap, ◌∙◌, subst, ℕ, zero, suc, ◌<◌, ◌≤◌, ◌⊎◌, inl, inr, All, List, [], ◌∷◌, length, get_or, Option, Some, None, slice_get, arith}
 use Rattle.std.specs.Prelude.{MatchOption}
 use Rattle.std.proofs.lemmas.Bool.{cases_order}
+use Rattle.std.proofs.lemmas.List.{get_or_default}
 use Rattle.um_machine.specs.declared.code.Entry.{Entry}
 use Rattle.um_machine.specs.declared.code.Code.{Code}
 use Rattle.um_verify.specs.Rules.{Body, View}
 use Rattle.um_verify.specs.Verified.{BodyHolds, CodeHolds}
 use Rattle.um_verifier.specs.KnownImages.{known_body, known_bodies, known_view}
-use Rattle.um_verifier.specs.Bodies.{FirstFailure, IsFirstAddressOf, AreReady}
-use Rattle.um_verifier.specs.States.{AreLow}
+use Rattle.um_verifier.specs.Bodies.{FirstFailure, AreReady}
 use Rattle.um_verifier.specs.declared.known.KnownHead.{KnownHead}
 use Rattle.um_verifier.specs.declared.known.Known.{Known}
 
@@ -55,15 +55,10 @@ holds_of view b o e h = subst (λ (o : Option ℕ). MatchOption o (BodyHolds vie
 pub fails_of : (view : View) (b : Body) (o : Option ℕ) (n : ℕ) → o ≡ Some n → MatchOption o (BodyHolds view b) (λ n. FirstFailure view b n) → FirstFailure view b n
 fails_of view b o n e h = subst (λ (o : Option ℕ). MatchOption o (BodyHolds view b) (λ n. FirstFailure view b n)) e h
 
-get_same : {A : Type 0} (xs : List A) (n : ℕ) (d c : A) → n < length xs → get_or xs n d ≡ get_or xs n c
-get_same [] n d c h = absurd (omega arith)
-get_same (x ∷ xs) zero d c h = refl
-get_same (x ∷ xs) (suc n) d c h = get_same xs n d c (omega arith)
-
 -- the body of function f, whose entry was read from a copy of the entries
 pub read_body : (known : Known) (code : Code) (es : List Entry) (f : ℕ) (d e : Entry) (h : KnownHead) → AreReady known code → es ≡ code.entries → f < length es → e ≡ get_or es f d → h ≡ get_or known.heads.items f h → slice_get (known_view known code).bodies f ≡ Some (known_body e h)
 read_body known code es f d e h ready s l r t =
     let n = ready.count in
     let lengths : length es ≡ length code.entries = ap (λ (xs : List Entry). length xs) s in
-    let read : e ≡ get_or code.entries f e = r ∙ get_same es f d e l ∙ ap (λ (xs : List Entry). get_or xs f e) s in
+    let read : e ≡ get_or code.entries f e = r ∙ get_or_default es f d e l ∙ ap (λ (xs : List Entry). get_or xs f e) s in
     body_is code.entries known.heads.items f e h n (omega arith) read t

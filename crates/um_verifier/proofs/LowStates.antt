@@ -1,5 +1,5 @@
 -- States whose shapes are low, and what is passed on of them.
-use Rattle.std.proofs.Common.{◌≡◌, refl, sym, subst, ap, ◌∙◌, ℕ, zero, suc, ◌+◌, ◌<◌, ◌≤◌, Bool, true, false, cond, List, [], ◌∷◌, ◌++◌, length, map, take, Option, Some, None, arith}
+use Rattle.std.proofs.Common.{◌≡◌, refl, ap, ◌∙◌, ℕ, Bool, true, false, cond, List, [], ◌∷◌, ◌++◌}
 use Rattle.std.specs.Prelude.{nat_le}
 use Rattle.um_tree.specs.Heights.{greatest_height}
 use Rattle.um_shape.specs.RecordShapes.{RecordShape}

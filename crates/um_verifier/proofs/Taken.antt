@@ -11,7 +11,7 @@ use Rattle.um_machine.specs.declared.op.Op.TheVariants.{Load, JumpIfNot, Cons, S
 use Rattle.um_machine.specs.declared.code.Code.{Code}
 use Rattle.um_shape.specs.RecordShapes.{RecordShape, declared_height}
 use Rattle.um_verify.specs.StackShape.{StackShape, bool, list, fits, join, stack_height}
-use Rattle.um_verify.specs.Rules.{Body, Flow, fails, passes, need, to, on_list_shape, fit_one, fit_two, rule, low_state, low_states}
+use Rattle.um_verify.specs.Rules.{Body, Flow, fails, passes, need, to, on_list_shape, fit_one, fit_two, rule, low_state}
 use Rattle.um_verifier.specs.FlatShapes.{item_shape, in_lists, flat_shape, flat_shapes}
 use Rattle.um_verifier.specs.KnownImages.{known_heights, known_view, lowered}
 use Rattle.um_verifier.specs.declared.flat.FlatShape.{FlatShape}

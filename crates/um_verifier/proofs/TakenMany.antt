@@ -1,8 +1,8 @@
 -- What is taken by instructions on many values, and on lists and records.
-use Rattle.std.proofs.Common.{◌≡◌, ◌≢◌, refl, sym, subst, ap, ◌∙◌, ℕ, zero, suc, ◌+◌, ◌-◌, ◌<◌, ◌≤◌, Bool, true, false, cond, ◌&&◌, List, [], ◌∷◌, ◌++◌, length, map, take, drop, get_or, Option, Some, None, option_map, slice_get, arith, append_assoc, length-drop}
+use Rattle.std.proofs.Common.{◌≡◌, ◌≢◌, refl, sym, ap, ◌∙◌, ℕ, zero, suc, ◌+◌, ◌-◌, ◌<◌, ◌≤◌, Bool, true, false, cond, ◌&&◌, List, [], ◌∷◌, ◌++◌, length, map, take, drop, get_or, Option, Some, None, option_map, slice_get, arith, append_assoc, length-drop}
 use Rattle.std.specs.Prelude.{nat_eq, nat_le}
-use Rattle.std.proofs.lemmas.List.{length-map, map-append}
-use Rattle.std.proofs.lemmas.Option.{slice_get-map, slice_get_past}
+use Rattle.std.proofs.lemmas.List.{length-map, map-append, take_all}
+use Rattle.std.proofs.lemmas.Option.{slice_get-map}
 use Rattle.std.proofs.lemmas.Bool.Decides.{nat_tests}
 use Rattle.um_tree.specs.Heights.{greatest_height}
 use Rattle.um_shape.specs.RecordShapes.{RecordShape}
@@ -10,8 +10,8 @@ use Rattle.um_machine.specs.declared.op.Op.TheVariants.{MakeList, Split, MakeRec
 use Rattle.um_machine.specs.declared.code.Entry.{Entry}
 use Rattle.um_machine.specs.declared.code.Code.{Code}
 use Rattle.um_machine.specs.Stack.{takes, on_one, on_found}
-use Rattle.um_verify.specs.StackShape.{StackShape, void, list, made, fits, fit_all, join, join_with, join_items, stack_height}
-use Rattle.um_verify.specs.Rules.{Body, Flow, fails, passes, need, to, on_list_shape, on_record_shape, fields_of, rule, low_state, low_states}
+use Rattle.um_verify.specs.StackShape.{StackShape, list, made, fits, fit_all, join, join_with, join_items, stack_height}
+use Rattle.um_verify.specs.Rules.{Body, Flow, fails, passes, need, to, on_list_shape, rule, low_state}
 use Rattle.um_verifier.specs.FlatShapes.{flat_shape, flat_shapes}
 use Rattle.um_verifier.specs.KnownImages.{known_fields, known_heights, known_body, known_bodies, known_view, lowered, fit_many, part_flow}
 use Rattle.um_verifier.specs.declared.flat.FlatShape.{FlatShape}
@@ -179,17 +179,11 @@ body_there (e ∷ es) [] f k n h s = absurd (omega arith)
 pub fields_there : (rs : List KnownRecord) (r : ℕ) (k : KnownRecord) → slice_get rs r ≡ Some k → slice_get (map (λ (k : KnownRecord). flat_shapes k.fields.items) rs) r ≡ Some (flat_shapes k.fields.items)
 fields_there rs r k h = slice_get-map (λ (k : KnownRecord). flat_shapes k.fields.items) rs r ∙ ap (option_map (λ (k : KnownRecord). flat_shapes k.fields.items)) h
 
-take_whole : (xs : List FlatShape) (n : ℕ) → length xs ≤ n → take n xs ≡ xs
-take_whole [] zero h = refl
-take_whole [] (suc n) h = refl
-take_whole (x ∷ xs) zero h = absurd (omega arith)
-take_whole (x ∷ xs) (suc n) h = ap (λ (ys : List FlatShape). x ∷ ys) (take_whole xs n (omega arith))
-
 -- the slice of the last k
 pub slice_tail : (xs ys : List FlatShape) (n k : ℕ) → ys ≡ xs → n ≡ length xs → take (length ys - (n - k)) (drop (n - k) ys) ≡ drop (length xs - k) xs
 slice_tail xs ys n k e h =
     let l : length (drop (n - k) ys) ≡ length ys - (n - k) = length-drop (n - k) ys in
-    take_whole (drop (n - k) ys) (length ys - (n - k)) (omega arith) ∙ (λ i. drop (h i - k) (e i))
+    take_all (length ys - (n - k)) (drop (n - k) ys) (omega arith) ∙ (λ i. drop (h i - k) (e i))
 
 pub pushed_two : (a b d : List FlatShape) (i y : FlatShape) → b ≡ a ++ i ∷ [] → d ≡ b ++ y ∷ [] → flat_shapes d ≡ flat_shapes a ++ flat_shape i ∷ flat_shape y ∷ []
 pushed_two a b d i y h k =

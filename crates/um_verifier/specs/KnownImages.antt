@@ -9,7 +9,6 @@ use Rattle.um_verify.specs.StackShape.{StackShape, void, fit_all}
 use Rattle.um_verify.specs.Rules.{Body, View, Flow, fails, passes, need, to, on_record_shape, fields_of}
 use Rattle.um_verify.specs.Rules.{inside, low_states}
 use Rattle.um_verifier.specs.FlatShapes.{flat_shape, flat_shapes}
-use Rattle.um_verifier.specs.declared.known.KnownRecord.{KnownRecord}
 use Rattle.um_verifier.specs.declared.known.KnownHead.{KnownHead}
 use Rattle.um_verifier.specs.declared.known.Known.{Known}
 

@@ -61,11 +61,7 @@ fn pass(
 }
 
 /// The table before the first address: the parameters have arrived at it, and nobody elsewhere.
-fn first_table(
-    alloc: Global,
-    params: &[FlatShape],
-    count: u32,
-) -> Result<Vec<Met>, AllocError>
+fn first_table(alloc: Global, params: &[FlatShape], count: u32) -> Result<Vec<Met>, AllocError>
     requires { 0 < count }
     ensures length { IfOk result (λ table. vec_len table ≡ count) }
     ensures first { IfOk result (λ table. met_at table.items 0 ≡ arrived (flat_shapes params.now)) }

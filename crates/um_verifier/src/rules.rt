@@ -163,7 +163,10 @@ pub(crate) fn jump_if_not(
                         to: at + 1,
                         state: low,
                     },
-                    Sent { to: t, state: other },
+                    Sent {
+                        to: t,
+                        state: other,
+                    },
                 ))
             } else {
                 Ok(Flow::Fails)
@@ -271,11 +274,7 @@ fn pushed_list(
 }
 
 /// `Cons`
-pub(crate) fn cons(
-    known: &Known,
-    state: Vec<FlatShape>,
-    at: u32,
-) -> Result<Flow, AllocError>
+pub(crate) fn cons(known: &Known, state: Vec<FlatShape>, at: u32) -> Result<Flow, AllocError>
     requires address { at + 1 < 2 ^ 32 }
     requires low { AreLow known.now state.items }
     ensures { (code : Code) (body : Body) → IfOk result (λ f. flow_of f ≡ lowered (known_heights known.now) (rule (known_view known.now code) body at (flat_shapes state.items) Cons)) }
@@ -315,7 +314,10 @@ pub(crate) fn split(
                 low.push(items)?;
                 low.push(y)?;
                 Ok(Flow::Forks(
-                    Sent { to: t, state: other },
+                    Sent {
+                        to: t,
+                        state: other,
+                    },
                     Sent {
                         to: at + 1,
                         state: low,
@@ -427,12 +429,7 @@ pub(crate) fn call(
 }
 
 /// The state with the shape of an item goes to the next address.
-fn push_item(
-    known: &Known,
-    state: Vec<FlatShape>,
-    at: u32,
-    item: Item,
-) -> Result<Flow, AllocError>
+fn push_item(known: &Known, state: Vec<FlatShape>, at: u32, item: Item) -> Result<Flow, AllocError>
     requires address { at + 1 < 2 ^ 32 }
     requires low { AreLow known.now state.items }
     ensures { IfOk result (λ f. flow_of f ≡ lowered (known_heights known.now) (to (at + 1) (flat_shapes state.items ++ item_shape item ∷ []))) }
@@ -441,12 +438,7 @@ fn push_item(
 }
 
 /// An instruction that asks for a shape and gives it.
-fn on_item(
-    known: &Known,
-    state: Vec<FlatShape>,
-    at: u32,
-    item: Item,
-) -> Result<Flow, AllocError>
+fn on_item(known: &Known, state: Vec<FlatShape>, at: u32, item: Item) -> Result<Flow, AllocError>
     requires address { at + 1 < 2 ^ 32 }
     requires low { AreLow known.now state.items }
     ensures { IfOk result (λ f. flow_of f ≡ lowered (known_heights known.now) (fit_one at (flat_shapes state.items) (item_shape item) (item_shape item))) }

@@ -1,6 +1,5 @@
-use Rattle.std.proofs.Common.{rules, arith, ◌≡◌, refl, ap, subst, ◌∙◌, ◌<◌, ◌≤◌, ◌+◌, suc, ℕ, List, Option, get_or, length, Result}
-use Rattle.std.specs.Prelude.{IfOk, MatchOption}
-use Rattle.std.specs.declared.alloc.AllocError.{AllocError}
+use Rattle.std.proofs.Common.{arith, ◌≡◌, refl, ap, subst, ◌≤◌, ◌+◌, suc, List, get_or, length}
+use Rattle.std.specs.Prelude.{MatchOption}
 use Rattle.um_machine.specs.declared.code.Entry.{Entry}
 use Rattle.um_verify.specs.Verified.{BodyHolds}
 use Rattle.um_verifier.specs.KnownImages.{known_body, known_view}

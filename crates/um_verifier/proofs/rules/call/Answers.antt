@@ -1,4 +1,4 @@
-use Rattle.std.proofs.Common.{rules, ◌≡◌, refl, sym, ap, ◌∙◌, ◌<◌, ◌≤◌, length, List}
+use Rattle.std.proofs.Common.{rules, ap, ◌∙◌, ◌<◌, ◌≤◌, length, List}
 use Rattle.std.proofs.lemmas.Result.{IfOk-weaker}
 use Rattle.um_verifier.specs.FlatShapes.{flat_shape, flat_shapes}
 use Rattle.um_verifier.specs.KnownImages.{known_heights, lowered, fit_many}

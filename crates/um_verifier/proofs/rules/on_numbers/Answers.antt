@@ -1,4 +1,4 @@
-use Rattle.std.proofs.Common.{◌≡◌, ◌∙◌}
+use Rattle.std.proofs.Common.{◌∙◌}
 use Rattle.std.proofs.lemmas.Result.{IfOk-weaker}
 use Rattle.um_verify.specs.Rules.{fit_two}
 use Rattle.um_verifier.specs.FlatShapes.{flat_shapes}

@@ -1,4 +1,4 @@
-use Rattle.std.proofs.Common.{◌≡◌, sym, ap, ◌∙◌, ◌+◌, ◌++◌, ◌∷◌, [], true, false, List}
+use Rattle.std.proofs.Common.{sym, ap, ◌∙◌, ◌+◌, ◌++◌, ◌∷◌, [], true, false, List}
 use Rattle.std.proofs.lemmas.List.{map_push}
 use Rattle.um_verify.specs.StackShape.{StackShape}
 use Rattle.um_verify.specs.Rules.{to}

@@ -1,4 +1,4 @@
-use Rattle.std.proofs.Common.{◌≡◌, sym, ap, ◌∙◌, ◌+◌, ◌++◌, ◌∷◌, [], false, Option, option_map}
+use Rattle.std.proofs.Common.{sym, ap, ◌∙◌, ◌+◌, ◌++◌, ◌∷◌, [], false, Option, option_map}
 use Rattle.um_machine.specs.Stack.{on_found}
 use Rattle.um_verify.specs.StackShape.{list}
 use Rattle.um_verify.specs.Rules.{fails, to}

@@ -1,4 +1,4 @@
-use Rattle.std.proofs.Common.{◌≡◌, sym, ap, ◌∙◌, ◌+◌, ℕ, nat_le}
+use Rattle.std.proofs.Common.{sym, ap, ◌∙◌, ◌+◌, ℕ, nat_le}
 use Rattle.um_tree.specs.Heights.{greatest_height}
 use Rattle.um_verifier.specs.FlatShapes.{item_shape}
 use Rattle.um_verifier.specs.KnownImages.{known_heights}
