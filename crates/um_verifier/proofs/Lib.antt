@@ -1,0 +1,10 @@
+mod Nests
+mod Fitting
+mod JoinedStates
+mod Sending
+mod LowStates
+mod LowMet
+mod Loop
+mod EachBody
+mod Taken
+mod TakenMany
