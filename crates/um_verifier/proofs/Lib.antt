@@ -1,3 +1,6 @@
+mod Scalars
+mod NameTests
+mod TakenNames
 mod Nests
 mod Fitting
 mod JoinedStates

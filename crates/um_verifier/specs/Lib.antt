@@ -4,3 +4,4 @@ pub mod Tables
 pub mod KnownImages
 pub mod States
 pub mod Bodies
+pub mod Names

@@ -6,5 +6,6 @@
 mod body;
 mod flat;
 mod known;
+mod names;
 mod rules;
 mod table;
