@@ -1,6 +1,8 @@
 mod Scalars
 mod NameTests
 mod TakenNames
+mod Below
+mod OverRecords
 mod Nests
 mod Fitting
 mod JoinedStates

@@ -13,7 +13,7 @@ use Rattle.um_shape.specs.RecordShapes.{RecordShape, declared_height}
 use Rattle.um_verify.specs.StackShape.{StackShape, bool, list, fits, join, stack_height}
 use Rattle.um_verify.specs.Rules.{Body, Flow, fails, passes, need, to, on_list_shape, fit_one, fit_two, rule, low_state}
 use Rattle.um_verifier.specs.FlatShapes.{item_shape, in_lists, flat_shape, flat_shapes}
-use Rattle.um_verifier.specs.KnownImages.{known_heights, known_view, lowered}
+use Rattle.um_verifier.specs.KnownImages.{known_shape, known_heights, known_view, lowered}
 use Rattle.um_verifier.specs.declared.flat.FlatShape.{FlatShape}
 use Rattle.um_verifier.specs.declared.known.Known.{Known}
 use Rattle.um_verifier.specs.declared.known.KnownRecord.{KnownRecord}
@@ -175,7 +175,7 @@ no_false : (m n : ℕ) → n < m → nat_le m n ≡ false
 no_false m n h = grind (arith, nat_tests)
 
 module _ (known : Known) where
-  record_high : (rs : List KnownRecord) (r : ℕ) → 1 ≤ declared_height (slice_get (map (λ (k : KnownRecord). record { fields = []; height = k.height }) rs) r)
+  record_high : (rs : List KnownRecord) (r : ℕ) → 1 ≤ declared_height (slice_get (map known_shape rs) r)
   record_high [] zero = omega arith
   record_high [] (suc r) = omega arith
   record_high (k ∷ rs) zero = k.some

@@ -1,23 +1,36 @@
 -- What the code keeps of an image: the shapes of its records and functions. This mirrors the code.
 -- Source: this project's own.
-use Rattle.std.specs.Prelude.{ℕ, ◌+◌, List, [], ◌∷◌, ◌++◌, length, map, slice_get}
+use Rattle.std.specs.Prelude.{ℕ, ◌+◌, ◌&&◌, Bool, true, nat_lt, nat_le, max, List, [], ◌∷◌, ◌++◌, length, map, slice_get, vec_len}
+use Rattle.um_tree.specs.TypeTree.{ShapeTree, bool_shape, num_shape, list_shape, record_shape}
+use Rattle.um_tree.specs.Heights.{greatest_height}
 use Rattle.um_shape.specs.RecordShapes.{RecordShape}
 use Rattle.um_machine.specs.declared.code.Entry.{Entry}
 use Rattle.um_machine.specs.declared.code.Code.{Code}
 use Rattle.um_machine.specs.Stack.{takes, on_found}
-use Rattle.um_verify.specs.StackShape.{StackShape, void, fit_all}
+use Rattle.um_verify.specs.StackShape.{StackShape, void, bool, num, list, made, fit_all, stack_height}
 use Rattle.um_verify.specs.Rules.{Body, View, Flow, fails, passes, need, to, on_record_shape, fields_of}
 use Rattle.um_verify.specs.Rules.{inside, low_states}
 use Rattle.um_verifier.specs.FlatShapes.{flat_shape, flat_shapes}
+use Rattle.um_verifier.specs.declared.known.KnownRecord.{KnownRecord}
 use Rattle.um_verifier.specs.declared.known.KnownHead.{KnownHead}
 use Rattle.um_verifier.specs.declared.known.Known.{Known}
 
 abbrev pub known_fields : Known → List (List StackShape)
 known_fields known = map (λ r. flat_shapes r.fields.items) known.records.items
 
--- records with these heights; their fields aren't kept here
+-- the shape of the values that have this one on the stack; of no value anything may be said
+abbrev pub off_stack : StackShape → ShapeTree
+off_stack void = bool_shape
+off_stack bool = bool_shape
+off_stack num = num_shape
+off_stack (list s) = list_shape (off_stack s)
+off_stack (made r) = record_shape r
+
+abbrev pub known_shape : KnownRecord → RecordShape
+known_shape r = record { fields = map off_stack (flat_shapes r.fields.items); height = r.height }
+
 abbrev pub known_heights : Known → List RecordShape
-known_heights known = map (λ r. record { fields = []; height = r.height }) known.records.items
+known_heights known = map known_shape known.records.items
 
 abbrev pub known_body : Entry → KnownHead → Body
 known_body e h = record {
@@ -58,3 +71,24 @@ fit_many a st asked given =
 abbrev pub part_flow : List (List StackShape) → StackShape → ℕ → (StackShape → Flow) → Flow
 part_flow fields s k go =
     on_record_shape s (go void) (λ r. on_found (slice_get (fields_of (slice_get fields r)) k) fails go)
+
+-- ---- shapes over what is known
+
+-- the record that it names, if it names one, is below n
+abbrev pub names_below : ℕ → StackShape → Bool
+names_below n void = true
+names_below n bool = true
+names_below n num = true
+names_below n (list s) = names_below n s
+names_below n (made r) = nat_lt r n
+
+-- a shape over n records of these heights, and at most 400 high
+abbrev pub over : ℕ → List RecordShape → StackShape → Bool
+over n heights s = names_below n s && nat_le (stack_height heights s) greatest_height
+
+abbrev pub admits : Known → StackShape → Bool
+admits known s = over (vec_len known.records) (known_heights known) s
+
+abbrev pub highest : List RecordShape → List StackShape → ℕ
+highest heights [] = 0
+highest heights (s ∷ ss) = max (stack_height heights s) (highest heights ss)

@@ -1,8 +1,10 @@
 //! A shape on the stack as a number of lists round an item, so that it is copied and compared at once.
-ghost use Rattle.std.specs.Prelude.{◌≡◌, ◌<◌, ◌≤◌, ◌+◌, option_map, MatchOption};
+ghost use Rattle.std.specs.Prelude.{◌≡◌, ◌<◌, ◌≤◌, ◌+◌, [], option_map, MatchOption};
 ghost use Rattle.um_tree.specs.Heights.{greatest_height};
 ghost use Rattle.um_verify.specs.StackShape.{StackShape, list, fits, join};
 ghost use Rattle.um_verify.specs.Rules.{Flow, fails, on_list_shape};
+
+use um_tree::{GREATEST_HEIGHT, Shape, Ty};
 
 /// What stands in the innermost list.
 #[derive(Clone, Copy)]
@@ -17,6 +19,7 @@ pub(crate) enum Item {
 
 impl Item {
     ghost use Rattle.um_verifier.specs.FlatShapes.{item_shape};
+    ghost use Rattle.um_verifier.specs.KnownImages.{names_below};
 
     /// The least item whose shape both fit.
     fn join(self, other: Item) -> Option<Item>
@@ -42,6 +45,18 @@ impl Item {
                 Item::Num => None,
                 Item::Record(r) => { if q == r { Some(self) } else { None } }
             },
+        }
+    }
+
+    /// Whether the record that it names, if it names one, is below `count`.
+    fn names_below(self, count: usize) -> bool
+        ensures { result ≡ names_below count (item_shape self) }
+    {
+        match self {
+            Item::Void => true,
+            Item::Bool => true,
+            Item::Num => true,
+            Item::Record(r) => (r as usize) < count,
         }
     }
 
@@ -82,7 +97,13 @@ pub(crate) struct FlatShape {
 }
 
 impl FlatShape {
+    ghost use Rattle.um_tree.specs.TypeTree.{type_tree, shape_tree};
+    ghost use Rattle.um_tree.specs.TreeHeights.{type_tree_height};
+    ghost use Rattle.um_tree.specs.Shapes.{type_shape};
+    ghost use Rattle.um_shape.specs.RecordShapes.{shape_height};
+    ghost use Rattle.um_verify.specs.StackShape.{on_stack};
     ghost use Rattle.um_verifier.specs.FlatShapes.{item_shape, flat_shape};
+    ghost use Rattle.um_verifier.specs.KnownImages.{names_below};
 
     /// The shape of the item alone.
     pub(crate) fn of(item: Item) -> FlatShape
@@ -91,11 +112,76 @@ impl FlatShape {
         FlatShape { lists: 0, item }
     }
 
+    /// The shape of a type.
+    pub(crate) fn of_type(ty: &Ty) -> FlatShape
+        requires low { type_tree_height (type_tree ty.now) ≤ greatest_height }
+        ensures shape { flat_shape result ≡ on_stack (type_shape (type_tree ty.now)) }
+        ensures lists { result.lists + 1 ≡ type_tree_height (type_tree ty.now) }
+    {
+        match ty {
+            Ty::Bool => FlatShape {
+                lists: 0,
+                item: Item::Bool,
+            },
+            Ty::Num(_) => FlatShape {
+                lists: 0,
+                item: Item::Num,
+            },
+            Ty::List(items) => {
+                let inner = FlatShape::of_type(items);
+                FlatShape {
+                    lists: inner.lists + 1,
+                    item: inner.item,
+                }
+            }
+            Ty::Rec(r, _) => FlatShape {
+                lists: 0,
+                item: Item::Record(*r),
+            },
+        }
+    }
+
+    /// The shape of a value, on the stack.
+    pub(crate) fn of_shape(shape: &Shape) -> FlatShape
+        requires low { shape_height [] (shape_tree shape.now) ≤ greatest_height }
+        ensures shape { flat_shape result ≡ on_stack (shape_tree shape.now) }
+        ensures lists { result.lists + 1 ≡ shape_height [] (shape_tree shape.now) }
+    {
+        match shape {
+            Shape::Bool => FlatShape {
+                lists: 0,
+                item: Item::Bool,
+            },
+            Shape::Num => FlatShape {
+                lists: 0,
+                item: Item::Num,
+            },
+            Shape::List(items) => {
+                let inner = FlatShape::of_shape(items);
+                FlatShape {
+                    lists: inner.lists + 1,
+                    item: inner.item,
+                }
+            }
+            Shape::Rec(r) => FlatShape {
+                lists: 0,
+                item: Item::Record(*r),
+            },
+        }
+    }
+
+    /// Whether the record that it names, if it names one, is below `count`.
+    pub(crate) fn names_below(self, count: usize) -> bool
+        ensures { result ≡ names_below count (flat_shape self) }
+    {
+        self.item.names_below(count)
+    }
+
     /// The shape of a list of such items, where it has fewer than 400 lists.
     pub(crate) fn list(self) -> Option<FlatShape>
         ensures { MatchOption result (greatest_height ≤ self.lists + 1) (λ l. flat_shape l ≡ list (flat_shape self)) }
     {
-        if self.lists >= 399 {
+        if self.lists + 1 >= GREATEST_HEIGHT {
             return None;
         }
         Some(FlatShape {

@@ -3,6 +3,7 @@ ghost use Rattle.std.specs.Prelude.{◌≡◌, ◌≤◌, ◌&&◌, nat_le, opti
 ghost use Rattle.um_tree.specs.Heights.{greatest_height};
 
 use crate::flat::{FlatShape, Item};
+use um_tree::GREATEST_HEIGHT;
 
 /// The shapes of a record's fields, and its own height through them.
 #[derive(Drop)]
@@ -28,11 +29,12 @@ pub(crate) struct Known {
 }
 
 impl Known {
+    ghost use Rattle.std.specs.List.{list_all};
     ghost use Rattle.um_machine.specs.Stack.{on_found};
     ghost use Rattle.um_verify.specs.StackShape.{StackShape, stack_height};
     ghost use Rattle.um_verify.specs.Rules.{Flow, fails, fields_of};
-    ghost use Rattle.um_verifier.specs.FlatShapes.{item_shape, flat_shape};
-    ghost use Rattle.um_verifier.specs.KnownImages.{known_fields, known_heights, part_flow};
+    ghost use Rattle.um_verifier.specs.FlatShapes.{item_shape, flat_shape, flat_shapes};
+    ghost use Rattle.um_verifier.specs.KnownImages.{known_fields, known_heights, admits, highest, part_flow};
 
     fn item_height(&self, item: Item) -> u32
         ensures height { result ≡ stack_height (known_heights self.now) (item_shape item) }
@@ -50,11 +52,48 @@ impl Known {
         }
     }
 
+    /// The height of a shape, through the fields of records.
+    fn height(&self, shape: FlatShape) -> u32
+        ensures { result ≡ stack_height (known_heights self.now) (flat_shape shape) }
+    {
+        shape.lists + self.item_height(shape.item)
+    }
+
+    /// The greatest of the heights.
+    pub(crate) fn highest(&self, shapes: &[FlatShape]) -> u32
+        ensures { result ≡ highest (known_heights self.now) (flat_shapes shapes.now) }
+    {
+        let mut top: u32 = 0;
+        for i in (0..shapes.len()).rev() {
+            top = top.max(self.height(shapes[i]));
+        }
+        top
+    }
+
     /// Whether the shape is at most 400 high, through the fields of records.
     pub(crate) fn is_low(&self, shape: FlatShape) -> bool
         ensures { result ≡ nat_le (stack_height (known_heights self.now) (flat_shape shape)) greatest_height }
     {
-        shape.lists + self.item_height(shape.item) <= 400
+        self.height(shape) <= GREATEST_HEIGHT
+    }
+
+    /// Whether the shape is one over these records, and at most 400 high.
+    pub(crate) fn admits(&self, shape: FlatShape) -> bool
+        ensures { result ≡ admits self.now (flat_shape shape) }
+    {
+        shape.names_below(self.records.len()) && self.is_low(shape)
+    }
+
+    /// Whether each is.
+    pub(crate) fn admits_all(&self, shapes: &[FlatShape]) -> bool
+        ensures { result ≡ list_all (admits self.now) (flat_shapes shapes.now) }
+    {
+        for i in 0..shapes.len() {
+            if !self.admits(shapes[i]) {
+                return false;
+            }
+        }
+        true
     }
 
     /// Whether both are low.

@@ -1,4 +1,5 @@
-//! Whether a code image is verified: the rule of each address of its functions, by shapes in place of values.
+//! Whether a code image is verified: its heads, and the rule of each address of its functions, by shapes in place of
+//! values.
 //!
 //! What the rules are, and that a verified image never gets stuck, stands in `um_verify`.
 #![tactic(auto)]
@@ -7,5 +8,9 @@ mod body;
 mod flat;
 mod known;
 mod names;
+mod records;
 mod rules;
+mod stop;
 mod table;
+
+pub use stop::VerifyStop;
