@@ -3,6 +3,7 @@ mod NameTests
 mod TakenNames
 mod Below
 mod OverRecords
+mod RecordHeads
 mod Nests
 mod Fitting
 mod JoinedStates

@@ -3,7 +3,7 @@
 use Rattle.std.specs.Prelude.{◌≡◌, ℕ, ◌+◌, ◌<◌, ◌&&◌, Bool, List, [], ◌∷◌, ◌++◌, map, take, slice_get, Some}
 use Rattle.std.specs.List.{list_all}
 use Rattle.um_tree.specs.ProgramTree.{RecordTree}
-use Rattle.um_tree.specs.Formed.{field_names}
+use Rattle.um_tree.specs.Formed.{AreDistinct, field_names}
 use Rattle.um_shape.specs.RecordShapes.{RecordShape}
 use Rattle.um_verify.specs.StackShape.{StackShape, on_stack}
 use Rattle.um_verify.specs.ImageTree.{HeadTree, ImageTree}
@@ -24,11 +24,13 @@ pub record KnowsRecords (records : List RecordTree) (known : Known) : Type 0 whe
   pub fields : known_fields known ≡ map fields_on_stack records
   pub heights : known_heights known ≡ record_shapes records
 
--- and their names, and those of their fields, are taken
-pub record TakesRecords (records : List RecordTree) (known : Known) (names fields : List (List ℕ)) : Type 0 where
+-- and their names, and those of their fields, are taken once
+pub record TakesRecords (records : List RecordTree) (known : Known) (taken of_fields : List (List ℕ)) : Type 0 where
   pub shapes : KnowsRecords records known
-  pub names : names ≡ map (λ d. d.name) records
-  pub fields : fields ≡ field_names records
+  pub names : taken ≡ map (λ d. d.name) records
+  pub names_once : AreDistinct taken
+  pub fields : of_fields ≡ field_names records
+  pub fields_once : AreDistinct of_fields
 
 -- a record whose fields have these shapes, over records of these heights
 abbrev pub IsKnownRecord : List RecordShape → List StackShape → KnownRecord → Type 0
@@ -37,11 +39,11 @@ IsKnownRecord heights ss r = (flat_shapes r.fields.items ≡ ss) × (r.height �
 -- record i, and the names that are taken behind it
 pub record FindsRecord
     (records : List RecordTree) (i : ℕ) (d : RecordTree) (known : Known)
-    (names fields new_names new_fields : List (List ℕ)) (r : KnownRecord) : Type 0 where
+    (taken of_fields new_taken new_of_fields : List (List ℕ)) (r : KnownRecord) : Type 0 where
   pub holds : RecordHolds records i d
   pub shapes : IsKnownRecord (known_heights known) (fields_on_stack d) r
-  pub names : new_names ≡ names ++ d.name ∷ []
-  pub fields : new_fields ≡ fields ++ map (λ f. f.name) d.fields
+  pub names : new_taken ≡ taken ++ d.name ∷ []
+  pub fields : new_of_fields ≡ of_fields ++ map (λ f. f.name) d.fields
 
 -- these are known, each holds, and no function is known yet
 pub record AreKnownRecords (records : List RecordTree) (known : Known) : Type 0 where
@@ -77,18 +79,19 @@ head_signature h = record { params = map on_stack h.params; result = on_stack h.
 abbrev pub admits_signature : Known → StackSignature → Bool
 admits_signature known s = list_all (admits known) s.params && admits known s.result
 
--- the records and the first k functions are known, and the names of these are taken
-pub record TakesHeads (image : ImageTree) (k : ℕ) (known : Known) (names : List (List ℕ)) : Type 0 where
+-- the records and the first k functions are known, and the names of these are taken once
+pub record TakesHeads (image : ImageTree) (k : ℕ) (known : Known) (taken : List (List ℕ)) : Type 0 where
   pub shapes : KnowsRecords image.records known
   pub heads : map known_signature known.heads.items ≡ map head_signature (take k image.heads)
-  pub names : names ≡ map (λ h. h.name) (take k image.heads)
+  pub names : taken ≡ map (λ h. h.name) (take k image.heads)
+  pub names_once : AreDistinct taken
 
 -- function k, and the names that are taken behind it
 pub record FindsHead
-    (image : ImageTree) (k : ℕ) (h : HeadTree) (names new_names : List (List ℕ)) (found : KnownHead) : Type 0 where
+    (image : ImageTree) (k : ℕ) (h : HeadTree) (taken new_taken : List (List ℕ)) (found : KnownHead) : Type 0 where
   pub holds : FunctionHolds image k h
   pub signature : known_signature found ≡ head_signature h
-  pub names : new_names ≡ names ++ h.name ∷ []
+  pub names : new_taken ≡ taken ++ h.name ∷ []
 
 -- the image is known, and each of its heads holds
 pub record AreKnownHeads (image : ImageTree) (known : Known) : Type 0 where
