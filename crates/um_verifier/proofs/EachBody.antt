@@ -8,7 +8,8 @@ use Rattle.um_machine.specs.declared.code.Code.{Code}
 use Rattle.um_verify.specs.Rules.{Body, View}
 use Rattle.um_verify.specs.Verified.{BodyHolds, CodeHolds}
 use Rattle.um_verifier.specs.KnownImages.{known_body, known_bodies, known_view}
-use Rattle.um_verifier.specs.Bodies.{FirstFailure, AreReady}
+use Rattle.um_verify.specs.Verified.{FirstFailure}
+use Rattle.um_verifier.specs.Bodies.{AreReady}
 use Rattle.um_verifier.specs.declared.known.KnownHead.{KnownHead}
 use Rattle.um_verifier.specs.declared.known.Known.{Known}
 

@@ -4,6 +4,8 @@ mod TakenNames
 mod Below
 mod OverRecords
 mod RecordHeads
+mod FunctionHeads
+mod ReadyImages
 mod Nests
 mod Fitting
 mod JoinedStates

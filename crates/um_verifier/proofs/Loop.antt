@@ -8,7 +8,7 @@ use Rattle.um_verify.specs.Rules.{Body, View}
 use Rattle.um_verify.specs.Verified as verified
 use Rattle.um_verify.specs.Verified.{nobody, arrived, passed, sends, met, flow, Passes, BodyHolds}
 use Rattle.um_verifier.specs.Tables.{met_of, met_at, FailsIf}
-use Rattle.um_verifier.specs.Bodies.{FirstFailure}
+use Rattle.um_verify.specs.Verified.{FirstFailure}
 use Rattle.um_verifier.specs.KnownImages.{known_heights}
 use Rattle.um_verifier.specs.States.{IsLowMet}
 use Rattle.um_verifier.specs.declared.known.Known.{Known}

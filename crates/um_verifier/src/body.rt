@@ -1,11 +1,11 @@
 //! The rules of a function's instructions, one address after another.
 ghost use Rattle.std.specs.Prelude.{◌≡◌, ◌≤◌, ◌<◌, ◌+◌, ◌-◌, ◌^◌, ℕ, length, slice_get, vec_len, IfOk, MatchOption};
 ghost use Rattle.um_verify.specs.Rules.{Body};
-ghost use Rattle.um_verify.specs.Verified.{nobody, arrived, passed, BodyHolds, CodeHolds};
+ghost use Rattle.um_verify.specs.Verified.{nobody, arrived, passed, BodyHolds, CodeHolds, FirstFailure, IsFirstAddress};
 ghost use Rattle.um_verifier.specs.FlatShapes.{flat_shape, flat_shapes};
 ghost use Rattle.um_verifier.specs.KnownImages.{known_body, known_heights, known_view, stays};
 ghost use Rattle.um_verifier.specs.States.{AreLow, IsLowMet};
-ghost use Rattle.um_verifier.specs.Bodies.{FirstFailure, IsFirstAddressOf, AreReady};
+ghost use Rattle.um_verifier.specs.Bodies.{AreReady};
 ghost use Rattle.um_verifier.specs.Tables.{met_of, met_at, flow_of, StaysIn};
 
 use crate::flat::FlatShape;
@@ -116,7 +116,7 @@ pub(crate) fn verify_code(
     code: &Code,
 ) -> Result<Option<u32>, AllocError>
     requires ready { AreReady known.now code.now }
-    ensures { IfOk result (λ r. MatchOption r (CodeHolds (known_view known.now code.now)) (λ a. IsFirstAddressOf (known_view known.now code.now) a)) }
+    ensures { IfOk result (λ r. MatchOption r (CodeHolds (known_view known.now code.now)) (λ a. IsFirstAddress (known_view known.now code.now) a)) }
 {
     let entries = code.entries.as_slice();
     for f in 0..entries.len() {

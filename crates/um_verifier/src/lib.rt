@@ -5,12 +5,17 @@
 #![tactic(auto)]
 
 mod body;
+mod check;
 mod flat;
+mod heads;
 mod known;
 mod names;
 mod records;
 mod rules;
 mod stop;
 mod table;
+mod verified;
 
+pub use check::verify;
 pub use stop::VerifyStop;
+pub use verified::Verified;

@@ -3,7 +3,7 @@ use Rattle.std.specs.Prelude.{MatchOption}
 use Rattle.um_machine.specs.declared.code.Entry.{Entry}
 use Rattle.um_verify.specs.Verified.{BodyHolds}
 use Rattle.um_verifier.specs.KnownImages.{known_body, known_view}
-use Rattle.um_verifier.specs.Bodies.{FirstFailure}
+use Rattle.um_verify.specs.Verified.{FirstFailure}
 use Rattle.um_verifier.proofs.EachBody.{Before, read_body, before_next, all_hold, holds_of, fails_of}
 use Rattle.um_verifier.proofs.body.verify_code.Goals as goal
 
