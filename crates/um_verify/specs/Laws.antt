@@ -1,12 +1,12 @@
 -- What verified images come to.
 -- Source: this project's own.
-use Rattle.std.specs.Prelude.{◌≡◌, ◌≢◌, ℕ, true, List, Some, None, slice_get}
+use Rattle.std.specs.Prelude.{◌≡◌, ◌≢◌, ◌≤◌, ◌+◌, ◌*◌, ℕ, true, List, Some, None, length, slice_get}
 use Rattle.um_tree.specs.ValueTree.{ValueTree, values_in_order, OutcomeTree, value_outcome, trap_outcome}
 use Rattle.um_tree.specs.ValueTree.{budget_outcome}
 use Rattle.um_tree.specs.ProgramTree.{RecordTree}
 use Rattle.um_tree.specs.TypeTree.{ShapeTree}
 use Rattle.um_tree.specs.InputType.{ValueHas, ValuesHave}
-use Rattle.um_machine.specs.Machine.{stuck, Runs, EndsWith}
+use Rattle.um_machine.specs.Machine.{done, stuck, Runs, EndsWith}
 use Rattle.um_verify.specs.StackShape.{StackShape, fits, join}
 use Rattle.um_verify.specs.ImageTree.{HeadTree, ImageTree}
 use Rattle.um_verify.specs.Verified.{IsVerified}
@@ -34,6 +34,13 @@ RunsEnd =
     (image : ImageTree) (f : ℕ) (head : HeadTree) (vs : List ValueTree) (b : ℕ) →
     IsVerified image → IsCall image f head vs →
     (o : OutcomeTree) × EndsWith image.code f vs b o × OutcomeHas image.records o head.result
+
+-- in at most as many steps as the budget times one more than the instructions
+abbrev pub EndsSoon : Type 0
+EndsSoon =
+    (image : ImageTree) (f : ℕ) (head : HeadTree) (vs : List ValueTree) (b : ℕ) →
+    IsVerified image → IsCall image f head vs →
+    (n : ℕ) × (n ≤ b * (length image.code.ops + 1)) × (o : OutcomeTree) × (Runs image.code f vs b n ≡ done o)
 
 -- the join of two shapes is the least that both fit
 abbrev pub JoinIsLeast : Type 0

@@ -1,4 +1,4 @@
-use Rattle.um_verify.proofs.Ends.{never_stuck, runs_end}
+use Rattle.um_verify.proofs.Ends.{never_stuck, runs_end, ends_soon}
 use Rattle.um_verify.proofs.laws.runs_of_verified_images.Goals as goal
 
 pub returns-clause-never_stuck : goal.returns-clause-never_stuck
@@ -6,3 +6,6 @@ returns-clause-never_stuck c = never_stuck
 
 pub returns-clause-end : goal.returns-clause-end
 returns-clause-end c = runs_end
+
+pub returns-clause-steps : goal.returns-clause-steps
+returns-clause-steps c = ends_soon

@@ -1,0 +1,10 @@
+-- What a reader must trust: why an image is refused.
+pub mod Refusals
+-- What mirrors the code: shapes and tables as they are kept, and what is known after some heads.
+pub mod FlatShapes
+pub mod Tables
+pub mod KnownImages
+pub mod States
+pub mod Bodies
+pub mod Names
+pub mod KnownHeads
