@@ -52,6 +52,11 @@ with_front front read = read >>= λ x. Ok (front ++ x.0, x.1)
 
 -- ---- items
 
+-- one that these bytes in front of the rest stand for, or none
+abbrev pub found_one : {A : Type 0} → Option A → List ℕ → List ℕ → Result (A × List ℕ) ℕ
+found_one None bytes rest = Err (length bytes)
+found_one (Some x) bytes rest = Ok (x, rest)
+
 unfoldable pub number_at : List ℕ → Result (ℕ × List ℕ) ℕ
 number_at bytes =
     if nat_lt (length bytes) 4 then Err (length bytes) else Ok (from_be_bytes w32 (take 4 bytes), drop 4 bytes)
@@ -75,17 +80,16 @@ truth_at (zero ∷ rest) = Ok (false, rest)
 truth_at (suc zero ∷ rest) = Ok (true, rest)
 truth_at (suc (suc b) ∷ rest) = Err (suc (length rest))
 
-abbrev pub found_fraction : Option Frac → List ℕ → List ℕ → Result (Frac × List ℕ) ℕ
-found_fraction None bytes rest = Err (length bytes)
-found_fraction (Some c) bytes rest = Ok (c, rest)
-
 abbrev pub long_of : List ℕ → ℤ
 long_of bytes = cast_signed w64 (from_be_bytes w64 bytes)
+
+abbrev pub fraction_of : List ℕ → Option Frac
+fraction_of bytes = fraction (long_of (take 8 bytes)) (long_of (drop 8 bytes))
 
 unfoldable pub fraction_at : List ℕ → Result (Frac × List ℕ) ℕ
 fraction_at bytes =
     if nat_lt (length bytes) 16 then Err (length bytes)
-    else found_fraction (fraction (long_of (take 8 bytes)) (long_of (take 8 (drop 8 bytes)))) bytes (drop 16 bytes)
+    else found_one (fraction_of (take 16 bytes)) bytes (drop 16 bytes)
 
 -- ---- names and shapes
 
@@ -169,13 +173,9 @@ operands_at form.Truth bytes = truth_at bytes >>= λ b. Ok (PushBool b.0, b.1)
 operands_at form.Made bytes = number_at bytes >>= λ r. number_at r.1 >>= λ n. Ok (MakeRec r.0 n.0, n.1)
 operands_at form.Power bytes = power_at bytes >>= λ k. Ok (Pow k.0, k.1)
 
-abbrev pub found_form : Option Form → List ℕ → List ℕ → Result (Form × List ℕ) ℕ
-found_form None bytes rest = Err (length bytes)
-found_form (Some f) bytes rest = Ok (f, rest)
-
 unfoldable pub form_at : List ℕ → Result (Form × List ℕ) ℕ
 form_at [] = Err 0
-form_at (b ∷ rest) = found_form (found b forms) (b ∷ rest) rest
+form_at (b ∷ rest) = found_one (found b forms) (b ∷ rest) rest
 
 unfoldable pub op_at : List ℕ → Result (Op × List ℕ) ℕ
 op_at bytes = form_at bytes >>= λ f. operands_at f.0 f.1

@@ -82,8 +82,8 @@ pub(crate) fn read_fraction(bytes: &[u8]) -> Result<(Frac, &[u8]), ReadStop>
     if bytes.len() < 16 {
         return Err(ReadStop::Bad { left: bytes.len() });
     }
-    let (num, after) = bytes.split_at(8);
-    let (den, rest) = after.split_at(8);
+    let (front, rest) = bytes.split_at(16);
+    let (num, den) = front.split_at(8);
     match fraction_of(long_of(num), long_of(den)) {
         Some(c) => Ok((c, rest)),
         None => Err(ReadStop::Bad { left: bytes.len() }),
