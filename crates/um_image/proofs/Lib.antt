@@ -10,3 +10,13 @@ mod Names
 mod NamedRecords
 mod Accepted
 mod Added
+mod Formats
+mod Chains
+mod ItemFormats
+mod ShapeFormats
+mod OpFormats
+mod PartFormats
+mod Spelled
+mod ReadLaws
+mod ImagesAsParts
+mod Loops

@@ -7,8 +7,8 @@ ghost use Rattle.um_tree.specs.ProgramTree.{field_tree, record_tree};
 ghost use Rattle.um_tree.specs.Shapes.{type_shape};
 ghost use Rattle.um_machine.specs.declared.table.Operand.TheVariants.{Num};
 ghost use Rattle.um_verify.specs.ImageTree.{head_tree, image_tree, IsPlainField, IsPlainRecord, IsPlainHead, HasForm};
-ghost use Rattle.um_image.specs.Encoding.{four_bytes, long_bytes, name_bytes, shape_bytes, field_bytes, record_bytes, op_number, operand_bytes};
-ghost use Rattle.um_image.specs.Encoding.{op_bytes, function_bytes, functions_bytes, image_bytes};
+ghost use Rattle.um_image.specs.Encoding.{four_bytes, long_bytes, op_number, operand_bytes, image_bytes};
+ghost use Rattle.um_image.specs.Pieces.{name_bytes, shape_bytes, field_bytes, record_bytes, op_bytes, function_bytes, functions_bytes};
 
 use std::alloc::{AllocError, Global};
 use um_frac::Frac;

@@ -3,8 +3,16 @@
 //! What an image is, and when it is verified, stands in `um_verify`.
 #![tactic(auto)]
 
+mod decoding;
 mod encoding;
+mod form;
+mod functions;
+mod item;
 mod laws;
+mod record;
+mod stop;
 
+pub use decoding::decode;
 pub use encoding::encode;
 pub use laws::image_of_generated_code;
+pub use stop::DecodeStop;
