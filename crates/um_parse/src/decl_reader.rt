@@ -3,6 +3,8 @@ ghost use Rattle.std.specs.Prelude.{◌≡◌, ◌≤◌, IfOk, None, option_map
 ghost use Rattle.um_tree.specs.RawTree.{unit_syntax, expr_syntax, decl_syntax, record_decl_syntax, written_type};
 ghost use Rattle.um_reader.specs.Takes.{Gives, Takes};
 ghost use Rattle.um_types.specs.UnitStops.{greatest_height};
+ghost use Rattle.um_expr.specs.ExprStates.{expr_state};
+ghost use Rattle.um_expr.specs.ExprLeast.{whole_least, machine_of_expressions};
 ghost use Rattle.um_parse.specs.DeclMachine.{Expects, DeclBegin, HaveBase, NoDecl, take_expected, base_after, short_found, body_found, own_step, decl_finish, at_start};
 ghost use Rattle.um_parse.specs.ProgramLeast.{decl_least, machine_of_declarations};
 ghost use Rattle.um_parse.specs.DeclViews.{head_vars, read_fields, start_in, read_params, view_expected, next_state, reached};
@@ -157,6 +159,18 @@ fn unfinished(reader: DeclReader) -> Option<RawDecl>
     None
 }
 
+// One token more of a body.
+fn take_in_body(
+    body: &mut Box<ExprReader>,
+    alloc: Global,
+    token: &Token,
+) -> Result<Taken, AllocError>
+    requires low { whole_least (expr_state body.old.value) ≤ greatest_height }
+    ensures { IfOk result (λ t. Takes machine_of_expressions greatest_height (expr_state body.old.value) token.now t (expr_state body.new.value)) }
+{
+    body.take(alloc, token)
+}
+
 impl DeclReader {
     /// No token was read yet.
     pub fn new() -> DeclReader
@@ -181,7 +195,7 @@ impl DeclReader {
         ensures taken { IfOk result (λ t. Takes machine_of_declarations greatest_height (reader_state self.old) token.now t (reader_state self.new)) }
     {
         match self {
-            DeclReader::Body(_, body) => body.take(alloc, token),
+            DeclReader::Body(_, body) => take_in_body(body, alloc, token),
             DeclReader::Short(_, _, unit) => unit.take(alloc, token),
             DeclReader::Nothing => Ok(Taken::Stops),
             DeclReader::Record(_) => Ok(Taken::Stops),
