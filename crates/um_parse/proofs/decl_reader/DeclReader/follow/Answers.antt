@@ -7,6 +7,6 @@ use Rattle.um_parse.proofs.decl_reader.DeclReader.follow.Goals as goal
 
 pub returns-in_ok-reader-in-Some : goal.returns-in_ok-reader-in-Some
 returns-in_ok-reader-in-Some c =
-    let e : reader_state c.put.new.self ≡ next_state c.in-Some.next = ap reader_state c.put.ensures ∙ c.in_ok-reader.ensures in
+    let e : reader_state c.put.new.self ≡ next_state c.in-Some.next = ap reader_state c.put.ensures ∙ c.in_ok-reader-in-Some.ensures in
     let least = ap decl_least e in
     (e ∙ sym (ap reached c.in-Some.is), (λ h. next_goes c.in-Some.next (sym e ∙ h)), omega (arith, least, next_low c.in-Some.next))
