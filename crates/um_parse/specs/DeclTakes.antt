@@ -27,7 +27,7 @@ reader_state (reader.Field f p y t) =
 reader_state (reader.Param f b t) = InParam (start_in f) (read_params f) (binder_syntax b) (type_state t)
 reader_state (reader.Result f t) = InResult (start_in f) (read_params f) (type_state t)
 reader_state (reader.Body h e) =
-    InBody (start_in h.prefix) (read_params h.prefix) (written_type h.result) (expr_state e)
+    InBody (start_in h.prefix) (read_params h.prefix) (written_type h.result) (expr_state e.value)
 
 -- what the type is that ends here, if one has begun, isn't too high
 abbrev pub IsLow : DeclState → Type 0

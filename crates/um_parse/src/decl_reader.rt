@@ -3,10 +3,13 @@ ghost use Rattle.std.specs.Prelude.{◌≡◌, ◌≤◌, IfOk, None, option_map
 ghost use Rattle.um_tree.specs.RawTree.{unit_syntax, expr_syntax, decl_syntax, record_decl_syntax, written_type};
 ghost use Rattle.um_reader.specs.Takes.{Gives, Takes};
 ghost use Rattle.um_types.specs.UnitStops.{greatest_height};
+ghost use Rattle.um_expr.specs.ExprStates.{expr_state};
+ghost use Rattle.um_expr.specs.ExprLeast.{whole_least, machine_of_expressions};
 ghost use Rattle.um_parse.specs.DeclMachine.{Expects, DeclBegin, HaveBase, NoDecl, take_expected, base_after, short_found, body_found, own_step, decl_finish, at_start};
 ghost use Rattle.um_parse.specs.ProgramLeast.{decl_least, machine_of_declarations};
 ghost use Rattle.um_parse.specs.DeclViews.{head_vars, read_fields, start_in, read_params, view_expected, next_state, reached};
 ghost use Rattle.um_parse.specs.DeclTakes.{reader_state, IsLow};
+ghost use Rattle.um_parse.specs.declared.decl_prefix.Next.TheVariants as next;
 
 use crate::decl_function::{
     function_vars, let_name, param_binder, param_colon, param_ends, rec_name, result_ends,
@@ -41,21 +44,35 @@ pub enum DeclReader {
     Field(RecordPrefix, u32, Name, TypeReader),
     Param(FunctionPrefix, Binder, TypeReader),
     Result(FunctionPrefix, TypeReader),
-    Body(FunctionHead, ExprReader),
+    Body(FunctionHead, Box<ExprReader>),
 }
 
 // The reader of what follows.
-fn reader_of(alloc: Global, next: Next) -> DeclReader
-    ensures { reader_state result ≡ next_state next }
+fn reader_of(alloc: Global, next: Next) -> Result<DeclReader, AllocError>
+    ensures { IfOk result (λ reader. reader_state reader ≡ next_state next) }
 {
     match next {
-        Next::At(expected) => DeclReader::At(expected),
-        Next::Base(at, name) => DeclReader::Base(at, name),
-        Next::Record(prefix) => DeclReader::Record(prefix),
-        Next::Field(prefix, at, name) => DeclReader::Field(prefix, at, name, TypeReader::new()),
-        Next::Param(prefix, binder) => DeclReader::Param(prefix, binder, TypeReader::new()),
-        Next::Result(prefix) => DeclReader::Result(prefix, TypeReader::new()),
-        Next::Body(head) => DeclReader::Body(head, ExprReader::new(alloc)),
+        Next::At(expected) => Ok(DeclReader::At(expected)),
+        Next::Base(at, name) => Ok(DeclReader::Base(at, name)),
+        Next::Record(prefix) => Ok(DeclReader::Record(prefix)),
+        Next::Field(prefix, at, name) => Ok(DeclReader::Field(prefix, at, name, TypeReader::new())),
+        Next::Param(prefix, binder) => Ok(DeclReader::Param(prefix, binder, TypeReader::new())),
+        Next::Result(prefix) => Ok(DeclReader::Result(prefix, TypeReader::new())),
+        Next::Body(head) => body_of(alloc, head),
+    }
+}
+
+// The reader of a body. What is read of an expression is large, and a declaration is handed on at each token, so it stands
+// in a box.
+fn body_of(alloc: Global, head: FunctionHead) -> Result<DeclReader, AllocError>
+    ensures { IfOk result (λ reader. reader_state reader ≡ next_state (next.Body head)) }
+{
+    match Box::new(alloc, ExprReader::new(alloc)) {
+        Ok(body) => Ok(DeclReader::Body(head, body)),
+        Err(failed) => {
+            drop(head);
+            Err(AllocError::from(failed))
+        }
     }
 }
 
@@ -142,6 +159,18 @@ fn unfinished(reader: DeclReader) -> Option<RawDecl>
     None
 }
 
+// One token more of a body.
+fn take_in_body(
+    body: &mut Box<ExprReader>,
+    alloc: Global,
+    token: &Token,
+) -> Result<Taken, AllocError>
+    requires low { whole_least (expr_state body.old.value) ≤ greatest_height }
+    ensures { IfOk result (λ t. Takes machine_of_expressions greatest_height (expr_state body.old.value) token.now t (expr_state body.new.value)) }
+{
+    body.take(alloc, token)
+}
+
 impl DeclReader {
     /// No token was read yet.
     pub fn new() -> DeclReader
@@ -166,7 +195,7 @@ impl DeclReader {
         ensures taken { IfOk result (λ t. Takes machine_of_declarations greatest_height (reader_state self.old) token.now t (reader_state self.new)) }
     {
         match self {
-            DeclReader::Body(_, body) => body.take(alloc, token),
+            DeclReader::Body(_, body) => take_in_body(body, alloc, token),
             DeclReader::Short(_, _, unit) => unit.take(alloc, token),
             DeclReader::Nothing => Ok(Taken::Stops),
             DeclReader::Record(_) => Ok(Taken::Stops),
@@ -200,20 +229,20 @@ impl DeclReader {
         match mem::replace(self, DeclReader::Nothing) {
             DeclReader::At(expected) => {
                 let next = next_at(alloc, expected, kind, token.start)?;
-                Ok(self.follow(alloc, next))
+                self.follow(alloc, next)
             }
             DeclReader::Base(at, name) => Ok(self.behind_base(alloc, at, name, kind)),
             DeclReader::Field(prefix, at, name, ty) => {
                 let next = field_ends(prefix, at, name, ty.finish(), kind)?;
-                Ok(self.follow(alloc, next))
+                self.follow(alloc, next)
             }
             DeclReader::Param(prefix, binder, ty) => {
                 let next = param_ends(prefix, binder, ty.finish(), kind)?;
-                Ok(self.follow(alloc, next))
+                self.follow(alloc, next)
             }
             DeclReader::Result(prefix, ty) => {
                 let next = result_ends(prefix, ty.finish(), kind);
-                Ok(self.follow(alloc, next))
+                self.follow(alloc, next)
             }
             DeclReader::Nothing => Ok(self.stay(DeclReader::Nothing, kind)),
             DeclReader::Short(at, name, unit) => {
@@ -241,16 +270,17 @@ impl DeclReader {
     }
 
     // What follows is read, or the token is refused, where nothing ends.
-    fn follow(&mut self, alloc: Global, next: Option<Next>) -> Taken
+    fn follow(&mut self, alloc: Global, next: Option<Next>) -> Result<Taken, AllocError>
         requires nothing { reader_state self.old ≡ NoDecl }
-        ensures { Gives machine_of_declarations greatest_height NoDecl (reached next) result (reader_state self.new) }
+        ensures { IfOk result (λ t. Gives machine_of_declarations greatest_height NoDecl (reached next) t (reader_state self.new)) }
     {
         match next {
             Some(next) => {
-                self.put(reader_of(alloc, next));
-                Taken::Goes
+                let reader = reader_of(alloc, next)?;
+                self.put(reader);
+                Ok(Taken::Goes)
             }
-            None => Taken::Stops,
+            None => Ok(Taken::Stops),
         }
     }
 
@@ -275,7 +305,9 @@ impl DeclReader {
             DeclReader::Base(at, name) => Ok(Some(RawDecl::Base(at, name))),
             DeclReader::Short(at, name, unit) => Ok(short_found(at, name, unit.finish(alloc)?)),
             DeclReader::Record(prefix) => Ok(Some(record_found(prefix))),
-            DeclReader::Body(head, body) => Ok(body_found(head, body.finish(alloc)?)),
+            DeclReader::Body(head, body) => {
+                Ok(body_found(head, Box::into_inner(body).finish(alloc)?))
+            }
             DeclReader::Nothing => Ok(None),
             DeclReader::At(expected) => Ok(unfinished(DeclReader::At(expected))),
             DeclReader::Field(prefix, at, name, ty) => {
