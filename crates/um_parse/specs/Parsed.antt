@@ -39,3 +39,8 @@ Parsed tokens end (Ok p) = IsRead tokens (program_syntax p)
 Parsed tokens end (Err (stop.Syntax at)) = (k : ℕ) × (at ≡ place_of tokens k end) × StopsAt tokens k
 Parsed tokens end (Err (stop.Limit kind at)) = LimitAt tokens end kind at
 Parsed tokens end (Err stop.NoMemory) = Unit {0}
+
+-- the tokens are this program, of an allowed height, whatever its other limits; or what `parse` answers
+abbrev pub ReadAt : List Token → ℕ → Result RawProgram ParseStop → Type 0
+ReadAt tokens end (Ok p) = IsProgram tokens (program_syntax p) × (program_height (program_syntax p) ≤ greatest_height)
+ReadAt tokens end (Err stop) = Parsed tokens end (Err stop)
