@@ -35,7 +35,7 @@ use um_code::listing;
 use um_gen::generate;
 use um_infer::{InferStop, infer};
 use um_names::resolve;
-use um_parse::parse;
+use um_parse::parse_tokens;
 use um_shape::{Shaped, shape};
 use um_show::program_text;
 use um_syntax::Tokens;
@@ -69,7 +69,7 @@ pub(crate) fn answer_text(
 {
     let Text { bytes, tokens } = text;
     match tokens {
-        Ok(tokens) => answer_tokens(alloc, order, words, &bytes, &tokens),
+        Ok(tokens) => answer_tokens(alloc, order, words, &bytes, tokens),
         Err(stop) => reply_to_text(alloc, &bytes, stop),
     }
 }
@@ -81,14 +81,14 @@ fn answer_tokens(
     order: Order,
     words: &Words,
     bytes: &[u8],
-    tokens: &Tokens,
+    tokens: Tokens,
 ) -> Result<Reply, AllocError>
     requires ordered { order_of words.now ≡ Some order }
-    requires tokens { IsTextAnswer bytes.now (Ok tokens.now) }
+    requires tokens { IsTextAnswer bytes.now (Ok tokens) }
     requires short { length bytes.now ≤ 1048576 }
-    ensures { IfOk result (λ reply. GrammarAnswer order words.now bytes.now tokens.now reply.text.items reply.status) }
+    ensures { IfOk result (λ reply. GrammarAnswer order words.now bytes.now tokens reply.text.items reply.status) }
 {
-    match parse(alloc, tokens.as_slice(), bytes.len() as u32) {
+    match parse_tokens(alloc, tokens, bytes.len() as u32) {
         Ok(raw) => answer_program(
             alloc,
             &Asked {
