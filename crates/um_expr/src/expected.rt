@@ -290,9 +290,7 @@ fn tail_read(
     ensures { IfOk result (λ s. Simulates None (frames_of frames.now) s (Inside (frames_of frames.now) (TailArrow at (operand_expr list) (operand_expr empty) (binder_syntax head.value) (binder_syntax tail)))) }
 {
     match in_box(alloc, tail) {
-        Ok(tail) => Ok(Step::Goes(Focus::Inside(Expected::TailArrow(
-            at, list, empty, head, tail,
-        )))),
+        Ok(tail) => Ok(Step::Goes(Focus::Inside(Expected::TailArrow(at, list, empty, head, tail)))),
         Err(error) => {
             drop(list);
             drop(empty);

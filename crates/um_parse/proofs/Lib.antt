@@ -13,4 +13,4 @@ mod ProgramNodes
 mod LimitLaws
 mod DeclTaken
 mod ProgramSteps
-mod ProgramTokens
+mod ProgramParsed

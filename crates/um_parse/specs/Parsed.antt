@@ -44,3 +44,10 @@ Parsed tokens end (Err stop.NoMemory) = Unit {0}
 abbrev pub ReadAt : List Token → ℕ → Result RawProgram ParseStop → Type 0
 ReadAt tokens end (Ok p) = IsProgram tokens (program_syntax p) × (program_height (program_syntax p) ≤ greatest_height)
 ReadAt tokens end (Err stop) = Parsed tokens end (Err stop)
+
+-- the program itself where it passes no limit besides its height, or else the first that it passes
+abbrev pub Limited : List DeclSyntax → Result RawProgram ParseStop → Type 0
+Limited ds (Ok p) = (program_syntax p ≡ ds) × WithinLimits 0 ds
+Limited ds (Err (stop.Syntax at)) = ⊥
+Limited ds (Err (stop.Limit kind at)) = PassesAt 0 ds kind at
+Limited ds (Err stop.NoMemory) = ⊥

@@ -226,11 +226,7 @@ fn take_in_body(
 }
 
 // One token more of a type.
-fn take_in_type(
-    ty: &mut Box<TypeReader>,
-    alloc: Global,
-    token: &Token,
-) -> Result<Taken, AllocError>
+fn take_in_type(ty: &mut Box<TypeReader>, alloc: Global, token: &Token) -> Result<Taken, AllocError>
     requires low { type_least (type_state ty.old.value) ≤ greatest_height }
     ensures { IfOk result (λ t. Takes machine_of_types greatest_height (type_state ty.old.value) token.now t (type_state ty.new.value)) }
 {

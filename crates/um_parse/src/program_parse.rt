@@ -1,5 +1,5 @@
 // Parsing a program, with the places of its refusals in the text.
-ghost use Rattle.std.specs.Prelude.{◌≤◌, IfOk, length};
+ghost use Rattle.std.specs.Prelude.{◌<◌, ◌≤◌, ◌^◌, IfOk, length};
 ghost use Rattle.um_tree.specs.RawTree.{program_syntax};
 ghost use Rattle.um_reader.specs.ReadTo.{ReadAll};
 ghost use Rattle.um_reader.specs.Takes.{Takes};
@@ -8,7 +8,8 @@ ghost use Rattle.um_parse.specs.DeclGrammar.{IsProgram};
 ghost use Rattle.um_parse.specs.ProgramHeights.{program_height};
 ghost use Rattle.um_parse.specs.ProgramLeast.{program_least, machine_of_programs};
 ghost use Rattle.um_parse.specs.DeclTakes.{program_state};
-ghost use Rattle.um_parse.specs.Parsed.{Parsed, ReadAt};
+ghost use Rattle.um_parse.specs.ProgramNodes.{program_nodes};
+ghost use Rattle.um_parse.specs.Parsed.{Parsed, ReadAt, Limited};
 
 use crate::limits::first_passed;
 use crate::program_reader::ProgramReader;
@@ -17,6 +18,23 @@ use um_reader::{ReadStop, Reader, Taken, read_all};
 use um_syntax::{Token, Tokens};
 use um_tree::RawProgram;
 use um_types::{LimitKind, ParseStop, place};
+
+// The program, where it passes no limit besides its height.
+fn limited(program: RawProgram) -> Result<RawProgram, ParseStop>
+    requires few { program_nodes (program_syntax program) < 2 ^ 32 }
+    ensures { Limited (program_syntax program) result }
+{
+    match first_passed(&program.items) {
+        Some(passed) => {
+            drop(program);
+            Err(ParseStop::Limit {
+                kind: passed.kind,
+                at: passed.at,
+            })
+        }
+        None => Ok(program),
+    }
+}
 
 // The program that the tokens are, whatever its other limits.
 fn read_program(alloc: Global, tokens: &[Token]) -> Result<RawProgram, ReadStop>
@@ -44,36 +62,23 @@ pub fn parse(alloc: Global, tokens: &[Token], end: u32) -> Result<RawProgram, Pa
     requires text { length tokens.now ≤ end }
     ensures parsed { Parsed tokens.now end result }
 {
-    let program = match read_program(alloc, tokens) {
-        Ok(program) => program,
+    match read_program(alloc, tokens) {
+        Ok(program) => limited(program),
         Err(ReadStop::Syntax(k)) => {
-            return Err(ParseStop::Syntax {
+            Err(ParseStop::Syntax {
                 at: place(tokens, k, end),
-            });
+            })
         }
-        Err(ReadStop::High(k)) => {
-            return Err(ParseStop::Limit {
-                kind: LimitKind::Height,
-                at: place(tokens, k, end),
-            });
-        }
-        Err(ReadStop::NoMemory) => return Err(ParseStop::NoMemory),
-    };
-    match first_passed(&program.items) {
-        Some(passed) => Err(ParseStop::Limit {
-            kind: passed.kind,
-            at: passed.at,
+        Err(ReadStop::High(k)) => Err(ParseStop::Limit {
+            kind: LimitKind::Height,
+            at: place(tokens, k, end),
         }),
-        None => Ok(program),
+        Err(ReadStop::NoMemory) => Err(ParseStop::NoMemory),
     }
 }
 
 // One token more, which is let go then: its memory serves the names of the tree.
-fn take_token(
-    reader: &mut ProgramReader,
-    alloc: Global,
-    token: Token,
-) -> Result<Taken, AllocError>
+fn take_token(reader: &mut ProgramReader, alloc: Global, token: Token) -> Result<Taken, AllocError>
     requires low { program_least (program_state reader.old) ≤ greatest_height }
     ensures { IfOk result (λ t. Takes machine_of_programs greatest_height (program_state reader.old) token t (program_state reader.new)) }
 {
@@ -122,11 +127,5 @@ pub fn parse_tokens(alloc: Global, tokens: Tokens, end: u32) -> Result<RawProgra
     ensures parsed { Parsed tokens end result }
 {
     let program = read_tokens(alloc, tokens, end)?;
-    match first_passed(&program.items) {
-        Some(passed) => Err(ParseStop::Limit {
-            kind: passed.kind,
-            at: passed.at,
-        }),
-        None => Ok(program),
-    }
+    limited(program)
 }

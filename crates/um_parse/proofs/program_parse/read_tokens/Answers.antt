@@ -6,7 +6,7 @@ use Rattle.um_reader.proofs.Loop.{goes}
 use Rattle.um_types.specs.UnitStops.{greatest_height}
 use Rattle.um_parse.specs.ProgramLeast.{program_least, machine_of_programs}
 use Rattle.um_parse.specs.DeclTakes.{program_state}
-use Rattle.um_parse.proofs.ProgramTokens.{StandsAt, refused_at, high_at, all_read, none_read}
+use Rattle.um_parse.proofs.ProgramParsed.{StandsAt, refused_at, high_at, all_read, none_read}
 use Rattle.um_parse.proofs.program_parse.read_tokens.Goals as goal
 
 pub take_token-requires : goal.take_token-requires

@@ -1,9 +1,10 @@
--- What the loop over tokens that are handed over gives, with the places of the refusals.
+-- What parsing answers, from the limits of a program that was read; and what the loop over tokens that are handed over
+-- gives, with the places of the refusals.
 use Rattle.std.proofs.Common.{◌≡◌, ℕ, zero, suc, ◌+◌, ◌≤◌, ◌<◌, List, [], ◌∷◌, length, take, get_or, Option, Some, None, Result, Ok, Err, refl, sym, ap, subst, ◌∙◌, arith}
 use Rattle.std.specs.Prelude.{option_map}
 use Rattle.um_syntax.specs.declared.token.Token.{Token}
 use Rattle.um_tree.specs.declared.raw.RawProgram.{RawProgram}
-use Rattle.um_tree.specs.RawTree.{program_syntax}
+use Rattle.um_tree.specs.RawTree.{DeclSyntax, program_syntax}
 use Rattle.um_reader.specs.Machine.{reached}
 use Rattle.um_reader.specs.Takes.{Takes}
 use Rattle.um_reader.specs.declared.taken.Taken.TheVariants as taken
@@ -12,11 +13,22 @@ use Rattle.um_reader.proofs.Loop.{Stands, through, too_high}
 use Rattle.um_reader.proofs.Answers.{reads_all}
 use Rattle.um_types.specs.UnitStops.{greatest_height, place_of}
 use Rattle.um_types.specs.declared.parse.LimitKind.TheVariants as limit
+use Rattle.um_types.specs.declared.parse.ParseStop.{ParseStop}
 use Rattle.um_types.specs.declared.parse.ParseStop.TheVariants as stop
 use Rattle.um_parse.specs.DeclMachine.{ProgramState, program_finish}
 use Rattle.um_parse.specs.ProgramLeast.{machine_of_programs}
-use Rattle.um_parse.specs.Parsed.{Parsed, ReadAt}
+use Rattle.um_parse.specs.DeclGrammar.{IsProgram}
+use Rattle.um_parse.specs.ProgramHeights.{program_height}
+use Rattle.um_parse.specs.Parsed.{IsRead, Parsed, ReadAt, Limited}
+use Rattle.um_parse.proofs.ProgramComplete.{one_program}
+use Rattle.um_parse.proofs.LimitLaws.{large_at}
 use Rattle.um_parse.proofs.ProgramLow.{programs_read}
+
+pub limited_parsed : (tokens : List Token) (end : ℕ) (ds : List DeclSyntax) (answer : Result RawProgram ParseStop) → IsProgram tokens ds → program_height ds ≤ greatest_height → Limited ds answer → Parsed tokens end answer
+limited_parsed tokens end ds (Ok p) is low l = subst (IsRead tokens) (sym l.0) (record { is = is; only = λ other q. one_program tokens other ds q is; low = low; small = l.1 })
+limited_parsed tokens end ds (Err (stop.Syntax at)) is low l = absurd l
+limited_parsed tokens end ds (Err (stop.Limit kind at)) is low l = large_at tokens end kind at (record { ds = ds; is = is; low = low; passes = l })
+limited_parsed tokens end ds (Err stop.NoMemory) is low l = absurd l
 
 place_at : (tokens : List Token) (i end : ℕ) (x : Token) → i < length tokens → get_or tokens i x ≡ x → place_of tokens i end ≡ x.start
 place_at [] i end x lt same = absurd (omega (arith, lt))
