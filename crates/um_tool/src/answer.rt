@@ -20,7 +20,7 @@ use um_answers::{Asked, answer_typed, reply_layout};
 use um_infer::{InferStop, infer};
 use um_names::resolve;
 use um_orders::{Order, Words};
-use um_parse::parse;
+use um_parse::parse_tokens;
 use um_reports::{
     Reply, reply_to_names, reply_to_not_general, reply_to_range, reply_to_shapes,
     reply_to_slots, reply_to_text, reply_to_tokens, reply_to_units,
@@ -44,7 +44,7 @@ pub(crate) fn answer_text(
 {
     let Text { bytes, tokens } = text;
     match tokens {
-        Ok(tokens) => answer_tokens(alloc, order, words, &bytes, &tokens),
+        Ok(tokens) => answer_tokens(alloc, order, words, &bytes, tokens),
         Err(stop) => reply_to_text(alloc, &bytes, stop),
     }
 }
@@ -56,14 +56,14 @@ fn answer_tokens(
     order: Order,
     words: &Words,
     bytes: &[u8],
-    tokens: &Tokens,
+    tokens: Tokens,
 ) -> Result<Reply, AllocError>
     requires ordered { order_of words.now ≡ Some order }
-    requires tokens { IsTextAnswer bytes.now (Ok tokens.now) }
+    requires tokens { IsTextAnswer bytes.now (Ok tokens) }
     requires short { length bytes.now ≤ 1048576 }
-    ensures { IfOk result (λ reply. GrammarAnswer order words.now bytes.now tokens.now reply.text.items reply.status) }
+    ensures { IfOk result (λ reply. GrammarAnswer order words.now bytes.now tokens reply.text.items reply.status) }
 {
-    match parse(alloc, tokens.as_slice(), bytes.len() as u32) {
+    match parse_tokens(alloc, tokens, bytes.len() as u32) {
         Ok(raw) => answer_program(
             alloc,
             &Asked {
