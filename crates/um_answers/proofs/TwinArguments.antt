@@ -1,10 +1,18 @@
 -- Arguments in other sizes of the base units, one by one.
-use Rattle.std.proofs.Common.{◌≡◌, ℕ, zero, suc, ◌+◌, cond, IsTrue, List, [], ◌∷◌, ◌++◌, map, take, length, get_or, All, Option, Some, None, slice_get, refl, sym, ap, subst, ◌∙◌}
+use Rattle.std.proofs.Common.{◌≡◌, ℕ, zero, suc, ◌+◌, ◌≤◌, arith, cond, IsTrue, List, [], ◌∷◌, ◌++◌, map, take, length, All, Option, Some, None, slice_get, refl, sym, ap, ◌∙◌}
 use Rattle.std.specs.Prelude.{is_some}
 use Rattle.std.specs.Option.{option_map}
 use Rattle.std.proofs.lemmas.List.Elements.{All-nil, All-cons}
 use Rattle.um_frac.specs.declared.number.Frac.{Frac}
-use Rattle.um_tree.specs.ValueTree.{InputTree}
+use Rattle.std.proofs.lemmas.List.{length-map}
+use Rattle.um_tree.specs.TypeTree.{ShapeTree}
+use Rattle.um_tree.specs.ValueTree.{ValueTree, InputTree, values_in_order, without_units}
+use Rattle.um_tree.specs.ProgramTree.{RecordTree, ProgramTree}
+use Rattle.um_tree.specs.Formed.{IsFormed}
+use Rattle.um_tree.specs.InputType.{ValuesHave}
+use Rattle.um_tree.specs.Shapes.{note_shape}
+use Rattle.um_runner.specs.Arguments.{AreArgumentsOf}
+use Rattle.um_run.specs.Calls.{CallTree, call_values}
 use Rattle.um_scale.specs.RescaledInputs.{input_misfit}
 use Rattle.um_answers.specs.TwinAnswer.{misfit_among}
 
@@ -39,3 +47,14 @@ module _ (cs : List Frac) where
       let h = neither (input_misfit cs i) (misfit_among cs (take k is)) fit in
       ap (λ (o : Option ℕ). cond (is_some o) (Some 0) (option_map (λ n. suc n) (misfit_among cs is))) h.0
       ∙ ap (option_map (λ n. suc n)) (misfit_here is k j e h.1 misfit)
+
+-- ---- a call has few arguments
+as_many : (records : List RecordTree) (vs : List ValueTree) (shapes : List ShapeTree) → ValuesHave records (values_in_order vs) shapes → length vs ≡ length shapes
+as_many records [] shapes h = sym (ap length h)
+as_many records (v ∷ vs) shapes h = ap suc (as_many records vs h.1 h.3) ∙ sym (ap length h.4)
+
+pub few_arguments : (p : ProgramTree) (call : CallTree) → IsFormed p → AreArgumentsOf p call.function (call_values call) → length call.inputs ≤ 16
+few_arguments p call formed (g, declared, have) =
+    let few = (formed.functions call.function g declared).few_params in
+    let many = as_many p.records (call_values call) (map note_shape g.params) have in
+    omega (arith, few, many, length-map call.inputs without_units, length-map g.params note_shape)
