@@ -11,7 +11,7 @@ mod BigAnswers
 mod RescaleAnswers
 mod TwinAnswers
 mod TwinDone
-mod TwinArguments
+pub mod TwinArguments
 pub mod TypedStatuses
 pub mod TypedDone
 pub mod UniqueTyped

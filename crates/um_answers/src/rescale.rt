@@ -29,8 +29,9 @@ pub(crate) fn answer_rescale(
     ensures { IfOk result (λ reply. RescaleAnswer (asked_of asked.now) (program_tree shaped.now)
         reply.text.items reply.status) }
 {
-    match read_scales(alloc, asked.words.word(1), shaped.program()) {
-        Ok(scales) => answer_sized(alloc, asked.bytes, shaped.program(), scales),
+    let program = shaped.program();
+    match read_scales(alloc, asked.words.word(1), program) {
+        Ok(scales) => answer_sized(alloc, asked.bytes, program, scales),
         Err(refusal) => reply_to_sizes(alloc, refusal),
     }
 }
@@ -83,8 +84,8 @@ fn answer_literals(
 /// The bytes with the numbers of the rescaled program.
 fn reply_rescaled(alloc: Global, bytes: &[u8], rescaled: Program) -> Result<Reply, AllocError>
     requires written { IsWrittenText bytes.now }
-    ensures text { IfOk result (λ reply. IsRescaledText bytes.now (program_tree rescaled) reply.text.items) }
-    ensures status { IfOk result (λ reply. reply.status ≡ Status.Done) }
+    ensures { IfOk result (λ reply. IsRescaledText bytes.now (program_tree rescaled) reply.text.items
+        × (reply.status ≡ Status.Done)) }
 {
     let text = rescaled_text(alloc, bytes, &rescaled);
     drop(rescaled);

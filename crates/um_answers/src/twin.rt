@@ -9,10 +9,14 @@ ghost use Rattle.um_infer.specs.Answers.{scheme_trees};
 ghost use Rattle.um_infer.specs.Inference.{all_schemes, infer};
 ghost use Rattle.um_run.specs.Calls.{AreClosedUnits, call_tree, call_values};
 ghost use Rattle.um_run.specs.Laws.{IsTypedCall};
-ghost use Rattle.um_scale.specs.RescaledLiterals.{misfit_in, rescaled_program};
+ghost use Rattle.um_tree.specs.Formed.{IsFormed};
+ghost use Rattle.um_shape.specs.FirstFault.{first_fault};
+ghost use Rattle.um_scale.specs.Sizes.{AreSizes};
+ghost use Rattle.um_scale.specs.RescaledLiterals.{rescaled_program};
 ghost use Rattle.um_sizes.specs.ScaleWords.{is_scales};
 ghost use Rattle.um_answers.specs.Asked.{twin_sizes};
 ghost use Rattle.um_answers.specs.Asking.{asked_of};
+ghost use Rattle.um_answers.specs.Rescaling.{IsOther};
 ghost use Rattle.um_answers.specs.TwinAnswer.{TwinAnswer, TwinCallAnswer, TwinBesideAnswer, TwinLiteralsAnswer};
 ghost use Rattle.um_answers.specs.TwinAnswer.{InputsAnswer, TwinRunAnswer};
 ghost use Rattle.um_answers.specs.TwinAnswer.{misfit_among, rescaled_arguments as arguments_rescaled, rescaled_values};
@@ -66,6 +70,7 @@ fn answer_sized(
     schemes: &Schemes,
     scales: Scales,
 ) -> Result<Reply, AllocError>
+    requires positive { AreSizes scales }
     requires words { 4 ≤ length asked.now.words.now }
     requires short { All (λ (word : List ℕ). length word ≤ 1048576) asked.now.words.now }
     requires budget { budget ≤ 10000000 }
@@ -89,6 +94,7 @@ fn answer_call(
     schemes: &Schemes,
     scales: &Scales,
 ) -> Result<Reply, AllocError>
+    requires positive { AreSizes scales.now }
     requires words { 4 ≤ length asked.now.words.now }
     requires short { All (λ (word : List ℕ). length word ≤ 1048576) asked.now.words.now }
     requires budget { budget ≤ 10000000 }
@@ -114,6 +120,7 @@ fn answer_beside(
     shorts: &Abbreviations,
     scales: &Scales,
 ) -> Result<Reply, AllocError>
+    requires positive { AreSizes scales.now }
     requires words { 4 ≤ length asked.now.words.now }
     requires short { All (λ (word : List ℕ). length word ≤ 1048576) asked.now.words.now }
     requires budget { budget ≤ 10000000 }
@@ -138,8 +145,8 @@ fn answer_twins(
     scales: &Scales,
     call: Call,
 ) -> Result<Reply, AllocError>
+    requires positive { AreSizes scales.now }
     requires typed { IsTypedCall (program_tree shaped.now) (call_tree call) }
-    requires few { length call.inputs.items.items ≤ 16 }
     requires budget { budget ≤ 10000000 }
     ensures { IfOk result (λ reply. TwinLiteralsAnswer budget scales.now bytes.now (program_tree shaped.now)
         (call_tree call) reply.text.items reply.status) }
@@ -159,13 +166,14 @@ fn answer_literals(
     scales: &Scales,
     call: &Call,
 ) -> Result<Reply, AllocError>
+    requires positive { AreSizes scales.now }
     requires typed { IsTypedCall (program_tree shaped.now) (call_tree call.now) }
-    requires few { length call.now.inputs.items.items ≤ 16 }
     requires budget { budget ≤ 10000000 }
     ensures { IfOk result (λ reply. TwinLiteralsAnswer budget scales.now bytes.now (program_tree shaped.now)
         (call_tree call.now) reply.text.items reply.status) }
 {
-    match rescale_program(alloc, shaped.program(), scales) {
+    let program = shaped.program();
+    match rescale_program(alloc, program, scales) {
         Ok(rescaled) => answer_rescaled(alloc, budget, shaped, rescaled, scales, call),
         Err(ScaleStop::Range { at }) => reply_to_literal(alloc, bytes, at),
         Err(ScaleStop::NoMemory) => Err(AllocError),
@@ -181,8 +189,9 @@ fn answer_rescaled(
     scales: &Scales,
     call: &Call,
 ) -> Result<Reply, AllocError>
-    requires rescaled { program_tree rescaled ≡ rescaled_program scales.now (program_tree shaped.now) }
-    requires fits { misfit_in scales.now (program_tree shaped.now).functions ≡ None }
+    requires other { IsOther scales.now (program_tree shaped.now) (program_tree rescaled) }
+    requires formed { IsFormed (program_tree rescaled) }
+    requires faultless { first_fault (program_tree rescaled) ≡ None }
     requires typed { IsTypedCall (program_tree shaped.now) (call_tree call.now) }
     requires few { length call.now.inputs.items.items ≤ 16 }
     requires budget { budget ≤ 10000000 }
@@ -205,8 +214,7 @@ fn answer_shaped(
     scales: &Scales,
     call: &Call,
 ) -> Result<Reply, AllocError>
-    requires rescaled { program_tree other ≡ rescaled_program scales.now (program_tree shaped.now) }
-    requires fits { misfit_in scales.now (program_tree shaped.now).functions ≡ None }
+    requires other { IsOther scales.now (program_tree shaped.now) (program_tree other) }
     requires typed { IsTypedCall (program_tree shaped.now) (call_tree call.now) }
     requires few { length call.now.inputs.items.items ≤ 16 }
     requires budget { budget ≤ 10000000 }
@@ -228,8 +236,7 @@ fn answer_inputs(
     scales: &Scales,
     call: &Call,
 ) -> Result<Reply, AllocError>
-    requires rescaled { program_tree other.now ≡ rescaled_program scales.now (program_tree shaped.now) }
-    requires fits { misfit_in scales.now (program_tree shaped.now).functions ≡ None }
+    requires other { IsOther scales.now (program_tree shaped.now) (program_tree other.now) }
     requires typed { IsTypedCall (program_tree shaped.now) (call_tree call.now) }
     requires few { length call.now.inputs.items.items ≤ 16 }
     requires budget { budget ≤ 10000000 }
@@ -253,8 +260,7 @@ fn answer_both(
     call: &Call,
     inputs: Inputs,
 ) -> Result<Reply, AllocError>
-    requires rescaled { program_tree other.now ≡ rescaled_program scales.now (program_tree shaped.now) }
-    requires fits { misfit_in scales.now (program_tree shaped.now).functions ≡ None }
+    requires other { IsOther scales.now (program_tree shaped.now) (program_tree other.now) }
     requires typed { IsTypedCall (program_tree shaped.now) (call_tree call.now) }
     requires arguments { map input_tree inputs.items.items ≡ arguments_rescaled scales.now (call_tree call.now) }
     requires all_fit { misfit_among scales.now (call_tree call.now).inputs ≡ None }
@@ -278,8 +284,7 @@ fn reply_to_runs(
     call: &Call,
     inputs: &Inputs,
 ) -> Result<Reply, AllocError>
-    requires rescaled { program_tree other.now ≡ rescaled_program scales.now (program_tree shaped.now) }
-    requires fits { misfit_in scales.now (program_tree shaped.now).functions ≡ None }
+    requires other { IsOther scales.now (program_tree shaped.now) (program_tree other.now) }
     requires typed { IsTypedCall (program_tree shaped.now) (call_tree call.now) }
     requires arguments { map input_tree inputs.now.items.items ≡ arguments_rescaled scales.now (call_tree call.now) }
     requires all_fit { misfit_among scales.now (call_tree call.now).inputs ≡ None }
@@ -303,8 +308,7 @@ fn run_both(
     call: &Call,
     inputs: &Inputs,
 ) -> Result<Twin, AllocError>
-    requires rescaled { program_tree other.now ≡ rescaled_program scales.now (program_tree shaped.now) }
-    requires fits { misfit_in scales.now (program_tree shaped.now).functions ≡ None }
+    requires other { IsOther scales.now (program_tree shaped.now) (program_tree other.now) }
     requires typed { IsTypedCall (program_tree shaped.now) (call_tree call.now) }
     requires arguments { map input_tree inputs.now.items.items ≡ arguments_rescaled scales.now (call_tree call.now) }
     requires all_fit { misfit_among scales.now (call_tree call.now).inputs ≡ None }
@@ -321,7 +325,16 @@ fn run_both(
         Ok(scaled) => {
             let first = CodeRunner::new(shaped, &code);
             let second = CodeRunner::new(other, &rescaled);
-            twin(alloc, &first, &second, scales, call.function, args, scaled, budget)
+            twin(
+                alloc,
+                &first,
+                &second,
+                scales,
+                call.function,
+                args,
+                scaled,
+                budget,
+            )
         }
         Err(stop) => {
             drop(args);

@@ -20,7 +20,6 @@ use Rattle.um_reports.specs.Refusals.{IsTextReply, IsParseReply, IsNameReply, Is
 use Rattle.um_reports.specs.CallRefusals.{IsArgumentReply, IsCallReply, IsSignatureReply, IsConformReply}
 use Rattle.um_reports.specs.declared.status.Status.{Status}
 use Rattle.um_reports.specs.declared.status.Status.TheVariants.{ReadFault, WriteFault, NoMemory}
-use Rattle.um_orders.specs.declared.order.Intake.TheVariants.{Text}
 
 -- it is none of the faults'
 abbrev pub is_answered : Status → Bool

@@ -6,6 +6,7 @@ use Rattle.um_frac.specs.Fraction.{numerator, denominator, fraction, divided, re
 use Rattle.um_frac.specs.Arithmetic.{product_of, whole_power_of}
 use Rattle.um_units.specs.declared.Atom.TheVariants.{Base, Var}
 use Rattle.um_units.specs.PowerMap.{PowerMap, product, atom, mul, pow, inv}
+use Rattle.um_tree.specs.declared.note.UnitNote.{UnitNote}
 use Rattle.um_tree.specs.declared.note.UnitNote.TheVariants.{Hole, Written}
 use Rattle.um_tree.specs.declared.expression.Arith.TheVariants.{Add}
 use Rattle.um_tree.specs.ExprTree.{number, arith as arith_tree}
@@ -78,8 +79,11 @@ no_number : input_misfit large (list_input (more_inputs fits (more_inputs (numbe
 unfolding product product_of whole_power_of reduced divided fraction gcd
 no_number = refl
 
+abbrev number_parts : Frac × UnitNote → ℤ × ℤ
+number_parts x = (numerator x.0, denominator x.0)
+
 -- 1 old metre is 3 new ones, and a zero with a hole stays
-rescaled_numbers : map (λ x. (numerator x.0, denominator x.0)) (input_numbers (rescaled_input scales (list_input (more_inputs fits (more_inputs (number_input zero_number Hole) no_inputs))))) ≡ (pos 3, pos 1) ∷ (pos 0, pos 1) ∷ []
+rescaled_numbers : map number_parts (input_numbers (rescaled_input scales (list_input (more_inputs fits (more_inputs (number_input zero_number Hole) no_inputs))))) ≡ (pos 3, pos 1) ∷ (pos 0, pos 1) ∷ []
 unfolding product product_of whole_power_of reduced divided fraction gcd
 rescaled_numbers = refl
 

@@ -1,5 +1,5 @@
 -- Calls of a rescaled program on rescaled inputs.
-use Rattle.std.proofs.Common.{◌≡◌, refl, sym, ap, subst, ◌∙◌, ℕ, All, List, [], ◌∷◌, map, Some, None, get_or, arith}
+use Rattle.std.proofs.Common.{◌≡◌, refl, sym, ap, subst, ◌∙◌, ℕ, All, List, [], ◌∷◌, map, Some, None}
 use Rattle.std.proofs.lemmas.List.Elements.{All-head, All-tail}
 use Rattle.um_frac.specs.declared.number.Frac.{Frac}
 use Rattle.um_units.specs.declared.Atom.TheVariants.{Var}
@@ -12,7 +12,7 @@ use Rattle.um_tree.specs.Typing.{put, unit_at, field_types, IsRecordAt}
 use Rattle.um_tree.specs.InputType.{ValueHas, EachValueHas, ValuesHave, IsResultOfCall, IsTypeOfCall}
 use Rattle.um_tree.specs.Shapes.{type_shape, note_shape}
 use Rattle.um_scaling.specs.Rescaling.{Rescaling, ArePositive, factor}
-use Rattle.um_scaling.specs.ScaledValues.{Scaled, EachScaled, FieldsScaled, OutcomesScaled}
+use Rattle.um_scaling.specs.ScaledValues.{Scaled, EachScaled, FieldsScaled}
 use Rattle.um_scaling.specs.RescaledInput.{RescaledInput, RescaledInputs}
 use Rattle.um_scaling.specs.FreeNumbers.{IsFreeZero, EachFreeZero, FieldsFreeZero}
 use Rattle.um_scaling.proofs.Factors.{factor_positive}

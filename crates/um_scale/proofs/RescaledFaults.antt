@@ -2,13 +2,13 @@
 use Rattle.std.proofs.Common.{◌≡◌, ap, ◌∙◌, cond, nat_le, List, [], ◌∷◌, ◌++◌, map, Some, Ok, Err, slice_get}
 use Rattle.um_tree.specs.TypeTree.{ShapeTree, bool_shape, num_shape, list_shape}
 use Rattle.um_tree.specs.ExprTree.{ExprTree, ExprTrees, truth, number, local, call, negate, not_expr, pown, arith, compare, both, either, if, bind, split, nil, list_expr, cons, record_expr, field, none, more}
-use Rattle.um_tree.specs.ProgramTree.{FunctionTree, ProgramTree}
+use Rattle.um_tree.specs.ProgramTree.{FunctionTree}
 use Rattle.um_tree.specs.Shapes.{note_shape, ShapeSignature}
 use Rattle.um_tree.specs.Heights.{greatest_height}
 use Rattle.um_shape.specs.RecordShapes.{RecordShape, tallest}
-use Rattle.um_shape.specs.FirstFault.{wrong_shape, too_deep, then, same_shape, where_true, of_numbers, of_truths, of_arms, of_condition, of_items, of_head, of_call, of_record, of_field, item_of, at_node, found, all_found, own_shapes, fits_result, function_found, functions_found, records_found, program_found, fault_of, first_fault}
+use Rattle.um_shape.specs.FirstFault.{wrong_shape, too_deep, then, same_shape, where_true, of_numbers, of_truths, of_arms, of_condition, of_items, of_head, of_call, of_record, of_field, item_of, at_node, found, all_found, own_shapes, fits_result, function_found, functions_found, records_found, fault_of}
 use Rattle.um_scaling.specs.Rescaling.{Rescaling}
-use Rattle.um_scaling.specs.RescaledProgram.{RescaledExpr, RescaledExprs, RescaledFunction, RescaledFunctions, IsRescaled}
+use Rattle.um_scaling.specs.RescaledProgram.{RescaledExpr, RescaledExprs, RescaledFunction, RescaledFunctions}
 use Rattle.um_scale.specs.Laws.{RescaledKeepsFault}
 
 module _ (r : Rescaling) (records : List RecordShape) where

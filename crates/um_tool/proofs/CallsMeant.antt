@@ -52,10 +52,10 @@ use Rattle.um_answers.proofs.ConformsDone.{read_over_bases}
 
 -- ---- no refusal has a status that ends a call, and none that is a verdict
 
-refuted : (test : Status → Bool) (status wanted : Status) → status ≡ wanted → test wanted ≡ false → IsTrue (test status) → ⊥
+pub refuted : (test : Status → Bool) (status wanted : Status) → status ≡ wanted → test wanted ≡ false → IsTrue (test status) → ⊥
 refuted test status wanted e none last = cc (sym none ∙ subst (λ s. IsTrue (test s)) e last)
 
-last_of_calls : (status : Status) → IsTrue (ends_a_call status) → IsTrue (comes_last status)
+pub last_of_calls : (status : Status) → IsTrue (ends_a_call status) → IsTrue (comes_last status)
 last_of_calls Done ends = refl
 last_of_calls Trap ends = refl
 last_of_calls BudgetEnd ends = refl
@@ -73,7 +73,7 @@ argument_refusal index word (input_stop.Names at) text status reply ends = refut
 argument_refusal index word (input_stop.PowerRange at) text status reply ends = refuted ends_a_call status Input reply.1 refl ends
 argument_refusal index word input_stop.NoMemory text status reply ends = reply
 
-call_refusal : (texts : List (List ℕ)) (refused : CallRefusal) (text : List ℕ) (status : Status) → IsCallReply texts refused text status → IsTrue (ends_a_call status) → ⊥
+pub call_refusal : (texts : List (List ℕ)) (refused : CallRefusal) (text : List ℕ) (status : Status) → IsCallReply texts refused text status → IsTrue (ends_a_call status) → ⊥
 call_refusal texts refusal.NoFunction text status reply ends = refuted ends_a_call status Input reply.1 refl ends
 call_refusal texts refusal.WrongCount text status reply ends = refuted ends_a_call status Input reply.1 refl ends
 call_refusal texts (refusal.Argument index stop) text status reply ends = argument_refusal index (get_or texts index []) stop text status reply ends

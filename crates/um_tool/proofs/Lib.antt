@@ -4,4 +4,5 @@ pub mod Complete
 pub mod Reached
 pub mod PrintedSchemes
 pub mod CallsMeant
+pub mod TwinsMeant
 pub mod UniqueAnswers

@@ -5,5 +5,6 @@ pub mod Served
 -- What the definitions come to: statements, each proved as the contract of a function of src/laws.rt.
 pub mod Laws
 pub mod CallLaws
+pub mod ScaleLaws
 -- What mirrors the code: a text that is being read.
 pub mod Reading

@@ -2,6 +2,7 @@
 ghost use Rattle.um_tool.specs.Laws.{PrintedTypesArePrincipalSchemes, UnitsNameTheFirstUntyped};
 ghost use Rattle.um_tool.specs.Laws.{NotGeneralNamesTheFirstUntyped, AnswersAreUnique};
 ghost use Rattle.um_tool.specs.CallLaws.{PrintedCodeIsTheProgramsCode, EndedCallsAreMeant, VerdictsSayWhatTypingsAre};
+ghost use Rattle.um_tool.specs.ScaleLaws.{RescaledTextsAreRescaled, EndedTwinsAreRelated};
 
 /// What `types` printed with status 0 on some bytes are the principal schemes of the program that they spell, a line
 /// for each function in order; what it printed with the status of units, or of a function that is not general, names
@@ -27,6 +28,18 @@ pub fn ended_calls()
 /// for its form or its units not each is.
 pub fn verdicts()
     ensures { VerdictsSayWhatTypingsAre }
+{}
+
+/// What `rescale` printed with status 0 on some bytes are these bytes with the numbers of a program: that which they
+/// spell, with its literals in the sizes that the word states.
+pub fn rescaled_texts()
+    ensures { RescaledTextsAreRescaled }
+{}
+
+/// What `twin` was answered with the status of values, of a trap or of the budget's end are the outcomes of both
+/// meanings at the budget: the second is the first one rescaled at a type of the call, unless one of them overflows.
+pub fn ended_twins()
+    ensures { EndedTwinsAreRelated }
 {}
 
 /// Two texts and statuses that answer the same words and bytes are equal.
