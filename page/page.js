@@ -148,9 +148,9 @@ class Program {
 
 const TEXT_LIMIT = 1048576;
 const LONGEST_LINK = 200000;
-const LINE = 20;
 
 const $ = (name) => document.getElementById(name);
+const LINE = parseFloat(getComputedStyle($("text")).lineHeight);
 const page = Object.fromEntries(
   ["example", "name", "words", "form", "open", "link", "file", "numbers", "mark", "text", "size", "held", "status", "go",
     "stop", "answer", "time", "said"].map((name) => [name, $(name)]));
@@ -177,6 +177,7 @@ function wordsOfCommand() {
 // ---- asking
 
 let waiting = 0;
+let late = 0;
 
 // Asks again a moment after the last change.
 function changed() {
@@ -186,10 +187,11 @@ function changed() {
 
 function ask() {
   clearTimeout(waiting);
+  clearTimeout(late);
   if (!program) return;
   const words = wordsOfCommand();
   const text = bytesOfText();
-  const late = setTimeout(() => {
+  late = setTimeout(() => {
     showStatus("running", "");
     page.stop.hidden = false;
   }, 300);
@@ -203,6 +205,7 @@ function ask() {
 }
 
 function stop() {
+  clearTimeout(late);
   program?.stop();
   page.stop.hidden = true;
   showStatus("stopped", "");
