@@ -89,7 +89,7 @@ no_record_name : (fs : List FieldTree) → RecordHolds (of_fields [] fs ∷ []) 
 no_record_name fs h = no_text h.name
 
 record_twice : (fs gs : List FieldTree) → RecordHolds (of_fields (codes "a") fs ∷ of_fields (codes "a") gs ∷ []) 1 (of_fields (codes "a") gs) → ⊥
-record_twice fs gs h = let same : 0 ≡ 1 = h.once 0 1 (codes "a") refl refl in absurd (omega arith)
+record_twice fs gs h = let same : ◌≡◌ {A = ℕ} 0 1 = h.once 0 1 (codes "a") refl refl in absurd (omega arith)
 
 no_field : RecordHolds (of_fields (codes "a") [] ∷ []) 0 (of_fields (codes "a") []) → ⊥
 no_field h = let some = h.some_field in absurd (omega arith)
@@ -102,7 +102,7 @@ no_field_name h = no_text (h.names_of_fields 0 (field [] number) (omega arith))
 
 -- the fields of all records share a space
 field_twice : RecordHolds (first ∷ with_one (codes "y") (codes "x") number ∷ []) 1 (with_one (codes "y") (codes "x") number) → ⊥
-field_twice h = let same : 0 ≡ 1 = h.fields_once 0 1 (codes "x") refl refl in absurd (omega arith)
+field_twice h = let same : ◌≡◌ {A = ℕ} 0 1 = h.fields_once 0 1 (codes "x") refl refl in absurd (omega arith)
 
 abbrev itself : RecordTree
 itself = with_one (codes "a") (codes "x") (list_type (record_type 0 []))
@@ -138,7 +138,7 @@ no_function_name : (es : List Entry) → FunctionHolds (image (head [] [] num_sh
 no_function_name es h = no_text h.name
 
 function_twice : (es : List Entry) → FunctionHolds (image (head (codes "f") [] num_shape ∷ head (codes "f") [] num_shape ∷ []) es) 1 (head (codes "f") [] num_shape) → ⊥
-function_twice es h = let same : 0 ≡ 1 = h.once 0 1 (codes "f") refl refl in absurd (omega arith)
+function_twice es h = let same : ◌≡◌ {A = ℕ} 0 1 = h.once 0 1 (codes "f") refl refl in absurd (omega arith)
 
 many_params : (es : List Entry) (ss : List ShapeTree) → length ss ≡ 17 → FunctionHolds (image (head (codes "f") ss num_shape ∷ []) es) 0 (head (codes "f") ss num_shape) → ⊥
 many_params es ss n h = let few = h.few_params in absurd (omega arith)
