@@ -1,5 +1,5 @@
 -- The steps of a call.
-use Rattle.std.proofs.Common.{◌≡◌, ◌≢◌, refl, sym, ap, subst, ◌∙◌, ℕ, zero, suc, ◌+◌, ◌*◌, ◌<◌, ◌≤◌, ◌^◌, List, length, map, Some, slice_get, arith}
+use Rattle.std.proofs.Common.{◌≡◌, ◌≢◌, refl, sym, ap, subst, ◌∙◌, ℕ, zero, suc, ◌+◌, ◌*◌, ◌<◌, ◌≤◌, ◌^◌, List, length, Some, slice_get, arith}
 use Rattle.std.proofs.Math.Nat.{mul-le-mul_right}
 use Rattle.um_tree.specs.ValueTree.{ValueTree, OutcomeTree}
 use Rattle.um_machine.specs.declared.code.Code.{Code}
@@ -8,7 +8,7 @@ use Rattle.um_vm.specs.declared.machine.Machine.{Machine}
 use Rattle.um_vm.specs.Showing.{Shows}
 use Rattle.um_verify.specs.ImageTree.{HeadTree, ImageTree}
 use Rattle.um_verify.specs.Verified.{IsVerified}
-use Rattle.um_verify.specs.Laws.{OutcomeHas, IsCall, NeverStuck, EndsSoon, EndsHaveShape}
+use Rattle.um_verify.specs.Laws.{OutcomeHas, NeverStuck, EndsSoon, EndsHaveShape}
 use Rattle.um_exec.specs.Calls.{IsCallIn, ResultHas}
 
 next_zero : (code : Code) (r : Step) → next r (runs code 0) ≡ r
