@@ -38,13 +38,7 @@ pub fn exec(
     run(alloc, image.image(), f, args, budget)
 }
 
-fn run(
-    alloc: Global,
-    image: &Image,
-    f: u32,
-    args: Values,
-    budget: u64,
-) -> Result<Outcome, NoMemory>
+fn run(alloc: Global, image: &Image, f: u32, args: Values, budget: u64) -> Result<Outcome, NoMemory>
     requires verified { IsVerified (image_tree image.now) }
     requires call { IsCallIn (image_tree image.now) f (map value_tree args.items.items) }
     requires budget { budget ≤ 10000000 }
