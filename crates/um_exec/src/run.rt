@@ -16,9 +16,9 @@ use um_vm::{Machine, Step};
 /// Calls function `f` of the image, counted from 0, on values in the order of its parameters. The call itself and each
 /// call that it makes cost one of the budget.
 ///
-/// `f` is the number of a function of the image, the values have the shapes of its parameters, and the budget is at most
-/// 10,000,000. The call ends as the machine's definition does, with a value of the result's shape, a trap or the end of
-/// the budget, and no step of it is stuck. `NoMemory` is the one error.
+/// `f` is the number of a function of the image, the values have the shapes of its parameters, and the budget is at
+/// most 10,000,000. The call ends as the machine's definition does, with a value of the result's shape, a trap or the
+/// end of the budget, and no step of it is stuck. `NoMemory` is the one error.
 ///
 /// Lists and records stand in cells, and neither calls nor lists use the host's stack. The machine is that of
 /// P. Landin, The mechanical evaluation of expressions, 1964; the instructions are this project's own.
@@ -31,7 +31,8 @@ pub fn exec(
 ) -> Result<Outcome, NoMemory>
     requires call { IsCallIn (image_tree image.now) f (map value_tree args.items.items) }
     requires budget { budget ≤ 10000000 }
-    ensures end { IfOk result (λ outcome. EndsWith (image_tree image.now).code f (map value_tree args.items.items) budget
+    ensures end { IfOk result (λ outcome. EndsWith (image_tree image.now).code f
+        (map value_tree args.items.items) budget
         (outcome_tree outcome)) }
     ensures shape { IfOk result (λ outcome. ResultHas (image_tree image.now) f (outcome_tree outcome)) }
 {
@@ -42,7 +43,8 @@ fn run(alloc: Global, image: &Image, f: u32, args: Values, budget: u64) -> Resul
     requires verified { IsVerified (image_tree image.now) }
     requires call { IsCallIn (image_tree image.now) f (map value_tree args.items.items) }
     requires budget { budget ≤ 10000000 }
-    ensures end { IfOk result (λ outcome. EndsWith (image_tree image.now).code f (map value_tree args.items.items) budget
+    ensures end { IfOk result (λ outcome. EndsWith (image_tree image.now).code f
+        (map value_tree args.items.items) budget
         (outcome_tree outcome)) }
     ensures shape { IfOk result (λ outcome. ResultHas (image_tree image.now) f (outcome_tree outcome)) }
 {
