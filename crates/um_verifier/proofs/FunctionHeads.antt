@@ -1,5 +1,5 @@
 -- One function after another: what is known, and which breaks its rules.
-use Rattle.std.proofs.Common.{◌≡◌, refl, sym, ap, subst, ◌∙◌, ℕ, zero, suc, ◌+◌, ◌<◌, ◌≤◌, ◌^◌, ◌⊎◌, inl, inr, true, false, Bool, ◌&&◌, List, [], ◌∷◌, ◌++◌, length, map, take, get_or, All, Option, Some, None, slice_get, arith}
+use Rattle.std.proofs.Common.{◌≡◌, refl, sym, ap, subst, ◌∙◌, ℕ, zero, suc, ◌+◌, ◌<◌, ◌≤◌, ◌⊎◌, inl, inr, true, false, List, [], ◌∷◌, ◌++◌, length, map, take, get_or, All, Option, Some, None, slice_get, arith}
 use Rattle.std.specs.Prelude.{vec_len, option_map, MatchOption}
 use Rattle.std.specs.List.{list_all}
 use Rattle.std.proofs.lemmas.Bool.{both_ways, cases_order, and_from, and_parts}
@@ -7,7 +7,7 @@ use Rattle.std.proofs.lemmas.List.{take_more, take_all, map_push, length-map}
 use Rattle.std.proofs.lemmas.List.Elements.{All-nil, All-cons}
 use Rattle.std.proofs.lemmas.Option.{slice_get_within, slice_get_read, get_or_from_slice_get, slice_get-get_or, slice_get-map}
 use Rattle.um_tree.specs.declared.types.Shape.{Shape}
-use Rattle.um_tree.specs.TypeTree.{ShapeTree, shape_tree}
+use Rattle.um_tree.specs.TypeTree.{shape_tree}
 use Rattle.um_tree.specs.Heights.{greatest_height}
 use Rattle.um_tree.specs.ProgramTree.{RecordTree}
 use Rattle.um_tree.specs.Formed.{IsNameBytes, AreDistinct}
@@ -17,11 +17,10 @@ use Rattle.um_machine.specs.declared.code.Entry.{Entry}
 use Rattle.um_verify.specs.declared.image.Head.{Head}
 use Rattle.um_verify.specs.StackShape.{StackShape, on_stack}
 use Rattle.um_verify.specs.ImageTree.{HeadTree, ImageTree, head_tree, IsPlainHead, Match}
-use Rattle.um_verify.specs.Heads.{record_shapes, IsShapeIn, RecordHolds, FunctionHolds, HeadHolds, IsFirstHead}
+use Rattle.um_verify.specs.Heads.{record_shapes, RecordHolds, FunctionHolds, HeadHolds, IsFirstHead}
 use Rattle.um_verify.specs.Rules.{fields_on_stack}
-use Rattle.um_verifier.specs.FlatShapes.{flat_shape, flat_shapes}
-use Rattle.um_verifier.specs.KnownImages.{known_fields, known_heights, over, admits}
-use Rattle.um_verifier.specs.Names.{AreTaken, Takes}
+use Rattle.um_verifier.specs.KnownImages.{known_fields, over, admits}
+use Rattle.um_verifier.specs.Names.{Takes}
 use Rattle.um_verifier.specs.KnownHeads.{KnowsRecords, StackSignature, known_signature, head_signature, admits_signature, TakesHeads, FindsHead, AreKnownRecords, AreKnownHeads, IsFirstRecord, IsRecordStop}
 use Rattle.um_verifier.specs.Refusals.{IsRefusal}
 use Rattle.um_verifier.specs.declared.stop.VerifyStop.{VerifyStop}

@@ -1,18 +1,16 @@
 -- An image whose heads hold is ready for its code to be looked at, by what the rules look at.
-use Rattle.std.proofs.Common.{◌≡◌, refl, sym, ap, subst, ◌∙◌, ℕ, zero, suc, ◌<◌, ◌≤◌, true, List, [], ◌∷◌, length, map, get_or, All, Option, Some, None, slice_get, arith}
+use Rattle.std.proofs.Common.{◌≡◌, refl, sym, ap, subst, ◌∙◌, ℕ, ◌<◌, List, [], ◌∷◌, length, map, get_or, Option, Some, None, slice_get, arith}
 use Rattle.std.specs.Prelude.{MatchOption}
 use Rattle.std.proofs.lemmas.List.{length-map, get_or-map}
 use Rattle.std.proofs.lemmas.Option.{slice_get-get_or}
 use Rattle.um_tree.specs.TypeTree.{bool_shape}
 use Rattle.um_machine.specs.declared.code.Entry.{Entry}
-use Rattle.um_machine.specs.declared.code.Code.{Code}
-use Rattle.um_verify.specs.StackShape.{StackShape, on_stack}
+use Rattle.um_verify.specs.StackShape.{on_stack}
 use Rattle.um_verify.specs.ImageTree.{HeadTree, ImageTree, HasForm}
-use Rattle.um_verify.specs.Heads.{record_shapes, IsShapeIn}
+use Rattle.um_verify.specs.Heads.{record_shapes}
 use Rattle.um_verify.specs.Rules.{Body, View, body_of, bodies_of, view_of, low_state}
 use Rattle.um_verify.specs.Verified.{CodeHolds, IsFirstAddress}
-use Rattle.um_verifier.specs.FlatShapes.{flat_shapes}
-use Rattle.um_verifier.specs.KnownImages.{known_body, known_bodies, known_view, known_heights}
+use Rattle.um_verifier.specs.KnownImages.{known_body, known_bodies, known_view}
 use Rattle.um_verifier.specs.States.{AreLow}
 use Rattle.um_verifier.specs.Bodies.{AreReady}
 use Rattle.um_verifier.specs.KnownHeads.{StackSignature, known_signature, head_signature, AreKnownHeads}

@@ -1,31 +1,31 @@
 -- One record after another: what is known, and which breaks its rules.
-use Rattle.std.proofs.Common.{◌≡◌, refl, sym, ap, subst, ◌∙◌, ℕ, zero, suc, ◌+◌, ◌<◌, ◌≤◌, ◌⊎◌, inl, inr, true, false, Bool, List, [], ◌∷◌, ◌++◌, length, map, take, get_or, All, Option, Some, None, slice_get, Result, Ok, arith, append-nil}
+use Rattle.std.proofs.Common.{◌≡◌, refl, sym, ap, subst, ◌∙◌, ℕ, zero, suc, ◌+◌, ◌<◌, ◌≤◌, ◌⊎◌, inl, inr, true, false, List, [], ◌∷◌, ◌++◌, length, map, take, get_or, All, Option, Some, None, slice_get, arith, append-nil}
 use Rattle.std.specs.Prelude.{vec_len, option_map, MatchOption}
-use Rattle.std.specs.List.{flat_map, list_all}
+use Rattle.std.specs.List.{list_all}
 use Rattle.std.proofs.lemmas.Bool.{both_ways, cases_order}
 use Rattle.std.proofs.lemmas.Grind.{flat_map-append}
-use Rattle.std.proofs.lemmas.List.{take_more, take_all, map-append, map_push, length-map, length-take-le, get_or-map}
+use Rattle.std.proofs.lemmas.List.{take_more, take_all, map_push, length-map, length-take-le}
 use Rattle.std.proofs.lemmas.List.Elements.{All-nil, All-cons, All-map}
 use Rattle.std.proofs.lemmas.Option.{slice_get_within, slice_get_read, get_or_from_slice_get, slice_get-map}
 use Rattle.um_tree.specs.declared.program.FieldDecl.{FieldDecl}
 use Rattle.um_tree.specs.declared.program.Record.{Record}
-use Rattle.um_tree.specs.TypeTree.{TypeTree, ShapeTree, type_tree}
+use Rattle.um_tree.specs.TypeTree.{type_tree}
 use Rattle.um_tree.specs.TreeHeights.{type_tree_height}
 use Rattle.um_tree.specs.Heights.{greatest_height}
 use Rattle.um_tree.specs.ProgramTree.{FieldTree, RecordTree, field_tree, record_tree}
 use Rattle.um_tree.specs.Typing.{field_types}
 use Rattle.um_tree.specs.Shapes.{type_shape}
-use Rattle.um_tree.specs.Formed.{IsNameBytes, AreDistinct, NamesEarlier, field_names}
-use Rattle.um_shape.specs.RecordShapes.{RecordShape, shape_height, tallest, declared_shape}
-use Rattle.um_shape.proofs.Declarations.{All-unmapped, mapped_twice}
+use Rattle.um_tree.specs.Formed.{IsNameBytes, AreDistinct, field_names}
+use Rattle.um_shape.specs.RecordShapes.{RecordShape, tallest, declared_shape}
+use Rattle.um_shape.proofs.Declarations.{All-unmapped}
 use Rattle.um_verify.specs.StackShape.{StackShape, on_stack}
-use Rattle.um_verify.specs.ImageTree.{IsPlainField, IsPlainRecord}
+use Rattle.um_verify.specs.ImageTree.{IsPlainRecord}
 use Rattle.um_verify.specs.Heads.{record_shapes, RecordHolds}
 use Rattle.um_verify.specs.Rules.{fields_on_stack}
 use Rattle.um_verifier.specs.FlatShapes.{flat_shapes}
 use Rattle.um_verifier.specs.KnownImages.{off_stack, known_shape, known_fields, known_heights, over, admits, highest}
-use Rattle.um_verifier.specs.Names.{AreTaken, Takes}
-use Rattle.um_verifier.specs.KnownHeads.{KnowsRecords, TakesRecords, IsKnownRecord, FindsRecord, AreKnownRecords, IsFirstRecord}
+use Rattle.um_verifier.specs.Names.{Takes}
+use Rattle.um_verifier.specs.KnownHeads.{KnowsRecords, TakesRecords, IsKnownRecord, FindsRecord}
 use Rattle.um_verifier.specs.declared.known.KnownRecord.{KnownRecord}
 use Rattle.um_verifier.specs.declared.known.Known.{Known}
 use Rattle.um_verifier.proofs.OverRecords.{highest_tallest, all_off_on, fields_over, over_fields, and_shapes_push}

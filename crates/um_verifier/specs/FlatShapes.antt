@@ -1,5 +1,5 @@
--- The shapes that the code keeps: so many lists round an item. This mirrors the code; the shapes that they stand for are
--- those of the rules.
+-- The shapes that the code keeps: so many lists round an item. This mirrors the code; the shapes that they stand for
+-- are those of the rules.
 -- Source: this project's own.
 use Rattle.std.specs.Prelude.{ℕ, zero, suc, List, map}
 use Rattle.um_verify.specs.StackShape.{StackShape, void, bool, num, list, made}

@@ -42,7 +42,8 @@ fn pass(
     requires address { at < end }
     requires low { IsLowMet known.now met }
     requires count { length code.now.entries ≡ length known.now.heads.items }
-    ensures flow { (body : Body) → body.end ≡ end → body.result ≡ flat_shape result_shape → IfOk result (λ f. flow_of f ≡ passed (known_view known.now code.now) body at (slice_get code.now.ops at) (met_of met)) }
+    ensures flow { (body : Body) → body.end ≡ end → body.result ≡ flat_shape result_shape → IfOk result (λ f. flow_of f
+        ≡ passed (known_view known.now code.now) body at (slice_get code.now.ops at) (met_of met)) }
     ensures stays { IfOk result (λ f. StaysIn (at + 1) end f) }
 {
     let ops = code.ops.as_slice();
@@ -87,7 +88,8 @@ pub(crate) fn verify_body(
     requires filled { entry.start < entry.end }
     requires low { AreLow known.now head.now.params.items }
     requires count { length code.now.entries ≡ length known.now.heads.items }
-    ensures { IfOk result (λ r. MatchOption r (BodyHolds (known_view known.now code.now) (known_body entry head.now)) (λ n. FirstFailure (known_view known.now code.now) (known_body entry head.now) n)) }
+    ensures { IfOk result (λ r. MatchOption r (BodyHolds (known_view known.now code.now) (known_body entry head.now))
+        (λ n. FirstFailure (known_view known.now code.now) (known_body entry head.now) n)) }
 {
     let mut table = first_table(alloc, &head.params, entry.end - entry.start)?;
     for n in 0..entry.end - entry.start {
@@ -116,7 +118,8 @@ pub(crate) fn verify_code(
     code: &Code,
 ) -> Result<Option<u32>, AllocError>
     requires ready { AreReady known.now code.now }
-    ensures { IfOk result (λ r. MatchOption r (CodeHolds (known_view known.now code.now)) (λ a. IsFirstAddress (known_view known.now code.now) a)) }
+    ensures { IfOk result (λ r. MatchOption r (CodeHolds (known_view known.now code.now))
+        (λ a. IsFirstAddress (known_view known.now code.now) a)) }
 {
     let entries = code.entries.as_slice();
     for f in 0..entries.len() {

@@ -17,8 +17,8 @@ use um_verify::Image;
 /// earlier one, or has a field that is higher than 400, and where a function has more than 16 parameters, no
 /// instruction, a shape that names no record, or one that is higher than 400.
 ///
-/// `Head` is the first of these, `Code` the first address whose rule fails where all heads hold, and `NoMemory` may come
-/// with any image. The image is handed back on none of them. The limits are this project's own; for the rules of
+/// `Head` is the first of these, `Code` the first address whose rule fails where all heads hold, and `NoMemory` may
+/// come with any image. The image is handed back on none of them. The limits are this project's own; for the rules of
 /// instructions see X. Leroy, Java bytecode verification: algorithms and formalizations, 2003.
 pub fn verify(alloc: Global, image: Image) -> Result<Verified, VerifyStop>
     requires form { HasForm (image_tree image) }

@@ -192,7 +192,8 @@ impl FlatShape {
 
     /// The shape of the items of a list of this shape, where it is a list's or that of no value.
     pub(crate) fn items(self) -> Option<FlatShape>
-        ensures { (go : StackShape → StackShape → Flow) → MatchOption result (on_list_shape (flat_shape self) go ≡ fails) (λ i. on_list_shape (flat_shape self) go ≡ go (flat_shape i) (flat_shape self)) }
+        ensures { (go : StackShape → StackShape → Flow) → MatchOption result (on_list_shape (flat_shape self) go
+            ≡ fails) (λ i. on_list_shape (flat_shape self) go ≡ go (flat_shape i) (flat_shape self)) }
     {
         if self.lists > 0 {
             return Some(FlatShape {

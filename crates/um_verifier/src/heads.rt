@@ -1,5 +1,6 @@
 //! The rules of an image's functions, before their code is looked at.
-ghost use Rattle.std.specs.Prelude.{◌≡◌, ◌≤◌, ◌&&◌, ℕ, All, true, false, map, slice_get, Some, IfOk, MatchOption, MatchResult, [], length};
+ghost use Rattle.std.specs.Prelude.{◌≡◌, ◌≤◌, ◌&&◌, ℕ, All, true, false, map, slice_get, Some, IfOk, MatchOption};
+ghost use Rattle.std.specs.Prelude.{MatchResult, [], length};
 ghost use Rattle.um_tree.specs.TypeTree.{shape_tree};
 ghost use Rattle.um_tree.specs.Heights.{greatest_height};
 ghost use Rattle.um_shape.specs.RecordShapes.{shape_height};
@@ -7,7 +8,8 @@ ghost use Rattle.um_verify.specs.StackShape.{on_stack};
 ghost use Rattle.um_verify.specs.ImageTree.{ImageTree, head_tree, image_tree, IsPlainHead, HasForm};
 ghost use Rattle.um_verify.specs.Heads.{FunctionHolds};
 ghost use Rattle.um_verifier.specs.FlatShapes.{flat_shape, flat_shapes};
-ghost use Rattle.um_verifier.specs.KnownHeads.{TakesHeads, known_signature, head_signature, admits_signature, FindsHead, AreKnownRecords, AreKnownHeads};
+ghost use Rattle.um_verifier.specs.KnownHeads.{TakesHeads, known_signature, head_signature, admits_signature};
+ghost use Rattle.um_verifier.specs.KnownHeads.{FindsHead, AreKnownRecords, AreKnownHeads};
 ghost use Rattle.um_verifier.specs.Refusals.{IsRefusal};
 
 use crate::VerifyStop;
@@ -53,7 +55,8 @@ fn signature(alloc: Global, head: &Head) -> Result<KnownHead, AllocError>
 /// The shapes of a function, where each is one over the known records.
 fn known_head(alloc: Global, known: &Known, head: &Head) -> Result<Option<KnownHead>, AllocError>
     requires plain { IsPlainHead (head_tree head.now) }
-    ensures { let s = head_signature (head_tree head.now) in IfOk result (λ found. MatchOption found (admits_signature known.now s ≡ false)
+    ensures { let s = head_signature (head_tree head.now) in IfOk result
+        (λ found. MatchOption found (admits_signature known.now s ≡ false)
         (λ h. (admits_signature known.now s ≡ true) × (known_signature h ≡ s))) }
 {
     let found = signature(alloc, head)?;
@@ -72,8 +75,10 @@ fn checked_head(
     entry: Entry,
 ) -> Result<Option<KnownHead>, AllocError>
     requires plain { IsPlainHead (head_tree head.now) }
-    ensures { (image : ImageTree) (k : ℕ) → slice_get image.heads k ≡ Some (head_tree head.now) → slice_get image.code.entries k ≡ Some entry → TakesHeads image k known.now names.old
-        → IfOk result (λ found. MatchOption found (FunctionHolds image k (head_tree head.now) → ⊥) (λ h. FindsHead image k (head_tree head.now) names.old names.new h)) }
+    ensures { (image : ImageTree) (k : ℕ) → slice_get image.heads k ≡ Some (head_tree head.now)
+        → slice_get image.code.entries k ≡ Some entry → TakesHeads image k known.now names.old
+        → IfOk result (λ found. MatchOption found (FunctionHolds image k (head_tree head.now) → ⊥)
+        (λ h. FindsHead image k (head_tree head.now) names.old names.new h)) }
 {
     if entry.end <= entry.start {
         return Ok(None);

@@ -98,14 +98,16 @@ impl Known {
 
     /// Whether both are low.
     pub(crate) fn are_low(&self, a: FlatShape, b: FlatShape) -> bool
-        ensures { result ≡ (nat_le (stack_height (known_heights self.now) (flat_shape a)) greatest_height && nat_le (stack_height (known_heights self.now) (flat_shape b)) greatest_height) }
+        ensures { result ≡ (nat_le (stack_height (known_heights self.now) (flat_shape a)) greatest_height && nat_le
+            (stack_height (known_heights self.now) (flat_shape b)) greatest_height) }
     {
         self.is_low(a) && self.is_low(b)
     }
 
     /// The shape of part `k` of a value of this shape, where it is a record's or that of no value.
     pub(crate) fn part(&self, shape: FlatShape, k: u32) -> Option<FlatShape>
-        ensures { (go : StackShape → Flow) → part_flow (known_fields self.now) (flat_shape shape) k go ≡ on_found (option_map flat_shape result) fails go }
+        ensures { (go : StackShape → Flow) → part_flow (known_fields self.now) (flat_shape shape) k go
+            ≡ on_found (option_map flat_shape result) fails go }
     {
         if shape.lists > 0 {
             return None;

@@ -1,5 +1,6 @@
 //! The rules of an image's records.
-ghost use Rattle.std.specs.Prelude.{◌≡◌, ◌≤◌, ◌<◌, ◌^◌, ◌&&◌, ℕ, All, List, true, false, length, map, take, slice_get, Some, IfOk, MatchOption};
+ghost use Rattle.std.specs.Prelude.{◌≡◌, ◌≤◌, ◌<◌, ◌^◌, ◌&&◌, ℕ, All, List, true, false, length, map, take, slice_get};
+ghost use Rattle.std.specs.Prelude.{Some, IfOk, MatchOption};
 ghost use Rattle.std.specs.Prelude.{MatchResult};
 ghost use Rattle.std.specs.List.{list_all};
 ghost use Rattle.um_tree.specs.TypeTree.{type_tree};
@@ -25,7 +26,8 @@ use um_tree::{FieldDecl, Record};
 /// The shapes of the fields' types.
 fn field_shapes(alloc: Global, fields: &[FieldDecl]) -> Result<Vec<FlatShape>, AllocError>
     requires low { All (λ f. type_tree_height (type_tree f.ty) ≤ greatest_height) fields.now }
-    ensures { IfOk result (λ shapes. flat_shapes shapes.items ≡ map (λ f. on_stack (type_shape (type_tree f.ty))) fields.now) }
+    ensures { IfOk result (λ shapes. flat_shapes shapes.items ≡ map
+        (λ f. on_stack (type_shape (type_tree f.ty))) fields.now) }
 {
     let mut shapes = Vec::new(alloc);
     for i in 0..fields.len() {
@@ -41,7 +43,8 @@ fn known_record(
     fields: &[FieldDecl],
 ) -> Result<Option<KnownRecord>, AllocError>
     requires low { All (λ f. type_tree_height (type_tree f.ty) ≤ greatest_height) fields.now }
-    ensures { let ss = map (λ f. on_stack (type_shape (type_tree f.ty))) fields.now in IfOk result (λ found. MatchOption found (list_all (admits known.now) ss ≡ false)
+    ensures { let ss = map (λ f. on_stack (type_shape (type_tree f.ty))) fields.now in IfOk result
+        (λ found. MatchOption found (list_all (admits known.now) ss ≡ false)
         (λ r. (list_all (admits known.now) ss ≡ true) × IsKnownRecord (known_heights known.now) ss r)) }
 {
     let shapes = field_shapes(alloc, fields)?;
@@ -64,9 +67,11 @@ fn checked_record(
     declared: &Record,
 ) -> Result<Option<KnownRecord>, AllocError>
     requires plain { IsPlainRecord (record_tree declared.now) }
-    ensures { (records : List RecordTree) (i : ℕ) → slice_get records i ≡ Some (record_tree declared.now) → TakesRecords (take i records) known.now names.old field_names.old
+    ensures { (records : List RecordTree) (i : ℕ) → slice_get records i ≡ Some (record_tree declared.now)
+        → TakesRecords (take i records) known.now names.old field_names.old
         → IfOk result (λ found. MatchOption found (RecordHolds records i (record_tree declared.now) → ⊥)
-        (λ r. FindsRecord records i (record_tree declared.now) known.now names.old field_names.old names.new field_names.new r)) }
+        (λ r. FindsRecord records i (record_tree declared.now) known.now names.old field_names.old names.new
+        field_names.new r)) }
 {
     let fields: &[FieldDecl] = &declared.fields.items;
     if fields.len() == 0 {
@@ -90,7 +95,8 @@ fn checked_record(
 pub(crate) fn known_records(alloc: Global, declared: &[Record]) -> Result<Known, VerifyStop>
     requires plain { All (λ d. IsPlainRecord (record_tree d)) declared.now }
     requires count { length declared.now < 2 ^ 32 }
-    ensures { MatchResult result (λ known. AreKnownRecords (map record_tree declared.now) known) (λ stop. IsRecordStop (map record_tree declared.now) stop) }
+    ensures { MatchResult result (λ known. AreKnownRecords (map record_tree declared.now) known)
+        (λ stop. IsRecordStop (map record_tree declared.now) stop) }
 {
     let mut names = NameTable::new(alloc);
     let mut field_names = NameTable::new(alloc);

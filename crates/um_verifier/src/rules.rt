@@ -1,7 +1,8 @@
 //! The rules of instructions. Each takes the state that arrives at its address, and passes it on: a state is moved, and
 //! copied only where it goes two ways.
 ghost use Rattle.std.specs.Prelude.{◌≡◌, ◌<◌, ◌+◌, ◌++◌, ◌^◌, ◌∷◌, ◌&&◌, [], ℕ, IfOk, MatchOption, option_map, length};
-ghost use Rattle.um_machine.specs.declared.op.Op.TheVariants.{Load, JumpIfNot, MakeList, Cons, Split, MakeRec, Field, Slide, Call, Ret};
+ghost use Rattle.um_machine.specs.declared.op.Op.TheVariants.{Load, JumpIfNot, MakeList, Cons, Split, MakeRec, Field};
+ghost use Rattle.um_machine.specs.declared.op.Op.TheVariants.{Slide, Call, Ret};
 ghost use Rattle.um_machine.specs.Stack.{on_found};
 ghost use Rattle.um_verify.specs.StackShape.{num, list, fits, fit_all, join_items};
 ghost use Rattle.um_verify.specs.Rules.{Body, fails, to, fit_one, fit_two, rule};
@@ -26,7 +27,8 @@ fn pushed(
 ) -> Result<Flow, AllocError>
     requires address { at + 1 < 2 ^ 32 }
     requires low { AreLow known.now state.items }
-    ensures { IfOk result (λ f. flow_of f ≡ lowered (known_heights known.now) (to (at + 1) (flat_shapes state.items ++ flat_shape shape ∷ []))) }
+    ensures { IfOk result (λ f. flow_of f ≡ lowered (known_heights known.now) (to (at + 1)
+        (flat_shapes state.items ++ flat_shape shape ∷ []))) }
 {
     if !known.is_low(shape) {
         return Ok(Flow::Fails);
@@ -48,7 +50,8 @@ pub(crate) fn load(
 ) -> Result<Flow, AllocError>
     requires address { at + 1 < 2 ^ 32 }
     requires low { AreLow known.now state.items }
-    ensures { (code : Code) (body : Body) → IfOk result (λ f. flow_of f ≡ lowered (known_heights known.now) (rule (known_view known.now code) body at (flat_shapes state.items) (Load k))) }
+    ensures { (code : Code) (body : Body) → IfOk result (λ f. flow_of f ≡ lowered (known_heights known.now) (rule
+        (known_view known.now code) body at (flat_shapes state.items) (Load k))) }
 {
     if state.len() <= k as usize {
         return Ok(Flow::Fails);
@@ -67,7 +70,8 @@ pub(crate) fn on_one(
 ) -> Result<Flow, AllocError>
     requires address { at + 1 < 2 ^ 32 }
     requires low { AreLow known.now state.items }
-    ensures { IfOk result (λ f. flow_of f ≡ lowered (known_heights known.now) (fit_one at (flat_shapes state.items) (flat_shape asked) (flat_shape given))) }
+    ensures { IfOk result (λ f. flow_of f ≡ lowered (known_heights known.now) (fit_one at (flat_shapes state.items)
+        (flat_shape asked) (flat_shape given))) }
 {
     let mut low = state;
     match low.pop() {
@@ -92,7 +96,8 @@ pub(crate) fn on_two(
 ) -> Result<Flow, AllocError>
     requires address { at + 1 < 2 ^ 32 }
     requires low { AreLow known.now state.items }
-    ensures { IfOk result (λ f. flow_of f ≡ lowered (known_heights known.now) (fit_two at (flat_shapes state.items) (flat_shape asked) (flat_shape given))) }
+    ensures { IfOk result (λ f. flow_of f ≡ lowered (known_heights known.now) (fit_two at (flat_shapes state.items)
+        (flat_shape asked) (flat_shape given))) }
 {
     let mut low = state;
     match take_two(&mut low) {
@@ -109,7 +114,8 @@ pub(crate) fn on_two(
 
 /// The two shapes on the top, the deeper first.
 fn take_two(state: &mut Vec<FlatShape>) -> Option<(FlatShape, FlatShape)>
-    ensures { MatchOption result (length state.old.items < 2) (λ p. state.old.items ≡ state.new.items ++ p.0 ∷ p.1 ∷ []) }
+    ensures { MatchOption result (length state.old.items < 2) (λ p. state.old.items
+        ≡ state.new.items ++ p.0 ∷ p.1 ∷ []) }
 {
     match state.pop() {
         None => None,
@@ -150,7 +156,8 @@ pub(crate) fn jump_if_not(
 ) -> Result<Flow, AllocError>
     requires address { at + 1 < 2 ^ 32 }
     requires low { AreLow known.now state.items }
-    ensures { (code : Code) (body : Body) → IfOk result (λ f. flow_of f ≡ lowered (known_heights known.now) (rule (known_view known.now code) body at (flat_shapes state.items) (JumpIfNot t))) }
+    ensures { (code : Code) (body : Body) → IfOk result (λ f. flow_of f ≡ lowered (known_heights known.now) (rule
+        (known_view known.now code) body at (flat_shapes state.items) (JumpIfNot t))) }
 {
     let mut low = state;
     match low.pop() {
@@ -177,7 +184,8 @@ pub(crate) fn jump_if_not(
 
 /// `Ret`
 pub(crate) fn ret(known: &Known, state: Vec<FlatShape>, result_shape: FlatShape) -> Flow
-    ensures { (code : Code) (at : ℕ) (body : Body) → body.result ≡ flat_shape result_shape → flow_of result ≡ lowered (known_heights known.now) (rule (known_view known.now code) body at (flat_shapes state.items) Ret) }
+    ensures { (code : Code) (at : ℕ) (body : Body) → body.result ≡ flat_shape result_shape → flow_of result
+        ≡ lowered (known_heights known.now) (rule (known_view known.now code) body at (flat_shapes state.items) Ret) }
 {
     let mut low = state;
     match low.pop() {
@@ -201,7 +209,8 @@ pub(crate) fn slide(
 ) -> Result<Flow, AllocError>
     requires address { at + 1 < 2 ^ 32 }
     requires low { AreLow known.now state.items }
-    ensures { (code : Code) (body : Body) → IfOk result (λ f. flow_of f ≡ lowered (known_heights known.now) (rule (known_view known.now code) body at (flat_shapes state.items) (Slide k))) }
+    ensures { (code : Code) (body : Body) → IfOk result (λ f. flow_of f ≡ lowered (known_heights known.now) (rule
+        (known_view known.now code) body at (flat_shapes state.items) (Slide k))) }
 {
     let mut low = state;
     match low.pop() {
@@ -225,7 +234,8 @@ pub(crate) fn make_list(
 ) -> Result<Flow, AllocError>
     requires address { at + 1 < 2 ^ 32 }
     requires low { AreLow known.now state.items }
-    ensures { (code : Code) (body : Body) → IfOk result (λ f. flow_of f ≡ lowered (known_heights known.now) (rule (known_view known.now code) body at (flat_shapes state.items) (MakeList n))) }
+    ensures { (code : Code) (body : Body) → IfOk result (λ f. flow_of f ≡ lowered (known_heights known.now) (rule
+        (known_view known.now code) body at (flat_shapes state.items) (MakeList n))) }
 {
     if state.len() < n as usize {
         return Ok(Flow::Fails);
@@ -262,7 +272,8 @@ fn pushed_list(
 ) -> Result<Flow, AllocError>
     requires address { at + 1 < 2 ^ 32 }
     requires low { AreLow known.now state.items }
-    ensures { IfOk result (λ f. flow_of f ≡ lowered (known_heights known.now) (on_found (option_map flat_shape item) fails (λ s. to (at + 1) (flat_shapes state.items ++ list s ∷ [])))) }
+    ensures { IfOk result (λ f. flow_of f ≡ lowered (known_heights known.now) (on_found
+        (option_map flat_shape item) fails (λ s. to (at + 1) (flat_shapes state.items ++ list s ∷ [])))) }
 {
     match item {
         None => Ok(Flow::Fails),
@@ -277,7 +288,8 @@ fn pushed_list(
 pub(crate) fn cons(known: &Known, state: Vec<FlatShape>, at: u32) -> Result<Flow, AllocError>
     requires address { at + 1 < 2 ^ 32 }
     requires low { AreLow known.now state.items }
-    ensures { (code : Code) (body : Body) → IfOk result (λ f. flow_of f ≡ lowered (known_heights known.now) (rule (known_view known.now code) body at (flat_shapes state.items) Cons)) }
+    ensures { (code : Code) (body : Body) → IfOk result (λ f. flow_of f ≡ lowered (known_heights known.now) (rule
+        (known_view known.now code) body at (flat_shapes state.items) Cons)) }
 {
     let mut low = state;
     match take_two(&mut low) {
@@ -299,7 +311,8 @@ pub(crate) fn split(
 ) -> Result<Flow, AllocError>
     requires address { at + 1 < 2 ^ 32 }
     requires low { AreLow known.now state.items }
-    ensures { (code : Code) (body : Body) → IfOk result (λ f. flow_of f ≡ lowered (known_heights known.now) (rule (known_view known.now code) body at (flat_shapes state.items) (Split t))) }
+    ensures { (code : Code) (body : Body) → IfOk result (λ f. flow_of f ≡ lowered (known_heights known.now) (rule
+        (known_view known.now code) body at (flat_shapes state.items) (Split t))) }
 {
     let mut low = state;
     match low.pop() {
@@ -337,7 +350,8 @@ pub(crate) fn field(
 ) -> Result<Flow, AllocError>
     requires address { at + 1 < 2 ^ 32 }
     requires low { AreLow known.now state.items }
-    ensures { (code : Code) (body : Body) → IfOk result (λ f. flow_of f ≡ lowered (known_heights known.now) (rule (known_view known.now code) body at (flat_shapes state.items) (Field k))) }
+    ensures { (code : Code) (body : Body) → IfOk result (λ f. flow_of f ≡ lowered (known_heights known.now) (rule
+        (known_view known.now code) body at (flat_shapes state.items) (Field k))) }
 {
     let mut low = state;
     match low.pop() {
@@ -374,7 +388,8 @@ fn on_all(
 ) -> Result<Flow, AllocError>
     requires address { at + 1 < 2 ^ 32 }
     requires low { AreLow known.now state.items }
-    ensures { IfOk result (λ f. flow_of f ≡ lowered (known_heights known.now) (fit_many at (flat_shapes state.items) (flat_shapes asked.now) (flat_shape given))) }
+    ensures { IfOk result (λ f. flow_of f ≡ lowered (known_heights known.now) (fit_many at (flat_shapes state.items)
+        (flat_shapes asked.now) (flat_shape given))) }
 {
     if state.len() < asked.len() {
         return Ok(Flow::Fails);
@@ -398,7 +413,8 @@ pub(crate) fn make_rec(
 ) -> Result<Flow, AllocError>
     requires address { at + 1 < 2 ^ 32 }
     requires low { AreLow known.now state.items }
-    ensures { (code : Code) (body : Body) → IfOk result (λ f. flow_of f ≡ lowered (known_heights known.now) (rule (known_view known.now code) body at (flat_shapes state.items) (MakeRec r n))) }
+    ensures { (code : Code) (body : Body) → IfOk result (λ f. flow_of f ≡ lowered (known_heights known.now) (rule
+        (known_view known.now code) body at (flat_shapes state.items) (MakeRec r n))) }
 {
     if known.records.len() <= r as usize {
         return Ok(Flow::Fails);
@@ -419,7 +435,9 @@ pub(crate) fn call(
 ) -> Result<Flow, AllocError>
     requires address { at + 1 < 2 ^ 32 }
     requires low { AreLow known.now state.items }
-    ensures { (code : Code) (body : Body) → length code.entries ≡ length known.now.heads.items → IfOk result (λ flow. flow_of flow ≡ lowered (known_heights known.now) (rule (known_view known.now code) body at (flat_shapes state.items) (Call f))) }
+    ensures { (code : Code) (body : Body) → length code.entries ≡ length known.now.heads.items → IfOk result
+        (λ flow. flow_of flow ≡ lowered (known_heights known.now) (rule (known_view known.now code) body at
+        (flat_shapes state.items) (Call f))) }
 {
     if known.heads.len() <= f as usize {
         return Ok(Flow::Fails);
@@ -432,7 +450,8 @@ pub(crate) fn call(
 fn push_item(known: &Known, state: Vec<FlatShape>, at: u32, item: Item) -> Result<Flow, AllocError>
     requires address { at + 1 < 2 ^ 32 }
     requires low { AreLow known.now state.items }
-    ensures { IfOk result (λ f. flow_of f ≡ lowered (known_heights known.now) (to (at + 1) (flat_shapes state.items ++ item_shape item ∷ []))) }
+    ensures { IfOk result (λ f. flow_of f ≡ lowered (known_heights known.now) (to (at + 1)
+        (flat_shapes state.items ++ item_shape item ∷ []))) }
 {
     pushed(known, state, at, FlatShape::of(item))
 }
@@ -441,7 +460,8 @@ fn push_item(known: &Known, state: Vec<FlatShape>, at: u32, item: Item) -> Resul
 fn on_item(known: &Known, state: Vec<FlatShape>, at: u32, item: Item) -> Result<Flow, AllocError>
     requires address { at + 1 < 2 ^ 32 }
     requires low { AreLow known.now state.items }
-    ensures { IfOk result (λ f. flow_of f ≡ lowered (known_heights known.now) (fit_one at (flat_shapes state.items) (item_shape item) (item_shape item))) }
+    ensures { IfOk result (λ f. flow_of f ≡ lowered (known_heights known.now) (fit_one at (flat_shapes state.items)
+        (item_shape item) (item_shape item))) }
 {
     let shape = FlatShape::of(item);
     on_one(known, state, at, shape, shape)
@@ -456,7 +476,8 @@ fn on_numbers(
 ) -> Result<Flow, AllocError>
     requires address { at + 1 < 2 ^ 32 }
     requires low { AreLow known.now state.items }
-    ensures { IfOk result (λ f. flow_of f ≡ lowered (known_heights known.now) (fit_two at (flat_shapes state.items) num (item_shape given))) }
+    ensures { IfOk result (λ f. flow_of f ≡ lowered (known_heights known.now) (fit_two at (flat_shapes state.items) num
+        (item_shape given))) }
 {
     let number = FlatShape::of(Item::Num);
     on_two(known, state, at, number, FlatShape::of(given))
@@ -473,7 +494,9 @@ pub(crate) fn rule(
 ) -> Result<Flow, AllocError>
     requires address { at + 1 < 2 ^ 32 }
     requires low { AreLow known.now state.items }
-    ensures { (code : Code) (body : Body) → length code.entries ≡ length known.now.heads.items → body.result ≡ flat_shape result_shape → IfOk result (λ f. flow_of f ≡ lowered (known_heights known.now) (rule (known_view known.now code) body at (flat_shapes state.items) op)) }
+    ensures { (code : Code) (body : Body) → length code.entries ≡ length known.now.heads.items → body.result
+        ≡ flat_shape result_shape → IfOk result (λ f. flow_of f ≡ lowered (known_heights known.now) (rule
+        (known_view known.now code) body at (flat_shapes state.items) op)) }
 {
     match op {
         Op::PushNum(_) => push_item(known, state, at, Item::Num),

@@ -32,7 +32,8 @@ fn join_all(
     old: &[FlatShape],
     new: &[FlatShape],
 ) -> Result<Option<Vec<FlatShape>>, AllocError>
-    ensures { IfOk result (λ r. option_map (λ v. flat_shapes v.items) r ≡ join_all (flat_shapes old.now) (flat_shapes new.now)) }
+    ensures { IfOk result (λ r. option_map (λ v. flat_shapes v.items) r ≡ join_all (flat_shapes old.now)
+        (flat_shapes new.now)) }
 {
     if old.len() != new.len() {
         return Ok(None);
@@ -70,7 +71,8 @@ fn arrive(
 ) -> Result<(), AllocError>
     requires { place < vec_len table.old }
     ensures length { OnOk result (vec_len table.new ≡ vec_len table.old) }
-    ensures place { OnOk result (met_at table.new.items place ≡ merge (met_at table.old.items place) (flat_shapes state.items)) }
+    ensures place { OnOk result (met_at table.new.items place ≡ merge (met_at table.old.items place)
+        (flat_shapes state.items)) }
     ensures others { OnOk result ((t : ℕ) → t ≢ place → met_at table.new.items t ≡ met_at table.old.items t) }
 {
     let met = merged(alloc, &table[place], state)?;
@@ -112,7 +114,8 @@ pub(crate) fn send(
 ) -> Result<(), AllocError>
     requires { StaysIn start (start + vec_len table.old) flow }
     ensures length { OnOk result (vec_len table.new ≡ vec_len table.old) }
-    ensures gathered { OnOk result ((t : ℕ) → met_at table.new.items t ≡ sends (met_at table.old.items t) (flow_of flow) (start + t)) }
+    ensures gathered { OnOk result ((t : ℕ) → met_at table.new.items t ≡ sends (met_at table.old.items t) (flow_of flow)
+        (start + t)) }
 {
     match flow {
         Flow::Fails => Ok(()),

@@ -6,6 +6,7 @@ use Rattle.um_tree.specs.ValueTree.{budget_outcome}
 use Rattle.um_tree.specs.ProgramTree.{RecordTree}
 use Rattle.um_tree.specs.TypeTree.{ShapeTree}
 use Rattle.um_tree.specs.InputType.{ValueHas, ValuesHave}
+use Rattle.um_machine.specs.declared.code.Entry.{Entry}
 use Rattle.um_machine.specs.Machine.{done, stuck, Runs, EndsWith}
 use Rattle.um_verify.specs.StackShape.{StackShape, fits, join}
 use Rattle.um_verify.specs.ImageTree.{HeadTree, ImageTree}
@@ -35,12 +36,25 @@ RunsEnd =
     IsVerified image → IsCall image f head vs →
     (o : OutcomeTree) × EndsWith image.code f vs b o × OutcomeHas image.records o head.result
 
--- in at most as many steps as the budget times one more than the instructions
+-- after as many steps as the budget times one more than the instructions it has ended
 abbrev pub EndsSoon : Type 0
 EndsSoon =
-    (image : ImageTree) (f : ℕ) (head : HeadTree) (vs : List ValueTree) (b : ℕ) →
-    IsVerified image → IsCall image f head vs →
-    (n : ℕ) × (n ≤ b * (length image.code.ops + 1)) × (o : OutcomeTree) × (Runs image.code f vs b n ≡ done o)
+    (image : ImageTree) (f : ℕ) (head : HeadTree) (vs : List ValueTree) (b n : ℕ) →
+    IsVerified image → IsCall image f head vs → b * (length image.code.ops + 1) ≤ n →
+    (o : OutcomeTree) × (Runs image.code f vs b n ≡ done o)
+
+-- and a value with which it ends has the result's shape
+abbrev pub EndsHaveShape : Type 0
+EndsHaveShape =
+    (image : ImageTree) (f : ℕ) (head : HeadTree) (vs : List ValueTree) (b n : ℕ) (o : OutcomeTree) →
+    IsVerified image → IsCall image f head vs → Runs image.code f vs b n ≡ done o →
+    OutcomeHas image.records o head.result
+
+-- the code has an entry for the call, which takes as many values
+abbrev pub CallsHaveEntries : Type 0
+CallsHaveEntries =
+    (image : ImageTree) (f : ℕ) (head : HeadTree) (vs : List ValueTree) → IsVerified image → IsCall image f head vs →
+    (e : Entry) × (slice_get image.code.entries f ≡ Some e) × (length vs ≡ e.params)
 
 -- the join of two shapes is the least that both fit
 abbrev pub JoinIsLeast : Type 0

@@ -16,8 +16,8 @@ returns-in-None-clause-verified c =
       code = code_holds image known c.in_ok-known.ensures c.in_ok-verify_code.field-0 c.in-None.is c.in_ok-verify_code.ensures;
     }
 
-pub returns-in-Some-clause-refused : goal.returns-in-Some-clause-refused
-returns-in-Some-clause-refused c =
+pub returns-clause-refused : goal.returns-clause-refused
+returns-clause-refused c =
     let image = image_tree c.args.image.now in
     let known = c.in_ok-known.known in
     (all_heads image known c.in_ok-known.ensures, code_fails image known c.in_ok-known.ensures c.in_ok-verify_code.field-0 c.in-Some.at c.in-Some.is c.in_ok-verify_code.ensures)

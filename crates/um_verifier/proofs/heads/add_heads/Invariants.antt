@@ -1,4 +1,3 @@
-use Rattle.std.proofs.Common.{◌≡◌}
 use Rattle.um_verify.specs.ImageTree.{image_tree}
 use Rattle.um_verifier.specs.KnownHeads.{TakesHeads}
 use Rattle.um_verifier.proofs.FunctionHeads.{HoldBefore}

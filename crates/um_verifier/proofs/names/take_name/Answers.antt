@@ -1,4 +1,4 @@
-use Rattle.std.proofs.Common.{◌≡◌, ◌∷◌, [], ℕ, List, true, false, sym, ap, subst, ◌∙◌}
+use Rattle.std.proofs.Common.{◌∷◌, [], ℕ, List, true, sym, ap, subst, ◌∙◌}
 use Rattle.um_measures.specs.Known.{is_among}
 use Rattle.um_verifier.specs.Names.{Takes}
 use Rattle.um_verifier.proofs.TakenNames.{was_taken, is_taken}

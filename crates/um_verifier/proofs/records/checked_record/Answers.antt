@@ -5,7 +5,7 @@ use Rattle.std.proofs.lemmas.List.{length-map}
 use Rattle.std.proofs.lemmas.Result.{IfOk-weaker}
 use Rattle.um_tree.specs.declared.program.FieldDecl.{FieldDecl}
 use Rattle.um_tree.specs.TypeTree.{type_tree}
-use Rattle.um_tree.specs.ProgramTree.{FieldTree, field_tree, record_tree}
+use Rattle.um_tree.specs.ProgramTree.{field_tree, record_tree}
 use Rattle.um_tree.specs.Shapes.{type_shape}
 use Rattle.um_verify.specs.StackShape.{on_stack}
 use Rattle.um_verifier.specs.KnownImages.{known_heights, admits}

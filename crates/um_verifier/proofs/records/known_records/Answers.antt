@@ -1,12 +1,11 @@
-use Rattle.std.proofs.Common.{◌≡◌, ◌≤◌, ◌∷◌, ◌++◌, List, [], length, Option, Result, ap, subst, ◌∙◌, arith}
+use Rattle.std.proofs.Common.{◌≤◌, length, Option, Result, subst, arith}
 use Rattle.std.specs.Prelude.{IfOk}
 use Rattle.std.specs.declared.alloc.AllocError.{AllocError}
 use Rattle.std.proofs.lemmas.List.{length-map}
-use Rattle.um_tree.specs.declared.program.Record.{Record}
 use Rattle.um_tree.specs.ProgramTree.{record_tree}
 use Rattle.um_verifier.specs.declared.known.KnownRecord.{KnownRecord}
 use Rattle.um_verifier.specs.declared.known.Known.{Known}
-use Rattle.um_verifier.proofs.RecordHeads.{RecordFound, trees, tree_there, is_first, is_found, hold_next, takes_next, all_hold, whole_takes, none_take}
+use Rattle.um_verifier.proofs.RecordHeads.{RecordFound, trees, tree_there, is_first, is_found, hold_next, takes_next, all_hold, whole_takes}
 use Rattle.um_verifier.proofs.records.known_records.Goals as goal
 
 pub returns-in-None : goal.returns-in-None
