@@ -20,3 +20,5 @@ mod Spelled
 mod ReadLaws
 mod ImagesAsParts
 mod Loops
+mod Mapped
+mod FractionParts
