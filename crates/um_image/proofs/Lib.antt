@@ -22,3 +22,4 @@ mod ImagesAsParts
 mod Loops
 mod Mapped
 mod FractionParts
+mod Decoded

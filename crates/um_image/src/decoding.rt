@@ -42,6 +42,7 @@ pub fn decode(alloc: Global, bytes: &[u8]) -> Result<Image, DecodeStop>
     }
 }
 
+#[tactic(auto, unfolding(crate::specs::Reading::image_at))]
 fn read_image(alloc: Global, bytes: &[u8]) -> Result<Image, ReadStop>
     requires { length bytes.now ≤ 16777216 }
     ensures { IsImageRead result (image_at bytes.now) }
