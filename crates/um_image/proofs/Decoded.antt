@@ -1,6 +1,5 @@
 -- What `decode` answers, by what reading gives.
 use Rattle.std.proofs.Common.{◌≡◌, refl, sym, subst, ap, ◌∙◌, ℕ, ◌+◌, ◌-◌, ◌<◌, ◌≤◌, List, [], ◌∷◌, ◌++◌, length, map, All, Result, Ok, Err, arith}
-use Rattle.std.proofs.lemmas.List.{length-append}
 use Rattle.um_tree.specs.declared.program.Records.{Records}
 use Rattle.um_tree.specs.ProgramTree.{RecordTree, record_tree}
 use Rattle.um_verify.specs.declared.image.Image.{Image}
@@ -12,7 +11,7 @@ use Rattle.um_image.specs.Encoding.{Item, written, spell, FunctionPart, ImagePar
 use Rattle.um_image.specs.Places.{PartsFit, IsWritten, IsBadAt, IsWritable}
 use Rattle.um_image.specs.Reading.{◌>>=◌, Fails, letters_at, records_at, last_functions_at, image_at}
 use Rattle.um_image.specs.FunctionsRead.{Holds, image_of_parts, kept_image}
-use Rattle.um_image.proofs.Formats.{IsBytes, bytes_behind, not_both, IsFormat, item_format}
+use Rattle.um_image.proofs.Formats.{IsBytes, bytes_behind, not_both, IsFormat, item_format, rest_of}
 use Rattle.um_image.proofs.ItemFormats.{own_bytes, AreLetters, letters_item}
 use Rattle.um_image.proofs.PartFormats.{with_functions, AreCounted, records_format}
 use Rattle.um_image.proofs.ReadLaws.{read_takes, read_again, read_refused, refused_there, is_bytes}
@@ -26,13 +25,6 @@ same_parts : (r : Result ImageParts ℕ) (p q : ImageParts) → r ≡ Ok p → r
 same_parts r p q e f = ap (value_or p) (sym e ∙ f)
 
 -- ---- reading part by part
-
--- what is left is no longer, and is bytes
-pub rest_of : {A : Type 0} (read : List ℕ → Result (A × List ℕ) ℕ) (items : A → List Item) (Fits : A → Type 0) → IsFormat read items Fits → (bytes : List ℕ) (x : A) (rest : List ℕ) → IsBytes bytes → read bytes ≡ Ok (x, rest) → (length rest ≤ length bytes) × IsBytes rest
-rest_of read items Fits h bytes x rest b e =
-    let t = h.takes bytes x rest b e in
-    let sum = ap (λ (s : List ℕ). length s) t.2 ∙ length-append (spell (items x)) rest in
-    (omega arith, bytes_behind (spell (items x)) rest bytes t.2 b)
 
 module _ (bytes letters behind : List ℕ) (rs : List RecordTree) (rest : List ℕ) (first : letters_at bytes ≡ Ok (letters, behind)) (second : records_at behind ≡ Ok (rs, rest)) where
   image_by : image_at bytes ≡ (last_functions_at rest >>= λ fs. Ok (with_functions rs fs))

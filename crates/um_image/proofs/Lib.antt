@@ -23,3 +23,4 @@ mod Loops
 mod Mapped
 mod FractionParts
 mod Decoded
+mod FunctionLoops

@@ -165,7 +165,7 @@ pub ops_format : IsFormat ops_at (counted_items op_items) (AreCounted OpFits)
 unfolding ops_at
 ops_format = counted_format op_at op_items OpFits op_format
 
-abbrev with_ops : HeadTree → List Op → FunctionPart
+abbrev pub with_ops : HeadTree → List Op → FunctionPart
 with_ops h ops = record { head = h; ops = ops }
 
 pub function_line : (f : FunctionPart) → function_items f ≡ head_items f.head ++ counted_items op_items f.ops

@@ -8,7 +8,7 @@ use Rattle.um_image.proofs.item.fraction_of.Goals as goal
 
 -- a number of 64 bits as it stands in 128
 wide : (z : ℤ) → FitsSigned w64 z → to_z w128 (of_z w128 (to_z w64 (of_z w64 z))) ≡ z
-wide z f = ap (λ (y : ℤ). to_z w128 (of_z w128 y)) (to_z-of_z f) ∙ to_z-of_z (sfits_widen tt f)
+wide z f = ap (λ (y : ℤ). to_z w128 (of_z w128 y)) (to_z-of_z f) ∙ to_z-of_z {w = w128} (sfits_widen {w = w64} {w' = w128} (tt {0}) f)
 
 pub returns-then-has_parts : goal.returns-then-has_parts
 returns-then-has_parts c =
