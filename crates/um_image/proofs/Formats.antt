@@ -2,7 +2,7 @@
 -- item goes on.
 use Rattle.std.proofs.Common.{◌≡◌, ◌≢◌, refl, sym, subst, ap, ◌∙◌, ℕ, zero, suc, ◌+◌, ◌<◌, ◌≤◌, ◌⊎◌, inl, inr, List, [], ◌∷◌, ◌++◌, length, get_or, drop, take, Result, Ok, Err, arith, append_assoc}
 use Rattle.std.specs.List.{flat_map, AllByRecursion}
-use Rattle.std.proofs.lemmas.List.{append-nil, append_cancel_left, drop_at, get_or-drop}
+use Rattle.std.proofs.lemmas.List.{append-nil, append_cancel_left, drop_at, get_or-drop, length-append}
 use Rattle.um_image.specs.Encoding.{Item, written, forbidden, spell}
 use Rattle.um_image.specs.Places.{IsWritten}
 use Rattle.um_image.specs.Reading.{◌>>=◌, many_at}
@@ -126,6 +126,13 @@ pub record IsFormat {A : Type 0} (read : List ℕ → Result (A × List ℕ) ℕ
   pub stuck : (x : A) (front others : List Item) (rest : List ℕ) → IsBytes rest → Fits x → IsWritten front → items x ≡ front ++ others → others ≢ [] → NoMore items Fits front rest → read (spell front ++ rest) ≡ Err (length rest)
   pub some : A
   pub some_fits : Fits some
+
+-- what is left is no longer, and is bytes
+pub rest_of : {A : Type 0} (read : List ℕ → Result (A × List ℕ) ℕ) (items : A → List Item) (Fits : A → Type 0) → IsFormat read items Fits → (bytes : List ℕ) (x : A) (rest : List ℕ) → IsBytes bytes → read bytes ≡ Ok (x, rest) → (length rest ≤ length bytes) × IsBytes rest
+rest_of read items Fits h bytes x rest b e =
+    let t = h.takes bytes x rest b e in
+    let sum = ap (λ (s : List ℕ). length s) t.2 ∙ length-append (spell (items x)) rest in
+    (omega arith, bytes_behind (spell (items x)) rest bytes t.2 b)
 
 -- ---- a thing that is one item
 

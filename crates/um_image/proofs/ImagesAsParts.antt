@@ -27,7 +27,7 @@ use Rattle.um_image.proofs.Added.{match_lengths, follow_up}
 abbrev heads_of : List FunctionPart → List HeadTree
 heads_of fs = map (λ f. f.head) fs
 
-abbrev ops_of : List FunctionPart → List Op
+abbrev pub ops_of : List FunctionPart → List Op
 ops_of fs = flat_map (λ f. f.ops) fs
 
 own_back : (before own rest : List Op) (e : Entry) → e.start ≡ length before → e.end ≡ length before + length own → own_ops (before ++ (own ++ rest)) e ≡ own

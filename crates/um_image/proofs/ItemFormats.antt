@@ -1,5 +1,5 @@
 -- The formats of single items: numbers, letters, the bytes of a name, powers, truth values and fractions.
-use Rattle.std.proofs.Common.{◌≡◌, refl, sym, subst, ap, ◌∙◌, ℕ, zero, suc, ◌+◌, ◌^◌, ◌<◌, ◌≤◌, inl, inr, ℤ, pos, Bool, true, false, cond, ltb, List, [], ◌∷◌, ◌++◌, length, get_or, take, drop, replicate, codes, Option, Some, None, Result, Ok, Err, arith, FitsSigned, w32, w64, to_z, of_z}
+use Rattle.std.proofs.Common.{◌≡◌, refl, sym, subst, ap, ◌∙◌, ℕ, zero, suc, ◌+◌, ◌^◌, ◌<◌, ◌≤◌, inl, inr, ℤ, pos, Bool, true, false, cond, ltb, List, [], ◌∷◌, ◌++◌, length, get_or, take, drop, replicate, codes, Option, Some, None, Result, Ok, Err, arith, FitsSigned, Fits, w32, w64, to_z, of_z}
 use Rattle.std.specs.Int.{to_be_bytes, from_be_bytes}
 use Rattle.std.specs.Str.{bytes_eq}
 use Rattle.std.proofs.Math.Facts.{sfits_to_z, of_z-to_z, to_z-of_z, Fits-of_z, Fits-of_lt, Fits-lt-pow}
@@ -110,11 +110,12 @@ power_sized : IsSized 4 power_of power_bytes (λ k. FitsSigned w32 k)
 power_sized = record {
   back = λ bytes k b len e. let is : to_z w32 (from_be_bytes w32 bytes) ≡ k = some_is (to_z w32 (from_be_bytes w32 bytes)) k e in
     let below : from_be_bytes w32 bytes < 2 ^ 32 = four_below bytes b in
-    (subst (λ (z : ℤ). FitsSigned w32 z) is (sfits_to_z (Fits-of_lt below)), ap (λ (z : ℤ). power_bytes z) (sym is) ∙ ap (λ (m : ℕ). to_be_bytes w32 m) (of_z-to_z (Fits-of_lt below)) ∙ be_bytes_4 bytes (from_be_bytes w32 bytes) len b refl);
+    let fits : Fits w32 (from_be_bytes w32 bytes) = Fits-of_lt below in
+    (subst (λ (z : ℤ). FitsSigned w32 z) is (sfits_to_z {n = from_be_bytes w32 bytes} fits), ap (λ (z : ℤ). power_bytes z) (sym is) ∙ ap (λ (m : ℕ). to_be_bytes w32 m) (of_z-to_z {w = w32} {n = from_be_bytes w32 bytes} fits) ∙ be_bytes_4 bytes (from_be_bytes w32 bytes) len b refl);
   len = λ k f. refl;
   means = λ k f. ap (λ (m : ℕ). Some (to_z w32 m)) (from_be_bytes-to_be_bytes_4 (of_z w32 k) (Fits-lt-pow (Fits-of_z f))) ∙ ap (λ (z : ℤ). Some z) (to_z-of_z f);
   one = to_z w32 0;
-  one_fits = sfits_to_z (Fits-of_lt (omega arith));
+  one_fits = sfits_to_z {n = 0} (Fits-of_lt (omega arith));
 }
 
 pub power_item : IsItem power_at power_bytes (λ k. FitsSigned w32 k)
@@ -216,7 +217,7 @@ truth_item = record {
 long_back : (bytes : List ℕ) → IsBytes bytes → length bytes ≡ 8 → long_bytes (long_of bytes) ≡ bytes
 long_back bytes b len =
     let below : from_be_bytes w64 bytes < 2 ^ 64 = omega (arith, b 0, b 1, b 2, b 3, b 4, b 5, b 6, b 7) in
-    ap (λ (m : ℕ). to_be_bytes w64 m) (of_z-to_z (Fits-of_lt below)) ∙ be_bytes_8 bytes (from_be_bytes w64 bytes) len b refl
+    ap (λ (m : ℕ). to_be_bytes w64 m) (of_z-to_z {w = w64} {n = from_be_bytes w64 bytes} (Fits-of_lt below)) ∙ be_bytes_8 bytes (from_be_bytes w64 bytes) len b refl
 
 long_again : (z : ℤ) → FitsSigned w64 z → long_of (long_bytes z) ≡ z
 long_again z f = ap (λ (m : ℕ). to_z w64 m) (from_be_bytes-to_be_bytes_8 (of_z w64 z) (Fits-lt-pow (Fits-of_z f))) ∙ to_z-of_z f

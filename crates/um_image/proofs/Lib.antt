@@ -20,3 +20,7 @@ mod Spelled
 mod ReadLaws
 mod ImagesAsParts
 mod Loops
+mod Mapped
+mod FractionParts
+mod Decoded
+mod FunctionLoops

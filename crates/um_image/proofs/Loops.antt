@@ -3,7 +3,8 @@ use Rattle.std.proofs.Common.{◌≡◌, refl, sym, ap, ◌∙◌, ℕ, suc, ◌
 use Rattle.std.proofs.lemmas.List.{append-nil}
 use Rattle.um_image.specs.declared.stop.ReadStop.{ReadStop}
 use Rattle.um_image.specs.declared.stop.ReadStop.TheVariants as stop
-use Rattle.um_image.specs.Reading.{◌>>=◌, Fails, many_at, with_front}
+use Rattle.um_image.specs.Reading.{◌>>=◌, Fails, number_at, many_at, with_front}
+use Rattle.um_image.proofs.Formats.{gave, same_gift, bind_done, bind_failed}
 
 module _ {A : Type 0} (read : List ℕ → Result (A × List ℕ) ℕ) where
   -- what is still read behind these comes to this
@@ -39,3 +40,34 @@ module _ {A : Type 0} (read : List ℕ → Result (A × List ℕ) ℕ) where
 pub front_of_none : {A : Type 0} (r : Result (List A × List ℕ) ℕ) → with_front [] r ≡ r
 front_of_none (Ok xs) = refl
 front_of_none (Err l) = refl
+
+pub front_ok : {A : Type 0} (front : List A) (r : Result (List A × List ℕ) ℕ) (ys : List A) (rest : List ℕ) → with_front front r ≡ Ok (ys, rest) → (xs : List A) × (r ≡ Ok (xs, rest)) × (ys ≡ front ++ xs)
+front_ok front (Ok xs) ys rest e = let s = same_gift (front ++ xs.0) ys xs.1 rest e in (xs.0, (λ i. gave xs.0 (s.1 i)), sym s.0)
+front_ok front (Err l) ys rest e = absurd cc
+
+pub front_fails : {A : Type 0} (front : List A) (r : Result (List A × List ℕ) ℕ) (e : ReadStop) → Fails e (with_front front r) → Fails e r
+front_fails front r stop.NoMemory h = tt
+front_fails front (Ok xs) (stop.Bad left) h = absurd cc
+front_fails front (Err l) (stop.Bad left) h = cc
+
+-- what fails first, fails
+pub first_fails : {A B : Type 0} (r : Result A ℕ) (f : A → Result B ℕ) (e : ReadStop) → Fails e r → Fails e (r >>= f)
+first_fails r f stop.NoMemory h = tt
+first_fails {A} {B} r f (stop.Bad left) h = bind_failed {A} {B} r f left h
+
+pub fails_same : {A : Type 0} (r q : Result A ℕ) (e : ReadStop) → r ≡ q → Fails e q → Fails e r
+fails_same r q stop.NoMemory e h = tt
+fails_same r q (stop.Bad left) e h = e ∙ h
+
+module _ {A : Type 0} (read : List ℕ → Result (A × List ℕ) ℕ) (bytes : List ℕ) (n : ℕ) (behind : List ℕ) (count : number_at bytes ≡ Ok (n, behind)) (front : List A) (none : front ≡ []) where
+  abbrev counted : Result (List A × List ℕ) ℕ
+  counted = number_at bytes >>= λ m. many_at read m.0 m.1
+
+  counted_is : counted ≡ with_front front (many_at read n behind)
+  counted_is = bind_done (number_at bytes) (λ m. many_at read m.0 m.1) (n, behind) count ∙ sym (front_of_none (many_at read n behind)) ∙ ap (λ (xs : List A). with_front xs (many_at read n behind)) (sym none)
+
+  pub counted_done : (p : List A × List ℕ) → with_front front (many_at read n behind) ≡ Ok p → counted ≡ Ok p
+  counted_done p e = counted_is ∙ e
+
+  pub counted_fails : (e : ReadStop) → Fails e (with_front front (many_at read n behind)) → Fails e counted
+  counted_fails e h = fails_same counted (with_front front (many_at read n behind)) e counted_is h

@@ -165,10 +165,10 @@ pub ops_format : IsFormat ops_at (counted_items op_items) (AreCounted OpFits)
 unfolding ops_at
 ops_format = counted_format op_at op_items OpFits op_format
 
-abbrev with_ops : HeadTree → List Op → FunctionPart
+abbrev pub with_ops : HeadTree → List Op → FunctionPart
 with_ops h ops = record { head = h; ops = ops }
 
-function_line : (f : FunctionPart) → function_items f ≡ head_items f.head ++ counted_items op_items f.ops
+pub function_line : (f : FunctionPart) → function_items f ≡ head_items f.head ++ counted_items op_items f.ops
 function_line f = ap (λ (is : List Item). name_items f.head.name ++ is) (sym (append_assoc (counted_items low_shape_items f.head.params) (low_shape_items f.head.result) (counted_items op_items f.ops)))
 
 function_joined : (h : HeadTree) (ops : List Op) → HeadFits h → AreCounted OpFits ops → FunctionFits (with_ops h ops)
@@ -200,7 +200,7 @@ functions_format = counted_format function_at function_items FunctionFits functi
 
 -- ---- images
 
-abbrev with_functions : List RecordTree → List FunctionPart → ImageParts
+abbrev pub with_functions : List RecordTree → List FunctionPart → ImageParts
 with_functions rs fs = record { records = rs; functions = fs }
 
 abbrev letters_items : List ℕ → List Item
@@ -224,7 +224,7 @@ letters_split = record {
   joined = λ letters p e f. (record { count = f.0.0; records = All-from_recursion RecordFits p.records f.0.1; functions_count = f.1.0; functions = All-from_recursion FunctionFits p.functions f.1.1 }, ap (λ (t : List ℕ). letters_items t ++ behind_letters p) (sym e));
 }
 
-abbrev records_behind : List ℕ → List ℕ → Result (ImageParts × List ℕ) ℕ
+abbrev pub records_behind : List ℕ → List ℕ → Result (ImageParts × List ℕ) ℕ
 records_behind letters bytes = records_at bytes >>= λ rs. made_at functions_at (with_functions rs.0) rs.1
 
 abbrev pub parts_at : List ℕ → Result (ImageParts × List ℕ) ℕ

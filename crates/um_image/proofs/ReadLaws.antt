@@ -2,6 +2,7 @@
 use Rattle.std.proofs.Common.{◌≡◌, ◌≢◌, refl, sym, subst, ap, ◌∙◌, ℕ, zero, suc, ◌+◌, ◌-◌, ◌<◌, ◌≤◌, ◌==◌, Bool, true, false, cond, List, [], ◌∷◌, ◌++◌, length, get_or, All, inl, inr, Result, Ok, Err, arith, append_assoc}
 use Rattle.std.proofs.lemmas.Bool.{cases_lt, eqb-true}
 use Rattle.std.proofs.lemmas.List.{append-nil, length-append, nil_from_length, get_or_past}
+use Rattle.std.proofs.Math.Dec.{eqb-suc-zero}
 use Rattle.um_tree.specs.ProgramTree.{RecordTree}
 use Rattle.um_image.specs.Encoding.{Item, written, spell, FunctionPart, ImageParts, parts_items}
 use Rattle.um_image.specs.Places.{PartsFit, IsWritten, BeginsImage, IsBadAt}
@@ -103,6 +104,10 @@ test_failed : (t : Bool) (q : ImageParts) (n left : ℕ) → cond t (Ok q) (Err 
 test_failed true q n left e = absurd cc
 test_failed false q n left e = (refl, cc)
 
+tested : (rest : List ℕ) → (length rest == 0) ≡ false → rest ≡ [] → ⊥
+tested [] e n = cc
+tested (x ∷ rest) e n = cc
+
 pub read_refused : (bytes : List ℕ) (left : ℕ) → IsBytes bytes → image_at bytes ≡ Err left → IsBadAt bytes (length bytes - left) × (left ≤ length bytes)
 read_refused bytes left b e = by (parts_at bytes) refl (sym (image_is bytes) ∙ e) where
   by : (r : Result (ImageParts × List ℕ) ℕ) → parts_at bytes ≡ r → whole (parts_at bytes) ≡ Err left → IsBadAt bytes (length bytes - left) × (left ≤ length bytes)
@@ -114,10 +119,6 @@ read_refused bytes left b e = by (parts_at bytes) refl (sym (image_is bytes) ∙
       let t = test_failed (length rest == 0) p (length rest) left (sym (ap whole q) ∙ w) in
       let some : rest ≢ [] = λ none. tested rest t.0 none in
       subst (λ (n : ℕ). IsBadAt bytes (length bytes - n) × (n ≤ length bytes)) t.1 (end_place bytes p rest b q some)
-    where
-    tested : (rest : List ℕ) → (length rest == 0) ≡ false → rest ≡ [] → ⊥
-    tested [] e n = absurd cc
-    tested (x ∷ rest) e n = absurd cc
 
 pub refused_there : (bytes : List ℕ) (a : ℕ) → IsBytes bytes → IsBadAt bytes a → (left : ℕ) × (image_at bytes ≡ Err left) × (length bytes ≡ a + left)
 refused_there bytes a b h = by h.begins.others h.begins.begins where
@@ -127,7 +128,7 @@ refused_there bytes a b h = by h.begins.others h.begins.begins where
   failed e = (length h.rest, image_is bytes ∙ ap whole (ap parts_at h.cut ∙ e), length_left bytes h.front h.rest (length h.rest) h.cut refl ∙ ap (λ (n : ℕ). n + length h.rest) (sym h.place))
   some_rest : (rest : List ℕ) → rest ≢ [] → cond (length rest == 0) (Ok p) (Err (length rest)) ≡ Err (length rest)
   some_rest [] n = absurd (n refl)
-  some_rest (x ∷ rest) n = refl
+  some_rest (x ∷ rest) n = ap (λ (b : Bool). cond b (Ok p) (Err (suc (length rest)))) (eqb-suc-zero (length rest))
   by : (others : List Item) → parts_items p ≡ h.front ++ others → (left : ℕ) × (image_at bytes ≡ Err left) × (length bytes ≡ a + left)
   by [] e =
       let all : parts_items p ≡ h.front = e ∙ append-nil h.front in

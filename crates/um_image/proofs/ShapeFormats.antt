@@ -1,15 +1,16 @@
 -- The formats of names and of shapes.
-use Rattle.std.proofs.Common.{◌≡◌, ◌≢◌, refl, sym, subst, ap, ◌∙◌, ℕ, zero, suc, ◌^◌, ◌<◌, List, [], ◌∷◌, ◌++◌, length, Result, Ok, Err, arith}
+use Rattle.std.proofs.Common.{◌≡◌, ◌≢◌, refl, sym, subst, ap, ◌∙◌, ℕ, zero, suc, ◌-◌, ◌^◌, ◌<◌, Bool, cond, List, [], ◌∷◌, ◌++◌, length, Result, Ok, Err, arith}
+use Rattle.std.proofs.Math.Dec.{eqb-suc-zero}
 use Rattle.um_tree.specs.TypeTree.{ShapeTree, bool_shape, num_shape, list_shape, record_shape}
 use Rattle.um_tree.specs.Heights.{greatest_height}
 use Rattle.um_image.specs.Encoding.{Item, written, forbidden, spell, four_bytes, name_items, shape_items, low_shape_items}
 use Rattle.um_image.specs.Places.{IsWritten, ShapeFits}
-use Rattle.um_image.specs.Reading.{◌>>=◌, number_at, text_at, name_at, shape_by, shape_at, low_shape_at}
+use Rattle.um_image.specs.Reading.{◌>>=◌, number_at, text_at, name_at, shape_at, low_shape_at}
 use Rattle.um_image.proofs.Formats.{IsBytes, gave, same_gift, same_left, right_nil, NoMore, IsStop, IsFormat, IsItem, item_format, done_format, Made, made_at, made_format}
 use Rattle.um_image.proofs.Chains.{Splits, chain, chain_format}
 use Rattle.um_image.proofs.ItemFormats.{own_bytes, HasLength, number_item, text_item}
 
-pub format_same : {A : Type 0} (r q : List ℕ → Result (A × List ℕ) ℕ) (items : A → List Item) (Fits : A → Type 0) → ((bytes : List ℕ) → r bytes ≡ q bytes) → IsFormat r items Fits → IsFormat q items Fits
+format_same : {A : Type 0} (r q : List ℕ → Result (A × List ℕ) ℕ) (items : A → List Item) (Fits : A → Type 0) → ((bytes : List ℕ) → r bytes ≡ q bytes) → IsFormat r items Fits → IsFormat q items Fits
 format_same {A} r q items Fits e h = subst (λ (s : List ℕ → Result (A × List ℕ) ℕ). IsFormat s items Fits) (λ i bytes. e bytes i) h
 
 abbrev pub number_items : ℕ → List Item
@@ -101,14 +102,29 @@ behind_tag items (suc zero) bytes = Ok (num_shape, bytes)
 behind_tag items (suc (suc zero)) bytes = made_at items list_shape bytes
 behind_tag items (suc (suc (suc b))) bytes = made_at number_at record_shape bytes
 
-by_tag : (items : List ℕ → Result (ShapeTree × List ℕ) ℕ) (bytes : List ℕ) → (tag_at bytes >>= λ b. behind_tag items b.0 b.1) ≡ shape_by items bytes
-unfolding shape_by
-by_tag items [] = refl
-by_tag items (zero ∷ r) = refl
-by_tag items (suc zero ∷ r) = refl
-by_tag items (suc (suc zero) ∷ r) = refl
-by_tag items (suc (suc (suc zero)) ∷ r) = refl
-by_tag items (suc (suc (suc (suc c))) ∷ r) = refl
+-- level by level
+abbrev level_at : ℕ → List ℕ → Result (ShapeTree × List ℕ) ℕ
+level_at zero bytes = Err (length bytes)
+level_at (suc n) bytes = tag_at bytes >>= λ b. behind_tag (level_at n) b.0 b.1
+
+levels : (n : ℕ) (bytes : List ℕ) → level_at n bytes ≡ shape_at n bytes
+unfolding shape_at
+levels zero [] = refl
+levels zero (zero ∷ r) = refl
+levels zero (suc zero ∷ r) = refl
+levels zero (suc (suc zero) ∷ r) = refl
+levels zero (suc (suc (suc zero)) ∷ r) = refl
+levels zero (suc (suc (suc (suc c))) ∷ r) = refl
+levels (suc n) [] = refl
+levels (suc n) (zero ∷ r) = ap (λ (b : Bool). cond b (Err (suc (length r))) (Ok (bool_shape, r))) (sym (eqb-suc-zero n))
+levels (suc n) (suc zero ∷ r) = ap (λ (b : Bool). cond b (Err (suc (length r))) (Ok (num_shape, r))) (sym (eqb-suc-zero n))
+levels (suc n) (suc (suc zero) ∷ r) =
+    let one : n ≡ suc n - 1 = omega arith in
+    ap (λ (q : Result (ShapeTree × List ℕ) ℕ). q >>= λ s. Ok (list_shape s.0, s.1)) (levels n r)
+    ∙ ap (λ (m : ℕ). shape_at m r >>= λ s. Ok (list_shape s.0, s.1)) one
+    ∙ ap (λ (b : Bool). cond b (Err (suc (length r))) (shape_at (suc n - 1) r >>= λ s. Ok (list_shape s.0, s.1))) (sym (eqb-suc-zero n))
+levels (suc n) (suc (suc (suc zero)) ∷ r) = ap (λ (b : Bool). cond b (Err (suc (length r))) (made_at number_at record_shape r)) (sym (eqb-suc-zero n))
+levels (suc n) (suc (suc (suc (suc c))) ∷ r) = refl
 
 -- the items behind its first
 abbrev behind_items : ℕ → ShapeTree → List Item
@@ -141,7 +157,7 @@ shape_split n = record { apart = apart; joined = joined } where
   joined (suc (suc (suc (suc b)))) s t e = absurd (omega arith)
 
 -- behind the last level none may stand
-last_format : IsFormat (shape_at zero) (shape_items zero) ShapeFits
+last_format : IsFormat (level_at zero) (shape_items zero) ShapeFits
 last_format = record {
   takes = λ bytes s rest b e. absurd cc;
   again = λ s rest f w. absurd w;
@@ -162,23 +178,25 @@ last_format = record {
   some = bool_shape;
   some_fits = tt;
 } where
-  stuck : (front others : List Item) (rest : List ℕ) → IsWritten front → forbidden ∷ [] ≡ front ++ others → others ≢ [] → shape_at zero (spell front ++ rest) ≡ Err (length rest)
+  stuck : (front others : List Item) (rest : List ℕ) → IsWritten front → forbidden ∷ [] ≡ front ++ others → others ≢ [] → level_at zero (spell front ++ rest) ≡ Err (length rest)
   stuck [] others rest w e n = refl
   stuck (c ∷ front) others rest w e n =
       let tails : [] ≡ front ++ others = cc in
       absurd (n (right_nil front others (sym tails)))
 
-pub shape_format : (n : ℕ) → IsFormat (shape_at n) (shape_items n) ShapeFits
-shape_format zero = last_format
-shape_format (suc n) =
-    format_same (λ bytes. tag_at bytes >>= λ b. behind_tag (shape_at n) b.0 b.1) (shape_at (suc n)) (shape_items (suc n)) ShapeFits (by_tag (shape_at n))
-    (chain_format tag_at tag_items IsTag (behind_tag (shape_at n)) (λ (b : ℕ) (s : ShapeTree). behind_items n s) BehindFits (shape_items (suc n)) ShapeFits (item_format tag_at tag_bytes IsTag tag_item) (behind (shape_format n)) (shape_split n))
+level_format : (n : ℕ) → IsFormat (level_at n) (shape_items n) ShapeFits
+level_format zero = last_format
+level_format (suc n) =
+    chain_format tag_at tag_items IsTag (behind_tag (level_at n)) (λ (b : ℕ) (s : ShapeTree). behind_items n s) BehindFits (shape_items (suc n)) ShapeFits (item_format tag_at tag_bytes IsTag tag_item) (behind (level_format n)) (shape_split n)
   where
-  behind : IsFormat (shape_at n) (shape_items n) ShapeFits → (b : ℕ) → IsTag b → IsFormat (behind_tag (shape_at n) b) (behind_items n) (BehindFits b)
+  behind : IsFormat (level_at n) (shape_items n) ShapeFits → (b : ℕ) → IsTag b → IsFormat (behind_tag (level_at n) b) (behind_items n) (BehindFits b)
   behind h zero t = done_format bool_shape (behind_items n) refl
   behind h (suc zero) t = done_format num_shape (behind_items n) refl
-  behind h (suc (suc zero)) t = made_format (shape_at n) (shape_items n) ShapeFits list_shape (behind_items n) (λ s. refl) h
+  behind h (suc (suc zero)) t = made_format (level_at n) (shape_items n) ShapeFits list_shape (behind_items n) (λ s. refl) h
   behind h (suc (suc (suc b))) t = made_format number_at number_items IsSmall record_shape (behind_items n) (λ r. refl) number_format
+
+shape_format : (n : ℕ) → IsFormat (shape_at n) (shape_items n) ShapeFits
+shape_format n = format_same (level_at n) (shape_at n) (shape_items n) ShapeFits (levels n) (level_format n)
 
 pub low_shape_format : IsFormat low_shape_at low_shape_items ShapeFits
 unfolding low_shape_at

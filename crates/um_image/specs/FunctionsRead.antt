@@ -8,7 +8,7 @@ use Rattle.um_machine.specs.declared.code.Entry.{Entry}
 use Rattle.um_verify.specs.declared.image.Image.{Image}
 use Rattle.um_verify.specs.ImageTree.{ImageTree, image_tree, head_tree}
 use Rattle.um_image.specs.declared.stop.ReadStop.{ReadStop}
-use Rattle.um_image.specs.declared.functions.Functions.{Functions}
+use Rattle.um_image.specs.declared.function.Functions.{Functions}
 use Rattle.um_image.specs.Encoding.{FunctionPart, ImageParts}
 use Rattle.um_image.specs.Reading.{◌>>=◌, Fails, function_at}
 

@@ -8,3 +8,4 @@ pub mod Laws
 pub mod Pieces
 pub mod Reading
 pub mod FunctionsRead
+pub mod HeadsMade

@@ -1,7 +1,7 @@
 -- Mirrors the code: how an image is read from bytes, item by item. What this comes to stands in Laws: it reads the bytes
 -- of an image as that image, and refuses others where Places says.
 -- Source: this project's own form.
-use Rattle.std.specs.Prelude.{◌≡◌, ℤ, ℕ, zero, suc, ◌==◌, if◌then◌else◌, nat_lt, Bool, true, false, cond, List, []}
+use Rattle.std.specs.Prelude.{◌≡◌, ℤ, ℕ, zero, suc, ◌-◌, ◌==◌, if◌then◌else◌, nat_lt, Bool, true, false, cond, List, []}
 use Rattle.std.specs.Prelude.{◌∷◌, ◌++◌, length, take, drop, codes, Option, Some, None, Result, Ok, Err}
 use Rattle.std.specs.Str.{bytes_eq}
 use Rattle.std.specs.Int.{w32, w64, cast_signed, from_be_bytes}
@@ -96,19 +96,16 @@ fraction_at bytes =
 unfoldable pub name_at : List ℕ → Result (List ℕ × List ℕ) ℕ
 name_at bytes = number_at bytes >>= λ n. text_at n.0 n.1
 
--- a shape, where this is how the shape of a list's items is read
-unfoldable pub shape_by : (List ℕ → Result (ShapeTree × List ℕ) ℕ) → List ℕ → Result (ShapeTree × List ℕ) ℕ
-shape_by items [] = Err 0
-shape_by items (zero ∷ rest) = Ok (bool_shape, rest)
-shape_by items (suc zero ∷ rest) = Ok (num_shape, rest)
-shape_by items (suc (suc zero) ∷ rest) = items rest >>= λ s. Ok (list_shape s.0, s.1)
-shape_by items (suc (suc (suc zero)) ∷ rest) = number_at rest >>= λ r. Ok (record_shape r.0, r.1)
-shape_by items (suc (suc (suc (suc b))) ∷ rest) = Err (suc (length rest))
-
 -- a shape of at most n levels
-abbrev pub shape_at : ℕ → List ℕ → Result (ShapeTree × List ℕ) ℕ
-shape_at zero bytes = Err (length bytes)
-shape_at (suc n) bytes = shape_by (shape_at n) bytes
+unfoldable pub shape_at : ℕ → List ℕ → Result (ShapeTree × List ℕ) ℕ
+shape_at n [] = Err 0
+shape_at n (zero ∷ rest) = if n == 0 then Err (suc (length rest)) else Ok (bool_shape, rest)
+shape_at n (suc zero ∷ rest) = if n == 0 then Err (suc (length rest)) else Ok (num_shape, rest)
+shape_at n (suc (suc zero) ∷ rest) =
+    if n == 0 then Err (suc (length rest)) else (shape_at (n - 1) rest >>= λ s. Ok (list_shape s.0, s.1))
+shape_at n (suc (suc (suc zero)) ∷ rest) =
+    if n == 0 then Err (suc (length rest)) else (number_at rest >>= λ r. Ok (record_shape r.0, r.1))
+shape_at n (suc (suc (suc (suc b))) ∷ rest) = Err (suc (length rest))
 
 unfoldable pub low_shape_at : List ℕ → Result (ShapeTree × List ℕ) ℕ
 low_shape_at bytes = shape_at greatest_height bytes

@@ -7,7 +7,7 @@ ghost use Rattle.um_image.specs.Laws.{IsDecoded};
 ghost use Rattle.um_image.specs.Reading.{image_at};
 ghost use Rattle.um_image.specs.FunctionsRead.{IsImageRead, kept_image};
 
-use crate::functions::{read_last_functions, Functions};
+use crate::function::{read_last_functions, Functions};
 use crate::item::read_letters;
 use crate::record::read_records;
 use crate::stop::{DecodeStop, ReadStop};
@@ -42,6 +42,7 @@ pub fn decode(alloc: Global, bytes: &[u8]) -> Result<Image, DecodeStop>
     }
 }
 
+#[tactic(auto, unfolding(crate::specs::Reading::image_at))]
 fn read_image(alloc: Global, bytes: &[u8]) -> Result<Image, ReadStop>
     requires { length bytes.now ≤ 16777216 }
     ensures { IsImageRead result (image_at bytes.now) }

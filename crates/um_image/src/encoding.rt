@@ -8,7 +8,7 @@ ghost use Rattle.um_tree.specs.Shapes.{type_shape};
 ghost use Rattle.um_machine.specs.declared.table.Operand.TheVariants.{Num};
 ghost use Rattle.um_verify.specs.ImageTree.{head_tree, image_tree, IsPlainField, IsPlainRecord, IsPlainHead, HasForm};
 ghost use Rattle.um_image.specs.Encoding.{four_bytes, long_bytes, op_number, operand_bytes, image_bytes};
-ghost use Rattle.um_image.specs.Pieces.{name_bytes, shape_bytes, field_bytes, record_bytes, op_bytes, function_bytes, functions_bytes};
+ghost use Rattle.um_image.specs.Pieces.{name_bytes, shape_bytes, field_bytes, record_bytes, op_bytes, function_bytes, functions_bytes, added_bytes};
 
 use std::alloc::{AllocError, Global};
 use um_frac::Frac;
@@ -27,6 +27,14 @@ use um_verify::{Head, Image};
 pub fn encode(alloc: Global, image: &Image) -> Result<Vec<u8>, NoMemory>
     requires form { HasForm (image_tree image.now) }
     ensures { IfOk result (λ bytes. bytes.items ≡ image_bytes (image_tree image.now)) }
+{
+    added(alloc, image)
+}
+
+/// The bytes, part by part.
+fn added(alloc: Global, image: &Image) -> Result<Vec<u8>, NoMemory>
+    requires form { HasForm (image_tree image.now) }
+    ensures { IfOk result (λ bytes. bytes.items ≡ added_bytes (image_tree image.now)) }
 {
     let mut out = Vec::new(alloc);
     out.extend_from_slice(b"UMI1")?;

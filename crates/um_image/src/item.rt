@@ -28,7 +28,7 @@ pub(crate) fn read_letters(bytes: &[u8]) -> Result<(&[u8], &[u8]), ReadStop>
         return Err(ReadStop::Bad { left: bytes.len() });
     }
     let (front, rest) = bytes.split_at(4);
-    if front == b"UMI1" {
+    if front == b"UMI1".as_slice() {
         Ok((front, rest))
     } else {
         Err(ReadStop::Bad { left: bytes.len() })

@@ -6,13 +6,15 @@
 mod decoding;
 mod encoding;
 mod form;
-mod functions;
+mod function;
 mod item;
 mod laws;
+mod program;
 mod record;
 mod stop;
 
 pub use decoding::decode;
 pub use encoding::encode;
-pub use laws::image_of_generated_code;
+pub use laws::{bytes_of_images, image_of_generated_code};
+pub use program::image_of;
 pub use stop::DecodeStop;

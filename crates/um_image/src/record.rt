@@ -16,6 +16,7 @@ use um_verify::Shapes;
 const LEVELS: u32 = 400;
 
 /// A shape of at most so many levels.
+#[tactic(auto, unfolding(crate::specs::Reading::shape_at))]
 fn read_shape(alloc: Global, levels: u32, bytes: &[u8]) -> Result<(Shape, &[u8]), ReadStop>
     ensures { Gives (λ x. (shape_tree x.0, x.1.now)) result (shape_at levels bytes.now) }
 {
@@ -66,6 +67,7 @@ fn add_shapes<'a>(
 }
 
 /// Shapes behind their count.
+#[tactic(auto, unfolding(crate::specs::Reading::shapes_at))]
 pub(crate) fn read_shapes(alloc: Global, bytes: &[u8]) -> Result<(Shapes, &[u8]), ReadStop>
     ensures { Gives (λ x. (map shape_tree x.0.items.items, x.1.now)) result (shapes_at bytes.now) }
 {
@@ -96,6 +98,7 @@ fn type_of_shape(alloc: Global, shape: &Shape) -> Result<Ty, NoMemory>
 }
 
 /// The type of a field, from its shape.
+#[tactic(auto, unfolding(crate::specs::Reading::type_at))]
 fn read_type(alloc: Global, bytes: &[u8]) -> Result<(Ty, &[u8]), ReadStop>
     ensures { Gives (λ x. (type_tree x.0, x.1.now)) result (type_at bytes.now) }
 {
@@ -142,6 +145,7 @@ fn add_fields<'a>(
 }
 
 /// Fields behind their count.
+#[tactic(auto, unfolding(crate::specs::Reading::fields_at))]
 fn read_fields(alloc: Global, bytes: &[u8]) -> Result<(FieldDecls, &[u8]), ReadStop>
     ensures { Gives (λ x. (map field_tree x.0.items.items, x.1.now)) result (fields_at bytes.now) }
 {
@@ -192,6 +196,7 @@ fn add_records<'a>(
 }
 
 /// Records behind their count.
+#[tactic(auto, unfolding(crate::specs::Reading::records_at))]
 pub(crate) fn read_records(alloc: Global, bytes: &[u8]) -> Result<(Records, &[u8]), ReadStop>
     ensures { Gives (λ x. (map record_tree x.0.items.items, x.1.now)) result (records_at bytes.now) }
 {

@@ -3,7 +3,7 @@ use Rattle.um_image.specs.Encoding.{FunctionPart}
 use Rattle.um_image.specs.Reading.{function_at, many_at, with_front}
 use Rattle.um_image.specs.FunctionsRead.{Holds}
 use Rattle.um_image.proofs.Loops.{Rest}
-use Rattle.um_image.proofs.functions.add_functions.Given as goal
+use Rattle.um_image.proofs.function.add_functions.Given as goal
 
 abbrev pub invariant-loop : goal.invariant-loop
 invariant-loop l = record {
