@@ -1,5 +1,5 @@
 -- Numbers that are passed one after another.
-use Rattle.std.proofs.Common.{◌≡◌, refl, sym, ap, subst, ◌∙◌, ℕ, ◌+◌, ◌<◌, ◌≤◌, Bool, true, false, cond, List, [], ◌∷◌, ◌++◌, length, map, get_or, drop, Option, Some, None, Result, Ok, Err, arith}
+use Rattle.std.proofs.Common.{◌≡◌, refl, sym, ap, subst, ◌∙◌, ℕ, ◌+◌, ◌<◌, ◌≤◌, Bool, true, false, cond, List, [], ◌∷◌, ◌++◌, length, map, get_or, drop, Some, None, Result, Ok, Err, arith}
 use Rattle.std.specs.List.{position_from}
 use Rattle.std.specs.Option.{option_or}
 use Rattle.std.proofs.lemmas.List.{length-append, drop_all, drop_more}
@@ -12,6 +12,7 @@ use Rattle.um_scale.specs.declared.stop.ScaleStop.TheVariants.{Range, NoMemory}
 use Rattle.um_scale.specs.Stops.{IsStopAt}
 use Rattle.um_scale.specs.RescaledInputs.{input_numbers, inputs_numbers, is_misfit}
 use Rattle.um_scale.specs.PassedNumbers.{IsPassed}
+use Rattle.um_scale.proofs.Rescaled.{neither}
 
 -- a position in a list and one behind it
 position_on : {A : Type 0} (test : A → Bool) (xs ys : List A) (k : ℕ) → position_from test k (xs ++ ys) ≡ option_or (position_from test k xs) (position_from test (k + length xs) ys)
@@ -20,10 +21,6 @@ position_on test (x ∷ xs) ys k =
     let same : k + 1 + length xs ≡ k + length (x ∷ xs) = omega arith in
     let later = position_on test xs ys (k + 1) ∙ ap (λ n. option_or (position_from test (k + 1) xs) (position_from test n ys)) same in
     elim (test x) as (λ b. cond b (Some k) (position_from test (k + 1) (xs ++ ys)) ≡ option_or (cond b (Some k) (position_from test (k + 1) xs)) (position_from test (k + length (x ∷ xs)) ys)) [ true ↦ refl | false ↦ later ]
-
-neither : {A : Type 0} (x y : Option A) → option_or x y ≡ None → (x ≡ None) × (y ≡ None)
-neither None y e = (refl, e)
-neither (Some z) y e = absurd cc
 
 -- where there is none in both, there is none in the first, and none behind it
 pub none_before : {A : Type 0} (test : A → Bool) (xs ys : List A) (k : ℕ) → position_from test k (xs ++ ys) ≡ None → position_from test k xs ≡ None

@@ -1,5 +1,5 @@
 -- An input whose numbers all fit and the input with its numbers rescaled: the second is the first one rescaled.
-use Rattle.std.proofs.Common.{◌≡◌, refl, sym, ap, ℕ, cond, List, [], ◌∷◌, map, Option, Some, None}
+use Rattle.std.proofs.Common.{◌≡◌, refl, ap, ◌∙◌, ℕ, cond, List, [], ◌∷◌, map, Option, Some, None}
 use Rattle.std.specs.List.{position_from}
 use Rattle.std.specs.Prelude.{is_none}
 use Rattle.std.specs.Option.{unwrap_or}
@@ -11,25 +11,27 @@ use Rattle.um_tree.specs.Formed.{IsLiteral, IsFormedInput, AreFormedInputs}
 use Rattle.um_scaling.specs.RescaledProgram.{RescaledNumber}
 use Rattle.um_scaling.specs.RescaledInput.{RescaledInput, RescaledInputs}
 use Rattle.um_scale.specs.Sizes.{AreSizes, sizes}
-use Rattle.um_scale.specs.RescaledLiterals.{rescaled_number}
+use Rattle.um_scale.specs.RescaledLiterals.{rescaled_number, missing}
 use Rattle.um_scale.specs.RescaledInputs.{input_numbers, inputs_numbers, is_misfit, input_misfit, rescaled_input, rescaled_inputs}
 use Rattle.um_scale.proofs.PassedNumbers.{none_before, none_behind}
-use Rattle.um_scale.proofs.SizeFactors.{number_exact}
+use Rattle.um_scale.proofs.Rescaled.{number_scaled}
 
 module _ (cs : List Frac) where
   abbrev Fit : List (Frac × UnitNote) → ℕ → Type 0
   Fit numbers k = position_from (is_misfit cs) k numbers ≡ None
 
   module _ (above : AreSizes cs) where
-    number_is : (c : Frac) (n : UnitNote) (o : Option Frac) (k : ℕ) → rescaled_number cs c n ≡ o → cond (is_none o) (Some k) None ≡ None → RescaledNumber (sizes cs) c n (unwrap_or o c)
-    number_is c n None k e h = absurd cc
-    number_is c Hole (Some d) k e h = let same : c ≡ d = cc e in sym same
-    number_is c (Written u) (Some d) k e h = number_exact cs above u c d e
+    is_missing : (o : Option Frac) (k : ℕ) → missing k o ≡ cond (is_none o) (Some k) None
+    is_missing None k = refl
+    is_missing (Some d) k = refl
+
+    number_is : (c : Frac) (n : UnitNote) (k : ℕ) → Fit ((c, n) ∷ []) k → RescaledNumber (sizes cs) c n (unwrap_or (rescaled_number cs c n) c)
+    number_is c n k h = let o = rescaled_number cs c n in number_scaled cs above k c n o refl (is_missing o k ∙ h)
 
     mutual
       input_is : (i : InputTree) (k : ℕ) → Fit (input_numbers i) k → RescaledInput (sizes cs) i (rescaled_input cs i)
       input_is (truth_input b) k h = refl
-      input_is (number_input c n) k h = (unwrap_or (rescaled_number cs c n) c, number_is c n (rescaled_number cs c n) k refl h, refl)
+      input_is (number_input c n) k h = (unwrap_or (rescaled_number cs c n) c, number_is c n k h, refl)
       input_is (list_input is) k h = (rescaled_inputs cs is, inputs_are is k h, refl)
       input_is (record_input r is) k h = (rescaled_inputs cs is, inputs_are is k h, refl)
 

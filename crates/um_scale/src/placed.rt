@@ -27,7 +27,7 @@ pub fn numbers_by_place(
 fn no_numbers(alloc: Global, places: usize) -> Result<Vec<Option<Frac>>, AllocError>
     ensures { IfOk result (λ numbers. numbers.items ≡ replicate places None) }
 {
-    let mut numbers = Vec::new(alloc);
+    let mut numbers = Vec::with_capacity(alloc, places)?;
     for _ in 0..places {
         numbers.push(None)?;
     }
