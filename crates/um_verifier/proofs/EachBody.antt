@@ -1,7 +1,6 @@
 -- The loop over the functions.
-use Rattle.std.proofs.Common.{◌≡◌, sym, ap, ◌∙◌, subst, ℕ, zero, suc, ◌<◌, ◌≤◌, ◌⊎◌, inl, inr, All, List, [], ◌∷◌, length, get_or, Option, Some, None, slice_get, arith}
+use Rattle.std.proofs.Common.{◌≡◌, sym, ap, ◌∙◌, subst, ℕ, zero, suc, ◌+◌, ◌<◌, ◌≤◌, All, List, [], ◌∷◌, length, get_or, Option, Some, None, slice_get, arith}
 use Rattle.std.specs.Prelude.{MatchOption}
-use Rattle.std.proofs.lemmas.Bool.{cases_order}
 use Rattle.std.proofs.lemmas.List.{get_or_default}
 use Rattle.um_machine.specs.declared.code.Entry.{Entry}
 use Rattle.um_machine.specs.declared.code.Code.{Code}
@@ -12,6 +11,7 @@ use Rattle.um_verify.specs.Verified.{FirstFailure}
 use Rattle.um_verifier.specs.Bodies.{AreReady}
 use Rattle.um_verifier.specs.declared.known.KnownHead.{KnownHead}
 use Rattle.um_verifier.specs.declared.known.Known.{Known}
+use Rattle.um_verifier.proofs.Firsts.{HoldBefore, hold_next}
 
 pub at_place : {A : Type 0} (P : A → Type 0) (xs : List A) (k : ℕ) (x : A) → All P xs → k < length xs → x ≡ get_or xs k x → P x
 at_place P xs k x h l e = subst P (sym e) (h k x l)
@@ -34,18 +34,10 @@ within (x ∷ es) (y ∷ hs) (suc f) b s = let l = within es hs f b s in omega a
 
 -- the functions before f hold
 abbrev pub Before : View → ℕ → Type 0
-Before view f = (g : ℕ) (b : Body) → g < f → slice_get view.bodies g ≡ Some b → BodyHolds view b
+Before view f = HoldBefore (λ g b. BodyHolds view b) view.bodies f
 
-some_body : (x y : Body) → Some x ≡ Some y → x ≡ y
-some_body x y h = cc
-
-pub before_next : (view : View) (f : ℕ) (b : Body) → Before view f → slice_get view.bodies f ≡ Some b → BodyHolds view b → Before view (suc f)
-before_next view f b h s k g c l t = which (cases_order g f)
-  where
-    which : (g ≡ f) ⊎ ((g < f) ⊎ (f < g)) → BodyHolds view c
-    which (inl e) = subst (BodyHolds view) (some_body b c (sym s ∙ ap (slice_get view.bodies) (sym e) ∙ t)) k
-    which (inr (inl m)) = h g c m t
-    which (inr (inr m)) = absurd (omega arith)
+pub before_next : (view : View) (f : ℕ) (b : Body) → Before view f → slice_get view.bodies f ≡ Some b → BodyHolds view b → Before view (f + 1)
+before_next view f b h s k = hold_next (λ g b. BodyHolds view b) view.bodies f b s h k
 
 pub all_hold : (known : Known) (code : Code) (f : ℕ) → Before (known_view known code) f → length code.entries ≤ f → CodeHolds (known_view known code)
 all_hold known code f h l g b s = let w = within code.entries known.heads.items g b s in h g b (omega arith) s

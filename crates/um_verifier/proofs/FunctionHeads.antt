@@ -1,11 +1,11 @@
 -- One function after another: what is known, and which breaks its rules.
-use Rattle.std.proofs.Common.{◌≡◌, refl, sym, ap, subst, ◌∙◌, ℕ, zero, suc, ◌+◌, ◌<◌, ◌≤◌, ◌⊎◌, inl, inr, true, false, List, [], ◌∷◌, ◌++◌, length, map, take, get_or, All, Option, Some, None, slice_get, arith}
-use Rattle.std.specs.Prelude.{vec_len, option_map, MatchOption}
+use Rattle.std.proofs.Common.{◌≡◌, refl, sym, ap, subst, ◌∙◌, ℕ, zero, suc, ◌+◌, ◌<◌, ◌≤◌, true, false, List, [], ◌∷◌, ◌++◌, length, map, take, get_or, All, Option, Some, None, slice_get, arith}
+use Rattle.std.specs.Prelude.{vec_len, MatchOption}
 use Rattle.std.specs.List.{list_all}
-use Rattle.std.proofs.lemmas.Bool.{both_ways, cases_order, and_from, and_parts}
+use Rattle.std.proofs.lemmas.Bool.{both_ways, and_from, and_parts}
 use Rattle.std.proofs.lemmas.List.{take_more, take_all, map_push, length-map}
 use Rattle.std.proofs.lemmas.List.Elements.{All-nil, All-cons}
-use Rattle.std.proofs.lemmas.Option.{slice_get_within, slice_get_read, get_or_from_slice_get, slice_get-get_or, slice_get-map}
+use Rattle.std.proofs.lemmas.Option.{slice_get_within, get_or_from_slice_get, slice_get-get_or}
 use Rattle.um_tree.specs.declared.types.Shape.{Shape}
 use Rattle.um_tree.specs.TypeTree.{shape_tree}
 use Rattle.um_tree.specs.Heights.{greatest_height}
@@ -27,6 +27,7 @@ use Rattle.um_verifier.specs.declared.stop.VerifyStop.{VerifyStop}
 use Rattle.um_verifier.specs.declared.stop.VerifyStop.TheVariants as stop
 use Rattle.um_verifier.specs.declared.known.KnownHead.{KnownHead}
 use Rattle.um_verifier.specs.declared.known.Known.{Known}
+use Rattle.um_verifier.proofs.Firsts.{HoldBefore, tree_there}
 use Rattle.um_verifier.proofs.OverRecords.{over_is, is_over, all_over, over_all}
 
 -- as many records are known as the image has
@@ -136,9 +137,6 @@ module _ (image : ImageTree) (k : ℕ) (h : HeadTree) (e : Entry) (there : slice
 abbrev pub trees : List Head → List HeadTree
 trees hs = map head_tree hs
 
-tree_there : (hs : List Head) (k : ℕ) (h : Head) → k < length hs → h ≡ get_or hs k h → slice_get (trees hs) k ≡ Some (head_tree h)
-tree_there hs k h l e = slice_get-map head_tree hs k ∙ ap (option_map head_tree) (slice_get_read hs (length hs) k h refl l e)
-
 pub match_lengths : (es : List Entry) (hs : List HeadTree) → Match es hs → length es ≡ length hs
 match_lengths [] [] h = refl
 match_lengths (e ∷ es) (x ∷ hs) h = ap suc (match_lengths es hs h.1)
@@ -147,7 +145,7 @@ match_lengths (e ∷ es) [] h = absurd h
 
 -- the head and the entry of a place of the loop
 pub head_there : (hs items : List Head) (k : ℕ) (h : Head) → hs ≡ items → k < length hs → h ≡ get_or hs k h → slice_get (trees items) k ≡ Some (head_tree h)
-head_there hs items k h e l s = ap (λ (xs : List Head). slice_get (trees xs) k) (sym e) ∙ tree_there hs k h l s
+head_there hs items k h e l s = ap (λ (xs : List Head). slice_get (trees xs) k) (sym e) ∙ tree_there head_tree hs k h l s
 
 pub plain_at : (hs items : List Head) (k : ℕ) (h : Head) → hs ≡ items → All IsPlainHead (map head_tree items) → k < length hs → h ≡ get_or hs k h → IsPlainHead (head_tree h)
 plain_at hs items k h e plain l s =
@@ -164,25 +162,6 @@ entry_within es entries hs items k e s m l =
     let a : length es ≡ length entries = ap (λ (xs : List Entry). length xs) e in
     let b : length hs ≡ length items = ap (λ (xs : List Head). length xs) s in
     omega arith
-
--- the functions before k hold
-abbrev pub HoldBefore : ImageTree → ℕ → Type 0
-HoldBefore image k = (j : ℕ) (h : HeadTree) → j < k → slice_get image.heads j ≡ Some h → FunctionHolds image j h
-
-some_head : (x y : HeadTree) → Some x ≡ Some y → x ≡ y
-some_head x y h = cc
-
-pub hold_next : (image : ImageTree) (k : ℕ) (h : HeadTree) → slice_get image.heads k ≡ Some h → HoldBefore image k → FunctionHolds image k h → HoldBefore image (k + 1)
-hold_next image k h there before holds j x l t = by (cases_order j k) where
-  by : (j ≡ k) ⊎ ((j < k) ⊎ (k < j)) → FunctionHolds image j x
-  by (inl s) =
-      let same : h ≡ x = some_head h x (sym there ∙ ap (slice_get image.heads) (sym s) ∙ t) in
-      subst (λ (y : HeadTree). FunctionHolds image j y) same (subst (λ (n : ℕ). FunctionHolds image n h) (sym s) holds)
-  by (inr (inl m)) = before j x m t
-  by (inr (inr m)) = absurd (omega arith)
-
-pub all_hold : (image : ImageTree) (k : ℕ) → length image.heads ≤ k → HoldBefore image k → (j : ℕ) (h : HeadTree) → slice_get image.heads j ≡ Some h → FunctionHolds image j h
-all_hold image k l before j h t = let within = slice_get_within image.heads j h t in before j h (omega arith) t
 
 pub none_take : (image : ImageTree) (known : Known) → AreKnownRecords image.records known → TakesHeads image 0 known []
 none_take image known h = record {
@@ -221,7 +200,7 @@ record_first image i h =
     apart j k l e w = omega arith
 
 -- and a function, where all records hold
-pub function_first : (image : ImageTree) (k : ℕ) (h : HeadTree) → Records image → slice_get image.heads k ≡ Some h → (FunctionHolds image k h → ⊥) → HoldBefore image k → IsFirstHead image (length image.records + k)
+pub function_first : (image : ImageTree) (k : ℕ) (h : HeadTree) → Records image → slice_get image.heads k ≡ Some h → (FunctionHolds image k h → ⊥) → HoldBefore (FunctionHolds image) image.heads k → IsFirstHead image (length image.records + k)
 function_first image k h records there fails before =
     let within = slice_get_within image.heads k h there in
     record {

@@ -1,3 +1,4 @@
+mod Firsts
 mod Scalars
 mod NameTests
 mod TakenNames
@@ -6,6 +7,7 @@ mod OverRecords
 mod RecordHeads
 mod FunctionHeads
 mod ReadyImages
+mod OneRefusal
 mod Nests
 mod Fitting
 mod JoinedStates

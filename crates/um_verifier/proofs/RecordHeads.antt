@@ -1,12 +1,12 @@
 -- One record after another: what is known, and which breaks its rules.
-use Rattle.std.proofs.Common.{◌≡◌, refl, sym, ap, subst, ◌∙◌, ℕ, zero, suc, ◌+◌, ◌<◌, ◌≤◌, ◌⊎◌, inl, inr, true, false, List, [], ◌∷◌, ◌++◌, length, map, take, get_or, All, Option, Some, None, slice_get, arith, append-nil}
-use Rattle.std.specs.Prelude.{vec_len, option_map, MatchOption}
+use Rattle.std.proofs.Common.{◌≡◌, refl, sym, ap, subst, ◌∙◌, ℕ, zero, suc, ◌+◌, ◌<◌, ◌≤◌, true, false, List, [], ◌∷◌, ◌++◌, length, map, take, All, Option, Some, None, slice_get, arith, append-nil}
+use Rattle.std.specs.Prelude.{vec_len, MatchOption}
 use Rattle.std.specs.List.{list_all}
-use Rattle.std.proofs.lemmas.Bool.{both_ways, cases_order}
+use Rattle.std.proofs.lemmas.Bool.{both_ways}
 use Rattle.std.proofs.lemmas.Grind.{flat_map-append}
 use Rattle.std.proofs.lemmas.List.{take_more, take_all, map_push, length-map, length-take-le}
 use Rattle.std.proofs.lemmas.List.Elements.{All-nil, All-cons, All-map}
-use Rattle.std.proofs.lemmas.Option.{slice_get_within, slice_get_read, get_or_from_slice_get, slice_get-map}
+use Rattle.std.proofs.lemmas.Option.{slice_get_within, get_or_from_slice_get}
 use Rattle.um_tree.specs.declared.program.FieldDecl.{FieldDecl}
 use Rattle.um_tree.specs.declared.program.Record.{Record}
 use Rattle.um_tree.specs.TypeTree.{type_tree}
@@ -176,29 +176,6 @@ module _ (records : List RecordTree) (i : ℕ) (d : RecordTree) (there : slice_g
 
 abbrev pub trees : List Record → List RecordTree
 trees ds = map record_tree ds
-
--- the record of a place is that of its tree
-pub tree_there : (ds : List Record) (i : ℕ) (d : Record) → i < length ds → d ≡ get_or ds i d → slice_get (trees ds) i ≡ Some (record_tree d)
-tree_there ds i d l e = slice_get-map record_tree ds i ∙ ap (option_map record_tree) (slice_get_read ds (length ds) i d refl l e)
-
--- the records before i hold
-abbrev pub HoldBefore : List RecordTree → ℕ → Type 0
-HoldBefore records i = (j : ℕ) (e : RecordTree) → j < i → slice_get records j ≡ Some e → RecordHolds records j e
-
-some_record : (x y : RecordTree) → Some x ≡ Some y → x ≡ y
-some_record x y h = cc
-
-pub hold_next : (records : List RecordTree) (i : ℕ) (d : RecordTree) → slice_get records i ≡ Some d → HoldBefore records i → RecordHolds records i d → HoldBefore records (i + 1)
-hold_next records i d there h holds j e l t = by (cases_order j i) where
-  by : (j ≡ i) ⊎ ((j < i) ⊎ (i < j)) → RecordHolds records j e
-  by (inl s) =
-      let same : d ≡ e = some_record d e (sym there ∙ ap (slice_get records) (sym s) ∙ t) in
-      subst (λ (x : RecordTree). RecordHolds records j x) same (subst (λ (n : ℕ). RecordHolds records n d) (sym s) holds)
-  by (inr (inl m)) = h j e m t
-  by (inr (inr m)) = absurd (omega arith)
-
-pub all_hold : (records : List RecordTree) (i : ℕ) → length records ≤ i → HoldBefore records i → (j : ℕ) (e : RecordTree) → slice_get records j ≡ Some e → RecordHolds records j e
-all_hold records i l h j e t = let within = slice_get_within records j e t in h j e (omega arith) t
 
 pub whole_takes : (records : List RecordTree) (i : ℕ) (known : Known) (names fields : List (List ℕ)) → length records ≤ i → TakesRecords (take i records) known names fields → KnowsRecords records known
 whole_takes records i known names fields l h = subst (λ (ds : List RecordTree). KnowsRecords ds known) (take_all i records l) h.shapes

@@ -9,6 +9,7 @@ mod check;
 mod flat;
 mod heads;
 mod known;
+mod laws;
 mod names;
 mod records;
 mod rules;
@@ -17,5 +18,6 @@ mod table;
 mod verified;
 
 pub use check::verify;
+pub use laws::refusals_of_images;
 pub use stop::VerifyStop;
 pub use verified::Verified;

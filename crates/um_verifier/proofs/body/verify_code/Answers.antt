@@ -1,10 +1,10 @@
-use Rattle.std.proofs.Common.{arith, ◌≡◌, refl, ap, subst, ◌≤◌, ◌+◌, suc, List, get_or, length}
+use Rattle.std.proofs.Common.{arith, ◌≡◌, refl, ap, ◌≤◌, List, get_or, length}
 use Rattle.std.specs.Prelude.{MatchOption}
 use Rattle.um_machine.specs.declared.code.Entry.{Entry}
 use Rattle.um_verify.specs.Verified.{BodyHolds}
 use Rattle.um_verifier.specs.KnownImages.{known_body, known_view}
 use Rattle.um_verify.specs.Verified.{FirstFailure}
-use Rattle.um_verifier.proofs.EachBody.{Before, read_body, before_next, all_hold, holds_of, fails_of}
+use Rattle.um_verifier.proofs.EachBody.{read_body, before_next, all_hold, holds_of, fails_of}
 use Rattle.um_verifier.proofs.body.verify_code.Goals as goal
 
 pub returns-in-Some : goal.returns-in-Some
@@ -39,8 +39,7 @@ loop-f-preserved c =
     let view = known_view known code in
     let given : MatchOption c.in_ok-verify_body.field-0 (BodyHolds view (known_body e h)) (λ n. FirstFailure view (known_body e h) n) = c.in_ok-verify_body.ensures in
     let holds = holds_of view (known_body e h) c.in_ok-verify_body.field-0 c.in-None.is given in
-    let next : suc c.loop-f.f ≡ c.loop-f.f + 1 = omega arith in
-    subst (Before view) next (before_next view c.loop-f.f (known_body e h) c.loop-f.invariant (read_body known code es c.loop-f.f none e h c.requires.ready c.as_slice-entries.ensures c.loop-f-test.true refl c.index.ensures) holds)
+    before_next view c.loop-f.f (known_body e h) c.loop-f.invariant (read_body known code es c.loop-f.f none e h c.requires.ready c.as_slice-entries.ensures c.loop-f-test.true refl c.index.ensures) holds
 
 pub returns : goal.returns
 returns c =

@@ -6,10 +6,11 @@ use Rattle.um_tree.specs.ProgramTree.{record_tree}
 use Rattle.um_machine.specs.declared.code.Entry.{Entry}
 use Rattle.um_verify.specs.declared.image.Head.{Head}
 use Rattle.um_verify.specs.ImageTree.{head_tree, image_tree}
-use Rattle.um_verify.specs.Heads.{IsFirstHead}
+use Rattle.um_verify.specs.Heads.{FunctionHolds, IsFirstHead}
 use Rattle.um_verifier.specs.declared.known.KnownHead.{KnownHead}
 use Rattle.um_verifier.specs.declared.known.Known.{Known}
-use Rattle.um_verifier.proofs.FunctionHeads.{HeadFound, trees, head_there, plain_at, entry_there, is_first, is_found, takes_next, hold_next, all_hold, all_take, entry_within, function_first}
+use Rattle.um_verifier.proofs.Firsts.{hold_next, all_hold}
+use Rattle.um_verifier.proofs.FunctionHeads.{HeadFound, trees, head_there, plain_at, entry_there, is_first, is_found, takes_next, all_take, entry_within, function_first}
 use Rattle.um_verifier.proofs.heads.add_heads.Goals as goal
 
 pub bounds-entries-k : goal.bounds-entries-k
@@ -59,7 +60,7 @@ loop-k-preserved c =
     let after : Known = record { records = known.records; heads = c.push.new.self } in
     record {
       takes = takes_next image k h e there entry known old takes after new one (record { fields = takes.shapes.fields; heights = takes.shapes.heights }) c.in_ok-push-in-Some.ensures.items finds;
-      hold = hold_next image k h there c.loop-k.invariant.hold finds.holds;
+      hold = hold_next (FunctionHolds image) image.heads k h there c.loop-k.invariant.hold finds.holds;
     }
 
 pub returns : goal.returns
@@ -74,5 +75,5 @@ returns c =
       shapes = c.loop-k.invariant.takes.shapes;
       heads = all_take image k c.loop-k.known c.loop-k.names end c.loop-k.invariant.takes;
       records = c.requires.records.hold;
-      functions = all_hold image k end c.loop-k.invariant.hold;
+      functions = all_hold (FunctionHolds image) image.heads k end c.loop-k.invariant.hold;
     }

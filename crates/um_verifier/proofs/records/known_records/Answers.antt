@@ -3,9 +3,11 @@ use Rattle.std.specs.Prelude.{IfOk}
 use Rattle.std.specs.declared.alloc.AllocError.{AllocError}
 use Rattle.std.proofs.lemmas.List.{length-map}
 use Rattle.um_tree.specs.ProgramTree.{record_tree}
+use Rattle.um_verify.specs.Heads.{RecordHolds}
 use Rattle.um_verifier.specs.declared.known.KnownRecord.{KnownRecord}
 use Rattle.um_verifier.specs.declared.known.Known.{Known}
-use Rattle.um_verifier.proofs.RecordHeads.{RecordFound, trees, tree_there, is_first, is_found, hold_next, takes_next, all_hold, whole_takes}
+use Rattle.um_verifier.proofs.Firsts.{hold_next, all_hold, tree_there}
+use Rattle.um_verifier.proofs.RecordHeads.{RecordFound, trees, is_first, is_found, takes_next, whole_takes}
 use Rattle.um_verifier.proofs.records.known_records.Goals as goal
 
 pub returns-in-None : goal.returns-in-None
@@ -13,7 +15,7 @@ returns-in-None c =
     let ds = c.args.declared.now in
     let i = c.loop-i.i in
     let r = c.index-declared-i.result in
-    let there = tree_there ds i r c.loop-i-test.true c.index-declared-i.is in
+    let there = tree_there record_tree ds i r c.loop-i-test.true c.index-declared-i.is in
     let d = record_tree r in
     let known = c.loop-i.known in
     let names = c.loop-i.names in
@@ -33,7 +35,7 @@ loop-i-preserved c =
     let ds = c.args.declared.now in
     let i = c.loop-i.i in
     let r = c.index-declared-i.result in
-    let there = tree_there ds i r c.loop-i-test.true c.index-declared-i.is in
+    let there = tree_there record_tree ds i r c.loop-i-test.true c.index-declared-i.is in
     let d = record_tree r in
     let known = c.loop-i.known in
     let names = c.loop-i.names in
@@ -47,7 +49,7 @@ loop-i-preserved c =
     record {
       heads = c.loop-i.invariant.heads;
       takes = takes_next (trees ds) i d there known names fields c.loop-i.invariant.takes after new new_fields one c.in_ok-push-in-Some.ensures.items finds;
-      hold = hold_next (trees ds) i d there c.loop-i.invariant.hold finds.holds;
+      hold = hold_next (RecordHolds (trees ds)) (trees ds) i d there c.loop-i.invariant.hold finds.holds;
     }
 
 pub returns : goal.returns
@@ -57,5 +59,5 @@ returns c =
     record {
       heads = c.loop-i.invariant.heads;
       shapes = whole_takes (trees ds) c.loop-i.i c.loop-i.known c.loop-i.names c.loop-i.field_names end c.loop-i.invariant.takes;
-      hold = all_hold (trees ds) c.loop-i.i end c.loop-i.invariant.hold;
+      hold = all_hold (RecordHolds (trees ds)) (trees ds) c.loop-i.i end c.loop-i.invariant.hold;
     }
