@@ -105,12 +105,12 @@ abbrev at_end : List FunctionPart × List ℕ → Result (List FunctionPart) ℕ
 at_end fs = cond (length fs.1 == 0) (Ok fs.0) (Err (length fs.1))
 
 pub last_count_fails : (bytes : List ℕ) (e : ReadStop) → Fails e (number_at bytes) → Fails e (last_functions_at bytes)
-unfolding last_functions_at, functions_at
+unfolding last_functions_at functions_at
 last_count_fails bytes e f = first_fails (number_at bytes >>= λ n. many_at function_at n.0 n.1) at_end e (first_fails (number_at bytes) (λ n. many_at function_at n.0 n.1) e f)
 
 module _ (bytes : List ℕ) (n : ℕ) (behind : List ℕ) (count : number_at bytes ≡ Ok (n, behind)) where
   last_by : last_functions_at bytes ≡ (with_front [] (many_at function_at n behind) >>= at_end)
-  unfolding last_functions_at, functions_at
+  unfolding last_functions_at functions_at
   last_by =
       ap (λ (r : Result (ℕ × List ℕ) ℕ). (r >>= λ m. many_at function_at m.0 m.1) >>= at_end) count
       ∙ ap (λ (r : Result (List FunctionPart × List ℕ) ℕ). r >>= at_end) (sym (front_of_none (many_at function_at n behind)))
