@@ -1,8 +1,9 @@
 -- Functions read one after the other, and kept as an image has them.
-use Rattle.std.proofs.Common.{◌≡◌, refl, sym, subst, ap, ◌∙◌, ℕ, zero, suc, ◌+◌, ◌-◌, ◌<◌, ◌≤◌, List, [], ◌∷◌, ◌++◌, length, map, Result, Ok, Err, arith, append_assoc}
+use Rattle.std.proofs.Common.{◌≡◌, refl, sym, subst, ap, ◌∙◌, ℕ, zero, suc, ◌+◌, ◌-◌, ◌<◌, ◌≤◌, ◌==◌, Bool, cond, List, [], ◌∷◌, ◌++◌, length, map, Result, Ok, Err, arith, append_assoc}
 use Rattle.std.specs.List.{flat_map}
 use Rattle.std.proofs.lemmas.List.{append-nil, length-append, map-append, length-map}
 use Rattle.std.proofs.lemmas.Grind.{flat_map-append}
+use Rattle.std.proofs.lemmas.Bool.{ne_eqb}
 use Rattle.um_machine.specs.declared.op.Op.{Op}
 use Rattle.um_machine.specs.declared.code.Entry.{Entry}
 use Rattle.um_verify.specs.declared.image.Head.{Head}
@@ -11,14 +12,14 @@ use Rattle.um_image.specs.declared.stop.ReadStop.{ReadStop}
 use Rattle.um_image.specs.declared.stop.ReadStop.TheVariants as stop
 use Rattle.um_image.specs.declared.function.Functions.{Functions}
 use Rattle.um_image.specs.Encoding.{spell, op_items, FunctionPart}
-use Rattle.um_image.specs.Reading.{◌>>=◌, Fails, number_at, many_at, with_front, op_at, ops_at, head_at, function_at}
+use Rattle.um_image.specs.Reading.{◌>>=◌, Fails, number_at, many_at, with_front, op_at, ops_at, head_at, function_at, functions_at, last_functions_at}
 use Rattle.um_image.specs.FunctionsRead.{entries_from, Holds, function_onto}
 use Rattle.um_image.proofs.Formats.{IsBytes, gave, same_gift, bind_done, bind_failed}
 use Rattle.um_image.proofs.Chains.{AreMany, many_format}
 use Rattle.um_image.proofs.OpFormats.{op_format}
 use Rattle.um_image.proofs.PartFormats.{with_ops}
 use Rattle.um_image.proofs.ImagesAsParts.{ops_of, many_length, op_length}
-use Rattle.um_image.proofs.Loops.{front_ok, front_fails, first_fails, fails_same}
+use Rattle.um_image.proofs.Loops.{front_ok, front_fails, front_of_none, first_fails, fails_same}
 
 -- ---- one more
 
@@ -45,20 +46,20 @@ holds_more old new fs head xs e h heads ops entries start end params =
 
 -- ---- how it is read
 
-regrouped : (fs : List FunctionPart) (h : HeadTree) (r : Result (List Op × List ℕ) ℕ) → ((r >>= λ ops. Ok (with_ops h ops.0, ops.1)) >>= λ f. Ok (fs ++ f.0 ∷ [], f.1)) ≡ (r >>= λ ops. Ok (fs ++ with_ops h ops.0 ∷ [], ops.1))
+regrouped : (fs : List FunctionPart) (h : HeadTree) (r : Result (List Op × List ℕ) ℕ) → ((r >>= λ ops. gave (with_ops h ops.0) ops.1) >>= λ f. gave (fs ++ f.0 ∷ []) f.1) ≡ (r >>= λ ops. gave (fs ++ with_ops h ops.0 ∷ []) ops.1)
 regrouped fs h (Ok ops) = refl
 regrouped fs h (Err l) = refl
 
 module _ (fs : List FunctionPart) (bytes : List ℕ) (h : HeadTree) (behind : List ℕ) (head : head_at bytes ≡ Ok (h, behind)) where
-  onto_by : function_onto fs bytes ≡ (ops_at behind >>= λ ops. Ok (fs ++ with_ops h ops.0 ∷ [], ops.1))
+  onto_by : function_onto fs bytes ≡ (ops_at behind >>= λ ops. gave (fs ++ with_ops h ops.0 ∷ []) ops.1)
   unfolding function_at
   onto_by =
-      ap (λ (r : Result (HeadTree × List ℕ) ℕ). (r >>= λ g. ops_at g.1 >>= λ ops. Ok (with_ops g.0 ops.0, ops.1)) >>= λ f. Ok (fs ++ f.0 ∷ [], f.1)) head
+      ap (λ (r : Result (HeadTree × List ℕ) ℕ). (r >>= λ g. ops_at g.1 >>= λ ops. gave (with_ops g.0 ops.0) ops.1) >>= λ f. gave (fs ++ f.0 ∷ []) f.1) head
       ∙ regrouped fs h (ops_at behind)
 
   pub count_fails : (e : ReadStop) → Fails e (number_at behind) → Fails e (function_onto fs bytes)
   unfolding ops_at
-  count_fails e f = fails_same (function_onto fs bytes) (ops_at behind >>= λ ops. Ok (fs ++ with_ops h ops.0 ∷ [], ops.1)) e onto_by
+  count_fails e f = fails_same (function_onto fs bytes) (ops_at behind >>= λ ops. gave (fs ++ with_ops h ops.0 ∷ []) ops.1) e onto_by
       (first_fails (ops_at behind) (λ ops. gave (fs ++ with_ops h ops.0 ∷ []) ops.1) e (first_fails (number_at behind) (λ n. many_at op_at n.0 n.1) e f))
 
   module _ (n : ℕ) (rest : List ℕ) (count : number_at behind ≡ Ok (n, rest)) (front : List Op) where
@@ -67,7 +68,7 @@ module _ (fs : List FunctionPart) (bytes : List ℕ) (h : HeadTree) (behind : Li
     ops_by = bind_done (number_at behind) (λ m. many_at op_at m.0 m.1) (n, rest) count
 
     pub ops_fail : (e : ReadStop) → Fails e (with_front front (many_at op_at n rest)) → Fails e (function_onto fs bytes)
-    ops_fail e f = fails_same (function_onto fs bytes) (ops_at behind >>= λ ops. Ok (fs ++ with_ops h ops.0 ∷ [], ops.1)) e onto_by
+    ops_fail e f = fails_same (function_onto fs bytes) (ops_at behind >>= λ ops. gave (fs ++ with_ops h ops.0 ∷ []) ops.1) e onto_by
         (first_fails (ops_at behind) (λ ops. gave (fs ++ with_ops h ops.0 ∷ []) ops.1) e (fails_same (ops_at behind) (many_at op_at n rest) e ops_by (front_fails front (many_at op_at n rest) e f)))
 
     pub onto_done : (xs : List Op) (after : List ℕ) → many_at op_at n rest ≡ Ok (xs, after) → function_onto fs bytes ≡ Ok (fs ++ with_ops h xs ∷ [], after)
@@ -79,14 +80,14 @@ head_fails fs bytes e f = first_fails (head_at bytes >>= λ g. ops_at g.1 >>= λ
 
 pub onto_ok : (fs : List FunctionPart) (bytes : List ℕ) (gs : List FunctionPart) (after : List ℕ) → function_onto fs bytes ≡ Ok (gs, after) → (f : FunctionPart) × (function_at bytes ≡ Ok (f, after)) × (gs ≡ fs ++ f ∷ [])
 onto_ok fs bytes gs after e = by (function_at bytes) e where
-  by : (r : Result (FunctionPart × List ℕ) ℕ) → (r >>= λ f. Ok (fs ++ f.0 ∷ [], f.1)) ≡ Ok (gs, after) → (f : FunctionPart) × (r ≡ Ok (f, after)) × (gs ≡ fs ++ f ∷ [])
+  by : (r : Result (FunctionPart × List ℕ) ℕ) → (r >>= λ f. gave (fs ++ f.0 ∷ []) f.1) ≡ Ok (gs, after) → (f : FunctionPart) × (r ≡ Ok (f, after)) × (gs ≡ fs ++ f ∷ [])
   by (Ok f) q = let s = same_gift (fs ++ f.0 ∷ []) gs f.1 after q in (f.0, (λ i. gave f.0 (s.1 i)), sym s.0)
   by (Err l) q = absurd cc
 
 pub onto_fails : (fs : List FunctionPart) (bytes : List ℕ) (e : ReadStop) → Fails e (function_onto fs bytes) → Fails e (function_at bytes)
 onto_fails fs bytes stop.NoMemory f = tt
 onto_fails fs bytes (stop.Bad left) f = by (function_at bytes) f where
-  by : (r : Result (FunctionPart × List ℕ) ℕ) → (r >>= λ g. Ok (fs ++ g.0 ∷ [], g.1)) ≡ Err left → r ≡ Err left
+  by : (r : Result (FunctionPart × List ℕ) ℕ) → (r >>= λ g. gave (fs ++ g.0 ∷ []) g.1) ≡ Err left → r ≡ Err left
   by (Ok g) q = absurd cc
   by (Err l) q = cc
 
@@ -97,3 +98,30 @@ ops_room n bytes xs rest b e =
     let sum = ap (λ (s : List ℕ). length s) t.2 ∙ length-append (spell (flat_map op_items xs)) rest in
     let each = many_length op_items op_length xs in
     omega arith
+
+-- ---- the functions at the end
+
+abbrev at_end : List FunctionPart × List ℕ → Result (List FunctionPart) ℕ
+at_end fs = cond (length fs.1 == 0) (Ok fs.0) (Err (length fs.1))
+
+pub last_count_fails : (bytes : List ℕ) (e : ReadStop) → Fails e (number_at bytes) → Fails e (last_functions_at bytes)
+unfolding last_functions_at functions_at
+last_count_fails bytes e f = first_fails (number_at bytes >>= λ n. many_at function_at n.0 n.1) at_end e (first_fails (number_at bytes) (λ n. many_at function_at n.0 n.1) e f)
+
+module _ (bytes : List ℕ) (n : ℕ) (behind : List ℕ) (count : number_at bytes ≡ Ok (n, behind)) where
+  last_by : last_functions_at bytes ≡ (with_front [] (many_at function_at n behind) >>= at_end)
+  unfolding last_functions_at functions_at
+  last_by =
+      ap (λ (r : Result (ℕ × List ℕ) ℕ). (r >>= λ m. many_at function_at m.0 m.1) >>= at_end) count
+      ∙ ap (λ (r : Result (List FunctionPart × List ℕ) ℕ). r >>= at_end) (sym (front_of_none (many_at function_at n behind)))
+
+  pub last_fails : (e : ReadStop) → Fails e (with_front [] (many_at function_at n behind)) → Fails e (last_functions_at bytes)
+  last_fails e f = fails_same (last_functions_at bytes) (with_front [] (many_at function_at n behind) >>= at_end) e last_by (first_fails (with_front [] (many_at function_at n behind)) at_end e f)
+
+  pub last_done : (fs : List FunctionPart) (rest : List ℕ) → with_front [] (many_at function_at n behind) ≡ Ok (fs, rest) → length rest ≡ 0 → last_functions_at bytes ≡ Ok fs
+  last_done fs rest e z =
+      last_by ∙ bind_done (with_front [] (many_at function_at n behind)) at_end (fs, rest) e ∙ ap (λ (k : ℕ). cond (k == 0) (Ok fs) (Err k)) z
+
+  pub last_more : (fs : List FunctionPart) (rest : List ℕ) → with_front [] (many_at function_at n behind) ≡ Ok (fs, rest) → (length rest ≡ 0 → ⊥) → last_functions_at bytes ≡ Err (length rest)
+  last_more fs rest e z =
+      last_by ∙ bind_done (with_front [] (many_at function_at n behind)) at_end (fs, rest) e ∙ ap (λ (b : Bool). cond b (Ok fs) (Err (length rest))) (ne_eqb (length rest) 0 z)

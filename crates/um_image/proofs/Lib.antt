@@ -24,3 +24,4 @@ mod Mapped
 mod FractionParts
 mod Decoded
 mod FunctionLoops
+mod Examples

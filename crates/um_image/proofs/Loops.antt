@@ -53,7 +53,7 @@ front_fails front (Err l) (stop.Bad left) h = cc
 -- what fails first, fails
 pub first_fails : {A B : Type 0} (r : Result A ℕ) (f : A → Result B ℕ) (e : ReadStop) → Fails e r → Fails e (r >>= f)
 first_fails r f stop.NoMemory h = tt
-first_fails {A} {B} r f (stop.Bad left) h = bind_failed {A} {B} r f left h
+first_fails r f (stop.Bad left) h = bind_failed r f left h
 
 pub fails_same : {A : Type 0} (r q : Result A ℕ) (e : ReadStop) → r ≡ q → Fails e q → Fails e r
 fails_same r q stop.NoMemory e h = tt

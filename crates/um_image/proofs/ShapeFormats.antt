@@ -107,14 +107,19 @@ abbrev level_at : ℕ → List ℕ → Result (ShapeTree × List ℕ) ℕ
 level_at zero bytes = Err (length bytes)
 level_at (suc n) bytes = tag_at bytes >>= λ b. behind_tag (level_at n) b.0 b.1
 
+-- behind the last level nothing is read
+pub no_levels : (bytes : List ℕ) → shape_at 0 bytes ≡ Err (length bytes)
+unfolding shape_at
+no_levels [] = refl
+no_levels (zero ∷ r) = refl
+no_levels (suc zero ∷ r) = refl
+no_levels (suc (suc zero) ∷ r) = refl
+no_levels (suc (suc (suc zero)) ∷ r) = refl
+no_levels (suc (suc (suc (suc c))) ∷ r) = refl
+
 levels : (n : ℕ) (bytes : List ℕ) → level_at n bytes ≡ shape_at n bytes
 unfolding shape_at
-levels zero [] = refl
-levels zero (zero ∷ r) = refl
-levels zero (suc zero ∷ r) = refl
-levels zero (suc (suc zero) ∷ r) = refl
-levels zero (suc (suc (suc zero)) ∷ r) = refl
-levels zero (suc (suc (suc (suc c))) ∷ r) = refl
+levels zero bytes = sym (no_levels bytes)
 levels (suc n) [] = refl
 levels (suc n) (zero ∷ r) = ap (λ (b : Bool). cond b (Err (suc (length r))) (Ok (bool_shape, r))) (sym (eqb-suc-zero n))
 levels (suc n) (suc zero ∷ r) = ap (λ (b : Bool). cond b (Err (suc (length r))) (Ok (num_shape, r))) (sym (eqb-suc-zero n))

@@ -3,6 +3,7 @@ use Rattle.std.proofs.Math.Facts.{Fits-of_lt}
 use Rattle.std.proofs.lemmas.Result.{err_from_is_err_and}
 use Rattle.std.proofs.lemmas.List.{length-append, length-map}
 use Rattle.um_machine.specs.declared.op.Op.{Op}
+use Rattle.um_machine.specs.declared.code.Entry.{Entry}
 use Rattle.um_tree.specs.TypeTree.{shape_tree}
 use Rattle.um_verify.specs.ImageTree.{head_tree}
 use Rattle.um_image.specs.Reading.{number_at, op_at, head_at, many_at}
@@ -59,7 +60,7 @@ returns-clause-kept c = λ fs h.
     let f = front_ok old.ops.items (many_at op_at c.in_ok-count.count c.in_ok-count.rest.now) c.add_ops.new.ops.items c.in_ok-rest.rest.now c.in_ok-rest.ensures in
     let head = c.in_ok-head.head in
     let params = head.params.items in
-    let entry = record { start = c.len-start.result; end = c.len-end.result; params = c.len-params.result } in
+    let entry : Entry = record { start = c.len-start.result; end = c.len-end.result; params = c.len-params.result } in
     let start = c.len-start.ensures ∙ old.ops.ok.0 in
     let end = c.len-end.ensures ∙ c.add_ops.new.ops.ok.0 in
     let count = c.len-params.ensures ∙ params.ok.0 ∙ sym (length-map params.items shape_tree) in
