@@ -1,11 +1,9 @@
 -- What parsing answers, from the limits of a program that was read; and what the loop over tokens that are handed over
 -- gives, with the places of the refusals.
-use Rattle.std.proofs.Common.{◌≡◌, ℕ, zero, suc, ◌+◌, ◌≤◌, ◌<◌, List, [], ◌∷◌, length, take, get_or, Option, Some, None, Result, Ok, Err, refl, sym, ap, subst, ◌∙◌, arith}
-use Rattle.std.specs.Prelude.{option_map}
+use Rattle.std.proofs.Common.{◌≡◌, ℕ, zero, suc, ◌≤◌, ◌<◌, List, [], ◌∷◌, length, get_or, Some, None, Result, Ok, Err, refl, sym, ap, subst, ◌∙◌, arith}
 use Rattle.um_syntax.specs.declared.token.Token.{Token}
 use Rattle.um_tree.specs.declared.raw.RawProgram.{RawProgram}
 use Rattle.um_tree.specs.RawTree.{DeclSyntax, program_syntax}
-use Rattle.um_reader.specs.Machine.{reached}
 use Rattle.um_reader.specs.Takes.{Takes}
 use Rattle.um_reader.specs.declared.taken.Taken.TheVariants as taken
 use Rattle.um_reader.specs.declared.reading.ReadStop.TheVariants as read_stop
