@@ -1,20 +1,19 @@
 -- What `decode` answers, by what reading gives.
-use Rattle.std.proofs.Common.{◌≡◌, refl, sym, subst, ap, ◌∙◌, ℕ, ◌+◌, ◌-◌, ◌<◌, ◌≤◌, List, [], ◌∷◌, ◌++◌, length, map, All, Result, Ok, Err, arith}
+use Rattle.std.proofs.Common.{◌≡◌, sym, subst, ap, ◌∙◌, ℕ, ◌<◌, ◌≤◌, List, [], ◌∷◌, length, map, All, Result, Ok, Err, arith}
 use Rattle.um_tree.specs.declared.program.Records.{Records}
 use Rattle.um_tree.specs.ProgramTree.{RecordTree, record_tree}
-use Rattle.um_verify.specs.declared.image.Image.{Image}
-use Rattle.um_verify.specs.ImageTree.{ImageTree, image_tree, HasForm}
+use Rattle.um_verify.specs.ImageTree.{ImageTree, HasForm}
 use Rattle.um_image.specs.declared.stop.ReadStop.{ReadStop}
 use Rattle.um_image.specs.declared.stop.ReadStop.TheVariants as stop
 use Rattle.um_image.specs.declared.function.Functions.{Functions}
-use Rattle.um_image.specs.Encoding.{Item, written, spell, FunctionPart, ImageParts, parts_items, image_parts, image_bytes}
-use Rattle.um_image.specs.Places.{PartsFit, IsWritten, IsBadAt, IsWritable}
+use Rattle.um_image.specs.Encoding.{written, spell, FunctionPart, ImageParts, parts_items, image_parts, image_bytes}
+use Rattle.um_image.specs.Places.{IsBadAt, IsWritable}
 use Rattle.um_image.specs.Reading.{◌>>=◌, Fails, letters_at, records_at, last_functions_at, image_at}
 use Rattle.um_image.specs.FunctionsRead.{Holds, image_of_parts, kept_image}
-use Rattle.um_image.proofs.Formats.{IsBytes, bytes_behind, not_both, IsFormat, item_format, rest_of}
+use Rattle.um_image.proofs.Formats.{IsBytes, not_both, item_format, rest_of}
 use Rattle.um_image.proofs.ItemFormats.{own_bytes, AreLetters, letters_item}
-use Rattle.um_image.proofs.PartFormats.{with_functions, AreCounted, records_format}
-use Rattle.um_image.proofs.ReadLaws.{read_takes, read_again, read_refused, refused_there, is_bytes}
+use Rattle.um_image.proofs.PartFormats.{with_functions, records_format}
+use Rattle.um_image.proofs.ReadLaws.{read_takes, read_again, refused_there, is_bytes}
 use Rattle.um_image.proofs.ImagesAsParts.{parts_back, image_back, form_from, written_image}
 
 abbrev value_or : ImageParts → Result ImageParts ℕ → ImageParts

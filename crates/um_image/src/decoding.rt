@@ -7,7 +7,7 @@ ghost use Rattle.um_image.specs.Laws.{IsDecoded};
 ghost use Rattle.um_image.specs.Reading.{image_at};
 ghost use Rattle.um_image.specs.FunctionsRead.{IsImageRead, kept_image};
 
-use crate::function::{read_last_functions, Functions};
+use crate::function::{Functions, read_last_functions};
 use crate::item::read_letters;
 use crate::record::read_records;
 use crate::stop::{DecodeStop, ReadStop};

@@ -6,7 +6,7 @@ ghost use Rattle.um_image.specs.Reading.{Gives, many_at, with_front, operands_at
 ghost use Rattle.um_image.specs.FunctionsRead.{GivesFunctions, Holds, AreFunctionsRead, AreLastFunctions, function_onto};
 ghost use Rattle.um_image.specs.Reading.{last_functions_at};
 
-use crate::form::{form_of, with_number, Form};
+use crate::form::{Form, form_of, with_number};
 use crate::item::{read_fraction, read_name, read_number, read_power, read_truth};
 use crate::record::{read_low_shape, read_shapes};
 use crate::stop::ReadStop;

@@ -81,7 +81,11 @@ fn plain_field(alloc: Global, field: &FieldDecl) -> Result<FieldDecl, NoMemory>
     Ok(FieldDecl { name, ty })
 }
 
-fn add_fields(alloc: Global, fields: &[FieldDecl], plain: &mut Vec<FieldDecl>) -> Result<(), NoMemory>
+fn add_fields(
+    alloc: Global,
+    fields: &[FieldDecl],
+    plain: &mut Vec<FieldDecl>,
+) -> Result<(), NoMemory>
     ensures { OnOk result (map field_tree plain.new.items ≡ map field_tree plain.old.items ++ map plain_field (map field_tree fields.now)) }
 {
     for i in 0..fields.len() {

@@ -1,4 +1,4 @@
-use Rattle.std.proofs.Common.{◌≡◌, ◌≤◌, length, subst, arith, Err}
+use Rattle.std.proofs.Common.{◌≡◌, subst, arith, Err}
 use Rattle.um_verify.specs.ImageTree.{image_tree}
 use Rattle.um_image.specs.declared.stop.ReadStop.{ReadStop}
 use Rattle.um_image.specs.Reading.{Fails, image_at}
