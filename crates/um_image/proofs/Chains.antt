@@ -1,11 +1,11 @@
 -- Formats of things that are read one behind the other: a first part, and what it says of the rest; and many of a kind.
-use Rattle.std.proofs.Common.{◌≡◌, ◌≢◌, refl, sym, subst, ap, ◌∙◌, ℕ, zero, suc, inl, inr, List, [], ◌∷◌, ◌++◌, length, Result, Ok, Err, arith, append_assoc}
+use Rattle.std.proofs.Common.{◌≡◌, ◌≢◌, refl, sym, subst, ap, ◌∙◌, ℕ, zero, suc, inl, inr, List, [], ◌∷◌, ◌++◌, length, Result, Ok, Err, append_assoc}
 use Rattle.std.specs.List.{flat_map, AllByRecursion}
 use Rattle.std.proofs.lemmas.List.{append-nil, append_cancel_left}
 use Rattle.um_image.specs.Encoding.{Item, written, spell}
 use Rattle.um_image.specs.Places.{IsWritten}
 use Rattle.um_image.specs.Reading.{◌>>=◌, many_at}
-use Rattle.um_image.proofs.Formats.{IsBytes, bytes_behind, spell-append, both_written, left_written, right_written, Cut, cut, right_nil, gave, same_gift, not_both, same_left, bind_ok, bind_done, bind_failed, NoMore, IsStop, IsFormat, done_format, Made, made_format}
+use Rattle.um_image.proofs.Formats.{IsBytes, bytes_behind, spell-append, both_written, left_written, right_written, Cut, cut, gave, not_both, same_left, bind_ok, bind_done, bind_failed, NoMore, IsStop, IsFormat, done_format, Made, made_format}
 
 -- z is a first part x and what x says of the rest
 pub record Splits {X Z : Type 0} (first_items : X → List Item) (FirstFits : X → Type 0) (rest_items : X → Z → List Item) (RestFits : X → Z → Type 0) (items : Z → List Item) (Fits : Z → Type 0) : Type 0 where
@@ -74,8 +74,10 @@ module _ {X Z : Type 0} (read : List ℕ → Result (X × List ℕ) ℕ) (first_
     no_more_first z item more os f q p = by (cut (first_items y) (rest_items y z) s.front (written item ∷ os) (sym a.3 ∙ q)) where
       a : (x : X) × FirstFits x × RestFits x z × (items z ≡ first_items x ++ rest_items x z)
       a = split.apart z f
+
       y : X
       y = a.0
+
       by : Cut (first_items y) (rest_items y z) s.front (written item ∷ os) → ⊥
       by (inl ([], e, k)) = not_both (read bytes) (y, spell [] ++ s.rest) left (read_again y s.front [] bytes s.rest a.1 s.have_bytes (sym (append-nil s.front) ∙ sym e ∙ sym (append-nil (first_items y))) s.parts) failed
       by (inl (c ∷ m, e, k)) =
@@ -146,13 +148,13 @@ module _ {X Z : Type 0} (read : List ℕ → Result (X × List ℕ) ℕ) (first_
     stuck_behind x m g h e q =
         chain_done (spell front ++ rest) x (spell m ++ rest) (read_again x front m (spell front ++ rest) rest g w e refl)
         ∙ (others x g).stuck z m os rest b h (right_written (first_items x) m (subst IsWritten e w)) q n
-          (λ v item more ks k p r. let j = split.joined x v g k in barred v item more ks j.0 (j.1 ∙ ap (λ (is : List Item). first_items x ++ is) p ∙ sym (append_assoc (first_items x) m (written item ∷ ks)) ∙ ap (λ (is : List Item). is ++ written item ∷ ks) (sym e)) r)
+        (λ v item more ks k p r. let j = split.joined x v g k in barred v item more ks j.0 (j.1 ∙ ap (λ (is : List Item). first_items x ++ is) p ∙ sym (append_assoc (first_items x) m (written item ∷ ks)) ∙ ap (λ (is : List Item). is ++ written item ∷ ks) (sym e)) r)
 
     stuck_first : (x : X) (c : Item) (m : List Item) → FirstFits x → first_items x ≡ front ++ c ∷ m → chain (spell front ++ rest) ≡ Err (length rest)
     stuck_first x c m g e =
         bind_failed (read (spell front ++ rest)) (λ y. read_rest y.0 y.1) (length rest)
         (first.stuck x front (c ∷ m) rest b g w e (λ (q : c ∷ m ≡ []). absurd cc)
-          (λ y item more ks h p r. let v = (others y h).some in let j = split.joined y v h (others y h).some_fits in barred v item more (ks ++ rest_items y v) j.0 (j.1 ∙ ap (λ (is : List Item). is ++ rest_items y v) p ∙ append_assoc front (written item ∷ ks) (rest_items y v)) r))
+        (λ y item more ks h p r. let v = (others y h).some in let j = split.joined y v h (others y h).some_fits in barred v item more (ks ++ rest_items y v) j.0 (j.1 ∙ ap (λ (is : List Item). is ++ rest_items y v) p ∙ append_assoc front (written item ∷ ks) (rest_items y v)) r))
 
     chain_stuck : (x : X) → FirstFits x → RestFits x z → Cut (first_items x) (rest_items x z) front os → chain (spell front ++ rest) ≡ Err (length rest)
     chain_stuck x g h (inl ([], e, q)) = stuck_behind x [] g h (sym (append-nil front) ∙ sym e ∙ sym (append-nil (first_items x))) q
@@ -190,22 +192,23 @@ module _ {A : Type 0} (read : List ℕ → Result (A × List ℕ) ℕ) (items : 
     apart : (ys : List A) → AreMany Fits (suc n) ys → (x : A) × Fits x × Made (AreMany Fits n) (λ (xs : List A). x ∷ xs) ys × (flat_map items ys ≡ items x ++ tail_items items ys)
     apart [] (e, f) = absurd cc
     apart (x ∷ xs) (e, f) = let l : length xs ≡ n = cc in (x, f.0, (xs, (l, f.1), refl), refl)
+
     joined : (x : A) (ys xs : List A) → Fits x → AreMany Fits n xs → ys ≡ x ∷ xs → AreMany Fits (suc n) ys × (flat_map items ys ≡ items x ++ tail_items items ys)
     joined x ys xs f (e, g) q = subst (λ (zs : List A). AreMany Fits (suc n) zs × (flat_map items zs ≡ items x ++ tail_items items zs)) (sym q) ((ap suc e, (f, g)), refl)
 
   pub many_format : (n : ℕ) → IsFormat (many_at read n) (flat_map items) (AreMany Fits n)
   many_format zero = described (done_format {A = List A} [] (flat_map items) refl)
     where
-    described : IsFormat (gave []) (flat_map items) (λ (xs : List A). xs ≡ []) → IsFormat (many_at read zero) (flat_map items) (AreMany Fits zero)
-    described d = record {
-      takes = λ bytes xs rest b e. let t = d.takes bytes xs rest b e in (subst (AreMany Fits zero) (sym t.0) (refl, tt), t.1, t.2);
-      again = λ xs rest f w. d.again xs rest (none_split xs f.0) w;
-      whole = λ xs ys others f g w e. d.whole xs ys others (none_split xs f.0) (none_split ys g.0) w e;
-      stops = λ bytes left b e. absurd cc;
-      stuck = λ xs front others rest b f w e n barred. d.stuck xs front others rest b (none_split xs f.0) w e n (λ ys item more os g q p. barred ys item more os (subst (AreMany Fits zero) (sym g) (refl, tt)) q p);
-      some = [];
-      some_fits = (refl, tt);
-    }
+      described : IsFormat (gave []) (flat_map items) (λ (xs : List A). xs ≡ []) → IsFormat (many_at read zero) (flat_map items) (AreMany Fits zero)
+      described d = record {
+        takes = λ bytes xs rest b e. let t = d.takes bytes xs rest b e in (subst (AreMany Fits zero) (sym t.0) (refl, tt), t.1, t.2);
+        again = λ xs rest f w. d.again xs rest (none_split xs f.0) w;
+        whole = λ xs ys others f g w e. d.whole xs ys others (none_split xs f.0) (none_split ys g.0) w e;
+        stops = λ bytes left b e. absurd cc;
+        stuck = λ xs front others rest b f w e n barred. d.stuck xs front others rest b (none_split xs f.0) w e n (λ ys item more os g q p. barred ys item more os (subst (AreMany Fits zero) (sym g) (refl, tt)) q p);
+        some = [];
+        some_fits = (refl, tt);
+      }
   many_format (suc n) =
       chain_format read items Fits (λ (x : A) (bytes : List ℕ). many_at read n bytes >>= λ xs. Ok (x ∷ xs.0, xs.1)) (λ (x : A) (xs : List A). tail_items items xs) (λ (x : A). Made (AreMany Fits n) (λ (xs : List A). x ∷ xs)) (flat_map items) (AreMany Fits (suc n)) h
       (λ x f. made_format (many_at read n) (flat_map items) (AreMany Fits n) (λ (xs : List A). x ∷ xs) (tail_items items) (λ xs. refl) (many_format n))

@@ -1,21 +1,20 @@
 -- What `decode` answers, by what reading gives.
-use Rattle.std.proofs.Common.{◌≡◌, refl, sym, subst, ap, ◌∙◌, ℕ, ◌+◌, ◌-◌, ◌<◌, ◌≤◌, List, [], ◌∷◌, ◌++◌, length, map, All, Result, Ok, Err, arith}
+use Rattle.std.proofs.Common.{◌≡◌, sym, subst, ap, ◌∙◌, ℕ, ◌<◌, ◌≤◌, List, [], ◌∷◌, length, map, All, Result, Ok, Err, arith}
 use Rattle.um_tree.specs.declared.program.Records.{Records}
 use Rattle.um_tree.specs.ProgramTree.{RecordTree, record_tree}
-use Rattle.um_verify.specs.declared.image.Image.{Image}
-use Rattle.um_verify.specs.ImageTree.{ImageTree, image_tree, HasForm}
+use Rattle.um_verify.specs.ImageTree.{ImageTree, HasForm}
 use Rattle.um_image.specs.declared.stop.ReadStop.{ReadStop}
 use Rattle.um_image.specs.declared.stop.ReadStop.TheVariants as stop
 use Rattle.um_image.specs.declared.function.Functions.{Functions}
-use Rattle.um_image.specs.Encoding.{Item, written, spell, FunctionPart, ImageParts, parts_items, image_parts, image_bytes}
-use Rattle.um_image.specs.Places.{PartsFit, IsWritten, IsBadAt, IsWritable}
+use Rattle.um_image.specs.Encoding.{written, spell, FunctionPart, ImageParts, parts_items, image_parts, image_bytes}
+use Rattle.um_image.specs.Places.{IsBadAt, IsWritable}
 use Rattle.um_image.specs.Reading.{◌>>=◌, Fails, letters_at, records_at, last_functions_at, image_at}
 use Rattle.um_image.specs.FunctionsRead.{Holds, image_of_parts, kept_image}
-use Rattle.um_image.proofs.Formats.{IsBytes, bytes_behind, not_both, IsFormat, item_format, rest_of}
+use Rattle.um_image.proofs.Formats.{IsBytes, not_both, item_format, rest_of}
 use Rattle.um_image.proofs.ItemFormats.{own_bytes, AreLetters, letters_item}
-use Rattle.um_image.proofs.PartFormats.{with_functions, AreCounted, records_format}
-use Rattle.um_image.proofs.ReadLaws.{read_takes, read_again, read_refused, refused_there, is_bytes}
-use Rattle.um_image.proofs.ImagesAsParts.{parts_back, image_back, form_from, written_image}
+use Rattle.um_image.proofs.PartFormats.{with_functions, records_format}
+use Rattle.um_image.proofs.ReadLaws.{read_takes, read_again, refused_there, is_bytes}
+use Rattle.um_image.proofs.ImagesAsParts.{parts_back, image_back, form_from, records_few, written_image}
 
 abbrev value_or : ImageParts → Result ImageParts ℕ → ImageParts
 value_or q (Ok r) = r
@@ -58,6 +57,11 @@ module _ (bytes : List ℕ) (b : IsBytes bytes) (few : length bytes ≤ 16777216
   has_form =
       let t = read_takes bytes p b e in
       subst HasForm (sym is) (form_from p t.0 t.1 (subst (λ (s : List ℕ). length s ≤ 16777216) t.2 few))
+
+  pub few_records : length image.records ≤ 16777216
+  few_records =
+      let t = read_takes bytes p b e in
+      subst (λ (i : ImageTree). length i.records ≤ 16777216) (sym is) (records_few p (subst (λ (s : List ℕ). length s ≤ 16777216) t.2 few))
 
   pub has_bytes : bytes ≡ image_bytes image
   has_bytes = (read_takes bytes p b e).2 ∙ ap (λ (q : ImageParts). spell (parts_items q)) (sym (parts_back p)) ∙ ap image_bytes (sym is)

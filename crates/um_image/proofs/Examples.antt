@@ -1,5 +1,5 @@
 -- Images as bytes: what small ones come to, and where bytes are refused.
-use Rattle.std.proofs.Common.{◌≡◌, refl, ℕ, suc, ℤ, pos, negsuc, List, [], ◌∷◌, ◌++◌, codes, All, Result, Ok, Err}
+use Rattle.std.proofs.Common.{◌≡◌, refl, ℕ, pos, negsuc, List, [], ◌∷◌, ◌++◌, codes, Err}
 use lib.Signed.{le_z_yes}
 use Rattle.um_frac.specs.declared.number.Frac.{Frac}
 use Rattle.um_frac.proofs.Gcd.{gcd-one}
@@ -8,9 +8,9 @@ use Rattle.um_machine.specs.declared.op.Op.TheVariants.{PushNum, Ret, MakeRec, P
 use Rattle.um_verify.specs.ImageTree.{ImageTree}
 use Rattle.um_image.specs.Encoding.{written, forbidden, shape_items, op_items, field_items, image_bytes}
 use Rattle.um_image.specs.Places.{IsBadAt}
-use Rattle.um_image.specs.Reading.{number_at, letters_at, truth_at, shape_at, records_at, functions_at, function_at, head_at, name_at, text_at, shapes_at, low_shape_at, ops_at, op_at, form_at, operands_at, last_functions_at, image_at}
+use Rattle.um_image.specs.Reading.{number_at, letters_at, truth_at, shape_at, records_at, functions_at, name_at, text_at, op_at, form_at, operands_at, last_functions_at, image_at}
 use Rattle.um_image.proofs.Formats.{IsBytes}
-use Rattle.um_image.proofs.ReadLaws.{read_refused, is_bytes}
+use Rattle.um_image.proofs.ReadLaws.{read_refused}
 
 one : Frac
 one = record {

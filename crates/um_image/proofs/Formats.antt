@@ -1,11 +1,10 @@
 -- Formats: what is read from bytes item by item has these items, what has the items is read, and where reading ends no
 -- item goes on.
-use Rattle.std.proofs.Common.{◌≡◌, ◌≢◌, refl, sym, subst, ap, ◌∙◌, ℕ, zero, suc, ◌+◌, ◌<◌, ◌≤◌, ◌⊎◌, inl, inr, List, [], ◌∷◌, ◌++◌, length, get_or, drop, take, Result, Ok, Err, arith, append_assoc}
-use Rattle.std.specs.List.{flat_map, AllByRecursion}
-use Rattle.std.proofs.lemmas.List.{append-nil, append_cancel_left, drop_at, get_or-drop, length-append}
+use Rattle.std.proofs.Common.{◌≡◌, ◌≢◌, refl, sym, subst, ap, ◌∙◌, ℕ, ◌+◌, ◌<◌, ◌≤◌, ◌⊎◌, inl, inr, List, [], ◌∷◌, ◌++◌, length, get_or, drop, Result, Ok, Err, arith, append_assoc}
+use Rattle.std.proofs.lemmas.List.{append-nil, drop_at, get_or-drop, length-append}
 use Rattle.um_image.specs.Encoding.{Item, written, forbidden, spell}
 use Rattle.um_image.specs.Places.{IsWritten}
-use Rattle.um_image.specs.Reading.{◌>>=◌, many_at}
+use Rattle.um_image.specs.Reading.{◌>>=◌}
 
 -- ---- bytes
 

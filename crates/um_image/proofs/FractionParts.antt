@@ -1,5 +1,5 @@
 -- A fraction by its two parts, and how it is read.
-use Rattle.std.proofs.Common.{◌≡◌, refl, sym, ap, ◌∙◌, ℕ, ◌≤◌, ℤ, ◌*ℤ◌, pos, Bool, cond, ltb, List, length, take, drop, Option, Some, None, Result, Ok, Err}
+use Rattle.std.proofs.Common.{◌≡◌, sym, ap, ◌∙◌, ℕ, ◌≤◌, ℤ, ◌*ℤ◌, Bool, cond, List, length, take, drop, Option, Some, None, Err}
 use Rattle.std.proofs.lemmas.Bool.{le-ltb}
 use Rattle.um_frac.specs.declared.number.Frac.{Frac}
 use Rattle.um_frac.specs.Fraction.{numerator, denominator, fraction, reduced, IsQuotient}

@@ -1,7 +1,7 @@
 -- Functions read one after the other, and kept as an image has them.
-use Rattle.std.proofs.Common.{◌≡◌, refl, sym, subst, ap, ◌∙◌, ℕ, zero, suc, ◌+◌, ◌-◌, ◌<◌, ◌≤◌, ◌==◌, Bool, cond, List, [], ◌∷◌, ◌++◌, length, map, Result, Ok, Err, arith, append_assoc}
+use Rattle.std.proofs.Common.{◌≡◌, refl, sym, ap, ◌∙◌, ℕ, ◌+◌, ◌≤◌, ◌==◌, Bool, cond, List, [], ◌∷◌, ◌++◌, length, map, Result, Ok, Err, arith}
 use Rattle.std.specs.List.{flat_map}
-use Rattle.std.proofs.lemmas.List.{append-nil, length-append, map-append, length-map}
+use Rattle.std.proofs.lemmas.List.{append-nil, length-append, map-append}
 use Rattle.std.proofs.lemmas.Grind.{flat_map-append}
 use Rattle.std.proofs.lemmas.Bool.{ne_eqb}
 use Rattle.um_machine.specs.declared.op.Op.{Op}
@@ -14,12 +14,12 @@ use Rattle.um_image.specs.declared.function.Functions.{Functions}
 use Rattle.um_image.specs.Encoding.{spell, op_items, FunctionPart}
 use Rattle.um_image.specs.Reading.{◌>>=◌, Fails, number_at, many_at, with_front, op_at, ops_at, head_at, function_at, functions_at, last_functions_at}
 use Rattle.um_image.specs.FunctionsRead.{entries_from, Holds, function_onto}
-use Rattle.um_image.proofs.Formats.{IsBytes, gave, same_gift, bind_done, bind_failed}
-use Rattle.um_image.proofs.Chains.{AreMany, many_format}
+use Rattle.um_image.proofs.Formats.{IsBytes, gave, same_gift, bind_done}
+use Rattle.um_image.proofs.Chains.{many_format}
 use Rattle.um_image.proofs.OpFormats.{op_format}
 use Rattle.um_image.proofs.PartFormats.{with_ops}
 use Rattle.um_image.proofs.ImagesAsParts.{ops_of, many_length, op_length}
-use Rattle.um_image.proofs.Loops.{front_ok, front_fails, front_of_none, first_fails, fails_same}
+use Rattle.um_image.proofs.Loops.{front_fails, front_of_none, first_fails, fails_same}
 
 -- ---- one more
 
@@ -37,7 +37,7 @@ holds_more old new fs head xs e h heads ops entries start end params =
     let before : length old.ops.items ≡ length (ops_of fs) = ap (λ (os : List Op). length os) h.ops in
     let both : length new.ops.items ≡ length old.ops.items + length xs = ap (λ (os : List Op). length os) ops ∙ length-append old.ops.items xs in
     let own : e ≡ record { start = length (ops_of fs); end = length (ops_of fs) + length xs; params = length (head_tree head).params } =
-      (λ i. record { start = (start ∙ before) i; end = (end ∙ both ∙ ap (λ (n : ℕ). n + length xs) before) i; params = params i }) in
+    (λ i. record { start = (start ∙ before) i; end = (end ∙ both ∙ ap (λ (n : ℕ). n + length xs) before) i; params = params i }) in
     record {
       heads = ap (map head_tree) heads ∙ map-append head_tree old.heads.items (head ∷ []) ∙ ap (λ (hs : List HeadTree). hs ++ head_tree head ∷ []) h.heads ∙ sym (map-append (λ (g : FunctionPart). g.head) fs (f ∷ []));
       ops = ops ∙ ap (λ (os : List Op). os ++ xs) h.ops ∙ ap (λ (os : List Op). ops_of fs ++ os) (sym (append-nil xs)) ∙ sym (flat_map-append (λ (g : FunctionPart). g.ops) fs (f ∷ []));

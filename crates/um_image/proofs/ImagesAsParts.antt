@@ -1,12 +1,11 @@
 -- An image function by function, and the image of its parts: each comes back from the other.
-use Rattle.std.proofs.Common.{◌≡◌, refl, sym, subst, ap, ◌∙◌, ℕ, zero, suc, ◌+◌, ◌-◌, ◌^◌, ◌<◌, ◌≤◌, List, [], ◌∷◌, ◌++◌, length, map, take, drop, All, Result, Ok, Err, arith, append_assoc}
+use Rattle.std.proofs.Common.{◌≡◌, refl, sym, subst, ap, ◌∙◌, ℕ, zero, suc, ◌+◌, ◌-◌, ◌≤◌, List, [], ◌∷◌, ◌++◌, length, map, take, drop, arith, append_assoc}
 use Rattle.std.specs.List.{flat_map, AllByRecursion}
-use Rattle.std.proofs.lemmas.List.{append-nil, length-append, length-map, length-take, length-drop, take_at, drop_at, drop_all, drop-drop, take-append-drop}
+use Rattle.std.proofs.lemmas.List.{length-append, length-map, length-take, length-drop, take_at, drop_at, drop_all, drop-drop, take-append-drop}
 use Rattle.std.proofs.lemmas.List.Elements.{All-from_recursion, recursion_from_All}
 use Rattle.um_tree.specs.TypeTree.{ShapeTree, bool_shape, num_shape, list_shape, record_shape}
 use Rattle.um_tree.specs.ProgramTree.{FieldTree, RecordTree}
 use Rattle.um_tree.specs.Heights.{greatest_height}
-use Rattle.um_tree.specs.TreeHeights.{type_tree_height}
 use Rattle.um_tree.specs.Shapes.{type_shape}
 use Rattle.um_shape.specs.RecordShapes.{shape_height}
 use Rattle.um_machine.specs.declared.op.Op.{Op}
@@ -14,13 +13,13 @@ use Rattle.um_machine.specs.declared.table.Operand.{Operand}
 use Rattle.um_machine.specs.declared.code.Entry.{Entry}
 use Rattle.um_machine.specs.Table.{op_operands}
 use Rattle.um_verify.specs.ImageTree.{HeadTree, ImageTree, IsPlainField, IsPlainRecord, IsPlainHead, IsLowText, Follow, Match, HasForm}
-use Rattle.um_image.specs.Encoding.{Item, written, spell, four_bytes, shape_items, low_shape_items, field_items, record_items, counted_items, operand_item, op_items, FunctionPart, function_items, ImageParts, parts_items, own_ops, function_parts, image_parts, image_bytes}
-use Rattle.um_image.specs.Places.{FieldFits, RecordFits, FunctionFits, PartsFit, IsWritten, IsWritable}
+use Rattle.um_image.specs.Encoding.{Item, written, spell, four_bytes, shape_items, low_shape_items, field_items, record_items, counted_items, operand_item, op_items, FunctionPart, function_items, ImageParts, parts_items, own_ops, function_parts, image_parts}
+use Rattle.um_image.specs.Places.{FieldFits, RecordFits, FunctionFits, PartsFit, IsWritten}
 use Rattle.um_image.specs.FunctionsRead.{entries_from, image_of_parts}
 use Rattle.um_image.proofs.Formats.{spell-append, both_written, left_written, right_written}
 use Rattle.um_image.proofs.PartFormats.{head_items, function_line}
-use Rattle.um_image.proofs.Spelled.{no_record, shape_up, type_heights, parts_length}
-use Rattle.um_image.proofs.Added.{match_lengths, follow_up}
+use Rattle.um_image.proofs.Spelled.{no_record, shape_up, type_heights}
+use Rattle.um_image.proofs.Added.{follow_up}
 
 -- ---- the parts of the image of some parts
 
@@ -143,9 +142,9 @@ plain_head_from f h w =
       result = low_of greatest_height f.head.result (left_written (low_shape_items f.head.result) (counted_items op_items f.ops) (right_written shapes behind w));
     }
   where
-  units : (ss : List ShapeTree) → AllByRecursion (λ s. Unit {0}) ss
-  units [] = tt
-  units (s ∷ ss) = (tt, units ss)
+    units : (ss : List ShapeTree) → AllByRecursion (λ s. Unit {0}) ss
+    units [] = tt
+    units (s ∷ ss) = (tt, units ss)
 
 heads_from : (fs : List FunctionPart) → AllByRecursion FunctionFits fs → IsWritten (flat_map function_items fs) → AllByRecursion IsPlainHead (heads_of fs)
 heads_from [] f w = tt
@@ -213,6 +212,15 @@ form_from p h w few =
       addresses = omega arith;
       count = omega arith;
     }
+
+pub records_few : (p : ImageParts) → length (spell (parts_items p)) ≤ 16777216 → length p.records ≤ 16777216
+records_few p few =
+    let records = flat_map record_items p.records in
+    let functions = counted_items function_items p.functions in
+    let sum = spell_length records functions in
+    let each = many_length record_items (λ d. name_length d.name (written d.name ∷ counted_items field_items d.fields)) p.records in
+    let all : length (spell (parts_items p)) ≡ 8 + length (spell (records ++ functions)) = omega arith in
+    omega arith
 
 -- ---- images that can be written
 

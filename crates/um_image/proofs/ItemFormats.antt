@@ -1,5 +1,5 @@
 -- The formats of single items: numbers, letters, the bytes of a name, powers, truth values and fractions.
-use Rattle.std.proofs.Common.{◌≡◌, refl, sym, subst, ap, ◌∙◌, ℕ, zero, suc, ◌+◌, ◌^◌, ◌<◌, ◌≤◌, inl, inr, ℤ, pos, Bool, true, false, cond, ltb, List, [], ◌∷◌, ◌++◌, length, get_or, take, drop, replicate, codes, Option, Some, None, Result, Ok, Err, arith, FitsSigned, Fits, w32, w64, to_z, of_z}
+use Rattle.std.proofs.Common.{◌≡◌, refl, sym, subst, ap, ◌∙◌, ℕ, zero, suc, ◌^◌, ◌<◌, ◌≤◌, inl, inr, ℤ, pos, Bool, true, false, cond, ltb, List, [], ◌∷◌, ◌++◌, length, take, drop, replicate, codes, Option, Some, None, Result, Ok, Err, arith, FitsSigned, Fits, w32, w64, to_z, of_z}
 use Rattle.std.specs.Int.{to_be_bytes, from_be_bytes}
 use Rattle.std.specs.Str.{bytes_eq}
 use Rattle.std.proofs.Math.Facts.{sfits_to_z, of_z-to_z, to_z-of_z, Fits-of_z, Fits-of_lt, Fits-lt-pow}
@@ -14,7 +14,7 @@ use Rattle.um_frac.proofs.Gcd.{gcd-one}
 use Rattle.um_frac.proofs.LowestTerms.{fraction-is, fraction-parts, num_wide, den_wide}
 use Rattle.um_image.specs.Encoding.{four_bytes, long_bytes}
 use Rattle.um_image.specs.Reading.{found_one, fraction_of, number_at, text_at, letters_at, power_at, truth_at, fraction_at, long_of}
-use Rattle.um_image.proofs.Formats.{IsBytes, bytes_drop, gave, same_gift, IsItem}
+use Rattle.um_image.proofs.Formats.{IsBytes, bytes_drop, same_gift, IsItem}
 
 pub bytes_take : (n : ℕ) (bytes : List ℕ) → IsBytes bytes → IsBytes (take n bytes)
 bytes_take n bytes h i =
@@ -87,7 +87,7 @@ four_below bytes b = omega (arith, b 0, b 1, b 2, b 3)
 number_sized : IsSized 4 number_of four_bytes (λ n. n < 2 ^ 32)
 number_sized = record {
   back = λ bytes n b len e. let is : from_be_bytes w32 bytes ≡ n = some_is (from_be_bytes w32 bytes) n e in
-    (subst (λ (k : ℕ). k < 2 ^ 32) is (four_below bytes b), ap (λ (k : ℕ). to_be_bytes w32 k) (sym is) ∙ be_bytes_4 bytes (from_be_bytes w32 bytes) len b refl);
+      (subst (λ (k : ℕ). k < 2 ^ 32) is (four_below bytes b), ap (λ (k : ℕ). to_be_bytes w32 k) (sym is) ∙ be_bytes_4 bytes (from_be_bytes w32 bytes) len b refl);
   len = λ n f. refl;
   means = λ n f. ap (λ (k : ℕ). Some k) (from_be_bytes-to_be_bytes_4 n f);
   one = 0;
@@ -109,9 +109,9 @@ power_bytes k = to_be_bytes w32 (of_z w32 k)
 power_sized : IsSized 4 power_of power_bytes (λ k. FitsSigned w32 k)
 power_sized = record {
   back = λ bytes k b len e. let is : to_z w32 (from_be_bytes w32 bytes) ≡ k = some_is (to_z w32 (from_be_bytes w32 bytes)) k e in
-    let below : from_be_bytes w32 bytes < 2 ^ 32 = four_below bytes b in
-    let fits : Fits w32 (from_be_bytes w32 bytes) = Fits-of_lt below in
-    (subst (λ (z : ℤ). FitsSigned w32 z) is (sfits_to_z {n = from_be_bytes w32 bytes} fits), ap (λ (z : ℤ). power_bytes z) (sym is) ∙ ap (λ (m : ℕ). to_be_bytes w32 m) (of_z-to_z {w = w32} {n = from_be_bytes w32 bytes} fits) ∙ be_bytes_4 bytes (from_be_bytes w32 bytes) len b refl);
+      let below : from_be_bytes w32 bytes < 2 ^ 32 = four_below bytes b in
+      let fits : Fits w32 (from_be_bytes w32 bytes) = Fits-of_lt below in
+      (subst (λ (z : ℤ). FitsSigned w32 z) is (sfits_to_z {n = from_be_bytes w32 bytes} fits), ap (λ (z : ℤ). power_bytes z) (sym is) ∙ ap (λ (m : ℕ). to_be_bytes w32 m) (of_z-to_z {w = w32} {n = from_be_bytes w32 bytes} fits) ∙ be_bytes_4 bytes (from_be_bytes w32 bytes) len b refl);
   len = λ k f. refl;
   means = λ k f. ap (λ (m : ℕ). Some (to_z w32 m)) (from_be_bytes-to_be_bytes_4 (of_z w32 k) (Fits-lt-pow (Fits-of_z f))) ∙ ap (λ (z : ℤ). Some z) (to_z-of_z f);
   one = to_z w32 0;

@@ -1,12 +1,11 @@
 -- The formats of instructions.
-use Rattle.std.proofs.Common.{◌≡◌, refl, sym, subst, ap, ◌∙◌, ℕ, zero, suc, ◌==◌, Bool, true, false, cond, List, [], ◌∷◌, ◌++◌, length, map, All, Option, Some, None, Result, Ok, Err, arith, FitsSigned, w32, ℤ}
+use Rattle.std.proofs.Common.{◌≡◌, refl, sym, subst, ap, ℕ, ◌==◌, Bool, true, false, cond, List, [], ◌∷◌, ◌++◌, length, map, Option, Some, None, Ok, Err, FitsSigned, w32, ℤ}
 use Rattle.std.specs.List.{AllByRecursion}
 use Rattle.std.proofs.lemmas.Bool.{eqb-true}
 use Rattle.std.proofs.lemmas.List.Elements.{All-from_recursion, recursion_from_All}
 use Rattle.um_machine.specs.declared.op.Op.{Op}
 use Rattle.um_machine.specs.declared.op.Op.TheVariants.{PushNum, PushBool, Load, Add, Sub, Mul, Div, Neg, Not, Lt, Le, Eq, Jump, JumpIfNot, MakeList, Cons, Split, MakeRec, Field, Slide, Call, Ret, Pow}
 use Rattle.um_machine.specs.declared.table.Operand.{Operand}
-use Rattle.um_machine.specs.declared.table.Operand.TheVariants as operand
 use Rattle.um_machine.specs.Table.{op_operands}
 use Rattle.um_image.specs.declared.form.Form.{Form}
 use Rattle.um_image.specs.declared.form.Form.TheVariants as form
@@ -14,8 +13,8 @@ use Rattle.um_image.specs.declared.form.Counted.{Counted}
 use Rattle.um_image.specs.declared.form.Counted.TheVariants as counted
 use Rattle.um_image.specs.Encoding.{Item, written, op_number, operand_item, op_items}
 use Rattle.um_image.specs.Places.{OperandFits, OpFits}
-use Rattle.um_image.specs.Reading.{◌>>=◌, found_one, found, forms, with_number, number_at, power_at, truth_at, fraction_at, form_at, operands_at, op_at}
-use Rattle.um_image.proofs.Formats.{gave, same_gift, IsFormat, IsItem, item_format, done_format, Made, made_at, made_format}
+use Rattle.um_image.specs.Reading.{found_one, found, forms, with_number, number_at, power_at, truth_at, fraction_at, form_at, operands_at, op_at}
+use Rattle.um_image.proofs.Formats.{IsFormat, IsItem, item_format, done_format, Made, made_at, made_format}
 use Rattle.um_image.proofs.Chains.{Splits, chain_format}
 use Rattle.um_image.proofs.ItemFormats.{some_is, found_ok, power_bytes, power_item, truth_bytes, truth_item, fraction_bytes, fraction_item, IsAny}
 use Rattle.um_image.proofs.ShapeFormats.{number_items, IsSmall, number_format}

@@ -1,8 +1,7 @@
 -- The formats of records, of functions and of whole images.
-use Rattle.std.proofs.Common.{◌≡◌, refl, sym, subst, ap, ◌∙◌, ℕ, zero, suc, List, [], ◌∷◌, ◌++◌, length, All, Result, Ok, Err, arith, append_assoc, codes}
+use Rattle.std.proofs.Common.{◌≡◌, refl, sym, subst, ap, ◌∙◌, ℕ, List, [], ◌∷◌, ◌++◌, length, Result, append_assoc, codes}
 use Rattle.std.specs.List.{flat_map, AllByRecursion}
 use Rattle.std.proofs.lemmas.List.Elements.{All-from_recursion, recursion_from_All}
-use Rattle.um_units.specs.PowerMap.{one}
 use Rattle.um_tree.specs.TypeTree.{TypeTree, bool_type, num_type, list_type, record_type, ShapeTree, bool_shape, num_shape, list_shape, record_shape}
 use Rattle.um_tree.specs.ProgramTree.{FieldTree, RecordTree}
 use Rattle.um_tree.specs.Shapes.{type_shape}
@@ -155,8 +154,8 @@ unfolding head_at
 head_format =
     chain_format name_at name_items IsShort shapes_behind (λ (name : List ℕ) (h : HeadTree). shapes_of_head h) ShapesFit head_items HeadFits name_format
     (λ name s. chain_format shapes_at (counted_items low_shape_items) (AreCounted ShapeFits) (λ (params : List ShapeTree). made_at low_shape_at (head_with name params)) (λ (params : List ShapeTree) (h : HeadTree). low_shape_items h.result) (λ (params : List ShapeTree). Made ShapeFits (head_with name params)) shapes_of_head (ShapesFit name) shapes_format
-      (λ params c. made_format low_shape_at low_shape_items ShapeFits (head_with name params) (λ (h : HeadTree). low_shape_items h.result) (λ u. refl) low_shape_format)
-      (shapes_split name))
+    (λ params c. made_format low_shape_at low_shape_items ShapeFits (head_with name params) (λ (h : HeadTree). low_shape_items h.result) (λ u. refl) low_shape_format)
+    (shapes_split name))
     head_split
 
 -- ---- functions
@@ -234,6 +233,6 @@ pub parts_format : IsFormat parts_at parts_items PartsFit
 parts_format =
     chain_format letters_at letters_items AreLetters records_behind (λ (letters : List ℕ) (p : ImageParts). behind_letters p) BehindLetters parts_items PartsFit (item_format letters_at own_bytes AreLetters letters_item)
     (λ letters l. chain_format records_at (counted_items record_items) (AreCounted RecordFits) (λ (rs : List RecordTree). made_at functions_at (with_functions rs)) (λ (rs : List RecordTree) (p : ImageParts). counted_items function_items p.functions) (λ (rs : List RecordTree). Made (AreCounted FunctionFits) (with_functions rs)) behind_letters (BehindLetters letters) records_format
-      (λ rs c. made_format functions_at (counted_items function_items) (AreCounted FunctionFits) (with_functions rs) (λ (p : ImageParts). counted_items function_items p.functions) (λ fs. refl) functions_format)
-      (records_split letters))
+    (λ rs c. made_format functions_at (counted_items function_items) (AreCounted FunctionFits) (with_functions rs) (λ (p : ImageParts). counted_items function_items p.functions) (λ fs. refl) functions_format)
+    (records_split letters))
     letters_split

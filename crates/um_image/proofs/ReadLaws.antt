@@ -1,13 +1,13 @@
 -- Reading whole images: what is read was written, what was written is read, and where bytes are refused.
-use Rattle.std.proofs.Common.{◌≡◌, ◌≢◌, refl, sym, subst, ap, ◌∙◌, ℕ, zero, suc, ◌+◌, ◌-◌, ◌<◌, ◌≤◌, ◌==◌, Bool, true, false, cond, List, [], ◌∷◌, ◌++◌, length, get_or, All, inl, inr, Result, Ok, Err, arith, append_assoc}
+use Rattle.std.proofs.Common.{◌≡◌, ◌≢◌, refl, sym, subst, ap, ◌∙◌, ℕ, suc, ◌+◌, ◌-◌, ◌<◌, ◌≤◌, ◌==◌, Bool, true, false, cond, List, [], ◌∷◌, ◌++◌, length, All, inl, inr, Result, Ok, Err, arith, append_assoc}
 use Rattle.std.proofs.lemmas.Bool.{cases_lt, eqb-true}
 use Rattle.std.proofs.lemmas.List.{append-nil, length-append, nil_from_length, get_or_past}
 use Rattle.std.proofs.Math.Dec.{eqb-suc-zero}
 use Rattle.um_tree.specs.ProgramTree.{RecordTree}
 use Rattle.um_image.specs.Encoding.{Item, written, spell, FunctionPart, ImageParts, parts_items}
-use Rattle.um_image.specs.Places.{PartsFit, IsWritten, BeginsImage, IsBadAt}
+use Rattle.um_image.specs.Places.{PartsFit, IsWritten, IsBadAt}
 use Rattle.um_image.specs.Reading.{◌>>=◌, letters_at, records_at, functions_at, last_functions_at, image_at}
-use Rattle.um_image.proofs.Formats.{IsBytes, bytes_behind, gave, same_gift, not_both, same_left, made_at, IsStop, IsFormat}
+use Rattle.um_image.proofs.Formats.{IsBytes, bytes_behind, gave, not_both, same_left, made_at, IsStop}
 use Rattle.um_image.proofs.PartFormats.{with_functions, records_behind, parts_at, parts_format}
 
 -- ---- reading, and that nothing stands behind
@@ -70,35 +70,39 @@ length_left bytes front rest left e l = ap (λ (t : List ℕ). length t) e ∙ l
 
 stop_place : (bytes : List ℕ) (left : ℕ) → IsStop parts_items PartsFit bytes left → parts_at bytes ≡ Err left → IsBadAt bytes (length bytes - left) × (left ≤ length bytes)
 stop_place bytes left s failed =
-    let sum = length_left bytes s.front s.rest left s.parts s.left_is in
-    (record {
-      front = s.front;
-      rest = s.rest;
-      have_bytes = s.have_bytes;
-      begins = record { parts = s.one; fits = s.fits; others = s.others; begins = s.begins };
-      cut = s.parts;
-      place = omega arith;
-      none_goes_on = λ item more g e. s.no_more g.parts item more g.others g.fits (g.begins ∙ append_assoc s.front (written item ∷ []) g.others) e;
-      bytes_behind = λ p f e q. not_both (parts_at bytes) (p, s.rest) left (ap parts_at (s.parts ∙ ap (λ (is : List Item). spell is ++ s.rest) (sym e)) ∙ parts_format.again p s.rest f (subst IsWritten (sym e) s.have_bytes)) failed;
-    }, omega arith)
+    let sum = length_left bytes s.front s.rest left s.parts s.left_is in (
+      record {
+        front = s.front;
+        rest = s.rest;
+        have_bytes = s.have_bytes;
+        begins = record { parts = s.one; fits = s.fits; others = s.others; begins = s.begins };
+        cut = s.parts;
+        place = omega arith;
+        none_goes_on = λ item more g e. s.no_more g.parts item more g.others g.fits (g.begins ∙ append_assoc s.front (written item ∷ []) g.others) e;
+        bytes_behind = λ p f e q. not_both (parts_at bytes) (p, s.rest) left (ap parts_at (s.parts ∙ ap (λ (is : List Item). spell is ++ s.rest) (sym e)) ∙ parts_format.again p s.rest f (subst IsWritten (sym e) s.have_bytes)) failed;
+      },
+      omega arith,
+    )
 
 end_place : (bytes : List ℕ) (p : ImageParts) (rest : List ℕ) → IsBytes bytes → parts_at bytes ≡ Ok (p, rest) → rest ≢ [] → IsBadAt bytes (length bytes - length rest) × (length rest ≤ length bytes)
 end_place bytes p rest b e n =
     let t = parts_format.takes bytes p rest b e in
-    let sum = length_left bytes (parts_items p) rest (length rest) t.2 refl in
-    (record {
-      front = parts_items p;
-      rest = rest;
-      have_bytes = t.1;
-      begins = record { parts = p; fits = t.0; others = []; begins = sym (append-nil (parts_items p)) };
-      cut = t.2;
-      place = omega arith;
-      none_goes_on = λ item more g k.
-        let line : parts_items g.parts ≡ parts_items p ++ (written item ∷ g.others) = g.begins ∙ append_assoc (parts_items p) (written item ∷ []) g.others in
-        let same : p ≡ g.parts = parts_format.whole p g.parts (written item ∷ g.others) t.0 g.fits t.1 line in
-        no_longer (parts_items p) (written item) g.others (ap parts_items same ∙ line);
-      bytes_behind = λ q f k none. n none;
-    }, omega arith)
+    let sum = length_left bytes (parts_items p) rest (length rest) t.2 refl in (
+      record {
+        front = parts_items p;
+        rest = rest;
+        have_bytes = t.1;
+        begins = record { parts = p; fits = t.0; others = []; begins = sym (append-nil (parts_items p)) };
+        cut = t.2;
+        place = omega arith;
+        none_goes_on = λ item more g k.
+            let line : parts_items g.parts ≡ parts_items p ++ (written item ∷ g.others) = g.begins ∙ append_assoc (parts_items p) (written item ∷ []) g.others in
+            let same : p ≡ g.parts = parts_format.whole p g.parts (written item ∷ g.others) t.0 g.fits t.1 line in
+            no_longer (parts_items p) (written item) g.others (ap parts_items same ∙ line);
+        bytes_behind = λ q f k none. n none;
+      },
+      omega arith,
+    )
 
 test_failed : (t : Bool) (q : ImageParts) (n left : ℕ) → cond t (Ok q) (Err n) ≡ Err left → (t ≡ false) × (n ≡ left)
 test_failed true q n left e = absurd cc
@@ -124,11 +128,14 @@ pub refused_there : (bytes : List ℕ) (a : ℕ) → IsBytes bytes → IsBadAt b
 refused_there bytes a b h = by h.begins.others h.begins.begins where
   p : ImageParts
   p = h.begins.parts
+
   failed : parts_at (spell h.front ++ h.rest) ≡ Err (length h.rest) → (left : ℕ) × (image_at bytes ≡ Err left) × (length bytes ≡ a + left)
   failed e = (length h.rest, image_is bytes ∙ ap whole (ap parts_at h.cut ∙ e), length_left bytes h.front h.rest (length h.rest) h.cut refl ∙ ap (λ (n : ℕ). n + length h.rest) (sym h.place))
+
   some_rest : (rest : List ℕ) → rest ≢ [] → cond (length rest == 0) (Ok p) (Err (length rest)) ≡ Err (length rest)
   some_rest [] n = absurd (n refl)
   some_rest (x ∷ rest) n = ap (λ (b : Bool). cond b (Ok p) (Err (suc (length rest)))) (eqb-suc-zero (length rest))
+
   by : (others : List Item) → parts_items p ≡ h.front ++ others → (left : ℕ) × (image_at bytes ≡ Err left) × (length bytes ≡ a + left)
   by [] e =
       let all : parts_items p ≡ h.front = e ∙ append-nil h.front in
@@ -137,7 +144,7 @@ refused_there bytes a b h = by h.begins.others h.begins.begins where
       (length h.rest, image_is bytes ∙ ap whole (ap parts_at h.cut ∙ read) ∙ none, length_left bytes h.front h.rest (length h.rest) h.cut refl ∙ ap (λ (n : ℕ). n + length h.rest) (sym h.place))
   by (c ∷ others) e =
       failed (parts_format.stuck p h.front (c ∷ others) h.rest (bytes_behind (spell h.front) h.rest bytes h.cut b) h.begins.fits h.have_bytes e (λ (k : c ∷ others ≡ []). absurd cc)
-        (λ y item more os f q k. h.none_goes_on item more (record { parts = y; fits = f; others = os; begins = q ∙ sym (append_assoc h.front (written item ∷ []) os) }) k))
+      (λ y item more os f q k. h.none_goes_on item more (record { parts = y; fits = f; others = os; begins = q ∙ sym (append_assoc h.front (written item ∷ []) os) }) k))
 
 -- ---- laws
 

@@ -6,8 +6,8 @@ use Rattle.um_tree.specs.Heights.{greatest_height}
 use Rattle.um_image.specs.Encoding.{Item, written, forbidden, spell, four_bytes, name_items, shape_items, low_shape_items}
 use Rattle.um_image.specs.Places.{IsWritten, ShapeFits}
 use Rattle.um_image.specs.Reading.{◌>>=◌, number_at, text_at, name_at, shape_at, low_shape_at}
-use Rattle.um_image.proofs.Formats.{IsBytes, gave, same_gift, same_left, right_nil, NoMore, IsStop, IsFormat, IsItem, item_format, done_format, Made, made_at, made_format}
-use Rattle.um_image.proofs.Chains.{Splits, chain, chain_format}
+use Rattle.um_image.proofs.Formats.{same_gift, right_nil, IsFormat, IsItem, item_format, done_format, Made, made_at, made_format}
+use Rattle.um_image.proofs.Chains.{Splits, chain_format}
 use Rattle.um_image.proofs.ItemFormats.{own_bytes, HasLength, number_item, text_item}
 
 format_same : {A : Type 0} (r q : List ℕ → Result (A × List ℕ) ℕ) (items : A → List Item) (Fits : A → Type 0) → ((bytes : List ℕ) → r bytes ≡ q bytes) → IsFormat r items Fits → IsFormat q items Fits
@@ -154,6 +154,7 @@ shape_split n = record { apart = apart; joined = joined } where
   apart num_shape f = (1, omega arith, refl, refl)
   apart (list_shape s) f = (2, omega arith, (s, f, refl), refl)
   apart (record_shape r) f = (3, omega arith, (r, f, refl), refl)
+
   joined : (b : ℕ) (s : ShapeTree) → IsTag b → BehindFits b s → ShapeHolds n b s
   joined zero s t e = subst (ShapeHolds n 0) (sym e) (tt, refl)
   joined (suc zero) s t e = subst (ShapeHolds n 1) (sym e) (tt, refl)
@@ -194,11 +195,11 @@ level_format zero = last_format
 level_format (suc n) =
     chain_format tag_at tag_items IsTag (behind_tag (level_at n)) (λ (b : ℕ) (s : ShapeTree). behind_items n s) BehindFits (shape_items (suc n)) ShapeFits (item_format tag_at tag_bytes IsTag tag_item) (behind (level_format n)) (shape_split n)
   where
-  behind : IsFormat (level_at n) (shape_items n) ShapeFits → (b : ℕ) → IsTag b → IsFormat (behind_tag (level_at n) b) (behind_items n) (BehindFits b)
-  behind h zero t = done_format bool_shape (behind_items n) refl
-  behind h (suc zero) t = done_format num_shape (behind_items n) refl
-  behind h (suc (suc zero)) t = made_format (level_at n) (shape_items n) ShapeFits list_shape (behind_items n) (λ s. refl) h
-  behind h (suc (suc (suc b))) t = made_format number_at number_items IsSmall record_shape (behind_items n) (λ r. refl) number_format
+    behind : IsFormat (level_at n) (shape_items n) ShapeFits → (b : ℕ) → IsTag b → IsFormat (behind_tag (level_at n) b) (behind_items n) (BehindFits b)
+    behind h zero t = done_format bool_shape (behind_items n) refl
+    behind h (suc zero) t = done_format num_shape (behind_items n) refl
+    behind h (suc (suc zero)) t = made_format (level_at n) (shape_items n) ShapeFits list_shape (behind_items n) (λ s. refl) h
+    behind h (suc (suc (suc b))) t = made_format number_at number_items IsSmall record_shape (behind_items n) (λ r. refl) number_format
 
 shape_format : (n : ℕ) → IsFormat (shape_at n) (shape_items n) ShapeFits
 shape_format n = format_same (level_at n) (shape_at n) (shape_items n) ShapeFits (levels n) (level_format n)

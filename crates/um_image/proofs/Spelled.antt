@@ -1,5 +1,5 @@
 -- The bytes that `encode` adds are those of the image's items.
-use Rattle.std.proofs.Common.{◌≡◌, refl, sym, subst, ap, ◌∙◌, ℕ, zero, suc, ◌+◌, ◌≤◌, List, [], ◌∷◌, ◌++◌, length, map, slice_get, All, Some, None, arith, append_assoc, codes}
+use Rattle.std.proofs.Common.{◌≡◌, refl, sym, subst, ap, ◌∙◌, ℕ, zero, suc, ◌+◌, ◌≤◌, List, [], ◌∷◌, ◌++◌, length, map, slice_get, arith, append_assoc, codes}
 use Rattle.std.specs.List.{flat_map, AllByRecursion}
 use Rattle.std.proofs.lemmas.List.Elements.{recursion_from_All}
 use Rattle.um_tree.specs.TypeTree.{TypeTree, bool_type, num_type, list_type, record_type, ShapeTree, bool_shape, num_shape, list_shape, record_shape}
@@ -12,8 +12,8 @@ use Rattle.um_machine.specs.declared.op.Op.{Op}
 use Rattle.um_machine.specs.declared.table.Operand.{Operand}
 use Rattle.um_machine.specs.declared.code.Entry.{Entry}
 use Rattle.um_machine.specs.Table.{op_operands}
-use Rattle.um_verify.specs.ImageTree.{HeadTree, ImageTree, IsPlainField, IsPlainRecord, IsPlainHead, IsLowText, Match, HasForm}
-use Rattle.um_image.specs.Encoding.{Item, written, spell, four_bytes, shape_items, low_shape_items, field_items, record_items, op_number, operand_bytes, operand_item, op_items, FunctionPart, function_items, function_parts, own_ops, image_bytes}
+use Rattle.um_verify.specs.ImageTree.{HeadTree, ImageTree, IsPlainField, IsPlainRecord, IsPlainHead, IsLowText, HasForm}
+use Rattle.um_image.specs.Encoding.{Item, written, spell, four_bytes, shape_items, low_shape_items, field_items, record_items, op_number, operand_bytes, operand_item, op_items, function_items, function_parts, own_ops, image_bytes}
 use Rattle.um_image.specs.Pieces.{shape_bytes, field_bytes, record_bytes, op_bytes, function_bytes, functions_bytes, added_bytes}
 use Rattle.um_image.proofs.Formats.{spell-append}
 use Rattle.um_image.proofs.Added.{match_lengths}

@@ -9,7 +9,7 @@ use Rattle.um_machine.specs.declared.op.Op.{Op}
 use Rattle.um_machine.specs.declared.table.Operand.{Operand}
 use Rattle.um_machine.specs.declared.table.Operand.TheVariants as operand
 use Rattle.um_machine.specs.Table.{op_operands}
-use Rattle.um_verify.specs.ImageTree.{HeadTree, ImageTree, HasForm, IsPlainType}
+use Rattle.um_verify.specs.ImageTree.{ImageTree, HasForm, IsPlainType}
 use Rattle.um_image.specs.Encoding.{Item, written, forbidden, spell, FunctionPart, ImageParts, parts_items, image_parts}
 use Rattle.um_image.specs.declared.stop.DecodeStop.{DecodeStop}
 use Rattle.um_image.specs.declared.stop.DecodeStop.TheVariants as stop

@@ -1,5 +1,5 @@
--- Mirrors the code: how an image is read from bytes, item by item. What this comes to stands in Laws: it reads the bytes
--- of an image as that image, and refuses others where Places says.
+-- Mirrors the code: how an image is read from bytes, item by item. It reads the bytes of an image as that image, and
+-- refuses others where Places says.
 -- Source: this project's own form.
 use Rattle.std.specs.Prelude.{◌≡◌, ℤ, ℕ, zero, suc, ◌-◌, ◌==◌, if◌then◌else◌, nat_lt, Bool, true, false, cond, List, []}
 use Rattle.std.specs.Prelude.{◌∷◌, ◌++◌, length, take, drop, codes, Option, Some, None, Result, Ok, Err}

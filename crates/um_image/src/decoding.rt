@@ -7,7 +7,7 @@ ghost use Rattle.um_image.specs.Laws.{IsDecoded};
 ghost use Rattle.um_image.specs.Reading.{image_at};
 ghost use Rattle.um_image.specs.FunctionsRead.{IsImageRead, kept_image};
 
-use crate::function::{read_last_functions, Functions};
+use crate::function::{Functions, read_last_functions};
 use crate::item::read_letters;
 use crate::record::read_records;
 use crate::stop::{DecodeStop, ReadStop};
@@ -16,7 +16,7 @@ use um_machine::{Code, Entries, Ops};
 use um_tree::Records;
 use um_verify::{Heads, Image};
 
-/// The image with these bytes, which `encode` has the form of. There are at most 16,777,216 of them. It takes time linear
+/// The image with these bytes; `encode` has their form. There are at most 16,777,216 of them, and it takes time linear
 /// in them.
 ///
 /// # Errors
@@ -24,11 +24,13 @@ use um_verify::{Heads, Image};
 /// `Bad` where they are no image's, with the first byte of the first item that cannot stand there, or the first byte
 /// behind the end. An item is the four letters, a count, a name's length, a name's bytes, the number of a shape, the
 /// number of a record, that of an instruction, a fraction, a truth value or another operand; a shape inside 400 others
-/// cannot stand. What a name's bytes are isn't looked at. `NoMemory` may come with any bytes. The form is this project's
-/// own.
+/// cannot stand. What a name's bytes are isn't looked at. `NoMemory` may come with any bytes.
+///
+/// The form is this project's own.
 pub fn decode(alloc: Global, bytes: &[u8]) -> Result<Image, DecodeStop>
     requires few { length bytes.now ≤ 16777216 }
     ensures form { IfOk result (λ image. HasForm (image_tree image)) }
+    ensures few_records { IfOk result (λ image. length (image_tree image).records ≤ 16777216) }
     ensures found { IfOk result (λ image. bytes.now ≡ image_bytes (image_tree image)) }
     ensures only { (image : ImageTree) → IsWritable image → bytes.now ≡ image_bytes image → IsDecoded image result }
     ensures refused { IfErr result (λ stop. IsDecodeStop bytes.now stop) }

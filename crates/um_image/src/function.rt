@@ -3,10 +3,11 @@ ghost use Rattle.std.specs.Prelude.{◌≤◌, ◌+◌, [], IfOk, List, length};
 ghost use Rattle.um_verify.specs.ImageTree.{head_tree};
 ghost use Rattle.um_image.specs.Encoding.{FunctionPart};
 ghost use Rattle.um_image.specs.Reading.{Gives, many_at, with_front, operands_at, op_at, head_at, function_at};
-ghost use Rattle.um_image.specs.FunctionsRead.{GivesFunctions, Holds, AreFunctionsRead, AreLastFunctions, function_onto};
+ghost use Rattle.um_image.specs.FunctionsRead.{GivesFunctions, Holds, AreFunctionsRead, AreLastFunctions};
+ghost use Rattle.um_image.specs.FunctionsRead.{function_onto};
 ghost use Rattle.um_image.specs.Reading.{last_functions_at};
 
-use crate::form::{form_of, with_number, Form};
+use crate::form::{Form, form_of, with_number};
 use crate::item::{read_fraction, read_name, read_number, read_power, read_truth};
 use crate::record::{read_low_shape, read_shapes};
 use crate::stop::ReadStop;

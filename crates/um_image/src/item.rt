@@ -1,7 +1,8 @@
 //! Items read from the front of bytes.
 ghost use Rattle.std.specs.Prelude.{◌≡◌, ◌↔◌, length, IsTrue};
 ghost use Rattle.um_frac.specs.Fraction.{numerator, denominator, fraction};
-ghost use Rattle.um_image.specs.Reading.{Gives, number_at, letters_at, power_at, truth_at, fraction_at, name_at, long_of};
+ghost use Rattle.um_image.specs.Reading.{Gives, number_at, letters_at, power_at, truth_at, fraction_at, name_at};
+ghost use Rattle.um_image.specs.Reading.{long_of};
 
 use crate::stop::ReadStop;
 use std::alloc::Global;

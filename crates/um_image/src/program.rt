@@ -81,8 +81,13 @@ fn plain_field(alloc: Global, field: &FieldDecl) -> Result<FieldDecl, NoMemory>
     Ok(FieldDecl { name, ty })
 }
 
-fn add_fields(alloc: Global, fields: &[FieldDecl], plain: &mut Vec<FieldDecl>) -> Result<(), NoMemory>
-    ensures { OnOk result (map field_tree plain.new.items ≡ map field_tree plain.old.items ++ map plain_field (map field_tree fields.now)) }
+fn add_fields(
+    alloc: Global,
+    fields: &[FieldDecl],
+    plain: &mut Vec<FieldDecl>,
+) -> Result<(), NoMemory>
+    ensures { OnOk result (map field_tree plain.new.items
+        ≡ map field_tree plain.old.items ++ map plain_field (map field_tree fields.now)) }
 {
     for i in 0..fields.len() {
         let field = plain_field(alloc, &fields[i])?;
@@ -92,7 +97,8 @@ fn add_fields(alloc: Global, fields: &[FieldDecl], plain: &mut Vec<FieldDecl>) -
 }
 
 fn plain_fields(alloc: Global, fields: &FieldDecls) -> Result<FieldDecls, NoMemory>
-    ensures { IfOk result (λ plain. map field_tree plain.items.items ≡ map plain_field (map field_tree fields.now.items.items)) }
+    ensures { IfOk result (λ plain. map field_tree plain.items.items
+        ≡ map plain_field (map field_tree fields.now.items.items)) }
 {
     let mut items = Vec::new(alloc);
     match add_fields(alloc, &fields.items, &mut items) {
@@ -118,7 +124,8 @@ fn plain_record(alloc: Global, record: &Record) -> Result<Record, NoMemory>
 }
 
 fn add_records(alloc: Global, records: &[Record], plain: &mut Vec<Record>) -> Result<(), NoMemory>
-    ensures { OnOk result (map record_tree plain.new.items ≡ map record_tree plain.old.items ++ map plain_record (map record_tree records.now)) }
+    ensures { OnOk result (map record_tree plain.new.items
+        ≡ map record_tree plain.old.items ++ map plain_record (map record_tree records.now)) }
 {
     for i in 0..records.len() {
         let record = plain_record(alloc, &records[i])?;
@@ -127,8 +134,12 @@ fn add_records(alloc: Global, records: &[Record], plain: &mut Vec<Record>) -> Re
     Ok(())
 }
 
-fn plain_records(alloc: Global, records: &Records) -> Result<Records, NoMemory>
-    ensures { IfOk result (λ plain. map record_tree plain.items.items ≡ map plain_record (map record_tree records.now.items.items)) }
+/// A copy of the records without units: each has place 0 and takes no units, and each number in its fields has unit 1.
+///
+/// `NoMemory` is its one error.
+pub fn plain_records(alloc: Global, records: &Records) -> Result<Records, NoMemory>
+    ensures { IfOk result (λ plain. map record_tree plain.items.items
+        ≡ map plain_record (map record_tree records.now.items.items)) }
 {
     let mut items = Vec::new(alloc);
     match add_records(alloc, &records.items, &mut items) {
@@ -169,7 +180,8 @@ fn copied_shape(alloc: Global, shape: &Shape) -> Result<Shape, NoMemory>
 }
 
 fn add_shapes(alloc: Global, notes: &[Note], shapes: &mut Vec<Shape>) -> Result<(), NoMemory>
-    ensures { OnOk result (map shape_tree shapes.new.items ≡ map shape_tree shapes.old.items ++ map note_shape (map note_tree notes.now)) }
+    ensures { OnOk result (map shape_tree shapes.new.items
+        ≡ map shape_tree shapes.old.items ++ map note_shape (map note_tree notes.now)) }
 {
     for i in 0..notes.len() {
         let shape = shape_of_note(alloc, &notes[i])?;
@@ -215,7 +227,8 @@ fn head_of(alloc: Global, shaped: &Shaped, f: u32) -> Result<Head, NoMemory>
 
 fn add_heads(alloc: Global, shaped: &Shaped, heads: &mut Vec<Head>) -> Result<(), NoMemory>
     requires empty { length heads.old.items ≡ 0 }
-    ensures { OnOk result (AreHeadsOf (program_tree shaped.now) (length (program_tree shaped.now).functions) (map head_tree heads.new.items)) }
+    ensures { OnOk result (AreHeadsOf (program_tree shaped.now) (length (program_tree shaped.now).functions)
+        (map head_tree heads.new.items)) }
 {
     let count = shaped.program().functions.items.len() as u32;
     for f in 0..count {
@@ -226,7 +239,8 @@ fn add_heads(alloc: Global, shaped: &Shaped, heads: &mut Vec<Head>) -> Result<()
 }
 
 fn heads_of(alloc: Global, shaped: &Shaped) -> Result<Heads, NoMemory>
-    ensures { IfOk result (λ heads. AreHeadsOf (program_tree shaped.now) (length (program_tree shaped.now).functions) (map head_tree heads.items.items)) }
+    ensures { IfOk result (λ heads. AreHeadsOf (program_tree shaped.now) (length (program_tree shaped.now).functions)
+        (map head_tree heads.items.items)) }
 {
     let mut items = Vec::new(alloc);
     match add_heads(alloc, shaped, &mut items) {

@@ -1,4 +1,4 @@
-use Rattle.std.proofs.Common.{◌≡◌, ◌≤◌, length, map, ◌∙◌, arith}
+use Rattle.std.proofs.Common.{map, ◌∙◌, arith}
 use Rattle.um_tree.specs.ProgramTree.{record_tree}
 use Rattle.um_image.proofs.Formats.{IsBytes}
 use Rattle.um_image.proofs.PartFormats.{with_functions}
@@ -15,7 +15,8 @@ read_last_functions-requires c =
 pub returns-in-Ok : goal.returns-in-Ok
 returns-in-Ok c =
     let rs = map record_tree c.in_ok-records.records.items.items in
-    let last = c.in-Ok.ensures in
-    (with_functions rs last.0,
-    image_done c.args.bytes.now c.in_ok-_letters._letters.now c.in_ok-_letters.rest.now rs c.in_ok-records.rest.now c.in_ok-_letters.ensures c.in_ok-records.ensures last.0 last.2,
-    c.image_with.ensures ∙ kept_is c.in_ok-records.records c.in-Ok.functions last.0 last.1)
+    let last = c.in-Ok.ensures in (
+      with_functions rs last.0,
+      image_done c.args.bytes.now c.in_ok-_letters._letters.now c.in_ok-_letters.rest.now rs c.in_ok-records.rest.now c.in_ok-_letters.ensures c.in_ok-records.ensures last.0 last.2,
+      c.image_with.ensures ∙ kept_is c.in_ok-records.records c.in-Ok.functions last.0 last.1,
+    )

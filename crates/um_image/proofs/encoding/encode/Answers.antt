@@ -1,4 +1,4 @@
-use Rattle.std.proofs.Common.{◌≡◌, ◌∙◌}
+use Rattle.std.proofs.Common.{◌∙◌}
 use Rattle.std.proofs.lemmas.Result.{IfOk-weaker}
 use Rattle.um_verify.specs.ImageTree.{image_tree}
 use Rattle.um_image.proofs.Spelled.{spelled_image}

@@ -1,4 +1,4 @@
-use Rattle.std.proofs.Common.{◌≡◌, ◌≤◌, ◌+◌, ◌∷◌, ◌++◌, [], length, map, sym, ap, subst, ◌∙◌, arith, List, Fits, w32}
+use Rattle.std.proofs.Common.{◌∷◌, ◌++◌, [], length, sym, ap, ◌∙◌, arith, List}
 use Rattle.std.proofs.Math.Facts.{Fits-of_lt}
 use Rattle.std.proofs.lemmas.Result.{err_from_is_err_and}
 use Rattle.std.proofs.lemmas.List.{length-append, length-map}
@@ -7,7 +7,6 @@ use Rattle.um_machine.specs.declared.code.Entry.{Entry}
 use Rattle.um_tree.specs.TypeTree.{shape_tree}
 use Rattle.um_verify.specs.ImageTree.{head_tree}
 use Rattle.um_image.specs.Reading.{number_at, op_at, head_at, many_at}
-use Rattle.um_image.specs.FunctionsRead.{Holds}
 use Rattle.um_image.proofs.Formats.{IsBytes, rest_of}
 use Rattle.um_image.proofs.ShapeFormats.{number_items, IsSmall, number_format}
 use Rattle.um_image.proofs.PartFormats.{with_ops, head_items, HeadFits, head_format}
@@ -63,10 +62,11 @@ returns-clause-kept c = λ fs h.
     let entry : Entry = record { start = c.len-start.result; end = c.len-end.result; params = c.len-params.result } in
     let start = c.len-start.ensures ∙ old.ops.ok.0 in
     let end = c.len-end.ensures ∙ c.add_ops.new.ops.ok.0 in
-    let count = c.len-params.ensures ∙ params.ok.0 ∙ sym (length-map params.items shape_tree) in
-    (fs ++ with_ops (head_tree head) f.0 ∷ [],
-    holds_more old (record { heads = c.push.new.self; ops = c.add_ops.new.ops; entries = c.push-2.new.self }) fs head f.0 entry h c.in_ok-push.ensures.items f.2 c.in_ok-push-2.ensures.items start end count,
-    onto_done fs c.args.bytes.now (head_tree head) c.in_ok-head.rest.now c.in_ok-head.ensures c.in_ok-count.count c.in_ok-count.rest.now c.in_ok-count.ensures old.ops.items f.0 c.in_ok-rest.rest.now f.1)
+    let count = c.len-params.ensures ∙ params.ok.0 ∙ sym (length-map params.items shape_tree) in (
+      fs ++ with_ops (head_tree head) f.0 ∷ [],
+      holds_more old (record { heads = c.push.new.self; ops = c.add_ops.new.ops; entries = c.push-2.new.self }) fs head f.0 entry h c.in_ok-push.ensures.items f.2 c.in_ok-push-2.ensures.items start end count,
+      onto_done fs c.args.bytes.now (head_tree head) c.in_ok-head.rest.now c.in_ok-head.ensures c.in_ok-count.count c.in_ok-count.rest.now c.in_ok-count.ensures old.ops.items f.0 c.in_ok-rest.rest.now f.1,
+    )
 
 pub returns-clause-room : goal.returns-clause-room
 returns-clause-room c =

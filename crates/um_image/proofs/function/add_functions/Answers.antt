@@ -1,4 +1,4 @@
-use Rattle.std.proofs.Common.{◌≡◌, ◌+◌, ◌-◌, ◌∷◌, ◌++◌, [], sym, subst, List}
+use Rattle.std.proofs.Common.{◌+◌, ◌-◌, sym, subst, List}
 use Rattle.std.proofs.lemmas.Result.{err_from_is_err_and}
 use Rattle.um_image.specs.Encoding.{FunctionPart}
 use Rattle.um_image.specs.Reading.{function_at, many_at, with_front}
@@ -17,10 +17,10 @@ pub loop-preserved : goal.loop-preserved
 loop-preserved c = record {
   room = c.in_ok-rest.ensures.room;
   kept = λ fs h.
-    let k = c.loop.invariant.kept fs h in
-    let n = c.in_ok-rest.ensures.kept k.0 k.1 in
-    let o = onto_ok k.0 c.loop.rest.now n.0 c.in_ok-rest.rest.now n.2 in
-    let total = with_front fs (many_at function_at c.args.count c.args.bytes.now) in
-    let next = goes_on function_at k.0 c.args.count c.loop.counter c.loop.rest.now o.0 c.in_ok-rest.rest.now total c.loop-test.true o.1 k.2 in
-    (n.0, n.1, subst (λ (gs : List FunctionPart). Rest function_at gs (c.args.count - (c.loop.counter + 1)) c.in_ok-rest.rest.now total) (sym o.2) next);
+      let k = c.loop.invariant.kept fs h in
+      let n = c.in_ok-rest.ensures.kept k.0 k.1 in
+      let o = onto_ok k.0 c.loop.rest.now n.0 c.in_ok-rest.rest.now n.2 in
+      let total = with_front fs (many_at function_at c.args.count c.args.bytes.now) in
+      let next = goes_on function_at k.0 c.args.count c.loop.counter c.loop.rest.now o.0 c.in_ok-rest.rest.now total c.loop-test.true o.1 k.2 in
+      (n.0, n.1, subst (λ (gs : List FunctionPart). Rest function_at gs (c.args.count - (c.loop.counter + 1)) c.in_ok-rest.rest.now total) (sym o.2) next);
 }

@@ -1,4 +1,4 @@
-use Rattle.std.proofs.Common.{◌≡◌, ◌≤◌, ◌+◌, ◌-◌, List, length}
+use Rattle.std.proofs.Common.{◌≤◌, ◌+◌, ◌-◌, List, length}
 use Rattle.um_image.specs.Encoding.{FunctionPart}
 use Rattle.um_image.specs.Reading.{function_at, many_at, with_front}
 use Rattle.um_image.specs.FunctionsRead.{Holds}

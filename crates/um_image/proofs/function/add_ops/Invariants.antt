@@ -1,4 +1,4 @@
-use Rattle.std.proofs.Common.{◌≡◌, ◌-◌}
+use Rattle.std.proofs.Common.{◌-◌}
 use Rattle.um_image.specs.Reading.{op_at, many_at, with_front}
 use Rattle.um_image.proofs.Loops.{Rest}
 use Rattle.um_image.proofs.function.add_ops.Given as goal

@@ -1,4 +1,4 @@
-use Rattle.std.proofs.Common.{◌≡◌, ◌≤◌, [], length, ap, rules, arith, List}
+use Rattle.std.proofs.Common.{◌≡◌, [], length, ap, rules, arith, List}
 use Rattle.std.proofs.lemmas.Result.{err_from_is_err_and}
 use Rattle.um_machine.specs.declared.op.Op.{Op}
 use Rattle.um_image.specs.Reading.{number_at}

@@ -1,4 +1,4 @@
-use Rattle.std.proofs.Common.{◌≡◌, sym, ap, ◌∙◌, rules, Option, Some, None, ℤ, FitsSigned, w64, to_z, of_z, to_z-of_z}
+use Rattle.std.proofs.Common.{◌≡◌, sym, ap, ◌∙◌, rules, ℤ, FitsSigned, w64, to_z, of_z, to_z-of_z}
 use Rattle.std.specs.Int.{w128}
 use Rattle.std.proofs.Math.Facts.{sfits_widen}
 use Rattle.um_frac.specs.Fraction.{numerator, denominator, reduced}
@@ -19,10 +19,10 @@ pub returns-else-has_parts : goal.returns-else-has_parts
 returns-else-has_parts c =
     no_fraction c.of_parts.result c.args.num c.args.den (c.of_parts.ensures.value ∙ (λ i. reduced (wide c.args.num c.ranges.num i) (wide c.args.den c.ranges.den i)))
     (λ r e a b.
-      let same : c.in-Some.c ≡ r = some_is c.in-Some.c r (sym c.in-Some.is ∙ e) in
-      let num : numerator c.in-Some.c ≡ c.args.num = ap numerator same ∙ a in
-      let den : denominator c.in-Some.c ≡ c.args.den = ap denominator same ∙ b in
-      search rules)
+    let same : c.in-Some.c ≡ r = some_is c.in-Some.c r (sym c.in-Some.is ∙ e) in
+    let num : numerator c.in-Some.c ≡ c.args.num = ap numerator same ∙ a in
+    let den : denominator c.in-Some.c ≡ c.args.den = ap denominator same ∙ b in
+    search rules)
 
 pub returns-in-None : goal.returns-in-None
 returns-in-None c = no_fraction c.of_parts.result c.args.num c.args.den (c.of_parts.ensures.value ∙ (λ i. reduced (wide c.args.num c.ranges.num i) (wide c.args.den c.ranges.den i))) (λ r e a b. let none = c.in-None.is in cc)

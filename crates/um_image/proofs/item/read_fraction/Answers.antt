@@ -1,4 +1,4 @@
-use Rattle.std.proofs.Common.{◌≡◌, ap, ◌∙◌, Option, rules, FitsSigned, w64, to_z-of_z}
+use Rattle.std.proofs.Common.{ap, ◌∙◌, Option, rules, FitsSigned, w64, to_z-of_z}
 use Rattle.um_frac.specs.declared.number.Frac.{Frac}
 use Rattle.um_frac.specs.Fraction.{fraction}
 use Rattle.um_image.specs.Reading.{found_one}

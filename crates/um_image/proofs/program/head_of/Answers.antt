@@ -3,7 +3,7 @@ use Rattle.std.proofs.lemmas.List.{length-map}
 use Rattle.um_tree.specs.declared.program.Function.{Function}
 use Rattle.um_tree.specs.declared.program.Program.{Program}
 use Rattle.um_tree.specs.declared.note.Note.{Note}
-use Rattle.um_tree.specs.TypeTree.{ShapeTree, shape_tree, note_tree}
+use Rattle.um_tree.specs.TypeTree.{ShapeTree, note_tree}
 use Rattle.um_tree.specs.ProgramTree.{function_tree, program_tree}
 use Rattle.um_tree.specs.Shapes.{note_shape}
 use Rattle.um_shape.specs.ShapedProgram.{IsResultShape}

@@ -1,8 +1,7 @@
-use Rattle.std.proofs.Common.{◌≡◌, map, sym, ap, subst, ◌∙◌}
+use Rattle.std.proofs.Common.{map, ap, subst, ◌∙◌}
 use Rattle.um_tree.specs.declared.program.Program.{Program}
 use Rattle.um_tree.specs.ProgramTree.{record_tree, program_tree}
 use Rattle.um_machine.specs.declared.code.Code.{Code}
-use Rattle.um_gen.specs.ProgramCode.{program_code}
 use Rattle.um_verify.specs.ImageTree.{image_tree}
 use Rattle.um_image.specs.ProgramImage.{plain_record, IsImageOf}
 use Rattle.um_image.proofs.Accepted.{generated_is_verified}

@@ -1,4 +1,4 @@
-use Rattle.std.proofs.Common.{◌≡◌, ◌-◌, map}
+use Rattle.std.proofs.Common.{◌-◌, map}
 use Rattle.um_tree.specs.ProgramTree.{record_tree}
 use Rattle.um_image.specs.Reading.{record_at, many_at, with_front}
 use Rattle.um_image.proofs.Loops.{Rest}

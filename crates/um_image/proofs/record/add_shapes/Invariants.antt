@@ -1,4 +1,4 @@
-use Rattle.std.proofs.Common.{◌≡◌, ◌-◌, map}
+use Rattle.std.proofs.Common.{◌-◌, map}
 use Rattle.um_tree.specs.TypeTree.{shape_tree}
 use Rattle.um_image.specs.Reading.{low_shape_at, many_at, with_front}
 use Rattle.um_image.proofs.Loops.{Rest}
