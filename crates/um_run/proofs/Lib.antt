@@ -1,6 +1,6 @@
-pub mod FunctionNames
-pub mod Inputs
-pub mod OneByOne
+mod FunctionNames
+mod Inputs
+mod OneByOne
 mod CallParts
 pub mod CallLaws
 pub mod UniqueCalls

@@ -1,4 +1,0 @@
-mod ImagePrograms
-mod HeadNames
-mod ImageCallLaws
-mod PlainCopies
