@@ -12,4 +12,4 @@ parse-requires c =
 pub answer_program-requires : goal.answer_program-requires
 answer_program-requires c =
     let read = subst (λ tokens. IsRead tokens (program_syntax c.in-Ok.raw)) c.as_slice.ensures c.in-Ok.ensures.parsed in
-    record { ordered = c.requires.ordered; readable = readable_program c.args.bytes.now c.args.tokens.now (program_syntax c.in-Ok.raw) c.requires.tokens.0 c.requires.short c.requires.tokens.1 read }
+    record { ordered = c.requires.ordered; written = record { short = c.requires.short; tokens = c.args.tokens.now; lexed = c.requires.tokens }; readable = readable_program c.args.bytes.now c.args.tokens.now (program_syntax c.in-Ok.raw) c.requires.tokens.0 c.requires.short c.requires.tokens.1 read }
