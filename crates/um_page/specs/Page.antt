@@ -3,9 +3,9 @@
 use Rattle.std.specs.Prelude.{ℕ, ◌≡◌, ◌≤◌, ◌==◌, if◌then◌else◌, List, ◌++◌, length, drop, codes}
 use Rattle.std.specs.List.{slice_split}
 use Rattle.std.specs.Str.{is_utf8}
-use Rattle.um_tool.specs.declared.status.Status.{Status}
+use Rattle.um_reports.specs.declared.status.Status.{Status}
 use Rattle.um_tool.specs.Answer.{Answer}
-use Rattle.um_tool.specs.Numbers.{number_of}
+use Rattle.um_reports.specs.Numbers.{number_of}
 
 -- the words of a command line in one text, a zero byte between each two: what stands between these bytes. Bytes that
 -- aren't UTF-8 are read as the one word `?`, which names no order, as the program reads a command line that isn't

@@ -1,7 +1,7 @@
 // What the host calls.
 ghost use Rattle.std.specs.Prelude.{◌≡◌, ◌≢◌, ◌⊎◌, ℕ, List, length};
-ghost use Rattle.um_tool.specs.declared.status.Status.TheVariants.{Done, NoMemory};
-ghost use Rattle.um_tool.specs.Numbers.{number_of};
+ghost use Rattle.um_reports.specs.declared.status.Status.TheVariants.{Done, NoMemory};
+ghost use Rattle.um_reports.specs.Numbers.{number_of};
 ghost use Rattle.um_tool.specs.Served.{IsComplete};
 ghost use Rattle.um_page.specs.Page.{words_in, IsAnswer, BeginsWith};
 
