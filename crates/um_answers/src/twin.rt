@@ -325,7 +325,16 @@ fn run_both(
         Ok(scaled) => {
             let first = CodeRunner::new(shaped, &code);
             let second = CodeRunner::new(other, &rescaled);
-            twin(alloc, &first, &second, scales, call.function, args, scaled, budget)
+            twin(
+                alloc,
+                &first,
+                &second,
+                scales,
+                call.function,
+                args,
+                scaled,
+                budget,
+            )
         }
         Err(stop) => {
             drop(args);

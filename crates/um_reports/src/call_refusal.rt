@@ -111,11 +111,7 @@ pub fn reply_to_trap(alloc: Global, trap: Trap) -> Result<Reply, AllocError>
 }
 
 /// The refusal of the text of a signature.
-pub fn reply_to_signature(
-    alloc: Global,
-    word: &str,
-    stop: SigText,
-) -> Result<Reply, AllocError>
+pub fn reply_to_signature(alloc: Global, word: &str, stop: SigText) -> Result<Reply, AllocError>
     ensures { IfOk result (λ reply. IsSignatureReply word.now stop reply.text.items reply.status) }
 {
     match stop {

@@ -53,11 +53,7 @@ pub fn reply_to_unread(alloc: Global, stop: ReadStop) -> Result<Reply, AllocErro
 }
 
 /// The refusal of a text that has no tokens.
-pub fn reply_to_text(
-    alloc: Global,
-    bytes: &[u8],
-    stop: TextStop,
-) -> Result<Reply, AllocError>
+pub fn reply_to_text(alloc: Global, bytes: &[u8], stop: TextStop) -> Result<Reply, AllocError>
     ensures { IfOk result (λ reply. IsTextReply bytes.now stop reply.text.items reply.status) }
 {
     match stop {
@@ -76,11 +72,7 @@ pub fn reply_to_text(
 }
 
 /// The refusal of tokens that are no program within the limits.
-pub fn reply_to_tokens(
-    alloc: Global,
-    bytes: &[u8],
-    stop: ParseStop,
-) -> Result<Reply, AllocError>
+pub fn reply_to_tokens(alloc: Global, bytes: &[u8], stop: ParseStop) -> Result<Reply, AllocError>
     ensures { IfOk result (λ reply. IsParseReply bytes.now stop reply.text.items reply.status) }
 {
     match stop {
@@ -110,11 +102,7 @@ fn limit_label(kind: LimitKind) -> &'static str
 }
 
 /// The refusal of names.
-pub fn reply_to_names(
-    alloc: Global,
-    bytes: &[u8],
-    stop: NameStop,
-) -> Result<Reply, AllocError>
+pub fn reply_to_names(alloc: Global, bytes: &[u8], stop: NameStop) -> Result<Reply, AllocError>
     ensures { IfOk result (λ reply. IsNameReply bytes.now stop reply.text.items reply.status) }
 {
     match stop {
@@ -146,11 +134,7 @@ pub fn reply_to_names(
 }
 
 /// The refusal of shapes.
-pub fn reply_to_shapes(
-    alloc: Global,
-    bytes: &[u8],
-    stop: ShapeStop,
-) -> Result<Reply, AllocError>
+pub fn reply_to_shapes(alloc: Global, bytes: &[u8], stop: ShapeStop) -> Result<Reply, AllocError>
     ensures { IfOk result (λ reply. IsShapeReply bytes.now stop reply.text.items reply.status) }
 {
     match stop {

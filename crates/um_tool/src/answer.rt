@@ -22,8 +22,8 @@ use um_names::resolve;
 use um_orders::{Order, Words};
 use um_parse::parse;
 use um_reports::{
-    Reply, reply_to_names, reply_to_not_general, reply_to_range, reply_to_shapes,
-    reply_to_slots, reply_to_text, reply_to_tokens, reply_to_units,
+    Reply, reply_to_names, reply_to_not_general, reply_to_range, reply_to_shapes, reply_to_slots,
+    reply_to_text, reply_to_tokens, reply_to_units,
 };
 use um_shape::{Shaped, shape};
 use um_syntax::Tokens;
