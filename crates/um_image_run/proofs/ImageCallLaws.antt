@@ -1,18 +1,15 @@
 -- Calls of a verified image can be run, and words have one answer, memory aside.
-use Rattle.std.proofs.Common.{◌≡◌, ◌⊎◌, inl, inr, ℕ, ◌<◌, ◌≤◌, List, length, map, get_or, Some, None, slice_get, refl, sym, ap, subst, ◌∙◌, Ok, Err, All, arith}
-use Rattle.std.specs.Prelude.{◌≢◌, Result, IfOk}
+use Rattle.std.proofs.Common.{◌≡◌, ◌⊎◌, inl, inr, ℕ, ◌<◌, ◌≤◌, List, length, map, get_or, Some, None, slice_get, refl, sym, ap, subst, ◌∙◌, Ok, Err, arith}
+use Rattle.std.specs.Prelude.{Result, IfOk}
 use Rattle.std.proofs.lemmas.List.{length-map}
 use Rattle.std.proofs.lemmas.Option.{none-some, same_Some}
 use Rattle.um_tree.specs.TypeTree.{ShapeTree}
-use Rattle.um_tree.specs.ValueTree.{InputTree}
 use Rattle.um_tree.proofs.Moved.{All_at}
 use Rattle.um_measures.specs.Known.{number_of}
 use Rattle.um_measures.proofs.NameLists.{number_of-below}
-use Rattle.um_value.specs.declared.stop.InputStop.{InputStop}
 use Rattle.um_value.specs.ValueGrammar.{IsShapeIn}
 use Rattle.um_run.specs.declared.call.CallRefusal.{CallRefusal}
 use Rattle.um_run.specs.declared.call.CallRefusal.TheVariants as refusal
-use Rattle.um_run.specs.Calls.{AreInputs}
 use Rattle.um_run.specs.Reading.{AreArgumentsRead}
 use Rattle.um_run.proofs.OneByOne.{shown_at}
 use Rattle.um_run.proofs.Inputs.{values_have, same_count}
@@ -20,7 +17,6 @@ use Rattle.um_run.proofs.UniqueCalls.{same_inputs, inputs_or_refused, same_refus
 use Rattle.um_verify.specs.declared.image.Head.{Head}
 use Rattle.um_verify.specs.declared.image.Image.{Image}
 use Rattle.um_verify.specs.ImageTree.{HeadTree, ImageTree, head_tree, image_tree}
-use Rattle.um_verify.specs.Laws.{IsCall}
 use Rattle.um_verify.specs.Verified.{IsVerified}
 use Rattle.um_image_run.specs.declared.call.ImageCall.{ImageCall}
 use Rattle.um_image_run.specs.ImageCalls.{ImageCallTree, known_in, head_names, IsNamedHead, IsCallTo, IsImageCallOf, call_tree, call_answer}

@@ -1,6 +1,6 @@
-use Rattle.std.proofs.Common.{◌≡◌, ℕ, List, map, ap, ◌∙◌}
+use Rattle.std.proofs.Common.{List, map, ap, ◌∙◌}
 use Rattle.um_tree.specs.declared.program.Function.{Function}
-use Rattle.um_tree.specs.ProgramTree.{RecordTree, FunctionTree, function_tree}
+use Rattle.um_tree.specs.ProgramTree.{function_tree}
 use Rattle.um_verify.specs.ImageTree.{image_tree}
 use Rattle.um_image_run.proofs.PlainCopies.{same_records}
 use Rattle.um_image_run.proofs.read.program_of.Goals as goal

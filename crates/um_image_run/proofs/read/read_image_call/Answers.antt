@@ -1,7 +1,6 @@
-use Rattle.std.proofs.Common.{◌≡◌, ℕ, List, map, Some, ap, subst, ◌∙◌}
+use Rattle.std.proofs.Common.{map, ◌∙◌}
 use Rattle.std.specs.Prelude.{string_bytes}
 use Rattle.um_measures.specs.Known.{number_of}
-use Rattle.um_verify.specs.declared.image.Head.{Head}
 use Rattle.um_verify.specs.ImageTree.{head_tree, image_tree}
 use Rattle.um_image_run.specs.ImageCalls.{head_names, call_answer}
 use Rattle.um_image_run.proofs.ImageCallLaws.{named_below, named_head, behind_name, answer_shaped}
