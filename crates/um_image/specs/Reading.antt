@@ -7,8 +7,7 @@ use Rattle.std.specs.Str.{bytes_eq}
 use Rattle.std.specs.Int.{w32, w64, cast_signed, from_be_bytes}
 use Rattle.um_frac.specs.declared.number.Frac.{Frac}
 use Rattle.um_frac.specs.Fraction.{fraction}
-use Rattle.um_units.specs.PowerMap.{one}
-use Rattle.um_tree.specs.TypeTree.{TypeTree, bool_type, num_type, list_type, record_type, ShapeTree, bool_shape}
+use Rattle.um_tree.specs.TypeTree.{TypeTree, ShapeTree, bool_shape}
 use Rattle.um_tree.specs.TypeTree.{num_shape, list_shape, record_shape}
 use Rattle.um_tree.specs.ProgramTree.{FieldTree, RecordTree}
 use Rattle.um_tree.specs.Heights.{greatest_height}
@@ -24,6 +23,7 @@ use Rattle.um_image.specs.declared.form.Form.TheVariants as form
 use Rattle.um_image.specs.declared.form.Counted.{Counted}
 use Rattle.um_image.specs.declared.form.Counted.TheVariants as counted
 use Rattle.um_image.specs.Encoding.{FunctionPart, ImageParts}
+use Rattle.um_image.specs.ProgramImage.{type_of_shape}
 
 -- Reading gives a value and the bytes behind it, or how many bytes are left from the first item on that is refused.
 infixl 10 ◌>>=◌
@@ -111,13 +111,6 @@ unfoldable pub low_shape_at : List ℕ → Result (ShapeTree × List ℕ) ℕ
 low_shape_at bytes = shape_at greatest_height bytes
 
 -- ---- records
-
--- the type with this shape whose numbers have unit 1
-abbrev pub type_of_shape : ShapeTree → TypeTree
-type_of_shape bool_shape = bool_type
-type_of_shape num_shape = num_type one
-type_of_shape (list_shape s) = list_type (type_of_shape s)
-type_of_shape (record_shape r) = record_type r []
 
 unfoldable pub type_at : List ℕ → Result (TypeTree × List ℕ) ℕ
 type_at bytes = low_shape_at bytes >>= λ s. Ok (type_of_shape s.0, s.1)

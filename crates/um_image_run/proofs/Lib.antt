@@ -1,0 +1,4 @@
+pub mod ImagePrograms
+mod HeadNames
+pub mod ImageCallLaws
+mod PlainCopies
