@@ -43,7 +43,7 @@ use Rattle.um_tool.proofs.Reached.{reached}
 use Rattle.um_tool.proofs.CallsMeant.{refuted, last_of_calls, call_refusal}
 
 -- the program in the sizes that a word states
-in_sizes : (word bytes : List ℕ) (p : ProgramTree) (spelled : SpellsProgram bytes p) (cs : List Frac) → AreScalesRead p.bases word (Ok cs) → misfit_in cs p.functions ≡ None → InSizes word bytes
+abbrev in_sizes : (word bytes : List ℕ) (p : ProgramTree) (spelled : SpellsProgram bytes p) (cs : List Frac) → AreScalesRead p.bases word (Ok cs) → misfit_in cs p.functions ≡ None → InSizes word bytes
 in_sizes word bytes p spelled cs read fit = record {
   program = p;
   spelled = spelled;
