@@ -1,0 +1,2 @@
+mod ImagePrograms
+mod HeadNames

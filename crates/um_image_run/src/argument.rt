@@ -1,0 +1,81 @@
+//! Arguments, read at the shapes of a head's parameters.
+ghost use Rattle.std.specs.Prelude.{◌≡◌, ◌≤◌, ℕ, All, List, length, map, string_bytes};
+ghost use Rattle.um_tree.specs.TypeTree.{shape_tree};
+ghost use Rattle.um_tree.specs.ValueTree.{input_tree};
+ghost use Rattle.um_tree.specs.ProgramTree.{program_tree};
+ghost use Rattle.um_tree.specs.Formed.{IsFormed};
+ghost use Rattle.um_measures.specs.ClosedUnits.{given};
+ghost use Rattle.um_value.specs.ValueGrammar.{IsShapeIn};
+ghost use Rattle.um_value.specs.InputRead.{IsInputOf};
+ghost use Rattle.um_run.specs.Reading.{IsArgumentRefused, IsArgumentAdded, AreArgumentsRead};
+
+use std::alloc::Global;
+use um_measures::Abbreviations;
+use um_run::CallRefusal;
+use um_tree::{Input, Inputs, Program, Shape};
+use um_value::{InputStop, read_value};
+
+/// The inputs that the texts are, one at each shape, or the first that is none.
+pub(crate) fn read_arguments(
+    alloc: Global,
+    program: &Program,
+    abbreviations: &Abbreviations,
+    shapes: &[Shape],
+    texts: &[String],
+) -> Result<Inputs, CallRefusal>
+    requires formed { IsFormed (program_tree program.now) }
+    requires shapes { All (IsShapeIn (program_tree program.now).records) (map shape_tree shapes.now) }
+    requires count { length texts.now ≡ length shapes.now }
+    requires few { length texts.now ≤ 16 }
+    requires short { All (λ (text : List ℕ). length text ≤ 1048576) (map string_bytes texts.now) }
+    ensures { AreArgumentsRead (given (program_tree program.now) abbreviations.now)
+        (map shape_tree shapes.now) (map string_bytes texts.now) result }
+{
+    let mut items = Vec::new(alloc);
+    for k in 0..texts.len() {
+        let text = texts[k].as_str();
+        match add_argument(alloc, program, abbreviations, &shapes[k], k as u32, text, &mut items) {
+            Ok(()) => {}
+            Err(refusal) => {
+                drop(items);
+                return Err(refusal);
+            }
+        }
+    }
+    Ok(Inputs { items })
+}
+
+/// Adds the input that the text of argument `k` is.
+fn add_argument(
+    alloc: Global,
+    program: &Program,
+    abbreviations: &Abbreviations,
+    shape: &Shape,
+    k: u32,
+    text: &str,
+    inputs: &mut Vec<Input>,
+) -> Result<(), CallRefusal>
+    requires formed { IsFormed (program_tree program.now) }
+    requires shape { IsShapeIn (program_tree program.now).records (shape_tree shape.now) }
+    requires short { length text.now ≤ 1048576 }
+    ensures { IsArgumentAdded (given (program_tree program.now) abbreviations.now) (shape_tree shape.now) text.now k
+        (map input_tree inputs.old.items) (map input_tree inputs.new.items) result }
+{
+    match read_value(alloc, text, shape, program, abbreviations) {
+        Ok(input) => Ok(inputs.push(input)?),
+        Err(stop) => Err(refusal_of(k, stop)),
+    }
+}
+
+/// The refusal of argument `k`.
+fn refusal_of(k: u32, stop: InputStop) -> CallRefusal
+    ensures { IsArgumentRefused k stop result }
+{
+    match stop {
+        InputStop::NoMemory => CallRefusal::NoMemory,
+        InputStop::Text { at: _ }
+        | InputStop::Shape { at: _ }
+        | InputStop::Names { at: _ }
+        | InputStop::PowerRange { at: _ } => CallRefusal::Argument { index: k, stop },
+    }
+}

@@ -1,0 +1,12 @@
+//! Calls of an image's functions as a user writes them: a name and a text for each argument.
+//!
+//! Units aren't in an image: a number may be written at unit 1 alone.
+#![tactic(auto)]
+
+mod argument;
+mod call;
+mod head;
+mod read;
+
+pub use call::ImageCall;
+pub use read::read_image_call;
