@@ -6,6 +6,8 @@ pub mod ConformAnswer
 pub mod BigAnswer
 pub mod RescaleAnswer
 pub mod TwinAnswer
+pub mod ImageAnswer
+pub mod ExecAnswer
 pub mod TypedAnswer
 pub mod Passing
 -- What mirrors the code.
