@@ -14,7 +14,7 @@ use Rattle.um_image.proofs.Formats.{IsBytes, not_both, item_format, rest_of}
 use Rattle.um_image.proofs.ItemFormats.{own_bytes, AreLetters, letters_item}
 use Rattle.um_image.proofs.PartFormats.{with_functions, records_format}
 use Rattle.um_image.proofs.ReadLaws.{read_takes, read_again, refused_there, is_bytes}
-use Rattle.um_image.proofs.ImagesAsParts.{parts_back, image_back, form_from, written_image}
+use Rattle.um_image.proofs.ImagesAsParts.{parts_back, image_back, form_from, records_few, written_image}
 
 abbrev value_or : ImageParts → Result ImageParts ℕ → ImageParts
 value_or q (Ok r) = r
@@ -57,6 +57,11 @@ module _ (bytes : List ℕ) (b : IsBytes bytes) (few : length bytes ≤ 16777216
   has_form =
       let t = read_takes bytes p b e in
       subst HasForm (sym is) (form_from p t.0 t.1 (subst (λ (s : List ℕ). length s ≤ 16777216) t.2 few))
+
+  pub few_records : length image.records ≤ 16777216
+  few_records =
+      let t = read_takes bytes p b e in
+      subst (λ (i : ImageTree). length i.records ≤ 16777216) (sym is) (records_few p (subst (λ (s : List ℕ). length s ≤ 16777216) t.2 few))
 
   pub has_bytes : bytes ≡ image_bytes image
   has_bytes = (read_takes bytes p b e).2 ∙ ap (λ (q : ImageParts). spell (parts_items q)) (sym (parts_back p)) ∙ ap image_bytes (sym is)

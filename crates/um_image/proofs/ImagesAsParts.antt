@@ -213,6 +213,15 @@ form_from p h w few =
       count = omega arith;
     }
 
+pub records_few : (p : ImageParts) → length (spell (parts_items p)) ≤ 16777216 → length p.records ≤ 16777216
+records_few p few =
+    let records = flat_map record_items p.records in
+    let functions = counted_items function_items p.functions in
+    let sum = spell_length records functions in
+    let each = many_length record_items (λ d. name_length d.name (written d.name ∷ counted_items field_items d.fields)) p.records in
+    let all : length (spell (parts_items p)) ≡ 8 + length (spell (records ++ functions)) = omega arith in
+    omega arith
+
 -- ---- images that can be written
 
 operands_written : (os : List Operand) → IsWritten (map operand_item os)

@@ -16,5 +16,5 @@ mod stop;
 pub use decoding::decode;
 pub use encoding::encode;
 pub use laws::{bytes_of_images, image_of_generated_code};
-pub use program::image_of;
+pub use program::{image_of, plain_records};
 pub use stop::DecodeStop;

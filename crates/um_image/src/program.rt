@@ -134,7 +134,10 @@ fn add_records(alloc: Global, records: &[Record], plain: &mut Vec<Record>) -> Re
     Ok(())
 }
 
-fn plain_records(alloc: Global, records: &Records) -> Result<Records, NoMemory>
+/// A copy of the records without units: each has place 0 and takes no units, and each number in its fields has unit 1.
+///
+/// `NoMemory` is its one error.
+pub fn plain_records(alloc: Global, records: &Records) -> Result<Records, NoMemory>
     ensures { IfOk result (λ plain. map record_tree plain.items.items
         ≡ map plain_record (map record_tree records.now.items.items)) }
 {

@@ -17,7 +17,7 @@ use Rattle.um_image_run.specs.ImageCalls.{image_program}
 
 -- ---- lists
 
-get_there : {A : Type 0} (xs : List A) (k : ℕ) → k < length xs → (x : A) × (slice_get xs k ≡ Some x)
+pub get_there : {A : Type 0} (xs : List A) (k : ℕ) → k < length xs → (x : A) × (slice_get xs k ≡ Some x)
 get_there [] k l = absurd (omega (arith, l))
 get_there (x ∷ xs) zero l = (x, refl)
 get_there (x ∷ xs) (suc k) l = get_there xs k (omega (arith, l))

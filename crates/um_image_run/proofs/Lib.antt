@@ -1,2 +1,4 @@
 mod ImagePrograms
 mod HeadNames
+mod ImageCallLaws
+mod PlainCopies

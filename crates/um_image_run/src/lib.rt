@@ -6,7 +6,9 @@
 mod argument;
 mod call;
 mod head;
+mod laws;
 mod read;
 
 pub use call::ImageCall;
+pub use laws::image_calls;
 pub use read::read_image_call;

@@ -1,7 +1,8 @@
 //! A call of an image's function by its words.
 ghost use Rattle.std.specs.Prelude.{◌≡◌, ◌<◌, ◌≤◌, ℕ, All, IfOk, List, length, map, slice_get, string_bytes, Some};
 ghost use Rattle.um_tree.specs.ProgramTree.{program_tree};
-ghost use Rattle.um_verify.specs.ImageTree.{HeadTree, image_tree};
+ghost use Rattle.um_verify.specs.ImageTree.{HeadTree, image_tree, HasForm};
+ghost use Rattle.um_verify.specs.Verified.{IsVerified};
 ghost use Rattle.um_image_run.specs.ImageCalls.{IsCallTo, IsImageCallOf, call_tree, call_answer, image_program};
 ghost use Rattle.um_image_run.specs.Laws.{IsShapedCall};
 
@@ -14,14 +15,13 @@ use um_measures::Abbreviations;
 use um_run::CallRefusal;
 use um_tree::{Functions, Names, Program};
 use um_units::NoMemory;
-use um_verifier::Verified;
 use um_verify::Image;
 
 /// The call of the image's function of this name with the arguments that the texts are.
 ///
 /// Each text is read at the shape of its parameter, over the image's records and without base units, so a number's unit
-/// is 1 (`um_value::read_value` has the forms and the places). Each is at most 1,048,576 bytes long, and the image has at
-/// most 16,777,216 records.
+/// is 1 (`um_value::read_value` has the forms and the places). Each is at most 1,048,576 bytes long; the image is
+/// verified, and has at most 16,777,216 records.
 ///
 /// # Errors
 ///
@@ -32,16 +32,17 @@ use um_verify::Image;
 /// - `Argument` at the first text that is no input of its parameter's shape.
 pub fn read_image_call(
     alloc: Global,
-    image: &Verified,
+    image: &Image,
     name: &str,
     texts: &[String],
 ) -> Result<ImageCall, CallRefusal>
+    requires verified { IsVerified (image_tree image.now) }
     requires few { length (image_tree image.now).records ≤ 16777216 }
     requires short { All (λ (text : List ℕ). length text ≤ 1048576) (map string_bytes texts.now) }
     ensures exact { IsImageCallOf (image_tree image.now) name.now (map string_bytes texts.now) (call_answer result) }
     ensures shaped { IfOk result (λ call. IsShapedCall (image_tree image.now) (call_tree call)) }
 {
-    match head_named(&image.image().heads.items, name.as_bytes()) {
+    match head_named(&image.heads.items, name.as_bytes()) {
         Some(function) => call_to(alloc, image, function, texts),
         None => Err(CallRefusal::NoFunction),
     }
@@ -50,21 +51,22 @@ pub fn read_image_call(
 /// The call of the function of this number.
 fn call_to(
     alloc: Global,
-    image: &Verified,
+    image: &Image,
     function: u32,
     texts: &[String],
 ) -> Result<ImageCall, CallRefusal>
     requires function { function < length (image_tree image.now).heads }
+    requires verified { IsVerified (image_tree image.now) }
     requires few { length (image_tree image.now).records ≤ 16777216 }
     requires short { All (λ (text : List ℕ). length text ≤ 1048576) (map string_bytes texts.now) }
     ensures { (h : HeadTree) → slice_get (image_tree image.now).heads function ≡ Some h
         → IsCallTo (image_tree image.now) function h (map string_bytes texts.now) (call_answer result) }
 {
-    let head = &image.image().heads.items[function as usize];
+    let head = &image.heads.items[function as usize];
     if texts.len() != head.params.items.len() {
         return Err(CallRefusal::WrongCount);
     }
-    let program = program_of(alloc, image.image())?;
+    let program = program_of(alloc, image)?;
     let abbreviations = Abbreviations::from_vec(Vec::new(alloc));
     let inputs = read_arguments(alloc, &program, &abbreviations, &head.params.items, texts);
     drop(program);
@@ -77,6 +79,7 @@ fn call_to(
 
 /// The program of the image's records alone.
 fn program_of(alloc: Global, image: &Image) -> Result<Program, NoMemory>
+    requires { HasForm (image_tree image.now) }
     ensures { IfOk result (λ program. program_tree program ≡ image_program (image_tree image.now)) }
 {
     let records = plain_records(alloc, &image.records)?;

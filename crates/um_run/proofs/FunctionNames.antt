@@ -11,11 +11,11 @@ abbrev pub later : ℕ → Option ℕ → Option ℕ
 later n None = None
 later n (Some k) = Some (n + k)
 
-later_none : (o : Option ℕ) → o ≡ later 0 o
+pub later_none : (o : Option ℕ) → o ≡ later 0 o
 later_none None = refl
 later_none (Some k) = ap Some (omega arith)
 
-later_one : (n : ℕ) (o : Option ℕ) → later n (one_later o) ≡ later (n + 1) o
+pub later_one : (n : ℕ) (o : Option ℕ) → later n (one_later o) ≡ later (n + 1) o
 later_one n None = refl
 later_one n (Some k) = ap Some (omega arith)
 

@@ -1,6 +1,6 @@
-mod FunctionNames
-mod Inputs
-mod OneByOne
+pub mod FunctionNames
+pub mod Inputs
+pub mod OneByOne
 mod CallParts
 pub mod CallLaws
 pub mod UniqueCalls

@@ -60,7 +60,7 @@ module _ (known : Known) (formed : IsFormed known.program) where
   abbrev AreShapesIn : List ShapeTree → Type 0
   AreShapesIn shapes = (k : ℕ) (s : ShapeTree) → slice_get shapes k ≡ Some s → IsShapeIn known.program.records s
 
-  same_inputs : (shapes : List ShapeTree) (texts : List (List ℕ)) (is js : List InputTree) → AreShapesIn shapes → AreInputs known shapes texts is → AreInputs known shapes texts js → is ≡ js
+  pub same_inputs : (shapes : List ShapeTree) (texts : List (List ℕ)) (is js : List InputTree) → AreShapesIn shapes → AreInputs known shapes texts is → AreInputs known shapes texts js → is ≡ js
   same_inputs [] [] [] [] over a b = refl
   same_inputs [] [] [] (j ∷ js) over a b = absurd b
   same_inputs [] [] (i ∷ is) js over a b = absurd a
@@ -73,7 +73,7 @@ module _ (known : Known) (formed : IsFormed known.program) where
       ∙ ap (λ (xs : List InputTree). j ∷ xs) (same_inputs shapes texts is js (λ k r e. over (suc k) r e) a.1 b.1)
 
   module _ (shapes : List ShapeTree) (texts : List (List ℕ)) (over : AreShapesIn shapes) where
-    inputs_or_refused : (inputs : List InputTree) (k : ℕ) (stop : InputStop) → AreInputs known shapes texts inputs → IsFirstRefused known shapes texts k stop → ⊥
+    pub inputs_or_refused : (inputs : List InputTree) (k : ℕ) (stop : InputStop) → AreInputs known shapes texts inputs → IsFirstRefused known shapes texts k stop → ⊥
     inputs_or_refused inputs k stop read r =
         let i = input_at known shapes texts inputs k r.shape r.text read r.has_shape r.has_text in
         input_or_refused r.shape r.text (over k r.shape r.has_shape) i.0 stop i.1 r.cause r.refused
@@ -89,7 +89,7 @@ module _ (known : Known) (formed : IsFormed known.program) where
           | inr le ↦ le
         ]
 
-    same_refused : (j k : ℕ) (e f : InputStop) → IsFirstRefused known shapes texts j e → IsFirstRefused known shapes texts k f → (j ≡ k) × (e ≡ f)
+    pub same_refused : (j k : ℕ) (e f : InputStop) → IsFirstRefused known shapes texts j e → IsFirstRefused known shapes texts k f → (j ≡ k) × (e ≡ f)
     same_refused j k e f a b =
         let low = none_before j k e f a b in
         let high = none_before k j f e b a in
