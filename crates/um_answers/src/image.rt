@@ -6,7 +6,7 @@ ghost use Rattle.um_verify.specs.ImageTree.{HeadTree, head_tree, image_tree, Has
 ghost use Rattle.um_verify.specs.Verified.{IsVerified};
 ghost use Rattle.um_image.specs.Encoding.{image_bytes};
 ghost use Rattle.um_image.specs.ProgramImage.{type_of_shape as plain_type_of};
-ghost use Rattle.um_image_run.specs.ImageCalls.{call_tree, image_program as program_in};
+ghost use Rattle.um_image_run.specs.ImageCalls.{call_tree, image_program};
 ghost use Rattle.um_image_run.specs.Laws.{IsShapedCall};
 ghost use Rattle.um_reports.specs.Steps.{IsReply};
 ghost use Rattle.um_answers.specs.CallAnswer.{IsOutcomeReply};
@@ -19,7 +19,7 @@ use std::alloc::{AllocError, Global};
 use um_exec::exec;
 use um_gen::generate;
 use um_image::{DecodeStop, decode, encode, image_of, type_of_shape};
-use um_image_run::{ImageCall, image_program, read_image_call};
+use um_image_run::{ImageCall, program_of, read_image_call};
 use um_orders::Words;
 use um_reports::{
     Reply, Status, reply_to_bad_byte, reply_to_bad_code, reply_to_bad_head, reply_to_call,
@@ -198,10 +198,10 @@ fn reply_of_image(
     requires form { HasForm (image_tree image.now) }
     requires function { function < length (image_tree image.now).heads }
     ensures { (h : HeadTree) → slice_get (image_tree image.now).heads function ≡ Some h
-        → IfOk result (λ reply. IsOutcomeReply (program_in (image_tree image.now)) (plain_type_of h.result)
+        → IfOk result (λ reply. IsOutcomeReply (image_program (image_tree image.now)) (plain_type_of h.result)
             (outcome_tree ended.now.outcome) ended.now.steps reply.text.items reply.status) }
 {
-    let program = image_program(alloc, image)?;
+    let program = program_of(alloc, image)?;
     match type_of_shape(alloc, &image.heads.items[function as usize].result) {
         Ok(ty) => {
             let reply = reply_to_outcome(alloc, &program, ended, &ty);

@@ -7,7 +7,7 @@ use Rattle.um_image.specs.declared.stop.ReadStop.{ReadStop}
 use Rattle.um_image.specs.declared.stop.ReadStop.TheVariants as stop
 use Rattle.um_image.specs.declared.function.Functions.{Functions}
 use Rattle.um_image.specs.Encoding.{written, spell, FunctionPart, ImageParts, parts_items, image_parts, image_bytes}
-use Rattle.um_image.specs.Places.{IsBadAt, IsWritable}
+use Rattle.um_image.specs.Places.{IsBadAt, IsWritable, PartsFit}
 use Rattle.um_image.specs.Reading.{◌>>=◌, Fails, letters_at, records_at, last_functions_at, image_at}
 use Rattle.um_image.specs.FunctionsRead.{Holds, image_of_parts, kept_image}
 use Rattle.um_image.proofs.Formats.{IsBytes, not_both, item_format, rest_of}
@@ -57,6 +57,12 @@ module _ (bytes : List ℕ) (b : IsBytes bytes) (few : length bytes ≤ 16777216
   has_form =
       let t = read_takes bytes p b e in
       subst HasForm (sym is) (form_from p t.0 t.1 (subst (λ (s : List ℕ). length s ≤ 16777216) t.2 few))
+
+  pub is_writable : IsWritable image
+  is_writable = record {
+    form = has_form;
+    numbers = subst (λ (i : ImageTree). PartsFit (image_parts i)) (sym is) (subst PartsFit (sym (parts_back p)) (read_takes bytes p b e).0);
+  }
 
   pub few_records : length image.records ≤ 16777216
   few_records =

@@ -8,8 +8,9 @@ use Rattle.um_tree.specs.Shapes.{type_shape}
 use Rattle.um_machine.specs.declared.op.Op.{Op}
 use Rattle.um_verify.specs.ImageTree.{HeadTree, IsPlainType}
 use Rattle.um_image.specs.Encoding.{Item, written, name_items, low_shape_items, field_items, counted_items, record_items, op_items, FunctionPart, function_items, ImageParts, parts_items}
+use Rattle.um_image.specs.ProgramImage.{type_of_shape}
 use Rattle.um_image.specs.Places.{ShapeFits, FieldFits, RecordFits, OpFits, FunctionFits, PartsFit}
-use Rattle.um_image.specs.Reading.{◌>>=◌, many_at, number_at, name_at, low_shape_at, type_of_shape, type_at, field_at, fields_at, record_at, records_at, op_at, ops_at, shapes_at, head_at, function_at, functions_at, letters_at}
+use Rattle.um_image.specs.Reading.{◌>>=◌, many_at, number_at, name_at, low_shape_at, type_at, field_at, fields_at, record_at, records_at, op_at, ops_at, shapes_at, head_at, function_at, functions_at, letters_at}
 use Rattle.um_image.proofs.Formats.{IsFormat, item_format, Made, made_at, made_format}
 use Rattle.um_image.proofs.Chains.{Splits, chain_format, AreMany, many_format}
 use Rattle.um_image.proofs.ItemFormats.{own_bytes, AreLetters, letters_item}

@@ -2,7 +2,8 @@
 -- Source: this project's own.
 use Rattle.std.specs.Prelude.{◌≡◌, ℕ, [], length, map, slice_get, Some}
 use Rattle.um_units.specs.PowerMap.{one}
-use Rattle.um_tree.specs.TypeTree.{TypeTree, bool_type, num_type, list_type, record_type}
+use Rattle.um_tree.specs.TypeTree.{TypeTree, bool_type, num_type, list_type, record_type, ShapeTree, bool_shape}
+use Rattle.um_tree.specs.TypeTree.{num_shape, list_shape, record_shape}
 use Rattle.um_tree.specs.ProgramTree.{FieldTree, RecordTree, FunctionTree, ProgramTree}
 use Rattle.um_tree.specs.Shapes.{FunctionShape}
 use Rattle.um_machine.specs.declared.code.Code.{Code}
@@ -20,6 +21,13 @@ plain_field f = record { name = f.name; type = plain_type f.type }
 
 abbrev pub plain_record : RecordTree → RecordTree
 plain_record d = record { name = d.name; at = 0; units = 0; fields = map plain_field d.fields }
+
+-- the type with this shape whose numbers have unit 1
+abbrev pub type_of_shape : ShapeTree → TypeTree
+type_of_shape bool_shape = bool_type
+type_of_shape num_shape = num_type one
+type_of_shape (list_shape s) = list_type (type_of_shape s)
+type_of_shape (record_shape r) = record_type r []
 
 -- the head has the name and the shapes of function i
 pub record IsHeadOf (p : ProgramTree) (i : ℕ) (h : HeadTree) : Type 0 where

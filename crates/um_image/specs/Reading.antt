@@ -24,6 +24,7 @@ use Rattle.um_image.specs.declared.form.Form.TheVariants as form
 use Rattle.um_image.specs.declared.form.Counted.{Counted}
 use Rattle.um_image.specs.declared.form.Counted.TheVariants as counted
 use Rattle.um_image.specs.Encoding.{FunctionPart, ImageParts}
+use Rattle.um_image.specs.ProgramImage.{type_of_shape}
 
 -- Reading gives a value and the bytes behind it, or how many bytes are left from the first item on that is refused.
 infixl 10 ◌>>=◌
@@ -111,13 +112,6 @@ unfoldable pub low_shape_at : List ℕ → Result (ShapeTree × List ℕ) ℕ
 low_shape_at bytes = shape_at greatest_height bytes
 
 -- ---- records
-
--- the type with this shape whose numbers have unit 1
-abbrev pub type_of_shape : ShapeTree → TypeTree
-type_of_shape bool_shape = bool_type
-type_of_shape num_shape = num_type one
-type_of_shape (list_shape s) = list_type (type_of_shape s)
-type_of_shape (record_shape r) = record_type r []
 
 unfoldable pub type_at : List ℕ → Result (TypeTree × List ℕ) ℕ
 type_at bytes = low_shape_at bytes >>= λ s. Ok (type_of_shape s.0, s.1)

@@ -30,6 +30,7 @@ use um_verify::{Heads, Image};
 pub fn decode(alloc: Global, bytes: &[u8]) -> Result<Image, DecodeStop>
     requires few { length bytes.now ≤ 16777216 }
     ensures form { IfOk result (λ image. HasForm (image_tree image)) }
+    ensures writable { IfOk result (λ image. IsWritable (image_tree image)) }
     ensures few_records { IfOk result (λ image. length (image_tree image).records ≤ 16777216) }
     ensures found { IfOk result (λ image. bytes.now ≡ image_bytes (image_tree image)) }
     ensures only { (image : ImageTree) → IsWritable image → bytes.now ≡ image_bytes image → IsDecoded image result }

@@ -17,4 +17,5 @@ pub use decoding::decode;
 pub use encoding::encode;
 pub use laws::{bytes_of_images, image_of_generated_code};
 pub use program::{image_of, plain_records};
+pub use record::type_of_shape;
 pub use stop::DecodeStop;

@@ -2,7 +2,8 @@
 ghost use Rattle.std.specs.Prelude.{◌≡◌, IfOk, map};
 ghost use Rattle.um_tree.specs.TypeTree.{shape_tree, type_tree};
 ghost use Rattle.um_tree.specs.ProgramTree.{field_tree, record_tree};
-ghost use Rattle.um_image.specs.Reading.{Gives, many_at, with_front, shape_at, low_shape_at, shapes_at, type_of_shape};
+ghost use Rattle.um_image.specs.Reading.{Gives, many_at, with_front, shape_at, low_shape_at, shapes_at};
+ghost use Rattle.um_image.specs.ProgramImage.{type_of_shape};
 ghost use Rattle.um_image.specs.Reading.{type_at, field_at, fields_at, record_at, records_at};
 
 use crate::item::{read_name, read_number};
@@ -82,8 +83,8 @@ pub(crate) fn read_shapes(alloc: Global, bytes: &[u8]) -> Result<(Shapes, &[u8])
     }
 }
 
-/// The type of this shape whose numbers have unit 1.
-fn type_of_shape(alloc: Global, shape: &Shape) -> Result<Ty, NoMemory>
+/// The type of this shape whose numbers have unit 1. `NoMemory` is its one error.
+pub fn type_of_shape(alloc: Global, shape: &Shape) -> Result<Ty, NoMemory>
     ensures { IfOk result (λ ty. type_tree ty ≡ type_of_shape (shape_tree shape.now)) }
 {
     match shape {

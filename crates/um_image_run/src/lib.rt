@@ -11,4 +11,4 @@ mod read;
 
 pub use call::ImageCall;
 pub use laws::image_calls;
-pub use read::read_image_call;
+pub use read::{program_of, read_image_call};

@@ -77,8 +77,8 @@ fn call_to(
     }
 }
 
-/// The program of the image's records alone.
-fn program_of(alloc: Global, image: &Image) -> Result<Program, NoMemory>
+/// The program of the image's records alone: it has no base units and no functions. `NoMemory` is its one error.
+pub fn program_of(alloc: Global, image: &Image) -> Result<Program, NoMemory>
     requires { HasForm (image_tree image.now) }
     ensures { IfOk result (λ program. program_tree program ≡ image_program (image_tree image.now)) }
 {

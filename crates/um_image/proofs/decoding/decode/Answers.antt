@@ -4,7 +4,7 @@ use Rattle.um_image.specs.declared.stop.ReadStop.{ReadStop}
 use Rattle.um_image.specs.Reading.{Fails, image_at}
 use Rattle.um_image.proofs.Formats.{IsBytes}
 use Rattle.um_image.proofs.ReadLaws.{read_refused}
-use Rattle.um_image.proofs.Decoded.{has_form, few_records, has_bytes, is_only, no_image}
+use Rattle.um_image.proofs.Decoded.{has_form, is_writable, few_records, has_bytes, is_only, no_image}
 use Rattle.um_image.proofs.decoding.decode.Goals as goal
 
 pub overflow_sub-result : goal.overflow_sub-result
@@ -18,6 +18,12 @@ returns-in-Ok-clause-form c =
     let b : IsBytes c.args.bytes.now = λ i. omega (arith, c.type_inv.bytes i) in
     let read = c.in-Ok.ensures in
     has_form c.args.bytes.now b c.requires.few (image_tree c.in-Ok.image) read.0 read.1 read.2
+
+pub returns-in-Ok-clause-writable : goal.returns-in-Ok-clause-writable
+returns-in-Ok-clause-writable c =
+    let b : IsBytes c.args.bytes.now = λ i. omega (arith, c.type_inv.bytes i) in
+    let read = c.in-Ok.ensures in
+    is_writable c.args.bytes.now b c.requires.few (image_tree c.in-Ok.image) read.0 read.1 read.2
 
 pub returns-in-Ok-clause-few_records : goal.returns-in-Ok-clause-few_records
 returns-in-Ok-clause-few_records c =
