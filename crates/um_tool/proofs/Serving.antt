@@ -17,7 +17,8 @@ use Rattle.um_reports.specs.Steps.{IsReply, line}
 use Rattle.um_big.specs.BigText.{big_text}
 use Rattle.um_orders.specs.Orders.{order_of, intake_of, AsksFor}
 use Rattle.um_tool.specs.Served.{IsPlanned, Reads, Serves}
-use Rattle.um_tool.proofs.Statuses.{is_answered, Answer-status}
+use Rattle.um_reports.proofs.ReportStatuses.{is_answered}
+use Rattle.um_tool.proofs.Statuses.{Answer-status}
 
 -- some bytes that the source may have left
 pub some_told : (left : Option (List ℕ)) → (bytes : List ℕ) × Tells left bytes

@@ -10,6 +10,7 @@ use Rattle.um_infer.specs.Inference.{infer}
 use Rattle.um_infer.specs.Laws.{IsLimited}
 use Rattle.um_orders.specs.declared.order.Order.{Order}
 use Rattle.um_orders.specs.declared.order.Order.TheVariants.{Fmt}
+use Rattle.um_answers.specs.Passing.{PassesOn}
 
 abbrev pub EachIsTyped : ProgramTree → Type 0
 EachIsTyped p = (i : ℕ) (f : FunctionTree) → slice_get p.functions i ≡ Some f → (g : Signature) × Typing p i g
