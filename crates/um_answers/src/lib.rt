@@ -6,6 +6,7 @@ mod asked;
 mod big;
 mod call;
 mod image;
+pub mod laws;
 mod names;
 mod rescale;
 mod schemes;
