@@ -1,5 +1,5 @@
 -- The first head of a name, in a search from the front.
-use Rattle.std.proofs.Common.{◌≡◌, ℕ, ◌+◌, ◌<◌, ◌≤◌, Bool, true, false, cond, List, map, drop, get_or, length, Option, Some, None, refl, sym, ap, ◌∙◌, arith}
+use Rattle.std.proofs.Common.{◌≡◌, ℕ, ◌+◌, ◌<◌, ◌≤◌, Bool, true, false, cond, List, map, drop, get_or, length, Some, None, sym, ap, ◌∙◌, arith}
 use Rattle.std.specs.Str.{bytes_eq}
 use Rattle.um_measures.specs.Known.{one_later, number_of}
 use Rattle.um_measures.proofs.Stages.{map_from_more, map_from-end}

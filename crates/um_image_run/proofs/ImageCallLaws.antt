@@ -1,24 +1,25 @@
 -- Calls of a verified image can be run, and words have one answer, memory aside.
-use Rattle.std.proofs.Common.{◌≡◌, ◌⊎◌, inl, inr, ℕ, ◌<◌, ◌≤◌, List, length, map, Some, None, slice_get, refl, sym, ap, subst, ◌∙◌, Ok, Err, All, arith}
-use Rattle.std.specs.Prelude.{◌≢◌, Result}
+use Rattle.std.proofs.Common.{◌≡◌, ◌⊎◌, inl, inr, ℕ, ◌<◌, ◌≤◌, List, length, map, get_or, Some, None, slice_get, refl, sym, ap, subst, ◌∙◌, Ok, Err, arith}
+use Rattle.std.specs.Prelude.{Result, IfOk}
 use Rattle.std.proofs.lemmas.List.{length-map}
 use Rattle.std.proofs.lemmas.Option.{none-some, same_Some}
 use Rattle.um_tree.specs.TypeTree.{ShapeTree}
-use Rattle.um_tree.specs.ValueTree.{InputTree}
 use Rattle.um_tree.proofs.Moved.{All_at}
 use Rattle.um_measures.specs.Known.{number_of}
 use Rattle.um_measures.proofs.NameLists.{number_of-below}
-use Rattle.um_value.specs.declared.stop.InputStop.{InputStop}
 use Rattle.um_value.specs.ValueGrammar.{IsShapeIn}
 use Rattle.um_run.specs.declared.call.CallRefusal.{CallRefusal}
 use Rattle.um_run.specs.declared.call.CallRefusal.TheVariants as refusal
-use Rattle.um_run.specs.Calls.{AreInputs, IsFirstRefused}
+use Rattle.um_run.specs.Reading.{AreArgumentsRead}
+use Rattle.um_run.proofs.OneByOne.{shown_at}
 use Rattle.um_run.proofs.Inputs.{values_have, same_count}
 use Rattle.um_run.proofs.UniqueCalls.{same_inputs, inputs_or_refused, same_refused}
-use Rattle.um_verify.specs.ImageTree.{HeadTree, ImageTree}
-use Rattle.um_verify.specs.Laws.{IsCall}
+use Rattle.um_verify.specs.declared.image.Head.{Head}
+use Rattle.um_verify.specs.declared.image.Image.{Image}
+use Rattle.um_verify.specs.ImageTree.{HeadTree, ImageTree, head_tree, image_tree}
 use Rattle.um_verify.specs.Verified.{IsVerified}
-use Rattle.um_image_run.specs.ImageCalls.{ImageCallTree, known_in, head_names, IsNamedHead, IsCallTo, IsImageCallOf}
+use Rattle.um_image_run.specs.declared.call.ImageCall.{ImageCall}
+use Rattle.um_image_run.specs.ImageCalls.{ImageCallTree, known_in, head_names, IsNamedHead, IsCallTo, IsImageCallOf, call_tree, call_answer}
 use Rattle.um_image_run.specs.Laws.{IsShapedCall, ImageCallsAreShaped, ImageCallsAreUnique}
 use Rattle.um_image_run.proofs.ImagePrograms.{get_there, formed, params_in}
 
@@ -28,6 +29,28 @@ call_shaped image k h texts call e c =
 
 pub calls_are_shaped : ImageCallsAreShaped
 calls_are_shaped image name texts call (k, h, named, c) = call_shaped image k h texts call named.listed c
+
+pub answer_shaped : (image : ImageTree) (k : ℕ) (h : HeadTree) (texts : List (List ℕ)) → slice_get image.heads k ≡ Some h → (r : Result ImageCall CallRefusal) → IsCallTo image k h texts (call_answer r) → IfOk r (λ call. IsShapedCall image (call_tree call))
+answer_shaped image k h texts e (Ok call) c = call_shaped image k h texts (call_tree call) e c
+answer_shaped image k h texts e (Err stop) c = tt
+
+-- an argument is refused, and so is the call
+pub refused_to : (image : ImageTree) (k : ℕ) (h : HeadTree) (texts : List (List ℕ)) (r : CallRefusal) → length texts ≡ length h.params → AreArgumentsRead (known_in image) h.params texts (Err r) → IsCallTo image k h texts (Err r)
+refused_to image k h texts refusal.NoFunction count a = absurd a
+refused_to image k h texts refusal.WrongCount count a = absurd a
+refused_to image k h texts (refusal.Argument index stop) count a = (count, a)
+refused_to image k h texts refusal.Units count a = absurd a
+refused_to image k h texts refusal.PowerRange count a = absurd a
+refused_to image k h texts refusal.Slots count a = absurd a
+refused_to image k h texts refusal.NoMemory count a = tt
+
+-- the head of a number
+pub listed_head : (image : Image) (hs : List Head) (k : ℕ) (g : Head) → hs ≡ image.heads.items.items → k < length (image_tree image).heads → g ≡ get_or hs k g → slice_get (image_tree image).heads k ≡ Some (head_tree g)
+listed_head image hs k g same below there =
+    let shown = length-map image.heads.items.items head_tree in
+    let within : k < length image.heads.items.items = omega (arith, below, shown) in
+    subst (λ (xs : List Head). slice_get (map head_tree xs) k ≡ Some (head_tree g)) same
+    (shown_at head_tree hs k g (subst (λ (xs : List Head). k < length xs) (sym same) within) there)
 
 -- the head of a name
 pub named_below : (image : ImageTree) (name : List ℕ) (k : ℕ) → Some k ≡ number_of (head_names image.heads) name → k < length image.heads

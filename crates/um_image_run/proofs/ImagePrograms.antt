@@ -1,6 +1,5 @@
 -- The records of a verified image are a formed program.
-use Rattle.std.proofs.Common.{◌≡◌, ◌≢◌, refl, sym, subst, ap, ◌∙◌, ℕ, zero, suc, ◌+◌, ◌<◌, ◌≤◌, List, [], ◌∷◌, ◌++◌, length, map, take, get_or, All, Some, slice_get, arith}
-use Rattle.std.specs.List.{flat_map}
+use Rattle.std.proofs.Common.{◌≡◌, refl, sym, subst, ap, ◌∙◌, ℕ, zero, suc, ◌+◌, ◌<◌, ◌≤◌, List, [], ◌∷◌, length, map, take, get_or, All, Some, slice_get, arith}
 use Rattle.std.proofs.lemmas.List.{take_all}
 use Rattle.um_units.specs.PowerMap.{PowerMap}
 use Rattle.um_tree.specs.TypeTree.{TypeTree, bool_type, num_type, list_type, record_type, ShapeTree, bool_shape, num_shape, list_shape, record_shape}
@@ -97,6 +96,7 @@ module _ (image : ImageTree) (v : IsVerified image) (few : length image.records 
     none_at : {A : Type 0} (i : ℕ) (x : A) → slice_get [] i ≡ Some x → ⊥
     none_at zero x e = cc
     none_at (suc i) x e = cc
+
     records : (r : ℕ) (d : RecordTree) → slice_get image.records r ≡ Some d → IsFormedRecord (image_program image) r d
     records r d e =
         let h = record_at r d e in
@@ -107,7 +107,7 @@ module _ (image : ImageTree) (v : IsVerified image) (few : length image.records 
           few_fields = h.few_fields;
           few_units = subst (λ (n : ℕ). n ≤ 4) (sym p.units) (omega arith);
           fields = all_zip IsPlainField (λ (f : FieldTree). NamesEarlier r f.type) (λ (f : FieldTree). IsFieldType (image_program image) r d.units f.type)
-            (λ f plain early. (subst (λ (n : ℕ). IsTypeIn 0 n image.records f.type) (sym p.units) (type_in r f.type (omega arith) plain.plain early), early, plain.low)) d.fields p.fields h.earlier;
+              (λ f plain early. (subst (λ (n : ℕ). IsTypeIn 0 n image.records f.type) (sym p.units) (type_in r f.type (omega arith) plain.plain early), early, plain.low)) d.fields p.fields h.earlier;
         }
 
   -- ---- shapes

@@ -1,4 +1,4 @@
-mod ImagePrograms
+pub mod ImagePrograms
 mod HeadNames
-mod ImageCallLaws
+pub mod ImageCallLaws
 mod PlainCopies

@@ -34,7 +34,15 @@ pub(crate) fn read_arguments(
     let mut items = Vec::new(alloc);
     for k in 0..texts.len() {
         let text = texts[k].as_str();
-        match add_argument(alloc, program, abbreviations, &shapes[k], k as u32, text, &mut items) {
+        match add_argument(
+            alloc,
+            program,
+            abbreviations,
+            &shapes[k],
+            k as u32,
+            text,
+            &mut items,
+        ) {
             Ok(()) => {}
             Err(refusal) => {
                 drop(items);

@@ -1,9 +1,14 @@
 //! A call of an image's function by its words.
 ghost use Rattle.std.specs.Prelude.{◌≡◌, ◌<◌, ◌≤◌, ℕ, All, IfOk, List, length, map, slice_get, string_bytes, Some};
+ghost use Rattle.um_tree.specs.TypeTree.{shape_tree};
 ghost use Rattle.um_tree.specs.ProgramTree.{program_tree};
+ghost use Rattle.um_tree.specs.Formed.{IsFormed};
+ghost use Rattle.um_value.specs.ValueGrammar.{IsShapeIn};
+ghost use Rattle.um_run.specs.Reading.{AreArgumentsRead};
 ghost use Rattle.um_verify.specs.ImageTree.{HeadTree, image_tree, HasForm};
 ghost use Rattle.um_verify.specs.Verified.{IsVerified};
 ghost use Rattle.um_image_run.specs.ImageCalls.{IsCallTo, IsImageCallOf, call_tree, call_answer, image_program};
+ghost use Rattle.um_image_run.specs.ImageCalls.{known_in};
 ghost use Rattle.um_image_run.specs.Laws.{IsShapedCall};
 
 use crate::argument::read_arguments;
@@ -13,9 +18,9 @@ use std::alloc::Global;
 use um_image::plain_records;
 use um_measures::Abbreviations;
 use um_run::CallRefusal;
-use um_tree::{Functions, Names, Program};
+use um_tree::{Functions, Inputs, Names, Program, Shape};
 use um_units::NoMemory;
-use um_verify::Image;
+use um_verify::{Head, Image};
 
 /// The call of the image's function of this name with the arguments that the texts are.
 ///
@@ -62,18 +67,41 @@ fn call_to(
     ensures { (h : HeadTree) → slice_get (image_tree image.now).heads function ≡ Some h
         → IsCallTo (image_tree image.now) function h (map string_bytes texts.now) (call_answer result) }
 {
-    let head = &image.heads.items[function as usize];
+    let heads: &[Head] = &image.heads.items;
+    let head = &heads[function as usize];
     if texts.len() != head.params.items.len() {
         return Err(CallRefusal::WrongCount);
     }
-    let program = program_of(alloc, image)?;
-    let abbreviations = Abbreviations::from_vec(Vec::new(alloc));
-    let inputs = read_arguments(alloc, &program, &abbreviations, &head.params.items, texts);
-    drop(program);
-    drop(abbreviations);
-    match inputs {
+    match arguments_of(alloc, image, &head.params.items, texts) {
         Ok(inputs) => Ok(ImageCall { function, inputs }),
         Err(refusal) => Err(refusal),
+    }
+}
+
+/// The inputs that the texts are, one at each shape, over the image's records.
+fn arguments_of(
+    alloc: Global,
+    image: &Image,
+    shapes: &[Shape],
+    texts: &[String],
+) -> Result<Inputs, CallRefusal>
+    requires form { HasForm (image_tree image.now) }
+    requires formed { IsFormed (image_program (image_tree image.now)) }
+    requires shapes { All (IsShapeIn (image_tree image.now).records) (map shape_tree shapes.now) }
+    requires count { length texts.now ≡ length shapes.now }
+    requires few { length texts.now ≤ 16 }
+    requires short { All (λ (text : List ℕ). length text ≤ 1048576) (map string_bytes texts.now) }
+    ensures { AreArgumentsRead (known_in (image_tree image.now)) (map shape_tree shapes.now)
+        (map string_bytes texts.now) result }
+{
+    match program_of(alloc, image) {
+        Ok(program) => {
+            let abbreviations = Abbreviations::from_vec(Vec::new(alloc));
+            let inputs = read_arguments(alloc, &program, &abbreviations, shapes, texts);
+            drop(program);
+            inputs
+        }
+        Err(_) => Err(CallRefusal::NoMemory),
     }
 }
 

@@ -1,10 +1,6 @@
 use Rattle.std.proofs.Common.{[], ◌∷◌, map, ap, ◌∙◌}
 use Rattle.std.proofs.lemmas.List.{map-append}
-use Rattle.um_tree.specs.TypeTree.{shape_tree}
 use Rattle.um_tree.specs.ValueTree.{input_tree}
-use Rattle.um_tree.specs.ProgramTree.{program_tree}
-use Rattle.um_measures.specs.ClosedUnits.{given}
-use Rattle.um_run.proofs.OneByOne.{argument_refused}
 use Rattle.um_image_run.proofs.argument.add_argument.Goals as goal
 
 pub returns-in_ok-push-in-Ok : goal.returns-in_ok-push-in-Ok

@@ -1,7 +1,7 @@
 use Rattle.std.proofs.Common.{◌≡◌, ◌<◌, ◌≤◌, List, ℕ, map, length, Some, slice_get, sym, ap, subst, ◌∙◌, arith}
 use Rattle.std.specs.Prelude.{string_bytes}
 use Rattle.std.proofs.lemmas.List.{length-map}
-use Rattle.um_tree.specs.TypeTree.{ShapeTree, shape_tree}
+use Rattle.um_tree.specs.TypeTree.{shape_tree}
 use Rattle.um_tree.specs.ValueTree.{input_tree}
 use Rattle.um_tree.specs.ProgramTree.{program_tree}
 use Rattle.um_tree.proofs.Moved.{All_at}
