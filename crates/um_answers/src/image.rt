@@ -199,7 +199,7 @@ fn reply_of_image(
     requires function { function < length (image_tree image.now).heads }
     ensures { (h : HeadTree) → slice_get (image_tree image.now).heads function ≡ Some h
         → IfOk result (λ reply. IsOutcomeReply (image_program (image_tree image.now)) (plain_type_of h.result)
-            (outcome_tree ended.now.outcome) ended.now.steps reply.text.items reply.status) }
+        (outcome_tree ended.now.outcome) ended.now.steps reply.text.items reply.status) }
 {
     let program = program_of(alloc, image)?;
     match type_of_shape(alloc, &image.heads.items[function as usize].result) {

@@ -29,11 +29,15 @@ fn are_short_records(records: &[Record]) -> bool
 fn are_short_fields(fields: &[FieldDecl]) -> bool
     ensures { result ≡ list_all (λ f. nat_le (length f.name) 4294967295) fields.now }
 {
-    fields.iter().all(|field| field.name.as_slice().len() <= NAME_LIMIT)
+    fields
+        .iter()
+        .all(|field| field.name.as_slice().len() <= NAME_LIMIT)
 }
 
 fn are_short_functions(functions: &[Function]) -> bool
     ensures { result ≡ list_all (λ f. nat_le (length f.name) 4294967295) functions.now }
 {
-    functions.iter().all(|function| function.name.as_slice().len() <= NAME_LIMIT)
+    functions
+        .iter()
+        .all(|function| function.name.as_slice().len() <= NAME_LIMIT)
 }

@@ -16,7 +16,7 @@ returns c =
     let head = c.requires.shaped.0 in let listed = c.requires.shaped.1.listed in
     let o = outcome_tree c.in_ok-outcome.outcome in
     let ends : EndsWith image.code call.function (image_call_values call) c.args.budget o =
-        subst (λ vs. EndsWith image.code call.function vs c.args.budget o) c.in_ok-values.ensures c.in_ok-outcome.ensures.end in
+    subst (λ vs. EndsWith image.code call.function vs c.args.budget o) c.in_ok-values.ensures c.in_ok-outcome.ensures.end in
     let own = ap image_tree c.image.ensures.image in
     let printed = c.reply_of_image-reply.ensures head (ap (λ i. slice_get i.heads call.function) own ∙ listed) in
     let here = subst (λ i. IfOk c.reply_of_image-reply.result (λ reply. IsOutcomeReply (image_program i) (type_of_shape head.result) o None reply.text.items reply.status)) own printed in
