@@ -11,6 +11,8 @@ use Rattle.um_sizes.specs.BaseSizes.{AreScalesRead}
 use Rattle.um_sig.specs.declared.signature.Signature.{Signature}
 use Rattle.um_sig.specs.declared.stop.SigText.{SigText}
 use Rattle.um_sig.specs.Reading.{IsRead}
+use Rattle.um_verify.specs.ImageTree.{ImageTree}
+use Rattle.um_image_run.specs.ImageCalls.{ImageCallTree, IsImageCallOf}
 use Rattle.um_answers.specs.Asked.{signature_text}
 
 module _ (words : List (List ℕ)) (p : ProgramTree) (shorts : List Abbreviation) where
@@ -31,3 +33,10 @@ module _ (words : List (List ℕ)) (p : ProgramTree) (shorts : List Abbreviation
 -- the sizes that a word states are those of the words
 pub sizes_of_words : (words : List (List ℕ)) (bases : List (List ℕ)) (k : ℕ) (word : List ℕ) (r : Result (List Frac) ScalesRefusal) → slice_get words k ≡ Some word → AreScalesRead bases word r → AreScalesRead bases (get_or words k []) r
 sizes_of_words words bases k word r at is = subst (λ w. AreScalesRead bases w r) (sym (get_or_from_slice_get words k word [] at)) is
+
+-- the call of an image by the name and the texts is that of the words
+pub image_call_of_words : (words : List (List ℕ)) (image other : ImageTree) (k : ℕ) (name : List ℕ) (texts : List (List ℕ)) (r : Result ImageCallTree CallRefusal) → other ≡ image → slice_get words k ≡ Some name → texts ≡ drop (k + 1) words
+    → IsImageCallOf other name texts r → IsImageCallOf image (get_or words k []) (drop (k + 1) words) r
+image_call_of_words words image other k name texts r here at behind is =
+    let same : get_or words k [] ≡ name = get_or_from_slice_get words k name [] at in
+    subst (λ ts. IsImageCallOf image (get_or words k []) ts r) behind (subst (λ n. IsImageCallOf image n texts r) (sym same) (subst (λ i. IsImageCallOf i name texts r) here is))

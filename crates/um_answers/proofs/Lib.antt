@@ -8,6 +8,9 @@ mod CallsDone
 pub mod ConformsDone
 mod UniqueReplies
 mod BigAnswers
+mod ShortNames
+mod ImageAnswers
+pub mod ExecAnswers
 mod RescaleAnswers
 mod TwinAnswers
 mod TwinDone

@@ -8,13 +8,14 @@ use Rattle.um_answers.specs.declared.way.Way.TheVariants as way
 use Rattle.um_orders.specs.declared.order.Order.{Order}
 use Rattle.um_reports.specs.declared.status.Status.{Status}
 use Rattle.um_reports.specs.declared.status.Status.TheVariants.{Done}
-use Rattle.um_orders.specs.declared.order.Order.TheVariants.{Types, Code, Fmt, Run, Steps, Eval, Conform, Rescale, Twin, Big}
+use Rattle.um_orders.specs.declared.order.Order.TheVariants.{Types, Code, Fmt, Run, Steps, Eval, Conform, Rescale, Twin, Big, Image, Exec}
 use Rattle.um_answers.specs.Asked.{Asked}
 use Rattle.um_answers.specs.TypedAnswer.{TypedAnswer, ByOrder}
 use Rattle.um_answers.specs.Passing.{PassesOn}
 use Rattle.um_sig.specs.Laws.{ReadingsAreUnique}
 use Rattle.um_answers.proofs.CallsDone.{call_done}
 use Rattle.um_answers.proofs.BigAnswers.{big_done}
+use Rattle.um_answers.proofs.ImageAnswers.{image_done}
 use Rattle.um_answers.proofs.ConformsDone.{conform_done}
 use Rattle.um_answers.proofs.RescaleAnswers.{rescale_done}
 use Rattle.um_answers.proofs.TwinDone.{twin_done}
@@ -32,6 +33,8 @@ module _ (one_reading : ReadingsAreUnique) where
   by_order_done Rescale asked p schemes text status formed resolved inferred passes answer = rescale_done asked p text status passes answer
   by_order_done (Twin budget) asked p schemes text status formed resolved inferred passes answer = twin_done budget asked p schemes text status passes formed resolved inferred answer
   by_order_done (Big n) asked p schemes text status formed resolved inferred passes answer = big_done n asked p schemes text status formed resolved inferred passes answer
+  by_order_done Image asked p schemes text status formed resolved inferred passes answer = image_done p text status answer
+  by_order_done (Exec budget) asked p schemes text status formed resolved inferred passes answer = absurd answer
 
   pub typed_done : (asked : Asked) (p : ProgramTree) (schemes : List SchemeTree) (text : List ℕ) (status : Status) → IsFormed p → resolved_program asked.raw ≡ Ok p → infer p ≡ all_schemes schemes
       → PassesOn asked.order asked.words asked.raw p → TypedAnswer asked p schemes text status → status ≡ Done

@@ -17,17 +17,18 @@ use Rattle.um_reports.specs.declared.status.Status.{Status}
 use Rattle.um_answers.specs.declared.way.Way.{Way}
 use Rattle.um_answers.specs.declared.way.Way.TheVariants as way
 use Rattle.um_orders.specs.declared.order.Order.{Order}
-use Rattle.um_orders.specs.declared.order.Order.TheVariants.{Types, Code, Fmt, Run, Steps, Eval, Conform, Rescale, Twin, Big}
+use Rattle.um_orders.specs.declared.order.Order.TheVariants.{Types, Code, Fmt, Run, Steps, Eval, Conform, Rescale, Twin, Big, Image, Exec}
 use Rattle.um_answers.specs.Asked.{Asked, argument_texts, held_name, signature_text}
 use Rattle.um_answers.specs.BigAnswer.{BigAnswer, asked_by, last_call}
 use Rattle.um_answers.specs.TypedAnswer.{TypedAnswer, ByOrder}
 use Rattle.um_reports.proofs.ReportStatuses.{is_answered, call_reply, signature_reply, conform_reply}
+use Rattle.um_answers.proofs.ImageAnswers.{ImageAnswer-status}
 use Rattle.um_answers.proofs.RescaleAnswers.{RescaleAnswer-status}
 use Rattle.um_answers.proofs.TwinAnswers.{TwinAnswer-status}
 
 -- ---- calls and signatures
 
-outcome_reply : (p : ProgramTree) (t : TypeTree) (o : OutcomeTree) (steps : Option ℕ) (text : List ℕ) (status : Status) → IsOutcomeReply p t o steps text status → IsTrue (is_answered status)
+pub outcome_reply : (p : ProgramTree) (t : TypeTree) (o : OutcomeTree) (steps : Option ℕ) (text : List ℕ) (status : Status) → IsOutcomeReply p t o steps text status → IsTrue (is_answered status)
 outcome_reply p t (value_outcome v) steps text status (inl (fits, reply)) = rw reply.1 refl
 outcome_reply p t (value_outcome v) steps text status (inr (unfit, reply)) = rw reply.1 refl
 outcome_reply p t (trap_outcome why) steps text status reply = rw reply.1 refl
@@ -81,6 +82,8 @@ by_order_status Conform asked p schemes text status answer = ConformAnswer-statu
 by_order_status Rescale asked p schemes text status answer = RescaleAnswer-status asked p text status answer
 by_order_status (Twin budget) asked p schemes text status answer = TwinAnswer-status text status budget asked p schemes answer
 by_order_status (Big n) asked p schemes text status answer = BigAnswer-status n asked p schemes text status answer
+by_order_status Image asked p schemes text status answer = ImageAnswer-status p text status answer
+by_order_status (Exec budget) asked p schemes text status answer = absurd answer
 
 pub TypedAnswer-status : (asked : Asked) (p : ProgramTree) (schemes : List SchemeTree) (text : List ℕ) (status : Status) → TypedAnswer asked p schemes text status → IsTrue (is_answered status)
 unfolding TypedAnswer

@@ -90,7 +90,7 @@ module _ (text other : List ℕ) (status another : Status) where
   one_conform_reply name (Err sig_stop.NoMemory) a b = absurd a
 
   -- ---- one outcome has one line
-  one_outcome_reply : (p : ProgramTree) (t : TypeTree) (o : OutcomeTree) (steps : Option ℕ) → IsOutcomeReply p t o steps text status → IsOutcomeReply p t o steps other another → AreSame
+  pub one_outcome_reply : (p : ProgramTree) (t : TypeTree) (o : OutcomeTree) (steps : Option ℕ) → IsOutcomeReply p t o steps text status → IsOutcomeReply p t o steps other another → AreSame
   one_outcome_reply p t (value_outcome v) steps (inl (fits, a)) (inl (also, b)) = (a.0 ∙ sym b.0, a.1 ∙ sym b.1)
   one_outcome_reply p t (value_outcome v) steps (inl (fits, a)) (inr (unfit, b)) = absurd (unfit fits)
   one_outcome_reply p t (value_outcome v) steps (inr (unfit, a)) (inl (fits, b)) = absurd (unfit fits)

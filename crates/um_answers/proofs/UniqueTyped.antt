@@ -4,13 +4,14 @@ use Rattle.um_tree.specs.ProgramTree.{ProgramTree, SchemeTree}
 use Rattle.um_tree.specs.Formed.{IsFormed}
 use Rattle.um_answers.specs.declared.way.Way.TheVariants as way
 use Rattle.um_orders.specs.declared.order.Order.{Order}
-use Rattle.um_orders.specs.declared.order.Order.TheVariants.{Types, Code, Fmt, Run, Steps, Eval, Conform, Rescale, Twin, Big}
+use Rattle.um_orders.specs.declared.order.Order.TheVariants.{Types, Code, Fmt, Run, Steps, Eval, Conform, Rescale, Twin, Big, Image, Exec}
 use Rattle.um_reports.specs.declared.status.Status.{Status}
 use Rattle.um_answers.specs.Asked.{Asked}
 use Rattle.um_answers.specs.TypedAnswer.{TypedAnswer, ByOrder}
 use Rattle.um_sig.specs.Laws.{ReadingsAreUnique}
 use Rattle.um_answers.proofs.UniqueReplies.{call_one, conform_one}
 use Rattle.um_answers.proofs.BigAnswers.{big_one}
+use Rattle.um_answers.proofs.ImageAnswers.{image_one}
 use Rattle.um_answers.proofs.RescaleAnswers.{rescale_one}
 use Rattle.um_answers.proofs.TwinAnswers.{twin_one}
 
@@ -26,6 +27,8 @@ module _ (one_reading : ReadingsAreUnique) (text other : List ℕ) (status anoth
   by_order_one Rescale asked p schemes formed a b = rescale_one text other status another asked p a b
   by_order_one (Twin budget) asked p schemes formed a b = twin_one text other status another budget asked p schemes formed a b
   by_order_one (Big n) asked p schemes formed a b = big_one text other status another n asked p schemes formed a b
+  by_order_one Image asked p schemes formed a b = image_one text other status another p a b
+  by_order_one (Exec budget) asked p schemes formed a b = absurd a
 
   pub typed_one : (asked : Asked) (p : ProgramTree) (schemes : List SchemeTree) → IsFormed p → TypedAnswer asked p schemes text status → TypedAnswer asked p schemes other another → (text ≡ other) × (status ≡ another)
   unfolding TypedAnswer

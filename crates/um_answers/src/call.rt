@@ -34,9 +34,9 @@ use um_vm::{CodeRunner, CountedOutcome};
 
 /// How a call ended, and where they were counted in how many steps.
 #[derive(Drop)]
-struct Ended {
-    outcome: Outcome,
-    steps: Option<u64>,
+pub(crate) struct Ended {
+    pub(crate) outcome: Outcome,
+    pub(crate) steps: Option<u64>,
 }
 
 /// The answer to an order that calls a function, given the schemes of all functions.
@@ -221,7 +221,7 @@ fn run_counted(
 }
 
 /// The line of an outcome; a value stands at the type, with its steps behind it.
-fn reply_to_outcome(
+pub(crate) fn reply_to_outcome(
     alloc: Global,
     program: &Program,
     ended: &Ended,

@@ -5,6 +5,9 @@ mod arguments;
 mod asked;
 mod big;
 mod call;
+mod image;
+pub mod laws;
+mod names;
 mod rescale;
 mod schemes;
 mod signature;
@@ -14,5 +17,6 @@ mod typed;
 mod way;
 
 pub use asked::Asked;
+pub use image::answer_exec;
 pub use typed::{answer_typed, reply_layout};
 pub use way::Way;

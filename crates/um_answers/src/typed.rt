@@ -17,6 +17,7 @@ ghost use Rattle.um_answers.specs.TypedAnswer.{TypedAnswer};
 use crate::asked::Asked;
 use crate::big::answer_big;
 use crate::call::answer_call;
+use crate::image::reply_image;
 use crate::rescale::answer_rescale;
 use crate::schemes::schemes_text;
 use crate::signature::answer_conform;
@@ -63,6 +64,9 @@ pub fn answer_typed(
         Order::Rescale => answer_rescale(alloc, asked, shaped),
         Order::Twin { budget } => answer_twin(alloc, budget, asked, shaped, schemes),
         Order::Big(functions) => answer_big(alloc, functions, asked, shaped, schemes),
+        Order::Image => reply_image(alloc, shaped),
+        // It is answered from the bytes of an image, and never asked of a program.
+        Order::Exec { .. } => Err(AllocError),
     }
 }
 

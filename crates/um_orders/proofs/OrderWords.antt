@@ -10,8 +10,8 @@ use Rattle.std.proofs.lemmas.Str.Parse.{numerals_by_value, tells_all_ascii_digit
 use Rattle.std.proofs.lemmas.List.Elements.{All-nil, All-cons}
 use Rattle.um_sizes.specs.ScaleWords.{is_scales}
 use Rattle.um_orders.specs.declared.order.Order.{Order}
-use Rattle.um_orders.specs.declared.order.Order.TheVariants.{Types, Code, Fmt, Run, Steps, Eval, Conform, Rescale, Twin, Big}
-use Rattle.um_orders.specs.declared.order.Intake.TheVariants.{Generated}
+use Rattle.um_orders.specs.declared.order.Order.TheVariants.{Types, Code, Fmt, Run, Steps, Eval, Conform, Rescale, Twin, Big, Image, Exec}
+use Rattle.um_orders.specs.declared.order.Intake.TheVariants.{Generated, Bytes}
 use Rattle.um_orders.specs.Orders.{is_short, is_budget, budget_of, is_count, count_of, big_order, rescale_order, order_of_two, order_alone, call_order, order_of_three, twin_order, order_of_many, longer_order, order_by_count, order_of, intake_of}
 
 pub both : (a b : Bool) → (a && b) ≡ true → (a ≡ true) × (b ≡ true)
@@ -100,15 +100,17 @@ AreWordsOf words Conform = 3 ≤ length words
 AreWordsOf words Rescale = (2 ≤ length words) × IsTrue (is_scales (get_or words 1 []))
 AreWordsOf words (Twin b) = (4 ≤ length words) × (b ≤ 10000000) × IsTrue (is_scales (get_or words 2 []))
 AreWordsOf words (Big n) = (1 ≤ n) × (n ≤ 2000)
+AreWordsOf words (Exec b) = (3 ≤ length words) × (b ≤ 10000000)
 AreWordsOf words order = Unit {0}
 
 words_alone : (word : List ℕ) (o : Order) → order_alone word ≡ Some o → AreWordsOf (word ∷ []) o
-words_alone word o e = by (bytes_eq word (codes "types")) (bytes_eq word (codes "code")) (bytes_eq word (codes "fmt")) e where
-  by : (s t u : Bool) → (if s then Some Types else if t then Some Code else if u then Some Fmt else None) ≡ Some o → AreWordsOf (word ∷ []) o
-  by true t u named = let same : Types ≡ o = cc named in subst (AreWordsOf (word ∷ [])) same tt
-  by false true u named = let same : Code ≡ o = cc named in subst (AreWordsOf (word ∷ [])) same tt
-  by false false true named = let same : Fmt ≡ o = cc named in subst (AreWordsOf (word ∷ [])) same tt
-  by false false false named = absurd (cc named)
+words_alone word o e = by (bytes_eq word (codes "types")) (bytes_eq word (codes "code")) (bytes_eq word (codes "fmt")) (bytes_eq word (codes "image")) e where
+  by : (s t u v : Bool) → (if s then Some Types else if t then Some Code else if u then Some Fmt else if v then Some Image else None) ≡ Some o → AreWordsOf (word ∷ []) o
+  by true t u v named = let same : Types ≡ o = cc named in subst (AreWordsOf (word ∷ [])) same tt
+  by false true u v named = let same : Code ≡ o = cc named in subst (AreWordsOf (word ∷ [])) same tt
+  by false false true v named = let same : Fmt ≡ o = cc named in subst (AreWordsOf (word ∷ [])) same tt
+  by false false false true named = let same : Image ≡ o = cc named in subst (AreWordsOf (word ∷ [])) same tt
+  by false false false false named = absurd (cc named)
 
 words_of_two : (word second : List ℕ) (o : Order) → order_of_two word second ≡ Some o → AreWordsOf (word ∷ second ∷ []) o
 words_of_two word second o e = by (bytes_eq word (codes "big")) (count_of second) refl (bytes_eq word (codes "rescale")) (is_scales second) refl e where
@@ -122,12 +124,13 @@ words_of_two word second o e = by (bytes_eq word (codes "big")) (count_of second
 
 words_of_call : (words : List (List ℕ)) (word : List ℕ) (limit : Option ℕ) (o : Order) → 3 ≤ length words → ((n : ℕ) → limit ≡ Some n → n ≤ 10000000) → call_order word limit ≡ Some o → AreWordsOf words o
 words_of_call words word None o many within e = absurd (cc e)
-words_of_call words word (Some n) o many within e = by (bytes_eq word (codes "run")) (bytes_eq word (codes "steps")) (bytes_eq word (codes "eval")) e where
-  by : (s t u : Bool) → (if s then Some (Run n) else if t then Some (Steps n) else if u then Some (Eval n) else None) ≡ Some o → AreWordsOf words o
-  by true t u named = let same : Run n ≡ o = cc named in subst (AreWordsOf words) same (many, within n refl)
-  by false true u named = let same : Steps n ≡ o = cc named in subst (AreWordsOf words) same (many, within n refl)
-  by false false true named = let same : Eval n ≡ o = cc named in subst (AreWordsOf words) same (many, within n refl)
-  by false false false named = absurd (cc named)
+words_of_call words word (Some n) o many within e = by (bytes_eq word (codes "run")) (bytes_eq word (codes "steps")) (bytes_eq word (codes "eval")) (bytes_eq word (codes "exec")) e where
+  by : (s t u v : Bool) → (if s then Some (Run n) else if t then Some (Steps n) else if u then Some (Eval n) else if v then Some (Exec n) else None) ≡ Some o → AreWordsOf words o
+  by true t u v named = let same : Run n ≡ o = cc named in subst (AreWordsOf words) same (many, within n refl)
+  by false true u v named = let same : Steps n ≡ o = cc named in subst (AreWordsOf words) same (many, within n refl)
+  by false false true v named = let same : Eval n ≡ o = cc named in subst (AreWordsOf words) same (many, within n refl)
+  by false false false true named = let same : Exec n ≡ o = cc named in subst (AreWordsOf words) same (many, within n refl)
+  by false false false false named = absurd (cc named)
 
 words_of_three : (word second third : List ℕ) (o : Order) → order_of_three word (budget_of second) ≡ Some o → AreWordsOf (word ∷ second ∷ third ∷ []) o
 words_of_three word second third o e = by (bytes_eq word (codes "conform")) e where
@@ -172,6 +175,23 @@ generated_count words (Eval b) n e takes = absurd (cc takes)
 generated_count words Conform n e takes = absurd (cc takes)
 generated_count words Rescale n e takes = absurd (cc takes)
 generated_count words (Twin b) n e takes = absurd (cc takes)
+generated_count words Image n e takes = absurd (cc takes)
+generated_count words (Exec b) n e takes = absurd (cc takes)
+
+-- bytes as they are are taken for a call
+pub bytes_called : (words : List (List ℕ)) (o : Order) (n : ℕ) → order_of words ≡ Some o → intake_of o ≡ Bytes n → (3 ≤ length words) × (n ≤ 10000000)
+bytes_called words (Exec b) n e takes = let same : b ≡ n = cc takes in subst (λ k. (3 ≤ length words) × (k ≤ 10000000)) same (words_of_order words (Exec b) e)
+bytes_called words (Big k) n e takes = absurd (cc takes)
+bytes_called words Types n e takes = absurd (cc takes)
+bytes_called words Code n e takes = absurd (cc takes)
+bytes_called words Fmt n e takes = absurd (cc takes)
+bytes_called words (Run b) n e takes = absurd (cc takes)
+bytes_called words (Steps b) n e takes = absurd (cc takes)
+bytes_called words (Eval b) n e takes = absurd (cc takes)
+bytes_called words Conform n e takes = absurd (cc takes)
+bytes_called words Rescale n e takes = absurd (cc takes)
+bytes_called words (Twin b) n e takes = absurd (cc takes)
+bytes_called words Image n e takes = absurd (cc takes)
 
 -- ---- digits
 

@@ -9,9 +9,9 @@ use Rattle.std.specs.Str.Parse.{digits_value}
 use Rattle.um_sizes.specs.ScaleWords.{is_scales}
 use Rattle.um_orders.specs.declared.order.Order.{Order}
 use Rattle.um_orders.specs.declared.order.Order.TheVariants.{Types, Code, Fmt, Run, Steps, Eval, Conform}
-use Rattle.um_orders.specs.declared.order.Order.TheVariants.{Rescale, Twin, Big}
+use Rattle.um_orders.specs.declared.order.Order.TheVariants.{Rescale, Twin, Big, Image, Exec}
 use Rattle.um_orders.specs.declared.order.Intake.{Intake}
-use Rattle.um_orders.specs.declared.order.Intake.TheVariants.{Generated, Text}
+use Rattle.um_orders.specs.declared.order.Intake.TheVariants.{Generated, Text, Bytes}
 
 -- ---- the parts of a form
 
@@ -43,7 +43,8 @@ abbrev pub order_alone : List ℕ → Option Order
 order_alone word =
     if bytes_eq word (codes "types") then Some Types
     else if bytes_eq word (codes "code") then Some Code
-    else if bytes_eq word (codes "fmt") then Some Fmt else None
+    else if bytes_eq word (codes "fmt") then Some Fmt
+    else if bytes_eq word (codes "image") then Some Image else None
 
 -- big N, by the number of functions
 abbrev pub big_order : Option ℕ → Option Order
@@ -66,7 +67,8 @@ call_order word None = None
 call_order word (Some budget) =
     if bytes_eq word (codes "run") then Some (Run budget)
     else if bytes_eq word (codes "steps") then Some (Steps budget)
-    else if bytes_eq word (codes "eval") then Some (Eval budget) else None
+    else if bytes_eq word (codes "eval") then Some (Eval budget)
+    else if bytes_eq word (codes "exec") then Some (Exec budget) else None
 
 -- conform NAME TYPE, or such a command without an ARG
 abbrev pub order_of_three : List ℕ → Option ℕ → Option Order
@@ -108,6 +110,8 @@ intake_of Conform = Text
 intake_of Rescale = Text
 intake_of (Twin budget) = Text
 intake_of (Big n) = Generated n
+intake_of Image = Text
+intake_of (Exec budget) = Bytes budget
 
 -- the words name an order that takes this
 pub record AsksFor (words : List (List ℕ)) (order : Order) (intake : Intake) : Type 0 where

@@ -42,6 +42,10 @@ pub enum Order {
     Twin { budget: u64 },
     /// Infer a generated program of so many functions, call its last function, and print four lines about it.
     Big(u32),
+    /// Write the image of the program's code as bytes.
+    Image,
+    /// Call a function of an image, with at most so many calls, and print its value.
+    Exec { budget: u64 },
 }
 
 /// What an order takes from the source.
@@ -51,6 +55,9 @@ pub enum Intake {
     Generated { functions: u32 },
     /// A text of at most 1,048,576 bytes, with its tokens.
     Text,
+    /// Bytes as they are, at most 16,777,216 of them: those of an image, of which a function is called with at most so
+    /// many calls.
+    Bytes { budget: u64 },
 }
 
 impl Order {
@@ -67,16 +74,18 @@ impl Order {
             | Order::Eval { .. }
             | Order::Conform
             | Order::Rescale
-            | Order::Twin { .. } => Intake::Text,
+            | Order::Twin { .. }
+            | Order::Image => Intake::Text,
             Order::Big(functions) => Intake::Generated { functions },
+            Order::Exec { budget } => Intake::Bytes { budget },
         }
     }
 }
 
 /// The order that the words name, or nothing where they have none of the forms. Takes no memory.
 ///
-/// The forms are `types`, `code`, `fmt`, `big N`, `rescale SCALES`, `conform NAME TYPE`, `twin BUDGET SCALES NAME ARG*`,
-/// and `run`, `steps` or `eval` with BUDGET NAME ARG*. A budget is one to eight digits of value at most 10,000,000, N is
+/// The forms are `types`, `code`, `fmt`, `image`, `big N`, `rescale SCALES`, `conform NAME TYPE`,
+/// `twin BUDGET SCALES NAME ARG*`, and `run`, `steps`, `eval` or `exec` with BUDGET NAME ARG*. A budget is one to eight digits of value at most 10,000,000, N is
 /// one to four digits of value 1 to 2,000, SCALES states sizes of base units (`um_sizes::is_scales` says how), and each
 /// word is at most 1,048,576 bytes long.
 pub fn order_of(words: &Words) -> Option<Order>
@@ -105,6 +114,7 @@ fn order_alone(word: &str) -> Option<Order>
         "types" => Some(Order::Types),
         "code" => Some(Order::Code),
         "fmt" => Some(Order::Fmt),
+        "image" => Some(Order::Image),
         _ => None,
     }
 }
@@ -193,6 +203,7 @@ fn call_order(word: &str, budget: Option<u64>) -> Option<Order>
         "run" => Some(Order::Run { budget }),
         "steps" => Some(Order::Steps { budget }),
         "eval" => Some(Order::Eval { budget }),
+        "exec" => Some(Order::Exec { budget }),
         _ => None,
     }
 }

@@ -5,6 +5,7 @@ pub mod Places
 pub mod Refusals
 pub mod CallRefusals
 pub mod ScaleRefusals
+pub mod ImageRefusals
 -- What the definitions come to: statements, each proved as the contract of a function of src/laws.rt.
 pub mod Laws
 -- What mirrors the code.

@@ -2,6 +2,7 @@
 #![tactic(auto)]
 
 mod call_refusal;
+mod image_refusal;
 pub mod laws;
 mod place;
 mod refusal;
@@ -13,6 +14,7 @@ pub use call_refusal::{
     reply_to_call, reply_to_call_range, reply_to_matching, reply_to_signature, reply_to_trap,
     reply_to_unnamed,
 };
+pub use image_refusal::{reply_to_bad_byte, reply_to_bad_code, reply_to_bad_head};
 pub use refusal::{
     reply_line, reply_to_names, reply_to_not_general, reply_to_range, reply_to_shapes,
     reply_to_slots, reply_to_text, reply_to_tokens, reply_to_units, reply_to_unread,

@@ -32,6 +32,8 @@ pub enum Status {
     NotGeneral,
     /// A function can't be used at a signature.
     NotConform,
+    /// The bytes are no image, or one that is refused.
+    BadImage,
 }
 
 impl Status {
@@ -60,6 +62,7 @@ impl Status {
             Status::NoMemory => 17,
             Status::NotGeneral => 19,
             Status::NotConform => 20,
+            Status::BadImage => 22,
         }
     }
 }

@@ -42,11 +42,11 @@ use Rattle.um_parse.specs.Parsed.{IsRead, LimitAt, Parsed}
 use Rattle.um_orders.specs.declared.order.Order.{Order}
 use Rattle.um_reports.specs.declared.status.Status.{Status}
 use Rattle.um_reports.specs.declared.status.Status.TheVariants.{Done}
-use Rattle.um_orders.specs.declared.order.Order.TheVariants.{Types, Code, Fmt, Run, Steps, Eval, Conform, Rescale, Twin, Big}
+use Rattle.um_orders.specs.declared.order.Order.TheVariants.{Types, Code, Fmt, Run, Steps, Eval, Conform, Rescale, Twin, Big, Image, Exec}
 use Rattle.um_orders.specs.declared.order.Intake.{Intake}
-use Rattle.um_orders.specs.declared.order.Intake.TheVariants.{Generated, Text}
+use Rattle.um_orders.specs.declared.order.Intake.TheVariants.{Generated, Text, Bytes}
 use Rattle.um_answers.specs.Asked.{Asked}
-use Rattle.um_tool.specs.Answer.{Answer, IntakeAnswer, LengthAnswer, TokensAnswer, GrammarAnswer, ProgramAnswer, ByLayout, NamesAnswer, ShapesAnswer, SchemesAnswer, InferenceAnswer}
+use Rattle.um_tool.specs.Answer.{Answer, IntakeAnswer, SizeAnswer, LengthAnswer, TokensAnswer, GrammarAnswer, ProgramAnswer, ByLayout, NamesAnswer, ShapesAnswer, SchemesAnswer, InferenceAnswer}
 use Rattle.um_answers.specs.Passing.{PassesOn}
 use Rattle.um_tool.specs.Passing.{EachIsTyped, IsTyped, GoesThrough}
 use Rattle.um_orders.specs.Orders.{intake_of}
@@ -55,6 +55,7 @@ use Rattle.um_reports.specs.Steps.{Cases}
 use Rattle.um_tool.specs.Served.{IsPlanned, IsTakenComplete, IsComplete, IsUndisturbed}
 use Rattle.um_sig.specs.Laws.{ReadingsAreUnique}
 use Rattle.um_big.specs.BigText.{big_text}
+use Rattle.um_answers.specs.Laws.{ExecAnswersAreDone}
 use Rattle.um_answers.proofs.TypedDone.{typed_done}
 
 -- what follows a case that doesn't apply
@@ -125,7 +126,7 @@ IsGiven inferred = (schemes : List SchemeTree) × (inferred ≡ all_schemes sche
 all_typed : (p : ProgramTree) → EachIsTyped p → AreTyped p (length p.functions)
 all_typed p typed i below = let f = item_at p.functions i below in typed i f.0 f.1
 
-module _ (one_reading : ReadingsAreUnique) where
+module _ (one_reading : ReadingsAreUnique) (exec_done : ExecAnswersAreDone) where
   -- a program whose functions are typed and pass no limit has its schemes
   inferred_done : (asked : Asked) (p : ProgramTree) (inferred : Inference) (text : List ℕ) (status : Status) → IsFormed p → resolved_program asked.raw ≡ Ok p → infer p ≡ inferred → IsGiven inferred
       → PassesOn asked.order asked.words asked.raw p → InferenceAnswer asked p inferred text status → status ≡ Done
@@ -169,6 +170,8 @@ module _ (one_reading : ReadingsAreUnique) where
   by_layout_done Rescale words bytes raw text status readable (typed, passes) answer = names_done (record { order = Rescale; words = words; bytes = bytes; raw = raw }) text status readable typed passes answer
   by_layout_done (Twin budget) words bytes raw text status readable (typed, passes) answer = names_done (record { order = Twin budget; words = words; bytes = bytes; raw = raw }) text status readable typed passes answer
   by_layout_done (Big n) words bytes raw text status readable (typed, passes) answer = names_done (record { order = Big n; words = words; bytes = bytes; raw = raw }) text status readable typed passes answer
+  by_layout_done Image words bytes raw text status readable (typed, passes) answer = names_done (record { order = Image; words = words; bytes = bytes; raw = raw }) text status readable typed passes answer
+  by_layout_done (Exec budget) words bytes raw text status readable (typed, passes) answer = names_done (record { order = Exec budget; words = words; bytes = bytes; raw = raw }) text status readable typed passes answer
 
   program_done : (order : Order) (words : List (List ℕ)) (bytes : List ℕ) (raw : List DeclSyntax) (text : List ℕ) (status : Status) → IsReadable raw → GoesThrough order words raw
       → ProgramAnswer (record { order = order; words = words; bytes = bytes; raw = raw }) text status → status ≡ Done
@@ -191,11 +194,14 @@ module _ (one_reading : ReadingsAreUnique) where
   tokens_done order words bytes tokens ds text status short lexed read goes (inr (stop, refused, reply)) = absurd (text_not_refused bytes tokens stop text status lexed refused reply)
 
   intake_done : (intake : Intake) (order : Order) (words : List (List ℕ)) (bytes text : List ℕ) (status : Status) → IsTakenComplete intake order words bytes → IntakeAnswer intake order words bytes text status → status ≡ Done
-  unfolding LengthAnswer
+  unfolding LengthAnswer SizeAnswer
   intake_done (Generated n) order words bytes text status ok answer = tokens_done order words (big_text n) ok.tokens ok.raw text status ok.short ok.lexed ok.read ok.goes_through answer
   intake_done Text order words bytes text status ok answer =
       let long : 1048576 < length bytes → ⊥ = λ h. omega (arith, ok.short) in
       tokens_done order words bytes ok.tokens ok.raw text status ok.short ok.lexed ok.read ok.goes_through (passed long answer)
+  intake_done (Bytes budget) order words bytes text status ok answer =
+      let long : 16777216 < length bytes → ⊥ = λ h. omega (arith, h, ok.short) in
+      exec_done budget words bytes text status ok (passed long answer)
 
   pub Answer-complete : (words : List (List ℕ)) (bytes text : List ℕ) (status : Status) → IsComplete words bytes → Answer words bytes text status → status ≡ Done
   unfolding Answer

@@ -1,5 +1,5 @@
 -- What is planned, by the steps of the answer.
-use Rattle.std.proofs.Common.{◌≡◌, ℕ, ◌<◌, ◌≤◌, List, [], length, None, Some, Result, Ok, Err, IfOk, IsTrue, codes, sym, ◌∙◌, refl, inl, inr, arith}
+use Rattle.std.proofs.Common.{◌≡◌, ℕ, ◌<◌, ◌≤◌, List, [], length, None, Some, Result, Ok, Err, IfOk, IsTrue, codes, sym, ap, ◌∙◌, refl, inl, inr, arith}
 use Rattle.std.specs.Prelude.{IsErrOf}
 use Rattle.std.specs.declared.option.Option.{Option}
 use Rattle.um_wire.specs.Faults.{Rose}
@@ -8,10 +8,12 @@ use Rattle.um_wire.specs.declared.read.ReadStop.{ReadStop}
 use Rattle.um_wire.specs.declared.read.ReadStop.TheVariants.{TooLong as TooLongToRead, Failed as ReadFailed, NoMemory as OutOfMemory}
 use Rattle.um_orders.specs.declared.order.Order.{Order}
 use Rattle.um_orders.specs.declared.order.Intake.{Intake}
-use Rattle.um_orders.specs.declared.order.Intake.TheVariants.{Generated, Text}
+use Rattle.um_orders.specs.declared.order.Order.TheVariants.{Types, Code, Fmt, Run, Steps, Eval, Conform, Rescale, Twin, Big, Image, Exec}
+use Rattle.um_orders.specs.declared.order.Intake.TheVariants.{Generated, Text, Bytes}
 use Rattle.um_reports.specs.declared.status.Status.{Status}
 use Rattle.um_reports.specs.declared.status.Status.TheVariants.{Usage, ReadFault, WriteFault}
-use Rattle.um_tool.specs.Answer.{Answer, IntakeAnswer, LengthAnswer, TokensAnswer}
+use Rattle.um_tool.specs.Answer.{Answer, IntakeAnswer, SizeAnswer, LengthAnswer, TokensAnswer}
+use Rattle.um_answers.specs.ExecAnswer.{ExecAnswer}
 use Rattle.um_reports.specs.Refusals.{IsReadReply}
 use Rattle.um_reports.specs.Steps.{IsReply, line}
 use Rattle.um_big.specs.BigText.{big_text}
@@ -68,6 +70,42 @@ unread_planned result TooLongToRead words left before now order text status asks
     order_planned words left before now order Text more.bytes text status asks more.told (inl (more.more, reply))
 unread_planned result ReadFailed words left before now order text status asks is long rose reply = inr (reply, text_reads words order asks, rose is)
 unread_planned result OutOfMemory words left before now order text status asks is long rose reply = absurd reply
+
+-- ---- bytes as they are
+
+-- they are taken for a call of an image
+pub taken_for_exec : (o : Order) (n : ℕ) → intake_of o ≡ Bytes n → o ≡ Exec n
+taken_for_exec (Exec b) n takes = let same : b ≡ n = cc takes in ap Exec same
+taken_for_exec (Big k) n takes = absurd (cc takes)
+taken_for_exec Types n takes = absurd (cc takes)
+taken_for_exec Code n takes = absurd (cc takes)
+taken_for_exec Fmt n takes = absurd (cc takes)
+taken_for_exec (Run b) n takes = absurd (cc takes)
+taken_for_exec (Steps b) n takes = absurd (cc takes)
+taken_for_exec (Eval b) n takes = absurd (cc takes)
+taken_for_exec Conform n takes = absurd (cc takes)
+taken_for_exec Rescale n takes = absurd (cc takes)
+taken_for_exec (Twin b) n takes = absurd (cc takes)
+taken_for_exec Image n takes = absurd (cc takes)
+
+module _ (words : List (List ℕ)) (left : Option (List ℕ)) (before now budget : ℕ) (ordered : order_of words ≡ Some (Exec budget)) where
+  asks : AsksFor words (Exec budget) (Bytes budget)
+  asks = record { ordered = ordered; takes = refl }
+
+  pub bytes_planned : (bytes text : List ℕ) (status : Status) → Tells left bytes → length bytes ≤ 16777216 → ExecAnswer budget words bytes text status → IsPlanned words left before now text status
+  unfolding SizeAnswer
+  bytes_planned bytes text status told short answer =
+      let past : 16777216 < length bytes → ⊥ = λ h. omega arith in
+      order_planned words left before now (Exec budget) (Bytes budget) bytes text status asks told (inr (past, answer))
+
+  pub bytes_unread : {T : Type 0} (result : Result T ReadStop) (stop : ReadStop) (text : List ℕ) (status : Status) → result ≡ Err stop → (IsErrOf result TooLongToRead → TellsMoreThan 16777216 left) → (IsErrOf result ReadFailed → Rose before now)
+      → IsReadReply stop text status → IsPlanned words left before now text status
+  unfolding SizeAnswer
+  bytes_unread result TooLongToRead text status is long rose reply =
+      let more = long is in
+      order_planned words left before now (Exec budget) (Bytes budget) more.bytes text status asks more.told (inl (more.more, reply))
+  bytes_unread result ReadFailed text status is long rose reply = inr (reply, record { order = Exec budget; intake = Bytes budget; asks = asks; some = tt }, rose is)
+  bytes_unread result OutOfMemory text status is long rose reply = absurd reply
 
 -- what is planned with the status of a failed read has its cause
 pub planned_read_fault : (words : List (List ℕ)) (left : Option (List ℕ)) (before now : ℕ) (text : List ℕ) (status : Status) → IsPlanned words left before now text status → status ≡ ReadFault → Rose before now

@@ -6,17 +6,18 @@ use Rattle.um_tree.specs.ProgramTree.{ProgramTree}
 use Rattle.um_reports.specs.declared.status.Status.{Status}
 use Rattle.um_reports.specs.declared.status.Status.TheVariants.{Usage}
 use Rattle.um_orders.specs.declared.order.Order.{Order}
-use Rattle.um_orders.specs.declared.order.Order.TheVariants.{Types, Code, Fmt, Run, Steps, Eval, Conform, Rescale, Twin, Big}
+use Rattle.um_orders.specs.declared.order.Order.TheVariants.{Types, Code, Fmt, Run, Steps, Eval, Conform, Rescale, Twin, Big, Image, Exec}
 use Rattle.um_orders.specs.declared.order.Intake.{Intake}
-use Rattle.um_orders.specs.declared.order.Intake.TheVariants.{Generated, Text}
+use Rattle.um_orders.specs.declared.order.Intake.TheVariants.{Generated, Text, Bytes}
 use Rattle.um_infer.specs.Inference.{Inference, all_schemes, stops_at_slots, stops_at_range, stops_at_units, stops_at_not_general, infer}
 use Rattle.um_big.specs.BigText.{big_text}
 use Rattle.um_answers.specs.Asked.{Asked}
-use Rattle.um_tool.specs.Answer.{Answer, IntakeAnswer, LengthAnswer, TokensAnswer, GrammarAnswer, ProgramAnswer, ByLayout, NamesAnswer, ShapesAnswer, SchemesAnswer, InferenceAnswer}
+use Rattle.um_tool.specs.Answer.{Answer, IntakeAnswer, SizeAnswer, LengthAnswer, TokensAnswer, GrammarAnswer, ProgramAnswer, ByLayout, NamesAnswer, ShapesAnswer, SchemesAnswer, InferenceAnswer}
 use Rattle.um_orders.specs.Orders.{order_of, intake_of}
 use Rattle.um_reports.specs.Steps.{IsReply, line}
 use Rattle.um_reports.proofs.ReportStatuses.{is_answered, text_reply, parse_reply, name_reply, shape_reply}
 use Rattle.um_answers.proofs.TypedStatuses.{TypedAnswer-status}
+use Rattle.um_answers.proofs.ExecAnswers.{ExecAnswer-status}
 
 inference_status : (asked : Asked) (p : ProgramTree) (inferred : Inference) (text : List ℕ) (status : Status) → InferenceAnswer asked p inferred text status → IsTrue (is_answered status)
 inference_status asked p (all_schemes schemes) text status answer = TypedAnswer-status asked p schemes text status answer
@@ -50,6 +51,8 @@ by_layout_status Conform asked text status answer = NamesAnswer-status asked tex
 by_layout_status Rescale asked text status answer = NamesAnswer-status asked text status answer
 by_layout_status (Twin budget) asked text status answer = NamesAnswer-status asked text status answer
 by_layout_status (Big n) asked text status answer = NamesAnswer-status asked text status answer
+by_layout_status Image asked text status answer = NamesAnswer-status asked text status answer
+by_layout_status (Exec budget) asked text status answer = NamesAnswer-status asked text status answer
 
 ProgramAnswer-status : (asked : Asked) (text : List ℕ) (status : Status) → ProgramAnswer asked text status → IsTrue (is_answered status)
 unfolding ProgramAnswer
@@ -71,9 +74,15 @@ unfolding LengthAnswer
 LengthAnswer-status order words bytes text status (inl (long, reply)) = rw reply.1 refl
 LengthAnswer-status order words bytes text status (inr (short, answer)) = TokensAnswer-status order words bytes text status answer
 
+SizeAnswer-status : (budget : ℕ) (words : List (List ℕ)) (bytes text : List ℕ) (status : Status) → SizeAnswer budget words bytes text status → IsTrue (is_answered status)
+unfolding SizeAnswer
+SizeAnswer-status budget words bytes text status (inl (long, reply)) = rw reply.1 refl
+SizeAnswer-status budget words bytes text status (inr (short, answer)) = ExecAnswer-status budget words bytes text status answer
+
 intake_status : (intake : Intake) (order : Order) (words : List (List ℕ)) (bytes text : List ℕ) (status : Status) → IntakeAnswer intake order words bytes text status → IsTrue (is_answered status)
 intake_status (Generated n) order words bytes text status answer = TokensAnswer-status order words (big_text n) text status answer
 intake_status Text order words bytes text status answer = LengthAnswer-status order words bytes text status answer
+intake_status (Bytes budget) order words bytes text status answer = SizeAnswer-status budget words bytes text status answer
 
 ordered_status : (order : Option Order) (words : List (List ℕ)) (bytes text : List ℕ) (status : Status) → MatchOption order (IsReply text status (line (codes "error 1: usage")) Usage) (λ o. IntakeAnswer (intake_of o) o words bytes text status) → IsTrue (is_answered status)
 ordered_status None words bytes text status reply = rw reply.1 refl

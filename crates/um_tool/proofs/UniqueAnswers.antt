@@ -31,17 +31,18 @@ use Rattle.um_readable.proofs.TextBytes.{readable_program}
 use Rattle.um_infer.specs.Inference.{Inference, all_schemes, stops_at_slots, stops_at_range, stops_at_units, stops_at_not_general, infer}
 use Rattle.um_types.specs.declared.parse.LimitKind.TheVariants as limit
 use Rattle.um_orders.specs.declared.order.Order.{Order}
-use Rattle.um_orders.specs.declared.order.Order.TheVariants.{Types, Code, Fmt, Run, Steps, Eval, Conform, Rescale, Twin, Big}
+use Rattle.um_orders.specs.declared.order.Order.TheVariants.{Types, Code, Fmt, Run, Steps, Eval, Conform, Rescale, Twin, Big, Image, Exec}
 use Rattle.um_orders.specs.declared.order.Intake.{Intake}
-use Rattle.um_orders.specs.declared.order.Intake.TheVariants.{Generated, Text}
+use Rattle.um_orders.specs.declared.order.Intake.TheVariants.{Generated, Text, Bytes}
 use Rattle.um_reports.specs.declared.status.Status.{Status}
 use Rattle.um_reports.specs.declared.status.Status.TheVariants.{Usage, Utf8, Lexical, Limit, Names, PowerRange, Shape}
 use Rattle.um_reports.specs.Steps.{line, IsReply}
 use Rattle.um_orders.specs.Orders.{order_of, intake_of}
 use Rattle.um_reports.specs.Refusals.{placed, limit_label, IsTextReply, IsParseReply, IsNameReply, IsShapeReply}
 use Rattle.um_answers.specs.Asked.{Asked}
-use Rattle.um_tool.specs.Answer.{Answer, IntakeAnswer, LengthAnswer, TokensAnswer, GrammarAnswer, ProgramAnswer, ByLayout, NamesAnswer, ShapesAnswer, SchemesAnswer, InferenceAnswer, OfFunction}
+use Rattle.um_tool.specs.Answer.{Answer, IntakeAnswer, SizeAnswer, LengthAnswer, TokensAnswer, GrammarAnswer, ProgramAnswer, ByLayout, NamesAnswer, ShapesAnswer, SchemesAnswer, InferenceAnswer, OfFunction}
 use Rattle.um_sig.specs.Laws.{ReadingsAreUnique}
+use Rattle.um_answers.specs.Laws.{ExecAnswersAreUnique}
 use Rattle.um_tool.specs.Laws.{AnswersAreUnique}
 use Rattle.um_tool.proofs.Complete.{not_utf8, text_not_refused, program_not_refused, not_refused, not_faulty}
 use Rattle.um_tool.proofs.Reached.{within}
@@ -55,6 +56,13 @@ one_reply : (text other wanted : List ℕ) (status another meant : Status) → I
 one_reply text other wanted status another meant a b = (a.0 ∙ sym b.0, a.1 ∙ sym b.1)
 
 -- ---- each refusal says what the fault is, so that one fault has one line
+
+small : (n : ℕ) → (16777216 < n → ⊥) → n ≤ 16777216
+small n short = by (cases_lt 16777216 n)
+  where
+    by : (16777216 < n) ⊎ (n ≤ 16777216) → n ≤ 16777216
+    by (inl past) = absurd (short past)
+    by (inr fits) = fits
 
 module _ (bytes text : List ℕ) (status : Status) where
   -- names
@@ -114,7 +122,7 @@ module _ (bytes text : List ℕ) (status : Status) where
   text_told (text_stop.PowerText at) is reply = inr (lex_stop.PowerText at, is.0, is.1, reply)
   text_told text_stop.NoMemory is reply = absurd reply
 
-module _ (one_answer : ParsesAreUnique) (one_reading : ReadingsAreUnique) (text other : List ℕ) (status another : Status) where
+module _ (one_answer : ParsesAreUnique) (one_reading : ReadingsAreUnique) (one_exec : ExecAnswersAreUnique) (text other : List ℕ) (status another : Status) where
   -- ---- a refusal of the characters is one
   longest_valid : (bytes : List ℕ) (at place : ℕ) → IsValidUpTo bytes at → IsValidUpTo bytes place → at ≡ place
   longest_valid bytes at place a b = by (cases_lt at place) (cases_lt place at)
@@ -200,6 +208,8 @@ module _ (one_answer : ParsesAreUnique) (one_reading : ReadingsAreUnique) (text 
   by_layout_one Rescale asked readable a b = names_one asked readable a b
   by_layout_one (Twin budget) asked readable a b = names_one asked readable a b
   by_layout_one (Big n) asked readable a b = names_one asked readable a b
+  by_layout_one Image asked readable a b = names_one asked readable a b
+  by_layout_one (Exec budget) asked readable a b = names_one asked readable a b
 
   program_one : (asked : Asked) → IsReadable asked.raw → ProgramAnswer asked text status → ProgramAnswer asked other another → (text ≡ other) × (status ≡ another)
   unfolding ProgramAnswer
@@ -231,9 +241,17 @@ module _ (one_answer : ParsesAreUnique) (one_reading : ReadingsAreUnique) (text 
   length_one order words bytes (inr (short, a)) (inl (long, b)) = absurd (short long)
   length_one order words bytes (inr (short, a)) (inr (also, b)) = tokens_one order words bytes (within (length bytes) short) a b
 
+  size_one : (budget : ℕ) (words : List (List ℕ)) (bytes : List ℕ) → SizeAnswer budget words bytes text status → SizeAnswer budget words bytes other another → (text ≡ other) × (status ≡ another)
+  unfolding SizeAnswer
+  size_one budget words bytes (inl (long, a)) (inl (also, b)) = (a.0 ∙ sym b.0, a.1 ∙ sym b.1)
+  size_one budget words bytes (inl (long, a)) (inr (short, b)) = absurd (short long)
+  size_one budget words bytes (inr (short, a)) (inl (long, b)) = absurd (short long)
+  size_one budget words bytes (inr (short, a)) (inr (also, b)) = one_exec budget words bytes text other status another (small (length bytes) short) a b
+
   intake_one : (intake : Intake) (order : Order) (words : List (List ℕ)) (bytes : List ℕ) → order_of words ≡ Some order → intake_of order ≡ intake → IntakeAnswer intake order words bytes text status → IntakeAnswer intake order words bytes other another → (text ≡ other) × (status ≡ another)
   intake_one (Generated n) order words bytes ordered takes a b = tokens_one order words (big_text n) (text_fits n (generated_count words order n ordered takes).1) a b
   intake_one Text order words bytes ordered takes a b = length_one order words bytes a b
+  intake_one (Bytes budget) order words bytes ordered takes a b = size_one budget words bytes a b
 
   ordered_one : (order : Option Order) (words : List (List ℕ)) (bytes : List ℕ) → order_of words ≡ order → MatchOption order (IsReply text status (line (codes "error 1: usage")) Usage) (λ o. IntakeAnswer (intake_of o) o words bytes text status)
       → MatchOption order (IsReply other another (line (codes "error 1: usage")) Usage) (λ o. IntakeAnswer (intake_of o) o words bytes other another) → (text ≡ other) × (status ≡ another)
@@ -241,6 +259,6 @@ module _ (one_answer : ParsesAreUnique) (one_reading : ReadingsAreUnique) (text 
   ordered_one (Some order) words bytes is a b = intake_one (intake_of order) order words bytes is refl a b
 
 -- where `parse` has one answer to each list of tokens, and the text of a signature one reading
-pub answers_are_one : ParsesAreUnique → ReadingsAreUnique → AnswersAreUnique
+pub answers_are_one : ParsesAreUnique → ReadingsAreUnique → ExecAnswersAreUnique → AnswersAreUnique
 unfolding Answer
-answers_are_one one one_reading words bytes text other status another a b = ordered_one one one_reading text other status another (order_of words) words bytes refl a b
+answers_are_one one one_reading one_exec words bytes text other status another a b = ordered_one one one_reading one_exec text other status another (order_of words) words bytes refl a b

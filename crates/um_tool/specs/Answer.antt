@@ -5,7 +5,7 @@ use Rattle.std.specs.Prelude.{ℕ, ◌<◌, ◌≡◌, ◌⊎◌, List, length, 
 use Rattle.um_orders.specs.declared.order.Order.{Order}
 use Rattle.um_orders.specs.declared.order.Order.TheVariants.{Fmt}
 use Rattle.um_orders.specs.declared.order.Intake.{Intake}
-use Rattle.um_orders.specs.declared.order.Intake.TheVariants.{Generated, Text}
+use Rattle.um_orders.specs.declared.order.Intake.TheVariants.{Generated, Text, Bytes}
 use Rattle.um_reports.specs.declared.status.Status.{Status}
 use Rattle.um_reports.specs.declared.status.Status.TheVariants.{Done, Usage, TooLong}
 use Rattle.um_syntax.specs.declared.token.Token.{Token}
@@ -27,6 +27,7 @@ use Rattle.um_show.specs.Layout.{layout}
 use Rattle.um_big.specs.BigText.{big_text}
 use Rattle.um_answers.specs.Asked.{Asked}
 use Rattle.um_answers.specs.TypedAnswer.{TypedAnswer}
+use Rattle.um_answers.specs.ExecAnswer.{ExecAnswer}
 use Rattle.um_orders.specs.Orders.{order_of, intake_of}
 use Rattle.um_reports.specs.Refusals.{IsTextReply, IsParseReply, IsNameReply, IsShapeReply, IsSlotsReply, IsRangeReply}
 use Rattle.um_reports.specs.Refusals.{IsUnitsReply, IsNotGeneralReply}
@@ -91,10 +92,17 @@ LengthAnswer order words bytes text status = Cases (1048576 < length bytes)
     (IsReply text status (line (codes "error 2: text too long")) TooLong)
     (TokensAnswer order words bytes text status)
 
+-- the same of bytes as they are: an image, of which a function is called
+unfoldable pub SizeAnswer : ℕ → List (List ℕ) → List ℕ → List ℕ → Status → Type 0
+SizeAnswer budget words bytes text status = Cases (16777216 < length bytes)
+    (IsReply text status (line (codes "error 2: text too long")) TooLong)
+    (ExecAnswer budget words bytes text status)
+
 -- by what the order takes from the source: a generated text stands for what it would have read
 abbrev pub IntakeAnswer : Intake → Order → List (List ℕ) → List ℕ → List ℕ → Status → Type 0
 IntakeAnswer (Generated n) order words bytes text status = TokensAnswer order words (big_text n) text status
 IntakeAnswer Text order words bytes text status = LengthAnswer order words bytes text status
+IntakeAnswer (Bytes budget) order words bytes text status = SizeAnswer budget words bytes text status
 
 -- the words name an order
 unfoldable pub Answer : List (List ℕ) → List ℕ → List ℕ → Status → Type 0

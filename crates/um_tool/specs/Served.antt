@@ -11,10 +11,11 @@ use Rattle.um_parse.specs.Parsed.{IsRead}
 use Rattle.um_big.specs.BigText.{big_text}
 use Rattle.um_orders.specs.declared.order.Order.{Order}
 use Rattle.um_orders.specs.declared.order.Intake.{Intake}
-use Rattle.um_orders.specs.declared.order.Intake.TheVariants.{Generated, Text}
+use Rattle.um_orders.specs.declared.order.Intake.TheVariants.{Generated, Text, Bytes}
 use Rattle.um_reports.specs.declared.status.Status.{Status}
 use Rattle.um_reports.specs.declared.status.Status.TheVariants.{ReadFault, WriteFault, NoMemory}
 use Rattle.um_tool.specs.Answer.{Answer}
+use Rattle.um_answers.specs.ExecAnswer.{GivesImageValue}
 use Rattle.um_orders.specs.Orders.{AsksFor}
 use Rattle.um_tool.specs.Passing.{GoesThrough}
 use Rattle.um_reports.specs.Steps.{IsReply, line}
@@ -77,6 +78,7 @@ pub record IsTextComplete (order : Order) (words : List (List ℕ)) (bytes : Lis
 abbrev pub IsTakenComplete : Intake → Order → List (List ℕ) → List ℕ → Type 0
 IsTakenComplete (Generated n) order words bytes = IsTextComplete order words (big_text n)
 IsTakenComplete Text order words bytes = IsTextComplete order words bytes
+IsTakenComplete (Bytes budget) order words bytes = GivesImageValue budget words bytes
 
 -- the words name an order, and every step of the answer goes through
 pub record IsComplete (words : List (List ℕ)) (bytes : List ℕ) : Type 0 where

@@ -95,7 +95,9 @@ fn answer_program(alloc: Global, asked: &Asked) -> Result<Reply, AllocError>
         | Order::Conform
         | Order::Rescale
         | Order::Twin { .. }
-        | Order::Big(_) => answer_names(alloc, asked),
+        | Order::Big(_)
+        | Order::Image
+        | Order::Exec { .. } => answer_names(alloc, asked),
     }
 }
 

@@ -47,4 +47,5 @@ pub fn answers_are_unique()
     ensures { AnswersAreUnique }
 {
     um_parse::laws::answers_are_unique();
+    um_answers::laws::answers_of_images();
 }

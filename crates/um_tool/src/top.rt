@@ -9,13 +9,18 @@ ghost use Rattle.um_tool.specs.Served.{IsPlanned, IsUndisturbed, Reads, Serves};
 use crate::answer::answer_text;
 use crate::reading::Reading;
 use std::alloc::{AllocError, Global};
+use um_answers::answer_exec;
+use um_answers::laws::answers_of_images;
 use um_big::big_text;
 use um_orders::{Intake, Order, Words, order_of};
 use um_reports::{Reply, Status, reply_line, reply_to_unread};
-use um_wire::{Failed, Sink, Source, read_into, write_all};
+use um_wire::{Failed, Sink, Source, read_into, read_text, write_all};
 
 /// The longest text that is read, in bytes.
 const TEXT_LIMIT: usize = 1_048_576;
+
+/// The longest image that is read, in bytes.
+const IMAGE_LIMIT: usize = 16_777_216;
 
 /// All that the program does: it reads what the words ask for, and writes the answer and nothing else.
 ///
@@ -63,6 +68,7 @@ fn reply_to<S: Source>(alloc: Global, words: &Words, source: &mut S) -> Result<R
         → reply.status ≡ Status.Done) }
     ensures unread { (Reads words.now → ⊥) → source.new ≡ source.old }
 {
+    answers_of_images();
     match order_of(words) {
         None => reply_line(alloc, "error 1: usage", Status::Usage),
         Some(order) => reply_to_order(alloc, order, words, source),
@@ -84,6 +90,7 @@ fn reply_to_order<S: Source>(
     match order.intake() {
         Intake::Text => reply_to_source(alloc, order, words, source),
         Intake::Generated { functions } => reply_to_generated(alloc, order, words, functions),
+        Intake::Bytes { budget } => reply_to_bytes(alloc, budget, words, source),
     }
 }
 
@@ -120,6 +127,23 @@ fn reply_to_source<S: Source>(
     let mut reading = Reading::new(alloc);
     match read_into(source, TEXT_LIMIT, &mut reading) {
         Ok(()) => answer_text(alloc, order, words, reading.into_text()?),
+        Err(stop) => reply_to_unread(alloc, stop),
+    }
+}
+
+/// What the run is about to write where the order takes the bytes of an image.
+fn reply_to_bytes<S: Source>(
+    alloc: Global,
+    budget: u64,
+    words: &Words,
+    source: &mut S,
+) -> Result<Reply, AllocError>
+    requires ordered { order_named words.now ≡ Some (Order.Exec budget) }
+    ensures { IfOk result (λ reply. IsPlanned words.now (S.left source.old)
+        (S.faults source.old) (S.faults source.new) reply.text.items reply.status) }
+{
+    match read_text(alloc, source, IMAGE_LIMIT) {
+        Ok(bytes) => answer_exec(alloc, budget, words, &bytes),
         Err(stop) => reply_to_unread(alloc, stop),
     }
 }

@@ -28,5 +28,5 @@ returns-in-Some-clause-not_write_fault g c =
 pub returns-in-Some-clause-complete : goal.returns-in-Some-clause-complete
 returns-in-Some-clause-complete g c =
     if_ok c.reply_to_order.result
-    (λ reply planned undisturbed. planned_complete readings_are_unique c.args.words.now (g.S.Source.left c.args.source.now) _ _ reply.text.items reply.status planned undisturbed)
+    (λ reply planned undisturbed. planned_complete readings_are_unique c.answers_of_images.ensures.done c.args.words.now (g.S.Source.left c.args.source.now) _ _ reply.text.items reply.status planned undisturbed)
     c.reply_to_order.ensures.planned

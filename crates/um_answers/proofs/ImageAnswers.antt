@@ -1,0 +1,51 @@
+-- The image of a program is one, so its bytes are.
+use Rattle.std.proofs.Common.{◌≡◌, ℕ, zero, suc, ◌+◌, ◌<◌, List, [], ◌∷◌, length, Some, slice_get, IsTrue, refl, sym, ap, ◌∙◌, arith}
+use Rattle.std.proofs.lemmas.Option.{same_Some}
+use Rattle.um_tree.specs.ProgramTree.{FunctionTree, ProgramTree}
+use Rattle.um_shape.proofs.Unique.{shapes_are_unique}
+use Rattle.um_gen.specs.ProgramCode.{program_code}
+use Rattle.um_machine.specs.declared.code.Code.{Code}
+use Rattle.um_verify.specs.ImageTree.{HeadTree, ImageTree}
+use Rattle.um_image.specs.Encoding.{image_bytes}
+use Rattle.um_image.specs.ProgramImage.{IsHeadOf, IsImageOf}
+use Rattle.um_reports.specs.declared.status.Status.{Status}
+use Rattle.um_reports.specs.declared.status.Status.TheVariants.{Done}
+use Rattle.um_reports.proofs.ReportStatuses.{is_answered}
+use Rattle.um_answers.specs.ImageAnswer.{ImageAnswer}
+
+-- lists of one length with the same items are one
+same_items : {A : Type 0} (xs ys : List A) → length xs ≡ length ys → ((i : ℕ) (x y : A) → slice_get xs i ≡ Some x → slice_get ys i ≡ Some y → x ≡ y) → xs ≡ ys
+same_items [] [] e same = refl
+same_items [] (y ∷ ys) e same = absurd (omega (arith, e))
+same_items (x ∷ xs) [] e same = absurd (omega (arith, e))
+same_items (x ∷ xs) (y ∷ ys) e same =
+    let first = same 0 x y refl refl in
+    let rest = same_items xs ys (omega (arith, e)) (λ i. same (suc i)) in
+    λ i. first i ∷ rest i
+
+one_head : (p : ProgramTree) (i : ℕ) (h g : HeadTree) → IsHeadOf p i h → IsHeadOf p i g → h ≡ g
+one_head p i h g a b =
+    let function : a.function ≡ b.function = same_Some a.function b.function (sym a.listed ∙ b.listed) in
+    let name : h.name ≡ g.name = a.name ∙ ap (λ (f : FunctionTree). f.name) function ∙ sym b.name in
+    let shapes = shapes_are_unique p i (record { params = h.params; result = h.result }) (record { params = g.params; result = g.result }) a.shapes b.shapes in
+    λ k. record { name = name k; params = (shapes k).params; result = (shapes k).result }
+
+one_image_of : (p : ProgramTree) (code : Code) (image other : ImageTree) → IsImageOf p code image → IsImageOf p code other → image ≡ other
+one_image_of p code image other a b =
+    let records = a.records ∙ sym b.records in
+    let same_code = a.code_is ∙ sym b.code_is in
+    let heads = same_items image.heads other.heads (a.count ∙ sym b.count) (λ i h g x y. one_head p i h g (a.heads i h x) (b.heads i g y)) in
+    λ k. record { records = records k; heads = heads k; code = same_code k }
+
+pub image_one : (text other : List ℕ) (status another : Status) (p : ProgramTree) → ImageAnswer p text status → ImageAnswer p other another → (text ≡ other) × (status ≡ another)
+unfolding ImageAnswer
+image_one text other status another p (image, is, a) (found, also, b) =
+    (a.0 ∙ ap image_bytes (one_image_of p (program_code p.functions) image found is also) ∙ sym b.0, a.1 ∙ sym b.1)
+
+pub ImageAnswer-status : (p : ProgramTree) (text : List ℕ) (status : Status) → ImageAnswer p text status → IsTrue (is_answered status)
+unfolding ImageAnswer
+ImageAnswer-status p text status (image, is, reply) = rw reply.1 refl
+
+pub image_done : (p : ProgramTree) (text : List ℕ) (status : Status) → ImageAnswer p text status → status ≡ Done
+unfolding ImageAnswer
+image_done p text status (image, is, reply) = reply.1
