@@ -1,5 +1,5 @@
 -- Which statuses an answer may have: none of the faults'.
-use Rattle.std.proofs.Common.{ℕ, ◌-◌, List, IsTrue, None, Some, MatchOption, codes, refl, inl, inr}
+use Rattle.std.proofs.Common.{ℕ, List, IsTrue, None, Some, MatchOption, codes, refl, inl, inr}
 use Rattle.std.specs.declared.option.Option.{Option}
 use Rattle.um_syntax.specs.declared.token.Token.{Token}
 use Rattle.um_tree.specs.ProgramTree.{ProgramTree}
