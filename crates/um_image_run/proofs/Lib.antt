@@ -2,3 +2,4 @@ pub mod ImagePrograms
 mod HeadNames
 pub mod ImageCallLaws
 mod PlainCopies
+mod Examples
