@@ -195,7 +195,7 @@ ExecAnswer-status budget words bytes text status (inr (stop, are, reply)) = deco
 
 -- the head of the call's function
 head_called : (image : ImageTree) (name : List ℕ) (texts : List (List ℕ)) (call : ImageCallTree) → IsImageCallOf image name texts (Ok call) → (h : HeadTree) × (slice_get image.heads call.function ≡ Some h)
-head_called image name texts call (k, h, named, number, inputs) = (h, ap (slice_get image.heads) number ∙ named.listed)
+head_called image name texts call (k, h, named, is) = (h, ap (slice_get image.heads) is.0 ∙ named.listed)
 
 module _ (budget : ℕ) (words : List (List ℕ)) (bytes : List ℕ) (g : GivesImageValue budget words bytes) where
   head : (h : HeadTree) × (slice_get g.image.heads g.call.function ≡ Some h)
