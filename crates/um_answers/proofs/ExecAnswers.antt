@@ -1,12 +1,12 @@
 -- The answer to a call of an image: it is one, it has the status of no fault, and it is done where its steps go through.
-use Rattle.std.proofs.Common.{◌≡◌, ◌⊎◌, ℕ, zero, suc, ◌+◌, ◌<◌, ◌≤◌, List, [], ◌∷◌, ◌++◌, length, length-append, All, IsTrue, Result, Ok, Err, Some, None, slice_get, inl, inr, refl, sym, ap, subst, ◌∙◌, append_assoc, arith}
+use Rattle.std.proofs.Common.{◌≡◌, ◌⊎◌, ℕ, zero, suc, ◌<◌, ◌≤◌, List, [], ◌∷◌, ◌++◌, length, length-append, IsTrue, Result, Ok, Err, Some, None, slice_get, inl, inr, refl, sym, ap, subst, ◌∙◌, append_assoc, arith}
 use Rattle.std.specs.Prelude.{◌≢◌}
 use Rattle.std.specs.List.{flat_map}
 use Rattle.std.proofs.lemmas.Option.{same_Some}
-use Rattle.um_tree.specs.ValueTree.{ValueTree, OutcomeTree, value_outcome}
+use Rattle.um_tree.specs.ValueTree.{OutcomeTree, value_outcome}
 use Rattle.um_tree.specs.ProgramTree.{RecordTree}
 use Rattle.um_machine.specs.declared.code.Code.{Code}
-use Rattle.um_machine.specs.Machine.{State, Step, going, done, stuck, step, next, runs, starts}
+use Rattle.um_machine.specs.Machine.{Step, going, done, stuck, step, next, runs, starts}
 use Rattle.um_show.specs.ValueText.{value_text}
 use Rattle.um_verify.specs.ImageTree.{HeadTree, ImageTree}
 use Rattle.um_verify.specs.Verified.{IsVerified}
@@ -16,7 +16,7 @@ use Rattle.um_verifier.specs.Refusals.{IsRefusal}
 use Rattle.um_verifier.specs.Laws.{RefusalsAreOne, VerifiedIsAccepted}
 use Rattle.um_image.specs.declared.stop.DecodeStop.{DecodeStop}
 use Rattle.um_image.specs.declared.stop.DecodeStop.TheVariants as decode_stop
-use Rattle.um_image.specs.Encoding.{Item, written, forbidden, spell, four_bytes, name_items, counted_items, field_items, record_items, function_items, function_parts, image_parts, image_bytes}
+use Rattle.um_image.specs.Encoding.{Item, written, forbidden, spell, four_bytes, counted_items, field_items, record_items, function_items, function_parts, image_bytes}
 use Rattle.um_image.specs.ProgramImage.{type_of_shape}
 use Rattle.um_image.specs.Laws.{PlacesAreUnique, BadBytesAreNoImage, BytesSpellOneImage}
 use Rattle.um_run.specs.declared.call.CallRefusal.{CallRefusal}
@@ -25,7 +25,6 @@ use Rattle.um_image_run.specs.ImageCalls.{ImageCallTree, image_call_values, imag
 use Rattle.um_image_run.specs.Laws.{ImageCallsAreUnique}
 use Rattle.um_reports.specs.declared.status.Status.{Status}
 use Rattle.um_reports.specs.declared.status.Status.TheVariants.{Done}
-use Rattle.um_reports.specs.CallRefusals.{IsCallReply}
 use Rattle.um_reports.specs.Steps.{line}
 use Rattle.um_reports.proofs.ReportStatuses.{is_answered, call_reply}
 use Rattle.um_answers.specs.Asked.{called_name, argument_texts}
@@ -195,7 +194,7 @@ ExecAnswer-status budget words bytes text status (inr (stop, are, reply)) = deco
 
 -- the head of the call's function
 head_called : (image : ImageTree) (name : List ℕ) (texts : List (List ℕ)) (call : ImageCallTree) → IsImageCallOf image name texts (Ok call) → (h : HeadTree) × (slice_get image.heads call.function ≡ Some h)
-head_called image name texts call (k, h, named, number, inputs) = (h, ap (slice_get image.heads) number ∙ named.listed)
+head_called image name texts call (k, h, named, is) = (h, ap (slice_get image.heads) is.0 ∙ named.listed)
 
 module _ (budget : ℕ) (words : List (List ℕ)) (bytes : List ℕ) (g : GivesImageValue budget words bytes) where
   head : (h : HeadTree) × (slice_get g.image.heads g.call.function ≡ Some h)
