@@ -8,7 +8,7 @@ use Rattle.um_wire.specs.declared.read.ReadStop.{ReadStop}
 use Rattle.um_wire.specs.declared.read.ReadStop.TheVariants.{TooLong as TooLongToRead, Failed as ReadFailed, NoMemory as OutOfMemory}
 use Rattle.um_orders.specs.declared.order.Order.{Order}
 use Rattle.um_orders.specs.declared.order.Intake.{Intake}
-use Rattle.um_orders.specs.declared.order.Order.TheVariants.{Types, Code, Fmt, Run, Steps, Eval, Conform, Rescale, Twin, Big, Image, Exec}
+use Rattle.um_orders.specs.declared.order.Order.TheVariants.{Types, Code, Fmt, Run, Steps, Eval, Conform, Rescale, Twin, Big, Prove, Image, Exec}
 use Rattle.um_orders.specs.declared.order.Intake.TheVariants.{Generated, Text, Bytes}
 use Rattle.um_reports.specs.declared.status.Status.{Status}
 use Rattle.um_reports.specs.declared.status.Status.TheVariants.{Usage, ReadFault, WriteFault}
