@@ -145,12 +145,12 @@ module _ (one_reading : ReadingsAreUnique) (exec_done : ExecAnswersAreDone) wher
   unfolding SchemesAnswer
   schemes_done asked p text status formed resolved typed unlimited passes answer = by_schemes asked.order passes answer
     where
-      by_schemes : (order : Order) → PassesOn order asked.words asked.raw p → BySchemes order asked p text status → status ≡ Done
-      by_schemes Prove passes answer = absurd passes
-      by_schemes order passes answer = given answer
-
       given : InferenceAnswer asked p (infer p) text status → status ≡ Done
       given answer = inferred_done asked p (infer p) text status formed resolved refl ((schemes_are_given_to_typed p formed).1 (all_typed p typed, unlimited)) passes answer
+
+      by_schemes : (order : Order) → PassesOn order asked.words asked.raw p → BySchemes order asked p text status → status ≡ Done
+      by_schemes Prove goes answer = absurd goes
+      by_schemes order goes answer = given answer
 
   shapes_done : (asked : Asked) (p : ProgramTree) (text : List ℕ) (status : Status) → IsFormed p → resolved_program asked.raw ≡ Ok p → first_fault p ≡ None → EachIsTyped p → (IsLimited (infer p) → ⊥)
       → PassesOn asked.order asked.words asked.raw p → ShapesAnswer asked p text status → status ≡ Done

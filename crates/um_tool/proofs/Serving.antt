@@ -86,6 +86,7 @@ taken_for_exec (Eval b) n takes = absurd (cc takes)
 taken_for_exec Conform n takes = absurd (cc takes)
 taken_for_exec Rescale n takes = absurd (cc takes)
 taken_for_exec (Twin b) n takes = absurd (cc takes)
+taken_for_exec Prove n takes = absurd (cc takes)
 taken_for_exec Image n takes = absurd (cc takes)
 
 module _ (words : List (List ℕ)) (left : Option (List ℕ)) (before now budget : ℕ) (ordered : order_of words ≡ Some (Exec budget)) where
