@@ -13,6 +13,7 @@ const COMMANDS = {
   code: ["", "the compiled code"],
   steps: ["BUDGET NAME ARG..", "the value of a call, and how many steps it took"],
   eval: ["BUDGET NAME ARG..", "the value of a call, by the syntax tree"],
+  prove: ["", "a certificate of each type, which sums of integers check"],
 };
 
 // The words that a command line has behind its command before the arguments of its call.

@@ -8,7 +8,7 @@ use Rattle.um_answers.specs.declared.way.Way.TheVariants as way
 use Rattle.um_orders.specs.declared.order.Order.{Order}
 use Rattle.um_reports.specs.declared.status.Status.{Status}
 use Rattle.um_reports.specs.declared.status.Status.TheVariants.{Done}
-use Rattle.um_orders.specs.declared.order.Order.TheVariants.{Types, Code, Fmt, Run, Steps, Eval, Conform, Rescale, Twin, Big, Image, Exec}
+use Rattle.um_orders.specs.declared.order.Order.TheVariants.{Types, Code, Fmt, Run, Steps, Eval, Conform, Rescale, Twin, Big, Prove, Image, Exec}
 use Rattle.um_answers.specs.Asked.{Asked}
 use Rattle.um_answers.specs.TypedAnswer.{TypedAnswer, ByOrder}
 use Rattle.um_answers.specs.Passing.{PassesOn}
@@ -33,6 +33,7 @@ module _ (one_reading : ReadingsAreUnique) where
   by_order_done Rescale asked p schemes text status formed resolved inferred passes answer = rescale_done asked p text status passes answer
   by_order_done (Twin budget) asked p schemes text status formed resolved inferred passes answer = twin_done budget asked p schemes text status passes formed resolved inferred answer
   by_order_done (Big n) asked p schemes text status formed resolved inferred passes answer = big_done n asked p schemes text status formed resolved inferred passes answer
+  by_order_done Prove asked p schemes text status formed resolved inferred passes answer = absurd answer
   by_order_done Image asked p schemes text status formed resolved inferred passes answer = image_done p text status answer
   by_order_done (Exec budget) asked p schemes text status formed resolved inferred passes answer = absurd answer
 

@@ -17,7 +17,7 @@ use Rattle.um_reports.specs.declared.status.Status.{Status}
 use Rattle.um_answers.specs.declared.way.Way.{Way}
 use Rattle.um_answers.specs.declared.way.Way.TheVariants as way
 use Rattle.um_orders.specs.declared.order.Order.{Order}
-use Rattle.um_orders.specs.declared.order.Order.TheVariants.{Types, Code, Fmt, Run, Steps, Eval, Conform, Rescale, Twin, Big, Image, Exec}
+use Rattle.um_orders.specs.declared.order.Order.TheVariants.{Types, Code, Fmt, Run, Steps, Eval, Conform, Rescale, Twin, Big, Prove, Image, Exec}
 use Rattle.um_answers.specs.Asked.{Asked, argument_texts, held_name, signature_text}
 use Rattle.um_answers.specs.BigAnswer.{BigAnswer, asked_by, last_call}
 use Rattle.um_answers.specs.TypedAnswer.{TypedAnswer, ByOrder}
@@ -82,6 +82,7 @@ by_order_status Conform asked p schemes text status answer = ConformAnswer-statu
 by_order_status Rescale asked p schemes text status answer = RescaleAnswer-status asked p text status answer
 by_order_status (Twin budget) asked p schemes text status answer = TwinAnswer-status text status budget asked p schemes answer
 by_order_status (Big n) asked p schemes text status answer = BigAnswer-status n asked p schemes text status answer
+by_order_status Prove asked p schemes text status answer = absurd answer
 by_order_status Image asked p schemes text status answer = ImageAnswer-status p text status answer
 by_order_status (Exec budget) asked p schemes text status answer = absurd answer
 

@@ -4,7 +4,7 @@ use Rattle.um_tree.specs.ProgramTree.{ProgramTree, SchemeTree}
 use Rattle.um_tree.specs.Formed.{IsFormed}
 use Rattle.um_answers.specs.declared.way.Way.TheVariants as way
 use Rattle.um_orders.specs.declared.order.Order.{Order}
-use Rattle.um_orders.specs.declared.order.Order.TheVariants.{Types, Code, Fmt, Run, Steps, Eval, Conform, Rescale, Twin, Big, Image, Exec}
+use Rattle.um_orders.specs.declared.order.Order.TheVariants.{Types, Code, Fmt, Run, Steps, Eval, Conform, Rescale, Twin, Big, Prove, Image, Exec}
 use Rattle.um_reports.specs.declared.status.Status.{Status}
 use Rattle.um_answers.specs.Asked.{Asked}
 use Rattle.um_answers.specs.TypedAnswer.{TypedAnswer, ByOrder}
@@ -27,6 +27,7 @@ module _ (one_reading : ReadingsAreUnique) (text other : List ℕ) (status anoth
   by_order_one Rescale asked p schemes formed a b = rescale_one text other status another asked p a b
   by_order_one (Twin budget) asked p schemes formed a b = twin_one text other status another budget asked p schemes formed a b
   by_order_one (Big n) asked p schemes formed a b = big_one text other status another n asked p schemes formed a b
+  by_order_one Prove asked p schemes formed a b = absurd a
   by_order_one Image asked p schemes formed a b = image_one text other status another p a b
   by_order_one (Exec budget) asked p schemes formed a b = absurd a
 

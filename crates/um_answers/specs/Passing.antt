@@ -23,7 +23,7 @@ use Rattle.um_sig.specs.Reading.{IsRead}
 use Rattle.um_sig.specs.Answers.{IsConformed}
 use Rattle.um_sig.specs.Instances.{AreAllTypings}
 use Rattle.um_orders.specs.declared.order.Order.{Order}
-use Rattle.um_orders.specs.declared.order.Order.TheVariants.{Run, Steps, Eval, Conform, Rescale, Twin, Big}
+use Rattle.um_orders.specs.declared.order.Order.TheVariants.{Run, Steps, Eval, Conform, Rescale, Twin, Big, Prove}
 use Rattle.um_answers.specs.Asked.{called_name, argument_texts, held_name, signature_text}
 use Rattle.um_answers.specs.Asked.{rescale_sizes, twin_sizes, twin_name, twin_texts}
 use Rattle.um_answers.specs.BigAnswer.{last_call}
@@ -93,4 +93,5 @@ PassesOn Conform words raw p = HasTypings words raw p
 PassesOn Rescale words raw p = HasSizes (rescale_sizes words) p
 PassesOn (Twin budget) words raw p = GivesTwins budget words raw p
 PassesOn (Big n) words raw p = GivesValue 10000000 (last_call (n - 1)) raw p
+PassesOn Prove words raw p = ⊥
 PassesOn order words raw p = Unit {0}

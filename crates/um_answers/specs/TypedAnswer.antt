@@ -7,7 +7,7 @@ use Rattle.um_gen.specs.ProgramCode.{program_code}
 use Rattle.um_code.specs.Listing.{listing_text}
 use Rattle.um_orders.specs.declared.order.Order.{Order}
 use Rattle.um_orders.specs.declared.order.Order.TheVariants.{Types, Code, Fmt, Run, Steps, Eval, Conform}
-use Rattle.um_orders.specs.declared.order.Order.TheVariants.{Rescale, Twin, Big, Image, Exec}
+use Rattle.um_orders.specs.declared.order.Order.TheVariants.{Rescale, Twin, Big, Prove, Image, Exec}
 use Rattle.um_reports.specs.declared.status.Status.{Status}
 use Rattle.um_reports.specs.declared.status.Status.TheVariants.{Done}
 use Rattle.um_reports.specs.Steps.{IsReply}
@@ -21,7 +21,7 @@ use Rattle.um_answers.specs.RescaleAnswer.{RescaleAnswer}
 use Rattle.um_answers.specs.ImageAnswer.{ImageAnswer}
 use Rattle.um_answers.specs.TwinAnswer.{TwinAnswer}
 
--- what the order asks of the functions' schemes; `fmt` was answered before, and `exec` asks nothing of a program
+-- what the order asks of the functions' schemes; `fmt` was answered before, and `prove` and `exec` ask nothing of them
 abbrev pub ByOrder : Order → Asked → ProgramTree → List SchemeTree → List ℕ → Status → Type 0
 ByOrder Types asked p schemes text status = IsReply text status (scheme_lines p p.functions schemes) Done
 ByOrder Code asked p schemes text status = IsReply text status (listing_text p (program_code p.functions)) Done
@@ -33,6 +33,7 @@ ByOrder Conform asked p schemes text status = ConformAnswer asked p schemes text
 ByOrder Rescale asked p schemes text status = RescaleAnswer asked p text status
 ByOrder (Twin budget) asked p schemes text status = TwinAnswer budget asked p schemes text status
 ByOrder (Big n) asked p schemes text status = BigAnswer n asked p schemes text status
+ByOrder Prove asked p schemes text status = ⊥
 ByOrder Image asked p schemes text status = ImageAnswer p text status
 ByOrder (Exec budget) asked p schemes text status = ⊥
 

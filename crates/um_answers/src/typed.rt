@@ -65,8 +65,9 @@ pub fn answer_typed(
         Order::Twin { budget } => answer_twin(alloc, budget, asked, shaped, schemes),
         Order::Big(functions) => answer_big(alloc, functions, asked, shaped, schemes),
         Order::Image => reply_image(alloc, shaped),
-        // It is answered from the bytes of an image, and never asked of a program.
-        Order::Exec { .. } => Err(AllocError),
+        // These are never asked of a program with its schemes: certificates are printed before there are all, and a call
+        // of an image is answered from its bytes.
+        Order::Prove | Order::Exec { .. } => Err(AllocError),
     }
 }
 

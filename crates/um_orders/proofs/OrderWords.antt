@@ -10,7 +10,7 @@ use Rattle.std.proofs.lemmas.Str.Parse.{numerals_by_value, tells_all_ascii_digit
 use Rattle.std.proofs.lemmas.List.Elements.{All-nil, All-cons}
 use Rattle.um_sizes.specs.ScaleWords.{is_scales}
 use Rattle.um_orders.specs.declared.order.Order.{Order}
-use Rattle.um_orders.specs.declared.order.Order.TheVariants.{Types, Code, Fmt, Run, Steps, Eval, Conform, Rescale, Twin, Big, Image, Exec}
+use Rattle.um_orders.specs.declared.order.Order.TheVariants.{Types, Code, Fmt, Run, Steps, Eval, Conform, Rescale, Twin, Big, Prove, Image, Exec}
 use Rattle.um_orders.specs.declared.order.Intake.TheVariants.{Generated, Bytes}
 use Rattle.um_orders.specs.Orders.{is_short, is_budget, budget_of, is_count, count_of, big_order, rescale_order, order_of_two, order_alone, call_order, order_of_three, twin_order, order_of_many, longer_order, order_by_count, order_of, intake_of}
 
@@ -104,13 +104,14 @@ AreWordsOf words (Exec b) = (3 ≤ length words) × (b ≤ 10000000)
 AreWordsOf words order = Unit {0}
 
 words_alone : (word : List ℕ) (o : Order) → order_alone word ≡ Some o → AreWordsOf (word ∷ []) o
-words_alone word o e = by (bytes_eq word (codes "types")) (bytes_eq word (codes "code")) (bytes_eq word (codes "fmt")) (bytes_eq word (codes "image")) e where
-  by : (s t u v : Bool) → (if s then Some Types else if t then Some Code else if u then Some Fmt else if v then Some Image else None) ≡ Some o → AreWordsOf (word ∷ []) o
-  by true t u v named = let same : Types ≡ o = cc named in subst (AreWordsOf (word ∷ [])) same tt
-  by false true u v named = let same : Code ≡ o = cc named in subst (AreWordsOf (word ∷ [])) same tt
-  by false false true v named = let same : Fmt ≡ o = cc named in subst (AreWordsOf (word ∷ [])) same tt
-  by false false false true named = let same : Image ≡ o = cc named in subst (AreWordsOf (word ∷ [])) same tt
-  by false false false false named = absurd (cc named)
+words_alone word o e = by (bytes_eq word (codes "types")) (bytes_eq word (codes "code")) (bytes_eq word (codes "fmt")) (bytes_eq word (codes "prove")) (bytes_eq word (codes "image")) e where
+  by : (s t u v w : Bool) → (if s then Some Types else if t then Some Code else if u then Some Fmt else if v then Some Prove else if w then Some Image else None) ≡ Some o → AreWordsOf (word ∷ []) o
+  by true t u v w named = let same : Types ≡ o = cc named in subst (AreWordsOf (word ∷ [])) same tt
+  by false true u v w named = let same : Code ≡ o = cc named in subst (AreWordsOf (word ∷ [])) same tt
+  by false false true v w named = let same : Fmt ≡ o = cc named in subst (AreWordsOf (word ∷ [])) same tt
+  by false false false true w named = let same : Prove ≡ o = cc named in subst (AreWordsOf (word ∷ [])) same tt
+  by false false false false true named = let same : Image ≡ o = cc named in subst (AreWordsOf (word ∷ [])) same tt
+  by false false false false false named = absurd (cc named)
 
 words_of_two : (word second : List ℕ) (o : Order) → order_of_two word second ≡ Some o → AreWordsOf (word ∷ second ∷ []) o
 words_of_two word second o e = by (bytes_eq word (codes "big")) (count_of second) refl (bytes_eq word (codes "rescale")) (is_scales second) refl e where
@@ -175,6 +176,7 @@ generated_count words (Eval b) n e takes = absurd (cc takes)
 generated_count words Conform n e takes = absurd (cc takes)
 generated_count words Rescale n e takes = absurd (cc takes)
 generated_count words (Twin b) n e takes = absurd (cc takes)
+generated_count words Prove n e takes = absurd (cc takes)
 generated_count words Image n e takes = absurd (cc takes)
 generated_count words (Exec b) n e takes = absurd (cc takes)
 
@@ -191,6 +193,7 @@ bytes_called words (Eval b) n e takes = absurd (cc takes)
 bytes_called words Conform n e takes = absurd (cc takes)
 bytes_called words Rescale n e takes = absurd (cc takes)
 bytes_called words (Twin b) n e takes = absurd (cc takes)
+bytes_called words Prove n e takes = absurd (cc takes)
 bytes_called words Image n e takes = absurd (cc takes)
 
 -- ---- digits

@@ -9,7 +9,7 @@ use Rattle.std.specs.Str.Parse.{digits_value}
 use Rattle.um_sizes.specs.ScaleWords.{is_scales}
 use Rattle.um_orders.specs.declared.order.Order.{Order}
 use Rattle.um_orders.specs.declared.order.Order.TheVariants.{Types, Code, Fmt, Run, Steps, Eval, Conform}
-use Rattle.um_orders.specs.declared.order.Order.TheVariants.{Rescale, Twin, Big, Image, Exec}
+use Rattle.um_orders.specs.declared.order.Order.TheVariants.{Rescale, Twin, Big, Prove, Image, Exec}
 use Rattle.um_orders.specs.declared.order.Intake.{Intake}
 use Rattle.um_orders.specs.declared.order.Intake.TheVariants.{Generated, Text, Bytes}
 
@@ -44,6 +44,7 @@ order_alone word =
     if bytes_eq word (codes "types") then Some Types
     else if bytes_eq word (codes "code") then Some Code
     else if bytes_eq word (codes "fmt") then Some Fmt
+    else if bytes_eq word (codes "prove") then Some Prove
     else if bytes_eq word (codes "image") then Some Image else None
 
 -- big N, by the number of functions
@@ -110,6 +111,7 @@ intake_of Conform = Text
 intake_of Rescale = Text
 intake_of (Twin budget) = Text
 intake_of (Big n) = Generated n
+intake_of Prove = Text
 intake_of Image = Text
 intake_of (Exec budget) = Bytes budget
 

@@ -42,6 +42,8 @@ pub enum Order {
     Twin { budget: u64 },
     /// Infer a generated program of so many functions, call its last function, and print four lines about it.
     Big(u32),
+    /// Print a certificate of each function's scheme, up to the first function that has none and why.
+    Prove,
     /// Write the image of the program's code as bytes.
     Image,
     /// Call a function of an image, with at most so many calls, and print its value.
@@ -75,6 +77,7 @@ impl Order {
             | Order::Conform
             | Order::Rescale
             | Order::Twin { .. }
+            | Order::Prove
             | Order::Image => Intake::Text,
             Order::Big(functions) => Intake::Generated { functions },
             Order::Exec { budget } => Intake::Bytes { budget },
@@ -84,7 +87,7 @@ impl Order {
 
 /// The order that the words name, or nothing where they have none of the forms. Takes no memory.
 ///
-/// The forms are `types`, `code`, `fmt`, `image`, `big N`, `rescale SCALES`, `conform NAME TYPE`,
+/// The forms are `types`, `code`, `fmt`, `prove`, `image`, `big N`, `rescale SCALES`, `conform NAME TYPE`,
 /// `twin BUDGET SCALES NAME ARG*`, and `run`, `steps`, `eval` or `exec` with BUDGET NAME ARG*. A budget is one to eight digits of value at most 10,000,000, N is
 /// one to four digits of value 1 to 2,000, SCALES states sizes of base units (`um_sizes::is_scales` says how), and each
 /// word is at most 1,048,576 bytes long.
@@ -114,6 +117,7 @@ fn order_alone(word: &str) -> Option<Order>
         "types" => Some(Order::Types),
         "code" => Some(Order::Code),
         "fmt" => Some(Order::Fmt),
+        "prove" => Some(Order::Prove),
         "image" => Some(Order::Image),
         _ => None,
     }

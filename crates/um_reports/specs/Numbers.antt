@@ -1,11 +1,11 @@
--- The exit status of each ending; 18 and 21 are none.
+-- The exit status of each ending; 18 is none.
 -- Source: this project's own numbers.
 use Rattle.std.specs.Prelude.{ℕ}
 use Rattle.um_reports.specs.declared.status.Status.{Status}
 use Rattle.um_reports.specs.declared.status.Status.TheVariants.{Done, Usage, TooLong, Utf8, Lexical, Syntax, Limit, Names}
 use Rattle.um_reports.specs.declared.status.Status.TheVariants.{Shape, Units, PowerRange, Input, Trap, BudgetEnd}
 use Rattle.um_reports.specs.declared.status.Status.TheVariants.{ScaleRange, ReadFault, WriteFault, NoMemory}
-use Rattle.um_reports.specs.declared.status.Status.TheVariants.{NotGeneral, NotConform, BadImage}
+use Rattle.um_reports.specs.declared.status.Status.TheVariants.{NotGeneral, NotConform, CertRange, BadImage}
 
 abbrev pub number_of : Status → ℕ
 number_of Done = 0
@@ -28,4 +28,5 @@ number_of WriteFault = 16
 number_of NoMemory = 17
 number_of NotGeneral = 19
 number_of NotConform = 20
+number_of CertRange = 21
 number_of BadImage = 22

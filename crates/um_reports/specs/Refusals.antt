@@ -1,6 +1,7 @@
 -- The report lines of refusals of a text, each with its place but those of a source that isn't read.
 -- Source: this project's own.
-use Rattle.std.specs.Prelude.{ℕ, List, ◌++◌, codes}
+use Rattle.std.specs.Prelude.{ℕ, ℤ, List, ◌++◌, codes}
+use Rattle.std.specs.Fmt.{signed_decimal}
 use Rattle.um_wire.specs.declared.read.ReadStop.{ReadStop}
 use Rattle.um_wire.specs.declared.read.ReadStop.TheVariants as read_stop
 use Rattle.um_syntax.specs.declared.token.TextStop.{TextStop}
@@ -15,7 +16,7 @@ use Rattle.um_shape.specs.declared.stop.ShapeStop.{ShapeStop}
 use Rattle.um_shape.specs.declared.stop.ShapeStop.TheVariants as shape_stop
 use Rattle.um_reports.specs.declared.status.Status.{Status}
 use Rattle.um_reports.specs.declared.status.Status.TheVariants.{TooLong, ReadFault, Utf8, Lexical, Syntax, Limit, Names}
-use Rattle.um_reports.specs.declared.status.Status.TheVariants.{Shape, Units, PowerRange, NotGeneral}
+use Rattle.um_reports.specs.declared.status.Status.TheVariants.{Shape, Units, PowerRange, NotGeneral, CertRange}
 use Rattle.um_reports.specs.Places.{place_text}
 use Rattle.um_reports.specs.Steps.{line, IsReply}
 
@@ -110,3 +111,9 @@ IsRangeReply bytes name at text status = IsReply text status (placed (range_labe
 -- it has more slots than are allowed; the place is that of its name
 abbrev pub IsSlotsReply : List ℕ → ℕ → List ℕ → Status → Type 0
 IsSlotsReply bytes at text status = IsReply text status (placed (limit_label limit.Slots) bytes at) Limit
+
+-- the number passes what its certificate can hold
+abbrev pub IsCertificateReply : List ℕ → ℤ → List ℕ → Status → Type 0
+IsCertificateReply name number text status =
+    IsReply text status
+    (line (codes "error 21: certificate of " ++ name ++ codes ": number " ++ signed_decimal number)) CertRange

@@ -16,8 +16,9 @@ pub use call_refusal::{
 };
 pub use image_refusal::{reply_to_bad_byte, reply_to_bad_code, reply_to_bad_head};
 pub use refusal::{
-    reply_line, reply_to_names, reply_to_not_general, reply_to_range, reply_to_shapes,
-    reply_to_slots, reply_to_text, reply_to_tokens, reply_to_units, reply_to_unread,
+    reply_line, reply_to_certificate, reply_to_names, reply_to_not_general, reply_to_range,
+    reply_to_shapes, reply_to_slots, reply_to_text, reply_to_tokens, reply_to_units,
+    reply_to_unread,
 };
 pub use reply::Reply;
 pub use scale_refusal::{reply_to_literal, reply_to_misfit, reply_to_no_base, reply_to_run_trap};

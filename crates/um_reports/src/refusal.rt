@@ -2,6 +2,7 @@
 ghost use Rattle.std.specs.Prelude.{◌≡◌, ◌++◌, IfOk, codes};
 ghost use Rattle.um_reports.specs.Refusals.{IsReadReply, IsTextReply, IsParseReply, IsNameReply, IsShapeReply};
 ghost use Rattle.um_reports.specs.Refusals.{IsUnitsReply, IsNotGeneralReply, IsRangeReply, IsSlotsReply, placed};
+ghost use Rattle.um_reports.specs.Refusals.{IsCertificateReply};
 ghost use Rattle.um_reports.specs.Refusals.{limit_label as label_of_limit};
 ghost use Rattle.um_reports.specs.Steps.{IsReply, line};
 
@@ -211,6 +212,21 @@ pub fn reply_to_slots(alloc: Global, bytes: &[u8], at: u32) -> Result<Reply, All
         at,
         Status::Limit,
     )
+}
+
+/// The refusal of the function of this name, of which no certificate is made: the number passes what one can hold.
+pub fn reply_to_certificate(alloc: Global, name: &Name, number: i128) -> Result<Reply, AllocError>
+    ensures { IfOk result (λ reply. IsCertificateReply name.now number reply.text.items reply.status) }
+{
+    let mut text = b"error 21: certificate of ".to_vec(alloc)?;
+    text.extend_from_slice(name.as_slice())?;
+    text.extend_from_slice(b": number ")?;
+    text.extend_from_slice(itoa::Buffer::new().format(number).as_bytes())?;
+    text.push(b'\n')?;
+    Ok(Reply {
+        text,
+        status: Status::CertRange,
+    })
 }
 
 // A reply of one line that holds a name and ends with a place.

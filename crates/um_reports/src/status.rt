@@ -32,6 +32,8 @@ pub enum Status {
     NotGeneral,
     /// A function can't be used at a signature.
     NotConform,
+    /// A number passes what a function's certificate can hold.
+    CertRange,
     /// The bytes are no image, or one that is refused.
     BadImage,
 }
@@ -62,6 +64,7 @@ impl Status {
             Status::NoMemory => 17,
             Status::NotGeneral => 19,
             Status::NotConform => 20,
+            Status::CertRange => 21,
             Status::BadImage => 22,
         }
     }

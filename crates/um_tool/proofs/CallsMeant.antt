@@ -43,7 +43,7 @@ use Rattle.um_answers.specs.CallAnswer.{CallAnswer, BesideAnswer, ByCall, RunAns
 use Rattle.um_answers.specs.ConformAnswer.{ConformAnswer, SignatureAnswer, ReadAnswer, BySignature, MatchingAnswer}
 use Rattle.um_orders.specs.Orders.{intake_of}
 use Rattle.um_answers.specs.TypedAnswer.{TypedAnswer}
-use Rattle.um_tool.specs.Answer.{ByLayout, NamesAnswer, InferenceAnswer}
+use Rattle.um_tool.specs.Answer.{ByLayout, NamesAnswer, InferenceAnswer, BySchemes}
 use Rattle.um_reports.specs.Steps.{line}
 use Rattle.um_tool.specs.Laws.{SpellsProgram}
 use Rattle.um_tool.specs.CallLaws.{IsCall, ends_a_call, IsMeantCall, EndedCallsAreMeant, is_verdict, IsVerdict, VerdictsSayWhatTypingsAre}
@@ -158,6 +158,13 @@ looks_up (Steps n) w budget asked text status c answer = answer
 looks_up (Eval n) w budget asked text status c answer = answer
 looks_up order w budget asked text status c answer = absurd c
 
+-- and the schemes are inferred
+infers : (order : Order) (w : Way) (budget : ℕ) (asked : Asked) (p : ProgramTree) (text : List ℕ) (status : Status) → IsCall order w budget → BySchemes order asked p text status → InferenceAnswer asked p (infer p) text status
+infers (Run n) w budget asked p text status c answer = answer
+infers (Steps n) w budget asked p text status c answer = answer
+infers (Eval n) w budget asked p text status c answer = answer
+infers order w budget asked p text status c answer = absurd c
+
 takes_text : (order : Order) (w : Way) (budget : ℕ) → IsCall order w budget → intake_of order ≡ Text
 takes_text (Run n) w budget c = refl
 takes_text (Steps n) w budget c = refl
@@ -166,7 +173,7 @@ takes_text order w budget c = absurd c
 
 pub ended_calls_are_meant : EndedCallsAreMeant
 ended_calls_are_meant order w budget words bytes text status c ordered answer ends =
-    let r = reached order words bytes text status (last_of_calls status ends) (λ raw a. looks_up order w budget (record { order = order; words = words; bytes = bytes; raw = raw }) text status c a) ordered (takes_text order w budget c) answer in
+    let r = reached order words bytes text status (last_of_calls status ends) (λ raw a. looks_up order w budget (record { order = order; words = words; bytes = bytes; raw = raw }) text status c a) (λ raw p a. infers order w budget (record { order = order; words = words; bytes = bytes; raw = raw }) p text status c a) ordered (takes_text order w budget c) answer in
     typed_meant w budget words bytes text status ends order r.0 r.1 (infer r.0) c r.2 refl r.3
 
 -- ---- signatures
@@ -226,5 +233,5 @@ module _ (words : List (List ℕ)) (bytes text : List ℕ) (status : Status) (ve
 
 pub verdicts_say_what_typings_are : VerdictsSayWhatTypingsAre
 verdicts_say_what_typings_are words bytes text status ordered answer verdict =
-    let r = reached Conform words bytes text status (last_of_verdicts status verdict) (λ raw a. a) ordered refl answer in
+    let r = reached Conform words bytes text status (last_of_verdicts status verdict) (λ raw a. a) (λ raw p a. a) ordered refl answer in
     typed_says words bytes text status verdict r.0 r.1 (infer r.0) r.2 refl r.3

@@ -1,5 +1,5 @@
 -- Where every step goes through, the answer is done.
-use Rattle.std.proofs.Common.{◌≡◌, refl, sym, subst, ℕ, ◌+◌, ◌<◌, ◌≤◌, ◌⊎◌, List, [], ◌∷◌, length, drop, None, Ok, Err, ◌∙◌, inl, inr, arith}
+use Rattle.std.proofs.Common.{◌≡◌, refl, sym, subst, ℕ, ℤ, Result, ◌+◌, ◌<◌, ◌≤◌, ◌⊎◌, List, [], ◌∷◌, length, drop, None, Ok, Err, ◌∙◌, inl, inr, arith}
 use Rattle.std.specs.declared.option.Option.{Option}
 use Rattle.std.specs.Str.{chars, IsUtf8, IsValidUpTo}
 use Rattle.std.proofs.lemmas.Bool.{cases_lt}
@@ -42,19 +42,23 @@ use Rattle.um_parse.specs.Parsed.{IsRead, LimitAt, Parsed}
 use Rattle.um_orders.specs.declared.order.Order.{Order}
 use Rattle.um_reports.specs.declared.status.Status.{Status}
 use Rattle.um_reports.specs.declared.status.Status.TheVariants.{Done}
-use Rattle.um_orders.specs.declared.order.Order.TheVariants.{Types, Code, Fmt, Run, Steps, Eval, Conform, Rescale, Twin, Big, Image, Exec}
+use Rattle.um_orders.specs.declared.order.Order.TheVariants.{Types, Code, Fmt, Run, Steps, Eval, Conform, Rescale, Twin, Big, Prove, Image, Exec}
 use Rattle.um_orders.specs.declared.order.Intake.{Intake}
 use Rattle.um_orders.specs.declared.order.Intake.TheVariants.{Generated, Text, Bytes}
 use Rattle.um_answers.specs.Asked.{Asked}
-use Rattle.um_tool.specs.Answer.{Answer, IntakeAnswer, SizeAnswer, LengthAnswer, TokensAnswer, GrammarAnswer, ProgramAnswer, ByLayout, NamesAnswer, ShapesAnswer, SchemesAnswer, InferenceAnswer}
+use Rattle.um_tool.specs.Answer.{Answer, IntakeAnswer, SizeAnswer, LengthAnswer, TokensAnswer, GrammarAnswer, ProgramAnswer, ByLayout, NamesAnswer, ShapesAnswer, SchemesAnswer, BySchemes, IsProofReply, ProofAnswer, InferenceAnswer}
 use Rattle.um_answers.specs.Passing.{PassesOn}
-use Rattle.um_tool.specs.Passing.{EachIsTyped, IsTyped, GoesThrough}
+use Rattle.um_tool.specs.Passing.{EachIsTyped, IsTyped, IsProvable, GoesThrough}
 use Rattle.um_orders.specs.Orders.{intake_of}
 use Rattle.um_reports.specs.Refusals.{IsTextReply, IsParseReply, IsNameReply, IsShapeReply}
 use Rattle.um_reports.specs.Steps.{Cases}
 use Rattle.um_tool.specs.Served.{IsPlanned, IsTakenComplete, IsComplete, IsUndisturbed}
 use Rattle.um_sig.specs.Laws.{ReadingsAreUnique}
 use Rattle.um_big.specs.BigText.{big_text}
+use Rattle.um_proof.specs.declared.proofs.Proofs.{Proofs}
+use Rattle.um_proof.specs.declared.stop.ProveStop.{ProveStop}
+use Rattle.um_proof.specs.declared.stop.ProveStop.TheVariants as prove_stop
+use Rattle.um_proof.specs.Proving.{PassesInFunction, IsProved}
 use Rattle.um_answers.specs.Laws.{ExecAnswersAreDone}
 use Rattle.um_answers.proofs.TypedDone.{typed_done}
 
@@ -139,8 +143,14 @@ module _ (one_reading : ReadingsAreUnique) (exec_done : ExecAnswersAreDone) wher
   schemes_done : (asked : Asked) (p : ProgramTree) (text : List ℕ) (status : Status) → IsFormed p → resolved_program asked.raw ≡ Ok p → EachIsTyped p → (IsLimited (infer p) → ⊥)
       → PassesOn asked.order asked.words asked.raw p → SchemesAnswer asked p text status → status ≡ Done
   unfolding SchemesAnswer
-  schemes_done asked p text status formed resolved typed unlimited passes answer =
-      inferred_done asked p (infer p) text status formed resolved refl ((schemes_are_given_to_typed p formed).1 (all_typed p typed, unlimited)) passes answer
+  schemes_done asked p text status formed resolved typed unlimited passes answer = by_schemes asked.order passes answer
+    where
+      given : InferenceAnswer asked p (infer p) text status → status ≡ Done
+      given answer = inferred_done asked p (infer p) text status formed resolved refl ((schemes_are_given_to_typed p formed).1 (all_typed p typed, unlimited)) passes answer
+
+      by_schemes : (order : Order) → PassesOn order asked.words asked.raw p → BySchemes order asked p text status → status ≡ Done
+      by_schemes Prove goes answer = absurd goes
+      by_schemes order goes answer = given answer
 
   shapes_done : (asked : Asked) (p : ProgramTree) (text : List ℕ) (status : Status) → IsFormed p → resolved_program asked.raw ≡ Ok p → first_fault p ≡ None → EachIsTyped p → (IsLimited (infer p) → ⊥)
       → PassesOn asked.order asked.words asked.raw p → ShapesAnswer asked p text status → status ≡ Done
@@ -158,6 +168,28 @@ module _ (one_reading : ReadingsAreUnique) (exec_done : ExecAnswersAreDone) wher
   names_done asked text status readable typed passes (inr (stop, refused, reply)) =
       absurd (not_faulty asked.raw typed.program stop asked.bytes text status typed.resolved refused reply)
 
+  -- a program whose certificates are made
+  proofs_done : (bytes : List ℕ) (p : ProgramTree) (inferred : Inference) (r : Result Proofs ProveStop) (text : List ℕ) (status : Status) → infer p ≡ inferred → (IsLimited (infer p) → ⊥) → ((i : ℕ) (number : ℤ) → PassesInFunction p i number → ⊥)
+      → IsProved p r → IsProofReply bytes p r text status → status ≡ Done
+  proofs_done bytes p inferred (Ok proofs) text status is unlimited held proved reply = reply.1
+  proofs_done bytes p inferred (Err (prove_stop.Slots i)) text status is unlimited held proved reply = absurd (unlimited (subst IsLimited (sym proved) tt))
+  proofs_done bytes p inferred (Err (prove_stop.PowerRange i at)) text status is unlimited held proved reply = absurd (unlimited (subst IsLimited (sym proved) tt))
+  proofs_done bytes p inferred (Err (prove_stop.CertRange i number)) text status is unlimited held proved reply = absurd (held i number proved.1)
+  proofs_done bytes p inferred (Err prove_stop.NoMemory) text status is unlimited held proved reply = absurd reply
+
+  provable_done : (words : List (List ℕ)) (bytes : List ℕ) (raw : List DeclSyntax) (text : List ℕ) (status : Status) → (proves : IsProvable raw) → NamesAnswer (record { order = Prove; words = words; bytes = bytes; raw = raw }) text status → status ≡ Done
+  unfolding NamesAnswer ShapesAnswer SchemesAnswer ProofAnswer
+  provable_done words bytes raw text status proves (inl (p, resolved, answer)) =
+      let ok : Ok p ≡ Ok proves.program = sym resolved ∙ proves.resolved in
+      let same : p ≡ proves.program = cc ok in
+      shaped (subst (λ q. ShapesAnswer (record { order = Prove; words = words; bytes = bytes; raw = raw }) q text status) same answer)
+    where
+      shaped : ShapesAnswer (record { order = Prove; words = words; bytes = bytes; raw = raw }) proves.program text status → status ≡ Done
+      shaped (inl (none, (r, proved, reply))) = proofs_done bytes proves.program (infer proves.program) r text status refl proves.unlimited proves.held proved reply
+      shaped (inr (stop, refused, reply)) = absurd (not_refused proves.program stop bytes text status proves.faultless refused reply)
+  provable_done words bytes raw text status proves (inr (stop, refused, reply)) =
+      absurd (not_faulty raw proves.program stop bytes text status proves.resolved refused reply)
+
   by_layout_done : (order : Order) (words : List (List ℕ)) (bytes : List ℕ) (raw : List DeclSyntax) (text : List ℕ) (status : Status) → IsReadable raw → GoesThrough order words raw
       → ByLayout order (record { order = order; words = words; bytes = bytes; raw = raw }) text status → status ≡ Done
   by_layout_done Fmt words bytes raw text status readable goes reply = reply.1
@@ -170,6 +202,7 @@ module _ (one_reading : ReadingsAreUnique) (exec_done : ExecAnswersAreDone) wher
   by_layout_done Rescale words bytes raw text status readable (typed, passes) answer = names_done (record { order = Rescale; words = words; bytes = bytes; raw = raw }) text status readable typed passes answer
   by_layout_done (Twin budget) words bytes raw text status readable (typed, passes) answer = names_done (record { order = Twin budget; words = words; bytes = bytes; raw = raw }) text status readable typed passes answer
   by_layout_done (Big n) words bytes raw text status readable (typed, passes) answer = names_done (record { order = Big n; words = words; bytes = bytes; raw = raw }) text status readable typed passes answer
+  by_layout_done Prove words bytes raw text status readable proves answer = provable_done words bytes raw text status proves answer
   by_layout_done Image words bytes raw text status readable (typed, passes) answer = names_done (record { order = Image; words = words; bytes = bytes; raw = raw }) text status readable typed passes answer
   by_layout_done (Exec budget) words bytes raw text status readable (typed, passes) answer = names_done (record { order = Exec budget; words = words; bytes = bytes; raw = raw }) text status readable typed passes answer
 

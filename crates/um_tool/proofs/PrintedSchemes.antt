@@ -46,7 +46,7 @@ schemes_printed bytes raw p formed (stops_at_not_general i row at) text is answe
 
 pub printed_types_are_principal_schemes : PrintedTypesArePrincipalSchemes
 printed_types_are_principal_schemes bytes text answer =
-    let r = reached Types (codes "types" ∷ []) bytes text Done refl (λ raw a. a) types_ordered refl answer in
+    let r = reached Types (codes "types" ∷ []) bytes text Done refl (λ raw a. a) (λ raw p a. a) types_ordered refl answer in
     (r.0, r.1, schemes_printed bytes r.1.raw r.0 r.2 (infer r.0) text refl r.3)
 
 -- the function that is declared at a number is one
@@ -65,7 +65,7 @@ untyped_named bytes raw p formed (stops_at_units i row at) text is (f, declared,
 
 pub units_name_the_first_untyped : UnitsNameTheFirstUntyped
 units_name_the_first_untyped bytes text answer =
-    let r = reached Types (codes "types" ∷ []) bytes text Units refl (λ raw a. a) types_ordered refl answer in
+    let r = reached Types (codes "types" ∷ []) bytes text Units refl (λ raw a. a) (λ raw p a. a) types_ordered refl answer in
     (r.0, r.1, untyped_named bytes r.1.raw r.0 r.2 (infer r.0) text refl r.3)
 
 less_general_named : (bytes : List ℕ) (raw : List DeclSyntax) (p : ProgramTree) → IsFormed p → (inferred : Inference) (text : List ℕ) → infer p ≡ inferred → InferenceAnswer (types_asked bytes raw) p inferred text NotGeneral
@@ -81,7 +81,7 @@ less_general_named bytes raw p formed (stops_at_not_general i row at) text is (f
 
 pub not_general_names_the_first_untyped : NotGeneralNamesTheFirstUntyped
 not_general_names_the_first_untyped bytes text answer =
-    let r = reached Types (codes "types" ∷ []) bytes text NotGeneral refl (λ raw a. a) types_ordered refl answer in
+    let r = reached Types (codes "types" ∷ []) bytes text NotGeneral refl (λ raw a. a) (λ raw p a. a) types_ordered refl answer in
     (r.0, r.1, less_general_named bytes r.1.raw r.0 r.2 (infer r.0) text refl r.3)
 
 -- ---- the code
@@ -95,5 +95,5 @@ code_printed bytes raw p (stops_at_not_general i row at) text answer = absurd (c
 
 pub printed_code_is_the_programs_code : PrintedCodeIsTheProgramsCode
 printed_code_is_the_programs_code bytes text answer =
-    let r = reached Code (codes "code" ∷ []) bytes text Done refl (λ raw a. a) code_ordered refl answer in
+    let r = reached Code (codes "code" ∷ []) bytes text Done refl (λ raw a. a) (λ raw p a. a) code_ordered refl answer in
     (r.0, r.1, code_printed bytes r.1.raw r.0 (infer r.0) text r.3)

@@ -27,7 +27,7 @@ use Rattle.um_reports.specs.declared.status.Status.TheVariants.{Done, TooLong, U
 use Rattle.um_reports.specs.Refusals.{IsTextReply, IsParseReply, IsNameReply, IsShapeReply}
 use Rattle.um_answers.specs.Asked.{Asked}
 use Rattle.um_orders.specs.Orders.{order_of, intake_of}
-use Rattle.um_tool.specs.Answer.{Answer, IntakeAnswer, LengthAnswer, TokensAnswer, GrammarAnswer, ProgramAnswer, ByLayout, NamesAnswer, ShapesAnswer, SchemesAnswer, InferenceAnswer}
+use Rattle.um_tool.specs.Answer.{Answer, IntakeAnswer, LengthAnswer, TokensAnswer, GrammarAnswer, ProgramAnswer, ByLayout, NamesAnswer, ShapesAnswer, SchemesAnswer, BySchemes, InferenceAnswer}
 use Rattle.um_tool.specs.Laws.{SpellsProgram}
 
 -- the statuses that no step before the schemes answers
@@ -92,47 +92,51 @@ module _ (order : Order) (words : List (List ℕ)) (bytes text : List ℕ) (stat
   abbrev pub LooksUp : Type 0
   LooksUp = (raw : List DeclSyntax) → ByLayout order (asked_with raw) text status → NamesAnswer (asked_with raw) text status
 
-  schemes_reached : (raw : List DeclSyntax) (p : ProgramTree) → SchemesAnswer (asked_with raw) p text status → InferenceAnswer (asked_with raw) p (infer p) text status
-  unfolding SchemesAnswer
-  schemes_reached raw p answer = answer
+  -- and it is answered where each function has its scheme
+  abbrev pub Infers : Type 0
+  Infers = (raw : List DeclSyntax) (p : ProgramTree) → BySchemes order (asked_with raw) p text status → InferenceAnswer (asked_with raw) p (infer p) text status
 
-  shapes_reached : (tokens : List Token) (raw : List DeclSyntax) (p : ProgramTree) → IsFormed p → IsTextAnswer bytes (Ok tokens) → IsRead tokens raw → resolved_program raw ≡ Ok p → ShapesAnswer (asked_with raw) p text status → Reached
+  schemes_reached : Infers → (raw : List DeclSyntax) (p : ProgramTree) → SchemesAnswer (asked_with raw) p text status → InferenceAnswer (asked_with raw) p (infer p) text status
+  unfolding SchemesAnswer
+  schemes_reached infers raw p answer = infers raw p answer
+
+  shapes_reached : Infers → (tokens : List Token) (raw : List DeclSyntax) (p : ProgramTree) → IsFormed p → IsTextAnswer bytes (Ok tokens) → IsRead tokens raw → resolved_program raw ≡ Ok p → ShapesAnswer (asked_with raw) p text status → Reached
   unfolding ShapesAnswer
-  shapes_reached tokens raw p formed lexed read resolved (inl (faultless, answer)) = (
+  shapes_reached infers tokens raw p formed lexed read resolved (inl (faultless, answer)) = (
     p,
     record { tokens = tokens; lexed = lexed; raw = raw; read = read; resolved = resolved; faultless = faultless },
     formed,
-    schemes_reached raw p answer,
+    schemes_reached infers raw p answer,
   )
-  shapes_reached tokens raw p formed lexed read resolved (inr (stop, refused, reply)) = absurd (shape_refusal bytes stop text status reply last)
+  shapes_reached infers tokens raw p formed lexed read resolved (inr (stop, refused, reply)) = absurd (shape_refusal bytes stop text status reply last)
 
-  names_reached : (tokens : List Token) (raw : List DeclSyntax) → IsReadable raw → IsTextAnswer bytes (Ok tokens) → IsRead tokens raw → NamesAnswer (asked_with raw) text status → Reached
+  names_reached : Infers → (tokens : List Token) (raw : List DeclSyntax) → IsReadable raw → IsTextAnswer bytes (Ok tokens) → IsRead tokens raw → NamesAnswer (asked_with raw) text status → Reached
   unfolding NamesAnswer
-  names_reached tokens raw readable lexed read (inl (p, resolved, answer)) = shapes_reached tokens raw p (resolution_formed raw p readable resolved) lexed read resolved answer
-  names_reached tokens raw readable lexed read (inr (stop, refused, reply)) = absurd (name_refusal bytes stop text status reply last)
+  names_reached infers tokens raw readable lexed read (inl (p, resolved, answer)) = shapes_reached infers tokens raw p (resolution_formed raw p readable resolved) lexed read resolved answer
+  names_reached infers tokens raw readable lexed read (inr (stop, refused, reply)) = absurd (name_refusal bytes stop text status reply last)
 
-  program_reached : LooksUp → (tokens : List Token) (raw : List DeclSyntax) → IsReadable raw → IsTextAnswer bytes (Ok tokens) → IsRead tokens raw → ProgramAnswer (asked_with raw) text status → Reached
+  program_reached : LooksUp → Infers → (tokens : List Token) (raw : List DeclSyntax) → IsReadable raw → IsTextAnswer bytes (Ok tokens) → IsRead tokens raw → ProgramAnswer (asked_with raw) text status → Reached
   unfolding ProgramAnswer
-  program_reached looks tokens raw readable lexed read answer = names_reached tokens raw readable lexed read (looks raw answer)
+  program_reached looks infers tokens raw readable lexed read answer = names_reached infers tokens raw readable lexed read (looks raw answer)
 
-  grammar_reached : LooksUp → (tokens : List Token) → length bytes ≤ 1048576 → IsTextAnswer bytes (Ok tokens) → GrammarAnswer order words bytes tokens text status → Reached
+  grammar_reached : LooksUp → Infers → (tokens : List Token) → length bytes ≤ 1048576 → IsTextAnswer bytes (Ok tokens) → GrammarAnswer order words bytes tokens text status → Reached
   unfolding GrammarAnswer
-  grammar_reached looks tokens short lexed (inl (raw, read, answer)) = program_reached looks tokens raw (readable_program bytes tokens raw lexed.0 short lexed.1 read) lexed read answer
-  grammar_reached looks tokens short lexed (inr (stop, refused, reply)) = absurd (parse_refusal bytes stop text status reply last)
+  grammar_reached looks infers tokens short lexed (inl (raw, read, answer)) = program_reached looks infers tokens raw (readable_program bytes tokens raw lexed.0 short lexed.1 read) lexed read answer
+  grammar_reached looks infers tokens short lexed (inr (stop, refused, reply)) = absurd (parse_refusal bytes stop text status reply last)
 
-  tokens_reached : LooksUp → length bytes ≤ 1048576 → TokensAnswer order words bytes text status → Reached
+  tokens_reached : LooksUp → Infers → length bytes ≤ 1048576 → TokensAnswer order words bytes text status → Reached
   unfolding TokensAnswer
-  tokens_reached looks short (inl (tokens, lexed, answer)) = grammar_reached looks tokens short lexed answer
-  tokens_reached looks short (inr (stop, refused, reply)) = absurd (text_refusal bytes stop text status reply last)
+  tokens_reached looks infers short (inl (tokens, lexed, answer)) = grammar_reached looks infers tokens short lexed answer
+  tokens_reached looks infers short (inr (stop, refused, reply)) = absurd (text_refusal bytes stop text status reply last)
 
-  length_reached : LooksUp → LengthAnswer order words bytes text status → Reached
+  length_reached : LooksUp → Infers → LengthAnswer order words bytes text status → Reached
   unfolding LengthAnswer
-  length_reached looks (inl (long, reply)) = absurd (refuted status TooLong reply.1 refl last)
-  length_reached looks (inr (short, answer)) = tokens_reached looks (within (length bytes) short) answer
+  length_reached looks infers (inl (long, reply)) = absurd (refuted status TooLong reply.1 refl last)
+  length_reached looks infers (inr (short, answer)) = tokens_reached looks infers (within (length bytes) short) answer
 
-  pub reached : LooksUp → order_of words ≡ Some order → intake_of order ≡ Text → Answer words bytes text status → Reached
+  pub reached : LooksUp → Infers → order_of words ≡ Some order → intake_of order ≡ Text → Answer words bytes text status → Reached
   unfolding Answer
-  reached looks ordered takes answer =
+  reached looks infers ordered takes answer =
       let given : IntakeAnswer (intake_of order) order words bytes text status = rw ordered at answer in
       let taken : IntakeAnswer Text order words bytes text status = rw takes at given in
-      length_reached looks taken
+      length_reached looks infers taken

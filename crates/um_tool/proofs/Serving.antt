@@ -8,7 +8,7 @@ use Rattle.um_wire.specs.declared.read.ReadStop.{ReadStop}
 use Rattle.um_wire.specs.declared.read.ReadStop.TheVariants.{TooLong as TooLongToRead, Failed as ReadFailed, NoMemory as OutOfMemory}
 use Rattle.um_orders.specs.declared.order.Order.{Order}
 use Rattle.um_orders.specs.declared.order.Intake.{Intake}
-use Rattle.um_orders.specs.declared.order.Order.TheVariants.{Types, Code, Fmt, Run, Steps, Eval, Conform, Rescale, Twin, Big, Image, Exec}
+use Rattle.um_orders.specs.declared.order.Order.TheVariants.{Types, Code, Fmt, Run, Steps, Eval, Conform, Rescale, Twin, Big, Prove, Image, Exec}
 use Rattle.um_orders.specs.declared.order.Intake.TheVariants.{Generated, Text, Bytes}
 use Rattle.um_reports.specs.declared.status.Status.{Status}
 use Rattle.um_reports.specs.declared.status.Status.TheVariants.{Usage, ReadFault, WriteFault}
@@ -86,6 +86,7 @@ taken_for_exec (Eval b) n takes = absurd (cc takes)
 taken_for_exec Conform n takes = absurd (cc takes)
 taken_for_exec Rescale n takes = absurd (cc takes)
 taken_for_exec (Twin b) n takes = absurd (cc takes)
+taken_for_exec Prove n takes = absurd (cc takes)
 taken_for_exec Image n takes = absurd (cc takes)
 
 module _ (words : List (List ℕ)) (left : Option (List ℕ)) (before now budget : ℕ) (ordered : order_of words ≡ Some (Exec budget)) where

@@ -1,18 +1,21 @@
 -- Which statuses an answer may have: none of the faults'.
-use Rattle.std.proofs.Common.{ℕ, List, IsTrue, None, Some, MatchOption, codes, refl, inl, inr}
+use Rattle.std.proofs.Common.{ℕ, List, IsTrue, None, Some, Result, Ok, Err, MatchOption, codes, refl, inl, inr}
 use Rattle.std.specs.declared.option.Option.{Option}
 use Rattle.um_syntax.specs.declared.token.Token.{Token}
 use Rattle.um_tree.specs.ProgramTree.{ProgramTree}
 use Rattle.um_reports.specs.declared.status.Status.{Status}
 use Rattle.um_reports.specs.declared.status.Status.TheVariants.{Usage}
 use Rattle.um_orders.specs.declared.order.Order.{Order}
-use Rattle.um_orders.specs.declared.order.Order.TheVariants.{Types, Code, Fmt, Run, Steps, Eval, Conform, Rescale, Twin, Big, Image, Exec}
+use Rattle.um_orders.specs.declared.order.Order.TheVariants.{Types, Code, Fmt, Run, Steps, Eval, Conform, Rescale, Twin, Big, Prove, Image, Exec}
 use Rattle.um_orders.specs.declared.order.Intake.{Intake}
 use Rattle.um_orders.specs.declared.order.Intake.TheVariants.{Generated, Text, Bytes}
 use Rattle.um_infer.specs.Inference.{Inference, all_schemes, stops_at_slots, stops_at_range, stops_at_units, stops_at_not_general, infer}
 use Rattle.um_big.specs.BigText.{big_text}
+use Rattle.um_proof.specs.declared.proofs.Proofs.{Proofs}
+use Rattle.um_proof.specs.declared.stop.ProveStop.{ProveStop}
+use Rattle.um_proof.specs.declared.stop.ProveStop.TheVariants as prove_stop
 use Rattle.um_answers.specs.Asked.{Asked}
-use Rattle.um_tool.specs.Answer.{Answer, IntakeAnswer, SizeAnswer, LengthAnswer, TokensAnswer, GrammarAnswer, ProgramAnswer, ByLayout, NamesAnswer, ShapesAnswer, SchemesAnswer, InferenceAnswer}
+use Rattle.um_tool.specs.Answer.{Answer, IntakeAnswer, SizeAnswer, LengthAnswer, TokensAnswer, GrammarAnswer, ProgramAnswer, ByLayout, NamesAnswer, ShapesAnswer, SchemesAnswer, BySchemes, IsProofReply, ProofAnswer, InferenceAnswer}
 use Rattle.um_orders.specs.Orders.{order_of, intake_of}
 use Rattle.um_reports.specs.Steps.{IsReply, line}
 use Rattle.um_reports.proofs.ReportStatuses.{is_answered, text_reply, parse_reply, name_reply, shape_reply}
@@ -26,9 +29,21 @@ inference_status asked p (stops_at_range i at) text status answer = rw answer.2.
 inference_status asked p (stops_at_units i row at) text status answer = rw answer.2.1 refl
 inference_status asked p (stops_at_not_general i row at) text status answer = rw answer.2.1 refl
 
+proof_reply : (bytes : List ℕ) (p : ProgramTree) (r : Result Proofs ProveStop) (text : List ℕ) (status : Status) → IsProofReply bytes p r text status → IsTrue (is_answered status)
+proof_reply bytes p (Ok proofs) text status reply = rw reply.1 refl
+proof_reply bytes p (Err (prove_stop.Slots i)) text status reply = rw reply.2.1 refl
+proof_reply bytes p (Err (prove_stop.PowerRange i at)) text status reply = rw reply.2.1 refl
+proof_reply bytes p (Err (prove_stop.CertRange i number)) text status reply = rw reply.2.1 refl
+proof_reply bytes p (Err prove_stop.NoMemory) text status reply = absurd reply
+
+by_schemes_status : (order : Order) (asked : Asked) (p : ProgramTree) (text : List ℕ) (status : Status) → BySchemes order asked p text status → IsTrue (is_answered status)
+unfolding ProofAnswer
+by_schemes_status Prove asked p text status (r, proved, reply) = proof_reply asked.bytes p r text status reply
+by_schemes_status order asked p text status answer = inference_status asked p (infer p) text status answer
+
 SchemesAnswer-status : (asked : Asked) (p : ProgramTree) (text : List ℕ) (status : Status) → SchemesAnswer asked p text status → IsTrue (is_answered status)
 unfolding SchemesAnswer
-SchemesAnswer-status asked p text status answer = inference_status asked p (infer p) text status answer
+SchemesAnswer-status asked p text status answer = by_schemes_status asked.order asked p text status answer
 
 ShapesAnswer-status : (asked : Asked) (p : ProgramTree) (text : List ℕ) (status : Status) → ShapesAnswer asked p text status → IsTrue (is_answered status)
 unfolding ShapesAnswer
@@ -51,6 +66,7 @@ by_layout_status Conform asked text status answer = NamesAnswer-status asked tex
 by_layout_status Rescale asked text status answer = NamesAnswer-status asked text status answer
 by_layout_status (Twin budget) asked text status answer = NamesAnswer-status asked text status answer
 by_layout_status (Big n) asked text status answer = NamesAnswer-status asked text status answer
+by_layout_status Prove asked text status answer = NamesAnswer-status asked text status answer
 by_layout_status Image asked text status answer = NamesAnswer-status asked text status answer
 by_layout_status (Exec budget) asked text status answer = NamesAnswer-status asked text status answer
 

@@ -82,7 +82,7 @@ module _ (words : List (List ℕ)) (bytes text : List ℕ) where
 
 pub rescaled_texts_are_rescaled : RescaledTextsAreRescaled
 rescaled_texts_are_rescaled words bytes text ordered answer =
-    let r = reached Rescale words bytes text Done refl (λ raw a. a) ordered refl answer in
+    let r = reached Rescale words bytes text Done refl (λ raw a. a) (λ raw p a. a) ordered refl answer in
     typed_says words bytes text r.0 r.1 (infer r.0) r.3
 
 -- ---- `twin`
@@ -170,5 +170,5 @@ module _ (budget : ℕ) (words : List (List ℕ)) (bytes text : List ℕ) (statu
 
 pub ended_twins_are_related : EndedTwinsAreRelated
 ended_twins_are_related budget words bytes text status ordered answer ends =
-    let r = reached (Twin budget) words bytes text status (last_of_calls status ends) (λ raw a. a) ordered refl answer in
+    let r = reached (Twin budget) words bytes text status (last_of_calls status ends) (λ raw a. a) (λ raw p a. a) ordered refl answer in
     typed_related budget words bytes text status ends r.0 r.1 (infer r.0) r.2 refl r.3

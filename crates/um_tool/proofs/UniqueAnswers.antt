@@ -1,5 +1,5 @@
 -- The answer to words and bytes is one.
-use Rattle.std.proofs.Common.{◌≡◌, ℕ, ◌<◌, ◌≤◌, ◌⊎◌, List, [], length, Ok, Err, Some, None, MatchOption, codes, refl, inl, inr, sym, subst, ◌∙◌, arith}
+use Rattle.std.proofs.Common.{◌≡◌, ℕ, ◌<◌, ◌≤◌, ◌⊎◌, List, [], length, Ok, Err, Some, None, MatchOption, codes, refl, inl, inr, sym, subst, ◌∙◌, arith, ap}
 use Rattle.std.specs.declared.option.Option.{Option}
 use Rattle.std.specs.Str.{chars, IsUtf8, IsValidUpTo}
 use Rattle.std.proofs.lemmas.Bool.{cases_lt}
@@ -31,7 +31,7 @@ use Rattle.um_readable.proofs.TextBytes.{readable_program}
 use Rattle.um_infer.specs.Inference.{Inference, all_schemes, stops_at_slots, stops_at_range, stops_at_units, stops_at_not_general, infer}
 use Rattle.um_types.specs.declared.parse.LimitKind.TheVariants as limit
 use Rattle.um_orders.specs.declared.order.Order.{Order}
-use Rattle.um_orders.specs.declared.order.Order.TheVariants.{Types, Code, Fmt, Run, Steps, Eval, Conform, Rescale, Twin, Big, Image, Exec}
+use Rattle.um_orders.specs.declared.order.Order.TheVariants.{Types, Code, Fmt, Run, Steps, Eval, Conform, Rescale, Twin, Big, Prove, Image, Exec}
 use Rattle.um_orders.specs.declared.order.Intake.{Intake}
 use Rattle.um_orders.specs.declared.order.Intake.TheVariants.{Generated, Text, Bytes}
 use Rattle.um_reports.specs.declared.status.Status.{Status}
@@ -40,7 +40,7 @@ use Rattle.um_reports.specs.Steps.{line, IsReply}
 use Rattle.um_orders.specs.Orders.{order_of, intake_of}
 use Rattle.um_reports.specs.Refusals.{placed, limit_label, IsTextReply, IsParseReply, IsNameReply, IsShapeReply}
 use Rattle.um_answers.specs.Asked.{Asked}
-use Rattle.um_tool.specs.Answer.{Answer, IntakeAnswer, SizeAnswer, LengthAnswer, TokensAnswer, GrammarAnswer, ProgramAnswer, ByLayout, NamesAnswer, ShapesAnswer, SchemesAnswer, InferenceAnswer, OfFunction}
+use Rattle.um_tool.specs.Answer.{Answer, IntakeAnswer, SizeAnswer, LengthAnswer, TokensAnswer, GrammarAnswer, ProgramAnswer, ByLayout, NamesAnswer, ShapesAnswer, SchemesAnswer, BySchemes, InferenceAnswer, OfFunction}
 use Rattle.um_sig.specs.Laws.{ReadingsAreUnique}
 use Rattle.um_answers.specs.Laws.{ExecAnswersAreUnique}
 use Rattle.um_tool.specs.Laws.{AnswersAreUnique}
@@ -165,9 +165,22 @@ module _ (one_answer : ParsesAreUnique) (one_reading : ReadingsAreUnique) (one_e
   inference_one asked p (stops_at_units i row at) formed a b = of_one_function p i _ _ (λ f x y. (x.0 ∙ sym y.0, x.1 ∙ sym y.1)) a b
   inference_one asked p (stops_at_not_general i row at) formed a b = of_one_function p i _ _ (λ f x y. (x.0 ∙ sym y.0, x.1 ∙ sym y.1)) a b
 
-  schemes_one : (asked : Asked) (p : ProgramTree) → IsFormed p → SchemesAnswer asked p text status → SchemesAnswer asked p other another → (text ≡ other) × (status ≡ another)
+  -- an order has one answer, but for certificates
+  abbrev HasOneAnswer : Order → Type 0
+  HasOneAnswer Prove = ⊥
+  HasOneAnswer order = Unit {0}
+
+  one_unless_proof : (order : Order) → (order ≡ Prove → ⊥) → HasOneAnswer order
+  one_unless_proof Prove other = absurd (other refl)
+  one_unless_proof order other = tt
+
+  by_schemes_one : (order : Order) (asked : Asked) (p : ProgramTree) → HasOneAnswer order → IsFormed p → BySchemes order asked p text status → BySchemes order asked p other another → (text ≡ other) × (status ≡ another)
+  by_schemes_one Prove asked p only formed a b = absurd only
+  by_schemes_one order asked p only formed a b = inference_one asked p (infer p) formed a b
+
+  schemes_one : (asked : Asked) (p : ProgramTree) → HasOneAnswer asked.order → IsFormed p → SchemesAnswer asked p text status → SchemesAnswer asked p other another → (text ≡ other) × (status ≡ another)
   unfolding SchemesAnswer
-  schemes_one asked p formed a b = inference_one asked p (infer p) formed a b
+  schemes_one asked p only formed a b = by_schemes_one asked.order asked p only formed a b
 
   one_shape_refusal : (bytes : List ℕ) (found : Option ShapeFault) (stop sort : ShapeStop) → IsRefusal found stop → IsShapeReply bytes stop text status → IsRefusal found sort → IsShapeReply bytes sort other another → (text ≡ other) × (status ≡ another)
   one_shape_refusal bytes found stop sort is a also b =
@@ -175,12 +188,12 @@ module _ (one_answer : ParsesAreUnique) (one_reading : ReadingsAreUnique) (one_e
       let e : Some x.0 ≡ Some y.0 = sym x.1 ∙ y.1 in let same : x.0 ≡ y.0 = cc e in
       let c = subst (λ f. IsReply text status (shape_line bytes text status f) (shape_status bytes text status f)) same x.2 in (c.0 ∙ sym y.2.0, c.1 ∙ sym y.2.1)
 
-  shapes_one : (asked : Asked) (p : ProgramTree) → IsFormed p → ShapesAnswer asked p text status → ShapesAnswer asked p other another → (text ≡ other) × (status ≡ another)
+  shapes_one : (asked : Asked) (p : ProgramTree) → HasOneAnswer asked.order → IsFormed p → ShapesAnswer asked p text status → ShapesAnswer asked p other another → (text ≡ other) × (status ≡ another)
   unfolding ShapesAnswer
-  shapes_one asked p formed (inl (faultless, a)) (inl (also, b)) = schemes_one asked p formed a b
-  shapes_one asked p formed (inl (faultless, a)) (inr (stop, refused, reply)) = absurd (not_refused p stop asked.bytes other another faultless refused reply)
-  shapes_one asked p formed (inr (stop, refused, reply)) (inl (faultless, b)) = absurd (not_refused p stop asked.bytes text status faultless refused reply)
-  shapes_one asked p formed (inr (stop, refused, reply)) (inr (sort, also, told)) = one_shape_refusal asked.bytes (first_fault p) stop sort refused reply also told
+  shapes_one asked p only formed (inl (faultless, a)) (inl (also, b)) = schemes_one asked p only formed a b
+  shapes_one asked p only formed (inl (faultless, a)) (inr (stop, refused, reply)) = absurd (not_refused p stop asked.bytes other another faultless refused reply)
+  shapes_one asked p only formed (inr (stop, refused, reply)) (inl (faultless, b)) = absurd (not_refused p stop asked.bytes text status faultless refused reply)
+  shapes_one asked p only formed (inr (stop, refused, reply)) (inr (sort, also, told)) = one_shape_refusal asked.bytes (first_fault p) stop sort refused reply also told
 
   one_name_refusal : (bytes : List ℕ) (found : Found ProgramTree) (stop sort : NameStop) → IsFirst found stop → IsNameReply bytes stop text status → IsFirst found sort → IsNameReply bytes sort other another → (text ≡ other) × (status ≡ another)
   one_name_refusal bytes found stop sort is a also b =
@@ -188,58 +201,59 @@ module _ (one_answer : ParsesAreUnique) (one_reading : ReadingsAreUnique) (one_e
       let e : Err x.0 ≡ Err y.0 = sym x.1 ∙ y.1 in let same : x.0 ≡ y.0 = cc e in
       let c = subst (λ f. IsReply text status (name_line bytes text status f) (name_status bytes text status f)) same x.2 in (c.0 ∙ sym y.2.0, c.1 ∙ sym y.2.1)
 
-  names_one : (asked : Asked) → IsReadable asked.raw → NamesAnswer asked text status → NamesAnswer asked other another → (text ≡ other) × (status ≡ another)
+  names_one : (asked : Asked) → HasOneAnswer asked.order → IsReadable asked.raw → NamesAnswer asked text status → NamesAnswer asked other another → (text ≡ other) × (status ≡ another)
   unfolding NamesAnswer
-  names_one asked readable (inl (p, resolved, a)) (inl (q, is, b)) =
+  names_one asked only readable (inl (p, resolved, a)) (inl (q, is, b)) =
       let e : Ok p ≡ Ok q = sym resolved ∙ is in let same : p ≡ q = cc e in
-      shapes_one asked q (resolution_formed asked.raw q readable is) (subst (λ r. ShapesAnswer asked r text status) same a) b
-  names_one asked readable (inl (p, resolved, a)) (inr (stop, refused, reply)) = absurd (not_faulty asked.raw p stop asked.bytes other another resolved refused reply)
-  names_one asked readable (inr (stop, refused, reply)) (inl (q, is, b)) = absurd (not_faulty asked.raw q stop asked.bytes text status is refused reply)
-  names_one asked readable (inr (stop, refused, reply)) (inr (sort, also, told)) = one_name_refusal asked.bytes (resolved_program asked.raw) stop sort refused reply also told
+      shapes_one asked q only (resolution_formed asked.raw q readable is) (subst (λ r. ShapesAnswer asked r text status) same a) b
+  names_one asked only readable (inl (p, resolved, a)) (inr (stop, refused, reply)) = absurd (not_faulty asked.raw p stop asked.bytes other another resolved refused reply)
+  names_one asked only readable (inr (stop, refused, reply)) (inl (q, is, b)) = absurd (not_faulty asked.raw q stop asked.bytes text status is refused reply)
+  names_one asked only readable (inr (stop, refused, reply)) (inr (sort, also, told)) = one_name_refusal asked.bytes (resolved_program asked.raw) stop sort refused reply also told
 
-  by_layout_one : (order : Order) (asked : Asked) → IsReadable asked.raw → ByLayout order asked text status → ByLayout order asked other another → (text ≡ other) × (status ≡ another)
-  by_layout_one Fmt asked readable a b = (a.0 ∙ sym b.0, a.1 ∙ sym b.1)
-  by_layout_one Types asked readable a b = names_one asked readable a b
-  by_layout_one Code asked readable a b = names_one asked readable a b
-  by_layout_one (Run budget) asked readable a b = names_one asked readable a b
-  by_layout_one (Steps budget) asked readable a b = names_one asked readable a b
-  by_layout_one (Eval budget) asked readable a b = names_one asked readable a b
-  by_layout_one Conform asked readable a b = names_one asked readable a b
-  by_layout_one Rescale asked readable a b = names_one asked readable a b
-  by_layout_one (Twin budget) asked readable a b = names_one asked readable a b
-  by_layout_one (Big n) asked readable a b = names_one asked readable a b
-  by_layout_one Image asked readable a b = names_one asked readable a b
-  by_layout_one (Exec budget) asked readable a b = names_one asked readable a b
+  by_layout_one : (order : Order) (asked : Asked) → HasOneAnswer asked.order → IsReadable asked.raw → ByLayout order asked text status → ByLayout order asked other another → (text ≡ other) × (status ≡ another)
+  by_layout_one Fmt asked only readable a b = (a.0 ∙ sym b.0, a.1 ∙ sym b.1)
+  by_layout_one Types asked only readable a b = names_one asked only readable a b
+  by_layout_one Code asked only readable a b = names_one asked only readable a b
+  by_layout_one (Run budget) asked only readable a b = names_one asked only readable a b
+  by_layout_one (Steps budget) asked only readable a b = names_one asked only readable a b
+  by_layout_one (Eval budget) asked only readable a b = names_one asked only readable a b
+  by_layout_one Conform asked only readable a b = names_one asked only readable a b
+  by_layout_one Rescale asked only readable a b = names_one asked only readable a b
+  by_layout_one (Twin budget) asked only readable a b = names_one asked only readable a b
+  by_layout_one (Big n) asked only readable a b = names_one asked only readable a b
+  by_layout_one Prove asked only readable a b = names_one asked only readable a b
+  by_layout_one Image asked only readable a b = names_one asked only readable a b
+  by_layout_one (Exec budget) asked only readable a b = names_one asked only readable a b
 
-  program_one : (asked : Asked) → IsReadable asked.raw → ProgramAnswer asked text status → ProgramAnswer asked other another → (text ≡ other) × (status ≡ another)
+  program_one : (asked : Asked) → HasOneAnswer asked.order → IsReadable asked.raw → ProgramAnswer asked text status → ProgramAnswer asked other another → (text ≡ other) × (status ≡ another)
   unfolding ProgramAnswer
-  program_one asked readable a b = by_layout_one asked.order asked readable a b
+  program_one asked only readable a b = by_layout_one asked.order asked only readable a b
 
-  grammar_one : (order : Order) (words : List (List ℕ)) (bytes : List ℕ) (tokens : List Token) → length bytes ≤ 1048576 → IsTextAnswer bytes (Ok tokens) → GrammarAnswer order words bytes tokens text status → GrammarAnswer order words bytes tokens other another → (text ≡ other) × (status ≡ another)
+  grammar_one : (order : Order) → HasOneAnswer order → (words : List (List ℕ)) (bytes : List ℕ) (tokens : List Token) → length bytes ≤ 1048576 → IsTextAnswer bytes (Ok tokens) → GrammarAnswer order words bytes tokens text status → GrammarAnswer order words bytes tokens other another → (text ≡ other) × (status ≡ another)
   unfolding GrammarAnswer
-  grammar_one order words bytes tokens short lexed (inl (raw, read, a)) (inl (ds, is, b)) =
-      program_one (record { order = order; words = words; bytes = bytes; raw = ds }) (readable_program bytes tokens ds lexed.0 short lexed.1 is)
+  grammar_one order only words bytes tokens short lexed (inl (raw, read, a)) (inl (ds, is, b)) =
+      program_one (record { order = order; words = words; bytes = bytes; raw = ds }) only (readable_program bytes tokens ds lexed.0 short lexed.1 is)
       (subst (λ es. ProgramAnswer (record { order = order; words = words; bytes = bytes; raw = es }) text status) (is.only raw read.is) a) b
-  grammar_one order words bytes tokens short lexed (inl (raw, read, a)) (inr (stop, refused, reply)) = absurd (program_not_refused tokens raw (length bytes) stop bytes other another read refused reply)
-  grammar_one order words bytes tokens short lexed (inr (stop, refused, reply)) (inl (ds, is, b)) = absurd (program_not_refused tokens ds (length bytes) stop bytes text status is refused reply)
-  grammar_one order words bytes tokens short lexed (inr (stop, refused, reply)) (inr (sort, also, told)) =
+  grammar_one order only words bytes tokens short lexed (inl (raw, read, a)) (inr (stop, refused, reply)) = absurd (program_not_refused tokens raw (length bytes) stop bytes other another read refused reply)
+  grammar_one order only words bytes tokens short lexed (inr (stop, refused, reply)) (inl (ds, is, b)) = absurd (program_not_refused tokens ds (length bytes) stop bytes text status is refused reply)
+  grammar_one order only words bytes tokens short lexed (inr (stop, refused, reply)) (inr (sort, also, told)) =
       one_parse_refusal bytes stop sort (one_answer tokens (length bytes) (Err stop) (Err sort) refused also) reply told
 
-  tokens_one : (order : Order) (words : List (List ℕ)) (bytes : List ℕ) → length bytes ≤ 1048576 → TokensAnswer order words bytes text status → TokensAnswer order words bytes other another → (text ≡ other) × (status ≡ another)
+  tokens_one : (order : Order) → HasOneAnswer order → (words : List (List ℕ)) (bytes : List ℕ) → length bytes ≤ 1048576 → TokensAnswer order words bytes text status → TokensAnswer order words bytes other another → (text ≡ other) × (status ≡ another)
   unfolding TokensAnswer
-  tokens_one order words bytes short (inl (tokens, lexed, a)) (inl (ts, is, b)) =
-      grammar_one order words bytes ts short is (subst (λ us. GrammarAnswer order words bytes us text status) (unique_tokens (chars bytes) tokens ts lexed.1 is.1) a) b
-  tokens_one order words bytes short (inl (tokens, lexed, a)) (inr (stop, refused, reply)) = absurd (text_not_refused bytes tokens stop other another lexed refused reply)
-  tokens_one order words bytes short (inr (stop, refused, reply)) (inl (ts, is, b)) = absurd (text_not_refused bytes ts stop text status is refused reply)
-  tokens_one order words bytes short (inr (stop, refused, reply)) (inr (sort, also, told)) =
+  tokens_one order only words bytes short (inl (tokens, lexed, a)) (inl (ts, is, b)) =
+      grammar_one order only words bytes ts short is (subst (λ us. GrammarAnswer order words bytes us text status) (unique_tokens (chars bytes) tokens ts lexed.1 is.1) a) b
+  tokens_one order only words bytes short (inl (tokens, lexed, a)) (inr (stop, refused, reply)) = absurd (text_not_refused bytes tokens stop other another lexed refused reply)
+  tokens_one order only words bytes short (inr (stop, refused, reply)) (inl (ts, is, b)) = absurd (text_not_refused bytes ts stop text status is refused reply)
+  tokens_one order only words bytes short (inr (stop, refused, reply)) (inr (sort, also, told)) =
       one_text_refusal bytes (text_told bytes text status stop refused reply) (text_told bytes other another sort also told)
 
-  length_one : (order : Order) (words : List (List ℕ)) (bytes : List ℕ) → LengthAnswer order words bytes text status → LengthAnswer order words bytes other another → (text ≡ other) × (status ≡ another)
+  length_one : (order : Order) → HasOneAnswer order → (words : List (List ℕ)) (bytes : List ℕ) → LengthAnswer order words bytes text status → LengthAnswer order words bytes other another → (text ≡ other) × (status ≡ another)
   unfolding LengthAnswer
-  length_one order words bytes (inl (long, a)) (inl (also, b)) = (a.0 ∙ sym b.0, a.1 ∙ sym b.1)
-  length_one order words bytes (inl (long, a)) (inr (short, b)) = absurd (short long)
-  length_one order words bytes (inr (short, a)) (inl (long, b)) = absurd (short long)
-  length_one order words bytes (inr (short, a)) (inr (also, b)) = tokens_one order words bytes (within (length bytes) short) a b
+  length_one order only words bytes (inl (long, a)) (inl (also, b)) = (a.0 ∙ sym b.0, a.1 ∙ sym b.1)
+  length_one order only words bytes (inl (long, a)) (inr (short, b)) = absurd (short long)
+  length_one order only words bytes (inr (short, a)) (inl (long, b)) = absurd (short long)
+  length_one order only words bytes (inr (short, a)) (inr (also, b)) = tokens_one order only words bytes (within (length bytes) short) a b
 
   size_one : (budget : ℕ) (words : List (List ℕ)) (bytes : List ℕ) → SizeAnswer budget words bytes text status → SizeAnswer budget words bytes other another → (text ≡ other) × (status ≡ another)
   unfolding SizeAnswer
@@ -248,17 +262,17 @@ module _ (one_answer : ParsesAreUnique) (one_reading : ReadingsAreUnique) (one_e
   size_one budget words bytes (inr (short, a)) (inl (long, b)) = absurd (short long)
   size_one budget words bytes (inr (short, a)) (inr (also, b)) = one_exec budget words bytes text other status another (small (length bytes) short) a b
 
-  intake_one : (intake : Intake) (order : Order) (words : List (List ℕ)) (bytes : List ℕ) → order_of words ≡ Some order → intake_of order ≡ intake → IntakeAnswer intake order words bytes text status → IntakeAnswer intake order words bytes other another → (text ≡ other) × (status ≡ another)
-  intake_one (Generated n) order words bytes ordered takes a b = tokens_one order words (big_text n) (text_fits n (generated_count words order n ordered takes).1) a b
-  intake_one Text order words bytes ordered takes a b = length_one order words bytes a b
-  intake_one (Bytes budget) order words bytes ordered takes a b = size_one budget words bytes a b
+  intake_one : (intake : Intake) (order : Order) → HasOneAnswer order → (words : List (List ℕ)) (bytes : List ℕ) → order_of words ≡ Some order → intake_of order ≡ intake → IntakeAnswer intake order words bytes text status → IntakeAnswer intake order words bytes other another → (text ≡ other) × (status ≡ another)
+  intake_one (Generated n) order only words bytes ordered takes a b = tokens_one order only words (big_text n) (text_fits n (generated_count words order n ordered takes).1) a b
+  intake_one Text order only words bytes ordered takes a b = length_one order only words bytes a b
+  intake_one (Bytes budget) order only words bytes ordered takes a b = size_one budget words bytes a b
 
-  ordered_one : (order : Option Order) (words : List (List ℕ)) (bytes : List ℕ) → order_of words ≡ order → MatchOption order (IsReply text status (line (codes "error 1: usage")) Usage) (λ o. IntakeAnswer (intake_of o) o words bytes text status)
+  ordered_one : (order : Option Order) (words : List (List ℕ)) (bytes : List ℕ) → (order_of words ≡ Some Prove → ⊥) → order_of words ≡ order → MatchOption order (IsReply text status (line (codes "error 1: usage")) Usage) (λ o. IntakeAnswer (intake_of o) o words bytes text status)
       → MatchOption order (IsReply other another (line (codes "error 1: usage")) Usage) (λ o. IntakeAnswer (intake_of o) o words bytes other another) → (text ≡ other) × (status ≡ another)
-  ordered_one None words bytes is a b = (a.0 ∙ sym b.0, a.1 ∙ sym b.1)
-  ordered_one (Some order) words bytes is a b = intake_one (intake_of order) order words bytes is refl a b
+  ordered_one None words bytes unproved is a b = (a.0 ∙ sym b.0, a.1 ∙ sym b.1)
+  ordered_one (Some order) words bytes unproved is a b = intake_one (intake_of order) order (one_unless_proof order (λ e. unproved (is ∙ ap Some e))) words bytes is refl a b
 
 -- where `parse` has one answer to each list of tokens, and the text of a signature one reading
 pub answers_are_one : ParsesAreUnique → ReadingsAreUnique → ExecAnswersAreUnique → AnswersAreUnique
 unfolding Answer
-answers_are_one one one_reading one_exec words bytes text other status another a b = ordered_one one one_reading one_exec text other status another (order_of words) words bytes refl a b
+answers_are_one one one_reading one_exec words bytes text other status another unproved a b = ordered_one one one_reading one_exec text other status another (order_of words) words bytes unproved refl a b

@@ -1,9 +1,9 @@
 -- The answer to words and a text, as a relation between words, bytes, text and status.
 -- One definition a step; each names only the next, and none is unfolded but in its own step's proof.
 -- Source: this project's own.
-use Rattle.std.specs.Prelude.{ℕ, ◌<◌, ◌≡◌, ◌⊎◌, List, length, codes, slice_get, MatchOption, Some, None, Ok, Err}
+use Rattle.std.specs.Prelude.{ℕ, ◌<◌, ◌≡◌, ◌⊎◌, List, length, codes, slice_get, MatchOption, Some, None, Result, Ok, Err}
 use Rattle.um_orders.specs.declared.order.Order.{Order}
-use Rattle.um_orders.specs.declared.order.Order.TheVariants.{Fmt}
+use Rattle.um_orders.specs.declared.order.Order.TheVariants.{Fmt, Prove}
 use Rattle.um_orders.specs.declared.order.Intake.{Intake}
 use Rattle.um_orders.specs.declared.order.Intake.TheVariants.{Generated, Text, Bytes}
 use Rattle.um_reports.specs.declared.status.Status.{Status}
@@ -24,13 +24,18 @@ use Rattle.um_shape.specs.ShapedProgram.{IsRefusal}
 use Rattle.um_infer.specs.Inference.{Inference, all_schemes, stops_at_slots, stops_at_range, stops_at_units}
 use Rattle.um_infer.specs.Inference.{stops_at_not_general, infer}
 use Rattle.um_show.specs.Layout.{layout}
+use Rattle.um_proof.specs.declared.proofs.Proofs.{Proofs}
+use Rattle.um_proof.specs.declared.stop.ProveStop.{ProveStop}
+use Rattle.um_proof.specs.declared.stop.ProveStop.TheVariants as prove_stop
+use Rattle.um_proof.specs.Proving.{IsProved}
+use Rattle.um_certificates.specs.CertificateText.{certificates_text}
 use Rattle.um_big.specs.BigText.{big_text}
 use Rattle.um_answers.specs.Asked.{Asked}
 use Rattle.um_answers.specs.TypedAnswer.{TypedAnswer}
 use Rattle.um_answers.specs.ExecAnswer.{ExecAnswer}
 use Rattle.um_orders.specs.Orders.{order_of, intake_of}
 use Rattle.um_reports.specs.Refusals.{IsTextReply, IsParseReply, IsNameReply, IsShapeReply, IsSlotsReply, IsRangeReply}
-use Rattle.um_reports.specs.Refusals.{IsUnitsReply, IsNotGeneralReply}
+use Rattle.um_reports.specs.Refusals.{IsUnitsReply, IsNotGeneralReply, IsCertificateReply}
 use Rattle.um_reports.specs.Steps.{line, IsReply, Cases}
 
 -- the function of this number, and what is said of it
@@ -49,9 +54,30 @@ InferenceAnswer asked p (stops_at_units i row at) text status =
 InferenceAnswer asked p (stops_at_not_general i row at) text status =
     OfFunction p i (λ f. IsNotGeneralReply asked.bytes f.name at text status)
 
--- the schemes of the functions, one after another
+-- the certificates of the schemes, up to the first function that has none, and of that; or why they aren't made
+abbrev pub IsProofReply : List ℕ → ProgramTree → Result Proofs ProveStop → List ℕ → Status → Type 0
+IsProofReply bytes p (Ok proofs) text status =
+    IsReply text status (certificates_text p proofs.yes.items.items proofs.no) Done
+IsProofReply bytes p (Err (prove_stop.Slots i)) text status =
+    OfFunction p i (λ f. IsSlotsReply bytes f.at text status)
+IsProofReply bytes p (Err (prove_stop.PowerRange i at)) text status =
+    OfFunction p i (λ f. IsRangeReply bytes f.name at text status)
+IsProofReply bytes p (Err (prove_stop.CertRange i number)) text status =
+    OfFunction p i (λ f. IsCertificateReply f.name number text status)
+IsProofReply bytes p (Err prove_stop.NoMemory) text status = ⊥
+
+-- a scheme may have many certificates: any that are valid
+unfoldable pub ProofAnswer : List ℕ → ProgramTree → List ℕ → Status → Type 0
+ProofAnswer bytes p text status =
+    (r : Result Proofs ProveStop) × IsProved p r × IsProofReply bytes p r text status
+
+-- the certificates, or what is asked of the schemes of the functions, one after another
+abbrev pub BySchemes : Order → Asked → ProgramTree → List ℕ → Status → Type 0
+BySchemes Prove asked p text status = ProofAnswer asked.bytes p text status
+BySchemes order asked p text status = InferenceAnswer asked p (infer p) text status
+
 unfoldable pub SchemesAnswer : Asked → ProgramTree → List ℕ → Status → Type 0
-SchemesAnswer asked p text status = InferenceAnswer asked p (infer p) text status
+SchemesAnswer asked p text status = BySchemes asked.order asked p text status
 
 -- the program with its shapes, or its first shape fault
 unfoldable pub ShapesAnswer : Asked → ProgramTree → List ℕ → Status → Type 0

@@ -1,7 +1,7 @@
 -- What report lines and answers say, in the subject's words.
 -- Source: UTF-8 (RFC 3629), in which one byte begins each character and every other byte of it lies in 128..191;
 -- principal schemes and typings are Kennedy's (1996).
-use Rattle.std.specs.Prelude.{ℕ, ◌≡◌, List, [], ◌∷◌, length, codes, None, Ok}
+use Rattle.std.specs.Prelude.{ℕ, ◌≡◌, List, [], ◌∷◌, length, codes, None, Some, Ok}
 use Rattle.um_syntax.specs.declared.token.Token.{Token}
 use Rattle.um_syntax.specs.Feeding.{IsTextAnswer}
 use Rattle.um_tree.specs.RawTree.{DeclSyntax}
@@ -14,6 +14,8 @@ use Rattle.um_reports.specs.declared.status.Status.{Status}
 use Rattle.um_reports.specs.declared.status.Status.TheVariants.{Done, Units, NotGeneral}
 use Rattle.um_reports.specs.Refusals.{placed, units_label, not_general_label}
 use Rattle.um_answers.specs.SchemeLines.{scheme_lines}
+use Rattle.um_orders.specs.declared.order.Order.TheVariants.{Prove}
+use Rattle.um_orders.specs.Orders.{order_of}
 use Rattle.um_tool.specs.Answer.{Answer}
 
 -- ---- what `types` prints
@@ -57,8 +59,8 @@ NotGeneralNamesTheFirstUntyped =
     × ((i row at : ℕ) × (untyped : IsFirstNotGeneral p i row at)
     × (text ≡ placed (not_general_label untyped.0.function.name) bytes at))
 
--- ---- the answer to words and bytes is one
+-- ---- the answer to words and bytes is one, but for certificates: a scheme may have many
 abbrev pub AnswersAreUnique : Type 0
 AnswersAreUnique =
     (words : List (List ℕ)) (bytes text other : List ℕ) (status another : Status) →
-    Answer words bytes text status → Answer words bytes other another → (text ≡ other) × (status ≡ another)
+    (order_of words ≡ Some Prove → ⊥) → Answer words bytes text status → Answer words bytes other another → (text ≡ other) × (status ≡ another)

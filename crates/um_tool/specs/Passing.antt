@@ -1,6 +1,6 @@
 -- What is asked of a program and of the words, so that every step of the answer behind the grammar goes through.
 -- Source: this project's own.
-use Rattle.std.specs.Prelude.{ℕ, ◌≡◌, List, slice_get, Some, None, Ok}
+use Rattle.std.specs.Prelude.{ℕ, ℤ, ◌≡◌, List, slice_get, Some, None, Ok}
 use Rattle.um_tree.specs.RawTree.{DeclSyntax}
 use Rattle.um_tree.specs.ProgramTree.{FunctionTree, ProgramTree, Signature}
 use Rattle.um_tree.specs.Typing.{Typing}
@@ -8,8 +8,9 @@ use Rattle.um_names.specs.Resolution.{resolved_program}
 use Rattle.um_shape.specs.FirstFault.{first_fault}
 use Rattle.um_infer.specs.Inference.{infer}
 use Rattle.um_infer.specs.Laws.{IsLimited}
+use Rattle.um_proof.specs.Proving.{PassesInFunction}
 use Rattle.um_orders.specs.declared.order.Order.{Order}
-use Rattle.um_orders.specs.declared.order.Order.TheVariants.{Fmt}
+use Rattle.um_orders.specs.declared.order.Order.TheVariants.{Fmt, Prove}
 use Rattle.um_answers.specs.Passing.{PassesOn}
 
 abbrev pub EachIsTyped : ProgramTree → Type 0
@@ -23,7 +24,17 @@ pub record IsTyped (raw : List DeclSyntax) : Type 0 where
   pub typed : EachIsTyped program
   pub unlimited : IsLimited (infer program) → ⊥
 
+-- the names are known, the shapes are right, no limit of slots or powers is passed, and no number passes what a
+-- certificate can hold
+pub record IsProvable (raw : List DeclSyntax) : Type 0 where
+  pub program : ProgramTree
+  pub resolved : resolved_program raw ≡ Ok program
+  pub faultless : first_fault program ≡ None
+  pub unlimited : IsLimited (infer program) → ⊥
+  pub held : (i : ℕ) (number : ℤ) → PassesInFunction program i number → ⊥
+
 -- each step behind the grammar goes through
 abbrev pub GoesThrough : Order → List (List ℕ) → List DeclSyntax → Type 0
 GoesThrough Fmt words raw = Unit {0}
+GoesThrough Prove words raw = IsProvable raw
 GoesThrough order words raw = (typed : IsTyped raw) × PassesOn order words raw typed.program

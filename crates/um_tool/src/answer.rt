@@ -1,7 +1,9 @@
 // The steps of an answer, each by its definition.
 ghost use Rattle.std.specs.Prelude.{◌<◌, ◌≤◌, ◌≡◌, length, slice_get, IfOk, Ok, Some};
 ghost use Rattle.um_tool.specs.Answer.{TokensAnswer, GrammarAnswer, ProgramAnswer, NamesAnswer, ShapesAnswer};
-ghost use Rattle.um_tool.specs.Answer.{SchemesAnswer};
+ghost use Rattle.um_tool.specs.Answer.{InferenceAnswer, ProofAnswer, SchemesAnswer};
+ghost use Rattle.um_certificates.specs.CertificateText.{certificates_text as lines_of};
+ghost use Rattle.um_reports.specs.Steps.{IsReply};
 ghost use Rattle.um_answers.specs.TypedAnswer.{TypedAnswer};
 ghost use Rattle.um_answers.specs.Asking.{asked_of, IsWrittenText};
 ghost use Rattle.um_orders.specs.Orders.{order_of};
@@ -17,13 +19,15 @@ ghost use Rattle.um_infer.specs.Inference.{all_schemes, infer};
 use crate::reading::Text;
 use std::alloc::{AllocError, Global};
 use um_answers::{Asked, answer_typed, reply_layout};
+use um_certificates::certificates_text;
 use um_infer::{InferStop, infer};
 use um_names::resolve;
 use um_orders::{Order, Words};
 use um_parse::parse_tokens;
+use um_proof::{Proofs, ProveStop, prove};
 use um_reports::{
-    Reply, reply_to_names, reply_to_not_general, reply_to_range, reply_to_shapes, reply_to_slots,
-    reply_to_text, reply_to_tokens, reply_to_units,
+    Reply, Status, reply_to_certificate, reply_to_names, reply_to_not_general, reply_to_range,
+    reply_to_shapes, reply_to_slots, reply_to_text, reply_to_tokens, reply_to_units,
 };
 use um_shape::{Shaped, shape};
 use um_syntax::Tokens;
@@ -96,6 +100,7 @@ fn answer_program(alloc: Global, asked: &Asked) -> Result<Reply, AllocError>
         | Order::Rescale
         | Order::Twin { .. }
         | Order::Big(_)
+        | Order::Prove
         | Order::Image
         | Order::Exec { .. } => answer_names(alloc, asked),
     }
@@ -131,7 +136,7 @@ fn answer_shapes(alloc: Global, asked: &Asked, program: Program) -> Result<Reply
     }
 }
 
-/// The answer to a program whose shapes are right: the first function without a scheme is refused.
+/// The answer to a program whose shapes are right.
 #[tactic(auto, unfolding(crate::specs::Answer::SchemesAnswer))]
 fn answer_schemes(alloc: Global, asked: &Asked, shaped: &Shaped) -> Result<Reply, AllocError>
     requires ordered { order_of asked.now.words.now ≡ Some asked.now.order }
@@ -139,6 +144,66 @@ fn answer_schemes(alloc: Global, asked: &Asked, shaped: &Shaped) -> Result<Reply
     requires resolved { resolved_program (program_syntax asked.now.raw.now) ≡ Ok (program_tree shaped.now) }
     ensures { IfOk result (λ reply. SchemesAnswer (asked_of asked.now)
         (program_tree shaped.now) reply.text.items reply.status) }
+{
+    match asked.order {
+        Order::Prove => answer_proof(alloc, asked.bytes, shaped),
+        Order::Types
+        | Order::Code
+        | Order::Fmt
+        | Order::Run { .. }
+        | Order::Steps { .. }
+        | Order::Eval { .. }
+        | Order::Conform
+        | Order::Rescale
+        | Order::Twin { .. }
+        | Order::Big(_)
+        | Order::Image
+        | Order::Exec { .. } => answer_inference(alloc, asked, shaped),
+    }
+}
+
+/// The certificates of the functions, or why they aren't made.
+#[tactic(auto, unfolding(crate::specs::Answer::ProofAnswer))]
+fn answer_proof(alloc: Global, bytes: &[u8], shaped: &Shaped) -> Result<Reply, AllocError>
+    ensures { IfOk result (λ reply. ProofAnswer bytes.now (program_tree shaped.now)
+        reply.text.items reply.status) }
+{
+    let program = shaped.program();
+    match prove(alloc, shaped) {
+        Ok(proofs) => reply_proofs(alloc, program, proofs),
+        Err(ProveStop::Slots { function }) => {
+            reply_to_slots(alloc, bytes, function_at(program, function).at)
+        }
+        Err(ProveStop::PowerRange { function, at }) => {
+            reply_to_range(alloc, bytes, &function_at(program, function).name, at)
+        }
+        Err(ProveStop::CertRange { function, number }) => {
+            reply_to_certificate(alloc, &function_at(program, function).name, number)
+        }
+        Err(ProveStop::NoMemory) => Err(AllocError),
+    }
+}
+
+/// The lines of certificates.
+fn reply_proofs(alloc: Global, program: &Program, proofs: Proofs) -> Result<Reply, AllocError>
+    ensures { IfOk result (λ reply. IsReply reply.text.items reply.status
+        (lines_of (program_tree program.now) proofs.yes.items.items proofs.no) Status.Done) }
+{
+    let text = certificates_text(alloc, program, &proofs.yes.items, &proofs.no);
+    drop(proofs);
+    Ok(Reply {
+        text: text?,
+        status: Status::Done,
+    })
+}
+
+/// The answer to a program whose schemes are asked for: the first function without a scheme is refused.
+fn answer_inference(alloc: Global, asked: &Asked, shaped: &Shaped) -> Result<Reply, AllocError>
+    requires ordered { order_of asked.now.words.now ≡ Some asked.now.order }
+    requires written { IsWrittenText asked.now.bytes.now }
+    requires resolved { resolved_program (program_syntax asked.now.raw.now) ≡ Ok (program_tree shaped.now) }
+    ensures { IfOk result (λ reply. InferenceAnswer (asked_of asked.now)
+        (program_tree shaped.now) (infer (program_tree shaped.now)) reply.text.items reply.status) }
 {
     let program = shaped.program();
     let bytes = asked.bytes;

@@ -42,7 +42,8 @@ pub fn ended_twins()
     ensures { EndedTwinsAreRelated }
 {}
 
-/// Two texts and statuses that answer the same words and bytes are equal.
+/// Two texts and statuses that answer the same words and bytes are equal, but for `prove`: a scheme may have many
+/// certificates.
 pub fn answers_are_unique()
     ensures { AnswersAreUnique }
 {

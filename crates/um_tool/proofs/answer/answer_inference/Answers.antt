@@ -4,11 +4,10 @@ use Rattle.um_tree.specs.ProgramTree.{program_tree, function_tree}
 use Rattle.um_infer.specs.Inference.{stops_at_units, stops_at_not_general, infer}
 use Rattle.um_reports.specs.Refusals.{IsUnitsReply, IsNotGeneralReply}
 use Rattle.um_answers.specs.Asking.{asked_of}
-use Rattle.um_tool.specs.Answer.{InferenceAnswer, SchemesAnswer}
-use Rattle.um_tool.proofs.answer.answer_schemes.Goals as goal
+use Rattle.um_tool.specs.Answer.{InferenceAnswer}
+use Rattle.um_tool.proofs.answer.answer_inference.Goals as goal
 
 pub returns-in-Err-Units : goal.returns-in-Err-Units
-unfolding SchemesAnswer
 returns-in-Err-Units c =
     let asked = asked_of c.args.asked.now in
     let p = program_tree c.args.shaped.now in
@@ -21,7 +20,6 @@ returns-in-Err-Units c =
     c.reply_to_units.ensures
 
 pub returns-in-Err-NotGeneral : goal.returns-in-Err-NotGeneral
-unfolding SchemesAnswer
 returns-in-Err-NotGeneral c =
     let asked = asked_of c.args.asked.now in
     let p = program_tree c.args.shaped.now in
