@@ -24,7 +24,7 @@ view_frame (open_at.InElse at c a) = InElse at (operand_expr c) (operand_expr a)
 view_frame (open_at.InMatched at) = InMatched at
 view_frame (open_at.InEmptyArm at l) = InEmptyArm at (operand_expr l)
 view_frame (open_at.InFullArm at l a x y) =
-    InFullArm at (operand_expr l) (operand_expr a) (binder_syntax x) (binder_syntax y)
+    InFullArm at (operand_expr l) (operand_expr a) (binder_syntax x.value) (binder_syntax y.value)
 view_frame (open_at.InNegate at) = InNegate at
 view_frame (open_at.InNot at) = InNot at
 view_frame (open_at.InPown at) = InPown at

@@ -41,10 +41,10 @@ view_expected (expected.ArmOpen at l) = ArmOpen at (operand_expr l)
 view_expected (expected.ArmClose at l) = ArmClose at (operand_expr l)
 view_expected (expected.ArmArrow at l) = ArmArrow at (operand_expr l)
 view_expected (expected.HeadBinder at l a) = HeadBinder at (operand_expr l) (operand_expr a)
-view_expected (expected.HeadCons at l a x) = HeadCons at (operand_expr l) (operand_expr a) (binder_syntax x)
-view_expected (expected.TailBinder at l a x) = TailBinder at (operand_expr l) (operand_expr a) (binder_syntax x)
+view_expected (expected.HeadCons at l a x) = HeadCons at (operand_expr l) (operand_expr a) (binder_syntax x.value)
+view_expected (expected.TailBinder at l a x) = TailBinder at (operand_expr l) (operand_expr a) (binder_syntax x.value)
 view_expected (expected.TailArrow at l a x y) =
-    TailArrow at (operand_expr l) (operand_expr a) (binder_syntax x) (binder_syntax y)
+    TailArrow at (operand_expr l) (operand_expr a) (binder_syntax x.value) (binder_syntax y.value)
 view_expected (expected.NilColon at) = NilColon at
 view_expected (expected.PownMinus at e) = PownMinus at (operand_expr e)
 view_expected (expected.PownDigits at e) = PownDigits at (operand_expr e)

@@ -6,7 +6,7 @@ ghost use Rattle.um_types.specs.UnitMachine.{power_in};
 ghost use Rattle.um_expr.specs.declared.focus.Step.TheVariants.{Goes, Stops};
 ghost use Rattle.um_expr.specs.declared.focus.Focus.TheVariants.{Inside as Within};
 ghost use Rattle.um_expr.specs.declared.focus.Expected.TheVariants as expected;
-ghost use Rattle.um_expr.specs.ExprMachine.{LetBinder, LetEqual, FieldName, FieldEqual, DotName, ArmBegin, ArmOpen, ArmClose, ArmArrow, HeadBinder, HeadCons, TailBinder, TailArrow, NilColon, PownMinus, PownDigits, PownClose, inside};
+ghost use Rattle.um_expr.specs.ExprMachine.{Inside, LetBinder, LetEqual, FieldName, FieldEqual, DotName, ArmBegin, ArmOpen, ArmClose, ArmArrow, HeadBinder, HeadCons, TailBinder, TailArrow, NilColon, PownMinus, PownDigits, PownClose, inside};
 ghost use Rattle.um_expr.specs.ExprOperands.{operand_expr, read_fields};
 ghost use Rattle.um_expr.specs.ExprStack.{frames_of};
 ghost use Rattle.um_expr.specs.ExprStates.{Simulates, view_expected};
@@ -198,16 +198,45 @@ fn arm_arrow(
     }
 }
 
+// The binder in a box.
+fn in_box(alloc: Global, x: Binder) -> Result<Box<Binder>, AllocError>
+    ensures { IfOk result (λ b. b.value ≡ x) }
+{
+    Ok(Box::new(alloc, x)?)
+}
+
+// The head of the full arm was read.
+fn head_read(
+    alloc: Global,
+    frames: &Frames,
+    at: u32,
+    list: Operand,
+    empty: Operand,
+    head: Binder,
+) -> Result<Step, AllocError>
+    ensures { IfOk result (λ s. Simulates None (frames_of frames.now) s (Inside (frames_of frames.now) (HeadCons at (operand_expr list) (operand_expr empty) (binder_syntax head)))) }
+{
+    match in_box(alloc, head) {
+        Ok(head) => Ok(Step::Goes(Focus::Inside(Expected::HeadCons(at, list, empty, head)))),
+        Err(error) => {
+            drop(list);
+            drop(empty);
+            Err(error)
+        }
+    }
+}
+
 // Behind the bar of the full arm
 fn head_binder(
+    alloc: Global,
     frames: &Frames,
     at: u32,
     list: Operand,
     empty: Operand,
     kind: ExprToken,
     token: &Token,
-) -> Step
-    ensures { Simulates None (frames_of frames.now) result (inside (frames_of frames.now) (HeadBinder at (operand_expr list) (operand_expr empty)) kind token.now.start (power_in (unit_token token.now.kind))) }
+) -> Result<Step, AllocError>
+    ensures { IfOk result (λ s. Simulates None (frames_of frames.now) s (inside (frames_of frames.now) (HeadBinder at (operand_expr list) (operand_expr empty)) kind token.now.start (power_in (unit_token token.now.kind)))) }
 {
     match kind {
         ExprToken::Name(name) => {
@@ -215,16 +244,16 @@ fn head_binder(
                 at: token.start,
                 name: Some(name),
             };
-            Step::Goes(Focus::Inside(Expected::HeadCons(at, list, empty, head)))
+            head_read(alloc, frames, at, list, empty, head)
         }
         ExprToken::Hole => {
             let head = Binder {
                 at: token.start,
                 name: None,
             };
-            Step::Goes(Focus::Inside(Expected::HeadCons(at, list, empty, head)))
+            head_read(alloc, frames, at, list, empty, head)
         }
-        other => refuse_behind_both(other, list, empty),
+        other => Ok(refuse_behind_both(other, list, empty)),
     }
 }
 
@@ -234,11 +263,11 @@ fn head_cons(
     at: u32,
     list: Operand,
     empty: Operand,
-    head: Binder,
+    head: Box<Binder>,
     kind: ExprToken,
     token: &Token,
 ) -> Step
-    ensures { Simulates None (frames_of frames.now) result (inside (frames_of frames.now) (HeadCons at (operand_expr list) (operand_expr empty) (binder_syntax head)) kind token.now.start (power_in (unit_token token.now.kind))) }
+    ensures { Simulates None (frames_of frames.now) result (inside (frames_of frames.now) (HeadCons at (operand_expr list) (operand_expr empty) (binder_syntax head.value)) kind token.now.start (power_in (unit_token token.now.kind))) }
 {
     match kind {
         ExprToken::Operator(Infix::Cons) => {
@@ -248,17 +277,41 @@ fn head_cons(
     }
 }
 
-// Behind the head and `::`
-fn tail_binder(
+// The tail of the full arm was read.
+fn tail_read(
+    alloc: Global,
     frames: &Frames,
     at: u32,
     list: Operand,
     empty: Operand,
-    head: Binder,
+    head: Box<Binder>,
+    tail: Binder,
+) -> Result<Step, AllocError>
+    ensures { IfOk result (λ s. Simulates None (frames_of frames.now) s (Inside (frames_of frames.now) (TailArrow at (operand_expr list) (operand_expr empty) (binder_syntax head.value) (binder_syntax tail)))) }
+{
+    match in_box(alloc, tail) {
+        Ok(tail) => Ok(Step::Goes(Focus::Inside(Expected::TailArrow(at, list, empty, head, tail)))),
+        Err(error) => {
+            drop(list);
+            drop(empty);
+            drop(head);
+            Err(error)
+        }
+    }
+}
+
+// Behind the head and `::`
+fn tail_binder(
+    alloc: Global,
+    frames: &Frames,
+    at: u32,
+    list: Operand,
+    empty: Operand,
+    head: Box<Binder>,
     kind: ExprToken,
     token: &Token,
-) -> Step
-    ensures { Simulates None (frames_of frames.now) result (inside (frames_of frames.now) (TailBinder at (operand_expr list) (operand_expr empty) (binder_syntax head)) kind token.now.start (power_in (unit_token token.now.kind))) }
+) -> Result<Step, AllocError>
+    ensures { IfOk result (λ s. Simulates None (frames_of frames.now) s (inside (frames_of frames.now) (TailBinder at (operand_expr list) (operand_expr empty) (binder_syntax head.value)) kind token.now.start (power_in (unit_token token.now.kind)))) }
 {
     match kind {
         ExprToken::Name(name) => {
@@ -266,16 +319,16 @@ fn tail_binder(
                 at: token.start,
                 name: Some(name),
             };
-            Step::Goes(Focus::Inside(Expected::TailArrow(at, list, empty, head, tail)))
+            tail_read(alloc, frames, at, list, empty, head, tail)
         }
         ExprToken::Hole => {
             let tail = Binder {
                 at: token.start,
                 name: None,
             };
-            Step::Goes(Focus::Inside(Expected::TailArrow(at, list, empty, head, tail)))
+            tail_read(alloc, frames, at, list, empty, head, tail)
         }
-        other => refuse_behind_both(other, list, empty),
+        other => Ok(refuse_behind_both(other, list, empty)),
     }
 }
 
@@ -285,12 +338,12 @@ fn tail_arrow(
     at: u32,
     list: Operand,
     empty: Operand,
-    head: Binder,
-    tail: Binder,
+    head: Box<Binder>,
+    tail: Box<Binder>,
     kind: ExprToken,
     token: &Token,
 ) -> Result<Step, AllocError>
-    ensures { IfOk result (λ s. Simulates None (frames_of frames.new) s (inside (frames_of frames.old) (TailArrow at (operand_expr list) (operand_expr empty) (binder_syntax head) (binder_syntax tail)) kind token.now.start (power_in (unit_token token.now.kind)))) }
+    ensures { IfOk result (λ s. Simulates None (frames_of frames.new) s (inside (frames_of frames.old) (TailArrow at (operand_expr list) (operand_expr empty) (binder_syntax head.value) (binder_syntax tail.value)) kind token.now.start (power_in (unit_token token.now.kind)))) }
 {
     match kind {
         ExprToken::Mark(Symbol::Arrow) => opened(
@@ -382,14 +435,14 @@ pub fn inside(
         Expected::ArmOpen(at, list) => Ok(arm_open(frames, at, list, kind, token)),
         Expected::ArmClose(at, list) => Ok(arm_close(frames, at, list, kind, token)),
         Expected::ArmArrow(at, list) => arm_arrow(frames, at, list, kind, token),
-        Expected::HeadBinder(at, list, empty) => Ok(head_binder(
-            frames, at, list, empty, kind, token,
-        )),
+        Expected::HeadBinder(at, list, empty) => {
+            head_binder(alloc, frames, at, list, empty, kind, token)
+        }
         Expected::HeadCons(at, list, empty, head) => {
             Ok(head_cons(frames, at, list, empty, head, kind, token))
         }
         Expected::TailBinder(at, list, empty, head) => {
-            Ok(tail_binder(frames, at, list, empty, head, kind, token))
+            tail_binder(alloc, frames, at, list, empty, head, kind, token)
         }
         Expected::TailArrow(at, list, empty, head, tail) => {
             tail_arrow(frames, at, list, empty, head, tail, kind, token)

@@ -4,7 +4,8 @@ use crate::operands::ReadFields;
 use um_frac::Frac;
 use um_tree::{Binder, Name};
 
-/// The token that is expected inside a run of tokens that is fixed. The first number of each is the place of the form.
+/// The token that is expected inside a run of tokens that is fixed. The first number of each is the place of the form. The
+/// binders of a full arm stand in boxes, so that what is handed on at each token stays small.
 #[derive(Drop)]
 pub enum Expected {
     /// Behind `let`; behind its binder
@@ -22,9 +23,9 @@ pub enum Expected {
     ArmArrow(u32, Operand),
     /// Behind the bar of the full arm; the head; `::`; the tail
     HeadBinder(u32, Operand, Operand),
-    HeadCons(u32, Operand, Operand, Binder),
-    TailBinder(u32, Operand, Operand, Binder),
-    TailArrow(u32, Operand, Operand, Binder, Binder),
+    HeadCons(u32, Operand, Operand, Box<Binder>),
+    TailBinder(u32, Operand, Operand, Box<Binder>),
+    TailArrow(u32, Operand, Operand, Box<Binder>, Box<Binder>),
     /// Behind `(` `[` `]`
     NilColon(u32),
     /// Behind `pown`, its part and `(`; `-`; the power

@@ -31,7 +31,7 @@ pub enum Frame {
     /// Behind `match`; the first `->`; the second
     InMatched(u32),
     InEmptyArm(u32, Operand),
-    InFullArm(u32, Operand, Operand, Binder, Binder),
+    InFullArm(u32, Operand, Operand, Box<Binder>, Box<Binder>),
     InNegate(u32),
     InNot(u32),
     /// Behind `pown`: its power ends it
@@ -138,7 +138,8 @@ impl Frame {
             Frame::InBody(at, x, value) => value.bound(alloc, at, x, last),
             Frame::InElse(at, test, one) => test.choice(alloc, at, one, last),
             Frame::InFullArm(at, list, empty, head, tail) => {
-                list.matched(alloc, at, empty, head, tail, last)
+                let head = Box::into_inner(head);
+                list.matched(alloc, at, empty, head, Box::into_inner(tail), last)
             }
             Frame::InNegate(at) => last.negate(alloc, at),
             Frame::InNot(at) => last.not(alloc, at),

@@ -1,20 +1,21 @@
 -- Characters that keep what has begun.
-use Rattle.std.proofs.Common.{◌≡◌, ℕ, zero, suc, ◌+◌, ◌<◌, ◌≤◌, true, false, eqb, List, [], ◌∷◌, ◌++◌, length, take, drop, get_or, Option, None, Some, Ok, refl, sym, ap, subst, ◌∙◌, arith, append_assoc}
+use Rattle.std.proofs.Common.{◌≡◌, inl, inr, ℕ, zero, suc, ◌+◌, ◌<◌, ◌≤◌, ◌||◌, true, false, eqb, List, [], ◌∷◌, ◌++◌, length, take, drop, get_or, Option, None, Some, Ok, refl, sym, ap, subst, ◌∙◌, arith, append_assoc}
 use Rattle.std.proofs.lemmas.Bool.{false≢true}
 use Rattle.std.proofs.lemmas.List.{take_more, append-nil, drop-take, take-take, take-append-drop}
 use Rattle.std.proofs.Math.Seq.{take-append_seam}
 use Rattle.std.proofs.lemmas.Str.{encode_ascii, len_utf8_ascii, encodes-IsAscii, chars-IsAscii, scalars-chars, IsUtf8-from_ascii, IsUtf8-take, IsUtf8-past_char, IsCharBoundary-from_take, IsCharBoundary-at_seam, length-encode, chars-append, chars-nil, chars_past_char}
-use Rattle.std.specs.Char.{len_utf8}
+use Rattle.std.specs.Char.{is_ascii_alphabetic, len_utf8}
 use Rattle.std.specs.Str.{IsAscii, IsUtf8, IsCharBoundary, chars}
 use lib.Utf8.{encode, scalar, scalars}
-use Rattle.unicode_ident.proofs.IdentLemmas.{is_xid_continue-ascii}
+use Rattle.unicode_ident.proofs.IdentLemmas.{is_xid_start-ascii, is_xid_continue-ascii}
 use Rattle.um_syntax.specs.declared.token.Token.{Token}
 use Rattle.um_syntax.specs.declared.token.TextStop.{TextStop}
 use Rattle.um_syntax.specs.declared.pending.Pending.{Pending}
 use Rattle.um_syntax.specs.declared.pending.Pending.TheVariants as pending
 use Rattle.um_syntax.specs.Gap.{is_space, IsLine}
 use Rattle.um_syntax.specs.Lexing.{size_of}
-use Rattle.um_syntax.specs.Machine.{Scan, scan_start, keeps, AllKept, step, steps}
+use Rattle.um_syntax.specs.Lexeme.{starts_name}
+use Rattle.um_syntax.specs.Machine.{Scan, scan_start, keeps, AllKept, begins_name, IsNameRun, IsRun, step, steps}
 use Rattle.um_syntax.specs.Feeding.{CountsLines, HasScanned}
 use Rattle.um_syntax.proofs.Places.{size_of-encodes}
 use Rattle.um_syntax.proofs.Runs.{steps-append}
@@ -122,6 +123,71 @@ steps_kept at tokens letters (pending.Quote start) (b ∷ bs) h = absurd (false�
 steps_kept at tokens letters (pending.Variable start last) (b ∷ bs) h = absurd (false≢true h.0)
 steps_kept at tokens letters (pending.Number start end part figures) (b ∷ bs) h = absurd (false≢true h.0)
 steps_kept at tokens letters (pending.Symbol start first) (b ∷ bs) h = absurd (false≢true h.0)
+
+-- ---- bytes that begin a name
+
+begins_keeps : (b : ℕ) → (eqb b 95 || is_ascii_alphabetic b) ≡ true → keeps (pending.Identifier 0) b ≡ true
+begins_keeps b h = grind arith
+
+name_kept : (bs : List ℕ) → IsNameRun bs → AllKept (pending.Identifier 0) bs
+name_kept [] h = absurd h
+name_kept (b ∷ bs) h = (begins_keeps b h.0, h.1)
+
+-- bytes of a name keep it wherever it began
+any_start : (start : ℕ) (bs : List ℕ) → AllKept (pending.Identifier 0) bs → AllKept (pending.Identifier start) bs
+any_start start [] h = tt
+any_start start (b ∷ bs) h = (h.0, any_start start bs h.1)
+
+step_name : (at : ℕ) (tokens : List Token) (letters : List ℕ) (b : ℕ) → (eqb b 95 || is_ascii_alphabetic b) ≡ true
+    → step (scan_with at tokens letters pending.Free) b ≡ Ok (scan_with (at + 1) tokens (letters ++ b ∷ []) (pending.Identifier at))
+step_name at tokens letters b h =
+    let low = (keeps_ascii (pending.Identifier 0) b (begins_keeps b h)).0 in
+    let space : is_space b ≡ false = grind arith in
+    let name : starts_name b ≡ true = ap (λ x. eqb b 95 || x) (is_xid_start-ascii b low) ∙ h in
+    rw (space, name, len_utf8_ascii b low, encode_ascii b low) refl
+
+-- the machine after such bytes
+pub steps_name : (at : ℕ) (tokens : List Token) (letters bs : List ℕ) → IsNameRun bs
+    → steps (Ok (scan_with at tokens letters pending.Free)) bs ≡ Ok (scan_with (at + length bs) tokens (letters ++ bs) (pending.Identifier at))
+steps_name at tokens letters [] h = absurd h
+steps_name at tokens letters (b ∷ bs) h =
+    let there : at + 1 + length bs ≡ at + length (b ∷ bs) = omega arith in
+    ap (λ r. steps r bs) (step_name at tokens letters b h.0)
+    ∙ steps_kept (at + 1) tokens (letters ++ b ∷ []) (pending.Identifier at) bs (any_start at bs h.1)
+    ∙ ap (λ n. Ok (scan_with n tokens ((letters ++ b ∷ []) ++ bs) (pending.Identifier at))) there
+    ∙ ap (λ l. Ok (scan_with (at + length (b ∷ bs)) tokens l (pending.Identifier at))) (append_assoc letters (b ∷ []) bs)
+
+-- ---- bytes that are taken at once
+
+-- they keep something
+pub run_kept : (p : Pending) (bs : List ℕ) → IsRun p bs → (q : Pending) × AllKept q bs
+run_kept p bs (inl h) = (p, h)
+run_kept p bs (inr h) = (pending.Identifier 0, name_kept bs h.1)
+
+-- they keep what has begun, if anything has
+pub kept_of_run : (p : Pending) (bs : List ℕ) → (p ≡ pending.Free → ⊥) → IsRun p bs → AllKept p bs
+kept_of_run p bs begun (inl h) = h
+kept_of_run p bs begun (inr h) = absurd (begun h.0)
+
+-- bytes that begin with one of a name, as far as they go on with it
+pub name_run : (bs : List ℕ) (n : ℕ) → begins_name bs ≡ true → AllKept (pending.Identifier 0) (take n bs) → IsRun pending.Free (take n bs)
+name_run bs zero h k = inl tt
+name_run [] (suc n) h k = absurd (false≢true h)
+name_run (b ∷ bs) (suc n) h k = inr (refl, (h, k.1))
+
+-- a blank begins no name
+blank_begins : (b : ℕ) → keeps pending.Free b ≡ true → (eqb b 95 || is_ascii_alphabetic b) ≡ true → ⊥
+blank_begins b k h = grind arith
+
+pub name_of_run : (bs : List ℕ) → IsRun pending.Free bs → begins_name bs ≡ true → IsNameRun bs
+name_of_run [] r h = absurd (false≢true h)
+name_of_run (b ∷ bs) (inl k) h = absurd (blank_begins b k.0 h)
+name_of_run (b ∷ bs) (inr n) h = n.1
+
+pub blanks_of_run : (bs : List ℕ) → IsRun pending.Free bs → begins_name bs ≡ false → AllKept pending.Free bs
+blanks_of_run bs (inl k) h = k
+blanks_of_run [] (inr n) h = absurd n.1
+blanks_of_run (b ∷ bs) (inr n) h = absurd (false≢true (sym h ∙ n.1.0))
 
 -- what a lexer has read, with such bytes
 scalars-both : (cs ds : List ℕ) → scalars cs ≡ true → scalars ds ≡ true → scalars (cs ++ ds) ≡ true

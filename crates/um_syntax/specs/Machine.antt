@@ -1,9 +1,9 @@
 -- The machine that reads a text character by character. The definitions of tokens and refusals don't rest on it; that
 -- it
 -- gives them is proved.
-use Rattle.std.specs.Prelude.{◌≡◌, ℕ, ◌+◌, ◌≤◌, ◌-◌, ◌*◌, ◌^◌, Bool, true, false, not, cond, ◌==◌, ◌||◌, ◌&&◌, nat_lt, nat_le, List, [], ◌∷◌, ◌++◌, length, take, drop, pos, Option, None, Some, is_some, option_map, Result, Ok, Err}
+use Rattle.std.specs.Prelude.{◌≡◌, ◌⊎◌, ℕ, ◌+◌, ◌≤◌, ◌-◌, ◌*◌, ◌^◌, Bool, true, false, not, cond, ◌==◌, ◌||◌, ◌&&◌, nat_lt, nat_le, List, [], ◌∷◌, ◌++◌, length, take, drop, pos, Option, None, Some, is_some, option_map, Result, Ok, Err}
 use Rattle.std.specs.Coded.{×_prop, Unit-prop, le_prop}
-use Rattle.std.specs.Char.{is_ascii_digit, is_ascii_alphanumeric, len_utf8, encode_utf8}
+use Rattle.std.specs.Char.{is_ascii_digit, is_ascii_alphabetic, is_ascii_alphanumeric, len_utf8, encode_utf8}
 use Rattle.std.specs.Str.{bytes_eq}
 use Rattle.unicode_ident.specs.Ident.{is_xid_continue}
 use Rattle.um_frac.specs.Fraction.{reduced}
@@ -50,6 +50,11 @@ found_keyword letters (k ∷ ks) = cond (bytes_eq letters (keyword_text k)) (Som
 
 abbrev pub keyword_of : List ℕ → Option Keyword
 keyword_of letters = found_keyword letters keywords
+
+-- the reserved words with so many letters
+abbrev pub of_len : ℕ → List Keyword → List Keyword
+of_len n [] = []
+of_len n (k ∷ ks) = cond (length (keyword_text k) == n) (k ∷ of_len n ks) (of_len n ks)
 
 -- a symbol of one character, and one of two
 abbrev pub found : ℕ → List (ℕ × Symbol) → Option Symbol
@@ -225,6 +230,20 @@ keeps _ b = false
 abbrev pub AllKept : Pending → List ℕ → Type 0
 AllKept p [] = Unit {0}
 AllKept p (b ∷ bs) = (keeps p b ≡ true) × AllKept p bs
+
+-- whether the first byte is a character that begins a name
+abbrev pub begins_name : List ℕ → Bool
+begins_name [] = false
+begins_name (b ∷ bs) = b == 95 || is_ascii_alphabetic b
+
+-- the bytes begin a name and go on with it
+abbrev pub IsNameRun : List ℕ → Type 0
+IsNameRun [] = ⊥
+IsNameRun (b ∷ bs) = (begins_name (b ∷ bs) ≡ true) × AllKept (pending.Identifier 0) bs
+
+-- bytes that are taken at once: they keep what has begun; or nothing has, and they begin a name
+abbrev pub IsRun : Pending → List ℕ → Type 0
+IsRun p bs = AllKept p bs ⊎ ((p ≡ pending.Free) × IsNameRun bs)
 
 abbrev pub at_state : Scan → ℕ → List ℕ → Pending → Scan
 at_state s at letters p = record { at = at; tokens = s.tokens; letters = letters; pending = p }

@@ -3,7 +3,7 @@ ghost use Rattle.std.specs.Prelude.{◌≡◌, ◌+◌, ◌&&◌, nat_lt, ◌<�
 ghost use Rattle.std.specs.Char.{len_utf8};
 ghost use Rattle.std.specs.Str.{chars, IsCharBoundary};
 ghost use Rattle.um_syntax.specs.Decoding.{char_len};
-ghost use Rattle.um_syntax.specs.Machine.{AllKept, PendingFits, PendingFits-prop};
+ghost use Rattle.um_syntax.specs.Machine.{IsRun, PendingFits, PendingFits-prop};
 
 use crate::decode::{Decoded, char_len, decode_char};
 use crate::scanner::Scanner;
@@ -192,8 +192,8 @@ impl Lexer {
         Ok(())
     }
 
-    // Takes what stands at the front of a text behind what was read: the characters that keep what has begun, or else
-    // one. Answers how many bytes these are.
+    // Takes what stands at the front of a text behind what was read: the characters that are taken at once, or else one.
+    // Answers how many bytes these are.
     fn take_next(&mut self, text: &str) -> Result<usize, AllocError>
         requires some { 0 < length text.now }
         requires readable { IsReadable self.old.fault }
@@ -208,9 +208,9 @@ impl Lexer {
         ensures place { IfOk result (λ n. self.new.valid ≡ self.old.valid + n) }
         ensures fed { self.new.fed ≡ self.old.fed }
     {
-        let len = self.kept_len(text);
+        let len = self.run_len(text);
         if len > 0 {
-            self.take_kept(&text[..len])?;
+            self.take_run(&text[..len])?;
             return Ok(len);
         }
         match text.chars().next() {
@@ -222,21 +222,21 @@ impl Lexer {
         }
     }
 
-    // How many bytes at the front of the text keep what has begun. None do behind a fault.
-    fn kept_len(&self, text: &str) -> usize
+    // How many bytes at the front of the text are taken at once. None are behind a fault.
+    fn run_len(&self, text: &str) -> usize
         ensures within { result ≤ length text.now }
-        ensures kept { AllKept self.now.scanner.pending (take result text.now) }
+        ensures run { IsRun self.now.scanner.pending (take result text.now) }
         ensures faultless { 0 < result → self.now.fault ≡ None }
     {
         match self.fault {
             Some(_) => 0,
-            None => self.scanner.kept_len(text),
+            None => self.scanner.run_len(text),
         }
     }
 
-    // Takes characters that keep what has begun behind those that were read.
-    fn take_kept(&mut self, text: &str) -> Result<(), AllocError>
-        requires kept { AllKept self.old.scanner.pending text.now }
+    // Takes characters at once behind those that were read.
+    fn take_run(&mut self, text: &str) -> Result<(), AllocError>
+        requires run { IsRun self.old.scanner.pending text.now }
         requires faultless { self.old.fault ≡ None }
         requires room { self.old.valid + length text.now ≤ self.old.fed }
         requires whole { self.old.held ≡ 0 }
@@ -247,7 +247,7 @@ impl Lexer {
         ensures fed { self.new.fed ≡ self.old.fed }
     {
         self.valid += text.len() as u32;
-        self.scanner.scan_kept(text)
+        self.scanner.scan_run(text)
     }
 
     // Takes bytes behind those that were fed, one by one.

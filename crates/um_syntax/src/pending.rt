@@ -1,7 +1,8 @@
 //! What has been read of a token that may go on.
 ghost use Rattle.std.specs.Prelude.{◌≡◌, ◌≤◌, length, take};
 ghost use Rattle.um_syntax.specs.Lexeme.{starts_name};
-ghost use Rattle.um_syntax.specs.Machine.{takes, keeps, AllKept, ends_in_digit};
+ghost use Rattle.um_syntax.specs.Machine.{takes, keeps, AllKept, begins_name, IsRun, ends_in_digit};
+ghost use Rattle.um_syntax.specs.declared.pending.Pending.TheVariants.{Free};
 
 use crate::number::{Figures, Part};
 use crate::vocabulary::double_symbol;
@@ -50,6 +51,28 @@ pub fn starts_name(c: char) -> bool
     c == '_' || is_xid_start(c)
 }
 
+// Whether the first byte is a character that begins a name.
+pub fn begins_name(bytes: &[u8]) -> bool
+    ensures { result ≡ begins_name bytes.now }
+{
+    match bytes.first() {
+        Some(byte) => *byte == b'_' || byte.is_ascii_alphabetic(),
+        None => false,
+    }
+}
+
+// How many bytes at the front are taken at once where nothing has begun: those of a name, or blanks.
+fn free_len(bytes: &[u8]) -> usize
+    ensures within { result ≤ length bytes.now }
+    ensures run { IsRun Free (take result bytes.now) }
+{
+    if begins_name(bytes) {
+        Pending::Identifier { start: 0 }.kept_len(bytes)
+    } else {
+        Pending::Free.kept_len(bytes)
+    }
+}
+
 impl Pending {
     // Whether the character belongs to what has begun.
     pub fn takes(self, c: char) -> bool
@@ -79,8 +102,19 @@ impl Pending {
         }
     }
 
+    // How many bytes at the front are taken at once: they keep what has begun, or begin a name where nothing has.
+    pub fn run_len(self, bytes: &[u8]) -> usize
+        ensures within { result ≤ length bytes.now }
+        ensures run { IsRun self (take result bytes.now) }
+    {
+        match self {
+            Pending::Free => free_len(bytes),
+            _ => self.kept_len(bytes),
+        }
+    }
+
     // How many bytes at the front keep what has begun.
-    pub fn kept_len(self, bytes: &[u8]) -> usize
+    fn kept_len(self, bytes: &[u8]) -> usize
         ensures within { result ≤ length bytes.now }
         ensures kept { AllKept self (take result bytes.now) }
     {

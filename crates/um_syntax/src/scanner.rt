@@ -4,12 +4,12 @@ ghost use Rattle.std.specs.Char.{len_utf8};
 ghost use Rattle.std.specs.Option.{option_copied};
 ghost use Rattle.um_syntax.specs.Gap.{is_space};
 ghost use Rattle.um_syntax.specs.Lexing.{is_glued, is_power_place, is_caret, is_minus};
-ghost use Rattle.um_syntax.specs.Machine.{scan_start, step, steps, AllKept, ended, taken, close, begun, pushed, identifier_pushed, variable_pushed, letters_kind, number_taken, FiguresFit, PendingFits};
+ghost use Rattle.um_syntax.specs.Machine.{scan_start, step, steps, AllKept, IsNameRun, IsRun, ended, taken, close, begun, pushed, identifier_pushed, variable_pushed, letters_kind, number_taken, FiguresFit, PendingFits};
 ghost use Rattle.um_syntax.specs.declared.pending.Pending.TheVariants as pending;
 ghost use Rattle.um_syntax.specs.Scanning.{scan_of, Follows, Answers};
 
 use crate::number::{Figures, Part};
-use crate::pending::{Pending, starts_name};
+use crate::pending::{Pending, begins_name, starts_name};
 use crate::token::{Kind, Letters, LexStop, Token, Tokens};
 use crate::vocabulary::{Symbol, double_symbol, keyword_of, single_symbol};
 use std::alloc::{AllocError, Global};
@@ -301,16 +301,65 @@ impl Scanner {
         self.begin(c, next)
     }
 
-    /// How many bytes at the front of the text keep what has begun.
-    pub fn kept_len(&self, text: &str) -> usize
+    /// How many bytes at the front of the text are taken at once.
+    pub fn run_len(&self, text: &str) -> usize
         ensures within { result ≤ length text.now }
-        ensures kept { AllKept self.now.pending (take result text.now) }
+        ensures run { IsRun self.now.pending (take result text.now) }
     {
-        self.pending.kept_len(text.as_bytes())
+        self.pending.run_len(text.as_bytes())
     }
 
-    /// Takes characters that keep what has begun, all at once.
-    pub fn scan_kept(&mut self, text: &str) -> Result<(), AllocError>
+    /// Takes characters at once: they keep what has begun, or begin a name where nothing has.
+    pub fn scan_run(&mut self, text: &str) -> Result<(), AllocError>
+        requires run { IsRun self.old.pending text.now }
+        requires fits { PendingFits self.old.pending }
+        requires room { self.old.at + length text.now < 2 ^ 32 }
+        ensures goes { OnOk result (steps (Ok (scan_of self.old)) text.now ≡ Ok (scan_of self.new)) }
+        ensures fits { PendingFits self.new.pending }
+        ensures place { self.new.at ≡ self.old.at + length text.now }
+    {
+        match self.pending {
+            Pending::Free => self.scan_free(text),
+            _ => self.scan_kept(text),
+        }
+    }
+
+    // Takes characters at once where nothing has begun: those of a name, or blanks.
+    fn scan_free(&mut self, text: &str) -> Result<(), AllocError>
+        requires free { self.old.pending ≡ pending.Free }
+        requires run { IsRun pending.Free text.now }
+        requires fits { PendingFits self.old.pending }
+        requires room { self.old.at + length text.now < 2 ^ 32 }
+        ensures goes { OnOk result (steps (Ok (scan_of self.old)) text.now ≡ Ok (scan_of self.new)) }
+        ensures fits { PendingFits self.new.pending }
+        ensures place { self.new.at ≡ self.old.at + length text.now }
+    {
+        if begins_name(text.as_bytes()) {
+            self.scan_name(text)
+        } else {
+            self.scan_kept(text)
+        }
+    }
+
+    // Takes characters that begin a name and go on with it, all at once.
+    fn scan_name(&mut self, text: &str) -> Result<(), AllocError>
+        requires free { self.old.pending ≡ pending.Free }
+        requires name { IsNameRun text.now }
+        requires fits { PendingFits self.old.pending }
+        requires room { self.old.at + length text.now < 2 ^ 32 }
+        ensures goes { OnOk result (steps (Ok (scan_of self.old)) text.now ≡ Ok (scan_of self.new)) }
+        ensures fits { PendingFits self.new.pending }
+        ensures place { self.new.at ≡ self.old.at + length text.now }
+    {
+        let start = self.at;
+        self.at += text.len() as u32;
+        self.letters.push_str(text)?;
+        self.pending = Pending::Identifier { start };
+        Ok(())
+    }
+
+    // Takes characters that keep what has begun, all at once.
+    fn scan_kept(&mut self, text: &str) -> Result<(), AllocError>
         requires kept { AllKept self.old.pending text.now }
         requires fits { PendingFits self.old.pending }
         requires room { self.old.at + length text.now < 2 ^ 32 }

@@ -1,6 +1,6 @@
 //! The reserved words and the symbols of the language, with the table of their texts.
 ghost use Rattle.std.specs.Prelude.{◌≡◌};
-ghost use Rattle.um_syntax.specs.Machine.{keyword_of, single_symbol, double_symbol};
+ghost use Rattle.um_syntax.specs.Machine.{keyword_of, keywords, found_keyword, of_len, single_symbol, double_symbol};
 
 /// A reserved word.
 #[derive(Clone, Copy, Debug)]
@@ -81,28 +81,79 @@ pub enum Symbol {
     Arrow,
 }
 
-// The reserved word with these letters.
+// The reserved word with these letters. Few have as many as they are.
 pub fn keyword_of(letters: &str) -> Option<Keyword>
     ensures { result ≡ keyword_of letters.now }
+{
+    let len = letters.len();
+    if len == 2 {
+        of_two(letters)
+    } else if len == 3 {
+        of_three(letters)
+    } else if len == 4 {
+        of_four(letters)
+    } else if len == 5 {
+        of_five(letters)
+    } else if len == 7 {
+        of_seven(letters)
+    } else {
+        None
+    }
+}
+
+fn of_two(letters: &str) -> Option<Keyword>
+    ensures { result ≡ found_keyword letters.now (of_len 2 keywords) }
+{
+    match letters {
+        "in" => Some(Keyword::In),
+        "if" => Some(Keyword::If),
+        _ => None,
+    }
+}
+
+fn of_three(letters: &str) -> Option<Keyword>
+    ensures { result ≡ found_keyword letters.now (of_len 3 keywords) }
 {
     match letters {
         "let" => Some(Keyword::Let),
         "rec" => Some(Keyword::Rec),
-        "in" => Some(Keyword::In),
-        "if" => Some(Keyword::If),
+        "not" => Some(Keyword::Not),
+        "num" => Some(Keyword::Num),
+        _ => None,
+    }
+}
+
+fn of_four(letters: &str) -> Option<Keyword>
+    ensures { result ≡ found_keyword letters.now (of_len 4 keywords) }
+{
+    match letters {
         "then" => Some(Keyword::Then),
         "else" => Some(Keyword::Else),
-        "match" => Some(Keyword::Match),
         "with" => Some(Keyword::With),
         "type" => Some(Keyword::Type),
         "true" => Some(Keyword::True),
-        "false" => Some(Keyword::False),
-        "not" => Some(Keyword::Not),
-        "num" => Some(Keyword::Num),
         "bool" => Some(Keyword::Bool),
         "list" => Some(Keyword::List),
-        "Measure" => Some(Keyword::Measure),
         "pown" => Some(Keyword::Pown),
+        _ => None,
+    }
+}
+
+fn of_five(letters: &str) -> Option<Keyword>
+    ensures { result ≡ found_keyword letters.now (of_len 5 keywords) }
+{
+    match letters {
+        "match" => Some(Keyword::Match),
+        "false" => Some(Keyword::False),
+        _ => None,
+    }
+}
+
+fn of_seven(letters: &str) -> Option<Keyword>
+    ensures { result ≡ found_keyword letters.now (of_len 7 keywords) }
+{
+    match letters {
+        "Measure" => Some(Keyword::Measure),
         _ => None,
     }
 }

@@ -2,22 +2,25 @@ use Rattle.std.proofs.Common.{rules, ◌≡◌, ◌≤◌, ◌++◌, take, lengt
 use Rattle.std.specs.Char.{len_utf8}
 use Rattle.std.specs.Str.{chars, IsCharBoundary}
 use Rattle.um_syntax.specs.Feeding.{HasRead}
-use Rattle.um_syntax.proofs.Kept.{kept_boundary, kept_chars, first_char}
+use Rattle.um_syntax.proofs.Kept.{run_kept, kept_boundary, kept_chars, first_char}
 use Rattle.um_syntax.proofs.feed.Lexer.take_next.Goals as goal
 
 pub range-requires-clause-end_boundary : goal.range-requires-clause-end_boundary
 range-requires-clause-end_boundary c =
-    kept_boundary c.args.self.now.scanner.pending c.args.text.now c.kept_len-len.result c.utf8.text c.kept_len-len.ensures.within c.kept_len-len.ensures.kept
+    let kept = run_kept c.args.self.now.scanner.pending (take c.run_len-len.result c.args.text.now) c.run_len-len.ensures.run in
+    kept_boundary kept.0 c.args.text.now c.run_len-len.result c.utf8.text c.run_len-len.ensures.within kept.1
 
 pub returns-then-len-gt0-clause-front : goal.returns-then-len-gt0-clause-front
 returns-then-len-gt0-clause-front c =
-    kept_boundary c.args.self.now.scanner.pending c.args.text.now c.kept_len-len.result c.utf8.text c.kept_len-len.ensures.within c.kept_len-len.ensures.kept
+    let kept = run_kept c.args.self.now.scanner.pending (take c.run_len-len.result c.args.text.now) c.run_len-len.ensures.run in
+    kept_boundary kept.0 c.args.text.now c.run_len-len.result c.utf8.text c.run_len-len.ensures.within kept.1
 
 pub returns-then-len-gt0-clause-read : goal.returns-then-len-gt0-clause-read
 returns-then-len-gt0-clause-read c = λ cs h.
-    let front = take c.kept_len-len.result c.args.text.now in
+    let front = take c.run_len-len.result c.args.text.now in
+    let kept = run_kept c.args.self.now.scanner.pending front c.run_len-len.ensures.run in
     let same : c.range.result.now ≡ front = search rules in
-    subst (λ l. HasRead c.take_kept.new.self (cs ++ l)) (same ∙ sym (kept_chars c.args.self.now.scanner.pending front c.kept_len-len.ensures.kept)) (c.in_ok-take_kept.ensures.read cs h)
+    subst (λ l. HasRead c.take_run.new.self (cs ++ l)) (same ∙ sym (kept_chars kept.0 front kept.1)) (c.in_ok-take_run.ensures.read cs h)
 
 pub take_char-requires-clause-room : goal.take_char-requires-clause-room
 take_char-requires-clause-room c =
