@@ -1,4 +1,9 @@
 //! What each order asks of a program whose functions have their schemes, and the answer to it.
+//!
+//! ```
+//! let asked = Asked { order, words: &words, bytes, raw: &raw };
+//! let reply = answer_typed(alloc, &asked, &shaped, &schemes)?; // the text to write, and the status
+//! ```
 #![tactic(auto)]
 
 mod arguments;

@@ -1,5 +1,9 @@
 //! Tests alone: the calls of the lower crates that no command makes by itself, each once with ample memory.
 //! Nothing stands on this crate.
+//!
+//! ```
+//! rt test um_calls
+//! ```
 #![tactic(auto)]
 
 #[cfg(test)]

@@ -1,4 +1,11 @@
 //! Values in shared cells: words that are copied at once, and the store of the cells that they name.
+//!
+//! ```
+//! let mut store = Store::new(alloc);
+//! let list = store.put(alloc, &value)?; // a word, which is copied at once
+//! let longer = store.cons(item, list)?; // shares the cells of `list`
+//! let back = store.get(alloc, list)?; // the value that it stands for
+//! ```
 #![tactic(auto)]
 
 mod cell;

@@ -5,6 +5,11 @@
 //! free abelian group, which has no element of finite order). Equations have no solution where a product of them has powers
 //! that are multiples of a number at each variable, and none at some base unit (Schrijver, Theory of Linear and Integer
 //! Programming, 1986, section 4.1). Nothing is eliminated to check either. The form of certificates is this project's own.
+//!
+//! ```
+//! let shown = check_yes(alloc, &rows, units, bases, &scheme, &yes)?; // the scheme is that of these rows
+//! let refuted = check_no(alloc, &rows, units, bases, &no)?; // these rows have no solution
+//! ```
 #![tactic(auto)]
 
 mod becomes;

@@ -2,6 +2,11 @@
 //!
 //! What is still to be done stands in frames on a vector, so that neither calls nor the depth of the tree use the
 //! host's stack.
+//!
+//! ```
+//! let runner = TreeRunner::new(&shaped);
+//! let outcome = runner.call(alloc, f, args, budget)?; // a value, a trap, or the end of the budget
+//! ```
 #![tactic(auto)]
 
 mod call;

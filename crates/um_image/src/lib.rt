@@ -1,6 +1,12 @@
 //! Code images: the image of a program, and images as bytes.
 //!
 //! What an image is, and when it is verified, stands in `um_verify`.
+//!
+//! ```
+//! let image = image_of(alloc, &shaped, &code)?;
+//! let bytes = encode(alloc, &image)?;
+//! let back = decode(alloc, &bytes)?; // the same image, or the first byte at which no image can go on
+//! ```
 #![tactic(auto)]
 
 mod decoding;

@@ -3,6 +3,11 @@
 //! Functions are taken in order, each with the schemes of those before it (Kennedy, Programming Languages and
 //! Dimensions, 1996: a program's principal schemes). The limit of slots, the range of powers and the place of a refusal
 //! are this project's own.
+//!
+//! ```
+//! let schemes = infer(alloc, &shaped)?; // or the first function without one, with its place
+//! let ty = type_call(alloc, &shaped, &schemes, f, &args)?; // the type of a call
+//! ```
 #![tactic(auto)]
 
 mod call;

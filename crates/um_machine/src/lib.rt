@@ -2,6 +2,12 @@
 //!
 //! The machine stands in `specs/`, over values and apart from any store. What runs code is proved against it, and so is
 //! what writes code.
+//!
+//! ```
+//! let ops = Ops::from_vec(vec![in alloc; Op::Load(0), Op::Load(1), Op::Mul, Op::Ret]?); // x * y
+//! let entries = Entries::from_vec(vec![in alloc; Entry { start: 0, end: 4, params: 2 }]?);
+//! let code = Code { ops, entries };
+//! ```
 #![tactic(auto)]
 
 mod code;

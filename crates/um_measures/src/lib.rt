@@ -1,4 +1,9 @@
 //! Tables of names: measures, unit variables and the variables of a scope, with the units that unit texts stand for.
+//!
+//! ```
+//! let measures = measures_of(alloc, &program, &abbreviations)?;
+//! let unit = closed_unit(alloc, &program, &abbreviations, &raw)?; // `N s` as kg m/s
+//! ```
 #![tactic(auto)]
 
 mod abbreviation;

@@ -1,4 +1,9 @@
 //! Names: the program of a raw tree, with each name that it uses found where it is declared.
+//!
+//! ```
+//! let program = resolve(alloc, &raw)?; // or the first name that is unknown, repeated or miscounted
+//! let shorts = abbreviations(alloc, &raw, &program)?; // each with its closed unit
+//! ```
 #![tactic(auto)]
 
 mod adding;

@@ -1,4 +1,11 @@
 //! What the words of a command line ask for.
+//!
+//! ```
+//! let mut words = Words::new(alloc);
+//! words.push(alloc, "big")?;
+//! words.push(alloc, "10")?;
+//! let order = order_of(&words); // Some(Order::Big(10)), or None where the words are those of no command
+//! ```
 #![tactic(auto)]
 
 mod order;

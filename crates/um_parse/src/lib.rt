@@ -1,4 +1,9 @@
 //! The grammar of declarations and programs: from tokens to raw trees.
+//!
+//! ```
+//! let tokens = lex(alloc, text)?;
+//! let raw = parse(alloc, tokens.as_slice(), text.len() as u32)?; // or the exact place of the refusal
+//! ```
 #![tactic(auto)]
 
 mod decl_function;

@@ -2,6 +2,11 @@
 //!
 //! A reader stands for a machine. Where the machine reads a grammar, what [`read`] and [`read_all`] answer has the exact
 //! places of that grammar: `Stops` says which, and no two answers stand together.
+//!
+//! ```
+//! let (tree, stop) = read::<UnitReader>(alloc, tokens)?; // up to the first token that doesn't go on
+//! let tree = read_all::<ProgramReader>(alloc, tokens)?; // a text that all tokens make up
+//! ```
 #![tactic(auto)]
 
 mod reader;

@@ -3,6 +3,11 @@
 //! Each two units that a typing rule asks to be equal give a row, the first over the second, and a unit that the program
 //! leaves open is a slot (Kennedy, Programming Languages and Dimensions, 1996, on the inference of units). The order of the
 //! rows and of the slots, and the range of powers, are this project's own.
+//!
+//! ```
+//! let equations = rows(alloc, &shaped, f, &schemes)?; // schemes of the functions before f
+//! for row in &equations.list.items { .. } // row.unit is to be 1, as the text asks at row.at
+//! ```
 #![tactic(auto)]
 
 mod against;

@@ -2,6 +2,11 @@
 //!
 //! [`read_call`] looks the function up, reads each text at the shape of its parameter, and types the call. `specs/` has
 //! the whole answer as a relation ([`CallRefusal`] has the refusals). Nothing is run here.
+//!
+//! ```
+//! let call = read_call(alloc, &shaped, &schemes, &abbreviations, "mean", &texts)?;
+//! let args = argument_values(alloc, &call.inputs)?; // the values to run on; call.ty is the call's type
+//! ```
 #![tactic(auto)]
 
 mod argument;

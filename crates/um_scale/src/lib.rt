@@ -1,6 +1,13 @@
 //! Rescaling: programs, texts and inputs in other sizes of the base units, and both runs side by side.
 //!
 //! The law behind it is Kennedy's (Relational Parametricity and Units of Measure, 1997); it is proved in `um_scaling`.
+//!
+//! ```
+//! let mut scales = Scales::ones(alloc, 1)?;
+//! scales.set(0, hundred); // metres become centimetres
+//! let rescaled = rescale_program(alloc, &program, &scales)?; // or its first literal that doesn't fit
+//! let both = twin(alloc, &first, &second, &scales, 0, args, scaled, budget)?;
+//! ```
 #![tactic(auto)]
 
 mod copies;

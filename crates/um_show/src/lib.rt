@@ -1,4 +1,9 @@
 //! Printed texts: of numbers, of units, types and schemes, of values, and of programs in their layout.
+//!
+//! ```
+//! let line = scheme_text(alloc, &name, &scheme, &program)?; // `mean : num<'a> list -> num<'a>`
+//! let layout = program_text(alloc, &raw)?; // the program as `fmt` prints it
+//! ```
 #![tactic(auto)]
 
 mod decl;

@@ -4,6 +4,11 @@
 //! a function's scheme has exactly its typings as instances, a typing of the function (Kennedy, Programming Languages
 //! and Dimensions, 1996). Its variables are units of their own while it is matched. The grammar of signature texts, the
 //! order of the refusals and the range of powers are this project's own.
+//!
+//! ```
+//! let signature = read_signature(alloc, "num<'a> -> num<'a^2>", &program, &abbreviations)?;
+//! conform(alloc, &scheme, &signature, bases)?; // or the first type that differs
+//! ```
 #![tactic(auto)]
 
 mod conformity;

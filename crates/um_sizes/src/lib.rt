@@ -2,6 +2,12 @@
 //!
 //! [`is_scales`] says whether a word states sizes, and [`read_scales`] reads the sizes of a program's base units.
 //! `specs/` has what such a word is.
+//!
+//! ```
+//! if is_scales(alloc, "m=100,s=1r60")? {
+//!     let scales = read_scales(alloc, "m=100,s=1r60", &program)?; // or NoBaseUnit, where the program has no `m`
+//! }
+//! ```
 #![tactic(auto)]
 
 mod cut;

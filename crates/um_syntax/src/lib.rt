@@ -4,6 +4,11 @@
 //! characters, give the same tokens, and refuse at the leftmost fault. [`line_column`] turns a place into a line and a
 //! column. The definitions of tokens stand in `specs/`, apart from the machine, and the module [`laws`] has what holds
 //! of them.
+//!
+//! ```
+//! let tokens = lex(alloc, "let area (x: num<m>) = x * x")?; // or the leftmost refusal, with its place
+//! let (line, column) = line_column(text, at);
+//! ```
 #![tactic(auto)]
 
 mod decode;

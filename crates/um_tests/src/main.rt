@@ -4,6 +4,10 @@
 //! questions, which are the words of a run and the status and the answer that must come. Each
 //! question is put to `serve` over a source and a sink in memory. A line says what came, and the last
 //! line how many runs there were and how many came out as the table has them.
+//!
+//! ```
+//! crates/um_tests/out/um_tests < crates/um_tests/stdin
+//! ```
 #![tactic(auto)]
 
 mod piece;

@@ -1,4 +1,10 @@
 //! All that the program does, over any source and any sink.
+//!
+//! ```
+//! let mut words = Words::new(alloc);
+//! words.push(alloc, "types")?;
+//! let status = serve(alloc, &words, &mut source, &mut sink); // the answer is in the sink
+//! ```
 #![tactic(auto)]
 
 mod answer;

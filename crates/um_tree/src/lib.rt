@@ -1,4 +1,10 @@
 //! The language: its trees, its values, and the definitions of typing and meaning.
+//!
+//! ```
+//! let one = Node::Num(Frac::one(), UnitNote::Written(metre)); // the literal 1<m>
+//! let levels = height(&body); // at most GREATEST_HEIGHT
+//! let value = value_of(alloc, &input)?; // an argument without its units
+//! ```
 #![tactic(auto)]
 
 mod expression;

@@ -1,4 +1,9 @@
 //! The grammar of unit texts, notes, types and signature texts: from tokens to raw trees, with the exact place of each refusal.
+//!
+//! ```
+//! let (unit, stop) = parse_unit(alloc, tokens.as_slice(), 0, end)?; // `m/s^2`, up to what doesn't go on
+//! let types = parse_types(alloc, tokens.as_slice(), end)?; // `num<'a> -> num<'a^2>`
+//! ```
 #![tactic(auto)]
 
 mod height;

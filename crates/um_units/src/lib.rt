@@ -4,6 +4,13 @@
 //! measures are equal by its laws (F# specification, Units Of Measure). In contracts a unit is its exact value, a
 //! `PowerMap`, whose powers have no bound. The powers of a `Unit` lie in -2147483647..2147483647, which is this
 //! project's own, and an operation answers Range exactly where its exact result has a power outside.
+//!
+//! ```
+//! let metre = Unit::atom(alloc, Atom::Base(0))?;
+//! let second = Unit::atom(alloc, Atom::Base(1))?;
+//! let speed = metre.mul_pow(alloc, &second, -1)?; // m/s
+//! let area = metre.pow(alloc, 2)?; // m^2, or UnitStop::Range
+//! ```
 #![tactic(auto)]
 
 ghost use Rattle.std.specs.Prelude.{◌≡◌, ◌↔◌, IfOk, IsTrue, map, negsuc};

@@ -2,6 +2,11 @@
 //! values.
 //!
 //! What the rules are, and that a verified image never gets stuck, stands in `um_verify`.
+//!
+//! ```
+//! let image = decode(alloc, bytes)?;
+//! let verified = verify(alloc, image)?; // or the first head or address that fails
+//! ```
 #![tactic(auto)]
 
 mod body;

@@ -2,6 +2,13 @@
 //!
 //! A machine's steps are those of the definition in `um_machine`. The functions that wait stand in frames on a vector,
 //! so that neither calls nor the length of lists use the host's stack.
+//!
+//! ```
+//! let runner = CodeRunner::new(&shaped, &code);
+//! let counted = runner.count_steps(alloc, f, args, budget)?; // the outcome, and in how many steps
+//! let mut machine = Machine::start(alloc, &code, f, args, budget)?;
+//! let step = machine.step()?; // Going, Ended or Stuck
+//! ```
 #![tactic(auto)]
 
 mod counting;

@@ -3,6 +3,11 @@
 //! In contracts such a unit is its exact value, as the units of `um_units` are: an element of the free abelian group on
 //! the atoms (Kennedy, Programming Languages and Dimensions, 1996). No operation meets a range: each asks for the room that
 //! it needs.
+//!
+//! ```
+//! let high = WideUnit::power(alloc, &metre, 3_000_000_000)?; // a power that a Unit can't have
+//! let both = high.mul(alloc, &other)?; // where both have room for the sums of their powers
+//! ```
 #![tactic(auto)]
 
 ghost use Rattle.std.specs.Prelude.{◌≡◌, ◌↔◌, ◌*◌, ◌^◌, IfOk, IsTrue, nat_abs};

@@ -8,6 +8,13 @@
 //! [`StdSource`] and [`StdSink`] stand over std's readers and writers, [`QuietSource`] and
 //! [`QuietSink`] never fail, and [`MemSource`] and [`MemSink`] move a few bytes at a time and fail
 //! at the calls that a test names.
+//!
+//! ```
+//! let mut source = StdSource::new(rt.stdin());
+//! let text = read_text(alloc, &mut source, 1_048_576)?; // TooLong where one byte more can be read
+//! let mut sink = StdSink::new(rt.stdout());
+//! write_all(&mut sink, &text)?;
+//! ```
 #![tactic(auto)]
 
 mod copy;
