@@ -1,10 +1,11 @@
 //! Tokens, and why a text has none.
-ghost use Rattle.std.specs.Prelude.{◌≡◌, ℕ, List, IfOk};
+ghost use Rattle.std.specs.Prelude.{◌≡◌, ℕ, List, [], IfOk};
 ghost use Rattle.um_syntax.specs.declared.token.LexStop.TheVariants.{NoMemory};
 
 use crate::vocabulary::{Keyword, Symbol};
 use std::alloc::{AllocError, Global};
 use std::marker::Model;
+use std::mem;
 use thiserror::Error;
 use um_frac::Frac;
 
@@ -47,6 +48,21 @@ impl Letters {
         self.bytes
     }
 
+    /// The letters, copied.
+    pub fn copy(&self, alloc: Global) -> Result<Letters, AllocError>
+        ensures { IfOk result (λ l. l ≡ self.now) }
+    {
+        Letters::from_slice(alloc, &self.bytes)
+    }
+
+    /// The letters, which leaves none. Takes no memory.
+    pub fn take(&mut self, alloc: Global) -> Letters
+        ensures letters { result ≡ self.old }
+        ensures none { self.new ≡ [] }
+    {
+        mem::replace(self, Letters::from_vec(Vec::new(alloc)))
+    }
+
     /// The letters.
     pub fn as_slice(&self) -> &[u8]
         ensures { result.now ≡ self.now }
@@ -76,6 +92,26 @@ pub enum Kind {
     Sign(Symbol),
 }
 
+impl Kind {
+    /// The same kind, with its letters copied.
+    pub fn copy(&self, alloc: Global) -> Result<Kind, AllocError>
+        ensures { IfOk result (λ k. k ≡ self.now) }
+    {
+        match self {
+            Kind::Name(letters) => Ok(Kind::Name(letters.copy(alloc)?)),
+            Kind::Var(letters) => Ok(Kind::Var(letters.copy(alloc)?)),
+            Kind::Number { value, digits, one } => Ok(Kind::Number {
+                value: *value,
+                digits: *digits,
+                one: *one,
+            }),
+            Kind::Word(keyword) => Ok(Kind::Word(*keyword)),
+            Kind::Hole => Ok(Kind::Hole),
+            Kind::Sign(symbol) => Ok(Kind::Sign(*symbol)),
+        }
+    }
+}
+
 /// A token of a text.
 #[derive(Debug, Drop)]
 pub struct Token {
@@ -86,6 +122,20 @@ pub struct Token {
     pub end: u32,
     /// Whether nothing was skipped between it and the token before. The first token isn't glued.
     pub glued: bool,
+}
+
+impl Token {
+    /// The same token, with its letters copied.
+    pub fn copy(&self, alloc: Global) -> Result<Token, AllocError>
+        ensures { IfOk result (λ t. t ≡ self.now) }
+    {
+        Ok(Token {
+            kind: self.kind.copy(alloc)?,
+            start: self.start,
+            end: self.end,
+            glued: self.glued,
+        })
+    }
 }
 
 /// A list of tokens.
