@@ -1,5 +1,6 @@
 // The loop over the tokens.
-ghost use Rattle.std.specs.Prelude.{◌≡◌};
+ghost use Rattle.std.specs.Prelude.{◌≡◌, ◌≤◌, IfOk};
+ghost use Rattle.um_reader.specs.Takes.{Takes};
 ghost use Rattle.um_reader.specs.RunTo.{RunTo, RunAll, ended_at};
 ghost use Rattle.um_reader.specs.declared.reading.ReadStop.TheVariants.{NoMemory};
 
@@ -35,6 +36,21 @@ fn ended_at<A>(found: Option<A>, k: usize) -> Result<(A, usize), ReadStop>
     }
 }
 
+// One token more, which stays as it is: the reader takes a copy of it.
+fn take_copy<R: Reader + Drop>(
+    alloc: Global,
+    reader: &mut R,
+    token: &R::Token,
+) -> Result<Taken, AllocError>
+    requires low { R.machine.least (R.state_in reader.old) ≤ R.limit }
+    ensures taken { IfOk result (λ t. Takes R.machine R.limit (R.state_in reader.old) token.now t (R.state_in reader.new)) }
+{
+    let mut copy = R::copy(alloc, token)?;
+    let taken = reader.take(alloc, &mut copy);
+    drop(copy);
+    taken
+}
+
 /// Reads up to the stop: the first token that is refused, or the end. Gives the tree up to it, and its number.
 pub fn read<R: Reader + Drop>(
     alloc: Global,
@@ -44,7 +60,7 @@ pub fn read<R: Reader + Drop>(
 {
     let mut reader = R::new(alloc);
     for (i, token) in tokens.iter().enumerate() {
-        match reader.take(alloc, token)? {
+        match take_copy(alloc, &mut reader, token)? {
             Taken::Goes => {}
             Taken::Stops => return ended_at(reader.finish(alloc)?, i),
             Taken::High => return Err(ReadStop::High(i)),

@@ -5,8 +5,8 @@ use Rattle.um_reader.proofs.reading.read.Goals as goal
 pub loop-i-init : goal.loop-i-init
 loop-i-init g c = ((omega arith, g.met.R.Reader.starts, g.met.R.Reader.starts_low), c.new-reader.ensures.start)
 
-pub take-requires : goal.take-requires
-take-requires g c =
+pub take_copy-requires : goal.take_copy-requires
+take_copy-requires g c =
     let r = g.R.Reader in
     record { low = subst (λ s. r.machine.least s ≤ r.limit) (sym c.loop-i.invariant.1) c.loop-i.invariant.0.2 }
 
@@ -15,16 +15,16 @@ loop-i-preserved g c =
     let r = g.R.Reader in
     let x = c.index-tokens-i.result in
     let same : get_or c.args.tokens.now c.loop-i.i x ≡ x = search (rules, c.index-tokens-i.is) in
-    let given = rw c.in-Goes.is at c.in_ok-take.ensures.taken in
-    goes r.machine r.limit c.args.tokens.now c.loop-i.i x (r.state_in c.loop-i.reader) (r.state_in c.take.new.self) c.loop-i-test.true same c.loop-i.invariant given
+    let given = rw c.in-Goes.is at c.in_ok-take_copy.ensures.taken in
+    goes r.machine r.limit c.args.tokens.now c.loop-i.i x (r.state_in c.loop-i.reader) (r.state_in c.take_copy.new.reader) c.loop-i-test.true same c.loop-i.invariant given
 
 pub returns-in-High : goal.returns-in-High
 returns-in-High g c =
     let r = g.R.Reader in
     let x = c.index-tokens-i.result in
     let same : get_or c.args.tokens.now c.loop-i.i x ≡ x = search (rules, c.index-tokens-i.is) in
-    let given = rw c.in-High.is at c.in_ok-take.ensures.taken in
-    too_high r.machine r.limit c.args.tokens.now c.loop-i.i x (r.state_in c.loop-i.reader) (r.state_in c.take.new.self) c.loop-i-test.true same c.loop-i.invariant given
+    let given = rw c.in-High.is at c.in_ok-take_copy.ensures.taken in
+    too_high r.machine r.limit c.args.tokens.now c.loop-i.i x (r.state_in c.loop-i.reader) (r.state_in c.take_copy.new.reader) c.loop-i-test.true same c.loop-i.invariant given
 
 pub returns-in-Stops : goal.returns-in-Stops
 returns-in-Stops g c =
@@ -32,9 +32,9 @@ returns-in-Stops g c =
     let x = c.index-tokens-i.result in
     let found = c.in_ok-finish-in-Stops in
     let same : get_or c.args.tokens.now c.loop-i.i x ≡ x = search (rules, c.index-tokens-i.is) in
-    let given = rw c.in-Stops.is at c.in_ok-take.ensures.taken in
+    let given = rw c.in-Stops.is at c.in_ok-take_copy.ensures.taken in
     rw c.ended_at.ensures
-    (stops r.machine r.limit c.args.tokens.now r.view c.loop-i.i x (r.state_in c.loop-i.reader) (r.state_in c.take.new.self) found.field-0 c.loop-i-test.true same c.loop-i.invariant given found.ensures.found)
+    (stops r.machine r.limit c.args.tokens.now r.view c.loop-i.i x (r.state_in c.loop-i.reader) (r.state_in c.take_copy.new.reader) found.field-0 c.loop-i-test.true same c.loop-i.invariant given found.ensures.found)
 
 pub returns : goal.returns
 returns g c =
