@@ -1,5 +1,6 @@
 -- What is open and at hand, without where it lies in memory.
 use Rattle.std.specs.Prelude.{◌≡◌, ℕ, ◌+◌, ◌⊎◌, Bool, true, false, List, [], ◌∷◌, Option, Some, None}
+use Rattle.um_syntax.specs.declared.token.Token.{Token}
 use Rattle.um_tree.specs.Heights.{unit_height}
 use Rattle.um_types.specs.declared.unit_frame.Frame.{Frame as Open}
 use Rattle.um_types.specs.declared.unit_frame.Focus.{Focus}
@@ -29,6 +30,11 @@ unit_state r = state_of r.frames r.focus
 abbrev pub Simulates : State → Frames → Step → State → Type 0
 Simulates old frames (step.Goes now) state = state ≡ state_of frames now
 Simulates old frames (step.Stops now) state = (state ≡ Refused) × (finish (state_of frames now) ≡ finish old)
+
+-- a token that the text stops before stays as it was
+abbrev pub Keeps : Step → Token → Token → Type 0
+Keeps (step.Goes now) old new = Unit {0}
+Keeps (step.Stops now) old new = new ≡ old
 
 -- whether the innermost frame needs no token to end
 abbrev pub ends_itself : List Frame → Bool

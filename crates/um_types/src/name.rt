@@ -1,13 +1,12 @@
 // Names of raw trees.
-ghost use Rattle.std.specs.Prelude.{◌≡◌, IfOk};
+ghost use Rattle.std.specs.Prelude.{◌≡◌};
 
-use std::alloc::{AllocError, Global};
 use um_syntax::Letters;
 use um_tree::Name;
 
-/// The name with these letters.
-pub fn name_of(alloc: Global, letters: &Letters) -> Result<Name, AllocError>
-    ensures { IfOk result (λ x. x ≡ letters.now) }
+/// The name with these letters. Takes no memory.
+pub fn name_of(letters: Letters) -> Name
+    ensures { result ≡ letters }
 {
-    Ok(Name::from_vec(Vec::from_slice(alloc, letters.as_slice())?))
+    Name::from_vec(letters.into_vec())
 }

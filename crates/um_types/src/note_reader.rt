@@ -47,9 +47,10 @@ impl NoteReader {
         }
     }
 
-    /// One token more.
-    pub fn take(&mut self, alloc: Global, token: &Token) -> Result<Taken, AllocError>
-        ensures taken { IfOk result (λ t. Takes machine_of_notes greatest_height (note_state self.old) token.now t (note_state self.new)) }
+    /// One token more, which stays as it was where it is refused.
+    pub fn take(&mut self, alloc: Global, token: &mut Token) -> Result<Taken, AllocError>
+        ensures taken { IfOk result (λ t. Takes machine_of_notes greatest_height (note_state self.old) token.old t (note_state self.new)) }
+        ensures kept { IfOk result (λ t. t ≡ Taken.Stops → token.new ≡ token.old) }
     {
         match &mut self.focus {
             NoteFocus::Empty => self.take_first(alloc, token),
@@ -62,9 +63,10 @@ impl NoteReader {
     }
 
     // The first token.
-    fn take_first(&mut self, alloc: Global, token: &Token) -> Result<Taken, AllocError>
+    fn take_first(&mut self, alloc: Global, token: &mut Token) -> Result<Taken, AllocError>
         requires { note_state self.old ≡ NeedNote }
-        ensures { IfOk result (λ t. Takes machine_of_notes greatest_height NeedNote token.now t (note_state self.new)) }
+        ensures taken { IfOk result (λ t. Takes machine_of_notes greatest_height NeedNote token.old t (note_state self.new)) }
+        ensures kept { IfOk result (λ t. t ≡ Taken.Stops → token.new ≡ token.old) }
     {
         match &token.kind {
             Kind::Hole => {
@@ -77,13 +79,15 @@ impl NoteReader {
     }
 
     // The first token of what is a unit text, if it is any note.
-    fn take_unit(&mut self, alloc: Global, token: &Token) -> Result<Taken, AllocError>
-        ensures { IfOk result (λ t. Takes machine_of_notes greatest_height (InUnit token.now.start (Need [])) token.now t (note_state self.new)) }
+    fn take_unit(&mut self, alloc: Global, token: &mut Token) -> Result<Taken, AllocError>
+        ensures taken { IfOk result (λ t. Takes machine_of_notes greatest_height (InUnit token.old.start (Need [])) token.old t (note_state self.new)) }
+        ensures kept { IfOk result (λ t. t ≡ Taken.Stops → token.new ≡ token.old) }
     {
+        let at = token.start;
         let mut unit = UnitReader::new(alloc);
         match unit.take(alloc, token) {
             Ok(taken) => {
-                self.put(NoteFocus::Unit(token.start, unit));
+                self.put(NoteFocus::Unit(at, unit));
                 Ok(taken)
             }
             Err(error) => {

@@ -101,9 +101,14 @@ impl Reader for SignatureReader {
         }
     }
 
-    fn take(&mut self, alloc: Global, token: &Token) -> Result<Taken, AllocError>
+    fn copy(alloc: Global, token: &Token) -> Result<Token, AllocError> {
+        token.copy(alloc)
+    }
+
+    fn take(&mut self, alloc: Global, token: &mut Token) -> Result<Taken, AllocError>
         requires low { signature_least (signature_state self.old) ≤ greatest_height }
-        ensures taken { IfOk result (λ t. Takes machine_of_signatures greatest_height (signature_state self.old) token.now t (signature_state self.new)) }
+        ensures taken { IfOk result (λ t. Takes machine_of_signatures greatest_height (signature_state self.old) token.old t (signature_state self.new)) }
+        ensures kept { IfOk result (λ t. t ≡ Taken.Stops → token.new ≡ token.old) }
     {
         match self.last.take(alloc, token)? {
             Taken::Goes => Ok(Taken::Goes),

@@ -58,17 +58,16 @@ impl TypeOperand {
     }
 
     /// The type that a name is.
-    pub fn named(alloc: Global, at: u32, letters: &Letters) -> Result<TypeOperand, AllocError>
-        ensures { IfOk result (λ p. operand_type p ≡ record_syntax at letters.now []) }
+    pub fn named(alloc: Global, at: u32, letters: Letters) -> TypeOperand
+        ensures { operand_type result ≡ record_syntax at letters [] }
     {
-        let name = name_of(alloc, letters)?;
         let notes = RawNotes {
             items: Vec::new(alloc),
         };
-        Ok(TypeOperand {
-            ty: RawType::Name(at, name, notes),
+        TypeOperand {
+            ty: RawType::Name(at, name_of(letters), notes),
             height: 1,
-        })
+        }
     }
 
     /// A list of it

@@ -43,10 +43,11 @@ impl TypeReader {
         }
     }
 
-    /// One token more.
-    pub fn take(&mut self, alloc: Global, token: &Token) -> Result<Taken, AllocError>
+    /// One token more, which stays as it was where it is refused.
+    pub fn take(&mut self, alloc: Global, token: &mut Token) -> Result<Taken, AllocError>
         requires low { type_least (type_state self.old) ≤ greatest_height }
-        ensures taken { IfOk result (λ t. Takes machine_of_types greatest_height (type_state self.old) token.now t (type_state self.new)) }
+        ensures taken { IfOk result (λ t. Takes machine_of_types greatest_height (type_state self.old) token.old t (type_state self.new)) }
+        ensures kept { IfOk result (λ t. t ≡ Taken.Stops → token.new ≡ token.old) }
     {
         match &mut self.focus {
             TypeFocus::Empty => self.take_own(alloc, token),
@@ -60,12 +61,13 @@ impl TypeReader {
     }
 
     // One token more, which the note has refused, if one has begun.
-    fn take_own(&mut self, alloc: Global, token: &Token) -> Result<Taken, AllocError>
+    fn take_own(&mut self, alloc: Global, token: &mut Token) -> Result<Taken, AllocError>
         requires low { IsLow (type_state self.old) }
-        ensures { IfOk result (λ t. Gives machine_of_types greatest_height (type_state self.old) (own_act (type_state self.old) token.now.kind token.now.start) t (type_state self.new)) }
+        ensures taken { IfOk result (λ t. Gives machine_of_types greatest_height (type_state self.old) (own_act (type_state self.old) token.old.kind token.old.start) t (type_state self.new)) }
+        ensures kept { IfOk result (λ t. t ≡ Taken.Stops → token.new ≡ token.old) }
     {
         match mem::replace(&mut self.focus, TypeFocus::Empty) {
-            TypeFocus::Empty => self.take_first(alloc, token),
+            TypeFocus::Empty => Ok(self.take_first(alloc, token)),
             TypeFocus::Full(operand) => self.take_after(alloc, operand, token),
             TypeFocus::Note(owner, note) => self.take_behind(alloc, owner, note, token),
         }
@@ -98,20 +100,21 @@ impl TypeReader {
     }
 
     // One token where a type is wanted.
-    fn take_first(&mut self, alloc: Global, token: &Token) -> Result<Taken, AllocError>
+    fn take_first(&mut self, alloc: Global, token: &mut Token) -> Taken
         requires wanted { self.old.focus ≡ TypeFocus.Empty }
         requires low { self.old.depth + 1 ≤ greatest_height }
-        ensures { IfOk result (λ t. Gives machine_of_types greatest_height (NeedType self.old.depth) (type_begin self.old.depth token.now.kind token.now.start) t (type_state self.new)) }
+        ensures taken { Gives machine_of_types greatest_height (NeedType self.old.depth) (type_begin self.old.depth token.old.kind token.old.start) result (type_state self.new) }
+        ensures kept { result ≡ Taken.Stops → token.new ≡ token.old }
     {
-        match &token.kind {
+        match &mut token.kind {
             Kind::Name(letters) => {
-                let operand = TypeOperand::named(alloc, token.start, letters)?;
-                Ok(self.give(operand))
+                let operand = TypeOperand::named(alloc, token.start, letters.take(alloc));
+                self.give(operand)
             }
-            Kind::Word(Keyword::Num) => Ok(self.give(TypeOperand::num())),
-            Kind::Word(Keyword::Bool) => Ok(self.give(TypeOperand::bool())),
-            Kind::Sign(Symbol::LeftParen) => Ok(self.open_bracket()),
-            _ => Ok(Taken::Stops),
+            Kind::Word(Keyword::Num) => self.give(TypeOperand::num()),
+            Kind::Word(Keyword::Bool) => self.give(TypeOperand::bool()),
+            Kind::Sign(Symbol::LeftParen) => self.open_bracket(),
+            _ => Taken::Stops,
         }
     }
 

@@ -1,9 +1,9 @@
 // Reading a unit text token by token.
-ghost use Rattle.std.specs.Prelude.{◌≡◌, ◌<◌, IfOk, IfSome, OnOk, Some, None, option_map, vec_len, pos, neg_ℤ};
+ghost use Rattle.std.specs.Prelude.{◌≡◌, ◌<◌, IfOk, IfSome, IfNone, OnOk, Some, None, option_map, vec_len, pos, neg_ℤ};
 ghost use Rattle.um_types.specs.UnitTokens.{unit_token, power_of};
 ghost use Rattle.um_types.specs.UnitMachine.{Need, sign_after, Have, Raised, Lowered, reduce, juxtapose, begin, raised, lowered, close_after, opens, after, act, finish, atom_of, power_in, is_atom};
 ghost use Rattle.um_types.specs.UnitFrames.{operand_syntax};
-ghost use Rattle.um_types.specs.UnitView.{frames_of, state_of, Simulates, Ended, Unbracketed, ends_itself};
+ghost use Rattle.um_types.specs.UnitView.{frames_of, state_of, Simulates, Keeps, Ended, Unbracketed, ends_itself};
 
 use crate::unit_frame::{Focus, Frame, Step};
 use crate::unit_frames::Frames;
@@ -92,15 +92,22 @@ fn power_of(value: Frac, digits: bool) -> Option<i32>
     }
 }
 
-// The atom that a token is, if it is one; not an opening bracket.
-fn atom(alloc: Global, kind: &Kind, at: u32) -> Result<Option<Operand>, AllocError>
-    ensures { IfOk result (λ o. option_map operand_syntax o ≡ atom_of (unit_token kind.now) at) }
+// The atom that a token is, if it is one; not an opening bracket. Its letters are moved into the atom.
+fn atom(alloc: Global, kind: &mut Kind, at: u32) -> Option<Operand>
+    ensures atom { option_map operand_syntax result ≡ atom_of (unit_token kind.old) at }
+    ensures kept { IfNone result (kind.new ≡ kind.old) }
 {
     match kind {
-        Kind::Name(letters) => Ok(Some(Operand::measure(alloc, at, letters)?)),
-        Kind::Var(letters) => Ok(Some(Operand::variable(alloc, at, letters)?)),
-        Kind::Number { one, .. } => Ok(if *one { Some(Operand::one(at)) } else { None }),
-        Kind::Word(_) | Kind::Hole | Kind::Sign(_) => Ok(None),
+        Kind::Name(letters) => Some(Operand::measure(at, letters.take(alloc))),
+        Kind::Var(letters) => Some(Operand::variable(at, letters.take(alloc))),
+        Kind::Number { one, .. } => {
+            if *one {
+                Some(Operand::one(at))
+            } else {
+                None
+            }
+        }
+        Kind::Word(_) | Kind::Hole | Kind::Sign(_) => None,
     }
 }
 
@@ -115,10 +122,15 @@ pub fn written_power(kind: &Kind) -> Option<i32>
 }
 
 // One token where an atom is wanted.
-fn step_empty(alloc: Global, frames: &mut Frames, token: &Token) -> Result<Step, AllocError>
-    ensures { IfOk result (λ s. Simulates (Need (frames_of frames.old)) frames.new s (begin (frames_of frames.old) (unit_token token.now.kind) token.now.start)) }
+fn step_empty(
+    alloc: Global,
+    frames: &mut Frames,
+    token: &mut Token,
+) -> Result<Step, AllocError>
+    ensures state { IfOk result (λ s. Simulates (Need (frames_of frames.old)) frames.new s (begin (frames_of frames.old) (unit_token token.old.kind) token.old.start)) }
+    ensures kept { IfOk result (λ s. Keeps s token.old token.new) }
 {
-    if let Some(atom) = atom(alloc, &token.kind, token.start)? {
+    if let Some(atom) = atom(alloc, &mut token.kind, token.start) {
         return Ok(Step::Goes(Focus::Full(atom)));
     }
     match &token.kind {
@@ -226,11 +238,12 @@ fn step_full(
     alloc: Global,
     frames: &mut Frames,
     operand: Operand,
-    token: &Token,
+    token: &mut Token,
 ) -> Result<Step, AllocError>
-    ensures { IfOk result (λ s. Simulates (Have (frames_of frames.old) (operand_syntax operand)) frames.new s (after (frames_of frames.old) (operand_syntax operand) (unit_token token.now.kind) token.now.start)) }
+    ensures state { IfOk result (λ s. Simulates (Have (frames_of frames.old) (operand_syntax operand)) frames.new s (after (frames_of frames.old) (operand_syntax operand) (unit_token token.old.kind) token.old.start)) }
+    ensures kept { IfOk result (λ s. Keeps s token.old token.new) }
 {
-    if let Some(atom) = atom(alloc, &token.kind, token.start)? {
+    if let Some(atom) = atom(alloc, &mut token.kind, token.start) {
         juxtapose(alloc, frames, operand)?;
         return Ok(Step::Goes(Focus::Full(atom)));
     }
@@ -252,14 +265,15 @@ fn step_full(
     }
 }
 
-/// One token more.
+/// One token more, which stays as it was where it is refused.
 pub fn step(
     alloc: Global,
     frames: &mut Frames,
     focus: Focus,
-    token: &Token,
+    token: &mut Token,
 ) -> Result<Step, AllocError>
-    ensures { IfOk result (λ s. Simulates (state_of frames.old focus) frames.new s (act (state_of frames.old focus) (unit_token token.now.kind) token.now.start)) }
+    ensures state { IfOk result (λ s. Simulates (state_of frames.old focus) frames.new s (act (state_of frames.old focus) (unit_token token.old.kind) token.old.start)) }
+    ensures kept { IfOk result (λ s. Keeps s token.old token.new) }
 {
     match focus {
         Focus::Empty => step_empty(alloc, frames, token),

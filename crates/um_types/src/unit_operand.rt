@@ -40,25 +40,23 @@ impl Operand {
     }
 
     /// A measure
-    pub fn measure(alloc: Global, at: u32, letters: &Letters) -> Result<Operand, AllocError>
-        ensures { IfOk result (λ p. operand_syntax p ≡ measure_syntax at letters.now) }
+    pub fn measure(at: u32, letters: Letters) -> Operand
+        ensures { operand_syntax result ≡ measure_syntax at letters }
     {
-        let name = name_of(alloc, letters)?;
-        Ok(Operand {
-            unit: RawUnit::Name(at, name),
+        Operand {
+            unit: RawUnit::Name(at, name_of(letters)),
             height: 1,
-        })
+        }
     }
 
     /// A variable
-    pub fn variable(alloc: Global, at: u32, letters: &Letters) -> Result<Operand, AllocError>
-        ensures { IfOk result (λ p. operand_syntax p ≡ variable_syntax at letters.now) }
+    pub fn variable(at: u32, letters: Letters) -> Operand
+        ensures { operand_syntax result ≡ variable_syntax at letters }
     {
-        let name = name_of(alloc, letters)?;
-        Ok(Operand {
-            unit: RawUnit::Var(at, name),
+        Operand {
+            unit: RawUnit::Var(at, name_of(letters)),
             height: 1,
-        })
+        }
     }
 
     /// Raised to a power

@@ -77,8 +77,13 @@ impl Reader for UnitReader {
         }
     }
 
-    fn take(&mut self, alloc: Global, token: &Token) -> Result<Taken, AllocError>
-        ensures taken { IfOk result (λ t. Takes machine_of_units greatest_height (unit_state self.old) token.now t (unit_state self.new)) }
+    fn copy(alloc: Global, token: &Token) -> Result<Token, AllocError> {
+        token.copy(alloc)
+    }
+
+    fn take(&mut self, alloc: Global, token: &mut Token) -> Result<Taken, AllocError>
+        ensures taken { IfOk result (λ t. Takes machine_of_units greatest_height (unit_state self.old) token.old t (unit_state self.new)) }
+        ensures kept { IfOk result (λ t. t ≡ Taken.Stops → token.new ≡ token.old) }
     {
         let focus = mem::replace(&mut self.focus, Focus::Empty);
         match step(alloc, &mut self.frames, focus, token)? {
