@@ -8,6 +8,7 @@ mod UnitCounts
 pub mod UnitCut
 pub mod UnitNested
 pub mod ForeignTokens
+pub mod TokenPlaces
 pub mod NoteComplete
 pub mod NoteLaws
 pub mod TypeComplete

@@ -1,6 +1,6 @@
 -- Mirrors the code: what the parts of `read_value` answer.
 -- Source: this project's own.
-use Rattle.std.specs.Prelude.{◌≡◌, ℕ, ◌≤◌, List, Option, Some, None, Result, Ok, Err}
+use Rattle.std.specs.Prelude.{◌≡◌, ℕ, ◌≤◌, ◌⊎◌, List, Option, Some, None, Result, Ok, Err}
 use Rattle.std.specs.Str.{chars}
 use Rattle.um_syntax.specs.declared.token.Token.{Token}
 use Rattle.um_syntax.specs.Lexing.{HasTokens}
@@ -9,6 +9,9 @@ use Rattle.um_tree.specs.TypeTree.{ShapeTree}
 use Rattle.um_tree.specs.ProgramTree.{RecordTree}
 use Rattle.um_tree.specs.ValueTree.{input_tree}
 use Rattle.um_tree.specs.declared.value.Input.{Input}
+use Rattle.um_reader.specs.Machine.{Machine}
+use Rattle.um_reader.specs.RunTo.{RunAll}
+use Rattle.um_reader.specs.declared.reading.ReadStop.TheVariants as read_stop
 use Rattle.um_types.specs.UnitStops.{greatest_height, place_of}
 use Rattle.um_value.specs.declared.raw.RawValue.{RawValue}
 use Rattle.um_value.specs.declared.stop.InputStop.{InputStop}
@@ -27,6 +30,18 @@ IsLexed text (Err (stop.Shape at)) = ⊥
 IsLexed text (Err (stop.Names at)) = ⊥
 IsLexed text (Err (stop.PowerRange at)) = ⊥
 IsLexed text (Err stop.NoMemory) = Unit {0}
+
+-- what the loop over the tokens answers, by the states of the machine; a refusal has the place of its token
+abbrev pub RunAt : {S : Type 0} → Machine S Token ValueSyntax → List Token → ℕ → Result RawValue InputStop → Type 0
+RunAt m tokens end (Ok raw) = RunAll m greatest_height value_syntax tokens (Ok raw)
+RunAt m tokens end (Err (stop.Text at)) = ⊥
+RunAt m tokens end (Err (stop.Shape at)) =
+    (k : ℕ) × (at ≡ place_of tokens k end)
+    × (RunAll m greatest_height value_syntax tokens (Err (read_stop.Syntax k))
+    ⊎ RunAll m greatest_height value_syntax tokens (Err (read_stop.High k)))
+RunAt m tokens end (Err (stop.Names at)) = ⊥
+RunAt m tokens end (Err (stop.PowerRange at)) = ⊥
+RunAt m tokens end (Err stop.NoMemory) = Unit {0}
 
 -- the value text of the tokens
 abbrev pub IsRawOf : List RecordTree → ShapeTree → List Token → ℕ → Result RawValue InputStop → Type 0

@@ -11,7 +11,7 @@ ghost use Rattle.um_measures.specs.ClosedUnits.{given};
 ghost use Rattle.um_value.specs.ValueSyntax.{value_syntax};
 ghost use Rattle.um_value.specs.ValueGrammar.{IsShapeIn};
 ghost use Rattle.um_value.specs.InputRead.{IsInputOf};
-ghost use Rattle.um_value.specs.ReadingParts.{IsLexed, IsRawOf, IsNamed};
+ghost use Rattle.um_value.specs.ReadingParts.{IsLexed, IsNamed};
 
 use crate::inputs::input_of;
 use crate::names::name_fault;
@@ -20,10 +20,8 @@ use crate::reading::read_raw;
 use crate::stop::InputStop;
 use std::alloc::Global;
 use um_measures::{Abbreviations, Measures, measures_of};
-use um_reader::ReadStop;
-use um_syntax::{LexStop, Token, Tokens, lex};
+use um_syntax::{LexStop, Tokens, lex};
 use um_tree::{Input, Program, Shape};
-use um_types::place;
 
 // The tokens of a text.
 fn tokens_of(alloc: Global, text: &str) -> Result<Tokens, InputStop>
@@ -36,30 +34,6 @@ fn tokens_of(alloc: Global, text: &str) -> Result<Tokens, InputStop>
         Err(LexStop::NumberRange { at }) => Err(InputStop::Text { at }),
         Err(LexStop::PowerText { at }) => Err(InputStop::Text { at }),
         Err(LexStop::NoMemory) => Err(InputStop::NoMemory),
-    }
-}
-
-// The value text that the tokens are; `end` is the length of the text.
-fn raw_of(
-    alloc: Global,
-    program: &Program,
-    shape: &Shape,
-    tokens: &[Token],
-    end: u32,
-) -> Result<RawValue, InputStop>
-    requires formed { IsFormed (program_tree program.now) }
-    requires shape { IsShapeIn (program_tree program.now).records (shape_tree shape.now) }
-    ensures { IsRawOf (program_tree program.now).records (shape_tree shape.now) tokens.now end result }
-{
-    match read_raw(alloc, program, shape, tokens) {
-        Ok(raw) => Ok(raw),
-        Err(ReadStop::Syntax(k)) => Err(InputStop::Shape {
-            at: place(tokens, k, end),
-        }),
-        Err(ReadStop::High(k)) => Err(InputStop::Shape {
-            at: place(tokens, k, end),
-        }),
-        Err(ReadStop::NoMemory) => Err(InputStop::NoMemory),
     }
 }
 
@@ -125,9 +99,7 @@ pub fn read_value(
         → IfOk result (λ input. IsFormedInput (length program.now.bases) (input_tree input)) }
 {
     let tokens = tokens_of(alloc, text)?;
-    let read = raw_of(alloc, program, shape, tokens.as_slice(), text.len() as u32);
-    drop(tokens);
-    let raw = read?;
+    let raw = read_raw(alloc, program, shape, tokens, text.len() as u32)?;
     let input = named_input(alloc, program, abbreviations, &raw);
     drop(raw);
     input

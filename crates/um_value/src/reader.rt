@@ -55,15 +55,15 @@ impl<'a> ValueReader<'a> {
         }
     }
 
-    /// One token more.
+    /// One token more. A note moves the letters of its names out of it.
     pub(crate) fn take(
         &mut self,
         alloc: Global,
         records: &'a [Record],
-        token: &Token,
+        token: &mut Token,
     ) -> Result<Taken, AllocError>
         requires low { value_least (value_state self.old) ≤ greatest_height }
-        ensures { IfOk result (λ t. ValueTakes (map record_tree records.now) (value_state self.old) token.now t
+        ensures { IfOk result (λ t. ValueTakes (map record_tree records.now) (value_state self.old) token.old t
             (value_state self.new)) }
     {
         match &mut self.focus {

@@ -1,45 +1,54 @@
-use Rattle.std.proofs.Common.{rules, ◌≡◌, ◌≤◌, arith, sym, subst, map, get_or}
+use Rattle.std.proofs.Common.{rules, ◌≡◌, ◌≤◌, arith, length, map, sym, subst}
+use Rattle.std.proofs.lemmas.List.{length_push}
+use Rattle.std.proofs.lemmas.Iterator.Consumers.{YieldsList-turn, YieldsList-end}
+use Rattle.std.proofs.lemmas.Iterator.Adapters.{YieldsList-from_vec}
 use Rattle.um_tree.specs.TypeTree.{shape_tree}
 use Rattle.um_tree.specs.ProgramTree.{record_tree}
-use Rattle.um_reader.proofs.Loop.{goes, too_high}
+use Rattle.um_reader.proofs.Loop.{Stands, goes}
 use Rattle.um_types.specs.UnitStops.{greatest_height}
-use Rattle.um_value.specs.ValueSyntax.{value_syntax}
 use Rattle.um_value.specs.ValueMachine.{value_least, machine_of_values}
 use Rattle.um_value.specs.ValueView.{value_state}
-use Rattle.um_value.proofs.ValueLoop.{stops}
+use Rattle.um_value.proofs.ValueLoop.{refused_at, high_at, all_read, none_read}
 use Rattle.um_value.proofs.reading.run.Goals as goal
 
-pub loop-i-init : goal.loop-i-init
-loop-i-init c = ((omega arith, (λ e. cc), omega arith), c.new-reader.ensures.start)
+pub loop-token-init : goal.loop-token-init
+loop-token-init c = ((omega arith, (λ e. cc), omega arith), c.new-reader.ensures.start)
 
-pub take-requires : goal.take-requires
-take-requires c = record { low = subst (λ s. value_least s ≤ greatest_height) (sym c.loop-i.invariant.1) c.loop-i.invariant.0.2 }
+pub take_token-requires : goal.take_token-requires
+take_token-requires c = record { low = subst (λ s. value_least s ≤ greatest_height) (sym c.loop-token.invariant.1) c.loop-token.invariant.0.2 }
 
-pub loop-i-preserved : goal.loop-i-preserved
-loop-i-preserved c =
+pub loop-token-preserved : goal.loop-token-preserved
+loop-token-preserved c =
     let s = shape_tree c.args.shape.now in
     let m = machine_of_values (map record_tree c.args.records.now) s in
-    let x = c.index-tokens-i.result in
-    let same : get_or c.args.tokens.now c.loop-i.i x ≡ x = search (rules, c.index-tokens-i.is) in
+    let tokens = c.args.tokens in
+    let x = c.in-Some.token in
+    let turn = YieldsList-turn (YieldsList-from_vec {s = c.into_iter-token-iterator.result} tokens (search rules) (search rules))
+    c.loop-token.yielded c.loop-token.token-iterator c.loop-token.yielded_by c.next.result c.next.new.self x c.in-Some.is c.next.ensures.steps in
     let given = rw c.in-Ok-Goes.field-0-is at c.in-Ok-Goes.ensures in
-    goes m greatest_height c.args.tokens.now c.loop-i.i x (value_state c.loop-i.reader) (value_state c.take.new.self) c.loop-i-test.true same c.loop-i.invariant (given s)
+    subst (λ k. Stands m greatest_height tokens k (value_state c.take_token.new.reader)) (sym (length_push c.loop-token.yielded x))
+    (goes m greatest_height tokens (length c.loop-token.yielded) x (value_state c.loop-token.reader) (value_state c.take_token.new.reader) turn.0 (sym turn.1) c.loop-token.invariant (given s))
 
 pub returns-in-Ok-Stops : goal.returns-in-Ok-Stops
 returns-in-Ok-Stops c =
     let s = shape_tree c.args.shape.now in
     let m = machine_of_values (map record_tree c.args.records.now) s in
-    let x = c.index-tokens-i.result in
-    let same : get_or c.args.tokens.now c.loop-i.i x ≡ x = search (rules, c.index-tokens-i.is) in
+    let tokens = c.args.tokens in
+    let x = c.in-Some.token in
+    let turn = YieldsList-turn (YieldsList-from_vec {s = c.into_iter-token-iterator.result} tokens (search rules) (search rules))
+    c.loop-token.yielded c.loop-token.token-iterator c.loop-token.yielded_by c.next.result c.next.new.self x c.in-Some.is c.next.ensures.steps in
     let given = rw c.in-Ok-Stops.field-0-is at c.in-Ok-Stops.ensures in
     rw c.stopped.ensures
-    (stops m greatest_height c.args.tokens.now value_syntax c.loop-i.i x (value_state c.loop-i.reader) (value_state c.take.new.self) c.loop-i-test.true same c.loop-i.invariant (given s))
+    (refused_at m tokens c.args.end (length c.loop-token.yielded) x (value_state c.loop-token.reader) (value_state c.take_token.new.reader) turn.0 (sym turn.1) c.loop-token.invariant (given s))
 
 pub returns-in-Ok-High : goal.returns-in-Ok-High
 returns-in-Ok-High c =
     let s = shape_tree c.args.shape.now in
     let m = machine_of_values (map record_tree c.args.records.now) s in
-    let x = c.index-tokens-i.result in
-    let same : get_or c.args.tokens.now c.loop-i.i x ≡ x = search (rules, c.index-tokens-i.is) in
+    let tokens = c.args.tokens in
+    let x = c.in-Some.token in
+    let turn = YieldsList-turn (YieldsList-from_vec {s = c.into_iter-token-iterator.result} tokens (search rules) (search rules))
+    c.loop-token.yielded c.loop-token.token-iterator c.loop-token.yielded_by c.next.result c.next.new.self x c.in-Some.is c.next.ensures.steps in
     let given = rw c.in-Ok-High.field-0-is at c.in-Ok-High.ensures in
     rw c.stopped-in-Ok-High.ensures
-    (too_high m greatest_height c.args.tokens.now c.loop-i.i x (value_state c.loop-i.reader) (value_state c.take.new.self) c.loop-i-test.true same c.loop-i.invariant (given s))
+    (high_at m tokens c.args.end (length c.loop-token.yielded) x (value_state c.loop-token.reader) (value_state c.take_token.new.reader) turn.0 (sym turn.1) c.loop-token.invariant (given s))

@@ -1,5 +1,7 @@
 use Rattle.std.proofs.Common.{◌≡◌, ◌≤◌, map, sym, ap, subst}
 use Rattle.std.proofs.lemmas.Result.{IfOk-weaker}
+use Rattle.std.specs.Prelude.{IfOk}
+use Rattle.um_syntax.specs.declared.token.Token.{Token}
 use Rattle.um_reader.specs.declared.taken.Taken.{Taken}
 use Rattle.um_tree.specs.ProgramTree.{record_tree}
 use Rattle.um_types.specs.UnitStops.{greatest_height}
@@ -23,9 +25,12 @@ returns-in-Stops c =
     let low = subst (λ (f : Focus). value_least (state_of frames f) ≤ greatest_height) c.in-InNote.is c.requires.low in
     let same : value_state old ≡ InNote frames l.at l.negative l.value note = ap (state_of frames) c.in-InNote.is in
     let refused = rw c.in-Stops.is at c.in_ok-take-in-InNote.ensures.taken in
+    let kept = c.in_ok-take-in-InNote.ensures.kept c.in-Stops.is in
+    let own =
+    subst (λ (y : Token). IfOk c.take_own.result (λ (t : Taken). Moves (value_finish mid) (own_act records mid y.kind y.start y.glued) t new)) kept c.take_own.ensures
+    in
     IfOk-weaker c.take_own.result (λ (t : Taken). Moves (value_finish mid) (own_act records mid x.kind x.start x.glued) t new) (λ (t : Taken). ValueTakes records (value_state old) x t new)
-    (λ t m. subst (λ (st : ValueState). ValueTakes records st x t new) (sym same) (note_stops records frames l.at l.negative l.value note (note_state c.take.new.self) x t new low refused m))
-    c.take_own.ensures
+    (λ t m. subst (λ (st : ValueState). ValueTakes records st x t new) (sym same) (note_stops records frames l.at l.negative l.value note (note_state c.take.new.self) x t new low refused m)) own
 
 pub returns-in_default : goal.returns-in_default
 returns-in_default c =
