@@ -100,13 +100,7 @@ fn atom(alloc: Global, kind: &mut Kind, at: u32) -> Option<Operand>
     match kind {
         Kind::Name(letters) => Some(Operand::measure(at, letters.take(alloc))),
         Kind::Var(letters) => Some(Operand::variable(at, letters.take(alloc))),
-        Kind::Number { one, .. } => {
-            if *one {
-                Some(Operand::one(at))
-            } else {
-                None
-            }
-        }
+        Kind::Number { one, .. } => { if *one { Some(Operand::one(at)) } else { None } }
         Kind::Word(_) | Kind::Hole | Kind::Sign(_) => None,
     }
 }
@@ -122,11 +116,7 @@ pub fn written_power(kind: &Kind) -> Option<i32>
 }
 
 // One token where an atom is wanted.
-fn step_empty(
-    alloc: Global,
-    frames: &mut Frames,
-    token: &mut Token,
-) -> Result<Step, AllocError>
+fn step_empty(alloc: Global, frames: &mut Frames, token: &mut Token) -> Result<Step, AllocError>
     ensures state { IfOk result (λ s. Simulates (Need (frames_of frames.old)) frames.new s (begin (frames_of frames.old) (unit_token token.old.kind) token.old.start)) }
     ensures kept { IfOk result (λ s. Keeps s token.old token.new) }
 {
