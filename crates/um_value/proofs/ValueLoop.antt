@@ -1,5 +1,5 @@
 -- The loop over the tokens of a value text: one turn where it ends, and its end.
-use Rattle.std.proofs.Common.{◌≡◌, ℕ, ◌<◌, ◌≤◌, List, length, get_or, Some, None, Result, Ok, Err, sym, ap, subst, ◌∙◌, arith, inl, inr, ◌⊎◌}
+use Rattle.std.proofs.Common.{◌≡◌, ℕ, ◌<◌, List, length, get_or, Some, None, Result, Ok, Err, sym, ap, subst, ◌∙◌, arith, inl, inr, ◌⊎◌}
 use Rattle.um_syntax.specs.declared.token.Token.{Token}
 use Rattle.um_tree.specs.TypeTree.{ShapeTree}
 use Rattle.um_tree.specs.ProgramTree.{ProgramTree}
@@ -11,7 +11,7 @@ use Rattle.um_reader.specs.declared.reading.ReadStop.TheVariants as read_stop
 use Rattle.um_reader.specs.declared.taken.Taken.TheVariants as taken
 use Rattle.um_reader.proofs.Loop.{Stands, through, too_high}
 use Rattle.um_reader.proofs.Answers.{reads_all}
-use Rattle.um_types.specs.UnitStops.{greatest_height, place_of}
+use Rattle.um_types.specs.UnitStops.{greatest_height}
 use Rattle.um_types.proofs.TokenPlaces.{place_at, place_behind}
 use Rattle.um_value.specs.declared.raw.RawValue.{RawValue}
 use Rattle.um_value.specs.declared.stop.InputStop.{InputStop}

@@ -1,6 +1,6 @@
-use Rattle.std.proofs.Common.{rules, ◌≡◌, ◌≤◌, arith, length, map, sym, subst}
+use Rattle.std.proofs.Common.{rules, ◌≤◌, arith, length, map, sym, subst}
 use Rattle.std.proofs.lemmas.List.{length_push}
-use Rattle.std.proofs.lemmas.Iterator.Consumers.{YieldsList-turn, YieldsList-end}
+use Rattle.std.proofs.lemmas.Iterator.Consumers.{YieldsList-turn}
 use Rattle.std.proofs.lemmas.Iterator.Adapters.{YieldsList-from_vec}
 use Rattle.um_tree.specs.TypeTree.{shape_tree}
 use Rattle.um_tree.specs.ProgramTree.{record_tree}
@@ -8,7 +8,7 @@ use Rattle.um_reader.proofs.Loop.{Stands, goes}
 use Rattle.um_types.specs.UnitStops.{greatest_height}
 use Rattle.um_value.specs.ValueMachine.{value_least, machine_of_values}
 use Rattle.um_value.specs.ValueView.{value_state}
-use Rattle.um_value.proofs.ValueLoop.{refused_at, high_at, all_read, none_read}
+use Rattle.um_value.proofs.ValueLoop.{refused_at, high_at}
 use Rattle.um_value.proofs.reading.run.Goals as goal
 
 pub loop-token-init : goal.loop-token-init
