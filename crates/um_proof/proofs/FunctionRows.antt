@@ -108,11 +108,11 @@ pub are_function_rows : (p : ProgramTree) (schemes : List SchemeTree) (i : ℕ) 
 are_function_rows p schemes i f r formed shaped have w at h = record {
   few = subst (λ n. n ≤ 2000) (sym h.slots) h.few;
   number = (
-    let few = rows_are_few p w.0 schemes i f formed shaped w.2 w.3 at in
-    let same = ap length alike in
-    let count = length-map r.list.items.items (λ (x : Row). x.unit) in
-    omega (arith, few, same, count)
-  );
+      let few = rows_are_few p w.0 schemes i f formed shaped w.2 w.3 at in
+      let same = ap length alike in
+      let count = length-map r.list.items.items (λ (x : Row). x.unit) in
+      omega (arith, few, same, count)
+      );
   parameters_within = within;
   bases_below = (let b = formed.few_bases in let s = h.slots in let k = h.few in omega (arith, b, s, k, within));
   rows = subst (λ n. All (VariablesBelow n) (units_of r.list.items.items)) (sym h.slots) (subst (All (VariablesBelow (slot_count p.records schemes i f))) (sym alike) (rows_hold_slots p schemes i f have));
