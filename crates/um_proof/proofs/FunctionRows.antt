@@ -1,11 +1,14 @@
 -- The rows of a function of a program: what the makers ask of them, and what they are judged.
-use Rattle.std.proofs.Common.{◌≡◌, ℕ, ◌<◌, ◌≤◌, cond, leb, List, length, Option, Some, None, refl, sym, ap, ◌∙◌, subst, arith}
+use Rattle.std.proofs.Common.{◌≡◌, ℕ, ◌<◌, ◌≤◌, cond, leb, List, length, slice_get, Option, Some, None, refl, sym, ap, ◌∙◌, subst, arith}
 use Rattle.std.specs.Prelude.{All}
 use Rattle.std.proofs.lemmas.Bool.Decides.{nat_tests}
+use Rattle.std.proofs.lemmas.List.{length-map}
 use Rattle.um_units.specs.PowerMap.{nth}
 use Rattle.um_units.specs.Variables.{VariablesBelow}
 use Rattle.um_tree.specs.ProgramTree.{RecordTree, FunctionTree, ProgramTree, Signature, SchemeTree}
-use Rattle.um_tree.specs.Formed.{IsFormed}
+use Rattle.um_tree.specs.Formed.{BasesBelow, IsFormed}
+use Rattle.um_tree.specs.Laws.{TypeHas}
+use Rattle.um_tree.specs.Shapes.{IsShaped}
 use Rattle.um_tree.specs.Typing.{put_signature}
 use Rattle.um_tree.specs.Scheme.{signature_types, variables}
 use Rattle.um_elim.specs.Solution.{rigid_units}
@@ -23,7 +26,8 @@ use Rattle.um_rows.specs.Answers.{rows_signature, AreEquations, HaveVariablesBel
 use Rattle.um_rows.proofs.ParameterSlots.{parameters_have_slots}
 use Rattle.um_rows.proofs.Solved.{rows_hold_slots, types_hold_slots}
 use Rattle.um_proof.specs.Answers.{AreFunctionRows, judged}
-use Rattle.um_proof.specs.ProgramSteps.{AreDeclared}
+use Rattle.um_declared.proofs.Inferred.{rows_hold_declared_units, types_hold_declared_units, rows_are_few}
+use Rattle.um_proof.specs.ProgramSteps.{HaveInferred}
 use Rattle.um_proof.proofs.DeclaredUnits.{all_none, types_none}
 
 -- the schemes before hold their own variables alone
@@ -99,18 +103,31 @@ module _ (bases parameters slots at other : ℕ) (g : Signature) (rows : List Ro
   moved_refusal j free h = moved (solve 0 rows (rigid_units bases parameters slots)) j free h
 
 -- what the makers ask
-pub are_function_rows : (p : ProgramTree) (schemes : List SchemeTree) (i : ℕ) (f : FunctionTree) (r : Rows) → IsFormed p → HaveSchemes p schemes i → AreEquations p.records schemes i f r → AreDeclared (length p.bases) r → AreFunctionRows (length p.bases) f.units r
-are_function_rows p schemes i f r formed have h declared = record {
+pub are_function_rows : (p : ProgramTree) (schemes : List SchemeTree) (i : ℕ) (f : FunctionTree) (r : Rows) → IsFormed p → IsShaped p → HaveSchemes p schemes i → HaveInferred p schemes i → slice_get p.functions i ≡ Some f → AreEquations p.records schemes i f r →
+    AreFunctionRows (length p.bases) f.units r
+are_function_rows p schemes i f r formed shaped have w at h = record {
   few = subst (λ n. n ≤ 2000) (sym h.slots) h.few;
-  number = declared.number;
+  number = (
+      let few = rows_are_few p w.0 schemes i f formed shaped w.2 w.3 at in
+      let same = ap length alike in
+      let count = length-map r.list.items.items (λ (x : Row). x.unit) in
+      omega (arith, few, same, count)
+      );
   parameters_within = within;
   bases_below = (let b = formed.few_bases in let s = h.slots in let k = h.few in omega (arith, b, s, k, within));
-  rows = subst (λ n. All (VariablesBelow n) (units_of r.list.items.items)) (sym h.slots) (subst (All (VariablesBelow (slot_count p.records schemes i f))) (sym (ap units_of h.list)) (rows_hold_slots p schemes i f have));
+  rows = subst (λ n. All (VariablesBelow n) (units_of r.list.items.items)) (sym h.slots) (subst (All (VariablesBelow (slot_count p.records schemes i f))) (sym alike) (rows_hold_slots p schemes i f have));
   types = subst (λ n. All (λ k. k < n) (variables (signature_types (rows_signature r)))) (sym h.slots)
-      (subst (λ g. All (λ k. k < slot_count p.records schemes i f) (variables (signature_types g))) (sym (same_signature (length p.bases) p.records schemes i f r h)) (types_hold_slots p schemes i f have));
-  declared_rows = all_none (length p.bases) f.units (units_of r.list.items.items) declared.rows;
-  declared_types = types_none (length p.bases) f.units (signature_types (rows_signature r)) declared.types;
+      (subst (λ g. All (λ k. k < slot_count p.records schemes i f) (variables (signature_types g))) (sym types_alike) (types_hold_slots p schemes i f have));
+  declared_rows = all_none (length p.bases) f.units (units_of r.list.items.items) (subst (All (BasesBelow (length p.bases))) (sym alike) (rows_hold_declared_units p w.0 schemes i f formed shaped w.2 w.3 w.1 at));
+  declared_types = types_none (length p.bases) f.units (signature_types (rows_signature r))
+      (subst (λ g. All (TypeHas (BasesBelow (length p.bases))) (signature_types g)) (sym types_alike) (types_hold_declared_units p w.0 schemes i f formed shaped w.2 w.3 w.1 at));
 }
   where
     within : f.units ≤ r.slots
     within = let o = parameters_have_slots f.units (text_keys p.records schemes i f) in let s = h.slots in omega (arith, o, s)
+
+    alike : units_of r.list.items.items ≡ function_rows p.records schemes i f
+    alike = same_rows (length p.bases) p.records schemes i f r h
+
+    types_alike : rows_signature r ≡ slot_signature p.records schemes i f
+    types_alike = same_signature (length p.bases) p.records schemes i f r h

@@ -20,7 +20,6 @@ mod FunctionAnswers
 mod WayBackSteps
 mod Closed
 mod DeclaredUnits
-mod OwnRows
 mod Judged
 mod ValidYes
 mod ValidNo

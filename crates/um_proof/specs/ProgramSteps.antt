@@ -1,17 +1,10 @@
 -- The code's: what is asked and answered of one function of a program.
 -- Source: this project's own; no public clause rests on it.
-use Rattle.std.specs.Prelude.{◌≡◌, ◌⊎◌, ℕ, ◌≤◌, nat_lt, Bool, true, All, List, length, None, Some, slice_get}
-use Rattle.um_units.specs.declared.Atom.{Atom}
-use Rattle.um_units.specs.declared.Atom.TheVariants.{Base, Var}
+use Rattle.std.specs.Prelude.{◌≡◌, ◌⊎◌, ℕ, ◌≤◌, List, length, None, Some, slice_get}
 use Rattle.um_tree.specs.ProgramTree.{FunctionTree, ProgramTree, SchemeTree}
-use Rattle.um_tree.specs.Formed.{BasesBelow}
-use Rattle.um_tree.specs.Laws.{TypeHas}
-use Rattle.um_tree.specs.Scheme.{signature_types}
-use Rattle.um_rows.specs.declared.row.Rows.{Rows}
-use Rattle.um_rows.specs.Answers.{rows_signature}
 use Rattle.um_rows.specs.Slots.{slot_count, slot_equations}
-use Rattle.um_rows.specs.Steps.{first_past, units_of}
-use Rattle.um_infer.specs.Inference.{Inference, stops_at_units, stops_at_not_general}
+use Rattle.um_rows.specs.Steps.{first_past}
+use Rattle.um_infer.specs.Inference.{Inference, all_schemes, stops_at_units, stops_at_not_general, infer_first}
 use Rattle.um_proof.specs.declared.stop.CertStop.{CertStop}
 use Rattle.um_proof.specs.declared.stop.CertStop.TheVariants as stop
 use Rattle.um_proof.specs.declared.stop.ProveStop.{ProveStop}
@@ -25,16 +18,10 @@ HasRows p schemes i =
     (f : FunctionTree) → slice_get p.functions i ≡ Some f →
     (slot_count p.records schemes i f ≤ 2000) × (first_past (slot_equations p.records schemes i f).steps ≡ None)
 
--- a declared base unit, or a variable
-abbrev pub is_declared : ℕ → Atom → Bool
-is_declared bases (Base n) = nat_lt n bases
-is_declared bases (Var k) = true
-
--- they are at most 4294967295, and hold declared base units alone, and so do the types
-pub record AreDeclared (bases : ℕ) (r : Rows) : Type 0 where
-  pub number : length r.list.items.items ≤ 4294967295
-  pub rows : All (BasesBelow bases) (units_of r.list.items.items)
-  pub types : All (TypeHas (BasesBelow bases)) (signature_types (rows_signature r))
+-- the schemes are those that are inferred for the first functions, up to function i at least
+abbrev pub HaveInferred : ProgramTree → List SchemeTree → ℕ → Type 0
+HaveInferred p schemes i =
+    (n : ℕ) × (i ≤ n) × (n ≤ length p.functions) × (infer_first p n ≡ all_schemes schemes)
 
 -- it is the first without a typing
 abbrev pub IsFirstRefused : Inference → ℕ → Type 0

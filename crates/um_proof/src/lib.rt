@@ -9,7 +9,6 @@
 //! ```
 #![tactic(auto)]
 
-mod declared;
 mod kept;
 mod made;
 mod past;

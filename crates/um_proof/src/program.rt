@@ -3,16 +3,16 @@
 ghost use Rattle.std.specs.Prelude.{◌≡◌, ◌<◌, ◌≤◌, [], length, slice_get, Some, IfOk, IfErr, OnOk};
 ghost use Rattle.um_tree.specs.ProgramTree.{FunctionTree, SchemeTree, program_tree};
 ghost use Rattle.um_tree.specs.Formed.{IsFormed};
+ghost use Rattle.um_tree.specs.Shapes.{IsShaped};
 ghost use Rattle.um_rows.specs.Answers.{AreRowsOf};
-ghost use Rattle.um_rows.specs.Solutions.{HaveSchemes};
 ghost use Rattle.um_infer.specs.Answers.{scheme_trees};
 ghost use Rattle.um_infer.specs.Inference.{all_schemes, infer, infer_first};
 ghost use Rattle.um_proof.specs.declared.stop.CertStop.TheVariants.{NoMemory};
 ghost use Rattle.um_proof.specs.Answers.{AreFunctionRows};
 ghost use Rattle.um_proof.specs.Proving.{IsProved, IsRefusal, IsYesOf};
-ghost use Rattle.um_proof.specs.ProgramSteps.{AreYesOf, CarriesInFunction, CarriesInSome, HasRows, IsFirstRefused, of_function};
+ghost use Rattle.um_proof.specs.ProgramSteps.{AreYesOf, CarriesInFunction, CarriesInSome, HasRows, HaveInferred, IsFirstRefused};
+ghost use Rattle.um_proof.specs.ProgramSteps.{of_function};
 
-use crate::declared::are_declared;
 use crate::{CertStop, Proofs, ProveStop, YesList, make_no, make_yes};
 use std::alloc::Global;
 use um_check::{No, Yes};
@@ -165,10 +165,12 @@ fn refusal_of(alloc: Global, shaped: &Shaped, i: u32, schemes: &Schemes) -> Resu
     made
 }
 
-/// The rows of function i, which passes no limit.
+/// The rows of function i, which passes no limit, given the schemes of the functions before it.
 fn rows_of(alloc: Global, shaped: &Shaped, i: u32, schemes: &Schemes) -> Result<Rows, CertStop>
     requires function { i < length (program_tree shaped.now).functions }
-    requires before { HaveSchemes (program_tree shaped.now) (scheme_trees schemes.now) i }
+    requires formed { IsFormed (program_tree shaped.now) }
+    requires shapes { IsShaped (program_tree shaped.now) }
+    requires inferred { HaveInferred (program_tree shaped.now) (scheme_trees schemes.now) i }
     requires limits { HasRows (program_tree shaped.now) (scheme_trees schemes.now) i }
     ensures equations { IfOk result (AreRowsOf (program_tree shaped.now) (scheme_trees schemes.now) i) }
     ensures rows { (f : FunctionTree) → slice_get (program_tree shaped.now).functions i ≡ Some f
@@ -176,13 +178,7 @@ fn rows_of(alloc: Global, shaped: &Shaped, i: u32, schemes: &Schemes) -> Result<
     ensures memory { IfErr result (λ stop. stop ≡ NoMemory) }
 {
     match rows(alloc, shaped, i, schemes) {
-        Ok(rows) => {
-            if are_declared(&rows, base_count(shaped)) {
-                return Ok(rows);
-            }
-            drop(rows);
-            Err(CertStop::NoMemory)
-        }
+        Ok(rows) => Ok(rows),
         Err(RowStop::NoMemory) => Err(CertStop::NoMemory),
         Err(RowStop::Slots) => unreachable!(),
         Err(RowStop::Range { at: _ }) => unreachable!(),
@@ -204,11 +200,12 @@ fn unit_count(shaped: &Shaped, i: u32) -> u32
     shaped.program().functions.items[i as usize].units
 }
 
-/// How many base units the program, which is formed, declares.
+/// How many base units the program, which is formed and has its shapes, declares.
 fn base_count(shaped: &Shaped) -> u32
     ensures count { result ≡ length (program_tree shaped.now).bases }
     ensures few { result ≤ 16777216 }
     ensures formed { IsFormed (program_tree shaped.now) }
+    ensures shapes { IsShaped (program_tree shaped.now) }
 {
     shaped.program().bases.as_slice().len() as u32
 }

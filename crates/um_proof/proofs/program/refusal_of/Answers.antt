@@ -3,17 +3,22 @@ use Rattle.um_tree.specs.ProgramTree.{program_tree}
 use Rattle.um_infer.specs.Answers.{scheme_trees}
 use Rattle.um_infer.proofs.SchemeLists.{item_at}
 use Rattle.um_proof.specs.Answers.{AreFunctionRows, judged, IsRefused, IsNoMade}
-use Rattle.um_proof.proofs.FunctionAnswers.{schemes_before, refused_inside, refused_judgement, no_refused, no_valid, no_range}
+use Rattle.um_proof.proofs.FunctionAnswers.{refused_inside, refused_judgement, no_refused, no_valid, no_range}
 use Rattle.um_proof.proofs.program.refusal_of.Goals as goal
 
 pub rows_of-requires-clause-function : goal.rows_of-requires-clause-function
 rows_of-requires-clause-function c = refused_inside (program_tree c.args.shaped.now) c.args.i c.requires.refused
 
-pub rows_of-requires-clause-before : goal.rows_of-requires-clause-before
-rows_of-requires-clause-before c =
-    let p = program_tree c.args.shaped.now in
-    let l = refused_inside p c.args.i c.requires.refused in
-    schemes_before p c.base_count-bases.ensures.formed c.args.i (scheme_trees c.args.schemes.now) (omega (arith, l)) c.requires.before
+pub rows_of-requires-clause-formed : goal.rows_of-requires-clause-formed
+rows_of-requires-clause-formed c = c.base_count-bases.ensures.formed
+
+pub rows_of-requires-clause-shapes : goal.rows_of-requires-clause-shapes
+rows_of-requires-clause-shapes c = c.base_count-bases.ensures.shapes
+
+pub rows_of-requires-clause-inferred : goal.rows_of-requires-clause-inferred
+rows_of-requires-clause-inferred c =
+    let l = refused_inside (program_tree c.args.shaped.now) c.args.i c.requires.refused in
+    (c.args.i, omega arith, omega (arith, l), c.requires.before)
 
 pub rows_of-requires-clause-limits : goal.rows_of-requires-clause-limits
 rows_of-requires-clause-limits c = λ f e.

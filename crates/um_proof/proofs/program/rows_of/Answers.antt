@@ -1,19 +1,23 @@
-use Rattle.std.proofs.Common.{sym, subst, ◌∙◌, arith}
+use Rattle.std.proofs.Common.{sym, ◌∙◌, arith}
 use Rattle.um_tree.specs.ProgramTree.{program_tree}
 use Rattle.um_infer.specs.Answers.{scheme_trees}
 use Rattle.um_infer.proofs.SchemeLists.{item_at}
-use Rattle.um_proof.specs.ProgramSteps.{AreDeclared}
+use Rattle.um_proof.proofs.FunctionAnswers.{schemes_until}
 use Rattle.um_proof.proofs.FunctionRows.{own_variables_alone, are_function_rows}
 use Rattle.um_proof.proofs.program.rows_of.Goals as goal
 
 pub rows-requires-clause-schemes : goal.rows-requires-clause-schemes
-rows-requires-clause-schemes c = own_variables_alone (program_tree c.args.shaped.now) (scheme_trees c.args.schemes.now) c.args.i c.requires.before
-
-pub returns-then-are_declared-clause-rows : goal.returns-then-are_declared-clause-rows
-returns-then-are_declared-clause-rows c = λ f e.
+rows-requires-clause-schemes c =
     let p = program_tree c.args.shaped.now in
-    are_function_rows p (scheme_trees c.args.schemes.now) c.args.i f c.in-Ok.rows c.base_count.ensures.formed c.requires.before (c.in-Ok.ensures.equations f e)
-    (subst (λ n. AreDeclared n c.in-Ok.rows) c.base_count.ensures.count (c.are_declared.ensures c.if-are_declared.true))
+    let w = c.requires.inferred in
+    own_variables_alone p (scheme_trees c.args.schemes.now) c.args.i (schemes_until p c.requires.formed w.0 c.args.i (scheme_trees c.args.schemes.now) w.2 w.1 w.3)
+
+pub returns-in-Ok-clause-rows : goal.returns-in-Ok-clause-rows
+returns-in-Ok-clause-rows c = λ f e.
+    let p = program_tree c.args.shaped.now in
+    let schemes = scheme_trees c.args.schemes.now in
+    let w = c.requires.inferred in
+    are_function_rows p schemes c.args.i f c.in-Ok.rows c.requires.formed c.requires.shapes (schemes_until p c.requires.formed w.0 c.args.i schemes w.2 w.1 w.3) w e (c.in-Ok.ensures.equations f e)
 
 pub unreachable-requires : goal.unreachable-requires
 unreachable-requires c =

@@ -7,16 +7,20 @@ use Rattle.um_infer.specs.Answers.{scheme_trees}
 use Rattle.um_infer.proofs.SchemeLists.{item_at}
 use Rattle.um_rows.specs.Judgement.{has_scheme}
 use Rattle.um_proof.specs.Answers.{AreFunctionRows, judged, IsYesMade}
-use Rattle.um_proof.proofs.FunctionAnswers.{schemes_until, same_item, scheme_judgement, yes_judged, yes_valid, yes_range}
+use Rattle.um_proof.proofs.FunctionAnswers.{same_item, scheme_judgement, yes_judged, yes_valid, yes_range}
 use Rattle.um_proof.proofs.program.yes_of.Goals as goal
 
 pub rows_of-requires-clause-function : goal.rows_of-requires-clause-function
 rows_of-requires-clause-function c = let l = c.requires.inside in let f = c.requires.few in omega (arith, l, f)
 
-pub rows_of-requires-clause-before : goal.rows_of-requires-clause-before
-rows_of-requires-clause-before c =
-    let l = c.requires.inside in
-    schemes_until (program_tree c.args.shaped.now) c.base_count-bases.ensures.formed (length c.args.schemes.now.items.items) c.args.i (scheme_trees c.args.schemes.now) c.requires.few (omega (arith, l)) c.requires.before
+pub rows_of-requires-clause-formed : goal.rows_of-requires-clause-formed
+rows_of-requires-clause-formed c = c.base_count-bases.ensures.formed
+
+pub rows_of-requires-clause-shapes : goal.rows_of-requires-clause-shapes
+rows_of-requires-clause-shapes c = c.base_count-bases.ensures.shapes
+
+pub rows_of-requires-clause-inferred : goal.rows_of-requires-clause-inferred
+rows_of-requires-clause-inferred c = let l = c.requires.inside in (length c.args.schemes.now.items.items, omega (arith, l), c.requires.few, c.requires.before)
 
 pub rows_of-requires-clause-limits : goal.rows_of-requires-clause-limits
 rows_of-requires-clause-limits c = λ f e.

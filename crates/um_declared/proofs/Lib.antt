@@ -1,0 +1,5 @@
+mod Lacks
+mod NodeRules
+mod Derivations
+mod Elimination
+pub mod Inferred
