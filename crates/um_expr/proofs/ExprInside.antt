@@ -1,8 +1,9 @@
 -- One token more of a note or a type in an expression, told by what its reader gives.
-use Rattle.std.proofs.Common.{◌≡◌, ◌≢◌, ℕ, ◌≤◌, max, List, [], ◌∷◌, refl, sym, ap, ◌∙◌, arith}
+use Rattle.std.proofs.Common.{◌≡◌, ◌≢◌, ℕ, ◌≤◌, ◌<◌, max, List, [], ◌∷◌, refl, sym, ap, subst, ◌∙◌, arith}
 use Rattle.um_frac.specs.declared.number.Frac.{Frac}
 use Rattle.um_syntax.specs.declared.token.Token.{Token}
-use Rattle.um_reader.specs.Takes.{Takes}
+use Rattle.um_reader.specs.Takes.{Gives, Takes}
+use Rattle.um_reader.specs.declared.taken.Taken.{Taken}
 use Rattle.um_reader.specs.declared.taken.Taken.TheVariants as taken
 use Rattle.um_types.specs.UnitStops.{greatest_height}
 use Rattle.um_types.specs.NoteMachine.{NoteState, NeedNote, HaveHole, InUnit, NoNote, note_step, note_finish, note_least, machine_of_notes}
@@ -11,7 +12,7 @@ use Rattle.um_types.specs.TypeMachine.{InNote as InTypeNote}
 use Rattle.um_types.proofs.NoteLaws.{note_found_height}
 use Rattle.um_types.proofs.TypeLaws.{type_found_height}
 use Rattle.um_expr.specs.ExprTokens.{expr_token}
-use Rattle.um_expr.specs.ExprMachine.{Frame, State, InNote, InType, Refused, note_ends, type_ends, note_goes, type_goes, step}
+use Rattle.um_expr.specs.ExprMachine.{Frame, State, InNote, InType, Refused, note_ends, type_ends, note_goes, type_goes, step, own_step, finish}
 use Rattle.um_expr.specs.ExprLeast.{notes_side, notes_over, whole_least, machine_of_expressions}
 use Rattle.um_expr.specs.ExprStates.{IsLow}
 
@@ -32,6 +33,13 @@ in_note frames at c n e = absurd cc
 
 in_type : (frames : List Frame) (at : ℕ) (s : TypeState) → InType frames at s ≢ Refused
 in_type frames at s e = absurd cc
+
+-- what a token gives behind another state that ends as the same expression
+gives_again : (old other next same : State) (given : Taken) (new : State) → finish old ≡ finish other → next ≡ same → Gives machine_of_expressions greatest_height old next given new
+    → Gives machine_of_expressions greatest_height other same given new
+gives_again old other next same taken.Goes new f e g = (g.0 ∙ e, g.1, g.2)
+gives_again old other next same taken.Stops new f e g = (sym e ∙ g.0, g.1 ∙ f)
+gives_again old other next same taken.High new f e g = ((λ h. g.0 (e ∙ h)), subst (λ st. greatest_height < whole_least st) e g.1)
 
 -- ---- heights inside the frames
 
@@ -75,6 +83,14 @@ module _ (frames : List Frame) (at : ℕ) (c : Frac) (old : NoteState) (token : 
       let above = notes_above frames (note_least old) in
       omega (arith, low, same, above)
 
+  pub note_stops_in : (mid : NoteState) (given : Taken) (new : State) → Takes machine_of_notes greatest_height old token taken.Stops mid
+      → Gives machine_of_expressions greatest_height (InNote frames at c mid) (own_step (InNote frames at c mid) token) given new
+      → Takes machine_of_expressions greatest_height (InNote frames at c old) token given new
+  note_stops_in mid given new t g =
+      let e : own_step (InNote frames at c mid) token ≡ step (InNote frames at c old) token =
+      ap (λ f. note_ends frames at c f (expr_token token.kind)) t.1 ∙ ap (λ n. note_goes frames at c n note_ended) (sym t.0) in
+      gives_again (InNote frames at c mid) (InNote frames at c old) (own_step (InNote frames at c mid) token) (step (InNote frames at c old) token) given new refl e g
+
 -- ---- a type
 
 module _ (frames : List Frame) (at : ℕ) (old : TypeState) (token : Token) where
@@ -106,3 +122,11 @@ module _ (frames : List Frame) (at : ℕ) (old : TypeState) (token : Token) wher
       let same = type_found_height old m (sym t.1 ∙ e) in
       let above = notes_above frames (type_least old) in
       omega (arith, low, same, above)
+
+  pub type_stops_in : (mid : TypeState) (given : Taken) (new : State) → Takes machine_of_types greatest_height old token taken.Stops mid
+      → Gives machine_of_expressions greatest_height (InType frames at mid) (own_step (InType frames at mid) token) given new
+      → Takes machine_of_expressions greatest_height (InType frames at old) token given new
+  type_stops_in mid given new t g =
+      let e : own_step (InType frames at mid) token ≡ step (InType frames at old) token =
+      ap (λ f. type_ends frames at f (expr_token token.kind)) t.1 ∙ ap (λ s. type_goes frames at s type_ended) (sym t.0) in
+      gives_again (InType frames at mid) (InType frames at old) (own_step (InType frames at mid) token) (step (InType frames at old) token) given new refl e g

@@ -18,3 +18,4 @@ mod ExprLow
 mod ExprRefusals
 mod ExprExamples
 mod ExprInside
+mod ExprEmptied

@@ -1,5 +1,6 @@
 // An expression that is read one token at a time.
-ghost use Rattle.std.specs.Prelude.{◌≡◌, ◌+◌, ◌≤◌, [], cond, nat_lt, IfOk, None, option_map};
+ghost use Rattle.std.specs.Prelude.{◌≡◌, ◌⊎◌, ◌+◌, ◌≤◌, [], cond, nat_lt, IfOk, OnOk, None, option_map};
+ghost use Rattle.um_syntax.specs.Emptied.{emptied};
 ghost use Rattle.um_tree.specs.RawTree.{expr_syntax};
 ghost use Rattle.um_reader.specs.Takes.{Gives, Takes};
 ghost use Rattle.um_types.specs.UnitStops.{greatest_height};
@@ -108,10 +109,11 @@ impl ExprReader {
         }
     }
 
-    /// One token more.
-    pub fn take(&mut self, alloc: Global, token: &Token) -> Result<Taken, AllocError>
+    /// One token more, whose letters may be taken. A token that is refused is as it was but for its letters.
+    pub fn take(&mut self, alloc: Global, token: &mut Token) -> Result<Taken, AllocError>
         requires low { whole_least (expr_state self.old) ≤ greatest_height }
-        ensures taken { IfOk result (λ t. Takes machine_of_expressions greatest_height (expr_state self.old) token.now t (expr_state self.new)) }
+        ensures taken { IfOk result (λ t. Takes machine_of_expressions greatest_height (expr_state self.old) token.old t (expr_state self.new)) }
+        ensures kept { IfOk result (λ t. t ≡ Taken.Stops → (token.new ≡ token.old) ⊎ (token.new ≡ emptied token.old)) }
     {
         match &mut self.inner {
             Inner::Nothing => self.take_own(alloc, token),
@@ -129,9 +131,10 @@ impl ExprReader {
     }
 
     // One token more, where no note and no type has begun.
-    fn take_own(&mut self, alloc: Global, token: &Token) -> Result<Taken, AllocError>
+    fn take_own(&mut self, alloc: Global, token: &mut Token) -> Result<Taken, AllocError>
         requires nothing { self.old.inner ≡ Inner.Nothing }
-        ensures { IfOk result (λ t. Takes machine_of_expressions greatest_height (state_of (frames_of self.old.frames) self.old.focus) token.now t (expr_state self.new)) }
+        ensures taken { IfOk result (λ t. Takes machine_of_expressions greatest_height (state_of (frames_of self.old.frames) self.old.focus) token.old t (expr_state self.new)) }
+        ensures rest { OnOk result (token.new ≡ emptied token.old) }
     {
         let focus = mem::replace(&mut self.focus, Focus::Wanted);
         let given = step(alloc, &mut self.frames, focus, token)?;
@@ -140,9 +143,10 @@ impl ExprReader {
 
     // The token that the note or the type has refused, if one has begun.
     #[inline(never)]
-    fn take_behind(&mut self, alloc: Global, token: &Token) -> Result<Taken, AllocError>
+    fn take_behind(&mut self, alloc: Global, token: &mut Token) -> Result<Taken, AllocError>
         requires low { IsLow (expr_state self.old) }
-        ensures { IfOk result (λ t. Gives machine_of_expressions greatest_height (expr_state self.old) (own_step (expr_state self.old) token.now) t (expr_state self.new)) }
+        ensures taken { IfOk result (λ t. Gives machine_of_expressions greatest_height (expr_state self.old) (own_step (expr_state self.old) token.old) t (expr_state self.new)) }
+        ensures rest { OnOk result (token.new ≡ emptied token.old) }
     {
         match mem::replace(&mut self.inner, Inner::Nothing) {
             Inner::Nothing => self.take_own(alloc, token),
@@ -158,23 +162,17 @@ impl ExprReader {
         at: u32,
         value: Frac,
         note: NoteReader,
-        token: &Token,
+        token: &mut Token,
     ) -> Result<Taken, AllocError>
         requires nothing { self.old.inner ≡ Inner.Nothing }
         requires low { IsLow (InNote (frames_of self.old.frames) at value (note_state note)) }
-        ensures { IfOk result (λ t. Gives machine_of_expressions greatest_height (InNote (frames_of self.old.frames) at value (note_state note)) (own_step (InNote (frames_of self.old.frames) at value (note_state note)) token.now) t (expr_state self.new)) }
+        ensures taken { IfOk result (λ t. Gives machine_of_expressions greatest_height (InNote (frames_of self.old.frames) at value (note_state note)) (own_step (InNote (frames_of self.old.frames) at value (note_state note)) token.old) t (expr_state self.new)) }
+        ensures rest { OnOk result (token.new ≡ emptied token.old) }
     {
         let note = note.finish(alloc)?;
-        match ExprToken::of_kind(alloc, &token.kind) {
-            Ok(kind) => {
-                let given = note_ends(alloc, &self.frames, at, value, note, kind)?;
-                Ok(self.go(alloc, given))
-            }
-            Err(error) => {
-                drop(note);
-                Err(error)
-            }
-        }
+        let kind = ExprToken::of_kind(alloc, &mut token.kind);
+        let given = note_ends(alloc, &self.frames, at, value, note, kind)?;
+        Ok(self.go(alloc, given))
     }
 
     // The token that the type of an empty list has refused.
@@ -183,23 +181,16 @@ impl ExprReader {
         alloc: Global,
         at: u32,
         ty: TypeReader,
-        token: &Token,
+        token: &mut Token,
     ) -> Result<Taken, AllocError>
         requires nothing { self.old.inner ≡ Inner.Nothing }
         requires low { IsLow (InType (frames_of self.old.frames) at (type_state ty)) }
-        ensures { IfOk result (λ t. Gives machine_of_expressions greatest_height (InType (frames_of self.old.frames) at (type_state ty)) (own_step (InType (frames_of self.old.frames) at (type_state ty)) token.now) t (expr_state self.new)) }
+        ensures taken { IfOk result (λ t. Gives machine_of_expressions greatest_height (InType (frames_of self.old.frames) at (type_state ty)) (own_step (InType (frames_of self.old.frames) at (type_state ty)) token.old) t (expr_state self.new)) }
+        ensures rest { OnOk result (token.new ≡ emptied token.old) }
     {
-        let ty = ty.finish();
-        match ExprToken::of_kind(alloc, &token.kind) {
-            Ok(kind) => {
-                let given = type_ends(alloc, &self.frames, at, ty, kind)?;
-                Ok(self.go(alloc, given))
-            }
-            Err(error) => {
-                drop(ty);
-                Err(error)
-            }
-        }
+        let kind = ExprToken::of_kind(alloc, &mut token.kind);
+        let given = type_ends(alloc, &self.frames, at, ty.finish(), kind)?;
+        Ok(self.go(alloc, given))
     }
 
     // What a step gives.

@@ -1,5 +1,6 @@
 // One token more, whatever is in focus.
 ghost use Rattle.std.specs.Prelude.{◌≡◌, ◌≤◌, IfOk, IfSome, None, Some, cond, option_map};
+ghost use Rattle.um_syntax.specs.Emptied.{emptied};
 ghost use Rattle.um_tree.specs.RawTree.{note_syntax, type_syntax};
 ghost use Rattle.um_types.specs.TypeHeights.{note_height, whole_height};
 ghost use Rattle.um_types.specs.UnitStops.{greatest_height};
@@ -224,20 +225,16 @@ fn act(
     }
 }
 
-/// One token more.
+/// One token more, from which the letters of a name are taken.
 pub fn step(
     alloc: Global,
     frames: &mut Frames,
     focus: Focus,
-    token: &Token,
+    token: &mut Token,
 ) -> Result<Step, AllocError>
-    ensures { IfOk result (λ s. Simulates (finish (state_of (frames_of frames.old) focus)) (frames_of frames.new) s (step (state_of (frames_of frames.old) focus) token.now)) }
+    ensures state { IfOk result (λ s. Simulates (finish (state_of (frames_of frames.old) focus)) (frames_of frames.new) s (step (state_of (frames_of frames.old) focus) token.old)) }
+    ensures rest { token.new ≡ emptied token.old }
 {
-    match ExprToken::of_kind(alloc, &token.kind) {
-        Ok(kind) => act(alloc, frames, focus, kind, token),
-        Err(error) => {
-            drop(focus);
-            Err(error)
-        }
-    }
+    let kind = ExprToken::of_kind(alloc, &mut token.kind);
+    act(alloc, frames, focus, kind, token)
 }

@@ -1,9 +1,10 @@
 // What a token is to expressions and declarations.
-ghost use Rattle.std.specs.Prelude.{◌≡◌, IfOk};
+ghost use Rattle.std.specs.Prelude.{◌≡◌};
+ghost use Rattle.um_syntax.specs.Emptied.{emptied_kind};
 ghost use Rattle.um_expr.specs.ExprTokens.{expr_token, keyword_token, symbol_token};
 
 use crate::infix::Infix;
-use std::alloc::{AllocError, Global};
+use std::alloc::Global;
 use um_frac::Frac;
 use um_syntax::{Keyword, Kind, Symbol};
 use um_tree::{Arith, Name, Sign};
@@ -55,17 +56,18 @@ fn of_symbol(symbol: Symbol) -> ExprToken
 }
 
 impl ExprToken {
-    /// What a token is; a name is copied.
-    pub fn of_kind(alloc: Global, kind: &Kind) -> Result<ExprToken, AllocError>
-        ensures { IfOk result (λ t. t ≡ expr_token kind.now) }
+    /// What a token is. The letters of a name are taken from it.
+    pub fn of_kind(alloc: Global, kind: &mut Kind) -> ExprToken
+        ensures token { result ≡ expr_token kind.old }
+        ensures emptied { kind.new ≡ emptied_kind kind.old }
     {
         match kind {
-            Kind::Name(letters) => Ok(ExprToken::Name(name_of(alloc, letters)?)),
-            Kind::Var(letters) => Ok(ExprToken::Variable(name_of(alloc, letters)?)),
-            Kind::Number { value, .. } => Ok(ExprToken::Number(*value)),
-            Kind::Word(keyword) => Ok(of_keyword(*keyword)),
-            Kind::Hole => Ok(ExprToken::Hole),
-            Kind::Sign(symbol) => Ok(of_symbol(*symbol)),
+            Kind::Name(letters) => ExprToken::Name(name_of(letters.take(alloc))),
+            Kind::Var(letters) => ExprToken::Variable(name_of(letters.take(alloc))),
+            Kind::Number { value, .. } => ExprToken::Number(*value),
+            Kind::Word(keyword) => of_keyword(*keyword),
+            Kind::Hole => ExprToken::Hole,
+            Kind::Sign(symbol) => of_symbol(*symbol),
         }
     }
 }
