@@ -43,7 +43,8 @@ fn take_copy<R: Reader + Drop>(
     token: &R::Token,
 ) -> Result<Taken, AllocError>
     requires low { R.machine.least (R.state_in reader.old) ≤ R.limit }
-    ensures taken { IfOk result (λ t. Takes R.machine R.limit (R.state_in reader.old) token.now t (R.state_in reader.new)) }
+    ensures taken { IfOk result (λ t. Takes R.machine R.limit (R.state_in reader.old) token.now t
+        (R.state_in reader.new)) }
 {
     let mut copy = R::copy(alloc, token)?;
     let taken = reader.take(alloc, &mut copy);

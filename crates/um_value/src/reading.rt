@@ -68,8 +68,9 @@ fn run<'a>(
     }
 }
 
-/// The value text of the shape that the tokens are, or the place from which on they are none; `end` is the length of the
-/// text.
+/// The value text of the shape that the tokens are, or the place from which on they are none.
+///
+/// `end` is the length of the text in bytes.
 pub(crate) fn read_raw(
     alloc: Global,
     program: &Program,
