@@ -1,7 +1,7 @@
 -- A lexer that is fed goes on standing for what it was fed.
 use Rattle.std.proofs.Common.{◌≡◌, ◌≢◌, ℕ, ◌+◌, ◌/◌, ◌%◌, ◌<◌, ◌≤◌, Bool, true, false, cond, ◌&&◌, ◌||◌, eqb, List, [], ◌∷◌, ◌++◌, length, take, Option, None, Some, is_some, Result, Ok, Err, OnOk, is_err, get_or, refl, sym, ap, subst, ◌∙◌, arith, append_assoc, ◌⊎◌, inl, inr, ⊎_elim, lit<, length-append}
 use Rattle.std.proofs.lemmas.Bool.{false≢true, eqb-true, cases_lt, lt-ltb, le-ltb}
-use Rattle.std.proofs.lemmas.Str.{encodes-append, encode_same, encode_ascii, chars-encodes, encodes-chars, encodes_same}
+use Rattle.std.proofs.lemmas.Str.{encodes-append, encode_same, encode_ascii, chars-encodes, encodes-chars, encodes_same, chars-nil}
 use Rattle.std.specs.Str.{chars, IsUtf8}
 use lib.Utf8.{encode, encodes, scalar, scalars, next}
 use Rattle.unicode_ident.proofs.IdentLemmas.{is_xid_continue-ascii}
@@ -14,17 +14,18 @@ use Rattle.um_syntax.specs.declared.token.TextStop.TheVariants as text
 use Rattle.um_syntax.specs.declared.number.Part.TheVariants as part
 use Rattle.um_syntax.specs.declared.pending.Pending.{Pending}
 use Rattle.um_syntax.specs.declared.pending.Pending.TheVariants as pending
+use Rattle.um_syntax.specs.declared.feed.Lexer.{Lexer}
 use Rattle.um_syntax.specs.Gap.{IsLine, nothing, closed}
 use Rattle.um_syntax.specs.Lexing.{HasTokens}
 use Rattle.um_syntax.specs.Machine.{Scan, scan_start, takes, double_symbol, close, ends_in_digit, followed, at_state, taken, step, steps, ended, tokens_of}
 use Rattle.um_syntax.specs.Scanning.{Stops}
-use Rattle.um_syntax.specs.Feeding.{EndsLine, CountsTokens, CountsLines, is_readable, IsReadable, text_stop, HasScanned, HasBehind}
+use Rattle.um_syntax.specs.Feeding.{HasRead, EndsLine, CountsTokens, CountsLines, is_readable, IsReadable, text_stop, HasScanned, HasBehind}
 use Rattle.um_syntax.specs.Decoding.{char_len, NoWhole, NoChar}
 use Rattle.um_syntax.proofs.Closing.{snoc_same}
 use Rattle.um_syntax.proofs.DecodedChars.{no_whole}
 use Rattle.std.proofs.Math.ListN.{set, length-set}
 use Rattle.std.proofs.lemmas.List.{take_more_set, length-take-le, length-take}
-use Rattle.um_syntax.proofs.Runs.{steps-append}
+use Rattle.um_syntax.proofs.Runs.{steps-append, reaches_now}
 use Rattle.unicode_ident.specs.Ident.{is_xid_continue}
 use Rattle.um_syntax.proofs.Tables.{double_symbol-feed}
 use Rattle.um_syntax.proofs.Reading.{ascii_no_name}
@@ -46,34 +47,41 @@ pub scalars-snoc : (cs : List ℕ) (c : ℕ) → scalars cs ≡ true → scalar 
 scalars-snoc [] c e f = and_true (scalar c) true f refl
 scalars-snoc (d ∷ ds) c e f = let p = and_parts (scalar d) (scalars ds) e in and_true (scalar d) (scalars (ds ++ c ∷ [])) p.0 (scalars-snoc ds c p.1 f)
 
--- the machine after one more character
-steps-snoc : (cs : List ℕ) (c : ℕ) (s : Scan) → steps (Ok scan_start) cs ≡ Ok s → steps (Ok scan_start) (cs ++ c ∷ []) ≡ step s c
-steps-snoc cs c s e = steps-append (Ok scan_start) cs (c ∷ []) ∙ ap (λ r. steps r (c ∷ [])) e
-
+-- the machine after one more character behind a fault
 steps-snoc_stopped : (cs : List ℕ) (c : ℕ) (stop : LexStop) → steps (Ok scan_start) cs ≡ Err stop → steps (Ok scan_start) (cs ++ c ∷ []) ≡ Err stop
 steps-snoc_stopped cs c stop e = steps-append (Ok scan_start) cs (c ∷ []) ∙ ap (λ r. steps r (c ∷ [])) e
 
-pub scanned_stays : (f : Option TextStop) (scan : Scan) (cs : List ℕ) (c : ℕ) → is_some f ≡ true → IsReadable f → HasScanned f scan cs → HasScanned f scan (cs ++ c ∷ [])
-scanned_stays None scan cs c some r h = absurd (false≢true some)
-scanned_stays (Some (text.Utf8 at)) scan cs c some r h = absurd (false≢true r)
-scanned_stays (Some (text.BadChar at)) scan cs c some r h = steps-snoc_stopped cs c (lex.BadChar at) h
-scanned_stays (Some (text.NumberRange at)) scan cs c some r h = steps-snoc_stopped cs c (lex.NumberRange at) h
-scanned_stays (Some (text.PowerText at)) scan cs c some r h = steps-snoc_stopped cs c (lex.PowerText at) h
-scanned_stays (Some text.NoMemory) scan cs c some r h = absurd (false≢true r)
+-- what the machine has answered, whatever follows
+pub scanned_now : (f : Option TextStop) (scan : Scan) (cs more : List ℕ) → HasScanned f scan cs [] → HasScanned f scan cs more
+scanned_now None scan cs more h = reaches_now scan_start scan cs more h
+scanned_now (Some (text.Utf8 at)) scan cs more h = h
+scanned_now (Some (text.BadChar at)) scan cs more h = h
+scanned_now (Some (text.NumberRange at)) scan cs more h = h
+scanned_now (Some (text.PowerText at)) scan cs more h = h
+scanned_now (Some text.NoMemory) scan cs more h = h
 
-pub scanned_goes : (f : Option TextStop) (scan new : Scan) (cs : List ℕ) (c : ℕ) → is_some f ≡ false → HasScanned f scan cs → step scan c ≡ Ok new → HasScanned f new (cs ++ c ∷ [])
-scanned_goes None scan new cs c none h e = steps-snoc cs c scan h ∙ e
-scanned_goes (Some t) scan new cs c none h e = absurd (false≢true (sym none))
+pub scanned_stays : (f : Option TextStop) (scan : Scan) (cs : List ℕ) (c : ℕ) (more : List ℕ) → is_some f ≡ true → IsReadable f → HasScanned f scan cs (c ∷ more) → HasScanned f scan (cs ++ c ∷ []) more
+scanned_stays None scan cs c more some r h = absurd (false≢true some)
+scanned_stays (Some (text.Utf8 at)) scan cs c more some r h = absurd (false≢true r)
+scanned_stays (Some (text.BadChar at)) scan cs c more some r h = steps-snoc_stopped cs c (lex.BadChar at) h
+scanned_stays (Some (text.NumberRange at)) scan cs c more some r h = steps-snoc_stopped cs c (lex.NumberRange at) h
+scanned_stays (Some (text.PowerText at)) scan cs c more some r h = steps-snoc_stopped cs c (lex.PowerText at) h
+scanned_stays (Some text.NoMemory) scan cs c more some r h = absurd (false≢true r)
 
-scanned_none : (f : Option TextStop) (scan : Scan) (cs : List ℕ) → is_some f ≡ false → HasScanned f scan cs → steps (Ok scan_start) cs ≡ Ok scan
-scanned_none None scan cs none h = h
-scanned_none (Some t) scan cs none h = absurd (false≢true (sym none))
+-- the machine with the next character
+scanned_next : (f : Option TextStop) (scan : Scan) (cs : List ℕ) (c : ℕ) (more : List ℕ) → is_some f ≡ false → HasScanned f scan cs (c ∷ more) → steps (Ok scan_start) (cs ++ c ∷ []) ≡ step scan c
+scanned_next None scan cs c more none h = h
+scanned_next (Some t) scan cs c more none h = absurd (false≢true (sym none))
 
-pub scanned_stops : (f : Option TextStop) (stop : LexStop) (scan new : Scan) (cs : List ℕ) (c : ℕ) → is_some f ≡ false → HasScanned f scan cs → stop ≢ lex.NoMemory → Stops stop (step scan c) → HasScanned (Some (text_stop stop)) new (cs ++ c ∷ [])
-scanned_stops f (lex.BadChar at) scan new cs c none h no_memory e = steps-snoc cs c scan (scanned_none f scan cs none h) ∙ e
-scanned_stops f (lex.NumberRange at) scan new cs c none h no_memory e = steps-snoc cs c scan (scanned_none f scan cs none h) ∙ e
-scanned_stops f (lex.PowerText at) scan new cs c none h no_memory e = steps-snoc cs c scan (scanned_none f scan cs none h) ∙ e
-scanned_stops f lex.NoMemory scan new cs c none h no_memory e = tt
+pub scanned_goes : (f : Option TextStop) (scan new : Scan) (cs : List ℕ) (c : ℕ) (more : List ℕ) → is_some f ≡ false → HasScanned f scan cs (c ∷ more) → step scan c ≡ Ok new → HasScanned f new (cs ++ c ∷ []) more
+scanned_goes None scan new cs c more none h e = reaches_now scan_start new (cs ++ c ∷ []) more (h ∙ e)
+scanned_goes (Some t) scan new cs c more none h e = absurd (false≢true (sym none))
+
+pub scanned_stops : (f : Option TextStop) (stop : LexStop) (scan new : Scan) (cs : List ℕ) (c : ℕ) (more : List ℕ) → is_some f ≡ false → HasScanned f scan cs (c ∷ more) → stop ≢ lex.NoMemory → Stops stop (step scan c) → HasScanned (Some (text_stop stop)) new (cs ++ c ∷ []) more
+scanned_stops f (lex.BadChar at) scan new cs c more none h no_memory e = scanned_next f scan cs c more none h ∙ e
+scanned_stops f (lex.NumberRange at) scan new cs c more none h no_memory e = scanned_next f scan cs c more none h ∙ e
+scanned_stops f (lex.PowerText at) scan new cs c more none h no_memory e = scanned_next f scan cs c more none h ∙ e
+scanned_stops f lex.NoMemory scan new cs c more none h no_memory e = tt
 
 -- the count of tokens up to the last line feed
 IsLine-snoc : (line : List ℕ) (c : ℕ) → IsLine line → eqb c 10 ≡ false → IsLine (line ++ c ∷ [])
@@ -104,19 +112,19 @@ counts_refused n cs c stop e k = by_feed (eqb c 10) refl
     by_feed true f = counts_line n cs c f (refused_counts n (cs ++ c ∷ []) stop e)
     by_feed false f = counts_on n cs c f k
 
-pub counts_stays : (f : Option TextStop) (scan : Scan) (n : ℕ) (cs : List ℕ) (c : ℕ) → is_some f ≡ true → IsReadable f → HasScanned f scan cs → CountsLines n cs → CountsLines n (cs ++ c ∷ [])
-counts_stays None scan n cs c some r h k = absurd (false≢true some)
-counts_stays (Some (text.Utf8 at)) scan n cs c some r h k = absurd (false≢true r)
-counts_stays (Some (text.BadChar at)) scan n cs c some r h k = counts_refused n cs c (lex.BadChar at) (steps-snoc_stopped cs c (lex.BadChar at) h) k
-counts_stays (Some (text.NumberRange at)) scan n cs c some r h k = counts_refused n cs c (lex.NumberRange at) (steps-snoc_stopped cs c (lex.NumberRange at) h) k
-counts_stays (Some (text.PowerText at)) scan n cs c some r h k = counts_refused n cs c (lex.PowerText at) (steps-snoc_stopped cs c (lex.PowerText at) h) k
-counts_stays (Some text.NoMemory) scan n cs c some r h k = absurd (false≢true r)
+pub counts_stays : (f : Option TextStop) (scan : Scan) (n : ℕ) (cs : List ℕ) (c : ℕ) (more : List ℕ) → is_some f ≡ true → IsReadable f → HasScanned f scan cs (c ∷ more) → CountsLines n cs → CountsLines n (cs ++ c ∷ [])
+counts_stays None scan n cs c more some r h k = absurd (false≢true some)
+counts_stays (Some (text.Utf8 at)) scan n cs c more some r h k = absurd (false≢true r)
+counts_stays (Some (text.BadChar at)) scan n cs c more some r h k = counts_refused n cs c (lex.BadChar at) (steps-snoc_stopped cs c (lex.BadChar at) h) k
+counts_stays (Some (text.NumberRange at)) scan n cs c more some r h k = counts_refused n cs c (lex.NumberRange at) (steps-snoc_stopped cs c (lex.NumberRange at) h) k
+counts_stays (Some (text.PowerText at)) scan n cs c more some r h k = counts_refused n cs c (lex.PowerText at) (steps-snoc_stopped cs c (lex.PowerText at) h) k
+counts_stays (Some text.NoMemory) scan n cs c more some r h k = absurd (false≢true r)
 
-pub counts_stops : (f : Option TextStop) (stop : LexStop) (scan : Scan) (n : ℕ) (cs : List ℕ) (c : ℕ) → is_some f ≡ false → HasScanned f scan cs → stop ≢ lex.NoMemory → Stops stop (step scan c) → CountsLines n cs → CountsLines n (cs ++ c ∷ [])
-counts_stops f (lex.BadChar at) scan n cs c none h no_memory e k = counts_refused n cs c (lex.BadChar at) (steps-snoc cs c scan (scanned_none f scan cs none h) ∙ e) k
-counts_stops f (lex.NumberRange at) scan n cs c none h no_memory e k = counts_refused n cs c (lex.NumberRange at) (steps-snoc cs c scan (scanned_none f scan cs none h) ∙ e) k
-counts_stops f (lex.PowerText at) scan n cs c none h no_memory e k = counts_refused n cs c (lex.PowerText at) (steps-snoc cs c scan (scanned_none f scan cs none h) ∙ e) k
-counts_stops f lex.NoMemory scan n cs c none h no_memory e k = absurd (no_memory refl)
+pub counts_stops : (f : Option TextStop) (stop : LexStop) (scan : Scan) (n : ℕ) (cs : List ℕ) (c : ℕ) (more : List ℕ) → is_some f ≡ false → HasScanned f scan cs (c ∷ more) → stop ≢ lex.NoMemory → Stops stop (step scan c) → CountsLines n cs → CountsLines n (cs ++ c ∷ [])
+counts_stops f (lex.BadChar at) scan n cs c more none h no_memory e k = counts_refused n cs c (lex.BadChar at) (scanned_next f scan cs c more none h ∙ e) k
+counts_stops f (lex.NumberRange at) scan n cs c more none h no_memory e k = counts_refused n cs c (lex.NumberRange at) (scanned_next f scan cs c more none h ∙ e) k
+counts_stops f (lex.PowerText at) scan n cs c more none h no_memory e k = counts_refused n cs c (lex.PowerText at) (scanned_next f scan cs c more none h ∙ e) k
+counts_stops f lex.NoMemory scan n cs c more none h no_memory e k = absurd (no_memory refl)
 
 pub counts_goes : (n : ℕ) (cs : List ℕ) (c : ℕ) → ¬ (c ≡ 10) → CountsLines n cs → CountsLines n (cs ++ c ∷ [])
 counts_goes n cs c other k = counts_on n cs c (is_false (eqb c 10) refl) k
@@ -183,14 +191,18 @@ line_feed_free s new e = by_pending s.pending refl
 free_answer : (s : Scan) → s.pending ≡ pending.Free → ended (Ok s) ≡ Ok s.tokens
 free_answer s is = ap (λ p. tokens_of (close s p)) is
 
-pub counts_feed : (f : Option TextStop) (scan new : Scan) (n : ℕ) (cs : List ℕ) (c : ℕ) → is_some f ≡ false → HasScanned f scan cs → step scan c ≡ Ok new → c ≡ 10 → n ≡ length new.tokens → CountsLines n (cs ++ c ∷ [])
-counts_feed f scan new n cs c none h e feed count =
-    let stepped = steps-snoc cs c scan (scanned_none f scan cs none h) ∙ e in
+pub counts_feed : (f : Option TextStop) (scan new : Scan) (n : ℕ) (cs : List ℕ) (c : ℕ) (more : List ℕ) → is_some f ≡ false → HasScanned f scan cs (c ∷ more) → step scan c ≡ Ok new → c ≡ 10 → n ≡ length new.tokens → CountsLines n (cs ++ c ∷ [])
+counts_feed f scan new n cs c more none h e feed count =
+    let stepped = scanned_next f scan cs c more none h ∙ e in
     let free = line_feed_free scan new (subst (λ x. step scan x ≡ Ok new) feed e) in
     counts_line n cs c (ap (λ x. eqb x 10) feed) (λ tokens t.
     let answer = sym (scanned_complete (cs ++ c ∷ []) tokens t) ∙ ap ended stepped ∙ free_answer new free in
     let same : tokens ≡ new.tokens = cc in
     count ∙ ap length (sym same))
+
+-- no characters were read behind these
+pub none_read : (l : Lexer) (cs more : List ℕ) → HasRead l cs more → HasRead l (cs ++ chars []) more
+none_read l cs more h = subst (λ x. HasRead l x more) (sym (ap (λ x. cs ++ x) chars-nil ∙ append_nil cs)) h
 
 -- what stands behind the characters
 NoChar-more : (tail : List ℕ) (b : ℕ) → NoChar tail → NoChar (tail ++ b ∷ [])

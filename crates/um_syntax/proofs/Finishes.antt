@@ -67,7 +67,7 @@ text_tokens bytes cs tokens same s e =
 
 -- a fault that was met
 pub fault_answer : (bytes cs tail partial : List ℕ) (stop : TextStop) (valid : ℕ) (scan : Scan) → bytes ≡ encodes cs ++ tail → scalars cs ≡ true → valid ≡ size_of cs → (IsReadable (Some stop) → partial ≡ [])
-    → HasScanned (Some stop) scan cs → HasBehind (Some stop) valid partial tail → IsTextAnswer bytes (Err stop)
+    → HasScanned (Some stop) scan cs [] → HasBehind (Some stop) valid partial tail → IsTextAnswer bytes (Err stop)
 fault_answer bytes cs tail partial (text.Utf8 at) valid scan whole s place empty read h =
     let valid_here = subst (IsValidUpTo (encodes cs ++ tail)) (sym (place ∙ size_of-encodes cs)) (valid_up_to cs tail s (subst NoWhole (append_nil tail) (h.1 [])) (broken_some tail h.1)) in
     subst (λ x. IsValidUpTo x at) (sym whole) (subst (IsValidUpTo (encodes cs ++ tail)) (sym h.0) valid_here)
@@ -77,14 +77,14 @@ fault_answer bytes cs tail partial (text.PowerText at) valid scan whole s place 
 fault_answer bytes cs tail partial text.NoMemory valid scan whole s place empty read h = tt
 
 -- no fault so far
-pub tokens_answer : (bytes cs tail partial : List ℕ) (valid : ℕ) (scan : Scan) (tokens : List Token) → bytes ≡ encodes cs ++ tail → scalars cs ≡ true → partial ≡ [] → HasScanned None scan cs → HasBehind None valid partial tail
+pub tokens_answer : (bytes cs tail partial : List ℕ) (valid : ℕ) (scan : Scan) (tokens : List Token) → bytes ≡ encodes cs ++ tail → scalars cs ≡ true → partial ≡ [] → HasScanned None scan cs [] → HasBehind None valid partial tail
     → Answers (Ok tokens) (ended (Ok scan)) → IsTextAnswer bytes (Ok tokens)
 tokens_answer bytes cs tail partial valid scan tokens whole s empty read h e = text_tokens bytes cs tokens (whole_bytes bytes cs tail whole (h ∙ empty)) s (ap ended read ∙ e)
 
 text_ended : (bytes cs : List ℕ) (stop : LexStop) → bytes ≡ encodes cs → scalars cs ≡ true → scanned cs ≡ Err stop → IsUtf8 bytes × HasFault (chars bytes) stop
 text_ended bytes cs stop same s e = ((cs, (s, sym same)), subst (λ x. HasFault x stop) (sym (ap chars same ∙ chars-encodes cs s)) (fault_from cs stop e))
 
-pub refusal_answer : (bytes cs tail partial : List ℕ) (valid : ℕ) (scan : Scan) (stop : LexStop) → bytes ≡ encodes cs ++ tail → scalars cs ≡ true → partial ≡ [] → HasScanned None scan cs → HasBehind None valid partial tail
+pub refusal_answer : (bytes cs tail partial : List ℕ) (valid : ℕ) (scan : Scan) (stop : LexStop) → bytes ≡ encodes cs ++ tail → scalars cs ≡ true → partial ≡ [] → HasScanned None scan cs [] → HasBehind None valid partial tail
     → Answers (Err stop) (ended (Ok scan)) → IsTextAnswer bytes (Err (text_stop stop))
 refusal_answer bytes cs tail partial valid scan (lex.BadChar at) whole s empty read h e = text_ended bytes cs (lex.BadChar at) (whole_bytes bytes cs tail whole (h ∙ empty)) s (ap ended read ∙ e)
 refusal_answer bytes cs tail partial valid scan (lex.NumberRange at) whole s empty read h e = text_ended bytes cs (lex.NumberRange at) (whole_bytes bytes cs tail whole (h ∙ empty)) s (ap ended read ∙ e)

@@ -1,5 +1,5 @@
 -- Characters that keep what has begun.
-use Rattle.std.proofs.Common.{◌≡◌, inl, inr, ℕ, zero, suc, ◌+◌, ◌<◌, ◌≤◌, ◌||◌, true, false, eqb, List, [], ◌∷◌, ◌++◌, length, take, drop, get_or, Option, None, Some, Ok, refl, sym, ap, subst, ◌∙◌, arith, append_assoc}
+use Rattle.std.proofs.Common.{◌≡◌, inl, inr, ℕ, zero, suc, ◌+◌, ◌<◌, ◌≤◌, ◌||◌, true, false, eqb, List, [], ◌∷◌, ◌++◌, length, take, drop, get_or, Option, None, Some, is_some, Ok, refl, sym, ap, subst, ◌∙◌, arith, append_assoc}
 use Rattle.std.proofs.lemmas.Bool.{false≢true}
 use Rattle.std.proofs.lemmas.List.{take_more, append-nil, drop-take, take-take, take-append-drop}
 use Rattle.std.proofs.Math.Seq.{take-append_seam}
@@ -13,12 +13,11 @@ use Rattle.um_syntax.specs.declared.token.TextStop.{TextStop}
 use Rattle.um_syntax.specs.declared.pending.Pending.{Pending}
 use Rattle.um_syntax.specs.declared.pending.Pending.TheVariants as pending
 use Rattle.um_syntax.specs.Gap.{is_space, IsLine}
-use Rattle.um_syntax.specs.Lexing.{size_of}
 use Rattle.um_syntax.specs.Lexeme.{starts_name}
-use Rattle.um_syntax.specs.Machine.{Scan, scan_start, keeps, AllKept, begins_name, IsNameRun, IsRun, step, steps}
+use Rattle.um_syntax.specs.Machine.{Scan, scan_start, keeps, AllKept, begins_name, IsNameRun, step, steps, Reaches}
 use Rattle.um_syntax.specs.Feeding.{CountsLines, HasScanned}
-use Rattle.um_syntax.proofs.Places.{size_of-encodes}
-use Rattle.um_syntax.proofs.Runs.{steps-append}
+use Rattle.um_syntax.proofs.Runs.{reaches_on}
+use Rattle.um_syntax.proofs.Closing.{scan_at}
 use Rattle.um_syntax.proofs.Feeds.{and_true, and_parts}
 
 -- a byte that keeps something is ASCII, and no line feed
@@ -37,9 +36,17 @@ kept_ascii p [] h i = omega arith
 kept_ascii p (b ∷ bs) h zero = (keeps_ascii p b h.0).0
 kept_ascii p (b ∷ bs) h (suc i) = kept_ascii p bs h.1 i
 
-kept_line : (p : Pending) (bs : List ℕ) → AllKept p bs → IsLine bs
+pub kept_line : (p : Pending) (bs : List ℕ) → AllKept p bs → IsLine bs
 kept_line p [] h = tt
 kept_line p (b ∷ bs) h = ((keeps_ascii p b h.0).1, kept_line p bs h.1)
+
+pub plain_byte : (b : ℕ) → b < 128 → eqb b 10 ≡ false → keeps pending.Comment b ≡ true
+plain_byte b low feed = grind arith
+
+-- such bytes are those of a comment, too
+pub plain : (p : Pending) (bs : List ℕ) → AllKept p bs → AllKept pending.Comment bs
+plain p [] h = tt
+plain p (b ∷ bs) h = (plain_byte b (keeps_ascii p b h.0).0 (keeps_ascii p b h.0).1, plain p bs h.1)
 
 AllKept-snoc : (p : Pending) (bs : List ℕ) (b : ℕ) → AllKept p bs → keeps p b ≡ true → AllKept p (bs ++ b ∷ [])
 AllKept-snoc p [] b h k = (k, tt)
@@ -53,23 +60,20 @@ abbrev pub kept_letters : Pending → List ℕ → List ℕ
 kept_letters (pending.Identifier start) bs = bs
 kept_letters _ bs = []
 
-abbrev pub scan_with : ℕ → List Token → List ℕ → Pending → Scan
-scan_with at tokens letters p = record { at = at; tokens = tokens; letters = letters; pending = p }
-
 step_identifier : (at : ℕ) (tokens : List Token) (letters : List ℕ) (start b : ℕ) → keeps (pending.Identifier start) b ≡ true
-    → step (scan_with at tokens letters (pending.Identifier start)) b ≡ Ok (scan_with (at + 1) tokens (letters ++ b ∷ []) (pending.Identifier start))
+    → step (scan_at at tokens letters (pending.Identifier start)) b ≡ Ok (scan_at (at + 1) tokens (letters ++ b ∷ []) (pending.Identifier start))
 step_identifier at tokens letters start b h =
     let low = (keeps_ascii (pending.Identifier start) b h).0 in
     rw (is_xid_continue-ascii b low ∙ h, len_utf8_ascii b low, encode_ascii b low) refl
 
 step_comment : (at : ℕ) (tokens : List Token) (letters : List ℕ) (b : ℕ) → keeps pending.Comment b ≡ true
-    → step (scan_with at tokens letters pending.Comment) b ≡ Ok (scan_with (at + 1) tokens letters pending.Comment)
+    → step (scan_at at tokens letters pending.Comment) b ≡ Ok (scan_at (at + 1) tokens letters pending.Comment)
 step_comment at tokens letters b h =
     let k = keeps_ascii pending.Comment b h in
     rw (len_utf8_ascii b k.0, k.1) refl
 
 step_blank : (at : ℕ) (tokens : List Token) (letters : List ℕ) (b : ℕ) → keeps pending.Free b ≡ true
-    → step (scan_with at tokens letters pending.Free) b ≡ Ok (scan_with (at + 1) tokens letters pending.Free)
+    → step (scan_at at tokens letters pending.Free) b ≡ Ok (scan_at (at + 1) tokens letters pending.Free)
 step_blank at tokens letters b h =
     let low = (keeps_ascii pending.Free b h).0 in
     let space : is_space b ≡ true = grind arith in
@@ -85,39 +89,29 @@ no_letters (pending.Variable start last) = refl
 no_letters (pending.Number start end part figures) = refl
 no_letters (pending.Symbol start first) = refl
 
-pub no_letters_kept : (p : Pending) (bs : List ℕ) → ((start : ℕ) → p ≡ pending.Identifier start → ⊥) → kept_letters p bs ≡ []
-no_letters_kept (pending.Identifier start) bs none = absurd (none start refl)
-no_letters_kept pending.Comment bs none = refl
-no_letters_kept pending.Free bs none = refl
-no_letters_kept pending.Start bs none = refl
-no_letters_kept (pending.Quote start) bs none = refl
-no_letters_kept (pending.Variable start last) bs none = refl
-no_letters_kept (pending.Number start end part figures) bs none = refl
-no_letters_kept (pending.Symbol start first) bs none = refl
-
 -- the machine after bytes that keep what has begun
 pub steps_kept : (at : ℕ) (tokens : List Token) (letters : List ℕ) (p : Pending) (bs : List ℕ) → AllKept p bs
-    → steps (Ok (scan_with at tokens letters p)) bs ≡ Ok (scan_with (at + length bs) tokens (letters ++ kept_letters p bs) p)
+    → steps (Ok (scan_at at tokens letters p)) bs ≡ Ok (scan_at (at + length bs) tokens (letters ++ kept_letters p bs) p)
 steps_kept at tokens letters p [] h =
     let here : at ≡ at + 0 = omega arith in
-    ap (λ l. Ok (scan_with at tokens l p)) (sym (append-nil letters) ∙ ap (λ l. letters ++ l) (sym (no_letters p)))
-    ∙ ap (λ n. Ok (scan_with n tokens (letters ++ kept_letters p []) p)) here
+    ap (λ l. Ok (scan_at at tokens l p)) (sym (append-nil letters) ∙ ap (λ l. letters ++ l) (sym (no_letters p)))
+    ∙ ap (λ n. Ok (scan_at n tokens (letters ++ kept_letters p []) p)) here
 steps_kept at tokens letters (pending.Identifier start) (b ∷ bs) h =
     let there : at + 1 + length bs ≡ at + length (b ∷ bs) = omega arith in
     ap (λ r. steps r bs) (step_identifier at tokens letters start b h.0)
     ∙ steps_kept (at + 1) tokens (letters ++ b ∷ []) (pending.Identifier start) bs h.1
-    ∙ ap (λ n. Ok (scan_with n tokens ((letters ++ b ∷ []) ++ bs) (pending.Identifier start))) there
-    ∙ ap (λ l. Ok (scan_with (at + length (b ∷ bs)) tokens l (pending.Identifier start))) (append_assoc letters (b ∷ []) bs)
+    ∙ ap (λ n. Ok (scan_at n tokens ((letters ++ b ∷ []) ++ bs) (pending.Identifier start))) there
+    ∙ ap (λ l. Ok (scan_at (at + length (b ∷ bs)) tokens l (pending.Identifier start))) (append_assoc letters (b ∷ []) bs)
 steps_kept at tokens letters pending.Comment (b ∷ bs) h =
     let there : at + 1 + length bs ≡ at + length (b ∷ bs) = omega arith in
     ap (λ r. steps r bs) (step_comment at tokens letters b h.0)
     ∙ steps_kept (at + 1) tokens letters pending.Comment bs h.1
-    ∙ ap (λ n. Ok (scan_with n tokens (letters ++ []) pending.Comment)) there
+    ∙ ap (λ n. Ok (scan_at n tokens (letters ++ []) pending.Comment)) there
 steps_kept at tokens letters pending.Free (b ∷ bs) h =
     let there : at + 1 + length bs ≡ at + length (b ∷ bs) = omega arith in
     ap (λ r. steps r bs) (step_blank at tokens letters b h.0)
     ∙ steps_kept (at + 1) tokens letters pending.Free bs h.1
-    ∙ ap (λ n. Ok (scan_with n tokens (letters ++ []) pending.Free)) there
+    ∙ ap (λ n. Ok (scan_at n tokens (letters ++ []) pending.Free)) there
 steps_kept at tokens letters pending.Start (b ∷ bs) h = absurd (false≢true h.0)
 steps_kept at tokens letters (pending.Quote start) (b ∷ bs) h = absurd (false≢true h.0)
 steps_kept at tokens letters (pending.Variable start last) (b ∷ bs) h = absurd (false≢true h.0)
@@ -129,7 +123,7 @@ steps_kept at tokens letters (pending.Symbol start first) (b ∷ bs) h = absurd 
 begins_keeps : (b : ℕ) → (eqb b 95 || is_ascii_alphabetic b) ≡ true → keeps (pending.Identifier 0) b ≡ true
 begins_keeps b h = grind arith
 
-name_kept : (bs : List ℕ) → IsNameRun bs → AllKept (pending.Identifier 0) bs
+pub name_kept : (bs : List ℕ) → IsNameRun bs → AllKept (pending.Identifier 0) bs
 name_kept [] h = absurd h
 name_kept (b ∷ bs) h = (begins_keeps b h.0, h.1)
 
@@ -139,7 +133,7 @@ any_start start [] h = tt
 any_start start (b ∷ bs) h = (h.0, any_start start bs h.1)
 
 step_name : (at : ℕ) (tokens : List Token) (letters : List ℕ) (b : ℕ) → (eqb b 95 || is_ascii_alphabetic b) ≡ true
-    → step (scan_with at tokens letters pending.Free) b ≡ Ok (scan_with (at + 1) tokens (letters ++ b ∷ []) (pending.Identifier at))
+    → step (scan_at at tokens letters pending.Free) b ≡ Ok (scan_at (at + 1) tokens (letters ++ b ∷ []) (pending.Identifier at))
 step_name at tokens letters b h =
     let low = (keeps_ascii (pending.Identifier 0) b (begins_keeps b h)).0 in
     let space : is_space b ≡ false = grind arith in
@@ -148,73 +142,36 @@ step_name at tokens letters b h =
 
 -- the machine after such bytes
 pub steps_name : (at : ℕ) (tokens : List Token) (letters bs : List ℕ) → IsNameRun bs
-    → steps (Ok (scan_with at tokens letters pending.Free)) bs ≡ Ok (scan_with (at + length bs) tokens (letters ++ bs) (pending.Identifier at))
+    → steps (Ok (scan_at at tokens letters pending.Free)) bs ≡ Ok (scan_at (at + length bs) tokens (letters ++ bs) (pending.Identifier at))
 steps_name at tokens letters [] h = absurd h
 steps_name at tokens letters (b ∷ bs) h =
     let there : at + 1 + length bs ≡ at + length (b ∷ bs) = omega arith in
     ap (λ r. steps r bs) (step_name at tokens letters b h.0)
     ∙ steps_kept (at + 1) tokens (letters ++ b ∷ []) (pending.Identifier at) bs (any_start at bs h.1)
-    ∙ ap (λ n. Ok (scan_with n tokens ((letters ++ b ∷ []) ++ bs) (pending.Identifier at))) there
-    ∙ ap (λ l. Ok (scan_with (at + length (b ∷ bs)) tokens l (pending.Identifier at))) (append_assoc letters (b ∷ []) bs)
+    ∙ ap (λ n. Ok (scan_at n tokens ((letters ++ b ∷ []) ++ bs) (pending.Identifier at))) there
+    ∙ ap (λ l. Ok (scan_at (at + length (b ∷ bs)) tokens l (pending.Identifier at))) (append_assoc letters (b ∷ []) bs)
 
--- ---- bytes that are taken at once
+-- bytes of a name, by where it begins and how far they go on with it
+pub name_run : (bs : List ℕ) (n : ℕ) → begins_name bs ≡ true → AllKept (pending.Identifier 0) (take n bs) → 0 < n → IsNameRun (take n bs)
+name_run bs zero h k some = absurd (omega (arith, some))
+name_run [] (suc n) h k some = absurd (false≢true h)
+name_run (b ∷ bs) (suc n) h k some = (h, k.1)
 
--- they keep something
-pub run_kept : (p : Pending) (bs : List ℕ) → IsRun p bs → (q : Pending) × AllKept q bs
-run_kept p bs (inl h) = (p, h)
-run_kept p bs (inr h) = (pending.Identifier 0, name_kept bs h.1)
-
--- they keep what has begun, if anything has
-pub kept_of_run : (p : Pending) (bs : List ℕ) → (p ≡ pending.Free → ⊥) → IsRun p bs → AllKept p bs
-kept_of_run p bs begun (inl h) = h
-kept_of_run p bs begun (inr h) = absurd (begun h.0)
-
--- bytes that begin with one of a name, as far as they go on with it
-pub name_run : (bs : List ℕ) (n : ℕ) → begins_name bs ≡ true → AllKept (pending.Identifier 0) (take n bs) → IsRun pending.Free (take n bs)
-name_run bs zero h k = inl tt
-name_run [] (suc n) h k = absurd (false≢true h)
-name_run (b ∷ bs) (suc n) h k = inr (refl, (h, k.1))
-
--- a blank begins no name
-blank_begins : (b : ℕ) → keeps pending.Free b ≡ true → (eqb b 95 || is_ascii_alphabetic b) ≡ true → ⊥
-blank_begins b k h = grind arith
-
-pub name_of_run : (bs : List ℕ) → IsRun pending.Free bs → begins_name bs ≡ true → IsNameRun bs
-name_of_run [] r h = absurd (false≢true h)
-name_of_run (b ∷ bs) (inl k) h = absurd (blank_begins b k.0 h)
-name_of_run (b ∷ bs) (inr n) h = n.1
-
-pub blanks_of_run : (bs : List ℕ) → IsRun pending.Free bs → begins_name bs ≡ false → AllKept pending.Free bs
-blanks_of_run bs (inl k) h = k
-blanks_of_run [] (inr n) h = absurd n.1
-blanks_of_run (b ∷ bs) (inr n) h = absurd (false≢true (sym h ∙ n.1.0))
-
--- what a lexer has read, with such bytes
-scalars-both : (cs ds : List ℕ) → scalars cs ≡ true → scalars ds ≡ true → scalars (cs ++ ds) ≡ true
+-- what a lexer has read, with more characters
+pub scalars-both : (cs ds : List ℕ) → scalars cs ≡ true → scalars ds ≡ true → scalars (cs ++ ds) ≡ true
 scalars-both [] ds e f = f
 scalars-both (c ∷ cs) ds e f = let h = and_parts (scalar c) (scalars cs) e in and_true (scalar c) (scalars (cs ++ ds)) h.0 (scalars-both cs ds h.1 f)
 
-pub scalars_kept : (cs : List ℕ) (p : Pending) (bs : List ℕ) → scalars cs ≡ true → AllKept p bs → scalars (cs ++ bs) ≡ true
-scalars_kept cs p bs e h =
-    let ascii = kept_ascii p bs h in
-    scalars-both cs bs e (ap scalars (sym (chars-IsAscii bs ascii)) ∙ scalars-chars bs (IsUtf8-from_ascii bs ascii))
-
-pub size_of-kept : (p : Pending) (bs : List ℕ) → AllKept p bs → size_of bs ≡ length bs
-size_of-kept p bs h = size_of-encodes bs ∙ ap length (encodes-IsAscii bs (kept_ascii p bs h))
-
-pub scanned_kept : (f : Option TextStop) (scan new : Scan) (cs bs : List ℕ) → f ≡ None → HasScanned f scan cs → steps (Ok scan) bs ≡ Ok new → HasScanned f new (cs ++ bs)
-scanned_kept None scan new cs bs none h e = steps-append (Ok scan_start) cs bs ∙ ap (λ r. steps r bs) h ∙ e
-scanned_kept (Some t) scan new cs bs none h e = absurd (some_none none)
-  where
-    some_none : Some t ≡ None → ⊥
-    some_none e = cc
+pub scanned_on : (f : Option TextStop) (scan new : Scan) (cs ds es : List ℕ) → is_some f ≡ false → HasScanned f scan cs (ds ++ es) → Reaches scan ds new es → HasScanned f new (cs ++ ds) es
+scanned_on None scan new cs ds es none h r = reaches_on scan_start scan new cs ds es h r
+scanned_on (Some t) scan new cs ds es none h r = absurd (false≢true (sym none))
 
 IsLine-both : (xs ys : List ℕ) → IsLine xs → IsLine ys → IsLine (xs ++ ys)
 IsLine-both [] ys l m = m
 IsLine-both (x ∷ xs) ys l m = (l.0, IsLine-both xs ys l.1 m)
 
-pub counts_kept : (n : ℕ) (cs : List ℕ) (p : Pending) (bs : List ℕ) → AllKept p bs → CountsLines n cs → CountsLines n (cs ++ bs)
-counts_kept n cs p bs h k = (k.0, k.1 ++ bs, ap (λ x. x ++ bs) k.2 ∙ append_assoc k.0 k.1 bs, k.3, IsLine-both k.1 bs k.4 (kept_line p bs h), k.5)
+pub counts_line_on : (n : ℕ) (cs line : List ℕ) → IsLine line → CountsLines n cs → CountsLines n (cs ++ line)
+counts_line_on n cs line l k = (k.0, k.1 ++ line, ap (λ x. x ++ line) k.2 ∙ append_assoc k.0 k.1 line, k.3, IsLine-both k.1 line k.4 l, k.5)
 
 -- where such bytes end, a character does
 pub kept_boundary : (p : Pending) (text : List ℕ) (n : ℕ) → IsUtf8 text → n ≤ length text → AllKept p (take n text) → IsCharBoundary text n
@@ -222,6 +179,10 @@ kept_boundary p text n utf8 within h = IsCharBoundary-from_take text n utf8 with
 
 pub kept_chars : (p : Pending) (bs : List ℕ) → AllKept p bs → chars bs ≡ bs
 kept_chars p bs h = chars-IsAscii bs (kept_ascii p bs h)
+
+-- the characters of a text, cut where one begins
+pub chars_cut : (text : List ℕ) (n : ℕ) → IsUtf8 text → IsCharBoundary text n → chars (take n text) ++ chars (drop n text) ≡ chars text
+chars_cut text n utf8 boundary = sym (chars-append (take n text) (drop n text) (IsUtf8-take text n utf8 boundary)) ∙ ap chars (take-append-drop n text)
 
 -- the character at the front of a text
 pub first_char : (text rest : List ℕ) (c : ℕ) → IsUtf8 text → text ≡ encode c ++ rest → IsCharBoundary text (len_utf8 c) × (chars (take (len_utf8 c) text) ≡ c ∷ [])

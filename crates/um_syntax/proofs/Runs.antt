@@ -1,8 +1,9 @@
 -- Runs of the machine.
-use Rattle.std.proofs.Common.{◌≡◌, ℕ, List, [], ◌∷◌, ◌++◌, Result, Ok, Err, refl, sym, ap, ◌∙◌}
+use Rattle.std.proofs.Common.{◌≡◌, ℕ, List, [], ◌∷◌, ◌++◌, Result, Ok, Err, refl, sym, ap, ◌∙◌, append_assoc}
+use Rattle.std.proofs.lemmas.List.{append-nil}
 use Rattle.um_syntax.specs.declared.token.LexStop.{LexStop}
 use Rattle.um_syntax.specs.declared.token.LexStop.TheVariants.{BadChar, NumberRange, PowerText, NoMemory}
-use Rattle.um_syntax.specs.Machine.{Scan, step, steps, ended}
+use Rattle.um_syntax.specs.Machine.{Scan, step, steps, ended, Reaches}
 use Rattle.um_syntax.specs.Scanning.{Stops, Answers}
 
 pub steps-stopped : (stop : LexStop) (cs : List ℕ) → steps (Err stop) cs ≡ Err stop
@@ -27,3 +28,22 @@ refuses (BadChar at) s new left after c all e stepped so_far = steps_stop s left
 refuses (NumberRange at) s new left after c all e stepped so_far = steps_stop s left after c (NumberRange at) all e stepped so_far
 refuses (PowerText at) s new left after c all e stepped so_far = steps_stop s left after c (PowerText at) all e stepped so_far
 refuses NoMemory s new left after c all e stepped so_far = tt
+
+-- a state that is reached, whatever follows
+pub reaches_now : (old new : Scan) (cs more : List ℕ) → steps (Ok old) cs ≡ Ok new → Reaches old cs new more
+reaches_now old new cs [] e = e
+reaches_now old new cs (c ∷ more) e = steps-append (Ok old) cs (c ∷ []) ∙ ap (λ r. steps r (c ∷ [])) e
+
+pub reaches_on : (old mid new : Scan) (cs ds es : List ℕ) → Reaches old cs mid (ds ++ es) → Reaches mid ds new es → Reaches old (cs ++ ds) new es
+reaches_on old mid new cs [] [] a b = ap (λ l. steps (Ok old) l) (append-nil cs) ∙ a ∙ b
+reaches_on old mid new cs [] (e ∷ es) a b = ap (λ l. steps (Ok old) (l ++ e ∷ [])) (append-nil cs) ∙ a ∙ b
+reaches_on old mid new cs (d ∷ ds) [] a b =
+    ap (λ l. steps (Ok old) l) (sym (append_assoc cs (d ∷ []) ds))
+    ∙ steps-append (Ok old) (cs ++ d ∷ []) ds
+    ∙ ap (λ r. steps r ds) a
+    ∙ b
+reaches_on old mid new cs (d ∷ ds) (e ∷ es) a b =
+    ap (λ l. steps (Ok old) l) (append_assoc cs (d ∷ ds) (e ∷ []) ∙ sym (append_assoc cs (d ∷ []) (ds ++ e ∷ [])))
+    ∙ steps-append (Ok old) (cs ++ d ∷ []) (ds ++ e ∷ [])
+    ∙ ap (λ r. steps r (ds ++ e ∷ [])) a
+    ∙ b

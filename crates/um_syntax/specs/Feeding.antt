@@ -9,7 +9,7 @@ use Rattle.um_syntax.specs.declared.token.TextStop.TheVariants as text
 use Rattle.um_syntax.specs.declared.feed.Lexer.{Lexer}
 use Rattle.um_syntax.specs.Gap.{IsLine}
 use Rattle.um_syntax.specs.Lexing.{size_of, HasTokens, HasFault}
-use Rattle.um_syntax.specs.Machine.{Scan, scan_start, steps}
+use Rattle.um_syntax.specs.Machine.{Scan, scan_start, steps, Reaches}
 use Rattle.um_syntax.specs.Scanning.{scan_of}
 use Rattle.um_syntax.specs.Decoding.{NoChar}
 
@@ -59,14 +59,14 @@ text_stop (lex.NumberRange at) = text.NumberRange at
 text_stop (lex.PowerText at) = text.PowerText at
 text_stop lex.NoMemory = text.NoMemory
 
--- what the machine has answered to the characters
-abbrev pub HasScanned : Option TextStop → Scan → List ℕ → Type 0
-HasScanned None scan cs = steps (Ok scan_start) cs ≡ Ok scan
-HasScanned (Some (text.Utf8 at)) scan cs = Unit {0}
-HasScanned (Some (text.BadChar at)) scan cs = steps (Ok scan_start) cs ≡ Err (lex.BadChar at)
-HasScanned (Some (text.NumberRange at)) scan cs = steps (Ok scan_start) cs ≡ Err (lex.NumberRange at)
-HasScanned (Some (text.PowerText at)) scan cs = steps (Ok scan_start) cs ≡ Err (lex.PowerText at)
-HasScanned (Some text.NoMemory) scan cs = Unit {0}
+-- what the machine has answered to the characters, where others follow
+abbrev pub HasScanned : Option TextStop → Scan → List ℕ → List ℕ → Type 0
+HasScanned None scan cs more = Reaches scan_start cs scan more
+HasScanned (Some (text.Utf8 at)) scan cs more = Unit {0}
+HasScanned (Some (text.BadChar at)) scan cs more = steps (Ok scan_start) cs ≡ Err (lex.BadChar at)
+HasScanned (Some (text.NumberRange at)) scan cs more = steps (Ok scan_start) cs ≡ Err (lex.NumberRange at)
+HasScanned (Some (text.PowerText at)) scan cs more = steps (Ok scan_start) cs ≡ Err (lex.PowerText at)
+HasScanned (Some text.NoMemory) scan cs more = Unit {0}
 
 -- the count is that of the tokens up to the last line feed
 abbrev pub CountsLines : ℕ → List ℕ → Type 0
@@ -74,11 +74,11 @@ CountsLines count cs =
     (prefix line : List ℕ) × (cs ≡ prefix ++ line) × EndsLine prefix × IsLine line
     × ((tokens : List Token) → HasTokens prefix tokens → count ≡ length tokens)
 
--- the lexer has read these characters
-pub record HasRead (lexer : Lexer) (cs : List ℕ) : Type 0 where
+-- the lexer has read these characters, where others follow
+pub record HasRead (lexer : Lexer) (cs more : List ℕ) : Type 0 where
   pub scalars : all_scalars cs ≡ true
   pub place : lexer.valid ≡ size_of cs
-  pub scanned : HasScanned lexer.fault (scan_of lexer.scanner) cs
+  pub scanned : HasScanned lexer.fault (scan_of lexer.scanner) cs more
   pub counted : CountsLines lexer.counted cs
 
 -- What stands behind the characters. A spent lexer stands for nothing.
@@ -94,6 +94,6 @@ HasBehind (Some text.NoMemory) valid partial tail = ⊥
 pub record Stands (lexer : Lexer) (bytes : List ℕ) : Type 0 where
   pub cs : List ℕ
   pub tail : List ℕ
-  pub read : HasRead lexer cs
+  pub read : HasRead lexer cs []
   pub whole : bytes ≡ encode_utf8_all cs ++ tail
   pub behind : HasBehind lexer.fault lexer.valid (take lexer.held lexer.partial) tail

@@ -241,9 +241,18 @@ abbrev pub IsNameRun : List ℕ → Type 0
 IsNameRun [] = ⊥
 IsNameRun (b ∷ bs) = (begins_name (b ∷ bs) ≡ true) × AllKept (pending.Identifier 0) bs
 
--- bytes that are taken at once: they keep what has begun; or nothing has, and they begin a name
-abbrev pub IsRun : Pending → List ℕ → Type 0
-IsRun p bs = AllKept p bs ⊎ ((p ≡ pending.Free) × IsNameRun bs)
+-- whether the first byte is an ASCII character that goes on with no name; and with no number either
+abbrev pub ends_name : List ℕ → Bool
+ends_name [] = false
+ends_name (b ∷ bs) = nat_lt b 128 && not (keeps (pending.Identifier 0) b)
+
+abbrev pub ends_number : List ℕ → Bool
+ends_number [] = false
+ends_number (b ∷ bs) = ends_name (b ∷ bs) && not (b == 46)
+
+-- the state in which nothing has begun
+abbrev pub free_at : ℕ → List Token → Scan
+free_at at tokens = record { at = at; tokens = tokens; letters = []; pending = pending.Free }
 
 abbrev pub at_state : Scan → ℕ → List ℕ → Pending → Scan
 at_state s at letters p = record { at = at; tokens = s.tokens; letters = letters; pending = p }
@@ -303,6 +312,18 @@ abbrev pub steps : Result Scan LexStop → List ℕ → Result Scan LexStop
 steps r [] = r
 steps (Ok s) (c ∷ cs) = steps (step s c) cs
 steps (Err stop) (c ∷ cs) = Err stop
+
+-- the bytes are digits, with a point or an r among them, that are read as a number's text where nothing has begun
+abbrev pub IsNumberRun : List ℕ → ℕ → Part → Figures → Type 0
+IsNumberRun bs end p f =
+    (at : ℕ) (tokens : List Token)
+    → steps (Ok (free_at at tokens)) bs
+    ≡ Ok (record { at = at + length bs; tokens = tokens; letters = []; pending = pending.Number at (at + end) p f })
+
+-- By these characters the machine gets from one state to another; or the next character leads it on as it does there.
+abbrev pub Reaches : Scan → List ℕ → Scan → List ℕ → Type 0
+Reaches old cs new [] = steps (Ok old) cs ≡ Ok new
+Reaches old cs new (c ∷ more) = steps (Ok old) (cs ++ c ∷ []) ≡ step new c
 
 -- the tokens once the text has ended
 abbrev pub tokens_of : Result Scan LexStop → Result (List Token) LexStop

@@ -1,9 +1,9 @@
 //! A lexer that is fed the bytes of a text in pieces.
-ghost use Rattle.std.specs.Prelude.{◌≡◌, ◌+◌, ◌&&◌, nat_lt, ◌<◌, ◌≤◌, List, ℕ, ◌++◌, ◌∷◌, [], length, take, slice_index, OnOk, OnErr, IfOk, IsErr};
+ghost use Rattle.std.specs.Prelude.{◌≡◌, ◌+◌, ◌&&◌, nat_lt, ◌<◌, ◌≤◌, List, ℕ, ◌++◌, ◌∷◌, [], length, take, drop, slice_index, OnOk, OnErr, IfOk, IsErr};
 ghost use Rattle.std.specs.Char.{len_utf8};
 ghost use Rattle.std.specs.Str.{chars, IsCharBoundary};
 ghost use Rattle.um_syntax.specs.Decoding.{char_len};
-ghost use Rattle.um_syntax.specs.Machine.{IsRun, PendingFits, PendingFits-prop};
+ghost use Rattle.um_syntax.specs.Machine.{PendingFits, PendingFits-prop};
 
 use crate::decode::{Decoded, char_len, decode_char};
 use crate::scanner::Scanner;
@@ -192,7 +192,7 @@ impl Lexer {
         Ok(())
     }
 
-    // Takes what stands at the front of a text behind what was read: the characters that are taken at once, or else one.
+    // Takes what stands at the front of a text behind what was read: what is taken at once, or else one character.
     // Answers how many bytes these are.
     fn take_next(&mut self, text: &str) -> Result<usize, AllocError>
         requires some { 0 < length text.now }
@@ -201,16 +201,15 @@ impl Lexer {
         requires whole { self.old.held ≡ 0 }
         ensures some { IfOk result (λ n. 0 < n) }
         ensures front { IfOk result (λ n. IsCharBoundary text.now n) }
-        ensures read { IfOk result (λ n. (cs : List ℕ) → HasRead self.old cs
-            → HasRead self.new (cs ++ chars (take n text.now))) }
+        ensures read { IfOk result (λ n. (cs : List ℕ) → HasRead self.old cs (chars text.now)
+            → HasRead self.new (cs ++ chars (take n text.now)) (chars (drop n text.now))) }
         ensures readable { OnOk result (IsReadable self.new.fault) }
         ensures whole { self.new.held ≡ 0 }
         ensures place { IfOk result (λ n. self.new.valid ≡ self.old.valid + n) }
         ensures fed { self.new.fed ≡ self.old.fed }
     {
-        let len = self.run_len(text);
+        let len = self.take_at_once(text)?;
         if len > 0 {
-            self.take_run(&text[..len])?;
             return Ok(len);
         }
         match text.chars().next() {
@@ -222,32 +221,24 @@ impl Lexer {
         }
     }
 
-    // How many bytes at the front of the text are taken at once. None are behind a fault.
-    fn run_len(&self, text: &str) -> usize
-        ensures within { result ≤ length text.now }
-        ensures run { IsRun self.now.scanner.pending (take result text.now) }
-        ensures faultless { 0 < result → self.now.fault ≡ None }
-    {
-        match self.fault {
-            Some(_) => 0,
-            None => self.scanner.run_len(text),
-        }
-    }
-
-    // Takes characters at once behind those that were read.
-    fn take_run(&mut self, text: &str) -> Result<(), AllocError>
-        requires run { IsRun self.old.scanner.pending text.now }
-        requires faultless { self.old.fault ≡ None }
+    // Takes what stands at the front of a text at once, and answers how many bytes these are. None are behind a fault.
+    fn take_at_once(&mut self, text: &str) -> Result<usize, AllocError>
         requires room { self.old.valid + length text.now ≤ self.old.fed }
         requires whole { self.old.held ≡ 0 }
-        ensures read { OnOk result ((cs : List ℕ) → HasRead self.old cs → HasRead self.new (cs ++ text.now)) }
-        ensures faultless { self.new.fault ≡ None }
+        ensures front { IfOk result (λ n. IsCharBoundary text.now n) }
+        ensures read { IfOk result (λ n. (cs : List ℕ) → HasRead self.old cs (chars text.now)
+            → HasRead self.new (cs ++ chars (take n text.now)) (chars (drop n text.now))) }
+        ensures fault { self.new.fault ≡ self.old.fault }
         ensures whole { self.new.held ≡ 0 }
-        ensures place { self.new.valid ≡ self.old.valid + length text.now }
+        ensures place { IfOk result (λ n. self.new.valid ≡ self.old.valid + n) }
         ensures fed { self.new.fed ≡ self.old.fed }
     {
-        self.valid += text.len() as u32;
-        self.scanner.scan_run(text)
+        if self.fault.is_some() {
+            return Ok(0);
+        }
+        let len = self.scanner.scan_front(text)?;
+        self.valid += len as u32;
+        Ok(len)
     }
 
     // Takes bytes behind those that were fed, one by one.
@@ -267,7 +258,8 @@ impl Lexer {
         requires readable { IsReadable self.old.fault }
         requires room { self.old.valid + len_utf8 c ≤ self.old.fed }
         requires whole { self.old.held ≡ 0 }
-        ensures read { OnOk result ((cs : List ℕ) → HasRead self.old cs → HasRead self.new (cs ++ c ∷ [])) }
+        ensures read { OnOk result ((cs more : List ℕ) → HasRead self.old cs (c ∷ more)
+            → HasRead self.new (cs ++ c ∷ []) more) }
         ensures readable { OnOk result (IsReadable self.new.fault) }
         ensures whole { self.new.held ≡ 0 }
         ensures place { self.new.valid ≡ self.old.valid + len_utf8 c }

@@ -1,6 +1,7 @@
 //! The digits of a number's text, read one by one.
-ghost use Rattle.std.specs.Prelude.{◌≡◌, ◌<◌, ◌≤◌, ◌-◌, ◌^◌};
-ghost use Rattle.um_syntax.specs.Machine.{with_digit, one_more, first_figures, more_figures, part_after_digit, is_whole_part, is_allowed, is_one_figure, figures_kind, part_takes, FiguresFit};
+ghost use Rattle.std.specs.Prelude.{◌≡◌, ◌+◌, ◌<◌, ◌≤◌, ◌-◌, ◌^◌, ◌==◌, ◌&&◌, ℕ, length, take, slice_index};
+ghost use Rattle.um_syntax.specs.Machine.{with_digit, one_more, first_figures, more_figures, part_after_digit, is_whole_part, is_allowed, is_one_figure, figures_kind, part_takes, FiguresFit, number_taken, AllKept, IsNumberRun, ends_in_digit};
+ghost use Rattle.um_syntax.specs.declared.pending.Pending.TheVariants.{Comment, Number};
 
 use crate::token::Kind;
 use um_frac::Frac;
@@ -164,5 +165,80 @@ impl Figures {
         let digits = part.is_whole();
         let one = digits && (self.count == 1 && self.above == 1);
         Some(Kind::Number { value, digits, one })
+    }
+}
+
+/// The number's text at the front of bytes, as far as it goes: how many bytes it has, and of these those up to the last
+/// digit.
+#[derive(Clone, Copy, Debug)]
+pub struct NumberText {
+    pub len: usize,
+    pub end: usize,
+    pub part: Part,
+    pub figures: Figures,
+}
+
+impl NumberText {
+    // The number's text at the front of bytes that begin with a digit.
+    pub fn at_front(bytes: &[u8]) -> NumberText
+        requires some { 0 < length bytes.now }
+        requires from { 48 ≤ slice_index bytes.now 0 }
+        requires to { slice_index bytes.now 0 ≤ 57 }
+        ensures within { result.len ≤ length bytes.now }
+        ensures fits { FiguresFit result.figures }
+        ensures plain { AllKept Comment (take result.len bytes.now) }
+        ensures run { IsNumberRun (take result.len bytes.now) result.end result.part result.figures }
+    {
+        let mut text = NumberText {
+            len: 1,
+            end: 1,
+            part: Part::Whole,
+            figures: Figures::new(u32::from(bytes[0] - b'0')),
+        };
+        while text.len < bytes.len() && text.part.takes(char::from(bytes[text.len])) {
+            text = text.with(bytes[text.len]);
+        }
+        text
+    }
+
+    // The text with a byte that belongs to it.
+    fn with(self, byte: u8) -> NumberText
+        requires room { self.len + 1 < 2 ^ 64 }
+        requires fits { FiguresFit self.figures }
+        ensures len { result.len ≡ self.len + 1 }
+        ensures fits { FiguresFit result.figures }
+        ensures taken { (at : ℕ) → number_taken at (at + self.end) self.part self.figures byte (at + (self.len + 1))
+            ≡ Number at (at + result.end) result.part result.figures }
+    {
+        let len = self.len + 1;
+        if byte.is_ascii_digit() {
+            return NumberText {
+                len,
+                end: len,
+                part: self.part.after_digit(),
+                figures: self.figures.with(self.part, u32::from(byte - b'0')),
+            };
+        }
+        NumberText {
+            len,
+            end: self.end,
+            part: if byte == b'.' {
+                Part::Point
+            } else {
+                Part::Over
+            },
+            figures: self.figures,
+        }
+    }
+
+    // Whether the text has its last digit, and its end is seen behind it.
+    pub fn is_whole(&self) -> bool
+        ensures { result ≡ (self.now.end == self.now.len && ends_in_digit (Number 0 0 self.now.part self.now.figures)) }
+    {
+        self.end == self.len
+            && match self.part {
+                Part::Whole | Part::Decimal | Part::Ratio => true,
+                Part::Point | Part::Over => false,
+            }
     }
 }

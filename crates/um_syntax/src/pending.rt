@@ -1,8 +1,7 @@
 //! What has been read of a token that may go on.
-ghost use Rattle.std.specs.Prelude.{◌≡◌, ◌≤◌, length, take};
+ghost use Rattle.std.specs.Prelude.{◌≡◌, ◌<◌, ◌≤◌, true, length, take, drop};
 ghost use Rattle.um_syntax.specs.Lexeme.{starts_name};
-ghost use Rattle.um_syntax.specs.Machine.{takes, keeps, AllKept, begins_name, IsRun, ends_in_digit};
-ghost use Rattle.um_syntax.specs.declared.pending.Pending.TheVariants.{Free};
+ghost use Rattle.um_syntax.specs.Machine.{takes, keeps, AllKept, begins_name, IsNameRun, ends_name, ends_number, ends_in_digit};
 
 use crate::number::{Figures, Part};
 use crate::vocabulary::double_symbol;
@@ -61,16 +60,37 @@ pub fn begins_name(bytes: &[u8]) -> bool
     }
 }
 
-// How many bytes at the front are taken at once where nothing has begun: those of a name, or blanks.
-fn free_len(bytes: &[u8]) -> usize
-    ensures within { result ≤ length bytes.now }
-    ensures run { IsRun Free (take result bytes.now) }
+// Whether the first byte is an ASCII character that goes on with no name.
+pub fn ends_name(bytes: &[u8]) -> bool
+    ensures { result ≡ ends_name bytes.now }
 {
-    if begins_name(bytes) {
-        Pending::Identifier { start: 0 }.kept_len(bytes)
-    } else {
-        Pending::Free.kept_len(bytes)
+    match bytes.first() {
+        Some(byte) => byte.is_ascii() && !Pending::Identifier { start: 0 }.keeps(*byte),
+        None => false,
     }
+}
+
+// Whether the first byte is an ASCII character that goes on with no name and no number.
+pub fn ends_number(bytes: &[u8]) -> bool
+    ensures { result ≡ ends_number bytes.now }
+{
+    match bytes.first() {
+        Some(byte) => ends_name(bytes) && *byte != b'.',
+        None => false,
+    }
+}
+
+// How many bytes at the front are a name, where its end is seen.
+pub fn name_len(bytes: &[u8]) -> usize
+    ensures within { result ≤ length bytes.now }
+    ensures name { 0 < result → IsNameRun (take result bytes.now) }
+    ensures ends { 0 < result → ends_name (drop result bytes.now) ≡ true }
+{
+    if !begins_name(bytes) {
+        return 0;
+    }
+    let len = Pending::Identifier { start: 0 }.kept_len(bytes);
+    if ends_name(&bytes[len..]) { len } else { 0 }
 }
 
 impl Pending {
@@ -102,19 +122,8 @@ impl Pending {
         }
     }
 
-    // How many bytes at the front are taken at once: they keep what has begun, or begin a name where nothing has.
-    pub fn run_len(self, bytes: &[u8]) -> usize
-        ensures within { result ≤ length bytes.now }
-        ensures run { IsRun self (take result bytes.now) }
-    {
-        match self {
-            Pending::Free => free_len(bytes),
-            _ => self.kept_len(bytes),
-        }
-    }
-
     // How many bytes at the front keep what has begun.
-    fn kept_len(self, bytes: &[u8]) -> usize
+    pub fn kept_len(self, bytes: &[u8]) -> usize
         ensures within { result ≤ length bytes.now }
         ensures kept { AllKept self (take result bytes.now) }
     {

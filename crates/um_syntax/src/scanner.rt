@@ -1,15 +1,16 @@
 //! The machine that reads a text character by character.
-ghost use Rattle.std.specs.Prelude.{◌≡◌, ◌+◌, ◌<◌, ◌≤◌, ◌^◌, length, take, max, OnOk, IfOk};
+ghost use Rattle.std.specs.Prelude.{◌≡◌, ◌+◌, ◌<◌, ◌≤◌, ◌^◌, ◌==◌, ◌&&◌, ◌⊎◌, [], length, slice_index, max, OnOk, OnErr, IfOk};
 ghost use Rattle.std.specs.Char.{len_utf8};
 ghost use Rattle.std.specs.Option.{option_copied};
+ghost use Rattle.std.specs.String.{string_bytes};
 ghost use Rattle.um_syntax.specs.Gap.{is_space};
 ghost use Rattle.um_syntax.specs.Lexing.{is_glued, is_power_place, is_caret, is_minus};
-ghost use Rattle.um_syntax.specs.Machine.{scan_start, step, steps, AllKept, IsNameRun, IsRun, ended, taken, close, begun, pushed, identifier_pushed, variable_pushed, letters_kind, number_taken, FiguresFit, PendingFits};
+ghost use Rattle.um_syntax.specs.Machine.{scan_start, free_at, step, ended, taken, close, begun, pushed, identifier_pushed, variable_pushed, letters_kind, number_taken, FiguresFit, PendingFits};
 ghost use Rattle.um_syntax.specs.declared.pending.Pending.TheVariants as pending;
-ghost use Rattle.um_syntax.specs.Scanning.{scan_of, Follows, Answers};
+ghost use Rattle.um_syntax.specs.Scanning.{scan_of, Scans, Follows, Answers};
 
-use crate::number::{Figures, Part};
-use crate::pending::{Pending, begins_name, starts_name};
+use crate::number::{Figures, NumberText, Part};
+use crate::pending::{Pending, ends_number, name_len, starts_name};
 use crate::token::{Kind, Letters, LexStop, Token, Tokens};
 use crate::vocabulary::{Symbol, double_symbol, keyword_of, single_symbol};
 use std::alloc::{AllocError, Global};
@@ -89,11 +90,12 @@ impl Scanner {
         }
     }
 
-    // Puts a token behind the others. Nothing has begun then.
-    fn push(&mut self, kind: Kind, start: u32, end: u32) -> Result<(), AllocError>
+    // Puts a token behind the others, where nothing has begun.
+    fn add(&mut self, kind: Kind, start: u32, end: u32) -> Result<(), AllocError>
+        requires free { self.old.pending ≡ pending.Free }
+        requires none { string_bytes self.old.letters ≡ [] }
         ensures goes { OnOk result (scan_of self.new ≡ pushed (scan_of self.old) kind start end) }
-        ensures free { OnOk result (self.new.pending ≡ pending.Free) }
-        ensures fits { PendingFits self.old.pending → PendingFits self.new.pending }
+        ensures free { self.new.pending ≡ pending.Free }
         ensures place { self.new.at ≡ self.old.at }
     {
         let glued = is_glued(&self.tokens, start);
@@ -103,9 +105,18 @@ impl Scanner {
             end,
             glued,
         })?;
+        Ok(())
+    }
+
+    // Puts a token behind the others. Nothing has begun then.
+    fn push(&mut self, kind: Kind, start: u32, end: u32) -> Result<(), AllocError>
+        ensures goes { OnOk result (scan_of self.new ≡ pushed (scan_of self.old) kind start end) }
+        ensures free { self.new.pending ≡ pending.Free }
+        ensures place { self.new.at ≡ self.old.at }
+    {
         self.letters.clear();
         self.pending = Pending::Free;
-        Ok(())
+        self.add(kind, start, end)
     }
 
     // Ends the identifier whose letters are at hand.
@@ -301,77 +312,182 @@ impl Scanner {
         self.begin(c, next)
     }
 
-    /// How many bytes at the front of the text are taken at once.
-    pub fn run_len(&self, text: &str) -> usize
-        ensures within { result ≤ length text.now }
-        ensures run { IsRun self.now.pending (take result text.now) }
-    {
-        self.pending.run_len(text.as_bytes())
-    }
-
-    /// Takes characters at once: they keep what has begun, or begin a name where nothing has.
-    pub fn scan_run(&mut self, text: &str) -> Result<(), AllocError>
-        requires run { IsRun self.old.pending text.now }
+    /// Takes what stands at the front of a text at once, and answers how many bytes these are: blanks, a token whose end
+    /// is seen, or characters of a comment. None are where `scan` has to take the next character.
+    pub fn scan_front(&mut self, text: &str) -> Result<usize, AllocError>
         requires fits { PendingFits self.old.pending }
         requires room { self.old.at + length text.now < 2 ^ 32 }
-        ensures goes { OnOk result (steps (Ok (scan_of self.old)) text.now ≡ Ok (scan_of self.new)) }
+        ensures scans { IfOk result (λ n. Scans (scan_of self.old) text.now n (scan_of self.new)) }
         ensures fits { PendingFits self.new.pending }
-        ensures place { self.new.at ≡ self.old.at + length text.now }
+        ensures place { IfOk result (λ n. self.new.at ≡ self.old.at + n) }
+        ensures stays { OnErr result (self.new.at ≡ self.old.at) }
     {
         match self.pending {
+            Pending::Comment => Ok(self.skip(text)),
             Pending::Free => self.scan_free(text),
-            _ => self.scan_kept(text),
+            _ => Ok(0),
         }
     }
 
-    // Takes characters at once where nothing has begun: those of a name, or blanks.
-    fn scan_free(&mut self, text: &str) -> Result<(), AllocError>
-        requires free { self.old.pending ≡ pending.Free }
-        requires run { IsRun pending.Free text.now }
-        requires fits { PendingFits self.old.pending }
+    // Takes characters that keep what has begun, which is a comment or nothing.
+    fn skip(&mut self, text: &str) -> usize
+        requires free { (self.old.pending ≡ pending.Free) ⊎ (self.old.pending ≡ pending.Comment) }
         requires room { self.old.at + length text.now < 2 ^ 32 }
-        ensures goes { OnOk result (steps (Ok (scan_of self.old)) text.now ≡ Ok (scan_of self.new)) }
-        ensures fits { PendingFits self.new.pending }
-        ensures place { self.new.at ≡ self.old.at + length text.now }
+        ensures scans { Scans (scan_of self.old) text.now result (scan_of self.new) }
+        ensures pending { self.new.pending ≡ self.old.pending }
+        ensures place { self.new.at ≡ self.old.at + result }
     {
-        if begins_name(text.as_bytes()) {
+        let len = self.pending.kept_len(text.as_bytes());
+        self.at += len as u32;
+        len
+    }
+
+    // Takes what stands at the front of a text, where nothing has begun.
+    fn scan_free(&mut self, text: &str) -> Result<usize, AllocError>
+        requires free { self.old.pending ≡ pending.Free }
+        requires room { self.old.at + length text.now < 2 ^ 32 }
+        ensures scans { IfOk result (λ n. Scans (scan_of self.old) text.now n (scan_of self.new)) }
+        ensures fits { PendingFits self.new.pending }
+        ensures place { IfOk result (λ n. self.new.at ≡ self.old.at + n) }
+        ensures stays { OnErr result (self.new.at ≡ self.old.at) }
+    {
+        if !self.letters.is_empty() {
+            return Ok(0);
+        }
+        let bytes = text.as_bytes();
+        if bytes.is_empty() {
+            return Ok(0);
+        }
+        let first = bytes[0];
+        if first == b' ' || first == b'\t' || first == b'\r' {
+            Ok(self.skip(text))
+        } else if first.is_ascii_digit() {
+            self.scan_number(text)
+        } else if first == b'\'' {
+            self.scan_variable(text)
+        } else if first == b'_' || first.is_ascii_alphabetic() {
             self.scan_name(text)
         } else {
-            self.scan_kept(text)
+            self.scan_sign(text)
         }
     }
 
-    // Takes characters that begin a name and go on with it, all at once.
-    fn scan_name(&mut self, text: &str) -> Result<(), AllocError>
+    // Puts the token that so many bytes are behind the others, and answers how many these are.
+    fn put(&mut self, kind: Kind, len: usize) -> Result<usize, AllocError>
         requires free { self.old.pending ≡ pending.Free }
-        requires name { IsNameRun text.now }
-        requires fits { PendingFits self.old.pending }
-        requires room { self.old.at + length text.now < 2 ^ 32 }
-        ensures goes { OnOk result (steps (Ok (scan_of self.old)) text.now ≡ Ok (scan_of self.new)) }
-        ensures fits { PendingFits self.new.pending }
-        ensures place { self.new.at ≡ self.old.at + length text.now }
+        requires none { string_bytes self.old.letters ≡ [] }
+        requires room { self.old.at + len < 2 ^ 32 }
+        ensures goes { OnOk result (scan_of self.new
+            ≡ pushed (free_at (self.old.at + len) (scan_of self.old).tokens) kind self.old.at (self.old.at + len)) }
+        ensures len { IfOk result (λ n. n ≡ len) }
+        ensures free { self.new.pending ≡ pending.Free }
+        ensures place { OnOk result (self.new.at ≡ self.old.at + len) }
+        ensures stays { OnErr result (self.new.at ≡ self.old.at) }
     {
-        let start = self.at;
-        self.at += text.len() as u32;
-        self.letters.push_str(text)?;
-        self.pending = Pending::Identifier { start };
-        Ok(())
+        let end = self.at + len as u32;
+        self.add(kind, self.at, end)?;
+        self.at = end;
+        Ok(len)
     }
 
-    // Takes characters that keep what has begun, all at once.
-    fn scan_kept(&mut self, text: &str) -> Result<(), AllocError>
-        requires kept { AllKept self.old.pending text.now }
-        requires fits { PendingFits self.old.pending }
+    // Takes a name whose end is seen.
+    fn scan_name(&mut self, text: &str) -> Result<usize, AllocError>
+        requires free { self.old.pending ≡ pending.Free }
+        requires none { string_bytes self.old.letters ≡ [] }
         requires room { self.old.at + length text.now < 2 ^ 32 }
-        ensures goes { OnOk result (steps (Ok (scan_of self.old)) text.now ≡ Ok (scan_of self.new)) }
-        ensures fits { PendingFits self.new.pending }
-        ensures place { self.new.at ≡ self.old.at + length text.now }
+        ensures scans { IfOk result (λ n. Scans (scan_of self.old) text.now n (scan_of self.new)) }
+        ensures free { self.new.pending ≡ pending.Free }
+        ensures place { IfOk result (λ n. self.new.at ≡ self.old.at + n) }
+        ensures stays { OnErr result (self.new.at ≡ self.old.at) }
     {
-        self.at += text.len() as u32;
-        if let Pending::Identifier { .. } = self.pending {
-            self.letters.push_str(text)?;
+        let len = name_len(text.as_bytes());
+        if len == 0 {
+            return Ok(0);
         }
-        Ok(())
+        let kind = letters_kind(self.alloc, &text[..len])?;
+        self.put(kind, len)
+    }
+
+    // Takes a variable whose end is seen, where its letters are no reserved word.
+    fn scan_variable(&mut self, text: &str) -> Result<usize, AllocError>
+        requires free { self.old.pending ≡ pending.Free }
+        requires none { string_bytes self.old.letters ≡ [] }
+        requires some { 0 < length text.now }
+        requires quote { slice_index text.now 0 ≡ 39 }
+        requires room { self.old.at + length text.now < 2 ^ 32 }
+        ensures scans { IfOk result (λ n. Scans (scan_of self.old) text.now n (scan_of self.new)) }
+        ensures free { self.new.pending ≡ pending.Free }
+        ensures place { IfOk result (λ n. self.new.at ≡ self.old.at + n) }
+        ensures stays { OnErr result (self.new.at ≡ self.old.at) }
+    {
+        let name = &text[1..];
+        let len = name_len(name.as_bytes());
+        if len == 0 {
+            return Ok(0);
+        }
+        let letters = &name[..len];
+        if letters == "_" || keyword_of(letters).is_some() {
+            return Ok(0);
+        }
+        let kind = Kind::Var(Letters::from_slice(self.alloc, letters.as_bytes())?);
+        self.put(kind, len + 1)
+    }
+
+    // Takes a number whose end is seen, where it is in range.
+    fn scan_number(&mut self, text: &str) -> Result<usize, AllocError>
+        requires free { self.old.pending ≡ pending.Free }
+        requires none { string_bytes self.old.letters ≡ [] }
+        requires some { 0 < length text.now }
+        requires from { 48 ≤ slice_index text.now 0 }
+        requires to { slice_index text.now 0 ≤ 57 }
+        requires room { self.old.at + length text.now < 2 ^ 32 }
+        ensures scans { IfOk result (λ n. Scans (scan_of self.old) text.now n (scan_of self.new)) }
+        ensures free { self.new.pending ≡ pending.Free }
+        ensures place { IfOk result (λ n. self.new.at ≡ self.old.at + n) }
+        ensures stays { OnErr result (self.new.at ≡ self.old.at) }
+    {
+        let bytes = text.as_bytes();
+        let number = NumberText::at_front(bytes);
+        if !number.is_whole() || !ends_number(&bytes[number.len..]) {
+            return Ok(0);
+        }
+        match number
+            .figures
+            .kind(is_power_place(&self.tokens), number.part)
+        {
+            Some(kind) => self.put(kind, number.len),
+            None => Ok(0),
+        }
+    }
+
+    // Takes a symbol whose end is seen, or the slashes of a comment.
+    fn scan_sign(&mut self, text: &str) -> Result<usize, AllocError>
+        requires free { self.old.pending ≡ pending.Free }
+        requires none { string_bytes self.old.letters ≡ [] }
+        requires room { self.old.at + length text.now < 2 ^ 32 }
+        ensures scans { IfOk result (λ n. Scans (scan_of self.old) text.now n (scan_of self.new)) }
+        ensures fits { PendingFits self.new.pending }
+        ensures place { IfOk result (λ n. self.new.at ≡ self.old.at + n) }
+        ensures stays { OnErr result (self.new.at ≡ self.old.at) }
+    {
+        let bytes = text.as_bytes();
+        if bytes.len() < 2 || !bytes[1].is_ascii() {
+            return Ok(0);
+        }
+        let first = char::from(bytes[0]);
+        let second = char::from(bytes[1]);
+        if let Some(symbol) = double_symbol(first, second) {
+            return self.put(Kind::Sign(symbol), 2);
+        }
+        if are_slashes(first, second) {
+            self.at += 2;
+            self.pending = Pending::Comment;
+            return Ok(2);
+        }
+        match single_symbol(first) {
+            Some(symbol) => self.put(Kind::Sign(symbol), 1),
+            None => Ok(0),
+        }
     }
 
     /// The tokens of the characters taken, once the text has ended.
@@ -382,6 +498,13 @@ impl Scanner {
         self.close()?;
         Ok(Tokens::from_vec(self.tokens))
     }
+}
+
+// Whether the two characters begin a comment.
+fn are_slashes(a: char, b: char) -> bool
+    ensures { result ≡ (a == 47 && b == 47) }
+{
+    a == '/' && b == '/'
 }
 
 // Whether the character is white space.

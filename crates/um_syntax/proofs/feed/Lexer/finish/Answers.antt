@@ -1,4 +1,4 @@
-use Rattle.std.proofs.Common.{◌≤◌, Err, arith, sym, subst, ◌∙◌, length, take, ap}
+use Rattle.std.proofs.Common.{[], ◌≤◌, Err, arith, sym, subst, ◌∙◌, length, take, ap}
 use Rattle.um_syntax.specs.Scanning.{scan_of}
 use Rattle.um_syntax.specs.Feeding.{HasScanned, HasBehind, IsTextAnswer, is_readable}
 use Rattle.um_syntax.proofs.Finishes.{partial_answer, fault_answer, tokens_answer, refusal_answer, something_held, nothing_held}
@@ -17,7 +17,7 @@ returns-in-Some-clause-answer c = λ bytes h.
     let empty = nothing_held l.fault l.held l.partial (sym c.ends_within_char.ensures ∙ c.if-ends_within_char.false) in
     fault_answer bytes h.cs h.tail (take l.held l.partial) c.in-Some.stop l.valid (scan_of l.scanner) h.whole h.read.scalars h.read.place
     (λ r. empty (ap is_readable c.in-Some.is ∙ r))
-    (subst (λ f. HasScanned f (scan_of l.scanner) h.cs) c.in-Some.is h.read.scanned)
+    (subst (λ f. HasScanned f (scan_of l.scanner) h.cs []) c.in-Some.is h.read.scanned)
     (subst (λ f. HasBehind f l.valid (take l.held l.partial) h.tail) c.in-Some.is h.behind)
 
 pub returns-in-Ok-clause-answer : goal.returns-in-Ok-clause-answer
@@ -26,7 +26,7 @@ returns-in-Ok-clause-answer c = λ bytes h.
     let empty = nothing_held l.fault l.held l.partial (sym c.ends_within_char.ensures ∙ c.if-ends_within_char.false) in
     tokens_answer bytes h.cs h.tail (take l.held l.partial) l.valid (scan_of l.scanner) c.in-Ok.tokens h.whole h.read.scalars
     (empty (ap is_readable c.in-None.is))
-    (subst (λ f. HasScanned f (scan_of l.scanner) h.cs) c.in-None.is h.read.scanned)
+    (subst (λ f. HasScanned f (scan_of l.scanner) h.cs []) c.in-None.is h.read.scanned)
     (subst (λ f. HasBehind f l.valid (take l.held l.partial) h.tail) c.in-None.is h.behind)
     c.in-Ok.ensures
 
@@ -37,6 +37,6 @@ returns-in-Err-clause-answer c = λ bytes h.
     subst (λ s. IsTextAnswer bytes (Err s)) (sym c.text_stop.ensures)
     (refusal_answer bytes h.cs h.tail (take l.held l.partial) l.valid (scan_of l.scanner) c.in-Err.stop h.whole h.read.scalars
     (empty (ap is_readable c.in-None.is))
-    (subst (λ f. HasScanned f (scan_of l.scanner) h.cs) c.in-None.is h.read.scanned)
+    (subst (λ f. HasScanned f (scan_of l.scanner) h.cs []) c.in-None.is h.read.scanned)
     (subst (λ f. HasBehind f l.valid (take l.held l.partial) h.tail) c.in-None.is h.behind)
     c.in-Err.ensures)

@@ -1,7 +1,8 @@
 use Rattle.std.proofs.Common.{◌<◌, ◌∷◌, ◌++◌, [], length, take, arith, refl, sym, ap, subst, ◌∙◌}
 use Rattle.std.proofs.lemmas.Str.{length-encode}
 use Rattle.um_syntax.specs.Decoding.{NoChar}
-use Rattle.um_syntax.proofs.Feeds.{behind_closed, behind_is, behind_from, bytes-more, held-more, held-length, whole-read, both_ok}
+use Rattle.um_syntax.proofs.Feeds.{behind_closed, behind_is, behind_from, bytes-more, held-more, held-length, whole-read, both_ok, scanned_now}
+use Rattle.um_syntax.specs.Scanning.{scan_of}
 use Rattle.um_syntax.proofs.feed.Lexer.take_byte.Goals as goal
 
 pub returns-then-not-is_readable-clause-stands : goal.returns-then-not-is_readable-clause-stands
@@ -43,7 +44,7 @@ returns-in-Whole-clause-stands c = both_ok c.take_char.result c.take_char.ensure
     record {
       cs = h.cs ++ c.in-Whole.c ∷ [];
       tail = [];
-      read = reads h.cs (record { scalars = h.read.scalars; place = h.read.place; scanned = h.read.scanned; counted = h.read.counted });
+      read = reads h.cs [] (record { scalars = h.read.scalars; place = h.read.place; scanned = scanned_now c.args.self.now.fault (scan_of c.args.self.now.scanner) h.cs (c.in-Whole.c ∷ []) h.read.scanned; counted = h.read.counted });
       whole = whole-read bytes h.cs h.tail _ c.args.byte c.in-Whole.c h.whole (more ∙ ap (λ x. x ++ c.args.byte ∷ []) (sym behind)) c.in-Whole.ensures.1;
       behind = behind_from c.take_char.new.self.fault c.take_char.new.self.valid (take c.take_char.new.self.held c.take_char.new.self.partial) [] readable (ap (λ n. take n c.take_char.new.self.partial) (sym c.take_char.ensures.whole));
     })

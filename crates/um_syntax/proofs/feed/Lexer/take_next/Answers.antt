@@ -1,32 +1,18 @@
-use Rattle.std.proofs.Common.{rules, ◌≡◌, ◌≤◌, ◌++◌, take, length, sym, ap, subst, ◌∙◌, arith}
+use Rattle.std.proofs.Common.{◌≡◌, ◌≤◌, ◌∷◌, ◌++◌, [], take, drop, length, refl, sym, ap, subst, ◌∙◌, arith}
+use Rattle.std.proofs.lemmas.List.{append-nil}
+use Rattle.std.proofs.lemmas.Str.{chars-nil}
 use Rattle.std.specs.Char.{len_utf8}
 use Rattle.std.specs.Str.{chars, IsCharBoundary}
 use Rattle.um_syntax.specs.Feeding.{HasRead}
-use Rattle.um_syntax.proofs.Kept.{run_kept, kept_boundary, kept_chars, first_char}
+use Rattle.um_syntax.proofs.Kept.{first_char, chars_cut}
 use Rattle.um_syntax.proofs.feed.Lexer.take_next.Goals as goal
-
-pub range-requires-clause-end_boundary : goal.range-requires-clause-end_boundary
-range-requires-clause-end_boundary c =
-    let kept = run_kept c.args.self.now.scanner.pending (take c.run_len-len.result c.args.text.now) c.run_len-len.ensures.run in
-    kept_boundary kept.0 c.args.text.now c.run_len-len.result c.utf8.text c.run_len-len.ensures.within kept.1
-
-pub returns-then-len-gt0-clause-front : goal.returns-then-len-gt0-clause-front
-returns-then-len-gt0-clause-front c =
-    let kept = run_kept c.args.self.now.scanner.pending (take c.run_len-len.result c.args.text.now) c.run_len-len.ensures.run in
-    kept_boundary kept.0 c.args.text.now c.run_len-len.result c.utf8.text c.run_len-len.ensures.within kept.1
-
-pub returns-then-len-gt0-clause-read : goal.returns-then-len-gt0-clause-read
-returns-then-len-gt0-clause-read c = λ cs h.
-    let front = take c.run_len-len.result c.args.text.now in
-    let kept = run_kept c.args.self.now.scanner.pending front c.run_len-len.ensures.run in
-    let same : c.range.result.now ≡ front = search rules in
-    subst (λ l. HasRead c.take_run.new.self (cs ++ l)) (same ∙ sym (kept_chars kept.0 front kept.1)) (c.in_ok-take_run.ensures.read cs h)
 
 pub take_char-requires-clause-room : goal.take_char-requires-clause-room
 take_char-requires-clause-room c =
     let first = first_char c.args.text.now c.next.new.self.rest.now c.in-Some.c c.utf8.text (sym c.chars.ensures.rest ∙ c.in-Some.ensures.steps.0) in
     let within : len_utf8 c.in-Some.c ≤ length c.args.text.now = first.0.0 in
-    omega (arith, within, c.requires.room)
+    let place = c.in_ok-len.ensures.place in
+    omega (arith, within, c.requires.room, place)
 
 pub returns-clause-front : goal.returns-clause-front
 returns-clause-front c =
@@ -36,6 +22,13 @@ returns-clause-front c =
 pub returns-clause-read : goal.returns-clause-read
 returns-clause-read c = λ cs h.
     let text = c.args.text.now in
+    let n = len_utf8 c.in-Some.c in
     let first = first_char text c.next.new.self.rest.now c.in-Some.c c.utf8.text (sym c.chars.ensures.rest ∙ c.in-Some.ensures.steps.0) in
-    let front = sym first.1 ∙ ap (λ n. chars (take n text)) (sym c.len_utf8.ensures.value) in
-    subst (λ l. HasRead c.take_char.new.self (cs ++ l)) front (c.in_ok-take_char-in-Some.ensures.read cs h)
+    let none : c.in_ok-len.len ≡ 0 = omega arith in
+    let mid = c.take_at_once.new.self in
+    let before = subst (λ m. HasRead mid (cs ++ chars (take m text)) (chars (drop m text))) none (c.in_ok-len.ensures.read cs h) in
+    let here = subst (λ l. HasRead mid l (chars text)) (ap (λ l. cs ++ l) chars-nil ∙ append-nil cs) before in
+    let all = sym (chars_cut text n c.utf8.text first.0) ∙ ap (λ l. l ++ chars (drop n text)) first.1 in
+    let reads = c.in_ok-take_char-in-Some.ensures.read cs (chars (drop n text)) (subst (HasRead mid cs) all here) in
+    subst (λ m. HasRead c.take_char.new.self (cs ++ chars (take m text)) (chars (drop m text))) (sym c.len_utf8.ensures.value)
+    (subst (λ l. HasRead c.take_char.new.self (cs ++ l) (chars (drop n text))) (sym first.1) reads)

@@ -1,9 +1,10 @@
-use Rattle.std.proofs.Common.{◌++◌, [], take, refl, sym, ap, subst, ◌∙◌, arith, append_assoc}
-use Rattle.std.proofs.lemmas.List.{take_all, append-nil}
+use Rattle.std.proofs.Common.{◌+◌, ◌++◌, [], take, drop, refl, sym, ap, subst, ◌∙◌, arith, append_assoc}
+use Rattle.std.proofs.lemmas.List.{take_all, append-nil, drop_all, drop-drop}
 use Rattle.std.proofs.lemmas.Str.{IsCharBoundary-start, IsCharBoundary-from_rest, chars-nil}
 use Rattle.std.specs.Str.{chars, IsCharBoundary}
 use Rattle.um_syntax.specs.Feeding.{HasRead}
-use Rattle.um_syntax.proofs.Feeds.{behind_is, behind_from, text_stands}
+use Rattle.um_syntax.proofs.Feeds.{behind_is, behind_from, text_stands, scanned_now, none_read}
+use Rattle.um_syntax.specs.Scanning.{scan_of}
 use Rattle.um_syntax.proofs.Kept.{chars_on}
 use Rattle.um_syntax.proofs.feed.Lexer.take_text.Goals as goal
 
@@ -15,7 +16,10 @@ loop-at-init c = record {
   fed = refl;
   place = omega arith;
   read = λ cs h.
-      subst (HasRead _) (sym (ap (λ l. cs ++ l) chars-nil ∙ append-nil cs)) (record { scalars = h.scalars; place = h.place; scanned = h.scanned; counted = h.counted });
+      let old = c.args.self.now in
+      let text = c.args.text.now in
+      none_read _ cs (chars text)
+      (record { scalars = h.scalars; place = h.place; scanned = scanned_now old.fault (scan_of old.scanner) cs (chars text) h.scanned; counted = h.counted });
 }
 
 pub loop-at-preserved : goal.loop-at-preserved
@@ -33,9 +37,12 @@ loop-at-preserved c =
       place = (let there = c.in_ok-at.ensures.place in let place = c.loop-at.invariant.place in omega (arith, there, place));
       read = λ cs h.
           let front = chars (take at text) in
-          let reads = c.in_ok-at.ensures.read (cs ++ front) (c.loop-at.invariant.read cs h) in
+          let before = subst (λ l. HasRead c.loop-at.self (cs ++ front) (chars l)) (sym rest) (c.loop-at.invariant.read cs h) in
+          let reads = c.in_ok-at.ensures.read (cs ++ front) before in
           let further = append_assoc cs front _ ∙ ap (λ l. cs ++ l) (chars_on text at n c.utf8.text c.loop-at.invariant.boundary) in
-          subst (HasRead new) further (subst (λ l. HasRead new ((cs ++ front) ++ chars (take n l))) rest reads);
+          let behind = subst (λ l. HasRead new ((cs ++ front) ++ chars (take n l)) (chars (drop n l))) rest reads in
+          subst (λ l. HasRead new l (chars (drop (at + n) text))) further
+          (subst (λ l. HasRead new ((cs ++ front) ++ chars (take n (drop at text))) (chars l)) (drop-drop n at text) behind);
     }
 
 pub returns-clause-stands : goal.returns-clause-stands
@@ -44,11 +51,13 @@ returns-clause-stands c = λ bytes h.
     let old = c.args.self.now in
     let l = c.loop-at.self in
     let through = take_all c.loop-at.at text c.loop-at-test.false in
+    let ended = drop_all c.loop-at.at text (omega (arith, c.loop-at-test.false)) in
     let behind = behind_is old.fault old.valid (take old.held old.partial) h.tail c.requires.readable h.behind in
     record {
       cs = h.cs ++ chars text;
       tail = [];
-      read = subst (HasRead l) (ap (λ x. h.cs ++ chars x) through) (c.loop-at.invariant.read h.cs h.read);
+      read = subst (λ x. HasRead l x []) (ap (λ x. h.cs ++ chars x) through)
+          (subst (HasRead l (h.cs ++ chars (take c.loop-at.at text))) (ap chars ended ∙ chars-nil) (c.loop-at.invariant.read h.cs h.read));
       whole = text_stands bytes h.cs h.tail text c.utf8.text h.whole (behind ∙ ap (λ n. take n old.partial) c.requires.whole);
       behind = behind_from l.fault l.valid (take l.held l.partial) [] c.loop-at.invariant.readable (ap (λ n. take n l.partial) (sym c.loop-at.invariant.whole));
     }

@@ -1,4 +1,4 @@
-use Rattle.std.proofs.Common.{◌≡◌, ◌+◌, ◌-◌, ◌++◌, List, ℕ, length, take}
+use Rattle.std.proofs.Common.{◌≡◌, ◌+◌, ◌-◌, ◌++◌, List, ℕ, length, take, drop, []}
 use Rattle.std.specs.Str.{chars, IsCharBoundary}
 use Rattle.um_syntax.specs.Feeding.{IsReadable, HasRead}
 use Rattle.um_syntax.proofs.feed.Lexer.take_text.Given as goal
@@ -10,7 +10,7 @@ invariant-loop-at l = record {
   whole : l.self.held ≡ 0;
   fed : l.self.fed ≡ l.fn.self.fed + length l.text;
   place : l.self.valid ≡ l.fn.self.valid + l.at;
-  read : (cs : List ℕ) → HasRead l.fn.self cs → HasRead l.self (cs ++ chars (take l.at l.text));
+  read : (cs : List ℕ) → HasRead l.fn.self cs [] → HasRead l.self (cs ++ chars (take l.at l.text)) (chars (drop l.at l.text));
 }
 
 abbrev pub decreases-loop-at : goal.decreases-loop-at
