@@ -1,5 +1,6 @@
 // A declaration that is read one token at a time.
 ghost use Rattle.std.specs.Prelude.{◌≡◌, ◌≤◌, [], IfOk, None, option_map};
+ghost use Rattle.um_syntax.specs.Emptied.{emptied};
 ghost use Rattle.um_tree.specs.RawTree.{unit_syntax, expr_syntax, decl_syntax, record_decl_syntax, written_type};
 ghost use Rattle.um_reader.specs.Takes.{Gives, Takes};
 ghost use Rattle.um_types.specs.UnitStops.{greatest_height};
@@ -13,7 +14,7 @@ ghost use Rattle.um_expr.specs.ExprLeast.{whole_least, machine_of_expressions};
 ghost use Rattle.um_parse.specs.DeclMachine.{Expects, DeclBegin, HaveBase, InShort, NoDecl, take_expected, base_after, short_found, body_found, own_step, decl_finish, at_start};
 ghost use Rattle.um_parse.specs.ProgramLeast.{decl_least, machine_of_declarations};
 ghost use Rattle.um_parse.specs.DeclViews.{head_vars, read_fields, start_in, read_params, view_expected, next_state, reached};
-ghost use Rattle.um_parse.specs.DeclTakes.{reader_state, IsLow};
+ghost use Rattle.um_parse.specs.DeclTakes.{reader_state, IsLow, BeginsAlike};
 ghost use Rattle.um_parse.specs.declared.decl_prefix.Next.TheVariants as next;
 
 use crate::decl_function::{
@@ -217,18 +218,24 @@ fn unfinished(reader: DeclReader) -> Option<RawDecl>
 fn take_in_body(
     body: &mut Box<ExprReader>,
     alloc: Global,
-    token: &Token,
+    token: &mut Token,
 ) -> Result<Taken, AllocError>
     requires low { whole_least (expr_state body.old.value) ≤ greatest_height }
-    ensures { IfOk result (λ t. Takes machine_of_expressions greatest_height (expr_state body.old.value) token.now t (expr_state body.new.value)) }
+    ensures taken { IfOk result (λ t. Takes machine_of_expressions greatest_height (expr_state body.old.value) token.old t (expr_state body.new.value)) }
+    ensures kept { IfOk result (λ t. t ≡ Taken.Stops → BeginsAlike token.new token.old) }
 {
     body.take(alloc, token)
 }
 
 // One token more of a type.
-fn take_in_type(ty: &mut Box<TypeReader>, alloc: Global, token: &Token) -> Result<Taken, AllocError>
+fn take_in_type(
+    ty: &mut Box<TypeReader>,
+    alloc: Global,
+    token: &mut Token,
+) -> Result<Taken, AllocError>
     requires low { type_least (type_state ty.old.value) ≤ greatest_height }
-    ensures { IfOk result (λ t. Takes machine_of_types greatest_height (type_state ty.old.value) token.now t (type_state ty.new.value)) }
+    ensures taken { IfOk result (λ t. Takes machine_of_types greatest_height (type_state ty.old.value) token.old t (type_state ty.new.value)) }
+    ensures kept { IfOk result (λ t. t ≡ Taken.Stops → token.new ≡ token.old) }
 {
     ty.take(alloc, token)
 }
@@ -237,9 +244,10 @@ fn take_in_type(ty: &mut Box<TypeReader>, alloc: Global, token: &Token) -> Resul
 fn take_in_unit(
     unit: &mut Box<UnitReader>,
     alloc: Global,
-    token: &Token,
+    token: &mut Token,
 ) -> Result<Taken, AllocError>
-    ensures { IfOk result (λ t. Takes machine_of_units greatest_height (unit_state unit.old.value) token.now t (unit_state unit.new.value)) }
+    ensures taken { IfOk result (λ t. Takes machine_of_units greatest_height (unit_state unit.old.value) token.old t (unit_state unit.new.value)) }
+    ensures kept { IfOk result (λ t. t ≡ Taken.Stops → token.new ≡ token.old) }
 {
     unit.take(alloc, token)
 }
@@ -262,10 +270,11 @@ impl DeclReader {
         }
     }
 
-    /// One token more.
-    pub fn take(&mut self, alloc: Global, token: &Token) -> Result<Taken, AllocError>
+    /// One token more. Where it is refused, what is left of it begins a declaration as it does.
+    pub fn take(&mut self, alloc: Global, token: &mut Token) -> Result<Taken, AllocError>
         requires low { decl_least (reader_state self.old) ≤ greatest_height }
-        ensures taken { IfOk result (λ t. Takes machine_of_declarations greatest_height (reader_state self.old) token.now t (reader_state self.new)) }
+        ensures taken { IfOk result (λ t. Takes machine_of_declarations greatest_height (reader_state self.old) token.old t (reader_state self.new)) }
+        ensures kept { IfOk result (λ t. t ≡ Taken.Stops → BeginsAlike token.new token.old) }
     {
         match self {
             DeclReader::Body(_, body) => take_in_body(body, alloc, token),
@@ -294,11 +303,12 @@ impl DeclReader {
 
     // One token more, which what is read inside has refused, if anything is.
     #[inline(never)]
-    fn take_own(&mut self, alloc: Global, token: &Token) -> Result<Taken, AllocError>
+    fn take_own(&mut self, alloc: Global, token: &mut Token) -> Result<Taken, AllocError>
         requires low { IsLow (reader_state self.old) }
-        ensures { IfOk result (λ t. Gives machine_of_declarations greatest_height (reader_state self.old) (own_step (reader_state self.old) token.now) t (reader_state self.new)) }
+        ensures taken { IfOk result (λ t. Gives machine_of_declarations greatest_height (reader_state self.old) (own_step (reader_state self.old) token.old) t (reader_state self.new)) }
+        ensures kept { token.new ≡ emptied token.old }
     {
-        let kind = ExprToken::of_kind(alloc, &token.kind)?;
+        let kind = ExprToken::of_kind(alloc, &mut token.kind);
         match mem::replace(self, DeclReader::Nothing) {
             DeclReader::At(expected) => {
                 let next = next_at(alloc, expected, kind, token.start)?;
