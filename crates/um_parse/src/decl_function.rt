@@ -156,34 +156,26 @@ pub fn param_colon(
 
 // The function with a parameter more.
 fn with_param(
-    prefix: FunctionPrefix,
+    prefix: Box<FunctionPrefix>,
     binder: Binder,
     ty: RawType,
-) -> Result<FunctionPrefix, AllocError>
+) -> Result<Box<FunctionPrefix>, AllocError>
     requires { whole_height (type_syntax ty) ≤ greatest_height }
-    ensures start { IfOk result (λ f. start_in f ≡ start_in prefix) }
-    ensures params { IfOk result (λ f. read_params f ≡ with_param (read_params prefix) (binder_syntax binder) (type_syntax ty)) }
+    ensures start { IfOk result (λ f. start_in f.value ≡ start_in prefix.value) }
+    ensures params { IfOk result (λ f. read_params f.value ≡ with_param (read_params prefix.value) (binder_syntax binder) (type_syntax ty)) }
 {
-    let FunctionPrefix {
-        recursive,
-        at,
-        name,
-        units,
-        mut params,
-    } = prefix;
-    params.items.push(RawParam { binder, ty })?;
-    Ok(FunctionPrefix {
-        recursive,
-        at,
-        name,
-        units,
-        params,
-    })
+    let mut prefix = prefix;
+    match prefix.params.items.push(RawParam { binder, ty }) {
+        Ok(()) => Ok(prefix),
+        Err(refused) => {
+            drop(prefix);
+            Err(AllocError::from(refused))
+        }
+    }
 }
 
 // The token behind the type of a parameter.
 fn param_typed(
-    alloc: Global,
     prefix: Box<FunctionPrefix>,
     binder: Binder,
     ty: RawType,
@@ -194,8 +186,7 @@ fn param_typed(
 {
     match kind {
         ExprToken::Mark(Symbol::RightParen) => {
-            let prefix = with_param(Box::into_inner(prefix), binder, ty)?;
-            let prefix = in_box(alloc, prefix)?;
+            let prefix = with_param(prefix, binder, ty)?;
             Ok(Some(Next::At(DeclExpected::Params(prefix))))
         }
         other => Ok(refuse(other)),
@@ -204,7 +195,6 @@ fn param_typed(
 
 /// The token that the type of a parameter has refused, behind the type before it, if one stands there.
 pub fn param_ends(
-    alloc: Global,
     prefix: Box<FunctionPrefix>,
     binder: Binder,
     found: Option<RawType>,
@@ -214,7 +204,7 @@ pub fn param_ends(
     ensures { IfOk result (λ o. reached o ≡ param_ends (start_in prefix.value) (read_params prefix.value) (binder_syntax binder) (option_map type_syntax found) kind) }
 {
     match found {
-        Some(ty) => param_typed(alloc, prefix, binder, ty, kind),
+        Some(ty) => param_typed(prefix, binder, ty, kind),
         None => Ok(refuse(kind)),
     }
 }

@@ -317,12 +317,12 @@ impl DeclReader {
             DeclReader::Base(at, name) => self.behind_base(alloc, at, name, kind),
             DeclReader::Field(prefix, at, name, ty) => {
                 let found = Box::into_inner(ty).finish();
-                let next = field_ends(alloc, prefix, at, name, found, kind)?;
+                let next = field_ends(prefix, at, name, found, kind)?;
                 self.follow(alloc, next)
             }
             DeclReader::Param(prefix, binder, ty) => {
                 let found = Box::into_inner(ty).finish();
-                let next = param_ends(alloc, prefix, binder, found, kind)?;
+                let next = param_ends(prefix, binder, found, kind)?;
                 self.follow(alloc, next)
             }
             DeclReader::Result(prefix, ty) => {

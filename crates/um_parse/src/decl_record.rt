@@ -116,23 +116,27 @@ pub fn field_colon(
 
 // The record with a field more.
 fn with_field(
-    prefix: RecordPrefix,
+    prefix: Box<RecordPrefix>,
     at: u32,
     name: Name,
     ty: RawType,
-) -> Result<RecordPrefix, AllocError>
+) -> Result<Box<RecordPrefix>, AllocError>
     requires { whole_height (type_syntax ty) ≤ greatest_height }
-    ensures head { IfOk result (λ f. f.head ≡ prefix.head) }
-    ensures fields { IfOk result (λ f. read_fields f ≡ with_field_decl (read_fields prefix) at name (type_syntax ty)) }
+    ensures head { IfOk result (λ f. f.value.head ≡ prefix.value.head) }
+    ensures fields { IfOk result (λ f. read_fields f.value ≡ with_field_decl (read_fields prefix.value) at name (type_syntax ty)) }
 {
-    let RecordPrefix { head, mut fields } = prefix;
-    fields.items.push(RawFieldDecl { at, name, ty })?;
-    Ok(RecordPrefix { head, fields })
+    let mut prefix = prefix;
+    match prefix.fields.items.push(RawFieldDecl { at, name, ty }) {
+        Ok(()) => Ok(prefix),
+        Err(refused) => {
+            drop(prefix);
+            Err(AllocError::from(refused))
+        }
+    }
 }
 
 // The token behind the type of a field.
 fn field_typed(
-    alloc: Global,
     prefix: Box<RecordPrefix>,
     at: u32,
     name: Name,
@@ -144,13 +148,11 @@ fn field_typed(
 {
     match kind {
         ExprToken::Mark(Symbol::Semicolon) => {
-            let prefix = with_field(Box::into_inner(prefix), at, name, ty)?;
-            let prefix = in_box(alloc, prefix)?;
+            let prefix = with_field(prefix, at, name, ty)?;
             Ok(Some(Next::At(DeclExpected::FieldName(prefix))))
         }
         ExprToken::Mark(Symbol::RightBrace) => {
-            let prefix = with_field(Box::into_inner(prefix), at, name, ty)?;
-            let prefix = in_box(alloc, prefix)?;
+            let prefix = with_field(prefix, at, name, ty)?;
             Ok(Some(Next::Record(prefix)))
         }
         other => Ok(refuse(other)),
@@ -159,7 +161,6 @@ fn field_typed(
 
 /// The token that the type of a field has refused, behind the type before it, if one stands there.
 pub fn field_ends(
-    alloc: Global,
     prefix: Box<RecordPrefix>,
     at: u32,
     name: Name,
@@ -170,7 +171,7 @@ pub fn field_ends(
     ensures { IfOk result (λ o. reached o ≡ field_ends prefix.value.head.at prefix.value.head.name (head_vars prefix.value.head) (read_fields prefix.value) at name (option_map type_syntax found) kind) }
 {
     match found {
-        Some(ty) => field_typed(alloc, prefix, at, name, ty, kind),
+        Some(ty) => field_typed(prefix, at, name, ty, kind),
         None => Ok(refuse(kind)),
     }
 }

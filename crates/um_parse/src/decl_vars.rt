@@ -37,19 +37,8 @@ fn var_name(prefix: VarsPrefix, kind: ExprToken, p: u32) -> Result<Option<Next>,
 {
     match kind {
         ExprToken::Variable(var) => {
-            let VarsPrefix {
-                owner,
-                at,
-                name,
-                mut vars,
-            } = prefix;
-            vars.items.push(RawVar { at: p, name: var })?;
-            let prefix = VarsPrefix {
-                owner,
-                at,
-                name,
-                vars,
-            };
+            let mut prefix = prefix;
+            prefix.vars.items.push(RawVar { at: p, name: var })?;
             Ok(Some(Next::At(DeclExpected::Var(prefix, VarExpected::End))))
         }
         other => Ok(refuse(other)),
