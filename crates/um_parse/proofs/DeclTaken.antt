@@ -1,15 +1,9 @@
--- What follows a token of a declaration stands within the heights; and what is left of a token that is refused.
-use Rattle.std.proofs.Common.{◌≡◌, ◌≢◌, ℕ, ◌≤◌, ◌⊎◌, inl, inr, refl, ap, ◌∙◌, arith}
-use Rattle.um_syntax.specs.declared.token.Kind.{Kind}
-use Rattle.um_syntax.specs.declared.token.Kind.TheVariants as kind
-use Rattle.um_syntax.specs.declared.token.Token.{Token}
-use Rattle.um_syntax.specs.Emptied.{emptied_kind, emptied}
+-- What follows a token of a declaration stands within the heights.
+use Rattle.std.proofs.Common.{◌≢◌, ◌≤◌, arith}
 use Rattle.um_types.specs.UnitStops.{greatest_height}
-use Rattle.um_expr.specs.ExprTokens.{expr_token}
-use Rattle.um_parse.specs.DeclMachine.{DeclBegin, Expects, NoDecl, take_expected, decl_step}
+use Rattle.um_parse.specs.DeclMachine.{NoDecl}
 use Rattle.um_parse.specs.ProgramLeast.{expected_least, decl_least}
 use Rattle.um_parse.specs.DeclViews.{view_measure, view_var, view_expected, next_state}
-use Rattle.um_parse.specs.DeclTakes.{BeginsAlike}
 use Rattle.um_parse.specs.declared.decl_prefix.VarsPrefix.{VarsPrefix}
 use Rattle.um_parse.specs.declared.decl_prefix.MeasureExpected.{MeasureExpected}
 use Rattle.um_parse.specs.declared.decl_prefix.MeasureExpected.TheVariants as measure
@@ -51,15 +45,3 @@ next_low (next.Body h) = omega (arith, h.prefix.value.low, h.low)
 pub next_goes : (n : Next) → next_state n ≢ NoDecl
 next_goes (next.At p) e = cc
 next_goes _ e = cc
-
-begins_alike : (k : Kind) (p : ℕ) → take_expected DeclBegin (expr_token (emptied_kind k)) p ≡ take_expected DeclBegin (expr_token k) p
-begins_alike (kind.Name x) p = refl
-begins_alike _ p = refl
-
--- a token whose letters were taken begins a declaration exactly where the token does
-pub alike : (left token : Token) → (left ≡ token) ⊎ (left ≡ emptied token) → BeginsAlike left token
-alike left token h =
-    elim h [
-      | inl e ↦ ap (decl_step (Expects DeclBegin)) e
-      | inr e ↦ ap (decl_step (Expects DeclBegin)) e ∙ begins_alike token.kind token.start
-    ]

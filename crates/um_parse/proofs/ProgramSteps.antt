@@ -12,7 +12,7 @@ use Rattle.um_types.specs.UnitStops.{greatest_height}
 use Rattle.um_parse.specs.DeclMachine.{DeclBegin, DeclState, Expects, decl_step, decl_finish, ProgramState, InProgram, NoProgram, program_goes, next_decl, program_step, at_start, program_found, program_finish}
 use Rattle.um_parse.specs.ProgramHeights.{decl_height, program_height}
 use Rattle.um_parse.specs.ProgramLeast.{decl_least, program_least, machine_of_declarations, machine_of_programs}
-use Rattle.um_parse.specs.DeclTakes.{BeginsAlike}
+use Rattle.um_parse.specs.DeclTokens.{BeginsAlike}
 use Rattle.um_parse.proofs.DeclHeights.{decl_found_height}
 use Rattle.um_parse.proofs.ProgramLow.{height_last}
 

@@ -1,7 +1,6 @@
 -- The states of readers of declarations and of programs.
 -- Source: this project's own.
 use Rattle.std.specs.Prelude.{◌≡◌, ◌≤◌, map, Some}
-use Rattle.um_syntax.specs.declared.token.Token.{Token}
 use Rattle.um_tree.specs.RawTree.{TypeSyntax, decl_syntax, binder_syntax, written_type}
 use Rattle.um_types.specs.UnitStops.{greatest_height}
 use Rattle.um_types.specs.UnitView.{unit_state}
@@ -9,8 +8,8 @@ use Rattle.um_types.specs.TypeView.{type_state}
 use Rattle.um_types.specs.TypeHeights.{whole_height}
 use Rattle.um_types.specs.TypeMachine.{type_finish}
 use Rattle.um_expr.specs.ExprStates.{expr_state}
-use Rattle.um_parse.specs.DeclMachine.{DeclBegin, DeclState, Expects, HaveBase, InShort, HaveRecord, InField}
-use Rattle.um_parse.specs.DeclMachine.{InParam, InResult, InBody, NoDecl, decl_step, ProgramState, InProgram}
+use Rattle.um_parse.specs.DeclMachine.{DeclState, Expects, HaveBase, InShort, HaveRecord, InField, InParam, InResult}
+use Rattle.um_parse.specs.DeclMachine.{InBody, NoDecl, ProgramState, InProgram}
 use Rattle.um_parse.specs.DeclViews.{head_vars, read_fields, start_in, read_params, view_expected}
 use Rattle.um_parse.specs.declared.decl_reader.DeclReader.{DeclReader}
 use Rattle.um_parse.specs.declared.decl_reader.DeclReader.TheVariants as reader
@@ -38,10 +37,6 @@ IsLow (InField at x vs fs place y s) = (t : TypeSyntax) → type_finish s ≡ So
 IsLow (InParam head ps b s) = (t : TypeSyntax) → type_finish s ≡ Some t → whole_height t ≤ greatest_height
 IsLow (InResult head ps s) = (t : TypeSyntax) → type_finish s ≡ Some t → whole_height t ≤ greatest_height
 IsLow st = Unit {0}
-
--- a declaration begins with the one token as with the other
-abbrev pub BeginsAlike : Token → Token → Type 0
-BeginsAlike one other = decl_step (Expects DeclBegin) one ≡ decl_step (Expects DeclBegin) other
 
 -- the state of a reader of a program
 abbrev pub program_state : ProgramReader → ProgramState

@@ -1,20 +1,13 @@
 // A declaration that is read one token at a time.
 ghost use Rattle.std.specs.Prelude.{◌≡◌, ◌≤◌, [], IfOk, None, option_map};
-ghost use Rattle.um_syntax.specs.Emptied.{emptied};
 ghost use Rattle.um_tree.specs.RawTree.{unit_syntax, expr_syntax, decl_syntax, record_decl_syntax, written_type};
 ghost use Rattle.um_reader.specs.Takes.{Gives, Takes};
 ghost use Rattle.um_types.specs.UnitStops.{greatest_height};
 ghost use Rattle.um_types.specs.UnitMachine.{Need};
-ghost use Rattle.um_types.specs.UnitLeast.{machine_of_units};
-ghost use Rattle.um_types.specs.UnitView.{unit_state};
-ghost use Rattle.um_types.specs.TypeMachine.{type_least, machine_of_types};
-ghost use Rattle.um_types.specs.TypeView.{type_state};
-ghost use Rattle.um_expr.specs.ExprStates.{expr_state};
-ghost use Rattle.um_expr.specs.ExprLeast.{whole_least, machine_of_expressions};
 ghost use Rattle.um_parse.specs.DeclMachine.{Expects, DeclBegin, HaveBase, InShort, NoDecl, take_expected, base_after, short_found, body_found, own_step, decl_finish, at_start};
 ghost use Rattle.um_parse.specs.ProgramLeast.{decl_least, machine_of_declarations};
 ghost use Rattle.um_parse.specs.DeclViews.{head_vars, read_fields, start_in, read_params, view_expected, next_state, reached};
-ghost use Rattle.um_parse.specs.DeclTakes.{reader_state, IsLow, BeginsAlike};
+ghost use Rattle.um_parse.specs.DeclTakes.{reader_state, IsLow, BeginsAlike, IfStops};
 ghost use Rattle.um_parse.specs.declared.decl_prefix.Next.TheVariants as next;
 
 use crate::decl_function::{
@@ -26,6 +19,7 @@ use crate::decl_prefix::{DeclExpected, FunctionHead, FunctionPrefix, Next, Recor
 use crate::decl_record::{
     field_colon, field_ends, field_name, record_brace, record_equal, record_name, record_vars,
 };
+use crate::decl_token::{kind_of, take_in_body, take_in_type, take_in_unit};
 use crate::decl_vars::take_var;
 use std::alloc::{AllocError, Global};
 use std::mem;
@@ -214,44 +208,6 @@ fn unfinished(reader: DeclReader) -> Option<RawDecl>
     None
 }
 
-// One token more of a body.
-fn take_in_body(
-    body: &mut Box<ExprReader>,
-    alloc: Global,
-    token: &mut Token,
-) -> Result<Taken, AllocError>
-    requires low { whole_least (expr_state body.old.value) ≤ greatest_height }
-    ensures taken { IfOk result (λ t. Takes machine_of_expressions greatest_height (expr_state body.old.value) token.old t (expr_state body.new.value)) }
-    ensures kept { IfOk result (λ t. t ≡ Taken.Stops → BeginsAlike token.new token.old) }
-{
-    body.take(alloc, token)
-}
-
-// One token more of a type.
-fn take_in_type(
-    ty: &mut Box<TypeReader>,
-    alloc: Global,
-    token: &mut Token,
-) -> Result<Taken, AllocError>
-    requires low { type_least (type_state ty.old.value) ≤ greatest_height }
-    ensures taken { IfOk result (λ t. Takes machine_of_types greatest_height (type_state ty.old.value) token.old t (type_state ty.new.value)) }
-    ensures kept { IfOk result (λ t. t ≡ Taken.Stops → token.new ≡ token.old) }
-{
-    ty.take(alloc, token)
-}
-
-// One token more of a unit text.
-fn take_in_unit(
-    unit: &mut Box<UnitReader>,
-    alloc: Global,
-    token: &mut Token,
-) -> Result<Taken, AllocError>
-    ensures taken { IfOk result (λ t. Takes machine_of_units greatest_height (unit_state unit.old.value) token.old t (unit_state unit.new.value)) }
-    ensures kept { IfOk result (λ t. t ≡ Taken.Stops → token.new ≡ token.old) }
-{
-    unit.take(alloc, token)
-}
-
 impl DeclReader {
     /// No token was read yet.
     pub fn new() -> DeclReader
@@ -274,7 +230,7 @@ impl DeclReader {
     pub fn take(&mut self, alloc: Global, token: &mut Token) -> Result<Taken, AllocError>
         requires low { decl_least (reader_state self.old) ≤ greatest_height }
         ensures taken { IfOk result (λ t. Takes machine_of_declarations greatest_height (reader_state self.old) token.old t (reader_state self.new)) }
-        ensures kept { IfOk result (λ t. t ≡ Taken.Stops → BeginsAlike token.new token.old) }
+        ensures kept { IfOk result (λ t. IfStops t (BeginsAlike token.new token.old)) }
     {
         match self {
             DeclReader::Body(_, body) => take_in_body(body, alloc, token),
@@ -306,12 +262,13 @@ impl DeclReader {
     fn take_own(&mut self, alloc: Global, token: &mut Token) -> Result<Taken, AllocError>
         requires low { IsLow (reader_state self.old) }
         ensures taken { IfOk result (λ t. Gives machine_of_declarations greatest_height (reader_state self.old) (own_step (reader_state self.old) token.old) t (reader_state self.new)) }
-        ensures kept { token.new ≡ emptied token.old }
+        ensures kept { BeginsAlike token.new token.old }
     {
-        let kind = ExprToken::of_kind(alloc, &mut token.kind);
+        let at = token.start;
+        let kind = kind_of(alloc, token);
         match mem::replace(self, DeclReader::Nothing) {
             DeclReader::At(expected) => {
-                let next = next_at(alloc, expected, kind, token.start)?;
+                let next = next_at(alloc, expected, kind, at)?;
                 self.follow(alloc, next)
             }
             DeclReader::Base(at, name) => self.behind_base(alloc, at, name, kind),
