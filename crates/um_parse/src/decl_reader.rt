@@ -7,7 +7,8 @@ ghost use Rattle.um_types.specs.UnitMachine.{Need};
 ghost use Rattle.um_parse.specs.DeclMachine.{Expects, DeclBegin, HaveBase, InShort, NoDecl, take_expected, base_after, short_found, body_found, own_step, decl_finish, at_start};
 ghost use Rattle.um_parse.specs.ProgramLeast.{decl_least, machine_of_declarations};
 ghost use Rattle.um_parse.specs.DeclViews.{head_vars, read_fields, start_in, read_params, view_expected, next_state, reached};
-ghost use Rattle.um_parse.specs.DeclTakes.{reader_state, IsLow, BeginsAlike, IfStops};
+ghost use Rattle.um_parse.specs.DeclTakes.{reader_state, IsLow};
+ghost use Rattle.um_parse.specs.DeclTokens.{BeginsAlike, IfStops};
 ghost use Rattle.um_parse.specs.declared.decl_prefix.Next.TheVariants as next;
 
 use crate::decl_function::{
