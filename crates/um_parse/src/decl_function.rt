@@ -4,17 +4,16 @@ ghost use Rattle.um_tree.specs.RawTree.{binder_syntax, type_syntax};
 ghost use Rattle.um_types.specs.TypeHeights.{whole_height};
 ghost use Rattle.um_types.specs.UnitStops.{greatest_height};
 ghost use Rattle.um_parse.specs.DeclMachine.{LetName, RecName, FunctionVars, ParamBinder, ParamColon, started, take_expected, take_params, body_begins, param_ends, result_ends, with_param};
-ghost use Rattle.um_parse.specs.DeclViews.{start_in, read_params, reached};
+ghost use Rattle.um_parse.specs.DeclViews.{head_vars, start_in, read_params, reached};
 
 use crate::decl_measure::refuse;
 use crate::decl_prefix::{
-    DeclExpected, FunctionHead, FunctionPrefix, Next, Owner, VarExpected, in_box,
+    DeclExpected, FunctionHead, FunctionPrefix, Head, Next, Owner, VarExpected,
 };
-use crate::decl_vars::vars_begin;
 use std::alloc::{AllocError, Global};
 use um_expr::{ExprToken, Infix};
 use um_syntax::{Keyword, Symbol};
-use um_tree::{Binder, Name, RawParam, RawParams, RawType, RawVars, Sign};
+use um_tree::{Binder, Name, RawParam, RawType, Sign};
 
 /// The token behind `let`.
 pub fn let_name(kind: ExprToken, p: u32) -> Option<Next>
@@ -37,26 +36,6 @@ pub fn rec_name(kind: ExprToken, p: u32) -> Option<Next>
     }
 }
 
-// A function without unit parameters, behind its name, at its place.
-fn plain_start(alloc: Global, recursive: bool, at: u32, name: Name) -> FunctionPrefix
-    ensures start { start_in result ≡ started recursive at name [] }
-    ensures params { read_params result ≡ [] }
-{
-    let units = RawVars {
-        items: Vec::new(alloc),
-    };
-    let params = RawParams {
-        items: Vec::new(alloc),
-    };
-    FunctionPrefix {
-        recursive,
-        at,
-        name,
-        units,
-        params,
-    }
-}
-
 /// The token behind the name of a function, at its place.
 pub fn function_vars(
     alloc: Global,
@@ -70,22 +49,24 @@ pub fn function_vars(
 {
     match kind {
         ExprToken::Operator(Infix::Compare(Sign::Lt)) => {
-            let prefix = vars_begin(alloc, Owner::Function(recursive), at, name);
-            Ok(Some(Next::At(DeclExpected::Var(prefix, VarExpected::Begin))))
+            let owner = Owner::Function(recursive);
+            let head = Head::plain(alloc, at, name);
+            Ok(Some(Next::At(DeclExpected::Var(owner, head, VarExpected::Begin))))
         }
-        other => params_begin(alloc, plain_start(alloc, recursive, at, name), other),
+        other => params_begin(alloc, recursive, Head::plain(alloc, at, name), other),
     }
 }
 
 // The token behind the name of a function without unit parameters.
 fn params_begin(
     alloc: Global,
-    prefix: FunctionPrefix,
+    recursive: bool,
+    head: Head,
     kind: ExprToken,
 ) -> Result<Option<Next>, AllocError>
-    ensures { IfOk result (λ o. reached o ≡ take_params (start_in prefix) (read_params prefix) kind) }
+    ensures { IfOk result (λ o. reached o ≡ take_params (started recursive head.at head.name (head_vars head)) [] kind) }
 {
-    match in_box(alloc, prefix) {
+    match FunctionPrefix::plain(alloc, recursive, head) {
         Ok(prefix) => Ok(take_params(prefix, kind)),
         Err(error) => {
             drop(kind);

@@ -140,7 +140,7 @@ fn next_at(
         DeclExpected::Measure(expected) => Ok(take_measure(expected, kind, p)),
         DeclExpected::RecordName => Ok(record_name(kind, p)),
         DeclExpected::RecordVars(at, name) => Ok(record_vars(alloc, at, name, kind, p)),
-        DeclExpected::Var(prefix, expected) => take_var(alloc, prefix, expected, kind, p),
+        DeclExpected::Var(owner, head, expected) => take_var(alloc, owner, head, expected, kind, p),
         DeclExpected::RecordEqual(head) => Ok(record_equal(head, kind, p)),
         DeclExpected::RecordBrace(head) => record_brace(alloc, head, kind, p),
         DeclExpected::FieldName(prefix) => Ok(field_name(prefix, kind, p)),
@@ -177,16 +177,14 @@ fn body_found(head: FunctionHead, found: Option<RawExpr>) -> Option<RawDecl>
     let FunctionHead { prefix, result } = head;
     let FunctionPrefix {
         recursive,
-        at,
-        name,
-        units,
+        head,
         params,
     } = Box::into_inner(prefix);
     Some(RawDecl::Function(RawFunction {
-        at,
-        name,
+        at: head.at,
+        name: head.name,
         recursive,
-        units,
+        units: head.vars,
         params,
         result,
         body,
