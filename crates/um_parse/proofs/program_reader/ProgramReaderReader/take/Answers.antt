@@ -22,7 +22,7 @@ returns-in-Stops c =
     let token = c.args.token.now in
     let left = c.take.new.token in
     let new = program_state c.next_decl.new.self in
-    let begun = sym c.is_at_start.ensures ∙ c.else-is_at_start.false in
+    let begun = sym c.is_at_start.ensures ∙ c.if-is_at_start.false in
     record {
       taken =
           IfOk-weaker c.next_decl.result
