@@ -4,6 +4,7 @@ ghost use Rattle.um_tree.specs.RawTree.{unit_syntax, expr_syntax, decl_syntax, r
 ghost use Rattle.um_reader.specs.Takes.{Gives, Takes};
 ghost use Rattle.um_types.specs.UnitStops.{greatest_height};
 ghost use Rattle.um_types.specs.UnitMachine.{Need};
+ghost use Rattle.um_expr.specs.ExprTokens.{expr_token};
 ghost use Rattle.um_parse.specs.DeclMachine.{Expects, DeclBegin, HaveBase, InShort, NoDecl, take_expected, base_after, short_found, body_found, own_step, decl_finish, at_start};
 ghost use Rattle.um_parse.specs.ProgramLeast.{decl_least, machine_of_declarations};
 ghost use Rattle.um_parse.specs.DeclViews.{head_vars, read_fields, start_in, read_params, view_expected, next_state, reached};
@@ -236,7 +237,10 @@ impl DeclReader {
             DeclReader::Short(_, _, unit) => take_in_unit(unit, alloc, token),
             DeclReader::Nothing => Ok(Taken::Stops),
             DeclReader::Record(_) => Ok(Taken::Stops),
-            DeclReader::At(_) => self.take_own(alloc, token),
+            DeclReader::At(expected) => {
+                let expected = mem::replace(expected, DeclExpected::LetName);
+                self.take_at(alloc, expected, token)
+            }
             DeclReader::Base(_, _) => self.take_own(alloc, token),
             DeclReader::Field(_, _, _, ty) => match take_in_type(ty, alloc, token)? {
                 Taken::Goes => Ok(Taken::Goes),
@@ -256,20 +260,33 @@ impl DeclReader {
         }
     }
 
-    // One token more, which what is read inside has refused, if anything is.
+    // The token at a place inside a run of tokens that is fixed.
+    #[inline(never)]
+    fn take_at(
+        &mut self,
+        alloc: Global,
+        expected: DeclExpected,
+        token: &mut Token,
+    ) -> Result<Taken, AllocError>
+        requires nothing { decl_finish (reader_state self.old) ≡ None }
+        ensures taken { IfOk result (λ t. Gives machine_of_declarations greatest_height NoDecl (take_expected (view_expected expected) (expr_token token.old.kind) token.old.start) t (reader_state self.new)) }
+        ensures kept { BeginsAlike token.new token.old }
+    {
+        let p = token.start;
+        let kind = kind_of(alloc, token);
+        let next = next_at(alloc, expected, kind, p)?;
+        self.follow(alloc, next)
+    }
+
+    // The token behind the name of a measure, or the token that a type has refused.
     #[inline(never)]
     fn take_own(&mut self, alloc: Global, token: &mut Token) -> Result<Taken, AllocError>
         requires low { IsLow (reader_state self.old) }
         ensures taken { IfOk result (λ t. Gives machine_of_declarations greatest_height (reader_state self.old) (own_step (reader_state self.old) token.old) t (reader_state self.new)) }
         ensures kept { BeginsAlike token.new token.old }
     {
-        let at = token.start;
         let kind = kind_of(alloc, token);
         match mem::replace(self, DeclReader::Nothing) {
-            DeclReader::At(expected) => {
-                let next = next_at(alloc, expected, kind, at)?;
-                self.follow(alloc, next)
-            }
             DeclReader::Base(at, name) => self.behind_base(alloc, at, name, kind),
             DeclReader::Field(prefix, at, name, ty) => {
                 let found = Box::into_inner(ty).finish();
@@ -285,12 +302,7 @@ impl DeclReader {
                 let next = result_ends(prefix, Box::into_inner(ty).finish(), kind);
                 self.follow(alloc, next)
             }
-            DeclReader::Nothing => Ok(self.stay(DeclReader::Nothing, kind)),
-            DeclReader::Short(at, name, unit) => {
-                Ok(self.stay(DeclReader::Short(at, name, unit), kind))
-            }
-            DeclReader::Record(prefix) => Ok(self.stay(DeclReader::Record(prefix), kind)),
-            DeclReader::Body(head, body) => Ok(self.stay(DeclReader::Body(head, body), kind)),
+            other => Ok(self.stay(other, kind)),
         }
     }
 
@@ -312,7 +324,7 @@ impl DeclReader {
 
     // What follows is read, or the token is refused, where nothing ends.
     fn follow(&mut self, alloc: Global, next: Option<Next>) -> Result<Taken, AllocError>
-        requires nothing { reader_state self.old ≡ NoDecl }
+        requires nothing { decl_finish (reader_state self.old) ≡ None }
         ensures { IfOk result (λ t. Gives machine_of_declarations greatest_height NoDecl (reached next) t (reader_state self.new)) }
     {
         match next {
@@ -371,15 +383,7 @@ impl DeclReader {
             DeclReader::Body(head, body) => {
                 Ok(body_found(head, Box::into_inner(body).finish(alloc)?))
             }
-            DeclReader::Nothing => Ok(None),
-            DeclReader::At(expected) => Ok(unfinished(DeclReader::At(expected))),
-            DeclReader::Field(prefix, at, name, ty) => {
-                Ok(unfinished(DeclReader::Field(prefix, at, name, ty)))
-            }
-            DeclReader::Param(prefix, binder, ty) => {
-                Ok(unfinished(DeclReader::Param(prefix, binder, ty)))
-            }
-            DeclReader::Result(prefix, ty) => Ok(unfinished(DeclReader::Result(prefix, ty))),
+            other => Ok(unfinished(other)),
         }
     }
 }
