@@ -12,12 +12,7 @@ use um_syntax::{Keyword, Symbol};
 use um_tree::{RawVar, Sign};
 
 // The name of a unit parameter.
-fn var_name(
-    owner: Owner,
-    head: Head,
-    kind: ExprToken,
-    p: u32,
-) -> Result<Option<Next>, AllocError>
+fn var_name(owner: Owner, head: Head, kind: ExprToken, p: u32) -> Result<Option<Next>, AllocError>
     ensures { IfOk result (λ o. reached o ≡ take_expected (view_var owner head var.Name) kind p) }
 {
     match kind {
