@@ -132,9 +132,7 @@ impl Reader for ProgramReader {
         }
     }
 
-    fn copy(alloc: Global, token: &Token) -> Result<Token, AllocError>
-        ensures copied { IfOk result (λ t. t ≡ token.now) }
-    {
+    fn copy(alloc: Global, token: &Token) -> Result<Token, AllocError> {
         token.copy(alloc)
     }
 
