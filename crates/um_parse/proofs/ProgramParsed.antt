@@ -1,6 +1,6 @@
 -- What parsing answers, from the limits of a program that was read; and what the loop over tokens that are handed over
 -- gives, with the places of the refusals.
-use Rattle.std.proofs.Common.{◌≡◌, ℕ, zero, suc, ◌≤◌, ◌<◌, List, [], ◌∷◌, length, get_or, Some, None, Result, Ok, Err, refl, sym, ap, subst, ◌∙◌, arith}
+use Rattle.std.proofs.Common.{◌≡◌, ℕ, ◌≤◌, ◌<◌, List, length, get_or, Some, None, Result, Ok, Err, sym, ap, subst, ◌∙◌, arith}
 use Rattle.um_syntax.specs.declared.token.Token.{Token}
 use Rattle.um_tree.specs.declared.raw.RawProgram.{RawProgram}
 use Rattle.um_tree.specs.RawTree.{DeclSyntax, program_syntax}
@@ -9,7 +9,7 @@ use Rattle.um_reader.specs.declared.taken.Taken.TheVariants as taken
 use Rattle.um_reader.specs.declared.reading.ReadStop.TheVariants as read_stop
 use Rattle.um_reader.proofs.Loop.{Stands, through, too_high}
 use Rattle.um_reader.proofs.Answers.{reads_all}
-use Rattle.um_types.specs.UnitStops.{greatest_height, place_of}
+use Rattle.um_types.specs.UnitStops.{greatest_height}
 use Rattle.um_types.proofs.TokenPlaces.{place_at, place_behind}
 use Rattle.um_types.specs.declared.parse.LimitKind.TheVariants as limit
 use Rattle.um_types.specs.declared.parse.ParseStop.{ParseStop}
