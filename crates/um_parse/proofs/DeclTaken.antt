@@ -4,7 +4,8 @@ use Rattle.um_types.specs.UnitStops.{greatest_height}
 use Rattle.um_parse.specs.DeclMachine.{NoDecl}
 use Rattle.um_parse.specs.ProgramLeast.{expected_least, decl_least}
 use Rattle.um_parse.specs.DeclViews.{view_measure, view_var, view_expected, next_state}
-use Rattle.um_parse.specs.declared.decl_prefix.VarsPrefix.{VarsPrefix}
+use Rattle.um_parse.specs.declared.decl_prefix.Owner.{Owner}
+use Rattle.um_parse.specs.declared.decl_prefix.Head.{Head}
 use Rattle.um_parse.specs.declared.decl_prefix.MeasureExpected.{MeasureExpected}
 use Rattle.um_parse.specs.declared.decl_prefix.MeasureExpected.TheVariants as measure
 use Rattle.um_parse.specs.declared.decl_prefix.VarExpected.{VarExpected}
@@ -18,13 +19,13 @@ measure_low : (m : MeasureExpected) → expected_least (view_measure m) ≤ grea
 measure_low measure.Word = omega arith
 measure_low _ = omega arith
 
-var_low : (h : VarsPrefix) (v : VarExpected) → expected_least (view_var h v) ≤ greatest_height
-var_low h var.Begin = omega arith
-var_low h _ = omega arith
+var_low : (o : Owner) (h : Head) (v : VarExpected) → expected_least (view_var o h v) ≤ greatest_height
+var_low o h var.Begin = omega arith
+var_low o h _ = omega arith
 
 expected_low : (p : ExpectedToken) → expected_least (view_expected p) ≤ greatest_height
 expected_low (expected.Measure m) = measure_low m
-expected_low (expected.Var h v) = var_low h v
+expected_low (expected.Var o h v) = var_low o h v
 expected_low (expected.FieldName f) = omega (arith, f.value.low)
 expected_low (expected.FieldColon f p y) = omega (arith, f.value.low)
 expected_low (expected.Params f) = omega (arith, f.value.low)

@@ -74,7 +74,7 @@ pub yields_unit : (at : ℕ) (x : List ℕ) (u : UnitSyntax) (tokens rest : List
 yields_unit at x u tokens rest s fits =
     let r = unit_reaches u tokens rest s fits in (r.0, r.1, lift unit_step NoUnit (λ t. refl) decl_step (λ w. InShort at x w) (short_inside at x) r.0 (NeedUnit []) (unit_into [] u) r.2 r.3)
 
-body_inside : (head : FunctionStart) (ps : List ParamSyntax) (r : Option TypeSyntax) (e new : State) (token : Token) → step e token ≡ new → new ≢ Refused
+pub body_inside : (head : FunctionStart) (ps : List ParamSyntax) (r : Option TypeSyntax) (e new : State) (token : Token) → step e token ≡ new → new ≢ Refused
     → decl_step (InBody head ps r e) token ≡ InBody head ps r new
 body_inside head ps r e new token same ok = ap (body_goes head ps r) same ∙ body_on new ok
   where

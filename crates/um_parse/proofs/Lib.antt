@@ -12,5 +12,6 @@ mod ProgramExact
 mod ProgramNodes
 mod LimitLaws
 mod DeclTaken
+mod DeclTokens
 mod ProgramSteps
 mod ProgramParsed

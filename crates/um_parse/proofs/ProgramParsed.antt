@@ -1,6 +1,6 @@
 -- What parsing answers, from the limits of a program that was read; and what the loop over tokens that are handed over
 -- gives, with the places of the refusals.
-use Rattle.std.proofs.Common.{◌≡◌, ℕ, zero, suc, ◌≤◌, ◌<◌, List, [], ◌∷◌, length, get_or, Some, None, Result, Ok, Err, refl, sym, ap, subst, ◌∙◌, arith}
+use Rattle.std.proofs.Common.{◌≡◌, ℕ, ◌≤◌, ◌<◌, List, length, get_or, Some, None, Result, Ok, Err, sym, ap, subst, ◌∙◌, arith}
 use Rattle.um_syntax.specs.declared.token.Token.{Token}
 use Rattle.um_tree.specs.declared.raw.RawProgram.{RawProgram}
 use Rattle.um_tree.specs.RawTree.{DeclSyntax, program_syntax}
@@ -9,7 +9,8 @@ use Rattle.um_reader.specs.declared.taken.Taken.TheVariants as taken
 use Rattle.um_reader.specs.declared.reading.ReadStop.TheVariants as read_stop
 use Rattle.um_reader.proofs.Loop.{Stands, through, too_high}
 use Rattle.um_reader.proofs.Answers.{reads_all}
-use Rattle.um_types.specs.UnitStops.{greatest_height, place_of}
+use Rattle.um_types.specs.UnitStops.{greatest_height}
+use Rattle.um_types.proofs.TokenPlaces.{place_at, place_behind}
 use Rattle.um_types.specs.declared.parse.LimitKind.TheVariants as limit
 use Rattle.um_types.specs.declared.parse.ParseStop.{ParseStop}
 use Rattle.um_types.specs.declared.parse.ParseStop.TheVariants as stop
@@ -27,15 +28,6 @@ limited_parsed tokens end ds (Ok p) is low l = subst (IsRead tokens) (sym l.0) (
 limited_parsed tokens end ds (Err (stop.Syntax at)) is low l = absurd l
 limited_parsed tokens end ds (Err (stop.Limit kind at)) is low l = large_at tokens end kind at (record { ds = ds; is = is; low = low; passes = l })
 limited_parsed tokens end ds (Err stop.NoMemory) is low l = absurd l
-
-place_at : (tokens : List Token) (i end : ℕ) (x : Token) → i < length tokens → get_or tokens i x ≡ x → place_of tokens i end ≡ x.start
-place_at [] i end x lt same = absurd (omega (arith, lt))
-place_at (t ∷ ts) zero end x lt same = ap (λ (y : Token). y.start) same
-place_at (t ∷ ts) (suc i) end x lt same = place_at ts i end x (omega (arith, lt)) same
-
-place_behind : (tokens : List Token) (end : ℕ) → place_of tokens (length tokens) end ≡ end
-place_behind [] end = refl
-place_behind (t ∷ ts) end = place_behind ts end
 
 -- the first tokens are read within the height, and this is the state
 abbrev pub StandsAt : List Token → ℕ → ProgramState → Type 0

@@ -11,11 +11,10 @@ use Rattle.um_parse.specs.DeclMachine.{VarGreater, VarClose, VarName, VarEnd, Re
 use Rattle.um_parse.specs.DeclMachine.{FieldColon, LetName, RecName, Params, ParamBinder, ParamColon, DeclState}
 use Rattle.um_parse.specs.DeclMachine.{Expects, HaveBase, HaveRecord, InField, InParam, InResult, InBody}
 use Rattle.um_parse.specs.DeclMachine.{NoDecl, FunctionVars, FunctionStart, VarOwner, OfRecord, OfFunction}
-use Rattle.um_parse.specs.declared.decl_prefix.RecordHead.{RecordHead}
+use Rattle.um_parse.specs.declared.decl_prefix.Head.{Head}
 use Rattle.um_parse.specs.declared.decl_prefix.RecordPrefix.{RecordPrefix}
 use Rattle.um_parse.specs.declared.decl_prefix.Owner.{Owner}
 use Rattle.um_parse.specs.declared.decl_prefix.Owner.TheVariants as owner
-use Rattle.um_parse.specs.declared.decl_prefix.VarsPrefix.{VarsPrefix}
 use Rattle.um_parse.specs.declared.decl_prefix.FunctionPrefix.{FunctionPrefix}
 use Rattle.um_parse.specs.declared.decl_prefix.MeasureExpected.{MeasureExpected}
 use Rattle.um_parse.specs.declared.decl_prefix.MeasureExpected.TheVariants as measure
@@ -26,7 +25,7 @@ use Rattle.um_parse.specs.declared.decl_prefix.DeclExpected.TheVariants as expec
 use Rattle.um_parse.specs.declared.decl_prefix.Next.{Next}
 use Rattle.um_parse.specs.declared.decl_prefix.Next.TheVariants as next
 
-abbrev pub head_vars : RecordHead → List VarSyntax
+abbrev pub head_vars : Head → List VarSyntax
 head_vars h = map var_syntax h.vars.items.items
 
 abbrev pub read_fields : RecordPrefix → List FieldDeclSyntax
@@ -34,8 +33,7 @@ read_fields f = map field_decl_syntax f.fields.items.items
 
 -- a function up to its parameters
 abbrev pub start_in : FunctionPrefix → FunctionStart
-start_in f =
-    record { at = f.at; name = f.name; recursive = f.recursive; units = map var_syntax f.units.items.items }
+start_in f = record { at = f.head.at; name = f.head.name; recursive = f.recursive; units = head_vars f.head }
 
 abbrev pub read_params : FunctionPrefix → List ParamSyntax
 read_params f = map param_syntax f.params.items.items
@@ -47,28 +45,25 @@ view_measure measure.Close = AttributeClose
 view_measure measure.Type = MeasureType
 view_measure measure.Name = MeasureName
 
--- whose unit parameters are read, and those that were read
+-- whose unit parameters are read
 abbrev pub owner_in : Owner → ℕ → List ℕ → VarOwner
 owner_in owner.Record at x = OfRecord at x
 owner_in (owner.Function recursive) at x = OfFunction recursive at x
 
-abbrev pub read_vars : VarsPrefix → List VarSyntax
-read_vars v = map var_syntax v.vars.items.items
-
-abbrev pub view_var : VarsPrefix → VarExpected → DeclExpected
-view_var v var.Begin = VarBegin (owner_in v.owner v.at v.name) (read_vars v)
-view_var v var.Word = VarWord (owner_in v.owner v.at v.name) (read_vars v)
-view_var v var.Greater = VarGreater (owner_in v.owner v.at v.name) (read_vars v)
-view_var v var.Close = VarClose (owner_in v.owner v.at v.name) (read_vars v)
-view_var v var.Name = VarName (owner_in v.owner v.at v.name) (read_vars v)
-view_var v var.End = VarEnd (owner_in v.owner v.at v.name) (read_vars v)
+abbrev pub view_var : Owner → Head → VarExpected → DeclExpected
+view_var o h var.Begin = VarBegin (owner_in o h.at h.name) (head_vars h)
+view_var o h var.Word = VarWord (owner_in o h.at h.name) (head_vars h)
+view_var o h var.Greater = VarGreater (owner_in o h.at h.name) (head_vars h)
+view_var o h var.Close = VarClose (owner_in o h.at h.name) (head_vars h)
+view_var o h var.Name = VarName (owner_in o h.at h.name) (head_vars h)
+view_var o h var.End = VarEnd (owner_in o h.at h.name) (head_vars h)
 
 abbrev pub view_expected : ExpectedToken → DeclExpected
 view_expected expected.Begin = DeclBegin
 view_expected (expected.Measure m) = view_measure m
 view_expected expected.RecordName = RecordName
 view_expected (expected.RecordVars at x) = RecordVars at x
-view_expected (expected.Var p v) = view_var p v
+view_expected (expected.Var o h v) = view_var o h v
 view_expected (expected.RecordEqual h) = RecordEqual h.at h.name (head_vars h)
 view_expected (expected.RecordBrace h) = RecordBrace h.at h.name (head_vars h)
 view_expected (expected.FieldName f) =

@@ -9,6 +9,7 @@ pub mod Laws
 pub mod DeclMachine
 pub mod DeclViews
 pub mod DeclTakes
+pub mod DeclTokens
 pub mod ProgramLeast
 pub mod ProgramNodes
 pub mod LimitsPassed

@@ -4,17 +4,16 @@ ghost use Rattle.um_tree.specs.RawTree.{binder_syntax, type_syntax};
 ghost use Rattle.um_types.specs.TypeHeights.{whole_height};
 ghost use Rattle.um_types.specs.UnitStops.{greatest_height};
 ghost use Rattle.um_parse.specs.DeclMachine.{LetName, RecName, FunctionVars, ParamBinder, ParamColon, started, take_expected, take_params, body_begins, param_ends, result_ends, with_param};
-ghost use Rattle.um_parse.specs.DeclViews.{start_in, read_params, reached};
+ghost use Rattle.um_parse.specs.DeclViews.{head_vars, start_in, read_params, reached};
 
 use crate::decl_measure::refuse;
 use crate::decl_prefix::{
-    DeclExpected, FunctionHead, FunctionPrefix, Next, Owner, VarExpected, in_box,
+    DeclExpected, FunctionHead, FunctionPrefix, Head, Next, Owner, VarExpected,
 };
-use crate::decl_vars::vars_begin;
 use std::alloc::{AllocError, Global};
 use um_expr::{ExprToken, Infix};
 use um_syntax::{Keyword, Symbol};
-use um_tree::{Binder, Name, RawParam, RawParams, RawType, RawVars, Sign};
+use um_tree::{Binder, Name, RawParam, RawType, Sign};
 
 /// The token behind `let`.
 pub fn let_name(kind: ExprToken, p: u32) -> Option<Next>
@@ -37,26 +36,6 @@ pub fn rec_name(kind: ExprToken, p: u32) -> Option<Next>
     }
 }
 
-// A function without unit parameters, behind its name, at its place.
-fn plain_start(alloc: Global, recursive: bool, at: u32, name: Name) -> FunctionPrefix
-    ensures start { start_in result ≡ started recursive at name [] }
-    ensures params { read_params result ≡ [] }
-{
-    let units = RawVars {
-        items: Vec::new(alloc),
-    };
-    let params = RawParams {
-        items: Vec::new(alloc),
-    };
-    FunctionPrefix {
-        recursive,
-        at,
-        name,
-        units,
-        params,
-    }
-}
-
 /// The token behind the name of a function, at its place.
 pub fn function_vars(
     alloc: Global,
@@ -70,22 +49,24 @@ pub fn function_vars(
 {
     match kind {
         ExprToken::Operator(Infix::Compare(Sign::Lt)) => {
-            let prefix = vars_begin(alloc, Owner::Function(recursive), at, name);
-            Ok(Some(Next::At(DeclExpected::Var(prefix, VarExpected::Begin))))
+            let owner = Owner::Function(recursive);
+            let head = Head::plain(alloc, at, name);
+            Ok(Some(Next::At(DeclExpected::Var(owner, head, VarExpected::Begin))))
         }
-        other => params_begin(alloc, plain_start(alloc, recursive, at, name), other),
+        other => params_begin(alloc, recursive, Head::plain(alloc, at, name), other),
     }
 }
 
 // The token behind the name of a function without unit parameters.
 fn params_begin(
     alloc: Global,
-    prefix: FunctionPrefix,
+    recursive: bool,
+    head: Head,
     kind: ExprToken,
 ) -> Result<Option<Next>, AllocError>
-    ensures { IfOk result (λ o. reached o ≡ take_params (start_in prefix) (read_params prefix) kind) }
+    ensures { IfOk result (λ o. reached o ≡ take_params (started recursive head.at head.name (head_vars head)) [] kind) }
 {
-    match in_box(alloc, prefix) {
+    match FunctionPrefix::plain(alloc, recursive, head) {
         Ok(prefix) => Ok(take_params(prefix, kind)),
         Err(error) => {
             drop(kind);
@@ -156,34 +137,26 @@ pub fn param_colon(
 
 // The function with a parameter more.
 fn with_param(
-    prefix: FunctionPrefix,
+    prefix: Box<FunctionPrefix>,
     binder: Binder,
     ty: RawType,
-) -> Result<FunctionPrefix, AllocError>
+) -> Result<Box<FunctionPrefix>, AllocError>
     requires { whole_height (type_syntax ty) ≤ greatest_height }
-    ensures start { IfOk result (λ f. start_in f ≡ start_in prefix) }
-    ensures params { IfOk result (λ f. read_params f ≡ with_param (read_params prefix) (binder_syntax binder) (type_syntax ty)) }
+    ensures start { IfOk result (λ f. start_in f.value ≡ start_in prefix.value) }
+    ensures params { IfOk result (λ f. read_params f.value ≡ with_param (read_params prefix.value) (binder_syntax binder) (type_syntax ty)) }
 {
-    let FunctionPrefix {
-        recursive,
-        at,
-        name,
-        units,
-        mut params,
-    } = prefix;
-    params.items.push(RawParam { binder, ty })?;
-    Ok(FunctionPrefix {
-        recursive,
-        at,
-        name,
-        units,
-        params,
-    })
+    let mut prefix = prefix;
+    match prefix.params.items.push(RawParam { binder, ty }) {
+        Ok(()) => Ok(prefix),
+        Err(refused) => {
+            drop(prefix);
+            Err(AllocError::from(refused))
+        }
+    }
 }
 
 // The token behind the type of a parameter.
 fn param_typed(
-    alloc: Global,
     prefix: Box<FunctionPrefix>,
     binder: Binder,
     ty: RawType,
@@ -194,8 +167,7 @@ fn param_typed(
 {
     match kind {
         ExprToken::Mark(Symbol::RightParen) => {
-            let prefix = with_param(Box::into_inner(prefix), binder, ty)?;
-            let prefix = in_box(alloc, prefix)?;
+            let prefix = with_param(prefix, binder, ty)?;
             Ok(Some(Next::At(DeclExpected::Params(prefix))))
         }
         other => Ok(refuse(other)),
@@ -204,7 +176,6 @@ fn param_typed(
 
 /// The token that the type of a parameter has refused, behind the type before it, if one stands there.
 pub fn param_ends(
-    alloc: Global,
     prefix: Box<FunctionPrefix>,
     binder: Binder,
     found: Option<RawType>,
@@ -214,7 +185,7 @@ pub fn param_ends(
     ensures { IfOk result (λ o. reached o ≡ param_ends (start_in prefix.value) (read_params prefix.value) (binder_syntax binder) (option_map type_syntax found) kind) }
 {
     match found {
-        Some(ty) => param_typed(alloc, prefix, binder, ty, kind),
+        Some(ty) => param_typed(prefix, binder, ty, kind),
         None => Ok(refuse(kind)),
     }
 }

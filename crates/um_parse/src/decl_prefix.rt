@@ -8,18 +8,35 @@ ghost use Rattle.um_parse.specs.ProgramHeights.{fields_height, params_height, re
 use std::alloc::{AllocError, Global};
 use um_tree::{Binder, Name, RawFieldDecls, RawParams, RawType, RawVars};
 
-/// A record's name, at its place, and the unit parameters that were read.
+/// The name of a record or a function, at its place, and the unit parameters that were read.
 #[derive(Drop)]
-pub struct RecordHead {
+pub struct Head {
     pub at: u32,
     pub name: Name,
     pub vars: RawVars,
 }
 
+impl Head {
+    ghost use Rattle.std.specs.Prelude.{[]};
+    ghost use Rattle.um_parse.specs.DeclViews.{head_vars};
+
+    /// No unit parameters were read.
+    pub fn plain(alloc: Global, at: u32, name: Name) -> Head
+        ensures at { result.at ≡ at }
+        ensures name { result.name ≡ name }
+        ensures vars { head_vars result ≡ [] }
+    {
+        let vars = RawVars {
+            items: Vec::new(alloc),
+        };
+        Head { at, name, vars }
+    }
+}
+
 /// A record with the fields that were read. No text in them is too high.
 #[derive(Drop)]
 pub struct RecordPrefix {
-    pub head: RecordHead,
+    pub head: Head,
     pub fields: RawFieldDecls,
     ghost low: { fields_height (map field_decl_syntax fields.items.items) ≤ greatest_height },
 }
@@ -31,24 +48,39 @@ pub enum Owner {
     Function(bool),
 }
 
-/// The name of a record or a function, at its place, and the unit parameters that were read.
-#[derive(Drop)]
-pub struct VarsPrefix {
-    pub owner: Owner,
-    pub at: u32,
-    pub name: Name,
-    pub vars: RawVars,
-}
-
-/// A function's name, at its place, its unit parameters, and the parameters that were read. No text in them is too high.
+/// A function, with `rec` or not, and the parameters that were read. No text in them is too high.
 #[derive(Drop)]
 pub struct FunctionPrefix {
     pub recursive: bool,
-    pub at: u32,
-    pub name: Name,
-    pub units: RawVars,
+    pub head: Head,
     pub params: RawParams,
     ghost low: { params_height (map param_syntax params.items.items) ≤ greatest_height },
+}
+
+impl FunctionPrefix {
+    ghost use Rattle.std.specs.Prelude.{[]};
+    ghost use Rattle.um_parse.specs.DeclMachine.{started};
+    ghost use Rattle.um_parse.specs.DeclViews.{head_vars, start_in, read_params};
+
+    /// No parameters were read, in a box.
+    pub fn plain(
+        alloc: Global,
+        recursive: bool,
+        head: Head,
+    ) -> Result<Box<FunctionPrefix>, AllocError>
+        ensures start { IfOk result (λ f. start_in f.value ≡ started recursive head.at head.name (head_vars head)) }
+        ensures params { IfOk result (λ f. read_params f.value ≡ []) }
+    {
+        let params = RawParams {
+            items: Vec::new(alloc),
+        };
+        let prefix = FunctionPrefix {
+            recursive,
+            head,
+            params,
+        };
+        in_box(alloc, prefix)
+    }
 }
 
 /// A function up to its `=`, with its result type, if it has one, not too high.
@@ -90,10 +122,10 @@ pub enum DeclExpected {
     /// Behind `type`; behind the name, at its place
     RecordName,
     RecordVars(u32, Name),
-    Var(VarsPrefix, VarExpected),
+    Var(Owner, Head, VarExpected),
     /// Behind the parameters; `=`; `{` or `;` and these fields; a field's name, at its place
-    RecordEqual(RecordHead),
-    RecordBrace(RecordHead),
+    RecordEqual(Head),
+    RecordBrace(Head),
     FieldName(Box<RecordPrefix>),
     FieldColon(Box<RecordPrefix>, u32, Name),
     /// Behind `let`; `rec`; the name, at its place; the unit parameters and these parameters; `(`; the binder

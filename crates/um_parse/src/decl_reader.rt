@@ -4,16 +4,12 @@ ghost use Rattle.um_tree.specs.RawTree.{unit_syntax, expr_syntax, decl_syntax, r
 ghost use Rattle.um_reader.specs.Takes.{Gives, Takes};
 ghost use Rattle.um_types.specs.UnitStops.{greatest_height};
 ghost use Rattle.um_types.specs.UnitMachine.{Need};
-ghost use Rattle.um_types.specs.UnitLeast.{machine_of_units};
-ghost use Rattle.um_types.specs.UnitView.{unit_state};
-ghost use Rattle.um_types.specs.TypeMachine.{type_least, machine_of_types};
-ghost use Rattle.um_types.specs.TypeView.{type_state};
-ghost use Rattle.um_expr.specs.ExprStates.{expr_state};
-ghost use Rattle.um_expr.specs.ExprLeast.{whole_least, machine_of_expressions};
+ghost use Rattle.um_expr.specs.ExprTokens.{expr_token};
 ghost use Rattle.um_parse.specs.DeclMachine.{Expects, DeclBegin, HaveBase, InShort, NoDecl, take_expected, base_after, short_found, body_found, own_step, decl_finish, at_start};
 ghost use Rattle.um_parse.specs.ProgramLeast.{decl_least, machine_of_declarations};
 ghost use Rattle.um_parse.specs.DeclViews.{head_vars, read_fields, start_in, read_params, view_expected, next_state, reached};
 ghost use Rattle.um_parse.specs.DeclTakes.{reader_state, IsLow};
+ghost use Rattle.um_parse.specs.DeclTokens.{BeginsAlike, IfStops};
 ghost use Rattle.um_parse.specs.declared.decl_prefix.Next.TheVariants as next;
 
 use crate::decl_function::{
@@ -25,6 +21,7 @@ use crate::decl_prefix::{DeclExpected, FunctionHead, FunctionPrefix, Next, Recor
 use crate::decl_record::{
     field_colon, field_ends, field_name, record_brace, record_equal, record_name, record_vars,
 };
+use crate::decl_token::{kind_of, take_in_body, take_in_type, take_in_unit};
 use crate::decl_vars::take_var;
 use std::alloc::{AllocError, Global};
 use std::mem;
@@ -144,7 +141,7 @@ fn next_at(
         DeclExpected::Measure(expected) => Ok(take_measure(expected, kind, p)),
         DeclExpected::RecordName => Ok(record_name(kind, p)),
         DeclExpected::RecordVars(at, name) => Ok(record_vars(alloc, at, name, kind, p)),
-        DeclExpected::Var(prefix, expected) => take_var(alloc, prefix, expected, kind, p),
+        DeclExpected::Var(owner, head, expected) => take_var(alloc, owner, head, expected, kind, p),
         DeclExpected::RecordEqual(head) => Ok(record_equal(head, kind, p)),
         DeclExpected::RecordBrace(head) => record_brace(alloc, head, kind, p),
         DeclExpected::FieldName(prefix) => Ok(field_name(prefix, kind, p)),
@@ -181,16 +178,14 @@ fn body_found(head: FunctionHead, found: Option<RawExpr>) -> Option<RawDecl>
     let FunctionHead { prefix, result } = head;
     let FunctionPrefix {
         recursive,
-        at,
-        name,
-        units,
+        head,
         params,
     } = Box::into_inner(prefix);
     Some(RawDecl::Function(RawFunction {
-        at,
-        name,
+        at: head.at,
+        name: head.name,
         recursive,
-        units,
+        units: head.vars,
         params,
         result,
         body,
@@ -213,37 +208,6 @@ fn unfinished(reader: DeclReader) -> Option<RawDecl>
     None
 }
 
-// One token more of a body.
-fn take_in_body(
-    body: &mut Box<ExprReader>,
-    alloc: Global,
-    token: &Token,
-) -> Result<Taken, AllocError>
-    requires low { whole_least (expr_state body.old.value) ≤ greatest_height }
-    ensures { IfOk result (λ t. Takes machine_of_expressions greatest_height (expr_state body.old.value) token.now t (expr_state body.new.value)) }
-{
-    body.take(alloc, token)
-}
-
-// One token more of a type.
-fn take_in_type(ty: &mut Box<TypeReader>, alloc: Global, token: &Token) -> Result<Taken, AllocError>
-    requires low { type_least (type_state ty.old.value) ≤ greatest_height }
-    ensures { IfOk result (λ t. Takes machine_of_types greatest_height (type_state ty.old.value) token.now t (type_state ty.new.value)) }
-{
-    ty.take(alloc, token)
-}
-
-// One token more of a unit text.
-fn take_in_unit(
-    unit: &mut Box<UnitReader>,
-    alloc: Global,
-    token: &Token,
-) -> Result<Taken, AllocError>
-    ensures { IfOk result (λ t. Takes machine_of_units greatest_height (unit_state unit.old.value) token.now t (unit_state unit.new.value)) }
-{
-    unit.take(alloc, token)
-}
-
 impl DeclReader {
     /// No token was read yet.
     pub fn new() -> DeclReader
@@ -262,17 +226,21 @@ impl DeclReader {
         }
     }
 
-    /// One token more.
-    pub fn take(&mut self, alloc: Global, token: &Token) -> Result<Taken, AllocError>
+    /// One token more. Where it is refused, what is left of it begins a declaration as it does.
+    pub fn take(&mut self, alloc: Global, token: &mut Token) -> Result<Taken, AllocError>
         requires low { decl_least (reader_state self.old) ≤ greatest_height }
-        ensures taken { IfOk result (λ t. Takes machine_of_declarations greatest_height (reader_state self.old) token.now t (reader_state self.new)) }
+        ensures taken { IfOk result (λ t. Takes machine_of_declarations greatest_height (reader_state self.old) token.old t (reader_state self.new)) }
+        ensures kept { IfOk result (λ t. IfStops t (BeginsAlike token.new token.old)) }
     {
         match self {
             DeclReader::Body(_, body) => take_in_body(body, alloc, token),
             DeclReader::Short(_, _, unit) => take_in_unit(unit, alloc, token),
             DeclReader::Nothing => Ok(Taken::Stops),
             DeclReader::Record(_) => Ok(Taken::Stops),
-            DeclReader::At(_) => self.take_own(alloc, token),
+            DeclReader::At(expected) => {
+                let expected = mem::replace(expected, DeclExpected::LetName);
+                self.take_at(alloc, expected, token)
+            }
             DeclReader::Base(_, _) => self.take_own(alloc, token),
             DeclReader::Field(_, _, _, ty) => match take_in_type(ty, alloc, token)? {
                 Taken::Goes => Ok(Taken::Goes),
@@ -292,39 +260,49 @@ impl DeclReader {
         }
     }
 
-    // One token more, which what is read inside has refused, if anything is.
+    // The token at a place inside a run of tokens that is fixed.
     #[inline(never)]
-    fn take_own(&mut self, alloc: Global, token: &Token) -> Result<Taken, AllocError>
-        requires low { IsLow (reader_state self.old) }
-        ensures { IfOk result (λ t. Gives machine_of_declarations greatest_height (reader_state self.old) (own_step (reader_state self.old) token.now) t (reader_state self.new)) }
+    fn take_at(
+        &mut self,
+        alloc: Global,
+        expected: DeclExpected,
+        token: &mut Token,
+    ) -> Result<Taken, AllocError>
+        requires nothing { decl_finish (reader_state self.old) ≡ None }
+        ensures taken { IfOk result (λ t. Gives machine_of_declarations greatest_height NoDecl (take_expected (view_expected expected) (expr_token token.old.kind) token.old.start) t (reader_state self.new)) }
+        ensures kept { BeginsAlike token.new token.old }
     {
-        let kind = ExprToken::of_kind(alloc, &token.kind)?;
+        let p = token.start;
+        let kind = kind_of(alloc, token);
+        let next = next_at(alloc, expected, kind, p)?;
+        self.follow(alloc, next)
+    }
+
+    // The token behind the name of a measure, or the token that a type has refused.
+    #[inline(never)]
+    fn take_own(&mut self, alloc: Global, token: &mut Token) -> Result<Taken, AllocError>
+        requires low { IsLow (reader_state self.old) }
+        ensures taken { IfOk result (λ t. Gives machine_of_declarations greatest_height (reader_state self.old) (own_step (reader_state self.old) token.old) t (reader_state self.new)) }
+        ensures kept { BeginsAlike token.new token.old }
+    {
+        let kind = kind_of(alloc, token);
         match mem::replace(self, DeclReader::Nothing) {
-            DeclReader::At(expected) => {
-                let next = next_at(alloc, expected, kind, token.start)?;
-                self.follow(alloc, next)
-            }
             DeclReader::Base(at, name) => self.behind_base(alloc, at, name, kind),
             DeclReader::Field(prefix, at, name, ty) => {
                 let found = Box::into_inner(ty).finish();
-                let next = field_ends(alloc, prefix, at, name, found, kind)?;
+                let next = field_ends(prefix, at, name, found, kind)?;
                 self.follow(alloc, next)
             }
             DeclReader::Param(prefix, binder, ty) => {
                 let found = Box::into_inner(ty).finish();
-                let next = param_ends(alloc, prefix, binder, found, kind)?;
+                let next = param_ends(prefix, binder, found, kind)?;
                 self.follow(alloc, next)
             }
             DeclReader::Result(prefix, ty) => {
                 let next = result_ends(prefix, Box::into_inner(ty).finish(), kind);
                 self.follow(alloc, next)
             }
-            DeclReader::Nothing => Ok(self.stay(DeclReader::Nothing, kind)),
-            DeclReader::Short(at, name, unit) => {
-                Ok(self.stay(DeclReader::Short(at, name, unit), kind))
-            }
-            DeclReader::Record(prefix) => Ok(self.stay(DeclReader::Record(prefix), kind)),
-            DeclReader::Body(head, body) => Ok(self.stay(DeclReader::Body(head, body), kind)),
+            other => Ok(self.stay(other, kind)),
         }
     }
 
@@ -346,7 +324,7 @@ impl DeclReader {
 
     // What follows is read, or the token is refused, where nothing ends.
     fn follow(&mut self, alloc: Global, next: Option<Next>) -> Result<Taken, AllocError>
-        requires nothing { reader_state self.old ≡ NoDecl }
+        requires nothing { decl_finish (reader_state self.old) ≡ None }
         ensures { IfOk result (λ t. Gives machine_of_declarations greatest_height NoDecl (reached next) t (reader_state self.new)) }
     {
         match next {
@@ -405,15 +383,7 @@ impl DeclReader {
             DeclReader::Body(head, body) => {
                 Ok(body_found(head, Box::into_inner(body).finish(alloc)?))
             }
-            DeclReader::Nothing => Ok(None),
-            DeclReader::At(expected) => Ok(unfinished(DeclReader::At(expected))),
-            DeclReader::Field(prefix, at, name, ty) => {
-                Ok(unfinished(DeclReader::Field(prefix, at, name, ty)))
-            }
-            DeclReader::Param(prefix, binder, ty) => {
-                Ok(unfinished(DeclReader::Param(prefix, binder, ty)))
-            }
-            DeclReader::Result(prefix, ty) => Ok(unfinished(DeclReader::Result(prefix, ty))),
+            other => Ok(unfinished(other)),
         }
     }
 }

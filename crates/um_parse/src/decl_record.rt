@@ -1,5 +1,5 @@
 // The tokens of a record outside its types.
-ghost use Rattle.std.specs.Prelude.{◌≡◌, ◌≤◌, [], IfOk, IfSome, Some, option_map};
+ghost use Rattle.std.specs.Prelude.{◌≡◌, ◌≤◌, IfOk, IfSome, Some, option_map};
 ghost use Rattle.um_tree.specs.RawTree.{type_syntax};
 ghost use Rattle.um_types.specs.TypeHeights.{whole_height};
 ghost use Rattle.um_types.specs.UnitStops.{greatest_height};
@@ -7,26 +7,11 @@ ghost use Rattle.um_parse.specs.DeclMachine.{RecordName, RecordVars, RecordEqual
 ghost use Rattle.um_parse.specs.DeclViews.{head_vars, read_fields, reached};
 
 use crate::decl_measure::refuse;
-use crate::decl_prefix::{
-    DeclExpected, Next, Owner, RecordHead, RecordPrefix, VarExpected, in_box,
-};
-use crate::decl_vars::vars_begin;
+use crate::decl_prefix::{DeclExpected, Head, Next, Owner, RecordPrefix, VarExpected, in_box};
 use std::alloc::{AllocError, Global};
 use um_expr::{ExprToken, Infix};
 use um_syntax::Symbol;
-use um_tree::{Name, RawFieldDecl, RawFieldDecls, RawType, RawVars, Sign};
-
-// A record without unit parameters.
-fn plain_head(alloc: Global, at: u32, name: Name) -> RecordHead
-    ensures at { result.at ≡ at }
-    ensures name { result.name ≡ name }
-    ensures vars { head_vars result ≡ [] }
-{
-    let vars = RawVars {
-        items: Vec::new(alloc),
-    };
-    RecordHead { at, name, vars }
-}
+use um_tree::{Name, RawFieldDecl, RawFieldDecls, RawType, Sign};
 
 /// The token behind `type`.
 pub fn record_name(kind: ExprToken, p: u32) -> Option<Next>
@@ -44,11 +29,11 @@ pub fn record_vars(alloc: Global, at: u32, name: Name, kind: ExprToken, p: u32) 
 {
     match kind {
         ExprToken::Operator(Infix::Compare(Sign::Lt)) => {
-            let prefix = vars_begin(alloc, Owner::Record, at, name);
-            Some(Next::At(DeclExpected::Var(prefix, VarExpected::Begin)))
+            let head = Head::plain(alloc, at, name);
+            Some(Next::At(DeclExpected::Var(Owner::Record, head, VarExpected::Begin)))
         }
         ExprToken::Operator(Infix::Compare(Sign::Eq)) => {
-            let head = plain_head(alloc, at, name);
+            let head = Head::plain(alloc, at, name);
             Some(Next::At(DeclExpected::RecordBrace(head)))
         }
         other => refuse(other),
@@ -56,7 +41,7 @@ pub fn record_vars(alloc: Global, at: u32, name: Name, kind: ExprToken, p: u32) 
 }
 
 /// The token behind the unit parameters of a record.
-pub fn record_equal(head: RecordHead, kind: ExprToken, p: u32) -> Option<Next>
+pub fn record_equal(head: Head, kind: ExprToken, p: u32) -> Option<Next>
     ensures { reached result ≡ take_expected (RecordEqual head.at head.name (head_vars head)) kind p }
 {
     match kind {
@@ -70,7 +55,7 @@ pub fn record_equal(head: RecordHead, kind: ExprToken, p: u32) -> Option<Next>
 /// The token behind the `=` of a record.
 pub fn record_brace(
     alloc: Global,
-    head: RecordHead,
+    head: Head,
     kind: ExprToken,
     p: u32,
 ) -> Result<Option<Next>, AllocError>
@@ -116,23 +101,27 @@ pub fn field_colon(
 
 // The record with a field more.
 fn with_field(
-    prefix: RecordPrefix,
+    prefix: Box<RecordPrefix>,
     at: u32,
     name: Name,
     ty: RawType,
-) -> Result<RecordPrefix, AllocError>
+) -> Result<Box<RecordPrefix>, AllocError>
     requires { whole_height (type_syntax ty) ≤ greatest_height }
-    ensures head { IfOk result (λ f. f.head ≡ prefix.head) }
-    ensures fields { IfOk result (λ f. read_fields f ≡ with_field_decl (read_fields prefix) at name (type_syntax ty)) }
+    ensures head { IfOk result (λ f. f.value.head ≡ prefix.value.head) }
+    ensures fields { IfOk result (λ f. read_fields f.value ≡ with_field_decl (read_fields prefix.value) at name (type_syntax ty)) }
 {
-    let RecordPrefix { head, mut fields } = prefix;
-    fields.items.push(RawFieldDecl { at, name, ty })?;
-    Ok(RecordPrefix { head, fields })
+    let mut prefix = prefix;
+    match prefix.fields.items.push(RawFieldDecl { at, name, ty }) {
+        Ok(()) => Ok(prefix),
+        Err(refused) => {
+            drop(prefix);
+            Err(AllocError::from(refused))
+        }
+    }
 }
 
 // The token behind the type of a field.
 fn field_typed(
-    alloc: Global,
     prefix: Box<RecordPrefix>,
     at: u32,
     name: Name,
@@ -144,13 +133,11 @@ fn field_typed(
 {
     match kind {
         ExprToken::Mark(Symbol::Semicolon) => {
-            let prefix = with_field(Box::into_inner(prefix), at, name, ty)?;
-            let prefix = in_box(alloc, prefix)?;
+            let prefix = with_field(prefix, at, name, ty)?;
             Ok(Some(Next::At(DeclExpected::FieldName(prefix))))
         }
         ExprToken::Mark(Symbol::RightBrace) => {
-            let prefix = with_field(Box::into_inner(prefix), at, name, ty)?;
-            let prefix = in_box(alloc, prefix)?;
+            let prefix = with_field(prefix, at, name, ty)?;
             Ok(Some(Next::Record(prefix)))
         }
         other => Ok(refuse(other)),
@@ -159,7 +146,6 @@ fn field_typed(
 
 /// The token that the type of a field has refused, behind the type before it, if one stands there.
 pub fn field_ends(
-    alloc: Global,
     prefix: Box<RecordPrefix>,
     at: u32,
     name: Name,
@@ -170,7 +156,7 @@ pub fn field_ends(
     ensures { IfOk result (λ o. reached o ≡ field_ends prefix.value.head.at prefix.value.head.name (head_vars prefix.value.head) (read_fields prefix.value) at name (option_map type_syntax found) kind) }
 {
     match found {
-        Some(ty) => field_typed(alloc, prefix, at, name, ty, kind),
+        Some(ty) => field_typed(prefix, at, name, ty, kind),
         None => Ok(refuse(kind)),
     }
 }

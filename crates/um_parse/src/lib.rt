@@ -11,6 +11,7 @@ mod decl_measure;
 mod decl_prefix;
 mod decl_reader;
 mod decl_record;
+mod decl_token;
 mod decl_vars;
 pub mod laws;
 mod limits;

@@ -77,12 +77,13 @@ pub fn parse(alloc: Global, tokens: &[Token], end: u32) -> Result<RawProgram, Pa
     }
 }
 
-// One token more, which is let go then: its memory serves the names of the tree.
+// One token more. What is left of it is let go.
 fn take_token(reader: &mut ProgramReader, alloc: Global, token: Token) -> Result<Taken, AllocError>
     requires low { program_least (program_state reader.old) ≤ greatest_height }
     ensures { IfOk result (λ t. Takes machine_of_programs greatest_height (program_state reader.old) token t (program_state reader.new)) }
 {
-    let taken = reader.take(alloc, &token);
+    let mut token = token;
+    let taken = reader.take(alloc, &mut token);
     drop(token);
     taken
 }
@@ -120,8 +121,8 @@ fn read_tokens(alloc: Global, tokens: Tokens, end: u32) -> Result<RawProgram, Pa
     }
 }
 
-/// The program that the tokens are, as [`parse`] gives it, and with its errors. The tokens are handed over: each is let go
-/// once it was read, so that its memory serves the program.
+/// The program that the tokens are, as [`parse`] gives it, and with its errors. The tokens are handed over: a name moves from
+/// its token to the program, and each token is let go once it was read.
 pub fn parse_tokens(alloc: Global, tokens: Tokens, end: u32) -> Result<RawProgram, ParseStop>
     requires text { length tokens ≤ end }
     ensures parsed { Parsed tokens end result }

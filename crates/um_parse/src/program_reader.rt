@@ -45,10 +45,10 @@ impl ProgramReader {
     ghost use Rattle.um_parse.specs.DeclTakes.{reader_state, program_state};
 
     // The first token of a declaration.
-    fn begin(&mut self, alloc: Global, token: &Token) -> Result<Taken, AllocError>
+    fn begin(&mut self, alloc: Global, token: &mut Token) -> Result<Taken, AllocError>
         requires start { at_start (reader_state self.old.last) ≡ true }
         requires low { program_least (program_state self.old) ≤ greatest_height }
-        ensures { IfOk result (λ t. Takes machine_of_programs greatest_height (program_state self.old) token.now t (program_state self.new)) }
+        ensures { IfOk result (λ t. Takes machine_of_programs greatest_height (program_state self.old) token.old t (program_state self.new)) }
     {
         match self.last.take(alloc, token)? {
             Taken::Goes => Ok(Taken::Goes),
@@ -62,10 +62,10 @@ impl ProgramReader {
 
     // The token that the last declaration has refused: the next begins with it, if that one is whole.
     #[inline(never)]
-    fn next_decl(&mut self, alloc: Global, token: &Token) -> Result<Taken, AllocError>
+    fn next_decl(&mut self, alloc: Global, token: &mut Token) -> Result<Taken, AllocError>
         requires decls { program_height (map decl_syntax self.old.decls.items) ≤ greatest_height }
         requires last { (d : DeclSyntax) → decl_finish (reader_state self.old.last) ≡ Some d → decl_height d ≤ greatest_height }
-        ensures { IfOk result (λ t. (old : ProgramState) → program_finish old ≡ program_found (map decl_syntax self.old.decls.items) (decl_finish (reader_state self.old.last)) → Gives machine_of_programs greatest_height old (next_decl (map decl_syntax self.old.decls.items) (decl_finish (reader_state self.old.last)) (decl_step (Expects DeclBegin) token.now)) t (program_state self.new)) }
+        ensures { IfOk result (λ t. (old : ProgramState) → program_finish old ≡ program_found (map decl_syntax self.old.decls.items) (decl_finish (reader_state self.old.last)) → Gives machine_of_programs greatest_height old (next_decl (map decl_syntax self.old.decls.items) (decl_finish (reader_state self.old.last)) (decl_step (Expects DeclBegin) token.old)) t (program_state self.new)) }
     {
         let last = mem::replace(&mut self.last, DeclReader::new());
         match last.finish(alloc)? {
@@ -118,9 +118,9 @@ impl Reader for ProgramReader {
         }
     }
 
-    fn take(&mut self, alloc: Global, token: &Token) -> Result<Taken, AllocError>
+    fn take(&mut self, alloc: Global, token: &mut Token) -> Result<Taken, AllocError>
         requires low { program_least (program_state self.old) ≤ greatest_height }
-        ensures taken { IfOk result (λ t. Takes machine_of_programs greatest_height (program_state self.old) token.now t (program_state self.new)) }
+        ensures taken { IfOk result (λ t. Takes machine_of_programs greatest_height (program_state self.old) token.old t (program_state self.new)) }
     {
         if self.last.is_at_start() {
             return self.begin(alloc, token);
@@ -130,6 +130,10 @@ impl Reader for ProgramReader {
             Taken::Stops => self.next_decl(alloc, token),
             Taken::High => Ok(Taken::High),
         }
+    }
+
+    fn copy(alloc: Global, token: &Token) -> Result<Token, AllocError> {
+        token.copy(alloc)
     }
 
     fn finish(self, alloc: Global) -> Result<Option<RawProgram>, AllocError>

@@ -1,17 +1,8 @@
-use Rattle.std.proofs.Common.{map, ap, arith}
-use Rattle.um_tree.specs.RawTree.{param_syntax}
-use Rattle.um_parse.specs.ProgramHeights.{params_height}
-use Rattle.um_parse.proofs.DeclLists.{raw_params_last}
+use Rattle.std.proofs.Common.{is_ok}
+use Rattle.um_parse.proofs.DeclLists.{params_pushed}
 use Rattle.um_parse.proofs.decl_function.with_param.Goals as goal
 
-pub invariant_of-result : goal.invariant_of-result
-invariant_of-result c = record {
-  low =
-      omega (
-        arith,
-        c.requires,
-        c.args.prefix.low,
-        ap (λ ps. params_height (map param_syntax ps)) c.in_ok-push.ensures.items,
-        raw_params_last c.args.prefix.params.items.items (record { binder = c.args.binder; ty = c.args.ty }),
-      );
-}
+pub invariant_of-deref_mut : goal.invariant_of-deref_mut
+invariant_of-deref_mut c =
+    let old = c.deref_mut.result.now in
+    record { low = params_pushed (is_ok c.push.result) old.params.items.items c.push.new.self.items (record { binder = c.args.binder; ty = c.args.ty }) c.push.ensures.items old.low c.requires }

@@ -1,17 +1,8 @@
-use Rattle.std.proofs.Common.{map, ap, arith}
-use Rattle.um_tree.specs.RawTree.{field_decl_syntax}
-use Rattle.um_parse.specs.ProgramHeights.{fields_height}
-use Rattle.um_parse.proofs.DeclLists.{raw_fields_last}
+use Rattle.std.proofs.Common.{is_ok}
+use Rattle.um_parse.proofs.DeclLists.{fields_pushed}
 use Rattle.um_parse.proofs.decl_record.with_field.Goals as goal
 
-pub invariant_of-result : goal.invariant_of-result
-invariant_of-result c = record {
-  low =
-      omega (
-        arith,
-        c.requires,
-        c.args.prefix.low,
-        ap (λ fs. fields_height (map field_decl_syntax fs)) c.in_ok-push.ensures.items,
-        raw_fields_last c.args.prefix.fields.items.items (record { at = c.args.at; name = c.args.name; ty = c.args.ty }),
-      );
-}
+pub invariant_of-deref_mut : goal.invariant_of-deref_mut
+invariant_of-deref_mut c =
+    let old = c.deref_mut.result.now in
+    record { low = fields_pushed (is_ok c.push.result) old.fields.items.items c.push.new.self.items (record { at = c.args.at; name = c.args.name; ty = c.args.ty }) c.push.ensures.items old.low c.requires }
