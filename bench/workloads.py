@@ -79,6 +79,13 @@ def literals(count):
     return text + "[<Measure>] type A = %s\nlet k = [%s]\n" % (" ".join(measures), "; ".join(["1<A>"] * count))
 
 
+def readings(functions):
+    """Functions of 60 literals with written units."""
+    literals = "; ".join(["1.5<m>; 2<m>; 37<m>; 0.25<m>; 1200<m>"] * 12)
+    text = "[<Measure>] type m\n"
+    return text + "".join("let readings%04d = [%s]\n" % (number, literals) for number in range(functions))
+
+
 def nested(units):
     """Unit texts in as many brackets as may be."""
     unit = "(" * 399 + "m" + ")" * 399
@@ -104,14 +111,57 @@ let walk (n: num) = total (build n ([] : num list)) 0
 """
 
 
-Workload = namedtuple("Workload", "name words text sizes")
+def ocaml_small(functions):
+    """`small` in OCaml, without units."""
+    return "let f0 x = x *. 2.\n" + "".join("let f%d x = f%d x /. 3.\n" % (k, k - 1) for k in range(1, functions))
+
+
+def ocaml_products(functions):
+    """`products` in OCaml, without units."""
+    return products(functions).replace(" * ", " *. ").replace("(starting_speed: num<_>)", "starting_speed").replace(
+        "(elapsed_duration: num<_>)", "elapsed_duration")
+
+
+def ocaml_copies(count):
+    """The vehicle's model in OCaml, without units, so many times."""
+    return "".join("""type body{0} = {{ pos{0} : float; vel{0} : float }}
+let rec total{0} l = match l with [] -> 0. | x :: r -> x +. total{0} r
+let rec count{0} l = match l with [] -> 0. | _ :: r -> 1. +. count{0} r
+let mean{0} l = total{0} l /. count{0} l
+let kinetic{0} k v = k *. v *. v /. 2.
+let metres{0} d = d *. 0.3048
+let move{0} b t = {{ pos{0} = b.pos{0} +. b.vel{0} *. t; vel{0} = b.vel{0} }}
+""".format(k) for k in range(count))
+
+
+def lua_calls(_):
+    """`calls` in Lua."""
+    return """local function fib(n) if n < 2 then return n end return fib(n - 1) + fib(n - 2) end
+print(fib(tonumber(arg[1])))
+"""
+
+
+def lua_walks(_):
+    """`walks` in Lua, with lists of linked tables."""
+    return """local function build(n, l) while n >= 1 do l = { n, l } n = n - 1 end return l end
+local function total(l) local sum = 0 while l do sum = sum + l[1] l = l[2] end return sum end
+print(total(build(tonumber(arg[1]), nil)))
+"""
+
+
+# What a user has today for a part of the same work: a command, where {file} is the text and {size} the size, the end of
+# the file's name, and the text.
+Rival = namedtuple("Rival", "command suffix text")
+
+Workload = namedtuple("Workload", "name words text sizes rivals", defaults=((),))
 
 # A new command is a line here: its name in the table, the words, where {} stands for the size, the text, and a small
 # and a large size.
 WORKLOADS = [
-    Workload("copies of a model", "types", copies, (82, 330)),
-    Workload("functions of 25 products", "types", products, (475, 1900)),
-    Workload("small functions", "types", small, (500, 2000)),
+    Workload("copies of a model", "types", copies, (82, 330), (Rival("ocamlc -i {file}", ".ml", ocaml_copies),)),
+    Workload("functions of 25 products", "types", products, (475, 1900),
+             (Rival("ocamlc -i {file}", ".ml", ocaml_products),)),
+    Workload("small functions", "types", small, (500, 2000), (Rival("ocamlc -i {file}", ".ml", ocaml_small),)),
     Workload("wide records and functions", "types", wide, (100, 400)),
     Workload("a list of zeros", "types", zeros, (475, 1900)),
     Workload("a chain of 1,560 slots", "types", chain, (97, 390)),
@@ -121,8 +171,14 @@ WORKLOADS = [
     Workload("units in brackets", "fmt", nested, (20, 80)),
     Workload("one function of 20,000 nodes", "code", conditions, (499, 1999)),
     Workload("small functions", "code", small, (500, 2000)),
-    Workload("fib", "run 10000000 fib {}", calls, (24, 29)),
-    Workload("a list built and walked", "run 10000000 walk {}", walks, (50000, 200000)),
+    Workload("fib", "run 10000000 fib {}", calls, (24, 29), (Rival("lua {file} {size}", ".lua", lua_calls),)),
+    Workload("a list built and walked", "run 10000000 walk {}", walks, (50000, 200000),
+             (Rival("lua {file} {size}", ".lua", lua_walks),)),
+    Workload("literals with written units", "rescale m=100", readings, (550, 2000)),
+    Workload("copies of a model", "prove", copies, (82, 330)),
+    Workload("small functions", "prove", small, (500, 2000)),
+    Workload("functions of 25 products", "prove", products, (475, 1900)),
+    Workload("of so many functions", "big {}", lambda _: "", (500, 2000)),
     Workload("fib", "steps 10000000 fib {}", calls, (19, 24)),
     Workload("fib", "eval 10000000 fib {}", calls, (19, 24)),
     Workload("a list built and walked", "eval 10000000 walk {}", walks, (50000, 200000)),

@@ -8,6 +8,7 @@ ghost use Rattle.um_names.specs.Readable.{IsReadable};
 ghost use Rattle.um_names.specs.Resolution.{resolved_program};
 ghost use Rattle.um_infer.specs.Answers.{IsInferred, SaysOfTypings};
 
+use crate::certificates::schemes_are_certified;
 use std::alloc::Global;
 use std::process::Abort;
 use std::test::Fail;
@@ -220,6 +221,7 @@ fn schemes_are_found(rt: &(impl Abort + AllocGlobal), shaped: &Shaped) -> Result
     assert_text!(rt; text, "speed : num<'a> -> num<'a> -> num<'a/s>");
     let equations = rows(alloc, shaped, 1, &schemes)?;
     are_rows(rt, program, &equations.list.items, &[(230, "'a/'b")])?;
+    schemes_are_certified(rt, &equations, &schemes.items[1])?;
     call_is_typed(rt, shaped, &schemes)
 }
 

@@ -9,7 +9,8 @@ use Rattle.um_verify.specs.ImageTree.{HeadTree, Follow, Match}
 use Rattle.um_verify.specs.declared.image.Head.{Head}
 use Rattle.um_verify.specs.ImageTree.{head_tree}
 use Rattle.um_image.proofs.Names.{all_of}
-use Rattle.um_image.specs.Encoding.{long_bytes, op_bytes, own_ops, function_bytes, functions_bytes}
+use Rattle.um_image.specs.Encoding.{long_bytes, own_ops}
+use Rattle.um_image.specs.Pieces.{op_bytes, function_bytes, functions_bytes}
 
 module _ {A B : Type 0} (bytes : B → List ℕ) (tree : A → B) (xs : List A) where
   -- the bytes of the first k elements are added
@@ -73,7 +74,7 @@ match_lengths [] (x ∷ hs) h = absurd h
 match_lengths (e ∷ es) [] h = absurd h
 
 -- entries that follow each other end at the last address
-follow_up : (a z : ℕ) (es : List Entry) → Follow a es z → a ≤ z
+pub follow_up : (a z : ℕ) (es : List Entry) → Follow a es z → a ≤ z
 follow_up a z [] h = omega arith
 follow_up a z (e ∷ es) h = let l = follow_up e.end z es h.2 in let m = h.1 in omega arith
 

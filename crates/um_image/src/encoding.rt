@@ -7,8 +7,9 @@ ghost use Rattle.um_tree.specs.ProgramTree.{field_tree, record_tree};
 ghost use Rattle.um_tree.specs.Shapes.{type_shape};
 ghost use Rattle.um_machine.specs.declared.table.Operand.TheVariants.{Num};
 ghost use Rattle.um_verify.specs.ImageTree.{head_tree, image_tree, IsPlainField, IsPlainRecord, IsPlainHead, HasForm};
-ghost use Rattle.um_image.specs.Encoding.{four_bytes, long_bytes, name_bytes, shape_bytes, field_bytes, record_bytes, op_number, operand_bytes};
-ghost use Rattle.um_image.specs.Encoding.{op_bytes, function_bytes, functions_bytes, image_bytes};
+ghost use Rattle.um_image.specs.Encoding.{four_bytes, long_bytes, op_number, operand_bytes, image_bytes};
+ghost use Rattle.um_image.specs.Pieces.{name_bytes, shape_bytes, field_bytes, record_bytes, op_bytes};
+ghost use Rattle.um_image.specs.Pieces.{function_bytes, functions_bytes, added_bytes};
 
 use std::alloc::{AllocError, Global};
 use um_frac::Frac;
@@ -19,14 +20,22 @@ use um_verify::{Head, Image};
 
 /// The bytes of the image: `UMI1`, its records and its functions, each behind its count.
 ///
-/// A name stands behind its length. A shape is 0 for `bool`, 1 for `num`, 2 and the shape of its items for a list, 3 and
-/// its number for a record. An instruction is its number, and its operands. Numbers have four bytes, the most significant
-/// first; a fraction has two of eight, and a truth value is a byte.
+/// A name stands behind its length. A shape is 0 for `bool`, 1 for `num`, 2 and the shape of its items for a list, and
+/// 3 and its number for a record. An instruction is its number, and its operands. Numbers have four bytes, the most
+/// significant first; a fraction has two of eight, and a truth value is a byte.
 ///
 /// `NoMemory` is its one error. The form is this project's own.
 pub fn encode(alloc: Global, image: &Image) -> Result<Vec<u8>, NoMemory>
     requires form { HasForm (image_tree image.now) }
     ensures { IfOk result (λ bytes. bytes.items ≡ image_bytes (image_tree image.now)) }
+{
+    added(alloc, image)
+}
+
+/// The bytes, part by part.
+fn added(alloc: Global, image: &Image) -> Result<Vec<u8>, NoMemory>
+    requires form { HasForm (image_tree image.now) }
+    ensures { IfOk result (λ bytes. bytes.items ≡ added_bytes (image_tree image.now)) }
 {
     let mut out = Vec::new(alloc);
     out.extend_from_slice(b"UMI1")?;
@@ -130,7 +139,8 @@ fn put_fields(out: &mut Vec<u8>, fields: &[FieldDecl]) -> Result<(), AllocError>
 fn put_records(out: &mut Vec<u8>, records: &[Record]) -> Result<(), AllocError>
     requires count { length records.now < 2 ^ 32 }
     requires plain { All IsPlainRecord (map record_tree records.now) }
-    ensures { OnOk result (out.new.items ≡ out.old.items ++ four_bytes (length records.now) ++ flat_map record_bytes (map record_tree records.now)) }
+    ensures { OnOk result (out.new.items
+        ≡ out.old.items ++ four_bytes (length records.now) ++ flat_map record_bytes (map record_tree records.now)) }
 {
     put_number(out, records.len() as u32)?;
     for i in 0..records.len() {
@@ -231,7 +241,8 @@ fn put_ops(out: &mut Vec<u8>, ops: &[Op]) -> Result<(), AllocError>
 /// Adds the shapes behind their count.
 fn put_shapes(out: &mut Vec<u8>, shapes: &[Shape]) -> Result<(), AllocError>
     requires count { length shapes.now < 2 ^ 32 }
-    ensures { OnOk result (out.new.items ≡ out.old.items ++ four_bytes (length shapes.now) ++ flat_map shape_bytes (map shape_tree shapes.now)) }
+    ensures { OnOk result (out.new.items
+        ≡ out.old.items ++ four_bytes (length shapes.now) ++ flat_map shape_bytes (map shape_tree shapes.now)) }
 {
     put_number(out, shapes.len() as u32)?;
     for i in 0..shapes.len() {
@@ -263,7 +274,8 @@ fn put_functions(
     requires within { All (λ e. (e.start ≤ e.end) × (e.end ≤ length ops.now)) entries.now }
     requires count { length heads.now < 2 ^ 32 }
     requires addresses { length ops.now < 2 ^ 32 }
-    ensures { OnOk result (out.new.items ≡ out.old.items ++ four_bytes (length heads.now) ++ functions_bytes (map head_tree heads.now) ops.now entries.now) }
+    ensures { OnOk result (out.new.items ≡ out.old.items ++ four_bytes (length heads.now) ++ functions_bytes
+        (map head_tree heads.now) ops.now entries.now) }
 {
     put_number(out, heads.len() as u32)?;
     for i in 0..heads.len() {

@@ -25,22 +25,22 @@ var_low h _ = omega arith
 expected_low : (p : ExpectedToken) → expected_least (view_expected p) ≤ greatest_height
 expected_low (expected.Measure m) = measure_low m
 expected_low (expected.Var h v) = var_low h v
-expected_low (expected.FieldName f) = omega (arith, f.low)
-expected_low (expected.FieldColon f p y) = omega (arith, f.low)
-expected_low (expected.Params f) = omega (arith, f.low)
-expected_low (expected.ParamBinder f) = omega (arith, f.low)
-expected_low (expected.ParamColon f b) = omega (arith, f.low)
+expected_low (expected.FieldName f) = omega (arith, f.value.low)
+expected_low (expected.FieldColon f p y) = omega (arith, f.value.low)
+expected_low (expected.Params f) = omega (arith, f.value.low)
+expected_low (expected.ParamBinder f) = omega (arith, f.value.low)
+expected_low (expected.ParamColon f b) = omega (arith, f.value.low)
 expected_low _ = omega arith
 
 -- what follows a token stands within the heights
 pub next_low : (n : Next) → decl_least (next_state n) ≤ greatest_height
 next_low (next.At p) = expected_low p
 next_low (next.Base at x) = omega arith
-next_low (next.Record f) = f.low
-next_low (next.Field f p y) = omega (arith, f.low)
-next_low (next.Param f b) = omega (arith, f.low)
-next_low (next.Result f) = omega (arith, f.low)
-next_low (next.Body h) = omega (arith, h.prefix.low, h.low)
+next_low (next.Record f) = f.value.low
+next_low (next.Field f p y) = omega (arith, f.value.low)
+next_low (next.Param f b) = omega (arith, f.value.low)
+next_low (next.Result f) = omega (arith, f.value.low)
+next_low (next.Body h) = omega (arith, h.prefix.value.low, h.low)
 
 pub next_goes : (n : Next) → next_state n ≢ NoDecl
 next_goes (next.At p) e = cc

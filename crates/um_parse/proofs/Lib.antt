@@ -13,3 +13,4 @@ mod ProgramNodes
 mod LimitLaws
 mod DeclTaken
 mod ProgramSteps
+mod ProgramParsed

@@ -20,14 +20,16 @@ abbrev pub reader_state : DeclReader → DeclState
 reader_state reader.Nothing = NoDecl
 reader_state (reader.At p) = Expects (view_expected p)
 reader_state (reader.Base at x) = HaveBase at x
-reader_state (reader.Short at x u) = InShort at x (unit_state u)
-reader_state (reader.Record f) = HaveRecord f.head.at f.head.name (head_vars f.head) (read_fields f)
+reader_state (reader.Short at x u) = InShort at x (unit_state u.value)
+reader_state (reader.Record f) =
+    HaveRecord f.value.head.at f.value.head.name (head_vars f.value.head) (read_fields f.value)
 reader_state (reader.Field f p y t) =
-    InField f.head.at f.head.name (head_vars f.head) (read_fields f) p y (type_state t)
-reader_state (reader.Param f b t) = InParam (start_in f) (read_params f) (binder_syntax b) (type_state t)
-reader_state (reader.Result f t) = InResult (start_in f) (read_params f) (type_state t)
+    InField f.value.head.at f.value.head.name (head_vars f.value.head) (read_fields f.value) p y (type_state t.value)
+reader_state (reader.Param f b t) =
+    InParam (start_in f.value) (read_params f.value) (binder_syntax b) (type_state t.value)
+reader_state (reader.Result f t) = InResult (start_in f.value) (read_params f.value) (type_state t.value)
 reader_state (reader.Body h e) =
-    InBody (start_in h.prefix) (read_params h.prefix) (written_type h.result) (expr_state e)
+    InBody (start_in h.prefix.value) (read_params h.prefix.value) (written_type h.result) (expr_state e.value)
 
 -- what the type is that ends here, if one has begun, isn't too high
 abbrev pub IsLow : DeclState → Type 0

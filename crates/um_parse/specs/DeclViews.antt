@@ -71,24 +71,28 @@ view_expected (expected.RecordVars at x) = RecordVars at x
 view_expected (expected.Var p v) = view_var p v
 view_expected (expected.RecordEqual h) = RecordEqual h.at h.name (head_vars h)
 view_expected (expected.RecordBrace h) = RecordBrace h.at h.name (head_vars h)
-view_expected (expected.FieldName f) = FieldName f.head.at f.head.name (head_vars f.head) (read_fields f)
-view_expected (expected.FieldColon f p y) = FieldColon f.head.at f.head.name (head_vars f.head) (read_fields f) p y
+view_expected (expected.FieldName f) =
+    FieldName f.value.head.at f.value.head.name (head_vars f.value.head) (read_fields f.value)
+view_expected (expected.FieldColon f p y) =
+    FieldColon f.value.head.at f.value.head.name (head_vars f.value.head) (read_fields f.value) p y
 view_expected expected.LetName = LetName
 view_expected expected.RecName = RecName
 view_expected (expected.FunctionVars recursive at x) = FunctionVars recursive at x
-view_expected (expected.Params f) = Params (start_in f) (read_params f)
-view_expected (expected.ParamBinder f) = ParamBinder (start_in f) (read_params f)
-view_expected (expected.ParamColon f b) = ParamColon (start_in f) (read_params f) (binder_syntax b)
+view_expected (expected.Params f) = Params (start_in f.value) (read_params f.value)
+view_expected (expected.ParamBinder f) = ParamBinder (start_in f.value) (read_params f.value)
+view_expected (expected.ParamColon f b) = ParamColon (start_in f.value) (read_params f.value) (binder_syntax b)
 
 abbrev pub next_state : Next → DeclState
 next_state (next.At p) = Expects (view_expected p)
 next_state (next.Base at x) = HaveBase at x
-next_state (next.Record f) = HaveRecord f.head.at f.head.name (head_vars f.head) (read_fields f)
-next_state (next.Field f p y) = InField f.head.at f.head.name (head_vars f.head) (read_fields f) p y (NeedType 0)
-next_state (next.Param f b) = InParam (start_in f) (read_params f) (binder_syntax b) (NeedType 0)
-next_state (next.Result f) = InResult (start_in f) (read_params f) (NeedType 0)
+next_state (next.Record f) =
+    HaveRecord f.value.head.at f.value.head.name (head_vars f.value.head) (read_fields f.value)
+next_state (next.Field f p y) =
+    InField f.value.head.at f.value.head.name (head_vars f.value.head) (read_fields f.value) p y (NeedType 0)
+next_state (next.Param f b) = InParam (start_in f.value) (read_params f.value) (binder_syntax b) (NeedType 0)
+next_state (next.Result f) = InResult (start_in f.value) (read_params f.value) (NeedType 0)
 next_state (next.Body h) =
-    InBody (start_in h.prefix) (read_params h.prefix) (written_type h.result) (Need [])
+    InBody (start_in h.prefix.value) (read_params h.prefix.value) (written_type h.result) (Need [])
 
 -- what follows, or nothing where the token is refused
 abbrev pub reached : Option Next → DeclState

@@ -39,3 +39,15 @@ Parsed tokens end (Ok p) = IsRead tokens (program_syntax p)
 Parsed tokens end (Err (stop.Syntax at)) = (k : ℕ) × (at ≡ place_of tokens k end) × StopsAt tokens k
 Parsed tokens end (Err (stop.Limit kind at)) = LimitAt tokens end kind at
 Parsed tokens end (Err stop.NoMemory) = Unit {0}
+
+-- the tokens are this program, of an allowed height, whatever its other limits; or what `parse` answers
+abbrev pub ReadAt : List Token → ℕ → Result RawProgram ParseStop → Type 0
+ReadAt tokens end (Ok p) = IsProgram tokens (program_syntax p) × (program_height (program_syntax p) ≤ greatest_height)
+ReadAt tokens end (Err stop) = Parsed tokens end (Err stop)
+
+-- the program itself where it passes no limit besides its height, or else the first that it passes
+abbrev pub Limited : List DeclSyntax → Result RawProgram ParseStop → Type 0
+Limited ds (Ok p) = (program_syntax p ≡ ds) × WithinLimits 0 ds
+Limited ds (Err (stop.Syntax at)) = ⊥
+Limited ds (Err (stop.Limit kind at)) = PassesAt 0 ds kind at
+Limited ds (Err stop.NoMemory) = ⊥

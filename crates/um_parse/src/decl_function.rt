@@ -7,7 +7,9 @@ ghost use Rattle.um_parse.specs.DeclMachine.{LetName, RecName, FunctionVars, Par
 ghost use Rattle.um_parse.specs.DeclViews.{start_in, read_params, reached};
 
 use crate::decl_measure::refuse;
-use crate::decl_prefix::{DeclExpected, FunctionHead, FunctionPrefix, Next, Owner, VarExpected};
+use crate::decl_prefix::{
+    DeclExpected, FunctionHead, FunctionPrefix, Next, Owner, VarExpected, in_box,
+};
 use crate::decl_vars::vars_begin;
 use std::alloc::{AllocError, Global};
 use um_expr::{ExprToken, Infix};
@@ -63,21 +65,38 @@ pub fn function_vars(
     name: Name,
     kind: ExprToken,
     p: u32,
-) -> Option<Next>
-    ensures { reached result ≡ take_expected (FunctionVars recursive at name) kind p }
+) -> Result<Option<Next>, AllocError>
+    ensures { IfOk result (λ o. reached o ≡ take_expected (FunctionVars recursive at name) kind p) }
 {
     match kind {
         ExprToken::Operator(Infix::Compare(Sign::Lt)) => {
             let prefix = vars_begin(alloc, Owner::Function(recursive), at, name);
-            Some(Next::At(DeclExpected::Var(prefix, VarExpected::Begin)))
+            Ok(Some(Next::At(DeclExpected::Var(prefix, VarExpected::Begin))))
         }
-        other => take_params(plain_start(alloc, recursive, at, name), other),
+        other => params_begin(alloc, plain_start(alloc, recursive, at, name), other),
+    }
+}
+
+// The token behind the name of a function without unit parameters.
+fn params_begin(
+    alloc: Global,
+    prefix: FunctionPrefix,
+    kind: ExprToken,
+) -> Result<Option<Next>, AllocError>
+    ensures { IfOk result (λ o. reached o ≡ take_params (start_in prefix) (read_params prefix) kind) }
+{
+    match in_box(alloc, prefix) {
+        Ok(prefix) => Ok(take_params(prefix, kind)),
+        Err(error) => {
+            drop(kind);
+            Err(error)
+        }
     }
 }
 
 // `=` behind the parameters: a function with `rec` has a result type.
-fn body_begins(prefix: FunctionPrefix) -> Option<Next>
-    ensures { reached result ≡ body_begins (start_in prefix) (read_params prefix) }
+fn body_begins(prefix: Box<FunctionPrefix>) -> Option<Next>
+    ensures { reached result ≡ body_begins (start_in prefix.value) (read_params prefix.value) }
 {
     if prefix.recursive {
         return None;
@@ -89,8 +108,8 @@ fn body_begins(prefix: FunctionPrefix) -> Option<Next>
 }
 
 /// The token behind the parameters of a function, or its name.
-pub fn take_params(prefix: FunctionPrefix, kind: ExprToken) -> Option<Next>
-    ensures { reached result ≡ take_params (start_in prefix) (read_params prefix) kind }
+pub fn take_params(prefix: Box<FunctionPrefix>, kind: ExprToken) -> Option<Next>
+    ensures { reached result ≡ take_params (start_in prefix.value) (read_params prefix.value) kind }
 {
     match kind {
         ExprToken::Mark(Symbol::LeftParen) => Some(Next::At(DeclExpected::ParamBinder(prefix))),
@@ -101,8 +120,8 @@ pub fn take_params(prefix: FunctionPrefix, kind: ExprToken) -> Option<Next>
 }
 
 /// The token behind the `(` of a parameter.
-pub fn param_binder(prefix: FunctionPrefix, kind: ExprToken, p: u32) -> Option<Next>
-    ensures { reached result ≡ take_expected (ParamBinder (start_in prefix) (read_params prefix)) kind p }
+pub fn param_binder(prefix: Box<FunctionPrefix>, kind: ExprToken, p: u32) -> Option<Next>
+    ensures { reached result ≡ take_expected (ParamBinder (start_in prefix.value) (read_params prefix.value)) kind p }
 {
     match kind {
         ExprToken::Name(name) => {
@@ -121,8 +140,13 @@ pub fn param_binder(prefix: FunctionPrefix, kind: ExprToken, p: u32) -> Option<N
 }
 
 /// The token behind the name of a parameter.
-pub fn param_colon(prefix: FunctionPrefix, binder: Binder, kind: ExprToken, p: u32) -> Option<Next>
-    ensures { reached result ≡ take_expected (ParamColon (start_in prefix) (read_params prefix) (binder_syntax binder)) kind p }
+pub fn param_colon(
+    prefix: Box<FunctionPrefix>,
+    binder: Binder,
+    kind: ExprToken,
+    p: u32,
+) -> Option<Next>
+    ensures { reached result ≡ take_expected (ParamColon (start_in prefix.value) (read_params prefix.value) (binder_syntax binder)) kind p }
 {
     match kind {
         ExprToken::Mark(Symbol::Colon) => Some(Next::Param(prefix, binder)),
@@ -159,17 +183,19 @@ fn with_param(
 
 // The token behind the type of a parameter.
 fn param_typed(
-    prefix: FunctionPrefix,
+    alloc: Global,
+    prefix: Box<FunctionPrefix>,
     binder: Binder,
     ty: RawType,
     kind: ExprToken,
 ) -> Result<Option<Next>, AllocError>
     requires { whole_height (type_syntax ty) ≤ greatest_height }
-    ensures { IfOk result (λ o. reached o ≡ param_ends (start_in prefix) (read_params prefix) (binder_syntax binder) (Some (type_syntax ty)) kind) }
+    ensures { IfOk result (λ o. reached o ≡ param_ends (start_in prefix.value) (read_params prefix.value) (binder_syntax binder) (Some (type_syntax ty)) kind) }
 {
     match kind {
         ExprToken::Mark(Symbol::RightParen) => {
-            let prefix = with_param(prefix, binder, ty)?;
+            let prefix = with_param(Box::into_inner(prefix), binder, ty)?;
+            let prefix = in_box(alloc, prefix)?;
             Ok(Some(Next::At(DeclExpected::Params(prefix))))
         }
         other => Ok(refuse(other)),
@@ -178,24 +204,25 @@ fn param_typed(
 
 /// The token that the type of a parameter has refused, behind the type before it, if one stands there.
 pub fn param_ends(
-    prefix: FunctionPrefix,
+    alloc: Global,
+    prefix: Box<FunctionPrefix>,
     binder: Binder,
     found: Option<RawType>,
     kind: ExprToken,
 ) -> Result<Option<Next>, AllocError>
     requires { IfSome found (λ t. whole_height (type_syntax t) ≤ greatest_height) }
-    ensures { IfOk result (λ o. reached o ≡ param_ends (start_in prefix) (read_params prefix) (binder_syntax binder) (option_map type_syntax found) kind) }
+    ensures { IfOk result (λ o. reached o ≡ param_ends (start_in prefix.value) (read_params prefix.value) (binder_syntax binder) (option_map type_syntax found) kind) }
 {
     match found {
-        Some(ty) => param_typed(prefix, binder, ty, kind),
+        Some(ty) => param_typed(alloc, prefix, binder, ty, kind),
         None => Ok(refuse(kind)),
     }
 }
 
 // The token behind the result type.
-fn result_typed(prefix: FunctionPrefix, ty: RawType, kind: ExprToken) -> Option<Next>
+fn result_typed(prefix: Box<FunctionPrefix>, ty: RawType, kind: ExprToken) -> Option<Next>
     requires { whole_height (type_syntax ty) ≤ greatest_height }
-    ensures { reached result ≡ result_ends (start_in prefix) (read_params prefix) (Some (type_syntax ty)) kind }
+    ensures { reached result ≡ result_ends (start_in prefix.value) (read_params prefix.value) (Some (type_syntax ty)) kind }
 {
     match kind {
         ExprToken::Operator(Infix::Compare(Sign::Eq)) => Some(Next::Body(FunctionHead {
@@ -207,9 +234,13 @@ fn result_typed(prefix: FunctionPrefix, ty: RawType, kind: ExprToken) -> Option<
 }
 
 /// The token that the result type has refused, behind the type before it, if one stands there.
-pub fn result_ends(prefix: FunctionPrefix, found: Option<RawType>, kind: ExprToken) -> Option<Next>
+pub fn result_ends(
+    prefix: Box<FunctionPrefix>,
+    found: Option<RawType>,
+    kind: ExprToken,
+) -> Option<Next>
     requires { IfSome found (λ t. whole_height (type_syntax t) ≤ greatest_height) }
-    ensures { reached result ≡ result_ends (start_in prefix) (read_params prefix) (option_map type_syntax found) kind }
+    ensures { reached result ≡ result_ends (start_in prefix.value) (read_params prefix.value) (option_map type_syntax found) kind }
 {
     match found {
         Some(ty) => result_typed(prefix, ty, kind),

@@ -1,9 +1,11 @@
-// What was read of a declaration, and the places inside a run of tokens that is fixed.
-ghost use Rattle.std.specs.Prelude.{◌≤◌, map};
+// What was read of a declaration, and the places inside a run of tokens that is fixed. What is large stands in a box, since a
+// declaration is handed on at each of its tokens.
+ghost use Rattle.std.specs.Prelude.{◌≡◌, ◌≤◌, IfOk, map};
 ghost use Rattle.um_tree.specs.RawTree.{field_decl_syntax, param_syntax, written_type};
 ghost use Rattle.um_types.specs.UnitStops.{greatest_height};
 ghost use Rattle.um_parse.specs.ProgramHeights.{fields_height, params_height, result_height};
 
+use std::alloc::{AllocError, Global};
 use um_tree::{Binder, Name, RawFieldDecls, RawParams, RawType, RawVars};
 
 /// A record's name, at its place, and the unit parameters that were read.
@@ -52,7 +54,7 @@ pub struct FunctionPrefix {
 /// A function up to its `=`, with its result type, if it has one, not too high.
 #[derive(Drop)]
 pub struct FunctionHead {
-    pub prefix: FunctionPrefix,
+    pub prefix: Box<FunctionPrefix>,
     pub result: Option<RawType>,
     ghost low: { result_height (written_type result) ≤ greatest_height },
 }
@@ -92,15 +94,15 @@ pub enum DeclExpected {
     /// Behind the parameters; `=`; `{` or `;` and these fields; a field's name, at its place
     RecordEqual(RecordHead),
     RecordBrace(RecordHead),
-    FieldName(RecordPrefix),
-    FieldColon(RecordPrefix, u32, Name),
+    FieldName(Box<RecordPrefix>),
+    FieldColon(Box<RecordPrefix>, u32, Name),
     /// Behind `let`; `rec`; the name, at its place; the unit parameters and these parameters; `(`; the binder
     LetName,
     RecName,
     FunctionVars(bool, u32, Name),
-    Params(FunctionPrefix),
-    ParamBinder(FunctionPrefix),
-    ParamColon(FunctionPrefix, Binder),
+    Params(Box<FunctionPrefix>),
+    ParamBinder(Box<FunctionPrefix>),
+    ParamColon(Box<FunctionPrefix>, Binder),
 }
 
 /// What follows a token that a declaration takes: a place; a measure, at its name, that may be whole; a whole record; the
@@ -109,9 +111,19 @@ pub enum DeclExpected {
 pub enum Next {
     At(DeclExpected),
     Base(u32, Name),
-    Record(RecordPrefix),
-    Field(RecordPrefix, u32, Name),
-    Param(FunctionPrefix, Binder),
-    Result(FunctionPrefix),
+    Record(Box<RecordPrefix>),
+    Field(Box<RecordPrefix>, u32, Name),
+    Param(Box<FunctionPrefix>, Binder),
+    Result(Box<FunctionPrefix>),
     Body(FunctionHead),
+}
+
+/// The value in a box.
+pub fn in_box<T: Drop>(alloc: Global, value: T) -> Result<Box<T>, AllocError>
+    ensures { IfOk result (λ b. b.value ≡ value) }
+{
+    match Box::new(alloc, value) {
+        Ok(boxed) => Ok(boxed),
+        Err(failed) => Err(AllocError::from(failed)),
+    }
 }

@@ -1,19 +1,27 @@
 // A declaration that is read one token at a time.
-ghost use Rattle.std.specs.Prelude.{◌≡◌, ◌≤◌, IfOk, None, option_map};
+ghost use Rattle.std.specs.Prelude.{◌≡◌, ◌≤◌, [], IfOk, None, option_map};
 ghost use Rattle.um_tree.specs.RawTree.{unit_syntax, expr_syntax, decl_syntax, record_decl_syntax, written_type};
 ghost use Rattle.um_reader.specs.Takes.{Gives, Takes};
 ghost use Rattle.um_types.specs.UnitStops.{greatest_height};
-ghost use Rattle.um_parse.specs.DeclMachine.{Expects, DeclBegin, HaveBase, NoDecl, take_expected, base_after, short_found, body_found, own_step, decl_finish, at_start};
+ghost use Rattle.um_types.specs.UnitMachine.{Need};
+ghost use Rattle.um_types.specs.UnitLeast.{machine_of_units};
+ghost use Rattle.um_types.specs.UnitView.{unit_state};
+ghost use Rattle.um_types.specs.TypeMachine.{type_least, machine_of_types};
+ghost use Rattle.um_types.specs.TypeView.{type_state};
+ghost use Rattle.um_expr.specs.ExprStates.{expr_state};
+ghost use Rattle.um_expr.specs.ExprLeast.{whole_least, machine_of_expressions};
+ghost use Rattle.um_parse.specs.DeclMachine.{Expects, DeclBegin, HaveBase, InShort, NoDecl, take_expected, base_after, short_found, body_found, own_step, decl_finish, at_start};
 ghost use Rattle.um_parse.specs.ProgramLeast.{decl_least, machine_of_declarations};
 ghost use Rattle.um_parse.specs.DeclViews.{head_vars, read_fields, start_in, read_params, view_expected, next_state, reached};
 ghost use Rattle.um_parse.specs.DeclTakes.{reader_state, IsLow};
+ghost use Rattle.um_parse.specs.declared.decl_prefix.Next.TheVariants as next;
 
 use crate::decl_function::{
     function_vars, let_name, param_binder, param_colon, param_ends, rec_name, result_ends,
     take_params,
 };
 use crate::decl_measure::{begin, take_measure};
-use crate::decl_prefix::{DeclExpected, FunctionHead, FunctionPrefix, Next, RecordPrefix};
+use crate::decl_prefix::{DeclExpected, FunctionHead, FunctionPrefix, Next, RecordPrefix, in_box};
 use crate::decl_record::{
     field_colon, field_ends, field_name, record_brace, record_equal, record_name, record_vars,
 };
@@ -34,28 +42,91 @@ pub enum DeclReader {
     At(DeclExpected),
     /// A measure, at its name, that may be whole; in its unit text
     Base(u32, Name),
-    Short(u32, Name, UnitReader),
+    Short(u32, Name, Box<UnitReader>),
     /// A whole record
-    Record(RecordPrefix),
+    Record(Box<RecordPrefix>),
     /// In the type of a field, at its name; of a parameter; of a result; in a body
-    Field(RecordPrefix, u32, Name, TypeReader),
-    Param(FunctionPrefix, Binder, TypeReader),
-    Result(FunctionPrefix, TypeReader),
-    Body(FunctionHead, ExprReader),
+    Field(Box<RecordPrefix>, u32, Name, Box<TypeReader>),
+    Param(Box<FunctionPrefix>, Binder, Box<TypeReader>),
+    Result(Box<FunctionPrefix>, Box<TypeReader>),
+    Body(FunctionHead, Box<ExprReader>),
 }
 
 // The reader of what follows.
-fn reader_of(alloc: Global, next: Next) -> DeclReader
-    ensures { reader_state result ≡ next_state next }
+fn reader_of(alloc: Global, next: Next) -> Result<DeclReader, AllocError>
+    ensures { IfOk result (λ reader. reader_state reader ≡ next_state next) }
 {
     match next {
-        Next::At(expected) => DeclReader::At(expected),
-        Next::Base(at, name) => DeclReader::Base(at, name),
-        Next::Record(prefix) => DeclReader::Record(prefix),
-        Next::Field(prefix, at, name) => DeclReader::Field(prefix, at, name, TypeReader::new()),
-        Next::Param(prefix, binder) => DeclReader::Param(prefix, binder, TypeReader::new()),
-        Next::Result(prefix) => DeclReader::Result(prefix, TypeReader::new()),
-        Next::Body(head) => DeclReader::Body(head, ExprReader::new(alloc)),
+        Next::At(expected) => Ok(DeclReader::At(expected)),
+        Next::Base(at, name) => Ok(DeclReader::Base(at, name)),
+        Next::Record(prefix) => Ok(DeclReader::Record(prefix)),
+        Next::Field(prefix, at, name) => field_of(alloc, prefix, at, name),
+        Next::Param(prefix, binder) => param_of(alloc, prefix, binder),
+        Next::Result(prefix) => result_of(alloc, prefix),
+        Next::Body(head) => body_of(alloc, head),
+    }
+}
+
+// The reader of the type of a field, at its name.
+fn field_of(
+    alloc: Global,
+    prefix: Box<RecordPrefix>,
+    at: u32,
+    name: Name,
+) -> Result<DeclReader, AllocError>
+    ensures { IfOk result (λ reader. reader_state reader ≡ next_state (next.Field prefix at name)) }
+{
+    match in_box(alloc, TypeReader::new()) {
+        Ok(ty) => Ok(DeclReader::Field(prefix, at, name, ty)),
+        Err(error) => {
+            drop(prefix);
+            drop(name);
+            Err(error)
+        }
+    }
+}
+
+// The reader of the type of a parameter.
+fn param_of(
+    alloc: Global,
+    prefix: Box<FunctionPrefix>,
+    binder: Binder,
+) -> Result<DeclReader, AllocError>
+    ensures { IfOk result (λ reader. reader_state reader ≡ next_state (next.Param prefix binder)) }
+{
+    match in_box(alloc, TypeReader::new()) {
+        Ok(ty) => Ok(DeclReader::Param(prefix, binder, ty)),
+        Err(error) => {
+            drop(prefix);
+            drop(binder);
+            Err(error)
+        }
+    }
+}
+
+// The reader of the type of a result.
+fn result_of(alloc: Global, prefix: Box<FunctionPrefix>) -> Result<DeclReader, AllocError>
+    ensures { IfOk result (λ reader. reader_state reader ≡ next_state (next.Result prefix)) }
+{
+    match in_box(alloc, TypeReader::new()) {
+        Ok(ty) => Ok(DeclReader::Result(prefix, ty)),
+        Err(error) => {
+            drop(prefix);
+            Err(error)
+        }
+    }
+}
+
+// The reader of a body.
+fn body_of(alloc: Global, head: FunctionHead) -> Result<DeclReader, AllocError>
+    ensures { IfOk result (λ reader. reader_state reader ≡ next_state (next.Body head)) }
+{
+    match in_box(alloc, ExprReader::new(alloc)) {
+        Ok(body) => Ok(DeclReader::Body(head, body)),
+        Err(error) => {
+            drop(head);
+            Err(error)
+        }
     }
 }
 
@@ -75,13 +146,13 @@ fn next_at(
         DeclExpected::RecordVars(at, name) => Ok(record_vars(alloc, at, name, kind, p)),
         DeclExpected::Var(prefix, expected) => take_var(alloc, prefix, expected, kind, p),
         DeclExpected::RecordEqual(head) => Ok(record_equal(head, kind, p)),
-        DeclExpected::RecordBrace(head) => Ok(record_brace(alloc, head, kind, p)),
+        DeclExpected::RecordBrace(head) => record_brace(alloc, head, kind, p),
         DeclExpected::FieldName(prefix) => Ok(field_name(prefix, kind, p)),
         DeclExpected::FieldColon(prefix, at, name) => Ok(field_colon(prefix, at, name, kind, p)),
         DeclExpected::LetName => Ok(let_name(kind, p)),
         DeclExpected::RecName => Ok(rec_name(kind, p)),
         DeclExpected::FunctionVars(recursive, at, name) => {
-            Ok(function_vars(alloc, recursive, at, name, kind, p))
+            function_vars(alloc, recursive, at, name, kind, p)
         }
         DeclExpected::Params(prefix) => Ok(take_params(prefix, kind)),
         DeclExpected::ParamBinder(prefix) => Ok(param_binder(prefix, kind, p)),
@@ -101,7 +172,7 @@ fn short_found(at: u32, name: Name, found: Option<RawUnit>) -> Option<RawDecl>
 
 // A function, where its body was found.
 fn body_found(head: FunctionHead, found: Option<RawExpr>) -> Option<RawDecl>
-    ensures { option_map decl_syntax result ≡ body_found (start_in head.prefix) (read_params head.prefix) (written_type head.result) (option_map expr_syntax found) }
+    ensures { option_map decl_syntax result ≡ body_found (start_in head.prefix.value) (read_params head.prefix.value) (written_type head.result) (option_map expr_syntax found) }
 {
     let body = match found {
         Some(body) => body,
@@ -114,7 +185,7 @@ fn body_found(head: FunctionHead, found: Option<RawExpr>) -> Option<RawDecl>
         name,
         units,
         params,
-    } = prefix;
+    } = Box::into_inner(prefix);
     Some(RawDecl::Function(RawFunction {
         at,
         name,
@@ -127,10 +198,10 @@ fn body_found(head: FunctionHead, found: Option<RawExpr>) -> Option<RawDecl>
 }
 
 // A whole record.
-fn record_found(prefix: RecordPrefix) -> RawDecl
-    ensures { decl_syntax result ≡ record_decl_syntax prefix.head.at prefix.head.name (head_vars prefix.head) (read_fields prefix) }
+fn record_found(prefix: Box<RecordPrefix>) -> RawDecl
+    ensures { decl_syntax result ≡ record_decl_syntax prefix.value.head.at prefix.value.head.name (head_vars prefix.value.head) (read_fields prefix.value) }
 {
-    let RecordPrefix { head, fields } = prefix;
+    let RecordPrefix { head, fields } = Box::into_inner(prefix);
     RawDecl::Record(head.at, head.name, head.vars, fields)
 }
 
@@ -140,6 +211,37 @@ fn unfinished(reader: DeclReader) -> Option<RawDecl>
 {
     drop(reader);
     None
+}
+
+// One token more of a body.
+fn take_in_body(
+    body: &mut Box<ExprReader>,
+    alloc: Global,
+    token: &Token,
+) -> Result<Taken, AllocError>
+    requires low { whole_least (expr_state body.old.value) ≤ greatest_height }
+    ensures { IfOk result (λ t. Takes machine_of_expressions greatest_height (expr_state body.old.value) token.now t (expr_state body.new.value)) }
+{
+    body.take(alloc, token)
+}
+
+// One token more of a type.
+fn take_in_type(ty: &mut Box<TypeReader>, alloc: Global, token: &Token) -> Result<Taken, AllocError>
+    requires low { type_least (type_state ty.old.value) ≤ greatest_height }
+    ensures { IfOk result (λ t. Takes machine_of_types greatest_height (type_state ty.old.value) token.now t (type_state ty.new.value)) }
+{
+    ty.take(alloc, token)
+}
+
+// One token more of a unit text.
+fn take_in_unit(
+    unit: &mut Box<UnitReader>,
+    alloc: Global,
+    token: &Token,
+) -> Result<Taken, AllocError>
+    ensures { IfOk result (λ t. Takes machine_of_units greatest_height (unit_state unit.old.value) token.now t (unit_state unit.new.value)) }
+{
+    unit.take(alloc, token)
 }
 
 impl DeclReader {
@@ -166,23 +268,23 @@ impl DeclReader {
         ensures taken { IfOk result (λ t. Takes machine_of_declarations greatest_height (reader_state self.old) token.now t (reader_state self.new)) }
     {
         match self {
-            DeclReader::Body(_, body) => body.take(alloc, token),
-            DeclReader::Short(_, _, unit) => unit.take(alloc, token),
+            DeclReader::Body(_, body) => take_in_body(body, alloc, token),
+            DeclReader::Short(_, _, unit) => take_in_unit(unit, alloc, token),
             DeclReader::Nothing => Ok(Taken::Stops),
             DeclReader::Record(_) => Ok(Taken::Stops),
             DeclReader::At(_) => self.take_own(alloc, token),
             DeclReader::Base(_, _) => self.take_own(alloc, token),
-            DeclReader::Field(_, _, _, ty) => match ty.take(alloc, token)? {
+            DeclReader::Field(_, _, _, ty) => match take_in_type(ty, alloc, token)? {
                 Taken::Goes => Ok(Taken::Goes),
                 Taken::Stops => self.take_own(alloc, token),
                 Taken::High => Ok(Taken::High),
             },
-            DeclReader::Param(_, _, ty) => match ty.take(alloc, token)? {
+            DeclReader::Param(_, _, ty) => match take_in_type(ty, alloc, token)? {
                 Taken::Goes => Ok(Taken::Goes),
                 Taken::Stops => self.take_own(alloc, token),
                 Taken::High => Ok(Taken::High),
             },
-            DeclReader::Result(_, ty) => match ty.take(alloc, token)? {
+            DeclReader::Result(_, ty) => match take_in_type(ty, alloc, token)? {
                 Taken::Goes => Ok(Taken::Goes),
                 Taken::Stops => self.take_own(alloc, token),
                 Taken::High => Ok(Taken::High),
@@ -200,20 +302,22 @@ impl DeclReader {
         match mem::replace(self, DeclReader::Nothing) {
             DeclReader::At(expected) => {
                 let next = next_at(alloc, expected, kind, token.start)?;
-                Ok(self.follow(alloc, next))
+                self.follow(alloc, next)
             }
-            DeclReader::Base(at, name) => Ok(self.behind_base(alloc, at, name, kind)),
+            DeclReader::Base(at, name) => self.behind_base(alloc, at, name, kind),
             DeclReader::Field(prefix, at, name, ty) => {
-                let next = field_ends(prefix, at, name, ty.finish(), kind)?;
-                Ok(self.follow(alloc, next))
+                let found = Box::into_inner(ty).finish();
+                let next = field_ends(alloc, prefix, at, name, found, kind)?;
+                self.follow(alloc, next)
             }
             DeclReader::Param(prefix, binder, ty) => {
-                let next = param_ends(prefix, binder, ty.finish(), kind)?;
-                Ok(self.follow(alloc, next))
+                let found = Box::into_inner(ty).finish();
+                let next = param_ends(alloc, prefix, binder, found, kind)?;
+                self.follow(alloc, next)
             }
             DeclReader::Result(prefix, ty) => {
-                let next = result_ends(prefix, ty.finish(), kind);
-                Ok(self.follow(alloc, next))
+                let next = result_ends(prefix, Box::into_inner(ty).finish(), kind);
+                self.follow(alloc, next)
             }
             DeclReader::Nothing => Ok(self.stay(DeclReader::Nothing, kind)),
             DeclReader::Short(at, name, unit) => {
@@ -241,29 +345,49 @@ impl DeclReader {
     }
 
     // What follows is read, or the token is refused, where nothing ends.
-    fn follow(&mut self, alloc: Global, next: Option<Next>) -> Taken
+    fn follow(&mut self, alloc: Global, next: Option<Next>) -> Result<Taken, AllocError>
         requires nothing { reader_state self.old ≡ NoDecl }
-        ensures { Gives machine_of_declarations greatest_height NoDecl (reached next) result (reader_state self.new) }
+        ensures { IfOk result (λ t. Gives machine_of_declarations greatest_height NoDecl (reached next) t (reader_state self.new)) }
     {
         match next {
             Some(next) => {
-                self.put(reader_of(alloc, next));
-                Taken::Goes
+                let reader = reader_of(alloc, next)?;
+                self.put(reader);
+                Ok(Taken::Goes)
             }
-            None => Taken::Stops,
+            None => Ok(Taken::Stops),
         }
     }
 
     // The token behind the name of a measure, at its place.
-    fn behind_base(&mut self, alloc: Global, at: u32, name: Name, kind: ExprToken) -> Taken
-        ensures { Gives machine_of_declarations greatest_height (HaveBase at name) (base_after at name kind) result (reader_state self.new) }
+    fn behind_base(
+        &mut self,
+        alloc: Global,
+        at: u32,
+        name: Name,
+        kind: ExprToken,
+    ) -> Result<Taken, AllocError>
+        ensures { IfOk result (λ t. Gives machine_of_declarations greatest_height (HaveBase at name) (base_after at name kind) t (reader_state self.new)) }
     {
         match kind {
-            ExprToken::Operator(Infix::Compare(Sign::Eq)) => {
-                self.put(DeclReader::Short(at, name, UnitReader::new(alloc)));
-                Taken::Goes
+            ExprToken::Operator(Infix::Compare(Sign::Eq)) => self.begin_short(alloc, at, name),
+            other => Ok(self.stay(DeclReader::Base(at, name), other)),
+        }
+    }
+
+    // The unit text of an abbreviation begins.
+    fn begin_short(&mut self, alloc: Global, at: u32, name: Name) -> Result<Taken, AllocError>
+        ensures { IfOk result (λ t. Gives machine_of_declarations greatest_height (HaveBase at name) (InShort at name (Need [])) t (reader_state self.new)) }
+    {
+        match in_box(alloc, UnitReader::new(alloc)) {
+            Ok(unit) => {
+                self.put(DeclReader::Short(at, name, unit));
+                Ok(Taken::Goes)
             }
-            other => self.stay(DeclReader::Base(at, name), other),
+            Err(error) => {
+                drop(name);
+                Err(error)
+            }
         }
     }
 
@@ -273,9 +397,14 @@ impl DeclReader {
     {
         match self {
             DeclReader::Base(at, name) => Ok(Some(RawDecl::Base(at, name))),
-            DeclReader::Short(at, name, unit) => Ok(short_found(at, name, unit.finish(alloc)?)),
+            DeclReader::Short(at, name, unit) => {
+                let found = Box::into_inner(unit).finish(alloc)?;
+                Ok(short_found(at, name, found))
+            }
             DeclReader::Record(prefix) => Ok(Some(record_found(prefix))),
-            DeclReader::Body(head, body) => Ok(body_found(head, body.finish(alloc)?)),
+            DeclReader::Body(head, body) => {
+                Ok(body_found(head, Box::into_inner(body).finish(alloc)?))
+            }
             DeclReader::Nothing => Ok(None),
             DeclReader::At(expected) => Ok(unfinished(DeclReader::At(expected))),
             DeclReader::Field(prefix, at, name, ty) => {

@@ -7,7 +7,9 @@ ghost use Rattle.um_parse.specs.DeclMachine.{RecordName, RecordVars, RecordEqual
 ghost use Rattle.um_parse.specs.DeclViews.{head_vars, read_fields, reached};
 
 use crate::decl_measure::refuse;
-use crate::decl_prefix::{DeclExpected, Next, Owner, RecordHead, RecordPrefix, VarExpected};
+use crate::decl_prefix::{
+    DeclExpected, Next, Owner, RecordHead, RecordPrefix, VarExpected, in_box,
+};
 use crate::decl_vars::vars_begin;
 use std::alloc::{AllocError, Global};
 use um_expr::{ExprToken, Infix};
@@ -66,23 +68,29 @@ pub fn record_equal(head: RecordHead, kind: ExprToken, p: u32) -> Option<Next>
 }
 
 /// The token behind the `=` of a record.
-pub fn record_brace(alloc: Global, head: RecordHead, kind: ExprToken, p: u32) -> Option<Next>
-    ensures { reached result ≡ take_expected (RecordBrace head.at head.name (head_vars head)) kind p }
+pub fn record_brace(
+    alloc: Global,
+    head: RecordHead,
+    kind: ExprToken,
+    p: u32,
+) -> Result<Option<Next>, AllocError>
+    ensures { IfOk result (λ o. reached o ≡ take_expected (RecordBrace head.at head.name (head_vars head)) kind p) }
 {
     match kind {
         ExprToken::Mark(Symbol::LeftBrace) => {
             let fields = RawFieldDecls {
                 items: Vec::new(alloc),
             };
-            Some(Next::At(DeclExpected::FieldName(RecordPrefix { head, fields })))
+            let prefix = in_box(alloc, RecordPrefix { head, fields })?;
+            Ok(Some(Next::At(DeclExpected::FieldName(prefix))))
         }
-        other => refuse(other),
+        other => Ok(refuse(other)),
     }
 }
 
 /// The token behind `{` or `;` in a record.
-pub fn field_name(prefix: RecordPrefix, kind: ExprToken, p: u32) -> Option<Next>
-    ensures { reached result ≡ take_expected (FieldName prefix.head.at prefix.head.name (head_vars prefix.head) (read_fields prefix)) kind p }
+pub fn field_name(prefix: Box<RecordPrefix>, kind: ExprToken, p: u32) -> Option<Next>
+    ensures { reached result ≡ take_expected (FieldName prefix.value.head.at prefix.value.head.name (head_vars prefix.value.head) (read_fields prefix.value)) kind p }
 {
     match kind {
         ExprToken::Name(name) => Some(Next::At(DeclExpected::FieldColon(prefix, p, name))),
@@ -92,13 +100,13 @@ pub fn field_name(prefix: RecordPrefix, kind: ExprToken, p: u32) -> Option<Next>
 
 /// The token behind the name of a field, at its place.
 pub fn field_colon(
-    prefix: RecordPrefix,
+    prefix: Box<RecordPrefix>,
     at: u32,
     name: Name,
     kind: ExprToken,
     p: u32,
 ) -> Option<Next>
-    ensures { reached result ≡ take_expected (FieldColon prefix.head.at prefix.head.name (head_vars prefix.head) (read_fields prefix) at name) kind p }
+    ensures { reached result ≡ take_expected (FieldColon prefix.value.head.at prefix.value.head.name (head_vars prefix.value.head) (read_fields prefix.value) at name) kind p }
 {
     match kind {
         ExprToken::Mark(Symbol::Colon) => Some(Next::Field(prefix, at, name)),
@@ -124,22 +132,26 @@ fn with_field(
 
 // The token behind the type of a field.
 fn field_typed(
-    prefix: RecordPrefix,
+    alloc: Global,
+    prefix: Box<RecordPrefix>,
     at: u32,
     name: Name,
     ty: RawType,
     kind: ExprToken,
 ) -> Result<Option<Next>, AllocError>
     requires { whole_height (type_syntax ty) ≤ greatest_height }
-    ensures { IfOk result (λ o. reached o ≡ field_ends prefix.head.at prefix.head.name (head_vars prefix.head) (read_fields prefix) at name (Some (type_syntax ty)) kind) }
+    ensures { IfOk result (λ o. reached o ≡ field_ends prefix.value.head.at prefix.value.head.name (head_vars prefix.value.head) (read_fields prefix.value) at name (Some (type_syntax ty)) kind) }
 {
     match kind {
         ExprToken::Mark(Symbol::Semicolon) => {
-            let prefix = with_field(prefix, at, name, ty)?;
+            let prefix = with_field(Box::into_inner(prefix), at, name, ty)?;
+            let prefix = in_box(alloc, prefix)?;
             Ok(Some(Next::At(DeclExpected::FieldName(prefix))))
         }
         ExprToken::Mark(Symbol::RightBrace) => {
-            Ok(Some(Next::Record(with_field(prefix, at, name, ty)?)))
+            let prefix = with_field(Box::into_inner(prefix), at, name, ty)?;
+            let prefix = in_box(alloc, prefix)?;
+            Ok(Some(Next::Record(prefix)))
         }
         other => Ok(refuse(other)),
     }
@@ -147,17 +159,18 @@ fn field_typed(
 
 /// The token that the type of a field has refused, behind the type before it, if one stands there.
 pub fn field_ends(
-    prefix: RecordPrefix,
+    alloc: Global,
+    prefix: Box<RecordPrefix>,
     at: u32,
     name: Name,
     found: Option<RawType>,
     kind: ExprToken,
 ) -> Result<Option<Next>, AllocError>
     requires { IfSome found (λ t. whole_height (type_syntax t) ≤ greatest_height) }
-    ensures { IfOk result (λ o. reached o ≡ field_ends prefix.head.at prefix.head.name (head_vars prefix.head) (read_fields prefix) at name (option_map type_syntax found) kind) }
+    ensures { IfOk result (λ o. reached o ≡ field_ends prefix.value.head.at prefix.value.head.name (head_vars prefix.value.head) (read_fields prefix.value) at name (option_map type_syntax found) kind) }
 {
     match found {
-        Some(ty) => field_typed(prefix, at, name, ty, kind),
+        Some(ty) => field_typed(alloc, prefix, at, name, ty, kind),
         None => Ok(refuse(kind)),
     }
 }

@@ -6,7 +6,7 @@ ghost use Rattle.um_parse.specs.declared.decl_prefix.VarExpected.TheVariants as 
 
 use crate::decl_measure::refuse;
 use crate::decl_prefix::{
-    DeclExpected, FunctionPrefix, Next, Owner, RecordHead, VarExpected, VarsPrefix,
+    DeclExpected, FunctionPrefix, Next, Owner, RecordHead, VarExpected, VarsPrefix, in_box,
 };
 use std::alloc::{AllocError, Global};
 use um_expr::{ExprToken, Infix};
@@ -57,8 +57,8 @@ fn var_name(prefix: VarsPrefix, kind: ExprToken, p: u32) -> Result<Option<Next>,
 }
 
 // What is expected behind the `>` of unit parameters.
-fn behind(alloc: Global, prefix: VarsPrefix) -> Next
-    ensures { next_state result ≡ Expects (behind_vars (owner_in prefix.owner prefix.at prefix.name) (read_vars prefix)) }
+fn behind(alloc: Global, prefix: VarsPrefix) -> Result<Next, AllocError>
+    ensures { IfOk result (λ n. next_state n ≡ Expects (behind_vars (owner_in prefix.owner prefix.at prefix.name) (read_vars prefix))) }
 {
     let VarsPrefix {
         owner,
@@ -67,33 +67,42 @@ fn behind(alloc: Global, prefix: VarsPrefix) -> Next
         vars,
     } = prefix;
     match owner {
-        Owner::Record => Next::At(DeclExpected::RecordEqual(RecordHead { at, name, vars })),
+        Owner::Record => {
+            let head = RecordHead { at, name, vars };
+            Ok(Next::At(DeclExpected::RecordEqual(head)))
+        }
         Owner::Function(recursive) => {
             let params = RawParams {
                 items: Vec::new(alloc),
             };
-            Next::At(DeclExpected::Params(FunctionPrefix {
+            let prefix = FunctionPrefix {
                 recursive,
                 at,
                 name,
                 units: vars,
                 params,
-            }))
+            };
+            Ok(Next::At(DeclExpected::Params(in_box(alloc, prefix)?)))
         }
     }
 }
 
 // The token behind a unit parameter.
-fn var_end(alloc: Global, prefix: VarsPrefix, kind: ExprToken, p: u32) -> Option<Next>
-    ensures { reached result ≡ take_expected (view_var prefix var.End) kind p }
+fn var_end(
+    alloc: Global,
+    prefix: VarsPrefix,
+    kind: ExprToken,
+    p: u32,
+) -> Result<Option<Next>, AllocError>
+    ensures { IfOk result (λ o. reached o ≡ take_expected (view_var prefix var.End) kind p) }
 {
     match kind {
-        ExprToken::Mark(Symbol::Comma) => Some(Next::At(DeclExpected::Var(
+        ExprToken::Mark(Symbol::Comma) => Ok(Some(Next::At(DeclExpected::Var(
             prefix,
             VarExpected::Begin,
-        ))),
-        ExprToken::Operator(Infix::Compare(Sign::Gt)) => Some(behind(alloc, prefix)),
-        other => refuse(other),
+        )))),
+        ExprToken::Operator(Infix::Compare(Sign::Gt)) => Ok(Some(behind(alloc, prefix)?)),
+        other => Ok(refuse(other)),
     }
 }
 
@@ -121,7 +130,7 @@ pub fn take_var(
             Ok(Some(Next::At(DeclExpected::Var(prefix, VarExpected::Name))))
         }
         (VarExpected::Name, kind) => var_name(prefix, kind, p),
-        (VarExpected::End, kind) => Ok(var_end(alloc, prefix, kind, p)),
+        (VarExpected::End, kind) => var_end(alloc, prefix, kind, p),
         (
             VarExpected::Begin | VarExpected::Word | VarExpected::Greater | VarExpected::Close,
             other,

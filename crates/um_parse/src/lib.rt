@@ -12,5 +12,5 @@ mod limits;
 mod program_parse;
 mod program_reader;
 
-pub use program_parse::parse;
+pub use program_parse::{parse, parse_tokens};
 pub use um_types::{LimitKind, ParseStop, parse_types, parse_unit};

@@ -1,19 +1,40 @@
 // Parsing a program, with the places of its refusals in the text.
-ghost use Rattle.std.specs.Prelude.{◌≤◌, length};
+ghost use Rattle.std.specs.Prelude.{◌<◌, ◌≤◌, ◌^◌, IfOk, length};
 ghost use Rattle.um_tree.specs.RawTree.{program_syntax};
 ghost use Rattle.um_reader.specs.ReadTo.{ReadAll};
+ghost use Rattle.um_reader.specs.Takes.{Takes};
 ghost use Rattle.um_types.specs.UnitStops.{greatest_height};
 ghost use Rattle.um_parse.specs.DeclGrammar.{IsProgram};
 ghost use Rattle.um_parse.specs.ProgramHeights.{program_height};
-ghost use Rattle.um_parse.specs.Parsed.{Parsed};
+ghost use Rattle.um_parse.specs.ProgramLeast.{program_least, machine_of_programs};
+ghost use Rattle.um_parse.specs.DeclTakes.{program_state};
+ghost use Rattle.um_parse.specs.ProgramNodes.{program_nodes};
+ghost use Rattle.um_parse.specs.Parsed.{Parsed, ReadAt, Limited};
 
 use crate::limits::first_passed;
 use crate::program_reader::ProgramReader;
-use std::alloc::Global;
-use um_reader::{ReadStop, read_all};
-use um_syntax::Token;
+use std::alloc::{AllocError, Global};
+use um_reader::{ReadStop, Reader, Taken, read_all};
+use um_syntax::{Token, Tokens};
 use um_tree::RawProgram;
 use um_types::{LimitKind, ParseStop, place};
+
+// The program, where it passes no limit besides its height.
+fn limited(program: RawProgram) -> Result<RawProgram, ParseStop>
+    requires few { program_nodes (program_syntax program) < 2 ^ 32 }
+    ensures { Limited (program_syntax program) result }
+{
+    match first_passed(&program.items) {
+        Some(passed) => {
+            drop(program);
+            Err(ParseStop::Limit {
+                kind: passed.kind,
+                at: passed.at,
+            })
+        }
+        None => Ok(program),
+    }
+}
 
 // The program that the tokens are, whatever its other limits.
 fn read_program(alloc: Global, tokens: &[Token]) -> Result<RawProgram, ReadStop>
@@ -41,26 +62,70 @@ pub fn parse(alloc: Global, tokens: &[Token], end: u32) -> Result<RawProgram, Pa
     requires text { length tokens.now ≤ end }
     ensures parsed { Parsed tokens.now end result }
 {
-    let program = match read_program(alloc, tokens) {
-        Ok(program) => program,
+    match read_program(alloc, tokens) {
+        Ok(program) => limited(program),
         Err(ReadStop::Syntax(k)) => {
-            return Err(ParseStop::Syntax {
+            Err(ParseStop::Syntax {
                 at: place(tokens, k, end),
-            });
+            })
         }
-        Err(ReadStop::High(k)) => {
-            return Err(ParseStop::Limit {
-                kind: LimitKind::Height,
-                at: place(tokens, k, end),
-            });
-        }
-        Err(ReadStop::NoMemory) => return Err(ParseStop::NoMemory),
-    };
-    match first_passed(&program.items) {
-        Some(passed) => Err(ParseStop::Limit {
-            kind: passed.kind,
-            at: passed.at,
+        Err(ReadStop::High(k)) => Err(ParseStop::Limit {
+            kind: LimitKind::Height,
+            at: place(tokens, k, end),
         }),
-        None => Ok(program),
+        Err(ReadStop::NoMemory) => Err(ParseStop::NoMemory),
     }
+}
+
+// One token more, which is let go then: its memory serves the names of the tree.
+fn take_token(reader: &mut ProgramReader, alloc: Global, token: Token) -> Result<Taken, AllocError>
+    requires low { program_least (program_state reader.old) ≤ greatest_height }
+    ensures { IfOk result (λ t. Takes machine_of_programs greatest_height (program_state reader.old) token t (program_state reader.new)) }
+{
+    let taken = reader.take(alloc, &token);
+    drop(token);
+    taken
+}
+
+// The program that these tokens are, whatever its other limits.
+fn read_tokens(alloc: Global, tokens: Tokens, end: u32) -> Result<RawProgram, ParseStop>
+    ensures { ReadAt tokens end result }
+{
+    let mut reader = ProgramReader::new(alloc);
+    for token in tokens.into_vec() {
+        let at = token.start;
+        match take_token(&mut reader, alloc, token) {
+            Ok(Taken::Goes) => {}
+            Ok(Taken::Stops) => {
+                drop(reader);
+                return Err(ParseStop::Syntax { at });
+            }
+            Ok(Taken::High) => {
+                drop(reader);
+                return Err(ParseStop::Limit {
+                    kind: LimitKind::Height,
+                    at,
+                });
+            }
+            Err(_) => {
+                drop(reader);
+                return Err(ParseStop::NoMemory);
+            }
+        }
+    }
+    match reader.finish(alloc) {
+        Ok(Some(program)) => Ok(program),
+        Ok(None) => Err(ParseStop::Syntax { at: end }),
+        Err(_) => Err(ParseStop::NoMemory),
+    }
+}
+
+/// The program that the tokens are, as [`parse`] gives it, and with its errors. The tokens are handed over: each is let go
+/// once it was read, so that its memory serves the program.
+pub fn parse_tokens(alloc: Global, tokens: Tokens, end: u32) -> Result<RawProgram, ParseStop>
+    requires text { length tokens ≤ end }
+    ensures parsed { Parsed tokens end result }
+{
+    let program = read_tokens(alloc, tokens, end)?;
+    limited(program)
 }

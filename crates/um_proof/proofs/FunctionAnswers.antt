@@ -1,9 +1,8 @@
 -- The certificate of a function of a program: what is asked of its rows, and what the makers' answers say of the function.
-use Rattle.std.proofs.Common.{◌≡◌, ◌⊎◌, inl, inr, ℕ, ◌<◌, ◌≤◌, true, false, cond, leb, List, length, ℤ, Option, Some, None, slice_get, Result, Ok, Err, refl, sym, ap, ◌∙◌, subst, arith}
-use Rattle.std.specs.Prelude.{All, IfOk, IfErr}
+use Rattle.std.proofs.Common.{◌≡◌, ◌⊎◌, inl, inr, ℕ, ◌<◌, ◌≤◌, cond, leb, List, length, ℤ, Option, Some, None, slice_get, Result, Ok, Err, refl, sym, ap, ◌∙◌, subst, arith}
+use Rattle.std.specs.Prelude.{IfOk, IfErr}
 use Rattle.std.proofs.lemmas.Option.{slice_get_within}
-use Rattle.um_units.specs.PowerMap.{PowerMap}
-use Rattle.um_tree.specs.ProgramTree.{RecordTree, FunctionTree, ProgramTree, Signature, SchemeTree}
+use Rattle.um_tree.specs.ProgramTree.{RecordTree, FunctionTree, ProgramTree, SchemeTree}
 use Rattle.um_tree.specs.Formed.{IsFormed}
 use Rattle.um_rows.specs.declared.row.Rows.{Rows}
 use Rattle.um_rows.specs.Steps.{rows_of, units_of, first_past}
@@ -24,14 +23,13 @@ use Rattle.um_proof.specs.declared.stop.CertStop.{CertStop}
 use Rattle.um_proof.specs.declared.stop.CertStop.TheVariants as stop
 use Rattle.um_proof.specs.declared.stop.ProveStop.{ProveStop}
 use Rattle.um_proof.specs.declared.stop.ProveStop.TheVariants as prove
-use Rattle.um_proof.specs.declared.proofs.Proofs.{Proofs}
 use Rattle.um_proof.specs.Making.{first}
 use Rattle.um_proof.specs.Formed.{PassesInRows, PassesAtEnd}
 use Rattle.um_proof.specs.Answers.{judged, NamesRefusal, IsRefused, IsYesMade, IsNoMade}
-use Rattle.um_proof.specs.Proving.{IsYesOf, IsNoOf, IsRefusal, IsWithinLimits, PassesInFunction, IsProved}
-use Rattle.um_proof.specs.ProgramSteps.{CarriesInFunction, CarriesInSome, HasRows, IsFirstRefused, of_function}
+use Rattle.um_proof.specs.Proving.{IsYesOf, IsNoOf, IsRefusal, IsWithinLimits, IsProved}
+use Rattle.um_proof.specs.ProgramSteps.{CarriesInFunction, CarriesInSome, IsFirstRefused, of_function}
 use Rattle.um_proof.proofs.SameEquations.{same_count, same_equations}
-use Rattle.um_proof.proofs.GivenSchemes.{IsGiven, given}
+use Rattle.um_proof.proofs.GivenSchemes.{given}
 use Rattle.um_proof.proofs.FunctionRows.{HasJudgement, judged_rows, same_signature, same_rows, judged_same, moved_refusal}
 
 pub same_item : {X : Type 0} (x y : X) → Some x ≡ Some y → x ≡ y

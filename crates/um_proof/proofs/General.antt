@@ -1,6 +1,6 @@
 -- Unit parameters as variables in units for slots: what the units then give for rows and types, in which no parameter's
 -- base unit stands.
-use Rattle.std.proofs.Common.{◌≡◌, ◌≢◌, ℕ, ◌+◌, ◌-◌, ◌<◌, ◌&&◌, true, false, cond, List, [], ◌∷◌, ◌++◌, map, length, pos, refl, sym, ap, ◌∙◌, subst, arith}
+use Rattle.std.proofs.Common.{◌≡◌, ℕ, ◌+◌, ◌-◌, ◌<◌, true, cond, List, [], ◌∷◌, ◌++◌, map, length, refl, sym, ap, ◌∙◌, subst, arith}
 use Rattle.std.specs.Prelude.{All, IsTrue}
 use Rattle.std.specs.List.{flat_map, list_all}
 use Rattle.std.proofs.lemmas.Bool.{and_parts, and_from}
@@ -9,7 +9,7 @@ use Rattle.std.proofs.lemmas.List.{length-map}
 use Rattle.std.proofs.lemmas.List.Elements.{All-nil, All-cons, All-head, All-tail}
 use Rattle.um_units.specs.declared.Atom.{Atom}
 use Rattle.um_units.specs.declared.Atom.TheVariants.{Base, Var}
-use Rattle.um_units.specs.PowerMap.{PowerMap, power_of, one, atom, replace, nth, extension}
+use Rattle.um_units.specs.PowerMap.{PowerMap, power_of, one, atom, replace, nth}
 use Rattle.um_units.specs.Range.{fits}
 use Rattle.um_units.specs.Variables.{VariablesBelow}
 use Rattle.um_units.specs.Solutions.{Solves, IsJointSolution}
@@ -17,7 +17,7 @@ use Rattle.um_units.proofs.Replacement.{extension-mul, extension-atom, replace_a
 use Rattle.um_units.proofs.Variables.{VariablesBelow-replace_nth}
 use Rattle.um_tree.specs.TypeTree.{TypeTree, bool_type, num_type, list_type, record_type}
 use Rattle.um_tree.specs.ProgramTree.{Signature}
-use Rattle.um_tree.specs.Typing.{put, put_signature, moved, moved_signature}
+use Rattle.um_tree.specs.Typing.{put, put_signature, moved}
 use Rattle.um_tree.specs.Scheme.{unit_variables, type_variables, variables, signature_types}
 use Rattle.um_tree.specs.Laws.{Leaves, TypeHas}
 use Rattle.um_tree.proofs.Homomorphisms.{h-one, h-replace}

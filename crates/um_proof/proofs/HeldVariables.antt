@@ -1,5 +1,5 @@
 -- The variables that units hold, and their places in an order of numbering.
-use Rattle.std.proofs.Common.{◌≡◌, ◌≢◌, ℕ, zero, suc, ◌+◌, ◌<◌, ◌||◌, true, false, cond, List, [], ◌∷◌, ◌++◌, map, filter, take, set, length, get_or, pos, refl, sym, ap, ◌∙◌, subst, arith}
+use Rattle.std.proofs.Common.{◌≡◌, ◌≢◌, ℕ, zero, suc, ◌+◌, ◌<◌, ◌||◌, true, false, cond, List, [], ◌∷◌, ◌++◌, map, filter, take, set, length, get_or, refl, sym, ap, ◌∙◌, subst, arith}
 use Rattle.std.specs.Prelude.{All, Bool, IsTrue, nat_eq, replicate, slice_index_or}
 use Rattle.std.specs.List.{flat_map, list_all, range_with_len}
 use Rattle.std.proofs.lemmas.Bool.{and_from}
@@ -9,8 +9,7 @@ use Rattle.std.proofs.lemmas.List.{append-nil, take_more, get_or-set_same, get_o
 use Rattle.std.proofs.lemmas.List.Elements.{All-nil, All-cons, filter_agree}
 use Rattle.std.proofs.lemmas.List.Folds.{list_any-append, list_all_at}
 use Rattle.std.proofs.lemmas.List.FromFn.{length-range_with_len, get_or-range_with_len, filter_of_map_range_with_len_more}
-use Rattle.um_units.specs.declared.Atom.TheVariants.{Var}
-use Rattle.um_units.specs.PowerMap.{PowerMap, power_of, atom, replace}
+use Rattle.um_units.specs.PowerMap.{PowerMap, replace}
 use Rattle.um_units.specs.Variables.{VariablesBelow}
 use Rattle.um_units.proofs.Variables.{VariablesBelow-replace}
 use Rattle.um_tree.specs.TypeTree.{TypeTree, num_type}

@@ -1,5 +1,5 @@
 -- What is kept after some rows is a way back from the solution, but for products of these rows.
-use Rattle.std.proofs.Common.{◌≡◌, ◌≢◌, ◌⊎◌, inl, inr, ℕ, zero, suc, ◌+◌, ◌-◌, ◌<◌, ◌≤◌, Bool, true, false, List, [], ◌∷◌, map, length, ℤ, pos, negsuc, neg_ℤ, ◌+ℤ◌, ◌*ℤ◌, refl, sym, ap, ◌∙◌, subst, arith}
+use Rattle.std.proofs.Common.{◌≡◌, ◌≢◌, inl, inr, ℕ, zero, suc, ◌+◌, ◌-◌, ◌<◌, ◌≤◌, Bool, true, false, List, [], ◌∷◌, map, length, ℤ, pos, negsuc, neg_ℤ, ◌+ℤ◌, ◌*ℤ◌, refl, sym, ap, ◌∙◌, subst, arith}
 use Rattle.std.specs.Prelude.{All, nat_lt, if◌then◌else◌}
 use Rattle.std.specs.Int.Signed.{◌<ℤ◌}
 use Rattle.std.proofs.lemmas.Bool.{cases_lt, and_from, le-leb, lt-ltb, ltb-true, ne_eqb}
@@ -27,7 +27,7 @@ use Rattle.um_elim.proofs.Slots.{length-rigid}
 use Rattle.um_elim.proofs.VariablesKept.{all_rigid_below}
 use Rattle.um_rows.specs.Generalised.{is_parameter}
 use Rattle.um_turns.specs.Turns.{units_after, AreTurnsOf}
-use Rattle.um_making.specs.Making.{signed_by, back_after, at_slot, total, parts_after, IsKept}
+use Rattle.um_making.specs.Making.{signed_by, at_slot, total, parts_after, IsKept}
 use Rattle.um_making.proofs.Extensions.{weight-extension}
 use Rattle.um_making.proofs.Kept.{length-units_after, back_after-base, kept_after, kept_row}
 use Rattle.um_proof.specs.Making.{Kept, row_unit, row_total, turned, ended, LeavePower, IsRowMade, IsReached, first, first_back}

@@ -1,10 +1,9 @@
 -- A product of rows that refuses a row is a No.
-use Rattle.std.proofs.Common.{◌≡◌, ◌≢◌, inl, inr, ℕ, zero, suc, ◌+◌, ◌-◌, ◌*◌, ◌<◌, ◌≤◌, true, List, length, ℤ, pos, negsuc, nat_abs, ◌*ℤ◌, refl, sym, ap, ◌∙◌, subst, arith}
-use Rattle.std.specs.Prelude.{All, nat_lt, if◌then◌else◌}
+use Rattle.std.proofs.Common.{◌≡◌, inl, inr, ℕ, zero, suc, ◌+◌, ◌-◌, ◌*◌, ◌<◌, ◌≤◌, List, length, ℤ, pos, negsuc, nat_abs, ◌*ℤ◌, refl, sym, ap, ◌∙◌, subst, arith}
+use Rattle.std.specs.Prelude.{All, if◌then◌else◌}
 use Rattle.std.specs.Int.Signed.{◌≤ℤ◌, ◌<ℤ◌}
 use Rattle.std.proofs.lemmas.Bool.{lt-ltb}
 use Rattle.std.proofs.lemmas.Int.{ints}
-use Rattle.um_units.specs.declared.Atom.{Atom}
 use Rattle.um_units.specs.declared.Atom.TheVariants.{Base, Var}
 use Rattle.um_units.specs.PowerMap.{PowerMap, power_of, atom, pow, replace, nth, extension}
 use Rattle.um_units.specs.Variables.{VariablesBelow}

@@ -15,7 +15,7 @@ use Rattle.um_tree.specs.TypeTree.{TypeTree, num_type}
 use Rattle.um_tree.specs.ProgramTree.{Signature}
 use Rattle.um_tree.specs.Typing.{put, put_signature}
 use Rattle.um_tree.specs.Scheme.{signature_types, unit_variables, type_variables, variables}
-use Rattle.um_elim.specs.Numbering.{variable_order, place, by_place, renumbered}
+use Rattle.um_elim.specs.Numbering.{variable_order, by_place, renumbered}
 use Rattle.um_elim.proofs.GrowingOrder.{All-front, All-back}
 use Rattle.um_elim.proofs.VariablesKept.{own_below, unit_all, put_below}
 use Rattle.um_proof.specs.declared.kept.Head.{Head}

@@ -1,6 +1,6 @@
 -- What is kept is what the elimination of the rows gives, and a row that is refused it refuses too, unless a power passes the
 -- range before: the turns of a unit are determined by it, and where they end further turns change nothing.
-use Rattle.std.proofs.Common.{◌≡◌, ◌≢◌, ◌⊎◌, inl, inr, ℕ, zero, suc, ◌+◌, ◌<◌, ◌≤◌, true, false, Option, Some, None, List, [], ◌∷◌, map, length, drop, get_or, ℤ, pos, negsuc, neg_ℤ, nat_abs, ◌+ℤ◌, ◌*ℤ◌, refl, sym, ap, ◌∙◌, subst, arith}
+use Rattle.std.proofs.Common.{◌≡◌, ◌≢◌, ◌⊎◌, inl, inr, ℕ, zero, suc, ◌+◌, ◌<◌, ◌≤◌, false, Some, List, [], ◌∷◌, map, length, drop, get_or, ℤ, pos, neg_ℤ, nat_abs, ◌+ℤ◌, ◌*ℤ◌, refl, sym, ap, ◌∙◌, subst, arith}
 use Rattle.std.specs.Prelude.{◌==◌, All}
 use Rattle.std.specs.Int.{int_div_euclid}
 use Rattle.std.proofs.lemmas.Bool.{eqb-true, eqb-false, ne_eqb}
@@ -18,7 +18,6 @@ use Rattle.um_units.proofs.Equality.{same_unit}
 use Rattle.um_units.proofs.Group.{power_of-one, power_of-atom, power_of-other_atom, power_of-pow, mul-one, one-pow}
 use Rattle.um_elim.specs.declared.pivot.Pivot.{Pivot}
 use Rattle.um_elim.specs.declared.turning.Turn.{Turn}
-use Rattle.um_elim.specs.Pivot.{pivot}
 use Rattle.um_elim.specs.Turn.{substitute, multiply, quotients, inverted_if_negative, signed, is_negative, turn_of, IsTurnOf}
 use Rattle.um_elim.specs.Elimination.{Elimination, Solved, NoSolution, Range, eliminate}
 use Rattle.um_elim.specs.Solution.{rigid_units}
@@ -29,7 +28,7 @@ use Rattle.um_elim.proofs.TurnLaws.{power_of-quotients_pivot, less, power_of-quo
 use Rattle.um_rows.specs.declared.row.Row.{Row}
 use Rattle.um_rows.specs.Steps.{units_of}
 use Rattle.um_rows.specs.FirstUnsolvable.{Solving, solved, unsolved, out_of_range, after_row, solve}
-use Rattle.um_turns.specs.Turns.{unit_after, units_after, AreTurnsOf, IsTreated, IsRefusedBy, IsClosedLeft, IsStuck}
+use Rattle.um_turns.specs.Turns.{unit_after, units_after, AreTurnsOf, IsTreated, IsClosedLeft, IsStuck}
 use Rattle.um_turns.proofs.Trace.{eliminate_treated, eliminate_refused}
 use Rattle.um_proof.specs.declared.row.Refused.{Refused}
 use Rattle.um_proof.specs.Making.{Kept, row_unit, IsRowMade, IsReached, first}

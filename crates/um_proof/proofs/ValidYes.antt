@@ -1,7 +1,6 @@
 -- What is kept after all rows, with the variables of its solution numbered, is a valid Yes.
-use Rattle.std.proofs.Common.{◌≡◌, ◌≢◌, inl, inr, ℕ, zero, suc, ◌+◌, ◌<◌, ◌≤◌, false, cond, List, [], ◌∷◌, ◌++◌, map, length, get_or, ℤ, pos, Err, refl, sym, ap, ◌∙◌, subst, arith}
+use Rattle.std.proofs.Common.{◌≡◌, ◌≢◌, inl, inr, ℕ, zero, suc, ◌+◌, ◌<◌, false, cond, List, [], ◌++◌, map, length, get_or, pos, Err, sym, ap, ◌∙◌, subst, arith}
 use Rattle.std.specs.Prelude.{All, IsTrue, nat_eq, slice_index_or}
-use Rattle.std.specs.Int.Signed.{◌<ℤ◌}
 use Rattle.std.specs.List.{flat_map, list_any}
 use Rattle.std.proofs.lemmas.Bool.Decides.{nat_tests}
 use Rattle.std.proofs.lemmas.List.{length-map, get_or-map, get_or_default}
@@ -12,7 +11,7 @@ use Rattle.um_units.specs.Variables.{VariablesBelow}
 use Rattle.um_units.specs.Solutions.{IsJointSolution}
 use Rattle.um_units.proofs.Replacement.{replace-replace, replace_alike, replace-variable, replace-base, nth-map}
 use Rattle.um_units.proofs.Solutions.{IsJointSolution-replace}
-use Rattle.um_tree.specs.TypeTree.{TypeTree, num_type}
+use Rattle.um_tree.specs.TypeTree.{num_type}
 use Rattle.um_tree.specs.ProgramTree.{Signature, SchemeTree}
 use Rattle.um_tree.specs.Typing.{put_signature}
 use Rattle.um_tree.specs.Scheme.{variables, signature_types, unit_variables}
@@ -33,7 +32,7 @@ use Rattle.um_rows.proofs.NumberedSchemes.{numbered_is_numbered}
 use Rattle.um_wide.specs.Room.{IsNarrow}
 use Rattle.um_check.specs.declared.certificate.Part.{Part}
 use Rattle.um_check.specs.declared.certificate.Yes.{Yes}
-use Rattle.um_check.specs.Combination.{combined, NamesRowsBelow}
+use Rattle.um_check.specs.Combination.{NamesRowsBelow}
 use Rattle.um_check.specs.Validity.{returned, ComesBack, ShowsGeneral, IsValidYes}
 use Rattle.um_check.proofs.Returns.{signature_put}
 use Rattle.um_making.specs.Making.{exponents}
@@ -47,7 +46,7 @@ use Rattle.um_proof.specs.Making.{Kept, IsReached, first}
 use Rattle.um_proof.specs.Formed.{IsPowerIn}
 use Rattle.um_proof.specs.Answers.{AreFunctionRows, judged, IsYesMade}
 use Rattle.um_proof.specs.Steps.{Agrees, AreRefused, CarriesInRows, CarriesPower, CarriesReturned}
-use Rattle.um_proof.specs.Renaming.{to_number, held_variables, certificate_order, general_units, GoBack, IsRenamed}
+use Rattle.um_proof.specs.Renaming.{held_variables, certificate_order, general_units, GoBack}
 use Rattle.um_proof.proofs.Prefix.{numbered_in_front}
 use Rattle.um_proof.proofs.General.{general_solution, signature_moved, signature_fits_in_place, all_general_below}
 use Rattle.um_proof.proofs.HeldVariables.{member_of_unit, member_of_held, in_order, renamed_below}

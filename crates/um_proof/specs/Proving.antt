@@ -1,6 +1,6 @@
 -- What `prove` answers. Want of memory may come in place of every answer.
 -- Source: this project's own: certificates of what inference (Kennedy 1996) answers, up to its first refusal.
-use Rattle.std.specs.Prelude.{◌≡◌, ◌⊎◌, ℕ, ◌≤◌, Bool, true, false, List, length, ℤ, Option, Some, None, slice_get, Result, Ok, Err}
+use Rattle.std.specs.Prelude.{◌≡◌, ◌⊎◌, ℕ, ◌≤◌, true, false, List, length, ℤ, Option, Some, None, slice_get, Result, Ok, Err}
 use Rattle.um_units.specs.PowerMap.{PowerMap}
 use Rattle.um_tree.specs.ProgramTree.{FunctionTree, ProgramTree, SchemeTree}
 use Rattle.um_rows.specs.Slots.{slot_count}

@@ -11,12 +11,12 @@ use Rattle.um_scale.specs.Sizes.{AreSizes, sizes}
 use Rattle.um_scale.specs.RescaledLiterals.{rescaled_number, missing, misfit, first_misfit, rescaled, all_rescaled, rescaled_function, misfit_in, rescaled_program}
 use Rattle.um_scale.proofs.SizeFactors.{number_exact}
 
-neither : {A : Type 0} (x y : Option A) → option_or x y ≡ None → (x ≡ None) × (y ≡ None)
+pub neither : {A : Type 0} (x y : Option A) → option_or x y ≡ None → (x ≡ None) × (y ≡ None)
 neither None y e = (refl, e)
 neither (Some z) y e = absurd cc
 
 module _ (cs : List Frac) (above : AreSizes cs) where
-  number_scaled : (at : ℕ) (c : Frac) (n : UnitNote) (o : Option Frac) → rescaled_number cs c n ≡ o → missing at o ≡ None → RescaledNumber (sizes cs) c n (unwrap_or o c)
+  pub number_scaled : (at : ℕ) (c : Frac) (n : UnitNote) (o : Option Frac) → rescaled_number cs c n ≡ o → missing at o ≡ None → RescaledNumber (sizes cs) c n (unwrap_or o c)
   number_scaled at c n None e h = absurd cc
   number_scaled at c Hole (Some d) e h = let same : c ≡ d = cc e in sym same
   number_scaled at c (Written u) (Some d) e h = number_exact cs above u c d e

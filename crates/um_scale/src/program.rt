@@ -3,6 +3,7 @@ ghost use Rattle.std.specs.Prelude.{◌≡◌, IfOk, MatchResult, None, map};
 ghost use Rattle.um_tree.specs.Formed.{IsFormed};
 ghost use Rattle.um_tree.specs.ExprTree.{expr_tree};
 ghost use Rattle.um_tree.specs.ProgramTree.{function_tree, program_tree, result_tree};
+ghost use Rattle.um_shape.specs.FirstFault.{first_fault};
 ghost use Rattle.um_scaling.specs.RescaledProgram.{IsRescaled};
 ghost use Rattle.um_scale.specs.Sizes.{sizes};
 ghost use Rattle.um_scale.specs.Stops.{IsStopAt};
@@ -17,7 +18,8 @@ use um_tree::{Expr, Function, Functions, Note, Program};
 /// The program in other sizes of its base units: each literal with a written unit is multiplied by the unit's factor,
 /// and all else is equal.
 ///
-/// A scale is made for each base unit of the program; one without a scale keeps its size.
+/// A scale is made for each base unit of the program; one without a scale keeps its size. A formed program stays
+/// formed, and one whose nodes have their shapes keeps them.
 ///
 /// # Errors
 ///
@@ -33,6 +35,7 @@ pub fn rescale_program(
     ensures exact { IfOk result (λ q. program_tree q ≡ rescaled_program scales.now (program_tree program.now)) }
     ensures rescaled { IfOk result (λ q. IsRescaled (sizes scales.now) (program_tree program.now) (program_tree q)) }
     ensures formed { IfOk result (λ q. IsFormed (program_tree program.now) → IsFormed (program_tree q)) }
+    ensures faults { IfOk result (λ q. first_fault (program_tree q) ≡ first_fault (program_tree program.now)) }
     ensures range { MatchResult result (λ q. misfit_in scales.now (program_tree program.now).functions ≡ None)
         (IsStopAt (misfit_in scales.now (program_tree program.now).functions)) }
 {

@@ -9,6 +9,7 @@
 mod piece;
 mod run;
 mod table;
+mod turns;
 
 use run::{Tally, report};
 use std::io;

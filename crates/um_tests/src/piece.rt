@@ -1,6 +1,6 @@
 // The bytes that a line of the table stands for.
 use crate::table::{LineFault, number};
-use std::alloc::Global;
+use std::alloc::{AllocError, Global};
 
 /// Adds the bytes of a line of a text or of an answer.
 pub fn push_line(alloc: Global, out: &mut Vec<u8>, key: &str, rest: &str) -> Result<(), LineFault> {
@@ -51,6 +51,9 @@ fn push_escaped(alloc: Global, out: &mut Vec<u8>, part: &str, round: u64) -> Res
         let next = round.saturating_add(1);
         out.extend_from_slice(format!(in alloc; "{next}")?.as_bytes())?;
         rest
+    } else if let Some(rest) = part.strip_prefix("m") {
+        push_longest_word(out)?;
+        rest
     } else if let Some((byte, rest)) = byte_of(part) {
         out.push(byte)?;
         rest
@@ -58,6 +61,14 @@ fn push_escaped(alloc: Global, out: &mut Vec<u8>, part: &str, round: u64) -> Res
         return Err(LineFault::Malformed("no such escape"));
     };
     out.extend_from_slice(rest.as_bytes())?;
+    Ok(())
+}
+
+// As many letters as a word of the program may have.
+fn push_longest_word(out: &mut Vec<u8>) -> Result<(), AllocError> {
+    for _ in 0..65_536 {
+        out.extend_from_slice(b"aaaaaaaaaaaaaaaa")?;
+    }
     Ok(())
 }
 

@@ -8,11 +8,16 @@
 //   < PIECE [CALL]  a run with this many bytes a read, whose read CALL fails; a question has one run
 //                   for each such line, or one run with a whole text a read
 //   > PIECE ROOM [CALL]   the sink takes this many bytes a write and in all, and its write CALL fails
+//   < PIECE each, > PIECE ROOM each   one run for each call in turn, which fails, and one that meets no
+//                   fault: this one has the answer, the others the line on a failed read or its first bytes
+//   ~ STATUS        one run for each proper prefix of the text: its status is at most this one, and it names
+//                   no place behind the prefix
 //   = STATUS        begins the answer
 //   # ..            says something to a reader, as an empty line does
 //
 // Calls are counted from 0. In BYTES and WORDS `\n` is a line feed and `\xFF` the byte of two
-// hexadecimal digits; in a repeated piece `\k` is the number of the round, from 1, and `\K` the next.
+// hexadecimal digits, `\m` is 1,048,576 letters a; in a repeated piece `\k` is the number of the round,
+// from 1, and `\K` the next.
 use crate::piece::{push_line, push_piece};
 use std::alloc::{AllocError, AllocFailed, Global};
 use std::io;
@@ -76,10 +81,22 @@ pub struct Question {
     pub line: String,
     pub words: Words,
     pub sources: Vec<Wire>,
+    pub turns: Option<Turns>,
     pub sink: Wire,
     pub room: usize,
     pub status: Option<u8>,
     pub answer: Vec<u8>,
+}
+
+/// What changes from run to run of one question.
+#[derive(Clone, Copy)]
+pub enum Turns {
+    /// The read that fails, with the most bytes a read.
+    Reads(usize),
+    /// The write that fails.
+    Writes,
+    /// Where the text is cut off, with the greatest status.
+    Prefixes(u8),
 }
 
 /// The most bytes that a call moves, and the call that fails.
@@ -146,6 +163,7 @@ fn question_of(alloc: Global, line: &str) -> Result<Question, LineFault> {
         line: String::from_str(alloc, line)?,
         words: words_of(alloc, line)?,
         sources: Vec::new(alloc),
+        turns: None,
         sink: WHOLE,
         room: WHOLE.piece,
         status: None,
@@ -189,12 +207,20 @@ fn add_to_question(
             question.status = Some(number(rest)?);
             Ok(())
         }
-        "<" => {
-            question.sources.push(wire_of(rest)?)?;
+        "<" => add_source(question, rest),
+        "~" => {
+            question.turns = Some(Turns::Prefixes(number(rest)?));
             Ok(())
         }
         ">" => {
             let (piece, rest) = rest.split_once(' ').unwrap_or((rest, ""));
+            let rest = match rest.strip_suffix(" each") {
+                Some(room) => {
+                    question.turns = Some(Turns::Writes);
+                    room
+                }
+                None => rest,
+            };
             let sink = wire_of(rest)?;
             question.room = sink.piece;
             question.sink = Wire {
@@ -208,6 +234,14 @@ fn add_to_question(
         }
         _ => push_line(alloc, &mut question.answer, key, rest),
     }
+}
+
+fn add_source(question: &mut Question, rest: &str) -> Result<(), LineFault> {
+    match rest.strip_suffix(" each") {
+        Some(piece) => question.turns = Some(Turns::Reads(number(piece)?)),
+        None => question.sources.push(wire_of(rest)?)?,
+    }
+    Ok(())
 }
 
 // One number, and maybe the call that fails.

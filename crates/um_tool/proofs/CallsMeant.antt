@@ -30,31 +30,32 @@ use Rattle.um_sig.specs.Reading.{IsRead}
 use Rattle.um_sig.specs.Answers.{IsConformed}
 use Rattle.um_sig.specs.Instances.{AreOverBases, AreAllTypings}
 use Rattle.um_sig.proofs.TypingLaws.{answers_say_what_typings_are}
-use Rattle.um_tool.specs.declared.order.Order.{Order}
-use Rattle.um_tool.specs.declared.order.Order.TheVariants.{Run, Steps, Eval, Conform}
-use Rattle.um_tool.specs.declared.order.Intake.TheVariants.{Text}
-use Rattle.um_tool.specs.declared.way.Way.{Way}
+use Rattle.um_orders.specs.declared.order.Order.{Order}
+use Rattle.um_orders.specs.declared.order.Order.TheVariants.{Run, Steps, Eval, Conform}
+use Rattle.um_orders.specs.declared.order.Intake.TheVariants.{Text}
+use Rattle.um_answers.specs.declared.way.Way.{Way}
 use Rattle.um_tree.specs.RawTree.{DeclSyntax}
-use Rattle.um_tool.specs.declared.status.Status.{Status}
-use Rattle.um_tool.specs.declared.status.Status.TheVariants.{Done, Limit, Units, PowerRange, Input, Trap, BudgetEnd, NotGeneral, NotConform}
-use Rattle.um_tool.specs.Asked.{Asked, called_name, argument_texts, held_name, signature_text}
-use Rattle.um_tool.specs.CallRefusals.{IsArgumentReply, IsCallReply, IsUnnamedReply, IsSignatureReply, IsConformReply}
-use Rattle.um_tool.specs.CallAnswer.{CallAnswer, BesideAnswer, ByCall, RunAnswer}
-use Rattle.um_tool.specs.ConformAnswer.{ConformAnswer, SignatureAnswer, ReadAnswer, BySignature, MatchingAnswer}
-use Rattle.um_tool.specs.Orders.{intake_of}
-use Rattle.um_tool.specs.Answer.{ByLayout, NamesAnswer, TypedAnswer, InferenceAnswer}
-use Rattle.um_tool.specs.Steps.{line}
+use Rattle.um_reports.specs.declared.status.Status.{Status}
+use Rattle.um_reports.specs.declared.status.Status.TheVariants.{Done, Limit, Units, PowerRange, Input, Trap, BudgetEnd, NotGeneral, NotConform}
+use Rattle.um_answers.specs.Asked.{Asked, called_name, argument_texts, held_name, signature_text}
+use Rattle.um_reports.specs.CallRefusals.{IsArgumentReply, IsCallReply, IsUnnamedReply, IsSignatureReply, IsConformReply}
+use Rattle.um_answers.specs.CallAnswer.{CallAnswer, BesideAnswer, ByCall, RunAnswer}
+use Rattle.um_answers.specs.ConformAnswer.{ConformAnswer, SignatureAnswer, ReadAnswer, BySignature, MatchingAnswer}
+use Rattle.um_orders.specs.Orders.{intake_of}
+use Rattle.um_answers.specs.TypedAnswer.{TypedAnswer}
+use Rattle.um_tool.specs.Answer.{ByLayout, NamesAnswer, InferenceAnswer}
+use Rattle.um_reports.specs.Steps.{line}
 use Rattle.um_tool.specs.Laws.{SpellsProgram}
 use Rattle.um_tool.specs.CallLaws.{IsCall, ends_a_call, IsMeantCall, EndedCallsAreMeant, is_verdict, IsVerdict, VerdictsSayWhatTypingsAre}
 use Rattle.um_tool.proofs.Reached.{comes_last, reached}
-use Rattle.um_tool.proofs.ConformsDone.{read_over_bases}
+use Rattle.um_answers.proofs.ConformsDone.{read_over_bases}
 
 -- ---- no refusal has a status that ends a call, and none that is a verdict
 
-refuted : (test : Status → Bool) (status wanted : Status) → status ≡ wanted → test wanted ≡ false → IsTrue (test status) → ⊥
+pub refuted : (test : Status → Bool) (status wanted : Status) → status ≡ wanted → test wanted ≡ false → IsTrue (test status) → ⊥
 refuted test status wanted e none last = cc (sym none ∙ subst (λ s. IsTrue (test s)) e last)
 
-last_of_calls : (status : Status) → IsTrue (ends_a_call status) → IsTrue (comes_last status)
+pub last_of_calls : (status : Status) → IsTrue (ends_a_call status) → IsTrue (comes_last status)
 last_of_calls Done ends = refl
 last_of_calls Trap ends = refl
 last_of_calls BudgetEnd ends = refl
@@ -72,7 +73,7 @@ argument_refusal index word (input_stop.Names at) text status reply ends = refut
 argument_refusal index word (input_stop.PowerRange at) text status reply ends = refuted ends_a_call status Input reply.1 refl ends
 argument_refusal index word input_stop.NoMemory text status reply ends = reply
 
-call_refusal : (texts : List (List ℕ)) (refused : CallRefusal) (text : List ℕ) (status : Status) → IsCallReply texts refused text status → IsTrue (ends_a_call status) → ⊥
+pub call_refusal : (texts : List (List ℕ)) (refused : CallRefusal) (text : List ℕ) (status : Status) → IsCallReply texts refused text status → IsTrue (ends_a_call status) → ⊥
 call_refusal texts refusal.NoFunction text status reply ends = refuted ends_a_call status Input reply.1 refl ends
 call_refusal texts refusal.WrongCount text status reply ends = refuted ends_a_call status Input reply.1 refl ends
 call_refusal texts (refusal.Argument index stop) text status reply ends = argument_refusal index (get_or texts index []) stop text status reply ends

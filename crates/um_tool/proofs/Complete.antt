@@ -39,25 +39,23 @@ use Rattle.um_parse.specs.ProgramHeights.{program_height}
 use Rattle.um_parse.specs.ProgramLimits.{WithinLimits, PassesAt, functions_in}
 use Rattle.um_parse.specs.ProgramStops.{StopsAt, HighAt}
 use Rattle.um_parse.specs.Parsed.{IsRead, LimitAt, Parsed}
-use Rattle.um_tool.specs.declared.way.Way.TheVariants as way
-use Rattle.um_tool.specs.declared.order.Order.{Order}
-use Rattle.um_tool.specs.declared.status.Status.{Status}
-use Rattle.um_tool.specs.declared.status.Status.TheVariants.{Done}
-use Rattle.um_tool.specs.declared.order.Order.TheVariants.{Types, Code, Fmt, Run, Steps, Eval, Conform, Big}
-use Rattle.um_tool.specs.declared.order.Intake.{Intake}
-use Rattle.um_tool.specs.declared.order.Intake.TheVariants.{Generated, Text, Bytes}
-use Rattle.um_tool.specs.Asked.{Asked}
-use Rattle.um_tool.specs.Answer.{Answer, OrderAnswer, IntakeAnswer, LengthAnswer, TokensAnswer, GrammarAnswer, ProgramAnswer, ByLayout, NamesAnswer, ShapesAnswer, SchemesAnswer, TypedAnswer, ByOrder, InferenceAnswer}
-use Rattle.um_tool.specs.Passing.{EachIsTyped, IsTyped, PassesOn, GoesThrough}
-use Rattle.um_tool.specs.Orders.{intake_of}
-use Rattle.um_tool.specs.Refusals.{IsTextReply, IsParseReply, IsNameReply, IsShapeReply}
-use Rattle.um_tool.specs.Steps.{Cases}
+use Rattle.um_orders.specs.declared.order.Order.{Order}
+use Rattle.um_reports.specs.declared.status.Status.{Status}
+use Rattle.um_reports.specs.declared.status.Status.TheVariants.{Done}
+use Rattle.um_orders.specs.declared.order.Order.TheVariants.{Types, Code, Fmt, Run, Steps, Eval, Conform, Rescale, Twin, Big}
+use Rattle.um_orders.specs.declared.order.Intake.{Intake}
+use Rattle.um_orders.specs.declared.order.Intake.TheVariants.{Generated, Text}
+use Rattle.um_answers.specs.Asked.{Asked}
+use Rattle.um_tool.specs.Answer.{Answer, IntakeAnswer, LengthAnswer, TokensAnswer, GrammarAnswer, ProgramAnswer, ByLayout, NamesAnswer, ShapesAnswer, SchemesAnswer, InferenceAnswer}
+use Rattle.um_answers.specs.Passing.{PassesOn}
+use Rattle.um_tool.specs.Passing.{EachIsTyped, IsTyped, GoesThrough}
+use Rattle.um_orders.specs.Orders.{intake_of}
+use Rattle.um_reports.specs.Refusals.{IsTextReply, IsParseReply, IsNameReply, IsShapeReply}
+use Rattle.um_reports.specs.Steps.{Cases}
 use Rattle.um_tool.specs.Served.{IsPlanned, IsTakenComplete, IsComplete, IsUndisturbed}
 use Rattle.um_sig.specs.Laws.{ReadingsAreUnique}
 use Rattle.um_big.specs.BigText.{big_text}
-use Rattle.um_tool.proofs.CallsDone.{call_done}
-use Rattle.um_tool.proofs.BigAnswers.{big_done}
-use Rattle.um_tool.proofs.ConformsDone.{conform_done}
+use Rattle.um_answers.proofs.TypedDone.{typed_done}
 
 -- what follows a case that doesn't apply
 pub passed : {P Q R : Type 0} → (P → ⊥) → Cases P Q R → R
@@ -128,22 +126,10 @@ all_typed : (p : ProgramTree) → EachIsTyped p → AreTyped p (length p.functio
 all_typed p typed i below = let f = item_at p.functions i below in typed i f.0 f.1
 
 module _ (one_reading : ReadingsAreUnique) where
-  by_order_done : (order : Order) (asked : Asked) (p : ProgramTree) (schemes : List SchemeTree) (text : List ℕ) (status : Status) → IsFormed p → resolved_program asked.raw ≡ Ok p → infer p ≡ all_schemes schemes
-      → PassesOn order asked.words asked.raw p → ByOrder order asked p schemes text status → status ≡ Done
-  by_order_done Types asked p schemes text status formed resolved inferred passes reply = reply.1
-  by_order_done Code asked p schemes text status formed resolved inferred passes reply = reply.1
-  by_order_done Fmt asked p schemes text status formed resolved inferred passes reply = reply.1
-  by_order_done (Run budget) asked p schemes text status formed resolved inferred passes answer = call_done way.Code budget asked p schemes text status formed resolved inferred passes answer
-  by_order_done (Steps budget) asked p schemes text status formed resolved inferred passes answer = call_done way.Counted budget asked p schemes text status formed resolved inferred passes answer
-  by_order_done (Eval budget) asked p schemes text status formed resolved inferred passes answer = call_done way.Tree budget asked p schemes text status formed resolved inferred passes answer
-  by_order_done Conform asked p schemes text status formed resolved inferred passes answer = conform_done one_reading asked p schemes text status formed resolved inferred passes answer
-  by_order_done (Big n) asked p schemes text status formed resolved inferred passes answer = big_done n asked p schemes text status formed resolved inferred passes answer
-
   -- a program whose functions are typed and pass no limit has its schemes
   inferred_done : (asked : Asked) (p : ProgramTree) (inferred : Inference) (text : List ℕ) (status : Status) → IsFormed p → resolved_program asked.raw ≡ Ok p → infer p ≡ inferred → IsGiven inferred
       → PassesOn asked.order asked.words asked.raw p → InferenceAnswer asked p inferred text status → status ≡ Done
-  unfolding TypedAnswer
-  inferred_done asked p (all_schemes schemes) text status formed resolved is h passes answer = by_order_done asked.order asked p schemes text status formed resolved is passes answer
+  inferred_done asked p (all_schemes schemes) text status formed resolved is h passes answer = typed_done one_reading asked p schemes text status formed resolved is passes answer
   inferred_done asked p (stops_at_slots i) text status formed resolved is h passes answer = absurd (cc h.1)
   inferred_done asked p (stops_at_range i at) text status formed resolved is h passes answer = absurd (cc h.1)
   inferred_done asked p (stops_at_units i row at) text status formed resolved is h passes answer = absurd (cc h.1)
@@ -180,6 +166,8 @@ module _ (one_reading : ReadingsAreUnique) where
   by_layout_done (Steps budget) words bytes raw text status readable (typed, passes) answer = names_done (record { order = Steps budget; words = words; bytes = bytes; raw = raw }) text status readable typed passes answer
   by_layout_done (Eval budget) words bytes raw text status readable (typed, passes) answer = names_done (record { order = Eval budget; words = words; bytes = bytes; raw = raw }) text status readable typed passes answer
   by_layout_done Conform words bytes raw text status readable (typed, passes) answer = names_done (record { order = Conform; words = words; bytes = bytes; raw = raw }) text status readable typed passes answer
+  by_layout_done Rescale words bytes raw text status readable (typed, passes) answer = names_done (record { order = Rescale; words = words; bytes = bytes; raw = raw }) text status readable typed passes answer
+  by_layout_done (Twin budget) words bytes raw text status readable (typed, passes) answer = names_done (record { order = Twin budget; words = words; bytes = bytes; raw = raw }) text status readable typed passes answer
   by_layout_done (Big n) words bytes raw text status readable (typed, passes) answer = names_done (record { order = Big n; words = words; bytes = bytes; raw = raw }) text status readable typed passes answer
 
   program_done : (order : Order) (words : List (List ℕ)) (bytes : List ℕ) (raw : List DeclSyntax) (text : List ℕ) (status : Status) → IsReadable raw → GoesThrough order words raw
@@ -208,13 +196,11 @@ module _ (one_reading : ReadingsAreUnique) where
   intake_done Text order words bytes text status ok answer =
       let long : 1048576 < length bytes → ⊥ = λ h. omega (arith, ok.short) in
       tokens_done order words bytes ok.tokens ok.raw text status ok.short ok.lexed ok.read ok.goes_through (passed long answer)
-  intake_done (Bytes most) order words bytes text status ok answer = absurd ok
 
   pub Answer-complete : (words : List (List ℕ)) (bytes text : List ℕ) (status : Status) → IsComplete words bytes → Answer words bytes text status → status ≡ Done
-  unfolding Answer OrderAnswer
+  unfolding Answer
   Answer-complete words bytes text status ok answer =
-      let ordered : OrderAnswer words bytes text status = passed ok.asks.built answer in
-      let given : IntakeAnswer (intake_of ok.order) ok.order words bytes text status = rw ok.asks.ordered at ordered in
+      let given : IntakeAnswer (intake_of ok.order) ok.order words bytes text status = rw ok.asks.ordered at answer in
       let taken : IntakeAnswer ok.intake ok.order words bytes text status = rw ok.asks.takes at given in
       intake_done ok.intake ok.order words bytes text status ok.taken taken
 

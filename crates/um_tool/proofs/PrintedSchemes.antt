@@ -8,13 +8,14 @@ use Rattle.um_infer.specs.Schemes.{ArePrincipal, IsFirstWithoutUnits, IsFirstNot
 use Rattle.um_infer.proofs.InferenceLaws.{given_schemes_are_principal, units_stop_at_first_untyped, not_general_stops_at_first_untyped}
 use Rattle.um_gen.specs.ProgramCode.{program_code}
 use Rattle.um_code.specs.Listing.{listing_text}
-use Rattle.um_tool.specs.declared.order.Order.TheVariants.{Types, Code}
-use Rattle.um_tool.specs.declared.status.Status.TheVariants.{Done, Units, NotGeneral}
-use Rattle.um_tool.specs.SchemeLines.{scheme_lines}
-use Rattle.um_tool.specs.Refusals.{placed, units_label, not_general_label}
-use Rattle.um_tool.specs.Asked.{Asked}
-use Rattle.um_tool.specs.Orders.{order_of}
-use Rattle.um_tool.specs.Answer.{TypedAnswer, InferenceAnswer}
+use Rattle.um_orders.specs.declared.order.Order.TheVariants.{Types, Code}
+use Rattle.um_reports.specs.declared.status.Status.TheVariants.{Done, Units, NotGeneral}
+use Rattle.um_answers.specs.SchemeLines.{scheme_lines}
+use Rattle.um_reports.specs.Refusals.{placed, units_label, not_general_label}
+use Rattle.um_answers.specs.Asked.{Asked}
+use Rattle.um_orders.specs.Orders.{order_of}
+use Rattle.um_answers.specs.TypedAnswer.{TypedAnswer}
+use Rattle.um_tool.specs.Answer.{InferenceAnswer}
 use Rattle.um_tool.specs.Laws.{PrintedTypesArePrincipalSchemes, UnitsNameTheFirstUntyped, NotGeneralNamesTheFirstUntyped}
 use Rattle.um_tool.specs.CallLaws.{PrintedCodeIsTheProgramsCode}
 use Rattle.um_tool.proofs.Reached.{reached}

@@ -20,14 +20,14 @@ use Rattle.um_readable.proofs.TextBytes.{readable_program}
 use Rattle.um_shape.specs.declared.stop.ShapeStop.{ShapeStop}
 use Rattle.um_shape.specs.declared.stop.ShapeStop.TheVariants as shape_stop
 use Rattle.um_infer.specs.Inference.{infer}
-use Rattle.um_tool.specs.declared.order.Order.{Order}
-use Rattle.um_tool.specs.declared.order.Intake.TheVariants.{Text}
-use Rattle.um_tool.specs.declared.status.Status.{Status}
-use Rattle.um_tool.specs.declared.status.Status.TheVariants.{Done, TooLong, Utf8, Lexical, Syntax, Limit, Names, Shape, Units, PowerRange, Input, Trap, BudgetEnd, NotBuilt, NotGeneral, NotConform}
-use Rattle.um_tool.specs.Refusals.{IsTextReply, IsParseReply, IsNameReply, IsShapeReply}
-use Rattle.um_tool.specs.Asked.{Asked}
-use Rattle.um_tool.specs.Orders.{order_of, intake_of}
-use Rattle.um_tool.specs.Answer.{Answer, OrderAnswer, IntakeAnswer, LengthAnswer, TokensAnswer, GrammarAnswer, ProgramAnswer, ByLayout, NamesAnswer, ShapesAnswer, SchemesAnswer, InferenceAnswer}
+use Rattle.um_orders.specs.declared.order.Order.{Order}
+use Rattle.um_orders.specs.declared.order.Intake.TheVariants.{Text}
+use Rattle.um_reports.specs.declared.status.Status.{Status}
+use Rattle.um_reports.specs.declared.status.Status.TheVariants.{Done, TooLong, Utf8, Lexical, Syntax, Limit, Names, Shape, Units, PowerRange, Input, Trap, BudgetEnd, ScaleRange, NotGeneral, NotConform}
+use Rattle.um_reports.specs.Refusals.{IsTextReply, IsParseReply, IsNameReply, IsShapeReply}
+use Rattle.um_answers.specs.Asked.{Asked}
+use Rattle.um_orders.specs.Orders.{order_of, intake_of}
+use Rattle.um_tool.specs.Answer.{Answer, IntakeAnswer, LengthAnswer, TokensAnswer, GrammarAnswer, ProgramAnswer, ByLayout, NamesAnswer, ShapesAnswer, SchemesAnswer, InferenceAnswer}
 use Rattle.um_tool.specs.Laws.{SpellsProgram}
 
 -- the statuses that no step before the schemes answers
@@ -38,6 +38,7 @@ comes_last NotGeneral = true
 comes_last Input = true
 comes_last Trap = true
 comes_last BudgetEnd = true
+comes_last ScaleRange = true
 comes_last NotConform = true
 comes_last status = false
 
@@ -129,14 +130,9 @@ module _ (order : Order) (words : List (List ℕ)) (bytes text : List ℕ) (stat
   length_reached looks (inl (long, reply)) = absurd (refuted status TooLong reply.1 refl last)
   length_reached looks (inr (short, answer)) = tokens_reached looks (within (length bytes) short) answer
 
-  order_reached : LooksUp → order_of words ≡ Some order → intake_of order ≡ Text → OrderAnswer words bytes text status → Reached
-  unfolding OrderAnswer
-  order_reached looks ordered takes answer =
+  pub reached : LooksUp → order_of words ≡ Some order → intake_of order ≡ Text → Answer words bytes text status → Reached
+  unfolding Answer
+  reached looks ordered takes answer =
       let given : IntakeAnswer (intake_of order) order words bytes text status = rw ordered at answer in
       let taken : IntakeAnswer Text order words bytes text status = rw takes at given in
       length_reached looks taken
-
-  pub reached : LooksUp → order_of words ≡ Some order → intake_of order ≡ Text → Answer words bytes text status → Reached
-  unfolding Answer
-  reached looks ordered takes (inl (unbuilt, reply)) = absurd (refuted status NotBuilt reply.1 refl last)
-  reached looks ordered takes (inr (built, answer)) = order_reached looks ordered takes answer

@@ -6,18 +6,19 @@ use Rattle.um_wire.specs.Faults.{Rose}
 use Rattle.um_wire.specs.Bytes.{Tells, TellsMoreThan, AppendsPrefix}
 use Rattle.um_wire.specs.declared.read.ReadStop.{ReadStop}
 use Rattle.um_wire.specs.declared.read.ReadStop.TheVariants.{TooLong as TooLongToRead, Failed as ReadFailed, NoMemory as OutOfMemory}
-use Rattle.um_tool.specs.declared.order.Order.{Order}
-use Rattle.um_tool.specs.declared.order.Intake.{Intake}
-use Rattle.um_tool.specs.declared.order.Intake.TheVariants.{Generated, Text}
-use Rattle.um_tool.specs.declared.status.Status.{Status}
-use Rattle.um_tool.specs.declared.status.Status.TheVariants.{Usage, ReadFault, WriteFault}
-use Rattle.um_tool.specs.Answer.{Answer, OrderAnswer, IntakeAnswer, LengthAnswer, TokensAnswer, IsNotBuilt}
-use Rattle.um_tool.specs.Refusals.{IsReadReply}
-use Rattle.um_tool.specs.Steps.{IsReply, line}
+use Rattle.um_orders.specs.declared.order.Order.{Order}
+use Rattle.um_orders.specs.declared.order.Intake.{Intake}
+use Rattle.um_orders.specs.declared.order.Intake.TheVariants.{Generated, Text}
+use Rattle.um_reports.specs.declared.status.Status.{Status}
+use Rattle.um_reports.specs.declared.status.Status.TheVariants.{Usage, ReadFault, WriteFault}
+use Rattle.um_tool.specs.Answer.{Answer, IntakeAnswer, LengthAnswer, TokensAnswer}
+use Rattle.um_reports.specs.Refusals.{IsReadReply}
+use Rattle.um_reports.specs.Steps.{IsReply, line}
 use Rattle.um_big.specs.BigText.{big_text}
-use Rattle.um_tool.specs.Orders.{order_of, intake_of, NamesUnbuilt, AsksFor}
+use Rattle.um_orders.specs.Orders.{order_of, intake_of, AsksFor}
 use Rattle.um_tool.specs.Served.{IsPlanned, Reads, Serves}
-use Rattle.um_tool.proofs.Statuses.{is_answered, Answer-status}
+use Rattle.um_reports.proofs.ReportStatuses.{is_answered}
+use Rattle.um_tool.proofs.Statuses.{Answer-status}
 
 -- some bytes that the source may have left
 pub some_told : (left : Option (List ℕ)) → (bytes : List ℕ) × Tells left bytes
@@ -29,24 +30,18 @@ pub if_ok : {T E : Type 0} {P Q : T → Type 0} (result : Result T E) → ((v : 
 if_ok (Ok v) step fact = step v fact
 if_ok (Err e) step fact = fact
 
-pub unbuilt_planned : (words : List (List ℕ)) (left : Option (List ℕ)) (before now : ℕ) (text : List ℕ) (status : Status) → NamesUnbuilt words → IsNotBuilt text status → IsPlanned words left before now text status
+pub usage_planned : (words : List (List ℕ)) (left : Option (List ℕ)) (before now : ℕ) (text : List ℕ) (status : Status) → None ≡ order_of words → IsReply text status (line (codes "error 1: usage")) Usage → IsPlanned words left before now text status
 unfolding Answer
-unbuilt_planned words left before now text status unbuilt reply =
+usage_planned words left before now text status none reply =
     let told = some_told left in
-    inl (told.0, told.1, inl (unbuilt, reply))
-
-pub usage_planned : (words : List (List ℕ)) (left : Option (List ℕ)) (before now : ℕ) (text : List ℕ) (status : Status) → (NamesUnbuilt words → ⊥) → None ≡ order_of words → IsReply text status (line (codes "error 1: usage")) Usage → IsPlanned words left before now text status
-unfolding Answer OrderAnswer
-usage_planned words left before now text status built none reply =
-    let told = some_told left in
-    inl (told.0, told.1, inr (built, rw (← none) reply))
+    inl (told.0, told.1, rw (← none) reply)
 
 -- ---- an order, by what it takes from the source
 
 pub order_planned : (words : List (List ℕ)) (left : Option (List ℕ)) (before now : ℕ) (order : Order) (intake : Intake) (bytes text : List ℕ) (status : Status) → AsksFor words order intake → Tells left bytes → IntakeAnswer intake order words bytes text status → IsPlanned words left before now text status
-unfolding Answer OrderAnswer
+unfolding Answer
 order_planned words left before now order intake bytes text status asks told answer =
-    inl (bytes, told, inr (asks.built, rw asks.ordered (rw asks.takes answer)))
+    inl (bytes, told, rw asks.ordered (rw asks.takes answer))
 
 pub text_planned : (words : List (List ℕ)) (left : Option (List ℕ)) (before now : ℕ) (order : Order) (bytes text : List ℕ) (status : Status) → AsksFor words order Text → Tells left bytes → length bytes ≤ 1048576 → TokensAnswer order words bytes text status → IsPlanned words left before now text status
 unfolding LengthAnswer
@@ -58,7 +53,7 @@ text_planned words left before now order bytes text status asks told short answe
 pub generated_planned : (words : List (List ℕ)) (left : Option (List ℕ)) (before now : ℕ) (order : Order) (n : ℕ) (text : List ℕ) (status : Status) → AsksFor words order (intake_of order) → intake_of order ≡ Generated n → TokensAnswer order words (big_text n) text status → IsPlanned words left before now text status
 generated_planned words left before now order n text status asks takes answer =
     let told = some_told left in
-    let generated : AsksFor words order (Generated n) = record { built = asks.built; ordered = asks.ordered; takes = takes } in
+    let generated : AsksFor words order (Generated n) = record { ordered = asks.ordered; takes = takes } in
     order_planned words left before now order (Generated n) told.0 text status generated told.1 answer
 
 -- words that ask for a text read

@@ -23,25 +23,24 @@ use Rattle.um_shape.specs.declared.stop.ShapeStop.{ShapeStop}
 use Rattle.um_shape.specs.declared.stop.ShapeStop.TheVariants as shape_stop
 use Rattle.um_shape.specs.FirstFault.{ShapeFault, wrong_shape, too_deep, first_fault}
 use Rattle.um_shape.specs.ShapedProgram.{IsRefusal}
-use Rattle.um_tree.specs.ProgramTree.{FunctionTree, ProgramTree, SchemeTree}
+use Rattle.um_tree.specs.ProgramTree.{FunctionTree, ProgramTree}
 use Rattle.um_tree.specs.Formed.{IsFormed}
 use Rattle.um_names.specs.Readable.{IsReadable}
 use Rattle.um_names.proofs.FormedPrograms.{resolution_formed}
 use Rattle.um_readable.proofs.TextBytes.{readable_program}
 use Rattle.um_infer.specs.Inference.{Inference, all_schemes, stops_at_slots, stops_at_range, stops_at_units, stops_at_not_general, infer}
 use Rattle.um_types.specs.declared.parse.LimitKind.TheVariants as limit
-use Rattle.um_tool.specs.declared.way.Way.TheVariants as way
-use Rattle.um_tool.specs.declared.order.Order.{Order}
-use Rattle.um_tool.specs.declared.order.Order.TheVariants.{Types, Code, Fmt, Run, Steps, Eval, Conform, Big}
-use Rattle.um_tool.specs.declared.order.Intake.{Intake}
-use Rattle.um_tool.specs.declared.order.Intake.TheVariants.{Generated, Text, Bytes}
-use Rattle.um_tool.specs.declared.status.Status.{Status}
-use Rattle.um_tool.specs.declared.status.Status.TheVariants.{Usage, Utf8, Lexical, Limit, Names, PowerRange, Shape}
-use Rattle.um_tool.specs.Steps.{line, IsReply}
-use Rattle.um_tool.specs.Orders.{order_of, intake_of}
-use Rattle.um_tool.specs.Refusals.{placed, limit_label, IsTextReply, IsParseReply, IsNameReply, IsShapeReply}
-use Rattle.um_tool.specs.Asked.{Asked}
-use Rattle.um_tool.specs.Answer.{Answer, OrderAnswer, IntakeAnswer, LengthAnswer, TokensAnswer, GrammarAnswer, ProgramAnswer, ByLayout, NamesAnswer, ShapesAnswer, SchemesAnswer, TypedAnswer, ByOrder, InferenceAnswer, OfFunction}
+use Rattle.um_orders.specs.declared.order.Order.{Order}
+use Rattle.um_orders.specs.declared.order.Order.TheVariants.{Types, Code, Fmt, Run, Steps, Eval, Conform, Rescale, Twin, Big}
+use Rattle.um_orders.specs.declared.order.Intake.{Intake}
+use Rattle.um_orders.specs.declared.order.Intake.TheVariants.{Generated, Text}
+use Rattle.um_reports.specs.declared.status.Status.{Status}
+use Rattle.um_reports.specs.declared.status.Status.TheVariants.{Usage, Utf8, Lexical, Limit, Names, PowerRange, Shape}
+use Rattle.um_reports.specs.Steps.{line, IsReply}
+use Rattle.um_orders.specs.Orders.{order_of, intake_of}
+use Rattle.um_reports.specs.Refusals.{placed, limit_label, IsTextReply, IsParseReply, IsNameReply, IsShapeReply}
+use Rattle.um_answers.specs.Asked.{Asked}
+use Rattle.um_tool.specs.Answer.{Answer, IntakeAnswer, LengthAnswer, TokensAnswer, GrammarAnswer, ProgramAnswer, ByLayout, NamesAnswer, ShapesAnswer, SchemesAnswer, InferenceAnswer, OfFunction}
 use Rattle.um_sig.specs.Laws.{ReadingsAreUnique}
 use Rattle.um_tool.specs.Laws.{AnswersAreUnique}
 use Rattle.um_tool.proofs.Complete.{not_utf8, text_not_refused, program_not_refused, not_refused, not_faulty}
@@ -49,9 +48,8 @@ use Rattle.um_tool.proofs.Reached.{within}
 use Rattle.um_tool.proofs.PrintedSchemes.{one_function}
 use Rattle.um_big.specs.BigText.{big_text}
 use Rattle.um_big.proofs.Lengths.{text_fits}
-use Rattle.um_tool.proofs.OrderWords.{generated_count}
-use Rattle.um_tool.proofs.UniqueReplies.{call_one, conform_one}
-use Rattle.um_tool.proofs.BigAnswers.{big_one}
+use Rattle.um_orders.proofs.OrderWords.{generated_count}
+use Rattle.um_answers.proofs.UniqueTyped.{typed_one}
 
 one_reply : (text other wanted : List ℕ) (status another meant : Status) → IsReply text status wanted meant → IsReply other another wanted meant → (text ≡ other) × (status ≡ another)
 one_reply text other wanted status another meant a b = (a.0 ∙ sym b.0, a.1 ∙ sym b.1)
@@ -152,19 +150,8 @@ module _ (one_answer : ParsesAreUnique) (one_reading : ReadingsAreUnique) (text 
   of_one_function : (p : ProgramTree) (i : ℕ) (Says Tells : FunctionTree → Type 0) → ((f : FunctionTree) → Says f → Tells f → (text ≡ other) × (status ≡ another)) → OfFunction p i Says → OfFunction p i Tells → (text ≡ other) × (status ≡ another)
   of_one_function p i Says Tells one (f, declared, a) (g, is, b) = one g (subst Says (one_function p i f g declared is) a) b
 
-  by_order_one : (order : Order) (asked : Asked) (p : ProgramTree) (schemes : List SchemeTree) → IsFormed p → ByOrder order asked p schemes text status → ByOrder order asked p schemes other another → (text ≡ other) × (status ≡ another)
-  by_order_one Types asked p schemes formed a b = (a.0 ∙ sym b.0, a.1 ∙ sym b.1)
-  by_order_one Code asked p schemes formed a b = (a.0 ∙ sym b.0, a.1 ∙ sym b.1)
-  by_order_one Fmt asked p schemes formed a b = (a.0 ∙ sym b.0, a.1 ∙ sym b.1)
-  by_order_one (Run budget) asked p schemes formed a b = call_one text other status another way.Code budget asked p schemes formed a b
-  by_order_one (Steps budget) asked p schemes formed a b = call_one text other status another way.Counted budget asked p schemes formed a b
-  by_order_one (Eval budget) asked p schemes formed a b = call_one text other status another way.Tree budget asked p schemes formed a b
-  by_order_one Conform asked p schemes formed a b = conform_one text other status another one_reading asked p schemes a b
-  by_order_one (Big n) asked p schemes formed a b = big_one text other status another n asked p schemes formed a b
-
   inference_one : (asked : Asked) (p : ProgramTree) (inferred : Inference) → IsFormed p → InferenceAnswer asked p inferred text status → InferenceAnswer asked p inferred other another → (text ≡ other) × (status ≡ another)
-  unfolding TypedAnswer
-  inference_one asked p (all_schemes schemes) formed a b = by_order_one asked.order asked p schemes formed a b
+  inference_one asked p (all_schemes schemes) formed a b = typed_one one_reading text other status another asked p schemes formed a b
   inference_one asked p (stops_at_slots i) formed a b = of_one_function p i _ _ (λ f x y. (x.0 ∙ sym y.0, x.1 ∙ sym y.1)) a b
   inference_one asked p (stops_at_range i at) formed a b = of_one_function p i _ _ (λ f x y. (x.0 ∙ sym y.0, x.1 ∙ sym y.1)) a b
   inference_one asked p (stops_at_units i row at) formed a b = of_one_function p i _ _ (λ f x y. (x.0 ∙ sym y.0, x.1 ∙ sym y.1)) a b
@@ -210,6 +197,8 @@ module _ (one_answer : ParsesAreUnique) (one_reading : ReadingsAreUnique) (text 
   by_layout_one (Steps budget) asked readable a b = names_one asked readable a b
   by_layout_one (Eval budget) asked readable a b = names_one asked readable a b
   by_layout_one Conform asked readable a b = names_one asked readable a b
+  by_layout_one Rescale asked readable a b = names_one asked readable a b
+  by_layout_one (Twin budget) asked readable a b = names_one asked readable a b
   by_layout_one (Big n) asked readable a b = names_one asked readable a b
 
   program_one : (asked : Asked) → IsReadable asked.raw → ProgramAnswer asked text status → ProgramAnswer asked other another → (text ≡ other) × (status ≡ another)
@@ -245,21 +234,13 @@ module _ (one_answer : ParsesAreUnique) (one_reading : ReadingsAreUnique) (text 
   intake_one : (intake : Intake) (order : Order) (words : List (List ℕ)) (bytes : List ℕ) → order_of words ≡ Some order → intake_of order ≡ intake → IntakeAnswer intake order words bytes text status → IntakeAnswer intake order words bytes other another → (text ≡ other) × (status ≡ another)
   intake_one (Generated n) order words bytes ordered takes a b = tokens_one order words (big_text n) (text_fits n (generated_count words order n ordered takes).1) a b
   intake_one Text order words bytes ordered takes a b = length_one order words bytes a b
-  intake_one (Bytes most) order words bytes ordered takes a b = (a.0 ∙ sym b.0, a.1 ∙ sym b.1)
 
   ordered_one : (order : Option Order) (words : List (List ℕ)) (bytes : List ℕ) → order_of words ≡ order → MatchOption order (IsReply text status (line (codes "error 1: usage")) Usage) (λ o. IntakeAnswer (intake_of o) o words bytes text status)
       → MatchOption order (IsReply other another (line (codes "error 1: usage")) Usage) (λ o. IntakeAnswer (intake_of o) o words bytes other another) → (text ≡ other) × (status ≡ another)
   ordered_one None words bytes is a b = (a.0 ∙ sym b.0, a.1 ∙ sym b.1)
   ordered_one (Some order) words bytes is a b = intake_one (intake_of order) order words bytes is refl a b
 
-  order_one : (words : List (List ℕ)) (bytes : List ℕ) → OrderAnswer words bytes text status → OrderAnswer words bytes other another → (text ≡ other) × (status ≡ another)
-  unfolding OrderAnswer
-  order_one words bytes a b = ordered_one (order_of words) words bytes refl a b
-
 -- where `parse` has one answer to each list of tokens, and the text of a signature one reading
 pub answers_are_one : ParsesAreUnique → ReadingsAreUnique → AnswersAreUnique
 unfolding Answer
-answers_are_one one one_reading words bytes text other status another (inl (unbuilt, a)) (inl (also, b)) = (a.0 ∙ sym b.0, a.1 ∙ sym b.1)
-answers_are_one one one_reading words bytes text other status another (inl (unbuilt, a)) (inr (built, b)) = absurd (built unbuilt)
-answers_are_one one one_reading words bytes text other status another (inr (built, a)) (inl (unbuilt, b)) = absurd (built unbuilt)
-answers_are_one one one_reading words bytes text other status another (inr (built, a)) (inr (also, b)) = order_one one one_reading text other status another words bytes a b
+answers_are_one one one_reading words bytes text other status another a b = ordered_one one one_reading text other status another (order_of words) words bytes refl a b

@@ -2,19 +2,18 @@
 -- One definition a step; each names only the next, and none is unfolded but in its own step's proof.
 -- Source: this project's own.
 use Rattle.std.specs.Prelude.{ℕ, ◌<◌, ◌≡◌, ◌⊎◌, List, length, codes, slice_get, MatchOption, Some, None, Ok, Err}
-use Rattle.um_tool.specs.declared.order.Order.{Order}
-use Rattle.um_tool.specs.declared.order.Order.TheVariants.{Types, Code, Fmt, Run, Steps, Eval, Conform, Big}
-use Rattle.um_tool.specs.declared.order.Intake.{Intake}
-use Rattle.um_tool.specs.declared.order.Intake.TheVariants.{Generated, Text, Bytes}
-use Rattle.um_tool.specs.declared.way.Way.TheVariants as way
-use Rattle.um_tool.specs.declared.status.Status.{Status}
-use Rattle.um_tool.specs.declared.status.Status.TheVariants.{Done, Usage, TooLong, NotBuilt}
+use Rattle.um_orders.specs.declared.order.Order.{Order}
+use Rattle.um_orders.specs.declared.order.Order.TheVariants.{Fmt}
+use Rattle.um_orders.specs.declared.order.Intake.{Intake}
+use Rattle.um_orders.specs.declared.order.Intake.TheVariants.{Generated, Text}
+use Rattle.um_reports.specs.declared.status.Status.{Status}
+use Rattle.um_reports.specs.declared.status.Status.TheVariants.{Done, Usage, TooLong}
 use Rattle.um_syntax.specs.declared.token.Token.{Token}
 use Rattle.um_syntax.specs.declared.token.TextStop.{TextStop}
 use Rattle.um_syntax.specs.Feeding.{IsTextAnswer}
 use Rattle.um_types.specs.declared.parse.ParseStop.{ParseStop}
 use Rattle.um_tree.specs.RawTree.{DeclSyntax}
-use Rattle.um_tree.specs.ProgramTree.{FunctionTree, ProgramTree, SchemeTree}
+use Rattle.um_tree.specs.ProgramTree.{FunctionTree, ProgramTree}
 use Rattle.um_parse.specs.Parsed.{IsRead, Parsed}
 use Rattle.um_measures.specs.declared.stop.NameStop.{NameStop}
 use Rattle.um_measures.specs.Stops.{IsFirst}
@@ -25,40 +24,17 @@ use Rattle.um_shape.specs.ShapedProgram.{IsRefusal}
 use Rattle.um_infer.specs.Inference.{Inference, all_schemes, stops_at_slots, stops_at_range, stops_at_units}
 use Rattle.um_infer.specs.Inference.{stops_at_not_general, infer}
 use Rattle.um_show.specs.Layout.{layout}
-use Rattle.um_gen.specs.ProgramCode.{program_code}
-use Rattle.um_code.specs.Listing.{listing_text}
 use Rattle.um_big.specs.BigText.{big_text}
-use Rattle.um_tool.specs.Asked.{Asked}
-use Rattle.um_tool.specs.BigAnswer.{BigAnswer}
-use Rattle.um_tool.specs.CallAnswer.{CallAnswer}
-use Rattle.um_tool.specs.ConformAnswer.{ConformAnswer}
-use Rattle.um_tool.specs.Orders.{order_of, intake_of, NamesUnbuilt}
-use Rattle.um_tool.specs.Refusals.{IsTextReply, IsParseReply, IsNameReply, IsShapeReply, IsSlotsReply, IsRangeReply}
-use Rattle.um_tool.specs.Refusals.{IsUnitsReply, IsNotGeneralReply}
-use Rattle.um_tool.specs.SchemeLines.{scheme_lines}
-use Rattle.um_tool.specs.Steps.{line, IsReply, Cases}
-
--- the form isn't built yet
-abbrev pub IsNotBuilt : List ℕ → Status → Type 0
-IsNotBuilt text status = IsReply text status (line (codes "error 18: not built")) NotBuilt
+use Rattle.um_answers.specs.Asked.{Asked}
+use Rattle.um_answers.specs.TypedAnswer.{TypedAnswer}
+use Rattle.um_orders.specs.Orders.{order_of, intake_of}
+use Rattle.um_reports.specs.Refusals.{IsTextReply, IsParseReply, IsNameReply, IsShapeReply, IsSlotsReply, IsRangeReply}
+use Rattle.um_reports.specs.Refusals.{IsUnitsReply, IsNotGeneralReply}
+use Rattle.um_reports.specs.Steps.{line, IsReply, Cases}
 
 -- the function of this number, and what is said of it
 abbrev pub OfFunction : ProgramTree → ℕ → (FunctionTree → Type 0) → Type 0
 OfFunction p i Says = (f : FunctionTree) × (slice_get p.functions i ≡ Some f) × Says f
-
--- what the order asks of the functions' schemes; `fmt` was answered before
-abbrev pub ByOrder : Order → Asked → ProgramTree → List SchemeTree → List ℕ → Status → Type 0
-ByOrder Types asked p schemes text status = IsReply text status (scheme_lines p p.functions schemes) Done
-ByOrder Code asked p schemes text status = IsReply text status (listing_text p (program_code p.functions)) Done
-ByOrder Fmt asked p schemes text status = IsReply text status (layout asked.raw) Done
-ByOrder (Run budget) asked p schemes text status = CallAnswer way.Code budget asked p schemes text status
-ByOrder (Steps budget) asked p schemes text status = CallAnswer way.Counted budget asked p schemes text status
-ByOrder (Eval budget) asked p schemes text status = CallAnswer way.Tree budget asked p schemes text status
-ByOrder Conform asked p schemes text status = ConformAnswer asked p schemes text status
-ByOrder (Big n) asked p schemes text status = BigAnswer n asked p schemes text status
-
-unfoldable pub TypedAnswer : Asked → ProgramTree → List SchemeTree → List ℕ → Status → Type 0
-TypedAnswer asked p schemes text status = ByOrder asked.order asked p schemes text status
 
 -- what is asked of the schemes of all functions, or the refusal of the first function without one
 abbrev pub InferenceAnswer : Asked → ProgramTree → Inference → List ℕ → Status → Type 0
@@ -115,21 +91,13 @@ LengthAnswer order words bytes text status = Cases (1048576 < length bytes)
     (IsReply text status (line (codes "error 2: text too long")) TooLong)
     (TokensAnswer order words bytes text status)
 
--- by what the order takes from the source: a generated text stands for what it would have read; no order that takes
--- bytes that are no text is built yet
+-- by what the order takes from the source: a generated text stands for what it would have read
 abbrev pub IntakeAnswer : Intake → Order → List (List ℕ) → List ℕ → List ℕ → Status → Type 0
 IntakeAnswer (Generated n) order words bytes text status = TokensAnswer order words (big_text n) text status
 IntakeAnswer Text order words bytes text status = LengthAnswer order words bytes text status
-IntakeAnswer (Bytes limit) order words bytes text status = IsNotBuilt text status
 
 -- the words name an order
-unfoldable pub OrderAnswer : List (List ℕ) → List ℕ → List ℕ → Status → Type 0
-OrderAnswer words bytes text status = MatchOption (order_of words)
+unfoldable pub Answer : List (List ℕ) → List ℕ → List ℕ → Status → Type 0
+Answer words bytes text status = MatchOption (order_of words)
     (IsReply text status (line (codes "error 1: usage")) Usage)
     (λ order. IntakeAnswer (intake_of order) order words bytes text status)
-
--- the first word is no command that isn't built yet
-unfoldable pub Answer : List (List ℕ) → List ℕ → List ℕ → Status → Type 0
-Answer words bytes text status = Cases (NamesUnbuilt words)
-    (IsNotBuilt text status)
-    (OrderAnswer words bytes text status)

@@ -18,17 +18,17 @@ use Rattle.um_run.specs.Laws.{IsTypedCall}
 use Rattle.um_sig.specs.declared.signature.Signature.{Signature}
 use Rattle.um_sig.specs.Reading.{IsRead}
 use Rattle.um_sig.specs.Instances.{AreAllTypings}
-use Rattle.um_tool.specs.declared.order.Order.{Order}
-use Rattle.um_tool.specs.declared.order.Order.TheVariants.{Run, Steps, Eval, Conform}
-use Rattle.um_tool.specs.declared.way.Way.{Way}
-use Rattle.um_tool.specs.declared.way.Way.TheVariants as way
-use Rattle.um_tool.specs.declared.status.Status.{Status}
-use Rattle.um_tool.specs.declared.status.Status.TheVariants.{Done, Trap, BudgetEnd, NotConform}
-use Rattle.um_tool.specs.Asked.{called_name, argument_texts, held_name, signature_text}
-use Rattle.um_tool.specs.CallAnswer.{AreSteps, IsOutcomeReply}
-use Rattle.um_tool.specs.Orders.{order_of}
+use Rattle.um_orders.specs.declared.order.Order.{Order}
+use Rattle.um_orders.specs.declared.order.Order.TheVariants.{Run, Steps, Eval, Conform}
+use Rattle.um_answers.specs.declared.way.Way.{Way}
+use Rattle.um_answers.specs.declared.way.Way.TheVariants as way
+use Rattle.um_reports.specs.declared.status.Status.{Status}
+use Rattle.um_reports.specs.declared.status.Status.TheVariants.{Done, Trap, BudgetEnd, NotConform}
+use Rattle.um_answers.specs.Asked.{called_name, argument_texts, held_name, signature_text}
+use Rattle.um_answers.specs.CallAnswer.{AreSteps, IsOutcomeReply}
+use Rattle.um_orders.specs.Orders.{order_of}
 use Rattle.um_tool.specs.Answer.{Answer}
-use Rattle.um_tool.specs.Steps.{line}
+use Rattle.um_reports.specs.Steps.{line}
 use Rattle.um_tool.specs.Laws.{SpellsProgram}
 
 -- What `code` prints with status 0 is the listing of the code of the program that the bytes spell.

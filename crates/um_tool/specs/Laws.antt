@@ -1,10 +1,7 @@
 -- What report lines and answers say, in the subject's words.
 -- Source: UTF-8 (RFC 3629), in which one byte begins each character and every other byte of it lies in 128..191;
 -- principal schemes and typings are Kennedy's (1996).
-use Rattle.std.specs.Prelude.{ℕ, ◌≡◌, List, [], ◌∷◌, ◌++◌, length, codes, take, None, Ok}
-use Rattle.std.specs.Fmt.{decimal}
-use Rattle.std.specs.Str.{IsUtf8}
-use Rattle.um_syntax.specs.LineColumn.{line_after, column_after}
+use Rattle.std.specs.Prelude.{ℕ, ◌≡◌, List, [], ◌∷◌, length, codes, None, Ok}
 use Rattle.um_syntax.specs.declared.token.Token.{Token}
 use Rattle.um_syntax.specs.Feeding.{IsTextAnswer}
 use Rattle.um_tree.specs.RawTree.{DeclSyntax}
@@ -13,28 +10,11 @@ use Rattle.um_parse.specs.Parsed.{IsRead}
 use Rattle.um_names.specs.Resolution.{resolved_program}
 use Rattle.um_shape.specs.FirstFault.{first_fault}
 use Rattle.um_infer.specs.Schemes.{ArePrincipal, IsFirstWithoutUnits, IsFirstNotGeneral}
-use Rattle.um_tool.specs.declared.status.Status.{Status}
-use Rattle.um_tool.specs.declared.status.Status.TheVariants.{Done, Units, NotGeneral}
-use Rattle.um_tool.specs.Places.{line_of, column_of, place_text}
-use Rattle.um_tool.specs.Refusals.{placed, units_label, not_general_label}
-use Rattle.um_tool.specs.SchemeLines.{scheme_lines}
+use Rattle.um_reports.specs.declared.status.Status.{Status}
+use Rattle.um_reports.specs.declared.status.Status.TheVariants.{Done, Units, NotGeneral}
+use Rattle.um_reports.specs.Refusals.{placed, units_label, not_general_label}
+use Rattle.um_answers.specs.SchemeLines.{scheme_lines}
 use Rattle.um_tool.specs.Answer.{Answer}
-
--- ---- lines and columns counted on bytes are those counted on characters
-
--- The line by the bytes of a text is the line by its characters.
-abbrev pub LinesAgree : Type 0
-LinesAgree = (before : List ℕ) → IsUtf8 before → line_of before ≡ line_after before
-
--- The column by the bytes of a text is the column by its characters.
-abbrev pub ColumnsAgree : Type 0
-ColumnsAgree = (before : List ℕ) → IsUtf8 before → column_of before ≡ column_after before
-
--- A place is printed as its line, a colon and its column, both by the characters before it and in decimal notation.
-abbrev pub PlacesArePrinted : Type 0
-PlacesArePrinted =
-    (bytes : List ℕ) (at : ℕ) → IsUtf8 (take at bytes) →
-    place_text bytes at ≡ decimal (line_after (take at bytes)) ++ codes ":" ++ decimal (column_after (take at bytes))
 
 -- ---- what `types` prints
 

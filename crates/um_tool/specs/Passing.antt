@@ -1,30 +1,16 @@
 -- What is asked of a program and of the words, so that every step of the answer behind the grammar goes through.
 -- Source: this project's own.
-use Rattle.std.specs.Prelude.{ℕ, ◌-◌, ◌≡◌, IsTrue, List, length, map, chars, slice_get, Some, None, Ok, Err}
+use Rattle.std.specs.Prelude.{ℕ, ◌≡◌, List, slice_get, Some, None, Ok}
 use Rattle.um_tree.specs.RawTree.{DeclSyntax}
-use Rattle.um_tree.specs.TypeTree.{type_trees}
-use Rattle.um_tree.specs.ValueTree.{ValueTree, value_outcome, without_units}
-use Rattle.um_tree.specs.ProgramTree.{FunctionTree, ProgramTree, Signature, SchemeTree}
+use Rattle.um_tree.specs.ProgramTree.{FunctionTree, ProgramTree, Signature}
 use Rattle.um_tree.specs.Typing.{Typing}
-use Rattle.um_tree.specs.Meaning.{outcome_of_call}
-use Rattle.um_measures.specs.declared.abbreviation.Abbreviation.{Abbreviation}
-use Rattle.um_measures.specs.Known.{number_of, function_names}
-use Rattle.um_names.specs.Resolution.{resolved_program, resolved_abbreviations}
+use Rattle.um_names.specs.Resolution.{resolved_program}
 use Rattle.um_shape.specs.FirstFault.{first_fault}
-use Rattle.um_infer.specs.Inference.{all_schemes, infer}
+use Rattle.um_infer.specs.Inference.{infer}
 use Rattle.um_infer.specs.Laws.{IsLimited}
-use Rattle.um_show.specs.ValueText.{parts_fit}
-use Rattle.um_run.specs.Calls.{CallTree, IsCallOf}
-use Rattle.um_run.specs.Laws.{FitsTyping}
-use Rattle.um_sig.specs.declared.signature.Signature.{Signature as ReadSignature}
-use Rattle.um_sig.specs.declared.stop.SigStop.TheVariants.{Range}
-use Rattle.um_sig.specs.Reading.{IsRead}
-use Rattle.um_sig.specs.Answers.{IsConformed}
-use Rattle.um_sig.specs.Instances.{AreAllTypings}
-use Rattle.um_tool.specs.declared.order.Order.{Order}
-use Rattle.um_tool.specs.declared.order.Order.TheVariants.{Fmt, Run, Steps, Eval, Conform, Big}
-use Rattle.um_tool.specs.Asked.{called_name, argument_texts, held_name, signature_text}
-use Rattle.um_tool.specs.BigAnswer.{last_call}
+use Rattle.um_orders.specs.declared.order.Order.{Order}
+use Rattle.um_orders.specs.declared.order.Order.TheVariants.{Fmt}
+use Rattle.um_answers.specs.Passing.{PassesOn}
 
 abbrev pub EachIsTyped : ProgramTree → Type 0
 EachIsTyped p = (i : ℕ) (f : FunctionTree) → slice_get p.functions i ≡ Some f → (g : Signature) × Typing p i g
@@ -36,44 +22,6 @@ pub record IsTyped (raw : List DeclSyntax) : Type 0 where
   pub faultless : first_fault program ≡ None
   pub typed : EachIsTyped program
   pub unlimited : IsLimited (infer program) → ⊥
-
--- the arguments of the call fit a typing of its function, and the call passes no limit of slots or powers; its meaning
--- gives a value within the budget, and the types of the value's parts have their powers in range
-pub record GivesValue (budget : ℕ) (words : List (List ℕ)) (raw : List DeclSyntax) (p : ProgramTree) : Type 0 where
-  pub shorts : List Abbreviation
-  pub abbreviated : resolved_abbreviations raw ≡ Ok shorts
-  pub schemes : List SchemeTree
-  pub inferred : infer p ≡ all_schemes schemes
-  pub fits : FitsTyping p shorts schemes (called_name words) (argument_texts words)
-  pub value : ValueTree
-  pub gives : outcome_of_call p fits.number (map without_units fits.inputs) budget ≡ Some (value_outcome value)
-  pub in_range :
-      (call : CallTree) → IsCallOf p shorts schemes (called_name words) (argument_texts words) (Ok call) →
-      IsTrue (parts_fit p value call.type)
-
--- the function is there, the signature is read, each of its instances is a typing of the function, and no power passes
--- the range while they are matched
-pub record HasTypings (words : List (List ℕ)) (raw : List DeclSyntax) (p : ProgramTree) : Type 0 where
-  pub shorts : List Abbreviation
-  pub abbreviated : resolved_abbreviations raw ≡ Ok shorts
-  pub number : ℕ
-  pub named : number_of (function_names p.functions) (held_name words) ≡ Some number
-  pub signature : ReadSignature
-  pub read : IsRead p shorts (chars (signature_text words)) (length (signature_text words)) (Ok signature)
-  pub typings : AreAllTypings p number (type_trees signature.types)
-  pub in_range :
-      (schemes : List SchemeTree) (s : SchemeTree) (i : ℕ) →
-      infer p ≡ all_schemes schemes → slice_get schemes number ≡ Some s →
-      IsConformed (length p.bases) s (type_trees signature.types) (Err (Range i)) → ⊥
-
--- what an order asks of a program whose functions have typings
-abbrev pub PassesOn : Order → List (List ℕ) → List DeclSyntax → ProgramTree → Type 0
-PassesOn (Run budget) words raw p = GivesValue budget words raw p
-PassesOn (Steps budget) words raw p = GivesValue budget words raw p
-PassesOn (Eval budget) words raw p = GivesValue budget words raw p
-PassesOn Conform words raw p = HasTypings words raw p
-PassesOn (Big n) words raw p = GivesValue 10000000 (last_call (n - 1)) raw p
-PassesOn order words raw p = Unit {0}
 
 -- each step behind the grammar goes through
 abbrev pub GoesThrough : Order → List (List ℕ) → List DeclSyntax → Type 0

@@ -9,15 +9,15 @@ use Rattle.um_syntax.specs.Feeding.{IsTextAnswer}
 use Rattle.um_tree.specs.RawTree.{DeclSyntax}
 use Rattle.um_parse.specs.Parsed.{IsRead}
 use Rattle.um_big.specs.BigText.{big_text}
-use Rattle.um_tool.specs.declared.order.Order.{Order}
-use Rattle.um_tool.specs.declared.order.Intake.{Intake}
-use Rattle.um_tool.specs.declared.order.Intake.TheVariants.{Generated, Text, Bytes}
-use Rattle.um_tool.specs.declared.status.Status.{Status}
-use Rattle.um_tool.specs.declared.status.Status.TheVariants.{ReadFault, WriteFault, NoMemory}
+use Rattle.um_orders.specs.declared.order.Order.{Order}
+use Rattle.um_orders.specs.declared.order.Intake.{Intake}
+use Rattle.um_orders.specs.declared.order.Intake.TheVariants.{Generated, Text}
+use Rattle.um_reports.specs.declared.status.Status.{Status}
+use Rattle.um_reports.specs.declared.status.Status.TheVariants.{ReadFault, WriteFault, NoMemory}
 use Rattle.um_tool.specs.Answer.{Answer}
-use Rattle.um_tool.specs.Orders.{AsksFor}
+use Rattle.um_orders.specs.Orders.{AsksFor}
 use Rattle.um_tool.specs.Passing.{GoesThrough}
-use Rattle.um_tool.specs.Steps.{IsReply, line}
+use Rattle.um_reports.specs.Steps.{IsReply, line}
 
 -- it takes something from the source
 abbrev pub TakesSome : Intake → Type 0
@@ -73,11 +73,10 @@ pub record IsTextComplete (order : Order) (words : List (List ℕ)) (bytes : Lis
   pub read : IsRead tokens raw
   pub goes_through : GoesThrough order words raw
 
--- by what the order takes from the source; no order that takes bytes that are no text is built yet
+-- by what the order takes from the source
 abbrev pub IsTakenComplete : Intake → Order → List (List ℕ) → List ℕ → Type 0
 IsTakenComplete (Generated n) order words bytes = IsTextComplete order words (big_text n)
 IsTakenComplete Text order words bytes = IsTextComplete order words bytes
-IsTakenComplete (Bytes limit) order words bytes = ⊥
 
 -- the words name an order, and every step of the answer goes through
 pub record IsComplete (words : List (List ℕ)) (bytes : List ℕ) : Type 0 where

@@ -1,12 +1,10 @@
 // The steps of an answer, each by its definition.
 ghost use Rattle.std.specs.Prelude.{◌<◌, ◌≤◌, ◌≡◌, length, slice_get, IfOk, Ok, Some};
 ghost use Rattle.um_tool.specs.Answer.{TokensAnswer, GrammarAnswer, ProgramAnswer, NamesAnswer, ShapesAnswer};
-ghost use Rattle.um_tool.specs.Answer.{SchemesAnswer, TypedAnswer, IsNotBuilt};
-ghost use Rattle.um_tool.specs.Asking.{asked_of};
-ghost use Rattle.um_tool.specs.Orders.{order_of};
-ghost use Rattle.um_tool.specs.SchemeLines.{scheme_lines};
-ghost use Rattle.um_tool.specs.Steps.{IsReply};
-ghost use Rattle.um_show.specs.Layout.{layout};
+ghost use Rattle.um_tool.specs.Answer.{SchemesAnswer};
+ghost use Rattle.um_answers.specs.TypedAnswer.{TypedAnswer};
+ghost use Rattle.um_answers.specs.Asking.{asked_of, IsWrittenText};
+ghost use Rattle.um_orders.specs.Orders.{order_of};
 ghost use Rattle.um_syntax.specs.Feeding.{IsTextAnswer};
 ghost use Rattle.um_tree.specs.RawTree.{program_syntax};
 ghost use Rattle.um_tree.specs.ProgramTree.{program_tree, function_tree};
@@ -15,44 +13,21 @@ ghost use Rattle.um_names.specs.Readable.{IsReadable};
 ghost use Rattle.um_names.specs.Resolution.{resolved_program};
 ghost use Rattle.um_infer.specs.Answers.{scheme_trees};
 ghost use Rattle.um_infer.specs.Inference.{all_schemes, infer};
-ghost use Rattle.um_gen.specs.ProgramCode.{program_code};
-ghost use Rattle.um_code.specs.Listing.{listing_text};
 
-use crate::asked::Asked;
-use crate::big::answer_big;
-use crate::call::answer_call;
 use crate::reading::Text;
-use crate::refusal::{
-    reply_line, reply_to_names, reply_to_not_general, reply_to_range, reply_to_shapes,
-    reply_to_slots, reply_to_text, reply_to_tokens, reply_to_units,
-};
-use crate::schemes::schemes_text;
-use crate::signature::answer_conform;
-use crate::way::Way;
-use crate::{Order, Status, Words};
 use std::alloc::{AllocError, Global};
-use um_code::listing;
-use um_gen::generate;
+use um_answers::{Asked, answer_typed, reply_layout};
 use um_infer::{InferStop, infer};
 use um_names::resolve;
-use um_parse::parse;
+use um_orders::{Order, Words};
+use um_parse::parse_tokens;
+use um_reports::{
+    Reply, reply_to_names, reply_to_not_general, reply_to_range, reply_to_shapes, reply_to_slots,
+    reply_to_text, reply_to_tokens, reply_to_units,
+};
 use um_shape::{Shaped, shape};
-use um_show::program_text;
 use um_syntax::Tokens;
 use um_tree::{Function, Program, Schemes};
-
-/// What a run is about to write, and the status that it then ends with.
-#[derive(Drop)]
-pub(crate) struct Reply {
-    pub(crate) text: Vec<u8>,
-    pub(crate) status: Status,
-}
-
-pub(crate) fn not_built(alloc: Global) -> Result<Reply, AllocError>
-    ensures { IfOk result (λ reply. IsNotBuilt reply.text.items reply.status) }
-{
-    reply_line(alloc, "error 18: not built", Status::NotBuilt)
-}
 
 /// The answer to a text that is not too long.
 #[tactic(auto, unfolding(crate::specs::Answer::TokensAnswer))]
@@ -69,7 +44,7 @@ pub(crate) fn answer_text(
 {
     let Text { bytes, tokens } = text;
     match tokens {
-        Ok(tokens) => answer_tokens(alloc, order, words, &bytes, &tokens),
+        Ok(tokens) => answer_tokens(alloc, order, words, &bytes, tokens),
         Err(stop) => reply_to_text(alloc, &bytes, stop),
     }
 }
@@ -81,14 +56,14 @@ fn answer_tokens(
     order: Order,
     words: &Words,
     bytes: &[u8],
-    tokens: &Tokens,
+    tokens: Tokens,
 ) -> Result<Reply, AllocError>
     requires ordered { order_of words.now ≡ Some order }
-    requires tokens { IsTextAnswer bytes.now (Ok tokens.now) }
+    requires tokens { IsTextAnswer bytes.now (Ok tokens) }
     requires short { length bytes.now ≤ 1048576 }
-    ensures { IfOk result (λ reply. GrammarAnswer order words.now bytes.now tokens.now reply.text.items reply.status) }
+    ensures { IfOk result (λ reply. GrammarAnswer order words.now bytes.now tokens reply.text.items reply.status) }
 {
-    match parse(alloc, tokens.as_slice(), bytes.len() as u32) {
+    match parse_tokens(alloc, tokens, bytes.len() as u32) {
         Ok(raw) => answer_program(
             alloc,
             &Asked {
@@ -106,6 +81,7 @@ fn answer_tokens(
 #[tactic(auto, unfolding(crate::specs::Answer::ProgramAnswer))]
 fn answer_program(alloc: Global, asked: &Asked) -> Result<Reply, AllocError>
     requires ordered { order_of asked.now.words.now ≡ Some asked.now.order }
+    requires written { IsWrittenText asked.now.bytes.now }
     requires readable { IsReadable (program_syntax asked.now.raw.now) }
     ensures { IfOk result (λ reply. ProgramAnswer (asked_of asked.now) reply.text.items reply.status) }
 {
@@ -117,6 +93,8 @@ fn answer_program(alloc: Global, asked: &Asked) -> Result<Reply, AllocError>
         | Order::Steps { .. }
         | Order::Eval { .. }
         | Order::Conform
+        | Order::Rescale
+        | Order::Twin { .. }
         | Order::Big(_) => answer_names(alloc, asked),
     }
 }
@@ -125,6 +103,7 @@ fn answer_program(alloc: Global, asked: &Asked) -> Result<Reply, AllocError>
 #[tactic(auto, unfolding(crate::specs::Answer::NamesAnswer))]
 fn answer_names(alloc: Global, asked: &Asked) -> Result<Reply, AllocError>
     requires ordered { order_of asked.now.words.now ≡ Some asked.now.order }
+    requires written { IsWrittenText asked.now.bytes.now }
     requires readable { IsReadable (program_syntax asked.now.raw.now) }
     ensures { IfOk result (λ reply. NamesAnswer (asked_of asked.now) reply.text.items reply.status) }
 {
@@ -138,6 +117,7 @@ fn answer_names(alloc: Global, asked: &Asked) -> Result<Reply, AllocError>
 #[tactic(auto, unfolding(crate::specs::Answer::ShapesAnswer))]
 fn answer_shapes(alloc: Global, asked: &Asked, program: Program) -> Result<Reply, AllocError>
     requires ordered { order_of asked.now.words.now ≡ Some asked.now.order }
+    requires written { IsWrittenText asked.now.bytes.now }
     requires resolved { resolved_program (program_syntax asked.now.raw.now) ≡ Ok (program_tree program) }
     requires formed { IsFormed (program_tree program) }
     ensures { IfOk result (λ reply. ShapesAnswer (asked_of asked.now)
@@ -153,6 +133,7 @@ fn answer_shapes(alloc: Global, asked: &Asked, program: Program) -> Result<Reply
 #[tactic(auto, unfolding(crate::specs::Answer::SchemesAnswer))]
 fn answer_schemes(alloc: Global, asked: &Asked, shaped: &Shaped) -> Result<Reply, AllocError>
     requires ordered { order_of asked.now.words.now ≡ Some asked.now.order }
+    requires written { IsWrittenText asked.now.bytes.now }
     requires resolved { resolved_program (program_syntax asked.now.raw.now) ≡ Ok (program_tree shaped.now) }
     ensures { IfOk result (λ reply. SchemesAnswer (asked_of asked.now)
         (program_tree shaped.now) reply.text.items reply.status) }
@@ -185,6 +166,7 @@ fn answer_inferred(
     schemes: Schemes,
 ) -> Result<Reply, AllocError>
     requires ordered { order_of asked.now.words.now ≡ Some asked.now.order }
+    requires written { IsWrittenText asked.now.bytes.now }
     requires resolved { resolved_program (program_syntax asked.now.raw.now) ≡ Ok (program_tree shaped.now) }
     requires inferred { infer (program_tree shaped.now) ≡ all_schemes (scheme_trees schemes) }
     ensures { IfOk result (λ reply. TypedAnswer (asked_of asked.now)
@@ -193,70 +175,6 @@ fn answer_inferred(
     let answer = answer_typed(alloc, asked, shaped, &schemes);
     drop(schemes);
     answer
-}
-
-/// The answer to a program each of whose functions has a scheme.
-#[tactic(auto, unfolding(crate::specs::Answer::TypedAnswer))]
-fn answer_typed(
-    alloc: Global,
-    asked: &Asked,
-    shaped: &Shaped,
-    schemes: &Schemes,
-) -> Result<Reply, AllocError>
-    requires ordered { order_of asked.now.words.now ≡ Some asked.now.order }
-    requires resolved { resolved_program (program_syntax asked.now.raw.now) ≡ Ok (program_tree shaped.now) }
-    requires inferred { infer (program_tree shaped.now) ≡ all_schemes (scheme_trees schemes.now) }
-    ensures { IfOk result (λ reply. TypedAnswer (asked_of asked.now)
-        (program_tree shaped.now) (scheme_trees schemes.now) reply.text.items reply.status) }
-{
-    match asked.order {
-        Order::Types => reply_schemes(alloc, shaped, schemes),
-        Order::Code => reply_code(alloc, shaped),
-        Order::Fmt => reply_layout(alloc, asked),
-        Order::Run { budget } => answer_call(alloc, Way::Code, budget, asked, shaped, schemes),
-        Order::Steps { budget } => {
-            answer_call(alloc, Way::Counted, budget, asked, shaped, schemes)
-        }
-        Order::Eval { budget } => answer_call(alloc, Way::Tree, budget, asked, shaped, schemes),
-        Order::Conform => answer_conform(alloc, asked, shaped, schemes),
-        Order::Big(functions) => answer_big(alloc, functions, asked, shaped, schemes),
-    }
-}
-
-/// The schemes of the functions.
-fn reply_schemes(alloc: Global, shaped: &Shaped, schemes: &Schemes) -> Result<Reply, AllocError>
-    requires inferred { infer (program_tree shaped.now) ≡ all_schemes (scheme_trees schemes.now) }
-    ensures { IfOk result (λ reply. IsReply reply.text.items reply.status
-        (scheme_lines (program_tree shaped.now) (program_tree shaped.now).functions (scheme_trees schemes.now))
-        Status.Done) }
-{
-    Ok(Reply {
-        text: schemes_text(alloc, shaped.program(), schemes)?,
-        status: Status::Done,
-    })
-}
-
-/// The listing of the program's code.
-fn reply_code(alloc: Global, shaped: &Shaped) -> Result<Reply, AllocError>
-    ensures { IfOk result (λ reply. IsReply reply.text.items reply.status
-        (listing_text (program_tree shaped.now) (program_code (program_tree shaped.now).functions)) Status.Done) }
-{
-    let code = generate(alloc, shaped)?;
-    Ok(Reply {
-        text: listing(alloc, &code, shaped.program())?,
-        status: Status::Done,
-    })
-}
-
-/// The layout of the program.
-fn reply_layout(alloc: Global, asked: &Asked) -> Result<Reply, AllocError>
-    ensures { IfOk result (λ reply. IsReply reply.text.items reply.status
-        (layout (program_syntax asked.now.raw.now)) Status.Done) }
-{
-    Ok(Reply {
-        text: program_text(alloc, asked.raw)?,
-        status: Status::Done,
-    })
 }
 
 /// The function of this number.

@@ -1,8 +1,8 @@
-//! Laws of answers and report lines. A call does nothing: what it ensures is the law.
-ghost use Rattle.um_tool.specs.Laws.{LinesAgree, ColumnsAgree, PlacesArePrinted};
+//! Laws of answers. A call does nothing: what it ensures is the law.
 ghost use Rattle.um_tool.specs.Laws.{PrintedTypesArePrincipalSchemes, UnitsNameTheFirstUntyped};
 ghost use Rattle.um_tool.specs.Laws.{NotGeneralNamesTheFirstUntyped, AnswersAreUnique};
 ghost use Rattle.um_tool.specs.CallLaws.{PrintedCodeIsTheProgramsCode, EndedCallsAreMeant, VerdictsSayWhatTypingsAre};
+ghost use Rattle.um_tool.specs.ScaleLaws.{RescaledTextsAreRescaled, EndedTwinsAreRelated};
 
 /// What `types` printed with status 0 on some bytes are the principal schemes of the program that they spell, a line
 /// for each function in order; what it printed with the status of units, or of a function that is not general, names
@@ -30,12 +30,16 @@ pub fn verdicts()
     ensures { VerdictsSayWhatTypingsAre }
 {}
 
-/// The place of a report line, which is counted on bytes, is the line and the column that
-/// `um_syntax::line_column` counts on characters, wherever the bytes before the place are UTF-8.
-pub fn places_are_lines_and_columns()
-    ensures line { LinesAgree }
-    ensures column { ColumnsAgree }
-    ensures printed { PlacesArePrinted }
+/// What `rescale` printed with status 0 on some bytes are these bytes with the numbers of a program: that which they
+/// spell, with its literals in the sizes that the word states.
+pub fn rescaled_texts()
+    ensures { RescaledTextsAreRescaled }
+{}
+
+/// What `twin` was answered with the status of values, of a trap or of the budget's end are the outcomes of both
+/// meanings at the budget: the second is the first one rescaled at a type of the call, unless one of them overflows.
+pub fn ended_twins()
+    ensures { EndedTwinsAreRelated }
 {}
 
 /// Two texts and statuses that answer the same words and bytes are equal.

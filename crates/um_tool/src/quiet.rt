@@ -2,8 +2,10 @@
 ghost use Rattle.std.specs.Prelude.{◌≡◌, ◌⊎◌, ℕ, List};
 ghost use Rattle.um_tool.specs.Answer.{Answer};
 
-use crate::{Status, Words, serve};
+use crate::serve;
 use std::alloc::Global;
+use um_orders::Words;
+use um_reports::Status;
 use um_wire::{QuietSink, QuietSource};
 
 /// The status of a run on these bytes whose answer nobody reads: that of the answer, unless memory was wanting.

@@ -3,16 +3,15 @@ ghost use Rattle.std.specs.Prelude.{◌≡◌, ◌≢◌, ◌≤◌, IfOk, Some}
 ghost use Rattle.um_wire.specs.Faults.{Rose};
 ghost use Rattle.um_big.specs.BigText.{big_text as generated};
 ghost use Rattle.um_tool.specs.Answer.{TokensAnswer};
-ghost use Rattle.um_tool.specs.Orders.{order_of as order_named, intake_of, AsksFor};
+ghost use Rattle.um_orders.specs.Orders.{order_of as order_named, intake_of, AsksFor};
 ghost use Rattle.um_tool.specs.Served.{IsPlanned, IsUndisturbed, Reads, Serves};
 
-use crate::answer::{Reply, answer_text, not_built};
-use crate::order::{Intake, names_unbuilt};
+use crate::answer::answer_text;
 use crate::reading::Reading;
-use crate::refusal::{reply_line, reply_to_unread};
-use crate::{Order, Status, Words, order_of};
 use std::alloc::{AllocError, Global};
 use um_big::big_text;
+use um_orders::{Intake, Order, Words, order_of};
+use um_reports::{Reply, Status, reply_line, reply_to_unread};
 use um_wire::{Failed, Sink, Source, read_into, write_all};
 
 /// The longest text that is read, in bytes.
@@ -64,9 +63,6 @@ fn reply_to<S: Source>(alloc: Global, words: &Words, source: &mut S) -> Result<R
         → reply.status ≡ Status.Done) }
     ensures unread { (Reads words.now → ⊥) → source.new ≡ source.old }
 {
-    if names_unbuilt(words) {
-        return not_built(alloc);
-    }
     match order_of(words) {
         None => reply_line(alloc, "error 1: usage", Status::Usage),
         Some(order) => reply_to_order(alloc, order, words, source),
@@ -88,8 +84,6 @@ fn reply_to_order<S: Source>(
     match order.intake() {
         Intake::Text => reply_to_source(alloc, order, words, source),
         Intake::Generated { functions } => reply_to_generated(alloc, order, words, functions),
-        // No such order is built yet.
-        Intake::Bytes { .. } => not_built(alloc),
     }
 }
 

@@ -8,3 +8,4 @@ mod Stacked
 mod Forward
 mod Ends
 mod Examples
+mod ExampleHeads

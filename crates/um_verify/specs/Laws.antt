@@ -1,12 +1,13 @@
 -- What verified images come to.
 -- Source: this project's own.
-use Rattle.std.specs.Prelude.{◌≡◌, ◌≢◌, ℕ, true, List, Some, None, slice_get}
+use Rattle.std.specs.Prelude.{◌≡◌, ◌≢◌, ◌≤◌, ◌+◌, ◌*◌, ℕ, true, List, Some, None, length, slice_get}
 use Rattle.um_tree.specs.ValueTree.{ValueTree, values_in_order, OutcomeTree, value_outcome, trap_outcome}
 use Rattle.um_tree.specs.ValueTree.{budget_outcome}
 use Rattle.um_tree.specs.ProgramTree.{RecordTree}
 use Rattle.um_tree.specs.TypeTree.{ShapeTree}
 use Rattle.um_tree.specs.InputType.{ValueHas, ValuesHave}
-use Rattle.um_machine.specs.Machine.{stuck, Runs, EndsWith}
+use Rattle.um_machine.specs.declared.code.Entry.{Entry}
+use Rattle.um_machine.specs.Machine.{done, stuck, Runs, EndsWith}
 use Rattle.um_verify.specs.StackShape.{StackShape, fits, join}
 use Rattle.um_verify.specs.ImageTree.{HeadTree, ImageTree}
 use Rattle.um_verify.specs.Verified.{IsVerified}
@@ -34,6 +35,26 @@ RunsEnd =
     (image : ImageTree) (f : ℕ) (head : HeadTree) (vs : List ValueTree) (b : ℕ) →
     IsVerified image → IsCall image f head vs →
     (o : OutcomeTree) × EndsWith image.code f vs b o × OutcomeHas image.records o head.result
+
+-- after as many steps as the budget times one more than the instructions it has ended
+abbrev pub EndsSoon : Type 0
+EndsSoon =
+    (image : ImageTree) (f : ℕ) (head : HeadTree) (vs : List ValueTree) (b n : ℕ) →
+    IsVerified image → IsCall image f head vs → b * (length image.code.ops + 1) ≤ n →
+    (o : OutcomeTree) × (Runs image.code f vs b n ≡ done o)
+
+-- and a value with which it ends has the result's shape
+abbrev pub EndsHaveShape : Type 0
+EndsHaveShape =
+    (image : ImageTree) (f : ℕ) (head : HeadTree) (vs : List ValueTree) (b n : ℕ) (o : OutcomeTree) →
+    IsVerified image → IsCall image f head vs → Runs image.code f vs b n ≡ done o →
+    OutcomeHas image.records o head.result
+
+-- the code has an entry for the call, which takes as many values
+abbrev pub CallsHaveEntries : Type 0
+CallsHaveEntries =
+    (image : ImageTree) (f : ℕ) (head : HeadTree) (vs : List ValueTree) → IsVerified image → IsCall image f head vs →
+    (e : Entry) × (slice_get image.code.entries f ≡ Some e) × (length vs ≡ e.params)
 
 -- the join of two shapes is the least that both fit
 abbrev pub JoinIsLeast : Type 0

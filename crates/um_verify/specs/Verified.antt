@@ -67,15 +67,17 @@ pub record IsVerified (image : ImageTree) : Type 0 where
   pub heads : (i : ℕ) → HeadHolds image i
   pub code : CodeHolds (view_of image)
 
+-- the first instruction of a function whose rule fails is the n-th
+abbrev pub FirstFailure : View → Body → ℕ → Type 0
+FirstFailure view body n =
+    (body.start + n < body.end) × (Passes (flow view body n) → ⊥) × ((m : ℕ) → m < n → Passes (flow view body m))
+
 -- the first address whose rule fails: it is the n-th of function f, and the functions before hold
-pub record IsFirstAddress (image : ImageTree) (a : ℕ) : Type 0 where
+pub record IsFirstAddress (view : View) (a : ℕ) : Type 0 where
   pub f : ℕ
   pub n : ℕ
   pub body : Body
-  pub listed : slice_get (view_of image).bodies f ≡ Some body
+  pub listed : slice_get view.bodies f ≡ Some body
   pub address : a ≡ body.start + n
-  pub within : a < body.end
-  pub fails : Passes (flow (view_of image) body n) → ⊥
-  pub before : (m : ℕ) → m < n → Passes (flow (view_of image) body m)
-  pub functions :
-      (g : ℕ) (other : Body) → g < f → slice_get (view_of image).bodies g ≡ Some other → BodyHolds (view_of image) other
+  pub failure : FirstFailure view body n
+  pub functions : (g : ℕ) (other : Body) → g < f → slice_get view.bodies g ≡ Some other → BodyHolds view other

@@ -1,5 +1,5 @@
 use Rattle.um_tree.specs.ProgramTree.{field_tree}
-use Rattle.um_image.specs.Encoding.{field_bytes}
+use Rattle.um_image.specs.Pieces.{field_bytes}
 use Rattle.um_image.proofs.Added.{Left}
 use Rattle.um_image.proofs.encoding.put_fields.Given as goal
 

@@ -1,5 +1,5 @@
 use Rattle.um_tree.specs.ProgramTree.{record_tree}
-use Rattle.um_image.specs.Encoding.{record_bytes}
+use Rattle.um_image.specs.Pieces.{record_bytes}
 use Rattle.um_image.proofs.Added.{Left}
 use Rattle.um_image.proofs.encoding.put_records.Given as goal
 

@@ -1,5 +1,5 @@
 use Rattle.um_tree.specs.TypeTree.{shape_tree}
-use Rattle.um_image.specs.Encoding.{shape_bytes}
+use Rattle.um_image.specs.Pieces.{shape_bytes}
 use Rattle.um_image.proofs.Added.{Left}
 use Rattle.um_image.proofs.encoding.put_shapes.Given as goal
 

@@ -1,30 +1,15 @@
-use Rattle.std.proofs.Common.{List, map, ap, subst, arith}
-use Rattle.um_tree.specs.declared.raw.RawDecl.{RawDecl}
-use Rattle.um_tree.specs.RawTree.{decl_syntax, program_syntax}
-use Rattle.um_parse.specs.ProgramNodes.{program_nodes}
-use Rattle.um_parse.specs.ProgramLimits.{WithinLimits, PassesAt}
-use Rattle.um_parse.proofs.ProgramComplete.{one_program}
+use Rattle.std.proofs.Common.{arith}
+use Rattle.um_tree.specs.RawTree.{program_syntax}
 use Rattle.um_parse.proofs.ProgramNodes.{few_nodes}
-use Rattle.um_parse.proofs.LimitLaws.{large_at}
+use Rattle.um_parse.proofs.ProgramParsed.{limited_parsed}
 use Rattle.um_parse.proofs.program_parse.parse.Goals as goal
 
-pub first_passed-requires : goal.first_passed-requires
-first_passed-requires c =
+pub limited-requires : goal.limited-requires
+limited-requires c =
     let few = few_nodes c.args.tokens.now (program_syntax c.in-Ok.program) c.in-Ok.ensures.0 in
-    omega (arith, few, c.requires.text, c.ranges.end, ap (λ w. program_nodes (map decl_syntax w)) c.deref.ensures.value)
+    record { few = omega (arith, few, c.requires.text, c.ranges.end) }
 
-pub returns-in-Some : goal.returns-in-Some
-returns-in-Some c =
+pub returns-in-Ok : goal.returns-in-Ok
+returns-in-Ok c =
     let e = c.in-Ok.ensures in
-    let p = c.in-Some.passed in
-    let ds = program_syntax c.in-Ok.program in
-    let passes : PassesAt 0 ds p.kind p.at = subst (λ (w : List RawDecl). PassesAt 0 (map decl_syntax w) p.kind p.at) c.deref.ensures.value c.in-Some.ensures in
-    record { parsed = large_at c.args.tokens.now c.args.end p.kind p.at (record { ds = ds; is = e.0; low = e.1; passes = passes }) }
-
-pub returns-in-None : goal.returns-in-None
-returns-in-None c =
-    let tokens = c.args.tokens.now in
-    let e = c.in-Ok.ensures in
-    let ds = program_syntax c.in-Ok.program in
-    let small : WithinLimits 0 ds = subst (λ (w : List RawDecl). WithinLimits 0 (map decl_syntax w)) c.deref.ensures.value c.in-None.ensures in
-    record { parsed = record { is = e.0; only = λ other q. one_program tokens other ds q e.0; low = e.1; small = small } }
+    record { parsed = limited_parsed c.args.tokens.now c.args.end (program_syntax c.in-Ok.program) c.limited.result e.0 e.1 c.limited.ensures }

@@ -1,4 +1,4 @@
-use Rattle.std.proofs.Common.{◌≡◌, ◌+◌, ◌<◌, ◌≤◌, ◌∙◌, inl, inr, ℕ, [], ◌∷◌, ◌++◌, List, Some, length, slice_get, refl, sym, ap, subst, arith}
+use Rattle.std.proofs.Common.{◌≡◌, ◌+◌, ◌∙◌, inl, inr, [], ◌∷◌, ◌++◌, List, Some, length, slice_get, sym, ap, subst, arith}
 use Rattle.std.proofs.lemmas.List.{length_push}
 use Rattle.um_tree.specs.ProgramTree.{FunctionTree, ProgramTree, SchemeTree, program_tree}
 use Rattle.um_infer.specs.Answers.{scheme_trees}
@@ -6,7 +6,7 @@ use Rattle.um_infer.proofs.SchemeLists.{item_or_last}
 use Rattle.um_check.specs.declared.certificate.Yes.{Yes}
 use Rattle.um_proof.specs.Proving.{IsYesOf}
 use Rattle.um_proof.specs.ProgramSteps.{AreYesOf, CarriesInSome}
-use Rattle.um_proof.proofs.FunctionAnswers.{same_item, function_stops}
+use Rattle.um_proof.proofs.FunctionAnswers.{function_stops}
 use Rattle.um_proof.proofs.program.add_yes.Goals as goal
 
 -- one more

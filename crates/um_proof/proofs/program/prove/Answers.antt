@@ -1,7 +1,7 @@
-use Rattle.std.proofs.Common.{◌≡◌, ◌<◌, ◌≤◌, ◌∙◌, inl, inr, length, refl, sym, ap, subst, arith}
+use Rattle.std.proofs.Common.{◌∙◌, inl, inr, refl, sym, ap, subst, arith}
 use Rattle.std.proofs.lemmas.List.{length-map}
 use Rattle.um_tree.specs.ProgramTree.{program_tree, scheme_tree}
-use Rattle.um_infer.specs.Inference.{all_schemes, infer, infer_first}
+use Rattle.um_infer.specs.Inference.{infer_first}
 use Rattle.um_infer.specs.Answers.{scheme_trees}
 use Rattle.um_proof.specs.Proving.{IsRefusal}
 use Rattle.um_proof.proofs.program.prove.Goals as goal

@@ -1,11 +1,9 @@
-use Rattle.std.proofs.Common.{◌≡◌, ◌<◌, ◌≤◌, ◌∙◌, ℕ, Some, length, slice_get, sym, ap, subst, arith}
-use Rattle.std.specs.Prelude.{IfOk, IfErr}
-use Rattle.std.proofs.lemmas.Result.{err_from_is_err_and}
-use Rattle.um_tree.specs.ProgramTree.{FunctionTree, program_tree}
+use Rattle.std.proofs.Common.{sym, subst, arith}
+use Rattle.um_tree.specs.ProgramTree.{program_tree}
 use Rattle.um_infer.specs.Answers.{scheme_trees}
 use Rattle.um_infer.proofs.SchemeLists.{item_at}
 use Rattle.um_proof.specs.Answers.{AreFunctionRows, judged, IsRefused, IsNoMade}
-use Rattle.um_proof.proofs.FunctionAnswers.{schemes_before, same_item, refused_inside, refused_judgement, no_refused, no_valid, no_range}
+use Rattle.um_proof.proofs.FunctionAnswers.{schemes_before, refused_inside, refused_judgement, no_refused, no_valid, no_range}
 use Rattle.um_proof.proofs.program.refusal_of.Goals as goal
 
 pub rows_of-requires-clause-function : goal.rows_of-requires-clause-function

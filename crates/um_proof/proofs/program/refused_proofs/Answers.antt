@@ -1,4 +1,4 @@
-use Rattle.std.proofs.Common.{◌≡◌, ◌<◌, ◌≤◌, ◌∙◌, sym, arith}
+use Rattle.std.proofs.Common.{◌∙◌, sym, arith}
 use Rattle.um_tree.specs.ProgramTree.{program_tree}
 use Rattle.um_proof.proofs.FunctionAnswers.{refused_inside, refused_function}
 use Rattle.um_proof.proofs.program.refused_proofs.Goals as goal

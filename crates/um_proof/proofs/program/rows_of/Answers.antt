@@ -1,6 +1,5 @@
-use Rattle.std.proofs.Common.{◌≡◌, ◌≤◌, ◌<◌, None, Some, length, sym, ap, subst, ◌∙◌, arith}
+use Rattle.std.proofs.Common.{sym, subst, ◌∙◌, arith}
 use Rattle.um_tree.specs.ProgramTree.{program_tree}
-use Rattle.um_rows.specs.Answers.{RowsStopFor}
 use Rattle.um_infer.specs.Answers.{scheme_trees}
 use Rattle.um_infer.proofs.SchemeLists.{item_at}
 use Rattle.um_proof.specs.ProgramSteps.{AreDeclared}

@@ -1,7 +1,7 @@
-use Rattle.std.proofs.Common.{◌≡◌, ◌<◌, ◌≤◌, ◌∙◌, length, sym, ap, subst, arith}
+use Rattle.std.proofs.Common.{◌∙◌, sym, ap, subst, arith}
 use Rattle.std.proofs.lemmas.List.{length-map}
 use Rattle.um_tree.specs.ProgramTree.{program_tree, scheme_tree}
-use Rattle.um_infer.specs.Inference.{all_schemes, infer, infer_first}
+use Rattle.um_infer.specs.Inference.{infer_first}
 use Rattle.um_infer.specs.Answers.{scheme_trees}
 use Rattle.um_proof.specs.ProgramSteps.{CarriesInSome}
 use Rattle.um_proof.proofs.FunctionAnswers.{refused_inside, refused_within, refusal_count, some_stops, function_stops}

@@ -1,10 +1,8 @@
-use Rattle.std.proofs.Common.{◌≡◌, ◌<◌, ◌≤◌, ◌∙◌, ℕ, Some, map, length, slice_get, get_or, refl, sym, ap, subst, arith}
-use Rattle.std.specs.Prelude.{IfOk, IfErr}
+use Rattle.std.proofs.Common.{◌≡◌, ◌∙◌, Some, map, length, slice_get, refl, sym, ap, subst, arith}
 use Rattle.std.specs.Option.{option_map}
-use Rattle.std.proofs.lemmas.List.{get_or_read, length-map}
+use Rattle.std.proofs.lemmas.List.{length-map}
 use Rattle.std.proofs.lemmas.Option.{slice_get_read, slice_get-map}
-use Rattle.um_tree.specs.declared.program.Scheme.{Scheme}
-use Rattle.um_tree.specs.ProgramTree.{FunctionTree, SchemeTree, program_tree, scheme_tree}
+use Rattle.um_tree.specs.ProgramTree.{program_tree, scheme_tree}
 use Rattle.um_infer.specs.Answers.{scheme_trees}
 use Rattle.um_infer.proofs.SchemeLists.{item_at}
 use Rattle.um_rows.specs.Judgement.{has_scheme}

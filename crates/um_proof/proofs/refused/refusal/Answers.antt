@@ -1,4 +1,4 @@
-use Rattle.std.proofs.Common.{◌≡◌, suc, sym, ap, ◌∙◌, subst}
+use Rattle.std.proofs.Common.{suc, sym, ap, ◌∙◌, subst}
 use Rattle.std.specs.Prelude.{All, IfOk, IfErr}
 use Rattle.std.proofs.lemmas.List.Elements.{All-take}
 use Rattle.um_units.specs.Variables.{VariablesBelow}

@@ -1,11 +1,10 @@
-use Rattle.std.proofs.Common.{◌≡◌, length, take, pos, refl, sym, ap, ◌∙◌, subst, arith, get_or}
+use Rattle.std.proofs.Common.{length, pos, refl, sym, ◌∙◌, subst, get_or}
 use Rattle.std.specs.Prelude.{IsTrue}
-use Rattle.std.proofs.lemmas.List.{take_all}
 use Rattle.um_units.specs.declared.Atom.TheVariants.{Base}
 use Rattle.um_units.specs.declared.Term.{Term}
 use Rattle.um_units.specs.Variables.{atom_below}
 use Rattle.um_tree.specs.Scheme.{atom_variables}
-use Rattle.um_proof.proofs.HeldVariables.{AreMarked, marked_none, marked_more, passes}
+use Rattle.um_proof.proofs.HeldVariables.{marked_none, marked_more, passes}
 use Rattle.um_proof.proofs.renaming.mark_terms.Goals as goal
 
 abbrev some : Term

@@ -1,7 +1,7 @@
-use Rattle.std.proofs.Common.{◌≡◌, ◌<◌, ℕ, List, length, get_or, map, set, take, sym, ap, ◌∙◌, subst, arith}
-use Rattle.std.proofs.lemmas.List.{take_all, length-replicate, length-set, get_or_default}
+use Rattle.std.proofs.Common.{◌≡◌, ◌<◌, length, get_or, set, sym, ap, ◌∙◌, subst, arith}
+use Rattle.std.proofs.lemmas.List.{take_all, length-set, get_or_default}
 use Rattle.um_units.specs.declared.Atom.TheVariants.{Var}
-use Rattle.um_units.specs.PowerMap.{one, atom, nth}
+use Rattle.um_units.specs.PowerMap.{atom, nth}
 use Rattle.um_elim.specs.Numbering.{place}
 use Rattle.um_proof.specs.Renaming.{GoBack}
 use Rattle.um_proof.proofs.WayBackSteps.{goes_back_more, place_of, place_below}

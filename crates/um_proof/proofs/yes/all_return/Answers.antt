@@ -1,4 +1,4 @@
-use Rattle.std.proofs.Common.{◌<◌, length, arith, below_more}
+use Rattle.std.proofs.Common.{arith, below_more}
 use Rattle.um_proof.proofs.ValidYes.{returned_carried, returned_narrow}
 use Rattle.um_proof.proofs.yes.all_return.Goals as goal
 

@@ -1,7 +1,7 @@
-use Rattle.std.proofs.Common.{◌≡◌, ℕ, ◌+◌, ◌<◌, ◌≤◌, cond, List, [], map, length, refl, sym, ap, ◌∙◌, subst, arith}
+use Rattle.std.proofs.Common.{ℕ, ◌<◌, cond, [], map, length, refl, sym, ap, ◌∙◌, subst, arith}
 use Rattle.std.specs.Prelude.{All, IsTrue, nat_eq}
 use Rattle.std.proofs.lemmas.List.{length-map}
-use Rattle.um_units.specs.PowerMap.{PowerMap, one, nth, replace}
+use Rattle.um_units.specs.PowerMap.{one, nth, replace}
 use Rattle.um_units.specs.Variables.{VariablesBelow}
 use Rattle.um_tree.specs.Typing.{put_signature}
 use Rattle.um_rows.specs.Answers.{rows_signature}

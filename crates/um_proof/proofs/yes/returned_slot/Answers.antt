@@ -1,4 +1,4 @@
-use Rattle.std.proofs.Common.{◌≡◌, ◌^◌, ap, ◌∙◌, subst, sym, arith, negsuc}
+use Rattle.std.proofs.Common.{◌^◌, subst, sym, arith, negsuc}
 use Rattle.um_units.specs.declared.Atom.TheVariants.{Var}
 use Rattle.um_wide.specs.Room.{IsWithin}
 use Rattle.um_wide.proofs.Rooms.{within-atom_pow, room-within}

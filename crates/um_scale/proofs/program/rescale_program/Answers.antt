@@ -5,6 +5,7 @@ use Rattle.um_scale.specs.Sizes.{sizes}
 use Rattle.um_scale.specs.RescaledLiterals.{misfit_in}
 use Rattle.um_scaling.proofs.Formed.{rescaled_is_formed}
 use Rattle.um_scale.proofs.Rescaled.{program_rescaled}
+use Rattle.um_scale.proofs.RescaledFaults.{same_fault}
 use Rattle.um_scale.proofs.program.rescale_program.Goals as goal
 
 pub returns-in-Ok-clause-rescaled : goal.returns-in-Ok-clause-rescaled
@@ -16,3 +17,6 @@ returns-in-Ok-clause-rescaled c =
 
 pub returns-in-Ok-clause-formed : goal.returns-in-Ok-clause-formed
 returns-in-Ok-clause-formed c = λ formed. rescaled_is_formed (program_tree c.args.program.now) (program_tree c.in-Ok.program) (sizes c.args.scales.now) (returns-in-Ok-clause-rescaled c) formed
+
+pub returns-in-Ok-clause-faults : goal.returns-in-Ok-clause-faults
+returns-in-Ok-clause-faults c = same_fault (program_tree c.args.program.now) (program_tree c.in-Ok.program) (sizes c.args.scales.now) (returns-in-Ok-clause-rescaled c)

@@ -2,8 +2,8 @@ use Rattle.std.proofs.Common.{◌≡◌, ℕ, sym, subst, rules, Some, slice_get
 use Rattle.std.proofs.lemmas.Result.{IfOk-weaker}
 use Rattle.um_tree.specs.ProgramTree.{program_tree, function_tree}
 use Rattle.um_infer.specs.Inference.{stops_at_units, stops_at_not_general, infer}
-use Rattle.um_tool.specs.Refusals.{IsUnitsReply, IsNotGeneralReply}
-use Rattle.um_tool.specs.Asking.{asked_of}
+use Rattle.um_reports.specs.Refusals.{IsUnitsReply, IsNotGeneralReply}
+use Rattle.um_answers.specs.Asking.{asked_of}
 use Rattle.um_tool.specs.Answer.{InferenceAnswer, SchemesAnswer}
 use Rattle.um_tool.proofs.answer.answer_schemes.Goals as goal
 

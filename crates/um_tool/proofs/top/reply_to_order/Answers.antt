@@ -1,5 +1,5 @@
 use Rattle.std.proofs.Common.{sym, ◌∙◌}
-use Rattle.um_tool.proofs.OrderWords.{generated_count}
+use Rattle.um_orders.proofs.OrderWords.{generated_count}
 use Rattle.um_tool.proofs.Serving.{if_ok, generated_planned}
 use Rattle.um_tool.proofs.top.reply_to_order.Goals as goal
 

@@ -5,8 +5,8 @@ use Rattle.um_parse.specs.DeclTakes.{reader_state}
 use Rattle.um_parse.proofs.DeclTaken.{next_low, next_goes}
 use Rattle.um_parse.proofs.decl_reader.DeclReader.follow.Goals as goal
 
-pub returns-in-Some : goal.returns-in-Some
-returns-in-Some c =
-    let e : reader_state c.put.new.self ≡ next_state c.in-Some.next = ap reader_state c.put.ensures ∙ c.reader_of.ensures in
+pub returns-in_ok-reader-in-Some : goal.returns-in_ok-reader-in-Some
+returns-in_ok-reader-in-Some c =
+    let e : reader_state c.put.new.self ≡ next_state c.in-Some.next = ap reader_state c.put.ensures ∙ c.in_ok-reader-in-Some.ensures in
     let least = ap decl_least e in
     (e ∙ sym (ap reached c.in-Some.is), (λ h. next_goes c.in-Some.next (sym e ∙ h)), omega (arith, least, next_low c.in-Some.next))

@@ -1,0 +1,195 @@
+-- What words are that name an order.
+use Rattle.std.proofs.Common.{◌≡◌, ℕ, ◌<◌, ◌≤◌, Bool, true, false, ◌&&◌, IsTrue, if◌then◌else◌, List, [], ◌∷◌, length, drop, get_or, codes, All, Some, None, Result, Ok, refl, sym, ap, subst, ◌∙◌, arith}
+use Rattle.std.specs.Prelude.{Option, nat_lt, nat_le, slice_get}
+use Rattle.std.specs.Char.{is_ascii_digit}
+use Rattle.std.specs.List.{list_all}
+use Rattle.std.specs.Str.{bytes_eq, all_ascii_digits}
+use Rattle.std.specs.Str.Parse.{digits_value, ParsesUnsigned}
+use Rattle.std.proofs.lemmas.Bool.{leb-true}
+use Rattle.std.proofs.lemmas.Str.Parse.{numerals_by_value, tells_all_ascii_digits, digits_value_short, parse_gives}
+use Rattle.std.proofs.lemmas.List.Elements.{All-nil, All-cons}
+use Rattle.um_sizes.specs.ScaleWords.{is_scales}
+use Rattle.um_orders.specs.declared.order.Order.{Order}
+use Rattle.um_orders.specs.declared.order.Order.TheVariants.{Types, Code, Fmt, Run, Steps, Eval, Conform, Rescale, Twin, Big}
+use Rattle.um_orders.specs.declared.order.Intake.TheVariants.{Generated}
+use Rattle.um_orders.specs.Orders.{is_short, is_budget, budget_of, is_count, count_of, big_order, rescale_order, order_of_two, order_alone, call_order, order_of_three, twin_order, order_of_many, longer_order, order_by_count, order_of, intake_of}
+
+pub both : (a b : Bool) → (a && b) ≡ true → (a ≡ true) × (b ≡ true)
+both true b e = (refl, e)
+both false b e = absurd cc
+
+-- ---- each word is short, and the words have the form of their count
+named_by_count : (words : List (List ℕ)) (o : Order) → order_of words ≡ Some o → (list_all is_short words ≡ true) × (order_by_count words ≡ Some o)
+unfolding order_of
+named_by_count words o e = by (list_all is_short words) refl e where
+  by : (t : Bool) → list_all is_short words ≡ t → (if t then order_by_count words else None) ≡ Some o → (list_all is_short words ≡ true) × (order_by_count words ≡ Some o)
+  by true s named = (s, named)
+  by false s named = absurd (cc named)
+
+abbrev IsShort : List ℕ → Type 0
+IsShort word = length word ≤ 1048576
+
+all_short : (words : List (List ℕ)) → list_all is_short words ≡ true → All IsShort words
+all_short [] e = All-nil IsShort
+all_short (w ∷ ws) e =
+    let h = both (is_short w) (list_all is_short ws) e in
+    All-cons IsShort w ws (leb-true (length w) 1048576 h.0) (all_short ws h.1)
+
+pub short_words : (words : List (List ℕ)) (o : Order) → order_of words ≡ Some o → All IsShort words
+short_words words o e = all_short words (named_by_count words o e).0
+
+pub none_of_long : (words : List (List ℕ)) → list_all is_short words ≡ false → order_of words ≡ None
+unfolding order_of
+none_of_long words e = ap (λ t. if t then order_by_count words else None) e
+
+pub by_count : (words : List (List ℕ)) → list_all is_short words ≡ true → order_of words ≡ order_by_count words
+unfolding order_of
+by_count words e = ap (λ t. if t then order_by_count words else None) e
+
+-- ---- the forms by the count of words
+pub none_of_few : (words : List (List ℕ)) → (length words ≡ 1 → ⊥) → (length words ≡ 2 → ⊥) → length words < 3 → order_by_count words ≡ None
+none_of_few [] more other few = refl
+none_of_few (w ∷ []) more other few = absurd (more refl)
+none_of_few (w ∷ v ∷ []) more other few = absurd (other refl)
+none_of_few (w ∷ v ∷ u ∷ ws) more other few = absurd (omega (arith, few))
+
+pub alone_of_one : (words : List (List ℕ)) (w : List ℕ) → length words ≡ 1 → slice_get words 0 ≡ Some w → order_by_count words ≡ order_alone w
+alone_of_one [] w e h = absurd (omega (arith, e))
+alone_of_one (x ∷ []) w e h = let same : x ≡ w = cc h in ap order_alone same
+alone_of_one (x ∷ y ∷ ws) w e h = absurd (omega (arith, e))
+
+pub pair_of_two : (words : List (List ℕ)) (w v : List ℕ) → length words ≡ 2 → slice_get words 0 ≡ Some w → slice_get words 1 ≡ Some v → order_by_count words ≡ order_of_two w v
+pair_of_two [] w v e first second = absurd (omega (arith, e))
+pair_of_two (x ∷ []) w v e first second = absurd (omega (arith, e))
+pair_of_two (x ∷ y ∷ []) w v e first second = let same : x ≡ w = cc first in let other : y ≡ v = cc second in (λ i. order_of_two (same i) (other i))
+pair_of_two (x ∷ y ∷ z ∷ ws) w v e first second = absurd (omega (arith, e))
+
+pub longer_of_more : (words : List (List ℕ)) → 2 < length words → order_by_count words ≡ longer_order (get_or words 0 []) (get_or words 1 []) (get_or words 2 []) (drop 3 words)
+longer_of_more [] l = absurd (omega (arith, l))
+longer_of_more (w ∷ []) l = absurd (omega (arith, l))
+longer_of_more (w ∷ v ∷ []) l = absurd (omega (arith, l))
+longer_of_more (w ∷ v ∷ u ∷ ws) l = refl
+
+-- ---- what words are beside the form of their order
+
+within_limit : (word : List ℕ) (n : ℕ) → budget_of word ≡ Some n → n ≤ 10000000
+within_limit word n e = by (is_budget word && nat_le (digits_value 10 word) 10000000) refl e where
+  by : (t : Bool) → (is_budget word && nat_le (digits_value 10 word) 10000000) ≡ t → (if t then Some (digits_value 10 word) else None) ≡ Some n → n ≤ 10000000
+  by true s named =
+      let same : digits_value 10 word ≡ n = cc named in
+      subst (λ k. k ≤ 10000000) same (leb-true (digits_value 10 word) 10000000 (both (is_budget word) (nat_le (digits_value 10 word) 10000000) s).1)
+  by false s named = absurd (cc named)
+
+count_within : (word : List ℕ) (n : ℕ) → count_of word ≡ Some n → (1 ≤ n) × (n ≤ 2000)
+count_within word n e = by (is_budget word && is_count word) refl e where
+  by : (t : Bool) → (is_budget word && is_count word) ≡ t → (if t then Some (digits_value 10 word) else None) ≡ Some n → (1 ≤ n) × (n ≤ 2000)
+  by true s named =
+      let same : digits_value 10 word ≡ n = cc named in
+      let bounds = both (nat_le (length word) 4 && nat_le 1 (digits_value 10 word)) (nat_le (digits_value 10 word) 2000) (both (is_budget word) (is_count word) s).1 in
+      let least = both (nat_le (length word) 4) (nat_le 1 (digits_value 10 word)) bounds.0 in
+      (subst (λ k. 1 ≤ k) same (leb-true 1 (digits_value 10 word) least.1), subst (λ k. k ≤ 2000) same (leb-true (digits_value 10 word) 2000 bounds.1))
+  by false s named = absurd (cc named)
+
+-- a call has a function's name and a budget within its limit, a generated program has few functions, and a word states
+-- sizes where one shall
+abbrev pub AreWordsOf : List (List ℕ) → Order → Type 0
+AreWordsOf words (Run b) = (3 ≤ length words) × (b ≤ 10000000)
+AreWordsOf words (Steps b) = (3 ≤ length words) × (b ≤ 10000000)
+AreWordsOf words (Eval b) = (3 ≤ length words) × (b ≤ 10000000)
+AreWordsOf words Conform = 3 ≤ length words
+AreWordsOf words Rescale = (2 ≤ length words) × IsTrue (is_scales (get_or words 1 []))
+AreWordsOf words (Twin b) = (4 ≤ length words) × (b ≤ 10000000) × IsTrue (is_scales (get_or words 2 []))
+AreWordsOf words (Big n) = (1 ≤ n) × (n ≤ 2000)
+AreWordsOf words order = Unit {0}
+
+words_alone : (word : List ℕ) (o : Order) → order_alone word ≡ Some o → AreWordsOf (word ∷ []) o
+words_alone word o e = by (bytes_eq word (codes "types")) (bytes_eq word (codes "code")) (bytes_eq word (codes "fmt")) e where
+  by : (s t u : Bool) → (if s then Some Types else if t then Some Code else if u then Some Fmt else None) ≡ Some o → AreWordsOf (word ∷ []) o
+  by true t u named = let same : Types ≡ o = cc named in subst (AreWordsOf (word ∷ [])) same tt
+  by false true u named = let same : Code ≡ o = cc named in subst (AreWordsOf (word ∷ [])) same tt
+  by false false true named = let same : Fmt ≡ o = cc named in subst (AreWordsOf (word ∷ [])) same tt
+  by false false false named = absurd (cc named)
+
+words_of_two : (word second : List ℕ) (o : Order) → order_of_two word second ≡ Some o → AreWordsOf (word ∷ second ∷ []) o
+words_of_two word second o e = by (bytes_eq word (codes "big")) (count_of second) refl (bytes_eq word (codes "rescale")) (is_scales second) refl e where
+  by : (s : Bool) (count : Option ℕ) → count_of second ≡ count → (t stated : Bool) → is_scales second ≡ stated
+      → (if s then big_order count else if t then rescale_order stated else None) ≡ Some o → AreWordsOf (word ∷ second ∷ []) o
+  by true (Some n) is t stated so named = let same : Big n ≡ o = cc named in subst (AreWordsOf (word ∷ second ∷ [])) same (count_within second n is)
+  by true None is t stated so named = absurd (cc named)
+  by false count is true true so named = let same : Rescale ≡ o = cc named in subst (AreWordsOf (word ∷ second ∷ [])) same (omega arith, so)
+  by false count is true false so named = absurd (cc named)
+  by false count is false stated so named = absurd (cc named)
+
+words_of_call : (words : List (List ℕ)) (word : List ℕ) (limit : Option ℕ) (o : Order) → 3 ≤ length words → ((n : ℕ) → limit ≡ Some n → n ≤ 10000000) → call_order word limit ≡ Some o → AreWordsOf words o
+words_of_call words word None o many within e = absurd (cc e)
+words_of_call words word (Some n) o many within e = by (bytes_eq word (codes "run")) (bytes_eq word (codes "steps")) (bytes_eq word (codes "eval")) e where
+  by : (s t u : Bool) → (if s then Some (Run n) else if t then Some (Steps n) else if u then Some (Eval n) else None) ≡ Some o → AreWordsOf words o
+  by true t u named = let same : Run n ≡ o = cc named in subst (AreWordsOf words) same (many, within n refl)
+  by false true u named = let same : Steps n ≡ o = cc named in subst (AreWordsOf words) same (many, within n refl)
+  by false false true named = let same : Eval n ≡ o = cc named in subst (AreWordsOf words) same (many, within n refl)
+  by false false false named = absurd (cc named)
+
+words_of_three : (word second third : List ℕ) (o : Order) → order_of_three word (budget_of second) ≡ Some o → AreWordsOf (word ∷ second ∷ third ∷ []) o
+words_of_three word second third o e = by (bytes_eq word (codes "conform")) e where
+  many : 3 ≤ length (word ∷ second ∷ third ∷ [])
+  many = omega arith
+
+  by : (t : Bool) → (if t then Some Conform else call_order word (budget_of second)) ≡ Some o → AreWordsOf (word ∷ second ∷ third ∷ []) o
+  by true named = let same : Conform ≡ o = cc named in subst (AreWordsOf (word ∷ second ∷ third ∷ [])) same many
+  by false named = words_of_call (word ∷ second ∷ third ∷ []) word (budget_of second) o many (within_limit second) named
+
+-- more words than three
+module _ (word second third fourth : List ℕ) (more : List (List ℕ)) where
+  abbrev More : Order → Type 0
+  More o = AreWordsOf (word ∷ second ∷ third ∷ fourth ∷ more) o
+
+  words_of_many : (o : Order) → order_of_many word (budget_of second) (is_scales third) ≡ Some o → More o
+  words_of_many o e = by (bytes_eq word (codes "twin")) (budget_of second) refl (is_scales third) refl e where
+    by : (t : Bool) (limit : Option ℕ) → budget_of second ≡ limit → (stated : Bool) → is_scales third ≡ stated → (if t then twin_order limit stated else call_order word limit) ≡ Some o → More o
+    by true None is stated so named = absurd (cc named)
+    by true (Some n) is true so named = let same : Twin n ≡ o = cc named in subst More same (omega arith, within_limit second n is, so)
+    by true (Some n) is false so named = absurd (cc named)
+    by false limit is stated so named = words_of_call (word ∷ second ∷ third ∷ fourth ∷ more) word limit o (omega arith) (λ n given. within_limit second n (is ∙ given)) named
+
+words_by_count : (words : List (List ℕ)) (o : Order) → order_by_count words ≡ Some o → AreWordsOf words o
+words_by_count [] o e = absurd (cc e)
+words_by_count (w ∷ []) o e = words_alone w o e
+words_by_count (w ∷ v ∷ []) o e = words_of_two w v o e
+words_by_count (w ∷ v ∷ u ∷ []) o e = words_of_three w v u o e
+words_by_count (w ∷ v ∷ u ∷ x ∷ ws) o e = words_of_many w v u x ws o e
+
+pub words_of_order : (words : List (List ℕ)) (o : Order) → order_of words ≡ Some o → AreWordsOf words o
+words_of_order words o e = words_by_count words o (named_by_count words o e).1
+
+pub generated_count : (words : List (List ℕ)) (o : Order) (n : ℕ) → order_of words ≡ Some o → intake_of o ≡ Generated n → (1 ≤ n) × (n ≤ 2000)
+generated_count words (Big k) n e takes = let same : k ≡ n = cc takes in subst (λ j. (1 ≤ j) × (j ≤ 2000)) same (words_of_order words (Big k) e)
+generated_count words Types n e takes = absurd (cc takes)
+generated_count words Code n e takes = absurd (cc takes)
+generated_count words Fmt n e takes = absurd (cc takes)
+generated_count words (Run b) n e takes = absurd (cc takes)
+generated_count words (Steps b) n e takes = absurd (cc takes)
+generated_count words (Eval b) n e takes = absurd (cc takes)
+generated_count words Conform n e takes = absurd (cc takes)
+generated_count words Rescale n e takes = absurd (cc takes)
+generated_count words (Twin b) n e takes = absurd (cc takes)
+
+-- ---- digits
+
+abbrev AreDigits : List ℕ → Type 0
+AreDigits ds = all_ascii_digits ds ≡ true
+
+digits_are : (ds : List ℕ) → list_all is_ascii_digit ds ≡ all_ascii_digits ds
+digits_are [] = refl
+digits_are (d ∷ ds) = ap (λ b. is_ascii_digit d && b) (digits_are ds)
+
+-- few digits are read as their value
+pub few_digits_parsed : {E : Type 0} (word : List ℕ) (r : Result ℕ E) → IsTrue (is_budget word) → ParsesUnsigned 64 10 word r → r ≡ Ok (digits_value 10 word)
+few_digits_parsed word r few parses =
+    let parts = both (nat_lt 0 (length word) && nat_le (length word) 8) (list_all is_ascii_digit word) few in
+    let counts = both (nat_lt 0 (length word)) (nat_le (length word) 8) parts.0 in
+    let own = numerals_by_value AreDigits tells_all_ascii_digits in
+    let digits : AreDigits word = sym (digits_are word) ∙ parts.1 in
+    let some : 0 < length word = leb-true 1 (length word) counts.0 in
+    let short : length word ≤ 8 = leb-true (length word) 8 counts.1 in
+    let small = digits_value_short own word 8 digits short in
+    parse_gives own 64 word r parses digits some (omega (arith, small))

@@ -1,0 +1,2 @@
+-- What a reader must trust: what words ask for.
+pub mod Orders

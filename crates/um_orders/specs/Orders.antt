@@ -1,0 +1,115 @@
+-- What the words of the command line ask for.
+-- Source: this project's own commands.
+use Rattle.std.specs.Prelude.{◌≡◌, ℕ, Bool, ◌&&◌, List, [], ◌∷◌, length, Option, Some, None, codes}
+use Rattle.std.specs.Prelude.{nat_le, nat_lt, if◌then◌else◌}
+use Rattle.std.specs.List.{list_all}
+use Rattle.std.specs.Char.{is_ascii_digit}
+use Rattle.std.specs.Str.{bytes_eq}
+use Rattle.std.specs.Str.Parse.{digits_value}
+use Rattle.um_sizes.specs.ScaleWords.{is_scales}
+use Rattle.um_orders.specs.declared.order.Order.{Order}
+use Rattle.um_orders.specs.declared.order.Order.TheVariants.{Types, Code, Fmt, Run, Steps, Eval, Conform}
+use Rattle.um_orders.specs.declared.order.Order.TheVariants.{Rescale, Twin, Big}
+use Rattle.um_orders.specs.declared.order.Intake.{Intake}
+use Rattle.um_orders.specs.declared.order.Intake.TheVariants.{Generated, Text}
+
+-- ---- the parts of a form
+
+-- at most 1,048,576 bytes
+abbrev pub is_short : List ℕ → Bool
+is_short word = nat_le (length word) 1048576
+
+-- one to eight digits
+abbrev pub is_budget : List ℕ → Bool
+is_budget word = nat_lt 0 (length word) && nat_le (length word) 8 && list_all is_ascii_digit word
+
+-- and their value is at most 10,000,000
+abbrev pub budget_of : List ℕ → Option ℕ
+budget_of word =
+    if is_budget word && nat_le (digits_value 10 word) 10000000 then Some (digits_value 10 word) else None
+
+-- one to four digits of value 1 to 2,000: the number of functions of a generated program
+abbrev pub is_count : List ℕ → Bool
+is_count word =
+    nat_le (length word) 4 && nat_le 1 (digits_value 10 word) && nat_le (digits_value 10 word) 2000
+
+abbrev pub count_of : List ℕ → Option ℕ
+count_of word = if is_budget word && is_count word then Some (digits_value 10 word) else None
+
+-- ---- the forms
+
+-- a command of one word
+abbrev pub order_alone : List ℕ → Option Order
+order_alone word =
+    if bytes_eq word (codes "types") then Some Types
+    else if bytes_eq word (codes "code") then Some Code
+    else if bytes_eq word (codes "fmt") then Some Fmt else None
+
+-- big N, by the number of functions
+abbrev pub big_order : Option ℕ → Option Order
+big_order None = None
+big_order (Some n) = Some (Big n)
+
+-- rescale SCALES, where the word states sizes of base units
+abbrev pub rescale_order : Bool → Option Order
+rescale_order stated = if stated then Some Rescale else None
+
+-- a command of two words
+abbrev pub order_of_two : List ℕ → List ℕ → Option Order
+order_of_two word second =
+    if bytes_eq word (codes "big") then big_order (count_of second)
+    else if bytes_eq word (codes "rescale") then rescale_order (is_scales second) else None
+
+-- COMMAND BUDGET NAME ARG*, by its first word and the budget
+abbrev pub call_order : List ℕ → Option ℕ → Option Order
+call_order word None = None
+call_order word (Some budget) =
+    if bytes_eq word (codes "run") then Some (Run budget)
+    else if bytes_eq word (codes "steps") then Some (Steps budget)
+    else if bytes_eq word (codes "eval") then Some (Eval budget) else None
+
+-- conform NAME TYPE, or such a command without an ARG
+abbrev pub order_of_three : List ℕ → Option ℕ → Option Order
+order_of_three word budget = if bytes_eq word (codes "conform") then Some Conform else call_order word budget
+
+-- twin BUDGET SCALES NAME ARG*, where the third word states sizes of base units
+abbrev pub twin_order : Option ℕ → Bool → Option Order
+twin_order None stated = None
+twin_order (Some budget) stated = if stated then Some (Twin budget) else None
+
+abbrev pub order_of_many : List ℕ → Option ℕ → Bool → Option Order
+order_of_many word budget stated =
+    if bytes_eq word (codes "twin") then twin_order budget stated else call_order word budget
+
+-- by the first three words and those behind them
+abbrev pub longer_order : List ℕ → List ℕ → List ℕ → List (List ℕ) → Option Order
+longer_order word second third [] = order_of_three word (budget_of second)
+longer_order word second third (fourth ∷ more) = order_of_many word (budget_of second) (is_scales third)
+
+abbrev pub order_by_count : List (List ℕ) → Option Order
+order_by_count [] = None
+order_by_count (word ∷ []) = order_alone word
+order_by_count (word ∷ second ∷ []) = order_of_two word second
+order_by_count (word ∷ second ∷ third ∷ more) = longer_order word second third more
+
+-- the order that the words name, where they have one of the forms and each is short enough
+unfoldable pub order_of : List (List ℕ) → Option Order
+order_of words = if list_all is_short words then order_by_count words else None
+
+-- what an order takes from the source
+abbrev pub intake_of : Order → Intake
+intake_of Types = Text
+intake_of Code = Text
+intake_of Fmt = Text
+intake_of (Run budget) = Text
+intake_of (Steps budget) = Text
+intake_of (Eval budget) = Text
+intake_of Conform = Text
+intake_of Rescale = Text
+intake_of (Twin budget) = Text
+intake_of (Big n) = Generated n
+
+-- the words name an order that takes this
+pub record AsksFor (words : List (List ℕ)) (order : Order) (intake : Intake) : Type 0 where
+  pub ordered : order_of words ≡ Some order
+  pub takes : intake_of order ≡ intake

@@ -1,0 +1,252 @@
+// What the words ask for.
+ghost use Rattle.std.specs.Prelude.{◌≡◌, ◌<◌, [], IsTrue, length, drop, get_or};
+ghost use Rattle.std.specs.Char.{is_ascii_digit};
+ghost use Rattle.std.specs.List.{list_all};
+ghost use Rattle.std.specs.Str.Parse.{digits_value};
+ghost use Rattle.um_orders.specs.Orders.{order_of as order_named, order_alone as alone, longer_order as longer};
+ghost use Rattle.um_sizes.specs.ScaleWords.{is_scales as are_sizes};
+ghost use Rattle.um_orders.specs.Orders.{order_of_two as of_two, big_order as big_named, count_of as count_in};
+ghost use Rattle.um_orders.specs.Orders.{order_of_three as of_three, order_of_many as of_many};
+ghost use Rattle.um_orders.specs.Orders.{rescale_order as rescale_named, twin_order as twin_named};
+ghost use Rattle.um_orders.specs.Orders.{call_order as call_named, budget_of as budget_in, is_budget as are_few_digits};
+ghost use Rattle.um_orders.specs.Orders.{intake_of};
+
+use crate::Words;
+
+/// The greatest budget of calls.
+const GREATEST_BUDGET: u64 = 10_000_000;
+
+/// The most functions of a generated program.
+const MOST_FUNCTIONS: u64 = 2000;
+
+/// What a run is asked to do.
+#[derive(Clone, Copy, PartialEq, Eq, Debug)]
+pub enum Order {
+    /// Print the scheme of each function.
+    Types,
+    /// Print the listing of the program's code.
+    Code,
+    /// Print the program in its layout.
+    Fmt,
+    /// Call a function by the program's code, with at most so many calls, and print its value.
+    Run { budget: u64 },
+    /// The same, and then print the number of steps that the machine made.
+    Steps { budget: u64 },
+    /// Call a function by the program's tree, with at most so many calls, and print its value.
+    Eval { budget: u64 },
+    /// Say whether a function may be used at a signature.
+    Conform,
+    /// Print the program with its literals in other sizes of the base units.
+    Rescale,
+    /// Call a function, with at most so many calls, and again in other sizes of the base units, and print both values.
+    Twin { budget: u64 },
+    /// Infer a generated program of so many functions, call its last function, and print four lines about it.
+    Big(u32),
+}
+
+/// What an order takes from the source.
+#[derive(Clone, Copy)]
+pub enum Intake {
+    /// Nothing: the source stays as it was. The text is that of a generated program of so many functions.
+    Generated { functions: u32 },
+    /// A text of at most 1,048,576 bytes, with its tokens.
+    Text,
+}
+
+impl Order {
+    /// What it takes from the source.
+    pub fn intake(self) -> Intake
+        ensures { result ≡ intake_of self }
+    {
+        match self {
+            Order::Types
+            | Order::Code
+            | Order::Fmt
+            | Order::Run { .. }
+            | Order::Steps { .. }
+            | Order::Eval { .. }
+            | Order::Conform
+            | Order::Rescale
+            | Order::Twin { .. } => Intake::Text,
+            Order::Big(functions) => Intake::Generated { functions },
+        }
+    }
+}
+
+/// The order that the words name, or nothing where they have none of the forms. Takes no memory.
+///
+/// The forms are `types`, `code`, `fmt`, `big N`, `rescale SCALES`, `conform NAME TYPE`, `twin BUDGET SCALES NAME ARG*`,
+/// and `run`, `steps` or `eval` with BUDGET NAME ARG*. A budget is one to eight digits of value at most 10,000,000, N is
+/// one to four digits of value 1 to 2,000, SCALES states sizes of base units (`um_sizes::is_scales` says how), and each
+/// word is at most 1,048,576 bytes long.
+pub fn order_of(words: &Words) -> Option<Order>
+    ensures { result ≡ order_named words.now }
+{
+    if !words.are_short() {
+        return None;
+    }
+    if words.len() == 1 {
+        return order_alone(words.word(0));
+    }
+    if words.len() == 2 {
+        return order_of_two(words.word(0), words.word(1), words.states_sizes(1));
+    }
+    if words.len() < 3 {
+        return None;
+    }
+    longer_order(words)
+}
+
+/// The order of a command of one word.
+fn order_alone(word: &str) -> Option<Order>
+    ensures { result ≡ alone word.now }
+{
+    match word {
+        "types" => Some(Order::Types),
+        "code" => Some(Order::Code),
+        "fmt" => Some(Order::Fmt),
+        _ => None,
+    }
+}
+
+/// The order of two words; whether the second one states sizes is told.
+fn order_of_two(word: &str, second: &str, stated: bool) -> Option<Order>
+    requires { stated ≡ are_sizes second.now }
+    ensures { result ≡ of_two word.now second.now }
+{
+    match word {
+        "big" => big_order(count_of(second)),
+        "rescale" => rescale_order(stated),
+        _ => None,
+    }
+}
+
+/// The order about a generated program, by its number of functions.
+fn big_order(count: Option<u32>) -> Option<Order>
+    ensures { result ≡ big_named count }
+{
+    let functions = count?;
+    Some(Order::Big(functions))
+}
+
+/// The order about a text in other sizes, where the word states sizes.
+fn rescale_order(stated: bool) -> Option<Order>
+    ensures { result ≡ rescale_named stated }
+{
+    if stated { Some(Order::Rescale) } else { None }
+}
+
+/// The order of three words or more.
+fn longer_order(words: &Words) -> Option<Order>
+    requires { 2 < length words.now }
+    ensures { result
+        ≡ longer (get_or words.now 0 []) (get_or words.now 1 []) (get_or words.now 2 []) (drop 3 words.now) }
+{
+    if words.len() == 3 {
+        return order_of_three(words.word(0), budget_of(words.word(1)));
+    }
+    order_of_many(
+        words.word(0),
+        budget_of(words.word(1)),
+        words.states_sizes(2),
+    )
+}
+
+/// The order of three words, by the first one and by the budget that the second one may state.
+fn order_of_three(word: &str, budget: Option<u64>) -> Option<Order>
+    ensures { result ≡ of_three word.now budget }
+{
+    match word {
+        "conform" => Some(Order::Conform),
+        _ => call_order(word, budget),
+    }
+}
+
+/// The order of more words; whether the third one states sizes is told.
+fn order_of_many(word: &str, budget: Option<u64>, stated: bool) -> Option<Order>
+    ensures { result ≡ of_many word.now budget stated }
+{
+    match word {
+        "twin" => twin_order(budget, stated),
+        _ => call_order(word, budget),
+    }
+}
+
+/// The order that calls a function twice, where there is a budget and the third word states sizes.
+fn twin_order(budget: Option<u64>, stated: bool) -> Option<Order>
+    ensures { result ≡ twin_named budget stated }
+{
+    let budget = budget?;
+    if stated {
+        Some(Order::Twin { budget })
+    } else {
+        None
+    }
+}
+
+/// The order that calls a function, by its first word and the budget.
+fn call_order(word: &str, budget: Option<u64>) -> Option<Order>
+    ensures { result ≡ call_named word.now budget }
+{
+    let budget = budget?;
+    match word {
+        "run" => Some(Order::Run { budget }),
+        "steps" => Some(Order::Steps { budget }),
+        "eval" => Some(Order::Eval { budget }),
+        _ => None,
+    }
+}
+
+/// The budget that a word states, where it is one to eight digits of value at most 10,000,000.
+fn budget_of(word: &str) -> Option<u64>
+    ensures { result ≡ budget_in word.now }
+{
+    if !is_budget(word) {
+        return None;
+    }
+    let budget = value_of(word);
+    if budget <= GREATEST_BUDGET {
+        Some(budget)
+    } else {
+        None
+    }
+}
+
+/// The number of functions that a word states, where it is one to four digits of value 1 to 2,000.
+fn count_of(word: &str) -> Option<u32>
+    ensures { result ≡ count_in word.now }
+{
+    if !is_budget(word) {
+        return None;
+    }
+    let count = value_of(word);
+    if word.len() <= 4 && 1 <= count && count <= MOST_FUNCTIONS {
+        Some(count as u32)
+    } else {
+        None
+    }
+}
+
+/// Whether the word is one to eight digits.
+fn is_budget(word: &str) -> bool
+    ensures { result ≡ are_few_digits word.now }
+{
+    !word.is_empty() && word.len() <= 8 && has_digits_alone(word)
+}
+
+fn has_digits_alone(word: &str) -> bool
+    ensures { result ≡ list_all is_ascii_digit word.now }
+{
+    word.as_bytes().iter().all(|byte| byte.is_ascii_digit())
+}
+
+/// The number that one to eight digits write.
+fn value_of(digits: &str) -> u64
+    requires { IsTrue (are_few_digits digits.now) }
+    ensures { result ≡ digits_value 10 digits.now }
+{
+    match u64::from_str_radix(digits, 10) {
+        Ok(value) => value,
+        Err(_) => unreachable!(),
+    }
+}

@@ -1,0 +1,9 @@
+use Rattle.std.proofs.Common.{rules, tests}
+use Rattle.std.proofs.lemmas.Iterator.{YieldsList-from_chars}
+use Rattle.std.proofs.lemmas.Iterator.Search.{all_from_yields_List}
+use Rattle.unicode_ident.specs.Ident.{is_xid_continue}
+use Rattle.um_sizes.proofs.named.continues_as_name.Goals as goal
+
+pub returns : goal.returns
+returns c =
+    all_from_yields_List is_xid_continue _ _ c.all.result c.all.ensures.ran (YieldsList-from_chars c.args.text.now c.utf8.text c.chars.ensures.rest) (λ x b q k. search (rules, tests))

@@ -1,0 +1,10 @@
+-- What is trusted, in reading order: parts of texts, numbers and names as they are written, words of sizes,
+-- and the sizes of a program's base units.
+pub mod Parts
+pub mod NumberTexts
+pub mod NameTexts
+pub mod ScaleWords
+pub mod BaseSizes
+-- The code's.
+pub mod Adding
+pub mod Setting

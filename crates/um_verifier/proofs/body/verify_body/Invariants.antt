@@ -1,0 +1,6 @@
+use Rattle.um_verifier.specs.KnownImages.{known_body, known_view}
+use Rattle.um_verifier.proofs.Loop.{TableIs}
+use Rattle.um_verifier.proofs.body.verify_body.Given as goal
+
+abbrev pub invariant-loop-n : goal.invariant-loop-n
+invariant-loop-n l = TableIs (known_view l.known l.code) (known_body l.entry l.head) l.table.items l.n

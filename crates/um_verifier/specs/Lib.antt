@@ -1,0 +1,12 @@
+-- What a reader must trust: why an image is refused.
+pub mod Refusals
+-- What refusals come to: a statement, proved as the contract of the function of src/laws.rt.
+pub mod Laws
+-- What mirrors the code: shapes and tables as they are kept, and what is known after some heads.
+pub mod FlatShapes
+pub mod Tables
+pub mod KnownImages
+pub mod States
+pub mod Bodies
+pub mod Names
+pub mod KnownHeads

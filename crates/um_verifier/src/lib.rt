@@ -1,0 +1,23 @@
+//! Whether a code image is verified: its heads, and the rule of each address of its functions, by shapes in place of
+//! values.
+//!
+//! What the rules are, and that a verified image never gets stuck, stands in `um_verify`.
+#![tactic(auto)]
+
+mod body;
+mod check;
+mod flat;
+mod heads;
+mod known;
+mod laws;
+mod names;
+mod records;
+mod rules;
+mod stop;
+mod table;
+mod verified;
+
+pub use check::verify;
+pub use laws::refusals_of_images;
+pub use stop::VerifyStop;
+pub use verified::Verified;
