@@ -19,7 +19,7 @@ use Rattle.um_elim.proofs.Cases.{on_test}
 use Rattle.um_rows.specs.declared.row.Row.{Row}
 use Rattle.um_rows.specs.declared.row.Rows.{Rows}
 use Rattle.um_rows.specs.Steps.{units_of}
-use Rattle.um_proof.specs.Answers.{HoldsNoParameter}
+use Rattle.um_kept.specs.Answers.{HoldsNoParameter}
 use Rattle.um_proof.specs.ProgramSteps.{is_declared, AreDeclared}
 
 below_from_terms : (bases : ℕ) (ts : List Term) → IsTrue (list_all (λ (t : Term). is_declared bases t.atom) ts) → (n : ℕ) → power_in ts (Base n) ≢ pos 0 → n < bases
