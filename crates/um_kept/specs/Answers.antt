@@ -1,21 +1,17 @@
 -- What the treatment of rows answers, and how the code keeps what the definitions keep. Want of memory may come in place
 -- of every answer.
 -- Source: this project's own.
-use Rattle.std.specs.Prelude.{◌≡◌, ◌⊎◌, ℕ, ◌+◌, ◌-◌, ◌<◌, if◌then◌else◌, Bool, true, false, not, List, [], ◌∷◌, length, map, set, All, slice_index_or, IsTrue, ℤ, pos, negsuc, nat_abs, ◌*ℤ◌, Option, Some, None}
+use Rattle.std.specs.Prelude.{◌≡◌, ◌⊎◌, ℕ, ◌+◌, ◌-◌, ◌<◌, if◌then◌else◌, List, length, All, slice_index_or, IsTrue, pos, nat_abs}
 use Rattle.std.specs.Int.Signed.{◌<ℤ◌}
-use Rattle.um_check.specs.Validity.{returned}
 use Rattle.um_units.specs.declared.Atom.{Atom}
 use Rattle.um_units.specs.declared.Atom.TheVariants.{Base, Var}
-use Rattle.um_units.specs.declared.Term.{Term}
-use Rattle.um_units.specs.PowerMap.{PowerMap, one, atom, mul, inv, pow, power_of, replace, nth}
+use Rattle.um_units.specs.PowerMap.{PowerMap, one, atom, power_of, nth}
 use Rattle.um_units.specs.Variables.{VariablesBelow, atom_below}
 use Rattle.um_wide.specs.Room.{IsNarrow}
 use Rattle.um_elim.specs.declared.turning.Turn.{Turn}
-use Rattle.um_elim.specs.Pivot.{has_other, is_base}
-use Rattle.um_elim.specs.Turn.{multiply, signed}
-use Rattle.um_turns.specs.Turns.{unit_after, AreTurnsOf, IsClosedLeft, IsStuck}
+use Rattle.um_turns.specs.Turns.{AreTurnsOf, IsClosedLeft, IsStuck}
 use Rattle.um_rows.specs.declared.row.Row.{Row}
-use Rattle.um_rows.specs.Generalised.{is_parameter, generalised_unit}
+use Rattle.um_rows.specs.Generalised.{is_parameter}
 use Rattle.um_rows.specs.Steps.{units_of}
 use Rattle.um_kept.specs.declared.kept.Making.{Making}
 use Rattle.um_kept.specs.declared.kept.Head.{Head}
@@ -24,9 +20,8 @@ use Rattle.um_kept.specs.declared.stop.CertStop.{CertStop}
 use Rattle.um_kept.specs.declared.stop.CertStop.TheVariants as stop
 use Rattle.um_kept.specs.declared.made.Treated.{Treated}
 use Rattle.um_kept.specs.declared.made.Treated.TheVariants as treated
-use Rattle.um_making.specs.Making.{at_slot, parts_after}
-use Rattle.um_kept.specs.Making.{Kept, row_unit, row_total, turned, first, IsRowMade, IsReached}
-use Rattle.um_kept.specs.Formed.{IsPowerIn, IsModulus, PassesInRow, PassesInRows}
+use Rattle.um_kept.specs.Making.{Kept, row_unit, row_total, first, IsReached}
+use Rattle.um_kept.specs.Formed.{IsPowerIn, IsModulus, PassesInRows}
 
 -- the base unit of no unit parameter, which come behind the declared ones, stands in it
 abbrev pub HoldsNoParameter : ℕ → ℕ → PowerMap → Type 0

@@ -1,32 +1,23 @@
 -- The code's: what the parts of a row's treatment answer.
 -- Source: this project's own; no clause of a public call rests on it.
-use Rattle.std.specs.Prelude.{◌≡◌, ◌⊎◌, ℕ, ◌+◌, ◌-◌, ◌<◌, if◌then◌else◌, Bool, true, false, not, List, [], ◌∷◌, length, map, set, All, slice_index_or, IsTrue, ℤ, pos, negsuc, nat_abs, ◌*ℤ◌, Option, Some, None}
-use Rattle.std.specs.Int.Signed.{◌<ℤ◌}
-use Rattle.um_check.specs.Validity.{returned}
-use Rattle.um_units.specs.declared.Atom.{Atom}
+use Rattle.std.specs.Prelude.{◌≡◌, ◌⊎◌, ℕ, ◌+◌, ◌<◌, if◌then◌else◌, Bool, true, false, not, List, [], ◌∷◌, length, map, set, slice_index_or, ℤ, pos, negsuc, nat_abs, ◌*ℤ◌, Option, Some, None}
 use Rattle.um_units.specs.declared.Atom.TheVariants.{Base, Var}
 use Rattle.um_units.specs.declared.Term.{Term}
-use Rattle.um_units.specs.PowerMap.{PowerMap, one, atom, mul, inv, pow, power_of, replace, nth}
-use Rattle.um_units.specs.Variables.{VariablesBelow, atom_below}
-use Rattle.um_wide.specs.Room.{IsNarrow}
+use Rattle.um_units.specs.PowerMap.{PowerMap, one, mul, inv, pow, power_of, replace, nth}
 use Rattle.um_elim.specs.declared.turning.Turn.{Turn}
 use Rattle.um_elim.specs.Pivot.{has_other, is_base}
 use Rattle.um_elim.specs.Turn.{multiply, signed}
-use Rattle.um_turns.specs.Turns.{unit_after, AreTurnsOf, IsClosedLeft, IsStuck}
-use Rattle.um_rows.specs.declared.row.Row.{Row}
-use Rattle.um_rows.specs.Generalised.{is_parameter, generalised_unit}
-use Rattle.um_rows.specs.Steps.{units_of}
+use Rattle.um_turns.specs.Turns.{unit_after, AreTurnsOf}
+use Rattle.um_rows.specs.Generalised.{generalised_unit}
 use Rattle.um_kept.specs.declared.kept.Making.{Making}
 use Rattle.um_kept.specs.declared.kept.Head.{Head}
 use Rattle.um_kept.specs.declared.row.Refused.{Refused}
 use Rattle.um_kept.specs.declared.stop.CertStop.{CertStop}
 use Rattle.um_kept.specs.declared.stop.CertStop.TheVariants as stop
-use Rattle.um_kept.specs.declared.made.Treated.{Treated}
-use Rattle.um_kept.specs.declared.made.Treated.TheVariants as treated
 use Rattle.um_making.specs.Making.{at_slot, parts_after}
-use Rattle.um_kept.specs.Making.{Kept, row_unit, row_total, turned, first, IsRowMade, IsReached}
-use Rattle.um_kept.specs.Formed.{IsPowerIn, IsModulus, PassesInRow, PassesInRows}
-use Rattle.um_kept.specs.Answers.{CarriesPower, back_at, Agrees, IsRefusedAs, start}
+use Rattle.um_kept.specs.Making.{Kept, row_unit, turned, IsRowMade}
+use Rattle.um_kept.specs.Formed.{IsPowerIn, PassesInRow}
+use Rattle.um_kept.specs.Answers.{Agrees, IsRefusedAs}
 
 -- the number passes 64 bits, and is carried
 abbrev pub CarriesNumber : ℤ → CertStop → Type 0
