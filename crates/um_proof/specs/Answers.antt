@@ -16,16 +16,13 @@ use Rattle.um_check.specs.declared.certificate.Yes.{Yes}
 use Rattle.um_check.specs.declared.certificate.No.{No}
 use Rattle.um_check.specs.Validity.{IsValidYes}
 use Rattle.um_check.specs.Refutation.{IsValidNo}
-use Rattle.um_proof.specs.declared.stop.CertStop.{CertStop}
-use Rattle.um_proof.specs.declared.stop.CertStop.TheVariants as stop
-use Rattle.um_proof.specs.Making.{first}
-use Rattle.um_proof.specs.Formed.{PassesInRows, PassesAtEnd}
+use Rattle.um_kept.specs.declared.stop.CertStop.{CertStop}
+use Rattle.um_kept.specs.declared.stop.CertStop.TheVariants as stop
+use Rattle.um_kept.specs.Making.{first}
+use Rattle.um_kept.specs.Answers.{HoldsNoParameter}
+use Rattle.um_kept.specs.Formed.{PassesInRows, PassesAtEnd}
 
 -- ---- what is asked of the rows of a function with so many unit parameters, as `rows` of um_rows gives them
-
--- the base unit of no unit parameter, which come behind the declared ones, stands in it
-abbrev pub HoldsNoParameter : ℕ → ℕ → PowerMap → Type 0
-HoldsNoParameter bases parameters u = (i : ℕ) → i < parameters → power_of u (Base (bases + i)) ≡ pos 0
 
 pub record AreFunctionRows (bases parameters : ℕ) (r : Rows) : Type 0 where
   pub few : r.slots ≤ 2000

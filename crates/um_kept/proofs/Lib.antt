@@ -1,0 +1,11 @@
+mod Limits
+mod Times
+mod Loops
+mod Turning
+mod TurnEnds
+mod Parts
+mod WayBack
+mod RowStops
+mod Reached
+mod Solving
+mod Refusals
