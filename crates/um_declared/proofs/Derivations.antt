@@ -1,7 +1,6 @@
 -- The equations of a function of a formed program hold no base unit that the program doesn't declare, and are few.
-use Rattle.std.proofs.Common.{◌≡◌, ℕ, zero, suc, ◌+◌, ◌*◌, ◌≤◌, List, [], ◌∷◌, ◌++◌, map, length, Option, Some, None, slice_get, get_or, refl, sym, ap, ◌∙◌, subst, arith}
+use Rattle.std.proofs.Common.{◌≡◌, ℕ, zero, suc, ◌+◌, ◌*◌, ◌≤◌, List, [], ◌∷◌, ◌++◌, map, length, Option, Some, None, slice_get, get_or, refl, ap, arith}
 use Rattle.std.specs.Prelude.{All}
-use Rattle.std.proofs.lemmas.List.{length-append}
 use Rattle.std.proofs.lemmas.List.Elements.{All-nil, All-cons, All-head, All-tail}
 use Rattle.um_units.specs.PowerMap.{PowerMap}
 use Rattle.um_tree.specs.declared.note.UnitNote.{UnitNote}
@@ -9,7 +8,6 @@ use Rattle.um_tree.specs.declared.note.UnitNote.TheVariants.{Hole, Written}
 use Rattle.um_tree.specs.TypeTree.{TypeTree, bool_type, num_type, list_type, record_type, NoteTree, bool_note, num_note, list_note, record_note}
 use Rattle.um_tree.specs.ExprTree.{ExprTree, ExprTrees, truth, number, local, call, negate, not_expr, pown, arith as arith_tree, compare, both, either, if, bind, split, nil, list_expr, cons, record_expr, field, none, more}
 use Rattle.um_tree.specs.ProgramTree.{FieldTree, RecordTree, FunctionTree, ProgramTree, SchemeTree, Signature}
-use Rattle.um_tree.specs.Typing.{field_types}
 use Rattle.um_tree.specs.TreeHeights.{tree_nodes, all_tree_nodes}
 use Rattle.um_tree.specs.Formed.{IsNoteIn, IsNoteTreeIn, IsTypeIn, IsLiteral, IsFormedIn, AllFormedIn, IsFieldType, IsFormedNote, ResultFormed, IsFormedFunction, IsFormed}
 use Rattle.um_frac.specs.declared.number.Frac.{Frac}
@@ -18,7 +16,6 @@ use Rattle.um_rows.specs.Holes.{unit_holes, note_holes, notes_holes, Callee, kno
 use Rattle.um_rows.specs.Rules.{Derived, AllDerived, after, formed, item, number_rule, local_rule, call_rule, negate_rule, not_rule, pown_rule, truths_rule, arith_rule, compare_rule, if_rule, split_rule, nil_rule, list_rule, cons_rule, record_rule, field_rule}
 use Rattle.um_rows.specs.Derivation.{first_units, noted_unit, noted_units, noted_type, noted_types, offered, derive, derive_all}
 use Rattle.um_rows.specs.Equations.{Equations, callee, head_holes, noted_result, result_rows, own_signature, head_steps, equations}
-use Rattle.um_rows.proofs.PushLaws.{rows_of-append}
 use Rattle.um_rows.proofs.SlotLaws.{length-first}
 use Rattle.um_declared.proofs.Lacks.{Lacks, replace_lacks, below_lacks, TypeLacks, TypesLack, SignatureLacks, put_lacks, types_put_lack, types_lack-append}
 use Rattle.um_declared.proofs.NodeRules.{StepsLack, RowsLack, rows_more, rows_append, no_rows, DerivedLacks, formed_lacks, against_lacks, list_item_lacks, number_lacks, local_lacks, OfferLacks, call_lacks, negate_lacks, not_lacks, pown_lacks, truths_lack, arith_lacks, compare_lacks, if_lacks, split_lacks, nil_lacks, list_lacks, cons_lacks, FieldsLack, record_lacks, field_lacks}
@@ -148,7 +145,7 @@ module _ (m : ℕ) (holes names : ℕ → PowerMap) (open_lack : (k : ℕ) → L
       let is = w.0.2 in
       ((λ k d low. below_lacks m (length p.bases) undeclared (get_or us k d) (w.1 k d low).0), omega (arith, few, is))
 
-  field_types_lack : (r units : ℕ) (fs : List FieldTree) → All (λ f. IsFieldType p r units f.type) fs → TypesLack m (map (λ f. f.type) fs)
+  field_types_lack : (r units : ℕ) (fs : List FieldTree) → All (λ (f : FieldTree). IsFieldType p r units f.type) fs → TypesLack m (map (λ (f : FieldTree). f.type) fs)
   field_types_lack r units [] w = tt
   field_types_lack r units (f ∷ fs) w =
       (field_type_lacks units f.type (All-head (λ (f : FieldTree). IsFieldType p r units f.type) f fs w).0, field_types_lack r units fs (All-tail (λ (f : FieldTree). IsFieldType p r units f.type) f fs w))

@@ -1,5 +1,5 @@
 -- Solving rows brings no base unit into the units of the slots, and a scheme holds no base unit of a unit parameter.
-use Rattle.std.proofs.Common.{◌≡◌, ◌≢◌, ℕ, zero, suc, ◌+◌, ◌-◌, ◌<◌, ◌≤◌, ◌⊎◌, inl, inr, nat_lt, leb, cond, Option, Some, None, List, [], ◌∷◌, map, length, ℤ, pos, negsuc, ◌+ℤ◌, ◌*ℤ◌, nat_abs, get_or, refl, sym, ap, ◌∙◌, subst, arith}
+use Rattle.std.proofs.Common.{◌≡◌, ◌≢◌, ℕ, suc, ◌+◌, ◌-◌, ◌<◌, ◌≤◌, inl, inr, nat_lt, leb, false, cond, Option, Some, None, List, [], ◌∷◌, map, ℤ, pos, negsuc, ◌+ℤ◌, ◌*ℤ◌, nat_abs, get_or, refl, sym, ap, ◌∙◌, subst, arith}
 use Rattle.std.specs.Prelude.{◌==◌, All}
 use Rattle.std.proofs.lemmas.Bool.Decides.{nat_tests}
 use Rattle.std.proofs.lemmas.List.{length-map}
@@ -13,25 +13,25 @@ use Rattle.um_units.specs.PowerMap.{PowerMap, power_of, one, atom, mul, replace,
 use Rattle.um_units.proofs.Equality.{tail_only}
 use Rattle.um_units.proofs.Replacement.{weight_held, extension-mul, extension-atom}
 use Rattle.um_tree.specs.TypeTree.{TypeTree, bool_type, num_type, list_type, record_type}
-use Rattle.um_tree.specs.ProgramTree.{Signature, SchemeTree}
+use Rattle.um_tree.specs.ProgramTree.{Signature}
 use Rattle.um_tree.specs.Typing.{put, put_signature, moved}
 use Rattle.um_tree.specs.Scheme.{signature_types}
 use Rattle.um_tree.proofs.Homomorphisms.{power_of-h}
 use Rattle.um_elim.specs.declared.turning.Turn.{Turn}
-use Rattle.um_elim.specs.Turn.{substitute, multiply, quotients, inverted_if_negative, turn_of, signed, is_negative, IsTurnOf}
+use Rattle.um_elim.specs.Turn.{substitute, multiply, quotients, inverted_if_negative, signed, is_negative, IsTurnOf}
 use Rattle.um_elim.specs.Elimination.{Elimination, Solved, NoSolution, Range, eliminate}
 use Rattle.um_elim.specs.Numbering.{variable_order, by_place, place}
 use Rattle.um_elim.specs.Solution.{own_variables, rigid_unit, rigid_units}
 use Rattle.um_elim.proofs.Cases.{on_test}
 use Rattle.um_elim.proofs.TurnLaws.{less, less-zero, power_of-quotients}
 use Rattle.um_elim.proofs.Slots.{length-rigid}
-use Rattle.um_turns.specs.Turns.{unit_after, units_after, AreTurnsOf}
+use Rattle.um_turns.specs.Turns.{units_after, AreTurnsOf}
 use Rattle.um_turns.proofs.Trace.{eliminate_treated}
 use Rattle.um_rows.specs.declared.row.Row.{Row}
-use Rattle.um_rows.specs.Steps.{rows_of, units_of, first_past}
+use Rattle.um_rows.specs.Steps.{units_of}
 use Rattle.um_rows.specs.FirstUnsolvable.{Solving, solved, unsolved, out_of_range, after_row, solve, rows_up_to}
 use Rattle.um_rows.specs.Generalised.{is_parameter, generalised_atom, generalised_unit, generalised}
-use Rattle.um_rows.specs.Judgement.{numbered_scheme, signature_fits, Judgement, has_scheme, too_many_slots, passes_range, has_no_typing, not_general, by_slots, by_solution, by_solving, by_rows, by_range}
+use Rattle.um_rows.specs.Judgement.{numbered_scheme, signature_fits, Judgement, has_scheme, too_many_slots, passes_range, has_no_typing, not_general, by_slots, by_solving, by_rows, by_range}
 use Rattle.um_declared.proofs.Lacks.{Lacks, one_lacks, variable_lacks, base_lacks, mul_lacks, inv_lacks, replace_lacks, all_replaced, nth_lacks, TypeLacks, TypesLack, SignatureLacks, put_lacks, types_put_lack}
 
 weigh_zero : (ts : List Term) → weigh (λ _. pos 0) ts ≡ pos 0
@@ -113,11 +113,12 @@ module _ (m : ℕ) where
     abbrev in_place : Atom → PowerMap
     in_place x = atom (generalised_atom bases parameters slots x)
 
-    behind_parameters : (n : ℕ) → is_parameter bases parameters slots n ≡ false → bases ≤ n → bases + parameters ≤ n
-    behind_parameters n t l =
-        on_test (nat_lt n (bases + parameters))
-        (λ b. let low : n < bases + parameters = grind (arith, nat_tests) in let e : is_parameter bases parameters slots n ≡ true = grind (arith, nat_tests) in absurd (cc (sym t ∙ e)))
-        (λ b. grind (arith, nat_tests))
+    -- behind the declared base units the first that stand for no unit parameter
+    past_parameters : (n : ℕ) → is_parameter bases parameters slots n ≡ false → m ≡ n → bases + parameters ≤ m
+    past_parameters n t e =
+        on_test (nat_lt n bases)
+        (λ b. let low : n < bases = grind (arith, nat_tests) in absurd (omega (arith, e, low, undeclared)))
+        (λ b. let past : bases + parameters ≤ n = grind (arith, nat_tests) in omega (arith, e, past))
 
     -- a declared base unit stays, and the unit parameters' own become variables
     general_lacks : (u : PowerMap) → (bases + parameters ≤ m → Lacks m u) → Lacks m (generalised_unit bases parameters slots u)
@@ -129,10 +130,7 @@ module _ (m : ℕ) where
             ap (λ v. power_of v (Base m)) (extension-atom in_place (Base n))
             ∙ on_test (is_parameter bases parameters slots n)
             (λ t. ap (λ b. power_of (atom (cond b (Var (slots + (n - bases))) (Base n))) (Base m)) t ∙ variable_lacks m (slots + (n - bases)))
-            (λ t. ap (λ b. power_of (atom (cond b (Var (slots + (n - bases))) (Base n))) (Base m)) t ∙ base_lacks m n (λ e. held (ap (λ i. power_of u (Base i)) (sym e) ∙ lacks (past n t e))))
-          where
-            past : (n : ℕ) → is_parameter bases parameters slots n ≡ false → m ≡ n → bases + parameters ≤ m
-            past n t e = let l = behind_parameters n t (omega (arith, e, undeclared)) in omega (arith, e, l)
+            (λ t. ap (λ b. power_of (atom (cond b (Var (slots + (n - bases))) (Base n))) (Base m)) t ∙ base_lacks m n (λ e. held (ap (λ i. power_of u (Base i)) (sym e) ∙ lacks (past_parameters n t e))))
         at (Var k) held = ap (λ v. power_of v (Base m)) (extension-atom in_place (Var k)) ∙ variable_lacks m k
 
     -- ---- the scheme that a solution gives

@@ -1,17 +1,15 @@
 -- The schemes that the inference of a formed program gives, and the equations of its functions with them.
-use Rattle.std.proofs.Common.{◌≡◌, ℕ, zero, suc, ◌+◌, ◌*◌, ◌<◌, ◌≤◌, inl, inr, cond, nat_lt, Option, Some, None, List, [], ◌∷◌, length, slice_get, refl, sym, ap, ◌∙◌, subst, arith}
+use Rattle.std.proofs.Common.{◌≡◌, ℕ, zero, suc, ◌<◌, ◌≤◌, inl, inr, cond, nat_lt, Option, Some, None, List, [], ◌∷◌, length, slice_get, refl, sym, subst, arith}
 use Rattle.std.specs.Prelude.{All, ◌==◌, ◌&&◌}
 use Rattle.std.proofs.lemmas.List.{length-map}
 use Rattle.std.proofs.lemmas.List.Elements.{All-nil, All-cons}
-use Rattle.um_units.specs.PowerMap.{PowerMap}
 use Rattle.um_tree.specs.ProgramTree.{FunctionTree, ProgramTree, SchemeTree}
 use Rattle.um_tree.specs.Formed.{IsFormed}
 use Rattle.um_tree.specs.Shapes.{IsShaped}
-use Rattle.um_tree.specs.TreeHeights.{tree_nodes}
 use Rattle.um_elim.proofs.Cases.{on_test}
 use Rattle.um_rows.specs.declared.row.Row.{Row}
 use Rattle.um_rows.specs.Steps.{Step, row_at, wrong_shape_at, type_at, rows_of, row_units, first_past}
-use Rattle.um_rows.specs.Holes.{Callee, known_by, itself, nobody}
+use Rattle.um_rows.specs.Holes.{itself, nobody}
 use Rattle.um_rows.specs.Keys.{hole, name}
 use Rattle.um_rows.specs.Equations.{known_function, may_recur, callee}
 use Rattle.um_rows.specs.Slots.{slot, slot_unit, function_slots, slot_count, slot_equations}

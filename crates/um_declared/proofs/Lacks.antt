@@ -1,10 +1,10 @@
 -- A base unit that units and types lack.
-use Rattle.std.proofs.Common.{◌≡◌, ◌≢◌, ℕ, zero, suc, ◌+◌, ◌<◌, ◌≤◌, inl, inr, List, [], ◌∷◌, ◌++◌, map, length, ℤ, pos, negsuc, ◌+ℤ◌, ◌*ℤ◌, get_or, refl, sym, ap, ◌∙◌, arith}
+use Rattle.std.proofs.Common.{◌≡◌, ◌≢◌, ℕ, zero, suc, ◌≤◌, inl, inr, List, [], ◌∷◌, ◌++◌, map, length, ℤ, pos, negsuc, ◌+ℤ◌, ◌*ℤ◌, get_or, refl, ap, ◌∙◌, arith}
 use Rattle.std.specs.Prelude.{All}
 use Rattle.std.proofs.lemmas.Bool.{cases_lt, ne_eqb}
 use Rattle.std.proofs.Math.IntN.{*ℤ-zero}
 use Rattle.std.proofs.lemmas.List.{length-map}
-use Rattle.std.proofs.lemmas.List.Elements.{All-cons, All-head, All-tail, All-map}
+use Rattle.std.proofs.lemmas.List.Elements.{All-nil, All-cons, All-head, All-tail, All-map}
 use Rattle.um_units.specs.declared.Atom.{Atom}
 use Rattle.um_units.specs.declared.Atom.TheVariants.{Base, Var}
 use Rattle.um_units.specs.Terms.{indicator}
@@ -13,7 +13,7 @@ use Rattle.um_units.proofs.Integers.{zero_cases}
 use Rattle.um_units.proofs.Group.{weight-atom, weight-mul, weight-pow, power_of-one, power_of-other_atom}
 use Rattle.um_units.proofs.Replacement.{power_of-replace, weight_held}
 use Rattle.um_tree.specs.TypeTree.{TypeTree, bool_type, num_type, list_type, record_type}
-use Rattle.um_tree.specs.ProgramTree.{RecordTree, Signature}
+use Rattle.um_tree.specs.ProgramTree.{Signature}
 use Rattle.um_tree.specs.Typing.{put}
 use Rattle.um_tree.specs.Scheme.{signature_types}
 use Rattle.um_tree.specs.Formed.{BasesBelow}
@@ -117,5 +117,5 @@ module _ (n : ℕ) where
   signature_bases_below g lack = each g.params (λ m l. (lack m l).0)
     where
       each : (ts : List TypeTree) → ((m : ℕ) → n ≤ m → TypesLack m ts) → All (TypeHas (BasesBelow n)) (ts ++ g.result ∷ [])
-      each [] h = All-cons (TypeHas (BasesBelow n)) g.result [] (type_bases_below g.result (λ m l. (lack m l).1)) (λ k d low. absurd (omega (arith, low)))
+      each [] h = All-cons (TypeHas (BasesBelow n)) g.result [] (type_bases_below g.result (λ m l. (lack m l).1)) (All-nil (TypeHas (BasesBelow n)))
       each (t ∷ ts) h = All-cons (TypeHas (BasesBelow n)) t (ts ++ g.result ∷ []) (type_bases_below t (λ m l. (h m l).0)) (each ts (λ m l. (h m l).1))
