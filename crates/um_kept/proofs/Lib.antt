@@ -4,8 +4,8 @@ mod Loops
 mod Turning
 mod TurnEnds
 mod Parts
-mod WayBack
+pub mod WayBack
 mod RowStops
-mod Reached
-mod Solving
-mod Refusals
+pub mod Reached
+pub mod Solving
+pub mod Refusals

@@ -1,9 +1,7 @@
 -- What the makers of certificates answer. Want of memory may come in place of every answer.
 -- Source: Kennedy (1996): rows that a function is given a scheme by have a most general solution, and rows that it is
 -- refused by have none. Which numbers a certificate can hold is this project's own.
-use Rattle.std.specs.Prelude.{◌≡◌, ◌⊎◌, ℕ, ◌+◌, ◌^◌, ◌≤◌, ◌<◌, true, false, length, pos, All, Result, Ok, Err}
-use Rattle.um_units.specs.declared.Atom.TheVariants.{Base}
-use Rattle.um_units.specs.PowerMap.{PowerMap, power_of}
+use Rattle.std.specs.Prelude.{◌≡◌, ◌⊎◌, ℕ, ◌+◌, ◌^◌, ◌≤◌, ◌<◌, true, false, length, All, Result, Ok, Err}
 use Rattle.um_units.specs.Variables.{VariablesBelow}
 use Rattle.um_tree.specs.ProgramTree.{SchemeTree}
 use Rattle.um_tree.specs.Laws.{TypeHas}
