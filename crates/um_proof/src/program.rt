@@ -10,8 +10,8 @@ ghost use Rattle.um_infer.specs.Inference.{all_schemes, infer, infer_first};
 ghost use Rattle.um_kept.specs.declared.stop.CertStop.TheVariants.{NoMemory};
 ghost use Rattle.um_proof.specs.Answers.{AreFunctionRows};
 ghost use Rattle.um_proof.specs.Proving.{IsProved, IsRefusal, IsYesOf};
-ghost use Rattle.um_proof.specs.ProgramSteps.{AreYesOf, CarriesInFunction, CarriesInSome, HasRows, HaveInferred, IsFirstRefused};
-ghost use Rattle.um_proof.specs.ProgramSteps.{of_function};
+ghost use Rattle.um_proof.specs.ProgramSteps.{AreYesOf, CarriesInFunction, CarriesInSome, HasRows};
+ghost use Rattle.um_proof.specs.ProgramSteps.{HaveInferred, IsFirstRefused, of_function};
 
 use crate::{Proofs, ProveStop, YesList, make_no, make_yes};
 use std::alloc::Global;
