@@ -8,7 +8,7 @@ use Rattle.um_units.proofs.Integers.{zero_cases}
 use Rattle.um_tree.specs.TypeTree.{TypeTree, bool_type, num_type, list_type, record_type}
 use Rattle.um_tree.specs.Formed.{BasesBelow}
 use Rattle.um_tree.specs.Laws.{TypeHas}
-use Rattle.um_proof.specs.Answers.{HoldsNoParameter}
+use Rattle.um_kept.specs.Answers.{HoldsNoParameter}
 
 module _ (bases parameters : ℕ) where
   none_declared : (u : PowerMap) → BasesBelow bases u → HoldsNoParameter bases parameters u

@@ -19,12 +19,12 @@ use Rattle.um_check.specs.declared.certificate.Yes.{Yes}
 use Rattle.um_check.specs.declared.certificate.No.{No}
 use Rattle.um_check.specs.Validity.{IsValidYes}
 use Rattle.um_check.specs.Refutation.{IsValidNo}
-use Rattle.um_proof.specs.declared.stop.CertStop.{CertStop}
-use Rattle.um_proof.specs.declared.stop.CertStop.TheVariants as stop
+use Rattle.um_kept.specs.declared.stop.CertStop.{CertStop}
+use Rattle.um_kept.specs.declared.stop.CertStop.TheVariants as stop
 use Rattle.um_proof.specs.declared.stop.ProveStop.{ProveStop}
 use Rattle.um_proof.specs.declared.stop.ProveStop.TheVariants as prove
-use Rattle.um_proof.specs.Making.{first}
-use Rattle.um_proof.specs.Formed.{PassesInRows, PassesAtEnd}
+use Rattle.um_kept.specs.Making.{first}
+use Rattle.um_kept.specs.Formed.{PassesInRows, PassesAtEnd}
 use Rattle.um_proof.specs.Answers.{judged, NamesRefusal, IsRefused, IsYesMade, IsNoMade}
 use Rattle.um_proof.specs.Proving.{IsYesOf, IsNoOf, IsRefusal, IsWithinLimits, IsProved}
 use Rattle.um_proof.specs.ProgramSteps.{CarriesInFunction, CarriesInSome, IsFirstRefused, of_function}

@@ -28,7 +28,7 @@ use Rattle.um_elim.proofs.VariablesKept.{unit_below}
 use Rattle.um_rows.specs.Generalised.{is_parameter, generalised_atom, generalised_unit, generalised}
 use Rattle.um_rows.specs.Judgement.{signature_fits}
 use Rattle.um_rows.proofs.GeneralisedUnits.{fits-generalised, variables-generalised}
-use Rattle.um_proof.specs.Answers.{HoldsNoParameter}
+use Rattle.um_kept.specs.Answers.{HoldsNoParameter}
 
 module _ (bases parameters slots : ℕ) (units : List PowerMap) (count : length units ≡ slots) (below : All (VariablesBelow slots) units) where
   abbrev pub in_place : PowerMap → PowerMap

@@ -1,14 +1,3 @@
-mod Limits
-mod Times
-mod Loops
-mod Turning
-mod TurnEnds
-mod Parts
-mod WayBack
-mod RowStops
-mod Reached
-mod Solving
-mod Refusals
 mod Prefix
 mod General
 mod HeldVariables

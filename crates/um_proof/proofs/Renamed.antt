@@ -18,7 +18,7 @@ use Rattle.um_tree.specs.Scheme.{signature_types, unit_variables, type_variables
 use Rattle.um_elim.specs.Numbering.{variable_order, by_place, renumbered}
 use Rattle.um_elim.proofs.GrowingOrder.{All-front, All-back}
 use Rattle.um_elim.proofs.VariablesKept.{own_below, unit_all, put_below}
-use Rattle.um_proof.specs.declared.kept.Head.{Head}
+use Rattle.um_kept.specs.declared.kept.Head.{Head}
 use Rattle.um_proof.specs.declared.renaming.Renaming.{Renaming}
 use Rattle.um_proof.specs.Renaming.{is_listed, held_below, to_number, AreNumbered, GoBack, IsRenamed, general_units, held_variables, certificate_order}
 use Rattle.um_proof.proofs.HeldVariables.{in_order}

@@ -21,16 +21,17 @@ use Rattle.um_check.proofs.Combinations.{more_rows}
 use Rattle.um_check.proofs.RigidRows.{combined-rigid}
 use Rattle.um_making.specs.Making.{exponents}
 use Rattle.um_making.proofs.Certificates.{replace-exponents}
-use Rattle.um_proof.specs.declared.kept.Head.{Head}
-use Rattle.um_proof.specs.declared.row.Refused.{Refused}
-use Rattle.um_proof.specs.declared.stop.CertStop.{CertStop}
-use Rattle.um_proof.specs.declared.stop.CertStop.TheVariants as stop
-use Rattle.um_proof.specs.Answers.{HoldsNoParameter, AreFunctionRows, judged, NamesRefusal, IsRefused, IsNoMade}
-use Rattle.um_proof.specs.Steps.{AreRefused, CarriesInRows}
-use Rattle.um_proof.specs.Making.{Kept, IsReached, first}
+use Rattle.um_kept.specs.declared.kept.Head.{Head}
+use Rattle.um_kept.specs.declared.row.Refused.{Refused}
+use Rattle.um_kept.specs.declared.stop.CertStop.{CertStop}
+use Rattle.um_kept.specs.declared.stop.CertStop.TheVariants as stop
+use Rattle.um_kept.specs.Answers.{HoldsNoParameter}
+use Rattle.um_proof.specs.Answers.{AreFunctionRows, judged, NamesRefusal, IsRefused, IsNoMade}
+use Rattle.um_kept.specs.Answers.{AreRefused, CarriesInRows}
+use Rattle.um_kept.specs.Making.{Kept, IsReached, first}
 use Rattle.um_proof.proofs.Judged.{IsRefusedBy, judged_refused, own_unsolved, front_unsolved, front_inside, units_low}
-use Rattle.um_proof.proofs.Solving.{reached_solved, refused_unsolved}
-use Rattle.um_proof.proofs.Refusals.{RefutedBy, refused_apart}
+use Rattle.um_kept.proofs.Solving.{reached_solved, refused_unsolved}
+use Rattle.um_kept.proofs.Refusals.{RefutedBy, refused_apart}
 
 pub valid_no : (bases parameters : ℕ) (loose : Bool) (rows : List PowerMap) (row last : ℕ) (refused : Refused) (c : No) → RefutedBy bases (fixed_slots loose parameters) rows row refused → row ≤ last → last < length rows →
     c.loose ≡ loose → c.last ≡ last → c.modulus ≡ refused.modulus → exponents c.parts ≡ refused.total → NamesRowsBelow (suc row) c.parts → IsValidNo bases parameters rows c

@@ -37,23 +37,24 @@ use Rattle.um_check.specs.Validity.{returned, ComesBack, ShowsGeneral, IsValidYe
 use Rattle.um_check.proofs.Returns.{signature_put}
 use Rattle.um_making.specs.Making.{exponents}
 use Rattle.um_making.proofs.Certificates.{replace-exponents}
-use Rattle.um_proof.specs.declared.kept.Head.{Head}
-use Rattle.um_proof.specs.declared.kept.Making.{Making}
-use Rattle.um_proof.specs.declared.row.Refused.{Refused}
-use Rattle.um_proof.specs.declared.stop.CertStop.{CertStop}
-use Rattle.um_proof.specs.declared.stop.CertStop.TheVariants as stop
-use Rattle.um_proof.specs.Making.{Kept, IsReached, first}
-use Rattle.um_proof.specs.Formed.{IsPowerIn}
+use Rattle.um_kept.specs.declared.kept.Head.{Head}
+use Rattle.um_kept.specs.declared.kept.Making.{Making}
+use Rattle.um_kept.specs.declared.row.Refused.{Refused}
+use Rattle.um_kept.specs.declared.stop.CertStop.{CertStop}
+use Rattle.um_kept.specs.declared.stop.CertStop.TheVariants as stop
+use Rattle.um_kept.specs.Making.{Kept, IsReached, first}
+use Rattle.um_kept.specs.Formed.{IsPowerIn}
 use Rattle.um_proof.specs.Answers.{AreFunctionRows, judged, IsYesMade}
-use Rattle.um_proof.specs.Steps.{Agrees, AreRefused, CarriesInRows, CarriesPower, CarriesReturned}
+use Rattle.um_kept.specs.Answers.{Agrees, AreRefused, CarriesInRows, CarriesPower}
+use Rattle.um_proof.specs.Steps.{CarriesReturned}
 use Rattle.um_proof.specs.Renaming.{held_variables, certificate_order, general_units, GoBack}
 use Rattle.um_proof.proofs.Prefix.{numbered_in_front}
 use Rattle.um_proof.proofs.General.{general_solution, signature_moved, signature_fits_in_place, all_general_below}
 use Rattle.um_proof.proofs.HeldVariables.{member_of_unit, member_of_held, in_order, renamed_below}
 use Rattle.um_proof.proofs.Judged.{judged_solved, solution_below, solution_joint}
-use Rattle.um_proof.proofs.Reached.{ReachedState, reached_state}
-use Rattle.um_proof.proofs.Solving.{reached_solved, refused_unsolved}
-use Rattle.um_proof.proofs.WayBack.{back_is}
+use Rattle.um_kept.proofs.Reached.{ReachedState, reached_state}
+use Rattle.um_kept.proofs.Solving.{reached_solved, refused_unsolved}
+use Rattle.um_kept.proofs.WayBack.{back_is}
 
 -- with unit parameters the closed units, and else none
 shows_general : (bases slots parameters : ℕ) (rows units closed : List PowerMap) → units ≡ cond (nat_eq parameters 0) [] closed → IsJointSolution slots rows closed → IsRigid bases parameters closed → ShowsGeneral bases slots parameters rows units

@@ -1,9 +1,7 @@
 -- What the makers of certificates answer. Want of memory may come in place of every answer.
 -- Source: Kennedy (1996): rows that a function is given a scheme by have a most general solution, and rows that it is
 -- refused by have none. Which numbers a certificate can hold is this project's own.
-use Rattle.std.specs.Prelude.{◌≡◌, ◌⊎◌, ℕ, ◌+◌, ◌^◌, ◌≤◌, ◌<◌, true, false, length, pos, All, Result, Ok, Err}
-use Rattle.um_units.specs.declared.Atom.TheVariants.{Base}
-use Rattle.um_units.specs.PowerMap.{PowerMap, power_of}
+use Rattle.std.specs.Prelude.{◌≡◌, ◌⊎◌, ℕ, ◌+◌, ◌^◌, ◌≤◌, ◌<◌, true, false, length, All, Result, Ok, Err}
 use Rattle.um_units.specs.Variables.{VariablesBelow}
 use Rattle.um_tree.specs.ProgramTree.{SchemeTree}
 use Rattle.um_tree.specs.Laws.{TypeHas}
@@ -16,16 +14,13 @@ use Rattle.um_check.specs.declared.certificate.Yes.{Yes}
 use Rattle.um_check.specs.declared.certificate.No.{No}
 use Rattle.um_check.specs.Validity.{IsValidYes}
 use Rattle.um_check.specs.Refutation.{IsValidNo}
-use Rattle.um_proof.specs.declared.stop.CertStop.{CertStop}
-use Rattle.um_proof.specs.declared.stop.CertStop.TheVariants as stop
-use Rattle.um_proof.specs.Making.{first}
-use Rattle.um_proof.specs.Formed.{PassesInRows, PassesAtEnd}
+use Rattle.um_kept.specs.declared.stop.CertStop.{CertStop}
+use Rattle.um_kept.specs.declared.stop.CertStop.TheVariants as stop
+use Rattle.um_kept.specs.Making.{first}
+use Rattle.um_kept.specs.Answers.{HoldsNoParameter}
+use Rattle.um_kept.specs.Formed.{PassesInRows, PassesAtEnd}
 
 -- ---- what is asked of the rows of a function with so many unit parameters, as `rows` of um_rows gives them
-
--- the base unit of no unit parameter, which come behind the declared ones, stands in it
-abbrev pub HoldsNoParameter : ℕ → ℕ → PowerMap → Type 0
-HoldsNoParameter bases parameters u = (i : ℕ) → i < parameters → power_of u (Base (bases + i)) ≡ pos 0
 
 pub record AreFunctionRows (bases parameters : ℕ) (r : Rows) : Type 0 where
   pub few : r.slots ≤ 2000

@@ -1,7 +1,4 @@
--- What a reader must trust, in the order in which it is to be read: what making goes through and the numbers that it
--- forms, and what the calls answer.
-pub mod Making
-pub mod Formed
+-- What a reader must trust, in the order in which it is to be read: what the calls answer.
 pub mod Answers
 pub mod Proving
 -- What mirrors the code.

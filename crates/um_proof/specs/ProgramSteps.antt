@@ -5,8 +5,8 @@ use Rattle.um_tree.specs.ProgramTree.{FunctionTree, ProgramTree, SchemeTree}
 use Rattle.um_rows.specs.Slots.{slot_count, slot_equations}
 use Rattle.um_rows.specs.Steps.{first_past}
 use Rattle.um_infer.specs.Inference.{Inference, all_schemes, stops_at_units, stops_at_not_general, infer_first}
-use Rattle.um_proof.specs.declared.stop.CertStop.{CertStop}
-use Rattle.um_proof.specs.declared.stop.CertStop.TheVariants as stop
+use Rattle.um_kept.specs.declared.stop.CertStop.{CertStop}
+use Rattle.um_kept.specs.declared.stop.CertStop.TheVariants as stop
 use Rattle.um_proof.specs.declared.stop.ProveStop.{ProveStop}
 use Rattle.um_proof.specs.declared.stop.ProveStop.TheVariants as prove
 use Rattle.um_check.specs.declared.certificate.Yes.{Yes}

@@ -15,8 +15,8 @@ use Rattle.um_check.specs.Refutation.{IsValidNo}
 use Rattle.um_proof.specs.declared.proofs.Proofs.{Proofs}
 use Rattle.um_proof.specs.declared.stop.ProveStop.{ProveStop}
 use Rattle.um_proof.specs.declared.stop.ProveStop.TheVariants as stop
-use Rattle.um_proof.specs.Making.{first}
-use Rattle.um_proof.specs.Formed.{PassesInRows, PassesAtEnd}
+use Rattle.um_kept.specs.Making.{first}
+use Rattle.um_kept.specs.Formed.{PassesInRows, PassesAtEnd}
 
 module _ (p : ProgramTree) (schemes : List SchemeTree) where
   -- the rows of function i, given the schemes of those before it. They ask for no other

@@ -11,7 +11,7 @@ use Rattle.um_tree.specs.Typing.{put_signature}
 use Rattle.um_tree.specs.Scheme.{signature_types, unit_variables}
 use Rattle.um_elim.specs.Numbering.{variable_order, place, by_place}
 use Rattle.um_rows.specs.Generalised.{generalised_unit}
-use Rattle.um_proof.specs.declared.kept.Head.{Head}
+use Rattle.um_kept.specs.declared.kept.Head.{Head}
 use Rattle.um_proof.specs.declared.renaming.Renaming.{Renaming}
 
 abbrev pub is_base : Atom → Bool

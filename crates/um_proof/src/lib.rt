@@ -9,19 +9,15 @@
 //! ```
 #![tactic(auto)]
 
-mod kept;
-mod made;
-mod past;
 mod program;
 mod proofs;
 mod refused;
 mod renaming;
-mod row;
 mod stop;
 mod yes;
 
 pub use program::prove;
 pub use proofs::{Proofs, YesList};
 pub use refused::make_no;
-pub use stop::{CertStop, ProveStop};
+pub use stop::ProveStop;
 pub use yes::make_yes;

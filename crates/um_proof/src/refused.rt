@@ -12,17 +12,14 @@ ghost use Rattle.um_rows.specs.Steps.{units_of};
 ghost use Rattle.um_check.specs.Combination.{NamesRowsBelow};
 ghost use Rattle.um_check.specs.Refutation.{IsValidNo};
 ghost use Rattle.um_making.specs.Making.{exponents};
-ghost use Rattle.um_proof.specs.declared.stop.CertStop.TheVariants.{NoMemory};
-ghost use Rattle.um_proof.specs.Steps.{AreRefused, CarriesInRows};
+ghost use Rattle.um_kept.specs.declared.stop.CertStop.TheVariants.{NoMemory};
+ghost use Rattle.um_kept.specs.Answers.{AreRefused, CarriesInRows};
 ghost use Rattle.um_proof.specs.Answers.{AreFunctionRows, judged, IsRefused, IsNoMade};
 
-use crate::CertStop;
-use crate::kept::Head;
-use crate::made::{Treated, make_rows, parts_of};
-use crate::row::Refused;
 use std::alloc::{AllocError, Global};
 use um_check::No;
 use um_elim::{ElimStop, Solver};
+use um_kept::{CertStop, Head, Refused, Treated, make_rows, parts_of};
 use um_rows::{Row, Rows};
 
 /// A certificate that `infer` refuses a function with these rows, which has so many unit parameters, in a program with

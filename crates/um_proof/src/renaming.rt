@@ -16,10 +16,10 @@ ghost use Rattle.um_rows.specs.Judgement.{signature_fits};
 ghost use Rattle.um_rows.specs.Generalised.{generalised_unit as unit_in_place};
 ghost use Rattle.um_proof.specs.Renaming.{general_units, held_below, is_listed, to_number, AreNumbered, ArePlaces, GoBack, IsRenamed};
 
-use crate::kept::Head;
 use std::alloc::{AllocError, Global};
 use um_elim::{Numbered, put_in_type, renumber};
 use um_infer::generalised_unit;
+use um_kept::Head;
 use um_rows::Rows;
 use um_tree::{Ty, Types};
 use um_units::{Atom, NoMemory, Term, Unit, UnitStop};

@@ -1,42 +1,7 @@
-//! Why there is no certificate.
+//! Why there are no certificates of a program.
 
 use std::alloc::{AllocError, AllocFailed};
 use thiserror::Error;
-use um_units::UnitStop;
-
-/// Why no certificate is made.
-#[derive(Clone, Copy, Debug, PartialEq, Eq, Error)]
-pub enum CertStop {
-    /// This number passes what a certificate can hold: -2147483647..2147483647 as a power of a unit, and else
-    /// -9223372036854775807..9223372036854775807.
-    #[error("a number of the certificate is out of range")]
-    CertRange { number: i128 },
-    /// No memory was left.
-    #[error("out of memory")]
-    NoMemory,
-}
-
-impl From<AllocError> for CertStop {
-    ghost use Rattle.std.specs.Prelude.{◌≡◌};
-    ghost use Rattle.um_proof.specs.declared.stop.CertStop.TheVariants.{NoMemory};
-
-    ghost from_gives = { λ _ stop. stop ≡ NoMemory };
-
-    fn from(_error: AllocError) -> CertStop {
-        CertStop::NoMemory
-    }
-}
-
-impl<T: Drop> From<AllocFailed<T>> for CertStop {
-    ghost use Rattle.std.specs.Prelude.{◌≡◌};
-    ghost use Rattle.um_proof.specs.declared.stop.CertStop.TheVariants.{NoMemory};
-
-    ghost from_gives = { λ _ stop. stop ≡ NoMemory };
-
-    fn from(_failed: AllocFailed<T>) -> CertStop {
-        CertStop::NoMemory
-    }
-}
 
 /// Why a program has no certificates.
 #[derive(Clone, Copy, Debug, PartialEq, Eq, Error)]

@@ -7,7 +7,7 @@ use Rattle.um_rows.specs.declared.row.Row.{Row}
 use Rattle.um_rows.specs.FirstUnsolvable.{solve, rows_up_to}
 use Rattle.um_rows.specs.Steps.{units_of}
 use Rattle.um_check.specs.Refutation.{IsValidNo}
-use Rattle.um_proof.specs.Steps.{CarriesInRows}
+use Rattle.um_kept.specs.Answers.{CarriesInRows}
 use Rattle.um_proof.proofs.Judged.{rows_low}
 use Rattle.um_proof.proofs.ValidNo.{refuted, no_range, own_answers, general_answers, loose_answers}
 use Rattle.um_proof.proofs.refused.refusal.Goals as goal

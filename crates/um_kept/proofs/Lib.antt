@@ -1,0 +1,11 @@
+mod Limits
+mod Times
+mod Loops
+mod Turning
+mod TurnEnds
+mod Parts
+pub mod WayBack
+mod RowStops
+pub mod Reached
+pub mod Solving
+pub mod Refusals

@@ -1,0 +1,73 @@
+-- Turns one after another: one more at the end, what an odd number of inversions comes to, and which variables they leave.
+use Rattle.std.proofs.Common.{◌≡◌, ℕ, Bool, true, false, not, List, [], ◌∷◌, ◌++◌, map, refl, ap, ◌∙◌}
+use Rattle.std.specs.Prelude.{All, if◌then◌else◌}
+use Rattle.std.proofs.lemmas.List.Elements.{All-nil, All-cons, All-weaker, All-map}
+use Rattle.um_units.specs.declared.Atom.{Atom}
+use Rattle.um_units.specs.PowerMap.{PowerMap, replace}
+use Rattle.um_units.specs.Variables.{VariablesBelow}
+use Rattle.um_units.proofs.Group.{inv-inv}
+use Rattle.um_elim.specs.declared.turning.Turn.{Turn}
+use Rattle.um_elim.specs.Turn.{multiply, signed, IsTurnOf}
+use Rattle.um_elim.proofs.TurnKept.{turn_absent, factor_below, remainder_below}
+use Rattle.um_elim.proofs.IndexTurn.{multiply_stays}
+use Rattle.um_elim.proofs.VariablesKept.{Stays, replaced_below}
+use Rattle.um_turns.specs.Turns.{unit_after, units_after, AreTurnsOf, IsShear}
+use Rattle.um_making.specs.Making.{signed_by, divided_back, back_after}
+use Rattle.um_kept.specs.Steps.{is_inverted}
+
+-- ---- one more turn
+pub unit_after-push : (ts : List Turn) (t : Turn) (r : PowerMap) → unit_after (ts ++ t ∷ []) r ≡ replace (multiply t.variable t.by) (signed t.inverted (unit_after ts r))
+unit_after-push [] t r = refl
+unit_after-push (s ∷ ts) t r = unit_after-push ts t (replace (multiply s.variable s.by) (signed s.inverted r))
+
+pub units_after-push : (ts : List Turn) (t : Turn) (us : List PowerMap) → units_after (ts ++ t ∷ []) us ≡ map (replace (multiply t.variable t.by)) (units_after ts us)
+units_after-push [] t us = refl
+units_after-push (s ∷ ts) t us = units_after-push ts t (map (replace (multiply s.variable s.by)) us)
+
+pub back_after-push : (ts : List Turn) (t : Turn) (back : Atom → PowerMap) → back_after (ts ++ t ∷ []) back ≡ divided_back t.variable t.by (back_after ts back)
+back_after-push [] t back = refl
+back_after-push (s ∷ ts) t back = back_after-push ts t (divided_back s.variable s.by back)
+
+pub turns-push : (ts : List Turn) (t : Turn) (r : PowerMap) → AreTurnsOf r ts → IsTurnOf (unit_after ts r) t → AreTurnsOf r (ts ++ t ∷ [])
+turns-push [] t r are is = (is, tt)
+turns-push (s ∷ ts) t r are is = (are.0, turns-push ts t (replace (multiply s.variable s.by) (signed s.inverted r)) are.1 is)
+
+-- ---- inversions
+pub signed_by-inverted : (ts : List Turn) (u : PowerMap) → signed_by ts u ≡ signed (is_inverted ts) u
+signed_by-inverted [] u = refl
+signed_by-inverted (t ∷ ts) u = signed_by-inverted ts (signed t.inverted u) ∙ twice t.inverted (is_inverted ts)
+  where
+    twice : (a b : Bool) → signed b (signed a u) ≡ signed (if a then not b else b) u
+    twice true true = inv-inv u
+    twice true false = refl
+    twice false b = refl
+
+pub is_inverted-push : (ts : List Turn) (t : Turn) → is_inverted (ts ++ t ∷ []) ≡ (if t.inverted then not (is_inverted ts) else is_inverted ts)
+is_inverted-push [] t = refl
+is_inverted-push (s ∷ ts) t = ap (λ b. if s.inverted then not b else b) (is_inverted-push ts t) ∙ swapped s.inverted t.inverted (is_inverted ts)
+  where
+    swapped : (a b i : Bool) → (if a then not (if b then not i else i) else (if b then not i else i)) ≡ (if b then not (if a then not i else i) else (if a then not i else i))
+    swapped true true i = refl
+    swapped true false i = refl
+    swapped false true i = refl
+    swapped false false i = refl
+
+-- ---- each turn can be undone
+pub turns_are_shears : (ts : List Turn) (r : PowerMap) → AreTurnsOf r ts → All IsShear ts
+turns_are_shears [] r are = All-nil IsShear
+turns_are_shears (t ∷ ts) r are = All-cons IsShear t ts (turn_absent r t are.0) (turns_are_shears ts (replace (multiply t.variable t.by) (signed t.inverted r)) are.1)
+
+-- ---- variables below a number stay below it
+pub all_replaced : (n : ℕ) (s : ℕ → PowerMap) → Stays n s → (us : List PowerMap) → All (VariablesBelow n) us → All (VariablesBelow n) (map (replace s) us)
+all_replaced n s stays us all =
+    All-map (VariablesBelow n) (replace s) us (All-weaker (VariablesBelow n) (λ u. VariablesBelow n (replace s u)) (λ u h. replaced_below n s stays u h) us all)
+
+pub turned_below : (n : ℕ) (r : PowerMap) (t : Turn) → VariablesBelow n r → IsTurnOf r t → VariablesBelow n (replace (multiply t.variable t.by) (signed t.inverted r))
+turned_below n r t below is =
+    remainder_below n t.variable t.inverted r t.by (replace (multiply t.variable t.by) (signed t.inverted r)) (factor_below n r t is below) refl below
+
+pub all_turned_below : (n : ℕ) (ts : List Turn) (r : PowerMap) (us : List PowerMap) → VariablesBelow n r → AreTurnsOf r ts → All (VariablesBelow n) us → All (VariablesBelow n) (units_after ts us)
+all_turned_below n [] r us below are all = all
+all_turned_below n (t ∷ ts) r us below are all =
+    all_turned_below n ts (replace (multiply t.variable t.by) (signed t.inverted r)) (map (replace (multiply t.variable t.by)) us) (turned_below n r t below are.0) are.1
+    (all_replaced n (multiply t.variable t.by) (multiply_stays n t.variable t.by (factor_below n r t are.0 below)) us all)

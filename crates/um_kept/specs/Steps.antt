@@ -1,0 +1,125 @@
+-- The code's: what the parts of a row's treatment answer.
+-- Source: this project's own; no clause of a public call rests on it.
+use Rattle.std.specs.Prelude.{◌≡◌, ◌⊎◌, ℕ, ◌+◌, ◌<◌, if◌then◌else◌, Bool, true, false, not, List, [], ◌∷◌, length, map, set, slice_index_or, ℤ, pos, negsuc, nat_abs, ◌*ℤ◌, Option, Some, None}
+use Rattle.um_units.specs.declared.Atom.TheVariants.{Base, Var}
+use Rattle.um_units.specs.declared.Term.{Term}
+use Rattle.um_units.specs.PowerMap.{PowerMap, one, mul, inv, pow, power_of, replace, nth}
+use Rattle.um_elim.specs.declared.turning.Turn.{Turn}
+use Rattle.um_elim.specs.Pivot.{has_other, is_base}
+use Rattle.um_elim.specs.Turn.{multiply, signed}
+use Rattle.um_turns.specs.Turns.{unit_after, AreTurnsOf}
+use Rattle.um_rows.specs.Generalised.{generalised_unit}
+use Rattle.um_kept.specs.declared.kept.Making.{Making}
+use Rattle.um_kept.specs.declared.kept.Head.{Head}
+use Rattle.um_kept.specs.declared.row.Refused.{Refused}
+use Rattle.um_kept.specs.declared.stop.CertStop.{CertStop}
+use Rattle.um_kept.specs.declared.stop.CertStop.TheVariants as stop
+use Rattle.um_making.specs.Making.{at_slot, parts_after}
+use Rattle.um_kept.specs.Making.{Kept, row_unit, turned, IsRowMade}
+use Rattle.um_kept.specs.Formed.{IsPowerIn, PassesInRow}
+use Rattle.um_kept.specs.Answers.{Agrees, IsRefusedAs}
+
+-- the number passes 64 bits, and is carried
+abbrev pub CarriesNumber : ℤ → CertStop → Type 0
+CarriesNumber n (stop.CertRange z) = (z ≡ n) × (9223372036854775807 < nat_abs z)
+CarriesNumber n stop.NoMemory = Unit {0}
+
+-- a power of the unit or the number passes 64 bits, and is carried
+abbrev pub CarriesRefusal : PowerMap → ℤ → CertStop → Type 0
+CarriesRefusal u n (stop.CertRange z) = (IsPowerIn z u ⊎ (z ≡ n)) × (9223372036854775807 < nat_abs z)
+CarriesRefusal u n stop.NoMemory = Unit {0}
+
+-- a power of one of the units does
+abbrev pub CarriesOneOf : ℕ → List PowerMap → CertStop → Type 0
+CarriesOneOf limit us (stop.CertRange z) = (j : ℕ) × (j < length us) × IsPowerIn z (nth us j) × (limit < nat_abs z)
+CarriesOneOf limit us stop.NoMemory = Unit {0}
+
+-- a row is treated: it is made, or has no solution
+abbrev pub IsTreated : List PowerMap → Kept → ℕ → Head → Making → Option Refused → Type 0
+IsTreated rows kept k h new None = (next : Kept) × IsRowMade rows kept k next × Agrees h new next
+IsTreated rows kept k h new (Some refused) = IsRefusedAs rows kept k refused
+
+abbrev pub CarriesInRow : List PowerMap → Kept → ℕ → CertStop → Type 0
+CarriesInRow rows kept k (stop.CertRange z) = PassesInRow rows kept k z
+CarriesInRow rows kept k stop.NoMemory = Unit {0}
+
+-- the turns invert the row an odd number of times
+abbrev pub is_inverted : List Turn → Bool
+is_inverted [] = false
+is_inverted (t ∷ ts) = if t.inverted then not (is_inverted ts) else is_inverted ts
+
+-- after some turns of the row
+pub record IsTurning
+    (rows : List PowerMap) (kept : Kept) (k : ℕ) (h : Head) (m : Making) (r : PowerMap) (inverted : Bool) : Type 0 where
+  pub turns : List Turn
+  pub are : AreTurnsOf (row_unit rows kept k) turns
+  pub left : r ≡ unit_after turns (row_unit rows kept k)
+  pub agrees : Agrees h m (turned rows kept k turns)
+  pub sign : inverted ≡ is_inverted turns
+
+-- ---- the end of a row: each slot's powers of rows after it
+
+abbrev pub parts_at : ℕ → ℕ → PowerMap → List PowerMap → List PowerMap → ℕ → PowerMap
+parts_at m p t solution parts = parts_after m p t solution (λ j. slice_index_or parts j one)
+
+pub record ArePartsAfter (m p : ℕ) (t : PowerMap) (solution old new : List PowerMap) : Type 0 where
+  pub count : length new ≡ length old
+  pub parts : (j : ℕ) → j < length old → slice_index_or new j one ≡ parts_at m p t solution old j
+
+abbrev pub CarriesOneOfParts : ℕ → ℕ → PowerMap → List PowerMap → List PowerMap → CertStop → Type 0
+CarriesOneOfParts m p t solution old (stop.CertRange z) =
+    (j : ℕ) × (j < length old) × IsPowerIn z (parts_at m p t solution old j) × (9223372036854775807 < nat_abs z)
+CarriesOneOfParts m p t solution old stop.NoMemory = Unit {0}
+
+-- ---- a row's powers of rows, with a sign
+
+abbrev pub sign_of : Bool → ℤ
+sign_of true = negsuc 0
+sign_of false = pos 1
+
+-- how many of the terms are those of variables
+abbrev pub variable_count : List Term → ℕ
+variable_count [] = 0
+variable_count (t ∷ ts) = (if is_base t.atom then 0 else 1) + variable_count ts
+
+abbrev pub parts_product : ℤ → List PowerMap → List Term → PowerMap
+parts_product sign parts [] = one
+parts_product sign parts (t ∷ ts) =
+    mul (pow (at_slot (λ j. slice_index_or parts j one) t.atom) (sign *ℤ t.power)) (parts_product sign parts ts)
+
+-- ---- the absolute power of the first term
+
+abbrev pub first_size : List Term → Option ℕ
+first_size [] = None
+first_size (t ∷ ts) = Some (nat_abs t.power)
+
+-- ---- one turn, of what the code keeps
+
+-- what the turn's variable x goes back to after x times w was put for it
+abbrev pub divided_at : Head → List PowerMap → ℕ → PowerMap → PowerMap
+divided_at h bs x w =
+    mul (nth bs x) (inv (replace (nth bs) (generalised_unit h.bases h.parameters h.slots w)))
+
+pub record IsTurned (h : Head) (old new : Making) (x : ℕ) (w : PowerMap) : Type 0 where
+  pub solution : new.solution.items ≡ map (replace (multiply x w)) old.solution.items
+  pub back : new.back.items ≡ set old.back.items x (divided_at h old.back.items x w)
+  pub divisor : new.divisor ≡ old.divisor
+  pub parts : new.parts ≡ old.parts
+
+-- a power of the row, of a slot's unit or of the way back
+abbrev pub CarriesInTurn :
+    Head → List PowerMap → List PowerMap → PowerMap → ℕ → Bool → PowerMap → CertStop → Type 0
+CarriesInTurn h solution bs r x inverted w (stop.CertRange z) =
+    (2147483647 < nat_abs z)
+    × (IsPowerIn z (replace (multiply x w) (signed inverted r))
+    ⊎ ((j : ℕ) × (j < length solution) × IsPowerIn z (replace (multiply x w) (nth solution j)))
+    ⊎ IsPowerIn z (divided_at h bs x w))
+CarriesInTurn h solution bs r x inverted w stop.NoMemory = Unit {0}
+
+-- variable m stands in the unit to a positive power, no other does, and the powers of base units are below m's
+pub record IsLeftAlone (m : ℕ) (r : PowerMap) : Type 0 where
+  pub p : ℕ
+  pub positive : 0 < p
+  pub is : power_of r (Var m) ≡ pos p
+  pub alone : has_other m r ≡ false
+  pub small : (n : ℕ) → (e : ℕ) × (power_of r (Base n) ≡ pos e) × (e < p)

@@ -1,0 +1,236 @@
+//! What the making of a certificate keeps beside the elimination of rows.
+
+ghost use Rattle.std.specs.Prelude.{◌≡◌, ◌≤◌, ◌<◌, ◌+◌, ◌^◌, All, length, map, set, pos, nat_abs, true, IfOk, OnOk, MatchResult, IfErr};
+ghost use Rattle.um_units.specs.declared.Atom.TheVariants.{Var};
+ghost use Rattle.um_units.specs.PowerMap.{PowerMap, one, atom, inv, mul, pow, power_of, replace, nth};
+ghost use Rattle.um_units.specs.Variables.{VariablesBelow};
+ghost use Rattle.um_elim.specs.Turn.{multiply, substitute};
+ghost use Rattle.um_elim.specs.Solution.{rigid_unit};
+ghost use Rattle.um_rows.specs.Generalised.{generalised_unit as unit_in_place};
+ghost use Rattle.um_wide.specs.Room.{IsNarrow};
+ghost use Rattle.std.proofs.Common.{neg_ℤ};
+ghost use Rattle.std.specs.Int.Signed.{◌<ℤ◌};
+ghost use Rattle.um_kept.specs.Making.{first};
+ghost use Rattle.um_kept.specs.Answers.{Agrees, CarriesPower};
+ghost use Rattle.um_kept.specs.Steps.{ArePartsAfter, CarriesOneOf, CarriesOneOfParts};
+
+use crate::CertStop;
+use crate::past::{narrowed, times, unit_of};
+use std::alloc::{AllocError, Global};
+use um_elim::Turn;
+use um_infer::generalised_unit;
+use um_units::{Atom, Unit};
+use um_wide::WideUnit;
+
+/// How many slots there are, how many of them are those of unit parameters, which come first, and how many base units
+/// are declared.
+#[derive(Clone, Copy)]
+pub struct Head {
+    pub slots: u32,
+    pub parameters: u32,
+    pub bases: u32,
+}
+
+/// What is kept.
+#[derive(Drop)]
+pub struct Making {
+    /// A unit for each slot.
+    pub solution: Vec<Unit>,
+    /// For the variable of each slot, and then for the base unit of each unit parameter, the unit over slots that it
+    /// goes back to.
+    pub back: Vec<Unit>,
+    pub divisor: i64,
+    /// For each slot the powers of rows by which it comes back, up to the power `divisor`: a unit over the rows'
+    /// numbers.
+    pub parts: Vec<WideUnit>,
+}
+
+/// What is kept before any row.
+pub fn first_kept(alloc: Global, head: Head) -> Result<Making, AllocError>
+    requires few { head.slots ≤ 2000 }
+    requires parameters { head.parameters ≤ head.slots }
+    requires bases { head.bases + head.parameters < 2 ^ 32 }
+    ensures { IfOk result (λ making. Agrees head making (first head.bases head.parameters head.slots)) }
+{
+    let mut solution = Vec::new(alloc);
+    let mut back = Vec::new(alloc);
+    let mut parts = Vec::new(alloc);
+    for slot in 0..head.slots {
+        solution.push(first_unit(alloc, head, slot)?)?;
+        back.push(Unit::atom(alloc, Atom::Var(slot))?)?;
+        parts.push(WideUnit::one(alloc))?;
+    }
+    for k in 0..head.parameters {
+        back.push(Unit::atom(alloc, Atom::Var(k))?)?;
+    }
+    Ok(Making {
+        solution,
+        back,
+        divisor: 1,
+        parts,
+    })
+}
+
+fn first_unit(alloc: Global, head: Head, slot: u32) -> Result<Unit, AllocError>
+    requires { head.bases + head.parameters < 2 ^ 32 }
+    ensures { IfOk result (λ unit. unit ≡ rigid_unit head.bases head.parameters slot) }
+{
+    if slot < head.parameters {
+        return Unit::atom(alloc, Atom::Base(head.bases + slot));
+    }
+    Unit::atom(alloc, Atom::Var(slot))
+}
+
+/// Variable m times w for variable m in each unit.
+pub fn multiply_all(alloc: Global, units: &mut Vec<Unit>, m: u32, w: &Unit) -> Result<(), CertStop>
+    ensures exact { OnOk result (units.new.items ≡ map (replace (multiply m w.now)) units.old.items) }
+    ensures range { IfErr result (CarriesOneOf 2147483647 (map (replace (multiply m w.now)) units.old.items)) }
+{
+    for j in 0..units.len() {
+        let power = units[j].power_of(Atom::Var(m));
+        if power == 0 {
+            continue;
+        }
+        let unit = times(alloc, &units[j], 1, w, power)?;
+        units[j] = unit;
+    }
+    Ok(())
+}
+
+/// What the turn's variable goes back to, divided by what the product that it is multiplied by goes back to. In this
+/// product the base unit of a unit parameter stands for the parameter's slot.
+pub fn divide_back(
+    alloc: Global,
+    back: &mut Vec<Unit>,
+    head: Head,
+    turn: &Turn,
+) -> Result<(), CertStop>
+    requires count { length back.old.items ≡ head.slots + head.parameters }
+    requires variable { turn.now.variable < head.slots }
+    requires below { VariablesBelow head.slots turn.now.by }
+    requires bases { head.bases + head.parameters < 2 ^ 32 }
+    requires slots { head.slots + head.parameters < 2 ^ 32 }
+    ensures exact { OnOk result (back.new.items ≡ set back.old.items turn.now.variable
+        (mul (nth back.old.items turn.now.variable) (inv (replace (nth back.old.items)
+        (unit_in_place head.bases head.parameters head.slots turn.now.by))))) }
+    ensures range { IfErr result (CarriesPower 2147483647
+        (mul (nth back.old.items turn.now.variable) (inv (replace (nth back.old.items)
+        (unit_in_place head.bases head.parameters head.slots turn.now.by))))) }
+{
+    let by = generalised_unit(alloc, head.bases, head.parameters, head.slots, &turn.by)?;
+    let inverse = by.inv(alloc)?;
+    let image = WideUnit::replaced(alloc, &inverse, back)?;
+    let own = WideUnit::power(alloc, &back[turn.variable as usize], 1)?;
+    let divided = own.mul(alloc, &image)?;
+    back[turn.variable as usize] = unit_of(alloc, &divided)?;
+    Ok(())
+}
+
+/// Variable m becomes 1 in the unit.
+fn without(alloc: Global, unit: &Unit, m: u32) -> Result<Unit, AllocError>
+    ensures { IfOk result (λ made. made ≡ replace (substitute m one) unit.now) }
+{
+    let variable = Unit::atom(alloc, Atom::Var(m))?;
+    match times(alloc, unit, 1, &variable, -unit.power_of(Atom::Var(m))) {
+        Ok(made) => Ok(made),
+        Err(CertStop::NoMemory) => Err(AllocError),
+        Err(CertStop::CertRange { number: _ }) => unreachable!(),
+    }
+}
+
+/// Variable m becomes 1 in each unit.
+fn end_units(alloc: Global, units: &mut Vec<Unit>, m: u32) -> Result<(), AllocError>
+    ensures { OnOk result (units.new.items ≡ map (replace (substitute m one)) units.old.items) }
+{
+    for j in 0..units.len() {
+        let power = units[j].power_of(Atom::Var(m));
+        if power == 0 {
+            continue;
+        }
+        let unit = without(alloc, &units[j], m)?;
+        units[j] = unit;
+    }
+    Ok(())
+}
+
+/// The powers of rows of one slot where variable m to the power p became 1 and stood in the slot's unit to the power e.
+fn slot_parts(
+    alloc: Global,
+    parts: &WideUnit,
+    p: i32,
+    total: &WideUnit,
+    e: i32,
+) -> Result<WideUnit, CertStop>
+    requires parts { IsNarrow parts.now }
+    requires total { IsNarrow total.now }
+    ensures exact { IfOk result (λ made. made ≡ mul (pow parts.now p) (pow total.now (neg_ℤ e))) }
+    ensures narrow { MatchResult result IsNarrow
+        (CarriesPower 9223372036854775807 (mul (pow parts.now p) (pow total.now (neg_ℤ e)))) }
+{
+    let scaled = parts.pow(alloc, i64::from(p))?;
+    let taken = total.pow(alloc, -i64::from(e))?;
+    let sum = scaled.mul(alloc, &taken)?;
+    narrowed(sum)
+}
+
+/// Whether the powers of rows of a slot stay, in whose unit the variable that becomes 1 from the power p stands to the
+/// power e.
+fn stays(p: i32, e: i32) -> bool
+    ensures { result ≡ true → (p ≡ pos 1) × (e ≡ pos 0) }
+{
+    p == 1 && e == 0
+}
+
+/// Each slot's powers of rows are p times those before, less those of the row as often as variable m stands in the
+/// slot's unit.
+fn end_parts(
+    alloc: Global,
+    solution: &[Unit],
+    parts: &mut Vec<WideUnit>,
+    m: u32,
+    p: i32,
+    total: &WideUnit,
+) -> Result<(), CertStop>
+    requires count { length parts.old.items ≡ length solution.now }
+    requires narrow { All IsNarrow parts.old.items }
+    requires total { IsNarrow total.now }
+    requires p { pos 0 <ℤ p }
+    ensures parts { OnOk result (ArePartsAfter m (nat_abs p) total.now solution.now parts.old.items parts.new.items) }
+    ensures narrow { OnOk result (All IsNarrow parts.new.items) }
+    ensures range { IfErr result (CarriesOneOfParts m (nat_abs p) total.now solution.now parts.old.items) }
+{
+    for j in 0..solution.len() {
+        let e = solution[j].power_of(Atom::Var(m));
+        if stays(p, e) {
+            continue;
+        }
+        let made = slot_parts(alloc, &parts[j], p, total, e)?;
+        parts[j] = made;
+    }
+    Ok(())
+}
+
+/// Variable m, left to the power p, becomes 1: each slot's powers of rows are p times those before, less those of the
+/// row as often as the variable stands in the slot's unit.
+pub fn end_variable(
+    alloc: Global,
+    solution: &mut Vec<Unit>,
+    parts: &mut Vec<WideUnit>,
+    m: u32,
+    p: i32,
+    total: &WideUnit,
+) -> Result<(), CertStop>
+    requires count { length parts.old.items ≡ length solution.old.items }
+    requires narrow { All IsNarrow parts.old.items }
+    requires total { IsNarrow total.now }
+    requires p { pos 0 <ℤ p }
+    ensures solution { OnOk result (solution.new.items ≡ map (replace (substitute m one)) solution.old.items) }
+    ensures parts { OnOk result
+        (ArePartsAfter m (nat_abs p) total.now solution.old.items parts.old.items parts.new.items) }
+    ensures narrow { OnOk result (All IsNarrow parts.new.items) }
+    ensures range { IfErr result (CarriesOneOfParts m (nat_abs p) total.now solution.old.items parts.old.items) }
+{
+    end_parts(alloc, solution, parts, m, p, total)?;
+    end_units(alloc, solution, m)?;
+    Ok(())
+}

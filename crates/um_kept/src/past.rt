@@ -1,0 +1,85 @@
+//! Numbers that pass what holds them.
+
+ghost use Rattle.std.specs.Prelude.{◌≡◌, ◌<◌, ℤ, Option, Some, None, nat_abs, nat_lt, pos, MatchResult, IfOk};
+ghost use Rattle.um_units.specs.PowerMap.{mul, pow};
+ghost use Rattle.um_wide.specs.Room.{IsNarrow, IsWithin};
+ghost use Rattle.um_kept.specs.Formed.{IsPowerIn};
+ghost use Rattle.um_kept.specs.Answers.{CarriesPower};
+
+use crate::CertStop;
+use std::alloc::{AllocError, Global};
+use um_units::{Term, Unit, UnitStop};
+use um_wide::WideUnit;
+
+/// The greatest absolute power of a unit.
+const MAX_POWER: i64 = 2147483647;
+
+fn is_past(power: i128, limit: i64) -> bool
+    ensures { result ≡ nat_lt (nat_abs limit) (nat_abs power) }
+{
+    power.unsigned_abs() > u128::from(limit.unsigned_abs())
+}
+
+/// The first power of the unit whose absolute value is above the limit.
+pub fn first_past(unit: &WideUnit, limit: i64) -> Option<i128>
+    ensures none { result ≡ None → IsWithin (nat_abs limit) unit.now }
+    ensures some { (z : ℤ) → result ≡ Some z → IsPowerIn z unit.now × (nat_abs limit < nat_abs z) }
+{
+    for term in unit.terms() {
+        if is_past(term.power, limit) {
+            return Some(term.power);
+        }
+    }
+    None
+}
+
+/// The unit, whose powers are to lie in 64 bits.
+pub fn narrowed(unit: WideUnit) -> Result<WideUnit, CertStop>
+    ensures exact { IfOk result (λ made. made ≡ unit) }
+    ensures narrow { MatchResult result IsNarrow (CarriesPower 9223372036854775807 unit) }
+{
+    match first_past(&unit, i64::MAX) {
+        None => Ok(unit),
+        Some(number) => Err(CertStop::CertRange { number }),
+    }
+}
+
+/// The unit, whose powers are to lie in -2147483647..2147483647.
+pub fn unit_of(alloc: Global, wide: &WideUnit) -> Result<Unit, CertStop>
+    ensures { MatchResult result (λ unit. unit ≡ wide.now) (CarriesPower 2147483647 wide.now) }
+{
+    match first_past(wide, MAX_POWER) {
+        None => Ok(narrow_unit(alloc, wide)?),
+        Some(number) => Err(CertStop::CertRange { number }),
+    }
+}
+
+fn narrow_unit(alloc: Global, wide: &WideUnit) -> Result<Unit, AllocError>
+    requires { IsWithin 2147483647 wide.now }
+    ensures { IfOk result (λ unit. unit ≡ wide.now) }
+{
+    let mut terms = Vec::new(alloc);
+    for term in wide.terms() {
+        terms.push(Term {
+            atom: term.atom,
+            power: term.power as i32,
+        })?;
+    }
+    match Unit::from_terms(alloc, &terms) {
+        Ok(unit) => Ok(unit),
+        Err(UnitStop::NoMemory) => Err(AllocError),
+        Err(UnitStop::Range) => unreachable!(),
+    }
+}
+
+/// The unit to the power 1 or -1 times the other's k-th power.
+pub fn times(alloc: Global, unit: &Unit, sign: i64, other: &Unit, k: i32) -> Result<Unit, CertStop>
+    requires { nat_abs sign ≡ 1 }
+    ensures { MatchResult result (λ made. made ≡ mul (pow unit.now sign) (pow other.now k))
+        (CarriesPower 2147483647 (mul (pow unit.now sign) (pow other.now k))) }
+{
+    let left = WideUnit::power(alloc, unit, sign)?;
+    let right = WideUnit::power(alloc, other, i64::from(k))?;
+    let product = left.mul(alloc, &right)?;
+    unit_of(alloc, &product)
+}

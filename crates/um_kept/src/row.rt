@@ -1,0 +1,350 @@
+//! The treatment of one row.
+
+ghost use Rattle.std.specs.Prelude.{◌≡◌, ◌≤◌, ◌<◌, ◌+◌, ◌^◌, ◌*◌, ◌*ℤ◌, not, if◌then◌else◌, List, [], ◌∷◌, All, length, nat_abs, pos, None, slice_index_or, IfOk, OnOk, MatchResult, IfErr, IsTrue};
+ghost use Rattle.std.specs.Int.Signed.{◌<ℤ◌};
+ghost use Rattle.std.specs.List.{list_any};
+ghost use Rattle.um_units.specs.declared.Atom.TheVariants.{Var};
+ghost use Rattle.um_units.specs.declared.Term.{Term as TermData};
+ghost use Rattle.um_units.specs.PowerMap.{PowerMap, one, atom, nth, pow, replace};
+ghost use Rattle.um_units.specs.Variables.{VariablesBelow, atom_below};
+ghost use Rattle.um_elim.specs.Pivot.{is_base, is_other, pivot};
+ghost use Rattle.um_elim.specs.Turn.{multiply, signed};
+ghost use Rattle.um_wide.specs.Room.{IsNarrow, IsWithin};
+ghost use Rattle.um_making.specs.Making.{at_slot, total};
+ghost use Rattle.um_kept.specs.Making.{Kept};
+ghost use Rattle.um_kept.specs.declared.kept.Head.{Head as HeadData};
+ghost use Rattle.um_kept.specs.Answers.{Agrees, CarriesPower};
+ghost use Rattle.um_kept.specs.Steps.{CarriesInRow, CarriesInTurn, CarriesNumber, CarriesRefusal, IsLeftAlone, IsTreated, IsTurned, IsTurning, first_size, parts_product, sign_of, variable_count};
+
+use crate::CertStop;
+use crate::kept::{Head, Making, divide_back, end_variable, multiply_all};
+use crate::past::{narrowed, times, unit_of};
+use std::alloc::Global;
+use um_elim::{Turn, next_turn};
+use um_units::{Atom, NoMemory, Term, Unit};
+use um_wide::WideUnit;
+
+/// That a row has no solution together with those before it: a product of rows by their numbers, and what divides its
+/// power of each slot, and not that of each base unit.
+#[derive(Drop)]
+pub struct Refused {
+    pub total: WideUnit,
+    pub modulus: i64,
+}
+
+/// The row with the solution put for its slots.
+fn put_in_row(alloc: Global, row: &Unit, solution: &[Unit]) -> Result<Unit, CertStop>
+    ensures { MatchResult result (λ unit. unit ≡ replace (nth solution.now) row.now)
+        (CarriesPower 2147483647 (replace (nth solution.now) row.now)) }
+{
+    let image = WideUnit::replaced(alloc, row, solution)?;
+    unit_of(alloc, &image)
+}
+
+fn signed_power(inverted: bool, power: i32) -> i64
+    ensures { result ≡ sign_of inverted *ℤ power }
+{
+    if inverted {
+        -i64::from(power)
+    } else {
+        i64::from(power)
+    }
+}
+
+/// Row k to the power of the divisor, with a sign.
+fn own_power(alloc: Global, k: u32, divisor: i64, inverted: bool) -> Result<WideUnit, NoMemory>
+    requires { pos 0 <ℤ divisor }
+    ensures exact { IfOk result (λ made. made ≡ pow (atom (Var k)) (sign_of inverted *ℤ divisor)) }
+    ensures room { IfOk result (IsWithin 9223372036854775808) }
+{
+    if inverted {
+        return WideUnit::atom_power(alloc, Atom::Var(k), -i128::from(divisor));
+    }
+    WideUnit::atom_power(alloc, Atom::Var(k), i128::from(divisor))
+}
+
+/// The powers of rows of the term's slot to the term's power. A base unit has none.
+fn slot_power(
+    alloc: Global,
+    parts: &[WideUnit],
+    term: Term,
+    inverted: bool,
+) -> Result<WideUnit, NoMemory>
+    requires narrow { All IsNarrow parts.now }
+    requires below { IsTrue (atom_below (length parts.now) term.atom) }
+    ensures exact { IfOk result (λ made. made ≡ pow (at_slot (λ j. slice_index_or parts.now j one) term.atom)
+        (sign_of inverted *ℤ term.power)) }
+    ensures room { IfOk result (IsWithin (variable_count (term ∷ []) * (2147483648 * 9223372036854775807))) }
+{
+    match term.atom {
+        Atom::Base(_) => Ok(WideUnit::one(alloc)),
+        Atom::Var(slot) => parts[slot as usize].pow(alloc, signed_power(inverted, term.power)),
+    }
+}
+
+/// The product over the slots of a row of each slot's powers of rows to the slot's power, by halves, with a sign.
+fn product_of_parts(
+    alloc: Global,
+    parts: &[WideUnit],
+    terms: &[Term],
+    inverted: bool,
+) -> Result<WideUnit, NoMemory>
+    requires narrow { All IsNarrow parts.now }
+    requires below { All (λ (t : TermData). IsTrue (atom_below (length parts.now) t.atom)) terms.now }
+    requires few { variable_count terms.now ≤ 2000 }
+    ensures exact { IfOk result (λ made. made ≡ parts_product (sign_of inverted) parts.now terms.now) }
+    ensures room { IfOk result (IsWithin (variable_count terms.now * (2147483648 * 9223372036854775807))) }
+{
+    match terms {
+        [] => Ok(WideUnit::one(alloc)),
+        [term] => slot_power(alloc, parts, *term, inverted),
+        _ => {
+            let (front, back) = terms.split_at(terms.len() / 2);
+            let left = product_of_parts(alloc, parts, front, inverted)?;
+            let right = product_of_parts(alloc, parts, back, inverted)?;
+            left.mul(alloc, &right)
+        }
+    }
+}
+
+/// The powers of rows that row k goes back to, with the sign of its turns.
+fn row_total(
+    alloc: Global,
+    making: &Making,
+    row: &Unit,
+    k: u32,
+    inverted: bool,
+) -> Result<WideUnit, CertStop>
+    requires few { length making.now.parts.items ≤ 2000 }
+    requires narrow { All IsNarrow making.now.parts.items }
+    requires below { VariablesBelow (length making.now.parts.items) row.now }
+    requires positive { pos 0 <ℤ making.now.divisor }
+    ensures exact { IfOk result (λ made. made
+        ≡ signed inverted (total (λ j. slice_index_or making.now.parts.items j one) row.now k making.now.divisor)) }
+    ensures narrow { MatchResult result IsNarrow (CarriesPower 9223372036854775807
+        (signed inverted (total (λ j. slice_index_or making.now.parts.items j one) row.now k making.now.divisor))) }
+{
+    let own = own_power(alloc, k, making.divisor, inverted)?;
+    let others = product_of_parts(alloc, &making.parts, row.terms(), inverted)?;
+    let sum = others.mul(alloc, &own)?;
+    narrowed(sum)
+}
+
+/// The product of two positive numbers, which is to lie in 64 bits.
+fn number_times(left: i64, right: i64) -> Result<i64, CertStop>
+    requires left { pos 0 <ℤ left }
+    requires right { (pos 0 <ℤ right) × (nat_abs right ≤ 2147483648) }
+    ensures { MatchResult result (λ n. n ≡ left *ℤ right) (CarriesNumber (left *ℤ right)) }
+{
+    let product = i128::from(left) * i128::from(right);
+    if product > i128::from(i64::MAX) {
+        return Err(CertStop::CertRange { number: product });
+    }
+    Ok(product as i64)
+}
+
+/// Whether a variable other than m stands in the terms.
+fn has_other_variable(terms: &[Term], m: u32) -> bool
+    ensures { result ≡ list_any (λ (t : TermData). is_other m t.atom) terms.now }
+{
+    terms.iter().any(|term| match term.atom {
+        Atom::Base(_) => false,
+        Atom::Var(k) => k != m,
+    })
+}
+
+/// Whether a base unit stands in the terms.
+fn has_base_unit(terms: &[Term]) -> bool
+    ensures { result ≡ list_any (λ (t : TermData). is_base t.atom) terms.now }
+{
+    terms.iter().any(|term| matches!(term.atom, Atom::Base(_)))
+}
+
+/// The absolute power of the first term.
+fn first_size(terms: &[Term]) -> Option<u32>
+    ensures { result ≡ first_size terms.now }
+{
+    match terms {
+        [] => None,
+        [term, ..] => Some(term.power.unsigned_abs()),
+    }
+}
+
+/// Inverted once more, or as it was.
+fn flipped(inverted: bool, again: bool) -> bool
+    ensures { result ≡ (if again then not inverted else inverted) }
+{
+    if again { !inverted } else { inverted }
+}
+
+/// What the turn leaves of the unit.
+fn turned(alloc: Global, r: &Unit, turn: &Turn) -> Result<Unit, CertStop>
+    ensures { MatchResult result
+        (λ left. left ≡ replace (multiply turn.now.variable turn.now.by) (signed turn.now.inverted r.now))
+        (CarriesPower 2147483647 (replace (multiply turn.now.variable turn.now.by) (signed turn.now.inverted r.now))) }
+{
+    let power = r.power_of(Atom::Var(turn.variable));
+    if turn.inverted {
+        return times(alloc, r, -1, &turn.by, -power);
+    }
+    times(alloc, r, 1, &turn.by, power)
+}
+
+/// The turn, of what is left of the row and of what is kept.
+fn make_turn(
+    alloc: Global,
+    making: &mut Making,
+    head: Head,
+    r: &Unit,
+    turn: &Turn,
+) -> Result<Unit, CertStop>
+    requires count { length making.old.back.items ≡ head.slots + head.parameters }
+    requires variable { turn.now.variable < head.slots }
+    requires below { VariablesBelow head.slots turn.now.by }
+    requires bases { head.bases + head.parameters < 2 ^ 32 }
+    requires slots { head.slots + head.parameters < 2 ^ 32 }
+    ensures left { IfOk result (λ left. left
+        ≡ replace (multiply turn.now.variable turn.now.by) (signed turn.now.inverted r.now)) }
+    ensures range { IfErr result (CarriesInTurn head making.old.solution.items making.old.back.items r.now
+        turn.now.variable turn.now.inverted turn.now.by) }
+    ensures kept { OnOk result (IsTurned head making.old making.new turn.now.variable turn.now.by) }
+{
+    let left = turned(alloc, r, turn)?;
+    multiply_all(alloc, &mut making.solution, turn.variable, &turn.by)?;
+    divide_back(alloc, &mut making.back, head, turn)?;
+    Ok(left)
+}
+
+/// The powers of rows that row k goes back to, and a factor times the divisor.
+fn row_refusal(
+    alloc: Global,
+    making: &Making,
+    row: &Unit,
+    k: u32,
+    inverted: bool,
+    factor: i64,
+) -> Result<Refused, CertStop>
+    requires few { length making.now.parts.items ≤ 2000 }
+    requires narrow { All IsNarrow making.now.parts.items }
+    requires below { VariablesBelow (length making.now.parts.items) row.now }
+    requires positive { pos 0 <ℤ making.now.divisor }
+    requires factor { (pos 0 <ℤ factor) × (nat_abs factor ≤ 2147483648) }
+    ensures total { IfOk result (λ refused. refused.total
+        ≡ signed inverted (total (λ j. slice_index_or making.now.parts.items j one) row.now k making.now.divisor)) }
+    ensures modulus { IfOk result (λ refused. refused.modulus ≡ making.now.divisor *ℤ factor) }
+    ensures narrow { IfOk result (λ refused. IsNarrow refused.total) }
+    ensures range { IfErr result (CarriesRefusal
+        (signed inverted (total (λ j. slice_index_or making.now.parts.items j one) row.now k making.now.divisor))
+        (making.now.divisor *ℤ factor)) }
+{
+    let total = row_total(alloc, making, row, k, inverted)?;
+    match number_times(making.divisor, factor) {
+        Ok(modulus) => Ok(Refused { total, modulus }),
+        Err(stop) => {
+            drop(total);
+            Err(stop)
+        }
+    }
+}
+
+/// The end of row k, where no variable is left of it.
+fn closed_end(
+    alloc: Global,
+    making: &Making,
+    row: &Unit,
+    k: u32,
+    inverted: bool,
+    r: &Unit,
+) -> Result<Option<Refused>, CertStop>
+    requires few { length making.now.parts.items ≤ 2000 }
+    requires narrow { All IsNarrow making.now.parts.items }
+    requires below { VariablesBelow (length making.now.parts.items) row.now }
+    requires positive { pos 0 <ℤ making.now.divisor }
+    requires closed { pivot r.now ≡ None }
+    ensures treated { (h : HeadData) (rows : List PowerMap) (kept : Kept) → row.now ≡ nth rows k
+        → IsTurning rows kept k h making.now r.now inverted → IfOk result (IsTreated rows kept k h making.now) }
+    ensures range { (h : HeadData) (rows : List PowerMap) (kept : Kept) → row.now ≡ nth rows k
+        → IsTurning rows kept k h making.now r.now inverted → IfErr result (CarriesInRow rows kept k) }
+{
+    match first_size(r.terms()) {
+        None => Ok(None),
+        Some(size) => {
+            let factor = i64::from(size) + 1;
+            let refused = row_refusal(alloc, making, row, k, inverted, factor)?;
+            Ok(Some(refused))
+        }
+    }
+}
+
+/// The end of row k, where one variable is left of it, to the power p.
+fn power_end(
+    alloc: Global,
+    making: &mut Making,
+    row: &Unit,
+    k: u32,
+    inverted: bool,
+    r: &Unit,
+    m: u32,
+) -> Result<Option<Refused>, CertStop>
+    requires few { length making.old.parts.items ≤ 2000 }
+    requires narrow { All IsNarrow making.old.parts.items }
+    requires below { VariablesBelow (length making.old.parts.items) row.now }
+    requires positive { pos 0 <ℤ making.old.divisor }
+    requires count { length making.old.parts.items ≡ length making.old.solution.items }
+    requires alone { IsLeftAlone m r.now }
+    ensures treated { (h : HeadData) (rows : List PowerMap) (kept : Kept) → row.now ≡ nth rows k
+        → IsTurning rows kept k h making.old r.now inverted → IfOk result (IsTreated rows kept k h making.new) }
+    ensures range { (h : HeadData) (rows : List PowerMap) (kept : Kept) → row.now ≡ nth rows k
+        → IsTurning rows kept k h making.old r.now inverted → IfErr result (CarriesInRow rows kept k) }
+{
+    let p = r.power_of(Atom::Var(m));
+    let refused = row_refusal(alloc, making, row, k, inverted, i64::from(p))?;
+    if has_base_unit(r.terms()) {
+        return Ok(Some(refused));
+    }
+    end_variable(
+        alloc,
+        &mut making.solution,
+        &mut making.parts,
+        m,
+        p,
+        &refused.total,
+    )?;
+    making.divisor = refused.modulus;
+    drop(refused);
+    Ok(None)
+}
+
+/// Treats row k: turns are made of what the solution makes of it, until one variable or none is left.
+pub fn make_row(
+    alloc: Global,
+    making: &mut Making,
+    head: Head,
+    k: u32,
+    row: &Unit,
+) -> Result<Option<Refused>, CertStop>
+    requires few { head.slots ≤ 2000 }
+    requires parameters { head.parameters ≤ head.slots }
+    requires bases { head.bases + head.parameters < 2 ^ 32 }
+    requires below { VariablesBelow head.slots row.now }
+    requires making { (kept : Kept) × Agrees head making.old kept }
+    ensures treated { (rows : List PowerMap) (kept : Kept) → row.now ≡ nth rows k → Agrees head making.old kept
+        → IfOk result (IsTreated rows kept k head making.new) }
+    ensures range { (rows : List PowerMap) (kept : Kept) → row.now ≡ nth rows k → Agrees head making.old kept
+        → IfErr result (CarriesInRow rows kept k) }
+{
+    let mut r = put_in_row(alloc, row, &making.solution)?;
+    let mut inverted = false;
+    loop {
+        match next_turn(alloc, &r)? {
+            None => return closed_end(alloc, making, row, k, inverted, &r),
+            Some(turn) => {
+                r = make_turn(alloc, making, head, &r, &turn)?;
+                inverted = flipped(inverted, turn.inverted);
+                if !has_other_variable(r.terms(), turn.variable) {
+                    return power_end(alloc, making, row, k, inverted, &r, turn.variable);
+                }
+            }
+        }
+    }
+}

@@ -1,5 +1,0 @@
-use Rattle.std.proofs.Common.{length}
-use Rattle.um_proof.proofs.row.+product_of_parts.Given as goal
-
-abbrev pub decreases-product_of_parts : goal.decreases-product_of_parts
-decreases-product_of_parts l = length l.terms.now
