@@ -1,5 +1,5 @@
 -- What holds of each name that declarations declare holds of each name of the program that they stand for.
-use Rattle.std.proofs.Common.{◌≡◌, ℕ, ◌||◌, List, [], ◌∷◌, ◌++◌, map, length, ap, subst, Ok}
+use Rattle.std.proofs.Common.{◌≡◌, ℕ, false, ◌||◌, List, [], ◌∷◌, ◌++◌, map, length, ap, subst, Ok}
 use Rattle.std.specs.Prelude.{All}
 use Rattle.std.proofs.lemmas.List.Elements.{All-nil, All-push}
 use Rattle.um_tree.specs.TypeTree.{NoteTree}
