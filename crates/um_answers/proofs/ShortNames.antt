@@ -1,49 +1,32 @@
--- Names that were found short, list by list.
-use Rattle.std.proofs.Common.{◌≡◌, ℕ, Bool, true, ◌&&◌, List, [], ◌∷◌, length, map, All, arith}
-use Rattle.std.specs.Prelude.{nat_le}
-use Rattle.std.specs.List.{list_all}
-use Rattle.std.proofs.lemmas.Bool.{leb-true}
-use Rattle.std.proofs.lemmas.List.Elements.{All-nil, All-cons}
-use Rattle.um_tree.specs.declared.program.FieldDecl.{FieldDecl}
-use Rattle.um_tree.specs.declared.program.Record.{Record}
-use Rattle.um_tree.specs.declared.program.Function.{Function}
-use Rattle.um_tree.specs.ProgramTree.{FieldTree, RecordTree, FunctionTree, field_tree, record_tree, function_tree}
-use Rattle.um_image.specs.Laws.{IsShortName}
-use Rattle.um_orders.proofs.OrderWords.{both}
+-- The names of a program are short: none is longer than its text.
+use Rattle.std.proofs.Common.{◌≡◌, ℕ, ◌≤◌, List, length, Ok, arith}
+use Rattle.std.specs.Prelude.{All}
+use Rattle.std.proofs.lemmas.List.Elements.{All-weaker}
+use Rattle.um_tree.specs.ProgramTree.{FieldTree, RecordTree, FunctionTree, ProgramTree}
+use Rattle.um_tree.specs.RawTree.{DeclSyntax}
+use Rattle.um_names.specs.Resolution.{resolved_program}
+use Rattle.um_readable.proofs.NamesWithin.{names_within}
+use Rattle.um_image.specs.Laws.{IsShortName, HasShortNames}
+use Rattle.um_answers.specs.Asking.{IsWrittenProgram}
 
-abbrev pub is_short : List ℕ → Bool
-is_short name = nat_le (length name) 4294967295
+module _ (bytes : List ℕ) (few : length bytes ≤ 1048576) where
+  short : (name : List ℕ) → length name ≤ length bytes → IsShortName name
+  short name h = omega (arith, h, few)
 
-short : (name : List ℕ) → is_short name ≡ true → IsShortName name
-short name e = let l = leb-true (length name) 4294967295 e in omega (arith, l)
+  short_field : (f : FieldTree) → length f.name ≤ length bytes → IsShortName f.name
+  short_field f h = short f.name h
 
-abbrev IsShortField : FieldTree → Type 0
-IsShortField f = IsShortName f.name
+  short_record : (d : RecordTree) → (length d.name ≤ length bytes) × All (λ (f : FieldTree). length f.name ≤ length bytes) d.fields → IsShortName d.name × All (λ (f : FieldTree). IsShortName f.name) d.fields
+  short_record d h = (short d.name h.0, All-weaker (λ (f : FieldTree). length f.name ≤ length bytes) (λ (f : FieldTree). IsShortName f.name) short_field d.fields h.1)
 
-abbrev IsShortRecord : RecordTree → Type 0
-IsShortRecord d = IsShortName d.name × All IsShortField d.fields
+  short_function : (f : FunctionTree) → length f.name ≤ length bytes → IsShortName f.name
+  short_function f h = short f.name h
 
-abbrev IsShortFunction : FunctionTree → Type 0
-IsShortFunction f = IsShortName f.name
-
-short_fields : (fs : List FieldDecl) → list_all (λ (f : FieldDecl). is_short f.name) fs ≡ true → All IsShortField (map field_tree fs)
-short_fields [] e = All-nil IsShortField
-short_fields (f ∷ fs) e =
-    let h = both (is_short f.name) (list_all (λ (g : FieldDecl). is_short g.name) fs) e in
-    All-cons IsShortField (field_tree f) (map field_tree fs) (short f.name h.0) (short_fields fs h.1)
-
-abbrev pub is_short_record : Record → Bool
-is_short_record d = is_short d.name && list_all (λ (f : FieldDecl). is_short f.name) d.fields.items.items
-
-pub short_records : (ds : List Record) → list_all is_short_record ds ≡ true → All IsShortRecord (map record_tree ds)
-short_records [] e = All-nil IsShortRecord
-short_records (d ∷ ds) e =
-    let h = both (is_short_record d) (list_all is_short_record ds) e in
-    let own = both (is_short d.name) (list_all (λ (f : FieldDecl). is_short f.name) d.fields.items.items) h.0 in
-    All-cons IsShortRecord (record_tree d) (map record_tree ds) (short d.name own.0, short_fields d.fields.items.items own.1) (short_records ds h.1)
-
-pub short_functions : (fs : List Function) → list_all (λ (f : Function). is_short f.name) fs ≡ true → All IsShortFunction (map function_tree fs)
-short_functions [] e = All-nil IsShortFunction
-short_functions (f ∷ fs) e =
-    let h = both (is_short f.name) (list_all (λ (g : Function). is_short g.name) fs) e in
-    All-cons IsShortFunction (function_tree f) (map function_tree fs) (short f.name h.0) (short_functions fs h.1)
+pub short_names : (bytes : List ℕ) (raw : List DeclSyntax) (p : ProgramTree) → IsWrittenProgram bytes raw → resolved_program raw ≡ Ok p → HasShortNames p
+short_names bytes raw p written resolved =
+    let n = length bytes in
+    let few = written.text.short in
+    let within = names_within bytes written.text.tokens raw p written.text.lexed written.read resolved in record {
+      records = All-weaker (λ (d : RecordTree). (length d.name ≤ n) × All (λ (f : FieldTree). length f.name ≤ n) d.fields) (λ (d : RecordTree). IsShortName d.name × All (λ (f : FieldTree). IsShortName f.name) d.fields) (short_record bytes few) p.records within.records;
+      functions = All-weaker (λ (f : FunctionTree). length f.name ≤ n) (λ (f : FunctionTree). IsShortName f.name) (short_function bytes few) p.functions within.functions;
+    }

@@ -1,10 +1,11 @@
 // The answers about images: that of a program with its code, and a call of a function of one.
-ghost use Rattle.std.specs.Prelude.{◌≡◌, ◌<◌, ◌≤◌, ℕ, All, IfOk, IsTrue, List, length, slice_get, Some};
+ghost use Rattle.std.specs.Prelude.{◌≡◌, ◌<◌, ◌≤◌, ℕ, All, IfOk, List, length, slice_get, Some};
 ghost use Rattle.um_tree.specs.ValueTree.{outcome_tree};
 ghost use Rattle.um_tree.specs.ProgramTree.{program_tree};
 ghost use Rattle.um_verify.specs.ImageTree.{HeadTree, head_tree, image_tree, HasForm};
 ghost use Rattle.um_verify.specs.Verified.{IsVerified};
 ghost use Rattle.um_image.specs.Encoding.{image_bytes};
+ghost use Rattle.um_image.specs.Laws.{HasShortNames};
 ghost use Rattle.um_image.specs.ProgramImage.{type_of_shape as plain_type_of};
 ghost use Rattle.um_image_run.specs.ImageCalls.{call_tree, image_program};
 ghost use Rattle.um_image_run.specs.Laws.{IsShapedCall};
@@ -14,7 +15,6 @@ ghost use Rattle.um_answers.specs.ImageAnswer.{ImageAnswer};
 ghost use Rattle.um_answers.specs.ExecAnswer.{ExecAnswer, DecodedAnswer, VerifiedAnswer, ImageRunAnswer};
 
 use crate::call::{Ended, reply_to_outcome};
-use crate::names::has_short_names;
 use std::alloc::{AllocError, Global};
 use um_exec::exec;
 use um_gen::generate;
@@ -32,11 +32,9 @@ use um_verify::Image;
 /// The bytes of the image of the program with its code.
 #[tactic(auto, unfolding(crate::specs::ImageAnswer::ImageAnswer))]
 pub(crate) fn reply_image(alloc: Global, shaped: &Shaped) -> Result<Reply, AllocError>
+    requires { HasShortNames (program_tree shaped.now) }
     ensures { IfOk result (λ reply. ImageAnswer (program_tree shaped.now) reply.text.items reply.status) }
 {
-    if !has_short_names(shaped.program()) {
-        return Err(AllocError);
-    }
     let code = generate(alloc, shaped)?;
     let image = image_of(alloc, shaped, &code)?;
     let reply = reply_encoded(alloc, &image);

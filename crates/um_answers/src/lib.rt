@@ -12,7 +12,6 @@ mod big;
 mod call;
 mod image;
 pub mod laws;
-mod names;
 mod rescale;
 mod schemes;
 mod signature;

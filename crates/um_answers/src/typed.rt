@@ -10,7 +10,7 @@ ghost use Rattle.um_gen.specs.ProgramCode.{program_code};
 ghost use Rattle.um_code.specs.Listing.{listing_text};
 ghost use Rattle.um_orders.specs.Orders.{order_of};
 ghost use Rattle.um_reports.specs.Steps.{IsReply};
-ghost use Rattle.um_answers.specs.Asking.{asked_of, IsWrittenText};
+ghost use Rattle.um_answers.specs.Asking.{asked_of, IsWrittenProgram};
 ghost use Rattle.um_answers.specs.SchemeLines.{scheme_lines};
 ghost use Rattle.um_answers.specs.TypedAnswer.{TypedAnswer};
 
@@ -45,7 +45,7 @@ pub fn answer_typed(
     schemes: &Schemes,
 ) -> Result<Reply, AllocError>
     requires ordered { order_of asked.now.words.now ≡ Some asked.now.order }
-    requires written { IsWrittenText asked.now.bytes.now }
+    requires written { IsWrittenProgram asked.now.bytes.now (program_syntax asked.now.raw.now) }
     requires resolved { resolved_program (program_syntax asked.now.raw.now) ≡ Ok (program_tree shaped.now) }
     requires inferred { infer (program_tree shaped.now) ≡ all_schemes (scheme_trees schemes.now) }
     ensures { IfOk result (λ reply. TypedAnswer (asked_of asked.now)

@@ -3,7 +3,9 @@ mod NameTokens
 mod Reading
 mod DeclReading
 mod DeclNames
+mod ProgramNames
 mod ExprReadable
 mod LimitCounts
 pub mod Readability
 pub mod TextBytes
+pub mod NamesWithin

@@ -88,22 +88,23 @@ name_bytes text n = record {
   no_word = λ k e. n.2 (word_at reserved_words reserved_are_words k text e);
 }
 
--- what is kept of a token: the letters of a name
-abbrev pub IsNamed : Kind → Type 0
-IsNamed (kind.Name letters) = IsNameBytes letters
-IsNamed (kind.Var letters) = Unit {0}
-IsNamed (kind.Number value digits one) = Unit {0}
-IsNamed (kind.Word k) = Unit {0}
-IsNamed kind.Hole = Unit {0}
-IsNamed (kind.Sign k) = Unit {0}
+-- P holds of the letters, where it is a name
+abbrev pub IsNamed : (List ℕ → Type 0) → Kind → Type 0
+IsNamed P (kind.Name letters) = P letters
+IsNamed P (kind.Var letters) = Unit {0}
+IsNamed P (kind.Number value digits one) = Unit {0}
+IsNamed P (kind.Word k) = Unit {0}
+IsNamed P kind.Hole = Unit {0}
+IsNamed P (kind.Sign k) = Unit {0}
 
-abbrev pub AllNamed : List Token → Type 0
-AllNamed = AllKinds IsNamed
+-- P holds of the letters of each name
+abbrev pub AllNamed : (List ℕ → Type 0) → List Token → Type 0
+AllNamed P = AllKinds (IsNamed P)
 
 abbrev Any : List ℕ → Type 0
 Any text = Unit {0}
 
-named_kinds : KindsHold IsNamed Any
+named_kinds : KindsHold (IsNamed IsNameBytes) Any
 named_kinds = record {
   name = λ text named any. name_bytes text named;
   variable = λ name named any. tt;
@@ -113,5 +114,5 @@ named_kinds = record {
   sign = λ k. tt;
 }
 
-pub tokens_named : (cs : List ℕ) (tokens : List Token) → HasTokens cs tokens → AllNamed tokens
-tokens_named cs tokens l = kinds_hold IsNamed Any named_kinds (λ xs ys any. (tt, tt)) cs tokens tt l
+pub tokens_named : (cs : List ℕ) (tokens : List Token) → HasTokens cs tokens → AllNamed IsNameBytes tokens
+tokens_named cs tokens l = kinds_hold (IsNamed IsNameBytes) Any named_kinds (λ xs ys any. (tt, tt)) cs tokens tt l

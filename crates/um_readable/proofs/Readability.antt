@@ -2,6 +2,7 @@
 use Rattle.std.proofs.Common.{◌≡◌, ℕ, ◌+◌, ◌<◌, ◌≤◌, max, Bool, true, false, IsTrue, IsSome, List, [], ◌∷◌, length, Option, Some, None, refl, arith}
 use Rattle.um_syntax.specs.declared.token.Token.{Token}
 use Rattle.um_syntax.specs.Lexing.{HasTokens}
+use Rattle.um_tree.specs.Formed.{IsNameBytes}
 use Rattle.um_tree.specs.RawTree.{TypeSyntax, FieldDeclSyntax, ParamSyntax, DeclSyntax, base_syntax, short_syntax, record_decl_syntax, function_syntax}
 use Rattle.um_tree.specs.Heights.{greatest_height, expr_height}
 use Rattle.um_types.specs.TypeHeights.{whole_height}
@@ -22,7 +23,7 @@ some_field : (fs : List FieldDeclSyntax) (tokens rest : List Token) → FieldDec
 some_field [] tokens rest s = absurd s
 some_field (f ∷ fs) tokens rest s = omega arith
 
-fields_readable : (fs : List FieldDeclSyntax) → FieldsNamed fs → fields_height fs ≤ greatest_height → AreReadFieldDecls fs
+fields_readable : (fs : List FieldDeclSyntax) → FieldsNamed IsNameBytes fs → fields_height fs ≤ greatest_height → AreReadFieldDecls fs
 fields_readable [] named low = tt
 fields_readable (f ∷ fs) named low =
     (named.0, type_low f.type (left_low (whole_height f.type) (fields_height fs) low), fields_readable fs named.1 (right_low (whole_height f.type) (fields_height fs) low))
@@ -42,7 +43,7 @@ noted true None fits is = absurd cc
 noted false None fits is = absurd cc
 noted recursive (Some t) fits is = refl
 
-decl_readable : (d : DeclSyntax) (before : ℕ) (tokens rest : List Token) → DeclSpells d tokens rest → DeclFits d → DeclNamed d → decl_height d ≤ greatest_height → passed_limit before d ≡ None → IsReadDecl d
+decl_readable : (d : DeclSyntax) (before : ℕ) (tokens rest : List Token) → DeclSpells d tokens rest → DeclFits d → DeclNamed IsNameBytes d → decl_height d ≤ greatest_height → passed_limit before d ≡ None → IsReadDecl d
 decl_readable (base_syntax at x) before tokens rest s fits named low small = named
 decl_readable (short_syntax at x u) before tokens rest s fits named low small = named
 decl_readable (record_decl_syntax at x vs fs) before tokens rest s fits named low small =
@@ -68,7 +69,7 @@ decl_readable (function_syntax f) before tokens rest s fits named low small =
       nodes = few.3;
     }
 
-decls_readable : (ds : List DeclSyntax) (before : ℕ) (tokens rest : List Token) → DeclsSpell ds tokens rest → DeclsFit ds → DeclsNamed ds → program_height ds ≤ greatest_height → WithinLimits before ds → AreReadDecls ds
+decls_readable : (ds : List DeclSyntax) (before : ℕ) (tokens rest : List Token) → DeclsSpell ds tokens rest → DeclsFit ds → DeclsNamed IsNameBytes ds → program_height ds ≤ greatest_height → WithinLimits before ds → AreReadDecls ds
 decls_readable [] before tokens rest s fits named low small = tt
 decls_readable (d ∷ ds) before tokens rest s fits named low small = (
   decl_readable d before tokens s.0 s.1 fits.0 named.0 (left_low (decl_height d) (program_height ds) low) small.0,
@@ -79,7 +80,7 @@ pub readable : (cs : List ℕ) (tokens : List Token) (ds : List DeclSyntax) → 
 readable cs tokens ds lexed short read =
     let within = tokens_within cs tokens lexed in
     let few = few_decls ds tokens [] read.is.spelled read.is.fits in
-    let named = decls_named ds tokens [] read.is.spelled read.is.fits (tokens_named cs tokens lexed) in record {
+    let named = decls_named IsNameBytes ds tokens [] read.is.spelled read.is.fits (tokens_named cs tokens lexed) in record {
       few = omega (arith, within, few, short);
       few_functions = few_functions ds read.small;
       each = decls_readable ds 0 tokens [] read.is.spelled read.is.fits named read.low read.small;

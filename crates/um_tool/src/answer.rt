@@ -5,7 +5,7 @@ ghost use Rattle.um_tool.specs.Answer.{InferenceAnswer, ProofAnswer, SchemesAnsw
 ghost use Rattle.um_certificates.specs.CertificateText.{certificates_text as lines_of};
 ghost use Rattle.um_reports.specs.Steps.{IsReply};
 ghost use Rattle.um_answers.specs.TypedAnswer.{TypedAnswer};
-ghost use Rattle.um_answers.specs.Asking.{asked_of, IsWrittenText};
+ghost use Rattle.um_answers.specs.Asking.{asked_of, IsWrittenProgram};
 ghost use Rattle.um_orders.specs.Orders.{order_of};
 ghost use Rattle.um_syntax.specs.Feeding.{IsTextAnswer};
 ghost use Rattle.um_tree.specs.RawTree.{program_syntax};
@@ -85,7 +85,7 @@ fn answer_tokens(
 #[tactic(auto, unfolding(crate::specs::Answer::ProgramAnswer))]
 fn answer_program(alloc: Global, asked: &Asked) -> Result<Reply, AllocError>
     requires ordered { order_of asked.now.words.now ≡ Some asked.now.order }
-    requires written { IsWrittenText asked.now.bytes.now }
+    requires written { IsWrittenProgram asked.now.bytes.now (program_syntax asked.now.raw.now) }
     requires readable { IsReadable (program_syntax asked.now.raw.now) }
     ensures { IfOk result (λ reply. ProgramAnswer (asked_of asked.now) reply.text.items reply.status) }
 {
@@ -110,7 +110,7 @@ fn answer_program(alloc: Global, asked: &Asked) -> Result<Reply, AllocError>
 #[tactic(auto, unfolding(crate::specs::Answer::NamesAnswer))]
 fn answer_names(alloc: Global, asked: &Asked) -> Result<Reply, AllocError>
     requires ordered { order_of asked.now.words.now ≡ Some asked.now.order }
-    requires written { IsWrittenText asked.now.bytes.now }
+    requires written { IsWrittenProgram asked.now.bytes.now (program_syntax asked.now.raw.now) }
     requires readable { IsReadable (program_syntax asked.now.raw.now) }
     ensures { IfOk result (λ reply. NamesAnswer (asked_of asked.now) reply.text.items reply.status) }
 {
@@ -124,7 +124,7 @@ fn answer_names(alloc: Global, asked: &Asked) -> Result<Reply, AllocError>
 #[tactic(auto, unfolding(crate::specs::Answer::ShapesAnswer))]
 fn answer_shapes(alloc: Global, asked: &Asked, program: Program) -> Result<Reply, AllocError>
     requires ordered { order_of asked.now.words.now ≡ Some asked.now.order }
-    requires written { IsWrittenText asked.now.bytes.now }
+    requires written { IsWrittenProgram asked.now.bytes.now (program_syntax asked.now.raw.now) }
     requires resolved { resolved_program (program_syntax asked.now.raw.now) ≡ Ok (program_tree program) }
     requires formed { IsFormed (program_tree program) }
     ensures { IfOk result (λ reply. ShapesAnswer (asked_of asked.now)
@@ -140,7 +140,7 @@ fn answer_shapes(alloc: Global, asked: &Asked, program: Program) -> Result<Reply
 #[tactic(auto, unfolding(crate::specs::Answer::SchemesAnswer))]
 fn answer_schemes(alloc: Global, asked: &Asked, shaped: &Shaped) -> Result<Reply, AllocError>
     requires ordered { order_of asked.now.words.now ≡ Some asked.now.order }
-    requires written { IsWrittenText asked.now.bytes.now }
+    requires written { IsWrittenProgram asked.now.bytes.now (program_syntax asked.now.raw.now) }
     requires resolved { resolved_program (program_syntax asked.now.raw.now) ≡ Ok (program_tree shaped.now) }
     ensures { IfOk result (λ reply. SchemesAnswer (asked_of asked.now)
         (program_tree shaped.now) reply.text.items reply.status) }
@@ -200,7 +200,7 @@ fn reply_proofs(alloc: Global, program: &Program, proofs: Proofs) -> Result<Repl
 /// The answer to a program whose schemes are asked for: the first function without a scheme is refused.
 fn answer_inference(alloc: Global, asked: &Asked, shaped: &Shaped) -> Result<Reply, AllocError>
     requires ordered { order_of asked.now.words.now ≡ Some asked.now.order }
-    requires written { IsWrittenText asked.now.bytes.now }
+    requires written { IsWrittenProgram asked.now.bytes.now (program_syntax asked.now.raw.now) }
     requires resolved { resolved_program (program_syntax asked.now.raw.now) ≡ Ok (program_tree shaped.now) }
     ensures { IfOk result (λ reply. InferenceAnswer (asked_of asked.now)
         (program_tree shaped.now) (infer (program_tree shaped.now)) reply.text.items reply.status) }
@@ -233,7 +233,7 @@ fn answer_inferred(
     schemes: Schemes,
 ) -> Result<Reply, AllocError>
     requires ordered { order_of asked.now.words.now ≡ Some asked.now.order }
-    requires written { IsWrittenText asked.now.bytes.now }
+    requires written { IsWrittenProgram asked.now.bytes.now (program_syntax asked.now.raw.now) }
     requires resolved { resolved_program (program_syntax asked.now.raw.now) ≡ Ok (program_tree shaped.now) }
     requires inferred { infer (program_tree shaped.now) ≡ all_schemes (scheme_trees schemes) }
     ensures { IfOk result (λ reply. TypedAnswer (asked_of asked.now)

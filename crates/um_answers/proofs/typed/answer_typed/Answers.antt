@@ -1,6 +1,9 @@
 use Rattle.std.proofs.Common.{Some, ap, ◌∙◌}
+use Rattle.um_tree.specs.ProgramTree.{program_tree}
+use Rattle.um_tree.specs.RawTree.{program_syntax}
 use Rattle.um_orders.specs.declared.order.Order.TheVariants.{Run, Steps, Eval, Conform, Rescale, Twin, Big}
 use Rattle.um_orders.proofs.OrderWords.{short_words, words_of_order}
+use Rattle.um_answers.proofs.ShortNames.{short_names}
 use Rattle.um_answers.proofs.typed.answer_typed.Goals as goal
 
 pub answer_call-requires-clause-words : goal.answer_call-requires-clause-words
@@ -42,6 +45,9 @@ answer_rescale-requires-clause-words c = (words_of_order c.args.asked.now.words.
 pub answer_rescale-requires-clause-stated : goal.answer_rescale-requires-clause-stated
 answer_rescale-requires-clause-stated c = (words_of_order c.args.asked.now.words.now Rescale (c.requires.ordered ∙ ap Some c.in-Rescale.is)).1
 
+pub answer_rescale-requires-clause-written : goal.answer_rescale-requires-clause-written
+answer_rescale-requires-clause-written c = c.requires.written.text
+
 pub answer_twin-requires-clause-words : goal.answer_twin-requires-clause-words
 answer_twin-requires-clause-words c = (words_of_order c.args.asked.now.words.now (Twin c.in-Twin.budget) (c.requires.ordered ∙ ap Some c.in-Twin.is)).0
 
@@ -59,3 +65,6 @@ answer_big-requires-clause-some c = (words_of_order c.args.asked.now.words.now (
 
 pub answer_big-requires-clause-few : goal.answer_big-requires-clause-few
 answer_big-requires-clause-few c = (words_of_order c.args.asked.now.words.now (Big c.in-Big.functions) (c.requires.ordered ∙ ap Some c.in-Big.is)).1
+
+pub reply_image-requires : goal.reply_image-requires
+reply_image-requires c = short_names c.args.asked.now.bytes.now (program_syntax c.args.asked.now.raw.now) (program_tree c.args.shaped.now) c.requires.written c.requires.resolved
