@@ -9,6 +9,7 @@ pub mod Rows
 mod Examples
 pub mod InRange
 mod Changes
+mod SingleTurns
 mod TurnSteps
 mod LastTurn
 pub mod Slots
