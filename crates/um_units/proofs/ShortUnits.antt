@@ -48,3 +48,7 @@ product_put s u x y k e =
     sym (ap (replace s) e ∙ replace-mul s (atom x) (pow (atom y) k)
     ∙ ap (λ v. mul v (replace s (pow (atom y) k))) (replace-atom s x)
     ∙ ap (mul (image s x)) (replace-pow s (atom y) k ∙ ap (λ v. pow v k) (replace-atom s y)))
+
+-- a factor as the code has it: u is the unit, and j its power
+pub power_passed : (left u v : PowerMap) (k j : ℤ) → u ≡ v → j ≡ k → mul left (pow u j) ≡ mul left (pow v k)
+power_passed left u v k j e f = ap (λ w. mul left (pow w j)) e ∙ ap (λ i. mul left (pow v i)) f

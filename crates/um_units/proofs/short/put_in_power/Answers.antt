@@ -11,7 +11,7 @@ exact c =
     let s = nth c.args.by.now in
     let k = c.args.term.power in
     let f : FitsSigned w32 c.args.term.power = search rules in
-    ap (λ v. pow v (to_z w32 (of_z w32 k))) c.in-Some.ensures
+    ap (λ v. pow v (to_z w32 (of_z w32 k))) c.in-Some.ensures.put
     ∙ ap (pow (image s c.args.term.atom)) (to_z-of_z w32 k f)
     ∙ power_put s c.args.unit.now c.args.term.atom k c.requires
 
