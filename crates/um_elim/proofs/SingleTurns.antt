@@ -1,6 +1,6 @@
 -- Turns at a variable whose power is 1 or -1: nothing but the variable is left, and it is multiplied by the variable over
 -- the unit.
-use Rattle.std.proofs.Common.{◌≡◌, ℕ, ◌<◌, ◌≤◌, true, false, not, ◌||◌, ℤ, pos, negsuc, ◌+ℤ◌, ◌*ℤ◌, neg_ℤ, nat_abs, to_z, of_z, w32, refl, sym, ap, ◌∙◌, arith}
+use Rattle.std.proofs.Common.{◌≡◌, ℕ, ◌<◌, ◌≤◌, true, false, not, ◌||◌, ℤ, pos, negsuc, ◌+ℤ◌, ◌*ℤ◌, neg_ℤ, nat_abs, to_z, of_z, w32, refl, sym, ap, ◌∙◌, subst, arith}
 use Rattle.std.specs.Prelude.{IsTrue}
 use Rattle.std.specs.Int.{int_div_euclid, int_rem_euclid}
 use Rattle.std.specs.List.{list_any}
@@ -15,11 +15,11 @@ use Rattle.um_units.specs.PowerMap.{PowerMap, power_of, atom, mul, inv, pow, rep
 use Rattle.um_units.specs.Range.{fits}
 use Rattle.um_units.proofs.Integers.{div-rem_euclid, rem_euclid-below}
 use Rattle.um_units.proofs.Equality.{same_unit}
-use Rattle.um_units.proofs.Group.{pow-one, inv-inv, power_of-atom, power_of-inv, power_of-mul, power_of-other_atom, terms-atom}
+use Rattle.um_units.proofs.Group.{mul_comm, mul_assoc, mul-one, mul-inv, pow-one, inv-inv, power_of-atom, power_of-inv, power_of-mul, power_of-other_atom, terms-atom}
 use Rattle.um_units.proofs.InRange.{fits-inv}
 use Rattle.um_elim.specs.declared.turning.Turn.{Turn}
 use Rattle.um_elim.specs.Pivot.{is_base, is_other, has_base, has_other}
-use Rattle.um_elim.specs.Turn.{inverted_if_negative, multiply, quotients, signed, turn, IsTurnOf}
+use Rattle.um_elim.specs.Turn.{inverted_if_negative, is_negative, multiply, quotients, signed, turn, IsTurnOf}
 use Rattle.um_elim.proofs.Cases.{on_test}
 use Rattle.um_elim.proofs.PivotLaws.{is_pivot}
 use Rattle.um_elim.proofs.InRange.{fits-quotients, kept32}
@@ -100,22 +100,42 @@ left_alone m n r h e = same_unit _ _ (λ y. on_test (same_atom (Var m) y)
     none : (c : ℕ) → c < n → c ≡ 0
     none c l = omega (arith, l, h)
 
+single_pivot : (r : PowerMap) (t : Turn) (is : IsTurnOf r t) → nat_abs (power_of r (Var t.variable)) ≡ 1 → nat_abs is.0.power ≡ 1
+single_pivot r t is h =
+    ap nat_abs (sym (is_pivot r is.0 is.1).is) ∙ ap (λ (x : Turn). nat_abs (power_of r (Var x.variable))) (sym is.2) ∙ h
+
 pub single_set : (r : PowerMap) (t : Turn) → IsTurnOf r t → nat_abs (power_of r (Var t.variable)) ≡ 1 → IsSet r t (atom (Var t.variable))
 single_set r t is h =
     let p = is.0 in
-    let found = is_pivot r p is.1 in
     let m = p.variable in
     let n = nat_abs p.power in
     let q = inverted_if_negative p.power r in
-    let at : power_of q (Var m) ≡ pos n = positive_pivot p.power m r found.is in
-    let one : n ≡ 1 = ap nat_abs (sym found.is) ∙ ap (λ (x : Turn). nat_abs (power_of r (Var x.variable))) (sym is.2) ∙ h in
+    let at : power_of q (Var m) ≡ pos n = positive_pivot p.power m r (is_pivot r p is.1).is in
     record {
       is = is;
       remainder_is = sym (ap (λ (x : Turn). replace (multiply x.variable x.by) (signed x.inverted r)) is.2
           ∙ ap (replace (turn m n q)) (signed_inverted p.power r)
-          ∙ left_alone m n q one at
+          ∙ left_alone m n q (single_pivot r t is h) at
           ∙ ap (λ (x : Turn). atom (Var x.variable)) (sym is.2));
     }
+
+-- ---- what the variable is multiplied by, over the variable
+over_itself : (m : ℕ) (u : PowerMap) → mul (mul (atom (Var m)) (inv u)) (inv (atom (Var m))) ≡ inv u
+over_itself m u =
+    let x = atom (Var m) in
+    ap (λ w. mul w (inv x)) (mul_comm x (inv u)) ∙ mul_assoc (inv u) x (inv x) ∙ ap (mul (inv u)) (mul-inv x) ∙ mul-one (inv u)
+
+change_is : (a : ℤ) (m : ℕ) (r : PowerMap) → nat_abs a ≡ 1 → power_of r (Var m) ≡ a → signed (not (is_negative a)) r ≡ mul (quotients m (nat_abs a) (inverted_if_negative a r)) (inv (atom (Var m)))
+change_is (pos n) m r h e =
+    sym (over_itself m r) ∙ ap (λ w. mul w (inv (atom (Var m)))) (quotients_by_one m r (e ∙ ap pos h) ∙ ap (λ k. quotients m k r) (sym h))
+change_is (negsuc n) m r h e =
+    sym (inv-inv r) ∙ sym (over_itself m (inv r))
+    ∙ ap (λ w. mul w (inv (atom (Var m)))) (quotients_by_one m (inv r) (power_of-inv r (Var m) ∙ ap neg_ℤ e ∙ ap pos h) ∙ ap (λ k. quotients m k (inv r)) (sym h))
+
+pub single_change : (r : PowerMap) (t : Turn) → IsTurnOf r t → nat_abs (power_of r (Var t.variable)) ≡ 1 → signed (not t.inverted) r ≡ mul t.by (inv (atom (Var t.variable)))
+single_change r t is h =
+    let p = is.0 in
+    subst (λ (x : Turn). signed (not x.inverted) r ≡ mul x.by (inv (atom (Var x.variable)))) (sym is.2) (change_is p.power p.variable r (single_pivot r t is h) (is_pivot r p is.1).is)
 
 -- in the variable itself stands no other, and no base unit
 pub no_other_in_variable : (m : ℕ) → has_other m (atom (Var m)) ≡ false

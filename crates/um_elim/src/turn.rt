@@ -17,10 +17,10 @@ ghost use Rattle.um_units.specs.Variables.{VariablesBelow};
 
 use crate::ElimStop;
 use crate::index::{SlotList, multiply_holders};
-use crate::replacement::put_in_holders;
+use crate::replacement::{put_in_each, put_in_holders};
 use crate::turning::{Turn, next_turn, turned};
 use std::alloc::Global;
-use um_units::{Atom, Term, Unit};
+use um_units::{Atom, Term, Unit, UnitStop};
 
 /// What is to be done after a turn.
 pub enum Step {
@@ -77,7 +77,6 @@ fn take_single_turn(
     requires indexed { IsIndex units.old.items index.old.items }
     requires variables { VariablesBelow (length units.old.items) r.now }
     requires turn { IsTurnOf r.now turn.now }
-    requires fits { IsTrue (fits turn.now.by) }
     requires single { nat_abs (power_of r.now (Var turn.now.variable)) ≡ 1 }
     ensures outcome { MatchResult result (IsTurn units.old.items r.now units.new.items)
         (StopsTurn units.old.items r.now) }
@@ -85,8 +84,35 @@ fn take_single_turn(
     ensures indexed { OnOk result (IsIndex units.new.items index.new.items) }
     ensures variables { IfOk result (RemainderBelow (length units.old.items)) }
 {
-    put_in_holders(alloc, units, index, turn.variable, &turn.by)?;
+    put_single_turn(alloc, units, index, r, turn)?;
     Ok(Step::Ended)
+}
+
+/// What the turn multiplies the variable by is put for it. Over the variable that is r, where the turn inverts r, and
+/// else the inverse of r.
+fn put_single_turn(
+    alloc: Global,
+    units: &mut Vec<Unit>,
+    index: &mut Vec<SlotList>,
+    r: &Unit,
+    turn: &Turn,
+) -> Result<(), UnitStop>
+    requires indexed { IsIndex units.old.items index.old.items }
+    requires variables { VariablesBelow (length units.old.items) r.now }
+    requires turn { IsTurnOf r.now turn.now }
+    requires single { nat_abs (power_of r.now (Var turn.now.variable)) ≡ 1 }
+    ensures exact { OnOk result (units.new.items
+        ≡ map (replace (substitute turn.now.variable turn.now.by)) units.old.items) }
+    ensures range { RangeUnless result
+        (list_all fits (map (replace (substitute turn.now.variable turn.now.by)) units.old.items)) }
+    ensures indexed { OnOk result (IsIndex units.new.items index.new.items) }
+    ensures slots { length units.new.items ≡ length units.old.items }
+{
+    if turn.inverted {
+        return put_in_each(alloc, units, index, turn.variable, &turn.by, r);
+    }
+    let change = r.inv(alloc)?;
+    put_in_each(alloc, units, index, turn.variable, &turn.by, &change)
 }
 
 /// Whether the power of variable m in the unit is 1 or -1.

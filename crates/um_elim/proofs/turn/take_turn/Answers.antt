@@ -138,8 +138,5 @@ returns-then-has_other_variable-clause-variables c =
 pub take_single_turn-requires-clause-turn : goal.take_single_turn-requires-clause-turn
 take_single_turn-requires-clause-turn c = subst (IsNextTurn c.args.r.now) c.in-Some.is c.in_ok-turn.ensures.next
 
-pub take_single_turn-requires-clause-fits : goal.take_single_turn-requires-clause-fits
-take_single_turn-requires-clause-fits c = c.in_ok-turn.ensures.fits c.in-Some.turn c.in-Some.is
-
 pub take_single_turn-requires-clause-single : goal.take_single_turn-requires-clause-single
 take_single_turn-requires-clause-single c = eqb-true (nat_abs (power_of c.args.r.now (Var c.in-Some.turn.variable))) 1 (sym c.is_single.ensures ∙ c.if-is_single.true)
