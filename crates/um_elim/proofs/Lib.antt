@@ -10,6 +10,7 @@ mod Examples
 pub mod InRange
 mod Changes
 mod SingleTurns
+mod NumberedAlready
 mod TurnSteps
 mod LastTurn
 pub mod Slots
