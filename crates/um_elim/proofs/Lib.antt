@@ -9,6 +9,8 @@ pub mod Rows
 mod Examples
 pub mod InRange
 mod Changes
+mod SingleTurns
+mod NumberedAlready
 mod TurnSteps
 mod LastTurn
 pub mod Slots

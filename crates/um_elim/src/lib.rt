@@ -13,6 +13,7 @@
 #![tactic(auto)]
 
 mod application;
+mod in_order;
 mod index;
 mod numbering;
 mod pivot;

@@ -9,6 +9,7 @@ ghost use Rattle.um_tree.specs.Scheme.{IsNumberedBy, atom_variables, type_variab
 ghost use Rattle.um_elim.specs.Numbering.{by_place, place, renumbered, variable_order, AreRenamedOneForOne, HaveSameInstances};
 ghost use Rattle.um_elim.specs.Order.{placed_term, with_variable, with_variables};
 
+use crate::in_order::numbered_already;
 use indexmap::IndexSet;
 use std::alloc::{AllocError, Global};
 use std::marker::Model;
@@ -37,6 +38,9 @@ pub fn renumber(alloc: Global, types: Types) -> Result<Numbered, NoMemory>
     ensures one_for_one { AreRenamedOneForOne (type_trees types) }
     ensures instances { IfOk result (λ n. HaveSameInstances (type_trees types) (type_trees n.types)) }
 {
+    if let Some(vars) = numbered_already(&types.items) {
+        return Ok(Numbered { types, vars });
+    }
     let mut order = Order::new(alloc);
     let items = renamed_types(alloc, &mut order, &types.items)?;
     Ok(Numbered {

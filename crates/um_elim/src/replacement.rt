@@ -58,7 +58,7 @@ fn put_in_slot(
 
 /// The factor, which doesn't hold variable m, is put for variable m in each unit that holds it, where `change` is the
 /// factor over variable m.
-fn put_in_each(
+pub fn put_in_each(
     alloc: Global,
     units: &mut Vec<Unit>,
     index: &mut Vec<SlotList>,

@@ -1,6 +1,6 @@
 //! One turn of the elimination: what it makes of the unit that a row is turned into, and of the units of the slots.
 
-ghost use Rattle.std.specs.Prelude.{◌≡◌, ◌<◌, ◌<ℤ◌, ◌≤◌, length, map, set, pos, nat_abs, IfOk, OnOk, IfErr, MatchResult, IsTrue, slice_index_or};
+ghost use Rattle.std.specs.Prelude.{◌≡◌, ◌==◌, ◌<◌, ◌<ℤ◌, ◌≤◌, length, map, set, pos, nat_abs, IfOk, OnOk, IfErr, MatchResult, IsTrue, slice_index_or};
 ghost use Rattle.std.proofs.Common.{neg_ℤ};
 ghost use Rattle.std.specs.Int.{int_div_euclid};
 ghost use Rattle.std.specs.List.{list_all, list_any};
@@ -10,17 +10,17 @@ ghost use Rattle.um_units.specs.PowerMap.{PowerMap, one, power_of, replace};
 ghost use Rattle.um_units.specs.Range.{all_in_range, fits, in_range, RangeUnless};
 ghost use Rattle.um_units.specs.declared.UnitStop.TheVariants.{NoMemory};
 ghost use Rattle.um_elim.specs.Pivot.{is_base, is_other};
-ghost use Rattle.um_elim.specs.Turn.{inverted_if_negative, less_quotient, multiply, quotients, substitute};
+ghost use Rattle.um_elim.specs.Turn.{inverted_if_negative, less_quotient, multiply, quotients, substitute, IsTurnOf};
 ghost use Rattle.um_elim.specs.Steps.{IsTurn, RemainderBelow, StopsTurn};
 ghost use Rattle.um_elim.specs.Index.{IsIndex};
 ghost use Rattle.um_units.specs.Variables.{VariablesBelow};
 
 use crate::ElimStop;
 use crate::index::{SlotList, multiply_holders};
-use crate::replacement::put_in_holders;
-use crate::turning::{next_turn, turned};
+use crate::replacement::{put_in_each, put_in_holders};
+use crate::turning::{Turn, next_turn, turned};
 use std::alloc::Global;
-use um_units::{Atom, Term, Unit};
+use um_units::{Atom, Term, Unit, UnitStop};
 
 /// What is to be done after a turn.
 pub enum Step {
@@ -51,6 +51,9 @@ pub fn take_turn(
         }
         return Err(ElimStop::NoSolution);
     };
+    if is_single(r, turn.variable) {
+        return take_single_turn(alloc, units, index, r, &turn);
+    }
     let remainder = turned(alloc, r, &turn)?;
     if has_other_variable(remainder.terms(), turn.variable) {
         multiply_holders(alloc, units, index, turn.variable, &turn.by)?;
@@ -61,6 +64,62 @@ pub fn take_turn(
         return Err(ElimStop::NoSolution);
     }
     Ok(Step::Ended)
+}
+
+/// The turn at a variable whose power in r is 1 or -1: nothing but the variable is left of r, and the row is solved.
+fn take_single_turn(
+    alloc: Global,
+    units: &mut Vec<Unit>,
+    index: &mut Vec<SlotList>,
+    r: &Unit,
+    turn: &Turn,
+) -> Result<Step, ElimStop>
+    requires indexed { IsIndex units.old.items index.old.items }
+    requires variables { VariablesBelow (length units.old.items) r.now }
+    requires turn { IsTurnOf r.now turn.now }
+    requires single { nat_abs (power_of r.now (Var turn.now.variable)) ≡ 1 }
+    ensures outcome { MatchResult result (IsTurn units.old.items r.now units.new.items)
+        (StopsTurn units.old.items r.now) }
+    ensures slots { length units.new.items ≡ length units.old.items }
+    ensures indexed { OnOk result (IsIndex units.new.items index.new.items) }
+    ensures variables { IfOk result (RemainderBelow (length units.old.items)) }
+{
+    put_single_turn(alloc, units, index, r, turn)?;
+    Ok(Step::Ended)
+}
+
+/// What the turn multiplies the variable by is put for it. Over the variable that is r, where the turn inverts r, and
+/// else the inverse of r.
+fn put_single_turn(
+    alloc: Global,
+    units: &mut Vec<Unit>,
+    index: &mut Vec<SlotList>,
+    r: &Unit,
+    turn: &Turn,
+) -> Result<(), UnitStop>
+    requires indexed { IsIndex units.old.items index.old.items }
+    requires variables { VariablesBelow (length units.old.items) r.now }
+    requires turn { IsTurnOf r.now turn.now }
+    requires single { nat_abs (power_of r.now (Var turn.now.variable)) ≡ 1 }
+    ensures exact { OnOk result (units.new.items
+        ≡ map (replace (substitute turn.now.variable turn.now.by)) units.old.items) }
+    ensures range { RangeUnless result
+        (list_all fits (map (replace (substitute turn.now.variable turn.now.by)) units.old.items)) }
+    ensures indexed { OnOk result (IsIndex units.new.items index.new.items) }
+    ensures slots { length units.new.items ≡ length units.old.items }
+{
+    if turn.inverted {
+        return put_in_each(alloc, units, index, turn.variable, &turn.by, r);
+    }
+    let change = r.inv(alloc)?;
+    put_in_each(alloc, units, index, turn.variable, &turn.by, &change)
+}
+
+/// Whether the power of variable m in the unit is 1 or -1.
+fn is_single(unit: &Unit, m: u32) -> bool
+    ensures { result ≡ (nat_abs (power_of unit.now (Var m)) == 1) }
+{
+    unit.power_of(Atom::Var(m)).unsigned_abs() == 1
 }
 
 /// Whether a variable other than m stands in the terms.

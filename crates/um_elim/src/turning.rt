@@ -1,12 +1,13 @@
 //! The turn that a unit asks for, as data.
 
 ghost use Rattle.std.specs.Prelude.{◌≡◌, ◌<ℤ◌, Some, map, pos, nat_abs, IfOk, IsTrue};
+ghost use Rattle.std.proofs.Common.{neg_ℤ};
 ghost use Rattle.um_units.specs.declared.Atom.TheVariants.{Var};
 ghost use Rattle.um_units.specs.PowerMap.{power_of, replace};
 ghost use Rattle.um_units.specs.Range.{all_in_range, fits, in_range, RangeUnless};
 ghost use Rattle.um_elim.specs.declared.turning.Turn.{Turn as TurnData};
 ghost use Rattle.um_elim.specs.Pivot.{pivot};
-ghost use Rattle.um_elim.specs.Turn.{is_negative, signed, less_quotient, multiply, quotients, turn_of, IsNextTurn};
+ghost use Rattle.um_elim.specs.Turn.{inverted_if_negative, is_negative, signed, less_quotient, multiply, quotients, turn_of, IsNextTurn};
 
 use crate::pivot::{Pivot, pivot_of};
 use std::alloc::{AllocError, Global};
@@ -59,14 +60,45 @@ fn turn_at(alloc: Global, unit: &Unit, at: Pivot) -> Result<Turn, AllocError>
     ensures turn { IfOk result (λ turn. turn ≡ turn_of at unit.now) }
     ensures fits { IfOk result (λ turn. IsTrue (fits turn.by)) }
 {
-    let inverted = is_negative(at.power);
-    let positive = signed(alloc, unit, inverted)?;
-    let by = quotients_of(alloc, &positive, at.variable, absolute(at.power))?;
+    let by = factor_at(alloc, unit, at)?;
     Ok(Turn {
         variable: at.variable,
-        inverted,
+        inverted: is_negative(at.power),
         by,
     })
+}
+
+/// What the pivot is multiplied by in its turn.
+fn factor_at(alloc: Global, unit: &Unit, at: Pivot) -> Result<Unit, AllocError>
+    requires fits { IsTrue (fits unit.now) }
+    requires pivot { pivot unit.now ≡ Some at }
+    ensures exact { IfOk result (λ u. u
+        ≡ quotients at.variable (nat_abs at.power) (inverted_if_negative at.power unit.now)) }
+    ensures fits { IfOk result (λ u. IsTrue (fits u)) }
+{
+    if absolute(at.power) == 1 {
+        return variable_over(alloc, unit, at.variable, at.power);
+    }
+    let positive = signed(alloc, unit, is_negative(at.power))?;
+    quotients_of(alloc, &positive, at.variable, absolute(at.power))
+}
+
+/// Variable m over the unit, which is inverted first where the power of m in it is negative. This power is 1 or -1, so
+/// that each quotient is the power that is divided.
+fn variable_over(alloc: Global, unit: &Unit, m: u32, power: i32) -> Result<Unit, AllocError>
+    requires fits { IsTrue (fits unit.now) }
+    requires single { nat_abs power ≡ 1 }
+    requires power { power_of unit.now (Var m) ≡ power }
+    ensures exact { IfOk result (λ u. u ≡ quotients m (nat_abs power) (inverted_if_negative power unit.now)) }
+    ensures fits { IfOk result (λ u. IsTrue (fits u)) }
+{
+    let variable = Unit::atom(alloc, Atom::Var(m))?;
+    let times = negated(power);
+    match variable.mul_pow(alloc, unit, times) {
+        Ok(unit) => Ok(unit),
+        Err(UnitStop::NoMemory) => Err(AllocError),
+        Err(UnitStop::Range) => unreachable!(),
+    }
 }
 
 fn is_negative(power: i32) -> bool
@@ -84,6 +116,13 @@ fn signed(alloc: Global, unit: &Unit, inverted: bool) -> Result<Unit, AllocError
     } else {
         unit.copy(alloc)
     }
+}
+
+fn negated(power: i32) -> i32
+    requires { IsTrue (in_range power) }
+    ensures { result ≡ neg_ℤ power }
+{
+    -power
 }
 
 fn absolute(power: i32) -> i32

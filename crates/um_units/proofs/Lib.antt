@@ -12,3 +12,4 @@ mod MergeLemmas
 mod WideMerge
 mod PowerMerge
 mod ComputedTerms
+mod ShortUnits

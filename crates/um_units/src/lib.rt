@@ -28,6 +28,7 @@ use thiserror::Error;
 
 mod images;
 mod merge;
+mod short;
 mod wide;
 
 use wide::WideTerm;
@@ -216,6 +217,18 @@ impl Unit {
     /// Range comes exactly where a power of the result is out of range, however large powers are on the way. It takes
     /// about n log m steps for m variables for which n terms are put in, and one for each base unit.
     pub fn replace(&self, alloc: Global, by: &[Unit]) -> Result<Unit, UnitStop>
+        ensures exact { IfOk result (λ unit. unit ≡ replace (nth by.now) self.now) }
+        ensures range { RangeUnless result (fits (replace (nth by.now) self.now)) }
+    {
+        match self.terms() {
+            [term] => short::put_in_power(alloc, by, self, *term),
+            [first, second] => short::put_in_pair(alloc, by, self, *first, *second),
+            _ => self.replace_terms(alloc, by),
+        }
+    }
+
+    /// The same, however many terms there are.
+    fn replace_terms(&self, alloc: Global, by: &[Unit]) -> Result<Unit, UnitStop>
         ensures exact { IfOk result (λ unit. unit ≡ replace (nth by.now) self.now) }
         ensures range { RangeUnless result (fits (replace (nth by.now) self.now)) }
     {

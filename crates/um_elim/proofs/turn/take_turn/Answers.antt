@@ -1,10 +1,12 @@
 -- proofs/turn/take_turn/Answers.antt
-use Rattle.std.proofs.Common.{◌≡◌, ◌∙◌, sym, ap, subst, map, true, false, refl}
+use Rattle.std.proofs.Common.{◌≡◌, ◌∙◌, sym, ap, subst, map, nat_abs, true, false, refl}
 use Rattle.std.specs.Prelude.{IsTrue}
 use Rattle.std.specs.List.{list_all, list_any}
+use Rattle.std.proofs.lemmas.Bool.{eqb-true}
 use Rattle.std.proofs.lemmas.Result.{err_from_is_err_and}
+use Rattle.um_units.specs.declared.Atom.TheVariants.{Var}
 use Rattle.um_units.specs.declared.Term.{Term}
-use Rattle.um_units.specs.PowerMap.{replace}
+use Rattle.um_units.specs.PowerMap.{power_of, replace}
 use Rattle.um_units.specs.Range.{fits, IsStopUnless}
 use Rattle.um_elim.specs.Pivot.{is_other, is_base, has_other, has_base}
 use Rattle.um_elim.specs.Turn.{multiply, signed, IsTurnOf, IsNextTurn}
@@ -132,3 +134,9 @@ returns-then-has_other_variable-clause-variables c =
     let t = c.in-Some.turn in
     let is : IsTurnOf c.args.r.now c.in-Some.turn = subst (IsNextTurn c.args.r.now) c.in-Some.is c.in_ok-turn.ensures.next in
     remainder_below _ t.variable t.inverted r t.by c.in_ok-remainder.remainder (factor_below _ r t is c.requires.variables) c.in_ok-remainder.ensures.exact c.requires.variables
+
+pub take_single_turn-requires-clause-turn : goal.take_single_turn-requires-clause-turn
+take_single_turn-requires-clause-turn c = subst (IsNextTurn c.args.r.now) c.in-Some.is c.in_ok-turn.ensures.next
+
+pub take_single_turn-requires-clause-single : goal.take_single_turn-requires-clause-single
+take_single_turn-requires-clause-single c = eqb-true (nat_abs (power_of c.args.r.now (Var c.in-Some.turn.variable))) 1 (sym c.is_single.ensures ∙ c.if-is_single.true)
