@@ -1,6 +1,9 @@
 // What stands inside the open frames, and what a token gives.
+ghost use Rattle.std.specs.Prelude.{◌≡◌};
+
 use crate::operand::Operand;
 use crate::operands::ReadFields;
+use std::mem;
 use um_frac::Frac;
 use um_tree::{Binder, Name};
 
@@ -52,8 +55,19 @@ pub enum Focus {
 /// expression stops before it, and this is what was read, if it is whole.
 #[derive(Drop)]
 pub enum Step {
-    Goes(Focus),
+    Goes,
     Note(u32, Frac),
     Type(u32),
     Stops(Option<Operand>),
+}
+
+impl Focus {
+    /// The token goes on, and this stands inside the frames.
+    pub fn goes(&mut self, next: Focus) -> Step
+        ensures goes { result ≡ Step.Goes }
+        ensures focus { self.new ≡ next }
+    {
+        drop(mem::replace(self, next));
+        Step::Goes
+    }
 }
