@@ -88,7 +88,7 @@ module _ (frames : List Frame) (at : ℕ) (c : Frac) (old : NoteState) (token : 
       → Takes machine_of_expressions greatest_height (InNote frames at c old) token given new
   note_stops_in mid given new t g =
       let e : own_step (InNote frames at c mid) token ≡ step (InNote frames at c old) token =
-          ap (λ f. note_ends frames at c f (expr_token token.kind)) t.1 ∙ ap (λ n. note_goes frames at c n note_ended) (sym t.0) in
+      ap (λ f. note_ends frames at c f (expr_token token.kind)) t.1 ∙ ap (λ n. note_goes frames at c n note_ended) (sym t.0) in
       gives_again (InNote frames at c mid) (InNote frames at c old) (own_step (InNote frames at c mid) token) (step (InNote frames at c old) token) given new refl e g
 
 -- ---- a type
@@ -128,5 +128,5 @@ module _ (frames : List Frame) (at : ℕ) (old : TypeState) (token : Token) wher
       → Takes machine_of_expressions greatest_height (InType frames at old) token given new
   type_stops_in mid given new t g =
       let e : own_step (InType frames at mid) token ≡ step (InType frames at old) token =
-          ap (λ f. type_ends frames at f (expr_token token.kind)) t.1 ∙ ap (λ s. type_goes frames at s type_ended) (sym t.0) in
+      ap (λ f. type_ends frames at f (expr_token token.kind)) t.1 ∙ ap (λ s. type_goes frames at s type_ended) (sym t.0) in
       gives_again (InType frames at mid) (InType frames at old) (own_step (InType frames at mid) token) (step (InType frames at old) token) given new refl e g

@@ -116,8 +116,8 @@ returns-in-Stops c =
       taken =
           IfOk-weaker r (λ t. Gives machine_of_expressions greatest_height now (own_step now c.take.new.token) t new) (λ t. Takes machine_of_expressions greatest_height (inner_state fs old.focus old.inner) token t new)
           (λ t g.
-            subst (λ (i : Inner). Takes machine_of_expressions greatest_height (inner_state fs old.focus i) token t new) (sym c.in-Note.is)
-            (note_stops_in fs c.in-Note.field-0 c.in-Note.field-1 (note_state c.in-Note.note) token mid t new refused (subst (λ (k : Token). Gives machine_of_expressions greatest_height now (own_step now k) t new) same g)))
+          subst (λ (i : Inner). Takes machine_of_expressions greatest_height (inner_state fs old.focus i) token t new) (sym c.in-Note.is)
+          (note_stops_in fs c.in-Note.field-0 c.in-Note.field-1 (note_state c.in-Note.note) token mid t new refused (subst (λ (k : Token). Gives machine_of_expressions greatest_height now (own_step now k) t new) same g)))
           c.take_behind.ensures.taken;
       kept = kept_of r token c.take_behind.new.token (subst (λ (k : Token). OnOk r (c.take_behind.new.token ≡ emptied k)) same c.take_behind.ensures.rest);
     }
@@ -137,8 +137,8 @@ returns-in-Stops-2 c =
       taken =
           IfOk-weaker r (λ t. Gives machine_of_expressions greatest_height now (own_step now c.take-in-Type.new.token) t new) (λ t. Takes machine_of_expressions greatest_height (inner_state fs old.focus old.inner) token t new)
           (λ t g.
-            subst (λ (i : Inner). Takes machine_of_expressions greatest_height (inner_state fs old.focus i) token t new) (sym c.in-Type.is)
-            (type_stops_in fs c.in-Type.field-0 (type_state c.in-Type.ty) token mid t new refused (subst (λ (k : Token). Gives machine_of_expressions greatest_height now (own_step now k) t new) same g)))
+          subst (λ (i : Inner). Takes machine_of_expressions greatest_height (inner_state fs old.focus i) token t new) (sym c.in-Type.is)
+          (type_stops_in fs c.in-Type.field-0 (type_state c.in-Type.ty) token mid t new refused (subst (λ (k : Token). Gives machine_of_expressions greatest_height now (own_step now k) t new) same g)))
           c.take_behind-2.ensures.taken;
       kept = kept_of r token c.take_behind-2.new.token (subst (λ (k : Token). OnOk r (c.take_behind-2.new.token ≡ emptied k)) same c.take_behind-2.ensures.rest);
     }
