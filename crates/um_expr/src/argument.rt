@@ -9,7 +9,7 @@ ghost use Rattle.um_expr.specs.ExprStates.{Simulates, Argued, in_call};
 
 use crate::begin::begin;
 use crate::ending::whole;
-use crate::focus::Step;
+use crate::focus::{Focus, Step};
 use crate::frame::Frame;
 use crate::frames::Frames;
 use crate::node::composite;

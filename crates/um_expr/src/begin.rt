@@ -85,7 +85,7 @@ fn empty_list(frames: &mut Frames, focus: &mut Focus) -> Step
     match frames.pop() {
         Some(Frame::InItem(_, before)) => {
             if no_items(before) {
-                colon_wanted(frames)
+                colon_wanted(frames, focus)
             } else {
                 Step::Stops(None)
             }
@@ -108,7 +108,7 @@ fn begin_mark(
     match symbol {
         Symbol::LeftParen => opened(frames, focus, Frame::InBracket(at)),
         Symbol::LeftBracket => opened(frames, focus, Frame::InItem(at, Operands::empty(alloc))),
-        Symbol::RightBracket => Ok(empty_list(frames)),
+        Symbol::RightBracket => Ok(empty_list(frames, focus)),
         Symbol::LeftBrace => {
             let fields = ReadFields::empty(alloc);
             Ok(focus.goes(Focus::Inside(Expected::FieldName(at, fields))))

@@ -3,6 +3,7 @@ ghost use Rattle.std.specs.Prelude.{◌≡◌, IfOk, None};
 ghost use Rattle.um_tree.specs.RawTree.{binder_syntax};
 ghost use Rattle.um_types.specs.UnitTokens.{unit_token};
 ghost use Rattle.um_types.specs.UnitMachine.{power_in};
+ghost use Rattle.um_expr.specs.declared.focus.Focus.{Focus};
 ghost use Rattle.um_expr.specs.declared.focus.Step.TheVariants.{Goes, Stops};
 ghost use Rattle.um_expr.specs.declared.focus.Focus.TheVariants.{Inside as Within};
 ghost use Rattle.um_expr.specs.declared.focus.Expected.TheVariants as expected;

@@ -1,5 +1,6 @@
 // A sign between operands behind an atom.
 ghost use Rattle.std.specs.Prelude.{◌≡◌, IfOk, None, true};
+ghost use Rattle.um_expr.specs.declared.focus.Focus.{Focus};
 ghost use Rattle.um_expr.specs.declared.focus.Step.TheVariants.{Stops};
 ghost use Rattle.um_expr.specs.ExprKinds.{is_plain_number};
 ghost use Rattle.um_expr.specs.Ranks.{left_limit};
