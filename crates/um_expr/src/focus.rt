@@ -3,7 +3,6 @@ ghost use Rattle.std.specs.Prelude.{◌≡◌};
 
 use crate::operand::Operand;
 use crate::operands::ReadFields;
-use std::mem;
 use um_frac::Frac;
 use um_tree::{Binder, Name};
 
@@ -63,11 +62,12 @@ pub enum Step {
 
 impl Focus {
     /// The token goes on, and this stands inside the frames.
+    #[inline(always)]
     pub fn goes(&mut self, next: Focus) -> Step
         ensures goes { result ≡ Step.Goes }
         ensures focus { self.new ≡ next }
     {
-        drop(mem::replace(self, next));
+        *self = next;
         Step::Goes
     }
 }
