@@ -129,8 +129,8 @@ returns-in-Stops-2 c =
     let fs = frames_of old.frames in
     let mid = type_state c.take-in-Type.new.self in
     let now = InType fs c.in-Type.field-0 mid in
-    let new = expr_state c.take_behind-2.new.self in
-    let r = c.take_behind-2.result in
+    let new = expr_state c.take_behind-in-Stops-2.new.self in
+    let r = c.take_behind-in-Stops-2.result in
     let same = (c.in_ok-take-in-Type.ensures.kept c.in-Stops-2.is) in
     let refused = rw c.in-Stops-2.is at c.in_ok-take-in-Type.ensures.taken in
     record {
@@ -139,6 +139,6 @@ returns-in-Stops-2 c =
           (λ t g.
           subst (λ (i : Inner). Takes machine_of_expressions greatest_height (inner_state fs old.focus i) token t new) (sym c.in-Type.is)
           (type_stops_in fs c.in-Type.field-0 (type_state c.in-Type.ty) token mid t new refused (subst (λ (k : Token). Gives machine_of_expressions greatest_height now (own_step now k) t new) same g)))
-          c.take_behind-2.ensures.taken;
-      kept = kept_of r token c.take_behind-2.new.token (subst (λ (k : Token). OnOk r (c.take_behind-2.new.token ≡ emptied k)) same c.take_behind-2.ensures.rest);
+          c.take_behind-in-Stops-2.ensures.taken;
+      kept = kept_of r token c.take_behind-in-Stops-2.new.token (subst (λ (k : Token). OnOk r (c.take_behind-in-Stops-2.new.token ≡ emptied k)) same c.take_behind-in-Stops-2.ensures.rest);
     }
