@@ -229,8 +229,8 @@ pub fn type_ends(
     }
 }
 
-// One token more, and what it is to expressions.
-fn act(
+// One token more, where what is in focus is moved out.
+fn act_moved(
     alloc: Global,
     frames: &mut Frames,
     focus: &mut Focus,
@@ -254,6 +254,24 @@ fn act(
             token.glued,
         ),
         Focus::Inside(place) => inside(alloc, frames, focus, place, kind, token),
+    }
+}
+
+// One token more, and what it is to expressions. Where an operand is wanted, nothing is moved.
+fn act(
+    alloc: Global,
+    frames: &mut Frames,
+    focus: &mut Focus,
+    kind: ExprToken,
+    token: &Token,
+) -> Result<Step, AllocError>
+    ensures { IfOk result (λ s. Simulates (finish (state_of (frames_of frames.old) focus.old)) (frames_of frames.new) focus.new s (act (state_of (frames_of frames.old) focus.old) kind token.now.start token.now.glued token.now.kind)) }
+{
+    match focus {
+        Focus::Wanted => begin(alloc, frames, focus, kind, token.start),
+        Focus::Read(_) | Focus::Power(_) | Focus::Greater(_, _) | Focus::Inside(_) => act_moved(
+            alloc, frames, focus, kind, token,
+        ),
     }
 }
 
