@@ -3,7 +3,6 @@ use Rattle.std.proofs.lemmas.Result.{IfOk-weaker}
 use Rattle.um_syntax.specs.declared.token.Token.{Token}
 use Rattle.um_syntax.specs.Emptied.{emptied}
 use Rattle.um_reader.specs.Takes.{Gives, Takes}
-use Rattle.um_reader.specs.declared.taken.Taken.{Taken}
 use Rattle.um_reader.specs.declared.taken.Taken.TheVariants as taken
 use Rattle.um_types.specs.UnitStops.{greatest_height}
 use Rattle.um_types.specs.NoteView.{note_state}
