@@ -6,6 +6,7 @@ use Rattle.um_tree.specs.declared.expression.Arith.TheVariants as arith_sign
 use Rattle.um_expr.specs.declared.infix.Infix.{Infix}
 use Rattle.um_expr.specs.declared.infix.Infix.TheVariants as between
 use Rattle.um_expr.specs.declared.operand.Operand.{Operand}
+use Rattle.um_expr.specs.declared.focus.Focus.{Focus}
 use Rattle.um_expr.specs.declared.focus.Step.TheVariants as step
 use Rattle.um_expr.specs.Ranks.{infix_rank, left_limit}
 use Rattle.um_expr.specs.ExprOperands.{operand_expr}
@@ -45,14 +46,14 @@ limit_low (between.Arith arith_sign.Mul) = omega arith
 limit_low (between.Arith arith_sign.Div) = omega arith
 
 -- a sign that may not stand here
-pub sign_refused : (sign : Infix) (at limit : ℕ) (frames now new : List Frame) (t u : ExprSyntax) (o : Option Operand) → limit ≤ 9 → Have now u ≡ reduce limit frames t
-    → top_bound now ≤ infix_rank sign → option_map operand_expr o ≡ finish (Have now u) → Simulates (finish (Have frames t)) new (step.Stops o) (infix_after sign at (reduce limit frames t))
-sign_refused sign at limit frames now new t u o le e high found =
+pub sign_refused : (sign : Infix) (at limit : ℕ) (frames now new : List Frame) (inside : Focus) (t u : ExprSyntax) (o : Option Operand) → limit ≤ 9 → Have now u ≡ reduce limit frames t
+    → top_bound now ≤ infix_rank sign → option_map operand_expr o ≡ finish (Have now u) → Simulates (finish (Have frames t)) new inside (step.Stops o) (infix_after sign at (reduce limit frames t))
+sign_refused sign at limit frames now new inside t u o le e high found =
     let no : infix_after sign at (Have now u) ≡ Refused = rw le-ltb refl in
     (ap (infix_after sign at) (sym e) ∙ no, found ∙ found_alike limit frames now t u le e)
 
-pub greater_refused : (at : ℕ) (frames now new : List Frame) (t u : ExprSyntax) (o : Option Operand) → Have now u ≡ reduce 5 frames t
-    → top_bound now ≤ 6 → option_map operand_expr o ≡ finish (Have now u) → Simulates (finish (Have frames t)) new (step.Stops o) (greater_after at (reduce 5 frames t))
-greater_refused at frames now new t u o e high found =
+pub greater_refused : (at : ℕ) (frames now new : List Frame) (inside : Focus) (t u : ExprSyntax) (o : Option Operand) → Have now u ≡ reduce 5 frames t
+    → top_bound now ≤ 6 → option_map operand_expr o ≡ finish (Have now u) → Simulates (finish (Have frames t)) new inside (step.Stops o) (greater_after at (reduce 5 frames t))
+greater_refused at frames now new inside t u o e high found =
     let no : greater_after at (Have now u) ≡ Refused = rw le-ltb refl in
     (ap (greater_after at) (sym e) ∙ no, found ∙ found_alike 5 frames now t u (omega arith) e)

@@ -81,12 +81,13 @@ focus_height (focus.Power t) = expr_height (operand_expr t)
 focus_height (focus.Greater at left) = max (expr_height (operand_expr left)) 1 + 1
 focus_height (focus.Inside p) = expected_least (view_expected p)
 
--- What a step gives: the next state; or, where the token is refused, the expression before it, if one is whole there.
-abbrev pub Simulates : Option ExprSyntax → List Frame → Step → State → Type 0
-Simulates found frames (step.Goes now) new = new ≡ state_of frames now
-Simulates found frames (step.Note at c) new = new ≡ InNote frames at c NeedNote
-Simulates found frames (step.Type at) new = new ≡ InType frames at (NeedType 0)
-Simulates found frames (step.Stops t) new = (new ≡ Refused) × (option_map operand_expr t ≡ found)
+-- What a step gives: the next state, by the frames and what stands inside them; or, where the token is refused, the
+-- expression before it, if one is whole there.
+abbrev pub Simulates : Option ExprSyntax → List Frame → Focus → Step → State → Type 0
+Simulates found frames now step.Goes new = new ≡ state_of frames now
+Simulates found frames now (step.Note at c) new = new ≡ InNote frames at c NeedNote
+Simulates found frames now (step.Type at) new = new ≡ InType frames at (NeedType 0)
+Simulates found frames now (step.Stops t) new = (new ≡ Refused) × (option_map operand_expr t ≡ found)
 
 -- the innermost frame was taken off if it needs no token to end up to this rank
 abbrev pub Ended : ℕ → List Frame → Option Open → List Frame → Type 0

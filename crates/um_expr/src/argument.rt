@@ -9,7 +9,7 @@ ghost use Rattle.um_expr.specs.ExprStates.{Simulates, Argued, in_call};
 
 use crate::begin::begin;
 use crate::ending::whole;
-use crate::focus::Step;
+use crate::focus::{Focus, Step};
 use crate::frame::Frame;
 use crate::frames::Frames;
 use crate::node::composite;
@@ -107,15 +107,16 @@ fn argument(
 pub fn begin_argument(
     alloc: Global,
     frames: &mut Frames,
+    focus: &mut Focus,
     operand: Operand,
     kind: ExprToken,
     at: u32,
 ) -> Result<Step, AllocError>
     requires { begins_atom kind ≡ true }
-    ensures { IfOk result (λ s. Simulates (finish (Have (frames_of frames.old) (operand_expr operand))) (frames_of frames.new) s (begin_in (argument (frames_of frames.old) (operand_expr operand)) kind at)) }
+    ensures { IfOk result (λ s. Simulates (finish (Have (frames_of frames.old) (operand_expr operand))) (frames_of frames.new) focus.new s (begin_in (argument (frames_of frames.old) (operand_expr operand)) kind at)) }
 {
     match argument(alloc, frames, operand)? {
-        None => begin(alloc, frames, kind, at),
+        None => begin(alloc, frames, focus, kind, at),
         Some(operand) => Ok(Step::Stops(whole(alloc, frames, operand)?)),
     }
 }

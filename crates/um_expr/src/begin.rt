@@ -20,19 +20,24 @@ use um_syntax::{Keyword, Symbol};
 use um_tree::{Arith, Sign};
 
 /// A form is open behind the token.
-pub fn opened(frames: &mut Frames, frame: Frame) -> Result<Step, AllocError>
-    ensures { IfOk result (λ s. Simulates None (frames_of frames.new) s (Need (view_frame frame ∷ frames_of frames.old))) }
+pub fn opened(frames: &mut Frames, focus: &mut Focus, frame: Frame) -> Result<Step, AllocError>
+    ensures { IfOk result (λ s. Simulates None (frames_of frames.new) focus.new s (Need (view_frame frame ∷ frames_of frames.old))) }
 {
     frames.push(frame)?;
-    Ok(Step::Goes(Focus::Wanted))
+    Ok(focus.goes(Focus::Wanted))
 }
 
 // A form of this rank is open behind the token, where it may stand.
-fn open_if(frames: &mut Frames, rank: u8, frame: Frame) -> Result<Step, AllocError>
-    ensures { IfOk result (λ s. Simulates None (frames_of frames.new) s (if_may (frames_of frames.old) rank (Need (view_frame frame ∷ frames_of frames.old)))) }
+fn open_if(
+    frames: &mut Frames,
+    focus: &mut Focus,
+    rank: u8,
+    frame: Frame,
+) -> Result<Step, AllocError>
+    ensures { IfOk result (λ s. Simulates None (frames_of frames.new) focus.new s (if_may (frames_of frames.old) rank (Need (view_frame frame ∷ frames_of frames.old)))) }
 {
     if rank < frames.bound() {
-        opened(frames, frame)
+        opened(frames, focus, frame)
     } else {
         Ok(refuse_frame(frame))
     }
@@ -63,24 +68,24 @@ fn no_items(before: Operands) -> bool
 }
 
 // Behind `[` `]`: the brackets around the list were just opened.
-fn colon_wanted(frames: &mut Frames) -> Step
-    ensures { Simulates None (frames_of frames.new) result (bracket_empty (frames_of frames.old)) }
+fn colon_wanted(frames: &mut Frames, focus: &mut Focus) -> Step
+    ensures { Simulates None (frames_of frames.new) focus.new result (bracket_empty (frames_of frames.old)) }
 {
     match frames.pop() {
-        Some(Frame::InBracket(at)) => Step::Goes(Focus::Inside(Expected::NilColon(at))),
+        Some(Frame::InBracket(at)) => focus.goes(Focus::Inside(Expected::NilColon(at))),
         Some(other) => refuse_frame(other),
         None => Step::Stops(None),
     }
 }
 
 // `]` where an operand is wanted.
-fn empty_list(frames: &mut Frames) -> Step
-    ensures { Simulates None (frames_of frames.new) result (empty_list (frames_of frames.old)) }
+fn empty_list(frames: &mut Frames, focus: &mut Focus) -> Step
+    ensures { Simulates None (frames_of frames.new) focus.new result (empty_list (frames_of frames.old)) }
 {
     match frames.pop() {
         Some(Frame::InItem(_, before)) => {
             if no_items(before) {
-                colon_wanted(frames)
+                colon_wanted(frames, focus)
             } else {
                 Step::Stops(None)
             }
@@ -94,47 +99,58 @@ fn empty_list(frames: &mut Frames) -> Step
 fn begin_mark(
     alloc: Global,
     frames: &mut Frames,
+    focus: &mut Focus,
     symbol: Symbol,
     at: u32,
 ) -> Result<Step, AllocError>
-    ensures { IfOk result (λ s. Simulates None (frames_of frames.new) s (begin (frames_of frames.old) (mark symbol) at)) }
+    ensures { IfOk result (λ s. Simulates None (frames_of frames.new) focus.new s (begin (frames_of frames.old) (mark symbol) at)) }
 {
     match symbol {
-        Symbol::LeftParen => opened(frames, Frame::InBracket(at)),
-        Symbol::LeftBracket => opened(frames, Frame::InItem(at, Operands::empty(alloc))),
-        Symbol::RightBracket => Ok(empty_list(frames)),
+        Symbol::LeftParen => opened(frames, focus, Frame::InBracket(at)),
+        Symbol::LeftBracket => opened(frames, focus, Frame::InItem(at, Operands::empty(alloc))),
+        Symbol::RightBracket => Ok(empty_list(frames, focus)),
         Symbol::LeftBrace => {
             let fields = ReadFields::empty(alloc);
-            Ok(Step::Goes(Focus::Inside(Expected::FieldName(at, fields))))
+            Ok(focus.goes(Focus::Inside(Expected::FieldName(at, fields))))
         }
         _ => Ok(Step::Stops(None)),
     }
 }
 
 // A reserved word where an operand is wanted.
-fn begin_word(frames: &mut Frames, keyword: Keyword, at: u32) -> Result<Step, AllocError>
-    ensures { IfOk result (λ s. Simulates None (frames_of frames.new) s (begin (frames_of frames.old) (word keyword) at)) }
+fn begin_word(
+    frames: &mut Frames,
+    focus: &mut Focus,
+    keyword: Keyword,
+    at: u32,
+) -> Result<Step, AllocError>
+    ensures { IfOk result (λ s. Simulates None (frames_of frames.new) focus.new s (begin (frames_of frames.old) (word keyword) at)) }
 {
     match keyword {
         Keyword::Let => Ok(if frames.bound() > 9 {
-            Step::Goes(Focus::Inside(Expected::LetBinder(at)))
+            focus.goes(Focus::Inside(Expected::LetBinder(at)))
         } else {
             Step::Stops(None)
         }),
-        Keyword::If => open_if(frames, 9, Frame::InTest(at)),
-        Keyword::Match => open_if(frames, 9, Frame::InMatched(at)),
-        Keyword::Not => open_if(frames, 1, Frame::InNot(at)),
-        Keyword::Pown => open_if(frames, 1, Frame::InPown(at)),
+        Keyword::If => open_if(frames, focus, 9, Frame::InTest(at)),
+        Keyword::Match => open_if(frames, focus, 9, Frame::InMatched(at)),
+        Keyword::Not => open_if(frames, focus, 1, Frame::InNot(at)),
+        Keyword::Pown => open_if(frames, focus, 1, Frame::InPown(at)),
         _ => Ok(Step::Stops(None)),
     }
 }
 
 // A sign between operands where an operand is wanted: `-` alone may stand there.
-fn begin_operator(frames: &mut Frames, sign: Infix, at: u32) -> Result<Step, AllocError>
-    ensures { IfOk result (λ s. Simulates None (frames_of frames.new) s (begin (frames_of frames.old) (operator sign) at)) }
+fn begin_operator(
+    frames: &mut Frames,
+    focus: &mut Focus,
+    sign: Infix,
+    at: u32,
+) -> Result<Step, AllocError>
+    ensures { IfOk result (λ s. Simulates None (frames_of frames.new) focus.new s (begin (frames_of frames.old) (operator sign) at)) }
 {
     match sign {
-        Infix::Arith(Arith::Sub) => open_if(frames, 2, Frame::InNegate(at)),
+        Infix::Arith(Arith::Sub) => open_if(frames, focus, 2, Frame::InNegate(at)),
         _ => Ok(Step::Stops(None)),
     }
 }
@@ -143,22 +159,28 @@ fn begin_operator(frames: &mut Frames, sign: Infix, at: u32) -> Result<Step, All
 pub fn begin(
     alloc: Global,
     frames: &mut Frames,
+    focus: &mut Focus,
     kind: ExprToken,
     at: u32,
 ) -> Result<Step, AllocError>
-    ensures { IfOk result (λ s. Simulates None (frames_of frames.new) s (begin (frames_of frames.old) kind at)) }
+    ensures { IfOk result (λ s. Simulates None (frames_of frames.new) focus.new s (begin (frames_of frames.old) kind at)) }
 {
     match kind {
-        ExprToken::Name(name) => Ok(Step::Goes(Focus::Read(Operand::name(alloc, at, name)?))),
+        ExprToken::Name(name) => {
+            let operand = Operand::name(alloc, at, name)?;
+            Ok(focus.goes(Focus::Read(operand)))
+        }
         ExprToken::Number(value) => {
-            Ok(Step::Goes(Focus::Read(Operand::number(alloc, at, value, None)?)))
-        },
+            let operand = Operand::number(alloc, at, value, None)?;
+            Ok(focus.goes(Focus::Read(operand)))
+        }
         ExprToken::Truth(value) => {
-            Ok(Step::Goes(Focus::Read(Operand::truth(alloc, at, value)?)))
-        },
-        ExprToken::Mark(symbol) => begin_mark(alloc, frames, symbol, at),
-        ExprToken::Word(keyword) => begin_word(frames, keyword, at),
-        ExprToken::Operator(sign) => begin_operator(frames, sign, at),
+            let operand = Operand::truth(alloc, at, value)?;
+            Ok(focus.goes(Focus::Read(operand)))
+        }
+        ExprToken::Mark(symbol) => begin_mark(alloc, frames, focus, symbol, at),
+        ExprToken::Word(keyword) => begin_word(frames, focus, keyword, at),
+        ExprToken::Operator(sign) => begin_operator(frames, focus, sign, at),
         ExprToken::Variable(_) | ExprToken::Hole => Ok(Step::Stops(None)),
     }
 }
@@ -167,19 +189,20 @@ pub fn begin(
 pub fn after_greater(
     alloc: Global,
     frames: &mut Frames,
+    focus: &mut Focus,
     place: u32,
     left: Operand,
     kind: ExprToken,
     at: u32,
     glued: bool,
 ) -> Result<Step, AllocError>
-    ensures { IfOk result (λ s. Simulates None (frames_of frames.new) s (after_greater (frames_of frames.old) place (operand_expr left) kind at glued)) }
+    ensures { IfOk result (λ s. Simulates None (frames_of frames.new) focus.new s (after_greater (frames_of frames.old) place (operand_expr left) kind at glued)) }
 {
     match kind {
         ExprToken::Operator(Infix::Compare(Sign::Eq)) => {
             let sign = Infix::Compare(Sign::Ge);
             if glued {
-                opened(frames, Frame::InRight(place, sign, left))
+                opened(frames, focus, Frame::InRight(place, sign, left))
             } else {
                 drop(left);
                 Ok(Step::Stops(None))
@@ -188,7 +211,7 @@ pub fn after_greater(
         other => {
             let sign = Infix::Compare(Sign::Gt);
             frames.push(Frame::InRight(place, sign, left))?;
-            begin(alloc, frames, other, at)
+            begin(alloc, frames, focus, other, at)
         }
     }
 }

@@ -26,11 +26,20 @@ pub fn refuse(frame: Frame, inner: Operand) -> Step
 }
 
 // `)`
-fn close(alloc: Global, frames: &Frames, frame: Frame, inner: Operand) -> Result<Step, AllocError>
-    ensures { IfOk result (λ s. Simulates None (frames_of frames.now) s (close_after (Have (view_frame frame ∷ frames_of frames.now) (operand_expr inner)))) }
+fn close(
+    alloc: Global,
+    frames: &Frames,
+    focus: &mut Focus,
+    frame: Frame,
+    inner: Operand,
+) -> Result<Step, AllocError>
+    ensures { IfOk result (λ s. Simulates None (frames_of frames.now) focus.new s (close_after (Have (view_frame frame ∷ frames_of frames.now) (operand_expr inner)))) }
 {
     match frame {
-        Frame::InBracket(at) => Ok(Step::Goes(Focus::Read(inner.bracket(alloc, at)?))),
+        Frame::InBracket(at) => {
+            let operand = inner.bracket(alloc, at)?;
+            Ok(focus.goes(Focus::Read(operand)))
+        }
         other => Ok(refuse(other, inner)),
     }
 }
@@ -39,15 +48,17 @@ fn close(alloc: Global, frames: &Frames, frame: Frame, inner: Operand) -> Result
 fn close_list(
     alloc: Global,
     frames: &Frames,
+    focus: &mut Focus,
     frame: Frame,
     inner: Operand,
 ) -> Result<Step, AllocError>
-    ensures { IfOk result (λ s. Simulates None (frames_of frames.now) s (list_after (Have (view_frame frame ∷ frames_of frames.now) (operand_expr inner)))) }
+    ensures { IfOk result (λ s. Simulates None (frames_of frames.now) focus.new s (list_after (Have (view_frame frame ∷ frames_of frames.now) (operand_expr inner)))) }
 {
     match frame {
         Frame::InItem(at, before) => {
             let items = before.with(inner)?;
-            Ok(Step::Goes(Focus::Read(items.list(alloc, at)?)))
+            let operand = items.list(alloc, at)?;
+            Ok(focus.goes(Focus::Read(operand)))
         }
         other => Ok(refuse(other, inner)),
     }
@@ -57,80 +68,102 @@ fn close_list(
 fn close_record(
     alloc: Global,
     frames: &Frames,
+    focus: &mut Focus,
     frame: Frame,
     inner: Operand,
 ) -> Result<Step, AllocError>
-    ensures { IfOk result (λ s. Simulates None (frames_of frames.now) s (record_after (Have (view_frame frame ∷ frames_of frames.now) (operand_expr inner)))) }
+    ensures { IfOk result (λ s. Simulates None (frames_of frames.now) focus.new s (record_after (Have (view_frame frame ∷ frames_of frames.now) (operand_expr inner)))) }
 {
     match frame {
         Frame::InField(at, before, place, name) => {
             let fields = before.with(place, name, inner)?;
-            Ok(Step::Goes(Focus::Read(fields.whole(alloc, at)?)))
+            let operand = fields.whole(alloc, at)?;
+            Ok(focus.goes(Focus::Read(operand)))
         }
         other => Ok(refuse(other, inner)),
     }
 }
 
 // `;`
-fn semicolon(frames: &mut Frames, frame: Frame, inner: Operand) -> Result<Step, AllocError>
-    ensures { IfOk result (λ s. Simulates None (frames_of frames.new) s (semi_after (Have (view_frame frame ∷ frames_of frames.old) (operand_expr inner)))) }
+fn semicolon(
+    frames: &mut Frames,
+    focus: &mut Focus,
+    frame: Frame,
+    inner: Operand,
+) -> Result<Step, AllocError>
+    ensures { IfOk result (λ s. Simulates None (frames_of frames.new) focus.new s (semi_after (Have (view_frame frame ∷ frames_of frames.old) (operand_expr inner)))) }
 {
     match frame {
-        Frame::InItem(at, before) => opened(frames, Frame::InItem(at, before.with(inner)?)),
+        Frame::InItem(at, before) => opened(frames, focus, Frame::InItem(at, before.with(inner)?)),
         Frame::InField(at, before, place, name) => {
             let fields = before.with(place, name, inner)?;
-            Ok(Step::Goes(Focus::Inside(Expected::FieldName(at, fields))))
+            Ok(focus.goes(Focus::Inside(Expected::FieldName(at, fields))))
         }
         other => Ok(refuse(other, inner)),
     }
 }
 
 // `in`
-fn body(frames: &mut Frames, frame: Frame, inner: Operand) -> Result<Step, AllocError>
-    ensures { IfOk result (λ s. Simulates None (frames_of frames.new) s (in_after (Have (view_frame frame ∷ frames_of frames.old) (operand_expr inner)))) }
+fn body(
+    frames: &mut Frames,
+    focus: &mut Focus,
+    frame: Frame,
+    inner: Operand,
+) -> Result<Step, AllocError>
+    ensures { IfOk result (λ s. Simulates None (frames_of frames.new) focus.new s (in_after (Have (view_frame frame ∷ frames_of frames.old) (operand_expr inner)))) }
 {
     match frame {
-        Frame::InValue(at, x) => opened(frames, Frame::InBody(at, x, inner)),
+        Frame::InValue(at, x) => opened(frames, focus, Frame::InBody(at, x, inner)),
         other => Ok(refuse(other, inner)),
     }
 }
 
 // `then`
-fn first_branch(frames: &mut Frames, frame: Frame, inner: Operand) -> Result<Step, AllocError>
-    ensures { IfOk result (λ s. Simulates None (frames_of frames.new) s (then_after (Have (view_frame frame ∷ frames_of frames.old) (operand_expr inner)))) }
+fn first_branch(
+    frames: &mut Frames,
+    focus: &mut Focus,
+    frame: Frame,
+    inner: Operand,
+) -> Result<Step, AllocError>
+    ensures { IfOk result (λ s. Simulates None (frames_of frames.new) focus.new s (then_after (Have (view_frame frame ∷ frames_of frames.old) (operand_expr inner)))) }
 {
     match frame {
-        Frame::InTest(at) => opened(frames, Frame::InThen(at, inner)),
+        Frame::InTest(at) => opened(frames, focus, Frame::InThen(at, inner)),
         other => Ok(refuse(other, inner)),
     }
 }
 
 // `else`
-fn second_branch(frames: &mut Frames, frame: Frame, inner: Operand) -> Result<Step, AllocError>
-    ensures { IfOk result (λ s. Simulates None (frames_of frames.new) s (else_after (Have (view_frame frame ∷ frames_of frames.old) (operand_expr inner)))) }
+fn second_branch(
+    frames: &mut Frames,
+    focus: &mut Focus,
+    frame: Frame,
+    inner: Operand,
+) -> Result<Step, AllocError>
+    ensures { IfOk result (λ s. Simulates None (frames_of frames.new) focus.new s (else_after (Have (view_frame frame ∷ frames_of frames.old) (operand_expr inner)))) }
 {
     match frame {
-        Frame::InThen(at, test) => opened(frames, Frame::InElse(at, test, inner)),
+        Frame::InThen(at, test) => opened(frames, focus, Frame::InElse(at, test, inner)),
         other => Ok(refuse(other, inner)),
     }
 }
 
 // `with`
-fn arms(frames: &Frames, frame: Frame, inner: Operand) -> Step
-    ensures { Simulates None (frames_of frames.now) result (with_after (Have (view_frame frame ∷ frames_of frames.now) (operand_expr inner))) }
+fn arms(frames: &Frames, focus: &mut Focus, frame: Frame, inner: Operand) -> Step
+    ensures { Simulates None (frames_of frames.now) focus.new result (with_after (Have (view_frame frame ∷ frames_of frames.now) (operand_expr inner))) }
 {
     match frame {
-        Frame::InMatched(at) => Step::Goes(Focus::Inside(Expected::ArmBegin(at, inner))),
+        Frame::InMatched(at) => focus.goes(Focus::Inside(Expected::ArmBegin(at, inner))),
         other => refuse(other, inner),
     }
 }
 
 // `|`
-fn full_arm(frames: &Frames, frame: Frame, inner: Operand) -> Step
-    ensures { Simulates None (frames_of frames.now) result (bar_after (Have (view_frame frame ∷ frames_of frames.now) (operand_expr inner))) }
+fn full_arm(frames: &Frames, focus: &mut Focus, frame: Frame, inner: Operand) -> Step
+    ensures { Simulates None (frames_of frames.now) focus.new result (bar_after (Have (view_frame frame ∷ frames_of frames.now) (operand_expr inner))) }
 {
     match frame {
-        Frame::InEmptyArm(at, list) => Step::Goes(Focus::Inside(Expected::HeadBinder(
+        Frame::InEmptyArm(at, list) => focus.goes(Focus::Inside(Expected::HeadBinder(
             at, list, inner,
         ))),
         other => refuse(other, inner),
@@ -141,18 +174,19 @@ fn full_arm(frames: &Frames, frame: Frame, inner: Operand) -> Step
 fn end_frame_by_mark(
     alloc: Global,
     frames: &mut Frames,
+    focus: &mut Focus,
     frame: Frame,
     inner: Operand,
     symbol: Symbol,
 ) -> Result<Step, AllocError>
-    ensures { IfOk result (λ s. Simulates None (frames_of frames.new) s (mark_ends symbol (Have (view_frame frame ∷ frames_of frames.old) (operand_expr inner)))) }
+    ensures { IfOk result (λ s. Simulates None (frames_of frames.new) focus.new s (mark_ends symbol (Have (view_frame frame ∷ frames_of frames.old) (operand_expr inner)))) }
 {
     match symbol {
-        Symbol::RightParen => close(alloc, frames, frame, inner),
-        Symbol::RightBracket => close_list(alloc, frames, frame, inner),
-        Symbol::RightBrace => close_record(alloc, frames, frame, inner),
-        Symbol::Semicolon => semicolon(frames, frame, inner),
-        Symbol::Bar => Ok(full_arm(frames, frame, inner)),
+        Symbol::RightParen => close(alloc, frames, focus, frame, inner),
+        Symbol::RightBracket => close_list(alloc, frames, focus, frame, inner),
+        Symbol::RightBrace => close_record(alloc, frames, focus, frame, inner),
+        Symbol::Semicolon => semicolon(frames, focus, frame, inner),
+        Symbol::Bar => Ok(full_arm(frames, focus, frame, inner)),
         _ => Ok(refuse(frame, inner)),
     }
 }
@@ -161,14 +195,15 @@ fn end_frame_by_mark(
 pub fn end_by_mark(
     alloc: Global,
     frames: &mut Frames,
+    focus: &mut Focus,
     operand: Operand,
     symbol: Symbol,
 ) -> Result<Step, AllocError>
-    ensures { IfOk result (λ s. Simulates (finish (Have (frames_of frames.old) (operand_expr operand))) (frames_of frames.new) s (mark_ends symbol (reduce 9 (frames_of frames.old) (operand_expr operand)))) }
+    ensures { IfOk result (λ s. Simulates (finish (Have (frames_of frames.old) (operand_expr operand))) (frames_of frames.new) focus.new s (mark_ends symbol (reduce 9 (frames_of frames.old) (operand_expr operand)))) }
 {
     let inner = ended(alloc, frames, 9, operand)?;
     match frames.pop() {
-        Some(frame) => end_frame_by_mark(alloc, frames, frame, inner, symbol),
+        Some(frame) => end_frame_by_mark(alloc, frames, focus, frame, inner, symbol),
         None => Ok(Step::Stops(Some(inner))),
     }
 }
@@ -176,17 +211,18 @@ pub fn end_by_mark(
 // The reserved word goes on the frame, whose last operand is whole.
 fn end_frame_by_word(
     frames: &mut Frames,
+    focus: &mut Focus,
     frame: Frame,
     inner: Operand,
     keyword: Keyword,
 ) -> Result<Step, AllocError>
-    ensures { IfOk result (λ s. Simulates None (frames_of frames.new) s (word_ends keyword (Have (view_frame frame ∷ frames_of frames.old) (operand_expr inner)))) }
+    ensures { IfOk result (λ s. Simulates None (frames_of frames.new) focus.new s (word_ends keyword (Have (view_frame frame ∷ frames_of frames.old) (operand_expr inner)))) }
 {
     match keyword {
-        Keyword::In => body(frames, frame, inner),
-        Keyword::Then => first_branch(frames, frame, inner),
-        Keyword::Else => second_branch(frames, frame, inner),
-        Keyword::With => Ok(arms(frames, frame, inner)),
+        Keyword::In => body(frames, focus, frame, inner),
+        Keyword::Then => first_branch(frames, focus, frame, inner),
+        Keyword::Else => second_branch(frames, focus, frame, inner),
+        Keyword::With => Ok(arms(frames, focus, frame, inner)),
         _ => Ok(refuse(frame, inner)),
     }
 }
@@ -195,14 +231,15 @@ fn end_frame_by_word(
 pub fn end_by_word(
     alloc: Global,
     frames: &mut Frames,
+    focus: &mut Focus,
     operand: Operand,
     keyword: Keyword,
 ) -> Result<Step, AllocError>
-    ensures { IfOk result (λ s. Simulates (finish (Have (frames_of frames.old) (operand_expr operand))) (frames_of frames.new) s (word_ends keyword (reduce 9 (frames_of frames.old) (operand_expr operand)))) }
+    ensures { IfOk result (λ s. Simulates (finish (Have (frames_of frames.old) (operand_expr operand))) (frames_of frames.new) focus.new s (word_ends keyword (reduce 9 (frames_of frames.old) (operand_expr operand)))) }
 {
     let inner = ended(alloc, frames, 9, operand)?;
     match frames.pop() {
-        Some(frame) => end_frame_by_word(frames, frame, inner, keyword),
+        Some(frame) => end_frame_by_word(frames, focus, frame, inner, keyword),
         None => Ok(Step::Stops(Some(inner))),
     }
 }

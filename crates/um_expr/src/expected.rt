@@ -3,6 +3,7 @@ ghost use Rattle.std.specs.Prelude.{◌≡◌, IfOk, None};
 ghost use Rattle.um_tree.specs.RawTree.{binder_syntax};
 ghost use Rattle.um_types.specs.UnitTokens.{unit_token};
 ghost use Rattle.um_types.specs.UnitMachine.{power_in};
+ghost use Rattle.um_expr.specs.declared.focus.Focus.{Focus};
 ghost use Rattle.um_expr.specs.declared.focus.Step.TheVariants.{Goes, Stops};
 ghost use Rattle.um_expr.specs.declared.focus.Focus.TheVariants.{Inside as Within};
 ghost use Rattle.um_expr.specs.declared.focus.Expected.TheVariants as expected;
@@ -50,8 +51,8 @@ fn refuse_behind_fields(kind: ExprToken, before: ReadFields) -> Step
 }
 
 // Behind `let`
-fn let_binder(frames: &Frames, at: u32, kind: ExprToken, token: &Token) -> Step
-    ensures { Simulates None (frames_of frames.now) result (inside (frames_of frames.now) (LetBinder at) kind token.now.start (power_in (unit_token token.now.kind))) }
+fn let_binder(frames: &Frames, focus: &mut Focus, at: u32, kind: ExprToken, token: &Token) -> Step
+    ensures { Simulates None (frames_of frames.now) focus.new result (inside (frames_of frames.now) (LetBinder at) kind token.now.start (power_in (unit_token token.now.kind))) }
 {
     match kind {
         ExprToken::Name(name) => {
@@ -59,14 +60,14 @@ fn let_binder(frames: &Frames, at: u32, kind: ExprToken, token: &Token) -> Step
                 at: token.start,
                 name: Some(name),
             };
-            Step::Goes(Focus::Inside(Expected::LetEqual(at, x)))
+            focus.goes(Focus::Inside(Expected::LetEqual(at, x)))
         }
         ExprToken::Hole => {
             let x = Binder {
                 at: token.start,
                 name: None,
             };
-            Step::Goes(Focus::Inside(Expected::LetEqual(at, x)))
+            focus.goes(Focus::Inside(Expected::LetEqual(at, x)))
         }
         other => refuse_token(other),
     }
@@ -75,25 +76,37 @@ fn let_binder(frames: &Frames, at: u32, kind: ExprToken, token: &Token) -> Step
 // Behind `let` and its binder
 fn let_equal(
     frames: &mut Frames,
+    focus: &mut Focus,
     at: u32,
     x: Binder,
     kind: ExprToken,
     token: &Token,
 ) -> Result<Step, AllocError>
-    ensures { IfOk result (λ s. Simulates None (frames_of frames.new) s (inside (frames_of frames.old) (LetEqual at (binder_syntax x)) kind token.now.start (power_in (unit_token token.now.kind)))) }
+    ensures { IfOk result (λ s. Simulates None (frames_of frames.new) focus.new s (inside (frames_of frames.old) (LetEqual at (binder_syntax x)) kind token.now.start (power_in (unit_token token.now.kind)))) }
 {
     match kind {
-        ExprToken::Operator(Infix::Compare(Sign::Eq)) => opened(frames, Frame::InValue(at, x)),
+        ExprToken::Operator(Infix::Compare(Sign::Eq)) => opened(
+            frames,
+            focus,
+            Frame::InValue(at, x),
+        ),
         other => Ok(refuse_token(other)),
     }
 }
 
 // Behind `{` or `;` and these fields
-fn field_name(frames: &Frames, at: u32, before: ReadFields, kind: ExprToken, token: &Token) -> Step
-    ensures { Simulates None (frames_of frames.now) result (inside (frames_of frames.now) (FieldName at (read_fields before)) kind token.now.start (power_in (unit_token token.now.kind))) }
+fn field_name(
+    frames: &Frames,
+    focus: &mut Focus,
+    at: u32,
+    before: ReadFields,
+    kind: ExprToken,
+    token: &Token,
+) -> Step
+    ensures { Simulates None (frames_of frames.now) focus.new result (inside (frames_of frames.now) (FieldName at (read_fields before)) kind token.now.start (power_in (unit_token token.now.kind))) }
 {
     match kind {
-        ExprToken::Name(name) => Step::Goes(Focus::Inside(Expected::FieldEqual(
+        ExprToken::Name(name) => focus.goes(Focus::Inside(Expected::FieldEqual(
             at,
             before,
             token.start,
@@ -106,6 +119,7 @@ fn field_name(frames: &Frames, at: u32, before: ReadFields, kind: ExprToken, tok
 // Behind a field's name
 fn field_equal(
     frames: &mut Frames,
+    focus: &mut Focus,
     at: u32,
     before: ReadFields,
     place: u32,
@@ -113,11 +127,11 @@ fn field_equal(
     kind: ExprToken,
     token: &Token,
 ) -> Result<Step, AllocError>
-    ensures { IfOk result (λ s. Simulates None (frames_of frames.new) s (inside (frames_of frames.old) (FieldEqual at (read_fields before) place name) kind token.now.start (power_in (unit_token token.now.kind)))) }
+    ensures { IfOk result (λ s. Simulates None (frames_of frames.new) focus.new s (inside (frames_of frames.old) (FieldEqual at (read_fields before) place name) kind token.now.start (power_in (unit_token token.now.kind)))) }
 {
     match kind {
         ExprToken::Operator(Infix::Compare(Sign::Eq)) => {
-            opened(frames, Frame::InField(at, before, place, name))
+            opened(frames, focus, Frame::InField(at, before, place, name))
         }
         other => Ok(refuse_behind_fields(other, before)),
     }
@@ -127,31 +141,37 @@ fn field_equal(
 fn dot_name(
     alloc: Global,
     frames: &Frames,
+    focus: &mut Focus,
     at: u32,
     operand: Operand,
     kind: ExprToken,
     token: &Token,
 ) -> Result<Step, AllocError>
-    ensures { IfOk result (λ s. Simulates None (frames_of frames.now) s (inside (frames_of frames.now) (DotName at (operand_expr operand)) kind token.now.start (power_in (unit_token token.now.kind)))) }
+    ensures { IfOk result (λ s. Simulates None (frames_of frames.now) focus.new s (inside (frames_of frames.now) (DotName at (operand_expr operand)) kind token.now.start (power_in (unit_token token.now.kind)))) }
 {
     match kind {
-        ExprToken::Name(name) => Ok(Step::Goes(Focus::Read(operand.field(
-            alloc,
-            at,
-            token.start,
-            name,
-        )?))),
+        ExprToken::Name(name) => {
+            let field = operand.field(alloc, at, token.start, name)?;
+            Ok(focus.goes(Focus::Read(field)))
+        }
         other => Ok(refuse_behind(other, operand)),
     }
 }
 
 // Behind `with`
-fn arm_begin(frames: &Frames, at: u32, list: Operand, kind: ExprToken, token: &Token) -> Step
-    ensures { Simulates None (frames_of frames.now) result (inside (frames_of frames.now) (ArmBegin at (operand_expr list)) kind token.now.start (power_in (unit_token token.now.kind))) }
+fn arm_begin(
+    frames: &Frames,
+    focus: &mut Focus,
+    at: u32,
+    list: Operand,
+    kind: ExprToken,
+    token: &Token,
+) -> Step
+    ensures { Simulates None (frames_of frames.now) focus.new result (inside (frames_of frames.now) (ArmBegin at (operand_expr list)) kind token.now.start (power_in (unit_token token.now.kind))) }
 {
     match kind {
-        ExprToken::Mark(Symbol::Bar) => Step::Goes(Focus::Inside(Expected::ArmOpen(at, list))),
-        ExprToken::Mark(Symbol::LeftBracket) => Step::Goes(Focus::Inside(Expected::ArmClose(
+        ExprToken::Mark(Symbol::Bar) => focus.goes(Focus::Inside(Expected::ArmOpen(at, list))),
+        ExprToken::Mark(Symbol::LeftBracket) => focus.goes(Focus::Inside(Expected::ArmClose(
             at, list,
         ))),
         other => refuse_behind(other, list),
@@ -159,11 +179,18 @@ fn arm_begin(frames: &Frames, at: u32, list: Operand, kind: ExprToken, token: &T
 }
 
 // Behind the bar of the empty arm
-fn arm_open(frames: &Frames, at: u32, list: Operand, kind: ExprToken, token: &Token) -> Step
-    ensures { Simulates None (frames_of frames.now) result (inside (frames_of frames.now) (ArmOpen at (operand_expr list)) kind token.now.start (power_in (unit_token token.now.kind))) }
+fn arm_open(
+    frames: &Frames,
+    focus: &mut Focus,
+    at: u32,
+    list: Operand,
+    kind: ExprToken,
+    token: &Token,
+) -> Step
+    ensures { Simulates None (frames_of frames.now) focus.new result (inside (frames_of frames.now) (ArmOpen at (operand_expr list)) kind token.now.start (power_in (unit_token token.now.kind))) }
 {
     match kind {
-        ExprToken::Mark(Symbol::LeftBracket) => Step::Goes(Focus::Inside(Expected::ArmClose(
+        ExprToken::Mark(Symbol::LeftBracket) => focus.goes(Focus::Inside(Expected::ArmClose(
             at, list,
         ))),
         other => refuse_behind(other, list),
@@ -171,11 +198,18 @@ fn arm_open(frames: &Frames, at: u32, list: Operand, kind: ExprToken, token: &To
 }
 
 // Behind `[` of the empty arm
-fn arm_close(frames: &Frames, at: u32, list: Operand, kind: ExprToken, token: &Token) -> Step
-    ensures { Simulates None (frames_of frames.now) result (inside (frames_of frames.now) (ArmClose at (operand_expr list)) kind token.now.start (power_in (unit_token token.now.kind))) }
+fn arm_close(
+    frames: &Frames,
+    focus: &mut Focus,
+    at: u32,
+    list: Operand,
+    kind: ExprToken,
+    token: &Token,
+) -> Step
+    ensures { Simulates None (frames_of frames.now) focus.new result (inside (frames_of frames.now) (ArmClose at (operand_expr list)) kind token.now.start (power_in (unit_token token.now.kind))) }
 {
     match kind {
-        ExprToken::Mark(Symbol::RightBracket) => Step::Goes(Focus::Inside(Expected::ArmArrow(
+        ExprToken::Mark(Symbol::RightBracket) => focus.goes(Focus::Inside(Expected::ArmArrow(
             at, list,
         ))),
         other => refuse_behind(other, list),
@@ -185,15 +219,16 @@ fn arm_close(frames: &Frames, at: u32, list: Operand, kind: ExprToken, token: &T
 // Behind `]` of the empty arm
 fn arm_arrow(
     frames: &mut Frames,
+    focus: &mut Focus,
     at: u32,
     list: Operand,
     kind: ExprToken,
     token: &Token,
 ) -> Result<Step, AllocError>
-    ensures { IfOk result (λ s. Simulates None (frames_of frames.new) s (inside (frames_of frames.old) (ArmArrow at (operand_expr list)) kind token.now.start (power_in (unit_token token.now.kind)))) }
+    ensures { IfOk result (λ s. Simulates None (frames_of frames.new) focus.new s (inside (frames_of frames.old) (ArmArrow at (operand_expr list)) kind token.now.start (power_in (unit_token token.now.kind)))) }
 {
     match kind {
-        ExprToken::Mark(Symbol::Arrow) => opened(frames, Frame::InEmptyArm(at, list)),
+        ExprToken::Mark(Symbol::Arrow) => opened(frames, focus, Frame::InEmptyArm(at, list)),
         other => Ok(refuse_behind(other, list)),
     }
 }
@@ -209,15 +244,16 @@ fn in_box(alloc: Global, x: Binder) -> Result<Box<Binder>, AllocError>
 fn head_read(
     alloc: Global,
     frames: &Frames,
+    focus: &mut Focus,
     at: u32,
     list: Operand,
     empty: Operand,
     head: Binder,
 ) -> Result<Step, AllocError>
-    ensures { IfOk result (λ s. Simulates None (frames_of frames.now) s (Inside (frames_of frames.now) (HeadCons at (operand_expr list) (operand_expr empty) (binder_syntax head)))) }
+    ensures { IfOk result (λ s. Simulates None (frames_of frames.now) focus.new s (Inside (frames_of frames.now) (HeadCons at (operand_expr list) (operand_expr empty) (binder_syntax head)))) }
 {
     match in_box(alloc, head) {
-        Ok(head) => Ok(Step::Goes(Focus::Inside(Expected::HeadCons(at, list, empty, head)))),
+        Ok(head) => Ok(focus.goes(Focus::Inside(Expected::HeadCons(at, list, empty, head)))),
         Err(error) => {
             drop(list);
             drop(empty);
@@ -230,13 +266,14 @@ fn head_read(
 fn head_binder(
     alloc: Global,
     frames: &Frames,
+    focus: &mut Focus,
     at: u32,
     list: Operand,
     empty: Operand,
     kind: ExprToken,
     token: &Token,
 ) -> Result<Step, AllocError>
-    ensures { IfOk result (λ s. Simulates None (frames_of frames.now) s (inside (frames_of frames.now) (HeadBinder at (operand_expr list) (operand_expr empty)) kind token.now.start (power_in (unit_token token.now.kind)))) }
+    ensures { IfOk result (λ s. Simulates None (frames_of frames.now) focus.new s (inside (frames_of frames.now) (HeadBinder at (operand_expr list) (operand_expr empty)) kind token.now.start (power_in (unit_token token.now.kind)))) }
 {
     match kind {
         ExprToken::Name(name) => {
@@ -244,14 +281,14 @@ fn head_binder(
                 at: token.start,
                 name: Some(name),
             };
-            head_read(alloc, frames, at, list, empty, head)
+            head_read(alloc, frames, focus, at, list, empty, head)
         }
         ExprToken::Hole => {
             let head = Binder {
                 at: token.start,
                 name: None,
             };
-            head_read(alloc, frames, at, list, empty, head)
+            head_read(alloc, frames, focus, at, list, empty, head)
         }
         other => Ok(refuse_behind_both(other, list, empty)),
     }
@@ -260,6 +297,7 @@ fn head_binder(
 // Behind the head
 fn head_cons(
     frames: &Frames,
+    focus: &mut Focus,
     at: u32,
     list: Operand,
     empty: Operand,
@@ -267,11 +305,11 @@ fn head_cons(
     kind: ExprToken,
     token: &Token,
 ) -> Step
-    ensures { Simulates None (frames_of frames.now) result (inside (frames_of frames.now) (HeadCons at (operand_expr list) (operand_expr empty) (binder_syntax head.value)) kind token.now.start (power_in (unit_token token.now.kind))) }
+    ensures { Simulates None (frames_of frames.now) focus.new result (inside (frames_of frames.now) (HeadCons at (operand_expr list) (operand_expr empty) (binder_syntax head.value)) kind token.now.start (power_in (unit_token token.now.kind))) }
 {
     match kind {
         ExprToken::Operator(Infix::Cons) => {
-            Step::Goes(Focus::Inside(Expected::TailBinder(at, list, empty, head)))
+            focus.goes(Focus::Inside(Expected::TailBinder(at, list, empty, head)))
         }
         other => refuse_behind_both(other, list, empty),
     }
@@ -281,16 +319,17 @@ fn head_cons(
 fn tail_read(
     alloc: Global,
     frames: &Frames,
+    focus: &mut Focus,
     at: u32,
     list: Operand,
     empty: Operand,
     head: Box<Binder>,
     tail: Binder,
 ) -> Result<Step, AllocError>
-    ensures { IfOk result (λ s. Simulates None (frames_of frames.now) s (Inside (frames_of frames.now) (TailArrow at (operand_expr list) (operand_expr empty) (binder_syntax head.value) (binder_syntax tail)))) }
+    ensures { IfOk result (λ s. Simulates None (frames_of frames.now) focus.new s (Inside (frames_of frames.now) (TailArrow at (operand_expr list) (operand_expr empty) (binder_syntax head.value) (binder_syntax tail)))) }
 {
     match in_box(alloc, tail) {
-        Ok(tail) => Ok(Step::Goes(Focus::Inside(Expected::TailArrow(at, list, empty, head, tail)))),
+        Ok(tail) => Ok(focus.goes(Focus::Inside(Expected::TailArrow(at, list, empty, head, tail)))),
         Err(error) => {
             drop(list);
             drop(empty);
@@ -304,6 +343,7 @@ fn tail_read(
 fn tail_binder(
     alloc: Global,
     frames: &Frames,
+    focus: &mut Focus,
     at: u32,
     list: Operand,
     empty: Operand,
@@ -311,7 +351,7 @@ fn tail_binder(
     kind: ExprToken,
     token: &Token,
 ) -> Result<Step, AllocError>
-    ensures { IfOk result (λ s. Simulates None (frames_of frames.now) s (inside (frames_of frames.now) (TailBinder at (operand_expr list) (operand_expr empty) (binder_syntax head.value)) kind token.now.start (power_in (unit_token token.now.kind)))) }
+    ensures { IfOk result (λ s. Simulates None (frames_of frames.now) focus.new s (inside (frames_of frames.now) (TailBinder at (operand_expr list) (operand_expr empty) (binder_syntax head.value)) kind token.now.start (power_in (unit_token token.now.kind)))) }
 {
     match kind {
         ExprToken::Name(name) => {
@@ -319,14 +359,14 @@ fn tail_binder(
                 at: token.start,
                 name: Some(name),
             };
-            tail_read(alloc, frames, at, list, empty, head, tail)
+            tail_read(alloc, frames, focus, at, list, empty, head, tail)
         }
         ExprToken::Hole => {
             let tail = Binder {
                 at: token.start,
                 name: None,
             };
-            tail_read(alloc, frames, at, list, empty, head, tail)
+            tail_read(alloc, frames, focus, at, list, empty, head, tail)
         }
         other => Ok(refuse_behind_both(other, list, empty)),
     }
@@ -335,6 +375,7 @@ fn tail_binder(
 // Behind the tail
 fn tail_arrow(
     frames: &mut Frames,
+    focus: &mut Focus,
     at: u32,
     list: Operand,
     empty: Operand,
@@ -343,11 +384,12 @@ fn tail_arrow(
     kind: ExprToken,
     token: &Token,
 ) -> Result<Step, AllocError>
-    ensures { IfOk result (λ s. Simulates None (frames_of frames.new) s (inside (frames_of frames.old) (TailArrow at (operand_expr list) (operand_expr empty) (binder_syntax head.value) (binder_syntax tail.value)) kind token.now.start (power_in (unit_token token.now.kind)))) }
+    ensures { IfOk result (λ s. Simulates None (frames_of frames.new) focus.new s (inside (frames_of frames.old) (TailArrow at (operand_expr list) (operand_expr empty) (binder_syntax head.value) (binder_syntax tail.value)) kind token.now.start (power_in (unit_token token.now.kind)))) }
 {
     match kind {
         ExprToken::Mark(Symbol::Arrow) => opened(
             frames,
+            focus,
             Frame::InFullArm(at, list, empty, head, tail),
         ),
         other => Ok(refuse_behind_both(other, list, empty)),
@@ -356,7 +398,7 @@ fn tail_arrow(
 
 // Behind `(` `[` `]`
 fn nil_colon(frames: &Frames, at: u32, kind: ExprToken, token: &Token) -> Step
-    ensures { Simulates None (frames_of frames.now) result (inside (frames_of frames.now) (NilColon at) kind token.now.start (power_in (unit_token token.now.kind))) }
+    ensures { (now : Focus) → Simulates None (frames_of frames.now) now result (inside (frames_of frames.now) (NilColon at) kind token.now.start (power_in (unit_token token.now.kind))) }
 {
     match kind {
         ExprToken::Mark(Symbol::Colon) => Step::Type(at),
@@ -365,49 +407,66 @@ fn nil_colon(frames: &Frames, at: u32, kind: ExprToken, token: &Token) -> Step
 }
 
 // Behind `pown`, its part and `(`
-fn pown_minus(frames: &Frames, at: u32, operand: Operand, kind: ExprToken, token: &Token) -> Step
-    ensures { Simulates None (frames_of frames.now) result (inside (frames_of frames.now) (PownMinus at (operand_expr operand)) kind token.now.start (power_in (unit_token token.now.kind))) }
+fn pown_minus(
+    frames: &Frames,
+    focus: &mut Focus,
+    at: u32,
+    operand: Operand,
+    kind: ExprToken,
+    token: &Token,
+) -> Step
+    ensures { Simulates None (frames_of frames.now) focus.new result (inside (frames_of frames.now) (PownMinus at (operand_expr operand)) kind token.now.start (power_in (unit_token token.now.kind))) }
 {
     match kind {
         ExprToken::Operator(Infix::Arith(Arith::Sub)) => {
-            Step::Goes(Focus::Inside(Expected::PownDigits(at, operand)))
+            focus.goes(Focus::Inside(Expected::PownDigits(at, operand)))
         }
         other => refuse_behind(other, operand),
     }
 }
 
 // Behind `-` of a power
-fn pown_digits(frames: &Frames, at: u32, operand: Operand, kind: ExprToken, token: &Token) -> Step
-    ensures { Simulates None (frames_of frames.now) result (inside (frames_of frames.now) (PownDigits at (operand_expr operand)) kind token.now.start (power_in (unit_token token.now.kind))) }
+fn pown_digits(
+    frames: &Frames,
+    focus: &mut Focus,
+    at: u32,
+    operand: Operand,
+    kind: ExprToken,
+    token: &Token,
+) -> Step
+    ensures { Simulates None (frames_of frames.now) focus.new result (inside (frames_of frames.now) (PownDigits at (operand_expr operand)) kind token.now.start (power_in (unit_token token.now.kind))) }
 {
     match written_power(&token.kind) {
-        Some(power) => goes_to_close(at, operand, -power, kind),
+        Some(power) => goes_to_close(focus, at, operand, -power, kind),
         None => refuse_behind(kind, operand),
     }
 }
 
-fn goes_to_close(at: u32, operand: Operand, power: i32, kind: ExprToken) -> Step
-    ensures { result ≡ Goes (Within (expected.PownClose at operand power)) }
+fn goes_to_close(focus: &mut Focus, at: u32, operand: Operand, power: i32, kind: ExprToken) -> Step
+    ensures goes { result ≡ Goes }
+    ensures focus { focus.new ≡ Within (expected.PownClose at operand power) }
 {
     drop(kind);
-    Step::Goes(Focus::Inside(Expected::PownClose(at, operand, power)))
+    focus.goes(Focus::Inside(Expected::PownClose(at, operand, power)))
 }
 
 // Behind a power in brackets
 fn pown_close(
     alloc: Global,
     frames: &Frames,
+    focus: &mut Focus,
     at: u32,
     operand: Operand,
     power: i32,
     kind: ExprToken,
     token: &Token,
 ) -> Result<Step, AllocError>
-    ensures { IfOk result (λ s. Simulates None (frames_of frames.now) s (inside (frames_of frames.now) (PownClose at (operand_expr operand) power) kind token.now.start (power_in (unit_token token.now.kind)))) }
+    ensures { IfOk result (λ s. Simulates None (frames_of frames.now) focus.new s (inside (frames_of frames.now) (PownClose at (operand_expr operand) power) kind token.now.start (power_in (unit_token token.now.kind)))) }
 {
     match kind {
         ExprToken::Mark(Symbol::RightParen) => {
-            Ok(Step::Goes(Focus::Read(operand.pown(alloc, at, power)?)))
+            let operand = operand.pown(alloc, at, power)?;
+            Ok(focus.goes(Focus::Read(operand)))
         }
         other => Ok(refuse_behind(other, operand)),
     }
@@ -417,41 +476,44 @@ fn pown_close(
 pub fn inside(
     alloc: Global,
     frames: &mut Frames,
+    focus: &mut Focus,
     place: Expected,
     kind: ExprToken,
     token: &Token,
 ) -> Result<Step, AllocError>
-    ensures { IfOk result (λ s. Simulates None (frames_of frames.new) s (inside (frames_of frames.old) (view_expected place) kind token.now.start (power_in (unit_token token.now.kind)))) }
+    ensures { IfOk result (λ s. Simulates None (frames_of frames.new) focus.new s (inside (frames_of frames.old) (view_expected place) kind token.now.start (power_in (unit_token token.now.kind)))) }
 {
     match place {
-        Expected::LetBinder(at) => Ok(let_binder(frames, at, kind, token)),
-        Expected::LetEqual(at, x) => let_equal(frames, at, x, kind, token),
-        Expected::FieldName(at, before) => Ok(field_name(frames, at, before, kind, token)),
+        Expected::LetBinder(at) => Ok(let_binder(frames, focus, at, kind, token)),
+        Expected::LetEqual(at, x) => let_equal(frames, focus, at, x, kind, token),
+        Expected::FieldName(at, before) => Ok(field_name(frames, focus, at, before, kind, token)),
         Expected::FieldEqual(at, before, place, name) => {
-            field_equal(frames, at, before, place, name, kind, token)
+            field_equal(frames, focus, at, before, place, name, kind, token)
         }
-        Expected::DotName(at, operand) => dot_name(alloc, frames, at, operand, kind, token),
-        Expected::ArmBegin(at, list) => Ok(arm_begin(frames, at, list, kind, token)),
-        Expected::ArmOpen(at, list) => Ok(arm_open(frames, at, list, kind, token)),
-        Expected::ArmClose(at, list) => Ok(arm_close(frames, at, list, kind, token)),
-        Expected::ArmArrow(at, list) => arm_arrow(frames, at, list, kind, token),
+        Expected::DotName(at, operand) => dot_name(alloc, frames, focus, at, operand, kind, token),
+        Expected::ArmBegin(at, list) => Ok(arm_begin(frames, focus, at, list, kind, token)),
+        Expected::ArmOpen(at, list) => Ok(arm_open(frames, focus, at, list, kind, token)),
+        Expected::ArmClose(at, list) => Ok(arm_close(frames, focus, at, list, kind, token)),
+        Expected::ArmArrow(at, list) => arm_arrow(frames, focus, at, list, kind, token),
         Expected::HeadBinder(at, list, empty) => {
-            head_binder(alloc, frames, at, list, empty, kind, token)
+            head_binder(alloc, frames, focus, at, list, empty, kind, token)
         }
         Expected::HeadCons(at, list, empty, head) => {
-            Ok(head_cons(frames, at, list, empty, head, kind, token))
+            Ok(head_cons(frames, focus, at, list, empty, head, kind, token))
         }
         Expected::TailBinder(at, list, empty, head) => {
-            tail_binder(alloc, frames, at, list, empty, head, kind, token)
+            tail_binder(alloc, frames, focus, at, list, empty, head, kind, token)
         }
         Expected::TailArrow(at, list, empty, head, tail) => {
-            tail_arrow(frames, at, list, empty, head, tail, kind, token)
+            tail_arrow(frames, focus, at, list, empty, head, tail, kind, token)
         }
         Expected::NilColon(at) => Ok(nil_colon(frames, at, kind, token)),
-        Expected::PownMinus(at, operand) => Ok(pown_minus(frames, at, operand, kind, token)),
-        Expected::PownDigits(at, operand) => Ok(pown_digits(frames, at, operand, kind, token)),
+        Expected::PownMinus(at, operand) => Ok(pown_minus(frames, focus, at, operand, kind, token)),
+        Expected::PownDigits(at, operand) => Ok(pown_digits(
+            frames, focus, at, operand, kind, token,
+        )),
         Expected::PownClose(at, operand, power) => {
-            pown_close(alloc, frames, at, operand, power, kind, token)
+            pown_close(alloc, frames, focus, at, operand, power, kind, token)
         }
     }
 }

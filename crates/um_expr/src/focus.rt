@@ -1,4 +1,6 @@
 // What stands inside the open frames, and what a token gives.
+ghost use Rattle.std.specs.Prelude.{◌≡◌};
+
 use crate::operand::Operand;
 use crate::operands::ReadFields;
 use um_frac::Frac;
@@ -52,8 +54,20 @@ pub enum Focus {
 /// expression stops before it, and this is what was read, if it is whole.
 #[derive(Drop)]
 pub enum Step {
-    Goes(Focus),
+    Goes,
     Note(u32, Frac),
     Type(u32),
     Stops(Option<Operand>),
+}
+
+impl Focus {
+    /// The token goes on, and this stands inside the frames.
+    #[inline(always)]
+    pub fn goes(&mut self, next: Focus) -> Step
+        ensures goes { result ≡ Step.Goes }
+        ensures focus { self.new ≡ next }
+    {
+        *self = next;
+        Step::Goes
+    }
 }

@@ -1,5 +1,6 @@
 // A sign between operands behind an atom.
 ghost use Rattle.std.specs.Prelude.{◌≡◌, IfOk, None, true};
+ghost use Rattle.um_expr.specs.declared.focus.Focus.{Focus};
 ghost use Rattle.um_expr.specs.declared.focus.Step.TheVariants.{Stops};
 ghost use Rattle.um_expr.specs.ExprKinds.{is_plain_number};
 ghost use Rattle.um_expr.specs.Ranks.{left_limit};
@@ -22,16 +23,17 @@ use um_tree::{RawNode, Sign};
 fn infix_after(
     alloc: Global,
     frames: &mut Frames,
+    focus: &mut Focus,
     operand: Operand,
     sign: Infix,
     at: u32,
 ) -> Result<Step, AllocError>
-    ensures { IfOk result (λ s. Simulates (finish (Have (frames_of frames.old) (operand_expr operand))) (frames_of frames.new) s (infix_after sign at (reduce (left_limit sign) (frames_of frames.old) (operand_expr operand)))) }
+    ensures { IfOk result (λ s. Simulates (finish (Have (frames_of frames.old) (operand_expr operand))) (frames_of frames.new) focus.new s (infix_after sign at (reduce (left_limit sign) (frames_of frames.old) (operand_expr operand)))) }
 {
     let left = ended(alloc, frames, sign.left_limit(), operand)?;
     if sign.rank() < frames.bound() {
         frames.push(Frame::InRight(at, sign, left))?;
-        Ok(Step::Goes(Focus::Wanted))
+        Ok(focus.goes(Focus::Wanted))
     } else {
         Ok(Step::Stops(whole(alloc, frames, left)?))
     }
@@ -41,14 +43,15 @@ fn infix_after(
 fn greater_after(
     alloc: Global,
     frames: &mut Frames,
+    focus: &mut Focus,
     operand: Operand,
     at: u32,
 ) -> Result<Step, AllocError>
-    ensures { IfOk result (λ s. Simulates (finish (Have (frames_of frames.old) (operand_expr operand))) (frames_of frames.new) s (greater_after at (reduce 5 (frames_of frames.old) (operand_expr operand)))) }
+    ensures { IfOk result (λ s. Simulates (finish (Have (frames_of frames.old) (operand_expr operand))) (frames_of frames.new) focus.new s (greater_after at (reduce 5 (frames_of frames.old) (operand_expr operand)))) }
 {
     let left = ended(alloc, frames, 5, operand)?;
     if frames.bound() > 6 {
-        Ok(Step::Goes(Focus::Greater(at, left)))
+        Ok(focus.goes(Focus::Greater(at, left)))
     } else {
         Ok(Step::Stops(whole(alloc, frames, left)?))
     }
@@ -57,7 +60,7 @@ fn greater_after(
 // `<` right behind a number
 fn note_opens(frames: &Frames, operand: &Operand, sign_at: u32) -> Step
     requires { is_plain_number (operand_expr operand.now) ≡ true }
-    ensures { Simulates (finish (Have (frames_of frames.now) (operand_expr operand.now))) (frames_of frames.now) result (less_after (frames_of frames.now) (operand_expr operand.now) true sign_at) }
+    ensures { (now : Focus) → Simulates (finish (Have (frames_of frames.now) (operand_expr operand.now))) (frames_of frames.now) now result (less_after (frames_of frames.now) (operand_expr operand.now) true sign_at) }
 {
     match &operand.tree.node {
         RawNode::Num(value, None) => Step::Note(operand.tree.at, *value),
@@ -70,18 +73,19 @@ fn note_opens(frames: &Frames, operand: &Operand, sign_at: u32) -> Step
 fn less_after(
     alloc: Global,
     frames: &mut Frames,
+    focus: &mut Focus,
     operand: Operand,
     at: u32,
     glued: bool,
 ) -> Result<Step, AllocError>
-    ensures { IfOk result (λ s. Simulates (finish (Have (frames_of frames.old) (operand_expr operand))) (frames_of frames.new) s (less_after (frames_of frames.old) (operand_expr operand) glued at)) }
+    ensures { IfOk result (λ s. Simulates (finish (Have (frames_of frames.old) (operand_expr operand))) (frames_of frames.new) focus.new s (less_after (frames_of frames.old) (operand_expr operand) glued at)) }
 {
     if glued && operand.is_plain_number() {
         let given = note_opens(frames, &operand, at);
         drop(operand);
         Ok(given)
     } else {
-        infix_after(alloc, frames, operand, Infix::Compare(Sign::Lt), at)
+        infix_after(alloc, frames, focus, operand, Infix::Compare(Sign::Lt), at)
     }
 }
 
@@ -89,16 +93,17 @@ fn less_after(
 pub fn after_operator(
     alloc: Global,
     frames: &mut Frames,
+    focus: &mut Focus,
     operand: Operand,
     sign: Infix,
     at: u32,
     glued: bool,
 ) -> Result<Step, AllocError>
-    ensures { IfOk result (λ s. Simulates (finish (Have (frames_of frames.old) (operand_expr operand))) (frames_of frames.new) s (operator_after (frames_of frames.old) (operand_expr operand) sign at glued)) }
+    ensures { IfOk result (λ s. Simulates (finish (Have (frames_of frames.old) (operand_expr operand))) (frames_of frames.new) focus.new s (operator_after (frames_of frames.old) (operand_expr operand) sign at glued)) }
 {
     match sign {
-        Infix::Compare(Sign::Lt) => less_after(alloc, frames, operand, at, glued),
-        Infix::Compare(Sign::Gt) => greater_after(alloc, frames, operand, at),
+        Infix::Compare(Sign::Lt) => less_after(alloc, frames, focus, operand, at, glued),
+        Infix::Compare(Sign::Gt) => greater_after(alloc, frames, focus, operand, at),
         Infix::Compare(Sign::Ge) => Ok(Step::Stops(whole(alloc, frames, operand)?)),
         Infix::Or
         | Infix::And
@@ -106,6 +111,6 @@ pub fn after_operator(
         | Infix::Compare(Sign::Eq)
         | Infix::Compare(Sign::Ne)
         | Infix::Compare(Sign::Le)
-        | Infix::Arith(_) => infix_after(alloc, frames, operand, sign, at),
+        | Infix::Arith(_) => infix_after(alloc, frames, focus, operand, sign, at),
     }
 }

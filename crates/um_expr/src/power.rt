@@ -42,16 +42,20 @@ fn no_power(operand: Operand) -> Step
 fn power_ends(
     alloc: Global,
     frames: &Frames,
+    focus: &mut Focus,
     frame: Frame,
     operand: Operand,
     token: &Token,
 ) -> Result<Step, AllocError>
     requires { is_pown (view_frame frame) ≡ true }
-    ensures { IfOk result (λ s. Simulates (finish (Have (view_frame frame ∷ frames_of frames.now) (operand_expr operand))) (frames_of frames.now) s (pown_after (view_frame frame ∷ frames_of frames.now) (operand_expr operand) (power_in (unit_token token.now.kind)))) }
+    ensures { IfOk result (λ s. Simulates (finish (Have (view_frame frame ∷ frames_of frames.now) (operand_expr operand))) (frames_of frames.now) focus.new s (pown_after (view_frame frame ∷ frames_of frames.now) (operand_expr operand) (power_in (unit_token token.now.kind)))) }
 {
     match frame {
         Frame::InPown(at) => match written_power(&token.kind) {
-            Some(k) => Ok(Step::Goes(Focus::Power(operand.pown(alloc, at, k)?))),
+            Some(k) => {
+                let power = operand.pown(alloc, at, k)?;
+                Ok(focus.goes(Focus::Power(power)))
+            }
             None => Ok(no_power(operand)),
         },
         other => Ok(refuse(other, operand)),
@@ -62,14 +66,15 @@ fn power_ends(
 fn pown_after(
     alloc: Global,
     frames: &mut Frames,
+    focus: &mut Focus,
     operand: Operand,
     token: &Token,
 ) -> Result<Step, AllocError>
     requires { in_pown (frames_of frames.old) ≡ true }
-    ensures { IfOk result (λ s. Simulates (finish (Have (frames_of frames.old) (operand_expr operand))) (frames_of frames.new) s (pown_after (frames_of frames.old) (operand_expr operand) (power_in (unit_token token.now.kind)))) }
+    ensures { IfOk result (λ s. Simulates (finish (Have (frames_of frames.old) (operand_expr operand))) (frames_of frames.new) focus.new s (pown_after (frames_of frames.old) (operand_expr operand) (power_in (unit_token token.now.kind)))) }
 {
     match frames.pop() {
-        Some(frame) => power_ends(alloc, frames, frame, operand, token),
+        Some(frame) => power_ends(alloc, frames, focus, frame, operand, token),
         None => Ok(no_power(operand)),
     }
 }
@@ -78,18 +83,20 @@ fn pown_after(
 pub fn number_after(
     alloc: Global,
     frames: &mut Frames,
+    focus: &mut Focus,
     operand: Operand,
     value: Frac,
     token: &Token,
 ) -> Result<Step, AllocError>
-    ensures { IfOk result (λ s. Simulates (finish (Have (frames_of frames.old) (operand_expr operand))) (frames_of frames.new) s (number_after (frames_of frames.old) (operand_expr operand) value token.now.start (power_in (unit_token token.now.kind)))) }
+    ensures { IfOk result (λ s. Simulates (finish (Have (frames_of frames.old) (operand_expr operand))) (frames_of frames.new) focus.new s (number_after (frames_of frames.old) (operand_expr operand) value token.now.start (power_in (unit_token token.now.kind)))) }
 {
     if in_pown(frames) {
-        pown_after(alloc, frames, operand, token)
+        pown_after(alloc, frames, focus, operand, token)
     } else {
         begin_argument(
             alloc,
             frames,
+            focus,
             operand,
             ExprToken::Number(value),
             token.start,
@@ -98,23 +105,23 @@ pub fn number_after(
 }
 
 // `(` behind the part of this frame
-fn bracket_opens(frames: &Frames, frame: Frame, operand: Operand) -> Step
+fn bracket_opens(frames: &Frames, focus: &mut Focus, frame: Frame, operand: Operand) -> Step
     requires { is_pown (view_frame frame) ≡ true }
-    ensures { Simulates (finish (Have (view_frame frame ∷ frames_of frames.now) (operand_expr operand))) (frames_of frames.now) result (pown_bracket (view_frame frame ∷ frames_of frames.now) (operand_expr operand)) }
+    ensures { Simulates (finish (Have (view_frame frame ∷ frames_of frames.now) (operand_expr operand))) (frames_of frames.now) focus.new result (pown_bracket (view_frame frame ∷ frames_of frames.now) (operand_expr operand)) }
 {
     match frame {
-        Frame::InPown(at) => Step::Goes(Focus::Inside(Expected::PownMinus(at, operand))),
+        Frame::InPown(at) => focus.goes(Focus::Inside(Expected::PownMinus(at, operand))),
         other => refuse(other, operand),
     }
 }
 
 // `(` where the power of `pown` is wanted
-fn pown_bracket(frames: &mut Frames, operand: Operand) -> Step
+fn pown_bracket(frames: &mut Frames, focus: &mut Focus, operand: Operand) -> Step
     requires { in_pown (frames_of frames.old) ≡ true }
-    ensures { Simulates (finish (Have (frames_of frames.old) (operand_expr operand))) (frames_of frames.new) result (pown_bracket (frames_of frames.old) (operand_expr operand)) }
+    ensures { Simulates (finish (Have (frames_of frames.old) (operand_expr operand))) (frames_of frames.new) focus.new result (pown_bracket (frames_of frames.old) (operand_expr operand)) }
 {
     match frames.pop() {
-        Some(frame) => bracket_opens(frames, frame, operand),
+        Some(frame) => bracket_opens(frames, focus, frame, operand),
         None => no_power(operand),
     }
 }
@@ -123,17 +130,19 @@ fn pown_bracket(frames: &mut Frames, operand: Operand) -> Step
 pub fn bracket_after(
     alloc: Global,
     frames: &mut Frames,
+    focus: &mut Focus,
     operand: Operand,
     at: u32,
 ) -> Result<Step, AllocError>
-    ensures { IfOk result (λ s. Simulates (finish (Have (frames_of frames.old) (operand_expr operand))) (frames_of frames.new) s (bracket_after (frames_of frames.old) (operand_expr operand) at)) }
+    ensures { IfOk result (λ s. Simulates (finish (Have (frames_of frames.old) (operand_expr operand))) (frames_of frames.new) focus.new s (bracket_after (frames_of frames.old) (operand_expr operand) at)) }
 {
     if in_pown(frames) {
-        Ok(pown_bracket(frames, operand))
+        Ok(pown_bracket(frames, focus, operand))
     } else {
         begin_argument(
             alloc,
             frames,
+            focus,
             operand,
             ExprToken::Mark(Symbol::LeftParen),
             at,

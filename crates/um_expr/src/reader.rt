@@ -136,8 +136,7 @@ impl ExprReader {
         ensures taken { IfOk result (λ t. Takes machine_of_expressions greatest_height (state_of (frames_of self.old.frames) self.old.focus) token.old t (expr_state self.new)) }
         ensures rest { OnOk result (token.new ≡ emptied token.old) }
     {
-        let focus = mem::replace(&mut self.focus, Focus::Wanted);
-        let given = step(alloc, &mut self.frames, focus, token)?;
+        let given = step(alloc, &mut self.frames, &mut self.focus, token)?;
         Ok(self.go(alloc, given))
     }
 
@@ -171,7 +170,7 @@ impl ExprReader {
     {
         let note = note.finish(alloc)?;
         let kind = ExprToken::of_kind(alloc, &mut token.kind);
-        let given = note_ends(alloc, &self.frames, at, value, note, kind)?;
+        let given = note_ends(alloc, &self.frames, &mut self.focus, at, value, note, kind)?;
         Ok(self.go(alloc, given))
     }
 
@@ -189,20 +188,31 @@ impl ExprReader {
         ensures rest { OnOk result (token.new ≡ emptied token.old) }
     {
         let kind = ExprToken::of_kind(alloc, &mut token.kind);
-        let given = type_ends(alloc, &self.frames, at, ty.finish(), kind)?;
+        let given = type_ends(alloc, &self.frames, &mut self.focus, at, ty.finish(), kind)?;
         Ok(self.go(alloc, given))
     }
 
     // What a step gives.
     fn go(&mut self, alloc: Global, given: Step) -> Taken
         requires nothing { self.old.inner ≡ Inner.Nothing }
-        ensures { (old next : State) → Simulates (finish old) (frames_of self.old.frames) given next → Gives machine_of_expressions greatest_height old next result (expr_state self.new) }
+        ensures { (old next : State) → Simulates (finish old) (frames_of self.old.frames) self.old.focus given next → Gives machine_of_expressions greatest_height old next result (expr_state self.new) }
     {
         match given {
-            Step::Goes(focus) => self.put(focus),
+            Step::Goes => self.rated(),
             Step::Note(at, value) => self.begin_note(at, value),
             Step::Type(at) => self.begin_type(at),
             Step::Stops(found) => self.stop(alloc, found),
+        }
+    }
+
+    // Whether an expression within the heights begins so.
+    fn rated(&self) -> Taken
+        ensures { result ≡ cond (nat_lt (whole_least (state_of (frames_of self.now.frames) self.now.focus)) (greatest_height + 1)) Taken.Goes Taken.High }
+    {
+        if is_low(&self.frames, &self.focus) {
+            Taken::Goes
+        } else {
+            Taken::High
         }
     }
 
@@ -212,11 +222,7 @@ impl ExprReader {
         ensures low { result ≡ cond (nat_lt (whole_least (state_of (frames_of self.old.frames) focus)) (greatest_height + 1)) Taken.Goes Taken.High }
     {
         drop(mem::replace(&mut self.focus, focus));
-        if is_low(&self.frames, &self.focus) {
-            Taken::Goes
-        } else {
-            Taken::High
-        }
+        self.rated()
     }
 
     // The note of a number begins. It needs as much height as an operand that is wanted.

@@ -26,6 +26,7 @@ use crate::operator::after_operator;
 use crate::power::{bracket_after, number_after};
 use crate::token::ExprToken;
 use std::alloc::{AllocError, Global};
+use std::mem;
 use um_frac::Frac;
 use um_syntax::{Symbol, Token};
 use um_tree::{RawNote, RawType, Sign};
@@ -34,15 +35,16 @@ use um_tree::{RawNote, RawType, Sign};
 fn field_after(
     alloc: Global,
     frames: &mut Frames,
+    focus: &mut Focus,
     operand: Operand,
     at: u32,
 ) -> Result<Step, AllocError>
-    ensures { IfOk result (λ s. Simulates (finish (Have (frames_of frames.old) (operand_expr operand))) (frames_of frames.new) s (cond (is_power (operand_expr operand)) Refused (Inside (frames_of frames.old) (DotName at (operand_expr operand))))) }
+    ensures { IfOk result (λ s. Simulates (finish (Have (frames_of frames.old) (operand_expr operand))) (frames_of frames.new) focus.new s (cond (is_power (operand_expr operand)) Refused (Inside (frames_of frames.old) (DotName at (operand_expr operand))))) }
 {
     if operand.is_power() {
         Ok(Step::Stops(whole(alloc, frames, operand)?))
     } else {
-        Ok(Step::Goes(Focus::Inside(Expected::DotName(at, operand))))
+        Ok(focus.goes(Focus::Inside(Expected::DotName(at, operand))))
     }
 }
 
@@ -50,19 +52,20 @@ fn field_after(
 fn after_mark(
     alloc: Global,
     frames: &mut Frames,
+    focus: &mut Focus,
     operand: Operand,
     symbol: Symbol,
     at: u32,
 ) -> Result<Step, AllocError>
-    ensures { IfOk result (λ s. Simulates (finish (Have (frames_of frames.old) (operand_expr operand))) (frames_of frames.new) s (mark_after (frames_of frames.old) (operand_expr operand) symbol at)) }
+    ensures { IfOk result (λ s. Simulates (finish (Have (frames_of frames.old) (operand_expr operand))) (frames_of frames.new) focus.new s (mark_after (frames_of frames.old) (operand_expr operand) symbol at)) }
 {
     match symbol {
-        Symbol::LeftParen => bracket_after(alloc, frames, operand, at),
+        Symbol::LeftParen => bracket_after(alloc, frames, focus, operand, at),
         Symbol::LeftBracket | Symbol::LeftBrace => {
-            begin_argument(alloc, frames, operand, ExprToken::Mark(symbol), at)
+            begin_argument(alloc, frames, focus, operand, ExprToken::Mark(symbol), at)
         }
-        Symbol::Dot => field_after(alloc, frames, operand, at),
-        _ => end_by_mark(alloc, frames, operand, symbol),
+        Symbol::Dot => field_after(alloc, frames, focus, operand, at),
+        _ => end_by_mark(alloc, frames, focus, operand, symbol),
     }
 }
 
@@ -70,22 +73,38 @@ fn after_mark(
 fn after(
     alloc: Global,
     frames: &mut Frames,
+    focus: &mut Focus,
     operand: Operand,
     kind: ExprToken,
     token: &Token,
 ) -> Result<Step, AllocError>
-    ensures { IfOk result (λ s. Simulates (finish (Have (frames_of frames.old) (operand_expr operand))) (frames_of frames.new) s (after (frames_of frames.old) (operand_expr operand) kind token.now.start token.now.glued (power_in (unit_token token.now.kind)))) }
+    ensures { IfOk result (λ s. Simulates (finish (Have (frames_of frames.old) (operand_expr operand))) (frames_of frames.new) focus.new s (after (frames_of frames.old) (operand_expr operand) kind token.now.start token.now.glued (power_in (unit_token token.now.kind)))) }
 {
     let at = token.start;
     match kind {
-        ExprToken::Name(name) => begin_argument(alloc, frames, operand, ExprToken::Name(name), at),
-        ExprToken::Number(value) => number_after(alloc, frames, operand, value, token),
+        ExprToken::Name(name) => begin_argument(
+            alloc,
+            frames,
+            focus,
+            operand,
+            ExprToken::Name(name),
+            at,
+        ),
+        ExprToken::Number(value) => number_after(alloc, frames, focus, operand, value, token),
         ExprToken::Truth(value) => {
-            begin_argument(alloc, frames, operand, ExprToken::Truth(value), at)
+            begin_argument(alloc, frames, focus, operand, ExprToken::Truth(value), at)
         }
-        ExprToken::Mark(symbol) => after_mark(alloc, frames, operand, symbol, at),
-        ExprToken::Word(keyword) => end_by_word(alloc, frames, operand, keyword),
-        ExprToken::Operator(sign) => after_operator(alloc, frames, operand, sign, at, token.glued),
+        ExprToken::Mark(symbol) => after_mark(alloc, frames, focus, operand, symbol, at),
+        ExprToken::Word(keyword) => end_by_word(alloc, frames, focus, operand, keyword),
+        ExprToken::Operator(sign) => after_operator(
+            alloc,
+            frames,
+            focus,
+            operand,
+            sign,
+            at,
+            token.glued,
+        ),
         ExprToken::Variable(_) | ExprToken::Hole => Ok(Step::Stops(whole(alloc, frames, operand)?)),
     }
 }
@@ -94,11 +113,12 @@ fn after(
 fn power_after(
     alloc: Global,
     frames: &mut Frames,
+    focus: &mut Focus,
     operand: Operand,
     kind: ExprToken,
     token: &Token,
 ) -> Result<Step, AllocError>
-    ensures { IfOk result (λ s. Simulates (finish (Have (frames_of frames.old) (operand_expr operand))) (frames_of frames.new) s (power_after (frames_of frames.old) (operand_expr operand) kind token.now.start token.now.glued (power_in (unit_token token.now.kind)))) }
+    ensures { IfOk result (λ s. Simulates (finish (Have (frames_of frames.old) (operand_expr operand))) (frames_of frames.new) focus.new s (power_after (frames_of frames.old) (operand_expr operand) kind token.now.start token.now.glued (power_in (unit_token token.now.kind)))) }
 {
     match kind {
         ExprToken::Operator(Infix::Compare(Sign::Lt)) => {
@@ -106,10 +126,10 @@ fn power_after(
                 Ok(Step::Stops(whole(alloc, frames, operand)?))
             } else {
                 let less = Infix::Compare(Sign::Lt);
-                after_operator(alloc, frames, operand, less, token.start, false)
+                after_operator(alloc, frames, focus, operand, less, token.start, false)
             }
         }
-        other => after(alloc, frames, operand, other, token),
+        other => after(alloc, frames, focus, operand, other, token),
     }
 }
 
@@ -133,18 +153,19 @@ fn refuse_type(kind: ExprToken, ty: RawType) -> Step
 fn note_end(
     alloc: Global,
     frames: &Frames,
+    focus: &mut Focus,
     at: u32,
     value: Frac,
     note: RawNote,
     kind: ExprToken,
 ) -> Result<Step, AllocError>
     requires { note_height (note_syntax note) ≤ greatest_height }
-    ensures { IfOk result (λ s. Simulates None (frames_of frames.now) s (note_ends (frames_of frames.now) at value (Some (note_syntax note)) kind)) }
+    ensures { IfOk result (λ s. Simulates None (frames_of frames.now) focus.new s (note_ends (frames_of frames.now) at value (Some (note_syntax note)) kind)) }
 {
     match kind {
         ExprToken::Operator(Infix::Compare(Sign::Gt)) => {
             let number = Operand::number(alloc, at, value, Some(note))?;
-            Ok(Step::Goes(Focus::Read(number)))
+            Ok(focus.goes(Focus::Read(number)))
         }
         other => Ok(refuse_note(other, note)),
     }
@@ -154,16 +175,18 @@ fn note_end(
 fn type_end(
     alloc: Global,
     frames: &Frames,
+    focus: &mut Focus,
     at: u32,
     ty: RawType,
     kind: ExprToken,
 ) -> Result<Step, AllocError>
     requires { whole_height (type_syntax ty) ≤ greatest_height }
-    ensures { IfOk result (λ s. Simulates None (frames_of frames.now) s (type_ends (frames_of frames.now) at (Some (type_syntax ty)) kind)) }
+    ensures { IfOk result (λ s. Simulates None (frames_of frames.now) focus.new s (type_ends (frames_of frames.now) at (Some (type_syntax ty)) kind)) }
 {
     match kind {
         ExprToken::Mark(Symbol::RightParen) => {
-            Ok(Step::Goes(Focus::Read(Operand::nil(alloc, at, ty)?)))
+            let empty = Operand::nil(alloc, at, ty)?;
+            Ok(focus.goes(Focus::Read(empty)))
         }
         other => Ok(refuse_type(other, ty)),
     }
@@ -173,16 +196,17 @@ fn type_end(
 pub fn note_ends(
     alloc: Global,
     frames: &Frames,
+    focus: &mut Focus,
     at: u32,
     value: Frac,
     note: Option<RawNote>,
     kind: ExprToken,
 ) -> Result<Step, AllocError>
     requires { IfSome note (λ n. note_height (note_syntax n) ≤ greatest_height) }
-    ensures { IfOk result (λ s. Simulates None (frames_of frames.now) s (note_ends (frames_of frames.now) at value (option_map note_syntax note) kind)) }
+    ensures { IfOk result (λ s. Simulates None (frames_of frames.now) focus.new s (note_ends (frames_of frames.now) at value (option_map note_syntax note) kind)) }
 {
     match note {
-        Some(note) => note_end(alloc, frames, at, value, note, kind),
+        Some(note) => note_end(alloc, frames, focus, at, value, note, kind),
         None => Ok(refuse_token(kind)),
     }
 }
@@ -191,37 +215,63 @@ pub fn note_ends(
 pub fn type_ends(
     alloc: Global,
     frames: &Frames,
+    focus: &mut Focus,
     at: u32,
     ty: Option<RawType>,
     kind: ExprToken,
 ) -> Result<Step, AllocError>
     requires { IfSome ty (λ t. whole_height (type_syntax t) ≤ greatest_height) }
-    ensures { IfOk result (λ s. Simulates None (frames_of frames.now) s (type_ends (frames_of frames.now) at (option_map type_syntax ty) kind)) }
+    ensures { IfOk result (λ s. Simulates None (frames_of frames.now) focus.new s (type_ends (frames_of frames.now) at (option_map type_syntax ty) kind)) }
 {
     match ty {
-        Some(ty) => type_end(alloc, frames, at, ty, kind),
+        Some(ty) => type_end(alloc, frames, focus, at, ty, kind),
         None => Ok(refuse_token(kind)),
     }
 }
 
-// One token more, and what it is to expressions.
-fn act(
+// One token more, where what is in focus is moved out.
+fn act_moved(
     alloc: Global,
     frames: &mut Frames,
-    focus: Focus,
+    focus: &mut Focus,
     kind: ExprToken,
     token: &Token,
 ) -> Result<Step, AllocError>
-    ensures { IfOk result (λ s. Simulates (finish (state_of (frames_of frames.old) focus)) (frames_of frames.new) s (act (state_of (frames_of frames.old) focus) kind token.now.start token.now.glued token.now.kind)) }
+    ensures { IfOk result (λ s. Simulates (finish (state_of (frames_of frames.old) focus.old)) (frames_of frames.new) focus.new s (act (state_of (frames_of frames.old) focus.old) kind token.now.start token.now.glued token.now.kind)) }
+{
+    match mem::replace(focus, Focus::Wanted) {
+        Focus::Wanted => begin(alloc, frames, focus, kind, token.start),
+        Focus::Read(operand) => after(alloc, frames, focus, operand, kind, token),
+        Focus::Power(operand) => power_after(alloc, frames, focus, operand, kind, token),
+        Focus::Greater(at, left) => after_greater(
+            alloc,
+            frames,
+            focus,
+            at,
+            left,
+            kind,
+            token.start,
+            token.glued,
+        ),
+        Focus::Inside(place) => inside(alloc, frames, focus, place, kind, token),
+    }
+}
+
+// One token more, and what it is to expressions. Where an operand is wanted, nothing is moved.
+fn act(
+    alloc: Global,
+    frames: &mut Frames,
+    focus: &mut Focus,
+    kind: ExprToken,
+    token: &Token,
+) -> Result<Step, AllocError>
+    ensures { IfOk result (λ s. Simulates (finish (state_of (frames_of frames.old) focus.old)) (frames_of frames.new) focus.new s (act (state_of (frames_of frames.old) focus.old) kind token.now.start token.now.glued token.now.kind)) }
 {
     match focus {
-        Focus::Wanted => begin(alloc, frames, kind, token.start),
-        Focus::Read(operand) => after(alloc, frames, operand, kind, token),
-        Focus::Power(operand) => power_after(alloc, frames, operand, kind, token),
-        Focus::Greater(at, left) => {
-            after_greater(alloc, frames, at, left, kind, token.start, token.glued)
-        }
-        Focus::Inside(place) => inside(alloc, frames, place, kind, token),
+        Focus::Wanted => begin(alloc, frames, focus, kind, token.start),
+        Focus::Read(_) | Focus::Power(_) | Focus::Greater(_, _) | Focus::Inside(_) => act_moved(
+            alloc, frames, focus, kind, token,
+        ),
     }
 }
 
@@ -229,10 +279,10 @@ fn act(
 pub fn step(
     alloc: Global,
     frames: &mut Frames,
-    focus: Focus,
+    focus: &mut Focus,
     token: &mut Token,
 ) -> Result<Step, AllocError>
-    ensures state { IfOk result (λ s. Simulates (finish (state_of (frames_of frames.old) focus)) (frames_of frames.new) s (step (state_of (frames_of frames.old) focus) token.old)) }
+    ensures state { IfOk result (λ s. Simulates (finish (state_of (frames_of frames.old) focus.old)) (frames_of frames.new) focus.new s (step (state_of (frames_of frames.old) focus.old) token.old)) }
     ensures rest { token.new ≡ emptied token.old }
 {
     let kind = ExprToken::of_kind(alloc, &mut token.kind);

@@ -10,5 +10,5 @@ pub returns-in_ok-whole : goal.returns-in_ok-whole
 returns-in_ok-whole c =
     let sign = c.args.sign in
     let left = c.in_ok-left.ensures ∙ ap (λ n. reduce n (frames_of c.args.frames.now) (operand_expr c.args.operand)) c.left_limit.ensures in
-    sign_refused sign c.args.at (left_limit sign) (frames_of c.args.frames.now) (frames_of c.ended.new.frames) (frames_of c.whole.new.frames) (operand_expr c.args.operand) (operand_expr c.in_ok-left.left)
+    sign_refused sign c.args.at (left_limit sign) (frames_of c.args.frames.now) (frames_of c.ended.new.frames) (frames_of c.whole.new.frames) c.args.focus.now (operand_expr c.args.operand) (operand_expr c.in_ok-left.left)
     c.in_ok-whole.field-0 (limit_low sign) left (omega (arith, c.rank.ensures, c.bound.ensures, c.if-rank-bound.false)) c.in_ok-whole.ensures

@@ -12,9 +12,9 @@ returns-clause-state c =
     let new = frames_of c.act.new.frames in
     let old = c.args.token.now in
     let given = c.of_kind-kind.result in
-    let st = state_of frames c.args.focus in
+    let st = state_of frames c.args.focus.now in
     let same : act st given old.start old.glued c.of_kind-kind.new.kind ≡ step st old =
     ap (λ k. act st given old.start old.glued k) c.of_kind-kind.ensures.emptied
-    ∙ (act_kept frames c.args.focus given old.start old.glued old.kind ∙ ap (λ t. act st t old.start old.glued old.kind) c.of_kind-kind.ensures.token) in
-    IfOk-weaker c.act.result (λ s. Simulates (finish st) new s (act st given old.start old.glued c.of_kind-kind.new.kind)) (λ s. Simulates (finish st) new s (step st old))
-    (λ s. subst (λ next. Simulates (finish st) new s next) same) c.act.ensures
+    ∙ (act_kept frames c.args.focus.now given old.start old.glued old.kind ∙ ap (λ t. act st t old.start old.glued old.kind) c.of_kind-kind.ensures.token) in
+    IfOk-weaker c.act.result (λ s. Simulates (finish st) new c.act.new.focus s (act st given old.start old.glued c.of_kind-kind.new.kind)) (λ s. Simulates (finish st) new c.act.new.focus s (step st old))
+    (λ s. subst (λ next. Simulates (finish st) new c.act.new.focus s next) same) c.act.ensures
