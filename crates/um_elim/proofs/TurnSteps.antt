@@ -1,5 +1,5 @@
 -- A turn, as the code makes it, against the definition.
-use Rattle.std.proofs.Common.{◌≡◌, suc, ◌<◌, ◌≤◌, ◌<ℤ◌, to_z, of_z, w32, true, false, cond, ◌&&◌, List, map, ℤ, pos, negsuc, nat_abs, refl, sym, ap, ◌∙◌, subst, arith}
+use Rattle.std.proofs.Common.{◌≡◌, suc, ◌<◌, ◌≤◌, ◌<ℤ◌, to_z, of_z, w32, true, false, cond, ◌&&◌, List, map, ℤ, pos, nat_abs, refl, sym, ap, ◌∙◌, subst, arith}
 use Rattle.std.specs.Prelude.{IsTrue, IsFalse}
 use Rattle.std.specs.List.{list_all}
 use Rattle.std.proofs.lemmas.Bool.{and_left, and_right, and_from}
@@ -12,7 +12,7 @@ use Rattle.um_elim.specs.declared.turning.Turn.{Turn}
 use Rattle.um_elim.specs.declared.stop.ElimStop.{ElimStop}
 use Rattle.um_elim.specs.declared.stop.ElimStop.TheVariants as stop
 use Rattle.um_elim.specs.Pivot.{pivot, least_power, size, has_other, has_base}
-use Rattle.um_elim.specs.Turn.{substitute, multiply, turn, inverted_if_negative, is_negative, signed, IsTurnOf}
+use Rattle.um_elim.specs.Turn.{substitute, multiply, turn, inverted_if_negative, signed, IsTurnOf}
 use Rattle.um_elim.specs.Elimination.{Elimination, Solved, NoSolution, Range, ended, after_turn, turn_at, turns, eliminate}
 use Rattle.um_elim.specs.Stops.{stop_of}
 use Rattle.um_elim.specs.Steps.{Turns, StopsTurn, StopsAs}

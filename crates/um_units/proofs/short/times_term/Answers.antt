@@ -1,7 +1,7 @@
 use Rattle.std.proofs.Common.{rules, ◌≡◌, subst, to_z, of_z, w32, FitsSigned}
 use Rattle.std.proofs.lemmas.Int.{to_z-of_z}
 use Rattle.std.specs.Prelude.{IfOk}
-use Rattle.um_units.specs.PowerMap.{atom, mul, pow}
+use Rattle.um_units.specs.PowerMap.{atom}
 use Rattle.um_units.specs.Range.{fits, RangeUnless}
 use Rattle.um_units.proofs.ShortUnits.{power_passed}
 use Rattle.um_units.proofs.short.times_term.Goals as goal
