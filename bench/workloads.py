@@ -169,6 +169,8 @@ WORKLOADS = [
     Workload("sums and products", "fmt", sums, (475, 1900)),
     Workload("a list of numbers", "fmt", items, (4750, 19000)),
     Workload("units in brackets", "fmt", nested, (20, 80)),
+    Workload("functions of 25 products", "fmt", products, (475, 1900)),
+    Workload("small functions", "fmt", small, (500, 2000)),
     Workload("one function of 20,000 nodes", "code", conditions, (499, 1999)),
     Workload("small functions", "code", small, (500, 2000)),
     Workload("fib", "run 10000000 fib {}", calls, (24, 29), (Rival("lua {file} {size}", ".lua", lua_calls),)),
