@@ -90,6 +90,7 @@ impl<'a> Machine<'a> {
     }
 
     /// One step. The machine goes on.
+    #[inline(always)]
     pub(crate) fn go_on(&mut self) -> Result<(), NoMemory>
         requires { self.old.phase ≡ Going }
         ensures refines { (code : Code) (s : State) → Shows code self.old (going s)
