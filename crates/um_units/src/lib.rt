@@ -22,6 +22,7 @@ ghost use Rattle.um_units.specs.Range.{all_in_range, fits, RangeUnless};
 ghost use Rattle.um_units.specs.Terms.{is_normal};
 ghost use Rattle.um_units.specs.Wide.{as_terms};
 
+use smallvec::SmallVec;
 use std::alloc::{AllocError, AllocFailed, Global};
 use std::marker::Model;
 use thiserror::Error;
@@ -43,12 +44,27 @@ pub enum Atom {
     Var(u32),
 }
 
+// What stands in the places of a list of terms that hold none.
+impl Default for Atom {
+    ghost use Rattle.std.specs.Prelude.{◌≡◌};
+    ghost use Rattle.um_units.specs.declared.Atom.TheVariants.{Base};
+
+    ghost is_default = { λ a. a ≡ Base 0 };
+
+    fn default() -> Atom {
+        Atom::Base(0)
+    }
+}
+
 /// An atom and its power.
-#[derive(Clone, Copy, Debug, PartialEq, Eq, Hash)]
+#[derive(Clone, Copy, Debug, Default, PartialEq, Eq, Hash)]
 pub struct Term {
     pub atom: Atom,
     pub power: i32,
 }
+
+/// The terms of a unit. Most units have no more than two.
+type Terms = SmallVec<Term, 2>;
 
 /// Why an operation on units gives none.
 #[derive(Clone, Copy, Debug, PartialEq, Eq, Error)]
@@ -86,7 +102,7 @@ impl From<AllocError> for UnitStop {
 /// A unit: a finite map from atoms to powers other than 0.
 #[derive(Debug, Drop)]
 pub struct Unit {
-    terms: Vec<Term>,
+    terms: Terms,
 }
 
 impl Model for Unit {
@@ -110,7 +126,7 @@ impl Unit {
         ensures exact { result ≡ one }
     {
         Unit {
-            terms: Vec::new(alloc),
+            terms: SmallVec::new(alloc),
         }
     }
 
@@ -118,7 +134,7 @@ impl Unit {
     pub fn atom(alloc: Global, a: Atom) -> Result<Unit, NoMemory>
         ensures exact { IfOk result (λ unit. unit ≡ atom a) }
     {
-        let mut terms = Vec::new(alloc);
+        let mut terms = SmallVec::new(alloc);
         terms.push(Term { atom: a, power: 1 })?;
         Ok(Unit { terms })
     }
@@ -140,7 +156,7 @@ impl Unit {
         ensures same { IfOk result (λ unit. unit ≡ self.now) }
         ensures fits { IsTrue (fits self.now) }
     {
-        let terms = Vec::from_slice(alloc, &self.terms)?;
+        let terms = SmallVec::from_slice(alloc, self.terms.as_slice())?;
         Ok(Unit { terms })
     }
 
@@ -149,7 +165,7 @@ impl Unit {
         ensures terms { result.now ≡ self.now.terms }
         ensures fits { IsTrue (fits self.now) }
     {
-        &self.terms
+        self.terms.as_slice()
     }
 
     /// The power of an atom, which is 0 where the unit doesn't hold it. Takes no memory.
@@ -157,7 +173,7 @@ impl Unit {
         ensures power { result ≡ power_of self.now a }
         ensures fits { IsTrue (fits self.now) }
     {
-        match term_of(&self.terms, a) {
+        match term_of(self.terms.as_slice(), a) {
             Some(term) => term.power,
             None => 0,
         }
@@ -167,7 +183,7 @@ impl Unit {
     pub fn same(&self, other: &Unit) -> bool
         ensures same { IsTrue result ↔ (self.now ≡ other.now) }
     {
-        self.terms == other.terms
+        self.terms.as_slice() == other.terms.as_slice()
     }
 
     /// The product: the powers of each atom are added, and an atom whose powers cancel is dropped.
@@ -188,7 +204,7 @@ impl Unit {
         ensures exact { IfOk result (λ unit. unit ≡ mul self.now (pow other.now k)) }
         ensures range { RangeUnless result (fits (mul self.now (pow other.now k))) }
     {
-        let terms = merge::times_power(alloc, &self.terms, &other.terms, k)?;
+        let terms = merge::times_power(alloc, self.terms.as_slice(), other.terms.as_slice(), k)?;
         Ok(Unit { terms })
     }
 
@@ -197,7 +213,7 @@ impl Unit {
         ensures exact { IfOk result (λ unit. unit ≡ inv self.now) }
         ensures fits { IsTrue (fits (inv self.now)) }
     {
-        let terms = inverted(alloc, &self.terms)?;
+        let terms = inverted(alloc, self.terms.as_slice())?;
         Ok(Unit { terms })
     }
 
@@ -232,7 +248,7 @@ impl Unit {
         ensures exact { IfOk result (λ unit. unit ≡ replace (nth by.now) self.now) }
         ensures range { RangeUnless result (fits (replace (nth by.now) self.now)) }
     {
-        let (base_units, others) = images::parted(&self.terms);
+        let (base_units, others) = images::parted(self.terms.as_slice());
         if others.is_empty() {
             return Ok(self.copy(alloc)?);
         }
@@ -259,11 +275,11 @@ fn term_of(terms: &[Term], a: Atom) -> Option<&Term>
 }
 
 /// The terms with each power negated.
-fn inverted(alloc: Global, terms: &[Term]) -> Result<Vec<Term>, AllocError>
+fn inverted(alloc: Global, terms: &[Term]) -> Result<Terms, AllocError>
     requires { IsTrue (all_in_range terms.now) }
     ensures { IfOk result (λ v. v.items ≡ map (scale (negsuc 0)) terms.now) }
 {
-    let mut out = Vec::new(alloc);
+    let mut out = SmallVec::new(alloc);
     for term in terms {
         out.push(Term {
             atom: term.atom,
