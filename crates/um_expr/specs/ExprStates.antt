@@ -22,7 +22,12 @@ use Rattle.um_expr.specs.ExprMachine.{Frame, InBracket, Expected, LetBinder, Let
 use Rattle.um_expr.specs.ExprMachine.{ArmBegin, ArmOpen, ArmClose, ArmArrow, HeadBinder, HeadCons, TailBinder}
 use Rattle.um_expr.specs.ExprMachine.{TailArrow, NilColon, PownMinus, PownDigits, PownClose, State, Need, Have}
 use Rattle.um_expr.specs.ExprMachine.{HavePower, Greater, Inside, InNote, InType}
-use Rattle.um_expr.specs.ExprMachine.{Refused, argument, own_rank, top_rank}
+use Rattle.um_expr.specs.ExprMachine.{Refused, argument, own_rank, top_rank, reduce, infix_after, operator_after}
+use Rattle.um_syntax.specs.declared.vocabulary.Symbol.{Symbol}
+use Rattle.um_expr.specs.declared.infix.Infix.{Infix}
+use Rattle.um_expr.specs.declared.token.ExprToken.TheVariants.{Operator as operator}
+use Rattle.um_expr.specs.ExprTokens.{symbol_token}
+use Rattle.um_expr.specs.Ranks.{left_limit}
 use Rattle.um_expr.specs.ExprLeast.{expected_least}
 use Rattle.um_expr.specs.ExprOperands.{operand_expr, read_fields}
 use Rattle.um_expr.specs.ExprFrames.{view_frame, is_call, stack}
@@ -113,3 +118,10 @@ Argued old t (Some same) new = (argument old t ≡ None) × (new ≡ old) × (op
 abbrev pub bracket_empty : List Frame → State
 bracket_empty (InBracket at ∷ frames) = Inside frames (NilColon at)
 bracket_empty _ = Refused
+
+-- a sign is this operator, which what stands right beside it doesn't change
+abbrev pub PlainOperator : Symbol → Infix → Type 0
+PlainOperator symbol sign =
+    (symbol_token symbol ≡ operator sign)
+    × ((frames : List Frame) (t : ExprSyntax) (at : ℕ) (glued : Bool)
+    → operator_after frames t sign at glued ≡ infix_after sign at (reduce (left_limit sign) frames t))

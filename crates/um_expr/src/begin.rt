@@ -20,6 +20,7 @@ use um_syntax::{Keyword, Symbol};
 use um_tree::{Arith, Sign};
 
 /// A form is open behind the token.
+#[inline(never)]
 pub fn opened(frames: &mut Frames, focus: &mut Focus, frame: Frame) -> Result<Step, AllocError>
     ensures { IfOk result (λ s. Simulates None (frames_of frames.new) focus.new s (Need (view_frame frame ∷ frames_of frames.old))) }
 {

@@ -59,6 +59,7 @@ fn unframed(frame: Frame, last: Operand) -> Operand
 
 impl Frame {
     /// The rank of what stands in it lies below this.
+    #[inline(always)]
     pub fn bound(&self) -> u8
         ensures { result ≡ bound_of (view_frame self.now) }
     {
@@ -71,6 +72,7 @@ impl Frame {
     }
 
     /// The rank of what it becomes if no token ends it; else 10.
+    #[inline(always)]
     pub fn own_rank(&self) -> u8
         ensures { result ≡ own_rank (view_frame self.now) }
     {
@@ -107,6 +109,7 @@ impl Frame {
     }
 
     /// The greatest height of its own parts, counted.
+    #[inline(always)]
     pub fn side(&self) -> u32
         ensures { result ≡ counted (side (view_frame self.now)) }
     {
@@ -131,7 +134,19 @@ impl Frame {
     }
 
     /// What it is with its last part, where no token ends it.
+    #[inline(always)]
     pub fn plug(self, alloc: Global, last: Operand) -> Result<Operand, AllocError>
+        ensures { IfOk result (λ p. operand_expr p ≡ plug (view_frame self) (operand_expr last)) }
+    {
+        match self {
+            Frame::InRight(at, sign, left) => left.infix(alloc, at, sign, last),
+            other => other.plug_form(alloc, last),
+        }
+    }
+
+    // The same, for the forms that are rarer than a sign between two operands.
+    #[inline(never)]
+    fn plug_form(self, alloc: Global, last: Operand) -> Result<Operand, AllocError>
         ensures { IfOk result (λ p. operand_expr p ≡ plug (view_frame self) (operand_expr last)) }
     {
         match self {

@@ -51,6 +51,7 @@ impl Frames {
     }
 
     /// The rank of what stands in the innermost frame lies below this.
+    #[inline(always)]
     pub fn bound(&self) -> u8
         ensures { result ≡ top_bound (frames_of self.now) }
     {
@@ -71,6 +72,7 @@ impl Frames {
     }
 
     /// Opens a frame.
+    #[inline(always)]
     pub fn push(&mut self, frame: Frame) -> Result<(), AllocError>
         ensures { OnOk result (frames_of self.new ≡ view_frame frame ∷ frames_of self.old) }
     {
@@ -78,8 +80,13 @@ impl Frames {
             self.least(),
             counted_sum(one_higher(frame.side()), self.count()),
         );
-        self.entries.push(Entry { frame, least })?;
-        Ok(())
+        match self.entries.reserve(1) {
+            Ok(()) => Ok(self.entries.push_reserved(Entry { frame, least })),
+            Err(error) => {
+                drop(frame);
+                Err(error)
+            }
+        }
     }
 
     /// Takes off the innermost frame.

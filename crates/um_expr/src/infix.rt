@@ -17,6 +17,7 @@ impl Infix {
     ghost use Rattle.um_expr.specs.Ranks.{infix_rank, left_limit, right_bound};
 
     /// How tightly the operator binds, from `*` and `/` (3) to `||` (8).
+    #[inline(always)]
     pub fn rank(self) -> u8
         ensures { result ≡ infix_rank self }
     {
@@ -33,6 +34,7 @@ impl Infix {
     }
 
     /// The greatest rank of its left operand.
+    #[inline(always)]
     pub fn left_limit(self) -> u8
         ensures { result ≡ left_limit self }
     {
@@ -49,6 +51,7 @@ impl Infix {
     }
 
     /// The rank of its right operand lies below this.
+    #[inline(always)]
     pub fn right_bound(self) -> u8
         ensures { result ≡ right_bound self }
     {

@@ -28,6 +28,7 @@ fn above_both(list: &Operand, empty: &Operand) -> u32
     one_higher(higher(list.height, higher(empty.height, 1)))
 }
 
+#[inline(never)]
 fn expected_height(place: &Expected) -> u32
     ensures { result ≡ counted (expected_least (view_expected place.now)) }
 {
@@ -52,6 +53,7 @@ fn expected_height(place: &Expected) -> u32
     }
 }
 
+#[inline(always)]
 fn focus_height(focus: &Focus) -> u32
     ensures { result ≡ counted (focus_height focus.now) }
 {
@@ -65,6 +67,7 @@ fn focus_height(focus: &Focus) -> u32
 }
 
 /// Whether an expression within the heights begins with what was read.
+#[inline(always)]
 pub fn is_low(frames: &Frames, focus: &Focus) -> bool
     ensures { result ≡ nat_lt (whole_least (state_of (frames_of frames.now) focus.now)) (greatest_height + 1) }
 {

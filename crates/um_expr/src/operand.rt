@@ -121,6 +121,7 @@ impl Operand {
     }
 
     /// A sign with both operands
+    #[inline(always)]
     pub fn infix(
         self,
         alloc: Global,

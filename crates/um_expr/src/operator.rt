@@ -20,7 +20,8 @@ use std::alloc::{AllocError, Global};
 use um_tree::{RawNode, Sign};
 
 // A sign between two operands.
-fn infix_after(
+#[inline(always)]
+pub fn infix_after(
     alloc: Global,
     frames: &mut Frames,
     focus: &mut Focus,

@@ -19,15 +19,16 @@ use crate::focus::{Expected, Focus, Step};
 use crate::frames::Frames;
 use crate::least_height::is_low;
 use crate::operand::Operand;
+use crate::operator::infix_after;
 use crate::step::{note_ends, step, type_ends};
-use crate::token::ExprToken;
+use crate::token::{ExprToken, plain_operator};
 use std::alloc::{AllocError, Global};
 use std::mem;
 use um_frac::Frac;
 use um_reader::Taken;
-use um_syntax::Token;
+use um_syntax::{Kind, Token};
 use um_tree::RawExpr;
-use um_types::{NoteReader, TypeReader};
+use um_types::{NoteReader, TypeReader, name_of};
 
 /// What is read inside the focus: nothing, the note of a number with its value, or the type of an empty list, at the place of
 /// each.
@@ -130,8 +131,94 @@ impl ExprReader {
         }
     }
 
-    // One token more, where no note and no type has begun.
+    // One token more, where no note and no type has begun. Names and numbers where an operand is wanted, and signs between
+    // operands, are most tokens of an expression, and go without what the others need.
+    #[inline(never)]
     fn take_own(&mut self, alloc: Global, token: &mut Token) -> Result<Taken, AllocError>
+        requires nothing { self.old.inner ≡ Inner.Nothing }
+        requires low { whole_least (state_of (frames_of self.old.frames) self.old.focus) ≤ greatest_height }
+        ensures taken { IfOk result (λ t. Takes machine_of_expressions greatest_height (state_of (frames_of self.old.frames) self.old.focus) token.old t (expr_state self.new)) }
+        ensures rest { OnOk result (token.new ≡ emptied token.old) }
+    {
+        match &self.focus {
+            Focus::Wanted => self.take_operand(alloc, token),
+            Focus::Read(_) => self.take_sign(alloc, token),
+            Focus::Power(_) | Focus::Greater(_, _) | Focus::Inside(_) => {
+                self.take_any(alloc, token)
+            }
+        }
+    }
+
+    // One token where an operand is wanted.
+    #[inline(always)]
+    fn take_operand(&mut self, alloc: Global, token: &mut Token) -> Result<Taken, AllocError>
+        requires nothing { self.old.inner ≡ Inner.Nothing }
+        requires wanted { self.old.focus ≡ Focus.Wanted }
+        requires low { whole_least (Need (frames_of self.old.frames)) ≤ greatest_height }
+        ensures taken { IfOk result (λ t. Takes machine_of_expressions greatest_height (state_of (frames_of self.old.frames) self.old.focus) token.old t (expr_state self.new)) }
+        ensures rest { OnOk result (token.new ≡ emptied token.old) }
+    {
+        let at = token.start;
+        match &mut token.kind {
+            Kind::Name(letters) => {
+                let name = name_of(letters.take(alloc));
+                let operand = Operand::name(alloc, at, name)?;
+                Ok(self.put_atom(operand))
+            }
+            Kind::Number { value, .. } => {
+                let operand = Operand::number(alloc, at, *value, None)?;
+                Ok(self.put_atom(operand))
+            }
+            _ => self.take_any(alloc, token),
+        }
+    }
+
+    // An atom stands inside the frames. It needs as much height as an operand that is wanted.
+    #[inline(always)]
+    fn put_atom(&mut self, operand: Operand) -> Taken
+        ensures goes { result ≡ Taken.Goes }
+        ensures state { expr_state self.new ≡ inner_state (frames_of self.old.frames) (Focus.Read operand) self.old.inner }
+    {
+        self.focus.goes(Focus::Read(operand));
+        Taken::Goes
+    }
+
+    // One token behind an atom.
+    #[inline(always)]
+    fn take_sign(&mut self, alloc: Global, token: &mut Token) -> Result<Taken, AllocError>
+        requires nothing { self.old.inner ≡ Inner.Nothing }
+        ensures taken { IfOk result (λ t. Takes machine_of_expressions greatest_height (state_of (frames_of self.old.frames) self.old.focus) token.old t (expr_state self.new)) }
+        ensures rest { OnOk result (token.new ≡ emptied token.old) }
+    {
+        let at = token.start;
+        match &token.kind {
+            Kind::Sign(symbol) => match plain_operator(*symbol) {
+                Some(sign) => match mem::replace(&mut self.focus, Focus::Wanted) {
+                    Focus::Read(operand) => {
+                        let given = infix_after(
+                            alloc,
+                            &mut self.frames,
+                            &mut self.focus,
+                            operand,
+                            sign,
+                            at,
+                        )?;
+                        Ok(self.go(alloc, given))
+                    }
+                    other => {
+                        self.focus = other;
+                        self.take_any(alloc, token)
+                    }
+                },
+                None => self.take_any(alloc, token),
+            },
+            _ => self.take_any(alloc, token),
+        }
+    }
+
+    // One token more, whatever it is, where no note and no type has begun.
+    #[inline(never)]
+    fn take_any(&mut self, alloc: Global, token: &mut Token) -> Result<Taken, AllocError>
         requires nothing { self.old.inner ≡ Inner.Nothing }
         ensures taken { IfOk result (λ t. Takes machine_of_expressions greatest_height (state_of (frames_of self.old.frames) self.old.focus) token.old t (expr_state self.new)) }
         ensures rest { OnOk result (token.new ≡ emptied token.old) }
@@ -148,7 +235,7 @@ impl ExprReader {
         ensures rest { OnOk result (token.new ≡ emptied token.old) }
     {
         match mem::replace(&mut self.inner, Inner::Nothing) {
-            Inner::Nothing => self.take_own(alloc, token),
+            Inner::Nothing => self.take_any(alloc, token),
             Inner::Note(at, value, note) => self.end_note(alloc, at, value, note, token),
             Inner::Type(at, ty) => self.end_type(alloc, at, ty, token),
         }
@@ -193,6 +280,7 @@ impl ExprReader {
     }
 
     // What a step gives.
+    #[inline(always)]
     fn go(&mut self, alloc: Global, given: Step) -> Taken
         requires nothing { self.old.inner ≡ Inner.Nothing }
         ensures { (old next : State) → Simulates (finish old) (frames_of self.old.frames) self.old.focus given next → Gives machine_of_expressions greatest_height old next result (expr_state self.new) }
@@ -206,6 +294,7 @@ impl ExprReader {
     }
 
     // Whether an expression within the heights begins so.
+    #[inline(always)]
     fn rated(&self) -> Taken
         ensures { result ≡ cond (nat_lt (whole_least (state_of (frames_of self.now.frames) self.now.focus)) (greatest_height + 1)) Taken.Goes Taken.High }
     {

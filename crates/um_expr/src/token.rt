@@ -1,5 +1,6 @@
 // What a token is to expressions and declarations.
-ghost use Rattle.std.specs.Prelude.{◌≡◌};
+ghost use Rattle.std.specs.Prelude.{◌≡◌, IfSome};
+ghost use Rattle.um_expr.specs.ExprStates.{PlainOperator};
 ghost use Rattle.um_syntax.specs.Emptied.{emptied_kind};
 ghost use Rattle.um_expr.specs.ExprTokens.{expr_token, keyword_token, symbol_token};
 
@@ -31,6 +32,26 @@ fn of_keyword(keyword: Keyword) -> ExprToken
         Keyword::True => ExprToken::Truth(true),
         Keyword::False => ExprToken::Truth(false),
         _ => ExprToken::Word(keyword),
+    }
+}
+
+/// The operator that a sign is, where what stands right beside it doesn't matter: not `<` and `>`.
+#[inline(always)]
+pub fn plain_operator(symbol: Symbol) -> Option<Infix>
+    ensures { IfSome result (λ sign. PlainOperator symbol sign) }
+{
+    match symbol {
+        Symbol::Plus => Some(Infix::Arith(Arith::Add)),
+        Symbol::Minus => Some(Infix::Arith(Arith::Sub)),
+        Symbol::Star => Some(Infix::Arith(Arith::Mul)),
+        Symbol::Slash => Some(Infix::Arith(Arith::Div)),
+        Symbol::Equal => Some(Infix::Compare(Sign::Eq)),
+        Symbol::LessEqual => Some(Infix::Compare(Sign::Le)),
+        Symbol::NotEqual => Some(Infix::Compare(Sign::Ne)),
+        Symbol::ColonColon => Some(Infix::Cons),
+        Symbol::BarBar => Some(Infix::Or),
+        Symbol::AndAnd => Some(Infix::And),
+        _ => None,
     }
 }
 
