@@ -210,8 +210,20 @@ impl Frac {
         requires { 0 < below }
         ensures { result ≡ reduced (signed negative above) (pos below) }
     {
+        if above <= u64::MAX as u128 && below <= u64::MAX as u128 {
+            return Frac::quotient_of_short(negative, above as u64, below as u64);
+        }
         let common = wide_common_divisor(above, below);
         Frac::in_range(negative, above / common, below / common)
+    }
+
+    // The same for sizes of 64 bits, which most are: it divides no 128-bit numbers.
+    fn quotient_of_short(negative: bool, above: u64, below: u64) -> Option<Frac>
+        requires { 0 < below }
+        ensures { result ≡ reduced (signed negative above) (pos below) }
+    {
+        let common = common_divisor(above, below);
+        Frac::in_range(negative, (above / common) as u128, (below / common) as u128)
     }
 
     // The fraction of a numerator, given by its sign and its size, and a denominator in lowest terms, or `None` where
