@@ -1,5 +1,5 @@
 -- What a machine shows, before and after a step.
-use Rattle.std.proofs.Common.{rules, ◌≡◌, refl, sym, ap, ◌∙◌, subst, ℕ, zero, suc, ◌-◌, List, slice_get, arith}
+use Rattle.std.proofs.Common.{rules, ◌≡◌, refl, sym, ap, ◌∙◌, subst, ℕ, zero, suc, ◌-◌, ◌≤◌, List, slice_get, arith}
 use Rattle.std.specs.Prelude.{IsTrue}
 use Rattle.um_tree.specs.ValueTree.{ValueTree, OutcomeTree, value_outcome}
 use Rattle.um_cells.specs.declared.store.Store.{Store}
@@ -8,7 +8,7 @@ use Rattle.um_cells.specs.Stores.{DenotesIn, HasValue}
 use Rattle.um_cells.proofs.WellFormed.{value_of_word}
 use Rattle.um_cells.proofs.Denoting.{one_value, one_value_each}
 use Rattle.um_machine.specs.declared.code.Code.{Code}
-use Rattle.um_machine.specs.Machine.{State, Step, going, done, stuck, starts}
+use Rattle.um_machine.specs.Machine.{State, Step, going, done, stuck, starts, step}
 use Rattle.um_vm.specs.declared.phase.End.{End}
 use Rattle.um_vm.specs.declared.phase.End.TheVariants as end
 use Rattle.um_vm.specs.declared.phase.Phase.{Phase}
@@ -17,7 +17,7 @@ use Rattle.um_vm.specs.declared.run.Run.{Run}
 use Rattle.um_vm.specs.declared.machine.Machine.{Machine}
 use Rattle.um_vm.specs.Going.{state_of}
 use Rattle.um_vm.specs.Ends.{IsEnd}
-use Rattle.um_vm.specs.Stepping.{first_state, IsBegun}
+use Rattle.um_vm.specs.Stepping.{first_state, IsBegun, Makes}
 use Rattle.um_vm.specs.Phases.{first_phase, end_holds, phase_holds}
 use Rattle.um_vm.specs.Laws.{MachinesShowOneStep}
 use Rattle.um_vm.specs.Showing.{ShowsIn, Shows}
@@ -66,6 +66,11 @@ end_read store w v o d (u, k, e) = e ∙ ap value_outcome (one_value store.cells
 
 pub shown_by : (code : Code) (m : Run) (p : Phase) (r t : Step) → r ≡ t → ShowsIn code m p t → ShowsIn code m p r
 shown_by code m p r t e h = subst (λ x. ShowsIn code m p x) (sym e) h
+
+-- one step, where no more were made
+pub first_made : (code : Code) (k : ℕ) (s : State) (IsLast : Step → Type 0) → Makes code k s IsLast → k ≤ 1 → IsLast (step code s)
+first_made code k s IsLast (zero, u, many, reached, last) h = let same : s ≡ u = cc in subst (λ x. IsLast (step code x)) (sym same) last
+first_made code k s IsLast (suc n, u, many, reached, last) h = absurd (omega (arith, many, h))
 
 one_outcome : (store : Store) (e : End) (o p : OutcomeTree) → IsEnd store e o → IsEnd store e p → o ≡ p
 one_outcome store (end.Value w) o p (v, d, h) (u, k, g) =

@@ -1,5 +1,5 @@
 //! A call, from its arguments to its outcome, with its steps counted.
-ghost use Rattle.std.specs.Prelude.{◌≡◌, ℕ, ◌+◌, List, length, map, min, IfOk, IsTrue};
+ghost use Rattle.std.specs.Prelude.{◌≡◌, List, length, map, IfOk, IsTrue};
 ghost use Rattle.um_tree.specs.ValueTree.{OutcomeTree, value_tree, outcome_tree};
 ghost use Rattle.um_tree.specs.ProgramTree.{FunctionTree};
 ghost use Rattle.um_machine.specs.Machine.{EndsWith};
@@ -43,21 +43,14 @@ pub(crate) fn run_call(
     loop {
         match machine.phase {
             Phase::Going => {
-                machine.go_on()?;
-                steps = one_more(steps);
+                let more = machine.go_on(u64::MAX)?;
+                steps = steps.saturating_add(more);
             }
             Phase::Ended(end) => return finish(&machine, end, steps),
             Phase::Stuck => unreachable!(),
             Phase::Failed => unreachable!(),
         }
     }
-}
-
-// One step more, up to the counter's end.
-fn one_more(steps: u64) -> u64
-    ensures { (n : ℕ) → steps ≡ min n 18446744073709551615 → result ≡ min (n + 1) 18446744073709551615 }
-{
-    if steps < u64::MAX { steps + 1 } else { steps }
 }
 
 fn finish(machine: &Machine, end: End, steps: u64) -> Result<CountedOutcome, NoMemory>

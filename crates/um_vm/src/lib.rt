@@ -16,6 +16,7 @@ mod laws;
 mod machine;
 mod operations;
 mod phase;
+mod progress;
 mod run;
 mod runner;
 mod stack;

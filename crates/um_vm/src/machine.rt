@@ -3,7 +3,7 @@ ghost use Rattle.std.specs.Prelude.{IsTrue};
 ghost use Rattle.um_vm.specs.Phases.{phase_holds};
 
 use crate::phase::{End, Phase, first_phase};
-use crate::run::{Progress, Run};
+use crate::run::Run;
 use crate::step::Step;
 use crate::stop::Stop;
 use std::alloc::{AllocError, Global};
@@ -24,13 +24,14 @@ pub struct Machine<'a> {
 }
 
 impl<'a> Machine<'a> {
-    ghost use Rattle.std.specs.Prelude.{◌≡◌, ◌-◌, List, length, map, slice_get, IfOk, OnOk, OnErr, IsErr};
+    ghost use Rattle.std.specs.Prelude.{◌≡◌, ◌-◌, ◌<◌, ◌≤◌, List, length, map, slice_get, Err, IfOk, OnOk, OnErr, IsErr};
     ghost use Rattle.um_tree.specs.ValueTree.{OutcomeTree, value_tree, outcome_tree};
     ghost use Rattle.um_machine.specs.declared.code.Code.{Code};
     ghost use Rattle.um_machine.specs.Machine.{State, Step as MachineStep, going, done, starts, next, step};
     ghost use Rattle.um_vm.specs.declared.phase.Phase.TheVariants.{Going, Ended};
     ghost use Rattle.um_vm.specs.Ends.{IsEnd};
     ghost use Rattle.um_vm.specs.Phases.{end_holds};
+    ghost use Rattle.um_vm.specs.Stepping.{IsStep, Makes};
     ghost use Rattle.um_vm.specs.Showing.{Shows, HasFailed, IsAnswer, IsCallOf};
 
     /// A machine at the start of a call of function `f` of the code on the arguments, in the order of its parameters.
@@ -82,40 +83,65 @@ impl<'a> Machine<'a> {
         ensures no_memory { OnErr result (HasFailed self.new) }
     {
         match self.phase {
-            Phase::Going => self.go_on(),
+            Phase::Going => match self.go_on(1) {
+                Ok(_) => Ok(()),
+                Err(e) => Err(e),
+            },
             Phase::Ended(_) => Ok(()),
             Phase::Stuck => Ok(()),
             Phase::Failed => Err(AllocError),
         }
     }
 
-    /// One step. The machine goes on.
-    #[inline(always)]
-    pub(crate) fn go_on(&mut self) -> Result<(), NoMemory>
-        requires { self.old.phase ≡ Going }
+    /// Steps of a machine that goes on, up to the end of its run and at most `limit`, which isn't 0: how many they were.
+    pub(crate) fn go_on(&mut self, limit: u64) -> Result<u64, NoMemory>
+        requires going { self.old.phase ≡ Going }
+        requires limit { 0 < limit }
         ensures refines { (code : Code) (s : State) → Shows code self.old (going s)
-            → OnOk result (Shows code self.new (step code s)) }
+            → IfOk result (λ k. Makes code k s (Shows code self.new)) }
+        ensures count { IfOk result (λ k. k ≤ limit) }
         ensures no_memory { OnErr result (HasFailed self.new) }
     {
-        match self.run.step() {
-            Ok(Progress::Going) => Ok(()),
-            Ok(Progress::Returned) => {
-                self.phase = Phase::Ended(End::Value(self.run.stack.top()));
-                Ok(())
+        let progress = self.run.run(limit);
+        match progress.last {
+            Ok(()) => Ok(progress.steps),
+            Err(stop) => {
+                self.stop(stop)?;
+                Ok(progress.steps)
             }
-            Err(Stop::Trap(trap)) => {
+        }
+    }
+
+    // The run doesn't go on.
+    fn stop(&mut self, stop: Stop) -> Result<(), NoMemory>
+        ensures refines { (code : Code) (r : MachineStep) → IsStep code r (Err stop) self.old.run
+            → OnOk result (Shows code self.new r) }
+        ensures no_memory { OnErr result (HasFailed self.new) }
+    {
+        match stop {
+            Stop::Returned => match self.run.stack.top() {
+                Some(word) => {
+                    self.phase = Phase::Ended(End::Value(word));
+                    Ok(())
+                }
+                None => {
+                    self.phase = Phase::Stuck;
+                    Ok(())
+                }
+            },
+            Stop::Trap(trap) => {
                 self.phase = Phase::Ended(End::Trap(trap));
                 Ok(())
             }
-            Err(Stop::BudgetEnd) => {
+            Stop::BudgetEnd => {
                 self.phase = Phase::Ended(End::BudgetEnd);
                 Ok(())
             }
-            Err(Stop::Stuck) => {
+            Stop::Stuck => {
                 self.phase = Phase::Stuck;
                 Ok(())
             }
-            Err(Stop::NoMemory) => {
+            Stop::NoMemory => {
                 self.phase = Phase::Failed;
                 Err(AllocError)
             }

@@ -18,6 +18,7 @@ pub(crate) enum Unary {
 }
 
 /// The operation on one value.
+#[inline(never)]
 pub(crate) fn apply(store: &Store, op: Unary, word: Word) -> WordOutcome
     ensures { (v : ValueTree) → DenotesIn store.now word v → IsOutcome store.now (applied op v) result }
 {

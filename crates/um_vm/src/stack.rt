@@ -17,9 +17,10 @@ pub(crate) struct Stack {
 }
 
 impl Stack {
-    ghost use Rattle.std.specs.Prelude.{◌≡◌, ◌+◌, ◌-◌, ◌<◌, ◌≤◌, List, [], ◌∷◌, ◌++◌, Result, Ok, Some, length, map, take, drop, slice_get, IfOk, OnOk, MatchOption};
+    ghost use Rattle.std.specs.Prelude.{◌≡◌, ◌+◌, ◌-◌, ◌<◌, ◌≤◌, List, [], ◌∷◌, ◌++◌, Result, Ok, Some, length, map, take, drop, slice_get, IfOk, OnOk, IfSome, MatchOption};
     ghost use Rattle.um_tree.specs.ValueTree.{ValueTree, list_value, record_value, value_tree, values_in_order};
     ghost use Rattle.um_tree.specs.Meaning.{Stop as MeaningStop, longer};
+    ghost use Rattle.um_cells.specs.declared.word.Word.{Word};
     ghost use Rattle.um_cells.specs.Stores.{DenotesIn, HasValue};
     ghost use Rattle.um_cells.specs.Holding.{HoldsIn};
     ghost use Rattle.um_cells.specs.Operations.{IsOutcome};
@@ -86,14 +87,18 @@ impl Stack {
         Some((at, self.words[at], self.words[at + 1]))
     }
 
-    /// The topmost word.
-    pub(crate) fn top(&self) -> Word
-        requires { 0 < length self.now.words.items }
-        ensures holds { HoldsIn self.now.store result }
+    /// The topmost word, if there is one.
+    pub(crate) fn top(&self) -> Option<Word>
+        ensures holds { IfSome result (λ word. HoldsIn self.now.store word) }
         ensures value { (vs : List ValueTree) (v : ValueTree) → Carries self.now vs
-            → slice_get vs (length vs - 1) ≡ Some v → DenotesIn self.now.store result v }
+            → slice_get vs (length vs - 1) ≡ Some v
+            → (word : Word) × (result ≡ Some word) × DenotesIn self.now.store word v }
     {
-        self.words[self.words.len() - 1]
+        let count = self.words.len();
+        if count == 0 {
+            return None;
+        }
+        Some(self.words[count - 1])
     }
 
     /// The words from the place on go.
@@ -159,6 +164,7 @@ impl Stack {
     }
 
     /// The list `y` with `x` in front, in place of the words from the place on.
+    #[inline(never)]
     pub(crate) fn cons(&mut self, at: usize, x: Word, y: Word) -> Result<(), Stop>
         requires place { at ≤ length self.old.words.items }
         requires item { HasValue self.old.store x }
@@ -174,6 +180,7 @@ impl Stack {
     }
 
     /// The list of the words from the place on, in their place.
+    #[inline(never)]
     pub(crate) fn make_list(&mut self, at: usize) -> Result<(), Stop>
         requires { at ≤ length self.old.words.items }
         ensures { (vs : List ValueTree) → Carries self.old vs
@@ -186,6 +193,7 @@ impl Stack {
     }
 
     /// The record of this number of the words from the place on, in their place.
+    #[inline(never)]
     pub(crate) fn make_record(&mut self, at: usize, record_number: u32) -> Result<(), Stop>
         requires { at ≤ length self.old.words.items }
         ensures { (vs : List ValueTree) → Carries self.old vs

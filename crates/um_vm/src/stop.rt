@@ -9,4 +9,6 @@ pub(crate) enum Stop {
     /// No instruction applies
     Stuck,
     NoMemory,
+    /// The outermost function has returned, with the topmost value
+    Returned,
 }

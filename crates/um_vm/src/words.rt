@@ -1,5 +1,5 @@
 //! Words in a vector, as the stack has them.
-ghost use Rattle.std.specs.Prelude.{◌≡◌, ◌+◌, ◌≤◌, [], ◌∷◌, ◌++◌, length, map, take, slice_get, IfOk, OnOk, OnErr};
+ghost use Rattle.std.specs.Prelude.{◌≡◌, ◌+◌, ◌<◌, ◌≤◌, Some, [], ◌∷◌, ◌++◌, length, map, take, slice_get, IfOk, OnOk, OnErr, OnSome};
 ghost use Rattle.um_tree.specs.ValueTree.{value_tree};
 ghost use Rattle.um_cells.specs.Stores.{AllDenote};
 
@@ -23,13 +23,22 @@ pub(crate) fn put_values(
 
 /// The item of this place.
 pub(crate) fn item<T: Copy>(items: &[T], k: usize) -> Option<T>
-    ensures { result ≡ slice_get items.now k }
+    ensures item { result ≡ slice_get items.now k }
+    ensures within { OnSome result (k < length items.now) }
 {
     if k < items.len() {
         Some(items[k])
     } else {
         None
     }
+}
+
+/// The item of this place, which is there.
+pub(crate) fn item_at<T>(items: &[T], k: usize) -> &T
+    requires { k < length items.now }
+    ensures { slice_get items.now k ≡ Some result.now }
+{
+    &items[k]
 }
 
 /// The word that stands `k` words above the base.

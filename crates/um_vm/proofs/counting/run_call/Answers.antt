@@ -3,19 +3,19 @@ use Rattle.std.specs.Prelude.{IsTrue}
 use Rattle.um_tree.specs.ValueTree.{value_tree, outcome_tree}
 use Rattle.um_machine.specs.Machine.{Runs}
 use Rattle.um_vm.specs.Phases.{phase_holds}
-use Rattle.um_vm.proofs.Counted.{reaches_start, reaches_next, counted_end, never_stuck, never_failed, step_falls}
+use Rattle.um_vm.proofs.Counted.{reaches_start, reaches_more, counted_end, never_stuck, never_failed, run_falls}
 use Rattle.um_vm.proofs.counting.run_call.Goals as goal
 
 pub loop-machine-init : goal.loop-machine-init
 loop-machine-init c = reaches_start c.args.code.now c.args.f (map value_tree c.args.args.items.items) c.args.budget c.in_ok-machine.machine c.in_ok-machine.ensures
 
 pub loop-machine-preserved : goal.loop-machine-preserved
-loop-machine-preserved c = reaches_next c.args.code.now c.args.f (map value_tree c.args.args.items.items) c.args.budget c.loop-machine.machine c.go_on.new.self c.loop-machine.steps c.one_more-steps.result c.in-Going.is (c.in_ok-go_on-in-Going.ensures.refines c.args.code.now) c.one_more-steps.ensures c.loop-machine.invariant
+loop-machine-preserved c = reaches_more c.args.code.now c.args.f (map value_tree c.args.args.items.items) c.args.budget c.loop-machine.machine c.go_on.new.self c.loop-machine.steps c.in_ok-more-in-Going.more c.saturating_add-steps.result c.in-Going.is (c.in_ok-more-in-Going.ensures.refines c.args.code.now) c.saturating_add-steps.ensures c.loop-machine.invariant
 
 pub loop-machine-smaller : goal.loop-machine-smaller
 loop-machine-smaller c =
     let (i, h, counted, before) = c.loop-machine.invariant in
-    step_falls c.args.code.now c.requires.generated.0 c.loop-machine.machine c.go_on.new.self (Runs c.args.code.now c.args.f (map value_tree c.args.args.items.items) c.args.budget i) c.requires.generated.1 c.in-Going.is h (c.in_ok-go_on-in-Going.ensures.refines c.args.code.now)
+    run_falls c.args.code.now c.requires.generated.0 c.loop-machine.machine c.go_on.new.self (Runs c.args.code.now c.args.f (map value_tree c.args.args.items.items) c.args.budget i) c.in_ok-more-in-Going.more c.requires.generated.1 c.in-Going.is h (c.in_ok-more-in-Going.ensures.refines c.args.code.now)
 
 pub finish-requires : goal.finish-requires
 finish-requires c = subst (λ p. IsTrue (phase_holds c.loop-machine.machine.run.stack.store p)) c.in-Ended.is c.loop-machine.machine.ended

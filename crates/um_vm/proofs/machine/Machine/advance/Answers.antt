@@ -1,15 +1,14 @@
 use Rattle.std.proofs.Common.{sym, ap, subst, ◌∙◌}
-use Rattle.std.specs.Prelude.{OnOk}
 use Rattle.um_machine.specs.Machine.{next, step}
 use Rattle.um_vm.specs.Showing.{Shows}
-use Rattle.um_vm.proofs.Shown.{shown_state, shown_end, shown_stuck}
+use Rattle.um_vm.proofs.Shown.{shown_state, shown_end, shown_stuck, first_made}
 use Rattle.um_vm.proofs.machine.Machine.advance.Goals as goal
 
-pub returns-in-Going-clause-refines : goal.returns-in-Going-clause-refines
-returns-in-Going-clause-refines c = λ code r h.
+pub returns-in-Ok-clause-refines : goal.returns-in-Ok-clause-refines
+returns-in-Ok-clause-refines c = λ code r h.
     let m = c.args.self.now in
     let (s, e, k) = shown_state code m r c.in-Going.is h in
-    subst (λ x. OnOk c.go_on.result (Shows code c.go_on.new.self (next x (step code)))) (sym e) (c.go_on.ensures.refines code s k)
+    subst (λ x. Shows code c.go_on.new.self (next x (step code))) (sym e) (first_made code c.in-Ok.field-0 s (Shows code c.go_on.new.self) (c.in-Ok.ensures.refines code s k) c.in-Ok.ensures.count)
 
 pub returns-in-Ended-clause-refines : goal.returns-in-Ended-clause-refines
 returns-in-Ended-clause-refines c = λ code r h.

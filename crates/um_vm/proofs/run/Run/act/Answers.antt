@@ -6,10 +6,10 @@ use Rattle.um_vm.specs.Stepping.{IsStep}
 use Rattle.um_vm.proofs.run.Run.act.Goals as goal
 
 pub push-requires-clause-value : goal.push-requires-clause-value
-push-requires-clause-value c = (number_value c.in-PushNum.c, refl)
+push-requires-clause-value c = (number_value _, refl)
 
 pub push-requires-in-PushBool-clause-value : goal.push-requires-in-PushBool-clause-value
-push-requires-in-PushBool-clause-value c = (truth_value c.in-PushBool.b, refl)
+push-requires-in-PushBool-clause-value c = (truth_value _, refl)
 
 pub returns-in-MakeRec-clause-step : goal.returns-in-MakeRec-clause-step
 returns-in-MakeRec-clause-step c = λ code vs h.
