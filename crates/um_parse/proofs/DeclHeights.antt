@@ -21,16 +21,9 @@ use Rattle.um_parse.specs.ProgramHeights.{fields_height, params_height, result_h
 use Rattle.um_parse.specs.ProgramLeast.{expected_least, decl_least}
 use Rattle.um_parse.specs.DeclMachine.{FunctionStart, VarOwner, OfRecord, OfFunction, started, behind_vars, body_begins_if, take_params, function_from, DeclExpected, DeclBegin, AttributeWord, AttributeGreater, AttributeClose, MeasureType, MeasureName, RecordName, RecordVars, VarBegin, VarWord, VarGreater, VarClose, VarName, VarEnd, RecordEqual, RecordBrace, FieldName, FieldColon, LetName, RecName, FunctionVars, Params, ParamBinder, ParamColon, DeclState, Expects, HaveBase, InShort, HaveRecord, InField, InParam, InResult, InBody, NoDecl, body_begins, take_expected, base_after, field_ends, param_ends, result_ends, short_goes, field_goes, param_goes, result_goes, body_goes, decl_step, short_found, body_found, decl_finish}
 use Rattle.um_expr.proofs.ExprHeights.{expr_completed_height, expr_up, expr_found_height}
+use Rattle.um_parse.proofs.DeclLists.{fields_height_last, params_height_last}
 use Rattle.um_parse.proofs.DeclPrefixes.{DeclSpellsPrefix}
 use Rattle.um_parse.proofs.DeclCompletions.{unnamed_var, owner_with, expected_completed, decl_completed}
-
-fields_last : (fs : List FieldDeclSyntax) (f : FieldDeclSyntax) → fields_height (fs ++ f ∷ []) ≡ max (fields_height fs) (whole_height f.type)
-fields_last [] f = omega arith
-fields_last (g ∷ gs) f = let e = fields_last gs f in omega (arith, e)
-
-params_last : (ps : List ParamSyntax) (p : ParamSyntax) → params_height (ps ++ p ∷ []) ≡ max (params_height ps) (whole_height p.type)
-params_last [] p = omega arith
-params_last (q ∷ qs) p = let e = params_last qs p in omega (arith, e)
 
 -- ---- the completion
 
@@ -45,10 +38,10 @@ expected_height (VarGreater owner vs) = owner_height owner (vs ++ unnamed_var �
 expected_height (VarClose owner vs) = owner_height owner (vs ++ unnamed_var ∷ [])
 expected_height (VarName owner vs) = owner_height owner (vs ++ unnamed_var ∷ [])
 expected_height (VarEnd owner vs) = owner_height owner vs
-expected_height (FieldName at x vs fs) = let e = fields_last fs (record { at = 0; name = []; type = bool_syntax }) in omega (arith, e)
-expected_height (FieldColon at x vs fs place y) = let e = fields_last fs (record { at = place; name = y; type = bool_syntax }) in omega (arith, e)
-expected_height (ParamBinder head ps) = let e = params_last ps (record { binder = record { at = 0; name = None }; type = bool_syntax }) in omega (arith, e)
-expected_height (ParamColon head ps b) = let e = params_last ps (record { binder = b; type = bool_syntax }) in omega (arith, e)
+expected_height (FieldName at x vs fs) = let e = fields_height_last fs (record { at = 0; name = []; type = bool_syntax }) in omega (arith, e)
+expected_height (FieldColon at x vs fs place y) = let e = fields_height_last fs (record { at = place; name = y; type = bool_syntax }) in omega (arith, e)
+expected_height (ParamBinder head ps) = let e = params_height_last ps (record { binder = record { at = 0; name = None }; type = bool_syntax }) in omega (arith, e)
+expected_height (ParamColon head ps b) = let e = params_height_last ps (record { binder = b; type = bool_syntax }) in omega (arith, e)
 expected_height _ = omega arith
 
 pub decl_completed_height : (st : DeclState) (tokens rest : List Token) → DeclSpellsPrefix st tokens rest → st ≢ NoDecl → decl_height (decl_completed st) ≡ decl_least st
@@ -57,11 +50,11 @@ decl_completed_height (HaveBase at x) tokens rest h ok = refl
 decl_completed_height (InShort at x u) tokens rest h ok = completed_height u h.7
 decl_completed_height (HaveRecord at x vs fs) tokens rest h ok = refl
 decl_completed_height (InField at x vs fs place y s) tokens rest h ok =
-    let e = fields_last fs (record { at = place; name = y; type = type_completed s }) in
+    let e = fields_height_last fs (record { at = place; name = y; type = type_completed s }) in
     let t : whole_height (type_completed s) ≡ type_least s = type_completed_height s h.3 rest h.8 h.10 in
     omega (arith, e, t)
 decl_completed_height (InParam head ps b s) tokens rest h ok =
-    let e = params_last ps (record { binder = b; type = type_completed s }) in
+    let e = params_height_last ps (record { binder = b; type = type_completed s }) in
     let t : whole_height (type_completed s) ≡ type_least s = type_completed_height s h.3 rest h.8 h.10 in
     omega (arith, e, t)
 decl_completed_height (InResult head ps s) tokens rest h ok =
@@ -149,11 +142,11 @@ field_end_up : (at : ℕ) (x : List ℕ) (vs : List VarSyntax) (fs : List FieldD
     → Above (max (fields_height fs) (type_least s)) (field_ends at x vs fs place y found what)
 field_end_up at x vs fs place y s (Some t) (mark symbol.Semicolon) e =
     let same = type_found_height s t e in
-    let last = fields_last fs (record { at = place; name = y; type = t }) in
+    let last = fields_height_last fs (record { at = place; name = y; type = t }) in
     omega (arith, same, last)
 field_end_up at x vs fs place y s (Some t) (mark symbol.RightBrace) e =
     let same = type_found_height s t e in
-    let last = fields_last fs (record { at = place; name = y; type = t }) in
+    let last = fields_height_last fs (record { at = place; name = y; type = t }) in
     omega (arith, same, last)
 field_end_up at x vs fs place y s _ _ e = tt
 
@@ -161,7 +154,7 @@ param_end_up : (head : FunctionStart) (ps : List ParamSyntax) (b : BinderSyntax)
     → Above (max (params_height ps) (max (type_least s) 1)) (param_ends head ps b found what)
 param_end_up head ps b s (Some t) (mark symbol.RightParen) e =
     let same = type_found_height s t e in
-    let last = params_last ps (record { binder = b; type = t }) in
+    let last = params_height_last ps (record { binder = b; type = t }) in
     omega (arith, same, last)
 param_end_up head ps b s _ _ e = tt
 

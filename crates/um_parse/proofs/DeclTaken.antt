@@ -1,8 +1,10 @@
 -- What follows a token of a declaration stands within the heights.
-use Rattle.std.proofs.Common.{◌≢◌, ◌≤◌, arith}
+use Rattle.std.proofs.Common.{◌≡◌, ◌≢◌, ◌≤◌, sym, ap, ◌∙◌, arith}
+use Rattle.um_reader.specs.Takes.{Gives}
+use Rattle.um_reader.specs.declared.taken.Taken.TheVariants as taken
 use Rattle.um_types.specs.UnitStops.{greatest_height}
-use Rattle.um_parse.specs.DeclMachine.{NoDecl}
-use Rattle.um_parse.specs.ProgramLeast.{expected_least, decl_least}
+use Rattle.um_parse.specs.DeclMachine.{DeclState, NoDecl}
+use Rattle.um_parse.specs.ProgramLeast.{expected_least, decl_least, machine_of_declarations}
 use Rattle.um_parse.specs.DeclViews.{view_measure, view_var, view_expected, next_state}
 use Rattle.um_parse.specs.declared.decl_prefix.Owner.{Owner}
 use Rattle.um_parse.specs.declared.decl_prefix.Head.{Head}
@@ -26,23 +28,17 @@ var_low o h _ = omega arith
 expected_low : (p : ExpectedToken) → expected_least (view_expected p) ≤ greatest_height
 expected_low (expected.Measure m) = measure_low m
 expected_low (expected.Var o h v) = var_low o h v
-expected_low (expected.FieldName f) = omega (arith, f.value.low)
-expected_low (expected.FieldColon f p y) = omega (arith, f.value.low)
-expected_low (expected.Params f) = omega (arith, f.value.low)
-expected_low (expected.ParamBinder f) = omega (arith, f.value.low)
-expected_low (expected.ParamColon f b) = omega (arith, f.value.low)
 expected_low _ = omega arith
 
 -- what follows a token stands within the heights
 pub next_low : (n : Next) → decl_least (next_state n) ≤ greatest_height
 next_low (next.At p) = expected_low p
-next_low (next.Base at x) = omega arith
-next_low (next.Record f) = f.value.low
-next_low (next.Field f p y) = omega (arith, f.value.low)
-next_low (next.Param f b) = omega (arith, f.value.low)
-next_low (next.Result f) = omega (arith, f.value.low)
-next_low (next.Body h) = omega (arith, h.prefix.value.low, h.low)
+next_low _ = omega arith
 
 pub next_goes : (n : Next) → next_state n ≢ NoDecl
 next_goes (next.At p) e = cc
 next_goes _ e = cc
+
+-- what is read on is the next state, and stands within the heights
+pub goes_on : (old next mid new : DeclState) → new ≡ mid → next ≡ mid → mid ≢ NoDecl → decl_least mid ≤ greatest_height → Gives machine_of_declarations greatest_height old next taken.Goes new
+goes_on old next mid new e is on low = (e ∙ sym is, (λ h. on (sym e ∙ h)), omega (arith, low, ap decl_least e))

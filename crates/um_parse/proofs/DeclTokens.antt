@@ -1,5 +1,6 @@
--- One token more of a body; and what is left of a token that is refused begins a declaration exactly where the token does.
-use Rattle.std.proofs.Common.{◌≡◌, ℕ, ◌≤◌, List, Option, ◌⊎◌, inl, inr, refl, sym, ap, ◌∙◌, arith}
+-- One token more of a body; what the type is that has refused a token; and what is left of a token that is refused begins a
+-- declaration exactly where the token does.
+use Rattle.std.proofs.Common.{◌≡◌, ℕ, ◌≤◌, List, Option, Some, ◌⊎◌, inl, inr, refl, sym, ap, ◌∙◌, arith}
 use Rattle.um_syntax.specs.declared.token.Kind.{Kind}
 use Rattle.um_syntax.specs.declared.token.Kind.TheVariants as kind
 use Rattle.um_syntax.specs.declared.token.Token.{Token}
@@ -8,7 +9,10 @@ use Rattle.um_tree.specs.RawTree.{TypeSyntax, ParamSyntax}
 use Rattle.um_reader.specs.Takes.{Takes}
 use Rattle.um_reader.specs.declared.taken.Taken.{Taken}
 use Rattle.um_reader.specs.declared.taken.Taken.TheVariants as taken
+use Rattle.um_types.specs.TypeHeights.{whole_height}
+use Rattle.um_types.specs.TypeMachine.{TypeState, type_finish, type_least, machine_of_types}
 use Rattle.um_types.specs.UnitStops.{greatest_height}
+use Rattle.um_types.proofs.TypeLaws.{type_found_height}
 use Rattle.um_expr.specs.ExprTokens.{expr_token}
 use Rattle.um_expr.specs.ExprMachine.{State, step}
 use Rattle.um_expr.specs.ExprLeast.{machine_of_expressions}
@@ -41,3 +45,8 @@ body_takes head ps r old new token taken.Stops low t = (ap (body_goes head ps r)
 body_takes head ps r old new token taken.High low t =
     let e : decl_step (InBody head ps r old) token ≡ InBody head ps r (step old token) = body_inside head ps r old (step old token) token refl t.0 in
     ((λ h. let bad : InBody head ps r (step old token) ≡ NoDecl = sym e ∙ h in cc), omega (arith, t.1, ap decl_least e))
+
+-- the type that has refused a token isn't too high
+pub type_low : (old mid : TypeState) (token : Token) → type_least old ≤ greatest_height → Takes machine_of_types greatest_height old token taken.Stops mid
+    → (t : TypeSyntax) → type_finish mid ≡ Some t → whole_height t ≤ greatest_height
+type_low old mid token low refused t is = let same = type_found_height old t (sym refused.1 ∙ is) in omega (arith, low, same)

@@ -1,5 +1,5 @@
 -- Reading declarations in parts: from one state the tokens up to the rest lead to another.
-use Rattle.std.proofs.Common.{◌≡◌, ◌≢◌, ℕ, List, [], ◌∷◌, ◌++◌, Bool, Option, Some, None, refl, sym, ap, ◌∙◌, append_assoc}
+use Rattle.std.proofs.Common.{◌≡◌, ◌≢◌, ℕ, List, [], ◌∷◌, Bool, Option, Some, None, refl, ap, ◌∙◌}
 use Rattle.um_syntax.specs.declared.token.Token.{Token}
 use Rattle.um_syntax.specs.declared.token.Kind.{Kind}
 use Rattle.um_tree.specs.RawTree.{UnitSyntax, TypeSyntax, BinderSyntax, ExprSyntax, VarSyntax, FieldDeclSyntax, ParamSyntax}

@@ -215,8 +215,9 @@ decl_act NoDecl w p glued k = NoDecl
 abbrev pub decl_step : DeclState → Token → DeclState
 decl_step state token = decl_act state (expr_token token.kind) token.start token.glued token.kind
 
--- the token behind the name of a measure, or the token that the type inside has refused
+-- the token outside the machines inside, or the token that the type inside has refused
 abbrev pub own_step : DeclState → Token → DeclState
+own_step (Expects expected) token = take_expected expected (expr_token token.kind) token.start
 own_step (HaveBase at x) token = base_after at x (expr_token token.kind)
 own_step (InField at x vs fs place y s) token =
     field_ends at x vs fs place y (type_finish s) (expr_token token.kind)

@@ -3,19 +3,18 @@
 use Rattle.std.specs.Prelude.{ℕ, List, [], map, Option, Some, None}
 use Rattle.um_tree.specs.RawTree.{VarSyntax, FieldDeclSyntax, ParamSyntax, var_syntax, field_decl_syntax}
 use Rattle.um_tree.specs.RawTree.{param_syntax, binder_syntax, written_type}
-use Rattle.um_types.specs.TypeMachine.{NeedType}
-use Rattle.um_expr.specs.ExprMachine.{Need}
+use Rattle.um_types.specs.TypeMachine.{TypeState}
+use Rattle.um_types.specs.TypeView.{type_state}
+use Rattle.um_expr.specs.ExprStates.{expr_state}
 use Rattle.um_parse.specs.DeclMachine.{DeclExpected, DeclBegin, AttributeWord, AttributeGreater, AttributeClose}
 use Rattle.um_parse.specs.DeclMachine.{MeasureType, MeasureName, RecordName, RecordVars, VarBegin, VarWord}
 use Rattle.um_parse.specs.DeclMachine.{VarGreater, VarClose, VarName, VarEnd, RecordEqual, RecordBrace, FieldName}
 use Rattle.um_parse.specs.DeclMachine.{FieldColon, LetName, RecName, Params, ParamBinder, ParamColon, DeclState}
 use Rattle.um_parse.specs.DeclMachine.{Expects, HaveBase, HaveRecord, InField, InParam, InResult, InBody}
-use Rattle.um_parse.specs.DeclMachine.{NoDecl, FunctionVars, FunctionStart, VarOwner, OfRecord, OfFunction}
+use Rattle.um_parse.specs.DeclMachine.{NoDecl, FunctionVars, FunctionStart, VarOwner, OfRecord, OfFunction, started}
 use Rattle.um_parse.specs.declared.decl_prefix.Head.{Head}
-use Rattle.um_parse.specs.declared.decl_prefix.RecordPrefix.{RecordPrefix}
 use Rattle.um_parse.specs.declared.decl_prefix.Owner.{Owner}
 use Rattle.um_parse.specs.declared.decl_prefix.Owner.TheVariants as owner
-use Rattle.um_parse.specs.declared.decl_prefix.FunctionPrefix.{FunctionPrefix}
 use Rattle.um_parse.specs.declared.decl_prefix.MeasureExpected.{MeasureExpected}
 use Rattle.um_parse.specs.declared.decl_prefix.MeasureExpected.TheVariants as measure
 use Rattle.um_parse.specs.declared.decl_prefix.VarExpected.{VarExpected}
@@ -24,19 +23,47 @@ use Rattle.um_parse.specs.declared.decl_prefix.DeclExpected.{DeclExpected as Exp
 use Rattle.um_parse.specs.declared.decl_prefix.DeclExpected.TheVariants as expected
 use Rattle.um_parse.specs.declared.decl_prefix.Next.{Next}
 use Rattle.um_parse.specs.declared.decl_prefix.Next.TheVariants as next
+use Rattle.um_parse.specs.declared.record_reader.RecordReader.{RecordReader}
+use Rattle.um_parse.specs.declared.record_reader.FieldExpected.{FieldExpected}
+use Rattle.um_parse.specs.declared.record_reader.FieldExpected.TheVariants as field
+use Rattle.um_parse.specs.declared.function_reader.FunctionReader.{FunctionReader}
+use Rattle.um_parse.specs.declared.function_reader.FunctionExpected.{FunctionExpected}
+use Rattle.um_parse.specs.declared.function_reader.FunctionExpected.TheVariants as function
 
 abbrev pub head_vars : Head → List VarSyntax
 head_vars h = map var_syntax h.vars.items.items
 
-abbrev pub read_fields : RecordPrefix → List FieldDeclSyntax
-read_fields f = map field_decl_syntax f.fields.items.items
+abbrev pub read_fields : RecordReader → List FieldDeclSyntax
+read_fields r = map field_decl_syntax r.fields.items.items
 
 -- a function up to its parameters
-abbrev pub start_in : FunctionPrefix → FunctionStart
+abbrev pub start_in : FunctionReader → FunctionStart
 start_in f = record { at = f.head.at; name = f.head.name; recursive = f.recursive; units = head_vars f.head }
 
-abbrev pub read_params : FunctionPrefix → List ParamSyntax
+abbrev pub read_params : FunctionReader → List ParamSyntax
 read_params f = map param_syntax f.params.items.items
+
+-- behind the `{` of a record, by its head, its fields and the type that is read
+abbrev pub field_state : Head → List FieldDeclSyntax → TypeState → FieldExpected → DeclState
+field_state h fs s field.Name = Expects (FieldName h.at h.name (head_vars h) fs)
+field_state h fs s (field.Colon p y) = Expects (FieldColon h.at h.name (head_vars h) fs p y)
+field_state h fs s (field.Type p y) = InField h.at h.name (head_vars h) fs p y s
+field_state h fs s field.Nothing = HaveRecord h.at h.name (head_vars h) fs
+
+abbrev pub record_state : RecordReader → DeclState
+record_state r = field_state r.head (read_fields r) (type_state r.ty) r.expected
+
+-- behind the name and the unit parameters of a function, by its parameters and the type that is read
+abbrev pub param_state : FunctionStart → List ParamSyntax → TypeState → FunctionExpected → DeclState
+param_state head ps s function.Params = Expects (Params head ps)
+param_state head ps s function.Binder = Expects (ParamBinder head ps)
+param_state head ps s (function.Colon b) = Expects (ParamColon head ps (binder_syntax b))
+param_state head ps s (function.Param b) = InParam head ps (binder_syntax b) s
+param_state head ps s function.Result = InResult head ps s
+param_state head ps s (function.Body b) = InBody head ps (written_type b.value.result) (expr_state b.value.body)
+
+abbrev pub function_state : FunctionReader → DeclState
+function_state f = param_state (start_in f) (read_params f) (type_state f.ty) f.expected
 
 abbrev pub view_measure : MeasureExpected → DeclExpected
 view_measure measure.Word = AttributeWord
@@ -66,28 +93,15 @@ view_expected (expected.RecordVars at x) = RecordVars at x
 view_expected (expected.Var o h v) = view_var o h v
 view_expected (expected.RecordEqual h) = RecordEqual h.at h.name (head_vars h)
 view_expected (expected.RecordBrace h) = RecordBrace h.at h.name (head_vars h)
-view_expected (expected.FieldName f) =
-    FieldName f.value.head.at f.value.head.name (head_vars f.value.head) (read_fields f.value)
-view_expected (expected.FieldColon f p y) =
-    FieldColon f.value.head.at f.value.head.name (head_vars f.value.head) (read_fields f.value) p y
 view_expected expected.LetName = LetName
 view_expected expected.RecName = RecName
-view_expected (expected.FunctionVars recursive at x) = FunctionVars recursive at x
-view_expected (expected.Params f) = Params (start_in f.value) (read_params f.value)
-view_expected (expected.ParamBinder f) = ParamBinder (start_in f.value) (read_params f.value)
-view_expected (expected.ParamColon f b) = ParamColon (start_in f.value) (read_params f.value) (binder_syntax b)
 
 abbrev pub next_state : Next → DeclState
 next_state (next.At p) = Expects (view_expected p)
 next_state (next.Base at x) = HaveBase at x
-next_state (next.Record f) =
-    HaveRecord f.value.head.at f.value.head.name (head_vars f.value.head) (read_fields f.value)
-next_state (next.Field f p y) =
-    InField f.value.head.at f.value.head.name (head_vars f.value.head) (read_fields f.value) p y (NeedType 0)
-next_state (next.Param f b) = InParam (start_in f.value) (read_params f.value) (binder_syntax b) (NeedType 0)
-next_state (next.Result f) = InResult (start_in f.value) (read_params f.value) (NeedType 0)
-next_state (next.Body h) =
-    InBody (start_in h.prefix.value) (read_params h.prefix.value) (written_type h.result) (Need [])
+next_state (next.Record h) = Expects (FieldName h.at h.name (head_vars h) [])
+next_state (next.Named recursive at x) = Expects (FunctionVars recursive at x)
+next_state (next.Function recursive h) = Expects (Params (started recursive h.at h.name (head_vars h)) [])
 
 -- what follows, or nothing where the token is refused
 abbrev pub reached : Option Next → DeclState

@@ -1,12 +1,8 @@
-// What was read of a declaration, and the places inside a run of tokens that is fixed. What is large stands in a box, since a
-// declaration is handed on at each of its tokens.
-ghost use Rattle.std.specs.Prelude.{◌≡◌, ◌≤◌, IfOk, map};
-ghost use Rattle.um_tree.specs.RawTree.{field_decl_syntax, param_syntax, written_type};
-ghost use Rattle.um_types.specs.UnitStops.{greatest_height};
-ghost use Rattle.um_parse.specs.ProgramHeights.{fields_height, params_height, result_height};
+// What was read of a declaration before its fields or parameters, and the places inside a run of tokens that is fixed.
+ghost use Rattle.std.specs.Prelude.{◌≡◌, IfOk};
 
 use std::alloc::{AllocError, Global};
-use um_tree::{Binder, Name, RawFieldDecls, RawParams, RawType, RawVars};
+use um_tree::{Name, RawVars};
 
 /// The name of a record or a function, at its place, and the unit parameters that were read.
 #[derive(Drop)]
@@ -33,62 +29,11 @@ impl Head {
     }
 }
 
-/// A record with the fields that were read. No text in them is too high.
-#[derive(Drop)]
-pub struct RecordPrefix {
-    pub head: Head,
-    pub fields: RawFieldDecls,
-    ghost low: { fields_height (map field_decl_syntax fields.items.items) ≤ greatest_height },
-}
-
 /// Whose unit parameters are read: a record's, or those of a function, with `rec` or not.
 #[derive(Clone, Copy)]
 pub enum Owner {
     Record,
     Function(bool),
-}
-
-/// A function, with `rec` or not, and the parameters that were read. No text in them is too high.
-#[derive(Drop)]
-pub struct FunctionPrefix {
-    pub recursive: bool,
-    pub head: Head,
-    pub params: RawParams,
-    ghost low: { params_height (map param_syntax params.items.items) ≤ greatest_height },
-}
-
-impl FunctionPrefix {
-    ghost use Rattle.std.specs.Prelude.{[]};
-    ghost use Rattle.um_parse.specs.DeclMachine.{started};
-    ghost use Rattle.um_parse.specs.DeclViews.{head_vars, start_in, read_params};
-
-    /// No parameters were read, in a box.
-    pub fn plain(
-        alloc: Global,
-        recursive: bool,
-        head: Head,
-    ) -> Result<Box<FunctionPrefix>, AllocError>
-        ensures start { IfOk result (λ f. start_in f.value ≡ started recursive head.at head.name (head_vars head)) }
-        ensures params { IfOk result (λ f. read_params f.value ≡ []) }
-    {
-        let params = RawParams {
-            items: Vec::new(alloc),
-        };
-        let prefix = FunctionPrefix {
-            recursive,
-            head,
-            params,
-        };
-        in_box(alloc, prefix)
-    }
-}
-
-/// A function up to its `=`, with its result type, if it has one, not too high.
-#[derive(Drop)]
-pub struct FunctionHead {
-    pub prefix: Box<FunctionPrefix>,
-    pub result: Option<RawType>,
-    ghost low: { result_height (written_type result) ≤ greatest_height },
 }
 
 /// The token that is expected before the name of a measure.
@@ -123,31 +68,23 @@ pub enum DeclExpected {
     RecordName,
     RecordVars(u32, Name),
     Var(Owner, Head, VarExpected),
-    /// Behind the parameters; `=`; `{` or `;` and these fields; a field's name, at its place
+    /// Behind the unit parameters of a record; `=`
     RecordEqual(Head),
     RecordBrace(Head),
-    FieldName(Box<RecordPrefix>),
-    FieldColon(Box<RecordPrefix>, u32, Name),
-    /// Behind `let`; `rec`; the name, at its place; the unit parameters and these parameters; `(`; the binder
+    /// Behind `let`; `rec`
     LetName,
     RecName,
-    FunctionVars(bool, u32, Name),
-    Params(Box<FunctionPrefix>),
-    ParamBinder(Box<FunctionPrefix>),
-    ParamColon(Box<FunctionPrefix>, Binder),
 }
 
-/// What follows a token that a declaration takes: a place; a measure, at its name, that may be whole; a whole record; the
-/// type of a field, of a parameter, of a result; a body.
+/// What follows a token that a declaration takes: a place; a measure, at its name, that may be whole; the fields of a record;
+/// the name of a function, with `rec` or not, at its place; the parameters of a function behind its unit parameters.
 #[derive(Drop)]
 pub enum Next {
     At(DeclExpected),
     Base(u32, Name),
-    Record(Box<RecordPrefix>),
-    Field(Box<RecordPrefix>, u32, Name),
-    Param(Box<FunctionPrefix>, Binder),
-    Result(Box<FunctionPrefix>),
-    Body(FunctionHead),
+    Record(Head),
+    Named(bool, u32, Name),
+    Function(bool, Head),
 }
 
 /// The value in a box.

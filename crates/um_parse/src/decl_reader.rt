@@ -1,35 +1,32 @@
-// A declaration that is read one token at a time.
+// A declaration that is read one token at a time. What is large stands in a box and is read in place.
 ghost use Rattle.std.specs.Prelude.{◌≡◌, ◌≤◌, [], IfOk, None, option_map};
-ghost use Rattle.um_tree.specs.RawTree.{unit_syntax, expr_syntax, decl_syntax, record_decl_syntax, written_type};
+ghost use Rattle.um_tree.specs.RawTree.{unit_syntax, decl_syntax};
 ghost use Rattle.um_reader.specs.Takes.{Gives, Takes};
 ghost use Rattle.um_types.specs.UnitStops.{greatest_height};
 ghost use Rattle.um_types.specs.UnitMachine.{Need};
-ghost use Rattle.um_expr.specs.ExprTokens.{expr_token};
-ghost use Rattle.um_parse.specs.DeclMachine.{Expects, DeclBegin, HaveBase, InShort, NoDecl, take_expected, base_after, short_found, body_found, own_step, decl_finish, at_start};
+ghost use Rattle.um_parse.specs.DeclMachine.{Expects, DeclBegin, FunctionVars, HaveBase, InShort, NoDecl};
+ghost use Rattle.um_parse.specs.DeclMachine.{take_expected, take_params, started, base_after, short_found};
+ghost use Rattle.um_parse.specs.DeclMachine.{decl_finish, at_start};
 ghost use Rattle.um_parse.specs.ProgramLeast.{decl_least, machine_of_declarations};
-ghost use Rattle.um_parse.specs.DeclViews.{head_vars, read_fields, start_in, read_params, view_expected, next_state, reached};
-ghost use Rattle.um_parse.specs.DeclTakes.{reader_state, IsLow};
+ghost use Rattle.um_parse.specs.DeclViews.{head_vars, view_expected, next_state, reached};
+ghost use Rattle.um_parse.specs.DeclTakes.{reader_state, head_step};
 ghost use Rattle.um_parse.specs.DeclTokens.{BeginsAlike, IfStops};
-ghost use Rattle.um_parse.specs.declared.decl_prefix.Next.TheVariants as next;
 
-use crate::decl_function::{
-    function_vars, let_name, param_binder, param_colon, param_ends, rec_name, result_ends,
-    take_params,
-};
+use crate::decl_function::{let_name, rec_name};
 use crate::decl_measure::{begin, take_measure};
-use crate::decl_prefix::{DeclExpected, FunctionHead, FunctionPrefix, Next, RecordPrefix, in_box};
-use crate::decl_record::{
-    field_colon, field_ends, field_name, record_brace, record_equal, record_name, record_vars,
-};
-use crate::decl_token::{kind_of, take_in_body, take_in_type, take_in_unit};
+use crate::decl_prefix::{DeclExpected, Head, Next, Owner, VarExpected, in_box};
+use crate::decl_record::{record_brace, record_equal, record_name, record_vars};
+use crate::decl_token::{kind_of, take_in_unit};
 use crate::decl_vars::take_var;
+use crate::function_reader::FunctionReader;
+use crate::record_reader::RecordReader;
 use std::alloc::{AllocError, Global};
 use std::mem;
-use um_expr::{ExprReader, ExprToken, Infix};
+use um_expr::{ExprToken, Infix};
 use um_reader::{Reader, Taken};
 use um_syntax::Token;
-use um_tree::{Binder, Name, RawDecl, RawExpr, RawFunction, RawUnit, Sign};
-use um_types::{TypeReader, UnitReader};
+use um_tree::{Name, RawDecl, RawUnit, Sign};
+use um_types::UnitReader;
 
 /// A declaration that has begun.
 #[derive(Drop)]
@@ -40,13 +37,11 @@ pub enum DeclReader {
     /// A measure, at its name, that may be whole; in its unit text
     Base(u32, Name),
     Short(u32, Name, Box<UnitReader>),
-    /// A whole record
-    Record(Box<RecordPrefix>),
-    /// In the type of a field, at its name; of a parameter; of a result; in a body
-    Field(Box<RecordPrefix>, u32, Name, Box<TypeReader>),
-    Param(Box<FunctionPrefix>, Binder, Box<TypeReader>),
-    Result(Box<FunctionPrefix>, Box<TypeReader>),
-    Body(FunctionHead, Box<ExprReader>),
+    /// In the fields of a record, or behind them
+    Record(Box<RecordReader>),
+    /// Behind the name of a function, with `rec` or not, at its place; in its parameters, its result type or its body
+    Named(bool, u32, Name),
+    Function(Box<FunctionReader>),
 }
 
 // The reader of what follows.
@@ -56,73 +51,10 @@ fn reader_of(alloc: Global, next: Next) -> Result<DeclReader, AllocError>
     match next {
         Next::At(expected) => Ok(DeclReader::At(expected)),
         Next::Base(at, name) => Ok(DeclReader::Base(at, name)),
-        Next::Record(prefix) => Ok(DeclReader::Record(prefix)),
-        Next::Field(prefix, at, name) => field_of(alloc, prefix, at, name),
-        Next::Param(prefix, binder) => param_of(alloc, prefix, binder),
-        Next::Result(prefix) => result_of(alloc, prefix),
-        Next::Body(head) => body_of(alloc, head),
-    }
-}
-
-// The reader of the type of a field, at its name.
-fn field_of(
-    alloc: Global,
-    prefix: Box<RecordPrefix>,
-    at: u32,
-    name: Name,
-) -> Result<DeclReader, AllocError>
-    ensures { IfOk result (λ reader. reader_state reader ≡ next_state (next.Field prefix at name)) }
-{
-    match in_box(alloc, TypeReader::new()) {
-        Ok(ty) => Ok(DeclReader::Field(prefix, at, name, ty)),
-        Err(error) => {
-            drop(prefix);
-            drop(name);
-            Err(error)
-        }
-    }
-}
-
-// The reader of the type of a parameter.
-fn param_of(
-    alloc: Global,
-    prefix: Box<FunctionPrefix>,
-    binder: Binder,
-) -> Result<DeclReader, AllocError>
-    ensures { IfOk result (λ reader. reader_state reader ≡ next_state (next.Param prefix binder)) }
-{
-    match in_box(alloc, TypeReader::new()) {
-        Ok(ty) => Ok(DeclReader::Param(prefix, binder, ty)),
-        Err(error) => {
-            drop(prefix);
-            drop(binder);
-            Err(error)
-        }
-    }
-}
-
-// The reader of the type of a result.
-fn result_of(alloc: Global, prefix: Box<FunctionPrefix>) -> Result<DeclReader, AllocError>
-    ensures { IfOk result (λ reader. reader_state reader ≡ next_state (next.Result prefix)) }
-{
-    match in_box(alloc, TypeReader::new()) {
-        Ok(ty) => Ok(DeclReader::Result(prefix, ty)),
-        Err(error) => {
-            drop(prefix);
-            Err(error)
-        }
-    }
-}
-
-// The reader of a body.
-fn body_of(alloc: Global, head: FunctionHead) -> Result<DeclReader, AllocError>
-    ensures { IfOk result (λ reader. reader_state reader ≡ next_state (next.Body head)) }
-{
-    match in_box(alloc, ExprReader::new(alloc)) {
-        Ok(body) => Ok(DeclReader::Body(head, body)),
-        Err(error) => {
-            drop(head);
-            Err(error)
+        Next::Record(head) => Ok(DeclReader::Record(RecordReader::new(alloc, head)?)),
+        Next::Named(recursive, at, name) => Ok(DeclReader::Named(recursive, at, name)),
+        Next::Function(recursive, head) => {
+            Ok(DeclReader::Function(FunctionReader::new(alloc, recursive, head)?))
         }
     }
 }
@@ -141,19 +73,11 @@ fn next_at(
         DeclExpected::Measure(expected) => Ok(take_measure(expected, kind, p)),
         DeclExpected::RecordName => Ok(record_name(kind, p)),
         DeclExpected::RecordVars(at, name) => Ok(record_vars(alloc, at, name, kind, p)),
-        DeclExpected::Var(owner, head, expected) => take_var(alloc, owner, head, expected, kind, p),
+        DeclExpected::Var(owner, head, expected) => take_var(owner, head, expected, kind, p),
         DeclExpected::RecordEqual(head) => Ok(record_equal(head, kind, p)),
-        DeclExpected::RecordBrace(head) => record_brace(alloc, head, kind, p),
-        DeclExpected::FieldName(prefix) => Ok(field_name(prefix, kind, p)),
-        DeclExpected::FieldColon(prefix, at, name) => Ok(field_colon(prefix, at, name, kind, p)),
+        DeclExpected::RecordBrace(head) => Ok(record_brace(head, kind, p)),
         DeclExpected::LetName => Ok(let_name(kind, p)),
         DeclExpected::RecName => Ok(rec_name(kind, p)),
-        DeclExpected::FunctionVars(recursive, at, name) => {
-            function_vars(alloc, recursive, at, name, kind, p)
-        }
-        DeclExpected::Params(prefix) => Ok(take_params(prefix, kind)),
-        DeclExpected::ParamBinder(prefix) => Ok(param_binder(prefix, kind, p)),
-        DeclExpected::ParamColon(prefix, binder) => Ok(param_colon(prefix, binder, kind, p)),
     }
 }
 
@@ -165,39 +89,6 @@ fn short_found(at: u32, name: Name, found: Option<RawUnit>) -> Option<RawDecl>
         Some(unit) => Some(RawDecl::Short(at, name, unit)),
         None => None,
     }
-}
-
-// A function, where its body was found.
-fn body_found(head: FunctionHead, found: Option<RawExpr>) -> Option<RawDecl>
-    ensures { option_map decl_syntax result ≡ body_found (start_in head.prefix.value) (read_params head.prefix.value) (written_type head.result) (option_map expr_syntax found) }
-{
-    let body = match found {
-        Some(body) => body,
-        None => return None,
-    };
-    let FunctionHead { prefix, result } = head;
-    let FunctionPrefix {
-        recursive,
-        head,
-        params,
-    } = Box::into_inner(prefix);
-    Some(RawDecl::Function(RawFunction {
-        at: head.at,
-        name: head.name,
-        recursive,
-        units: head.vars,
-        params,
-        result,
-        body,
-    }))
-}
-
-// A whole record.
-fn record_found(prefix: Box<RecordPrefix>) -> RawDecl
-    ensures { decl_syntax result ≡ record_decl_syntax prefix.value.head.at prefix.value.head.name (head_vars prefix.value.head) (read_fields prefix.value) }
-{
-    let RecordPrefix { head, fields } = Box::into_inner(prefix);
-    RawDecl::Record(head.at, head.name, head.vars, fields)
 }
 
 // No declaration ends here.
@@ -229,78 +120,38 @@ impl DeclReader {
     /// One token more. Where it is refused, what is left of it begins a declaration as it does.
     pub fn take(&mut self, alloc: Global, token: &mut Token) -> Result<Taken, AllocError>
         requires low { decl_least (reader_state self.old) ≤ greatest_height }
-        ensures taken { IfOk result (λ t. Takes machine_of_declarations greatest_height (reader_state self.old) token.old t (reader_state self.new)) }
+        ensures taken { IfOk result (λ t.
+            Takes machine_of_declarations greatest_height (reader_state self.old) token.old t (reader_state self.new)) }
         ensures kept { IfOk result (λ t. IfStops t (BeginsAlike token.new token.old)) }
     {
         match self {
-            DeclReader::Body(_, body) => take_in_body(body, alloc, token),
+            DeclReader::Function(function) => function.take(alloc, token),
+            DeclReader::Record(record) => record.take(alloc, token),
             DeclReader::Short(_, _, unit) => take_in_unit(unit, alloc, token),
             DeclReader::Nothing => Ok(Taken::Stops),
-            DeclReader::Record(_) => Ok(Taken::Stops),
-            DeclReader::At(expected) => {
-                let expected = mem::replace(expected, DeclExpected::LetName);
-                self.take_at(alloc, expected, token)
-            }
+            DeclReader::At(_) => self.take_own(alloc, token),
             DeclReader::Base(_, _) => self.take_own(alloc, token),
-            DeclReader::Field(_, _, _, ty) => match take_in_type(ty, alloc, token)? {
-                Taken::Goes => Ok(Taken::Goes),
-                Taken::Stops => self.take_own(alloc, token),
-                Taken::High => Ok(Taken::High),
-            },
-            DeclReader::Param(_, _, ty) => match take_in_type(ty, alloc, token)? {
-                Taken::Goes => Ok(Taken::Goes),
-                Taken::Stops => self.take_own(alloc, token),
-                Taken::High => Ok(Taken::High),
-            },
-            DeclReader::Result(_, ty) => match take_in_type(ty, alloc, token)? {
-                Taken::Goes => Ok(Taken::Goes),
-                Taken::Stops => self.take_own(alloc, token),
-                Taken::High => Ok(Taken::High),
-            },
+            DeclReader::Named(_, _, _) => self.take_own(alloc, token),
         }
     }
 
-    // The token at a place inside a run of tokens that is fixed.
+    // The token at a place inside a run of tokens that is fixed, or behind the name of a measure or a function.
     #[inline(never)]
-    fn take_at(
-        &mut self,
-        alloc: Global,
-        expected: DeclExpected,
-        token: &mut Token,
-    ) -> Result<Taken, AllocError>
-        requires nothing { decl_finish (reader_state self.old) ≡ None }
-        ensures taken { IfOk result (λ t. Gives machine_of_declarations greatest_height NoDecl (take_expected (view_expected expected) (expr_token token.old.kind) token.old.start) t (reader_state self.new)) }
+    fn take_own(&mut self, alloc: Global, token: &mut Token) -> Result<Taken, AllocError>
+        ensures taken { IfOk result (λ t. Gives machine_of_declarations greatest_height (reader_state self.old)
+            (head_step self.old token.old) t (reader_state self.new)) }
         ensures kept { BeginsAlike token.new token.old }
     {
         let p = token.start;
         let kind = kind_of(alloc, token);
-        let next = next_at(alloc, expected, kind, p)?;
-        self.follow(alloc, next)
-    }
-
-    // The token behind the name of a measure, or the token that a type has refused.
-    #[inline(never)]
-    fn take_own(&mut self, alloc: Global, token: &mut Token) -> Result<Taken, AllocError>
-        requires low { IsLow (reader_state self.old) }
-        ensures taken { IfOk result (λ t. Gives machine_of_declarations greatest_height (reader_state self.old) (own_step (reader_state self.old) token.old) t (reader_state self.new)) }
-        ensures kept { BeginsAlike token.new token.old }
-    {
-        let kind = kind_of(alloc, token);
         match mem::replace(self, DeclReader::Nothing) {
+            DeclReader::At(expected) => {
+                let next = next_at(alloc, expected, kind, p)?;
+                self.follow(alloc, next)
+            }
             DeclReader::Base(at, name) => self.behind_base(alloc, at, name, kind),
-            DeclReader::Field(prefix, at, name, ty) => {
-                let found = Box::into_inner(ty).finish();
-                let next = field_ends(prefix, at, name, found, kind)?;
-                self.follow(alloc, next)
-            }
-            DeclReader::Param(prefix, binder, ty) => {
-                let found = Box::into_inner(ty).finish();
-                let next = param_ends(prefix, binder, found, kind)?;
-                self.follow(alloc, next)
-            }
-            DeclReader::Result(prefix, ty) => {
-                let next = result_ends(prefix, Box::into_inner(ty).finish(), kind);
-                self.follow(alloc, next)
+            DeclReader::Named(recursive, at, name) => {
+                self.behind_name(alloc, recursive, at, name, kind, p)
             }
             other => Ok(self.stay(other, kind)),
         }
@@ -315,7 +166,8 @@ impl DeclReader {
 
     // The token is refused, and the reader ends as before it.
     fn stay(&mut self, reader: DeclReader, kind: ExprToken) -> Taken
-        ensures { Gives machine_of_declarations greatest_height (reader_state reader) NoDecl result (reader_state self.new) }
+        ensures { Gives machine_of_declarations greatest_height (reader_state reader) NoDecl
+            result (reader_state self.new) }
     {
         drop(kind);
         self.put(reader);
@@ -325,7 +177,8 @@ impl DeclReader {
     // What follows is read, or the token is refused, where nothing ends.
     fn follow(&mut self, alloc: Global, next: Option<Next>) -> Result<Taken, AllocError>
         requires nothing { decl_finish (reader_state self.old) ≡ None }
-        ensures { IfOk result (λ t. Gives machine_of_declarations greatest_height NoDecl (reached next) t (reader_state self.new)) }
+        ensures { IfOk result (λ t.
+            Gives machine_of_declarations greatest_height NoDecl (reached next) t (reader_state self.new)) }
     {
         match next {
             Some(next) => {
@@ -345,7 +198,8 @@ impl DeclReader {
         name: Name,
         kind: ExprToken,
     ) -> Result<Taken, AllocError>
-        ensures { IfOk result (λ t. Gives machine_of_declarations greatest_height (HaveBase at name) (base_after at name kind) t (reader_state self.new)) }
+        ensures { IfOk result (λ t. Gives machine_of_declarations greatest_height (HaveBase at name)
+            (base_after at name kind) t (reader_state self.new)) }
     {
         match kind {
             ExprToken::Operator(Infix::Compare(Sign::Eq)) => self.begin_short(alloc, at, name),
@@ -355,7 +209,8 @@ impl DeclReader {
 
     // The unit text of an abbreviation begins.
     fn begin_short(&mut self, alloc: Global, at: u32, name: Name) -> Result<Taken, AllocError>
-        ensures { IfOk result (λ t. Gives machine_of_declarations greatest_height (HaveBase at name) (InShort at name (Need [])) t (reader_state self.new)) }
+        ensures { IfOk result (λ t. Gives machine_of_declarations greatest_height (HaveBase at name)
+            (InShort at name (Need [])) t (reader_state self.new)) }
     {
         match in_box(alloc, UnitReader::new(alloc)) {
             Ok(unit) => {
@@ -364,6 +219,55 @@ impl DeclReader {
             }
             Err(error) => {
                 drop(name);
+                Err(error)
+            }
+        }
+    }
+
+    // The token behind the name of a function, at its place.
+    fn behind_name(
+        &mut self,
+        alloc: Global,
+        recursive: bool,
+        at: u32,
+        name: Name,
+        kind: ExprToken,
+        p: u32,
+    ) -> Result<Taken, AllocError>
+        requires nothing { decl_finish (reader_state self.old) ≡ None }
+        ensures { IfOk result (λ t. Gives machine_of_declarations greatest_height NoDecl
+            (take_expected (FunctionVars recursive at name) kind p) t (reader_state self.new)) }
+    {
+        let head = Head::plain(alloc, at, name);
+        match kind {
+            ExprToken::Operator(Infix::Compare(Sign::Lt)) => {
+                let owner = Owner::Function(recursive);
+                self.put(DeclReader::At(DeclExpected::Var(owner, head, VarExpected::Begin)));
+                Ok(Taken::Goes)
+            }
+            other => self.begin_params(alloc, recursive, head, other),
+        }
+    }
+
+    // The token behind the name of a function without unit parameters.
+    fn begin_params(
+        &mut self,
+        alloc: Global,
+        recursive: bool,
+        head: Head,
+        kind: ExprToken,
+    ) -> Result<Taken, AllocError>
+        ensures { IfOk result (λ t. Gives machine_of_declarations greatest_height NoDecl
+            (take_params (started recursive head.at head.name (head_vars head)) [] kind) t (reader_state self.new)) }
+    {
+        match FunctionReader::new(alloc, recursive, head) {
+            Ok(mut function) => {
+                let taken = function.take_params(alloc, kind);
+                self.put(DeclReader::Function(function));
+                taken
+            }
+            Err(error) => {
+                drop(kind);
                 Err(error)
             }
         }
@@ -379,10 +283,8 @@ impl DeclReader {
                 let found = Box::into_inner(unit).finish(alloc)?;
                 Ok(short_found(at, name, found))
             }
-            DeclReader::Record(prefix) => Ok(Some(record_found(prefix))),
-            DeclReader::Body(head, body) => {
-                Ok(body_found(head, Box::into_inner(body).finish(alloc)?))
-            }
+            DeclReader::Record(record) => Ok(Box::into_inner(record).finish()),
+            DeclReader::Function(function) => Box::into_inner(function).finish(alloc),
             other => Ok(unfinished(other)),
         }
     }

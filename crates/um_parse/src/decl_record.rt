@@ -1,17 +1,14 @@
-// The tokens of a record outside its types.
-ghost use Rattle.std.specs.Prelude.{◌≡◌, ◌≤◌, IfOk, IfSome, Some, option_map};
-ghost use Rattle.um_tree.specs.RawTree.{type_syntax};
-ghost use Rattle.um_types.specs.TypeHeights.{whole_height};
-ghost use Rattle.um_types.specs.UnitStops.{greatest_height};
-ghost use Rattle.um_parse.specs.DeclMachine.{RecordName, RecordVars, RecordEqual, RecordBrace, FieldName, FieldColon, take_expected, field_ends, with_field_decl};
-ghost use Rattle.um_parse.specs.DeclViews.{head_vars, read_fields, reached};
+// The tokens of a record before its fields.
+ghost use Rattle.std.specs.Prelude.{◌≡◌};
+ghost use Rattle.um_parse.specs.DeclMachine.{RecordName, RecordVars, RecordEqual, RecordBrace, take_expected};
+ghost use Rattle.um_parse.specs.DeclViews.{head_vars, reached};
 
 use crate::decl_measure::refuse;
-use crate::decl_prefix::{DeclExpected, Head, Next, Owner, RecordPrefix, VarExpected, in_box};
-use std::alloc::{AllocError, Global};
+use crate::decl_prefix::{DeclExpected, Head, Next, Owner, VarExpected};
+use std::alloc::Global;
 use um_expr::{ExprToken, Infix};
 use um_syntax::Symbol;
-use um_tree::{Name, RawFieldDecl, RawFieldDecls, RawType, Sign};
+use um_tree::{Name, Sign};
 
 /// The token behind `type`.
 pub fn record_name(kind: ExprToken, p: u32) -> Option<Next>
@@ -53,110 +50,11 @@ pub fn record_equal(head: Head, kind: ExprToken, p: u32) -> Option<Next>
 }
 
 /// The token behind the `=` of a record.
-pub fn record_brace(
-    alloc: Global,
-    head: Head,
-    kind: ExprToken,
-    p: u32,
-) -> Result<Option<Next>, AllocError>
-    ensures { IfOk result (λ o. reached o ≡ take_expected (RecordBrace head.at head.name (head_vars head)) kind p) }
+pub fn record_brace(head: Head, kind: ExprToken, p: u32) -> Option<Next>
+    ensures { reached result ≡ take_expected (RecordBrace head.at head.name (head_vars head)) kind p }
 {
     match kind {
-        ExprToken::Mark(Symbol::LeftBrace) => {
-            let fields = RawFieldDecls {
-                items: Vec::new(alloc),
-            };
-            let prefix = in_box(alloc, RecordPrefix { head, fields })?;
-            Ok(Some(Next::At(DeclExpected::FieldName(prefix))))
-        }
-        other => Ok(refuse(other)),
-    }
-}
-
-/// The token behind `{` or `;` in a record.
-pub fn field_name(prefix: Box<RecordPrefix>, kind: ExprToken, p: u32) -> Option<Next>
-    ensures { reached result ≡ take_expected (FieldName prefix.value.head.at prefix.value.head.name (head_vars prefix.value.head) (read_fields prefix.value)) kind p }
-{
-    match kind {
-        ExprToken::Name(name) => Some(Next::At(DeclExpected::FieldColon(prefix, p, name))),
+        ExprToken::Mark(Symbol::LeftBrace) => Some(Next::Record(head)),
         other => refuse(other),
-    }
-}
-
-/// The token behind the name of a field, at its place.
-pub fn field_colon(
-    prefix: Box<RecordPrefix>,
-    at: u32,
-    name: Name,
-    kind: ExprToken,
-    p: u32,
-) -> Option<Next>
-    ensures { reached result ≡ take_expected (FieldColon prefix.value.head.at prefix.value.head.name (head_vars prefix.value.head) (read_fields prefix.value) at name) kind p }
-{
-    match kind {
-        ExprToken::Mark(Symbol::Colon) => Some(Next::Field(prefix, at, name)),
-        other => refuse(other),
-    }
-}
-
-// The record with a field more.
-fn with_field(
-    prefix: Box<RecordPrefix>,
-    at: u32,
-    name: Name,
-    ty: RawType,
-) -> Result<Box<RecordPrefix>, AllocError>
-    requires { whole_height (type_syntax ty) ≤ greatest_height }
-    ensures head { IfOk result (λ f. f.value.head ≡ prefix.value.head) }
-    ensures fields { IfOk result (λ f. read_fields f.value ≡ with_field_decl (read_fields prefix.value) at name (type_syntax ty)) }
-{
-    let mut prefix = prefix;
-    match prefix.fields.items.push(RawFieldDecl { at, name, ty }) {
-        Ok(()) => Ok(prefix),
-        Err(refused) => {
-            drop(prefix);
-            Err(AllocError::from(refused))
-        }
-    }
-}
-
-// The token behind the type of a field.
-fn field_typed(
-    prefix: Box<RecordPrefix>,
-    at: u32,
-    name: Name,
-    ty: RawType,
-    kind: ExprToken,
-) -> Result<Option<Next>, AllocError>
-    requires { whole_height (type_syntax ty) ≤ greatest_height }
-    ensures { IfOk result (λ o. reached o ≡ field_ends prefix.value.head.at prefix.value.head.name (head_vars prefix.value.head) (read_fields prefix.value) at name (Some (type_syntax ty)) kind) }
-{
-    match kind {
-        ExprToken::Mark(Symbol::Semicolon) => {
-            let prefix = with_field(prefix, at, name, ty)?;
-            Ok(Some(Next::At(DeclExpected::FieldName(prefix))))
-        }
-        ExprToken::Mark(Symbol::RightBrace) => {
-            let prefix = with_field(prefix, at, name, ty)?;
-            Ok(Some(Next::Record(prefix)))
-        }
-        other => Ok(refuse(other)),
-    }
-}
-
-/// The token that the type of a field has refused, behind the type before it, if one stands there.
-pub fn field_ends(
-    prefix: Box<RecordPrefix>,
-    at: u32,
-    name: Name,
-    found: Option<RawType>,
-    kind: ExprToken,
-) -> Result<Option<Next>, AllocError>
-    requires { IfSome found (λ t. whole_height (type_syntax t) ≤ greatest_height) }
-    ensures { IfOk result (λ o. reached o ≡ field_ends prefix.value.head.at prefix.value.head.name (head_vars prefix.value.head) (read_fields prefix.value) at name (option_map type_syntax found) kind) }
-{
-    match found {
-        Some(ty) => field_typed(prefix, at, name, ty, kind),
-        None => Ok(refuse(kind)),
     }
 }

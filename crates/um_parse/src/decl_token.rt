@@ -1,20 +1,21 @@
 // Tokens as declarations take them: what one is, and what a reader inside makes of it.
-ghost use Rattle.std.specs.Prelude.{◌≡◌, ◌≤◌, IfOk};
+ghost use Rattle.std.specs.Prelude.{◌≡◌, ◌≤◌, IfOk, option_map};
+ghost use Rattle.um_tree.specs.RawTree.{type_syntax};
 ghost use Rattle.um_reader.specs.Takes.{Takes};
 ghost use Rattle.um_types.specs.UnitStops.{greatest_height};
 ghost use Rattle.um_types.specs.UnitLeast.{machine_of_units};
 ghost use Rattle.um_types.specs.UnitView.{unit_state};
-ghost use Rattle.um_types.specs.TypeMachine.{type_least, machine_of_types};
+ghost use Rattle.um_types.specs.TypeMachine.{type_finish, type_least, machine_of_types};
 ghost use Rattle.um_types.specs.TypeView.{type_state};
 ghost use Rattle.um_expr.specs.ExprTokens.{expr_token};
-ghost use Rattle.um_expr.specs.ExprStates.{expr_state};
-ghost use Rattle.um_expr.specs.ExprLeast.{whole_least, machine_of_expressions};
 ghost use Rattle.um_parse.specs.DeclTokens.{BeginsAlike, IfStops};
 
 use std::alloc::{AllocError, Global};
-use um_expr::{ExprReader, ExprToken};
+use std::mem;
+use um_expr::ExprToken;
 use um_reader::{Reader, Taken};
 use um_syntax::Token;
+use um_tree::RawType;
 use um_types::{TypeReader, UnitReader};
 
 /// What a token is. What is left of it begins a declaration as it does.
@@ -25,30 +26,32 @@ pub fn kind_of(alloc: Global, token: &mut Token) -> ExprToken
     ExprToken::of_kind(alloc, &mut token.kind)
 }
 
-/// One token more of a body.
-pub fn take_in_body(
-    body: &mut Box<ExprReader>,
-    alloc: Global,
-    token: &mut Token,
-) -> Result<Taken, AllocError>
-    requires low { whole_least (expr_state body.old.value) ≤ greatest_height }
-    ensures taken { IfOk result (λ t. Takes machine_of_expressions greatest_height (expr_state body.old.value) token.old t (expr_state body.new.value)) }
-    ensures kept { IfOk result (λ t. IfStops t (BeginsAlike token.new token.old)) }
+/// A token that can't stand here.
+pub fn stops(kind: ExprToken) -> Taken
+    ensures { result ≡ Taken.Stops }
 {
-    body.take(alloc, token)
+    drop(kind);
+    Taken::Stops
 }
 
 /// One token more of a type, which is left as it was where it is refused.
 pub fn take_in_type(
-    ty: &mut Box<TypeReader>,
+    ty: &mut TypeReader,
     alloc: Global,
     token: &mut Token,
 ) -> Result<Taken, AllocError>
-    requires low { type_least (type_state ty.old.value) ≤ greatest_height }
-    ensures taken { IfOk result (λ t. Takes machine_of_types greatest_height (type_state ty.old.value) token.old t (type_state ty.new.value)) }
+    requires low { type_least (type_state ty.old) ≤ greatest_height }
+    ensures taken { IfOk result (λ t. Takes machine_of_types greatest_height (type_state ty.old) token.old t (type_state ty.new)) }
     ensures kept { IfOk result (λ t. IfStops t (token.new ≡ token.old)) }
 {
     ty.take(alloc, token)
+}
+
+/// The type that was read, if it is one.
+pub fn finish_type(ty: &mut TypeReader) -> Option<RawType>
+    ensures { option_map type_syntax result ≡ type_finish (type_state ty.old) }
+{
+    mem::replace(ty, TypeReader::new()).finish()
 }
 
 /// One token more of a unit text, which is left as it was where it is refused.

@@ -5,8 +5,8 @@ ghost use Rattle.um_parse.specs.DeclViews.{owner_in, head_vars, view_var, next_s
 ghost use Rattle.um_parse.specs.declared.decl_prefix.VarExpected.TheVariants as var;
 
 use crate::decl_measure::refuse;
-use crate::decl_prefix::{DeclExpected, FunctionPrefix, Head, Next, Owner, VarExpected};
-use std::alloc::{AllocError, Global};
+use crate::decl_prefix::{DeclExpected, Head, Next, Owner, VarExpected};
+use std::alloc::AllocError;
 use um_expr::{ExprToken, Infix};
 use um_syntax::{Keyword, Symbol};
 use um_tree::{RawVar, Sign};
@@ -26,42 +26,30 @@ fn var_name(owner: Owner, head: Head, kind: ExprToken, p: u32) -> Result<Option<
 }
 
 // What is expected behind the `>` of unit parameters.
-fn behind(alloc: Global, owner: Owner, head: Head) -> Result<Next, AllocError>
-    ensures { IfOk result (λ n. next_state n ≡ Expects (behind_vars (owner_in owner head.at head.name) (head_vars head))) }
+fn behind(owner: Owner, head: Head) -> Next
+    ensures { next_state result ≡ Expects (behind_vars (owner_in owner head.at head.name) (head_vars head)) }
 {
     match owner {
-        Owner::Record => Ok(Next::At(DeclExpected::RecordEqual(head))),
-        Owner::Function(recursive) => {
-            let prefix = FunctionPrefix::plain(alloc, recursive, head)?;
-            Ok(Next::At(DeclExpected::Params(prefix)))
-        }
+        Owner::Record => Next::At(DeclExpected::RecordEqual(head)),
+        Owner::Function(recursive) => Next::Function(recursive, head),
     }
 }
 
 // The token behind a unit parameter.
-fn var_end(
-    alloc: Global,
-    owner: Owner,
-    head: Head,
-    kind: ExprToken,
-    p: u32,
-) -> Result<Option<Next>, AllocError>
-    ensures { IfOk result (λ o. reached o ≡ take_expected (view_var owner head var.End) kind p) }
+fn var_end(owner: Owner, head: Head, kind: ExprToken, p: u32) -> Option<Next>
+    ensures { reached result ≡ take_expected (view_var owner head var.End) kind p }
 {
     match kind {
-        ExprToken::Mark(Symbol::Comma) => Ok(Some(Next::At(DeclExpected::Var(
-            owner,
-            head,
-            VarExpected::Begin,
-        )))),
-        ExprToken::Operator(Infix::Compare(Sign::Gt)) => Ok(Some(behind(alloc, owner, head)?)),
-        other => Ok(refuse(other)),
+        ExprToken::Mark(Symbol::Comma) => {
+            Some(Next::At(DeclExpected::Var(owner, head, VarExpected::Begin)))
+        }
+        ExprToken::Operator(Infix::Compare(Sign::Gt)) => Some(behind(owner, head)),
+        other => refuse(other),
     }
 }
 
 /// One token among unit parameters.
 pub fn take_var(
-    alloc: Global,
     owner: Owner,
     head: Head,
     expected: VarExpected,
@@ -84,7 +72,7 @@ pub fn take_var(
             Ok(Some(Next::At(DeclExpected::Var(owner, head, VarExpected::Name))))
         }
         (VarExpected::Name, kind) => var_name(owner, head, kind, p),
-        (VarExpected::End, kind) => var_end(alloc, owner, head, kind, p),
+        (VarExpected::End, kind) => Ok(var_end(owner, head, kind, p)),
         (
             VarExpected::Begin | VarExpected::Word | VarExpected::Greater | VarExpected::Close,
             other,

@@ -13,10 +13,12 @@ mod decl_reader;
 mod decl_record;
 mod decl_token;
 mod decl_vars;
+mod function_reader;
 pub mod laws;
 mod limits;
 mod program_parse;
 mod program_reader;
+mod record_reader;
 
 pub use program_parse::{parse, parse_tokens};
 pub use um_types::{LimitKind, ParseStop, parse_types, parse_unit};

@@ -4,7 +4,7 @@ use Rattle.um_syntax.specs.Emptied.{emptied}
 use Rattle.um_reader.specs.declared.taken.Taken.TheVariants as taken
 use Rattle.um_parse.specs.DeclTokens.{BeginsAlike, IfStops}
 use Rattle.um_parse.proofs.DeclTokens.{alike, if_stops}
-use Rattle.um_parse.proofs.decl_token.take_in_body.Goals as goal
+use Rattle.um_parse.proofs.function_reader.FunctionBody.take.Goals as goal
 
 pub returns-clause-kept : goal.returns-clause-kept
 returns-clause-kept c =

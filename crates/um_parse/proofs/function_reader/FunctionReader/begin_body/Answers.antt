@@ -1,0 +1,18 @@
+use Rattle.std.proofs.Common.{[], refl, ap, ◌∙◌, arith}
+use Rattle.um_tree.specs.RawTree.{written_type}
+use Rattle.um_expr.specs.ExprMachine.{Need}
+use Rattle.um_expr.specs.ExprStates.{expr_state}
+use Rattle.um_parse.specs.DeclMachine.{NoDecl, InBody}
+use Rattle.um_parse.specs.DeclViews.{start_in, read_params}
+use Rattle.um_parse.proofs.DeclTaken.{goes_on}
+use Rattle.um_parse.proofs.function_reader.FunctionReader.begin_body.Goals as goal
+
+pub returns : goal.returns
+returns c =
+    let old = c.args.self.now in
+    let s = start_in old in
+    let ps = read_params old in
+    let body = c.in_ok-body.body.value in
+    goes_on NoDecl _ (InBody s ps (written_type c.args.ty) (Need [])) _
+    (c.put.ensures ∙ ap (λ r. InBody s ps (written_type r) (expr_state body.body)) c.in_ok-body.ensures.written ∙ ap (InBody s ps (written_type c.args.ty)) c.in_ok-body.ensures.begun)
+    refl (λ e. cc) (omega (arith, old.low, c.requires.low))

@@ -1,0 +1,56 @@
+use Rattle.std.proofs.Common.{◌≤◌, Option, IfOk, sym, subst, arith}
+use Rattle.std.proofs.lemmas.Result.{IfOk-weaker}
+use Rattle.um_tree.specs.declared.raw.RawType.{RawType}
+use Rattle.um_tree.specs.RawTree.{written_type}
+use Rattle.um_reader.specs.Takes.{Takes}
+use Rattle.um_types.specs.UnitStops.{greatest_height}
+use Rattle.um_types.specs.TypeView.{type_state}
+use Rattle.um_expr.specs.ExprLeast.{machine_of_expressions}
+use Rattle.um_expr.specs.ExprStates.{expr_state}
+use Rattle.um_parse.specs.DeclMachine.{InBody}
+use Rattle.um_parse.specs.ProgramLeast.{decl_least, machine_of_declarations}
+use Rattle.um_parse.specs.DeclViews.{start_in, read_params, param_state}
+use Rattle.um_parse.specs.DeclTakes.{IsLow}
+use Rattle.um_parse.specs.declared.function_reader.FunctionExpected.{FunctionExpected}
+use Rattle.um_parse.proofs.DeclTokens.{type_low, body_takes}
+use Rattle.um_parse.proofs.function_reader.FunctionReader.take.Goals as goal
+
+pub take_own-requires : goal.take_own-requires
+take_own-requires c =
+    let old = c.args.self.now in
+    let s = start_in old in
+    let ps = read_params old in
+    let mid = type_state c.take_in_type.new.ty in
+    let low = subst (λ (e : FunctionExpected). decl_least (param_state s ps (type_state old.ty) e) ≤ greatest_height) c.in-Param.is c.requires.low in
+    record {
+      low = subst (λ (e : FunctionExpected). IsLow (param_state s ps mid e)) (sym c.in-Param.is) (type_low (type_state old.ty) mid c.args.token.now (omega (arith, low)) (rw c.in-Stops.is at c.in_ok-take_in_type-in-Param.ensures.taken));
+    }
+
+pub take_own-requires-in-Stops-2 : goal.take_own-requires-in-Stops-2
+take_own-requires-in-Stops-2 c =
+    let old = c.args.self.now in
+    let s = start_in old in
+    let ps = read_params old in
+    let mid = type_state c.take_in_type-in-Result.new.ty in
+    let low = subst (λ (e : FunctionExpected). decl_least (param_state s ps (type_state old.ty) e) ≤ greatest_height) c.in-Result.is c.requires.low in
+    record {
+      low = subst (λ (e : FunctionExpected). IsLow (param_state s ps mid e)) (sym c.in-Result.is) (type_low (type_state old.ty) mid c.args.token.now (omega (arith, low)) (rw c.in-Stops-2.is at c.in_ok-take_in_type-in-Result.ensures.taken));
+    }
+
+pub returns-in-Body-clause-taken : goal.returns-in-Body-clause-taken
+returns-in-Body-clause-taken c =
+    let f = c.args.self.now in
+    let s = start_in f in
+    let ps = read_params f in
+    let old = c.in-Body.body.value in
+    let new = c.take.new.body.value in
+    let token = c.args.token.now in
+    let low = subst (λ (e : FunctionExpected). decl_least (param_state s ps (type_state f.ty) e) ≤ greatest_height) c.in-Body.is c.requires.low in
+    subst (λ (e : FunctionExpected). IfOk c.take.result (λ t. Takes machine_of_declarations greatest_height (param_state s ps (type_state f.ty) e) token t (InBody s ps (written_type new.result) (expr_state new.body)))) (sym c.in-Body.is)
+    (
+    IfOk-weaker c.take.result (λ t. Takes machine_of_expressions greatest_height (expr_state old.body) token t (expr_state new.body))
+    (λ t. Takes machine_of_declarations greatest_height (InBody s ps (written_type old.result) (expr_state old.body)) token t (InBody s ps (written_type new.result) (expr_state new.body)))
+    (λ t x.
+    subst (λ (r : Option RawType). Takes machine_of_declarations greatest_height (InBody s ps (written_type old.result) (expr_state old.body)) token t (InBody s ps (written_type r) (expr_state new.body))) (sym c.take.ensures.written)
+    (body_takes s ps (written_type old.result) (expr_state old.body) (expr_state new.body) token t low x)) c.take.ensures.taken
+    )

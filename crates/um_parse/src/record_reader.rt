@@ -1,0 +1,231 @@
+// A record behind its `{`, which is read in place.
+ghost use Rattle.std.specs.Prelude.{◌≤◌, map};
+ghost use Rattle.um_tree.specs.RawTree.{field_decl_syntax};
+ghost use Rattle.um_types.specs.UnitStops.{greatest_height};
+ghost use Rattle.um_parse.specs.ProgramHeights.{fields_height};
+
+use crate::decl_prefix::{Head, in_box};
+use crate::decl_token::{finish_type, kind_of, stops, take_in_type};
+use std::alloc::{AllocError, Global};
+use std::mem;
+use um_expr::ExprToken;
+use um_reader::Taken;
+use um_syntax::{Symbol, Token};
+use um_tree::{Name, RawDecl, RawFieldDecl, RawFieldDecls};
+use um_types::TypeReader;
+
+/// What is expected in a record.
+#[derive(Drop)]
+pub enum FieldExpected {
+    /// A field's name; `:` behind the name, at its place; more of its type, or what follows it
+    Name,
+    Colon(u32, Name),
+    Type(u32, Name),
+    /// Nothing, behind the `}`
+    Nothing,
+}
+
+/// The fields that were read of a record, none too high, what is expected, and the type that is read, if one has begun.
+#[derive(Drop)]
+pub struct RecordReader {
+    head: Head,
+    fields: RawFieldDecls,
+    expected: FieldExpected,
+    ty: TypeReader,
+    ghost low: { fields_height (map field_decl_syntax fields.items.items) ≤ greatest_height },
+}
+
+impl RecordReader {
+    ghost use Rattle.std.specs.Prelude.{◌≡◌, [], IfOk, OnOk, Some, option_map};
+    ghost use Rattle.um_tree.specs.RawTree.{TypeSyntax, type_syntax, decl_syntax};
+    ghost use Rattle.um_reader.specs.Takes.{Gives, Takes};
+    ghost use Rattle.um_types.specs.TypeHeights.{whole_height};
+    ghost use Rattle.um_types.specs.TypeMachine.{type_finish};
+    ghost use Rattle.um_types.specs.TypeView.{type_state};
+    ghost use Rattle.um_parse.specs.DeclMachine.{NoDecl, Expects, FieldName, FieldColon, take_expected};
+    ghost use Rattle.um_parse.specs.DeclMachine.{with_field_decl, field_ends, own_step, decl_finish};
+    ghost use Rattle.um_parse.specs.ProgramLeast.{decl_least, machine_of_declarations};
+    ghost use Rattle.um_parse.specs.DeclViews.{head_vars, read_fields, field_state, record_state};
+    ghost use Rattle.um_parse.specs.DeclTakes.{IsLow};
+    ghost use Rattle.um_parse.specs.DeclTokens.{BeginsAlike, IfStops};
+
+    /// No field was read, in a box.
+    pub fn new(alloc: Global, head: Head) -> Result<Box<RecordReader>, AllocError>
+        ensures { IfOk result (λ r. record_state r.value ≡ Expects (FieldName head.at head.name (head_vars head) [])) }
+    {
+        let fields = RawFieldDecls {
+            items: Vec::new(alloc),
+        };
+        let record = RecordReader {
+            head,
+            fields,
+            expected: FieldExpected::Name,
+            ty: TypeReader::new(),
+        };
+        in_box(alloc, record)
+    }
+
+    /// One token more. Where it is refused, what is left of it begins a declaration as it does.
+    pub fn take(&mut self, alloc: Global, token: &mut Token) -> Result<Taken, AllocError>
+        requires low { decl_least (record_state self.old) ≤ greatest_height }
+        ensures taken { IfOk result (λ t.
+            Takes machine_of_declarations greatest_height (record_state self.old) token.old t (record_state self.new)) }
+        ensures kept { IfOk result (λ t. IfStops t (BeginsAlike token.new token.old)) }
+    {
+        match &self.expected {
+            FieldExpected::Type(_, _) => match take_in_type(&mut self.ty, alloc, token)? {
+                Taken::Goes => Ok(Taken::Goes),
+                Taken::Stops => self.take_own(alloc, token),
+                Taken::High => Ok(Taken::High),
+            },
+            FieldExpected::Nothing => Ok(Taken::Stops),
+            FieldExpected::Name => self.take_own(alloc, token),
+            FieldExpected::Colon(_, _) => self.take_own(alloc, token),
+        }
+    }
+
+    // The token outside a type, or the one that a type has refused.
+    #[inline(never)]
+    fn take_own(&mut self, alloc: Global, token: &mut Token) -> Result<Taken, AllocError>
+        requires low { IsLow (record_state self.old) }
+        ensures taken { IfOk result (λ t. Gives machine_of_declarations greatest_height (record_state self.old)
+            (own_step (record_state self.old) token.old) t (record_state self.new)) }
+        ensures kept { BeginsAlike token.new token.old }
+    {
+        let p = token.start;
+        let kind = kind_of(alloc, token);
+        match mem::replace(&mut self.expected, FieldExpected::Name) {
+            FieldExpected::Name => Ok(self.take_name(kind, p)),
+            FieldExpected::Colon(at, name) => Ok(self.take_colon(at, name, kind, p)),
+            FieldExpected::Type(at, name) => self.end_field(at, name, kind),
+            FieldExpected::Nothing => {
+                self.put(FieldExpected::Nothing);
+                Ok(stops(kind))
+            }
+        }
+    }
+
+    // What is expected from here on.
+    fn put(&mut self, expected: FieldExpected)
+        ensures { record_state self.new
+            ≡ field_state self.old.head (read_fields self.old) (type_state self.old.ty) expected }
+    {
+        self.expected = expected;
+    }
+
+    // The token behind `{` or `;`.
+    fn take_name(&mut self, kind: ExprToken, p: u32) -> Taken
+        requires wanted { self.old.expected ≡ FieldExpected.Name }
+        ensures { Gives machine_of_declarations greatest_height NoDecl
+            (take_expected (FieldName self.old.head.at self.old.head.name (head_vars self.old.head)
+            (read_fields self.old)) kind p)
+            result (record_state self.new) }
+    {
+        match kind {
+            ExprToken::Name(name) => {
+                self.put(FieldExpected::Colon(p, name));
+                Taken::Goes
+            }
+            other => stops(other),
+        }
+    }
+
+    // The token behind the name of a field, at its place.
+    fn take_colon(&mut self, at: u32, name: Name, kind: ExprToken, p: u32) -> Taken
+        requires wanted { self.old.expected ≡ FieldExpected.Name }
+        ensures { Gives machine_of_declarations greatest_height NoDecl
+            (take_expected (FieldColon self.old.head.at self.old.head.name (head_vars self.old.head)
+            (read_fields self.old) at name) kind p)
+            result (record_state self.new) }
+    {
+        match kind {
+            ExprToken::Mark(Symbol::Colon) => {
+                self.ty = TypeReader::new();
+                self.put(FieldExpected::Type(at, name));
+                Taken::Goes
+            }
+            other => {
+                drop(name);
+                stops(other)
+            }
+        }
+    }
+
+    // The token that the type of a field has refused.
+    fn end_field(&mut self, at: u32, name: Name, kind: ExprToken) -> Result<Taken, AllocError>
+        requires wanted { self.old.expected ≡ FieldExpected.Name }
+        requires low { (t : TypeSyntax) → type_finish (type_state self.old.ty) ≡ Some t
+            → whole_height t ≤ greatest_height }
+        ensures { IfOk result (λ t. Gives machine_of_declarations greatest_height NoDecl
+            (field_ends self.old.head.at self.old.head.name (head_vars self.old.head) (read_fields self.old) at name
+            (type_finish (type_state self.old.ty)) kind)
+            t (record_state self.new)) }
+    {
+        match finish_type(&mut self.ty) {
+            Some(ty) => self.behind_field(RawFieldDecl { at, name, ty }, kind),
+            None => {
+                drop(name);
+                Ok(stops(kind))
+            }
+        }
+    }
+
+    // The token behind a field.
+    fn behind_field(&mut self, field: RawFieldDecl, kind: ExprToken) -> Result<Taken, AllocError>
+        requires wanted { self.old.expected ≡ FieldExpected.Name }
+        requires low { whole_height (type_syntax field.ty) ≤ greatest_height }
+        ensures { IfOk result (λ t. Gives machine_of_declarations greatest_height NoDecl
+            (field_ends self.old.head.at self.old.head.name (head_vars self.old.head) (read_fields self.old)
+            field.at field.name (Some (type_syntax field.ty)) kind)
+            t (record_state self.new)) }
+    {
+        match kind {
+            ExprToken::Mark(Symbol::Semicolon) => {
+                self.with_field(field, FieldExpected::Name)?;
+                Ok(Taken::Goes)
+            }
+            ExprToken::Mark(Symbol::RightBrace) => {
+                self.with_field(field, FieldExpected::Nothing)?;
+                Ok(Taken::Goes)
+            }
+            other => {
+                drop(field);
+                Ok(stops(other))
+            }
+        }
+    }
+
+    // One field more, and what is expected behind it.
+    fn with_field(&mut self, field: RawFieldDecl, expected: FieldExpected) -> Result<(), AllocError>
+        requires { whole_height (type_syntax field.ty) ≤ greatest_height }
+        ensures { OnOk result (record_state self.new ≡ field_state self.old.head
+            (with_field_decl (read_fields self.old) field.at field.name (type_syntax field.ty))
+            (type_state self.old.ty) expected) }
+    {
+        self.fields.items.push(field)?;
+        self.put(expected);
+        Ok(())
+    }
+
+    /// The record where all is read, if it is whole.
+    pub fn finish(self) -> Option<RawDecl>
+        ensures { option_map decl_syntax result ≡ decl_finish (record_state self) }
+    {
+        let RecordReader {
+            head,
+            fields,
+            expected,
+            ty,
+        } = self;
+        drop(ty);
+        match expected {
+            FieldExpected::Nothing => Some(RawDecl::Record(head.at, head.name, head.vars, fields)),
+            other => {
+                drop(head);
+                drop(fields);
+                drop(other);
+                None
+            }
+        }
+    }
+}
