@@ -14,4 +14,5 @@ mod LimitLaws
 mod DeclTaken
 mod DeclTokens
 mod ProgramSteps
+mod Front
 mod ProgramParsed

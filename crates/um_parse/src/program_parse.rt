@@ -77,25 +77,14 @@ pub fn parse(alloc: Global, tokens: &[Token], end: u32) -> Result<RawProgram, Pa
     }
 }
 
-// One token more. What is left of it is let go.
-fn take_token(reader: &mut ProgramReader, alloc: Global, token: Token) -> Result<Taken, AllocError>
-    requires low { program_least (program_state reader.old) ≤ greatest_height }
-    ensures { IfOk result (λ t. Takes machine_of_programs greatest_height (program_state reader.old) token t (program_state reader.new)) }
-{
-    let mut token = token;
-    let taken = reader.take(alloc, &mut token);
-    drop(token);
-    taken
-}
-
-// The program that these tokens are, whatever its other limits.
-fn read_tokens(alloc: Global, tokens: Tokens, end: u32) -> Result<RawProgram, ParseStop>
-    ensures { ReadAt tokens end result }
+// The program that these tokens are, whatever its other limits. Readers move out of the tokens what they keep.
+fn read_in_place(alloc: Global, tokens: &mut [Token], end: u32) -> Result<RawProgram, ParseStop>
+    ensures { ReadAt tokens.old end result }
 {
     let mut reader = ProgramReader::new(alloc);
-    for token in tokens.into_vec() {
-        let at = token.start;
-        match take_token(&mut reader, alloc, token) {
+    for i in 0..tokens.len() {
+        let at = tokens[i].start;
+        match reader.take(alloc, &mut tokens[i]) {
             Ok(Taken::Goes) => {}
             Ok(Taken::Stops) => {
                 drop(reader);
@@ -121,8 +110,18 @@ fn read_tokens(alloc: Global, tokens: Tokens, end: u32) -> Result<RawProgram, Pa
     }
 }
 
+// The same of tokens that are handed over.
+fn read_tokens(alloc: Global, tokens: Tokens, end: u32) -> Result<RawProgram, ParseStop>
+    ensures { ReadAt tokens end result }
+{
+    let mut tokens = tokens.into_vec();
+    let program = read_in_place(alloc, &mut tokens, end);
+    drop(tokens);
+    program
+}
+
 /// The program that the tokens are, as [`parse`] gives it, and with its errors. The tokens are handed over: a name moves from
-/// its token to the program, and each token is let go once it was read.
+/// its token to the program.
 pub fn parse_tokens(alloc: Global, tokens: Tokens, end: u32) -> Result<RawProgram, ParseStop>
     requires text { length tokens ≤ end }
     ensures parsed { Parsed tokens end result }
