@@ -22,7 +22,7 @@ pub(crate) struct Evaluator<'a> {
 }
 
 impl<'a> Evaluator<'a> {
-    ghost use Rattle.std.specs.Prelude.{◌≡◌, ◌∷◌, ◌+◌, ℕ, List, Some, slice_get, IfOk, map};
+    ghost use Rattle.std.specs.Prelude.{◌≡◌, [], ◌∷◌, ◌+◌, ℕ, List, Some, slice_get, IfOk, map};
     ghost use Rattle.um_tree.specs.ValueTree.{ValueTree};
     ghost use Rattle.um_tree.specs.ExprTree.{expr_tree, in_order};
     ghost use Rattle.um_tree.specs.ProgramTree.{FunctionTree, function_tree};
@@ -77,19 +77,13 @@ impl<'a> Evaluator<'a> {
             Node::Num(c, _) => Ok(Next::Give(Word::Num(*c))),
             Node::Local(k) => Ok(self.variable(*k)),
             Node::Nil(_) => Ok(Next::Give(Word::Nil)),
-            Node::Call(j, es) => self.collect(
-                functions,
-                Collection::Call(*j),
-                &es.items,
-                Vec::new(alloc),
-            ),
-            Node::List(es) => self.collect(functions, Collection::List, &es.items, Vec::new(alloc)),
-            Node::Rec(r, es) => self.collect(
-                functions,
-                Collection::Rec(*r),
-                &es.items,
-                Vec::new(alloc),
-            ),
+            Node::Call(j, es) => {
+                self.begin_items(alloc, functions, Collection::Call(*j), &es.items)
+            }
+            Node::List(es) => self.begin_items(alloc, functions, Collection::List, &es.items),
+            Node::Rec(r, es) => {
+                self.begin_items(alloc, functions, Collection::Rec(*r), &es.items)
+            }
             Node::Neg(x) => self.begin(Frame::Operand(Unary::Negate), x),
             Node::Not(x) => self.begin(Frame::Operand(Unary::Not), x),
             Node::Pow(x, k) => self.begin(Frame::Operand(Unary::Power(*k)), x),
@@ -145,6 +139,7 @@ impl<'a> Evaluator<'a> {
     }
 
     // Goes into a part.
+    #[inline(always)]
     fn begin(&mut self, frame: Frame<'a>, part: &'a Expr) -> Result<Next<'a>, NoMemory>
         ensures { (fs : List FunctionTree) (out : Out ValueTree) (n : ℕ) → Within fs self.old (frame.entry ∷ frames_of self.old) (Evaluate part.entry) out n → IfOk result (λ next. LeadsTo fs self.new next out n) }
     {
@@ -152,6 +147,7 @@ impl<'a> Evaluator<'a> {
         Ok(Next::Evaluate(part))
     }
 
+    #[inline(always)]
     fn variable(&self, k: u32) -> Next<'a>
         ensures { (fs : List FunctionTree) (out : Out ValueTree) (n : ℕ) → IsVariable fs self.now k out n → LeadsTo fs self.now result out n }
     {
@@ -184,6 +180,21 @@ impl<'a> Evaluator<'a> {
                 self.begin(Frame::Inner(outside), y)
             }
         }
+    }
+
+    // Begins to collect the values of the items.
+    #[inline(never)]
+    fn begin_items(
+        &mut self,
+        alloc: Global,
+        functions: &'a [Function],
+        c: Collection,
+        items: &'a [Expr],
+    ) -> Result<Next<'a>, NoMemory>
+        requires { (out : Out ValueTree) × (n : ℕ) × Collects (map function_tree functions.now) self.old c (in_order (map expr_tree items.now)) [] out n }
+        ensures { (out : Out ValueTree) (n : ℕ) → Collects (map function_tree functions.now) self.old c (in_order (map expr_tree items.now)) [] out n → IfOk result (λ next. LeadsTo (map function_tree functions.now) self.new next out n) }
+    {
+        self.collect(functions, c, items, Vec::new(alloc))
     }
 
     // One more of the values is there.
@@ -272,6 +283,7 @@ impl<'a> Evaluator<'a> {
     }
 }
 
+#[inline(always)]
 fn settled<'a>(outcome: WordOutcome) -> Next<'a>
     ensures { result ≡ settled outcome }
 {
@@ -283,6 +295,7 @@ fn settled<'a>(outcome: WordOutcome) -> Next<'a>
 }
 
 // The first where the truth value is true, the second where it is false.
+#[inline(always)]
 fn either<'a>(test: Option<bool>, x: Next<'a>, y: Next<'a>) -> Next<'a>
     ensures { result ≡ either test x.entry y.entry }
 {

@@ -1,4 +1,4 @@
-use Rattle.std.proofs.Common.{rules, ◌≡◌, ◌∷◌, sym, subst, map, w32, SFits}
+use Rattle.std.proofs.Common.{rules, refl, ◌≡◌, [], ◌∷◌, sym, subst, map, w32, SFits}
 use Rattle.std.proofs.lemmas.Int.{to_z-of_z}
 use Rattle.um_tree.specs.ExprTree.{truth, number, local, call, negate, not_expr, pown, arith, compare, both, either, if, bind, split, nil, list_expr, cons, record_expr, field, expr_tree, in_order}
 use Rattle.um_tree.specs.TypeTree.{note_tree}
@@ -44,14 +44,14 @@ returns-in-Local c = λ out n h.
     let seen : expr_tree e ≡ local e.at c.in-Local.k = search (rules, the_lemmas) in
     c.variable.ensures fs out n (local_begun fs m.store m.scope.items m.budget (frames_of m) out n e.at c.in-Local.k c.args.e seen h)
 
-pub collect-requires : goal.collect-requires
-collect-requires c =
+pub begin_items-requires : goal.begin_items-requires
+begin_items-requires c =
     let m = c.args.self.now in
     let fs = map function_tree c.args.functions.now in
     let e = c.args.e.now in
     let seen : expr_tree e ≡ call e.at c.in-Call.j (in_order (map expr_tree c.deref.result.now)) = search (rules, the_lemmas) in
     let (out, n, h) = c.requires in
-    (out, n, call_begun fs m.store m.scope.items m.budget (frames_of m) out n e.at c.in-Call.j (in_order (map expr_tree c.deref.result.now)) c.args.e c.new.result.items seen c.new.ensures.items (later fs m.store m.scope.items m.budget (frames_of m) out (Evaluate c.args.e) n h))
+    (out, n, call_begun fs m.store m.scope.items m.budget (frames_of m) out n e.at c.in-Call.j (in_order (map expr_tree c.deref.result.now)) c.args.e [] seen refl (later fs m.store m.scope.items m.budget (frames_of m) out (Evaluate c.args.e) n h))
 
 pub returns-in-Call : goal.returns-in-Call
 returns-in-Call c = λ out n h.
@@ -59,16 +59,16 @@ returns-in-Call c = λ out n h.
     let fs = map function_tree c.args.functions.now in
     let e = c.args.e.now in
     let seen : expr_tree e ≡ call e.at c.in-Call.j (in_order (map expr_tree c.deref.result.now)) = search (rules, the_lemmas) in
-    c.collect.ensures out n (call_begun fs m.store m.scope.items m.budget (frames_of m) out n e.at c.in-Call.j (in_order (map expr_tree c.deref.result.now)) c.args.e c.new.result.items seen c.new.ensures.items h)
+    c.begin_items.ensures out n (call_begun fs m.store m.scope.items m.budget (frames_of m) out n e.at c.in-Call.j (in_order (map expr_tree c.deref.result.now)) c.args.e [] seen refl h)
 
-pub collect-requires-in-List : goal.collect-requires-in-List
-collect-requires-in-List c =
+pub begin_items-requires-in-List : goal.begin_items-requires-in-List
+begin_items-requires-in-List c =
     let m = c.args.self.now in
     let fs = map function_tree c.args.functions.now in
     let e = c.args.e.now in
     let seen : expr_tree e ≡ list_expr e.at (in_order (map expr_tree c.deref-in-List.result.now)) = search (rules, the_lemmas) in
     let (out, n, h) = c.requires in
-    (out, n, list_begun fs m.store m.scope.items m.budget (frames_of m) out n e.at (in_order (map expr_tree c.deref-in-List.result.now)) c.args.e c.new-in-List.result.items seen c.new-in-List.ensures.items (later fs m.store m.scope.items m.budget (frames_of m) out (Evaluate c.args.e) n h))
+    (out, n, list_begun fs m.store m.scope.items m.budget (frames_of m) out n e.at (in_order (map expr_tree c.deref-in-List.result.now)) c.args.e [] seen refl (later fs m.store m.scope.items m.budget (frames_of m) out (Evaluate c.args.e) n h))
 
 pub returns-in-List : goal.returns-in-List
 returns-in-List c = λ out n h.
@@ -76,16 +76,16 @@ returns-in-List c = λ out n h.
     let fs = map function_tree c.args.functions.now in
     let e = c.args.e.now in
     let seen : expr_tree e ≡ list_expr e.at (in_order (map expr_tree c.deref-in-List.result.now)) = search (rules, the_lemmas) in
-    c.collect-in-List.ensures out n (list_begun fs m.store m.scope.items m.budget (frames_of m) out n e.at (in_order (map expr_tree c.deref-in-List.result.now)) c.args.e c.new-in-List.result.items seen c.new-in-List.ensures.items h)
+    c.begin_items-in-List.ensures out n (list_begun fs m.store m.scope.items m.budget (frames_of m) out n e.at (in_order (map expr_tree c.deref-in-List.result.now)) c.args.e [] seen refl h)
 
-pub collect-requires-in-Rec : goal.collect-requires-in-Rec
-collect-requires-in-Rec c =
+pub begin_items-requires-in-Rec : goal.begin_items-requires-in-Rec
+begin_items-requires-in-Rec c =
     let m = c.args.self.now in
     let fs = map function_tree c.args.functions.now in
     let e = c.args.e.now in
     let seen : expr_tree e ≡ record_expr e.at c.in-Rec.r (in_order (map expr_tree c.deref-in-Rec.result.now)) = search (rules, the_lemmas) in
     let (out, n, h) = c.requires in
-    (out, n, record_begun fs m.store m.scope.items m.budget (frames_of m) out n e.at c.in-Rec.r (in_order (map expr_tree c.deref-in-Rec.result.now)) c.args.e c.new-in-Rec.result.items seen c.new-in-Rec.ensures.items (later fs m.store m.scope.items m.budget (frames_of m) out (Evaluate c.args.e) n h))
+    (out, n, record_begun fs m.store m.scope.items m.budget (frames_of m) out n e.at c.in-Rec.r (in_order (map expr_tree c.deref-in-Rec.result.now)) c.args.e [] seen refl (later fs m.store m.scope.items m.budget (frames_of m) out (Evaluate c.args.e) n h))
 
 pub returns-in-Rec : goal.returns-in-Rec
 returns-in-Rec c = λ out n h.
@@ -93,7 +93,7 @@ returns-in-Rec c = λ out n h.
     let fs = map function_tree c.args.functions.now in
     let e = c.args.e.now in
     let seen : expr_tree e ≡ record_expr e.at c.in-Rec.r (in_order (map expr_tree c.deref-in-Rec.result.now)) = search (rules, the_lemmas) in
-    c.collect-in-Rec.ensures out n (record_begun fs m.store m.scope.items m.budget (frames_of m) out n e.at c.in-Rec.r (in_order (map expr_tree c.deref-in-Rec.result.now)) c.args.e c.new-in-Rec.result.items seen c.new-in-Rec.ensures.items h)
+    c.begin_items-in-Rec.ensures out n (record_begun fs m.store m.scope.items m.budget (frames_of m) out n e.at c.in-Rec.r (in_order (map expr_tree c.deref-in-Rec.result.now)) c.args.e [] seen refl h)
 
 pub returns-in-Neg : goal.returns-in-Neg
 returns-in-Neg c = λ out n h.
