@@ -111,7 +111,7 @@ fn push_count(text: &mut Vec<u8>, label: &[u8], count: u32) -> Result<(), AllocE
 fn different_schemes(alloc: Global, program: &Program, schemes: &Schemes) -> Result<u32, AllocError>
     ensures { IfOk result (λ n. n ≡ different (program_tree program.now) (scheme_trees schemes.now)) }
 {
-    let unnamed = Name::from_vec(Vec::new(alloc));
+    let unnamed = Name::empty();
     let mut texts = NameTable::new(alloc);
     let schemes: &[Scheme] = &schemes.items;
     for scheme in schemes {

@@ -22,7 +22,7 @@ fn push_copies(alloc: Global, items: &mut Vec<Name>, names: &[Name]) -> Result<(
     ensures { OnOk result (items.new.items ≡ items.old.items ++ names.now) }
 {
     for name in names {
-        items.push(Name::from_vec(name.as_slice().to_vec(alloc)?))?;
+        items.push(Name::from_slice(alloc, name.as_slice())?)?;
     }
     Ok(())
 }
@@ -42,5 +42,5 @@ fn parameter_name(alloc: Global, k: usize) -> Result<Name, AllocError>
 {
     let mut bytes = b"$".to_vec(alloc)?;
     push_number(&mut bytes, k)?;
-    Ok(Name::from_vec(bytes))
+    Name::from_slice(alloc, &bytes)
 }

@@ -73,7 +73,7 @@ fn first_argument(alloc: Global, frames: &mut Frames, operand: Operand) -> Resul
     let at = tree.at;
     match &mut tree.node {
         RawNode::Name(name) => {
-            let name = mem::replace(name, Name::from_vec(Vec::new(alloc)));
+            let name = mem::replace(name, Name::empty());
             drop(tree);
             frames.push(Frame::InArgument(at, name, Operands::empty(alloc)))
         }

@@ -13,7 +13,6 @@ use crate::record::{read_low_shape, read_shapes};
 use crate::stop::ReadStop;
 use std::alloc::Global;
 use um_machine::{Entry, Op};
-use um_tree::Name;
 use um_verify::Head;
 
 /// Functions, as an image has them: heads, the instructions of all, and where each one's stand.
@@ -90,7 +89,6 @@ fn read_head(alloc: Global, bytes: &[u8]) -> Result<(Head, &[u8]), ReadStop>
     let (params, rest) = read_shapes(alloc, rest)?;
     match read_low_shape(alloc, rest) {
         Ok((result, rest)) => {
-            let name = Name::from_vec(name);
             let head = Head {
                 name,
                 params,

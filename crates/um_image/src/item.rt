@@ -7,6 +7,7 @@ ghost use Rattle.um_image.specs.Reading.{long_of};
 use crate::stop::ReadStop;
 use std::alloc::Global;
 use um_frac::Frac;
+use um_tree::Name;
 
 #[tactic(auto, unfolding(crate::specs::Reading::number_at))]
 pub(crate) fn read_number(bytes: &[u8]) -> Result<(u32, &[u8]), ReadStop>
@@ -38,8 +39,8 @@ pub(crate) fn read_letters(bytes: &[u8]) -> Result<(&[u8], &[u8]), ReadStop>
 
 /// A name: its length, and its bytes.
 #[tactic(auto, unfolding(crate::specs::Reading::name_at, crate::specs::Reading::text_at))]
-pub(crate) fn read_name(alloc: Global, bytes: &[u8]) -> Result<(Vec<u8>, &[u8]), ReadStop>
-    ensures { Gives (λ x. (x.0.items, x.1.now)) result (name_at bytes.now) }
+pub(crate) fn read_name(alloc: Global, bytes: &[u8]) -> Result<(Name, &[u8]), ReadStop>
+    ensures { Gives (λ x. (x.0, x.1.now)) result (name_at bytes.now) }
 {
     let (len, rest) = read_number(bytes)?;
     let len = len as usize;
@@ -47,7 +48,7 @@ pub(crate) fn read_name(alloc: Global, bytes: &[u8]) -> Result<(Vec<u8>, &[u8]),
         return Err(ReadStop::Bad { left: rest.len() });
     }
     let (text, rest) = rest.split_at(len);
-    Ok((Vec::from_slice(alloc, text)?, rest))
+    Ok((Name::from_slice(alloc, text)?, rest))
 }
 
 /// A signed power of four bytes.

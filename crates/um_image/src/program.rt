@@ -54,8 +54,7 @@ fn copied_code(alloc: Global, code: &Code) -> Result<Code, AllocError>
 fn copied_name(alloc: Global, name: &Name) -> Result<Name, AllocError>
     ensures { IfOk result (λ copy. copy ≡ name.now) }
 {
-    let bytes = Vec::from_slice(alloc, name.as_slice())?;
-    Ok(Name::from_vec(bytes))
+    Name::from_slice(alloc, name.as_slice())
 }
 
 /// The type whose numbers have unit 1.

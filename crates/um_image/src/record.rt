@@ -9,7 +9,7 @@ ghost use Rattle.um_image.specs.Reading.{type_at, field_at, fields_at, record_at
 use crate::item::{read_name, read_number};
 use crate::stop::ReadStop;
 use std::alloc::Global;
-use um_tree::{FieldDecl, FieldDecls, Name, Record, Records, Shape, Ty};
+use um_tree::{FieldDecl, FieldDecls, Record, Records, Shape, Ty};
 use um_units::{NoMemory, Unit, Units};
 use um_verify::Shapes;
 
@@ -122,7 +122,6 @@ fn read_field(alloc: Global, bytes: &[u8]) -> Result<(FieldDecl, &[u8]), ReadSto
 {
     let (name, rest) = read_name(alloc, bytes)?;
     let (ty, rest) = read_type(alloc, rest)?;
-    let name = Name::from_vec(name);
     Ok((FieldDecl { name, ty }, rest))
 }
 
@@ -167,7 +166,6 @@ fn read_record(alloc: Global, bytes: &[u8]) -> Result<(Record, &[u8]), ReadStop>
 {
     let (name, rest) = read_name(alloc, bytes)?;
     let (fields, rest) = read_fields(alloc, rest)?;
-    let name = Name::from_vec(name);
     let record = Record {
         name,
         at: 0,

@@ -76,7 +76,7 @@ impl Measures {
             mut units,
         } = self;
         names.add(alloc, name)?;
-        let name = Name::from_vec(Vec::from_slice(alloc, name)?);
+        let name = Name::from_slice(alloc, name)?;
         units.push(Abbreviation { name, unit })?;
         Ok(Measures { names, units })
     }

@@ -101,10 +101,7 @@ fn copy(alloc: Global, name: &Option<Name>) -> Result<Option<Name>, AllocError>
 {
     match name {
         None => Ok(None),
-        Some(name) => {
-            let bytes = Vec::from_slice(alloc, name.as_slice())?;
-            Ok(Some(Name::from_vec(bytes)))
-        }
+        Some(name) => Ok(Some(Name::from_slice(alloc, name.as_slice())?)),
     }
 }
 

@@ -16,7 +16,7 @@ use um_units::{Atom, Unit};
 pub fn copied(alloc: Global, name: &Name) -> Result<Name, AllocError>
     ensures { IfOk result (λ copy. copy ≡ name.now) }
 {
-    Ok(Name::from_vec(Vec::from_slice(alloc, name.as_slice())?))
+    Name::from_slice(alloc, name.as_slice())
 }
 
 // One more measure, behind those before.

@@ -90,10 +90,11 @@ fn function(alloc: Global, tables: &Tables, raw: &RawFunction) -> Result<Functio
     let result = result_note(alloc, tables, &variables, &raw.result)?;
     let named = variables.count();
     let own = itself(alloc, raw)?;
+    let name = copied(alloc, &raw.name)?;
     let known = Body { variables, own };
     let body = expr(alloc, tables, &known, &mut scope, &raw.body)?;
     Ok(Function {
-        name: copied(alloc, &raw.name)?,
+        name,
         at: raw.at,
         recursive: raw.recursive,
         units,

@@ -13,7 +13,7 @@ use um_tree::{
 pub fn copied_name(alloc: Global, name: &Name) -> Result<Name, AllocError>
     ensures { IfOk result (λ n. n ≡ name.now) }
 {
-    Ok(Name::from_vec(Vec::from_slice(alloc, name.as_slice())?))
+    Name::from_slice(alloc, name.as_slice())
 }
 
 /// Equal names.

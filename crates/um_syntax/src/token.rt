@@ -8,42 +8,35 @@ use std::marker::Model;
 use std::mem;
 use thiserror::Error;
 use um_frac::Frac;
+use um_inline::InlineBytes;
 
 /// Want of memory, where it is the one error of a call.
 pub type NoMemory = AllocError;
 
 /// A list of bytes: the letters of a name, in UTF-8.
-#[derive(Debug, Drop)]
+#[derive(Drop)]
 pub struct Letters {
-    bytes: Vec<u8>,
+    bytes: InlineBytes,
 }
 
 impl Model for Letters {
     ghost Value = { List ℕ };
 
-    ghost view = { λ l. l.bytes.items };
+    ghost view = { λ l. l.bytes };
 }
 
 impl Letters {
-    /// The letters that the slice holds, copied.
+    /// The letters that the slice holds, copied. Takes no memory where there are at most 16.
     pub fn from_slice(alloc: Global, bytes: &[u8]) -> Result<Letters, AllocError>
         ensures { IfOk result (λ l. l ≡ bytes.now) }
     {
-        Ok(Letters {
-            bytes: Vec::from_slice(alloc, bytes)?,
-        })
+        let bytes = InlineBytes::from_slice(alloc, bytes)?;
+        Ok(Letters { bytes })
     }
 
-    /// The letters that the vector holds. Takes no memory.
-    pub fn from_vec(bytes: Vec<u8>) -> Letters
-        ensures { result ≡ bytes.items }
-    {
-        Letters { bytes }
-    }
-
-    /// The vector that holds the letters. Takes no memory.
-    pub fn into_vec(self) -> Vec<u8>
-        ensures { result.items ≡ self }
+    /// The letters as bytes. Takes no memory.
+    pub fn into_bytes(self) -> InlineBytes
+        ensures { result ≡ self }
     {
         self.bytes
     }
@@ -52,27 +45,28 @@ impl Letters {
     pub fn copy(&self, alloc: Global) -> Result<Letters, AllocError>
         ensures { IfOk result (λ l. l ≡ self.now) }
     {
-        Letters::from_slice(alloc, &self.bytes)
+        Letters::from_slice(alloc, self.as_slice())
     }
 
     /// The letters, which leaves none. Takes no memory.
-    pub fn take(&mut self, alloc: Global) -> Letters
+    pub fn take(&mut self, _alloc: Global) -> Letters
         ensures letters { result ≡ self.old }
         ensures none { self.new ≡ [] }
     {
-        mem::replace(self, Letters::from_vec(Vec::new(alloc)))
+        let bytes = InlineBytes::empty();
+        mem::replace(self, Letters { bytes })
     }
 
     /// The letters.
     pub fn as_slice(&self) -> &[u8]
         ensures { result.now ≡ self.now }
     {
-        &self.bytes
+        self.bytes.as_slice()
     }
 }
 
 /// What a token is.
-#[derive(Debug, Drop)]
+#[derive(Drop)]
 pub enum Kind {
     /// A name, with its letters.
     Name(Letters),
@@ -113,7 +107,7 @@ impl Kind {
 }
 
 /// A token of a text.
-#[derive(Debug, Drop)]
+#[derive(Drop)]
 pub struct Token {
     pub kind: Kind,
     /// The place of its first byte, counted from 0.
@@ -139,7 +133,7 @@ impl Token {
 }
 
 /// A list of tokens.
-#[derive(Debug, Drop)]
+#[derive(Drop)]
 pub struct Tokens {
     items: Vec<Token>,
 }

@@ -3,7 +3,7 @@ ghost use Rattle.std.specs.Prelude.{◌≡◌};
 ghost use Rattle.um_syntax.specs.Machine.{keyword_of, keywords, found_keyword, of_len, single_symbol, double_symbol};
 
 /// A reserved word.
-#[derive(Clone, Copy, Debug)]
+#[derive(Clone, Copy)]
 pub enum Keyword {
     Let,
     Rec,
@@ -25,7 +25,7 @@ pub enum Keyword {
 }
 
 /// A symbol. The docstring of each is its text.
-#[derive(Clone, Copy, Debug)]
+#[derive(Clone, Copy)]
 pub enum Symbol {
     /// `(`
     LeftParen,

@@ -1,12 +1,14 @@
 // Names as they stand in a text.
-ghost use Rattle.std.specs.Prelude.{◌≡◌};
+ghost use Rattle.std.specs.Prelude.{◌≡◌, [], IfOk};
 
+use std::alloc::{AllocError, Global};
 use std::marker::Model;
+use um_inline::InlineBytes;
 
 /// A name: its bytes as they stand in the text.
 #[derive(Drop)]
 pub struct Name {
-    bytes: Vec<u8>,
+    bytes: InlineBytes,
 }
 
 impl Model for Name {
@@ -17,29 +19,39 @@ impl Model for Name {
 
     ghost coded = { coded_list coded_ℕ };
 
-    ghost view = { λ n. n.bytes.items };
+    ghost view = { λ n. n.bytes };
 }
 
 impl Name {
-    /// The name with these bytes.
-    pub fn from_vec(bytes: Vec<u8>) -> Name
-        ensures { result ≡ bytes.items }
+    /// The name without bytes. Takes no memory.
+    pub fn empty() -> Name
+        ensures { result ≡ [] }
     {
-        Name { bytes }
+        Name {
+            bytes: InlineBytes::empty(),
+        }
     }
 
-    /// Its bytes, handed back.
-    pub fn into_vec(self) -> Vec<u8>
-        ensures { result.items ≡ self }
+    /// The name with these bytes, copied. Takes no memory where there are at most 16.
+    pub fn from_slice(alloc: Global, bytes: &[u8]) -> Result<Name, AllocError>
+        ensures { IfOk result (λ name. name ≡ bytes.now) }
     {
-        self.bytes
+        let bytes = InlineBytes::from_slice(alloc, bytes)?;
+        Ok(Name { bytes })
+    }
+
+    /// The name with these bytes. Takes no memory.
+    pub fn from_bytes(bytes: InlineBytes) -> Name
+        ensures { result ≡ bytes }
+    {
+        Name { bytes }
     }
 
     /// Its bytes.
     pub fn as_slice(&self) -> &[u8]
         ensures { result.now ≡ self.now }
     {
-        &self.bytes
+        self.bytes.as_slice()
     }
 }
 

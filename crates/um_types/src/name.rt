@@ -8,5 +8,5 @@ use um_tree::Name;
 pub fn name_of(letters: Letters) -> Name
     ensures { result ≡ letters }
 {
-    Name::from_vec(letters.into_vec())
+    Name::from_bytes(letters.into_bytes())
 }

@@ -19,7 +19,7 @@ loop-scheme-preserved c =
     let more : map f (map scheme_tree (take (i + 1) ss)) ≡ before ++ t ∷ [] =
     ap (λ l. map f (map scheme_tree l)) (take_more ss i s c.loop-scheme-test.true ∙ ap (λ u. take i ss ++ u ∷ []) (sym c.scheme-item.is))
     ∙ ap (map f) (map-append scheme_tree (take i ss) (s ∷ [])) ∙ map-append f (map scheme_tree (take i ss)) (scheme_tree s ∷ []) in
-    let printed = c.deref.ensures.value ∙ c.in_ok-text.ensures ∙ ap (λ n. scheme_text p n (scheme_tree s)) (c.from_vec-unnamed.ensures ∙ c.new.ensures.items) in
+    let printed = c.deref.ensures.value ∙ c.in_ok-text.ensures ∙ ap (λ n. scheme_text p n (scheme_tree s)) c.empty-unnamed.ensures in
     let added : c.add.new.self ≡ cond (is_among kept t) kept (kept ++ t ∷ []) =
     c.in_ok-add.ensures ∙ ap (λ u. cond (is_among kept u) kept (kept ++ u ∷ [])) printed in
     subst (HoldsOnce c.add.new.self) (sym more)

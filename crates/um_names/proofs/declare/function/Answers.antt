@@ -21,5 +21,5 @@ returns-clause-exact c =
     let units = subst (λ (vs : List RawVar). resolved_parameters [] (map var_syntax vs) ≡ Ok us) c.deref.ensures.value c.in_ok-unit_params.ensures.exact in
     let params = subst (λ (ps : List RawParam). resolved_params k c.in_ok-variables.variables [] (map param_syntax ps) ≡ Ok (map note_tree c.in_ok-notes.field-0.notes.items)) c.deref-2.ensures.value c.in_ok-notes.ensures.exact in
     let scope : c.in_ok-notes.field-0.scope ≡ scope_of f = c.in_ok-notes.ensures.scope ∙ ap (λ (ps : List RawParam). map (λ q. q.binder.name) (map param_syntax ps)) c.deref-2.ensures.value in
-    function_is k f c.in_ok-copied.field-0 c.count-units.result c.count-named.result us c.in_ok-variables.variables (map note_tree c.in_ok-notes.field-0.notes.items) (result_tree c.in_ok-result.result) (own_callable c.in_ok-own.own) c.in_ok-notes.field-0.scope
-    (expr_tree c.in_ok-body.body) c.in_ok-copied.ensures c.count-units.ensures c.count-named.ensures new units c.in_ok-variables.ensures params c.in_ok-result.ensures.exact c.in_ok-own.ensures scope c.in_ok-body.ensures.exact
+    function_is k f c.in_ok-name.name c.count-units.result c.count-named.result us c.in_ok-variables.variables (map note_tree c.in_ok-notes.field-0.notes.items) (result_tree c.in_ok-result.result) (own_callable c.in_ok-own.own) c.in_ok-notes.field-0.scope
+    (expr_tree c.in_ok-body.body) c.in_ok-name.ensures c.count-units.ensures c.count-named.ensures new units c.in_ok-variables.ensures params c.in_ok-result.ensures.exact c.in_ok-own.ensures scope c.in_ok-body.ensures.exact
