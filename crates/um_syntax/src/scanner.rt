@@ -91,6 +91,7 @@ impl Scanner {
     }
 
     // Puts a token behind the others, where nothing has begun.
+    #[inline(always)]
     fn add(&mut self, kind: Kind, start: u32, end: u32) -> Result<(), AllocError>
         requires free { self.old.pending ≡ pending.Free }
         requires none { string_bytes self.old.letters ≡ [] }
@@ -373,6 +374,7 @@ impl Scanner {
     }
 
     // Puts the token that so many bytes are behind the others, and answers how many these are.
+    #[inline(always)]
     fn put(&mut self, kind: Kind, len: usize) -> Result<usize, AllocError>
         requires free { self.old.pending ≡ pending.Free }
         requires none { string_bytes self.old.letters ≡ [] }
@@ -391,6 +393,7 @@ impl Scanner {
     }
 
     // Takes a name whose end is seen.
+    #[inline(never)]
     fn scan_name(&mut self, text: &str) -> Result<usize, AllocError>
         requires free { self.old.pending ≡ pending.Free }
         requires none { string_bytes self.old.letters ≡ [] }
@@ -409,6 +412,7 @@ impl Scanner {
     }
 
     // Takes a variable whose end is seen, where its letters are no reserved word.
+    #[inline(never)]
     fn scan_variable(&mut self, text: &str) -> Result<usize, AllocError>
         requires free { self.old.pending ≡ pending.Free }
         requires none { string_bytes self.old.letters ≡ [] }
@@ -434,6 +438,7 @@ impl Scanner {
     }
 
     // Takes a number whose end is seen, where it is in range.
+    #[inline(never)]
     fn scan_number(&mut self, text: &str) -> Result<usize, AllocError>
         requires free { self.old.pending ≡ pending.Free }
         requires none { string_bytes self.old.letters ≡ [] }
@@ -461,6 +466,7 @@ impl Scanner {
     }
 
     // Takes a symbol whose end is seen, or the slashes of a comment.
+    #[inline(never)]
     fn scan_sign(&mut self, text: &str) -> Result<usize, AllocError>
         requires free { self.old.pending ≡ pending.Free }
         requires none { string_bytes self.old.letters ≡ [] }
@@ -539,6 +545,7 @@ fn number_with(start: u32, end: u32, part: Part, figures: Figures, c: char, next
 }
 
 // The kind of an identifier.
+#[inline(always)]
 fn letters_kind(alloc: Global, letters: &str) -> Result<Kind, AllocError>
     ensures { IfOk result (λ k. k ≡ letters_kind letters.now) }
 {
