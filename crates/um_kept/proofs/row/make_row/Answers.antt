@@ -171,8 +171,29 @@ loop-r-smaller c =
     let o : has_other t.variable c.in_ok-r-in-Some.r ≡ true = sym (c.has_other_variable.ensures ∙ ap (list_any (λ (x : Term). is_other t.variable x.atom)) c.terms.ensures.terms) ∙ c.if-not-has_other_variable.false in
     least_falls r t.variable c.in_ok-r-in-Some.r (turn_leaves r t c.in_ok-r-in-Some.r is c.in_ok-r-in-Some.ensures.left) o
 
+pub loop-r-smaller-else-not-has_other_variable : goal.loop-r-smaller-else-not-has_other_variable
+loop-r-smaller-else-not-has_other_variable c =
+    let t = c.in-Some.turn in
+    let r = c.loop-r.r in
+    let is : IsTurnOf r t = subst (IsNextTurn r) c.in-Some.is c.in_ok-next_turn.ensures.next in
+    let o : has_other t.variable c.in_ok-r-in-Some.r ≡ true = sym (c.has_other_variable.ensures ∙ ap (list_any (λ (x : Term). is_other t.variable x.atom)) c.terms.ensures.terms) ∙ c.if-not-has_other_variable.false in
+    least_falls r t.variable c.in_ok-r-in-Some.r (turn_leaves r t c.in_ok-r-in-Some.r is c.in_ok-r-in-Some.ensures.left) o
+
 pub loop-r-preserved : goal.loop-r-preserved
 loop-r-preserved c =
+    let t = c.in-Some.turn in
+    let r = c.loop-r.r in
+    let n = c.args.head.slots in
+    let is : IsTurnOf r t = subst (IsNextTurn r) c.in-Some.is c.in_ok-next_turn.ensures.next in
+    let a = agrees_after c.args.head c.loop-r.making c.make_turn.new.making r t c.loop-r.invariant.agrees is c.loop-r.invariant.below c.in_ok-r-in-Some.ensures.kept in
+    record {
+      agrees = a;
+      below = subst (VariablesBelow n) (sym c.in_ok-r-in-Some.ensures.left) (turned_below n r t c.loop-r.invariant.below is);
+      turning = λ rows kept e b. turning_after rows kept c.args.k c.args.head c.loop-r.making c.make_turn.new.making r c.in_ok-r-in-Some.r c.loop-r.inverted c.flipped-inverted.result t (c.loop-r.invariant.turning rows kept e b) is c.loop-r.invariant.below c.in_ok-r-in-Some.ensures.left c.in_ok-r-in-Some.ensures.kept c.flipped-inverted.ensures;
+    }
+
+pub loop-r-preserved-else-not-has_other_variable : goal.loop-r-preserved-else-not-has_other_variable
+loop-r-preserved-else-not-has_other_variable c =
     let t = c.in-Some.turn in
     let r = c.loop-r.r in
     let n = c.args.head.slots in
