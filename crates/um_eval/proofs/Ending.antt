@@ -1,10 +1,9 @@
 -- How a call ends: as the program's meaning has it, and never with a wrong shape.
 use Rattle.std.proofs.Common.{◌≡◌, sym, ap, ◌∙◌, subst, ℕ, List, Some}
 use Rattle.std.specs.Prelude.{IsSome}
-use Rattle.std.proofs.lemmas.Bool.{false≢true}
 use Rattle.um_tree.specs.ValueTree.{ValueTree, values_in_order, value_outcome}
 use Rattle.um_tree.specs.ProgramTree.{FunctionTree, ProgramTree}
-use Rattle.um_tree.specs.Meaning.{wrong, Out, stops, end_of, outcome_of_call}
+use Rattle.um_tree.specs.Meaning.{Out, end_of, outcome_of_call}
 use Rattle.um_tree.specs.InputType.{ValuesHave}
 use Rattle.um_tree.specs.Shapes.{IsShaped, IsShapeOf, ShapeAt, shapes_below}
 use Rattle.um_shape.proofs.NeverWrong.{calls_are_never_wrong}
@@ -22,9 +21,6 @@ module _ (s : Store) (w : Word) where
 
   pub value_ends : (out : Out ValueTree) (value : ValueTree) → EndsWith s (end.Value w) out → DenotesIn s w value → end_of out ≡ Some (value_outcome value)
   value_ends out value (v, rest, d, e) k = ap end_of (sym e) ∙ ap (λ u. Some (value_outcome u)) (one_value s.cells.items w v value d k)
-
-pub wrong_ends : (out : Out ValueTree) → stops wrong ≡ out → IsSome (end_of out) → ⊥
-wrong_ends out e some = false≢true (subst (λ o. IsSome (end_of o)) (sym e) some)
 
 pub allowed_calls_end : (p : ProgramTree) (f b : ℕ) (vs : List ValueTree) → IsShaped p → AreArgumentsOf p f vs → IsSome (outcome_of_call p f vs b)
 allowed_calls_end p f b vs shaped (g, there, have) =

@@ -1,3 +1,4 @@
+mod Segments
 mod Completing
 mod Outcomes
 mod Lookup

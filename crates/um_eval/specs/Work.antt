@@ -5,8 +5,7 @@ use Rattle.um_tree.specs.ExprTree.{ExprTree, ExprTrees, truth, number, local, ca
 use Rattle.um_tree.specs.ExprTree.{compare, both, either, if, bind, split, nil, list_expr, cons, record_expr, field}
 use Rattle.um_tree.specs.ExprTree.{none, more, expr_tree, in_order}
 use Rattle.um_tree.specs.ProgramTree.{FunctionTree}
-use Rattle.um_eval.specs.declared.next.Next.{Next}
-use Rattle.um_eval.specs.declared.next.Next.TheVariants as next
+use Rattle.um_eval.specs.Tasks.{Task, Evaluate, Give, Halt}
 use Rattle.um_eval.specs.declared.frame.Frame.{Frame}
 use Rattle.um_eval.specs.declared.frame.Frame.TheVariants as frame
 
@@ -47,17 +46,17 @@ frame_steps (frame.Test x y) = steps (expr_tree x.now) + steps (expr_tree y.now)
 frame_steps (frame.Bound y) = steps (expr_tree y.now) + 2
 frame_steps (frame.Matched x y) = steps (expr_tree x.now) + steps (expr_tree y.now) + 2
 frame_steps (frame.Inner n) = 1
-frame_steps (frame.Item c rest done) = steps_of_each (in_order (map expr_tree rest.now)) + 2
-frame_steps (frame.Body scope) = 1
+frame_steps (frame.Item c rest first) = steps_of_each (in_order (map expr_tree rest.now)) + 2
+frame_steps (frame.Body base) = 1
 
 abbrev pub frames_steps : List Frame → ℕ
 frames_steps [] = 0
 frames_steps (f ∷ frames) = frame_steps f + frames_steps frames
 
-abbrev pub next_steps : Next → ℕ
-next_steps (next.Evaluate e) = steps (expr_tree e.now)
-next_steps (next.Give w) = 0
-next_steps (next.Stop r) = 0
+abbrev pub task_steps : Task → ℕ
+task_steps (Evaluate e) = steps (expr_tree e.now)
+task_steps (Give w) = 0
+task_steps (Halt r) = 0
 
 -- no body of a function has more
 abbrev pub most_steps : List FunctionTree → ℕ

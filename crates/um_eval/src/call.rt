@@ -7,9 +7,11 @@ ghost use Rattle.um_cells.specs.Stores.{AllDenote, HaveValues};
 ghost use Rattle.um_eval.specs.Progress.{EndsWith, end_of_call};
 
 use crate::evaluator::Evaluator;
-use crate::next::{End, Stop};
+use crate::next::End;
+use crate::scope::Scope;
 use std::alloc::Global;
 use um_cells::{Store, Word};
+use um_frac::Trap;
 use um_tree::{Function, Outcome, Values};
 use um_units::NoMemory;
 
@@ -41,12 +43,15 @@ pub(crate) fn run_call(
 {
     let mut evaluator = Evaluator {
         store,
-        scope: Vec::new(alloc),
+        scope: Scope::new(alloc),
+        values: words,
         frames: Vec::new(alloc),
         budget,
+        value: Word::Nil,
+        trap: Trap::Overflow,
     };
-    let first = evaluator.enter(functions, f, words)?;
-    let end = evaluator.run(alloc, functions, first)?;
+    let first = evaluator.enter(functions, f, 0);
+    let end = evaluator.run(functions, first)?;
     outcome(alloc, &evaluator.store, end)
 }
 
@@ -57,8 +62,8 @@ fn outcome(alloc: Global, store: &Store, end: End) -> Result<Outcome, NoMemory>
 {
     match end {
         End::Value(word) => Ok(Outcome::Value(store.get(alloc, word)?)),
-        End::Stop(Stop::Trap(trap)) => Ok(Outcome::Trap(trap)),
-        End::Stop(Stop::BudgetEnd) => Ok(Outcome::BudgetEnd),
-        End::Stop(Stop::Wrong) => unreachable!(),
+        End::Trap(trap) => Ok(Outcome::Trap(trap)),
+        End::BudgetEnd => Ok(Outcome::BudgetEnd),
+        End::Wrong => unreachable!(),
     }
 }

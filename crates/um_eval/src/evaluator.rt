@@ -1,89 +1,88 @@
 //! The evaluator: one step after another, until no frame is left.
 ghost use Rattle.std.specs.Prelude.{◌≡◌};
-ghost use Rattle.um_eval.specs.Settling.{settled, either};
+ghost use Rattle.um_eval.specs.Settling.{either};
 
 use crate::frame::{Binary, Collection, Frame, Unary};
-use crate::next::{End, Next, Stop};
+use crate::next::{End, Next};
 use crate::operations::{apply, operate};
-use std::alloc::Global;
-use std::mem;
+use crate::scope::Scope;
+use std::alloc::AllocError;
 use um_cells::{ListCase, Store, Word, WordOutcome, truth};
+use um_frac::Trap;
 use um_tree::{Expr, Function, Node};
 use um_units::NoMemory;
 
-/// A run in the middle of its work. The variables of the function that runs stand in order; those of its callers stand
-/// in the frames.
+/// A run in the middle of its work.
 #[derive(Drop)]
 pub(crate) struct Evaluator<'a> {
     pub(crate) store: Store,
-    pub(crate) scope: Vec<Word>,
+    pub(crate) scope: Scope,
+    /// The values of items that wait for those behind them
+    pub(crate) values: Vec<Word>,
     pub(crate) frames: Vec<Frame<'a>>,
     pub(crate) budget: u64,
+    /// What was given last
+    pub(crate) value: Word,
+    /// What ends the run, if it is a trap
+    pub(crate) trap: Trap,
 }
 
 impl<'a> Evaluator<'a> {
-    ghost use Rattle.std.specs.Prelude.{◌≡◌, [], ◌∷◌, ◌+◌, ℕ, List, Some, slice_get, IfOk, map};
+    ghost use Rattle.std.specs.Prelude.{◌≡◌, ◌≤◌, ◌∷◌, ◌+◌, ℕ, List, Some, length, slice_get, IfOk, map};
     ghost use Rattle.um_tree.specs.ValueTree.{ValueTree};
     ghost use Rattle.um_tree.specs.ExprTree.{expr_tree, in_order};
     ghost use Rattle.um_tree.specs.ProgramTree.{FunctionTree, function_tree};
     ghost use Rattle.um_tree.specs.Meaning.{Out};
-    ghost use Rattle.um_cells.specs.Stores.{HasValue};
-    ghost use Rattle.um_eval.specs.declared.next.Next.TheVariants.{Evaluate, Give};
-    ghost use Rattle.um_eval.specs.declared.frame.Frame.TheVariants.{Bound, Matched, Item};
-    ghost use Rattle.um_eval.specs.declared.frame.Collection.TheVariants.{Call};
-    ghost use Rattle.um_eval.specs.Progress.{frames_of, Within, LeadsTo, IsVariable, Collects, IsCollected, EndsWith};
+    ghost use Rattle.um_eval.specs.declared.frame.Frame.TheVariants.{Operand, Right, Bound, Matched, Item};
+    ghost use Rattle.um_eval.specs.declared.frame.Collection.TheVariants as collection;
+    ghost use Rattle.um_eval.specs.Tasks.{Evaluate, Give};
+    ghost use Rattle.um_eval.specs.Settling.{settled};
+    ghost use Rattle.um_eval.specs.Progress.{frames_of, Within, LeadsTo, Goes, IsVariable, Collects, IsCollected, EndsWith};
 
     /// Runs until no frame is left, or there is no value.
     pub(crate) fn run(
         &mut self,
-        alloc: Global,
         functions: &'a [Function],
         first: Next<'a>,
     ) -> Result<End, NoMemory>
-        requires { (out : Out ValueTree) × (n : ℕ) × LeadsTo (map function_tree functions.now) self.old first out n }
-        ensures { (out : Out ValueTree) (n : ℕ) → LeadsTo (map function_tree functions.now) self.old first.entry out n → IfOk result (λ end. EndsWith self.new.store end out) }
+        requires { (out : Out ValueTree) × (n : ℕ) × Goes (map function_tree functions.now) self.old first out n }
+        ensures { (out : Out ValueTree) (n : ℕ) → Goes (map function_tree functions.now) self.old first.entry out n → IfOk result (λ end. EndsWith self.new.store end out) }
     {
         let mut next = first;
         loop {
             match next {
                 Next::Evaluate(e) => {
-                    next = self.evaluate(alloc, functions, e)?;
+                    next = self.evaluate(functions, e);
                 }
-                Next::Give(word) => {
+                Next::Give => {
                     match self.frames.pop() {
                         Some(frame) => {
-                            next = self.resume(functions, frame, word)?;
+                            next = self.resume(functions, frame);
                         }
-                        None => return Ok(End::Value(word)),
+                        None => return Ok(End::Value(self.value)),
                     }
                 }
-                Next::Stop(stop) => return Ok(End::Stop(stop)),
+                Next::Trap => return Ok(End::Trap(self.trap)),
+                Next::BudgetEnd => return Ok(End::BudgetEnd),
+                Next::Wrong => return Ok(End::Wrong),
+                Next::NoMemory => return Err(AllocError),
             }
         }
     }
 
     // The first step of an expression.
-    fn evaluate(
-        &mut self,
-        alloc: Global,
-        functions: &'a [Function],
-        e: &'a Expr,
-    ) -> Result<Next<'a>, NoMemory>
+    fn evaluate(&mut self, functions: &'a [Function], e: &'a Expr) -> Next<'a>
         requires { (out : Out ValueTree) × (n : ℕ) × LeadsTo (map function_tree functions.now) self.old (Evaluate e) out n }
-        ensures { (out : Out ValueTree) (n : ℕ) → LeadsTo (map function_tree functions.now) self.old (Evaluate e.entry) out (n + 1) → IfOk result (λ next. LeadsTo (map function_tree functions.now) self.new next out n) }
+        ensures { (out : Out ValueTree) (n : ℕ) → LeadsTo (map function_tree functions.now) self.old (Evaluate e.entry) out (n + 1) → Goes (map function_tree functions.now) self.new result out n }
     {
         match &e.node {
-            Node::Bool(b) => Ok(Next::Give(Word::Bool(*b))),
-            Node::Num(c, _) => Ok(Next::Give(Word::Num(*c))),
-            Node::Local(k) => Ok(self.variable(*k)),
-            Node::Nil(_) => Ok(Next::Give(Word::Nil)),
-            Node::Call(j, es) => {
-                self.begin_items(alloc, functions, Collection::Call(*j), &es.items)
-            }
-            Node::List(es) => self.begin_items(alloc, functions, Collection::List, &es.items),
-            Node::Rec(r, es) => {
-                self.begin_items(alloc, functions, Collection::Rec(*r), &es.items)
-            }
+            Node::Bool(b) => self.give(Word::Bool(*b)),
+            Node::Num(c, _) => self.give(Word::Num(*c)),
+            Node::Local(k) => self.variable(*k),
+            Node::Nil(_) => self.give(Word::Nil),
+            Node::Call(j, es) => self.begin_items(functions, Collection::Call(*j), &es.items),
+            Node::List(es) => self.begin_items(functions, Collection::List, &es.items),
+            Node::Rec(r, es) => self.begin_items(functions, Collection::Rec(*r), &es.items),
             Node::Neg(x) => self.begin(Frame::Operand(Unary::Negate), x),
             Node::Not(x) => self.begin(Frame::Operand(Unary::Not), x),
             Node::Pow(x, k) => self.begin(Frame::Operand(Unary::Power(*k)), x),
@@ -100,197 +99,255 @@ impl<'a> Evaluator<'a> {
     }
 
     // The value is handed to the frame that was the innermost.
-    fn resume(
-        &mut self,
-        functions: &'a [Function],
-        frame: Frame<'a>,
-        word: Word,
-    ) -> Result<Next<'a>, NoMemory>
-        requires { (out : Out ValueTree) × (n : ℕ) × Within (map function_tree functions.now) self.old (frame ∷ frames_of self.old) (Give word) out n }
-        ensures { (out : Out ValueTree) (n : ℕ) → Within (map function_tree functions.now) self.old (frame.entry ∷ frames_of self.old) (Give word) out (n + 1) → IfOk result (λ next. LeadsTo (map function_tree functions.now) self.new next out n) }
+    fn resume(&mut self, functions: &'a [Function], frame: Frame<'a>) -> Next<'a>
+        requires { (out : Out ValueTree) × (n : ℕ) × Within (map function_tree functions.now) self.old (frame ∷ frames_of self.old) (Give self.old.value) out n }
+        ensures { (out : Out ValueTree) (n : ℕ) → Within (map function_tree functions.now) self.old (frame.entry ∷ frames_of self.old) (Give self.old.value) out (n + 1) → Goes (map function_tree functions.now) self.new result out n }
     {
         match frame {
-            Frame::Operand(op) => Ok(settled(apply(&self.store, op, word))),
-            Frame::Left(op, y) => self.begin(Frame::Right(op, word), y),
-            Frame::Right(op, x) => Ok(settled(operate(&mut self.store, op, x, word)?)),
-            Frame::LeftOfAnd(y) => Ok(either(
-                truth(word),
-                Next::Evaluate(y),
-                Next::Give(Word::Bool(false)),
-            )),
-            Frame::LeftOfOr(y) => Ok(either(
-                truth(word),
-                Next::Give(Word::Bool(true)),
-                Next::Evaluate(y),
-            )),
-            Frame::Test(x, y) => Ok(either(truth(word), Next::Evaluate(x), Next::Evaluate(y))),
-            Frame::Bound(y) => self.bind(word, y),
-            Frame::Matched(x, y) => self.split(word, x, y),
-            Frame::Inner(outside) => {
-                self.scope.truncate(outside);
-                Ok(Next::Give(word))
+            Frame::Operand(op) => self.apply(op),
+            Frame::Left(op, y) => {
+                let x = self.value;
+                self.begin(Frame::Right(op, x), y)
             }
-            Frame::Item(c, rest, done) => self.go_on(functions, c, rest, done, word),
-            Frame::Body(scope) => {
-                self.scope = scope;
-                Ok(Next::Give(word))
+            Frame::Right(op, x) => self.combine(op, x),
+            Frame::LeftOfAnd(y) => either(truth(self.value), Next::Evaluate(y), Next::Give),
+            Frame::LeftOfOr(y) => either(truth(self.value), Next::Give, Next::Evaluate(y)),
+            Frame::Test(x, y) => either(truth(self.value), Next::Evaluate(x), Next::Evaluate(y)),
+            Frame::Bound(y) => self.bind(y),
+            Frame::Matched(x, y) => self.split(x, y),
+            Frame::Inner(outside) => {
+                self.scope.cut(outside);
+                Next::Give
+            }
+            Frame::Item(c, rest, first) => self.go_on(functions, c, rest, first),
+            Frame::Body(base) => {
+                self.scope.close(base);
+                Next::Give
             }
         }
     }
 
     // Goes into a part.
     #[inline(always)]
-    fn begin(&mut self, frame: Frame<'a>, part: &'a Expr) -> Result<Next<'a>, NoMemory>
-        ensures { (fs : List FunctionTree) (out : Out ValueTree) (n : ℕ) → Within fs self.old (frame.entry ∷ frames_of self.old) (Evaluate part.entry) out n → IfOk result (λ next. LeadsTo fs self.new next out n) }
+    fn begin(&mut self, frame: Frame<'a>, part: &'a Expr) -> Next<'a>
+        ensures { (fs : List FunctionTree) (out : Out ValueTree) (n : ℕ) → Within fs self.old (frame.entry ∷ frames_of self.old) (Evaluate part.entry) out n → Goes fs self.new result out n }
     {
-        self.frames.push(frame)?;
-        Ok(Next::Evaluate(part))
+        match self.frames.push(frame) {
+            Ok(()) => Next::Evaluate(part),
+            Err(_) => Next::NoMemory,
+        }
     }
 
     #[inline(always)]
-    fn variable(&self, k: u32) -> Next<'a>
-        ensures { (fs : List FunctionTree) (out : Out ValueTree) (n : ℕ) → IsVariable fs self.now k out n → LeadsTo fs self.now result out n }
+    fn give(&mut self, word: Word) -> Next<'a>
+        ensures { (fs : List FunctionTree) (out : Out ValueTree) (n : ℕ) → LeadsTo fs self.old (Give word) out n → Goes fs self.new result out n }
+    {
+        self.value = word;
+        Next::Give
+    }
+
+    // What an operation came to.
+    #[inline(always)]
+    fn settle(&mut self, outcome: WordOutcome) -> Next<'a>
+        ensures { (fs : List FunctionTree) (out : Out ValueTree) (n : ℕ) → LeadsTo fs self.old (settled outcome) out n → Goes fs self.new result out n }
+    {
+        match outcome {
+            WordOutcome::Value(word) => self.give(word),
+            WordOutcome::Trap(trap) => {
+                self.trap = trap;
+                Next::Trap
+            }
+            WordOutcome::Wrong => Next::Wrong,
+        }
+    }
+
+    #[inline(always)]
+    fn variable(&mut self, k: u32) -> Next<'a>
+        ensures { (fs : List FunctionTree) (out : Out ValueTree) (n : ℕ) → IsVariable fs self.old k out n → Goes fs self.new result out n }
     {
         match self.scope.get(k as usize) {
-            Some(word) => Next::Give(*word),
-            None => Next::Stop(Stop::Wrong),
+            Some(word) => self.give(word),
+            None => Next::Wrong,
+        }
+    }
+
+    // The operation of one part.
+    #[inline(never)]
+    fn apply(&mut self, op: Unary) -> Next<'a>
+        ensures { (fs : List FunctionTree) (out : Out ValueTree) (n : ℕ) → Within fs self.old (Operand op ∷ frames_of self.old) (Give self.old.value) out (n + 1) → Goes fs self.new result out n }
+    {
+        let outcome = apply(&self.store, op, self.value);
+        self.settle(outcome)
+    }
+
+    // The operation of two parts.
+    #[inline(always)]
+    fn combine(&mut self, op: Binary, x: Word) -> Next<'a>
+        requires { (fs : List FunctionTree) × (out : Out ValueTree) × (n : ℕ) × Within fs self.old (Right op x ∷ frames_of self.old) (Give self.old.value) out n }
+        ensures { (fs : List FunctionTree) (out : Out ValueTree) (n : ℕ) → Within fs self.old (Right op x ∷ frames_of self.old) (Give self.old.value) out (n + 1) → Goes fs self.new result out n }
+    {
+        let y = self.value;
+        match operate(&mut self.store, op, x, y) {
+            Ok(outcome) => self.settle(outcome),
+            Err(_) => Next::NoMemory,
         }
     }
 
     // Goes into the second part of a `let`.
-    fn bind(&mut self, word: Word, y: &'a Expr) -> Result<Next<'a>, NoMemory>
-        ensures { (fs : List FunctionTree) (out : Out ValueTree) (n : ℕ) → Within fs self.old (Bound y.entry ∷ frames_of self.old) (Give word) out (n + 1) → IfOk result (λ next. LeadsTo fs self.new next out n) }
+    #[inline(never)]
+    fn bind(&mut self, y: &'a Expr) -> Next<'a>
+        ensures { (fs : List FunctionTree) (out : Out ValueTree) (n : ℕ) → Within fs self.old (Bound y.entry ∷ frames_of self.old) (Give self.old.value) out (n + 1) → Goes fs self.new result out n }
     {
         let outside = self.scope.len();
-        self.scope.push(word)?;
-        self.begin(Frame::Inner(outside), y)
+        match self.scope.push(self.value) {
+            Ok(()) => self.begin(Frame::Inner(outside), y),
+            Err(_) => Next::NoMemory,
+        }
     }
 
     // Goes into an arm of a `match`.
-    fn split(&mut self, word: Word, x: &'a Expr, y: &'a Expr) -> Result<Next<'a>, NoMemory>
-        ensures { (fs : List FunctionTree) (out : Out ValueTree) (n : ℕ) → Within fs self.old (Matched x.entry y.entry ∷ frames_of self.old) (Give word) out (n + 1) → IfOk result (λ next. LeadsTo fs self.new next out n) }
+    #[inline(never)]
+    fn split(&mut self, x: &'a Expr, y: &'a Expr) -> Next<'a>
+        ensures { (fs : List FunctionTree) (out : Out ValueTree) (n : ℕ) → Within fs self.old (Matched x.entry y.entry ∷ frames_of self.old) (Give self.old.value) out (n + 1) → Goes fs self.new result out n }
     {
-        match self.store.split(word) {
-            None => Ok(Next::Stop(Stop::Wrong)),
-            Some(ListCase::Empty) => Ok(Next::Evaluate(x)),
+        match self.store.split(self.value) {
+            None => Next::Wrong,
+            Some(ListCase::Empty) => Next::Evaluate(x),
             Some(ListCase::Items(first, others)) => {
                 let outside = self.scope.len();
-                self.scope.push(first)?;
-                self.scope.push(others)?;
-                self.begin(Frame::Inner(outside), y)
+                match self.scope.push_both(first, others) {
+                    Ok(()) => self.begin(Frame::Inner(outside), y),
+                    Err(_) => Next::NoMemory,
+                }
             }
         }
     }
 
     // Begins to collect the values of the items.
-    #[inline(never)]
+    #[inline(always)]
     fn begin_items(
         &mut self,
-        alloc: Global,
         functions: &'a [Function],
         c: Collection,
         items: &'a [Expr],
-    ) -> Result<Next<'a>, NoMemory>
-        requires { (out : Out ValueTree) × (n : ℕ) × Collects (map function_tree functions.now) self.old c (in_order (map expr_tree items.now)) [] out n }
-        ensures { (out : Out ValueTree) (n : ℕ) → Collects (map function_tree functions.now) self.old c (in_order (map expr_tree items.now)) [] out n → IfOk result (λ next. LeadsTo (map function_tree functions.now) self.new next out n) }
+    ) -> Next<'a>
+        requires { (out : Out ValueTree) × (n : ℕ) × Collects (map function_tree functions.now) self.old c (in_order (map expr_tree items.now)) (length self.old.values.items) out n }
+        ensures { (out : Out ValueTree) (n : ℕ) → Collects (map function_tree functions.now) self.old c (in_order (map expr_tree items.now)) (length self.old.values.items) out n → Goes (map function_tree functions.now) self.new result out n }
     {
-        self.collect(functions, c, items, Vec::new(alloc))
+        let first = self.values.len();
+        self.collect(functions, c, items, first)
     }
 
     // One more of the values is there.
+    #[inline(always)]
     fn go_on(
         &mut self,
         functions: &'a [Function],
         c: Collection,
         rest: &'a [Expr],
-        done: Vec<Word>,
-        word: Word,
-    ) -> Result<Next<'a>, NoMemory>
-        requires { (out : Out ValueTree) × (n : ℕ) × Within (map function_tree functions.now) self.old (Item c rest done ∷ frames_of self.old) (Give word) out n }
-        ensures { (out : Out ValueTree) (n : ℕ) → Within (map function_tree functions.now) self.old (Item c rest.entry done ∷ frames_of self.old) (Give word) out (n + 1) → IfOk result (λ next. LeadsTo (map function_tree functions.now) self.new next out n) }
+        first: usize,
+    ) -> Next<'a>
+        requires { (out : Out ValueTree) × (n : ℕ) × Within (map function_tree functions.now) self.old (Item c rest first ∷ frames_of self.old) (Give self.old.value) out n }
+        ensures { (out : Out ValueTree) (n : ℕ) → Within (map function_tree functions.now) self.old (Item c rest.entry first ∷ frames_of self.old) (Give self.old.value) out (n + 1) → Goes (map function_tree functions.now) self.new result out n }
     {
-        let mut words = done;
-        words.push(word)?;
-        self.collect(functions, c, rest, words)
+        match self.values.push(self.value) {
+            Ok(()) => self.collect(functions, c, rest, first),
+            Err(_) => Next::NoMemory,
+        }
     }
 
     // Goes into the next item, or makes what is collected.
+    #[inline(always)]
     fn collect(
         &mut self,
         functions: &'a [Function],
         c: Collection,
         rest: &'a [Expr],
-        done: Vec<Word>,
-    ) -> Result<Next<'a>, NoMemory>
-        requires { (out : Out ValueTree) × (n : ℕ) × Collects (map function_tree functions.now) self.old c (in_order (map expr_tree rest.now)) done.items out n }
-        ensures { (out : Out ValueTree) (n : ℕ) → Collects (map function_tree functions.now) self.old c (in_order (map expr_tree rest.now)) done.items out n → IfOk result (λ next. LeadsTo (map function_tree functions.now) self.new next out n) }
+        first: usize,
+    ) -> Next<'a>
+        requires { (out : Out ValueTree) × (n : ℕ) × Collects (map function_tree functions.now) self.old c (in_order (map expr_tree rest.now)) first out n }
+        ensures { (out : Out ValueTree) (n : ℕ) → Collects (map function_tree functions.now) self.old c (in_order (map expr_tree rest.now)) first out n → Goes (map function_tree functions.now) self.new result out n }
     {
         match rest.split_first() {
-            Some((item, behind)) => self.begin(Frame::Item(c, behind, done), item),
-            None => self.make(functions, c, done),
+            Some((item, behind)) => self.begin(Frame::Item(c, behind, first), item),
+            None => self.make(functions, c, first),
         }
     }
 
     // Makes what is collected.
-    fn make(
-        &mut self,
-        functions: &'a [Function],
-        c: Collection,
-        words: Vec<Word>,
-    ) -> Result<Next<'a>, NoMemory>
-        requires { (out : Out ValueTree) × (n : ℕ) × IsCollected (map function_tree functions.now) self.old c words.items out n }
-        ensures { (out : Out ValueTree) (n : ℕ) → IsCollected (map function_tree functions.now) self.old c words.items out n → IfOk result (λ next. LeadsTo (map function_tree functions.now) self.new next out n) }
+    #[inline(never)]
+    fn make(&mut self, functions: &'a [Function], c: Collection, first: usize) -> Next<'a>
+        requires { (out : Out ValueTree) × (n : ℕ) × IsCollected (map function_tree functions.now) self.old c first out n }
+        ensures { (out : Out ValueTree) (n : ℕ) → IsCollected (map function_tree functions.now) self.old c first out n → Goes (map function_tree functions.now) self.new result out n }
     {
         match c {
-            Collection::List => Ok(Next::Give(self.store.make_list(&words)?)),
-            Collection::Rec(r) => Ok(Next::Give(self.store.make_record(r, &words)?)),
-            Collection::Call(j) => self.enter(functions, j, words),
+            Collection::List => self.make_list(first),
+            Collection::Rec(r) => self.make_record(r, first),
+            Collection::Call(j) => self.enter(functions, j, first),
         }
     }
 
-    /// Calls the function of this number on the words.
-    pub(crate) fn enter(
-        &mut self,
-        functions: &'a [Function],
-        j: u32,
-        words: Vec<Word>,
-    ) -> Result<Next<'a>, NoMemory>
-        ensures { (out : Out ValueTree) (n : ℕ) → IsCollected (map function_tree functions.now) self.old (Call j) words.items out n → IfOk result (λ next. LeadsTo (map function_tree functions.now) self.new next out n) }
+    #[inline(never)]
+    fn make_list(&mut self, first: usize) -> Next<'a>
+        requires place { first ≤ length self.old.values.items }
+        requires all { (fs : List FunctionTree) × (out : Out ValueTree) × (n : ℕ) × IsCollected fs self.old collection.List first out n }
+        ensures { (fs : List FunctionTree) (out : Out ValueTree) (n : ℕ) → IsCollected fs self.old collection.List first out n → Goes fs self.new result out n }
+    {
+        match self.store.make_list(&self.values[first..]) {
+            Ok(word) => {
+                self.values.truncate(first);
+                self.give(word)
+            }
+            Err(_) => Next::NoMemory,
+        }
+    }
+
+    #[inline(never)]
+    fn make_record(&mut self, r: u32, first: usize) -> Next<'a>
+        requires place { first ≤ length self.old.values.items }
+        requires all { (fs : List FunctionTree) × (out : Out ValueTree) × (n : ℕ) × IsCollected fs self.old (collection.Rec r) first out n }
+        ensures { (fs : List FunctionTree) (out : Out ValueTree) (n : ℕ) → IsCollected fs self.old (collection.Rec r) first out n → Goes fs self.new result out n }
+    {
+        match self.store.make_record(r, &self.values[first..]) {
+            Ok(word) => {
+                self.values.truncate(first);
+                self.give(word)
+            }
+            Err(_) => Next::NoMemory,
+        }
+    }
+
+    /// Calls the function of this number on the values from the place on.
+    pub(crate) fn enter(&mut self, functions: &'a [Function], j: u32, first: usize) -> Next<'a>
+        requires { first ≤ length self.old.values.items }
+        ensures { (out : Out ValueTree) (n : ℕ) → IsCollected (map function_tree functions.now) self.old (collection.Call j) first out n → Goes (map function_tree functions.now) self.new result out n }
     {
         match functions.get(j as usize) {
-            Some(function) => self.enter_declared(function, words),
-            None => Ok(Next::Stop(Stop::Wrong)),
+            Some(function) => self.enter_declared(function, first),
+            None => Next::Wrong,
         }
     }
 
     // Calls the function, which stands in the program under its number.
-    fn enter_declared(
-        &mut self,
-        function: &'a Function,
-        words: Vec<Word>,
-    ) -> Result<Next<'a>, NoMemory>
-        ensures { (fs : List FunctionTree) (j : ℕ) (out : Out ValueTree) (n : ℕ) → slice_get fs j ≡ Some (function_tree function.now) → IsCollected fs self.old (Call j) words.items out n → IfOk result (λ next. LeadsTo fs self.new next out n) }
+    fn enter_declared(&mut self, function: &'a Function, first: usize) -> Next<'a>
+        requires { first ≤ length self.old.values.items }
+        ensures { (fs : List FunctionTree) (j : ℕ) (out : Out ValueTree) (n : ℕ) → slice_get fs j ≡ Some (function_tree function.now) → IsCollected fs self.old (collection.Call j) first out n → Goes fs self.new result out n }
     {
-        if words.len() != function.params.items.len() {
-            return Ok(Next::Stop(Stop::Wrong));
+        let count = self.values.len() - first;
+        if count != function.params.items.len() {
+            return Next::Wrong;
         }
         if self.budget == 0 {
-            return Ok(Next::Stop(Stop::BudgetEnd));
+            return Next::BudgetEnd;
         }
         self.budget -= 1;
-        let callers = mem::replace(&mut self.scope, words);
-        self.begin(Frame::Body(callers), &function.body)
-    }
-}
-
-#[inline(always)]
-fn settled<'a>(outcome: WordOutcome) -> Next<'a>
-    ensures { result ≡ settled outcome }
-{
-    match outcome {
-        WordOutcome::Value(word) => Next::Give(word),
-        WordOutcome::Trap(trap) => Next::Stop(Stop::Trap(trap)),
-        WordOutcome::Wrong => Next::Stop(Stop::Wrong),
+        match self.scope.open(&self.values[first..]) {
+            Ok(base) => {
+                self.values.truncate(first);
+                self.begin(Frame::Body(base), &function.body)
+            }
+            Err(_) => Next::NoMemory,
+        }
     }
 }
 
@@ -302,6 +359,6 @@ fn either<'a>(test: Option<bool>, x: Next<'a>, y: Next<'a>) -> Next<'a>
     match test {
         Some(true) => x,
         Some(false) => y,
-        None => Next::Stop(Stop::Wrong),
+        None => Next::Wrong,
     }
 }

@@ -31,7 +31,7 @@ pub(crate) enum Collection {
 }
 
 /// Where the expression stands that is evaluated.
-#[derive(Drop)]
+#[derive(Clone, Copy)]
 pub(crate) enum Frame<'a> {
     Operand(Unary),
     /// The second part is still to be evaluated
@@ -48,8 +48,8 @@ pub(crate) enum Frame<'a> {
     Matched(&'a Expr, &'a Expr),
     /// Behind a binder: how many variables there are outside
     Inner(usize),
-    /// The items behind it, and the values of those before it
-    Item(Collection, &'a [Expr], Vec<Word>),
-    /// The body of a function: the caller's variables
-    Body(Vec<Word>),
+    /// The items behind it, and where the values of those before it begin
+    Item(Collection, &'a [Expr], usize),
+    /// The body of a function: where the caller's variables begin
+    Body(usize),
 }

@@ -15,5 +15,6 @@ mod frame;
 mod next;
 mod operations;
 mod runner;
+mod scope;
 
 pub use runner::TreeRunner;

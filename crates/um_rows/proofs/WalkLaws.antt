@@ -10,7 +10,7 @@ use Rattle.um_rows.specs.Steps.{Step, first_past, rows_of}
 use Rattle.um_rows.specs.Holes.{Callee, callee_holes, record_holes, expr_holes, exprs_holes}
 use Rattle.um_rows.specs.Rules.{Derived, AllDerived, after, formed, item, local_rule, call_rule, negate_rule, not_rule, pown_rule, truths_rule, arith_rule, compare_rule, if_rule, split_rule, list_rule, cons_rule, record_rule, field_rule}
 use Rattle.um_rows.specs.Derivation.{first_units, offered, derive, derive_all}
-use Rattle.um_rows.specs.Walk.{Walked, AllWalked, then, unless_past, node, walk, walk_all}
+use Rattle.um_rows.specs.Walk.{Walked, AllWalked, PairWalked, then, unless_past, node, pair, pair_node, walk, walk_all}
 use Rattle.um_rows.proofs.PushLaws.{first_of, first_past-append, rows_of-append}
 
 -- ---- a node behind its parts
@@ -64,6 +64,15 @@ then_all rows m x f g same = at (first_past x.steps)
     at None = same (rows ++ rows_of x.steps)
     at (Some n) = refl
 
+-- what comes behind both parts
+then_pair : (m : Result Walked ℕ) (go : Walked → Result Walked ℕ) (next : PairWalked → Result Walked ℕ) → then (pair m go) next ≡ then m (λ x. then (go x) (λ y. next (record { first = x.type; second = y.type; rows = y.rows; holes = y.holes })))
+then_pair (Err e) go next = refl
+then_pair (Ok x) go next = second (go x)
+  where
+    second : (r : Result Walked ℕ) → then (then r (λ y. Ok (record { first = x.type; second = y.type; rows = y.rows; holes = y.holes }))) next ≡ then r (λ y. next (record { first = x.type; second = y.type; rows = y.rows; holes = y.holes }))
+    second (Err e) = refl
+    second (Ok y) = refl
+
 module _ (holes names : ℕ → PowerMap) (records : List RecordTree) (self : Signature) (callee : ℕ → Callee) where
   abbrev der : ℕ → List TypeTree → ExprTree → Derived
   der n vars e = derive holes names records self callee n vars e
@@ -114,6 +123,10 @@ module _ (holes names : ℕ → PowerMap) (records : List RecordTree) (self : Si
       ∙ node-after rows (n + hs c) (n + (hs c + (hs a + hs b))) z (λ t. after (x.steps ++ y.steps) (d z.type x.type y.type))
       ∙ ap (node rows (n + (hs c + (hs a + hs b)))) (after-after z.steps (x.steps ++ y.steps) (d z.type x.type y.type))
 
+  pair_parts : (a b : ExprTree) → Same a → Same b → (rows : List Row) (n : ℕ) (vars : List TypeTree) (d : TypeTree → TypeTree → Derived) →
+      (let x = der n vars a in let y = der (n + hs a) vars b in pair_node (pair (wa rows n vars a) (λ x. wa x.rows x.holes vars b)) d ≡ node rows (n + (hs a + hs b)) (after (x.steps ++ y.steps) (d x.type y.type)))
+  pair_parts a b same also rows n vars d = then_pair (wa rows n vars a) (λ x. wa x.rows x.holes vars b) (λ w. node w.rows w.holes (d w.first w.second)) ∙ two_parts a b same also rows n vars (λ t. vars) d
+
   -- expressions one after another
   abbrev AllSame : ExprTrees → Type 0
   AllSame es = (rows : List Row) (n : ℕ) (vars : List TypeTree) → walk_all holes names records self callee rows n vars es ≡ all_node rows (n + exprs_holes records callee es) (der_all n vars es)
@@ -153,16 +166,20 @@ module _ (holes names : ℕ → PowerMap) (records : List RecordTree) (self : Si
     walk-is (negate at a) rows n vars = one_part a (walk-is a) rows n vars (λ t. negate_rule at t)
     walk-is (not_expr at a) rows n vars = one_part a (walk-is a) rows n vars (λ t. not_rule at t)
     walk-is (pown at a i) rows n vars = one_part a (walk-is a) rows n vars (λ t. pown_rule at i t)
-    walk-is (arith_tree at op a b) rows n vars = two_parts a b (walk-is a) (walk-is b) rows n vars (λ t. vars) (λ s t. arith_rule at op s t)
-    walk-is (compare at sign a b) rows n vars = two_parts a b (walk-is a) (walk-is b) rows n vars (λ t. vars) (λ s t. compare_rule at s t)
-    walk-is (both at a b) rows n vars = two_parts a b (walk-is a) (walk-is b) rows n vars (λ t. vars) (λ s t. truths_rule at s t)
-    walk-is (either at a b) rows n vars = two_parts a b (walk-is a) (walk-is b) rows n vars (λ t. vars) (λ s t. truths_rule at s t)
-    walk-is (if at c a b) rows n vars = three_parts c a b (walk-is c) (walk-is a) (walk-is b) rows n vars (λ t. vars) (λ r s t. if_rule at r s t)
+    walk-is (arith_tree at op a b) rows n vars = pair_parts a b (walk-is a) (walk-is b) rows n vars (λ s t. arith_rule at op s t)
+    walk-is (compare at sign a b) rows n vars = pair_parts a b (walk-is a) (walk-is b) rows n vars (λ s t. compare_rule at s t)
+    walk-is (both at a b) rows n vars = pair_parts a b (walk-is a) (walk-is b) rows n vars (λ s t. truths_rule at s t)
+    walk-is (either at a b) rows n vars = pair_parts a b (walk-is a) (walk-is b) rows n vars (λ s t. truths_rule at s t)
+    walk-is (if at c a b) rows n vars =
+        (λ i. then (wa rows n vars c) (λ z. then_pair (wa z.rows z.holes vars a) (λ x. wa x.rows x.holes vars b) (λ w. node w.rows w.holes (if_rule at z.type w.first w.second)) i))
+        ∙ three_parts c a b (walk-is c) (walk-is a) (walk-is b) rows n vars (λ t. vars) (λ r s t. if_rule at r s t)
     walk-is (bind at a b) rows n vars = two_parts a b (walk-is a) (walk-is b) rows n vars (λ t. vars ++ t ∷ []) (λ s t. formed at [] t)
-    walk-is (split at l a b) rows n vars = three_parts l a b (walk-is l) (walk-is a) (walk-is b) rows n vars (λ t. vars ++ item t ∷ t ∷ []) (λ r s t. split_rule at r s t)
+    walk-is (split at l a b) rows n vars =
+        then_pair (wa rows n vars l) (λ z. wa z.rows z.holes vars a) (λ w. then (wa w.rows w.holes (vars ++ item w.first ∷ w.first ∷ []) b) (λ y. node y.rows y.holes (split_rule at w.first w.second y.type)))
+        ∙ three_parts l a b (walk-is l) (walk-is a) (walk-is b) rows n vars (λ t. vars ++ item t ∷ t ∷ []) (λ r s t. split_rule at r s t)
     walk-is (nil at m) rows n vars = refl
     walk-is (list_expr at es) rows n vars = parts es (walk_all-is es) rows n vars (λ ts. list_rule at ts)
-    walk-is (cons at a b) rows n vars = two_parts a b (walk-is a) (walk-is b) rows n vars (λ t. vars) (λ s t. cons_rule at s t)
+    walk-is (cons at a b) rows n vars = pair_parts a b (walk-is a) (walk-is b) rows n vars (λ s t. cons_rule at s t)
     walk-is (record_expr at r es) rows n vars =
         let c = record_holes (slice_get records r) in
         let us = first_units c (λ k. holes (n + k)) in

@@ -8,16 +8,16 @@ use Rattle.um_tree.specs.declared.program.Scheme.{Scheme}
 use Rattle.um_tree.specs.declared.expression.Expr.{Expr}
 use Rattle.um_tree.specs.TypeTree.{TypeTree, type_tree}
 use Rattle.um_tree.specs.ProgramTree.{record_tree}
-use Rattle.um_tree.specs.ExprTree.{ExprTree, ExprTrees, none, more, expr_tree, in_order, bind, split}
+use Rattle.um_tree.specs.ExprTree.{ExprTree, ExprTrees, none, more, expr_tree, in_order, bind}
 use Rattle.um_rows.specs.declared.context.Context.{Context}
 use Rattle.um_rows.specs.declared.progress.Progress.{Progress}
 use Rattle.um_rows.specs.declared.row.Row.{Row}
 use Rattle.um_rows.specs.declared.row.RowStop.{RowStop}
 use Rattle.um_rows.specs.declared.row.RowStop.TheVariants as stop
-use Rattle.um_rows.specs.Rules.{item, formed, split_rule}
-use Rattle.um_rows.specs.Walk.{Walked, AllWalked, then, unless_past, node}
+use Rattle.um_rows.specs.Rules.{item, formed}
+use Rattle.um_rows.specs.Walk.{Walked, AllWalked, PairWalked, then, unless_past, node, pair}
 use Rattle.um_rows.specs.Reached.{StopsAs, IsReached}
-use Rattle.um_rows.specs.Body.{noted_signature, called, body_walk, body_walk_all, body_holes, bodies_holes}
+use Rattle.um_rows.specs.Body.{noted_signature, called, body_walk, body_walk_pair, body_walk_all, body_holes, bodies_holes}
 use Rattle.um_rows.proofs.WalkLaws.{walk-is}
 
 -- ---- stops
@@ -36,6 +36,32 @@ reached_second m x go new r is h = subst (λ s. IsReached (then s go) new r) (sy
 node_holes : (o : Option ℕ) (w v : Walked) → unless_past o w ≡ Ok v → v.holes ≡ w.holes
 node_holes None w v h = let same : w ≡ v = cc h in sym (ap (λ (x : Walked). x.holes) same)
 node_holes (Some at) w v h = absurd (cc h)
+
+-- both parts of a pair were walked
+record BothWalked (m : Result Walked ℕ) (go : Walked → Result Walked ℕ) (w : PairWalked) : Type 0 where
+  first : Walked
+  second : Walked
+  first_is : m ≡ Ok first
+  second_is : go first ≡ Ok second
+  same_holes : second.holes ≡ w.holes
+
+second_walked : (x : Walked) (go : Walked → Result Walked ℕ) (w : PairWalked) (r : Result Walked ℕ) → go x ≡ r → then r (λ y. Ok (record { first = x.type; second = y.type; rows = y.rows; holes = y.holes })) ≡ Ok w → BothWalked (Ok x) go w
+second_walked x go w (Err e) is h = absurd (cc h)
+second_walked x go w (Ok y) is h =
+    let both : PairWalked = record { first = x.type; second = y.type; rows = y.rows; holes = y.holes } in
+    let same : both ≡ w = cc h in
+    record { first = x; second = y; first_is = refl; second_is = is; same_holes = ap (λ (z : PairWalked). z.holes) same }
+
+both_walked : (m : Result Walked ℕ) (go : Walked → Result Walked ℕ) (w : PairWalked) → pair m go ≡ Ok w → BothWalked m go w
+both_walked (Err e) go w h = absurd (cc h)
+both_walked (Ok x) go w h = second_walked x go w (go x) refl h
+
+-- the head and the tail of a list come into scope
+pub scope_of_split : (vars : List Ty) (head tail : Ty) (list : TypeTree) → type_tree head ≡ item list → type_tree tail ≡ list → map type_tree ((vars ++ head ∷ []) ++ tail ∷ []) ≡ map type_tree vars ++ item list ∷ list ∷ []
+scope_of_split vars head tail list head_is tail_is =
+    ap (map type_tree) (append_assoc vars (head ∷ []) (tail ∷ []))
+    ∙ map-append type_tree vars (head ∷ tail ∷ [])
+    ∙ (λ i. map type_tree vars ++ head_is i ∷ tail_is i ∷ [])
 
 -- the expressions from the i-th on
 abbrev pub from : List Expr → ℕ → ExprTrees
@@ -76,6 +102,16 @@ module _ (records : List Record) (schemes : List Scheme) (c : Context) where
   -- what comes behind a part has room
   pub room_behind : (rows : List Row) (n : ℕ) (vars : List TypeTree) (e : ExprTree) (w : Walked) (k limit : ℕ) → body_walk records schemes c rows n vars e ≡ Ok w → n + (body_holes records schemes c e + k) ≤ limit → w.holes + k ≤ limit
   room_behind rows n vars e w k limit h room = let is = walked_holes rows n vars e w h in omega (arith, is, room)
+
+  -- what comes behind two parts has room
+  pub room_behind_pair : (rows : List Row) (n : ℕ) (vars : List TypeTree) (a b : ExprTree) (w : PairWalked) (k limit : ℕ) → body_walk_pair records schemes c rows n vars a b ≡ Ok w →
+      n + (body_holes records schemes c a + (body_holes records schemes c b + k)) ≤ limit → w.holes + k ≤ limit
+  room_behind_pair rows n vars a b w k limit h room =
+      let both = both_walked (body_walk records schemes c rows n vars a) (λ x. body_walk records schemes c x.rows x.holes vars b) w h in
+      let first = walked_holes rows n vars a both.first both.first_is in
+      let second = walked_holes both.first.rows both.first.holes vars b both.second both.second_is in
+      let last = both.same_holes in
+      omega (arith, first, second, last, room)
 
   -- the first i expressions have these types, and the scope is as it was
   pub record IsLeft (rows : List Row) (n : ℕ) (vars : List Ty) (es : List Expr) (i : ℕ) (types scope : List Ty) (new : Progress) : Type 0 where
@@ -124,39 +160,11 @@ module _ (records : List Record) (schemes : List Scheme) (c : Context) where
         l.whole ∙ ap (λ r. after_these (map type_tree types) (body_walk_all records schemes c p.rows.items p.holes (map type_tree vars) r)) (from_end es i h)
         ∙ (λ j. Ok (record { types = append-nil (map type_tree types) j; rows = p.rows.items; holes = p.holes }))
 
-  -- ---- a variable, and the two of a list, come into scope
+  -- ---- a variable comes into scope: where the part behind it stops, the whole does
   module _ (rows : List Row) (n : ℕ) (vars : List Ty) (new : Progress) (r : Result Ty RowStop) where
-    pub bind_walked : (at : ℕ) (a b : ExprTree) (s t : Ty) (first second : Progress) → body_walk records schemes c rows n (map type_tree vars) a ≡ Ok (record { type = type_tree s; rows = first.rows.items; holes = first.holes }) →
-        body_walk records schemes c first.rows.items first.holes (map type_tree (vars ++ s ∷ [])) b ≡ Ok (record { type = type_tree t; rows = second.rows.items; holes = second.holes }) →
-        IsReached (node second.rows.items second.holes (formed at [] (type_tree t))) new r → IsReached (body_walk records schemes c rows n (map type_tree vars) (bind at a b)) new r
-    bind_walked at a b s t first second f g h =
-        let wider : map type_tree (vars ++ s ∷ []) ≡ map type_tree vars ++ type_tree s ∷ [] = map-append type_tree vars (s ∷ []) in
-        reached_second _ (record { type = type_tree s; rows = first.rows.items; holes = first.holes }) (λ x. then (body_walk records schemes c x.rows x.holes (map type_tree vars ++ x.type ∷ []) b) (λ y. node y.rows y.holes (formed at [] y.type))) new r f
-        (reached_second _ (record { type = type_tree t; rows = second.rows.items; holes = second.holes }) (λ y. node y.rows y.holes (formed at [] y.type)) new r (ap (λ vs. body_walk records schemes c first.rows.items first.holes vs b) (sym wider) ∙ g) h)
-
-    pub split_walked : (at : ℕ) (l a b : ExprTree) (list inner s t : Ty) (first second third : Progress) → body_walk records schemes c rows n (map type_tree vars) l ≡ Ok (record { type = type_tree list; rows = first.rows.items; holes = first.holes }) →
-        body_walk records schemes c first.rows.items first.holes (map type_tree vars) a ≡ Ok (record { type = type_tree s; rows = second.rows.items; holes = second.holes }) → type_tree inner ≡ item (type_tree list) → (seen : Ty) → type_tree seen ≡ type_tree list →
-        body_walk records schemes c second.rows.items second.holes (map type_tree (vars ++ inner ∷ seen ∷ [])) b ≡ Ok (record { type = type_tree t; rows = third.rows.items; holes = third.holes }) →
-        IsReached (node third.rows.items third.holes (split_rule at (type_tree list) (type_tree s) (type_tree t))) new r → IsReached (body_walk records schemes c rows n (map type_tree vars) (split at l a b)) new r
-    split_walked at l a b list inner s t first second third f g is seen same h w =
-        let wider : map type_tree (vars ++ inner ∷ seen ∷ []) ≡ map type_tree vars ++ item (type_tree list) ∷ type_tree list ∷ [] = map-append type_tree vars (inner ∷ seen ∷ []) ∙ (λ i. map type_tree vars ++ is i ∷ same i ∷ []) in
-        reached_second _ (record { type = type_tree list; rows = first.rows.items; holes = first.holes }) (λ z. then (body_walk records schemes c z.rows z.holes (map type_tree vars) a) (λ x. then (body_walk records schemes c x.rows x.holes (map type_tree vars ++ item z.type ∷ z.type ∷ []) b) (λ y. node y.rows y.holes (split_rule at z.type x.type y.type)))) new r f
-        (reached_second _ (record { type = type_tree s; rows = second.rows.items; holes = second.holes }) (λ x. then (body_walk records schemes c x.rows x.holes (map type_tree vars ++ item (type_tree list) ∷ type_tree list ∷ []) b) (λ y. node y.rows y.holes (split_rule at (type_tree list) x.type y.type))) new r g
-        (reached_second _ (record { type = type_tree t; rows = third.rows.items; holes = third.holes }) (λ y. node y.rows y.holes (split_rule at (type_tree list) (type_tree s) y.type)) new r (ap (λ vs. body_walk records schemes c second.rows.items second.holes vs b) (sym wider) ∙ h) w))
-
-    -- and where the part behind them stops, the whole does
     pub bind_stops : (at : ℕ) (a b : ExprTree) (s : Ty) (first : Progress) (e : RowStop) → body_walk records schemes c rows n (map type_tree vars) a ≡ Ok (record { type = type_tree s; rows = first.rows.items; holes = first.holes }) →
         StopsAs (body_walk records schemes c first.rows.items first.holes (map type_tree (vars ++ s ∷ [])) b) e → StopsAs (body_walk records schemes c rows n (map type_tree vars) (bind at a b)) e
     bind_stops at a b s first e f h =
         let wider : map type_tree (vars ++ s ∷ []) ≡ map type_tree vars ++ type_tree s ∷ [] = map-append type_tree vars (s ∷ []) in
         stops_second _ (record { type = type_tree s; rows = first.rows.items; holes = first.holes }) (λ x. then (body_walk records schemes c x.rows x.holes (map type_tree vars ++ x.type ∷ []) b) (λ y. node y.rows y.holes (formed at [] y.type))) e f
         (stops_first _ (λ y. node y.rows y.holes (formed at [] y.type)) e (subst (λ vs. StopsAs (body_walk records schemes c first.rows.items first.holes vs b) e) wider h))
-
-    pub split_stops : (at : ℕ) (l a b : ExprTree) (list inner s : Ty) (first second : Progress) (e : RowStop) → body_walk records schemes c rows n (map type_tree vars) l ≡ Ok (record { type = type_tree list; rows = first.rows.items; holes = first.holes }) →
-        body_walk records schemes c first.rows.items first.holes (map type_tree vars) a ≡ Ok (record { type = type_tree s; rows = second.rows.items; holes = second.holes }) → type_tree inner ≡ item (type_tree list) → (seen : Ty) → type_tree seen ≡ type_tree list →
-        StopsAs (body_walk records schemes c second.rows.items second.holes (map type_tree (vars ++ inner ∷ seen ∷ [])) b) e → StopsAs (body_walk records schemes c rows n (map type_tree vars) (split at l a b)) e
-    split_stops at l a b list inner s first second e f g is seen same h =
-        let wider : map type_tree (vars ++ inner ∷ seen ∷ []) ≡ map type_tree vars ++ item (type_tree list) ∷ type_tree list ∷ [] = map-append type_tree vars (inner ∷ seen ∷ []) ∙ (λ i. map type_tree vars ++ is i ∷ same i ∷ []) in
-        stops_second _ (record { type = type_tree list; rows = first.rows.items; holes = first.holes }) (λ z. then (body_walk records schemes c z.rows z.holes (map type_tree vars) a) (λ x. then (body_walk records schemes c x.rows x.holes (map type_tree vars ++ item z.type ∷ z.type ∷ []) b) (λ y. node y.rows y.holes (split_rule at z.type x.type y.type)))) e f
-        (stops_second _ (record { type = type_tree s; rows = second.rows.items; holes = second.holes }) (λ x. then (body_walk records schemes c x.rows x.holes (map type_tree vars ++ item (type_tree list) ∷ type_tree list ∷ []) b) (λ y. node y.rows y.holes (split_rule at (type_tree list) x.type y.type))) e g
-        (stops_first _ (λ y. node y.rows y.holes (split_rule at (type_tree list) (type_tree s) y.type)) e (subst (λ vs. StopsAs (body_walk records schemes c second.rows.items second.holes vs b) e) wider h)))

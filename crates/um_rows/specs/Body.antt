@@ -21,7 +21,7 @@ use Rattle.um_rows.specs.Rules.{Derived}
 use Rattle.um_rows.specs.Keys.{Key, name_keys, notes_keys, result_keys, expr_keys}
 use Rattle.um_rows.specs.Equations.{callee_of, noted_result}
 use Rattle.um_rows.specs.Derivation.{noted_types, offered, derive}
-use Rattle.um_rows.specs.Walk.{Walked, AllWalked, walk, walk_all}
+use Rattle.um_rows.specs.Walk.{Walked, AllWalked, PairWalked, pair, walk, walk_all}
 
 -- what calls of the function itself are used at
 abbrev pub noted_signature : Context → Signature
@@ -40,6 +40,11 @@ offer records schemes c n j =
 abbrev pub body_walk : List Record → List Scheme → Context → List Row → ℕ → List TypeTree → ExprTree → Result Walked ℕ
 body_walk records schemes c =
     walk (nth c.holes.items) (nth c.names.items) (map record_tree records) (noted_signature c) (called schemes c)
+
+abbrev pub body_walk_pair : List Record → List Scheme → Context → List Row → ℕ → List TypeTree → ExprTree → ExprTree
+    → Result PairWalked ℕ
+body_walk_pair records schemes c rows n vars a b =
+    pair (body_walk records schemes c rows n vars a) (λ x. body_walk records schemes c x.rows x.holes vars b)
 
 abbrev pub body_walk_all : List Record → List Scheme → Context → List Row → ℕ → List TypeTree → ExprTrees
     → Result AllWalked ℕ

@@ -21,6 +21,7 @@ pub mod Laws
 pub mod Slotting
 pub mod SlotUnits
 pub mod Pushed
+pub mod Operations
 pub mod Walk
 pub mod Reached
 pub mod Body

@@ -6,7 +6,8 @@ use Rattle.um_tree.specs.TypeTree.{TypeTree, type_tree}
 use Rattle.um_rows.specs.declared.row.RowStop.{RowStop}
 use Rattle.um_rows.specs.declared.row.RowStop.TheVariants as stop
 use Rattle.um_rows.specs.declared.progress.Progress.{Progress}
-use Rattle.um_rows.specs.Walk.{Walked, AllWalked}
+use Rattle.um_rows.specs.declared.progress.Pair.{Pair}
+use Rattle.um_rows.specs.Walk.{Walked, AllWalked, PairWalked}
 
 -- the stop is at the step that ends the walk
 abbrev pub StopsAs : {A : Type 0} → Result A ℕ → RowStop → Type 0
@@ -23,3 +24,13 @@ IsReached m new r =
 abbrev pub AreReached : {A : Type 0} → (A → List TypeTree) → Result AllWalked ℕ → Progress → Result A RowStop → Type 0
 AreReached view m new r =
     MatchResult r (λ ts. m ≡ Ok (record { types = view ts; rows = new.rows.items; holes = new.holes })) (StopsAs m)
+
+-- the same of two parts
+abbrev pub ArePairReached : Result PairWalked ℕ → Progress → Result Pair RowStop → Type 0
+ArePairReached m new r =
+    MatchResult r (λ ts. m ≡ Ok (record {
+      first = type_tree ts.first;
+      second = type_tree ts.second;
+      rows = new.rows.items;
+      holes = new.holes;
+    })) (StopsAs m)

@@ -27,6 +27,13 @@ pub record AllWalked : Type 0 where
   pub rows : List Row
   pub holes : ℕ
 
+-- the types of two parts, and where the walk stands behind them
+pub record PairWalked : Type 0 where
+  pub first : TypeTree
+  pub second : TypeTree
+  pub rows : List Row
+  pub holes : ℕ
+
 -- the first part that ends the walk ends the whole
 abbrev pub then : {A B : Type 0} → Result A ℕ → (A → Result B ℕ) → Result B ℕ
 then (Ok x) go = go x
@@ -40,6 +47,19 @@ unless_past (Some at) w = Err at
 abbrev pub node : List Row → ℕ → Derived → Result Walked ℕ
 node rows n d = unless_past (first_past d.steps) (record { type = d.type; rows = rows ++ rows_of d.steps; holes = n })
 
+-- a node of one part
+abbrev pub part_node : Result Walked ℕ → (TypeTree → Derived) → Result Walked ℕ
+part_node m d = then m (λ x. node x.rows x.holes (d x.type))
+
+-- the second part is walked from where the first ends
+abbrev pub pair : Result Walked ℕ → (Walked → Result Walked ℕ) → Result PairWalked ℕ
+pair m go =
+    then m (λ x. then (go x) (λ y. Ok (record { first = x.type; second = y.type; rows = y.rows; holes = y.holes })))
+
+-- a node of two parts
+abbrev pub pair_node : Result PairWalked ℕ → (TypeTree → TypeTree → Derived) → Result Walked ℕ
+pair_node m d = then m (λ w. node w.rows w.holes (d w.first w.second))
+
 module _ (holes names : ℕ → PowerMap) (records : List RecordTree) (self : Signature) (callee : ℕ → Callee) where
   abbrev mutual
     pub walk : List Row → ℕ → List TypeTree → ExprTree → Result Walked ℕ
@@ -49,43 +69,38 @@ module _ (holes names : ℕ → PowerMap) (records : List RecordTree) (self : Si
     walk rows n vars (call at j es) =
         then (walk_all rows (n + callee_holes (callee j)) vars es)
         (λ w. node w.rows w.holes (call_rule at (offered holes names records self callee n (callee j)) w.types))
-    walk rows n vars (negate at a) = then (walk rows n vars a) (λ x. node x.rows x.holes (negate_rule at x.type))
-    walk rows n vars (not_expr at a) = then (walk rows n vars a) (λ x. node x.rows x.holes (not_rule at x.type))
-    walk rows n vars (pown at a k) = then (walk rows n vars a) (λ x. node x.rows x.holes (pown_rule at k x.type))
+    walk rows n vars (negate at a) = part_node (walk rows n vars a) (λ t. negate_rule at t)
+    walk rows n vars (not_expr at a) = part_node (walk rows n vars a) (λ t. not_rule at t)
+    walk rows n vars (pown at a k) = part_node (walk rows n vars a) (λ t. pown_rule at k t)
     walk rows n vars (arith at op a b) =
-        then (walk rows n vars a) (λ x. then (walk x.rows x.holes vars b)
-        (λ y. node y.rows y.holes (arith_rule at op x.type y.type)))
+        pair_node (pair (walk rows n vars a) (λ x. walk x.rows x.holes vars b)) (λ s t. arith_rule at op s t)
     walk rows n vars (compare at sign a b) =
-        then (walk rows n vars a) (λ x. then (walk x.rows x.holes vars b)
-        (λ y. node y.rows y.holes (compare_rule at x.type y.type)))
+        pair_node (pair (walk rows n vars a) (λ x. walk x.rows x.holes vars b)) (λ s t. compare_rule at s t)
     walk rows n vars (both at a b) =
-        then (walk rows n vars a) (λ x. then (walk x.rows x.holes vars b)
-        (λ y. node y.rows y.holes (truths_rule at x.type y.type)))
+        pair_node (pair (walk rows n vars a) (λ x. walk x.rows x.holes vars b)) (λ s t. truths_rule at s t)
     walk rows n vars (either at a b) =
-        then (walk rows n vars a) (λ x. then (walk x.rows x.holes vars b)
-        (λ y. node y.rows y.holes (truths_rule at x.type y.type)))
+        pair_node (pair (walk rows n vars a) (λ x. walk x.rows x.holes vars b)) (λ s t. truths_rule at s t)
     walk rows n vars (if at c a b) =
-        then (walk rows n vars c) (λ z. then (walk z.rows z.holes vars a)
-        (λ x. then (walk x.rows x.holes vars b) (λ y. node y.rows y.holes (if_rule at z.type x.type y.type))))
+        then (walk rows n vars c) (λ z. pair_node (pair (walk z.rows z.holes vars a) (λ x. walk x.rows x.holes vars b))
+        (λ s t. if_rule at z.type s t))
     walk rows n vars (bind at a b) =
         then (walk rows n vars a) (λ x. then (walk x.rows x.holes (vars ++ x.type ∷ []) b)
         (λ y. node y.rows y.holes (formed at [] y.type)))
     walk rows n vars (split at l a b) =
-        then (walk rows n vars l) (λ z. then (walk z.rows z.holes vars a)
-        (λ x. then (walk x.rows x.holes (vars ++ item z.type ∷ z.type ∷ []) b)
-        (λ y. node y.rows y.holes (split_rule at z.type x.type y.type))))
+        then (pair (walk rows n vars l) (λ z. walk z.rows z.holes vars a))
+        (λ w. then (walk w.rows w.holes (vars ++ item w.first ∷ w.first ∷ []) b)
+        (λ y. node y.rows y.holes (split_rule at w.first w.second y.type)))
     walk rows n vars (nil at m) = node rows (n + note_holes m) (nil_rule at (noted_type holes names n m))
     walk rows n vars (list_expr at es) =
         then (walk_all rows n vars es) (λ w. node w.rows w.holes (list_rule at w.types))
     walk rows n vars (cons at a b) =
-        then (walk rows n vars a) (λ x. then (walk x.rows x.holes vars b)
-        (λ y. node y.rows y.holes (cons_rule at x.type y.type)))
+        pair_node (pair (walk rows n vars a) (λ x. walk x.rows x.holes vars b)) (λ s t. cons_rule at s t)
     walk rows n vars (record_expr at r es) =
         let m = record_holes (slice_get records r) in
         then (walk_all rows (n + m) vars es) (λ w.
         node w.rows w.holes (record_rule at r (first_units m (λ k. holes (n + k))) (slice_get records r) w.types))
     walk rows n vars (field at r k a) =
-        then (walk rows n vars a) (λ x. node x.rows x.holes (field_rule at r k (slice_get records r) x.type))
+        part_node (walk rows n vars a) (λ t. field_rule at r k (slice_get records r) t)
 
     pub walk_all : List Row → ℕ → List TypeTree → ExprTrees → Result AllWalked ℕ
     walk_all rows n vars none = Ok (record { types = []; rows = rows; holes = n })

@@ -20,6 +20,7 @@ mod inputs;
 pub mod laws;
 mod leaves;
 mod noted;
+mod operations;
 mod progress;
 mod records;
 mod row;

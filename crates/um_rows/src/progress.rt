@@ -1,10 +1,18 @@
 //! Where a walk over a body stands.
 
 use crate::row::Row;
+use um_tree::Ty;
 
 /// The rows so far, and the number of holes so far.
 #[derive(Drop)]
 pub(crate) struct Progress {
     pub(crate) rows: Vec<Row>,
     pub(crate) holes: usize,
+}
+
+/// The types of two parts.
+#[derive(Drop)]
+pub(crate) struct Pair {
+    pub(crate) first: Ty,
+    pub(crate) second: Ty,
 }

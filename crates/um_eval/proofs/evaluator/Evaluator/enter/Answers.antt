@@ -1,5 +1,6 @@
 use Rattle.std.proofs.Common.{map}
 use Rattle.um_tree.specs.ProgramTree.{function_tree}
+use Rattle.um_eval.specs.Variables.{own_of, callers_of}
 use Rattle.um_eval.specs.Progress.{frames_of}
 use Rattle.um_eval.proofs.Lookup.{mapped_found, mapped_past}
 use Rattle.um_eval.proofs.Resuming.{undeclared_leads}
@@ -15,4 +16,4 @@ pub returns-in-None : goal.returns-in-None
 returns-in-None c = λ out n h.
     let m = c.args.self.now in
     let fs = map function_tree c.args.functions.now in
-    undeclared_leads fs m.store m.scope.items m.budget (frames_of m) out c.args.j c.args.words.items n (mapped_past function_tree c.args.functions.now c.args.j c.in-None.ensures.lookup.3) h
+    undeclared_leads fs m.store (callers_of m.scope) (own_of m.scope) m.values.items m.budget (frames_of m) out c.args.j c.args.first n (mapped_past function_tree c.args.functions.now c.args.j c.in-None.ensures.lookup.3) h

@@ -1,12 +1,13 @@
-use Rattle.std.proofs.Common.{rules, refl, ◌≡◌, [], ◌∷◌, sym, subst, map, w32, SFits}
+use Rattle.std.proofs.Common.{rules, ◌≡◌, ◌∷◌, sym, subst, map, w32, SFits}
 use Rattle.std.proofs.lemmas.Int.{to_z-of_z}
 use Rattle.um_tree.specs.ExprTree.{truth, number, local, call, negate, not_expr, pown, arith, compare, both, either, if, bind, split, nil, list_expr, cons, record_expr, field, expr_tree, in_order}
 use Rattle.um_tree.specs.TypeTree.{note_tree}
 use Rattle.um_tree.specs.ProgramTree.{function_tree}
 use Rattle.um_tree.specs.declared.expression.Expr.{the_lemmas}
-use Rattle.um_eval.specs.declared.next.Next.TheVariants.{Evaluate}
 use Rattle.um_eval.specs.declared.frame.Unary.TheVariants.{Power}
 use Rattle.um_eval.specs.declared.frame.Frame.TheVariants.{Operand}
+use Rattle.um_eval.specs.Variables.{own_of, callers_of}
+use Rattle.um_eval.specs.Tasks.{Evaluate}
 use Rattle.um_eval.specs.Progress.{Within, frames_of}
 use Rattle.um_eval.proofs.Resuming.{later}
 use Rattle.um_eval.proofs.Starting.{truth_given, number_given, nil_given, local_begun, call_begun, list_begun, record_begun, negate_begun, not_begun, power_begun, field_begun, arith_begun, compare_begun, cons_begun, and_begun, or_begun, test_begun, bound_begun, matched_begun}
@@ -18,7 +19,7 @@ returns-in-Bool c = λ out n h.
     let fs = map function_tree c.args.functions.now in
     let e = c.args.e.now in
     let seen : expr_tree e ≡ truth e.at c.in-Bool.b = search (rules, the_lemmas) in
-    truth_given fs m.store m.scope.items m.budget (frames_of m) out n e.at c.in-Bool.b c.args.e seen h
+    c.give.ensures fs out n (truth_given fs m.store (callers_of m.scope) (own_of m.scope) m.values.items m.budget (frames_of m) out n e.at c.in-Bool.b c.args.e seen h)
 
 pub returns-in-Num : goal.returns-in-Num
 returns-in-Num c = λ out n h.
@@ -26,7 +27,7 @@ returns-in-Num c = λ out n h.
     let fs = map function_tree c.args.functions.now in
     let e = c.args.e.now in
     let seen : expr_tree e ≡ number e.at c.in-Num.c c.in-Num.field-1 = search (rules, the_lemmas) in
-    number_given fs m.store m.scope.items m.budget (frames_of m) out n e.at c.in-Num.c c.in-Num.field-1 c.args.e seen h
+    c.give-in-Num.ensures fs out n (number_given fs m.store (callers_of m.scope) (own_of m.scope) m.values.items m.budget (frames_of m) out n e.at c.in-Num.c c.in-Num.field-1 c.args.e seen h)
 
 pub returns-in-Nil : goal.returns-in-Nil
 returns-in-Nil c = λ out n h.
@@ -34,7 +35,7 @@ returns-in-Nil c = λ out n h.
     let fs = map function_tree c.args.functions.now in
     let e = c.args.e.now in
     let seen : expr_tree e ≡ nil e.at (note_tree c.in-Nil.field-0) = search (rules, the_lemmas) in
-    nil_given fs m.store m.scope.items m.budget (frames_of m) out n e.at (note_tree c.in-Nil.field-0) c.args.e seen h
+    c.give-in-Nil.ensures fs out n (nil_given fs m.store (callers_of m.scope) (own_of m.scope) m.values.items m.budget (frames_of m) out n e.at (note_tree c.in-Nil.field-0) c.args.e seen h)
 
 pub returns-in-Local : goal.returns-in-Local
 returns-in-Local c = λ out n h.
@@ -42,7 +43,7 @@ returns-in-Local c = λ out n h.
     let fs = map function_tree c.args.functions.now in
     let e = c.args.e.now in
     let seen : expr_tree e ≡ local e.at c.in-Local.k = search (rules, the_lemmas) in
-    c.variable.ensures fs out n (local_begun fs m.store m.scope.items m.budget (frames_of m) out n e.at c.in-Local.k c.args.e seen h)
+    c.variable.ensures fs out n (local_begun fs m.store (callers_of m.scope) (own_of m.scope) m.values.items m.budget (frames_of m) out n e.at c.in-Local.k c.args.e seen h)
 
 pub begin_items-requires : goal.begin_items-requires
 begin_items-requires c =
@@ -51,7 +52,7 @@ begin_items-requires c =
     let e = c.args.e.now in
     let seen : expr_tree e ≡ call e.at c.in-Call.j (in_order (map expr_tree c.deref.result.now)) = search (rules, the_lemmas) in
     let (out, n, h) = c.requires in
-    (out, n, call_begun fs m.store m.scope.items m.budget (frames_of m) out n e.at c.in-Call.j (in_order (map expr_tree c.deref.result.now)) c.args.e [] seen refl (later fs m.store m.scope.items m.budget (frames_of m) out (Evaluate c.args.e) n h))
+    (out, n, call_begun fs m.store (callers_of m.scope) (own_of m.scope) m.values.items m.budget (frames_of m) out n e.at c.in-Call.j (in_order (map expr_tree c.deref.result.now)) c.args.e seen (later fs m.store (callers_of m.scope) (own_of m.scope) m.values.items m.budget (frames_of m) out (Evaluate c.args.e) n h))
 
 pub returns-in-Call : goal.returns-in-Call
 returns-in-Call c = λ out n h.
@@ -59,7 +60,7 @@ returns-in-Call c = λ out n h.
     let fs = map function_tree c.args.functions.now in
     let e = c.args.e.now in
     let seen : expr_tree e ≡ call e.at c.in-Call.j (in_order (map expr_tree c.deref.result.now)) = search (rules, the_lemmas) in
-    c.begin_items.ensures out n (call_begun fs m.store m.scope.items m.budget (frames_of m) out n e.at c.in-Call.j (in_order (map expr_tree c.deref.result.now)) c.args.e [] seen refl h)
+    c.begin_items.ensures out n (call_begun fs m.store (callers_of m.scope) (own_of m.scope) m.values.items m.budget (frames_of m) out n e.at c.in-Call.j (in_order (map expr_tree c.deref.result.now)) c.args.e seen h)
 
 pub begin_items-requires-in-List : goal.begin_items-requires-in-List
 begin_items-requires-in-List c =
@@ -68,7 +69,7 @@ begin_items-requires-in-List c =
     let e = c.args.e.now in
     let seen : expr_tree e ≡ list_expr e.at (in_order (map expr_tree c.deref-in-List.result.now)) = search (rules, the_lemmas) in
     let (out, n, h) = c.requires in
-    (out, n, list_begun fs m.store m.scope.items m.budget (frames_of m) out n e.at (in_order (map expr_tree c.deref-in-List.result.now)) c.args.e [] seen refl (later fs m.store m.scope.items m.budget (frames_of m) out (Evaluate c.args.e) n h))
+    (out, n, list_begun fs m.store (callers_of m.scope) (own_of m.scope) m.values.items m.budget (frames_of m) out n e.at (in_order (map expr_tree c.deref-in-List.result.now)) c.args.e seen (later fs m.store (callers_of m.scope) (own_of m.scope) m.values.items m.budget (frames_of m) out (Evaluate c.args.e) n h))
 
 pub returns-in-List : goal.returns-in-List
 returns-in-List c = λ out n h.
@@ -76,7 +77,7 @@ returns-in-List c = λ out n h.
     let fs = map function_tree c.args.functions.now in
     let e = c.args.e.now in
     let seen : expr_tree e ≡ list_expr e.at (in_order (map expr_tree c.deref-in-List.result.now)) = search (rules, the_lemmas) in
-    c.begin_items-in-List.ensures out n (list_begun fs m.store m.scope.items m.budget (frames_of m) out n e.at (in_order (map expr_tree c.deref-in-List.result.now)) c.args.e [] seen refl h)
+    c.begin_items-in-List.ensures out n (list_begun fs m.store (callers_of m.scope) (own_of m.scope) m.values.items m.budget (frames_of m) out n e.at (in_order (map expr_tree c.deref-in-List.result.now)) c.args.e seen h)
 
 pub begin_items-requires-in-Rec : goal.begin_items-requires-in-Rec
 begin_items-requires-in-Rec c =
@@ -85,7 +86,7 @@ begin_items-requires-in-Rec c =
     let e = c.args.e.now in
     let seen : expr_tree e ≡ record_expr e.at c.in-Rec.r (in_order (map expr_tree c.deref-in-Rec.result.now)) = search (rules, the_lemmas) in
     let (out, n, h) = c.requires in
-    (out, n, record_begun fs m.store m.scope.items m.budget (frames_of m) out n e.at c.in-Rec.r (in_order (map expr_tree c.deref-in-Rec.result.now)) c.args.e [] seen refl (later fs m.store m.scope.items m.budget (frames_of m) out (Evaluate c.args.e) n h))
+    (out, n, record_begun fs m.store (callers_of m.scope) (own_of m.scope) m.values.items m.budget (frames_of m) out n e.at c.in-Rec.r (in_order (map expr_tree c.deref-in-Rec.result.now)) c.args.e seen (later fs m.store (callers_of m.scope) (own_of m.scope) m.values.items m.budget (frames_of m) out (Evaluate c.args.e) n h))
 
 pub returns-in-Rec : goal.returns-in-Rec
 returns-in-Rec c = λ out n h.
@@ -93,7 +94,7 @@ returns-in-Rec c = λ out n h.
     let fs = map function_tree c.args.functions.now in
     let e = c.args.e.now in
     let seen : expr_tree e ≡ record_expr e.at c.in-Rec.r (in_order (map expr_tree c.deref-in-Rec.result.now)) = search (rules, the_lemmas) in
-    c.begin_items-in-Rec.ensures out n (record_begun fs m.store m.scope.items m.budget (frames_of m) out n e.at c.in-Rec.r (in_order (map expr_tree c.deref-in-Rec.result.now)) c.args.e [] seen refl h)
+    c.begin_items-in-Rec.ensures out n (record_begun fs m.store (callers_of m.scope) (own_of m.scope) m.values.items m.budget (frames_of m) out n e.at c.in-Rec.r (in_order (map expr_tree c.deref-in-Rec.result.now)) c.args.e seen h)
 
 pub returns-in-Neg : goal.returns-in-Neg
 returns-in-Neg c = λ out n h.
@@ -101,7 +102,7 @@ returns-in-Neg c = λ out n h.
     let fs = map function_tree c.args.functions.now in
     let e = c.args.e.now in
     let seen : expr_tree e ≡ negate e.at (expr_tree c.deref-in-Neg.result.now) = search (rules, the_lemmas) in
-    c.begin.ensures fs out n (negate_begun fs m.store m.scope.items m.budget (frames_of m) out n e.at c.args.e c.deref-in-Neg.result seen h)
+    c.begin.ensures fs out n (negate_begun fs m.store (callers_of m.scope) (own_of m.scope) m.values.items m.budget (frames_of m) out n e.at c.args.e c.deref-in-Neg.result seen h)
 
 pub returns-in-Not : goal.returns-in-Not
 returns-in-Not c = λ out n h.
@@ -109,7 +110,7 @@ returns-in-Not c = λ out n h.
     let fs = map function_tree c.args.functions.now in
     let e = c.args.e.now in
     let seen : expr_tree e ≡ not_expr e.at (expr_tree c.deref-in-Not.result.now) = search (rules, the_lemmas) in
-    c.begin-in-Not.ensures fs out n (not_begun fs m.store m.scope.items m.budget (frames_of m) out n e.at c.args.e c.deref-in-Not.result seen h)
+    c.begin-in-Not.ensures fs out n (not_begun fs m.store (callers_of m.scope) (own_of m.scope) m.values.items m.budget (frames_of m) out n e.at c.args.e c.deref-in-Not.result seen h)
 
 pub returns-in-Pow : goal.returns-in-Pow
 returns-in-Pow c = λ out n h.
@@ -122,7 +123,7 @@ returns-in-Pow c = λ out n h.
     let fits : SFits w32 k = search rules in
     c.begin-in-Pow.ensures fs out n
     (subst (λ i. Within fs m (Operand (Power i) ∷ frames_of m) (Evaluate x) out n) (sym (to_z-of_z w32 k fits))
-    (power_begun fs m.store m.scope.items m.budget (frames_of m) out n e.at k c.args.e x seen h))
+    (power_begun fs m.store (callers_of m.scope) (own_of m.scope) m.values.items m.budget (frames_of m) out n e.at k c.args.e x seen h))
 
 pub returns-in-Field : goal.returns-in-Field
 returns-in-Field c = λ out n h.
@@ -130,7 +131,7 @@ returns-in-Field c = λ out n h.
     let fs = map function_tree c.args.functions.now in
     let e = c.args.e.now in
     let seen : expr_tree e ≡ field e.at c.in-Field.r c.in-Field.k (expr_tree c.deref-in-Field.result.now) = search (rules, the_lemmas) in
-    c.begin-in-Field.ensures fs out n (field_begun fs m.store m.scope.items m.budget (frames_of m) out n e.at c.in-Field.r c.in-Field.k c.args.e c.deref-in-Field.result seen h)
+    c.begin-in-Field.ensures fs out n (field_begun fs m.store (callers_of m.scope) (own_of m.scope) m.values.items m.budget (frames_of m) out n e.at c.in-Field.r c.in-Field.k c.args.e c.deref-in-Field.result seen h)
 
 pub returns-in-Arith : goal.returns-in-Arith
 returns-in-Arith c = λ out n h.
@@ -138,7 +139,7 @@ returns-in-Arith c = λ out n h.
     let fs = map function_tree c.args.functions.now in
     let e = c.args.e.now in
     let seen : expr_tree e ≡ arith e.at c.in-Arith.op (expr_tree c.deref-in-Arith-2.result.now) (expr_tree c.deref-in-Arith.result.now) = search (rules, the_lemmas) in
-    c.begin-in-Arith.ensures fs out n (arith_begun fs m.store m.scope.items m.budget (frames_of m) out n e.at c.in-Arith.op c.args.e c.deref-in-Arith-2.result c.deref-in-Arith.result seen h)
+    c.begin-in-Arith.ensures fs out n (arith_begun fs m.store (callers_of m.scope) (own_of m.scope) m.values.items m.budget (frames_of m) out n e.at c.in-Arith.op c.args.e c.deref-in-Arith-2.result c.deref-in-Arith.result seen h)
 
 pub returns-in-Compare : goal.returns-in-Compare
 returns-in-Compare c = λ out n h.
@@ -146,7 +147,7 @@ returns-in-Compare c = λ out n h.
     let fs = map function_tree c.args.functions.now in
     let e = c.args.e.now in
     let seen : expr_tree e ≡ compare e.at c.in-Compare.sign (expr_tree c.deref-in-Compare-2.result.now) (expr_tree c.deref-in-Compare.result.now) = search (rules, the_lemmas) in
-    c.begin-in-Compare.ensures fs out n (compare_begun fs m.store m.scope.items m.budget (frames_of m) out n e.at c.in-Compare.sign c.args.e c.deref-in-Compare-2.result c.deref-in-Compare.result seen h)
+    c.begin-in-Compare.ensures fs out n (compare_begun fs m.store (callers_of m.scope) (own_of m.scope) m.values.items m.budget (frames_of m) out n e.at c.in-Compare.sign c.args.e c.deref-in-Compare-2.result c.deref-in-Compare.result seen h)
 
 pub returns-in-Cons : goal.returns-in-Cons
 returns-in-Cons c = λ out n h.
@@ -154,7 +155,7 @@ returns-in-Cons c = λ out n h.
     let fs = map function_tree c.args.functions.now in
     let e = c.args.e.now in
     let seen : expr_tree e ≡ cons e.at (expr_tree c.deref-in-Cons-2.result.now) (expr_tree c.deref-in-Cons.result.now) = search (rules, the_lemmas) in
-    c.begin-in-Cons.ensures fs out n (cons_begun fs m.store m.scope.items m.budget (frames_of m) out n e.at c.args.e c.deref-in-Cons-2.result c.deref-in-Cons.result seen h)
+    c.begin-in-Cons.ensures fs out n (cons_begun fs m.store (callers_of m.scope) (own_of m.scope) m.values.items m.budget (frames_of m) out n e.at c.args.e c.deref-in-Cons-2.result c.deref-in-Cons.result seen h)
 
 pub returns-in-And : goal.returns-in-And
 returns-in-And c = λ out n h.
@@ -162,7 +163,7 @@ returns-in-And c = λ out n h.
     let fs = map function_tree c.args.functions.now in
     let e = c.args.e.now in
     let seen : expr_tree e ≡ both e.at (expr_tree c.deref-in-And-2.result.now) (expr_tree c.deref-in-And.result.now) = search (rules, the_lemmas) in
-    c.begin-in-And.ensures fs out n (and_begun fs m.store m.scope.items m.budget (frames_of m) out n e.at c.args.e c.deref-in-And-2.result c.deref-in-And.result seen h)
+    c.begin-in-And.ensures fs out n (and_begun fs m.store (callers_of m.scope) (own_of m.scope) m.values.items m.budget (frames_of m) out n e.at c.args.e c.deref-in-And-2.result c.deref-in-And.result seen h)
 
 pub returns-in-Or : goal.returns-in-Or
 returns-in-Or c = λ out n h.
@@ -170,7 +171,7 @@ returns-in-Or c = λ out n h.
     let fs = map function_tree c.args.functions.now in
     let e = c.args.e.now in
     let seen : expr_tree e ≡ either e.at (expr_tree c.deref-in-Or-2.result.now) (expr_tree c.deref-in-Or.result.now) = search (rules, the_lemmas) in
-    c.begin-in-Or.ensures fs out n (or_begun fs m.store m.scope.items m.budget (frames_of m) out n e.at c.args.e c.deref-in-Or-2.result c.deref-in-Or.result seen h)
+    c.begin-in-Or.ensures fs out n (or_begun fs m.store (callers_of m.scope) (own_of m.scope) m.values.items m.budget (frames_of m) out n e.at c.args.e c.deref-in-Or-2.result c.deref-in-Or.result seen h)
 
 pub returns-in-If : goal.returns-in-If
 returns-in-If c = λ out n h.
@@ -178,7 +179,7 @@ returns-in-If c = λ out n h.
     let fs = map function_tree c.args.functions.now in
     let e = c.args.e.now in
     let seen : expr_tree e ≡ if e.at (expr_tree c.deref-in-If-3.result.now) (expr_tree c.deref-in-If.result.now) (expr_tree c.deref-in-If-2.result.now) = search (rules, the_lemmas) in
-    c.begin-in-If.ensures fs out n (test_begun fs m.store m.scope.items m.budget (frames_of m) out n e.at c.args.e c.deref-in-If-3.result c.deref-in-If.result c.deref-in-If-2.result seen h)
+    c.begin-in-If.ensures fs out n (test_begun fs m.store (callers_of m.scope) (own_of m.scope) m.values.items m.budget (frames_of m) out n e.at c.args.e c.deref-in-If-3.result c.deref-in-If.result c.deref-in-If-2.result seen h)
 
 pub returns-in-Let : goal.returns-in-Let
 returns-in-Let c = λ out n h.
@@ -186,7 +187,7 @@ returns-in-Let c = λ out n h.
     let fs = map function_tree c.args.functions.now in
     let e = c.args.e.now in
     let seen : expr_tree e ≡ bind e.at (expr_tree c.deref-in-Let-2.result.now) (expr_tree c.deref-in-Let.result.now) = search (rules, the_lemmas) in
-    c.begin-in-Let.ensures fs out n (bound_begun fs m.store m.scope.items m.budget (frames_of m) out n e.at c.args.e c.deref-in-Let-2.result c.deref-in-Let.result seen h)
+    c.begin-in-Let.ensures fs out n (bound_begun fs m.store (callers_of m.scope) (own_of m.scope) m.values.items m.budget (frames_of m) out n e.at c.args.e c.deref-in-Let-2.result c.deref-in-Let.result seen h)
 
 pub returns-in-Match : goal.returns-in-Match
 returns-in-Match c = λ out n h.
@@ -194,4 +195,4 @@ returns-in-Match c = λ out n h.
     let fs = map function_tree c.args.functions.now in
     let e = c.args.e.now in
     let seen : expr_tree e ≡ split e.at (expr_tree c.deref-in-Match-3.result.now) (expr_tree c.deref-in-Match.result.now) (expr_tree c.deref-in-Match-2.result.now) = search (rules, the_lemmas) in
-    c.begin-in-Match.ensures fs out n (matched_begun fs m.store m.scope.items m.budget (frames_of m) out n e.at c.args.e c.deref-in-Match-3.result c.deref-in-Match.result c.deref-in-Match-2.result seen h)
+    c.begin-in-Match.ensures fs out n (matched_begun fs m.store (callers_of m.scope) (own_of m.scope) m.values.items m.budget (frames_of m) out n e.at c.args.e c.deref-in-Match-3.result c.deref-in-Match.result c.deref-in-Match-2.result seen h)

@@ -1,7 +1,8 @@
-use Rattle.std.proofs.Common.{◌∷◌, refl, map}
+use Rattle.std.proofs.Common.{◌∷◌, map}
 use Rattle.um_tree.specs.ProgramTree.{function_tree}
-use Rattle.um_eval.specs.declared.next.Next.TheVariants.{Give}
 use Rattle.um_eval.specs.declared.frame.Frame.TheVariants.{Item}
+use Rattle.um_eval.specs.Variables.{own_of, callers_of}
+use Rattle.um_eval.specs.Tasks.{Give}
 use Rattle.um_eval.specs.Progress.{frames_of}
 use Rattle.um_eval.proofs.Resuming.{later, item_there}
 use Rattle.um_eval.proofs.evaluator.Evaluator.go_on.Goals as goal
@@ -10,13 +11,12 @@ pub collect-requires : goal.collect-requires
 collect-requires c =
     let m = c.args.self.now in
     let fs = map function_tree c.args.functions.now in
-    let f = Item c.args.c c.args.rest c.args.done in
     let (out, n, h) = c.requires in
-    (out, n, item_there fs m.store m.scope.items m.budget (frames_of m) out c.args.c n c.args.word f c.args.rest c.args.done.items c.push.new.self.items (λ vars o k. k) refl c.in_ok-push.ensures.items (later fs m.store m.scope.items m.budget (f ∷ frames_of m) out (Give c.args.word) n h))
+    let more = later fs m.store (callers_of m.scope) (own_of m.scope) m.values.items m.budget (Item c.args.c c.args.rest c.args.first ∷ frames_of m) out (Give m.value) n h in
+    (out, n, item_there fs m.store (callers_of m.scope) (own_of m.scope) m.values.items m.budget (frames_of m) out c.args.c c.args.first n m.value c.args.rest c.push.new.self.items c.in-Ok.ensures.items more)
 
-pub returns : goal.returns
-returns c = λ out n h.
+pub returns-in-Ok : goal.returns-in-Ok
+returns-in-Ok c = λ out n h.
     let m = c.args.self.now in
     let fs = map function_tree c.args.functions.now in
-    let f = Item c.args.c c.args.rest c.args.done in
-    c.collect.ensures out n (item_there fs m.store m.scope.items m.budget (frames_of m) out c.args.c n c.args.word f c.args.rest c.args.done.items c.push.new.self.items (λ vars o k. k) refl c.in_ok-push.ensures.items h)
+    c.collect.ensures out n (item_there fs m.store (callers_of m.scope) (own_of m.scope) m.values.items m.budget (frames_of m) out c.args.c c.args.first n m.value c.args.rest c.push.new.self.items c.in-Ok.ensures.items h)

@@ -1,28 +1,59 @@
-use Rattle.std.proofs.Common.{refl, sym, subst, map}
-use Rattle.um_tree.specs.ValueTree.{list_value, record_value, values_in_order}
+use Rattle.std.proofs.Common.{subst, map}
 use Rattle.um_tree.specs.ProgramTree.{function_tree}
-use Rattle.um_cells.specs.Stores.{AllDenote}
-use Rattle.um_eval.specs.declared.frame.Collection.TheVariants.{List as OfList, Rec as OfRecord}
+use Rattle.um_eval.specs.Variables.{own_of, callers_of}
 use Rattle.um_eval.specs.Progress.{IsCollected, frames_of}
-use Rattle.um_eval.proofs.Resuming.{made_leads}
+use Rattle.um_eval.proofs.Resuming.{place_within}
 use Rattle.um_eval.proofs.evaluator.Evaluator.make.Goals as goal
+
+pub make_list-requires-clause-place : goal.make_list-requires-clause-place
+make_list-requires-clause-place c =
+    let m = c.args.self.now in
+    let fs = map function_tree c.args.functions.now in
+    let (out, n, h) = c.requires in
+    place_within fs m.store (callers_of m.scope) (own_of m.scope) m.values.items m.budget (frames_of m) out c.args.c c.args.first n h
+
+pub make_list-requires-clause-all : goal.make_list-requires-clause-all
+make_list-requires-clause-all c =
+    let m = c.args.self.now in
+    let fs = map function_tree c.args.functions.now in
+    let (out, n, h) = c.requires in
+    (fs, out, n, subst (λ k. IsCollected fs m k c.args.first out n) c.in-List.is h)
 
 pub returns-in-List : goal.returns-in-List
 returns-in-List c = λ out n h.
     let m = c.args.self.now in
     let fs = map function_tree c.args.functions.now in
-    made_leads fs m.store m.scope.items m.budget (frames_of m) out c.make_list.new.self OfList c.args.words.items c.in_ok-make_list-in-List.field-0 (λ vs. list_value (values_in_order vs)) n
-    c.in_ok-make_list-in-List.ensures.keeps
-    (λ vs d. c.in_ok-make_list-in-List.ensures.denotes vs (subst (λ ws. AllDenote m.store ws vs) (sym c.deref.ensures.value) d))
-    (λ vs. refl)
-    (subst (λ k. IsCollected fs m k c.args.words.items out n) c.in-List.is h)
+    c.make_list.ensures fs out n (subst (λ k. IsCollected fs m k c.args.first out n) c.in-List.is h)
+
+pub make_record-requires-clause-place : goal.make_record-requires-clause-place
+make_record-requires-clause-place c =
+    let m = c.args.self.now in
+    let fs = map function_tree c.args.functions.now in
+    let (out, n, h) = c.requires in
+    place_within fs m.store (callers_of m.scope) (own_of m.scope) m.values.items m.budget (frames_of m) out c.args.c c.args.first n h
+
+pub make_record-requires-clause-all : goal.make_record-requires-clause-all
+make_record-requires-clause-all c =
+    let m = c.args.self.now in
+    let fs = map function_tree c.args.functions.now in
+    let (out, n, h) = c.requires in
+    (fs, out, n, subst (λ k. IsCollected fs m k c.args.first out n) c.in-Rec.is h)
 
 pub returns-in-Rec : goal.returns-in-Rec
 returns-in-Rec c = λ out n h.
     let m = c.args.self.now in
     let fs = map function_tree c.args.functions.now in
-    made_leads fs m.store m.scope.items m.budget (frames_of m) out c.make_record.new.self (OfRecord c.in-Rec.r) c.args.words.items c.in_ok-make_record-in-Rec.field-0 (λ vs. record_value c.in-Rec.r (values_in_order vs)) n
-    c.in_ok-make_record-in-Rec.ensures.keeps
-    (λ vs d. c.in_ok-make_record-in-Rec.ensures.denotes vs (subst (λ ws. AllDenote m.store ws vs) (sym c.deref-in-Rec.ensures.value) d))
-    (λ vs. refl)
-    (subst (λ k. IsCollected fs m k c.args.words.items out n) c.in-Rec.is h)
+    c.make_record.ensures fs out n (subst (λ k. IsCollected fs m k c.args.first out n) c.in-Rec.is h)
+
+pub enter-requires : goal.enter-requires
+enter-requires c =
+    let m = c.args.self.now in
+    let fs = map function_tree c.args.functions.now in
+    let (out, n, h) = c.requires in
+    place_within fs m.store (callers_of m.scope) (own_of m.scope) m.values.items m.budget (frames_of m) out c.args.c c.args.first n h
+
+pub returns-in-Call : goal.returns-in-Call
+returns-in-Call c = λ out n h.
+    let m = c.args.self.now in
+    let fs = map function_tree c.args.functions.now in
+    c.enter.ensures out n (subst (λ k. IsCollected fs m k c.args.first out n) c.in-Call.is h)
