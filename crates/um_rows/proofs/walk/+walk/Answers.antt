@@ -1,7 +1,6 @@
-use Rattle.std.proofs.Common.{◌≡◌, ◌+◌, ◌≤◌, ◌<◌, length, map, sym, ap, subst, ◌∙◌, [], ◌∷◌, ◌++◌, Ok, arith, rules, w32, SFits}
+use Rattle.std.proofs.Common.{◌≡◌, ◌+◌, ◌<◌, length, map, sym, ap, subst, ◌∙◌, [], ◌∷◌, ◌++◌, Ok, arith, rules, w32, SFits}
 use Rattle.std.proofs.lemmas.Int.{to_z-of_z}
 use Rattle.um_tree.specs.TypeTree.{type_tree}
-use Rattle.um_tree.specs.ProgramTree.{record_tree}
 use Rattle.um_tree.specs.ExprTree.{expr_tree, in_order, pown, arith as arith_tree, compare, both, either, bind, cons}
 use Rattle.um_tree.specs.declared.expression.Expr.{the_lemmas}
 use Rattle.um_rows.specs.Rules.{item, pown_rule, call_rule}
