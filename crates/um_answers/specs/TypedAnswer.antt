@@ -21,6 +21,13 @@ use Rattle.um_answers.specs.RescaleAnswer.{RescaleAnswer}
 use Rattle.um_answers.specs.ImageAnswer.{ImageAnswer}
 use Rattle.um_answers.specs.TwinAnswer.{TwinAnswer}
 
+-- what is asked once all functions have schemes: `prove` prints certificates before, and `exec` has an image in place of a
+-- program
+abbrev pub IsOfSchemes : Order → Type 0
+IsOfSchemes Prove = ⊥
+IsOfSchemes (Exec budget) = ⊥
+IsOfSchemes order = Unit {0}
+
 -- what the order asks of the functions' schemes; `fmt` was answered before, and `prove` and `exec` ask nothing of them
 abbrev pub ByOrder : Order → Asked → ProgramTree → List SchemeTree → List ℕ → Status → Type 0
 ByOrder Types asked p schemes text status = IsReply text status (scheme_lines p p.functions schemes) Done

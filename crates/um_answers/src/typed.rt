@@ -12,7 +12,7 @@ ghost use Rattle.um_orders.specs.Orders.{order_of};
 ghost use Rattle.um_reports.specs.Steps.{IsReply};
 ghost use Rattle.um_answers.specs.Asking.{asked_of, IsWrittenProgram};
 ghost use Rattle.um_answers.specs.SchemeLines.{scheme_lines};
-ghost use Rattle.um_answers.specs.TypedAnswer.{TypedAnswer};
+ghost use Rattle.um_answers.specs.TypedAnswer.{TypedAnswer, IsOfSchemes};
 
 use crate::asked::Asked;
 use crate::big::answer_big;
@@ -35,8 +35,8 @@ use um_tree::Schemes;
 /// The answer about a program each of whose functions has a scheme, as `infer` answered them.
 ///
 /// The words name the order, the bytes are the text of the program as it is written, and that is what was resolved and
-/// shaped. `fmt` is answered here too. Want of memory is the one error; each refusal is an answer. The rules are this
-/// project's own.
+/// shaped. `fmt` is answered here too; `prove` and `exec` are not asked of schemes. Want of memory is the one error; each
+/// refusal is an answer. The rules are this project's own.
 #[tactic(auto, unfolding(crate::specs::TypedAnswer::TypedAnswer))]
 pub fn answer_typed(
     alloc: Global,
@@ -47,6 +47,7 @@ pub fn answer_typed(
     requires ordered { order_of asked.now.words.now ≡ Some asked.now.order }
     requires written { IsWrittenProgram asked.now.bytes.now (program_syntax asked.now.raw.now) }
     requires resolved { resolved_program (program_syntax asked.now.raw.now) ≡ Ok (program_tree shaped.now) }
+    requires of_schemes { IsOfSchemes asked.now.order }
     requires inferred { infer (program_tree shaped.now) ≡ all_schemes (scheme_trees schemes.now) }
     ensures { IfOk result (λ reply. TypedAnswer (asked_of asked.now)
         (program_tree shaped.now) (scheme_trees schemes.now) reply.text.items reply.status) }
@@ -65,9 +66,8 @@ pub fn answer_typed(
         Order::Twin { budget } => answer_twin(alloc, budget, asked, shaped, schemes),
         Order::Big(functions) => answer_big(alloc, functions, asked, shaped, schemes),
         Order::Image => reply_image(alloc, shaped),
-        // These are never asked of a program with its schemes: certificates are printed before there are all, and a call
-        // of an image is answered from its bytes.
-        Order::Prove | Order::Exec { .. } => Err(AllocError),
+        Order::Prove => unreachable!(),
+        Order::Exec { .. } => unreachable!(),
     }
 }
 

@@ -115,6 +115,11 @@ intake_of Prove = Text
 intake_of Image = Text
 intake_of (Exec budget) = Bytes budget
 
+-- what is taken is a text: one that is read, or that of a generated program
+abbrev pub IsText : Intake → Type 0
+IsText (Bytes budget) = ⊥
+IsText intake = Unit {0}
+
 -- the words name an order that takes this
 pub record AsksFor (words : List (List ℕ)) (order : Order) (intake : Intake) : Type 0 where
   pub ordered : order_of words ≡ Some order

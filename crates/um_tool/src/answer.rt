@@ -4,9 +4,9 @@ ghost use Rattle.um_tool.specs.Answer.{TokensAnswer, GrammarAnswer, ProgramAnswe
 ghost use Rattle.um_tool.specs.Answer.{InferenceAnswer, ProofAnswer, SchemesAnswer};
 ghost use Rattle.um_certificates.specs.CertificateText.{certificates_text as lines_of};
 ghost use Rattle.um_reports.specs.Steps.{IsReply};
-ghost use Rattle.um_answers.specs.TypedAnswer.{TypedAnswer};
+ghost use Rattle.um_answers.specs.TypedAnswer.{TypedAnswer, IsOfSchemes};
 ghost use Rattle.um_answers.specs.Asking.{asked_of, IsWrittenProgram};
-ghost use Rattle.um_orders.specs.Orders.{order_of};
+ghost use Rattle.um_orders.specs.Orders.{order_of, intake_of, IsText};
 ghost use Rattle.um_syntax.specs.Feeding.{IsTextAnswer};
 ghost use Rattle.um_tree.specs.RawTree.{program_syntax};
 ghost use Rattle.um_tree.specs.ProgramTree.{program_tree, function_tree};
@@ -42,6 +42,7 @@ pub(crate) fn answer_text(
     text: Text,
 ) -> Result<Reply, AllocError>
     requires ordered { order_of words.now ≡ Some order }
+    requires text { IsText (intake_of order) }
     requires tokens { IsTextAnswer text.bytes.items text.tokens }
     requires short { length text.bytes.items ≤ 1048576 }
     ensures { IfOk result (λ reply. TokensAnswer order words.now text.bytes.items reply.text.items reply.status) }
@@ -63,6 +64,7 @@ fn answer_tokens(
     tokens: Tokens,
 ) -> Result<Reply, AllocError>
     requires ordered { order_of words.now ≡ Some order }
+    requires text { IsText (intake_of order) }
     requires tokens { IsTextAnswer bytes.now (Ok tokens) }
     requires short { length bytes.now ≤ 1048576 }
     ensures { IfOk result (λ reply. GrammarAnswer order words.now bytes.now tokens reply.text.items reply.status) }
@@ -85,6 +87,7 @@ fn answer_tokens(
 #[tactic(auto, unfolding(crate::specs::Answer::ProgramAnswer))]
 fn answer_program(alloc: Global, asked: &Asked) -> Result<Reply, AllocError>
     requires ordered { order_of asked.now.words.now ≡ Some asked.now.order }
+    requires text { IsText (intake_of asked.now.order) }
     requires written { IsWrittenProgram asked.now.bytes.now (program_syntax asked.now.raw.now) }
     requires readable { IsReadable (program_syntax asked.now.raw.now) }
     ensures { IfOk result (λ reply. ProgramAnswer (asked_of asked.now) reply.text.items reply.status) }
@@ -110,6 +113,7 @@ fn answer_program(alloc: Global, asked: &Asked) -> Result<Reply, AllocError>
 #[tactic(auto, unfolding(crate::specs::Answer::NamesAnswer))]
 fn answer_names(alloc: Global, asked: &Asked) -> Result<Reply, AllocError>
     requires ordered { order_of asked.now.words.now ≡ Some asked.now.order }
+    requires text { IsText (intake_of asked.now.order) }
     requires written { IsWrittenProgram asked.now.bytes.now (program_syntax asked.now.raw.now) }
     requires readable { IsReadable (program_syntax asked.now.raw.now) }
     ensures { IfOk result (λ reply. NamesAnswer (asked_of asked.now) reply.text.items reply.status) }
@@ -124,6 +128,7 @@ fn answer_names(alloc: Global, asked: &Asked) -> Result<Reply, AllocError>
 #[tactic(auto, unfolding(crate::specs::Answer::ShapesAnswer))]
 fn answer_shapes(alloc: Global, asked: &Asked, program: Program) -> Result<Reply, AllocError>
     requires ordered { order_of asked.now.words.now ≡ Some asked.now.order }
+    requires text { IsText (intake_of asked.now.order) }
     requires written { IsWrittenProgram asked.now.bytes.now (program_syntax asked.now.raw.now) }
     requires resolved { resolved_program (program_syntax asked.now.raw.now) ≡ Ok (program_tree program) }
     requires formed { IsFormed (program_tree program) }
@@ -140,6 +145,7 @@ fn answer_shapes(alloc: Global, asked: &Asked, program: Program) -> Result<Reply
 #[tactic(auto, unfolding(crate::specs::Answer::SchemesAnswer))]
 fn answer_schemes(alloc: Global, asked: &Asked, shaped: &Shaped) -> Result<Reply, AllocError>
     requires ordered { order_of asked.now.words.now ≡ Some asked.now.order }
+    requires text { IsText (intake_of asked.now.order) }
     requires written { IsWrittenProgram asked.now.bytes.now (program_syntax asked.now.raw.now) }
     requires resolved { resolved_program (program_syntax asked.now.raw.now) ≡ Ok (program_tree shaped.now) }
     ensures { IfOk result (λ reply. SchemesAnswer (asked_of asked.now)
@@ -200,6 +206,7 @@ fn reply_proofs(alloc: Global, program: &Program, proofs: Proofs) -> Result<Repl
 /// The answer to a program whose schemes are asked for: the first function without a scheme is refused.
 fn answer_inference(alloc: Global, asked: &Asked, shaped: &Shaped) -> Result<Reply, AllocError>
     requires ordered { order_of asked.now.words.now ≡ Some asked.now.order }
+    requires of_schemes { IsOfSchemes asked.now.order }
     requires written { IsWrittenProgram asked.now.bytes.now (program_syntax asked.now.raw.now) }
     requires resolved { resolved_program (program_syntax asked.now.raw.now) ≡ Ok (program_tree shaped.now) }
     ensures { IfOk result (λ reply. InferenceAnswer (asked_of asked.now)
@@ -233,6 +240,7 @@ fn answer_inferred(
     schemes: Schemes,
 ) -> Result<Reply, AllocError>
     requires ordered { order_of asked.now.words.now ≡ Some asked.now.order }
+    requires of_schemes { IsOfSchemes asked.now.order }
     requires written { IsWrittenProgram asked.now.bytes.now (program_syntax asked.now.raw.now) }
     requires resolved { resolved_program (program_syntax asked.now.raw.now) ≡ Ok (program_tree shaped.now) }
     requires inferred { infer (program_tree shaped.now) ≡ all_schemes (scheme_trees schemes) }

@@ -3,7 +3,7 @@ ghost use Rattle.std.specs.Prelude.{◌≡◌, ◌≢◌, ◌≤◌, IfOk, Some}
 ghost use Rattle.um_wire.specs.Faults.{Rose};
 ghost use Rattle.um_big.specs.BigText.{big_text as generated};
 ghost use Rattle.um_tool.specs.Answer.{TokensAnswer};
-ghost use Rattle.um_orders.specs.Orders.{order_of as order_named, intake_of, AsksFor};
+ghost use Rattle.um_orders.specs.Orders.{order_of as order_named, intake_of, AsksFor, IsText};
 ghost use Rattle.um_tool.specs.Served.{IsPlanned, IsUndisturbed, Reads, Serves};
 
 use crate::answer::answer_text;
@@ -102,6 +102,7 @@ fn reply_to_generated(
     functions: u32,
 ) -> Result<Reply, AllocError>
     requires ordered { order_named words.now ≡ Some order }
+    requires text { IsText (intake_of order) }
     requires some { 1 ≤ functions }
     requires few { functions ≤ 2000 }
     ensures { IfOk result (λ reply. TokensAnswer order words.now (generated functions)
