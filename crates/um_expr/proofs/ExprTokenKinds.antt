@@ -6,7 +6,7 @@ use Rattle.um_syntax.specs.declared.vocabulary.Keyword.TheVariants as keyword
 use Rattle.um_syntax.specs.declared.vocabulary.Symbol.{Symbol}
 use Rattle.um_syntax.specs.declared.vocabulary.Symbol.TheVariants as symbol
 use Rattle.um_types.specs.UnitTokens.{unit_token}
-use Rattle.um_types.proofs.ForeignTokens.{is_foreign}
+use Rattle.um_types.specs.UnitMachine.{is_foreign}
 use Rattle.um_expr.specs.declared.token.ExprToken.{ExprToken}
 use Rattle.um_expr.specs.declared.token.ExprToken.TheVariants.{Word as word, Mark as mark}
 use Rattle.um_expr.specs.ExprTokens.{expr_token, equal, greater}

@@ -1,23 +1,10 @@
 -- A token that stands in no unit text is refused in one.
-use Rattle.std.proofs.Common.{◌≡◌, ℕ, Bool, true, false, List, refl}
+use Rattle.std.proofs.Common.{◌≡◌, ℕ, true, List, refl}
 use Rattle.std.proofs.lemmas.Bool.{false≢true}
 use Rattle.um_syntax.specs.declared.vocabulary.Symbol.TheVariants as symbol
 use Rattle.um_tree.specs.RawTree.{UnitSyntax}
 use Rattle.um_types.specs.UnitTokens.{UnitToken, sign, measure, variable, number}
-use Rattle.um_types.specs.UnitMachine.{Frame, State, Need, Have, Raised, Lowered, Refused, act}
-
--- whether no unit text has the token
-abbrev pub is_foreign : UnitToken → Bool
-is_foreign (measure x) = false
-is_foreign (variable x) = false
-is_foreign (number one power) = false
-is_foreign (sign symbol.LeftParen) = false
-is_foreign (sign symbol.RightParen) = false
-is_foreign (sign symbol.Star) = false
-is_foreign (sign symbol.Slash) = false
-is_foreign (sign symbol.Caret) = false
-is_foreign (sign symbol.Minus) = false
-is_foreign _ = true
+use Rattle.um_types.specs.UnitMachine.{Frame, State, Need, Have, Raised, Lowered, Refused, act, is_foreign}
 
 in_need : (frames : List Frame) (what : UnitToken) (at : ℕ) → is_foreign what ≡ true → act (Need frames) what at ≡ Refused
 in_need frames (measure x) at e = absurd (false≢true e)

@@ -31,12 +31,10 @@ pub note_low : (depth : ℕ) (owner : Owner) (old mid : NoteState) (token : Toke
 note_low depth owner old mid token low t = (omega (arith, low), (λ m e. let same = note_found_height old m (sym t.1 ∙ e) in omega (arith, low, same)))
 
 -- a comma behind a note
-pub comma_behind : (depth at : ℕ) (name : List ℕ) (earlier new : List RawNote) (note : RawNote) (d : ℕ) (n : NoteState) → d ≡ depth → new ≡ earlier ++ note ∷ [] → n ≡ NeedNote
-    → InNote d (OfName at name (map note_syntax new)) n ≡ next_note depth (OfName at name (map note_syntax earlier)) (note_syntax note)
-comma_behind depth at name earlier new note d n same pushed begun =
-    ap (λ e. InNote e (OfName at name (map note_syntax new)) n) same
-    ∙ ap (λ s. InNote depth (OfName at name (map note_syntax new)) s) begun
-    ∙ ap (λ ns. InNote depth (OfName at name ns) NeedNote) (ap (map note_syntax) pushed ∙ map-append note_syntax earlier (note ∷ []))
+pub comma_behind : (depth at : ℕ) (name : List ℕ) (earlier new : List RawNote) (note : RawNote) → new ≡ earlier ++ note ∷ []
+    → InNote depth (OfName at name (map note_syntax new)) NeedNote ≡ next_note depth (OfName at name (map note_syntax earlier)) (note_syntax note)
+comma_behind depth at name earlier new note pushed =
+    ap (λ ns. InNote depth (OfName at name ns) NeedNote) (ap (map note_syntax) pushed ∙ map-append note_syntax earlier (note ∷ []))
 
 -- ---- a type in a signature
 

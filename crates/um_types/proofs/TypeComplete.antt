@@ -13,7 +13,7 @@ use Rattle.um_reader.specs.Machine.{Reaches}
 use Rattle.um_types.specs.NoteMachine.{NoteState, NeedNote, HaveHole, InUnit, NoNote, note_step, note_finish}
 use Rattle.um_types.specs.TypeMachine.{Owner, OfNum, OfName, TypeState, NeedType, HaveType, InNote, NoType, type_begin, type_after, note_end, note_ends, note_goes, type_act, type_step}
 use Rattle.um_reader.proofs.Reaching.{reaches_one, reaches_then, reaches_inside}
-use Rattle.um_types.proofs.ForeignTokens.{is_foreign}
+use Rattle.um_types.specs.UnitMachine.{is_foreign}
 use Rattle.um_types.proofs.NoteComplete.{note_into, note_reaches, note_finds, note_stops}
 
 abbrev pub TypeReaches : TypeState → List Token → TypeState → List Token → Type 0

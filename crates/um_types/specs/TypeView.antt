@@ -8,6 +8,7 @@ use Rattle.um_types.specs.TypeHeights.{note_height}
 use Rattle.um_types.specs.NoteMachine.{note_finish}
 use Rattle.um_types.specs.NoteView.{note_state}
 use Rattle.um_types.specs.TypeMachine.{Owner, OfNum, OfName, TypeState, NeedType, HaveType, InNote, NoType, angle_owner, owner_height, type_least}
+use Rattle.um_types.specs.declared.note_reader.NoteReader.{NoteReader}
 use Rattle.um_types.specs.declared.type_operand.TypeOperand.{TypeOperand}
 use Rattle.um_types.specs.declared.type_operand.Owner.{Owner as OwnerPart}
 use Rattle.um_types.specs.declared.type_operand.Owner.TheVariants as owner
@@ -22,14 +23,14 @@ abbrev pub view_owner : OwnerPart → Owner
 view_owner owner.Num = OfNum
 view_owner (owner.Name at x earlier) = OfName at x (note_syntaxes earlier)
 
-abbrev pub type_focus_state : ℕ → TypeFocus → TypeState
-type_focus_state depth focus.Empty = NeedType depth
-type_focus_state depth (focus.Full t) = HaveType depth (operand_type t)
-type_focus_state depth (focus.Note o n) = InNote depth (view_owner o) (note_state n)
+abbrev pub type_focus_state : ℕ → TypeFocus → NoteReader → TypeState
+type_focus_state depth focus.Empty n = NeedType depth
+type_focus_state depth (focus.Full t) n = HaveType depth (operand_type t)
+type_focus_state depth (focus.Note o) n = InNote depth (view_owner o) (note_state n)
 
 -- the state of a reader
 abbrev pub type_state : TypeReader → TypeState
-type_state r = type_focus_state r.depth r.focus
+type_state r = type_focus_state r.depth r.focus r.note
 
 -- the heights are low where the note, if one has begun, has refused a token
 abbrev pub IsLow : TypeState → Type 0

@@ -165,6 +165,19 @@ abbrev pub power_in : UnitToken → Option ℕ
 power_in (number one power) = power
 power_in _ = None
 
+-- whether no unit text has the token
+abbrev pub is_foreign : UnitToken → Bool
+is_foreign (measure x) = false
+is_foreign (variable x) = false
+is_foreign (number one power) = false
+is_foreign (sign symbol.LeftParen) = false
+is_foreign (sign symbol.RightParen) = false
+is_foreign (sign symbol.Star) = false
+is_foreign (sign symbol.Slash) = false
+is_foreign (sign symbol.Caret) = false
+is_foreign (sign symbol.Minus) = false
+is_foreign _ = true
+
 -- `/` or `*` behind what is at hand
 abbrev pub sign_after : Bool → State → State
 sign_after true st = over_after st

@@ -97,21 +97,43 @@ impl NoteReader {
         }
     }
 
-    // What was read.
+    // What was read. Where nothing was, there is nothing to let go.
     fn put(&mut self, focus: NoteFocus)
         ensures { self.new.focus ≡ focus }
     {
-        drop(mem::replace(&mut self.focus, focus));
+        match &self.focus {
+            NoteFocus::Empty => mem::forget(mem::replace(&mut self.focus, focus)),
+            NoteFocus::Hole(_) | NoteFocus::Unit(_, _) => {
+                drop(mem::replace(&mut self.focus, focus));
+            }
+        }
+    }
+
+    /// A note begins, whatever was read.
+    pub fn restart(&mut self)
+        ensures start { note_state self.new ≡ NeedNote }
+    {
+        self.put(NoteFocus::Empty);
+    }
+
+    /// The note where all is read, if it is one, taken out of the reader.
+    pub fn take_whole(&mut self, alloc: Global) -> Result<Option<RawNote>, AllocError>
+        ensures found { IfOk result (λ o. option_map note_syntax o ≡ note_finish (note_state self.old)) }
+    {
+        match mem::replace(&mut self.focus, NoteFocus::Empty) {
+            NoteFocus::Empty => Ok(None),
+            NoteFocus::Hole(at) => Ok(Some(RawNote::Hole(at))),
+            NoteFocus::Unit(at, unit) => Ok(note_of(at, unit.finish(alloc)?)),
+        }
     }
 
     /// The note where all is read, if it is one.
     pub fn finish(self, alloc: Global) -> Result<Option<RawNote>, AllocError>
         ensures found { IfOk result (λ o. option_map note_syntax o ≡ note_finish (note_state self)) }
     {
-        match self.focus {
-            NoteFocus::Empty => Ok(None),
-            NoteFocus::Hole(at) => Ok(Some(RawNote::Hole(at))),
-            NoteFocus::Unit(at, unit) => Ok(note_of(at, unit.finish(alloc)?)),
-        }
+        let mut reader = self;
+        let found = reader.take_whole(alloc);
+        drop(reader);
+        found
     }
 }

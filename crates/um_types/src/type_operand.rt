@@ -5,7 +5,6 @@ ghost use Rattle.um_tree.specs.Heights.{type_height};
 ghost use Rattle.um_types.specs.UnitStops.{greatest_height};
 
 use crate::name::name_of;
-use crate::note_reader::NoteReader;
 use std::alloc::{AllocError, Global};
 use um_syntax::Letters;
 use um_tree::{Name, RawNote, RawNotes, RawType};
@@ -25,12 +24,12 @@ pub enum Owner {
     Name(u32, Name, RawNotes),
 }
 
-/// What is at hand beside the open brackets: nothing, a type, or a note that has begun.
+/// What is at hand beside the open brackets: nothing, a type, or what the note belongs to that has begun.
 #[derive(Drop)]
 pub enum TypeFocus {
     Empty,
     Full(TypeOperand),
-    Note(Owner, NoteReader),
+    Note(Owner),
 }
 
 impl TypeOperand {

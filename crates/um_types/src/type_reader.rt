@@ -1,11 +1,11 @@
 // A type text that is read one token at a time.
-ghost use Rattle.std.specs.Prelude.{◌≡◌, suc, ◌+◌, ◌≤◌, IfOk, max, option_map};
-ghost use Rattle.um_tree.specs.RawTree.{list_type_syntax, note_syntax, type_syntax};
+ghost use Rattle.std.specs.Prelude.{◌≡◌, false, suc, ◌+◌, ◌≤◌, IfOk, None, max, option_map};
+ghost use Rattle.um_tree.specs.RawTree.{TypeSyntax, list_type_syntax, note_syntax, type_syntax};
 ghost use Rattle.um_reader.specs.Takes.{Gives, Takes};
 ghost use Rattle.um_types.specs.UnitStops.{greatest_height};
 ghost use Rattle.um_types.specs.TypeHeights.{note_height};
 ghost use Rattle.um_types.specs.NoteMachine.{NeedNote};
-ghost use Rattle.um_types.specs.TypeMachine.{NeedType, HaveType, InNote, type_begin, type_after, close_bracket, open_angle, next_note, note_end, own_act, type_finish, type_least, owner_height, machine_of_types};
+ghost use Rattle.um_types.specs.TypeMachine.{NeedType, HaveType, InNote, NoType, type_begin, type_after, close_bracket, open_angle, next_note, note_end, own_act, type_finish, type_least, owner_height, machine_of_types};
 ghost use Rattle.um_types.specs.TypeView.{operand_type, view_owner, type_state, IsLow};
 ghost use Rattle.um_types.specs.NoteView.{note_state};
 
@@ -18,11 +18,12 @@ use um_reader::Taken;
 use um_syntax::{Keyword, Kind, Symbol, Token};
 use um_tree::{RawNote, RawType};
 
-/// A type text that has begun: the number of open brackets, and what is at hand.
+/// A type text that has begun: the number of open brackets, what is at hand, and the note that is read, if one has begun.
 #[derive(Drop)]
 pub struct TypeReader {
     depth: u32,
     focus: TypeFocus,
+    note: NoteReader,
 }
 
 // The type text where all is read, if no bracket is open.
@@ -30,6 +31,14 @@ fn whole(depth: u32, operand: TypeOperand) -> Option<RawType>
     ensures { option_map type_syntax result ≡ type_finish (HaveType depth (operand_type operand)) }
 {
     if depth == 0 { Some(operand.ty) } else { None }
+}
+
+// No type text ends inside angle brackets.
+fn no_type(owner: Owner) -> Option<RawType>
+    ensures { result ≡ None }
+{
+    drop(owner);
+    None
 }
 
 impl TypeReader {
@@ -40,7 +49,16 @@ impl TypeReader {
         TypeReader {
             depth: 0,
             focus: TypeFocus::Empty,
+            note: NoteReader::new(),
         }
+    }
+
+    /// A type text begins, whatever was read.
+    pub fn restart(&mut self)
+        ensures start { type_state self.new ≡ NeedType 0 }
+    {
+        self.depth = 0;
+        self.put(TypeFocus::Empty);
     }
 
     /// One token more, which stays as it was where it is refused.
@@ -49,10 +67,16 @@ impl TypeReader {
         ensures taken { IfOk result (λ t. Takes machine_of_types greatest_height (type_state self.old) token.old t (type_state self.new)) }
         ensures kept { IfOk result (λ t. t ≡ Taken.Stops → token.new ≡ token.old) }
     {
-        match &mut self.focus {
-            TypeFocus::Empty => self.take_own(alloc, token),
-            TypeFocus::Full(_) => self.take_own(alloc, token),
-            TypeFocus::Note(_, note) => match note.take(alloc, token)? {
+        match &self.focus {
+            TypeFocus::Empty => Ok(self.take_first(alloc, token)),
+            TypeFocus::Full(_) => {
+                if self.may_follow(&token.kind) {
+                    self.take_own(alloc, token)
+                } else {
+                    Ok(Taken::Stops)
+                }
+            }
+            TypeFocus::Note(_) => match self.note.take(alloc, token)? {
                 Taken::Goes => Ok(Taken::Goes),
                 Taken::Stops => self.take_own(alloc, token),
                 Taken::High => Ok(Taken::High),
@@ -60,7 +84,20 @@ impl TypeReader {
         }
     }
 
+    // Whether this token may follow a type: most types end before it, and nothing has to be moved.
+    fn may_follow(&self, kind: &Kind) -> bool
+        ensures { result ≡ false → (t : TypeSyntax) → type_after self.now.depth t kind.now ≡ NoType }
+    {
+        match kind {
+            Kind::Word(Keyword::List) => true,
+            Kind::Sign(Symbol::Less) => true,
+            Kind::Sign(Symbol::RightParen) => self.depth != 0,
+            _ => false,
+        }
+    }
+
     // One token more, which the note has refused, if one has begun.
+    #[inline(never)]
     fn take_own(&mut self, alloc: Global, token: &mut Token) -> Result<Taken, AllocError>
         requires low { IsLow (type_state self.old) }
         ensures taken { IfOk result (λ t. Gives machine_of_types greatest_height (type_state self.old) (own_act (type_state self.old) token.old.kind token.old.start) t (type_state self.new)) }
@@ -69,16 +106,31 @@ impl TypeReader {
         match mem::replace(&mut self.focus, TypeFocus::Empty) {
             TypeFocus::Empty => Ok(self.take_first(alloc, token)),
             TypeFocus::Full(operand) => self.take_after(alloc, operand, token),
-            TypeFocus::Note(owner, note) => self.take_behind(alloc, owner, note, token),
+            TypeFocus::Note(owner) => self.take_behind(alloc, owner, token),
         }
     }
 
-    // What is at hand.
+    // What is at hand. Where nothing was, there is nothing to let go.
+    #[inline(always)]
     fn put(&mut self, focus: TypeFocus)
         ensures focus { self.new.focus ≡ focus }
         ensures depth { self.new.depth ≡ self.old.depth }
+        ensures note { self.new.note ≡ self.old.note }
     {
-        drop(mem::replace(&mut self.focus, focus));
+        match &self.focus {
+            TypeFocus::Empty => mem::forget(mem::replace(&mut self.focus, focus)),
+            TypeFocus::Full(_) | TypeFocus::Note(_) => {
+                drop(mem::replace(&mut self.focus, focus));
+            }
+        }
+    }
+
+    // A note of this begins.
+    fn begin_note(&mut self, owner: Owner)
+        ensures { type_state self.new ≡ InNote self.old.depth (view_owner owner) NeedNote }
+    {
+        self.note.restart();
+        self.put(TypeFocus::Note(owner));
     }
 
     // A type is at hand.
@@ -187,7 +239,7 @@ impl TypeReader {
         let TypeOperand { ty, height } = operand;
         match Owner::of_type(ty) {
             Ok(owner) => {
-                self.put(TypeFocus::Note(owner, NoteReader::new()));
+                self.begin_note(owner);
                 Taken::Goes
             }
             Err(ty) => self.keep(TypeOperand { ty, height }),
@@ -199,14 +251,16 @@ impl TypeReader {
         &mut self,
         alloc: Global,
         owner: Owner,
-        note: NoteReader,
         token: &Token,
     ) -> Result<Taken, AllocError>
         requires wanted { self.old.focus ≡ TypeFocus.Empty }
-        requires low { IsLow (InNote self.old.depth (view_owner owner) (note_state note)) }
-        ensures { IfOk result (λ t. Gives machine_of_types greatest_height (InNote self.old.depth (view_owner owner) (note_state note)) (own_act (InNote self.old.depth (view_owner owner) (note_state note)) token.now.kind token.now.start) t (type_state self.new)) }
+        requires low { IsLow (InNote self.old.depth (view_owner owner) (note_state self.old.note)) }
+        ensures { IfOk result (λ t. Gives machine_of_types greatest_height
+            (InNote self.old.depth (view_owner owner) (note_state self.old.note))
+            (own_act (InNote self.old.depth (view_owner owner) (note_state self.old.note)) token.now.kind token.now.start)
+            t (type_state self.new)) }
     {
-        match note.finish(alloc) {
+        match self.note.take_whole(alloc) {
             Ok(Some(note)) => self.end_note(owner, note, token),
             Ok(None) => {
                 drop(owner);
@@ -252,10 +306,20 @@ impl TypeReader {
             }
             Owner::Name(at, name, mut earlier) => {
                 earlier.items.push(note)?;
-                let owner = Owner::Name(at, name, earlier);
-                self.put(TypeFocus::Note(owner, NoteReader::new()));
+                self.begin_note(Owner::Name(at, name, earlier));
                 Ok(Taken::Goes)
             }
+        }
+    }
+
+    /// The type text where all is read, if it is one, taken out of the reader.
+    pub fn take_whole(&mut self) -> Option<RawType>
+        ensures found { option_map type_syntax result ≡ type_finish (type_state self.old) }
+    {
+        match mem::replace(&mut self.focus, TypeFocus::Empty) {
+            TypeFocus::Empty => None,
+            TypeFocus::Full(operand) => whole(self.depth, operand),
+            TypeFocus::Note(owner) => no_type(owner),
         }
     }
 
@@ -263,10 +327,9 @@ impl TypeReader {
     pub fn finish(self) -> Option<RawType>
         ensures found { option_map type_syntax result ≡ type_finish (type_state self) }
     {
-        let TypeReader { depth, focus } = self;
-        match focus {
-            TypeFocus::Full(operand) => whole(depth, operand),
-            TypeFocus::Empty | TypeFocus::Note(_, _) => None,
-        }
+        let mut reader = self;
+        let found = reader.take_whole();
+        drop(reader);
+        found
     }
 }

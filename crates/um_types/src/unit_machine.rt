@@ -1,7 +1,7 @@
 // Reading a unit text token by token.
 ghost use Rattle.std.specs.Prelude.{◌≡◌, ◌<◌, IfOk, IfSome, IfNone, OnOk, Some, None, option_map, vec_len, pos, neg_ℤ};
 ghost use Rattle.um_types.specs.UnitTokens.{unit_token, power_of};
-ghost use Rattle.um_types.specs.UnitMachine.{Need, sign_after, Have, Raised, Lowered, reduce, juxtapose, begin, raised, lowered, close_after, opens, after, act, finish, atom_of, power_in, is_atom};
+ghost use Rattle.um_types.specs.UnitMachine.{Need, sign_after, Have, Raised, Lowered, reduce, juxtapose, begin, raised, lowered, close_after, opens, after, act, finish, atom_of, power_in, is_atom, is_foreign};
 ghost use Rattle.um_types.specs.UnitFrames.{operand_syntax};
 ghost use Rattle.um_types.specs.UnitView.{frames_of, state_of, Simulates, Keeps, Ended, Unbracketed, ends_itself};
 
@@ -252,6 +252,22 @@ fn step_full(
             Step::Stops(Focus::Full(operand))
         }),
         _ => Ok(Step::Stops(Focus::Full(operand))),
+    }
+}
+
+/// Whether no unit text has the token.
+pub fn is_foreign(kind: &Kind) -> bool
+    ensures { result ≡ is_foreign (unit_token kind.now) }
+{
+    match kind {
+        Kind::Name(_) | Kind::Var(_) | Kind::Number { .. } => false,
+        Kind::Sign(Symbol::LeftParen) => false,
+        Kind::Sign(Symbol::RightParen) => false,
+        Kind::Sign(Symbol::Star) => false,
+        Kind::Sign(Symbol::Slash) => false,
+        Kind::Sign(Symbol::Caret) => false,
+        Kind::Sign(Symbol::Minus) => false,
+        Kind::Sign(_) | Kind::Word(_) | Kind::Hole => true,
     }
 }
 

@@ -6,7 +6,7 @@ ghost use Rattle.um_types.specs.UnitFrames.{operand_syntax};
 use crate::unit_frame::{Focus, Step};
 use crate::unit_frames::Frames;
 use crate::unit_least::is_low;
-use crate::unit_machine::{finish, step};
+use crate::unit_machine::{finish, is_foreign, step};
 use crate::unit_operand::Operand;
 use std::alloc::{AllocError, Global};
 use std::mem;
@@ -31,12 +31,48 @@ fn unit_of(operand: Option<Operand>) -> Option<RawUnit>
 }
 
 impl UnitReader {
-    // What is at hand.
+    ghost use Rattle.std.specs.Prelude.{IfOk};
+    ghost use Rattle.um_reader.specs.Takes.{Takes};
+    ghost use Rattle.um_types.specs.UnitStops.{greatest_height};
+    ghost use Rattle.um_types.specs.UnitLeast.{machine_of_units};
+    ghost use Rattle.um_types.specs.UnitView.{unit_state};
+
+    // What is at hand. Where nothing was, there is nothing to let go.
+    #[inline(always)]
     fn put(&mut self, focus: Focus)
         ensures focus { self.new.focus ≡ focus }
         ensures frames { self.new.frames ≡ self.old.frames }
     {
-        drop(mem::replace(&mut self.focus, focus));
+        match &self.focus {
+            Focus::Empty => mem::forget(mem::replace(&mut self.focus, focus)),
+            Focus::Full(_) | Focus::Raised(_) | Focus::Lowered(_) => {
+                drop(mem::replace(&mut self.focus, focus));
+            }
+        }
+    }
+
+    // One token more.
+    #[inline(never)]
+    fn take_step(&mut self, alloc: Global, token: &mut Token) -> Result<Taken, AllocError>
+        ensures taken { IfOk result (λ t.
+            Takes machine_of_units greatest_height (unit_state self.old) token.old t (unit_state self.new)) }
+        ensures kept { IfOk result (λ t. t ≡ Taken.Stops → token.new ≡ token.old) }
+    {
+        let focus = mem::replace(&mut self.focus, Focus::Empty);
+        match step(alloc, &mut self.frames, focus, token)? {
+            Step::Goes(focus) => {
+                self.put(focus);
+                Ok(if is_low(&self.frames, &self.focus) {
+                    Taken::Goes
+                } else {
+                    Taken::High
+                })
+            }
+            Step::Stops(focus) => {
+                self.put(focus);
+                Ok(Taken::Stops)
+            }
+        }
     }
 }
 
@@ -85,21 +121,10 @@ impl Reader for UnitReader {
         ensures taken { IfOk result (λ t. Takes machine_of_units greatest_height (unit_state self.old) token.old t (unit_state self.new)) }
         ensures kept { IfOk result (λ t. t ≡ Taken.Stops → token.new ≡ token.old) }
     {
-        let focus = mem::replace(&mut self.focus, Focus::Empty);
-        match step(alloc, &mut self.frames, focus, token)? {
-            Step::Goes(focus) => {
-                self.put(focus);
-                Ok(if is_low(&self.frames, &self.focus) {
-                    Taken::Goes
-                } else {
-                    Taken::High
-                })
-            }
-            Step::Stops(focus) => {
-                self.put(focus);
-                Ok(Taken::Stops)
-            }
+        if is_foreign(&token.kind) {
+            return Ok(Taken::Stops);
         }
+        self.take_step(alloc, token)
     }
 
     fn finish(self, alloc: Global) -> Result<Option<RawUnit>, AllocError>
