@@ -13,6 +13,7 @@ mod ProgramNodes
 mod LimitLaws
 mod DeclTaken
 mod DeclTokens
+mod DeclEnds
 mod ProgramSteps
 mod Front
 mod ProgramParsed

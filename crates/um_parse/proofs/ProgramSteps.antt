@@ -1,9 +1,7 @@
 -- The token that the last declaration of a program has refused, told by what the next declaration gives.
-use Rattle.std.proofs.Common.{◌≡◌, ◌≤◌, List, [], ◌∷◌, ◌++◌, map, Option, Some, false, cond, sym, ap, subst, ◌∙◌, arith}
-use Rattle.std.proofs.lemmas.List.{map-append}
+use Rattle.std.proofs.Common.{◌≡◌, ◌≤◌, List, [], ◌∷◌, ◌++◌, Option, Some, false, cond, sym, ap, subst, ◌∙◌, arith}
 use Rattle.um_syntax.specs.declared.token.Token.{Token}
-use Rattle.um_tree.specs.declared.raw.RawDecl.{RawDecl}
-use Rattle.um_tree.specs.RawTree.{DeclSyntax, decl_syntax}
+use Rattle.um_tree.specs.RawTree.{DeclSyntax}
 use Rattle.um_reader.specs.Takes.{Gives, Takes}
 use Rattle.um_reader.specs.declared.taken.Taken.{Taken}
 use Rattle.um_reader.specs.declared.taken.Taken.TheVariants as taken
@@ -36,28 +34,23 @@ next_gives decls old mid token left given new begun t same gives =
     subst (λ n. Gives machine_of_programs greatest_height (InProgram decls old) n given new) e (gives (InProgram decls old) whole)
 
 -- a declaration ends there, and stands behind the others
-module _ (earlier new : List RawDecl) (d : RawDecl) (s : DeclState) (pushed : new ≡ earlier ++ d ∷ []) (begun : s ≡ Expects DeclBegin) where
-  one_more : map decl_syntax new ≡ map decl_syntax earlier ++ decl_syntax d ∷ []
-  one_more = ap (map decl_syntax) pushed ∙ map-append decl_syntax earlier (d ∷ [])
-
-  pub more_low : program_height (map decl_syntax earlier) ≤ greatest_height → decl_height (decl_syntax d) ≤ greatest_height → program_least (InProgram (map decl_syntax new) s) ≤ greatest_height
+module _ (earlier new : List DeclSyntax) (d : DeclSyntax) (s : DeclState) (pushed : new ≡ earlier ++ d ∷ []) (begun : s ≡ Expects DeclBegin) where
+  pub more_low : program_height earlier ≤ greatest_height → decl_height d ≤ greatest_height → program_least (InProgram new s) ≤ greatest_height
   more_low low high =
-      let last = height_last (map decl_syntax earlier) (decl_syntax d) in
-      let heights = ap program_height one_more in
+      let last = height_last earlier d in
+      let heights = ap program_height pushed in
       let least = ap decl_least begun in
       omega (arith, low, high, last, heights, least)
 
-  pub one_ends : (found : Option DeclSyntax) (token : Token) (given : Taken) (last : ProgramState) → found ≡ Some (decl_syntax d)
-      → Takes machine_of_programs greatest_height (InProgram (map decl_syntax new) s) token given last → (st : ProgramState) → program_finish st ≡ program_found (map decl_syntax earlier) found
-      → Gives machine_of_programs greatest_height st (next_decl (map decl_syntax earlier) found (decl_step (Expects DeclBegin) token)) given last
+  pub one_ends : (found : Option DeclSyntax) (token : Token) (given : Taken) (last : ProgramState) → found ≡ Some d
+      → Takes machine_of_programs greatest_height (InProgram new s) token given last → (st : ProgramState) → program_finish st ≡ program_found earlier found
+      → Gives machine_of_programs greatest_height st (next_decl earlier found (decl_step (Expects DeclBegin) token)) given last
   one_ends found token given last is t st whole =
-      let texts : List DeclSyntax = map decl_syntax new in
-      let others : List DeclSyntax = map decl_syntax earlier in
       let next : DeclState = decl_step (Expects DeclBegin) token in
-      let ends : program_finish (InProgram texts s) ≡ program_finish st =
-      ap (λ x. program_finish (InProgram texts x)) begun ∙ ap (λ ds. Some ds) one_more ∙ ap (program_found others) (sym is) ∙ sym whole
+      let ends : program_finish (InProgram new s) ≡ program_finish st =
+      ap (λ x. program_finish (InProgram new x)) begun ∙ ap (λ ds. Some ds) pushed ∙ ap (program_found earlier) (sym is) ∙ sym whole
       in
-      let e : program_step (InProgram texts s) token ≡ next_decl others found next =
-      ap (λ x. program_step (InProgram texts x) token) begun ∙ ap (λ ds. program_goes ds next NoProgram) one_more ∙ ap (λ o. next_decl others o next) (sym is)
+      let e : program_step (InProgram new s) token ≡ next_decl earlier found next =
+      ap (λ x. program_step (InProgram new x) token) begun ∙ ap (λ ds. program_goes ds next NoProgram) pushed ∙ ap (λ o. next_decl earlier o next) (sym is)
       in
-      gives_as machine_of_programs greatest_height (InProgram texts s) st (program_step (InProgram texts s) token) (next_decl others found next) given last ends e t
+      gives_as machine_of_programs greatest_height (InProgram new s) st (program_step (InProgram new s) token) (next_decl earlier found next) given last ends e t

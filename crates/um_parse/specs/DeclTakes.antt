@@ -1,15 +1,16 @@
 -- The states of readers of declarations and of programs.
 -- Source: this project's own.
-use Rattle.std.specs.Prelude.{◌≡◌, ◌≤◌, map, Some}
+use Rattle.std.specs.Prelude.{◌≡◌, ◌≤◌, Bool, cond, List, map, Option, Some, None}
 use Rattle.um_syntax.specs.declared.token.Token.{Token}
-use Rattle.um_tree.specs.RawTree.{TypeSyntax, decl_syntax}
+use Rattle.um_tree.specs.declared.raw.RawDecl.{RawDecl}
+use Rattle.um_tree.specs.RawTree.{TypeSyntax, DeclSyntax, decl_syntax}
 use Rattle.um_types.specs.UnitStops.{greatest_height}
 use Rattle.um_types.specs.UnitView.{unit_state}
 use Rattle.um_types.specs.TypeHeights.{whole_height}
 use Rattle.um_types.specs.TypeMachine.{type_finish}
 use Rattle.um_expr.specs.ExprTokens.{expr_token}
 use Rattle.um_parse.specs.DeclMachine.{DeclState, Expects, HaveBase, InShort, FunctionVars, InField, InParam, InResult}
-use Rattle.um_parse.specs.DeclMachine.{NoDecl, ProgramState, InProgram, take_expected, base_after}
+use Rattle.um_parse.specs.DeclMachine.{NoDecl, ProgramState, InProgram, take_expected, base_after, program_found}
 use Rattle.um_parse.specs.DeclViews.{view_expected, record_state, function_state}
 use Rattle.um_parse.specs.declared.decl_reader.DeclReader.{DeclReader}
 use Rattle.um_parse.specs.declared.decl_reader.DeclReader.TheVariants as reader
@@ -39,6 +40,10 @@ IsLow (InField at x vs fs place y s) = (t : TypeSyntax) → type_finish s ≡ So
 IsLow (InParam head ps b s) = (t : TypeSyntax) → type_finish s ≡ Some t → whole_height t ≤ greatest_height
 IsLow (InResult head ps s) = (t : TypeSyntax) → type_finish s ≡ Some t → whole_height t ≤ greatest_height
 IsLow st = Unit {0}
+
+-- whether a declaration ended there: it stands behind the others
+abbrev pub Ends : Option DeclSyntax → Bool → List RawDecl → List RawDecl → Type 0
+Ends found whole old new = program_found (map decl_syntax old) found ≡ cond whole (Some (map decl_syntax new)) None
 
 -- the state of a reader of a program
 abbrev pub program_state : ProgramReader → ProgramState

@@ -1,17 +1,20 @@
 // A declaration that is read one token at a time. What is large stands in a box and is read in place.
-ghost use Rattle.std.specs.Prelude.{◌≡◌, ◌≤◌, [], IfOk, None, option_map};
-ghost use Rattle.um_tree.specs.RawTree.{unit_syntax, decl_syntax};
+ghost use Rattle.std.specs.Prelude.{◌≡◌, ◌≤◌, false, [], IfOk, Some, None, option_map};
+ghost use Rattle.um_tree.specs.RawTree.{unit_syntax, base_syntax, decl_syntax};
 ghost use Rattle.um_reader.specs.Takes.{Gives, Takes};
 ghost use Rattle.um_types.specs.UnitStops.{greatest_height};
-ghost use Rattle.um_types.specs.UnitMachine.{Need};
+ghost use Rattle.um_types.specs.UnitMachine.{Need, finish};
+ghost use Rattle.um_types.specs.UnitView.{unit_state};
+ghost use Rattle.um_expr.specs.ExprTokens.{expr_token};
 ghost use Rattle.um_parse.specs.DeclMachine.{Expects, DeclBegin, FunctionVars, HaveBase, InShort, NoDecl};
 ghost use Rattle.um_parse.specs.DeclMachine.{take_expected, take_params, started, base_after, short_found};
 ghost use Rattle.um_parse.specs.DeclMachine.{decl_finish, at_start};
 ghost use Rattle.um_parse.specs.ProgramLeast.{decl_least, machine_of_declarations};
 ghost use Rattle.um_parse.specs.DeclViews.{head_vars, view_expected, next_state, reached};
-ghost use Rattle.um_parse.specs.DeclTakes.{reader_state, head_step};
+ghost use Rattle.um_parse.specs.DeclTakes.{reader_state, head_step, Ends};
 ghost use Rattle.um_parse.specs.DeclTokens.{BeginsAlike, IfStops};
 
+use crate::decl_end::push_found;
 use crate::decl_function::{let_name, rec_name};
 use crate::decl_measure::{begin, take_measure};
 use crate::decl_prefix::{DeclExpected, Head, Next, Owner, VarExpected, in_box};
@@ -22,10 +25,10 @@ use crate::function_reader::FunctionReader;
 use crate::record_reader::RecordReader;
 use std::alloc::{AllocError, Global};
 use std::mem;
-use um_expr::{ExprToken, Infix};
+use um_expr::ExprToken;
 use um_reader::{Reader, Taken};
-use um_syntax::Token;
-use um_tree::{Name, RawDecl, RawUnit, Sign};
+use um_syntax::{Kind, Symbol, Token};
+use um_tree::{Name, RawDecl, RawUnit};
 use um_types::UnitReader;
 
 /// A declaration that has begun.
@@ -91,12 +94,41 @@ fn short_found(at: u32, name: Name, found: Option<RawUnit>) -> Option<RawDecl>
     }
 }
 
+// A measure goes behind these declarations.
+#[inline(never)]
+fn end_base(at: u32, name: Name, decls: &mut Vec<RawDecl>) -> Result<bool, AllocError>
+    ensures { IfOk result (λ whole. Ends (Some (base_syntax at name)) whole decls.old.items decls.new.items) }
+{
+    push_found(decls, Some(RawDecl::Base(at, name)))
+}
+
+// An abbreviation goes behind these declarations, if its unit text is whole. Whether it is.
+#[inline(never)]
+fn end_short(
+    alloc: Global,
+    at: u32,
+    name: Name,
+    unit: Box<UnitReader>,
+    decls: &mut Vec<RawDecl>,
+) -> Result<bool, AllocError>
+    ensures { IfOk result (λ whole.
+        Ends (short_found at name (finish (unit_state unit.value))) whole decls.old.items decls.new.items) }
+{
+    match Box::into_inner(unit).finish(alloc) {
+        Ok(found) => push_found(decls, short_found(at, name, found)),
+        Err(error) => {
+            drop(name);
+            Err(error)
+        }
+    }
+}
+
 // No declaration ends here.
-fn unfinished(reader: DeclReader) -> Option<RawDecl>
-    ensures { result ≡ None }
+fn unfinished(reader: DeclReader) -> bool
+    ensures { result ≡ false }
 {
     drop(reader);
-    None
+    false
 }
 
 impl DeclReader {
@@ -142,34 +174,37 @@ impl DeclReader {
             (head_step self.old token.old) t (reader_state self.new)) }
         ensures kept { BeginsAlike token.new token.old }
     {
-        let p = token.start;
-        let kind = kind_of(alloc, token);
         match mem::replace(self, DeclReader::Nothing) {
             DeclReader::At(expected) => {
+                let p = token.start;
+                let kind = kind_of(alloc, token);
                 let next = next_at(alloc, expected, kind, p)?;
                 self.follow(alloc, next)
             }
-            DeclReader::Base(at, name) => self.behind_base(alloc, at, name, kind),
+            DeclReader::Base(at, name) => self.behind_base(alloc, at, name, token),
             DeclReader::Named(recursive, at, name) => {
-                self.behind_name(alloc, recursive, at, name, kind, p)
+                self.behind_name(alloc, recursive, at, name, token)
             }
-            other => Ok(self.stay(other, kind)),
+            other => Ok(self.stay(other)),
         }
     }
 
-    // What is read from here on.
+    // What is read from here on. Where nothing was, there is nothing to let go.
+    #[inline(always)]
     fn put(&mut self, reader: DeclReader)
         ensures { self.new ≡ reader }
     {
-        drop(mem::replace(self, reader));
+        match self {
+            DeclReader::Nothing => mem::forget(mem::replace(self, reader)),
+            _ => drop(mem::replace(self, reader)),
+        }
     }
 
     // The token is refused, and the reader ends as before it.
-    fn stay(&mut self, reader: DeclReader, kind: ExprToken) -> Taken
+    fn stay(&mut self, reader: DeclReader) -> Taken
         ensures { Gives machine_of_declarations greatest_height (reader_state reader) NoDecl
             result (reader_state self.new) }
     {
-        drop(kind);
         self.put(reader);
         Taken::Stops
     }
@@ -196,14 +231,14 @@ impl DeclReader {
         alloc: Global,
         at: u32,
         name: Name,
-        kind: ExprToken,
+        token: &Token,
     ) -> Result<Taken, AllocError>
         ensures { IfOk result (λ t. Gives machine_of_declarations greatest_height (HaveBase at name)
-            (base_after at name kind) t (reader_state self.new)) }
+            (base_after at name (expr_token token.now.kind)) t (reader_state self.new)) }
     {
-        match kind {
-            ExprToken::Operator(Infix::Compare(Sign::Eq)) => self.begin_short(alloc, at, name),
-            other => Ok(self.stay(DeclReader::Base(at, name), other)),
+        match &token.kind {
+            Kind::Sign(Symbol::Equal) => self.begin_short(alloc, at, name),
+            _ => Ok(self.stay(DeclReader::Base(at, name))),
         }
     }
 
@@ -231,21 +266,21 @@ impl DeclReader {
         recursive: bool,
         at: u32,
         name: Name,
-        kind: ExprToken,
-        p: u32,
+        token: &Token,
     ) -> Result<Taken, AllocError>
         requires nothing { decl_finish (reader_state self.old) ≡ None }
         ensures { IfOk result (λ t. Gives machine_of_declarations greatest_height NoDecl
-            (take_expected (FunctionVars recursive at name) kind p) t (reader_state self.new)) }
+            (take_expected (FunctionVars recursive at name) (expr_token token.now.kind) token.now.start)
+            t (reader_state self.new)) }
     {
         let head = Head::plain(alloc, at, name);
-        match kind {
-            ExprToken::Operator(Infix::Compare(Sign::Lt)) => {
+        match &token.kind {
+            Kind::Sign(Symbol::Less) => {
                 let owner = Owner::Function(recursive);
                 self.put(DeclReader::At(DeclExpected::Var(owner, head, VarExpected::Begin)));
                 Ok(Taken::Goes)
             }
-            other => self.begin_params(alloc, recursive, head, other),
+            _ => self.begin_params(alloc, recursive, head, token),
         }
     }
 
@@ -255,36 +290,28 @@ impl DeclReader {
         alloc: Global,
         recursive: bool,
         head: Head,
-        kind: ExprToken,
+        token: &Token,
     ) -> Result<Taken, AllocError>
         ensures { IfOk result (λ t. Gives machine_of_declarations greatest_height NoDecl
-            (take_params (started recursive head.at head.name (head_vars head)) [] kind) t (reader_state self.new)) }
+            (take_params (started recursive head.at head.name (head_vars head)) [] (expr_token token.now.kind))
+            t (reader_state self.new)) }
     {
-        match FunctionReader::new(alloc, recursive, head) {
-            Ok(mut function) => {
-                let taken = function.take_params(alloc, kind);
-                self.put(DeclReader::Function(function));
-                taken
-            }
-            Err(error) => {
-                drop(kind);
-                Err(error)
-            }
-        }
+        let mut function = FunctionReader::new(alloc, recursive, head)?;
+        let taken = function.take_params(alloc, token);
+        self.put(DeclReader::Function(function));
+        taken
     }
 
-    /// The declaration where all is read, if it is one.
-    pub fn finish(self, alloc: Global) -> Result<Option<RawDecl>, AllocError>
-        ensures found { IfOk result (λ o. option_map decl_syntax o ≡ decl_finish (reader_state self)) }
+    /// The declaration where all is read goes behind these, if it is one. Whether it is.
+    pub fn finish(self, alloc: Global, decls: &mut Vec<RawDecl>) -> Result<bool, AllocError>
+        ensures found { IfOk result (λ whole.
+            Ends (decl_finish (reader_state self)) whole decls.old.items decls.new.items) }
     {
         match self {
-            DeclReader::Base(at, name) => Ok(Some(RawDecl::Base(at, name))),
-            DeclReader::Short(at, name, unit) => {
-                let found = Box::into_inner(unit).finish(alloc)?;
-                Ok(short_found(at, name, found))
-            }
-            DeclReader::Record(record) => Ok(Box::into_inner(record).finish()),
-            DeclReader::Function(function) => Box::into_inner(function).finish(alloc),
+            DeclReader::Base(at, name) => end_base(at, name, decls),
+            DeclReader::Short(at, name, unit) => end_short(alloc, at, name, unit, decls),
+            DeclReader::Record(record) => RecordReader::finish(record, decls),
+            DeclReader::Function(function) => FunctionReader::finish(function, alloc, decls),
             other => Ok(unfinished(other)),
         }
     }

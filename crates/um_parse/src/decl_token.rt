@@ -26,14 +26,6 @@ pub fn kind_of(alloc: Global, token: &mut Token) -> ExprToken
     ExprToken::of_kind(alloc, &mut token.kind)
 }
 
-/// A token that can't stand here.
-pub fn stops(kind: ExprToken) -> Taken
-    ensures { result ≡ Taken.Stops }
-{
-    drop(kind);
-    Taken::Stops
-}
-
 /// One token more of a type, which is left as it was where it is refused.
 pub fn take_in_type(
     ty: &mut TypeReader,

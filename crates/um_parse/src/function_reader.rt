@@ -4,15 +4,16 @@ ghost use Rattle.um_tree.specs.RawTree.{param_syntax, written_type};
 ghost use Rattle.um_types.specs.UnitStops.{greatest_height};
 ghost use Rattle.um_parse.specs.ProgramHeights.{params_height, result_height};
 
+use crate::decl_end::push_decl;
 use crate::decl_prefix::{Head, in_box};
-use crate::decl_token::{finish_type, kind_of, stops, take_in_type};
+use crate::decl_token::{finish_type, take_in_type};
 use std::alloc::{AllocError, Global};
 use std::mem;
-use um_expr::{ExprReader, ExprToken, Infix};
+use um_expr::ExprReader;
 use um_reader::{Reader, Taken};
-use um_syntax::{Symbol, Token};
-use um_tree::{Binder, RawDecl, RawExpr, RawFunction, RawParam, RawParams, RawType, Sign};
-use um_types::TypeReader;
+use um_syntax::{Kind, Symbol, Token};
+use um_tree::{Binder, RawDecl, RawExpr, RawFunction, RawParam, RawParams, RawType};
+use um_types::{TypeReader, name_of};
 
 /// The body of a function, and its result type, if it has one, not too high.
 #[derive(Drop)]
@@ -83,19 +84,20 @@ impl FunctionBody {
 
 impl FunctionReader {
     ghost use Rattle.std.specs.Prelude.{◌≡◌, [], IfOk, Some, option_map};
-    ghost use Rattle.um_tree.specs.RawTree.{TypeSyntax, binder_syntax, decl_syntax, expr_syntax, type_syntax};
+    ghost use Rattle.um_tree.specs.RawTree.{TypeSyntax, binder_syntax, expr_syntax, type_syntax};
     ghost use Rattle.um_reader.specs.Takes.{Gives, Takes};
     ghost use Rattle.um_types.specs.TypeHeights.{whole_height};
     ghost use Rattle.um_types.specs.TypeMachine.{NeedType, type_finish};
     ghost use Rattle.um_types.specs.TypeView.{type_state};
     ghost use Rattle.um_expr.specs.ExprMachine.{Need, finish};
     ghost use Rattle.um_expr.specs.ExprStates.{expr_state};
+    ghost use Rattle.um_expr.specs.ExprTokens.{expr_token};
     ghost use Rattle.um_parse.specs.DeclMachine.{NoDecl, ParamBinder, ParamColon, InBody, started, take_expected};
     ghost use Rattle.um_parse.specs.DeclMachine.{take_params, body_begins, param_ends, result_ends, body_found};
     ghost use Rattle.um_parse.specs.DeclMachine.{own_step, decl_finish};
     ghost use Rattle.um_parse.specs.ProgramLeast.{decl_least, machine_of_declarations};
     ghost use Rattle.um_parse.specs.DeclViews.{head_vars, start_in, read_params, param_state, function_state};
-    ghost use Rattle.um_parse.specs.DeclTakes.{IsLow};
+    ghost use Rattle.um_parse.specs.DeclTakes.{IsLow, Ends};
     ghost use Rattle.um_parse.specs.DeclTokens.{BeginsAlike, IfStops};
 
     /// No parameter was read, in a box.
@@ -154,27 +156,29 @@ impl FunctionReader {
             (own_step (function_state self.old) token.old) t (function_state self.new)) }
         ensures kept { BeginsAlike token.new token.old }
     {
-        let p = token.start;
-        let kind = kind_of(alloc, token);
         match mem::replace(&mut self.expected, FunctionExpected::Params) {
-            FunctionExpected::Params => self.take_params(alloc, kind),
-            FunctionExpected::Binder => Ok(self.take_binder(kind, p)),
-            FunctionExpected::Colon(binder) => Ok(self.take_colon(binder, kind, p)),
-            FunctionExpected::Param(binder) => self.end_param(binder, kind),
-            FunctionExpected::Result => self.end_result(alloc, kind),
+            FunctionExpected::Params => self.take_params(alloc, token),
+            FunctionExpected::Binder => Ok(self.take_binder(alloc, token)),
+            FunctionExpected::Colon(binder) => Ok(self.take_colon(binder, token)),
+            FunctionExpected::Param(binder) => self.end_param(binder, token),
+            FunctionExpected::Result => self.end_result(alloc, token),
             FunctionExpected::Body(body) => {
                 self.put(FunctionExpected::Body(body));
-                Ok(stops(kind))
+                Ok(Taken::Stops)
             }
         }
     }
 
-    // What is expected from here on.
+    // What is expected from here on. Behind the parameters there is nothing to let go.
+    #[inline(always)]
     fn put(&mut self, expected: FunctionExpected)
         ensures { function_state self.new
             ≡ param_state (start_in self.old) (read_params self.old) (type_state self.old.ty) expected }
     {
-        self.expected = expected;
+        match &self.expected {
+            FunctionExpected::Params => mem::forget(mem::replace(&mut self.expected, expected)),
+            _ => drop(mem::replace(&mut self.expected, expected)),
+        }
     }
 
     // A type is read from here on.
@@ -199,22 +203,23 @@ impl FunctionReader {
     }
 
     /// The token behind the parameters, or the name.
-    pub fn take_params(&mut self, alloc: Global, kind: ExprToken) -> Result<Taken, AllocError>
+    pub fn take_params(&mut self, alloc: Global, token: &Token) -> Result<Taken, AllocError>
         requires wanted { self.old.expected ≡ FunctionExpected.Params }
         ensures { IfOk result (λ t. Gives machine_of_declarations greatest_height NoDecl
-            (take_params (start_in self.old) (read_params self.old) kind) t (function_state self.new)) }
+            (take_params (start_in self.old) (read_params self.old) (expr_token token.now.kind))
+            t (function_state self.new)) }
     {
-        match kind {
-            ExprToken::Mark(Symbol::LeftParen) => {
+        match &token.kind {
+            Kind::Sign(Symbol::LeftParen) => {
                 self.put(FunctionExpected::Binder);
                 Ok(Taken::Goes)
             }
-            ExprToken::Mark(Symbol::Colon) => {
+            Kind::Sign(Symbol::Colon) => {
                 self.begin_type(FunctionExpected::Result);
                 Ok(Taken::Goes)
             }
-            ExprToken::Operator(Infix::Compare(Sign::Eq)) => self.take_equal(alloc),
-            other => Ok(stops(other)),
+            Kind::Sign(Symbol::Equal) => self.take_equal(alloc),
+            _ => Ok(Taken::Stops),
         }
     }
 
@@ -231,97 +236,102 @@ impl FunctionReader {
     }
 
     // The token behind the `(` of a parameter.
-    fn take_binder(&mut self, kind: ExprToken, p: u32) -> Taken
+    fn take_binder(&mut self, alloc: Global, token: &mut Token) -> Taken
         requires wanted { self.old.expected ≡ FunctionExpected.Params }
-        ensures { Gives machine_of_declarations greatest_height NoDecl
-            (take_expected (ParamBinder (start_in self.old) (read_params self.old)) kind p)
+        ensures taken { Gives machine_of_declarations greatest_height NoDecl
+            (take_expected (ParamBinder (start_in self.old) (read_params self.old))
+            (expr_token token.old.kind) token.old.start)
             result (function_state self.new) }
+        ensures kept { BeginsAlike token.new token.old }
     {
-        match kind {
-            ExprToken::Name(name) => {
-                let name = Some(name);
-                self.put(FunctionExpected::Colon(Binder { at: p, name }));
+        let at = token.start;
+        match &mut token.kind {
+            Kind::Name(letters) => {
+                let name = Some(name_of(letters.take(alloc)));
+                self.put(FunctionExpected::Colon(Binder { at, name }));
                 Taken::Goes
             }
-            ExprToken::Hole => {
-                self.put(FunctionExpected::Colon(Binder { at: p, name: None }));
+            Kind::Hole => {
+                self.put(FunctionExpected::Colon(Binder { at, name: None }));
                 Taken::Goes
             }
-            other => stops(other),
+            _ => Taken::Stops,
         }
     }
 
     // The token behind the binder of a parameter.
-    fn take_colon(&mut self, binder: Binder, kind: ExprToken, p: u32) -> Taken
+    fn take_colon(&mut self, binder: Binder, token: &Token) -> Taken
         requires wanted { self.old.expected ≡ FunctionExpected.Params }
         ensures { Gives machine_of_declarations greatest_height NoDecl
-            (take_expected (ParamColon (start_in self.old) (read_params self.old) (binder_syntax binder)) kind p)
+            (take_expected (ParamColon (start_in self.old) (read_params self.old) (binder_syntax binder))
+            (expr_token token.now.kind) token.now.start)
             result (function_state self.new) }
     {
-        match kind {
-            ExprToken::Mark(Symbol::Colon) => {
+        match &token.kind {
+            Kind::Sign(Symbol::Colon) => {
                 self.begin_type(FunctionExpected::Param(binder));
                 Taken::Goes
             }
-            other => {
+            _ => {
                 drop(binder);
-                stops(other)
+                Taken::Stops
             }
         }
     }
 
     // The token that the type of a parameter has refused.
-    fn end_param(&mut self, binder: Binder, kind: ExprToken) -> Result<Taken, AllocError>
+    fn end_param(&mut self, binder: Binder, token: &Token) -> Result<Taken, AllocError>
         requires wanted { self.old.expected ≡ FunctionExpected.Params }
         requires low { (t : TypeSyntax) → type_finish (type_state self.old.ty) ≡ Some t
             → whole_height t ≤ greatest_height }
         ensures { IfOk result (λ t. Gives machine_of_declarations greatest_height NoDecl
             (param_ends (start_in self.old) (read_params self.old) (binder_syntax binder)
-            (type_finish (type_state self.old.ty)) kind)
+            (type_finish (type_state self.old.ty)) (expr_token token.now.kind))
             t (function_state self.new)) }
     {
         match finish_type(&mut self.ty) {
-            Some(ty) => self.behind_param(RawParam { binder, ty }, kind),
+            Some(ty) => self.behind_param(RawParam { binder, ty }, token),
             None => {
                 drop(binder);
-                Ok(stops(kind))
+                Ok(Taken::Stops)
             }
         }
     }
 
     // The token behind the type of a parameter.
-    fn behind_param(&mut self, param: RawParam, kind: ExprToken) -> Result<Taken, AllocError>
+    fn behind_param(&mut self, param: RawParam, token: &Token) -> Result<Taken, AllocError>
         requires wanted { self.old.expected ≡ FunctionExpected.Params }
         requires low { whole_height (type_syntax param.ty) ≤ greatest_height }
         ensures { IfOk result (λ t. Gives machine_of_declarations greatest_height NoDecl
             (param_ends (start_in self.old) (read_params self.old) (binder_syntax param.binder)
-            (Some (type_syntax param.ty)) kind)
+            (Some (type_syntax param.ty)) (expr_token token.now.kind))
             t (function_state self.new)) }
     {
-        match kind {
-            ExprToken::Mark(Symbol::RightParen) => {
+        match &token.kind {
+            Kind::Sign(Symbol::RightParen) => {
                 self.params.items.push(param)?;
                 Ok(Taken::Goes)
             }
-            other => {
+            _ => {
                 drop(param);
-                Ok(stops(other))
+                Ok(Taken::Stops)
             }
         }
     }
 
     // The token that the result type has refused.
-    fn end_result(&mut self, alloc: Global, kind: ExprToken) -> Result<Taken, AllocError>
+    fn end_result(&mut self, alloc: Global, token: &Token) -> Result<Taken, AllocError>
         requires wanted { self.old.expected ≡ FunctionExpected.Params }
         requires low { (t : TypeSyntax) → type_finish (type_state self.old.ty) ≡ Some t
             → whole_height t ≤ greatest_height }
         ensures { IfOk result (λ t. Gives machine_of_declarations greatest_height NoDecl
-            (result_ends (start_in self.old) (read_params self.old) (type_finish (type_state self.old.ty)) kind)
+            (result_ends (start_in self.old) (read_params self.old) (type_finish (type_state self.old.ty))
+            (expr_token token.now.kind))
             t (function_state self.new)) }
     {
         match finish_type(&mut self.ty) {
-            Some(ty) => self.behind_result(alloc, ty, kind),
-            None => Ok(stops(kind)),
+            Some(ty) => self.behind_result(alloc, ty, token),
+            None => Ok(Taken::Stops),
         }
     }
 
@@ -330,27 +340,97 @@ impl FunctionReader {
         &mut self,
         alloc: Global,
         ty: RawType,
-        kind: ExprToken,
+        token: &Token,
     ) -> Result<Taken, AllocError>
         requires wanted { self.old.expected ≡ FunctionExpected.Params }
         requires low { whole_height (type_syntax ty) ≤ greatest_height }
         ensures { IfOk result (λ t. Gives machine_of_declarations greatest_height NoDecl
-            (result_ends (start_in self.old) (read_params self.old) (Some (type_syntax ty)) kind)
+            (result_ends (start_in self.old) (read_params self.old) (Some (type_syntax ty))
+            (expr_token token.now.kind))
             t (function_state self.new)) }
     {
-        match kind {
-            ExprToken::Operator(Infix::Compare(Sign::Eq)) => self.begin_body(alloc, Some(ty)),
-            other => {
+        match &token.kind {
+            Kind::Sign(Symbol::Equal) => self.begin_body(alloc, Some(ty)),
+            _ => {
                 drop(ty);
-                Ok(stops(other))
+                Ok(Taken::Stops)
             }
         }
     }
 
-    // The function, where its body was found.
-    fn with_body(self, written: Option<RawType>, found: Option<RawExpr>) -> Option<RawDecl>
-        ensures { option_map decl_syntax result
-            ≡ body_found (start_in self) (read_params self) (written_type written) (option_map expr_syntax found) }
+    // The function goes behind these declarations, where its body was found. Whether it was.
+    fn with_body(
+        recursive: bool,
+        head: Head,
+        params: RawParams,
+        written: Option<RawType>,
+        found: Option<RawExpr>,
+        decls: &mut Vec<RawDecl>,
+    ) -> Result<bool, AllocError>
+        ensures { IfOk result (λ whole. Ends (body_found (started recursive head.at head.name (head_vars head))
+            (map param_syntax params.items.items) (written_type written) (option_map expr_syntax found))
+            whole decls.old.items decls.new.items) }
+    {
+        match found {
+            Some(body) => {
+                let function = RawFunction {
+                    at: head.at,
+                    name: head.name,
+                    recursive,
+                    units: head.vars,
+                    params,
+                    result: written,
+                    body,
+                };
+                push_decl(decls, RawDecl::Function(function))?;
+                Ok(true)
+            }
+            None => {
+                drop(head);
+                drop(params);
+                drop(written);
+                Ok(false)
+            }
+        }
+    }
+
+    // The function where its body ends goes behind these declarations, if the body is whole. Whether it is.
+    fn end_body(
+        alloc: Global,
+        recursive: bool,
+        head: Head,
+        params: RawParams,
+        body: FunctionBody,
+        decls: &mut Vec<RawDecl>,
+    ) -> Result<bool, AllocError>
+        ensures { IfOk result (λ whole. Ends (body_found (started recursive head.at head.name (head_vars head))
+            (map param_syntax params.items.items) (written_type body.result) (finish (expr_state body.body)))
+            whole decls.old.items decls.new.items) }
+    {
+        let FunctionBody {
+            result: written,
+            body,
+        } = body;
+        match body.finish(alloc) {
+            Ok(found) => FunctionReader::with_body(recursive, head, params, written, found, decls),
+            Err(error) => {
+                drop(head);
+                drop(params);
+                drop(written);
+                Err(error)
+            }
+        }
+    }
+
+    /// The function where all is read goes behind these declarations, if it is whole. Whether it is.
+    #[inline(never)]
+    pub fn finish(
+        function: Box<FunctionReader>,
+        alloc: Global,
+        decls: &mut Vec<RawDecl>,
+    ) -> Result<bool, AllocError>
+        ensures { IfOk result (λ whole.
+            Ends (decl_finish (function_state function.value)) whole decls.old.items decls.new.items) }
     {
         let FunctionReader {
             recursive,
@@ -358,59 +438,18 @@ impl FunctionReader {
             params,
             expected,
             ty,
-        } = self;
-        drop(expected);
+        } = Box::into_inner(function);
         drop(ty);
-        match found {
-            Some(body) => Some(RawDecl::Function(RawFunction {
-                at: head.at,
-                name: head.name,
-                recursive,
-                units: head.vars,
-                params,
-                result: written,
-                body,
-            })),
-            None => {
+        match expected {
+            FunctionExpected::Body(body) => {
+                let body = Box::into_inner(body);
+                FunctionReader::end_body(alloc, recursive, head, params, body, decls)
+            }
+            other => {
                 drop(head);
                 drop(params);
-                drop(written);
-                None
-            }
-        }
-    }
-
-    // The function where its body ends.
-    fn end_body(self, alloc: Global, body: FunctionBody) -> Result<Option<RawDecl>, AllocError>
-        ensures { IfOk result (λ o. option_map decl_syntax o
-            ≡ body_found (start_in self) (read_params self) (written_type body.result)
-            (finish (expr_state body.body))) }
-    {
-        let FunctionBody {
-            result: written,
-            body,
-        } = body;
-        match body.finish(alloc) {
-            Ok(found) => Ok(self.with_body(written, found)),
-            Err(error) => {
-                drop(self);
-                drop(written);
-                Err(error)
-            }
-        }
-    }
-
-    /// The function where all is read, if it is whole.
-    pub fn finish(self, alloc: Global) -> Result<Option<RawDecl>, AllocError>
-        ensures { IfOk result (λ o. option_map decl_syntax o ≡ decl_finish (function_state self)) }
-    {
-        let mut function = self;
-        match mem::replace(&mut function.expected, FunctionExpected::Params) {
-            FunctionExpected::Body(body) => function.end_body(alloc, Box::into_inner(body)),
-            other => {
-                drop(function);
                 drop(other);
-                Ok(None)
+                Ok(false)
             }
         }
     }

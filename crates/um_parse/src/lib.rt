@@ -6,6 +6,7 @@
 //! ```
 #![tactic(auto)]
 
+mod decl_end;
 mod decl_function;
 mod decl_measure;
 mod decl_prefix;

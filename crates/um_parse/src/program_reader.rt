@@ -1,5 +1,5 @@
 // A program that is read one token at a time.
-ghost use Rattle.std.specs.Prelude.{◌≡◌, ◌≤◌, IfOk, Some, map, option_map};
+ghost use Rattle.std.specs.Prelude.{◌≡◌, ◌≤◌, IfOk, Some, None, cond, map, option_map};
 ghost use Rattle.um_tree.specs.RawTree.{decl_syntax, program_syntax};
 ghost use Rattle.um_parse.specs.DeclMachine.{program_found};
 
@@ -17,20 +17,15 @@ pub struct ProgramReader {
     last: DeclReader,
 }
 
-// The program, with the last declaration, if one was found.
-fn with_last(decls: Vec<RawDecl>, last: Option<RawDecl>) -> Result<Option<RawProgram>, AllocError>
-    ensures { IfOk result (λ o. option_map program_syntax o ≡ program_found (map decl_syntax decls.items) (option_map decl_syntax last)) }
+// The program of these declarations, if the last one is whole.
+fn program_of(decls: Vec<RawDecl>, whole: bool) -> Option<RawProgram>
+    ensures { option_map program_syntax result ≡ cond whole (Some (map decl_syntax decls.items)) None }
 {
-    let mut items = decls;
-    match last {
-        Some(decl) => {
-            items.push(decl)?;
-            Ok(Some(RawProgram { items }))
-        }
-        None => {
-            drop(items);
-            Ok(None)
-        }
+    if whole {
+        Some(RawProgram { items: decls })
+    } else {
+        drop(decls);
+        None
     }
 }
 
@@ -68,15 +63,12 @@ impl ProgramReader {
         ensures { IfOk result (λ t. (old : ProgramState) → program_finish old ≡ program_found (map decl_syntax self.old.decls.items) (decl_finish (reader_state self.old.last)) → Gives machine_of_programs greatest_height old (next_decl (map decl_syntax self.old.decls.items) (decl_finish (reader_state self.old.last)) (decl_step (Expects DeclBegin) token.old)) t (program_state self.new)) }
     {
         let last = mem::replace(&mut self.last, DeclReader::new());
-        match last.finish(alloc)? {
-            Some(decl) => {
-                self.decls.push(decl)?;
-                self.begin(alloc, token)
-            }
-            None => {
-                drop(mem::replace(&mut self.last, DeclReader::Nothing));
-                Ok(Taken::Stops)
-            }
+        let whole = last.finish(alloc, &mut self.decls)?;
+        if whole {
+            self.begin(alloc, token)
+        } else {
+            drop(mem::replace(&mut self.last, DeclReader::Nothing));
+            Ok(Taken::Stops)
         }
     }
 }
@@ -144,8 +136,9 @@ impl Reader for ProgramReader {
             drop(last);
             return Ok(Some(RawProgram { items: decls }));
         }
-        match last.finish(alloc) {
-            Ok(found) => with_last(decls, found),
+        let mut decls = decls;
+        match last.finish(alloc, &mut decls) {
+            Ok(whole) => Ok(program_of(decls, whole)),
             Err(error) => {
                 drop(decls);
                 Err(error)

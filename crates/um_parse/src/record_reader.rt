@@ -4,15 +4,15 @@ ghost use Rattle.um_tree.specs.RawTree.{field_decl_syntax};
 ghost use Rattle.um_types.specs.UnitStops.{greatest_height};
 ghost use Rattle.um_parse.specs.ProgramHeights.{fields_height};
 
+use crate::decl_end::push_found;
 use crate::decl_prefix::{Head, in_box};
-use crate::decl_token::{finish_type, kind_of, stops, take_in_type};
+use crate::decl_token::{finish_type, take_in_type};
 use std::alloc::{AllocError, Global};
 use std::mem;
-use um_expr::ExprToken;
 use um_reader::Taken;
-use um_syntax::{Symbol, Token};
+use um_syntax::{Kind, Symbol, Token};
 use um_tree::{Name, RawDecl, RawFieldDecl, RawFieldDecls};
-use um_types::TypeReader;
+use um_types::{TypeReader, name_of};
 
 /// What is expected in a record.
 #[derive(Drop)]
@@ -42,11 +42,12 @@ impl RecordReader {
     ghost use Rattle.um_types.specs.TypeHeights.{whole_height};
     ghost use Rattle.um_types.specs.TypeMachine.{type_finish};
     ghost use Rattle.um_types.specs.TypeView.{type_state};
+    ghost use Rattle.um_expr.specs.ExprTokens.{expr_token};
     ghost use Rattle.um_parse.specs.DeclMachine.{NoDecl, Expects, FieldName, FieldColon, take_expected};
     ghost use Rattle.um_parse.specs.DeclMachine.{with_field_decl, field_ends, own_step, decl_finish};
     ghost use Rattle.um_parse.specs.ProgramLeast.{decl_least, machine_of_declarations};
     ghost use Rattle.um_parse.specs.DeclViews.{head_vars, read_fields, field_state, record_state};
-    ghost use Rattle.um_parse.specs.DeclTakes.{IsLow};
+    ghost use Rattle.um_parse.specs.DeclTakes.{IsLow, Ends};
     ghost use Rattle.um_parse.specs.DeclTokens.{BeginsAlike, IfStops};
 
     /// No field was read, in a box.
@@ -92,105 +93,110 @@ impl RecordReader {
             (own_step (record_state self.old) token.old) t (record_state self.new)) }
         ensures kept { BeginsAlike token.new token.old }
     {
-        let p = token.start;
-        let kind = kind_of(alloc, token);
         match mem::replace(&mut self.expected, FieldExpected::Name) {
-            FieldExpected::Name => Ok(self.take_name(kind, p)),
-            FieldExpected::Colon(at, name) => Ok(self.take_colon(at, name, kind, p)),
-            FieldExpected::Type(at, name) => self.end_field(at, name, kind),
+            FieldExpected::Name => Ok(self.take_name(alloc, token)),
+            FieldExpected::Colon(at, name) => Ok(self.take_colon(at, name, token)),
+            FieldExpected::Type(at, name) => self.end_field(at, name, token),
             FieldExpected::Nothing => {
                 self.put(FieldExpected::Nothing);
-                Ok(stops(kind))
+                Ok(Taken::Stops)
             }
         }
     }
 
-    // What is expected from here on.
+    // What is expected from here on. Where a name is, there is nothing to let go.
+    #[inline(always)]
     fn put(&mut self, expected: FieldExpected)
         ensures { record_state self.new
             ≡ field_state self.old.head (read_fields self.old) (type_state self.old.ty) expected }
     {
-        self.expected = expected;
+        match &self.expected {
+            FieldExpected::Name => mem::forget(mem::replace(&mut self.expected, expected)),
+            _ => drop(mem::replace(&mut self.expected, expected)),
+        }
     }
 
     // The token behind `{` or `;`.
-    fn take_name(&mut self, kind: ExprToken, p: u32) -> Taken
+    fn take_name(&mut self, alloc: Global, token: &mut Token) -> Taken
         requires wanted { self.old.expected ≡ FieldExpected.Name }
-        ensures { Gives machine_of_declarations greatest_height NoDecl
+        ensures taken { Gives machine_of_declarations greatest_height NoDecl
             (take_expected (FieldName self.old.head.at self.old.head.name (head_vars self.old.head)
-            (read_fields self.old)) kind p)
+            (read_fields self.old)) (expr_token token.old.kind) token.old.start)
             result (record_state self.new) }
+        ensures kept { BeginsAlike token.new token.old }
     {
-        match kind {
-            ExprToken::Name(name) => {
-                self.put(FieldExpected::Colon(p, name));
+        let at = token.start;
+        match &mut token.kind {
+            Kind::Name(letters) => {
+                let name = name_of(letters.take(alloc));
+                self.put(FieldExpected::Colon(at, name));
                 Taken::Goes
             }
-            other => stops(other),
+            _ => Taken::Stops,
         }
     }
 
     // The token behind the name of a field, at its place.
-    fn take_colon(&mut self, at: u32, name: Name, kind: ExprToken, p: u32) -> Taken
+    fn take_colon(&mut self, at: u32, name: Name, token: &Token) -> Taken
         requires wanted { self.old.expected ≡ FieldExpected.Name }
         ensures { Gives machine_of_declarations greatest_height NoDecl
             (take_expected (FieldColon self.old.head.at self.old.head.name (head_vars self.old.head)
-            (read_fields self.old) at name) kind p)
+            (read_fields self.old) at name) (expr_token token.now.kind) token.now.start)
             result (record_state self.new) }
     {
-        match kind {
-            ExprToken::Mark(Symbol::Colon) => {
+        match &token.kind {
+            Kind::Sign(Symbol::Colon) => {
                 self.ty = TypeReader::new();
                 self.put(FieldExpected::Type(at, name));
                 Taken::Goes
             }
-            other => {
+            _ => {
                 drop(name);
-                stops(other)
+                Taken::Stops
             }
         }
     }
 
     // The token that the type of a field has refused.
-    fn end_field(&mut self, at: u32, name: Name, kind: ExprToken) -> Result<Taken, AllocError>
+    fn end_field(&mut self, at: u32, name: Name, token: &Token) -> Result<Taken, AllocError>
         requires wanted { self.old.expected ≡ FieldExpected.Name }
         requires low { (t : TypeSyntax) → type_finish (type_state self.old.ty) ≡ Some t
             → whole_height t ≤ greatest_height }
         ensures { IfOk result (λ t. Gives machine_of_declarations greatest_height NoDecl
             (field_ends self.old.head.at self.old.head.name (head_vars self.old.head) (read_fields self.old) at name
-            (type_finish (type_state self.old.ty)) kind)
+            (type_finish (type_state self.old.ty)) (expr_token token.now.kind))
             t (record_state self.new)) }
     {
         match finish_type(&mut self.ty) {
-            Some(ty) => self.behind_field(RawFieldDecl { at, name, ty }, kind),
+            Some(ty) => self.behind_field(RawFieldDecl { at, name, ty }, token),
             None => {
                 drop(name);
-                Ok(stops(kind))
+                Ok(Taken::Stops)
             }
         }
     }
 
     // The token behind a field.
-    fn behind_field(&mut self, field: RawFieldDecl, kind: ExprToken) -> Result<Taken, AllocError>
+    fn behind_field(&mut self, field: RawFieldDecl, token: &Token) -> Result<Taken, AllocError>
         requires wanted { self.old.expected ≡ FieldExpected.Name }
         requires low { whole_height (type_syntax field.ty) ≤ greatest_height }
         ensures { IfOk result (λ t. Gives machine_of_declarations greatest_height NoDecl
             (field_ends self.old.head.at self.old.head.name (head_vars self.old.head) (read_fields self.old)
-            field.at field.name (Some (type_syntax field.ty)) kind)
+            field.at field.name (Some (type_syntax field.ty)) (expr_token token.now.kind))
             t (record_state self.new)) }
     {
-        match kind {
-            ExprToken::Mark(Symbol::Semicolon) => {
+        match &token.kind {
+            Kind::Sign(Symbol::Semicolon) => {
                 self.with_field(field, FieldExpected::Name)?;
                 Ok(Taken::Goes)
             }
-            ExprToken::Mark(Symbol::RightBrace) => {
+            Kind::Sign(Symbol::RightBrace) => {
                 self.with_field(field, FieldExpected::Nothing)?;
                 Ok(Taken::Goes)
             }
-            other => {
+            _ => {
                 drop(field);
-                Ok(stops(other))
+                Ok(Taken::Stops)
             }
         }
     }
@@ -207,8 +213,8 @@ impl RecordReader {
         Ok(())
     }
 
-    /// The record where all is read, if it is whole.
-    pub fn finish(self) -> Option<RawDecl>
+    // The record where all is read, if it is whole.
+    fn whole(self) -> Option<RawDecl>
         ensures { option_map decl_syntax result ≡ decl_finish (record_state self) }
     {
         let RecordReader {
@@ -227,5 +233,14 @@ impl RecordReader {
                 None
             }
         }
+    }
+
+    /// The record where all is read goes behind these declarations, if it is whole. Whether it is.
+    #[inline(never)]
+    pub fn finish(record: Box<RecordReader>, decls: &mut Vec<RawDecl>) -> Result<bool, AllocError>
+        ensures { IfOk result (λ whole.
+            Ends (decl_finish (record_state record.value)) whole decls.old.items decls.new.items) }
+    {
+        push_found(decls, Box::into_inner(record).whole())
     }
 }

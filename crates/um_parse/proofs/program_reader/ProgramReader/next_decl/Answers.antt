@@ -1,4 +1,4 @@
-use Rattle.std.proofs.Common.{◌≡◌, map, option_map, sym, ap, ◌∙◌}
+use Rattle.std.proofs.Common.{◌≡◌, map, Some, sym, ap, ◌∙◌}
 use Rattle.std.proofs.lemmas.Result.{IfOk-weaker}
 use Rattle.um_tree.specs.RawTree.{decl_syntax}
 use Rattle.um_reader.specs.Takes.{Gives, Takes}
@@ -6,24 +6,30 @@ use Rattle.um_types.specs.UnitStops.{greatest_height}
 use Rattle.um_parse.specs.DeclMachine.{DeclBegin, Expects, ProgramState, InProgram, decl_step, decl_finish, next_decl, program_found, program_finish}
 use Rattle.um_parse.specs.ProgramLeast.{machine_of_programs}
 use Rattle.um_parse.specs.DeclTakes.{reader_state, program_state}
+use Rattle.um_parse.proofs.DeclEnds.{ended}
 use Rattle.um_parse.proofs.ProgramSteps.{more_low, one_ends}
 use Rattle.um_parse.proofs.program_reader.ProgramReader.next_decl.Goals as goal
 
 pub begin-requires-clause-low : goal.begin-requires-clause-low
 begin-requires-clause-low c =
     let old = c.args.self.now in
-    let is = ap (λ r. decl_finish (reader_state r)) (sym c.replace-last.ensures.value) ∙ sym c.in_ok-decl.ensures.found ∙ ap (option_map decl_syntax) c.in-Some.is in
-    more_low old.decls.items c.push.new.self.items c.in-Some.decl (reader_state c.replace-last.new.dest) c.in_ok-push-in-Some.ensures.items (ap reader_state c.replace-last.ensures.after ∙ c.new.ensures.start) c.requires.decls
-    (c.requires.last (decl_syntax c.in-Some.decl) is)
+    let new = c.finish.new.decls.items in
+    let e = ended _ old.decls.items new (rw c.if-whole.true at c.in_ok-whole.ensures.found) in
+    let is : decl_finish (reader_state old.last) ≡ Some e.0 = ap (λ r. decl_finish (reader_state r)) (sym c.replace-last.ensures.value) ∙ e.1 in
+    more_low (map decl_syntax old.decls.items) (map decl_syntax new) e.0 (reader_state c.replace-last.new.dest) e.2 (ap reader_state c.replace-last.ensures.after ∙ c.new.ensures.start) c.requires.decls
+    (c.requires.last e.0 is)
 
-pub returns-in_ok-push-in-Some : goal.returns-in_ok-push-in-Some
-returns-in_ok-push-in-Some c =
+pub returns-then-whole : goal.returns-then-whole
+returns-then-whole c =
     let old = c.args.self.now in
     let token = c.args.token.now in
-    let new = program_state c.begin.new.self in
+    let state = program_state c.begin.new.self in
+    let earlier = map decl_syntax old.decls.items in
+    let new = map decl_syntax c.finish.new.decls.items in
     let begun = reader_state c.replace-last.new.dest in
     let found = decl_finish (reader_state old.last) in
-    let is = ap (λ r. decl_finish (reader_state r)) (sym c.replace-last.ensures.value) ∙ sym c.in_ok-decl.ensures.found ∙ ap (option_map decl_syntax) c.in-Some.is in
-    IfOk-weaker c.begin.result (λ t. Takes machine_of_programs greatest_height (InProgram (map decl_syntax c.push.new.self.items) begun) token t new)
-    (λ t. (st : ProgramState) → program_finish st ≡ program_found (map decl_syntax old.decls.items) found → Gives machine_of_programs greatest_height st (next_decl (map decl_syntax old.decls.items) found (decl_step (Expects DeclBegin) token)) t new)
-    (λ t h. one_ends old.decls.items c.push.new.self.items c.in-Some.decl begun c.in_ok-push-in-Some.ensures.items (ap reader_state c.replace-last.ensures.after ∙ c.new.ensures.start) found token t new is h) c.begin.ensures
+    let e = ended _ old.decls.items c.finish.new.decls.items (rw c.if-whole.true at c.in_ok-whole.ensures.found) in
+    let is : found ≡ Some e.0 = ap (λ r. decl_finish (reader_state r)) (sym c.replace-last.ensures.value) ∙ e.1 in
+    IfOk-weaker c.begin.result (λ t. Takes machine_of_programs greatest_height (InProgram new begun) token t state)
+    (λ t. (st : ProgramState) → program_finish st ≡ program_found earlier found → Gives machine_of_programs greatest_height st (next_decl earlier found (decl_step (Expects DeclBegin) token)) t state)
+    (λ t h. one_ends earlier new e.0 begun e.2 (ap reader_state c.replace-last.ensures.after ∙ c.new.ensures.start) found token t state is h) c.begin.ensures

@@ -1,5 +1,6 @@
-use Rattle.std.proofs.Common.{ap, arith}
-use Rattle.um_parse.specs.DeclMachine.{NoDecl, Expects, FieldName, FieldColon, take_expected}
+use Rattle.std.proofs.Common.{sym, ap, ◌∙◌, arith}
+use Rattle.um_expr.specs.ExprTokens.{expr_token}
+use Rattle.um_parse.specs.DeclMachine.{DeclBegin, NoDecl, Expects, FieldName, FieldColon, take_expected}
 use Rattle.um_parse.specs.DeclViews.{head_vars, read_fields}
 use Rattle.um_parse.proofs.DeclTaken.{goes_on}
 use Rattle.um_parse.proofs.record_reader.RecordReader.take_name.Goals as goal
@@ -9,5 +10,12 @@ returns-in-Name c =
     let old = c.args.self.now in
     let h = old.head in
     let fs = read_fields old in
-    goes_on NoDecl _ (Expects (FieldColon h.at h.name (head_vars h) fs c.args.p c.in-Name.name)) _ c.put.ensures
-    (ap (λ k. take_expected (FieldName h.at h.name (head_vars h) fs) k c.args.p) c.in-Name.is) (λ e. cc) (omega (arith, old.low))
+    let at = c.args.token.now.start in
+    let letters = c.name_of-name.ensures ∙ c.take.ensures.letters in
+    record {
+      taken =
+          goes_on NoDecl _ (Expects (FieldColon h.at h.name (head_vars h) fs at c.in-Name.letters)) _
+          (c.put.ensures ∙ ap (λ x. Expects (FieldColon h.at h.name (head_vars h) fs at x)) letters)
+          (ap (λ k. take_expected (FieldName h.at h.name (head_vars h) fs) (expr_token k) at) c.in-Name.is) (λ e. cc) (omega (arith, old.low));
+      kept = sym (ap (λ k. take_expected DeclBegin (expr_token k) at) c.in-Name.is);
+    }
