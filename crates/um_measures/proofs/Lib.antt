@@ -4,5 +4,6 @@ pub mod Stages
 pub mod Occurrences
 pub mod MeasureLists
 pub mod Scopes
+mod OneName
 mod UnitLoops
 mod RunningProducts

@@ -5,7 +5,8 @@ pub mod UnitNames
 pub mod ClosedUnits
 pub mod Variables
 pub mod Scopes
--- What mirrors the code: its refusals, how it stores abbreviations, its running products.
+-- What mirrors the code: its refusals, how it stores abbreviations, its running products, its unit texts of one name.
 pub mod Stops
 pub mod AbbreviationCode
 pub mod RunningPowers
+pub mod SingleUnits

@@ -9,6 +9,7 @@ ghost use Rattle.um_measures.specs.Stops.{IsFirst};
 ghost use Rattle.std.specs.Prelude.{Ok};
 ghost use Rattle.um_units.specs.PowerMap.{one};
 ghost use Rattle.um_measures.specs.UnitNames.{unless, or_one, variable_unit};
+ghost use Rattle.um_measures.specs.SingleUnits.{known_unit};
 
 use crate::measures::Measures;
 use crate::running::RunningProduct;
@@ -17,6 +18,9 @@ use crate::table::NameTable;
 use std::alloc::{AllocError, Global};
 use um_tree::{Name, RawUnit};
 use um_units::{Atom, Unit, UnitStop};
+
+/// So few units are multiplied one after another; the product of more grows in place.
+const FEW_UNITS: usize = 8;
 
 /// The place of the first token of a unit text.
 #[cycle(first_place)]
@@ -121,6 +125,9 @@ fn evaluated(
         RawUnit::Name(_, name) => Ok(measure(alloc, measures, name)?),
         RawUnit::Var(_, name) => Ok(variable(alloc, variables, name)?),
         RawUnit::Power(u, k) => evaluated(alloc, measures, variables, u)?.pow(alloc, *k),
+        RawUnit::Side(units) if units.items.len() <= FEW_UNITS => {
+            product_of_few(alloc, measures, variables, &units.items)
+        }
         RawUnit::Side(units) => product(alloc, measures, variables, &units.items),
         RawUnit::Times(u, v) => {
             let left = evaluated(alloc, measures, variables, u)?;
@@ -158,12 +165,56 @@ fn product(
     Ok(running.to_unit(alloc)?)
 }
 
-/// The unit of a text where these measures and unit variables are known.
-///
-/// A measure stands for its unit, and a unit variable for its number. Unknown comes at the first name or variable that
-/// isn't known. Else Range comes at the text's first token where a part, or a prefix of a juxtaposition, has a power out
-/// of range. The rule of measures is the F# specification's, Units Of Measure; the range is this project's own.
-pub fn resolved_unit(
+/// The same, one product of two units after another.
+#[cycle(evaluated)]
+fn product_of_few(
+    alloc: Global,
+    measures: &Measures,
+    variables: &NameTable,
+    units: &[RawUnit],
+) -> Result<Unit, UnitStop>
+    ensures exact { IfOk result (λ unit. unit
+        ≡ product_of (short_unit measures.now) variables.now one (units_in_order (map unit_syntax units.now))) }
+    ensures range { RangeUnless result (products_fit (short_unit measures.now) variables.now one
+        (units_in_order (map unit_syntax units.now))) }
+{
+    let mut before = Unit::one(alloc);
+    for i in 0..units.len() {
+        let unit = evaluated(alloc, measures, variables, &units[i])?;
+        before = before.mul(alloc, &unit)?;
+    }
+    Ok(before)
+}
+
+/// The unit of a measure that stands alone.
+fn measure_alone(alloc: Global, measures: &Measures, at: u32, name: &Name) -> Result<Unit, NameStop>
+    ensures exact { IfOk result (λ unit. known_unit (short_unit measures.now name.now) at ≡ Ok unit) }
+    ensures faults { IfErr result (IsFirst (known_unit (short_unit measures.now name.now) at)) }
+{
+    match measures.unit(name.as_slice()) {
+        Some(unit) => Ok(unit.copy(alloc)?),
+        None => Err(NameStop::Unknown { at }),
+    }
+}
+
+/// The unit of a variable that stands alone.
+fn variable_alone(
+    alloc: Global,
+    variables: &NameTable,
+    at: u32,
+    name: &Name,
+) -> Result<Unit, NameStop>
+    ensures exact { IfOk result (λ unit. known_unit (variable_unit variables.now name.now) at ≡ Ok unit) }
+    ensures faults { IfErr result (IsFirst (known_unit (variable_unit variables.now name.now) at)) }
+{
+    match variables.number(name.as_slice()) {
+        Some(k) => Ok(Unit::atom(alloc, Atom::Var(k))?),
+        None => Err(NameStop::Unknown { at }),
+    }
+}
+
+/// The unit of a text of any form.
+fn whole_unit(
     alloc: Global,
     measures: &Measures,
     variables: &NameTable,
@@ -183,5 +234,28 @@ pub fn resolved_unit(
             at: first_place(raw),
         }),
         Err(UnitStop::NoMemory) => Err(NameStop::NoMemory),
+    }
+}
+
+/// The unit of a text where these measures and unit variables are known.
+///
+/// A measure stands for its unit, and a unit variable for its number. Unknown comes at the first name or variable that
+/// isn't known. Else Range comes at the text's first token where a part, or a prefix of a juxtaposition, has a power out
+/// of range. The rule of measures is the F# specification's, Units Of Measure; the range is this project's own.
+pub fn resolved_unit(
+    alloc: Global,
+    measures: &Measures,
+    variables: &NameTable,
+    raw: &RawUnit,
+) -> Result<Unit, NameStop>
+    ensures exact { IfOk result (λ unit. resolved_unit (short_unit measures.now) variables.now
+        (unit_syntax raw.now) ≡ Ok unit) }
+    ensures faults { IfErr result (IsFirst (resolved_unit (short_unit measures.now) variables.now
+        (unit_syntax raw.now))) }
+{
+    match raw {
+        RawUnit::Name(at, name) => measure_alone(alloc, measures, *at, name),
+        RawUnit::Var(at, name) => variable_alone(alloc, variables, *at, name),
+        _ => whole_unit(alloc, measures, variables, raw),
     }
 }

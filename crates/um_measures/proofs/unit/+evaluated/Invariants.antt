@@ -11,3 +11,9 @@ invariant-product-loop-i l = record {
   value : product_of (short_unit l.measures) l.variables one (units_from unit_syntax l.units 0) ≡ product_of (short_unit l.measures) l.variables l.running (units_from unit_syntax l.units l.i);
   range : products_fit (short_unit l.measures) l.variables one (units_from unit_syntax l.units 0) ≡ products_fit (short_unit l.measures) l.variables l.running (units_from unit_syntax l.units l.i);
 }
+
+abbrev pub invariant-product_of_few-loop-i : goal.invariant-product_of_few-loop-i
+invariant-product_of_few-loop-i l = record {
+  value : product_of (short_unit l.measures) l.variables one (units_from unit_syntax l.units 0) ≡ product_of (short_unit l.measures) l.variables l.before (units_from unit_syntax l.units l.i);
+  range : products_fit (short_unit l.measures) l.variables one (units_from unit_syntax l.units 0) ≡ products_fit (short_unit l.measures) l.variables l.before (units_from unit_syntax l.units l.i);
+}
