@@ -35,7 +35,8 @@ fn add_measure(
     Ok(())
 }
 
-fn add_base(alloc: Global, tables: &mut Tables, name: &Name) -> Result<(), AllocError>
+/// One more base unit, whose name is new.
+pub fn add_base(alloc: Global, tables: &mut Tables, name: &Name) -> Result<(), AllocError>
     requires tables { AreTables tables.old }
     requires new { is_taken (known_of tables.old) name.now ≡ false }
     ensures tables { OnOk result (AreTables tables.new) }
@@ -50,7 +51,13 @@ fn add_base(alloc: Global, tables: &mut Tables, name: &Name) -> Result<(), Alloc
     Ok(tables.bases.push(name)?)
 }
 
-fn add_short(alloc: Global, tables: &mut Tables, name: &Name, unit: Unit) -> Result<(), AllocError>
+/// One more abbreviation.
+pub fn add_short(
+    alloc: Global,
+    tables: &mut Tables,
+    name: &Name,
+    unit: Unit,
+) -> Result<(), AllocError>
     requires tables { AreTables tables.old }
     ensures tables { OnOk result (AreTables tables.new) }
     ensures known { OnOk result (known_of tables.new ≡ with_short (known_of tables.old) name.now unit) }
@@ -61,7 +68,12 @@ fn add_short(alloc: Global, tables: &mut Tables, name: &Name, unit: Unit) -> Res
     Ok(tables.shorts.push(Abbreviation { name, unit })?)
 }
 
-fn add_function(alloc: Global, tables: &mut Tables, function: Function) -> Result<(), AllocError>
+/// One more function, whose name is new.
+pub fn add_function(
+    alloc: Global,
+    tables: &mut Tables,
+    function: Function,
+) -> Result<(), AllocError>
     requires tables { AreTables tables.old }
     requires new { is_among (function_names (known_of tables.old).program.functions) function.name ≡ false }
     ensures tables { OnOk result (AreTables tables.new) }
@@ -106,27 +118,6 @@ pub fn with_short(
 {
     let mut tables = tables;
     match add_short(alloc, &mut tables, name, unit) {
-        Ok(()) => Ok(tables),
-        Err(error) => {
-            drop(tables);
-            Err(error)
-        }
-    }
-}
-
-/// With one more function, whose name is new.
-pub fn with_function(
-    alloc: Global,
-    tables: Tables,
-    function: Function,
-) -> Result<Tables, AllocError>
-    requires tables { AreTables tables }
-    requires new { is_among (function_names (known_of tables).program.functions) function.name ≡ false }
-    ensures tables { IfOk result AreTables }
-    ensures known { IfOk result (λ t. known_of t ≡ with_function (known_of tables) (function_tree function)) }
-{
-    let mut tables = tables;
-    match add_function(alloc, &mut tables, function) {
         Ok(()) => Ok(tables),
         Err(error) => {
             drop(tables);

@@ -1,6 +1,6 @@
 //! Declarations, one at a time.
 
-ghost use Rattle.std.specs.Prelude.{◌≡◌, Ok, IfOk, IfErr, map};
+ghost use Rattle.std.specs.Prelude.{◌≡◌, Ok, IfOk, IfErr, OnOk, map};
 ghost use Rattle.um_tree.specs.ProgramTree.{record_tree, function_tree};
 ghost use Rattle.um_tree.specs.RawTree.{var_syntax, field_decl_syntax, whole_function_syntax, decl_syntax, base_syntax, short_syntax, unit_syntax};
 ghost use Rattle.um_measures.specs.Known.{is_taken};
@@ -9,14 +9,14 @@ ghost use Rattle.um_names.specs.Resolution.{resolved_record_decl, resolved_funct
 ghost use Rattle.um_measures.specs.Stops.{IsFirst};
 ghost use Rattle.um_names.specs.Tables.{AreTables, known_of, own_callable};
 
-use crate::adding::{copied, with_base, with_function, with_short};
+use crate::adding::{add_base, add_function, add_short, copied};
 use crate::callable::Callable;
 use crate::expr::expr;
 use crate::fields::field_decls;
 use crate::known::Tables;
 use crate::node::Body;
 use crate::parts::{result_note, unit_parameters};
-use crate::records::with_record;
+use crate::records::add_record;
 use crate::signature::{Parameters, params};
 use std::alloc::{AllocError, Global};
 use um_measures::{NameStop, NameTable, named_variables};
@@ -105,66 +105,61 @@ fn function(alloc: Global, tables: &Tables, raw: &RawFunction) -> Result<Functio
     })
 }
 
-/// The tables behind a base unit.
-fn declare_base(alloc: Global, tables: Tables, at: u32, name: &Name) -> Result<Tables, NameStop>
-    requires { AreTables tables }
-    ensures tables { IfOk result AreTables }
-    ensures exact { IfOk result (λ t. resolved_decl (known_of tables) (base_syntax at name.now) ≡ Ok (known_of t)) }
-    ensures faults { IfErr result (IsFirst (resolved_decl (known_of tables) (base_syntax at name.now))) }
+/// Declares a base unit.
+fn declare_base(alloc: Global, tables: &mut Tables, at: u32, name: &Name) -> Result<(), NameStop>
+    requires { AreTables tables.old }
+    ensures tables { OnOk result (AreTables tables.new) }
+    ensures exact { OnOk result (resolved_decl (known_of tables.old) (base_syntax at name.now)
+        ≡ Ok (known_of tables.new)) }
+    ensures faults { IfErr result (IsFirst (resolved_decl (known_of tables.old) (base_syntax at name.now))) }
 {
-    if is_taken(&tables, name.as_slice()) {
-        drop(tables);
+    if is_taken(tables, name.as_slice()) {
         return Err(NameStop::Twice { at });
     }
-    Ok(with_base(alloc, tables, name)?)
+    Ok(add_base(alloc, tables, name)?)
 }
 
-/// The tables behind an abbreviation, which isn't known in its own unit text.
+/// Declares an abbreviation, which isn't known in its own unit text.
 fn declare_short(
     alloc: Global,
-    tables: Tables,
+    tables: &mut Tables,
     at: u32,
     name: &Name,
     unit: &RawUnit,
-) -> Result<Tables, NameStop>
-    requires { AreTables tables }
-    ensures tables { IfOk result AreTables }
-    ensures exact { IfOk result (λ t. resolved_decl (known_of tables) (short_syntax at name.now (unit_syntax unit.now))
-        ≡ Ok (known_of t)) }
-    ensures faults { IfErr result (IsFirst (resolved_decl (known_of tables)
+) -> Result<(), NameStop>
+    requires { AreTables tables.old }
+    ensures tables { OnOk result (AreTables tables.new) }
+    ensures exact { OnOk result (resolved_decl (known_of tables.old)
+        (short_syntax at name.now (unit_syntax unit.now)) ≡ Ok (known_of tables.new)) }
+    ensures faults { IfErr result (IsFirst (resolved_decl (known_of tables.old)
         (short_syntax at name.now (unit_syntax unit.now)))) }
 {
-    if is_taken(&tables, name.as_slice()) {
-        drop(tables);
+    if is_taken(tables, name.as_slice()) {
         return Err(NameStop::Twice { at });
     }
-    match tables.unit(alloc, &NameTable::new(alloc), unit) {
-        Ok(unit) => Ok(with_short(alloc, tables, name, unit)?),
-        Err(stop) => {
-            drop(tables);
-            Err(stop)
-        }
-    }
+    let unit = tables.unit(alloc, &NameTable::new(alloc), unit)?;
+    Ok(add_short(alloc, tables, name, unit)?)
 }
 
-/// The tables behind a declaration.
+/// Takes a declaration into the tables.
 #[tactic(auto, using(crate::proofs::Taken::not_record))]
-pub fn declare(alloc: Global, tables: Tables, decl: &RawDecl) -> Result<Tables, NameStop>
-    requires { AreTables tables }
-    ensures tables { IfOk result AreTables }
-    ensures exact { IfOk result (λ t. resolved_decl (known_of tables) (decl_syntax decl.now) ≡ Ok (known_of t)) }
-    ensures faults { IfErr result (IsFirst (resolved_decl (known_of tables) (decl_syntax decl.now))) }
+pub fn declare(alloc: Global, tables: &mut Tables, decl: &RawDecl) -> Result<(), NameStop>
+    requires { AreTables tables.old }
+    ensures tables { OnOk result (AreTables tables.new) }
+    ensures exact { OnOk result (resolved_decl (known_of tables.old) (decl_syntax decl.now)
+        ≡ Ok (known_of tables.new)) }
+    ensures faults { IfErr result (IsFirst (resolved_decl (known_of tables.old) (decl_syntax decl.now))) }
 {
     match decl {
         RawDecl::Base(at, name) => declare_base(alloc, tables, *at, name),
         RawDecl::Short(at, name, unit) => declare_short(alloc, tables, *at, name, unit),
         RawDecl::Record(at, name, vars, fields) => {
-            let record = record_decl(alloc, &tables, *at, name, &vars.items, &fields.items)?;
-            Ok(with_record(alloc, tables, record)?)
+            let record = record_decl(alloc, tables, *at, name, &vars.items, &fields.items)?;
+            Ok(add_record(alloc, tables, record)?)
         }
         RawDecl::Function(raw) => {
-            let function = function(alloc, &tables, raw)?;
-            Ok(with_function(alloc, tables, function)?)
+            let function = function(alloc, tables, raw)?;
+            Ok(add_function(alloc, tables, function)?)
         }
     }
 }

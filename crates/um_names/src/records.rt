@@ -84,7 +84,8 @@ fn add_names(
     add_fields(alloc, names, numbers, record_number, &decl.fields.items)
 }
 
-fn add_record(alloc: Global, tables: &mut Tables, decl: Record) -> Result<(), AllocError>
+/// One more record, whose name is new.
+pub fn add_record(alloc: Global, tables: &mut Tables, decl: Record) -> Result<(), AllocError>
     requires tables { AreTables tables.old }
     requires new { is_among (record_names (known_of tables.old).program.records) decl.name ≡ false }
     ensures tables { OnOk result (AreTables tables.new) }

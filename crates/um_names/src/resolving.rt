@@ -1,10 +1,10 @@
 //! The program of a raw tree.
 
-ghost use Rattle.std.specs.Prelude.{◌≡◌, Ok, IfOk, IfErr, map};
+ghost use Rattle.std.specs.Prelude.{◌≡◌, Ok, IfOk, IfErr, OnOk, map};
 ghost use Rattle.um_tree.specs.ProgramTree.{program_tree};
 ghost use Rattle.um_tree.specs.RawTree.{decl_syntax, program_syntax};
 ghost use Rattle.um_names.specs.Resolution.{resolved_program, resolved_abbreviations};
-ghost use Rattle.um_names.specs.Resolution.{resolution};
+ghost use Rattle.um_names.specs.Resolution.{resolution, resolved_decls};
 ghost use Rattle.um_tree.specs.Formed.{IsFormed};
 ghost use Rattle.um_names.specs.Readable.{IsReadable};
 ghost use Rattle.um_measures.specs.Stops.{IsFirst};
@@ -16,16 +16,32 @@ use std::alloc::{AllocError, Global};
 use um_measures::{Abbreviations, NameStop};
 use um_tree::{Functions, Names, Program, RawDecl, RawProgram, Records};
 
+/// Takes these declarations into the tables, one after another.
+fn declare_all(alloc: Global, tables: &mut Tables, raw: &[RawDecl]) -> Result<(), NameStop>
+    requires { AreTables tables.old }
+    ensures exact { OnOk result (resolved_decls (known_of tables.old) (map decl_syntax raw.now)
+        ≡ Ok (known_of tables.new)) }
+    ensures faults { IfErr result (IsFirst (resolved_decls (known_of tables.old) (map decl_syntax raw.now))) }
+{
+    for decl in raw {
+        declare(alloc, tables, decl)?;
+    }
+    Ok(())
+}
+
 /// The tables behind these declarations.
 fn declarations(alloc: Global, raw: &[RawDecl]) -> Result<Tables, NameStop>
     ensures exact { IfOk result (λ t. resolution (map decl_syntax raw.now) ≡ Ok (known_of t)) }
     ensures faults { IfErr result (IsFirst (resolution (map decl_syntax raw.now))) }
 {
     let mut tables = Tables::new(alloc);
-    for decl in raw {
-        tables = declare(alloc, tables, decl)?;
+    match declare_all(alloc, &mut tables, raw) {
+        Ok(()) => Ok(tables),
+        Err(stop) => {
+            drop(tables);
+            Err(stop)
+        }
     }
-    Ok(tables)
 }
 
 /// The program of a raw tree, each of whose names is known where it stands.
