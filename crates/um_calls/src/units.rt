@@ -1,4 +1,5 @@
 // Units, values and the texts of numbers.
+use std::process::Abort;
 use std::test::Fail;
 use um_frac::{Frac, Trap};
 use um_show::number_text;
@@ -15,24 +16,39 @@ macro_rules! terms {
     ($($atom:ident ^ $power:expr),*) => { [$(Term { atom: $atom, power: $power }),*].as_slice() };
 }
 
-#[test]
-fn units(rt: HostRuntime) -> Result<(), Fail> {
-    let alloc = rt.alloc();
-    let metre = Unit::atom(alloc, M)?;
-    let speed = Unit::from_terms(alloc, terms![S ^ -1, M ^ 1])?;
-    assert!(rt; Unit::one(alloc).terms().is_empty());
-    assert_eq!(rt; speed.terms(), terms![M ^ 1, S ^ -1]);
-    assert_eq!(rt; speed.power_of(S), -1);
-    assert!(rt; speed.copy(alloc)?.same(&speed));
-    assert_eq!(rt; speed.mul(alloc, &metre)?.terms(), terms![M ^ 2, S ^ -1]);
-    assert_eq!(rt; speed.mul_pow(alloc, &metre, -1)?.terms(), terms![S ^ -1]);
-    assert_eq!(rt; speed.inv(alloc)?.terms(), terms![M ^ -1, S ^ 1]);
-    assert_eq!(rt; speed.pow(alloc, 3)?.terms(), terms![M ^ 3, S ^ -3]);
+// That the unit has these terms.
+fn has_terms(rt: &impl Abort, unit: Unit, want: &[Term]) {
+    assert_eq!(rt; unit.terms(), want);
+    drop(unit);
+}
 
-    let units = Units::from_vec(vec![in alloc; speed]?).copy(alloc)?;
+#[test]
+fn products(rt: HostRuntime) -> Result<(), Fail> {
+    let alloc = rt.alloc();
+    has_terms(&rt, Unit::one(alloc), terms![]);
+    let speed = Unit::from_terms(alloc, terms![S ^ -1, M ^ 1])?;
+    assert_eq!(rt; speed.power_of(S), -1);
+    has_terms(&rt, speed.copy(alloc)?, terms![M ^ 1, S ^ -1]);
+    has_terms(&rt, speed.inv(alloc)?, terms![M ^ -1, S ^ 1]);
+    has_terms(&rt, speed.pow(alloc, 3)?, terms![M ^ 3, S ^ -3]);
+    let metre = Unit::atom(alloc, M)?;
+    assert!(rt; !speed.same(&metre));
+    has_terms(&rt, speed.mul(alloc, &metre)?, terms![M ^ 2, S ^ -1]);
+    has_terms(&rt, speed.mul_pow(alloc, &metre, -1)?, terms![S ^ -1]);
+    Ok(())
+}
+
+#[test]
+fn replaced_units(rt: HostRuntime) -> Result<(), Fail> {
+    let alloc = rt.alloc();
+    let speed = Unit::from_terms(alloc, terms![S ^ -1, M ^ 1])?;
+    let units = Units::from_vec(vec![in alloc; speed]?);
     let open = Unit::from_terms(alloc, terms![S ^ 1, U ^ 2])?;
-    let put = open.replace(alloc, units.as_slice())?;
-    assert_eq!(rt; put.terms(), terms![M ^ 2, S ^ -1]);
+    has_terms(
+        &rt,
+        open.replace(alloc, units.as_slice())?,
+        terms![M ^ 2, S ^ -1],
+    );
     Ok(())
 }
 
