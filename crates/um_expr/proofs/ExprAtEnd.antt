@@ -5,13 +5,14 @@ use Rattle.um_syntax.specs.declared.token.Kind.{Kind}
 use Rattle.um_tree.specs.declared.expression.Sign.TheVariants as compare
 use Rattle.um_tree.specs.RawTree.{ExprSyntax}
 use Rattle.um_reader.specs.Machine.{Yields}
-use Rattle.um_expr.specs.declared.infix.Infix.TheVariants as between
+use Rattle.um_operands.specs.declared.infix.Infix.TheVariants as between
+use Rattle.um_operands.specs.ExprKinds.{is_plain_number}
+use Rattle.um_operands.specs.ExprBegun.{Frame, State, Need, Have, HavePower, reduce}
 use Rattle.um_expr.specs.declared.token.ExprToken.{ExprToken}
 use Rattle.um_expr.specs.declared.token.ExprToken.TheVariants.{Operator as operator}
 use Rattle.um_expr.specs.ExprTokens.{less}
-use Rattle.um_expr.specs.ExprKinds.{is_plain_number}
 use Rattle.um_expr.specs.ExprGrammar.{First, FirstAt, AfterNumber}
-use Rattle.um_expr.specs.ExprMachine.{Frame, State, Need, Have, HavePower, reduce, infix_after, act, step}
+use Rattle.um_expr.specs.ExprMachine.{infix_after, act, step}
 use Rattle.um_expr.proofs.ExprEnds.{opened, last_atom, less_free}
 use Rattle.um_expr.proofs.ExprYields.{thence, yields_first, yields_at}
 

@@ -11,13 +11,14 @@ use Rattle.um_types.specs.NoteMachine.{NeedNote}
 use Rattle.um_types.proofs.NoteComplete.{note_into}
 use Rattle.um_reader.specs.Machine.{Yields}
 use Rattle.um_reader.proofs.Reaching.{yields_here, yields_then}
-use Rattle.um_expr.specs.declared.infix.Infix.{Infix}
-use Rattle.um_expr.specs.declared.infix.Infix.TheVariants as between
+use Rattle.um_operands.specs.declared.infix.Infix.{Infix}
+use Rattle.um_operands.specs.declared.infix.Infix.TheVariants as between
+use Rattle.um_operands.specs.Ranks.{infix_rank, left_limit}
+use Rattle.um_operands.specs.ExprBegun.{Frame, InRight, top_bound, State, Need, Have, Greater, InNote, reduce}
 use Rattle.um_expr.specs.declared.token.ExprToken.TheVariants.{Name as name, Hole as hole, Operator as operator}
 use Rattle.um_expr.specs.ExprTokens.{equal, less, greater}
-use Rattle.um_expr.specs.Ranks.{infix_rank, left_limit}
 use Rattle.um_expr.specs.ExprGrammar.{FirstAt, bound, BinderSpells, InfixAt, WrittenNote, Spells, rank, NoteFitsIn, Fits}
-use Rattle.um_expr.specs.ExprMachine.{Frame, InRight, top_bound, State, Need, Have, Greater, InNote, reduce, if_may, infix_after, greater_after, act, step}
+use Rattle.um_expr.specs.ExprMachine.{if_may, infix_after, greater_after, act, step}
 use Rattle.um_expr.proofs.ExprEnds.{opened, last_atom, stays, ends_as, infix_opens}
 use Rattle.um_expr.proofs.ExprAtEnd.{at_end, Reads, reads_then, need_apart, is_less, less_at_end, ends_at}
 use Rattle.um_expr.proofs.ExprYields.{thence, yields_at, yields_glued, yields_alike, yields_note, yields_note_end}

@@ -13,10 +13,10 @@ use Rattle.um_types.proofs.UnitLaws.{zero_number}
 use Rattle.um_types.proofs.NoteLaws.{NoteSpellsPrefix, note_ending, note_completed, note_can_end}
 use Rattle.um_types.proofs.TypeSound.{TypeSpellsPrefix}
 use Rattle.um_types.proofs.TypeLaws.{type_ending, type_completed, type_can_end}
-use Rattle.um_expr.specs.declared.infix.Infix.TheVariants as between
-use Rattle.um_expr.specs.Ranks.{infix_text}
+use Rattle.um_operands.specs.declared.infix.Infix.TheVariants as between
+use Rattle.um_operands.specs.Ranks.{infix_text}
+use Rattle.um_operands.specs.ExprBegun.{Frame, InBracket, InItem, InField, InValue, InBody, InTest, InThen, InElse, InMatched, InEmptyArm, InFullArm, InNegate, InNot, InPown, InRight, InArgument, bound_of, top_bound, plug, with_field, Expected, LetBinder, LetEqual, FieldName, FieldEqual, DotName, ArmBegin, ArmOpen, ArmClose, ArmArrow, HeadBinder, HeadCons, TailBinder, TailArrow, NilColon, PownMinus, PownDigits, PownClose, State, Need, Have, HavePower, Greater, Inside, InNote, InType, Refused}
 use Rattle.um_expr.specs.ExprGrammar.{Spells, rank, Fits}
-use Rattle.um_expr.specs.ExprMachine.{Frame, InBracket, InItem, InField, InValue, InBody, InTest, InThen, InElse, InMatched, InEmptyArm, InFullArm, InNegate, InNot, InPown, InRight, InArgument, bound_of, top_bound, plug, with_field, Expected, LetBinder, LetEqual, FieldName, FieldEqual, DotName, ArmBegin, ArmOpen, ArmClose, ArmArrow, HeadBinder, HeadCons, TailBinder, TailArrow, NilColon, PownMinus, PownDigits, PownClose, State, Need, Have, HavePower, Greater, Inside, InNote, InType, Refused}
 use Rattle.um_expr.proofs.ExprEnds.{infix_low}
 use Rattle.um_expr.proofs.ExprPrefixes.{FrameReads, FramesRead, FrameFits, FramesFit, ExpectedReads, ExpectedFits, SpellsPrefix, focus_low, items_last, items_fit, fields_last, fields_fit, bound_positive, plug_reads, plug_fits}
 

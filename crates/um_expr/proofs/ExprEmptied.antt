@@ -9,12 +9,13 @@ use Rattle.um_reader.specs.declared.taken.Taken.{Taken}
 use Rattle.um_reader.specs.declared.taken.Taken.TheVariants as taken
 use Rattle.um_types.specs.UnitTokens.{unit_token}
 use Rattle.um_types.specs.UnitMachine.{power_in}
-use Rattle.um_expr.specs.declared.focus.Focus.{Focus}
-use Rattle.um_expr.specs.declared.focus.Focus.TheVariants as focus
+use Rattle.um_operands.specs.declared.focus.Focus.{Focus}
+use Rattle.um_operands.specs.declared.focus.Focus.TheVariants as focus
+use Rattle.um_operands.specs.ExprBegun.{Frame}
+use Rattle.um_operands.specs.ExprOperands.{operand_expr}
+use Rattle.um_operands.specs.ExprFocus.{state_of, view_expected}
 use Rattle.um_expr.specs.declared.token.ExprToken.{ExprToken}
-use Rattle.um_expr.specs.ExprMachine.{Frame, act, after, power_after, inside}
-use Rattle.um_expr.specs.ExprOperands.{operand_expr}
-use Rattle.um_expr.specs.ExprStates.{state_of, view_expected}
+use Rattle.um_expr.specs.ExprMachine.{act, after, power_after, inside}
 
 power_kept : (k : Kind) → power_in (unit_token (emptied_kind k)) ≡ power_in (unit_token k)
 power_kept (kind.Name x) = refl

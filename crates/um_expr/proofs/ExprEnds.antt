@@ -5,12 +5,13 @@ use Rattle.um_tree.specs.declared.expression.Arith.{Arith}
 use Rattle.um_tree.specs.declared.expression.Arith.TheVariants as arith_of
 use Rattle.um_tree.specs.declared.expression.Sign.TheVariants as compare
 use Rattle.um_tree.specs.RawTree.{ExprSyntax, ExprSyntaxes, FieldSyntaxes, FieldPart, truth_syntax, number_syntax, name_syntax, call_syntax, negate_syntax, not_syntax, pown_syntax, arith_syntax, compare_syntax, and_syntax, or_syntax, if_syntax, let_syntax, match_syntax, nil_syntax, list_syntax, cons_syntax, fields_syntax, field_syntax, bracket_expr_syntax, no_exprs, more_exprs, no_fields, more_fields, exprs_in_order, fields_in_order}
-use Rattle.um_expr.specs.declared.infix.Infix.{Infix}
-use Rattle.um_expr.specs.declared.infix.Infix.TheVariants as between
-use Rattle.um_expr.specs.Ranks.{arith_rank, infix_rank, left_limit, right_bound}
-use Rattle.um_expr.specs.ExprKinds.{is_plain_number}
+use Rattle.um_operands.specs.declared.infix.Infix.{Infix}
+use Rattle.um_operands.specs.declared.infix.Infix.TheVariants as between
+use Rattle.um_operands.specs.Ranks.{arith_rank, infix_rank, left_limit, right_bound}
+use Rattle.um_operands.specs.ExprKinds.{is_plain_number}
+use Rattle.um_operands.specs.ExprBegun.{Frame, InBracket, InItem, InField, InValue, InBody, InTest, InThen, InElse, InMatched, InEmptyArm, InFullArm, InNegate, InNot, InPown, InRight, InArgument, own_rank, top_bound, top_rank, plug, with_field, Have, reduce}
 use Rattle.um_expr.specs.ExprGrammar.{rank, Fits}
-use Rattle.um_expr.specs.ExprMachine.{Frame, InBracket, InItem, InField, InValue, InBody, InTest, InThen, InElse, InMatched, InEmptyArm, InFullArm, InNegate, InNot, InPown, InRight, InArgument, own_rank, top_bound, top_rank, plug, with_field, Have, reduce, less_after, infix_after}
+use Rattle.um_expr.specs.ExprMachine.{less_after, infix_after}
 
 -- what is open once the arguments behind a before were read, and the last one
 abbrev pub opened_call : List Frame → ℕ → List ℕ → List ExprSyntax → ExprSyntaxes → List Frame

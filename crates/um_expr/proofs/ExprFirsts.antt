@@ -6,15 +6,15 @@ use Rattle.um_tree.specs.declared.expression.Sign.TheVariants as compare
 use Rattle.um_tree.specs.RawTree.{ExprSyntax, truth_syntax, number_syntax, name_syntax, call_syntax, negate_syntax, not_syntax, pown_syntax, arith_syntax, compare_syntax, and_syntax, or_syntax, if_syntax, let_syntax, match_syntax, nil_syntax, list_syntax, cons_syntax, fields_syntax, field_syntax, bracket_expr_syntax}
 use Rattle.um_syntax.specs.declared.vocabulary.Keyword.TheVariants as keyword
 use Rattle.um_syntax.specs.declared.vocabulary.Symbol.TheVariants as symbol
-use Rattle.um_expr.specs.declared.infix.Infix.TheVariants as between
+use Rattle.um_operands.specs.declared.infix.Infix.TheVariants as between
+use Rattle.um_operands.specs.ExprBegun.{Frame, InPown, InRight, Need, Have, Greater}
 use Rattle.um_expr.specs.declared.token.ExprToken.{ExprToken}
 use Rattle.um_expr.specs.declared.token.ExprToken.TheVariants.{Name as name, Number as number, Truth as truth, Operator as operator, Word as word, Mark as mark}
 use Rattle.um_expr.specs.ExprTokens.{minus}
-use Rattle.um_expr.specs.ExprKinds.{begins_atom}
 use Rattle.um_expr.specs.ExprGrammar.{FirstAt, Spells, Fits, rank}
 use Rattle.um_types.specs.UnitTokens.{unit_token}
 use Rattle.um_types.specs.UnitMachine.{power_in}
-use Rattle.um_expr.specs.ExprMachine.{Frame, InPown, InRight, Need, Have, Greater, argument, begin_in, in_pown, pown_after, pown_bracket, act}
+use Rattle.um_expr.specs.ExprMachine.{begins_atom, argument, begin_in, in_pown, pown_after, pown_bracket, act}
 use Rattle.um_expr.proofs.ExprEnds.{arith_low}
 use Rattle.um_expr.proofs.ExprYields.{FirstPasses}
 

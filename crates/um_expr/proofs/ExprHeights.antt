@@ -17,16 +17,17 @@ use Rattle.um_types.proofs.NoteLaws.{note_completed, note_completed_height, note
 use Rattle.um_types.proofs.TypeLaws.{type_completed, type_completed_height, type_up, type_found_height}
 use Rattle.um_syntax.specs.declared.vocabulary.Keyword.TheVariants as keyword
 use Rattle.um_syntax.specs.declared.vocabulary.Symbol.TheVariants as symbol
-use Rattle.um_expr.specs.declared.infix.Infix.{Infix}
-use Rattle.um_expr.specs.declared.infix.Infix.TheVariants as between
+use Rattle.um_operands.specs.declared.infix.Infix.{Infix}
+use Rattle.um_operands.specs.declared.infix.Infix.TheVariants as between
+use Rattle.um_operands.specs.Ranks.{infix_rank, left_limit, infix_text}
+use Rattle.um_operands.specs.ExprBegun.{Frame, InBracket, InItem, InField, InValue, InBody, InTest, InThen, InElse, InMatched, InEmptyArm, InFullArm, InNegate, InNot, InPown, InRight, InArgument, own_rank, top_bound, plug, with_field, Expected, LetBinder, LetEqual, FieldName, FieldEqual, DotName, ArmBegin, ArmOpen, ArmClose, ArmArrow, HeadBinder, HeadCons, TailBinder, TailArrow, NilColon, PownMinus, PownDigits, PownClose, State, Need, Have, HavePower, Greater, Inside, InNote, InType, Refused, reduce, whole, finish}
+use Rattle.um_operands.specs.ExprLeast.{side, least_over, expected_least, expr_least, notes_side, notes_over, expected_notes, notes_least, whole_least}
+use Rattle.um_operands.specs.ExprKinds.{is_power}
+use Rattle.um_operands.specs.ExprHeights.{notes_in, notes_in_all, notes_in_fields, whole_expr_height}
 use Rattle.um_expr.specs.declared.token.ExprToken.{ExprToken}
 use Rattle.um_expr.specs.declared.token.ExprToken.TheVariants.{Name as name, Number as number, Truth as truth, Hole as hole, Operator as operator, Word as word, Mark as mark}
 use Rattle.um_expr.specs.ExprTokens.{expr_token}
-use Rattle.um_expr.specs.Ranks.{infix_rank, left_limit, infix_text}
-use Rattle.um_expr.specs.ExprMachine.{Frame, InBracket, InItem, InField, InValue, InBody, InTest, InThen, InElse, InMatched, InEmptyArm, InFullArm, InNegate, InNot, InPown, InRight, InArgument, own_rank, top_bound, plug, with_field, Expected, LetBinder, LetEqual, FieldName, FieldEqual, DotName, ArmBegin, ArmOpen, ArmClose, ArmArrow, HeadBinder, HeadCons, TailBinder, TailArrow, NilColon, PownMinus, PownDigits, PownClose, State, Need, Have, HavePower, Greater, Inside, InNote, InType, Refused, reduce, if_may, empty_list, begin, after_greater, argument, begin_in, infix_after, greater_after, less_after, close_after, list_after, record_after, semi_after, in_after, then_after, else_after, with_after, bar_after, number_after, bracket_after, after, power_after, inside, note_ends, type_ends, note_goes, type_goes, step, whole, finish}
-use Rattle.um_expr.specs.ExprLeast.{side, least_over, expected_least, expr_least, notes_side, notes_over, expected_notes, notes_least, whole_least}
-use Rattle.um_expr.specs.ExprKinds.{is_power}
-use Rattle.um_expr.specs.ExprHeights.{notes_in, notes_in_all, notes_in_fields, whole_expr_height}
+use Rattle.um_expr.specs.ExprMachine.{if_may, empty_list, begin, after_greater, argument, begin_in, infix_after, greater_after, less_after, close_after, list_after, record_after, semi_after, in_after, then_after, else_after, with_after, bar_after, number_after, bracket_after, after, power_after, inside, note_ends, type_ends, note_goes, type_goes, step}
 use Rattle.um_expr.proofs.ExprEnds.{infix_low}
 use Rattle.um_expr.proofs.ExprPrefixes.{SpellsPrefix}
 use Rattle.um_expr.proofs.ExprCompletions.{operand, filled, all_filled, expected_filled, expr_completed}

@@ -11,9 +11,10 @@ use Rattle.um_types.specs.TypeMachine.{TypeState, NeedType, HaveType, NoType, ty
 use Rattle.um_types.specs.TypeMachine.{InNote as InTypeNote}
 use Rattle.um_types.proofs.NoteLaws.{note_found_height}
 use Rattle.um_types.proofs.TypeLaws.{type_found_height}
+use Rattle.um_operands.specs.ExprBegun.{Frame, State, InNote, InType, Refused, finish}
+use Rattle.um_operands.specs.ExprLeast.{notes_side, notes_over, whole_least}
 use Rattle.um_expr.specs.ExprTokens.{expr_token}
-use Rattle.um_expr.specs.ExprMachine.{Frame, State, InNote, InType, Refused, note_ends, type_ends, note_goes, type_goes, step, own_step, finish}
-use Rattle.um_expr.specs.ExprLeast.{notes_side, notes_over, whole_least, machine_of_expressions}
+use Rattle.um_expr.specs.ExprMachine.{note_ends, type_ends, note_goes, type_goes, step, own_step, machine_of_expressions}
 use Rattle.um_expr.specs.ExprStates.{IsLow}
 
 note_goes_on : (frames : List Frame) (at : ℕ) (c : Frac) (n : NoteState) (ended : State) → n ≢ NoNote → note_goes frames at c n ended ≡ InNote frames at c n

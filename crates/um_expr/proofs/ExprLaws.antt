@@ -4,8 +4,9 @@ use Rattle.std.proofs.lemmas.List.{append-nil}
 use Rattle.um_syntax.specs.declared.token.Token.{Token}
 use Rattle.um_tree.specs.RawTree.{ExprSyntax}
 use Rattle.um_reader.specs.Machine.{runs}
+use Rattle.um_operands.specs.ExprBegun.{Frame, Need, Refused, whole, finish}
 use Rattle.um_expr.specs.ExprGrammar.{Spells, Fits, IsExpr}
-use Rattle.um_expr.specs.ExprMachine.{Frame, Need, Refused, step, whole, finish}
+use Rattle.um_expr.specs.ExprMachine.{step}
 use Rattle.um_expr.proofs.ExprEnds.{opened, last_atom, rank_low, ends_whole}
 use Rattle.um_expr.proofs.ExprAtEnd.{at_end}
 use Rattle.um_expr.proofs.ExprReads.{complete}

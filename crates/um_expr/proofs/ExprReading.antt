@@ -4,10 +4,11 @@ use Rattle.std.proofs.lemmas.List.{append-nil}
 use Rattle.um_syntax.specs.declared.token.Token.{Token}
 use Rattle.um_tree.specs.RawTree.{ExprSyntax}
 use Rattle.um_reader.specs.Machine.{runs, IsReaderOf}
+use Rattle.um_operands.specs.ExprHeights.{whole_expr_height}
+use Rattle.um_operands.specs.ExprBegun.{State, Need, Refused, finish}
+use Rattle.um_operands.specs.ExprLeast.{whole_least}
 use Rattle.um_expr.specs.ExprGrammar.{IsExpr}
-use Rattle.um_expr.specs.ExprHeights.{whole_expr_height}
-use Rattle.um_expr.specs.ExprMachine.{State, Need, Refused, step, finish}
-use Rattle.um_expr.specs.ExprLeast.{whole_least, machine_of_expressions}
+use Rattle.um_expr.specs.ExprMachine.{step, machine_of_expressions}
 use Rattle.um_expr.proofs.ExprPrefixes.{SpellsPrefix}
 use Rattle.um_expr.proofs.ExprSound.{spells_prefix, expr_found}
 use Rattle.um_expr.proofs.ExprCompletions.{expr_ending, expr_completed, expr_can_end}

@@ -13,14 +13,15 @@ use Rattle.um_types.specs.TypeGrammar.{TypeFits}
 use Rattle.um_syntax.specs.declared.vocabulary.Keyword.TheVariants as keyword
 use Rattle.um_syntax.specs.declared.vocabulary.Symbol.TheVariants as symbol
 use Rattle.um_reader.specs.Machine.{Yields}
-use Rattle.um_expr.specs.declared.infix.Infix.TheVariants as between
+use Rattle.um_operands.specs.declared.infix.Infix.TheVariants as between
+use Rattle.um_operands.specs.ExprBegun.{Frame, InBracket, InItem, InField, InValue, InBody, InTest, InThen, InElse, InMatched, InEmptyArm, InFullArm, InNegate, InNot, InPown, InRight, InArgument, top_bound, with_field, LetBinder, LetEqual, FieldName, FieldEqual, DotName, ArmBegin, ArmOpen, ArmClose, ArmArrow, HeadBinder, HeadCons, TailBinder, TailArrow, NilColon, PownMinus, PownDigits, PownClose, State, Need, Have, HavePower, Inside, InType, Refused}
+use Rattle.um_operands.specs.ExprKinds.{is_power, is_plain_number}
 use Rattle.um_expr.specs.declared.token.ExprToken.TheVariants.{Name as name, Number as number, Truth as truth, Operator as operator, Word as word, Mark as mark}
 use Rattle.um_expr.specs.ExprTokens.{equal, minus, double_colon}
 use Rattle.um_expr.specs.ExprGrammar.{First, FirstAt, AfterNumber, WrittenNote, EmptyArm, FullArm, NilSpells, FirstPower, PowerSpells, Spells, AllSpell, MoreItems, MoreFields, rank, Fits, AreAtoms, AllFit, FieldsFit}
-use Rattle.um_expr.specs.ExprMachine.{Frame, InBracket, InItem, InField, InValue, InBody, InTest, InThen, InElse, InMatched, InEmptyArm, InFullArm, InNegate, InNot, InPown, InRight, InArgument, top_bound, with_field, LetBinder, LetEqual, FieldName, FieldEqual, DotName, ArmBegin, ArmOpen, ArmClose, ArmArrow, HeadBinder, HeadCons, TailBinder, TailArrow, NilColon, PownMinus, PownDigits, PownClose, State, Need, Have, HavePower, Inside, InType, Refused, act, argument, inside, pown_after, with_after, bar_after, close_after, list_after, record_after, semi_after, in_after, then_after, else_after, step}
+use Rattle.um_expr.specs.ExprMachine.{act, argument, inside, pown_after, with_after, bar_after, close_after, list_after, record_after, semi_after, in_after, then_after, else_after, step, begins_atom}
 use Rattle.um_expr.proofs.ExprEnds.{opened_call, last_argument, last_atom, atom_opened, atom_last, rank_low, arith_low, put, put_last, order_last, put_fields, put_field_last, field_order_last, ends_whole}
 use Rattle.um_expr.proofs.ExprYields.{thence, yields_first, yields_at, yields_alike, yields_type, yields_type_end}
-use Rattle.um_expr.specs.ExprKinds.{is_power, is_plain_number, begins_atom}
 use Rattle.um_expr.specs.declared.token.ExprToken.{ExprToken}
 use Rattle.um_syntax.specs.declared.token.Kind.TheVariants as kind
 use Rattle.um_expr.specs.ExprTokens.{expr_token}

@@ -3,14 +3,15 @@ use Rattle.std.proofs.Common.{◌≡◌, ℕ, ◌≤◌, List, [], ◌∷◌, Op
 use Rattle.std.proofs.lemmas.Bool.{cases_lt, lt-ltb, le-ltb}
 use Rattle.um_tree.specs.RawTree.{ExprSyntax}
 use Rattle.um_tree.specs.declared.expression.Arith.TheVariants as arith_sign
-use Rattle.um_expr.specs.declared.infix.Infix.{Infix}
-use Rattle.um_expr.specs.declared.infix.Infix.TheVariants as between
-use Rattle.um_expr.specs.declared.operand.Operand.{Operand}
-use Rattle.um_expr.specs.declared.focus.Focus.{Focus}
-use Rattle.um_expr.specs.declared.focus.Step.TheVariants as step
-use Rattle.um_expr.specs.Ranks.{infix_rank, left_limit}
-use Rattle.um_expr.specs.ExprOperands.{operand_expr}
-use Rattle.um_expr.specs.ExprMachine.{Frame, own_rank, plug, top_bound, Have, Refused, reduce, infix_after, greater_after, whole, finish}
+use Rattle.um_operands.specs.declared.infix.Infix.{Infix}
+use Rattle.um_operands.specs.declared.infix.Infix.TheVariants as between
+use Rattle.um_operands.specs.declared.operand.Operand.{Operand}
+use Rattle.um_operands.specs.declared.focus.Focus.{Focus}
+use Rattle.um_operands.specs.declared.focus.Step.TheVariants as step
+use Rattle.um_operands.specs.Ranks.{infix_rank, left_limit}
+use Rattle.um_operands.specs.ExprOperands.{operand_expr}
+use Rattle.um_operands.specs.ExprBegun.{Frame, own_rank, plug, top_bound, Have, Refused, reduce, whole, finish}
+use Rattle.um_expr.specs.ExprMachine.{infix_after, greater_after}
 use Rattle.um_expr.specs.ExprStates.{Simulates}
 
 -- frames that are ended up to a lower rank first are ended alike

@@ -16,16 +16,17 @@ use Rattle.um_types.proofs.NoteLaws.{NoteSpellsPrefix, note_sound, note_found}
 use Rattle.um_types.proofs.TypeSound.{TypeSpellsPrefix, type_sound, type_found}
 use Rattle.um_syntax.specs.declared.vocabulary.Keyword.TheVariants as keyword
 use Rattle.um_syntax.specs.declared.vocabulary.Symbol.TheVariants as symbol
-use Rattle.um_expr.specs.declared.infix.Infix.{Infix}
-use Rattle.um_expr.specs.declared.infix.Infix.TheVariants as between
+use Rattle.um_operands.specs.declared.infix.Infix.{Infix}
+use Rattle.um_operands.specs.declared.infix.Infix.TheVariants as between
+use Rattle.um_operands.specs.Ranks.{infix_rank, left_limit}
+use Rattle.um_operands.specs.ExprBegun.{Frame, InBracket, InItem, InField, InValue, InTest, InThen, InMatched, InEmptyArm, InNegate, InNot, InPown, InRight, InArgument, top_bound, with_field, Expected, LetBinder, LetEqual, FieldName, FieldEqual, DotName, ArmBegin, ArmOpen, ArmClose, ArmArrow, HeadBinder, HeadCons, TailBinder, TailArrow, NilColon, PownMinus, PownDigits, PownClose, State, Need, Have, HavePower, Greater, Inside, InNote, InType, Refused, reduce, whole, finish}
+use Rattle.um_operands.specs.ExprKinds.{is_power, is_plain_number}
 use Rattle.um_expr.specs.declared.token.ExprToken.{ExprToken}
 use Rattle.um_expr.specs.declared.token.ExprToken.TheVariants.{Name as name, Number as number, Truth as truth, Hole as hole, Operator as operator, Word as word, Mark as mark}
 use Rattle.um_expr.specs.ExprTokens.{expr_token, equal, less, greater}
-use Rattle.um_expr.specs.Ranks.{infix_rank, left_limit}
 use Rattle.um_expr.specs.ExprGrammar.{First, FirstAt, FirstGlued, AfterNumber, InfixAt, Spells, rank, Fits}
-use Rattle.um_expr.specs.ExprMachine.{Frame, InBracket, InItem, InField, InValue, InTest, InThen, InMatched, InEmptyArm, InNegate, InNot, InPown, InRight, InArgument, top_bound, with_field, Expected, LetBinder, LetEqual, FieldName, FieldEqual, DotName, ArmBegin, ArmOpen, ArmClose, ArmArrow, HeadBinder, HeadCons, TailBinder, TailArrow, NilColon, PownMinus, PownDigits, PownClose, State, Need, Have, HavePower, Greater, Inside, InNote, InType, Refused, reduce, if_may, empty_list, begin, after_greater, argument, begin_in, infix_after, greater_after, less_after, close_after, list_after, record_after, semi_after, in_after, then_after, else_after, with_after, bar_after, pown_after, number_after, bracket_after, after, power_after, inside, note_ends, type_ends, note_goes, type_goes, step, whole, finish}
+use Rattle.um_expr.specs.ExprMachine.{if_may, empty_list, begin, after_greater, argument, begin_in, infix_after, greater_after, less_after, close_after, list_after, record_after, semi_after, in_after, then_after, else_after, with_after, bar_after, pown_after, number_after, bracket_after, after, power_after, inside, note_ends, type_ends, note_goes, type_goes, step}
 use Rattle.um_expr.proofs.ExprEnds.{infix_low, arith_low}
-use Rattle.um_expr.specs.ExprKinds.{is_power, is_plain_number}
 use Rattle.um_expr.proofs.ExprAtEnd.{is_less}
 use Rattle.um_expr.proofs.ExprSuffixes.{Leaves, leaves_then, leaves_first, leaves_at, leaves_expr, NumberFree, free_first, number_apart, atom_free}
 use Rattle.um_expr.proofs.ExprPrefixes.{ExpectedReads, FramesRead, FramesFit, AtFocus, FocusReads, power_rank, SpellsPrefix, SpellsPrefixUpTo, items_next, items_last, items_fit, fields_next, fields_last, fields_fit, arguments_last, atoms_last, ended}

@@ -8,12 +8,12 @@ use Rattle.um_types.specs.TypeGrammar.{NoteSpells, NoteFits, TypeSpells, TypeFit
 use Rattle.um_types.proofs.NoteComplete.{note_reaches}
 use Rattle.um_types.proofs.TypeComplete.{type_reaches}
 use Rattle.um_syntax.specs.declared.vocabulary.Symbol.TheVariants as symbol
-use Rattle.um_expr.specs.declared.infix.Infix.{Infix}
-use Rattle.um_expr.specs.declared.infix.Infix.TheVariants as between
+use Rattle.um_operands.specs.declared.infix.Infix.{Infix}
+use Rattle.um_operands.specs.declared.infix.Infix.TheVariants as between
+use Rattle.um_operands.specs.ExprKinds.{is_plain_number}
 use Rattle.um_expr.specs.declared.token.ExprToken.{ExprToken}
 use Rattle.um_expr.specs.declared.token.ExprToken.TheVariants.{Name as name, Number as number, Truth as truth, Mark as mark}
 use Rattle.um_expr.specs.ExprTokens.{expr_token, greater}
-use Rattle.um_expr.specs.ExprKinds.{is_plain_number}
 use Rattle.um_expr.specs.ExprGrammar.{First, FirstAt, FirstGlued, AfterNumber, InfixAt, EmptyArm, FullArm, Spells, AllSpell, ItemsSpell, MoreItems, FieldsSpell, MoreFields, rank, Fits, AreAtoms, AllFit, FieldsFit}
 use Rattle.um_expr.proofs.ExprEnds.{rank_low, arith_low}
 use Rattle.um_expr.proofs.ExprReads.{complete}

@@ -17,11 +17,12 @@ use Rattle.um_types.proofs.TypeComplete.{type_reaches}
 use Rattle.um_syntax.specs.declared.vocabulary.Symbol.TheVariants as symbol
 use Rattle.um_reader.specs.Machine.{Yields}
 use Rattle.um_reader.proofs.Reaching.{yields_then}
+use Rattle.um_operands.specs.ExprBegun.{Frame, State, Have, InNote, InType}
 use Rattle.um_expr.specs.declared.token.ExprToken.{ExprToken}
 use Rattle.um_expr.specs.declared.token.ExprToken.TheVariants.{Mark as mark}
 use Rattle.um_expr.specs.ExprTokens.{expr_token, greater}
 use Rattle.um_expr.specs.ExprGrammar.{First, FirstAt, FirstGlued}
-use Rattle.um_expr.specs.ExprMachine.{Frame, State, Have, InNote, InType, note_ends, type_ends, note_goes, type_goes, act, step}
+use Rattle.um_expr.specs.ExprMachine.{note_ends, type_ends, note_goes, type_goes, act, step}
 use Rattle.um_expr.proofs.ExprTokenKinds.{greater_is, mark_is}
 
 pub thence : {a b c : State} → {s t r : List Token} → Yields step a s b t → Yields step b t c r → Yields step a s c r

@@ -12,9 +12,6 @@ pub mod ExprCompletions
 pub mod ExprHeights
 pub mod ExprLaws
 mod ExprReading
-mod ExprLists
-mod ExprStackLaws
-mod ExprLow
 mod ExprRefusals
 mod ExprExamples
 mod ExprInside

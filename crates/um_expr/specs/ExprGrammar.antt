@@ -25,14 +25,14 @@ use Rattle.um_tree.specs.RawTree.{match_syntax, nil_syntax, list_syntax, cons_sy
 use Rattle.um_tree.specs.RawTree.{bracket_expr_syntax, no_exprs, more_exprs, no_fields, more_fields}
 use Rattle.um_syntax.specs.declared.vocabulary.Keyword.TheVariants as keyword
 use Rattle.um_syntax.specs.declared.vocabulary.Symbol.TheVariants as symbol
-use Rattle.um_expr.specs.declared.infix.Infix.{Infix}
-use Rattle.um_expr.specs.declared.infix.Infix.TheVariants as between
+use Rattle.um_operands.specs.declared.infix.Infix.{Infix}
+use Rattle.um_operands.specs.declared.infix.Infix.TheVariants as between
+use Rattle.um_operands.specs.Ranks.{arith_rank}
 use Rattle.um_expr.specs.declared.token.ExprToken.{ExprToken}
 use Rattle.um_expr.specs.declared.token.ExprToken.TheVariants.{Name as name, Number as number, Truth as truth}
 use Rattle.um_expr.specs.declared.token.ExprToken.TheVariants.{Hole as hole, Operator as operator, Word as word}
 use Rattle.um_expr.specs.declared.token.ExprToken.TheVariants.{Mark as mark}
 use Rattle.um_expr.specs.ExprTokens.{expr_token, equal, less, greater, minus, double_colon}
-use Rattle.um_expr.specs.Ranks.{arith_rank}
 use Rattle.um_types.specs.UnitTokens.{unit_token}
 use Rattle.um_types.specs.UnitMachine.{power_in}
 use Rattle.um_types.specs.TypeGrammar.{NoteSpells, NoteFits, TypeSpells, TypeFits}

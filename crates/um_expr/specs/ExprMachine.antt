@@ -1,148 +1,41 @@
--- Reading an expression token by token: what is open, and the atom at focus. The machines of notes and types run
--- inside;
--- a token that they refuse ends them and is looked at again.
+-- Reading an expression token by token: what each token makes of an expression that has begun. The machines of notes and
+-- types run inside; a token that they refuse ends them and is looked at again.
 -- Source: operator precedence with a stack, as in Knuth, Fundamental Algorithms, 2.2.1; this project's own states.
-use Rattle.std.specs.Prelude.{ℕ, ℤ, pos, neg_ℤ, Bool, true, false, cond, nat_lt, List, [], ◌∷◌, ◌++◌, Option}
-use Rattle.std.specs.Prelude.{Some, None}
+use Rattle.std.specs.Prelude.{ℕ, pos, neg_ℤ, Bool, true, false, cond, nat_lt, List, [], ◌∷◌, ◌++◌, Option, Some, None}
 use Rattle.um_frac.specs.declared.number.Frac.{Frac}
 use Rattle.um_syntax.specs.declared.token.Token.{Token}
 use Rattle.um_syntax.specs.declared.token.Kind.{Kind}
-use Rattle.um_tree.specs.declared.expression.Sign.TheVariants as compare
-use Rattle.um_tree.specs.declared.expression.Arith.TheVariants as arith
-use Rattle.um_tree.specs.RawTree.{NoteSyntax, TypeSyntax, BinderSyntax, ExprSyntax, FieldPart, truth_syntax}
-use Rattle.um_tree.specs.RawTree.{number_syntax, name_syntax, call_syntax, negate_syntax, not_syntax, if_syntax}
-use Rattle.um_tree.specs.RawTree.{pown_syntax, let_syntax, match_syntax, nil_syntax, list_syntax, fields_syntax}
-use Rattle.um_tree.specs.RawTree.{field_syntax, bracket_expr_syntax, exprs_in_order, fields_in_order}
-use Rattle.um_types.specs.UnitTokens.{unit_token}
-use Rattle.um_types.specs.UnitMachine.{power_in}
-use Rattle.um_types.specs.NoteMachine.{NoteState, NeedNote, NoNote, note_act, note_finish}
-use Rattle.um_types.specs.TypeMachine.{TypeState, NeedType, NoType, type_act, type_finish}
 use Rattle.um_syntax.specs.declared.vocabulary.Keyword.{Keyword}
 use Rattle.um_syntax.specs.declared.vocabulary.Keyword.TheVariants as keyword
 use Rattle.um_syntax.specs.declared.vocabulary.Symbol.{Symbol}
 use Rattle.um_syntax.specs.declared.vocabulary.Symbol.TheVariants as symbol
-use Rattle.um_expr.specs.declared.infix.Infix.{Infix}
-use Rattle.um_expr.specs.declared.infix.Infix.TheVariants as between
+use Rattle.um_tree.specs.declared.expression.Sign.TheVariants as compare
+use Rattle.um_tree.specs.declared.expression.Arith.TheVariants as arith
+use Rattle.um_tree.specs.RawTree.{NoteSyntax, TypeSyntax, ExprSyntax, truth_syntax, number_syntax, name_syntax}
+use Rattle.um_tree.specs.RawTree.{pown_syntax, nil_syntax, list_syntax, fields_syntax, field_syntax}
+use Rattle.um_tree.specs.RawTree.{bracket_expr_syntax, exprs_in_order, fields_in_order}
+use Rattle.um_reader.specs.Machine.{Machine}
+use Rattle.um_types.specs.UnitTokens.{unit_token}
+use Rattle.um_types.specs.UnitMachine.{power_in}
+use Rattle.um_types.specs.NoteMachine.{NoteState, NeedNote, NoNote, note_act, note_finish}
+use Rattle.um_types.specs.TypeMachine.{TypeState, NeedType, NoType, type_act, type_finish}
+use Rattle.um_operands.specs.declared.infix.Infix.{Infix}
+use Rattle.um_operands.specs.declared.infix.Infix.TheVariants as between
+use Rattle.um_operands.specs.Ranks.{infix_rank, left_limit}
+use Rattle.um_operands.specs.ExprBegun.{Frame, InBracket, InItem, InField, InValue, InBody, InTest, InThen, InElse}
+use Rattle.um_operands.specs.ExprBegun.{InMatched, InEmptyArm, InFullArm, InNegate, InNot, InPown, InRight, InArgument}
+use Rattle.um_operands.specs.ExprBegun.{top_bound, is_pown, with_field, Expected, LetBinder, LetEqual, FieldName}
+use Rattle.um_operands.specs.ExprBegun.{FieldEqual, DotName, ArmBegin, ArmOpen, ArmClose, ArmArrow, HeadBinder}
+use Rattle.um_operands.specs.ExprBegun.{HeadCons, TailBinder, TailArrow, NilColon, PownMinus, PownDigits, PownClose}
+use Rattle.um_operands.specs.ExprBegun.{State, Need, Have, HavePower, Greater, Inside, InNote, InType, Refused, reduce}
+use Rattle.um_operands.specs.ExprBegun.{finish}
+use Rattle.um_operands.specs.ExprLeast.{whole_least}
+use Rattle.um_operands.specs.ExprKinds.{is_power}
 use Rattle.um_expr.specs.declared.token.ExprToken.{ExprToken}
 use Rattle.um_expr.specs.declared.token.ExprToken.TheVariants.{Name as name, Number as number, Truth as truth}
 use Rattle.um_expr.specs.declared.token.ExprToken.TheVariants.{Hole as hole, Operator as operator, Word as word}
 use Rattle.um_expr.specs.declared.token.ExprToken.TheVariants.{Mark as mark}
 use Rattle.um_expr.specs.ExprTokens.{expr_token}
-use Rattle.um_expr.specs.ExprKinds.{is_power}
-use Rattle.um_expr.specs.Ranks.{infix_rank, left_limit, right_bound, infix_text}
-
--- what is open around the next operand
-pub data Frame : Type 0 where
-  InBracket : (at : ℕ) → Frame
-  -- `[` and these items
-  InItem : (at : ℕ) (before : List ExprSyntax) → Frame
-  -- `{`, these fields, and a field's name with its `=`
-  InField : (at : ℕ) (before : List FieldPart) (place : ℕ) (name : List ℕ) → Frame
-  -- behind `=`; behind `in`
-  InValue : (at : ℕ) (x : BinderSyntax) → Frame
-  InBody : (at : ℕ) (x : BinderSyntax) (value : ExprSyntax) → Frame
-  -- behind `if`; `then`; `else`
-  InTest : (at : ℕ) → Frame
-  InThen : (at : ℕ) (test : ExprSyntax) → Frame
-  InElse : (at : ℕ) (test one : ExprSyntax) → Frame
-  -- behind `match`; the first `->`; the second
-  InMatched : (at : ℕ) → Frame
-  InEmptyArm : (at : ℕ) (list : ExprSyntax) → Frame
-  InFullArm : (at : ℕ) (list empty : ExprSyntax) (head tail : BinderSyntax) → Frame
-  InNegate : (at : ℕ) → Frame
-  InNot : (at : ℕ) → Frame
-  -- behind `pown`: its power ends it
-  InPown : (at : ℕ) → Frame
-  InRight : (at : ℕ) (sign : Infix) (left : ExprSyntax) → Frame
-  -- behind a name and these arguments
-  InArgument : (at : ℕ) (function : List ℕ) (before : List ExprSyntax) → Frame
-
--- the rank of what stands in the frame lies below this
-abbrev pub bound_of : Frame → ℕ
-bound_of (InNegate at) = 3
-bound_of (InNot at) = 1
-bound_of (InPown at) = 1
-bound_of (InRight at sign left) = right_bound sign
-bound_of (InArgument at f before) = 1
-bound_of _ = 10
-
--- the rank of what a frame that needs no token to end becomes; the others have 10
-abbrev pub own_rank : Frame → ℕ
-own_rank (InBody at x value) = 9
-own_rank (InElse at test one) = 9
-own_rank (InFullArm at list empty head tail) = 9
-own_rank (InNegate at) = 2
-own_rank (InNot at) = 1
-own_rank (InRight at sign left) = infix_rank sign
-own_rank (InArgument at f before) = 1
-own_rank _ = 10
-
-abbrev pub top_bound : List Frame → ℕ
-top_bound [] = 10
-top_bound (frame ∷ frames) = bound_of frame
-
-abbrev pub top_rank : List Frame → ℕ
-top_rank [] = 10
-top_rank (frame ∷ frames) = own_rank frame
-
--- a frame that needs no token to end, with its last part
-abbrev pub plug : Frame → ExprSyntax → ExprSyntax
-plug (InBody at x value) last = let_syntax at x value last
-plug (InElse at test one) last = if_syntax at test one last
-plug (InFullArm at list empty head tail) last = match_syntax at list empty head tail last
-plug (InNegate at) last = negate_syntax at last
-plug (InNot at) last = not_syntax at last
-plug (InRight at sign left) last = infix_text at sign left last
-plug (InArgument at f before) last = call_syntax at f (exprs_in_order (before ++ last ∷ []))
-plug _ last = last
-
--- a place inside a run of tokens that is fixed
-pub data Expected : Type 0 where
-  -- behind `let`; behind its binder
-  LetBinder : (at : ℕ) → Expected
-  LetEqual : (at : ℕ) (x : BinderSyntax) → Expected
-  -- behind `{` or `;` and these fields; behind the name
-  FieldName : (at : ℕ) (before : List FieldPart) → Expected
-  FieldEqual : (at : ℕ) (before : List FieldPart) (place : ℕ) (name : List ℕ) → Expected
-  -- behind `.`
-  DotName : (at : ℕ) (e : ExprSyntax) → Expected
-  -- behind `with`; its bar; `[`; `]`
-  ArmBegin : (at : ℕ) (list : ExprSyntax) → Expected
-  ArmOpen : (at : ℕ) (list : ExprSyntax) → Expected
-  ArmClose : (at : ℕ) (list : ExprSyntax) → Expected
-  ArmArrow : (at : ℕ) (list : ExprSyntax) → Expected
-  -- behind the bar of the full arm; the head; `::`; the tail
-  HeadBinder : (at : ℕ) (list empty : ExprSyntax) → Expected
-  HeadCons : (at : ℕ) (list empty : ExprSyntax) (head : BinderSyntax) → Expected
-  TailBinder : (at : ℕ) (list empty : ExprSyntax) (head : BinderSyntax) → Expected
-  TailArrow : (at : ℕ) (list empty : ExprSyntax) (head tail : BinderSyntax) → Expected
-  -- behind `(` `[` `]`
-  NilColon : (at : ℕ) → Expected
-  -- behind `pown`, its part and `(`; `-`; the power, which is this
-  PownMinus : (at : ℕ) (e : ExprSyntax) → Expected
-  PownDigits : (at : ℕ) (e : ExprSyntax) → Expected
-  PownClose : (at : ℕ) (e : ExprSyntax) (k : ℤ) → Expected
-
-pub data State : Type 0 where
-  -- an operand is wanted
-  Need : (frames : List Frame) → State
-  -- an atom is at focus, or a whole power in brackets
-  Have : (frames : List Frame) (operand : ExprSyntax) → State
-  -- a whole power is at focus: a `<` directly behind its number would open a unit, and it has none
-  HavePower : (frames : List Frame) (operand : ExprSyntax) → State
-  -- behind `>`: a `=` directly behind it belongs to the sign
-  Greater : (frames : List Frame) (at : ℕ) (left : ExprSyntax) → State
-  Inside : (frames : List Frame) (expected : Expected) → State
-  -- in the note of a number; in the type of an empty list
-  InNote : (frames : List Frame) (at : ℕ) (value : Frac) (note : NoteState) → State
-  InType : (frames : List Frame) (at : ℕ) (type_state : TypeState) → State
-  Refused : State
-
--- what is left open where all frames up to this rank end
-abbrev pub reduce : ℕ → List Frame → ExprSyntax → State
-reduce limit [] t = Have [] t
-reduce limit (frame ∷ frames) t =
-    cond (nat_lt limit (own_rank frame)) (Have (frame ∷ frames) t) (reduce limit frames (plug frame t))
 
 -- a form of this rank begins, where it may
 abbrev pub if_may : List Frame → ℕ → State → State
@@ -177,6 +70,16 @@ after_greater frames place left (operator (between.Compare compare.Eq)) at glued
 after_greater frames place left token at glued =
     begin (InRight place (between.Compare compare.Gt) left ∷ frames) token at
 
+-- which tokens begin an argument
+abbrev pub begins_atom : ExprToken → Bool
+begins_atom (name x) = true
+begins_atom (number c) = true
+begins_atom (truth b) = true
+begins_atom (mark symbol.LeftParen) = true
+begins_atom (mark symbol.LeftBracket) = true
+begins_atom (mark symbol.LeftBrace) = true
+begins_atom _ = false
+
 -- an atom follows an atom: it is an argument
 abbrev pub argument : List Frame → ExprSyntax → Option (List Frame)
 argument (InArgument at f before ∷ frames) t = Some (InArgument at f (before ++ t ∷ []) ∷ frames)
@@ -186,11 +89,6 @@ argument frames t = None
 abbrev pub begin_in : Option (List Frame) → ExprToken → ℕ → State
 begin_in (Some frames) token at = begin frames token at
 begin_in None token at = Refused
-
--- whether the power of `pown` is wanted
-abbrev pub is_pown : Frame → Bool
-is_pown (InPown at) = true
-is_pown _ = false
 
 abbrev pub in_pown : List Frame → Bool
 in_pown [] = false
@@ -236,13 +134,6 @@ close_after _ = Refused
 abbrev pub list_after : State → State
 list_after (Have (InItem at before ∷ frames) t) = Have frames (list_syntax at (exprs_in_order (before ++ t ∷ [])))
 list_after _ = Refused
-
-abbrev pub named_part : ℕ → List ℕ → ExprSyntax → FieldPart
-named_part place x t = record { at = place; name = x; part = t }
-
--- the fields with one more
-abbrev pub with_field : List FieldPart → ℕ → List ℕ → ExprSyntax → List FieldPart
-with_field before place x t = before ++ named_part place x t ∷ []
 
 abbrev pub record_after : State → State
 record_after (Have (InField at before place x ∷ frames) t) =
@@ -392,12 +283,7 @@ own_step (InNote frames place c n) token = note_ends frames place c (note_finish
 own_step (InType frames place s) token = type_ends frames place (type_finish s) (expr_token token.kind)
 own_step st token = step st token
 
--- the expression where all is read
-abbrev pub whole : State → Option ExprSyntax
-whole (Have [] t) = Some t
-whole _ = None
-
-abbrev pub finish : State → Option ExprSyntax
-finish (Have frames t) = whole (reduce 9 frames t)
-finish (HavePower frames t) = whole (reduce 9 frames t)
-finish _ = None
+-- the machine of expressions
+abbrev pub machine_of_expressions : Machine State Token ExprSyntax
+machine_of_expressions =
+    record { start = Need []; refused = Refused; step = step; finish = finish; least = whole_least }

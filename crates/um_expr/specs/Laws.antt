@@ -3,9 +3,9 @@
 -- Right.
 use Rattle.um_reader.specs.Readers.{ReadsTexts}
 use Rattle.um_types.specs.UnitStops.{greatest_height}
+use Rattle.um_operands.specs.ExprHeights.{whole_expr_height}
 use Rattle.um_expr.specs.ExprGrammar.{IsExpr}
-use Rattle.um_expr.specs.ExprHeights.{whole_expr_height}
-use Rattle.um_expr.specs.ExprLeast.{machine_of_expressions}
+use Rattle.um_expr.specs.ExprMachine.{machine_of_expressions}
 
 abbrev pub ExprReaderReads : Type 0
 ExprReaderReads = ReadsTexts machine_of_expressions IsExpr whole_expr_height greatest_height

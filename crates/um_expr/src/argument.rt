@@ -1,23 +1,18 @@
 // An atom behind an atom: it is an argument.
 ghost use Rattle.std.specs.Prelude.{◌≡◌, ◌<◌, ◌∷◌, IfOk, None, Some, OnOk, false, true};
-ghost use Rattle.um_expr.specs.ExprKinds.{is_name, begins_atom};
-ghost use Rattle.um_expr.specs.ExprMachine.{Have, argument, begin_in, finish, top_bound};
-ghost use Rattle.um_expr.specs.ExprOperands.{operand_expr};
-ghost use Rattle.um_expr.specs.ExprFrames.{view_frame, is_call};
-ghost use Rattle.um_expr.specs.ExprStack.{frames_of};
+ghost use Rattle.um_operands.specs.ExprKinds.{is_name};
+ghost use Rattle.um_operands.specs.ExprBegun.{Have, finish, top_bound};
+ghost use Rattle.um_operands.specs.ExprOperands.{operand_expr};
+ghost use Rattle.um_operands.specs.ExprFrames.{view_frame, is_call};
+ghost use Rattle.um_operands.specs.ExprStack.{frames_of};
+ghost use Rattle.um_expr.specs.ExprMachine.{begins_atom, argument, begin_in};
 ghost use Rattle.um_expr.specs.ExprStates.{Simulates, Argued, in_call};
 
 use crate::begin::begin;
-use crate::ending::whole;
-use crate::focus::{Focus, Step};
-use crate::frame::Frame;
-use crate::frames::Frames;
-use crate::node::composite;
-use crate::operand::Operand;
-use crate::operands::Operands;
 use crate::token::ExprToken;
 use std::alloc::{AllocError, Global};
 use std::mem;
+use um_operands::{Focus, Frame, Frames, Operand, Operands, Step, composite, whole};
 use um_tree::{Name, RawNode};
 
 // Whether the innermost frame is a call.

@@ -1,21 +1,17 @@
 // One token where an operand is wanted.
 ghost use Rattle.std.specs.Prelude.{◌≡◌, ◌==◌, ◌∷◌, IfOk, None, vec_len};
-ghost use Rattle.um_expr.specs.declared.focus.Step.TheVariants.{Stops};
+ghost use Rattle.um_operands.specs.declared.focus.Step.TheVariants.{Stops};
+ghost use Rattle.um_operands.specs.ExprBegun.{Need};
+ghost use Rattle.um_operands.specs.ExprOperands.{operand_expr};
+ghost use Rattle.um_operands.specs.ExprFrames.{view_frame};
+ghost use Rattle.um_operands.specs.ExprStack.{frames_of};
 ghost use Rattle.um_expr.specs.declared.token.ExprToken.TheVariants.{Operator as operator, Word as word, Mark as mark};
-ghost use Rattle.um_expr.specs.ExprMachine.{Need, Greater, if_may, empty_list, begin, after_greater};
-ghost use Rattle.um_expr.specs.ExprOperands.{operand_expr};
-ghost use Rattle.um_expr.specs.ExprFrames.{view_frame};
-ghost use Rattle.um_expr.specs.ExprStack.{frames_of};
+ghost use Rattle.um_expr.specs.ExprMachine.{if_may, empty_list, begin, after_greater};
 ghost use Rattle.um_expr.specs.ExprStates.{Simulates, bracket_empty};
 
-use crate::focus::{Expected, Focus, Step};
-use crate::frame::Frame;
-use crate::frames::Frames;
-use crate::infix::Infix;
-use crate::operand::Operand;
-use crate::operands::{Operands, ReadFields};
 use crate::token::ExprToken;
 use std::alloc::{AllocError, Global};
+use um_operands::{Expected, Focus, Frame, Frames, Infix, Operand, Operands, ReadFields, Step};
 use um_syntax::{Keyword, Symbol};
 use um_tree::{Arith, Sign};
 

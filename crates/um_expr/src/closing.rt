@@ -1,19 +1,16 @@
 // A sign or reserved word that ends or goes on a form behind an atom.
 ghost use Rattle.std.specs.Prelude.{◌≡◌, ◌∷◌, IfOk, None};
-ghost use Rattle.um_expr.specs.declared.focus.Step.TheVariants.{Stops};
-ghost use Rattle.um_expr.specs.ExprMachine.{Have, reduce, finish, close_after, list_after, record_after, semi_after, in_after, then_after, else_after, with_after, bar_after, mark_ends, word_ends};
-ghost use Rattle.um_expr.specs.ExprOperands.{operand_expr};
-ghost use Rattle.um_expr.specs.ExprFrames.{view_frame};
-ghost use Rattle.um_expr.specs.ExprStack.{frames_of};
+ghost use Rattle.um_operands.specs.declared.focus.Step.TheVariants.{Stops};
+ghost use Rattle.um_operands.specs.ExprBegun.{Have, reduce, finish};
+ghost use Rattle.um_operands.specs.ExprOperands.{operand_expr};
+ghost use Rattle.um_operands.specs.ExprFrames.{view_frame};
+ghost use Rattle.um_operands.specs.ExprStack.{frames_of};
+ghost use Rattle.um_expr.specs.ExprMachine.{close_after, list_after, record_after, semi_after, in_after, then_after, else_after, with_after, bar_after, mark_ends, word_ends};
 ghost use Rattle.um_expr.specs.ExprStates.{Simulates};
 
 use crate::begin::opened;
-use crate::ending::ended;
-use crate::focus::{Expected, Focus, Step};
-use crate::frame::Frame;
-use crate::frames::Frames;
-use crate::operand::Operand;
 use std::alloc::{AllocError, Global};
+use um_operands::{Expected, Focus, Frame, Frames, Operand, Step, ended};
 use um_syntax::{Keyword, Symbol};
 
 /// A frame that the token doesn't end.

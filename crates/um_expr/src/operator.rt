@@ -1,22 +1,17 @@
 // A sign between operands behind an atom.
 ghost use Rattle.std.specs.Prelude.{◌≡◌, IfOk, None, true};
-ghost use Rattle.um_expr.specs.declared.focus.Focus.{Focus};
-ghost use Rattle.um_expr.specs.declared.focus.Step.TheVariants.{Stops};
-ghost use Rattle.um_expr.specs.ExprKinds.{is_plain_number};
-ghost use Rattle.um_expr.specs.Ranks.{left_limit};
-ghost use Rattle.um_expr.specs.ExprMachine.{Have, reduce, finish, infix_after, greater_after, less_after, operator_after};
-ghost use Rattle.um_expr.specs.ExprOperands.{operand_expr};
-ghost use Rattle.um_expr.specs.ExprStack.{frames_of};
+ghost use Rattle.um_operands.specs.declared.focus.Focus.{Focus};
+ghost use Rattle.um_operands.specs.declared.focus.Step.TheVariants.{Stops};
+ghost use Rattle.um_operands.specs.ExprKinds.{is_plain_number};
+ghost use Rattle.um_operands.specs.Ranks.{left_limit};
+ghost use Rattle.um_operands.specs.ExprBegun.{Have, reduce, finish};
+ghost use Rattle.um_operands.specs.ExprOperands.{operand_expr};
+ghost use Rattle.um_operands.specs.ExprStack.{frames_of};
+ghost use Rattle.um_expr.specs.ExprMachine.{infix_after, greater_after, less_after, operator_after};
 ghost use Rattle.um_expr.specs.ExprStates.{Simulates};
 
-use crate::ending::{ended, whole};
-use crate::focus::{Focus, Step};
-use crate::frame::Frame;
-use crate::frames::Frames;
-use crate::infix::Infix;
-use crate::node::composite;
-use crate::operand::Operand;
 use std::alloc::{AllocError, Global};
+use um_operands::{Focus, Frame, Frames, Infix, Operand, Step, composite, ended, whole};
 use um_tree::{RawNode, Sign};
 
 // A sign between two operands.

@@ -1,23 +1,21 @@
 // The power of `pown`, behind its part.
 ghost use Rattle.std.specs.Prelude.{◌≡◌, ◌∷◌, IfOk, None, true};
-ghost use Rattle.um_expr.specs.declared.focus.Step.TheVariants.{Stops};
+ghost use Rattle.um_operands.specs.declared.focus.Step.TheVariants.{Stops};
 ghost use Rattle.um_types.specs.UnitTokens.{unit_token};
 ghost use Rattle.um_types.specs.UnitMachine.{power_in};
-ghost use Rattle.um_expr.specs.ExprMachine.{Have, finish, is_pown, in_pown, pown_after, number_after, pown_bracket, bracket_after};
-ghost use Rattle.um_expr.specs.ExprOperands.{operand_expr};
-ghost use Rattle.um_expr.specs.ExprFrames.{view_frame};
-ghost use Rattle.um_expr.specs.ExprStack.{frames_of};
+ghost use Rattle.um_operands.specs.ExprBegun.{Have, finish, is_pown};
+ghost use Rattle.um_operands.specs.ExprOperands.{operand_expr};
+ghost use Rattle.um_operands.specs.ExprFrames.{view_frame};
+ghost use Rattle.um_operands.specs.ExprStack.{frames_of};
+ghost use Rattle.um_expr.specs.ExprMachine.{in_pown, pown_after, number_after, pown_bracket, bracket_after};
 ghost use Rattle.um_expr.specs.ExprStates.{Simulates};
 
 use crate::argument::begin_argument;
 use crate::closing::refuse;
-use crate::focus::{Expected, Focus, Step};
-use crate::frame::Frame;
-use crate::frames::Frames;
-use crate::operand::Operand;
 use crate::token::ExprToken;
 use std::alloc::{AllocError, Global};
 use um_frac::Frac;
+use um_operands::{Expected, Focus, Frame, Frames, Operand, Step};
 use um_syntax::{Symbol, Token};
 use um_types::written_power;
 

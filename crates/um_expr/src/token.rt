@@ -4,9 +4,9 @@ ghost use Rattle.um_expr.specs.ExprStates.{PlainOperator};
 ghost use Rattle.um_syntax.specs.Emptied.{emptied_kind};
 ghost use Rattle.um_expr.specs.ExprTokens.{expr_token, keyword_token, symbol_token};
 
-use crate::infix::Infix;
 use std::alloc::Global;
 use um_frac::Frac;
+use um_operands::Infix;
 use um_syntax::{Keyword, Kind, Symbol};
 use um_tree::{Arith, Name, Sign};
 use um_types::name_of;

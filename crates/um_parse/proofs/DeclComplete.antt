@@ -14,12 +14,12 @@ use Rattle.um_syntax.specs.declared.vocabulary.Symbol.TheVariants as symbol
 use Rattle.um_reader.specs.Machine.{runs, Yields}
 use Rattle.um_reader.proofs.Reaching.{yields_here, yields_as}
 use Rattle.um_tree.specs.declared.expression.Sign.TheVariants as compare
-use Rattle.um_expr.specs.declared.infix.Infix.TheVariants as between
+use Rattle.um_operands.specs.declared.infix.Infix.TheVariants as between
+use Rattle.um_operands.specs.ExprBegun.{Need}
 use Rattle.um_expr.specs.declared.token.ExprToken.{ExprToken}
 use Rattle.um_expr.specs.declared.token.ExprToken.TheVariants.{Name as name, Variable as variable, Operator as operator, Word as word, Mark as mark}
 use Rattle.um_expr.specs.ExprTokens.{expr_token, equal, less, greater}
 use Rattle.um_expr.specs.ExprGrammar.{First, FirstAt}
-use Rattle.um_expr.specs.ExprMachine.{Need}
 use Rattle.um_parse.specs.DeclGrammar.{Attribute, VarSpells, MoreVars, VarsSpell, FieldDeclSpells, MoreFieldDecls, ParamSpells, ParamsSpell, ResultSpells, RecSpells, FunctionSpells, DeclSpells, FieldDeclsFit, ParamsFit, ResultFits, DeclFits}
 use Rattle.um_parse.specs.DeclMachine.{FunctionStart, start_of, VarOwner, OfRecord, OfFunction, started, body_begins_if, decl_act, DeclBegin, AttributeWord, AttributeGreater, AttributeClose, MeasureType, MeasureName, RecordName, RecordVars, VarBegin, VarWord, VarGreater, VarClose, VarName, VarEnd, RecordEqual, RecordBrace, FieldName, FieldColon, LetName, RecName, FunctionVars, Params, ParamBinder, ParamColon, DeclState, Expects, HaveBase, InShort, HaveRecord, InField, InParam, InResult, InBody, field_ends, param_ends, result_ends, field_goes, param_goes, result_goes, short_found, body_found, decl_finish, decl_step}
 use Rattle.um_expr.proofs.ExprTokenKinds.{mark_is, equal_is}

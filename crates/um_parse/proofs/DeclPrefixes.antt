@@ -8,10 +8,10 @@ use Rattle.um_types.specs.TypeMachine.{NoType}
 use Rattle.um_types.proofs.TypeSound.{TypeSpellsPrefix}
 use Rattle.um_syntax.specs.declared.vocabulary.Keyword.TheVariants as keyword
 use Rattle.um_syntax.specs.declared.vocabulary.Symbol.TheVariants as symbol
+use Rattle.um_operands.specs.ExprBegun.{Refused}
 use Rattle.um_expr.specs.declared.token.ExprToken.TheVariants.{Name as name, Word as word, Mark as mark}
 use Rattle.um_expr.specs.ExprTokens.{equal, less, greater}
 use Rattle.um_expr.specs.ExprGrammar.{First, FirstAt, BinderSpells}
-use Rattle.um_expr.specs.ExprMachine.{Refused}
 use Rattle.um_parse.specs.DeclGrammar.{Attribute, VarSpells, MoreVars, VarsSpell, FieldDeclSpells, MoreFieldDecls, FieldDeclsSpell, ParamSpells, ParamsSpell, ResultSpells, RecSpells, DeclSpells, FieldDeclsFit, ParamsFit, ResultFits}
 use Rattle.um_parse.specs.DeclMachine.{FunctionStart, VarOwner, OfRecord, OfFunction, DeclExpected, DeclBegin, AttributeWord, AttributeGreater, AttributeClose, MeasureType, MeasureName, RecordName, RecordVars, VarBegin, VarWord, VarGreater, VarClose, VarName, VarEnd, RecordEqual, RecordBrace, FieldName, FieldColon, LetName, RecName, FunctionVars, Params, ParamBinder, ParamColon, DeclState, Expects, HaveBase, InShort, HaveRecord, InField, InParam, InResult, InBody, NoDecl}
 use Rattle.um_expr.proofs.ExprPrefixes.{SpellsPrefix}

@@ -13,9 +13,9 @@ use Rattle.um_types.specs.TypeHeights.{whole_height}
 use Rattle.um_types.specs.TypeMachine.{TypeState, type_finish, type_least, machine_of_types}
 use Rattle.um_types.specs.UnitStops.{greatest_height}
 use Rattle.um_types.proofs.TypeLaws.{type_found_height}
+use Rattle.um_operands.specs.ExprBegun.{State}
 use Rattle.um_expr.specs.ExprTokens.{expr_token}
-use Rattle.um_expr.specs.ExprMachine.{State, step}
-use Rattle.um_expr.specs.ExprLeast.{machine_of_expressions}
+use Rattle.um_expr.specs.ExprMachine.{step, machine_of_expressions}
 use Rattle.um_parse.specs.DeclMachine.{FunctionStart, DeclBegin, Expects, InBody, NoDecl, take_expected, body_goes, body_found, decl_step}
 use Rattle.um_parse.specs.ProgramLeast.{decl_least, machine_of_declarations}
 use Rattle.um_parse.specs.DeclTokens.{BeginsAlike, IfStops}

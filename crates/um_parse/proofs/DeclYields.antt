@@ -14,11 +14,12 @@ use Rattle.um_types.proofs.UnitNested.{unit_reaches}
 use Rattle.um_types.proofs.TypeComplete.{type_reaches}
 use Rattle.um_syntax.specs.declared.vocabulary.Keyword.TheVariants as keyword
 use Rattle.um_syntax.specs.declared.vocabulary.Symbol.TheVariants as symbol
+use Rattle.um_operands.specs.ExprBegun.{State, Need, Refused}
 use Rattle.um_expr.specs.declared.token.ExprToken.{ExprToken}
 use Rattle.um_expr.specs.declared.token.ExprToken.TheVariants.{Name as name, Hole as hole, Word as word, Mark as mark}
 use Rattle.um_expr.specs.ExprTokens.{expr_token, greater}
 use Rattle.um_expr.specs.ExprGrammar.{First, FirstAt, bound, BinderSpells, Spells, Fits}
-use Rattle.um_expr.specs.ExprMachine.{State, Need, Refused, step}
+use Rattle.um_expr.specs.ExprMachine.{step}
 use Rattle.um_parse.specs.DeclGrammar.{Attribute}
 use Rattle.um_parse.specs.DeclMachine.{FunctionStart, DeclState, InShort, InField, InParam, InResult, InBody, short_goes, field_goes, param_goes, result_goes, body_goes, field_ends, param_ends, result_ends, decl_act, decl_step}
 use Rattle.um_expr.proofs.ExprEnds.{opened, last_atom}

@@ -11,10 +11,11 @@ use Rattle.um_types.specs.UnitTokens.{unit_token}
 use Rattle.um_types.proofs.ForeignTokens.{foreign_refused}
 use Rattle.um_syntax.specs.declared.vocabulary.Keyword.TheVariants as keyword
 use Rattle.um_syntax.specs.declared.vocabulary.Symbol.TheVariants as symbol
+use Rattle.um_operands.specs.ExprBegun.{Frame, Refused}
 use Rattle.um_expr.specs.declared.token.ExprToken.{ExprToken}
 use Rattle.um_expr.specs.declared.token.ExprToken.TheVariants.{Word as word, Mark as mark}
 use Rattle.um_expr.specs.ExprTokens.{expr_token}
-use Rattle.um_expr.specs.ExprMachine.{Frame, Refused, act}
+use Rattle.um_expr.specs.ExprMachine.{act}
 use Rattle.um_parse.specs.DeclGrammar.{DeclSpells, DeclsSpell, DeclFits, DeclsFit, IsProgram}
 use Rattle.um_parse.specs.DeclMachine.{start_of, DeclBegin, DeclState, Expects, NoDecl, base_after, short_goes, body_goes, decl_step, decl_finish, ProgramState, InProgram, program_goes, next_decl, program_step, program_found, program_finish}
 use Rattle.um_expr.proofs.ExprTokenKinds.{begins_decl, decl_is_foreign}

@@ -14,12 +14,13 @@ use Rattle.um_types.specs.UnitMachine.{finish as unit_finish}
 use Rattle.um_types.specs.TypeMachine.{TypeState, NeedType, NoType, type_act, type_finish}
 use Rattle.um_syntax.specs.declared.vocabulary.Keyword.TheVariants as keyword
 use Rattle.um_syntax.specs.declared.vocabulary.Symbol.TheVariants as symbol
-use Rattle.um_expr.specs.declared.infix.Infix.TheVariants as between
+use Rattle.um_operands.specs.declared.infix.Infix.TheVariants as between
+use Rattle.um_operands.specs.ExprBegun.{State, Need, Refused, finish}
 use Rattle.um_expr.specs.declared.token.ExprToken.{ExprToken}
 use Rattle.um_expr.specs.declared.token.ExprToken.TheVariants.{Name as name, Variable as variable, Hole as hole}
 use Rattle.um_expr.specs.declared.token.ExprToken.TheVariants.{Operator as operator, Word as word, Mark as mark}
 use Rattle.um_expr.specs.ExprTokens.{expr_token}
-use Rattle.um_expr.specs.ExprMachine.{State, Need, Refused, act, finish}
+use Rattle.um_expr.specs.ExprMachine.{act}
 
 -- a function up to its parameters
 pub record FunctionStart : Type 0 where

@@ -5,7 +5,7 @@ use Rattle.um_tree.specs.RawTree.{TypeSyntax, FieldDeclSyntax, ParamSyntax, Decl
 use Rattle.um_tree.specs.RawTree.{record_decl_syntax, function_syntax}
 use Rattle.um_tree.specs.Heights.{unit_height}
 use Rattle.um_types.specs.TypeHeights.{whole_height}
-use Rattle.um_expr.specs.ExprHeights.{whole_expr_height}
+use Rattle.um_operands.specs.ExprHeights.{whole_expr_height}
 
 abbrev pub fields_height : List FieldDeclSyntax → ℕ
 fields_height [] = 0

@@ -6,7 +6,7 @@ use Rattle.um_reader.specs.Machine.{Machine}
 use Rattle.um_tree.specs.RawTree.{DeclSyntax}
 use Rattle.um_types.specs.UnitLeast.{least}
 use Rattle.um_types.specs.TypeMachine.{type_least}
-use Rattle.um_expr.specs.ExprLeast.{whole_least}
+use Rattle.um_operands.specs.ExprLeast.{whole_least}
 use Rattle.um_parse.specs.ProgramHeights.{fields_height, params_height, result_height, program_height}
 use Rattle.um_parse.specs.DeclMachine.{DeclExpected, DeclBegin, AttributeWord, AttributeGreater, AttributeClose}
 use Rattle.um_parse.specs.DeclMachine.{MeasureType, MeasureName, FieldName, FieldColon, Params, ParamBinder}

@@ -51,8 +51,9 @@ pub struct FunctionReader {
 impl FunctionBody {
     ghost use Rattle.std.specs.Prelude.{◌≡◌, [], IfOk};
     ghost use Rattle.um_reader.specs.Takes.{Takes};
-    ghost use Rattle.um_expr.specs.ExprMachine.{Need};
-    ghost use Rattle.um_expr.specs.ExprLeast.{whole_least, machine_of_expressions};
+    ghost use Rattle.um_operands.specs.ExprBegun.{Need};
+    ghost use Rattle.um_operands.specs.ExprLeast.{whole_least};
+    ghost use Rattle.um_expr.specs.ExprMachine.{machine_of_expressions};
     ghost use Rattle.um_expr.specs.ExprStates.{expr_state};
     ghost use Rattle.um_parse.specs.DeclTokens.{BeginsAlike, IfStops};
 
@@ -89,7 +90,7 @@ impl FunctionReader {
     ghost use Rattle.um_types.specs.TypeHeights.{whole_height};
     ghost use Rattle.um_types.specs.TypeMachine.{NeedType, type_finish};
     ghost use Rattle.um_types.specs.TypeView.{type_state};
-    ghost use Rattle.um_expr.specs.ExprMachine.{Need, finish};
+    ghost use Rattle.um_operands.specs.ExprBegun.{Need, finish};
     ghost use Rattle.um_expr.specs.ExprStates.{expr_state};
     ghost use Rattle.um_expr.specs.ExprTokens.{expr_token};
     ghost use Rattle.um_parse.specs.DeclMachine.{NoDecl, ParamBinder, ParamColon, InBody, started, take_expected};

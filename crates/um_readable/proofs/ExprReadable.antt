@@ -4,8 +4,8 @@ use Rattle.um_syntax.specs.declared.token.Token.{Token}
 use Rattle.um_tree.specs.RawTree.{TypeSyntax, ExprSyntax, ExprSyntaxes, FieldSyntaxes, truth_syntax, number_syntax, name_syntax, call_syntax, negate_syntax, not_syntax, pown_syntax, arith_syntax, compare_syntax, and_syntax, or_syntax, if_syntax, let_syntax, match_syntax, nil_syntax, list_syntax, cons_syntax, fields_syntax, field_syntax, bracket_expr_syntax, no_exprs, more_exprs, no_fields, more_fields}
 use Rattle.um_tree.specs.Heights.{greatest_height, type_height}
 use Rattle.um_types.specs.TypeHeights.{units_height, whole_height}
+use Rattle.um_operands.specs.ExprHeights.{notes_in, notes_in_all, notes_in_fields}
 use Rattle.um_expr.specs.ExprGrammar.{Spells, AllSpell, ItemsSpell, MoreItems, FieldsSpell, MoreFields}
-use Rattle.um_expr.specs.ExprHeights.{notes_in, notes_in_all, notes_in_fields}
 use Rattle.um_names.specs.ExprNames.{length_of}
 use Rattle.um_names.specs.Readable.{IsReadExpr, AreReadExprs, AreReadFields}
 

@@ -7,9 +7,9 @@ use Rattle.um_tree.specs.declared.expression.Sign.{Sign}
 use Rattle.um_tree.specs.declared.expression.Sign.TheVariants as compare
 use Rattle.um_tree.specs.RawTree.{NoteSyntax, BinderSyntax, ExprSyntax, ExprSyntaxes, FieldSyntaxes, truth_syntax, number_syntax, name_syntax, call_syntax, negate_syntax, not_syntax, pown_syntax, arith_syntax, compare_syntax, and_syntax, or_syntax, if_syntax, let_syntax, match_syntax, nil_syntax, list_syntax, cons_syntax, fields_syntax, field_syntax, bracket_expr_syntax, no_exprs, more_exprs, no_fields, more_fields}
 use Rattle.um_types.specs.UnitMachine.{power_in}
-use Rattle.um_expr.specs.declared.infix.Infix.TheVariants as between_of
+use Rattle.um_operands.specs.declared.infix.Infix.TheVariants as between_of
+use Rattle.um_operands.specs.Ranks.{arith_rank}
 use Rattle.um_expr.specs.ExprTokens.{expr_token}
-use Rattle.um_expr.specs.Ranks.{arith_rank}
 use Rattle.um_expr.specs.ExprGrammar.{BinderSpells, InfixAt, WrittenNote, PowerSpells, Spells, AllSpell, MoreItems, MoreFields, NoteFitsIn, IsAny, Fits, AreAtoms, AllFit, FieldsFit, rank}
 use Rattle.um_show.specs.Pieces.{Piece, space, name, digits, less, greater, equal, at_most, unequal, plus, minus, times, over, double_and, double_bar, double_colon, true_word, false_word, if_word, then_word, else_word, let_word, in_word, match_word, with_word, not_word, pown_word, bar, arrow, dot, semi, colon, bracket_open, bracket_close, list_open, list_close, record_open, record_close}
 use Rattle.um_show.specs.Layout.{written_pieces, type_pieces, note_pieces, bound_piece, binder_piece, truth_piece, arith_piece, compare_pieces, whole_power_pieces, between, expr_pieces, argument_pieces, item_pieces, more_item_pieces, field_pieces, more_field_pieces}

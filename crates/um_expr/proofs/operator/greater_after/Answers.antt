@@ -1,6 +1,6 @@
 use Rattle.std.proofs.Common.{arith}
-use Rattle.um_expr.specs.ExprOperands.{operand_expr}
-use Rattle.um_expr.specs.ExprStack.{frames_of}
+use Rattle.um_operands.specs.ExprOperands.{operand_expr}
+use Rattle.um_operands.specs.ExprStack.{frames_of}
 use Rattle.um_expr.proofs.ExprRefusals.{greater_refused}
 use Rattle.um_expr.proofs.operator.greater_after.Goals as goal
 

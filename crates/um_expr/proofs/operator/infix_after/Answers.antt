@@ -1,8 +1,8 @@
 use Rattle.std.proofs.Common.{arith, ap, ◌∙◌}
-use Rattle.um_expr.specs.Ranks.{left_limit}
-use Rattle.um_expr.specs.ExprMachine.{reduce}
-use Rattle.um_expr.specs.ExprOperands.{operand_expr}
-use Rattle.um_expr.specs.ExprStack.{frames_of}
+use Rattle.um_operands.specs.Ranks.{left_limit}
+use Rattle.um_operands.specs.ExprBegun.{reduce}
+use Rattle.um_operands.specs.ExprOperands.{operand_expr}
+use Rattle.um_operands.specs.ExprStack.{frames_of}
 use Rattle.um_expr.proofs.ExprRefusals.{limit_low, sign_refused}
 use Rattle.um_expr.proofs.operator.infix_after.Goals as goal
 

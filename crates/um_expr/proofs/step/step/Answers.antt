@@ -1,8 +1,10 @@
 use Rattle.std.proofs.Common.{◌≡◌, ap, subst, ◌∙◌}
 use Rattle.std.proofs.lemmas.Result.{IfOk-weaker}
-use Rattle.um_expr.specs.ExprMachine.{act, step, finish}
-use Rattle.um_expr.specs.ExprStack.{frames_of}
-use Rattle.um_expr.specs.ExprStates.{state_of, Simulates}
+use Rattle.um_operands.specs.ExprBegun.{finish}
+use Rattle.um_operands.specs.ExprStack.{frames_of}
+use Rattle.um_operands.specs.ExprFocus.{state_of}
+use Rattle.um_expr.specs.ExprMachine.{act, step}
+use Rattle.um_expr.specs.ExprStates.{Simulates}
 use Rattle.um_expr.proofs.ExprEmptied.{act_kept}
 use Rattle.um_expr.proofs.step.step.Goals as goal
 

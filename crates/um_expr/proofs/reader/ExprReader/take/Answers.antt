@@ -7,9 +7,10 @@ use Rattle.um_reader.specs.declared.taken.Taken.TheVariants as taken
 use Rattle.um_types.specs.UnitStops.{greatest_height}
 use Rattle.um_types.specs.NoteView.{note_state}
 use Rattle.um_types.specs.TypeView.{type_state}
-use Rattle.um_expr.specs.ExprMachine.{Need, InNote, InType, own_step}
-use Rattle.um_expr.specs.ExprLeast.{whole_least, machine_of_expressions}
-use Rattle.um_expr.specs.ExprStack.{frames_of}
+use Rattle.um_operands.specs.ExprBegun.{Need, InNote, InType}
+use Rattle.um_operands.specs.ExprLeast.{whole_least}
+use Rattle.um_operands.specs.ExprStack.{frames_of}
+use Rattle.um_expr.specs.ExprMachine.{own_step, machine_of_expressions}
 use Rattle.um_expr.specs.ExprStates.{inner_state, expr_state}
 use Rattle.um_expr.specs.declared.reader.Inner.{Inner}
 use Rattle.um_expr.proofs.ExprInside.{note_goes_in, note_high_in, note_stops_in, note_low, type_low, type_goes_in, type_high_in, type_stops_in, type_is_low}

@@ -1,6 +1,6 @@
 use Rattle.std.proofs.Common.{[], refl, ap, ◌∙◌, arith}
 use Rattle.um_tree.specs.RawTree.{written_type}
-use Rattle.um_expr.specs.ExprMachine.{Need}
+use Rattle.um_operands.specs.ExprBegun.{Need}
 use Rattle.um_expr.specs.ExprStates.{expr_state}
 use Rattle.um_parse.specs.DeclMachine.{NoDecl, InBody}
 use Rattle.um_parse.specs.DeclViews.{start_in, read_params}

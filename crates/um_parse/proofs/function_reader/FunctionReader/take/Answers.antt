@@ -5,7 +5,7 @@ use Rattle.um_tree.specs.RawTree.{written_type}
 use Rattle.um_reader.specs.Takes.{Takes}
 use Rattle.um_types.specs.UnitStops.{greatest_height}
 use Rattle.um_types.specs.TypeView.{type_state}
-use Rattle.um_expr.specs.ExprLeast.{machine_of_expressions}
+use Rattle.um_expr.specs.ExprMachine.{machine_of_expressions}
 use Rattle.um_expr.specs.ExprStates.{expr_state}
 use Rattle.um_parse.specs.DeclMachine.{InBody}
 use Rattle.um_parse.specs.ProgramLeast.{decl_least, machine_of_declarations}

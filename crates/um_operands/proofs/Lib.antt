@@ -1,0 +1,3 @@
+mod ExprLists
+mod ExprStackLaws
+mod ExprLow

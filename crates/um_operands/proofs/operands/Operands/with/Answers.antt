@@ -1,0 +1,15 @@
+use Rattle.std.proofs.Common.{map, ap, arith}
+use Rattle.um_tree.specs.RawTree.{expr_syntax, exprs_in_order}
+use Rattle.um_tree.specs.Heights.{expr_height, tallest_expr}
+use Rattle.um_operands.specs.ExprHeights.{notes_in, notes_in_all}
+use Rattle.um_operands.proofs.ExprLists.{items_more}
+use Rattle.um_operands.proofs.operands.Operands.with.Goals as goal
+
+pub invariant_of-result : goal.invariant_of-result
+invariant_of-result c =
+    let same = ap expr_syntax c.into_inner.ensures in
+    let more = items_more c.args.self.items.items c.into_inner.result in
+    record {
+      exact = omega (arith, c.higher.ensures, c.args.self.exact, c.args.last.exact, more.0, ap expr_height same, ap (λ w. tallest_expr (exprs_in_order (map expr_syntax w))) c.in_ok-items.ensures);
+      low = omega (arith, c.args.self.low, c.args.last.low, more.1, ap notes_in same, ap (λ w. notes_in_all (exprs_in_order (map expr_syntax w))) c.in_ok-items.ensures);
+    }

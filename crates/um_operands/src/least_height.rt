@@ -1,0 +1,76 @@
+// The least height of an expression that begins with what was read.
+ghost use Rattle.std.specs.Prelude.{◌≡◌, ◌+◌, max, nat_lt};
+ghost use Rattle.um_tree.specs.Heights.{expr_height};
+ghost use Rattle.um_types.specs.UnitCount.{counted};
+ghost use Rattle.um_types.specs.UnitStops.{greatest_height};
+ghost use Rattle.um_operands.specs.ExprLeast.{expected_least, whole_least};
+ghost use Rattle.um_operands.specs.ExprOperands.{operand_expr};
+ghost use Rattle.um_operands.specs.ExprStack.{frames_of};
+ghost use Rattle.um_operands.specs.ExprFocus.{view_expected, focus_height, state_of};
+
+use crate::focus::{Expected, Focus};
+use crate::frames::Frames;
+use crate::height::counted_sum;
+use crate::operand::Operand;
+use um_types::{TOO_HIGH, higher, one_higher};
+
+// One above what is at hand, and above a part that is missing.
+fn above(list: &Operand) -> u32
+    ensures { result ≡ counted (max (expr_height (operand_expr list.now)) 1 + 1) }
+{
+    one_higher(higher(list.height, 1))
+}
+
+// One above both parts, and above a part that is missing.
+fn above_both(list: &Operand, empty: &Operand) -> u32
+    ensures { result ≡ counted (max (expr_height (operand_expr list.now)) (max (expr_height (operand_expr empty.now)) 1) + 1) }
+{
+    one_higher(higher(list.height, higher(empty.height, 1)))
+}
+
+#[inline(never)]
+fn expected_height(place: &Expected) -> u32
+    ensures { result ≡ counted (expected_least (view_expected place.now)) }
+{
+    match place {
+        Expected::LetBinder(_) => 2,
+        Expected::LetEqual(_, _) => 2,
+        Expected::FieldName(_, before) => one_higher(higher(before.height, 1)),
+        Expected::FieldEqual(_, before, _, _) => one_higher(higher(before.height, 1)),
+        Expected::DotName(_, operand) => one_higher(operand.height),
+        Expected::ArmBegin(_, list) => above(list),
+        Expected::ArmOpen(_, list) => above(list),
+        Expected::ArmClose(_, list) => above(list),
+        Expected::ArmArrow(_, list) => above(list),
+        Expected::HeadBinder(_, list, empty) => above_both(list, empty),
+        Expected::HeadCons(_, list, empty, _) => above_both(list, empty),
+        Expected::TailBinder(_, list, empty, _) => above_both(list, empty),
+        Expected::TailArrow(_, list, empty, _, _) => above_both(list, empty),
+        Expected::NilColon(_) => 3,
+        Expected::PownMinus(_, operand) => one_higher(operand.height),
+        Expected::PownDigits(_, operand) => one_higher(operand.height),
+        Expected::PownClose(_, operand, _) => one_higher(operand.height),
+    }
+}
+
+#[inline(always)]
+fn focus_height(focus: &Focus) -> u32
+    ensures { result ≡ counted (focus_height focus.now) }
+{
+    match focus {
+        Focus::Wanted => 1,
+        Focus::Read(operand) => operand.height,
+        Focus::Power(operand) => operand.height,
+        Focus::Greater(_, left) => above(left),
+        Focus::Inside(place) => expected_height(place),
+    }
+}
+
+/// Whether an expression within the heights begins with what was read.
+#[inline(always)]
+pub fn is_low(frames: &Frames, focus: &Focus) -> bool
+    ensures { result ≡ nat_lt (whole_least (state_of (frames_of frames.now) focus.now)) (greatest_height + 1) }
+{
+    let height = counted_sum(focus_height(focus), frames.count());
+    higher(frames.least(), height) < TOO_HIGH
+}
