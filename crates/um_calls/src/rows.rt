@@ -4,10 +4,11 @@ ghost use Rattle.um_units.specs.Variables.{VariablesBelow, atom_below, variables
 ghost use Rattle.um_tree.specs.Scheme.{unit_variables};
 
 use std::alloc::Global;
+use std::process::Abort;
 use std::test::Fail;
-use um_elim::{Numbered, Solver, put_in_type, renumber};
+use um_elim::{ElimStop, Numbered, Solver, put_in_type, renumber};
 use um_tree::{Ty, Types};
-use um_units::{Atom, Term, Unit, UnitStop};
+use um_units::{Atom, Term, Unit, UnitStop, Units};
 
 const A: Atom = Atom::Var(0);
 
@@ -44,24 +45,68 @@ fn unit_below(alloc: Global, terms: &[Term], limit: u32) -> Result<Unit, UnitSto
     Ok(unit)
 }
 
-// The row a^2 = b^3, a slot of a unit parameter, and the numbers of two variables.
-#[test]
-fn rows(rt: HostRuntime) -> Result<(), Fail> {
-    let alloc = rt.alloc();
+// The type of a number of a unit with these terms.
+fn number_with(alloc: Global, terms: &[Term]) -> Result<Ty, UnitStop> {
+    Ok(Ty::Num(Unit::from_terms(alloc, terms)?))
+}
+
+// That the type is a number's of a unit with these terms.
+fn has_unit(rt: &impl Abort, ty: Ty, want: &[Term]) {
+    assert!(rt; matches!(&ty, Ty::Num(unit) if unit.terms() == want));
+    drop(ty);
+}
+
+// What the solver makes of the type.
+fn applied(alloc: Global, solver: &Solver, ty: Ty) -> Result<Ty, ElimStop> {
+    let found = solver.apply(alloc, &ty);
+    drop(ty);
+    found
+}
+
+// A solver of two slots that has the row a^2 = b^3.
+fn solver_with_row(alloc: Global) -> Result<Solver, Fail> {
     let mut solver = Solver::new(alloc, 2)?;
     let row = unit_below(alloc, &[power(A, 2), power(B, -3)], 2)?;
-    solver.add(alloc, &row)?;
-    let found = solver.apply(alloc, &Ty::Num(Unit::atom(alloc, B)?))?;
-    assert!(rt; matches!(&found, Ty::Num(unit) if unit.terms() == [power(A, -2)].as_slice()));
-    let put = put_in_type(alloc, &[row], &found)?;
-    let want = [power(A, -4), power(B, 6)];
-    assert!(rt; matches!(&put, Ty::Num(unit) if unit.terms() == want.as_slice()));
+    let added = solver.add(alloc, &row);
+    drop(row);
+    added?;
+    Ok(solver)
+}
 
+#[test]
+fn a_row_is_solved(rt: HostRuntime) -> Result<(), Fail> {
+    let alloc = rt.alloc();
+    let solver = solver_with_row(alloc)?;
+    let ty = number_with(alloc, &[power(B, 1)])?;
+    has_unit(&rt, applied(alloc, &solver, ty)?, &[power(A, -2)]);
+    Ok(())
+}
+
+#[test]
+fn a_unit_is_put_for_a_variable(rt: HostRuntime) -> Result<(), Fail> {
+    let alloc = rt.alloc();
+    let unit = Unit::from_terms(alloc, &[power(A, 2), power(B, -3)])?;
+    let by = Units::from_vec(vec![in alloc; unit]?);
+    let ty = number_with(alloc, &[power(A, -2)])?;
+    let put = put_in_type(alloc, by.as_slice(), &ty);
+    drop(ty);
+    has_unit(&rt, put?, &[power(A, -4), power(B, 6)]);
+    Ok(())
+}
+
+#[test]
+fn a_slot_is_a_unit_parameter(rt: HostRuntime) -> Result<(), Fail> {
+    let alloc = rt.alloc();
     let solver = Solver::with_parameters(alloc, 2, 3, 1)?;
-    let found = solver.apply(alloc, &put)?;
+    let ty = number_with(alloc, &[power(A, -4), power(B, 6)])?;
     let want = [power(Atom::Base(3), -4), power(B, 6)];
-    assert!(rt; matches!(&found, Ty::Num(unit) if unit.terms() == want.as_slice()));
+    has_unit(&rt, applied(alloc, &solver, ty)?, &want);
+    Ok(())
+}
 
+#[test]
+fn variables_are_numbered(rt: HostRuntime) -> Result<(), Fail> {
+    let alloc = rt.alloc();
     let unit = unit_below(alloc, &[power(Atom::Var(9), 1), power(Atom::Var(5), 2)], 10)?;
     let items = vec![in alloc; Ty::Num(unit)]?;
     let Numbered { types, vars } = renumber(alloc, Types { items })?;
