@@ -3,10 +3,12 @@ ghost use Rattle.std.specs.Prelude.{◌≡◌, [], IfOk, option_map};
 ghost use Rattle.um_tree.specs.RawTree.{note_syntax, unit_syntax};
 ghost use Rattle.um_reader.specs.Takes.{Takes};
 ghost use Rattle.um_types.specs.UnitStops.{greatest_height};
-ghost use Rattle.um_types.specs.UnitMachine.{Need};
+ghost use Rattle.um_types.specs.UnitMachine.{Need, Have};
+ghost use Rattle.um_types.specs.UnitFrames.{operand_syntax};
 ghost use Rattle.um_types.specs.NoteMachine.{NeedNote, InUnit, noted, note_finish, machine_of_notes};
 ghost use Rattle.um_types.specs.NoteView.{note_state};
 
+use crate::unit_operand::Operand;
 use crate::unit_reader::UnitReader;
 use std::alloc::{AllocError, Global};
 use std::mem;
@@ -68,14 +70,31 @@ impl NoteReader {
         ensures taken { IfOk result (λ t. Takes machine_of_notes greatest_height NeedNote token.old t (note_state self.new)) }
         ensures kept { IfOk result (λ t. t ≡ Taken.Stops → token.new ≡ token.old) }
     {
-        match &token.kind {
+        let at = token.start;
+        match &mut token.kind {
             Kind::Hole => {
-                self.put(NoteFocus::Hole(token.start));
+                self.put(NoteFocus::Hole(at));
                 Ok(Taken::Goes)
             }
-            Kind::Name(_) | Kind::Var(_) | Kind::Number { .. } | Kind::Word(_) | Kind::Sign(_) =>
-                self.take_unit(alloc, token),
+            Kind::Name(letters) => {
+                let atom = Operand::measure(at, letters.take(alloc));
+                Ok(self.begin_unit(alloc, at, atom))
+            }
+            Kind::Var(letters) => {
+                let atom = Operand::variable(at, letters.take(alloc));
+                Ok(self.begin_unit(alloc, at, atom))
+            }
+            Kind::Number { .. } | Kind::Word(_) | Kind::Sign(_) => self.take_unit(alloc, token),
         }
+    }
+
+    // A unit text begins with this name or variable.
+    fn begin_unit(&mut self, alloc: Global, at: u32, atom: Operand) -> Taken
+        ensures goes { result ≡ Taken.Goes }
+        ensures state { note_state self.new ≡ InUnit at (Have [] (operand_syntax atom)) }
+    {
+        self.put(NoteFocus::Unit(at, UnitReader::behind(alloc, atom)));
+        Taken::Goes
     }
 
     // The first token of what is a unit text, if it is any note.

@@ -304,7 +304,22 @@ fn no_whole(open: Option<Frame>, operand: Operand) -> Option<Operand>
     None
 }
 
-/// The unit text where all is read.
+// The unit text where all is read behind an atom or a power.
+fn finish_full(
+    alloc: Global,
+    frames: &mut Frames,
+    operand: Operand,
+) -> Result<Option<Operand>, AllocError>
+    ensures { IfOk result (λ o. option_map operand_syntax o ≡ finish (Have (frames_of frames.old) (operand_syntax operand))) }
+{
+    let operand = ended(alloc, frames, operand)?;
+    match frames.pop() {
+        None => Ok(Some(operand)),
+        open => Ok(no_whole(open, operand)),
+    }
+}
+
+/// The unit text where all is read. Most are one name: no frame is open.
 pub fn finish(
     alloc: Global,
     frames: &mut Frames,
@@ -313,13 +328,10 @@ pub fn finish(
     ensures { IfOk result (λ o. option_map operand_syntax o ≡ finish (state_of frames.old focus)) }
 {
     match focus {
-        Focus::Full(operand) => {
-            let operand = ended(alloc, frames, operand)?;
-            match frames.pop() {
-                None => Ok(Some(operand)),
-                open => Ok(no_whole(open, operand)),
-            }
-        }
+        Focus::Full(operand) => match frames.entries.last() {
+            None => Ok(Some(operand)),
+            Some(_) => finish_full(alloc, frames, operand),
+        },
         other => Ok(no_operand(other)),
     }
 }

@@ -31,11 +31,22 @@ fn unit_of(operand: Option<Operand>) -> Option<RawUnit>
 }
 
 impl UnitReader {
-    ghost use Rattle.std.specs.Prelude.{IfOk};
+    ghost use Rattle.std.specs.Prelude.{[], IfOk};
     ghost use Rattle.um_reader.specs.Takes.{Takes};
     ghost use Rattle.um_types.specs.UnitStops.{greatest_height};
+    ghost use Rattle.um_types.specs.UnitMachine.{Have};
     ghost use Rattle.um_types.specs.UnitLeast.{machine_of_units};
     ghost use Rattle.um_types.specs.UnitView.{unit_state};
+
+    /// An atom was read.
+    pub fn behind(alloc: Global, atom: Operand) -> UnitReader
+        ensures { unit_state result ≡ Have [] (operand_syntax atom) }
+    {
+        UnitReader {
+            frames: Frames::new(alloc),
+            focus: Focus::Full(atom),
+        }
+    }
 
     // What is at hand. Where nothing was, there is nothing to let go.
     #[inline(always)]
