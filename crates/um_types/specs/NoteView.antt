@@ -1,5 +1,8 @@
 -- What was read of a note, without where it lies in memory.
 -- Source: this project's own.
+use Rattle.std.specs.Prelude.{[]}
+use Rattle.um_types.specs.UnitMachine.{Have}
+use Rattle.um_types.specs.UnitFrames.{operand_syntax}
 use Rattle.um_types.specs.UnitView.{unit_state}
 use Rattle.um_types.specs.NoteMachine.{NoteState, NeedNote, HaveHole, InUnit}
 use Rattle.um_types.specs.declared.note_reader.NoteFocus.{NoteFocus}
@@ -9,6 +12,7 @@ use Rattle.um_types.specs.declared.note_reader.NoteReader.{NoteReader}
 abbrev pub note_focus_state : NoteFocus → NoteState
 note_focus_state focus.Empty = NeedNote
 note_focus_state (focus.Hole at) = HaveHole at
+note_focus_state (focus.Atom at p) = InUnit at (Have [] (operand_syntax p))
 note_focus_state (focus.Unit at u) = InUnit at (unit_state u)
 
 -- the state of a reader

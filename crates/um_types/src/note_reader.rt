@@ -1,13 +1,13 @@
 // A note that is read one token at a time: `_`, or a unit text.
-ghost use Rattle.std.specs.Prelude.{◌≡◌, [], IfOk, option_map};
+ghost use Rattle.std.specs.Prelude.{◌≡◌, IfOk, option_map};
 ghost use Rattle.um_tree.specs.RawTree.{note_syntax, unit_syntax};
 ghost use Rattle.um_reader.specs.Takes.{Takes};
 ghost use Rattle.um_types.specs.UnitStops.{greatest_height};
-ghost use Rattle.um_types.specs.UnitMachine.{Need, Have};
-ghost use Rattle.um_types.specs.UnitFrames.{operand_syntax};
+ghost use Rattle.um_types.specs.UnitView.{unit_state};
 ghost use Rattle.um_types.specs.NoteMachine.{NeedNote, InUnit, noted, note_finish, machine_of_notes};
 ghost use Rattle.um_types.specs.NoteView.{note_state};
 
+use crate::unit_machine::is_foreign;
 use crate::unit_operand::Operand;
 use crate::unit_reader::UnitReader;
 use std::alloc::{AllocError, Global};
@@ -16,11 +16,12 @@ use um_reader::{Reader, Taken};
 use um_syntax::{Kind, Token};
 use um_tree::{RawNote, RawUnit};
 
-/// What was read of a note: nothing, `_`, or a unit text that has begun at this place.
+/// What was read of a note: nothing, `_`, or a unit text at this place, which is an atom so far, or goes on.
 #[derive(Drop)]
 pub enum NoteFocus {
     Empty,
     Hole(u32),
+    Atom(u32, Operand),
     Unit(u32, UnitReader),
 }
 
@@ -57,10 +58,37 @@ impl NoteReader {
         match &mut self.focus {
             NoteFocus::Empty => self.take_first(alloc, token),
             NoteFocus::Hole(_) => Ok(Taken::Stops),
+            NoteFocus::Atom(_, _) => {
+                if is_foreign(&token.kind) {
+                    Ok(Taken::Stops)
+                } else {
+                    self.take_moved(alloc, token)
+                }
+            }
             NoteFocus::Unit(_, unit) => {
                 let taken = unit.take(alloc, token)?;
                 Ok(taken)
             }
+        }
+    }
+
+    // One token more, where what was read is moved out.
+    #[inline(never)]
+    fn take_moved(&mut self, alloc: Global, token: &mut Token) -> Result<Taken, AllocError>
+        ensures taken { IfOk result (λ t. Takes machine_of_notes greatest_height (note_state self.old) token.old t (note_state self.new)) }
+        ensures kept { IfOk result (λ t. t ≡ Taken.Stops → token.new ≡ token.old) }
+    {
+        match mem::replace(&mut self.focus, NoteFocus::Empty) {
+            NoteFocus::Empty => self.take_first(alloc, token),
+            NoteFocus::Hole(at) => {
+                self.put(NoteFocus::Hole(at));
+                Ok(Taken::Stops)
+            }
+            NoteFocus::Atom(at, atom) => {
+                let unit = UnitReader::behind(alloc, atom);
+                self.take_unit(alloc, at, unit, token)
+            }
+            NoteFocus::Unit(at, unit) => self.take_unit(alloc, at, unit, token),
         }
     }
 
@@ -78,32 +106,32 @@ impl NoteReader {
             }
             Kind::Name(letters) => {
                 let atom = Operand::measure(at, letters.take(alloc));
-                Ok(self.begin_unit(alloc, at, atom))
+                self.put(NoteFocus::Atom(at, atom));
+                Ok(Taken::Goes)
             }
             Kind::Var(letters) => {
                 let atom = Operand::variable(at, letters.take(alloc));
-                Ok(self.begin_unit(alloc, at, atom))
+                self.put(NoteFocus::Atom(at, atom));
+                Ok(Taken::Goes)
             }
-            Kind::Number { .. } | Kind::Word(_) | Kind::Sign(_) => self.take_unit(alloc, token),
+            Kind::Number { .. } | Kind::Word(_) | Kind::Sign(_) => {
+                self.take_unit(alloc, at, UnitReader::new(alloc), token)
+            }
         }
     }
 
-    // A unit text begins with this name or variable.
-    fn begin_unit(&mut self, alloc: Global, at: u32, atom: Operand) -> Taken
-        ensures goes { result ≡ Taken.Goes }
-        ensures state { note_state self.new ≡ InUnit at (Have [] (operand_syntax atom)) }
-    {
-        self.put(NoteFocus::Unit(at, UnitReader::behind(alloc, atom)));
-        Taken::Goes
-    }
-
-    // The first token of what is a unit text, if it is any note.
-    fn take_unit(&mut self, alloc: Global, token: &mut Token) -> Result<Taken, AllocError>
-        ensures taken { IfOk result (λ t. Takes machine_of_notes greatest_height (InUnit token.old.start (Need [])) token.old t (note_state self.new)) }
+    // One token more of this unit text, which stands at its place.
+    fn take_unit(
+        &mut self,
+        alloc: Global,
+        at: u32,
+        unit: UnitReader,
+        token: &mut Token,
+    ) -> Result<Taken, AllocError>
+        ensures taken { IfOk result (λ t. Takes machine_of_notes greatest_height (InUnit at (unit_state unit)) token.old t (note_state self.new)) }
         ensures kept { IfOk result (λ t. t ≡ Taken.Stops → token.new ≡ token.old) }
     {
-        let at = token.start;
-        let mut unit = UnitReader::new(alloc);
+        let mut unit = unit;
         match unit.take(alloc, token) {
             Ok(taken) => {
                 self.put(NoteFocus::Unit(at, unit));
@@ -116,13 +144,16 @@ impl NoteReader {
         }
     }
 
-    // What was read. Where nothing was, there is nothing to let go.
+    // What was read. Where no unit text was, there is nothing to let go.
+    #[inline(always)]
     fn put(&mut self, focus: NoteFocus)
         ensures { self.new.focus ≡ focus }
     {
         match &self.focus {
-            NoteFocus::Empty => mem::forget(mem::replace(&mut self.focus, focus)),
-            NoteFocus::Hole(_) | NoteFocus::Unit(_, _) => {
+            NoteFocus::Empty | NoteFocus::Hole(_) => {
+                mem::forget(mem::replace(&mut self.focus, focus));
+            }
+            NoteFocus::Atom(_, _) | NoteFocus::Unit(_, _) => {
                 drop(mem::replace(&mut self.focus, focus));
             }
         }
@@ -139,10 +170,20 @@ impl NoteReader {
     pub fn take_whole(&mut self, alloc: Global) -> Result<Option<RawNote>, AllocError>
         ensures found { IfOk result (λ o. option_map note_syntax o ≡ note_finish (note_state self.old)) }
     {
-        match mem::replace(&mut self.focus, NoteFocus::Empty) {
+        match &mut self.focus {
             NoteFocus::Empty => Ok(None),
-            NoteFocus::Hole(at) => Ok(Some(RawNote::Hole(at))),
-            NoteFocus::Unit(at, unit) => Ok(note_of(at, unit.finish(alloc)?)),
+            NoteFocus::Hole(at) => Ok(Some(RawNote::Hole(*at))),
+            NoteFocus::Atom(at, atom) => {
+                let at = *at;
+                let unit = mem::replace(atom, Operand::one(at)).unit;
+                mem::forget(mem::replace(&mut self.focus, NoteFocus::Empty));
+                Ok(Some(RawNote::Unit(at, unit)))
+            }
+            NoteFocus::Unit(at, unit) => {
+                let at = *at;
+                let found = unit.take_whole(alloc)?;
+                Ok(note_of(at, found))
+            }
         }
     }
 

@@ -1,5 +1,5 @@
 // Type texts with their heights beside them, and what is at hand while one is read.
-ghost use Rattle.std.specs.Prelude.{◌≡◌, ◌≤◌, IfOk, None};
+ghost use Rattle.std.specs.Prelude.{◌≡◌, ◌≤◌, IfOk, None, Some};
 ghost use Rattle.um_tree.specs.RawTree.{bool_syntax, num_syntax, record_syntax, list_type_syntax, bracket_type_syntax, note_syntax, type_syntax};
 ghost use Rattle.um_tree.specs.Heights.{type_height};
 ghost use Rattle.um_types.specs.UnitStops.{greatest_height};
@@ -42,6 +42,16 @@ impl TypeOperand {
     {
         TypeOperand {
             ty: RawType::Num(None),
+            height: 1,
+        }
+    }
+
+    /// `num` with its note
+    pub fn noted(note: RawNote) -> TypeOperand
+        ensures { operand_type result ≡ num_syntax (Some (note_syntax note)) }
+    {
+        TypeOperand {
+            ty: RawType::Num(Some(note)),
             height: 1,
         }
     }
@@ -125,10 +135,7 @@ impl Owner {
         ensures { IfOk result (λ p. operand_type p ≡ owned (view_owner self) (note_syntax last)) }
     {
         match self {
-            Owner::Num => Ok(TypeOperand {
-                ty: RawType::Num(Some(last)),
-                height: 1,
-            }),
+            Owner::Num => Ok(TypeOperand::noted(last)),
             Owner::Name(at, name, mut earlier) => {
                 earlier.items.push(last)?;
                 Ok(TypeOperand {

@@ -1,11 +1,11 @@
 // A type text that is read one token at a time.
 ghost use Rattle.std.specs.Prelude.{◌≡◌, false, suc, ◌+◌, ◌≤◌, IfOk, None, max, option_map};
-ghost use Rattle.um_tree.specs.RawTree.{TypeSyntax, list_type_syntax, note_syntax, type_syntax};
+ghost use Rattle.um_tree.specs.RawTree.{TypeSyntax, num_syntax, list_type_syntax, note_syntax, type_syntax};
 ghost use Rattle.um_reader.specs.Takes.{Gives, Takes};
 ghost use Rattle.um_types.specs.UnitStops.{greatest_height};
 ghost use Rattle.um_types.specs.TypeHeights.{note_height};
-ghost use Rattle.um_types.specs.NoteMachine.{NeedNote};
-ghost use Rattle.um_types.specs.TypeMachine.{NeedType, HaveType, InNote, NoType, type_begin, type_after, close_bracket, open_angle, next_note, note_end, own_act, type_finish, type_least, owner_height, machine_of_types};
+ghost use Rattle.um_types.specs.NoteMachine.{NeedNote, note_finish};
+ghost use Rattle.um_types.specs.TypeMachine.{OfNum, NeedType, HaveType, InNote, NoType, type_begin, type_after, close_bracket, open_angle, next_note, note_end, note_ends, own_act, type_finish, type_least, owner_height, machine_of_types};
 ghost use Rattle.um_types.specs.TypeView.{operand_type, view_owner, type_state, IsLow};
 ghost use Rattle.um_types.specs.NoteView.{note_state};
 
@@ -96,9 +96,61 @@ impl TypeReader {
         }
     }
 
-    // One token more, which the note has refused, if one has begun.
+    // One token more, which the note has refused, if one has begun. `num` and its note, which most types are, go on where they
+    // stand.
     #[inline(never)]
     fn take_own(&mut self, alloc: Global, token: &mut Token) -> Result<Taken, AllocError>
+        requires low { IsLow (type_state self.old) }
+        ensures taken { IfOk result (λ t. Gives machine_of_types greatest_height (type_state self.old) (own_act (type_state self.old) token.old.kind token.old.start) t (type_state self.new)) }
+        ensures kept { IfOk result (λ t. t ≡ Taken.Stops → token.new ≡ token.old) }
+    {
+        match &token.kind {
+            Kind::Sign(Symbol::Less) => match &self.focus {
+                TypeFocus::Full(operand) => match &operand.ty {
+                    RawType::Num(None) => Ok(self.open_num()),
+                    _ => self.take_moved(alloc, token),
+                },
+                _ => self.take_moved(alloc, token),
+            },
+            Kind::Sign(Symbol::Greater) => match &self.focus {
+                TypeFocus::Note(Owner::Num) => self.end_num(alloc),
+                _ => self.take_moved(alloc, token),
+            },
+            _ => self.take_moved(alloc, token),
+        }
+    }
+
+    // An opening angle bracket behind `num`, which holds nothing that has to be let go.
+    #[inline(always)]
+    fn open_num(&mut self) -> Taken
+        requires low { self.old.depth + 1 ≤ greatest_height }
+        ensures { Gives machine_of_types greatest_height (HaveType self.old.depth (num_syntax None)) (open_angle self.old.depth (num_syntax None)) result (type_state self.new) }
+    {
+        self.note.restart();
+        mem::forget(mem::replace(&mut self.focus, TypeFocus::Note(Owner::Num)));
+        Taken::Goes
+    }
+
+    // The closing angle bracket of `num`.
+    #[inline(always)]
+    fn end_num(&mut self, alloc: Global) -> Result<Taken, AllocError>
+        requires num { self.old.focus ≡ TypeFocus.Note Owner.Num }
+        requires low { IsLow (InNote self.old.depth OfNum (note_state self.old.note)) }
+        ensures { IfOk result (λ t. Gives machine_of_types greatest_height (InNote self.old.depth OfNum (note_state self.old.note)) (note_ends self.old.depth OfNum (note_finish (note_state self.old.note)) (Kind.Sign Symbol.Greater)) t (type_state self.new)) }
+    {
+        match self.note.take_whole(alloc)? {
+            Some(note) => {
+                let operand = TypeOperand::noted(note);
+                mem::forget(mem::replace(&mut self.focus, TypeFocus::Full(operand)));
+                Ok(Taken::Goes)
+            }
+            None => Ok(Taken::Stops),
+        }
+    }
+
+    // One token more, where what is at hand is moved out.
+    #[inline(never)]
+    fn take_moved(&mut self, alloc: Global, token: &mut Token) -> Result<Taken, AllocError>
         requires low { IsLow (type_state self.old) }
         ensures taken { IfOk result (λ t. Gives machine_of_types greatest_height (type_state self.old) (own_act (type_state self.old) token.old.kind token.old.start) t (type_state self.new)) }
         ensures kept { IfOk result (λ t. t ≡ Taken.Stops → token.new ≡ token.old) }

@@ -31,10 +31,11 @@ fn unit_of(operand: Option<Operand>) -> Option<RawUnit>
 }
 
 impl UnitReader {
-    ghost use Rattle.std.specs.Prelude.{[], IfOk};
+    ghost use Rattle.std.specs.Prelude.{[], IfOk, option_map};
+    ghost use Rattle.um_tree.specs.RawTree.{unit_syntax};
     ghost use Rattle.um_reader.specs.Takes.{Takes};
     ghost use Rattle.um_types.specs.UnitStops.{greatest_height};
-    ghost use Rattle.um_types.specs.UnitMachine.{Have};
+    ghost use Rattle.um_types.specs.UnitMachine.{Have, finish};
     ghost use Rattle.um_types.specs.UnitLeast.{machine_of_units};
     ghost use Rattle.um_types.specs.UnitView.{unit_state};
 
@@ -46,6 +47,14 @@ impl UnitReader {
             frames: Frames::new(alloc),
             focus: Focus::Full(atom),
         }
+    }
+
+    /// The unit text where all is read, if it is one, taken out of the reader.
+    pub fn take_whole(&mut self, alloc: Global) -> Result<Option<RawUnit>, AllocError>
+        ensures found { IfOk result (λ o. option_map unit_syntax o ≡ finish (unit_state self.old)) }
+    {
+        let focus = mem::replace(&mut self.focus, Focus::Empty);
+        Ok(unit_of(finish(alloc, &mut self.frames, focus)?))
     }
 
     // What is at hand. Where nothing was, there is nothing to let go.
