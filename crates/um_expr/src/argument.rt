@@ -5,6 +5,7 @@ ghost use Rattle.um_operands.specs.ExprBegun.{Have, finish, top_bound};
 ghost use Rattle.um_operands.specs.ExprOperands.{operand_expr};
 ghost use Rattle.um_operands.specs.ExprFrames.{view_frame, is_call};
 ghost use Rattle.um_operands.specs.ExprStack.{frames_of};
+ghost use Rattle.um_expr.specs.declared.token.ExprToken.TheVariants.{Name as name_token};
 ghost use Rattle.um_expr.specs.ExprMachine.{begins_atom, argument, begin_in};
 ghost use Rattle.um_expr.specs.ExprStates.{Simulates, Argued, in_call};
 
@@ -36,9 +37,13 @@ fn add_argument(frames: &mut Frames, frame: Frame, operand: Operand) -> Result<(
     ensures { OnOk result (argument (view_frame frame ∷ frames_of frames.old) (operand_expr operand) ≡ Some (frames_of frames.new)) }
 {
     match frame {
-        Frame::InArgument(at, name, before) => {
-            frames.push(Frame::InArgument(at, name, before.with(operand)?))
-        }
+        Frame::InArgument(at, name, before, room) => match before.with(operand) {
+            Ok(arguments) => frames.push(Frame::InArgument(at, name, arguments, room)),
+            Err(error) => {
+                drop(room);
+                Err(error)
+            }
+        },
         other => Ok(no_call(other, operand)),
     }
 }
@@ -57,7 +62,7 @@ fn more_arguments(frames: &mut Frames, operand: Operand) -> Result<(), AllocErro
     }
 }
 
-// A name becomes a call.
+// A name becomes a call. Once the name is taken out, its node holds nothing that has to be let go.
 fn first_argument(alloc: Global, frames: &mut Frames, operand: Operand) -> Result<(), AllocError>
     requires name { is_name (operand_expr operand) ≡ true }
     requires no_call { in_call (frames_of frames.old) ≡ false }
@@ -69,8 +74,8 @@ fn first_argument(alloc: Global, frames: &mut Frames, operand: Operand) -> Resul
     match &mut tree.node {
         RawNode::Name(name) => {
             let name = mem::replace(name, Name::empty());
-            drop(tree);
-            frames.push(Frame::InArgument(at, name, Operands::empty(alloc)))
+            mem::forget(mem::replace(&mut tree.node, RawNode::Bool(false)));
+            frames.push(Frame::InArgument(at, name, Operands::empty(alloc), tree))
         }
         RawNode::Num(_, _) | RawNode::Pow(_, _) | composite!() => {
             drop(tree);
@@ -113,5 +118,28 @@ pub fn begin_argument(
     match argument(alloc, frames, operand)? {
         None => begin(alloc, frames, focus, kind, at),
         Some(operand) => Ok(Step::Stops(whole(alloc, frames, operand)?)),
+    }
+}
+
+/// A name behind an atom: it is an argument.
+pub fn name_argument(
+    alloc: Global,
+    frames: &mut Frames,
+    focus: &mut Focus,
+    operand: Operand,
+    name: Name,
+    at: u32,
+) -> Result<Step, AllocError>
+    ensures { IfOk result (λ s. Simulates (finish (Have (frames_of frames.old) (operand_expr operand))) (frames_of frames.new) focus.new s (begin_in (argument (frames_of frames.old) (operand_expr operand)) (name_token name) at)) }
+{
+    match argument(alloc, frames, operand)? {
+        None => {
+            let operand = Operand::name(alloc, at, name)?;
+            Ok(focus.goes(Focus::Read(operand)))
+        }
+        Some(operand) => {
+            drop(name);
+            Ok(Step::Stops(whole(alloc, frames, operand)?))
+        }
     }
 }

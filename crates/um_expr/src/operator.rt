@@ -1,6 +1,5 @@
 // A sign between operands behind an atom.
 ghost use Rattle.std.specs.Prelude.{◌≡◌, IfOk, None, true};
-ghost use Rattle.um_operands.specs.declared.focus.Focus.{Focus};
 ghost use Rattle.um_operands.specs.declared.focus.Step.TheVariants.{Stops};
 ghost use Rattle.um_operands.specs.ExprKinds.{is_plain_number};
 ghost use Rattle.um_operands.specs.Ranks.{left_limit};
@@ -53,20 +52,26 @@ fn greater_after(
     }
 }
 
-// `<` right behind a number
-fn note_opens(frames: &Frames, operand: &Operand, sign_at: u32) -> Step
-    requires { is_plain_number (operand_expr operand.now) ≡ true }
-    ensures { (now : Focus) → Simulates (finish (Have (frames_of frames.now) (operand_expr operand.now))) (frames_of frames.now) now result (less_after (frames_of frames.now) (operand_expr operand.now) true sign_at) }
+// `<` right behind a number, which stays in focus, for its box
+fn note_opens(frames: &Frames, focus: &mut Focus, operand: Operand, sign_at: u32) -> Step
+    requires { is_plain_number (operand_expr operand) ≡ true }
+    ensures { Simulates (finish (Have (frames_of frames.now) (operand_expr operand))) (frames_of frames.now) focus.new result (less_after (frames_of frames.now) (operand_expr operand) true sign_at) }
 {
     match &operand.tree.node {
-        RawNode::Num(value, None) => Step::Note(operand.tree.at, *value),
-        RawNode::Num(_, Some(_)) | RawNode::Name(_) | RawNode::Pow(_, _) | composite!() =>
-            Step::Stops(None),
+        RawNode::Num(value, None) => {
+            let given = Step::Note(operand.tree.at, *value);
+            focus.put(Focus::Read(operand));
+            given
+        }
+        RawNode::Num(_, Some(_)) | RawNode::Name(_) | RawNode::Pow(_, _) | composite!() => {
+            drop(operand);
+            Step::Stops(None)
+        }
     }
 }
 
-// `<`
-fn less_after(
+/// `<`
+pub fn less_after(
     alloc: Global,
     frames: &mut Frames,
     focus: &mut Focus,
@@ -77,9 +82,7 @@ fn less_after(
     ensures { IfOk result (λ s. Simulates (finish (Have (frames_of frames.old) (operand_expr operand))) (frames_of frames.new) focus.new s (less_after (frames_of frames.old) (operand_expr operand) glued at)) }
 {
     if glued && operand.is_plain_number() {
-        let given = note_opens(frames, &operand, at);
-        drop(operand);
-        Ok(given)
+        Ok(note_opens(frames, focus, operand, at))
     } else {
         infix_after(alloc, frames, focus, operand, Infix::Compare(Sign::Lt), at)
     }

@@ -1,13 +1,12 @@
 // An expression that is read one token at a time.
-ghost use Rattle.std.specs.Prelude.{◌≡◌, ◌⊎◌, ◌+◌, ◌≤◌, [], cond, nat_lt, IfOk, OnOk, None, option_map};
+ghost use Rattle.std.specs.Prelude.{◌≡◌, ◌⊎◌, ◌+◌, ◌≤◌, [], cond, nat_lt, IfOk, IfSome, OnOk, None, option_map};
 ghost use Rattle.um_syntax.specs.Emptied.{emptied};
-ghost use Rattle.um_tree.specs.RawTree.{expr_syntax};
+ghost use Rattle.um_tree.specs.RawTree.{expr_syntax, note_syntax, type_syntax};
 ghost use Rattle.um_reader.specs.Takes.{Gives, Takes};
 ghost use Rattle.um_types.specs.UnitStops.{greatest_height};
-ghost use Rattle.um_types.specs.NoteMachine.{NeedNote};
-ghost use Rattle.um_types.specs.NoteView.{note_state};
-ghost use Rattle.um_types.specs.TypeMachine.{NeedType};
-ghost use Rattle.um_types.specs.TypeView.{type_state};
+ghost use Rattle.um_types.specs.TypeHeights.{note_height, whole_height};
+ghost use Rattle.um_types.specs.NoteMachine.{NoteState, NeedNote, note_finish};
+ghost use Rattle.um_types.specs.TypeMachine.{TypeState, NeedType, type_finish};
 ghost use Rattle.um_operands.specs.ExprBegun.{NilColon, State, Need, Have, Inside, InNote, InType, finish};
 ghost use Rattle.um_operands.specs.ExprLeast.{whole_least};
 ghost use Rattle.um_operands.specs.ExprOperands.{operand_expr};
@@ -16,16 +15,18 @@ ghost use Rattle.um_operands.specs.ExprFocus.{state_of};
 ghost use Rattle.um_expr.specs.ExprMachine.{own_step, machine_of_expressions};
 ghost use Rattle.um_expr.specs.ExprStates.{inner_state, expr_state, IsLow, Simulates};
 
-use crate::operator::infix_after;
+use crate::argument::name_argument;
+use crate::closing::{end_by_mark, end_by_word};
+use crate::operator::{infix_after, less_after};
 use crate::step::{note_ends, step, type_ends};
-use crate::token::{ExprToken, plain_operator};
+use crate::token::{ExprToken, plain_operator, plain_word};
 use std::alloc::{AllocError, Global};
 use std::mem;
 use um_frac::Frac;
 use um_operands::{Expected, Focus, Frames, Operand, Step, is_low, whole};
 use um_reader::Taken;
-use um_syntax::{Kind, Token};
-use um_tree::RawExpr;
+use um_syntax::{Kind, Symbol, Token};
+use um_tree::{RawExpr, RawNote, RawType};
 use um_types::{NoteReader, TypeReader, name_of};
 
 /// What is read inside the focus: nothing, the note of a number with its value, or the type of an empty list, at the place of
@@ -64,35 +65,34 @@ fn focus_on(found: Option<Operand>) -> Focus
     }
 }
 
-// The expression where all is read behind an atom.
-fn whole_tree(
-    alloc: Global,
-    frames: Frames,
-    operand: Operand,
-) -> Result<Option<RawExpr>, AllocError>
-    ensures { IfOk result (λ o. option_map expr_syntax o ≡ finish (Have (frames_of frames) (operand_expr operand))) }
+// The expression where all is read and no note and no type has begun.
+fn finished(alloc: Global, frames: &mut Frames, focus: Focus) -> Result<Option<RawExpr>, AllocError>
+    ensures { IfOk result (λ o. option_map expr_syntax o ≡ finish (state_of (frames_of frames.old) focus)) }
 {
-    let mut frames = frames;
-    let found = whole(alloc, &mut frames, operand);
-    drop(frames);
-    Ok(tree_of(found?))
+    match focus {
+        Focus::Read(operand) | Focus::Power(operand) => {
+            Ok(tree_of(whole(alloc, frames, operand)?))
+        }
+        other => Ok(no_tree(other)),
+    }
 }
 
-fn no_tree(frames: Frames, focus: Focus) -> Option<RawExpr>
+fn no_tree(focus: Focus) -> Option<RawExpr>
     ensures { result ≡ None }
 {
-    drop(frames);
     drop(focus);
     None
 }
 
-// The expression where all is read and no note and no type has begun.
-fn finished(alloc: Global, frames: Frames, focus: Focus) -> Result<Option<RawExpr>, AllocError>
-    ensures { IfOk result (λ o. option_map expr_syntax o ≡ finish (state_of (frames_of frames) focus)) }
+// Whether an expression within the heights begins so.
+#[inline(always)]
+fn rated(frames: &Frames, focus: &Focus) -> Taken
+    ensures { result ≡ cond (nat_lt (whole_least (state_of (frames_of frames.now) focus.now)) (greatest_height + 1)) Taken.Goes Taken.High }
 {
-    match focus {
-        Focus::Read(operand) | Focus::Power(operand) => whole_tree(alloc, frames, operand),
-        other => Ok(no_tree(frames, other)),
+    if is_low(frames, focus) {
+        Taken::Goes
+    } else {
+        Taken::High
     }
 }
 
@@ -129,8 +129,8 @@ impl ExprReader {
         }
     }
 
-    // One token more, where no note and no type has begun. Names and numbers where an operand is wanted, and signs between
-    // operands, are most tokens of an expression, and go without what the others need.
+    // One token more, where no note and no type has begun. Names and numbers where an operand is wanted, and signs, names and
+    // reserved words behind an atom are most tokens of an expression, and go without what the others need.
     #[inline(never)]
     fn take_own(&mut self, alloc: Global, token: &mut Token) -> Result<Taken, AllocError>
         requires nothing { self.old.inner ≡ Inner.Nothing }
@@ -140,7 +140,7 @@ impl ExprReader {
     {
         match &self.focus {
             Focus::Wanted => self.take_operand(alloc, token),
-            Focus::Read(_) => self.take_sign(alloc, token),
+            Focus::Read(_) => self.take_after(alloc, token),
             Focus::Power(_) | Focus::Greater(_, _) | Focus::Inside(_) => {
                 self.take_any(alloc, token)
             }
@@ -177,41 +177,147 @@ impl ExprReader {
         ensures goes { result ≡ Taken.Goes }
         ensures state { expr_state self.new ≡ inner_state (frames_of self.old.frames) (Focus.Read operand) self.old.inner }
     {
-        self.focus.goes(Focus::Read(operand));
+        self.focus.put(Focus::Read(operand));
         Taken::Goes
     }
 
-    // One token behind an atom.
+    // One token behind an atom, which is moved out.
     #[inline(always)]
-    fn take_sign(&mut self, alloc: Global, token: &mut Token) -> Result<Taken, AllocError>
+    fn take_after(&mut self, alloc: Global, token: &mut Token) -> Result<Taken, AllocError>
         requires nothing { self.old.inner ≡ Inner.Nothing }
         ensures taken { IfOk result (λ t. Takes machine_of_expressions greatest_height (state_of (frames_of self.old.frames) self.old.focus) token.old t (expr_state self.new)) }
         ensures rest { OnOk result (token.new ≡ emptied token.old) }
     {
-        let at = token.start;
-        match &token.kind {
-            Kind::Sign(symbol) => match plain_operator(*symbol) {
-                Some(sign) => match mem::replace(&mut self.focus, Focus::Wanted) {
-                    Focus::Read(operand) => {
-                        let given = infix_after(
-                            alloc,
-                            &mut self.frames,
-                            &mut self.focus,
-                            operand,
-                            sign,
-                            at,
-                        )?;
-                        Ok(self.go(alloc, given))
-                    }
-                    other => {
-                        self.focus = other;
-                        self.take_any(alloc, token)
-                    }
-                },
-                None => self.take_any(alloc, token),
-            },
-            _ => self.take_any(alloc, token),
+        match mem::replace(&mut self.focus, Focus::Wanted) {
+            Focus::Read(operand) => self.take_behind_atom(alloc, operand, token),
+            other => {
+                self.focus.put(other);
+                self.take_any(alloc, token)
+            }
         }
+    }
+
+    // One token behind this atom.
+    #[inline(always)]
+    fn take_behind_atom(
+        &mut self,
+        alloc: Global,
+        operand: Operand,
+        token: &mut Token,
+    ) -> Result<Taken, AllocError>
+        requires nothing { self.old.inner ≡ Inner.Nothing }
+        ensures taken { IfOk result (λ t. Takes machine_of_expressions greatest_height (Have (frames_of self.old.frames) (operand_expr operand)) token.old t (expr_state self.new)) }
+        ensures rest { OnOk result (token.new ≡ emptied token.old) }
+    {
+        let at = token.start;
+        match &mut token.kind {
+            Kind::Sign(symbol) => match plain_operator(*symbol) {
+                Some(sign) => {
+                    let given = infix_after(
+                        alloc,
+                        &mut self.frames,
+                        &mut self.focus,
+                        operand,
+                        sign,
+                        at,
+                    )?;
+                    Ok(self.go(given))
+                }
+                None => self.take_mark(alloc, operand, token),
+            },
+            Kind::Name(letters) => {
+                let name = name_of(letters.take(alloc));
+                let given = name_argument(
+                    alloc,
+                    &mut self.frames,
+                    &mut self.focus,
+                    operand,
+                    name,
+                    at,
+                )?;
+                Ok(self.go(given))
+            }
+            Kind::Word(keyword) => match plain_word(*keyword) {
+                Some(keyword) => {
+                    let given = end_by_word(
+                        alloc,
+                        &mut self.frames,
+                        &mut self.focus,
+                        operand,
+                        keyword,
+                    )?;
+                    Ok(self.go(given))
+                }
+                None => self.take_again(alloc, operand, token),
+            },
+            Kind::Var(_) | Kind::Number { .. } | Kind::Hole => {
+                self.take_again(alloc, operand, token)
+            }
+        }
+    }
+
+    // One sign behind this atom, if it is one.
+    #[inline(always)]
+    fn take_mark(
+        &mut self,
+        alloc: Global,
+        operand: Operand,
+        token: &mut Token,
+    ) -> Result<Taken, AllocError>
+        requires nothing { self.old.inner ≡ Inner.Nothing }
+        ensures taken { IfOk result (λ t. Takes machine_of_expressions greatest_height (Have (frames_of self.old.frames) (operand_expr operand)) token.old t (expr_state self.new)) }
+        ensures rest { OnOk result (token.new ≡ emptied token.old) }
+    {
+        match &token.kind {
+            Kind::Sign(Symbol::Less) => {
+                let given = less_after(
+                    alloc,
+                    &mut self.frames,
+                    &mut self.focus,
+                    operand,
+                    token.start,
+                    token.glued,
+                )?;
+                Ok(self.go(given))
+            }
+            Kind::Sign(Symbol::RightParen) => {
+                let given = end_by_mark(
+                    alloc,
+                    &mut self.frames,
+                    &mut self.focus,
+                    operand,
+                    Symbol::RightParen,
+                )?;
+                Ok(self.go(given))
+            }
+            Kind::Sign(Symbol::Semicolon) => {
+                let given = end_by_mark(
+                    alloc,
+                    &mut self.frames,
+                    &mut self.focus,
+                    operand,
+                    Symbol::Semicolon,
+                )?;
+                Ok(self.go(given))
+            }
+            _ => self.take_again(alloc, operand, token),
+        }
+    }
+
+    // One token behind this atom, whatever it is.
+    #[inline(never)]
+    fn take_again(
+        &mut self,
+        alloc: Global,
+        operand: Operand,
+        token: &mut Token,
+    ) -> Result<Taken, AllocError>
+        requires nothing { self.old.inner ≡ Inner.Nothing }
+        ensures taken { IfOk result (λ t. Takes machine_of_expressions greatest_height (Have (frames_of self.old.frames) (operand_expr operand)) token.old t (expr_state self.new)) }
+        ensures rest { OnOk result (token.new ≡ emptied token.old) }
+    {
+        self.focus.put(Focus::Read(operand));
+        self.take_any(alloc, token)
     }
 
     // One token more, whatever it is, where no note and no type has begun.
@@ -222,7 +328,7 @@ impl ExprReader {
         ensures rest { OnOk result (token.new ≡ emptied token.old) }
     {
         let given = step(alloc, &mut self.frames, &mut self.focus, token)?;
-        Ok(self.go(alloc, given))
+        Ok(self.go(given))
     }
 
     // The token that the note or the type has refused, if one has begun.
@@ -232,95 +338,111 @@ impl ExprReader {
         ensures taken { IfOk result (λ t. Gives machine_of_expressions greatest_height (expr_state self.old) (own_step (expr_state self.old) token.old) t (expr_state self.new)) }
         ensures rest { OnOk result (token.new ≡ emptied token.old) }
     {
-        match mem::replace(&mut self.inner, Inner::Nothing) {
+        match &mut self.inner {
             Inner::Nothing => self.take_any(alloc, token),
-            Inner::Note(at, value, note) => self.end_note(alloc, at, value, note, token),
-            Inner::Type(at, ty) => self.end_type(alloc, at, ty, token),
+            Inner::Note(at, value, note) => {
+                let at = *at;
+                let value = *value;
+                let found = note.take_whole(alloc)?;
+                self.end_note(alloc, at, value, found, token)
+            }
+            Inner::Type(at, ty) => {
+                let at = *at;
+                let found = ty.take_whole();
+                self.end_type(alloc, at, found, token)
+            }
         }
     }
 
-    // The token that the note of a number has refused.
+    // The token that the note of a number has refused, which is this where all is read.
     fn end_note(
         &mut self,
         alloc: Global,
         at: u32,
         value: Frac,
-        note: NoteReader,
+        found: Option<RawNote>,
         token: &mut Token,
     ) -> Result<Taken, AllocError>
-        requires nothing { self.old.inner ≡ Inner.Nothing }
-        requires low { IsLow (InNote (frames_of self.old.frames) at value (note_state note)) }
-        ensures taken { IfOk result (λ t. Gives machine_of_expressions greatest_height (InNote (frames_of self.old.frames) at value (note_state note)) (own_step (InNote (frames_of self.old.frames) at value (note_state note)) token.old) t (expr_state self.new)) }
+        requires low { IfSome found (λ n. note_height (note_syntax n) ≤ greatest_height) }
+        ensures taken { (s : NoteState) → option_map note_syntax found ≡ note_finish s → IfOk result (λ t. Gives machine_of_expressions greatest_height (InNote (frames_of self.old.frames) at value s) (own_step (InNote (frames_of self.old.frames) at value s) token.old) t (expr_state self.new)) }
         ensures rest { OnOk result (token.new ≡ emptied token.old) }
     {
-        let note = note.finish(alloc)?;
+        self.end_inner();
         let kind = ExprToken::of_kind(alloc, &mut token.kind);
-        let given = note_ends(alloc, &self.frames, &mut self.focus, at, value, note, kind)?;
-        Ok(self.go(alloc, given))
+        let given = note_ends(alloc, &self.frames, &mut self.focus, at, value, found, kind)?;
+        Ok(self.go(given))
     }
 
-    // The token that the type of an empty list has refused.
+    // The token that the type of an empty list has refused, which is this where all is read.
     fn end_type(
         &mut self,
         alloc: Global,
         at: u32,
-        ty: TypeReader,
+        found: Option<RawType>,
         token: &mut Token,
     ) -> Result<Taken, AllocError>
-        requires nothing { self.old.inner ≡ Inner.Nothing }
-        requires low { IsLow (InType (frames_of self.old.frames) at (type_state ty)) }
-        ensures taken { IfOk result (λ t. Gives machine_of_expressions greatest_height (InType (frames_of self.old.frames) at (type_state ty)) (own_step (InType (frames_of self.old.frames) at (type_state ty)) token.old) t (expr_state self.new)) }
+        requires low { IfSome found (λ t. whole_height (type_syntax t) ≤ greatest_height) }
+        ensures taken { (s : TypeState) → option_map type_syntax found ≡ type_finish s → IfOk result (λ t. Gives machine_of_expressions greatest_height (InType (frames_of self.old.frames) at s) (own_step (InType (frames_of self.old.frames) at s) token.old) t (expr_state self.new)) }
         ensures rest { OnOk result (token.new ≡ emptied token.old) }
     {
+        self.end_inner();
         let kind = ExprToken::of_kind(alloc, &mut token.kind);
-        let given = type_ends(alloc, &self.frames, &mut self.focus, at, ty.finish(), kind)?;
-        Ok(self.go(alloc, given))
+        let given = type_ends(alloc, &self.frames, &mut self.focus, at, found, kind)?;
+        Ok(self.go(given))
+    }
+
+    // No note and no type is read. Of a note that was begun anew there is nothing to let go.
+    #[inline(always)]
+    fn end_inner(&mut self)
+        ensures inner { self.new.inner ≡ Inner.Nothing }
+        ensures frames { self.new.frames ≡ self.old.frames }
+        ensures focus { self.new.focus ≡ self.old.focus }
+    {
+        match &mut self.inner {
+            Inner::Nothing => {}
+            Inner::Note(_, _, note) => {
+                note.restart();
+                mem::forget(mem::replace(&mut self.inner, Inner::Nothing));
+            }
+            Inner::Type(_, _) => drop(mem::replace(&mut self.inner, Inner::Nothing)),
+        }
     }
 
     // What a step gives.
     #[inline(always)]
-    fn go(&mut self, alloc: Global, given: Step) -> Taken
+    fn go(&mut self, given: Step) -> Taken
         requires nothing { self.old.inner ≡ Inner.Nothing }
         ensures { (old next : State) → Simulates (finish old) (frames_of self.old.frames) self.old.focus given next → Gives machine_of_expressions greatest_height old next result (expr_state self.new) }
     {
         match given {
-            Step::Goes => self.rated(),
+            Step::Goes => rated(&self.frames, &self.focus),
             Step::Note(at, value) => self.begin_note(at, value),
             Step::Type(at) => self.begin_type(at),
-            Step::Stops(found) => self.stop(alloc, found),
+            Step::Stops(found) => self.stop(found),
         }
     }
 
-    // Whether an expression within the heights begins so.
+    // What is read inside the focus. Where nothing was, there is nothing to let go.
     #[inline(always)]
-    fn rated(&self) -> Taken
-        ensures { result ≡ cond (nat_lt (whole_least (state_of (frames_of self.now.frames) self.now.focus)) (greatest_height + 1)) Taken.Goes Taken.High }
+    fn put_inner(&mut self, inner: Inner)
+        ensures inner { self.new.inner ≡ inner }
+        ensures frames { self.new.frames ≡ self.old.frames }
+        ensures focus { self.new.focus ≡ self.old.focus }
     {
-        if is_low(&self.frames, &self.focus) {
-            Taken::Goes
-        } else {
-            Taken::High
+        match &self.inner {
+            Inner::Nothing => mem::forget(mem::replace(&mut self.inner, inner)),
+            _ => drop(mem::replace(&mut self.inner, inner)),
         }
     }
 
-    // What stands inside the frames, and whether an expression within the heights begins so.
-    fn put(&mut self, focus: Focus) -> Taken
-        ensures state { expr_state self.new ≡ inner_state (frames_of self.old.frames) focus self.old.inner }
-        ensures low { result ≡ cond (nat_lt (whole_least (state_of (frames_of self.old.frames) focus)) (greatest_height + 1)) Taken.Goes Taken.High }
-    {
-        drop(mem::replace(&mut self.focus, focus));
-        self.rated()
-    }
-
-    // The note of a number begins. It needs as much height as an operand that is wanted.
+    // The note of a number begins. It needs as much height as an operand that is wanted. The number stays in focus, for its box.
     #[inline(never)]
     fn begin_note(&mut self, at: u32, value: Frac) -> Taken
         ensures state { expr_state self.new ≡ InNote (frames_of self.old.frames) at value NeedNote }
         ensures low { result ≡ cond (nat_lt (whole_least (Need (frames_of self.old.frames))) (greatest_height + 1)) Taken.Goes Taken.High }
     {
-        let inner = Inner::Note(at, value, NoteReader::new());
-        drop(mem::replace(&mut self.inner, inner));
-        self.put(Focus::Wanted)
+        self.put_inner(Inner::Note(at, value, NoteReader::new()));
+        rated(&self.frames, &Focus::Wanted)
     }
 
     // The type of an empty list begins. It needs as much height as the colon before it.
@@ -329,42 +451,52 @@ impl ExprReader {
         ensures state { expr_state self.new ≡ InType (frames_of self.old.frames) at (NeedType 0) }
         ensures low { result ≡ cond (nat_lt (whole_least (Inside (frames_of self.old.frames) (NilColon at))) (greatest_height + 1)) Taken.Goes Taken.High }
     {
-        let inner = Inner::Type(at, TypeReader::new());
-        drop(mem::replace(&mut self.inner, inner));
-        self.put(Focus::Inside(Expected::NilColon(at)))
+        self.put_inner(Inner::Type(at, TypeReader::new()));
+        self.focus.put(Focus::Inside(Expected::NilColon(at)));
+        rated(&self.frames, &self.focus)
     }
 
     // The expression stops, and this is what was read.
     #[inline(never)]
-    fn stop(&mut self, alloc: Global, found: Option<Operand>) -> Taken
+    fn stop(&mut self, found: Option<Operand>) -> Taken
         requires nothing { self.old.inner ≡ Inner.Nothing }
         ensures stops { result ≡ Taken.Stops }
         ensures found { finish (expr_state self.new) ≡ option_map operand_expr found }
     {
-        drop(mem::replace(&mut self.frames, Frames::new(alloc)));
-        drop(mem::replace(&mut self.focus, focus_on(found)));
+        self.frames.clear();
+        self.focus.put(focus_on(found));
         Taken::Stops
+    }
+
+    /// An expression begins, whatever was read. The room of the open frames is kept.
+    pub fn restart(&mut self)
+        ensures start { expr_state self.new ≡ Need [] }
+    {
+        self.end_inner();
+        self.frames.clear();
+        self.focus.put(Focus::Wanted);
+    }
+
+    /// The expression where all is read, if it is one, taken out of the reader.
+    pub fn take_whole(&mut self, alloc: Global) -> Result<Option<RawExpr>, AllocError>
+        ensures found { IfOk result (λ o. option_map expr_syntax o ≡ finish (expr_state self.old)) }
+    {
+        match &self.inner {
+            Inner::Nothing => {
+                let focus = mem::replace(&mut self.focus, Focus::Wanted);
+                finished(alloc, &mut self.frames, focus)
+            }
+            Inner::Note(_, _, _) | Inner::Type(_, _) => Ok(None),
+        }
     }
 
     /// The expression where all is read, if it is one.
     pub fn finish(self, alloc: Global) -> Result<Option<RawExpr>, AllocError>
         ensures found { IfOk result (λ o. option_map expr_syntax o ≡ finish (expr_state self)) }
     {
-        let ExprReader {
-            frames,
-            focus,
-            inner,
-        } = self;
-        match inner {
-            Inner::Nothing => finished(alloc, frames, focus),
-            Inner::Note(_, _, note) => {
-                drop(note);
-                Ok(no_tree(frames, focus))
-            }
-            Inner::Type(_, ty) => {
-                drop(ty);
-                Ok(no_tree(frames, focus))
-            }
-        }
+        let mut reader = self;
+        let found = reader.take_whole(alloc);
+        drop(reader);
+        found
     }
 }

@@ -1,7 +1,7 @@
 // One token more, whatever is in focus.
 ghost use Rattle.std.specs.Prelude.{◌≡◌, ◌≤◌, IfOk, IfSome, None, Some, cond, option_map};
 ghost use Rattle.um_syntax.specs.Emptied.{emptied};
-ghost use Rattle.um_tree.specs.RawTree.{note_syntax, type_syntax};
+ghost use Rattle.um_tree.specs.RawTree.{number_syntax, note_syntax, type_syntax};
 ghost use Rattle.um_types.specs.TypeHeights.{note_height, whole_height};
 ghost use Rattle.um_types.specs.UnitStops.{greatest_height};
 ghost use Rattle.um_types.specs.UnitTokens.{unit_token};
@@ -147,6 +147,29 @@ fn refuse_type(kind: ExprToken, ty: RawType) -> Step
     refuse_token(kind)
 }
 
+// The number with its note, in its box, if it stands in focus.
+fn noted(
+    alloc: Global,
+    focus: &mut Focus,
+    at: u32,
+    value: Frac,
+    note: RawNote,
+) -> Result<Operand, AllocError>
+    requires { note_height (note_syntax note) ≤ greatest_height }
+    ensures { IfOk result (λ p. operand_expr p ≡ number_syntax at value (Some (note_syntax note))) }
+{
+    match mem::replace(focus, Focus::Wanted) {
+        Focus::Read(operand) => {
+            let Operand { tree, .. } = operand;
+            Ok(Operand::noted(tree, at, value, note))
+        }
+        other => {
+            drop(other);
+            Operand::number(alloc, at, value, Some(note))
+        }
+    }
+}
+
 // The token behind the note of a number.
 fn note_end(
     alloc: Global,
@@ -162,7 +185,7 @@ fn note_end(
 {
     match kind {
         ExprToken::Operator(Infix::Compare(Sign::Gt)) => {
-            let number = Operand::number(alloc, at, value, Some(note))?;
+            let number = noted(alloc, focus, at, value, note)?;
             Ok(focus.goes(Focus::Read(number)))
         }
         other => Ok(refuse_note(other, note)),

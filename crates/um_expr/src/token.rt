@@ -35,6 +35,17 @@ fn of_keyword(keyword: Keyword) -> ExprToken
     }
 }
 
+/// The reserved word, where it isn't `true` or `false`.
+#[inline(always)]
+pub fn plain_word(keyword: Keyword) -> Option<Keyword>
+    ensures { IfSome result (λ same. keyword_token keyword ≡ ExprToken.Word same) }
+{
+    match keyword {
+        Keyword::True | Keyword::False => None,
+        _ => Some(keyword),
+    }
+}
+
 /// The operator that a sign is, where what stands right beside it doesn't matter: not `<` and `>`.
 #[inline(always)]
 pub fn plain_operator(symbol: Symbol) -> Option<Infix>

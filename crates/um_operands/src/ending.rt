@@ -23,8 +23,8 @@ fn pop_ended(frames: &mut Frames, limit: u8) -> Option<Frame>
     }
 }
 
-/// Ends all frames up to this rank.
-pub fn ended(
+// Ends all frames up to this rank, one by one.
+fn end_frames(
     alloc: Global,
     frames: &mut Frames,
     limit: u8,
@@ -38,6 +38,24 @@ pub fn ended(
         operand = frame.plug(alloc, operand)?;
     }
     Ok(operand)
+}
+
+/// Ends all frames up to this rank.
+#[inline(always)]
+pub fn ended(
+    alloc: Global,
+    frames: &mut Frames,
+    limit: u8,
+    operand: Operand,
+) -> Result<Operand, AllocError>
+    requires { limit < 10 }
+    ensures { IfOk result (λ t. Have (frames_of frames.new) (operand_expr t) ≡ reduce limit (frames_of frames.old) (operand_expr operand)) }
+{
+    if limit < frames.rank() {
+        Ok(operand)
+    } else {
+        end_frames(alloc, frames, limit, operand)
+    }
 }
 
 /// The expression that is whole where nothing is open behind it.

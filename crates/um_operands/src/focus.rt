@@ -3,6 +3,7 @@ ghost use Rattle.std.specs.Prelude.{◌≡◌};
 
 use crate::operand::Operand;
 use crate::operands::ReadFields;
+use std::mem;
 use um_frac::Frac;
 use um_tree::{Binder, Name};
 
@@ -61,13 +62,26 @@ pub enum Step {
 }
 
 impl Focus {
+    /// This stands inside the frames. Where an operand was wanted, there is nothing to let go.
+    #[inline(always)]
+    pub fn put(&mut self, next: Focus)
+        ensures { self.new ≡ next }
+    {
+        match self {
+            Focus::Wanted => mem::forget(mem::replace(self, next)),
+            Focus::Read(_) | Focus::Power(_) | Focus::Greater(_, _) | Focus::Inside(_) => {
+                drop(mem::replace(self, next));
+            }
+        }
+    }
+
     /// The token goes on, and this stands inside the frames.
     #[inline(always)]
     pub fn goes(&mut self, next: Focus) -> Step
         ensures goes { result ≡ Step.Goes }
         ensures focus { self.new ≡ next }
     {
-        *self = next;
+        self.put(next);
         Step::Goes
     }
 }

@@ -1,16 +1,17 @@
 // What is open around the next operand, with the heights of its parts beside them.
-ghost use Rattle.std.specs.Prelude.{◌≡◌, IfOk};
+ghost use Rattle.std.specs.Prelude.{◌≡◌, ◌++◌, ◌∷◌, [], IfOk};
+ghost use Rattle.um_tree.specs.RawTree.{call_syntax, exprs_in_order};
 ghost use Rattle.um_operands.specs.ExprBegun.{bound_of, own_rank, plug, is_pown};
 ghost use Rattle.um_operands.specs.ExprLeast.{side};
 ghost use Rattle.um_types.specs.UnitCount.{counted};
-ghost use Rattle.um_operands.specs.ExprOperands.{operand_expr};
+ghost use Rattle.um_operands.specs.ExprOperands.{operand_expr, operand_exprs};
 ghost use Rattle.um_operands.specs.ExprFrames.{view_frame, is_call};
 
 use crate::infix::Infix;
 use crate::operand::Operand;
 use crate::operands::{Operands, ReadFields};
 use std::alloc::{AllocError, Global};
-use um_tree::{Binder, Name};
+use um_tree::{Binder, Name, RawExpr};
 use um_types::higher;
 
 /// A form that has begun, up to the operand that is read next. The first number of each is its place.
@@ -37,8 +38,8 @@ pub enum Frame {
     /// Behind `pown`: its power ends it
     InPown(u32),
     InRight(u32, Infix, Operand),
-    /// Behind a name and these arguments
-    InArgument(u32, Name, Operands),
+    /// Behind a name and these arguments, with the box that the name stood in, for the call
+    InArgument(u32, Name, Operands, Box<RawExpr>),
 }
 
 /// An open frame, and the least height that the parts in it and in the frames around it ask for,
@@ -47,6 +48,26 @@ pub enum Frame {
 pub struct Entry {
     pub frame: Frame,
     pub least: u32,
+}
+
+// A call with its last argument.
+fn call(
+    at: u32,
+    name: Name,
+    before: Operands,
+    room: Box<RawExpr>,
+    last: Operand,
+) -> Result<Operand, AllocError>
+    ensures { IfOk result (λ p. operand_expr p
+        ≡ call_syntax at name (exprs_in_order (operand_exprs before ++ operand_expr last ∷ []))) }
+{
+    match before.with(last) {
+        Ok(arguments) => Ok(arguments.call(at, name, room)),
+        Err(error) => {
+            drop(room);
+            Err(error)
+        }
+    }
 }
 
 // What is whole without the frame.
@@ -66,7 +87,7 @@ impl Frame {
         match self {
             Frame::InNegate(_) => 3,
             Frame::InRight(_, sign, _) => sign.right_bound(),
-            Frame::InNot(_) | Frame::InPown(_) | Frame::InArgument(_, _, _) => 1,
+            Frame::InNot(_) | Frame::InPown(_) | Frame::InArgument(_, _, _, _) => 1,
             _ => 10,
         }
     }
@@ -83,7 +104,7 @@ impl Frame {
             Frame::InNegate(_) => 2,
             Frame::InNot(_) => 1,
             Frame::InRight(_, sign, _) => sign.rank(),
-            Frame::InArgument(_, _, _) => 1,
+            Frame::InArgument(_, _, _, _) => 1,
             _ => 10,
         }
     }
@@ -93,7 +114,7 @@ impl Frame {
         ensures { result ≡ is_call (view_frame self.now) }
     {
         match self {
-            Frame::InArgument(_, _, _) => true,
+            Frame::InArgument(_, _, _, _) => true,
             _ => false,
         }
     }
@@ -129,7 +150,7 @@ impl Frame {
             Frame::InNot(_) => 0,
             Frame::InPown(_) => 0,
             Frame::InRight(_, _, left) => left.height,
-            Frame::InArgument(_, _, before) => before.height,
+            Frame::InArgument(_, _, before, _) => before.height,
         }
     }
 
@@ -159,7 +180,7 @@ impl Frame {
             Frame::InNegate(at) => last.negate(alloc, at),
             Frame::InNot(at) => last.not(alloc, at),
             Frame::InRight(at, sign, left) => left.infix(alloc, at, sign, last),
-            Frame::InArgument(at, name, before) => before.with(last)?.call(alloc, at, name),
+            Frame::InArgument(at, name, before, room) => call(at, name, before, room, last),
             other => Ok(unframed(other, last)),
         }
     }

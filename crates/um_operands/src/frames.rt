@@ -28,6 +28,13 @@ impl Frames {
         }
     }
 
+    /// No frame is open any more. The room that they took is kept.
+    pub fn clear(&mut self)
+        ensures { frames_of self.new ≡ [] }
+    {
+        self.entries.clear();
+    }
+
     /// The number of frames, counted.
     pub fn count(&self) -> u32
         ensures { result ≡ counted (length (frames_of self.now)) }

@@ -1,5 +1,5 @@
 // Expressions with their heights beside them, so that no height is counted again.
-ghost use Rattle.std.specs.Prelude.{◌≡◌, ◌≤◌, IfOk, None};
+ghost use Rattle.std.specs.Prelude.{◌≡◌, ◌≤◌, IfOk, None, Some};
 ghost use Rattle.um_tree.specs.RawTree.{expr_syntax, binder_syntax, type_syntax, written_note, truth_syntax, number_syntax, name_syntax, negate_syntax, not_syntax, pown_syntax, if_syntax, let_syntax, match_syntax, nil_syntax, field_syntax, bracket_expr_syntax};
 ghost use Rattle.um_tree.specs.Heights.{expr_height};
 ghost use Rattle.um_types.specs.TypeHeights.{whole_height};
@@ -11,6 +11,7 @@ ghost use Rattle.um_operands.specs.Ranks.{infix_text};
 use crate::composite;
 use crate::infix::Infix;
 use std::alloc::{AllocError, Global};
+use std::mem;
 use um_frac::Frac;
 use um_tree::{Binder, Name, RawExpr, RawNode, RawNote, RawType};
 use um_types::{higher, one_higher};
@@ -39,6 +40,22 @@ impl Operand {
         Ok(Operand { tree, height })
     }
 
+    /// The same, in a box whose own tree was used up. A number and a truth value hold nothing that has to be let go.
+    pub fn in_room(room: Box<RawExpr>, tree: RawExpr, height: u32) -> Operand
+        requires exact { height ≡ counted (expr_height (expr_syntax tree)) }
+        requires low { notes_in (expr_syntax tree) ≤ greatest_height }
+        ensures { operand_expr result ≡ expr_syntax tree }
+    {
+        let mut room = room;
+        match &room.node {
+            RawNode::Num(_, None) | RawNode::Bool(_) => {
+                mem::forget(mem::replace(&mut *room, tree));
+            }
+            _ => drop(mem::replace(&mut *room, tree)),
+        }
+        Operand { tree: room, height }
+    }
+
     /// `true` or `false`
     pub fn truth(alloc: Global, at: u32, value: bool) -> Result<Operand, AllocError>
         ensures { IfOk result (λ p. operand_expr p ≡ truth_syntax at value) }
@@ -59,6 +76,15 @@ impl Operand {
     {
         let node = RawNode::Num(value, note);
         Operand::of_tree(alloc, RawExpr { at, node }, 1)
+    }
+
+    /// A number with its note, in the box of the number without one
+    pub fn noted(room: Box<RawExpr>, at: u32, value: Frac, note: RawNote) -> Operand
+        requires { written_height (written_note (Some note)) ≤ greatest_height }
+        ensures { operand_expr result ≡ number_syntax at value (written_note (Some note)) }
+    {
+        let node = RawNode::Num(value, Some(note));
+        Operand::in_room(room, RawExpr { at, node }, 1)
     }
 
     /// A name

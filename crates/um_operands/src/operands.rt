@@ -37,11 +37,15 @@ fn added<T: Drop>(items: Vec<T>, last: T) -> Result<Vec<T>, AllocError>
     ensures { IfOk result (λ xs. xs.items ≡ items.items ++ last ∷ []) }
 {
     let mut items = items;
-    match items.push(last) {
-        Ok(()) => Ok(items),
-        Err(refused) => {
+    match items.reserve(1) {
+        Ok(()) => {
+            items.push_reserved(last);
+            Ok(items)
+        }
+        Err(error) => {
             drop(items);
-            Err(AllocError::from(refused))
+            drop(last);
+            Err(error)
         }
     }
 }
@@ -75,13 +79,13 @@ impl Operands {
         })
     }
 
-    /// The call of a name with these arguments
-    pub fn call(self, alloc: Global, at: u32, name: Name) -> Result<Operand, AllocError>
-        ensures { IfOk result (λ p. operand_expr p ≡ call_syntax at name (exprs_in_order (operand_exprs self))) }
+    /// The call of a name with these arguments, in a box whose own tree was used up
+    pub fn call(self, at: u32, name: Name, room: Box<RawExpr>) -> Operand
+        ensures { operand_expr result ≡ call_syntax at name (exprs_in_order (operand_exprs self)) }
     {
         let Operands { items, height } = self;
         let node = RawNode::Call(name, RawExprs { items });
-        Operand::of_tree(alloc, RawExpr { at, node }, one_higher(height))
+        Operand::in_room(room, RawExpr { at, node }, one_higher(height))
     }
 
     /// The list of these items
