@@ -6,7 +6,7 @@ ghost use Rattle.um_parse.specs.ProgramHeights.{params_height, result_height};
 
 use crate::decl_end::push_decl;
 use crate::decl_prefix::{Head, in_box};
-use crate::decl_token::{finish_type, take_in_type};
+use crate::decl_token::take_in_type;
 use std::alloc::{AllocError, Global};
 use std::mem;
 use um_expr::ExprReader;
@@ -187,7 +187,7 @@ impl FunctionReader {
         ensures { function_state self.new
             ≡ param_state (start_in self.old) (read_params self.old) (NeedType 0) expected }
     {
-        self.ty = TypeReader::new();
+        self.ty.restart();
         self.put(expected);
     }
 
@@ -290,7 +290,7 @@ impl FunctionReader {
             (type_finish (type_state self.old.ty)) (expr_token token.now.kind))
             t (function_state self.new)) }
     {
-        match finish_type(&mut self.ty) {
+        match self.ty.take_whole() {
             Some(ty) => self.behind_param(RawParam { binder, ty }, token),
             None => {
                 drop(binder);
@@ -330,7 +330,7 @@ impl FunctionReader {
             (expr_token token.now.kind))
             t (function_state self.new)) }
     {
-        match finish_type(&mut self.ty) {
+        match self.ty.take_whole() {
             Some(ty) => self.behind_result(alloc, ty, token),
             None => Ok(Taken::Stops),
         }

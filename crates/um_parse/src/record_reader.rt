@@ -6,7 +6,7 @@ ghost use Rattle.um_parse.specs.ProgramHeights.{fields_height};
 
 use crate::decl_end::push_found;
 use crate::decl_prefix::{Head, in_box};
-use crate::decl_token::{finish_type, take_in_type};
+use crate::decl_token::take_in_type;
 use std::alloc::{AllocError, Global};
 use std::mem;
 use um_reader::Taken;
@@ -146,7 +146,7 @@ impl RecordReader {
     {
         match &token.kind {
             Kind::Sign(Symbol::Colon) => {
-                self.ty = TypeReader::new();
+                self.ty.restart();
                 self.put(FieldExpected::Type(at, name));
                 Taken::Goes
             }
@@ -167,7 +167,7 @@ impl RecordReader {
             (type_finish (type_state self.old.ty)) (expr_token token.now.kind))
             t (record_state self.new)) }
     {
-        match finish_type(&mut self.ty) {
+        match self.ty.take_whole() {
             Some(ty) => self.behind_field(RawFieldDecl { at, name, ty }, token),
             None => {
                 drop(name);
