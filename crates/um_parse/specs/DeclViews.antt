@@ -26,6 +26,7 @@ use Rattle.um_parse.specs.declared.decl_prefix.Next.TheVariants as next
 use Rattle.um_parse.specs.declared.record_reader.RecordReader.{RecordReader}
 use Rattle.um_parse.specs.declared.record_reader.FieldExpected.{FieldExpected}
 use Rattle.um_parse.specs.declared.record_reader.FieldExpected.TheVariants as field
+use Rattle.um_parse.specs.declared.function_reader.FunctionBody.{FunctionBody}
 use Rattle.um_parse.specs.declared.function_reader.FunctionReader.{FunctionReader}
 use Rattle.um_parse.specs.declared.function_reader.FunctionExpected.{FunctionExpected}
 use Rattle.um_parse.specs.declared.function_reader.FunctionExpected.TheVariants as function
@@ -53,17 +54,17 @@ field_state h fs s field.Nothing = HaveRecord h.at h.name (head_vars h) fs
 abbrev pub record_state : RecordReader → DeclState
 record_state r = field_state r.head (read_fields r) (type_state r.ty) r.expected
 
--- behind the name and the unit parameters of a function, by its parameters and the type that is read
-abbrev pub param_state : FunctionStart → List ParamSyntax → TypeState → FunctionExpected → DeclState
-param_state head ps s function.Params = Expects (Params head ps)
-param_state head ps s function.Binder = Expects (ParamBinder head ps)
-param_state head ps s (function.Colon b) = Expects (ParamColon head ps (binder_syntax b))
-param_state head ps s (function.Param b) = InParam head ps (binder_syntax b) s
-param_state head ps s function.Result = InResult head ps s
-param_state head ps s (function.Body b) = InBody head ps (written_type b.value.result) (expr_state b.value.body)
+-- behind the name and the unit parameters of a function, by its parameters, the type and the body that are read
+abbrev pub param_state : FunctionStart → List ParamSyntax → TypeState → FunctionBody → FunctionExpected → DeclState
+param_state head ps s b function.Params = Expects (Params head ps)
+param_state head ps s b function.Binder = Expects (ParamBinder head ps)
+param_state head ps s b (function.Colon x) = Expects (ParamColon head ps (binder_syntax x))
+param_state head ps s b (function.Param x) = InParam head ps (binder_syntax x) s
+param_state head ps s b function.Result = InResult head ps s
+param_state head ps s b function.Body = InBody head ps (written_type b.result) (expr_state b.body)
 
 abbrev pub function_state : FunctionReader → DeclState
-function_state f = param_state (start_in f) (read_params f) (type_state f.ty) f.expected
+function_state f = param_state (start_in f) (read_params f) (type_state f.ty) f.body f.expected
 
 abbrev pub view_measure : MeasureExpected → DeclExpected
 view_measure measure.Word = AttributeWord

@@ -1,5 +1,5 @@
-// A declaration that is read one token at a time. What is large stands in a box and is read in place.
-ghost use Rattle.std.specs.Prelude.{◌≡◌, ◌≤◌, false, [], IfOk, Some, None, option_map};
+// A declaration that is read one token at a time. Functions are read in place, and records in a box.
+ghost use Rattle.std.specs.Prelude.{◌≡◌, ◌≤◌, false, [], IfOk, OnOk, Some, None, option_map};
 ghost use Rattle.um_tree.specs.RawTree.{unit_syntax, base_syntax, decl_syntax};
 ghost use Rattle.um_reader.specs.Takes.{Gives, Takes};
 ghost use Rattle.um_types.specs.UnitStops.{greatest_height};
@@ -11,7 +11,7 @@ ghost use Rattle.um_parse.specs.DeclMachine.{take_expected, take_params, started
 ghost use Rattle.um_parse.specs.DeclMachine.{decl_finish, at_start};
 ghost use Rattle.um_parse.specs.ProgramLeast.{decl_least, machine_of_declarations};
 ghost use Rattle.um_parse.specs.DeclViews.{head_vars, view_expected, next_state, reached};
-ghost use Rattle.um_parse.specs.DeclTakes.{reader_state, head_step, Ends};
+ghost use Rattle.um_parse.specs.DeclTakes.{place_state, reader_state, head_step, Ends};
 ghost use Rattle.um_parse.specs.DeclTokens.{BeginsAlike, IfStops};
 
 use crate::decl_end::push_found;
@@ -31,9 +31,9 @@ use um_syntax::{Kind, Symbol, Token};
 use um_tree::{Name, RawDecl, RawUnit};
 use um_types::UnitReader;
 
-/// A declaration that has begun.
+/// Where a declaration stands.
 #[derive(Drop)]
-pub enum DeclReader {
+pub enum DeclPlace {
     /// What was read has refused a token, and nothing ends there
     Nothing,
     At(DeclExpected),
@@ -44,22 +44,14 @@ pub enum DeclReader {
     Record(Box<RecordReader>),
     /// Behind the name of a function, with `rec` or not, at its place; in its parameters, its result type or its body
     Named(bool, u32, Name),
-    Function(Box<FunctionReader>),
+    Function,
 }
 
-// The reader of what follows.
-fn reader_of(alloc: Global, next: Next) -> Result<DeclReader, AllocError>
-    ensures { IfOk result (λ reader. reader_state reader ≡ next_state next) }
-{
-    match next {
-        Next::At(expected) => Ok(DeclReader::At(expected)),
-        Next::Base(at, name) => Ok(DeclReader::Base(at, name)),
-        Next::Record(head) => Ok(DeclReader::Record(RecordReader::new(alloc, head)?)),
-        Next::Named(recursive, at, name) => Ok(DeclReader::Named(recursive, at, name)),
-        Next::Function(recursive, head) => {
-            Ok(DeclReader::Function(FunctionReader::new(alloc, recursive, head)?))
-        }
-    }
+/// A declaration that has begun, and the reader of functions, which serves one function after another.
+#[derive(Drop)]
+pub struct DeclReader {
+    place: DeclPlace,
+    function: FunctionReader,
 }
 
 // What follows a place.
@@ -124,29 +116,46 @@ fn end_short(
 }
 
 // No declaration ends here.
-fn unfinished(reader: DeclReader) -> bool
+fn unfinished(place: DeclPlace) -> bool
     ensures { result ≡ false }
 {
-    drop(reader);
+    drop(place);
     false
 }
 
 impl DeclReader {
     /// No token was read yet.
-    pub fn new() -> DeclReader
+    pub fn new(alloc: Global) -> DeclReader
         ensures start { reader_state result ≡ Expects DeclBegin }
     {
-        DeclReader::At(DeclExpected::Begin)
+        DeclReader {
+            place: DeclPlace::At(DeclExpected::Begin),
+            function: FunctionReader::new(alloc),
+        }
     }
 
     /// Whether no token was read.
     pub fn is_at_start(&self) -> bool
         ensures { result ≡ at_start (reader_state self.now) }
     {
-        match self {
-            DeclReader::At(DeclExpected::Begin) => true,
+        match &self.place {
+            DeclPlace::At(DeclExpected::Begin) => true,
             _ => false,
         }
+    }
+
+    /// A declaration begins, whatever was read.
+    pub fn restart(&mut self)
+        ensures start { reader_state self.new ≡ Expects DeclBegin }
+    {
+        self.put(DeclPlace::At(DeclExpected::Begin));
+    }
+
+    /// Nothing ends here, whatever was read.
+    pub fn stop(&mut self)
+        ensures stopped { reader_state self.new ≡ NoDecl }
+    {
+        self.put(DeclPlace::Nothing);
     }
 
     /// One token more. Where it is refused, what is left of it begins a declaration as it does.
@@ -156,14 +165,14 @@ impl DeclReader {
             Takes machine_of_declarations greatest_height (reader_state self.old) token.old t (reader_state self.new)) }
         ensures kept { IfOk result (λ t. IfStops t (BeginsAlike token.new token.old)) }
     {
-        match self {
-            DeclReader::Function(function) => function.take(alloc, token),
-            DeclReader::Record(record) => record.take(alloc, token),
-            DeclReader::Short(_, _, unit) => take_in_unit(unit, alloc, token),
-            DeclReader::Nothing => Ok(Taken::Stops),
-            DeclReader::At(_) => self.take_own(alloc, token),
-            DeclReader::Base(_, _) => self.take_own(alloc, token),
-            DeclReader::Named(_, _, _) => self.take_own(alloc, token),
+        match &mut self.place {
+            DeclPlace::Function => self.function.take(alloc, token),
+            DeclPlace::Record(record) => record.take(alloc, token),
+            DeclPlace::Short(_, _, unit) => take_in_unit(unit, alloc, token),
+            DeclPlace::Nothing => Ok(Taken::Stops),
+            DeclPlace::At(_) => self.take_own(alloc, token),
+            DeclPlace::Base(_, _) => self.take_own(alloc, token),
+            DeclPlace::Named(_, _, _) => self.take_own(alloc, token),
         }
     }
 
@@ -171,42 +180,66 @@ impl DeclReader {
     #[inline(never)]
     fn take_own(&mut self, alloc: Global, token: &mut Token) -> Result<Taken, AllocError>
         ensures taken { IfOk result (λ t. Gives machine_of_declarations greatest_height (reader_state self.old)
-            (head_step self.old token.old) t (reader_state self.new)) }
+            (head_step self.old.place token.old) t (reader_state self.new)) }
         ensures kept { BeginsAlike token.new token.old }
     {
-        match mem::replace(self, DeclReader::Nothing) {
-            DeclReader::At(expected) => {
+        match mem::replace(&mut self.place, DeclPlace::Nothing) {
+            DeclPlace::At(expected) => {
                 let p = token.start;
                 let kind = kind_of(alloc, token);
                 let next = next_at(alloc, expected, kind, p)?;
                 self.follow(alloc, next)
             }
-            DeclReader::Base(at, name) => self.behind_base(alloc, at, name, token),
-            DeclReader::Named(recursive, at, name) => {
-                self.behind_name(alloc, recursive, at, name, token)
+            DeclPlace::Base(at, name) => self.behind_base(alloc, at, name, token),
+            DeclPlace::Named(recursive, at, name) => {
+                Ok(self.behind_name(alloc, recursive, at, name, token))
             }
             other => Ok(self.stay(other)),
         }
     }
 
-    // What is read from here on. Where nothing was, there is nothing to let go.
+    // Where the declaration stands from here on. Where nothing was, and in a function, there is nothing to let go.
     #[inline(always)]
-    fn put(&mut self, reader: DeclReader)
-        ensures { self.new ≡ reader }
+    fn put(&mut self, place: DeclPlace)
+        ensures place { self.new.place ≡ place }
+        ensures function { self.new.function ≡ self.old.function }
     {
-        match self {
-            DeclReader::Nothing => mem::forget(mem::replace(self, reader)),
-            _ => drop(mem::replace(self, reader)),
+        match &self.place {
+            DeclPlace::Nothing | DeclPlace::Function => {
+                mem::forget(mem::replace(&mut self.place, place));
+            }
+            _ => drop(mem::replace(&mut self.place, place)),
         }
     }
 
     // The token is refused, and the reader ends as before it.
-    fn stay(&mut self, reader: DeclReader) -> Taken
-        ensures { Gives machine_of_declarations greatest_height (reader_state reader) NoDecl
+    fn stay(&mut self, place: DeclPlace) -> Taken
+        ensures { Gives machine_of_declarations greatest_height (place_state place self.old.function) NoDecl
             result (reader_state self.new) }
     {
-        self.put(reader);
+        self.put(place);
         Taken::Stops
+    }
+
+    // What is read from here on.
+    fn go(&mut self, alloc: Global, next: Next) -> Result<(), AllocError>
+        ensures { OnOk result (reader_state self.new ≡ next_state next) }
+    {
+        match next {
+            Next::At(expected) => Ok(self.put(DeclPlace::At(expected))),
+            Next::Base(at, name) => Ok(self.put(DeclPlace::Base(at, name))),
+            Next::Record(head) => {
+                let record = RecordReader::new(alloc, head)?;
+                Ok(self.put(DeclPlace::Record(record)))
+            }
+            Next::Named(recursive, at, name) => {
+                Ok(self.put(DeclPlace::Named(recursive, at, name)))
+            }
+            Next::Function(recursive, head) => {
+                self.function.begin(alloc, recursive, head);
+                Ok(self.put(DeclPlace::Function))
+            }
+        }
     }
 
     // What follows is read, or the token is refused, where nothing ends.
@@ -217,8 +250,7 @@ impl DeclReader {
     {
         match next {
             Some(next) => {
-                let reader = reader_of(alloc, next)?;
-                self.put(reader);
+                self.go(alloc, next)?;
                 Ok(Taken::Goes)
             }
             None => Ok(Taken::Stops),
@@ -238,7 +270,7 @@ impl DeclReader {
     {
         match &token.kind {
             Kind::Sign(Symbol::Equal) => self.begin_short(alloc, at, name),
-            _ => Ok(self.stay(DeclReader::Base(at, name))),
+            _ => Ok(self.stay(DeclPlace::Base(at, name))),
         }
     }
 
@@ -249,7 +281,7 @@ impl DeclReader {
     {
         match in_box(alloc, UnitReader::new(alloc)) {
             Ok(unit) => {
-                self.put(DeclReader::Short(at, name, unit));
+                self.put(DeclPlace::Short(at, name, unit));
                 Ok(Taken::Goes)
             }
             Err(error) => {
@@ -267,51 +299,46 @@ impl DeclReader {
         at: u32,
         name: Name,
         token: &Token,
-    ) -> Result<Taken, AllocError>
+    ) -> Taken
         requires nothing { decl_finish (reader_state self.old) ≡ None }
-        ensures { IfOk result (λ t. Gives machine_of_declarations greatest_height NoDecl
+        ensures { Gives machine_of_declarations greatest_height NoDecl
             (take_expected (FunctionVars recursive at name) (expr_token token.now.kind) token.now.start)
-            t (reader_state self.new)) }
+            result (reader_state self.new) }
     {
         let head = Head::plain(alloc, at, name);
         match &token.kind {
             Kind::Sign(Symbol::Less) => {
                 let owner = Owner::Function(recursive);
-                self.put(DeclReader::At(DeclExpected::Var(owner, head, VarExpected::Begin)));
-                Ok(Taken::Goes)
+                self.put(DeclPlace::At(DeclExpected::Var(owner, head, VarExpected::Begin)));
+                Taken::Goes
             }
             _ => self.begin_params(alloc, recursive, head, token),
         }
     }
 
     // The token behind the name of a function without unit parameters.
-    fn begin_params(
-        &mut self,
-        alloc: Global,
-        recursive: bool,
-        head: Head,
-        token: &Token,
-    ) -> Result<Taken, AllocError>
-        ensures { IfOk result (λ t. Gives machine_of_declarations greatest_height NoDecl
+    fn begin_params(&mut self, alloc: Global, recursive: bool, head: Head, token: &Token) -> Taken
+        ensures { Gives machine_of_declarations greatest_height NoDecl
             (take_params (started recursive head.at head.name (head_vars head)) [] (expr_token token.now.kind))
-            t (reader_state self.new)) }
+            result (reader_state self.new) }
     {
-        let mut function = FunctionReader::new(alloc, recursive, head)?;
-        let taken = function.take_params(alloc, token);
-        self.put(DeclReader::Function(function));
+        self.function.begin(alloc, recursive, head);
+        let taken = self.function.take_params(alloc, token);
+        self.put(DeclPlace::Function);
         taken
     }
 
-    /// The declaration where all is read goes behind these, if it is one. Whether it is.
-    pub fn finish(self, alloc: Global, decls: &mut Vec<RawDecl>) -> Result<bool, AllocError>
+    /// The declaration where all is read goes behind these, if it is one, and another begins. Whether it is one.
+    pub fn finish(&mut self, alloc: Global, decls: &mut Vec<RawDecl>) -> Result<bool, AllocError>
         ensures found { IfOk result (λ whole.
-            Ends (decl_finish (reader_state self)) whole decls.old.items decls.new.items) }
+            Ends (decl_finish (reader_state self.old)) whole decls.old.items decls.new.items) }
+        ensures start { reader_state self.new ≡ Expects DeclBegin }
     {
-        match self {
-            DeclReader::Base(at, name) => end_base(at, name, decls),
-            DeclReader::Short(at, name, unit) => end_short(alloc, at, name, unit, decls),
-            DeclReader::Record(record) => RecordReader::finish(record, decls),
-            DeclReader::Function(function) => FunctionReader::finish(function, alloc, decls),
+        match mem::replace(&mut self.place, DeclPlace::At(DeclExpected::Begin)) {
+            DeclPlace::Function => self.function.finish(alloc, decls),
+            DeclPlace::Base(at, name) => end_base(at, name, decls),
+            DeclPlace::Short(at, name, unit) => end_short(alloc, at, name, unit, decls),
+            DeclPlace::Record(record) => RecordReader::finish(record, decls),
             other => Ok(unfinished(other)),
         }
     }

@@ -21,9 +21,9 @@ take_own-requires c =
     let s = start_in old in
     let ps = read_params old in
     let mid = type_state c.take_in_type.new.ty in
-    let low = subst (λ (e : FunctionExpected). decl_least (param_state s ps (type_state old.ty) e) ≤ greatest_height) c.in-Param.is c.requires.low in
+    let low = subst (λ (e : FunctionExpected). decl_least (param_state s ps (type_state old.ty) old.body e) ≤ greatest_height) c.in-Param.is c.requires.low in
     record {
-      low = subst (λ (e : FunctionExpected). IsLow (param_state s ps mid e)) (sym c.in-Param.is) (type_low (type_state old.ty) mid c.args.token.now (omega (arith, low)) (rw c.in-Stops.is at c.in_ok-take_in_type-in-Param.ensures.taken));
+      low = subst (λ (e : FunctionExpected). IsLow (param_state s ps mid old.body e)) (sym c.in-Param.is) (type_low (type_state old.ty) mid c.args.token.now (omega (arith, low)) (rw c.in-Stops.is at c.in_ok-take_in_type-in-Param.ensures.taken));
     }
 
 pub take_own-requires-in-Stops-2 : goal.take_own-requires-in-Stops-2
@@ -32,9 +32,9 @@ take_own-requires-in-Stops-2 c =
     let s = start_in old in
     let ps = read_params old in
     let mid = type_state c.take_in_type-in-Result.new.ty in
-    let low = subst (λ (e : FunctionExpected). decl_least (param_state s ps (type_state old.ty) e) ≤ greatest_height) c.in-Result.is c.requires.low in
+    let low = subst (λ (e : FunctionExpected). decl_least (param_state s ps (type_state old.ty) old.body e) ≤ greatest_height) c.in-Result.is c.requires.low in
     record {
-      low = subst (λ (e : FunctionExpected). IsLow (param_state s ps mid e)) (sym c.in-Result.is) (type_low (type_state old.ty) mid c.args.token.now (omega (arith, low)) (rw c.in-Stops-2.is at c.in_ok-take_in_type-in-Result.ensures.taken));
+      low = subst (λ (e : FunctionExpected). IsLow (param_state s ps mid old.body e)) (sym c.in-Result.is) (type_low (type_state old.ty) mid c.args.token.now (omega (arith, low)) (rw c.in-Stops-2.is at c.in_ok-take_in_type-in-Result.ensures.taken));
     }
 
 pub returns-in-Body-clause-taken : goal.returns-in-Body-clause-taken
@@ -42,11 +42,12 @@ returns-in-Body-clause-taken c =
     let f = c.args.self.now in
     let s = start_in f in
     let ps = read_params f in
-    let old = c.in-Body.body.value in
-    let new = c.take.new.body.value in
+    let ty = type_state f.ty in
+    let old = f.body in
+    let new = c.take.new.self in
     let token = c.args.token.now in
-    let low = subst (λ (e : FunctionExpected). decl_least (param_state s ps (type_state f.ty) e) ≤ greatest_height) c.in-Body.is c.requires.low in
-    subst (λ (e : FunctionExpected). IfOk c.take.result (λ t. Takes machine_of_declarations greatest_height (param_state s ps (type_state f.ty) e) token t (InBody s ps (written_type new.result) (expr_state new.body)))) (sym c.in-Body.is)
+    let low = subst (λ (e : FunctionExpected). decl_least (param_state s ps ty old e) ≤ greatest_height) c.in-Body.is c.requires.low in
+    subst (λ (e : FunctionExpected). IfOk c.take.result (λ t. Takes machine_of_declarations greatest_height (param_state s ps ty old e) token t (param_state s ps ty new e))) (sym c.in-Body.is)
     (
     IfOk-weaker c.take.result (λ t. Takes machine_of_expressions greatest_height (expr_state old.body) token t (expr_state new.body))
     (λ t. Takes machine_of_declarations greatest_height (InBody s ps (written_type old.result) (expr_state old.body)) token t (InBody s ps (written_type new.result) (expr_state new.body)))
