@@ -158,8 +158,22 @@ impl DeclReader {
         self.put(DeclPlace::Nothing);
     }
 
-    /// One token more. Where it is refused, what is left of it begins a declaration as it does.
+    /// One token more. Where it is refused, what is left of it begins a declaration as it does. Most tokens stand in functions.
     pub fn take(&mut self, alloc: Global, token: &mut Token) -> Result<Taken, AllocError>
+        requires low { decl_least (reader_state self.old) ≤ greatest_height }
+        ensures taken { IfOk result (λ t.
+            Takes machine_of_declarations greatest_height (reader_state self.old) token.old t (reader_state self.new)) }
+        ensures kept { IfOk result (λ t. IfStops t (BeginsAlike token.new token.old)) }
+    {
+        match &self.place {
+            DeclPlace::Function => self.function.take(alloc, token),
+            _ => self.take_any(alloc, token),
+        }
+    }
+
+    // One token more, wherever the declaration stands.
+    #[inline(never)]
+    fn take_any(&mut self, alloc: Global, token: &mut Token) -> Result<Taken, AllocError>
         requires low { decl_least (reader_state self.old) ≤ greatest_height }
         ensures taken { IfOk result (λ t.
             Takes machine_of_declarations greatest_height (reader_state self.old) token.old t (reader_state self.new)) }

@@ -128,7 +128,7 @@ impl FunctionReader {
         mem::forget(mem::replace(&mut self.expected, FunctionExpected::Params));
     }
 
-    /// One token more. Where it is refused, what is left of it begins a declaration as it does.
+    /// One token more. Where it is refused, what is left of it begins a declaration as it does. Most tokens stand in bodies.
     pub fn take(&mut self, alloc: Global, token: &mut Token) -> Result<Taken, AllocError>
         requires low { decl_least (function_state self.old) ≤ greatest_height }
         ensures taken { IfOk result (λ t. Takes machine_of_declarations greatest_height (function_state self.old)
@@ -136,7 +136,32 @@ impl FunctionReader {
         ensures kept { IfOk result (λ t. IfStops t (BeginsAlike token.new token.old)) }
     {
         match &self.expected {
-            FunctionExpected::Body => self.body.take(alloc, token),
+            FunctionExpected::Body => self.take_body(alloc, token),
+            _ => self.take_any(alloc, token),
+        }
+    }
+
+    // One token more of the body.
+    fn take_body(&mut self, alloc: Global, token: &mut Token) -> Result<Taken, AllocError>
+        requires body { self.old.expected ≡ FunctionExpected.Body }
+        requires low { decl_least (function_state self.old) ≤ greatest_height }
+        ensures taken { IfOk result (λ t. Takes machine_of_declarations greatest_height (function_state self.old)
+            token.old t (function_state self.new)) }
+        ensures kept { IfOk result (λ t. IfStops t (BeginsAlike token.new token.old)) }
+    {
+        self.body.take(alloc, token)
+    }
+
+    // One token more, whatever is expected.
+    #[inline(never)]
+    fn take_any(&mut self, alloc: Global, token: &mut Token) -> Result<Taken, AllocError>
+        requires low { decl_least (function_state self.old) ≤ greatest_height }
+        ensures taken { IfOk result (λ t. Takes machine_of_declarations greatest_height (function_state self.old)
+            token.old t (function_state self.new)) }
+        ensures kept { IfOk result (λ t. IfStops t (BeginsAlike token.new token.old)) }
+    {
+        match &self.expected {
+            FunctionExpected::Body => self.take_body(alloc, token),
             FunctionExpected::Param(_) => match take_in_type(&mut self.ty, alloc, token)? {
                 Taken::Goes => Ok(Taken::Goes),
                 Taken::Stops => self.take_own(alloc, token),

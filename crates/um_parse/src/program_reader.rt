@@ -39,6 +39,7 @@ impl ProgramReader {
     ghost use Rattle.um_parse.specs.DeclTakes.{reader_state, program_state};
 
     // The first token of a declaration.
+    #[inline(never)]
     fn begin(&mut self, alloc: Global, token: &mut Token) -> Result<Taken, AllocError>
         requires start { at_start (reader_state self.old.last) ≡ true }
         requires low { program_least (program_state self.old) ≤ greatest_height }
