@@ -9,8 +9,8 @@ use Rattle.um_types.specs.UnitView.{unit_state}
 use Rattle.um_types.specs.TypeHeights.{whole_height}
 use Rattle.um_types.specs.TypeMachine.{type_finish}
 use Rattle.um_expr.specs.ExprTokens.{expr_token}
-use Rattle.um_parse.specs.DeclMachine.{DeclState, Expects, HaveBase, InShort, FunctionVars, InField, InParam, InResult}
-use Rattle.um_parse.specs.DeclMachine.{NoDecl, ProgramState, InProgram, take_expected, base_after, program_found}
+use Rattle.um_parse.specs.DeclMachine.{DeclState, Expects, HaveBase, InShort, InField, InParam, InResult, NoDecl}
+use Rattle.um_parse.specs.DeclMachine.{ProgramState, InProgram, base_after, program_found}
 use Rattle.um_parse.specs.DeclViews.{view_expected, record_state, function_state}
 use Rattle.um_parse.specs.declared.decl_reader.DeclPlace.{DeclPlace}
 use Rattle.um_parse.specs.declared.decl_reader.DeclPlace.TheVariants as place
@@ -25,19 +25,15 @@ place_state (place.At p) f = Expects (view_expected p)
 place_state (place.Base at x) f = HaveBase at x
 place_state (place.Short at x u) f = InShort at x (unit_state u.value)
 place_state (place.Record r) f = record_state r.value
-place_state (place.Named recursive at x) f = Expects (FunctionVars recursive at x)
 place_state place.Function f = function_state f
 
 abbrev pub reader_state : DeclReader → DeclState
 reader_state r = place_state r.place r.function
 
--- the token at a place, behind the name of a measure or of a function
-abbrev pub head_step : DeclPlace → Token → DeclState
-head_step (place.At p) token = take_expected (view_expected p) (expr_token token.kind) token.start
-head_step (place.Base at x) token = base_after at x (expr_token token.kind)
-head_step (place.Named recursive at x) token =
-    take_expected (FunctionVars recursive at x) (expr_token token.kind) token.start
-head_step _ token = NoDecl
+-- the token behind the name of a measure
+abbrev pub base_step : DeclPlace → Token → DeclState
+base_step (place.Base at x) token = base_after at x (expr_token token.kind)
+base_step _ token = NoDecl
 
 -- what the type is that ends here, if one has begun, isn't too high
 abbrev pub IsLow : DeclState → Type 0

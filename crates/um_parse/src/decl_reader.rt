@@ -1,49 +1,44 @@
 // A declaration that is read one token at a time. Functions are read in place, and records in a box.
-ghost use Rattle.std.specs.Prelude.{◌≡◌, ◌≤◌, false, [], IfOk, OnOk, Some, None, option_map};
+ghost use Rattle.std.specs.Prelude.{◌≡◌, ◌≤◌, false, [], IfOk, Some, None, option_map};
 ghost use Rattle.um_tree.specs.RawTree.{unit_syntax, base_syntax, decl_syntax};
 ghost use Rattle.um_reader.specs.Takes.{Gives, Takes};
 ghost use Rattle.um_types.specs.UnitStops.{greatest_height};
 ghost use Rattle.um_types.specs.UnitMachine.{Need, finish};
 ghost use Rattle.um_types.specs.UnitView.{unit_state};
 ghost use Rattle.um_expr.specs.ExprTokens.{expr_token};
-ghost use Rattle.um_parse.specs.DeclMachine.{Expects, DeclBegin, FunctionVars, HaveBase, InShort, NoDecl};
-ghost use Rattle.um_parse.specs.DeclMachine.{take_expected, take_params, started, base_after, short_found};
-ghost use Rattle.um_parse.specs.DeclMachine.{decl_finish, at_start};
+ghost use Rattle.um_parse.specs.DeclMachine.{Expects, DeclBegin, MeasureName, RecordName, LetName, RecName};
+ghost use Rattle.um_parse.specs.DeclMachine.{FunctionVars, HaveBase, InShort, NoDecl, take_expected, base_after};
+ghost use Rattle.um_parse.specs.DeclMachine.{short_found, decl_finish, at_start};
 ghost use Rattle.um_parse.specs.ProgramLeast.{decl_least, machine_of_declarations};
-ghost use Rattle.um_parse.specs.DeclViews.{head_vars, view_expected, next_state, reached};
-ghost use Rattle.um_parse.specs.DeclTakes.{place_state, reader_state, head_step, Ends};
+ghost use Rattle.um_parse.specs.DeclViews.{view_fixed, view_expected};
+ghost use Rattle.um_parse.specs.DeclTakes.{place_state, reader_state, base_step, Ends};
 ghost use Rattle.um_parse.specs.DeclTokens.{BeginsAlike, IfStops};
 
+use crate::decl_begin::behind;
 use crate::decl_end::push_found;
-use crate::decl_function::{let_name, rec_name};
-use crate::decl_measure::{begin, take_measure};
-use crate::decl_prefix::{DeclExpected, Head, Next, Owner, VarExpected, in_box};
-use crate::decl_record::{record_brace, record_equal, record_name, record_vars};
-use crate::decl_token::{kind_of, take_in_unit};
-use crate::decl_vars::take_var;
+use crate::decl_prefix::{DeclExpected, FixedToken, in_box};
+use crate::decl_token::take_in_unit;
 use crate::function_reader::FunctionReader;
 use crate::record_reader::RecordReader;
 use std::alloc::{AllocError, Global};
 use std::mem;
-use um_expr::ExprToken;
 use um_reader::{Reader, Taken};
-use um_syntax::{Kind, Symbol, Token};
+use um_syntax::{Keyword, Kind, Symbol, Token};
 use um_tree::{Name, RawDecl, RawUnit};
-use um_types::UnitReader;
+use um_types::{UnitReader, name_of};
 
 /// Where a declaration stands.
 #[derive(Drop)]
 pub enum DeclPlace {
     /// What was read has refused a token, and nothing ends there
     Nothing,
+    /// Before the name
     At(DeclExpected),
     /// A measure, at its name, that may be whole; in its unit text
     Base(u32, Name),
     Short(u32, Name, Box<UnitReader>),
-    /// In the fields of a record, or behind them
+    /// Behind the name of a record; of a function
     Record(Box<RecordReader>),
-    /// Behind the name of a function, with `rec` or not, at its place; in its parameters, its result type or its body
-    Named(bool, u32, Name),
     Function,
 }
 
@@ -52,28 +47,6 @@ pub enum DeclPlace {
 pub struct DeclReader {
     place: DeclPlace,
     function: FunctionReader,
-}
-
-// What follows a place.
-fn next_at(
-    alloc: Global,
-    expected: DeclExpected,
-    kind: ExprToken,
-    p: u32,
-) -> Result<Option<Next>, AllocError>
-    ensures { IfOk result (λ o. reached o ≡ take_expected (view_expected expected) kind p) }
-{
-    match expected {
-        DeclExpected::Begin => Ok(begin(kind, p)),
-        DeclExpected::Measure(expected) => Ok(take_measure(expected, kind, p)),
-        DeclExpected::RecordName => Ok(record_name(kind, p)),
-        DeclExpected::RecordVars(at, name) => Ok(record_vars(alloc, at, name, kind, p)),
-        DeclExpected::Var(owner, head, expected) => take_var(owner, head, expected, kind, p),
-        DeclExpected::RecordEqual(head) => Ok(record_equal(head, kind, p)),
-        DeclExpected::RecordBrace(head) => Ok(record_brace(head, kind, p)),
-        DeclExpected::LetName => Ok(let_name(kind, p)),
-        DeclExpected::RecName => Ok(rec_name(kind, p)),
-    }
 }
 
 // An abbreviation, where its unit text was found.
@@ -129,7 +102,7 @@ impl DeclReader {
         ensures start { reader_state result ≡ Expects DeclBegin }
     {
         DeclReader {
-            place: DeclPlace::At(DeclExpected::Begin),
+            place: DeclPlace::At(DeclExpected::Token(FixedToken::Begin)),
             function: FunctionReader::new(alloc),
         }
     }
@@ -139,7 +112,7 @@ impl DeclReader {
         ensures { result ≡ at_start (reader_state self.now) }
     {
         match &self.place {
-            DeclPlace::At(DeclExpected::Begin) => true,
+            DeclPlace::At(DeclExpected::Token(FixedToken::Begin)) => true,
             _ => false,
         }
     }
@@ -148,7 +121,7 @@ impl DeclReader {
     pub fn restart(&mut self)
         ensures start { reader_state self.new ≡ Expects DeclBegin }
     {
-        self.put(DeclPlace::At(DeclExpected::Begin));
+        self.put(DeclPlace::At(DeclExpected::Token(FixedToken::Begin)));
     }
 
     /// Nothing ends here, whatever was read.
@@ -184,42 +157,22 @@ impl DeclReader {
             DeclPlace::Record(record) => record.take(alloc, token),
             DeclPlace::Short(_, _, unit) => take_in_unit(unit, alloc, token),
             DeclPlace::Nothing => Ok(Taken::Stops),
-            DeclPlace::At(_) => self.take_own(alloc, token),
-            DeclPlace::Base(_, _) => self.take_own(alloc, token),
-            DeclPlace::Named(_, _, _) => self.take_own(alloc, token),
-        }
-    }
-
-    // The token at a place inside a run of tokens that is fixed, or behind the name of a measure or a function.
-    #[inline(never)]
-    fn take_own(&mut self, alloc: Global, token: &mut Token) -> Result<Taken, AllocError>
-        ensures taken { IfOk result (λ t. Gives machine_of_declarations greatest_height (reader_state self.old)
-            (head_step self.old.place token.old) t (reader_state self.new)) }
-        ensures kept { BeginsAlike token.new token.old }
-    {
-        match mem::replace(&mut self.place, DeclPlace::Nothing) {
             DeclPlace::At(expected) => {
-                let p = token.start;
-                let kind = kind_of(alloc, token);
-                let next = next_at(alloc, expected, kind, p)?;
-                self.follow(alloc, next)
+                let expected = *expected;
+                self.take_at(alloc, expected, token)
             }
-            DeclPlace::Base(at, name) => self.behind_base(alloc, at, name, token),
-            DeclPlace::Named(recursive, at, name) => {
-                Ok(self.behind_name(alloc, recursive, at, name, token))
-            }
-            other => Ok(self.stay(other)),
+            DeclPlace::Base(_, _) => self.take_base(alloc, token),
         }
     }
 
-    // Where the declaration stands from here on. Where nothing was, and in a function, there is nothing to let go.
+    // Where the declaration stands from here on. But for a measure and a record there is nothing to let go.
     #[inline(always)]
     fn put(&mut self, place: DeclPlace)
         ensures place { self.new.place ≡ place }
         ensures function { self.new.function ≡ self.old.function }
     {
         match &self.place {
-            DeclPlace::Nothing | DeclPlace::Function => {
+            DeclPlace::Nothing | DeclPlace::At(_) | DeclPlace::Function => {
                 mem::forget(mem::replace(&mut self.place, place));
             }
             _ => drop(mem::replace(&mut self.place, place)),
@@ -235,39 +188,139 @@ impl DeclReader {
         Taken::Stops
     }
 
-    // What is read from here on.
-    fn go(&mut self, alloc: Global, next: Next) -> Result<(), AllocError>
-        ensures { OnOk result (reader_state self.new ≡ next_state next) }
+    // The token before the name, or the name.
+    #[inline(never)]
+    fn take_at(
+        &mut self,
+        alloc: Global,
+        expected: DeclExpected,
+        token: &mut Token,
+    ) -> Result<Taken, AllocError>
+        requires nothing { decl_finish (reader_state self.old) ≡ None }
+        ensures taken { IfOk result (λ t. Gives machine_of_declarations greatest_height NoDecl
+            (take_expected (view_expected expected) (expr_token token.old.kind) token.old.start)
+            t (reader_state self.new)) }
+        ensures kept { BeginsAlike token.new token.old }
     {
-        match next {
-            Next::At(expected) => Ok(self.put(DeclPlace::At(expected))),
-            Next::Base(at, name) => Ok(self.put(DeclPlace::Base(at, name))),
-            Next::Record(head) => {
-                let record = RecordReader::new(alloc, head)?;
-                Ok(self.put(DeclPlace::Record(record)))
-            }
-            Next::Named(recursive, at, name) => {
-                Ok(self.put(DeclPlace::Named(recursive, at, name)))
-            }
-            Next::Function(recursive, head) => {
-                self.function.begin(alloc, recursive, head);
-                Ok(self.put(DeclPlace::Function))
-            }
+        match expected {
+            DeclExpected::Token(expected) => Ok(self.take_fixed(expected, token)),
+            DeclExpected::BaseName => Ok(self.take_base_name(alloc, token)),
+            DeclExpected::RecordName => self.take_record_name(alloc, token),
+            DeclExpected::LetName => Ok(self.take_let_name(alloc, token)),
+            DeclExpected::RecName => Ok(self.take_rec_name(alloc, token)),
         }
     }
 
-    // What follows is read, or the token is refused, where nothing ends.
-    fn follow(&mut self, alloc: Global, next: Option<Next>) -> Result<Taken, AllocError>
+    // The token where no name may stand.
+    fn take_fixed(&mut self, expected: FixedToken, token: &Token) -> Taken
         requires nothing { decl_finish (reader_state self.old) ≡ None }
-        ensures { IfOk result (λ t.
-            Gives machine_of_declarations greatest_height NoDecl (reached next) t (reader_state self.new)) }
+        ensures { Gives machine_of_declarations greatest_height NoDecl
+            (take_expected (view_fixed expected) (expr_token token.now.kind) token.now.start)
+            result (reader_state self.new) }
     {
-        match next {
+        match behind(expected, &token.kind) {
             Some(next) => {
-                self.go(alloc, next)?;
+                self.put(DeclPlace::At(next));
+                Taken::Goes
+            }
+            None => Taken::Stops,
+        }
+    }
+
+    // The name of a measure.
+    fn take_base_name(&mut self, alloc: Global, token: &mut Token) -> Taken
+        requires nothing { decl_finish (reader_state self.old) ≡ None }
+        ensures taken { Gives machine_of_declarations greatest_height NoDecl
+            (take_expected MeasureName (expr_token token.old.kind) token.old.start) result (reader_state self.new) }
+        ensures kept { BeginsAlike token.new token.old }
+    {
+        let at = token.start;
+        match &mut token.kind {
+            Kind::Name(letters) => {
+                let name = name_of(letters.take(alloc));
+                self.put(DeclPlace::Base(at, name));
+                Taken::Goes
+            }
+            _ => Taken::Stops,
+        }
+    }
+
+    // The name of a record.
+    fn take_record_name(&mut self, alloc: Global, token: &mut Token) -> Result<Taken, AllocError>
+        requires nothing { decl_finish (reader_state self.old) ≡ None }
+        ensures taken { IfOk result (λ t. Gives machine_of_declarations greatest_height NoDecl
+            (take_expected RecordName (expr_token token.old.kind) token.old.start) t (reader_state self.new)) }
+        ensures kept { BeginsAlike token.new token.old }
+    {
+        let at = token.start;
+        match &mut token.kind {
+            Kind::Name(letters) => {
+                let name = name_of(letters.take(alloc));
+                let record = RecordReader::new(alloc, at, name)?;
+                self.put(DeclPlace::Record(record));
                 Ok(Taken::Goes)
             }
-            None => Ok(Taken::Stops),
+            _ => Ok(Taken::Stops),
+        }
+    }
+
+    // The name of a function, or `rec`.
+    fn take_let_name(&mut self, alloc: Global, token: &mut Token) -> Taken
+        requires nothing { decl_finish (reader_state self.old) ≡ None }
+        ensures taken { Gives machine_of_declarations greatest_height NoDecl
+            (take_expected LetName (expr_token token.old.kind) token.old.start) result (reader_state self.new) }
+        ensures kept { BeginsAlike token.new token.old }
+    {
+        let at = token.start;
+        match &mut token.kind {
+            Kind::Name(letters) => {
+                let name = name_of(letters.take(alloc));
+                self.begin_function(false, at, name);
+                Taken::Goes
+            }
+            Kind::Word(Keyword::Rec) => {
+                self.put(DeclPlace::At(DeclExpected::RecName));
+                Taken::Goes
+            }
+            _ => Taken::Stops,
+        }
+    }
+
+    // The name of a function behind `rec`.
+    fn take_rec_name(&mut self, alloc: Global, token: &mut Token) -> Taken
+        requires nothing { decl_finish (reader_state self.old) ≡ None }
+        ensures taken { Gives machine_of_declarations greatest_height NoDecl
+            (take_expected RecName (expr_token token.old.kind) token.old.start) result (reader_state self.new) }
+        ensures kept { BeginsAlike token.new token.old }
+    {
+        let at = token.start;
+        match &mut token.kind {
+            Kind::Name(letters) => {
+                let name = name_of(letters.take(alloc));
+                self.begin_function(true, at, name);
+                Taken::Goes
+            }
+            _ => Taken::Stops,
+        }
+    }
+
+    // A function begins at its name.
+    fn begin_function(&mut self, recursive: bool, at: u32, name: Name)
+        ensures { reader_state self.new ≡ Expects (FunctionVars recursive at name) }
+    {
+        self.function.begin(recursive, at, name);
+        self.put(DeclPlace::Function);
+    }
+
+    // The token behind the name of a measure.
+    #[inline(never)]
+    fn take_base(&mut self, alloc: Global, token: &Token) -> Result<Taken, AllocError>
+        ensures { IfOk result (λ t. Gives machine_of_declarations greatest_height (reader_state self.old)
+            (base_step self.old.place token.now) t (reader_state self.new)) }
+    {
+        match mem::replace(&mut self.place, DeclPlace::Nothing) {
+            DeclPlace::Base(at, name) => self.behind_base(alloc, at, name, token),
+            other => Ok(self.stay(other)),
         }
     }
 
@@ -305,50 +358,16 @@ impl DeclReader {
         }
     }
 
-    // The token behind the name of a function, at its place.
-    fn behind_name(
-        &mut self,
-        alloc: Global,
-        recursive: bool,
-        at: u32,
-        name: Name,
-        token: &Token,
-    ) -> Taken
-        requires nothing { decl_finish (reader_state self.old) ≡ None }
-        ensures { Gives machine_of_declarations greatest_height NoDecl
-            (take_expected (FunctionVars recursive at name) (expr_token token.now.kind) token.now.start)
-            result (reader_state self.new) }
-    {
-        let head = Head::plain(alloc, at, name);
-        match &token.kind {
-            Kind::Sign(Symbol::Less) => {
-                let owner = Owner::Function(recursive);
-                self.put(DeclPlace::At(DeclExpected::Var(owner, head, VarExpected::Begin)));
-                Taken::Goes
-            }
-            _ => self.begin_params(alloc, recursive, head, token),
-        }
-    }
-
-    // The token behind the name of a function without unit parameters.
-    fn begin_params(&mut self, alloc: Global, recursive: bool, head: Head, token: &Token) -> Taken
-        ensures { Gives machine_of_declarations greatest_height NoDecl
-            (take_params (started recursive head.at head.name (head_vars head)) [] (expr_token token.now.kind))
-            result (reader_state self.new) }
-    {
-        self.function.begin(alloc, recursive, head);
-        let taken = self.function.take_params(alloc, token);
-        self.put(DeclPlace::Function);
-        taken
-    }
-
     /// The declaration where all is read goes behind these, if it is one, and another begins. Whether it is one.
     pub fn finish(&mut self, alloc: Global, decls: &mut Vec<RawDecl>) -> Result<bool, AllocError>
         ensures found { IfOk result (λ whole.
             Ends (decl_finish (reader_state self.old)) whole decls.old.items decls.new.items) }
         ensures start { reader_state self.new ≡ Expects DeclBegin }
     {
-        match mem::replace(&mut self.place, DeclPlace::At(DeclExpected::Begin)) {
+        match mem::replace(
+            &mut self.place,
+            DeclPlace::At(DeclExpected::Token(FixedToken::Begin)),
+        ) {
             DeclPlace::Function => self.function.finish(alloc, decls),
             DeclPlace::Base(at, name) => end_base(at, name, decls),
             DeclPlace::Short(at, name, unit) => end_short(alloc, at, name, unit, decls),

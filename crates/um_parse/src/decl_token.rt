@@ -1,4 +1,4 @@
-// Tokens as declarations take them: what one is, and what a reader inside makes of it.
+// Tokens as declarations take them: what a reader inside makes of one.
 ghost use Rattle.std.specs.Prelude.{◌≡◌, ◌≤◌, IfOk};
 ghost use Rattle.um_reader.specs.Takes.{Takes};
 ghost use Rattle.um_types.specs.UnitStops.{greatest_height};
@@ -6,22 +6,12 @@ ghost use Rattle.um_types.specs.UnitLeast.{machine_of_units};
 ghost use Rattle.um_types.specs.UnitView.{unit_state};
 ghost use Rattle.um_types.specs.TypeMachine.{type_least, machine_of_types};
 ghost use Rattle.um_types.specs.TypeView.{type_state};
-ghost use Rattle.um_expr.specs.ExprTokens.{expr_token};
 ghost use Rattle.um_parse.specs.DeclTokens.{BeginsAlike, IfStops};
 
 use std::alloc::{AllocError, Global};
-use um_expr::ExprToken;
 use um_reader::{Reader, Taken};
 use um_syntax::Token;
 use um_types::{TypeReader, UnitReader};
-
-/// What a token is. What is left of it begins a declaration as it does.
-pub fn kind_of(alloc: Global, token: &mut Token) -> ExprToken
-    ensures kind { result ≡ expr_token token.old.kind }
-    ensures kept { BeginsAlike token.new token.old }
-{
-    ExprToken::of_kind(alloc, &mut token.kind)
-}
 
 /// One token more of a type, which is left as it was where it is refused.
 pub fn take_in_type(

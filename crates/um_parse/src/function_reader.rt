@@ -1,5 +1,5 @@
-// A function behind its name and unit parameters, which is read in place.
-ghost use Rattle.std.specs.Prelude.{◌≤◌, map};
+// A function behind `let`, which is read in place.
+ghost use Rattle.std.specs.Prelude.{◌≡◌, ◌≤◌, [], map};
 ghost use Rattle.um_tree.specs.RawTree.{param_syntax, written_type};
 ghost use Rattle.um_types.specs.UnitStops.{greatest_height};
 ghost use Rattle.um_parse.specs.ProgramHeights.{params_height, result_height};
@@ -7,6 +7,7 @@ ghost use Rattle.um_parse.specs.ProgramHeights.{params_height, result_height};
 use crate::decl_end::push_decl;
 use crate::decl_prefix::Head;
 use crate::decl_token::take_in_type;
+use crate::decl_vars::{FixedVarToken, VarExpected, VarTaken, clear_vars, take_var};
 use std::alloc::{AllocError, Global};
 use std::mem;
 use um_expr::ExprReader;
@@ -26,7 +27,10 @@ pub struct FunctionBody {
 /// What is expected in a function.
 #[derive(Drop)]
 pub enum FunctionExpected {
-    /// What follows the name or the parameters; a parameter's binder; `:` behind the binder
+    /// What follows the name; a token among the unit parameters
+    Named,
+    Var(VarExpected),
+    /// What follows the name and the unit parameters, or a parameter; a parameter's binder; `:` behind the binder
     Params,
     Binder,
     Colon(Binder),
@@ -49,8 +53,18 @@ pub struct FunctionReader {
     ghost low: { params_height (map param_syntax params.items.items) ≤ greatest_height },
 }
 
+// No parameters were read. Those before were taken out, so that there is nothing to let go.
+fn clear_params(alloc: Global, params: &mut RawParams)
+    ensures { map param_syntax params.new.items.items ≡ [] }
+{
+    let none = RawParams {
+        items: Vec::new(alloc),
+    };
+    mem::forget(mem::replace(params, none));
+}
+
 impl FunctionBody {
-    ghost use Rattle.std.specs.Prelude.{◌≡◌, [], IfOk};
+    ghost use Rattle.std.specs.Prelude.{IfOk};
     ghost use Rattle.um_reader.specs.Takes.{Takes};
     ghost use Rattle.um_operands.specs.ExprBegun.{Need};
     ghost use Rattle.um_operands.specs.ExprLeast.{whole_least};
@@ -81,7 +95,7 @@ impl FunctionBody {
 }
 
 impl FunctionReader {
-    ghost use Rattle.std.specs.Prelude.{◌≡◌, [], IfOk, Some, option_map};
+    ghost use Rattle.std.specs.Prelude.{IfOk, Some, option_map};
     ghost use Rattle.um_tree.specs.RawTree.{TypeSyntax, binder_syntax, expr_syntax, type_syntax};
     ghost use Rattle.um_reader.specs.Takes.{Gives, Takes};
     ghost use Rattle.um_types.specs.TypeHeights.{whole_height};
@@ -90,11 +104,12 @@ impl FunctionReader {
     ghost use Rattle.um_operands.specs.ExprBegun.{Need, finish};
     ghost use Rattle.um_expr.specs.ExprStates.{expr_state};
     ghost use Rattle.um_expr.specs.ExprTokens.{expr_token};
-    ghost use Rattle.um_parse.specs.DeclMachine.{NoDecl, ParamBinder, ParamColon, InBody, started, take_expected};
+    ghost use Rattle.um_parse.specs.DeclMachine.{NoDecl, Expects, OfFunction, FunctionVars, ParamBinder, ParamColon};
+    ghost use Rattle.um_parse.specs.DeclMachine.{InBody, started, take_expected};
     ghost use Rattle.um_parse.specs.DeclMachine.{take_params, body_begins, param_ends, result_ends, body_found};
     ghost use Rattle.um_parse.specs.DeclMachine.{own_step, decl_finish};
     ghost use Rattle.um_parse.specs.ProgramLeast.{decl_least, machine_of_declarations};
-    ghost use Rattle.um_parse.specs.DeclViews.{head_vars, start_in, read_params, param_state, function_state};
+    ghost use Rattle.um_parse.specs.DeclViews.{head_vars, view_var, start_in, read_params, param_state, function_state};
     ghost use Rattle.um_parse.specs.DeclTakes.{IsLow, Ends};
     ghost use Rattle.um_parse.specs.DeclTokens.{BeginsAlike, IfStops};
 
@@ -112,20 +127,15 @@ impl FunctionReader {
         }
     }
 
-    /// A function begins, whose parameters follow. What was read of the one before was taken out where it ended, so that
-    /// there is nothing to let go.
-    pub fn begin(&mut self, alloc: Global, recursive: bool, head: Head)
-        ensures wanted { self.new.expected ≡ FunctionExpected.Params }
-        ensures start { start_in self.new ≡ started recursive head.at head.name (head_vars head) }
-        ensures params { read_params self.new ≡ [] }
+    /// A function begins, with `rec` or not, whose name was read at its place. What was read of the one before was taken
+    /// out where it ended, so that there is nothing to let go.
+    pub fn begin(&mut self, recursive: bool, at: u32, name: Name)
+        ensures { function_state self.new ≡ Expects (FunctionVars recursive at name) }
     {
-        let params = RawParams {
-            items: Vec::new(alloc),
-        };
         self.recursive = recursive;
-        mem::forget(mem::replace(&mut self.head, head));
-        mem::forget(mem::replace(&mut self.params, params));
-        mem::forget(mem::replace(&mut self.expected, FunctionExpected::Params));
+        self.head.at = at;
+        mem::forget(mem::replace(&mut self.head.name, name));
+        mem::forget(mem::replace(&mut self.expected, FunctionExpected::Named));
     }
 
     /// One token more. Where it is refused, what is left of it begins a declaration as it does. Most tokens stand in bodies.
@@ -172,6 +182,8 @@ impl FunctionReader {
                 Taken::Stops => self.take_own(alloc, token),
                 Taken::High => Ok(Taken::High),
             },
+            FunctionExpected::Named => self.take_own(alloc, token),
+            FunctionExpected::Var(_) => self.take_own(alloc, token),
             FunctionExpected::Params => self.take_own(alloc, token),
             FunctionExpected::Binder => self.take_own(alloc, token),
             FunctionExpected::Colon(_) => self.take_own(alloc, token),
@@ -187,6 +199,8 @@ impl FunctionReader {
         ensures kept { BeginsAlike token.new token.old }
     {
         match mem::replace(&mut self.expected, FunctionExpected::Params) {
+            FunctionExpected::Named => Ok(self.take_named(alloc, token)),
+            FunctionExpected::Var(expected) => self.take_vars(alloc, expected, token),
             FunctionExpected::Params => Ok(self.take_params(alloc, token)),
             FunctionExpected::Binder => Ok(self.take_binder(alloc, token)),
             FunctionExpected::Colon(binder) => Ok(self.take_colon(binder, token)),
@@ -233,8 +247,67 @@ impl FunctionReader {
         Taken::Goes
     }
 
-    /// The token behind the parameters, or the name.
-    pub fn take_params(&mut self, alloc: Global, token: &Token) -> Taken
+    // The token behind the name.
+    fn take_named(&mut self, alloc: Global, token: &Token) -> Taken
+        requires wanted { self.old.expected ≡ FunctionExpected.Params }
+        ensures { Gives machine_of_declarations greatest_height NoDecl
+            (take_expected (FunctionVars self.old.recursive self.old.head.at self.old.head.name)
+            (expr_token token.now.kind) token.now.start)
+            result (function_state self.new) }
+    {
+        match &token.kind {
+            Kind::Sign(Symbol::Less) => {
+                clear_vars(alloc, &mut self.head.vars);
+                self.put(FunctionExpected::Var(VarExpected::Token(FixedVarToken::Begin)));
+                Taken::Goes
+            }
+            _ => self.begin_params(alloc, token),
+        }
+    }
+
+    // The token behind the name of a function without unit parameters.
+    fn begin_params(&mut self, alloc: Global, token: &Token) -> Taken
+        requires wanted { self.old.expected ≡ FunctionExpected.Params }
+        ensures { Gives machine_of_declarations greatest_height NoDecl
+            (take_params (started self.old.recursive self.old.head.at self.old.head.name []) []
+            (expr_token token.now.kind))
+            result (function_state self.new) }
+    {
+        clear_vars(alloc, &mut self.head.vars);
+        clear_params(alloc, &mut self.params);
+        self.take_params(alloc, token)
+    }
+
+    // The token among the unit parameters.
+    fn take_vars(
+        &mut self,
+        alloc: Global,
+        expected: VarExpected,
+        token: &mut Token,
+    ) -> Result<Taken, AllocError>
+        requires wanted { self.old.expected ≡ FunctionExpected.Params }
+        ensures taken { IfOk result (λ t. Gives machine_of_declarations greatest_height NoDecl
+            (take_expected
+            (view_var (OfFunction self.old.recursive self.old.head.at self.old.head.name) (head_vars self.old.head) expected)
+            (expr_token token.old.kind) token.old.start)
+            t (function_state self.new)) }
+        ensures kept { BeginsAlike token.new token.old }
+    {
+        match take_var(alloc, &mut self.head.vars, expected, token)? {
+            VarTaken::Goes(next) => {
+                self.put(FunctionExpected::Var(next));
+                Ok(Taken::Goes)
+            }
+            VarTaken::Ends => {
+                clear_params(alloc, &mut self.params);
+                Ok(Taken::Goes)
+            }
+            VarTaken::Stops => Ok(Taken::Stops),
+        }
+    }
+
+    // The token behind the parameters, or the unit parameters.
+    fn take_params(&mut self, alloc: Global, token: &Token) -> Taken
         requires wanted { self.old.expected ≡ FunctionExpected.Params }
         ensures { Gives machine_of_declarations greatest_height NoDecl
             (take_params (start_in self.old) (read_params self.old) (expr_token token.now.kind))
@@ -456,7 +529,9 @@ impl FunctionReader {
     {
         match &self.expected {
             FunctionExpected::Body => self.take_out(alloc, decls),
-            FunctionExpected::Params
+            FunctionExpected::Named
+            | FunctionExpected::Var(_)
+            | FunctionExpected::Params
             | FunctionExpected::Binder
             | FunctionExpected::Colon(_)
             | FunctionExpected::Param(_)
