@@ -9,30 +9,31 @@ use Rattle.um_types.specs.UnitView.{unit_state}
 use Rattle.um_types.specs.TypeHeights.{whole_height}
 use Rattle.um_types.specs.TypeMachine.{type_finish}
 use Rattle.um_expr.specs.ExprTokens.{expr_token}
-use Rattle.um_parse.specs.DeclMachine.{DeclState, Expects, HaveBase, InShort, FunctionVars, InField, InParam, InResult}
-use Rattle.um_parse.specs.DeclMachine.{NoDecl, ProgramState, InProgram, take_expected, base_after, program_found}
+use Rattle.um_parse.specs.DeclMachine.{DeclState, Expects, HaveBase, InShort, InField, InParam, InResult, NoDecl}
+use Rattle.um_parse.specs.DeclMachine.{ProgramState, InProgram, base_after, program_found}
 use Rattle.um_parse.specs.DeclViews.{view_expected, record_state, function_state}
+use Rattle.um_parse.specs.declared.decl_reader.DeclPlace.{DeclPlace}
+use Rattle.um_parse.specs.declared.decl_reader.DeclPlace.TheVariants as place
 use Rattle.um_parse.specs.declared.decl_reader.DeclReader.{DeclReader}
-use Rattle.um_parse.specs.declared.decl_reader.DeclReader.TheVariants as reader
+use Rattle.um_parse.specs.declared.function_reader.FunctionReader.{FunctionReader}
 use Rattle.um_parse.specs.declared.program_reader.ProgramReader.{ProgramReader}
 
--- the state of a reader of a declaration
-abbrev pub reader_state : DeclReader → DeclState
-reader_state reader.Nothing = NoDecl
-reader_state (reader.At p) = Expects (view_expected p)
-reader_state (reader.Base at x) = HaveBase at x
-reader_state (reader.Short at x u) = InShort at x (unit_state u.value)
-reader_state (reader.Record r) = record_state r.value
-reader_state (reader.Named recursive at x) = Expects (FunctionVars recursive at x)
-reader_state (reader.Function f) = function_state f.value
+-- the state of a reader of a declaration, by where it stands and its reader of functions
+abbrev pub place_state : DeclPlace → FunctionReader → DeclState
+place_state place.Nothing f = NoDecl
+place_state (place.At p) f = Expects (view_expected p)
+place_state (place.Base at x) f = HaveBase at x
+place_state (place.Short at x u) f = InShort at x (unit_state u.value)
+place_state (place.Record r) f = record_state r.value
+place_state place.Function f = function_state f
 
--- the token at a place, behind the name of a measure or of a function
-abbrev pub head_step : DeclReader → Token → DeclState
-head_step (reader.At p) token = take_expected (view_expected p) (expr_token token.kind) token.start
-head_step (reader.Base at x) token = base_after at x (expr_token token.kind)
-head_step (reader.Named recursive at x) token =
-    take_expected (FunctionVars recursive at x) (expr_token token.kind) token.start
-head_step _ token = NoDecl
+abbrev pub reader_state : DeclReader → DeclState
+reader_state r = place_state r.place r.function
+
+-- the token behind the name of a measure
+abbrev pub base_step : DeclPlace → Token → DeclState
+base_step (place.Base at x) token = base_after at x (expr_token token.kind)
+base_step _ token = NoDecl
 
 -- what the type is that ends here, if one has begun, isn't too high
 abbrev pub IsLow : DeclState → Type 0

@@ -1,4 +1,4 @@
-// What was read of a declaration before its fields or parameters, and the places inside a run of tokens that is fixed.
+// What is expected of a declaration up to its name, and what was read of it up to its fields or parameters.
 ghost use Rattle.std.specs.Prelude.{◌≡◌, IfOk};
 
 use std::alloc::{AllocError, Global};
@@ -29,62 +29,26 @@ impl Head {
     }
 }
 
-/// Whose unit parameters are read: a record's, or those of a function, with `rec` or not.
+/// The token that is expected before the name of a declaration, where no name may stand.
 #[derive(Clone, Copy)]
-pub enum Owner {
-    Record,
-    Function(bool),
-}
-
-/// The token that is expected before the name of a measure.
-#[derive(Clone, Copy)]
-pub enum MeasureExpected {
-    /// Behind `[<`; `Measure`; `>`; `]`; `type`
+pub enum FixedToken {
+    /// Nothing was read; behind `[<`; `Measure`; `>`; `]`
+    Begin,
     Word,
     Greater,
     Close,
     Type,
-    Name,
 }
 
-/// The token that is expected among unit parameters.
+/// What is expected of a declaration up to its name.
 #[derive(Clone, Copy)]
-pub enum VarExpected {
-    /// Behind `<` or `,`; `[<`; `Measure`; `>`; `]`; a parameter
-    Begin,
-    Word,
-    Greater,
-    Close,
-    Name,
-    End,
-}
-
-/// The token that is expected inside a run of tokens that is fixed.
-#[derive(Drop)]
 pub enum DeclExpected {
-    Begin,
-    Measure(MeasureExpected),
-    /// Behind `type`; behind the name, at its place
+    Token(FixedToken),
+    /// A name: that of a measure; of a record; of a function behind `let`, where `rec` may stand; behind `rec`
+    BaseName,
     RecordName,
-    RecordVars(u32, Name),
-    Var(Owner, Head, VarExpected),
-    /// Behind the unit parameters of a record; `=`
-    RecordEqual(Head),
-    RecordBrace(Head),
-    /// Behind `let`; `rec`
     LetName,
     RecName,
-}
-
-/// What follows a token that a declaration takes: a place; a measure, at its name, that may be whole; the fields of a record;
-/// the name of a function, with `rec` or not, at its place; the parameters of a function behind its unit parameters.
-#[derive(Drop)]
-pub enum Next {
-    At(DeclExpected),
-    Base(u32, Name),
-    Record(Head),
-    Named(bool, u32, Name),
-    Function(bool, Head),
 }
 
 /// The value in a box.

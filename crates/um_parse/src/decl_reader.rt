@@ -1,4 +1,4 @@
-// A declaration that is read one token at a time. What is large stands in a box and is read in place.
+// A declaration that is read one token at a time. Functions are read in place, and records in a box.
 ghost use Rattle.std.specs.Prelude.{◌≡◌, ◌≤◌, false, [], IfOk, Some, None, option_map};
 ghost use Rattle.um_tree.specs.RawTree.{unit_syntax, base_syntax, decl_syntax};
 ghost use Rattle.um_reader.specs.Takes.{Gives, Takes};
@@ -6,82 +6,47 @@ ghost use Rattle.um_types.specs.UnitStops.{greatest_height};
 ghost use Rattle.um_types.specs.UnitMachine.{Need, finish};
 ghost use Rattle.um_types.specs.UnitView.{unit_state};
 ghost use Rattle.um_expr.specs.ExprTokens.{expr_token};
-ghost use Rattle.um_parse.specs.DeclMachine.{Expects, DeclBegin, FunctionVars, HaveBase, InShort, NoDecl};
-ghost use Rattle.um_parse.specs.DeclMachine.{take_expected, take_params, started, base_after, short_found};
-ghost use Rattle.um_parse.specs.DeclMachine.{decl_finish, at_start};
+ghost use Rattle.um_parse.specs.DeclMachine.{Expects, DeclBegin, MeasureName, RecordName, LetName, RecName};
+ghost use Rattle.um_parse.specs.DeclMachine.{FunctionVars, HaveBase, InShort, NoDecl, take_expected, base_after};
+ghost use Rattle.um_parse.specs.DeclMachine.{short_found, decl_finish, at_start};
 ghost use Rattle.um_parse.specs.ProgramLeast.{decl_least, machine_of_declarations};
-ghost use Rattle.um_parse.specs.DeclViews.{head_vars, view_expected, next_state, reached};
-ghost use Rattle.um_parse.specs.DeclTakes.{reader_state, head_step, Ends};
+ghost use Rattle.um_parse.specs.DeclViews.{view_fixed, view_expected};
+ghost use Rattle.um_parse.specs.DeclTakes.{place_state, reader_state, base_step, Ends};
 ghost use Rattle.um_parse.specs.DeclTokens.{BeginsAlike, IfStops};
 
+use crate::decl_begin::behind;
 use crate::decl_end::push_found;
-use crate::decl_function::{let_name, rec_name};
-use crate::decl_measure::{begin, take_measure};
-use crate::decl_prefix::{DeclExpected, Head, Next, Owner, VarExpected, in_box};
-use crate::decl_record::{record_brace, record_equal, record_name, record_vars};
-use crate::decl_token::{kind_of, take_in_unit};
-use crate::decl_vars::take_var;
+use crate::decl_prefix::{DeclExpected, FixedToken, in_box};
+use crate::decl_token::take_in_unit;
 use crate::function_reader::FunctionReader;
 use crate::record_reader::RecordReader;
 use std::alloc::{AllocError, Global};
 use std::mem;
-use um_expr::ExprToken;
 use um_reader::{Reader, Taken};
-use um_syntax::{Kind, Symbol, Token};
+use um_syntax::{Keyword, Kind, Symbol, Token};
 use um_tree::{Name, RawDecl, RawUnit};
-use um_types::UnitReader;
+use um_types::{UnitReader, name_of};
 
-/// A declaration that has begun.
+/// Where a declaration stands.
 #[derive(Drop)]
-pub enum DeclReader {
+pub enum DeclPlace {
     /// What was read has refused a token, and nothing ends there
     Nothing,
+    /// Before the name
     At(DeclExpected),
     /// A measure, at its name, that may be whole; in its unit text
     Base(u32, Name),
     Short(u32, Name, Box<UnitReader>),
-    /// In the fields of a record, or behind them
+    /// Behind the name of a record; of a function
     Record(Box<RecordReader>),
-    /// Behind the name of a function, with `rec` or not, at its place; in its parameters, its result type or its body
-    Named(bool, u32, Name),
-    Function(Box<FunctionReader>),
+    Function,
 }
 
-// The reader of what follows.
-fn reader_of(alloc: Global, next: Next) -> Result<DeclReader, AllocError>
-    ensures { IfOk result (λ reader. reader_state reader ≡ next_state next) }
-{
-    match next {
-        Next::At(expected) => Ok(DeclReader::At(expected)),
-        Next::Base(at, name) => Ok(DeclReader::Base(at, name)),
-        Next::Record(head) => Ok(DeclReader::Record(RecordReader::new(alloc, head)?)),
-        Next::Named(recursive, at, name) => Ok(DeclReader::Named(recursive, at, name)),
-        Next::Function(recursive, head) => {
-            Ok(DeclReader::Function(FunctionReader::new(alloc, recursive, head)?))
-        }
-    }
-}
-
-// What follows a place.
-fn next_at(
-    alloc: Global,
-    expected: DeclExpected,
-    kind: ExprToken,
-    p: u32,
-) -> Result<Option<Next>, AllocError>
-    ensures { IfOk result (λ o. reached o ≡ take_expected (view_expected expected) kind p) }
-{
-    match expected {
-        DeclExpected::Begin => Ok(begin(kind, p)),
-        DeclExpected::Measure(expected) => Ok(take_measure(expected, kind, p)),
-        DeclExpected::RecordName => Ok(record_name(kind, p)),
-        DeclExpected::RecordVars(at, name) => Ok(record_vars(alloc, at, name, kind, p)),
-        DeclExpected::Var(owner, head, expected) => take_var(owner, head, expected, kind, p),
-        DeclExpected::RecordEqual(head) => Ok(record_equal(head, kind, p)),
-        DeclExpected::RecordBrace(head) => Ok(record_brace(head, kind, p)),
-        DeclExpected::LetName => Ok(let_name(kind, p)),
-        DeclExpected::RecName => Ok(rec_name(kind, p)),
-    }
+/// A declaration that has begun, and the reader of functions, which serves one function after another.
+#[derive(Drop)]
+pub struct DeclReader {
+    place: DeclPlace,
+    function: FunctionReader,
 }
 
 // An abbreviation, where its unit text was found.
@@ -124,104 +89,238 @@ fn end_short(
 }
 
 // No declaration ends here.
-fn unfinished(reader: DeclReader) -> bool
+fn unfinished(place: DeclPlace) -> bool
     ensures { result ≡ false }
 {
-    drop(reader);
+    drop(place);
     false
 }
 
 impl DeclReader {
     /// No token was read yet.
-    pub fn new() -> DeclReader
+    pub fn new(alloc: Global) -> DeclReader
         ensures start { reader_state result ≡ Expects DeclBegin }
     {
-        DeclReader::At(DeclExpected::Begin)
+        DeclReader {
+            place: DeclPlace::At(DeclExpected::Token(FixedToken::Begin)),
+            function: FunctionReader::new(alloc),
+        }
     }
 
     /// Whether no token was read.
     pub fn is_at_start(&self) -> bool
         ensures { result ≡ at_start (reader_state self.now) }
     {
-        match self {
-            DeclReader::At(DeclExpected::Begin) => true,
+        match &self.place {
+            DeclPlace::At(DeclExpected::Token(FixedToken::Begin)) => true,
             _ => false,
         }
     }
 
-    /// One token more. Where it is refused, what is left of it begins a declaration as it does.
+    /// A declaration begins, whatever was read.
+    pub fn restart(&mut self)
+        ensures start { reader_state self.new ≡ Expects DeclBegin }
+    {
+        self.put(DeclPlace::At(DeclExpected::Token(FixedToken::Begin)));
+    }
+
+    /// Nothing ends here, whatever was read.
+    pub fn stop(&mut self)
+        ensures stopped { reader_state self.new ≡ NoDecl }
+    {
+        self.put(DeclPlace::Nothing);
+    }
+
+    /// One token more. Where it is refused, what is left of it begins a declaration as it does. Most tokens stand in functions.
     pub fn take(&mut self, alloc: Global, token: &mut Token) -> Result<Taken, AllocError>
         requires low { decl_least (reader_state self.old) ≤ greatest_height }
         ensures taken { IfOk result (λ t.
             Takes machine_of_declarations greatest_height (reader_state self.old) token.old t (reader_state self.new)) }
         ensures kept { IfOk result (λ t. IfStops t (BeginsAlike token.new token.old)) }
     {
-        match self {
-            DeclReader::Function(function) => function.take(alloc, token),
-            DeclReader::Record(record) => record.take(alloc, token),
-            DeclReader::Short(_, _, unit) => take_in_unit(unit, alloc, token),
-            DeclReader::Nothing => Ok(Taken::Stops),
-            DeclReader::At(_) => self.take_own(alloc, token),
-            DeclReader::Base(_, _) => self.take_own(alloc, token),
-            DeclReader::Named(_, _, _) => self.take_own(alloc, token),
+        match &self.place {
+            DeclPlace::Function => self.function.take(alloc, token),
+            _ => self.take_any(alloc, token),
         }
     }
 
-    // The token at a place inside a run of tokens that is fixed, or behind the name of a measure or a function.
+    // One token more, wherever the declaration stands.
     #[inline(never)]
-    fn take_own(&mut self, alloc: Global, token: &mut Token) -> Result<Taken, AllocError>
-        ensures taken { IfOk result (λ t. Gives machine_of_declarations greatest_height (reader_state self.old)
-            (head_step self.old token.old) t (reader_state self.new)) }
-        ensures kept { BeginsAlike token.new token.old }
+    fn take_any(&mut self, alloc: Global, token: &mut Token) -> Result<Taken, AllocError>
+        requires low { decl_least (reader_state self.old) ≤ greatest_height }
+        ensures taken { IfOk result (λ t.
+            Takes machine_of_declarations greatest_height (reader_state self.old) token.old t (reader_state self.new)) }
+        ensures kept { IfOk result (λ t. IfStops t (BeginsAlike token.new token.old)) }
     {
-        match mem::replace(self, DeclReader::Nothing) {
-            DeclReader::At(expected) => {
-                let p = token.start;
-                let kind = kind_of(alloc, token);
-                let next = next_at(alloc, expected, kind, p)?;
-                self.follow(alloc, next)
+        match &mut self.place {
+            DeclPlace::Function => self.function.take(alloc, token),
+            DeclPlace::Record(record) => record.take(alloc, token),
+            DeclPlace::Short(_, _, unit) => take_in_unit(unit, alloc, token),
+            DeclPlace::Nothing => Ok(Taken::Stops),
+            DeclPlace::At(expected) => {
+                let expected = *expected;
+                self.take_at(alloc, expected, token)
             }
-            DeclReader::Base(at, name) => self.behind_base(alloc, at, name, token),
-            DeclReader::Named(recursive, at, name) => {
-                self.behind_name(alloc, recursive, at, name, token)
-            }
-            other => Ok(self.stay(other)),
+            DeclPlace::Base(_, _) => self.take_base(alloc, token),
         }
     }
 
-    // What is read from here on. Where nothing was, there is nothing to let go.
+    // Where the declaration stands from here on. But for a measure and a record there is nothing to let go.
     #[inline(always)]
-    fn put(&mut self, reader: DeclReader)
-        ensures { self.new ≡ reader }
+    fn put(&mut self, place: DeclPlace)
+        ensures place { self.new.place ≡ place }
+        ensures function { self.new.function ≡ self.old.function }
     {
-        match self {
-            DeclReader::Nothing => mem::forget(mem::replace(self, reader)),
-            _ => drop(mem::replace(self, reader)),
+        match &self.place {
+            DeclPlace::Nothing | DeclPlace::At(_) | DeclPlace::Function => {
+                mem::forget(mem::replace(&mut self.place, place));
+            }
+            _ => drop(mem::replace(&mut self.place, place)),
         }
     }
 
     // The token is refused, and the reader ends as before it.
-    fn stay(&mut self, reader: DeclReader) -> Taken
-        ensures { Gives machine_of_declarations greatest_height (reader_state reader) NoDecl
+    fn stay(&mut self, place: DeclPlace) -> Taken
+        ensures { Gives machine_of_declarations greatest_height (place_state place self.old.function) NoDecl
             result (reader_state self.new) }
     {
-        self.put(reader);
+        self.put(place);
         Taken::Stops
     }
 
-    // What follows is read, or the token is refused, where nothing ends.
-    fn follow(&mut self, alloc: Global, next: Option<Next>) -> Result<Taken, AllocError>
+    // The token before the name, or the name.
+    #[inline(never)]
+    fn take_at(
+        &mut self,
+        alloc: Global,
+        expected: DeclExpected,
+        token: &mut Token,
+    ) -> Result<Taken, AllocError>
         requires nothing { decl_finish (reader_state self.old) ≡ None }
-        ensures { IfOk result (λ t.
-            Gives machine_of_declarations greatest_height NoDecl (reached next) t (reader_state self.new)) }
+        ensures taken { IfOk result (λ t. Gives machine_of_declarations greatest_height NoDecl
+            (take_expected (view_expected expected) (expr_token token.old.kind) token.old.start)
+            t (reader_state self.new)) }
+        ensures kept { BeginsAlike token.new token.old }
     {
-        match next {
+        match expected {
+            DeclExpected::Token(expected) => Ok(self.take_fixed(expected, token)),
+            DeclExpected::BaseName => Ok(self.take_base_name(alloc, token)),
+            DeclExpected::RecordName => self.take_record_name(alloc, token),
+            DeclExpected::LetName => Ok(self.take_let_name(alloc, token)),
+            DeclExpected::RecName => Ok(self.take_rec_name(alloc, token)),
+        }
+    }
+
+    // The token where no name may stand.
+    fn take_fixed(&mut self, expected: FixedToken, token: &Token) -> Taken
+        requires nothing { decl_finish (reader_state self.old) ≡ None }
+        ensures { Gives machine_of_declarations greatest_height NoDecl
+            (take_expected (view_fixed expected) (expr_token token.now.kind) token.now.start)
+            result (reader_state self.new) }
+    {
+        match behind(expected, &token.kind) {
             Some(next) => {
-                let reader = reader_of(alloc, next)?;
-                self.put(reader);
+                self.put(DeclPlace::At(next));
+                Taken::Goes
+            }
+            None => Taken::Stops,
+        }
+    }
+
+    // The name of a measure.
+    fn take_base_name(&mut self, alloc: Global, token: &mut Token) -> Taken
+        requires nothing { decl_finish (reader_state self.old) ≡ None }
+        ensures taken { Gives machine_of_declarations greatest_height NoDecl
+            (take_expected MeasureName (expr_token token.old.kind) token.old.start) result (reader_state self.new) }
+        ensures kept { BeginsAlike token.new token.old }
+    {
+        let at = token.start;
+        match &mut token.kind {
+            Kind::Name(letters) => {
+                let name = name_of(letters.take(alloc));
+                self.put(DeclPlace::Base(at, name));
+                Taken::Goes
+            }
+            _ => Taken::Stops,
+        }
+    }
+
+    // The name of a record.
+    fn take_record_name(&mut self, alloc: Global, token: &mut Token) -> Result<Taken, AllocError>
+        requires nothing { decl_finish (reader_state self.old) ≡ None }
+        ensures taken { IfOk result (λ t. Gives machine_of_declarations greatest_height NoDecl
+            (take_expected RecordName (expr_token token.old.kind) token.old.start) t (reader_state self.new)) }
+        ensures kept { BeginsAlike token.new token.old }
+    {
+        let at = token.start;
+        match &mut token.kind {
+            Kind::Name(letters) => {
+                let name = name_of(letters.take(alloc));
+                let record = RecordReader::new(alloc, at, name)?;
+                self.put(DeclPlace::Record(record));
                 Ok(Taken::Goes)
             }
-            None => Ok(Taken::Stops),
+            _ => Ok(Taken::Stops),
+        }
+    }
+
+    // The name of a function, or `rec`.
+    fn take_let_name(&mut self, alloc: Global, token: &mut Token) -> Taken
+        requires nothing { decl_finish (reader_state self.old) ≡ None }
+        ensures taken { Gives machine_of_declarations greatest_height NoDecl
+            (take_expected LetName (expr_token token.old.kind) token.old.start) result (reader_state self.new) }
+        ensures kept { BeginsAlike token.new token.old }
+    {
+        let at = token.start;
+        match &mut token.kind {
+            Kind::Name(letters) => {
+                let name = name_of(letters.take(alloc));
+                self.begin_function(false, at, name);
+                Taken::Goes
+            }
+            Kind::Word(Keyword::Rec) => {
+                self.put(DeclPlace::At(DeclExpected::RecName));
+                Taken::Goes
+            }
+            _ => Taken::Stops,
+        }
+    }
+
+    // The name of a function behind `rec`.
+    fn take_rec_name(&mut self, alloc: Global, token: &mut Token) -> Taken
+        requires nothing { decl_finish (reader_state self.old) ≡ None }
+        ensures taken { Gives machine_of_declarations greatest_height NoDecl
+            (take_expected RecName (expr_token token.old.kind) token.old.start) result (reader_state self.new) }
+        ensures kept { BeginsAlike token.new token.old }
+    {
+        let at = token.start;
+        match &mut token.kind {
+            Kind::Name(letters) => {
+                let name = name_of(letters.take(alloc));
+                self.begin_function(true, at, name);
+                Taken::Goes
+            }
+            _ => Taken::Stops,
+        }
+    }
+
+    // A function begins at its name.
+    fn begin_function(&mut self, recursive: bool, at: u32, name: Name)
+        ensures { reader_state self.new ≡ Expects (FunctionVars recursive at name) }
+    {
+        self.function.begin(recursive, at, name);
+        self.put(DeclPlace::Function);
+    }
+
+    // The token behind the name of a measure.
+    #[inline(never)]
+    fn take_base(&mut self, alloc: Global, token: &Token) -> Result<Taken, AllocError>
+        ensures { IfOk result (λ t. Gives machine_of_declarations greatest_height (reader_state self.old)
+            (base_step self.old.place token.now) t (reader_state self.new)) }
+    {
+        match mem::replace(&mut self.place, DeclPlace::Nothing) {
+            DeclPlace::Base(at, name) => self.behind_base(alloc, at, name, token),
+            other => Ok(self.stay(other)),
         }
     }
 
@@ -238,7 +337,7 @@ impl DeclReader {
     {
         match &token.kind {
             Kind::Sign(Symbol::Equal) => self.begin_short(alloc, at, name),
-            _ => Ok(self.stay(DeclReader::Base(at, name))),
+            _ => Ok(self.stay(DeclPlace::Base(at, name))),
         }
     }
 
@@ -249,7 +348,7 @@ impl DeclReader {
     {
         match in_box(alloc, UnitReader::new(alloc)) {
             Ok(unit) => {
-                self.put(DeclReader::Short(at, name, unit));
+                self.put(DeclPlace::Short(at, name, unit));
                 Ok(Taken::Goes)
             }
             Err(error) => {
@@ -259,59 +358,20 @@ impl DeclReader {
         }
     }
 
-    // The token behind the name of a function, at its place.
-    fn behind_name(
-        &mut self,
-        alloc: Global,
-        recursive: bool,
-        at: u32,
-        name: Name,
-        token: &Token,
-    ) -> Result<Taken, AllocError>
-        requires nothing { decl_finish (reader_state self.old) ≡ None }
-        ensures { IfOk result (λ t. Gives machine_of_declarations greatest_height NoDecl
-            (take_expected (FunctionVars recursive at name) (expr_token token.now.kind) token.now.start)
-            t (reader_state self.new)) }
-    {
-        let head = Head::plain(alloc, at, name);
-        match &token.kind {
-            Kind::Sign(Symbol::Less) => {
-                let owner = Owner::Function(recursive);
-                self.put(DeclReader::At(DeclExpected::Var(owner, head, VarExpected::Begin)));
-                Ok(Taken::Goes)
-            }
-            _ => self.begin_params(alloc, recursive, head, token),
-        }
-    }
-
-    // The token behind the name of a function without unit parameters.
-    fn begin_params(
-        &mut self,
-        alloc: Global,
-        recursive: bool,
-        head: Head,
-        token: &Token,
-    ) -> Result<Taken, AllocError>
-        ensures { IfOk result (λ t. Gives machine_of_declarations greatest_height NoDecl
-            (take_params (started recursive head.at head.name (head_vars head)) [] (expr_token token.now.kind))
-            t (reader_state self.new)) }
-    {
-        let mut function = FunctionReader::new(alloc, recursive, head)?;
-        let taken = function.take_params(alloc, token);
-        self.put(DeclReader::Function(function));
-        taken
-    }
-
-    /// The declaration where all is read goes behind these, if it is one. Whether it is.
-    pub fn finish(self, alloc: Global, decls: &mut Vec<RawDecl>) -> Result<bool, AllocError>
+    /// The declaration where all is read goes behind these, if it is one, and another begins. Whether it is one.
+    pub fn finish(&mut self, alloc: Global, decls: &mut Vec<RawDecl>) -> Result<bool, AllocError>
         ensures found { IfOk result (λ whole.
-            Ends (decl_finish (reader_state self)) whole decls.old.items decls.new.items) }
+            Ends (decl_finish (reader_state self.old)) whole decls.old.items decls.new.items) }
+        ensures start { reader_state self.new ≡ Expects DeclBegin }
     {
-        match self {
-            DeclReader::Base(at, name) => end_base(at, name, decls),
-            DeclReader::Short(at, name, unit) => end_short(alloc, at, name, unit, decls),
-            DeclReader::Record(record) => RecordReader::finish(record, decls),
-            DeclReader::Function(function) => FunctionReader::finish(function, alloc, decls),
+        match mem::replace(
+            &mut self.place,
+            DeclPlace::At(DeclExpected::Token(FixedToken::Begin)),
+        ) {
+            DeclPlace::Function => self.function.finish(alloc, decls),
+            DeclPlace::Base(at, name) => end_base(at, name, decls),
+            DeclPlace::Short(at, name, unit) => end_short(alloc, at, name, unit, decls),
+            DeclPlace::Record(record) => RecordReader::finish(record, decls),
             other => Ok(unfinished(other)),
         }
     }

@@ -1,30 +1,17 @@
-// Tokens as declarations take them: what one is, and what a reader inside makes of it.
-ghost use Rattle.std.specs.Prelude.{◌≡◌, ◌≤◌, IfOk, option_map};
-ghost use Rattle.um_tree.specs.RawTree.{type_syntax};
+// Tokens as declarations take them: what a reader inside makes of one.
+ghost use Rattle.std.specs.Prelude.{◌≡◌, ◌≤◌, IfOk};
 ghost use Rattle.um_reader.specs.Takes.{Takes};
 ghost use Rattle.um_types.specs.UnitStops.{greatest_height};
 ghost use Rattle.um_types.specs.UnitLeast.{machine_of_units};
 ghost use Rattle.um_types.specs.UnitView.{unit_state};
-ghost use Rattle.um_types.specs.TypeMachine.{type_finish, type_least, machine_of_types};
+ghost use Rattle.um_types.specs.TypeMachine.{type_least, machine_of_types};
 ghost use Rattle.um_types.specs.TypeView.{type_state};
-ghost use Rattle.um_expr.specs.ExprTokens.{expr_token};
 ghost use Rattle.um_parse.specs.DeclTokens.{BeginsAlike, IfStops};
 
 use std::alloc::{AllocError, Global};
-use std::mem;
-use um_expr::ExprToken;
 use um_reader::{Reader, Taken};
 use um_syntax::Token;
-use um_tree::RawType;
 use um_types::{TypeReader, UnitReader};
-
-/// What a token is. What is left of it begins a declaration as it does.
-pub fn kind_of(alloc: Global, token: &mut Token) -> ExprToken
-    ensures kind { result ≡ expr_token token.old.kind }
-    ensures kept { BeginsAlike token.new token.old }
-{
-    ExprToken::of_kind(alloc, &mut token.kind)
-}
 
 /// One token more of a type, which is left as it was where it is refused.
 pub fn take_in_type(
@@ -37,13 +24,6 @@ pub fn take_in_type(
     ensures kept { IfOk result (λ t. IfStops t (token.new ≡ token.old)) }
 {
     ty.take(alloc, token)
-}
-
-/// The type that was read, if it is one.
-pub fn finish_type(ty: &mut TypeReader) -> Option<RawType>
-    ensures { option_map type_syntax result ≡ type_finish (type_state ty.old) }
-{
-    mem::replace(ty, TypeReader::new()).finish()
 }
 
 /// One token more of a unit text, which is left as it was where it is refused.

@@ -1,81 +1,128 @@
 // Unit parameters, of a record or of a function.
-ghost use Rattle.std.specs.Prelude.{◌≡◌, IfOk};
-ghost use Rattle.um_parse.specs.DeclMachine.{take_expected, behind_vars, Expects};
-ghost use Rattle.um_parse.specs.DeclViews.{owner_in, head_vars, view_var, next_state, reached};
-ghost use Rattle.um_parse.specs.declared.decl_prefix.VarExpected.TheVariants as var;
+ghost use Rattle.std.specs.Prelude.{◌≡◌, ℕ, List, [], IfOk, map};
+ghost use Rattle.um_tree.specs.RawTree.{VarSyntax, var_syntax};
+ghost use Rattle.um_expr.specs.ExprTokens.{expr_token};
+ghost use Rattle.um_parse.specs.DeclMachine.{VarOwner, VarName, VarEnd, take_expected};
+ghost use Rattle.um_parse.specs.DeclViews.{view_fixed_var, view_var, var_state};
+ghost use Rattle.um_parse.specs.DeclTokens.{BeginsAlike};
 
-use crate::decl_measure::refuse;
-use crate::decl_prefix::{DeclExpected, Head, Next, Owner, VarExpected};
-use std::alloc::AllocError;
-use um_expr::{ExprToken, Infix};
-use um_syntax::{Keyword, Symbol};
-use um_tree::{RawVar, Sign};
+use std::alloc::{AllocError, Global};
+use std::mem;
+use um_syntax::{Keyword, Kind, Symbol, Token};
+use um_tree::{RawVar, RawVars};
+use um_types::name_of;
+
+/// The token that is expected among unit parameters, where it is none of them.
+#[derive(Clone, Copy)]
+pub enum FixedVarToken {
+    /// Behind `<` or `,`; `[<`; `Measure`; `>`; a parameter
+    Begin,
+    Word,
+    Greater,
+    Close,
+    End,
+}
+
+/// What is expected among unit parameters: a token that is none, or a parameter.
+#[derive(Clone, Copy)]
+pub enum VarExpected {
+    Token(FixedVarToken),
+    Name,
+}
+
+/// What a token among unit parameters gives: this is expected behind it, or they end with it, or it is refused.
+#[derive(Clone, Copy)]
+pub enum VarTaken {
+    Goes(VarExpected),
+    Ends,
+    Stops,
+}
+
+/// No unit parameters were read. Those before were taken out, so that there is nothing to let go.
+pub fn clear_vars(alloc: Global, vars: &mut RawVars)
+    ensures { map var_syntax vars.new.items.items ≡ [] }
+{
+    let none = RawVars {
+        items: Vec::new(alloc),
+    };
+    mem::forget(mem::replace(vars, none));
+}
+
+// A token behind a unit parameter.
+fn behind_var(kind: &Kind) -> VarTaken
+    ensures { (o : VarOwner) (vs : List VarSyntax) (p : ℕ) →
+        var_state o vs result ≡ take_expected (VarEnd o vs) (expr_token kind.now) p }
+{
+    match kind {
+        Kind::Sign(Symbol::Comma) => VarTaken::Goes(VarExpected::Token(FixedVarToken::Begin)),
+        Kind::Sign(Symbol::Greater) => VarTaken::Ends,
+        _ => VarTaken::Stops,
+    }
+}
+
+// What a token gives where no parameter may stand.
+fn behind_token(expected: FixedVarToken, kind: &Kind) -> VarTaken
+    ensures { (o : VarOwner) (vs : List VarSyntax) (p : ℕ) →
+        var_state o vs result ≡ take_expected (view_fixed_var o vs expected) (expr_token kind.now) p }
+{
+    match expected {
+        FixedVarToken::Begin => match kind {
+            Kind::Sign(Symbol::AttributeOpen) => VarTaken::Goes(VarExpected::Token(
+                FixedVarToken::Word,
+            )),
+            _ => VarTaken::Stops,
+        },
+        FixedVarToken::Word => match kind {
+            Kind::Word(Keyword::Measure) => VarTaken::Goes(VarExpected::Token(
+                FixedVarToken::Greater,
+            )),
+            _ => VarTaken::Stops,
+        },
+        FixedVarToken::Greater => match kind {
+            Kind::Sign(Symbol::Greater) => VarTaken::Goes(VarExpected::Token(FixedVarToken::Close)),
+            _ => VarTaken::Stops,
+        },
+        FixedVarToken::Close => match kind {
+            Kind::Sign(Symbol::RightBracket) => VarTaken::Goes(VarExpected::Name),
+            _ => VarTaken::Stops,
+        },
+        FixedVarToken::End => behind_var(kind),
+    }
+}
 
 // The name of a unit parameter.
-fn var_name(owner: Owner, head: Head, kind: ExprToken, p: u32) -> Result<Option<Next>, AllocError>
-    ensures { IfOk result (λ o. reached o ≡ take_expected (view_var owner head var.Name) kind p) }
+fn take_name(alloc: Global, vars: &mut RawVars, token: &mut Token) -> Result<VarTaken, AllocError>
+    ensures taken { IfOk result (λ t. (o : VarOwner) →
+        var_state o (map var_syntax vars.new.items.items) t
+        ≡ take_expected (VarName o (map var_syntax vars.old.items.items)) (expr_token token.old.kind) token.old.start) }
+    ensures kept { BeginsAlike token.new token.old }
 {
-    match kind {
-        ExprToken::Variable(name) => {
-            let mut head = head;
-            head.vars.items.push(RawVar { at: p, name })?;
-            Ok(Some(Next::At(DeclExpected::Var(owner, head, VarExpected::End))))
+    let at = token.start;
+    match &mut token.kind {
+        Kind::Var(letters) => {
+            let name = name_of(letters.take(alloc));
+            vars.items.push(RawVar { at, name })?;
+            Ok(VarTaken::Goes(VarExpected::Token(FixedVarToken::End)))
         }
-        other => Ok(refuse(other)),
+        _ => Ok(VarTaken::Stops),
     }
 }
 
-// What is expected behind the `>` of unit parameters.
-fn behind(owner: Owner, head: Head) -> Next
-    ensures { next_state result ≡ Expects (behind_vars (owner_in owner head.at head.name) (head_vars head)) }
-{
-    match owner {
-        Owner::Record => Next::At(DeclExpected::RecordEqual(head)),
-        Owner::Function(recursive) => Next::Function(recursive, head),
-    }
-}
-
-// The token behind a unit parameter.
-fn var_end(owner: Owner, head: Head, kind: ExprToken, p: u32) -> Option<Next>
-    ensures { reached result ≡ take_expected (view_var owner head var.End) kind p }
-{
-    match kind {
-        ExprToken::Mark(Symbol::Comma) => {
-            Some(Next::At(DeclExpected::Var(owner, head, VarExpected::Begin)))
-        }
-        ExprToken::Operator(Infix::Compare(Sign::Gt)) => Some(behind(owner, head)),
-        other => refuse(other),
-    }
-}
-
-/// One token among unit parameters.
+/// One token among unit parameters. What is left of it begins a declaration as it does.
 pub fn take_var(
-    owner: Owner,
-    head: Head,
+    alloc: Global,
+    vars: &mut RawVars,
     expected: VarExpected,
-    kind: ExprToken,
-    p: u32,
-) -> Result<Option<Next>, AllocError>
-    ensures { IfOk result (λ o. reached o ≡ take_expected (view_var owner head expected) kind p) }
+    token: &mut Token,
+) -> Result<VarTaken, AllocError>
+    ensures taken { IfOk result (λ t. (o : VarOwner) →
+        var_state o (map var_syntax vars.new.items.items) t
+        ≡ take_expected (view_var o (map var_syntax vars.old.items.items) expected) (expr_token token.old.kind)
+        token.old.start) }
+    ensures kept { BeginsAlike token.new token.old }
 {
-    match (expected, kind) {
-        (VarExpected::Begin, ExprToken::Mark(Symbol::AttributeOpen)) => {
-            Ok(Some(Next::At(DeclExpected::Var(owner, head, VarExpected::Word))))
-        }
-        (VarExpected::Word, ExprToken::Word(Keyword::Measure)) => Ok(Some(Next::At(
-            DeclExpected::Var(owner, head, VarExpected::Greater),
-        ))),
-        (VarExpected::Greater, ExprToken::Operator(Infix::Compare(Sign::Gt))) => Ok(Some(Next::At(
-            DeclExpected::Var(owner, head, VarExpected::Close),
-        ))),
-        (VarExpected::Close, ExprToken::Mark(Symbol::RightBracket)) => {
-            Ok(Some(Next::At(DeclExpected::Var(owner, head, VarExpected::Name))))
-        }
-        (VarExpected::Name, kind) => var_name(owner, head, kind, p),
-        (VarExpected::End, kind) => Ok(var_end(owner, head, kind, p)),
-        (
-            VarExpected::Begin | VarExpected::Word | VarExpected::Greater | VarExpected::Close,
-            other,
-        ) => Ok(refuse(other)),
+    match expected {
+        VarExpected::Token(expected) => Ok(behind_token(expected, &token.kind)),
+        VarExpected::Name => take_name(alloc, vars, token),
     }
 }

@@ -1,18 +1,19 @@
-// A function behind its name and unit parameters, which is read in place.
-ghost use Rattle.std.specs.Prelude.{◌≤◌, map};
+// A function behind `let`, which is read in place.
+ghost use Rattle.std.specs.Prelude.{◌≡◌, ◌≤◌, [], map};
 ghost use Rattle.um_tree.specs.RawTree.{param_syntax, written_type};
 ghost use Rattle.um_types.specs.UnitStops.{greatest_height};
 ghost use Rattle.um_parse.specs.ProgramHeights.{params_height, result_height};
 
 use crate::decl_end::push_decl;
-use crate::decl_prefix::{Head, in_box};
-use crate::decl_token::{finish_type, take_in_type};
+use crate::decl_prefix::Head;
+use crate::decl_token::take_in_type;
+use crate::decl_vars::{FixedVarToken, VarExpected, VarTaken, clear_vars, take_var};
 use std::alloc::{AllocError, Global};
 use std::mem;
 use um_expr::ExprReader;
 use um_reader::{Reader, Taken};
 use um_syntax::{Kind, Symbol, Token};
-use um_tree::{Binder, RawDecl, RawExpr, RawFunction, RawParam, RawParams, RawType};
+use um_tree::{Binder, Name, RawDecl, RawExpr, RawFunction, RawParam, RawParams, RawType};
 use um_types::{TypeReader, name_of};
 
 /// The body of a function, and its result type, if it has one, not too high.
@@ -26,18 +27,21 @@ pub struct FunctionBody {
 /// What is expected in a function.
 #[derive(Drop)]
 pub enum FunctionExpected {
-    /// What follows the name or the parameters; a parameter's binder; `:` behind the binder
+    /// What follows the name; a token among the unit parameters
+    Named,
+    Var(VarExpected),
+    /// What follows the name and the unit parameters, or a parameter; a parameter's binder; `:` behind the binder
     Params,
     Binder,
     Colon(Binder),
     /// More of a parameter's type, or of the result type, or what follows it; more of the body
     Param(Binder),
     Result,
-    Body(Box<FunctionBody>),
+    Body,
 }
 
-/// The parameters that were read of a function, none too high, what is expected, and the type that is read, if one has
-/// begun.
+/// The parameters that were read of a function, none too high, what is expected, and the type and the body that are read,
+/// if they have begun.
 #[derive(Drop)]
 pub struct FunctionReader {
     recursive: bool,
@@ -45,11 +49,22 @@ pub struct FunctionReader {
     params: RawParams,
     expected: FunctionExpected,
     ty: TypeReader,
+    body: FunctionBody,
     ghost low: { params_height (map param_syntax params.items.items) ≤ greatest_height },
 }
 
+// No parameters were read. Those before were taken out, so that there is nothing to let go.
+fn clear_params(alloc: Global, params: &mut RawParams)
+    ensures { map param_syntax params.new.items.items ≡ [] }
+{
+    let none = RawParams {
+        items: Vec::new(alloc),
+    };
+    mem::forget(mem::replace(params, none));
+}
+
 impl FunctionBody {
-    ghost use Rattle.std.specs.Prelude.{◌≡◌, [], IfOk};
+    ghost use Rattle.std.specs.Prelude.{IfOk};
     ghost use Rattle.um_reader.specs.Takes.{Takes};
     ghost use Rattle.um_operands.specs.ExprBegun.{Need};
     ghost use Rattle.um_operands.specs.ExprLeast.{whole_least};
@@ -57,34 +72,30 @@ impl FunctionBody {
     ghost use Rattle.um_expr.specs.ExprStates.{expr_state};
     ghost use Rattle.um_parse.specs.DeclTokens.{BeginsAlike, IfStops};
 
-    // Nothing was read of it, in a box.
-    fn new(alloc: Global, ty: Option<RawType>) -> Result<Box<FunctionBody>, AllocError>
+    // Nothing was read of it.
+    fn new(alloc: Global, ty: Option<RawType>) -> FunctionBody
         requires low { result_height (written_type ty) ≤ greatest_height }
-        ensures written { IfOk result (λ b. b.value.result ≡ ty) }
-        ensures begun { IfOk result (λ b. expr_state b.value.body ≡ Need []) }
+        ensures written { result.result ≡ ty }
+        ensures begun { expr_state result.body ≡ Need [] }
     {
         let body = ExprReader::new(alloc);
-        in_box(alloc, FunctionBody { result: ty, body })
+        FunctionBody { result: ty, body }
     }
 
-    // One token more, in its box.
-    fn take(
-        body: &mut Box<FunctionBody>,
-        alloc: Global,
-        token: &mut Token,
-    ) -> Result<Taken, AllocError>
-        requires low { whole_least (expr_state body.old.value.body) ≤ greatest_height }
-        ensures written { body.new.value.result ≡ body.old.value.result }
-        ensures taken { IfOk result (λ t. Takes machine_of_expressions greatest_height (expr_state body.old.value.body)
-            token.old t (expr_state body.new.value.body)) }
+    // One token more.
+    fn take(&mut self, alloc: Global, token: &mut Token) -> Result<Taken, AllocError>
+        requires low { whole_least (expr_state self.old.body) ≤ greatest_height }
+        ensures written { self.new.result ≡ self.old.result }
+        ensures taken { IfOk result (λ t. Takes machine_of_expressions greatest_height (expr_state self.old.body)
+            token.old t (expr_state self.new.body)) }
         ensures kept { IfOk result (λ t. IfStops t (BeginsAlike token.new token.old)) }
     {
-        body.body.take(alloc, token)
+        self.body.take(alloc, token)
     }
 }
 
 impl FunctionReader {
-    ghost use Rattle.std.specs.Prelude.{◌≡◌, [], IfOk, Some, option_map};
+    ghost use Rattle.std.specs.Prelude.{IfOk, Some, option_map};
     ghost use Rattle.um_tree.specs.RawTree.{TypeSyntax, binder_syntax, expr_syntax, type_syntax};
     ghost use Rattle.um_reader.specs.Takes.{Gives, Takes};
     ghost use Rattle.um_types.specs.TypeHeights.{whole_height};
@@ -93,46 +104,74 @@ impl FunctionReader {
     ghost use Rattle.um_operands.specs.ExprBegun.{Need, finish};
     ghost use Rattle.um_expr.specs.ExprStates.{expr_state};
     ghost use Rattle.um_expr.specs.ExprTokens.{expr_token};
-    ghost use Rattle.um_parse.specs.DeclMachine.{NoDecl, ParamBinder, ParamColon, InBody, started, take_expected};
+    ghost use Rattle.um_parse.specs.DeclMachine.{NoDecl, Expects, OfFunction, FunctionVars, ParamBinder, ParamColon};
+    ghost use Rattle.um_parse.specs.DeclMachine.{InBody, started, take_expected};
     ghost use Rattle.um_parse.specs.DeclMachine.{take_params, body_begins, param_ends, result_ends, body_found};
     ghost use Rattle.um_parse.specs.DeclMachine.{own_step, decl_finish};
     ghost use Rattle.um_parse.specs.ProgramLeast.{decl_least, machine_of_declarations};
-    ghost use Rattle.um_parse.specs.DeclViews.{head_vars, start_in, read_params, param_state, function_state};
+    ghost use Rattle.um_parse.specs.DeclViews.{head_vars, view_var, start_in, read_params, param_state, function_state};
     ghost use Rattle.um_parse.specs.DeclTakes.{IsLow, Ends};
     ghost use Rattle.um_parse.specs.DeclTokens.{BeginsAlike, IfStops};
 
-    /// No parameter was read, in a box.
-    pub fn new(
-        alloc: Global,
-        recursive: bool,
-        head: Head,
-    ) -> Result<Box<FunctionReader>, AllocError>
-        ensures wanted { IfOk result (λ f. f.value.expected ≡ FunctionExpected.Params) }
-        ensures start { IfOk result (λ f. start_in f.value ≡ started recursive head.at head.name (head_vars head)) }
-        ensures params { IfOk result (λ f. read_params f.value ≡ []) }
-    {
-        let params = RawParams {
-            items: Vec::new(alloc),
-        };
-        let function = FunctionReader {
-            recursive,
-            head,
-            params,
+    /// No function was read.
+    pub fn new(alloc: Global) -> FunctionReader {
+        FunctionReader {
+            recursive: false,
+            head: Head::plain(alloc, 0, Name::empty()),
+            params: RawParams {
+                items: Vec::new(alloc),
+            },
             expected: FunctionExpected::Params,
             ty: TypeReader::new(),
-        };
-        in_box(alloc, function)
+            body: FunctionBody::new(alloc, None),
+        }
     }
 
-    /// One token more. Where it is refused, what is left of it begins a declaration as it does.
+    /// A function begins, with `rec` or not, whose name was read at its place. What was read of the one before was taken
+    /// out where it ended, so that there is nothing to let go.
+    pub fn begin(&mut self, recursive: bool, at: u32, name: Name)
+        ensures { function_state self.new ≡ Expects (FunctionVars recursive at name) }
+    {
+        self.recursive = recursive;
+        self.head.at = at;
+        mem::forget(mem::replace(&mut self.head.name, name));
+        mem::forget(mem::replace(&mut self.expected, FunctionExpected::Named));
+    }
+
+    /// One token more. Where it is refused, what is left of it begins a declaration as it does. Most tokens stand in bodies.
     pub fn take(&mut self, alloc: Global, token: &mut Token) -> Result<Taken, AllocError>
         requires low { decl_least (function_state self.old) ≤ greatest_height }
         ensures taken { IfOk result (λ t. Takes machine_of_declarations greatest_height (function_state self.old)
             token.old t (function_state self.new)) }
         ensures kept { IfOk result (λ t. IfStops t (BeginsAlike token.new token.old)) }
     {
-        match &mut self.expected {
-            FunctionExpected::Body(body) => FunctionBody::take(body, alloc, token),
+        match &self.expected {
+            FunctionExpected::Body => self.take_body(alloc, token),
+            _ => self.take_any(alloc, token),
+        }
+    }
+
+    // One token more of the body.
+    fn take_body(&mut self, alloc: Global, token: &mut Token) -> Result<Taken, AllocError>
+        requires body { self.old.expected ≡ FunctionExpected.Body }
+        requires low { decl_least (function_state self.old) ≤ greatest_height }
+        ensures taken { IfOk result (λ t. Takes machine_of_declarations greatest_height (function_state self.old)
+            token.old t (function_state self.new)) }
+        ensures kept { IfOk result (λ t. IfStops t (BeginsAlike token.new token.old)) }
+    {
+        self.body.take(alloc, token)
+    }
+
+    // One token more, whatever is expected.
+    #[inline(never)]
+    fn take_any(&mut self, alloc: Global, token: &mut Token) -> Result<Taken, AllocError>
+        requires low { decl_least (function_state self.old) ≤ greatest_height }
+        ensures taken { IfOk result (λ t. Takes machine_of_declarations greatest_height (function_state self.old)
+            token.old t (function_state self.new)) }
+        ensures kept { IfOk result (λ t. IfStops t (BeginsAlike token.new token.old)) }
+    {
+        match &self.expected {
+            FunctionExpected::Body => self.take_body(alloc, token),
             FunctionExpected::Param(_) => match take_in_type(&mut self.ty, alloc, token)? {
                 Taken::Goes => Ok(Taken::Goes),
                 Taken::Stops => self.take_own(alloc, token),
@@ -143,6 +182,8 @@ impl FunctionReader {
                 Taken::Stops => self.take_own(alloc, token),
                 Taken::High => Ok(Taken::High),
             },
+            FunctionExpected::Named => self.take_own(alloc, token),
+            FunctionExpected::Var(_) => self.take_own(alloc, token),
             FunctionExpected::Params => self.take_own(alloc, token),
             FunctionExpected::Binder => self.take_own(alloc, token),
             FunctionExpected::Colon(_) => self.take_own(alloc, token),
@@ -158,13 +199,15 @@ impl FunctionReader {
         ensures kept { BeginsAlike token.new token.old }
     {
         match mem::replace(&mut self.expected, FunctionExpected::Params) {
-            FunctionExpected::Params => self.take_params(alloc, token),
+            FunctionExpected::Named => Ok(self.take_named(alloc, token)),
+            FunctionExpected::Var(expected) => self.take_vars(alloc, expected, token),
+            FunctionExpected::Params => Ok(self.take_params(alloc, token)),
             FunctionExpected::Binder => Ok(self.take_binder(alloc, token)),
             FunctionExpected::Colon(binder) => Ok(self.take_colon(binder, token)),
             FunctionExpected::Param(binder) => self.end_param(binder, token),
-            FunctionExpected::Result => self.end_result(alloc, token),
-            FunctionExpected::Body(body) => {
-                self.put(FunctionExpected::Body(body));
+            FunctionExpected::Result => Ok(self.end_result(alloc, token)),
+            FunctionExpected::Body => {
+                self.put(FunctionExpected::Body);
                 Ok(Taken::Stops)
             }
         }
@@ -174,7 +217,7 @@ impl FunctionReader {
     #[inline(always)]
     fn put(&mut self, expected: FunctionExpected)
         ensures { function_state self.new
-            ≡ param_state (start_in self.old) (read_params self.old) (type_state self.old.ty) expected }
+            ≡ param_state (start_in self.old) (read_params self.old) (type_state self.old.ty) self.old.body expected }
     {
         match &self.expected {
             FunctionExpected::Params => mem::forget(mem::replace(&mut self.expected, expected)),
@@ -185,53 +228,113 @@ impl FunctionReader {
     // A type is read from here on.
     fn begin_type(&mut self, expected: FunctionExpected)
         ensures { function_state self.new
-            ≡ param_state (start_in self.old) (read_params self.old) (NeedType 0) expected }
+            ≡ param_state (start_in self.old) (read_params self.old) (NeedType 0) self.old.body expected }
     {
-        self.ty = TypeReader::new();
+        self.ty.restart();
         self.put(expected);
     }
 
-    // The body is read from here on.
-    fn begin_body(&mut self, alloc: Global, ty: Option<RawType>) -> Result<Taken, AllocError>
+    // The body is read from here on. The one before was taken out where it ended, so that there is nothing to let go.
+    fn begin_body(&mut self, alloc: Global, ty: Option<RawType>) -> Taken
         requires low { result_height (written_type ty) ≤ greatest_height }
-        ensures { IfOk result (λ t. Gives machine_of_declarations greatest_height NoDecl
+        ensures { Gives machine_of_declarations greatest_height NoDecl
             (InBody (start_in self.old) (read_params self.old) (written_type ty) (Need []))
-            t (function_state self.new)) }
+            result (function_state self.new) }
     {
-        let body = FunctionBody::new(alloc, ty)?;
-        self.put(FunctionExpected::Body(body));
-        Ok(Taken::Goes)
+        let body = FunctionBody::new(alloc, ty);
+        mem::forget(mem::replace(&mut self.body, body));
+        self.put(FunctionExpected::Body);
+        Taken::Goes
     }
 
-    /// The token behind the parameters, or the name.
-    pub fn take_params(&mut self, alloc: Global, token: &Token) -> Result<Taken, AllocError>
+    // The token behind the name.
+    fn take_named(&mut self, alloc: Global, token: &Token) -> Taken
         requires wanted { self.old.expected ≡ FunctionExpected.Params }
-        ensures { IfOk result (λ t. Gives machine_of_declarations greatest_height NoDecl
-            (take_params (start_in self.old) (read_params self.old) (expr_token token.now.kind))
+        ensures { Gives machine_of_declarations greatest_height NoDecl
+            (take_expected (FunctionVars self.old.recursive self.old.head.at self.old.head.name)
+            (expr_token token.now.kind) token.now.start)
+            result (function_state self.new) }
+    {
+        match &token.kind {
+            Kind::Sign(Symbol::Less) => {
+                clear_vars(alloc, &mut self.head.vars);
+                self.put(FunctionExpected::Var(VarExpected::Token(FixedVarToken::Begin)));
+                Taken::Goes
+            }
+            _ => self.begin_params(alloc, token),
+        }
+    }
+
+    // The token behind the name of a function without unit parameters.
+    fn begin_params(&mut self, alloc: Global, token: &Token) -> Taken
+        requires wanted { self.old.expected ≡ FunctionExpected.Params }
+        ensures { Gives machine_of_declarations greatest_height NoDecl
+            (take_params (started self.old.recursive self.old.head.at self.old.head.name []) []
+            (expr_token token.now.kind))
+            result (function_state self.new) }
+    {
+        clear_vars(alloc, &mut self.head.vars);
+        clear_params(alloc, &mut self.params);
+        self.take_params(alloc, token)
+    }
+
+    // The token among the unit parameters.
+    fn take_vars(
+        &mut self,
+        alloc: Global,
+        expected: VarExpected,
+        token: &mut Token,
+    ) -> Result<Taken, AllocError>
+        requires wanted { self.old.expected ≡ FunctionExpected.Params }
+        ensures taken { IfOk result (λ t. Gives machine_of_declarations greatest_height NoDecl
+            (take_expected
+            (view_var (OfFunction self.old.recursive self.old.head.at self.old.head.name) (head_vars self.old.head) expected)
+            (expr_token token.old.kind) token.old.start)
             t (function_state self.new)) }
+        ensures kept { BeginsAlike token.new token.old }
+    {
+        match take_var(alloc, &mut self.head.vars, expected, token)? {
+            VarTaken::Goes(next) => {
+                self.put(FunctionExpected::Var(next));
+                Ok(Taken::Goes)
+            }
+            VarTaken::Ends => {
+                clear_params(alloc, &mut self.params);
+                Ok(Taken::Goes)
+            }
+            VarTaken::Stops => Ok(Taken::Stops),
+        }
+    }
+
+    // The token behind the parameters, or the unit parameters.
+    fn take_params(&mut self, alloc: Global, token: &Token) -> Taken
+        requires wanted { self.old.expected ≡ FunctionExpected.Params }
+        ensures { Gives machine_of_declarations greatest_height NoDecl
+            (take_params (start_in self.old) (read_params self.old) (expr_token token.now.kind))
+            result (function_state self.new) }
     {
         match &token.kind {
             Kind::Sign(Symbol::LeftParen) => {
                 self.put(FunctionExpected::Binder);
-                Ok(Taken::Goes)
+                Taken::Goes
             }
             Kind::Sign(Symbol::Colon) => {
                 self.begin_type(FunctionExpected::Result);
-                Ok(Taken::Goes)
+                Taken::Goes
             }
             Kind::Sign(Symbol::Equal) => self.take_equal(alloc),
-            _ => Ok(Taken::Stops),
+            _ => Taken::Stops,
         }
     }
 
     // `=` behind the parameters: a function with `rec` has a result type.
-    fn take_equal(&mut self, alloc: Global) -> Result<Taken, AllocError>
+    fn take_equal(&mut self, alloc: Global) -> Taken
         requires wanted { self.old.expected ≡ FunctionExpected.Params }
-        ensures { IfOk result (λ t. Gives machine_of_declarations greatest_height NoDecl
-            (body_begins (start_in self.old) (read_params self.old)) t (function_state self.new)) }
+        ensures { Gives machine_of_declarations greatest_height NoDecl
+            (body_begins (start_in self.old) (read_params self.old)) result (function_state self.new) }
     {
         if self.recursive {
-            return Ok(Taken::Stops);
+            return Taken::Stops;
         }
         self.begin_body(alloc, None)
     }
@@ -290,7 +393,7 @@ impl FunctionReader {
             (type_finish (type_state self.old.ty)) (expr_token token.now.kind))
             t (function_state self.new)) }
     {
-        match finish_type(&mut self.ty) {
+        match self.ty.take_whole() {
             Some(ty) => self.behind_param(RawParam { binder, ty }, token),
             None => {
                 drop(binder);
@@ -321,40 +424,35 @@ impl FunctionReader {
     }
 
     // The token that the result type has refused.
-    fn end_result(&mut self, alloc: Global, token: &Token) -> Result<Taken, AllocError>
+    fn end_result(&mut self, alloc: Global, token: &Token) -> Taken
         requires wanted { self.old.expected ≡ FunctionExpected.Params }
         requires low { (t : TypeSyntax) → type_finish (type_state self.old.ty) ≡ Some t
             → whole_height t ≤ greatest_height }
-        ensures { IfOk result (λ t. Gives machine_of_declarations greatest_height NoDecl
+        ensures { Gives machine_of_declarations greatest_height NoDecl
             (result_ends (start_in self.old) (read_params self.old) (type_finish (type_state self.old.ty))
             (expr_token token.now.kind))
-            t (function_state self.new)) }
+            result (function_state self.new) }
     {
-        match finish_type(&mut self.ty) {
+        match self.ty.take_whole() {
             Some(ty) => self.behind_result(alloc, ty, token),
-            None => Ok(Taken::Stops),
+            None => Taken::Stops,
         }
     }
 
     // The token behind the result type.
-    fn behind_result(
-        &mut self,
-        alloc: Global,
-        ty: RawType,
-        token: &Token,
-    ) -> Result<Taken, AllocError>
+    fn behind_result(&mut self, alloc: Global, ty: RawType, token: &Token) -> Taken
         requires wanted { self.old.expected ≡ FunctionExpected.Params }
         requires low { whole_height (type_syntax ty) ≤ greatest_height }
-        ensures { IfOk result (λ t. Gives machine_of_declarations greatest_height NoDecl
+        ensures { Gives machine_of_declarations greatest_height NoDecl
             (result_ends (start_in self.old) (read_params self.old) (Some (type_syntax ty))
             (expr_token token.now.kind))
-            t (function_state self.new)) }
+            result (function_state self.new) }
     {
         match &token.kind {
             Kind::Sign(Symbol::Equal) => self.begin_body(alloc, Some(ty)),
             _ => {
                 drop(ty);
-                Ok(Taken::Stops)
+                Taken::Stops
             }
         }
     }
@@ -425,33 +523,34 @@ impl FunctionReader {
 
     /// The function where all is read goes behind these declarations, if it is whole. Whether it is.
     #[inline(never)]
-    pub fn finish(
-        function: Box<FunctionReader>,
-        alloc: Global,
-        decls: &mut Vec<RawDecl>,
-    ) -> Result<bool, AllocError>
+    pub fn finish(&mut self, alloc: Global, decls: &mut Vec<RawDecl>) -> Result<bool, AllocError>
         ensures { IfOk result (λ whole.
-            Ends (decl_finish (function_state function.value)) whole decls.old.items decls.new.items) }
+            Ends (decl_finish (function_state self.old)) whole decls.old.items decls.new.items) }
     {
-        let FunctionReader {
-            recursive,
-            head,
-            params,
-            expected,
-            ty,
-        } = Box::into_inner(function);
-        drop(ty);
-        match expected {
-            FunctionExpected::Body(body) => {
-                let body = Box::into_inner(body);
-                FunctionReader::end_body(alloc, recursive, head, params, body, decls)
-            }
-            other => {
-                drop(head);
-                drop(params);
-                drop(other);
-                Ok(false)
-            }
+        match &self.expected {
+            FunctionExpected::Body => self.take_out(alloc, decls),
+            FunctionExpected::Named
+            | FunctionExpected::Var(_)
+            | FunctionExpected::Params
+            | FunctionExpected::Binder
+            | FunctionExpected::Colon(_)
+            | FunctionExpected::Param(_)
+            | FunctionExpected::Result => Ok(false),
         }
+    }
+
+    // The function where its body ends, taken out of the reader.
+    fn take_out(&mut self, alloc: Global, decls: &mut Vec<RawDecl>) -> Result<bool, AllocError>
+        ensures { IfOk result (λ whole. Ends (body_found (start_in self.old) (read_params self.old)
+            (written_type self.old.body.result) (finish (expr_state self.old.body.body)))
+            whole decls.old.items decls.new.items) }
+    {
+        let head = mem::replace(&mut self.head, Head::plain(alloc, 0, Name::empty()));
+        let params = RawParams {
+            items: Vec::new(alloc),
+        };
+        let params = mem::replace(&mut self.params, params);
+        let body = mem::replace(&mut self.body, FunctionBody::new(alloc, None));
+        FunctionReader::end_body(alloc, self.recursive, head, params, body, decls)
     }
 }

@@ -6,12 +6,10 @@
 //! ```
 #![tactic(auto)]
 
+mod decl_begin;
 mod decl_end;
-mod decl_function;
-mod decl_measure;
 mod decl_prefix;
 mod decl_reader;
-mod decl_record;
 mod decl_token;
 mod decl_vars;
 mod function_reader;

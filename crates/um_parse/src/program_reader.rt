@@ -5,7 +5,6 @@ ghost use Rattle.um_parse.specs.DeclMachine.{program_found};
 
 use crate::decl_reader::DeclReader;
 use std::alloc::{AllocError, Global};
-use std::mem;
 use um_reader::{Reader, Taken};
 use um_syntax::Token;
 use um_tree::{RawDecl, RawProgram};
@@ -40,6 +39,7 @@ impl ProgramReader {
     ghost use Rattle.um_parse.specs.DeclTakes.{reader_state, program_state};
 
     // The first token of a declaration.
+    #[inline(never)]
     fn begin(&mut self, alloc: Global, token: &mut Token) -> Result<Taken, AllocError>
         requires start { at_start (reader_state self.old.last) ≡ true }
         requires low { program_least (program_state self.old) ≤ greatest_height }
@@ -48,7 +48,7 @@ impl ProgramReader {
         match self.last.take(alloc, token)? {
             Taken::Goes => Ok(Taken::Goes),
             Taken::Stops => {
-                drop(mem::replace(&mut self.last, DeclReader::new()));
+                self.last.restart();
                 Ok(Taken::Stops)
             }
             Taken::High => Ok(Taken::High),
@@ -62,12 +62,11 @@ impl ProgramReader {
         requires last { (d : DeclSyntax) → decl_finish (reader_state self.old.last) ≡ Some d → decl_height d ≤ greatest_height }
         ensures { IfOk result (λ t. (old : ProgramState) → program_finish old ≡ program_found (map decl_syntax self.old.decls.items) (decl_finish (reader_state self.old.last)) → Gives machine_of_programs greatest_height old (next_decl (map decl_syntax self.old.decls.items) (decl_finish (reader_state self.old.last)) (decl_step (Expects DeclBegin) token.old)) t (program_state self.new)) }
     {
-        let last = mem::replace(&mut self.last, DeclReader::new());
-        let whole = last.finish(alloc, &mut self.decls)?;
+        let whole = self.last.finish(alloc, &mut self.decls)?;
         if whole {
             self.begin(alloc, token)
         } else {
-            drop(mem::replace(&mut self.last, DeclReader::Nothing));
+            self.last.stop();
             Ok(Taken::Stops)
         }
     }
@@ -106,7 +105,7 @@ impl Reader for ProgramReader {
     fn new(alloc: Global) -> ProgramReader {
         ProgramReader {
             decls: Vec::new(alloc),
-            last: DeclReader::new(),
+            last: DeclReader::new(alloc),
         }
     }
 
@@ -136,10 +135,15 @@ impl Reader for ProgramReader {
             drop(last);
             return Ok(Some(RawProgram { items: decls }));
         }
+        let mut last = last;
         let mut decls = decls;
         match last.finish(alloc, &mut decls) {
-            Ok(whole) => Ok(program_of(decls, whole)),
+            Ok(whole) => {
+                drop(last);
+                Ok(program_of(decls, whole))
+            }
             Err(error) => {
+                drop(last);
                 drop(decls);
                 Err(error)
             }

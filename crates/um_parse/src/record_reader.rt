@@ -1,12 +1,13 @@
-// A record behind its `{`, which is read in place.
-ghost use Rattle.std.specs.Prelude.{◌≤◌, map};
+// A record behind `type`, which is read in place.
+ghost use Rattle.std.specs.Prelude.{◌≡◌, ◌≤◌, [], map};
 ghost use Rattle.um_tree.specs.RawTree.{field_decl_syntax};
 ghost use Rattle.um_types.specs.UnitStops.{greatest_height};
 ghost use Rattle.um_parse.specs.ProgramHeights.{fields_height};
 
 use crate::decl_end::push_found;
 use crate::decl_prefix::{Head, in_box};
-use crate::decl_token::{finish_type, take_in_type};
+use crate::decl_token::take_in_type;
+use crate::decl_vars::{FixedVarToken, VarExpected, VarTaken, clear_vars, take_var};
 use std::alloc::{AllocError, Global};
 use std::mem;
 use um_reader::Taken;
@@ -17,6 +18,11 @@ use um_types::{TypeReader, name_of};
 /// What is expected in a record.
 #[derive(Drop)]
 pub enum FieldExpected {
+    /// What follows the record's name; a token among the unit parameters; `=` behind them; `{`
+    Named,
+    Var(VarExpected),
+    Equal,
+    Brace,
     /// A field's name; `:` behind the name, at its place; more of its type, or what follows it
     Name,
     Colon(u32, Name),
@@ -35,32 +41,42 @@ pub struct RecordReader {
     ghost low: { fields_height (map field_decl_syntax fields.items.items) ≤ greatest_height },
 }
 
+// No fields were read.
+fn clear_fields(alloc: Global, fields: &mut RawFieldDecls)
+    ensures { map field_decl_syntax fields.new.items.items ≡ [] }
+{
+    let none = RawFieldDecls {
+        items: Vec::new(alloc),
+    };
+    mem::forget(mem::replace(fields, none));
+}
+
 impl RecordReader {
-    ghost use Rattle.std.specs.Prelude.{◌≡◌, [], IfOk, OnOk, Some, option_map};
+    ghost use Rattle.std.specs.Prelude.{IfOk, OnOk, Some, option_map};
     ghost use Rattle.um_tree.specs.RawTree.{TypeSyntax, type_syntax, decl_syntax};
     ghost use Rattle.um_reader.specs.Takes.{Gives, Takes};
     ghost use Rattle.um_types.specs.TypeHeights.{whole_height};
     ghost use Rattle.um_types.specs.TypeMachine.{type_finish};
     ghost use Rattle.um_types.specs.TypeView.{type_state};
     ghost use Rattle.um_expr.specs.ExprTokens.{expr_token};
-    ghost use Rattle.um_parse.specs.DeclMachine.{NoDecl, Expects, FieldName, FieldColon, take_expected};
+    ghost use Rattle.um_parse.specs.DeclMachine.{NoDecl, Expects, OfRecord, RecordVars, RecordEqual, RecordBrace};
+    ghost use Rattle.um_parse.specs.DeclMachine.{FieldName, FieldColon, take_expected};
     ghost use Rattle.um_parse.specs.DeclMachine.{with_field_decl, field_ends, own_step, decl_finish};
     ghost use Rattle.um_parse.specs.ProgramLeast.{decl_least, machine_of_declarations};
-    ghost use Rattle.um_parse.specs.DeclViews.{head_vars, read_fields, field_state, record_state};
+    ghost use Rattle.um_parse.specs.DeclViews.{head_vars, read_fields, view_var, field_state, record_state};
     ghost use Rattle.um_parse.specs.DeclTakes.{IsLow, Ends};
     ghost use Rattle.um_parse.specs.DeclTokens.{BeginsAlike, IfStops};
 
-    /// No field was read, in a box.
-    pub fn new(alloc: Global, head: Head) -> Result<Box<RecordReader>, AllocError>
-        ensures { IfOk result (λ r. record_state r.value ≡ Expects (FieldName head.at head.name (head_vars head) [])) }
+    /// The name was read, in a box.
+    pub fn new(alloc: Global, at: u32, name: Name) -> Result<Box<RecordReader>, AllocError>
+        ensures { IfOk result (λ r. record_state r.value ≡ Expects (RecordVars at name)) }
     {
-        let fields = RawFieldDecls {
-            items: Vec::new(alloc),
-        };
         let record = RecordReader {
-            head,
-            fields,
-            expected: FieldExpected::Name,
+            head: Head::plain(alloc, at, name),
+            fields: RawFieldDecls {
+                items: Vec::new(alloc),
+            },
+            expected: FieldExpected::Named,
             ty: TypeReader::new(),
         };
         in_box(alloc, record)
@@ -80,6 +96,10 @@ impl RecordReader {
                 Taken::High => Ok(Taken::High),
             },
             FieldExpected::Nothing => Ok(Taken::Stops),
+            FieldExpected::Named => self.take_own(alloc, token),
+            FieldExpected::Var(_) => self.take_own(alloc, token),
+            FieldExpected::Equal => self.take_own(alloc, token),
+            FieldExpected::Brace => self.take_own(alloc, token),
             FieldExpected::Name => self.take_own(alloc, token),
             FieldExpected::Colon(_, _) => self.take_own(alloc, token),
         }
@@ -94,6 +114,10 @@ impl RecordReader {
         ensures kept { BeginsAlike token.new token.old }
     {
         match mem::replace(&mut self.expected, FieldExpected::Name) {
+            FieldExpected::Named => Ok(self.take_named(alloc, token)),
+            FieldExpected::Var(expected) => self.take_vars(alloc, expected, token),
+            FieldExpected::Equal => Ok(self.take_equal(token)),
+            FieldExpected::Brace => Ok(self.take_brace(alloc, token)),
             FieldExpected::Name => Ok(self.take_name(alloc, token)),
             FieldExpected::Colon(at, name) => Ok(self.take_colon(at, name, token)),
             FieldExpected::Type(at, name) => self.end_field(at, name, token),
@@ -113,6 +137,88 @@ impl RecordReader {
         match &self.expected {
             FieldExpected::Name => mem::forget(mem::replace(&mut self.expected, expected)),
             _ => drop(mem::replace(&mut self.expected, expected)),
+        }
+    }
+
+    // The token behind the name of the record.
+    fn take_named(&mut self, alloc: Global, token: &Token) -> Taken
+        requires wanted { self.old.expected ≡ FieldExpected.Name }
+        ensures { Gives machine_of_declarations greatest_height NoDecl
+            (take_expected (RecordVars self.old.head.at self.old.head.name) (expr_token token.now.kind) token.now.start)
+            result (record_state self.new) }
+    {
+        clear_vars(alloc, &mut self.head.vars);
+        match &token.kind {
+            Kind::Sign(Symbol::Less) => {
+                self.put(FieldExpected::Var(VarExpected::Token(FixedVarToken::Begin)));
+                Taken::Goes
+            }
+            Kind::Sign(Symbol::Equal) => {
+                self.put(FieldExpected::Brace);
+                Taken::Goes
+            }
+            _ => Taken::Stops,
+        }
+    }
+
+    // The token among the unit parameters.
+    fn take_vars(
+        &mut self,
+        alloc: Global,
+        expected: VarExpected,
+        token: &mut Token,
+    ) -> Result<Taken, AllocError>
+        requires wanted { self.old.expected ≡ FieldExpected.Name }
+        ensures taken { IfOk result (λ t. Gives machine_of_declarations greatest_height NoDecl
+            (take_expected (view_var (OfRecord self.old.head.at self.old.head.name) (head_vars self.old.head) expected)
+            (expr_token token.old.kind) token.old.start)
+            t (record_state self.new)) }
+        ensures kept { BeginsAlike token.new token.old }
+    {
+        match take_var(alloc, &mut self.head.vars, expected, token)? {
+            VarTaken::Goes(next) => {
+                self.put(FieldExpected::Var(next));
+                Ok(Taken::Goes)
+            }
+            VarTaken::Ends => {
+                self.put(FieldExpected::Equal);
+                Ok(Taken::Goes)
+            }
+            VarTaken::Stops => Ok(Taken::Stops),
+        }
+    }
+
+    // The token behind the unit parameters.
+    fn take_equal(&mut self, token: &Token) -> Taken
+        requires wanted { self.old.expected ≡ FieldExpected.Name }
+        ensures { Gives machine_of_declarations greatest_height NoDecl
+            (take_expected (RecordEqual self.old.head.at self.old.head.name (head_vars self.old.head))
+            (expr_token token.now.kind) token.now.start)
+            result (record_state self.new) }
+    {
+        match &token.kind {
+            Kind::Sign(Symbol::Equal) => {
+                self.put(FieldExpected::Brace);
+                Taken::Goes
+            }
+            _ => Taken::Stops,
+        }
+    }
+
+    // The token behind the `=` of the record. No field was read before its `{`, so that there is nothing to let go.
+    fn take_brace(&mut self, alloc: Global, token: &Token) -> Taken
+        requires wanted { self.old.expected ≡ FieldExpected.Name }
+        ensures { Gives machine_of_declarations greatest_height NoDecl
+            (take_expected (RecordBrace self.old.head.at self.old.head.name (head_vars self.old.head))
+            (expr_token token.now.kind) token.now.start)
+            result (record_state self.new) }
+    {
+        match &token.kind {
+            Kind::Sign(Symbol::LeftBrace) => {
+                clear_fields(alloc, &mut self.fields);
+                Taken::Goes
+            }
+            _ => Taken::Stops,
         }
     }
 
@@ -146,7 +252,7 @@ impl RecordReader {
     {
         match &token.kind {
             Kind::Sign(Symbol::Colon) => {
-                self.ty = TypeReader::new();
+                self.ty.restart();
                 self.put(FieldExpected::Type(at, name));
                 Taken::Goes
             }
@@ -167,7 +273,7 @@ impl RecordReader {
             (type_finish (type_state self.old.ty)) (expr_token token.now.kind))
             t (record_state self.new)) }
     {
-        match finish_type(&mut self.ty) {
+        match self.ty.take_whole() {
             Some(ty) => self.behind_field(RawFieldDecl { at, name, ty }, token),
             None => {
                 drop(name);

@@ -4,6 +4,7 @@ use Rattle.um_operands.specs.ExprBegun.{Need}
 use Rattle.um_expr.specs.ExprStates.{expr_state}
 use Rattle.um_parse.specs.DeclMachine.{NoDecl, InBody}
 use Rattle.um_parse.specs.DeclViews.{start_in, read_params}
+use Rattle.um_parse.specs.declared.function_reader.FunctionBody.{FunctionBody}
 use Rattle.um_parse.proofs.DeclTaken.{goes_on}
 use Rattle.um_parse.proofs.function_reader.FunctionReader.begin_body.Goals as goal
 
@@ -12,7 +13,7 @@ returns c =
     let old = c.args.self.now in
     let s = start_in old in
     let ps = read_params old in
-    let body = c.in_ok-body.body.value in
+    let body = c.new-body.result in
     goes_on NoDecl _ (InBody s ps (written_type c.args.ty) (Need [])) _
-    (c.put.ensures ∙ ap (λ r. InBody s ps (written_type r) (expr_state body.body)) c.in_ok-body.ensures.written ∙ ap (InBody s ps (written_type c.args.ty)) c.in_ok-body.ensures.begun)
+    (c.put.ensures ∙ ap (λ (b : FunctionBody). InBody s ps (written_type b.result) (expr_state b.body)) c.replace.ensures.after ∙ ap (λ r. InBody s ps (written_type r) (expr_state body.body)) c.new-body.ensures.written ∙ ap (InBody s ps (written_type c.args.ty)) c.new-body.ensures.begun)
     refl (λ e. cc) (omega (arith, old.low, c.requires.low))

@@ -26,5 +26,5 @@ returns-in_ok-push-in-Sign-RightParen c =
     let paren : c.args.token.now.kind ≡ kind.Sign symbol.RightParen = search rules in
     let pushed : map param_syntax c.push.new.self.items ≡ ps ++ p ∷ [] = ap (map param_syntax) c.in_ok-push-in-Sign-RightParen.ensures.items ∙ map-append param_syntax old.params.items.items (c.args.param ∷ []) in
     goes_on NoDecl _ (Expects (Params s (ps ++ p ∷ []))) _
-    (ap (param_state s (map param_syntax c.push.new.self.items) (type_state old.ty)) c.requires.wanted ∙ ap (λ qs. Expects (Params s qs)) pushed)
+    (ap (param_state s (map param_syntax c.push.new.self.items) (type_state old.ty) old.body) c.requires.wanted ∙ ap (λ qs. Expects (Params s qs)) pushed)
     (ap (λ k. param_ends s ps p.binder (Some p.type) (expr_token k)) paren) (λ e. cc) (omega (arith, old.low, c.requires.low, last))

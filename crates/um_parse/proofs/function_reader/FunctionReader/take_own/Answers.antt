@@ -10,10 +10,10 @@ pub end_param-requires-clause-low : goal.end_param-requires-clause-low
 end_param-requires-clause-low c =
     let old = c.args.self.now in
     let is : old.expected ≡ function.Param c.in-Param.binder = cc in
-    subst (λ (e : FunctionExpected). IsLow (param_state (start_in old) (read_params old) (type_state old.ty) e)) is c.requires.low
+    subst (λ (e : FunctionExpected). IsLow (param_state (start_in old) (read_params old) (type_state old.ty) old.body e)) is c.requires.low
 
 pub end_result-requires-clause-low : goal.end_result-requires-clause-low
 end_result-requires-clause-low c =
     let old = c.args.self.now in
     let is : old.expected ≡ function.Result = cc in
-    subst (λ (e : FunctionExpected). IsLow (param_state (start_in old) (read_params old) (type_state old.ty) e)) is c.requires.low
+    subst (λ (e : FunctionExpected). IsLow (param_state (start_in old) (read_params old) (type_state old.ty) old.body e)) is c.requires.low

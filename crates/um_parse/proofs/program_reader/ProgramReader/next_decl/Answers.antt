@@ -1,4 +1,4 @@
-use Rattle.std.proofs.Common.{◌≡◌, map, Some, sym, ap, ◌∙◌}
+use Rattle.std.proofs.Common.{◌≡◌, map}
 use Rattle.std.proofs.lemmas.Result.{IfOk-weaker}
 use Rattle.um_tree.specs.RawTree.{decl_syntax}
 use Rattle.um_reader.specs.Takes.{Gives, Takes}
@@ -15,9 +15,7 @@ begin-requires-clause-low c =
     let old = c.args.self.now in
     let new = c.finish.new.decls.items in
     let e = ended _ old.decls.items new (rw c.if-whole.true at c.in_ok-whole.ensures.found) in
-    let is : decl_finish (reader_state old.last) ≡ Some e.0 = ap (λ r. decl_finish (reader_state r)) (sym c.replace-last.ensures.value) ∙ e.1 in
-    more_low (map decl_syntax old.decls.items) (map decl_syntax new) e.0 (reader_state c.replace-last.new.dest) e.2 (ap reader_state c.replace-last.ensures.after ∙ c.new.ensures.start) c.requires.decls
-    (c.requires.last e.0 is)
+    more_low (map decl_syntax old.decls.items) (map decl_syntax new) e.0 (reader_state c.finish.new.self) e.2 c.finish.ensures.start c.requires.decls (c.requires.last e.0 e.1)
 
 pub returns-then-whole : goal.returns-then-whole
 returns-then-whole c =
@@ -26,10 +24,9 @@ returns-then-whole c =
     let state = program_state c.begin.new.self in
     let earlier = map decl_syntax old.decls.items in
     let new = map decl_syntax c.finish.new.decls.items in
-    let begun = reader_state c.replace-last.new.dest in
+    let begun = reader_state c.finish.new.self in
     let found = decl_finish (reader_state old.last) in
     let e = ended _ old.decls.items c.finish.new.decls.items (rw c.if-whole.true at c.in_ok-whole.ensures.found) in
-    let is : found ≡ Some e.0 = ap (λ r. decl_finish (reader_state r)) (sym c.replace-last.ensures.value) ∙ e.1 in
     IfOk-weaker c.begin.result (λ t. Takes machine_of_programs greatest_height (InProgram new begun) token t state)
     (λ t. (st : ProgramState) → program_finish st ≡ program_found earlier found → Gives machine_of_programs greatest_height st (next_decl earlier found (decl_step (Expects DeclBegin) token)) t state)
-    (λ t h. one_ends earlier new e.0 begun e.2 (ap reader_state c.replace-last.ensures.after ∙ c.new.ensures.start) found token t state is h) c.begin.ensures
+    (λ t h. one_ends earlier new e.0 begun e.2 c.finish.ensures.start found token t state e.1 h) c.begin.ensures

@@ -16,5 +16,5 @@ returns-in-Sign-Colon c =
     let token = c.args.token.now in
     let colon : token.kind ≡ kind.Sign symbol.Colon = search rules in
     goes_on NoDecl _ (InField h.at h.name (head_vars h) fs c.args.at c.args.name (NeedType 0)) _
-    (c.put.ensures ∙ ap (InField h.at h.name (head_vars h) fs c.args.at c.args.name) c.new.ensures.start)
+    (c.put.ensures ∙ ap (InField h.at h.name (head_vars h) fs c.args.at c.args.name) c.restart.ensures.start)
     (ap (λ k. take_expected (FieldColon h.at h.name (head_vars h) fs c.args.at c.args.name) (expr_token k) token.start) colon) (λ e. cc) (omega (arith, old.low))

@@ -1,0 +1,18 @@
+use Rattle.std.proofs.Common.{sym, ap, ◌∙◌, arith}
+use Rattle.um_expr.specs.ExprTokens.{expr_token}
+use Rattle.um_parse.specs.DeclMachine.{DeclBegin, MeasureName, NoDecl, HaveBase, take_expected}
+use Rattle.um_parse.specs.DeclTakes.{place_state}
+use Rattle.um_parse.proofs.DeclTaken.{goes_on}
+use Rattle.um_parse.proofs.decl_reader.DeclReader.take_base_name.Goals as goal
+
+pub returns-in-Name : goal.returns-in-Name
+returns-in-Name c =
+    let at = c.args.token.now.start in
+    let letters = c.name_of-name.ensures ∙ c.take.ensures.letters in
+    record {
+      taken =
+          goes_on NoDecl _ (HaveBase at c.in-Name.letters) _
+          (ap (λ p. place_state p c.put.new.self.function) c.put.ensures.place ∙ ap (HaveBase at) letters)
+          (ap (λ k. take_expected MeasureName (expr_token k) at) c.in-Name.is) (λ e. cc) (omega arith);
+      kept = sym (ap (λ k. take_expected DeclBegin (expr_token k) at) c.in-Name.is);
+    }
