@@ -210,7 +210,7 @@ impl ExprReader {
         ensures rest { OnOk result (token.new ≡ emptied token.old) }
     {
         let at = token.start;
-        match &mut token.kind {
+        match &token.kind {
             Kind::Sign(symbol) => match plain_operator(*symbol) {
                 Some(sign) => {
                     let given = infix_after(
@@ -225,6 +225,28 @@ impl ExprReader {
                 }
                 None => self.take_mark(alloc, operand, token),
             },
+            Kind::Name(_) => self.take_name(alloc, operand, token),
+            Kind::Word(_) => self.take_word(alloc, operand, token),
+            Kind::Var(_) | Kind::Number { .. } | Kind::Hole => {
+                self.take_again(alloc, operand, token)
+            }
+        }
+    }
+
+    // One token behind this atom, which is an argument if it is a name.
+    #[inline(never)]
+    fn take_name(
+        &mut self,
+        alloc: Global,
+        operand: Operand,
+        token: &mut Token,
+    ) -> Result<Taken, AllocError>
+        requires nothing { self.old.inner ≡ Inner.Nothing }
+        ensures taken { IfOk result (λ t. Takes machine_of_expressions greatest_height (Have (frames_of self.old.frames) (operand_expr operand)) token.old t (expr_state self.new)) }
+        ensures rest { OnOk result (token.new ≡ emptied token.old) }
+    {
+        let at = token.start;
+        match &mut token.kind {
             Kind::Name(letters) => {
                 let name = name_of(letters.take(alloc));
                 let given = name_argument(
@@ -237,6 +259,23 @@ impl ExprReader {
                 )?;
                 Ok(self.go(given))
             }
+            _ => self.take_again(alloc, operand, token),
+        }
+    }
+
+    // One token behind this atom, which ends forms if it is a reserved word.
+    #[inline(never)]
+    fn take_word(
+        &mut self,
+        alloc: Global,
+        operand: Operand,
+        token: &mut Token,
+    ) -> Result<Taken, AllocError>
+        requires nothing { self.old.inner ≡ Inner.Nothing }
+        ensures taken { IfOk result (λ t. Takes machine_of_expressions greatest_height (Have (frames_of self.old.frames) (operand_expr operand)) token.old t (expr_state self.new)) }
+        ensures rest { OnOk result (token.new ≡ emptied token.old) }
+    {
+        match &token.kind {
             Kind::Word(keyword) => match plain_word(*keyword) {
                 Some(keyword) => {
                     let given = end_by_word(
@@ -250,14 +289,12 @@ impl ExprReader {
                 }
                 None => self.take_again(alloc, operand, token),
             },
-            Kind::Var(_) | Kind::Number { .. } | Kind::Hole => {
-                self.take_again(alloc, operand, token)
-            }
+            _ => self.take_again(alloc, operand, token),
         }
     }
 
     // One sign behind this atom, if it is one.
-    #[inline(always)]
+    #[inline(never)]
     fn take_mark(
         &mut self,
         alloc: Global,

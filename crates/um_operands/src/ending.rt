@@ -24,6 +24,7 @@ fn pop_ended(frames: &mut Frames, limit: u8) -> Option<Frame>
 }
 
 // Ends all frames up to this rank, one by one.
+#[inline(always)]
 fn end_frames(
     alloc: Global,
     frames: &mut Frames,
@@ -41,7 +42,7 @@ fn end_frames(
 }
 
 /// Ends all frames up to this rank.
-#[inline(always)]
+#[inline(never)]
 pub fn ended(
     alloc: Global,
     frames: &mut Frames,

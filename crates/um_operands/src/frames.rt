@@ -69,6 +69,7 @@ impl Frames {
     }
 
     /// The rank of what the innermost frame becomes if no token ends it; else 10.
+    #[inline(always)]
     pub fn rank(&self) -> u8
         ensures { result ≡ top_rank (frames_of self.now) }
     {
