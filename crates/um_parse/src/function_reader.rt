@@ -95,7 +95,7 @@ impl FunctionBody {
 }
 
 impl FunctionReader {
-    ghost use Rattle.std.specs.Prelude.{IfOk, Some, option_map};
+    ghost use Rattle.std.specs.Prelude.{IfOk, Some, None, option_map};
     ghost use Rattle.um_tree.specs.RawTree.{TypeSyntax, binder_syntax, expr_syntax, type_syntax};
     ghost use Rattle.um_reader.specs.Takes.{Gives, Takes};
     ghost use Rattle.um_types.specs.TypeHeights.{whole_height};
@@ -182,10 +182,10 @@ impl FunctionReader {
                 Taken::Stops => self.take_own(alloc, token),
                 Taken::High => Ok(Taken::High),
             },
-            FunctionExpected::Named => self.take_own(alloc, token),
+            FunctionExpected::Named => Ok(self.take_named(alloc, token)),
             FunctionExpected::Var(_) => self.take_own(alloc, token),
-            FunctionExpected::Params => self.take_own(alloc, token),
-            FunctionExpected::Binder => self.take_own(alloc, token),
+            FunctionExpected::Params => Ok(self.take_params(alloc, token)),
+            FunctionExpected::Binder => Ok(self.take_binder(alloc, token)),
             FunctionExpected::Colon(_) => self.take_own(alloc, token),
         }
     }
@@ -213,15 +213,17 @@ impl FunctionReader {
         }
     }
 
-    // What is expected from here on. Behind the parameters there is nothing to let go.
+    // What is expected from here on. Where no binder was read, there is nothing to let go.
     #[inline(always)]
     fn put(&mut self, expected: FunctionExpected)
         ensures { function_state self.new
             ≡ param_state (start_in self.old) (read_params self.old) (type_state self.old.ty) self.old.body expected }
     {
         match &self.expected {
-            FunctionExpected::Params => mem::forget(mem::replace(&mut self.expected, expected)),
-            _ => drop(mem::replace(&mut self.expected, expected)),
+            FunctionExpected::Colon(_) | FunctionExpected::Param(_) => {
+                drop(mem::replace(&mut self.expected, expected));
+            }
+            _ => mem::forget(mem::replace(&mut self.expected, expected)),
         }
     }
 
@@ -249,7 +251,6 @@ impl FunctionReader {
 
     // The token behind the name.
     fn take_named(&mut self, alloc: Global, token: &Token) -> Taken
-        requires wanted { self.old.expected ≡ FunctionExpected.Params }
         ensures { Gives machine_of_declarations greatest_height NoDecl
             (take_expected (FunctionVars self.old.recursive self.old.head.at self.old.head.name)
             (expr_token token.now.kind) token.now.start)
@@ -267,7 +268,6 @@ impl FunctionReader {
 
     // The token behind the name of a function without unit parameters.
     fn begin_params(&mut self, alloc: Global, token: &Token) -> Taken
-        requires wanted { self.old.expected ≡ FunctionExpected.Params }
         ensures { Gives machine_of_declarations greatest_height NoDecl
             (take_params (started self.old.recursive self.old.head.at self.old.head.name []) []
             (expr_token token.now.kind))
@@ -275,6 +275,7 @@ impl FunctionReader {
     {
         clear_vars(alloc, &mut self.head.vars);
         clear_params(alloc, &mut self.params);
+        mem::forget(mem::replace(&mut self.expected, FunctionExpected::Params));
         self.take_params(alloc, token)
     }
 
@@ -341,7 +342,7 @@ impl FunctionReader {
 
     // The token behind the `(` of a parameter.
     fn take_binder(&mut self, alloc: Global, token: &mut Token) -> Taken
-        requires wanted { self.old.expected ≡ FunctionExpected.Params }
+        requires nothing { decl_finish (function_state self.old) ≡ None }
         ensures taken { Gives machine_of_declarations greatest_height NoDecl
             (take_expected (ParamBinder (start_in self.old) (read_params self.old))
             (expr_token token.old.kind) token.old.start)
