@@ -1,11 +1,10 @@
 -- Bytes that are taken at once: a token whose end is seen.
-use Rattle.std.proofs.Common.{◌≡◌, ℕ, zero, suc, ◌+◌, ◌<◌, ◌≤◌, Bool, true, false, cond, not, ltb, ◌||◌, ◌&&◌, eqb, List, [], ◌∷◌, ◌++◌, length, take, drop, get_or, Option, None, Some, is_some, Result, Ok, Err, OnOk, IfOk, ◌⊎◌, ⊎_elim, refl, sym, ap, subst, ◌∙◌, arith, append_assoc, lit<, ◌-◌}
+use Rattle.std.proofs.Common.{◌≡◌, ℕ, suc, ◌+◌, ◌<◌, ◌≤◌, Bool, true, false, cond, not, ltb, ◌||◌, ◌&&◌, eqb, List, [], ◌∷◌, ◌++◌, length, take, drop, get_or, Option, None, Some, is_some, Result, Ok, Err, OnOk, IfOk, ◌⊎◌, inl, inr, ⊎_elim, refl, sym, ap, subst, ◌∙◌, arith, append_assoc, lit<, ◌-◌}
 use Rattle.std.proofs.lemmas.Bool.{false≢true, eqb-true, ltb-true}
-use Rattle.std.proofs.lemmas.List.{append-nil, take_more, length-take-le}
-use Rattle.std.proofs.lemmas.Str.{encode_ascii, len_utf8_ascii, IsUtf8-drop, IsCharBoundary-start, IsCharBoundary-after_ascii, chars-nil, chars_past_char}
-use Rattle.std.specs.Char.{is_ascii_digit, is_ascii_alphabetic, len_utf8}
+use Rattle.std.proofs.lemmas.List.{append-nil, take_more, length-take-le, drop-drop}
+use Rattle.std.proofs.lemmas.Str.{encode_ascii, len_utf8_ascii, IsUtf8-drop, IsCharBoundary-start, IsCharBoundary-after_ascii, IsCharBoundary-from_rest, chars-nil, chars_past_char}
+use Rattle.std.specs.Char.{is_ascii_digit, len_utf8}
 use Rattle.std.specs.Str.{IsUtf8, IsCharBoundary, chars, bytes_eq}
-use lib.Utf8.{encode}
 use Rattle.unicode_ident.specs.Ident.{is_xid_continue}
 use Rattle.unicode_ident.proofs.IdentLemmas.{is_xid_start-ascii, is_xid_continue-ascii}
 use Rattle.um_syntax.specs.declared.token.Kind.{Kind}
@@ -21,14 +20,14 @@ use Rattle.um_syntax.specs.declared.vocabulary.Symbol.{Symbol}
 use Rattle.um_syntax.specs.Gap.{IsLine}
 use Rattle.um_syntax.specs.Lexing.{is_power_place}
 use Rattle.um_syntax.specs.Lexeme.{starts_name}
-use Rattle.um_syntax.specs.Machine.{Scan, single_symbol, double_symbol, keyword_of, letters_kind, takes, part_takes, close, taken, begun, followed, ends_in_digit, keeps, AllKept, IsNameRun, ends_name, ends_number, IsNumberRun, free_at, at_state, pushed, sign_pushed, symbol_taken, variable_pushed, number_taken, number_pushed, figures_kind, first_figures, step, steps, Reaches}
+use Rattle.um_syntax.specs.Machine.{Scan, single_symbol, double_symbol, chosen_symbol, front_symbol, keyword_of, letters_kind, takes, part_takes, close, taken, begun, followed, ends_in_digit, keeps, AllKept, IsNameRun, ends_name, ends_number, IsNumberRun, free_at, pushed, sign_pushed, symbol_taken, variable_pushed, number_taken, number_pushed, figures_kind, first_figures, step, steps, Reaches}
 use Rattle.um_syntax.specs.Scanning.{Scans}
-use Rattle.um_syntax.proofs.Runs.{steps-append, reaches_now}
+use Rattle.um_syntax.proofs.Runs.{steps-append, reaches_now, reaches_on}
 use Rattle.um_syntax.proofs.Closing.{scan_at}
 use Rattle.um_syntax.proofs.Tables.{IsMark, single_symbol-mark, double_symbol-mark, double_symbol-first, double_symbol-feed}
 use Rattle.um_syntax.proofs.Reading.{begin_digit, begin_quote, begin_symbol}
-use Rattle.um_syntax.proofs.Feeds.{and_parts, and_true}
-use Rattle.um_syntax.proofs.Kept.{kept_letters, kept_ascii, kept_line, kept_boundary, kept_chars, kept_more, plain_byte, plain, name_kept, steps_kept, steps_name}
+use Rattle.um_syntax.proofs.Feeds.{and_parts}
+use Rattle.um_syntax.proofs.Kept.{kept_letters, kept_ascii, kept_line, kept_boundary, kept_chars, kept_more, plain_byte, plain, name_kept, steps_kept, steps_name, IsLine-both, chars_cut, chars_on}
 
 -- nothing is taken
 pub scans_none : (s : Scan) (text : List ℕ) → IsUtf8 text → Scans s text 0 s
@@ -219,6 +218,29 @@ scans_slashes at tokens text more utf8 is =
     ∙ ap (λ r. steps r (47 ∷ [])) (begin_symbol tokens at 47 (refl, lit< tt, refl, refl, refl) refl)
     ∙ ap (λ n. Ok (scan_at n tokens [] pending.Comment)) there)
 
+-- the parts of a symbol that was chosen
+abbrev kept_symbol : Option (Symbol × ℕ) → Symbol → Symbol
+kept_symbol None k = k
+kept_symbol (Some x) k = x.0
+
+abbrev kept_len : Option (Symbol × ℕ) → ℕ
+kept_len None = 0
+kept_len (Some x) = x.1
+
+chosen_few : (two : Option Symbol) (slashes : Bool) (one : Option Symbol) (k : Symbol) (n : ℕ) → chosen_symbol two slashes one ≡ Some (k, n)
+    → ((two ≡ Some k) × (n ≡ 2)) ⊎ ((two ≡ None) × (slashes ≡ false) × (one ≡ Some k) × (n ≡ 1))
+chosen_few (Some j) slashes one k n h = inl (ap (λ o. Some (kept_symbol o j)) h, sym (ap kept_len h))
+chosen_few None true one k n h = absurd (false≢true (ap is_some h))
+chosen_few None false (Some j) k n h = inr (refl, refl, ap (λ o. Some (kept_symbol o j)) h, sym (ap kept_len h))
+chosen_few None false None k n h = absurd (false≢true (ap is_some h))
+
+pub scans_symbol : (at : ℕ) (tokens : List Token) (text more : List ℕ) (a c : ℕ) (k : Symbol) (n : ℕ) → IsUtf8 text → text ≡ a ∷ c ∷ more → c < 128 → front_symbol a c ≡ Some (k, n)
+    → Scans (free_at at tokens) text n (pushed (free_at (at + n) tokens) (kind.Sign k) at (at + n))
+scans_symbol at tokens text more a c k n utf8 is low front =
+    ⊎_elim (λ h. subst (λ m. Scans (free_at at tokens) text m (pushed (free_at (at + m) tokens) (kind.Sign k) at (at + m))) (sym h.1) (scans_double at tokens text more a c k utf8 is low h.0))
+    (λ h. subst (λ m. Scans (free_at at tokens) text m (pushed (free_at (at + m) tokens) (kind.Sign k) at (at + m))) (sym h.3) (scans_sign at tokens text more a c k utf8 is low h.2 h.0 h.1))
+    (chosen_few (double_symbol a c) (eqb a 47 && eqb c 47) (single_symbol a) k n front)
+
 -- the first two bytes of a text
 pub two_front : (text : List ℕ) → 1 < length text → text ≡ get_or text 0 0 ∷ get_or text 1 0 ∷ drop 2 text
 two_front [] h = absurd (omega (arith, h))
@@ -323,6 +345,28 @@ scans_kept s p text n is none utf8 within kept =
 
 pub kept_none : (p : Pending) (bs : List ℕ) → (p ≡ pending.Free) ⊎ (p ≡ pending.Comment) → kept_letters p bs ≡ []
 kept_none p bs free = ⊎_elim (λ e. ap (λ q. kept_letters q bs) e) (λ e. ap (λ q. kept_letters q bs) e) free
+
+pub scans_blank : (s : Scan) (text : List ℕ) → s.pending ≡ pending.Free → IsUtf8 text → 0 < length text → keeps pending.Free (get_or text 0 0) ≡ true
+    → Scans s text 1 (scan_at (s.at + 1) s.tokens s.letters s.pending)
+scans_blank s [] free utf8 some blank = absurd (omega (arith, some))
+scans_blank s (b ∷ bs) free utf8 some blank =
+    scans_kept s s.pending (b ∷ bs) 1 refl (kept_none s.pending (b ∷ []) (inl free)) utf8 (omega (arith, some)) (subst (λ p. AllKept p (b ∷ [])) (sym free) (blank, tt))
+
+-- ---- one behind another
+
+pub scans_more : (old mid new : Scan) (text : List ℕ) (n m : ℕ) → IsUtf8 text → Scans old text n mid → Scans mid (drop n text) m new → Scans old text (n + m) new
+scans_more old mid new text n m utf8 one two =
+    let front = chars (take n text) in
+    let behind = chars (take m (drop n text)) in
+    let on = chars_on text n m utf8 one.front in
+    let cut = chars_cut (drop n text) m (IsUtf8-drop text n utf8 one.front) two.front in
+    let before = subst (λ l. Reaches old front mid l) (sym cut) one.reaches in
+    let both = reaches_on old mid new front behind (chars (drop m (drop n text))) before two.reaches in
+    record {
+      front = IsCharBoundary-from_rest text n m one.front.0 two.front;
+      line = subst IsLine on (IsLine-both front behind one.line two.line);
+      reaches = subst (λ l. Reaches old l new (chars (drop (n + m) text))) on (subst (λ l. Reaches old (front ++ behind) new (chars l)) (drop-drop m n text) both);
+    }
 
 -- ---- the token that was put behind the others
 

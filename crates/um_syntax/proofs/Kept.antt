@@ -1,9 +1,9 @@
 -- Characters that keep what has begun.
-use Rattle.std.proofs.Common.{◌≡◌, inl, inr, ℕ, zero, suc, ◌+◌, ◌<◌, ◌≤◌, ◌||◌, true, false, eqb, List, [], ◌∷◌, ◌++◌, length, take, drop, get_or, Option, None, Some, is_some, Ok, refl, sym, ap, subst, ◌∙◌, arith, append_assoc}
-use Rattle.std.proofs.lemmas.Bool.{false≢true}
+use Rattle.std.proofs.Common.{◌≡◌, ℕ, zero, suc, ◌+◌, ◌<◌, ◌≤◌, ◌||◌, true, false, not, ltb, eqb, List, [], ◌∷◌, ◌++◌, length, take, drop, get_or, Option, None, Some, is_some, Ok, refl, sym, ap, subst, ◌∙◌, arith, append_assoc}
+use Rattle.std.proofs.lemmas.Bool.{false≢true, lt-ltb}
 use Rattle.std.proofs.lemmas.List.{take_more, append-nil, drop-take, take-take, take-append-drop}
 use Rattle.std.proofs.Math.Seq.{take-append_seam}
-use Rattle.std.proofs.lemmas.Str.{encode_ascii, len_utf8_ascii, encodes-IsAscii, chars-IsAscii, scalars-chars, IsUtf8-from_ascii, IsUtf8-take, IsUtf8-past_char, IsCharBoundary-from_take, IsCharBoundary-at_seam, length-encode, chars-append, chars-nil, chars_past_char}
+use Rattle.std.proofs.lemmas.Str.{encode_ascii, len_utf8_ascii, chars-IsAscii, IsUtf8-from_ascii, IsUtf8-take, IsUtf8-past_char, IsCharBoundary-from_take, IsCharBoundary-at_seam, length-encode, chars-append, chars-nil, chars_past_char}
 use Rattle.std.specs.Char.{is_ascii_alphabetic, len_utf8}
 use Rattle.std.specs.Str.{IsAscii, IsUtf8, IsCharBoundary, chars}
 use lib.Utf8.{encode, scalar, scalars}
@@ -14,7 +14,7 @@ use Rattle.um_syntax.specs.declared.pending.Pending.{Pending}
 use Rattle.um_syntax.specs.declared.pending.Pending.TheVariants as pending
 use Rattle.um_syntax.specs.Gap.{is_space, IsLine}
 use Rattle.um_syntax.specs.Lexeme.{starts_name}
-use Rattle.um_syntax.specs.Machine.{Scan, scan_start, keeps, AllKept, begins_name, IsNameRun, step, steps, Reaches}
+use Rattle.um_syntax.specs.Machine.{Scan, scan_start, keeps, AllKept, begins_name, IsNameRun, ends_name, step, steps, Reaches}
 use Rattle.um_syntax.specs.Feeding.{CountsLines, HasScanned}
 use Rattle.um_syntax.proofs.Runs.{reaches_on}
 use Rattle.um_syntax.proofs.Closing.{scan_at}
@@ -157,6 +157,17 @@ name_run bs zero h k some = absurd (omega (arith, some))
 name_run [] (suc n) h k some = absurd (false≢true h)
 name_run (b ∷ bs) (suc n) h k some = (h, k.1)
 
+-- the first byte of a name
+pub first_kept : (bs : List ℕ) → begins_name bs ≡ true → (1 ≤ length bs) × AllKept (pending.Identifier 0) (take 1 bs)
+first_kept [] h = absurd (false≢true h)
+first_kept (b ∷ bs) h = (omega arith, (begins_keeps b h, tt))
+
+-- the byte behind a name
+pub name_ends : (bs : List ℕ) (n d : ℕ) → n < length bs → get_or bs n d < 128 → keeps (pending.Identifier 0) (get_or bs n d) ≡ false → ends_name (drop n bs) ≡ true
+name_ends [] n d within low other = absurd (omega (arith, within))
+name_ends (b ∷ bs) zero d within low other = and_true (ltb b 128) (not (keeps (pending.Identifier 0) b)) (lt-ltb b 128 low) (ap not other)
+name_ends (b ∷ bs) (suc n) d within low other = name_ends bs n d (omega (arith, within)) low other
+
 -- what a lexer has read, with more characters
 pub scalars-both : (cs ds : List ℕ) → scalars cs ≡ true → scalars ds ≡ true → scalars (cs ++ ds) ≡ true
 scalars-both [] ds e f = f
@@ -166,7 +177,7 @@ pub scanned_on : (f : Option TextStop) (scan new : Scan) (cs ds es : List ℕ) �
 scanned_on None scan new cs ds es none h r = reaches_on scan_start scan new cs ds es h r
 scanned_on (Some t) scan new cs ds es none h r = absurd (false≢true (sym none))
 
-IsLine-both : (xs ys : List ℕ) → IsLine xs → IsLine ys → IsLine (xs ++ ys)
+pub IsLine-both : (xs ys : List ℕ) → IsLine xs → IsLine ys → IsLine (xs ++ ys)
 IsLine-both [] ys l m = m
 IsLine-both (x ∷ xs) ys l m = (l.0, IsLine-both xs ys l.1 m)
 

@@ -1,7 +1,7 @@
 -- The machine that reads a text character by character. The definitions of tokens and refusals don't rest on it; that
 -- it
 -- gives them is proved.
-use Rattle.std.specs.Prelude.{◌≡◌, ◌⊎◌, ℕ, ◌+◌, ◌≤◌, ◌-◌, ◌*◌, ◌^◌, Bool, true, false, not, cond, ◌==◌, ◌||◌, ◌&&◌, nat_lt, nat_le, List, [], ◌∷◌, ◌++◌, length, take, drop, pos, Option, None, Some, is_some, option_map, Result, Ok, Err}
+use Rattle.std.specs.Prelude.{◌≡◌, ℕ, ◌+◌, ◌≤◌, ◌-◌, ◌*◌, ◌^◌, Bool, true, false, not, cond, ◌==◌, ◌||◌, ◌&&◌, nat_lt, nat_le, List, [], ◌∷◌, ◌++◌, length, take, drop, pos, Option, None, Some, is_some, option_map, Result, Ok, Err}
 use Rattle.std.specs.Coded.{×_prop, Unit-prop, le_prop}
 use Rattle.std.specs.Char.{is_ascii_digit, is_ascii_alphabetic, is_ascii_alphanumeric, len_utf8, encode_utf8}
 use Rattle.std.specs.Str.{bytes_eq}
@@ -84,6 +84,16 @@ double_symbols =
 
 abbrev pub double_symbol : ℕ → ℕ → Option Symbol
 double_symbol a b = found_pair a b double_symbols
+
+-- the symbol that two characters begin with, and how many characters it has; none where they begin a comment
+abbrev pub chosen_symbol : Option Symbol → Bool → Option Symbol → Option (Symbol × ℕ)
+chosen_symbol (Some k) slashes one = Some (k, 2)
+chosen_symbol None true one = None
+chosen_symbol None false (Some k) = Some (k, 1)
+chosen_symbol None false None = None
+
+abbrev pub front_symbol : ℕ → ℕ → Option (Symbol × ℕ)
+front_symbol a b = chosen_symbol (double_symbol a b) (a == 47 && b == 47) (single_symbol a)
 
 -- Digits. A number stands still at 10 ^ 38, and a count of digits at 39: numbers in range have 38 digits at most.
 abbrev pub with_digit : ℕ → ℕ → ℕ

@@ -184,6 +184,7 @@ impl Lexer {
         ensures stands { OnOk result ((bytes : List ℕ) → Stands self.old bytes → Stands self.new (bytes ++ text.now)) }
         ensures fed { OnOk result (self.new.fed ≡ self.old.fed + length text.now) }
     {
+        self.scanner.reserve(text.len())?;
         self.fed += text.len() as u32;
         let mut at = 0;
         while at < text.len() {
@@ -221,8 +222,10 @@ impl Lexer {
         }
     }
 
-    // Takes what stands at the front of a text at once, and answers how many bytes these are. None are behind a fault.
+    // Takes what stands at the front of a text at once, and answers how many bytes these are. None are behind a fault,
+    // and where a line feed stands.
     fn take_at_once(&mut self, text: &str) -> Result<usize, AllocError>
+        requires some { 0 < length text.now }
         requires room { self.old.valid + length text.now ≤ self.old.fed }
         requires whole { self.old.held ≡ 0 }
         ensures front { IfOk result (λ n. IsCharBoundary text.now n) }
@@ -233,7 +236,7 @@ impl Lexer {
         ensures place { IfOk result (λ n. self.new.valid ≡ self.old.valid + n) }
         ensures fed { self.new.fed ≡ self.old.fed }
     {
-        if self.fault.is_some() {
+        if self.fault.is_some() || text.as_bytes()[0] == b'\n' {
             return Ok(0);
         }
         let len = self.scanner.scan_front(text)?;
@@ -254,6 +257,7 @@ impl Lexer {
     }
 
     // Takes a character behind those that were read.
+    #[inline(always)]
     fn take_char(&mut self, c: char) -> Result<(), AllocError>
         requires readable { IsReadable self.old.fault }
         requires room { self.old.valid + len_utf8 c ≤ self.old.fed }

@@ -1,7 +1,9 @@
 //! What has been read of a token that may go on.
 ghost use Rattle.std.specs.Prelude.{◌≡◌, ◌<◌, ◌≤◌, true, length, take, drop};
+ghost use Rattle.um_syntax.specs.Gap.{is_space};
 ghost use Rattle.um_syntax.specs.Lexeme.{starts_name};
-ghost use Rattle.um_syntax.specs.Machine.{takes, keeps, AllKept, begins_name, IsNameRun, ends_name, ends_number, ends_in_digit};
+ghost use Rattle.um_syntax.specs.Machine.{takes, keeps, AllKept, begins_name, IsNameRun, ends_name, ends_number, ends_in_digit, number_taken, FiguresFit, PendingFits};
+ghost use Rattle.um_syntax.specs.declared.pending.Pending.TheVariants as pending;
 
 use crate::number::{Figures, Part};
 use crate::vocabulary::double_symbol;
@@ -43,6 +45,17 @@ pub enum Pending {
     },
 }
 
+// Each letter, digit and `_` stands at its own place, and a point at every other place.
+static NAME_BYTES: [u8; 256] = *b"\
+    ................................\
+    ................0123456789......\
+    .ABCDEFGHIJKLMNOPQRSTUVWXYZ...._\
+    .abcdefghijklmnopqrstuvwxyz.....\
+    ................................\
+    ................................\
+    ................................\
+    ................................";
+
 // Whether a name may start with the character.
 pub fn starts_name(c: char) -> bool
     ensures { result ≡ starts_name c }
@@ -60,12 +73,41 @@ pub fn begins_name(bytes: &[u8]) -> bool
     }
 }
 
+// Whether the byte is a character that goes on with a name.
+#[inline(always)]
+fn keeps_name(byte: u8) -> bool
+    ensures { result ≡ keeps (pending.Identifier 0) byte }
+{
+    NAME_BYTES[byte as usize] != b'.'
+}
+
+// Whether the character is white space.
+pub fn is_space(c: char) -> bool
+    ensures { result ≡ is_space c }
+{
+    c == ' ' || c == '\t' || c == '\r' || c == '\n'
+}
+
+// Whether the byte is white space, but no line feed.
+pub fn is_blank(byte: u8) -> bool
+    ensures { result ≡ keeps pending.Free byte }
+{
+    byte == b' ' || byte == b'\t' || byte == b'\r'
+}
+
+// Whether the byte is an ASCII character that goes on with a comment.
+fn keeps_comment(byte: u8) -> bool
+    ensures { result ≡ keeps pending.Comment byte }
+{
+    byte.is_ascii() && byte != b'\n'
+}
+
 // Whether the first byte is an ASCII character that goes on with no name.
 pub fn ends_name(bytes: &[u8]) -> bool
     ensures { result ≡ ends_name bytes.now }
 {
     match bytes.first() {
-        Some(byte) => byte.is_ascii() && !Pending::Identifier { start: 0 }.keeps(*byte),
+        Some(byte) => byte.is_ascii() && !keeps_name(*byte),
         None => false,
     }
 }
@@ -80,17 +122,65 @@ pub fn ends_number(bytes: &[u8]) -> bool
     }
 }
 
-// How many bytes at the front are a name, where its end is seen.
+// How many bytes at the front are a name that the first of them begins, where its end is seen.
+#[inline(always)]
 pub fn name_len(bytes: &[u8]) -> usize
+    requires { begins_name bytes.now ≡ true }
     ensures within { result ≤ length bytes.now }
     ensures name { 0 < result → IsNameRun (take result bytes.now) }
     ensures ends { 0 < result → ends_name (drop result bytes.now) ≡ true }
 {
-    if !begins_name(bytes) {
-        return 0;
+    let mut len = 1;
+    while len < bytes.len() {
+        if !keeps_name(bytes[len]) {
+            return if bytes[len].is_ascii() { len } else { 0 };
+        }
+        len += 1;
     }
-    let len = Pending::Identifier { start: 0 }.kept_len(bytes);
-    if ends_name(&bytes[len..]) { len } else { 0 }
+    0
+}
+
+// How many bytes at the front are characters of a comment.
+pub fn comment_len(bytes: &[u8]) -> usize
+    ensures within { result ≤ length bytes.now }
+    ensures kept { AllKept pending.Comment (take result bytes.now) }
+{
+    let mut len = 0;
+    while len < bytes.len() && keeps_comment(bytes[len]) {
+        len += 1;
+    }
+    len
+}
+
+// A number that has begun, with a character that belongs to it.
+pub fn number_with(
+    start: u32,
+    end: u32,
+    part: Part,
+    figures: Figures,
+    c: char,
+    next: u32,
+) -> Pending
+    requires { FiguresFit figures }
+    ensures goes { result ≡ number_taken start end part figures c next }
+    ensures fits { PendingFits result }
+{
+    if c.is_ascii_digit() {
+        let figures = figures.with(part, c as u32 - '0' as u32);
+        return Pending::Number {
+            start,
+            end: next,
+            part: part.after_digit(),
+            figures,
+        };
+    }
+    let part = if c == '.' { Part::Point } else { Part::Over };
+    Pending::Number {
+        start,
+        end,
+        part,
+        figures,
+    }
 }
 
 impl Pending {
@@ -108,30 +198,6 @@ impl Pending {
             Pending::Symbol { first, .. } => double_symbol(first, c).is_some()
                 || (first == '/' && c == '/'),
         }
-    }
-
-    // Whether the byte is a character that goes on with what has begun, and changes nothing of it but its letters.
-    fn keeps(self, byte: u8) -> bool
-        ensures { result ≡ keeps self byte }
-    {
-        match self {
-            Pending::Free => byte == b' ' || byte == b'\t' || byte == b'\r',
-            Pending::Comment => byte.is_ascii() && byte != b'\n',
-            Pending::Identifier { .. } => byte.is_ascii_alphanumeric() || byte == b'_',
-            _ => false,
-        }
-    }
-
-    // How many bytes at the front keep what has begun.
-    pub fn kept_len(self, bytes: &[u8]) -> usize
-        ensures within { result ≤ length bytes.now }
-        ensures kept { AllKept self (take result bytes.now) }
-    {
-        let mut len = 0;
-        while len < bytes.len() && self.keeps(bytes[len]) {
-            len += 1;
-        }
-        len
     }
 
     // Whether what has begun is a number that has its last digit.

@@ -1,18 +1,22 @@
 //! The machine that reads a text character by character.
-ghost use Rattle.std.specs.Prelude.{◌≡◌, ◌+◌, ◌<◌, ◌≤◌, ◌^◌, ◌==◌, ◌&&◌, ◌⊎◌, [], length, slice_index, max, OnOk, OnErr, IfOk};
+ghost use Rattle.std.specs.Prelude.{◌≡◌, true, ◌+◌, ◌<◌, ◌≤◌, ◌^◌, ◌==◌, ◌&&◌, ◌⊎◌, [], length, slice_index, take, max, OnOk, OnErr, IfOk};
 ghost use Rattle.std.specs.Char.{len_utf8};
 ghost use Rattle.std.specs.Option.{option_copied};
 ghost use Rattle.std.specs.String.{string_bytes};
-ghost use Rattle.um_syntax.specs.Gap.{is_space};
 ghost use Rattle.um_syntax.specs.Lexing.{is_glued, is_power_place, is_caret, is_minus};
-ghost use Rattle.um_syntax.specs.Machine.{scan_start, free_at, step, ended, taken, close, begun, pushed, identifier_pushed, variable_pushed, letters_kind, number_taken, FiguresFit, PendingFits};
+ghost use Rattle.um_syntax.specs.Machine.{scan_start, free_at, step, ended, taken, close, begun, pushed, identifier_pushed, variable_pushed, begins_name, letters_kind, FiguresFit, PendingFits};
 ghost use Rattle.um_syntax.specs.declared.pending.Pending.TheVariants as pending;
 ghost use Rattle.um_syntax.specs.Scanning.{scan_of, Scans, Follows, Answers};
 
 use crate::number::{Figures, NumberText, Part};
-use crate::pending::{Pending, ends_number, name_len, starts_name};
+use crate::pending::{
+    Pending, begins_name, comment_len, ends_number, is_blank, is_space, name_len, number_with,
+    starts_name,
+};
 use crate::token::{Kind, Letters, LexStop, Token, Tokens};
-use crate::vocabulary::{Symbol, double_symbol, keyword_of, single_symbol};
+use crate::vocabulary::{
+    Symbol, are_slashes, double_symbol, front_symbol, keyword_of, single_symbol,
+};
 use std::alloc::{AllocError, Global};
 use unicode_ident::is_xid_continue;
 
@@ -90,6 +94,15 @@ impl Scanner {
         }
     }
 
+    /// Makes room for so many more tokens.
+    pub fn reserve(&mut self, more: usize) -> Result<(), AllocError>
+        ensures same { scan_of self.new ≡ scan_of self.old }
+        ensures pending { self.new.pending ≡ self.old.pending }
+        ensures place { self.new.at ≡ self.old.at }
+    {
+        self.tokens.reserve(more)
+    }
+
     // Puts a token behind the others, where nothing has begun.
     #[inline(always)]
     fn add(&mut self, kind: Kind, start: u32, end: u32) -> Result<(), AllocError>
@@ -97,6 +110,7 @@ impl Scanner {
         requires none { string_bytes self.old.letters ≡ [] }
         ensures goes { OnOk result (scan_of self.new ≡ pushed (scan_of self.old) kind start end) }
         ensures free { self.new.pending ≡ pending.Free }
+        ensures letters { self.new.letters ≡ self.old.letters }
         ensures place { self.new.at ≡ self.old.at }
     {
         let glued = is_glued(&self.tokens, start);
@@ -127,7 +141,8 @@ impl Scanner {
         ensures fits { PendingFits self.old.pending → PendingFits self.new.pending }
         ensures place { self.new.at ≡ self.old.at }
     {
-        let kind = letters_kind(self.alloc, &self.letters)?;
+        let letters = &self.letters;
+        let kind = letters_kind(self.alloc, letters, letters.as_bytes())?;
         self.push(kind, start, self.at)
     }
 
@@ -293,7 +308,26 @@ impl Scanner {
     }
 
     /// Takes one character.
+    #[inline(always)]
     pub fn scan(&mut self, c: char) -> Result<(), LexStop>
+        requires fits { PendingFits self.old.pending }
+        requires room { self.old.at + 4 < 2 ^ 32 }
+        ensures goes { Follows result (scan_of self.new) (step (scan_of self.old) c) }
+        ensures fits { PendingFits self.new.pending }
+        ensures place { OnOk result (self.new.at ≡ self.old.at + len_utf8 c) }
+        ensures within { self.new.at ≤ self.old.at + len_utf8 c }
+    {
+        match self.pending {
+            Pending::Free if c == '\n' => {
+                self.at += 1;
+                Ok(())
+            }
+            _ => self.scan_char(c),
+        }
+    }
+
+    // Takes one character.
+    fn scan_char(&mut self, c: char) -> Result<(), LexStop>
         requires fits { PendingFits self.old.pending }
         requires room { self.old.at + 4 < 2 ^ 32 }
         ensures goes { Follows result (scan_of self.new) (step (scan_of self.old) c) }
@@ -324,26 +358,26 @@ impl Scanner {
         ensures stays { OnErr result (self.new.at ≡ self.old.at) }
     {
         match self.pending {
-            Pending::Comment => Ok(self.skip(text)),
+            Pending::Comment => Ok(self.skip_comment(text)),
             Pending::Free => self.scan_free(text),
             _ => Ok(0),
         }
     }
 
-    // Takes characters that keep what has begun, which is a comment or nothing.
-    fn skip(&mut self, text: &str) -> usize
-        requires free { (self.old.pending ≡ pending.Free) ⊎ (self.old.pending ≡ pending.Comment) }
+    // Takes characters of a comment.
+    fn skip_comment(&mut self, text: &str) -> usize
+        requires comment { self.old.pending ≡ pending.Comment }
         requires room { self.old.at + length text.now < 2 ^ 32 }
         ensures scans { Scans (scan_of self.old) text.now result (scan_of self.new) }
         ensures pending { self.new.pending ≡ self.old.pending }
         ensures place { self.new.at ≡ self.old.at + result }
     {
-        let len = self.pending.kept_len(text.as_bytes());
+        let len = comment_len(text.as_bytes());
         self.at += len as u32;
         len
     }
 
-    // Takes what stands at the front of a text, where nothing has begun.
+    // Takes what stands at the front of a text, where nothing has begun: the slashes of a comment, or else tokens.
     fn scan_free(&mut self, text: &str) -> Result<usize, AllocError>
         requires free { self.old.pending ≡ pending.Free }
         requires room { self.old.at + length text.now < 2 ^ 32 }
@@ -356,18 +390,66 @@ impl Scanner {
             return Ok(0);
         }
         let bytes = text.as_bytes();
-        if bytes.is_empty() {
-            return Ok(0);
+        if bytes.len() > 1 && are_slashes(char::from(bytes[0]), char::from(bytes[1])) {
+            self.at += 2;
+            self.pending = Pending::Comment;
+            return Ok(2);
         }
+        let start = self.at;
+        match self.scan_tokens(text) {
+            Ok(len) => Ok(len),
+            Err(error) => {
+                self.at = start;
+                Err(error)
+            }
+        }
+    }
+
+    // Takes the tokens at the front of a text whose ends are seen, and the blanks among them.
+    fn scan_tokens(&mut self, text: &str) -> Result<usize, AllocError>
+        requires free { self.old.pending ≡ pending.Free }
+        requires none { string_bytes self.old.letters ≡ [] }
+        requires room { self.old.at + length text.now < 2 ^ 32 }
+        ensures scans { IfOk result (λ n. Scans (scan_of self.old) text.now n (scan_of self.new)) }
+        ensures free { self.new.pending ≡ pending.Free }
+        ensures place { IfOk result (λ n. self.new.at ≡ self.old.at + n) }
+    {
+        let mut len = 0;
+        while len < text.len() {
+            let more = self.scan_token(&text[len..])?;
+            if more == 0 {
+                return Ok(len);
+            }
+            len += more;
+        }
+        Ok(len)
+    }
+
+    // Takes a blank, or a token whose end is seen.
+    #[inline(always)]
+    fn scan_token(&mut self, text: &str) -> Result<usize, AllocError>
+        requires free { self.old.pending ≡ pending.Free }
+        requires none { string_bytes self.old.letters ≡ [] }
+        requires some { 0 < length text.now }
+        requires room { self.old.at + length text.now < 2 ^ 32 }
+        ensures scans { IfOk result (λ n. Scans (scan_of self.old) text.now n (scan_of self.new)) }
+        ensures free { self.new.pending ≡ pending.Free }
+        ensures letters { self.new.letters ≡ self.old.letters }
+        ensures place { IfOk result (λ n. self.new.at ≡ self.old.at + n) }
+    {
+        let bytes = text.as_bytes();
         let first = bytes[0];
-        if first == b' ' || first == b'\t' || first == b'\r' {
-            Ok(self.skip(text))
+        if is_blank(first) {
+            self.at += 1;
+            Ok(1)
+        } else if first < b' ' {
+            Ok(0)
+        } else if begins_name(bytes) {
+            self.scan_name(text)
         } else if first.is_ascii_digit() {
             self.scan_number(text)
         } else if first == b'\'' {
             self.scan_variable(text)
-        } else if first == b'_' || first.is_ascii_alphabetic() {
-            self.scan_name(text)
         } else {
             self.scan_sign(text)
         }
@@ -383,8 +465,8 @@ impl Scanner {
             ≡ pushed (free_at (self.old.at + len) (scan_of self.old).tokens) kind self.old.at (self.old.at + len)) }
         ensures len { IfOk result (λ n. n ≡ len) }
         ensures free { self.new.pending ≡ pending.Free }
+        ensures letters { self.new.letters ≡ self.old.letters }
         ensures place { OnOk result (self.new.at ≡ self.old.at + len) }
-        ensures stays { OnErr result (self.new.at ≡ self.old.at) }
     {
         let end = self.at + len as u32;
         self.add(kind, self.at, end)?;
@@ -393,21 +475,23 @@ impl Scanner {
     }
 
     // Takes a name whose end is seen.
-    #[inline(never)]
+    #[inline(always)]
     fn scan_name(&mut self, text: &str) -> Result<usize, AllocError>
         requires free { self.old.pending ≡ pending.Free }
         requires none { string_bytes self.old.letters ≡ [] }
+        requires begins { begins_name text.now ≡ true }
         requires room { self.old.at + length text.now < 2 ^ 32 }
         ensures scans { IfOk result (λ n. Scans (scan_of self.old) text.now n (scan_of self.new)) }
         ensures free { self.new.pending ≡ pending.Free }
+        ensures letters { self.new.letters ≡ self.old.letters }
         ensures place { IfOk result (λ n. self.new.at ≡ self.old.at + n) }
-        ensures stays { OnErr result (self.new.at ≡ self.old.at) }
     {
-        let len = name_len(text.as_bytes());
+        let bytes = text.as_bytes();
+        let len = name_len(bytes);
         if len == 0 {
             return Ok(0);
         }
-        let kind = letters_kind(self.alloc, &text[..len])?;
+        let kind = letters_kind(self.alloc, &text[..len], bytes)?;
         self.put(kind, len)
     }
 
@@ -421,11 +505,15 @@ impl Scanner {
         requires room { self.old.at + length text.now < 2 ^ 32 }
         ensures scans { IfOk result (λ n. Scans (scan_of self.old) text.now n (scan_of self.new)) }
         ensures free { self.new.pending ≡ pending.Free }
+        ensures letters { self.new.letters ≡ self.old.letters }
         ensures place { IfOk result (λ n. self.new.at ≡ self.old.at + n) }
-        ensures stays { OnErr result (self.new.at ≡ self.old.at) }
     {
         let name = &text[1..];
-        let len = name_len(name.as_bytes());
+        let bytes = name.as_bytes();
+        if !begins_name(bytes) {
+            return Ok(0);
+        }
+        let len = name_len(bytes);
         if len == 0 {
             return Ok(0);
         }
@@ -433,7 +521,7 @@ impl Scanner {
         if letters == "_" || keyword_of(letters).is_some() {
             return Ok(0);
         }
-        let kind = Kind::Var(Letters::from_slice(self.alloc, letters.as_bytes())?);
+        let kind = Kind::Var(Letters::from_front(self.alloc, bytes, len)?);
         self.put(kind, len + 1)
     }
 
@@ -448,8 +536,8 @@ impl Scanner {
         requires room { self.old.at + length text.now < 2 ^ 32 }
         ensures scans { IfOk result (λ n. Scans (scan_of self.old) text.now n (scan_of self.new)) }
         ensures free { self.new.pending ≡ pending.Free }
+        ensures letters { self.new.letters ≡ self.old.letters }
         ensures place { IfOk result (λ n. self.new.at ≡ self.old.at + n) }
-        ensures stays { OnErr result (self.new.at ≡ self.old.at) }
     {
         let bytes = text.as_bytes();
         let number = NumberText::at_front(bytes);
@@ -465,33 +553,23 @@ impl Scanner {
         }
     }
 
-    // Takes a symbol whose end is seen, or the slashes of a comment.
-    #[inline(never)]
+    // Takes a symbol whose end is seen.
+    #[inline(always)]
     fn scan_sign(&mut self, text: &str) -> Result<usize, AllocError>
         requires free { self.old.pending ≡ pending.Free }
         requires none { string_bytes self.old.letters ≡ [] }
         requires room { self.old.at + length text.now < 2 ^ 32 }
         ensures scans { IfOk result (λ n. Scans (scan_of self.old) text.now n (scan_of self.new)) }
-        ensures fits { PendingFits self.new.pending }
+        ensures free { self.new.pending ≡ pending.Free }
+        ensures letters { self.new.letters ≡ self.old.letters }
         ensures place { IfOk result (λ n. self.new.at ≡ self.old.at + n) }
-        ensures stays { OnErr result (self.new.at ≡ self.old.at) }
     {
         let bytes = text.as_bytes();
         if bytes.len() < 2 || !bytes[1].is_ascii() {
             return Ok(0);
         }
-        let first = char::from(bytes[0]);
-        let second = char::from(bytes[1]);
-        if let Some(symbol) = double_symbol(first, second) {
-            return self.put(Kind::Sign(symbol), 2);
-        }
-        if are_slashes(first, second) {
-            self.at += 2;
-            self.pending = Pending::Comment;
-            return Ok(2);
-        }
-        match single_symbol(first) {
-            Some(symbol) => self.put(Kind::Sign(symbol), 1),
+        match front_symbol(char::from(bytes[0]), char::from(bytes[1])) {
+            Some((symbol, len)) => self.put(Kind::Sign(symbol), len),
             None => Ok(0),
         }
     }
@@ -506,52 +584,15 @@ impl Scanner {
     }
 }
 
-// Whether the two characters begin a comment.
-fn are_slashes(a: char, b: char) -> bool
-    ensures { result ≡ (a == 47 && b == 47) }
-{
-    a == '/' && b == '/'
-}
-
-// Whether the character is white space.
-fn is_space(c: char) -> bool
-    ensures { result ≡ is_space c }
-{
-    c == ' ' || c == '\t' || c == '\r' || c == '\n'
-}
-
-// A number that has begun, with a character that belongs to it.
-fn number_with(start: u32, end: u32, part: Part, figures: Figures, c: char, next: u32) -> Pending
-    requires { FiguresFit figures }
-    ensures goes { result ≡ number_taken start end part figures c next }
-    ensures fits { PendingFits result }
-{
-    if c.is_ascii_digit() {
-        let figures = figures.with(part, c as u32 - '0' as u32);
-        return Pending::Number {
-            start,
-            end: next,
-            part: part.after_digit(),
-            figures,
-        };
-    }
-    let part = if c == '.' { Part::Point } else { Part::Over };
-    Pending::Number {
-        start,
-        end,
-        part,
-        figures,
-    }
-}
-
-// The kind of an identifier.
+// The kind of an identifier whose letters stand at the front of the bytes.
 #[inline(always)]
-fn letters_kind(alloc: Global, letters: &str) -> Result<Kind, AllocError>
+fn letters_kind(alloc: Global, letters: &str, bytes: &[u8]) -> Result<Kind, AllocError>
+    requires { letters.now ≡ take (length letters.now) bytes.now }
     ensures { IfOk result (λ k. k ≡ letters_kind letters.now) }
 {
     match keyword_of(letters) {
         Some(keyword) => Ok(Kind::Word(keyword)),
         None if letters == "_" => Ok(Kind::Hole),
-        None => Ok(Kind::Name(Letters::from_slice(alloc, letters.as_bytes())?)),
+        None => Ok(Kind::Name(Letters::from_front(alloc, bytes, letters.len())?)),
     }
 }

@@ -1,5 +1,5 @@
 //! Tokens, and why a text has none.
-ghost use Rattle.std.specs.Prelude.{◌≡◌, ℕ, List, [], IfOk};
+ghost use Rattle.std.specs.Prelude.{◌≡◌, ◌≤◌, ℕ, List, [], length, take, IfOk};
 ghost use Rattle.um_syntax.specs.declared.token.LexStop.TheVariants.{NoMemory};
 
 use crate::vocabulary::{Keyword, Symbol};
@@ -31,6 +31,16 @@ impl Letters {
         ensures { IfOk result (λ l. l ≡ bytes.now) }
     {
         let bytes = InlineBytes::from_slice(alloc, bytes)?;
+        Ok(Letters { bytes })
+    }
+
+    /// The first `len` letters that the slice holds, copied. Takes no memory where `len` is at most 16.
+    #[inline(always)]
+    pub fn from_front(alloc: Global, bytes: &[u8], len: usize) -> Result<Letters, AllocError>
+        requires { len ≤ length bytes.now }
+        ensures { IfOk result (λ l. l ≡ take len bytes.now) }
+    {
+        let bytes = InlineBytes::from_slice(alloc, &bytes[..len])?;
         Ok(Letters { bytes })
     }
 

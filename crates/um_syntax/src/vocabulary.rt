@@ -1,9 +1,9 @@
 //! The reserved words and the symbols of the language, with the table of their texts.
-ghost use Rattle.std.specs.Prelude.{◌≡◌};
-ghost use Rattle.um_syntax.specs.Machine.{keyword_of, keywords, found_keyword, of_len, single_symbol, double_symbol};
+ghost use Rattle.std.specs.Prelude.{◌≡◌, ◌==◌, ◌&&◌};
+ghost use Rattle.um_syntax.specs.Machine.{keyword_of, keywords, found_keyword, of_len, single_symbol, double_symbol, front_symbol};
 
 /// A reserved word.
-#[derive(Clone, Copy)]
+#[derive(Clone, Copy, Debug)]
 pub enum Keyword {
     Let,
     Rec,
@@ -25,7 +25,7 @@ pub enum Keyword {
 }
 
 /// A symbol. The docstring of each is its text.
-#[derive(Clone, Copy)]
+#[derive(Clone, Copy, Debug)]
 pub enum Symbol {
     /// `(`
     LeftParen,
@@ -82,6 +82,7 @@ pub enum Symbol {
 }
 
 // The reserved word with these letters. Few have as many as they are.
+#[inline(always)]
 pub fn keyword_of(letters: &str) -> Option<Keyword>
     ensures { result ≡ keyword_of letters.now }
 {
@@ -159,6 +160,7 @@ fn of_seven(letters: &str) -> Option<Keyword>
 }
 
 // The symbol of one character.
+#[inline(always)]
 pub fn single_symbol(c: char) -> Option<Symbol>
     ensures { result ≡ single_symbol c }
 {
@@ -200,4 +202,48 @@ pub fn double_symbol(a: char, b: char) -> Option<Symbol>
         ('-', '>') => Some(Symbol::Arrow),
         _ => None,
     }
+}
+
+// The symbol that two characters begin with, and how many characters it has. None are where a comment begins.
+#[inline(always)]
+pub fn front_symbol(first: char, second: char) -> Option<(Symbol, usize)>
+    ensures { result ≡ front_symbol first second }
+{
+    match (first, second) {
+        ('(', _) => Some((Symbol::LeftParen, 1)),
+        (')', _) => Some((Symbol::RightParen, 1)),
+        ('[', '<') => Some((Symbol::AttributeOpen, 2)),
+        ('[', _) => Some((Symbol::LeftBracket, 1)),
+        (']', _) => Some((Symbol::RightBracket, 1)),
+        ('{', _) => Some((Symbol::LeftBrace, 1)),
+        ('}', _) => Some((Symbol::RightBrace, 1)),
+        ('<', '=') => Some((Symbol::LessEqual, 2)),
+        ('<', '>') => Some((Symbol::NotEqual, 2)),
+        ('<', _) => Some((Symbol::Less, 1)),
+        ('>', _) => Some((Symbol::Greater, 1)),
+        ('=', _) => Some((Symbol::Equal, 1)),
+        ('+', _) => Some((Symbol::Plus, 1)),
+        ('-', '>') => Some((Symbol::Arrow, 2)),
+        ('-', _) => Some((Symbol::Minus, 1)),
+        ('*', _) => Some((Symbol::Star, 1)),
+        ('/', '/') => None,
+        ('/', _) => Some((Symbol::Slash, 1)),
+        ('^', _) => Some((Symbol::Caret, 1)),
+        (';', _) => Some((Symbol::Semicolon, 1)),
+        (':', ':') => Some((Symbol::ColonColon, 2)),
+        (':', _) => Some((Symbol::Colon, 1)),
+        (',', _) => Some((Symbol::Comma, 1)),
+        ('.', _) => Some((Symbol::Dot, 1)),
+        ('|', '|') => Some((Symbol::BarBar, 2)),
+        ('|', _) => Some((Symbol::Bar, 1)),
+        ('&', '&') => Some((Symbol::AndAnd, 2)),
+        _ => None,
+    }
+}
+
+// Whether the two characters begin a comment.
+pub fn are_slashes(a: char, b: char) -> bool
+    ensures { result ≡ (a == 47 && b == 47) }
+{
+    a == '/' && b == '/'
 }

@@ -1,8 +1,8 @@
-use Rattle.std.proofs.Common.{◌++◌, [], take, drop, length, refl, sym, ap, subst, ◌∙◌, arith}
-use Rattle.std.proofs.lemmas.List.{append-nil, length-take-le}
-use Rattle.std.proofs.lemmas.Str.{chars-nil, scalars-chars, IsUtf8-take, IsCharBoundary-start}
-use Rattle.std.specs.Str.{chars, IsCharBoundary}
-use Rattle.um_syntax.specs.Feeding.{HasRead, HasScanned}
+use Rattle.std.proofs.Common.{take, drop, sym, subst, ◌∙◌, arith}
+use Rattle.std.proofs.lemmas.List.{length-take-le}
+use Rattle.std.proofs.lemmas.Str.{scalars-chars, IsUtf8-take, IsCharBoundary-start}
+use Rattle.std.specs.Str.{chars}
+use Rattle.um_syntax.specs.Feeding.{HasScanned}
 use Rattle.um_syntax.specs.Scanning.{scan_of}
 use Rattle.um_syntax.proofs.Places.{size_of-append, size_of-chars}
 use Rattle.um_syntax.proofs.Feeds.{none_read}

@@ -11,6 +11,9 @@ use Rattle.um_syntax.proofs.scanner.Scanner.scan_variable.Goals as goal
 pub range_from-name-requires : goal.range_from-name-requires
 range_from-name-requires c = λ some. quote_boundary c.args.text.now c.utf8.text c.requires.some c.requires.quote
 
+pub returns-then-not-begins_name-clause-scans : goal.returns-then-not-begins_name-clause-scans
+returns-then-not-begins_name-clause-scans c = scans_none (scan_of c.args.self.now) c.args.text.now c.utf8.text
+
 pub returns-then-len-eq0-clause-scans : goal.returns-then-len-eq0-clause-scans
 returns-then-len-eq0-clause-scans c = scans_none (scan_of c.args.self.now) c.args.text.now c.utf8.text
 
@@ -24,7 +27,7 @@ returns-clause-scans c =
     let name = drop 1 text in
     let n = c.name_len-len.result in
     let some : 0 < n = omega arith in
-    let bytes = c.as_bytes.ensures.value ∙ c.range_from-name.ensures.value in
+    let bytes = c.as_bytes-bytes.ensures.value ∙ c.range_from-name.ensures.value in
     let within = subst (λ l. n ≤ length l) bytes c.name_len-len.ensures.within in
     let run = subst (λ l. IsNameRun (take n l)) bytes (c.name_len-len.ensures.name some) in
     let ends = subst (λ l. ends_name (drop n l) ≡ true) bytes (c.name_len-len.ensures.ends some) in
@@ -32,8 +35,8 @@ returns-clause-scans c =
     let letters = cut ∙ ap (take n) c.range_from-name.ensures.value in
     let letter = subst (λ l. bytes_eq l (95 ∷ []) ≡ false) letters (sym c.eq.ensures ∙ c.if-eq.false) in
     let word = subst (λ l. keyword_of l ≡ None) letters (sym c.keyword_of.ensures ∙ none_of c.keyword_of.result (sym c.is_some.ensures ∙ c.if-is_some.false)) in
-    let var = ap (λ l. kind.Var l) (c.in_ok-from_slice.ensures ∙ c.as_bytes-2.ensures.value ∙ letters) in
+    let var = ap (λ l. kind.Var l) (c.in_ok-from_front.ensures ∙ ap (take n) bytes) in
     let after = λ (k : Kind). pushed (free_at (s.at + (n + 1)) s.tokens.items) k s.at (s.at + (n + 1)) in
     let scans = scans_variable s.at s.tokens.items text n c.utf8.text c.requires.some c.requires.quote within run (behind_name (drop n name) ends) letter word in
-    put_scans c.put.result s.at s.tokens.items (string_bytes s.letters) s.pending (scan_of c.put.new.self) (after (kind.Var c.in_ok-from_slice.field-0)) text (n + 1) c.requires.free c.requires.none c.put.ensures.goes c.put.ensures.len
+    put_scans c.put.result s.at s.tokens.items (string_bytes s.letters) s.pending (scan_of c.put.new.self) (after (kind.Var c.in_ok-from_front.field-0)) text (n + 1) c.requires.free c.requires.none c.put.ensures.goes c.put.ensures.len
     (subst (λ k. Scans (free_at s.at s.tokens.items) text (n + 1) (after k)) (sym var) scans)
