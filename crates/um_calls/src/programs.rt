@@ -19,8 +19,8 @@ use um_parse::{parse, parse_types, parse_unit};
 use um_rows::{Row, call_rows, rows};
 use um_shape::{Shaped, shape};
 use um_show::{program_text, scheme_text, type_text, unit_text};
-use um_syntax::lex;
-use um_tree::{Input, Inputs, Program, RawProgram, Schemes, Shape, UnitNote};
+use um_syntax::{Token, lex};
+use um_tree::{Input, Inputs, Program, RawProgram, Schemes, Shape, Ty, Types, UnitNote};
 use um_units::{Atom, NoMemory, Unit};
 
 const TEXT: &str = "\
@@ -66,8 +66,26 @@ fn shaped_program(alloc: Global, text: &str) -> Option<Shaped> {
     }
 }
 
-// A unit text and a signature text with the names of the program.
-fn names_are_read(
+// The unit of four tokens with the names of the program.
+fn unit_of(
+    rt: &(impl Abort + AllocGlobal),
+    program: &Program,
+    shorts: &Abbreviations,
+    tokens: &[Token],
+) -> Result<UnitNote, Fail>
+    requires formed { IsFormed (program_tree program.now) }
+{
+    let alloc = rt.alloc();
+    assert_eq!(rt; tokens.len(), 4);
+    let (raw, stop) = parse_unit(alloc, tokens, 0, 5)?;
+    assert_eq!(rt; stop, 4);
+    let note = closed_unit(alloc, program, shorts, &raw);
+    drop(raw);
+    Ok(note?)
+}
+
+// A unit text with the names of the program.
+fn unit_is_read(
     rt: &(impl Abort + AllocGlobal),
     program: &Program,
     shorts: &Abbreviations,
@@ -76,24 +94,65 @@ fn names_are_read(
 {
     let alloc = rt.alloc();
     let tokens = lex(alloc, "v^2 s")?;
-    assert_eq!(rt; tokens.as_slice().len(), 4);
-    let (raw, stop) = parse_unit(alloc, tokens.as_slice(), 0, 5)?;
-    assert_eq!(rt; stop, 4);
-    let UnitNote::Written(unit) = closed_unit(alloc, program, shorts, &raw)? else {
+    let note = unit_of(rt, program, shorts, tokens.as_slice());
+    drop(tokens);
+    let UnitNote::Written(unit) = note? else {
         assert!(rt; false);
         return Ok(());
     };
-    assert_text!(rt; unit_text(alloc, &unit, &program.bases), "m^2/s");
-
-    let tokens = lex(alloc, "P<'a> -> num<'a/v>")?;
-    let raw = parse_types(alloc, tokens.as_slice(), 18)?;
-    let (types, variables) = types_of(alloc, program, shorts, &raw)?;
-    assert_eq!(rt; variables, 1);
-    let types = types.items.as_slice();
-    assert_eq!(rt; types.len(), 2);
-    assert_text!(rt; type_text(alloc, &types[0], program), "P<'a>");
-    assert_text!(rt; type_text(alloc, &types[1], program), "num<s 'a/m>");
+    let text = unit_text(alloc, &unit, &program.bases);
+    drop(unit);
+    assert_text!(rt; text, "m^2/s");
     Ok(())
+}
+
+// The types of a signature text of one variable with the names of the program.
+fn types_with_variable(
+    rt: &(impl Abort + AllocGlobal),
+    program: &Program,
+    shorts: &Abbreviations,
+    tokens: &[Token],
+) -> Result<Types, Fail>
+    requires formed { IsFormed (program_tree program.now) }
+{
+    let alloc = rt.alloc();
+    let raw = parse_types(alloc, tokens, 18)?;
+    let found = types_of(alloc, program, shorts, &raw);
+    drop(raw);
+    let (types, variables) = found?;
+    assert_eq!(rt; variables, 1);
+    Ok(types)
+}
+
+// That the types are these, where there are two.
+fn have_texts(
+    rt: &(impl Abort + AllocGlobal),
+    program: &Program,
+    types: &[Ty],
+    want: [&str; 2],
+) -> Result<(), Fail> {
+    let alloc = rt.alloc();
+    assert_eq!(rt; types.len(), 2);
+    assert_text!(rt; type_text(alloc, &types[0], program), want[0]);
+    assert_text!(rt; type_text(alloc, &types[1], program), want[1]);
+    Ok(())
+}
+
+// A signature text with the names of the program.
+fn types_are_read(
+    rt: &(impl Abort + AllocGlobal),
+    program: &Program,
+    shorts: &Abbreviations,
+) -> Result<(), Fail>
+    requires formed { IsFormed (program_tree program.now) }
+{
+    let tokens = lex(rt.alloc(), "P<'a> -> num<'a/v>")?;
+    let found = types_with_variable(rt, program, shorts, tokens.as_slice());
+    drop(tokens);
+    let types = found?;
+    let known = have_texts(rt, program, &types.items, ["P<'a>", "num<s 'a/m>"]);
+    drop(types);
+    known
 }
 
 // The abbreviation of the program, and texts with its names.
@@ -111,7 +170,8 @@ fn program_has_names(
     assert_eq!(rt; found.len(), 1);
     assert_eq!(rt; found[0].name.as_slice(), b"v".as_slice());
     assert_text!(rt; unit_text(alloc, &found[0].unit, &program.bases), "m/s");
-    names_are_read(rt, program, &shorts)
+    unit_is_read(rt, program, &shorts)?;
+    types_are_read(rt, program, &shorts)
 }
 
 // The layout of the raw program, and its names.
