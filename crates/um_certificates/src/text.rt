@@ -1,17 +1,18 @@
 //! The texts of certificates.
 
-ghost use Rattle.std.specs.Prelude.{◌≡◌, ◌++◌, IfOk, OnOk};
+ghost use Rattle.std.specs.Prelude.{◌≡◌, ◌++◌, IfOk, OnOk, codes, length};
 ghost use Rattle.um_tree.specs.ProgramTree.{program_tree};
 ghost use Rattle.um_certificates.specs.CertificateText.{certificates_text as text_of_certificates, function_name as name_of_function};
 ghost use Rattle.um_certificates.specs.CertificateText.{heading, kind_text as text_of_kind, no_text as text_of_no};
-ghost use Rattle.um_certificates.specs.CertificateText.{numbered, refusal_text, yes_text as text_of_yes};
+ghost use Rattle.um_certificates.specs.CertificateText.{numbered, refusal_text, unit_line, yes_text as text_of_yes};
+ghost use Rattle.um_certificates.specs.CertificateText.{with_parameters as names_with_parameters};
 
 use crate::lines::{push_integer, push_number, push_parts, push_rows, push_units};
 use crate::names::with_parameters;
 use std::alloc::{AllocError, Global};
 use um_check::{No, Yes};
 use um_tree::{Name, Names, Program};
-use um_units::NoMemory;
+use um_units::{NoMemory, Unit};
 
 /// The text of the certificates of a program's first functions, and of the refusal of the next where there is one.
 ///
@@ -97,12 +98,28 @@ fn push_yes(
 ) -> Result<(), AllocError>
     ensures { OnOk result (text.new.items ≡ text.old.items ++ text_of_yes bases.now name.now cert.now) }
 {
-    let rigid = cert.rigid.as_slice();
-    let names = with_parameters(alloc, bases, rigid.len())?;
     push_heading(text, name, b" yes ", cert.vars as usize, cert.divisor)?;
     push_units(alloc, text, b"  slot ", bases, cert.solution.as_slice())?;
     push_units(alloc, text, b"  back ", bases, cert.back.as_slice())?;
     push_rows(text, cert.parts.as_slice())?;
+    push_rigid(alloc, text, bases, cert.rigid.as_slice())?;
+    Ok(())
+}
+
+/// Adds a line for each unit that is put for a unit parameter. Most functions have none, and need no names of these.
+fn push_rigid(
+    alloc: Global,
+    text: &mut Vec<u8>,
+    bases: &Names,
+    rigid: &[Unit],
+) -> Result<(), AllocError>
+    ensures { OnOk result (text.new.items ≡ text.old.items
+        ++ numbered (unit_line (codes "  rigid ") (names_with_parameters bases.now (length rigid.now))) 0 rigid.now) }
+{
+    if rigid.is_empty() {
+        return Ok(());
+    }
+    let names = with_parameters(alloc, bases, rigid.len())?;
     push_units(alloc, text, b"  rigid ", &names, rigid)?;
     Ok(())
 }

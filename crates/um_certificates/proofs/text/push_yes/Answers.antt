@@ -8,7 +8,6 @@ pub returns : goal.returns
 returns c =
     let bases = c.args.bases.now in
     let cert = c.args.cert.now in
-    let rigid = c.as_slice-rigid.result.now in
     more_added _ _ _ _ _
     (more_added _ _ _ _ _
     (more_added _ _ _ _ _
@@ -17,5 +16,4 @@ returns c =
     (c.in_ok-push_units.ensures ∙ ap (λ us. c.push_heading.new.text.items ++ numbered (unit_line (codes "  slot ") bases) 0 us) c.as_slice.ensures.items))
     (c.in_ok-push_units-2.ensures ∙ ap (λ us. c.push_units.new.text.items ++ numbered (unit_line (codes "  back ") bases) 0 us) c.as_slice-2.ensures.items))
     (c.in_ok-push_rows.ensures ∙ ap (λ ps. c.push_units-2.new.text.items ++ numbered rows_line 0 ps) c.as_slice-3.ensures.items))
-    (c.in_ok-push_units-3.ensures ∙ ap (λ ns. c.push_rows.new.text.items ++ numbered (unit_line (codes "  rigid ") ns) 0 rigid) c.in_ok-names.ensures
-    ∙ ap (λ us. c.push_rows.new.text.items ++ numbered (unit_line (codes "  rigid ") (with_parameters bases (length us))) 0 us) c.as_slice-rigid.ensures.items)
+    (c.in_ok-push_rigid.ensures ∙ ap (λ us. c.push_rows.new.text.items ++ numbered (unit_line (codes "  rigid ") (with_parameters bases (length us))) 0 us) c.as_slice-4.ensures.items)
