@@ -72,8 +72,32 @@ fn narrow_unit(alloc: Global, wide: &WideUnit) -> Result<Unit, AllocError>
     }
 }
 
-/// The unit to the power 1 or -1 times the other's k-th power.
+/// The unit to the power 1 or -1 times the other's k-th power. Units are multiplied as units, and again as wide ones
+/// where a power passes a unit's range, which tells the power.
 pub fn times(alloc: Global, unit: &Unit, sign: i64, other: &Unit, k: i32) -> Result<Unit, CertStop>
+    requires { nat_abs sign ≡ 1 }
+    ensures { MatchResult result (λ made. made ≡ mul (pow unit.now sign) (pow other.now k))
+        (CarriesPower 2147483647 (mul (pow unit.now sign) (pow other.now k))) }
+{
+    match unit_times(alloc, unit, sign, other, k) {
+        Ok(made) => Ok(made),
+        Err(UnitStop::NoMemory) => Err(CertStop::NoMemory),
+        Err(UnitStop::Range) => wide_times(alloc, unit, sign, other, k),
+    }
+}
+
+fn unit_times(alloc: Global, unit: &Unit, sign: i64, other: &Unit, k: i32) -> Result<Unit, UnitStop>
+    requires { nat_abs sign ≡ 1 }
+    ensures { IfOk result (λ made. made ≡ mul (pow unit.now sign) (pow other.now k)) }
+{
+    if sign == 1 {
+        return unit.mul_pow(alloc, other, k);
+    }
+    let inverse = unit.inv(alloc)?;
+    inverse.mul_pow(alloc, other, k)
+}
+
+fn wide_times(alloc: Global, unit: &Unit, sign: i64, other: &Unit, k: i32) -> Result<Unit, CertStop>
     requires { nat_abs sign ≡ 1 }
     ensures { MatchResult result (λ made. made ≡ mul (pow unit.now sign) (pow other.now k))
         (CarriesPower 2147483647 (mul (pow unit.now sign) (pow other.now k))) }

@@ -21,7 +21,7 @@ use crate::kept::{Head, Making, divide_back, end_variable, multiply_all};
 use crate::past::{narrowed, times, unit_of};
 use std::alloc::Global;
 use um_elim::{Turn, next_turn};
-use um_units::{Atom, NoMemory, Term, Unit};
+use um_units::{Atom, NoMemory, Term, Unit, UnitStop};
 use um_wide::WideUnit;
 
 /// That a row has no solution together with those before it: a product of rows by their numbers, and what divides its
@@ -32,8 +32,19 @@ pub struct Refused {
     pub modulus: i64,
 }
 
-/// The row with the solution put for its slots.
+/// The row with the solution put for its slots, by wide units where a power passes a unit's range.
 fn put_in_row(alloc: Global, row: &Unit, solution: &[Unit]) -> Result<Unit, CertStop>
+    ensures { MatchResult result (λ unit. unit ≡ replace (nth solution.now) row.now)
+        (CarriesPower 2147483647 (replace (nth solution.now) row.now)) }
+{
+    match row.replace(alloc, solution) {
+        Ok(unit) => Ok(unit),
+        Err(UnitStop::NoMemory) => Err(CertStop::NoMemory),
+        Err(UnitStop::Range) => put_in_wide_row(alloc, row, solution),
+    }
+}
+
+fn put_in_wide_row(alloc: Global, row: &Unit, solution: &[Unit]) -> Result<Unit, CertStop>
     ensures { MatchResult result (λ unit. unit ≡ replace (nth solution.now) row.now)
         (CarriesPower 2147483647 (replace (nth solution.now) row.now)) }
 {
