@@ -55,11 +55,18 @@ function_name p i = name_of (slice_get p.functions i)
 abbrev pub heading : List ℕ → List ℕ → ℕ → ℤ → List ℕ
 heading name kind n k = name ++ kind ++ decimal n ++ codes " " ++ signed_decimal k ++ codes "\n"
 
-abbrev pub yes_text : List (List ℕ) → List ℕ → Yes → List ℕ
-yes_text bases name c =
+-- the lines that name no unit parameter
+abbrev pub open_text : List (List ℕ) → List ℕ → Yes → List ℕ
+open_text bases name c =
     heading name (codes " yes ") c.vars c.divisor ++ numbered (unit_line (codes "  slot ") bases) 0 c.solution
     ++ numbered (unit_line (codes "  back ") bases) 0 c.back ++ numbered rows_line 0 c.parts
-    ++ numbered (unit_line (codes "  rigid ") (with_parameters bases (length c.rigid))) 0 c.rigid
+
+-- the units that are put for unit parameters
+abbrev pub rigid_text : List (List ℕ) → List PowerMap → List ℕ
+rigid_text bases us = numbered (unit_line (codes "  rigid ") (with_parameters bases (length us))) 0 us
+
+abbrev pub yes_text : List (List ℕ) → List ℕ → Yes → List ℕ
+yes_text bases name c = open_text bases name c ++ rigid_text bases c.rigid
 
 -- not general is a function that has a typing, but none where each unit parameter is a unit of its own
 abbrev pub kind_text : Bool → List ℕ

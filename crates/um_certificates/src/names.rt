@@ -1,6 +1,6 @@
 //! Names of base units.
 
-ghost use Rattle.std.specs.Prelude.{◌≡◌, ◌++◌, map, IfOk, OnOk};
+ghost use Rattle.std.specs.Prelude.{◌≡◌, ◌++◌, map, take, IfOk, OnOk};
 ghost use Rattle.std.specs.List.{range_with_len};
 ghost use Rattle.um_certificates.specs.CertificateText.{parameter_name as name_of_parameter, with_parameters as names_with_parameters};
 
@@ -8,14 +8,31 @@ use crate::lines::push_number;
 use std::alloc::{AllocError, Global};
 use um_tree::{Name, Names};
 
-/// The names of declared base units, and of those of so many unit parameters.
-pub fn with_parameters(alloc: Global, bases: &Names, count: usize) -> Result<Names, AllocError>
-    ensures { IfOk result (λ names. names ≡ names_with_parameters bases.now count) }
+/// The names of declared base units once more, for those of unit parameters to stand behind them.
+pub fn copied(alloc: Global, bases: &Names) -> Result<Names, AllocError>
+    ensures { IfOk result (λ names. names ≡ bases.now) }
 {
     let mut items = Vec::new(alloc);
     push_copies(alloc, &mut items, bases.as_slice())?;
+    Ok(Names::from_vec(items))
+}
+
+/// The names of declared base units, and of those of so many unit parameters.
+pub fn with_parameters(alloc: Global, bases: Names, count: usize) -> Result<Names, AllocError>
+    ensures { IfOk result (λ names. names ≡ names_with_parameters bases count) }
+{
+    let mut items = bases.into_vec();
     push_parameters(alloc, &mut items, count)?;
     Ok(Names::from_vec(items))
+}
+
+/// The first of the names: those of so many declared base units.
+pub fn without_parameters(names: Names, declared: usize) -> Names
+    ensures { result ≡ take declared names }
+{
+    let mut items = names.into_vec();
+    items.truncate(declared);
+    Names::from_vec(items)
 }
 
 fn push_copies(alloc: Global, items: &mut Vec<Name>, names: &[Name]) -> Result<(), AllocError>

@@ -1,14 +1,13 @@
 //! The texts of certificates.
 
-ghost use Rattle.std.specs.Prelude.{◌≡◌, ◌++◌, IfOk, OnOk, codes, length};
+ghost use Rattle.std.specs.Prelude.{◌≡◌, ◌++◌, IfOk, OnOk};
 ghost use Rattle.um_tree.specs.ProgramTree.{program_tree};
 ghost use Rattle.um_certificates.specs.CertificateText.{certificates_text as text_of_certificates, function_name as name_of_function};
 ghost use Rattle.um_certificates.specs.CertificateText.{heading, kind_text as text_of_kind, no_text as text_of_no};
-ghost use Rattle.um_certificates.specs.CertificateText.{numbered, refusal_text, unit_line, yes_text as text_of_yes};
-ghost use Rattle.um_certificates.specs.CertificateText.{with_parameters as names_with_parameters};
+ghost use Rattle.um_certificates.specs.CertificateText.{numbered, open_text, refusal_text, rigid_text, yes_text as text_of_yes};
 
 use crate::lines::{push_integer, push_number, push_parts, push_rows, push_units};
-use crate::names::with_parameters;
+use crate::names::{copied, with_parameters, without_parameters};
 use std::alloc::{AllocError, Global};
 use um_check::{No, Yes};
 use um_tree::{Name, Names, Program};
@@ -31,7 +30,7 @@ pub fn certificates_text(
     Ok(text)
 }
 
-/// Adds the certificate of each function's scheme.
+/// Adds the certificate of each function's scheme. The names of base units are copied once for all.
 fn push_all(
     alloc: Global,
     text: &mut Vec<u8>,
@@ -41,14 +40,9 @@ fn push_all(
     ensures { OnOk result (text.new.items ≡ text.old.items ++ numbered
         (λ i. text_of_yes program.now.bases (name_of_function (program_tree program.now) i)) 0 yes.now) }
 {
+    let mut bases = copied(alloc, &program.bases)?;
     for i in 0..yes.len() {
-        push_yes(
-            alloc,
-            text,
-            function_name(program, i),
-            &program.bases,
-            &yes[i],
-        )?;
+        bases = push_yes(alloc, text, function_name(program, i), bases, &yes[i])?;
     }
     Ok(())
 }
@@ -85,43 +79,66 @@ pub fn yes_text(alloc: Global, name: &Name, bases: &Names, cert: &Yes) -> Result
     ensures { IfOk result (λ text. text.items ≡ text_of_yes bases.now name.now cert.now) }
 {
     let mut text = Vec::new(alloc);
-    push_yes(alloc, &mut text, name.as_slice(), bases, cert)?;
+    push_yes(
+        alloc,
+        &mut text,
+        name.as_slice(),
+        copied(alloc, bases)?,
+        cert,
+    )?;
     Ok(text)
 }
 
+/// Adds the certificate of a scheme, and hands the names of the base units back.
 fn push_yes(
+    alloc: Global,
+    text: &mut Vec<u8>,
+    name: &[u8],
+    bases: Names,
+    cert: &Yes,
+) -> Result<Names, AllocError>
+    ensures names { IfOk result (λ names. names ≡ bases) }
+    ensures text { OnOk result (text.new.items ≡ text.old.items ++ text_of_yes bases name.now cert.now) }
+{
+    push_open(alloc, text, name, &bases, cert)?;
+    Ok(push_rigid(alloc, text, bases, cert.rigid.as_slice())?)
+}
+
+/// Adds the lines of a certificate that name no unit parameter.
+fn push_open(
     alloc: Global,
     text: &mut Vec<u8>,
     name: &[u8],
     bases: &Names,
     cert: &Yes,
 ) -> Result<(), AllocError>
-    ensures { OnOk result (text.new.items ≡ text.old.items ++ text_of_yes bases.now name.now cert.now) }
+    ensures { OnOk result (text.new.items ≡ text.old.items ++ open_text bases.now name.now cert.now) }
 {
     push_heading(text, name, b" yes ", cert.vars as usize, cert.divisor)?;
     push_units(alloc, text, b"  slot ", bases, cert.solution.as_slice())?;
     push_units(alloc, text, b"  back ", bases, cert.back.as_slice())?;
     push_rows(text, cert.parts.as_slice())?;
-    push_rigid(alloc, text, bases, cert.rigid.as_slice())?;
     Ok(())
 }
 
-/// Adds a line for each unit that is put for a unit parameter. Most functions have none, and need no names of these.
+/// Adds a line for each unit that is put for a unit parameter, and hands the names of the base units back. Most
+/// functions have none, and need no names of these.
 fn push_rigid(
     alloc: Global,
     text: &mut Vec<u8>,
-    bases: &Names,
+    bases: Names,
     rigid: &[Unit],
-) -> Result<(), AllocError>
-    ensures { OnOk result (text.new.items ≡ text.old.items
-        ++ numbered (unit_line (codes "  rigid ") (names_with_parameters bases.now (length rigid.now))) 0 rigid.now) }
+) -> Result<Names, AllocError>
+    ensures names { IfOk result (λ names. names ≡ bases) }
+    ensures text { OnOk result (text.new.items ≡ text.old.items ++ rigid_text bases rigid.now) }
 {
     if rigid.is_empty() {
-        return Ok(());
+        return Ok(bases);
     }
+    let declared = bases.as_slice().len();
     let names = with_parameters(alloc, bases, rigid.len())?;
     push_units(alloc, text, b"  rigid ", &names, rigid)?;
-    Ok(())
+    Ok(without_parameters(names, declared))
 }
 
 /// Adds the line of a name, a kind and two numbers.
