@@ -46,6 +46,12 @@ def small(functions):
     return text + "".join("let f%d (x: num<_>) = f%d x / 3<m>\n" % (k, k - 1) for k in range(1, functions))
 
 
+def parametric(functions):
+    """Functions of one line with a unit parameter each, beside as many measures."""
+    line = "[<Measure>] type m%d\nlet f%d<[<Measure>] 'u> (x: num<'u>) = x * 2<m%d>\n"
+    return "".join(line % (k, k, k) for k in range(functions))
+
+
 def wide(functions):
     """Records of 32 fields and 4 unit parameters, each with a function of 16 parameters that makes one."""
     units = ["a", "b", "c", "d"]
@@ -180,6 +186,7 @@ WORKLOADS = [
     Workload("copies of a model", "prove", copies, (82, 330)),
     Workload("small functions", "prove", small, (500, 2000)),
     Workload("functions of 25 products", "prove", products, (475, 1900)),
+    Workload("functions with unit parameters", "prove", parametric, (500, 2000)),
     Workload("of so many functions", "big {}", lambda _: "", (500, 2000)),
     Workload("fib", "steps 10000000 fib {}", calls, (19, 24)),
     Workload("fib", "eval 10000000 fib {}", calls, (19, 24)),
