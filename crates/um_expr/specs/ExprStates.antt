@@ -2,6 +2,7 @@
 -- Source: this project's own.
 use Rattle.std.specs.Prelude.{◌≡◌, ℕ, ◌≤◌, Bool, false, List, [], ◌∷◌, Option, Some, None, option_map}
 use Rattle.um_syntax.specs.declared.vocabulary.Symbol.{Symbol}
+use Rattle.um_syntax.specs.declared.vocabulary.Symbol.TheVariants as symbol
 use Rattle.um_tree.specs.RawTree.{NoteSyntax, TypeSyntax, ExprSyntax}
 use Rattle.um_types.specs.UnitStops.{greatest_height}
 use Rattle.um_types.specs.TypeHeights.{note_height, whole_height}
@@ -19,7 +20,7 @@ use Rattle.um_operands.specs.ExprBegun.{Frame, InBracket, NilColon, State, Insid
 use Rattle.um_operands.specs.ExprOperands.{operand_expr}
 use Rattle.um_operands.specs.ExprFrames.{is_call, stack}
 use Rattle.um_operands.specs.ExprFocus.{state_of}
-use Rattle.um_expr.specs.declared.token.ExprToken.TheVariants.{Operator as operator}
+use Rattle.um_expr.specs.declared.token.ExprToken.TheVariants.{Operator as operator, Mark as mark}
 use Rattle.um_expr.specs.declared.reader.ExprReader.{ExprReader}
 use Rattle.um_expr.specs.declared.reader.Inner.{Inner}
 use Rattle.um_expr.specs.declared.reader.Inner.TheVariants as inner
@@ -71,3 +72,9 @@ PlainOperator symbol sign =
     (symbol_token symbol ≡ operator sign)
     × ((frames : List Frame) (t : ExprSyntax) (at : ℕ) (glued : Bool)
     → operator_after frames t sign at glued ≡ infix_after sign at (reduce (left_limit sign) frames t))
+
+-- a sign is `<` or `>`, which what stands right beside it can change, or stands between no operands
+abbrev pub NoPlainOperator : Symbol → Type 0
+NoPlainOperator symbol.Less = Unit {0}
+NoPlainOperator symbol.Greater = Unit {0}
+NoPlainOperator s = symbol_token s ≡ mark s

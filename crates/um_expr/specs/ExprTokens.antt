@@ -1,6 +1,5 @@
 -- What a token is to expressions and declarations: each reserved word and sign keeps its name, but `true` and `false`
--- are
--- values, and a sign that stands between two operands is an operator.
+-- are values, and a sign that stands between two operands is an operator.
 -- Source: this project's own; the words and signs are those of the F# specification, Lexical Analysis.
 use Rattle.std.specs.Prelude.{true, false}
 use Rattle.um_syntax.specs.declared.token.Kind.{Kind}

@@ -1,6 +1,6 @@
 // What a token is to expressions and declarations.
-ghost use Rattle.std.specs.Prelude.{◌≡◌, IfSome};
-ghost use Rattle.um_expr.specs.ExprStates.{PlainOperator};
+ghost use Rattle.std.specs.Prelude.{◌≡◌, IfSome, None};
+ghost use Rattle.um_expr.specs.ExprStates.{NoPlainOperator, PlainOperator};
 ghost use Rattle.um_syntax.specs.Emptied.{emptied_kind};
 ghost use Rattle.um_expr.specs.ExprTokens.{expr_token, keyword_token, symbol_token};
 
@@ -49,7 +49,8 @@ pub fn plain_word(keyword: Keyword) -> Option<Keyword>
 /// The operator that a sign is, where what stands right beside it doesn't matter: not `<` and `>`.
 #[inline(always)]
 pub fn plain_operator(symbol: Symbol) -> Option<Infix>
-    ensures { IfSome result (λ sign. PlainOperator symbol sign) }
+    ensures some { IfSome result (λ sign. PlainOperator symbol sign) }
+    ensures none { result ≡ None → NoPlainOperator symbol }
 {
     match symbol {
         Symbol::Plus => Some(Infix::Arith(Arith::Add)),
@@ -69,22 +70,14 @@ pub fn plain_operator(symbol: Symbol) -> Option<Infix>
 fn of_symbol(symbol: Symbol) -> ExprToken
     ensures { result ≡ symbol_token symbol }
 {
-    let operator = match symbol {
-        Symbol::Less => Infix::Compare(Sign::Lt),
-        Symbol::Greater => Infix::Compare(Sign::Gt),
-        Symbol::Equal => Infix::Compare(Sign::Eq),
-        Symbol::LessEqual => Infix::Compare(Sign::Le),
-        Symbol::NotEqual => Infix::Compare(Sign::Ne),
-        Symbol::Plus => Infix::Arith(Arith::Add),
-        Symbol::Minus => Infix::Arith(Arith::Sub),
-        Symbol::Star => Infix::Arith(Arith::Mul),
-        Symbol::Slash => Infix::Arith(Arith::Div),
-        Symbol::ColonColon => Infix::Cons,
-        Symbol::BarBar => Infix::Or,
-        Symbol::AndAnd => Infix::And,
-        _ => return ExprToken::Mark(symbol),
-    };
-    ExprToken::Operator(operator)
+    match symbol {
+        Symbol::Less => ExprToken::Operator(Infix::Compare(Sign::Lt)),
+        Symbol::Greater => ExprToken::Operator(Infix::Compare(Sign::Gt)),
+        _ => match plain_operator(symbol) {
+            Some(sign) => ExprToken::Operator(sign),
+            None => ExprToken::Mark(symbol),
+        },
+    }
 }
 
 impl ExprToken {

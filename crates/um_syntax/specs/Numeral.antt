@@ -1,6 +1,5 @@
 -- The texts of numbers and their values: digits in decimal notation (Knuth, Seminumerical Algorithms, 4.4), with a
--- point or
--- over other digits (this project's own).
+-- point or over other digits (this project's own).
 use Rattle.std.specs.Prelude.{◌≡◌, ℕ, ◌+◌, ◌-◌, ◌*◌, ◌^◌, Bool, true, false, cond, nat_le, List, [], ◌∷◌, ◌++◌, length, pos, Option, None}
 use Rattle.std.specs.Char.{is_ascii_digit}
 use Rattle.um_frac.specs.declared.number.Frac.{Frac}
