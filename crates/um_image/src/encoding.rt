@@ -115,12 +115,12 @@ fn put_field(out: &mut Vec<u8>, field: &FieldDecl) -> Result<(), AllocError>
     put_type(out, &field.ty)
 }
 
-fn put_record(out: &mut Vec<u8>, record: &Record) -> Result<(), AllocError>
-    requires plain { IsPlainRecord (record_tree record.now) }
-    ensures { OnOk result (out.new.items ≡ out.old.items ++ record_bytes (record_tree record.now)) }
+fn put_record(out: &mut Vec<u8>, declaration: &Record) -> Result<(), AllocError>
+    requires plain { IsPlainRecord (record_tree declaration.now) }
+    ensures { OnOk result (out.new.items ≡ out.old.items ++ record_bytes (record_tree declaration.now)) }
 {
-    let fields: &[FieldDecl] = &record.fields.items;
-    put_name(out, &record.name)?;
+    let fields: &[FieldDecl] = &declaration.fields.items;
+    put_name(out, &declaration.name)?;
     put_number(out, fields.len() as u32)?;
     put_fields(out, fields)
 }

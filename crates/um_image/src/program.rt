@@ -109,11 +109,11 @@ fn plain_fields(alloc: Global, fields: &FieldDecls) -> Result<FieldDecls, NoMemo
     }
 }
 
-fn plain_record(alloc: Global, record: &Record) -> Result<Record, NoMemory>
-    ensures { IfOk result (λ plain. record_tree plain ≡ plain_record (record_tree record.now)) }
+fn plain_record(alloc: Global, declaration: &Record) -> Result<Record, NoMemory>
+    ensures { IfOk result (λ plain. record_tree plain ≡ plain_record (record_tree declaration.now)) }
 {
-    let name = copied_name(alloc, &record.name)?;
-    let fields = plain_fields(alloc, &record.fields)?;
+    let name = copied_name(alloc, &declaration.name)?;
+    let fields = plain_fields(alloc, &declaration.fields)?;
     Ok(Record {
         name,
         at: 0,

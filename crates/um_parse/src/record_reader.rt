@@ -343,10 +343,10 @@ impl RecordReader {
 
     /// The record where all is read goes behind these declarations, if it is whole. Whether it is.
     #[inline(never)]
-    pub fn finish(record: Box<RecordReader>, decls: &mut Vec<RawDecl>) -> Result<bool, AllocError>
+    pub fn finish(reader: Box<RecordReader>, decls: &mut Vec<RawDecl>) -> Result<bool, AllocError>
         ensures { IfOk result (λ whole.
-            Ends (decl_finish (record_state record.value)) whole decls.old.items decls.new.items) }
+            Ends (decl_finish (record_state reader.value)) whole decls.old.items decls.new.items) }
     {
-        push_found(decls, Box::into_inner(record).whole())
+        push_found(decls, Box::into_inner(reader).whole())
     }
 }

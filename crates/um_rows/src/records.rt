@@ -67,17 +67,17 @@ fn parts_against(
     alloc: Global,
     at: u32,
     by: &[Unit],
-    record: &Record,
+    declaration: &Record,
     parts: &[Ty],
     rows: &mut Vec<Row>,
 ) -> Result<(), RowStop>
     requires variables { AreVariables by.now }
-    requires many { length by.now ≡ record.now.units }
-    requires closed { IsClosedRecord record.now }
-    ensures { ArePushed (types_against_steps at (map (put (unit_at by.now)) (field_types (record_tree record.now)))
+    requires many { length by.now ≡ declaration.now.units }
+    requires closed { IsClosedRecord declaration.now }
+    ensures { ArePushed (types_against_steps at (map (put (unit_at by.now)) (field_types (record_tree declaration.now)))
         (map type_tree parts.now)) rows.old.items rows.new.items result }
 {
-    fields_against(alloc, at, by, &record.fields.items, parts, rows)
+    fields_against(alloc, at, by, &declaration.fields.items, parts, rows)
 }
 
 /// A value of the record, whose units are these variables.
@@ -87,18 +87,18 @@ fn record_of(
     at: u32,
     r: u32,
     by: &[Unit],
-    record: &Record,
+    declaration: &Record,
     parts: &[Ty],
     progress: &mut Progress,
 ) -> Result<Ty, RowStop>
     requires variables { AreVariables by.now }
-    requires many { length by.now ≡ record.now.units }
-    requires closed { IsClosedRecord record.now }
+    requires many { length by.now ≡ declaration.now.units }
+    requires closed { IsClosedRecord declaration.now }
     ensures reached { IsReached (node progress.old.rows.items progress.old.holes
-        (record_rule at r by.now (Some (record_tree record.now)) (map type_tree parts.now))) progress.new result }
+        (record_rule at r by.now (Some (record_tree declaration.now)) (map type_tree parts.now))) progress.new result }
     ensures fits { IfOk result (λ ty. IsTrue (type_fits (type_tree ty))) }
 {
-    parts_against(alloc, at, by, record, parts, &mut progress.rows)?;
+    parts_against(alloc, at, by, declaration, parts, &mut progress.rows)?;
     let units = copied_units(alloc, by)?;
     Ok(Ty::Rec(r, units))
 }
@@ -167,20 +167,20 @@ pub(crate) fn record(
 fn field_of(
     alloc: Global,
     at: u32,
-    record: &Record,
+    declaration: &Record,
     k: u32,
     units: &[Unit],
     progress: &mut Progress,
 ) -> Result<Ty, RowStop>
-    requires closed { IsClosedRecord record.now }
+    requires closed { IsClosedRecord declaration.now }
     ensures reached { IsReached (node progress.old.rows.items progress.old.holes
-        (found_rule at k units.now true (Some (record_tree record.now)))) progress.new result }
+        (found_rule at k units.now true (Some (record_tree declaration.now)))) progress.new result }
     ensures fits { IfOk result (λ ty. IsTrue (type_fits (type_tree ty))) }
 {
-    if units.len() != record.units as usize {
+    if units.len() != declaration.units as usize {
         return mismatch(alloc, at, progress);
     }
-    match record.fields.items.get(k as usize) {
+    match declaration.fields.items.get(k as usize) {
         Some(field) => declared(alloc, at, units, field, progress),
         None => mismatch(alloc, at, progress),
     }

@@ -15,7 +15,7 @@ use Rattle.um_rows.proofs.records.parts_against.Goals as goal
 pub fields_against-requires-clause-below : goal.fields_against-requires-clause-below
 fields_against-requires-clause-below c =
     subst (λ fs. All (λ (f : FieldDecl). TypeHas (VariablesBelow (length c.args.by.now)) (type_tree f.ty)) fs) (sym c.deref.ensures.value)
-    (subst (λ n. All (λ (f : FieldDecl). TypeHas (VariablesBelow n) (type_tree f.ty)) c.args.record.now.fields.items.items) (sym c.requires.many) c.requires.closed.fields)
+    (subst (λ n. All (λ (f : FieldDecl). TypeHas (VariablesBelow n) (type_tree f.ty)) c.args.declaration.now.fields.items.items) (sym c.requires.many) c.requires.closed.fields)
 
 pub returns : goal.returns
 returns c =
@@ -24,4 +24,4 @@ returns c =
     let new = c.fields_against.new.rows.items in
     let parts = map type_tree c.args.parts.now in
     let fields = subst (λ fs. ArePushed (types_against_steps c.args.at (map (put (nth by)) (declared_types fs)) parts) old new c.fields_against.result) c.deref.ensures.value c.fields_against.ensures in
-    subst (λ ts. ArePushed (types_against_steps c.args.at ts parts) old new c.fields_against.result) (fields_at_units by c.args.record.now c.requires.many c.requires.closed) fields
+    subst (λ ts. ArePushed (types_against_steps c.args.at ts parts) old new c.fields_against.result) (fields_at_units by c.args.declaration.now c.requires.many c.requires.closed) fields
