@@ -9,8 +9,13 @@ in the bytes. `crossing` pushes PUSHES values and then jumps JUMPS times, each t
 there two states of PUSHES shapes meet and are joined place by place. These states are the definition's own, so time and
 memory grow by PUSHES times JUMPS, with some 2 and 12 bytes of the image for each.
 """
+import argparse
+import os
 import struct
 import sys
+
+sys.path.insert(0, os.path.join(os.path.dirname(os.path.abspath(__file__)), "..", "tools"))
+from repository import quietly
 
 PUSH_TRUE = b"\x01\x01"
 RETURN = b"\x15"
@@ -47,8 +52,17 @@ def crossing(pushes, jumps):
     return image(code + [RETURN])
 
 
+def main():
+    reader = argparse.ArgumentParser(description=__doc__, formatter_class=argparse.RawDescriptionHelpFormatter)
+    shapes = reader.add_subparsers(dest="shape", required=True)
+    shapes.add_parser("straight").add_argument("pushes", metavar="PUSHES", type=int)
+    meeting = shapes.add_parser("crossing")
+    meeting.add_argument("pushes", metavar="PUSHES", type=int)
+    meeting.add_argument("jumps", metavar="JUMPS", type=int)
+    asked = reader.parse_args()
+    made = straight(asked.pushes) if asked.shape == "straight" else crossing(asked.pushes, asked.jumps)
+    sys.stdout.buffer.write(made)
+
+
 if __name__ == "__main__":
-    shapes = {"straight": straight, "crossing": crossing}
-    if len(sys.argv) < 3 or sys.argv[1] not in shapes:
-        sys.exit(__doc__)
-    sys.stdout.buffer.write(shapes[sys.argv[1]](*map(int, sys.argv[2:])))
+    sys.exit(quietly(main))

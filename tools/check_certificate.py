@@ -10,8 +10,11 @@ function in order, with slots as the variables 'a 'b .. 'z 'a1 ..:
 
 The k-th unit parameter as a base unit of its own is $k. Ends with 0 where every certificate is right.
 """
+import argparse
 import re
 import sys
+
+from repository import quietly
 
 
 def number(variable):
@@ -134,8 +137,16 @@ def check(equations, certificates):
         print(name, "is right")
 
 
-if __name__ == "__main__":
+def main():
+    reader = argparse.ArgumentParser(description=__doc__, formatter_class=argparse.RawDescriptionHelpFormatter)
+    reader.add_argument("equations", metavar="EQUATIONS")
+    reader.add_argument("certificates", metavar="CERTIFICATES")
+    options = reader.parse_args()
     try:
-        check(*(open(path, encoding="utf-8").read() for path in sys.argv[1:3]))
-    except (ValueError, LookupError) as error:
+        check(*(open(path, encoding="utf-8").read() for path in (options.equations, options.certificates)))
+    except (ValueError, LookupError, OSError) as error:
         sys.exit("refused: %s" % error)
+
+
+if __name__ == "__main__":
+    sys.exit(quietly(main))
