@@ -1,7 +1,8 @@
 -- How certificates are printed: a line that names the function and says which kind its certificate is of, and behind
 -- it lines that begin with two spaces.
 -- Source: this project's own; units in the notation of F#.
-use Rattle.std.specs.Prelude.{ℕ, suc, ◌+◌, ℤ, Bool, if◌then◌else◌, List, [], ◌∷◌, ◌++◌, codes, length, map, Option, Some, None, slice_get}
+use Rattle.std.specs.Prelude.{ℕ, suc, ◌+◌, ℤ, Bool, if◌then◌else◌, List, [], ◌∷◌, ◌++◌, codes, length, map, Option}
+use Rattle.std.specs.Prelude.{Some, None, slice_get}
 use Rattle.std.specs.Fmt.{decimal, signed_decimal}
 use Rattle.std.specs.List.{join_by, range_with_len}
 use Rattle.um_units.specs.PowerMap.{PowerMap}

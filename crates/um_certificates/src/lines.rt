@@ -2,7 +2,8 @@
 
 ghost use Rattle.std.specs.Prelude.{◌≡◌, ◌++◌, OnOk};
 ghost use Rattle.std.specs.Fmt.{decimal, signed_decimal};
-ghost use Rattle.um_certificates.specs.CertificateText.{numbered, part_text, parts_text as text_of_parts, rows_line, unit_line};
+ghost use Rattle.um_certificates.specs.CertificateText.{numbered, part_text, parts_text as text_of_parts, rows_line};
+ghost use Rattle.um_certificates.specs.CertificateText.{unit_line};
 
 use std::alloc::{AllocError, Global};
 use um_check::{Part, Parts};

@@ -2,13 +2,14 @@
 
 ghost use Rattle.std.specs.Prelude.{◌≡◌, ◌++◌, map, take, IfOk, OnOk};
 ghost use Rattle.std.specs.List.{range_with_len};
-ghost use Rattle.um_certificates.specs.CertificateText.{parameter_name as name_of_parameter, with_parameters as names_with_parameters};
+ghost use Rattle.um_certificates.specs.CertificateText.{parameter_name as name_of_parameter};
+ghost use Rattle.um_certificates.specs.CertificateText.{with_parameters as names_with_parameters};
 
 use crate::lines::push_number;
 use std::alloc::{AllocError, Global};
 use um_tree::{Name, Names};
 
-/// The names of declared base units once more, for those of unit parameters to stand behind them.
+/// The names of declared base units once more, for those of unit parameters to follow them.
 pub fn copied(alloc: Global, bases: &Names) -> Result<Names, AllocError>
     ensures { IfOk result (λ names. names ≡ bases.now) }
 {
@@ -17,7 +18,7 @@ pub fn copied(alloc: Global, bases: &Names) -> Result<Names, AllocError>
     Ok(Names::from_vec(items))
 }
 
-/// The names of declared base units, and of those of so many unit parameters.
+/// The names of declared base units, and of those of this number of unit parameters.
 pub fn with_parameters(alloc: Global, bases: Names, count: usize) -> Result<Names, AllocError>
     ensures { IfOk result (λ names. names ≡ names_with_parameters bases count) }
 {
@@ -26,7 +27,7 @@ pub fn with_parameters(alloc: Global, bases: Names, count: usize) -> Result<Name
     Ok(Names::from_vec(items))
 }
 
-/// The first of the names: those of so many declared base units.
+/// The first of the names: those of this number of declared base units.
 pub fn without_parameters(names: Names, declared: usize) -> Names
     ensures { result ≡ take declared names }
 {

@@ -2,9 +2,11 @@
 
 ghost use Rattle.std.specs.Prelude.{◌≡◌, ◌++◌, IfOk, OnOk};
 ghost use Rattle.um_tree.specs.ProgramTree.{program_tree};
-ghost use Rattle.um_certificates.specs.CertificateText.{certificates_text as text_of_certificates, function_name as name_of_function};
+ghost use Rattle.um_certificates.specs.CertificateText.{certificates_text as text_of_certificates};
+ghost use Rattle.um_certificates.specs.CertificateText.{function_name as name_of_function};
 ghost use Rattle.um_certificates.specs.CertificateText.{heading, kind_text as text_of_kind, no_text as text_of_no};
-ghost use Rattle.um_certificates.specs.CertificateText.{numbered, open_text, refusal_text, rigid_text, yes_text as text_of_yes};
+ghost use Rattle.um_certificates.specs.CertificateText.{numbered, open_text, refusal_text, rigid_text};
+ghost use Rattle.um_certificates.specs.CertificateText.{yes_text as text_of_yes};
 
 use crate::lines::{push_integer, push_number, push_parts, push_rows, push_units};
 use crate::names::{copied, with_parameters, without_parameters};
@@ -13,7 +15,7 @@ use um_check::{No, Yes};
 use um_tree::{Name, Names, Program};
 use um_units::{NoMemory, Unit};
 
-/// The text of the certificates of a program's first functions, and of the refusal of the next where there is one.
+/// The text of the certificates of a program's first functions, and of the refusal of the next if there is one.
 ///
 /// `NoMemory` is its one error. The lines are this project's own, and units are in the notation of F#.
 pub fn certificates_text(
@@ -47,7 +49,7 @@ fn push_all(
     Ok(())
 }
 
-/// Adds the certificate that function i has no scheme, where there is one.
+/// Adds the certificate that function i has no scheme, if there is one.
 fn push_refusal(
     text: &mut Vec<u8>,
     program: &Program,
@@ -62,7 +64,7 @@ fn push_refusal(
     }
 }
 
-/// The bytes of the name of function i, none where there is no such function.
+/// The bytes of the name of function i, none if there is no such function.
 fn function_name(program: &Program, i: usize) -> &[u8]
     ensures { result.now ≡ name_of_function (program_tree program.now) i }
 {

@@ -7,3 +7,9 @@ mod ApartTests
 mod FormTests
 mod YesTests
 mod Examples
+pub mod Extensions
+pub mod InverseSteps
+pub mod RefutedSteps
+pub mod CertificatesExist
+pub mod Exponents
+pub mod RigidRefuted

@@ -8,10 +8,13 @@ use Rattle.um_tree.specs.ProgramTree.{Signature, SchemeTree}
 use Rattle.um_tree.specs.Typing.{put_signature}
 use Rattle.um_tree.specs.Scheme.{variables, signature_types, IsInstance}
 use Rattle.um_rows.specs.Solutions.{IsRigid}
+use Rattle.um_elim.specs.Elimination.{Solved, NoSolution, eliminate_rows}
+use Rattle.um_elim.specs.Solution.{own_variables}
 use Rattle.um_check.specs.declared.certificate.Yes.{Yes}
 use Rattle.um_check.specs.declared.certificate.No.{No}
 use Rattle.um_check.specs.Validity.{IsValidYes}
 use Rattle.um_check.specs.Refutation.{IsValidNo, HasNone}
+use Rattle.um_check.specs.Existence.{HasInverse, HasRefutation}
 
 -- some joint solution of the rows gives the signature h for the types g over slots
 abbrev pub Gives : ℕ → List PowerMap → Signature → Signature → Type 0
@@ -38,3 +41,17 @@ abbrev pub ValidNoRefutes : Type 0
 ValidNoRefutes =
     (bases parameters : ℕ) (rows : List PowerMap) (c : No) →
     IsValidNo bases parameters rows c → HasNone c.loose bases parameters rows c.last
+
+-- ---- certificates exist
+
+-- what the elimination solves has an inverse substitution
+abbrev pub SolvedRowsHaveInverses : Type 0
+SolvedRowsHaveInverses =
+    (rows : List PowerMap) (slots : ℕ) (vs : List PowerMap) → All (VariablesBelow slots) rows →
+    eliminate_rows (own_variables slots) rows ≡ Solved vs → HasInverse rows vs
+
+-- and what it refuses has a product of rows that can't become 1
+abbrev pub RefusedRowsHaveRefutations : Type 0
+RefusedRowsHaveRefutations =
+    (rows : List PowerMap) (slots : ℕ) → All (VariablesBelow slots) rows →
+    eliminate_rows (own_variables slots) rows ≡ NoSolution → HasRefutation rows

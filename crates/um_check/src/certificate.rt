@@ -12,7 +12,7 @@ pub struct Part {
     pub times: i64,
 }
 
-/// Some parts, in order: they stand for the product of their rows to their powers.
+/// Some parts, in order: the product of their rows to their powers.
 #[derive(Drop)]
 pub struct Parts {
     items: Vec<Part>,
@@ -94,7 +94,7 @@ pub struct Yes {
     pub divisor: i64,
     /// For each slot the rows by which it comes back, up to the power `divisor`
     pub parts: PartLists,
-    /// Where there are unit parameters a joint solution in which each is a unit of its own, and else nothing
+    /// If there are unit parameters, a joint solution in which each is a unit of its own; otherwise nothing
     pub rigid: Units,
 }
 

@@ -1,4 +1,4 @@
-//! Whether each slot goes to its unit and back, but for rows.
+//! Whether the inverse substitution takes each slot's unit back to the slot, but for rows.
 
 ghost use Rattle.std.specs.Prelude.{◌≡◌, ◌↔◌, ◌^◌, ◌+◌, ◌<◌, ◌≤◌, IfOk, IsTrue, All, length, slice_index_or, []};
 ghost use Rattle.um_units.specs.declared.Atom.TheVariants.{Var};
@@ -24,30 +24,38 @@ fn over_slot(alloc: Global, unit: &Unit, back: &[Unit], j: u32) -> Result<WideUn
     image.mul(alloc, &inverse)
 }
 
-/// Whether slot j goes to the unit and back, but for the rows that the parts name.
+/// A slot's number, its unit in the solution, and the rows by which it comes back.
+#[derive(Drop)]
+struct Slot<'a> {
+    number: u32,
+    unit: &'a Unit,
+    parts: &'a [Part],
+}
+
+/// Whether the inverse substitution takes the slot's unit back to the slot, but for the rows that its parts name.
 fn slot_comes_back(
     alloc: Global,
     rows: &[Row],
     back: &[Unit],
-    unit: &Unit,
-    j: u32,
     divisor: i64,
-    parts: &[Part],
+    slot: &Slot,
 ) -> Result<bool, NoMemory>
-    requires named { NamesRowsBelow (length rows.now) parts.now }
-    requires few { length parts.now ≤ 4294967295 }
-    ensures { IfOk result (λ b. IsTrue b ↔ SlotComesBack (units_of rows.now) back.now unit.now j divisor parts.now) }
+    requires named { NamesRowsBelow (length rows.now) slot.now.parts.now }
+    requires few { length slot.now.parts.now ≤ 4294967295 }
+    ensures { IfOk result (λ b. IsTrue b
+        ↔ SlotComesBack (units_of rows.now) back.now slot.now.unit.now slot.now.number divisor slot.now.parts.now) }
 {
-    let over = over_slot(alloc, unit, back, j)?;
+    let over = over_slot(alloc, slot.unit, back, slot.number)?;
     if !over.is_narrow() {
         return Ok(false);
     }
     let power = over.pow(alloc, divisor)?;
-    let product = product_of_rows(alloc, rows, parts)?;
+    let product = product_of_rows(alloc, rows, slot.parts)?;
     Ok(power.same(&product))
 }
 
-/// Whether each slot goes to its unit of the solution and back, but for the rows that its parts name.
+/// Whether the inverse substitution `back` takes each slot's unit of the solution back to the slot, but for the rows
+/// that its parts name.
 pub fn all_come_back(
     alloc: Global,
     rows: &[Row],
@@ -67,7 +75,12 @@ pub fn all_come_back(
         if !names_below(named, rows.len()) {
             return Ok(false);
         }
-        if !slot_comes_back(alloc, rows, back, &solution[i], i as u32, divisor, named)? {
+        let slot = Slot {
+            number: i as u32,
+            unit: &solution[i],
+            parts: named,
+        };
+        if !slot_comes_back(alloc, rows, back, divisor, &slot)? {
             return Ok(false);
         }
     }

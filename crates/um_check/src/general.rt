@@ -44,7 +44,7 @@ fn are_rigid(units: &[Unit], parameters: u32, bases: u32) -> bool
     true
 }
 
-/// Whether the units are such a solution. Where there are no unit parameters there are to be no units.
+/// Whether the units are such a solution. Without unit parameters there are to be no units.
 pub fn shows_general(
     alloc: Global,
     rows: &Rows,

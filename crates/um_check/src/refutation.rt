@@ -53,7 +53,7 @@ fn parameter_power(product: &WideUnit, bases: u32, k: u32) -> i128
     sum(own, other)
 }
 
-/// The power of the term's atom where each unit parameter is a base unit of its own.
+/// The power of the term's atom, with each unit parameter as a base unit of its own.
 fn rigid_power(product: &WideUnit, bases: u32, parameters: u32, term: WideTerm) -> i128
     requires { IsWithin (2 ^ 126 - 1) product.now }
     ensures { result ≡ rigid_power bases parameters product.now term.atom term.power }
@@ -91,7 +91,7 @@ fn is_left(product: &WideUnit, bases: u32, parameters: u32, modulus: i64, term: 
         && !divided(modulus, rigid_power(product, bases, parameters, term))
 }
 
-/// Whether some base unit's power isn't, where each unit parameter is a base unit of its own.
+/// Whether some base unit's power isn't, with each unit parameter as a base unit of its own.
 fn base_unit_is_left(
     terms: &[WideTerm],
     product: &WideUnit,
@@ -108,7 +108,7 @@ fn base_unit_is_left(
         .any(|term| is_left(product, bases, parameters, modulus, *term))
 }
 
-/// Whether the product of rows can't become 1, where each unit parameter is a base unit of its own.
+/// Whether the product of rows can't become 1, with each unit parameter as a base unit of its own.
 fn is_apart(product: &WideUnit, bases: u32, parameters: u32, modulus: i64) -> bool
     requires room { IsWithin (2 ^ 126 - 1) product.now }
     requires proper { pos 2 ≤ℤ modulus }
@@ -126,9 +126,9 @@ fn fixed_slots(loose: bool, parameters: u32) -> u32
     if loose { 0 } else { parameters }
 }
 
-/// Whether the certificate is valid for the rows of a function that has so many unit parameters, in a program with so many
-/// base units. Then the rows up to the last that it names have no joint solution, or where it isn't loose none in which each
-/// unit parameter is a unit of its own.
+/// Whether the certificate is valid for the rows of a function with this number of unit parameters, in a program with
+/// this number of base units. Then the rows up to the last that it names have no joint solution, or, if it isn't loose,
+/// none in which each unit parameter is a unit of its own.
 ///
 /// It adds up the rows' powers, at 128 bits, and eliminates nothing: about n log n steps for n terms of the named rows.
 pub fn check_no(

@@ -55,9 +55,9 @@ fn gives_scheme(
     Ok(shown)
 }
 
-/// Whether the certificate is valid for the scheme of a function with these rows that has so many unit parameters, in a
-/// program with so many base units. Then the scheme's instances are exactly what the joint solutions of the rows give for
-/// the function's types, and with unit parameters some joint solution has a unit of its own for each.
+/// Whether the certificate is valid for the scheme of a function with these rows with this number of unit parameters,
+/// in a program with this number of base units. Then the scheme's instances are exactly what the joint solutions of the
+/// rows give for the function's types, and with unit parameters some joint solution has a unit of its own for each.
 ///
 /// It adds up powers, at 128 bits, and eliminates nothing.
 pub fn check_yes(

@@ -12,10 +12,12 @@ use Rattle.um_tree.specs.TreeHeights.{tree_nodes, all_tree_nodes}
 use Rattle.um_tree.specs.Formed.{IsNoteIn, IsNoteTreeIn, IsTypeIn, IsLiteral, IsFormedIn, AllFormedIn, IsFieldType, IsFormedNote, ResultFormed, IsFormedFunction, IsFormed}
 use Rattle.um_frac.specs.declared.number.Frac.{Frac}
 use Rattle.um_rows.specs.Steps.{Step, types_at, rows_of}
-use Rattle.um_rows.specs.Holes.{unit_holes, note_holes, notes_holes, Callee, known_by, itself, nobody, callee_holes, record_holes, expr_holes}
+use Rattle.um_slots.specs.Holes.{unit_holes, note_holes, notes_holes, Callee, known_by, itself, nobody, callee_holes, record_holes, expr_holes}
 use Rattle.um_rows.specs.Rules.{Derived, AllDerived, after, formed, item, number_rule, local_rule, call_rule, negate_rule, not_rule, pown_rule, truths_rule, arith_rule, compare_rule, if_rule, split_rule, nil_rule, list_rule, cons_rule, record_rule, field_rule}
-use Rattle.um_rows.specs.Derivation.{first_units, noted_unit, noted_units, noted_type, noted_types, offered, derive, derive_all}
-use Rattle.um_rows.specs.Equations.{Equations, callee, head_holes, noted_result, result_rows, own_signature, head_steps, equations}
+use Rattle.um_rows.specs.Derivation.{first_units, offered, derive, derive_all}
+use Rattle.um_slots.specs.Noted.{noted_unit, noted_units, noted_type, noted_types, noted_result}
+use Rattle.um_rows.specs.Equations.{Equations, result_rows, own_signature, head_steps, equations}
+use Rattle.um_slots.specs.Callees.{callee, head_holes}
 use Rattle.um_rows.proofs.SlotLaws.{length-first}
 use Rattle.um_declared.proofs.Lacks.{Lacks, replace_lacks, below_lacks, TypeLacks, TypesLack, SignatureLacks, put_lacks, types_put_lack, types_lack-append}
 use Rattle.um_declared.proofs.NodeRules.{StepsLack, RowsLack, rows_more, rows_append, no_rows, DerivedLacks, formed_lacks, against_lacks, list_item_lacks, number_lacks, local_lacks, OfferLacks, call_lacks, negate_lacks, not_lacks, pown_lacks, truths_lack, arith_lacks, compare_lacks, if_lacks, split_lacks, nil_lacks, list_lacks, cons_lacks, FieldsLack, record_lacks, field_lacks}

@@ -25,8 +25,8 @@ use Rattle.um_elim.specs.Solution.{own_variables, rigid_unit, rigid_units}
 use Rattle.um_elim.proofs.Cases.{on_test}
 use Rattle.um_elim.proofs.TurnLaws.{less, less-zero, power_of-quotients}
 use Rattle.um_elim.proofs.Slots.{length-rigid}
-use Rattle.um_turns.specs.Turns.{units_after, AreTurnsOf}
-use Rattle.um_turns.proofs.Trace.{eliminate_treated}
+use Rattle.um_elim.specs.EliminationSteps.{units_after, AreStepsOf}
+use Rattle.um_elim.proofs.FollowedSteps.{eliminate_treated}
 use Rattle.um_rows.specs.declared.row.Row.{Row}
 use Rattle.um_rows.specs.Steps.{units_of}
 use Rattle.um_rows.specs.FirstUnsolvable.{Solving, solved, unsolved, out_of_range, after_row, solve, rows_up_to}
@@ -64,7 +64,7 @@ module _ (m : ℕ) where
   turned_lacks : (r : PowerMap) (t : Turn) → IsTurnOf r t → Lacks m r → Lacks m (signed t.inverted r)
   turned_lacks r t w h = subst (λ (s : Turn). Lacks m (signed s.inverted r)) (sym w.2) (signed_lacks w.0.power r h)
 
-  after_lack : (ts : List Turn) (r : PowerMap) (us : List PowerMap) → AreTurnsOf r ts → Lacks m r → All (Lacks m) us → All (Lacks m) (units_after ts us)
+  after_lack : (ts : List Turn) (r : PowerMap) (us : List PowerMap) → AreStepsOf r ts → Lacks m r → All (Lacks m) us → All (Lacks m) (units_after ts us)
   after_lack [] r us w h all = all
   after_lack (t ∷ ts) r us w h all =
       let s = multiply t.variable t.by in

@@ -9,10 +9,11 @@ use Rattle.um_tree.specs.Shapes.{IsShaped}
 use Rattle.um_elim.proofs.Cases.{on_test}
 use Rattle.um_rows.specs.declared.row.Row.{Row}
 use Rattle.um_rows.specs.Steps.{Step, row_at, wrong_shape_at, type_at, rows_of, row_units, first_past}
-use Rattle.um_rows.specs.Holes.{itself, nobody}
-use Rattle.um_rows.specs.Keys.{hole, name}
-use Rattle.um_rows.specs.Equations.{known_function, may_recur, callee}
-use Rattle.um_rows.specs.Slots.{slot, slot_unit, function_slots, slot_count, slot_equations}
+use Rattle.um_slots.specs.Holes.{itself, nobody}
+use Rattle.um_slots.specs.Keys.{hole, name}
+use Rattle.um_slots.specs.Callees.{known_function, may_recur, callee}
+use Rattle.um_slots.specs.Slots.{slot, slot_unit, function_slots, slot_count}
+use Rattle.um_rows.specs.Equations.{slot_equations}
 use Rattle.um_rows.specs.Solutions.{function_rows, slot_signature, HaveSchemes}
 use Rattle.um_rows.specs.Judgement.{Judgement, has_scheme, too_many_slots, passes_range, has_no_typing, not_general, judge}
 use Rattle.um_rows.specs.RightShapes.{HaveRightShapes}

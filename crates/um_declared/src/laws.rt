@@ -8,8 +8,8 @@ ghost use Rattle.um_declared.specs.Laws.{
 };
 
 /// The rows and the types of a function of a formed program whose functions have their shapes hold base units that the
-/// program declares, and no others, where the functions before it have the schemes that are inferred for them; and so
-/// do these schemes. The rows are at most 220,000.
+/// program declares, and no others, if the functions before it have the schemes that are inferred for them; and so do
+/// these schemes. The rows are at most 220,000.
 pub fn equations()
     ensures rows { RowsHoldDeclaredUnits }
     ensures types { TypesHoldDeclaredUnits }

@@ -28,3 +28,6 @@ pub mod IndexTurn
 mod IndexBut
 pub mod TurnKept
 pub mod FirstIndex
+pub mod SingleAtoms
+pub mod FollowedSteps
+mod StepExamples

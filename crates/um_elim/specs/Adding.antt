@@ -31,7 +31,7 @@ HasInstances old row new (Err stop.NoSolution) = IsUnsatisfiable old.units row
 HasInstances old row new (Err stop.Range) = Unit {0}
 HasInstances old row new (Err stop.NoMemory) = Unit {0}
 
--- what the answer says of the rows, where the instances were exactly the joint solutions of those before
+-- what the answer says of the rows, if the instances were exactly the joint solutions of those before
 abbrev pub SolvesRows : Solution → PowerMap → Solution → Result (Unit {0}) ElimStop → Type 0
 SolvesRows old row new (Ok _) =
     (rows : List PowerMap) →

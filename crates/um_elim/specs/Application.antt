@@ -25,8 +25,7 @@ type_fits (record_type r us) = list_all fits us
 abbrev pub applied : Solution → TypeTree → TypeTree
 applied solution t = put (nth solution.units) t
 
--- the type with the solution put in, or Range exactly where it has a power outside, or Spent exactly after a refused
--- row
+-- the type with the solution put in, or Range exactly if it has a power outside, or Spent exactly after a refused row
 abbrev pub IsApplied : Solution → TypeTree → Result Ty ElimStop → Type 0
 IsApplied solution t (Ok ty) =
     (solution.spent ≡ false) × (type_tree ty ≡ applied solution t) × IsTrue (type_fits (applied solution t))
@@ -35,8 +34,7 @@ IsApplied solution t (Err stop.Range) = (solution.spent ≡ false) × IsFalse (t
 IsApplied solution t (Err stop.Spent) = solution.spent ≡ true
 IsApplied solution t (Err stop.NoMemory) = solution.spent ≡ false
 
--- where the variables of the type are slots, those of the result are below each number that those of the units are
--- below
+-- if the variables of the type are slots, those of the result are below each number that those of the units are below
 abbrev pub VariablesAreBelow : Solution → TypeTree → TypeTree → Type 0
 VariablesAreBelow solution t result =
     (n : ℕ) → All (VariablesBelow n) solution.units →

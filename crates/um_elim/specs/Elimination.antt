@@ -1,5 +1,5 @@
 -- The elimination of a row: from the units of the slots those that solve the row too, and are most general.
--- Source: Kennedy (1996), unification in the free abelian group. The order of the turns, and that powers are refused
+-- Source: Kennedy (1996), unification in the free abelian group. The order of the steps, and that powers are refused
 -- outside a range, are this project's own. Units are exact here, with powers without bound.
 use Rattle.std.specs.Prelude.{ℕ, zero, suc, Bool, true, false, ◌&&◌, if◌then◌else◌}
 use Rattle.std.specs.Prelude.{nat_abs, Option, Some, None, List, [], ◌∷◌, map}
@@ -11,7 +11,7 @@ use Rattle.um_elim.specs.declared.pivot.Pivot.{Pivot}
 use Rattle.um_elim.specs.Pivot.{pivot, least_power, has_other, has_base}
 use Rattle.um_elim.specs.Turn.{substitute, turn, inverted_if_negative}
 
--- what a row makes of the units of the slots: new units, or the row has no solution, or a power passes the range
+-- what a row makes of the units of the slots: new units, or the row has no solution, or a power is out of range
 pub data Elimination : Type 0 where
   Solved : List PowerMap → Elimination
   NoSolution : Elimination
@@ -21,30 +21,30 @@ abbrev pub is_empty : List Term → Bool
 is_empty [] = true
 is_empty (t ∷ ts) = false
 
--- the end, where no variable but m stands in r: no solution where a base unit does, and else m is replaced by 1
+-- the end, if no variable except m occurs in r: no solution if a base unit does, otherwise m is replaced by 1
 abbrev pub ended : ℕ → List PowerMap → PowerMap → Elimination
 ended m us r = if has_base r then NoSolution else Solved (map (replace (substitute m one)) us)
 
--- after a turn at m: Range where a power of r or of a slot's unit passes the range, then `again` where a variable
--- other than m stands in r, and else the end
+-- after a step at m: Range if a power of r or of a slot's unit is out of range, then `again` if a variable other than m
+-- occurs in r, otherwise the end
 abbrev pub after_turn : (List PowerMap → PowerMap → Elimination) → ℕ → List PowerMap → PowerMap → Elimination
 after_turn again m us r =
     if fits r && list_all fits us then (if has_other m r then again us r else ended m us r) else Range
 
--- the turn at a pivot of r, which is inverted first where the pivot's power is negative. Without a variable the row is
--- solved where r is 1
+-- the step at a pivot of r, which is inverted first if the pivot's power is negative. Without a variable the row is
+-- solved if r is 1
 abbrev pub turn_at : (List PowerMap → PowerMap → Elimination) → List PowerMap → PowerMap → Option Pivot → Elimination
 turn_at again us r None = if is_empty r.terms then Solved us else NoSolution
 turn_at again us r (Some p) =
     let s = turn p.variable (nat_abs p.power) (inverted_if_negative p.power r) in
     after_turn again p.variable (map (replace s) us) (replace s (inverted_if_negative p.power r))
 
--- at most n turns. The least power falls from turn to turn, so n is enough where it is above the least power
+-- at most n steps. The least power falls from step to step, so n is enough if it is above the least power
 abbrev pub turns : ℕ → List PowerMap → PowerMap → Elimination
 turns zero us r = NoSolution
 turns (suc n) us r = turn_at (turns n) us r (pivot r)
 
--- the row with the slots' units put for its variables, and then the turns
+-- the row with the slots' units put for its variables, and then the steps
 abbrev pub eliminate : List PowerMap → PowerMap → Elimination
 eliminate us row =
     let r = replace (nth us) row in
@@ -56,7 +56,7 @@ on_solved (Solved us) rest = rest us
 on_solved NoSolution rest = NoSolution
 on_solved Range rest = Range
 
--- row after row: the first that has no solution or passes the range is the outcome
+-- row after row: the first that has no solution or a power out of range is the outcome
 abbrev pub eliminate_rows : List PowerMap → List PowerMap → Elimination
 eliminate_rows us [] = Solved us
 eliminate_rows us (row ∷ rows) = on_solved (eliminate us row) (λ vs. eliminate_rows vs rows)

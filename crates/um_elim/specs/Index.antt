@@ -1,5 +1,5 @@
--- The code's: for each variable the slots whose units hold it. A turn of the elimination changes the units of these
--- slots alone.
+-- The code's: for each variable the slots whose units hold it. An elimination step changes the units of these slots
+-- alone.
 -- Source: this project's own; no public clause rests on it.
 use Rattle.std.specs.Prelude.{◌≡◌, ℕ, suc, ◌<◌, IsTrue, Bool, not, ◌==◌, nat_lt}
 use Rattle.std.specs.Prelude.{if◌then◌else◌, List, [], ◌∷◌, set, length, All, slice_index_or}
@@ -32,8 +32,7 @@ pub record IsIndex (us : List PowerMap) (index : List (List ℕ)) : Type 0 where
   pub variables : All (VariablesBelow (length us)) us
   pub fit : All (λ u. IsTrue (fits u)) us
 
--- ---- lists of slots, in order
--- the slots with one more, behind the last that is less
+-- ---- lists of slots, in order the slots with one more, after the last that is less
 abbrev pub with_slot : List ℕ → ℕ → List ℕ
 with_slot [] s = s ∷ []
 with_slot (x ∷ xs) s = if list_any (λ y. nat_lt y s) (x ∷ xs) then x ∷ with_slot xs s else s ∷ x ∷ xs
@@ -43,11 +42,11 @@ abbrev pub without_slot : List ℕ → ℕ → List ℕ
 without_slot [] s = []
 without_slot (x ∷ xs) s = if x == s then xs else x ∷ without_slot xs s
 
--- the slots, where one of them held a variable or not, and holds it now or not
+-- the slots, if one of them held a variable or not, and holds it now or not
 abbrev pub followed : List ℕ → ℕ → Bool → Bool → List ℕ
 followed xs s was is = if was then (if is then xs else without_slot xs s) else (if is then with_slot xs s else xs)
 
--- ---- an index, where slot s had the unit old and gets the unit new: it follows at one atom, and at those of terms
+-- ---- an index, if slot s had the unit old and gets the unit new: it follows at one atom, and at those of terms
 abbrev pub followed_at : List (List ℕ) → Atom → ℕ → PowerMap → PowerMap → List (List ℕ)
 followed_at index (Base n) s old new = index
 followed_at index (Var k) s old new = set index k (followed (slice_index_or index k []) s (holds k old) (holds k new))

@@ -1,5 +1,5 @@
 -- What an outcome says of the instances of the slots' units.
--- Source: Kennedy (1996): a unifier is most general where its instances are exactly the unifiers.
+-- Source: Kennedy (1996): a unifier is most general if its instances are exactly the unifiers.
 use Rattle.std.specs.Prelude.{◌≡◌, ◌↔◌, ℕ, List}
 use Rattle.um_units.specs.PowerMap.{PowerMap, one, replace, nth}
 use Rattle.um_units.specs.Solutions.{IsInstance, IsJointSolution, IsSolvable}

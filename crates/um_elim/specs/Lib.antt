@@ -7,6 +7,9 @@ pub mod Solution
 pub mod Adding
 pub mod Application
 pub mod Numbering
+pub mod EliminationSteps
+-- What these definitions come to: statements, each proved as the contract of a function of src/laws.rt.
+pub mod Laws
 -- What mirrors the code.
 pub mod Stops
 pub mod Steps

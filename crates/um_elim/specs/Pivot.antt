@@ -1,7 +1,7 @@
--- The pivot of a unit: the variable that a turn of the elimination changes.
+-- The pivot of a unit: the variable that an elimination step changes.
 -- Source: Kennedy (1996), on unification in the free abelian group, after Knuth (The Art of Computer Programming,
 -- volume 2, on linear equations over the integers): a variable with the least absolute power. That it is the one with
--- the greatest number where several have that power is this project's own.
+-- the greatest number if several have that power is this project's own.
 use Rattle.std.specs.Prelude.{ℕ, Bool, true, false, not, ◌==◌, nat_lt, nat_abs}
 use Rattle.std.specs.Prelude.{if◌then◌else◌, Option, Some, None, List, [], ◌∷◌, ℤ}
 use Rattle.std.specs.List.{list_any}
@@ -16,7 +16,7 @@ abbrev pub lesser : Pivot → Option Pivot → Option Pivot
 lesser p None = Some p
 lesser p (Some q) = if nat_lt (nat_abs p.power) (nat_abs q.power) then Some p else Some q
 
--- the lesser of an atom's power and another, where the atom is a variable
+-- the lesser of an atom's power and another, if the atom is a variable
 abbrev pub lesser_with : Atom → ℤ → Option Pivot → Option Pivot
 lesser_with (Base n) a q = q
 lesser_with (Var k) a q = lesser (record { variable = k; power = a }) q
@@ -35,7 +35,7 @@ abbrev pub size : Option Pivot → ℕ
 size None = 0
 size (Some p) = nat_abs p.power
 
--- the least absolute power of a variable in the unit, and 0 where it holds none
+-- the least absolute power of a variable in the unit, and 0 if it holds none
 abbrev pub least_power : PowerMap → ℕ
 least_power r = size (pivot r)
 

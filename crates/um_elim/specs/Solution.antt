@@ -28,7 +28,7 @@ own_variables slots = map (λ k. atom (Var k)) (range_with_len 0 slots)
 abbrev pub fresh : ℕ → Solution
 fresh slots = record { units = own_variables slots; spent = false }
 
--- ---- where the first slots are those of unit parameters
+-- ---- if the first slots are those of unit parameters
 
 -- parameter k is the base unit bases + k, and each other slot has its own variable
 abbrev pub rigid_unit : ℕ → ℕ → ℕ → PowerMap

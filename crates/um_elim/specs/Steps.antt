@@ -1,4 +1,4 @@
--- The code's: what one turn of it leaves, against the elimination.
+-- The code's: what one step of it leaves, against the elimination.
 -- Source: this project's own; no public clause rests on it.
 use Rattle.std.specs.Prelude.{◌≡◌, ℕ, ◌<◌, List}
 use Rattle.um_units.specs.PowerMap.{PowerMap}
@@ -10,12 +10,12 @@ use Rattle.um_elim.specs.declared.stop.ElimStop.TheVariants as stop
 use Rattle.um_elim.specs.Pivot.{pivot, least_power}
 use Rattle.um_elim.specs.Elimination.{Elimination, Solved, NoSolution, Range, turn_at}
 
--- whatever comes after it, the turn has this result
+-- whatever comes after it, the step has this result
 abbrev pub Turns : List PowerMap → PowerMap → ((List PowerMap → PowerMap → Elimination) → Elimination) → Type 0
 Turns old r result =
     (again : List PowerMap → PowerMap → Elimination) → turn_at again old r (pivot r) ≡ result again
 
--- the turn goes on with what is left of the unit, whose least power is lower, or ends with the new units
+-- the step goes on with what is left of the unit, whose least power is lower, or ends with the new units
 abbrev pub IsTurn : List PowerMap → PowerMap → List PowerMap → Step → Type 0
 IsTurn old r new (Again remainder) =
     Turns old r (λ again. again new remainder) × (least_power remainder < least_power r)

@@ -1,7 +1,8 @@
--- One turn of the elimination: the substitution that brings each other power of a unit below the pivot's.
+-- One step of the elimination: the substitution that brings each other power of a unit below the pivot's.
 -- Source: Kennedy (1996), on unification in the free abelian group: x is replaced by x times the product over the
 -- other atoms y of y to the power of the negated quotient, rounded down, of y's power and x's.
-use Rattle.std.specs.Prelude.{◌≡◌, ℕ, ◌==◌, if◌then◌else◌, Bool, true, false, Option, Some, None, map, ℤ, pos, negsuc, nat_abs}
+use Rattle.std.specs.Prelude.{◌≡◌, ℕ, ◌==◌, if◌then◌else◌, Bool, true, false, Option, Some, None, map, ℤ, pos, negsuc}
+use Rattle.std.specs.Prelude.{nat_abs}
 use Rattle.std.proofs.Common.{neg_ℤ}
 use Rattle.std.specs.Int.{int_div_euclid}
 use Rattle.um_units.specs.declared.Atom.TheVariants.{Var}
@@ -31,16 +32,16 @@ less_quotient m p t = record {
 abbrev pub quotients : ℕ → ℕ → PowerMap → PowerMap
 quotients m p r = product (map (less_quotient m p) r.terms)
 
--- the turn at variable m, whose power in r is p
+-- the step at variable m, whose power in r is p
 abbrev pub turn : ℕ → ℕ → PowerMap → ℕ → PowerMap
 turn m p r = multiply m (quotients m p r)
 
--- inverted where the power is negative
+-- inverted if the power is negative
 abbrev pub inverted_if_negative : ℤ → PowerMap → PowerMap
 inverted_if_negative (pos n) r = r
 inverted_if_negative (negsuc n) r = inv r
 
--- ---- a turn as data
+-- ---- a step as data
 
 abbrev pub is_negative : ℤ → Bool
 is_negative (pos n) = false
@@ -51,7 +52,7 @@ abbrev pub signed : Bool → PowerMap → PowerMap
 signed true r = inv r
 signed false r = r
 
--- the turn of r at a pivot
+-- the step of r at a pivot
 abbrev pub turn_of : Pivot → PowerMap → Turn
 turn_of p r = record {
   variable = p.variable;
@@ -63,7 +64,7 @@ turn_of p r = record {
 abbrev pub IsTurnOf : PowerMap → Turn → Type 0
 IsTurnOf r t = (p : Pivot) × (pivot r ≡ Some p) × (t ≡ turn_of p r)
 
--- it is the next one, or there is none where r holds no variable
+-- it is the next one, or there is none if r holds no variable
 abbrev pub IsNextTurn : PowerMap → Option Turn → Type 0
 IsNextTurn r None = pivot r ≡ None
 IsNextTurn r (Some t) = IsTurnOf r t

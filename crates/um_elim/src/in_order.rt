@@ -8,7 +8,7 @@ ghost use Rattle.um_tree.specs.Scheme.{atom_variables, type_variables, unit_vari
 use um_tree::Ty;
 use um_units::{Atom, Term, Unit};
 
-/// The next new number behind this variable, which is an old one or has the next number.
+/// The next new number after this variable, which is an old one or has the next number.
 fn behind_variable(next: u32, variable: u32) -> Option<u32>
     ensures { IfSome result (FirstComeInOrder next (variable ∷ [])) }
 {
@@ -70,7 +70,7 @@ fn behind_type(next: u32, ty: &Ty) -> Option<u32>
     }
 }
 
-/// How many variables the types have, where these have the numbers from 0 on in the order of their first occurrence.
+/// How many variables the types have, if these have the numbers from 0 on in the order of their first occurrence.
 pub fn numbered_already(types: &[Ty]) -> Option<u32>
     ensures { IfSome result (λ vars. IsNumberedBy vars (map type_tree types.now)) }
 {

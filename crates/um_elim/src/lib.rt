@@ -15,6 +15,7 @@
 mod application;
 mod in_order;
 mod index;
+pub mod laws;
 mod numbering;
 mod pivot;
 mod replacement;

@@ -6,7 +6,8 @@ ghost use Rattle.um_units.specs.PowerMap.{replace};
 ghost use Rattle.um_tree.specs.TypeTree.{type_tree, type_trees};
 ghost use Rattle.um_tree.specs.Typing.{put};
 ghost use Rattle.um_tree.specs.Scheme.{IsNumberedBy, atom_variables, type_variables, unit_variables, variables};
-ghost use Rattle.um_elim.specs.Numbering.{by_place, place, renumbered, variable_order, AreRenamedOneForOne, HaveSameInstances};
+ghost use Rattle.um_elim.specs.Numbering.{by_place, place, renumbered, variable_order, AreRenamedOneForOne};
+ghost use Rattle.um_elim.specs.Numbering.{HaveSameInstances};
 ghost use Rattle.um_elim.specs.Order.{placed_term, with_variable, with_variables};
 
 use crate::in_order::numbered_already;
@@ -26,9 +27,9 @@ pub struct Numbered {
 
 /// The types with their variables renamed one for one, and with the same instances.
 ///
-/// The units of the types are read from left to right, and the variables of one unit in the order of their numbers. Each
-/// variable becomes the one whose number is its place in the order of first occurrence, counted from 0. No power changes.
-/// The numbering is this project's own.
+/// The units of the types are read from left to right, and the variables of one unit in the order of their numbers.
+/// Each variable becomes the one whose number is its place in the order of first occurrence, counted from 0. No power
+/// changes. The numbering is this project's own.
 pub fn renumber(alloc: Global, types: Types) -> Result<Numbered, NoMemory>
     requires { All (λ k. k < 4294967295) (variables (type_trees types)) }
     ensures renumbered { IfOk result (λ n. type_trees n.types ≡ renumbered (type_trees types)) }
@@ -77,7 +78,7 @@ impl Order {
         }
     }
 
-    /// The place of the variable, which goes to the end where it is new.
+    /// The place of the variable, which goes to the end if it is new.
     fn number(&mut self, variable: u32) -> Result<u32, AllocError>
         requires { variable < 4294967295 }
         ensures order { OnOk result (self.new ≡ with_variable self.old variable) }

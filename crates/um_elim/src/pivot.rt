@@ -12,7 +12,7 @@ pub struct Pivot {
     pub power: i32,
 }
 
-/// The lesser of an atom's power and another, where the atom is a variable.
+/// The lesser of an atom's power and another, if the atom is a variable.
 fn lesser_of(term: Term, other: Option<Pivot>) -> Option<Pivot>
     ensures { result ≡ lesser_with term.atom term.power other }
 {

@@ -1,6 +1,7 @@
 //! The solver: it takes rows one by one and keeps their most general solution.
 
-ghost use Rattle.std.specs.Prelude.{◌≡◌, ◌≤◌, ◌<◌, ◌+◌, ◌^◌, nat_lt, if◌then◌else◌, [], ◌∷◌, length, map, All, IfOk, OnOk, MatchResult};
+ghost use Rattle.std.specs.Prelude.{◌≡◌, ◌≤◌, ◌<◌, ◌+◌, ◌^◌, nat_lt, if◌then◌else◌, [], ◌∷◌, length, map, All, IfOk};
+ghost use Rattle.std.specs.Prelude.{OnOk, MatchResult};
 ghost use Rattle.std.specs.List.{range_with_len};
 ghost use Rattle.um_elim.specs.Index.{IsIndex};
 ghost use Rattle.um_units.specs.Variables.{VariablesBelow};
@@ -55,8 +56,8 @@ impl Solver {
         Solver::with_parameters(alloc, slots, 0, 0)
     }
 
-    /// A solver without rows whose first slots are those of unit parameters: the unit of slot k below `parameters` is the
-    /// base unit `bases + k`, and that of each other slot its own variable.
+    /// A solver without rows whose first slots are those of unit parameters: the unit of slot k below `parameters` is
+    /// the base unit `bases + k`, and that of each other slot its own variable.
     pub fn with_parameters(
         alloc: Global,
         slots: u32,
@@ -82,9 +83,9 @@ impl Solver {
     /// Adds a row, which is to be equal to 1. Its variables are slots.
     ///
     /// After Ok the instances of the solution are exactly those instances of the one before that make the row equal to
-    /// 1, and so exactly the joint solutions of the rows that were added. NoSolution comes exactly where no instance
-    /// does and no power passed the range before, Range exactly where a power passes the range on the way, and Spent
-    /// exactly where a row was refused before, for any cause.
+    /// 1, and so exactly the joint solutions of the rows that were added. NoSolution comes exactly if no instance does
+    /// and no power was out of range before, Range exactly if a power is out of range in between, and Spent exactly if
+    /// a row was refused before, for any cause.
     pub fn add(&mut self, alloc: Global, row: &Unit) -> Result<(), ElimStop>
         requires { VariablesBelow (length self.old.units) row.now }
         ensures outcome { IsAdded self.old row.now self.new result }
@@ -104,7 +105,7 @@ impl Solver {
 
     /// The type with the solution's unit put for each slot. It forms no power but those of its result.
     ///
-    /// Range comes exactly where the result has a power out of range, and Spent exactly where a row was refused before.
+    /// Range comes exactly if the result has a power out of range, and Spent exactly if a row was refused before.
     pub fn apply(&self, alloc: Global, ty: &Ty) -> Result<Ty, ElimStop>
         ensures applied { IsApplied self.now (type_tree ty.now) result }
         ensures variables { IfOk result (λ t. VariablesAreBelow self.now (type_tree ty.now) (type_tree t)) }
@@ -143,7 +144,7 @@ fn first_unit(alloc: Global, slot: u32, bases: u32, parameters: u32) -> Result<U
     Unit::atom(alloc, Atom::Var(slot))
 }
 
-/// Each variable but the parameters' stands in the unit of its own slot.
+/// Each variable except the parameters' occurs in the unit of its own slot.
 fn first_index(alloc: Global, slots: u32, parameters: u32) -> Result<Vec<SlotList>, NoMemory>
     ensures { IfOk result (λ index. index.items
         ≡ map (λ k. if nat_lt k parameters then [] else k ∷ []) (range_with_len 0 slots)) }

@@ -1,6 +1,7 @@
-//! One turn of the elimination: what it makes of the unit that a row is turned into, and of the units of the slots.
+//! One step of the elimination: what it makes of the unit that a row becomes, and of the units of the slots.
 
-ghost use Rattle.std.specs.Prelude.{◌≡◌, ◌==◌, ◌<◌, ◌<ℤ◌, ◌≤◌, length, map, set, pos, nat_abs, IfOk, OnOk, IfErr, MatchResult, IsTrue, slice_index_or};
+ghost use Rattle.std.specs.Prelude.{◌≡◌, ◌==◌, ◌<◌, ◌<ℤ◌, ◌≤◌, length, map, set, pos, nat_abs, IfOk, OnOk, IfErr};
+ghost use Rattle.std.specs.Prelude.{MatchResult, IsTrue, slice_index_or};
 ghost use Rattle.std.proofs.Common.{neg_ℤ};
 ghost use Rattle.std.specs.Int.{int_div_euclid};
 ghost use Rattle.std.specs.List.{list_all, list_any};
@@ -22,15 +23,15 @@ use crate::turning::{Turn, next_turn, turned};
 use std::alloc::Global;
 use um_units::{Atom, Term, Unit, UnitStop};
 
-/// What is to be done after a turn.
+/// What is to be done after an elimination step.
 pub enum Step {
-    /// Another turn, of what is left of the unit.
+    /// Another step, of what is left of the unit.
     Again(Unit),
     /// Nothing: the row is solved.
     Ended,
 }
 
-/// A turn at the pivot of r, which changes the units of the slots that hold it.
+/// A step at the pivot of r, which changes the units of the slots that hold it.
 pub fn take_turn(
     alloc: Global,
     units: &mut Vec<Unit>,
@@ -66,7 +67,7 @@ pub fn take_turn(
     Ok(Step::Ended)
 }
 
-/// The turn at a variable whose power in r is 1 or -1: nothing but the variable is left of r, and the row is solved.
+/// The step at a variable whose power in r is 1 or -1: only the variable is left of r, and the row is solved.
 fn take_single_turn(
     alloc: Global,
     units: &mut Vec<Unit>,
@@ -88,8 +89,8 @@ fn take_single_turn(
     Ok(Step::Ended)
 }
 
-/// What the turn multiplies the variable by is put for it. Over the variable that is r, where the turn inverts r, and
-/// else the inverse of r.
+/// What the step multiplies the variable by is put for it. Over the variable that is r, if the step inverts r, and
+/// otherwise the inverse of r.
 fn put_single_turn(
     alloc: Global,
     units: &mut Vec<Unit>,
@@ -122,7 +123,7 @@ fn is_single(unit: &Unit, m: u32) -> bool
     unit.power_of(Atom::Var(m)).unsigned_abs() == 1
 }
 
-/// Whether a variable other than m stands in the terms.
+/// Whether a variable other than m occurs in the terms.
 fn has_other_variable(terms: &[Term], m: u32) -> bool
     ensures { result ≡ list_any (λ t. is_other m t.atom) terms.now }
 {
@@ -138,7 +139,7 @@ fn is_other_variable(atom: Atom, m: u32) -> bool
     }
 }
 
-/// Whether a base unit stands in the terms.
+/// Whether a base unit occurs in the terms.
 fn has_base_unit(terms: &[Term]) -> bool
     ensures { result ≡ list_any (λ t. is_base t.atom) terms.now }
 {

@@ -1,4 +1,4 @@
-//! The turn that a unit asks for, as data.
+//! The elimination step that a unit asks for, as data.
 
 ghost use Rattle.std.specs.Prelude.{◌≡◌, ◌<ℤ◌, Some, map, pos, nat_abs, IfOk, IsTrue};
 ghost use Rattle.std.proofs.Common.{neg_ℤ};
@@ -7,14 +7,14 @@ ghost use Rattle.um_units.specs.PowerMap.{power_of, replace};
 ghost use Rattle.um_units.specs.Range.{all_in_range, fits, in_range, RangeUnless};
 ghost use Rattle.um_elim.specs.declared.turning.Turn.{Turn as TurnData};
 ghost use Rattle.um_elim.specs.Pivot.{pivot};
-ghost use Rattle.um_elim.specs.Turn.{inverted_if_negative, is_negative, signed, less_quotient, multiply, quotients, turn_of, IsNextTurn};
+ghost use Rattle.um_elim.specs.Turn.{inverted_if_negative, is_negative, signed, less_quotient, multiply, quotients};
+ghost use Rattle.um_elim.specs.Turn.{turn_of, IsNextTurn};
 
 use crate::pivot::{Pivot, pivot_of};
 use std::alloc::{AllocError, Global};
 use um_units::{Atom, NoMemory, Term, Unit, UnitStop};
 
-/// A turn of the elimination of a unit: the unit is inverted first or not, and a variable times `by` is put for the
-/// variable.
+/// An elimination step of a unit: the unit is inverted first or not, and a variable times `by` is put for the variable.
 #[derive(Drop)]
 pub struct Turn {
     pub variable: u32,
@@ -22,10 +22,10 @@ pub struct Turn {
     pub by: Unit,
 }
 
-/// The turn that the elimination of the unit takes next, at its pivot: the variable with the least absolute power, and of
-/// equals the one with the greatest number. The unit is inverted where that power is negative, and `by` brings each other
-/// power below it (Kennedy 1996; the choice of the pivot is this project's own). None comes exactly where the unit holds
-/// no variable.
+/// The step that the elimination of the unit takes next, at its pivot: the variable with the least absolute power, and
+/// of equals the one with the greatest number. The unit is inverted if that power is negative, and `by` brings each
+/// other power below it (Kennedy 1996; the choice of the pivot is this project's own). None comes exactly if the unit
+/// holds no variable.
 pub fn next_turn(alloc: Global, unit: &Unit) -> Result<Option<Turn>, NoMemory>
     ensures next { IfOk result (IsNextTurn unit.now) }
     ensures fits { IfOk result (λ next. (turn : TurnData) → next ≡ Some turn → IsTrue (fits turn.by)) }
@@ -39,7 +39,7 @@ pub fn next_turn(alloc: Global, unit: &Unit) -> Result<Option<Turn>, NoMemory>
     }
 }
 
-/// The unit after the turn.
+/// The unit after the step.
 pub fn turned(alloc: Global, unit: &Unit, turn: &Turn) -> Result<Unit, UnitStop>
     ensures exact { IfOk result (λ u. u
         ≡ replace (multiply turn.now.variable turn.now.by) (signed turn.now.inverted unit.now)) }
@@ -53,7 +53,7 @@ pub fn turned(alloc: Global, unit: &Unit, turn: &Turn) -> Result<Unit, UnitStop>
     multiplied(alloc, unit, turn.variable, &turn.by)
 }
 
-/// The turn at the unit's pivot.
+/// The step at the unit's pivot.
 fn turn_at(alloc: Global, unit: &Unit, at: Pivot) -> Result<Turn, AllocError>
     requires fits { IsTrue (fits unit.now) }
     requires pivot { pivot unit.now ≡ Some at }
@@ -68,7 +68,7 @@ fn turn_at(alloc: Global, unit: &Unit, at: Pivot) -> Result<Turn, AllocError>
     })
 }
 
-/// What the pivot is multiplied by in its turn.
+/// What the pivot is multiplied by in its step.
 fn factor_at(alloc: Global, unit: &Unit, at: Pivot) -> Result<Unit, AllocError>
     requires fits { IsTrue (fits unit.now) }
     requires pivot { pivot unit.now ≡ Some at }
@@ -83,7 +83,7 @@ fn factor_at(alloc: Global, unit: &Unit, at: Pivot) -> Result<Unit, AllocError>
     quotients_of(alloc, &positive, at.variable, absolute(at.power))
 }
 
-/// Variable m over the unit, which is inverted first where the power of m in it is negative. This power is 1 or -1, so
+/// Variable m over the unit, which is inverted first if the power of m in it is negative. This power is 1 or -1, so
 /// that each quotient is the power that is divided.
 fn variable_over(alloc: Global, unit: &Unit, m: u32, power: i32) -> Result<Unit, AllocError>
     requires fits { IsTrue (fits unit.now) }

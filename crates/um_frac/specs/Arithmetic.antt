@@ -1,6 +1,6 @@
 -- The four operations, whole powers, the negation and the order of fractions: the rational numbers' own, over integers
--- without bound. A result is the exact one in lowest terms, or Overflow where that is out of the range, or DivZero for
--- a quotient by 0 and for a negative power of 0. Sum, product and quotient by cross products: Knuth, Seminumerical
+-- without bound. A result is the exact one in lowest terms, or Overflow if that is out of the range, or DivZero for a
+-- quotient by 0 and for a negative power of 0. Sum, product and quotient by cross products: Knuth, Seminumerical
 -- Algorithms, 4.5.1. The two traps are this project's own.
 use Rattle.std.specs.Prelude.{◌≡◌, ◌≢◌, Bool, zero, suc, ℤ, pos, negsuc, neg_ℤ, ◌+ℤ◌, ◌-ℤ◌, ◌*ℤ◌, int_lt, Result, Err}
 use Rattle.std.specs.Int.{int_pow}
@@ -75,7 +75,7 @@ IsRatio r a b =
     (numerator b ≢ pos 0)
     × (numerator r *ℤ (denominator a *ℤ numerator b) ≡ (numerator a *ℤ denominator b) *ℤ denominator r)
 
--- of a number a that is not 0 where the power is negative
+-- of a number a that is not 0 if the power is negative
 abbrev pub IsWholePower : Frac → Frac → ℤ → Type 0
 IsWholePower r a (pos n) =
     numerator r *ℤ int_pow (denominator a) n ≡ int_pow (numerator a) n *ℤ denominator r

@@ -6,7 +6,7 @@ use Rattle.std.specs.Prelude.{ℕ, zero, suc, ◌%◌, ◌==◌, ◌&&◌, Bool,
 abbrev pub divides_both : ℕ → ℕ → ℕ → Bool
 divides_both d a b = (a % d == 0) && (b % d == 0)
 
--- the greatest number from 1 to n that divides a and b, or 0 where there is none
+-- the greatest number from 1 to n that divides a and b, or 0 if there is none
 abbrev pub greatest_divisor : ℕ → ℕ → ℕ → ℕ
 greatest_divisor zero a b = 0
 greatest_divisor (suc n) a b = cond (divides_both (suc n) a b) (suc n) (greatest_divisor n a b)

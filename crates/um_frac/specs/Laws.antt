@@ -32,7 +32,7 @@ PartsInLowestTerms = (a : Frac) (d : ℕ) → d ∣ unsigned_abs (numerator a) �
 abbrev pub EqualParts : Type 0
 EqualParts = (a b : Frac) → numerator a ≡ numerator b → denominator a ≡ denominator b → a ≡ b
 
--- numbers are equal exactly where their cross products are
+-- numbers are equal exactly if their cross products are
 abbrev pub EqualCrossProducts : Type 0
 EqualCrossProducts = (a b : Frac) → (a ≡ b) ↔ (numerator a *ℤ denominator b ≡ numerator b *ℤ denominator a)
 

@@ -42,7 +42,7 @@ pub fn parts()
     ensures lowest { PartsInLowestTerms }
 {}
 
-/// Two numbers are equal exactly where their parts are, and exactly where their cross products are.
+/// Two numbers are equal exactly if their parts are, and exactly if their cross products are.
 pub fn equality()
     ensures parts { EqualParts }
     ensures cross_products { EqualCrossProducts }
@@ -55,21 +55,21 @@ pub fn one_form_each()
     ensures reduced { ReducedIsQuotient }
 {}
 
-/// A sum is the number that the cross products say, and overflows exactly where none is in range.
+/// A sum is the number that the cross products say, and overflows exactly if none is in range.
 pub fn sums()
     ensures exact { SumIsExact }
     ensures overflow { SumOverflows }
     ensures never_div_zero { SumNeverDivZero }
 {}
 
-/// A difference is the number that the cross products say, and overflows exactly where none is in range.
+/// A difference is the number that the cross products say, and overflows exactly if none is in range.
 pub fn differences()
     ensures exact { DifferenceIsExact }
     ensures overflow { DifferenceOverflows }
     ensures never_div_zero { DifferenceNeverDivZero }
 {}
 
-/// A product is the number that the products of the parts say, and overflows exactly where none is in range.
+/// A product is the number that the products of the parts say, and overflows exactly if none is in range.
 pub fn products()
     ensures exact { ProductIsExact }
     ensures overflow { ProductOverflows }

@@ -1,4 +1,5 @@
-ghost use Rattle.std.specs.Prelude.{◌≡◌, ◌≢◌, ◌↔◌, ◌<◌, ◌≤◌, ℤ, pos, neg_ℤ, ◌≤ℤ◌, ◌<ℤ◌, ◌+ℤ◌, ◌*ℤ◌, unsigned_abs, IsTrue, IsNone, IfSome, IfOk};
+ghost use Rattle.std.specs.Prelude.{◌≡◌, ◌≢◌, ◌↔◌, ◌<◌, ◌≤◌, ℤ, pos, neg_ℤ, ◌≤ℤ◌, ◌<ℤ◌, ◌+ℤ◌, ◌*ℤ◌, unsigned_abs};
+ghost use Rattle.std.specs.Prelude.{IsTrue, IsNone, IfSome, IfOk};
 ghost use Rattle.std.specs.Int.{int_pow};
 ghost use Rattle.um_frac.specs.Range.{greatest};
 ghost use Rattle.um_frac.specs.Gcd.{gcd};
@@ -19,8 +20,8 @@ pub enum Trap {
 
 /// A rational number as a fraction in lowest terms.
 ///
-/// The numerator lies in -9223372036854775807 ..= 9223372036854775807 and the denominator in
-/// 1 ..= 9223372036854775807. Two values are equal exactly where they are the same rational number.
+/// The numerator lies in -9223372036854775807 ..= 9223372036854775807 and the denominator in 1 ..= 9223372036854775807.
+/// Two values are equal exactly if they are the same rational number.
 ///
 /// An operation gives the exact result in lowest terms, by cross products as in Knuth, Seminumerical Algorithms, 4.5.1,
 /// or it says by a [`Trap`] why there is none. It takes no memory.
@@ -37,7 +38,9 @@ pub struct Frac {
 
 impl Frac {
     ghost use Rattle.um_frac.specs.Fraction.{numerator, denominator, reduced, IsQuotient, Fits};
-    ghost use Rattle.um_frac.specs.Arithmetic.{sum_of, difference_of, product_of, quotient_of, whole_power_of, negation_of, is_less, is_same, IsSum, IsDifference, IsProduct, IsRatio, IsWholePower, IsNegation};
+    ghost use Rattle.um_frac.specs.Arithmetic.{sum_of, difference_of, product_of, quotient_of, whole_power_of};
+    ghost use Rattle.um_frac.specs.Arithmetic.{negation_of, is_less, is_same, IsSum, IsDifference, IsProduct, IsRatio};
+    ghost use Rattle.um_frac.specs.Arithmetic.{IsWholePower, IsNegation};
 
     /// The number 0.
     pub fn zero() -> Frac
@@ -57,7 +60,7 @@ impl Frac {
 
     /// The quotient `n / d` in lowest terms, at any two integers of 128 bits.
     ///
-    /// `None` exactly where `d` is 0 or the reduced quotient is out of range.
+    /// `None` exactly if `d` is 0 or the reduced quotient is out of range.
     pub fn of_parts(n: i128, d: i128) -> Option<Frac>
         ensures value { result ≡ reduced n d }
         ensures exact { IfSome result (λ r. IsQuotient r n d) }
@@ -87,7 +90,7 @@ impl Frac {
 
     /// The sum of the two numbers.
     ///
-    /// `Overflow` exactly where the exact sum is out of range; a cross product on the way may be wider than the range.
+    /// `Overflow` exactly if the exact sum is out of range; a cross product on the way may be wider than the range.
     #[inline]
     pub fn add(self, other: Frac) -> Result<Frac, Trap>
         ensures value { result ≡ sum_of self other }
@@ -105,7 +108,7 @@ impl Frac {
 
     /// The difference `self - other`.
     ///
-    /// `Overflow` exactly where the exact difference is out of range.
+    /// `Overflow` exactly if the exact difference is out of range.
     #[inline]
     pub fn sub(self, other: Frac) -> Result<Frac, Trap>
         ensures value { result ≡ difference_of self other }
@@ -118,7 +121,7 @@ impl Frac {
 
     /// The product of the two numbers.
     ///
-    /// `Overflow` exactly where the exact product is out of range.
+    /// `Overflow` exactly if the exact product is out of range.
     #[inline]
     pub fn mul(self, other: Frac) -> Result<Frac, Trap>
         ensures value { result ≡ product_of self other }
@@ -136,13 +139,14 @@ impl Frac {
 
     /// The quotient `self / other`.
     ///
-    /// `DivZero` exactly where `other` is 0, and else `Overflow` exactly where the exact quotient is out of range.
+    /// `DivZero` exactly if `other` is 0, otherwise `Overflow` exactly if the exact quotient is out of range.
     #[inline]
     pub fn div(self, other: Frac) -> Result<Frac, Trap>
         ensures value { result ≡ quotient_of self other }
         ensures exact { IfOk result (λ r. IsRatio r self other) }
         ensures zero { (result ≡ Err Trap.DivZero) ↔ (numerator other ≡ pos 0) }
-        ensures overflow { (result ≡ Err Trap.Overflow) ↔ ((numerator other ≢ pos 0) × ((r : Frac) → ¬ IsRatio r self other)) }
+        ensures overflow { (result ≡ Err Trap.Overflow) ↔
+            ((numerator other ≢ pos 0) × ((r : Frac) → ¬ IsRatio r self other)) }
     {
         if other.num == 0 {
             return Err(Trap::DivZero);
@@ -152,13 +156,14 @@ impl Frac {
 
     /// The number to the power `k`; the power 0 of every number is 1.
     ///
-    /// `DivZero` exactly where the number is 0 and `k` is negative, and else `Overflow` exactly where the exact power is
-    /// out of range.
+    /// `DivZero` exactly if the number is 0 and `k` is negative, otherwise `Overflow` exactly if the exact power is out
+    /// of range.
     pub fn pow(self, k: i32) -> Result<Frac, Trap>
         ensures value { result ≡ whole_power_of self k }
         ensures exact { IfOk result (λ r. IsWholePower r self k) }
         ensures zero { (result ≡ Err Trap.DivZero) ↔ ((numerator self ≡ pos 0) × (k <ℤ pos 0)) }
-        ensures overflow { (result ≡ Err Trap.Overflow) ↔ ((¬ ((numerator self ≡ pos 0) × (k <ℤ pos 0))) × ((r : Frac) → ¬ IsWholePower r self k)) }
+        ensures overflow { (result ≡ Err Trap.Overflow) ↔
+            ((¬ ((numerator self ≡ pos 0) × (k <ℤ pos 0))) × ((r : Frac) → ¬ IsWholePower r self k)) }
     {
         if k >= 0 {
             return self.natural_power(k.unsigned_abs()).ok_or(Trap::Overflow);
@@ -205,7 +210,7 @@ impl Frac {
     ghost use Rattle.um_frac.specs.Fraction.{numerator, denominator, signed, fraction, reduced, IsQuotient};
     ghost use Rattle.um_frac.specs.Arithmetic.{exactly};
 
-    // The quotient `above / below`, with a minus sign where `negative` is set, or `None` where it is out of range.
+    // The quotient `above / below`, with a minus sign if `negative` is set, or `None` if it is out of range.
     fn quotient_of_sizes(negative: bool, above: u128, below: u128) -> Option<Frac>
         requires { 0 < below }
         ensures { result ≡ reduced (signed negative above) (pos below) }
@@ -226,8 +231,8 @@ impl Frac {
         Frac::in_range(negative, (above / common) as u128, (below / common) as u128)
     }
 
-    // The fraction of a numerator, given by its sign and its size, and a denominator in lowest terms, or `None` where
-    // it is out of range.
+    // The fraction of a numerator, given by its sign and its size, and a denominator in lowest terms, or `None` if it
+    // is out of range.
     fn in_range(negative: bool, size: u128, den: u128) -> Option<Frac>
         requires positive { 0 < den }
         requires lowest { gcd size den ≡ 1 }
@@ -257,9 +262,9 @@ impl Frac {
         })
     }
 
-    // The sum of a / m and b / n, which are in lowest terms, or `None` where it is out of range. It comes to lowest
-    // terms by the greatest common divisor of the denominators, and the one that the sum may still have with it
-    // (Knuth, Seminumerical Algorithms, 4.5.1).
+    // The sum of a / m and b / n, which are in lowest terms, or `None` if it is out of range. It comes to lowest terms
+    // by the greatest common divisor of the denominators, and the one that the sum may still have with it (Knuth,
+    // Seminumerical Algorithms, 4.5.1).
     #[inline(never)]
     fn sum_of_parts(a: i64, m: u64, b: i64, n: u64) -> Option<Frac>
         requires first_den { 0 < m }
@@ -285,8 +290,8 @@ impl Frac {
         )
     }
 
-    // The product of a / m and b / n, which are in lowest terms, or `None` where it is out of range. It is in lowest
-    // terms once the greatest common divisors are taken out crosswise (Knuth, Seminumerical Algorithms, 4.5.1).
+    // The product of a / m and b / n, which are in lowest terms, or `None` if it is out of range. It is in lowest terms
+    // once the greatest common divisors are taken out crosswise (Knuth, Seminumerical Algorithms, 4.5.1).
     #[inline(never)]
     fn product_of_parts(a: i64, m: u64, b: i64, n: u64) -> Option<Frac>
         requires first_den { 0 < m }
@@ -304,7 +309,7 @@ impl Frac {
         Frac::in_range((a < 0) != (b < 0), size, below)
     }
 
-    // The number to the power n, or `None` where it is out of range. Powers of numbers in lowest terms are in lowest
+    // The number to the power n, or `None` if it is out of range. Powers of numbers in lowest terms are in lowest
     // terms.
     fn natural_power(self, n: u32) -> Option<Frac>
         ensures { result ≡ reduced (int_pow (numerator self) n) (int_pow (denominator self) n) }

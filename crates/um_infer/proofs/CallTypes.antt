@@ -6,7 +6,7 @@ use Rattle.um_tree.specs.ValueTree.{InputTrees}
 use Rattle.um_tree.specs.Formed.{IsFormed, AreFormedInputs}
 use Rattle.um_rows.specs.Solutions.{HaveSchemes}
 use Rattle.um_rows.specs.Judgement.{not_general}
-use Rattle.um_rows.specs.CallEquations.{call_function}
+use Rattle.um_slots.specs.CallFunction.{call_function}
 use Rattle.um_rows.proofs.CallLaws.{judged_calls_have_their_type, judged_untyped_calls_have_none}
 use Rattle.um_rows.proofs.GeneralLaws.{general_without_parameters}
 use Rattle.um_infer.specs.Inference.{all_schemes, infer}

@@ -13,12 +13,13 @@ use Rattle.um_rows.specs.declared.row.Rows.{Rows}
 use Rattle.um_rows.specs.declared.row.RowStop.{RowStop}
 use Rattle.um_rows.specs.declared.row.RowStop.TheVariants as rows_stop
 use Rattle.um_rows.specs.Steps.{rows_of, first_past}
-use Rattle.um_rows.specs.Slots.{slot_count, slot_equations}
+use Rattle.um_slots.specs.Slots.{slot_count}
+use Rattle.um_rows.specs.Equations.{slot_equations}
 use Rattle.um_rows.specs.Solutions.{function_rows, slot_signature, HaveSchemes}
-use Rattle.um_rows.specs.Keys.{text_keys}
+use Rattle.um_slots.specs.Keys.{text_keys}
 use Rattle.um_rows.specs.Judgement.{Judgement, too_many_slots, by_rows, by_range, judge}
 use Rattle.um_rows.specs.Answers.{rows_signature, AreEquations, StopsFor, HaveVariablesBelow}
-use Rattle.um_rows.proofs.ParameterSlots.{parameters_have_slots}
+use Rattle.um_slots.proofs.ParameterSlots.{parameters_have_slots}
 use Rattle.um_infer.specs.declared.refusal.Refusal.{Refusal}
 use Rattle.um_infer.specs.Forming.{IsAnswer}
 use Rattle.um_infer.specs.Refusals.{refusal_of}

@@ -24,15 +24,16 @@ use Rattle.um_elim.proofs.GrowingOrder.{All-front, All-back, All-member, at_most
 use Rattle.um_elim.proofs.VariablesKept.{unit_below}
 use Rattle.um_rows.specs.declared.row.Row.{Row}
 use Rattle.um_rows.specs.Steps.{rows_of, units_of, first_past}
-use Rattle.um_rows.specs.Slots.{slot_count, slot_equations}
+use Rattle.um_slots.specs.Slots.{slot_count}
+use Rattle.um_rows.specs.Equations.{slot_equations}
 use Rattle.um_rows.specs.Solutions.{slot_signature}
-use Rattle.um_rows.specs.Derivation.{noted_types}
-use Rattle.um_rows.specs.Holes.{note_holes}
-use Rattle.um_rows.specs.Keys.{text_keys}
+use Rattle.um_slots.specs.Noted.{noted_types}
+use Rattle.um_slots.specs.Holes.{note_holes}
+use Rattle.um_slots.specs.Keys.{text_keys}
 use Rattle.um_rows.specs.FirstUnsolvable.{Solving, solved, unsolved, out_of_range, solve, rows_up_to}
 use Rattle.um_rows.specs.Generalised.{generalised_unit, generalised}
 use Rattle.um_rows.specs.Judgement.{numbered_scheme, signature_fits, Judgement, has_scheme, too_many_slots, passes_range, has_no_typing, not_general, by_slots, by_solution, by_solving, by_rows, by_range, judge}
-use Rattle.um_rows.proofs.ParameterSlots.{parameters_have_slots}
+use Rattle.um_slots.proofs.ParameterSlots.{parameters_have_slots}
 use Rattle.um_rows.proofs.SolvingLaws.{IsRightFor, solve_rigidly}
 use Rattle.um_rows.proofs.Solved.{rows_hold_slots, types_hold_slots}
 use Rattle.um_infer.specs.Inference.{Inference, all_schemes, stops_at_slots, stops_at_range, stops_at_units, stops_at_not_general, with_judgement, with_function, and_then, infer_first}

@@ -4,7 +4,7 @@ use Rattle.std.specs.Prelude.{ℕ, List, length}
 use Rattle.um_tree.specs.ValueTree.{InputTrees}
 use Rattle.um_tree.specs.ProgramTree.{FunctionTree, ProgramTree, SchemeTree}
 use Rattle.um_rows.specs.Judgement.{Judgement, judge}
-use Rattle.um_rows.specs.CallEquations.{call_function}
+use Rattle.um_slots.specs.CallFunction.{call_function}
 
 -- the judgement of the call of function k, which is f, on the inputs. The result of its scheme is the type of the call
 abbrev pub judge_call : ProgramTree → List SchemeTree → ℕ → FunctionTree → InputTrees → Judgement

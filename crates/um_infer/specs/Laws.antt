@@ -6,7 +6,7 @@ use Rattle.um_tree.specs.ProgramTree.{RecordTree, FunctionTree, ProgramTree, Sch
 use Rattle.um_tree.specs.ValueTree.{InputTrees}
 use Rattle.um_tree.specs.InputType.{IsResultOfCall, IsTypeOfCall}
 use Rattle.um_tree.specs.Formed.{IsFormed, AreFormedInputs}
-use Rattle.um_rows.specs.Slots.{slot_count}
+use Rattle.um_slots.specs.Slots.{slot_count}
 use Rattle.um_rows.specs.Judgement.{has_scheme, too_many_slots, passes_range, has_no_typing, not_general, judge}
 use Rattle.um_infer.specs.Inference.{Inference, all_schemes, stops_at_slots, stops_at_range, stops_at_units}
 use Rattle.um_infer.specs.Inference.{stops_at_not_general, infer}

@@ -20,10 +20,9 @@ use um_tree::{Inputs, Scheme, Schemes, Ty};
 
 /// The type of the call of function `f` with the arguments, given the schemes that `infer` answered for the program.
 ///
-/// The call is seen as the body of one more function without parameters, behind all others, and judged like a function,
-/// which is always general:
-/// Slots, PowerRange and Units come in the order of `infer`. Units comes exactly where no typing of the function has
-/// parameters of the arguments' types and neither Slots nor PowerRange came before.
+/// The call is seen as the body of one more function without parameters, after all others, and judged like a function,
+/// which is always general: Slots, PowerRange and Units come in the order of `infer`. Units comes exactly if no typing
+/// of the function has parameters of the arguments' types and neither Slots nor PowerRange came before.
 pub fn type_call(
     alloc: Global,
     shaped: &Shaped,
@@ -50,7 +49,7 @@ pub fn type_call(
     }
 }
 
-/// The scheme of the call, seen as one more function behind all others.
+/// The scheme of the call, seen as one more function after all others.
 fn call_scheme(
     alloc: Global,
     shaped: &Shaped,

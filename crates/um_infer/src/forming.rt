@@ -22,10 +22,9 @@ use um_elim::{ElimStop, Numbered, Solver, renumber};
 use um_rows::{Row, Rows};
 use um_tree::{Scheme, Ty, Types};
 
-/// The formed scheme of a function of a program with so many base units: the rows are solved one by one, where each
-/// unit parameter is a unit of its own, the solution is put for the slots of the types, unit parameters become
-/// variables, and all variables are numbered. A power of these types that passes the range is refused at the place
-/// `at`.
+/// The formed scheme of a function of a program with so many base units: the rows are solved one by one, with each unit
+/// parameter as a unit of its own, the solution is put for the slots of the types, unit parameters become variables,
+/// and all variables are numbered. A power of these types that is out of range is refused at the place `at`.
 pub(crate) fn formed_scheme(
     alloc: Global,
     rows: &Rows,

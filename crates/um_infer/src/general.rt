@@ -1,5 +1,5 @@
-//! Unit parameters as variables: behind `bases` base units and over `slots` slots the base unit `bases + k` of
-//! parameter k becomes the variable `slots + k`.
+//! Unit parameters as variables: after `bases` base units and over `slots` slots the base unit `bases + k` of parameter
+//! k becomes the variable `slots + k`.
 
 ghost use Rattle.std.specs.Prelude.{◌≡◌, ◌<◌, ◌+◌, ◌^◌, All, IfOk, map};
 ghost use Rattle.std.specs.List.{flat_map};
@@ -136,7 +136,7 @@ fn generalised_types(
     Ok(items)
 }
 
-/// The types with the unit parameters as variables, and as they are where there are none. No power changes.
+/// The types with the unit parameters as variables, and as they are if there are none. No power changes.
 pub(crate) fn general_types(
     alloc: Global,
     bases: u32,

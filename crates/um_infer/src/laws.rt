@@ -17,8 +17,8 @@ ghost use Rattle.um_infer.specs.Laws.{
 ghost use Rattle.um_infer.specs.Answers.{InferredAnswersAreRight};
 
 /// The schemes that are given are as many as the functions, numbered, and the instances of each are exactly the typings
-/// of its function. They are given exactly where every function has a typing and no function has too many slots or
-/// passes the range of powers. Each has at most 2,000 variables and 16 parameters.
+/// of its function. They are given exactly if every function has a typing and no function has too many slots or a power
+/// out of range. Each has at most 2,000 variables and 16 parameters.
 pub fn schemes()
     ensures principal { GivenSchemesArePrincipal }
     ensures exact { SchemesAreGivenToTyped }
@@ -35,7 +35,7 @@ pub fn refusals()
     ensures typed { TypedStopForLimits }
 {}
 
-/// Each stop comes exactly where a function is judged so and all before it have their schemes.
+/// Each stop comes exactly if a function is judged so and all before it have their schemes.
 pub fn stops()
     ensures slots { SlotStopsAreExact }
     ensures range { RangeStopsAreExact }
@@ -44,15 +44,15 @@ pub fn stops()
     ensures counted { ManySlotsAreCounted }
 {}
 
-/// Where the schemes of all functions are given, the type that a call is judged to have is a type of the call, and a
-/// call that is judged to have none has no result.
+/// If the schemes of all functions are given, the type that a call is judged to have is a type of the call, and a call
+/// that is judged to have none has no result.
 pub fn calls()
     ensures types { JudgedCallTypes }
     ensures refusals { JudgedCallRefusals }
 {}
 
 /// An answer that is the inference's says this of the program's typings: its schemes are principal and numbered, or the
-/// function is the first without a typing, at its first unsolvable row, or it is the first that passes a limit.
+/// function is the first without a typing, at its first unsolvable row, or it is the first that exceeds a limit.
 pub fn answers()
     ensures { InferredAnswersAreRight }
 {}

@@ -19,13 +19,13 @@ use um_tree::{Scheme, Schemes};
 /// The schemes of the program's functions, or the first function that has none.
 ///
 /// The functions are taken in order, each with the schemes of those before it. Of one function it comes first that it
-/// has more than 2,000 slots, then that a power of its equations passes the range, then its rows one by one, and then
-/// that a power of its scheme passes the range, at its name. Each unit parameter is a unit of its own (F#
-/// specification, Units Of Measure). A row that no units satisfy then together with those before it is NotGeneral where
-/// some units do with the unit parameters as unknown units, and else Units, and a power that passes the range while a
-/// row is added is PowerRange, all at the row's place. The instances of each scheme are exactly the function's typings,
-/// and its variables are numbered in the order of their first occurrence (Kennedy 1996; the order and the limits are
-/// this project's own).
+/// has more than 2,000 slots, then that a power of its equations is out of range, then its rows one by one, and then
+/// that a power of its scheme is out of range, at its name. Each unit parameter is a unit of its own (F# specification,
+/// Units Of Measure). A row that no units satisfy then together with those before it is NotGeneral if some units do
+/// with the unit parameters as unknown units, and otherwise Units, and a power that is out of range while a row is
+/// added is PowerRange, all at the row's place. The instances of each scheme are exactly the function's typings, and
+/// its variables are numbered in the order of their first occurrence (Kennedy 1996; the order and the limits are this
+/// project's own).
 pub fn infer(alloc: Global, shaped: &Shaped) -> Result<Schemes, InferStop>
     ensures inferred { IsInferred (program_tree shaped.now) result }
     ensures typings { SaysOfTypings (program_tree shaped.now) result }
@@ -34,7 +34,8 @@ pub fn infer(alloc: Global, shaped: &Shaped) -> Result<Schemes, InferStop>
     infer_first(alloc, shaped, functions)
 }
 
-/// The schemes of the program's first functions, so many of them, or the first of these that has none, as `infer` says.
+/// The schemes of the first functions of the program, as many as are asked for, or the first of these that has none, as
+/// `infer` says.
 pub fn infer_first(alloc: Global, shaped: &Shaped, functions: u32) -> Result<Schemes, InferStop>
     requires { functions ≤ length (program_tree shaped.now).functions }
     ensures { IsFirstInferred (program_tree shaped.now) functions result }

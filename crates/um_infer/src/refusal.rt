@@ -8,9 +8,9 @@ use um_rows::RowStop;
 pub(crate) enum Refusal {
     /// Its first row that no units satisfy together with those before it.
     Units { at: u32 },
-    /// Its first row that some units satisfy, but none where each unit parameter is a unit of its own.
+    /// Its first row that some units satisfy, but none in which each unit parameter is a unit of its own.
     NotGeneral { at: u32 },
-    /// A power that passes the range.
+    /// A power that is out of range.
     PowerRange { at: u32 },
     /// It has more than 2,000 slots.
     Slots,

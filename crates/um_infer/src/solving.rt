@@ -18,7 +18,7 @@ use um_rows::Row;
 pub(crate) enum SolveStop {
     /// The first row that no units satisfy together with those before it, by its number from 0, and its place.
     NoSolution { row: usize, at: u32 },
-    /// A power passes the range while the row at this place is added.
+    /// A power is out of range while the row at this place is added.
     Range { at: u32 },
     /// No memory was left.
     NoMemory,
@@ -35,8 +35,8 @@ impl From<AllocError> for SolveStop {
     }
 }
 
-/// The solver after all rows, where each unit parameter is a unit of its own, or why there is none. A row that has no
-/// solution then is NotGeneral where the rows up to it have one with the unit parameters as slots like the others.
+/// The solver after all rows, with each unit parameter as a unit of its own, or why there is none. A row that has no
+/// solution then is NotGeneral if the rows up to it have one with the unit parameters as slots like the others.
 pub(crate) fn rigid_solver(
     alloc: Global,
     slots: u32,
@@ -70,7 +70,7 @@ fn up_to(rows: &[Row], row: usize) -> &[Row]
     rows
 }
 
-/// The refusal at the last of these rows, which has no solution where each unit parameter is a unit of its own.
+/// The refusal at the last of these rows, which has no solution in which each unit parameter is a unit of its own.
 fn row_refusal(alloc: Global, slots: u32, rows: &[Row], at: u32) -> Refusal
     requires few { slots ≤ 2000 }
     requires variables { All (λ (row : Row). VariablesBelow slots row.unit) rows.now }
@@ -87,7 +87,7 @@ fn row_refusal(alloc: Global, slots: u32, rows: &[Row], at: u32) -> Refusal
     }
 }
 
-/// The solver after all rows, or the first that has no solution or passes the range.
+/// The solver after all rows, or the first that has no solution or a power out of range.
 fn solve_rows(
     alloc: Global,
     slots: u32,

@@ -6,11 +6,11 @@ use thiserror::Error;
 /// Why a program has no schemes: the first of its functions that has none, by its number.
 #[derive(Clone, Copy, Debug, PartialEq, Eq, Error)]
 pub enum InferStop {
-    /// The function has no typing: the first of its equations that no units satisfy stands at the byte offset `at`.
+    /// The function has no typing: the first of its equations that no units satisfy is at the byte offset `at`.
     #[error("no units satisfy the equations")]
     Units { function: u32, at: u32 },
-    /// The function has no typing: some units satisfy its equations up to the one at the byte offset `at`, but none
-    /// where each of its unit parameters is a unit of its own.
+    /// The function has no typing: some units satisfy its equations up to the one at the byte offset `at`, but none in
+    /// which each of its unit parameters is a unit of its own.
     #[error("a unit parameter is not general")]
     NotGeneral { function: u32, at: u32 },
     /// A power outside -2147483647..2147483647 is formed at the byte offset `at`.

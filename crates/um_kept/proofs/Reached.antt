@@ -26,17 +26,17 @@ use Rattle.um_elim.proofs.Cases.{on_test}
 use Rattle.um_elim.proofs.Slots.{length-rigid}
 use Rattle.um_elim.proofs.VariablesKept.{all_rigid_below}
 use Rattle.um_rows.specs.Generalised.{is_parameter}
-use Rattle.um_turns.specs.Turns.{units_after, AreTurnsOf}
-use Rattle.um_making.specs.Making.{signed_by, at_slot, total, parts_after, IsKept}
-use Rattle.um_making.proofs.Extensions.{weight-extension}
-use Rattle.um_making.proofs.Kept.{length-units_after, back_after-base, kept_after, kept_row}
+use Rattle.um_elim.specs.EliminationSteps.{units_after, AreStepsOf}
+use Rattle.um_check.specs.Existence.{signed_by, at_slot, total, parts_after, IsInverse}
+use Rattle.um_check.proofs.Extensions.{weight-extension}
+use Rattle.um_check.proofs.InverseSteps.{length-units_after, inverse_after-base, kept_after, kept_row}
 use Rattle.um_kept.specs.Making.{Kept, row_unit, row_total, turned, ended, LeavePower, IsRowMade, IsReached, first, first_back}
 use Rattle.um_kept.specs.Answers.{HoldsNoParameter}
 use Rattle.um_kept.proofs.Turning.{turns_are_shears, all_replaced, all_turned_below}
 use Rattle.um_kept.proofs.WayBack.{parameter_range, positive_times, ends_stay}
 
 pub record ReachedState (bases parameters slots : ℕ) (rows : List PowerMap) (k : ℕ) (state : Kept) : Type 0 where
-  pub kept : IsKept rows state.solution state.back state.divisor state.parts
+  pub kept : IsInverse rows state.solution state.back state.divisor state.parts
   pub count : length state.solution ≡ slots
   pub below : All (VariablesBelow slots) state.solution
   pub rigid : (i : ℕ) → i < parameters → nth state.solution i ≡ atom (Base (bases + i))
@@ -181,14 +181,14 @@ module _ (bases parameters slots : ℕ) (rows : List PowerMap) (few : parameters
     in_solution : (i : ℕ) → i < parameters → i < length kept.solution
     in_solution i l = let n = s.count in omega (arith, n, l, few)
 
-    module _ (ts : List Turn) (are : AreTurnsOf (row_unit rows kept k) ts) where
+    module _ (ts : List Turn) (are : AreStepsOf (row_unit rows kept k) ts) where
       turned_state : ReachedState bases parameters slots rows (suc k) (turned rows kept k ts)
       turned_state = record {
         kept = kept_after rows kept.solution kept.back kept.divisor kept.parts ts (turns_are_shears ts (row_unit rows kept k) are) s.kept;
         count = length-units_after ts kept.solution ∙ s.count;
         below = all_turned_below slots ts (row_unit rows kept k) kept.solution unit_low are s.below;
         rigid = λ i l. rigid_after ts kept.solution i (bases + i) (in_solution i l) (s.rigid i l);
-        base = λ n. back_after-base ts kept.back n ∙ s.base n;
+        base = λ n. inverse_after-base ts kept.back n ∙ s.base n;
         positive = s.positive;
         parts_below = λ j i held. (let l = s.parts_below j i held in omega (arith, l));
         parts_closed = s.parts_closed;

@@ -13,12 +13,12 @@ use Rattle.um_elim.specs.Solution.{rigid_unit}
 use Rattle.um_elim.proofs.Cases.{on_test}
 use Rattle.um_elim.proofs.TurnLaws.{positive_size}
 use Rattle.um_rows.specs.Generalised.{is_parameter}
-use Rattle.um_turns.specs.Turns.{unit_after, AreTurnsOf}
+use Rattle.um_elim.specs.EliminationSteps.{unit_after, AreStepsOf}
 use Rattle.um_check.specs.Refutation.{IsApart}
-use Rattle.um_making.specs.Making.{back_after}
-use Rattle.um_making.proofs.Kept.{back_after-base}
-use Rattle.um_making.proofs.Refuted.{rows_are}
-use Rattle.um_making.proofs.RigidRefuted.{rigid_is_apart, rigid_closed_is_apart}
+use Rattle.um_check.specs.Existence.{inverse_after}
+use Rattle.um_check.proofs.InverseSteps.{inverse_after-base}
+use Rattle.um_check.proofs.RefutedSteps.{rows_are}
+use Rattle.um_check.proofs.RigidRefuted.{rigid_is_apart, rigid_closed_is_apart}
 use Rattle.um_kept.specs.declared.row.Refused.{Refused}
 use Rattle.um_kept.specs.Making.{Kept, row_unit, row_total, IsReached, first, first_back}
 use Rattle.um_kept.specs.Formed.{IsModulus}
@@ -66,21 +66,21 @@ as_positive (pos n) h = (refl, omega (arith, ints, h))
 as_positive (negsuc n) h = absurd (omega (arith, ints, h))
 
 module _ (bases parameters slots : ℕ) (rows : List PowerMap) (few : parameters ≤ slots) (low : All (VariablesBelow slots) rows) (none : All (HoldsNoParameter bases parameters) rows)
-    (k : ℕ) (kept : Kept) (inside : k < length rows) (s : ReachedState bases parameters slots rows k kept) (ts : List Turn) (are : AreTurnsOf (row_unit rows kept k) ts) where
+    (k : ℕ) (kept : Kept) (inside : k < length rows) (s : ReachedState bases parameters slots rows k kept) (ts : List Turn) (are : AreStepsOf (row_unit rows kept k) ts) where
   divisor : kept.divisor ≡ pos (nat_abs kept.divisor)
   divisor = (as_positive kept.divisor s.positive).0
 
   some : 0 < nat_abs kept.divisor
   some = (as_positive kept.divisor s.positive).1
 
-  leaves : (n : ℕ) → replace (rigid_unit bases parameters) (back_after ts kept.back (Base n)) ≡ atom (Base n)
-  leaves n = ap (replace (rigid_unit bases parameters)) (back_after-base ts kept.back n ∙ s.base n) ∙ rigid_leaves bases parameters n
+  leaves : (n : ℕ) → replace (rigid_unit bases parameters) (inverse_after ts kept.back (Base n)) ≡ atom (Base n)
+  leaves n = ap (replace (rigid_unit bases parameters)) (inverse_after-base ts kept.back n ∙ s.base n) ∙ rigid_leaves bases parameters n
 
-  total_is : replace (nth rows) (row_total rows kept k ts) ≡ pow (extension (back_after ts kept.back) (unit_after ts (row_unit rows kept k))) (pos (nat_abs kept.divisor))
+  total_is : replace (nth rows) (row_total rows kept k ts) ≡ pow (extension (inverse_after ts kept.back) (unit_after ts (row_unit rows kept k))) (pos (nat_abs kept.divisor))
   total_is =
       rows_are rows kept.solution kept.back kept.divisor kept.parts k ts s.kept (row_within bases parameters slots rows few low none k kept inside s) (row_bases bases parameters slots rows few low none k kept inside s)
       (turns_are_shears ts (row_unit rows kept k) are)
-      ∙ ap (pow (extension (back_after ts kept.back) (unit_after ts (row_unit rows kept k)))) divisor
+      ∙ ap (pow (extension (inverse_after ts kept.back) (unit_after ts (row_unit rows kept k)))) divisor
 
   modulus_apart : (z : ℤ) → IsModulus rows kept k ts z → (pos 2 ≤ℤ z) × IsApart z (replace (rigid_unit bases parameters) (replace (nth rows) (row_total rows kept k ts)))
   modulus_apart z (inl m) =
@@ -88,7 +88,7 @@ module _ (bases parameters slots : ℕ) (rows : List PowerMap) (few : parameters
       let e = ap (λ d. d *ℤ pos stuck.p) divisor in (
         subst (λ n. pos 2 ≤ℤ n) (sym (m.1 ∙ e)) (two_at_least (nat_abs kept.divisor) stuck.p some (let l = stuck.e_positive in let h = stuck.below in omega (arith, l, h))),
         subst (λ n. IsApart n (replace (rigid_unit bases parameters) (replace (nth rows) (row_total rows kept k ts)))) (sym (m.1 ∙ e))
-            (rigid_is_apart (rigid_unit bases parameters) (back_after ts kept.back) (unit_after ts (row_unit rows kept k)) (replace (nth rows) (row_total rows kept k ts)) (nat_abs kept.divisor) stuck.m stuck.p stuck.n stuck.e
+            (rigid_is_apart (rigid_unit bases parameters) (inverse_after ts kept.back) (unit_after ts (row_unit rows kept k)) (replace (nth rows) (row_total rows kept k ts)) (nat_abs kept.divisor) stuck.m stuck.p stuck.n stuck.e
             some leaves total_is stuck.is stuck.alone stuck.e_positive stuck.below stuck.base),
       )
   modulus_apart z (inr m) =
@@ -97,7 +97,7 @@ module _ (bases parameters slots : ℕ) (rows : List PowerMap) (few : parameters
       let e = ap (λ d. d *ℤ pos (size + 1)) divisor in (
         subst (λ n. pos 2 ≤ℤ n) (sym (m.2 ∙ e)) (two_at_least (nat_abs kept.divisor) (size + 1) some (let h = positive_size (power_of r (Base m.0)) (m.1).held in omega (arith, h))),
         subst (λ n. IsApart n (replace (rigid_unit bases parameters) (replace (nth rows) (row_total rows kept k ts)))) (sym (m.2 ∙ e))
-            (rigid_closed_is_apart (rigid_unit bases parameters) (back_after ts kept.back) r (replace (nth rows) (row_total rows kept k ts)) (nat_abs kept.divisor) m.0 some leaves total_is (m.1).closed (m.1).held),
+            (rigid_closed_is_apart (rigid_unit bases parameters) (inverse_after ts kept.back) r (replace (nth rows) (row_total rows kept k ts)) (nat_abs kept.divisor) m.0 some leaves total_is (m.1).closed (m.1).held),
       )
 
 pub refused_apart : (bases parameters slots : ℕ) (rows : List PowerMap) (row : ℕ) (kept : Kept) (refused : Refused) → parameters ≤ slots → All (VariablesBelow slots) rows → All (HoldsNoParameter bases parameters) rows →

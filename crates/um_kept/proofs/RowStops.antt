@@ -13,9 +13,9 @@ use Rattle.um_elim.specs.Pivot.{has_base}
 use Rattle.um_elim.specs.Turn.{substitute, multiply, signed, IsTurnOf}
 use Rattle.um_elim.proofs.Cases.{on_test}
 use Rattle.um_wide.specs.Room.{IsNarrow}
-use Rattle.um_turns.specs.Turns.{unit_after, units_after, AreTurnsOf, IsStuck}
-use Rattle.um_making.specs.Making.{signed_by, back_after, divided_back, total, parts_after}
-use Rattle.um_making.proofs.Kept.{length-units_after}
+use Rattle.um_elim.specs.EliminationSteps.{unit_after, units_after, AreStepsOf, IsStuck}
+use Rattle.um_check.specs.Existence.{signed_by, inverse_after, divided_inverse, total, parts_after}
+use Rattle.um_check.proofs.InverseSteps.{length-units_after}
 use Rattle.um_kept.specs.declared.kept.Making.{Making}
 use Rattle.um_kept.specs.declared.kept.Head.{Head}
 use Rattle.um_kept.specs.declared.row.Refused.{Refused}
@@ -24,9 +24,9 @@ use Rattle.um_kept.specs.declared.stop.CertStop.TheVariants as stop
 use Rattle.um_kept.specs.Making.{Kept, row_unit, row_total, turned, ended, LeavePower}
 use Rattle.um_kept.specs.Formed.{IsPowerIn, IsModulus, IsNumberOfEnd, IsNumberOfRefusal, HasLeastBase}
 use Rattle.um_kept.specs.Answers.{Agrees, CarriesPower, IsRefusedAs}
-use Rattle.um_kept.specs.Steps.{ArePartsAfter, CarriesNumber, CarriesRefusal, CarriesOneOf, CarriesOneOfParts, CarriesInRow, CarriesInTurn, IsTurning, IsTurned, IsTreated, IsLeftAlone, divided_at, parts_at}
+use Rattle.um_kept.specs.Steps.{ArePartsAfter, CarriesNumber, CarriesRefusal, CarriesOneOf, CarriesOneOfParts, CarriesInRow, CarriesInTurn, IsTurning, IsTurned, IsRowTreated, IsLeftAlone, divided_at, parts_at}
 use Rattle.um_kept.proofs.Parts.{total_alike}
-use Rattle.um_kept.proofs.Turning.{unit_after-push, units_after-push, back_after-push, turns-push, signed_by-inverted, is_inverted-push}
+use Rattle.um_kept.proofs.Turning.{unit_after-push, units_after-push, inverse_after-push, turns-push, signed_by-inverted, is_inverted-push}
 use Rattle.um_kept.proofs.TurnEnds.{power_left, stuck_left, FirstBase, closed_left}
 use Rattle.um_kept.proofs.WayBack.{divided_is, after_turn, agrees_turned, after_end, agrees_ended}
 
@@ -50,7 +50,7 @@ row_stops rows us row kept k stop.NoMemory e f c = tt
 abbrev back_is_turned : Turn → Kept → PowerMap
 back_is_turned t kept = mul (kept.back (Var t.variable)) (inv (extension kept.back t.by))
 
-own_divided : (t : Turn) (kept : Kept) → divided_back t.variable t.by kept.back (Var t.variable) ≡ back_is_turned t kept
+own_divided : (t : Turn) (kept : Kept) → divided_inverse t.variable t.by kept.back (Var t.variable) ≡ back_is_turned t kept
 own_divided t kept = rw (same_atom_refl (Var t.variable)) refl
 
 module _ (rows : List PowerMap) (kept : Kept) (k : ℕ) (h : Head) (m : Making) (r : PowerMap) (inverted : Bool) (w : IsTurning rows kept k h m r inverted) where
@@ -63,13 +63,13 @@ module _ (rows : List PowerMap) (kept : Kept) (k : ℕ) (h : Head) (m : Making) 
     next_left left e =
         e ∙ ap (λ u. replace (multiply t.variable t.by) (signed t.inverted u)) w.left ∙ sym (unit_after-push w.turns t (row_unit rows kept k))
 
-    pub next_turns : AreTurnsOf (row_unit rows kept k) (w.turns ++ t ∷ [])
+    pub next_turns : AreStepsOf (row_unit rows kept k) (w.turns ++ t ∷ [])
     next_turns = turns-push w.turns t (row_unit rows kept k) w.are (subst (λ u. IsTurnOf u t) w.left is)
 
     pub next_kept : after_turn (turned rows kept k w.turns) t ≡ turned rows kept k (w.turns ++ t ∷ [])
     next_kept = λ i. record {
       solution = sym (units_after-push w.turns t kept.solution) i;
-      back = sym (back_after-push w.turns t kept.back) i;
+      back = sym (inverse_after-push w.turns t kept.back) i;
       divisor = kept.divisor;
       parts = kept.parts;
     }
@@ -91,7 +91,7 @@ module _ (rows : List PowerMap) (kept : Kept) (k : ℕ) (h : Head) (m : Making) 
             ⊎ ((j : ℕ) × (j < length m.solution.items) × IsPowerIn z (replace (multiply t.variable t.by) (nth m.solution.items j))) ⊎ IsPowerIn z (divided_at h m.back.items t.variable t.by)) →
             (IsPowerIn z (unit_after (w.turns ++ t ∷ []) (row_unit rows kept k))
             ⊎ ((j : ℕ) × (j < length kept.solution) × IsPowerIn z (nth (units_after (w.turns ++ t ∷ []) kept.solution) j))
-            ⊎ ((v : ℕ) × IsPowerIn z (back_after (w.turns ++ t ∷ []) kept.back (Var v))))
+            ⊎ ((v : ℕ) × IsPowerIn z (inverse_after (w.turns ++ t ∷ []) kept.back (Var v))))
         power (inl a) = inl (subst (IsPowerIn z) (next_left _ refl) a)
         power (inr (inl b)) =
             inr (inl (
@@ -109,7 +109,7 @@ module _ (rows : List PowerMap) (kept : Kept) (k : ℕ) (h : Head) (m : Making) 
               subst (IsPowerIn z)
                   (sym (divided_is h m (turned rows kept k w.turns) t w.agrees low below)
                   ∙ sym (own_divided t (turned rows kept k w.turns))
-                  ∙ ap (λ (back : Atom → PowerMap). back (Var t.variable)) (sym (back_after-push w.turns t kept.back)))
+                  ∙ ap (λ (back : Atom → PowerMap). back (Var t.variable)) (sym (inverse_after-push w.turns t kept.back)))
                   d,
             ))
     turn_stops low below stop.NoMemory c = tt
@@ -209,7 +209,7 @@ module _ (rows : List PowerMap) (kept : Kept) (k : ℕ) (h : Head) (m : Making) 
           }
 
       pub power_made : has_base r ≡ false → (new : Making) (t : PowerMap) → t ≡ row_total rows kept k w.turns → new.solution.items ≡ map (replace (substitute v one)) m.solution.items → new.back ≡ m.back →
-          new.divisor ≡ m.divisor *ℤ pos alone.p → ArePartsAfter v alone.p t m.solution.items m.parts.items new.parts.items → All IsNarrow new.parts.items → IsTreated rows kept k h new None
+          new.divisor ≡ m.divisor *ℤ pos alone.p → ArePartsAfter v alone.p t m.solution.items m.parts.items new.parts.items → All IsNarrow new.parts.items → IsRowTreated rows kept k h new None
       power_made b new t e solution back divisor parts narrow = (
         ended rows kept k w.turns v alone.p,
         (w.turns, w.are, inr (v, alone.p, leaves b, refl)),
@@ -249,7 +249,7 @@ module _ (rows : List PowerMap) (kept : Kept) (k : ℕ) (h : Head) (m : Making) 
         narrow = narrow;
       }
 
-  pub closed_made : r ≡ one → IsTreated rows kept k h m None
+  pub closed_made : r ≡ one → IsRowTreated rows kept k h m None
   closed_made e = (turned rows kept k w.turns, (w.turns, w.are, inl (sym w.left ∙ e, refl)), w.agrees)
 
 -- ---- at the start of a row

@@ -28,8 +28,8 @@ use Rattle.um_elim.proofs.TurnLaws.{power_of-quotients_pivot, less, power_of-quo
 use Rattle.um_rows.specs.declared.row.Row.{Row}
 use Rattle.um_rows.specs.Steps.{units_of}
 use Rattle.um_rows.specs.FirstUnsolvable.{Solving, solved, unsolved, out_of_range, after_row, solve}
-use Rattle.um_turns.specs.Turns.{unit_after, units_after, AreTurnsOf, IsTreated, IsClosedLeft, IsStuck}
-use Rattle.um_turns.proofs.Trace.{eliminate_treated, eliminate_refused}
+use Rattle.um_elim.specs.EliminationSteps.{unit_after, units_after, AreStepsOf, IsSolvedBySteps, IsClosedLeft, IsStuck}
+use Rattle.um_elim.proofs.FollowedSteps.{eliminate_treated, eliminate_refused}
 use Rattle.um_kept.specs.declared.row.Refused.{Refused}
 use Rattle.um_kept.specs.Making.{Kept, row_unit, IsRowMade, IsReached, first}
 use Rattle.um_kept.specs.Answers.{IsRefusedAs}
@@ -109,7 +109,7 @@ all_same f same (u ∷ us) = λ i. same u i ∷ all_same f same us i
 abbrev ChangesNothing : List Turn → PowerMap → Type 0
 ChangesNothing ts r = (unit_after ts r ≡ r) × ((us : List PowerMap) → units_after ts us ≡ us)
 
-power_stays : (m p : ℕ) (ts : List Turn) (r : PowerMap) → 0 < p → r ≡ pow (atom (Var m)) (pos p) → AreTurnsOf r ts → ChangesNothing ts r
+power_stays : (m p : ℕ) (ts : List Turn) (r : PowerMap) → 0 < p → r ≡ pow (atom (Var m)) (pos p) → AreStepsOf r ts → ChangesNothing ts r
 power_stays m p [] r h e are = (refl, (λ us. refl))
 power_stays m p (t ∷ ts) r h e are =
     let rest = power_stays m p ts (replace (multiply t.variable t.by) (signed t.inverted r)) h (same ∙ e) are.1 in (
@@ -138,7 +138,7 @@ power_stays m p (t ∷ ts) r h e are =
     same : replace (multiply t.variable t.by) (signed t.inverted r) ≡ r
     same = unit_is r m p h at_m alone t are.0 ∙ replace-multiply_one m (quotients m p r) r none
 
-left_stays : (ts : List Turn) (r : PowerMap) → IsLeft r → AreTurnsOf r ts → ChangesNothing ts r
+left_stays : (ts : List Turn) (r : PowerMap) → IsLeft r → AreStepsOf r ts → ChangesNothing ts r
 left_stays [] r l are = (refl, (λ us. refl))
 left_stays (t ∷ ts) r (inl e) are = absurd (no_turn r t (λ k. ap (λ u. power_of u (Var k)) e ∙ power_of-one (Var k)) are.0)
 left_stays (t ∷ ts) r (inr h) are = power_stays h.0 h.1 (t ∷ ts) r h.2 h.3 are
@@ -151,7 +151,7 @@ same_turn r t s a b = let q : a.0 ≡ b.0 = some (sym a.1 ∙ b.1) in a.2 ∙ ap
     some e = cc e
 
 -- units after both ends
-pub same_units : (ts ss : List Turn) (r : PowerMap) (us : List PowerMap) → AreTurnsOf r ts → AreTurnsOf r ss → IsLeft (unit_after ts r) → IsLeft (unit_after ss r) →
+pub same_units : (ts ss : List Turn) (r : PowerMap) (us : List PowerMap) → AreStepsOf r ts → AreStepsOf r ss → IsLeft (unit_after ts r) → IsLeft (unit_after ss r) →
     (unit_after ts r ≡ unit_after ss r) × (units_after ts us ≡ units_after ss us)
 same_units [] ss r us a b l k = let w = left_stays ss r l b in (sym w.0, sym (w.1 us))
 same_units (t ∷ ts) [] r us a b l k = let w = left_stays (t ∷ ts) r k a in (w.0, w.1 us)
@@ -159,11 +159,11 @@ same_units (t ∷ ts) (s ∷ ss) r us a b l k =
     let e : s ≡ t = same_turn r s t b.0 a.0 in
     let f = λ (x : Turn). replace (multiply x.variable x.by) (signed x.inverted r) in
     let g = λ (x : Turn). map (replace (multiply x.variable x.by)) us in
-    let rest = same_units ts ss (f t) (g t) a.1 (subst (λ x. AreTurnsOf (f x) ss) e b.1) l (subst (λ x. IsLeft (unit_after ss (f x))) e k) in
+    let rest = same_units ts ss (f t) (g t) a.1 (subst (λ x. AreStepsOf (f x) ss) e b.1) l (subst (λ x. IsLeft (unit_after ss (f x))) e k) in
     (rest.0 ∙ ap (λ x. unit_after ss (f x)) (sym e), rest.1 ∙ ap (λ x. units_after ss (g x)) (sym e))
 
 -- ---- the base unit that keeps a unit from becoming 1 stays
-stuck_stays : (m p n e : ℕ) (ts : List Turn) (r : PowerMap) → 0 < p → power_of r (Var m) ≡ pos p → ((k : ℕ) → (m == k) ≡ false → power_of r (Var k) ≡ pos 0) → e < p → power_of r (Base n) ≡ pos e → AreTurnsOf r ts →
+stuck_stays : (m p n e : ℕ) (ts : List Turn) (r : PowerMap) → 0 < p → power_of r (Var m) ≡ pos p → ((k : ℕ) → (m == k) ≡ false → power_of r (Var k) ≡ pos 0) → e < p → power_of r (Base n) ≡ pos e → AreStepsOf r ts →
     power_of (unit_after ts r) (Base n) ≡ pos e
 stuck_stays m p n e [] r h at_m alone l base are = base
 stuck_stays m p n e (t ∷ ts) r h at_m alone l base are =
@@ -191,7 +191,7 @@ refused_behind t ts r (inr s) =
     inr (record { m = s.m; p = s.p; positive = s.positive; is = s.is; alone = s.alone; n = s.n; e = s.e; e_positive = s.e_positive; below = s.below; base = s.base })
 
 -- a unit isn't left as 1 or a power and refused too
-pub not_both : (ts ss : List Turn) (r : PowerMap) → AreTurnsOf r ts → AreTurnsOf r ss → IsLeft (unit_after ts r) → Refuses ss r → ⊥
+pub not_both : (ts ss : List Turn) (r : PowerMap) → AreStepsOf r ts → AreStepsOf r ss → IsLeft (unit_after ts r) → Refuses ss r → ⊥
 not_both [] ss r a b l refused =
     let w = left_stays ss r l b in
     let q = refused_base ss r refused in
@@ -202,7 +202,7 @@ not_both (t ∷ ts) [] r a b l (inr s) =
 not_both (t ∷ ts) (s ∷ ss) r a b l refused =
     let e : s ≡ t = same_turn r s t b.0 a.0 in
     let f = λ (x : Turn). replace (multiply x.variable x.by) (signed x.inverted r) in
-    not_both ts ss (f t) a.1 (subst (λ x. AreTurnsOf (f x) ss) e b.1) l (subst (λ x. Refuses ss (f x)) e (refused_behind s ss r refused))
+    not_both ts ss (f t) a.1 (subst (λ x. AreStepsOf (f x) ss) e b.1) l (subst (λ x. Refuses ss (f x)) e (refused_behind s ss r refused))
 
 -- ---- a row
 abbrev Eliminates : List PowerMap → PowerMap → Elimination → Type 0
@@ -227,10 +227,10 @@ module _ (rows : List PowerMap) (kept : Kept) (k : ℕ) where
   made_left : (next : Kept) → (made : IsRowMade rows kept k next) → IsLeft (unit_after made.0 r)
   made_left next made = elim made.2 [ inl h ↦ inl h.0 | inr h ↦ inr (h.0, h.1, (h.2).0, (h.2).1) ]
 
-  treated_left : (vs : List PowerMap) (t : IsTreated us r vs) → IsLeft (unit_after t.turns r)
+  treated_left : (vs : List PowerMap) (t : IsSolvedBySteps us r vs) → IsLeft (unit_after t.turns r)
   treated_left vs t = elim t.ends [ inl h ↦ inl h.left | inr h ↦ inr (h.m, h.p, h.positive, h.left) ]
 
-  same_solution : (next : Kept) (vs : List PowerMap) → IsRowMade rows kept k next → IsTreated us r vs → vs ≡ next.solution
+  same_solution : (next : Kept) (vs : List PowerMap) → IsRowMade rows kept k next → IsSolvedBySteps us r vs → vs ≡ next.solution
   same_solution next vs made t =
       let w = same_units t.turns made.0 r us t.are made.1 (treated_left vs t) (made_left next made) in
       elim t.ends [

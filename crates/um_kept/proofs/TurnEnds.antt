@@ -18,8 +18,8 @@ use Rattle.um_elim.specs.Pivot.{pivot, size, least_power, has_other, has_base}
 use Rattle.um_elim.specs.Turn.{multiply, turn, inverted_if_negative, signed, IsTurnOf}
 use Rattle.um_elim.proofs.PivotLaws.{is_pivot, no_pivot, some_base, no_other}
 use Rattle.um_elim.proofs.TurnLaws.{IsRemainder, power_of-turn_pivot, power_of-turn_other, least_power-falls, positive_pivot, positive_size, signed_inverted}
-use Rattle.um_turns.specs.Turns.{unit_after, IsStuck, IsClosedLeft}
-use Rattle.um_turns.proofs.Ends.{only_power}
+use Rattle.um_elim.specs.EliminationSteps.{unit_after, IsStuck, IsClosedLeft}
+use Rattle.um_elim.proofs.SingleAtoms.{only_power}
 use Rattle.um_kept.specs.Formed.{HasLeastBase}
 use Rattle.um_kept.specs.Steps.{IsLeftAlone, first_size}
 

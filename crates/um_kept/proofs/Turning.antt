@@ -11,8 +11,8 @@ use Rattle.um_elim.specs.Turn.{multiply, signed, IsTurnOf}
 use Rattle.um_elim.proofs.TurnKept.{turn_absent, factor_below, remainder_below}
 use Rattle.um_elim.proofs.IndexTurn.{multiply_stays}
 use Rattle.um_elim.proofs.VariablesKept.{Stays, replaced_below}
-use Rattle.um_turns.specs.Turns.{unit_after, units_after, AreTurnsOf, IsShear}
-use Rattle.um_making.specs.Making.{signed_by, divided_back, back_after}
+use Rattle.um_elim.specs.EliminationSteps.{unit_after, units_after, AreStepsOf, IsShear}
+use Rattle.um_check.specs.Existence.{signed_by, divided_inverse, inverse_after}
 use Rattle.um_kept.specs.Steps.{is_inverted}
 
 -- ---- one more turn
@@ -24,11 +24,11 @@ pub units_after-push : (ts : List Turn) (t : Turn) (us : List PowerMap) → unit
 units_after-push [] t us = refl
 units_after-push (s ∷ ts) t us = units_after-push ts t (map (replace (multiply s.variable s.by)) us)
 
-pub back_after-push : (ts : List Turn) (t : Turn) (back : Atom → PowerMap) → back_after (ts ++ t ∷ []) back ≡ divided_back t.variable t.by (back_after ts back)
-back_after-push [] t back = refl
-back_after-push (s ∷ ts) t back = back_after-push ts t (divided_back s.variable s.by back)
+pub inverse_after-push : (ts : List Turn) (t : Turn) (back : Atom → PowerMap) → inverse_after (ts ++ t ∷ []) back ≡ divided_inverse t.variable t.by (inverse_after ts back)
+inverse_after-push [] t back = refl
+inverse_after-push (s ∷ ts) t back = inverse_after-push ts t (divided_inverse s.variable s.by back)
 
-pub turns-push : (ts : List Turn) (t : Turn) (r : PowerMap) → AreTurnsOf r ts → IsTurnOf (unit_after ts r) t → AreTurnsOf r (ts ++ t ∷ [])
+pub turns-push : (ts : List Turn) (t : Turn) (r : PowerMap) → AreStepsOf r ts → IsTurnOf (unit_after ts r) t → AreStepsOf r (ts ++ t ∷ [])
 turns-push [] t r are is = (is, tt)
 turns-push (s ∷ ts) t r are is = (are.0, turns-push ts t (replace (multiply s.variable s.by) (signed s.inverted r)) are.1 is)
 
@@ -53,7 +53,7 @@ is_inverted-push (s ∷ ts) t = ap (λ b. if s.inverted then not b else b) (is_i
     swapped false false i = refl
 
 -- ---- each turn can be undone
-pub turns_are_shears : (ts : List Turn) (r : PowerMap) → AreTurnsOf r ts → All IsShear ts
+pub turns_are_shears : (ts : List Turn) (r : PowerMap) → AreStepsOf r ts → All IsShear ts
 turns_are_shears [] r are = All-nil IsShear
 turns_are_shears (t ∷ ts) r are = All-cons IsShear t ts (turn_absent r t are.0) (turns_are_shears ts (replace (multiply t.variable t.by) (signed t.inverted r)) are.1)
 
@@ -66,7 +66,7 @@ pub turned_below : (n : ℕ) (r : PowerMap) (t : Turn) → VariablesBelow n r �
 turned_below n r t below is =
     remainder_below n t.variable t.inverted r t.by (replace (multiply t.variable t.by) (signed t.inverted r)) (factor_below n r t is below) refl below
 
-pub all_turned_below : (n : ℕ) (ts : List Turn) (r : PowerMap) (us : List PowerMap) → VariablesBelow n r → AreTurnsOf r ts → All (VariablesBelow n) us → All (VariablesBelow n) (units_after ts us)
+pub all_turned_below : (n : ℕ) (ts : List Turn) (r : PowerMap) (us : List PowerMap) → VariablesBelow n r → AreStepsOf r ts → All (VariablesBelow n) us → All (VariablesBelow n) (units_after ts us)
 all_turned_below n [] r us below are all = all
 all_turned_below n (t ∷ ts) r us below are all =
     all_turned_below n ts (replace (multiply t.variable t.by) (signed t.inverted r)) (map (replace (multiply t.variable t.by)) us) (turned_below n r t below are.0) are.1

@@ -26,8 +26,8 @@ use Rattle.um_elim.proofs.IndexTurn.{multiply_stays}
 use Rattle.um_elim.proofs.Slots.{length-own, length-rigid}
 use Rattle.um_elim.proofs.VariablesKept.{Stays, own_below, all_rigid_below}
 use Rattle.um_rows.specs.Generalised.{is_parameter, generalised_atom, generalised_unit}
-use Rattle.um_making.specs.Making.{divided_back, parts_after}
-use Rattle.um_making.proofs.Extensions.{weight-extension}
+use Rattle.um_check.specs.Existence.{divided_inverse, parts_after}
+use Rattle.um_check.proofs.Extensions.{weight-extension}
 use Rattle.um_kept.specs.declared.kept.Making.{Making}
 use Rattle.um_kept.specs.declared.kept.Head.{Head}
 use Rattle.um_kept.specs.Making.{Kept, first, first_back}
@@ -123,7 +123,7 @@ module _ (h : Head) (m : Making) (few : h.parameters ≤ h.slots) (solution : m.
 abbrev pub after_turn : Kept → Turn → Kept
 after_turn kept t = record {
   solution = map (replace (multiply t.variable t.by)) kept.solution;
-  back = divided_back t.variable t.by kept.back;
+  back = divided_inverse t.variable t.by kept.back;
   divisor = kept.divisor;
   parts = kept.parts;
 }
@@ -139,7 +139,7 @@ module _ (h : Head) (old new : Making) (kept : Kept) (t : Turn) (a : Agrees h ol
   inside : t.variable < length old.back.items
   inside = let n = a.back_count in omega (arith, n, low)
 
-  turned_back_is : (y : Atom) → IsTrue (atom_below h.slots y) → divided_back t.variable t.by kept.back y ≡ back_at h new.back.items y
+  turned_back_is : (y : Atom) → IsTrue (atom_below h.slots y) → divided_inverse t.variable t.by kept.back y ≡ back_at h new.back.items y
   turned_back_is (Base n) l = a.back (Base n) refl ∙ on_test (is_parameter h.bases h.parameters h.slots n)
       (λ e. rw e (sym (ap (λ bs. get_or bs (h.slots + (n - h.bases)) one) turned.back
       ∙ get_or-set_other old.back.items t.variable (h.slots + (n - h.bases)) (divided_at h old.back.items t.variable t.by) one (λ q. omega (arith, low, q)))))

@@ -1,7 +1,8 @@
--- What the treatment of rows answers, and how the code keeps what the definitions keep. Want of memory may come in place
--- of every answer.
+-- What the treatment of rows answers, and how the code keeps what the definitions keep. Want of memory may come in
+-- place of every answer.
 -- Source: this project's own.
-use Rattle.std.specs.Prelude.{◌≡◌, ◌⊎◌, ℕ, ◌+◌, ◌-◌, ◌<◌, if◌then◌else◌, List, length, All, slice_index_or, IsTrue, pos, nat_abs}
+use Rattle.std.specs.Prelude.{◌≡◌, ◌⊎◌, ℕ, ◌+◌, ◌-◌, ◌<◌, if◌then◌else◌, List, length, All, slice_index_or, IsTrue, pos}
+use Rattle.std.specs.Prelude.{nat_abs}
 use Rattle.std.specs.Int.Signed.{◌<ℤ◌}
 use Rattle.um_units.specs.declared.Atom.{Atom}
 use Rattle.um_units.specs.declared.Atom.TheVariants.{Base, Var}
@@ -9,7 +10,7 @@ use Rattle.um_units.specs.PowerMap.{PowerMap, one, atom, power_of, nth}
 use Rattle.um_units.specs.Variables.{VariablesBelow, atom_below}
 use Rattle.um_wide.specs.Room.{IsNarrow}
 use Rattle.um_elim.specs.declared.turning.Turn.{Turn}
-use Rattle.um_turns.specs.Turns.{AreTurnsOf, IsClosedLeft, IsStuck}
+use Rattle.um_elim.specs.EliminationSteps.{AreStepsOf, IsClosedLeft, IsStuck}
 use Rattle.um_rows.specs.declared.row.Row.{Row}
 use Rattle.um_rows.specs.Generalised.{is_parameter}
 use Rattle.um_rows.specs.Steps.{units_of}
@@ -55,7 +56,7 @@ pub record Agrees (h : Head) (m : Making) (kept : Kept) : Type 0 where
 -- a product of rows with this modulus shows that the row has no solution
 pub record IsRefusedAs (rows : List PowerMap) (kept : Kept) (k : ℕ) (refused : Refused) : Type 0 where
   pub turns : List Turn
-  pub are : AreTurnsOf (row_unit rows kept k) turns
+  pub are : AreStepsOf (row_unit rows kept k) turns
   pub modulus : IsModulus rows kept k turns refused.modulus
   pub total : refused.total ≡ row_total rows kept k turns
   pub ends : IsClosedLeft turns (row_unit rows kept k) ⊎ IsStuck turns (row_unit rows kept k)

@@ -5,8 +5,8 @@ use Rattle.um_units.specs.declared.Atom.{Atom}
 use Rattle.um_units.specs.declared.Atom.TheVariants.{Base, Var}
 use Rattle.um_units.specs.PowerMap.{PowerMap, power_of, atom, mul, inv, nth, extension}
 use Rattle.um_elim.specs.declared.turning.Turn.{Turn}
-use Rattle.um_turns.specs.Turns.{unit_after, units_after, AreTurnsOf, IsStuck}
-use Rattle.um_making.specs.Making.{back_after, parts_after}
+use Rattle.um_elim.specs.EliminationSteps.{unit_after, units_after, AreStepsOf, IsStuck}
+use Rattle.um_check.specs.Existence.{inverse_after, parts_after}
 use Rattle.um_kept.specs.Making.{Kept, row_unit, row_total, LeavePower, IsReached}
 
 -- the number is an atom's power in the unit
@@ -24,10 +24,10 @@ module _ (rows : List PowerMap) (kept : Kept) (k : ℕ) where
 
   abbrev pub IsUnitPower : ℤ → Type 0
   IsUnitPower z =
-      (ts : List Turn) × AreTurnsOf (row_unit rows kept k) ts
+      (ts : List Turn) × AreStepsOf (row_unit rows kept k) ts
       × (IsPowerIn z (unit_after ts (row_unit rows kept k))
       ⊎ ((j : ℕ) × (j < length kept.solution) × IsPowerIn z (nth (units_after ts kept.solution) j))
-      ⊎ ((m : ℕ) × IsPowerIn z (back_after ts kept.back (Var m))))
+      ⊎ ((m : ℕ) × IsPowerIn z (inverse_after ts kept.back (Var m))))
 
   -- ---- powers of rows, divisors and moduli
 
@@ -53,7 +53,7 @@ module _ (rows : List PowerMap) (kept : Kept) (k : ℕ) where
 
   abbrev pub IsNumber : ℤ → Type 0
   IsNumber z =
-      (ts : List Turn) × AreTurnsOf (row_unit rows kept k) ts × (IsNumberOfEnd ts z ⊎ IsNumberOfRefusal ts z)
+      (ts : List Turn) × AreStepsOf (row_unit rows kept k) ts × (IsNumberOfEnd ts z ⊎ IsNumberOfRefusal ts z)
 
   -- ---- it passes what holds it: -2147483647..2147483647 or -9223372036854775807..9223372036854775807
   abbrev pub PassesInRow : ℤ → Type 0

@@ -9,8 +9,8 @@ use Rattle.um_elim.specs.declared.turning.Turn.{Turn}
 use Rattle.um_elim.specs.Turn.{substitute}
 use Rattle.um_elim.specs.Solution.{rigid_units}
 use Rattle.um_rows.specs.Generalised.{is_parameter}
-use Rattle.um_turns.specs.Turns.{unit_after, units_after, AreTurnsOf}
-use Rattle.um_making.specs.Making.{signed_by, back_after, total, parts_after}
+use Rattle.um_elim.specs.EliminationSteps.{unit_after, units_after, AreStepsOf}
+use Rattle.um_check.specs.Existence.{signed_by, inverse_after, total, parts_after}
 
 -- a unit for each slot, the way back from an atom to slots, and for each slot the powers of rows, as a unit over the
 -- rows' numbers, by which it comes back up to the power `divisor`
@@ -51,7 +51,7 @@ module _ (rows : List PowerMap) (kept : Kept) (k : ℕ) where
   abbrev pub turned : List Turn → Kept
   turned ts = record {
     solution = units_after ts kept.solution;
-    back = back_after ts kept.back;
+    back = inverse_after ts kept.back;
     divisor = kept.divisor;
     parts = kept.parts;
   }
@@ -60,7 +60,7 @@ module _ (rows : List PowerMap) (kept : Kept) (k : ℕ) where
   abbrev pub ended : List Turn → ℕ → ℕ → Kept
   ended ts m p = record {
     solution = map (replace (substitute m one)) (units_after ts kept.solution);
-    back = back_after ts kept.back;
+    back = inverse_after ts kept.back;
     divisor = kept.divisor *ℤ pos p;
     parts = parts_after m p (row_total ts) (units_after ts kept.solution) kept.parts;
   }
@@ -72,7 +72,7 @@ module _ (rows : List PowerMap) (kept : Kept) (k : ℕ) where
   -- what is kept after the row: the turns of what it is turned into leave 1, or a power that then becomes 1
   abbrev pub IsRowMade : Kept → Type 0
   IsRowMade next =
-      (ts : List Turn) × AreTurnsOf row_unit ts
+      (ts : List Turn) × AreStepsOf row_unit ts
       × (((unit_after ts row_unit ≡ one) × (next ≡ turned ts))
       ⊎ ((m p : ℕ) × LeavePower ts m p × (next ≡ ended ts m p)))
 

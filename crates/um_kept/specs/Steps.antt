@@ -1,20 +1,24 @@
 -- The code's: what the parts of a row's treatment answer.
 -- Source: this project's own; no clause of a public call rests on it.
-use Rattle.std.specs.Prelude.{◌≡◌, ◌⊎◌, ℕ, ◌+◌, ◌<◌, if◌then◌else◌, Bool, true, false, not, List, [], ◌∷◌, length, map, set, slice_index_or, ℤ, pos, negsuc, nat_abs, ◌*ℤ◌, Option, Some, None}
+use Rattle.std.specs.Prelude.{◌≡◌, ◌⊎◌, ℕ, ◌+◌, ◌<◌, ◌≤◌, if◌then◌else◌, Bool, true, false, not, All, List, [], ◌∷◌}
+use Rattle.std.specs.Prelude.{length, map, set, slice_index_or, ℤ, pos, negsuc, nat_abs, ◌*ℤ◌, Option, Some, None}
+use Rattle.std.specs.Int.Signed.{◌<ℤ◌}
 use Rattle.um_units.specs.declared.Atom.TheVariants.{Base, Var}
 use Rattle.um_units.specs.declared.Term.{Term}
 use Rattle.um_units.specs.PowerMap.{PowerMap, one, mul, inv, pow, power_of, replace, nth}
+use Rattle.um_units.specs.Variables.{VariablesBelow}
+use Rattle.um_wide.specs.Room.{IsNarrow}
 use Rattle.um_elim.specs.declared.turning.Turn.{Turn}
 use Rattle.um_elim.specs.Pivot.{has_other, is_base}
 use Rattle.um_elim.specs.Turn.{multiply, signed}
-use Rattle.um_turns.specs.Turns.{unit_after, AreTurnsOf}
+use Rattle.um_elim.specs.EliminationSteps.{unit_after, AreStepsOf}
 use Rattle.um_rows.specs.Generalised.{generalised_unit}
 use Rattle.um_kept.specs.declared.kept.Making.{Making}
 use Rattle.um_kept.specs.declared.kept.Head.{Head}
 use Rattle.um_kept.specs.declared.row.Refused.{Refused}
 use Rattle.um_kept.specs.declared.stop.CertStop.{CertStop}
 use Rattle.um_kept.specs.declared.stop.CertStop.TheVariants as stop
-use Rattle.um_making.specs.Making.{at_slot, parts_after}
+use Rattle.um_check.specs.Existence.{at_slot, total, parts_after}
 use Rattle.um_kept.specs.Making.{Kept, row_unit, turned, IsRowMade}
 use Rattle.um_kept.specs.Formed.{IsPowerIn, PassesInRow}
 use Rattle.um_kept.specs.Answers.{Agrees, IsRefusedAs}
@@ -35,9 +39,9 @@ CarriesOneOf limit us (stop.CertRange z) = (j : ℕ) × (j < length us) × IsPow
 CarriesOneOf limit us stop.NoMemory = Unit {0}
 
 -- a row is treated: it is made, or has no solution
-abbrev pub IsTreated : List PowerMap → Kept → ℕ → Head → Making → Option Refused → Type 0
-IsTreated rows kept k h new None = (next : Kept) × IsRowMade rows kept k next × Agrees h new next
-IsTreated rows kept k h new (Some refused) = IsRefusedAs rows kept k refused
+abbrev pub IsRowTreated : List PowerMap → Kept → ℕ → Head → Making → Option Refused → Type 0
+IsRowTreated rows kept k h new None = (next : Kept) × IsRowMade rows kept k next × Agrees h new next
+IsRowTreated rows kept k h new (Some refused) = IsRefusedAs rows kept k refused
 
 abbrev pub CarriesInRow : List PowerMap → Kept → ℕ → CertStop → Type 0
 CarriesInRow rows kept k (stop.CertRange z) = PassesInRow rows kept k z
@@ -52,10 +56,21 @@ is_inverted (t ∷ ts) = if t.inverted then not (is_inverted ts) else is_inverte
 pub record IsTurning
     (rows : List PowerMap) (kept : Kept) (k : ℕ) (h : Head) (m : Making) (r : PowerMap) (inverted : Bool) : Type 0 where
   pub turns : List Turn
-  pub are : AreTurnsOf (row_unit rows kept k) turns
+  pub are : AreStepsOf (row_unit rows kept k) turns
   pub left : r ≡ unit_after turns (row_unit rows kept k)
   pub agrees : Agrees h m (turned rows kept k turns)
   pub sign : inverted ≡ is_inverted turns
+
+-- what is kept is ready for a row over its slots
+pub record IsReady (m : Making) (row : PowerMap) : Type 0 where
+  pub few : length m.parts.items ≤ 2000
+  pub narrow : All IsNarrow m.parts.items
+  pub below : VariablesBelow (length m.parts.items) row
+  pub positive : pos 0 <ℤ m.divisor
+
+-- the powers of rows that the inverse substitution gives for row k
+abbrev pub total_in : Making → PowerMap → ℕ → PowerMap
+total_in m row k = total (λ j. slice_index_or m.parts.items j one) row k m.divisor
 
 -- ---- the end of a row: each slot's powers of rows after it
 

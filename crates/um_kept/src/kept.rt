@@ -1,6 +1,7 @@
-//! What the making of a certificate keeps beside the elimination of rows.
+//! What is kept for a certificate beside the elimination of rows.
 
-ghost use Rattle.std.specs.Prelude.{◌≡◌, ◌≤◌, ◌<◌, ◌+◌, ◌^◌, All, length, map, set, pos, nat_abs, true, IfOk, OnOk, MatchResult, IfErr};
+ghost use Rattle.std.specs.Prelude.{◌≡◌, ◌≤◌, ◌<◌, ◌+◌, ◌^◌, All, length, map, set, pos, nat_abs, true, IfOk, OnOk};
+ghost use Rattle.std.specs.Prelude.{MatchResult, IfErr};
 ghost use Rattle.um_units.specs.declared.Atom.TheVariants.{Var};
 ghost use Rattle.um_units.specs.PowerMap.{PowerMap, one, atom, inv, mul, pow, power_of, replace, nth};
 ghost use Rattle.um_units.specs.Variables.{VariablesBelow};
@@ -36,8 +37,8 @@ pub struct Head {
 pub struct Making {
     /// A unit for each slot.
     pub solution: Vec<Unit>,
-    /// For the variable of each slot, and then for the base unit of each unit parameter, the unit over slots that it
-    /// goes back to.
+    /// The inverse substitution: for the variable of each slot, and then for the base unit of each unit parameter, the
+    /// unit over slots that it goes back to.
     pub back: Vec<Unit>,
     pub divisor: i64,
     /// For each slot the powers of rows by which it comes back, up to the power `divisor`: a unit over the rows'
@@ -97,8 +98,8 @@ pub fn multiply_all(alloc: Global, units: &mut Vec<Unit>, m: u32, w: &Unit) -> R
     Ok(())
 }
 
-/// What the turn's variable goes back to, divided by what the product that it is multiplied by goes back to. In this
-/// product the base unit of a unit parameter stands for the parameter's slot.
+/// What the inverse substitution gives for the step's variable, divided by what it gives for the product by which the
+/// step multiplies it. In this product the base unit of a unit parameter stands for the parameter's slot.
 pub fn divide_back(
     alloc: Global,
     back: &mut Vec<Unit>,
@@ -153,7 +154,7 @@ fn end_units(alloc: Global, units: &mut Vec<Unit>, m: u32) -> Result<(), AllocEr
     Ok(())
 }
 
-/// The powers of rows of one slot where variable m to the power p became 1 and stood in the slot's unit to the power e.
+/// The powers of rows of one slot if variable m to the power p became 1 and occurred in the slot's unit to the power e.
 fn slot_parts(
     alloc: Global,
     parts: &WideUnit,
@@ -173,15 +174,15 @@ fn slot_parts(
     narrowed(sum)
 }
 
-/// Whether the powers of rows of a slot stay, in whose unit the variable that becomes 1 from the power p stands to the
-/// power e.
+/// Whether the powers of rows of a slot stay, if the variable that becomes 1 from the power p occurs in the slot's unit
+/// to the power e.
 fn stays(p: i32, e: i32) -> bool
     ensures { result ≡ true → (p ≡ pos 1) × (e ≡ pos 0) }
 {
     p == 1 && e == 0
 }
 
-/// Each slot's powers of rows are p times those before, less those of the row as often as variable m stands in the
+/// Each slot's powers of rows are p times those before, less those of the row as often as variable m occurs in the
 /// slot's unit.
 fn end_parts(
     alloc: Global,
@@ -211,7 +212,7 @@ fn end_parts(
 }
 
 /// Variable m, left to the power p, becomes 1: each slot's powers of rows are p times those before, less those of the
-/// row as often as the variable stands in the slot's unit.
+/// row as often as the variable occurs in the slot's unit.
 pub fn end_variable(
     alloc: Global,
     solution: &mut Vec<Unit>,

@@ -7,7 +7,7 @@ ghost use Rattle.um_units.specs.Variables.{VariablesBelow};
 ghost use Rattle.um_rows.specs.declared.row.Row.{Row as RowData};
 ghost use Rattle.um_wide.specs.Room.{IsNarrow};
 ghost use Rattle.um_check.specs.Combination.{NamesRowsBelow};
-ghost use Rattle.um_making.specs.Making.{exponents};
+ghost use Rattle.um_check.specs.Existence.{exponents};
 ghost use Rattle.um_kept.specs.Answers.{AreMade, CarriesInRows};
 
 use crate::CertStop;

@@ -1,7 +1,8 @@
-//! Numbers that pass what holds them.
+//! Numbers that overflow.
 
 ghost use Rattle.std.specs.Prelude.{◌≡◌, ◌<◌, ℤ, Option, Some, None, nat_abs, nat_lt, pos, MatchResult, IfOk};
 ghost use Rattle.um_units.specs.PowerMap.{mul, pow};
+ghost use Rattle.um_units.specs.Range.{fits, RangeUnless};
 ghost use Rattle.um_wide.specs.Room.{IsNarrow, IsWithin};
 ghost use Rattle.um_kept.specs.Formed.{IsPowerIn};
 ghost use Rattle.um_kept.specs.Answers.{CarriesPower};
@@ -72,8 +73,8 @@ fn narrow_unit(alloc: Global, wide: &WideUnit) -> Result<Unit, AllocError>
     }
 }
 
-/// The unit to the power 1 or -1 times the other's k-th power. Units are multiplied as units, and again as wide ones
-/// where a power passes a unit's range, which tells the power.
+/// The unit to the power 1 or -1 times the other's k-th power. They are multiplied as units, and once more as wide
+/// units if a power is out of a unit's range: these tell the power.
 pub fn times(alloc: Global, unit: &Unit, sign: i64, other: &Unit, k: i32) -> Result<Unit, CertStop>
     requires { nat_abs sign ≡ 1 }
     ensures { MatchResult result (λ made. made ≡ mul (pow unit.now sign) (pow other.now k))
@@ -86,9 +87,11 @@ pub fn times(alloc: Global, unit: &Unit, sign: i64, other: &Unit, k: i32) -> Res
     }
 }
 
+/// The same as units. `Range` comes exactly if a power of the product is out of range.
 fn unit_times(alloc: Global, unit: &Unit, sign: i64, other: &Unit, k: i32) -> Result<Unit, UnitStop>
     requires { nat_abs sign ≡ 1 }
-    ensures { IfOk result (λ made. made ≡ mul (pow unit.now sign) (pow other.now k)) }
+    ensures exact { IfOk result (λ made. made ≡ mul (pow unit.now sign) (pow other.now k)) }
+    ensures range { RangeUnless result (fits (mul (pow unit.now sign) (pow other.now k))) }
 {
     if sign == 1 {
         return unit.mul_pow(alloc, other, k);
@@ -97,6 +100,7 @@ fn unit_times(alloc: Global, unit: &Unit, sign: i64, other: &Unit, k: i32) -> Re
     inverse.mul_pow(alloc, other, k)
 }
 
+/// The same by wide units, which have room for each power.
 fn wide_times(alloc: Global, unit: &Unit, sign: i64, other: &Unit, k: i32) -> Result<Unit, CertStop>
     requires { nat_abs sign ≡ 1 }
     ensures { MatchResult result (λ made. made ≡ mul (pow unit.now sign) (pow other.now k))

@@ -1,6 +1,7 @@
 //! The treatment of one row.
 
-ghost use Rattle.std.specs.Prelude.{◌≡◌, ◌≤◌, ◌<◌, ◌+◌, ◌^◌, ◌*◌, ◌*ℤ◌, not, if◌then◌else◌, List, [], ◌∷◌, All, length, nat_abs, pos, None, slice_index_or, IfOk, OnOk, MatchResult, IfErr, IsTrue};
+ghost use Rattle.std.specs.Prelude.{◌≡◌, ◌≤◌, ◌<◌, ◌+◌, ◌^◌, ◌*◌, ◌*ℤ◌, not, if◌then◌else◌, List, [], ◌∷◌, All, length};
+ghost use Rattle.std.specs.Prelude.{nat_abs, pos, None, slice_index_or, IfOk, OnOk, MatchResult, IfErr, IsTrue};
 ghost use Rattle.std.specs.Int.Signed.{◌<ℤ◌};
 ghost use Rattle.std.specs.List.{list_any};
 ghost use Rattle.um_units.specs.declared.Atom.TheVariants.{Var};
@@ -10,11 +11,13 @@ ghost use Rattle.um_units.specs.Variables.{VariablesBelow, atom_below};
 ghost use Rattle.um_elim.specs.Pivot.{is_base, is_other, pivot};
 ghost use Rattle.um_elim.specs.Turn.{multiply, signed};
 ghost use Rattle.um_wide.specs.Room.{IsNarrow, IsWithin};
-ghost use Rattle.um_making.specs.Making.{at_slot, total};
+ghost use Rattle.um_check.specs.Existence.{at_slot};
 ghost use Rattle.um_kept.specs.Making.{Kept};
 ghost use Rattle.um_kept.specs.declared.kept.Head.{Head as HeadData};
 ghost use Rattle.um_kept.specs.Answers.{Agrees, CarriesPower};
-ghost use Rattle.um_kept.specs.Steps.{CarriesInRow, CarriesInTurn, CarriesNumber, CarriesRefusal, IsLeftAlone, IsTreated, IsTurned, IsTurning, first_size, parts_product, sign_of, variable_count};
+ghost use Rattle.um_kept.specs.Steps.{CarriesInRow, CarriesInTurn, CarriesNumber, CarriesRefusal, IsLeftAlone, IsReady};
+ghost use Rattle.um_kept.specs.Steps.{IsRowTreated, IsTurned, IsTurning, first_size, parts_product, sign_of};
+ghost use Rattle.um_kept.specs.Steps.{total_in, variable_count};
 
 use crate::CertStop;
 use crate::kept::{Head, Making, divide_back, end_variable, multiply_all};
@@ -32,7 +35,16 @@ pub struct Refused {
     pub modulus: i64,
 }
 
-/// The row with the solution put for its slots, by wide units where a power passes a unit's range.
+/// A row, whether the steps so far inverted it, and what they leave of it.
+#[derive(Drop)]
+struct TreatedRow<'a> {
+    number: u32,
+    unit: &'a Unit,
+    inverted: bool,
+    left: &'a Unit,
+}
+
+/// The row with the solution put for its slots, by wide units if a power is out of a unit's range.
 fn put_in_row(alloc: Global, row: &Unit, solution: &[Unit]) -> Result<Unit, CertStop>
     ensures { MatchResult result (λ unit. unit ≡ replace (nth solution.now) row.now)
         (CarriesPower 2147483647 (replace (nth solution.now) row.now)) }
@@ -118,25 +130,16 @@ fn product_of_parts(
     }
 }
 
-/// The powers of rows that row k goes back to, with the sign of its turns.
-fn row_total(
-    alloc: Global,
-    making: &Making,
-    row: &Unit,
-    k: u32,
-    inverted: bool,
-) -> Result<WideUnit, CertStop>
-    requires few { length making.now.parts.items ≤ 2000 }
-    requires narrow { All IsNarrow making.now.parts.items }
-    requires below { VariablesBelow (length making.now.parts.items) row.now }
-    requires positive { pos 0 <ℤ making.now.divisor }
+/// The powers of rows that the inverse substitution gives for the row, with the sign of its steps.
+fn row_total(alloc: Global, making: &Making, row: &TreatedRow) -> Result<WideUnit, CertStop>
+    requires ready { IsReady making.now row.now.unit.now }
     ensures exact { IfOk result (λ made. made
-        ≡ signed inverted (total (λ j. slice_index_or making.now.parts.items j one) row.now k making.now.divisor)) }
+        ≡ signed row.now.inverted (total_in making.now row.now.unit.now row.now.number)) }
     ensures narrow { MatchResult result IsNarrow (CarriesPower 9223372036854775807
-        (signed inverted (total (λ j. slice_index_or making.now.parts.items j one) row.now k making.now.divisor))) }
+        (signed row.now.inverted (total_in making.now row.now.unit.now row.now.number))) }
 {
-    let own = own_power(alloc, k, making.divisor, inverted)?;
-    let others = product_of_parts(alloc, &making.parts, row.terms(), inverted)?;
+    let own = own_power(alloc, row.number, making.divisor, row.inverted)?;
+    let others = product_of_parts(alloc, &making.parts, row.unit.terms(), row.inverted)?;
     let sum = others.mul(alloc, &own)?;
     narrowed(sum)
 }
@@ -154,7 +157,7 @@ fn number_times(left: i64, right: i64) -> Result<i64, CertStop>
     Ok(product as i64)
 }
 
-/// Whether a variable other than m stands in the terms.
+/// Whether a variable other than m occurs in the terms.
 fn has_other_variable(terms: &[Term], m: u32) -> bool
     ensures { result ≡ list_any (λ (t : TermData). is_other m t.atom) terms.now }
 {
@@ -164,7 +167,7 @@ fn has_other_variable(terms: &[Term], m: u32) -> bool
     })
 }
 
-/// Whether a base unit stands in the terms.
+/// Whether a base unit occurs in the terms.
 fn has_base_unit(terms: &[Term]) -> bool
     ensures { result ≡ list_any (λ (t : TermData). is_base t.atom) terms.now }
 {
@@ -188,7 +191,7 @@ fn flipped(inverted: bool, again: bool) -> bool
     if again { !inverted } else { inverted }
 }
 
-/// What the turn leaves of the unit.
+/// What the step leaves of the unit.
 fn turned(alloc: Global, r: &Unit, turn: &Turn) -> Result<Unit, CertStop>
     ensures { MatchResult result
         (λ left. left ≡ replace (multiply turn.now.variable turn.now.by) (signed turn.now.inverted r.now))
@@ -201,7 +204,7 @@ fn turned(alloc: Global, r: &Unit, turn: &Turn) -> Result<Unit, CertStop>
     times(alloc, r, 1, &turn.by, power)
 }
 
-/// The turn, of what is left of the row and of what is kept.
+/// The step, of what is left of the row and of what is kept.
 fn make_turn(
     alloc: Global,
     making: &mut Making,
@@ -226,29 +229,24 @@ fn make_turn(
     Ok(left)
 }
 
-/// The powers of rows that row k goes back to, and a factor times the divisor.
+/// The powers of rows that the inverse substitution gives for the row, and a factor times the divisor.
 fn row_refusal(
     alloc: Global,
     making: &Making,
-    row: &Unit,
-    k: u32,
-    inverted: bool,
+    row: &TreatedRow,
     factor: i64,
 ) -> Result<Refused, CertStop>
-    requires few { length making.now.parts.items ≤ 2000 }
-    requires narrow { All IsNarrow making.now.parts.items }
-    requires below { VariablesBelow (length making.now.parts.items) row.now }
-    requires positive { pos 0 <ℤ making.now.divisor }
+    requires ready { IsReady making.now row.now.unit.now }
     requires factor { (pos 0 <ℤ factor) × (nat_abs factor ≤ 2147483648) }
     ensures total { IfOk result (λ refused. refused.total
-        ≡ signed inverted (total (λ j. slice_index_or making.now.parts.items j one) row.now k making.now.divisor)) }
+        ≡ signed row.now.inverted (total_in making.now row.now.unit.now row.now.number)) }
     ensures modulus { IfOk result (λ refused. refused.modulus ≡ making.now.divisor *ℤ factor) }
     ensures narrow { IfOk result (λ refused. IsNarrow refused.total) }
     ensures range { IfErr result (CarriesRefusal
-        (signed inverted (total (λ j. slice_index_or making.now.parts.items j one) row.now k making.now.divisor))
+        (signed row.now.inverted (total_in making.now row.now.unit.now row.now.number))
         (making.now.divisor *ℤ factor)) }
 {
-    let total = row_total(alloc, making, row, k, inverted)?;
+    let total = row_total(alloc, making, row)?;
     match number_times(making.divisor, factor) {
         Ok(modulus) => Ok(Refused { total, modulus }),
         Err(stop) => {
@@ -258,59 +256,47 @@ fn row_refusal(
     }
 }
 
-/// The end of row k, where no variable is left of it.
-fn closed_end(
-    alloc: Global,
-    making: &Making,
-    row: &Unit,
-    k: u32,
-    inverted: bool,
-    r: &Unit,
-) -> Result<Option<Refused>, CertStop>
-    requires few { length making.now.parts.items ≤ 2000 }
-    requires narrow { All IsNarrow making.now.parts.items }
-    requires below { VariablesBelow (length making.now.parts.items) row.now }
-    requires positive { pos 0 <ℤ making.now.divisor }
-    requires closed { pivot r.now ≡ None }
-    ensures treated { (h : HeadData) (rows : List PowerMap) (kept : Kept) → row.now ≡ nth rows k
-        → IsTurning rows kept k h making.now r.now inverted → IfOk result (IsTreated rows kept k h making.now) }
-    ensures range { (h : HeadData) (rows : List PowerMap) (kept : Kept) → row.now ≡ nth rows k
-        → IsTurning rows kept k h making.now r.now inverted → IfErr result (CarriesInRow rows kept k) }
+/// The end of a row of which no variable is left.
+fn closed_end(alloc: Global, making: &Making, row: &TreatedRow) -> Result<Option<Refused>, CertStop>
+    requires ready { IsReady making.now row.now.unit.now }
+    requires closed { pivot row.now.left.now ≡ None }
+    ensures treated { (h : HeadData) (rows : List PowerMap) (kept : Kept) → row.now.unit.now ≡ nth rows row.now.number
+        → IsTurning rows kept row.now.number h making.now row.now.left.now row.now.inverted
+        → IfOk result (IsRowTreated rows kept row.now.number h making.now) }
+    ensures range { (h : HeadData) (rows : List PowerMap) (kept : Kept) → row.now.unit.now ≡ nth rows row.now.number
+        → IsTurning rows kept row.now.number h making.now row.now.left.now row.now.inverted
+        → IfErr result (CarriesInRow rows kept row.now.number) }
 {
-    match first_size(r.terms()) {
+    match first_size(row.left.terms()) {
         None => Ok(None),
         Some(size) => {
             let factor = i64::from(size) + 1;
-            let refused = row_refusal(alloc, making, row, k, inverted, factor)?;
+            let refused = row_refusal(alloc, making, row, factor)?;
             Ok(Some(refused))
         }
     }
 }
 
-/// The end of row k, where one variable is left of it, to the power p.
+/// The end of a row of which one variable is left.
 fn power_end(
     alloc: Global,
     making: &mut Making,
-    row: &Unit,
-    k: u32,
-    inverted: bool,
-    r: &Unit,
+    row: &TreatedRow,
     m: u32,
 ) -> Result<Option<Refused>, CertStop>
-    requires few { length making.old.parts.items ≤ 2000 }
-    requires narrow { All IsNarrow making.old.parts.items }
-    requires below { VariablesBelow (length making.old.parts.items) row.now }
-    requires positive { pos 0 <ℤ making.old.divisor }
+    requires ready { IsReady making.old row.now.unit.now }
     requires count { length making.old.parts.items ≡ length making.old.solution.items }
-    requires alone { IsLeftAlone m r.now }
-    ensures treated { (h : HeadData) (rows : List PowerMap) (kept : Kept) → row.now ≡ nth rows k
-        → IsTurning rows kept k h making.old r.now inverted → IfOk result (IsTreated rows kept k h making.new) }
-    ensures range { (h : HeadData) (rows : List PowerMap) (kept : Kept) → row.now ≡ nth rows k
-        → IsTurning rows kept k h making.old r.now inverted → IfErr result (CarriesInRow rows kept k) }
+    requires alone { IsLeftAlone m row.now.left.now }
+    ensures treated { (h : HeadData) (rows : List PowerMap) (kept : Kept) → row.now.unit.now ≡ nth rows row.now.number
+        → IsTurning rows kept row.now.number h making.old row.now.left.now row.now.inverted
+        → IfOk result (IsRowTreated rows kept row.now.number h making.new) }
+    ensures range { (h : HeadData) (rows : List PowerMap) (kept : Kept) → row.now.unit.now ≡ nth rows row.now.number
+        → IsTurning rows kept row.now.number h making.old row.now.left.now row.now.inverted
+        → IfErr result (CarriesInRow rows kept row.now.number) }
 {
-    let p = r.power_of(Atom::Var(m));
-    let refused = row_refusal(alloc, making, row, k, inverted, i64::from(p))?;
-    if has_base_unit(r.terms()) {
+    let p = row.left.power_of(Atom::Var(m));
+    let refused = row_refusal(alloc, making, row, i64::from(p))?;
+    if has_base_unit(row.left.terms()) {
         return Ok(Some(refused));
     }
     end_variable(
@@ -326,7 +312,7 @@ fn power_end(
     Ok(None)
 }
 
-/// Treats row k: turns are made of what the solution makes of it, until one variable or none is left.
+/// Treats row k: elimination steps are made of what the solution makes of it, until one variable or none is left.
 pub fn make_row(
     alloc: Global,
     making: &mut Making,
@@ -340,7 +326,7 @@ pub fn make_row(
     requires below { VariablesBelow head.slots row.now }
     requires making { (kept : Kept) × Agrees head making.old kept }
     ensures treated { (rows : List PowerMap) (kept : Kept) → row.now ≡ nth rows k → Agrees head making.old kept
-        → IfOk result (IsTreated rows kept k head making.new) }
+        → IfOk result (IsRowTreated rows kept k head making.new) }
     ensures range { (rows : List PowerMap) (kept : Kept) → row.now ≡ nth rows k → Agrees head making.old kept
         → IfErr result (CarriesInRow rows kept k) }
 {
@@ -348,12 +334,26 @@ pub fn make_row(
     let mut inverted = false;
     loop {
         match next_turn(alloc, &r)? {
-            None => return closed_end(alloc, making, row, k, inverted, &r),
+            None => {
+                let row = TreatedRow {
+                    number: k,
+                    unit: row,
+                    inverted,
+                    left: &r,
+                };
+                return closed_end(alloc, making, &row);
+            }
             Some(turn) => {
                 r = make_turn(alloc, making, head, &r, &turn)?;
                 inverted = flipped(inverted, turn.inverted);
                 if !has_other_variable(r.terms(), turn.variable) {
-                    return power_end(alloc, making, row, k, inverted, &r, turn.variable);
+                    let row = TreatedRow {
+                        number: k,
+                        unit: row,
+                        inverted,
+                        left: &r,
+                    };
+                    return power_end(alloc, making, &row, turn.variable);
                 }
             }
         }

@@ -6,8 +6,8 @@ use thiserror::Error;
 /// Why no certificate is made.
 #[derive(Clone, Copy, Debug, PartialEq, Eq, Error)]
 pub enum CertStop {
-    /// This number passes what a certificate can hold: -2147483647..2147483647 as a power of a unit, and else
-    /// -9223372036854775807..9223372036854775807.
+    /// An overflow: this number is outside what a certificate can hold, -2147483647..2147483647 as a power of a unit,
+    /// and otherwise -9223372036854775807..9223372036854775807.
     #[error("a number of the certificate is out of range")]
     CertRange { number: i128 },
     /// No memory was left.

@@ -6,8 +6,8 @@ use Rattle.um_tree.specs.ProgramTree.{RecordTree, FunctionTree, ProgramTree, Sch
 use Rattle.um_tree.specs.Formed.{IsFormed}
 use Rattle.um_rows.specs.declared.row.Rows.{Rows}
 use Rattle.um_rows.specs.Steps.{rows_of, units_of, first_past}
-use Rattle.um_rows.specs.Equations.{Equations}
-use Rattle.um_rows.specs.Slots.{slot_count, slot_equations}
+use Rattle.um_rows.specs.Equations.{Equations, slot_equations}
+use Rattle.um_slots.specs.Slots.{slot_count}
 use Rattle.um_rows.specs.Solutions.{function_rows, slot_signature, HaveSchemes}
 use Rattle.um_rows.specs.Answers.{rows_signature, AreEquations}
 use Rattle.um_rows.specs.Judgement.{Judgement, has_scheme, too_many_slots, has_no_typing, not_general, by_rows, by_range, judge}

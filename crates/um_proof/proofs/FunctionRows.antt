@@ -16,14 +16,15 @@ use Rattle.um_elim.proofs.Cases.{on_test}
 use Rattle.um_rows.specs.declared.row.Row.{Row}
 use Rattle.um_rows.specs.declared.row.Rows.{Rows}
 use Rattle.um_rows.specs.Steps.{rows_of, units_of, first_past}
-use Rattle.um_rows.specs.Slots.{slot_count, slot_equations}
+use Rattle.um_slots.specs.Slots.{slot_count}
+use Rattle.um_rows.specs.Equations.{slot_equations}
 use Rattle.um_rows.specs.Solutions.{function_rows, slot_signature, HaveSchemes}
-use Rattle.um_rows.specs.Keys.{text_keys}
+use Rattle.um_slots.specs.Keys.{text_keys}
 use Rattle.um_rows.specs.FirstUnsolvable.{Solving, solved, unsolved, out_of_range, solve}
 use Rattle.um_rows.specs.Generalised.{generalised}
 use Rattle.um_rows.specs.Judgement.{Judgement, has_scheme, too_many_slots, passes_range, has_no_typing, not_general, signature_fits, numbered_scheme, by_solving, by_rows, by_range, judge}
 use Rattle.um_rows.specs.Answers.{rows_signature, AreEquations, HaveVariablesBelow}
-use Rattle.um_rows.proofs.ParameterSlots.{parameters_have_slots}
+use Rattle.um_slots.proofs.ParameterSlots.{parameters_have_slots}
 use Rattle.um_rows.proofs.Solved.{rows_hold_slots, types_hold_slots}
 use Rattle.um_proof.specs.Answers.{AreFunctionRows, judged}
 use Rattle.um_declared.proofs.Inferred.{rows_hold_declared_units, types_hold_declared_units, rows_are_few}

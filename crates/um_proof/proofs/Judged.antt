@@ -51,14 +51,14 @@ module _ (bases parameters slots at : ℕ) (g : Signature) (rows : List Row) whe
   judged_solved s h = scheme_by (solve 0 rows start) s refl h
 
   -- ---- a refusal: the row, and what the rows up to it come to where unit parameters are slots like the others
-  pub record IsRefusedBy (j : Judgement) : Type 0 where
+  pub record IsRefusedBySteps (j : Judgement) : Type 0 where
     pub row : ℕ
     pub place : ℕ
     pub unsolvable : solve 0 rows (rigid_units bases parameters slots) ≡ unsolved row place
     pub loosely : ((units : List PowerMap) × (solve 0 (rows_up_to row rows) (own_variables slots) ≡ solved units) × (j ≡ not_general row place))
         ⊎ ((k other : ℕ) × (solve 0 (rows_up_to row rows) (own_variables slots) ≡ unsolved k other) × (j ≡ has_no_typing row place))
 
-  refused_slots : (k place : ℕ) (r : Solving) → solve 0 rows start ≡ unsolved k place → solve 0 (rows_up_to k rows) (own_variables slots) ≡ r → IsRefused (by_slots k place r) → IsRefusedBy (by_slots k place r)
+  refused_slots : (k place : ℕ) (r : Solving) → solve 0 rows start ≡ unsolved k place → solve 0 (rows_up_to k rows) (own_variables slots) ≡ r → IsRefused (by_slots k place r) → IsRefusedBySteps (by_slots k place r)
   refused_slots k place (solved us) e f h = record { row = k; place = place; unsolvable = e; loosely = inl (us, f, refl) }
   refused_slots k place (unsolved j p) e f h = record { row = k; place = place; unsolvable = e; loosely = inr (j, p, f, refl) }
   refused_slots k place (out_of_range p) e f h = elim h.2 [ inl w ↦ absurd (cc w) | inr w ↦ absurd (cc w) ]
@@ -70,12 +70,12 @@ module _ (bases parameters slots at : ℕ) (g : Signature) (rows : List Row) whe
       (λ t. elim (subst (λ b. IsRefused (cond b (has_scheme made) (passes_range at))) t h).2 [ inl w ↦ cc w | inr w ↦ cc w ])
       (λ t. elim (subst (λ b. IsRefused (cond b (has_scheme made) (passes_range at))) t h).2 [ inl w ↦ cc w | inr w ↦ cc w ])
 
-  refused_by : (r : Solving) → solve 0 rows start ≡ r → IsRefused (by_solving bases parameters slots at g rows r) → IsRefusedBy (by_solving bases parameters slots at g rows r)
+  refused_by : (r : Solving) → solve 0 rows start ≡ r → IsRefused (by_solving bases parameters slots at g rows r) → IsRefusedBySteps (by_solving bases parameters slots at g rows r)
   refused_by (solved us) e h = absurd (refused_solution us h)
   refused_by (unsolved k place) e h = refused_slots k place (solve 0 (rows_up_to k rows) (own_variables slots)) e refl h
   refused_by (out_of_range place) e h = elim h.2 [ inl w ↦ absurd (cc w) | inr w ↦ absurd (cc w) ]
 
-  pub judged_refused : IsRefused (by_rows bases parameters slots at g rows) → IsRefusedBy (by_rows bases parameters slots at g rows)
+  pub judged_refused : IsRefused (by_rows bases parameters slots at g rows) → IsRefusedBySteps (by_rows bases parameters slots at g rows)
   judged_refused h = refused_by (solve 0 rows start) refl h
 
 -- ---- the units that solve rows

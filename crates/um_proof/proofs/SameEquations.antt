@@ -5,11 +5,13 @@ use Rattle.std.proofs.lemmas.Bool.Decides.{nat_tests}
 use Rattle.um_units.specs.PowerMap.{PowerMap}
 use Rattle.um_tree.specs.ProgramTree.{RecordTree, FunctionTree, SchemeTree}
 use Rattle.um_elim.proofs.Cases.{on_test}
-use Rattle.um_rows.specs.Holes.{Callee, itself, nobody, notes_holes}
-use Rattle.um_rows.specs.Keys.{Key, hole, name, name_keys, notes_keys, result_keys, expr_keys, function_keys}
-use Rattle.um_rows.specs.Slots.{slot_order, slot_unit, slot_count, slot_equations}
-use Rattle.um_rows.specs.Derivation.{noted_types, derive}
-use Rattle.um_rows.specs.Equations.{Equations, known_function, may_recur, callee, own_signature, head_holes, head_steps, result_rows}
+use Rattle.um_slots.specs.Holes.{Callee, itself, nobody, notes_holes}
+use Rattle.um_slots.specs.Keys.{Key, hole, name, name_keys, notes_keys, result_keys, expr_keys, function_keys}
+use Rattle.um_slots.specs.Slots.{slot_order, slot_unit, slot_count}
+use Rattle.um_rows.specs.Equations.{slot_equations, Equations, own_signature, head_steps, result_rows}
+use Rattle.um_slots.specs.Noted.{noted_types}
+use Rattle.um_rows.specs.Derivation.{derive}
+use Rattle.um_slots.specs.Callees.{known_function, may_recur, callee, head_holes}
 
 module _ (records : List RecordTree) (i : ℕ) (f : FunctionTree) where
   -- by what its calls go to

@@ -19,8 +19,8 @@ use Rattle.um_check.specs.Combination.{combined, NamesRowsBelow}
 use Rattle.um_check.specs.Refutation.{IsApart, fixed_slots, rigid_rows, IsValidNo}
 use Rattle.um_check.proofs.Combinations.{more_rows}
 use Rattle.um_check.proofs.RigidRows.{combined-rigid}
-use Rattle.um_making.specs.Making.{exponents}
-use Rattle.um_making.proofs.Certificates.{replace-exponents}
+use Rattle.um_check.specs.Existence.{exponents}
+use Rattle.um_check.proofs.Exponents.{replace-exponents}
 use Rattle.um_kept.specs.declared.kept.Head.{Head}
 use Rattle.um_kept.specs.declared.row.Refused.{Refused}
 use Rattle.um_kept.specs.declared.stop.CertStop.{CertStop}
@@ -29,7 +29,7 @@ use Rattle.um_kept.specs.Answers.{HoldsNoParameter}
 use Rattle.um_proof.specs.Answers.{AreFunctionRows, judged, NamesRefusal, IsRefused, IsNoMade}
 use Rattle.um_kept.specs.Answers.{AreRefused, CarriesInRows}
 use Rattle.um_kept.specs.Making.{Kept, IsReached, first}
-use Rattle.um_proof.proofs.Judged.{IsRefusedBy, judged_refused, own_unsolved, front_unsolved, front_inside, units_low}
+use Rattle.um_proof.proofs.Judged.{IsRefusedBySteps, judged_refused, own_unsolved, front_unsolved, front_inside, units_low}
 use Rattle.um_kept.proofs.Solving.{reached_solved, refused_unsolved}
 use Rattle.um_kept.proofs.Refusals.{RefutedBy, refused_apart}
 
@@ -84,7 +84,7 @@ module _ (bases parameters : ℕ) (r : Rows) (asked : AreFunctionRows bases para
     pub refuted : RefutedBy bases parameters rows row refused
     refuted = refused_apart bases parameters r.slots rows row made.0 refused asked.parameters_within asked.rows asked.declared_rows inside made.2 made.3
 
-    pub by : IsRefusedBy bases parameters r.slots 0 (rows_signature r) r.list.items.items judgement
+    pub by : IsRefusedBySteps bases parameters r.slots 0 (rows_signature r) r.list.items.items judgement
     by = judged_refused bases parameters r.slots 0 (rows_signature r) r.list.items.items so
 
     at_row : by.row ≡ row

@@ -35,8 +35,8 @@ use Rattle.um_check.specs.declared.certificate.Yes.{Yes}
 use Rattle.um_check.specs.Combination.{NamesRowsBelow}
 use Rattle.um_check.specs.Validity.{returned, ComesBack, ShowsGeneral, IsValidYes}
 use Rattle.um_check.proofs.Returns.{signature_put}
-use Rattle.um_making.specs.Making.{exponents}
-use Rattle.um_making.proofs.Certificates.{replace-exponents}
+use Rattle.um_check.specs.Existence.{exponents}
+use Rattle.um_check.proofs.Exponents.{replace-exponents}
 use Rattle.um_kept.specs.declared.kept.Head.{Head}
 use Rattle.um_kept.specs.declared.kept.Making.{Making}
 use Rattle.um_kept.specs.declared.row.Refused.{Refused}

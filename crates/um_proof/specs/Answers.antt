@@ -48,7 +48,8 @@ IsYesMade bases parameters r s (Err stop.NoMemory) = Unit {0}
 
 -- ---- a No
 
--- it names the first unsolvable row, and whether the rows up to it have no solution with unit parameters as slots either
+-- it names the first unsolvable row, and whether the rows up to it have no solution with unit parameters as slots
+-- either
 abbrev pub NamesRefusal : Judgement → No → Type 0
 NamesRefusal (has_no_typing row at) c = (c.last ≡ row) × (c.loose ≡ true)
 NamesRefusal (not_general row at) c = (c.last ≡ row) × (c.loose ≡ false)

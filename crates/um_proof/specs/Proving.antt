@@ -1,9 +1,10 @@
 -- What `prove` answers. Want of memory may come in place of every answer.
 -- Source: this project's own: certificates of what inference (Kennedy 1996) answers, up to its first refusal.
-use Rattle.std.specs.Prelude.{◌≡◌, ◌⊎◌, ℕ, ◌≤◌, true, false, List, length, ℤ, Option, Some, None, slice_get, Result, Ok, Err}
+use Rattle.std.specs.Prelude.{◌≡◌, ◌⊎◌, ℕ, ◌≤◌, true, false, List, length, ℤ, Option, Some, None, slice_get, Result, Ok}
+use Rattle.std.specs.Prelude.{Err}
 use Rattle.um_units.specs.PowerMap.{PowerMap}
 use Rattle.um_tree.specs.ProgramTree.{FunctionTree, ProgramTree, SchemeTree}
-use Rattle.um_rows.specs.Slots.{slot_count}
+use Rattle.um_slots.specs.Slots.{slot_count}
 use Rattle.um_rows.specs.Solutions.{function_rows, slot_signature}
 use Rattle.um_infer.specs.Answers.{scheme_trees}
 use Rattle.um_infer.specs.Inference.{Inference, all_schemes, stops_at_slots, stops_at_range, stops_at_units}

@@ -1,8 +1,8 @@
 //! Certificates of what inference answers: of each function's scheme, and of the first function's having none.
 //!
 //! Beside the elimination of a function's rows (Kennedy, Programming Languages and Dimensions, 1996, on unification in
-//! the free abelian group) a way back from the solution is kept, and the powers of rows by which each slot comes back.
-//! What is kept, and which numbers it can hold, are this project's own.
+//! the free abelian group) an inverse substitution of the solution is kept, and the powers of rows by which each slot
+//! comes back. What is kept, and which numbers it can hold, are this project's own.
 //!
 //! ```
 //! let proofs = prove(alloc, &shaped)?; // a certificate for each scheme, and for the first function that has none

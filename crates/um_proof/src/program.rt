@@ -25,9 +25,9 @@ use um_tree::Schemes;
 /// The schemes of the program's functions and a certificate of each, up to the first function that is refused for Units
 /// or NotGeneral, and a certificate of this refusal.
 ///
-/// Slots and PowerRange come exactly where `infer` answers them. Else CertRange comes only where a number that is
-/// formed for the certificate of the function passes what a certificate can hold, and carries the number. Each
-/// certificate is valid.
+/// Slots and PowerRange come exactly if `infer` answers them. Otherwise CertRange comes only if a number that is formed
+/// for the certificate of the function overflows what a certificate can hold, and carries the number. Each certificate
+/// is valid.
 pub fn prove(alloc: Global, shaped: &Shaped) -> Result<Proofs, ProveStop>
     ensures { IsProved (program_tree shaped.now) result }
 {
@@ -56,7 +56,7 @@ fn refused_proofs(alloc: Global, shaped: &Shaped, i: u32) -> Result<Proofs, Prov
     }
 }
 
-/// The certificates of the schemes, and of the refusal of the function behind theirs.
+/// The certificates of the schemes, and of the refusal of the function after theirs.
 fn with_refusal(
     alloc: Global,
     shaped: &Shaped,
@@ -166,7 +166,7 @@ fn refusal_of(alloc: Global, shaped: &Shaped, i: u32, schemes: &Schemes) -> Resu
     made
 }
 
-/// The rows of function i, which passes no limit, given the schemes of the functions before it.
+/// The rows of function i, which exceeds no limit, given the schemes of the functions before it.
 fn rows_of(alloc: Global, shaped: &Shaped, i: u32, schemes: &Schemes) -> Result<Rows, CertStop>
     requires function { i < length (program_tree shaped.now).functions }
     requires formed { IsFormed (program_tree shaped.now) }

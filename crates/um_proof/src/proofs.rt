@@ -9,8 +9,8 @@ pub struct YesList {
     pub items: Vec<Yes>,
 }
 
-/// The schemes of a program's functions and a certificate for each, up to the first function that has no scheme, and the
-/// certificate that it has none.
+/// The schemes of a program's functions and a certificate for each, up to the first function that has no scheme, and
+/// the certificate that it has none.
 #[derive(Drop)]
 pub struct Proofs {
     pub schemes: Schemes,

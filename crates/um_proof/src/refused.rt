@@ -11,7 +11,7 @@ ghost use Rattle.um_rows.specs.FirstUnsolvable.{out_of_range, rows_up_to, solve,
 ghost use Rattle.um_rows.specs.Steps.{units_of};
 ghost use Rattle.um_check.specs.Combination.{NamesRowsBelow};
 ghost use Rattle.um_check.specs.Refutation.{IsValidNo};
-ghost use Rattle.um_making.specs.Making.{exponents};
+ghost use Rattle.um_check.specs.Existence.{exponents};
 ghost use Rattle.um_kept.specs.declared.stop.CertStop.TheVariants.{NoMemory};
 ghost use Rattle.um_kept.specs.Answers.{AreRefused, CarriesInRows};
 ghost use Rattle.um_proof.specs.Answers.{AreFunctionRows, judged, IsRefused, IsNoMade};
@@ -22,11 +22,11 @@ use um_elim::{ElimStop, Solver};
 use um_kept::{CertStop, Head, Refused, Treated, make_rows, parts_of};
 use um_rows::{Row, Rows};
 
-/// A certificate that `infer` refuses a function with these rows, which has so many unit parameters, in a program with
-/// so many declared base units. It names the first unsolvable row.
+/// A certificate that `infer` refuses a function with these rows, with this number of unit parameters, in a program
+/// with this number of declared base units. It names the first unsolvable row.
 ///
-/// It is `loose` where the rows up to that one have no solution with the unit parameters as slots like the others.
-/// CertRange comes only where one of the numbers that are formed for it passes what a certificate can hold, and carries
+/// It is `loose` if the rows up to that one have no solution with the unit parameters as slots like the others.
+/// CertRange comes only if one of the numbers that are formed for it overflows what a certificate can hold, and carries
 /// the number. With Ok the certificate is valid.
 pub fn make_no(alloc: Global, rows: &Rows, units: u32, bases: u32) -> Result<No, CertStop>
     requires rows { AreFunctionRows bases units rows.now }
@@ -48,7 +48,7 @@ pub fn make_no(alloc: Global, rows: &Rows, units: u32, bases: u32) -> Result<No,
     }
 }
 
-/// The No of the rows that are refused at this one where each unit parameter is a unit of its own.
+/// The No of the rows that are refused at this one with each unit parameter as a unit of its own.
 fn refusal(
     alloc: Global,
     rows: &Rows,
@@ -114,7 +114,7 @@ fn loose_no(alloc: Global, slots: u32, bases: u32, rows: &[Row], last: u32) -> R
     }
 }
 
-/// Whether the rows have a joint solution, which passes no range.
+/// Whether the rows have a joint solution, no power of which is out of range.
 fn have_solution(alloc: Global, slots: u32, rows: &[Row]) -> Result<bool, AllocError>
     requires few { slots ≤ 2000 }
     requires rows { All (λ (row : RowData). VariablesBelow slots row.unit) rows.now }

@@ -1,6 +1,8 @@
-//! The variables of a solution, numbered as a certificate has them, and the way back from them.
+//! The variables of a solution, numbered as a certificate has them, and the inverse substitution.
 
-ghost use Rattle.std.specs.Prelude.{◌≡◌, ◌≤◌, ◌<◌, ◌+◌, ◌^◌, ℕ, List, [], ◌∷◌, if◌then◌else◌, ◌||◌, ◌++◌, All, false, filter, map, length, drop, replicate, set, take, slice_index_or, IfOk, OnOk, IsTrue};
+ghost use Rattle.std.specs.Prelude.{◌≡◌, ◌≤◌, ◌<◌, ◌+◌, ◌^◌, ℕ, List, [], ◌∷◌, if◌then◌else◌, ◌||◌, ◌++◌, All, false};
+ghost use Rattle.std.specs.Prelude.{filter, map, length, drop, replicate, set, take, slice_index_or, IfOk, OnOk};
+ghost use Rattle.std.specs.Prelude.{IsTrue};
 ghost use Rattle.std.specs.List.{flat_map, list_all, range_with_len};
 ghost use Rattle.um_units.specs.declared.Atom.TheVariants.{Var};
 ghost use Rattle.um_units.specs.declared.Term.{Term as TermData};
@@ -14,7 +16,8 @@ ghost use Rattle.um_elim.specs.Numbering.{renumbered, variable_order};
 ghost use Rattle.um_rows.specs.Answers.{rows_signature};
 ghost use Rattle.um_rows.specs.Judgement.{signature_fits};
 ghost use Rattle.um_rows.specs.Generalised.{generalised_unit as unit_in_place};
-ghost use Rattle.um_proof.specs.Renaming.{general_units, held_below, is_listed, to_number, AreNumbered, ArePlaces, GoBack, IsRenamed};
+ghost use Rattle.um_proof.specs.Renaming.{general_units, held_below, is_listed, to_number, AreNumbered, ArePlaces};
+ghost use Rattle.um_proof.specs.Renaming.{GoBack, IsRenamed};
 
 use std::alloc::{AllocError, Global};
 use um_elim::{Numbered, put_in_type, renumber};
@@ -24,7 +27,7 @@ use um_rows::Rows;
 use um_tree::{Ty, Types};
 use um_units::{Atom, NoMemory, Term, Unit, UnitStop};
 
-/// A solution whose variables are numbered, and for each of them what it goes back to.
+/// A solution whose variables are numbered, and the inverse substitution of them.
 #[derive(Drop)]
 pub struct Renaming {
     pub vars: u32,
@@ -32,7 +35,8 @@ pub struct Renaming {
     pub back: Vec<Unit>,
 }
 
-/// The solution and the way back, where the variables of the types come first, and each unit parameter is a variable.
+/// The solution and the inverse substitution: the variables of the types come first, and each unit parameter is a
+/// variable.
 pub fn renamed_solution(
     alloc: Global,
     head: Head,
@@ -46,7 +50,8 @@ pub fn renamed_solution(
     requires back { length back.now ≡ head.slots + head.parameters }
     requires below { All (VariablesBelow head.slots) solution.now }
     requires types { All (λ k. k < head.slots) (variables (signature_types (rows_signature rows.now))) }
-    requires fits { IsTrue (signature_fits (put_signature (nth (general_units head (rows_signature rows.now) solution.now))
+    requires fits { IsTrue (signature_fits
+        (put_signature (nth (general_units head (rows_signature rows.now) solution.now))
         (rows_signature rows.now))) }
     ensures { IfOk result (IsRenamed head (rows_signature rows.now) solution.now back.now) }
 {
@@ -75,7 +80,7 @@ fn general_solution(alloc: Global, head: Head, solution: &[Unit]) -> Result<Vec<
 
 // ---- the variables that units hold
 
-/// The variables that stand in the units, which are below the count, by their numbers.
+/// The variables that occur in the units, which are below the count, by their numbers.
 fn held_variables(alloc: Global, count: u32, units: &[Unit]) -> Result<Vec<u32>, NoMemory>
     requires { All (VariablesBelow count) units.now }
     ensures { IfOk result (λ held. held.items ≡ held_below count units.now) }
@@ -188,7 +193,7 @@ fn add_all(
     Ok(())
 }
 
-/// Adds the types with the units put for their variables, which pass no range.
+/// Adds the types with the units put for their variables, no power of which is out of range.
 fn add_types(
     alloc: Global,
     items: &mut Vec<Ty>,
@@ -205,7 +210,7 @@ fn add_types(
     Ok(())
 }
 
-/// The type with the units put for its variables, which passes no range.
+/// The type with the units put for its variables, no power of which is out of range.
 fn put_type(alloc: Global, units: &[Unit], ty: &Ty) -> Result<Ty, AllocError>
     requires { IsTrue (type_fits (put (nth units.now) (type_tree ty.now))) }
     ensures { IfOk result (λ t. type_tree t ≡ put (nth units.now) (type_tree ty.now)) }
@@ -238,7 +243,8 @@ fn add_units(alloc: Global, items: &mut Vec<Ty>, units: &[Unit]) -> Result<(), A
 
 // ---- what the numbering gives
 
-/// The solution and the way back, where the held variables stand behind the first of the types, and then the solution.
+/// The solution and the inverse substitution: the held variables come in the order of the types, and then of the
+/// solution.
 fn read_numbered(
     alloc: Global,
     numbered: &Numbered,
@@ -299,7 +305,7 @@ fn unit_of_type(alloc: Global, ty: &Ty) -> Result<Unit, AllocError>
     }
 }
 
-/// For each number of a variable what the held variable that has it goes back to.
+/// For each number of a variable what the inverse substitution gives for the held variable that has it.
 fn way_back(
     alloc: Global,
     vars: u32,

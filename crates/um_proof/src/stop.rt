@@ -12,7 +12,7 @@ pub enum ProveStop {
     /// A power outside -2147483647..2147483647 is formed at the byte offset `at`.
     #[error("a power is out of range")]
     PowerRange { function: u32, at: u32 },
-    /// This number passes what the function's certificate can hold.
+    /// An overflow: this number is outside what the function's certificate can hold.
     #[error("a number of a certificate is out of range")]
     CertRange { function: u32, number: i128 },
     /// No memory was left.

@@ -1,6 +1,7 @@
 //! The making of a Yes.
 
-ghost use Rattle.std.specs.Prelude.{◌≡◌, ◌≤◌, ◌<◌, ℕ, nat_eq, if◌then◌else◌, [], All, filter, map, length, pos, IfOk, MatchResult};
+ghost use Rattle.std.specs.Prelude.{◌≡◌, ◌≤◌, ◌<◌, ℕ, nat_eq, if◌then◌else◌, [], All, filter, map, length, pos, IfOk};
+ghost use Rattle.std.specs.Prelude.{MatchResult};
 ghost use Rattle.um_units.specs.declared.Atom.TheVariants.{Base, Var};
 ghost use Rattle.um_units.specs.declared.Term.{Term as TermData};
 ghost use Rattle.um_units.specs.PowerMap.{one, atom, inv, mul, nth, power_of, replace};
@@ -11,7 +12,7 @@ ghost use Rattle.um_rows.specs.Steps.{units_of};
 ghost use Rattle.um_rows.specs.Judgement.{has_scheme};
 ghost use Rattle.um_check.specs.Combination.{NamesRowsBelow};
 ghost use Rattle.um_check.specs.Validity.{returned};
-ghost use Rattle.um_making.specs.Making.{exponents};
+ghost use Rattle.um_check.specs.Existence.{exponents};
 ghost use Rattle.um_kept.specs.Making.{Kept, IsReached};
 ghost use Rattle.um_kept.specs.Answers.{Agrees, CarriesPower, start};
 ghost use Rattle.um_proof.specs.Steps.{CarriesReturned};
@@ -27,12 +28,12 @@ use um_tree::Scheme;
 use um_units::{Atom, NoMemory, Term, Unit, UnitStop, Units};
 use um_wide::WideUnit;
 
-/// A certificate of the scheme that `infer` gives a function with these rows, which has so many unit parameters, in a
-/// program with so many declared base units.
+/// A certificate of the scheme that `infer` gives a function with these rows, with this number of unit parameters, in a
+/// program with this number of declared base units.
 ///
-/// Beside the elimination of the rows a way back from the solution is kept (Kennedy 1996; what is kept is this
-/// project's own). CertRange comes only where one of the numbers that are formed for it passes what a certificate can
-/// hold, and carries the number. With Ok the certificate is valid.
+/// Beside the elimination of the rows an inverse substitution of the solution is kept (Kennedy 1996; what is kept is
+/// this project's own). CertRange comes only if one of the numbers that are formed for it overflows what a certificate
+/// can hold, and carries the number. With Ok the certificate is valid.
 pub fn make_yes(
     alloc: Global,
     rows: &Rows,
@@ -95,7 +96,7 @@ fn certificate(
     }
 }
 
-/// The certificate with the renamed solution and its way back.
+/// The certificate with the renamed solution and its inverse substitution.
 fn with_parts(
     alloc: Global,
     units: u32,
@@ -126,7 +127,7 @@ fn with_parts(
     })
 }
 
-/// With unit parameters the units with 1 put for their variables, and else none.
+/// With unit parameters the units with 1 put for their variables, otherwise none.
 fn rigid_solution(alloc: Global, parameters: u32, solution: &[Unit]) -> Result<Vec<Unit>, NoMemory>
     ensures { IfOk result (λ units. units.items
         ≡ (if nat_eq parameters 0 then [] else map (replace (λ _. one)) solution.now)) }
@@ -196,7 +197,7 @@ fn all_return(alloc: Global, solution: &[Unit], back: &[Unit]) -> Result<(), Cer
     Ok(())
 }
 
-/// What the slot's unit goes back to, over the slot, with its powers in 64 bits.
+/// What the inverse substitution makes of the slot's unit, over the slot, with its powers in 64 bits.
 fn returned_slot(alloc: Global, unit: &Unit, back: &[Unit], slot: u32) -> Result<WideUnit, CertStop>
     ensures { MatchResult result (λ _. IsNarrow (mul (replace (nth back.now) unit.now) (inv (atom (Var slot)))))
         (CarriesPower 9223372036854775807 (mul (replace (nth back.now) unit.now) (inv (atom (Var slot))))) }

@@ -16,11 +16,13 @@ use Rattle.um_elim.proofs.Cases.{on_test}
 use Rattle.um_elim.proofs.FirstOccurrences.{member}
 use Rattle.um_elim.proofs.RenamedUnits.{held-member}
 use Rattle.um_rows.specs.Steps.{types_at}
-use Rattle.um_rows.specs.Holes.{unit_holes, note_holes, notes_holes, Callee, known_by, itself, nobody, callee_holes, record_holes, expr_holes}
+use Rattle.um_slots.specs.Holes.{unit_holes, note_holes, notes_holes, Callee, known_by, itself, nobody, callee_holes, record_holes, expr_holes}
 use Rattle.um_rows.specs.Rules.{Derived, item, call_rule, negate_rule, not_rule, pown_rule, truths_rule, arith_rule, compare_rule, if_rule, split_rule, list_rule, cons_rule, record_rule, field_rule, formed}
-use Rattle.um_rows.specs.Derivation.{first_units, noted_unit, noted_units, noted_type, noted_types, offered, derive, derive_all}
-use Rattle.um_rows.specs.Equations.{callee, head_holes, noted_result, result_rows, own_signature, head_steps, equations}
-use Rattle.um_rows.specs.Keys.{Key, hole, name, hole_keys, unit_keys, units_keys, name_keys, note_keys, notes_keys, result_keys, expr_keys, exprs_keys, function_keys}
+use Rattle.um_rows.specs.Derivation.{first_units, offered, derive, derive_all}
+use Rattle.um_slots.specs.Noted.{noted_unit, noted_units, noted_type, noted_types, noted_result}
+use Rattle.um_slots.specs.Callees.{callee, head_holes}
+use Rattle.um_rows.specs.Equations.{result_rows, own_signature, head_steps, equations}
+use Rattle.um_slots.specs.Keys.{Key, hole, name, hole_keys, unit_keys, units_keys, name_keys, note_keys, notes_keys, result_keys, expr_keys, exprs_keys, function_keys}
 use Rattle.um_rows.proofs.Variables.{TypeBelow, TypesBelow, SignatureBelow, StepsBelow, CalleeBelow}
 use Rattle.um_rows.proofs.BelowRules.{put_below, types_put_below, first_units_below, types_below-append, steps_below-append, against_below, DerivedBelow, after_below, formed_below, item_below, number_below, local_below, OfferBelow, call_below, negate_below, not_below, pown_below, truths_below, arith_below, compare_below, if_below, split_below, nil_below, list_below, cons_below, record_below, field_rule_below}
 

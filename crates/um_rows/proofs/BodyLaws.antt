@@ -6,7 +6,7 @@ use Rattle.um_tree.specs.declared.program.Scheme.{Scheme}
 use Rattle.um_tree.specs.TypeTree.{TypeTree, type_tree, NoteTree}
 use Rattle.um_tree.specs.ExprTree.{ExprTree}
 use Rattle.um_tree.specs.ProgramTree.{record_tree}
-use Rattle.um_rows.specs.declared.context.Context.{Context}
+use Rattle.um_slots.specs.declared.context.Context.{Context}
 use Rattle.um_rows.specs.declared.row.Row.{Row}
 use Rattle.um_rows.specs.declared.row.RowStop.{RowStop}
 use Rattle.um_rows.specs.declared.row.RowStop.TheVariants as stop

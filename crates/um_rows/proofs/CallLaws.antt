@@ -17,11 +17,11 @@ use Rattle.um_tree.specs.Laws.{LiteralsAreClosed}
 use Rattle.um_tree.proofs.TypingsMoved.{loose_of_typing, typing_of_loose}
 use Rattle.um_rows.specs.Solutions.{IsSolved, HaveSchemes}
 use Rattle.um_rows.specs.Judgement.{Judgement, has_scheme, has_no_typing, judge}
-use Rattle.um_rows.specs.CallEquations.{input_texts, call_function}
+use Rattle.um_slots.specs.CallFunction.{input_texts, call_function}
 use Rattle.um_rows.specs.Laws.{CallResultsAreSolutions, JudgedCallsHaveTheirType, JudgedUntypedCallsHaveNone}
 use Rattle.um_rows.proofs.Solved.{all_fit, typings_are_solved}
 use Rattle.um_rows.proofs.JudgementLaws.{Says, judge_says, judged_numbered}
-use Rattle.um_rows.proofs.InputTexts.{TypesAreOpen, notes_are_open, types_open_moved, texts_typed, inputs_have, inputs_closed}
+use Rattle.um_slots.proofs.InputTexts.{TypesAreOpen, notes_are_open, types_open_moved, texts_typed, inputs_have, inputs_closed}
 
 module _ (p : ProgramTree) (k : ℕ) (f : FunctionTree) (inputs : InputTrees) (formed : IsFormed p) (e : slice_get p.functions k ≡ Some f) (closed : AreFormedInputs (length p.bases) inputs) where
   abbrev n : ℕ

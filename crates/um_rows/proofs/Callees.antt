@@ -2,7 +2,7 @@
 use Rattle.std.proofs.Common.{◌≡◌}
 use Rattle.um_tree.specs.ProgramTree.{Signature}
 use Rattle.um_tree.specs.Scheme.{IsInstance}
-use Rattle.um_rows.specs.Holes.{Callee, known_by, itself, nobody}
+use Rattle.um_slots.specs.Holes.{Callee, known_by, itself, nobody}
 
 -- an earlier function at each instance of its scheme, the function itself at its own signature
 abbrev pub Offers : Signature → Callee → Signature → Type 0

@@ -12,35 +12,38 @@ use Rattle.um_tree.specs.ExprTree.{ExprTree}
 use Rattle.um_tree.specs.ProgramTree.{FunctionTree, record_tree, scheme_tree}
 use Rattle.um_elim.specs.Application.{type_fits}
 use Rattle.um_elim.proofs.Cases.{on_test}
-use Rattle.um_rows.specs.declared.context.Context.{Context}
+use Rattle.um_slots.specs.declared.context.Context.{Context}
+use Rattle.um_slots.specs.declared.stop.SlotStop.{SlotStop}
+use Rattle.um_slots.specs.declared.stop.SlotStop.TheVariants as slot_stop
 use Rattle.um_rows.specs.declared.row.Rows.{Rows}
 use Rattle.um_rows.specs.declared.row.RowStop.{RowStop}
 use Rattle.um_rows.specs.declared.row.RowStop.TheVariants as stop
-use Rattle.um_rows.specs.declared.slots.Slots.{Slots}
+use Rattle.um_slots.specs.declared.slots.Slots.{Slots}
 use Rattle.um_rows.specs.Steps.{Step, types_at, rows_of, first_past}
-use Rattle.um_rows.specs.Holes.{itself, nobody, notes_holes}
+use Rattle.um_slots.specs.Holes.{itself, nobody, notes_holes}
 use Rattle.um_rows.specs.Against.{against}
 use Rattle.um_rows.specs.Rules.{Derived}
-use Rattle.um_rows.specs.Derivation.{noted_types, derive}
-use Rattle.um_rows.specs.Equations.{known_function, callee_of, callee, may_recur, head_holes, noted_result, own_signature, result_rows, Equations, equations}
-use Rattle.um_rows.specs.Keys.{Key, hole, name, function_keys}
-use Rattle.um_rows.specs.Slots.{has_slot, place, own_number, slot_unit, slot_order, slot_count, slot_equations}
-use Rattle.um_rows.specs.Slotting.{with_keys, IsTable, StopsSlots, HaveSlots, name_unit}
-use Rattle.um_rows.specs.SlotUnits.{AreVariables}
+use Rattle.um_slots.specs.Noted.{noted_types, noted_result}
+use Rattle.um_rows.specs.Derivation.{derive}
+use Rattle.um_slots.specs.Callees.{known_function, callee_of, callee, may_recur, head_holes}
+use Rattle.um_rows.specs.Equations.{own_signature, result_rows, Equations, equations, slot_equations}
+use Rattle.um_slots.specs.Keys.{Key, hole, name, function_keys}
+use Rattle.um_slots.specs.Slots.{has_slot, place, own_number, slot_unit, slot_order, slot_count}
+use Rattle.um_slots.specs.Slotting.{with_keys, IsTable, StopsSlots, HaveSlots, name_unit}
+use Rattle.um_slots.specs.SlotUnits.{AreNumbered, AreVariables}
+use Rattle.um_rows.specs.SlotStops.{row_stop}
 use Rattle.um_rows.specs.Pushed.{StopsPast}
-use Rattle.um_rows.specs.Body.{IsClosedScheme, AreClosedBefore, noted_rows, body_derived, body_steps, IsContextOf, AreBodyRows}
+use Rattle.um_rows.specs.Closed.{IsClosedScheme, AreClosedBefore}
+use Rattle.um_rows.specs.Body.{noted_rows, body_derived, body_steps, AreBodyRows}
+use Rattle.um_slots.specs.Contexts.{IsContextOf}
 use Rattle.um_rows.specs.Answers.{described, AreEquations, StopsFor}
-use Rattle.um_rows.proofs.KeyOrder.{has-order, with_none, at-place}
+use Rattle.um_slots.proofs.KeyOrder.{has-order, with_none, at-place}
 use Rattle.um_rows.proofs.SlotLaws.{here, behind}
-use Rattle.um_rows.proofs.TableLaws.{slots_both}
+use Rattle.um_slots.proofs.TableLaws.{slots_both}
 use Rattle.um_rows.proofs.Variables.{CalleeBelow}
 use Rattle.um_rows.proofs.OfferLaws.{all_below}
 use Rattle.um_rows.proofs.PushLaws.{first_of, first_past-append, rows_of-append}
 use Rattle.um_rows.proofs.SameDerivation.{KeysAlike, same_equations}
-
--- ---- slots of four stretches of keys
-pub slots_all : (a b c d : List Key) (s t u v w : Slots) (x y z : Unit {0}) (r : Result (Unit {0}) RowStop) → HaveSlots a s t (Ok x) → HaveSlots b t u (Ok y) → HaveSlots c u v (Ok z) → HaveSlots d v w r → HaveSlots (a ++ (b ++ (c ++ d))) s w r
-slots_all a b c d s t u v w x y z r h k l m = slots_both a (b ++ (c ++ d)) s t w x r h (slots_both b (c ++ d) t u w y r k (slots_both c d u v w z r l m))
 
 -- ---- what the table says of the keys
 hole_of : Key → ℕ
@@ -48,14 +51,17 @@ hole_of (hole k) = k
 hole_of (name k) = 0
 
 module _ (order : List Key) (t : Slots) (is : IsTable order t) where
-  pub holes_are_variables : AreVariables t.holes.items
+  holes_are_numbered : AreNumbered t.holes.items
   unfolding hole_of
-  holes_are_variables = record {
+  holes_are_numbered = record {
     number = λ k. place order (hole k);
     place = λ j. hole_of (get_or order j (hole 0));
     variable = λ k l. (is.holes k l).1;
     apart = λ k l. ap hole_of (at-place order (hole k) (hole 0) (is.holes k l).0);
   }
+
+  pub holes_are_variables : AreVariables t.holes.items
+  holes_are_variables = ∣ holes_are_numbered ∣₁
 
   unit_of_hole : (k : ℕ) → IsTrue (has_slot order (hole k)) → nth t.holes.items k ≡ slot_unit order (hole k)
   unit_of_hole k h =
@@ -197,7 +203,6 @@ module _ (records : List Record) (schemes : List Scheme) (number at : ℕ) (recu
       body_right (Ok r) h = rows_right r h
       body_right (Err e) h = stops_right e h
 
-  pub too_many : (e : RowStop) → StopsSlots (with_keys [] keys) e → StopsFor (map record_tree records) (map scheme_tree schemes) number fn e
-  too_many stop.Slots h = subst (λ o. 2000 < length o) (with_none keys) h
-  too_many (stop.Range k) h = absurd h
-  too_many stop.NoMemory h = tt
+  pub too_many : (e : SlotStop) → StopsSlots (with_keys [] keys) e → StopsFor (map record_tree records) (map scheme_tree schemes) number fn (row_stop e)
+  too_many slot_stop.TooMany h = subst (λ o. 2000 < length o) (with_none keys) h
+  too_many slot_stop.NoMemory h = tt

@@ -17,10 +17,11 @@ use Rattle.um_tree.proofs.ExamplePrograms.{zero_number, one_number, plain, rec_f
 use Rattle.um_rows.specs.declared.row.Row.{Row}
 use Rattle.um_rows.specs.Steps.{Step, rows_of, first_past}
 use Rattle.um_elim.proofs.Cases.{on_test}
-use Rattle.um_rows.specs.Keys.{hole, hole_keys}
-use Rattle.um_rows.specs.Slots.{same_key, slot_order, slot_count, slot_equations}
+use Rattle.um_slots.specs.Keys.{hole, hole_keys}
+use Rattle.um_slots.specs.Slots.{same_key, slot_order, slot_count}
+use Rattle.um_rows.specs.Equations.{slot_equations}
 use Rattle.um_rows.specs.Judgement.{Judgement, has_scheme, too_many_slots, passes_range, has_no_typing, not_general, judge}
-use Rattle.um_rows.specs.CallEquations.{call_function}
+use Rattle.um_slots.specs.CallFunction.{call_function}
 use Rattle.um_tree.specs.ValueTree.{InputTree, InputTrees, number_input, list_input, no_inputs, more_inputs}
 
 abbrev term : Atom → ℤ → Term

@@ -10,9 +10,11 @@ use Rattle.um_tree.specs.Typing.{put, put_signature, Matches, TypesMatch, Result
 use Rattle.um_tree.specs.Scheme.{IsInstance}
 use Rattle.um_elim.proofs.Cases.{on_test}
 use Rattle.um_tree.specs.Laws.{LiteralsAreClosed}
-use Rattle.um_rows.specs.Holes.{known_by, itself, nobody, note_holes, notes_holes, result_holes, expr_holes}
-use Rattle.um_rows.specs.Derivation.{noted_type, noted_types, derive}
-use Rattle.um_rows.specs.Equations.{known_function, may_recur, callee, head_holes, noted_result, result_rows, own_signature, head_steps, equations}
+use Rattle.um_slots.specs.Holes.{known_by, itself, nobody, note_holes, notes_holes, result_holes, expr_holes}
+use Rattle.um_slots.specs.Noted.{noted_type, noted_types, noted_result}
+use Rattle.um_rows.specs.Derivation.{derive}
+use Rattle.um_slots.specs.Callees.{known_function, may_recur, callee, head_holes}
+use Rattle.um_rows.specs.Equations.{result_rows, own_signature, head_steps, equations}
 use Rattle.um_rows.proofs.HeldSteps.{Holds, Holds-front, Holds-back, Holds-append, types_hold}
 use Rattle.um_rows.proofs.TypesAgainst.{same_from_rows, rows-same}
 use Rattle.um_rows.proofs.Variables.{SignatureBelow, CalleeBelow}

@@ -9,7 +9,8 @@ use Rattle.um_elim.proofs.Cases.{on_test}
 use Rattle.um_elim.proofs.Slots.{rigid-own}
 use Rattle.um_rows.specs.declared.row.Row.{Row}
 use Rattle.um_rows.specs.Steps.{rows_of, first_past}
-use Rattle.um_rows.specs.Slots.{slot_count, slot_equations}
+use Rattle.um_slots.specs.Slots.{slot_count}
+use Rattle.um_rows.specs.Equations.{slot_equations}
 use Rattle.um_rows.specs.Solutions.{slot_signature}
 use Rattle.um_rows.specs.FirstUnsolvable.{Solving, solved, unsolved, out_of_range, solve}
 use Rattle.um_rows.specs.Generalised.{generalised}

@@ -18,7 +18,8 @@ use Rattle.um_elim.proofs.Cases.{on_test}
 use Rattle.um_elim.proofs.Slots.{rows_solved, fixed_by_rows}
 use Rattle.um_rows.specs.declared.row.Row.{Row}
 use Rattle.um_rows.specs.Steps.{rows_of, units_of, first_past}
-use Rattle.um_rows.specs.Slots.{slot_count, slot_equations}
+use Rattle.um_slots.specs.Slots.{slot_count}
+use Rattle.um_rows.specs.Equations.{slot_equations}
 use Rattle.um_rows.specs.Solutions.{slot_signature, IsSolution, IsRigid, HaveSchemes}
 use Rattle.um_rows.specs.FirstUnsolvable.{IsFirstUnsolvable, Solving, solved, unsolved, out_of_range, solve, rows_up_to}
 use Rattle.um_rows.specs.Generalised.{generalised}

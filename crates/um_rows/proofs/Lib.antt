@@ -12,10 +12,7 @@ mod Used
 pub mod Complete
 mod BelowRules
 pub mod Below
-pub mod KeyOrder
-pub mod TableLaws
 pub mod SlotLaws
-pub mod ParameterSlots
 pub mod FunctionLaws
 mod VariableLists
 pub mod Solved
@@ -24,20 +21,16 @@ pub mod NumberedSchemes
 pub mod GeneralisedUnits
 pub mod JudgementLaws
 pub mod GeneralLaws
-mod InputTexts
 pub mod CallLaws
 pub mod PushLaws
 pub mod WalkLaws
-pub mod RenamingLaws
 pub mod NodeLaws
 pub mod SliceLaws
 pub mod OfferLaws
 pub mod WalkedParts
 pub mod SameDerivation
-pub mod SlotsLeft
 pub mod EquationLaws
 pub mod BodyLaws
-mod InputLoops
 pub mod ProgramRows
 mod RightShapes
 pub mod TypedShapes

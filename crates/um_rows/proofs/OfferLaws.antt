@@ -13,11 +13,12 @@ use Rattle.um_tree.specs.TypeTree.{type_tree}
 use Rattle.um_tree.specs.ProgramTree.{field_tree, record_tree, scheme_tree}
 use Rattle.um_tree.specs.Typing.{put, put_signature, unit_at, field_types}
 use Rattle.um_tree.specs.Laws.{TypeHas}
-use Rattle.um_rows.specs.declared.context.Context.{Context}
-use Rattle.um_rows.specs.Holes.{Callee, known_by, itself, nobody}
-use Rattle.um_rows.specs.Equations.{known_function}
+use Rattle.um_slots.specs.declared.context.Context.{Context}
+use Rattle.um_slots.specs.Holes.{Callee, known_by, itself, nobody}
+use Rattle.um_slots.specs.Callees.{known_function}
 use Rattle.um_rows.specs.Derivation.{offered}
-use Rattle.um_rows.specs.Body.{noted_signature, called, offer, IsClosedScheme, declared_types, IsClosedRecord}
+use Rattle.um_rows.specs.Body.{noted_signature, called, offer}
+use Rattle.um_rows.specs.Closed.{IsClosedScheme, declared_types, IsClosedRecord}
 use Rattle.um_rows.proofs.Variables.{TypesBelow}
 use Rattle.um_rows.proofs.NodeLaws.{mapped_found, mapped_past}
 use Rattle.um_rows.proofs.SliceLaws.{put-part, types_put-part, types_put-units}

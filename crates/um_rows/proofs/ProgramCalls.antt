@@ -15,9 +15,10 @@ use Rattle.um_tree.specs.Formed.{IsFormed, AreFormedInputs}
 use Rattle.um_rows.specs.declared.row.Rows.{Rows}
 use Rattle.um_rows.specs.declared.row.RowStop.{RowStop}
 use Rattle.um_rows.specs.Steps.{rows_of, units_of}
-use Rattle.um_rows.specs.Slots.{slot_count, slot_equations}
+use Rattle.um_slots.specs.Slots.{slot_count}
+use Rattle.um_rows.specs.Equations.{slot_equations}
 use Rattle.um_rows.specs.Solutions.{IsSolved}
-use Rattle.um_rows.specs.CallEquations.{input_texts, call_function}
+use Rattle.um_slots.specs.CallFunction.{input_texts, call_function}
 use Rattle.um_rows.specs.Answers.{AreEquations, StopsFor, AreCallRowsOf, CallRowsStopFor, IsGivenBy, ResultsAreSolutionsOf, described}
 use Rattle.um_tree.proofs.Moved.{slice_get_moved}
 use Rattle.um_rows.proofs.CallLaws.{call_results_are_solutions}

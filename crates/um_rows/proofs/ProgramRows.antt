@@ -26,9 +26,10 @@ use Rattle.um_rows.specs.declared.row.RowStop.{RowStop}
 use Rattle.um_rows.specs.declared.row.RowStop.TheVariants as stop
 use Rattle.um_tree.proofs.Moved.{slice_get_moved}
 use Rattle.um_rows.specs.Steps.{rows_of, units_of}
-use Rattle.um_rows.specs.Slots.{slot_count, slot_equations}
+use Rattle.um_slots.specs.Slots.{slot_count}
+use Rattle.um_rows.specs.Equations.{slot_equations}
 use Rattle.um_rows.specs.Solutions.{slot_signature, HaveSchemes}
-use Rattle.um_rows.specs.Body.{AreClosedBefore, IsClosedRecord}
+use Rattle.um_rows.specs.Closed.{AreClosedBefore, IsClosedRecord}
 use Rattle.um_rows.specs.Answers.{AreEquations, StopsFor, AreRowsOf, RowsStopFor, HaveVariablesBelow, rows_signature, IsGivenBy, IsRigidlyGivenBy, TypingsAreSolutionsOf, described}
 use Rattle.um_rows.proofs.Variables.{TypesBelow}
 use Rattle.um_rows.proofs.VariableLists.{signature_below_from}

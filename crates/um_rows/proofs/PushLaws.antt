@@ -65,13 +65,6 @@ pub never_in_range : (at : ℕ) → first_past (never at) ≡ None
 unfolding product
 never_in_range at = refl
 
--- ---- a list as its first and the others, as a slice pattern cuts it
-pub first_and_others : {A : Type 0} (xs : List A) (x : A) → 1 ≤ length xs → x ≡ get_or xs 0 x → xs ≡ x ∷ take (length xs - 1) (drop 1 xs)
-first_and_others [] x h e = absurd (omega (arith, h))
-first_and_others (y ∷ ys) x h e =
-    let rest : take (length (y ∷ ys) - 1) ys ≡ ys = take_all (length (y ∷ ys) - 1) ys (omega arith) in
-    λ i. sym e i ∷ sym rest i
-
 -- ---- one type against each of the others, one after another
 module _ (at : ℕ) (left : TypeTree) where
   abbrev pub each : List Ty → List Step

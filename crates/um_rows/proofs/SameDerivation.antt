@@ -14,11 +14,13 @@ use Rattle.um_elim.proofs.FirstOccurrences.{member}
 use Rattle.um_elim.proofs.RenamedUnits.{unit_alike}
 use Rattle.um_rows.specs.Against.{against}
 use Rattle.um_rows.specs.Steps.{types_at}
-use Rattle.um_rows.specs.Holes.{unit_holes, note_holes, notes_holes, Callee, known_by, itself, nobody, callee_holes, record_holes, expr_holes}
+use Rattle.um_slots.specs.Holes.{unit_holes, note_holes, notes_holes, Callee, known_by, itself, nobody, callee_holes, record_holes, expr_holes}
 use Rattle.um_rows.specs.Rules.{Derived, after, formed, item, number_rule, call_rule, negate_rule, not_rule, pown_rule, truths_rule, arith_rule, compare_rule, if_rule, split_rule, nil_rule, list_rule, cons_rule, record_rule, field_rule}
-use Rattle.um_rows.specs.Derivation.{first_units, noted_unit, noted_units, noted_type, noted_types, offered, derive, derive_all}
-use Rattle.um_rows.specs.Equations.{callee, head_holes, noted_result, result_rows, own_signature, equations}
-use Rattle.um_rows.specs.Keys.{Key, hole, name, hole_keys, unit_keys, units_keys, name_keys, note_keys, notes_keys, result_keys, expr_keys, exprs_keys, function_keys}
+use Rattle.um_rows.specs.Derivation.{first_units, offered, derive, derive_all}
+use Rattle.um_slots.specs.Noted.{noted_unit, noted_units, noted_type, noted_types, noted_result}
+use Rattle.um_slots.specs.Callees.{callee, head_holes}
+use Rattle.um_rows.specs.Equations.{result_rows, own_signature, equations}
+use Rattle.um_slots.specs.Keys.{Key, hole, name, hole_keys, unit_keys, units_keys, name_keys, note_keys, notes_keys, result_keys, expr_keys, exprs_keys, function_keys}
 use Rattle.um_rows.proofs.Variables.{CalleeBelow, signature_put_alike_below}
 
 module _ (f g m q : ℕ → PowerMap) where

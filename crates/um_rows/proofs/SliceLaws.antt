@@ -1,12 +1,13 @@
 -- The units of some holes as a part of the list of all.
 use Rattle.std.proofs.Common.{◌≡◌, ℕ, zero, suc, ◌+◌, ◌-◌, ◌<◌, ◌≤◌, List, [], ◌∷◌, map, length, get_or, take, drop, refl, sym, ap, ◌∙◌, length-drop, arith}
 use Rattle.std.proofs.lemmas.List.{length-take-le, get_or-take, get_or-drop}
+use mathlib.Core.Logic.{∥∥₁_map}
 use Rattle.um_units.specs.declared.Atom.TheVariants.{Var}
 use Rattle.um_units.specs.PowerMap.{PowerMap, one, atom, nth}
 use Rattle.um_tree.specs.TypeTree.{TypeTree}
 use Rattle.um_tree.specs.Typing.{put, unit_at}
 use Rattle.um_rows.specs.Derivation.{first_units}
-use Rattle.um_rows.specs.SlotUnits.{AreVariables}
+use Rattle.um_slots.specs.SlotUnits.{AreNumbered, AreVariables}
 use Rattle.um_rows.proofs.Variables.{TypeBelow, TypesBelow, put_alike_below, types_put_alike_below}
 
 -- the default isn't read
@@ -25,13 +26,16 @@ module _ (us : List PowerMap) (first many : ℕ) (room : first + many ≤ length
   pub nth-part : (k : ℕ) → k < many → nth part k ≡ nth us (first + k)
   nth-part k h = get_or-take many (drop first us) k (atom (Var k)) h ∙ get_or-drop first us k (atom (Var k)) ∙ any_default us (first + k) (atom (Var k)) (atom (Var (first + k))) (omega (arith, h, room))
 
-  pub part_variables : AreVariables us → AreVariables part
-  part_variables are = record {
+  part_numbered : AreNumbered us → AreNumbered part
+  part_numbered are = record {
     number = λ k. are.number (first + k);
     place = λ j. are.place j - first;
     variable = λ k h. (let low : k < many = omega (arith, h, length-part) in nth-part k low ∙ are.variable (first + k) (omega (arith, low, room)));
     apart = λ k h. (let low : k < many = omega (arith, h, length-part) in let e = are.apart (first + k) (omega (arith, low, room)) in omega (arith, e));
   }
+
+  pub part_variables : AreVariables us → AreVariables part
+  part_variables are = ∥∥₁_map are part_numbered
 
   -- types over the part's variables
   pub put-part : (t : TypeTree) → TypeBelow many t → put (λ k. nth us (first + k)) t ≡ put (nth part) t

@@ -9,9 +9,9 @@ use Rattle.um_units.proofs.Replacement.{replace-variable}
 use Rattle.um_units.proofs.Variables.{VariablesBelow-variable, VariablesBelow-more}
 use Rattle.um_elim.proofs.Cases.{on_test}
 use Rattle.um_rows.specs.Derivation.{first_units}
-use Rattle.um_rows.specs.Keys.{Key, hole, name}
-use Rattle.um_rows.specs.Slots.{same_key, slot_order, has_slot, place, own_number, slot, slot_unit}
-use Rattle.um_rows.proofs.KeyOrder.{same_key-own, has-order, place-low, at-place}
+use Rattle.um_slots.specs.Keys.{Key, hole, name}
+use Rattle.um_slots.specs.Slots.{same_key, slot_order, has_slot, place, own_number, slot, slot_unit}
+use Rattle.um_slots.proofs.KeyOrder.{same_key-own, has-order, place-low, at-place}
 use Rattle.um_rows.proofs.Below.{KeysBelow}
 
 -- ---- the key of a slot

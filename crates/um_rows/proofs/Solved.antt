@@ -9,8 +9,9 @@ use Rattle.um_tree.specs.Typing.{put_signature, Earlier, IsLooseTypingOf, IsRigi
 use Rattle.um_tree.proofs.Below.{earlier_typings}
 use Rattle.um_tree.specs.Laws.{LiteralsAreClosed}
 use Rattle.um_rows.specs.Derivation.{first_units}
-use Rattle.um_rows.specs.Keys.{hole, name, text_keys, function_keys}
-use Rattle.um_rows.specs.Slots.{slot, slot_unit, function_slots, slot_count, slot_equations}
+use Rattle.um_slots.specs.Keys.{hole, name, text_keys, function_keys}
+use Rattle.um_slots.specs.Slots.{slot, slot_unit, function_slots, slot_count}
+use Rattle.um_rows.specs.Equations.{slot_equations}
 use Rattle.um_rows.specs.Solutions.{slot_signature, IsSolution, IsSolved, IsRigid, IsRigidlySolved, HaveSchemes}
 use Rattle.um_rows.specs.Laws.{LooseTypingsAreSolutions, RigidTypingsAreSolutions, RowsHoldSlots, TypesHoldSlots}
 use Rattle.um_rows.proofs.HeldSteps.{Holds-solves, Solves-holds}
@@ -18,7 +19,7 @@ use Rattle.um_rows.proofs.Variables.{SignatureBelow, StepsBelow, signature_put_a
 use Rattle.um_rows.proofs.VariableLists.{signature_below_from, signature_all, rows_all}
 use Rattle.um_rows.proofs.Below.{equations_below}
 use Rattle.um_rows.proofs.SlotLaws.{slot_values, hole_value, name_value, keys_below, length-first, nth-first}
-use Rattle.um_rows.proofs.ParameterSlots.{parameter_slot, parameters_have_slots}
+use Rattle.um_slots.proofs.ParameterSlots.{parameter_slot, parameters_have_slots}
 use Rattle.um_rows.proofs.FunctionLaws.{AllFit, callee_below, function_sound, function_used, function_complete}
 
 module _ (earlier : Earlier) (schemes : List SchemeTree) (i : ℕ) (fit : AllFit earlier schemes i) (records : List RecordTree) (f : FunctionTree) where

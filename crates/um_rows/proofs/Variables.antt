@@ -12,7 +12,7 @@ use Rattle.um_tree.specs.ProgramTree.{Signature}
 use Rattle.um_tree.specs.Typing.{put, put_signature}
 use Rattle.um_tree.specs.Laws.{TypeHas}
 use Rattle.um_rows.specs.Steps.{Step, row_at, wrong_shape_at, type_at}
-use Rattle.um_rows.specs.Holes.{Callee, known_by, itself, nobody}
+use Rattle.um_slots.specs.Holes.{Callee, known_by, itself, nobody}
 use Rattle.um_rows.proofs.HeldSteps.{Holds}
 
 -- each variable of the type is below n

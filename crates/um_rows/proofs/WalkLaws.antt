@@ -7,7 +7,7 @@ use Rattle.um_tree.specs.ExprTree.{ExprTree, ExprTrees, truth, number, local, ca
 use Rattle.um_tree.specs.ProgramTree.{RecordTree, Signature}
 use Rattle.um_rows.specs.declared.row.Row.{Row}
 use Rattle.um_rows.specs.Steps.{Step, first_past, rows_of}
-use Rattle.um_rows.specs.Holes.{Callee, callee_holes, record_holes, expr_holes, exprs_holes}
+use Rattle.um_slots.specs.Holes.{Callee, callee_holes, record_holes, expr_holes, exprs_holes}
 use Rattle.um_rows.specs.Rules.{Derived, AllDerived, after, formed, item, local_rule, call_rule, negate_rule, not_rule, pown_rule, truths_rule, arith_rule, compare_rule, if_rule, split_rule, list_rule, cons_rule, record_rule, field_rule}
 use Rattle.um_rows.specs.Derivation.{first_units, offered, derive, derive_all}
 use Rattle.um_rows.specs.Walk.{Walked, AllWalked, PairWalked, then, unless_past, node, pair, pair_node, walk, walk_all}

@@ -9,7 +9,7 @@ use Rattle.um_tree.specs.declared.expression.Expr.{Expr}
 use Rattle.um_tree.specs.TypeTree.{TypeTree, type_tree}
 use Rattle.um_tree.specs.ProgramTree.{record_tree}
 use Rattle.um_tree.specs.ExprTree.{ExprTree, ExprTrees, none, more, expr_tree, in_order, bind}
-use Rattle.um_rows.specs.declared.context.Context.{Context}
+use Rattle.um_slots.specs.declared.context.Context.{Context}
 use Rattle.um_rows.specs.declared.progress.Progress.{Progress}
 use Rattle.um_rows.specs.declared.row.Row.{Row}
 use Rattle.um_rows.specs.declared.row.RowStop.{RowStop}
@@ -18,6 +18,7 @@ use Rattle.um_rows.specs.Rules.{item, formed}
 use Rattle.um_rows.specs.Walk.{Walked, AllWalked, PairWalked, then, unless_past, node, pair}
 use Rattle.um_rows.specs.Reached.{StopsAs, IsReached}
 use Rattle.um_rows.specs.Body.{noted_signature, called, body_walk, body_walk_pair, body_walk_all, body_holes, bodies_holes}
+use Rattle.um_slots.proofs.Parts.{from, from_more, from_end}
 use Rattle.um_rows.proofs.WalkLaws.{walk-is}
 
 -- ---- stops
@@ -62,19 +63,6 @@ scope_of_split vars head tail list head_is tail_is =
     ap (map type_tree) (append_assoc vars (head ∷ []) (tail ∷ []))
     ∙ map-append type_tree vars (head ∷ tail ∷ [])
     ∙ (λ i. map type_tree vars ++ head_is i ∷ tail_is i ∷ [])
-
--- the expressions from the i-th on
-abbrev pub from : List Expr → ℕ → ExprTrees
-from es i = in_order (map expr_tree (drop i es))
-
-pub from_more : (es : List Expr) (i : ℕ) (e : Expr) → i < length es → e ≡ get_or es i e → from es i ≡ more (expr_tree e) (from es (i + 1))
-from_more es i e h s = ap (λ xs. in_order (map expr_tree xs)) (drop_more es i e h) ∙ ap (λ y. more (expr_tree y) (from es (i + 1))) (sym s)
-
-pub from_end : (es : List Expr) (i : ℕ) → length es ≤ i → from es i ≡ none
-from_end [] zero h = refl
-from_end [] (suc i) h = refl
-from_end (x ∷ es) zero h = absurd (omega (arith, h))
-from_end (x ∷ es) (suc i) h = from_end es i (omega (arith, h))
 
 -- these types, and then those of the rest
 abbrev pub after_these : List TypeTree → Result AllWalked ℕ → Result AllWalked ℕ

@@ -1,5 +1,5 @@
 -- The rows of two types that must be equal: one for each unit, from left to right, the first unit over the second.
--- Source: Kennedy (1996): two types unify where their units do, and two units are equal where their quotient is 1.
+-- Source: Kennedy (1996): two types unify if their units do, and two units are equal if their quotient is 1.
 use Rattle.std.specs.Prelude.{ℕ, ◌==◌, if◌then◌else◌, List, [], ◌∷◌, ◌++◌}
 use Rattle.um_units.specs.PowerMap.{PowerMap, mul, inv}
 use Rattle.um_tree.specs.TypeTree.{TypeTree, bool_type, num_type, list_type, record_type}

@@ -1,24 +1,26 @@
 -- What the calls that give equations answer: all of the equations, or why there are none.
 -- Source: this project's own; want of memory may come in place of every answer.
-use Rattle.std.specs.Prelude.{◌≡◌, ◌↔◌, ◌<◌, ◌≤◌, ℕ, Bool, All, List, [], length, slice_get, Option, Some, None}
+use Rattle.std.specs.Prelude.{◌≡◌, ◌↔◌, ◌<◌, ◌≤◌, ℕ, Bool, All, List, [], length, map, slice_get, Option, Some, None}
 use Rattle.um_units.specs.PowerMap.{PowerMap, nth}
 use Rattle.um_units.specs.Solutions.{IsJointSolution}
-use Rattle.um_tree.specs.TypeTree.{TypeTree, NoteTree, type_tree, type_trees}
-use Rattle.um_tree.specs.ExprTree.{ExprTree}
+use Rattle.um_tree.specs.TypeTree.{TypeTree, NoteTree, type_tree, note_tree, type_trees}
+use Rattle.um_tree.specs.ExprTree.{ExprTree, expr_tree}
 use Rattle.um_tree.specs.ValueTree.{InputTrees}
-use Rattle.um_tree.specs.ProgramTree.{RecordTree, FunctionTree, ProgramTree, Signature, SchemeTree}
+use Rattle.um_tree.specs.ProgramTree.{RecordTree, FunctionTree, ProgramTree, Signature, SchemeTree, result_tree}
 use Rattle.um_tree.specs.Typing.{put_signature, IsLooseTypingOf, IsRigidTypingOf, typings_below}
 use Rattle.um_tree.specs.InputType.{IsResultOfCall}
 use Rattle.um_tree.specs.Scheme.{variables, signature_types}
+use Rattle.um_slots.specs.declared.definition.Definition.{Definition}
 use Rattle.um_rows.specs.declared.row.Rows.{Rows}
 use Rattle.um_rows.specs.declared.row.RowStop.{RowStop}
 use Rattle.um_rows.specs.declared.row.RowStop.TheVariants as stop
 use Rattle.um_rows.specs.Steps.{rows_of, units_of, first_past}
-use Rattle.um_rows.specs.Slots.{slot_count, slot_equations}
+use Rattle.um_slots.specs.Slots.{slot_count}
+use Rattle.um_rows.specs.Equations.{slot_equations}
 use Rattle.um_rows.specs.Solutions.{IsRigid, HaveSchemes}
-use Rattle.um_rows.specs.CallEquations.{call_function}
+use Rattle.um_slots.specs.CallFunction.{call_function}
 
--- these are the equations: there are no more than 2,000 slots, and no power passes the range
+-- these are the equations: there are no more than 2,000 slots, and no power is out of range
 pub record AreEquations (records : List RecordTree) (schemes : List SchemeTree) (i : ℕ) (f : FunctionTree) (r : Rows)
     : Type 0 where
   pub few : slot_count records schemes i f ≤ 2000
@@ -59,7 +61,7 @@ HaveVariablesBelow i schemes =
     (j : ℕ) (s : SchemeTree) → j < i → slice_get schemes j ≡ Some s
     → All (λ k. k < s.vars) (variables (signature_types s.signature))
 
--- ---- where the instances of each scheme before are exactly the function's typings
+-- ---- if the instances of each scheme before are exactly the function's typings
 
 -- the types of the parameters and of the body, over slots
 abbrev pub rows_signature : Rows → Signature
@@ -78,8 +80,8 @@ IsRigidlyGivenBy bases parameters r g =
     × IsRigid bases parameters units
     × (g ≡ put_signature (nth units) (rows_signature r))
 
--- a signature is a loose typing of function i exactly where some joint solution gives it, and a rigid typing exactly
--- where some rigid one does
+-- a signature is a loose typing of function i exactly if some joint solution gives it, and a rigid typing exactly if
+-- some rigid one does
 abbrev pub TypingsAreSolutionsOf : ProgramTree → List SchemeTree → ℕ → Rows → Type 0
 TypingsAreSolutionsOf p schemes i r =
     (f : FunctionTree) → slice_get p.functions i ≡ Some f → HaveSchemes p schemes i → (g : Signature) →
@@ -93,7 +95,7 @@ ResultsAreSolutionsOf p schemes k inputs r =
     HaveSchemes p schemes (length p.functions) → (t : TypeTree) → IsResultOfCall p k inputs t
     ↔ IsGivenBy r (record { params = []; result = t })
 
--- ---- a function without a name
+-- ---- a function without its names
 abbrev pub described : ℕ → Bool → ℕ → List NoteTree → Option NoteTree → ExprTree → FunctionTree
 described at recursive units params note body = record {
   name = [];
@@ -105,3 +107,7 @@ described at recursive units params note body = record {
   result = note;
   body = body;
 }
+
+abbrev pub defined : Definition → FunctionTree
+defined d =
+    described d.at d.recursive d.units (map note_tree d.params.now) (result_tree d.result.now) (expr_tree d.body.now)

@@ -1,26 +1,24 @@
 -- What the code knows of a body, as the derivation sees it.
 -- Source: this project's own.
-use Rattle.std.specs.Prelude.{◌≡◌, ℕ, ◌+◌, ◌<◌, Bool, All, List, [], ◌++◌, length, map, slice_index_or, Option, Some}
-use Rattle.std.specs.Prelude.{None, Result}
-use Rattle.um_units.specs.PowerMap.{PowerMap, nth}
-use Rattle.um_units.specs.Variables.{VariablesBelow}
-use Rattle.um_tree.specs.declared.program.FieldDecl.{FieldDecl}
+use Rattle.std.specs.Prelude.{◌≡◌, ℕ, ◌+◌, ◌≤◌, List, [], ◌++◌, length, map, Option, Some, None, Result}
+use Rattle.um_units.specs.PowerMap.{nth}
 use Rattle.um_tree.specs.declared.program.Record.{Record}
 use Rattle.um_tree.specs.declared.program.Scheme.{Scheme}
 use Rattle.um_tree.specs.TypeTree.{TypeTree, type_tree, type_trees, NoteTree}
-use Rattle.um_tree.specs.ExprTree.{ExprTree, ExprTrees}
-use Rattle.um_tree.specs.ProgramTree.{RecordTree, Signature, record_tree, scheme_tree}
-use Rattle.um_tree.specs.Laws.{TypeHas}
-use Rattle.um_rows.specs.declared.context.Context.{Context}
+use Rattle.um_tree.specs.ExprTree.{ExprTree, ExprTrees, expr_tree}
+use Rattle.um_tree.specs.ProgramTree.{Signature, record_tree, scheme_tree, result_tree}
+use Rattle.um_slots.specs.declared.context.Context.{Context}
+use Rattle.um_slots.specs.declared.definition.Definition.{Definition}
+use Rattle.um_slots.specs.Holes.{Callee, expr_holes, exprs_holes}
+use Rattle.um_slots.specs.Callees.{callee_of}
 use Rattle.um_rows.specs.declared.row.Row.{Row}
 use Rattle.um_rows.specs.declared.row.Rows.{Rows}
+use Rattle.um_rows.specs.declared.walker.Walk.{Walk as Walker}
+use Rattle.um_rows.specs.declared.progress.State.{State}
 use Rattle.um_rows.specs.Steps.{Step, rows_of, first_past}
 use Rattle.um_rows.specs.Against.{against}
-use Rattle.um_rows.specs.Holes.{Callee, notes_holes, result_holes, expr_holes, exprs_holes}
 use Rattle.um_rows.specs.Rules.{Derived}
-use Rattle.um_rows.specs.Keys.{Key, name_keys, notes_keys, result_keys, expr_keys}
-use Rattle.um_rows.specs.Equations.{callee_of, noted_result}
-use Rattle.um_rows.specs.Derivation.{noted_types, offered, derive}
+use Rattle.um_rows.specs.Derivation.{offered, derive}
 use Rattle.um_rows.specs.Walk.{Walked, AllWalked, PairWalked, pair, walk, walk_all}
 
 -- what calls of the function itself are used at
@@ -31,7 +29,7 @@ noted_signature c = record { params = map type_tree c.params.items; result = typ
 abbrev pub called : List Scheme → Context → ℕ → Callee
 called schemes c j = callee_of (map scheme_tree schemes) c.number c.recurs j
 
--- and what it is used at, where its holes are numbered from n on
+-- and what it is used at, if its holes are numbered from n on
 abbrev pub offer : List Record → List Scheme → Context → ℕ → ℕ → Option Signature
 offer records schemes c n j =
     offered (nth c.holes.items) (nth c.names.items) (map record_tree records) (noted_signature c) (called schemes c) n
@@ -57,37 +55,35 @@ body_holes records schemes c = expr_holes (map record_tree records) (called sche
 abbrev pub bodies_holes : List Record → List Scheme → Context → ExprTrees → ℕ
 bodies_holes records schemes c = exprs_holes (map record_tree records) (called schemes c)
 
--- each variable of the scheme is below their number
-pub record IsClosedScheme (s : Scheme) : Type 0 where
-  pub params : All (λ t. TypeHas (VariablesBelow s.vars) (type_tree t)) s.params.items.items
-  pub result : TypeHas (VariablesBelow s.vars) (type_tree s.result)
+-- ---- a walk that goes on from a state
+abbrev pub walk_from : Walker → State → ExprTree → Result Walked ℕ
+walk_from w s = body_walk w.records.now w.schemes.now w.context s.progress.rows.items s.progress.holes
+    (map type_tree s.scope.items)
 
--- so it is of the schemes of the functions before function i
-abbrev pub AreClosedBefore : ℕ → List Scheme → Type 0
-AreClosedBefore i schemes =
-    (j : ℕ) (d : Scheme) → j < i → j < length schemes → IsClosedScheme (slice_index_or schemes j d)
+abbrev pub walk_pair_from : Walker → State → ExprTree → ExprTree → Result PairWalked ℕ
+walk_pair_from w s = body_walk_pair w.records.now w.schemes.now w.context s.progress.rows.items s.progress.holes
+    (map type_tree s.scope.items)
 
--- the types of some fields
-abbrev pub declared_types : List FieldDecl → List TypeTree
-declared_types fs = map (λ (f : FieldDecl). type_tree f.ty) fs
+abbrev pub walk_all_from : Walker → State → ExprTrees → Result AllWalked ℕ
+walk_all_from w s = body_walk_all w.records.now w.schemes.now w.context s.progress.rows.items s.progress.holes
+    (map type_tree s.scope.items)
 
--- each variable in the types of the record's fields is below the number of its units
-pub record IsClosedRecord (d : Record) : Type 0 where
-  pub fields : All (λ (f : FieldDecl). TypeHas (VariablesBelow d.units) (type_tree f.ty)) d.fields.items.items
+abbrev pub holes_in : Walker → ExprTree → ℕ
+holes_in w = body_holes w.records.now w.schemes.now w.context
+
+abbrev pub all_holes_in : Walker → ExprTrees → ℕ
+all_holes_in w = bodies_holes w.records.now w.schemes.now w.context
+
+-- so many holes more have units
+abbrev pub HasRoom : Walker → State → ℕ → Type 0
+HasRoom w s m = s.progress.holes + m ≤ length w.context.holes.items
 
 -- ---- the head of a function: its parameters and its result's note
 abbrev pub noted_rows : ℕ → TypeTree → TypeTree → Option NoteTree → List Step
 noted_rows at t s None = []
 noted_rows at t s (Some m) = against at t s
 
--- the keys of the whole function
-abbrev pub whole_keys : List RecordTree → (ℕ → Callee) → ℕ → List NoteTree → Option NoteTree → ExprTree → List Key
-whole_keys records callee units params note e =
-    let n = notes_holes params in
-    name_keys 0 units
-    ++ (notes_keys 0 params ++ (result_keys n note ++ expr_keys records callee (n + result_holes note) e))
-
--- the derivation of the body, and all steps behind the head
+-- the derivation of the body, and all steps after the head
 abbrev pub body_derived : List Record → List Scheme → Context → ℕ → ExprTree → Derived
 body_derived records schemes c n e =
     derive (nth c.holes.items) (nth c.names.items) (map record_tree records) (noted_signature c) (called schemes c) n
@@ -98,18 +94,14 @@ body_steps records schemes c n at note e =
     let d = body_derived records schemes c n e in
     d.steps ++ noted_rows at d.type (type_tree c.result) note
 
--- the context is that of a function with these notes
-pub record IsContextOf
-    (number : ℕ) (recurs : Bool) (holes names : List PowerMap) (params : List NoteTree) (note : Option NoteTree) (c : Context)
-    : Type 0 where
-  pub number_is : c.number ≡ number
-  pub recurs_is : c.recurs ≡ recurs
-  pub holes_are : c.holes.items ≡ holes
-  pub names_are : c.names.items ≡ names
-  pub params_are : map type_tree c.params.items ≡ noted_types (nth holes) (nth names) 0 params
-  pub result_is : type_tree c.result ≡ noted_result (nth holes) (nth names) (notes_holes params) note
+abbrev pub walk_derived : Walker → ℕ → Definition → Derived
+walk_derived w n d = body_derived w.records.now w.schemes.now w.context n (expr_tree d.body.now)
 
--- the rows of a body, behind the head
+abbrev pub walk_steps : Walker → ℕ → Definition → List Step
+walk_steps w n d =
+    body_steps w.records.now w.schemes.now w.context n d.at (result_tree d.result.now) (expr_tree d.body.now)
+
+-- the rows of a body, after the head
 pub record AreBodyRows (steps : List Step) (d : Derived) (params : List TypeTree) (count : ℕ) (r : Rows) : Type 0 where
   pub in_range : first_past steps ≡ None
   pub slots_are : r.slots ≡ count

@@ -2,18 +2,15 @@
 -- parts.
 -- Source: Kennedy (1996), the inference of units: a unit that is left open is a new variable.
 use Rattle.std.specs.Prelude.{ℕ, zero, suc, ◌+◌, List, [], ◌∷◌, ◌++◌, Option, Some, None, slice_get}
-use Rattle.um_units.specs.PowerMap.{PowerMap, replace}
-use Rattle.um_tree.specs.declared.note.UnitNote.{UnitNote}
-use Rattle.um_tree.specs.declared.note.UnitNote.TheVariants.{Hole, Written}
-use Rattle.um_tree.specs.TypeTree.{TypeTree, bool_type, num_type, list_type, record_type, NoteTree, bool_note, num_note}
-use Rattle.um_tree.specs.TypeTree.{list_note, record_note}
+use Rattle.um_units.specs.PowerMap.{PowerMap}
+use Rattle.um_tree.specs.TypeTree.{TypeTree, bool_type}
 use Rattle.um_tree.specs.ExprTree.{ExprTree, ExprTrees, truth, number, local, call, negate, not_expr, pown, arith}
 use Rattle.um_tree.specs.ExprTree.{compare, both, either, if, bind, split, nil, list_expr, cons, record_expr, field}
 use Rattle.um_tree.specs.ExprTree.{none, more}
 use Rattle.um_tree.specs.ProgramTree.{RecordTree, Signature}
 use Rattle.um_tree.specs.Typing.{put_signature}
-use Rattle.um_rows.specs.Holes.{unit_holes, note_holes, Callee, known_by, itself, nobody, callee_holes, record_holes}
-use Rattle.um_rows.specs.Holes.{expr_holes}
+use Rattle.um_slots.specs.Holes.{Callee, known_by, itself, nobody, callee_holes, record_holes, expr_holes}
+use Rattle.um_slots.specs.Noted.{noted_unit, noted_type}
 use Rattle.um_rows.specs.Rules.{Derived, AllDerived, after, formed, item, number_rule, local_rule, call_rule}
 use Rattle.um_rows.specs.Rules.{negate_rule, not_rule, pown_rule, truths_rule, arith_rule, compare_rule, if_rule}
 use Rattle.um_rows.specs.Rules.{split_rule, nil_rule, list_rule, cons_rule, record_rule, field_rule}
@@ -23,29 +20,11 @@ abbrev pub first_units : ℕ → (ℕ → PowerMap) → List PowerMap
 first_units zero f = []
 first_units (suc m) f = f 0 ∷ first_units m (λ k. f (suc k))
 
--- holes: the unit of each hole, by its number in the order of the text. names: the unit of each named variable
-module _ (holes names : ℕ → PowerMap) where
-  -- ---- notes, whose holes are numbered from n on
-  abbrev pub noted_unit : ℕ → UnitNote → PowerMap
-  noted_unit n Hole = holes n
-  noted_unit n (Written u) = replace names u
-
-  abbrev pub noted_units : ℕ → List UnitNote → List PowerMap
-  noted_units n [] = []
-  noted_units n (m ∷ ms) = noted_unit n m ∷ noted_units (n + unit_holes m) ms
-
-  abbrev pub noted_type : ℕ → NoteTree → TypeTree
-  noted_type n bool_note = bool_type
-  noted_type n (num_note m) = num_type (noted_unit n m)
-  noted_type n (list_note m) = list_type (noted_type n m)
-  noted_type n (record_note r ms) = record_type r (noted_units n ms)
-
-  abbrev pub noted_types : ℕ → List NoteTree → List TypeTree
-  noted_types n [] = []
-  noted_types n (m ∷ ms) = noted_type n m ∷ noted_types (n + note_holes m) ms
-
-  -- ---- expressions, whose holes are numbered from n on, a node before its parts
-  module _ (records : List RecordTree) (self : Signature) (callee : ℕ → Callee) where
+-- holes: the unit of each hole, by its number in the order of the text. names: the unit of each named variable. The
+-- holes of an expression are numbered from n on, a node before its parts
+module _
+    (holes names : ℕ → PowerMap) (records : List RecordTree) (self : Signature) (callee : ℕ → Callee)
+  where
     -- an earlier function at a new instance of its scheme, the function itself at its one signature
     abbrev pub offered : ℕ → Callee → Option Signature
     offered n (known_by s) = Some (put_signature (λ k. holes (n + k)) s.signature)
@@ -55,7 +34,7 @@ module _ (holes names : ℕ → PowerMap) where
     abbrev mutual
       pub derive : ℕ → List TypeTree → ExprTree → Derived
       derive n vars (truth at b) = formed at [] bool_type
-      derive n vars (number at c m) = number_rule at c m (noted_unit n m)
+      derive n vars (number at c m) = number_rule at c m (noted_unit holes names n m)
       derive n vars (local at k) = local_rule at (slice_get vars k)
       derive n vars (call at j es) =
           let ds = derive_all (n + callee_holes (callee j)) vars es in
@@ -100,7 +79,7 @@ module _ (holes names : ℕ → PowerMap) where
           let y = derive (n + expr_holes records callee l + expr_holes records callee a)
           (vars ++ item z.type ∷ z.type ∷ []) b in
           after (z.steps ++ (x.steps ++ y.steps)) (split_rule at z.type x.type y.type)
-      derive n vars (nil at m) = nil_rule at (noted_type n m)
+      derive n vars (nil at m) = nil_rule at (noted_type holes names n m)
       derive n vars (list_expr at es) =
           let ds = derive_all n vars es in
           after ds.steps (list_rule at ds.types)

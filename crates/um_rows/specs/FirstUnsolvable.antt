@@ -9,7 +9,7 @@ use Rattle.um_rows.specs.declared.row.Row.{Row}
 use Rattle.um_rows.specs.Steps.{units_of}
 
 -- row k, counted from 0, is the one, and it stands at this place: the given equations and the rows before it have a
--- joint solution, and with it they have none. Where each unit parameter is a unit of its own the given equations say so
+-- joint solution, and with it they have none. If each unit parameter is a unit of its own, the given equations say so
 pub record IsFirstUnsolvable (slots : ℕ) (given : List PowerMap) (rows : List Row) (k at : ℕ) : Type 0 where
   pub before : List Row
   pub row : Row
@@ -25,7 +25,7 @@ abbrev pub rows_up_to : ℕ → List Row → List Row
 rows_up_to k rows = take (suc k) rows
 
 -- what solving the rows one by one ends with: units for the slots, the number and the place of the row that has no
--- solution, or the place of the row that passes the range
+-- solution, or the place of the row at which a power is out of range
 pub data Solving : Type 0 where
   solved : List PowerMap → Solving
   unsolved : ℕ → ℕ → Solving

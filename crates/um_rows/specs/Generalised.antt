@@ -1,7 +1,7 @@
--- Unit parameters as variables: in a function's own typing each is a base unit behind the declared ones, and its
--- callers may put any unit for it.
+-- Unit parameters as variables: in a function's own typing each is a base unit after the declared ones, and its callers
+-- may put any unit for it.
 -- Source: F# specification, Units Of Measure, on declared measure parameters; Kennedy (1996): generalisation. That the
--- variables of parameters come behind the slots is this project's own.
+-- variables of parameters come after the slots is this project's own.
 use Rattle.std.specs.Prelude.{ℕ, ◌+◌, ◌-◌, nat_le, nat_lt, ◌&&◌, Bool, if◌then◌else◌}
 use Rattle.um_units.specs.declared.Atom.{Atom}
 use Rattle.um_units.specs.declared.Atom.TheVariants.{Base, Var}
@@ -10,7 +10,7 @@ use Rattle.um_units.specs.PowerMap.{PowerMap, atom, extension}
 use Rattle.um_tree.specs.ProgramTree.{Signature}
 use Rattle.um_tree.specs.Typing.{moved_signature}
 
--- behind so many base units the units of so many parameters, over so many slots
+-- the units of so many parameters, which follow so many base units, over so many slots
 module _ (bases parameters slots : ℕ) where
   abbrev pub is_parameter : ℕ → Bool
   is_parameter m = nat_le bases m && nat_lt m (bases + parameters)

@@ -14,14 +14,15 @@ use Rattle.um_tree.specs.Shapes.{ShapeSignature, FunctionShape}
 use Rattle.um_tree.specs.Scheme.{IsPrincipal, IsNumberedScheme, variables, signature_types}
 use Rattle.um_elim.specs.Solution.{parameter_rows}
 use Rattle.um_rows.specs.Steps.{rows_of, units_of}
-use Rattle.um_rows.specs.Slots.{slot_count, slot_equations}
+use Rattle.um_slots.specs.Slots.{slot_count}
+use Rattle.um_rows.specs.Equations.{slot_equations}
 use Rattle.um_rows.specs.Solutions.{function_rows, slot_signature, IsSolved, IsRigidlySolved, HaveSchemes}
 use Rattle.um_rows.specs.FirstUnsolvable.{IsFirstUnsolvable, rows_up_to}
-use Rattle.um_rows.specs.CallEquations.{call_function}
+use Rattle.um_slots.specs.CallFunction.{call_function}
 use Rattle.um_rows.specs.Judgement.{has_scheme, has_no_typing, not_general, judge}
 use Rattle.um_rows.specs.RightShapes.{HaveRightShapes}
 
--- a signature is a loose typing of function i, whose literals are closed, exactly where some joint solution of the
+-- a signature is a loose typing of function i, whose literals are closed, exactly if some joint solution of the
 -- function's rows gives it
 abbrev pub LooseTypingsAreSolutions : Type 0
 LooseTypingsAreSolutions =
@@ -29,7 +30,7 @@ LooseTypingsAreSolutions =
     HaveSchemes p schemes i → (g : Signature) →
     IsLooseTypingOf p.records (typings_below p i) i f g ↔ IsSolved p.records schemes i f g
 
--- and a rigid typing exactly where some rigid joint solution does
+-- and a rigid typing exactly if some rigid joint solution does
 abbrev pub RigidTypingsAreSolutions : Type 0
 RigidTypingsAreSolutions =
     (p : ProgramTree) (schemes : List SchemeTree) (i : ℕ) (f : FunctionTree) → LiteralsAreClosed f.body →
@@ -70,7 +71,7 @@ AreSolvableUpTo p schemes i f k =
     IsSolvable (slot_count p.records schemes i f)
     (units_of (rows_up_to k (rows_of (slot_equations p.records schemes i f).steps)))
 
--- where a function is judged to have no typing the row is the first unsolvable one, no units at all satisfy the rows up
+-- if a function is judged to have no typing, the row is the first unsolvable one, no units at all satisfy the rows up
 -- to it, and the function has no typing
 abbrev pub JudgedUntypedHaveNone : Type 0
 JudgedUntypedHaveNone =
@@ -79,8 +80,8 @@ JudgedUntypedHaveNone =
     (k at : ℕ) → judge (length p.bases) p.records schemes i f ≡ has_no_typing k at →
     IsFirstRow p schemes i f k at × (AreSolvableUpTo p schemes i f k → ⊥) × ((g : Signature) → Typing p i g → ⊥)
 
--- where it is judged to be not general the row is the first unsolvable one, some units satisfy the rows up to it, and
--- the function has no typing
+-- if it is judged to be not general, the row is the first unsolvable one, some units satisfy the rows up to it, and the
+-- function has no typing
 abbrev pub JudgedNotGeneralHaveNone : Type 0
 JudgedNotGeneralHaveNone =
     (p : ProgramTree) (schemes : List SchemeTree) (i : ℕ) (f : FunctionTree) → slice_get p.functions i ≡ Some f →
@@ -96,7 +97,7 @@ GeneralWithoutParameters =
 
 -- ---- calls
 
--- a type is a result of the call of function k on the inputs exactly where some joint solution of the call's rows gives it
+-- a type is a result of the call of function k on the inputs exactly if some joint solution of the call's rows gives it
 abbrev pub CallResultsAreSolutions : Type 0
 CallResultsAreSolutions =
     (p : ProgramTree) (schemes : List SchemeTree) (k : ℕ) (f : FunctionTree) (inputs : InputTrees) → IsFormed p

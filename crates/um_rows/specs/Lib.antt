@@ -1,27 +1,23 @@
--- What a reader must trust, in reading order: rows, the rules of nodes, the equations of a function, slots, solutions,
--- what a function is answered.
+-- What a reader must trust, in reading order: rows, the rules of nodes, the equations of a function, solutions, what a
+-- function is answered.
 pub mod Steps
 pub mod Against
-pub mod Holes
 pub mod Rules
 pub mod Derivation
 pub mod Equations
-pub mod Keys
-pub mod Slots
 pub mod Solutions
 pub mod FirstUnsolvable
 pub mod Generalised
 pub mod Judgement
 pub mod RightShapes
-pub mod CallEquations
 pub mod Answers
 -- What the definitions come to: statements, each proved as the contract of a function of src/laws.rt.
 pub mod Laws
--- What mirrors the code: slots given one by one, rows pushed for steps, the derivation as it is walked.
-pub mod Slotting
-pub mod SlotUnits
+-- What mirrors the code: rows pushed for steps, the derivation as it is walked.
 pub mod Pushed
 pub mod Operations
 pub mod Walk
 pub mod Reached
+pub mod SlotStops
+pub mod Closed
 pub mod Body

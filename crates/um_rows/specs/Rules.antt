@@ -1,6 +1,7 @@
 -- What the typing rule of each node gives over the types of its parts: the node's rows, and then its type.
 -- Source: Kennedy (1996): sums and comparisons need equal units, products and quotients have the product and the
--- quotient of the units; F# specification, Units Of Measure. Which of two equal types stands for both is this project's own.
+-- quotient of the units; F# specification, Units Of Measure. Which of two equal types stands for both is this project's
+-- own.
 use Rattle.std.specs.Prelude.{ℕ, Bool, true, ◌==◌, List, [], ◌∷◌, ◌++◌, map, length, if◌then◌else◌, slice_get, Option}
 use Rattle.std.specs.Prelude.{Some, None, ℤ}
 use Rattle.um_frac.specs.declared.number.Frac.{Frac}

@@ -8,7 +8,8 @@ use Rattle.um_tree.specs.ProgramTree.{RecordTree, FunctionTree, ProgramTree, Sig
 use Rattle.um_tree.specs.Typing.{put_signature, parameter_unit}
 use Rattle.um_tree.specs.Scheme.{IsPrincipal}
 use Rattle.um_rows.specs.Steps.{row_units}
-use Rattle.um_rows.specs.Slots.{slot_count, slot_equations}
+use Rattle.um_slots.specs.Slots.{slot_count}
+use Rattle.um_rows.specs.Equations.{slot_equations}
 
 -- the units of the function's rows, in order
 abbrev pub function_rows : List RecordTree → List SchemeTree → ℕ → FunctionTree → List PowerMap

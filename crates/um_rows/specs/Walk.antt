@@ -1,5 +1,5 @@
 -- The derivation node by node, as the code makes it: the rows so far and the holes so far are carried along, and the
--- first step that passes the range ends it.
+-- first step that is out of range ends it.
 -- Source: this project's own; it is the derivation of the equations again, and no public clause rests on it.
 use Rattle.std.specs.Prelude.{ℕ, ◌+◌, List, [], ◌∷◌, ◌++◌, Option, Some, None, Result, Ok, Err, slice_get}
 use Rattle.um_units.specs.PowerMap.{PowerMap}
@@ -10,11 +10,12 @@ use Rattle.um_tree.specs.ExprTree.{none, more}
 use Rattle.um_tree.specs.ProgramTree.{RecordTree, Signature}
 use Rattle.um_rows.specs.declared.row.Row.{Row}
 use Rattle.um_rows.specs.Steps.{first_past, rows_of}
-use Rattle.um_rows.specs.Holes.{unit_holes, note_holes, Callee, callee_holes, record_holes}
+use Rattle.um_slots.specs.Holes.{unit_holes, note_holes, Callee, callee_holes, record_holes}
 use Rattle.um_rows.specs.Rules.{Derived, formed, item, number_rule, local_rule, call_rule, negate_rule, not_rule}
 use Rattle.um_rows.specs.Rules.{pown_rule, truths_rule, arith_rule, compare_rule, if_rule, split_rule, nil_rule}
 use Rattle.um_rows.specs.Rules.{list_rule, cons_rule, record_rule, field_rule}
-use Rattle.um_rows.specs.Derivation.{first_units, noted_unit, noted_type, offered}
+use Rattle.um_rows.specs.Derivation.{first_units, offered}
+use Rattle.um_slots.specs.Noted.{noted_unit, noted_type}
 
 -- the type of the last node, and where the walk stands
 pub record Walked : Type 0 where
@@ -27,7 +28,7 @@ pub record AllWalked : Type 0 where
   pub rows : List Row
   pub holes : ℕ
 
--- the types of two parts, and where the walk stands behind them
+-- the types of two parts, and where the walk stands after them
 pub record PairWalked : Type 0 where
   pub first : TypeTree
   pub second : TypeTree
@@ -43,7 +44,7 @@ abbrev pub unless_past : Option ℕ → Walked → Result Walked ℕ
 unless_past None w = Ok w
 unless_past (Some at) w = Err at
 
--- the rows of a node come behind those before
+-- the rows of a node follow those before
 abbrev pub node : List Row → ℕ → Derived → Result Walked ℕ
 node rows n d = unless_past (first_past d.steps) (record { type = d.type; rows = rows ++ rows_of d.steps; holes = n })
 

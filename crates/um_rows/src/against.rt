@@ -2,7 +2,8 @@
 
 ghost use Rattle.std.specs.Prelude.{[], ◌∷◌, map};
 ghost use Rattle.um_tree.specs.TypeTree.{type_tree};
-ghost use Rattle.um_rows.specs.Against.{never, unit_against, units_against, against as against_steps, types_against as types_against_steps, against_each as against_each_steps};
+ghost use Rattle.um_rows.specs.Against.{never, unit_against, units_against, against as against_steps};
+ghost use Rattle.um_rows.specs.Against.{types_against as types_against_steps, against_each as against_each_steps};
 ghost use Rattle.um_rows.specs.Pushed.{ArePushed};
 
 use crate::row::{Row, RowStop};

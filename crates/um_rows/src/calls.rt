@@ -9,23 +9,24 @@ ghost use Rattle.um_tree.specs.ProgramTree.{scheme_tree};
 ghost use Rattle.um_tree.specs.Typing.{put, put_signature};
 ghost use Rattle.um_elim.specs.Application.{type_fits};
 ghost use Rattle.um_tree.specs.Laws.{TypeHas};
-ghost use Rattle.um_rows.specs.SlotUnits.{AreVariables};
+ghost use Rattle.um_slots.specs.SlotUnits.{AreVariables};
 ghost use Rattle.um_rows.specs.Against.{types_against as types_against_steps};
 ghost use Rattle.um_rows.specs.Pushed.{ArePushed};
-ghost use Rattle.um_rows.specs.Holes.{callee_holes};
-ghost use Rattle.um_rows.specs.Equations.{callee_of};
+ghost use Rattle.um_slots.specs.Holes.{callee_holes};
+ghost use Rattle.um_slots.specs.Callees.{callee_of};
 ghost use Rattle.um_rows.specs.Rules.{call_rule};
 ghost use Rattle.um_rows.specs.Walk.{node};
 ghost use Rattle.um_rows.specs.Reached.{IsReached};
-ghost use Rattle.um_rows.specs.Body.{noted_signature, called, offer, IsClosedScheme, AreClosedBefore};
+ghost use Rattle.um_rows.specs.Body.{noted_signature, called, offer};
+ghost use Rattle.um_rows.specs.Closed.{IsClosedScheme, AreClosedBefore};
 
 use crate::against::{against, push_never, types_against};
-use crate::context::Context;
 use crate::progress::Progress;
 use crate::row::{Row, RowStop};
 use crate::rules::mismatch;
-use crate::types::{copied, renamed};
+use crate::walker::Walk;
 use std::alloc::Global;
+use um_slots::{Context, callee_units, copied, renamed};
 use um_tree::{Scheme, Ty};
 use um_units::Unit;
 
@@ -68,24 +69,11 @@ fn arguments_against(
     }
 }
 
-/// How many units a call of function j leaves open in the function of this number.
-pub(crate) fn called_holes(schemes: &[Scheme], number: u32, j: u32) -> usize
-    ensures { (recurs : Bool) → result ≡ callee_holes (callee_of (map scheme_tree schemes.now) number recurs j) }
-{
-    if j >= number {
-        return 0;
-    }
-    match schemes.get(j as usize) {
-        Some(scheme) => scheme.vars as usize,
-        None => 0,
-    }
-}
-
 /// How many units a call of function j leaves open.
-pub(crate) fn open_units(schemes: &[Scheme], context: &Context, j: u32) -> usize
-    ensures { result ≡ callee_holes (called schemes.now context.now j) }
+pub(crate) fn open_units(walk: &Walk, j: u32) -> usize
+    ensures { result ≡ callee_holes (called walk.now.schemes.now walk.now.context j) }
 {
-    called_holes(schemes, context.number, j)
+    callee_units(walk.schemes, walk.context.number, j)
 }
 
 /// A call of an earlier function, at an instance of its scheme.
@@ -138,26 +126,24 @@ fn own_call(
 
 /// A call of function j, whose holes are numbered from the first on.
 pub(crate) fn call(
-    alloc: Global,
+    walk: &Walk,
     at: u32,
-    schemes: &[Scheme],
-    context: &Context,
     first: usize,
     j: u32,
     arguments: &[Ty],
     progress: &mut Progress,
 ) -> Result<Ty, RowStop>
-    requires variables { AreVariables context.now.holes.items }
-    requires closed { AreClosedBefore context.now.number schemes.now }
-    requires room { first + callee_holes (called schemes.now context.now j) ≤ length context.now.holes.items }
-    ensures reached { (records : List Record)
-        → IsReached (node progress.old.rows.items progress.old.holes
-        (call_rule at (offer records schemes.now context.now first j) (map type_tree arguments.now)))
-        progress.new result }
+    requires room { first + callee_holes (called walk.now.schemes.now walk.now.context j)
+        ≤ length walk.now.context.holes.items }
+    ensures reached { IsReached (node progress.old.rows.items progress.old.holes
+        (call_rule at (offer walk.now.records.now walk.now.schemes.now walk.now.context first j)
+        (map type_tree arguments.now))) progress.new result }
     ensures fits { IfOk result (λ ty. IsTrue (type_fits (type_tree ty))) }
 {
+    let alloc = walk.alloc;
+    let context = &walk.context;
     if j < context.number {
-        return match schemes.get(j as usize) {
+        return match walk.schemes.get(j as usize) {
             Some(scheme) => {
                 let by = hole_units(context, first, scheme.vars as usize);
                 scheme_call(alloc, at, by, scheme, arguments, progress)

@@ -7,17 +7,18 @@ ghost use Rattle.um_tree.specs.Formed.{AreFormedInputs};
 ghost use Rattle.um_rows.specs.Answers.{AreCallRowsOf, CallRowsStopFor, HaveVariablesBelow, ResultsAreSolutionsOf};
 
 use crate::equations::equations;
-use crate::inputs::{call_of, exprs_of, param_shapes};
 use crate::row::{RowStop, Rows};
 use std::alloc::Global;
 use um_shape::Shaped;
+use um_slots::{Definition, call_of, exprs_of, param_shapes};
 use um_tree::{Inputs, Schemes};
 
-/// The equations of the call of function f on the inputs, over its slots, given schemes of all functions.
+/// The equations of the call of function `f` on the inputs, over its slots, given schemes of all functions.
 ///
-/// The call is seen as the body of one more function without parameters, at the place 0, in which a list without items is
-/// the empty list of its shape with a hole for each unit. The answers are those of `rows`. Where each scheme's instances are
-/// exactly the typings of its function, the results of the call are exactly what the joint solutions of the rows give.
+/// The call is seen as the body of one more function without parameters, at the place 0, in which a list without items
+/// is the empty list of its shape with a hole for each unit. The answers are those of `rows`. If each scheme's
+/// instances are exactly the typings of its function, the results of the call are exactly what the joint solutions of
+/// the rows give.
 pub fn call_rows(
     alloc: Global,
     shaped: &Shaped,
@@ -42,16 +43,19 @@ pub fn call_rows(
     let items = exprs_of(alloc, &program.records.items, args, &shapes)?;
     let body = call_of(f, items);
     let number = program.functions.items.len() as u32;
+    let definition = Definition {
+        at: 0,
+        recursive: false,
+        units: 0,
+        params: &[],
+        result: &None,
+        body: &body,
+    };
     equations(
         alloc,
         &program.records.items,
         &schemes.items,
         number,
-        0,
-        false,
-        0,
-        &[],
-        &None,
-        &body,
+        &definition,
     )
 }

@@ -8,15 +8,17 @@ use crate::equations::equations;
 use crate::row::{RowStop, Rows};
 use std::alloc::Global;
 use um_shape::Shaped;
+use um_slots::Definition;
 use um_tree::Schemes;
 
-/// The equations of function i, over its slots, given schemes of the functions before it.
+/// The equations of function `i`, over its slots, given schemes of the functions before it.
 ///
-/// The rows come in the order of the walk: those of a node after those of its parts, and at last the body against the note of
-/// the result (Kennedy 1996). Slots comes exactly where there are more than 2,000; else Range comes exactly where a power
-/// passes -2147483647..2147483647, at the first such node or row. Where each scheme's instances are exactly the typings of its
-/// function, the loose typings of function i are exactly what the joint solutions of the rows give, and its rigid typings what
-/// those give in which slot k of each unit parameter k has the base unit `bases + k`.
+/// The rows come in the order of the walk: those of a node after those of its parts, and at last the body against the
+/// note of the result (Kennedy 1996). `Slots` comes exactly if there are more than 2,000; otherwise `Range` comes
+/// exactly if a power is outside -2147483647..2147483647, at the first such node or row. If each scheme's instances are
+/// exactly the typings of its function, the loose typings of function `i` are exactly what the joint solutions of the
+/// rows give, and its rigid typings what those give in which slot `k` of each unit parameter `k` has the base unit
+/// `bases + k`.
 pub fn rows(alloc: Global, shaped: &Shaped, i: u32, schemes: &Schemes) -> Result<Rows, RowStop>
     requires function { i < length (program_tree shaped.now).functions }
     requires schemes { HaveVariablesBelow i (map scheme_tree schemes.now.items.items) }
@@ -27,16 +29,19 @@ pub fn rows(alloc: Global, shaped: &Shaped, i: u32, schemes: &Schemes) -> Result
 {
     let program = shaped.program();
     let function = &program.functions.items[i as usize];
+    let definition = Definition {
+        at: function.at,
+        recursive: function.recursive,
+        units: function.units,
+        params: &function.params.items,
+        result: &function.result,
+        body: &function.body,
+    };
     equations(
         alloc,
         &program.records.items,
         &schemes.items,
         i,
-        function.at,
-        function.recursive,
-        function.units,
-        &function.params.items,
-        &function.result,
-        &function.body,
+        &definition,
     )
 }

@@ -4,19 +4,18 @@ ghost use Rattle.std.specs.Prelude.{◌≡◌, ◌+◌, ◌≤◌, IfOk, IsTrue,
 ghost use Rattle.um_units.specs.PowerMap.{nth};
 ghost use Rattle.um_tree.specs.TypeTree.{type_tree, note_tree};
 ghost use Rattle.um_elim.specs.Application.{type_fits};
-ghost use Rattle.um_rows.specs.Holes.{unit_holes as holes_of_unit, note_holes as holes_of_note};
-ghost use Rattle.um_rows.specs.Derivation.{noted_unit as unit_noted, noted_type as type_noted};
+ghost use Rattle.um_slots.specs.Holes.{unit_holes as holes_of_unit, note_holes as holes_of_note};
+ghost use Rattle.um_slots.specs.Noted.{noted_unit as unit_noted, noted_type as type_noted};
 ghost use Rattle.um_rows.specs.Rules.{number_rule, nil_rule};
 ghost use Rattle.um_rows.specs.Walk.{node};
 ghost use Rattle.um_rows.specs.Reached.{IsReached};
 
-use crate::context::Context;
-use crate::noted::{note_holes, noted_type, noted_unit, unit_holes};
 use crate::progress::Progress;
 use crate::row::RowStop;
 use crate::rules;
 use std::alloc::Global;
 use um_frac::Frac;
+use um_slots::{Context, note_holes, noted_type, noted_unit, unit_holes};
 use um_tree::{Note, Ty, UnitNote};
 use um_units::UnitStop;
 

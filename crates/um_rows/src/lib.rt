@@ -1,8 +1,8 @@
 //! The equations of a function: rows of units over slots, whose joint solutions are exactly the function's typings.
 //!
-//! Each two units that a typing rule asks to be equal give a row, the first over the second, and a unit that the program
-//! leaves open is a slot (Kennedy, Programming Languages and Dimensions, 1996, on the inference of units). The order of the
-//! rows and of the slots, and the range of powers, are this project's own.
+//! Each two units that a typing rule asks to be equal give a row, the first over the second, and a unit that the
+//! program leaves open is a slot (Kennedy, Programming Languages and Dimensions, 1996, on the inference of units). The
+//! order of the rows and of the slots, and the range of powers, are this project's own.
 //!
 //! ```
 //! let equations = rows(alloc, &shaped, f, &schemes)?; // schemes of the functions before f
@@ -12,22 +12,19 @@
 
 mod against;
 mod calls;
-mod context;
 mod equations;
 mod function_calls;
 mod function_rows;
-mod inputs;
 pub mod laws;
 mod leaves;
-mod noted;
 mod operations;
 mod progress;
 mod records;
 mod row;
 mod rules;
-mod slots;
-mod types;
+mod value;
 mod walk;
+mod walker;
 
 pub use function_calls::call_rows;
 pub use function_rows::rows;

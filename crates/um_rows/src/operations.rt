@@ -1,19 +1,19 @@
 //! Operations of one part and of two parts.
 
-ghost use Rattle.std.specs.Prelude.{All, IfOk, IsTrue, map};
+ghost use Rattle.std.specs.Prelude.{IfOk, IsTrue, map};
 ghost use Rattle.um_tree.specs.TypeTree.{type_tree};
 ghost use Rattle.um_tree.specs.ProgramTree.{record_tree};
 ghost use Rattle.um_elim.specs.Application.{type_fits};
 ghost use Rattle.um_rows.specs.Operations.{unary_rule, binary_rule};
 ghost use Rattle.um_rows.specs.Walk.{node};
 ghost use Rattle.um_rows.specs.Reached.{IsReached};
-ghost use Rattle.um_rows.specs.Body.{IsClosedRecord};
 
 use crate::progress::{Pair, Progress};
 use crate::row::RowStop;
+use crate::walker::Walk;
 use crate::{records as values, rules};
 use std::alloc::Global;
-use um_tree::{Arith, Record, Ty};
+use um_tree::{Arith, Ty};
 
 /// The operations of one part.
 #[derive(Clone, Copy)]
@@ -37,19 +37,18 @@ pub(crate) enum Binary {
 
 /// The operation on a part of this type.
 pub(crate) fn unary_node(
-    alloc: Global,
+    walk: &Walk,
     at: u32,
-    records: &[Record],
     op: Unary,
     part: Ty,
     progress: &mut Progress,
 ) -> Result<Ty, RowStop>
-    requires closed { All IsClosedRecord records.now }
     requires fits { IsTrue (type_fits (type_tree part)) }
     ensures reached { IsReached (node progress.old.rows.items progress.old.holes
-        (unary_rule (map record_tree records.now) at op (type_tree part))) progress.new result }
+        (unary_rule (map record_tree walk.now.records.now) at op (type_tree part))) progress.new result }
     ensures fits { IfOk result (λ ty. IsTrue (type_fits (type_tree ty))) }
 {
+    let alloc = walk.alloc;
     match op {
         Unary::Negate => rules::negate(alloc, at, part, progress),
         Unary::Power(k) => rules::pown(alloc, at, part, k, progress),
@@ -59,7 +58,7 @@ pub(crate) fn unary_node(
             whole
         }
         Unary::Field(r, k) => {
-            let whole = values::field(alloc, at, records, r, k, &part, progress);
+            let whole = values::field(walk, at, r, k, &part, progress);
             drop(part);
             whole
         }

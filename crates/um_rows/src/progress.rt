@@ -10,6 +10,13 @@ pub(crate) struct Progress {
     pub(crate) holes: usize,
 }
 
+/// The types of the variables in scope, with the progress.
+#[derive(Drop)]
+pub(crate) struct State {
+    pub(crate) scope: Vec<Ty>,
+    pub(crate) progress: Progress,
+}
+
 /// The types of two parts.
 #[derive(Drop)]
 pub(crate) struct Pair {

@@ -9,25 +9,26 @@ ghost use Rattle.um_tree.specs.ProgramTree.{record_tree};
 ghost use Rattle.um_tree.specs.Typing.{put, unit_at, field_types};
 ghost use Rattle.um_tree.specs.Laws.{TypeHas};
 ghost use Rattle.um_elim.specs.Application.{type_fits};
-ghost use Rattle.um_rows.specs.SlotUnits.{AreVariables};
+ghost use Rattle.um_slots.specs.SlotUnits.{AreVariables};
 ghost use Rattle.um_rows.specs.Against.{types_against as types_against_steps};
 ghost use Rattle.um_rows.specs.Pushed.{ArePushed};
 ghost use Rattle.um_rows.specs.Rules.{record_rule, declared_rule, field_rule, found_rule};
-ghost use Rattle.um_rows.specs.Holes.{record_holes};
+ghost use Rattle.um_slots.specs.Holes.{record_holes};
 ghost use Rattle.um_rows.specs.Derivation.{first_units};
 ghost use Rattle.um_rows.specs.Walk.{node};
 ghost use Rattle.um_rows.specs.Reached.{IsReached};
-ghost use Rattle.um_rows.specs.Body.{declared_types, IsClosedRecord};
+ghost use Rattle.um_rows.specs.Closed.{declared_types, IsClosedRecord};
 
 use crate::against::{against, push_never};
 use crate::calls::hole_units;
-use crate::context::Context;
 use crate::progress::Progress;
 use crate::row::{Row, RowStop};
 use crate::rules::mismatch;
-use crate::types::{copied_units, renamed};
+use crate::value::Value;
+use crate::walker::Walk;
 use std::alloc::Global;
 use um_elim::put_in_type;
+use um_slots::{copied_units, renamed};
 use um_tree::{FieldDecl, Record, Ty};
 use um_units::{Unit, UnitStop};
 
@@ -62,45 +63,39 @@ fn fields_against(
     }
 }
 
-/// Pushes the rows of the record's fields, with these variables for its units, against parts.
+/// Pushes the rows of the record's fields, at these units, against parts.
 fn parts_against(
     alloc: Global,
     at: u32,
-    by: &[Unit],
-    declaration: &Record,
+    value: &Value,
     parts: &[Ty],
     rows: &mut Vec<Row>,
 ) -> Result<(), RowStop>
-    requires variables { AreVariables by.now }
-    requires many { length by.now ≡ declaration.now.units }
-    requires closed { IsClosedRecord declaration.now }
-    ensures { ArePushed (types_against_steps at (map (put (unit_at by.now)) (field_types (record_tree declaration.now)))
+    ensures { ArePushed (types_against_steps at
+        (map (put (unit_at value.now.units.now)) (field_types (record_tree value.now.declaration.now)))
         (map type_tree parts.now)) rows.old.items rows.new.items result }
 {
-    fields_against(alloc, at, by, &declaration.fields.items, parts, rows)
+    let fields: &[FieldDecl] = &value.declaration.fields.items;
+    fields_against(alloc, at, value.units, fields, parts, rows)
 }
 
-/// A value of the record, whose units are these variables.
+/// A value of the record.
 #[tactic(auto, using(crate::proofs::NodeLaws::node_made, crate::proofs::NodeLaws::node_stops))]
 fn record_of(
     alloc: Global,
     at: u32,
-    r: u32,
-    by: &[Unit],
-    declaration: &Record,
+    value: &Value,
     parts: &[Ty],
     progress: &mut Progress,
 ) -> Result<Ty, RowStop>
-    requires variables { AreVariables by.now }
-    requires many { length by.now ≡ declaration.now.units }
-    requires closed { IsClosedRecord declaration.now }
     ensures reached { IsReached (node progress.old.rows.items progress.old.holes
-        (record_rule at r by.now (Some (record_tree declaration.now)) (map type_tree parts.now))) progress.new result }
+        (record_rule at value.now.number value.now.units.now (Some (record_tree value.now.declaration.now))
+        (map type_tree parts.now))) progress.new result }
     ensures fits { IfOk result (λ ty. IsTrue (type_fits (type_tree ty))) }
 {
-    parts_against(alloc, at, by, declaration, parts, &mut progress.rows)?;
-    let units = copied_units(alloc, by)?;
-    Ok(Ty::Rec(r, units))
+    parts_against(alloc, at, value, parts, &mut progress.rows)?;
+    let units = copied_units(alloc, value.units)?;
+    Ok(Ty::Rec(value.number, units))
 }
 
 /// The type of a field, at the units of a record.
@@ -124,40 +119,33 @@ fn declared(
     }
 }
 
-/// How many units a value of record r leaves open.
-pub(crate) fn open_units(records: &[Record], r: u32) -> usize
-    ensures { result ≡ record_holes (slice_get (map record_tree records.now) r) }
-{
-    match records.get(r as usize) {
-        Some(record) => record.units as usize,
-        None => 0,
-    }
-}
-
 /// A value of record r, whose holes are numbered from the first on.
 pub(crate) fn record(
-    alloc: Global,
+    walk: &Walk,
     at: u32,
-    records: &[Record],
-    context: &Context,
     first: usize,
     r: u32,
     parts: &[Ty],
     progress: &mut Progress,
 ) -> Result<Ty, RowStop>
-    requires variables { AreVariables context.now.holes.items }
-    requires closed { All IsClosedRecord records.now }
-    requires room { first + record_holes (slice_get (map record_tree records.now) r) ≤ length context.now.holes.items }
+    requires room { first + record_holes (slice_get (map record_tree walk.now.records.now) r)
+        ≤ length walk.now.context.holes.items }
     ensures reached { IsReached (node progress.old.rows.items progress.old.holes
-        (record_rule at r (first_units (record_holes (slice_get (map record_tree records.now) r))
-        (λ k. nth context.now.holes.items (first + k))) (slice_get (map record_tree records.now) r)
+        (record_rule at r (first_units (record_holes (slice_get (map record_tree walk.now.records.now) r))
+        (λ k. nth walk.now.context.holes.items (first + k))) (slice_get (map record_tree walk.now.records.now) r)
         (map type_tree parts.now))) progress.new result }
     ensures fits { IfOk result (λ ty. IsTrue (type_fits (type_tree ty))) }
 {
-    match records.get(r as usize) {
-        Some(record) => {
-            let by = hole_units(context, first, record.units as usize);
-            record_of(alloc, at, r, by, record, parts, progress)
+    let alloc = walk.alloc;
+    match walk.records.get(r as usize) {
+        Some(declaration) => {
+            let units = hole_units(&walk.context, first, declaration.units as usize);
+            let value = Value {
+                number: r,
+                declaration,
+                units,
+            };
+            record_of(alloc, at, &value, parts, progress)
         }
         None => mismatch(alloc, at, progress),
     }
@@ -188,21 +176,21 @@ fn field_of(
 
 /// The type of the k-th field of a part, which is a value of record r.
 pub(crate) fn field(
-    alloc: Global,
+    walk: &Walk,
     at: u32,
-    records: &[Record],
     r: u32,
     k: u32,
     part: &Ty,
     progress: &mut Progress,
 ) -> Result<Ty, RowStop>
-    requires closed { All IsClosedRecord records.now }
     ensures reached { IsReached (node progress.old.rows.items progress.old.holes
-        (field_rule at r k (slice_get (map record_tree records.now) r) (type_tree part.now))) progress.new result }
+        (field_rule at r k (slice_get (map record_tree walk.now.records.now) r) (type_tree part.now))) progress.new
+        result }
     ensures fits { IfOk result (λ ty. IsTrue (type_fits (type_tree ty))) }
 {
+    let alloc = walk.alloc;
     match part {
-        Ty::Rec(q, units) if *q == r => match records.get(r as usize) {
+        Ty::Rec(q, units) if *q == r => match walk.records.get(r as usize) {
             Some(record) => field_of(alloc, at, record, k, units.as_slice(), progress),
             None => mismatch(alloc, at, progress),
         },

@@ -2,6 +2,7 @@
 
 use std::alloc::{AllocError, AllocFailed};
 use thiserror::Error;
+use um_slots::SlotStop;
 use um_tree::{Ty, Types};
 use um_units::Unit;
 
@@ -18,8 +19,8 @@ pub struct RowList {
     pub items: Vec<Row>,
 }
 
-/// The equations of a function: how many slots it has, its rows, and the types of its parameters and of its body over the
-/// slots.
+/// The equations of a function: how many slots it has, its rows, and the types of its parameters and of its body over
+/// the slots.
 #[derive(Drop)]
 pub struct Rows {
     pub slots: u32,
@@ -40,6 +41,20 @@ pub enum RowStop {
     /// No memory was left.
     #[error("out of memory")]
     NoMemory,
+}
+
+impl From<SlotStop> for RowStop {
+    ghost use Rattle.std.specs.Prelude.{◌≡◌};
+    ghost use Rattle.um_rows.specs.SlotStops.{row_stop};
+
+    ghost from_gives = { λ given stop. stop ≡ row_stop given };
+
+    fn from(stop: SlotStop) -> RowStop {
+        match stop {
+            SlotStop::TooMany => RowStop::Slots,
+            SlotStop::NoMemory => RowStop::NoMemory,
+        }
+    }
 }
 
 impl From<AllocError> for RowStop {

@@ -4,7 +4,9 @@ ghost use Rattle.std.specs.Prelude.{◌≡◌, [], ◌∷◌, IfOk, IsTrue, map,
 ghost use Rattle.um_tree.specs.TypeTree.{type_tree, bool_type, num_type};
 ghost use Rattle.um_units.specs.Range.{fits};
 ghost use Rattle.um_elim.specs.Application.{type_fits};
-ghost use Rattle.um_rows.specs.Rules.{formed, mismatch as mismatched, local_rule, negate_rule, not_rule, pown_rule, truths_rule, units_rule, arith_rule, compare_rule, if_rule, split_rule, nil_rule, list_rule, cons_rule, number_rule, asks_bool, asks_list};
+ghost use Rattle.um_rows.specs.Rules.{formed, mismatch as mismatched, local_rule, negate_rule, not_rule, pown_rule};
+ghost use Rattle.um_rows.specs.Rules.{truths_rule, units_rule, arith_rule, compare_rule, if_rule, split_rule, nil_rule};
+ghost use Rattle.um_rows.specs.Rules.{list_rule, cons_rule, number_rule, asks_bool, asks_list};
 ghost use Rattle.um_rows.specs.Pushed.{ArePushed};
 ghost use Rattle.um_rows.specs.Walk.{node};
 ghost use Rattle.um_rows.specs.Reached.{IsReached};
@@ -12,9 +14,9 @@ ghost use Rattle.um_rows.specs.Reached.{IsReached};
 use crate::against::{against, against_each, push_never, push_quotient};
 use crate::progress::Progress;
 use crate::row::{Row, RowStop};
-use crate::types::copied;
 use std::alloc::Global;
 use um_frac::Frac;
+use um_slots::copied;
 use um_tree::{Arith, Ty, UnitNote};
 use um_units::{Unit, UnitStop};
 
@@ -321,7 +323,7 @@ pub(crate) fn list(
     }
 }
 
-/// A number: its unit, and a row that no units satisfy where a number other than 0 has a hole.
+/// A number: its unit, and a row that no units satisfy if a number other than 0 has a hole.
 #[tactic(auto, using(crate::proofs::NodeLaws::node_formed, crate::proofs::NodeLaws::node_stops))]
 pub(crate) fn number(
     alloc: Global,

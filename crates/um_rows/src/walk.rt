@@ -1,25 +1,25 @@
 //! The walk over a body: the type of each node and its rows.
 
-ghost use Rattle.std.specs.Prelude.{◌≡◌, [], ◌∷◌, ◌++◌, ◌+◌, ◌≤◌, All, IfOk, IsTrue, length, map};
+ghost use Rattle.std.specs.Prelude.{◌≡◌, [], ◌∷◌, ◌++◌, ◌+◌, IfOk, IsTrue, map};
 ghost use Rattle.um_tree.specs.TypeTree.{type_tree};
 ghost use Rattle.um_tree.specs.ExprTree.{expr_tree, in_order, call, if, bind, split, list_expr, record_expr};
 ghost use Rattle.um_tree.specs.ProgramTree.{record_tree};
 ghost use Rattle.um_elim.specs.Application.{type_fits};
 ghost use Rattle.um_rows.specs.Rules.{item};
-ghost use Rattle.um_rows.specs.SlotUnits.{AreVariables};
 ghost use Rattle.um_rows.specs.Operations.{unary_rule, binary_rule};
 ghost use Rattle.um_rows.specs.Walk.{part_node, pair_node};
 ghost use Rattle.um_rows.specs.Reached.{IsReached, AreReached, ArePairReached};
-ghost use Rattle.um_rows.specs.Body.{AreClosedBefore, IsClosedRecord, body_walk, body_walk_pair, body_walk_all, body_holes, bodies_holes};
+ghost use Rattle.um_rows.specs.Body.{body_walk, walk_from, walk_pair_from, walk_all_from, holes_in, all_holes_in};
+ghost use Rattle.um_rows.specs.Body.{HasRoom};
 
-use crate::context::Context;
 use crate::operations::{Binary, Unary, binary_node, unary_node};
-use crate::progress::{Pair, Progress};
+use crate::progress::{Pair, State};
 use crate::row::RowStop;
-use crate::types::copied;
+use crate::walker::Walk;
 use crate::{calls, leaves, records as values, rules};
 use std::alloc::{AllocError, Global};
-use um_tree::{Expr, Node, Record, Scheme, Ty};
+use um_slots::{copied, record_units};
+use um_tree::{Expr, Node, Ty};
 
 /// The type of a list's items.
 fn item_of(alloc: Global, list: &Ty) -> Result<Ty, AllocError>
@@ -33,183 +33,96 @@ fn item_of(alloc: Global, list: &Ty) -> Result<Ty, AllocError>
 
 /// The type of the expression over slots. Its rows are pushed, and its holes are counted.
 ///
-/// The scope is as before where there is a type.
+/// If there is a type the scope is as before.
 // What has parts is a function of its own, not inlined, so that a node sets no locals of the others to nothing.
 #[cycle(walk)]
-pub(crate) fn derive(
-    alloc: Global,
-    records: &[Record],
-    schemes: &[Scheme],
-    context: &Context,
-    scope: &mut Vec<Ty>,
-    e: &Expr,
-    progress: &mut Progress,
-) -> Result<Ty, RowStop>
-    requires variables { AreVariables context.now.holes.items }
-    requires schemes { AreClosedBefore context.now.number schemes.now }
-    requires records { All IsClosedRecord records.now }
-    requires room { progress.old.holes + body_holes records.now schemes.now context.now (expr_tree e.now)
-        ≤ length context.now.holes.items }
-    ensures reached { IsReached (body_walk records.now schemes.now context.now progress.old.rows.items
-        progress.old.holes (map type_tree scope.old.items) (expr_tree e.now)) progress.new result }
+pub(crate) fn derive(walk: &Walk, e: &Expr, state: &mut State) -> Result<Ty, RowStop>
+    requires room { HasRoom walk.now state.old (holes_in walk.now (expr_tree e.now)) }
+    ensures reached { IsReached (walk_from walk.now state.old (expr_tree e.now)) state.new.progress result }
     ensures fits { IfOk result (λ ty. IsTrue (type_fits (type_tree ty))) }
-    ensures scope { IfOk result (λ _. scope.new.items ≡ scope.old.items) }
+    ensures scope { IfOk result (λ _. state.new.scope.items ≡ state.old.scope.items) }
 {
+    let alloc = walk.alloc;
     let at = e.at;
     match &e.node {
-        Node::Bool(_) => rules::whole(at, Ty::Bool, progress),
-        Node::Num(value, note) => leaves::number(alloc, context, at, *value, note, progress),
-        Node::Local(k) => rules::local(alloc, at, scope, *k, progress),
-        Node::Nil(note) => leaves::nil(alloc, context, at, note, progress),
-        Node::Call(j, es) => derive_call(
-            alloc, records, schemes, context, scope, at, *j, &es.items, progress,
+        Node::Bool(_) => rules::whole(at, Ty::Bool, &mut state.progress),
+        Node::Num(value, note) => leaves::number(
+            alloc,
+            &walk.context,
+            at,
+            *value,
+            note,
+            &mut state.progress,
         ),
-        Node::List(es) => derive_list(
-            alloc, records, schemes, context, scope, at, &es.items, progress,
-        ),
-        Node::Rec(r, es) => derive_record(
-            alloc, records, schemes, context, scope, at, *r, &es.items, progress,
-        ),
-        Node::Neg(a) => {
-            let op = Unary::Negate;
-            derive_unary(alloc, records, schemes, context, scope, at, op, a, progress)
-        }
-        Node::Not(a) => {
-            let op = Unary::Not;
-            derive_unary(alloc, records, schemes, context, scope, at, op, a, progress)
-        }
-        Node::Pow(a, k) => {
-            let op = Unary::Power(*k);
-            derive_unary(alloc, records, schemes, context, scope, at, op, a, progress)
-        }
-        Node::Field(r, k, a) => {
-            let op = Unary::Field(*r, *k);
-            derive_unary(alloc, records, schemes, context, scope, at, op, a, progress)
-        }
-        Node::Arith(op, a, b) => {
-            let op = Binary::Arith(*op);
-            derive_binary(
-                alloc, records, schemes, context, scope, at, op, a, b, progress,
-            )
-        }
-        Node::Compare(_, a, b) => {
-            let op = Binary::Compare;
-            derive_binary(
-                alloc, records, schemes, context, scope, at, op, a, b, progress,
-            )
-        }
-        Node::And(a, b) => {
-            let op = Binary::Truths;
-            derive_binary(
-                alloc, records, schemes, context, scope, at, op, a, b, progress,
-            )
-        }
-        Node::Or(a, b) => {
-            let op = Binary::Truths;
-            derive_binary(
-                alloc, records, schemes, context, scope, at, op, a, b, progress,
-            )
-        }
-        Node::Cons(a, b) => {
-            let op = Binary::Cons;
-            derive_binary(
-                alloc, records, schemes, context, scope, at, op, a, b, progress,
-            )
-        }
-        Node::If(c, a, b) => derive_if(
-            alloc, records, schemes, context, scope, at, c, a, b, progress,
-        ),
-        Node::Let(a, b) => derive_let(alloc, records, schemes, context, scope, at, a, b, progress),
-        Node::Match(l, a, b) => derive_match(
-            alloc, records, schemes, context, scope, at, l, a, b, progress,
-        ),
+        Node::Local(k) => rules::local(alloc, at, &state.scope, *k, &mut state.progress),
+        Node::Nil(note) => leaves::nil(alloc, &walk.context, at, note, &mut state.progress),
+        Node::Call(j, es) => derive_call(walk, at, *j, &es.items, state),
+        Node::List(es) => derive_list(walk, at, &es.items, state),
+        Node::Rec(r, es) => derive_record(walk, at, *r, &es.items, state),
+        Node::Neg(a) => derive_unary(walk, at, Unary::Negate, a, state),
+        Node::Not(a) => derive_unary(walk, at, Unary::Not, a, state),
+        Node::Pow(a, k) => derive_unary(walk, at, Unary::Power(*k), a, state),
+        Node::Field(r, k, a) => derive_unary(walk, at, Unary::Field(*r, *k), a, state),
+        Node::Arith(op, a, b) => derive_binary(walk, at, Binary::Arith(*op), a, b, state),
+        Node::Compare(_, a, b) => derive_binary(walk, at, Binary::Compare, a, b, state),
+        Node::And(a, b) => derive_binary(walk, at, Binary::Truths, a, b, state),
+        Node::Or(a, b) => derive_binary(walk, at, Binary::Truths, a, b, state),
+        Node::Cons(a, b) => derive_binary(walk, at, Binary::Cons, a, b, state),
+        Node::If(c, a, b) => derive_if(walk, at, c, a, b, state),
+        Node::Let(a, b) => derive_let(walk, at, a, b, state),
+        Node::Match(l, a, b) => derive_match(walk, at, l, a, b, state),
     }
 }
 
 /// The type of an operation on one part.
 #[cycle(walk)]
 #[inline(never)]
-fn derive_unary(
-    alloc: Global,
-    records: &[Record],
-    schemes: &[Scheme],
-    context: &Context,
-    scope: &mut Vec<Ty>,
-    at: u32,
-    op: Unary,
-    a: &Expr,
-    progress: &mut Progress,
-) -> Result<Ty, RowStop>
-    requires variables { AreVariables context.now.holes.items }
-    requires schemes { AreClosedBefore context.now.number schemes.now }
-    requires records { All IsClosedRecord records.now }
-    requires room { progress.old.holes + body_holes records.now schemes.now context.now (expr_tree a.now)
-        ≤ length context.now.holes.items }
-    ensures reached { IsReached (part_node (body_walk records.now schemes.now context.now progress.old.rows.items
-        progress.old.holes (map type_tree scope.old.items) (expr_tree a.now))
-        (λ t. unary_rule (map record_tree records.now) at op t)) progress.new result }
+fn derive_unary(walk: &Walk, at: u32, op: Unary, a: &Expr, state: &mut State) -> Result<Ty, RowStop>
+    requires room { HasRoom walk.now state.old (holes_in walk.now (expr_tree a.now)) }
+    ensures reached { IsReached (part_node (walk_from walk.now state.old (expr_tree a.now))
+        (λ t. unary_rule (map record_tree walk.now.records.now) at op t)) state.new.progress result }
     ensures fits { IfOk result (λ ty. IsTrue (type_fits (type_tree ty))) }
-    ensures scope { IfOk result (λ _. scope.new.items ≡ scope.old.items) }
+    ensures scope { IfOk result (λ _. state.new.scope.items ≡ state.old.scope.items) }
 {
-    let part = derive(alloc, records, schemes, context, scope, a, progress)?;
-    unary_node(alloc, at, records, op, part, progress)
+    let part = derive(walk, a, state)?;
+    unary_node(walk, at, op, part, &mut state.progress)
 }
 
 /// The type of an operation on two parts.
 #[cycle(walk)]
 #[inline(never)]
 fn derive_binary(
-    alloc: Global,
-    records: &[Record],
-    schemes: &[Scheme],
-    context: &Context,
-    scope: &mut Vec<Ty>,
+    walk: &Walk,
     at: u32,
     op: Binary,
     a: &Expr,
     b: &Expr,
-    progress: &mut Progress,
+    state: &mut State,
 ) -> Result<Ty, RowStop>
-    requires variables { AreVariables context.now.holes.items }
-    requires schemes { AreClosedBefore context.now.number schemes.now }
-    requires records { All IsClosedRecord records.now }
-    requires room { progress.old.holes + (body_holes records.now schemes.now context.now (expr_tree a.now)
-        + body_holes records.now schemes.now context.now (expr_tree b.now)) ≤ length context.now.holes.items }
-    ensures reached { IsReached (pair_node (body_walk_pair records.now schemes.now context.now progress.old.rows.items
-        progress.old.holes (map type_tree scope.old.items) (expr_tree a.now) (expr_tree b.now))
-        (λ s t. binary_rule at op s t)) progress.new result }
+    requires room { HasRoom walk.now state.old
+        (holes_in walk.now (expr_tree a.now) + holes_in walk.now (expr_tree b.now)) }
+    ensures reached { IsReached (pair_node (walk_pair_from walk.now state.old (expr_tree a.now) (expr_tree b.now))
+        (λ s t. binary_rule at op s t)) state.new.progress result }
     ensures fits { IfOk result (λ ty. IsTrue (type_fits (type_tree ty))) }
-    ensures scope { IfOk result (λ _. scope.new.items ≡ scope.old.items) }
+    ensures scope { IfOk result (λ _. state.new.scope.items ≡ state.old.scope.items) }
 {
-    let parts = derive_pair(alloc, records, schemes, context, scope, a, b, progress)?;
-    binary_node(alloc, at, op, parts, progress)
+    let parts = derive_pair(walk, a, b, state)?;
+    binary_node(walk.alloc, at, op, parts, &mut state.progress)
 }
 
 /// The types of two parts, one after the other.
 #[cycle(walk)]
-fn derive_pair(
-    alloc: Global,
-    records: &[Record],
-    schemes: &[Scheme],
-    context: &Context,
-    scope: &mut Vec<Ty>,
-    a: &Expr,
-    b: &Expr,
-    progress: &mut Progress,
-) -> Result<Pair, RowStop>
-    requires variables { AreVariables context.now.holes.items }
-    requires schemes { AreClosedBefore context.now.number schemes.now }
-    requires records { All IsClosedRecord records.now }
-    requires room { progress.old.holes + (body_holes records.now schemes.now context.now (expr_tree a.now)
-        + body_holes records.now schemes.now context.now (expr_tree b.now)) ≤ length context.now.holes.items }
-    ensures reached { ArePairReached (body_walk_pair records.now schemes.now context.now progress.old.rows.items
-        progress.old.holes (map type_tree scope.old.items) (expr_tree a.now) (expr_tree b.now)) progress.new result }
+fn derive_pair(walk: &Walk, a: &Expr, b: &Expr, state: &mut State) -> Result<Pair, RowStop>
+    requires room { HasRoom walk.now state.old
+        (holes_in walk.now (expr_tree a.now) + holes_in walk.now (expr_tree b.now)) }
+    ensures reached { ArePairReached (walk_pair_from walk.now state.old (expr_tree a.now) (expr_tree b.now))
+        state.new.progress result }
     ensures first_fits { IfOk result (λ ts. IsTrue (type_fits (type_tree ts.first))) }
     ensures second_fits { IfOk result (λ ts. IsTrue (type_fits (type_tree ts.second))) }
-    ensures scope { IfOk result (λ _. scope.new.items ≡ scope.old.items) }
+    ensures scope { IfOk result (λ _. state.new.scope.items ≡ state.old.scope.items) }
 {
-    let first = derive(alloc, records, schemes, context, scope, a, progress)?;
-    match derive(alloc, records, schemes, context, scope, b, progress) {
+    let first = derive(walk, a, state)?;
+    match derive(walk, b, state) {
         Ok(second) => Ok(Pair { first, second }),
         Err(stop) => {
             drop(first);
@@ -222,32 +135,26 @@ fn derive_pair(
 #[cycle(walk)]
 #[inline(never)]
 fn derive_if(
-    alloc: Global,
-    records: &[Record],
-    schemes: &[Scheme],
-    context: &Context,
-    scope: &mut Vec<Ty>,
+    walk: &Walk,
     at: u32,
     c: &Expr,
     a: &Expr,
     b: &Expr,
-    progress: &mut Progress,
+    state: &mut State,
 ) -> Result<Ty, RowStop>
-    requires variables { AreVariables context.now.holes.items }
-    requires schemes { AreClosedBefore context.now.number schemes.now }
-    requires records { All IsClosedRecord records.now }
-    requires room { progress.old.holes + body_holes records.now schemes.now context.now
-        (if at (expr_tree c.now) (expr_tree a.now) (expr_tree b.now)) ≤ length context.now.holes.items }
-    ensures reached { IsReached (body_walk records.now schemes.now context.now progress.old.rows.items
-        progress.old.holes (map type_tree scope.old.items)
-        (if at (expr_tree c.now) (expr_tree a.now) (expr_tree b.now))) progress.new result }
+    requires room { HasRoom walk.now state.old
+        (holes_in walk.now (if at (expr_tree c.now) (expr_tree a.now) (expr_tree b.now))) }
+    ensures reached { IsReached (walk_from walk.now state.old
+        (if at (expr_tree c.now) (expr_tree a.now) (expr_tree b.now)))
+        state.new.progress result }
     ensures fits { IfOk result (λ ty. IsTrue (type_fits (type_tree ty))) }
-    ensures scope { IfOk result (λ _. scope.new.items ≡ scope.old.items) }
+    ensures scope { IfOk result (λ _. state.new.scope.items ≡ state.old.scope.items) }
 {
-    let test = derive(alloc, records, schemes, context, scope, c, progress)?;
-    match derive_pair(alloc, records, schemes, context, scope, a, b, progress) {
+    let test = derive(walk, c, state)?;
+    match derive_pair(walk, a, b, state) {
         Ok(Pair { first, second }) => {
-            let whole = rules::condition(alloc, at, &test, first, &second, progress);
+            let progress = &mut state.progress;
+            let whole = rules::condition(walk.alloc, at, &test, first, &second, progress);
             drop(test);
             drop(second);
             whole
@@ -262,68 +169,46 @@ fn derive_if(
 /// The type of `let`: the second part has one more variable.
 #[cycle(walk)]
 #[inline(never)]
-fn derive_let(
-    alloc: Global,
-    records: &[Record],
-    schemes: &[Scheme],
-    context: &Context,
-    scope: &mut Vec<Ty>,
-    at: u32,
-    a: &Expr,
-    b: &Expr,
-    progress: &mut Progress,
-) -> Result<Ty, RowStop>
-    requires variables { AreVariables context.now.holes.items }
-    requires schemes { AreClosedBefore context.now.number schemes.now }
-    requires records { All IsClosedRecord records.now }
-    requires room { progress.old.holes + body_holes records.now schemes.now context.now
-        (bind at (expr_tree a.now) (expr_tree b.now)) ≤ length context.now.holes.items }
-    ensures reached { IsReached (body_walk records.now schemes.now context.now progress.old.rows.items
-        progress.old.holes (map type_tree scope.old.items) (bind at (expr_tree a.now) (expr_tree b.now)))
-        progress.new result }
+fn derive_let(walk: &Walk, at: u32, a: &Expr, b: &Expr, state: &mut State) -> Result<Ty, RowStop>
+    requires room { HasRoom walk.now state.old (holes_in walk.now (bind at (expr_tree a.now) (expr_tree b.now))) }
+    ensures reached { IsReached (walk_from walk.now state.old (bind at (expr_tree a.now) (expr_tree b.now)))
+        state.new.progress result }
     ensures fits { IfOk result (λ ty. IsTrue (type_fits (type_tree ty))) }
-    ensures scope { IfOk result (λ _. scope.new.items ≡ scope.old.items) }
+    ensures scope { IfOk result (λ _. state.new.scope.items ≡ state.old.scope.items) }
 {
-    let bound = derive(alloc, records, schemes, context, scope, a, progress)?;
-    scope.push(bound)?;
-    let whole = derive(alloc, records, schemes, context, scope, b, progress)?;
-    drop(scope.pop());
-    rules::whole(at, whole, progress)
+    let bound = derive(walk, a, state)?;
+    state.scope.push(bound)?;
+    let whole = derive(walk, b, state)?;
+    drop(state.scope.pop());
+    rules::whole(at, whole, &mut state.progress)
 }
 
 /// The type of `match` on a list.
 #[cycle(walk)]
 #[inline(never)]
 fn derive_match(
-    alloc: Global,
-    records: &[Record],
-    schemes: &[Scheme],
-    context: &Context,
-    scope: &mut Vec<Ty>,
+    walk: &Walk,
     at: u32,
     l: &Expr,
     a: &Expr,
     b: &Expr,
-    progress: &mut Progress,
+    state: &mut State,
 ) -> Result<Ty, RowStop>
-    requires variables { AreVariables context.now.holes.items }
-    requires schemes { AreClosedBefore context.now.number schemes.now }
-    requires records { All IsClosedRecord records.now }
-    requires room { progress.old.holes + body_holes records.now schemes.now context.now
-        (split at (expr_tree l.now) (expr_tree a.now) (expr_tree b.now)) ≤ length context.now.holes.items }
-    ensures reached { IsReached (body_walk records.now schemes.now context.now progress.old.rows.items
-        progress.old.holes (map type_tree scope.old.items)
-        (split at (expr_tree l.now) (expr_tree a.now) (expr_tree b.now))) progress.new result }
+    requires room { HasRoom walk.now state.old
+        (holes_in walk.now (split at (expr_tree l.now) (expr_tree a.now) (expr_tree b.now))) }
+    ensures reached { IsReached (walk_from walk.now state.old
+        (split at (expr_tree l.now) (expr_tree a.now) (expr_tree b.now)))
+        state.new.progress result }
     ensures fits { IfOk result (λ ty. IsTrue (type_fits (type_tree ty))) }
-    ensures scope { IfOk result (λ _. scope.new.items ≡ scope.old.items) }
+    ensures scope { IfOk result (λ _. state.new.scope.items ≡ state.old.scope.items) }
 {
     let Pair {
         first: list,
         second: empty,
-    } = derive_pair(alloc, records, schemes, context, scope, l, a, progress)?;
-    match derive_full(alloc, records, schemes, context, scope, &list, b, progress) {
+    } = derive_pair(walk, l, a, state)?;
+    match derive_full(walk, &list, b, state) {
         Ok(full) => {
-            let whole = rules::split(alloc, at, &list, empty, &full, progress);
+            let whole = rules::split(walk.alloc, at, &list, empty, &full, &mut state.progress);
             drop(list);
             drop(full);
             whole
@@ -338,34 +223,21 @@ fn derive_match(
 
 /// The type of the full arm of a `match` on the list: it has two more variables, head and tail.
 #[cycle(walk)]
-fn derive_full(
-    alloc: Global,
-    records: &[Record],
-    schemes: &[Scheme],
-    context: &Context,
-    scope: &mut Vec<Ty>,
-    list: &Ty,
-    e: &Expr,
-    progress: &mut Progress,
-) -> Result<Ty, RowStop>
-    requires variables { AreVariables context.now.holes.items }
-    requires schemes { AreClosedBefore context.now.number schemes.now }
-    requires records { All IsClosedRecord records.now }
-    requires room { progress.old.holes + body_holes records.now schemes.now context.now (expr_tree e.now)
-        ≤ length context.now.holes.items }
-    ensures reached { IsReached (body_walk records.now schemes.now context.now progress.old.rows.items
-        progress.old.holes (map type_tree scope.old.items ++ item (type_tree list.now) ∷ type_tree list.now ∷ [])
-        (expr_tree e.now)) progress.new result }
+fn derive_full(walk: &Walk, list: &Ty, e: &Expr, state: &mut State) -> Result<Ty, RowStop>
+    requires room { HasRoom walk.now state.old (holes_in walk.now (expr_tree e.now)) }
+    ensures reached { IsReached (body_walk walk.now.records.now walk.now.schemes.now walk.now.context
+        state.old.progress.rows.items state.old.progress.holes (map type_tree state.old.scope.items
+        ++ item (type_tree list.now) ∷ type_tree list.now ∷ []) (expr_tree e.now)) state.new.progress result }
     ensures fits { IfOk result (λ ty. IsTrue (type_fits (type_tree ty))) }
-    ensures scope { IfOk result (λ _. scope.new.items ≡ scope.old.items) }
+    ensures scope { IfOk result (λ _. state.new.scope.items ≡ state.old.scope.items) }
 {
-    let head = item_of(alloc, list)?;
-    scope.push(head)?;
-    let tail = copied(alloc, list)?;
-    scope.push(tail)?;
-    let full = derive(alloc, records, schemes, context, scope, e, progress)?;
-    drop(scope.pop());
-    drop(scope.pop());
+    let head = item_of(walk.alloc, list)?;
+    state.scope.push(head)?;
+    let tail = copied(walk.alloc, list)?;
+    state.scope.push(tail)?;
+    let full = derive(walk, e, state)?;
+    drop(state.scope.pop());
+    drop(state.scope.pop());
     Ok(full)
 }
 
@@ -373,31 +245,22 @@ fn derive_full(
 #[cycle(walk)]
 #[inline(never)]
 fn derive_call(
-    alloc: Global,
-    records: &[Record],
-    schemes: &[Scheme],
-    context: &Context,
-    scope: &mut Vec<Ty>,
+    walk: &Walk,
     at: u32,
     j: u32,
     parts: &[Expr],
-    progress: &mut Progress,
+    state: &mut State,
 ) -> Result<Ty, RowStop>
-    requires variables { AreVariables context.now.holes.items }
-    requires schemes { AreClosedBefore context.now.number schemes.now }
-    requires records { All IsClosedRecord records.now }
-    requires room { progress.old.holes + body_holes records.now schemes.now context.now
-        (call at j (in_order (map expr_tree parts.now))) ≤ length context.now.holes.items }
-    ensures reached { IsReached (body_walk records.now schemes.now context.now progress.old.rows.items
-        progress.old.holes (map type_tree scope.old.items) (call at j (in_order (map expr_tree parts.now))))
-        progress.new result }
+    requires room { HasRoom walk.now state.old (holes_in walk.now (call at j (in_order (map expr_tree parts.now)))) }
+    ensures reached { IsReached (walk_from walk.now state.old (call at j (in_order (map expr_tree parts.now))))
+        state.new.progress result }
     ensures fits { IfOk result (λ ty. IsTrue (type_fits (type_tree ty))) }
-    ensures scope { IfOk result (λ _. scope.new.items ≡ scope.old.items) }
+    ensures scope { IfOk result (λ _. state.new.scope.items ≡ state.old.scope.items) }
 {
-    let first = progress.holes;
-    progress.holes += calls::open_units(schemes, context, j);
-    let types = derive_all(alloc, records, schemes, context, scope, parts, progress)?;
-    let whole = calls::call(alloc, at, schemes, context, first, j, &types, progress);
+    let first = state.progress.holes;
+    state.progress.holes += calls::open_units(walk, j);
+    let types = derive_all(walk, parts, state)?;
+    let whole = calls::call(walk, at, first, j, &types, &mut state.progress);
     drop(types);
     whole
 }
@@ -405,29 +268,15 @@ fn derive_call(
 /// The type of a list of these items.
 #[cycle(walk)]
 #[inline(never)]
-fn derive_list(
-    alloc: Global,
-    records: &[Record],
-    schemes: &[Scheme],
-    context: &Context,
-    scope: &mut Vec<Ty>,
-    at: u32,
-    parts: &[Expr],
-    progress: &mut Progress,
-) -> Result<Ty, RowStop>
-    requires variables { AreVariables context.now.holes.items }
-    requires schemes { AreClosedBefore context.now.number schemes.now }
-    requires records { All IsClosedRecord records.now }
-    requires room { progress.old.holes + body_holes records.now schemes.now context.now
-        (list_expr at (in_order (map expr_tree parts.now))) ≤ length context.now.holes.items }
-    ensures reached { IsReached (body_walk records.now schemes.now context.now progress.old.rows.items
-        progress.old.holes (map type_tree scope.old.items) (list_expr at (in_order (map expr_tree parts.now))))
-        progress.new result }
+fn derive_list(walk: &Walk, at: u32, parts: &[Expr], state: &mut State) -> Result<Ty, RowStop>
+    requires room { HasRoom walk.now state.old (holes_in walk.now (list_expr at (in_order (map expr_tree parts.now)))) }
+    ensures reached { IsReached (walk_from walk.now state.old (list_expr at (in_order (map expr_tree parts.now))))
+        state.new.progress result }
     ensures fits { IfOk result (λ ty. IsTrue (type_fits (type_tree ty))) }
-    ensures scope { IfOk result (λ _. scope.new.items ≡ scope.old.items) }
+    ensures scope { IfOk result (λ _. state.new.scope.items ≡ state.old.scope.items) }
 {
-    let types = derive_all(alloc, records, schemes, context, scope, parts, progress)?;
-    let whole = rules::list(alloc, at, &types, progress);
+    let types = derive_all(walk, parts, state)?;
+    let whole = rules::list(walk.alloc, at, &types, &mut state.progress);
     drop(types);
     whole
 }
@@ -436,59 +285,38 @@ fn derive_list(
 #[cycle(walk)]
 #[inline(never)]
 fn derive_record(
-    alloc: Global,
-    records: &[Record],
-    schemes: &[Scheme],
-    context: &Context,
-    scope: &mut Vec<Ty>,
+    walk: &Walk,
     at: u32,
     r: u32,
     parts: &[Expr],
-    progress: &mut Progress,
+    state: &mut State,
 ) -> Result<Ty, RowStop>
-    requires variables { AreVariables context.now.holes.items }
-    requires schemes { AreClosedBefore context.now.number schemes.now }
-    requires records { All IsClosedRecord records.now }
-    requires room { progress.old.holes + body_holes records.now schemes.now context.now
-        (record_expr at r (in_order (map expr_tree parts.now))) ≤ length context.now.holes.items }
-    ensures reached { IsReached (body_walk records.now schemes.now context.now progress.old.rows.items
-        progress.old.holes (map type_tree scope.old.items) (record_expr at r (in_order (map expr_tree parts.now))))
-        progress.new result }
+    requires room { HasRoom walk.now state.old
+        (holes_in walk.now (record_expr at r (in_order (map expr_tree parts.now)))) }
+    ensures reached { IsReached (walk_from walk.now state.old (record_expr at r (in_order (map expr_tree parts.now))))
+        state.new.progress result }
     ensures fits { IfOk result (λ ty. IsTrue (type_fits (type_tree ty))) }
-    ensures scope { IfOk result (λ _. scope.new.items ≡ scope.old.items) }
+    ensures scope { IfOk result (λ _. state.new.scope.items ≡ state.old.scope.items) }
 {
-    let first = progress.holes;
-    progress.holes += values::open_units(records, r);
-    let types = derive_all(alloc, records, schemes, context, scope, parts, progress)?;
-    let whole = values::record(alloc, at, records, context, first, r, &types, progress);
+    let first = state.progress.holes;
+    state.progress.holes += record_units(walk.records, r);
+    let types = derive_all(walk, parts, state)?;
+    let whole = values::record(walk, at, first, r, &types, &mut state.progress);
     drop(types);
     whole
 }
 
 /// The types of expressions one after another.
 #[cycle(walk)]
-fn derive_all(
-    alloc: Global,
-    records: &[Record],
-    schemes: &[Scheme],
-    context: &Context,
-    scope: &mut Vec<Ty>,
-    parts: &[Expr],
-    progress: &mut Progress,
-) -> Result<Vec<Ty>, RowStop>
-    requires variables { AreVariables context.now.holes.items }
-    requires schemes { AreClosedBefore context.now.number schemes.now }
-    requires records { All IsClosedRecord records.now }
-    requires room { progress.old.holes + bodies_holes records.now schemes.now context.now
-        (in_order (map expr_tree parts.now)) ≤ length context.now.holes.items }
+fn derive_all(walk: &Walk, parts: &[Expr], state: &mut State) -> Result<Vec<Ty>, RowStop>
+    requires room { HasRoom walk.now state.old (all_holes_in walk.now (in_order (map expr_tree parts.now))) }
     ensures reached { AreReached (λ types. map type_tree types.items)
-        (body_walk_all records.now schemes.now context.now progress.old.rows.items progress.old.holes
-        (map type_tree scope.old.items) (in_order (map expr_tree parts.now))) progress.new result }
-    ensures scope { IfOk result (λ _. scope.new.items ≡ scope.old.items) }
+        (walk_all_from walk.now state.old (in_order (map expr_tree parts.now))) state.new.progress result }
+    ensures scope { IfOk result (λ _. state.new.scope.items ≡ state.old.scope.items) }
 {
-    let mut types = Vec::new(alloc);
+    let mut types = Vec::new(walk.alloc);
     for i in 0..parts.len() {
-        types.push(derive(alloc, records, schemes, context, scope, &parts[i], progress)?)?;
+        types.push(derive(walk, &parts[i], state)?)?;
     }
     Ok(types)
 }

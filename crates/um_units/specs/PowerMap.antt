@@ -56,7 +56,7 @@ abbrev pub image : (ℕ → PowerMap) → Atom → PowerMap
 image s (Base n) = atom (Base n)
 image s (Var k) = s k
 
--- what is put for each term, to the term's power, one after another, where f x is put for the atom x
+-- what is put for each term, to the term's power, one after another, if f x is put for the atom x
 abbrev pub images_of : (Atom → PowerMap) → List Term → List Term
 images_of f = flat_map (λ t. map (scale t.power) (f t.atom).terms)
 

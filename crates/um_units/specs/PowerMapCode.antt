@@ -1,5 +1,4 @@
--- The code's: how power maps are stored as data, by which a proof tells them apart. Two are equal where their terms
--- are.
+-- The code's: how power maps are stored as data, by which a proof tells them apart. Two are equal if their terms are.
 -- Source: this project's own; no public clause rests on it.
 use Rattle.std.specs.Prelude.{◌≡◌, ℕ, ◌⊎◌, IsTrue, Bool, List, ℤ}
 use Rattle.std.specs.Coded.{Coded, code_by, coded×, coded⊎, coded_ℕ, coded_ℤ, coded_list}

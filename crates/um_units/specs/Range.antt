@@ -25,11 +25,11 @@ pub record IsKept (ts : List Term) : Type 0 where
   pub normal : IsTrue (is_normal ts)
   pub fit : IsTrue (all_in_range ts)
 
--- why a call stopped: Range only where the test fails
+-- why a call stopped: Range only if the test fails
 abbrev pub IsStopUnless : Bool → UnitStop → Type 0
 IsStopUnless b Range = IsFalse b
 IsStopUnless b NoMemory = Unit {0}
 
--- Range exactly where the test fails, unless memory ran out
+-- Range exactly if the test fails, unless memory ran out
 abbrev pub RangeUnless : {X : Type 0} → Result X UnitStop → Bool → Type 0
 RangeUnless r b = MatchResult r (λ _. IsTrue b) (IsStopUnless b)

@@ -35,7 +35,7 @@ abbrev pub is_normal : List Term → Bool
 is_normal [] = true
 is_normal (t ∷ ts) = not (is_zero t.power) && (is_before_all t.atom ts && is_normal ts)
 
--- the term and the terms after it, where its power isn't 0
+-- the term and the terms after it, if its power isn't 0
 abbrev pub unless_zero : Term → List Term → List Term
 unless_zero t ts = if is_zero t.power then ts else t ∷ ts
 

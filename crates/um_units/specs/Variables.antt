@@ -1,5 +1,5 @@
 -- The variables of a unit.
--- Source: Kennedy (1996): a unit is closed where it holds no variable. Variables are numbered here.
+-- Source: Kennedy (1996): a unit is closed if it holds no variable. Variables are numbered here.
 use Rattle.std.specs.Prelude.{◌≡◌, ◌≢◌, ℕ, ◌<◌, pos, Bool, true, nat_lt, List}
 use Rattle.std.specs.List.{list_all}
 use Rattle.um_units.specs.declared.Atom.{Atom}

@@ -3,7 +3,7 @@
 //! Units form the free abelian group on these atoms (Kennedy, Programming Languages and Dimensions, 1996), and two
 //! measures are equal by its laws (F# specification, Units Of Measure). In contracts a unit is its exact value, a
 //! `PowerMap`, whose powers have no bound. The powers of a `Unit` lie in -2147483647..2147483647, which is this
-//! project's own, and an operation answers Range exactly where its exact result has a power outside.
+//! project's own, and an operation answers Range exactly if its exact result has a power outside.
 //!
 //! ```
 //! let metre = Unit::atom(alloc, Atom::Base(0))?;
@@ -34,7 +34,7 @@ mod wide;
 
 use wide::WideTerm;
 
-/// Want of memory, where nothing else can go wrong.
+/// Want of memory, if nothing else can go wrong.
 pub type NoMemory = AllocError;
 
 /// A base unit or a unit variable, by its number. Base units come before variables, each kind by its number.
@@ -44,7 +44,7 @@ pub enum Atom {
     Var(u32),
 }
 
-// What stands in the places of a list of terms that hold none.
+// What is in the places of a list of terms that hold none.
 impl Default for Atom {
     ghost use Rattle.std.specs.Prelude.{◌≡◌};
     ghost use Rattle.um_units.specs.declared.Atom.TheVariants.{Base};
@@ -139,9 +139,9 @@ impl Unit {
         Ok(Unit { terms })
     }
 
-    /// The product of the terms, in which an atom may stand more than once, in any order.
+    /// The product of the terms, in which an atom may occur more than once, in any order.
     ///
-    /// Range comes exactly where a power of the product is out of range, however large powers are on the way. It takes
+    /// Range comes exactly if a power of the product is out of range, however large the powers in between are. It takes
     /// about n log n steps for n terms.
     pub fn from_terms(alloc: Global, terms: &[Term]) -> Result<Unit, UnitStop>
         ensures exact { IfOk result (λ unit. unit ≡ product terms.now) }
@@ -168,7 +168,7 @@ impl Unit {
         self.terms.as_slice()
     }
 
-    /// The power of an atom, which is 0 where the unit doesn't hold it. Takes no memory.
+    /// The power of an atom, which is 0 if the unit doesn't hold it. Takes no memory.
     pub fn power_of(&self, a: Atom) -> i32
         ensures power { result ≡ power_of self.now a }
         ensures fits { IsTrue (fits self.now) }
@@ -188,7 +188,7 @@ impl Unit {
 
     /// The product: the powers of each atom are added, and an atom whose powers cancel is dropped.
     ///
-    /// Range comes exactly where a power of the product is out of range.
+    /// Range comes exactly if a power of the product is out of range.
     pub fn mul(&self, alloc: Global, other: &Unit) -> Result<Unit, UnitStop>
         ensures exact { IfOk result (λ unit. unit ≡ mul self.now other.now) }
         ensures range { RangeUnless result (fits (mul self.now other.now)) }
@@ -198,8 +198,8 @@ impl Unit {
 
     /// The unit times the k-th power of the other.
     ///
-    /// Range comes exactly where a power of the result is out of range, also where one of the other's k-th power is
-    /// and the result's isn't.
+    /// Range comes exactly if a power of the result is out of range, also if one of the other's k-th power is and the
+    /// result's isn't.
     pub fn mul_pow(&self, alloc: Global, other: &Unit, k: i32) -> Result<Unit, UnitStop>
         ensures exact { IfOk result (λ unit. unit ≡ mul self.now (pow other.now k)) }
         ensures range { RangeUnless result (fits (mul self.now (pow other.now k))) }
@@ -219,7 +219,7 @@ impl Unit {
 
     /// The k-th power: each power is multiplied by k.
     ///
-    /// Range comes exactly where a power of the result is out of range.
+    /// Range comes exactly if a power of the result is out of range.
     pub fn pow(&self, alloc: Global, k: i32) -> Result<Unit, UnitStop>
         ensures exact { IfOk result (λ unit. unit ≡ pow self.now k) }
         ensures range { RangeUnless result (fits (pow self.now k)) }
@@ -230,7 +230,7 @@ impl Unit {
 
     /// The unit with `by[k]` put for each variable k. Base units stay, and so does a variable that has no unit in `by`.
     ///
-    /// Range comes exactly where a power of the result is out of range, however large powers are on the way. It takes
+    /// Range comes exactly if a power of the result is out of range, however large the powers in between are. It takes
     /// about n log m steps for m variables for which n terms are put in, and one for each base unit.
     pub fn replace(&self, alloc: Global, by: &[Unit]) -> Result<Unit, UnitStop>
         ensures exact { IfOk result (λ unit. unit ≡ replace (nth by.now) self.now) }

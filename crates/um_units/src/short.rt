@@ -7,7 +7,7 @@ ghost use Rattle.um_units.specs.Range.{fits, RangeUnless};
 use crate::{Atom, Term, Unit, UnitStop};
 use std::alloc::Global;
 
-/// What is put for the atom, where that is one of these units. Else the atom stays.
+/// What is put for the atom, if that is one of these units. Otherwise the atom stays.
 fn put_for(by: &[Unit], a: Atom) -> Option<&Unit>
     ensures put { IfSome result (λ u. u.now ≡ image (nth by.now) a) }
     ensures stays { IfNone result (image (nth by.now) a ≡ atom a) }

@@ -1,12 +1,12 @@
 //! Units whose powers have 128 bits, in which sums of products of powers have room.
 //!
 //! In contracts such a unit is its exact value, as the units of `um_units` are: an element of the free abelian group on
-//! the atoms (Kennedy, Programming Languages and Dimensions, 1996). No operation meets a range: each asks for the room that
-//! it needs.
+//! the atoms (Kennedy, Programming Languages and Dimensions, 1996). No operation meets a range: each asks for the room
+//! that it needs.
 //!
 //! ```
-//! let high = WideUnit::power(alloc, &metre, 3_000_000_000)?; // a power that a Unit can't have
-//! let both = high.mul(alloc, &other)?; // where both have room for the sums of their powers
+//! let high = WideUnit::power(alloc, &metre, 3_000_000_000)?; // a power that a Unit can't have let both =
+//! high.mul(alloc, &other)?; // if both have room for the sums of their powers
 //! ```
 #![tactic(auto)]
 
@@ -112,7 +112,7 @@ impl WideUnit {
         &self.terms
     }
 
-    /// The power of an atom, which is 0 where the unit doesn't hold it. Takes no memory.
+    /// The power of an atom, which is 0 if the unit doesn't hold it. Takes no memory.
     pub fn power_of(&self, a: Atom) -> i128
         ensures power { result ≡ power_of self.now a }
     {
@@ -122,7 +122,7 @@ impl WideUnit {
         }
     }
 
-    /// The power of the base unit of this number, which is 0 where the unit doesn't hold it. Takes no memory.
+    /// The power of the base unit of this number, which is 0 if the unit doesn't hold it. Takes no memory.
     pub fn base_power(&self, n: u64) -> i128
         ensures power { result ≡ power_of self.now (Base n) }
     {

@@ -11,6 +11,6 @@ returns-then-not-is_narrow c = ((λ g. cc), (λ s. sym c.if-not-is_narrow.true �
 pub returns : goal.returns
 returns c =
     let k = to_z w64 (of_z w64 c.args.divisor) in
-    let j = slot_judged (units_of c.args.rows.now) c.args.back.now c.args.unit.now c.args.j c.args.divisor k c.args.parts.now c.in_ok-over.over c.in_ok-power.power c.in_ok-product.product c.in_ok-over.ensures
+    let j = slot_judged (units_of c.args.rows.now) c.args.back.now c.args.slot.now.unit.now c.args.slot.now.number c.args.divisor k c.args.slot.now.parts.now c.in_ok-over.over c.in_ok-power.power c.in_ok-product.product c.in_ok-over.ensures
     (c.is_narrow.ensures.narrow.0 c.if-not-is_narrow.false) (to_z-of_z w64 c.args.divisor c.ranges.divisor) c.in_ok-power.ensures.exact c.in_ok-product.ensures.product in
     ((λ g. j.0 (c.same.ensures.same.0 g)), (λ s. c.same.ensures.same.1 (j.1 s)))

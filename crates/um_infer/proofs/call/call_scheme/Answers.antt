@@ -2,7 +2,7 @@ use Rattle.std.proofs.Common.{length, refl, arith}
 use Rattle.std.proofs.lemmas.Result.{err_from_is_err_and}
 use Rattle.um_tree.specs.ProgramTree.{program_tree}
 use Rattle.um_tree.specs.ValueTree.{input_trees}
-use Rattle.um_rows.specs.CallEquations.{call_function}
+use Rattle.um_slots.specs.CallFunction.{call_function}
 use Rattle.um_rows.proofs.Solved.{rows_hold_slots, types_hold_slots}
 use Rattle.um_infer.specs.Answers.{scheme_trees}
 use Rattle.um_infer.proofs.SchemeLists.{item_at}

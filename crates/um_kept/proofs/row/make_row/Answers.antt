@@ -49,17 +49,17 @@ loop-r-init c =
       turning = λ rows kept e b. not_turned rows kept c.args.k c.args.head c.args.making.now row c.in_ok-r.r e is b;
     }
 
-pub closed_end-requires-clause-few : goal.closed_end-requires-clause-few
-closed_end-requires-clause-few c = let n = c.loop-r.invariant.agrees.1.parts_count in let f = c.requires.few in omega (arith, n, f)
-
-pub closed_end-requires-clause-narrow : goal.closed_end-requires-clause-narrow
-closed_end-requires-clause-narrow c = c.loop-r.invariant.agrees.1.narrow
-
-pub closed_end-requires-clause-below : goal.closed_end-requires-clause-below
-closed_end-requires-clause-below c = subst (λ m. VariablesBelow m c.args.row.now) (sym c.loop-r.invariant.agrees.1.parts_count) c.requires.below
-
-pub closed_end-requires-clause-positive : goal.closed_end-requires-clause-positive
-closed_end-requires-clause-positive c = c.loop-r.invariant.agrees.1.positive
+pub closed_end-requires-clause-ready : goal.closed_end-requires-clause-ready
+closed_end-requires-clause-ready c =
+    let a = c.loop-r.invariant.agrees.1 in
+    let n = a.parts_count in
+    let f = c.requires.few in
+    record {
+      few = omega (arith, n, f);
+      narrow = a.narrow;
+      below = subst (λ m. VariablesBelow m c.args.row.now) (sym n) c.requires.below;
+      positive = a.positive;
+    }
 
 pub closed_end-requires-clause-closed : goal.closed_end-requires-clause-closed
 closed_end-requires-clause-closed c = subst (IsNextTurn c.loop-r.r) c.in-None.is c.in_ok-next_turn.ensures.next
@@ -96,41 +96,20 @@ returns-in_err-r-in-Some-clause-range c = λ rows kept e a.
     rw (p.1, p.2) (turn_stops rows kept c.args.k c.args.head c.loop-r.making r c.loop-r.inverted (c.loop-r.invariant.turning rows kept e a) t is
     (turn_low n r t is c.loop-r.invariant.below) (factor_below n r t is c.loop-r.invariant.below) c.in_err-r-in-Some.field-0.0 c.in_err-r-in-Some.ensures.range)
 
-pub power_end-requires-clause-few : goal.power_end-requires-clause-few
-power_end-requires-clause-few c =
+pub power_end-requires-clause-ready : goal.power_end-requires-clause-ready
+power_end-requires-clause-ready c =
     let t = c.in-Some.turn in
     let r = c.loop-r.r in
-    let n = c.args.head.slots in
     let is : IsTurnOf r t = subst (IsNextTurn r) c.in-Some.is c.in_ok-next_turn.ensures.next in
     let a = agrees_after c.args.head c.loop-r.making c.make_turn.new.making r t c.loop-r.invariant.agrees is c.loop-r.invariant.below c.in_ok-r-in-Some.ensures.kept in
-    let k = a.1.parts_count in let f = c.requires.few in omega (arith, k, f)
-
-pub power_end-requires-clause-narrow : goal.power_end-requires-clause-narrow
-power_end-requires-clause-narrow c =
-    let t = c.in-Some.turn in
-    let r = c.loop-r.r in
-    let n = c.args.head.slots in
-    let is : IsTurnOf r t = subst (IsNextTurn r) c.in-Some.is c.in_ok-next_turn.ensures.next in
-    let a = agrees_after c.args.head c.loop-r.making c.make_turn.new.making r t c.loop-r.invariant.agrees is c.loop-r.invariant.below c.in_ok-r-in-Some.ensures.kept in
-    a.1.narrow
-
-pub power_end-requires-clause-below : goal.power_end-requires-clause-below
-power_end-requires-clause-below c =
-    let t = c.in-Some.turn in
-    let r = c.loop-r.r in
-    let n = c.args.head.slots in
-    let is : IsTurnOf r t = subst (IsNextTurn r) c.in-Some.is c.in_ok-next_turn.ensures.next in
-    let a = agrees_after c.args.head c.loop-r.making c.make_turn.new.making r t c.loop-r.invariant.agrees is c.loop-r.invariant.below c.in_ok-r-in-Some.ensures.kept in
-    subst (λ m. VariablesBelow m c.args.row.now) (sym a.1.parts_count) c.requires.below
-
-pub power_end-requires-clause-positive : goal.power_end-requires-clause-positive
-power_end-requires-clause-positive c =
-    let t = c.in-Some.turn in
-    let r = c.loop-r.r in
-    let n = c.args.head.slots in
-    let is : IsTurnOf r t = subst (IsNextTurn r) c.in-Some.is c.in_ok-next_turn.ensures.next in
-    let a = agrees_after c.args.head c.loop-r.making c.make_turn.new.making r t c.loop-r.invariant.agrees is c.loop-r.invariant.below c.in_ok-r-in-Some.ensures.kept in
-    a.1.positive
+    let n = a.1.parts_count in
+    let f = c.requires.few in
+    record {
+      few = omega (arith, n, f);
+      narrow = a.1.narrow;
+      below = subst (λ m. VariablesBelow m c.args.row.now) (sym n) c.requires.below;
+      positive = a.1.positive;
+    }
 
 pub power_end-requires-clause-count : goal.power_end-requires-clause-count
 power_end-requires-clause-count c =

@@ -11,7 +11,7 @@ use Rattle.um_units.proofs.Group.{one-pow}
 use Rattle.um_elim.specs.Pivot.{is_base}
 use Rattle.um_wide.specs.Room.{IsWithin, IsNarrow}
 use Rattle.um_wide.proofs.Rooms.{abs_32, within-one, within-pow}
-use Rattle.um_making.specs.Making.{at_slot}
+use Rattle.um_check.specs.Existence.{at_slot}
 use Rattle.um_kept.specs.Steps.{sign_of, variable_count}
 use Rattle.um_kept.proofs.row.slot_power.Goals as goal
 

@@ -4,7 +4,7 @@ use Rattle.std.proofs.lemmas.List.{map-append, take_more}
 use Rattle.std.proofs.lemmas.List.Elements.{All-nil, All-cons, All-append, All-get_or}
 use Rattle.um_units.specs.Variables.{VariablesBelow}
 use Rattle.um_check.specs.Combination.{NamesRowsBelow}
-use Rattle.um_making.specs.Making.{exponents}
+use Rattle.um_check.specs.Existence.{exponents}
 use Rattle.um_proof.proofs.yes.part_lists.Goals as goal
 
 pub loop-slot-preserved : goal.loop-slot-preserved

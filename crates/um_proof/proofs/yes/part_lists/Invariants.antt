@@ -2,7 +2,7 @@ use Rattle.std.proofs.Common.{◌≡◌, ℕ, take, map}
 use Rattle.std.specs.Prelude.{All}
 use Rattle.um_units.specs.Variables.{VariablesBelow}
 use Rattle.um_check.specs.Combination.{NamesRowsBelow}
-use Rattle.um_making.specs.Making.{exponents}
+use Rattle.um_check.specs.Existence.{exponents}
 use Rattle.um_proof.proofs.yes.part_lists.Given as goal
 
 abbrev pub invariant-loop-slot : goal.invariant-loop-slot

@@ -5,7 +5,8 @@ use Rattle.um_tree.specs.Typing.{put}
 use Rattle.um_rows.specs.Against.{against as against_steps}
 use Rattle.um_rows.specs.Against.{types_against as types_against_steps}
 use Rattle.um_rows.specs.Pushed.{ArePushed, AreBehind}
-use Rattle.um_rows.proofs.PushLaws.{pushed_after, first_and_others}
+use Rattle.um_rows.proofs.PushLaws.{pushed_after}
+use Rattle.um_slots.proofs.Parts.{first_and_others}
 use Rattle.um_rows.proofs.calls.+arguments_against.Goals as goal
 
 pub returns-in_ok-against-in-len1-up-arguments-2 : goal.returns-in_ok-against-in-len1-up-arguments-2

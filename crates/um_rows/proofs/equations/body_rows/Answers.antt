@@ -11,48 +11,54 @@ use Rattle.um_rows.proofs.equations.body_rows.Goals as goal
 
 pub returns-in_err-result : goal.returns-in_err-result
 returns-in_err-result c =
-    let records = c.args.records.now in
-    let schemes = c.args.schemes.now in
-    let context = c.args.context.now in
-    let note = result_tree c.args.note.now in
-    let body = expr_tree c.args.body.now in
+    let walk = c.args.walk.now in
+    let records = walk.records.now in
+    let schemes = walk.schemes.now in
+    let context = walk.context in
+    let definition = c.args.definition.now in
+    let note = result_tree definition.result.now in
+    let body = expr_tree definition.body.now in
     let err = c.in_err-result.field-0.0 in
     let scope = map type_tree c.in_ok-scope.scope.items in
     let same : scope ≡ map type_tree context.params.items = c.in_ok-scope.ensures ∙ ap (map type_tree) c.deref.ensures.value in
-    let stops : StopsPast (first_past (body_steps records schemes context c.args.head c.args.at note body)) err = body_stops records schemes context c.args.head c.args.at note body c.new.result.items scope same err c.in_err-result.ensures.reached in
+    let stops : StopsPast (first_past (body_steps records schemes context c.args.head definition.at note body)) err = body_stops records schemes context c.args.head definition.at note body c.new.result.items scope same err c.in_err-result.ensures.reached in
     search (rules, stops)
 
 pub returns-in_err-note_against : goal.returns-in_err-note_against
 returns-in_err-note_against c =
-    let records = c.args.records.now in
-    let schemes = c.args.schemes.now in
-    let context = c.args.context.now in
-    let note = result_tree c.args.note.now in
-    let body = expr_tree c.args.body.now in
+    let walk = c.args.walk.now in
+    let records = walk.records.now in
+    let schemes = walk.schemes.now in
+    let context = walk.context in
+    let definition = c.args.definition.now in
+    let note = result_tree definition.result.now in
+    let body = expr_tree definition.body.now in
     let err = c.in_err-note_against.field-0.0 in
     let scope = map type_tree c.in_ok-scope.scope.items in
     let same : scope ≡ map type_tree context.params.items = c.in_ok-scope.ensures ∙ ap (map type_tree) c.deref.ensures.value in
-    let progress = c.derive.new.progress in
-    let stops : StopsPast (first_past (body_steps records schemes context c.args.head c.args.at note body)) err =
-    note_stops records schemes context c.args.head c.args.at note body c.new.result.items scope same (record { type = type_tree c.in_ok-result.result; rows = progress.rows.items; holes = progress.holes }) c.in_ok-result.ensures.reached err c.in_err-note_against.ensures in
+    let progress = c.derive.new.state.progress in
+    let stops : StopsPast (first_past (body_steps records schemes context c.args.head definition.at note body)) err =
+    note_stops records schemes context c.args.head definition.at note body c.new.result.items scope same (record { type = type_tree c.in_ok-result.result; rows = progress.rows.items; holes = progress.holes }) c.in_ok-result.ensures.reached err c.in_err-note_against.ensures in
     search (rules, stops)
 
 pub returns : goal.returns
 returns c =
-    let records = c.args.records.now in
-    let schemes = c.args.schemes.now in
-    let context = c.args.context.now in
-    let note = result_tree c.args.note.now in
-    let body = expr_tree c.args.body.now in
+    let walk = c.args.walk.now in
+    let records = walk.records.now in
+    let schemes = walk.schemes.now in
+    let context = walk.context in
+    let definition = c.args.definition.now in
+    let note = result_tree definition.result.now in
+    let body = expr_tree definition.body.now in
     let scope = map type_tree c.in_ok-scope.scope.items in
     let same : scope ≡ map type_tree context.params.items = c.in_ok-scope.ensures ∙ ap (map type_tree) c.deref.ensures.value in
-    let progress = c.derive.new.progress in
+    let progress = c.derive.new.state.progress in
     let w : Walked = record { type = type_tree c.in_ok-result.result; rows = progress.rows.items; holes = progress.holes } in
-    let ends = body_ends records schemes context c.args.head c.args.at note body c.new.result.items scope same w c.in_ok-result.ensures.reached c.new.ensures.items c.note_against.new.rows.items c.in_ok-note_against.ensures in
+    let ends = body_ends records schemes context c.args.head definition.at note body c.new.result.items scope same w c.in_ok-result.ensures.reached c.new.ensures.items c.note_against.new.rows.items c.in_ok-note_against.ensures in
     record {
       in_range = ends.0;
       slots_are = refl;
       list_is = ends.1;
       params_are = ap (map type_tree) c.in_ok-result.ensures.scope ∙ same;
-      result_is = type_is records schemes context c.args.head c.args.at note body c.new.result.items scope same w c.in_ok-result.ensures.reached;
+      result_is = type_is records schemes context c.args.head definition.at note body c.new.result.items scope same w c.in_ok-result.ensures.reached;
     }

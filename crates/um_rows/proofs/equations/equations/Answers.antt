@@ -7,12 +7,15 @@ use Rattle.um_tree.specs.ExprTree.{expr_tree}
 use Rattle.um_tree.specs.ProgramTree.{record_tree, scheme_tree, result_tree}
 use Rattle.um_elim.specs.Application.{type_fits}
 use Rattle.um_rows.specs.Steps.{first_past}
-use Rattle.um_rows.specs.Derivation.{noted_types}
-use Rattle.um_rows.specs.Equations.{callee_of, noted_result}
-use Rattle.um_rows.specs.SlotUnits.{AreVariables}
-use Rattle.um_rows.specs.Slotting.{IsTable, StopsSlots, with_keys, name_unit}
+use Rattle.um_slots.specs.Noted.{noted_types, noted_result}
+use Rattle.um_slots.specs.Callees.{callee_of}
+use Rattle.um_slots.specs.SlotUnits.{AreVariables}
+use Rattle.um_slots.specs.Slotting.{IsTable, StopsSlots, with_keys, name_unit}
+use Rattle.um_rows.specs.Closed.{AreClosedBefore}
 use Rattle.um_rows.specs.Pushed.{StopsPast}
-use Rattle.um_rows.specs.Body.{IsContextOf, AreBodyRows, whole_keys, body_derived, body_steps}
+use Rattle.um_slots.specs.Contexts.{IsContextOf, whole_keys}
+use Rattle.um_rows.specs.Body.{AreBodyRows, body_derived, body_steps}
+use Rattle.um_rows.specs.SlotStops.{row_stop}
 use Rattle.um_rows.specs.Answers.{described, StopsFor}
 use Rattle.um_rows.proofs.EquationLaws.{holes_are_variables, head_past, body_right, too_many}
 use Rattle.um_rows.proofs.equations.equations.Goals as goal
@@ -21,57 +24,66 @@ pub returns-in_err-slots : goal.returns-in_err-slots
 returns-in_err-slots c =
     let records = c.args.records.now in
     let schemes = c.args.schemes.now in
-    let params = map note_tree c.args.params.now in
-    let note = result_tree c.args.note.now in
-    let body = expr_tree c.args.body.now in
+    let definition = c.args.definition.now in
+    let params = map note_tree definition.params.now in
+    let note = result_tree definition.result.now in
+    let body = expr_tree definition.body.now in
     let recurs = c.may_recur-recurs.ensures in
     let err = c.in_err-slots.field-0.0 in
-    let here = subst (λ r. StopsSlots (with_keys [] (whole_keys (map record_tree records) (callee_of (map scheme_tree schemes) c.args.number r) c.args.units params note body)) err) recurs c.in_err-slots.ensures.slots in
-    let stops : StopsFor (map record_tree records) (map scheme_tree schemes) c.args.number (described c.args.at c.args.recursive c.args.units params note body) err = too_many records schemes c.args.number c.args.at c.args.recursive c.args.units params note body c.requires.schemes err here in
+    let here = subst (λ r. StopsSlots (with_keys [] (whole_keys (map record_tree records) (callee_of (map scheme_tree schemes) c.args.number r) definition.units params note body)) err) recurs c.in_err-slots.ensures.slots in
+    let stops : StopsFor (map record_tree records) (map scheme_tree schemes) c.args.number (described definition.at definition.recursive definition.units params note body) (row_stop err) = too_many records schemes c.args.number definition.at definition.recursive definition.units params note body c.requires.schemes err here in
     search (rules, stops)
 
-pub body_rows-requires-clause-variables : goal.body_rows-requires-clause-variables
-body_rows-requires-clause-variables c =
+pub invariant_of-walk : goal.invariant_of-walk
+invariant_of-walk c =
     let records = c.args.records.now in
     let schemes = c.args.schemes.now in
-    let params = map note_tree c.args.params.now in
-    let note = result_tree c.args.note.now in
-    let body = expr_tree c.args.body.now in
+    let definition = c.args.definition.now in
+    let params = map note_tree definition.params.now in
+    let note = result_tree definition.result.now in
+    let body = expr_tree definition.body.now in
     let recurs = c.may_recur-recurs.ensures in
     let t = c.in_ok-slots.field-0.slots in
-    let had : IsTable (with_keys [] (whole_keys (map record_tree records) (callee_of (map scheme_tree schemes) c.args.number c.may_recur-recurs.result) c.args.units params note body)) t = search rules in
-    let is = subst (λ r. IsTable (with_keys [] (whole_keys (map record_tree records) (callee_of (map scheme_tree schemes) c.args.number r) c.args.units params note body)) t) recurs had in
-    subst AreVariables (sym c.in-Ok.ensures.exact.holes_are) (holes_are_variables _ t is)
+    let had : IsTable (with_keys [] (whole_keys (map record_tree records) (callee_of (map scheme_tree schemes) c.args.number c.may_recur-recurs.result) definition.units params note body)) t = search rules in
+    let is = subst (λ r. IsTable (with_keys [] (whole_keys (map record_tree records) (callee_of (map scheme_tree schemes) c.args.number r) definition.units params note body)) t) recurs had in
+    let exact = c.in-Ok.ensures.exact in
+    record {
+      variables = subst AreVariables (sym exact.holes_are) (holes_are_variables _ t is);
+      closed_schemes = subst (λ i. AreClosedBefore i schemes) (sym exact.number_is) c.requires.schemes;
+      closed_records = c.requires.records;
+    }
 
 pub returns-in-Err-Range : goal.returns-in-Err-Range
 returns-in-Err-Range c =
     let records = c.args.records.now in
     let schemes = c.args.schemes.now in
-    let params = map note_tree c.args.params.now in
-    let note = result_tree c.args.note.now in
-    let body = expr_tree c.args.body.now in
+    let definition = c.args.definition.now in
+    let params = map note_tree definition.params.now in
+    let note = result_tree definition.result.now in
+    let body = expr_tree definition.body.now in
     let recurs = c.may_recur-recurs.ensures in
     let t = c.in_ok-slots.field-0.slots in
-    let had : IsTable (with_keys [] (whole_keys (map record_tree records) (callee_of (map scheme_tree schemes) c.args.number c.may_recur-recurs.result) c.args.units params note body)) t = search rules in
-    let is = subst (λ r. IsTable (with_keys [] (whole_keys (map record_tree records) (callee_of (map scheme_tree schemes) c.args.number r) c.args.units params note body)) t) recurs had in
+    let had : IsTable (with_keys [] (whole_keys (map record_tree records) (callee_of (map scheme_tree schemes) c.args.number c.may_recur-recurs.result) definition.units params note body)) t = search rules in
+    let is = subst (λ r. IsTable (with_keys [] (whole_keys (map record_tree records) (callee_of (map scheme_tree schemes) c.args.number r) definition.units params note body)) t) recurs had in
     let named : c.in_ok-names.names.items ≡ map name_unit t.names.items = c.in_ok-names.ensures ∙ ap (map name_unit) c.deref.ensures.value in
     let first = c.in_ok-slots.ensures.params in
     let bad : list_all type_fits (noted_types (nth t.holes.items) (nth c.in_ok-names.names.items) 0 params ++ noted_result (nth t.holes.items) (nth c.in_ok-names.names.items) c.in_ok-slots.field-0.params note ∷ []) ≡ false = rw c.in-Err-Range.field-0-is at c.in-Err-Range.ensures.range in
     let here = subst (λ (ns : List PowerMap). list_all type_fits (noted_types (nth t.holes.items) (nth ns) 0 params ++ noted_result (nth t.holes.items) (nth ns) c.in_ok-slots.field-0.params note ∷ []) ≡ false) named bad in
     let there = subst (λ (k : ℕ). list_all type_fits (noted_types (nth t.holes.items) (nth (map name_unit t.names.items)) 0 params ++ noted_result (nth t.holes.items) (nth (map name_unit t.names.items)) k note ∷ []) ≡ false) first here in
-    head_past records schemes c.args.number c.args.at c.args.recursive c.args.units params note body c.requires.schemes t is there
+    head_past records schemes c.args.number definition.at definition.recursive definition.units params note body c.requires.schemes t is there
 
 pub returns-in-Ok : goal.returns-in-Ok
 returns-in-Ok c =
     let records = c.args.records.now in
     let schemes = c.args.schemes.now in
-    let params = map note_tree c.args.params.now in
-    let note = result_tree c.args.note.now in
-    let body = expr_tree c.args.body.now in
+    let definition = c.args.definition.now in
+    let params = map note_tree definition.params.now in
+    let note = result_tree definition.result.now in
+    let body = expr_tree definition.body.now in
     let recurs = c.may_recur-recurs.ensures in
     let t = c.in_ok-slots.field-0.slots in
-    let had : IsTable (with_keys [] (whole_keys (map record_tree records) (callee_of (map scheme_tree schemes) c.args.number c.may_recur-recurs.result) c.args.units params note body)) t = search rules in
-    let is = subst (λ r. IsTable (with_keys [] (whole_keys (map record_tree records) (callee_of (map scheme_tree schemes) c.args.number r) c.args.units params note body)) t) recurs had in
+    let had : IsTable (with_keys [] (whole_keys (map record_tree records) (callee_of (map scheme_tree schemes) c.args.number c.may_recur-recurs.result) definition.units params note body)) t = search rules in
+    let is = subst (λ r. IsTable (with_keys [] (whole_keys (map record_tree records) (callee_of (map scheme_tree schemes) c.args.number r) definition.units params note body)) t) recurs had in
     let named : c.in_ok-names.names.items ≡ map name_unit t.names.items = c.in_ok-names.ensures ∙ ap (map name_unit) c.deref.ensures.value in
     let first = c.in_ok-slots.ensures.params in
     let context = c.in-Ok.context in
@@ -81,5 +93,5 @@ returns-in-Ok c =
     let fit = subst (λ (k : ℕ). list_all type_fits (noted_types (nth t.holes.items) (nth (map name_unit t.names.items)) 0 params ++ noted_result (nth t.holes.items) (nth (map name_unit t.names.items)) k note ∷ []) ≡ true) first here in
     let found = subst (λ (ns : List PowerMap). IsContextOf c.args.number c.may_recur-recurs.result t.holes.items ns params note context) named c.in-Ok.ensures.exact in
     let exact = subst (λ (r : Bool). IsContextOf c.args.number r t.holes.items (map name_unit t.names.items) params note context) recurs found in
-    let ended = subst (λ (k : ℕ). MatchResult c.body_rows.result (AreBodyRows (body_steps records schemes context k c.args.at note body) (body_derived records schemes context k body) (map type_tree context.params.items) t.count) (StopsPast (first_past (body_steps records schemes context k c.args.at note body)))) head c.body_rows.ensures in
-    body_right records schemes c.args.number c.args.at c.args.recursive c.args.units params note body c.requires.schemes t is context fit exact c.body_rows.result ended
+    let ended = subst (λ (k : ℕ). MatchResult c.body_rows-rows.result (AreBodyRows (body_steps records schemes context k definition.at note body) (body_derived records schemes context k body) (map type_tree context.params.items) t.count) (StopsPast (first_past (body_steps records schemes context k definition.at note body)))) head c.body_rows-rows.ensures in
+    body_right records schemes c.args.number definition.at definition.recursive definition.units params note body c.requires.schemes t is context fit exact c.body_rows-rows.result ended

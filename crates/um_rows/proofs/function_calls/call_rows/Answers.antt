@@ -9,8 +9,8 @@ use Rattle.um_tree.specs.ValueTree.{input_trees}
 use Rattle.um_tree.specs.ProgramTree.{function_tree, record_tree, program_tree, scheme_tree}
 use Rattle.um_tree.specs.Shapes.{note_shape}
 use Rattle.um_tree.specs.Formed.{IsFormed, AreFormedInputs}
-use Rattle.um_rows.specs.CallEquations.{input_texts}
-use Rattle.um_rows.specs.Body.{AreClosedBefore, IsClosedRecord}
+use Rattle.um_slots.specs.CallFunction.{input_texts}
+use Rattle.um_rows.specs.Closed.{AreClosedBefore, IsClosedRecord}
 use Rattle.um_rows.specs.Answers.{AreEquations, StopsFor, AreCallRowsOf, CallRowsStopFor, ResultsAreSolutionsOf, HaveVariablesBelow, described}
 use Rattle.um_rows.proofs.ProgramRows.{closed_before, closed_records}
 use Rattle.um_rows.proofs.ProgramCalls.{calls_ok, calls_err, calls_results}

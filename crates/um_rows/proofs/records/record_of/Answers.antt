@@ -9,6 +9,7 @@ use Rattle.um_rows.proofs.records.record_of.Goals as goal
 pub returns-clause-reached : goal.returns-clause-reached
 returns-clause-reached c =
     let progress = c.args.progress.now in
-    let by = c.args.by.now in
-    let rows = types_against_steps c.args.at (map (put (unit_at by)) (field_types (record_tree c.args.declaration.now))) (map type_tree c.args.parts.now) in
-    node_made progress.rows.items c.parts_against.new.rows.items progress.holes c.args.at rows (record_type c.args.r by) (record_type c.args.r c.in_ok-units.units) c.in_ok-parts_against.ensures (ap (record_type c.args.r) c.in_ok-units.ensures.same) c.in_ok-units.ensures.fits
+    let value = c.args.value.now in
+    let by = value.units.now in
+    let rows = types_against_steps c.args.at (map (put (unit_at by)) (field_types (record_tree value.declaration.now))) (map type_tree c.args.parts.now) in
+    node_made progress.rows.items c.parts_against.new.rows.items progress.holes c.args.at rows (record_type value.number by) (record_type value.number c.in_ok-units.units) c.in_ok-parts_against.ensures (ap (record_type value.number) c.in_ok-units.ensures.same) c.in_ok-units.ensures.fits

@@ -5,7 +5,7 @@ use Rattle.um_rows.proofs.walk.+walk.Given as goal
 
 abbrev pub invariant-derive_all-loop-i : goal.invariant-derive_all-loop-i
 invariant-derive_all-loop-i l =
-    IsLeft l.records l.schemes l.context l.fn.progress.rows.items l.fn.progress.holes l.fn.scope.items l.parts l.i l.types.items l.scope.items l.progress
+    IsLeft l.walk.records.now l.walk.schemes.now l.walk.context l.fn.state.progress.rows.items l.fn.state.progress.holes l.fn.state.scope.items l.parts l.i l.types.items l.state.scope.items l.state.progress
 
 abbrev pub decreases-derive : goal.decreases-derive
 decreases-derive l = 4 * the_size l.e.now

@@ -1,6 +1,0 @@
-pub mod Extensions
-pub mod Kept
-pub mod Refuted
-pub mod Made
-pub mod Certificates
-pub mod RigidRefuted

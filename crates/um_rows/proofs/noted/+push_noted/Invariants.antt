@@ -1,5 +1,0 @@
-use Rattle.std.proofs.Common.{length}
-use Rattle.um_rows.proofs.noted.+push_noted.Given as goal
-
-abbrev pub decreases-push_noted : goal.decreases-push_noted
-decreases-push_noted l = length l.notes.now

@@ -1,5 +1,0 @@
-use Rattle.std.proofs.Common.{length}
-use Rattle.um_rows.proofs.slots.+notes_slots.Given as goal
-
-abbrev pub decreases-notes_slots : goal.decreases-notes_slots
-decreases-notes_slots l = length l.notes.now

@@ -1,0 +1,8 @@
+use Rattle.std.proofs.Common.{◌≡◌, take}
+use Rattle.std.specs.Prelude.{IsTrue}
+use Rattle.std.specs.List.{list_all}
+use Rattle.um_units.specs.Range.{fits}
+use Rattle.um_slots.proofs.types.copied_units.Given as goal
+
+abbrev pub invariant-loop-unit : goal.invariant-loop-unit
+invariant-loop-unit l = record { items : l.items.items ≡ take l.unit-index l.units; fit : IsTrue (list_all fits l.items.items) }

@@ -1,0 +1,9 @@
+use Rattle.std.proofs.Common.{◌≡◌, take, map}
+use Rattle.std.specs.Prelude.{IsTrue}
+use Rattle.std.specs.List.{list_all}
+use Rattle.um_units.specs.PowerMap.{nth, replace}
+use Rattle.um_units.specs.Range.{fits}
+use Rattle.um_slots.proofs.types.renamed_units.Given as goal
+
+abbrev pub invariant-loop-unit : goal.invariant-loop-unit
+invariant-loop-unit l = record { items : l.items.items ≡ map (replace (nth l.by)) (take l.unit-index l.units); fit : IsTrue (list_all fits l.items.items) }
